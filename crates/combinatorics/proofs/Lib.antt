@@ -1,0 +1,15 @@
+pub mod Basics
+pub mod Lists
+pub mod Ranges
+pub mod Rising
+pub mod Selections
+pub mod Walk
+pub mod Fronts
+pub mod EditsInsert
+pub mod EditsRemove
+pub mod EditsRotate
+pub mod Turns
+pub mod Binomials
+pub mod EditsOfArrays
+pub mod Runs
+pub mod Agreement

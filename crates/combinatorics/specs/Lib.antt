@@ -1,0 +1,4 @@
+pub mod Lists
+pub mod Counting
+pub mod Front
+pub mod Edits
