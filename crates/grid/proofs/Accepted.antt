@@ -1,0 +1,75 @@
+-- What the questions about a grid tell when all are answered yes. Assumes nothing.
+use mathlib.Core.Bool.{Bool, true, false, cond}
+use mathlib.Core.List.{List, [], _∷_}
+use mathlib.Core.Path.{_≡_, refl}
+use Prim.Native.Nat.{ℕ, _≤_, _<_}
+use borrow.Author.Tests.{leb-true, eqb-true}
+use lib.Dec.{leb, eqb}
+use lib.ListN.{length}
+use native.Mathlib.Omega.{arith}
+use Rattle.combinatorics.proofs.Basics.{and-left, and-right}
+use Rattle.combinatorics.specs.Lists.{all, sum}
+use Rattle.grid.proofs.Listing.{numPoints-is}
+use Rattle.grid.proofs.Prefix.{count-below}
+use Rattle.grid.proofs.Round.{size-range}
+use Rattle.grid.specs.Grid.{Grid, numBlocks, numIndices, numPoints, size, binomialProduct}
+use Rattle.grid.specs.Made.{blockCount}
+use Rattle.grid.specs.Questions.{Question, firstNo, gridQuestions, question1, question2, question3, question4}
+
+-- questions 1 to 4 are answered yes
+pub record Accepted (g : Grid) : Type 0 where
+  pub someBlock : 1 ≤ numBlocks g
+  pub fewBlocks : numBlocks g ≤ 6
+  pub sizesTwo : all (λ s. leb 2 s) (g .sizes) ≡ true
+  pub fewIndices : numIndices g ≤ 16
+  pub sameNumber : length (g .divisions) ≡ numBlocks g
+  pub divisionsOne : all (λ d. leb 1 d) (g .divisions) ≡ true
+  pub fewPoints : numPoints g ≤ 60000
+
+-- where the list answers 0, its first question is answered yes
+step : (q : Question) (qs : List Question) → 0 < q .number → firstNo (q ∷ qs) ≡ 0 → (q .answeredYes ≡ true) × (firstNo qs ≡ 0)
+unfolding firstNo
+step q qs h e = go (q .answeredYes) e
+  where
+    go : (b : Bool) → cond b (firstNo qs) (q .number) ≡ 0 → (b ≡ true) × (firstNo qs ≡ 0)
+    go true e = (refl, e)
+    go false e = absurd (omega arith)
+
+pub accepted : (g : Grid) → firstNo (gridQuestions g) ≡ 0 → Accepted g
+accepted g e =
+    let a = step (question1 g) (question2 g ∷ question3 g ∷ question4 g ∷ []) (omega arith) e in
+    let b = step (question2 g) (question3 g ∷ question4 g ∷ []) (omega arith) (a .1) in
+    let c = step (question3 g) (question4 g ∷ []) (omega arith) (b .1) in
+    let d = step (question4 g) [] (omega arith) (c .1) in
+    record {
+      someBlock = leb-true 1 (numBlocks g) (and-left (leb 1 (numBlocks g)) (leb (numBlocks g) 6) (a .0));
+      fewBlocks = leb-true (numBlocks g) 6 (and-right (leb 1 (numBlocks g)) (leb (numBlocks g) 6) (a .0));
+      sizesTwo = and-left (all (λ s. leb 2 s) (g .sizes)) (leb (numIndices g) 16) (b .0);
+      fewIndices = leb-true (numIndices g) 16 (and-right (all (λ s. leb 2 s) (g .sizes)) (leb (numIndices g) 16) (b .0));
+      sameNumber = eqb-true (length (g .divisions)) (numBlocks g) (and-left (eqb (length (g .divisions)) (numBlocks g)) (all (λ d. leb 1 d) (g .divisions)) (c .0));
+      divisionsOne = and-right (eqb (length (g .divisions)) (numBlocks g)) (all (λ d. leb 1 d) (g .divisions)) (c .0);
+      fewPoints = leb-true (numPoints g) 60000 (d .0);
+    }
+
+module _ (g : Grid) (a : Accepted g) where
+  pub points-are : numPoints g ≡ binomialProduct (g .sizes) (g .divisions)
+  points-are = numPoints-is g (a .sizesTwo)
+
+  -- a block has no more points than the grid
+  pub count-few : (j : ℕ) → j < numBlocks g → blockCount g j ≤ 60000
+  count-few j h =
+      let f = a .fewPoints in
+      omega (arith, points-are, count-below (g .sizes) (g .divisions) j h (a .sameNumber))
+
+  -- each block has an index, so there are at least as many indices
+  pub blocks-few : numBlocks g ≤ numIndices g
+  blocks-few = go (g .sizes) (a .sizesTwo)
+    where
+      go : (ss : List ℕ) → all (λ s. leb 2 s) ss ≡ true → length ss ≤ sum ss
+      go [] h = omega arith
+      go (s ∷ ss) h =
+          let two : 2 ≤ s = leb-true 2 s (and-left (leb 2 s) (all (λ s. leb 2 s) ss) h) in
+          omega (arith, go ss (and-right (leb 2 s) (all (λ s. leb 2 s) ss) h))
+
+  pub size-two : (j : ℕ) → j < numBlocks g → (2 ≤ size g j) × (size g j ≤ 16)
+  size-two j h = size-range (g .sizes) j (a .sizesTwo) (a .fewIndices) h

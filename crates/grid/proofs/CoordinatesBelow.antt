@@ -1,0 +1,67 @@
+-- Every division, and so every coordinate of a grid point, is below the number of grid points. Assumes nothing.
+use mathlib.Core.Bool.{true}
+use mathlib.Core.List.{List, [], _∷_}
+use mathlib.Core.Logic.{⊎-elim}
+use mathlib.Core.Path.{_≡_, subst}
+use Prim.Native.Nat.{ℕ, zero, suc, pred, _+_, _-_, _*_, _≤_, _<_}
+use borrow.Author.Tests.{leb-true}
+use lib.Dec.{leb}
+use lib.ListN.{length, getD, List·getD-append}
+use lib.Seq.{getD-append-add}
+use native.Mathlib.Nat.{mul-le-mul}
+use native.Mathlib.Omega.{arith}
+use Rattle.combinatorics.proofs.Basics.{before-or-not, and-left, and-right}
+use Rattle.combinatorics.specs.Counting.{choose}
+use Rattle.combinatorics.specs.Lists.{all, sum}
+use Rattle.grid.proofs.Listing.{numPoints-is}
+use Rattle.grid.proofs.Points.{Fits, none, block, fits-of}
+use Rattle.grid.specs.Grid.{Grid, Point, at, numBlocks, numPoints, division, binomialProduct, isGridPoint}
+
+choose-some : (d n : ℕ) → 1 ≤ choose (d + n) n
+choose-some d zero = omega arith
+choose-some d (suc n) = let w : d + suc n ≡ suc (d + n) = omega arith in rw w (omega (arith, choose-some d n))
+
+choose-many : (d n : ℕ) → d < choose (d + suc n) (suc n)
+choose-many zero n = choose-some 0 (suc n)
+choose-many (suc d) n =
+    let w : suc d + suc n ≡ suc (d + suc n) = omega arith in
+    let v : suc d + n ≡ d + suc n = omega arith in
+    rw w (omega (arith, choose-many d n, rw v at (choose-some (suc d) n)))
+
+at-sum : (a : List ℕ) (k : ℕ) → at a k ≤ sum a
+at-sum [] k = omega arith
+at-sum (x ∷ a) zero = omega arith
+at-sum (x ∷ a) (suc k) = omega (arith, at-sum a k)
+
+divisions-below : (ss ds : List ℕ) → all (λ s. leb 2 s) ss ≡ true → length ds ≡ length ss → (j : ℕ) → getD ds j 0 < binomialProduct ss ds
+divisions-below [] [] h e j = omega arith
+divisions-below [] (d ∷ ds) h e j = absurd (omega arith)
+divisions-below (s ∷ ss) [] h e j = absurd (omega arith)
+divisions-below (s ∷ ss) (d ∷ ds) h e j = go j (divisions-below ss ds (and-right (leb 2 s) (all (λ s. leb 2 s) ss) h) (omega arith))
+  where
+    c : ℕ
+    c = choose (d + pred s) (pred s)
+
+    many : d < c
+    many =
+        let two : 2 ≤ s = leb-true 2 s (and-left (leb 2 s) (all (λ s. leb 2 s) ss) h) in
+        let w : suc (pred s - 1) ≡ pred s = omega arith in
+        subst (λ (n : ℕ). d < choose (d + n) n) w (choose-many d (pred s - 1))
+
+    go : (j : ℕ) → ((j : ℕ) → getD ds j 0 < binomialProduct ss ds) → getD (d ∷ ds) j 0 < c * binomialProduct ss ds
+    go zero rest = let l : c * 1 ≤ c * binomialProduct ss ds = mul-le-mul (omega arith) (omega (arith, rest 0)) in omega (arith, many)
+    go (suc j) rest = let l : 1 * binomialProduct ss ds ≤ c * binomialProduct ss ds = mul-le-mul (omega (arith, many)) (omega arith) in omega (arith, rest j)
+
+pub division-below : (g : Grid) → all (λ s. leb 2 s) (g .sizes) ≡ true → length (g .divisions) ≡ numBlocks g → (j : ℕ) → division g j < numPoints g
+division-below g h e j = rw (numPoints-is g h) (divisions-below (g .sizes) (g .divisions) h e j)
+
+in-division : {ss ds y : List ℕ} → Fits ss ds y → (k : ℕ) → (j : ℕ) × (at y k ≤ getD ds j 0)
+in-division none k = (0, omega arith)
+in-division (block a l p q f) k =
+    ⊎-elim (λ (x : k < length a). (0, omega (arith, List·getD-append a l 0 k x, at-sum a k)))
+    (λ (x : length a ≤ k). let e : length a + (k - length a) ≡ k = omega arith in
+    let w = in-division f (k - length a) in (suc (w .0), omega (arith, rw e at (getD-append-add a l (k - length a) 0), w .1)))
+    (before-or-not k (length a))
+
+pub coordinate-below : (g : Grid) → all (λ s. leb 2 s) (g .sizes) ≡ true → length (g .divisions) ≡ numBlocks g → (y : Point) → isGridPoint g y ≡ true → (k : ℕ) → at y k < numPoints g
+coordinate-below g h e y o k = let w = in-division (fits-of g y e o) k in omega (arith, w .1, division-below g h e (w .0))

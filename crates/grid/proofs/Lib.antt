@@ -1,0 +1,11 @@
+pub mod Round
+pub mod Points
+pub mod Listing
+pub mod CoordinatesBelow
+pub mod Capped
+pub mod Prefix
+pub mod Accepted
+pub mod Fields
+pub mod Terms
+pub mod Positions
+pub mod Table

@@ -1,0 +1,66 @@
+-- Sizes and divisions of the blocks so far: the block that a loop finds, and the product that it makes. Assumes nothing.
+use mathlib.Core.List.{List, [], _∷_}
+use mathlib.Core.Path.{_≡_, sym}
+use Prim.Native.Nat.{ℕ, zero, suc, _+_, _-_, _*_, pred, _≤_, _<_}
+use borrow.Author.Tests.{lt-ltb, le-ltb}
+use lib.ListN.{length, getD, take, drop}
+use native.Mathlib.Nat.{mul-assoc, mul-le-mul, one-le-mul}
+use native.Mathlib.Numerals.{add-one}
+use native.Mathlib.Omega.{arith}
+use Rattle.combinatorics.proofs.Binomials.{choose-positive}
+use Rattle.combinatorics.specs.Counting.{choose}
+use Rattle.combinatorics.specs.Lists.{sum}
+use Rattle.grid.specs.Grid.{blockIn, binomialProduct}
+
+-- the block of an index, looked for from block j on
+pub some-left : (ss : List ℕ) (j left : ℕ) → left < sum (drop j ss) → j < length ss
+some-left [] zero left h = absurd (omega arith)
+some-left [] (suc j) left h = absurd (omega arith)
+some-left (s ∷ ss) zero left h = omega arith
+some-left (s ∷ ss) (suc j) left h = omega (arith, some-left ss j left h)
+
+pub find-turn : (ss : List ℕ) (j left : ℕ) → left < sum (drop j ss) → getD ss j 0 ≤ left
+    → (left - getD ss j 0 < sum (drop (j + 1) ss)) × (j + 1 + blockIn (drop (j + 1) ss) (left - getD ss j 0) ≡ j + blockIn (drop j ss) left)
+find-turn ss j left h l = rw (add-one j) (go ss j left h l)
+  where
+    go : (ss : List ℕ) (j left : ℕ) → left < sum (drop j ss) → getD ss j 0 ≤ left
+        → (left - getD ss j 0 < sum (drop (suc j) ss)) × (suc j + blockIn (drop (suc j) ss) (left - getD ss j 0) ≡ j + blockIn (drop j ss) left)
+    go [] zero left h l = absurd (omega arith)
+    go [] (suc j) left h l = absurd (omega arith)
+    go (s ∷ ss) zero left h l = (omega arith, rw (le-ltb left s l) (omega arith))
+    go (s ∷ ss) (suc j) left h l = let i = go ss j left h l in (i .0, omega (arith, i .1))
+
+pub find-stop : (ss : List ℕ) (j left : ℕ) → left < sum (drop j ss) → left < getD ss j 0 → j ≡ j + blockIn (drop j ss) left
+find-stop [] zero left h l = absurd (omega arith)
+find-stop [] (suc j) left h l = absurd (omega arith)
+find-stop (s ∷ ss) zero left h l = rw (lt-ltb left s l)
+find-stop (s ∷ ss) (suc j) left h l = omega (arith, find-stop ss j left h l)
+
+-- the product of the binomials of the first j blocks
+pub product-next : (ss ds : List ℕ) (j : ℕ) → j < length ss → length ds ≡ length ss
+    → binomialProduct (take (j + 1) ss) (take (j + 1) ds) ≡ binomialProduct (take j ss) (take j ds) * choose (getD ds j 0 + pred (getD ss j 0)) (pred (getD ss j 0))
+product-next ss ds j h e = rw (add-one j) (go ss ds j h e)
+  where
+    go : (ss ds : List ℕ) (j : ℕ) → j < length ss → length ds ≡ length ss
+        → binomialProduct (take (suc j) ss) (take (suc j) ds) ≡ binomialProduct (take j ss) (take j ds) * choose (getD ds j 0 + pred (getD ss j 0)) (pred (getD ss j 0))
+    go [] ds j h e = absurd (omega arith)
+    go (s ∷ ss) [] j h e = absurd (omega arith)
+    go (s ∷ ss) (d ∷ ds) zero h e = omega arith
+    go (s ∷ ss) (d ∷ ds) (suc j) h e = rw (go ss ds j (omega arith) (omega arith)) (sym (mul-assoc _ _ _))
+
+pub product-positive : (ss ds : List ℕ) → length ds ≡ length ss → 1 ≤ binomialProduct ss ds
+product-positive [] ds e = omega arith
+product-positive (s ∷ ss) [] e = absurd (omega arith)
+product-positive (s ∷ ss) (d ∷ ds) e = one-le-mul (choose-positive d (pred s)) (product-positive ss ds (omega arith))
+
+-- a block has no more points than the grid
+pub count-below : (ss ds : List ℕ) (j : ℕ) → j < length ss → length ds ≡ length ss
+    → choose (getD ds j 0 + pred (getD ss j 0)) (pred (getD ss j 0)) ≤ binomialProduct ss ds
+count-below [] ds j h e = absurd (omega arith)
+count-below (s ∷ ss) [] j h e = absurd (omega arith)
+count-below (s ∷ ss) (d ∷ ds) zero h e =
+    let p : choose (d + pred s) (pred s) * 1 ≤ choose (d + pred s) (pred s) * binomialProduct ss ds = mul-le-mul (omega arith) (product-positive ss ds (omega arith)) in
+    omega arith
+count-below (s ∷ ss) (d ∷ ds) (suc j) h e =
+    let p : 1 * binomialProduct ss ds ≤ choose (d + pred s) (pred s) * binomialProduct ss ds = mul-le-mul (choose-positive d (pred s)) (omega arith) in
+    omega (arith, count-below ss ds j (omega arith) (omega arith))

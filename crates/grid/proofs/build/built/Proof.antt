@@ -1,0 +1,55 @@
+-- `grid::build::built` meets its contract. Assumes nothing.
+use mathlib.Core.Path.{_≡_, refl, _∙_}
+use lib.ListN.{length}
+use Rattle.combinatorics.proofs.Turns.{whole}
+use Rattle.combinatorics.specs.Lists.{sum}
+use Rattle.grid.proofs.Accepted.{Accepted, accepted, points-are}
+use Rattle.grid.specs.Build.{lent}
+use Rattle.grid.specs.Grid.{numPoints, next as after, previous as before}
+use Rattle.grid.specs.Made.{gridOf}
+use borrow.Author.Needs.{needs}
+use native.Mathlib.Omega.{arith}
+use Rattle.grid.proofs.build.built.Statement.{statement}
+use Rattle.grid.proofs.build.built.Tie as tie
+
+-- the questions answered yes, and m
+yes : (c : tie.Start) → Accepted (lent (c .args .sizes .now) (c .args .divisions .now))
+yes c = accepted _ (c .pre)
+
+total : (c : tie.After-first-index) → c .first-index .result ≡ sum (c .before .before .before .before .before .before .before .before .args .sizes .now)
+total c = let ss = c .before .before .before .before .before .before .before .before .args .sizes .now in c .first-index .ensures ∙ rw (whole ss (length ss) (omega arith))
+
+mark-blocks-requires : tie.Need-mark-blocks-requires
+mark-blocks-requires c κs = search needs
+
+first-index-requires : tie.Need-first-index-requires
+first-index-requires c κs = (omega arith, yes (c .before .before .before .before .before .before .before) .fewBlocks)
+
+mark-indices-requires : tie.Need-mark-indices-requires
+mark-indices-requires c κs =
+    let y = yes (c .before .before .before .before .before .before .before .before .before .before .before) in
+    let t = total (c .before .before .before) in
+    (t, rw t (y .fewIndices), y .fewBlocks, refl, refl, refl)
+
+points-requires : tie.Need-points-requires
+points-requires c κs = let y = yes (c .before .before .before .before .before .before .before .before .before .before .before .before) in (y .sizesTwo, y .fewIndices, y .sameNumber)
+
+returns : tie.Need-returns
+unfolding gridOf before after
+returns c =
+    let y = yes (c .before .before .before .before .before .before .before .before .before .before .before .before .before) in
+    let a = c .before .before .before .before .before .before .before .before .before .before .before .before .before .args in
+    let b = c .before .before .before .before .before .before .mark-blocks .ensures in
+    let i = c .before .mark-indices .ensures in
+    let p : c .points .result ≡ numPoints (lent (a .sizes .now) (a .divisions .now)) = omega (arith, c .points .ensures, points-are _ y, y .fewPoints) in
+    rw (b .sizesAre, b .divisionsAre, b .firstsAre, b .countsAre, i .blockIs, i .previousIs, i .nextIs, total (c .before .before .before .before .before), p)
+
+pub built-spec : {M : Type 1} → statement M
+built-spec =
+    tie.close
+    (tie.spec
+    mark-blocks-requires
+    first-index-requires
+    mark-indices-requires
+    points-requires
+    returns)

@@ -1,0 +1,109 @@
+-- `grid::questions::first_no` meets its contract: each return follows from the questions answered yes before it. Assumes nothing.
+use mathlib.Core.Bool.{true}
+use mathlib.Core.Path.{_≡_, sym, _∙_}
+use Prim.Native.Nat.{_≤_, _<_}
+use borrow.Author.Tests.{le-leb, lt-leb, eq-eqb, ne-eqb, not-true, not-false}
+use lib.Dec.{leb}
+use lib.ListN.{length}
+use Rattle.combinatorics.proofs.Basics.{and-both}
+use Rattle.combinatorics.proofs.Turns.{whole}
+use Rattle.combinatorics.specs.Lists.{all, sum}
+use Rattle.grid.proofs.Listing.{numPoints-is}
+use Rattle.grid.specs.Build.{lent}
+use Rattle.grid.specs.Grid.{Grid, numPoints, binomialProduct}
+use Rattle.grid.specs.Questions.{firstNo, question1, question2, question3}
+use borrow.Author.Needs.{needs}
+use native.Mathlib.Omega.{arith}
+use Rattle.grid.proofs.questions.first_no.Statement.{statement}
+use Rattle.grid.proofs.questions.first_no.Tie as tie
+
+-- the grid asked about, and what is known past each question
+grid : tie.Start → Grid
+grid c = lent (c .args .sizes .now) (c .args .divisions .now)
+
+yes1 : (c : tie.Else2) → question1 (grid (c .before .before .before .before)) .answeredYes ≡ true
+unfolding grid
+yes1 c = let n = length (c .before .before .before .before .args .sizes .now) in and-both _ _ (le-leb 1 n (omega arith)) (le-leb n 6 (omega arith))
+
+twos : (c : tie.Else3) → all (λ s. leb 2 s) (c .before .before .before .before .before .before .args .sizes .now) ≡ true
+twos c = sym (c .before .each-two .ensures) ∙ not-false _ (c .if3 .left)
+
+total : (c : tie.After-first-index) → c .first-index .result ≡ sum (c .before .before .before .before .before .before .before .args .sizes .now)
+total c = let ss = c .before .before .before .before .before .before .before .args .sizes .now in c .first-index .ensures ∙ rw (whole ss (length ss) (omega arith))
+
+yes2 : (c : tie.Else4) → question2 (grid (c .before .before .before .before .before .before .before .before)) .answeredYes ≡ true
+unfolding grid
+yes2 c = and-both _ _ (twos (c .before .before)) (le-leb (sum (c .before .before .before .before .before .before .before .before .args .sizes .now)) 16 (omega (arith, total (c .before))))
+
+yes3 : (c : tie.Else6) → question3 (grid (c .before .before .before .before .before .before .before .before .before .before .before)) .answeredYes ≡ true
+unfolding grid
+yes3 c = and-both _ _ (eq-eqb _ _ (c .before .before .if5 .left)) (sym (c .before .each-one .ensures) ∙ not-false _ (c .if6 .left))
+
+points-are : (c : tie.Else6) → numPoints (grid (c .before .before .before .before .before .before .before .before .before .before .before)) ≡ binomialProduct (c .before .before .before .before .before .before .before .before .before .before .before .args .sizes .now) (c .before .before .before .before .before .before .before .before .before .before .before .args .divisions .now)
+unfolding grid
+points-are c = numPoints-is _ (twos (c .before .before .before .before .before))
+
+returns : tie.Need-returns
+unfolding firstNo grid
+returns c = rw (lt-leb 1 (length (c .before .before .before .args .sizes .now)) (omega arith))
+
+returns-2 : tie.Need-returns-2
+unfolding firstNo grid
+returns-2 c = let n = length (c .before .before .before .before .args .sizes .now) in rw (le-leb 1 n (omega arith), lt-leb n 6 (omega arith))
+
+each-two-requires : tie.Need-each-two-requires
+each-two-requires c κs = search needs
+
+returns-3 : tie.Need-returns-3
+unfolding firstNo grid
+returns-3 c = rw (yes1 (c .before .before), sym (c .before .each-two .ensures) ∙ not-true _ (c .if3 .taken))
+
+first-index-requires : tie.Need-first-index-requires
+first-index-requires c κs = search needs
+
+returns-4 : tie.Need-returns-4
+unfolding firstNo grid
+returns-4 c = rw (yes1 (c .before .before .before .before), twos (c .before .before), lt-leb (sum (c .before .before .before .before .before .before .before .before .args .sizes .now)) 16 (omega (arith, total (c .before))))
+
+returns-5 : tie.Need-returns-5
+unfolding firstNo grid
+returns-5 c = rw (yes1 (c .before .before .before .before .before), yes2 (c .before), ne-eqb _ _ (c .if5 .taken))
+
+each-one-requires : tie.Need-each-one-requires
+each-one-requires c κs = search needs
+
+returns-6 : tie.Need-returns-6
+unfolding firstNo grid
+returns-6 c = rw (yes1 (c .before .before .before .before .before .before .before), yes2 (c .before .before .before), eq-eqb _ _ (c .before .before .if5 .left), sym (c .before .each-one .ensures) ∙ not-true _ (c .if6 .taken))
+
+points-requires : tie.Need-points-requires
+points-requires c κs = (twos (c .before .before .before .before .before), omega (arith, total (c .before .before .before .before)), c .before .before .if5 .left)
+
+returns-7 : tie.Need-returns-7
+unfolding firstNo grid
+returns-7 c =
+    let big : 60000 < numPoints (grid (c .before .before .before .before .before .before .before .before .before .before .before .before .before)) = omega (arith, points-are (c .before .before), c .before .points .ensures) in
+    rw (yes1 (c .before .before .before .before .before .before .before .before .before), yes2 (c .before .before .before .before .before), yes3 (c .before .before), lt-leb (numPoints (grid (c .before .before .before .before .before .before .before .before .before .before .before .before .before))) 60000 big)
+
+returns-8 : tie.Need-returns-8
+unfolding firstNo grid
+returns-8 c =
+    let small : numPoints (grid (c .before .before .before .before .before .before .before .before .before .before .before .before .before)) ≤ 60000 = omega (arith, points-are (c .before .before), c .before .points .ensures) in
+    rw (yes1 (c .before .before .before .before .before .before .before .before .before), yes2 (c .before .before .before .before .before), yes3 (c .before .before), le-leb (numPoints (grid (c .before .before .before .before .before .before .before .before .before .before .before .before .before))) 60000 small)
+
+pub first-no-spec : {M : Type 1} → statement M
+first-no-spec =
+    tie.close
+    (tie.spec
+    returns
+    returns-2
+    each-two-requires
+    returns-3
+    first-index-requires
+    returns-4
+    returns-5
+    each-one-requires
+    returns-6
+    points-requires
+    returns-7
+    returns-8)

@@ -1,0 +1,55 @@
+-- `grid::tables::entry_before` meets its contract. Assumes nothing.
+use mathlib.Core.Path.{_≡_, sym}
+use Prim.Native.Nat.{_-_}
+use Rattle.combinatorics.proofs.Binomials.{choose-one}
+use borrow.Author.Needs.{needs}
+use native.Mathlib.Omega.{arith}
+use Rattle.grid.proofs.tables.entry_before.Statement.{statement}
+use Rattle.grid.proofs.tables.entry_before.Tie as tie
+
+add-result : tie.Need-add-result
+add-result c = search needs
+
+cast-result : tie.Need-cast-result
+cast-result c = search needs
+
+returns : tie.Need-returns
+returns c =
+    let a = c .before .args in
+    let e : a .k - 1 ≡ 1 = omega arith in
+    rw e (sym (choose-one (a .r)))
+
+sub-at : tie.Need-sub-at
+sub-at c = search needs
+
+mul-at : tie.Need-mul-at
+mul-at c = search needs
+
+add-at : tie.Need-add-at
+add-at c = search needs
+
+mul-result : tie.Need-mul-result
+mul-result c = search needs
+
+element-copy-out-result : tie.Need-element-copy-out-result
+element-copy-out-result c = search needs
+
+returns-2 : tie.Need-returns-2
+returns-2 c =
+    let a = c .before .before .args in
+    let e : a .k - 3 ≡ a .k - 1 - 2 = omega arith in
+    rw e (c .before .before .pre .3 (omega arith))
+
+pub entry-before-spec : {M : Type 1} → statement M
+entry-before-spec =
+    tie.close
+    (tie.spec
+    add-result
+    cast-result
+    returns
+    sub-at
+    mul-at
+    add-at
+    mul-result
+    element-copy-out-result
+    returns-2)

@@ -1,0 +1,65 @@
+-- `grid::tables::fill_block` meets its contract. The invariant: the rows before k are right, and no entry was spoilt. Assumes nothing.
+use mathlib.Core.Path.{_≡_}
+use Prim.Native.Nat.{_-_, _≤_, pred}
+use lib.ListN.{length}
+use Rattle.combinatorics.proofs.Binomials.{choose-grows}
+use Rattle.grid.proofs.Table.{keeps-self, keeps-both, division-few, rows-next}
+use Rattle.grid.specs.Binomials.{HasRows, Keeps}
+use borrow.Author.Needs.{needs}
+use native.Mathlib.Omega.{arith}
+use Rattle.grid.proofs.tables.fill_block.Statement.{statement}
+use Rattle.grid.proofs.tables.fill_block.Tie as tie
+
+abbrev Inv-loop : tie.InvT-loop
+Inv-loop t₀ size division k₀ t k =
+    (2 ≤ k) × (k ≤ size) × (length t ≡ 4830) × Keeps t₀ t × HasRows k division t
+
+abbrev μ-loop : tie.MeasureT-loop
+μ-loop t₀ size division k₀ t k = size - k
+
+-- the division of a block with a row to fill
+few : (c : tie.In-loop Inv-loop μ-loop) → c .before .before .args .division ≤ 344
+few c = let a = c .before .before .args in division-few (a .division) (pred (a .size)) (omega arith) (c .before .before .pre .2)
+
+loop-holds : tie.Need-loop-holds Inv-loop μ-loop
+loop-holds c = let p = c .pre in (omega arith, p .0, p .3, keeps-self, (λ k r two l h. absurd (omega arith)))
+
+fill-row-requires : tie.Need-fill-row-requires Inv-loop μ-loop
+fill-row-requires c κs =
+    let l = c .before .before .loop in
+    let a = c .before .before .before .args in
+    let p = c .before .before .before .pre in (
+      l .inv .0,
+      omega (arith, p .1),
+      few (c .before),
+      omega (arith, choose-grows (a .division) (a .division) (l .k) (pred (a .size)) (omega arith) (omega arith), p .2),
+      l .inv .2,
+      (λ r h m. l .inv .4 (l .k - 1) r (omega arith) (omega arith) m),
+    )
+
+add-k : tie.Need-add-k Inv-loop μ-loop
+add-k c = search needs
+
+loop-less : tie.Need-loop-less Inv-loop μ-loop
+loop-less c = search needs
+
+loop-again : tie.Need-loop-again Inv-loop μ-loop
+loop-again c =
+    let l = c .before .before .before .loop in
+    let e = c .fill-row .ensures in (
+      omega arith,
+      omega arith,
+      e .0,
+      keeps-both (l .inv .3) (e .1),
+      rows-next (l .k) (c .before .before .before .before .args .division) (l .t) (c .fill-row .last .0) (omega (arith, c .before .before .before .before .pre .1)) (few (c .before .before)) (l .inv .4) (e .1) (e .2),
+    )
+
+returns : tie.Need-returns Inv-loop μ-loop
+returns c =
+    let l = c .before .loop in
+    (l .inv .2, l .inv .3, (λ k r two h m. l .inv .4 k r two (omega arith) m))
+
+pub fill-block-spec : {M : Type 1} → statement M
+fill-block-spec =
+    tie.close
+    (tie.spec Inv-loop μ-loop loop-holds fill-row-requires add-k loop-less loop-again returns)

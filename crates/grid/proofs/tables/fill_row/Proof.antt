@@ -1,0 +1,131 @@
+-- `grid::tables::fill_row` meets its contract. The invariant: the row is right as far as r, whose entry is last, and no entry was spoilt. Assumes nothing.
+use mathlib.Core.Logic.{⊎-elim}
+use mathlib.Core.Path.{_≡_, sym, subst}
+use Prim.Native.Nat.{ℕ, _+_, _-_, _*_, _≤_}
+use lib.ListN.{length, length-set, set}
+use Rattle.combinatorics.proofs.Basics.{before-or-not}
+use Rattle.combinatorics.proofs.Binomials.{choose-none, choose-grows}
+use Rattle.combinatorics.specs.Counting.{choose}
+use Rattle.grid.proofs.Table.{keeps-self, keeps-both, stored-is, stored-keeps, row-next}
+use Rattle.grid.specs.Binomials.{IsBinomial, Keeps}
+use borrow.Author.Needs.{needs}
+use native.Mathlib.Omega.{arith}
+use Rattle.grid.proofs.tables.fill_row.Statement.{statement}
+use Rattle.grid.proofs.tables.fill_row.Tie as tie
+
+abbrev Inv-loop : tie.InvT-loop
+Inv-loop t₀ k most at last₀ r₀ t last r =
+    (r ≤ most) × (last ≡ choose (r + k) k) × (length t ≡ 4830) × Keeps t₀ t × ((i : ℕ) → i ≤ r → IsBinomial t k i)
+
+abbrev μ-loop : tie.MeasureT-loop
+μ-loop t₀ k most at last₀ r₀ t last r = most - r
+
+-- the row's first entry
+started : (c : tie.Start Inv-loop μ-loop) → Keeps (c .args .t .now) (set (c .args .t .now) ((c .args .k - 2) * 345) 1) × IsBinomial (set (c .args .t .now) ((c .args .k - 2) * 345) 1) (c .args .k) 0
+started c =
+    let a = c .args in
+    let p = c .pre in
+    let t = a .t .now in
+    let z : (a .k - 2) * 345 + 0 ≡ (a .k - 2) * 345 = omega arith in
+    let one = sym (choose-none (a .k)) in (
+      subst (λ (n : ℕ). Keeps t (set t n 1)) z (stored-keeps t (a .k) 0 1 (p .4) (p .0) (p .1) (omega arith) one),
+      subst (λ (n : ℕ). IsBinomial (set t n 1) (a .k) 0) z (stored-is t (a .k) 0 1 (p .4) (p .0) (p .1) (omega arith) one),
+    )
+
+-- the next entry
+next : (c : tie.After-entry-before Inv-loop μ-loop) → c .before .before .before .loop .last + c .entry-before .result ≡ choose (c .before .before .before .loop .r + 1 + c .before .before .before .before .args .k) (c .before .before .before .before .args .k)
+next c = let l = c .before .before .before .loop in rw (l .inv .1, c .entry-before .ensures) (sym (row-next (l .r) (c .before .before .before .before .args .k) (omega arith)))
+
+sub-at : tie.Need-sub-at Inv-loop μ-loop
+sub-at c = search needs
+
+mul-at : tie.Need-mul-at Inv-loop μ-loop
+mul-at c = search needs
+
+mul-t : tie.Need-mul-t Inv-loop μ-loop
+mul-t c = search needs
+
+element-write-t : tie.Need-element-write-t Inv-loop μ-loop
+element-write-t c = search needs
+
+loop-holds : tie.Need-loop-holds Inv-loop μ-loop
+loop-holds c =
+    let s = started c in (
+      omega arith,
+      sym (choose-none (c .args .k)),
+      simp length-set (c .pre .4),
+      keeps-self,
+      (λ i h. let e : i ≡ 0 = omega arith in rw e (s .1)),
+    )
+
+add-r : tie.Need-add-r Inv-loop μ-loop
+add-r c = search needs
+
+entry-before-requires : tie.Need-entry-before-requires Inv-loop μ-loop
+entry-before-requires c κs =
+    let l = c .before .before .loop in
+    let s = c .before .before .before in (
+      s .pre .0,
+      s .pre .1,
+      omega (arith, s .pre .2),
+      (λ h. l .inv .3 .right (s .args .k - 1) (l .r + 1) (omega arith) (omega arith) (omega (arith, s .pre .2)) (started s .0 .right (s .args .k - 1) (l .r + 1) (omega arith) (omega arith) (omega (arith, s .pre .2)) (s .pre .5 (l .r + 1) h (omega arith)))),
+    )
+
+add-last : tie.Need-add-last Inv-loop μ-loop
+add-last c =
+    let l = c .before .before .before .loop in
+    let a = c .before .before .before .before .args in
+    omega (arith, next c, choose-grows (l .r + 1) (a .most) (a .k) (a .k) (omega arith) (omega arith), c .before .before .before .before .pre .3)
+
+add-t : tie.Need-add-t Inv-loop μ-loop
+add-t c = search needs
+
+mul-t-2 : tie.Need-mul-t-2 Inv-loop μ-loop
+mul-t-2 c = search needs
+
+element-write-t-2 : tie.Need-element-write-t-2 Inv-loop μ-loop
+element-write-t-2 c = search needs
+
+loop-less : tie.Need-loop-less Inv-loop μ-loop
+loop-less c = search needs
+
+loop-again : tie.Need-loop-again Inv-loop μ-loop
+loop-again c =
+    let l = c .before .before .before .loop in
+    let a = c .before .before .before .before .args in
+    let p = c .before .before .before .before .pre in
+    let v = l .last + c .entry-before .result in
+    let keeps = stored-keeps (l .t) (a .k) (l .r + 1) v (l .inv .2) (p .0) (p .1) (omega arith) (next c) in (
+      omega arith,
+      next c,
+      simp length-set (l .inv .2),
+      keeps-both (l .inv .3) keeps,
+      (λ i h. ⊎-elim (λ b. keeps .right (a .k) i (p .0) (p .1) (omega arith) (l .inv .4 i (omega arith)))
+          (λ b. let e : i ≡ l .r + 1 = omega arith in rw e (stored-is (l .t) (a .k) (l .r + 1) v (l .inv .2) (p .0) (p .1) (omega arith) (next c))) (before-or-not i (l .r + 1))),
+    )
+
+returns : tie.Need-returns Inv-loop μ-loop
+returns c =
+    let l = c .before .loop in
+    (l .inv .2, keeps-both (started (c .before .before) .0) (l .inv .3), (λ r h. l .inv .4 r (omega arith)))
+
+pub fill-row-spec : {M : Type 1} → statement M
+fill-row-spec =
+    tie.close
+    (tie.spec
+    Inv-loop
+    μ-loop
+    sub-at
+    mul-at
+    mul-t
+    element-write-t
+    loop-holds
+    add-r
+    entry-before-requires
+    add-last
+    add-t
+    mul-t-2
+    element-write-t-2
+    loop-less
+    loop-again
+    returns)

@@ -1,0 +1,23 @@
+-- The table of binomials by which a point's position is found. Assumes nothing.
+use mathlib.Core.List.{List}
+use mathlib.Core.Path.{_≡_}
+use Prim.Native.Nat.{ℕ, _+_, _-_, _*_, _≤_, _<_}
+use lib.ListN.{getD}
+use Rattle.combinatorics.specs.Counting.{choose}
+use Rattle.grid.specs.Grid.{Grid, numBlocks, size, division}
+
+-- row k, from 2 to 15, has r + k choose k for r up to 344
+abbrev pub IsBinomial : List ℕ → ℕ → ℕ → Type 0
+IsBinomial t k r = getD t ((k - 2) * 345 + r) 0 ≡ choose (r + k) k
+
+-- the rows that a block of this size needs, as far as its division
+abbrev pub HasRows : ℕ → ℕ → List ℕ → Type 0
+HasRows size division t = (k r : ℕ) → 2 ≤ k → k < size → r ≤ division → IsBinomial t k r
+
+-- what every block needs
+pub record HasBinomials (g : Grid) (t : List ℕ) : Type 0 where
+  pub rows : (j : ℕ) → j < numBlocks g → HasRows (size g j) (division g j) t
+
+-- an entry that was right is right
+pub record Keeps (old new : List ℕ) : Type 0 where
+  pub right : (k r : ℕ) → 2 ≤ k → k ≤ 15 → r ≤ 344 → IsBinomial old k r → IsBinomial new k r

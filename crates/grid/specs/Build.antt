@@ -1,0 +1,21 @@
+-- How the constructor puts a grid together: the arrays about the blocks, and those about the indices. Assumes nothing.
+use mathlib.Core.List.{List, map}
+use mathlib.Core.Path.{_≡_}
+use Prim.Native.Nat.{ℕ}
+use Rattle.grid.specs.Grid.{Grid, firstIndex, blocks, indices, blockOf, next as after, previous as before}
+use Rattle.grid.specs.Made.{padded, blockCount}
+
+-- the sizes and divisions lent to the constructor
+abbrev pub lent : List ℕ → List ℕ → Grid
+lent sizes divisions = record { sizes = sizes; divisions = divisions }
+
+pub record BlocksMarked (g : Grid) (sizes divisions firsts counts : List ℕ) : Type 0 where
+  pub sizesAre : sizes ≡ padded 6 (g .sizes)
+  pub divisionsAre : divisions ≡ padded 6 (g .divisions)
+  pub firstsAre : firsts ≡ padded 6 (map (firstIndex g) (blocks g))
+  pub countsAre : counts ≡ padded 6 (map (blockCount g) (blocks g))
+
+pub record IndicesMarked (g : Grid) (block previous next : List ℕ) : Type 0 where
+  pub blockIs : block ≡ padded 16 (map (blockOf g) (indices g))
+  pub previousIs : previous ≡ padded 16 (map (before g) (indices g))
+  pub nextIs : next ≡ padded 16 (map (after g) (indices g))

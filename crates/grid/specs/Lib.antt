@@ -1,0 +1,6 @@
+pub mod Grid
+pub mod Questions
+pub mod Made
+pub mod Capped
+pub mod Build
+pub mod Binomials

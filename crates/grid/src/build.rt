@@ -1,0 +1,153 @@
+// The grid that accepted sizes and divisions make.
+ghost use mathlib.Core.Bool.{cond};
+ghost use mathlib.Core.List.{[]};
+ghost use mathlib.Core.Path.{_≡_};
+ghost use Prim.Native.Nat.{suc, _+_, _≤_, _<_, pred};
+ghost use lib.Dec.{eqb};
+ghost use lib.ListN.{length, replicate};
+ghost use Rattle.combinatorics.specs.Lists.{sum};
+ghost use Rattle.grid.specs.Build.{lent, BlocksMarked, IndicesMarked};
+ghost use Rattle.grid.specs.Grid.{blockIn};
+ghost use Rattle.grid.specs.Made.{gridOf, noGrid};
+ghost use Rattle.grid.specs.Questions.{firstNo, gridQuestions};
+use crate::Grid;
+use crate::counts;
+use crate::questions;
+use crate::wide;
+use crate::wide16;
+
+pub fn nothing() -> Grid
+    ensures { λ r. ⌜ r ≡ noGrid ⌝ }
+{
+    Grid {
+        sizes: [0u8; 6],
+        divisions: [0u16; 6],
+        firsts: [0u8; 6],
+        counts: [0u16; 6],
+        block: [0u8; 16],
+        previous: [0u8; 16],
+        next: [0u8; 16],
+        blocks: 0,
+        indices: 0,
+        points: 0,
+    }
+}
+
+// The block of index h.
+fn block_of(sizes: &[u8], h: usize) -> usize
+    requires { ⌜ h < sum (now sizes) ⌝ }
+    ensures { λ r. ⌜ r ≡ blockIn (now (sizes .entry)) h ⌝ }
+{
+    let mut j: usize = 0;
+    let mut left = h;
+    while wide(sizes[j]) <= left {
+        left -= wide(sizes[j]);
+        j += 1;
+    }
+    j
+}
+
+// The index after h in a block with size indices from first on.
+fn index_after(h: usize, first: usize, size: usize) -> u8
+    requires { ⌜ (h < 16) × (first + size ≤ 16) ⌝ }
+    ensures { λ r. ⌜ r ≡ cond (eqb (suc h) (first + size)) first (suc h) ⌝ }
+{
+    if h + 1 == first + size {
+        first as u8
+    } else {
+        (h + 1) as u8
+    }
+}
+
+fn index_before(h: usize, first: usize, size: usize) -> u8
+    requires { ⌜ (first ≤ h) × (h < first + size) × (first + size ≤ 16) ⌝ }
+    ensures { λ r. ⌜ r ≡ cond (eqb h first) (pred (first + size)) (pred h) ⌝ }
+{
+    if h == first {
+        (first + size - 1) as u8
+    } else {
+        (h - 1) as u8
+    }
+}
+
+// What is known of each block: the sizes and divisions themselves, first indices and counts.
+fn mark_blocks(
+    sizes: &[u8],
+    divisions: &[u16],
+    own_sizes: &mut [u8; 6],
+    own_divisions: &mut [u16; 6],
+    firsts: &mut [u8; 6],
+    counts: &mut [u16; 6],
+)
+    requires { ⌜ (firstNo (gridQuestions (lent (now sizes) (now divisions))) ≡ 0) × (now «own_sizes» ≡ replicate 6 0) × (now «own_divisions» ≡ replicate 6 0) × (now firsts ≡ replicate 6 0) × (now counts ≡ replicate 6 0) ⌝ }
+    ensures { λ _. ⌜ BlocksMarked (lent (now (sizes .entry)) (now (divisions .entry))) (now («own_sizes» .exit)) (now («own_divisions» .exit)) (now (firsts .exit)) (now (counts .exit)) ⌝ }
+{
+    let mut j: usize = 0;
+    while j < sizes.len() {
+        own_sizes[j] = sizes[j];
+        own_divisions[j] = divisions[j];
+        firsts[j] = questions::first_index(sizes, j) as u8;
+        counts[j] = counts::block_count(wide(sizes[j]), wide16(divisions[j])) as u16;
+        j += 1;
+    }
+}
+
+// What is known of each index: its block, and its neighbours round the block.
+fn mark_indices(
+    sizes: &[u8],
+    indices: usize,
+    block: &mut [u8; 16],
+    previous: &mut [u8; 16],
+    next: &mut [u8; 16],
+)
+    requires { ⌜ (indices ≡ sum (now sizes)) × (indices ≤ 16) × (length (now sizes) ≤ 6) × (now block ≡ replicate 16 0) × (now previous ≡ replicate 16 0) × (now next ≡ replicate 16 0) ⌝ }
+    ensures { λ _. ⌜ IndicesMarked (lent (now (sizes .entry)) []) (now (block .exit)) (now (previous .exit)) (now (next .exit)) ⌝ }
+{
+    let mut h: usize = 0;
+    while h < indices {
+        let j = block_of(sizes, h);
+        let first = questions::first_index(sizes, j);
+        let size = wide(sizes[j]);
+        block[h] = j as u8;
+        previous[h] = index_before(h, first, size);
+        next[h] = index_after(h, first, size);
+        h += 1;
+    }
+}
+
+pub fn built(sizes: &[u8], divisions: &[u16]) -> Grid
+    requires { ⌜ firstNo (gridQuestions (lent (now sizes) (now divisions))) ≡ 0 ⌝ }
+    ensures { λ r. ⌜ r ≡ gridOf (lent (now (sizes .entry)) (now (divisions .entry))) ⌝ }
+{
+    let mut own_sizes = [0u8; 6];
+    let mut own_divisions = [0u16; 6];
+    let mut firsts = [0u8; 6];
+    let mut counts = [0u16; 6];
+    mark_blocks(
+        sizes,
+        divisions,
+        &mut own_sizes,
+        &mut own_divisions,
+        &mut firsts,
+        &mut counts,
+    );
+    let blocks = sizes.len();
+    let indices = questions::first_index(sizes, blocks);
+    let mut block = [0u8; 16];
+    let mut previous = [0u8; 16];
+    let mut next = [0u8; 16];
+    mark_indices(sizes, indices, &mut block, &mut previous, &mut next);
+    let points = counts::points(sizes, divisions);
+    Grid {
+        sizes: own_sizes,
+        divisions: own_divisions,
+        firsts,
+        counts,
+        block,
+        previous,
+        next,
+        blocks,
+        indices,
+        points,
+    }
+}

@@ -1,0 +1,175 @@
+// Blocks, indices and grid points. Indices and blocks count from 0.
+ghost use mathlib.Core.Bool.{true};
+ghost use mathlib.Core.Path.{_≡_};
+ghost use Prim.Native.Nat.{_≤_, _<_};
+ghost use lib.ListN.{length, take};
+ghost use Rattle.grid.specs.Binomials.{HasBinomials};
+ghost use Rattle.grid.specs.Grid.{bound, isGridPoint, blockOf, next, previous, position};
+ghost use Rattle.grid.specs.Made.{madeOf, shape, IsMade};
+
+mod bounds;
+mod build;
+mod coordinates;
+mod counts;
+mod questions;
+mod ranks;
+mod tables;
+
+// A grid with what is looked up at every move. At the front of each array stand the numbers of the
+// blocks or of the indices, 0 behind.
+pub struct Grid {
+    pub sizes: [u8; 6],
+    pub divisions: [u16; 6],
+    // the first index of each block
+    pub firsts: [u8; 6],
+    // how many lists of a block's size add up to its division
+    pub counts: [u16; 6],
+    // of each index: its block, and the index before and after it round the block
+    pub block: [u8; 16],
+    pub previous: [u8; 16],
+    pub next: [u8; 16],
+    // N, m and P
+    pub blocks: usize,
+    pub indices: usize,
+    pub points: usize,
+}
+
+// The number of the first of questions 1 to 4 that is answered no, or 0 and the grid.
+pub struct Made {
+    pub code: u8,
+    pub grid: Grid,
+}
+
+// What follows `new` is for a grid that it made, and a caller of ours shows that.
+impl Grid {
+    pub const MAX_BLOCKS: usize = 6;
+
+    pub const MAX_INDICES: usize = 16;
+
+    pub const MAX_POINTS: usize = 60000;
+
+    // Questions 1 to 4 about any sizes and divisions.
+    pub fn new(sizes: &[u8], divisions: &[u16]) -> Made
+        ensures { λ r. ⌜ r ≡ madeOf (record { sizes = now (sizes .entry); divisions = now (divisions .entry) }) ⌝ }
+    {
+        let code = questions::first_no(sizes, divisions);
+        if code == 0 {
+            let grid = build::built(sizes, divisions);
+            Made { code, grid }
+        } else {
+            let grid = build::nothing();
+            Made { code, grid }
+        }
+    }
+
+    // P times the sum 1 + m + m (m - 1) + .., whose last term has n factors.
+    pub fn bound(self) -> u64
+        requires { ⌜ IsMade self ⌝ }
+        ensures { λ r. ⌜ r ≡ bound (shape self) ⌝ }
+    {
+        let indices = self.indices;
+        let blocks = self.blocks;
+        let points = self.points;
+        points as u64 * bounds::terms(indices as u64, (indices - blocks) as u64)
+    }
+
+    // Question 5: has y m numbers, each block adding up to its division?
+    pub fn is_grid_point(self, y: &[u16]) -> bool
+        requires { ⌜ IsMade self ⌝ }
+        ensures { λ r. ⌜ r ≡ isGridPoint (shape self) (now (y .entry)) ⌝ }
+    {
+        let indices = self.indices;
+        if y.len() != indices {
+            return false;
+        }
+        let firsts = self.firsts;
+        let sizes = self.sizes;
+        let divisions = self.divisions;
+        let blocks = self.blocks;
+        let mut good = true;
+        let mut j: usize = 0;
+        while j < blocks {
+            let total = coordinates::total(y, wide(firsts[j]), wide(sizes[j]));
+            if total != wide16(divisions[j]) {
+                good = false;
+            }
+            j += 1;
+        }
+        good
+    }
+
+    // The binomials that positions on this grid need, in a table lent by the caller.
+    pub fn binomials(self, t: &mut [u16; 4830])
+        requires { ⌜ IsMade self × (length (now t) ≡ 4830) ⌝ }
+        ensures { λ _. ⌜ HasBinomials (shape self) (now (t .exit)) ⌝ }
+    {
+        let sizes = self.sizes;
+        let divisions = self.divisions;
+        let blocks = self.blocks;
+        let mut j: usize = 0;
+        while j < blocks {
+            tables::fill_block(t, wide(sizes[j]), wide16(divisions[j]));
+            j += 1;
+        }
+    }
+
+    // The position of the grid point whose coordinates stand at the front of y.
+    pub fn position(self, t: &[u16; 4830], y: &[u16; 16]) -> usize
+        requires { ⌜ IsMade self × HasBinomials (shape self) (now t) × (isGridPoint (shape self) (take (self .indices) (now y)) ≡ true) ⌝ }
+        ensures { λ r. ⌜ r ≡ position (shape self) (take (self .indices) (now (y .entry))) ⌝ }
+    {
+        let firsts = self.firsts;
+        let sizes = self.sizes;
+        let divisions = self.divisions;
+        let counts = self.counts;
+        let blocks = self.blocks;
+        let mut at: usize = 0;
+        let mut j: usize = 0;
+        while j < blocks {
+            let rank = ranks::in_block(t, y, wide(firsts[j]), wide(sizes[j]), wide16(divisions[j]));
+            at = at * wide16(counts[j]) + rank;
+            j += 1;
+        }
+        at
+    }
+
+    // The block of index h.
+    pub fn block_of(self, h: usize) -> usize
+        requires { ⌜ IsMade self × (h < self .indices) ⌝ }
+        ensures { λ r. ⌜ r ≡ blockOf (shape self) h ⌝ }
+    {
+        let block = self.block;
+        wide(block[h])
+    }
+
+    // The index before h round its block.
+    pub fn previous(self, h: usize) -> usize
+        requires { ⌜ IsMade self × (h < self .indices) ⌝ }
+        ensures { λ r. ⌜ r ≡ previous (shape self) h ⌝ }
+    {
+        let previous = self.previous;
+        wide(previous[h])
+    }
+
+    // The index after h round its block.
+    pub fn next(self, h: usize) -> usize
+        requires { ⌜ IsMade self × (h < self .indices) ⌝ }
+        ensures { λ r. ⌜ r ≡ next (shape self) h ⌝ }
+    {
+        let next = self.next;
+        wide(next[h])
+    }
+}
+
+// A byte is a number, with nothing to show at the cast.
+fn wide(x: u8) -> usize
+    ensures { λ r. ⌜ r ≡ x ⌝ }
+{
+    x as usize
+}
+
+fn wide16(x: u16) -> usize
+    ensures { λ r. ⌜ (r ≡ x) × (r ≤ 65535) ⌝ }
+{
+    x as usize
+}

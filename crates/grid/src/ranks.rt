@@ -1,0 +1,37 @@
+// The position of a block's coordinates among the lists of that block.
+ghost use mathlib.Core.List.{map};
+ghost use mathlib.Core.Path.{_≡_};
+ghost use Prim.Native.Nat.{_+_, _-_, _≤_, pred};
+ghost use Rattle.combinatorics.specs.Counting.{choose};
+ghost use Rattle.combinatorics.specs.Lists.{sum, upFrom};
+ghost use Rattle.grid.specs.Binomials.{IsBinomial, HasRows};
+ghost use Rattle.grid.specs.Grid.{at, blockPoints, positionIn};
+use crate::wide16;
+
+// With k + 1 numbers to come that add up to left: how many lists have a first number below x.
+fn lists_before(t: &[u16; 4830], k: usize, left: usize, x: usize) -> usize
+    requires { ⌜ (2 ≤ k) × (k ≤ 15) × (left ≤ 344) × (x ≤ left) × IsBinomial (now t) k left × IsBinomial (now t) k (left - x) ⌝ }
+    ensures { λ r. ⌜ r + choose (left - x + k) k ≡ choose (left + k) k ⌝ }
+{
+    let row = (k - 2) * 345;
+    wide16(t[row + left]) - wide16(t[row + (left - x)])
+}
+
+// The block has size coordinates from first on, which add up to division.
+pub fn in_block(t: &[u16; 4830], y: &[u16; 16], first: usize, size: usize, division: usize) -> usize
+    requires { ⌜ (2 ≤ size) × (first + size ≤ 16) × (choose (division + pred size) (pred size) ≤ 60000) × (sum (map (at (now y)) (upFrom first size)) ≡ division) × HasRows size division (now t) ⌝ }
+    ensures { λ r. ⌜ r ≡ positionIn (blockPoints size division) (map (at (now (y .entry))) (upFrom first size)) ⌝ }
+{
+    let mut rank: usize = 0;
+    let mut left = division;
+    let mut i = first;
+    let mut k = size - 1;
+    while 1 < k {
+        let x = wide16(y[i]);
+        rank += lists_before(t, k, left, x);
+        left -= x;
+        i += 1;
+        k -= 1;
+    }
+    rank + wide16(y[i])
+}
