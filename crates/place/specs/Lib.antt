@@ -1,0 +1,9 @@
+pub mod Problem
+pub mod Questions
+pub mod Coefficients
+pub mod Places
+pub mod Links
+pub mod Ends
+pub mod Path
+pub mod Worked
+pub mod Demand

@@ -1,0 +1,18 @@
+-- What a run is about: a grid, a start and a label table. Assumes nothing.
+use mathlib.Core.List.{List}
+use Prim.Native.Nat.{ℕ}
+use lib.ListN.{getD}
+use Rattle.grid.specs.Grid.{Grid, Point, position}
+
+-- What a run is about: a grid, "v is the start", and "The label table"
+pub record Problem : Type 0 where
+  pub grid : Grid
+  pub start : Point
+  pub labels : List ℕ
+
+abbrev pub problemOf : List ℕ → List ℕ → Point → List ℕ → Problem
+problemOf sizes divisions start labels = record { grid = record { sizes = sizes; divisions = divisions }; start = start; labels = labels }
+
+-- "The label table has one byte per point in that order"; 0 where there is none
+unfoldable pub label : Problem → Point → ℕ
+label p y = getD (p .labels) (position (p .grid) y) 0
