@@ -1,0 +1,315 @@
+-- From single moves to the path of document 01: a state that stands at a place of the path goes on to the next place or to the path's end.
+-- The run's proof cites of it `At`, `EndsAt` and their laws: at-begin, at-below, at-spent, at-reads, at-ready, at-step, at-place-end, at-facet-end
+-- and ends-answer. Assumes nothing.
+use mathlib.Core.Bool.{Bool, true, false, _&&_}
+use mathlib.Core.List.{List, [], _∷_, _++_}
+use mathlib.Core.Logic.{⊎-elim}
+use mathlib.Core.Option.{Option, none, some}
+use mathlib.Core.Path.{_≡_, refl, sym, ap, _∙_}
+use Prim.Native.Nat.{ℕ, suc, _≤_, _<_}
+use borrow.Author.Tests.{lt-ltb, le-ltb}
+use lib.Dec.{eqb, ltb}
+use lib.ListN.{length, length-append, getD-replicate, List·getD-append}
+use lib.Seq.{getD-at}
+use native.Mathlib.Omega.{arith}
+use Rattle.combinatorics.proofs.Basics.{absurd-bool, true-or-false, before-or-not}
+use Rattle.combinatorics.specs.Edits.{removeAt}
+use Rattle.geometry.proofs.Definitions.{zeros}
+use Rattle.geometry.proofs.LabelledChains.{LabelledChain, FacetEnd, PlaceEnd}
+use Rattle.grid.proofs.Round.{seat, block-at}
+use Rattle.grid.specs.Grid.{at, numIndices, dimension, blockOf, isGridPoint}
+use Rattle.place.proofs.BlocksOfGrid.{blocksOf, coefficientOf, block-agrees, coord-in, coord-out, coefficientOf-is}
+use Rattle.place.proofs.Bound.{order-short}
+use Rattle.place.proofs.ChainEnds.{complete-of, complete-below, end-below, end-complete, end-labels}
+use Rattle.place.proofs.ChainLinks.{of-link}
+use Rattle.place.proofs.FromChain.{back-again, place-of, long, pointsOf-grid, T-is}
+use Rattle.place.proofs.Labels.{place-labelled}
+use Rattle.place.proofs.LinkSymmetry.{parts}
+use Rattle.place.proofs.Run.{below-length, not-start, ends-path, goes-on}
+use Rattle.place.proofs.Start.{start-place}
+use Rattle.place.proofs.Theorem.{demand3-holds, zeroes, single, block-of, in-facets}
+use Rattle.place.proofs.ToChain.{inT, coefficientsOf, pointsOf, labelOf, place-long, labelledChain-of, pointsOf-coefficientsOf}
+use Rattle.place.proofs.Ways.{IsWay, byPlace, byFacet}
+use Rattle.place.specs.Coefficients.{IsCoefficients, coefficients}
+use Rattle.place.specs.Demand.{Accepted, allLabelled, Follows, placeAt, leftAt}
+use Rattle.place.specs.Ends.{Kind, placeEnd, facetEnd, stop}
+use Rattle.place.specs.Links.{linked}
+use Rattle.place.specs.Path.{path, pathLength, answer, spent, ended}
+use Rattle.place.specs.Places.{Simplex, order}
+use Rattle.place.specs.Problem.{Problem}
+use Rattle.moves.specs.Mask.{bit}
+use Rattle.moves.specs.Read.{pointIn, pointsFrom, read, ReadyPoint}
+use Rattle.moves.specs.Ready.{Ready}
+use Rattle.moves.specs.Step.{State, step, begun}
+use Rattle.moves.proofs.Describes.{Neighbours, Describes, Came, begins, through, fromLarger, Reached}
+use Rattle.moves.proofs.Masks.{bit-none}
+use Rattle.moves.proofs.Move.{SamePlace, Outcome, placeEnds, facetEnds, goesOn, Onward, onward}
+use Rattle.moves.proofs.Range.{point-on}
+use Rattle.moves.proofs.StatePoints.{ready-point, point-is, all-points, later-points}
+
+-- the place just left is that of the chain, if any
+abbrev LeftIs : Problem → Option (List (ℕ → ℕ)) → Option Simplex → Type 0
+LeftIs p none q = q ≡ none
+LeftIs p (some l) q = (q ≡ some (pointsOf p l)) × (coefficientsOf p (pointsOf p l) ≡ l)
+
+-- the state stands at place number k, from 0, of a list of places that follows the path
+pub record At (p : Problem) (s : State) (k : ℕ) : Type 0 where
+  places : List Simplex
+  many : length places ≡ suc k
+  follows : Follows p places
+  T : ℕ → Bool
+  t : ℕ
+  o : ℕ → ℕ
+  x : List (ℕ → ℕ)
+  describes : Describes p T t o x s
+  here : placeAt places k ≡ pointsOf p x
+  left : Option (List (ℕ → ℕ))
+  came : Came p T t x s left
+  before : LeftIs p left (leftAt places k)
+
+-- the state e stands at the path's end, after k + 1 places: an end of the kind given, whose points are those of e from number `from` on
+pub record EndsAt (p : Problem) (previousOf : List ℕ) (kind : Kind) (from : ℕ) (e : State) (k : ℕ) : Type 0 where
+  pub firstLength : length e.first ≡ 16
+  pub index : e .end < numIndices p.grid
+  pub few : length e.order ≤ dimension p.grid
+  pub low : from ≤ length e.order
+  pub points : (i : ℕ) → i ≤ length e.order → ReadyPoint previousOf e.order e.U e.first i
+  pub end : path p .end ≡ some (record { kind = kind; block = blockOf p.grid e.end; simplex = pointsFrom p previousOf e from })
+  pub places : pathLength p ≡ suc k
+
+-- and so it is the answer, within the budget
+pub ends-answer : {p : Problem} {previousOf : List ℕ} {kind : Kind} {from : ℕ} {e : State} {k : ℕ} → EndsAt p previousOf kind from e k → (budget : ℕ)
+    → k < budget
+    → answer p budget ≡ ended (suc k) kind (suc (blockOf p.grid e.end)) (length (pointsFrom p previousOf e from)) (pointsFrom p previousOf e from)
+unfolding answer
+ends-answer {p} E budget l = rw (E .end, le-ltb budget (pathLength p) (omega (arith, E .places)), E .places)
+
+-- the block of an index, by the grid
+block-same : (p : Problem) (h : ℕ) → h < numIndices p.grid → blocksOf p .block h ≡ blockOf p.grid h
+block-same p h l =
+    let w = seat p.grid h l in
+    ap (blocksOf p .block) w.is ∙ block-agrees p w.j w.i w.inside ∙ sym (ap (blockOf p.grid) w.is ∙ block-at p.grid.sizes w.j w.i w.inside)
+
+-- a place end, and a facet end without the first point, are ways out of the place
+module _ {p : Problem} (ok : Accepted p) {T : ℕ → Bool} {t : ℕ} {o : ℕ → ℕ} {x : List (ℕ → ℕ)} (S : LabelledChain (blocksOf p) (labelOf p) T t o x)
+    (h : ℕ) where
+  abbrev a : Simplex
+  a = pointsOf p x
+
+  own : allLabelled p a ≡ true
+  own = place-labelled ok a (place-of ok.settled S)
+
+  place-way : PlaceEnd (blocksOf p) (labelOf p) t x h
+      → (h < numIndices p.grid) × IsWay p a (stop (record { kind = placeEnd; block = blockOf p.grid h; simplex = a }))
+  place-way c =
+      let d : PlaceEnd (blocksOf p) (labelOf p) t (coefficientsOf p a) h = rw (back-again ok.settled S) c in
+      let l = complete-below ok.settled a (pointsOf-grid ok.settled S) t (long ok.settled S) own h d in
+      let j = block-of p h l in (
+        l,
+        rw (← (block-same p h l))
+            (byPlace (blocksOf p .block h) j
+            (complete-of ok.settled a (pointsOf-grid ok.settled S) t (long ok.settled S) h (blocksOf p .block h) j refl d)),
+      )
+
+  facet-way : {n : ℕ} → t ≡ suc n → FacetEnd (blocksOf p) (labelOf p) T n x 0 h
+      → (h < numIndices p.grid) × IsWay p a (stop (record { kind = facetEnd; block = blockOf p.grid h; simplex = removeAt 0 a }))
+  facet-way {n} e F =
+      let q = place-of ok.settled S in
+      let many : length a ≡ suc (suc n) = long ok.settled S ∙ ap suc e in
+      let G : FacetEnd (blocksOf p) (labelOf p) (inT p a) n (coefficientsOf p a) 0 h =
+      rw (back-again ok.settled S) (rw (T-is ok.settled S) F)
+      in
+      let l = end-below ok.settled a q n many 0 (omega arith) G own in
+      let j = block-of p h l in (
+        l,
+        rw (← (block-same p h l))
+            (byFacet (removeAt 0 a) (blocksOf p .block h) (in-facets a (omega arith) 0 (omega arith))
+            (end-labels ok.settled a q n many 0 (omega arith) G) j
+            (end-complete ok.settled a q n many 0 (omega arith) G (blocksOf p .block h) j refl)),
+      )
+
+-- the place just left, as a list of points and as a chain
+left-of : (p : Problem) (left : Option (List (ℕ → ℕ))) (q : Option Simplex) → LeftIs p left q → (l : List (ℕ → ℕ)) → left ≡ some l
+    → q ≡ some (pointsOf p l)
+left-of p none q b l e = absurd-bool (cc)
+left-of p (some d) q b l e = let z : d ≡ l = cc in b .0 ∙ ap (λ (x : List (ℕ → ℕ)). some (pointsOf p x)) z
+
+left-determines : (p : Problem) (left : Option (List (ℕ → ℕ))) (q : Option Simplex) → LeftIs p left q → (y : List (ℕ → ℕ))
+    → coefficientsOf p (pointsOf p y) ≡ y → q ≡ some (pointsOf p y) → left ≡ some y
+left-determines p none q b y c e = absurd-bool (cc)
+left-determines p (some l) q b y c e =
+    let d = b .0 in
+    let z : pointsOf p l ≡ pointsOf p y = cc in
+    ap (λ (x : List (ℕ → ℕ)). some x) (sym b.1 ∙ ap (coefficientsOf p) z ∙ c)
+
+module _ (p : Problem) (T : ℕ → Bool) (t : ℕ) (x : List (ℕ → ℕ)) (s : State) where
+  turn-at-most : {left : Option (List (ℕ → ℕ))} → Came p T t x s left → s .turn ≤ t
+  turn-at-most (begins e u r) = omega arith
+  turn-at-most (through n l e low q r b carry X) = low
+  turn-at-most (fromLarger l low r q a e X) = low
+
+  -- a place that the path comes to by a link is at no end
+  rule-between : (l : List (ℕ → ℕ)) → Came p T t x s (some l) → (0 < s .rule) × (s .rule < 8)
+  rule-between l (through n d e low q r b carry X) = (q, omega arith)
+  rule-between l (fromLarger d low r q a e X) = (omega arith, q)
+
+-- the start
+module _ {p : Problem} (ok : Accepted p) where
+  abbrev v : Simplex
+  v = p .start ∷ []
+
+  start-chain : LabelledChain (blocksOf p) (labelOf p) (inT p v) 0 (at (order p.grid v)) (coefficientsOf p v)
+  start-chain = labelledChain-of ok.settled v (start-place ok.settled)
+
+  start-coefficients : IsCoefficients p p.start (coefficients p p.start)
+  start-coefficients = coefficientOf-is ok.settled p.start ok.settled.start
+
+  start-T : (k : ℕ) → inT p v k ≡ false
+  start-T k = ⊎-elim (λ e. let w = start-chain .chain .order .all k e in absurd (omega (arith, w .1))) (λ e. e) (true-or-false (inT p v k))
+
+  start-U : (k : ℕ) → zeros (blocksOf p) (inT p v) (coefficientOf p p.start) k ≡ (ltb k (numIndices p.grid) && eqb (at p.start k) 0)
+  unfolding zeros
+  start-U k =
+      ⊎-elim (λ (l : k < numIndices p.grid). rw (start-T k, lt-ltb k _ l, coord-in p start-coefficients k l))
+      (λ (l : numIndices p.grid ≤ k). rw (start-T k, le-ltb k _ l, coord-out p start-coefficients k l))
+      (before-or-not k (numIndices p.grid))
+
+  pub at-begin : (first : List ℕ) (mask : ℕ) → length first ≡ 16 → ((k : ℕ) → k < numIndices p.grid → at first k ≡ at p.start k)
+      → ((k : ℕ) → k < 16 → bit mask k ≡ (ltb k (numIndices p.grid) && eqb (at p.start k) 0)) → At p (begun first mask) 0
+  at-begin first mask size same zero-at = record {
+    places = v ∷ [];
+    many = refl;
+    follows = record {
+      nonempty = omega arith;
+      begins = refl;
+      places = λ i l. let e : i ≡ 0 = omega arith in rw e (start-place ok.settled);
+      links = λ i l. absurd (omega arith);
+      onward = λ i l. absurd (omega arith);
+      passes = λ i l. absurd (omega arith);
+    };
+    T = inT p v;
+    t = 0;
+    o = at (order p.grid v);
+    x = coefficientsOf p v;
+    describes = record {
+      chain = start-chain;
+      orderLength = refl;
+      orderAt = λ j l. absurd (omega arith);
+      firstLength = size;
+      firstAt = λ k l. same k l ∙ sym (coord-in p start-coefficients k l);
+      coefficientsLength = refl;
+      coefficientsAt =
+          λ k l. getD-replicate 16 k 0 0 (omega (arith, ok .settled .sixteenIndices))
+          ∙ ap (λ (c : ℕ → ℕ). c k) (sym (zeroes ok.settled p.start (start-place ok.settled)));
+      inT = λ k l. bit-none k l ∙ sym (start-T k);
+      inU = λ k l. zero-at k l ∙ sym (start-U k);
+      labelsLength = refl;
+    };
+    here = sym (pointsOf-coefficientsOf ok.settled v (parts p v (start-place ok.settled) .gridPoints));
+    left = none;
+    came = begins refl refl (omega arith);
+    before = refl;
+  }
+
+  -- the path has more than k places, so that a budget up to k is spent
+  pub at-first : {s : State} {k : ℕ} → At p s k → length s.first ≡ 16
+  at-first A = A.describes.firstLength
+
+  pub at-below : {s : State} {k : ℕ} → At p s k → k < pathLength p
+  at-below {k} A = below-length ok A.follows k A.many
+
+  pub at-spent : {s : State} {k : ℕ} → At p s k → (budget : ℕ) → budget ≤ k → answer p budget ≡ spent budget
+  at-spent {s} {k} A budget l = demand3-holds ok .spends budget .1 (omega (arith, at-below A))
+
+module _ {p : Problem} (ok : Accepted p) {previousOf nextOf : List ℕ} (N : Neighbours p.grid previousOf nextOf) {s : State} {k : ℕ}
+    (A : At p s k) where
+  -- the point whose label is to be read can be computed, and is a grid point
+  pub at-reads : ReadyPoint previousOf s.order s.U s.first s.turn × (isGridPoint p.grid (pointIn p previousOf s s.turn) ≡ true)
+  at-reads =
+      let low = turn-at-most p A.T A.t A.x s A.came in (
+        ready-point ok N A.describes s.turn low,
+        rw (point-is ok N A.describes s.turn low) (point-on ok A.describes.chain s.turn low),
+      )
+
+  here-place : (length (pointsOf p A.x) ≡ suc A.t) × (length (pointsOf p A.x) ≡ suc (length (order p.grid (pointsOf p A.x))))
+  here-place = (long ok.settled A.describes.chain, place-long ok.settled _ (place-of ok.settled A.describes.chain))
+
+  move : Onward ok N A.T A.t A.o A.x (read p previousOf s) A.left
+  move = onward ok N A.T A.o A.x s A.t A.describes A.came (λ l q e.
+      not-start ok A.follows k A.many (pointsOf p l) (left-of p A.left _ A.before l q)
+      (A .here ∙ single ok.settled _ (place-of ok.settled A.describes.chain) (here-place .0 ∙ ap suc e)))
+
+  -- the move keeps within its arrays and widths
+  pub at-ready : Ready previousOf nextOf (read p previousOf s)
+  at-ready = move .ready
+
+  abbrev next : State
+  next = step previousOf nextOf (read p previousOf s)
+
+  goes : {y : List (ℕ → ℕ)} → (A .left ≡ some y → ⊥) → Reached p A.x next y → At p next (suc k)
+  goes {y} new R =
+      let C = A .describes .chain in
+      let back = back-again ok.settled C in
+      let L = of-link ok.settled _ (place-of ok.settled C) (rw (← back) at R.link) in
+      let joined : linked p (placeAt A.places k) (pointsOf p y) ≡ true = rw A.here L.1 in
+      record {
+        places = A .places ++ (pointsOf p y ∷ []);
+        many = length-append A.places (pointsOf p y ∷ []) ∙ omega (arith, A .many);
+        follows = goes-on ok A.follows k A.many (pointsOf p y) L.0 joined (λ q. new (left-determines p A.left _ A.before y L.2 q));
+        T = R .T;
+        t = R .t;
+        o = R .o;
+        x = y;
+        describes = R .describes;
+        here = getD-at A.places (pointsOf p y) [] [] (suc k) A.many;
+        left = some A.x;
+        came = R .came;
+        before = (ap (λ (z : Simplex). some z) (List·getD-append A.places (pointsOf p y ∷ []) [] k (omega (arith, A .many)) ∙ A .here), back);
+      }
+
+  -- not at an end, it stands at the next place
+  pub at-step : (next .rule ≡ 0 → ⊥) → (next .rule ≡ 8 → ⊥) → At p next (suc k)
+  at-step notPlace notFacet = go move.outcome
+    where
+      go : Outcome p A.T A.t A.x A.left (read p previousOf s) next → At p next (suc k)
+      go (placeEnds r c e) = absurd (notPlace r)
+      go (facetEnds r n q c e) = absurd (notFacet r)
+      go (goesOn y new R) = goes new R
+
+  -- at an end, that is the path's
+  ends-at : (kind : Kind) (from : ℕ) (points : Simplex) → from ≤ A .t → pointsFrom p previousOf (read p previousOf s) from ≡ points
+      → (next .end < numIndices p.grid) × IsWay p (pointsOf p A.x) (stop (record { kind = kind; block = blockOf p.grid next.end; simplex = points }))
+      → SamePlace (read p previousOf s) next → EndsAt p previousOf kind from next k
+  ends-at kind from points b c w same =
+      let D = move .describes in
+      let l : length next.order ≡ A .t = ap length same.order ∙ D .orderLength in
+      let r = ends-path ok A.follows k A.many (record { kind = kind; block = blockOf p.grid next.end; simplex = points }) (rw A.here w.1) in
+      record {
+        firstLength = ap length (same .first) ∙ D .firstLength;
+        index = w .0;
+        few = omega (arith, l, here-place .0, here-place .1, order-short p _ (place-of ok.settled A.describes.chain));
+        low = omega arith;
+        points = λ i m. rw (same .first, same .order, same .U) (ready-point ok N D i (omega arith));
+        end = rw (same .first, same .order, same .U, c) r.0;
+        places = r .1;
+      }
+
+  pub at-place-end : next .rule ≡ 0 → EndsAt p previousOf placeEnd 0 next k
+  at-place-end q = go move.outcome
+    where
+      go : Outcome p A.T A.t A.x A.left (read p previousOf s) next → EndsAt p previousOf placeEnd 0 next k
+      go (placeEnds r c e) =
+          ends-at placeEnd 0 _ (omega arith) (all-points ok N move.describes)
+          (place-way ok A.describes.chain next.end c) e
+      go (facetEnds r n z c e) = absurd (omega arith)
+      go (goesOn y new R) = absurd (omega (arith, rule-between p R.T R.t y next A.x R.came .0))
+
+  pub at-facet-end : next .rule ≡ 8 → EndsAt p previousOf facetEnd 1 next k
+  at-facet-end q = go move.outcome
+    where
+      go : Outcome p A.T A.t A.x A.left (read p previousOf s) next → EndsAt p previousOf facetEnd 1 next k
+      go (placeEnds r c e) = absurd (omega arith)
+      go (facetEnds r n z c e) =
+          ends-at facetEnd 1 _ (omega arith) (later-points ok N move.describes)
+          (facet-way ok A.describes.chain next.end z c) e
+      go (goesOn y new R) = absurd (omega (arith, rule-between p R.T R.t y next A.x R.came .1))

@@ -1,0 +1,154 @@
+-- Point e + 1, neither the first nor the last, leaves: the state goes on through its facet, to the place where the two steps have changed
+-- places or to the facet itself. Assumes nothing.
+use mathlib.Core.Bool.{Bool, true, false, _&&_, cond}
+use mathlib.Core.List.{List}
+use mathlib.Core.Logic.{⊎-elim}
+use mathlib.Core.Path.{_≡_, refl, sym, ap, _∙_}
+use Prim.Native.Nat.{ℕ, suc, _-_, _≤_, _<_}
+use borrow.Author.Tests.{eqb-true, eq-eqb, ne-eqb, lt-ltb}
+use lib.Dec.{eqb}
+use lib.ListN.{length}
+use native.Mathlib.Omega.{arith}
+use Rattle.combinatorics.proofs.Basics.{absurd-bool, same-or, and-left, and-right, and-both}
+use Rattle.combinatorics.proofs.EditsRemove.{length-swapAt, swapAt-here, swapAt-next, swapAt-else}
+use Rattle.combinatorics.specs.Edits.{swapAt}
+use Rattle.geometry.proofs.Definitions.{back, Blocks, Chain, coord, zeros, Carries, BackOutside}
+use Rattle.geometry.proofs.LabelledChains.{listAt, tabulate}
+use Rattle.geometry.proofs.Moves.{inner-if-positive, inner-if-zero, inner-stuck, inner-unstuck}
+use Rattle.geometry.proofs.Onward.{Beyond, next-link, listAt-tabulate}
+use Rattle.geometry.proofs.Ways.{inner-p, inner-o, inner-same, inner-swap, inner-beside, inner-tight-at, dropped}
+use Rattle.grid.specs.Grid.{at, numIndices}
+use Rattle.place.proofs.BlocksOfGrid.{blocksOf, back-below}
+use Rattle.place.proofs.ToChain.{labelOf}
+use Rattle.place.specs.Demand.{Accepted}
+use Rattle.place.specs.Problem.{Problem}
+use Rattle.moves.specs.Step.{State, shrink, firstOutside, leave, leaveMiddle}
+use Rattle.moves.proofs.Describes.{Neighbours, Describes, AllLabels, labelsOf, through, GoesOn}
+use Rattle.moves.proofs.Range.{index-below}
+use Rattle.moves.proofs.Shrink.{shrunk}
+use Rattle.moves.proofs.Walks.{chain-outside}
+
+-- the steps e and e + 1 exchanged
+abbrev exchanged : State → ℕ → State
+exchanged s e = record {
+  first = s .first;
+  coefficients = s .coefficients;
+  order = swapAt e s.order;
+  labels = s .labels;
+  T = s .T;
+  U = s .U;
+  turn = suc e;
+  rule = 1;
+  end = 0;
+}
+
+module _ {p : Problem} (ok : Accepted p) {previousOf nextOf : List ℕ}
+    (N : Neighbours p.grid previousOf nextOf) {T : ℕ → Bool} {n : ℕ} {o : ℕ → ℕ} {x : List (ℕ → ℕ)} {s : State}
+    (D : Describes p T (suc n) o x s) (L : AllLabels p (suc n) x s) (e : ℕ) (l : e < n) (c : Carries T (suc n) (labelsOf p x) (suc e)) where
+  abbrev R : Blocks
+  R = blocksOf p
+
+  K : Chain R T (suc n) (listAt x) o
+  K = D .chain .chain
+
+  indices-below : (j : ℕ) → j < suc n → o j < numIndices p.grid
+  indices-below j m = index-below ok D.chain (o j) (K .order .within j m)
+
+  -- the end of the run from the second index
+  run : (m : ℕ) × (m ≤ 16)
+      × BackOutside R (zeros R T (listAt x 0)) (o (suc e)) m × (firstOutside previousOf s.U (o (suc e)) ≡ back R.previous m (o (suc e)))
+  run = chain-outside ok N K s.U D.inU (o (suc e)) (indices-below (suc e) (omega arith))
+
+  b : ℕ
+  b = back R.previous run.0 (o (suc e))
+
+  stuck : Bool
+  stuck = eqb (o e) b && eqb (coord R (listAt x 0) b) 0
+
+  move : leave previousOf nextOf s (suc e) ≡ cond stuck (shrink s (suc e) e true) (exchanged s e)
+  unfolding leave leaveMiddle stuck b
+  move =
+      let i : suc e - 1 ≡ e = omega arith in
+      rw (
+        ne-eqb (suc e) 0 (λ q. omega arith),
+        lt-ltb (suc e) (length s.order) (omega (arith, D .orderLength)),
+        i,
+        D .orderAt e (omega arith),
+        D .orderAt (suc e) (omega arith),
+        run .3,
+        D .firstAt (back R.previous run.0 (o (suc e))) (back-below p run.0 (o (suc e)) (indices-below (suc e) (omega arith))),
+      ) refl
+
+  -- off the grid: the facet is a place
+  drops : coord R (listAt x e) b ≡ 0 → GoesOn p T n x (suc e) (shrink s (suc e) e true)
+  unfolding b
+  drops z =
+      let w = inner-stuck K e l run.2 z in
+      shrunk ok D L (omega arith) c (dropped K e (omega arith) (inner-tight-at K e l (inner-if-zero K e l run.2 z)))
+      true (eq-eqb _ 0 w.1)
+
+  -- on the grid: the place beyond
+  module _ (g : 0 < coord R (listAt x e) b) where
+    y : List (ℕ → ℕ)
+    y = tabulate (suc (suc n)) (inner-p K e)
+
+    beyond : Beyond R (labelOf p) T n x (suc e) (inner-o K e) y (suc e)
+    unfolding y b
+    beyond = next-link D.chain (suc e) (omega arith) c (inner-beside K e l (inner-if-positive K e l run.2 g))
+
+    same : (j : ℕ) → j ≤ suc n → (j ≡ suc e → ⊥) → listAt y j ≡ listAt x j
+    unfolding y
+    same j m q = listAt-tabulate (suc (suc n)) (inner-p K e) j (omega arith) ∙ inner-same K e j q
+
+    first : listAt y 0 ≡ listAt x 0
+    first = same 0 (omega arith) (λ q. omega arith)
+
+    order-at : (j : ℕ) → j < suc n → at (swapAt e s.order) j ≡ inner-o K e j
+    order-at j m =
+        let w = inner-swap K e in
+        let f : suc e < length s.order = omega (arith, D .orderLength) in
+        ⊎-elim (λ (q : j ≡ e). rw q (swapAt-here 0 e s.order f ∙ D .orderAt (suc e) (omega arith) ∙ sym w.here))
+        (λ q. ⊎-elim (λ (r : j ≡ suc e). rw r (swapAt-next 0 e s.order f ∙ D .orderAt e (omega arith) ∙ sym w.next))
+        (λ r. swapAt-else 0 e s.order j q r ∙ D .orderAt j m ∙ sym (w .rest j q r)) (same-or j (suc e)))
+        (same-or j e)
+
+    exchanges : GoesOn p T n x (suc e) (exchanged s e)
+    exchanges = (
+      y,
+      beyond .through,
+      record {
+        T = T;
+        t = suc n;
+        o = inner-o K e;
+        describes = record {
+          chain = beyond .place;
+          orderLength = length-swapAt e s.order ∙ D .orderLength;
+          orderAt = order-at;
+          firstLength = D .firstLength;
+          firstAt = λ k m. D .firstAt k m ∙ ap (λ (z : ℕ → ℕ). coord R z k) (sym first);
+          coefficientsLength = D .coefficientsLength;
+          coefficientsAt = λ k m. D .coefficientsAt k m ∙ ap (λ (z : ℕ → ℕ). z k) (sym first);
+          inT = D .inT;
+          inU = λ k m. D .inU k m ∙ ap (λ (z : ℕ → ℕ). zeros R T z k) (sym first);
+          labelsLength = D .labelsLength;
+        };
+        came = through n x refl (omega arith) (omega arith) (omega arith)
+            (λ j m q. L j m ∙ ap (λ (z : ℕ → ℕ). suc (labelOf p z)) (sym (same j m q))) beyond.carries beyond.back;
+        link = beyond .link;
+      },
+    )
+
+  pub leave-middle : GoesOn p T n x (suc e) (leave previousOf nextOf s (suc e))
+  unfolding stuck b
+  leave-middle = rw move (go stuck refl)
+    where
+      go : (t : Bool) → stuck ≡ t → GoesOn p T n x (suc e) (cond t (shrink s (suc e) e true) (exchanged s e))
+      go true q =
+          let z : o e ≡ b = eqb-true (o e) b (and-left (eqb (o e) b) _ q) in
+          let z0 : coord R (listAt x 0) b ≡ 0 = eqb-true _ 0 (and-right (eqb (o e) b) _ q) in
+          drops (inner-unstuck K e l run.2 z (rw z z0))
+      go false q = exchanges (⊎-elim
+          (λ z. let w = inner-stuck K e l run.2 z in
+          absurd-bool (sym (and-both (eqb (o e) b) _ (eq-eqb (o e) b w.0)
+          (eq-eqb _ 0 (rw w.0 at w.1))) ∙ q))
+          (λ z. omega (arith, z)) (same-or (coord R (listAt x e) b) 0))

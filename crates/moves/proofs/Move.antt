@@ -1,0 +1,223 @@
+-- The move from a place, told by the label that came in: what it needs is there, and it ends or goes on to a place other than the one just left.
+-- Assumes nothing.
+use mathlib.Core.Bool.{Bool, true, false}
+use mathlib.Core.List.{List}
+use mathlib.Core.Logic.{⊎-elim}
+use mathlib.Core.Option.{Option, none, some}
+use mathlib.Core.Path.{_≡_, refl, sym, ap, _∙_, subst}
+use Prim.Native.Nat.{ℕ, zero, suc, _-_, _≤_, _<_}
+use borrow.Author.Tests.{lt-ltb, le-ltb}
+use lib.ListN.{length-set}
+use lib.Seq.{getD-set-same, getD-set-other}
+use native.Mathlib.Omega.{arith}
+use Rattle.combinatorics.proofs.Basics.{true-or-false, absurd-bool, same-or}
+use Rattle.combinatorics.proofs.EditsRemove.{Found, found-is}
+use Rattle.combinatorics.specs.Edits.{found}
+use Rattle.geometry.proofs.Definitions.{Carries, Extra}
+use Rattle.geometry.proofs.Exits.{kinds}
+use Rattle.geometry.proofs.Graph.{Through, Above}
+use Rattle.geometry.proofs.LabelledChains.{LabelledChain, FacetEnd, PlaceEnd}
+use Rattle.geometry.proofs.Onward.{through-determines, through-not-above, start-extra}
+use Rattle.grid.specs.Grid.{at}
+use Rattle.place.proofs.BlocksOfGrid.{blocksOf}
+use Rattle.place.proofs.ToChain.{labelOf}
+use Rattle.place.specs.Demand.{Accepted}
+use Rattle.place.specs.Problem.{Problem, label}
+use Rattle.moves.specs.Mask.{bit}
+use Rattle.moves.specs.Read.{read}
+use Rattle.moves.specs.Ready.{Ready, ReadyLeave, ReadyGrow}
+use Rattle.moves.specs.Step.{State, leave, step, labelled}
+use Rattle.moves.proofs.Describes.{Neighbours, Describes, labelsOf, AllLabels, LabelsBut, Came, begins, through, fromLarger, Reached}
+use Rattle.moves.proofs.Grow.{grows, grow-ready}
+use Rattle.moves.proofs.Leaves.{leaves, leave-ready}
+use Rattle.moves.proofs.Range.{index-below, label-is, label-below}
+use Rattle.moves.proofs.StatePoints.{point-is}
+
+-- the label that is read is that of the point that has come in
+module _ {p : Problem} {T : ℕ → Bool} {t : ℕ} {o : ℕ → ℕ} {x : List (ℕ → ℕ)} {s : State} (D : Describes p T t o x s) where
+  labelled-describes : (l : ℕ) → Describes p T t o x (labelled s l)
+  unfolding labelled
+  labelled-describes l = record {
+    chain = D .chain;
+    orderLength = D .orderLength;
+    orderAt = D .orderAt;
+    firstLength = D .firstLength;
+    firstAt = D .firstAt;
+    coefficientsLength = D .coefficientsLength;
+    coefficientsAt = D .coefficientsAt;
+    inT = D .inT;
+    inU = D .inU;
+    labelsLength = length-set s.labels s.turn l ∙ D .labelsLength;
+  }
+
+  labelled-labels : s .turn ≤ t → LabelsBut p t x s s.turn → AllLabels p t x (labelled s (suc (labelsOf p x s.turn)))
+  unfolding labelled
+  labelled-labels l b j m =
+      let v = suc (labelsOf p x s.turn) in
+      ⊎-elim (λ (e : j ≡ s .turn). rw e (getD-set-same s.labels s.turn v 0 (omega (arith, D .labelsLength))))
+      (λ n. getD-set-other s.labels s.turn j v 0 n ∙ b j m n) (same-or j s.turn)
+
+-- the state e holds the same points as s
+pub record SamePlace (s e : State) : Type 0 where
+  pub first : e .first ≡ s .first
+  pub order : e .order ≡ s .order
+  pub U : e .U ≡ s .U
+
+-- what a move from x gives: a place end, a facet end, or a place other than the one just left
+pub data Outcome (p : Problem) (T : ℕ → Bool) (t : ℕ) (x : List (ℕ → ℕ)) (left : Option (List (ℕ → ℕ))) (s e : State) : Type 0 where
+  placeEnds : e .rule ≡ 0 → PlaceEnd (blocksOf p) (labelOf p) t x e.end → SamePlace s e → Outcome p T t x left s e
+  facetEnds : e .rule ≡ 8 → (n : ℕ) → t ≡ suc n → FacetEnd (blocksOf p) (labelOf p) T n x 0 e.end → SamePlace s e → Outcome p T t x left s e
+  goesOn : (y : List (ℕ → ℕ)) → (left ≡ some y → ⊥) → Reached p x e y → Outcome p T t x left s e
+
+module _ {p : Problem} (ok : Accepted p) {previousOf nextOf : List ℕ} (N : Neighbours p.grid previousOf nextOf) where
+  -- a chain, the state with all its labels, what the move from it needs and gives
+  pub record Onward (T : ℕ → Bool) (t : ℕ) (o : ℕ → ℕ) (x : List (ℕ → ℕ)) (s : State) (left : Option (List (ℕ → ℕ))) : Type 0 where
+    pub describes : Describes p T t o x s
+    pub ready : Ready previousOf nextOf s
+    pub outcome : Outcome p T t x left s (step previousOf nextOf s)
+
+  -- a point with a label outside T is the only one
+  extra-at : {T : ℕ → Bool} {t : ℕ} {o : ℕ → ℕ} {x : List (ℕ → ℕ)} → LabelledChain (blocksOf p) (labelOf p) T t o x → (i : ℕ) → i ≤ t
+      → T (labelsOf p x i) ≡ false → Extra T t (labelsOf p x) i
+  extra-at {T} {t} {x} A i l e =
+      ⊎-elim (λ w. absurd-bool (sym (w .2 .all i l) ∙ e))
+      (λ w. ⊎-elim
+      (λ (q : i ≡ w .0). rw q w.1)
+      (λ n. absurd-bool (sym (w .1 .rest i l n) ∙ e))
+      (same-or i w.0))
+      (kinds (labelOf p) A.chain A.covers)
+
+  -- a chain and a state whose points all have their labels
+  module _ {T : ℕ → Bool} {t : ℕ} {o : ℕ → ℕ} {x : List (ℕ → ℕ)} {s : State} (D : Describes p T t o x s) (A : AllLabels p t x s)
+      (low : s .turn ≤ t) where
+    label-index : at s.labels s.turn - 1 ≡ labelsOf p x s.turn
+    label-index = omega (arith, A s.turn low)
+
+    label-bit : bit s.T (at s.labels s.turn - 1) ≡ T (labelsOf p x s.turn)
+    label-bit = ap (bit s.T) label-index ∙ D .inT (labelsOf p x s.turn) (omega (arith, label-below ok D.chain s.turn low, ok .settled .sixteenIndices))
+
+    ready-of : (s .rule < 6 → bit s.T (at s.labels s.turn - 1) ≡ true → ReadyLeave previousOf s (found (at s.labels s.turn) s.turn s.labels))
+        → (s .rule < 6 → bit s.T (at s.labels s.turn - 1) ≡ false → ReadyGrow nextOf s (at s.labels s.turn - 1))
+        → (6 ≤ s .rule → ReadyLeave previousOf s s.turn) → Ready previousOf nextOf s
+    ready-of left joined later = record {
+      orderBelow = λ j l. let w : j < t = omega (arith, D .orderLength) in
+          omega (arith, D .orderAt j w, index-below ok D.chain (o j) (D .chain .chain .order .within j w), ok .settled .sixteenIndices);
+      turn = omega (arith, D .orderLength);
+      label = λ r. (omega (arith, A s.turn low), omega (arith, A s.turn low, label-below ok D.chain s.turn low, ok .settled .sixteenIndices));
+      leaves = left;
+      grows = joined;
+      goesOn = later;
+    }
+
+    -- the label that came in is outside T, and joins it
+    outside-onward : s .rule < 6 → T (labelsOf p x s.turn) ≡ false → (left : Option (List (ℕ → ℕ)))
+        → ((y : List (ℕ → ℕ)) → left ≡ some y → Above (blocksOf p) (labelOf p) T t x y → ⊥) → Onward T t o x s left
+    unfolding step
+    outside-onward r e left new =
+        let E = extra-at D.chain s.turn low e in
+        let b = label-bit ∙ e in
+        record {
+          describes = D;
+          ready = ready-of (λ q z. absurd-bool (sym z ∙ b)) (λ q z. rw label-index (grow-ready ok D A E N)) (λ q. absurd (omega arith));
+          outcome = rw (lt-ltb s.rule 6 r, b, label-index)
+              (⊎-elim (λ w. placeEnds w.0 w.1 (record { first = w .2; order = w .3; U = w .4 }))
+              (λ w. goesOn w.0 (λ z. new w.0 z w.1) w.2)
+              (grows ok N T t o x s s.turn D A E));
+        }
+
+    -- it is in T: the other point that has it
+    module _ (carry : Carries T t (labelsOf p x) s.turn) (inside : T (labelsOf p x s.turn) ≡ true) where
+      abbrev other : ℕ
+      other = found (at s.labels s.turn) s.turn s.labels
+
+      other-found : Found (at s.labels s.turn) s.turn s.labels other
+      other-found =
+          let c = carry (labelsOf p x s.turn) inside in
+          found-is _ s.turn s.labels c.0 (omega (arith, c .1, D .labelsLength)) (A c.0 c.1 ∙ ap suc c.3 ∙ sym (A s.turn low)) c.2
+
+      other-at-most : other ≤ t
+      other-at-most = omega (arith, other-found .inside, D .labelsLength)
+
+      other-carries : Carries T t (labelsOf p x) other
+      other-carries k e =
+          let c = carry k e in
+          let q : labelsOf p x s.turn ≡ labelsOf p x other = omega (arith, A other other-at-most, A s.turn low, other-found .is) in
+          ⊎-elim (λ (z : c .0 ≡ other). (s .turn, low, (λ w. other-found .other (sym w)), q ∙ ap (labelsOf p x) (sym z) ∙ c .3))
+          (λ n. (c .0, c .1, n, c .3))
+          (same-or c.0 other)
+
+  module _ {T : ℕ → Bool} {n : ℕ} {o : ℕ → ℕ} {x : List (ℕ → ℕ)} {s : State} (D : Describes p T (suc n) o x s) (A : AllLabels p (suc n) x s)
+      (low : s .turn ≤ suc n) (l : List (ℕ → ℕ)) where
+    -- point i leaves, and what lies beyond it is not l
+    left-outcome : {i : ℕ} → i ≤ suc n → Carries T (suc n) (labelsOf p x) i → (Through (blocksOf p) T n x i l → ⊥)
+        → Outcome p T (suc n) x (some l) s (leave previousOf nextOf s i)
+    left-outcome {i} il c new =
+        ⊎-elim
+        (λ w. facetEnds w.0 n refl (rw (← w.1) w.2) (record { first = w .3; order = w .4; U = w .5 }))
+        (λ w. goesOn w.0 (λ q. let z : w .0 ≡ l = cc in new (rw z at w.1)) w.2)
+        (leaves ok N T n o x s i D A il c)
+
+    -- the path came through the facet opposite to the point that came in
+    through-onward : s .rule < 6 → Carries T (suc n) (labelsOf p x) s.turn → Through (blocksOf p) T n x s.turn l → Onward T (suc n) o x s (some l)
+    unfolding step
+    through-onward r carry X =
+        ⊎-elim
+        (λ e. let b = label-bit D A low ∙ e in
+        let i = other D A low carry e in
+        let il = other-at-most D A low carry e in
+        record {
+          describes = D;
+          ready = ready-of D A low (λ q z. leave-ready ok N i D il) (λ q z. absurd-bool (sym b ∙ z)) (λ q. absurd (omega arith));
+          outcome = rw (lt-ltb s.rule 6 r, b) (left-outcome il (other-carries D A low carry e)
+              (λ Y. other-found D A low carry e .other (through-determines D.chain il low l Y X)));
+        })
+        (λ e. outside-onward D A low r e (some l)
+        (λ y q Y. let z : l ≡ y = cc in through-not-above D.chain (rw z at X) Y))
+        (true-or-false (T (labelsOf p x s.turn)))
+
+    -- T has lost an index, and the point with that label leaves
+    larger-onward : 6 ≤ s .rule → T (labelsOf p x s.turn) ≡ false → Above (blocksOf p) (labelOf p) T (suc n) x l → Onward T (suc n) o x s (some l)
+    unfolding step
+    larger-onward r e X = record {
+      describes = D;
+      ready = ready-of D A low (λ q z. absurd (omega arith)) (λ q z. absurd (omega arith)) (λ q. leave-ready ok N s.turn D low);
+      outcome = rw (le-ltb s.rule 6 r) (left-outcome low (extra-at D.chain s.turn low e .less-first) (λ Y. through-not-above D.chain Y X));
+    }
+
+  module _ (T : ℕ → Bool) (o : ℕ → ℕ) (x : List (ℕ → ℕ)) (s : State) where
+    read-label : {t : ℕ} → Describes p T t o x s → s .turn ≤ t → s .rule < 6 → read p previousOf s ≡ labelled s (suc (labelsOf p x s.turn))
+    unfolding read
+    read-label {t} D low r =
+        rw (lt-ltb s.rule 6 r) (ap (λ (l : ℕ). labelled s l) (ap (label p) (point-is ok N D s.turn low) ∙ sym (label-is ok D.chain s.turn low)))
+
+    read-none : 6 ≤ s .rule → read p previousOf s ≡ s
+    unfolding read
+    read-none r = rw (le-ltb s.rule 6 r)
+
+    begin-onward : Describes p T 0 o x s → s .turn ≡ 0 → s .rule < 6 → Onward T 0 o x (read p previousOf s) none
+    unfolding labelled
+    begin-onward D u r =
+        let l = suc (labelsOf p x s.turn) in
+        let low : s .turn ≤ 0 = omega arith in
+        let E = start-extra D.chain in
+        rw (read-label D low r) (outside-onward (labelled-describes D l) (labelled-labels D low (λ j a b. absurd (b (omega arith)))) low r
+        (ap (λ (i : ℕ). T (labelsOf p x i)) u ∙ E .out) none (λ y q Y. absurd-bool (cc)))
+
+    came-through : {n : ℕ} (l : List (ℕ → ℕ)) → Describes p T (suc n) o x s → s .turn ≤ suc n → s .rule < 6 → LabelsBut p (suc n) x s s.turn
+        → Carries T (suc n) (labelsOf p x) s.turn → Through (blocksOf p) T n x s.turn l → Onward T (suc n) o x (read p previousOf s) (some l)
+    unfolding labelled
+    came-through {n} l D low r b carry X =
+        let v = suc (labelsOf p x s.turn) in
+        rw (read-label D low r) (through-onward (labelled-describes D v) (labelled-labels D low b) low l r carry X)
+
+    -- however the path came; it does not come back to a place of one point
+    pub onward : (t : ℕ) {left : Option (List (ℕ → ℕ))} → Describes p T t o x s → Came p T t x s left
+        → ((l : List (ℕ → ℕ)) → left ≡ some l → t ≡ 0 → ⊥) → Onward T t o x (read p previousOf s) left
+    onward t D (begins e u r) m =
+        rw e (begin-onward (rw e at D) u r)
+    onward t D (through n l e low q r b carry X) m =
+        subst (λ (t : ℕ). Describes p T t o x s → s .turn ≤ t → LabelsBut p t x s s.turn → Carries T t (labelsOf p x) s.turn
+        → Onward T t o x (read p previousOf s) (some l)) (sym e)
+        (λ D low b carry. came-through l D low r b carry X) D low b carry
+    onward zero D (fromLarger l low r q A e X) m = absurd (m l refl refl)
+    onward (suc n) D (fromLarger l low r q A e X) m = rw (read-none r) (larger-onward D A low l r e X)

@@ -1,0 +1,106 @@
+-- The points of a place, one step after another, and their numbers in a row. Assumes nothing.
+use mathlib.Core.List.{List, _++_, map, append-nil, append-assoc}
+use mathlib.Core.Path.{_≡_, refl, sym, ap, _∙_}
+use Prim.Native.Nat.{ℕ, zero, suc, _+_, _-_, _*_, _≤_, _<_}
+use lib.ListN.{length, length-append, length-take, take}
+use lib.Seq.{paste, take-length, length-take-le, getD-take}
+use native.Mathlib.Nat.{mul-le-mul-right}
+use native.Mathlib.Numerals.{add-one, add-one-le}
+use native.Mathlib.Omega.{arith}
+use Rattle.combinatorics.proofs.Fronts.{front-paste}
+use Rattle.combinatorics.specs.Front.{front}
+use Rattle.combinatorics.specs.Lists.{concatMap, upFrom}
+use Rattle.grid.specs.Grid.{at}
+use Rattle.moves.proofs.FirstMet.{entry}
+use Rattle.moves.proofs.Shifted.{length-shifted}
+use Rattle.moves.specs.Read.{pointAfter, ReadyPoint}
+use Rattle.moves.specs.Step.{firstOutside, shifted}
+
+module _ (previous order : List ℕ) (U : ℕ) (first : List ℕ) where
+  pub after-none : first ≡ pointAfter previous order U first 0
+  unfolding pointAfter
+  after-none = refl
+
+  pub after-one-more : (i h b : ℕ) → h ≡ at order i → b ≡ firstOutside previous U h
+      → shifted (pointAfter previous order U first i) h b ≡ pointAfter previous order U first (i + 1)
+  unfolding pointAfter
+  after-one-more i h b e f = rw (add-one i, f, e)
+
+  -- only the steps before it count
+  pub after-taken : (n i : ℕ) → i ≤ n → pointAfter previous order U first i ≡ pointAfter previous (take n order) U first i
+  unfolding pointAfter
+  after-taken n zero l = refl
+  after-taken n (suc i) l = rw (after-taken n i (omega arith), getD-take n order i 0 (omega arith))
+
+  pub step-ready : (n i k h b : ℕ) (y : List ℕ) → k < i → i ≤ n → ReadyPoint previous (take n order) U first i → y ≡ pointAfter previous order U first k → h ≡ at order k
+      → b ≡ firstOutside previous U h → (at y h < 65535) × (1 ≤ at y b)
+  step-ready n i k h b y l m r e f g =
+      let atH : h ≡ at (take n order) k = entry order n k h (omega arith) f in
+      let point : y ≡ pointAfter previous (take n order) U first k = e ∙ after-taken n k (omega arith) in
+      rw (g, atH, point) (r .fits k l, r .positive k l)
+
+  pub after-few : (n i : ℕ) → i ≤ n → pointAfter previous (take i order) U first i ≡ pointAfter previous (take n order) U first i
+  after-few n i l = sym (after-taken i i (omega arith)) ∙ after-taken n i l
+
+  pub few-ready : (n i : ℕ) → i ≤ n → ReadyPoint previous (take n order) U first i → ReadyPoint previous (take i order) U first i
+  few-ready n i l r =
+      let long : length (take i order) ≡ i = length-take-le i order (omega (arith, r .low, length-take n order)) in
+      record {
+        low = omega arith;
+        few = omega (arith, r .low, r .few);
+        indices = λ j m. rw (same j (omega arith)) (r .indices j (omega (arith, r .low)));
+        positive = λ j m. rw (same j m, points j m) (r .positive j m);
+        fits = λ j m. rw (same j m, points j m) (r .fits j m);
+      }
+    where
+      same : (j : ℕ) → j < i → at (take i order) j ≡ at (take n order) j
+      same j m = getD-take i order j 0 m ∙ sym (getD-take n order j 0 (omega arith))
+
+      points : (j : ℕ) → j < i → pointAfter previous (take i order) U first j ≡ pointAfter previous (take n order) U first j
+      points j m = sym (after-taken i j (omega arith)) ∙ after-taken n j (omega arith)
+
+  pub length-after : (i : ℕ) → length (pointAfter previous order U first i) ≡ length first
+  unfolding pointAfter
+  length-after zero = refl
+  length-after (suc i) = length-shifted (pointAfter previous order U first i) (at order i) (firstOutside previous U (at order i)) ∙ length-after i
+
+  pub earlier-ready : (i j : ℕ) → i ≤ j → ReadyPoint previous order U first j → ReadyPoint previous order U first i
+  earlier-ready i j l r =
+      record { low = omega (arith, r .low); few = r .few; indices = r .indices; positive = λ k m. r .positive k (omega arith); fits = λ k m. r .fits k (omega arith) }
+
+-- the numbers of k points, from number b on
+module _ (f : ℕ → List ℕ) where
+  abbrev pub inRow : ℕ → ℕ → List ℕ
+  inRow b k = concatMap (λ y. y) (map f (upFrom b k))
+
+  one-more-row : (b k : ℕ) → inRow b k ++ f (b + k) ≡ inRow b (suc k)
+  one-more-row b zero = let z : b + 0 ≡ b = omega arith in rw z (sym (append-nil (f b)))
+  one-more-row b (suc k) =
+      let z : b + suc k ≡ suc b + k = omega arith in
+      rw z (append-assoc (f b) (inRow (suc b) k) (f (suc b + k)) ∙ ap (λ (l : List ℕ). f b ++ l) (one-more-row (suc b) k))
+
+  length-inRow : (m b k : ℕ) → ((i : ℕ) → length (f i) ≡ m) → length (inRow b k) ≡ k * m
+  length-inRow m b zero h = omega arith
+  length-inRow m b (suc k) h = rw (length-append, h b, length-inRow m (suc b) k h) (omega arith)
+
+-- the first m numbers of a longer list, as a list of their own
+paste-taken : (old row : List ℕ) (i m : ℕ) → m ≤ length row → paste old i row m ≡ paste old i (take m row) (length (take m row))
+paste-taken old row i m l = rw (take-length, length-take-le m row l)
+
+pub room : (k n m long : ℕ) → k < n → n * m ≤ long → k * m + m ≤ long
+room k n m long l h = omega (arith, mul-le-mul-right m (add-one-le l))
+
+pub next-position : (i b m position : ℕ) → b ≤ i → position ≡ (i - b) * m → position + m ≡ (i + 1 - b) * m
+next-position i b m position l e = let k : i + 1 - b ≡ suc (i - b) = omega arith in rw (k, e) (omega arith)
+
+-- the points from number b on at the front of a buffer, and one more stored behind them
+module _ (f : ℕ → List ℕ) (m b : ℕ) (long : (i : ℕ) → length (f i) ≡ m) where
+  pub row-put : (i position : ℕ) (new old y : List ℕ) → b ≤ i → new ≡ front (inRow f b (i - b)) old → position ≡ (i - b) * m → (i - b) * m + m ≤ length old → m ≤ length y → take m y ≡ f i
+      → paste new position y m ≡ front (inRow f b (i + 1 - b)) old
+  row-put i position new old y l n e fits short row =
+      let k : i + 1 - b ≡ suc (i - b) = omega arith in
+      let here : b + (i - b) ≡ i = omega arith in
+      let behind : position ≡ length (inRow f b (i - b)) = e ∙ sym (length-inRow f m b (i - b) long) in
+      let enough : position + length (f i) ≤ length old = rw (long i, e) fits in
+      let more = rw here at (one-more-row f b (i - b)) in
+      paste-taken new y position m short ∙ rw (row, n, k) (front-paste (inRow f b (i - b)) old (f i) position behind enough ∙ ap (λ (l : List ℕ). front l old) more)

@@ -1,0 +1,76 @@
+-- What keeps the numbers of a place in range: indices, labels, coordinates and coefficients. Assumes nothing.
+use mathlib.Core.Bool.{Bool, true}
+use mathlib.Core.List.{List, [], _∷_}
+use mathlib.Core.Path.{_≡_, refl, sym, ap, _∙_}
+use Prim.Native.Nat.{ℕ, zero, suc, _≤_, _<_}
+use lib.ListN.{length}
+use native.Mathlib.Omega.{arith}
+use Rattle.geometry.proofs.Definitions.{coord}
+use Rattle.geometry.proofs.LabelledChains.{listAt, LabelledChain}
+use Rattle.geometry.proofs.Points.{nth}
+use Rattle.grid.proofs.CoordinatesBelow.{coordinate-below, division-below}
+use Rattle.grid.specs.Grid.{Point, numIndices, isGridPoint}
+use Rattle.place.proofs.BlocksOfGrid.{blocksOf, pointOf}
+use Rattle.place.proofs.Bound.{order-short}
+use Rattle.place.proofs.Coefficients.{coefficients-at-most}
+use Rattle.place.proofs.FromChain.{T-range, coefficient-at, coord-as, long, place-of, pointsOf-grid}
+use Rattle.place.proofs.Labels.{label-ok}
+use Rattle.place.proofs.ToChain.{pointsOf, labelOf, indexOf, index-is, grid-at, place-long}
+use Rattle.place.specs.Demand.{Accepted}
+use Rattle.place.specs.Problem.{Problem, label}
+use Rattle.moves.proofs.Describes.{labelsOf}
+
+pub nth-pointsOf : (p : Problem) (x : List (ℕ → ℕ)) (j : ℕ) → j < length x → nth (pointsOf p x) j ≡ pointOf p (listAt x j)
+nth-pointsOf p [] j l = absurd (omega arith)
+nth-pointsOf p (c ∷ x) zero l = refl
+nth-pointsOf p (c ∷ x) (suc j) l = nth-pointsOf p x j (omega arith)
+
+module _ {p : Problem} (ok : Accepted p) {T : ℕ → Bool} {t : ℕ} {o : ℕ → ℕ} {x : List (ℕ → ℕ)}
+    (S : LabelledChain (blocksOf p) (labelOf p) T t o x) where
+  pub index-below : (k : ℕ) → T k ≡ true → k < numIndices p.grid
+  index-below = T-range ok.settled S
+
+  -- T leaves out an index of each block
+  pub few : t < numIndices p.grid
+  few =
+      let h = place-of ok.settled S in
+      omega (arith, order-short p (pointsOf p x) h, place-long ok.settled (pointsOf p x) h, long ok.settled S, ok .settled .someBlock, index-some)
+    where
+      index-some : 0 < numIndices p.grid
+      index-some = omega (arith, index-is (numIndices p.grid) (label p p.start) (label-ok ok p.start ok.settled.start) .1)
+
+  pub point-on : (j : ℕ) → j ≤ t → isGridPoint p.grid (nth (pointsOf p x) j) ≡ true
+  point-on j l = grid-at ok.settled (pointsOf p x) (pointsOf-grid ok.settled S) j (omega (arith, long ok.settled S))
+
+  pub coord-below : (j : ℕ) → j ≤ t → (k : ℕ) → k < numIndices p.grid → coord (blocksOf p) (listAt x j) k < 60000
+  coord-below j l k m =
+      omega (
+        arith,
+        coord-as ok.settled S j l k m,
+        coordinate-below p.grid ok.settled.sizes ok.settled.sameNumber _ (point-on j l) k,
+        ok .settled .points,
+      )
+
+  pub coefficient-below : (j : ℕ) → j ≤ t → (k : ℕ) → listAt x j k < 60000
+  coefficient-below j l k =
+      let w = coefficients-at-most p _ ok.settled.sameNumber ok.settled.start (point-on j l) k in
+      omega (
+        arith,
+        w .1,
+        ap (λ (c : ℕ → ℕ). c k) (coefficient-at ok.settled S j (omega (arith, S .size))),
+        division-below p.grid ok.settled.sizes ok.settled.sameNumber w.0,
+        ok .settled .points,
+      )
+
+  index-of : (j : ℕ) → j ≤ t → labelsOf p x j ≡ indexOf (numIndices p.grid) (label p (nth (pointsOf p x) j))
+  index-of j l = ap (λ (y : Point). indexOf (numIndices p.grid) (label p y)) (sym (nth-pointsOf p x j (omega (arith, S .size))))
+
+  named : (j : ℕ) → j ≤ t → (suc (indexOf (numIndices p.grid) (label p (nth (pointsOf p x) j))) ≡ label p (nth (pointsOf p x) j))
+      × (indexOf (numIndices p.grid) (label p (nth (pointsOf p x) j)) < numIndices p.grid)
+  named j l = index-is _ _ (label-ok ok _ (point-on j l))
+
+  pub label-is : (j : ℕ) → j ≤ t → suc (labelsOf p x j) ≡ label p (nth (pointsOf p x) j)
+  label-is j l = ap suc (index-of j l) ∙ named j l .0
+
+  pub label-below : (j : ℕ) → j ≤ t → labelsOf p x j < numIndices p.grid
+  label-below j l = omega (arith, index-of j l, named j l .1)

@@ -1,0 +1,217 @@
+-- The state of a run and one move, on lists: what the functions of this crate compute. The run's own promise does not cite it:
+-- proofs/ shows that these moves follow the path of document 01. Assumes nothing.
+use mathlib.Core.Bool.{Bool, true, false, not, _&&_, _||_, cond}
+use mathlib.Core.List.{List, [], _∷_}
+use Prim.Native.Nat.{ℕ, zero, suc, pred, _+_, _-_}
+use lib.Dec.{eqb, ltb}
+use lib.ListN.{length, take, set, replicate}
+use Rattle.combinatorics.specs.Edits.{insertAt, removeAt, swapAt, rotateLeft, rotateRight, found}
+use Rattle.grid.specs.Grid.{at}
+use Rattle.moves.specs.Mask.{bit, withIndex, withoutIndex}
+use Rattle.moves.specs.declared.Sets.{Sets}
+
+-- The place: its first point, that point's coefficient list, the indices of T in the order in which each point goes to the next, a label for
+-- each point, T, U. How it was reached: the rule, or the kind of end and an index of its block; and the number of the point that has
+-- just come in, or, after rules 6 and 7, leaves next.
+pub record State : Type 0 where
+  pub first : List ℕ
+  pub coefficients : List ℕ
+  pub order : List ℕ
+  pub labels : List ℕ
+  pub T : ℕ
+  pub U : ℕ
+  pub turn : ℕ
+  pub rule : ℕ
+  pub end : ℕ
+
+-- the state that four arrays and the sets hold
+abbrev pub stateOf : List ℕ → List ℕ → List ℕ → List ℕ → Sets → State
+stateOf first coefficients order labels s = record {
+  first = first;
+  coefficients = coefficients;
+  order = take (s .count) order;
+  labels = take (suc (s .count)) labels;
+  T = s .t;
+  U = s .u;
+  turn = s .turn;
+  rule = s .rule;
+  end = s .end;
+}
+
+-- the first index met from h on, by the neighbours in `way`, at which the test holds, after at most n steps
+unfoldable pub firstMet : List ℕ → (ℕ → Bool) → ℕ → ℕ → ℕ
+firstMet way q zero h = h
+firstMet way q (suc n) h = let further = firstMet way q n (at way h) in cond (q h) h further
+
+-- the first index met going from h that is not in the mask
+abbrev pub firstOutside : List ℕ → ℕ → ℕ → ℕ
+firstOutside way mask h = firstMet way (λ k. not (bit mask k)) 16 (at way h)
+
+-- the first index met going back from h that is not in U or has coefficient 0
+abbrev pub firstOutsideOrZero : List ℕ → ℕ → List ℕ → ℕ → ℕ
+firstOutsideOrZero way mask c h = firstMet way (λ k. not (bit mask k) || eqb (at c k) 0) 16 (at way h)
+
+-- every index of h's block but h is in T or U
+abbrev pub fills : List ℕ → ℕ → ℕ → ℕ → Bool
+fills next T U h = eqb (firstMet next (λ k. eqb k h || not (bit T k) && not (bit U k)) 16 (at next h)) h
+
+-- 1 more at h, 1 less at b
+abbrev pub shifted : List ℕ → ℕ → ℕ → List ℕ
+shifted y h b = let z = set y h (at y h + 1) in set z b (at z b - 1)
+
+-- the numbers at h, and at the indices going on by `way` before b, changed by f; at most n of them
+unfoldable pub changedBefore : (ℕ → ℕ) → List ℕ → ℕ → ℕ → ℕ → List ℕ → List ℕ
+changedBefore f way b zero h c = c
+changedBefore f way b (suc n) h c = let changed = changedBefore f way b n (at way h) (set c h (f (at c h))) in cond (eqb h b) c changed
+
+-- an end, at the block of index h
+abbrev pub ended : State → ℕ → ℕ → State
+ended s rule h = record {
+  first = s .first;
+  coefficients = s .coefficients;
+  order = s .order;
+  labels = s .labels;
+  T = s .T;
+  U = s .U;
+  turn = s .turn;
+  rule = rule;
+  end = h;
+}
+
+-- Point i and entry e of the order go. The index x of that entry leaves T, and joins U where `intoU`; the point labelled x leaves next.
+unfoldable pub shrink : State → ℕ → ℕ → Bool → State
+shrink s i e intoU = let x = at (s .order) e in record {
+  first = s .first;
+  coefficients = s .coefficients;
+  order = removeAt e (s .order);
+  labels = removeAt i (s .labels);
+  T = withoutIndex (s .T) x;
+  U = cond intoU (withIndex (s .U) x) (s .U);
+  turn = found (suc x) 16 (removeAt i (s .labels));
+  rule = cond intoU 6 7;
+  end = 0;
+}
+
+-- The first point leaves, and the second is the new first.
+unfoldable pub leaveFirst : List ℕ → List ℕ → State → State
+leaveFirst previous next s =
+    let h = at (s .order) 0 in
+    let b = firstOutside previous (s .U) h in
+    let gone = eqb (at (s .first) b) 1 && not (bit (s .T) b) in
+    cond (gone && fills next (s .T) (s .U) b)
+    (ended s 8 b)
+    (record {
+      first = shifted (s .first) h b;
+      coefficients = changedBefore suc previous b 16 h (s .coefficients);
+      order = rotateLeft (s .order);
+      labels = rotateLeft (s .labels);
+      T = s .T;
+      U = cond gone (withIndex (s .U) b) (s .U);
+      turn = length (s .order);
+      rule = cond gone 2 1;
+      end = 0;
+    })
+
+-- Point i, neither the first nor the last, leaves: the steps to it and from it change places, or the index of the step to it moves from T to U.
+unfoldable pub leaveMiddle : List ℕ → State → ℕ → State
+leaveMiddle previous s i =
+    let b = firstOutside previous (s .U) (at (s .order) i) in
+    cond (eqb (at (s .order) (i - 1)) b && eqb (at (s .first) b) 0)
+    (shrink s i (i - 1) true)
+    (record {
+      first = s .first;
+      coefficients = s .coefficients;
+      order = swapAt (i - 1) (s .order);
+      labels = s .labels;
+      T = s .T;
+      U = s .U;
+      turn = i;
+      rule = 1;
+      end = 0;
+    })
+
+-- The last point leaves: a new first point comes in, or the index of the last step leaves T.
+unfoldable pub leaveLast : List ℕ → State → State
+leaveLast previous s =
+    let t = length (s .order) in
+    let h = at (s .order) (t - 1) in
+    let b = firstOutsideOrZero previous (s .U) (s .coefficients) h in
+    cond (eqb (at (s .first) h) 0)
+    (shrink s t (t - 1) true)
+    (cond (eqb (at (s .coefficients) h) 0)
+    (shrink s t (t - 1) false)
+    (record {
+      first = shifted (s .first) b h;
+      coefficients = changedBefore pred previous b 16 h (s .coefficients);
+      order = rotateRight (s .order);
+      labels = rotateRight (s .labels);
+      T = s .T;
+      U = withoutIndex (s .U) b;
+      turn = 0;
+      rule = cond (bit (s .U) b) 3 1;
+      end = 0;
+    }))
+
+-- Index h joins T before entry i of the order; the point behind that entry comes in.
+abbrev pub joined : State → ℕ → ℕ → ℕ → State
+joined s i h rule = record {
+  first = s .first;
+  coefficients = s .coefficients;
+  order = insertAt i h (s .order);
+  labels = insertAt (suc i) 0 (s .labels);
+  T = withIndex (s .T) h;
+  U = withoutIndex (s .U) h;
+  turn = suc i;
+  rule = rule;
+  end = 0;
+}
+
+-- The label h, not in T, has come in: it joins T, before the step at which its coefficient rises or behind the last step, or the place is an end.
+unfoldable pub grow : List ℕ → State → ℕ → State
+grow next s h =
+    let i = cond (bit (s .U) h) (found (firstOutside next (s .U) h) 16 (s .order)) (length (s .order)) in
+    cond (not (bit (s .U) h) && fills next (s .T) (s .U) h)
+    (ended s 0 h)
+    (joined s i h (cond (bit (s .U) h) 5 4))
+
+-- Point i leaves.
+unfoldable pub leave : List ℕ → List ℕ → State → ℕ → State
+leave previous next s i =
+    cond (eqb i 0) (leaveFirst previous next s) (cond (ltb i (length (s .order))) (leaveMiddle previous s i) (leaveLast previous s))
+
+-- The move from a place whose points all have their labels. After rules 6 and 7 the point named leaves. Otherwise the label that came in joins
+-- T if it is not there, and if it is, the other point with that label leaves.
+unfoldable pub step : List ℕ → List ℕ → State → State
+step previous next s =
+    let label = at (s .labels) (s .turn) in
+    let grown = grow next s (label - 1) in
+    let left = leave previous next s (found label (s .turn) (s .labels)) in
+    cond (ltb (s .rule) 6) (cond (bit (s .T) (label - 1)) left grown) (leave previous next s (s .turn))
+
+-- the label of the point that has just come in is read
+unfoldable pub labelled : State → ℕ → State
+labelled s label = record {
+  first = s .first;
+  coefficients = s .coefficients;
+  order = s .order;
+  labels = set (s .labels) (s .turn) label;
+  T = s .T;
+  U = s .U;
+  turn = s .turn;
+  rule = s .rule;
+  end = s .end;
+}
+
+-- the place {v}: its one point has come in
+abbrev pub begun : List ℕ → ℕ → State
+begun start zeros = record {
+  first = start;
+  coefficients = replicate 16 0;
+  order = [];
+  labels = 0 ∷ [];
+  T = 0;
+  U = zeros;
+  turn = 0;
+  rule = 1;
+  end = 0;
+}

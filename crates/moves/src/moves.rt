@@ -1,0 +1,71 @@
+// The move from a place to the next. The place is lent: first is its first point, coefficients that point's coefficient
+// list, order the indices of T in the order in which each point goes to the next, labels a label for each point.
+ghost use mathlib.Core.Path.{_≡_};
+ghost use Rattle.moves.specs.Ready.{IndicesBelow, SixteenEach, Ready};
+ghost use Rattle.moves.specs.Step.{stateOf, step as stepped};
+use crate::Place;
+use crate::Sets;
+use crate::joining::grow;
+use crate::leaving::leave;
+use crate::lists::find;
+use crate::lists::wide;
+use crate::mask::has;
+
+// The move from a place whose points all have their labels. After rules 6 and 7 the point named leaves. Otherwise the label that came in joins T
+// if it is not there, and if it is, the other point with that label leaves.
+pub fn step(
+    previous: &[u8; 16],
+    next: &[u8; 16],
+    first: &mut [u16; 16],
+    coefficients: &mut [u16; 16],
+    order: &mut [u8; 16],
+    labels: &mut [u8; 16],
+    s: Sets,
+) -> Sets
+    requires { ⌜ IndicesBelow (now previous) × IndicesBelow (now next) × SixteenEach (now order) (now labels) ⌝ }
+    requires { ⌜ Ready (now previous) (now next) (stateOf (now first) (now coefficients) (now order) (now labels) s) ⌝ }
+    ensures { λ r. ⌜ (stateOf (now (first .exit)) (now (coefficients .exit)) (now (order .exit)) (now (labels .exit)) r
+        ≡ stepped (now (previous .entry)) (now (next .entry)) (stateOf (now (first .entry)) (now (coefficients .entry)) (now (order .entry)) (now (labels .entry)) s))
+        × SixteenEach (now (order .exit)) (now (labels .exit)) ⌝ }
+{
+    let mut i = s.turn;
+    if s.rule < 6 {
+        let label = labels[i];
+        let h = wide(label) - 1;
+        if !has(s.t, h) {
+            return grow(next, order, labels, s, h);
+        }
+        i = find(labels, s.count + 1, label, i);
+    }
+    leave(previous, next, first, coefficients, order, labels, s, i)
+}
+
+// The same of a place by value.
+pub fn moved(previous: &[u8; 16], next: &[u8; 16], p: Place) -> Place
+    requires { ⌜ IndicesBelow (now previous) × IndicesBelow (now next) × SixteenEach (p .order) (p .labels) ⌝ }
+    requires { ⌜ Ready (now previous) (now next) (stateOf (p .first) (p .coefficients) (p .order) (p .labels) (p .sets)) ⌝ }
+    ensures { λ r. ⌜ (stateOf (r .first) (r .coefficients) (r .order) (r .labels) (r .sets)
+        ≡ stepped (now (previous .entry)) (now (next .entry)) (stateOf (p .first) (p .coefficients) (p .order) (p .labels) (p .sets))) × SixteenEach (r .order) (r .labels) ⌝ }
+{
+    let mut first = p.first;
+    let mut coefficients = p.coefficients;
+    let mut order = p.order;
+    let mut labels = p.labels;
+    let s = p.sets;
+    let sets = step(
+        previous,
+        next,
+        &mut first,
+        &mut coefficients,
+        &mut order,
+        &mut labels,
+        s,
+    );
+    Place {
+        first,
+        coefficients,
+        order,
+        labels,
+        sets,
+    }
+}

@@ -1,0 +1,96 @@
+// Walks round a block, from an index to the neighbours that an array names.
+ghost use mathlib.Core.Bool.{not, _&&_, _||_};
+ghost use mathlib.Core.Path.{_≡_};
+ghost use Prim.Native.Nat.{_<_};
+ghost use lib.Dec.{eqb};
+ghost use Rattle.grid.specs.Grid.{at};
+ghost use Rattle.moves.specs.Mask.{bit};
+ghost use Rattle.moves.specs.Ready.{IndicesBelow};
+ghost use Rattle.moves.specs.Step.{firstMet, firstOutside, firstOutsideOrZero, fills};
+use crate::lists::wide;
+use crate::mask::has;
+
+// The first index met going from h that is not in the set.
+pub fn first_outside(way: &[u8; 16], mask: u16, h: usize) -> usize
+    requires { ⌜ (h < 16) × IndicesBelow (now way) ⌝ }
+    ensures { λ r. ⌜ (r ≡ firstOutside (now (way .entry)) mask h) × (r < 16) ⌝ }
+{
+    let mut at = wide(way[h]);
+    let mut left: usize = 16;
+    let b = loop {
+        if left == 0 {
+            break at;
+        }
+        if !has(mask, at) {
+            break at;
+        }
+        at = wide(way[at]);
+        left -= 1;
+    };
+    b
+}
+
+// The first index met going from h that is not in the set or has coefficient 0.
+pub fn first_outside_or_zero(way: &[u8; 16], mask: u16, c: &[u16; 16], h: usize) -> usize
+    requires { ⌜ (h < 16) × IndicesBelow (now way) ⌝ }
+    ensures { λ r. ⌜ (r ≡ firstOutsideOrZero (now (way .entry)) mask (now (c .entry)) h) × (r < 16) ⌝ }
+{
+    let mut at = wide(way[h]);
+    let mut left: usize = 16;
+    let b = loop {
+        if left == 0 {
+            break at;
+        }
+        if !has(mask, at) {
+            break at;
+        }
+        if c[at] == 0 {
+            break at;
+        }
+        at = wide(way[at]);
+        left -= 1;
+    };
+    b
+}
+
+// The index is in neither of the two sets.
+fn in_neither(t: u16, u: u16, h: usize) -> bool
+    requires { ⌜ h < 16 ⌝ }
+    ensures { λ r. ⌜ r ≡ (not (bit t h) && not (bit u h)) ⌝ }
+{
+    if has(t, h) {
+        return false;
+    }
+    !has(u, h)
+}
+
+// The first index met going on from h that is h again or is in neither of the two sets.
+fn first_free(next: &[u8; 16], t: u16, u: u16, h: usize) -> usize
+    requires { ⌜ (h < 16) × IndicesBelow (now next) ⌝ }
+    ensures { λ r. ⌜ r ≡ firstMet (now (next .entry)) (λ k. eqb k h || not (bit t k) && not (bit u k)) 16 (at (now (next .entry)) h) ⌝ }
+{
+    let mut at = wide(next[h]);
+    let mut left: usize = 16;
+    let b = loop {
+        if left == 0 {
+            break at;
+        }
+        if at == h {
+            break at;
+        }
+        if in_neither(t, u, at) {
+            break at;
+        }
+        at = wide(next[at]);
+        left -= 1;
+    };
+    b
+}
+
+// Every index of the block of h but h is in one of the two sets.
+pub fn fill(next: &[u8; 16], t: u16, u: u16, h: usize) -> bool
+    requires { ⌜ (h < 16) × IndicesBelow (now next) ⌝ }
+    ensures { λ r. ⌜ r ≡ fills (now (next .entry)) t u h ⌝ }
+{
+    first_free(next, t, u, h) == h
+}
