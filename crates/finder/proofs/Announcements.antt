@@ -1,0 +1,94 @@
+-- From where a walk finished to a run's answer: the start in its array is the start, and the points of the last state are the answer's. Assumes nothing.
+use mathlib.Core.Bool.{true}
+use mathlib.Core.List.{List, []}
+use mathlib.Core.Path.{_≡_, sym, ap, _∙_, subst}
+use Prim.Native.Nat.{ℕ, suc, _-_, _*_, _≤_, _<_}
+use borrow.Author.Tests.{eqb-true}
+use lib.Dec.{eqb}
+use lib.ListN.{length, length-map, length-replicate, length-take, replicate, take}
+use lib.Seq.{take-length}
+use native.Mathlib.Nat.{mul-le-mul-right}
+use native.Mathlib.Omega.{arith}
+use Rattle.combinatorics.proofs.Basics.{and-left}
+use Rattle.combinatorics.proofs.EditsOfArrays.{counted}
+use Rattle.combinatorics.proofs.Fronts.{front-length, front-taken}
+use Rattle.combinatorics.proofs.Ranges.{length-upFrom}
+use Rattle.combinatorics.specs.Front.{front}
+use Rattle.combinatorics.specs.Lists.{upFrom}
+use Rattle.grid.proofs.Fields.{indices-few, made-indices}
+use Rattle.grid.specs.Grid.{Grid, Point, blockOf, dimension, isGridPoint, numIndices}
+use Rattle.grid.specs.Made.{IsMade, shape}
+use Rattle.grid.specs.declared.Grid.{Grid as GridStruct}
+use Rattle.moves.specs.Read.{numbersFrom, pointIn, pointsFrom, ReadyPoint}
+use Rattle.moves.specs.Step.{stateOf}
+use Rattle.moves.specs.declared.Sets.{Sets}
+use Rattle.place.specs.Demand.{Accepted}
+use Rattle.place.specs.Ends.{Kind}
+use Rattle.place.specs.Path.{answer}
+use Rattle.place.specs.Problem.{Problem}
+use Rattle.finder.specs.Finish.{Announced, Finished, problemFrom, problemIn}
+use Rattle.finder.specs.Run.{caseOf, kindOf, numbersOf}
+use Rattle.finder.specs.declared.answers.Answer.the-variants.{End}
+use Rattle.finder.specs.declared.walk.Finish.{Finish}
+
+-- a grid point has m numbers
+pub point-long : (g : Grid) (y : Point) → isGridPoint g y ≡ true → length y ≡ numIndices g
+unfolding isGridPoint
+point-long g y h = eqb-true (length y) (numIndices g) (and-left (eqb (length y) (numIndices g)) _ h)
+
+-- the array that the start was copied to holds it
+module _ (g : GridStruct) (made : IsMade g) (start table : List ℕ) (ok : Accepted (problemFrom g start table)) where
+  pub start-long : length start ≡ g .indices
+  start-long = point-long (shape g) start (ok .settled .start) ∙ sym (made-indices g made)
+
+  pub same-problem : problemIn g (front (take (g .indices) start) (replicate 16 0)) table ≡ problemFrom g start table
+  same-problem =
+      let e : take (g .indices) start ≡ start = rw (← start-long) (take-length start) in
+      let f : take (g .indices) (front start (replicate 16 0)) ≡ start = rw (← start-long) (front-taken start (replicate 16 0)) in
+      rw (e, f)
+
+  pub taken-long : (taken : List ℕ) → taken ≡ front (take (g .indices) start) (replicate 16 0) → length taken ≡ 16
+  taken-long taken e =
+      rw e (front-length (take (g .indices) start) (replicate 16 0) (rw (length-replicate, length-take) (omega (arith, indices-few g made))) ∙ length-replicate {A = ℕ} 16 0)
+
+  pub accepted-in : (taken : List ℕ) → taken ≡ front (take (g .indices) start) (replicate 16 0) → Accepted (problemIn g taken table)
+  accepted-in taken e = rw (e, same-problem) ok
+
+  -- where a walk from that array finished
+  pub finished-from : (taken : List ℕ) → taken ≡ front (take (g .indices) start) (replicate 16 0) → (budget : ℕ) (f : Finish) (first order : List ℕ)
+      → Finished (problemIn g taken table) (g .previous) budget f first order → Finished (problemFrom g start table) (g .previous) budget f first order
+  finished-from taken e budget f first order F = subst (λ (p : Problem). Finished p (g .previous) budget f first order) (ap (λ (t : List ℕ). problemIn g t table) e ∙ same-problem) F
+
+-- the answer at an end
+module _ (g : GridStruct) (made : IsMade g) (start table first order : List ℕ) (long : length order ≡ 16) (s : Sets) (budget places : ℕ) (kind : Kind) (from : ℕ)
+    (A : Announced (problemFrom g start table) (g .previous) budget kind from (stateOf first [] order [] s) places) where
+  count-is : length (take (s .count) order) ≡ s .count
+  count-is = counted order (s .count) long (A .points .few)
+
+  pub index : s .end < g .indices
+  index = omega (arith, A .index, made-indices g made)
+
+  pub points-ready : ReadyPoint (g .previous) (take (s .count) order) (s .u) first (s .count)
+  points-ready = subst (ReadyPoint (g .previous) (take (s .count) order) (s .u) first) count-is (A .points)
+
+  pub from-low : from ≤ s .count
+  from-low = omega (arith, A .low, count-is)
+
+  -- its points have room
+  pub room : (n : ℕ) → suc (dimension (shape g)) * numIndices (shape g) ≤ n → (suc (s .count) - from) * g .indices ≤ n
+  room n l =
+      let a : suc (s .count) - from ≤ suc (dimension (shape g)) = omega (arith, A .few, count-is) in
+      let b : (suc (s .count) - from) * numIndices (shape g) ≤ suc (dimension (shape g)) * numIndices (shape g) = mul-le-mul-right (numIndices (shape g)) a in
+      rw (made-indices g made) (omega arith)
+
+  number : length (pointsFrom (problemFrom g start table) (g .previous) (stateOf first [] order [] s) from) ≡ suc (s .count) - from
+  number =
+      length-map (upFrom from (suc (length (take (s .count) order)) - from)) (pointIn (problemFrom g start table) (g .previous) (stateOf first [] order [] s))
+      ∙ length-upFrom from (suc (length (take (s .count) order)) - from) ∙ omega (arith, count-is)
+
+  -- they are what is written, and the answer is told by their number and the block
+  pub written : numbersFrom (g .indices) (g .previous) (stateOf first [] order [] s) from ≡ numbersOf (answer (problemFrom g start table) budget)
+  written = rw (A .is, made-indices g made)
+
+  pub told : (block vertices : ℕ) → block ≡ suc (blockOf (shape g) (s .end)) → vertices ≡ suc (s .count) - from → End places (kindOf kind) block vertices ≡ caseOf (answer (problemFrom g start table) budget)
+  told block vertices e q = rw (A .is, e, q, number)

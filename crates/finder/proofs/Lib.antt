@@ -1,0 +1,4 @@
+pub mod Visits
+pub mod Announcements
+pub mod Refusals
+pub mod Demand

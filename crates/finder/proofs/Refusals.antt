@@ -1,0 +1,141 @@
+-- The refusals of a run: which of questions 1 to 8 is the first that is answered no, and what its answer and its buffer then are. Assumes nothing.
+use mathlib.Core.Bool.{Bool, true, false, _&&_, cond}
+use mathlib.Core.List.{List, [], _∷_}
+use mathlib.Core.Path.{_≡_, refl, sym, ap, _∙_}
+use Prim.Native.Nat.{ℕ, suc, _+_, _-_, _*_, _≤_, _<_}
+use borrow.Author.Tests.{eq-eqb, le-leb, leb-true, lt-leb, ne-eqb}
+use lib.Dec.{eqb, leb}
+use lib.ListN.{length}
+use native.Mathlib.Nat.{mul-le-mul-right}
+use native.Mathlib.Omega.{arith}
+use Rattle.combinatorics.proofs.Basics.{and-left, and-right}
+use Rattle.combinatorics.proofs.Fronts.{front-none}
+use Rattle.combinatorics.specs.Front.{front}
+use Rattle.combinatorics.specs.Lists.{all, sum}
+use Rattle.grid.proofs.Fields.{indices-few, made-accepted, made-blocks, made-indices, made-shape}
+use Rattle.grid.specs.Grid.{Grid, dimension, isGridPoint, numIndices, numPoints}
+use Rattle.grid.specs.Made.{IsMade, madeOf, shape}
+use Rattle.grid.specs.Questions.{firstNo, gridQuestions, question1, question2, question3, question4, question5}
+use Rattle.grid.specs.declared.Grid.{Grid as GridStruct}
+use Rattle.grid.specs.declared.Made.{Made}
+use Rattle.place.proofs.Accepted.{accepted-of}
+use Rattle.place.specs.Demand.{Accepted}
+use Rattle.place.specs.Path.{answer}
+use Rattle.place.specs.Problem.{Problem, problemOf}
+use Rattle.place.specs.Questions.{question6, question7, question8}
+use Rattle.finder.specs.Finish.{laterQuestions, problemFrom}
+use Rattle.finder.specs.Run.{caseOf, numbersOf, refusal, runAnswer, runBuffer}
+use Rattle.finder.specs.declared.answers.Answer.the-variants.{Refused}
+
+-- four questions, and a number told by those behind them
+four-no : (a b c d : Bool) (later : ℕ) → (_≡_ {A = ℕ} (cond a (cond b (cond c (cond d 0 4) 3) 2) 1) 0 → ⊥) → cond a (cond b (cond c (cond d later 4) 3) 2) 1 ≡ cond a (cond b (cond c (cond d 0 4) 3) 2) 1
+four-no true true true true later e = absurd (e refl)
+four-no true true true false later e = refl
+four-no true true false d later e = refl
+four-no true false c d later e = refl
+four-no false b c d later e = refl
+
+four-yes : (a b c d : Bool) (later : ℕ) → _≡_ {A = ℕ} (cond a (cond b (cond c (cond d 0 4) 3) 2) 1) 0 → cond a (cond b (cond c (cond d later 4) 3) 2) 1 ≡ later
+four-yes true true true true later e = refl
+four-yes true true true false later e = absurd (omega arith)
+four-yes true true false d later e = absurd (omega arith)
+four-yes true false c d later e = absurd (omega arith)
+four-yes false b c d later e = absurd (omega arith)
+
+-- the last of four questions left out
+three-yes : (a b c d : Bool) → _≡_ {A = ℕ} (cond a (cond b (cond c (cond d 0 8) 7) 6) 5) 0 → (_≡_ {A = ℕ} (cond a (cond b (cond c 0 7) 6) 5) 0) × (d ≡ true)
+three-yes true true true true e = (refl, refl)
+three-yes true true true false e = absurd (omega arith)
+three-yes true true false d e = absurd (omega arith)
+three-yes true false c d e = absurd (omega arith)
+three-yes false b c d e = absurd (omega arith)
+
+-- the refusal, by questions 1 to 4 and those behind them
+module _ (p : Problem) (room : ℕ) where
+  abbrev first : Bool
+  first = question1 (p .grid) .answeredYes
+
+  abbrev second : Bool
+  second = question2 (p .grid) .answeredYes
+
+  abbrev third : Bool
+  third = question3 (p .grid) .answeredYes
+
+  abbrev fourth : Bool
+  fourth = question4 (p .grid) .answeredYes
+
+  pub by-grid : (firstNo (gridQuestions (p .grid)) ≡ 0 → ⊥) → refusal p room ≡ firstNo (gridQuestions (p .grid))
+  unfolding firstNo
+  by-grid e = four-no first second third fourth _ e
+
+  pub by-later : firstNo (gridQuestions (p .grid)) ≡ 0 → refusal p room ≡ firstNo (laterQuestions p room)
+  unfolding firstNo
+  by-later e = four-yes first second third fourth _ e
+
+  -- where none is answered no, the table is accepted and the answer has room
+  pub accepted-with-room : firstNo (gridQuestions (p .grid)) ≡ 0 → firstNo (laterQuestions p room) ≡ 0 → Accepted p × (suc (dimension (p .grid)) * numIndices (p .grid) ≤ room)
+  unfolding firstNo
+  accepted-with-room e f =
+      let w = three-yes (question5 (p .grid) (p .start) .answeredYes) (question6 p .answeredYes) (question7 p .answeredYes) (question8 (p .grid) room .answeredYes) f in
+      (accepted-of p (four-yes first second third fourth _ e ∙ w .0), leb-true (suc (dimension (p .grid)) * numIndices (p .grid)) room (w .1))
+
+-- questions 5 to 8
+module _ (p : Problem) (room : ℕ) where
+  pub no-start : isGridPoint (p .grid) (p .start) ≡ false → 5 ≡ firstNo (laterQuestions p room)
+  unfolding firstNo
+  no-start e = rw e
+
+  pub no-length : isGridPoint (p .grid) (p .start) ≡ true → (length (p .labels) ≡ numPoints (p .grid) → ⊥) → 6 ≡ firstNo (laterQuestions p room)
+  unfolding firstNo
+  no-length on n = rw (on, ne-eqb (length (p .labels)) (numPoints (p .grid)) n)
+
+  module _ (on : isGridPoint (p .grid) (p .start) ≡ true) (whole : length (p .labels) ≡ numPoints (p .grid)) where
+    pub no-label : all (λ l. leb 1 l && leb l (numIndices (p .grid))) (p .labels) ≡ false → 7 ≡ firstNo (laterQuestions p room)
+    unfolding firstNo
+    no-label e = rw (on, eq-eqb (length (p .labels)) (numPoints (p .grid)) whole, e)
+
+    module _ (labelled : all (λ l. leb 1 l && leb l (numIndices (p .grid))) (p .labels) ≡ true) where
+      pub no-room : room < suc (dimension (p .grid)) * numIndices (p .grid) → 8 ≡ firstNo (laterQuestions p room)
+      unfolding firstNo
+      no-room l = rw (on, eq-eqb (length (p .labels)) (numPoints (p .grid)) whole, labelled, lt-leb (suc (dimension (p .grid)) * numIndices (p .grid)) room l)
+
+      pub none-no : suc (dimension (p .grid)) * numIndices (p .grid) ≤ room → _≡_ {A = ℕ} 0 (firstNo (laterQuestions p room))
+      unfolding firstNo
+      none-no l = rw (on, eq-eqb (length (p .labels)) (numPoints (p .grid)) whole, labelled, le-leb (suc (dimension (p .grid)) * numIndices (p .grid)) room l)
+
+-- the numbers of question 8, as the program works them out
+module _ (g : GridStruct) (made : IsMade g) where
+  blocks-at-most : (ss : List ℕ) → all (λ s. leb 2 s) ss ≡ true → length ss ≤ sum ss
+  blocks-at-most [] e = omega arith
+  blocks-at-most (s ∷ ss) e =
+      omega (arith, leb-true 2 s (and-left (leb 2 s) (all (λ s. leb 2 s) ss) e), blocks-at-most ss (and-right (leb 2 s) (all (λ s. leb 2 s) ss) e))
+
+  pub fewer-blocks : g .blocks ≤ g .indices
+  fewer-blocks = omega (arith, blocks-at-most (shape g .sizes) (made-accepted g made .sizesTwo), made-blocks g made, made-indices g made)
+
+  pub room-small : (g .indices - g .blocks + 1) * g .indices ≤ 17 * 16
+  room-small =
+      let m : g .indices ≤ 16 = indices-few g made in
+      let a : (g .indices - g .blocks + 1) * g .indices ≤ 17 * g .indices = mul-le-mul-right (g .indices) (omega arith) in
+      omega arith
+
+  pub room-is : (g .indices - g .blocks + 1) * g .indices ≡ suc (dimension (shape g)) * numIndices (shape g)
+  room-is =
+      let e : g .indices - g .blocks + 1 ≡ suc (dimension (shape g)) = omega (arith, made-blocks g made, made-indices g made) in
+      rw (e, made-indices g made)
+
+-- the problem of a grid that was made is the problem of its sizes and divisions
+pub same-problem : (G : Grid) (r : Made) (is : r ≡ madeOf G) → r .code ≡ 0 → (start labels : List ℕ) → problemFrom (r .grid) start labels ≡ problemOf (G .sizes) (G .divisions) start labels
+same-problem G r is z start labels = ap (λ (h : Grid). let p : Problem = record { grid = h; start = start; labels = labels } in p) (made-shape G r is z)
+
+-- what a run then answers, and what it leaves in its buffer
+module _ (p : Problem) (budget : ℕ) (old : List ℕ) where
+  pub refused : (n : ℕ) → (n ≡ 0 → ⊥) → refusal p (length old) ≡ n → (Refused n ≡ runAnswer p (length old) budget) × (old ≡ runBuffer p budget old)
+  unfolding runAnswer runBuffer
+  refused n z e =
+      let q : eqb (refusal p (length old)) 0 ≡ false = ne-eqb (refusal p (length old)) 0 (λ f. z (sym e ∙ f)) in
+      (rw (q, e), rw (q, front-none old))
+
+  pub answered : refusal p (length old) ≡ 0 → (caseOf (answer p budget) ≡ runAnswer p (length old) budget) × (front (numbersOf (answer p budget)) old ≡ runBuffer p budget old)
+  unfolding runAnswer runBuffer
+  answered e = (rw e, rw e)

@@ -1,0 +1,80 @@
+-- `finder::walk::visit` meets its contract: after rules 6 and 7 the move is made at once, and else a label is read first. Assumes nothing.
+use mathlib.Core.Path.{_≡_, refl, sym, ap, _∙_, subst}
+use lib.ListN.{length-set}
+use native.Mathlib.Omega.{arith}
+use Rattle.moves.specs.Ready.{Ready}
+use Rattle.moves.specs.Step.{State, step}
+use Rattle.finder.specs.Finish.{tableOf}
+use Rattle.finder.proofs.Visits.{below, read-none, read-some}
+use Rattle.finder.proofs.walk.visit.Statement.{statement}
+use Rattle.finder.proofs.walk.visit.Tie as tie
+use Rattle.finder.proofs.walk.visit.Reads as reads
+use Rattle.finder.proofs.walk.visit.Lts as lts
+use Rattle.finder.proofs.walk.label_in.Reads as label-in-reads
+use Rattle.moves.proofs.step.Reads as step-reads
+
+step-requires : tie.Need-step-requires
+step-requires c κs =
+    let t = c .before .before .before .before .before .before in
+    let e = t .before .before .before .before .before in
+    let g = e .args .g in
+    let b = below g (e .pre .0 .0 .made) in
+    ((b .0, b .1, e .pre .0 .1), subst (Ready (g .previous) (g .next)) (read-none (tableOf g (e .args .table .now)) (g .previous) _ (t .if1 .taken)) (e .pre .1 .1))
+
+returns : tie.Need-returns
+returns c =
+    let t = c .before .before .before .before .before .before .before in
+    let e = t .before .before .before .before .before in
+    let g = e .args .g in
+    (c .step .ensures .0 ∙ ap (step (g .previous) (g .next)) (sym (read-none (tableOf g (e .args .table .now)) (g .previous) _ (t .if1 .taken))), c .step .ensures .1)
+
+label-in-requires : tie.Need-label-in-requires
+label-in-requires c κs =
+    let t = c .before .before in
+    let e = t .before .before .before .before .before in
+    (e .pre .0 .0, e .pre .1 .0 (t .if1 .left))
+
+element-write-labels : tie.Need-element-write-labels
+element-write-labels c =
+    let t = c .before .before .before in
+    let e = t .before .before .before .before .before in
+    let r = e .pre .1 .0 (t .if1 .left) .point in
+    omega (arith, r .low, r .few)
+
+step-requires-2 : tie.Need-step-requires-2
+step-requires-2 c κs =
+    let w = c .before .before .before .before .before .before in
+    let t = w .before .before .before in
+    let e = t .before .before .before .before .before in
+    let a = e .args in
+    let g = a .g in
+    let b = below g (e .pre .0 .0 .made) in (
+      (b .0, b .1, record { inOrder = e .pre .0 .1 .inOrder; inLabels = length-set (a .labels .now) (a .s .turn) (w .label-in .result) ∙ e .pre .0 .1 .inLabels }),
+      subst (Ready (g .previous) (g .next))
+          (sym (read-some (tableOf g (a .table .now)) (g .previous) (a .first .now) (a .coefficients .now) (a .order .now) (a .labels .now) (a .s) (w .label-in .result) (t .if1 .left) (e .pre .1 .0 (t .if1 .left) .point) (w .label-in .ensures)))
+          (e .pre .1 .1),
+    )
+
+returns-2 : tie.Need-returns-2
+returns-2 c =
+    let w = c .before .before .before .before .before .before .before in
+    let t = w .before .before .before in
+    let e = t .before .before .before .before .before in
+    let a = e .args in
+    let g = a .g in (
+      c .step2 .ensures .0
+          ∙ ap (step (g .previous) (g .next))
+          (read-some (tableOf g (a .table .now)) (g .previous) (a .first .now) (a .coefficients .now) (a .order .now) (a .labels .now) (a .s) (w .label-in .result) (t .if1 .left) (e .pre .1 .0 (t .if1 .left) .point) (w .label-in .ensures)),
+      c .step2 .ensures .1,
+    )
+
+pub visit-spec : {M : Type 1} → statement M
+visit-spec =
+    tie.close
+    (tie.spec
+    step-requires
+    returns
+    label-in-requires
+    element-write-labels
+    step-requires-2
+    returns-2)

@@ -1,0 +1,62 @@
+-- What the walk along the path needs of its grid and table, and what it gives. The run's own promise does not cite it. Assumes nothing.
+use mathlib.Core.Bool.{true}
+use mathlib.Core.List.{List, [], _∷_}
+use mathlib.Core.Path.{_≡_}
+use Prim.Native.Nat.{ℕ, suc, _≤_, _<_}
+use lib.ListN.{length, take}
+use Rattle.grid.specs.Binomials.{HasBinomials}
+use Rattle.grid.specs.Grid.{blockOf, dimension, isGridPoint, numIndices, numPoints}
+use Rattle.grid.specs.Made.{IsMade, shape}
+use Rattle.grid.specs.Questions.{Question, question5}
+use Rattle.grid.specs.declared.Grid.{Grid as GridStruct}
+use Rattle.place.specs.Ends.{Kind, placeEnd, facetEnd}
+use Rattle.place.specs.Path.{answer, ended, spent}
+use Rattle.place.specs.Problem.{Problem}
+use Rattle.place.specs.Questions.{question6, question7, question8}
+use Rattle.moves.specs.Read.{pointIn, pointsFrom, ReadyPoint}
+use Rattle.moves.specs.Step.{State, stateOf}
+use Rattle.moves.specs.declared.Sets.{Sets}
+use Rattle.finder.specs.declared.walk.Finish.{Finish}
+
+-- the grid, a start and the label table
+abbrev pub problemFrom : GridStruct → List ℕ → List ℕ → Problem
+problemFrom g start table = record { grid = shape g; start = start; labels = table }
+
+-- the start left open, since no label depends on it
+abbrev pub tableOf : GridStruct → List ℕ → Problem
+tableOf g table = problemFrom g [] table
+
+-- with the start that the first array holds
+abbrev pub problemIn : GridStruct → List ℕ → List ℕ → Problem
+problemIn g first table = problemFrom g (take (g .indices) first) table
+
+-- questions 5 to 8, which a run asks on an accepted grid
+abbrev pub laterQuestions : Problem → ℕ → List Question
+laterQuestions p room = question5 (p .grid) (p .start) ∷ question6 p ∷ question7 p ∷ question8 (p .grid) room ∷ []
+
+-- a label can be looked up for every grid point
+pub record Readable (g : GridStruct) (binomials table : List ℕ) : Type 0 where
+  pub made : IsMade g
+  pub filled : HasBinomials (shape g) binomials
+  pub whole : length table ≡ numPoints (shape g)
+
+-- the point that has just come in can be computed, and is a grid point
+pub record ReadyRead (g : GridStruct) (table first order : List ℕ) (s : Sets) : Type 0 where
+  pub point : ReadyPoint (g .previous) (take (s .count) order) (s .u) first (s .turn)
+  pub onGrid : isGridPoint (shape g) (pointIn (tableOf g table) (g .previous) (stateOf first [] order [] s) (s .turn)) ≡ true
+
+-- the state e stands at an end, which is the answer: `places` places, an end of the kind given, and as simplex the points of e from number `from` on
+pub record Announced (p : Problem) (previous : List ℕ) (budget : ℕ) (kind : Kind) (from : ℕ) (e : State) (places : ℕ) : Type 0 where
+  pub index : e .end < numIndices (p .grid)
+  pub few : length (e .order) ≤ dimension (p .grid)
+  pub low : from ≤ length (e .order)
+  pub points : ReadyPoint previous (e .order) (e .U) (e .first) (length (e .order))
+  pub is : answer p budget ≡ ended places kind (suc (blockOf (p .grid) (e .end))) (length (pointsFrom p previous e from)) (pointsFrom p previous e from)
+
+-- where a walk of at most `budget` places ends, with the first point and the order of the last place in its arrays
+pub record Finished (p : Problem) (previous : List ℕ) (budget : ℕ) (f : Finish) (first order : List ℕ) : Type 0 where
+  pub firstLength : length first ≡ 16
+  pub orderLength : length order ≡ 16
+  pub place : f .sets .rule ≡ 0 → Announced p previous budget placeEnd 0 (stateOf first [] order [] (f .sets)) (f .places)
+  pub facet : f .sets .rule ≡ 8 → Announced p previous budget facetEnd 1 (stateOf first [] order [] (f .sets)) (f .places)
+  pub neither : (f .sets .rule ≡ 0 → ⊥) → (f .sets .rule ≡ 8 → ⊥) → (answer p budget ≡ spent budget) × (f .places ≡ budget)

@@ -1,0 +1,44 @@
+-- What a run answers and leaves in the answer buffer, on every input. Assumes nothing.
+use mathlib.Core.Bool.{cond}
+use mathlib.Core.List.{List, []}
+use Prim.Native.Nat.{ℕ}
+use lib.Dec.{eqb}
+use lib.ListN.{length}
+use Rattle.combinatorics.specs.Front.{front}
+use Rattle.combinatorics.specs.Lists.{concatMap}
+use Rattle.grid.specs.Questions.{firstNo}
+use Rattle.place.specs.Ends.{Kind as KindOfEnd, placeEnd, facetEnd}
+use Rattle.place.specs.Path.{Answer as PathAnswer, spent, ended, answer}
+use Rattle.place.specs.Problem.{Problem}
+use Rattle.place.specs.Questions.{runQuestions}
+use Rattle.finder.specs.declared.answers.Answer.{Answer}
+use Rattle.finder.specs.declared.answers.Answer.the-variants.{Refused, Spent, End}
+use Rattle.finder.specs.declared.answers.Kind.{Kind}
+use Rattle.finder.specs.declared.answers.Kind.the-variants.{Place, Facet}
+
+abbrev pub kindOf : KindOfEnd → Kind
+kindOf placeEnd = Place
+kindOf facetEnd = Facet
+
+-- "The answer has the places, the kind of end, the block, the number of vertices": the enum's case and values for each answer of an accepted table.
+-- "A budget is called spent by number 9", which "also returns the places visited"
+abbrev pub caseOf : PathAnswer → Answer
+caseOf (spent n) = Spent n
+caseOf (ended n kind block vertices simplex) = End n (kindOf kind) block vertices
+
+-- "the vertices in rising coefficient sum, m 16-bit numbers each": the numbers that an answer writes
+abbrev pub numbersOf : PathAnswer → List ℕ
+numbersOf (spent n) = []
+numbersOf (ended n kind block vertices simplex) = concatMap (λ y. y) simplex
+
+-- the number of the first of questions 1 to 8 that is answered no, or 0
+abbrev pub refusal : Problem → ℕ → ℕ
+refusal p room = firstNo (runQuestions p room)
+
+-- "A refusal returns its number and no count"
+unfoldable pub runAnswer : Problem → ℕ → ℕ → Answer
+runAnswer p room budget = cond (eqb (refusal p room) 0) (caseOf (answer p budget)) (Refused (refusal p room))
+
+-- "A refusal .. changes no buffer. What a call does write stands at the front of its buffer, old contents behind"
+unfoldable pub runBuffer : Problem → ℕ → List ℕ → List ℕ
+runBuffer p budget old = front (cond (eqb (refusal p (length old)) 0) (numbersOf (answer p budget)) []) old

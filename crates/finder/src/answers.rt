@@ -1,0 +1,142 @@
+// The run on a label table: the customer's call.
+ghost use mathlib.Core.Path.{_≡_};
+ghost use Prim.Native.Nat.{suc, _*_, _≤_, _<_};
+ghost use lib.ListN.{length};
+ghost use Rattle.combinatorics.specs.Front.{front};
+ghost use Rattle.grid.specs.Grid.{blockOf, dimension, numIndices};
+ghost use Rattle.grid.specs.Made.{IsMade, shape};
+ghost use Rattle.grid.specs.Questions.{firstNo};
+ghost use Rattle.place.specs.Demand.{Accepted};
+ghost use Rattle.place.specs.Path.{answer as answerOf};
+ghost use Rattle.place.specs.Problem.{problemOf};
+ghost use Rattle.finder.specs.Finish.{Readable, laterQuestions, problemFrom};
+ghost use Rattle.finder.specs.Run.{caseOf, numbersOf, runAnswer, runBuffer};
+use crate::labels::all_indices;
+use crate::walk::FACET_END;
+use crate::walk::PLACE_END;
+use crate::walk::walk;
+use grid::Grid;
+use moves::put_points;
+use moves::taken;
+
+// The kind of end: a complete place, or what remains of a place less one point.
+pub enum Kind {
+    Place,
+    Facet,
+}
+
+// What a run answers. The block counts from 1. The vertices, m numbers each, stand at the front of the answer buffer.
+pub enum Answer {
+    // The number of the first of questions 1 to 8 that is answered no.
+    Refused(u8),
+    // Number 9: the path has not ended within the budget. The places visited equal the budget.
+    Spent(u64),
+    // The end of the path.
+    End {
+        places: u64,
+        kind: Kind,
+        block: u8,
+        vertices: usize,
+    },
+}
+
+// The number, from 1, of the block of index h.
+fn block_number(g: Grid, h: usize) -> u8
+    requires { ⌜ IsMade g × (h < g .indices) ⌝ }
+    ensures { λ r. ⌜ r ≡ suc (blockOf (shape g) h) ⌝ }
+{
+    let j = g.block_of(h);
+    j as u8 + 1
+}
+
+// The walk along the path of an accepted table, and its answer.
+fn announced(
+    g: Grid,
+    binomials: &[u16; 4830],
+    start: &[u16],
+    labels: &[u8],
+    answer: &mut [u16],
+    budget: u64,
+) -> Answer
+    requires { ⌜ Readable g (now binomials) (now labels) × Accepted (problemFrom g (now start) (now labels)) × (suc (dimension (shape g)) * numIndices (shape g) ≤ length (now answer)) ⌝ }
+    ensures { λ r. ⌜ (r ≡ caseOf (answerOf (problemFrom g (now (start .entry)) (now (labels .entry))) budget))
+        × (now (answer .exit) ≡ front (numbersOf (answerOf (problemFrom g (now (start .entry)) (now (labels .entry))) budget)) (now (answer .entry))) ⌝ }
+{
+    let m = g.indices;
+    let previous = g.previous;
+    let mut first = taken(start, m);
+    let mut order = [0u8; 16];
+    let f = walk(g, binomials, labels, &mut first, &mut order, budget);
+    let places = f.places;
+    let s = f.sets;
+    if s.rule == PLACE_END {
+        let block = block_number(g, s.end);
+        let vertices = put_points(answer, &previous, &first, &order, s, m, 0);
+        return Answer::End {
+            places,
+            kind: Kind::Place,
+            block,
+            vertices,
+        };
+    }
+    if s.rule == FACET_END {
+        let block = block_number(g, s.end);
+        let vertices = put_points(answer, &previous, &first, &order, s, m, 1);
+        return Answer::End {
+            places,
+            kind: Kind::Facet,
+            block,
+            vertices,
+        };
+    }
+    Answer::Spent(places)
+}
+
+// Questions 5 to 8, on a grid that is accepted: the number of the first that is answered no, or 0.
+fn first_no(g: Grid, start: &[u16], labels: &[u8], room: usize) -> u8
+    requires { ⌜ IsMade g ⌝ }
+    ensures { λ r. ⌜ r ≡ firstNo (laterQuestions (problemFrom g (now (start .entry)) (now (labels .entry))) room) ⌝ }
+{
+    let m = g.indices;
+    if !g.is_grid_point(start) {
+        return 5;
+    }
+    if labels.len() != g.points {
+        return 6;
+    }
+    if !all_indices(labels, m as u8) {
+        return 7;
+    }
+    if room < (m - g.blocks + 1) * m {
+        return 8;
+    }
+    0
+}
+
+// Questions 1 to 9 in document 01's order, on every input. Refusals write nothing. What is written stands at the front of the answer buffer: as many
+// vertices as the answer says, m numbers each.
+pub fn run(
+    sizes: &[u8],
+    divisions: &[u16],
+    start: &[u16],
+    labels: &[u8],
+    answer: &mut [u16],
+    budget: u64,
+) -> Answer
+    ensures answer { λ r. ⌜ r ≡ runAnswer (problemOf (now (sizes .entry)) (now (divisions .entry)) (now (start .entry)) (now (labels .entry))) (length (now (answer .entry))) budget ⌝ }
+    ensures buffer { λ r. ⌜ now (answer .exit) ≡ runBuffer (problemOf (now (sizes .entry)) (now (divisions .entry)) (now (start .entry)) (now (labels .entry))) budget (now (answer .entry)) ⌝ }
+{
+    let made = Grid::new(sizes, divisions);
+    let code = made.code;
+    let g = made.grid;
+    if code != 0 {
+        return Answer::Refused(code);
+    }
+    let number = first_no(g, start, labels, answer.len());
+    if number != 0 {
+        return Answer::Refused(number);
+    }
+    let mut binomials = [0u16; 4830];
+    g.binomials(&mut binomials);
+    announced(g, &binomials, start, labels, answer, budget)
+}

@@ -1,0 +1,8 @@
+// The path finder: the run on a label table.
+mod answers;
+mod labels;
+mod walk;
+
+pub use answers::Answer;
+pub use answers::Kind;
+pub use answers::run;

@@ -1,0 +1,142 @@
+// The walk from {v} along the path, place by place. Only this crate calls these functions.
+ghost use mathlib.Core.Bool.{_&&_};
+ghost use mathlib.Core.List.{[]};
+ghost use mathlib.Core.Path.{_≡_};
+ghost use Prim.Native.Nat.{ℕ, suc, _≤_, _<_};
+ghost use lib.Dec.{eqb, ltb};
+ghost use lib.ListN.{length};
+ghost use Rattle.grid.specs.Grid.{at};
+ghost use Rattle.place.specs.Demand.{Accepted};
+ghost use Rattle.place.specs.Problem.{label};
+ghost use Rattle.moves.specs.Mask.{bit};
+ghost use Rattle.moves.specs.Read.{pointIn, read};
+ghost use Rattle.moves.specs.Ready.{Ready, SixteenEach};
+ghost use Rattle.moves.specs.Step.{stateOf};
+ghost use Rattle.moves.specs.Step.{step as stepOf};
+ghost use Rattle.finder.specs.Finish.{tableOf, problemIn, Readable, ReadyRead, Finished};
+use grid::Grid;
+use moves::Sets;
+use moves::advance;
+use moves::step;
+use moves::zeros;
+
+pub const PLACE_END: u8 = 0;
+
+pub const FACET_END: u8 = 8;
+
+// The places visited, and the sets at the last: at an end, or where the budget was spent.
+pub struct Finish {
+    pub places: u64,
+    pub sets: Sets,
+}
+
+// The label of the point that has just come in.
+fn label_in(
+    g: Grid,
+    binomials: &[u16; 4830],
+    table: &[u8],
+    first: &[u16; 16],
+    order: &[u8; 16],
+    s: Sets,
+) -> u8
+    requires { ⌜ Readable g (now binomials) (now table) × ReadyRead g (now table) (now first) (now order) s ⌝ }
+    ensures { λ r. ⌜ r ≡ label (tableOf g (now (table .entry))) (pointIn (tableOf g (now (table .entry))) (g .previous) (stateOf (now (first .entry)) [] (now (order .entry)) [] s) (s .turn)) ⌝ }
+{
+    let previous = g.previous;
+    let mut y = *first;
+    advance(&mut y, &previous, order, s.u, s.turn);
+    let at = g.position(binomials, &y);
+    table[at]
+}
+
+// One place: the label of the point that has just come in is read, and the move is made.
+fn visit(
+    g: Grid,
+    binomials: &[u16; 4830],
+    table: &[u8],
+    first: &mut [u16; 16],
+    coefficients: &mut [u16; 16],
+    order: &mut [u8; 16],
+    labels: &mut [u8; 16],
+    s: Sets,
+) -> Sets
+    requires { ⌜ Readable g (now binomials) (now table) × SixteenEach (now order) (now labels) ⌝ }
+    requires { ⌜ (s .rule < 6 → ReadyRead g (now table) (now first) (now order) s) ⌝ }
+    requires { ⌜ Ready (g .previous) (g .next) (read (tableOf g (now table)) (g .previous) (stateOf (now first) (now coefficients) (now order) (now labels) s)) ⌝ }
+    ensures { λ r. ⌜ (stateOf (now (first .exit)) (now (coefficients .exit)) (now (order .exit)) (now (labels .exit)) r
+        ≡ stepOf (g .previous) (g .next) (read (tableOf g (now (table .entry))) (g .previous) (stateOf (now (first .entry)) (now (coefficients .entry)) (now (order .entry)) (now (labels .entry)) s)))
+        × SixteenEach (now (order .exit)) (now (labels .exit)) ⌝ }
+{
+    let previous = g.previous;
+    let next = g.next;
+    if 6 <= s.rule {
+        return step(&previous, &next, first, coefficients, order, labels, s);
+    }
+    let i = s.turn;
+    labels[i] = label_in(g, binomials, table, first, order, s);
+    step(&previous, &next, first, coefficients, order, labels, s)
+}
+
+// {v}, before the label of its one point is read.
+fn begin(first: &[u16; 16], m: usize) -> Sets
+    requires { ⌜ m ≤ 16 ⌝ }
+    ensures { λ r. ⌜ (r .rule ≡ 1) × (r .end ≡ 0) × (r .count ≡ 0) × (r .t ≡ 0) × (r .turn ≡ 0) × ((k : ℕ) → k < 16 → bit (r .u) k ≡ (ltb k m && eqb (at (now (first .entry)) k) 0)) ⌝ }
+{
+    let u = zeros(first, m);
+    Sets {
+        rule: 1,
+        end: 0,
+        count: 0,
+        t: 0,
+        u,
+        turn: 0,
+    }
+}
+
+// From {v} to the path's end, or until the budget is spent: the number of places left counts down.
+pub fn walk(
+    g: Grid,
+    binomials: &[u16; 4830],
+    table: &[u8],
+    first: &mut [u16; 16],
+    order: &mut [u8; 16],
+    budget: u64,
+) -> Finish
+    requires { ⌜ Readable g (now binomials) (now table) × Accepted (problemIn g (now first) (now table)) × (length (now first) ≡ 16) × (length (now order) ≡ 16) ⌝ }
+    ensures { λ r. ⌜ Finished (problemIn g (now (first .entry)) (now (table .entry))) (g .previous) budget r (now (first .exit)) (now (order .exit)) ⌝ }
+{
+    let mut coefficients = [0u16; 16];
+    let mut labels = [0u8; 16];
+    let mut s = begin(first, g.indices);
+    let mut left = budget;
+    while 0 < left {
+        let next = visit(
+            g,
+            binomials,
+            table,
+            first,
+            &mut coefficients,
+            order,
+            &mut labels,
+            s,
+        );
+        left -= 1;
+        if next.rule == PLACE_END {
+            return Finish {
+                places: budget - left,
+                sets: next,
+            };
+        }
+        if next.rule == FACET_END {
+            return Finish {
+                places: budget - left,
+                sets: next,
+            };
+        }
+        s = next;
+    }
+    Finish {
+        places: budget,
+        sets: s,
+    }
+}
