@@ -1,0 +1,13 @@
+pub mod Weights
+pub mod PointAfter
+pub mod FirstLargest
+pub mod Players
+pub mod Losses
+pub mod Replaced
+pub mod Table
+pub mod Player
+pub mod PointLabel
+pub mod AllLabels
+pub mod Outcomes
+pub mod Games
+pub mod Worked

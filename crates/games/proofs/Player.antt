@@ -1,0 +1,53 @@
+-- What is written of a player at a point, out of the losses of the player's strategies. Assumes nothing.
+use mathlib.Core.Bool.{true}
+use mathlib.Core.List.{List, map}
+use mathlib.Core.Path.{_≡_, sym, ap, _∙_}
+use Prim.Native.Nat.{ℕ, _+_, _-_, _*_, _≤_, _<_}
+use lib.ListN.{length, take, drop, replicate, length-take, take-append-drop}
+use lib.Seq.{paste}
+use native.Mathlib.Omega.{arith}
+use Rattle.grid.proofs.Accepted.{accepted}
+use Rattle.grid.proofs.Round.{block-fits}
+use Rattle.grid.specs.Grid.{Grid, Point, numBlocks, division, size, firstIndex, indicesOf}
+use Rattle.games.proofs.Losses.{expected-fits, replaced-fit}
+use Rattle.games.proofs.Players.{lent-mix, length-mix, point-length}
+use Rattle.games.proofs.Replaced.{block-expected, block-replaced}
+use Rattle.games.proofs.Table.{part-low}
+use Rattle.games.proofs.Weights.{dot-front, length-weighed}
+use Rattle.games.specs.Game.{dot, mix, opponents, lossesOf, playerLoss, replacedLoss}
+use Rattle.games.specs.Known.{Drawn, IsTable}
+use Rattle.games.specs.Weights.{weights, fit, strategyLosses}
+
+module _ (g : Grid) (firsts losses : List ℕ) (y : Point) (d : Drawn g firsts y) (t : IsTable g losses) (j : ℕ) (h : j < numBlocks g) (values : List ℕ)
+    (stand : take (size g j) values ≡ strategyLosses g y j (lossesOf g losses j)) (first s : ℕ) (e : first ≡ firstIndex g j) (f : s ≡ size g j) where
+  abbrev lent : List ℕ
+  lent = take (first + s - first) (drop first y)
+
+  lent-is : lent ≡ mix g y j
+  lent-is = lent-mix (g .sizes) y j first s e f (sym (point-length g (accepted g (d .laid .asked)) y (d .isPoint)))
+
+  lent-length : length lent ≡ size g j
+  lent-length = ap length lent-is ∙ length-mix g y j
+
+  room : size g j ≤ length values
+  room = omega (arith, length-take (size g j) values, ap length stand, length-weighed (size g j) (weights (map (mix g y) (opponents g j))) (lossesOf g losses j))
+
+  lent-dot : dot lent values ≡ dot (mix g y j) (strategyLosses g y j (lossesOf g losses j))
+  lent-dot =
+      rw (lent-is, ← stand)
+      (ap (λ (v : List ℕ). dot (mix g y j) v) (sym (take-append-drop (size g j) values)) ∙ dot-front (mix g y j) (take (size g j) values) (drop (size g j) values) (omega (arith, length-mix g y j, length-take (size g j) values, room)))
+
+  pub player-ready : (length lent ≤ length values) × (dot lent values < 4294967296) × (fit (map (λ v. division g j * v) (take (length lent) values)) ≡ true) × (first + length lent ≤ 16)
+  player-ready =
+      let a = accepted g (d .laid .asked) in (
+        omega (arith, lent-length, room),
+        rw lent-dot (expected-fits g j a y (d .isPoint) h (lossesOf g losses j) (part-low g losses t j h)),
+        rw (lent-length, stand) (replaced-fit g j a y (d .isPoint) h (lossesOf g losses j) (part-low g losses t j h)),
+        omega (arith, lent-length, block-fits (g .sizes) j, a .fewIndices),
+      )
+
+  pub player-expected : (old : List ℕ) → paste old first (replicate (length lent) (dot lent values)) (length lent) ≡ paste old (firstIndex g j) (map (playerLoss g losses y) (indicesOf g j)) (size g j)
+  player-expected old = rw (lent-dot, lent-length, e, block-expected g losses y j)
+
+  pub player-replaced : (old : List ℕ) → paste old first (map (λ v. division g j * v) (take (length lent) values)) (length lent) ≡ paste old (firstIndex g j) (map (replacedLoss g losses y) (indicesOf g j)) (size g j)
+  player-replaced old = rw (lent-length, stand, e, block-replaced g losses y j)

@@ -1,0 +1,65 @@
+-- `profile_count` meets its contract: the product of the sizes passed. Assumes nothing.
+use mathlib.Core.Path.{_≡_, sym, ap}
+use Prim.Native.Nat.{_≤_, _-_}
+use native.Mathlib.Omega.{arith}
+use borrow.Author.Needs.{needs}
+use lib.ListN.{length, drop}
+use lib.Seq.{drop-length}
+use Rattle.games.proofs.Table.{product-turn, part-few}
+use Rattle.games.specs.Game.{product}
+use Rattle.games.proofs.profile_count.Statement.{statement}
+use Rattle.games.proofs.profile_count.Tie as tie
+
+abbrev Inv-loop : tie.InvT-loop
+Inv-loop sizes count₀ j₀ count j = (count ≡ product (drop j sizes)) × (j ≤ length sizes)
+
+abbrev μ-loop : tie.MeasureT-loop
+μ-loop sizes count₀ j₀ count j = j
+
+loop-holds : tie.Need-loop-holds Inv-loop μ-loop
+loop-holds c = (sym (ap product (drop-length (c .before .args .sizes .now))), omega arith)
+
+sub-j : tie.Need-sub-j Inv-loop μ-loop
+sub-j c = omega arith
+
+shared-slice-read-count-of : tie.Need-shared-slice-read-count-of Inv-loop μ-loop
+shared-slice-read-count-of c = omega arith
+
+count-of-requires : tie.Need-count-of-requires Inv-loop μ-loop
+count-of-requires c κs = search needs
+
+mul-count : tie.Need-mul-count Inv-loop μ-loop
+mul-count c =
+    let s = c .before .before .before .before .before in
+    let l = c .before .before .before .loop in
+    record { fits = rw (c .count-of .ensures, l .inv .0, product-turn (s .args .sizes .now) (l .j) (omega arith) (omega arith)) (omega (arith, part-few (s .args .sizes .now) (l .j - 1) (s .pre))) }
+
+loop-less : tie.Need-loop-less Inv-loop μ-loop
+loop-less c = omega arith
+
+loop-again : tie.Need-loop-again Inv-loop μ-loop
+loop-again c =
+    let s = c .before .before .before .before .before in
+    let l = c .before .before .before .loop in
+    (rw (c .count-of .ensures, l .inv .0) (product-turn (s .args .sizes .now) (l .j) (omega arith) (omega arith)), omega arith)
+
+returns : tie.Need-returns Inv-loop μ-loop
+returns c =
+    let l = c .before .loop in
+    let e : l .j ≡ 0 = omega arith in
+    rw e at (l .inv .0)
+
+pub profile-count-spec : {M : Type 1} → statement M
+profile-count-spec =
+    tie.close
+    (tie.spec
+    Inv-loop
+    μ-loop
+    loop-holds
+    sub-j
+    shared-slice-read-count-of
+    count-of-requires
+    mul-count
+    loop-less
+    loop-again
+    returns)

@@ -1,0 +1,6 @@
+pub mod Game
+pub mod Tables
+pub mod Known
+pub mod Labelling
+pub mod Weights
+pub mod PointAfter
