@@ -1,0 +1,38 @@
+-- `slip::grid_of` meets its contract. There is room for the divisions of any N that a byte gives. Assumes nothing.
+use mathlib.Core.Path.{sym, _∙_}
+use Prim.Native.Nat.{ℕ}
+use borrow.Author.Needs.{needs}
+use lib.ListN.{replicate}
+use lib.Seq.{length-take-le}
+use native.Mathlib.Omega.{arith}
+use Rattle.slip.proofs.grid_of.Statement.{statement}
+use Rattle.slip.proofs.grid_of.Tie as tie
+
+shared-slice-read-wide : tie.Need-shared-slice-read-wide
+shared-slice-read-wide c = search needs
+
+wide-requires : tie.Need-wide-requires
+wide-requires c κs = search needs
+
+array-borrow-prefix-divisions : tie.Need-array-borrow-prefix-divisions
+array-borrow-prefix-divisions c = search needs
+
+slice-aggregate-grid-in : tie.Need-slice-aggregate-grid-in
+slice-aggregate-grid-in c = sym (length-take-le {A = ℕ} (c .before .wide .result) (replicate 255 0) (omega arith))
+
+grid-in-requires : tie.Need-grid-in-requires
+grid-in-requires c κs = (c .before .before .before .before .pre, length-take-le {A = ℕ} (c .before .wide .result) (replicate 255 0) (omega arith) ∙ c .before .wide .ensures .0)
+
+returns : tie.Need-returns
+returns c = search needs
+
+pub grid-of-spec : {M : Type 1} → statement M
+grid-of-spec =
+    tie.close
+    (tie.spec
+    shared-slice-read-wide
+    wide-requires
+    array-borrow-prefix-divisions
+    slice-aggregate-grid-in
+    grid-in-requires
+    returns)
