@@ -1,0 +1,4 @@
+pub mod Decimals
+pub mod Parts
+pub mod Rows
+pub mod Samples

@@ -1,0 +1,33 @@
+-- Sheets written out byte by byte. Assumes nothing.
+use mathlib.Core.Path.{_≡_, refl}
+use mathlib.Core.List.{[], _∷_, flatMap}
+use Rattle.sheet.specs.Decimal.{digits, decimal}
+use Rattle.sheet.specs.Sheet.{spaced, vertexLine, centre, centreLine, endSheet, refusedSheet, spentSheet}
+use Rattle.sheet.specs.declared.Kind.the-variants.{Facet}
+
+-- "For the bytes 4 2 2 2 1 0 1 0 2 2 2 4 it prints": each line of the sheet on a line of its own, the last on two
+pub printed
+    : endSheet 5 68 Facet 1 ((0 ∷ 1 ∷ 1 ∷ 0 ∷ []) ∷ []) (1 ∷ 1 ∷ 1 ∷ 1 ∷ [])
+    ≡ 112 ∷ 108 ∷ 97 ∷ 99 ∷ 101 ∷ 115 ∷ 32 ∷ 53 ∷ 10 ∷
+    98 ∷ 111 ∷ 117 ∷ 110 ∷ 100 ∷ 32 ∷ 54 ∷ 56 ∷ 10 ∷
+    101 ∷ 110 ∷ 100 ∷ 32 ∷ 102 ∷ 97 ∷ 99 ∷ 101 ∷ 116 ∷ 10 ∷
+    98 ∷ 108 ∷ 111 ∷ 99 ∷ 107 ∷ 32 ∷ 49 ∷ 10 ∷
+    118 ∷ 101 ∷ 114 ∷ 116 ∷ 105 ∷ 99 ∷ 101 ∷ 115 ∷ 32 ∷ 49 ∷ 10 ∷
+    48 ∷ 32 ∷ 49 ∷ 32 ∷ 49 ∷ 32 ∷ 48 ∷ 10 ∷
+    99 ∷ 101 ∷ 110 ∷ 116 ∷ 114 ∷ 101 ∷
+    32 ∷ 48 ∷ 32 ∷ 49 ∷ 48 ∷ 48 ∷ 48 ∷ 48 ∷ 32 ∷ 49 ∷ 48 ∷ 48 ∷ 48 ∷ 48 ∷ 32 ∷ 48 ∷ 10 ∷ []
+unfolding digits decimal flatMap spaced vertexLine centre centreLine endSheet
+printed = refl
+
+-- "refused 4"
+pub refusal : refusedSheet 4 ≡ 114 ∷ 101 ∷ 102 ∷ 117 ∷ 115 ∷ 101 ∷ 100 ∷ 32 ∷ 52 ∷ 10 ∷ []
+unfolding digits decimal spaced refusedSheet
+refusal = refl
+
+-- "9 with 2 places"
+pub spent-after-two
+    : spentSheet 2
+    ≡ 114 ∷ 101 ∷ 102 ∷ 117 ∷ 115 ∷ 101 ∷ 100 ∷ 32 ∷ 57 ∷ 10 ∷
+    112 ∷ 108 ∷ 97 ∷ 99 ∷ 101 ∷ 115 ∷ 32 ∷ 50 ∷ 10 ∷ []
+unfolding digits decimal spaced refusedSheet spentSheet
+spent-after-two = refl

@@ -1,0 +1,103 @@
+-- `centre::centre_line` meets its contract: after h turns the centre's first h numbers are written, in at most 21 bytes each. Assumes nothing.
+use mathlib.Core.Path.{_≡_, refl, _∙_}
+use mathlib.Core.List.{flatMap}
+use Prim.Native.Nat.{_+_, _-_, _*_, _≤_}
+use native.Mathlib.Omega.{arith}
+use native.Mathlib.Numerals.{add-one}
+use lib.ListN.{length}
+use borrow.Author.Needs.{needs}
+use Rattle.sheet.specs.Part.{Part}
+use Rattle.sheet.specs.Answer.{rows}
+use Rattle.sheet.specs.Lists.{below}
+use Rattle.sheet.specs.Sheet.{centreAt, centreLine}
+use Rattle.sheet.specs.Sheet.{spaced as spacedOf}
+use Rattle.sheet.proofs.Parts.{part-empty, part-join}
+use Rattle.sheet.proofs.Rows.{flatMap-more, length-rows}
+use Rattle.sheet.proofs.centre.centre_line.Statement.{statement}
+use Rattle.sheet.proofs.centre.centre_line.Tie as tie
+
+abbrev Inv-loop : tie.InvT-loop
+Inv-loop out₀ at count vertices divisions m next₀ h₀ out next h =
+    Part (flatMap (λ h. spacedOf (centreAt (rows count m vertices) divisions h)) (below h)) out₀ out next₀ next
+    × (h ≤ m)
+    × (next ≤ next₀ + 21 * h)
+
+abbrev μ-loop : tie.MeasureT-loop
+μ-loop out₀ at count vertices divisions m next₀ h₀ out next h = m - h
+
+slice-aggregate-text : tie.Need-slice-aggregate-text Inv-loop μ-loop
+slice-aggregate-text c = refl
+
+text-requires : tie.Need-text-requires Inv-loop μ-loop
+text-requires c κs = search needs
+
+loop-holds : tie.Need-loop-holds Inv-loop μ-loop
+unfolding flatMap
+loop-holds c = (part-empty _ _, omega arith, omega arith)
+
+total-requires : tie.Need-total-requires Inv-loop μ-loop
+total-requires c κs = omega arith
+
+mul-division : tie.Need-mul-division Inv-loop μ-loop
+mul-division c = omega arith
+
+shared-slice-read-division : tie.Need-shared-slice-read-division Inv-loop μ-loop
+shared-slice-read-division c = omega arith
+
+centre-requires : tie.Need-centre-requires Inv-loop μ-loop
+centre-requires c κs =
+    let start = c .before .before .before .before .before .before .before .before .before .before in
+    let l = c .before .before .before .before .loop in
+    (omega arith, omega arith, omega arith, start .pre .1 .positive (l .h) (omega arith))
+
+spaced-requires : tie.Need-spaced-requires Inv-loop μ-loop
+spaced-requires c κs = omega (arith, c .before .before .before .before .before .before .text .ensures .behind)
+
+add-h : tie.Need-add-h Inv-loop μ-loop
+add-h c = omega arith
+
+loop-less : tie.Need-loop-less Inv-loop μ-loop
+loop-less c = omega arith
+
+loop-again : tie.Need-loop-again Inv-loop μ-loop
+loop-again c =
+    let a = c .before .before .before .before .before .before .before .before .before .before .before .before .args in
+    let l = c .before .before .before .before .before .before .loop in
+    let m = length (a .divisions .now) in
+    let vertices = rows (a .count) m (a .vertices .now) in
+    let coordinates = c .before .before .before .before .total .ensures .0 in
+    let number : c .before .centre .result ≡ centreAt vertices (a .divisions .now) (l .h) =
+    c .before .centre .ensures ∙ rw (coordinates, length-rows (a .count) m (a .vertices .now))
+    in
+    (rw (add-one (l .h), flatMap-more) (part-join (l .inv .0) (rw number at (c .spaced .ensures .0))), omega arith, omega arith)
+
+byte-requires : tie.Need-byte-requires Inv-loop μ-loop
+byte-requires c κs = omega (arith, c .before .before .before .text .ensures .behind)
+
+returns : tie.Need-returns Inv-loop μ-loop
+unfolding centreLine
+returns c =
+    let l = c .before .before .before .loop in
+    let first = c .before .before .before .before .text .ensures in
+    let all : l .h ≡ length (c .before .before .before .before .before .before .before .before .before .args .divisions .now) = omega arith in
+    (part-join (part-join first (rw all at (l .inv .0))) (c .byte .ensures), omega (arith, first .behind, c .byte .ensures .behind))
+
+pub centre-line-spec : {M : Type 1} → statement M
+centre-line-spec =
+    tie.close
+    (tie.spec
+    Inv-loop
+    μ-loop
+    slice-aggregate-text
+    text-requires
+    loop-holds
+    total-requires
+    mul-division
+    shared-slice-read-division
+    centre-requires
+    spaced-requires
+    add-h
+    loop-less
+    loop-again
+    byte-requires
+    returns)

@@ -1,0 +1,86 @@
+-- `centre::total` meets its contract: after k turns the sum is that of the first k vertices. Assumes nothing.
+use mathlib.Core.Path.{_≡_, refl}
+use Prim.Native.Nat.{_+_, _-_, _*_, _≤_, _<_}
+use native.Mathlib.Omega.{arith}
+use lib.ListN.{length}
+use borrow.Author.Needs.{needs}
+use Rattle.sheet.specs.Answer.{rows}
+use Rattle.sheet.specs.Sheet.{total as totalOf}
+use Rattle.sheet.proofs.Rows.{room, total-more}
+use Rattle.sheet.proofs.centre.total.Statement.{statement}
+use Rattle.sheet.proofs.centre.total.Tie as tie
+
+abbrev Inv-loop : tie.InvT-loop
+Inv-loop count vertices m h sum₀ k₀ sum k = (sum ≡ totalOf (rows k m vertices) h) × (sum ≤ 65535 * k) × (k ≤ count)
+
+abbrev μ-loop : tie.MeasureT-loop
+μ-loop count vertices m h sum₀ k₀ sum k = count - k
+
+-- the coordinate lies in the buffer
+inside : (c : tie.In-loop Inv-loop μ-loop)
+    → c .before .loop .k * c .before .before .before .args .m + c .before .before .before .args .h
+    < length (c .before .before .before .args .vertices .now)
+inside c =
+    let a = c .before .before .before .args in
+    let l = c .before .loop in
+    omega (arith, room (l .k) (a .count) (a .m) (length (a .vertices .now)) (omega arith) (omega arith))
+
+loop-holds : tie.Need-loop-holds Inv-loop μ-loop
+loop-holds c = (refl, omega arith, omega arith)
+
+mul-wide : tie.Need-mul-wide Inv-loop μ-loop
+mul-wide c = omega (arith, inside c)
+
+add-wide : tie.Need-add-wide Inv-loop μ-loop
+add-wide c = omega (arith, inside c)
+
+mul-wide-2 : tie.Need-mul-wide-2 Inv-loop μ-loop
+mul-wide-2 c = omega (arith, inside c)
+
+shared-slice-read-wide : tie.Need-shared-slice-read-wide Inv-loop μ-loop
+shared-slice-read-wide c = inside (c .before)
+
+wide-requires : tie.Need-wide-requires Inv-loop μ-loop
+wide-requires c κs = search needs
+
+add-sum : tie.Need-add-sum Inv-loop μ-loop
+add-sum c = omega arith
+
+add-k : tie.Need-add-k Inv-loop μ-loop
+add-k c = omega arith
+
+loop-less : tie.Need-loop-less Inv-loop μ-loop
+loop-less c = omega arith
+
+loop-again : tie.Need-loop-again Inv-loop μ-loop
+loop-again c =
+    let a = c .before .before .before .before .before .args in
+    let l = c .before .before .before .loop in (
+      rw (total-more (l .k) (a .m) (a .h) (a .vertices .now) (omega arith), ← l .inv .0, c .wide .ensures .0),
+      omega arith,
+      omega arith,
+    )
+
+returns : tie.Need-returns Inv-loop μ-loop
+returns c =
+    let l = c .before .loop in
+    let all : l .k ≡ c .before .before .before .args .count = omega arith in
+    (rw all at (l .inv .0), omega arith)
+
+pub total-spec : {M : Type 1} → statement M
+total-spec =
+    tie.close
+    (tie.spec
+    Inv-loop
+    μ-loop
+    loop-holds
+    mul-wide
+    add-wide
+    mul-wide-2
+    shared-slice-read-wide
+    wide-requires
+    add-sum
+    add-k
+    loop-less
+    loop-again
+    returns)

@@ -1,0 +1,53 @@
+-- `line::vertex_line` meets its contract: the first number, the numbers behind it and the newline are one part. Assumes nothing.
+use native.Mathlib.Omega.{arith}
+use lib.ListN.{length-take, length-drop}
+use borrow.Author.Needs.{needs}
+use Rattle.sheet.proofs.Parts.{part-join}
+use Rattle.sheet.proofs.Rows.{vertex-parts}
+use Rattle.sheet.proofs.line.vertex_line.Statement.{statement}
+use Rattle.sheet.proofs.line.vertex_line.Tie as tie
+
+shared-slice-read-wide : tie.Need-shared-slice-read-wide
+shared-slice-read-wide c = search needs
+
+wide-requires : tie.Need-wide-requires
+wide-requires c κs = search needs
+
+decimal-requires : tie.Need-decimal-requires
+decimal-requires c κs = search needs
+
+sub-all-spaced : tie.Need-sub-all-spaced
+sub-all-spaced c = search needs
+
+part-all-spaced-start : tie.Need-part-all-spaced-start
+part-all-spaced-start c = search needs
+
+part-all-spaced-end : tie.Need-part-all-spaced-end
+part-all-spaced-end c = search needs
+
+all-spaced-requires : tie.Need-all-spaced-requires
+all-spaced-requires c κs = (omega arith, simp (length-take, length-drop) (omega arith))
+
+byte-requires : tie.Need-byte-requires
+byte-requires c κs = search needs
+
+returns : tie.Need-returns
+returns c =
+    let a = c .before .before .before .before .before .before .before .before .before .before .args in
+    let first = c .before .before .before .before .before in
+    let written = part-join (part-join (first .decimal .ensures .0) (c .before .before .all-spaced .ensures .0)) (c .byte .ensures) in
+    (rw (vertex-parts (a .row .now) (omega arith), ← first .before .wide .ensures .0) written, omega (arith, c .byte .ensures .behind))
+
+pub vertex-line-spec : {M : Type 1} → statement M
+vertex-line-spec =
+    tie.close
+    (tie.spec
+    shared-slice-read-wide
+    wide-requires
+    decimal-requires
+    sub-all-spaced
+    part-all-spaced-start
+    part-all-spaced-end
+    all-spaced-requires
+    byte-requires
+    returns)

@@ -1,0 +1,22 @@
+-- `number::spaced` meets its contract: the blank and the number are one part. Assumes nothing.
+use native.Mathlib.Omega.{arith}
+use borrow.Author.Needs.{needs}
+use Rattle.sheet.specs.Sheet.{spaced as spacedOf}
+use Rattle.sheet.proofs.Parts.{part-join}
+use Rattle.sheet.proofs.number.spaced.Statement.{statement}
+use Rattle.sheet.proofs.number.spaced.Tie as tie
+
+byte-requires : tie.Need-byte-requires
+byte-requires c κs = search needs
+
+decimal-requires : tie.Need-decimal-requires
+decimal-requires c κs = omega (arith, c .before .byte .ensures .behind)
+
+returns : tie.Need-returns
+unfolding spacedOf
+returns c =
+    let first = c .before .before .byte .ensures in
+    (part-join first (c .decimal .ensures .0), omega (arith, first .behind))
+
+pub spaced-spec : {M : Type 1} → statement M
+spaced-spec = tie.close (tie.spec byte-requires decimal-requires returns)

@@ -1,0 +1,78 @@
+-- The kiosk's sheet, line by line, as bytes. Assumes nothing.
+use mathlib.Core.List.{List, [], _∷_, _++_, map, flatMap}
+use Prim.Native.Nat.{ℕ, _*_, _/_}
+use lib.ListN.{length, getD}
+use Rattle.sheet.specs.Decimal.{decimal}
+use Rattle.combinatorics.specs.Lists.{sum}
+use Rattle.sheet.specs.Lists.{below}
+use Rattle.sheet.specs.Words.{
+  placesWord,
+  boundWord,
+  endWord,
+  placeWord,
+  facetWord,
+  blockWord,
+  verticesWord,
+  centreWord,
+  refusedWord,
+}
+use Rattle.sheet.specs.declared.Kind.{Kind}
+use Rattle.sheet.specs.declared.Kind.the-variants.{Place, Facet}
+
+-- a number behind a blank
+unfoldable pub spaced : ℕ → List ℕ
+spaced n = 32 ∷ decimal n
+
+-- the end of each line
+abbrev pub newline : List ℕ
+newline = 10 ∷ []
+
+-- a word and a number, as in "places 5"
+abbrev pub line : List ℕ → ℕ → List ℕ
+line word n = word ++ spaced n ++ newline
+
+-- "end place" or "end facet"
+abbrev pub endLine : Kind → List ℕ
+endLine Place = endWord ++ (32 ∷ placeWord) ++ newline
+endLine Facet = endWord ++ (32 ∷ facetWord) ++ newline
+
+-- "A line per vertex follows the vertex count": the vertex's numbers with a blank between, as in "0 1 1 0"
+unfoldable pub vertexLine : List ℕ → List ℕ
+vertexLine [] = newline
+vertexLine (x ∷ xs) = decimal x ++ flatMap spaced xs ++ newline
+
+-- "10,000 times the coordinate sum over (vertices times d_j), fractions cut off"
+unfoldable pub centre : ℕ → ℕ → ℕ → ℕ
+centre total vertices division = (10000 * total) / (vertices * division)
+
+-- the coordinate sum at the index h
+abbrev pub total : List (List ℕ) → ℕ → ℕ
+total vertices h = sum (map (λ y. getD y h 0) vertices)
+
+-- "The centre is the mean of the vertices in ten-thousandths": its number at the index h, where `divisions` has the division of each index's block
+abbrev pub centreAt : List (List ℕ) → List ℕ → ℕ → ℕ
+centreAt vertices divisions h = centre (total vertices h) (length vertices) (getD divisions h 0)
+
+-- the centre at every index, as in "centre 0 10000 10000 0"
+unfoldable pub centreLine : List (List ℕ) → List ℕ → List ℕ
+centreLine vertices divisions =
+    centreWord ++ flatMap (λ h. spaced (centreAt vertices divisions h)) (below (length divisions)) ++ newline
+
+-- "it prints": the sheet of an end
+unfoldable pub endSheet : ℕ → ℕ → Kind → ℕ → List (List ℕ) → List ℕ → List ℕ
+endSheet places bound kind block vertices divisions =
+    line placesWord places
+    ++ line boundWord bound
+    ++ endLine kind
+    ++ line blockWord block
+    ++ line verticesWord (length vertices)
+    ++ flatMap vertexLine vertices
+    ++ centreLine vertices divisions
+
+-- "A refusal prints one line, as in "refused 4""
+unfoldable pub refusedSheet : ℕ → List ℕ
+refusedSheet number = line refusedWord number
+
+-- "9 adds a "places" line"
+unfoldable pub spentSheet : ℕ → List ℕ
+spentSheet places = refusedSheet 9 ++ line placesWord places

@@ -1,0 +1,58 @@
+// The centre of the vertices: at each index their mean in ten-thousandths. Only this crate calls these functions.
+use crate::number::byte;
+use crate::number::spaced;
+use crate::number::text;
+use crate::number::wide;
+ghost use mathlib.Core.Path.{_≡_};
+ghost use Prim.Native.Nat.{_*_, _≤_, _<_};
+ghost use lib.ListN.{length};
+ghost use Rattle.sheet.specs.Answer.{rows, Printable};
+ghost use Rattle.sheet.specs.Part.{Part};
+ghost use Rattle.sheet.specs.Sheet.{centreLine};
+ghost use Rattle.sheet.specs.Sheet.{centre as centreOf, total as totalOf};
+
+// The centre's number for a coordinate sum.
+fn centre(total: u64, count: usize, division: u16) -> u64
+    requires { ⌜ (total ≤ 1048560) × (1 ≤ count) × (count ≤ 16) × (1 ≤ division) ⌝ }
+    ensures { λ r. ⌜ r ≡ centreOf total count division ⌝ }
+{
+    10000 * total / (count as u64 * division as u64)
+}
+
+// The coordinate sum of the vertices at the index h.
+fn total(count: usize, vertices: &[u16], m: usize, h: usize) -> u64
+    requires { ⌜ (count ≤ 16) × (m ≤ 16) × (h < m) × (count * m ≤ length (now vertices)) ⌝ }
+    ensures { λ r. ⌜ (r ≡ totalOf (rows count m (now (vertices .entry))) h) × (r ≤ 65535 * count) ⌝ }
+{
+    let mut sum: u64 = 0;
+    let mut k: usize = 0;
+    while k < count {
+        sum += wide(vertices[k * m + h]);
+        k += 1;
+    }
+    sum
+}
+
+// The line of the centre.
+pub fn centre_line(
+    out: &mut [u8; 4096],
+    at: usize,
+    count: usize,
+    vertices: &[u16],
+    divisions: &[u16],
+) -> usize
+    requires { ⌜ (at ≤ 3500) × Printable count (now vertices) (now divisions) ⌝ }
+    ensures { λ r. ⌜ (let simplex = rows count (length (now (divisions .entry))) (now (vertices .entry)) in
+        Part (centreLine simplex (now (divisions .entry))) (now (out .entry)) (now (out .exit)) at r) × (r ≤ 4096) ⌝ }
+{
+    let m = divisions.len();
+    let mut next = text(out, at, b"centre");
+    let mut h: usize = 0;
+    while h < m {
+        let sum = total(count, vertices, m, h);
+        let division = divisions[h];
+        next = spaced(out, next, centre(sum, count, division));
+        h += 1;
+    }
+    byte(out, next, b'\n')
+}

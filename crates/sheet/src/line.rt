@@ -1,0 +1,70 @@
+// The lines of the sheet but the centre's. Only this crate calls these functions: each writes into the buffer from a position on, for which there is
+// room, and returns the position behind what it wrote.
+use crate::number::byte;
+use crate::number::decimal;
+use crate::number::spaced;
+use crate::number::text;
+use crate::number::wide;
+ghost use mathlib.Core.Path.{_≡_};
+ghost use mathlib.Core.List.{flatMap};
+ghost use Prim.Native.Nat.{_+_, _*_, _≤_, _<_};
+ghost use lib.ListN.{length};
+ghost use Rattle.sheet.specs.Answer.{rows};
+ghost use Rattle.sheet.specs.Part.{Part};
+ghost use Rattle.sheet.specs.Sheet.{line, vertexLine};
+ghost use Rattle.sheet.specs.Sheet.{spaced as spacedOf};
+
+// A line of a word and a number.
+pub fn labelled(out: &mut [u8; 4096], at: usize, word: &[u8], n: u64) -> usize
+    requires { ⌜ (at ≤ 3500) × (length (now word) ≤ 16) ⌝ }
+    ensures { λ r. ⌜ Part (line (now (word .entry)) n) (now (out .entry)) (now (out .exit)) at r × (r ≤ at + 38) × (length (now (out .entry)) ≡ 4096) ⌝ }
+{
+    let mut next = text(out, at, word);
+    next = spaced(out, next, n);
+    byte(out, next, b'\n')
+}
+
+// The numbers of `row`, each behind a blank.
+fn all_spaced(out: &mut [u8; 4096], at: usize, row: &[u16]) -> usize
+    requires { ⌜ (at ≤ 3600) × (length (now row) ≤ 16) ⌝ }
+    ensures { λ r. ⌜ Part (flatMap spacedOf (now (row .entry))) (now (out .entry)) (now (out .exit)) at r × (r ≤ at + 96) ⌝ }
+{
+    let mut next = at;
+    let mut i: usize = 0;
+    while i < row.len() {
+        next = spaced(out, next, wide(row[i]));
+        i += 1;
+    }
+    next
+}
+
+// The line of one vertex.
+fn vertex_line(out: &mut [u8; 4096], at: usize, row: &[u16]) -> usize
+    requires { ⌜ (at ≤ 3500) × (1 ≤ length (now row)) × (length (now row) ≤ 16) ⌝ }
+    ensures { λ r. ⌜ Part (vertexLine (now (row .entry))) (now (out .entry)) (now (out .exit)) at r × (r ≤ at + 117) ⌝ }
+{
+    let mut next = decimal(out, at, wide(row[0]));
+    next = all_spaced(out, next, &row[1..]);
+    byte(out, next, b'\n')
+}
+
+// A line for each of the `count` vertices.
+pub fn vertex_lines(
+    out: &mut [u8; 4096],
+    at: usize,
+    count: usize,
+    vertices: &[u16],
+    m: usize,
+) -> usize
+    requires { ⌜ (at ≤ 1500) × (count ≤ 16) × (1 ≤ m) × (m ≤ 16) × (count * m ≤ length (now vertices)) ⌝ }
+    ensures { λ r. ⌜ Part (flatMap vertexLine (rows count m (now (vertices .entry)))) (now (out .entry)) (now (out .exit)) at r × (r ≤ at + 117 * count) ⌝ }
+{
+    let mut next = at;
+    let mut k: usize = 0;
+    while k < count {
+        let start = k * m;
+        next = vertex_line(out, next, &vertices[start..start + m]);
+        k += 1;
+    }
+    next
+}

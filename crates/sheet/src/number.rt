@@ -1,0 +1,63 @@
+// Bytes and decimal numbers. Only this crate calls these functions: each writes into the buffer from a position on, for which there is room, and
+// returns the position behind what it wrote.
+ghost use mathlib.Core.Path.{_≡_};
+ghost use mathlib.Core.List.{[], _∷_};
+ghost use Prim.Native.Nat.{_+_, _≤_, _<_};
+ghost use lib.ListN.{length};
+ghost use Rattle.sheet.specs.Decimal.{decimal as decimalOf};
+ghost use Rattle.sheet.specs.Part.{Part};
+ghost use Rattle.sheet.specs.Sheet.{spaced as spacedOf};
+
+// One byte.
+pub fn byte(out: &mut [u8; 4096], at: usize, b: u8) -> usize
+    requires { ⌜ at < 4096 ⌝ }
+    ensures { λ r. ⌜ Part (b ∷ []) (now (out .entry)) (now (out .exit)) at r ⌝ }
+{
+    out[at] = b;
+    at + 1
+}
+
+// The bytes of a word. It takes a slice because lending the array as one tells the caller the array's length.
+pub fn text(out: &mut [u8], at: usize, bytes: &[u8]) -> usize
+    requires { ⌜ at + length (now bytes) ≤ length (now out) ⌝ }
+    ensures { λ r. ⌜ Part (now (bytes .entry)) (now (out .entry)) (now (out .exit)) at r ⌝ }
+{
+    let mut next = at;
+    let mut i: usize = 0;
+    while i < bytes.len() {
+        out[next] = bytes[i];
+        next += 1;
+        i += 1;
+    }
+    next
+}
+
+// The digits of a number. It calls itself for those before the last, so it is at most 20 deep.
+pub fn decimal(out: &mut [u8; 4096], at: usize, n: u64) -> usize
+    requires { ⌜ at ≤ 4050 ⌝ }
+    ensures { λ r. ⌜ Part (decimalOf n) (now (out .entry)) (now (out .exit)) at r × (r ≤ at + 20) ⌝ }
+{
+    let digit = 48 + (n % 10) as u8;
+    if n < 10 {
+        byte(out, at, digit)
+    } else {
+        let next = decimal(out, at, n / 10);
+        byte(out, next, digit)
+    }
+}
+
+// A number behind a blank.
+pub fn spaced(out: &mut [u8; 4096], at: usize, n: u64) -> usize
+    requires { ⌜ at ≤ 4000 ⌝ }
+    ensures { λ r. ⌜ Part (spacedOf n) (now (out .entry)) (now (out .exit)) at r × (r ≤ at + 21) ⌝ }
+{
+    let next = byte(out, at, b' ');
+    decimal(out, next, n)
+}
+
+// A number of 16 bits as one of 64.
+pub fn wide(x: u16) -> u64
+    ensures { λ r. ⌜ (r ≡ x) × (r ≤ 65535) ⌝ }
+{
+    x as u64
+}
