@@ -1,0 +1,5 @@
+pub mod Arrays
+pub mod Vertices
+pub mod Runs
+pub mod Slips
+pub mod LongInputs

@@ -1,0 +1,94 @@
+-- What a run answers, with its vertices in the buffer, prints what the path's answer prints. Assumes nothing.
+use mathlib.Core.Bool.{true}
+use mathlib.Core.List.{List, [], _∷_}
+use mathlib.Core.Logic.{⊎-elim}
+use mathlib.Core.Path.{_≡_, refl, sym, ap, _∙_}
+use Prim.Native.Nat.{ℕ, suc, _*_, _≤_}
+use borrow.Author.Tests.{eq-eqb, ne-eqb}
+use lib.Dec.{eqb}
+use lib.ListN.{length, drop}
+use native.Mathlib.Nat.{mul-le-mul-right}
+use native.Mathlib.Omega.{arith}
+use Rattle.combinatorics.proofs.Basics.{same-or, before-or-not, and-left, and-right, and-both}
+use Rattle.combinatorics.proofs.Fronts.{front-length}
+use Rattle.combinatorics.specs.Front.{front}
+use Rattle.combinatorics.specs.Lists.{all, concatMap}
+use Rattle.finder.proofs.Refusals.{by-grid, by-later, accepted-with-room, answered as run-answered, refused as run-refused}
+use Rattle.finder.specs.Run.{kindOf as kindAnswered, caseOf, numbersOf, refusal, runAnswer, runBuffer}
+use Rattle.finder.specs.declared.answers.Answer.{Answer}
+use Rattle.finder.specs.declared.answers.Answer.the-variants.{Refused, Spent, End}
+use Rattle.grid.specs.Grid.{Grid, Point, dimension, numIndices, isGridPoint}
+use Rattle.grid.specs.Questions.{firstNo, gridQuestions}
+use Rattle.place.proofs.EndPoints.{IsSimplex, end-simplex}
+use Rattle.place.proofs.Theorem.{demand3-holds}
+use Rattle.place.specs.Demand.{Accepted}
+use Rattle.place.specs.Ends.{Kind as KindOfEnd, placeEnd, facetEnd}
+use Rattle.place.specs.Path.{answer, pathLength, ended}
+use Rattle.place.specs.Problem.{Problem}
+use Rattle.place.specs.Places.{Simplex}
+use Rattle.sheet.specs.Sheet.{refusedSheet, spentSheet}
+use Rattle.printer.proofs.Vertices.{rows-of, rows-length}
+use Rattle.printer.specs.Printed.{kindOf, answerSheet}
+use Rattle.printer.specs.Run.{onSheet, room, printed, Fits, runSheet}
+
+kind-same : (k : KindOfEnd) → onSheet (kindAnswered k) ≡ kindOf k
+kind-same placeEnd = refl
+kind-same facetEnd = refl
+
+-- the points of a simplex have m numbers each
+m-numbers : (g : Grid) (s : List Point) → all (isGridPoint g) s ≡ true → all (λ y. eqb (length y) (numIndices g)) s ≡ true
+unfolding isGridPoint
+m-numbers g [] a = refl
+m-numbers g (y ∷ s) a = and-both _ _ (and-left (eqb (length y) (numIndices g)) _ (and-left (isGridPoint g y) _ a)) (m-numbers g s (and-right (isGridPoint g y) (all (isGridPoint g) s) a))
+
+module _ (p : Problem) (budget : ℕ) (old : List ℕ) (large : length old ≡ room) where
+  -- what is to be shown of an answer and its buffer
+  abbrev Prints : Answer → List ℕ → List ℕ → Type 0
+  Prints a buffer sheet = (printed (p .grid) a buffer ≡ sheet) × Fits (p .grid) a buffer
+
+  refused : (buffer : List ℕ) (n : ℕ) → Prints (Refused n) buffer (refusedSheet n)
+  unfolding printed
+  refused buffer n = (refl, record { end = λ places kind block vertices e. absurd (let z : _≡_ {A = ℕ} 0 1 = cc in omega arith) })
+
+  spends : (buffer : List ℕ) (n : ℕ) → Prints (Spent n) buffer (spentSheet n)
+  unfolding printed
+  spends buffer n = (refl, record { end = λ places kind block vertices e. absurd (let z : _≡_ {A = ℕ} 0 1 = cc in omega arith) })
+
+  -- an end with a simplex of the grid
+  ends : (places : ℕ) (kind : KindOfEnd) (block : ℕ) (s : Simplex) → suc (dimension (p .grid)) ≤ 16 → suc (dimension (p .grid)) * numIndices (p .grid) ≤ room → IsSimplex p s
+      → Prints (End places (kindAnswered kind) block (length s)) (front (concatMap (λ y. y) s) old) (answerSheet (p .grid) (ended places kind block (length s) s))
+  unfolding printed front
+  ends places kind block s few small i =
+      let m = numIndices (p .grid) in
+      let a = m-numbers (p .grid) s (i .onGrid) in
+      let l = rows-length m s a in
+      let le : length s * m ≤ room = omega (arith, mul-le-mul-right m (i .few)) in
+      let w : length (front (concatMap (λ y. y) s) old) ≡ room = front-length (concatMap (λ y. y) s) old (omega (arith, l, large)) ∙ large in
+      (rw (kind-same kind, rows-of m s (drop (length (concatMap (λ y. y) s)) old) a), record { end = λ places kind block vertices e. let v : vertices ≡ length s = cc in rw v (i .some, omega (arith, i .few), omega (arith, w)) })
+
+  module _ (none : refusal p room ≡ 0) where
+    grid-yes : firstNo (gridQuestions (p .grid)) ≡ 0
+    grid-yes = ⊎-elim (λ e. e) (λ n. absurd (n (sym (by-grid p room n) ∙ none))) (same-or (firstNo (gridQuestions (p .grid))) 0)
+
+    accepted : Accepted p × (suc (dimension (p .grid)) * numIndices (p .grid) ≤ room)
+    accepted = accepted-with-room p room grid-yes (sym (by-later p room grid-yes) ∙ none)
+
+    answered : Prints (caseOf (answer p budget)) (front (numbersOf (answer p budget)) old) (answerSheet (p .grid) (answer p budget))
+    answered =
+        let ok = accepted .0 in
+        let d = demand3-holds ok in
+        let few : suc (dimension (p .grid)) ≤ 16 = omega (arith, ok .settled .someBlock, ok .settled .sixteenIndices) in
+        ⊎-elim
+        (λ l. rw (d .spends budget .1 l) (spends _ budget))
+        (λ l. rw (d .announces budget l) (ends (pathLength p) (d .end .kind) (suc (d .end .block)) (d .end .simplex) few (accepted .1) (end-simplex p (ok .settled) d)))
+        (before-or-not budget (pathLength p))
+
+  pub run-prints : Prints (runAnswer p (length old) budget) (runBuffer p budget old) (runSheet p budget)
+  unfolding runSheet
+  run-prints =
+      let n = refusal p room in
+      let r : refusal p (length old) ≡ n = ap (refusal p) large in
+      ⊎-elim
+      (λ e. let a = run-answered p budget old (r ∙ e) in rw (← a .0, ← a .1, eq-eqb n 0 e) (answered e))
+      (λ h. let a = run-refused p budget old n h r in rw (← a .0, ← a .1, ne-eqb n 0 h) (refused old n))
+      (same-or n 0)

@@ -1,0 +1,78 @@
+-- `printer::print_answer` meets its contract, case by case. Assumes nothing.
+use mathlib.Core.Path.{sym}
+use lib.Seq.{length-take-le}
+use Rattle.printer.proofs.Arrays.{same-sheet, divisions-room, printable, end-printed}
+use Rattle.printer.specs.Run.{printed}
+use borrow.Author.Needs.{needs}
+use Rattle.printer.proofs.print_answer.Statement.{statement}
+use Rattle.printer.proofs.print_answer.Tie as tie
+
+enum-known-answer : tie.Need-enum-known-answer
+enum-known-answer c = search needs
+
+refused-requires : tie.Need-refused-requires
+refused-requires c κs = search needs
+
+enum-known-answer-2 : tie.Need-enum-known-answer-2
+enum-known-answer-2 c = search needs
+
+spent-requires : tie.Need-spent-requires
+spent-requires c κs = search needs
+
+enum-known-answer-3 : tie.Need-enum-known-answer-3
+enum-known-answer-3 c = search needs
+
+divisions-of-requires : tie.Need-divisions-of-requires
+divisions-of-requires c κs = search needs
+
+bound-requires : tie.Need-bound-requires
+bound-requires c κs = search needs
+
+on-sheet-requires : tie.Need-on-sheet-requires
+on-sheet-requires c κs = search needs
+
+array-share-prefix-divisions : tie.Need-array-share-prefix-divisions
+array-share-prefix-divisions c = divisions-room (c .before .before .before .before .before .before .before .before .args .grid) (c .before .before .before .before .before .before .before .before .pre .0) _ (c .before .before .before .divisions-of .ensures)
+
+slice-aggregate-ended : tie.Need-slice-aggregate-ended
+slice-aggregate-ended c = sym (length-take-le _ _ (array-share-prefix-divisions (c .before)))
+
+ended-requires : tie.Need-ended-requires
+ended-requires c κs =
+    let s = c .before .before .before .before .before .before .before .before .before in
+    printable (s .args .grid) (s .pre .0) _ (c .before .before .before .before .divisions-of .ensures) _ _ (s .pre .1 .end _ _ _ _ (c .before .before .before .before .before .before .answer3 .given .1))
+
+returns : tie.Need-returns
+unfolding printed
+returns c = rw (c .before .before .before .answer .given .1) (c .refused .ensures)
+
+returns-2 : tie.Need-returns-2
+unfolding printed
+returns-2 c = rw (c .before .before .before .answer2 .given .1) (c .spent .ensures)
+
+returns-3 : tie.Need-returns-3
+unfolding printed
+returns-3 c =
+    let s = c .before .before .before .before .before .before .before .before .before .before in
+    let end = c .before .before .before .before .before .before .before .answer3 .given in
+    let e = end-printed (s .args .grid) (s .pre .0) _ (c .before .before .before .before .before .divisions-of .ensures) (end .0 .1 .1 .1 .0) (s .args .buffer .now) _ _ _ _ _ (c .before .before .before .before .bound .ensures) (c .before .before .before .on-sheet .ensures) in
+    rw (end .1) (same-sheet (s .args .sheet .now) e (c .ended .ensures))
+
+pub print-answer-spec : {M : Type 1} → statement M
+print-answer-spec =
+    tie.close
+    (tie.spec
+    enum-known-answer
+    refused-requires
+    enum-known-answer-2
+    spent-requires
+    enum-known-answer-3
+    divisions-of-requires
+    bound-requires
+    on-sheet-requires
+    array-share-prefix-divisions
+    slice-aggregate-ended
+    ended-requires
+    returns
+    returns-2
+    returns-3)

@@ -1,0 +1,33 @@
+-- The kiosk's sheet of every slip: the bytes that it prints for the bytes that it reads. Assumes nothing.
+use mathlib.Core.Bool.{cond}
+use mathlib.Core.List.{List, map}
+use Prim.Native.Nat.{ℕ}
+use lib.Dec.{eqb}
+use Rattle.grid.specs.Grid.{Grid, division, blockOf, indices, bound}
+use Rattle.place.specs.Ends.{Kind as KindOfEnd, placeEnd, facetEnd}
+use Rattle.place.specs.Path.{Answer, spent, ended, answer}
+use Rattle.sheet.specs.Sheet.{endSheet, refusedSheet, spentSheet}
+use Rattle.sheet.specs.declared.Kind.{Kind}
+use Rattle.sheet.specs.declared.Kind.the-variants.{Place, Facet}
+use Rattle.slip.specs.Slip.{slipGrid, slipProblem, slipBudget, slipRefusal}
+
+-- "vertices times d_j": the division of each index's block
+abbrev pub divisionsOf : Grid → List ℕ
+divisionsOf g = map (λ h. division g (blockOf g h)) (indices g)
+
+-- "end place" or "end facet"
+abbrev pub kindOf : KindOfEnd → Kind
+kindOf placeEnd = Place
+kindOf facetEnd = Facet
+
+-- "The answer has the places, the kind of end, the block, the number of vertices, and the vertices"; of a budget that is spent, "9 adds a "places"
+-- line"
+abbrev pub answerSheet : Grid → Answer → List ℕ
+answerSheet g (spent places) = spentSheet places
+answerSheet g (ended places kind block vertices simplex) = endSheet places (bound g) (kindOf kind) block simplex (divisionsOf g)
+
+-- "The kiosk program reads a slip from standard input. For the bytes .. it prints": "A slip asks 13, 1 to 4, 14, 15, 5, 7, and then runs", and "A
+-- refusal prints one line"
+unfoldable pub sheetOf : List ℕ → List ℕ
+sheetOf slip =
+    cond (eqb (slipRefusal slip) 0) (answerSheet (slipGrid slip) (answer (slipProblem slip) (slipBudget slip))) (refusedSheet (slipRefusal slip))

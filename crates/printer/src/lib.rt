@@ -1,0 +1,129 @@
+// The printer: from a slip's bytes to the sheet's.
+ghost use mathlib.Core.Path.{_≡_};
+ghost use lib.ListN.{length};
+ghost use Rattle.combinatorics.specs.Front.{front};
+ghost use Rattle.grid.specs.Made.{IsMade, shape, padded};
+ghost use Rattle.printer.specs.Printed.{divisionsOf, sheetOf};
+ghost use Rattle.printer.specs.Run.{onSheet, printed, Fits, Readable, IsGame, problemOf, gameProblem, runSheet};
+use finder::Answer;
+use grid::Grid;
+use slip::Reading;
+
+// The kind of end, as the sheet names it.
+fn on_sheet(kind: finder::Kind) -> sheet::Kind
+    ensures { λ r. ⌜ r ≡ onSheet kind ⌝ }
+{
+    match kind {
+        finder::Kind::Place => sheet::Kind::Place,
+        finder::Kind::Facet => sheet::Kind::Facet,
+    }
+}
+
+// The division of each index's block.
+fn divisions_of(grid: Grid) -> [u16; 16]
+    requires { ⌜ IsMade grid ⌝ }
+    ensures { λ r. ⌜ r ≡ padded 16 (divisionsOf (shape grid)) ⌝ }
+{
+    let indices = grid.indices;
+    let block_divisions = grid.divisions;
+    let mut divisions = [0u16; 16];
+    let mut h: usize = 0;
+    while h < indices {
+        divisions[h] = block_divisions[grid.block_of(h)];
+        h += 1;
+    }
+    divisions
+}
+
+// The sheet of an answer with its vertices.
+fn print_answer(answer: Answer, grid: Grid, buffer: &[u16], sheet: &mut [u8; 4096]) -> usize
+    requires { ⌜ IsMade grid × Fits (shape grid) answer (now buffer) ⌝ }
+    ensures { λ r. ⌜ (r ≡ length (printed (shape grid) answer (now (buffer .entry)))) × (now (sheet .exit) ≡ front (printed (shape grid) answer (now (buffer .entry))) (now (sheet .entry))) ⌝ }
+{
+    match answer {
+        Answer::Refused(number) => sheet::refused(sheet, number),
+        Answer::Spent(places) => sheet::spent(sheet, places),
+        Answer::End {
+            places,
+            kind,
+            block,
+            vertices,
+        } => {
+            let indices = grid.indices;
+            let divisions = divisions_of(grid);
+            let bound = grid.bound();
+            let kind = on_sheet(kind);
+            sheet::ended(
+                sheet,
+                places,
+                bound,
+                kind,
+                block,
+                vertices,
+                buffer,
+                &divisions[..indices],
+            )
+        }
+    }
+}
+
+// The run on a label table, and its sheet.
+fn print_run(reading: Reading, labels: &[u8], sheet: &mut [u8; 4096]) -> usize
+    requires { ⌜ Readable reading ⌝ }
+    ensures { λ r. ⌜ (r ≡ length (runSheet (problemOf reading (now (labels .entry))) (reading .budget)))
+        × (now (sheet .exit) ≡ front (runSheet (problemOf reading (now (labels .entry))) (reading .budget)) (now (sheet .entry))) ⌝ }
+{
+    let grid = reading.grid;
+    let sizes = grid.sizes;
+    let divisions = grid.divisions;
+    let start = reading.start;
+    let blocks = grid.blocks;
+    let indices = grid.indices;
+    let mut buffer = [0u16; 256];
+    let answer = finder::run(
+        &sizes[..blocks],
+        &divisions[..blocks],
+        &start[..indices],
+        labels,
+        &mut buffer,
+        reading.budget,
+    );
+    print_answer(answer, grid, &buffer, sheet)
+}
+
+// The run on the labels of a game, which are filled in here.
+fn label_and_print(reading: Reading, labels: &mut [u8], sheet: &mut [u8; 4096]) -> usize
+    requires { ⌜ Readable reading × IsGame reading × (length (now labels) ≡ reading .grid .points) ⌝ }
+    ensures { λ r. ⌜ (r ≡ length (runSheet (gameProblem reading) (reading .budget))) × (now (sheet .exit) ≡ front (runSheet (gameProblem reading) (reading .budget)) (now (sheet .entry))) ⌝ }
+{
+    let grid = reading.grid;
+    let sizes = grid.sizes;
+    let divisions = grid.divisions;
+    let blocks = grid.blocks;
+    games::label_game(reading.game, &sizes[..blocks], &divisions[..blocks], labels);
+    print_run(reading, labels, sheet)
+}
+
+// The run on a game, with P bytes for its labels.
+fn print_game(reading: Reading, sheet: &mut [u8; 4096]) -> usize
+    requires { ⌜ Readable reading × IsGame reading ⌝ }
+    ensures { λ r. ⌜ (r ≡ length (runSheet (gameProblem reading) (reading .budget))) × (now (sheet .exit) ≡ front (runSheet (gameProblem reading) (reading .budget)) (now (sheet .entry))) ⌝ }
+{
+    let points = reading.grid.points;
+    let mut labels = [0u8; 60000];
+    label_and_print(reading, &mut labels[..points], sheet)
+}
+
+// The sheet of any bytes, at the front of the buffer. The result is the sheet's length.
+pub fn print(slip: &[u8], sheet: &mut [u8; 4096]) -> usize
+    ensures { λ r. ⌜ (r ≡ length (sheetOf (now (slip .entry)))) × (now (sheet .exit) ≡ front (sheetOf (now (slip .entry))) (now (sheet .entry))) ⌝ }
+{
+    let reading = slip::read(slip);
+    if reading.code != 0 {
+        return sheet::refused(sheet, reading.code);
+    }
+    if reading.game != 0 {
+        return print_game(reading, sheet);
+    }
+    print_run(reading, slip::labels_of(slip, reading), sheet)
+}
