@@ -1,0 +1,63 @@
+-- `stored_cases::read_slip` meets its contract. The invariant: the runs so far lie in the slip, which keeps its length. Assumes nothing.
+use mathlib.Core.List.{List}
+use mathlib.Core.Path.{_≡_, refl, sym}
+use Prim.Native.Nat.{ℕ, _≤_}
+use lib.ListN.{length}
+use lib.Seq.{length-take-le}
+use native.Mathlib.Omega.{arith}
+use Rattle.io.specs.Counts.{Counts}
+use borrow.Author.Needs.{needs}
+use Rattle.stored_cases.proofs.read_slip.Statement.{statement}
+use Rattle.stored_cases.proofs.read_slip.Tie as tie
+
+counted : (n : ℕ) (bytes : List ℕ) → n ≤ length bytes → Counts n bytes
+counted n bytes h = (h, sym (length-take-le n bytes h))
+
+abbrev Inv-loop : tie.InvT-loop
+Inv-loop slip₀ at₀ left₀ slip at left = (at ≤ length slip) × (length slip ≡ length slip₀)
+
+abbrev μ-loop : tie.MeasureT-loop
+μ-loop slip₀ at₀ left₀ slip at left = left
+
+loop-holds : tie.Need-loop-holds Inv-loop μ-loop
+loop-holds c = (omega arith, refl)
+
+read-run-requires : tie.Need-read-run-requires Inv-loop μ-loop
+read-run-requires c κs = search needs
+
+same-length : tie.Need-same-length Inv-loop μ-loop
+same-length c = search needs
+
+returns : tie.Need-returns Inv-loop μ-loop
+returns c = counted _ _ (c .before .before .before .read-run .ensures .0)
+
+sub-left : tie.Need-sub-left Inv-loop μ-loop
+sub-left c = omega arith
+
+loop-less : tie.Need-loop-less Inv-loop μ-loop
+loop-less c = omega arith
+
+loop-again : tie.Need-loop-again Inv-loop μ-loop
+loop-again c = search needs
+
+same-length-2 : tie.Need-same-length-2 Inv-loop μ-loop
+same-length-2 c = search needs
+
+returns-2 : tie.Need-returns-2 Inv-loop μ-loop
+returns-2 c = counted _ _ (c .before .loop .inv .0)
+
+pub read-slip-spec : {M : Type 1} → statement M
+read-slip-spec =
+    tie.close
+    (tie.spec
+    Inv-loop
+    μ-loop
+    loop-holds
+    read-run-requires
+    same-length
+    returns
+    sub-left
+    loop-less
+    loop-again
+    same-length-2
+    returns-2)
