@@ -1,0 +1,35 @@
+-- What the calls for C and Rust answer and write: the number and the values of each case of an enum. Assumes nothing.
+use mathlib.Core.List.{List, [], _∷_}
+use Prim.Native.Nat.{ℕ}
+use Rattle.finder.specs.declared.answers.Answer.{Answer}
+use Rattle.finder.specs.declared.answers.Answer.the-variants.{Refused, Spent, End}
+use Rattle.finder.specs.declared.answers.Kind.{Kind}
+use Rattle.finder.specs.declared.answers.Kind.the-variants.{Place, Facet}
+use Rattle.games.specs.declared.Labelled.{Labelled}
+use Rattle.games.specs.declared.Labelled.the-variants.{Refused as LabellingRefused, Written}
+
+abbrev pub kindNumber : Kind → ℕ
+kindNumber Place = 0
+kindNumber Facet = 1
+
+-- "A refusal returns its number"; "A budget is called spent by number 9"; 0 at an end
+abbrev pub runNumber : Answer → ℕ
+runNumber (Refused number) = number
+runNumber (Spent places) = 9
+runNumber (End places kind block vertices) = 0
+
+-- "The answer has the places, the kind of end, the block, the number of vertices"; "Number 9 also returns the places visited"; a refusal "no count"
+abbrev pub runFacts : Answer → List ℕ
+runFacts (Refused number) = []
+runFacts (Spent places) = places ∷ []
+runFacts (End places kind block vertices) = places ∷ kindNumber kind ∷ block ∷ vertices ∷ []
+
+-- "A refusal returns its number"; 0 where the labels are written
+abbrev pub labelNumber : Labelled → ℕ
+labelNumber (LabellingRefused number) = number
+labelNumber (Written count) = 0
+
+-- "the result gives how much was written"; a refusal "no count", and the old number stays
+abbrev pub labelCount : Labelled → ℕ → ℕ
+labelCount (LabellingRefused number) old = old
+labelCount (Written count) old = count

@@ -1,0 +1,98 @@
+// The calls for programs in C and Rust, under the names that the static library defines. Each only names a case of an enum by a number.
+ghost use mathlib.Core.Path.{_≡_};
+ghost use Prim.Native.Nat.{_≤_};
+ghost use lib.ListN.{length};
+ghost use Rattle.combinatorics.specs.Front.{front};
+ghost use Rattle.place.specs.Problem.{problemOf};
+ghost use Rattle.finder.specs.Run.{runAnswer, runBuffer};
+ghost use Rattle.games.specs.Labelling.{labelAnswer, labelBuffer};
+ghost use Rattle.printer.specs.Printed.{sheetOf};
+ghost use Rattle.exports.specs.Numbers.{kindNumber, runNumber, runFacts, labelNumber, labelCount};
+use finder::Answer;
+use finder::Kind;
+use games::Labelled;
+
+fn kind_number(kind: Kind) -> u64
+    ensures { λ r. ⌜ r ≡ kindNumber kind ⌝ }
+{
+    match kind {
+        Kind::Place => 0,
+        Kind::Facet => 1,
+    }
+}
+
+// The facts to the front of their buffer, and the number.
+fn put_answer(answer: Answer, facts: &mut [u64]) -> u8
+    requires { ⌜ 4 ≤ length (now facts) ⌝ }
+    ensures { λ r. ⌜ (r ≡ runNumber answer) × (now (facts .exit) ≡ front (runFacts answer) (now (facts .entry))) ⌝ }
+{
+    match answer {
+        Answer::Refused(number) => number,
+        Answer::Spent(visited) => {
+            facts[0] = visited;
+            9
+        }
+        Answer::End {
+            places,
+            kind,
+            block,
+            vertices,
+        } => {
+            facts[0] = places;
+            facts[1] = kind_number(kind);
+            facts[2] = block as u64;
+            facts[3] = vertices as u64;
+            0
+        }
+    }
+}
+
+// The run on a label table: 0 at an end, else the refusal's number. The facts are the places, the kind of end (0 place, 1 facet), the block and the
+// number of vertices; of the refusals only 9 writes one, the places.
+#[no_mangle]
+pub extern "C" fn leveretplate_run(
+    sizes: &[u8],
+    divisions: &[u16],
+    start: &[u16],
+    labels: &[u8],
+    answer: &mut [u16],
+    budget: u64,
+    facts: &mut [u64; 4],
+) -> u8
+    ensures number { λ r. ⌜ r ≡ runNumber (runAnswer (problemOf (now (sizes .entry)) (now (divisions .entry)) (now (start .entry)) (now (labels .entry))) (length (now (answer .entry))) budget) ⌝ }
+    ensures facts { λ _. ⌜ now (facts .exit) ≡ front (runFacts (runAnswer (problemOf (now (sizes .entry)) (now (divisions .entry)) (now (start .entry)) (now (labels .entry))) (length (now (answer .entry))) budget)) (now (facts .entry)) ⌝ }
+    ensures buffer { λ _. ⌜ now (answer .exit) ≡ runBuffer (problemOf (now (sizes .entry)) (now (divisions .entry)) (now (start .entry)) (now (labels .entry))) budget (now (answer .entry)) ⌝ }
+{
+    let found = finder::run(sizes, divisions, start, labels, answer, budget);
+    put_answer(found, facts)
+}
+
+// The labels of a game: 0 where they are written, with their count, else the refusal's number.
+#[no_mangle]
+pub extern "C" fn leveretplate_label(
+    sizes: &[u8],
+    divisions: &[u16],
+    losses: &[u16],
+    labels: &mut [u8],
+    count: &mut u64,
+) -> u8
+    ensures number { λ r. ⌜ r ≡ labelNumber (labelAnswer (now (sizes .entry)) (now (divisions .entry)) (now (losses .entry)) (now (labels .entry))) ⌝ }
+    ensures count { λ _. ⌜ now (count .exit) ≡ labelCount (labelAnswer (now (sizes .entry)) (now (divisions .entry)) (now (losses .entry)) (now (labels .entry))) (now (count .entry)) ⌝ }
+    ensures buffer { λ _. ⌜ now (labels .exit) ≡ labelBuffer (now (sizes .entry)) (now (divisions .entry)) (now (losses .entry)) (now (labels .entry)) ⌝ }
+{
+    match games::label(sizes, divisions, losses, labels) {
+        Labelled::Refused(number) => number,
+        Labelled::Written(written) => {
+            *count = written as u64;
+            0
+        }
+    }
+}
+
+// The sheet of a slip: its length.
+#[no_mangle]
+pub extern "C" fn leveretplate_sheet(slip: &[u8], sheet: &mut [u8; 4096]) -> usize
+    ensures { λ r. ⌜ (r ≡ length (sheetOf (now (slip .entry)))) × (now (sheet .exit) ≡ front (sheetOf (now (slip .entry))) (now (sheet .entry))) ⌝ }
+{
+    printer::print(slip, sheet)
+}

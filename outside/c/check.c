@@ -1,0 +1,64 @@
+/* Calls each function of the library from C on document 01's examples and says whether they give what the document says. */
+#include "leveretplate.h"
+
+#include <stdio.h>
+#include <string.h>
+
+static int failures;
+
+static void expect(const char *what, int holds)
+{
+    printf("%s: %s\n", what, holds ? "as expected" : "WRONG");
+    failures += !holds;
+}
+
+static uint8_t sheet[LEVERETPLATE_SHEET];
+
+static void check_sheet(void)
+{
+    const uint8_t slip[] = {4, 2, 2, 2, 1, 0, 1, 0, 2, 2, 2, 4};
+    const char expected[] = "places 5\nbound 68\nend facet\nblock 1\nvertices 1\n0 1 1 0\ncentre 0 10000 10000 0\n";
+    size_t length = leveretplate_sheet(slip, sizeof slip, sheet);
+    expect("the example's sheet", length == strlen(expected) && memcmp(sheet, expected, length) == 0);
+    length = leveretplate_sheet(slip, sizeof slip - 1, sheet);
+    expect("the example cut short", length == 11 && memcmp(sheet, "refused 14\n", 11) == 0);
+}
+
+static void check_run(void)
+{
+    const uint8_t sizes[] = {2, 2}, table[] = {3, 1, 2, 4};
+    const uint16_t divisions[] = {1, 1}, start[] = {1, 0, 1, 0};
+    const uint16_t vertices[] = {1, 0, 1, 0, 1, 0, 0, 1, 0, 1, 0, 1, 77};
+    uint16_t answer[13];
+    uint64_t facts[LEVERETPLATE_FACTS] = {5, 6, 7, 8};
+    uint8_t number;
+    for (size_t at = 0; at < 13; at++)
+        answer[at] = 77;
+    number = leveretplate_run(sizes, 2, divisions, 2, start, 4, table, 4, answer, 11, 68, facts);
+    expect("an answer buffer one short", number == 8 && facts[0] == 5 && answer[0] == 77);
+    number = leveretplate_run(sizes, 2, divisions, 2, start, 4, table, 4, answer, 13, 2, facts);
+    expect("a budget of 2", number == 9 && facts[0] == 2 && facts[1] == 6 && facts[2] == 7 && facts[3] == 8 && answer[0] == 77);
+    number = leveretplate_run(sizes, 2, divisions, 2, start, 4, table, 4, answer, 13, 68, facts);
+    expect("the end", number == 0 && facts[0] == 3 && facts[1] == 0 && facts[2] == 2 && facts[3] == 3);
+    expect("its vertices, and the number behind them", memcmp(answer, vertices, sizeof vertices) == 0);
+}
+
+static void check_label(void)
+{
+    const uint8_t sizes[] = {2, 2, 2}, expected[] = {3, 6, 1, 1, 5, 2, 5, 4};
+    const uint16_t divisions[] = {1, 1, 1};
+    const uint16_t losses[] = {1, 2, 8, 5, 8, 8, 2, 2, 4, 2, 2, 1, 2, 6, 1, 3, 4, 1, 4, 2, 8, 8, 2, 1};
+    uint8_t table[8] = {0};
+    uint64_t count = 77;
+    expect("a loss too few", leveretplate_label(sizes, 3, divisions, 3, losses, 23, table, 8, &count) == 10 && count == 77 && table[0] == 0);
+    expect("game 1's labels", leveretplate_label(sizes, 3, divisions, 3, losses, 24, table, 8, &count) == 0 && count == 8 && memcmp(table, expected, 8) == 0);
+}
+
+int main(void)
+{
+    check_sheet();
+    check_run();
+    check_label();
+    printf("%d wrong\n", failures);
+    return failures != 0;
+}

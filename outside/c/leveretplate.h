@@ -1,0 +1,37 @@
+/* The simplicial path finder for programs in C. Document 01 fixes every result, and the numbers of refusals are its own; the promises below are proved
+ * (crates/exports).
+ *
+ * Each array is lent for the time of the call; its pointer is not null, even at length 0, and it overlaps no array that is written to. A call writes
+ * only to what is lent without `const`, at the front; what stands behind stays. A refusal writes nothing, except that number 9 gives the places. No call
+ * keeps anything or fails to return. */
+#ifndef LEVERETPLATE_H
+#define LEVERETPLATE_H
+
+#include <stddef.h>
+#include <stdint.h>
+
+#define LEVERETPLATE_FACTS 4    /* places, kind of end (0 place, 1 facet), block, vertices */
+#define LEVERETPLATE_SHEET 4096 /* room for any sheet */
+
+/* Follows the path. At an end answers 0, writes the four facts, and the vertices in rising coefficient sum, m numbers each, to the answer buffer. Else
+ * answers the refusal's number, 1 to 9; with number 9 the first fact is the places visited, and the other three stay. `facts` has LEVERETPLATE_FACTS
+ * numbers. */
+uint8_t leveretplate_run(const uint8_t *sizes, size_t sizes_length,
+                         const uint16_t *divisions, size_t divisions_length,
+                         const uint16_t *start, size_t start_length,
+                         const uint8_t *labels, size_t labels_length,
+                         uint16_t *answer, size_t answer_length,
+                         uint64_t budget,
+                         uint64_t *facts);
+
+/* Writes the labels of the game with these losses and their count P, and answers 0; else answers the refusal's number, 1 to 4 or 10 to 12. */
+uint8_t leveretplate_label(const uint8_t *sizes, size_t sizes_length,
+                           const uint16_t *divisions, size_t divisions_length,
+                           const uint16_t *losses, size_t losses_length,
+                           uint8_t *labels, size_t labels_length,
+                           uint64_t *count);
+
+/* Writes the sheet of a slip, a refusal's sheet too, and answers its length. `sheet` has LEVERETPLATE_SHEET bytes. */
+size_t leveretplate_sheet(const uint8_t *slip, size_t slip_length, uint8_t *sheet);
+
+#endif

@@ -1,0 +1,207 @@
+//! Times the implementations on the same inputs, with warm buffers: the median of many short repetitions, their quartiles, and the least, in processor
+//! time on Linux, so that other programs disturb little.
+//!
+//!     cargo run --release --bin benchmark            # everything
+//!     cargo run --release --bin benchmark -- "16;6"  # the lines that have this text
+
+use programs::calls::{Fields, LabelCall, RunCall};
+use programs::implementations::{Paper, Sheet};
+use programs::inputs::{long_run, From};
+use programs::Implementation;
+use reference::games::{self, GAMES};
+use reference::grid::Grid;
+use reference::slip::SHEET_BYTES;
+use reference::Outcome;
+use std::hint::black_box;
+use std::time::Duration;
+
+/// Odd, so that there is a median. The repetitions are short, so that few of them are interrupted.
+const REPETITIONS: usize = 101;
+const REPETITION: Duration = Duration::from_millis(2);
+
+/// Divisions that bring each game's grid near 60,000 points.
+const GAME_DIVISIONS: [&[u16]; 3] = [&[38, 38, 38], &[7, 7, 8], &[14, 14, 15, 15]];
+
+/// Grids, starts, seeds and rounds for which the search found long paths.
+const LONG_RUNS: [(&[u8], &[u16], From, u64, usize); 8] = [
+    (&[3], &[344], From::LastCorner, 44, 200),
+    (&[2, 2], &[240, 240], From::FirstCorner, 224, 200),
+    (&[4], &[60], From::FirstCorner, 106, 200),
+    (&[16], &[6], From::LastCorner, 1, 1_000),
+    (&[2, 2, 2, 2, 2, 2], &[5, 5, 5, 5, 5, 6], From::Middle, 0, 20_000),
+    (&[2, 2, 2], &[38, 38, 38], From::LastCorner, 363, 500),
+    (&[3, 3, 3], &[7, 7, 8], From::LastCorner, 1, 5_000),
+    (&[2, 2, 2, 2], &[14, 14, 15, 15], From::LastCorner, 2, 3_000),
+];
+
+extern "C" {
+    /// The C library's; the time is in seconds and nanoseconds.
+    fn clock_gettime(clock: i32, time: *mut [i64; 2]) -> i32;
+}
+
+/// The processor time of this thread in nanoseconds.
+fn now() -> f64 {
+    const THREAD_CPU_TIME: i32 = 3;
+    let mut time = [0; 2];
+    // Safety: the C library writes two 64-bit numbers.
+    assert_eq!(unsafe { clock_gettime(THREAD_CPU_TIME, &mut time) }, 0, "the clock of processor time");
+    time[0] as f64 * 1e9 + time[1] as f64
+}
+
+/// Nanoseconds for one call.
+struct Timing {
+    median: f64,
+    quartiles: [f64; 2],
+    least: f64,
+}
+
+/// Times the calls in turn, one repetition of each after the other, so that a slow moment of the machine falls on all of them.
+fn time(calls: &mut [Box<dyn FnMut() + '_>]) -> Vec<Timing> {
+    let mut counts = Vec::new();
+    for call in calls.iter_mut() {
+        call();
+        let begin = now();
+        call();
+        let once = (now() - begin).max(1.0);
+        counts.push((REPETITION.as_nanos() as f64 / once).ceil() as usize);
+    }
+    let mut times = vec![Vec::new(); calls.len()];
+    for _ in 0..REPETITIONS {
+        for ((call, &count), times) in calls.iter_mut().zip(&counts).zip(&mut times) {
+            let begin = now();
+            (0..count).for_each(|_| call());
+            times.push((now() - begin) / count as f64);
+        }
+    }
+    let timing = |mut times: Vec<f64>| {
+        times.sort_by(f64::total_cmp);
+        let quartiles = [times[REPETITIONS / 4], times[3 * REPETITIONS / 4]];
+        Timing { median: times[REPETITIONS / 2], quartiles, least: times[0] }
+    };
+    times.into_iter().map(timing).collect()
+}
+
+struct Benchmark {
+    implementations: Vec<Box<dyn Implementation>>,
+    /// Only lines with this text are timed.
+    text: String,
+}
+
+impl Benchmark {
+    /// Prints a line for each implementation; where there are units, such as places, also the time for each of them.
+    fn print(&self, name: &str, unit: &str, units: u64, calls: &mut [Box<dyn FnMut() + '_>]) {
+        if !name.contains(&self.text) {
+            return;
+        }
+        let timings = time(calls);
+        for (implementation, timing) in self.implementations.iter().zip(&timings) {
+            let [median, low, high, least] = [timing.median, timing.quartiles[0], timing.quartiles[1], timing.least];
+            print!("{name:44} {:8} ", implementation.name());
+            print!("{:9.2} us ({:.2} to {:.2}, least {:.2})", median / 1e3, low / 1e3, high / 1e3, least / 1e3);
+            if units > 0 {
+                print!("  {:.2} ns a {unit} (least {:.2})", median / units as f64, least / units as f64);
+            }
+            println!("  ratio {:.2} (of the least {:.2})", median / timings[0].median, least / timings[0].least);
+        }
+    }
+
+    fn run(&self, name: &str, run: &RunCall) {
+        let mut answers = vec![vec![0; run.answer]; self.implementations.len()];
+        let places = match self.implementations[0].run(run, &mut answers[0]) {
+            Outcome::Ended(end) => end.places,
+            _ => 0,
+        };
+        let name = if places > 0 { format!("{name}, {places} places") } else { name.to_string() };
+        let mut calls: Vec<Box<dyn FnMut()>> = Vec::new();
+        for (implementation, answer) in self.implementations.iter().zip(&mut answers) {
+            calls.push(Box::new(move || {
+                black_box(implementation.run(black_box(run), answer));
+            }));
+        }
+        self.print(&name, "place", places, &mut calls);
+    }
+
+    fn label(&self, name: &str, call: &LabelCall) {
+        let mut buffers = vec![vec![0; call.buffer]; self.implementations.len()];
+        let mut calls: Vec<Box<dyn FnMut()>> = Vec::new();
+        for (implementation, labels) in self.implementations.iter().zip(&mut buffers) {
+            calls.push(Box::new(move || {
+                black_box(implementation.label(black_box(call), labels)).expect("a labelling");
+            }));
+        }
+        self.print(name, "point", call.buffer as u64, &mut calls);
+    }
+
+    fn sheet(&self, name: &str, slip: &[u8]) {
+        let mut buffers: Vec<Box<Sheet>> = self.implementations.iter().map(|_| Box::new([0; SHEET_BYTES])).collect();
+        let mut calls: Vec<Box<dyn FnMut()>> = Vec::new();
+        for (implementation, sheet) in self.implementations.iter().zip(&mut buffers) {
+            calls.push(Box::new(move || {
+                black_box(implementation.sheet(black_box(slip), sheet));
+            }));
+        }
+        self.print(name, "", 0, &mut calls);
+    }
+}
+
+fn grid_name(sizes: &[u8], divisions: &[u16]) -> String {
+    let text = |numbers: Vec<String>| numbers.join(" ");
+    format!("{};{}", text(sizes.iter().map(u8::to_string).collect()), text(divisions.iter().map(u16::to_string).collect()))
+}
+
+/// The table of one label, whose path goes from the first corner to the other.
+fn straight_run() -> RunCall {
+    RunCall {
+        sizes: vec![2],
+        divisions: vec![59_999],
+        start: vec![59_999, 0],
+        labels: vec![2; 60_000],
+        budget: u64::MAX,
+        answer: 4,
+    }
+}
+
+/// The run on a built-in game's labels, from the first corner.
+fn game_run(game: usize) -> RunCall {
+    let (sizes, divisions) = (GAMES[game].sizes, GAME_DIVISIONS[game]);
+    let grid = Grid::new(sizes, divisions).expect("a grid");
+    let mut labels = vec![0; grid.points];
+    games::fill(&grid, GAMES[game].losses, &mut labels);
+    let (start, answer) = (grid.first_corner()[..grid.m].to_vec(), (grid.n() + 1) * grid.m);
+    RunCall { sizes: sizes.to_vec(), divisions: divisions.to_vec(), start, labels, budget: grid.bound(), answer }
+}
+
+fn main() {
+    #[allow(unused_mut)]
+    let mut implementations: Vec<Box<dyn Implementation>> = vec![Box::new(Paper)];
+    #[cfg(feature = "proved")]
+    implementations.push(Box::new(programs::proved::Proved));
+    let benchmark = Benchmark { implementations, text: std::env::args().nth(1).unwrap_or_default() };
+    println!("median of {REPETITIONS} repetitions (quartiles, least); ratios to the first\n\nruns, questions included");
+    let straight = straight_run();
+    benchmark.run("2;59999, one label", &straight);
+    for (sizes, divisions, from, seed, rounds) in LONG_RUNS {
+        benchmark.run(&grid_name(sizes, divisions), &long_run(sizes, divisions, from, seed, rounds));
+    }
+    for game in 0..GAMES.len() {
+        benchmark.run(&format!("game {}, {}", game + 1, grid_name(GAMES[game].sizes, GAME_DIVISIONS[game])), &game_run(game));
+    }
+    println!("\nthe questions alone (budget 0)");
+    benchmark.run("2;59999, 60,000 labels", &RunCall { budget: 0, ..straight.clone() });
+    benchmark.run("3 3 3;7 7 8, 58,320 labels", &RunCall { budget: 0, ..game_run(1) });
+    println!("\nlabelling");
+    for game in 0..GAMES.len() {
+        let points = Grid::new(GAMES[game].sizes, GAME_DIVISIONS[game]).expect("a grid").points;
+        let name = format!("game {}, {}", game + 1, grid_name(GAMES[game].sizes, GAME_DIVISIONS[game]));
+        benchmark.label(&name, &LabelCall::of_game(game + 1, GAME_DIVISIONS[game], points));
+    }
+    println!("\nslip to sheet");
+    benchmark.sheet("document 01's example", &[4, 2, 2, 2, 1, 0, 1, 0, 2, 2, 2, 4]);
+    benchmark.sheet("2;59999, one label", &straight.slip());
+    for game in 0..GAMES.len() {
+        let name = format!("game {}, {}", game + 1, grid_name(GAMES[game].sizes, GAME_DIVISIONS[game]));
+        let fields =
+            Fields { sizes: GAMES[game].sizes, divisions: GAME_DIVISIONS[game], game: Some(game as u8 + 1), ..Fields::default() };
+        benchmark.sheet(&name, &fields.bytes());
+    }
+}

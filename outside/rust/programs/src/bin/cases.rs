@@ -1,0 +1,83 @@
+//! Runs the stored cases of a folder against every implementation.
+//!
+//!     cargo run --release --bin cases -- FOLDER
+
+use programs::calls::{spaced, Call};
+use programs::implementations::Sheet;
+use programs::{all, stored, Implementation};
+use reference::grid::Grid;
+use reference::slip::SHEET_BYTES;
+use reference::{Kind, Outcome};
+use std::process::ExitCode;
+
+/// What the implementation gives, as the lines of `expect`; none if the grid is too large for it.
+fn given(implementation: &dyn Implementation, call: &Call) -> Option<Vec<String>> {
+    match call {
+        Call::Slip(slip) => {
+            let mut sheet: Sheet = [0; SHEET_BYTES];
+            implementation.fits_slip(slip).then(|| {
+                let length = implementation.sheet(slip, &mut sheet);
+                String::from_utf8_lossy(&sheet[..length]).lines().map(str::to_string).collect()
+            })
+        }
+        Call::Run(run) => {
+            let mut answer = vec![0; run.answer];
+            let fits = Grid::new(&run.sizes, &run.divisions).map_or(true, |grid| implementation.fits(&grid));
+            fits.then(|| match implementation.run(run, &mut answer) {
+                Outcome::Refused(number) => vec![format!("refused {number}")],
+                Outcome::Spent(places) => vec!["refused 9".to_string(), format!("places {places}")],
+                Outcome::Ended(end) => {
+                    let kind = if end.kind == Kind::Place { "place" } else { "facet" };
+                    let m = run.start.len();
+                    let head = [format!("places {}", end.places), format!("end {kind}"), format!("block {}", end.block)];
+                    let vertices = answer.chunks_exact(m).take(end.vertices).map(|vertex| spaced(vertex));
+                    head.into_iter().chain([format!("vertices {}", end.vertices)]).chain(vertices).collect()
+                }
+            })
+        }
+        Call::Label(label) => {
+            let mut labels = vec![0; label.buffer];
+            Some(match implementation.label(label, &mut labels) {
+                Ok(count) => vec![format!("labels {}", spaced(&labels[..count]))],
+                Err(number) => vec![format!("refused {number}")],
+            })
+        }
+    }
+}
+
+fn main() -> ExitCode {
+    let folder = std::env::args().nth(1).expect("the folder of the stored cases");
+    let files = std::fs::read_dir(folder).expect("a folder").map(|entry| entry.expect("an entry").path());
+    let mut files: Vec<_> = files.filter(|file| file.extension().is_some_and(|end| end == "txt")).collect();
+    files.sort();
+    let mut cases = 0;
+    let mut failed = 0;
+    let implementations = all();
+    let mut counts = vec![0; implementations.len()];
+    for file in &files {
+        let text = std::fs::read_to_string(file).expect("a text file");
+        for case in stored::read(&text) {
+            cases += 1;
+            for (implementation, count) in implementations.iter().zip(&mut counts) {
+                match given(implementation.as_ref(), &case.call) {
+                    None => {}
+                    Some(lines) if lines == case.expect => *count += 1,
+                    Some(lines) => {
+                        failed += 1;
+                        println!("{} {}: {} gives\n{}", file.display(), case.name, implementation.name(), lines.join("\n"));
+                    }
+                }
+            }
+        }
+    }
+    println!("{cases} stored cases");
+    for (implementation, count) in implementations.iter().zip(&counts) {
+        println!("{}: {count} agree", implementation.name());
+    }
+    println!("{failed} differ");
+    if failed == 0 {
+        ExitCode::SUCCESS
+    } else {
+        ExitCode::FAILURE
+    }
+}

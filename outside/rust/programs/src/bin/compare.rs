@@ -1,0 +1,194 @@
+//! Gives the same calls to every implementation and compares result and buffers, the pattern behind what is written included.
+//!
+//!     cargo run --release --bin compare
+
+use programs::calls::Call;
+use programs::implementations::Sheet;
+use programs::inputs::{self, Take};
+use programs::{all, Implementation, LabelCall, RunCall};
+use reference::grid::Grid;
+use reference::slip::SHEET_BYTES;
+use reference::Outcome;
+use std::process::ExitCode;
+use std::time::Instant;
+
+const MOST_PRINTED: usize = 10;
+
+/// What an untouched buffer holds.
+fn pattern(at: usize) -> u16 {
+    (at as u16).wrapping_mul(40503) ^ 0xa5c3
+}
+
+#[derive(Default)]
+struct Tally {
+    calls: usize,
+    compared: usize,
+    ends: usize,
+    places: u64,
+    longest: u64,
+    refusals: [usize; 16],
+}
+
+struct Comparison {
+    implementations: Vec<Box<dyn Implementation>>,
+    /// The pattern's low bytes, as the sheet holds it.
+    untouched: Vec<u8>,
+    tally: Tally,
+    differences: usize,
+}
+
+/// The outcome of a call with everything that it may have written.
+#[derive(PartialEq)]
+enum Seen {
+    Run(Outcome, Vec<u16>),
+    Label(Result<usize, u64>, Vec<u8>),
+    /// The sheet's length and buffer.
+    Slip(usize, Box<Sheet>),
+}
+
+impl Comparison {
+    fn take(&mut self, call: Call) {
+        self.tally.calls += 1;
+        let implementations = std::mem::take(&mut self.implementations);
+        let before = call.clone();
+        let mut first: Option<Seen> = None;
+        for implementation in implementations.iter().filter(|implementation| fits(implementation.as_ref(), &call)) {
+            let seen = match &call {
+                Call::Run(run) => self.run(implementation.as_ref(), run),
+                Call::Label(label) => self.label(implementation.as_ref(), label),
+                Call::Slip(slip) => self.slip(implementation.as_ref(), slip),
+            };
+            if call != before {
+                self.differs(&before, implementation.name(), "an input is changed");
+            }
+            match (&first, seen) {
+                (_, Err(fault)) => self.differs(&call, implementation.name(), fault),
+                (None, Ok(seen)) => {
+                    self.tally.count(&seen);
+                    first = Some(seen);
+                }
+                (Some(first), Ok(seen)) => {
+                    self.tally.compared += 1;
+                    if seen != *first {
+                        self.differs(&call, implementation.name(), "the result or a buffer differs");
+                    }
+                }
+            }
+        }
+        self.implementations = implementations;
+    }
+
+    fn differs(&mut self, call: &Call, name: &str, what: &str) {
+        self.differences += 1;
+        if self.differences <= MOST_PRINTED {
+            println!("DIFFERENCE in {name}: {what}\n{call}\n");
+        }
+    }
+
+    fn run(&mut self, implementation: &dyn Implementation, run: &RunCall) -> Result<Seen, &'static str> {
+        let mut answer: Vec<u16> = (0..run.answer).map(pattern).collect();
+        let outcome = implementation.run(run, &mut answer);
+        let written = match outcome {
+            Outcome::Ended(end) => end.vertices * run.start.len(),
+            _ => 0,
+        };
+        if written > answer.len() || (written..answer.len()).any(|at| answer[at] != pattern(at)) {
+            return Err("the answer buffer is changed where it must not be");
+        }
+        Ok(Seen::Run(outcome, answer))
+    }
+
+    fn label(&mut self, implementation: &dyn Implementation, label: &LabelCall) -> Result<Seen, &'static str> {
+        let mut labels: Vec<u8> = (0..label.buffer).map(|at| pattern(at) as u8).collect();
+        let number = implementation.label(label, &mut labels);
+        if number.is_err() && (0..labels.len()).any(|at| labels[at] != pattern(at) as u8) {
+            return Err("a refused labelling changed its buffer");
+        }
+        Ok(Seen::Label(number, labels))
+    }
+
+    fn slip(&mut self, implementation: &dyn Implementation, slip: &[u8]) -> Result<Seen, &'static str> {
+        let mut sheet: Box<Sheet> = Box::new([0; SHEET_BYTES]);
+        sheet.copy_from_slice(&self.untouched);
+        let length = implementation.sheet(slip, &mut sheet);
+        if length > SHEET_BYTES || sheet[length..] != self.untouched[length..] {
+            return Err("the sheet is changed behind its end");
+        }
+        Ok(Seen::Slip(length, sheet))
+    }
+
+    /// Puts a kind of input to all implementations and prints what came of it.
+    fn part(&mut self, name: &str, inputs: impl FnOnce(Take)) {
+        let begin = Instant::now();
+        self.tally = Tally::default();
+        inputs(&mut |call| self.take(call));
+        let Tally { calls, compared, ends, places, longest, refusals } = &self.tally;
+        let refused: Vec<String> = refusals
+            .iter()
+            .enumerate()
+            .filter(|(_, &count)| count > 0)
+            .map(|(number, count)| format!("{number}: {count}"))
+            .collect();
+        println!("{name}: {calls} calls, {compared} compared, {ends} ends, {places} places, longest path {longest}, refusals [{}], {:.1} s",
+            refused.join(", "), begin.elapsed().as_secs_f64());
+    }
+}
+
+impl Tally {
+    fn count(&mut self, seen: &Seen) {
+        match seen {
+            Seen::Run(Outcome::Ended(end), _) => {
+                self.ends += 1;
+                self.places += end.places;
+                self.longest = self.longest.max(end.places);
+            }
+            Seen::Run(Outcome::Refused(number), _) => self.refusals[*number as usize] += 1,
+            Seen::Run(Outcome::Spent(_), _) => self.refusals[9] += 1,
+            Seen::Label(Ok(_), _) => self.ends += 1,
+            Seen::Label(Err(number), _) => self.refusals[*number as usize] += 1,
+            Seen::Slip(length, sheet) => {
+                let text = String::from_utf8_lossy(&sheet[..*length]);
+                let first = text.lines().next().unwrap_or("");
+                match first.strip_prefix("refused ") {
+                    Some(number) => self.refusals[number.parse::<usize>().unwrap_or(0)] += 1,
+                    None => self.ends += 1,
+                }
+            }
+        }
+    }
+}
+
+fn fits(implementation: &dyn Implementation, call: &Call) -> bool {
+    match call {
+        Call::Run(RunCall { sizes, divisions, .. }) | Call::Label(LabelCall { sizes, divisions, .. }) => {
+            Grid::new(sizes, divisions).map_or(true, |grid| implementation.fits(&grid))
+        }
+        Call::Slip(slip) => implementation.fits_slip(slip),
+    }
+}
+
+fn main() -> ExitCode {
+    let untouched: Vec<u8> = (0..SHEET_BYTES).map(|at| pattern(at) as u8).collect();
+    let implementations = all();
+    let names: Vec<&str> = implementations.iter().map(|implementation| implementation.name()).collect();
+    println!("comparing {}; all are held to the first, where the grid is small enough", names.join(", "));
+    let mut comparison = Comparison { implementations, untouched, tally: Tally::default(), differences: 0 };
+    let begin = Instant::now();
+    comparison.part("every label table of the smallest grids", inputs::every_table);
+    comparison.part("random grids up to 30 points", |take| inputs::random_runs(1, 500_000, 30, take));
+    comparison.part("random grids up to 130 points", |take| inputs::random_runs(2, 100_000, 130, take));
+    comparison.part("random grids up to 2,000 points", |take| inputs::random_runs(3, 300_000, 2_000, take));
+    comparison.part("random grids up to 60,000 points", |take| inputs::random_runs(4, 20_000, 60_000, take));
+    comparison.part("faulty runs", |take| inputs::faulty_runs(5, 200_000, take));
+    comparison.part("edges", inputs::edges);
+    comparison.part("small games", |take| inputs::games(6, 1_500, 130, take));
+    comparison.part("large games", |take| inputs::games(7, 300, 60_000, take));
+    comparison.part("labellings", |take| inputs::random_labellings(8, 20_000, 130, take));
+    comparison.part("damaged and cut slips", |take| inputs::damaged_slips(9, 100_000, take));
+    println!("{} differences, {:.1} s in all", comparison.differences, begin.elapsed().as_secs_f64());
+    if comparison.differences == 0 {
+        ExitCode::SUCCESS
+    } else {
+        ExitCode::FAILURE
+    }
+}

@@ -1,0 +1,110 @@
+//! The three calls, and a call as text in the form of the stored cases.
+
+use reference::games::GAMES;
+use std::fmt::{Display, Formatter, Result};
+
+/// A run; `answer` is the length of the answer buffer.
+#[derive(Clone, Debug, Default, PartialEq)]
+pub struct RunCall {
+    pub sizes: Vec<u8>,
+    pub divisions: Vec<u16>,
+    pub start: Vec<u16>,
+    pub labels: Vec<u8>,
+    pub budget: u64,
+    pub answer: usize,
+}
+
+/// A game labelling; `buffer` is the length of the label buffer.
+#[derive(Clone, Debug, Default, PartialEq)]
+pub struct LabelCall {
+    pub sizes: Vec<u8>,
+    pub divisions: Vec<u16>,
+    pub losses: Vec<u16>,
+    pub buffer: usize,
+}
+
+#[derive(Clone, Debug, PartialEq)]
+pub enum Call {
+    Run(RunCall),
+    Label(LabelCall),
+    Slip(Vec<u8>),
+}
+
+/// A slip's fields; those that are none are left out of the slip.
+#[derive(Clone, Default)]
+pub struct Fields<'a> {
+    pub sizes: &'a [u8],
+    pub divisions: &'a [u16],
+    pub start: Option<&'a [u16]>,
+    pub budget: Option<u64>,
+    pub labels: Option<&'a [u8]>,
+    pub game: Option<u8>,
+}
+
+impl Fields<'_> {
+    pub fn bytes(&self) -> Vec<u8> {
+        let bit = |there: bool, value: u8| if there { value } else { 0 };
+        let map = bit(self.start.is_some(), 1)
+            | bit(self.budget.is_some(), 2)
+            | bit(self.labels.is_some(), 4)
+            | bit(self.game.is_some(), 8);
+        let mut slip = vec![map, self.sizes.len() as u8];
+        slip.extend(self.sizes);
+        slip.extend(self.divisions.iter().flat_map(|division| division.to_le_bytes()));
+        slip.extend(self.start.unwrap_or(&[]).iter().flat_map(|number| number.to_le_bytes()));
+        slip.extend(self.budget.iter().flat_map(|budget| budget.to_le_bytes()));
+        slip.extend(self.labels.unwrap_or(&[]));
+        slip.extend(self.game);
+        slip
+    }
+}
+
+impl RunCall {
+    /// The slip of the same run. Its questions come in another order, and it lends an answer buffer that is long enough.
+    pub fn slip(&self) -> Vec<u8> {
+        let (start, budget, labels) = (Some(&self.start[..]), Some(self.budget), Some(&self.labels[..]));
+        Fields { sizes: &self.sizes, divisions: &self.divisions, start, budget, labels, game: None }.bytes()
+    }
+}
+
+impl LabelCall {
+    pub fn of_game(game: usize, divisions: &[u16], buffer: usize) -> LabelCall {
+        let GameTable { sizes, losses } = game_table(game);
+        LabelCall { sizes, divisions: divisions.to_vec(), losses, buffer }
+    }
+}
+
+pub struct GameTable {
+    pub sizes: Vec<u8>,
+    pub losses: Vec<u16>,
+}
+
+/// Game 1, 2 or 3.
+pub fn game_table(game: usize) -> GameTable {
+    GameTable { sizes: GAMES[game - 1].sizes.to_vec(), losses: GAMES[game - 1].losses.to_vec() }
+}
+
+pub fn spaced<T: ToString>(numbers: &[T]) -> String {
+    numbers.iter().map(T::to_string).collect::<Vec<_>>().join(" ")
+}
+
+pub fn hex(bytes: &[u8]) -> String {
+    bytes.iter().map(|byte| format!("{byte:02x}")).collect()
+}
+
+impl Display for Call {
+    fn fmt(&self, to: &mut Formatter) -> Result {
+        match self {
+            Call::Slip(slip) => write!(to, "call slip\nslip {}", hex(slip)),
+            Call::Run(run) => {
+                writeln!(to, "call run\nsizes {}\nd {}", spaced(&run.sizes), spaced(&run.divisions))?;
+                writeln!(to, "start {}\nlabels {}", spaced(&run.start), spaced(&run.labels))?;
+                write!(to, "budget {}\nanswer {}\nslip {}", run.budget, run.answer, hex(&run.slip()))
+            }
+            Call::Label(label) => {
+                writeln!(to, "call label\nsizes {}\nd {}", spaced(&label.sizes), spaced(&label.divisions))?;
+                write!(to, "losses {}\nbuffer {}", spaced(&label.losses), label.buffer)
+            }
+        }
+    }
+}

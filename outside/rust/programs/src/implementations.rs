@@ -1,0 +1,93 @@
+//! Everything that answers a call: by the definitions, by the paper's steps, and the proved code where it is linked.
+
+use crate::calls::{LabelCall, RunCall};
+use reference::grid::Grid;
+use reference::slip::{self, ByDefinitions, ByPaper, Slip, SHEET_BYTES};
+use reference::{games, paper, questions, small, Outcome};
+
+pub type Sheet = [u8; SHEET_BYTES];
+
+pub trait Implementation {
+    fn name(&self) -> &'static str;
+
+    /// Whether a path on this grid can be followed in reasonable time.
+    fn fits(&self, grid: &Grid) -> bool;
+
+    fn run(&self, call: &RunCall, answer: &mut [u16]) -> Outcome;
+
+    /// The count of labels written, or the refusal's number.
+    fn label(&self, call: &LabelCall, labels: &mut [u8]) -> Result<usize, u64>;
+
+    /// The length of the sheet.
+    fn sheet(&self, slip: &[u8], sheet: &mut Sheet) -> usize;
+
+    /// The grid of a slip that is accepted; for others there is no path to follow.
+    fn fits_slip(&self, slip: &[u8]) -> bool {
+        match slip::read(slip) {
+            Ok(Slip { grid, .. }) => self.fits(&grid),
+            Err(_) => true,
+        }
+    }
+}
+
+pub struct Paper;
+
+impl Implementation for Paper {
+    fn name(&self) -> &'static str {
+        "paper"
+    }
+
+    fn fits(&self, _: &Grid) -> bool {
+        true
+    }
+
+    fn run(&self, call: &RunCall, answer: &mut [u16]) -> Outcome {
+        paper::run(&call.sizes, &call.divisions, &call.start, &call.labels, answer, call.budget)
+    }
+
+    fn label(&self, call: &LabelCall, labels: &mut [u8]) -> Result<usize, u64> {
+        games::label(&call.sizes, &call.divisions, &call.losses, labels)
+    }
+
+    fn sheet(&self, slip: &[u8], sheet: &mut Sheet) -> usize {
+        slip::sheet::<ByPaper>(slip, sheet)
+    }
+}
+
+pub struct Definitions;
+
+/// Finding a place's links tries about P times its points; this many points keep a run within some milliseconds.
+const SMALL_GRID: usize = 300;
+
+impl Implementation for Definitions {
+    fn name(&self) -> &'static str {
+        "definitions"
+    }
+
+    fn fits(&self, grid: &Grid) -> bool {
+        grid.points <= SMALL_GRID
+    }
+
+    fn run(&self, call: &RunCall, answer: &mut [u16]) -> Outcome {
+        small::run(&call.sizes, &call.divisions, &call.start, &call.labels, answer, call.budget)
+    }
+
+    fn label(&self, call: &LabelCall, labels: &mut [u8]) -> Result<usize, u64> {
+        let grid = questions::of_labelling(&call.sizes, &call.divisions, &call.losses, labels.len())?;
+        games::fill_by_rule(&grid, &call.losses, labels);
+        Ok(grid.points)
+    }
+
+    fn sheet(&self, slip: &[u8], sheet: &mut Sheet) -> usize {
+        slip::sheet::<ByDefinitions>(slip, sheet)
+    }
+}
+
+/// The first is the one that the others are held to.
+pub fn all() -> Vec<Box<dyn Implementation>> {
+    #[allow(unused_mut)]
+    let mut all: Vec<Box<dyn Implementation>> = vec![Box::new(Paper), Box::new(Definitions)];
+    #[cfg(feature = "proved")]
+    all.push(Box::new(crate::proved::Proved));
+    all
+}

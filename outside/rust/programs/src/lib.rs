@@ -1,0 +1,12 @@
+//! What the programs share: calls, the implementations that answer them, inputs, and stored cases.
+
+pub mod calls;
+pub mod implementations;
+pub mod inputs;
+#[cfg(feature = "proved")]
+pub mod proved;
+pub mod random;
+pub mod stored;
+
+pub use calls::{Call, LabelCall, RunCall};
+pub use implementations::{all, Implementation};

@@ -1,0 +1,76 @@
+//! The stored cases, each from a `call` line to the next: lines of a word and its values, then `expect` and the lines expected.
+
+use crate::calls::{Call, Fields, LabelCall, RunCall};
+use std::collections::HashMap;
+
+pub struct Case {
+    pub name: String,
+    pub call: Call,
+    pub expect: Vec<String>,
+}
+
+/// The cases of a file.
+pub fn read(text: &str) -> Vec<Case> {
+    let lines: Vec<&str> = text.lines().collect();
+    let begins: Vec<usize> = (0..lines.len()).filter(|&at| lines[at].starts_with("call ")).collect();
+    let ends = begins.iter().skip(1).copied().chain([lines.len()]);
+    begins.iter().zip(ends).map(|(&begin, end)| read_case(&lines[begin..end])).collect()
+}
+
+fn read_case(lines: &[&str]) -> Case {
+    let mut lines = lines.iter().copied();
+    let mut values = HashMap::new();
+    for line in lines.by_ref().take_while(|&line| line != "expect") {
+        let (word, value) = line.split_once(' ').unwrap_or((line, ""));
+        values.insert(word, value);
+    }
+    let name = values.get("name").unwrap_or(&"").to_string();
+    let expect = lines.map(str::to_string).collect();
+    let list = |word: &str| numbers(values.get(word).copied().unwrap_or(""));
+    let bytes = |word: &str| list(word).iter().map(|&number| number as u8).collect::<Vec<u8>>();
+    let pairs = |word: &str| list(word).iter().map(|&number| number as u16).collect::<Vec<u16>>();
+    let given = |word: &str| values.get(word).is_some_and(|&value| value != "-");
+    let (sizes, divisions) = (bytes("sizes"), pairs("d"));
+    let call = match values["call"] {
+        "run" => {
+            let (budget, answer) = (list("budget")[0], list("answer")[0] as usize);
+            Call::Run(RunCall { sizes, divisions, start: pairs("start"), labels: bytes("labels"), budget, answer })
+        }
+        "label" => Call::Label(LabelCall { sizes, divisions, losses: pairs("losses"), buffer: list("buffer")[0] as usize }),
+        "slip" => {
+            let (start, labels) = (pairs("start"), bytes("labels"));
+            let composed = Fields {
+                sizes: &sizes,
+                divisions: &divisions,
+                start: given("start").then_some(&start[..]),
+                budget: given("budget").then(|| list("budget")[0]),
+                labels: given("labels").then_some(&labels[..]),
+                game: given("game").then(|| list("game")[0] as u8),
+            };
+            let slip = values.get("slip").map(|hex| from_hex(hex));
+            if let (Some(slip), true) = (&slip, given("sizes")) {
+                assert_eq!(*slip, composed.bytes(), "the slip is that of the fields");
+            }
+            Call::Slip(slip.unwrap_or_else(|| composed.bytes()))
+        }
+        other => panic!("unknown call {other}"),
+    };
+    Case { name, call, expect }
+}
+
+/// Numbers with spaces between; `5x2` stands for five times 2, and `-` for none.
+fn numbers(text: &str) -> Vec<u64> {
+    let parse = |word: &str| word.parse::<u64>().expect("a number");
+    let mut numbers = Vec::new();
+    for word in text.split_whitespace().filter(|&word| word != "-") {
+        match word.split_once('x') {
+            Some((count, number)) => numbers.extend(std::iter::repeat(parse(number)).take(parse(count) as usize)),
+            None => numbers.push(parse(word)),
+        }
+    }
+    numbers
+}
+
+fn from_hex(text: &str) -> Vec<u8> {
+    (0..text.len() / 2).map(|at| u8::from_str_radix(&text[2 * at..2 * at + 2], 16).expect("two digits")).collect()
+}

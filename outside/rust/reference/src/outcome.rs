@@ -1,0 +1,27 @@
+//! What a run answers.
+
+/// How the path ended.
+#[derive(Clone, Copy, Debug, PartialEq, Eq)]
+pub enum Kind {
+    Place,
+    Facet,
+}
+
+/// A path's end; the vertices themselves stand in the answer buffer.
+#[derive(Clone, Copy, Debug, PartialEq, Eq)]
+pub struct End {
+    pub places: u64,
+    pub kind: Kind,
+    /// Counted from 1.
+    pub block: usize,
+    pub vertices: usize,
+}
+
+#[derive(Clone, Copy, Debug, PartialEq, Eq)]
+pub enum Outcome {
+    Ended(End),
+    /// Any refusal but number 9.
+    Refused(u64),
+    /// Number 9, with the places visited.
+    Spent(u64),
+}
