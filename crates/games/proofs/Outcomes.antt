@@ -5,7 +5,7 @@ use mathlib.Core.Path.{_≡_, refl, sym, ap, _∙_}
 use Prim.Native.Nat.{ℕ, _*_, _<_}
 use borrow.Author.Tests.{eq-eqb, ne-eqb, ltb-true}
 use lib.Dec.{ltb}
-use lib.ListN.{length}
+use lib.ListN.{length, take}
 use native.Mathlib.Omega.{arith}
 use Rattle.combinatorics.proofs.Basics.{and-left, and-right}
 use Rattle.combinatorics.specs.Front.{front}
@@ -78,7 +78,7 @@ module _ (g : Grid) (losses buffer : List ℕ) (a : firstNo (gridQuestions g) �
     asked-all h n = rest ∙ rw (eq-eqb _ _ e, h, eq-eqb _ _ n)
 
 -- what the constructor hands over
-pub made-laid : (g : Grid) (r : Made) → r ≡ madeOf g → r .code ≡ 0 → Laid g (r .grid .firsts) × (r .grid .points ≡ numPoints g) × (r .grid .indices ≡ numIndices g)
+pub made-laid : (g : Grid) (r : Made) → r ≡ madeOf g → r .code ≡ 0 → Laid g (r .grid .firsts) × (r .grid .points ≡ numPoints g) × (r .grid .indices ≡ numIndices g) × (take (numBlocks g) (r .grid .divisions) ≡ g .divisions)
 made-laid g r is z =
     let m = made-is g r is z in
     let e : shape (r .grid) ≡ g = made-shape g r is z in
@@ -86,4 +86,5 @@ made-laid g r is z =
       record { asked = sym (made-code g r is) ∙ z; known = λ j h. made-first (r .grid) m j (omega arith) ∙ ap (λ (x : Grid). firstIndex x j) e },
       made-points (r .grid) m ∙ ap numPoints e,
       made-indices (r .grid) m ∙ ap numIndices e,
+      ap (λ (n : ℕ). take n (r .grid .divisions)) (sym b) ∙ ap (λ (x : Grid). x .divisions) e,
     )

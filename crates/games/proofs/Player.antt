@@ -8,7 +8,7 @@ use lib.Seq.{paste}
 use native.Mathlib.Omega.{arith}
 use Rattle.grid.proofs.Accepted.{accepted}
 use Rattle.grid.proofs.Round.{block-fits}
-use Rattle.grid.specs.Grid.{Grid, Point, numBlocks, division, size, firstIndex, indicesOf}
+use Rattle.grid.specs.Grid.{Grid, Point, numBlocks, numIndices, division, size, firstIndex, indicesOf}
 use Rattle.games.proofs.Losses.{expected-fits, replaced-fit}
 use Rattle.games.proofs.Players.{lent-mix, length-mix, point-length}
 use Rattle.games.proofs.Replaced.{block-expected, block-replaced}
@@ -37,13 +37,13 @@ module _ (g : Grid) (firsts losses : List ℕ) (y : Point) (d : Drawn g firsts y
       rw (lent-is, ← stand)
       (ap (λ (v : List ℕ). dot (mix g y j) v) (sym (take-append-drop (size g j) values)) ∙ dot-front (mix g y j) (take (size g j) values) (drop (size g j) values) (omega (arith, length-mix g y j, length-take (size g j) values, room)))
 
-  pub player-ready : (length lent ≤ length values) × (dot lent values < 4294967296) × (fit (map (λ v. division g j * v) (take (length lent) values)) ≡ true) × (first + length lent ≤ 16)
+  pub player-ready : (length lent ≤ length values) × (dot lent values < 4294967296) × (fit (map (λ v. division g j * v) (take (length lent) values)) ≡ true) × (first + length lent ≤ numIndices g)
   player-ready =
       let a = accepted g (d .laid .asked) in (
         omega (arith, lent-length, room),
         rw lent-dot (expected-fits g j a y (d .isPoint) h (lossesOf g losses j) (part-low g losses t j h)),
         rw (lent-length, stand) (replaced-fit g j a y (d .isPoint) h (lossesOf g losses j) (part-low g losses t j h)),
-        omega (arith, lent-length, block-fits (g .sizes) j, a .fewIndices),
+        omega (arith, lent-length, block-fits (g .sizes) j),
       )
 
   pub player-expected : (old : List ℕ) → paste old first (replicate (length lent) (dot lent values)) (length lent) ≡ paste old (firstIndex g j) (map (playerLoss g losses y) (indicesOf g j)) (size g j)

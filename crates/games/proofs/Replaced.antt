@@ -35,20 +35,23 @@ picked d b (suc n) (suc k) (x ∷ t) l =
     let z : b + suc k ≡ suc b + k = omega arith in
     rw (z, ne-eqb b (suc b + k) (λ e. omega arith)) (omega (arith, picked d (suc b) n k t (omega arith)))
 
-mix-lengths : (g : Grid) (y : Point) (l : List ℕ) → map (size g) l ≡ map length (map (mix g y) l)
+pub mix-lengths : (g : Grid) (y : Point) (l : List ℕ) → map (size g) l ≡ map length (map (mix g y) l)
 mix-lengths g y [] = refl
 mix-lengths g y (i ∷ l) = rw (length-mix g y i, mix-lengths g y l)
 
 module _ (g : Grid) (losses : List ℕ) where
-  expected-is : (y : Point) (j : ℕ) → expectedLoss g losses y j ≡ dot (mix g y j) (strategyLosses g y j (lossesOf g losses j))
+  pub expected-weights : (y : Point) (j : ℕ) → expectedLoss g losses y j ≡ dot (weights (map (mix g y) (ownFirst g j))) (lossesOf g losses j)
   unfolding expectedLoss
-  expected-is y j =
+  expected-weights y j =
       let mixes : List (List ℕ) = map (mix g y) (ownFirst g j) in
-      let part : List ℕ = lossesOf g losses j in
-      ap (λ (ss : List ℕ). dot (map (chance mixes) (profiles ss)) part) (mix-lengths g y (ownFirst g j))
-      ∙ ap (λ (w : List ℕ). dot w part) (chances mixes)
-      ∙ dot-spread (mix g y j) (weights (map (mix g y) (opponents g j))) part
-      ∙ ap (λ (n : ℕ). dot (mix g y j) (weighed n (weights (map (mix g y) (opponents g j))) part)) (length-mix g y j)
+      ap (λ (ss : List ℕ). dot (map (chance mixes) (profiles ss)) (lossesOf g losses j)) (mix-lengths g y (ownFirst g j)) ∙ ap (λ (w : List ℕ). dot w (lossesOf g losses j)) (chances mixes)
+
+  pub expected-is : (y : Point) (j : ℕ) → expectedLoss g losses y j ≡ dot (mix g y j) (strategyLosses g y j (lossesOf g losses j))
+  expected-is y j =
+      let others : List ℕ = weights (map (mix g y) (opponents g j)) in
+      expected-weights y j
+      ∙ dot-spread (mix g y j) others (lossesOf g losses j)
+      ∙ ap (λ (n : ℕ). dot (mix g y j) (weighed n others (lossesOf g losses j))) (length-mix g y j)
 
   module _ (y : Point) (j k : ℕ) (h : k < size g j) where
     abbrev own : ℕ
@@ -73,7 +76,7 @@ module _ (g : Grid) (losses : List ℕ) where
         (in-all onNumbers _ (opponents g j) (λ i m. filter-in onNumbers (λ i. not (eqb i j)) i (blocks g) m .1))
         (λ i b. other-mix i (eqb-false i j (not-is (eqb i j) b)))
 
-    replaced-is : replacedLoss g losses y own ≡ division g j * getD (strategyLosses g y j (lossesOf g losses j)) k 0
+    pub replaced-is : replacedLoss g losses y own ≡ division g j * getD (strategyLosses g y j (lossesOf g losses j)) k 0
     replaced-is =
         let b : blockOf g own ≡ j = block-at (g .sizes) j k h in
         ap (λ (i : ℕ). expectedLoss g losses (replaced g y own) i) b

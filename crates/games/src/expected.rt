@@ -111,10 +111,10 @@ pub fn put_losses(
     values: &[u32],
     division: u16,
     first: usize,
-    expected: &mut [u32; 16],
-    replaced: &mut [u32; 16],
+    expected: &mut [u32],
+    replaced: &mut [u32],
 )
-    requires { ⌜ (length (now mix) ≤ length (now values)) × (dotOf (now mix) (now values) < 4294967296) × (fit (map (λ v. division * v) (take (length (now mix)) (now values))) ≡ true) × (first + length (now mix) ≤ 16) × (length (now expected) ≡ 16) × (length (now replaced) ≡ 16) ⌝ }
+    requires { ⌜ (length (now mix) ≤ length (now values)) × (dotOf (now mix) (now values) < 4294967296) × (fit (map (λ v. division * v) (take (length (now mix)) (now values))) ≡ true) × (first + length (now mix) ≤ length (now expected)) × (first + length (now mix) ≤ length (now replaced)) ⌝ }
     ensures { λ _. ⌜ now (expected .exit) ≡ paste (now (expected .entry)) first (replicate (length (now (mix .entry))) (dotOf (now (mix .entry)) (now (values .entry)))) (length (now (mix .entry))) ⌝ }
     ensures { λ _. ⌜ now (replaced .exit) ≡ paste (now (replaced .entry)) first (map (λ v. division * v) (take (length (now (mix .entry))) (now (values .entry)))) (length (now (mix .entry))) ⌝ }
 {

@@ -7,9 +7,11 @@ ghost use Rattle.games.specs.Known.{inRange};
 ghost use Rattle.games.specs.Labelling.{question15, labelAnswer, labelBuffer, gameAnswer, gameBuffer};
 use grid::Grid;
 
+mod corners;
 mod expected;
 mod game;
 mod largest;
+mod point;
 mod successor;
 mod tables;
 
@@ -85,9 +87,11 @@ pub fn label(sizes: &[u8], divisions: &[u16], losses: &[u16], buffer: &mut [u8])
         return Labelled::Refused(12);
     }
     let firsts = grid.firsts;
+    let padded = grid.divisions;
     game::write_labels(
         sizes,
         divisions,
+        padded,
         &firsts,
         losses,
         count,

@@ -1,8 +1,9 @@
 // The grid points in rising lexicographic order, one from the other.
+ghost use mathlib.Core.Bool.{false};
 ghost use mathlib.Core.List.{List};
 ghost use mathlib.Core.Path.{_≡_};
-ghost use Prim.Native.Nat.{ℕ, _<_};
-ghost use lib.ListN.{length, replicate};
+ghost use Prim.Native.Nat.{ℕ, _-_, _<_};
+ghost use lib.ListN.{length, take, replicate};
 ghost use Rattle.combinatorics.specs.Front.{front};
 ghost use Rattle.combinatorics.specs.Lists.{sum};
 ghost use Rattle.games.specs.Known.{gridOf, Laid, Drawn};
@@ -42,10 +43,11 @@ fn advance_block(block: &mut [u16]) -> bool
     true
 }
 
-// The grid point becomes the one after it. The last becomes the first.
-pub fn advance(sizes: &[u8], firsts: &[u8; 6], point: &mut [u16])
+// The grid point becomes the one after it. The last becomes the first. False: only the last block has changed.
+pub fn advance(sizes: &[u8], firsts: &[u8; 6], point: &mut [u16]) -> bool
     requires { ⌜ ((ds : List ℕ) × Drawn (gridOf (now sizes) ds) (now firsts) (now point)) ⌝ }
     ensures { λ _. ⌜ now (point .exit) ≡ afterAll (now (sizes .entry)) (now (point .entry)) .list ⌝ }
+    ensures { λ r. ⌜ (r ≡ false → take (sum (take (length (now (sizes .entry)) - 1) (now (sizes .entry)))) (now (point .exit)) ≡ take (sum (take (length (now (sizes .entry)) - 1) (now (sizes .entry)))) (now (point .entry))) ⌝ }
 {
     let mut j = sizes.len();
     while 0 < j {
@@ -53,9 +55,10 @@ pub fn advance(sizes: &[u8], firsts: &[u8; 6], point: &mut [u16])
         let first = count_of(firsts[j]);
         let end = first + count_of(sizes[j]);
         if advance_block(&mut point[first..end]) {
-            return;
+            return j + 1 < sizes.len();
         }
     }
+    true
 }
 
 // The first grid point, at the front of an array of zeros.

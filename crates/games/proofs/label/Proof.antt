@@ -4,7 +4,7 @@ use mathlib.Core.Path.{_≡_, sym, ap, _∙_}
 use Prim.Native.Nat.{ℕ, _*_}
 use native.Mathlib.Nat.{mul-le-mul}
 use native.Mathlib.Omega.{arith}
-use lib.ListN.{length}
+use lib.ListN.{length, take}
 use borrow.Author.Tests.{not-true, not-false}
 use Rattle.combinatorics.specs.Lists.{all}
 use Rattle.grid.proofs.Accepted.{Accepted, accepted}
@@ -29,7 +29,7 @@ module _ (e : tie.Else1) where
   abbrev g : Grid
   g = gridOf (s .args .sizes .now) (s .args .divisions .now)
 
-  laid : Laid g (e .before .before .new .result .grid .firsts) × (e .before .before .new .result .grid .points ≡ numPoints g) × (e .before .before .new .result .grid .indices ≡ numIndices g)
+  laid : Laid g (e .before .before .new .result .grid .firsts) × (e .before .before .new .result .grid .points ≡ numPoints g) × (e .before .before .new .result .grid .indices ≡ numIndices g) × (take (numBlocks g) (e .before .before .new .result .grid .divisions) ≡ g .divisions)
   laid = made-laid g (e .before .before .new .result) (e .before .before .new .ensures) (e .if1 .left)
 
   is-accepted : Accepted g
@@ -91,19 +91,19 @@ returns-4 c =
 
 write-labels-requires : tie.Need-write-labels-requires
 write-labels-requires c κs =
-    let e = c .before .before .before .before .before .before .before .before .before .before in
-    let t : IsTable (g e) (s e .args .losses .now) = record { whole = whole (c .before .before .before .before .before .before .before); range = range (c .before .before .before .before .before) } in
-    (laid e .0, t, c .before .before .before .before .before .before .before .before .profile-count .ensures, laid e .2, c .before .before .before .if4 .left ∙ laid e .1)
+    let e = c .before .before .before .before .before .before .before .before .before .before .before in
+    let t : IsTable (g e) (s e .args .losses .now) = record { whole = whole (c .before .before .before .before .before .before .before .before); range = range (c .before .before .before .before .before .before) } in
+    (laid e .0, t, c .before .before .before .before .before .before .before .before .before .profile-count .ensures, laid e .2, c .before .before .before .before .if4 .left ∙ laid e .1, laid e .3)
 
 same-length : tie.Need-same-length
 same-length c = search needs
 
 returns-5 : tie.Need-returns-5
 returns-5 c =
-    let e = c .before .before .before .before .before .before .before .before .before .before .before .before .before in
+    let e = c .before .before .before .before .before .before .before .before .before .before .before .before .before .before in
     let l = s e .args .losses .now in
     let b = s e .args .buffer .now in
-    let w = written (g e) (labelQuestions (g e) l b) l b (asked-all (g e) l b (laid e .0 .asked) (whole (c .before .before .before .before .before .before .before .before .before .before)) (range (c .before .before .before .before .before .before .before .before)) (c .before .before .before .before .before .before .if4 .left ∙ laid e .1)) in
+    let w = written (g e) (labelQuestions (g e) l b) l b (asked-all (g e) l b (laid e .0 .asked) (whole (c .before .before .before .before .before .before .before .before .before .before .before)) (range (c .before .before .before .before .before .before .before .before .before)) (c .before .before .before .before .before .before .before .if4 .left ∙ laid e .1)) in
     (ap Written (laid e .1) ∙ w .0, c .before .before .write-labels .ensures ∙ w .1)
 
 pub label-spec : {M : Type 1} → statement M

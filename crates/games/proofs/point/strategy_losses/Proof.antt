@@ -10,8 +10,8 @@ use Rattle.games.specs.Weights.{strategyLosses}
 use Rattle.games.proofs.Table.{part-inside, lent-part, loaded}
 use Rattle.games.specs.Known.{gridOf}
 use borrow.Author.Needs.{needs}
-use Rattle.games.proofs.game.strategy_losses.Statement.{statement}
-use Rattle.games.proofs.game.strategy_losses.Tie as tie
+use Rattle.games.proofs.point.strategy_losses.Statement.{statement}
+use Rattle.games.proofs.point.strategy_losses.Tie as tie
 
 inside : (s : tie.Start) → s .args .player * s .args .count + s .args .count ≤ length (s .args .losses .now)
 inside s =

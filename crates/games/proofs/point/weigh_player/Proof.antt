@@ -10,13 +10,13 @@ use Rattle.games.proofs.Player.{player-ready, player-expected, player-r
 use Rattle.games.proofs.Players.{point-length}
 use Rattle.games.specs.Known.{gridOf}
 use borrow.Author.Needs.{needs}
-use Rattle.games.proofs.game.weigh_player.Statement.{statement}
-use Rattle.games.proofs.game.weigh_player.Tie as tie
+use Rattle.games.proofs.point.weigh_player.Statement.{statement}
+use Rattle.games.proofs.point.weigh_player.Tie as tie
 
 -- what is known where the losses are written
 module _ (c : tie.After-count-of2) where
   abbrev s : tie.Start
-  s = c .before .before .before .before .before .before .before .before .before .before .before .before .before
+  s = c .before .before .before .before .before .before .before .before .before .before .before .before .before .before .before
 
   abbrev g : Grid
   g = gridOf (s .args .sizes .now) (s .args .divisions .now)
@@ -32,7 +32,7 @@ strategy-losses-requires c κs = search needs
 
 element-copy-out-count-of : tie.Need-element-copy-out-count-of
 element-copy-out-count-of c =
-    let s = c .before .before .before .before .before .before .before .before .before in
+    let s = c .before .before .before .before .before .before .before .before .before .before .before in
     omega (arith, accepted (gridOf (s .args .sizes .now) (s .args .divisions .now)) (s .pre .0 .drawn .laid .asked) .fewBlocks)
 
 count-of-requires : tie.Need-count-of-requires
@@ -64,28 +64,34 @@ mul-put-losses-2 c = search needs
 
 shared-slice-read-put-losses : tie.Need-shared-slice-read-put-losses
 shared-slice-read-put-losses c =
-    let s = c .before .before .before .before .before .before .before .before .before .before .before .before .before .before .before .before in
+    let s = c .before .before .before .before .before .before .before .before .before .before .before .before .before .before .before .before .before .before in
     omega (arith, accepted (gridOf (s .args .sizes .now) (s .args .divisions .now)) (s .pre .0 .drawn .laid .asked) .sameNumber)
 
 put-losses-requires : tie.Need-put-losses-requires
 put-losses-requires c κs =
     let w = c .before .before .before .before .before in
-    let s = w .before .before .before .before .before .before .before .before .before .before .before .before .before in
+    let s = w .before .before .before .before .before .before .before .before .before .before .before .before .before .before .before in
     let l = w .before .before .before .before .before .before .strategy-losses in
     let r = player-ready (g w) (s .args .firsts .now) (s .args .losses .now) (s .args .point .now) (s .pre .0 .drawn) (s .pre .0 .table) (s .args .player) (s .pre .1) (l .last .1 .1 .1 .1 .1 .1 .0) (l .ensures) (w .before .before .count-of .result) (w .count-of2 .result) (first-is w) (w .count-of2 .ensures) in
-    (r .0, r .1, r .2, r .3, s .pre .2, s .pre .3)
+    (r .0, r .1, r .2, omega (arith, r .3, s .pre .2), omega (arith, r .3, s .pre .3))
 
 same-length : tie.Need-same-length
 same-length c = search needs
 
+same-length-2 : tie.Need-same-length-2
+same-length-2 c = search needs
+
+same-length-3 : tie.Need-same-length-3
+same-length-3 c = search needs
+
 returns : tie.Need-returns
 returns c =
-    let w = c .before .before .before .before .before .before in
-    let s = w .before .before .before .before .before .before .before .before .before .before .before .before .before in
+    let w = c .before .before .before .before .before .before .before .before .before .before in
+    let s = w .before .before .before .before .before .before .before .before .before .before .before .before .before .before .before in
     let l = w .before .before .before .before .before .before .strategy-losses in
     let p = player-expected (g w) (s .args .firsts .now) (s .args .losses .now) (s .args .point .now) (s .pre .0 .drawn) (s .pre .0 .table) (s .args .player) (s .pre .1) (l .last .1 .1 .1 .1 .1 .1 .0) (l .ensures) (w .before .before .count-of .result) (w .count-of2 .result) (first-is w) (w .count-of2 .ensures) (s .args .expected .now) in
     let q = player-replaced (g w) (s .args .firsts .now) (s .args .losses .now) (s .args .point .now) (s .pre .0 .drawn) (s .pre .0 .table) (s .args .player) (s .pre .1) (l .last .1 .1 .1 .1 .1 .1 .0) (l .ensures) (w .before .before .count-of .result) (w .count-of2 .result) (first-is w) (w .count-of2 .ensures) (s .args .replaced .now) in
-    (c .put-losses .ensures .0 ∙ p, c .put-losses .ensures .1 ∙ q)
+    (c .before .before .before .before .put-losses .ensures .0 ∙ p, c .before .before .before .before .put-losses .ensures .1 ∙ q)
 
 pub weigh-player-spec : {M : Type 1} → statement M
 weigh-player-spec =
@@ -105,4 +111,6 @@ weigh-player-spec =
     shared-slice-read-put-losses
     put-losses-requires
     same-length
+    same-length-2
+    same-length-3
     returns)

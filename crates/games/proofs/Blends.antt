@@ -1,0 +1,85 @@
+-- Sums weighed by a mix, and that the products of mixes are linear in each of them. Assumes nothing.
+use mathlib.Core.List.{List, [], _∷_, _++_}
+use mathlib.Core.Path.{_≡_, refl, sym, ap, _∙_}
+use Prim.Native.Nat.{ℕ, zero, suc, _+_, _*_, _<_}
+use lib.ListN.{length, getD, take, drop, replicate, length-set, length-replicate}
+use native.Mathlib.Numerals.{add-one}
+use native.Mathlib.Omega.{arith}
+use Rattle.combinatorics.proofs.Turns.{map-append}
+use Rattle.combinatorics.specs.Lists.{sum}
+use Rattle.grid.specs.Grid.{at}
+use Rattle.games.proofs.Weights.{dot-spread, length-weights}
+use Rattle.games.specs.Corners.{blend, unit}
+use Rattle.games.specs.Game.{dot}
+use Rattle.games.specs.Weights.{weighed, weights}
+
+pub blend-agree : (z : List ℕ) (f e : ℕ → ℕ) → ((k : ℕ) → k < length z → f k ≡ e k) → blend z f ≡ blend z e
+blend-agree [] f e h = refl
+blend-agree (x ∷ z) f e h = rw (h 0 (omega arith), blend-agree z (λ k. f (suc k)) (λ k. e (suc k)) (λ k l. h (suc k) (omega arith)))
+
+pub blend-times : (a : ℕ) (z : List ℕ) (f : ℕ → ℕ) → blend z (λ k. a * f k) ≡ a * blend z f
+blend-times a [] f = omega arith
+blend-times a (x ∷ z) f = omega (arith, blend-times a z (λ k. f (suc k)))
+
+blend-add : (z : List ℕ) (f e : ℕ → ℕ) → blend z (λ k. f k + e k) ≡ blend z f + blend z e
+blend-add [] f e = omega arith
+blend-add (x ∷ z) f e = omega (arith, blend-add z (λ k. f (suc k)) (λ k. e (suc k)))
+
+pub blend-same : (z : List ℕ) (a : ℕ) → blend z (λ k. a) ≡ sum z * a
+blend-same [] a = omega arith
+blend-same (x ∷ z) a = omega (arith, blend-same z a)
+
+-- one number more
+pub blend-next : (z : List ℕ) (k : ℕ) (f : ℕ → ℕ) → k < length z → blend (take (k + 1) z) f ≡ blend (take k z) f + getD z k 0 * f k
+blend-next z k f h = rw (add-one k) (go z k f h)
+  where
+    go : (z : List ℕ) (k : ℕ) (f : ℕ → ℕ) → k < length z → blend (take (suc k) z) f ≡ blend (take k z) f + getD z k 0 * f k
+    go [] k f h = absurd (omega arith)
+    go (x ∷ z) zero f h = omega arith
+    go (x ∷ z) (suc k) f h = omega (arith, go z k (λ i. f (suc i)) (omega arith))
+
+dot-blend : (z v : List ℕ) → dot z v ≡ blend z (at v)
+dot-blend [] v = refl
+dot-blend (x ∷ z) [] = omega (arith, blend-same z 0)
+dot-blend (x ∷ z) (y ∷ v) = ap (λ (n : ℕ). x * y + n) (dot-blend z v)
+
+pub unit-length : (s k : ℕ) → length (unit s k) ≡ s
+unit-length s k = length-set (replicate s 0) k 1 ∙ length-replicate s 0
+
+dot-zeros : (s : ℕ) (v : List ℕ) → dot (replicate s 0) v ≡ 0
+dot-zeros zero v = refl
+dot-zeros (suc s) [] = refl
+dot-zeros (suc s) (y ∷ v) = omega (arith, dot-zeros s v)
+
+dot-unit : (s k : ℕ) (v : List ℕ) → k < s → dot (unit s k) v ≡ at v k
+dot-unit zero k v h = absurd (omega arith)
+dot-unit (suc s) zero [] h = refl
+dot-unit (suc s) zero (y ∷ v) h = omega (arith, dot-zeros s v)
+dot-unit (suc s) (suc k) [] h = refl
+dot-unit (suc s) (suc k) (y ∷ v) h = omega (arith, dot-unit s k v (omega arith))
+
+-- rows weighed by weights that are a sum
+module _ (z w : List ℕ) (ws : ℕ → List ℕ) (long : (k : ℕ) → length (ws k) ≡ length w) (parts : (t : List ℕ) → dot w t ≡ blend z (λ k. dot (ws k) t)) where
+  weighed-blend : (x t : List ℕ) → dot x (weighed (length x) w t) ≡ blend z (λ k. dot x (weighed (length x) (ws k) t))
+  weighed-blend [] t = sym (blend-same z 0 ∙ omega arith)
+  weighed-blend (a ∷ x) t =
+      ap (λ (n : ℕ). a * n + dot x (weighed (length x) w (drop (length w) t))) (parts t)
+      ∙ ap (λ (n : ℕ). a * blend z (λ k. dot (ws k) t) + n) (weighed-blend x (drop (length w) t))
+      ∙ ap (λ (n : ℕ). n + blend z (λ k. dot x (weighed (length x) (ws k) (drop (length w) t)))) (sym (blend-times a z (λ k. dot (ws k) t)))
+      ∙ sym (blend-add z (λ k. a * dot (ws k) t) (λ k. dot x (weighed (length x) (ws k) (drop (length w) t))))
+      ∙ blend-agree z _ _ (λ k h. rw (long k))
+
+-- the products of the mixes are linear in each mix
+pub linear : (xs : List (List ℕ)) (z : List ℕ) (ys : List (List ℕ)) (t : List ℕ)
+    → dot (weights (xs ++ z ∷ ys)) t ≡ blend z (λ k. dot (weights (xs ++ unit (length z) k ∷ ys)) t)
+linear [] z ys t =
+    dot-spread z (weights ys) t
+    ∙ dot-blend z (weighed (length z) (weights ys) t)
+    ∙ blend-agree z _ _ (λ k h. sym (dot-spread (unit (length z) k) (weights ys) t ∙ rw (unit-length (length z) k) (dot-unit (length z) k _ h)))
+linear (x ∷ xs) z ys t =
+    dot-spread x (weights (xs ++ z ∷ ys)) t
+    ∙ weighed-blend z (weights (xs ++ z ∷ ys)) (λ k. weights (xs ++ unit (length z) k ∷ ys)) long (linear xs z ys) x t
+    ∙ blend-agree z _ _ (λ k h. sym (dot-spread x (weights (xs ++ unit (length z) k ∷ ys)) t))
+  where
+    long : (k : ℕ) → length (weights (xs ++ unit (length z) k ∷ ys)) ≡ length (weights (xs ++ z ∷ ys))
+    long k = rw (length-weights, length-weights, map-append, map-append, unit-length (length z) k)

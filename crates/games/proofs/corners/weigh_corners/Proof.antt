@@ -1,0 +1,91 @@
+-- `weigh_corners` meets its contract: the losses at the corners passed stand in their rows. Assumes nothing.
+use mathlib.Core.Path.{_≡_, refl}
+use Prim.Native.Nat.{_-_, _≤_, _<_}
+use native.Mathlib.Omega.{arith}
+use borrow.Author.Needs.{needs}
+use borrow.Author.Tests.{not-true}
+use lib.ListN.{length}
+use Rattle.grid.specs.Grid.{at}
+use Rattle.games.specs.Corners.{Cornered}
+use Rattle.games.specs.Known.{gridOf}
+use Rattle.games.proofs.corners.weigh_corners.Statement.{statement}
+use Rattle.games.proofs.corners.weigh_corners.Tie as tie
+
+abbrev Inv-loop : tie.InvT-loop
+Inv-loop sizes ones firsts losses point count changed values₀ expected₀ replaced₀ size k₀ values expected replaced k =
+    Cornered (gridOf sizes ones) losses point k expected replaced × (k ≤ size) × (length values ≡ length values₀) × (length expected ≡ 256) × (length replaced ≡ 256) × (size ≡ at sizes (length sizes - 1))
+
+abbrev μ-loop : tie.MeasureT-loop
+μ-loop sizes ones firsts losses point count changed values₀ expected₀ replaced₀ size k₀ values expected replaced k = size - k
+
+returns : tie.Need-returns Inv-loop μ-loop
+returns c = c .before .before .before .before .before .before .before .before .pre .1 .1 (not-true _ (c .if1 .taken))
+
+sub-count-of : tie.Need-sub-count-of Inv-loop μ-loop
+sub-count-of c = omega arith
+
+shared-slice-read-count-of : tie.Need-shared-slice-read-count-of Inv-loop μ-loop
+shared-slice-read-count-of c = omega arith
+
+count-of-requires : tie.Need-count-of-requires Inv-loop μ-loop
+count-of-requires c κs = search needs
+
+loop-holds : tie.Need-loop-holds Inv-loop μ-loop
+loop-holds c =
+    let p = c .before .before .before .before .before .before .before .before .before .before .pre in
+    (record { expectedAt = λ k h b. absurd (omega arith); replacedAt = λ k h b. absurd (omega arith) }, omega arith, refl, p .0 .3, p .0 .4, c .count-of .ensures)
+
+weigh-corner-requires : tie.Need-weigh-corner-requires Inv-loop μ-loop
+weigh-corner-requires c κs =
+    let p = c .before .before .before .before .before .before .before .before .before .before .before .before .before .before .before .pre in
+    let l = c .before .before .before .before .loop in
+    let s = c .before .before .before .before .before .before .before .before .before .before .before .before .before .before .before in
+    let inside : l .k < at (s .args .sizes .now) (length (s .args .sizes .now) - 1) = omega (arith, l .inv .5) in
+    ((p .0 .0, p .0 .1, omega (arith, p .0 .2), l .inv .3, l .inv .4, p .0 .5, inside), (p .1 .0 (l .k) inside, l .inv .0))
+
+add-k : tie.Need-add-k Inv-loop μ-loop
+add-k c = omega arith
+
+loop-less : tie.Need-loop-less Inv-loop μ-loop
+loop-less c = omega arith
+
+loop-again : tie.Need-loop-again Inv-loop μ-loop
+loop-again c =
+    let l = c .before .before .before .before .before .before .before .before .before .before .before .loop in
+    (c .before .before .before .before .before .before .weigh-corner .ensures, omega arith, omega arith, omega arith, omega arith, l .inv .5)
+
+same-length : tie.Need-same-length Inv-loop μ-loop
+same-length c = omega arith
+
+same-length-2 : tie.Need-same-length-2 Inv-loop μ-loop
+same-length-2 c = omega arith
+
+same-length-3 : tie.Need-same-length-3 Inv-loop μ-loop
+same-length-3 c = omega arith
+
+returns-2 : tie.Need-returns-2 Inv-loop μ-loop
+returns-2 c =
+    let l = c .before .loop in
+    let s = c .before .before .before .before .before .before .before .before .before .before .before .before in
+    let e : l .k ≡ at (s .args .sizes .now) (length (s .args .sizes .now) - 1) = omega (arith, l .inv .5) in
+    rw e at (l .inv .0)
+
+pub weigh-corners-spec : {M : Type 1} → statement M
+weigh-corners-spec =
+    tie.close
+    (tie.spec
+    Inv-loop
+    μ-loop
+    returns
+    sub-count-of
+    shared-slice-read-count-of
+    count-of-requires
+    loop-holds
+    weigh-corner-requires
+    add-k
+    loop-less
+    loop-again
+    same-length
+    same-length-2
+    same-length-3
+    returns-2)
