@@ -1,11 +1,11 @@
 -- Laws of a buffer that is filled from the front. Assumes nothing.
 use mathlib.Core.Path.{_≡_, refl, sym, ap, _∙_}
-use mathlib.Core.List.{List, [], _∷_, _++_}
+use mathlib.Core.List.{List, [], _∷_, _++_, append-nil}
 use Prim.Native.Nat.{ℕ, _+_, _≤_, _<_, _-_}
 use native.Mathlib.Omega.{arith}
 use native.Mathlib.Numerals.{add-one}
 use lib.ListN.{length, take, drop, set, getD, length-append, length-drop, List·getD-append}
-use lib.Seq.{paste, take-append-seam, drop-append-add, drop-drop, take-suc, take-length, length-take-le, getD-append-add, getD-drop}
+use lib.Seq.{paste, take-append-seam, drop-append-add, drop-drop, drop-length, take-suc, take-length, length-take-le, getD-append-add, getD-drop}
 use Rattle.combinatorics.specs.Front.{front}
 
 pub front-none : (old : List ℕ) → front [] old ≡ old
@@ -33,6 +33,11 @@ front-copy s old i h l = rw (add-one, take-suc s i 0) (front-put (take i s) old 
 
 pub front-whole : (s old : List ℕ) (i : ℕ) → i ≡ length s → front (take i s) old ≡ front s old
 front-whole s old i e = rw (e, take-length)
+
+-- a front as long as its buffer
+pub front-full : (new old : List ℕ) → length new ≡ length old → front new old ≡ new
+unfolding front
+front-full new old e = rw (e, drop-length old, append-nil new)
 
 -- a list pasted at the place where the front ends
 pub front-paste : (new old row : List ℕ) (i : ℕ) → i ≡ length new → i + length row ≤ length old

@@ -1,7 +1,7 @@
 -- What a place of the walk asks and gives: the arrays of the grid, the reading of a label, the state in which a walk begins, its outcomes.
 -- Assumes nothing.
-use mathlib.Core.Bool.{Bool, true, _&&_}
-use mathlib.Core.List.{List, [], _∷_}
+use mathlib.Core.Bool.{true, _&&_}
+use mathlib.Core.List.{List, []}
 use mathlib.Core.Logic.{⊎-elim}
 use mathlib.Core.Path.{_≡_, refl, sym, ap, _∙_, subst}
 use Prim.Native.Nat.{ℕ, suc, _-_, _≤_, _<_}
@@ -14,7 +14,7 @@ use Rattle.combinatorics.proofs.Basics.{before-or-not}
 use Rattle.combinatorics.proofs.EditsOfArrays.{first-few}
 use Rattle.grid.proofs.Fields.{following-low, made-accepted, made-indices, made-next, made-previous, previous-low}
 use Rattle.grid.proofs.Positions.{position-below}
-use Rattle.grid.specs.Grid.{Point, at, isGridPoint, numIndices, numPoints, position}
+use Rattle.grid.specs.Grid.{Point, at, isGridPoint, numIndices, position}
 use Rattle.grid.specs.Made.{IsMade, shape}
 use Rattle.grid.specs.declared.Grid.{Grid as GridStruct}
 use Rattle.place.specs.Demand.{Accepted}
@@ -27,7 +27,7 @@ use Rattle.moves.proofs.PointsAfter.{after-few, few-ready}
 use Rattle.moves.specs.Mask.{bit}
 use Rattle.moves.specs.Read.{ReadyPoint, pointAfter, pointIn, read}
 use Rattle.moves.specs.Ready.{IndicesBelow, Ready}
-use Rattle.moves.specs.Step.{State, begun, labelled, stateOf, step}
+use Rattle.moves.specs.Step.{State, labelled, stateOf, step}
 use Rattle.moves.specs.declared.Sets.{Sets}
 use Rattle.finder.specs.Finish.{Announced, Finished, Readable, ReadyRead, problemIn, tableOf}
 use Rattle.finder.specs.declared.walk.Finish.{Finish}

@@ -2,8 +2,8 @@
 use mathlib.Core.Bool.{Bool, true}
 use mathlib.Core.List.{List, [], _∷_}
 use mathlib.Core.Logic.{⊎-elim}
-use mathlib.Core.Path.{_≡_, refl, sym, ap, _∙_, subst}
-use Prim.Native.Nat.{ℕ, zero, suc, pred, _≤_, _<_}
+use mathlib.Core.Path.{_≡_, sym}
+use Prim.Native.Nat.{ℕ, zero, suc, pred, _≤_}
 use borrow.Author.Tests.{ltb-true}
 use lib.Dec.{ltb}
 use lib.ListN.{length}
@@ -18,9 +18,9 @@ use Rattle.place.proofs.Bound.{order-short}
 use Rattle.place.proofs.Facets.{oneLess-at}
 use Rattle.place.proofs.LinkSymmetry.{parts}
 use Rattle.place.proofs.ToChain.{place-long}
-use Rattle.place.proofs.Ways.{IsWay, byPlace, byFacet, byLink, end-is, onEnds}
+use Rattle.place.proofs.Ways.{IsWay, byPlace, byFacet, end-is, onEnds}
 use Rattle.place.specs.Demand.{Settled, Demand3, placeAt}
-use Rattle.place.specs.Ends.{End, stop, ends, facets}
+use Rattle.place.specs.Ends.{End, stop, facets}
 use Rattle.place.specs.Path.{sameSimplex, path, pathLength}
 use Rattle.place.specs.Places.{Simplex, isPlace}
 use Rattle.place.specs.Problem.{Problem}

@@ -6,7 +6,7 @@ use Prim.Native.Nat.{ℕ, _+_, _*_, _≤_, _<_}
 use borrow.Author.Tests.{eq-eqb}
 use lib.ListN.{length, getD, length-append, length-map, take, drop, replicate, length-replicate}
 use native.Mathlib.Omega.{arith}
-use Rattle.combinatorics.proofs.Fronts.{front-length, front-taken}
+use Rattle.combinatorics.proofs.Fronts.{front-full, front-length, front-taken}
 use Rattle.combinatorics.proofs.Ranges.{length-upFrom}
 use Rattle.combinatorics.proofs.Turns.{map-at}
 use Rattle.combinatorics.specs.Front.{front}
@@ -22,7 +22,6 @@ use Rattle.grid.specs.Grid.{division, blockOf, bound, numIndices, numPoints, in
 use Rattle.grid.specs.Made.{gridOf, shape, IsMade, padded}
 use Rattle.grid.specs.Questions.{firstNo, gridQuestions}
 use Rattle.grid.specs.declared.Grid.{Grid as GridStruct}
-use Rattle.slip.proofs.Laws.{front-full}
 use Rattle.sheet.specs.Answer.{rows, Printable}
 use Rattle.sheet.specs.Sheet.{endSheet}
 use Rattle.sheet.specs.declared.Kind.{Kind}

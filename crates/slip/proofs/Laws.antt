@@ -1,12 +1,11 @@
 -- Laws of the definitions of a slip. Assumes nothing.
 use mathlib.Core.Bool.{Bool, true, false, _&&_, cond, Bool·beq}
-use mathlib.Core.List.{List, _++_, map, append-nil}
+use mathlib.Core.List.{List, _++_, map}
 use mathlib.Core.Path.{_≡_, refl, sym, ap, _∙_}
 use Prim.Native.Nat.{ℕ, zero, suc, _+_, _-_, _*_, _≤_, _<_}
 use borrow.Author.Tests.{leb-true, leb-false, le-leb, lt-leb, eq-eqb, ne-eqb}
 use lib.Dec.{leb}
 use lib.ListN.{length, length-map, getD, take, drop, replicate}
-use lib.Seq.{drop-length}
 use native.Mathlib.Omega.{arith}
 use Rattle.combinatorics.proofs.Basics.{absurd-bool}
 use Rattle.combinatorics.proofs.Lists.{all-in, onNumbers}
@@ -28,11 +27,6 @@ unfolding number
 number-split k bytes at behind e =
     let two : at + 1 + 1 ≡ behind = omega arith in
     rw two (omega arith)
-
--- numbers at the front of room for as many
-pub front-full : (new old : List ℕ) → length new ≡ length old → front new old ≡ new
-unfolding front
-front-full new old e = rw (e, drop-length old, append-nil new)
 
 pub length-words : (count : ℕ) (bytes : List ℕ) (from : ℕ) → length (words count bytes from) ≡ count
 unfolding words

@@ -51,7 +51,7 @@ module _ (slip : List ℕ) where
     number-zero : firstNo (readQuestions slip) ≡ 0
     number-zero = sym code-is ∙ zero
 
-    answers : (question13 slip .answeredYes ≡ true) × (firstNo (gridQuestions (slipGrid slip)) ≡ 0) × (question14 slip .answeredYes ≡ true) × (question15 slip .answeredYes ≡ true)
+    pub answers : (question13 slip .answeredYes ≡ true) × (firstNo (gridQuestions (slipGrid slip)) ≡ 0) × (question14 slip .answeredYes ≡ true) × (question15 slip .answeredYes ≡ true)
     unfolding firstNo
     answers =
         let h = both (question13 slip .answeredYes) _ 12 (sym (number-is slip) ∙ number-zero) in
@@ -63,7 +63,7 @@ module _ (slip : List ℕ) where
     whole : length slip ≡ fieldAt slip 4
     whole = eqb-true (length slip) (fieldAt slip 4) (answers .2)
 
-    reading-accepted : readingOf slip ≡ accepted slip
+    pub reading-accepted : readingOf slip ≡ accepted slip
     unfolding readingOf
     reading-accepted = rw (eq-eqb (firstNo (readQuestions slip)) 0 number-zero)
 
@@ -98,13 +98,13 @@ module _ (slip : List ℕ) where
         let n : fieldAt slip 3 - fieldAt slip 2 ≡ fieldLength slip 2 = omega (arith, at-next slip 2) in
         rw (reading-accepted, le-leb (fieldAt slip 3) (length slip) (omega (arith, at-next slip 2, field-fits slip whole 2 1 (omega arith))), n)
 
-    game-is : readingOf slip .game ≡ slipGame slip
+    pub game-is : readingOf slip .game ≡ slipGame slip
     game-is = ap (λ r. r .game) reading-accepted
 
     without : slipGame slip ≡ 0 → stands slip 3 ≡ false
     without e = ⊎-elim (λ y. absurd-bool (sym (rw y at (rw e at (answers .3))))) (λ n. n) (true-or-false (stands slip 3))
 
-    with-game : (slipGame slip ≡ 0 → ⊥) → stands slip 3 ≡ true
+    pub with-game : (slipGame slip ≡ 0 → ⊥) → stands slip 3 ≡ true
     unfolding slipGame
     with-game h = ⊎-elim (λ y. y) (λ n. absurd (h (rw n))) (true-or-false (stands slip 3))
 

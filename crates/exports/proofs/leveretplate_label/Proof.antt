@@ -1,5 +1,5 @@
 -- `leveretplate_label` meets its contract: it is the labelling's own, with the answer as numbers. Assumes nothing.
-use mathlib.Core.Path.{_≡_, refl, sym, _∙_}
+use mathlib.Core.Path.{refl, sym, _∙_}
 use borrow.Author.Needs.{needs}
 use Rattle.exports.proofs.leveretplate_label.Statement.{statement}
 use Rattle.exports.proofs.leveretplate_label.Tie as tie

@@ -1,5 +1,4 @@
 -- `finder::answers::run` meets its contract: the questions in their order, and then the answer of the path. Assumes nothing.
-use mathlib.Core.List.{List}
 use mathlib.Core.Path.{_≡_, refl, sym, _∙_, subst}
 use borrow.Author.Needs.{needs}
 use lib.ListN.{length}

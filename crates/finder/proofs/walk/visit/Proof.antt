@@ -1,9 +1,9 @@
 -- `finder::walk::visit` meets its contract: after rules 6 and 7 the move is made at once, and else a label is read first. Assumes nothing.
-use mathlib.Core.Path.{_≡_, refl, sym, ap, _∙_, subst}
+use mathlib.Core.Path.{sym, ap, _∙_, subst}
 use lib.ListN.{length-set}
 use native.Mathlib.Omega.{arith}
 use Rattle.moves.specs.Ready.{Ready}
-use Rattle.moves.specs.Step.{State, step}
+use Rattle.moves.specs.Step.{step}
 use Rattle.finder.specs.Finish.{tableOf}
 use Rattle.finder.proofs.Visits.{below, read-none, read-some}
 use Rattle.finder.proofs.walk.visit.Statement.{statement}

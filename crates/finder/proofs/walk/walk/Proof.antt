@@ -1,7 +1,7 @@
 -- `finder::walk::walk` meets its contract. The loop's invariant: the state that the arrays and the sets hold stands at the place whose number is what
 -- is spent of the budget, and is at no end. The measure is what is left of the budget. Assumes nothing.
-use mathlib.Core.Path.{_≡_, refl, subst}
-use Prim.Native.Nat.{ℕ, suc, _-_, _≤_}
+use mathlib.Core.Path.{_≡_, refl}
+use Prim.Native.Nat.{suc, _-_, _≤_}
 use native.Mathlib.Omega.{arith}
 use Rattle.grid.proofs.Fields.{indices-few}
 use Rattle.moves.proofs.Follow.{At, at-first, at-spent}

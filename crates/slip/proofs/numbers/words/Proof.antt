@@ -4,11 +4,11 @@ use mathlib.Core.Path.{refl, _≡_, sym, _∙_}
 use Prim.Native.Nat.{_+_, _*_, _≤_, _-_}
 use lib.ListN.{length-set, length}
 use native.Mathlib.Omega.{arith}
-use Rattle.combinatorics.proofs.Fronts.{front-none}
+use Rattle.combinatorics.proofs.Fronts.{front-full, front-none}
 use Rattle.combinatorics.proofs.Turns.{front-counted}
 use Rattle.combinatorics.specs.Front.{front}
 use Rattle.combinatorics.specs.Lists.{upFrom}
-use Rattle.slip.proofs.Laws.{front-full, length-words}
+use Rattle.slip.proofs.Laws.{length-words}
 use Rattle.slip.specs.Slip.{number, words}
 use Rattle.slip.proofs.numbers.words.Statement.{statement}
 use Rattle.slip.proofs.numbers.words.Tie as tie
