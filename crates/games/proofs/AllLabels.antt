@@ -14,8 +14,8 @@ use Rattle.grid.proofs.Accepted.{accepted}
 use Rattle.grid.proofs.Points.{onPoints, points-in}
 use Rattle.grid.specs.Grid.{Grid, Point, samePoint, points, numPoints}
 use Rattle.games.proofs.PointAfter.{point-after}
-use Rattle.games.specs.Game.{label, labels}
-use Rattle.games.specs.Known.{Laid, Drawn}
+use Rattle.losses.specs.Game.{label, labels}
+use Rattle.losses.specs.Known.{Laid, Drawn}
 use Rattle.games.specs.PointAfter.{Step, afterAll}
 
 at-in : (xs : List Point) (k : ℕ) → k < length xs → isIn samePoint (getD xs k []) xs ≡ true

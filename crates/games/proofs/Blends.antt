@@ -8,10 +8,10 @@ use native.Mathlib.Omega.{arith}
 use Rattle.combinatorics.proofs.Turns.{map-append}
 use Rattle.combinatorics.specs.Lists.{sum}
 use Rattle.grid.specs.Grid.{at}
-use Rattle.games.proofs.Weights.{dot-spread, length-weights}
+use Rattle.losses.proofs.Weights.{dot-spread, length-weights}
 use Rattle.games.specs.Corners.{blend, unit}
-use Rattle.games.specs.Game.{dot}
-use Rattle.games.specs.Weights.{weighed, weights}
+use Rattle.losses.specs.Game.{dot}
+use Rattle.losses.specs.Weights.{weighed, weights}
 
 pub blend-agree : (z : List ℕ) (f e : ℕ → ℕ) → ((k : ℕ) → k < length z → f k ≡ e k) → blend z f ≡ blend z e
 blend-agree [] f e h = refl

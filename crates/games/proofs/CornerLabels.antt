@@ -10,11 +10,11 @@ use Rattle.combinatorics.specs.Lists.{upFrom}
 use Rattle.grid.proofs.Accepted.{Accepted, accepted}
 use Rattle.grid.specs.Grid.{Grid, Point, numIndices, size, firstIndex}
 use Rattle.games.proofs.CornerLosses.{own-part, corner-drawn, expected-column, replaced-column, columns-fit}
-use Rattle.games.proofs.Players.{point-length}
+use Rattle.losses.proofs.Players.{point-length}
 use Rattle.games.proofs.PointLabel.{label-is}
 use Rattle.games.specs.Corners.{column, lastPlayer, corner, Cornered}
-use Rattle.games.specs.Game.{mix, firstLargest, label}
-use Rattle.games.specs.Known.{gridOf, Drawn, IsTable}
+use Rattle.losses.specs.Game.{mix, firstLargest, label}
+use Rattle.losses.specs.Known.{gridOf, Drawn, IsTable}
 
 module _ (g : Grid) (firsts losses : List ℕ) (t : IsTable g losses) (ones : List ℕ) (e : ones ≡ set (g .divisions) (lastPlayer g) 1) (y : Point) (d : Drawn g firsts y) where
   pub corners-drawn : (k : ℕ) → k < size g (lastPlayer g) → Drawn (gridOf (g .sizes) ones) firsts (corner g y k)

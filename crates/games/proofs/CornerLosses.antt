@@ -26,16 +26,16 @@ use Rattle.grid.proofs.Round.{Seat, seat, block-at, block-spans}
 use Rattle.grid.specs.Grid.{Grid, Point, at, blockOf, numBlocks, numIndices, numPoints, binomialProduct, size, division, firstIndex, blocks, isGridPoint}
 use Rattle.grid.specs.Questions.{firstNo, gridQuestions}
 use Rattle.games.proofs.Blends.{blend-agree, blend-times, blend-same, linear, unit-length}
-use Rattle.games.proofs.Losses.{expected-fits, replaced-fit}
-use Rattle.games.proofs.Players.{at-part, point-length, mix-sum, length-mix}
-use Rattle.games.proofs.Replaced.{mix-lengths, expected-weights, expected-is, replaced-is}
+use Rattle.losses.proofs.Losses.{expected-fits, replaced-fit}
+use Rattle.losses.proofs.Players.{at-part, point-length, mix-sum, length-mix}
+use Rattle.losses.proofs.Replaced.{mix-lengths, expected-weights, expected-is, replaced-is}
 use Rattle.games.proofs.Rows.{part-before, part-within}
-use Rattle.games.proofs.Table.{part-low}
-use Rattle.games.proofs.Weights.{length-weights, length-weighed, weighed-at}
+use Rattle.losses.proofs.Table.{part-low}
+use Rattle.losses.proofs.Weights.{length-weights, length-weighed, weighed-at}
 use Rattle.games.specs.Corners.{blend, column, lastPlayer, unit, corner, cornerGrid, Cornered}
-use Rattle.games.specs.Game.{product, dot, mix, opponents, ownFirst, lossesOf, expectedLoss, replacedLoss, playerLoss}
-use Rattle.games.specs.Known.{Drawn, IsTable}
-use Rattle.games.specs.Weights.{weights, fit, strategyLosses}
+use Rattle.losses.specs.Game.{product, dot, mix, opponents, ownFirst, lossesOf, expectedLoss, replacedLoss, playerLoss}
+use Rattle.losses.specs.Known.{Drawn, IsTable}
+use Rattle.losses.specs.Weights.{weights, fit, strategyLosses}
 
 -- a block ends where a later one begins, or before
 block-before : (ss : List ℕ) (i n : ℕ) → i < n → sum (take i ss) + getD ss i 0 ≤ sum (take n ss)

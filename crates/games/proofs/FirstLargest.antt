@@ -13,7 +13,7 @@ use Rattle.combinatorics.proofs.Basics.{absurd-bool, false-of, same-or}
 use Rattle.combinatorics.proofs.Lists.{all-in, in-all, onNumbers}
 use Rattle.combinatorics.proofs.Ranges.{in-upFrom, upFrom-in}
 use Rattle.combinatorics.specs.Lists.{all, filter, firstOr, upFrom}
-use Rattle.games.specs.Game.{firstLargest}
+use Rattle.losses.specs.Game.{firstLargest}
 
 -- the difference of two numbers is no further from 0 than they
 pub mag-difference : (n p q : ℕ) → p < n → q < n → mag (pos p -ℤ pos q) < n

@@ -16,8 +16,8 @@ use Rattle.combinatorics.specs.Lists.{all, same}
 use Rattle.grid.specs.Grid.{Grid, numBlocks}
 use Rattle.grid.specs.Questions.{Question, firstNo, gridQuestions}
 use Rattle.games.proofs.Outcomes.{asked-next, asked-no}
-use Rattle.games.specs.Game.{product}
-use Rattle.games.specs.Known.{inRange}
+use Rattle.losses.specs.Game.{product}
+use Rattle.losses.specs.Known.{inRange}
 use Rattle.games.specs.Labelling.{question10, question11, question12, question15, labelQuestions, gameQuestions, labelledOf, leftIn}
 use Rattle.games.specs.declared.Labelled.{Labelled}
 use Rattle.games.specs.Tables.{sizes1, sizes2, sizes3, losses1, losses2, losses3, gameSizes, gameLosses}

@@ -1,14 +1,8 @@
-pub mod Weights
 pub mod Blends
 pub mod Rows
 pub mod PointAfter
 pub mod FirstLargest
-pub mod Players
-pub mod Losses
-pub mod Replaced
-pub mod Table
 pub mod CornerLosses
-pub mod Player
 pub mod PointLabel
 pub mod CornerLabels
 pub mod AllLabels

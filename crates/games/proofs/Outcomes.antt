@@ -15,8 +15,8 @@ use Rattle.grid.specs.Grid.{Grid, numBlocks, numIndices, numPoints, firstIndex}
 use Rattle.grid.specs.Made.{madeOf, shape}
 use Rattle.grid.specs.Questions.{Question, firstNo, gridQuestions}
 use Rattle.grid.specs.declared.Made.{Made}
-use Rattle.games.specs.Game.{product, labels}
-use Rattle.games.specs.Known.{inRange, Laid}
+use Rattle.losses.specs.Game.{product, labels}
+use Rattle.losses.specs.Known.{inRange, Laid}
 use Rattle.games.specs.Labelling.{question10, question11, question12, labelQuestions, labelledOf, leftIn}
 use Rattle.games.specs.declared.Labelled.the-variants.{Refused, Written}
 

@@ -18,9 +18,9 @@ use Rattle.combinatorics.specs.Lists.{all, concatMap, sum, upFrom}
 use Rattle.grid.proofs.Accepted.{Accepted, accepted, size-two}
 use Rattle.grid.proofs.Round.{block-fits}
 use Rattle.grid.specs.Grid.{Grid, Point, blockPoints, productPoints, points, numBlocks, numPoints}
-use Rattle.games.proofs.Players.{mix-part, mix-sum, length-mix, division-few}
-use Rattle.games.specs.Game.{mix}
-use Rattle.games.specs.Known.{gridOf, Drawn}
+use Rattle.losses.proofs.Players.{mix-part, mix-sum, length-mix, division-few}
+use Rattle.losses.specs.Game.{mix}
+use Rattle.losses.specs.Known.{gridOf, Drawn}
 use Rattle.games.specs.PointAfter.{Step, step, after, afterAll, firstPoint, LastPositive}
 
 abbrev zeros : ℕ → List ℕ

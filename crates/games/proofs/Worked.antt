@@ -3,7 +3,7 @@ use mathlib.Core.List.{[], _∷_, map}
 use mathlib.Core.Path.{_≡_, refl}
 use lib.IntN.{pos, negsuc}
 use Rattle.grid.specs.Grid.{Grid, indices}
-use Rattle.games.specs.Game.{difference, expectedLoss, replaced, label}
+use Rattle.losses.specs.Game.{difference, expectedLoss, replaced, label}
 use Rattle.games.specs.Tables.{sizes1, losses1}
 
 -- "In game 1 with all d_j = 1"

@@ -5,8 +5,8 @@ use mathlib.Core.Path.{_≡_}
 use Prim.Native.Nat.{ℕ, suc, _+_, _-_, _*_, _<_}
 use lib.ListN.{take, set, replicate}
 use Rattle.grid.specs.Grid.{Grid, Point, at, numBlocks, numIndices, size, firstIndex}
-use Rattle.games.specs.Game.{playerLoss, replacedLoss}
-use Rattle.games.specs.Known.{gridOf}
+use Rattle.losses.specs.Game.{playerLoss, replacedLoss}
+use Rattle.losses.specs.Known.{gridOf}
 
 -- the sum of f 0, f 1, .. weighed by a mix
 abbrev pub blend : List ℕ → (ℕ → ℕ) → ℕ

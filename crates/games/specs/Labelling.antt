@@ -8,8 +8,8 @@ use Rattle.combinatorics.specs.Front.{front}
 use Rattle.combinatorics.specs.Lists.{all, same}
 use Rattle.grid.specs.Grid.{Grid, numBlocks, numPoints}
 use Rattle.grid.specs.Questions.{Question, ask, firstNo, gridQuestions}
-use Rattle.games.specs.Game.{product, labels}
-use Rattle.games.specs.Known.{gridOf, inRange}
+use Rattle.losses.specs.Game.{product, labels}
+use Rattle.losses.specs.Known.{gridOf, inRange}
 use Rattle.games.specs.Tables.{gameSizes, gameLosses}
 use Rattle.games.specs.declared.Labelled.{Labelled}
 use Rattle.games.specs.declared.Labelled.the-variants.{Refused, Written}

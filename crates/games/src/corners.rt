@@ -9,12 +9,12 @@ ghost use Rattle.combinatorics.specs.Front.{front};
 ghost use Rattle.combinatorics.specs.Lists.{sum, upFrom};
 ghost use Rattle.grid.specs.Grid.{at, size};
 ghost use Rattle.games.specs.Corners.{column, lastPlayer, corner as cornerOf, Cornered};
-ghost use Rattle.games.specs.Game.{product, firstLargest};
-ghost use Rattle.games.specs.Known.{gridOf, Drawn, IsTable};
-use crate::count_of;
+ghost use Rattle.losses.specs.Game.{product, firstLargest};
+ghost use Rattle.losses.specs.Known.{gridOf, Drawn, IsTable};
 use crate::largest;
-use crate::point::weigh_point;
-use crate::wide;
+use losses::count_of;
+use losses::weigh_point;
+use losses::wide;
 
 // The first numbers of the row, each x times, added to the totals.
 fn add_times(totals: &mut [u32; 16], x: u32, row: &[u32], count: usize)

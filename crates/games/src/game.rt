@@ -6,11 +6,11 @@ ghost use lib.ListN.{length, getD, take, set};
 ghost use Rattle.combinatorics.specs.Front.{front};
 ghost use Rattle.combinatorics.specs.Lists.{sum};
 ghost use Rattle.grid.specs.Grid.{points, numPoints};
-ghost use Rattle.games.specs.Game.{product, labels};
-ghost use Rattle.games.specs.Known.{gridOf, Laid, IsTable};
+ghost use Rattle.losses.specs.Game.{product, labels};
+ghost use Rattle.losses.specs.Known.{gridOf, Laid, IsTable};
 use crate::corners;
-use crate::count_of;
 use crate::successor;
+use losses::count_of;
 
 // The labels of all points, from the first point on. In ones the last division is 1.
 fn label_points(

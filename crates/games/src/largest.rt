@@ -4,7 +4,7 @@ ghost use Prim.Native.Nat.{_≤_, _<_};
 ghost use lib.IntN.{pos, _-ℤ_};
 ghost use Rattle.combinatorics.specs.Lists.{upFrom};
 ghost use Rattle.grid.specs.Grid.{at};
-ghost use Rattle.games.specs.Game.{firstLargest};
+ghost use Rattle.losses.specs.Game.{firstLargest};
 
 fn difference(expected: u32, replaced: u32) -> i64
     ensures { λ r. ⌜ r ≡ pos expected -ℤ pos replaced ⌝ }

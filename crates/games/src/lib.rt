@@ -2,16 +2,15 @@
 ghost use mathlib.Core.Path.{_≡_};
 ghost use Prim.Native.Nat.{_≤_};
 ghost use Rattle.combinatorics.specs.Lists.{all, sum};
-ghost use Rattle.games.specs.Game.{product};
-ghost use Rattle.games.specs.Known.{inRange};
+ghost use Rattle.losses.specs.Game.{product};
+ghost use Rattle.losses.specs.Known.{inRange};
 ghost use Rattle.games.specs.Labelling.{question15, labelAnswer, labelBuffer, gameAnswer, gameBuffer};
 use grid::Grid;
+use losses::count_of;
 
 mod corners;
-mod expected;
 mod game;
 mod largest;
-mod point;
 mod successor;
 mod tables;
 
@@ -20,18 +19,6 @@ pub enum Labelled {
     Refused(u8),
     // how many bytes of the label buffer were written
     Written(usize),
-}
-
-fn wide(x: u16) -> u32
-    ensures { λ r. ⌜ r ≡ x ⌝ }
-{
-    x as u32
-}
-
-fn count_of(x: u8) -> usize
-    ensures { λ r. ⌜ r ≡ x ⌝ }
-{
-    x as usize
 }
 
 // The product of sizes that add up to at most 16.

@@ -6,9 +6,9 @@ ghost use Prim.Native.Nat.{ℕ, _-_, _<_};
 ghost use lib.ListN.{length, take, replicate};
 ghost use Rattle.combinatorics.specs.Front.{front};
 ghost use Rattle.combinatorics.specs.Lists.{sum};
-ghost use Rattle.games.specs.Known.{gridOf, Laid, Drawn};
+ghost use Rattle.losses.specs.Known.{gridOf, Laid, Drawn};
 ghost use Rattle.games.specs.PointAfter.{step, after, afterAll, firstPoint, LastPositive};
-use crate::count_of;
+use losses::count_of;
 
 fn last_positive(block: &[u16]) -> usize
     requires { ⌜ 0 < length (now block) ⌝ }

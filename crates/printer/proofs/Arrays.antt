@@ -12,7 +12,7 @@ use Rattle.combinatorics.proofs.Turns.{map-at}
 use Rattle.combinatorics.specs.Front.{front}
 use Rattle.games.proofs.AllLabels.{labels-length}
 use Rattle.games.proofs.Outcomes.{asked-next, written}
-use Rattle.games.specs.Game.{labels}
+use Rattle.losses.specs.Game.{labels}
 use Rattle.games.specs.Labelling.{question12, question15, gameQuestions, gameBuffer}
 use Rattle.games.specs.Tables.{gameLosses}
 use Rattle.grid.proofs.Accepted.{blocks-few}

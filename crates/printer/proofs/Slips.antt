@@ -12,7 +12,7 @@ use Rattle.combinatorics.proofs.Basics.{true-or-false}
 use Rattle.combinatorics.proofs.Fronts.{front-length, front-taken}
 use Rattle.combinatorics.proofs.Ranges.{length-upFrom}
 use Rattle.combinatorics.specs.Lists.{upFrom}
-use Rattle.games.specs.Game.{labels}
+use Rattle.losses.specs.Game.{labels}
 use Rattle.games.specs.Tables.{gameLosses}
 use Rattle.grid.proofs.Accepted.{accepted as grid-accepted}
 use Rattle.grid.proofs.Fields.{is-made, shape-of}

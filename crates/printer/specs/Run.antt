@@ -10,7 +10,7 @@ use Rattle.finder.specs.declared.answers.Answer.{Answer}
 use Rattle.finder.specs.declared.answers.Answer.the-variants.{Refused, Spent, End}
 use Rattle.finder.specs.declared.answers.Kind.{Kind}
 use Rattle.finder.specs.declared.answers.Kind.the-variants.{Place, Facet}
-use Rattle.games.specs.Game.{labels}
+use Rattle.losses.specs.Game.{labels}
 use Rattle.games.specs.Labelling.{question15}
 use Rattle.games.specs.Tables.{gameLosses}
 use Rattle.grid.specs.Grid.{Grid, numIndices, bound}

@@ -11,7 +11,7 @@ use lib.Seq.{length-take-le}
 use native.Mathlib.Omega.{arith}
 use Rattle.combinatorics.proofs.Basics.{true-or-false, absurd-bool, and-right}
 use Rattle.combinatorics.specs.Lists.{all, filter, upFrom}
-use Rattle.games.specs.Game.{label, labels}
+use Rattle.losses.specs.Game.{label, labels}
 use Rattle.games.specs.Tables.{gameLosses}
 use Rattle.grid.specs.Grid.{numPoints, points}
 use Rattle.grid.specs.Questions.{firstNo, gridQuestions, question5}

@@ -3,7 +3,7 @@ use mathlib.Core.Bool.{true}
 use mathlib.Core.List.{List, []}
 use mathlib.Core.Path.{_≡_}
 use Prim.Native.Nat.{ℕ}
-use Rattle.games.specs.Game.{labels}
+use Rattle.losses.specs.Game.{labels}
 use Rattle.games.specs.Tables.{gameLosses}
 use Rattle.grid.specs.Questions.{firstNo}
 use Rattle.place.specs.Questions.{question8, runQuestions}

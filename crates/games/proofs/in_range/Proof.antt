@@ -9,8 +9,8 @@ use lib.ListN.{length, getD, take}
 use lib.Seq.{take-all}
 use Rattle.combinatorics.proofs.Basics.{and-left, and-right}
 use Rattle.combinatorics.specs.Lists.{all}
-use Rattle.games.proofs.Table.{range-turn, range-broken}
-use Rattle.games.specs.Known.{inRange}
+use Rattle.losses.proofs.Table.{range-turn, range-broken}
+use Rattle.losses.specs.Known.{inRange}
 use Rattle.games.proofs.in_range.Statement.{statement}
 use Rattle.games.proofs.in_range.Tie as tie
 

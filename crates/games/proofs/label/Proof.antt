@@ -12,9 +12,9 @@ use Rattle.grid.proofs.Fields.{made-code}
 use Rattle.grid.specs.Grid.{Grid, numBlocks, numIndices, numPoints}
 use Rattle.grid.specs.Questions.{firstNo, gridQuestions}
 use Rattle.games.proofs.Outcomes.{asked-no, refused, written, asked10, asked11, asked12, asked-all, made-laid}
-use Rattle.games.proofs.Table.{product-few}
-use Rattle.games.specs.Game.{product}
-use Rattle.games.specs.Known.{gridOf, inRange, Laid, IsTable}
+use Rattle.losses.proofs.Table.{product-few}
+use Rattle.losses.specs.Game.{product}
+use Rattle.losses.specs.Known.{gridOf, inRange, Laid, IsTable}
 use Rattle.games.specs.Labelling.{labelQuestions, labelledOf, leftIn}
 use Rattle.games.specs.declared.Labelled.the-variants.{Refused, Written}
 use borrow.Author.Needs.{needs}

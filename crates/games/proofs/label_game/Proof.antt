@@ -5,7 +5,7 @@ use native.Mathlib.Omega.{arith}
 use Rattle.games.proofs.Games.{built-in-by, not-built-in, losses-of-1, losses-of-2, losses-of-3}
 use Rattle.games.proofs.Outcomes.{refused}
 use borrow.Author.Tests.{not-true, not-false}
-use Rattle.games.specs.Known.{gridOf}
+use Rattle.losses.specs.Known.{gridOf}
 use Rattle.games.specs.Labelling.{question15, gameQuestions}
 use Rattle.games.specs.Tables.{gameLosses, losses1, losses2, losses3}
 use borrow.Author.Needs.{needs}

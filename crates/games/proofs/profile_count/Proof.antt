@@ -5,8 +5,8 @@ use native.Mathlib.Omega.{arith}
 use borrow.Author.Needs.{needs}
 use lib.ListN.{length, drop}
 use lib.Seq.{drop-length}
-use Rattle.games.proofs.Table.{product-turn, part-few}
-use Rattle.games.specs.Game.{product}
+use Rattle.losses.proofs.Table.{product-turn, part-few}
+use Rattle.losses.specs.Game.{product}
 use Rattle.games.proofs.profile_count.Statement.{statement}
 use Rattle.games.proofs.profile_count.Tie as tie
 

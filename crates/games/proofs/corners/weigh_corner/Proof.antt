@@ -11,7 +11,7 @@ use Rattle.grid.proofs.Accepted.{Accepted, accepted}
 use Rattle.grid.specs.Grid.{Grid, numIndices, firstIndex}
 use Rattle.games.proofs.CornerLosses.{last-ends, held, held-length, held-corner, cornered-turn}
 use Rattle.games.specs.Corners.{lastPlayer, corner}
-use Rattle.games.specs.Known.{gridOf, Drawn}
+use Rattle.losses.specs.Known.{gridOf, Drawn}
 use Rattle.games.proofs.corners.weigh_corner.Statement.{statement}
 use Rattle.games.proofs.corners.weigh_corner.Tie as tie
 

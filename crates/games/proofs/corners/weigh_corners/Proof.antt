@@ -7,7 +7,7 @@ use borrow.Author.Tests.{not-true}
 use lib.ListN.{length}
 use Rattle.grid.specs.Grid.{at}
 use Rattle.games.specs.Corners.{Cornered}
-use Rattle.games.specs.Known.{gridOf}
+use Rattle.losses.specs.Known.{gridOf}
 use Rattle.games.proofs.corners.weigh_corners.Statement.{statement}
 use Rattle.games.proofs.corners.weigh_corners.Tie as tie
 

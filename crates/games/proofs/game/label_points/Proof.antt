@@ -15,10 +15,10 @@ use Rattle.grid.specs.Grid.{Grid, Point, numIndices, numPoints, points, size, f
 use Rattle.games.proofs.AllLabels.{labels-length, drawn-at, next-point, label-written}
 use Rattle.games.proofs.CornerLabels.{corners-drawn, lent-few, lent-fit, lent-label}
 use Rattle.games.proofs.CornerLosses.{last-ends, cornered-kept}
-use Rattle.games.proofs.Players.{point-length}
+use Rattle.losses.proofs.Players.{point-length}
 use Rattle.games.specs.Corners.{lastPlayer, Cornered}
-use Rattle.games.specs.Game.{label, labels}
-use Rattle.games.specs.Known.{gridOf, Drawn}
+use Rattle.losses.specs.Game.{label, labels}
+use Rattle.losses.specs.Known.{gridOf, Drawn}
 use Rattle.games.proofs.game.label_points.Statement.{statement}
 use Rattle.games.proofs.game.label_points.Tie as tie
 

@@ -8,8 +8,8 @@ use lib.ListN.{length, set, length-set, length-take}
 use lib.Seq.{length-take-le, take-set-lt}
 use Rattle.grid.proofs.Accepted.{Accepted, accepted}
 use Rattle.games.proofs.PointAfter.{first-array}
-use Rattle.games.proofs.Table.{product-few}
-use Rattle.games.specs.Known.{gridOf}
+use Rattle.losses.proofs.Table.{product-few}
+use Rattle.losses.specs.Known.{gridOf}
 use borrow.Author.Needs.{needs}
 use Rattle.games.proofs.game.write_labels.Statement.{statement}
 use Rattle.games.proofs.game.write_labels.Tie as tie

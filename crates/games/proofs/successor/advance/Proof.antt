@@ -10,8 +10,8 @@ use lib.ListN.{length, getD, take, drop}
 use Rattle.combinatorics.proofs.Basics.{absurd-bool}
 use Rattle.combinatorics.specs.Lists.{sum}
 use Rattle.games.proofs.PointAfter.{Passed, passed-start, lent-turn, lent-ready, passed-moved, passed-end}
-use Rattle.games.proofs.Players.{point-length}
-use Rattle.games.specs.Known.{gridOf}
+use Rattle.losses.proofs.Players.{point-length}
+use Rattle.losses.specs.Known.{gridOf}
 use Rattle.games.specs.PointAfter.{after, step}
 use Rattle.grid.proofs.Accepted.{accepted}
 use Rattle.grid.proofs.Round.{block-fits}

@@ -11,7 +11,7 @@ use Rattle.combinatorics.specs.Lists.{sum}
 use Rattle.grid.proofs.Accepted.{Accepted, accepted, size-two}
 use Rattle.grid.proofs.Round.{block-fits}
 use Rattle.games.proofs.PointAfter.{first-turn}
-use Rattle.games.specs.Known.{gridOf}
+use Rattle.losses.specs.Known.{gridOf}
 use Rattle.games.specs.PointAfter.{firstPoint}
 use Rattle.games.proofs.successor.first_point.Statement.{statement}
 use Rattle.games.proofs.successor.first_point.Tie as tie

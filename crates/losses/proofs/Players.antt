@@ -1,0 +1,138 @@
+-- A player and the opponents, in a grid that is accepted. Assumes nothing.
+use mathlib.Core.Bool.{true, not, cond}
+use mathlib.Core.List.{List, [], _∷_, _++_, map}
+use mathlib.Core.Logic.{⊎-elim}
+use mathlib.Core.Path.{_≡_, refl, sym, ap, _∙_, subst, subst⁻¹}
+use Prim.Native.Nat.{ℕ, zero, suc, _+_, _-_, _*_, _≤_, _<_, pred}
+use borrow.Author.Tests.{ne-eqb, eqb-true, leb-true, lt-ltb, le-ltb}
+use lib.Dec.{eqb, leb, ltb}
+use lib.ListN.{length, getD, take, drop, length-append, length-map, length-drop, List·getD-append}
+use lib.Seq.{drop-cons, split-at, getD-append-add, take-all}
+use native.Mathlib.Nat.{mul-assoc, mul-left-comm, mul-le-mul, mul-le-mul-right}
+use native.Mathlib.Omega.{arith}
+use Rattle.combinatorics.proofs.Basics.{and-left, and-right, before-or-not}
+use Rattle.combinatorics.proofs.Binomials.{choose-grows, choose-one}
+use Rattle.combinatorics.proofs.Lists.{all-in, filter-append, onNumbers, eqb-self}
+use Rattle.combinatorics.proofs.Ranges.{in-upFrom, length-upFrom, upFrom-add}
+use Rattle.combinatorics.proofs.Turns.{map-append}
+use Rattle.combinatorics.specs.Counting.{choose}
+use Rattle.combinatorics.specs.Lists.{all, filter, sum, upFrom}
+use Rattle.grid.proofs.Accepted.{Accepted, points-are, count-few, size-two}
+use Rattle.grid.proofs.Round.{block-fits}
+use Rattle.grid.specs.Grid.{Grid, Point, at, numBlocks, numIndices, binomialProduct, division, size, firstIndex, blocks, isGridPoint}
+use Rattle.losses.specs.Game.{product, mix}
+use Rattle.losses.specs.Known.{gridOf}
+
+-- all numbers but j
+abbrev others : ℕ → ℕ → List ℕ
+others j n = filter (λ i. not (eqb i j)) (upFrom 0 n)
+
+kept : (j b k : ℕ) → ((i : ℕ) → b ≤ i → i < b + k → i ≡ j → ⊥) → filter (λ i. not (eqb i j)) (upFrom b k) ≡ upFrom b k
+kept j b zero h = refl
+kept j b (suc k) h = rw (ne-eqb b j (h b (omega arith) (omega arith))) (ap (λ l. b ∷ l) (kept j (suc b) k (λ i p q. h i (omega arith) (omega arith))))
+
+others-split : (j k : ℕ) → others j (j + suc k) ≡ upFrom 0 j ++ upFrom (suc j) k
+others-split j k =
+    let z : 0 + j ≡ j = omega arith in
+    rw (upFrom-add 0 j (suc k), filter-append, z, eqb-self j, kept j 0 j (λ i p q e. omega arith), kept j (suc j) k (λ i p q e. omega arith))
+
+others-are : (j n : ℕ) → j < n → others j n ≡ upFrom 0 j ++ upFrom (suc j) (n - suc j)
+others-are j n h =
+    let e : j + suc (n - suc j) ≡ n = omega arith in
+    subst (λ (k : ℕ). others j k ≡ upFrom 0 j ++ upFrom (suc j) (n - suc j)) e (others-split j (n - suc j))
+
+pub length-others : (j n : ℕ) → j < n → length (others j n) ≡ n - 1
+length-others j n h = rw (others-are j n h, length-append, length-upFrom, length-upFrom) (omega arith)
+
+at-upFrom : (b n k : ℕ) → k < n → getD (upFrom b n) k 0 ≡ b + k
+at-upFrom b zero k h = absurd (omega arith)
+at-upFrom b (suc n) zero h = omega arith
+at-upFrom b (suc n) (suc k) h = at-upFrom (suc b) n k (omega arith) ∙ omega arith
+
+pub others-at : (j n k : ℕ) → j < n → k < n - 1 → getD (others j n) k 0 ≡ cond (ltb k j) k (suc k)
+others-at j n k h l =
+    rw (others-are j n h)
+    (⊎-elim
+    (λ b. rw (lt-ltb k j b, List·getD-append (upFrom 0 j) (upFrom (suc j) (n - suc j)) 0 k (rw (length-upFrom 0 j) b), at-upFrom 0 j k b) (omega arith))
+    (λ (b : j ≤ k).
+    let e : k ≡ length (upFrom 0 j) + (k - j) = rw (length-upFrom 0 j) (omega arith) in
+    rw (le-ltb k j b) (subst⁻¹ (λ (i : ℕ). getD (upFrom 0 j ++ upFrom (suc j) (n - suc j)) i 0 ≡ suc k) e
+    (getD-append-add (upFrom 0 j) (upFrom (suc j) (n - suc j)) (k - j) 0 ∙ at-upFrom (suc j) (n - suc j) (k - j) (omega arith) ∙ omega arith)))
+    (before-or-not k j))
+
+-- the coordinates at some indices that follow one another
+pub at-part : (y : List ℕ) (b n : ℕ) → b + n ≤ length y → map (at y) (upFrom b n) ≡ take n (drop b y)
+at-part y b zero h = refl
+at-part y b (suc n) h = rw (drop-cons y b 0 (omega arith)) (ap (λ (l : List ℕ). getD y b 0 ∷ l) (at-part y (suc b) n (omega arith)))
+
+pub product-append : (u v : List ℕ) → product (u ++ v) ≡ product u * product v
+product-append [] v = omega arith
+product-append (x ∷ u) v = rw (product-append u v) (sym (mul-assoc x (product u) (product v)))
+
+-- a number of a list, and the product of the others
+pub product-own : (xs : List ℕ) (j : ℕ) → j < length xs → product xs ≡ getD xs j 0 * product (map (at xs) (others j (length xs)))
+product-own xs j h =
+    let u : List ℕ = take j xs in
+    let v : List ℕ = drop (suc j) xs in
+    let e : map (at xs) (others j (length xs)) ≡ u ++ v =
+    rw (others-are j (length xs) h, map-append, at-part xs 0 j (omega arith), at-part xs (suc j) (length xs - suc j) (omega arith))
+    (ap (λ (l : List ℕ). u ++ l) (take-all (length xs - suc j) v (omega (arith, length-drop (suc j) xs))))
+    in
+    rw (e, product-append u v) (ap product (split-at xs j 0 h) ∙ product-append u (getD xs j 0 ∷ v) ∙ mul-left-comm (product u) (getD xs j 0) (product v))
+
+product-positive : (xs : List ℕ) → all (λ x. leb 1 x) xs ≡ true → 1 ≤ product xs
+product-positive [] a = omega arith
+product-positive (x ∷ xs) a =
+    let p : 1 ≤ x = leb-true 1 x (and-left (leb 1 x) (all (λ x. leb 1 x) xs) a) in
+    let m : 1 * 1 ≤ x * product xs = mul-le-mul p (product-positive xs (and-right (leb 1 x) (all (λ x. leb 1 x) xs) a)) in
+    omega arith
+
+-- leaving out factors makes a product no larger
+pub product-drop : (p : ℕ) (xs : List ℕ) → all (λ x. leb 1 x) xs ≡ true → product (drop p xs) ≤ product xs
+product-drop zero xs a = omega arith
+product-drop (suc p) [] a = omega arith
+product-drop (suc p) (x ∷ xs) a =
+    let one : 1 ≤ x = leb-true 1 x (and-left (leb 1 x) (all (λ x. leb 1 x) xs) a) in
+    let m : 1 * product xs ≤ x * product xs = mul-le-mul-right (product xs) one in
+    omega (arith, product-drop p xs (and-right (leb 1 x) (all (λ x. leb 1 x) xs) a))
+
+-- a block has more points than its division
+division-below : (s d : ℕ) → 2 ≤ s → d ≤ choose (d + pred s) (pred s)
+division-below s d h = omega (arith, choose-one d, choose-grows d d 1 (pred s) (omega arith) (omega arith))
+
+divisions-below : (ss ds : List ℕ) → all (λ s. leb 2 s) ss ≡ true → length ds ≡ length ss → product ds ≤ binomialProduct ss ds
+divisions-below [] [] a e = omega arith
+divisions-below [] (d ∷ ds) a e = absurd (omega arith)
+divisions-below (s ∷ ss) [] a e = absurd (omega arith)
+divisions-below (s ∷ ss) (d ∷ ds) a e =
+    mul-le-mul (division-below s d (leb-true 2 s (and-left (leb 2 s) (all (λ s. leb 2 s) ss) a))) (divisions-below ss ds (and-right (leb 2 s) (all (λ s. leb 2 s) ss) a) (omega arith))
+
+module _ (g : Grid) (a : Accepted g) where
+  pub divisions-few : product (g .divisions) ≤ 60000
+  divisions-few = omega (arith, divisions-below (g .sizes) (g .divisions) (a .sizesTwo) (a .sameNumber), points-are g a, a .fewPoints)
+
+  pub division-few : (i : ℕ) → i < numBlocks g → division g i ≤ 60000
+  division-few i h = omega (arith, division-below (size g i) (division g i) (size-two g a i h .0), count-few g a i h)
+
+  module _ (y : Point) (p : isGridPoint g y ≡ true) where
+    pub point-length : length y ≡ numIndices g
+    unfolding isGridPoint
+    point-length = eqb-true _ _ (and-left (eqb (length y) (numIndices g)) _ p)
+
+    pub mix-sum : (i : ℕ) → i < numBlocks g → sum (mix g y i) ≡ division g i
+    unfolding isGridPoint
+    mix-sum i h =
+        eqb-true _ _ (all-in onNumbers (λ j. eqb (sum (mix g y j)) (division g j)) (blocks g) (and-right (eqb (length y) (numIndices g)) _ p) i (in-upFrom 0 (numBlocks g) i (omega arith) (omega arith)))
+
+    -- the mix is a part of the point
+    pub mix-part : (i : ℕ) → mix g y i ≡ take (size g i) (drop (firstIndex g i) y)
+    mix-part i = at-part y (firstIndex g i) (size g i) (omega (arith, block-fits (g .sizes) i, point-length))
+
+pub length-mix : (g : Grid) (y : Point) (i : ℕ) → length (mix g y i) ≡ size g i
+length-mix g y i = rw (length-map, length-upFrom)
+
+-- the part of a point that is lent for a block is the block's mix
+pub lent-mix : (ss y : List ℕ) (i first s : ℕ) → first ≡ sum (take i ss) → s ≡ getD ss i 0 → sum ss ≡ length y → take (first + s - first) (drop first y) ≡ mix (gridOf ss []) y i
+lent-mix ss y i first s e f h =
+    let z : first + s - first ≡ s = omega arith in
+    rw (z, e, f) (sym (at-part y (sum (take i ss)) (getD ss i 0) (omega (arith, block-fits ss i))))

@@ -1,0 +1,116 @@
+-- `weigh_player` meets its contract: the losses of the player's strategies give both kinds of losses. Assumes nothing.
+use mathlib.Core.Path.{_≡_, _∙_}
+use Prim.Native.Nat.{_+_, _≤_}
+use native.Mathlib.Omega.{arith}
+use lib.ListN.{length}
+use Rattle.grid.proofs.Accepted.{accepted}
+use Rattle.grid.proofs.Round.{block-fits}
+use Rattle.grid.specs.Grid.{Grid, size, firstIndex}
+use Rattle.losses.proofs.Player.{player-ready, player-expected, player-replaced}
+use Rattle.losses.proofs.Players.{point-length}
+use Rattle.losses.specs.Known.{gridOf}
+use borrow.Author.Needs.{needs}
+use Rattle.losses.proofs.point.weigh_player.Statement.{statement}
+use Rattle.losses.proofs.point.weigh_player.Tie as tie
+
+-- what is known where the losses are written
+module _ (c : tie.After-count-of2) where
+  abbrev s : tie.Start
+  s = c .before .before .before .before .before .before .before .before .before .before .before .before .before .before .before
+
+  abbrev g : Grid
+  g = gridOf (s .args .sizes .now) (s .args .divisions .now)
+
+  first-is : c .before .before .count-of .result ≡ firstIndex g (s .args .player)
+  first-is = c .before .before .count-of .ensures ∙ s .pre .0 .drawn .laid .known (s .args .player) (s .pre .1)
+
+  inside : firstIndex g (s .args .player) + size g (s .args .player) ≤ length (s .args .point .now)
+  inside = omega (arith, block-fits (s .args .sizes .now) (s .args .player), point-length g (accepted g (s .pre .0 .drawn .laid .asked)) (s .args .point .now) (s .pre .0 .drawn .isPoint))
+
+strategy-losses-requires : tie.Need-strategy-losses-requires
+strategy-losses-requires c κs = search needs
+
+element-copy-out-count-of : tie.Need-element-copy-out-count-of
+element-copy-out-count-of c =
+    let s = c .before .before .before .before .before .before .before .before .before .before .before in
+    omega (arith, accepted (gridOf (s .args .sizes .now) (s .args .divisions .now)) (s .pre .0 .drawn .laid .asked) .fewBlocks)
+
+count-of-requires : tie.Need-count-of-requires
+count-of-requires c κs = search needs
+
+shared-slice-read-count-of : tie.Need-shared-slice-read-count-of
+shared-slice-read-count-of c = search needs
+
+count-of-requires-2 : tie.Need-count-of-requires-2
+count-of-requires-2 c κs = search needs
+
+add-put-losses : tie.Need-add-put-losses
+add-put-losses c = omega (arith, first-is c, inside c)
+
+mul-put-losses : tie.Need-mul-put-losses
+mul-put-losses c = omega (arith, first-is c, inside c)
+
+sub-put-losses : tie.Need-sub-put-losses
+sub-put-losses c = search needs
+
+part-put-losses-start : tie.Need-part-put-losses-start
+part-put-losses-start c = search needs
+
+part-put-losses-end : tie.Need-part-put-losses-end
+part-put-losses-end c = let e = first-is c in let i = inside c in search needs
+
+mul-put-losses-2 : tie.Need-mul-put-losses-2
+mul-put-losses-2 c = search needs
+
+shared-slice-read-put-losses : tie.Need-shared-slice-read-put-losses
+shared-slice-read-put-losses c =
+    let s = c .before .before .before .before .before .before .before .before .before .before .before .before .before .before .before .before .before .before in
+    omega (arith, accepted (gridOf (s .args .sizes .now) (s .args .divisions .now)) (s .pre .0 .drawn .laid .asked) .sameNumber)
+
+put-losses-requires : tie.Need-put-losses-requires
+put-losses-requires c κs =
+    let w = c .before .before .before .before .before in
+    let s = w .before .before .before .before .before .before .before .before .before .before .before .before .before .before .before in
+    let l = w .before .before .before .before .before .before .strategy-losses in
+    let r = player-ready (g w) (s .args .firsts .now) (s .args .losses .now) (s .args .point .now) (s .pre .0 .drawn) (s .pre .0 .table) (s .args .player) (s .pre .1) (l .last .1 .1 .1 .1 .1 .1 .0) (l .ensures) (w .before .before .count-of .result) (w .count-of2 .result) (first-is w) (w .count-of2 .ensures) in
+    (r .0, r .1, r .2, omega (arith, r .3, s .pre .2), omega (arith, r .3, s .pre .3))
+
+same-length : tie.Need-same-length
+same-length c = search needs
+
+same-length-2 : tie.Need-same-length-2
+same-length-2 c = search needs
+
+same-length-3 : tie.Need-same-length-3
+same-length-3 c = search needs
+
+returns : tie.Need-returns
+returns c =
+    let w = c .before .before .before .before .before .before .before .before .before .before in
+    let s = w .before .before .before .before .before .before .before .before .before .before .before .before .before .before .before in
+    let l = w .before .before .before .before .before .before .strategy-losses in
+    let p = player-expected (g w) (s .args .firsts .now) (s .args .losses .now) (s .args .point .now) (s .pre .0 .drawn) (s .pre .0 .table) (s .args .player) (s .pre .1) (l .last .1 .1 .1 .1 .1 .1 .0) (l .ensures) (w .before .before .count-of .result) (w .count-of2 .result) (first-is w) (w .count-of2 .ensures) (s .args .expected .now) in
+    let q = player-replaced (g w) (s .args .firsts .now) (s .args .losses .now) (s .args .point .now) (s .pre .0 .drawn) (s .pre .0 .table) (s .args .player) (s .pre .1) (l .last .1 .1 .1 .1 .1 .1 .0) (l .ensures) (w .before .before .count-of .result) (w .count-of2 .result) (first-is w) (w .count-of2 .ensures) (s .args .replaced .now) in
+    (c .before .before .before .before .put-losses .ensures .0 ∙ p, c .before .before .before .before .put-losses .ensures .1 ∙ q)
+
+pub weigh-player-spec : {M : Type 1} → statement M
+weigh-player-spec =
+    tie.close
+    (tie.spec
+    strategy-losses-requires
+    element-copy-out-count-of
+    count-of-requires
+    shared-slice-read-count-of
+    count-of-requires-2
+    add-put-losses
+    mul-put-losses
+    sub-put-losses
+    part-put-losses-start
+    part-put-losses-end
+    mul-put-losses-2
+    shared-slice-read-put-losses
+    put-losses-requires
+    same-length
+    same-length-2
+    same-length-3
+    returns)

@@ -1,0 +1,84 @@
+-- `weigh_point` meets its contract: the losses of the players passed stand at their indices. Assumes nothing.
+use mathlib.Core.List.{map}
+use mathlib.Core.Path.{_≡_, refl, sym, _∙_}
+use Prim.Native.Nat.{_-_, _≤_}
+use native.Mathlib.Omega.{arith}
+use lib.ListN.{length, take}
+use lib.Seq.{take-all}
+use Rattle.combinatorics.proofs.Fronts.{front-none}
+use Rattle.combinatorics.specs.Front.{front}
+use Rattle.combinatorics.specs.Lists.{sum, upFrom}
+use Rattle.losses.proofs.Player.{filled-turn}
+use Rattle.losses.specs.Game.{playerLoss, replacedLoss}
+use Rattle.losses.specs.Known.{gridOf}
+use Rattle.losses.proofs.point.weigh_point.Statement.{statement}
+use Rattle.losses.proofs.point.weigh_point.Tie as tie
+
+abbrev Inv-loop : tie.InvT-loop
+Inv-loop sizes divisions firsts losses point count values₀ expected₀ replaced₀ player₀ values expected replaced player =
+    (expected ≡ front (map (playerLoss (gridOf sizes divisions) losses point) (upFrom 0 (sum (take player sizes)))) expected₀) × (replaced ≡ front (map (replacedLoss (gridOf sizes divisions) losses point) (upFrom 0 (sum (take player sizes)))) replaced₀) × (player ≤ length sizes) × (length values ≡ length values₀) × (length expected ≡ length expected₀) × (length replaced ≡ length replaced₀)
+
+abbrev μ-loop : tie.MeasureT-loop
+μ-loop sizes divisions firsts losses point count values₀ expected₀ replaced₀ player₀ values expected replaced player = length sizes - player
+
+loop-holds : tie.Need-loop-holds Inv-loop μ-loop
+loop-holds c =
+    let a = c .before .before .before .before .before .before .before .args in
+    (sym (front-none (a .expected .now)), sym (front-none (a .replaced .now)), omega arith, refl, refl, refl)
+
+weigh-player-requires : tie.Need-weigh-player-requires Inv-loop μ-loop
+weigh-player-requires c κs =
+    let p = c .before .before .before .before .before .before .before .before .before .before .before .before .pre in
+    (record { drawn = p .0 .drawn; table = p .0 .table; isCount = p .0 .isCount; room = omega (arith, p .0 .room) }, omega arith, omega arith, omega arith)
+
+add-player : tie.Need-add-player Inv-loop μ-loop
+add-player c = omega arith
+
+loop-less : tie.Need-loop-less Inv-loop μ-loop
+loop-less c = omega arith
+
+loop-again : tie.Need-loop-again Inv-loop μ-loop
+loop-again c =
+    let s = c .before .before .before .before .before .before .before .before .before .before .before .before .before .before .before .before .before .before .before in
+    let l = c .before .before .before .before .before .before .before .before .before .before .before .loop in
+    let w = c .before .before .before .before .before .before .weigh-player in
+    let g = gridOf (s .args .sizes .now) (s .args .divisions .now) in (
+      rw (w .ensures .0, l .inv .0) (filled-turn (playerLoss g (s .args .losses .now) (s .args .point .now)) (s .args .sizes .now) (s .args .expected .now) (l .player) (omega arith) (s .pre .1)),
+      rw (w .ensures .1, l .inv .1) (filled-turn (replacedLoss g (s .args .losses .now) (s .args .point .now)) (s .args .sizes .now) (s .args .replaced .now) (l .player) (omega arith) (s .pre .2)),
+      omega arith,
+      omega arith,
+      omega arith,
+      omega arith,
+    )
+
+same-length : tie.Need-same-length Inv-loop μ-loop
+same-length c = omega arith
+
+same-length-2 : tie.Need-same-length-2 Inv-loop μ-loop
+same-length-2 c = omega arith
+
+same-length-3 : tie.Need-same-length-3 Inv-loop μ-loop
+same-length-3 c = omega arith
+
+returns : tie.Need-returns Inv-loop μ-loop
+returns c =
+    let s = c .before .before .before .before .before .before .before .before .before in
+    let l = c .before .loop in
+    let w : take (l .player) (s .args .sizes .now) ≡ s .args .sizes .now = take-all (l .player) (s .args .sizes .now) (omega arith) in
+    (l .inv .0 ∙ rw w, l .inv .1 ∙ rw w)
+
+pub weigh-point-spec : {M : Type 1} → statement M
+weigh-point-spec =
+    tie.close
+    (tie.spec
+    Inv-loop
+    μ-loop
+    loop-holds
+    weigh-player-requires
+    add-player
+    loop-less
+    loop-again
+    same-length
+    same-length-2
+    same-length-3
+    returns)

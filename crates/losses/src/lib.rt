@@ -1,0 +1,19 @@
+// The losses of a game at a point. Players and strategies are the grid's blocks and indices, which count from 0.
+ghost use mathlib.Core.Path.{_≡_};
+
+mod expected;
+mod point;
+
+pub use point::weigh_point;
+
+pub fn wide(x: u16) -> u32
+    ensures { λ r. ⌜ r ≡ x ⌝ }
+{
+    x as u32
+}
+
+pub fn count_of(x: u8) -> usize
+    ensures { λ r. ⌜ r ≡ x ⌝ }
+{
+    x as usize
+}
