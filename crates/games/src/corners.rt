@@ -29,18 +29,16 @@ fn add_times(totals: &mut [u32; 16], x: u32, row: &[u32], count: usize)
     }
 }
 
-// The rows weighed by the mix and added up.
-fn mixed(mix: &[u16], rows: &[u32], count: usize) -> [u32; 16]
-    requires { ⌜ (length (now mix) ≤ 16) × (count ≤ 16) × (length (now rows) ≡ 256) × ((h : ℕ) → h < count → column (now mix) (now rows) h < 4294967296) ⌝ }
-    ensures { λ r. ⌜ ((h : ℕ) → h < count → at r h ≡ column (now (mix .entry)) (now (rows .entry)) h) ⌝ }
+// The rows weighed by the mix, added to totals that are 0. The totals are lent: handed over by value they would be copied.
+fn add_rows(totals: &mut [u32; 16], mix: &[u16], rows: &[u32], count: usize)
+    requires { ⌜ (now totals ≡ replicate 16 0) × (length (now mix) ≤ 16) × (count ≤ 16) × (length (now rows) ≡ 256) × ((h : ℕ) → h < count → column (now mix) (now rows) h < 4294967296) ⌝ }
+    ensures { λ _. ⌜ ((h : ℕ) → h < count → at (now (totals .exit)) h ≡ column (now (mix .entry)) (now (rows .entry)) h) ⌝ }
 {
-    let mut totals = [0u32; 16];
     let mut k: usize = 0;
     while k < mix.len() {
-        add_times(&mut totals, wide(mix[k]), &rows[k * 16..], count);
+        add_times(totals, wide(mix[k]), &rows[k * 16..], count);
         k += 1;
     }
-    totals
 }
 
 // The label of the point with this mix of the last player.
@@ -49,8 +47,10 @@ pub fn label_point(mix: &[u16], count: usize, expected: &[u32], replaced: &[u32]
     requires { ⌜ ((h : ℕ) → h < count → column (now mix) (now expected) h < 4294967296) × ((h : ℕ) → h < count → column (now mix) (now replaced) h < 4294967296) ⌝ }
     ensures { λ r. ⌜ r ≡ suc (firstLargest (λ h. pos (column (now (mix .entry)) (now (expected .entry)) h) -ℤ pos (column (now (mix .entry)) (now (replaced .entry)) h)) (upFrom 0 count)) ⌝ }
 {
-    let p = mixed(mix, expected, count);
-    let q = mixed(mix, replaced, count);
+    let mut p = [0u32; 16];
+    let mut q = [0u32; 16];
+    add_rows(&mut p, mix, expected, count);
+    add_rows(&mut q, mix, replaced, count);
     (largest::first_largest(&p, &q, count) + 1) as u8
 }
 

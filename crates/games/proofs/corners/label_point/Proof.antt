@@ -10,11 +10,11 @@ use Rattle.games.proofs.FirstLargest.{largest-agree}
 use Rattle.games.proofs.corners.label_point.Statement.{statement}
 use Rattle.games.proofs.corners.label_point.Tie as tie
 
-mixed-requires : tie.Need-mixed-requires
-mixed-requires c κs = search needs
+add-rows-requires : tie.Need-add-rows-requires
+add-rows-requires c κs = search needs
 
-mixed-requires-2 : tie.Need-mixed-requires-2
-mixed-requires-2 c κs = search needs
+add-rows-requires-2 : tie.Need-add-rows-requires-2
+add-rows-requires-2 c κs = search needs
 
 first-largest-requires : tie.Need-first-largest-requires
 first-largest-requires c κs = search needs
@@ -27,17 +27,17 @@ cast-result c = search needs
 
 returns : tie.Need-returns
 returns c =
-    let s = c .before .before .before .before .before .before .before .before in
-    let p = c .before .before .before .before .mixed in
-    let q = c .before .before .before .mixed2 in
-    add-one (c .first-largest .result) ∙ ap suc (c .first-largest .ensures .0 ∙ largest-agree (λ h. pos (at (p .result) h) -ℤ pos (at (q .result) h)) (λ h. pos (column (s .args .mix .now) (s .args .expected .now) h) -ℤ pos (column (s .args .mix .now) (s .args .replaced .now) h)) (s .args .count) (λ h b. rw (p .ensures h b, q .ensures h b)))
+    let a = c .before .before .before .before .before .before .before .before .before .before .args in
+    let p = c .before .before .before .before .before .add-rows in
+    let q = c .before .before .before .add-rows2 in
+    add-one (c .first-largest .result) ∙ ap suc (c .first-largest .ensures .0 ∙ largest-agree (λ h. pos (at (p .last .0) h) -ℤ pos (at (q .last .0) h)) (λ h. pos (column (a .mix .now) (a .expected .now) h) -ℤ pos (column (a .mix .now) (a .replaced .now) h)) (a .count) (λ h b. rw (p .ensures h b, q .ensures h b)))
 
 pub label-point-spec : {M : Type 1} → statement M
 label-point-spec =
     tie.close
     (tie.spec
-    mixed-requires
-    mixed-requires-2
+    add-rows-requires
+    add-rows-requires-2
     first-largest-requires
     add-result
     cast-result

@@ -1,4 +1,4 @@
--- `mixed` meets its contract: the rows passed are weighed and added up. Assumes nothing.
+-- `add_rows` meets its contract: the rows passed are weighed and added up. Assumes nothing.
 use mathlib.Core.List.{List}
 use mathlib.Core.Path.{_≡_, refl, sym, ap, _∙_}
 use Prim.Native.Nat.{ℕ, _-_, _*_, _≤_, _<_}
@@ -9,21 +9,23 @@ use lib.Seq.{take-all, getD-drop}
 use Rattle.grid.specs.Grid.{at}
 use Rattle.games.proofs.Rows.{column-next, column-fits}
 use Rattle.games.specs.Corners.{column}
-use Rattle.games.proofs.corners.mixed.Statement.{statement}
-use Rattle.games.proofs.corners.mixed.Tie as tie
+use Rattle.games.proofs.corners.add_rows.Statement.{statement}
+use Rattle.games.proofs.corners.add_rows.Tie as tie
 
 abbrev Inv-loop : tie.InvT-loop
-Inv-loop mix rows count totals₀ k₀ totals k = ((h : ℕ) → h < count → at totals h ≡ column (take k mix) rows h) × (k ≤ length mix) × (length totals ≡ 16)
+Inv-loop totals₀ mix rows count k₀ totals k = ((h : ℕ) → h < count → at totals h ≡ column (take k mix) rows h) × (k ≤ length mix) × (length totals ≡ 16)
 
 abbrev μ-loop : tie.MeasureT-loop
-μ-loop mix rows count totals₀ k₀ totals k = length mix - k
+μ-loop totals₀ mix rows count k₀ totals k = length mix - k
 
 -- the part that is lent for row k
 lent : (rows : List ℕ) (k : ℕ) → take (length rows - k * 16) (drop (k * 16) rows) ≡ drop (k * 16) rows
 lent rows k = take-all (length rows - k * 16) (drop (k * 16) rows) (omega (arith, length-drop (k * 16) rows))
 
 loop-holds : tie.Need-loop-holds Inv-loop μ-loop
-loop-holds c = ((λ h b. getD-replicate 16 h 0 0 (omega (arith, c .before .before .pre .1))), omega arith, refl)
+loop-holds c =
+    let p = c .before .before .pre in
+    ((λ h b. rw (p .0) (getD-replicate 16 h 0 0 (omega (arith, p .2)))), omega arith, ap length (p .0))
 
 mul-wide : tie.Need-mul-wide Inv-loop μ-loop
 mul-wide c = omega arith
@@ -55,9 +57,9 @@ add-times-requires c κs =
     let l = c .before .before .before .before .before .loop in
     let rows = s .args .rows .now in (
       l .inv .2,
-      s .pre .1,
-      rw (lent rows (l .k), length-drop) (omega (arith, s .pre .0, s .pre .1, s .pre .2)),
-      λ h b. rw (lent rows (l .k), getD-drop (l .k * 16) rows h 0, c .before .wide .ensures, l .inv .0 h b) (column-fits (s .args .mix .now) rows (l .k) h (omega arith) 4294967296 (s .pre .3 h b)),
+      s .pre .2,
+      rw (lent rows (l .k), length-drop) (omega (arith, s .pre .1, s .pre .2, s .pre .3)),
+      λ h b. rw (lent rows (l .k), getD-drop (l .k * 16) rows h 0, c .before .wide .ensures, l .inv .0 h b) (column-fits (s .args .mix .now) rows (l .k) h (omega arith) 4294967296 (s .pre .4 h b)),
     )
 
 add-k : tie.Need-add-k Inv-loop μ-loop
@@ -83,8 +85,8 @@ returns c =
     let e : take (l .k) (s .args .mix .now) ≡ s .args .mix .now = take-all (l .k) (s .args .mix .now) (omega arith) in
     λ h b. l .inv .0 h b ∙ ap (λ (z : List ℕ). column z (s .args .rows .now) h) e
 
-pub mixed-spec : {M : Type 1} → statement M
-mixed-spec =
+pub add-rows-spec : {M : Type 1} → statement M
+add-rows-spec =
     tie.close
     (tie.spec
     Inv-loop
