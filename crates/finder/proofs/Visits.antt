@@ -13,7 +13,7 @@ use native.Mathlib.Omega.{arith}
 use Rattle.combinatorics.proofs.Basics.{before-or-not}
 use Rattle.combinatorics.proofs.EditsOfArrays.{first-few}
 use Rattle.grid.proofs.Fields.{following-low, made-accepted, made-indices, made-next, made-previous, previous-low}
-use Rattle.grid.proofs.Positions.{position-below}
+use Rattle.positions.proofs.Positions.{position-below}
 use Rattle.grid.specs.Grid.{Point, at, isGridPoint, numIndices, position}
 use Rattle.grid.specs.Made.{IsMade, shape}
 use Rattle.grid.specs.declared.Grid.{Grid as GridStruct}

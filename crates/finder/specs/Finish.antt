@@ -4,7 +4,7 @@ use mathlib.Core.List.{List, [], _∷_}
 use mathlib.Core.Path.{_≡_}
 use Prim.Native.Nat.{ℕ, suc, _≤_, _<_}
 use lib.ListN.{length, take}
-use Rattle.grid.specs.Binomials.{HasBinomials}
+use Rattle.positions.specs.Binomials.{HasBinomials}
 use Rattle.grid.specs.Grid.{blockOf, dimension, isGridPoint, numIndices, numPoints}
 use Rattle.grid.specs.Made.{IsMade, shape}
 use Rattle.grid.specs.Questions.{Question, question5}

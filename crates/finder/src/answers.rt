@@ -137,6 +137,6 @@ pub fn run(
         return Answer::Refused(number);
     }
     let mut binomials = [0u16; 4830];
-    g.binomials(&mut binomials);
+    positions::binomials(g, &mut binomials);
     announced(g, &binomials, start, labels, answer, budget)
 }

@@ -19,6 +19,7 @@ use moves::Sets;
 use moves::advance;
 use moves::step;
 use moves::zeros;
+use positions::position;
 
 pub const PLACE_END: u8 = 0;
 
@@ -45,7 +46,7 @@ fn label_in(
     let previous = g.previous;
     let mut y = *first;
     advance(&mut y, &previous, order, s.u, s.turn);
-    let at = g.position(binomials, &y);
+    let at = position(g, binomials, &y);
     table[at]
 }
 

@@ -7,5 +7,3 @@ pub mod Prefix
 pub mod Accepted
 pub mod Fields
 pub mod Terms
-pub mod Positions
-pub mod Table

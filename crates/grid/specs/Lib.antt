@@ -3,4 +3,3 @@ pub mod Questions
 pub mod Made
 pub mod Capped
 pub mod Build
-pub mod Binomials

@@ -2,9 +2,7 @@
 ghost use mathlib.Core.Bool.{true};
 ghost use mathlib.Core.Path.{_≡_};
 ghost use Prim.Native.Nat.{_≤_, _<_};
-ghost use lib.ListN.{length, take};
-ghost use Rattle.grid.specs.Binomials.{HasBinomials};
-ghost use Rattle.grid.specs.Grid.{bound, isGridPoint, blockOf, next, previous, position};
+ghost use Rattle.grid.specs.Grid.{bound, isGridPoint, blockOf, next, previous};
 ghost use Rattle.grid.specs.Made.{madeOf, shape, IsMade};
 
 mod bounds;
@@ -12,8 +10,6 @@ mod build;
 mod coordinates;
 mod counts;
 mod questions;
-mod ranks;
-mod tables;
 
 // A grid with what is looked up at every move. At the front of each array stand the numbers of the
 // blocks or of the indices, 0 behind.
@@ -98,41 +94,6 @@ impl Grid {
         good
     }
 
-    // The binomials that positions on this grid need, in a table lent by the caller.
-    pub fn binomials(self, t: &mut [u16; 4830])
-        requires { ⌜ IsMade self × (length (now t) ≡ 4830) ⌝ }
-        ensures { λ _. ⌜ HasBinomials (shape self) (now (t .exit)) ⌝ }
-    {
-        let sizes = self.sizes;
-        let divisions = self.divisions;
-        let blocks = self.blocks;
-        let mut j: usize = 0;
-        while j < blocks {
-            tables::fill_block(t, wide(sizes[j]), wide16(divisions[j]));
-            j += 1;
-        }
-    }
-
-    // The position of the grid point whose coordinates stand at the front of y.
-    pub fn position(self, t: &[u16; 4830], y: &[u16; 16]) -> usize
-        requires { ⌜ IsMade self × HasBinomials (shape self) (now t) × (isGridPoint (shape self) (take (self .indices) (now y)) ≡ true) ⌝ }
-        ensures { λ r. ⌜ r ≡ position (shape self) (take (self .indices) (now (y .entry))) ⌝ }
-    {
-        let firsts = self.firsts;
-        let sizes = self.sizes;
-        let divisions = self.divisions;
-        let counts = self.counts;
-        let blocks = self.blocks;
-        let mut at: usize = 0;
-        let mut j: usize = 0;
-        while j < blocks {
-            let rank = ranks::in_block(t, y, wide(firsts[j]), wide(sizes[j]), wide16(divisions[j]));
-            at = at * wide16(counts[j]) + rank;
-            j += 1;
-        }
-        at
-    }
-
     // The block of index h.
     pub fn block_of(self, h: usize) -> usize
         requires { ⌜ IsMade self × (h < self .indices) ⌝ }
@@ -162,13 +123,13 @@ impl Grid {
 }
 
 // A byte is a number, with nothing to show at the cast.
-fn wide(x: u8) -> usize
+pub fn wide(x: u8) -> usize
     ensures { λ r. ⌜ r ≡ x ⌝ }
 {
     x as usize
 }
 
-fn wide16(x: u16) -> usize
+pub fn wide16(x: u16) -> usize
     ensures { λ r. ⌜ (r ≡ x) × (r ≤ 65535) ⌝ }
 {
     x as usize

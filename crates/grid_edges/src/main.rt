@@ -36,8 +36,8 @@ fn show_position(sizes: &[u8], divisions: &[u16], y: [u16; 16]) {
         return;
     }
     let mut t = [0u16; 4830];
-    grid.binomials(&mut t);
-    write(b"position ", grid.position(&t, &y) as u64);
+    positions::binomials(grid, &mut t);
+    write(b"position ", positions::position(grid, &t, &y) as u64);
 }
 
 fn accepted() {

@@ -1,18 +1,18 @@
--- `grid::Grid::binomials` meets its contract. The invariant: the blocks so far have their rows. Assumes nothing.
+-- `binomials` meets its contract. The invariant: the blocks so far have their rows. Assumes nothing.
 use mathlib.Core.Logic.{⊎-elim}
 use mathlib.Core.Path.{_≡_}
 use Prim.Native.Nat.{ℕ, _-_, _≤_, _<_}
 use lib.ListN.{length, getD, take}
 use Rattle.combinatorics.proofs.Basics.{before-or-not}
 use Rattle.grid.proofs.Fields.{made-size, made-division, made-blocks, blocks-range, size-range, count-range}
-use Rattle.grid.proofs.Table.{rows-kept}
-use Rattle.grid.specs.Binomials.{HasRows}
+use Rattle.positions.proofs.Table.{rows-kept}
+use Rattle.positions.specs.Binomials.{HasRows}
 use Rattle.grid.specs.Grid.{size, division}
 use Rattle.grid.specs.Made.{shape}
 use borrow.Author.Needs.{needs}
 use native.Mathlib.Omega.{arith}
-use Rattle.grid.proofs.Grid.binomials.Statement.{statement}
-use Rattle.grid.proofs.Grid.binomials.Tie as tie
+use Rattle.positions.proofs.binomials.Statement.{statement}
+use Rattle.positions.proofs.binomials.Tie as tie
 
 abbrev Inv-loop : tie.InvT-loop
 Inv-loop t₀ sizes divisions blocks j₀ t j =
@@ -45,7 +45,7 @@ wide16-requires c κs = search needs
 fill-block-requires : tie.Need-fill-block-requires Inv-loop μ-loop
 fill-block-requires c κs =
     let l = c .before .before .before .before .loop in
-    let s = c .before .before .before .before .before .before .before .args .self in
+    let s = c .before .before .before .before .before .before .before .args .g in
     let m = c .before .before .before .before .before .before .before .pre .0 in
     let r = size-range s m (l .j) (omega arith) in
     rw (c .before .wide .ensures, c .wide16 .ensures .0, made-size s m (l .j) (omega arith), made-division s m (l .j) (omega arith)) (r .0, r .1, count-range s m (l .j) (omega arith), l .inv .1)
@@ -59,7 +59,7 @@ loop-less c = search needs
 loop-again : tie.Need-loop-again Inv-loop μ-loop
 loop-again c =
     let l = c .before .before .before .before .before .loop in
-    let s = c .before .before .before .before .before .before .before .before .args .self in
+    let s = c .before .before .before .before .before .before .before .before .args .g in
     let m = c .before .before .before .before .before .before .before .before .pre .0 in
     let e = c .fill-block .ensures in (
       omega arith,
@@ -73,7 +73,7 @@ loop-again c =
 returns : tie.Need-returns Inv-loop μ-loop
 returns c =
     let l = c .before .loop in
-    let s = c .before .before .before .before .args .self in
+    let s = c .before .before .before .before .args .g in
     record { rows = λ j h. l .inv .2 j (omega (arith, made-blocks s (c .before .before .before .before .pre .0))) }
 
 pub binomials-spec : {M : Type 1} → statement M

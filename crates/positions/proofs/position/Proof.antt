@@ -1,20 +1,20 @@
--- `grid::Grid::position` meets its contract. The invariant: the position in the blocks so far, by Horner's rule. Assumes nothing.
+-- `position` meets its contract. The invariant: the position in the blocks so far, by Horner's rule. Assumes nothing.
 use mathlib.Core.Bool.{true}
 use mathlib.Core.List.{map}
 use mathlib.Core.Path.{_≡_, sym, ap, _∙_, subst}
 use Prim.Native.Nat.{ℕ, _+_, _-_, _*_, _≤_, _<_}
 use lib.ListN.{take}
 use Rattle.combinatorics.specs.Lists.{sum}
 use Rattle.grid.proofs.Fields.{made-accepted, made-indices, made-blocks, made-size, made-division, made-first, made-count, blocks-range, indices-few, size-range, count-range}
-use Rattle.grid.proofs.Positions.{Horner, horner-start, horner-next, horner-few, horner-done, adds-up, map-front}
+use Rattle.positions.proofs.Positions.{Horner, horner-start, horner-next, horner-few, horner-done, adds-up, map-front}
 use Rattle.grid.proofs.Round.{block-fits}
 use Rattle.grid.specs.Build.{lent}
 use Rattle.grid.specs.Grid.{isGridPoint, numIndices, numBlocks, indicesOf, firstIndex, size, division, blockPoints, position, positionIn, at as coordinate}
 use Rattle.grid.specs.Made.{shape}
 use borrow.Author.Needs.{needs}
 use native.Mathlib.Omega.{arith}
-use Rattle.grid.proofs.Grid.position.Statement.{statement}
-use Rattle.grid.proofs.Grid.position.Tie as tie
+use Rattle.positions.proofs.position.Statement.{statement}
+use Rattle.positions.proofs.position.Tie as tie
 
 abbrev Inv-loop : tie.InvT-loop
 Inv-loop t y firsts sizes divisions counts blocks at₀ j₀ at j =
@@ -24,19 +24,19 @@ abbrev μ-loop : tie.MeasureT-loop
 μ-loop t y firsts sizes divisions counts blocks at₀ j₀ at j = blocks - j
 
 -- the point
-point : (c : tie.Start Inv-loop μ-loop) → isGridPoint (shape (c .args .self)) (take (numIndices (shape (c .args .self))) (c .args .y .now)) ≡ true
-point c = subst (λ (m : ℕ). isGridPoint (shape (c .args .self)) (take m (c .args .y .now)) ≡ true) (made-indices (c .args .self) (c .pre .0)) (c .pre .2)
+point : (c : tie.Start Inv-loop μ-loop) → isGridPoint (shape (c .args .g)) (take (numIndices (shape (c .args .g))) (c .args .y .now)) ≡ true
+point c = subst (λ (m : ℕ). isGridPoint (shape (c .args .g)) (take m (c .args .y .now)) ≡ true) (made-indices (c .args .g) (c .pre .0)) (c .pre .2)
 
 -- the coordinates of a block stand in the array as in the point
-same : (c : tie.Start Inv-loop μ-loop) (j : ℕ) → map (coordinate (take (numIndices (shape (c .args .self))) (c .args .y .now))) (indicesOf (shape (c .args .self)) j) ≡ map (coordinate (c .args .y .now)) (indicesOf (shape (c .args .self)) j)
-same c j = let s = c .args .self in map-front (c .args .y .now) (numIndices (shape s)) (firstIndex (shape s) j) (size (shape s) j) (block-fits (shape s .sizes) j)
+same : (c : tie.Start Inv-loop μ-loop) (j : ℕ) → map (coordinate (take (numIndices (shape (c .args .g))) (c .args .y .now))) (indicesOf (shape (c .args .g)) j) ≡ map (coordinate (c .args .y .now)) (indicesOf (shape (c .args .g)) j)
+same c j = let s = c .args .g in map-front (c .args .y .now) (numIndices (shape s)) (firstIndex (shape s) j) (size (shape s) j) (block-fits (shape s .sizes) j)
 
 -- one block more
 next : (c : tie.After-wide162 Inv-loop μ-loop)
-    → Horner (shape (c .before .before .before .before .before .before .before .before .before .before .before .args .self)) (take (numIndices (shape (c .before .before .before .before .before .before .before .before .before .before .before .args .self))) (c .before .before .before .before .before .before .before .before .before .before .before .args .y .now)) (c .before .before .before .before .before .before .loop .j + 1) (c .before .before .before .before .before .before .loop .at * c .wide162 .result + c .before .in-block .result)
+    → Horner (shape (c .before .before .before .before .before .before .before .before .before .before .before .args .g)) (take (numIndices (shape (c .before .before .before .before .before .before .before .before .before .before .before .args .g))) (c .before .before .before .before .before .before .before .before .before .before .before .args .y .now)) (c .before .before .before .before .before .before .loop .j + 1) (c .before .before .before .before .before .before .loop .at * c .wide162 .result + c .before .in-block .result)
 next c =
     let b = c .before .before .before .before .before .before .before .before .before .before .before in
-    let s = b .args .self in
+    let s = b .args .g in
     let m = b .pre .0 in
     let l = c .before .before .before .before .before .before .loop in
     let isFirst = made-first s m (l .j) (omega arith) in
@@ -50,13 +50,13 @@ next c =
 few : (c : tie.After-wide162 Inv-loop μ-loop) → c .before .before .before .before .before .before .loop .at * c .wide162 .result + c .before .in-block .result ≤ 60000
 few c =
     let b = c .before .before .before .before .before .before .before .before .before .before .before in
-    let s = b .args .self in
+    let s = b .args .g in
     let m = b .pre .0 in
     horner-few (shape s) _ (made-accepted s m) (point b) (c .before .before .before .before .before .before .loop .j + 1) _ (omega (arith, made-blocks s m)) (next c)
 
 loop-holds : tie.Need-loop-holds Inv-loop μ-loop
 loop-holds c =
-    let s = c .before .before .before .before .args .self in
+    let s = c .before .before .before .before .args .g in
     let m = c .before .before .before .before .pre .0 in
     (horner-start (shape s) _ (made-accepted s m) (point (c .before .before .before .before)), omega arith, blocks-range s m .1)
 
@@ -84,7 +84,7 @@ wide16-requires c κs = search needs
 in-block-requires : tie.Need-in-block-requires Inv-loop μ-loop
 in-block-requires c κs =
     let b = c .before .before .before .before .before .before .before .before .before in
-    let s = b .args .self in
+    let s = b .args .g in
     let m = b .pre .0 in
     let j = c .before .before .before .before .loop .j in
     let isFirst = made-first s m j (omega arith) in
@@ -126,7 +126,7 @@ loop-again c = (next c, omega arith, c .before .before .before .before .before .
 returns : tie.Need-returns Inv-loop μ-loop
 returns c =
     let b = c .before .before .before .before .before .before in
-    let s = b .args .self in
+    let s = b .args .g in
     let m = b .pre .0 in
     let l = c .before .loop in
     let n : l .j ≡ numBlocks (shape s) = omega (arith, made-blocks s m) in

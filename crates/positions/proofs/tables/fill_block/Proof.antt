@@ -1,14 +1,14 @@
--- `grid::tables::fill_block` meets its contract. The invariant: the rows before k are right, and no entry was spoilt. Assumes nothing.
+-- `tables::fill_block` meets its contract. The invariant: the rows before k are right, and no entry was spoilt. Assumes nothing.
 use mathlib.Core.Path.{_≡_}
 use Prim.Native.Nat.{_-_, _≤_, pred}
 use lib.ListN.{length}
 use Rattle.combinatorics.proofs.Binomials.{choose-grows}
-use Rattle.grid.proofs.Table.{keeps-self, keeps-both, division-few, rows-next}
-use Rattle.grid.specs.Binomials.{HasRows, Keeps}
+use Rattle.positions.proofs.Table.{keeps-self, keeps-both, division-few, rows-next}
+use Rattle.positions.specs.Binomials.{HasRows, Keeps}
 use borrow.Author.Needs.{needs}
 use native.Mathlib.Omega.{arith}
-use Rattle.grid.proofs.tables.fill_block.Statement.{statement}
-use Rattle.grid.proofs.tables.fill_block.Tie as tie
+use Rattle.positions.proofs.tables.fill_block.Statement.{statement}
+use Rattle.positions.proofs.tables.fill_block.Tie as tie
 
 abbrev Inv-loop : tie.InvT-loop
 Inv-loop t₀ size division k₀ t k =

@@ -1,11 +1,11 @@
--- `grid::tables::entry_before` meets its contract. Assumes nothing.
+-- `tables::entry_before` meets its contract. Assumes nothing.
 use mathlib.Core.Path.{_≡_, sym}
 use Prim.Native.Nat.{_-_}
 use Rattle.combinatorics.proofs.Binomials.{choose-one}
 use borrow.Author.Needs.{needs}
 use native.Mathlib.Omega.{arith}
-use Rattle.grid.proofs.tables.entry_before.Statement.{statement}
-use Rattle.grid.proofs.tables.entry_before.Tie as tie
+use Rattle.positions.proofs.tables.entry_before.Statement.{statement}
+use Rattle.positions.proofs.tables.entry_before.Tie as tie
 
 add-result : tie.Need-add-result
 add-result c = search needs

@@ -1,10 +1,10 @@
--- `grid::ranks::lists_before` meets its contract. Assumes nothing.
+-- `ranks::lists_before` meets its contract. Assumes nothing.
 use Prim.Native.Nat.{_-_, _≤_}
 use Rattle.combinatorics.proofs.Binomials.{choose-grows}
 use borrow.Author.Needs.{needs}
 use native.Mathlib.Omega.{arith}
-use Rattle.grid.proofs.ranks.lists_before.Statement.{statement}
-use Rattle.grid.proofs.ranks.lists_before.Tie as tie
+use Rattle.positions.proofs.ranks.lists_before.Statement.{statement}
+use Rattle.positions.proofs.ranks.lists_before.Tie as tie
 
 fewer : (c : tie.After-wide162) → c .wide162 .result ≤ c .before .before .wide16 .result
 fewer c =

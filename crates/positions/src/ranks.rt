@@ -4,9 +4,9 @@ ghost use mathlib.Core.Path.{_≡_};
 ghost use Prim.Native.Nat.{_+_, _-_, _≤_, pred};
 ghost use Rattle.combinatorics.specs.Counting.{choose};
 ghost use Rattle.combinatorics.specs.Lists.{sum, upFrom};
-ghost use Rattle.grid.specs.Binomials.{IsBinomial, HasRows};
+ghost use Rattle.positions.specs.Binomials.{IsBinomial, HasRows};
 ghost use Rattle.grid.specs.Grid.{at, blockPoints, positionIn};
-use crate::wide16;
+use grid::wide16;
 
 // With k + 1 numbers to come that add up to left: how many lists have a first number below x.
 fn lists_before(t: &[u16; 4830], k: usize, left: usize, x: usize) -> usize

@@ -1,4 +1,4 @@
--- `grid::tables::fill_row` meets its contract. The invariant: the row is right as far as r, whose entry is last, and no entry was spoilt. Assumes nothing.
+-- `tables::fill_row` meets its contract. The invariant: the row is right as far as r, whose entry is last, and no entry was spoilt. Assumes nothing.
 use mathlib.Core.Logic.{⊎-elim}
 use mathlib.Core.Path.{_≡_, sym, subst}
 use Prim.Native.Nat.{ℕ, _+_, _-_, _*_, _≤_}
@@ -6,12 +6,12 @@ use lib.ListN.{length, length-set, set}
 use Rattle.combinatorics.proofs.Basics.{before-or-not}
 use Rattle.combinatorics.proofs.Binomials.{choose-none, choose-grows}
 use Rattle.combinatorics.specs.Counting.{choose}
-use Rattle.grid.proofs.Table.{keeps-self, keeps-both, stored-is, stored-keeps, row-next}
-use Rattle.grid.specs.Binomials.{IsBinomial, Keeps}
+use Rattle.positions.proofs.Table.{keeps-self, keeps-both, stored-is, stored-keeps, row-next}
+use Rattle.positions.specs.Binomials.{IsBinomial, Keeps}
 use borrow.Author.Needs.{needs}
 use native.Mathlib.Omega.{arith}
-use Rattle.grid.proofs.tables.fill_row.Statement.{statement}
-use Rattle.grid.proofs.tables.fill_row.Tie as tie
+use Rattle.positions.proofs.tables.fill_row.Statement.{statement}
+use Rattle.positions.proofs.tables.fill_row.Tie as tie
 
 abbrev Inv-loop : tie.InvT-loop
 Inv-loop t₀ k most at last₀ r₀ t last r =

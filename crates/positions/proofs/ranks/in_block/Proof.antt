@@ -1,16 +1,16 @@
--- `grid::ranks::in_block` meets its contract. The invariant: the rank and the position of the k + 1 coordinates to come make the position of all. Assumes nothing.
+-- `ranks::in_block` meets its contract. The invariant: the rank and the position of the k + 1 coordinates to come make the position of all. Assumes nothing.
 use mathlib.Core.List.{map}
 use mathlib.Core.Path.{_≡_, sym, ap, _∙_, subst}
 use Prim.Native.Nat.{ℕ, _+_, _-_, _≤_, _<_, pred}
 use Rattle.combinatorics.specs.Counting.{choose}
 use Rattle.combinatorics.specs.Lists.{sum, upFrom}
-use Rattle.grid.proofs.Positions.{rankOf, rank-turn, rank-end, rank-below}
-use Rattle.grid.proofs.Table.{division-few}
+use Rattle.positions.proofs.Positions.{rankOf, rank-turn, rank-end, rank-below}
+use Rattle.positions.proofs.Table.{division-few}
 use Rattle.grid.specs.Grid.{at}
 use borrow.Author.Needs.{needs}
 use native.Mathlib.Omega.{arith}
-use Rattle.grid.proofs.ranks.in_block.Statement.{statement}
-use Rattle.grid.proofs.ranks.in_block.Tie as tie
+use Rattle.positions.proofs.ranks.in_block.Statement.{statement}
+use Rattle.positions.proofs.ranks.in_block.Tie as tie
 
 abbrev Inv-loop : tie.InvT-loop
 Inv-loop t y first size division rank₀ left₀ i₀ k₀ rank left i k =

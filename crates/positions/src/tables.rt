@@ -3,7 +3,7 @@ ghost use mathlib.Core.Path.{_≡_};
 ghost use Prim.Native.Nat.{ℕ, _+_, _-_, _≤_, _<_, pred};
 ghost use lib.ListN.{length};
 ghost use Rattle.combinatorics.specs.Counting.{choose};
-ghost use Rattle.grid.specs.Binomials.{IsBinomial, HasRows, Keeps};
+ghost use Rattle.positions.specs.Binomials.{IsBinomial, HasRows, Keeps};
 
 // The entry of the row before: r + 1 where that would be row 1.
 fn entry_before(t: &[u16; 4830], k: usize, r: usize) -> u16

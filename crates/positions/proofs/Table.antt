@@ -10,8 +10,8 @@ use Rattle.combinatorics.proofs.Basics.{before-or-not}
 use mathlib.Core.Logic.{⊎-elim}
 use Rattle.combinatorics.proofs.Binomials.{choose-grows, choose-step}
 use Rattle.combinatorics.specs.Counting.{choose}
 use Rattle.grid.proofs.Capped.{at-set}
-use Rattle.grid.specs.Binomials.{IsBinomial, HasRows, Keeps}
+use Rattle.positions.specs.Binomials.{IsBinomial, HasRows, Keeps}
 
 pub keeps-self : {t : List ℕ} → Keeps t t
 keeps-self = record { right = λ k r a b c e. e }

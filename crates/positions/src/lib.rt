@@ -1,0 +1,49 @@
+// The position of a grid point in the list of all points, by a table of binomials. Both functions are for a grid that `Grid::new` made,
+// and a caller of ours shows that.
+ghost use mathlib.Core.Bool.{true};
+ghost use mathlib.Core.Path.{_≡_};
+ghost use lib.ListN.{length, take};
+ghost use Rattle.grid.specs.Grid.{isGridPoint, position as positionOf};
+ghost use Rattle.grid.specs.Made.{shape, IsMade};
+ghost use Rattle.positions.specs.Binomials.{HasBinomials};
+use grid::Grid;
+use grid::wide;
+use grid::wide16;
+
+mod ranks;
+mod tables;
+
+// The binomials that positions on this grid need, in a table lent by the caller.
+pub fn binomials(g: Grid, t: &mut [u16; 4830])
+    requires { ⌜ IsMade g × (length (now t) ≡ 4830) ⌝ }
+    ensures { λ _. ⌜ HasBinomials (shape g) (now (t .exit)) ⌝ }
+{
+    let sizes = g.sizes;
+    let divisions = g.divisions;
+    let blocks = g.blocks;
+    let mut j: usize = 0;
+    while j < blocks {
+        tables::fill_block(t, wide(sizes[j]), wide16(divisions[j]));
+        j += 1;
+    }
+}
+
+// The position of the grid point whose coordinates stand at the front of y.
+pub fn position(g: Grid, t: &[u16; 4830], y: &[u16; 16]) -> usize
+    requires { ⌜ IsMade g × HasBinomials (shape g) (now t) × (isGridPoint (shape g) (take (g .indices) (now y)) ≡ true) ⌝ }
+    ensures { λ r. ⌜ r ≡ positionOf (shape g) (take (g .indices) (now (y .entry))) ⌝ }
+{
+    let firsts = g.firsts;
+    let sizes = g.sizes;
+    let divisions = g.divisions;
+    let counts = g.counts;
+    let blocks = g.blocks;
+    let mut at: usize = 0;
+    let mut j: usize = 0;
+    while j < blocks {
+        let rank = ranks::in_block(t, y, wide(firsts[j]), wide(sizes[j]), wide16(divisions[j]));
+        at = at * wide16(counts[j]) + rank;
+        j += 1;
+    }
+    at
+}
