@@ -46,10 +46,6 @@ unfolding front
 front-paste new old row i e h =
     rw (e, take-append-seam, take-length, drop-append-add, drop-drop, length-append)
 
--- a whole list pasted at the start
-pub front-start : (row old : List ℕ) → length row ≤ length old → paste old 0 row (length row) ≡ front row old
-front-start row old h = ap (λ (l : List ℕ). paste l 0 row (length row)) (sym (front-none old)) ∙ front-paste [] old row 0 refl (omega arith)
-
 -- what was written is read there
 pub front-at : (new old : List ℕ) (i : ℕ) → i < length new → getD (front new old) i 0 ≡ getD new i 0
 unfolding front

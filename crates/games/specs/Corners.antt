@@ -1,5 +1,5 @@
 -- The losses at a point out of those at its corners: the points with one strategy in place of the last player's mix. Losses are linear in
--- that mix, so they are weighed once for all points that differ only there. Assumes nothing.
+-- that mix, so they are weighed once for all points that differ only there. The promises of a labelling do not cite this. Assumes nothing.
 use mathlib.Core.List.{List, [], _∷_, _++_}
 use mathlib.Core.Path.{_≡_}
 use Prim.Native.Nat.{ℕ, suc, _+_, _-_, _*_, _<_}

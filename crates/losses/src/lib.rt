@@ -1,4 +1,5 @@
-// The losses of a game at a point. Players and strategies are the grid's blocks and indices, which count from 0.
+// The losses of a game at a point. Players and strategies are the grid's blocks and indices, which count from 0. What is public
+// here is for the games, which show what it asks.
 ghost use mathlib.Core.Path.{_≡_};
 
 mod expected;

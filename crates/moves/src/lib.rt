@@ -1,4 +1,5 @@
-// The state of a run, and the move from a place to the next by the seven rules.
+// The state of a run, and the move from a place to the next by the seven rules. What is public here is for the finder, which
+// shows what it asks.
 mod joining;
 mod leaving;
 mod lists;
