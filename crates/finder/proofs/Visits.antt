@@ -4,7 +4,7 @@ use mathlib.Core.Bool.{true, _&&_}
 use mathlib.Core.List.{List, []}
 use mathlib.Core.Logic.{⊎-elim}
 use mathlib.Core.Path.{_≡_, refl, sym, ap, _∙_, subst}
-use Prim.Native.Nat.{ℕ, suc, _-_, _≤_, _<_}
+use Prim.Native.Nat.{ℕ, suc, _+_, _≤_, _<_}
 use borrow.Author.Tests.{lt-ltb, le-ltb}
 use lib.Dec.{eqb, ltb}
 use lib.ListN.{length, replicate, set, take}
@@ -12,8 +12,10 @@ use lib.Seq.{getD-take, take-set-lt}
 use native.Mathlib.Omega.{arith}
 use Rattle.combinatorics.proofs.Basics.{before-or-not}
 use Rattle.combinatorics.proofs.EditsOfArrays.{first-few}
-use Rattle.grid.proofs.Fields.{following-low, made-accepted, made-indices, made-next, made-previous, previous-low}
+use Rattle.grid.proofs.Fields.{following-low, indices-few, made-accepted, made-indices, made-next, made-previous, previous-low}
 use Rattle.positions.proofs.Positions.{position-below}
+use Rattle.positions.proofs.Steps.{after-is}
+use Rattle.positions.specs.Steps.{CanStep, afterSteps}
 use Rattle.grid.specs.Grid.{Point, at, isGridPoint, numIndices, position}
 use Rattle.grid.specs.Made.{IsMade, shape}
 use Rattle.grid.specs.declared.Grid.{Grid as GridStruct}
@@ -23,7 +25,7 @@ use Rattle.place.specs.Path.{answer, spent}
 use Rattle.place.specs.Problem.{Problem, label}
 use Rattle.moves.proofs.Describes.{Neighbours}
 use Rattle.moves.proofs.Follow.{At, EndsAt, at-begin, at-facet-end, at-place-end, at-reads, at-ready, at-step, ends-answer}
-use Rattle.moves.proofs.PointsAfter.{after-few, few-ready}
+use Rattle.moves.proofs.PointsAfter.{after-few, counts-add, counts-ready, few-ready, length-after}
 use Rattle.moves.specs.Mask.{bit}
 use Rattle.moves.specs.Read.{ReadyPoint, pointAfter, pointIn, read}
 use Rattle.moves.specs.Ready.{IndicesBelow, Ready}
@@ -52,16 +54,33 @@ module _ (g : GridStruct) (binomials table : List ℕ) (R : Readable g binomials
   unfolding label
   label-is = refl
 
--- the point that has come in needs the steps before it only
-module _ (g : GridStruct) (table first order : List ℕ) (s : Sets) (R : ReadyRead g table first order s) where
+-- the point that has come in needs the steps before it only, and these are counted apart from the first point
+module _ (g : GridStruct) (made : IsMade g) (table first order : List ℕ) (s : Sets) (R : ReadyRead g table first order s) where
   early : s .turn ≤ s .count
   early = omega (arith, R .point .low, first-few (s .count) order)
 
-  pub point-ready : ReadyPoint (g .previous) (take (s .turn) order) (s .u) first (s .turn)
+  point-ready : ReadyPoint (g .previous) (take (s .turn) order) (s .u) first (s .turn)
   point-ready = few-ready (g .previous) order (s .u) first (s .count) (s .turn) early (R .point)
 
-  pub point-at : pointAfter (g .previous) (take (s .turn) order) (s .u) first (s .turn) ≡ pointAfter (g .previous) (take (s .count) order) (s .u) first (s .turn)
-  point-at = after-few (g .previous) order (s .u) first (s .count) (s .turn) early
+  pub steps-ready : ReadyPoint (g .previous) (take (s .turn) order) (s .u) (replicate 16 16) (s .turn)
+  steps-ready = counts-ready (g .previous) (take (s .turn) order) (s .u) first (R .firstLength) (s .turn) point-ready
+
+  abbrev steps : List ℕ
+  steps = pointAfter (g .previous) (take (s .turn) order) (s .u) (replicate 16 16) (s .turn)
+
+  abbrev point : List ℕ
+  point = pointAfter (g .previous) (take (s .turn) order) (s .u) first (s .turn)
+
+  steps-add : (k : ℕ) → k < g .indices → at point k + 16 ≡ at first k + at steps k
+  steps-add k l = counts-add (g .previous) (take (s .turn) order) (s .u) first (R .firstLength) (s .turn) point-ready k (omega (arith, indices-few g made))
+
+  pub can-step : CanStep (g .indices) first steps
+  can-step k l = omega (arith, steps-add k l)
+
+  pub point-at : take (g .indices) (afterSteps first steps) ≡ pointIn (tableOf g table) (g .previous) (stateOf first [] order [] s) (s .turn)
+  point-at =
+      after-is first steps point (g .indices) (indices-few g made) (omega (arith, length-after (g .previous) (take (s .turn) order) (s .u) first (s .turn), R .firstLength, indices-few g made)) steps-add
+      ∙ rw (after-few (g .previous) order (s .u) first (s .count) (s .turn) early, made-indices g made)
 
 -- no label depends on the start
 pub same-read : (g : GridStruct) (first table previous : List ℕ) (s : State) → read (tableOf g table) previous s ≡ read (problemIn g first table) previous s

@@ -42,6 +42,7 @@ pub record Readable (g : GridStruct) (binomials table : List ℕ) : Type 0 where
 
 -- the point that has just come in can be computed, and is a grid point
 pub record ReadyRead (g : GridStruct) (table first order : List ℕ) (s : Sets) : Type 0 where
+  pub firstLength : length first ≡ 16
   pub point : ReadyPoint (g .previous) (take (s .count) order) (s .u) first (s .turn)
   pub onGrid : isGridPoint (shape g) (pointIn (tableOf g table) (g .previous) (stateOf first [] order [] s) (s .turn)) ≡ true
 

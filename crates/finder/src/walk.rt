@@ -31,7 +31,8 @@ pub struct Finish {
     pub sets: Sets,
 }
 
-// The label of the point that has just come in.
+// The label of the point that has just come in. Its steps are counted in an array of their own, from 16 on so that no count falls below 0:
+// a copy of the first point would wait for the numbers that were just stored there.
 fn label_in(
     g: Grid,
     binomials: &[u16; 4830],
@@ -44,9 +45,9 @@ fn label_in(
     ensures { λ r. ⌜ r ≡ label (tableOf g (now (table .entry))) (pointIn (tableOf g (now (table .entry))) (g .previous) (stateOf (now (first .entry)) [] (now (order .entry)) [] s) (s .turn)) ⌝ }
 {
     let previous = g.previous;
-    let mut y = *first;
-    advance(&mut y, &previous, order, s.u, s.turn);
-    let at = position(g, binomials, &y);
+    let mut steps = [16u16; 16];
+    advance(&mut steps, &previous, order, s.u, s.turn);
+    let at = position(g, binomials, first, &steps);
     table[at]
 }
 

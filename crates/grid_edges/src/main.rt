@@ -21,7 +21,7 @@ fn show(sizes: &[u8], divisions: &[u16]) {
     write(b"bound ", grid.bound());
 }
 
-// The position of the point at the front of y.
+// The position of the point at the front of y, with no steps from there.
 fn show_position(sizes: &[u8], divisions: &[u16], y: [u16; 16]) {
     let made = Grid::new(sizes, divisions);
     let code = made.code;
@@ -37,7 +37,11 @@ fn show_position(sizes: &[u8], divisions: &[u16], y: [u16; 16]) {
     }
     let mut t = [0u16; 4830];
     positions::binomials(grid, &mut t);
-    write(b"position ", positions::position(grid, &t, &y) as u64);
+    let none = [16u16; 16];
+    write(
+        b"position ",
+        positions::position(grid, &t, &y, &none) as u64,
+    );
 }
 
 fn accepted() {

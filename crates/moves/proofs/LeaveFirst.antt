@@ -128,9 +128,7 @@ module _ {p : Problem} (ok : Accepted p) {previousOf nextOf : List ℕ} (N : Nei
           rw (points 0 (omega arith))
           (omega (
             arith,
-            shifted-at s.first (o 0) b (omega (arith, first-below, D .firstLength, ok .settled .sixteenIndices))
-                (omega (arith, end-below, D .firstLength, ok .settled .sixteenIndices)) moves.apart
-                (omega (arith, D .firstAt b end-below, moves .gives)) k,
+            shifted-at s.first (o 0) b (omega (arith, D .firstAt b end-below, moves .gives)) k (omega (arith, D .firstLength, ok .settled .sixteenIndices)),
             changes-of moves k,
             D .firstAt k l,
           ))

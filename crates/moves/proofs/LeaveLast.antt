@@ -108,10 +108,7 @@ module _ {p : Problem} (ok : Accepted p) {previousOf nextOf : List ℕ}
     first-at k m =
         omega (
           arith,
-          shifted-at s.first b (o n) (omega (arith, end-below, D .firstLength, ok .settled .sixteenIndices))
-              (omega (arith, last-below, D .firstLength, ok .settled .sixteenIndices))
-              (λ q. moves .apart (sym q))
-              (omega (arith, D .firstAt (o n) last-below)) k,
+          shifted-at s.first b (o n) (omega (arith, D .firstAt (o n) last-below)) k (omega (arith, D .firstLength, ok .settled .sixteenIndices)),
           changes-of moves k,
           D .firstAt k m,
         )

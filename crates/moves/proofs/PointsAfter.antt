@@ -1,18 +1,20 @@
--- The points of a place, one step after another, and their numbers in a row. Assumes nothing.
+-- The points of a place, one step after another, the steps counted from 16 on, and the numbers of the points in a row. Assumes nothing.
 use mathlib.Core.List.{List, _++_, map, append-nil, append-assoc}
+use mathlib.Core.Logic.{⊎-elim}
 use mathlib.Core.Path.{_≡_, refl, sym, ap, _∙_}
 use Prim.Native.Nat.{ℕ, zero, suc, _+_, _-_, _*_, _≤_, _<_}
-use lib.ListN.{length, length-append, length-take, take}
+use lib.ListN.{length, length-append, length-take, take, replicate, getD-replicate, List·getD-eq-default}
 use lib.Seq.{paste, take-length, length-take-le, getD-take}
 use native.Mathlib.Nat.{mul-le-mul-right}
 use native.Mathlib.Numerals.{add-one, add-one-le}
 use native.Mathlib.Omega.{arith}
+use Rattle.combinatorics.proofs.Basics.{before-or-not}
 use Rattle.combinatorics.proofs.Fronts.{front-paste}
 use Rattle.combinatorics.specs.Front.{front}
 use Rattle.combinatorics.specs.Lists.{concatMap, upFrom}
 use Rattle.grid.specs.Grid.{at}
 use Rattle.moves.proofs.FirstMet.{entry}
-use Rattle.moves.proofs.Shifted.{length-shifted}
+use Rattle.moves.proofs.Shifted.{at-most-one, length-shifted, shifted-at}
 use Rattle.moves.specs.Read.{pointAfter, ReadyPoint}
 use Rattle.moves.specs.Step.{firstOutside, shifted}
 
@@ -67,6 +69,71 @@ module _ (previous order : List ℕ) (U : ℕ) (first : List ℕ) where
   pub earlier-ready : (i j : ℕ) → i ≤ j → ReadyPoint previous order U first j → ReadyPoint previous order U first i
   earlier-ready i j l r =
       record { low = omega (arith, r .low); few = r .few; indices = r .indices; positive = λ k m. r .positive k (omega arith); fits = λ k m. r .fits k (omega arith) }
+
+-- the same steps from two points, and from 16 everywhere
+module _ (previous order : List ℕ) (U : ℕ) where
+  abbrev after : List ℕ → ℕ → List ℕ
+  after y i = pointAfter previous order U y i
+
+  abbrev ReadyAfter : List ℕ → ℕ → Type 0
+  ReadyAfter y i = ReadyPoint previous order U y i
+
+  -- the index that step j takes from
+  abbrev from : ℕ → ℕ
+  from j = firstOutside previous U (at order j)
+
+  -- both points change alike
+  after-alike : (y z : List ℕ) (i : ℕ) → ReadyAfter y i → ReadyAfter z i → (k : ℕ) → k < length y → k < length z → at (after y i) k + at z k ≡ at y k + at (after z i) k
+  unfolding pointAfter
+  after-alike y z zero r q k l m = omega arith
+  after-alike y z (suc i) r q k l m =
+      omega (
+        arith,
+        shifted-at (after y i) (at order i) (from i) (r .positive i (omega arith)) k (omega (arith, length-after previous order U y i)),
+        shifted-at (after z i) (at order i) (from i) (q .positive i (omega arith)) k (omega (arith, length-after previous order U z i)),
+        after-alike y z i (earlier-ready previous order U y i (suc i) (omega arith) r) (earlier-ready previous order U z i (suc i) (omega arith) q) k l m,
+      )
+
+  module _ (first : List ℕ) (long : length first ≡ 16) where
+    -- the steps counted from 16 on
+    abbrev counts : ℕ → List ℕ
+    counts i = after (replicate 16 16) i
+
+    -- where a point has 1 to take, it has a number
+    from-below : (i j : ℕ) → j < i → ReadyAfter first i → from j < 16
+    from-below i j l r =
+        ⊎-elim (λ (m : from j < 16). m)
+        (λ m. absurd (omega (arith, r .positive j l, List·getD-eq-default (after first j) 0 {n = from j} (omega (arith, length-after previous order U first j)))))
+        (before-or-not (from j) 16)
+
+    -- each step changes a count by at most 1
+    counts-near : (i : ℕ) → ReadyAfter first i → (k : ℕ) → k < 16 → (16 ≤ at (counts i) k + i) × (at (counts i) k ≤ 16 + i)
+    unfolding pointAfter
+    counts-near zero r k l = let e = getD-replicate {A = ℕ} 16 k 16 0 l in (omega arith, omega arith)
+    counts-near (suc i) r k l =
+        let near = counts-near i (earlier-ready previous order U first i (suc i) (omega arith) r) in
+        let some : 0 < at (counts i) (from i) = omega (arith, near (from i) (from-below (suc i) i (omega arith) r), r .low, r .few) in
+        let changed = shifted-at (counts i) (at order i) (from i) some k (omega (arith, length-after previous order U (replicate 16 16) i)) in
+        let n = near k l in
+        (omega (arith, at-most-one (from i) k), omega (arith, at-most-one (at order i) k))
+
+    -- there are at most 15 steps, so that no count leaves the numbers from 1 to 31
+    pub counts-ready : (i : ℕ) → ReadyAfter first i → ReadyAfter (replicate 16 16) i
+    counts-ready i r =
+        record {
+          low = r .low;
+          few = r .few;
+          indices = r .indices;
+          positive = λ j l. omega (arith, near j l (from j) (from-below i j l r), r .low, r .few);
+          fits = λ j l. omega (arith, near j l (at order j) (r .indices j (omega (arith, r .low))), r .low, r .few);
+        }
+      where
+        near : (j : ℕ) → j < i → (k : ℕ) → k < 16 → (16 ≤ at (counts j) k + j) × (at (counts j) k ≤ 16 + j)
+        near j l = counts-near j (earlier-ready previous order U first j i (omega arith) r)
+
+    -- the first point and the counts make the point after the steps
+    pub counts-add : (i : ℕ) → ReadyAfter first i → (k : ℕ) → k < 16 → at (after first i) k + 16 ≡ at first k + at (counts i) k
+    counts-add i r k l = omega (arith, after-alike first (replicate 16 16) i r (counts-ready i r) k (omega arith) l, getD-replicate {A = ℕ} 16 k 16 0 l)
 
 -- the numbers of k points, from number b on
 module _ (f : ℕ → List ℕ) where

@@ -72,13 +72,11 @@ module _ {p : Problem} (ok : Accepted p) {previousOf nextOf : List ℕ} (N : Nei
       let h = at s.order i in
       let b = lower i in
       let r = after-is i (omega arith) in
-      let m = moves i l in
-      let hl : h < numIndices p.grid = omega (arith, order-below i l, D .orderAt i l) in (
+      let m = moves i l in (
         length-shifted y h b ∙ r .0,
         λ k kl. omega (
           arith,
-          shifted-at y h b (omega (arith, r .0, ok .settled .sixteenIndices)) (omega (arith, r .0, m .1, ok .settled .sixteenIndices)) m.0.apart
-              (omega (arith, r .1 b m.1, m .0 .gives)) k,
+          shifted-at y h b (omega (arith, r .1 b m.1, m .0 .gives)) k (omega (arith, r .0, ok .settled .sixteenIndices)),
           changes-of m.0 k,
           r .1 k kl,
         ),

@@ -1,1 +1,2 @@
 pub mod Binomials
+pub mod Steps

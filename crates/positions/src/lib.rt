@@ -6,6 +6,7 @@ ghost use lib.ListN.{length, take};
 ghost use Rattle.grid.specs.Grid.{isGridPoint, position as positionOf};
 ghost use Rattle.grid.specs.Made.{shape, IsMade};
 ghost use Rattle.positions.specs.Binomials.{HasBinomials};
+ghost use Rattle.positions.specs.Steps.{afterSteps, CanStep};
 use grid::Grid;
 use grid::wide;
 use grid::wide16;
@@ -28,10 +29,10 @@ pub fn binomials(g: Grid, t: &mut [u16; 4830])
     }
 }
 
-// The position of the grid point whose coordinates stand at the front of y.
-pub fn position(g: Grid, t: &[u16; 4830], y: &[u16; 16]) -> usize
-    requires { ⌜ IsMade g × HasBinomials (shape g) (now t) × (isGridPoint (shape g) (take (g .indices) (now y)) ≡ true) ⌝ }
-    ensures { λ r. ⌜ r ≡ positionOf (shape g) (take (g .indices) (now (y .entry))) ⌝ }
+// The position of the grid point to which the steps lead from y. It stands at the front of the coordinates after the steps.
+pub fn position(g: Grid, t: &[u16; 4830], y: &[u16; 16], steps: &[u16; 16]) -> usize
+    requires { ⌜ IsMade g × HasBinomials (shape g) (now t) × CanStep (g .indices) (now y) (now steps) × (isGridPoint (shape g) (take (g .indices) (afterSteps (now y) (now steps))) ≡ true) ⌝ }
+    ensures { λ r. ⌜ r ≡ positionOf (shape g) (take (g .indices) (afterSteps (now (y .entry)) (now (steps .entry)))) ⌝ }
 {
     let firsts = g.firsts;
     let sizes = g.sizes;
@@ -41,7 +42,14 @@ pub fn position(g: Grid, t: &[u16; 4830], y: &[u16; 16]) -> usize
     let mut at: usize = 0;
     let mut j: usize = 0;
     while j < blocks {
-        let rank = ranks::in_block(t, y, wide(firsts[j]), wide(sizes[j]), wide16(divisions[j]));
+        let rank = ranks::in_block(
+            t,
+            y,
+            steps,
+            wide(firsts[j]),
+            wide(sizes[j]),
+            wide16(divisions[j]),
+        );
         at = at * wide16(counts[j]) + rank;
         j += 1;
     }

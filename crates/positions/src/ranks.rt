@@ -5,6 +5,7 @@ ghost use Prim.Native.Nat.{_+_, _-_, _≤_, pred};
 ghost use Rattle.combinatorics.specs.Counting.{choose};
 ghost use Rattle.combinatorics.specs.Lists.{sum, upFrom};
 ghost use Rattle.positions.specs.Binomials.{IsBinomial, HasRows};
+ghost use Rattle.positions.specs.Steps.{afterSteps, CanStep};
 ghost use Rattle.grid.specs.Grid.{at, blockPoints, positionIn};
 use grid::wide16;
 
@@ -17,21 +18,28 @@ fn lists_before(t: &[u16; 4830], k: usize, left: usize, x: usize) -> usize
     wide16(t[row + left]) - wide16(t[row + (left - x)])
 }
 
-// The block has size coordinates from first on, which add up to division.
-pub fn in_block(t: &[u16; 4830], y: &[u16; 16], first: usize, size: usize, division: usize) -> usize
-    requires { ⌜ (2 ≤ size) × (first + size ≤ 16) × (choose (division + pred size) (pred size) ≤ 60000) × (sum (map (at (now y)) (upFrom first size)) ≡ division) × HasRows size division (now t) ⌝ }
-    ensures { λ r. ⌜ r ≡ positionIn (blockPoints size division) (map (at (now (y .entry))) (upFrom first size)) ⌝ }
+// The block has size coordinates from first on, which add up to division after the steps.
+pub fn in_block(
+    t: &[u16; 4830],
+    y: &[u16; 16],
+    steps: &[u16; 16],
+    first: usize,
+    size: usize,
+    division: usize,
+) -> usize
+    requires { ⌜ (2 ≤ size) × (first + size ≤ 16) × (choose (division + pred size) (pred size) ≤ 60000) × (sum (map (at (afterSteps (now y) (now steps))) (upFrom first size)) ≡ division) × HasRows size division (now t) × CanStep (first + size) (now y) (now steps) ⌝ }
+    ensures { λ r. ⌜ r ≡ positionIn (blockPoints size division) (map (at (afterSteps (now (y .entry)) (now (steps .entry)))) (upFrom first size)) ⌝ }
 {
     let mut rank: usize = 0;
     let mut left = division;
     let mut i = first;
     let mut k = size - 1;
     while 1 < k {
-        let x = wide16(y[i]);
+        let x = wide16(y[i]) + wide16(steps[i]) - 16;
         rank += lists_before(t, k, left, x);
         left -= x;
         i += 1;
         k -= 1;
     }
-    rank + wide16(y[i])
+    rank + (wide16(y[i]) + wide16(steps[i]) - 16)
 }

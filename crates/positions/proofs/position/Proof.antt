@@ -1,6 +1,6 @@
 -- `position` meets its contract. The invariant: the position in the blocks so far, by Horner's rule. Assumes nothing.
 use mathlib.Core.Bool.{true}
-use mathlib.Core.List.{map}
+use mathlib.Core.List.{List, map}
 use mathlib.Core.Path.{_≡_, sym, ap, _∙_, subst}
 use Prim.Native.Nat.{ℕ, _+_, _-_, _*_, _≤_, _<_}
 use lib.ListN.{take}
@@ -11,29 +11,34 @@ use Rattle.grid.proofs.Round.{block-fits}
 use Rattle.grid.specs.Build.{lent}
 use Rattle.grid.specs.Grid.{isGridPoint, numIndices, numBlocks, indicesOf, firstIndex, size, division, blockPoints, position, positionIn, at as coordinate}
 use Rattle.grid.specs.Made.{shape}
+use Rattle.positions.specs.Steps.{afterSteps}
 use borrow.Author.Needs.{needs}
 use native.Mathlib.Omega.{arith}
 use Rattle.positions.proofs.position.Statement.{statement}
 use Rattle.positions.proofs.position.Tie as tie
 
 abbrev Inv-loop : tie.InvT-loop
-Inv-loop t y firsts sizes divisions counts blocks at₀ j₀ at j =
-    Horner (lent (take blocks sizes) (take blocks divisions)) (take (sum (take blocks sizes)) y) j at × (j ≤ blocks) × (blocks ≤ 6)
+Inv-loop t y steps firsts sizes divisions counts blocks at₀ j₀ at j =
+    Horner (lent (take blocks sizes) (take blocks divisions)) (take (sum (take blocks sizes)) (afterSteps y steps)) j at × (j ≤ blocks) × (blocks ≤ 6)
 
 abbrev μ-loop : tie.MeasureT-loop
-μ-loop t y firsts sizes divisions counts blocks at₀ j₀ at j = blocks - j
+μ-loop t y steps firsts sizes divisions counts blocks at₀ j₀ at j = blocks - j
+
+-- the coordinates after the steps
+abbrev stepped : tie.Start Inv-loop μ-loop → List ℕ
+stepped c = afterSteps (c .args .y .now) (c .args .steps .now)
 
 -- the point
-point : (c : tie.Start Inv-loop μ-loop) → isGridPoint (shape (c .args .g)) (take (numIndices (shape (c .args .g))) (c .args .y .now)) ≡ true
-point c = subst (λ (m : ℕ). isGridPoint (shape (c .args .g)) (take m (c .args .y .now)) ≡ true) (made-indices (c .args .g) (c .pre .0)) (c .pre .2)
+point : (c : tie.Start Inv-loop μ-loop) → isGridPoint (shape (c .args .g)) (take (numIndices (shape (c .args .g))) (stepped c)) ≡ true
+point c = subst (λ (m : ℕ). isGridPoint (shape (c .args .g)) (take m (stepped c)) ≡ true) (made-indices (c .args .g) (c .pre .0)) (c .pre .3)
 
 -- the coordinates of a block stand in the array as in the point
-same : (c : tie.Start Inv-loop μ-loop) (j : ℕ) → map (coordinate (take (numIndices (shape (c .args .g))) (c .args .y .now))) (indicesOf (shape (c .args .g)) j) ≡ map (coordinate (c .args .y .now)) (indicesOf (shape (c .args .g)) j)
-same c j = let s = c .args .g in map-front (c .args .y .now) (numIndices (shape s)) (firstIndex (shape s) j) (size (shape s) j) (block-fits (shape s .sizes) j)
+same : (c : tie.Start Inv-loop μ-loop) (j : ℕ) → map (coordinate (take (numIndices (shape (c .args .g))) (stepped c))) (indicesOf (shape (c .args .g)) j) ≡ map (coordinate (stepped c)) (indicesOf (shape (c .args .g)) j)
+same c j = let s = c .args .g in map-front (stepped c) (numIndices (shape s)) (firstIndex (shape s) j) (size (shape s) j) (block-fits (shape s .sizes) j)
 
 -- one block more
 next : (c : tie.After-wide162 Inv-loop μ-loop)
-    → Horner (shape (c .before .before .before .before .before .before .before .before .before .before .before .args .g)) (take (numIndices (shape (c .before .before .before .before .before .before .before .before .before .before .before .args .g))) (c .before .before .before .before .before .before .before .before .before .before .before .args .y .now)) (c .before .before .before .before .before .before .loop .j + 1) (c .before .before .before .before .before .before .loop .at * c .wide162 .result + c .before .in-block .result)
+    → Horner (shape (c .before .before .before .before .before .before .before .before .before .before .before .args .g)) (take (numIndices (shape (c .before .before .before .before .before .before .before .before .before .before .before .args .g))) (stepped (c .before .before .before .before .before .before .before .before .before .before .before))) (c .before .before .before .before .before .before .loop .j + 1) (c .before .before .before .before .before .before .loop .at * c .wide162 .result + c .before .in-block .result)
 next c =
     let b = c .before .before .before .before .before .before .before .before .before .before .before in
     let s = b .args .g in
@@ -42,7 +47,7 @@ next c =
     let isFirst = made-first s m (l .j) (omega arith) in
     let isSize = made-size s m (l .j) (omega arith) in
     let isDivision = made-division s m (l .j) (omega arith) in
-    let q : c .before .in-block .result ≡ positionIn (blockPoints (size (shape s) (l .j)) (division (shape s) (l .j))) (map (coordinate (take (numIndices (shape s)) (b .args .y .now))) (indicesOf (shape s) (l .j))) =
+    let q : c .before .in-block .result ≡ positionIn (blockPoints (size (shape s) (l .j)) (division (shape s) (l .j))) (map (coordinate (take (numIndices (shape s)) (stepped b))) (indicesOf (shape s) (l .j))) =
     c .before .in-block .ensures ∙ rw (same b (l .j), c .before .before .before .before .wide .ensures, c .before .before .before .wide2 .ensures, c .before .before .wide16 .ensures .0, isFirst, isSize, isDivision)
     in
     rw (q, c .wide162 .ensures .0, made-count s m (l .j) (omega arith)) (horner-next (shape s) _ (made-accepted s m) (point b) (l .j) (l .at) (omega (arith, made-blocks s m)) (l .inv .0))
@@ -97,6 +102,7 @@ in-block-requires c κs =
       count-range s m j (omega arith),
       rw (same b j) at (adds-up (shape s) _ (made-accepted s m) (point b) j n),
       b .pre .1 .rows j n,
+      λ k l. b .pre .2 k (omega (arith, block-fits (shape s .sizes) j, made-indices s m)),
     )
 
 mul-wide16-2 : tie.Need-mul-wide16-2 Inv-loop μ-loop
@@ -130,7 +136,7 @@ returns c =
     let m = b .pre .0 in
     let l = c .before .loop in
     let n : l .j ≡ numBlocks (shape s) = omega (arith, made-blocks s m) in
-    horner-done (shape s) _ (made-accepted s m) (point b) (l .at) (rw (← n) (l .inv .0)) ∙ ap (λ i. position (shape s) (take i (b .args .y .now))) (sym (made-indices s m))
+    horner-done (shape s) _ (made-accepted s m) (point b) (l .at) (rw (← n) (l .inv .0)) ∙ ap (λ i. position (shape s) (take i (stepped b))) (sym (made-indices s m))
 
 pub position-spec : {M : Type 1} → statement M
 position-spec =

@@ -46,7 +46,7 @@ visit-requires c κs =
     let a = e .args in
     let s = stateOf (l .first) (l .coefficients) (l .order) (l .labels) (l .s) in
     let r = at-point (a .g) (e .pre .0 .made) (a .first .now) (a .table .now) (e .pre .1) s s (a .budget - l .left) (l .inv .0) in
-    ((e .pre .0, l .inv .2), ((λ _. record { point = r .0; onGrid = r .1 }), ready (a .g) (e .pre .0 .made) (a .first .now) (a .table .now) (e .pre .1) s s (a .budget - l .left) (l .inv .0)))
+    ((e .pre .0, l .inv .2), ((λ _. record { firstLength = at-first (e .pre .1) (l .inv .0); point = r .0; onGrid = r .1 }), ready (a .g) (e .pre .0 .made) (a .first .now) (a .table .now) (e .pre .1) s s (a .budget - l .left) (l .inv .0)))
 
 sub-left : tie.Need-sub-left Inv-loop μ-loop
 sub-left c = omega arith

@@ -1,39 +1,57 @@
 -- `ranks::in_block` meets its contract. The invariant: the rank and the position of the k + 1 coordinates to come make the position of all. Assumes nothing.
-use mathlib.Core.List.{map}
+use mathlib.Core.List.{List, map}
 use mathlib.Core.Path.{_≡_, sym, ap, _∙_, subst}
 use Prim.Native.Nat.{ℕ, _+_, _-_, _≤_, _<_, pred}
 use Rattle.combinatorics.specs.Counting.{choose}
 use Rattle.combinatorics.specs.Lists.{sum, upFrom}
 use Rattle.positions.proofs.Positions.{rankOf, rank-turn, rank-end, rank-below}
+use Rattle.positions.proofs.Steps.{after-at}
 use Rattle.positions.proofs.Table.{division-few}
 use Rattle.grid.specs.Grid.{at}
+use Rattle.positions.specs.Steps.{afterSteps}
 use borrow.Author.Needs.{needs}
 use native.Mathlib.Omega.{arith}
 use Rattle.positions.proofs.ranks.in_block.Statement.{statement}
 use Rattle.positions.proofs.ranks.in_block.Tie as tie
 
 abbrev Inv-loop : tie.InvT-loop
-Inv-loop t y first size division rank₀ left₀ i₀ k₀ rank left i k =
+Inv-loop t y steps first size division rank₀ left₀ i₀ k₀ rank left i k =
     (1 ≤ k)
     × (k < size)
     × (i + k + 1 ≡ first + size)
     × (left ≤ division)
-    × (sum (map (at y) (upFrom i (k + 1))) ≡ left)
-    × (rank + rankOf y i (k + 1) left ≡ rankOf y first size division)
+    × (sum (map (at (afterSteps y steps)) (upFrom i (k + 1))) ≡ left)
+    × (rank + rankOf (afterSteps y steps) i (k + 1) left ≡ rankOf (afterSteps y steps) first size division)
 
 abbrev μ-loop : tie.MeasureT-loop
-μ-loop t y first size division rank₀ left₀ i₀ k₀ rank left i k = k
+μ-loop t y steps first size division rank₀ left₀ i₀ k₀ rank left i k = k
+
+-- the coordinates after the steps
+abbrev stepped : tie.Start Inv-loop μ-loop → List ℕ
+stepped c = afterSteps (c .args .y .now) (c .args .steps .now)
 
 -- the position of all is small
-few : (c : tie.Start Inv-loop μ-loop) → rankOf (c .args .y .now) (c .args .first) (c .args .size) (c .args .division) < 60000
-few c = let a = c .args in omega (arith, rank-below (a .y .now) (a .first) (a .size) (a .division) (omega arith) (c .pre .3), c .pre .2)
+few : (c : tie.Start Inv-loop μ-loop) → rankOf (stepped c) (c .args .first) (c .args .size) (c .args .division) < 60000
+few c = let a = c .args in omega (arith, rank-below (stepped c) (a .first) (a .size) (a .division) (omega arith) (c .pre .3), c .pre .2)
 
--- the coordinate that a turn takes, and what the turn counts
-taken : (c : tie.After-wide16 Inv-loop μ-loop) → (c .wide16 .result ≤ c .before .before .before .loop .left)
-    × (sum (map (at (c .before .before .before .before .args .y .now)) (upFrom (c .before .before .before .loop .i + 1) (c .before .before .before .loop .k - 1 + 1))) ≡ c .before .before .before .loop .left - c .wide16 .result)
-    × (rankOf (c .before .before .before .before .args .y .now) (c .before .before .before .loop .i) (c .before .before .before .loop .k + 1) (c .before .before .before .loop .left) + choose (c .before .before .before .loop .left - c .wide16 .result + c .before .before .before .loop .k) (c .before .before .before .loop .k)
-    ≡ choose (c .before .before .before .loop .left + c .before .before .before .loop .k) (c .before .before .before .loop .k) + rankOf (c .before .before .before .before .args .y .now) (c .before .before .before .loop .i + 1) (c .before .before .before .loop .k - 1 + 1) (c .before .before .before .loop .left - c .wide16 .result))
-taken c = let l = c .before .before .before .loop in rw (c .wide16 .ensures .0) (rank-turn (c .before .before .before .before .args .y .now) (l .i) (l .k) (l .left) (omega arith) (l .inv .4))
+-- a coordinate after the steps, of an array's number and its count
+coordinate : (c : tie.Start Inv-loop μ-loop) (i y steps : ℕ) → i < c .args .first + c .args .size → y ≡ at (c .args .y .now) i → steps ≡ at (c .args .steps .now) i → (16 ≤ y + steps) × (y + steps - 16 ≡ at (stepped c) i)
+coordinate c i y steps l e f =
+    let a = c .args in
+    (omega (arith, c .pre .5 i l), omega (arith, after-at (a .y .now) (a .steps .now) i (omega (arith, c .pre .1))))
+
+-- the coordinate that a turn takes
+turn : (c : tie.After-wide162 Inv-loop μ-loop) → let x = c .before .before .wide16 .result + c .wide162 .result in (16 ≤ x) × (x - 16 ≡ at (stepped (c .before .before .before .before .before .before)) (c .before .before .before .before .before .loop .i))
+turn c = coordinate (c .before .before .before .before .before .before) _ _ _ (omega arith) (c .before .before .wide16 .ensures .0) (c .wide162 .ensures .0)
+
+-- what it counts
+taken : (c : tie.After-wide162 Inv-loop μ-loop) → let z = stepped (c .before .before .before .before .before .before) in
+    let l = c .before .before .before .before .before .loop in
+    let x = c .before .before .wide16 .result + c .wide162 .result - 16 in
+    (x ≤ l .left)
+    × (sum (map (at z) (upFrom (l .i + 1) (l .k - 1 + 1))) ≡ l .left - x)
+    × (rankOf z (l .i) (l .k + 1) (l .left) + choose (l .left - x + l .k) (l .k) ≡ choose (l .left + l .k) (l .k) + rankOf z (l .i + 1) (l .k - 1 + 1) (l .left - x))
+taken c = let l = c .before .before .before .before .before .loop in rw (turn c .1) (rank-turn (stepped (c .before .before .before .before .before .before)) (l .i) (l .k) (l .left) (omega arith) (l .inv .4))
 
 sub-k : tie.Need-sub-k Inv-loop μ-loop
 sub-k c = search needs
@@ -53,18 +71,33 @@ element-copy-out-wide16 c = search needs
 wide16-requires : tie.Need-wide16-requires Inv-loop μ-loop
 wide16-requires c κs = search needs
 
+mul-wide16-2 : tie.Need-mul-wide16-2 Inv-loop μ-loop
+mul-wide16-2 c = search needs
+
+element-copy-out-wide16-2 : tie.Need-element-copy-out-wide16-2 Inv-loop μ-loop
+element-copy-out-wide16-2 c = search needs
+
+wide16-requires-2 : tie.Need-wide16-requires-2 Inv-loop μ-loop
+wide16-requires-2 c κs = search needs
+
+add-x : tie.Need-add-x Inv-loop μ-loop
+add-x c = search needs
+
+sub-x : tie.Need-sub-x Inv-loop μ-loop
+sub-x c = omega (arith, turn c .0)
+
 lists-before-requires : tie.Need-lists-before-requires Inv-loop μ-loop
 lists-before-requires c κs =
-    let l = c .before .before .before .loop in
-    let s = c .before .before .before .before in
+    let l = c .before .before .before .before .before .loop in
+    let s = c .before .before .before .before .before .before in
     let t = taken c in
     let d = division-few (s .args .division) (pred (s .args .size)) (omega arith) (s .pre .2) in
-    (omega arith, omega (arith, s .pre .1), omega arith, t .0, s .pre .4 (l .k) (l .left) (omega arith) (l .inv .1) (l .inv .3), s .pre .4 (l .k) (l .left - c .wide16 .result) (omega arith) (l .inv .1) (omega arith))
+    (omega arith, omega (arith, s .pre .1), omega arith, omega (arith, t .0), s .pre .4 (l .k) (l .left) (omega arith) (l .inv .1) (l .inv .3), s .pre .4 (l .k) _ (omega arith) (l .inv .1) (omega arith))
 
 add-rank : tie.Need-add-rank Inv-loop μ-loop
 add-rank c =
-    let l = c .before .before .before .before .loop in
-    omega (arith, l .inv .5, taken (c .before) .2, c .lists-before .ensures, few (c .before .before .before .before .before))
+    let l = c .before .before .before .before .before .before .loop in
+    omega (arith, l .inv .5, taken (c .before) .2, c .lists-before .ensures, few (c .before .before .before .before .before .before .before))
 
 sub-left : tie.Need-sub-left Inv-loop μ-loop
 sub-left c = taken (c .before) .0
@@ -80,34 +113,53 @@ loop-less c = search needs
 
 loop-again : tie.Need-loop-again Inv-loop μ-loop
 loop-again c =
-    let l = c .before .before .before .before .loop in
+    let l = c .before .before .before .before .before .before .loop in
     let t = taken (c .before) in
     (omega arith, omega arith, omega arith, omega arith, t .1, omega (arith, l .inv .5, t .2, c .lists-before .ensures))
 
-mul-wide16-2 : tie.Need-mul-wide16-2 Inv-loop μ-loop
-mul-wide16-2 c = search needs
+mul-wide16-3 : tie.Need-mul-wide16-3 Inv-loop μ-loop
+mul-wide16-3 c = search needs
 
-element-copy-out-wide16-2 : tie.Need-element-copy-out-wide16-2 Inv-loop μ-loop
-element-copy-out-wide16-2 c = search needs
+element-copy-out-wide16-3 : tie.Need-element-copy-out-wide16-3 Inv-loop μ-loop
+element-copy-out-wide16-3 c = search needs
 
-wide16-requires-2 : tie.Need-wide16-requires-2 Inv-loop μ-loop
-wide16-requires-2 c κs = search needs
+wide16-requires-3 : tie.Need-wide16-requires-3 Inv-loop μ-loop
+wide16-requires-3 c κs = search needs
+
+mul-wide16-4 : tie.Need-mul-wide16-4 Inv-loop μ-loop
+mul-wide16-4 c = search needs
+
+element-copy-out-wide16-4 : tie.Need-element-copy-out-wide16-4 Inv-loop μ-loop
+element-copy-out-wide16-4 c = search needs
+
+wide16-requires-4 : tie.Need-wide16-requires-4 Inv-loop μ-loop
+wide16-requires-4 c κs = search needs
+
+-- the one it ends with
+last : (c : tie.After-wide164 Inv-loop μ-loop) → let x = c .before .before .wide163 .result + c .wide164 .result in (16 ≤ x) × (x - 16 ≡ at (stepped (c .before .before .before .before .before .before)) (c .before .before .before .before .before .loop .i))
+last c = coordinate (c .before .before .before .before .before .before) _ _ _ (omega arith) (c .before .before .wide163 .ensures .0) (c .wide164 .ensures .0)
 
 add-result : tie.Need-add-result Inv-loop μ-loop
-add-result c =
-    let l = c .before .before .before .loop in
-    omega (arith, l .inv .5, few (c .before .before .before .before))
+add-result c = search needs
+
+sub-result : tie.Need-sub-result Inv-loop μ-loop
+sub-result c = omega (arith, last c .0)
+
+add-result-2 : tie.Need-add-result-2 Inv-loop μ-loop
+add-result-2 c =
+    let l = c .before .before .before .before .before .loop in
+    omega (arith, l .inv .5, few (c .before .before .before .before .before .before))
 
 returns : tie.Need-returns Inv-loop μ-loop
 unfolding rankOf
 returns c =
-    let l = c .before .before .before .loop in
-    let a = c .before .before .before .before .args in
-    let y = a .y .now in
+    let l = c .before .before .before .before .before .loop in
+    let a = c .before .before .before .before .before .before .args in
+    let z = stepped (c .before .before .before .before .before .before) in
     let e : l .k + 1 ≡ 2 = omega arith in
-    let s : sum (map (at y) (upFrom (l .i) 2)) ≡ l .left = subst (λ (n : ℕ). sum (map (at y) (upFrom (l .i) n)) ≡ l .left) e (l .inv .4) in
-    let p : l .rank + rankOf y (l .i) 2 (l .left) ≡ rankOf y (a .first) (a .size) (a .division) = subst (λ (n : ℕ). l .rank + rankOf y (l .i) n (l .left) ≡ rankOf y (a .first) (a .size) (a .division)) e (l .inv .5) in
-    ap (λ x. l .rank + x) (c .wide162 .ensures .0 ∙ sym (rank-end y (l .i) (l .left) s)) ∙ p
+    let s : sum (map (at z) (upFrom (l .i) 2)) ≡ l .left = subst (λ (n : ℕ). sum (map (at z) (upFrom (l .i) n)) ≡ l .left) e (l .inv .4) in
+    let p : l .rank + rankOf z (l .i) 2 (l .left) ≡ rankOf z (a .first) (a .size) (a .division) = subst (λ (n : ℕ). l .rank + rankOf z (l .i) n (l .left) ≡ rankOf z (a .first) (a .size) (a .division)) e (l .inv .5) in
+    ap (λ x. l .rank + x) (last c .1 ∙ sym (rank-end z (l .i) (l .left) s)) ∙ p
 
 pub in-block-spec : {M : Type 1} → statement M
 in-block-spec =
@@ -120,6 +172,11 @@ in-block-spec =
     mul-wide16
     element-copy-out-wide16
     wide16-requires
+    mul-wide16-2
+    element-copy-out-wide16-2
+    wide16-requires-2
+    add-x
+    sub-x
     lists-before-requires
     add-rank
     sub-left
@@ -127,8 +184,13 @@ in-block-spec =
     sub-k-2
     loop-less
     loop-again
-    mul-wide16-2
-    element-copy-out-wide16-2
-    wide16-requires-2
+    mul-wide16-3
+    element-copy-out-wide16-3
+    wide16-requires-3
+    mul-wide16-4
+    element-copy-out-wide16-4
+    wide16-requires-4
     add-result
+    sub-result
+    add-result-2
     returns)
