@@ -2,7 +2,7 @@
 use mathlib.Core.Bool.{true}
 use mathlib.Core.List.{List, []}
 use mathlib.Core.Path.{_≡_, sym, ap, _∙_, subst}
-use Prim.Native.Nat.{ℕ, suc, _-_, _*_, _≤_, _<_}
+use Prim.Native.Nat.{ℕ, zero, suc, _-_, _*_, _≤_, _<_}
 use borrow.Author.Tests.{eqb-true}
 use lib.Dec.{eqb}
 use lib.ListN.{length, length-map, length-replicate, length-take, replicate, take}
@@ -20,6 +20,7 @@ use Rattle.grid.specs.Grid.{Grid, Point, blockOf, dimension, isGridPoint, numIn
 use Rattle.grid.specs.Made.{IsMade, shape}
 use Rattle.grid.specs.declared.Grid.{Grid as GridStruct}
 use Rattle.moves.specs.Read.{numbersFrom, pointIn, pointsFrom, ReadyPoint}
+use Rattle.moves.specs.Ready.{IndicesBelow}
 use Rattle.moves.specs.Step.{stateOf}
 use Rattle.moves.specs.declared.Sets.{Sets}
 use Rattle.place.specs.Demand.{Accepted}
@@ -35,6 +36,11 @@ use Rattle.finder.specs.declared.walk.Finish.{Finish}
 pub point-long : (g : Grid) (y : Point) → isGridPoint g y ≡ true → length y ≡ numIndices g
 unfolding isGridPoint
 point-long g y h = eqb-true (length y) (numIndices g) (and-left (eqb (length y) (numIndices g)) _ h)
+
+pub zeros-below : (n : ℕ) → IndicesBelow (replicate n 0)
+zeros-below zero h l = absurd (omega arith)
+zeros-below (suc n) zero l = omega arith
+zeros-below (suc n) (suc h) l = zeros-below n h (omega arith)
 
 -- the array that the start was copied to holds it
 module _ (g : GridStruct) (made : IsMade g) (start table : List ℕ) (ok : Accepted (problemFrom g start table)) where
@@ -55,21 +61,21 @@ module _ (g : GridStruct) (made : IsMade g) (start table : List ℕ) (ok : Accep
   accepted-in taken e = rw (e, same-problem) ok
 
   -- where a walk from that array finished
-  pub finished-from : (taken : List ℕ) → taken ≡ front (take (g .indices) start) (replicate 16 0) → (budget : ℕ) (f : Finish) (first order : List ℕ)
-      → Finished (problemIn g taken table) (g .previous) budget f first order → Finished (problemFrom g start table) (g .previous) budget f first order
-  finished-from taken e budget f first order F = subst (λ (p : Problem). Finished p (g .previous) budget f first order) (ap (λ (t : List ℕ). problemIn g t table) e ∙ same-problem) F
+  pub finished-from : (taken : List ℕ) → taken ≡ front (take (g .indices) start) (replicate 16 0) → (budget : ℕ) (f : Finish) (first order takes : List ℕ)
+      → Finished (problemIn g taken table) budget f first order takes → Finished (problemFrom g start table) budget f first order takes
+  finished-from taken e budget f first order takes F = subst (λ (p : Problem). Finished p budget f first order takes) (ap (λ (t : List ℕ). problemIn g t table) e ∙ same-problem) F
 
 -- the answer at an end
-module _ (g : GridStruct) (made : IsMade g) (start table first order : List ℕ) (long : length order ≡ 16) (s : Sets) (budget places : ℕ) (kind : Kind) (from : ℕ)
-    (A : Announced (problemFrom g start table) (g .previous) budget kind from (stateOf first [] order [] s) places) where
+module _ (g : GridStruct) (made : IsMade g) (start table first order takes : List ℕ) (long : length order ≡ 16) (s : Sets) (budget places : ℕ) (kind : Kind) (from : ℕ)
+    (A : Announced (problemFrom g start table) budget kind from (stateOf first [] order [] takes s) places) where
   count-is : length (take (s .count) order) ≡ s .count
   count-is = counted order (s .count) long (A .points .few)
 
   pub index : s .end < g .indices
   index = omega (arith, A .index, made-indices g made)
 
-  pub points-ready : ReadyPoint (g .previous) (take (s .count) order) (s .u) first (s .count)
-  points-ready = subst (ReadyPoint (g .previous) (take (s .count) order) (s .u) first) count-is (A .points)
+  pub points-ready : ReadyPoint takes (take (s .count) order) first (s .count)
+  points-ready = subst (ReadyPoint takes (take (s .count) order) first) count-is (A .points)
 
   pub from-low : from ≤ s .count
   from-low = omega (arith, A .low, count-is)
@@ -81,13 +87,13 @@ module _ (g : GridStruct) (made : IsMade g) (start table first order : List ℕ)
       let b : (suc (s .count) - from) * numIndices (shape g) ≤ suc (dimension (shape g)) * numIndices (shape g) = mul-le-mul-right (numIndices (shape g)) a in
       rw (made-indices g made) (omega arith)
 
-  number : length (pointsFrom (problemFrom g start table) (g .previous) (stateOf first [] order [] s) from) ≡ suc (s .count) - from
+  number : length (pointsFrom (problemFrom g start table) (stateOf first [] order [] takes s) from) ≡ suc (s .count) - from
   number =
-      length-map (upFrom from (suc (length (take (s .count) order)) - from)) (pointIn (problemFrom g start table) (g .previous) (stateOf first [] order [] s))
+      length-map (upFrom from (suc (length (take (s .count) order)) - from)) (pointIn (problemFrom g start table) (stateOf first [] order [] takes s))
       ∙ length-upFrom from (suc (length (take (s .count) order)) - from) ∙ omega (arith, count-is)
 
   -- they are what is written, and the answer is told by their number and the block
-  pub written : numbersFrom (g .indices) (g .previous) (stateOf first [] order [] s) from ≡ numbersOf (answer (problemFrom g start table) budget)
+  pub written : numbersFrom (g .indices) (stateOf first [] order [] takes s) from ≡ numbersOf (answer (problemFrom g start table) budget)
   written = rw (A .is, made-indices g made)
 
   pub told : (block vertices : ℕ) → block ≡ suc (blockOf (shape g) (s .end)) → vertices ≡ suc (s .count) - from → End places (kindOf kind) block vertices ≡ caseOf (answer (problemFrom g start table) budget)

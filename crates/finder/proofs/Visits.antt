@@ -25,11 +25,11 @@ use Rattle.place.specs.Path.{answer, spent}
 use Rattle.place.specs.Problem.{Problem, label}
 use Rattle.moves.proofs.Describes.{Neighbours}
 use Rattle.moves.proofs.Follow.{At, EndsAt, at-begin, at-facet-end, at-place-end, at-reads, at-ready, at-step, ends-answer}
-use Rattle.moves.proofs.PointsAfter.{after-few, counts-add, counts-ready, few-ready, length-after}
+use Rattle.moves.proofs.PointsAfter.{after-taken, counts-add, counts-ready, few-ready, length-after}
 use Rattle.moves.specs.Mask.{bit}
 use Rattle.moves.specs.Read.{ReadyPoint, pointAfter, pointIn, read}
 use Rattle.moves.specs.Ready.{IndicesBelow, Ready}
-use Rattle.moves.specs.Step.{State, labelled, stateOf, step}
+use Rattle.moves.specs.Step.{State, firstOutside, labelled, stateOf, step}
 use Rattle.moves.specs.declared.Sets.{Sets}
 use Rattle.finder.specs.Finish.{Announced, Finished, Readable, ReadyRead, problemIn, tableOf}
 use Rattle.finder.specs.declared.walk.Finish.{Finish}
@@ -55,56 +55,58 @@ module _ (g : GridStruct) (binomials table : List ℕ) (R : Readable g binomials
   label-is = refl
 
 -- the point that has come in needs the steps before it only, and these are counted apart from the first point
-module _ (g : GridStruct) (made : IsMade g) (table first order : List ℕ) (s : Sets) (R : ReadyRead g table first order s) where
+module _ (g : GridStruct) (made : IsMade g) (table first order takes : List ℕ) (s : Sets) (R : ReadyRead g table first order takes s) where
   early : s .turn ≤ s .count
   early = omega (arith, R .point .low, first-few (s .count) order)
 
-  point-ready : ReadyPoint (g .previous) (take (s .turn) order) (s .u) first (s .turn)
-  point-ready = few-ready (g .previous) order (s .u) first (s .count) (s .turn) early (R .point)
+  point-ready : ReadyPoint takes (take (s .turn) order) first (s .turn)
+  point-ready = few-ready takes order first (s .count) (s .turn) early (R .point)
 
-  pub steps-ready : ReadyPoint (g .previous) (take (s .turn) order) (s .u) (replicate 16 16) (s .turn)
-  steps-ready = counts-ready (g .previous) (take (s .turn) order) (s .u) first (R .firstLength) (s .turn) point-ready
+  pub steps-ready : ReadyPoint takes (take (s .turn) order) (replicate 16 16) (s .turn)
+  steps-ready = counts-ready takes (take (s .turn) order) first (R .firstLength) (s .turn) point-ready
 
   abbrev steps : List ℕ
-  steps = pointAfter (g .previous) (take (s .turn) order) (s .u) (replicate 16 16) (s .turn)
+  steps = pointAfter takes (take (s .turn) order) (replicate 16 16) (s .turn)
 
   abbrev point : List ℕ
-  point = pointAfter (g .previous) (take (s .turn) order) (s .u) first (s .turn)
+  point = pointAfter takes (take (s .turn) order) first (s .turn)
 
   steps-add : (k : ℕ) → k < g .indices → at point k + 16 ≡ at first k + at steps k
-  steps-add k l = counts-add (g .previous) (take (s .turn) order) (s .u) first (R .firstLength) (s .turn) point-ready k (omega (arith, indices-few g made))
+  steps-add k l = counts-add takes (take (s .turn) order) first (R .firstLength) (s .turn) point-ready k (omega (arith, indices-few g made))
 
   pub can-step : CanStep (g .indices) first steps
   can-step k l = omega (arith, steps-add k l)
 
-  pub point-at : take (g .indices) (afterSteps first steps) ≡ pointIn (tableOf g table) (g .previous) (stateOf first [] order [] s) (s .turn)
+  pub point-at : take (g .indices) (afterSteps first steps) ≡ pointIn (tableOf g table) (stateOf first [] order [] takes s) (s .turn)
   point-at =
-      after-is first steps point (g .indices) (indices-few g made) (omega (arith, length-after (g .previous) (take (s .turn) order) (s .u) first (s .turn), R .firstLength, indices-few g made)) steps-add
-      ∙ rw (after-few (g .previous) order (s .u) first (s .count) (s .turn) early, made-indices g made)
+      after-is first steps point (g .indices) (indices-few g made) (omega (arith, length-after takes (take (s .turn) order) first (s .turn), R .firstLength, indices-few g made)) steps-add
+      ∙ rw (← after-taken takes order first (s .turn) (s .turn) (omega arith), ← after-taken takes order first (s .count) (s .turn) early, made-indices g made)
 
 -- no label depends on the start
-pub same-read : (g : GridStruct) (first table previous : List ℕ) (s : State) → read (tableOf g table) previous s ≡ read (problemIn g first table) previous s
+pub same-read : (g : GridStruct) (first table : List ℕ) (s : State) → read (tableOf g table) s ≡ read (problemIn g first table) s
 unfolding read label
-same-read g first table previous s = refl
+same-read g first table s = refl
 
 -- after rules 6 and 7 nothing is read, and else the label of the point that has come in is stored
-pub read-none : (p : Problem) (previous : List ℕ) (s : State) → 6 ≤ s .rule → read p previous s ≡ s
+pub read-none : (p : Problem) (s : State) → 6 ≤ s .rule → read p s ≡ s
 unfolding read
-read-none p previous s l = rw (le-ltb (s .rule) 6 l)
+read-none p s l = rw (le-ltb (s .rule) 6 l)
 
-pub read-some : (p : Problem) (previous first coefficients order labels : List ℕ) (s : Sets) (l : ℕ) → s .rule < 6
-    → ReadyPoint previous (take (s .count) order) (s .u) first (s .turn) → l ≡ label p (pointIn p previous (stateOf first [] order [] s) (s .turn))
-    → stateOf first coefficients order (set labels (s .turn) l) s ≡ read p previous (stateOf first coefficients order labels s)
+pub read-some : (p : Problem) (first coefficients order labels takes : List ℕ) (s : Sets) (l : ℕ) → s .rule < 6
+    → ReadyPoint takes (take (s .count) order) first (s .turn) → l ≡ label p (pointIn p (stateOf first [] order [] takes s) (s .turn))
+    → stateOf first coefficients order (set labels (s .turn) l) takes s ≡ read p (stateOf first coefficients order labels takes s)
 unfolding read labelled
-read-some p previous first coefficients order labels s l r R e =
-    rw (e, lt-ltb (s .rule) 6 r, take-set-lt (suc (s .count)) labels (s .turn) (label p (pointIn p previous (stateOf first [] order [] s) (s .turn))) (omega (arith, R .low, first-few (s .count) order)))
+read-some p first coefficients order labels takes s l r R e =
+    rw (e, lt-ltb (s .rule) 6 r, take-set-lt (suc (s .count)) labels (s .turn) (label p (pointIn p (stateOf first [] order [] takes s) (s .turn))) (omega (arith, R .low, first-few (s .count) order)))
 
 -- where a walk begins
 module _ (g : GridStruct) (made : IsMade g) (first table : List ℕ) (ok : Accepted (problemIn g first table)) where
-  pub begins : length first ≡ 16 → (order : List ℕ) (s : Sets) → s .rule ≡ 1 → s .end ≡ 0 → s .count ≡ 0 → s .t ≡ 0 → s .turn ≡ 0
-      → ((k : ℕ) → k < 16 → bit (s .u) k ≡ (ltb k (g .indices) && eqb (at first k) 0)) → At (problemIn g first table) (stateOf first (replicate 16 0) order (replicate 16 0) s) 0
-  begins size order s a b c d e zero-at =
-      rw (a, b, c, d, e) (at-begin ok first (s .u) size (λ k l. sym (start-at k l)) mask-at)
+  pub begins : length first ≡ 16 → (order takes : List ℕ) (s : Sets) → s .rule ≡ 1 → s .end ≡ 0 → s .count ≡ 0 → s .t ≡ 0 → s .turn ≡ 0
+      → ((k : ℕ) → k < 16 → bit (s .u) k ≡ (ltb k (g .indices) && eqb (at first k) 0))
+      → length takes ≡ 16 → IndicesBelow takes → ((h : ℕ) → h < g .indices → at takes h ≡ firstOutside (g .previous) (s .u) h)
+      → At (problemIn g first table) (stateOf first (replicate 16 0) order (replicate 16 0) takes s) 0
+  begins size order takes s a b c d e zero-at many low from =
+      rw (a, b, c, d, e) (at-begin ok (neighbours g made) first (s .u) takes size (λ k l. sym (start-at k l)) mask-at many low (λ h l. from h (omega (arith, m))))
     where
       m : g .indices ≡ numIndices (shape g)
       m = made-indices g made
@@ -123,42 +125,43 @@ module _ (g : GridStruct) (made : IsMade g) (start table : List ℕ) (ok : Accep
   abbrev p : Problem
   p = problemIn g start table
 
-  pub ready : Ready (g .previous) (g .next) (read (tableOf g table) (g .previous) s)
-  ready = rw (same-read g start table (g .previous) s) (at-ready ok (neighbours g made) A)
+  pub ready : Ready (g .previous) (g .next) (read (tableOf g table) s)
+  ready = rw (same-read g start table s) (at-ready ok (neighbours g made) A)
 
-  pub reads : ReadyPoint (g .previous) (s .order) (s .U) (s .first) (s .turn) × (isGridPoint (shape g) (pointIn p (g .previous) s (s .turn)) ≡ true)
+  pub reads : IndicesBelow (s .takes) × ReadyPoint (s .takes) (s .order) (s .first) (s .turn) × (isGridPoint (shape g) (pointIn p s (s .turn)) ≡ true)
   reads = at-reads ok (neighbours g made) A
 
-  module _ (moved : after ≡ step (g .previous) (g .next) (read (tableOf g table) (g .previous) s)) where
-    is-next : step (g .previous) (g .next) (read p (g .previous) s) ≡ after
-    is-next = sym (moved ∙ ap (step (g .previous) (g .next)) (same-read g start table (g .previous) s))
+  module _ (moved : after ≡ step (g .previous) (g .next) (read (tableOf g table) s)) where
+    is-next : step (g .previous) (g .next) (read p s) ≡ after
+    is-next = sym (moved ∙ ap (step (g .previous) (g .next)) (same-read g start table s))
 
     pub goes-on : (after .rule ≡ 0 → ⊥) → (after .rule ≡ 8 → ⊥) → At p after (suc k)
     goes-on a b = subst (λ (z : State). (z .rule ≡ 0 → ⊥) → (z .rule ≡ 8 → ⊥) → At p z (suc k)) is-next (at-step ok (neighbours g made) A) a b
 
-    pub ends-place : after .rule ≡ 0 → EndsAt p (g .previous) placeEnd 0 after k
-    ends-place = subst (λ (z : State). z .rule ≡ 0 → EndsAt p (g .previous) placeEnd 0 z k) is-next (at-place-end ok (neighbours g made) A)
+    pub ends-place : after .rule ≡ 0 → EndsAt p placeEnd 0 after k
+    ends-place = subst (λ (z : State). z .rule ≡ 0 → EndsAt p placeEnd 0 z k) is-next (at-place-end ok (neighbours g made) A)
 
-    pub ends-facet : after .rule ≡ 8 → EndsAt p (g .previous) facetEnd 1 after k
-    ends-facet = subst (λ (z : State). z .rule ≡ 8 → EndsAt p (g .previous) facetEnd 1 z k) is-next (at-facet-end ok (neighbours g made) A)
+    pub ends-facet : after .rule ≡ 8 → EndsAt p facetEnd 1 after k
+    ends-facet = subst (λ (z : State). z .rule ≡ 8 → EndsAt p facetEnd 1 z k) is-next (at-facet-end ok (neighbours g made) A)
 
 -- the outcomes of a walk
-module _ (p : Problem) (previous : List ℕ) (budget : ℕ) (f : Finish) (first coefficients order labels : List ℕ) where
-  announced : (kind : Kind) (from k : ℕ) → EndsAt p previous kind from (stateOf first coefficients order labels (f .sets)) k → f .places ≡ suc k → k < budget
-      → Announced p previous budget kind from (stateOf first [] order [] (f .sets)) (f .places)
+module _ (p : Problem) (budget : ℕ) (f : Finish) (first coefficients order labels takes : List ℕ) where
+  announced : (kind : Kind) (from k : ℕ) → EndsAt p kind from (stateOf first coefficients order labels takes (f .sets)) k → f .places ≡ suc k → k < budget
+      → Announced p budget kind from (stateOf first [] order [] takes (f .sets)) (f .places)
   announced kind from k E q l = record {
     index = E .index;
     few = E .few;
     low = E .low;
+    takesBelow = E .takesBelow;
     points = E .points (length (take (f .sets .count) order)) (omega arith);
     is = rw q (ends-answer E budget l);
   }
 
-  pub finished-place : (k : ℕ) → EndsAt p previous placeEnd 0 (stateOf first coefficients order labels (f .sets)) k → f .sets .rule ≡ 0 → f .places ≡ suc k → k < budget → length order ≡ 16 → Finished p previous budget f first order
+  pub finished-place : (k : ℕ) → EndsAt p placeEnd 0 (stateOf first coefficients order labels takes (f .sets)) k → f .sets .rule ≡ 0 → f .places ≡ suc k → k < budget → length order ≡ 16 → Finished p budget f first order takes
   finished-place k E e q l o = record { firstLength = E .firstLength; orderLength = o; place = λ _. announced placeEnd 0 k E q l; facet = λ r. absurd (omega arith); neither = λ n _. absurd (n e) }
 
-  pub finished-facet : (k : ℕ) → EndsAt p previous facetEnd 1 (stateOf first coefficients order labels (f .sets)) k → f .sets .rule ≡ 8 → f .places ≡ suc k → k < budget → length order ≡ 16 → Finished p previous budget f first order
+  pub finished-facet : (k : ℕ) → EndsAt p facetEnd 1 (stateOf first coefficients order labels takes (f .sets)) k → f .sets .rule ≡ 8 → f .places ≡ suc k → k < budget → length order ≡ 16 → Finished p budget f first order takes
   finished-facet k E e q l o = record { firstLength = E .firstLength; orderLength = o; place = λ r. absurd (omega arith); facet = λ _. announced facetEnd 1 k E q l; neither = λ _ n. absurd (n e) }
 
-  pub finished-spent : (f .sets .rule ≡ 0 → ⊥) → (f .sets .rule ≡ 8 → ⊥) → answer p budget ≡ spent budget → f .places ≡ budget → length first ≡ 16 → length order ≡ 16 → Finished p previous budget f first order
+  pub finished-spent : (f .sets .rule ≡ 0 → ⊥) → (f .sets .rule ≡ 8 → ⊥) → answer p budget ≡ spent budget → f .places ≡ budget → length first ≡ 16 → length order ≡ 16 → Finished p budget f first order takes
   finished-spent a b e q i o = record { firstLength = i; orderLength = o; place = λ r. absurd (a r); facet = λ r. absurd (b r); neither = λ _ _. (e, q) }

@@ -13,6 +13,7 @@ use Rattle.place.specs.Ends.{Kind, placeEnd, facetEnd}
 use Rattle.place.specs.Path.{answer, ended, spent}
 use Rattle.place.specs.Problem.{Problem}
 use Rattle.place.specs.Questions.{question6, question7, question8}
+use Rattle.moves.specs.Ready.{IndicesBelow}
 use Rattle.moves.specs.Read.{pointIn, pointsFrom, ReadyPoint}
 use Rattle.moves.specs.Step.{State, stateOf}
 use Rattle.moves.specs.declared.Sets.{Sets}
@@ -41,23 +42,25 @@ pub record Readable (g : GridStruct) (binomials table : List ℕ) : Type 0 where
   pub whole : length table ≡ numPoints (shape g)
 
 -- the point that has just come in can be computed, and is a grid point
-pub record ReadyRead (g : GridStruct) (table first order : List ℕ) (s : Sets) : Type 0 where
+pub record ReadyRead (g : GridStruct) (table first order takes : List ℕ) (s : Sets) : Type 0 where
   pub firstLength : length first ≡ 16
-  pub point : ReadyPoint (g .previous) (take (s .count) order) (s .u) first (s .turn)
-  pub onGrid : isGridPoint (shape g) (pointIn (tableOf g table) (g .previous) (stateOf first [] order [] s) (s .turn)) ≡ true
+  pub takesBelow : IndicesBelow takes
+  pub point : ReadyPoint takes (take (s .count) order) first (s .turn)
+  pub onGrid : isGridPoint (shape g) (pointIn (tableOf g table) (stateOf first [] order [] takes s) (s .turn)) ≡ true
 
 -- the state e stands at an end, which is the answer: `places` places, an end of the kind given, and as simplex the points of e from number `from` on
-pub record Announced (p : Problem) (previous : List ℕ) (budget : ℕ) (kind : Kind) (from : ℕ) (e : State) (places : ℕ) : Type 0 where
+pub record Announced (p : Problem) (budget : ℕ) (kind : Kind) (from : ℕ) (e : State) (places : ℕ) : Type 0 where
   pub index : e .end < numIndices (p .grid)
   pub few : length (e .order) ≤ dimension (p .grid)
   pub low : from ≤ length (e .order)
-  pub points : ReadyPoint previous (e .order) (e .U) (e .first) (length (e .order))
-  pub is : answer p budget ≡ ended places kind (suc (blockOf (p .grid) (e .end))) (length (pointsFrom p previous e from)) (pointsFrom p previous e from)
+  pub takesBelow : IndicesBelow (e .takes)
+  pub points : ReadyPoint (e .takes) (e .order) (e .first) (length (e .order))
+  pub is : answer p budget ≡ ended places kind (suc (blockOf (p .grid) (e .end))) (length (pointsFrom p e from)) (pointsFrom p e from)
 
--- where a walk of at most `budget` places ends, with the first point and the order of the last place in its arrays
-pub record Finished (p : Problem) (previous : List ℕ) (budget : ℕ) (f : Finish) (first order : List ℕ) : Type 0 where
+-- where a walk of at most `budget` places ends, with the first point, the order and what steps take from at the last place in its arrays
+pub record Finished (p : Problem) (budget : ℕ) (f : Finish) (first order takes : List ℕ) : Type 0 where
   pub firstLength : length first ≡ 16
   pub orderLength : length order ≡ 16
-  pub place : f .sets .rule ≡ 0 → Announced p previous budget placeEnd 0 (stateOf first [] order [] (f .sets)) (f .places)
-  pub facet : f .sets .rule ≡ 8 → Announced p previous budget facetEnd 1 (stateOf first [] order [] (f .sets)) (f .places)
+  pub place : f .sets .rule ≡ 0 → Announced p budget placeEnd 0 (stateOf first [] order [] takes (f .sets)) (f .places)
+  pub facet : f .sets .rule ≡ 8 → Announced p budget facetEnd 1 (stateOf first [] order [] takes (f .sets)) (f .places)
   pub neither : (f .sets .rule ≡ 0 → ⊥) → (f .sets .rule ≡ 8 → ⊥) → (answer p budget ≡ spent budget) × (f .places ≡ budget)

@@ -63,15 +63,23 @@ fn announced(
         × (now (answer .exit) ≡ front (numbersOf (answerOf (problemFrom g (now (start .entry)) (now (labels .entry))) budget)) (now (answer .entry))) ⌝ }
 {
     let m = g.indices;
-    let previous = g.previous;
     let mut first = taken(start, m);
     let mut order = [0u8; 16];
-    let f = walk(g, binomials, labels, &mut first, &mut order, budget);
+    let mut takes = [0u8; 16];
+    let f = walk(
+        g,
+        binomials,
+        labels,
+        &mut first,
+        &mut order,
+        &mut takes,
+        budget,
+    );
     let places = f.places;
     let s = f.sets;
     if s.rule == PLACE_END {
         let block = block_number(g, s.end);
-        let vertices = put_points(answer, &previous, &first, &order, s, m, 0);
+        let vertices = put_points(answer, &first, &order, &takes, s, m, 0);
         return Answer::End {
             places,
             kind: Kind::Place,
@@ -81,7 +89,7 @@ fn announced(
     }
     if s.rule == FACET_END {
         let block = block_number(g, s.end);
-        let vertices = put_points(answer, &previous, &first, &order, s, m, 1);
+        let vertices = put_points(answer, &first, &order, &takes, s, m, 1);
         return Answer::End {
             places,
             kind: Kind::Facet,

@@ -10,13 +10,14 @@ ghost use Rattle.place.specs.Demand.{Accepted};
 ghost use Rattle.place.specs.Problem.{label};
 ghost use Rattle.moves.specs.Mask.{bit};
 ghost use Rattle.moves.specs.Read.{pointIn, read};
-ghost use Rattle.moves.specs.Ready.{Ready, SixteenEach};
+ghost use Rattle.moves.specs.Ready.{IndicesBelow, Ready, SixteenEach};
 ghost use Rattle.moves.specs.Step.{stateOf};
 ghost use Rattle.moves.specs.Step.{step as stepOf};
 ghost use Rattle.finder.specs.Finish.{tableOf, problemIn, Readable, ReadyRead, Finished};
 use grid::Grid;
 use moves::Sets;
 use moves::advance;
+use moves::fill_takes;
 use moves::step;
 use moves::zeros;
 use positions::position;
@@ -39,14 +40,14 @@ fn label_in(
     table: &[u8],
     first: &[u16; 16],
     order: &[u8; 16],
+    takes: &[u8; 16],
     s: Sets,
 ) -> u8
-    requires { ⌜ Readable g (now binomials) (now table) × ReadyRead g (now table) (now first) (now order) s ⌝ }
-    ensures { λ r. ⌜ r ≡ label (tableOf g (now (table .entry))) (pointIn (tableOf g (now (table .entry))) (g .previous) (stateOf (now (first .entry)) [] (now (order .entry)) [] s) (s .turn)) ⌝ }
+    requires { ⌜ Readable g (now binomials) (now table) × ReadyRead g (now table) (now first) (now order) (now takes) s ⌝ }
+    ensures { λ r. ⌜ r ≡ label (tableOf g (now (table .entry))) (pointIn (tableOf g (now (table .entry))) (stateOf (now (first .entry)) [] (now (order .entry)) [] (now (takes .entry)) s) (s .turn)) ⌝ }
 {
-    let previous = g.previous;
     let mut steps = [16u16; 16];
-    advance(&mut steps, &previous, order, s.u, s.turn);
+    advance(&mut steps, takes, order, s.turn);
     let at = position(g, binomials, first, &steps);
     table[at]
 }
@@ -60,23 +61,42 @@ fn visit(
     coefficients: &mut [u16; 16],
     order: &mut [u8; 16],
     labels: &mut [u8; 16],
+    takes: &mut [u8; 16],
     s: Sets,
 ) -> Sets
     requires { ⌜ Readable g (now binomials) (now table) × SixteenEach (now order) (now labels) ⌝ }
-    requires { ⌜ (s .rule < 6 → ReadyRead g (now table) (now first) (now order) s) ⌝ }
-    requires { ⌜ Ready (g .previous) (g .next) (read (tableOf g (now table)) (g .previous) (stateOf (now first) (now coefficients) (now order) (now labels) s)) ⌝ }
-    ensures { λ r. ⌜ (stateOf (now (first .exit)) (now (coefficients .exit)) (now (order .exit)) (now (labels .exit)) r
-        ≡ stepOf (g .previous) (g .next) (read (tableOf g (now (table .entry))) (g .previous) (stateOf (now (first .entry)) (now (coefficients .entry)) (now (order .entry)) (now (labels .entry)) s)))
+    requires { ⌜ (s .rule < 6 → ReadyRead g (now table) (now first) (now order) (now takes) s) ⌝ }
+    requires { ⌜ Ready (g .previous) (g .next) (read (tableOf g (now table)) (stateOf (now first) (now coefficients) (now order) (now labels) (now takes) s)) ⌝ }
+    ensures { λ r. ⌜ (stateOf (now (first .exit)) (now (coefficients .exit)) (now (order .exit)) (now (labels .exit)) (now (takes .exit)) r
+        ≡ stepOf (g .previous) (g .next) (read (tableOf g (now (table .entry))) (stateOf (now (first .entry)) (now (coefficients .entry)) (now (order .entry)) (now (labels .entry)) (now (takes .entry)) s)))
         × SixteenEach (now (order .exit)) (now (labels .exit)) ⌝ }
 {
     let previous = g.previous;
     let next = g.next;
     if 6 <= s.rule {
-        return step(&previous, &next, first, coefficients, order, labels, s);
+        return step(
+            &previous,
+            &next,
+            first,
+            coefficients,
+            order,
+            labels,
+            takes,
+            s,
+        );
     }
     let i = s.turn;
-    labels[i] = label_in(g, binomials, table, first, order, s);
-    step(&previous, &next, first, coefficients, order, labels, s)
+    labels[i] = label_in(g, binomials, table, first, order, takes, s);
+    step(
+        &previous,
+        &next,
+        first,
+        coefficients,
+        order,
+        labels,
+        takes,
+        s,
+    )
 }
 
 // {v}, before the label of its one point is read.
@@ -102,14 +122,18 @@ pub fn walk(
     table: &[u8],
     first: &mut [u16; 16],
     order: &mut [u8; 16],
+    takes: &mut [u8; 16],
     budget: u64,
 ) -> Finish
     requires { ⌜ Readable g (now binomials) (now table) × Accepted (problemIn g (now first) (now table)) × (length (now first) ≡ 16) × (length (now order) ≡ 16) ⌝ }
-    ensures { λ r. ⌜ Finished (problemIn g (now (first .entry)) (now (table .entry))) (g .previous) budget r (now (first .exit)) (now (order .exit)) ⌝ }
+    requires { ⌜ IndicesBelow (now takes) × (length (now takes) ≡ 16) ⌝ }
+    ensures { λ r. ⌜ Finished (problemIn g (now (first .entry)) (now (table .entry))) budget r (now (first .exit)) (now (order .exit)) (now (takes .exit)) ⌝ }
 {
+    let previous = g.previous;
     let mut coefficients = [0u16; 16];
     let mut labels = [0u8; 16];
     let mut s = begin(first, g.indices);
+    fill_takes(takes, &previous, s.u, g.indices);
     let mut left = budget;
     while 0 < left {
         let next = visit(
@@ -120,6 +144,7 @@ pub fn walk(
             &mut coefficients,
             order,
             &mut labels,
+            takes,
             s,
         );
         left -= 1;

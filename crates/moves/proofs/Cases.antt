@@ -17,34 +17,35 @@ use Rattle.combinatorics.proofs.EditsOfArrays.{counted}
 use Rattle.moves.proofs.FirstMet.{entry}
 use Rattle.moves.specs.Mask.{bit, withIndex, withoutIndex}
 use Rattle.moves.specs.Ready.{testedBefore, SixteenEach, ReadyFirst, ReadyLast, ReadyLeave, ReadyGrow, Ready}
-use Rattle.moves.specs.Step.{State, stateOf, firstOutside, firstOutsideOrZero, fills, shifted, changedBefore, ended, shrink, joined, grow, leaveFirst, leaveMiddle, leaveLast, leave, step}
+use Rattle.moves.specs.Step.{State, stateOf, takingPast, takingAt, firstOutside, firstOutsideOrZero, fills, shifted, changedBefore, ended, shrink, joined, grow, leaveFirst, leaveMiddle, leaveLast, leave, step}
 use Rattle.moves.specs.declared.Sets.{Sets}
 
 -- states that agree in what a move changes
-pub same-state : {first coefficients order labels first' coefficients' order' labels' : List ℕ} {T U turn T' U' turn' : ℕ} (rule end : ℕ)
-    → first ≡ first' → coefficients ≡ coefficients' → order ≡ order' → labels ≡ labels' → T ≡ T' → U ≡ U' → turn ≡ turn'
-    → _≡_ {A = State} (record { first = first; coefficients = coefficients; order = order; labels = labels; T = T; U = U; turn = turn; rule = rule; end = end })
-    (record { first = first'; coefficients = coefficients'; order = order'; labels = labels'; T = T'; U = U'; turn = turn'; rule = rule; end = end })
-same-state rule end f c o l t u e = cc
+pub same-state : {first coefficients order labels takes first' coefficients' order' labels' takes' : List ℕ} {T U turn T' U' turn' : ℕ} (rule end : ℕ)
+    → first ≡ first' → coefficients ≡ coefficients' → order ≡ order' → labels ≡ labels' → takes ≡ takes' → T ≡ T' → U ≡ U' → turn ≡ turn'
+    → _≡_ {A = State} (record { first = first; coefficients = coefficients; order = order; labels = labels; takes = takes; T = T; U = U; turn = turn; rule = rule; end = end })
+    (record { first = first'; coefficients = coefficients'; order = order'; labels = labels'; takes = takes'; T = T'; U = U'; turn = turn'; rule = rule; end = end })
+same-state rule end f c o l k t u e = cc
 
 -- what the arrays and the sets hold once point i and entry e are taken out
-pub shrinks : (first coefficients order labels order' labels' : List ℕ) (s : Sets) (i e : ℕ) → e < s .count → {T U turn : ℕ} (h : ℕ) (intoU : Bool) → h ≡ at order e
+pub shrinks : (next first coefficients order labels takes order' labels' takes' : List ℕ) (s : Sets) (i e : ℕ) → e < s .count → {T U turn : ℕ} (h : ℕ) (intoU : Bool) → h ≡ at order e
     → take (s .count - 1) order' ≡ removeAt e (take (s .count) order) → take (s .count + 1 - 1) labels' ≡ removeAt i (take (s .count + 1) labels)
-    → turn ≡ found (at order e + 1) 16 (take (s .count) labels') → T ≡ withoutIndex (s .t) h → U ≡ cond intoU (withIndex (s .u) h) (s .u)
-    → stateOf first coefficients order' labels' (record { rule = cond intoU 6 7; end = 0; count = s .count - 1; t = T; u = U; turn = turn }) ≡ shrink (stateOf first coefficients order labels s) i e intoU
+    → turn ≡ found (at order e + 1) 16 (take (s .count) labels') → takes' ≡ cond intoU (takingPast next (s .u) h takes) takes
+    → T ≡ withoutIndex (s .t) h → U ≡ cond intoU (withIndex (s .u) h) (s .u)
+    → stateOf first coefficients order' labels' takes' (record { rule = cond intoU 6 7; end = 0; count = s .count - 1; t = T; u = U; turn = turn }) ≡ shrink next (stateOf first coefficients order labels takes s) i e intoU
 unfolding shrink
-shrinks first coefficients order labels order' labels' s i e low h intoU x o l f t u =
+shrinks next first coefficients order labels takes order' labels' takes' s i e low h intoU x o l f k t u =
     let n = s .count in
     let entry : h ≡ at (take n order) e = x ∙ sym (getD-take n order e 0 low) in
     let rest : take n labels' ≡ removeAt i (take (suc n) labels) = rw (all n, add-one n) at l in
     let z : suc (n - 1) ≡ n = omega arith in
-    same-state (cond intoU 6 7) 0 refl refl o (rw z rest) (rw (← entry) t) (rw (← entry) u) (rw (← entry, ← rest, ← add-one, x) f)
+    same-state (cond intoU 6 7) 0 refl refl o (rw z rest) (rw (← entry) k) (rw (← entry) t) (rw (← entry) u) (rw (← entry, ← rest, ← add-one, x) f)
   where
     all : (n : ℕ) → n + 1 - 1 ≡ n
     all n = omega arith
 
 module _ (next : List ℕ) (s : State) (h : ℕ) where
-  pub joins-from-U : (i : ℕ) → bit (s .U) h ≡ true → i ≡ found (firstOutside next (s .U) h) 16 (s .order) → joined s i h 5 ≡ grow next s h
+  pub joins-from-U : (i : ℕ) → bit (s .U) h ≡ true → i ≡ found (firstOutside next (s .U) h) 16 (s .order) → joined s (takingAt next (s .U) h (s .takes)) i h 5 ≡ grow next s h
   unfolding grow
   joins-from-U i e f = rw (e, f)
 
@@ -52,22 +53,23 @@ module _ (next : List ℕ) (s : State) (h : ℕ) where
   unfolding grow
   place-end e f = rw (e, f)
 
-  pub joins-from-outside : (i : ℕ) → bit (s .U) h ≡ false → fills next (s .T) (s .U) h ≡ false → i ≡ length (s .order) → joined s i h 4 ≡ grow next s h
+  pub joins-from-outside : (i : ℕ) → bit (s .U) h ≡ false → fills next (s .T) (s .U) h ≡ false → i ≡ length (s .order) → joined s (s .takes) i h 4 ≡ grow next s h
   unfolding grow
   joins-from-outside i e f g = rw (e, f, g)
 
-module _ (previous : List ℕ) (s : State) (h b : ℕ) (atH : h ≡ at (s .order) 0) (atB : b ≡ firstOutside previous (s .U) h) where
+module _ (previous : List ℕ) (s : State) (h b : ℕ) (atH : h ≡ at (s .order) 0) (atB : b ≡ at (s .takes) h) where
   pub first-ready : ReadyFirst previous s
       → (at (s .first) h < 65535) × (1 ≤ at (s .first) b) × (testedBefore (λ x. ltb x 65535) suc previous b 16 h (s .coefficients) ≡ true)
   first-ready r = rw (atB, atH) (r .fits, r .positive, r .raised)
 
   -- the second point is the new first
-  abbrev pub forward : ℕ → ℕ → State
-  forward U rule = record {
+  abbrev pub forward : List ℕ → ℕ → ℕ → State
+  forward takes U rule = record {
     first = shifted (s .first) h b;
     coefficients = changedBefore suc previous b 16 h (s .coefficients);
     order = rotateLeft (s .order);
     labels = rotateLeft (s .labels);
+    takes = takes;
     T = s .T;
     U = U;
     turn = length (s .order);
@@ -80,22 +82,22 @@ module _ (previous : List ℕ) (s : State) (h b : ℕ) (atH : h ≡ at (s .order
     unfolding leaveFirst
     facet-end e f = rw (← atH, ← atB, e, f)
 
-    pub U-gains : (eqb (at (s .first) b) 1 && not (bit (s .T) b)) ≡ true → fills next (s .T) (s .U) b ≡ false → forward (withIndex (s .U) b) 2 ≡ leaveFirst previous next s
+    pub U-gains : (eqb (at (s .first) b) 1 && not (bit (s .T) b)) ≡ true → fills next (s .T) (s .U) b ≡ false → forward (takingPast next (s .U) b (s .takes)) (withIndex (s .U) b) 2 ≡ leaveFirst previous next s
     unfolding leaveFirst
     U-gains e f = rw (← atH, ← atB, e, f)
 
-    pub first-leaves : (eqb (at (s .first) b) 1 && not (bit (s .T) b)) ≡ false → forward (s .U) 1 ≡ leaveFirst previous next s
+    pub first-leaves : (eqb (at (s .first) b) 1 && not (bit (s .T) b)) ≡ false → forward (s .takes) (s .U) 1 ≡ leaveFirst previous next s
     unfolding leaveFirst
     first-leaves e = rw (← atH, ← atB, e)
 
-module _ (previous : List ℕ) (s : State) (i h w b : ℕ) (atH : h ≡ at (s .order) i) (atW : w ≡ at (s .order) (i - 1)) (atB : b ≡ firstOutside previous (s .U) h) where
-  pub middle-to-U : w ≡ b → at (s .first) b ≡ 0 → shrink s i (i - 1) true ≡ leaveMiddle previous s i
+module _ (next : List ℕ) (s : State) (i h w b : ℕ) (atH : h ≡ at (s .order) i) (atW : w ≡ at (s .order) (i - 1)) (atB : b ≡ at (s .takes) h) where
+  pub middle-to-U : w ≡ b → at (s .first) b ≡ 0 → shrink next s i (i - 1) true ≡ leaveMiddle next s i
   unfolding leaveMiddle
   middle-to-U e f = rw (← atH, ← atB, ← atW, eq-eqb w b e, f)
 
   pub steps-exchanged : (w ≡ b → at (s .first) b ≡ 0 → ⊥)
-      → _≡_ {A = State} (record { first = s .first; coefficients = s .coefficients; order = swapAt (i - 1) (s .order); labels = s .labels; T = s .T; U = s .U; turn = i; rule = 1; end = 0 })
-      (leaveMiddle previous s i)
+      → _≡_ {A = State} (record { first = s .first; coefficients = s .coefficients; order = swapAt (i - 1) (s .order); labels = s .labels; takes = s .takes; T = s .T; U = s .U; turn = i; rule = 1; end = 0 })
+      (leaveMiddle next s i)
   unfolding leaveMiddle
   steps-exchanged e =
       let stays : (eqb w b && eqb (at (s .first) b) 0) ≡ false =
@@ -103,12 +105,12 @@ module _ (previous : List ℕ) (s : State) (i h w b : ℕ) (atH : h ≡ at (s .o
       in
       rw (← atH, ← atB, ← atW, stays)
 
-module _ (previous : List ℕ) (s : State) (n h : ℕ) (atN : n ≡ length (s .order)) (atH : h ≡ at (s .order) (n - 1)) where
-  pub last-to-U : at (s .first) h ≡ 0 → shrink s n (n - 1) true ≡ leaveLast previous s
+module _ (previous next : List ℕ) (s : State) (n h : ℕ) (atN : n ≡ length (s .order)) (atH : h ≡ at (s .order) (n - 1)) where
+  pub last-to-U : at (s .first) h ≡ 0 → shrink next s n (n - 1) true ≡ leaveLast previous next s
   unfolding leaveLast
   last-to-U e = rw (← atN, ← atH, e)
 
-  pub T-loses : (at (s .first) h ≡ 0 → ⊥) → at (s .coefficients) h ≡ 0 → shrink s n (n - 1) false ≡ leaveLast previous s
+  pub T-loses : (at (s .first) h ≡ 0 → ⊥) → at (s .coefficients) h ≡ 0 → shrink next s n (n - 1) false ≡ leaveLast previous next s
   unfolding leaveLast
   T-loses e f = rw (← atN, ← atH, ne-eqb (at (s .first) h) 0 e, f)
 
@@ -121,12 +123,13 @@ module _ (previous : List ℕ) (s : State) (n h : ℕ) (atN : n ≡ length (s .o
         rw atB (r .fits p q, r .lowered p q)
 
     -- a new first point comes in
-    abbrev pub backward : ℕ → State
-    backward rule = record {
+    abbrev pub backward : List ℕ → ℕ → State
+    backward takes rule = record {
       first = shifted (s .first) b h;
       coefficients = changedBefore pred previous b 16 h (s .coefficients);
       order = rotateRight (s .order);
       labels = rotateRight (s .labels);
+      takes = takes;
       T = s .T;
       U = withoutIndex (s .U) b;
       turn = 0;
@@ -134,11 +137,11 @@ module _ (previous : List ℕ) (s : State) (n h : ℕ) (atN : n ≡ length (s .o
       end = 0;
     }
 
-    pub U-loses : (at (s .first) h ≡ 0 → ⊥) → (at (s .coefficients) h ≡ 0 → ⊥) → bit (s .U) b ≡ true → backward 3 ≡ leaveLast previous s
+    pub U-loses : (at (s .first) h ≡ 0 → ⊥) → (at (s .coefficients) h ≡ 0 → ⊥) → bit (s .U) b ≡ true → backward (takingAt next (s .U) b (s .takes)) 3 ≡ leaveLast previous next s
     unfolding leaveLast
     U-loses e f g = rw (← atN, ← atH, ne-eqb (at (s .first) h) 0 e, ne-eqb (at (s .coefficients) h) 0 f, ← atB, g)
 
-    pub last-leaves : (at (s .first) h ≡ 0 → ⊥) → (at (s .coefficients) h ≡ 0 → ⊥) → bit (s .U) b ≡ false → backward 1 ≡ leaveLast previous s
+    pub last-leaves : (at (s .first) h ≡ 0 → ⊥) → (at (s .coefficients) h ≡ 0 → ⊥) → bit (s .U) b ≡ false → backward (s .takes) 1 ≡ leaveLast previous next s
     unfolding leaveLast
     last-leaves e f g = rw (← atN, ← atH, ne-eqb (at (s .first) h) 0 e, ne-eqb (at (s .coefficients) h) 0 f, ← atB, g)
 
@@ -147,11 +150,11 @@ module _ (previous next : List ℕ) (s : State) (i : ℕ) where
   unfolding leave
   is-first e = rw e
 
-  pub is-middle : (i ≡ 0 → ⊥) → i < length (s .order) → leaveMiddle previous s i ≡ leave previous next s i
+  pub is-middle : (i ≡ 0 → ⊥) → i < length (s .order) → leaveMiddle next s i ≡ leave previous next s i
   unfolding leave
   is-middle e f = rw (ne-eqb i 0 e, lt-ltb i (length (s .order)) f)
 
-  pub is-last : (i ≡ 0 → ⊥) → length (s .order) ≤ i → leaveLast previous s ≡ leave previous next s i
+  pub is-last : (i ≡ 0 → ⊥) → length (s .order) ≤ i → leaveLast previous next s ≡ leave previous next s i
   unfolding leave
   is-last e f = rw (ne-eqb i 0 e, le-ltb i (length (s .order)) f)
 
@@ -183,7 +186,7 @@ module _ (previous next : List ℕ) (s : State) where
     label-joins e = rw (lt-ltb (s .rule) 6 read, ← atLabel, ← atH, e)
 
 -- the label that came in, in its array
-module _ (previous next first coefficients order labels : List ℕ) (s : Sets) (each : SixteenEach order labels) (r : Ready previous next (stateOf first coefficients order labels s)) (read : s .rule < 6) where
+module _ (previous next first coefficients order labels takes : List ℕ) (s : Sets) (each : SixteenEach order labels) (r : Ready previous next (stateOf first coefficients order labels takes s)) (read : s .rule < 6) where
   few : length (take (s .count) order) ≤ 15
   few = ⊎-elim (λ e. r .leaves read e .few) (λ e. r .grows read e .few) (true-or-false (bit (s .t) (at (take (suc (s .count)) labels) (s .turn) - 1)))
 

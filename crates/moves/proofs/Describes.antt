@@ -8,13 +8,14 @@ use mathlib.Core.Path.{_≡_}
 use Prim.Native.Nat.{ℕ, suc, _≤_, _<_}
 use lib.ListN.{length}
 use Rattle.grid.specs.Grid.{Grid, at, numIndices, next, previous}
-use Rattle.geometry.proofs.Definitions.{coord, zeros, Carries, Extra}
+use Rattle.geometry.proofs.Definitions.{back, coord, zeros, BackOutside, Carries, Extra}
 use Rattle.geometry.proofs.Graph.{Through, Above}
 use Rattle.geometry.proofs.LabelledChains.{listAt, LabelledChain, Link, FacetEnd, PlaceEnd}
 use Rattle.place.proofs.BlocksOfGrid.{blocksOf}
 use Rattle.place.proofs.ToChain.{labelOf}
 use Rattle.place.specs.Problem.{Problem}
 use Rattle.moves.specs.Mask.{bit}
+use Rattle.moves.specs.Ready.{IndicesBelow}
 use Rattle.moves.specs.Step.{State, leave, grow}
 
 -- the arrays of neighbours are those of the grid
@@ -25,6 +26,12 @@ pub record Neighbours (g : Grid) (previousOf nextOf : List ℕ) : Type 0 where
 -- the label that names the index of point j of a chain
 abbrev pub labelsOf : Problem → List (ℕ → ℕ) → ℕ → ℕ
 labelsOf p x j = labelOf p (listAt x j)
+
+-- at each index the list has the first index met going back that is not in U
+pub record Taking (p : Problem) (U : ℕ → Bool) (takes : List ℕ) : Type 0 where
+  pub long : length takes ≡ 16
+  pub below : IndicesBelow takes
+  pub from : (k n : ℕ) → k < numIndices p.grid → BackOutside (blocksOf p) U k n → at takes k ≡ back (blocksOf p .previous) n k
 
 -- the state describes the chain x over T with order o; its labels apart
 pub record Describes (p : Problem) (T : ℕ → Bool) (t : ℕ) (o : ℕ → ℕ) (x : List (ℕ → ℕ)) (s : State) : Type 0 where
@@ -38,6 +45,7 @@ pub record Describes (p : Problem) (T : ℕ → Bool) (t : ℕ) (o : ℕ → ℕ
   pub inT : (k : ℕ) → k < 16 → bit s.T k ≡ T k
   pub inU : (k : ℕ) → k < 16 → bit s.U k ≡ zeros (blocksOf p) T (listAt x 0) k
   pub labelsLength : length s.labels ≡ suc t
+  pub taking : Taking p (zeros (blocksOf p) T (listAt x 0)) s.takes
 
 -- each point of the chain has its label in the state
 abbrev pub AllLabels : Problem → ℕ → List (ℕ → ℕ) → State → Type 0
@@ -74,7 +82,7 @@ GoesOn p T n x i s = (y : List (ℕ → ℕ)) × Through (blocksOf p) T n x i y 
 abbrev pub Left : Problem → (ℕ → Bool) → ℕ → List (ℕ → ℕ) → State → ℕ → State → Type 0
 Left p T n x s i after =
     ((after .rule ≡ 8) × (i ≡ 0) × FacetEnd (blocksOf p) (labelOf p) T n x i after.end × (after .first ≡ s .first) × (after .order ≡ s .order)
-    × (after .U ≡ s .U)) ⊎ GoesOn p T n x i after
+    × (after .takes ≡ s .takes)) ⊎ GoesOn p T n x i after
 
 -- point i, opposite to a facet that carries T, can leave
 abbrev pub Leaves : Problem → List ℕ → List ℕ → Type 0
@@ -86,7 +94,7 @@ Leaves p previousOf nextOf =
 -- the label of a point has joined T: the place is an end, or the state after goes on to the larger place
 abbrev pub Joined : Problem → (ℕ → Bool) → ℕ → List (ℕ → ℕ) → State → State → Type 0
 Joined p T t x s after =
-    ((after .rule ≡ 0) × PlaceEnd (blocksOf p) (labelOf p) t x after.end × (after .first ≡ s .first) × (after .order ≡ s .order) × (after .U ≡ s .U))
+    ((after .rule ≡ 0) × PlaceEnd (blocksOf p) (labelOf p) t x after.end × (after .first ≡ s .first) × (after .order ≡ s .order) × (after .takes ≡ s .takes))
     ⊎ ((y : List (ℕ → ℕ)) × Above (blocksOf p) (labelOf p) T t x y × Reached p x after y)
 
 -- the label of point i, outside T, can join T

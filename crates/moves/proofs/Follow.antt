@@ -15,7 +15,7 @@ use native.Mathlib.Omega.{arith}
 use Rattle.combinatorics.proofs.Basics.{absurd-bool, true-or-false, before-or-not}
 use Rattle.combinatorics.specs.Edits.{removeAt}
 use Rattle.geometry.proofs.Definitions.{zeros}
-use Rattle.geometry.proofs.LabelledChains.{LabelledChain, FacetEnd, PlaceEnd}
+use Rattle.geometry.proofs.LabelledChains.{listAt, LabelledChain, FacetEnd, PlaceEnd}
 use Rattle.grid.proofs.Round.{seat, block-at}
 use Rattle.grid.specs.Grid.{at, numIndices, dimension, blockOf, isGridPoint}
 use Rattle.place.proofs.BlocksOfGrid.{blocksOf, coefficientOf, block-agrees, coord-in, coord-out, coefficientOf-is}
@@ -39,13 +39,14 @@ use Rattle.place.specs.Places.{Simplex, order}
 use Rattle.place.specs.Problem.{Problem}
 use Rattle.moves.specs.Mask.{bit}
 use Rattle.moves.specs.Read.{pointIn, pointsFrom, read, ReadyPoint}
-use Rattle.moves.specs.Ready.{Ready}
-use Rattle.moves.specs.Step.{State, step, begun}
+use Rattle.moves.specs.Ready.{IndicesBelow, Ready}
+use Rattle.moves.specs.Step.{State, firstOutside, step, begun}
 use Rattle.moves.proofs.Describes.{Neighbours, Describes, Came, begins, through, fromLarger, Reached}
 use Rattle.moves.proofs.Masks.{bit-none}
 use Rattle.moves.proofs.Move.{SamePlace, Outcome, placeEnds, facetEnds, goesOn, Onward, onward}
 use Rattle.moves.proofs.Range.{point-on}
 use Rattle.moves.proofs.StatePoints.{ready-point, point-is, all-points, later-points}
+use Rattle.moves.proofs.Takes.{taking-begun}
 
 -- the place just left is that of the chain, if any
 abbrev LeftIs : Problem → Option (List (ℕ → ℕ)) → Option Simplex → Type 0
@@ -68,19 +69,20 @@ pub record At (p : Problem) (s : State) (k : ℕ) : Type 0 where
   before : LeftIs p left (leftAt places k)
 
 -- the state e stands at the path's end, after k + 1 places: an end of the kind given, whose points are those of e from number `from` on
-pub record EndsAt (p : Problem) (previousOf : List ℕ) (kind : Kind) (from : ℕ) (e : State) (k : ℕ) : Type 0 where
+pub record EndsAt (p : Problem) (kind : Kind) (from : ℕ) (e : State) (k : ℕ) : Type 0 where
   pub firstLength : length e.first ≡ 16
   pub index : e .end < numIndices p.grid
   pub few : length e.order ≤ dimension p.grid
   pub low : from ≤ length e.order
-  pub points : (i : ℕ) → i ≤ length e.order → ReadyPoint previousOf e.order e.U e.first i
-  pub end : path p .end ≡ some (record { kind = kind; block = blockOf p.grid e.end; simplex = pointsFrom p previousOf e from })
+  pub takesBelow : IndicesBelow e.takes
+  pub points : (i : ℕ) → i ≤ length e.order → ReadyPoint e.takes e.order e.first i
+  pub end : path p .end ≡ some (record { kind = kind; block = blockOf p.grid e.end; simplex = pointsFrom p e from })
   pub places : pathLength p ≡ suc k
 
 -- and so it is the answer, within the budget
-pub ends-answer : {p : Problem} {previousOf : List ℕ} {kind : Kind} {from : ℕ} {e : State} {k : ℕ} → EndsAt p previousOf kind from e k → (budget : ℕ)
+pub ends-answer : {p : Problem} {kind : Kind} {from : ℕ} {e : State} {k : ℕ} → EndsAt p kind from e k → (budget : ℕ)
     → k < budget
-    → answer p budget ≡ ended (suc k) kind (suc (blockOf p.grid e.end)) (length (pointsFrom p previousOf e from)) (pointsFrom p previousOf e from)
+    → answer p budget ≡ ended (suc k) kind (suc (blockOf p.grid e.end)) (length (pointsFrom p e from)) (pointsFrom p e from)
 unfolding answer
 ends-answer {p} E budget l = rw (E .end, le-ltb budget (pathLength p) (omega (arith, E .places)), E .places)
 
@@ -174,9 +176,12 @@ module _ {p : Problem} (ok : Accepted p) where
       (λ (l : numIndices p.grid ≤ k). rw (start-T k, le-ltb k _ l, coord-out p start-coefficients k l))
       (before-or-not k (numIndices p.grid))
 
-  pub at-begin : (first : List ℕ) (mask : ℕ) → length first ≡ 16 → ((k : ℕ) → k < numIndices p.grid → at first k ≡ at p.start k)
-      → ((k : ℕ) → k < 16 → bit mask k ≡ (ltb k (numIndices p.grid) && eqb (at p.start k) 0)) → At p (begun first mask) 0
-  at-begin first mask size same zero-at = record {
+  pub at-begin : {previousOf nextOf : List ℕ} → Neighbours p.grid previousOf nextOf → (first : List ℕ) (mask : ℕ) (takes : List ℕ) → length first ≡ 16
+      → ((k : ℕ) → k < numIndices p.grid → at first k ≡ at p.start k)
+      → ((k : ℕ) → k < 16 → bit mask k ≡ (ltb k (numIndices p.grid) && eqb (at p.start k) 0))
+      → length takes ≡ 16 → IndicesBelow takes → ((h : ℕ) → h < numIndices p.grid → at takes h ≡ firstOutside previousOf mask h)
+      → At p (begun first mask takes) 0
+  at-begin N first mask takes size same zero-at many low from = record {
     places = v ∷ [];
     many = refl;
     follows = record {
@@ -202,14 +207,18 @@ module _ {p : Problem} (ok : Accepted p) where
           λ k l. getD-replicate 16 k 0 0 (omega (arith, ok .settled .sixteenIndices))
           ∙ ap (λ (c : ℕ → ℕ). c k) (sym (zeroes ok.settled p.start (start-place ok.settled)));
       inT = λ k l. bit-none k l ∙ sym (start-T k);
-      inU = λ k l. zero-at k l ∙ sym (start-U k);
+      inU = in-U;
       labelsLength = refl;
+      taking = taking-begun ok N start-chain.chain mask in-U many low from;
     };
     here = sym (pointsOf-coefficientsOf ok.settled v (parts p v (start-place ok.settled) .gridPoints));
     left = none;
     came = begins refl refl (omega arith);
     before = refl;
   }
+    where
+      in-U : (k : ℕ) → k < 16 → bit mask k ≡ zeros (blocksOf p) (inT p v) (listAt (coefficientsOf p v) 0) k
+      in-U k l = zero-at k l ∙ sym (start-U k)
 
   -- the path has more than k places, so that a budget up to k is spent
   pub at-first : {s : State} {k : ℕ} → At p s k → length s.first ≡ 16
@@ -224,9 +233,10 @@ module _ {p : Problem} (ok : Accepted p) where
 module _ {p : Problem} (ok : Accepted p) {previousOf nextOf : List ℕ} (N : Neighbours p.grid previousOf nextOf) {s : State} {k : ℕ}
     (A : At p s k) where
   -- the point whose label is to be read can be computed, and is a grid point
-  pub at-reads : ReadyPoint previousOf s.order s.U s.first s.turn × (isGridPoint p.grid (pointIn p previousOf s s.turn) ≡ true)
+  pub at-reads : IndicesBelow s.takes × ReadyPoint s.takes s.order s.first s.turn × (isGridPoint p.grid (pointIn p s s.turn) ≡ true)
   at-reads =
       let low = turn-at-most p A.T A.t A.x s A.came in (
+        A .describes .taking .below,
         ready-point ok N A.describes s.turn low,
         rw (point-is ok N A.describes s.turn low) (point-on ok A.describes.chain s.turn low),
       )
@@ -234,17 +244,17 @@ module _ {p : Problem} (ok : Accepted p) {previousOf nextOf : List ℕ} (N : Nei
   here-place : (length (pointsOf p A.x) ≡ suc A.t) × (length (pointsOf p A.x) ≡ suc (length (order p.grid (pointsOf p A.x))))
   here-place = (long ok.settled A.describes.chain, place-long ok.settled _ (place-of ok.settled A.describes.chain))
 
-  move : Onward ok N A.T A.t A.o A.x (read p previousOf s) A.left
+  move : Onward ok N A.T A.t A.o A.x (read p s) A.left
   move = onward ok N A.T A.o A.x s A.t A.describes A.came (λ l q e.
       not-start ok A.follows k A.many (pointsOf p l) (left-of p A.left _ A.before l q)
       (A .here ∙ single ok.settled _ (place-of ok.settled A.describes.chain) (here-place .0 ∙ ap suc e)))
 
   -- the move keeps within its arrays and widths
-  pub at-ready : Ready previousOf nextOf (read p previousOf s)
+  pub at-ready : Ready previousOf nextOf (read p s)
   at-ready = move .ready
 
   abbrev next : State
-  next = step previousOf nextOf (read p previousOf s)
+  next = step previousOf nextOf (read p s)
 
   goes : {y : List (ℕ → ℕ)} → (A .left ≡ some y → ⊥) → Reached p A.x next y → At p next (suc k)
   goes {y} new R =
@@ -271,15 +281,15 @@ module _ {p : Problem} (ok : Accepted p) {previousOf nextOf : List ℕ} (N : Nei
   pub at-step : (next .rule ≡ 0 → ⊥) → (next .rule ≡ 8 → ⊥) → At p next (suc k)
   at-step notPlace notFacet = go move.outcome
     where
-      go : Outcome p A.T A.t A.x A.left (read p previousOf s) next → At p next (suc k)
+      go : Outcome p A.T A.t A.x A.left (read p s) next → At p next (suc k)
       go (placeEnds r c e) = absurd (notPlace r)
       go (facetEnds r n q c e) = absurd (notFacet r)
       go (goesOn y new R) = goes new R
 
   -- at an end, that is the path's
-  ends-at : (kind : Kind) (from : ℕ) (points : Simplex) → from ≤ A .t → pointsFrom p previousOf (read p previousOf s) from ≡ points
+  ends-at : (kind : Kind) (from : ℕ) (points : Simplex) → from ≤ A .t → pointsFrom p (read p s) from ≡ points
       → (next .end < numIndices p.grid) × IsWay p (pointsOf p A.x) (stop (record { kind = kind; block = blockOf p.grid next.end; simplex = points }))
-      → SamePlace (read p previousOf s) next → EndsAt p previousOf kind from next k
+      → SamePlace (read p s) next → EndsAt p kind from next k
   ends-at kind from points b c w same =
       let D = move .describes in
       let l : length next.order ≡ A .t = ap length same.order ∙ D .orderLength in
@@ -289,25 +299,26 @@ module _ {p : Problem} (ok : Accepted p) {previousOf nextOf : List ℕ} (N : Nei
         index = w .0;
         few = omega (arith, l, here-place .0, here-place .1, order-short p _ (place-of ok.settled A.describes.chain));
         low = omega arith;
-        points = λ i m. rw (same .first, same .order, same .U) (ready-point ok N D i (omega arith));
-        end = rw (same .first, same .order, same .U, c) r.0;
+        takesBelow = rw (same .takes) D.taking.below;
+        points = λ i m. rw (same .first, same .order, same .takes) (ready-point ok N D i (omega arith));
+        end = rw (same .first, same .order, same .takes, c) r.0;
         places = r .1;
       }
 
-  pub at-place-end : next .rule ≡ 0 → EndsAt p previousOf placeEnd 0 next k
+  pub at-place-end : next .rule ≡ 0 → EndsAt p placeEnd 0 next k
   at-place-end q = go move.outcome
     where
-      go : Outcome p A.T A.t A.x A.left (read p previousOf s) next → EndsAt p previousOf placeEnd 0 next k
+      go : Outcome p A.T A.t A.x A.left (read p s) next → EndsAt p placeEnd 0 next k
       go (placeEnds r c e) =
           ends-at placeEnd 0 _ (omega arith) (all-points ok N move.describes)
           (place-way ok A.describes.chain next.end c) e
       go (facetEnds r n z c e) = absurd (omega arith)
       go (goesOn y new R) = absurd (omega (arith, rule-between p R.T R.t y next A.x R.came .0))
 
-  pub at-facet-end : next .rule ≡ 8 → EndsAt p previousOf facetEnd 1 next k
+  pub at-facet-end : next .rule ≡ 8 → EndsAt p facetEnd 1 next k
   at-facet-end q = go move.outcome
     where
-      go : Outcome p A.T A.t A.x A.left (read p previousOf s) next → EndsAt p previousOf facetEnd 1 next k
+      go : Outcome p A.T A.t A.x A.left (read p s) next → EndsAt p facetEnd 1 next k
       go (placeEnds r c e) = absurd (omega arith)
       go (facetEnds r n z c e) =
           ends-at facetEnd 1 _ (omega arith) (later-points ok N move.describes)

@@ -1,9 +1,10 @@
 -- The label of a point, outside T, joins T: the place is an end, or the state that `grow` makes describes the larger place. Assumes nothing.
-use mathlib.Core.Bool.{Bool, true, false, not}
+use mathlib.Core.Bool.{Bool, true, false, not, _&&_}
 use mathlib.Core.List.{List}
 use mathlib.Core.Logic.{_⊎_, inl, inr, ⊎-elim}
 use mathlib.Core.Path.{_≡_, refl, sym, ap, _∙_}
 use Prim.Native.Nat.{ℕ, suc, _-_, _≤_, _<_}
+use lib.Dec.{eqb}
 use borrow.Author.Tests.{eq-eqb, ne-eqb, not-true, not-false}
 use lib.ListN.{length}
 use native.Mathlib.Omega.{arith}
@@ -26,19 +27,21 @@ use Rattle.place.specs.Demand.{Accepted}
 use Rattle.place.specs.Problem.{Problem}
 use Rattle.moves.specs.Mask.{bit, withIndex, withoutIndex}
 use Rattle.moves.specs.Ready.{ReadyGrow}
-use Rattle.moves.specs.Step.{State, firstOutside, fills, ended, grow}
-use Rattle.moves.proofs.Describes.{Neighbours, Describes, AllLabels, labelsOf, through, Reached, Grows}
+use Rattle.moves.specs.Step.{State, takingAt, firstOutside, fills, ended, grow}
+use Rattle.moves.proofs.Describes.{Neighbours, Taking, Describes, AllLabels, labelsOf, through, Reached, Grows}
 use Rattle.moves.proofs.Masks.{bit-with, bit-without}
 use Rattle.moves.proofs.Range.{few, label-below}
+use Rattle.moves.proofs.Takes.{taking-at, taking-same}
 use Rattle.moves.proofs.Walks.{FirstAt, forward-outside, fills-yes, fills-no}
 
 -- index h stands in the order at a, and point a + 1 has come in
-abbrev joined : State → ℕ → ℕ → ℕ → State
-joined s h a rule = record {
+abbrev joined : State → List ℕ → ℕ → ℕ → ℕ → State
+joined s takes h a rule = record {
   first = s .first;
   coefficients = s .coefficients;
   order = insertAt a h s.order;
   labels = insertAt (suc a) 0 s.labels;
+  takes = takes;
   T = withIndex s.T h;
   U = withoutIndex s.U h;
   turn = suc a;
@@ -47,11 +50,11 @@ joined s h a rule = record {
 }
 
 module _ (nextOf : List ℕ) (s : State) (h : ℕ) where
-  grow-in-U : bit s.U h ≡ true → grow nextOf s h ≡ joined s h (found (firstOutside nextOf s.U h) 16 s.order) 5
+  grow-in-U : bit s.U h ≡ true → grow nextOf s h ≡ joined s (takingAt nextOf s.U h s.takes) h (found (firstOutside nextOf s.U h) 16 s.order) 5
   unfolding grow
   grow-in-U e = rw e
 
-  grow-outside : bit s.U h ≡ false → fills nextOf s.T s.U h ≡ false → grow nextOf s h ≡ joined s h (length s.order) 4
+  grow-outside : bit s.U h ≡ false → fills nextOf s.T s.U h ≡ false → grow nextOf s h ≡ joined s s.takes h (length s.order) 4
   unfolding grow
   grow-outside e f = rw (e, f)
 
@@ -83,6 +86,16 @@ module _ {p : Problem} (ok : Accepted p) {T : ℕ → Bool} {t : ℕ} {o : ℕ �
 
   plus-g : Less T+ T g
   plus-g = plus-is T g E.out
+
+  -- the zeros outside T with g are those outside T but g
+  zeros-without : (k : ℕ) → zeros (blocksOf p) T+ (listAt x 0) k ≡ (not (eqb k g) && zeros (blocksOf p) T (listAt x 0) k)
+  unfolding zeros
+  zeros-without k =
+      ⊎-elim (λ (q : k ≡ g). rw (q, plus-g .has, eq-eqb g g refl)) (λ q. rw (sym (plus-g .rest k q), ne-eqb k g q)) (same-or k g)
+
+  zeros-with : zeros (blocksOf p) T (listAt x 0) g ≡ false → (k : ℕ) → zeros (blocksOf p) T+ (listAt x 0) k ≡ zeros (blocksOf p) T (listAt x 0) k
+  zeros-with z k =
+      ⊎-elim (λ (q : k ≡ g). zeros-without k ∙ rw (eq-eqb k g q) (sym (ap (zeros (blocksOf p) T (listAt x 0)) q ∙ z))) (λ q. zeros-without k ∙ rw (ne-eqb k g q)) (same-or k g)
 
   joining-below : g < numIndices p.grid
   joining-below = label-below ok D.chain i E.first
@@ -132,8 +145,8 @@ module _ {p : Problem} (ok : Accepted p) {T : ℕ → Bool} {t : ℕ} {o : ℕ �
         ∙ ap (λ (c : ℕ → ℕ). suc (labelOf p c)) (sym (point-behind (j - 1) v (omega arith)))))
         (before-or-not j (suc a))
 
-    describes : (rule : ℕ) → Describes p T+ (suc t) (insert a g o) y (joined s g a rule)
-    describes rule = record {
+    describes : (takes : List ℕ) (rule : ℕ) → Taking p (zeros (blocksOf p) T+ (listAt x 0)) takes → Describes p T+ (suc t) (insert a g o) y (joined s takes g a rule)
+    describes takes rule S = record {
       chain = enlarged .place;
       orderLength = length-insertAt a g s.order ∙ ap suc D.orderLength;
       orderAt = order-at;
@@ -145,17 +158,19 @@ module _ {p : Problem} (ok : Accepted p) {T : ℕ → Bool} {t : ℕ} {o : ℕ �
       inU = λ k m. rw (point-before 0 (omega arith))
           (zeros-plus (blocksOf p) T g (omega (arith, joining-below, ok .settled .sixteenIndices)) s.U k m (listAt x 0) (D .inU k m));
       labelsLength = length-insertAt (suc a) 0 s.labels ∙ ap suc D.labelsLength;
+      taking = taking-same (λ k. ap (λ (c : ℕ → ℕ). zeros (blocksOf p) T+ c k) (point-before 0 (omega arith))) S;
     }
 
-    joins : (rule : ℕ) → 0 < rule → rule < 6 → (y : List (ℕ → ℕ)) × Above (blocksOf p) (labelOf p) T t x y × Reached p x (joined s g a rule) y
-    joins rule b c = (
+    joins : (takes : List ℕ) (rule : ℕ) → Taking p (zeros (blocksOf p) T+ (listAt x 0)) takes → 0 < rule → rule < 6
+        → (y : List (ℕ → ℕ)) × Above (blocksOf p) (labelOf p) T t x y × Reached p x (joined s takes g a rule) y
+    joins takes rule S b c = (
       y,
       enlarged .above,
       record {
         T = T+;
         t = suc t;
         o = insert a g o;
-        describes = describes rule;
+        describes = describes takes rule S;
         came = through t x refl (omega arith) b c labels-at enlarged.carries enlarged.back;
         link = enlarged .link;
       },
@@ -189,7 +204,7 @@ module _ {p : Problem} (ok : Accepted p) {T : ℕ → Bool} {t : ℕ} {o : ℕ �
 
     -- g is in U: it goes before the first index forward from it that is not in U, if that is in T, and behind the last otherwise
     joins-in-U : bit s.U g ≡ true
-        → (y : List (ℕ → ℕ)) × Above (blocksOf p) (labelOf p) T t x y × Reached p x (joined s g (found (firstOutside nextOf s.U g) 16 s.order) 5) y
+        → (y : List (ℕ → ℕ)) × Above (blocksOf p) (labelOf p) T t x y × Reached p x (joined s (takingAt nextOf s.U g s.takes) g (found (firstOutside nextOf s.U g) 16 s.order) 5) y
     joins-in-U u = ⊎-elim inT notT (true-or-false (T b))
       where
         K : Chain (blocksOf p) T t (listAt x) o
@@ -198,48 +213,51 @@ module _ {p : Problem} (ok : Accepted p) {T : ℕ → Bool} {t : ℕ} {o : ℕ �
         z : zeros (blocksOf p) T (listAt x 0) g ≡ true
         z = sym in-U ∙ u
 
-        out : (n : ℕ) × FirstAt (blocksOf p .next) (λ k. not (zeros (blocksOf p) T (listAt x 0) k)) g n
+        out : (n : ℕ) × (n ≤ 16) × FirstAt (blocksOf p .next) (λ k. not (zeros (blocksOf p) T (listAt x 0) k)) g n
             × (firstOutside nextOf s.U g ≡ back (blocksOf p .next) n g)
         out = let f = K .free g in forward-outside ok N s.U D.inU g f.0 joining-below f.1 (zeros-out K f.0 f.2 f.3)
 
         b : ℕ
         b = back (blocksOf p .next) out.0 g
 
+        takes-at : Taking p (zeros (blocksOf p) T+ (listAt x 0)) (takingAt nextOf s.U g s.takes)
+        takes-at = let f = K .free g in taking-at ok N s.U D.inU D.taking g joining-below f.0 f.1 z (zeros-out K f.0 f.2 f.3) zeros-without
+
         skipped : (j : ℕ) → 0 < j → j < out .0 → zeros (blocksOf p) T (listAt x 0) (back (blocksOf p .next) j g) ≡ true
-        skipped j a c = not-false _ (out .1 .skipped j a c)
+        skipped j a c = not-false _ (out .2 .skipped j a c)
 
         inT : T b ≡ true
             → (y : List (ℕ → ℕ)) × Above (blocksOf p) (labelOf p) T t x y × Reached p x
-            (joined s g (found (firstOutside nextOf s.U g) 16 s.order) 5) y
+            (joined s (takingAt nextOf s.U g s.takes) g (found (firstOutside nextOf s.U g) 16 s.order) 5) y
         inT e =
             let w = K .order .all b e in
             let f : ℕ = found (firstOutside nextOf s.U g) 16 s.order in
             let F : Found (firstOutside nextOf s.U g) 16 s.order f =
-            found-is _ 16 s.order w.0 (omega (arith, w .1, D .orderLength)) (D .orderAt w.0 w.1 ∙ w .2 ∙ sym out.2)
+            found-is _ 16 s.order w.0 (omega (arith, w .1, D .orderLength)) (D .orderAt w.0 w.1 ∙ w .2 ∙ sym out.3)
             (λ q. omega (arith, w .1, few ok D.chain, ok .settled .sixteenIndices)) in
             let l : f < t = omega (arith, F .inside, D .orderLength) in
-            let r = rises-here K g f l (rises-with K g E.out z out.0 skipped out.1.some f l (sym (D .orderAt f l) ∙ F .is ∙ out .2)) in
-            joins (room-of (inl u)) f (omega arith) r.0 r.1 5 (omega arith) (omega arith)
+            let r = rises-here K g f l (rises-with K g E.out z out.0 skipped out.2.some f l (sym (D .orderAt f l) ∙ F .is ∙ out .3)) in
+            joins (room-of (inl u)) f (omega arith) r.0 r.1 _ 5 takes-at (omega arith) (omega arith)
 
         notT : T b ≡ false
             → (y : List (ℕ → ℕ)) × Above (blocksOf p) (labelOf p) T t x y × Reached p x
-            (joined s g (found (firstOutside nextOf s.U g) 16 s.order) 5) y
+            (joined s (takingAt nextOf s.U g s.takes) g (found (firstOutside nextOf s.U g) 16 s.order) 5) y
         notT e =
             let q : found (firstOutside nextOf s.U g) 16 s.order ≡ t =
             found-none _ 16 s.order
             (λ j l m. let jl : j < t = omega (arith, D .orderLength) in
-            absurd-bool (sym (K .order .within j jl) ∙ ap T (sym (D .orderAt j jl) ∙ m ∙ out .2) ∙ e)) ∙ D .orderLength in
-            rw q (joins (room-of (inl u)) t (omega arith) (stays-with K g E.out z out.0 skipped e (not-true _ out.1.stops))
-            (λ j a c. absurd (omega arith)) 5
+            absurd-bool (sym (K .order .within j jl) ∙ ap T (sym (D .orderAt j jl) ∙ m ∙ out .3) ∙ e)) ∙ D .orderLength in
+            rw q (joins (room-of (inl u)) t (omega arith) (stays-with K g E.out z out.0 skipped e (not-true _ out.2.stops))
+            (λ j a c. absurd (omega arith)) _ 5 takes-at
             (omega arith) (omega arith))
 
     -- it is not: behind the last
     joins-last : bit s.U g ≡ false → fills nextOf s.T s.U g ≡ false
-        → (y : List (ℕ → ℕ)) × Above (blocksOf p) (labelOf p) T t x y × Reached p x (joined s g (length s.order) 4) y
+        → (y : List (ℕ → ℕ)) × Above (blocksOf p) (labelOf p) T t x y × Reached p x (joined s s.takes g (length s.order) 4) y
     joins-last u f =
         rw D.orderLength
         (joins (room-of (inr f)) t (omega arith) (never-rises D.chain.chain g E.out (sym in-U ∙ u))
-        (λ j a c. absurd (omega arith)) 4
+        (λ j a c. absurd (omega arith)) _ 4 (taking-same (zeros-with (sym in-U ∙ u)) D.taking)
         (omega arith) (omega arith))
 
 pub grows : {p : Problem} → Accepted p → {previousOf nextOf : List ℕ} → Neighbours p.grid previousOf nextOf → Grows p nextOf

@@ -12,7 +12,7 @@ use native.Mathlib.Omega.{arith}
 use Rattle.combinatorics.proofs.Basics.{before-or-not, and-left, and-right}
 use Rattle.combinatorics.proofs.EditsRotate.{length-rotateLeft, rotateLeft-before, rotateLeft-last}
 use Rattle.combinatorics.specs.Edits.{rotateLeft}
-use Rattle.geometry.proofs.Bridge.{changes-of}
+use Rattle.geometry.proofs.Bridge.{changes-of, zeros-out}
 use Rattle.geometry.proofs.Definitions.{back, Blocks, Chain, coord, zeros, Free, Moved, BackOutside, Carries}
 use Rattle.geometry.proofs.FirstLeaves.{moved, zeros-next, filled, filled-only}
 use Rattle.geometry.proofs.LabelledChains.{listAt, tabulate}
@@ -26,20 +26,13 @@ use Rattle.place.specs.Demand.{Accepted}
 use Rattle.place.specs.Problem.{Problem}
 use Rattle.moves.specs.Mask.{bit, withIndex}
 use Rattle.moves.specs.Ready.{ReadyFirst}
-use Rattle.moves.specs.Step.{State, firstOutside, fills, shifted, changedBefore, leaveFirst, leave, ended}
-use Rattle.moves.proofs.Describes.{Neighbours, Describes, AllLabels, labelsOf, Came, through, Reached, Left}
+use Rattle.moves.specs.Step.{State, takingPast, fills, shifted, changedBefore, leaveFirst, leave, ended}
+use Rattle.moves.proofs.Describes.{Neighbours, Taking, Describes, AllLabels, labelsOf, Came, through, Reached, Left}
 use Rattle.moves.proofs.Masks.{bit-with}
 use Rattle.moves.proofs.Range.{index-below, coord-below, coefficient-below}
 use Rattle.moves.proofs.Shifted.{length-shifted, shifted-at}
-use Rattle.moves.proofs.Walks.{ChangedOn, before-outside, changed, tested, backward, previous-below, chain-outside, fills-yes, fills-no}
-
-or-into : (a z : Bool) → (a || z) ≡ (a && true || z)
-or-into true z = refl
-or-into false z = refl
-
-or-not : (a z : Bool) → z ≡ (a && false || z)
-or-not true z = refl
-or-not false z = refl
+use Rattle.moves.proofs.Takes.{or-into, or-not, taken-from, taking-past, taking-same}
+use Rattle.moves.proofs.Walks.{ChangedOn, before-outside, changed, tested, backward, previous-below, fills-yes, fills-no}
 
 module _ {p : Problem} (ok : Accepted p) {previousOf nextOf : List ℕ} (N : Neighbours p.grid previousOf nextOf)
     {T : ℕ → Bool} {n : ℕ} {o : ℕ → ℕ} {x : List (ℕ → ℕ)} {s : State} (D : Describes p T (suc n) o x s) where
@@ -55,8 +48,8 @@ module _ {p : Problem} (ok : Accepted p) {previousOf nextOf : List ℕ} (N : Nei
   first-below : o 0 < numIndices p.grid
   first-below = index-below ok D.chain (o 0) (K .order .within 0 (omega arith))
 
-  run : (d : ℕ) × (d ≤ 16) × BackOutside R (zeros R T (P 0)) (o 0) d × (firstOutside previousOf s.U (o 0) ≡ back R.previous d (o 0))
-  run = chain-outside ok N K s.U D.inU (o 0) first-below
+  run : (d : ℕ) × (d ≤ 16) × BackOutside R (zeros R T (P 0)) (o 0) d × (at s.takes (o 0) ≡ back R.previous d (o 0))
+  run = taken-from ok N D (o 0) first-below
 
   -- where the first step takes 1 away, and whether that index joins U
   abbrev b : ℕ
@@ -77,6 +70,7 @@ module _ {p : Problem} (ok : Accepted p) {previousOf nextOf : List ℕ} (N : Nei
     coefficients = changedBefore suc previousOf b 16 (o 0) s.coefficients;
     order = rotateLeft s.order;
     labels = rotateLeft s.labels;
+    takes = cond into (takingPast nextOf s.U b s.takes) s.takes;
     T = s .T;
     U = cond into (withIndex s.U b) s.U;
     turn = length s.order;
@@ -152,6 +146,17 @@ module _ {p : Problem} (ok : Accepted p) {previousOf nextOf : List ℕ} (N : Nei
           go true = bit-with s.U b k (omega (arith, end-below, ok .settled .sixteenIndices)) l ∙ rw (D .inU k l) (or-into (eqb k b) _)
           go false = D .inU k l ∙ or-not (eqb k b) _
 
+      -- b joins U or not, and the new place has an index outside U in its block
+      takes-at : (g : Bool) → joins ≡ g → Taking p (zeros R T (listAt y 0)) (cond g (takingPast nextOf s.U b s.takes) s.takes)
+      takes-at g e = go g (λ k. ap (λ (c : ℕ → ℕ). zeros R T c k) (points 0 (omega arith)) ∙ zeros-next K run.2 k ∙ ap (λ (z : Bool). eqb k b && z || zeros R T (P 0) k) e)
+        where
+          go : (g : Bool) → ((k : ℕ) → zeros R T (listAt y 0) k ≡ (eqb k b && g || zeros R T (P 0) k))
+              → Taking p (zeros R T (listAt y 0)) (cond g (takingPast nextOf s.U b s.takes) s.takes)
+          go true z =
+              let f = beyond .place .chain .free b in
+              taking-past ok N s.U D.inU D.taking b end-below f.0 f.1 run.2.stops (zeros-out beyond.place.chain f.0 f.2 f.3) (λ k. z k ∙ sym (or-into (eqb k b) _))
+          go false z = taking-same (λ k. z k ∙ sym (or-not (eqb k b) _)) D.taking
+
       describes : Describes p T (suc n) (first-o K) y (onward joins)
       describes = record {
         chain = beyond .place;
@@ -164,6 +169,7 @@ module _ {p : Problem} (ok : Accepted p) {previousOf nextOf : List ℕ} (N : Nei
         inT = D .inT;
         inU = zeros-at;
         labelsLength = length-rotateLeft s.labels ∙ D .labelsLength;
+        taking = takes-at joins refl;
       }
 
       came : Came p T (suc n) y (onward joins) (some x)

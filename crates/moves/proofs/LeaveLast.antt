@@ -12,7 +12,7 @@ use native.Mathlib.Omega.{arith}
 use Rattle.combinatorics.proofs.Basics.{true-or-false, absurd-bool, same-or}
 use Rattle.combinatorics.proofs.EditsRemove.{length-rotateRight, rotateRight-first, rotateRight-later}
 use Rattle.combinatorics.specs.Edits.{rotateRight}
-use Rattle.geometry.proofs.Bridge.{changes-of}
+use Rattle.geometry.proofs.Bridge.{changes-of, zeros-out}
 use Rattle.geometry.proofs.Definitions.{back, Blocks, Chain, coord, zeros, Carries, BackToZero, Moved, OnRun}
 use Rattle.geometry.proofs.LabelledChains.{listAt, tabulate}
 use Rattle.geometry.proofs.Moves.{last-run, last-else, last-moved}
@@ -25,21 +25,23 @@ use Rattle.place.specs.Demand.{Accepted}
 use Rattle.place.specs.Problem.{Problem}
 use Rattle.moves.specs.Mask.{bit, withoutIndex}
 use Rattle.moves.specs.Ready.{ReadyLast}
-use Rattle.moves.specs.Step.{State, shrink, shifted, firstOutsideOrZero, changedBefore, leave, leaveLast}
-use Rattle.moves.proofs.Describes.{Neighbours, Describes, AllLabels, LabelsBut, labelsOf, through, GoesOn}
+use Rattle.moves.specs.Step.{State, takingAt, shrink, shifted, firstOutsideOrZero, changedBefore, leave, leaveLast}
+use Rattle.moves.proofs.Describes.{Neighbours, Taking, Describes, AllLabels, LabelsBut, labelsOf, through, GoesOn}
 use Rattle.moves.proofs.Masks.{bit-without}
 use Rattle.moves.proofs.Range.{index-below, coord-below}
 use Rattle.moves.proofs.Shifted.{length-shifted, shifted-at}
 use Rattle.moves.proofs.Shrink.{shrunk}
+use Rattle.moves.proofs.Takes.{taking-at, taking-same}
 use Rattle.moves.proofs.Walks.{Before, ChangedOn, before-zero, changed, tested, backward, previous-below, chain-to-zero}
 
 -- a new first point, with 1 more at b and 1 less at h
-abbrev newFirst : List ℕ → State → ℕ → ℕ → State
-newFirst previousOf s h b = record {
+abbrev newFirst : List ℕ → List ℕ → State → ℕ → ℕ → State
+newFirst previousOf nextOf s h b = record {
   first = shifted s.first b h;
   coefficients = changedBefore pred previousOf b 16 h s.coefficients;
   order = rotateRight s.order;
   labels = rotateRight s.labels;
+  takes = cond (bit s.U b) (takingAt nextOf s.U b s.takes) s.takes;
   T = s .T;
   U = withoutIndex s.U b;
   turn = 0;
@@ -136,6 +138,18 @@ module _ {p : Problem} (ok : Accepted p) {previousOf nextOf : List ℕ}
         (λ q. rw (ne-eqb k b q) at w ∙ D .inU k m ∙ zeros-else k q)
         (same-or k b)
 
+    -- b leaves U if it was there, and the old place has an index outside U in its block
+    takes-at : (u : Bool) → bit s.U b ≡ u → Taking p (zeros R T z) (cond u (takingAt nextOf s.U b s.takes) s.takes)
+    takes-at true e =
+        let f = K .free b in
+        taking-at ok N s.U D.inU D.taking b end-below f.0 f.1 (sym (D .inU b low) ∙ e) (zeros-out K f.0 f.2 f.3)
+        (λ k. ⊎-elim (λ (q : k ≡ b). rw (eq-eqb k b q) (ap (zeros R T z) q ∙ zeros-end)) (λ q. rw (ne-eqb k b q) (sym (zeros-else k q))) (same-or k b))
+      where
+        low : b < 16
+        low = omega (arith, end-below, ok .settled .sixteenIndices)
+    takes-at false e =
+        taking-same (λ k. ⊎-elim (λ (q : k ≡ b). rw q (zeros-end ∙ sym e ∙ D .inU b (omega (arith, end-below, ok .settled .sixteenIndices)))) (λ q. sym (zeros-else k q)) (same-or k b)) D.taking
+
     module _ (L : AllLabels p (suc n) x s) (c : Carries T (suc n) (labelsOf p x) (suc n)) where
       y : List (ℕ → ℕ)
       y = tabulate (suc (suc n)) (last-p K)
@@ -157,13 +171,13 @@ module _ {p : Problem} (ok : Accepted p) {previousOf nextOf : List ℕ}
       order-at (suc j) m =
           rotateRight-later 0 s.order j (omega (arith, D .orderLength)) ∙ D .orderAt j (omega arith) ∙ last-rotate K .back j (omega arith)
 
-      labels-but : LabelsBut p (suc n) y (newFirst previousOf s (o n) b) 0
+      labels-but : LabelsBut p (suc n) y (newFirst previousOf nextOf s (o n) b) 0
       labels-but zero m q = absurd (q refl)
       labels-but (suc j) m q =
           rotateRight-later 0 s.labels j (omega (arith, D .labelsLength)) ∙ L j (omega arith)
           ∙ ap (λ (f : ℕ → ℕ). suc (labelOf p f)) (sym (later j (omega arith)))
 
-      enters : GoesOn p T n x (suc n) (newFirst previousOf s (o n) b)
+      enters : GoesOn p T n x (suc n) (newFirst previousOf nextOf s (o n) b)
       enters = (
         y,
         beyond .through,
@@ -182,6 +196,7 @@ module _ {p : Problem} (ok : Accepted p) {previousOf nextOf : List ℕ}
             inT = D .inT;
             inU = λ k m. in-U k m ∙ ap (λ (f : ℕ → ℕ). zeros R T f k) (sym first);
             labelsLength = length-rotateRight s.labels ∙ D .labelsLength;
+            taking = taking-same (λ k. ap (λ (f : ℕ → ℕ). zeros R T f k) first) (takes-at (bit s.U b) refl);
           };
           came = through n x refl (omega arith) (rule-is (bit s.U b) .0) (rule-is (bit s.U b) .1) labels-but beyond.carries beyond.back;
           link = beyond .link;
@@ -195,12 +210,12 @@ module _ {p : Problem} (ok : Accepted p) {previousOf nextOf : List ℕ}
   -- the facet is a place
   drops : AllLabels p (suc n) x s → Carries T (suc n) (labelsOf p x) (suc n)
       → (listAt x 0 (o n) ≡ 0) ⊎ (R .start (o n) + listAt x 0 (o n) ≤ listAt x 0 (R .next (o n))) → (into : Bool)
-      → eqb (coord R (listAt x 0) (o n)) 0 ≡ into → GoesOn p T n x (suc n) (shrink s (suc n) n into)
+      → eqb (coord R (listAt x 0) (o n)) 0 ≡ into → GoesOn p T n x (suc n) (shrink nextOf s (suc n) n into)
   drops L c w into e =
-      shrunk ok D L (omega arith) c (dropped K n (omega arith) (λ j m q. last-tight-at K w j (omega (arith, q)))) into e
+      shrunk ok D L (omega arith) c (dropped K n (omega arith) (λ j m q. last-tight-at K w j (omega (arith, q)))) into e N
 
-  move : leave previousOf nextOf s (suc n) ≡ cond (eqb (coord R (listAt x 0) (o n)) 0) (shrink s (suc n) n true)
-      (cond (eqb (listAt x 0 (o n)) 0) (shrink s (suc n) n false) (newFirst previousOf s (o n) b))
+  move : leave previousOf nextOf s (suc n) ≡ cond (eqb (coord R (listAt x 0) (o n)) 0) (shrink nextOf s (suc n) n true)
+      (cond (eqb (listAt x 0 (o n)) 0) (shrink nextOf s (suc n) n false) (newFirst previousOf nextOf s (o n) b))
   unfolding leave leaveLast b
   move =
       let i : suc n - 1 ≡ n = omega arith in
@@ -219,7 +234,7 @@ module _ {p : Problem} (ok : Accepted p) {previousOf nextOf : List ℕ}
   leave-last L c = rw move (go (eqb (coord R (listAt x 0) (o n)) 0) refl (eqb (listAt x 0 (o n)) 0) refl)
     where
       go : (t : Bool) → eqb (coord R (listAt x 0) (o n)) 0 ≡ t → (u : Bool) → eqb (listAt x 0 (o n)) 0 ≡ u
-          → GoesOn p T n x (suc n) (cond t (shrink s (suc n) n true) (cond u (shrink s (suc n) n false) (newFirst previousOf s (o n) b)))
+          → GoesOn p T n x (suc n) (cond t (shrink nextOf s (suc n) n true) (cond u (shrink nextOf s (suc n) n false) (newFirst previousOf nextOf s (o n) b)))
       go true e u f = drops L c (inr (omega (arith, eqb-true (coord R (listAt x 0) (o n)) 0 e))) true e
       go false e true f = drops L c (inl (eqb-true _ 0 f)) false e
       go false e false f = enters (omega (arith, eqb-false (coord R (listAt x 0) (o n)) 0 e)) (omega (arith, eqb-false (listAt x 0 (o n)) 0 f)) L c

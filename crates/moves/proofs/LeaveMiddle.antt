@@ -22,11 +22,11 @@ use Rattle.place.proofs.BlocksOfGrid.{blocksOf, back-below}
 use Rattle.place.proofs.ToChain.{labelOf}
 use Rattle.place.specs.Demand.{Accepted}
 use Rattle.place.specs.Problem.{Problem}
-use Rattle.moves.specs.Step.{State, shrink, firstOutside, leave, leaveMiddle}
+use Rattle.moves.specs.Step.{State, shrink, leave, leaveMiddle}
 use Rattle.moves.proofs.Describes.{Neighbours, Describes, AllLabels, labelsOf, through, GoesOn}
 use Rattle.moves.proofs.Range.{index-below}
 use Rattle.moves.proofs.Shrink.{shrunk}
-use Rattle.moves.proofs.Walks.{chain-outside}
+use Rattle.moves.proofs.Takes.{taken-from, taking-same}
 
 -- the steps e and e + 1 exchanged
 abbrev exchanged : State → ℕ → State
@@ -35,6 +35,7 @@ exchanged s e = record {
   coefficients = s .coefficients;
   order = swapAt e s.order;
   labels = s .labels;
+  takes = s .takes;
   T = s .T;
   U = s .U;
   turn = suc e;
@@ -56,8 +57,8 @@ module _ {p : Problem} (ok : Accepted p) {previousOf nextOf : List ℕ}
 
   -- the end of the run from the second index
   run : (m : ℕ) × (m ≤ 16)
-      × BackOutside R (zeros R T (listAt x 0)) (o (suc e)) m × (firstOutside previousOf s.U (o (suc e)) ≡ back R.previous m (o (suc e)))
-  run = chain-outside ok N K s.U D.inU (o (suc e)) (indices-below (suc e) (omega arith))
+      × BackOutside R (zeros R T (listAt x 0)) (o (suc e)) m × (at s.takes (o (suc e)) ≡ back R.previous m (o (suc e)))
+  run = taken-from ok N D (o (suc e)) (indices-below (suc e) (omega arith))
 
   b : ℕ
   b = back R.previous run.0 (o (suc e))
@@ -65,7 +66,7 @@ module _ {p : Problem} (ok : Accepted p) {previousOf nextOf : List ℕ}
   stuck : Bool
   stuck = eqb (o e) b && eqb (coord R (listAt x 0) b) 0
 
-  move : leave previousOf nextOf s (suc e) ≡ cond stuck (shrink s (suc e) e true) (exchanged s e)
+  move : leave previousOf nextOf s (suc e) ≡ cond stuck (shrink nextOf s (suc e) e true) (exchanged s e)
   unfolding leave leaveMiddle stuck b
   move =
       let i : suc e - 1 ≡ e = omega arith in
@@ -80,12 +81,12 @@ module _ {p : Problem} (ok : Accepted p) {previousOf nextOf : List ℕ}
       ) refl
 
   -- off the grid: the facet is a place
-  drops : coord R (listAt x e) b ≡ 0 → GoesOn p T n x (suc e) (shrink s (suc e) e true)
+  drops : coord R (listAt x e) b ≡ 0 → GoesOn p T n x (suc e) (shrink nextOf s (suc e) e true)
   unfolding b
   drops z =
       let w = inner-stuck K e l run.2 z in
       shrunk ok D L (omega arith) c (dropped K e (omega arith) (inner-tight-at K e l (inner-if-zero K e l run.2 z)))
-      true (eq-eqb _ 0 w.1)
+      true (eq-eqb _ 0 w.1) N
 
   -- on the grid: the place beyond
   module _ (g : 0 < coord R (listAt x e) b) where
@@ -131,6 +132,7 @@ module _ {p : Problem} (ok : Accepted p) {previousOf nextOf : List ℕ}
           inT = D .inT;
           inU = λ k m. D .inU k m ∙ ap (λ (z : ℕ → ℕ). zeros R T z k) (sym first);
           labelsLength = D .labelsLength;
+          taking = taking-same (λ k. ap (λ (z : ℕ → ℕ). zeros R T z k) first) D.taking;
         };
         came = through n x refl (omega arith) (omega arith) (omega arith)
             (λ j m q. L j m ∙ ap (λ (z : ℕ → ℕ). suc (labelOf p z)) (sym (same j m q))) beyond.carries beyond.back;
@@ -142,7 +144,7 @@ module _ {p : Problem} (ok : Accepted p) {previousOf nextOf : List ℕ}
   unfolding stuck b
   leave-middle = rw move (go stuck refl)
     where
-      go : (t : Bool) → stuck ≡ t → GoesOn p T n x (suc e) (cond t (shrink s (suc e) e true) (exchanged s e))
+      go : (t : Bool) → stuck ≡ t → GoesOn p T n x (suc e) (cond t (shrink nextOf s (suc e) e true) (exchanged s e))
       go true q =
           let z : o e ≡ b = eqb-true (o e) b (and-left (eqb (o e) b) _ q) in
           let z0 : coord R (listAt x 0) b ≡ 0 = eqb-true _ 0 (and-right (eqb (o e) b) _ q) in

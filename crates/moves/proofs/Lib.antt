@@ -4,6 +4,7 @@ pub mod FirstMet
 pub mod ChangedBefore
 pub mod Cases
 pub mod Walks
+pub mod Takes
 pub mod Shifted
 pub mod Shrink
 pub mod Range

@@ -48,6 +48,7 @@ module _ {p : Problem} {T : ℕ → Bool} {t : ℕ} {o : ℕ → ℕ} {x : List 
     inT = D .inT;
     inU = D .inU;
     labelsLength = length-set s.labels s.turn l ∙ D .labelsLength;
+    taking = D .taking;
   }
 
   labelled-labels : s .turn ≤ t → LabelsBut p t x s s.turn → AllLabels p t x (labelled s (suc (labelsOf p x s.turn)))
@@ -61,7 +62,7 @@ module _ {p : Problem} {T : ℕ → Bool} {t : ℕ} {o : ℕ → ℕ} {x : List 
 pub record SamePlace (s e : State) : Type 0 where
   pub first : e .first ≡ s .first
   pub order : e .order ≡ s .order
-  pub U : e .U ≡ s .U
+  pub takes : e .takes ≡ s .takes
 
 -- what a move from x gives: a place end, a facet end, or a place other than the one just left
 pub data Outcome (p : Problem) (T : ℕ → Bool) (t : ℕ) (x : List (ℕ → ℕ)) (left : Option (List (ℕ → ℕ))) (s e : State) : Type 0 where
@@ -102,6 +103,7 @@ module _ {p : Problem} (ok : Accepted p) {previousOf nextOf : List ℕ} (N : Nei
     ready-of left joined later = record {
       orderBelow = λ j l. let w : j < t = omega (arith, D .orderLength) in
           omega (arith, D .orderAt j w, index-below ok D.chain (o j) (D .chain .chain .order .within j w), ok .settled .sixteenIndices);
+      takesBelow = D .taking .below;
       turn = omega (arith, D .orderLength);
       label = λ r. (omega (arith, A s.turn low), omega (arith, A s.turn low, label-below ok D.chain s.turn low, ok .settled .sixteenIndices));
       leaves = left;
@@ -120,7 +122,7 @@ module _ {p : Problem} (ok : Accepted p) {previousOf nextOf : List ℕ} (N : Nei
           describes = D;
           ready = ready-of (λ q z. absurd-bool (sym z ∙ b)) (λ q z. rw label-index (grow-ready ok D A E N)) (λ q. absurd (omega arith));
           outcome = rw (lt-ltb s.rule 6 r, b, label-index)
-              (⊎-elim (λ w. placeEnds w.0 w.1 (record { first = w .2; order = w .3; U = w .4 }))
+              (⊎-elim (λ w. placeEnds w.0 w.1 (record { first = w .2; order = w .3; takes = w .4 }))
               (λ w. goesOn w.0 (λ z. new w.0 z w.1) w.2)
               (grows ok N T t o x s s.turn D A E));
         }
@@ -153,7 +155,7 @@ module _ {p : Problem} (ok : Accepted p) {previousOf nextOf : List ℕ} (N : Nei
         → Outcome p T (suc n) x (some l) s (leave previousOf nextOf s i)
     left-outcome {i} il c new =
         ⊎-elim
-        (λ w. facetEnds w.0 n refl (rw (← w.1) w.2) (record { first = w .3; order = w .4; U = w .5 }))
+        (λ w. facetEnds w.0 n refl (rw (← w.1) w.2) (record { first = w .3; order = w .4; takes = w .5 }))
         (λ w. goesOn w.0 (λ q. let z : w .0 ≡ l = cc in new (rw z at w.1)) w.2)
         (leaves ok N T n o x s i D A il c)
 
@@ -185,16 +187,16 @@ module _ {p : Problem} (ok : Accepted p) {previousOf nextOf : List ℕ} (N : Nei
     }
 
   module _ (T : ℕ → Bool) (o : ℕ → ℕ) (x : List (ℕ → ℕ)) (s : State) where
-    read-label : {t : ℕ} → Describes p T t o x s → s .turn ≤ t → s .rule < 6 → read p previousOf s ≡ labelled s (suc (labelsOf p x s.turn))
+    read-label : {t : ℕ} → Describes p T t o x s → s .turn ≤ t → s .rule < 6 → read p s ≡ labelled s (suc (labelsOf p x s.turn))
     unfolding read
     read-label {t} D low r =
         rw (lt-ltb s.rule 6 r) (ap (λ (l : ℕ). labelled s l) (ap (label p) (point-is ok N D s.turn low) ∙ sym (label-is ok D.chain s.turn low)))
 
-    read-none : 6 ≤ s .rule → read p previousOf s ≡ s
+    read-none : 6 ≤ s .rule → read p s ≡ s
     unfolding read
     read-none r = rw (le-ltb s.rule 6 r)
 
-    begin-onward : Describes p T 0 o x s → s .turn ≡ 0 → s .rule < 6 → Onward T 0 o x (read p previousOf s) none
+    begin-onward : Describes p T 0 o x s → s .turn ≡ 0 → s .rule < 6 → Onward T 0 o x (read p s) none
     unfolding labelled
     begin-onward D u r =
         let l = suc (labelsOf p x s.turn) in
@@ -204,7 +206,7 @@ module _ {p : Problem} (ok : Accepted p) {previousOf nextOf : List ℕ} (N : Nei
         (ap (λ (i : ℕ). T (labelsOf p x i)) u ∙ E .out) none (λ y q Y. absurd-bool (cc)))
 
     came-through : {n : ℕ} (l : List (ℕ → ℕ)) → Describes p T (suc n) o x s → s .turn ≤ suc n → s .rule < 6 → LabelsBut p (suc n) x s s.turn
-        → Carries T (suc n) (labelsOf p x) s.turn → Through (blocksOf p) T n x s.turn l → Onward T (suc n) o x (read p previousOf s) (some l)
+        → Carries T (suc n) (labelsOf p x) s.turn → Through (blocksOf p) T n x s.turn l → Onward T (suc n) o x (read p s) (some l)
     unfolding labelled
     came-through {n} l D low r b carry X =
         let v = suc (labelsOf p x s.turn) in
@@ -212,12 +214,12 @@ module _ {p : Problem} (ok : Accepted p) {previousOf nextOf : List ℕ} (N : Nei
 
     -- however the path came; it does not come back to a place of one point
     pub onward : (t : ℕ) {left : Option (List (ℕ → ℕ))} → Describes p T t o x s → Came p T t x s left
-        → ((l : List (ℕ → ℕ)) → left ≡ some l → t ≡ 0 → ⊥) → Onward T t o x (read p previousOf s) left
+        → ((l : List (ℕ → ℕ)) → left ≡ some l → t ≡ 0 → ⊥) → Onward T t o x (read p s) left
     onward t D (begins e u r) m =
         rw e (begin-onward (rw e at D) u r)
     onward t D (through n l e low q r b carry X) m =
         subst (λ (t : ℕ). Describes p T t o x s → s .turn ≤ t → LabelsBut p t x s s.turn → Carries T t (labelsOf p x) s.turn
-        → Onward T t o x (read p previousOf s) (some l)) (sym e)
+        → Onward T t o x (read p s) (some l)) (sym e)
         (λ D low b carry. came-through l D low r b carry X) D low b carry
     onward zero D (fromLarger l low r q A e X) m = absurd (m l refl refl)
     onward (suc n) D (fromLarger l low r q A e X) m = rw (read-none r) (larger-onward D A low l r e X)

@@ -26,9 +26,9 @@ use Rattle.place.specs.Problem.{Problem}
 use Rattle.moves.proofs.Describes.{Neighbours, Describes}
 use Rattle.moves.proofs.Range.{index-below, few, point-on, coord-below}
 use Rattle.moves.proofs.Shifted.{length-shifted, shifted-at}
-use Rattle.moves.proofs.Walks.{chain-outside}
+use Rattle.moves.proofs.Takes.{taken-from}
 use Rattle.moves.specs.Read.{pointAfter, pointIn, pointsFrom, ReadyPoint}
-use Rattle.moves.specs.Step.{State, firstOutside}
+use Rattle.moves.specs.Step.{State}
 
 point-long : (g : Grid) (y : Point) → isGridPoint g y ≡ true → length y ≡ numIndices g
 unfolding isGridPoint
@@ -48,10 +48,10 @@ map-upFrom f (y ∷ l) b (suc n) e h =
 module _ {p : Problem} (ok : Accepted p) {previousOf nextOf : List ℕ} (N : Neighbours p.grid previousOf nextOf)
     {T : ℕ → Bool} {t : ℕ} {o : ℕ → ℕ} {x : List (ℕ → ℕ)} {s : State} (D : Describes p T t o x s) where
   abbrev after : ℕ → List ℕ
-  after i = pointAfter previousOf s.order s.U s.first i
+  after i = pointAfter s.takes s.order s.first i
 
   abbrev lower : ℕ → ℕ
-  lower j = firstOutside previousOf s.U (at s.order j)
+  lower j = at s.takes (at s.order j)
 
   order-below : (j : ℕ) → j < t → o j < numIndices p.grid
   order-below j l = index-below ok D.chain (o j) (D .chain .chain .order .within j l)
@@ -59,9 +59,9 @@ module _ {p : Problem} (ok : Accepted p) {previousOf nextOf : List ℕ} (N : Nei
   -- step j of the chain is by the index of the order, and takes from the one found
   moves : (j : ℕ) → j < t → Moved (blocksOf p) (at s.order j) (lower j) (listAt x j) (listAt x (suc j)) × (lower j < numIndices p.grid)
   moves j l =
-      let w = chain-outside ok N D.chain.chain s.U D.inU (o j) (order-below j l) in
+      let w = taken-from ok N D (o j) (order-below j l) in
       let e = D .orderAt j l in
-      let b : lower j ≡ back (blocksOf p .previous) w.0 (o j) = ap (λ (h : ℕ). firstOutside previousOf s.U h) e ∙ w .3 in
+      let b : lower j ≡ back (blocksOf p .previous) w.0 (o j) = ap (at s.takes) e ∙ w .3 in
       (rw (b, e) (next-moved D.chain.chain j l w.2), rw b (back-below p w.0 (o j) (order-below j l)))
 
   after-is : (i : ℕ) → i ≤ t → (length (after i) ≡ 16) × ((k : ℕ) → k < numIndices p.grid → at (after i) k ≡ coord (blocksOf p) (listAt x i) k)
@@ -82,7 +82,7 @@ module _ {p : Problem} (ok : Accepted p) {previousOf nextOf : List ℕ} (N : Nei
         ),
       )
 
-  pub ready-point : (i : ℕ) → i ≤ t → ReadyPoint previousOf s.order s.U s.first i
+  pub ready-point : (i : ℕ) → i ≤ t → ReadyPoint s.takes s.order s.first i
   ready-point i l = record {
     low = omega (arith, D .orderLength);
     few = omega (arith, D .orderLength, few ok D.chain, ok .settled .sixteenIndices);
@@ -93,22 +93,22 @@ module _ {p : Problem} (ok : Accepted p) {previousOf nextOf : List ℕ} (N : Nei
         omega (arith, after-is j (omega arith) .1 (at s.order j) hl, w .0 .gains, coord-below ok D.chain (suc j) jl (at s.order j) hl);
   }
 
-  pub point-is : (i : ℕ) → i ≤ t → pointIn p previousOf s i ≡ nth (pointsOf p x) i
+  pub point-is : (i : ℕ) → i ≤ t → pointIn p s i ≡ nth (pointsOf p x) i
   point-is i l =
       let m = numIndices p.grid in
       let r = after-is i l in
-      let e : length (pointIn p previousOf s i) ≡ m = length-take m (after i) ∙ omega (arith, r .0, ok .settled .sixteenIndices) in
-      ext-getD 0 (pointIn p previousOf s i) (nth (pointsOf p x) i) (e ∙ sym (point-long p.grid _ (point-on ok D.chain i l)))
+      let e : length (pointIn p s i) ≡ m = length-take m (after i) ∙ omega (arith, r .0, ok .settled .sixteenIndices) in
+      ext-getD 0 (pointIn p s i) (nth (pointsOf p x) i) (e ∙ sym (point-long p.grid _ (point-on ok D.chain i l)))
       (λ k kl. let w : k < m = omega arith in getD-take m (after i) k 0 w ∙ r .1 k w ∙ coord-as ok.settled D.chain i l k w)
 
-  pub all-points : pointsFrom p previousOf s 0 ≡ pointsOf p x
+  pub all-points : pointsFrom p s 0 ≡ pointsOf p x
   all-points =
-      map-upFrom (pointIn p previousOf s) (pointsOf p x) 0 (suc (length s.order) - 0) (long ok.settled D.chain ∙ omega (arith, D .orderLength))
+      map-upFrom (pointIn p s) (pointsOf p x) 0 (suc (length s.order) - 0) (long ok.settled D.chain ∙ omega (arith, D .orderLength))
       (λ j l. let w : 0 + j ≡ j = omega arith in rw w (point-is j (omega (arith, D .orderLength))))
 
-  pub later-points : pointsFrom p previousOf s 1 ≡ removeAt 0 (pointsOf p x)
+  pub later-points : pointsFrom p s 1 ≡ removeAt 0 (pointsOf p x)
   later-points =
-      map-upFrom (pointIn p previousOf s) (removeAt 0 (pointsOf p x)) 1 (suc (length s.order) - 1)
+      map-upFrom (pointIn p s) (removeAt 0 (pointsOf p x)) 1 (suc (length s.order) - 1)
       (omega (arith, D .orderLength, long ok.settled D.chain, length-removeAt 0 (pointsOf p x) (omega (arith, long ok.settled D.chain))))
       (λ j l. let w : 1 + j ≡ suc j = omega arith in
       rw w (point-is (suc j) (omega (arith, D .orderLength)) ∙ sym (removeAt-behind [] 0 (pointsOf p x) j (omega arith))))

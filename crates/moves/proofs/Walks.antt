@@ -139,12 +139,12 @@ neither : (a b : Bool) → (a || b) ≡ false → (a ≡ false) × (b ≡ false)
 neither true b e = absurd-bool e
 neither false b e = (refl, e)
 
-forward-back : (R : Blocks) (n k : ℕ) → back R.next n (back R.previous n k) ≡ k
+pub forward-back : (R : Blocks) (n k : ℕ) → back R.next n (back R.previous n k) ≡ k
 forward-back R zero k = refl
 forward-back R (suc n) k =
     sym (back-shift R.next n _) ∙ ap (back R.next n) (R .next-previous (back R.previous n k)) ∙ forward-back R n k
 
-block-forward : (R : Blocks) (n h : ℕ) → R .block (back R.next n h) ≡ R .block h
+pub block-forward : (R : Blocks) (n h : ℕ) → R .block (back R.next n h) ≡ R .block h
 block-forward R zero h = refl
 block-forward R (suc n) h = block-next R _ ∙ block-forward R n h
 
@@ -228,14 +228,14 @@ module _ {p : Problem} (ok : Accepted p) {previousOf nextOf : List ℕ} (N : Nei
         )
 
     pub forward-outside : (h k : ℕ) → h < numIndices p.grid → blocksOf p .block k ≡ blocksOf p .block h → inU k ≡ false
-        → (n : ℕ) × FirstAt (blocksOf p .next) (λ k. not (inU k)) h n × (firstOutside nextOf U h ≡ back (blocksOf p .next) n h)
+        → (n : ℕ) × (n ≤ 16) × FirstAt (blocksOf p .next) (λ k. not (inU k)) h n × (firstOutside nextOf U h ≡ back (blocksOf p .next) n h)
     forward-outside h k l e o =
         let w = forward-met _ h k l e (ap not (same k (omega (arith, in-block h k l e, ok .settled .sixteenIndices)) ∙ o)) in
         let z : (j : ℕ)
         → not (bit U (back (blocksOf p .next) j h)) ≡ not (inU (back (blocksOf p .next) j h)) =
         λ j. ap not (same (back (blocksOf p .next) j h)
         (omega (arith, in-block h (back (blocksOf p .next) j h) l (block-forward (blocksOf p) j h), ok .settled .sixteenIndices))) in
-        (w .0, record { some = w .2 .some; skipped = λ j a b. sym (z j) ∙ w .2 .skipped j a b; stops = sym (z w.0) ∙ w .2 .stops }, w .3)
+        (w .0, w .1, record { some = w .2 .some; skipped = λ j a b. sym (z j) ∙ w .2 .skipped j a b; stops = sym (z w.0) ∙ w .2 .stops }, w .3)
 
   -- every index of h's block but h is in T or U
   module _ (T U : ℕ) {inT inU : ℕ → Bool} (sameT : (k : ℕ) → k < 16 → bit T k ≡ inT k) (sameU : (k : ℕ) → k < 16 → bit U k ≡ inU k) (h : ℕ)

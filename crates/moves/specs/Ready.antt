@@ -10,14 +10,14 @@ use lib.ListN.{length, set}
 use Rattle.combinatorics.specs.Edits.{found}
 use Rattle.grid.specs.Grid.{at}
 use Rattle.moves.specs.Mask.{bit}
-use Rattle.moves.specs.Step.{State, firstOutside, firstOutsideOrZero, fills}
+use Rattle.moves.specs.Step.{State, firstOutsideOrZero, fills}
 
 -- the test holds of each number that `changedBefore` changes
 unfoldable pub testedBefore : (ℕ → Bool) → (ℕ → ℕ) → List ℕ → ℕ → ℕ → ℕ → List ℕ → Bool
 testedBefore q f way b zero h c = true
 testedBefore q f way b (suc n) h c = eqb h b || q (at c h) && testedBefore q f way b n (at way h) (set c h (f (at c h)))
 
--- the indices of an array of neighbours, and those of the order, are below 16
+-- the indices of an array of neighbours, those that steps take from and those of the order are below 16
 abbrev pub IndicesBelow : List ℕ → Type 0
 IndicesBelow way = (h : ℕ) → h < length way → at way h < 16
 
@@ -28,9 +28,9 @@ pub record SixteenEach (order labels : List ℕ) : Type 0 where
 
 pub record ReadyFirst (previous : List ℕ) (s : State) : Type 0 where
   pub some : 1 ≤ length (s .order)
-  pub positive : 1 ≤ at (s .first) (firstOutside previous (s .U) (at (s .order) 0))
+  pub positive : 1 ≤ at (s .first) (at (s .takes) (at (s .order) 0))
   pub fits : at (s .first) (at (s .order) 0) < 65535
-  pub raised : testedBefore (λ c. ltb c 65535) suc previous (firstOutside previous (s .U) (at (s .order) 0)) 16 (at (s .order) 0) (s .coefficients) ≡ true
+  pub raised : testedBefore (λ c. ltb c 65535) suc previous (at (s .takes) (at (s .order) 0)) 16 (at (s .order) 0) (s .coefficients) ≡ true
 
 pub record ReadyLast (previous : List ℕ) (s : State) (h : ℕ) : Type 0 where
   pub some : 1 ≤ length (s .order)
@@ -53,6 +53,7 @@ pub record ReadyGrow (next : List ℕ) (s : State) (h : ℕ) : Type 0 where
 
 pub record Ready (previous next : List ℕ) (s : State) : Type 0 where
   pub orderBelow : IndicesBelow (s .order)
+  pub takesBelow : IndicesBelow (s .takes)
   pub turn : s .turn ≤ length (s .order)
   pub label : s .rule < 6 → (1 ≤ at (s .labels) (s .turn)) × (at (s .labels) (s .turn) ≤ 16)
   pub leaves : s .rule < 6 → bit (s .T) (at (s .labels) (s .turn) - 1) ≡ true → ReadyLeave previous s (found (at (s .labels) (s .turn)) (s .turn) (s .labels))

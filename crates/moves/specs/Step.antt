@@ -11,26 +11,29 @@ use Rattle.moves.specs.Mask.{bit, withIndex, withoutIndex}
 use Rattle.moves.specs.declared.Sets.{Sets}
 
 -- The place: its first point, that point's coefficient list, the indices of T in the order in which each point goes to the next, a label for
--- each point, T, U. How it was reached: the rule, or the kind of end and an index of its block; and the number of the point that has
--- just come in, or, after rules 6 and 7, leaves next.
+-- each point, for each index the one that a step at it takes from, which is the first met going back that is not in U; T and U. How it was
+-- reached: the rule, or the kind of end and an index of its block; and the number of the point that has just come in, or, after rules 6 and 7,
+-- leaves next.
 pub record State : Type 0 where
   pub first : List ℕ
   pub coefficients : List ℕ
   pub order : List ℕ
   pub labels : List ℕ
+  pub takes : List ℕ
   pub T : ℕ
   pub U : ℕ
   pub turn : ℕ
   pub rule : ℕ
   pub end : ℕ
 
--- the state that four arrays and the sets hold
-abbrev pub stateOf : List ℕ → List ℕ → List ℕ → List ℕ → Sets → State
-stateOf first coefficients order labels s = record {
+-- the state that five arrays and the sets hold
+abbrev pub stateOf : List ℕ → List ℕ → List ℕ → List ℕ → List ℕ → Sets → State
+stateOf first coefficients order labels takes s = record {
   first = first;
   coefficients = coefficients;
   order = take (s .count) order;
   labels = take (suc (s .count)) labels;
+  takes = takes;
   T = s .t;
   U = s .u;
   turn = s .turn;
@@ -64,6 +67,18 @@ unfoldable pub changedBefore : (ℕ → ℕ) → List ℕ → ℕ → ℕ → �
 changedBefore f way b zero h c = c
 changedBefore f way b (suc n) h c = let changed = changedBefore f way b n (at way h) (set c h (f (at c h))) in cond (eqb h b) c changed
 
+-- a step at an index behind b, as far as the first one that is not in U, takes from x
+abbrev pub takingFrom : List ℕ → ℕ → ℕ → ℕ → List ℕ → List ℕ
+takingFrom next U b x takes = changedBefore (λ _. x) next (at next (firstOutside next U b)) 16 (at next b) takes
+
+-- U gains b: these steps take from where a step at b does
+abbrev pub takingPast : List ℕ → ℕ → ℕ → List ℕ → List ℕ
+takingPast next U b takes = takingFrom next U b (at takes b) takes
+
+-- U loses b: they take from b
+abbrev pub takingAt : List ℕ → ℕ → ℕ → List ℕ → List ℕ
+takingAt next U b takes = takingFrom next U b b takes
+
 -- an end, at the block of index h
 abbrev pub ended : State → ℕ → ℕ → State
 ended s rule h = record {
@@ -71,6 +86,7 @@ ended s rule h = record {
   coefficients = s .coefficients;
   order = s .order;
   labels = s .labels;
+  takes = s .takes;
   T = s .T;
   U = s .U;
   turn = s .turn;
@@ -79,12 +95,13 @@ ended s rule h = record {
 }
 
 -- Point i and entry e of the order go. The index x of that entry leaves T, and joins U where `intoU`; the point labelled x leaves next.
-unfoldable pub shrink : State → ℕ → ℕ → Bool → State
-shrink s i e intoU = let x = at (s .order) e in record {
+unfoldable pub shrink : List ℕ → State → ℕ → ℕ → Bool → State
+shrink next s i e intoU = let x = at (s .order) e in record {
   first = s .first;
   coefficients = s .coefficients;
   order = removeAt e (s .order);
   labels = removeAt i (s .labels);
+  takes = cond intoU (takingPast next (s .U) x (s .takes)) (s .takes);
   T = withoutIndex (s .T) x;
   U = cond intoU (withIndex (s .U) x) (s .U);
   turn = found (suc x) 16 (removeAt i (s .labels));
@@ -96,7 +113,7 @@ shrink s i e intoU = let x = at (s .order) e in record {
 unfoldable pub leaveFirst : List ℕ → List ℕ → State → State
 leaveFirst previous next s =
     let h = at (s .order) 0 in
-    let b = firstOutside previous (s .U) h in
+    let b = at (s .takes) h in
     let gone = eqb (at (s .first) b) 1 && not (bit (s .T) b) in
     cond (gone && fills next (s .T) (s .U) b)
     (ended s 8 b)
@@ -105,6 +122,7 @@ leaveFirst previous next s =
       coefficients = changedBefore suc previous b 16 h (s .coefficients);
       order = rotateLeft (s .order);
       labels = rotateLeft (s .labels);
+      takes = cond gone (takingPast next (s .U) b (s .takes)) (s .takes);
       T = s .T;
       U = cond gone (withIndex (s .U) b) (s .U);
       turn = length (s .order);
@@ -114,15 +132,16 @@ leaveFirst previous next s =
 
 -- Point i, neither the first nor the last, leaves: the steps to it and from it change places, or the index of the step to it moves from T to U.
 unfoldable pub leaveMiddle : List ℕ → State → ℕ → State
-leaveMiddle previous s i =
-    let b = firstOutside previous (s .U) (at (s .order) i) in
+leaveMiddle next s i =
+    let b = at (s .takes) (at (s .order) i) in
     cond (eqb (at (s .order) (i - 1)) b && eqb (at (s .first) b) 0)
-    (shrink s i (i - 1) true)
+    (shrink next s i (i - 1) true)
     (record {
       first = s .first;
       coefficients = s .coefficients;
       order = swapAt (i - 1) (s .order);
       labels = s .labels;
+      takes = s .takes;
       T = s .T;
       U = s .U;
       turn = i;
@@ -131,20 +150,21 @@ leaveMiddle previous s i =
     })
 
 -- The last point leaves: a new first point comes in, or the index of the last step leaves T.
-unfoldable pub leaveLast : List ℕ → State → State
-leaveLast previous s =
+unfoldable pub leaveLast : List ℕ → List ℕ → State → State
+leaveLast previous next s =
     let t = length (s .order) in
     let h = at (s .order) (t - 1) in
     let b = firstOutsideOrZero previous (s .U) (s .coefficients) h in
     cond (eqb (at (s .first) h) 0)
-    (shrink s t (t - 1) true)
+    (shrink next s t (t - 1) true)
     (cond (eqb (at (s .coefficients) h) 0)
-    (shrink s t (t - 1) false)
+    (shrink next s t (t - 1) false)
     (record {
       first = shifted (s .first) b h;
       coefficients = changedBefore pred previous b 16 h (s .coefficients);
       order = rotateRight (s .order);
       labels = rotateRight (s .labels);
+      takes = cond (bit (s .U) b) (takingAt next (s .U) b (s .takes)) (s .takes);
       T = s .T;
       U = withoutIndex (s .U) b;
       turn = 0;
@@ -152,13 +172,14 @@ leaveLast previous s =
       end = 0;
     }))
 
--- Index h joins T before entry i of the order; the point behind that entry comes in.
-abbrev pub joined : State → ℕ → ℕ → ℕ → State
-joined s i h rule = record {
+-- Index h joins T before entry i of the order; the point behind that entry comes in. Steps take from the indices given.
+abbrev pub joined : State → List ℕ → ℕ → ℕ → ℕ → State
+joined s takes i h rule = record {
   first = s .first;
   coefficients = s .coefficients;
   order = insertAt i h (s .order);
   labels = insertAt (suc i) 0 (s .labels);
+  takes = takes;
   T = withIndex (s .T) h;
   U = withoutIndex (s .U) h;
   turn = suc i;
@@ -172,12 +193,12 @@ grow next s h =
     let i = cond (bit (s .U) h) (found (firstOutside next (s .U) h) 16 (s .order)) (length (s .order)) in
     cond (not (bit (s .U) h) && fills next (s .T) (s .U) h)
     (ended s 0 h)
-    (joined s i h (cond (bit (s .U) h) 5 4))
+    (joined s (cond (bit (s .U) h) (takingAt next (s .U) h (s .takes)) (s .takes)) i h (cond (bit (s .U) h) 5 4))
 
 -- Point i leaves.
 unfoldable pub leave : List ℕ → List ℕ → State → ℕ → State
 leave previous next s i =
-    cond (eqb i 0) (leaveFirst previous next s) (cond (ltb i (length (s .order))) (leaveMiddle previous s i) (leaveLast previous s))
+    cond (eqb i 0) (leaveFirst previous next s) (cond (ltb i (length (s .order))) (leaveMiddle next s i) (leaveLast previous next s))
 
 -- The move from a place whose points all have their labels. After rules 6 and 7 the point named leaves. Otherwise the label that came in joins
 -- T if it is not there, and if it is, the other point with that label leaves.
@@ -195,6 +216,7 @@ labelled s label = record {
   coefficients = s .coefficients;
   order = s .order;
   labels = set (s .labels) (s .turn) label;
+  takes = s .takes;
   T = s .T;
   U = s .U;
   turn = s .turn;
@@ -203,12 +225,13 @@ labelled s label = record {
 }
 
 -- the place {v}: its one point has come in
-abbrev pub begun : List ℕ → ℕ → State
-begun start zeros = record {
+abbrev pub begun : List ℕ → ℕ → List ℕ → State
+begun start zeros takes = record {
   first = start;
   coefficients = replicate 16 0;
   order = [];
   labels = 0 ∷ [];
+  takes = takes;
   T = 0;
   U = zeros;
   turn = 0;

@@ -10,6 +10,7 @@ use crate::lists::insert;
 use crate::mask::add;
 use crate::mask::has;
 use crate::mask::without;
+use crate::shifts::take_from;
 use crate::walk::fill;
 use crate::walk::first_outside;
 
@@ -17,7 +18,7 @@ const PLACE_END: u8 = 0;
 
 // An end, at the block of index h.
 pub fn end_at(s: Sets, rule: u8, h: usize) -> Sets
-    ensures { λ r. ⌜ ((first coefficients order labels : List ℕ) → stateOf first coefficients order labels r ≡ ended (stateOf first coefficients order labels s) rule h) ⌝ }
+    ensures { λ r. ⌜ ((first coefficients order labels takes : List ℕ) → stateOf first coefficients order labels takes r ≡ ended (stateOf first coefficients order labels takes s) rule h) ⌝ }
 {
     Sets {
         rule,
@@ -29,11 +30,11 @@ pub fn end_at(s: Sets, rule: u8, h: usize) -> Sets
     }
 }
 
-// Index h joins T before entry i of the order, and the point behind that entry comes in.
+// Index h joins T before entry i of the order, and the point behind that entry comes in. What steps take from is left to the caller.
 fn join(order: &mut [u8; 16], labels: &mut [u8; 16], s: Sets, i: usize, h: usize, rule: u8) -> Sets
     requires { ⌜ (i ≤ s .count) × (s .count ≤ 14) × (h < 16) × SixteenEach (now order) (now labels) ⌝ }
-    ensures { λ r. ⌜ ((first coefficients : List ℕ) → stateOf first coefficients (now (order .exit)) (now (labels .exit)) r
-        ≡ joined (stateOf first coefficients (now (order .entry)) (now (labels .entry)) s) i h rule) × SixteenEach (now (order .exit)) (now (labels .exit)) ⌝ }
+    ensures { λ r. ⌜ ((first coefficients takes taking : List ℕ) → stateOf first coefficients (now (order .exit)) (now (labels .exit)) taking r
+        ≡ joined (stateOf first coefficients (now (order .entry)) (now (labels .entry)) takes s) taking i h rule) × SixteenEach (now (order .exit)) (now (labels .exit)) ⌝ }
 {
     let n = s.count;
     insert(order, n, i, h as u8);
@@ -49,15 +50,23 @@ fn join(order: &mut [u8; 16], labels: &mut [u8; 16], s: Sets, i: usize, h: usize
 }
 
 // The label h, not in T, has come in: it joins T, or the place is an end. The first point and its coefficients have no part in this.
-pub fn grow(next: &[u8; 16], order: &mut [u8; 16], labels: &mut [u8; 16], s: Sets, h: usize) -> Sets
-    requires { ⌜ IndicesBelow (now next) × SixteenEach (now order) (now labels) × ReadyGrow (now next) (stateOf [] [] (now order) (now labels) s) h ⌝ }
-    ensures { λ r. ⌜ ((first coefficients : List ℕ) → stateOf first coefficients (now (order .exit)) (now (labels .exit)) r
-        ≡ grown (now (next .entry)) (stateOf first coefficients (now (order .entry)) (now (labels .entry)) s) h) × SixteenEach (now (order .exit)) (now (labels .exit)) ⌝ }
+pub fn grow(
+    next: &[u8; 16],
+    order: &mut [u8; 16],
+    labels: &mut [u8; 16],
+    takes: &mut [u8; 16],
+    s: Sets,
+    h: usize,
+) -> Sets
+    requires { ⌜ IndicesBelow (now next) × SixteenEach (now order) (now labels) × ReadyGrow (now next) (stateOf [] [] (now order) (now labels) [] s) h ⌝ }
+    ensures { λ r. ⌜ ((first coefficients : List ℕ) → stateOf first coefficients (now (order .exit)) (now (labels .exit)) (now (takes .exit)) r
+        ≡ grown (now (next .entry)) (stateOf first coefficients (now (order .entry)) (now (labels .entry)) (now (takes .entry)) s) h) × SixteenEach (now (order .exit)) (now (labels .exit)) ⌝ }
 {
     let n = s.count;
     if has(s.u, h) {
         let b = first_outside(next, s.u, h);
         let i = find(order, n, b as u8, 16);
+        take_from(takes, next, s.u, h, h as u8);
         return join(order, labels, s, i, h, 5);
     }
     if fill(next, s.t, s.u, h) {

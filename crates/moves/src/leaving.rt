@@ -1,6 +1,6 @@
 // A point leaves the place, and the place on the other side of the facet opposite to it comes, by rules 1, 2, 3, 6 and 7. The place is lent:
 // first is its first point, coefficients that point's coefficient list, order the indices of T in the order in which each point goes to the
-// next, labels a label for each point.
+// next, labels a label for each point, takes the index that a step at each index takes from.
 ghost use mathlib.Core.Bool.{true, not, _&&_};
 ghost use mathlib.Core.List.{List};
 ghost use mathlib.Core.Path.{_≡_};
@@ -11,7 +11,7 @@ ghost use Rattle.combinatorics.specs.Edits.{rotateLeft, rotateRight};
 ghost use Rattle.grid.specs.Grid.{at};
 ghost use Rattle.moves.specs.Mask.{bit};
 ghost use Rattle.moves.specs.Ready.{IndicesBelow, testedBefore, SixteenEach, ReadyFirst, ReadyLast, ReadyLeave};
-ghost use Rattle.moves.specs.Step.{stateOf, firstOutside, shifted, changedBefore, leaveFirst, leaveMiddle, leaveLast, shrink as shrunk, leave as left};
+ghost use Rattle.moves.specs.Step.{stateOf, shifted, changedBefore, leaveFirst, leaveMiddle, leaveLast, shrink as shrunk, leave as left};
 use crate::Sets;
 use crate::joining::end_at;
 use crate::lists::exchange;
@@ -26,24 +26,26 @@ use crate::mask::without;
 use crate::shifts::lower;
 use crate::shifts::raise;
 use crate::shifts::shift;
+use crate::shifts::take_from;
 use crate::walk::fill;
-use crate::walk::first_outside;
 use crate::walk::first_outside_or_zero;
 
 const FACET_END: u8 = 8;
 
 // Point i and entry e of the order go. The index of that entry leaves T, and joins U where `joins`; the point labelled by it leaves next.
 fn shrink(
+    next: &[u8; 16],
     order: &mut [u8; 16],
     labels: &mut [u8; 16],
+    takes: &mut [u8; 16],
     s: Sets,
     i: usize,
     e: usize,
     joins: bool,
 ) -> Sets
-    requires { ⌜ (e < s .count) × (i ≤ s .count) × (s .count ≤ 15) × SixteenEach (now order) (now labels) × IndicesBelow (take (s .count) (now order)) ⌝ }
-    ensures { λ r. ⌜ ((first coefficients : List ℕ) → stateOf first coefficients (now (order .exit)) (now (labels .exit)) r
-        ≡ shrunk (stateOf first coefficients (now (order .entry)) (now (labels .entry)) s) i e joins) × SixteenEach (now (order .exit)) (now (labels .exit)) ⌝ }
+    requires { ⌜ (e < s .count) × (i ≤ s .count) × (s .count ≤ 15) × SixteenEach (now order) (now labels) × IndicesBelow (take (s .count) (now order)) × IndicesBelow (now next) ⌝ }
+    ensures { λ r. ⌜ ((first coefficients : List ℕ) → stateOf first coefficients (now (order .exit)) (now (labels .exit)) (now (takes .exit)) r
+        ≡ shrunk (now (next .entry)) (stateOf first coefficients (now (order .entry)) (now (labels .entry)) (now (takes .entry)) s) i e joins) × SixteenEach (now (order .exit)) (now (labels .exit)) ⌝ }
 {
     let n = s.count;
     let x = order[e];
@@ -53,6 +55,8 @@ fn shrink(
     let turn = find(labels, n, x + 1, 16);
     let t = without(s.t, h);
     if joins {
+        let past = takes[h];
+        take_from(takes, next, s.u, h, past);
         return Sets {
             rule: 6,
             end: 0,
@@ -137,15 +141,16 @@ fn leave_first_at(
     coefficients: &mut [u16; 16],
     order: &mut [u8; 16],
     labels: &mut [u8; 16],
+    takes: &mut [u8; 16],
     s: Sets,
     h: usize,
     b: usize,
 ) -> Sets
     requires { ⌜ IndicesBelow (now previous) × IndicesBelow (now next) × SixteenEach (now order) (now labels) × (1 ≤ s .count) × (s .count ≤ 15) ⌝ }
-    requires { ⌜ (h < 16) × (b < 16) × (h ≡ at (take (s .count) (now order)) 0) × (b ≡ firstOutside (now previous) (s .u) h) ⌝ }
-    requires { ⌜ ReadyFirst (now previous) (stateOf (now first) (now coefficients) (now order) (now labels) s) ⌝ }
-    ensures { λ r. ⌜ (stateOf (now (first .exit)) (now (coefficients .exit)) (now (order .exit)) (now (labels .exit)) r
-        ≡ leaveFirst (now (previous .entry)) (now (next .entry)) (stateOf (now (first .entry)) (now (coefficients .entry)) (now (order .entry)) (now (labels .entry)) s))
+    requires { ⌜ (h < 16) × (b < 16) × (h ≡ at (take (s .count) (now order)) 0) × (b ≡ at (now takes) h) ⌝ }
+    requires { ⌜ ReadyFirst (now previous) (stateOf (now first) (now coefficients) (now order) (now labels) (now takes) s) ⌝ }
+    ensures { λ r. ⌜ (stateOf (now (first .exit)) (now (coefficients .exit)) (now (order .exit)) (now (labels .exit)) (now (takes .exit)) r
+        ≡ leaveFirst (now (previous .entry)) (now (next .entry)) (stateOf (now (first .entry)) (now (coefficients .entry)) (now (order .entry)) (now (labels .entry)) (now (takes .entry)) s))
         × SixteenEach (now (order .exit)) (now (labels .exit)) ⌝ }
 {
     let n = s.count;
@@ -154,6 +159,8 @@ fn leave_first_at(
             return end_at(s, FACET_END, b);
         }
         go_forward(previous, first, coefficients, order, labels, n, h, b);
+        let past = takes[b];
+        take_from(takes, next, s.u, b, past);
         return Sets {
             rule: 2,
             end: 0,
@@ -182,38 +189,51 @@ fn leave_first(
     coefficients: &mut [u16; 16],
     order: &mut [u8; 16],
     labels: &mut [u8; 16],
+    takes: &mut [u8; 16],
     s: Sets,
 ) -> Sets
-    requires { ⌜ IndicesBelow (now previous) × IndicesBelow (now next) × IndicesBelow (take (s .count) (now order)) × SixteenEach (now order) (now labels) × (s .count ≤ 15) ⌝ }
-    requires { ⌜ ReadyFirst (now previous) (stateOf (now first) (now coefficients) (now order) (now labels) s) ⌝ }
-    ensures { λ r. ⌜ (stateOf (now (first .exit)) (now (coefficients .exit)) (now (order .exit)) (now (labels .exit)) r
-        ≡ leaveFirst (now (previous .entry)) (now (next .entry)) (stateOf (now (first .entry)) (now (coefficients .entry)) (now (order .entry)) (now (labels .entry)) s))
+    requires { ⌜ IndicesBelow (now previous) × IndicesBelow (now next) × IndicesBelow (now takes) × IndicesBelow (take (s .count) (now order)) × SixteenEach (now order) (now labels) × (s .count ≤ 15) ⌝ }
+    requires { ⌜ ReadyFirst (now previous) (stateOf (now first) (now coefficients) (now order) (now labels) (now takes) s) ⌝ }
+    ensures { λ r. ⌜ (stateOf (now (first .exit)) (now (coefficients .exit)) (now (order .exit)) (now (labels .exit)) (now (takes .exit)) r
+        ≡ leaveFirst (now (previous .entry)) (now (next .entry)) (stateOf (now (first .entry)) (now (coefficients .entry)) (now (order .entry)) (now (labels .entry)) (now (takes .entry)) s))
         × SixteenEach (now (order .exit)) (now (labels .exit)) ⌝ }
 {
     let h = wide(order[0]);
-    let b = first_outside(previous, s.u, h);
-    leave_first_at(previous, next, first, coefficients, order, labels, s, h, b)
+    let b = wide(takes[h]);
+    leave_first_at(
+        previous,
+        next,
+        first,
+        coefficients,
+        order,
+        labels,
+        takes,
+        s,
+        h,
+        b,
+    )
 }
 
 // Point i, neither the first nor the last, leaves: the steps to it and from it change places, or the index of the step to it moves to U.
 fn leave_middle(
-    previous: &[u8; 16],
+    next: &[u8; 16],
     first: &[u16; 16],
     order: &mut [u8; 16],
     labels: &mut [u8; 16],
+    takes: &mut [u8; 16],
     s: Sets,
     i: usize,
 ) -> Sets
-    requires { ⌜ IndicesBelow (now previous) × IndicesBelow (take (s .count) (now order)) × SixteenEach (now order) (now labels) × (s .count ≤ 15) × (1 ≤ i) × (i < s .count) ⌝ }
-    ensures { λ r. ⌜ ((coefficients : List ℕ) → stateOf (now (first .entry)) coefficients (now (order .exit)) (now (labels .exit)) r
-        ≡ leaveMiddle (now (previous .entry)) (stateOf (now (first .entry)) coefficients (now (order .entry)) (now (labels .entry)) s) i) × SixteenEach (now (order .exit)) (now (labels .exit)) ⌝ }
+    requires { ⌜ IndicesBelow (now next) × IndicesBelow (now takes) × IndicesBelow (take (s .count) (now order)) × SixteenEach (now order) (now labels) × (s .count ≤ 15) × (1 ≤ i) × (i < s .count) ⌝ }
+    ensures { λ r. ⌜ ((coefficients : List ℕ) → stateOf (now (first .entry)) coefficients (now (order .exit)) (now (labels .exit)) (now (takes .exit)) r
+        ≡ leaveMiddle (now (next .entry)) (stateOf (now (first .entry)) coefficients (now (order .entry)) (now (labels .entry)) (now (takes .entry)) s) i) × SixteenEach (now (order .exit)) (now (labels .exit)) ⌝ }
 {
     let from = wide(order[i]);
     let to = wide(order[i - 1]);
-    let b = first_outside(previous, s.u, from);
+    let b = wide(takes[from]);
     if to == b {
         if first[b] == 0 {
-            return shrink(order, labels, s, i, i - 1, true);
+            return shrink(next, order, labels, takes, s, i, i - 1, true);
         }
     }
     exchange(order, i - 1);
@@ -230,31 +250,34 @@ fn leave_middle(
 // The last point leaves by its step at h: a new first point comes in, or the index h leaves T.
 fn leave_last_at(
     previous: &[u8; 16],
+    next: &[u8; 16],
     first: &mut [u16; 16],
     coefficients: &mut [u16; 16],
     order: &mut [u8; 16],
     labels: &mut [u8; 16],
+    takes: &mut [u8; 16],
     s: Sets,
     h: usize,
 ) -> Sets
-    requires { ⌜ IndicesBelow (now previous) × IndicesBelow (take (s .count) (now order)) × SixteenEach (now order) (now labels) × (1 ≤ s .count) × (s .count ≤ 15) ⌝ }
+    requires { ⌜ IndicesBelow (now previous) × IndicesBelow (now next) × IndicesBelow (take (s .count) (now order)) × SixteenEach (now order) (now labels) × (1 ≤ s .count) × (s .count ≤ 15) ⌝ }
     requires { ⌜ (h < 16) × (h ≡ at (take (s .count) (now order)) (s .count - 1)) ⌝ }
-    requires { ⌜ ReadyLast (now previous) (stateOf (now first) (now coefficients) (now order) (now labels) s) h ⌝ }
-    ensures { λ r. ⌜ (stateOf (now (first .exit)) (now (coefficients .exit)) (now (order .exit)) (now (labels .exit)) r
-        ≡ leaveLast (now (previous .entry)) (stateOf (now (first .entry)) (now (coefficients .entry)) (now (order .entry)) (now (labels .entry)) s))
+    requires { ⌜ ReadyLast (now previous) (stateOf (now first) (now coefficients) (now order) (now labels) (now takes) s) h ⌝ }
+    ensures { λ r. ⌜ (stateOf (now (first .exit)) (now (coefficients .exit)) (now (order .exit)) (now (labels .exit)) (now (takes .exit)) r
+        ≡ leaveLast (now (previous .entry)) (now (next .entry)) (stateOf (now (first .entry)) (now (coefficients .entry)) (now (order .entry)) (now (labels .entry)) (now (takes .entry)) s))
         × SixteenEach (now (order .exit)) (now (labels .exit)) ⌝ }
 {
     let n = s.count;
     if first[h] == 0 {
-        return shrink(order, labels, s, n, n - 1, true);
+        return shrink(next, order, labels, takes, s, n, n - 1, true);
     }
     if coefficients[h] == 0 {
-        return shrink(order, labels, s, n, n - 1, false);
+        return shrink(next, order, labels, takes, s, n, n - 1, false);
     }
     let b = first_outside_or_zero(previous, s.u, coefficients, h);
     go_back(previous, first, coefficients, order, labels, n, h, b);
     let u = without(s.u, b);
     if has(s.u, b) {
+        take_from(takes, next, s.u, b, b as u8);
         return Sets {
             rule: 3,
             end: 0,
@@ -277,21 +300,33 @@ fn leave_last_at(
 // The last point leaves.
 fn leave_last(
     previous: &[u8; 16],
+    next: &[u8; 16],
     first: &mut [u16; 16],
     coefficients: &mut [u16; 16],
     order: &mut [u8; 16],
     labels: &mut [u8; 16],
+    takes: &mut [u8; 16],
     s: Sets,
 ) -> Sets
-    requires { ⌜ IndicesBelow (now previous) × IndicesBelow (take (s .count) (now order)) × SixteenEach (now order) (now labels) × (s .count ≤ 15) ⌝ }
-    requires { ⌜ ReadyLast (now previous) (stateOf (now first) (now coefficients) (now order) (now labels) s) (at (take (s .count) (now order)) (length (take (s .count) (now order)) - 1)) ⌝ }
-    ensures { λ r. ⌜ (stateOf (now (first .exit)) (now (coefficients .exit)) (now (order .exit)) (now (labels .exit)) r
-        ≡ leaveLast (now (previous .entry)) (stateOf (now (first .entry)) (now (coefficients .entry)) (now (order .entry)) (now (labels .entry)) s))
+    requires { ⌜ IndicesBelow (now previous) × IndicesBelow (now next) × IndicesBelow (take (s .count) (now order)) × SixteenEach (now order) (now labels) × (s .count ≤ 15) ⌝ }
+    requires { ⌜ ReadyLast (now previous) (stateOf (now first) (now coefficients) (now order) (now labels) (now takes) s) (at (take (s .count) (now order)) (length (take (s .count) (now order)) - 1)) ⌝ }
+    ensures { λ r. ⌜ (stateOf (now (first .exit)) (now (coefficients .exit)) (now (order .exit)) (now (labels .exit)) (now (takes .exit)) r
+        ≡ leaveLast (now (previous .entry)) (now (next .entry)) (stateOf (now (first .entry)) (now (coefficients .entry)) (now (order .entry)) (now (labels .entry)) (now (takes .entry)) s))
         × SixteenEach (now (order .exit)) (now (labels .exit)) ⌝ }
 {
     let last = s.count - 1;
     let h = wide(order[last]);
-    leave_last_at(previous, first, coefficients, order, labels, s, h)
+    leave_last_at(
+        previous,
+        next,
+        first,
+        coefficients,
+        order,
+        labels,
+        takes,
+        s,
+        h,
+    )
 }
 
 // Point i leaves.
@@ -302,20 +337,21 @@ pub fn leave(
     coefficients: &mut [u16; 16],
     order: &mut [u8; 16],
     labels: &mut [u8; 16],
+    takes: &mut [u8; 16],
     s: Sets,
     i: usize,
 ) -> Sets
-    requires { ⌜ IndicesBelow (now previous) × IndicesBelow (now next) × IndicesBelow (take (s .count) (now order)) × SixteenEach (now order) (now labels) ⌝ }
-    requires { ⌜ ReadyLeave (now previous) (stateOf (now first) (now coefficients) (now order) (now labels) s) i ⌝ }
-    ensures { λ r. ⌜ (stateOf (now (first .exit)) (now (coefficients .exit)) (now (order .exit)) (now (labels .exit)) r
-        ≡ left (now (previous .entry)) (now (next .entry)) (stateOf (now (first .entry)) (now (coefficients .entry)) (now (order .entry)) (now (labels .entry)) s) i)
+    requires { ⌜ IndicesBelow (now previous) × IndicesBelow (now next) × IndicesBelow (now takes) × IndicesBelow (take (s .count) (now order)) × SixteenEach (now order) (now labels) ⌝ }
+    requires { ⌜ ReadyLeave (now previous) (stateOf (now first) (now coefficients) (now order) (now labels) (now takes) s) i ⌝ }
+    ensures { λ r. ⌜ (stateOf (now (first .exit)) (now (coefficients .exit)) (now (order .exit)) (now (labels .exit)) (now (takes .exit)) r
+        ≡ left (now (previous .entry)) (now (next .entry)) (stateOf (now (first .entry)) (now (coefficients .entry)) (now (order .entry)) (now (labels .entry)) (now (takes .entry)) s) i)
         × SixteenEach (now (order .exit)) (now (labels .exit)) ⌝ }
 {
     if i == 0 {
-        return leave_first(previous, next, first, coefficients, order, labels, s);
+        return leave_first(previous, next, first, coefficients, order, labels, takes, s);
     }
     if i < s.count {
-        return leave_middle(previous, first, order, labels, s, i);
+        return leave_middle(next, first, order, labels, takes, s, i);
     }
-    leave_last(previous, first, coefficients, order, labels, s)
+    leave_last(previous, next, first, coefficients, order, labels, takes, s)
 }

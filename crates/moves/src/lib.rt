@@ -12,6 +12,7 @@ mod walk;
 pub use moves::moved;
 pub use moves::step;
 pub use points::advance;
+pub use points::fill_takes;
 pub use points::put_points;
 pub use points::taken;
 pub use points::zeros;
@@ -36,5 +37,6 @@ pub struct Place {
     pub coefficients: [u16; 16],
     pub order: [u8; 16],
     pub labels: [u8; 16],
+    pub takes: [u8; 16],
     pub sets: Sets,
 }

@@ -1,5 +1,6 @@
 // The move from a place to the next. The place is lent: first is its first point, coefficients that point's coefficient
-// list, order the indices of T in the order in which each point goes to the next, labels a label for each point.
+// list, order the indices of T in the order in which each point goes to the next, labels a label for each point, takes the index that a step at each
+// index takes from.
 ghost use mathlib.Core.Path.{_≡_};
 ghost use Rattle.moves.specs.Ready.{IndicesBelow, SixteenEach, Ready};
 ghost use Rattle.moves.specs.Step.{stateOf, step as stepped};
@@ -20,12 +21,13 @@ pub fn step(
     coefficients: &mut [u16; 16],
     order: &mut [u8; 16],
     labels: &mut [u8; 16],
+    takes: &mut [u8; 16],
     s: Sets,
 ) -> Sets
     requires { ⌜ IndicesBelow (now previous) × IndicesBelow (now next) × SixteenEach (now order) (now labels) ⌝ }
-    requires { ⌜ Ready (now previous) (now next) (stateOf (now first) (now coefficients) (now order) (now labels) s) ⌝ }
-    ensures { λ r. ⌜ (stateOf (now (first .exit)) (now (coefficients .exit)) (now (order .exit)) (now (labels .exit)) r
-        ≡ stepped (now (previous .entry)) (now (next .entry)) (stateOf (now (first .entry)) (now (coefficients .entry)) (now (order .entry)) (now (labels .entry)) s))
+    requires { ⌜ Ready (now previous) (now next) (stateOf (now first) (now coefficients) (now order) (now labels) (now takes) s) ⌝ }
+    ensures { λ r. ⌜ (stateOf (now (first .exit)) (now (coefficients .exit)) (now (order .exit)) (now (labels .exit)) (now (takes .exit)) r
+        ≡ stepped (now (previous .entry)) (now (next .entry)) (stateOf (now (first .entry)) (now (coefficients .entry)) (now (order .entry)) (now (labels .entry)) (now (takes .entry)) s))
         × SixteenEach (now (order .exit)) (now (labels .exit)) ⌝ }
 {
     let mut i = s.turn;
@@ -33,24 +35,35 @@ pub fn step(
         let label = labels[i];
         let h = wide(label) - 1;
         if !has(s.t, h) {
-            return grow(next, order, labels, s, h);
+            return grow(next, order, labels, takes, s, h);
         }
         i = find(labels, s.count + 1, label, i);
     }
-    leave(previous, next, first, coefficients, order, labels, s, i)
+    leave(
+        previous,
+        next,
+        first,
+        coefficients,
+        order,
+        labels,
+        takes,
+        s,
+        i,
+    )
 }
 
 // The same of a place by value.
 pub fn moved(previous: &[u8; 16], next: &[u8; 16], p: Place) -> Place
     requires { ⌜ IndicesBelow (now previous) × IndicesBelow (now next) × SixteenEach (p .order) (p .labels) ⌝ }
-    requires { ⌜ Ready (now previous) (now next) (stateOf (p .first) (p .coefficients) (p .order) (p .labels) (p .sets)) ⌝ }
-    ensures { λ r. ⌜ (stateOf (r .first) (r .coefficients) (r .order) (r .labels) (r .sets)
-        ≡ stepped (now (previous .entry)) (now (next .entry)) (stateOf (p .first) (p .coefficients) (p .order) (p .labels) (p .sets))) × SixteenEach (r .order) (r .labels) ⌝ }
+    requires { ⌜ Ready (now previous) (now next) (stateOf (p .first) (p .coefficients) (p .order) (p .labels) (p .takes) (p .sets)) ⌝ }
+    ensures { λ r. ⌜ (stateOf (r .first) (r .coefficients) (r .order) (r .labels) (r .takes) (r .sets)
+        ≡ stepped (now (previous .entry)) (now (next .entry)) (stateOf (p .first) (p .coefficients) (p .order) (p .labels) (p .takes) (p .sets))) × SixteenEach (r .order) (r .labels) ⌝ }
 {
     let mut first = p.first;
     let mut coefficients = p.coefficients;
     let mut order = p.order;
     let mut labels = p.labels;
+    let mut takes = p.takes;
     let s = p.sets;
     let sets = step(
         previous,
@@ -59,6 +72,7 @@ pub fn moved(previous: &[u8; 16], next: &[u8; 16], p: Place) -> Place
         &mut coefficients,
         &mut order,
         &mut labels,
+        &mut takes,
         s,
     );
     Place {
@@ -66,6 +80,7 @@ pub fn moved(previous: &[u8; 16], next: &[u8; 16], p: Place) -> Place
         coefficients,
         order,
         labels,
+        takes,
         sets,
     }
 }

@@ -11,7 +11,7 @@ ghost use Rattle.grid.specs.Grid.{at};
 ghost use Rattle.moves.specs.Mask.{bit};
 ghost use Rattle.moves.specs.Read.{pointAfter, numbersFrom, ReadyPoint};
 ghost use Rattle.moves.specs.Ready.{IndicesBelow};
-ghost use Rattle.moves.specs.Step.{stateOf};
+ghost use Rattle.moves.specs.Step.{stateOf, firstOutside};
 use crate::Sets;
 use crate::lists::wide;
 use crate::mask::add;
@@ -48,15 +48,15 @@ pub fn zeros(y: &[u16; 16], m: usize) -> u16
     u
 }
 
-// The first i steps of the order, from the first point y.
-pub fn advance(y: &mut [u16; 16], previous: &[u8; 16], order: &[u8; 16], u: u16, i: usize)
-    requires { ⌜ IndicesBelow (now previous) × ReadyPoint (now previous) (take i (now order)) u (now y) i ⌝ }
-    ensures { λ _. ⌜ now (y .exit) ≡ pointAfter (now (previous .entry)) (take i (now (order .entry))) u (now (y .entry)) i ⌝ }
+// The first i steps of the order: on a point, or on counts of its steps.
+pub fn advance(y: &mut [u16; 16], takes: &[u8; 16], order: &[u8; 16], i: usize)
+    requires { ⌜ IndicesBelow (now takes) × ReadyPoint (now takes) (take i (now order)) (now y) i ⌝ }
+    ensures { λ _. ⌜ now (y .exit) ≡ pointAfter (now (takes .entry)) (take i (now (order .entry))) (now (y .entry)) i ⌝ }
 {
     let mut k: usize = 0;
     while k < i {
         let h = wide(order[k]);
-        let b = first_outside(previous, u, h);
+        let b = wide(takes[h]);
         shift(y, h, b);
         k += 1;
     }
@@ -78,27 +78,40 @@ fn put_row(buf: &mut [u16], position: usize, y: &[u16; 16], m: usize)
 // The points of the place from number from on, m numbers each, at the front of the buffer. The result is how many points these are.
 pub fn put_points(
     buf: &mut [u16],
-    previous: &[u8; 16],
     first: &[u16; 16],
     order: &[u8; 16],
+    takes: &[u8; 16],
     s: Sets,
     m: usize,
     from: usize,
 ) -> usize
-    requires { ⌜ IndicesBelow (now previous) × (length (now first) ≡ 16) × ReadyPoint (now previous) (take (s .count) (now order)) (s .u) (now first) (s .count) ⌝ }
+    requires { ⌜ IndicesBelow (now takes) × (length (now first) ≡ 16) × ReadyPoint (now takes) (take (s .count) (now order)) (now first) (s .count) ⌝ }
     requires { ⌜ (m ≤ 16) × (from ≤ s .count) × ((suc (s .count) - from) * m ≤ length (now buf)) ⌝ }
     ensures { λ r. ⌜ (r ≡ suc (s .count) - from)
-        × (now (buf .exit) ≡ front (numbersFrom m (now (previous .entry)) (stateOf (now (first .entry)) [] (now (order .entry)) [] s) from) (now (buf .entry))) ⌝ }
+        × (now (buf .exit) ≡ front (numbersFrom m (stateOf (now (first .entry)) [] (now (order .entry)) [] (now (takes .entry)) s) from) (now (buf .entry))) ⌝ }
 {
     let end = s.count + 1;
     let mut position: usize = 0;
     let mut i = from;
     while i < end {
         let mut z = *first;
-        advance(&mut z, previous, order, s.u, i);
+        advance(&mut z, takes, order, i);
         put_row(buf, position, &z, m);
         position += m;
         i += 1;
     }
     end - from
+}
+
+// The index that a step at each index below m takes from: the first met going back that is not in U.
+pub fn fill_takes(takes: &mut [u8; 16], previous: &[u8; 16], u: u16, m: usize)
+    requires { ⌜ (m ≤ 16) × IndicesBelow (now previous) × IndicesBelow (now takes) × (length (now takes) ≡ 16) ⌝ }
+    ensures { λ _. ⌜ ((h : ℕ) → h < m → at (now (takes .exit)) h ≡ firstOutside (now (previous .entry)) u h) × IndicesBelow (now (takes .exit)) × (length (now (takes .exit)) ≡ 16) ⌝ }
+{
+    let mut h: usize = 0;
+    while h < m {
+        let b = first_outside(previous, u, h);
+        takes[h] = b as u8;
+        h += 1;
+    }
 }

@@ -8,8 +8,7 @@ use Rattle.combinatorics.proofs.Fronts.{front-none}
 use Rattle.combinatorics.specs.Front.{front}
 use Rattle.grid.proofs.Fields.{indices-few}
 use Rattle.place.specs.Ends.{placeEnd, facetEnd}
-use Rattle.finder.proofs.Announcements.{accepted-in, finished-from, from-low, index, points-ready, room, start-long, taken-long, told, written}
-use Rattle.finder.proofs.Visits.{below}
+use Rattle.finder.proofs.Announcements.{zeros-below, accepted-in, finished-from, from-low, index, points-ready, room, start-long, taken-long, told, written}
 use Rattle.finder.proofs.answers.announced.Statement.{statement}
 use Rattle.finder.proofs.answers.announced.Tie as tie
 use Rattle.finder.proofs.answers.announced.Reads as reads
@@ -21,7 +20,7 @@ use Rattle.moves.proofs.taken.Reads as taken-reads
 
 taken-requires : tie.Need-taken-requires
 taken-requires c κs =
-    let e = c .before .before .before .before in
+    let e = c .before .before .before in
     let a = e .args in
     (omega (arith, start-long (a .g) (e .pre .0 .made) (a .start .now) (a .labels .now) (e .pre .1)), indices-few (a .g) (e .pre .0 .made))
 
@@ -29,11 +28,14 @@ walk-requires : tie.Need-walk-requires
 walk-requires c κs =
     let e = c .before .before .before .before .before .before .before in
     let a = e .args in
-    let t = c .before .before .taken in (
-      e .pre .0,
-      accepted-in (a .g) (e .pre .0 .made) (a .start .now) (a .labels .now) (e .pre .1) (t .result) (t .ensures),
-      taken-long (a .g) (e .pre .0 .made) (a .start .now) (a .labels .now) (e .pre .1) (t .result) (t .ensures),
-      refl,
+    let t = c .before .before .before .taken in (
+      (
+        e .pre .0,
+        accepted-in (a .g) (e .pre .0 .made) (a .start .now) (a .labels .now) (e .pre .1) (t .result) (t .ensures),
+        taken-long (a .g) (e .pre .0 .made) (a .start .now) (a .labels .now) (e .pre .1) (t .result) (t .ensures),
+        refl,
+      ),
+      (zeros-below 16, refl),
     )
 
 block-number-requires : tie.Need-block-number-requires
@@ -42,9 +44,9 @@ block-number-requires c κs =
     let e = k .before .before .before .before .before .before .before .before in
     let a = e .args in
     let w = k .walk in
-    let F = finished-from (a .g) (e .pre .0 .made) (a .start .now) (a .labels .now) (e .pre .1) (k .before .before .before .taken .result) (k .before .before .before .taken .ensures) (a .budget) (w .result) (w .last .1 .1 .1 .0) (w .last .1 .1 .1 .1 .0) (w .ensures) in
+    let F = finished-from (a .g) (e .pre .0 .made) (a .start .now) (a .labels .now) (e .pre .1) (k .before .before .before .before .taken .result) (k .before .before .before .before .taken .ensures) (a .budget) (w .result) (w .last .1 .1 .1 .0) (w .last .1 .1 .1 .1 .0) (w .last .1 .1 .1 .1 .1 .0) (w .ensures) in
     let A = F .place (c .if1 .taken) in
-    (e .pre .0 .made, index (a .g) (e .pre .0 .made) (a .start .now) (a .labels .now) (w .last .1 .1 .1 .0) (w .last .1 .1 .1 .1 .0) (F .orderLength) (w .result .sets) (a .budget) (w .result .places) placeEnd 0 A)
+    (e .pre .0 .made, index (a .g) (e .pre .0 .made) (a .start .now) (a .labels .now) (w .last .1 .1 .1 .0) (w .last .1 .1 .1 .1 .0) (w .last .1 .1 .1 .1 .1 .0) (F .orderLength) (w .result .sets) (a .budget) (w .result .places) placeEnd 0 A)
 
 put-points-requires : tie.Need-put-points-requires
 put-points-requires c κs =
@@ -52,10 +54,10 @@ put-points-requires c κs =
     let e = k .before .before .before .before .before .before .before .before in
     let a = e .args in
     let w = k .walk in
-    let F = finished-from (a .g) (e .pre .0 .made) (a .start .now) (a .labels .now) (e .pre .1) (k .before .before .before .taken .result) (k .before .before .before .taken .ensures) (a .budget) (w .result) (w .last .1 .1 .1 .0) (w .last .1 .1 .1 .1 .0) (w .ensures) in
+    let F = finished-from (a .g) (e .pre .0 .made) (a .start .now) (a .labels .now) (e .pre .1) (k .before .before .before .before .taken .result) (k .before .before .before .before .taken .ensures) (a .budget) (w .result) (w .last .1 .1 .1 .0) (w .last .1 .1 .1 .1 .0) (w .last .1 .1 .1 .1 .1 .0) (w .ensures) in
     let A = F .place (c .before .before .before .before .before .if1 .taken) in (
-      (below (a .g) (e .pre .0 .made) .0, F .firstLength, points-ready (a .g) (e .pre .0 .made) (a .start .now) (a .labels .now) (w .last .1 .1 .1 .0) (w .last .1 .1 .1 .1 .0) (F .orderLength) (w .result .sets) (a .budget) (w .result .places) placeEnd 0 A),
-      (indices-few (a .g) (e .pre .0 .made), from-low (a .g) (e .pre .0 .made) (a .start .now) (a .labels .now) (w .last .1 .1 .1 .0) (w .last .1 .1 .1 .1 .0) (F .orderLength) (w .result .sets) (a .budget) (w .result .places) placeEnd 0 A, room (a .g) (e .pre .0 .made) (a .start .now) (a .labels .now) (w .last .1 .1 .1 .0) (w .last .1 .1 .1 .1 .0) (F .orderLength) (w .result .sets) (a .budget) (w .result .places) placeEnd 0 A _ (e .pre .2)),
+      (A .takesBelow, F .firstLength, points-ready (a .g) (e .pre .0 .made) (a .start .now) (a .labels .now) (w .last .1 .1 .1 .0) (w .last .1 .1 .1 .1 .0) (w .last .1 .1 .1 .1 .1 .0) (F .orderLength) (w .result .sets) (a .budget) (w .result .places) placeEnd 0 A),
+      (indices-few (a .g) (e .pre .0 .made), from-low (a .g) (e .pre .0 .made) (a .start .now) (a .labels .now) (w .last .1 .1 .1 .0) (w .last .1 .1 .1 .1 .0) (w .last .1 .1 .1 .1 .1 .0) (F .orderLength) (w .result .sets) (a .budget) (w .result .places) placeEnd 0 A, room (a .g) (e .pre .0 .made) (a .start .now) (a .labels .now) (w .last .1 .1 .1 .0) (w .last .1 .1 .1 .1 .0) (w .last .1 .1 .1 .1 .1 .0) (F .orderLength) (w .result .sets) (a .budget) (w .result .places) placeEnd 0 A _ (e .pre .2)),
     )
 
 same-length : tie.Need-same-length
@@ -67,10 +69,10 @@ returns c =
     let e = k .before .before .before .before .before .before .before .before in
     let a = e .args in
     let w = k .walk in
-    let F = finished-from (a .g) (e .pre .0 .made) (a .start .now) (a .labels .now) (e .pre .1) (k .before .before .before .taken .result) (k .before .before .before .taken .ensures) (a .budget) (w .result) (w .last .1 .1 .1 .0) (w .last .1 .1 .1 .1 .0) (w .ensures) in
+    let F = finished-from (a .g) (e .pre .0 .made) (a .start .now) (a .labels .now) (e .pre .1) (k .before .before .before .before .taken .result) (k .before .before .before .before .taken .ensures) (a .budget) (w .result) (w .last .1 .1 .1 .0) (w .last .1 .1 .1 .1 .0) (w .last .1 .1 .1 .1 .1 .0) (w .ensures) in
     let A = F .place (c .before .before .before .before .before .before .before .before .if1 .taken) in
     let q = c .before .before .put-points .ensures in
-    (told (a .g) (e .pre .0 .made) (a .start .now) (a .labels .now) (w .last .1 .1 .1 .0) (w .last .1 .1 .1 .1 .0) (F .orderLength) (w .result .sets) (a .budget) (w .result .places) placeEnd 0 A _ _ (c .before .before .before .before .before .before .before .block-number .ensures) (q .0), q .1 ∙ ap (λ (l : List ℕ). front l (a .answer .now)) (written (a .g) (e .pre .0 .made) (a .start .now) (a .labels .now) (w .last .1 .1 .1 .0) (w .last .1 .1 .1 .1 .0) (F .orderLength) (w .result .sets) (a .budget) (w .result .places) placeEnd 0 A))
+    (told (a .g) (e .pre .0 .made) (a .start .now) (a .labels .now) (w .last .1 .1 .1 .0) (w .last .1 .1 .1 .1 .0) (w .last .1 .1 .1 .1 .1 .0) (F .orderLength) (w .result .sets) (a .budget) (w .result .places) placeEnd 0 A _ _ (c .before .before .before .before .before .before .before .block-number .ensures) (q .0), q .1 ∙ ap (λ (l : List ℕ). front l (a .answer .now)) (written (a .g) (e .pre .0 .made) (a .start .now) (a .labels .now) (w .last .1 .1 .1 .0) (w .last .1 .1 .1 .1 .0) (w .last .1 .1 .1 .1 .1 .0) (F .orderLength) (w .result .sets) (a .budget) (w .result .places) placeEnd 0 A))
 
 block-number-requires-2 : tie.Need-block-number-requires-2
 block-number-requires-2 c κs =
@@ -78,9 +80,9 @@ block-number-requires-2 c κs =
     let e = k .before .before .before .before .before .before .before .before in
     let a = e .args in
     let w = k .walk in
-    let F = finished-from (a .g) (e .pre .0 .made) (a .start .now) (a .labels .now) (e .pre .1) (k .before .before .before .taken .result) (k .before .before .before .taken .ensures) (a .budget) (w .result) (w .last .1 .1 .1 .0) (w .last .1 .1 .1 .1 .0) (w .ensures) in
+    let F = finished-from (a .g) (e .pre .0 .made) (a .start .now) (a .labels .now) (e .pre .1) (k .before .before .before .before .taken .result) (k .before .before .before .before .taken .ensures) (a .budget) (w .result) (w .last .1 .1 .1 .0) (w .last .1 .1 .1 .1 .0) (w .last .1 .1 .1 .1 .1 .0) (w .ensures) in
     let A = F .facet (c .if2 .taken) in
-    (e .pre .0 .made, index (a .g) (e .pre .0 .made) (a .start .now) (a .labels .now) (w .last .1 .1 .1 .0) (w .last .1 .1 .1 .1 .0) (F .orderLength) (w .result .sets) (a .budget) (w .result .places) facetEnd 1 A)
+    (e .pre .0 .made, index (a .g) (e .pre .0 .made) (a .start .now) (a .labels .now) (w .last .1 .1 .1 .0) (w .last .1 .1 .1 .1 .0) (w .last .1 .1 .1 .1 .1 .0) (F .orderLength) (w .result .sets) (a .budget) (w .result .places) facetEnd 1 A)
 
 put-points-requires-2 : tie.Need-put-points-requires-2
 put-points-requires-2 c κs =
@@ -88,10 +90,10 @@ put-points-requires-2 c κs =
     let e = k .before .before .before .before .before .before .before .before in
     let a = e .args in
     let w = k .walk in
-    let F = finished-from (a .g) (e .pre .0 .made) (a .start .now) (a .labels .now) (e .pre .1) (k .before .before .before .taken .result) (k .before .before .before .taken .ensures) (a .budget) (w .result) (w .last .1 .1 .1 .0) (w .last .1 .1 .1 .1 .0) (w .ensures) in
+    let F = finished-from (a .g) (e .pre .0 .made) (a .start .now) (a .labels .now) (e .pre .1) (k .before .before .before .before .taken .result) (k .before .before .before .before .taken .ensures) (a .budget) (w .result) (w .last .1 .1 .1 .0) (w .last .1 .1 .1 .1 .0) (w .last .1 .1 .1 .1 .1 .0) (w .ensures) in
     let A = F .facet (c .before .before .before .before .before .if2 .taken) in (
-      (below (a .g) (e .pre .0 .made) .0, F .firstLength, points-ready (a .g) (e .pre .0 .made) (a .start .now) (a .labels .now) (w .last .1 .1 .1 .0) (w .last .1 .1 .1 .1 .0) (F .orderLength) (w .result .sets) (a .budget) (w .result .places) facetEnd 1 A),
-      (indices-few (a .g) (e .pre .0 .made), from-low (a .g) (e .pre .0 .made) (a .start .now) (a .labels .now) (w .last .1 .1 .1 .0) (w .last .1 .1 .1 .1 .0) (F .orderLength) (w .result .sets) (a .budget) (w .result .places) facetEnd 1 A, room (a .g) (e .pre .0 .made) (a .start .now) (a .labels .now) (w .last .1 .1 .1 .0) (w .last .1 .1 .1 .1 .0) (F .orderLength) (w .result .sets) (a .budget) (w .result .places) facetEnd 1 A _ (e .pre .2)),
+      (A .takesBelow, F .firstLength, points-ready (a .g) (e .pre .0 .made) (a .start .now) (a .labels .now) (w .last .1 .1 .1 .0) (w .last .1 .1 .1 .1 .0) (w .last .1 .1 .1 .1 .1 .0) (F .orderLength) (w .result .sets) (a .budget) (w .result .places) facetEnd 1 A),
+      (indices-few (a .g) (e .pre .0 .made), from-low (a .g) (e .pre .0 .made) (a .start .now) (a .labels .now) (w .last .1 .1 .1 .0) (w .last .1 .1 .1 .1 .0) (w .last .1 .1 .1 .1 .1 .0) (F .orderLength) (w .result .sets) (a .budget) (w .result .places) facetEnd 1 A, room (a .g) (e .pre .0 .made) (a .start .now) (a .labels .now) (w .last .1 .1 .1 .0) (w .last .1 .1 .1 .1 .0) (w .last .1 .1 .1 .1 .1 .0) (F .orderLength) (w .result .sets) (a .budget) (w .result .places) facetEnd 1 A _ (e .pre .2)),
     )
 
 same-length-2 : tie.Need-same-length-2
@@ -103,10 +105,10 @@ returns-2 c =
     let e = k .before .before .before .before .before .before .before .before in
     let a = e .args in
     let w = k .walk in
-    let F = finished-from (a .g) (e .pre .0 .made) (a .start .now) (a .labels .now) (e .pre .1) (k .before .before .before .taken .result) (k .before .before .before .taken .ensures) (a .budget) (w .result) (w .last .1 .1 .1 .0) (w .last .1 .1 .1 .1 .0) (w .ensures) in
+    let F = finished-from (a .g) (e .pre .0 .made) (a .start .now) (a .labels .now) (e .pre .1) (k .before .before .before .before .taken .result) (k .before .before .before .before .taken .ensures) (a .budget) (w .result) (w .last .1 .1 .1 .0) (w .last .1 .1 .1 .1 .0) (w .last .1 .1 .1 .1 .1 .0) (w .ensures) in
     let A = F .facet (c .before .before .before .before .before .before .before .before .if2 .taken) in
     let q = c .before .before .put-points2 .ensures in
-    (told (a .g) (e .pre .0 .made) (a .start .now) (a .labels .now) (w .last .1 .1 .1 .0) (w .last .1 .1 .1 .1 .0) (F .orderLength) (w .result .sets) (a .budget) (w .result .places) facetEnd 1 A _ _ (c .before .before .before .before .before .before .before .block-number2 .ensures) (q .0), q .1 ∙ ap (λ (l : List ℕ). front l (a .answer .now)) (written (a .g) (e .pre .0 .made) (a .start .now) (a .labels .now) (w .last .1 .1 .1 .0) (w .last .1 .1 .1 .1 .0) (F .orderLength) (w .result .sets) (a .budget) (w .result .places) facetEnd 1 A))
+    (told (a .g) (e .pre .0 .made) (a .start .now) (a .labels .now) (w .last .1 .1 .1 .0) (w .last .1 .1 .1 .1 .0) (w .last .1 .1 .1 .1 .1 .0) (F .orderLength) (w .result .sets) (a .budget) (w .result .places) facetEnd 1 A _ _ (c .before .before .before .before .before .before .before .block-number2 .ensures) (q .0), q .1 ∙ ap (λ (l : List ℕ). front l (a .answer .now)) (written (a .g) (e .pre .0 .made) (a .start .now) (a .labels .now) (w .last .1 .1 .1 .0) (w .last .1 .1 .1 .1 .0) (w .last .1 .1 .1 .1 .1 .0) (F .orderLength) (w .result .sets) (a .budget) (w .result .places) facetEnd 1 A))
 
 returns-3 : tie.Need-returns-3
 returns-3 c =
@@ -114,7 +116,7 @@ returns-3 c =
     let e = k .before .before .before .before .before .before .before .before in
     let a = e .args in
     let w = k .walk in
-    let F = finished-from (a .g) (e .pre .0 .made) (a .start .now) (a .labels .now) (e .pre .1) (k .before .before .before .taken .result) (k .before .before .before .taken .ensures) (a .budget) (w .result) (w .last .1 .1 .1 .0) (w .last .1 .1 .1 .1 .0) (w .ensures) in
+    let F = finished-from (a .g) (e .pre .0 .made) (a .start .now) (a .labels .now) (e .pre .1) (k .before .before .before .before .taken .result) (k .before .before .before .before .taken .ensures) (a .budget) (w .result) (w .last .1 .1 .1 .0) (w .last .1 .1 .1 .1 .0) (w .last .1 .1 .1 .1 .1 .0) (w .ensures) in
     let q = F .neither (c .before .before .if1 .left) (c .if2 .left) in
     (rw (q .0, q .1), rw (q .0) (sym (front-none (a .answer .now))))
 

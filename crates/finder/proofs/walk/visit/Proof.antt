@@ -15,56 +15,56 @@ use Rattle.moves.proofs.step.Reads as step-reads
 
 step-requires : tie.Need-step-requires
 step-requires c κs =
-    let t = c .before .before .before .before .before .before in
-    let e = t .before .before .before .before .before in
-    let g = e .args .g in
-    let b = below g (e .pre .0 .0 .made) in
-    ((b .0, b .1, e .pre .0 .1), subst (Ready (g .previous) (g .next)) (read-none (tableOf g (e .args .table .now)) (g .previous) _ (t .if1 .taken)) (e .pre .1 .1))
-
-returns : tie.Need-returns
-returns c =
     let t = c .before .before .before .before .before .before .before in
     let e = t .before .before .before .before .before in
     let g = e .args .g in
-    (c .step .ensures .0 ∙ ap (step (g .previous) (g .next)) (sym (read-none (tableOf g (e .args .table .now)) (g .previous) _ (t .if1 .taken))), c .step .ensures .1)
+    let b = below g (e .pre .0 .0 .made) in
+    ((b .0, b .1, e .pre .0 .1), subst (Ready (g .previous) (g .next)) (read-none (tableOf g (e .args .table .now)) _ (t .if1 .taken)) (e .pre .1 .1))
+
+returns : tie.Need-returns
+returns c =
+    let t = c .before .before .before .before .before .before .before .before in
+    let e = t .before .before .before .before .before in
+    let g = e .args .g in
+    (c .step .ensures .0 ∙ ap (step (g .previous) (g .next)) (sym (read-none (tableOf g (e .args .table .now)) _ (t .if1 .taken))), c .step .ensures .1)
 
 label-in-requires : tie.Need-label-in-requires
 label-in-requires c κs =
-    let t = c .before .before in
+    let t = c .before .before .before in
     let e = t .before .before .before .before .before in
     (e .pre .0 .0, e .pre .1 .0 (t .if1 .left))
 
 element-write-labels : tie.Need-element-write-labels
 element-write-labels c =
-    let t = c .before .before .before in
+    let t = c .before .before .before .before in
     let e = t .before .before .before .before .before in
     let r = e .pre .1 .0 (t .if1 .left) .point in
     omega (arith, r .low, r .few)
 
 step-requires-2 : tie.Need-step-requires-2
 step-requires-2 c κs =
-    let w = c .before .before .before .before .before .before in
-    let t = w .before .before .before in
+    let w = c .before .before .before .before .before .before .before in
+    let t = w .before .before .before .before in
     let e = t .before .before .before .before .before in
     let a = e .args in
     let g = a .g in
     let b = below g (e .pre .0 .0 .made) in (
       (b .0, b .1, record { inOrder = e .pre .0 .1 .inOrder; inLabels = length-set (a .labels .now) (a .s .turn) (w .label-in .result) ∙ e .pre .0 .1 .inLabels }),
       subst (Ready (g .previous) (g .next))
-          (sym (read-some (tableOf g (a .table .now)) (g .previous) (a .first .now) (a .coefficients .now) (a .order .now) (a .labels .now) (a .s) (w .label-in .result) (t .if1 .left) (e .pre .1 .0 (t .if1 .left) .point) (w .label-in .ensures)))
+          (sym (read-some (tableOf g (a .table .now)) (a .first .now) (a .coefficients .now) (a .order .now) (a .labels .now) (a .takes .now) (a .s) (w .label-in .result) (t .if1 .left) (e .pre .1 .0 (t .if1 .left) .point) (w .label-in .ensures)))
           (e .pre .1 .1),
     )
 
 returns-2 : tie.Need-returns-2
 returns-2 c =
-    let w = c .before .before .before .before .before .before .before in
-    let t = w .before .before .before in
+    let w = c .before .before .before .before .before .before .before .before in
+    let t = w .before .before .before .before in
     let e = t .before .before .before .before .before in
     let a = e .args in
     let g = a .g in (
       c .step2 .ensures .0
           ∙ ap (step (g .previous) (g .next))
-          (read-some (tableOf g (a .table .now)) (g .previous) (a .first .now) (a .coefficients .now) (a .order .now) (a .labels .now) (a .s) (w .label-in .result) (t .if1 .left) (e .pre .1 .0 (t .if1 .left) .point) (w .label-in .ensures)),
+          (read-some (tableOf g (a .table .now)) (a .first .now) (a .coefficients .now) (a .order .now) (a .labels .now) (a .takes .now) (a .s) (w .label-in .result) (t .if1 .left) (e .pre .1 .0 (t .if1 .left) .point) (w .label-in .ensures)),
       c .step2 .ensures .1,
     )
 

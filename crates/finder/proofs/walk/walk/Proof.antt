@@ -8,7 +8,7 @@ use Rattle.moves.proofs.Follow.{At, at-first, at-spent}
 use Rattle.moves.specs.Ready.{SixteenEach}
 use Rattle.moves.specs.Step.{stateOf}
 use Rattle.finder.specs.Finish.{problemIn}
-use Rattle.finder.proofs.Visits.{begins, ends-facet, ends-place, finished-facet, finished-place, finished-spent, goes-on, reads as at-point, ready}
+use Rattle.finder.proofs.Visits.{begins, below, ends-facet, ends-place, finished-facet, finished-place, finished-spent, goes-on, reads as at-point, ready}
 use Rattle.finder.proofs.walk.walk.Statement.{statement}
 use Rattle.finder.proofs.walk.walk.Tie as tie
 use Rattle.finder.proofs.walk.walk.Reads as reads
@@ -17,69 +17,75 @@ use Rattle.finder.proofs.walk.begin.Reads as begin-reads
 use Rattle.finder.proofs.walk.visit.Reads as visit-reads
 
 abbrev Inv-loop : tie.InvT-loop
-Inv-loop g binomials table first₀ order₀ budget coefficients₀ labels₀ s₀ left₀ first order coefficients labels s left =
-    At (problemIn g first₀ table) (stateOf first coefficients order labels s) (budget - left) × (left ≤ budget) × SixteenEach order labels × (s .rule ≡ 0 → ⊥) × (s .rule ≡ 8 → ⊥)
+Inv-loop g binomials table first₀ order₀ takes₀ budget coefficients₀ labels₀ s₀ left₀ first order takes coefficients labels s left =
+    At (problemIn g first₀ table) (stateOf first coefficients order labels takes s) (budget - left) × (left ≤ budget) × SixteenEach order labels × (s .rule ≡ 0 → ⊥) × (s .rule ≡ 8 → ⊥)
 
 abbrev μ-loop : tie.MeasureT-loop
-μ-loop g binomials table first₀ order₀ budget coefficients₀ labels₀ s₀ left₀ first order coefficients labels s left = left
+μ-loop g binomials table first₀ order₀ takes₀ budget coefficients₀ labels₀ s₀ left₀ first order takes coefficients labels s left = left
 
 begin-requires : tie.Need-begin-requires Inv-loop μ-loop
-begin-requires c κs = let e = c .before .before in indices-few (e .args .g) (e .pre .0 .made)
+begin-requires c κs = let e = c .before .before .before in indices-few (e .args .g) (e .pre .0 .0 .made)
+
+fill-takes-requires : tie.Need-fill-takes-requires Inv-loop μ-loop
+fill-takes-requires c κs =
+    let e = c .before .before .before .before .before .before in
+    let g = e .args .g in
+    (indices-few g (e .pre .0 .0 .made), below g (e .pre .0 .0 .made) .0, e .pre .1 .0, e .pre .1 .1)
 
 loop-holds : tie.Need-loop-holds Inv-loop μ-loop
 loop-holds c =
-    let e = c .before .before .before in
+    let e = c .before .before .before .before .before .before .before in
     let a = e .args in
-    let r = c .begin .ensures in
+    let r = c .before .before .before .begin .ensures in
     let z : a .budget - a .budget ≡ 0 = omega arith in (
-      rw z (begins (a .g) (e .pre .0 .made) (a .first .now) (a .table .now) (e .pre .1) (e .pre .2) (a .order .now) (c .begin .result) (r .0) (r .1) (r .2) (r .3) (r .4) (r .5)),
+      rw z (begins (a .g) (e .pre .0 .0 .made) (a .first .now) (a .table .now) (e .pre .0 .1) (e .pre .0 .2) (a .order .now) (c .fill-takes .last .0) (c .before .before .before .begin .result) (r .0) (r .1) (r .2) (r .3) (r .4) (r .5) (c .fill-takes .ensures .2) (c .fill-takes .ensures .1) (c .fill-takes .ensures .0)),
       omega arith,
-      record { inOrder = e .pre .3; inLabels = refl },
+      record { inOrder = e .pre .0 .3; inLabels = refl },
       (λ q. omega (arith, r .0)),
       (λ q. omega (arith, r .0)),
     )
 
 visit-requires : tie.Need-visit-requires Inv-loop μ-loop
 visit-requires c κs =
-    let l = c .before .before .before .before .before .loop in
-    let e = c .before .before .before .before .before .before .before .before .before in
+    let l = c .before .before .before .before .before .before .loop in
+    let e = c .before .before .before .before .before .before .before .before .before .before .before .before .before .before in
     let a = e .args in
-    let s = stateOf (l .first) (l .coefficients) (l .order) (l .labels) (l .s) in
-    let r = at-point (a .g) (e .pre .0 .made) (a .first .now) (a .table .now) (e .pre .1) s s (a .budget - l .left) (l .inv .0) in
-    ((e .pre .0, l .inv .2), ((λ _. record { firstLength = at-first (e .pre .1) (l .inv .0); point = r .0; onGrid = r .1 }), ready (a .g) (e .pre .0 .made) (a .first .now) (a .table .now) (e .pre .1) s s (a .budget - l .left) (l .inv .0)))
+    let s = stateOf (l .first) (l .coefficients) (l .order) (l .labels) (l .takes) (l .s) in
+    let r = at-point (a .g) (e .pre .0 .0 .made) (a .first .now) (a .table .now) (e .pre .0 .1) s s (a .budget - l .left) (l .inv .0) in
+    ((e .pre .0 .0, l .inv .2), ((λ _. record { firstLength = at-first (e .pre .0 .1) (l .inv .0); takesBelow = r .0; point = r .1; onGrid = r .2 }), ready (a .g) (e .pre .0 .0 .made) (a .first .now) (a .table .now) (e .pre .0 .1) s s (a .budget - l .left) (l .inv .0)))
 
 sub-left : tie.Need-sub-left Inv-loop μ-loop
 sub-left c = omega arith
 
-sub-t18 : tie.Need-sub-t18 Inv-loop μ-loop
-sub-t18 c = omega (arith, c .before .before .before .before .before .before .before .before .loop .inv .1)
+sub-t24 : tie.Need-sub-t24 Inv-loop μ-loop
+sub-t24 c = omega (arith, c .before .before .before .before .before .before .before .before .before .loop .inv .1)
 
 returns : tie.Need-returns Inv-loop μ-loop
 returns c =
     let v = c .before .before .visit in
-    let l = c .before .before .before .before .before .before .before .before .loop in
-    let e = c .before .before .before .before .before .before .before .before .before .before .before .before in
+    let l = c .before .before .before .before .before .before .before .before .before .loop in
+    let e = c .before .before .before .before .before .before .before .before .before .before .before .before .before .before .before .before .before in
     let a = e .args in
-    let s = stateOf (l .first) (l .coefficients) (l .order) (l .labels) (l .s) in
-    let after = stateOf (v .last .1 .1 .1 .0) (v .last .1 .1 .1 .1 .0) (v .last .1 .1 .1 .1 .1 .0) (v .last .1 .1 .1 .1 .1 .1 .0) (v .result) in
-    finished-place (problemIn (a .g) (a .first .now) (a .table .now)) (a .g .previous) (a .budget) _ (v .last .1 .1 .1 .0) (v .last .1 .1 .1 .1 .0) (v .last .1 .1 .1 .1 .1 .0) (v .last .1 .1 .1 .1 .1 .1 .0) (a .budget - l .left)
-    (ends-place (a .g) (e .pre .0 .made) (a .first .now) (a .table .now) (e .pre .1) s after (a .budget - l .left) (l .inv .0) (v .ensures .0) (c .if1 .taken))
-    (c .if1 .taken) (omega (arith, l .inv .1, c .before .before .before .before .before .before .before .loop-test .taken)) (omega (arith, l .inv .1, c .before .before .before .before .before .before .before .loop-test .taken)) (v .ensures .1 .inOrder)
+    let s = stateOf (l .first) (l .coefficients) (l .order) (l .labels) (l .takes) (l .s) in
+    let after = stateOf (v .last .1 .1 .1 .0) (v .last .1 .1 .1 .1 .0) (v .last .1 .1 .1 .1 .1 .0) (v .last .1 .1 .1 .1 .1 .1 .0) (v .last .1 .1 .1 .1 .1 .1 .1 .0) (v .result) in
+    finished-place (problemIn (a .g) (a .first .now) (a .table .now)) (a .budget) _ (v .last .1 .1 .1 .0) (v .last .1 .1 .1 .1 .0) (v .last .1 .1 .1 .1 .1 .0) (v .last .1 .1 .1 .1 .1 .1 .0) (v .last .1 .1 .1 .1 .1 .1 .1 .0) (a .budget - l .left)
+    (ends-place (a .g) (e .pre .0 .0 .made) (a .first .now) (a .table .now) (e .pre .0 .1) s after (a .budget - l .left) (l .inv .0) (v .ensures .0) (c .if1 .taken))
+    (c .if1 .taken) (omega (arith, l .inv .1, c .before .before .before .before .before .before .before .before .loop-test .taken)) (omega (arith, l .inv .1, c .before .before .before .before .before .before .before .before .loop-test .taken)) (v .ensures .1 .inOrder)
 
-sub-t19 : tie.Need-sub-t19 Inv-loop μ-loop
-sub-t19 c = omega (arith, c .before .before .before .before .before .before .before .before .before .before .loop .inv .1)
+sub-t25 : tie.Need-sub-t25 Inv-loop μ-loop
+sub-t25 c = omega (arith, c .before .before .before .before .before .before .before .before .before .before .before .loop .inv .1)
 
 returns-2 : tie.Need-returns-2 Inv-loop μ-loop
 returns-2 c =
     let v = c .before .before .before .before .visit in
-    let l = c .before .before .before .before .before .before .before .before .before .before .loop in
-    let e = c .before .before .before .before .before .before .before .before .before .before .before .before .before .before in
+    let l = c .before .before .before .before .before .before .before .before .before .before .before .loop in
+    let e = c .before .before .before .before .before .before .before .before .before .before .before .before .before .before .before .before .before .before .before in
     let a = e .args in
-    let s = stateOf (l .first) (l .coefficients) (l .order) (l .labels) (l .s) in
-    let after = stateOf (v .last .1 .1 .1 .0) (v .last .1 .1 .1 .1 .0) (v .last .1 .1 .1 .1 .1 .0) (v .last .1 .1 .1 .1 .1 .1 .0) (v .result) in
-    finished-facet (problemIn (a .g) (a .first .now) (a .table .now)) (a .g .previous) (a .budget) _ (v .last .1 .1 .1 .0) (v .last .1 .1 .1 .1 .0) (v .last .1 .1 .1 .1 .1 .0) (v .last .1 .1 .1 .1 .1 .1 .0) (a .budget - l .left)
-    (ends-facet (a .g) (e .pre .0 .made) (a .first .now) (a .table .now) (e .pre .1) s after (a .budget - l .left) (l .inv .0) (v .ensures .0) (c .if2 .taken))
-    (c .if2 .taken) (omega (arith, l .inv .1, c .before .before .before .before .before .before .before .before .before .loop-test .taken)) (omega (arith, l .inv .1, c .before .before .before .before .before .before .before .before .before .loop-test .taken)) (v .ensures .1 .inOrder)
+    let s = stateOf (l .first) (l .coefficients) (l .order) (l .labels) (l .takes) (l .s) in
+    let after = stateOf (v .last .1 .1 .1 .0) (v .last .1 .1 .1 .1 .0) (v .last .1 .1 .1 .1 .1 .0) (v .last .1 .1 .1 .1 .1 .1 .0) (v .last .1 .1 .1 .1 .1 .1 .1 .0) (v .result) in
+    finished-facet (problemIn (a .g) (a .first .now) (a .table .now)) (a .budget) _ (v .last .1 .1 .1 .0) (v .last .1 .1 .1 .1 .0) (v .last .1 .1 .1 .1 .1 .0) (v .last .1 .1 .1 .1 .1 .1 .0) (v .last .1 .1 .1 .1 .1 .1 .1 .0) (a .budget - l .left)
+    (ends-facet (a .g) (e .pre .0 .0 .made) (a .first .now) (a .table .now) (e .pre .0 .1) s after (a .budget - l .left) (l .inv .0) (v .ensures .0) (c .if2 .taken))
+    (c .if2 .taken) (omega (arith, l .inv .1, c .before .before .before .before .before .before .before .before .before .before .loop-test .taken)) (omega (arith, l .inv .1, c .before .before .before .before .before .before .before .before .before .before .loop-test .taken)) (v .ensures .1 .inOrder)
 
 loop-less : tie.Need-loop-less Inv-loop μ-loop
 loop-less c = omega arith
@@ -87,13 +93,13 @@ loop-less c = omega arith
 loop-again : tie.Need-loop-again Inv-loop μ-loop
 loop-again c =
     let v = c .before .before .before .before .visit in
-    let l = c .before .before .before .before .before .before .before .before .before .before .loop in
-    let e = c .before .before .before .before .before .before .before .before .before .before .before .before .before .before in
+    let l = c .before .before .before .before .before .before .before .before .before .before .before .loop in
+    let e = c .before .before .before .before .before .before .before .before .before .before .before .before .before .before .before .before .before .before .before in
     let a = e .args in
-    let s = stateOf (l .first) (l .coefficients) (l .order) (l .labels) (l .s) in
-    let after = stateOf (v .last .1 .1 .1 .0) (v .last .1 .1 .1 .1 .0) (v .last .1 .1 .1 .1 .1 .0) (v .last .1 .1 .1 .1 .1 .1 .0) (v .result) in
-    let k : a .budget - (l .left - 1) ≡ suc (a .budget - l .left) = omega (arith, l .inv .1, c .before .before .before .before .before .before .before .before .before .loop-test .taken) in (
-      rw k (goes-on (a .g) (e .pre .0 .made) (a .first .now) (a .table .now) (e .pre .1) s after (a .budget - l .left) (l .inv .0) (v .ensures .0) (c .before .before .if1 .left) (c .if2 .left)),
+    let s = stateOf (l .first) (l .coefficients) (l .order) (l .labels) (l .takes) (l .s) in
+    let after = stateOf (v .last .1 .1 .1 .0) (v .last .1 .1 .1 .1 .0) (v .last .1 .1 .1 .1 .1 .0) (v .last .1 .1 .1 .1 .1 .1 .0) (v .last .1 .1 .1 .1 .1 .1 .1 .0) (v .result) in
+    let k : a .budget - (l .left - 1) ≡ suc (a .budget - l .left) = omega (arith, l .inv .1, c .before .before .before .before .before .before .before .before .before .before .loop-test .taken) in (
+      rw k (goes-on (a .g) (e .pre .0 .0 .made) (a .first .now) (a .table .now) (e .pre .0 .1) s after (a .budget - l .left) (l .inv .0) (v .ensures .0) (c .before .before .if1 .left) (c .if2 .left)),
       omega (arith, l .inv .1),
       v .ensures .1,
       c .before .before .if1 .left,
@@ -103,12 +109,12 @@ loop-again c =
 returns-3 : tie.Need-returns-3 Inv-loop μ-loop
 returns-3 c =
     let l = c .before .loop in
-    let e = c .before .before .before .before .before in
+    let e = c .before .before .before .before .before .before .before .before .before in
     let a = e .args in
     let p = problemIn (a .g) (a .first .now) (a .table .now) in
-    finished-spent p (a .g .previous) (a .budget) _ _ (l .coefficients) _ (l .labels) (l .inv .3) (l .inv .4)
-    (at-spent (e .pre .1) (l .inv .0) (a .budget) (omega arith)) refl
-    (at-first (e .pre .1) (l .inv .0)) (l .inv .2 .inOrder)
+    finished-spent p (a .budget) _ _ (l .coefficients) _ (l .labels) _ (l .inv .3) (l .inv .4)
+    (at-spent (e .pre .0 .1) (l .inv .0) (a .budget) (omega arith)) refl
+    (at-first (e .pre .0 .1) (l .inv .0)) (l .inv .2 .inOrder)
 
 pub walk-spec : {M : Type 1} → statement M
 walk-spec =
@@ -117,12 +123,13 @@ walk-spec =
     Inv-loop
     μ-loop
     begin-requires
+    fill-takes-requires
     loop-holds
     visit-requires
     sub-left
-    sub-t18
+    sub-t24
     returns
-    sub-t19
+    sub-t25
     returns-2
     loop-less
     loop-again

@@ -43,7 +43,7 @@ returns c =
     let labels : take (suc (n + 1)) (c .before .before .insert2 .last .0) ≡ insertAt (suc (a .i)) 0 (take (suc n) (a .labels .now)) =
     rw (← add-one (n + 1), ← add-one (a .i), ← add-one n) (c .before .before .insert2 .ensures .0)
     in (
-      λ first coefficients. same-state (a .rule) 0 refl refl (c .before .before .before .before .insert .ensures .0) labels (c .before .add .ensures) (c .without .ensures) (add-one (a .i)),
+      λ first coefficients takes taking. same-state (a .rule) 0 refl refl (c .before .before .before .before .insert .ensures .0) labels refl (c .before .add .ensures) (c .without .ensures) (add-one (a .i)),
       record { inOrder = c .before .before .before .before .insert .ensures .1; inLabels = c .before .before .insert2 .ensures .1 },
     )
 

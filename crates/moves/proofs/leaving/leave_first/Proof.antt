@@ -3,7 +3,7 @@ use Prim.Native.Nat.{_<_}
 use borrow.Author.Needs.{needs}
 use lib.Seq.{length-take-le}
 use native.Mathlib.Omega.{arith}
-use Rattle.moves.proofs.FirstMet.{entry, entry-below}
+use Rattle.moves.proofs.FirstMet.{below, entry, entry-below}
 use Rattle.moves.proofs.leaving.leave_first.Statement.{statement}
 use Rattle.moves.proofs.leaving.leave_first.Tie as tie
 
@@ -13,23 +13,26 @@ element-copy-out-wide c = search needs
 wide-requires : tie.Need-wide-requires
 wide-requires c κs = search needs
 
-first-outside-requires : tie.Need-first-outside-requires
-first-outside-requires c κs =
+element-copy-out-wide-2 : tie.Need-element-copy-out-wide-2
+element-copy-out-wide-2 c =
     let s = c .before .before in
     let a = s .args in
     let long = length-take-le (a .s .count) (a .order .now) (omega arith) in
     let some : 0 < a .s .count = omega (arith, s .pre .1 .some) in
-    (rw (c .wide .ensures) (entry-below (a .order .now) (a .s .count) 0 some (s .pre .0 .2)), search needs)
+    rw (c .wide .ensures) (entry-below (a .order .now) (a .s .count) 0 some (s .pre .0 .3))
+
+wide-requires-2 : tie.Need-wide-requires-2
+wide-requires-2 c κs = search needs
 
 leave-first-at-requires : tie.Need-leave-first-at-requires
 leave-first-at-requires c κs =
-    let s = c .before .before .before .before .before .before .before in
+    let s = c .before .before .before .before .before .before .before .before .before in
     let a = s .args in
     let long = length-take-le (a .s .count) (a .order .now) (omega arith) in
     let some : 0 < a .s .count = omega (arith, s .pre .1 .some) in
-    let low : c .before .before .before .before .before .wide .result < 16 = rw (c .before .before .before .before .before .wide .ensures) (entry-below (a .order .now) (a .s .count) 0 some (s .pre .0 .2)) in
-    let atH = entry (a .order .now) (a .s .count) 0 (c .before .before .before .before .before .wide .result) some (c .before .before .before .before .before .wide .ensures) in
-    ((s .pre .0 .0, s .pre .0 .1, s .pre .0 .3, some, s .pre .0 .4), ((low, c .before .before .before .before .first-outside .ensures .1, atH, c .before .before .before .before .first-outside .ensures .0), s .pre .1))
+    let low : c .before .before .before .before .before .before .before .wide .result < 16 = rw (c .before .before .before .before .before .before .before .wide .ensures) (entry-below (a .order .now) (a .s .count) 0 some (s .pre .0 .3)) in
+    let atH = entry (a .order .now) (a .s .count) 0 (c .before .before .before .before .before .before .before .wide .result) some (c .before .before .before .before .before .before .before .wide .ensures) in
+    ((s .pre .0 .0, s .pre .0 .1, s .pre .0 .4, some, s .pre .0 .5), ((low, rw (c .before .before .before .before .before .wide2 .ensures) (below (a .takes .now) (s .pre .0 .2) _), atH, c .before .before .before .before .before .wide2 .ensures), s .pre .1))
 
 returns : tie.Need-returns
 returns c = search needs
@@ -40,6 +43,7 @@ leave-first-spec =
     (tie.spec
     element-copy-out-wide
     wide-requires
-    first-outside-requires
+    element-copy-out-wide-2
+    wide-requires-2
     leave-first-at-requires
     returns)

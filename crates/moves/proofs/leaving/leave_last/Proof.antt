@@ -25,15 +25,15 @@ wide-requires c κs = search needs
 
 leave-last-at-requires : tie.Need-leave-last-at-requires
 leave-last-at-requires c κs =
-    let s = c .before .before .before .before .before .before .before in
+    let s = c .before .before .before .before .before .before .before .before in
     let a = s .args in
     let long = length-take-le (a .s .count) (a .order .now) (omega arith) in
     let some : 0 < a .s .count = omega (arith, s .pre .1 .some) in
-    let h = c .before .before .before .before .wide .result in
-    let low : h < 16 = rw (c .before .before .before .before .wide .ensures) (entry-below (a .order .now) (a .s .count) (a .s .count - 1) (omega arith) (s .pre .0 .1)) in
-    let atH = entry (a .order .now) (a .s .count) (a .s .count - 1) h (omega arith) (c .before .before .before .before .wide .ensures) in
+    let h = c .before .before .before .before .before .wide .result in
+    let low : h < 16 = rw (c .before .before .before .before .before .wide .ensures) (entry-below (a .order .now) (a .s .count) (a .s .count - 1) (omega arith) (s .pre .0 .2)) in
+    let atH = entry (a .order .now) (a .s .count) (a .s .count - 1) h (omega arith) (c .before .before .before .before .before .wide .ensures) in
     let atLast : h ≡ at (take (a .s .count) (a .order .now)) (length (take (a .s .count) (a .order .now)) - 1) = rw long atH in
-    ((s .pre .0 .0, s .pre .0 .1, s .pre .0 .2, some, s .pre .0 .3), ((low, atH), rw atLast (s .pre .1)))
+    ((s .pre .0 .0, s .pre .0 .1, s .pre .0 .2, s .pre .0 .3, some, s .pre .0 .4), ((low, atH), rw atLast (s .pre .1)))
 
 returns : tie.Need-returns
 returns c = search needs

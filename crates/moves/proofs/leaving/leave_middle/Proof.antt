@@ -1,7 +1,7 @@
 -- `leaving::leave_middle` meets its contract: rule 6 or rule 1. Assumes nothing.
 use mathlib.Core.Logic.{⊎-elim}
 use mathlib.Core.Path.{_≡_, refl, _∙_}
-use Prim.Native.Nat.{_-_}
+use Prim.Native.Nat.{_-_, _<_}
 use borrow.Author.Needs.{needs}
 use lib.ListN.{take}
 use native.Mathlib.Omega.{arith}
@@ -10,7 +10,7 @@ use Rattle.combinatorics.specs.Edits.{swapAt}
 use Rattle.grid.specs.Grid.{at}
 use Rattle.moves.specs.Step.{stateOf}
 use Rattle.moves.proofs.Cases.{same-state, middle-to-U, steps-exchanged}
-use Rattle.moves.proofs.FirstMet.{entry, entry-below}
+use Rattle.moves.proofs.FirstMet.{below, entry, entry-below}
 use Rattle.moves.proofs.leaving.leave_middle.Statement.{statement}
 use Rattle.moves.proofs.leaving.leave_middle.Tie as tie
 
@@ -29,14 +29,21 @@ element-copy-out-wide-2 c = search needs
 wide-requires-2 : tie.Need-wide-requires-2
 wide-requires-2 c κs = search needs
 
-first-outside-requires : tie.Need-first-outside-requires
-first-outside-requires c κs = let s = c .before .before .before .before in (rw (c .before .before .wide .ensures) (entry-below (s .args .order .now) (s .args .s .count) (s .args .i) (s .pre .5) (s .pre .1)), s .pre .0)
+element-copy-out-wide-3 : tie.Need-element-copy-out-wide-3
+element-copy-out-wide-3 c = let s = c .before .before .before .before in rw (c .before .before .wide .ensures) (entry-below (s .args .order .now) (s .args .s .count) (s .args .i) (s .pre .6) (s .pre .2))
+
+wide-requires-3 : tie.Need-wide-requires-3
+wide-requires-3 c κs = search needs
+
+-- the index that the step takes from is one of the array's
+taken-low : (c : tie.Then1) → c .before .wide3 .result < 16
+taken-low c = rw (c .before .wide3 .ensures) (below (c .before .before .before .before .before .before .before .args .takes .now) (c .before .before .before .before .before .before .before .pre .1) _)
 
 mul-if2 : tie.Need-mul-if2
-mul-if2 c = search needs
+mul-if2 c = omega (arith, taken-low c)
 
 element-copy-out-if2 : tie.Need-element-copy-out-if2
-element-copy-out-if2 c = search needs
+element-copy-out-if2 c = taken-low c
 
 sub-shrink : tie.Need-sub-shrink
 sub-shrink c = search needs
@@ -46,16 +53,16 @@ shrink-requires c κs = search needs
 
 returns : tie.Need-returns
 returns c =
-    let s = c .before .before .before .before .before .before .before .before .before .before .before in
+    let s = c .before .before .before .before .before .before .before .before .before .before .before .before .before in
     let a = s .args in
-    let h = c .before .before .before .before .before .before .before .before .before .wide .result in
-    let w = c .before .before .before .before .before .before .before .wide2 .result in
-    let b = c .before .before .before .before .before .before .first-outside .result in
-    let atH = entry (a .order .now) (a .s .count) (a .i) h (s .pre .5) (c .before .before .before .before .before .before .before .before .before .wide .ensures) in
-    let atW = entry (a .order .now) (a .s .count) (a .i - 1) w (omega arith) (c .before .before .before .before .before .before .before .wide2 .ensures) in
-    let atB = c .before .before .before .before .before .before .first-outside .ensures .0 in (
+    let h = c .before .before .before .before .before .before .before .before .before .before .before .wide .result in
+    let w = c .before .before .before .before .before .before .before .before .before .wide2 .result in
+    let b = c .before .before .before .before .before .before .before .wide3 .result in
+    let atH = entry (a .order .now) (a .s .count) (a .i) h (s .pre .6) (c .before .before .before .before .before .before .before .before .before .before .before .wide .ensures) in
+    let atW = entry (a .order .now) (a .s .count) (a .i - 1) w (omega arith) (c .before .before .before .before .before .before .before .before .before .wide2 .ensures) in
+    let atB = c .before .before .before .before .before .before .before .wide3 .ensures in (
       λ coefficients. c .shrink .ensures .0 (a .first .now) coefficients
-          ∙ middle-to-U (a .previous .now) (stateOf (a .first .now) coefficients (a .order .now) (a .labels .now) (a .s)) (a .i) h w b atH atW atB (c .before .before .before .before .before .if1 .taken) (c .before .before .before .if2 .taken),
+          ∙ middle-to-U (a .next .now) (stateOf (a .first .now) coefficients (a .order .now) (a .labels .now) (a .takes .now) (a .s)) (a .i) h w b atH atW atB (c .before .before .before .before .before .before .if1 .taken) (c .before .before .before .before .if2 .taken),
       c .shrink .ensures .1,
     )
 
@@ -67,21 +74,21 @@ exchange-requires c κs = search needs
 
 returns-2 : tie.Need-returns-2
 returns-2 c =
-    let s = c .before .before .before .before .before .before .before .before in
+    let s = c .before .before .before .before .before .before .before .before .before in
     let a = s .args in
-    let h = c .before .before .before .before .before .before .wide .result in
-    let w = c .before .before .before .before .wide2 .result in
-    let b = c .before .before .before .first-outside .result in
-    let atH = entry (a .order .now) (a .s .count) (a .i) h (s .pre .5) (c .before .before .before .before .before .before .wide .ensures) in
-    let atW = entry (a .order .now) (a .s .count) (a .i - 1) w (omega arith) (c .before .before .before .before .wide2 .ensures) in
-    let atB = c .before .before .before .first-outside .ensures .0 in
+    let h = c .before .before .before .before .before .before .before .wide .result in
+    let w = c .before .before .before .before .before .wide2 .result in
+    let b = c .before .before .before .wide3 .result in
+    let atH = entry (a .order .now) (a .s .count) (a .i) h (s .pre .6) (c .before .before .before .before .before .before .before .wide .ensures) in
+    let atW = entry (a .order .now) (a .s .count) (a .i - 1) w (omega arith) (c .before .before .before .before .before .wide2 .ensures) in
+    let atB = c .before .before .before .wide3 .ensures in
     let stays : (w ≡ b → at (a .first .now) b ≡ 0 → ⊥) = ⊎-elim (λ t _. t .2 .left) (λ t e _. t .left e) (c .before .before .if1 .came) in
     let order : take (a .s .count) (c .exchange .last .0) ≡ swapAt (a .i - 1) (take (a .s .count) (a .order .now)) =
     rw (c .exchange .ensures .0) (take-swap (a .s .count) (a .i - 1) (a .order .now) (omega arith))
     in (
-      λ coefficients. same-state 1 0 refl refl order refl refl refl refl
-          ∙ steps-exchanged (a .previous .now) (stateOf (a .first .now) coefficients (a .order .now) (a .labels .now) (a .s)) (a .i) h w b atH atW atB stays,
-      record { inOrder = c .exchange .ensures .1; inLabels = s .pre .2 .inLabels },
+      λ coefficients. same-state 1 0 refl refl order refl refl refl refl refl
+          ∙ steps-exchanged (a .next .now) (stateOf (a .first .now) coefficients (a .order .now) (a .labels .now) (a .takes .now) (a .s)) (a .i) h w b atH atW atB stays,
+      record { inOrder = c .exchange .ensures .1; inLabels = s .pre .3 .inLabels },
     )
 
 pub leave-middle-spec : {M : Type 1} → statement M
@@ -93,7 +100,8 @@ leave-middle-spec =
     sub-wide
     element-copy-out-wide-2
     wide-requires-2
-    first-outside-requires
+    element-copy-out-wide-3
+    wide-requires-3
     mul-if2
     element-copy-out-if2
     sub-shrink

@@ -35,29 +35,39 @@ without-requires c κs =
     let s = c .before .before .before .before .before .before .before .before in
     rw (c .before .before .before .before .before .before .wide .ensures) (entry-below (s .args .order .now) (s .args .s .count) (s .args .e) (s .pre .0) (s .pre .4))
 
-sub-t21 : tie.Need-sub-t21
-sub-t21 c = search needs
-
-add-requires : tie.Need-add-requires
-add-requires c κs =
+element-copy-out-past : tie.Need-element-copy-out-past
+element-copy-out-past c =
     let s = c .before .before .before .before .before .before .before .before .before .before in
     rw (c .before .before .before .before .before .before .before .before .wide .ensures) (entry-below (s .args .order .now) (s .args .s .count) (s .args .e) (s .pre .0) (s .pre .4))
 
+take-from-requires : tie.Need-take-from-requires
+take-from-requires c κs =
+    let s = c .before .before .before .before .before .before .before .before .before .before .before .before in
+    (rw (c .before .before .before .before .before .before .before .before .before .before .wide .ensures) (entry-below (s .args .order .now) (s .args .s .count) (s .args .e) (s .pre .0) (s .pre .4)), s .pre .5)
+
+sub-t29 : tie.Need-sub-t29
+sub-t29 c = search needs
+
+add-requires : tie.Need-add-requires
+add-requires c κs =
+    let s = c .before .before .before .before .before .before .before .before .before .before .before .before .before in
+    rw (c .before .before .before .before .before .before .before .before .before .before .before .wide .ensures) (entry-below (s .args .order .now) (s .args .s .count) (s .args .e) (s .pre .0) (s .pre .4))
+
 returns : tie.Need-returns
 returns c =
-    let s = c .before .before .before .before .before .before .before .before .before .before .before in
+    let s = c .before .before .before .before .before .before .before .before .before .before .before .before .before .before in
     let a = s .args in
-    let order' = c .before .before .before .before .before .before .before .remove in
-    let labels' = c .before .before .before .before .before .remove2 in (
-      λ first coefficients. shrinks first coefficients (a .order .now) (a .labels .now) (order' .last .0) (labels' .last .0) (a .s) (a .i) (a .e) (s .pre .0)
-          (c .before .before .before .before .before .before .before .before .before .wide .result) true
-          (c .before .before .before .before .before .before .before .before .before .wide .ensures) (order' .ensures .0) (labels' .ensures .0) (c .before .before .before .find .ensures)
-          (c .before .before .without .ensures) (c .add .ensures) ∙ ap (λ (b : Bool). shrink (stateOf first coefficients (a .order .now) (a .labels .now) (a .s)) (a .i) (a .e) b) (sym (c .before .if1 .taken)),
+    let order' = c .before .before .before .before .before .before .before .before .before .before .remove in
+    let labels' = c .before .before .before .before .before .before .before .before .remove2 in (
+      λ first coefficients. shrinks (a .next .now) first coefficients (a .order .now) (a .labels .now) (a .takes .now) (order' .last .0) (labels' .last .0) _ (a .s) (a .i) (a .e) (s .pre .0)
+          (c .before .before .before .before .before .before .before .before .before .before .before .before .wide .result) true
+          (c .before .before .before .before .before .before .before .before .before .before .before .before .wide .ensures) (order' .ensures .0) (labels' .ensures .0) (c .before .before .before .before .before .before .find .ensures) (c .before .take-from .ensures)
+          (c .before .before .before .before .before .without .ensures) (c .add .ensures) ∙ ap (λ (b : Bool). shrink (a .next .now) (stateOf first coefficients (a .order .now) (a .labels .now) (a .takes .now) (a .s)) (a .i) (a .e) b) (sym (c .before .before .before .before .if1 .taken)),
       record { inOrder = order' .ensures .1; inLabels = labels' .ensures .1 },
     )
 
-sub-t18 : tie.Need-sub-t18
-sub-t18 c = search needs
+sub-t21 : tie.Need-sub-t21
+sub-t21 c = search needs
 
 returns-2 : tie.Need-returns-2
 returns-2 c =
@@ -65,10 +75,10 @@ returns-2 c =
     let a = s .args in
     let order' = c .before .before .before .before .before .before .remove in
     let labels' = c .before .before .before .before .remove2 in (
-      λ first coefficients. shrinks first coefficients (a .order .now) (a .labels .now) (order' .last .0) (labels' .last .0) (a .s) (a .i) (a .e) (s .pre .0)
+      λ first coefficients. shrinks (a .next .now) first coefficients (a .order .now) (a .labels .now) (a .takes .now) (order' .last .0) (labels' .last .0) _ (a .s) (a .i) (a .e) (s .pre .0)
           (c .before .before .before .before .before .before .before .before .wide .result) false
-          (c .before .before .before .before .before .before .before .before .wide .ensures) (order' .ensures .0) (labels' .ensures .0) (c .before .before .find .ensures)
-          (c .before .without .ensures) refl ∙ ap (λ (b : Bool). shrink (stateOf first coefficients (a .order .now) (a .labels .now) (a .s)) (a .i) (a .e) b) (sym (c .if1 .left)),
+          (c .before .before .before .before .before .before .before .before .wide .ensures) (order' .ensures .0) (labels' .ensures .0) (c .before .before .find .ensures) refl
+          (c .before .without .ensures) refl ∙ ap (λ (b : Bool). shrink (a .next .now) (stateOf first coefficients (a .order .now) (a .labels .now) (a .takes .now) (a .s)) (a .i) (a .e) b) (sym (c .if1 .left)),
       record { inOrder = order' .ensures .1; inLabels = labels' .ensures .1 },
     )
 
@@ -84,8 +94,10 @@ shrink-spec =
     add-find
     find-requires
     without-requires
-    sub-t21
+    element-copy-out-past
+    take-from-requires
+    sub-t29
     add-requires
     returns
-    sub-t18
+    sub-t21
     returns-2)

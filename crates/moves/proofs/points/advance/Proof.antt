@@ -4,19 +4,19 @@ use Prim.Native.Nat.{_-_, _≤_}
 use borrow.Author.Needs.{needs}
 use native.Mathlib.Omega.{arith}
 use Rattle.moves.specs.Read.{pointAfter}
-use Rattle.moves.proofs.FirstMet.{entry-below}
+use Rattle.moves.proofs.FirstMet.{below, entry-below}
 use Rattle.moves.proofs.PointsAfter.{after-none, after-one-more, after-taken, step-ready}
 use Rattle.moves.proofs.points.advance.Statement.{statement}
 use Rattle.moves.proofs.points.advance.Tie as tie
 
 abbrev Inv-loop : tie.InvT-loop
-Inv-loop y₀ previous order u i k₀ y k = (y ≡ pointAfter previous order u y₀ k) × (k ≤ i)
+Inv-loop y₀ takes order i k₀ y k = (y ≡ pointAfter takes order y₀ k) × (k ≤ i)
 
 abbrev μ-loop : tie.MeasureT-loop
-μ-loop y₀ previous order u i k₀ y k = i - k
+μ-loop y₀ takes order i k₀ y k = i - k
 
 loop-holds : tie.Need-loop-holds Inv-loop μ-loop
-loop-holds c = let a = c .args in (after-none (a .previous .now) (a .order .now) (a .u) (a .y .now), omega arith)
+loop-holds c = let a = c .args in (after-none (a .takes .now) (a .order .now) (a .y .now), omega arith)
 
 element-copy-out-wide : tie.Need-element-copy-out-wide Inv-loop μ-loop
 element-copy-out-wide c = omega (arith, c .before .before .pre .1 .low, c .before .before .pre .1 .few)
@@ -24,23 +24,25 @@ element-copy-out-wide c = omega (arith, c .before .before .pre .1 .low, c .befor
 wide-requires : tie.Need-wide-requires Inv-loop μ-loop
 wide-requires c κs = search needs
 
-first-outside-requires : tie.Need-first-outside-requires Inv-loop μ-loop
-first-outside-requires c κs =
+element-copy-out-wide-2 : tie.Need-element-copy-out-wide-2 Inv-loop μ-loop
+element-copy-out-wide-2 c =
     let s = c .before .before .before .before in
     let a = s .args in
-    let k = c .before .before .before .loop .k in
-    (rw (c .wide .ensures) (entry-below (a .order .now) (a .i) k (omega arith) (s .pre .1 .indices)), s .pre .0)
+    rw (c .wide .ensures) (entry-below (a .order .now) (a .i) (c .before .before .before .loop .k) (omega arith) (s .pre .1 .indices))
+
+wide-requires-2 : tie.Need-wide-requires-2 Inv-loop μ-loop
+wide-requires-2 c κs = search needs
 
 shift-requires : tie.Need-shift-requires Inv-loop μ-loop
 shift-requires c κs =
-    let s = c .before .before .before .before .before .before in
+    let s = c .before .before .before .before .before .before .before in
     let a = s .args in
-    let l = c .before .before .before .before .before .loop in
+    let l = c .before .before .before .before .before .before .loop in
     let ready =
-    step-ready (a .previous .now) (a .order .now) (a .u) (a .y .now) (a .i) (a .i) (l .k) (c .before .before .wide .result) (c .before .first-outside .result) (l .y)
-    (c .before .before .before .before .loop-test .taken) (omega arith) (s .pre .1) (l .inv .0) (c .before .before .wide .ensures) (c .before .first-outside .ensures .0)
+    step-ready (a .takes .now) (a .order .now) (a .y .now) (a .i) (a .i) (l .k) (c .before .before .before .wide .result) (c .before .wide2 .result) (l .y)
+    (c .before .before .before .before .before .loop-test .taken) (omega arith) (s .pre .1) (l .inv .0) (c .before .before .before .wide .ensures) (c .before .wide2 .ensures)
     in
-    (rw (c .before .before .wide .ensures) (entry-below (a .order .now) (a .i) (l .k) (omega arith) (s .pre .1 .indices)), c .before .first-outside .ensures .1, ready .0, ready .1)
+    (rw (c .before .before .before .wide .ensures) (entry-below (a .order .now) (a .i) (l .k) (omega arith) (s .pre .1 .indices)), rw (c .before .wide2 .ensures) (below (a .takes .now) (s .pre .0) _), ready .0, ready .1)
 
 add-k : tie.Need-add-k Inv-loop μ-loop
 add-k c = omega arith
@@ -50,9 +52,9 @@ loop-less c = omega arith
 
 loop-again : tie.Need-loop-again Inv-loop μ-loop
 loop-again c =
-    let a = c .before .before .before .before .before .before .before .args in
-    let l = c .before .before .before .before .before .before .loop in
-    let on = after-one-more (a .previous .now) (a .order .now) (a .u) (a .y .now) (l .k) (c .before .before .before .wide .result) (c .before .before .first-outside .result) (c .before .before .before .wide .ensures) (c .before .before .first-outside .ensures .0) in
+    let a = c .before .before .before .before .before .before .before .before .args in
+    let l = c .before .before .before .before .before .before .before .loop in
+    let on = after-one-more (a .takes .now) (a .order .now) (a .y .now) (l .k) (c .before .before .before .before .wide .result) (c .before .before .wide2 .result) (c .before .before .before .before .wide .ensures) (c .before .before .wide2 .ensures) in
     (c .shift .ensures ∙ rw (l .inv .0) on, omega arith)
 
 returns : tie.Need-returns Inv-loop μ-loop
@@ -60,7 +62,7 @@ returns c =
     let a = c .before .before .args in
     let l = c .before .loop in
     let all-i : l .k ≡ a .i = omega arith in
-    l .inv .0 ∙ rw all-i (after-taken (a .previous .now) (a .order .now) (a .u) (a .y .now) (a .i) (a .i) (omega arith))
+    l .inv .0 ∙ rw all-i (after-taken (a .takes .now) (a .order .now) (a .y .now) (a .i) (a .i) (omega arith))
 
 pub advance-spec : {M : Type 1} → statement M
 advance-spec =
@@ -71,7 +73,8 @@ advance-spec =
     loop-holds
     element-copy-out-wide
     wide-requires
-    first-outside-requires
+    element-copy-out-wide-2
+    wide-requires-2
     shift-requires
     add-k
     loop-less

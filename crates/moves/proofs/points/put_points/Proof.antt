@@ -10,21 +10,20 @@ use Rattle.combinatorics.proofs.EditsOfArrays.{first-few}
 use Rattle.combinatorics.proofs.Fronts.{front-none}
 use Rattle.combinatorics.specs.Front.{front}
 use Rattle.moves.specs.Read.{pointAfter}
-use Rattle.moves.specs.declared.Sets.{Sets}
-use Rattle.moves.proofs.PointsAfter.{after-few, few-ready, length-after, earlier-ready, inRow, room, next-position, row-put}
+use Rattle.moves.proofs.PointsAfter.{after-taken, few-ready, length-after, earlier-ready, inRow, same-rows, room, next-position, row-put}
 use Rattle.moves.proofs.points.put_points.Statement.{statement}
 use Rattle.moves.proofs.points.put_points.Tie as tie
 
 -- the first m numbers of point j
-abbrev row : List ℕ → List ℕ → List ℕ → Sets → ℕ → ℕ → List ℕ
-row previous first order s m j = take m (pointAfter previous (take (s .count) order) (s .u) first j)
+abbrev row : List ℕ → List ℕ → List ℕ → ℕ → ℕ → List ℕ
+row first order takes m j = take m (pointAfter takes order first j)
 
 abbrev Inv-loop : tie.InvT-loop
-Inv-loop buf₀ previous first order s m from end position₀ i₀ buf position i =
-    (buf ≡ front (inRow (row previous first order s m) from (i - from)) buf₀) × (position ≡ (i - from) * m) × (from ≤ i) × (i ≤ end) × (length buf ≡ length buf₀)
+Inv-loop buf₀ first order takes m from end position₀ i₀ buf position i =
+    (buf ≡ front (inRow (row first order takes m) from (i - from)) buf₀) × (position ≡ (i - from) * m) × (from ≤ i) × (i ≤ end) × (length buf ≡ length buf₀)
 
 abbrev μ-loop : tie.MeasureT-loop
-μ-loop buf₀ previous first order s m from end position₀ i₀ buf position i = end - i
+μ-loop buf₀ first order takes m from end position₀ i₀ buf position i = end - i
 
 add-end : tie.Need-add-end Inv-loop μ-loop
 add-end c = let a = c .before .before .args in omega (arith, c .before .before .pre .0 .2 .few, c .before .before .pre .0 .2 .low, first-few (a .s .count) (a .order .now))
@@ -41,18 +40,16 @@ advance-requires c κs =
     let a = s .args in
     let l = c .before .before .before .loop in
     let low : l .i ≤ a .s .count = omega (arith, c .before .before .loop-test .taken) in
-    let ready = earlier-ready (a .previous .now) (take (a .s .count) (a .order .now)) (a .s .u) (a .first .now) (l .i) (a .s .count) low (s .pre .0 .2) in
-    (s .pre .0 .0, few-ready (a .previous .now) (a .order .now) (a .s .u) (a .first .now) (a .s .count) (l .i) low ready)
+    let ready = earlier-ready (a .takes .now) (take (a .s .count) (a .order .now)) (a .first .now) (l .i) (a .s .count) low (s .pre .0 .2) in
+    (s .pre .0 .0, few-ready (a .takes .now) (a .order .now) (a .first .now) (a .s .count) (l .i) low ready)
 
 put-row-requires : tie.Need-put-row-requires Inv-loop μ-loop
 put-row-requires c κs =
     let s = c .before .before .before .before .before .before .before .before .before in
     let a = s .args in
     let l = c .before .before .before .before .before .before .loop in
-    let points = pointAfter (a .previous .now) (take (a .s .count) (a .order .now)) (a .s .u) (a .first .now) in
-    let long = length-after (a .previous .now) (take (a .s .count) (a .order .now)) (a .s .u) (a .first .now) in
     let fits = room (l .i - a .from) (suc (a .s .count) - a .from) (a .m) (length (a .buf .now)) (omega arith) (s .pre .1 .2) in
-    (omega arith, omega arith, rw (c .before .before .advance .ensures) (length-after (a .previous .now) (take (l .i) (a .order .now)) (a .s .u) (a .first .now) (l .i) ∙ s .pre .0 .1))
+    (omega arith, omega arith, rw (c .before .before .advance .ensures) (length-after (a .takes .now) (take (l .i) (a .order .now)) (a .first .now) (l .i) ∙ s .pre .0 .1))
 
 add-position : tie.Need-add-position Inv-loop μ-loop
 add-position c =
@@ -73,13 +70,13 @@ loop-again c =
     let s = c .before .before .before .before .before .before .before .before .before .before .before .before in
     let a = s .args in
     let l = c .before .before .before .before .before .before .before .before .before .loop in
-    let points = pointAfter (a .previous .now) (take (a .s .count) (a .order .now)) (a .s .u) (a .first .now) in
-    let long = length-after (a .previous .now) (take (a .s .count) (a .order .now)) (a .s .u) (a .first .now) in
+    let points = pointAfter (a .takes .now) (a .order .now) (a .first .now) in
+    let long = length-after (a .takes .now) (a .order .now) (a .first .now) in
     let fits = room (l .i - a .from) (suc (a .s .count) - a .from) (a .m) (length (a .buf .now)) (omega arith) (s .pre .1 .2) in
     let short : a .m ≤ length (points (l .i)) = rw (long (l .i)) (omega arith) in
-    let point = c .before .before .before .before .before .advance .ensures ∙ after-few (a .previous .now) (a .order .now) (a .s .u) (a .first .now) (a .s .count) (l .i) (omega (arith, c .before .before .before .before .before .before .before .before .loop-test .taken)) in
+    let point = c .before .before .before .before .before .advance .ensures ∙ sym (after-taken (a .takes .now) (a .order .now) (a .first .now) (l .i) (l .i) (omega arith)) in
     let put =
-    row-put (row (a .previous .now) (a .first .now) (a .order .now) (a .s) (a .m)) (a .m) (a .from)
+    row-put (row (a .first .now) (a .order .now) (a .takes .now) (a .m)) (a .m) (a .from)
     (λ j. length-take-le (a .m) (points j) (rw (long j) (omega arith))) (l .i) (l .position) (l .buf) (a .buf .now) (points (l .i))
     (omega arith) (l .inv .0) (l .inv .1) fits short refl
     in
@@ -98,7 +95,9 @@ returns c =
     let l = c .before .loop in
     let n : length (take (a .s .count) (a .order .now)) ≡ a .s .count = omega (arith, s .pre .0 .2 .low, first-few (a .s .count) (a .order .now)) in
     let k : l .i - a .from ≡ suc (length (take (a .s .count) (a .order .now))) - a .from = omega arith in
-    (omega arith, l .inv .0 ∙ ap (λ (k : ℕ). front (inRow (row (a .previous .now) (a .first .now) (a .order .now) (a .s) (a .m)) (a .from) k) (a .buf .now)) k)
+    let rows = same-rows (row (a .first .now) (a .order .now) (a .takes .now) (a .m)) (row (a .first .now) (take (a .s .count) (a .order .now)) (a .takes .now) (a .m)) (a .from) (l .i - a .from)
+    (λ j m. ap (take (a .m)) (after-taken (a .takes .now) (a .order .now) (a .first .now) (a .s .count) j (omega arith))) in
+    (omega arith, l .inv .0 ∙ ap (λ (x : List ℕ). front x (a .buf .now)) rows ∙ ap (λ (k : ℕ). front (inRow (row (a .first .now) (take (a .s .count) (a .order .now)) (a .takes .now) (a .m)) (a .from) k) (a .buf .now)) k)
 
 pub put-points-spec : {M : Type 1} → statement M
 put-points-spec =
