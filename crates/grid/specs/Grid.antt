@@ -1,7 +1,8 @@
 -- Document 01, "The grid". Indices and blocks count from 0 here. Assumes nothing.
 use mathlib.Core.Bool.{Bool, false, _&&_, _||_, cond}
 use mathlib.Core.List.{List, [], _∷_, _++_, map}
-use Prim.Native.Nat.{ℕ, zero, suc, _+_, _-_, _*_, pred}
+use mathlib.Core.Path.{_≡_}
+use Prim.Native.Nat.{ℕ, zero, suc, _+_, _-_, _*_, _<_, pred}
 use lib.Dec.{eqb, ltb}
 use lib.ListN.{length, getD, take}
 use Rattle.combinatorics.specs.Counting.{choose, falling}
@@ -105,6 +106,10 @@ lexBefore (a ∷ x) (b ∷ y) = ltb a b || eqb a b && lexBefore x y
 -- equality of points
 abbrev pub samePoint : Point → Point → Bool
 samePoint y z = same eqb y z
+
+-- z is y with 1 more at h and 1 less at c
+abbrev pub MovedBy : Grid → Point → Point → ℕ → ℕ → Type 0
+MovedBy g y z h c = (i : ℕ) → i < numIndices g → at z i + cond (eqb i c) 1 0 ≡ at y i + cond (eqb i h) 1 0
 
 abbrev pub positionIn : List Point → Point → ℕ
 positionIn [] y = 0

@@ -1,3 +1,4 @@
 pub mod Positions
+pub mod Squares
 pub mod Steps
 pub mod Table

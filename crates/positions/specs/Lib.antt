@@ -1,2 +1,3 @@
 pub mod Binomials
 pub mod Steps
+pub mod Squares
