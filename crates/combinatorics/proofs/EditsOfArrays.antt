@@ -107,8 +107,8 @@ swap-two (suc k) (x ∷ y ∷ l) h = ap (λ (m : List ℕ). x ∷ m) (swap-two k
 pub found-here : (x but k : ℕ) (l : List ℕ) → k < length l → getD l k 0 ≡ x → (k ≡ but → ⊥) → foundFrom k x but (drop k l) ≡ k
 found-here x but k l h e n = rw (drop-cons l k 0 h, eq-eqb (getD l k 0) x e, ne-eqb k but n)
 
-pub found-past : (x but k n : ℕ) (l : List ℕ) → k ≡ n → k ≡ foundFrom k x but (drop k (take n l))
-found-past x but k n l e = rw (e, drop-of-length-le (take n l) (first-few n l))
+pub found-past : (x but k : ℕ) (l : List ℕ) → length l ≤ k → k ≡ foundFrom k x but (drop k l)
+found-past x but k l e = rw (drop-of-length-le l e)
 
 pub found-later : (x but k : ℕ) (l : List ℕ) → k < length l → (getD l k 0 ≡ x → k ≡ but) → foundFrom k x but (drop k l) ≡ foundFrom (suc k) x but (drop (suc k) l)
 found-later x but k l h e = rw (drop-cons l k 0 h, passed (getD l k 0) x k but e)

@@ -1,10 +1,10 @@
--- What a place of the walk asks and gives: the arrays of the grid, the reading of a label, the state in which a walk begins, its outcomes.
+-- What a place of the walk asks and gives: the arrays of the grid, the reading of a mark, the state in which a walk begins, its outcomes.
 -- Assumes nothing.
 use mathlib.Core.Bool.{true, _&&_}
 use mathlib.Core.List.{List, []}
 use mathlib.Core.Logic.{⊎-elim}
 use mathlib.Core.Path.{_≡_, refl, sym, ap, _∙_, subst}
-use Prim.Native.Nat.{ℕ, suc, _+_, _≤_, _<_}
+use Prim.Native.Nat.{ℕ, suc, _+_, _-_, _/_, _≤_, _<_}
 use borrow.Author.Tests.{lt-ltb, le-ltb}
 use lib.Dec.{eqb, ltb}
 use lib.ListN.{length, replicate, set, take}
@@ -14,7 +14,9 @@ use Rattle.combinatorics.proofs.Basics.{before-or-not}
 use Rattle.combinatorics.proofs.EditsOfArrays.{first-few}
 use Rattle.grid.proofs.Fields.{following-low, indices-few, made-accepted, made-indices, made-next, made-previous, previous-low}
 use Rattle.positions.proofs.Positions.{position-below}
+use Rattle.positions.proofs.Squares.{square-adds}
 use Rattle.positions.proofs.Steps.{after-is}
+use Rattle.positions.specs.Squares.{Apart}
 use Rattle.positions.specs.Steps.{CanStep, afterSteps}
 use Rattle.grid.specs.Grid.{Point, at, isGridPoint, numIndices, position}
 use Rattle.grid.specs.Made.{IsMade, shape}
@@ -24,12 +26,12 @@ use Rattle.place.specs.Ends.{Kind, placeEnd, facetEnd}
 use Rattle.place.specs.Path.{answer, spent}
 use Rattle.place.specs.Problem.{Problem, label}
 use Rattle.moves.proofs.Describes.{Neighbours}
-use Rattle.moves.proofs.Follow.{At, EndsAt, at-begin, at-facet-end, at-place-end, at-reads, at-ready, at-step, ends-answer}
+use Rattle.moves.proofs.Follow.{At, EndsAt, at-begin, at-exchanged, at-facet-end, at-place-end, at-reads, at-ready, at-step, ends-answer}
 use Rattle.moves.proofs.PointsAfter.{after-taken, counts-add, counts-ready, few-ready, length-after}
 use Rattle.moves.specs.Mask.{bit}
-use Rattle.moves.specs.Read.{ReadyPoint, pointAfter, pointIn, read}
+use Rattle.moves.specs.Read.{Exchanged, ReadyPoint, markOf, pointAfter, pointIn, pointOn, read}
 use Rattle.moves.specs.Ready.{IndicesBelow, Ready}
-use Rattle.moves.specs.Step.{State, firstOutside, labelled, stateOf, step}
+use Rattle.moves.specs.Step.{State, firstOutside, marked, stateOf, step}
 use Rattle.moves.specs.declared.Sets.{Sets}
 use Rattle.finder.specs.Finish.{Announced, Finished, Readable, ReadyRead, problemIn, tableOf}
 use Rattle.finder.specs.declared.walk.Finish.{Finish}
@@ -55,7 +57,7 @@ module _ (g : GridStruct) (binomials table : List ℕ) (R : Readable g binomials
   label-is = refl
 
 -- the point that has come in needs the steps before it only, and these are counted apart from the first point
-module _ (g : GridStruct) (made : IsMade g) (table first order takes : List ℕ) (s : Sets) (R : ReadyRead g table first order takes s) where
+module _ (g : GridStruct) (made : IsMade g) (first order takes : List ℕ) (s : Sets) (R : ReadyRead g first order takes s) where
   early : s .turn ≤ s .count
   early = omega (arith, R .point .low, first-few (s .count) order)
 
@@ -77,27 +79,74 @@ module _ (g : GridStruct) (made : IsMade g) (table first order takes : List ℕ)
   pub can-step : CanStep (g .indices) first steps
   can-step k l = omega (arith, steps-add k l)
 
-  pub point-at : take (g .indices) (afterSteps first steps) ≡ pointIn (tableOf g table) (stateOf first [] order [] takes s) (s .turn)
+  pub point-at : take (g .indices) (afterSteps first steps) ≡ pointOn (shape g) (stateOf first [] order [] takes s) (s .turn)
   point-at =
       after-is first steps point (g .indices) (indices-few g made) (omega (arith, length-after takes (take (s .turn) order) first (s .turn), R .firstLength, indices-few g made)) steps-add
       ∙ rw (← after-taken takes order first (s .turn) (s .turn) (omega arith), ← after-taken takes order first (s .count) (s .turn) early, made-indices g made)
+
+-- the point that has come in between two steps that changed places is the fourth corner of their square
+module _ (g : GridStruct) (made : IsMade g) (first order marks takes : List ℕ) (s : Sets) (more : 0 < s .turn) (low : s .turn < s .count)
+    (X : Exchanged (shape g) first (take (s .count) order) (take (suc (s .count)) marks) takes (s .turn)) where
+  marked-at : (j : ℕ) → j ≤ s .count → at (take (suc (s .count)) marks) j ≡ at marks j
+  marked-at j l = getD-take (suc (s .count)) marks j 0 (omega arith)
+
+  ordered-at : (j : ℕ) → j < s .count → at (take (s .count) order) j ≡ at order j
+  ordered-at j l = getD-take (s .count) order j 0 l
+
+  pub corner-indices : (at order (s .turn - 1) < g .indices) × (at order (s .turn) < g .indices)
+  corner-indices = (
+    rw (← ordered-at (s .turn - 1) (omega arith), made-indices g made) (X .indices (s .turn - 1) (omega (arith, X .low)) .0),
+    rw (← ordered-at (s .turn) low, made-indices g made) (X .indices (s .turn) (X .low) .0),
+  )
+
+  pub corner-low : (at marks (s .turn - 1) / 256 ≤ 60000) × (at marks (s .turn + 1) / 256 ≤ 60000)
+  corner-low =
+      let a = made-accepted g made in
+      let up : s .turn + 1 ≡ suc (s .turn) = omega arith in (
+        rw (← marked-at (s .turn - 1) (omega arith), X .nearMark) (omega (arith, position-below (shape g) _ (a .sameNumber) (X .near), a .fewPoints)),
+        rw (up, ← marked-at (suc (s .turn)) (omega arith), X .farMark) (omega (arith, position-below (shape g) _ (a .sameNumber) (X .far), a .fewPoints)),
+      )
+
+  pub corners-add : Apart (shape g) (at order (s .turn - 1)) (at takes (at order (s .turn - 1))) (at order (s .turn)) (at takes (at order (s .turn)))
+      → position (shape g) (pointOn (shape g) (stateOf first [] order [] takes s) (s .turn)) + at marks (s .turn) / 256 ≡ at marks (s .turn - 1) / 256 + at marks (s .turn + 1) / 256
+  corners-add apart =
+      let up : s .turn + 1 ≡ suc (s .turn) = omega arith in
+      let h = ordered-at (s .turn - 1) (omega arith) in
+      let k = ordered-at (s .turn) low in
+      let i = X .indices (s .turn - 1) (omega (arith, X .low)) in
+      let j = X .indices (s .turn) (X .low) in
+      let S = square-adds (shape g) _ _ _ _ _ _ _ _ (made-accepted g made) (record {
+        pointY = X .near;
+        pointA = X .here;
+        pointB = X .gone;
+        pointD = X .far;
+        movedA = X .toHere;
+        movedB = X .toGone;
+        movedD = X .toFar;
+        lowH = i .0;
+        lowK = j .0;
+        blockC = i .1;
+        blockE = j .1;
+        apart = rw (h, k) apart;
+      }) in
+      rw (up, ← marked-at (s .turn) (omega arith), ← marked-at (s .turn - 1) (omega arith), ← marked-at (suc (s .turn)) (omega arith), X .nearMark, X .goneMark, X .farMark) S
 
 -- no label depends on the start
 pub same-read : (g : GridStruct) (first table : List ℕ) (s : State) → read (tableOf g table) s ≡ read (problemIn g first table) s
 unfolding read label
 same-read g first table s = refl
 
--- after rules 6 and 7 nothing is read, and else the label of the point that has come in is stored
+-- after rules 6 and 7 nothing is read, and else the mark of the point that has come in is stored
 pub read-none : (p : Problem) (s : State) → 6 ≤ s .rule → read p s ≡ s
 unfolding read
 read-none p s l = rw (le-ltb (s .rule) 6 l)
 
-pub read-some : (p : Problem) (first coefficients order labels takes : List ℕ) (s : Sets) (l : ℕ) → s .rule < 6
-    → ReadyPoint takes (take (s .count) order) first (s .turn) → l ≡ label p (pointIn p (stateOf first [] order [] takes s) (s .turn))
-    → stateOf first coefficients order (set labels (s .turn) l) takes s ≡ read p (stateOf first coefficients order labels takes s)
-unfolding read labelled
-read-some p first coefficients order labels takes s l r R e =
-    rw (e, lt-ltb (s .rule) 6 r, take-set-lt (suc (s .count)) labels (s .turn) (label p (pointIn p (stateOf first [] order [] takes s) (s .turn))) (omega (arith, R .low, first-few (s .count) order)))
+pub read-some : (p : Problem) (first coefficients order marks takes : List ℕ) (s : Sets) (m : ℕ) → s .rule < 6
+    → ReadyPoint takes (take (s .count) order) first (s .turn) → m ≡ markOf p (pointIn p (stateOf first [] order [] takes s) (s .turn))
+    → stateOf first coefficients order (set marks (s .turn) m) takes s ≡ read p (stateOf first coefficients order marks takes s)
+unfolding read marked
+read-some p first coefficients order marks takes s m r R e =
+    rw (e, lt-ltb (s .rule) 6 r, take-set-lt (suc (s .count)) marks (s .turn) (markOf p (pointIn p (stateOf first [] order [] takes s) (s .turn))) (omega (arith, R .low, first-few (s .count) order)))
 
 -- where a walk begins
 module _ (g : GridStruct) (made : IsMade g) (first table : List ℕ) (ok : Accepted (problemIn g first table)) where
@@ -131,6 +180,9 @@ module _ (g : GridStruct) (made : IsMade g) (start table : List ℕ) (ok : Accep
   pub reads : IndicesBelow (s .takes) × ReadyPoint (s .takes) (s .order) (s .first) (s .turn) × (isGridPoint (shape g) (pointIn p s (s .turn)) ≡ true)
   reads = at-reads ok (neighbours g made) A
 
+  pub square : s .rule ≡ 1 → 0 < s .turn → s .turn < length (s .order) → Exchanged (shape g) (s .first) (s .order) (s .marks) (s .takes) (s .turn)
+  square = at-exchanged ok (neighbours g made) A
+
   module _ (moved : after ≡ step (g .previous) (g .next) (read (tableOf g table) s)) where
     is-next : step (g .previous) (g .next) (read p s) ≡ after
     is-next = sym (moved ∙ ap (step (g .previous) (g .next)) (same-read g start table s))
@@ -145,8 +197,8 @@ module _ (g : GridStruct) (made : IsMade g) (start table : List ℕ) (ok : Accep
     ends-facet = subst (λ (z : State). z .rule ≡ 8 → EndsAt p facetEnd 1 z k) is-next (at-facet-end ok (neighbours g made) A)
 
 -- the outcomes of a walk
-module _ (p : Problem) (budget : ℕ) (f : Finish) (first coefficients order labels takes : List ℕ) where
-  announced : (kind : Kind) (from k : ℕ) → EndsAt p kind from (stateOf first coefficients order labels takes (f .sets)) k → f .places ≡ suc k → k < budget
+module _ (p : Problem) (budget : ℕ) (f : Finish) (first coefficients order marks takes : List ℕ) where
+  announced : (kind : Kind) (from k : ℕ) → EndsAt p kind from (stateOf first coefficients order marks takes (f .sets)) k → f .places ≡ suc k → k < budget
       → Announced p budget kind from (stateOf first [] order [] takes (f .sets)) (f .places)
   announced kind from k E q l = record {
     index = E .index;
@@ -157,10 +209,10 @@ module _ (p : Problem) (budget : ℕ) (f : Finish) (first coefficients order lab
     is = rw q (ends-answer E budget l);
   }
 
-  pub finished-place : (k : ℕ) → EndsAt p placeEnd 0 (stateOf first coefficients order labels takes (f .sets)) k → f .sets .rule ≡ 0 → f .places ≡ suc k → k < budget → length order ≡ 16 → Finished p budget f first order takes
+  pub finished-place : (k : ℕ) → EndsAt p placeEnd 0 (stateOf first coefficients order marks takes (f .sets)) k → f .sets .rule ≡ 0 → f .places ≡ suc k → k < budget → length order ≡ 16 → Finished p budget f first order takes
   finished-place k E e q l o = record { firstLength = E .firstLength; orderLength = o; place = λ _. announced placeEnd 0 k E q l; facet = λ r. absurd (omega arith); neither = λ n _. absurd (n e) }
 
-  pub finished-facet : (k : ℕ) → EndsAt p facetEnd 1 (stateOf first coefficients order labels takes (f .sets)) k → f .sets .rule ≡ 8 → f .places ≡ suc k → k < budget → length order ≡ 16 → Finished p budget f first order takes
+  pub finished-facet : (k : ℕ) → EndsAt p facetEnd 1 (stateOf first coefficients order marks takes (f .sets)) k → f .sets .rule ≡ 8 → f .places ≡ suc k → k < budget → length order ≡ 16 → Finished p budget f first order takes
   finished-facet k E e q l o = record { firstLength = E .firstLength; orderLength = o; place = λ r. absurd (omega arith); facet = λ _. announced facetEnd 1 k E q l; neither = λ _ n. absurd (n e) }
 
   pub finished-spent : (f .sets .rule ≡ 0 → ⊥) → (f .sets .rule ≡ 8 → ⊥) → answer p budget ≡ spent budget → f .places ≡ budget → length first ≡ 16 → length order ≡ 16 → Finished p budget f first order takes

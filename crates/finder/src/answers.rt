@@ -64,7 +64,7 @@ fn announced(
 {
     let m = g.indices;
     let mut first = taken(start, m);
-    let mut order = [0u8; 16];
+    let mut order = [0u32; 16];
     let mut takes = [0u8; 16];
     let f = walk(
         g,

@@ -1,6 +1,6 @@
 -- The cases of a move: what it gives where its tests come out one way. Assumes nothing.
 use mathlib.Core.Bool.{Bool, true, false, not, _&&_, cond}
-use mathlib.Core.List.{List}
+use mathlib.Core.List.{List, map}
 use mathlib.Core.Logic.{_⊎_, inr, ⊎-elim}
 use mathlib.Core.Path.{_≡_, refl, sym, _∙_}
 use Prim.Native.Nat.{ℕ, suc, pred, _+_, _-_, _≤_, _<_}
@@ -17,27 +17,27 @@ use Rattle.combinatorics.proofs.EditsOfArrays.{counted}
 use Rattle.moves.proofs.FirstMet.{entry}
 use Rattle.moves.specs.Mask.{bit, withIndex, withoutIndex}
 use Rattle.moves.specs.Ready.{testedBefore, SixteenEach, ReadyFirst, ReadyLast, ReadyLeave, ReadyGrow, Ready}
-use Rattle.moves.specs.Step.{State, stateOf, takingPast, takingAt, firstOutside, firstOutsideOrZero, fills, shifted, changedBefore, ended, shrink, joined, grow, leaveFirst, leaveMiddle, leaveLast, leave, step}
+use Rattle.moves.specs.Step.{State, stateOf, markLabel, takingPast, takingAt, firstOutside, firstOutsideOrZero, fills, shifted, changedBefore, ended, shrink, joined, grow, leaveFirst, leaveMiddle, leaveLast, leave, step}
 use Rattle.moves.specs.declared.Sets.{Sets}
 
 -- states that agree in what a move changes
-pub same-state : {first coefficients order labels takes first' coefficients' order' labels' takes' : List ℕ} {T U turn T' U' turn' : ℕ} (rule end : ℕ)
-    → first ≡ first' → coefficients ≡ coefficients' → order ≡ order' → labels ≡ labels' → takes ≡ takes' → T ≡ T' → U ≡ U' → turn ≡ turn'
-    → _≡_ {A = State} (record { first = first; coefficients = coefficients; order = order; labels = labels; takes = takes; T = T; U = U; turn = turn; rule = rule; end = end })
-    (record { first = first'; coefficients = coefficients'; order = order'; labels = labels'; takes = takes'; T = T'; U = U'; turn = turn'; rule = rule; end = end })
+pub same-state : {first coefficients order marks takes first' coefficients' order' marks' takes' : List ℕ} {T U turn T' U' turn' : ℕ} (rule end : ℕ)
+    → first ≡ first' → coefficients ≡ coefficients' → order ≡ order' → marks ≡ marks' → takes ≡ takes' → T ≡ T' → U ≡ U' → turn ≡ turn'
+    → _≡_ {A = State} (record { first = first; coefficients = coefficients; order = order; marks = marks; takes = takes; T = T; U = U; turn = turn; rule = rule; end = end })
+    (record { first = first'; coefficients = coefficients'; order = order'; marks = marks'; takes = takes'; T = T'; U = U'; turn = turn'; rule = rule; end = end })
 same-state rule end f c o l k t u e = cc
 
 -- what the arrays and the sets hold once point i and entry e are taken out
-pub shrinks : (next first coefficients order labels takes order' labels' takes' : List ℕ) (s : Sets) (i e : ℕ) → e < s .count → {T U turn : ℕ} (h : ℕ) (intoU : Bool) → h ≡ at order e
-    → take (s .count - 1) order' ≡ removeAt e (take (s .count) order) → take (s .count + 1 - 1) labels' ≡ removeAt i (take (s .count + 1) labels)
-    → turn ≡ found (at order e + 1) 16 (take (s .count) labels') → takes' ≡ cond intoU (takingPast next (s .u) h takes) takes
+pub shrinks : (next first coefficients order marks takes order' marks' takes' : List ℕ) (s : Sets) (i e : ℕ) → e < s .count → {T U turn : ℕ} (h : ℕ) (intoU : Bool) → h ≡ at order e
+    → take (s .count - 1) order' ≡ removeAt e (take (s .count) order) → take (s .count + 1 - 1) marks' ≡ removeAt i (take (s .count + 1) marks)
+    → turn ≡ found (at order e + 1) 16 (map markLabel (take (s .count) marks')) → takes' ≡ cond intoU (takingPast next (s .u) h takes) takes
     → T ≡ withoutIndex (s .t) h → U ≡ cond intoU (withIndex (s .u) h) (s .u)
-    → stateOf first coefficients order' labels' takes' (record { rule = cond intoU 6 7; end = 0; count = s .count - 1; t = T; u = U; turn = turn }) ≡ shrink next (stateOf first coefficients order labels takes s) i e intoU
+    → stateOf first coefficients order' marks' takes' (record { rule = cond intoU 6 7; end = 0; count = s .count - 1; t = T; u = U; turn = turn }) ≡ shrink next (stateOf first coefficients order marks takes s) i e intoU
 unfolding shrink
-shrinks next first coefficients order labels takes order' labels' takes' s i e low h intoU x o l f k t u =
+shrinks next first coefficients order marks takes order' marks' takes' s i e low h intoU x o l f k t u =
     let n = s .count in
     let entry : h ≡ at (take n order) e = x ∙ sym (getD-take n order e 0 low) in
-    let rest : take n labels' ≡ removeAt i (take (suc n) labels) = rw (all n, add-one n) at l in
+    let rest : take n marks' ≡ removeAt i (take (suc n) marks) = rw (all n, add-one n) at l in
     let z : suc (n - 1) ≡ n = omega arith in
     same-state (cond intoU 6 7) 0 refl refl o (rw z rest) (rw (← entry) k) (rw (← entry) t) (rw (← entry) u) (rw (← entry, ← rest, ← add-one, x) f)
   where
@@ -68,7 +68,7 @@ module _ (previous : List ℕ) (s : State) (h b : ℕ) (atH : h ≡ at (s .order
     first = shifted (s .first) h b;
     coefficients = changedBefore suc previous b 16 h (s .coefficients);
     order = rotateLeft (s .order);
-    labels = rotateLeft (s .labels);
+    marks = rotateLeft (s .marks);
     takes = takes;
     T = s .T;
     U = U;
@@ -96,7 +96,7 @@ module _ (next : List ℕ) (s : State) (i h w b : ℕ) (atH : h ≡ at (s .order
   middle-to-U e f = rw (← atH, ← atB, ← atW, eq-eqb w b e, f)
 
   pub steps-exchanged : (w ≡ b → at (s .first) b ≡ 0 → ⊥)
-      → _≡_ {A = State} (record { first = s .first; coefficients = s .coefficients; order = swapAt (i - 1) (s .order); labels = s .labels; takes = s .takes; T = s .T; U = s .U; turn = i; rule = 1; end = 0 })
+      → _≡_ {A = State} (record { first = s .first; coefficients = s .coefficients; order = swapAt (i - 1) (s .order); marks = s .marks; takes = s .takes; T = s .T; U = s .U; turn = i; rule = 1; end = 0 })
       (leaveMiddle next s i)
   unfolding leaveMiddle
   steps-exchanged e =
@@ -128,7 +128,7 @@ module _ (previous next : List ℕ) (s : State) (n h : ℕ) (atN : n ≡ length 
       first = shifted (s .first) b h;
       coefficients = changedBefore pred previous b 16 h (s .coefficients);
       order = rotateRight (s .order);
-      labels = rotateRight (s .labels);
+      marks = rotateRight (s .marks);
       takes = takes;
       T = s .T;
       U = withoutIndex (s .U) b;
@@ -162,7 +162,7 @@ module _ (previous next : List ℕ) (s : State) (i : ℕ) where
 abbrev pub Leaving : State → ℕ → Type 0
 Leaving s i =
     ((6 ≤ s .rule) × (i ≡ s .turn))
-    ⊎ ((s .rule < 6) × (bit (s .T) (at (s .labels) (s .turn) - 1) ≡ true) × (i ≡ found (at (s .labels) (s .turn)) (s .turn) (s .labels)))
+    ⊎ ((s .rule < 6) × (bit (s .T) (markLabel (at (s .marks) (s .turn)) - 1) ≡ true) × (i ≡ found (markLabel (at (s .marks) (s .turn))) (s .turn) (map markLabel (s .marks))))
 
 module _ (previous next : List ℕ) (s : State) where
   pub leaving-ready : (i : ℕ) → Ready previous next s → Leaving s i → ReadyLeave previous s i
@@ -172,8 +172,8 @@ module _ (previous next : List ℕ) (s : State) where
   unfolding step
   leaving-leaves i l = ⊎-elim (λ w. rw (w .1, le-ltb (s .rule) 6 (w .0))) (λ w. rw (w .2, lt-ltb (s .rule) 6 (w .0), w .1)) l
 
-  module _ (label h : ℕ) (atLabel : label ≡ at (s .labels) (s .turn)) (atH : h ≡ label - 1) (read : s .rule < 6) where
-    pub other-leaving : (i : ℕ) → bit (s .T) h ≡ true → i ≡ found label (s .turn) (s .labels) → Leaving s i
+  module _ (label h : ℕ) (atLabel : label ≡ markLabel (at (s .marks) (s .turn))) (atH : h ≡ label - 1) (read : s .rule < 6) where
+    pub other-leaving : (i : ℕ) → bit (s .T) h ≡ true → i ≡ found label (s .turn) (map markLabel (s .marks)) → Leaving s i
     other-leaving i e f = inr (read, rw (← atLabel, ← atH) e, rw (← atLabel) f)
 
     pub join-ready : bit (s .T) h ≡ false → Ready previous next s → ReadyGrow next s h
@@ -185,10 +185,10 @@ module _ (previous next : List ℕ) (s : State) where
     unfolding step
     label-joins e = rw (lt-ltb (s .rule) 6 read, ← atLabel, ← atH, e)
 
--- the label that came in, in its array
-module _ (previous next first coefficients order labels takes : List ℕ) (s : Sets) (each : SixteenEach order labels) (r : Ready previous next (stateOf first coefficients order labels takes s)) (read : s .rule < 6) where
+-- the mark of the point that came in, in its array
+module _ (previous next first coefficients order marks takes : List ℕ) (s : Sets) (each : SixteenEach order marks) (r : Ready previous next (stateOf first coefficients order marks takes s)) (read : s .rule < 6) where
   few : length (take (s .count) order) ≤ 15
-  few = ⊎-elim (λ e. r .leaves read e .few) (λ e. r .grows read e .few) (true-or-false (bit (s .t) (at (take (suc (s .count)) labels) (s .turn) - 1)))
+  few = ⊎-elim (λ e. r .leaves read e .few) (λ e. r .grows read e .few) (true-or-false (bit (s .t) (markLabel (at (take (suc (s .count)) marks) (s .turn)) - 1)))
 
   pub count-low : s .count ≤ 15
   count-low = omega (arith, few, counted order (s .count) (each .inOrder) few)
@@ -196,8 +196,8 @@ module _ (previous next first coefficients order labels takes : List ℕ) (s : S
   pub turn-low : s .turn ≤ s .count
   turn-low = omega (arith, r .turn, counted order (s .count) (each .inOrder) few)
 
-  pub label-held : at labels (s .turn) ≡ at (take (suc (s .count)) labels) (s .turn)
-  label-held = entry labels (suc (s .count)) (s .turn) (at labels (s .turn)) (omega (arith, turn-low)) refl
+  pub mark-held : at marks (s .turn) ≡ at (take (suc (s .count)) marks) (s .turn)
+  mark-held = entry marks (suc (s .count)) (s .turn) (at marks (s .turn)) (omega (arith, turn-low)) refl
 
-  pub label-low : (1 ≤ at labels (s .turn)) × (at labels (s .turn) ≤ 16)
-  label-low = rw label-held (r .label read)
+  pub label-low : (1 ≤ markLabel (at marks (s .turn))) × (markLabel (at marks (s .turn)) ≤ 16)
+  label-low = rw mark-held (r .label read)

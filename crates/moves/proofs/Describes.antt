@@ -1,22 +1,23 @@
 -- What it means that a state describes a place and the way the path came to it, and what one move from it has to give. A place is here a
 -- labelled chain x of coefficient lists, whose points are `pointsOf p x`. Assumes nothing.
-use mathlib.Core.Bool.{Bool, false}
+use mathlib.Core.Bool.{Bool, true, false}
 use mathlib.Core.List.{List}
 use mathlib.Core.Logic.{_⊎_}
 use mathlib.Core.Option.{Option, none, some}
 use mathlib.Core.Path.{_≡_}
-use Prim.Native.Nat.{ℕ, suc, _≤_, _<_}
+use Prim.Native.Nat.{ℕ, suc, _-_, _≤_, _<_}
 use lib.ListN.{length}
-use Rattle.grid.specs.Grid.{Grid, at, numIndices, next, previous}
+use Rattle.grid.specs.Grid.{Grid, at, numIndices, next, previous, isGridPoint, position}
 use Rattle.geometry.proofs.Definitions.{back, coord, zeros, BackOutside, Carries, Extra}
 use Rattle.geometry.proofs.Graph.{Through, Above}
 use Rattle.geometry.proofs.LabelledChains.{listAt, LabelledChain, Link, FacetEnd, PlaceEnd}
-use Rattle.place.proofs.BlocksOfGrid.{blocksOf}
+use Rattle.place.proofs.BlocksOfGrid.{blocksOf, pointOf}
 use Rattle.place.proofs.ToChain.{labelOf}
 use Rattle.place.specs.Problem.{Problem}
 use Rattle.moves.specs.Mask.{bit}
+use Rattle.moves.specs.Read.{pointAfter, pointGone}
 use Rattle.moves.specs.Ready.{IndicesBelow}
-use Rattle.moves.specs.Step.{State, leave, grow}
+use Rattle.moves.specs.Step.{State, mark, markPosition, leave, grow}
 
 -- the arrays of neighbours are those of the grid
 pub record Neighbours (g : Grid) (previousOf nextOf : List ℕ) : Type 0 where
@@ -33,7 +34,7 @@ pub record Taking (p : Problem) (U : ℕ → Bool) (takes : List ℕ) : Type 0 w
   pub below : IndicesBelow takes
   pub from : (k n : ℕ) → k < numIndices p.grid → BackOutside (blocksOf p) U k n → at takes k ≡ back (blocksOf p .previous) n k
 
--- the state describes the chain x over T with order o; its labels apart
+-- the state describes the chain x over T with order o; its marks apart
 pub record Describes (p : Problem) (T : ℕ → Bool) (t : ℕ) (o : ℕ → ℕ) (x : List (ℕ → ℕ)) (s : State) : Type 0 where
   pub chain : LabelledChain (blocksOf p) (labelOf p) T t o x
   pub orderLength : length s.order ≡ t
@@ -44,25 +45,35 @@ pub record Describes (p : Problem) (T : ℕ → Bool) (t : ℕ) (o : ℕ → ℕ
   pub coefficientsAt : (k : ℕ) → k < numIndices p.grid → at s.coefficients k ≡ listAt x 0 k
   pub inT : (k : ℕ) → k < 16 → bit s.T k ≡ T k
   pub inU : (k : ℕ) → k < 16 → bit s.U k ≡ zeros (blocksOf p) T (listAt x 0) k
-  pub labelsLength : length s.labels ≡ suc t
+  pub marksLength : length s.marks ≡ suc t
   pub taking : Taking p (zeros (blocksOf p) T (listAt x 0)) s.takes
 
--- each point of the chain has its label in the state
-abbrev pub AllLabels : Problem → ℕ → List (ℕ → ℕ) → State → Type 0
-AllLabels p t x s = (j : ℕ) → j ≤ t → at s.labels j ≡ suc (labelsOf p x j)
+-- the mark of the point with coefficients c
+abbrev pub markAt : Problem → (ℕ → ℕ) → ℕ
+markAt p c = mark (position p.grid (pointOf p c)) (suc (labelOf p c))
+
+-- each point of the chain has its mark in the state
+abbrev pub AllMarks : Problem → ℕ → List (ℕ → ℕ) → State → Type 0
+AllMarks p t x s = (j : ℕ) → j ≤ t → at s.marks j ≡ markAt p (listAt x j)
 
 -- each but point i
-abbrev pub LabelsBut : Problem → ℕ → List (ℕ → ℕ) → State → ℕ → Type 0
-LabelsBut p t x s i = (j : ℕ) → j ≤ t → (j ≡ i → ⊥) → at s.labels j ≡ suc (labelsOf p x j)
+abbrev pub MarksBut : Problem → ℕ → List (ℕ → ℕ) → State → ℕ → Type 0
+MarksBut p t x s i = (j : ℕ) → j ≤ t → (j ≡ i → ⊥) → at s.marks j ≡ markAt p (listAt x j)
+
+-- where two steps have changed places, the point that left had 1 to take, was a grid point, and its mark still stands
+abbrev pub Crossed : Problem → ℕ → State → Type 0
+Crossed p t s = s .rule ≡ 1 → 0 < s .turn → s .turn < t
+    → (1 ≤ at (pointAfter s.takes s.order s.first (s .turn - 1)) (at s.takes (at s.order s.turn)))
+    × (isGridPoint p.grid (pointGone p.grid s) ≡ true) × (markPosition (at s.marks s.turn) ≡ position p.grid (pointGone p.grid s))
 
 -- how the path came to x: it begins there, with the label of the start not yet read;
 -- or from l through the facet opposite to a point that has come in, whose label is not yet read;
 -- or from a larger place l, and the point whose label is outside T leaves next
 pub data Came (p : Problem) (T : ℕ → Bool) (t : ℕ) (x : List (ℕ → ℕ)) (s : State) : Option (List (ℕ → ℕ)) → Type 0 where
   begins : t ≡ 0 → s .turn ≡ 0 → s .rule < 6 → Came p T t x s none
-  through : (n : ℕ) (l : List (ℕ → ℕ)) → t ≡ suc n → s .turn ≤ t → 0 < s .rule → s .rule < 6 → LabelsBut p t x s s.turn
-      → Carries T t (labelsOf p x) s.turn → Through (blocksOf p) T n x s.turn l → Came p T t x s (some l)
-  fromLarger : (l : List (ℕ → ℕ)) → s .turn ≤ t → 6 ≤ s .rule → s .rule < 8 → AllLabels p t x s → T (labelsOf p x s.turn) ≡ false
+  through : (n : ℕ) (l : List (ℕ → ℕ)) → t ≡ suc n → s .turn ≤ t → 0 < s .rule → s .rule < 6 → MarksBut p t x s s.turn
+      → Carries T t (labelsOf p x) s.turn → Through (blocksOf p) T n x s.turn l → Crossed p t s → Came p T t x s (some l)
+  fromLarger : (l : List (ℕ → ℕ)) → s .turn ≤ t → 6 ≤ s .rule → s .rule < 8 → AllMarks p t x s → T (labelsOf p x s.turn) ≡ false
       → Above (blocksOf p) (labelOf p) T t x l → Came p T t x s (some l)
 
 -- the state describes a chain to which the path came from x, by a link
@@ -88,7 +99,7 @@ Left p T n x s i after =
 abbrev pub Leaves : Problem → List ℕ → List ℕ → Type 0
 Leaves p previousOf nextOf =
     (T : ℕ → Bool) (n : ℕ) (o : ℕ → ℕ) (x : List (ℕ → ℕ)) (s : State) (i : ℕ)
-    → Describes p T (suc n) o x s → AllLabels p (suc n) x s → i ≤ suc n → Carries T (suc n) (labelsOf p x) i
+    → Describes p T (suc n) o x s → AllMarks p (suc n) x s → i ≤ suc n → Carries T (suc n) (labelsOf p x) i
     → Left p T n x s i (leave previousOf nextOf s i)
 
 -- the label of a point has joined T: the place is an end, or the state after goes on to the larger place
@@ -101,4 +112,4 @@ Joined p T t x s after =
 abbrev pub Grows : Problem → List ℕ → Type 0
 Grows p nextOf =
     (T : ℕ → Bool) (t : ℕ) (o : ℕ → ℕ) (x : List (ℕ → ℕ)) (s : State) (i : ℕ)
-    → Describes p T t o x s → AllLabels p t x s → Extra T t (labelsOf p x) i → Joined p T t x s (grow nextOf s (labelsOf p x i))
+    → Describes p T t o x s → AllMarks p t x s → Extra T t (labelsOf p x) i → Joined p T t x s (grow nextOf s (labelsOf p x i))

@@ -5,8 +5,8 @@ use mathlib.Core.Bool.{Bool, true, false, _&&_}
 use mathlib.Core.List.{List, [], _∷_, _++_}
 use mathlib.Core.Logic.{⊎-elim}
 use mathlib.Core.Option.{Option, none, some}
-use mathlib.Core.Path.{_≡_, refl, sym, ap, _∙_}
-use Prim.Native.Nat.{ℕ, suc, _≤_, _<_}
+use mathlib.Core.Path.{_≡_, refl, sym, ap, _∙_, subst}
+use Prim.Native.Nat.{ℕ, suc, _-_, _≤_, _<_}
 use borrow.Author.Tests.{lt-ltb, le-ltb}
 use lib.Dec.{eqb, ltb}
 use lib.ListN.{length, length-append, getD-replicate, List·getD-append}
@@ -15,10 +15,11 @@ use native.Mathlib.Omega.{arith}
 use Rattle.combinatorics.proofs.Basics.{absurd-bool, true-or-false, before-or-not}
 use Rattle.combinatorics.specs.Edits.{removeAt}
 use Rattle.geometry.proofs.Definitions.{zeros}
+use Rattle.geometry.proofs.Search.{block-back}
 use Rattle.geometry.proofs.LabelledChains.{listAt, LabelledChain, FacetEnd, PlaceEnd}
 use Rattle.grid.proofs.Round.{seat, block-at}
-use Rattle.grid.specs.Grid.{at, numIndices, dimension, blockOf, isGridPoint}
-use Rattle.place.proofs.BlocksOfGrid.{blocksOf, coefficientOf, block-agrees, coord-in, coord-out, coefficientOf-is}
+use Rattle.grid.specs.Grid.{at, numIndices, dimension, blockOf, isGridPoint, position, MovedBy}
+use Rattle.place.proofs.BlocksOfGrid.{blocksOf, back-below, coefficientOf, block-agrees, coord-in, coord-out, coefficientOf-is}
 use Rattle.place.proofs.Bound.{order-short}
 use Rattle.place.proofs.ChainEnds.{complete-of, complete-below, end-below, end-complete, end-labels}
 use Rattle.place.proofs.ChainLinks.{of-link}
@@ -38,15 +39,17 @@ use Rattle.place.specs.Path.{path, pathLength, answer, spent, ended}
 use Rattle.place.specs.Places.{Simplex, order}
 use Rattle.place.specs.Problem.{Problem}
 use Rattle.moves.specs.Mask.{bit}
-use Rattle.moves.specs.Read.{pointIn, pointsFrom, read, ReadyPoint}
+use Rattle.moves.specs.Read.{pointAfter, pointGone, pointIn, pointsFrom, read, Exchanged, ReadyPoint}
 use Rattle.moves.specs.Ready.{IndicesBelow, Ready}
-use Rattle.moves.specs.Step.{State, firstOutside, step, begun}
-use Rattle.moves.proofs.Describes.{Neighbours, Describes, Came, begins, through, fromLarger, Reached}
+use Rattle.moves.specs.Step.{State, markPosition, firstOutside, step, begun}
+use Rattle.moves.proofs.Describes.{Neighbours, Describes, MarksBut, Came, begins, through, fromLarger, Reached}
 use Rattle.moves.proofs.Masks.{bit-none}
 use Rattle.moves.proofs.Move.{SamePlace, Outcome, placeEnds, facetEnds, goesOn, Onward, onward}
-use Rattle.moves.proofs.Range.{point-on}
-use Rattle.moves.proofs.StatePoints.{ready-point, point-is, all-points, later-points}
-use Rattle.moves.proofs.Takes.{taking-begun}
+use Rattle.moves.proofs.Marks.{mark-position}
+use Rattle.moves.proofs.Range.{nth-pointsOf, point-on}
+use Rattle.moves.proofs.Shifted.{shifted-moved}
+use Rattle.moves.proofs.StatePoints.{order-below, after-is, ready-point, point-is, moved-on, all-points, later-points}
+use Rattle.moves.proofs.Takes.{taken-from, taking-begun}
 
 -- the place just left is that of the chain, if any
 abbrev LeftIs : Problem → Option (List (ℕ → ℕ)) → Option Simplex → Type 0
@@ -147,12 +150,12 @@ left-determines p (some l) q b y c e =
 module _ (p : Problem) (T : ℕ → Bool) (t : ℕ) (x : List (ℕ → ℕ)) (s : State) where
   turn-at-most : {left : Option (List (ℕ → ℕ))} → Came p T t x s left → s .turn ≤ t
   turn-at-most (begins e u r) = omega arith
-  turn-at-most (through n l e low q r b carry X) = low
+  turn-at-most (through n l e low q r b carry X C) = low
   turn-at-most (fromLarger l low r q a e X) = low
 
   -- a place that the path comes to by a link is at no end
   rule-between : (l : List (ℕ → ℕ)) → Came p T t x s (some l) → (0 < s .rule) × (s .rule < 8)
-  rule-between l (through n d e low q r b carry X) = (q, omega arith)
+  rule-between l (through n d e low q r b carry X C) = (q, omega arith)
   rule-between l (fromLarger d low r q a e X) = (omega arith, q)
 
 -- the start
@@ -208,7 +211,7 @@ module _ {p : Problem} (ok : Accepted p) where
           ∙ ap (λ (c : ℕ → ℕ). c k) (sym (zeroes ok.settled p.start (start-place ok.settled)));
       inT = λ k l. bit-none k l ∙ sym (start-T k);
       inU = in-U;
-      labelsLength = refl;
+      marksLength = refl;
       taking = taking-begun ok N start-chain.chain mask in-U many low from;
     };
     here = sym (pointsOf-coefficientsOf ok.settled v (parts p v (start-place ok.settled) .gridPoints));
@@ -240,6 +243,49 @@ module _ {p : Problem} (ok : Accepted p) {previousOf nextOf : List ℕ} (N : Nei
         ready-point ok N A.describes s.turn low,
         rw (point-is ok N A.describes s.turn low) (point-on ok A.describes.chain s.turn low),
       )
+
+  abbrev D : Describes p A.T A.t A.o A.x s
+  D = A .describes
+
+  -- where two steps have changed places, the marks of the others stand, and that of the point that left
+  crossing : Came p A.T A.t A.x s A.left → s .rule ≡ 1 → 0 < s .turn → s .turn < A .t
+      → MarksBut p A.t A.x s s.turn × (1 ≤ at (pointAfter s.takes s.order s.first (s .turn - 1)) (at s.takes (at s.order s.turn)))
+      × (isGridPoint p.grid (pointGone p.grid s) ≡ true) × (markPosition (at s.marks s.turn) ≡ position p.grid (pointGone p.grid s))
+  crossing C one more low = go A.left C
+    where
+      go : (left : Option (List (ℕ → ℕ))) → Came p A.T A.t A.x s left
+          → MarksBut p A.t A.x s s.turn × (1 ≤ at (pointAfter s.takes s.order s.first (s .turn - 1)) (at s.takes (at s.order s.turn)))
+          × (isGridPoint p.grid (pointGone p.grid s) ≡ true) × (markPosition (at s.marks s.turn) ≡ position p.grid (pointGone p.grid s))
+      go _ (begins e u r) = absurd (omega arith)
+      go _ (through n l e w q r b carry X C) = let d = C one more low in (b, d .0, d .1, d .2)
+      go _ (fromLarger l w r q b e X) = absurd (omega arith)
+
+  pub at-exchanged : s .rule ≡ 1 → 0 < s .turn → s .turn < length s.order → Exchanged p.grid s.first s.order s.marks s.takes s.turn
+  at-exchanged one more few =
+      let low : s .turn < A .t = omega (arith, D .orderLength) in
+      let c = crossing A.came one more low in
+      let z : suc (s .turn - 1) ≡ s .turn = omega arith in
+      let y = after-is ok N D (s .turn - 1) (omega arith) in
+      let on : (i : ℕ) → i ≤ A .t → isGridPoint p.grid (pointIn p s i) ≡ true = λ i l. rw (point-is ok N D i l) (point-on ok D.chain i l) in
+      let mark : (i : ℕ) → i ≤ A .t → (i ≡ s .turn → ⊥) → markPosition (at s.marks i) ≡ position p.grid (pointIn p s i) = λ i l n.
+      ap markPosition (c .0 i l n) ∙ mark-position ok D.chain i l ∙ ap (position p.grid) (sym (point-is ok N D i l ∙ nth-pointsOf p A.x i (omega (arith, D .chain .size)))) in
+      record {
+        low = few;
+        near = on (s .turn - 1) (omega arith);
+        here = on s.turn (omega arith);
+        gone = c .2;
+        far = on (suc s.turn) (omega arith);
+        toHere = subst (λ (i : ℕ). MovedBy p.grid (pointIn p s (s .turn - 1)) (pointIn p s i) (at s.order (s .turn - 1)) (at s.takes (at s.order (s .turn - 1)))) z (moved-on ok N D (s .turn - 1) (omega arith));
+        toGone = shifted-moved (pointAfter s.takes s.order s.first (s .turn - 1)) (at s.order s.turn) (at s.takes (at s.order s.turn)) (numIndices p.grid) c.1 (omega (arith, y .0, ok .settled .sixteenIndices));
+        toFar = moved-on ok N D s.turn low;
+        indices = λ j l. let jl : j < A .t = omega (arith, D .orderLength) in
+            let h : at s.order j < numIndices p.grid = rw (D .orderAt j jl) (order-below ok N D j jl) in
+            let w = taken-from ok N D (at s.order j) h in
+            (h, rw (w .3) (sym (block-same p _ (back-below p w.0 (at s.order j) h)) ∙ block-back (blocksOf p) w.0 (at s.order j) ∙ block-same p (at s.order j) h));
+        nearMark = mark (s .turn - 1) (omega arith) (λ q. omega arith);
+        goneMark = c .3;
+        farMark = mark (suc s.turn) (omega arith) (λ q. omega arith);
+      }
 
   here-place : (length (pointsOf p A.x) ≡ suc A.t) × (length (pointsOf p A.x) ≡ suc (length (order p.grid (pointsOf p A.x))))
   here-place = (long ok.settled A.describes.chain, place-long ok.settled _ (place-of ok.settled A.describes.chain))

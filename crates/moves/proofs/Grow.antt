@@ -28,7 +28,7 @@ use Rattle.place.specs.Problem.{Problem}
 use Rattle.moves.specs.Mask.{bit, withIndex, withoutIndex}
 use Rattle.moves.specs.Ready.{ReadyGrow}
 use Rattle.moves.specs.Step.{State, takingAt, firstOutside, fills, ended, grow}
-use Rattle.moves.proofs.Describes.{Neighbours, Taking, Describes, AllLabels, labelsOf, through, Reached, Grows}
+use Rattle.moves.proofs.Describes.{Neighbours, Taking, Describes, markAt, AllMarks, labelsOf, through, Reached, Grows}
 use Rattle.moves.proofs.Masks.{bit-with, bit-without}
 use Rattle.moves.proofs.Range.{few, label-below}
 use Rattle.moves.proofs.Takes.{taking-at, taking-same}
@@ -40,7 +40,7 @@ joined s takes h a rule = record {
   first = s .first;
   coefficients = s .coefficients;
   order = insertAt a h s.order;
-  labels = insertAt (suc a) 0 s.labels;
+  marks = insertAt (suc a) 0 s.marks;
   takes = takes;
   T = withIndex s.T h;
   U = withoutIndex s.U h;
@@ -77,7 +77,7 @@ module _ (R : Blocks) (T : ℕ → Bool) (g : ℕ) (l : g < 16) (mask : ℕ) (k 
       (λ n. rw (ne-eqb k g n) (rw (ne-eqb k g n) at (bit-without mask g k l m) ∙ e)) (same-or k g)
 
 module _ {p : Problem} (ok : Accepted p) {T : ℕ → Bool} {t : ℕ} {o : ℕ → ℕ} {x : List (ℕ → ℕ)} {s : State} (D : Describes p T t o x s)
-    (L : AllLabels p t x s) {i : ℕ} (E : Extra T t (labelsOf p x) i) where
+    (L : AllMarks p t x s) {i : ℕ} (E : Extra T t (labelsOf p x) i) where
   abbrev g : ℕ
   g = labelsOf p x i
 
@@ -135,14 +135,14 @@ module _ {p : Problem} (ok : Accepted p) {T : ℕ → Bool} {t : ℕ} {o : ℕ �
         (same-or j a))
         (before-or-not j a)
 
-    labels-at : (j : ℕ) → j ≤ suc t → (j ≡ suc a → ⊥) → at (insertAt (suc a) 0 s.labels) j ≡ suc (labelsOf p y j)
-    labels-at j m n =
-        let f : suc a ≤ length s.labels = omega (arith, D .labelsLength) in
-        ⊎-elim (λ (q : j < suc a). insertAt-before 0 (suc a) 0 s.labels j f q ∙ L j (omega arith)
-        ∙ ap (λ (c : ℕ → ℕ). suc (labelOf p c)) (sym (point-before j (omega arith))))
+    marks-at : (j : ℕ) → j ≤ suc t → (j ≡ suc a → ⊥) → at (insertAt (suc a) 0 s.marks) j ≡ markAt p (listAt y j)
+    marks-at j m n =
+        let f : suc a ≤ length s.marks = omega (arith, D .marksLength) in
+        ⊎-elim (λ (q : j < suc a). insertAt-before 0 (suc a) 0 s.marks j f q ∙ L j (omega arith)
+        ∙ ap (markAt p) (sym (point-before j (omega arith))))
         (λ (q : suc a ≤ j). let w : suc (j - 1) ≡ j = omega arith in let v : suc a ≤ j - 1 = omega (arith, n) in
-        rw (← w) (insertAt-behind 0 (suc a) 0 s.labels (j - 1) f v ∙ L (j - 1) (omega arith)
-        ∙ ap (λ (c : ℕ → ℕ). suc (labelOf p c)) (sym (point-behind (j - 1) v (omega arith)))))
+        rw (← w) (insertAt-behind 0 (suc a) 0 s.marks (j - 1) f v ∙ L (j - 1) (omega arith)
+        ∙ ap (markAt p) (sym (point-behind (j - 1) v (omega arith)))))
         (before-or-not j (suc a))
 
     describes : (takes : List ℕ) (rule : ℕ) → Taking p (zeros (blocksOf p) T+ (listAt x 0)) takes → Describes p T+ (suc t) (insert a g o) y (joined s takes g a rule)
@@ -157,11 +157,11 @@ module _ {p : Problem} (ok : Accepted p) {T : ℕ → Bool} {t : ℕ} {o : ℕ �
       inT = λ k m. with-plus (blocksOf p) T g (omega (arith, joining-below, ok .settled .sixteenIndices)) s.T k m (D .inT k m);
       inU = λ k m. rw (point-before 0 (omega arith))
           (zeros-plus (blocksOf p) T g (omega (arith, joining-below, ok .settled .sixteenIndices)) s.U k m (listAt x 0) (D .inU k m));
-      labelsLength = length-insertAt (suc a) 0 s.labels ∙ ap suc D.labelsLength;
+      marksLength = length-insertAt (suc a) 0 s.marks ∙ ap suc D.marksLength;
       taking = taking-same (λ k. ap (λ (c : ℕ → ℕ). zeros (blocksOf p) T+ c k) (point-before 0 (omega arith))) S;
     }
 
-    joins : (takes : List ℕ) (rule : ℕ) → Taking p (zeros (blocksOf p) T+ (listAt x 0)) takes → 0 < rule → rule < 6
+    joins : (takes : List ℕ) (rule : ℕ) → Taking p (zeros (blocksOf p) T+ (listAt x 0)) takes → 1 < rule → rule < 6
         → (y : List (ℕ → ℕ)) × Above (blocksOf p) (labelOf p) T t x y × Reached p x (joined s takes g a rule) y
     joins takes rule S b c = (
       y,
@@ -171,7 +171,7 @@ module _ {p : Problem} (ok : Accepted p) {T : ℕ → Bool} {t : ℕ} {o : ℕ �
         t = suc t;
         o = insert a g o;
         describes = describes takes rule S;
-        came = through t x refl (omega arith) b c labels-at enlarged.carries enlarged.back;
+        came = through t x refl (omega arith) (omega arith) c marks-at enlarged.carries enlarged.back (λ q _ _. absurd (omega arith));
         link = enlarged .link;
       },
     )

@@ -27,7 +27,7 @@ use Rattle.place.specs.Problem.{Problem}
 use Rattle.moves.specs.Mask.{bit, withIndex}
 use Rattle.moves.specs.Ready.{ReadyFirst}
 use Rattle.moves.specs.Step.{State, takingPast, fills, shifted, changedBefore, leaveFirst, leave, ended}
-use Rattle.moves.proofs.Describes.{Neighbours, Taking, Describes, AllLabels, labelsOf, Came, through, Reached, Left}
+use Rattle.moves.proofs.Describes.{Neighbours, Taking, Describes, markAt, AllMarks, labelsOf, Came, through, Reached, Left}
 use Rattle.moves.proofs.Masks.{bit-with}
 use Rattle.moves.proofs.Range.{index-below, coord-below, coefficient-below}
 use Rattle.moves.proofs.Shifted.{length-shifted, shifted-at}
@@ -69,7 +69,7 @@ module _ {p : Problem} (ok : Accepted p) {previousOf nextOf : List ℕ} (N : Nei
     first = shifted s.first (o 0) b;
     coefficients = changedBefore suc previousOf b 16 (o 0) s.coefficients;
     order = rotateLeft s.order;
-    labels = rotateLeft s.labels;
+    marks = rotateLeft s.marks;
     takes = cond into (takingPast nextOf s.U b s.takes) s.takes;
     T = s .T;
     U = cond into (withIndex s.U b) s.U;
@@ -95,7 +95,7 @@ module _ {p : Problem} (ok : Accepted p) {previousOf nextOf : List ℕ} (N : Nei
         (omega (arith, D .coefficientsAt k (back-below p j (o 0) first-below), coefficient-below ok D.chain 0 (omega arith) k))));
   }
 
-  module _ (L : AllLabels p (suc n) x s) (c : Carries T (suc n) (labelsOf p x) 0) where
+  module _ (L : AllMarks p (suc n) x s) (c : Carries T (suc n) (labelsOf p x) 0) where
     -- where the facet is not an end
     module _ (fr : Free R T (P 1)) where
       y : List (ℕ → ℕ)
@@ -168,23 +168,23 @@ module _ {p : Problem} (ok : Accepted p) {previousOf nextOf : List ℕ} (N : Nei
         coefficientsAt = coefficients-at;
         inT = D .inT;
         inU = zeros-at;
-        labelsLength = length-rotateLeft s.labels ∙ D .labelsLength;
+        marksLength = length-rotateLeft s.marks ∙ D .marksLength;
         taking = takes-at joins refl;
       }
 
       came : Came p T (suc n) y (onward joins) (some x)
-      came = through n x refl (omega (arith, D .orderLength)) (rule-is joins .0) (rule-is joins .1) labels
-          (rw D.orderLength beyond.carries) (rw D.orderLength beyond.back)
+      came = through n x refl (omega (arith, D .orderLength)) (rule-is joins .0) (rule-is joins .1) marks
+          (rw D.orderLength beyond.carries) (rw D.orderLength beyond.back) (λ _ _ l. absurd (omega (arith, D .orderLength)))
         where
           rule-is : (t : Bool) → (0 < cond t 2 1) × (cond t 2 1 < 6)
           rule-is true = (omega arith, omega arith)
           rule-is false = (omega arith, omega arith)
 
-          labels : (j : ℕ) → j ≤ suc n → (j ≡ length s.order → ⊥) → at (rotateLeft s.labels) j ≡ suc (labelsOf p y j)
-          labels j l x =
+          marks : (j : ℕ) → j ≤ suc n → (j ≡ length s.order → ⊥) → at (rotateLeft s.marks) j ≡ markAt p (listAt y j)
+          marks j l x =
               let m : j < suc n = omega (arith, x, D .orderLength) in
-              rotateLeft-before 0 s.labels j (omega (arith, D .labelsLength)) ∙ L (suc j) (omega arith)
-              ∙ ap (λ (z : ℕ → ℕ). suc (labelOf p z)) (sym (points j m))
+              rotateLeft-before 0 s.marks j (omega (arith, D .marksLength)) ∙ L (suc j) (omega arith)
+              ∙ ap (markAt p) (sym (points j m))
 
       reached : Reached p x (onward joins) y
       reached = record { T = T; t = suc n; o = first-o K; describes = describes; came = came; link = beyond .link }

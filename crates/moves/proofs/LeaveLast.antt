@@ -26,7 +26,7 @@ use Rattle.place.specs.Problem.{Problem}
 use Rattle.moves.specs.Mask.{bit, withoutIndex}
 use Rattle.moves.specs.Ready.{ReadyLast}
 use Rattle.moves.specs.Step.{State, takingAt, shrink, shifted, firstOutsideOrZero, changedBefore, leave, leaveLast}
-use Rattle.moves.proofs.Describes.{Neighbours, Taking, Describes, AllLabels, LabelsBut, labelsOf, through, GoesOn}
+use Rattle.moves.proofs.Describes.{Neighbours, Taking, Describes, markAt, AllMarks, MarksBut, labelsOf, through, GoesOn}
 use Rattle.moves.proofs.Masks.{bit-without}
 use Rattle.moves.proofs.Range.{index-below, coord-below}
 use Rattle.moves.proofs.Shifted.{length-shifted, shifted-at}
@@ -40,7 +40,7 @@ newFirst previousOf nextOf s h b = record {
   first = shifted s.first b h;
   coefficients = changedBefore pred previousOf b 16 h s.coefficients;
   order = rotateRight s.order;
-  labels = rotateRight s.labels;
+  marks = rotateRight s.marks;
   takes = cond (bit s.U b) (takingAt nextOf s.U b s.takes) s.takes;
   T = s .T;
   U = withoutIndex s.U b;
@@ -150,7 +150,7 @@ module _ {p : Problem} (ok : Accepted p) {previousOf nextOf : List ℕ}
     takes-at false e =
         taking-same (λ k. ⊎-elim (λ (q : k ≡ b). rw q (zeros-end ∙ sym e ∙ D .inU b (omega (arith, end-below, ok .settled .sixteenIndices)))) (λ q. sym (zeros-else k q)) (same-or k b)) D.taking
 
-    module _ (L : AllLabels p (suc n) x s) (c : Carries T (suc n) (labelsOf p x) (suc n)) where
+    module _ (L : AllMarks p (suc n) x s) (c : Carries T (suc n) (labelsOf p x) (suc n)) where
       y : List (ℕ → ℕ)
       y = tabulate (suc (suc n)) (last-p K)
 
@@ -171,11 +171,11 @@ module _ {p : Problem} (ok : Accepted p) {previousOf nextOf : List ℕ}
       order-at (suc j) m =
           rotateRight-later 0 s.order j (omega (arith, D .orderLength)) ∙ D .orderAt j (omega arith) ∙ last-rotate K .back j (omega arith)
 
-      labels-but : LabelsBut p (suc n) y (newFirst previousOf nextOf s (o n) b) 0
-      labels-but zero m q = absurd (q refl)
-      labels-but (suc j) m q =
-          rotateRight-later 0 s.labels j (omega (arith, D .labelsLength)) ∙ L j (omega arith)
-          ∙ ap (λ (f : ℕ → ℕ). suc (labelOf p f)) (sym (later j (omega arith)))
+      marks-but : MarksBut p (suc n) y (newFirst previousOf nextOf s (o n) b) 0
+      marks-but zero m q = absurd (q refl)
+      marks-but (suc j) m q =
+          rotateRight-later 0 s.marks j (omega (arith, D .marksLength)) ∙ L j (omega arith)
+          ∙ ap (markAt p) (sym (later j (omega arith)))
 
       enters : GoesOn p T n x (suc n) (newFirst previousOf nextOf s (o n) b)
       enters = (
@@ -195,10 +195,10 @@ module _ {p : Problem} (ok : Accepted p) {previousOf nextOf : List ℕ}
             coefficientsAt = λ k m. coefficients-at k m ∙ ap (λ (f : ℕ → ℕ). f k) (sym first);
             inT = D .inT;
             inU = λ k m. in-U k m ∙ ap (λ (f : ℕ → ℕ). zeros R T f k) (sym first);
-            labelsLength = length-rotateRight s.labels ∙ D .labelsLength;
+            marksLength = length-rotateRight s.marks ∙ D .marksLength;
             taking = taking-same (λ k. ap (λ (f : ℕ → ℕ). zeros R T f k) first) (takes-at (bit s.U b) refl);
           };
-          came = through n x refl (omega arith) (rule-is (bit s.U b) .0) (rule-is (bit s.U b) .1) labels-but beyond.carries beyond.back;
+          came = through n x refl (omega arith) (rule-is (bit s.U b) .0) (rule-is (bit s.U b) .1) marks-but beyond.carries beyond.back (λ _ l _. absurd (omega arith));
           link = beyond .link;
         },
       )
@@ -208,7 +208,7 @@ module _ {p : Problem} (ok : Accepted p) {previousOf nextOf : List ℕ}
           rule-is false = (omega arith, omega arith)
 
   -- the facet is a place
-  drops : AllLabels p (suc n) x s → Carries T (suc n) (labelsOf p x) (suc n)
+  drops : AllMarks p (suc n) x s → Carries T (suc n) (labelsOf p x) (suc n)
       → (listAt x 0 (o n) ≡ 0) ⊎ (R .start (o n) + listAt x 0 (o n) ≤ listAt x 0 (R .next (o n))) → (into : Bool)
       → eqb (coord R (listAt x 0) (o n)) 0 ≡ into → GoesOn p T n x (suc n) (shrink nextOf s (suc n) n into)
   drops L c w into e =
@@ -230,7 +230,7 @@ module _ {p : Problem} (ok : Accepted p) {previousOf nextOf : List ℕ}
         D .coefficientsAt (o n) last-below,
       ) refl
 
-  pub leave-last : AllLabels p (suc n) x s → Carries T (suc n) (labelsOf p x) (suc n) → GoesOn p T n x (suc n) (leave previousOf nextOf s (suc n))
+  pub leave-last : AllMarks p (suc n) x s → Carries T (suc n) (labelsOf p x) (suc n) → GoesOn p T n x (suc n) (leave previousOf nextOf s (suc n))
   leave-last L c = rw move (go (eqb (coord R (listAt x 0) (o n)) 0) refl (eqb (listAt x 0 (o n)) 0) refl)
     where
       go : (t : Bool) → eqb (coord R (listAt x 0) (o n)) 0 ≡ t → (u : Bool) → eqb (listAt x 0 (o n)) 0 ≡ u

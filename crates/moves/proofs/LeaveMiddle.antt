@@ -17,15 +17,19 @@ use Rattle.geometry.proofs.LabelledChains.{listAt, tabulate}
 use Rattle.geometry.proofs.Moves.{inner-if-positive, inner-if-zero, inner-stuck, inner-unstuck}
 use Rattle.geometry.proofs.Onward.{Beyond, next-link, listAt-tabulate}
 use Rattle.geometry.proofs.Ways.{inner-p, inner-o, inner-same, inner-swap, inner-beside, inner-tight-at, dropped}
-use Rattle.grid.specs.Grid.{at, numIndices}
+use Rattle.grid.specs.Grid.{at, numIndices, position}
 use Rattle.place.proofs.BlocksOfGrid.{blocksOf, back-below}
 use Rattle.place.proofs.ToChain.{labelOf}
 use Rattle.place.specs.Demand.{Accepted}
 use Rattle.place.specs.Problem.{Problem}
-use Rattle.moves.specs.Step.{State, shrink, leave, leaveMiddle}
-use Rattle.moves.proofs.Describes.{Neighbours, Describes, AllLabels, labelsOf, through, GoesOn}
-use Rattle.moves.proofs.Range.{index-below}
+use Rattle.moves.specs.Read.{pointAfter, pointGone, pointIn}
+use Rattle.moves.specs.Step.{State, markPosition, shrink, leave, leaveMiddle}
+use Rattle.moves.proofs.Describes.{Neighbours, Describes, Crossed, markAt, AllMarks, labelsOf, through, GoesOn}
+use Rattle.moves.proofs.Marks.{mark-position}
+use Rattle.moves.proofs.PointsAfter.{after-swapped}
+use Rattle.moves.proofs.Range.{nth-pointsOf, index-below, point-on}
 use Rattle.moves.proofs.Shrink.{shrunk}
+use Rattle.moves.proofs.StatePoints.{ready-point, point-is}
 use Rattle.moves.proofs.Takes.{taken-from, taking-same}
 
 -- the steps e and e + 1 exchanged
@@ -34,7 +38,7 @@ exchanged s e = record {
   first = s .first;
   coefficients = s .coefficients;
   order = swapAt e s.order;
-  labels = s .labels;
+  marks = s .marks;
   takes = s .takes;
   T = s .T;
   U = s .U;
@@ -45,7 +49,7 @@ exchanged s e = record {
 
 module _ {p : Problem} (ok : Accepted p) {previousOf nextOf : List ℕ}
     (N : Neighbours p.grid previousOf nextOf) {T : ℕ → Bool} {n : ℕ} {o : ℕ → ℕ} {x : List (ℕ → ℕ)} {s : State}
-    (D : Describes p T (suc n) o x s) (L : AllLabels p (suc n) x s) (e : ℕ) (l : e < n) (c : Carries T (suc n) (labelsOf p x) (suc e)) where
+    (D : Describes p T (suc n) o x s) (L : AllMarks p (suc n) x s) (e : ℕ) (l : e < n) (c : Carries T (suc n) (labelsOf p x) (suc e)) where
   abbrev R : Blocks
   R = blocksOf p
 
@@ -113,6 +117,25 @@ module _ {p : Problem} (ok : Accepted p) {previousOf nextOf : List ℕ}
         (λ r. swapAt-else 0 e s.order j q r ∙ D .orderAt j m ∙ sym (w .rest j q r)) (same-or j (suc e)))
         (same-or j e)
 
+    -- point e + 1, by the step that now comes second
+    gone-is : pointGone p.grid (exchanged s e) ≡ pointIn p s (suc e)
+    unfolding pointAfter
+    gone-is =
+        let f : suc e < length s.order = omega (arith, D .orderLength) in
+        let z : suc e - 1 ≡ e = omega arith in
+        rw (z, swapAt-next 0 e s.order f, after-swapped s.takes s.order s.first e e (omega arith)) refl
+
+    crossed : Crossed p (suc n) (exchanged s e)
+    crossed _ _ _ =
+        let f : suc e < length s.order = omega (arith, D .orderLength) in
+        let z : suc e - 1 ≡ e = omega arith in
+        let i = point-is ok N D (suc e) (omega arith) in (
+          rw (z, swapAt-next 0 e s.order f, after-swapped s.takes s.order s.first e e (omega arith)) (ready-point ok N D (suc e) (omega arith) .positive e (omega arith)),
+          rw (gone-is, i) (point-on ok D.chain (suc e) (omega arith)),
+          ap markPosition (L (suc e) (omega arith)) ∙ mark-position ok D.chain (suc e) (omega arith)
+              ∙ ap (position p.grid) (sym (gone-is ∙ i ∙ nth-pointsOf p x (suc e) (omega (arith, D .chain .size)))),
+        )
+
     exchanges : GoesOn p T n x (suc e) (exchanged s e)
     exchanges = (
       y,
@@ -131,11 +154,11 @@ module _ {p : Problem} (ok : Accepted p) {previousOf nextOf : List ℕ}
           coefficientsAt = λ k m. D .coefficientsAt k m ∙ ap (λ (z : ℕ → ℕ). z k) (sym first);
           inT = D .inT;
           inU = λ k m. D .inU k m ∙ ap (λ (z : ℕ → ℕ). zeros R T z k) (sym first);
-          labelsLength = D .labelsLength;
+          marksLength = D .marksLength;
           taking = taking-same (λ k. ap (λ (z : ℕ → ℕ). zeros R T z k) first) D.taking;
         };
         came = through n x refl (omega arith) (omega arith) (omega arith)
-            (λ j m q. L j m ∙ ap (λ (z : ℕ → ℕ). suc (labelOf p z)) (sym (same j m q))) beyond.carries beyond.back;
+            (λ j m q. L j m ∙ ap (markAt p) (sym (same j m q))) beyond.carries beyond.back crossed;
         link = beyond .link;
       },
     )

@@ -8,6 +8,7 @@ pub mod Takes
 pub mod Shifted
 pub mod Shrink
 pub mod Range
+pub mod Marks
 pub mod LeaveFirst
 pub mod StatePoints
 pub mod LeaveMiddle

@@ -1,13 +1,13 @@
 -- The move from a place, told by the label that came in: what it needs is there, and it ends or goes on to a place other than the one just left.
 -- Assumes nothing.
 use mathlib.Core.Bool.{Bool, true, false}
-use mathlib.Core.List.{List}
+use mathlib.Core.List.{List, map}
 use mathlib.Core.Logic.{⊎-elim}
 use mathlib.Core.Option.{Option, none, some}
 use mathlib.Core.Path.{_≡_, refl, sym, ap, _∙_, subst}
 use Prim.Native.Nat.{ℕ, zero, suc, _-_, _≤_, _<_}
 use borrow.Author.Tests.{lt-ltb, le-ltb}
-use lib.ListN.{length-set}
+use lib.ListN.{length, length-map, length-set}
 use lib.Seq.{getD-set-same, getD-set-other}
 use native.Mathlib.Omega.{arith}
 use Rattle.combinatorics.proofs.Basics.{true-or-false, absurd-bool, same-or}
@@ -16,28 +16,29 @@ use Rattle.combinatorics.specs.Edits.{found}
 use Rattle.geometry.proofs.Definitions.{Carries, Extra}
 use Rattle.geometry.proofs.Exits.{kinds}
 use Rattle.geometry.proofs.Graph.{Through, Above}
-use Rattle.geometry.proofs.LabelledChains.{LabelledChain, FacetEnd, PlaceEnd}
+use Rattle.geometry.proofs.LabelledChains.{listAt, LabelledChain, FacetEnd, PlaceEnd}
 use Rattle.geometry.proofs.Onward.{through-determines, through-not-above, start-extra}
 use Rattle.grid.specs.Grid.{at}
 use Rattle.place.proofs.BlocksOfGrid.{blocksOf}
 use Rattle.place.proofs.ToChain.{labelOf}
 use Rattle.place.specs.Demand.{Accepted}
-use Rattle.place.specs.Problem.{Problem, label}
+use Rattle.place.specs.Problem.{Problem}
 use Rattle.moves.specs.Mask.{bit}
-use Rattle.moves.specs.Read.{read}
+use Rattle.moves.specs.Read.{markOf, read}
 use Rattle.moves.specs.Ready.{Ready, ReadyLeave, ReadyGrow}
-use Rattle.moves.specs.Step.{State, leave, step, labelled}
-use Rattle.moves.proofs.Describes.{Neighbours, Describes, labelsOf, AllLabels, LabelsBut, Came, begins, through, fromLarger, Reached}
+use Rattle.moves.specs.Step.{State, markLabel, leave, step, marked}
+use Rattle.moves.proofs.Describes.{Neighbours, Describes, labelsOf, markAt, AllMarks, MarksBut, Came, begins, through, fromLarger, Reached}
 use Rattle.moves.proofs.Grow.{grows, grow-ready}
 use Rattle.moves.proofs.Leaves.{leaves, leave-ready}
-use Rattle.moves.proofs.Range.{index-below, label-is, label-below}
+use Rattle.moves.proofs.Marks.{labels-in, mark-is, mark-label}
+use Rattle.moves.proofs.Range.{index-below, label-below}
 use Rattle.moves.proofs.StatePoints.{point-is}
 
--- the label that is read is that of the point that has come in
+-- the mark that is read is that of the point that has come in
 module _ {p : Problem} {T : ℕ → Bool} {t : ℕ} {o : ℕ → ℕ} {x : List (ℕ → ℕ)} {s : State} (D : Describes p T t o x s) where
-  labelled-describes : (l : ℕ) → Describes p T t o x (labelled s l)
-  unfolding labelled
-  labelled-describes l = record {
+  marked-describes : (m : ℕ) → Describes p T t o x (marked s m)
+  unfolding marked
+  marked-describes m = record {
     chain = D .chain;
     orderLength = D .orderLength;
     orderAt = D .orderAt;
@@ -47,16 +48,16 @@ module _ {p : Problem} {T : ℕ → Bool} {t : ℕ} {o : ℕ → ℕ} {x : List 
     coefficientsAt = D .coefficientsAt;
     inT = D .inT;
     inU = D .inU;
-    labelsLength = length-set s.labels s.turn l ∙ D .labelsLength;
+    marksLength = length-set s.marks s.turn m ∙ D .marksLength;
     taking = D .taking;
   }
 
-  labelled-labels : s .turn ≤ t → LabelsBut p t x s s.turn → AllLabels p t x (labelled s (suc (labelsOf p x s.turn)))
-  unfolding labelled
-  labelled-labels l b j m =
-      let v = suc (labelsOf p x s.turn) in
-      ⊎-elim (λ (e : j ≡ s .turn). rw e (getD-set-same s.labels s.turn v 0 (omega (arith, D .labelsLength))))
-      (λ n. getD-set-other s.labels s.turn j v 0 n ∙ b j m n) (same-or j s.turn)
+  marked-marks : s .turn ≤ t → MarksBut p t x s s.turn → AllMarks p t x (marked s (markAt p (listAt x s.turn)))
+  unfolding marked
+  marked-marks l b j m =
+      let v = markAt p (listAt x s.turn) in
+      ⊎-elim (λ (e : j ≡ s .turn). rw e (getD-set-same s.marks s.turn v 0 (omega (arith, D .marksLength))))
+      (λ n. getD-set-other s.marks s.turn j v 0 n ∙ b j m n) (same-or j s.turn)
 
 -- the state e holds the same points as s
 pub record SamePlace (s e : State) : Type 0 where
@@ -89,23 +90,26 @@ module _ {p : Problem} (ok : Accepted p) {previousOf nextOf : List ℕ} (N : Nei
       (kinds (labelOf p) A.chain A.covers)
 
   -- a chain and a state whose points all have their labels
-  module _ {T : ℕ → Bool} {t : ℕ} {o : ℕ → ℕ} {x : List (ℕ → ℕ)} {s : State} (D : Describes p T t o x s) (A : AllLabels p t x s)
+  module _ {T : ℕ → Bool} {t : ℕ} {o : ℕ → ℕ} {x : List (ℕ → ℕ)} {s : State} (D : Describes p T t o x s) (A : AllMarks p t x s)
       (low : s .turn ≤ t) where
-    label-index : at s.labels s.turn - 1 ≡ labelsOf p x s.turn
-    label-index = omega (arith, A s.turn low)
+    label-at : (j : ℕ) → j ≤ t → markLabel (at s.marks j) ≡ suc (labelsOf p x j)
+    label-at j l = ap markLabel (A j l) ∙ mark-label ok D.chain j l
 
-    label-bit : bit s.T (at s.labels s.turn - 1) ≡ T (labelsOf p x s.turn)
+    label-index : markLabel (at s.marks s.turn) - 1 ≡ labelsOf p x s.turn
+    label-index = omega (arith, label-at s.turn low)
+
+    label-bit : bit s.T (markLabel (at s.marks s.turn) - 1) ≡ T (labelsOf p x s.turn)
     label-bit = ap (bit s.T) label-index ∙ D .inT (labelsOf p x s.turn) (omega (arith, label-below ok D.chain s.turn low, ok .settled .sixteenIndices))
 
-    ready-of : (s .rule < 6 → bit s.T (at s.labels s.turn - 1) ≡ true → ReadyLeave previousOf s (found (at s.labels s.turn) s.turn s.labels))
-        → (s .rule < 6 → bit s.T (at s.labels s.turn - 1) ≡ false → ReadyGrow nextOf s (at s.labels s.turn - 1))
+    ready-of : (s .rule < 6 → bit s.T (markLabel (at s.marks s.turn) - 1) ≡ true → ReadyLeave previousOf s (found (markLabel (at s.marks s.turn)) s.turn (map markLabel s.marks)))
+        → (s .rule < 6 → bit s.T (markLabel (at s.marks s.turn) - 1) ≡ false → ReadyGrow nextOf s (markLabel (at s.marks s.turn) - 1))
         → (6 ≤ s .rule → ReadyLeave previousOf s s.turn) → Ready previousOf nextOf s
     ready-of left joined later = record {
       orderBelow = λ j l. let w : j < t = omega (arith, D .orderLength) in
           omega (arith, D .orderAt j w, index-below ok D.chain (o j) (D .chain .chain .order .within j w), ok .settled .sixteenIndices);
       takesBelow = D .taking .below;
       turn = omega (arith, D .orderLength);
-      label = λ r. (omega (arith, A s.turn low), omega (arith, A s.turn low, label-below ok D.chain s.turn low, ok .settled .sixteenIndices));
+      label = λ r. (omega (arith, label-at s.turn low), omega (arith, label-at s.turn low, label-below ok D.chain s.turn low, ok .settled .sixteenIndices));
       leaves = left;
       grows = joined;
       goesOn = later;
@@ -130,25 +134,31 @@ module _ {p : Problem} (ok : Accepted p) {previousOf nextOf : List ℕ} (N : Nei
     -- it is in T: the other point that has it
     module _ (carry : Carries T t (labelsOf p x) s.turn) (inside : T (labelsOf p x s.turn) ≡ true) where
       abbrev other : ℕ
-      other = found (at s.labels s.turn) s.turn s.labels
+      other = found (markLabel (at s.marks s.turn)) s.turn (map markLabel s.marks)
 
-      other-found : Found (at s.labels s.turn) s.turn s.labels other
+      labels-long : length (map markLabel s.marks) ≡ suc t
+      labels-long = length-map s.marks markLabel ∙ D .marksLength
+
+      carried : (j : ℕ) → j ≤ t → at (map markLabel s.marks) j ≡ suc (labelsOf p x j)
+      carried j l = labels-in s.marks j (omega (arith, D .marksLength)) ∙ label-at j l
+
+      other-found : Found (markLabel (at s.marks s.turn)) s.turn (map markLabel s.marks) other
       other-found =
           let c = carry (labelsOf p x s.turn) inside in
-          found-is _ s.turn s.labels c.0 (omega (arith, c .1, D .labelsLength)) (A c.0 c.1 ∙ ap suc c.3 ∙ sym (A s.turn low)) c.2
+          found-is _ s.turn (map markLabel s.marks) c.0 (omega (arith, c .1, labels-long)) (carried c.0 c.1 ∙ ap suc c.3 ∙ sym (label-at s.turn low)) c.2
 
       other-at-most : other ≤ t
-      other-at-most = omega (arith, other-found .inside, D .labelsLength)
+      other-at-most = omega (arith, other-found .inside, labels-long)
 
       other-carries : Carries T t (labelsOf p x) other
       other-carries k e =
           let c = carry k e in
-          let q : labelsOf p x s.turn ≡ labelsOf p x other = omega (arith, A other other-at-most, A s.turn low, other-found .is) in
+          let q : labelsOf p x s.turn ≡ labelsOf p x other = omega (arith, carried other other-at-most, label-at s.turn low, other-found .is) in
           ⊎-elim (λ (z : c .0 ≡ other). (s .turn, low, (λ w. other-found .other (sym w)), q ∙ ap (labelsOf p x) (sym z) ∙ c .3))
           (λ n. (c .0, c .1, n, c .3))
           (same-or c.0 other)
 
-  module _ {T : ℕ → Bool} {n : ℕ} {o : ℕ → ℕ} {x : List (ℕ → ℕ)} {s : State} (D : Describes p T (suc n) o x s) (A : AllLabels p (suc n) x s)
+  module _ {T : ℕ → Bool} {n : ℕ} {o : ℕ → ℕ} {x : List (ℕ → ℕ)} {s : State} (D : Describes p T (suc n) o x s) (A : AllMarks p (suc n) x s)
       (low : s .turn ≤ suc n) (l : List (ℕ → ℕ)) where
     -- point i leaves, and what lies beyond it is not l
     left-outcome : {i : ℕ} → i ≤ suc n → Carries T (suc n) (labelsOf p x) i → (Through (blocksOf p) T n x i l → ⊥)
@@ -187,38 +197,38 @@ module _ {p : Problem} (ok : Accepted p) {previousOf nextOf : List ℕ} (N : Nei
     }
 
   module _ (T : ℕ → Bool) (o : ℕ → ℕ) (x : List (ℕ → ℕ)) (s : State) where
-    read-label : {t : ℕ} → Describes p T t o x s → s .turn ≤ t → s .rule < 6 → read p s ≡ labelled s (suc (labelsOf p x s.turn))
+    read-label : {t : ℕ} → Describes p T t o x s → s .turn ≤ t → s .rule < 6 → read p s ≡ marked s (markAt p (listAt x s.turn))
     unfolding read
     read-label {t} D low r =
-        rw (lt-ltb s.rule 6 r) (ap (λ (l : ℕ). labelled s l) (ap (label p) (point-is ok N D s.turn low) ∙ sym (label-is ok D.chain s.turn low)))
+        rw (lt-ltb s.rule 6 r) (ap (λ (m : ℕ). marked s m) (ap (markOf p) (point-is ok N D s.turn low) ∙ sym (mark-is ok D.chain s.turn low)))
 
     read-none : 6 ≤ s .rule → read p s ≡ s
     unfolding read
     read-none r = rw (le-ltb s.rule 6 r)
 
     begin-onward : Describes p T 0 o x s → s .turn ≡ 0 → s .rule < 6 → Onward T 0 o x (read p s) none
-    unfolding labelled
+    unfolding marked
     begin-onward D u r =
-        let l = suc (labelsOf p x s.turn) in
+        let l = markAt p (listAt x s.turn) in
         let low : s .turn ≤ 0 = omega arith in
         let E = start-extra D.chain in
-        rw (read-label D low r) (outside-onward (labelled-describes D l) (labelled-labels D low (λ j a b. absurd (b (omega arith)))) low r
+        rw (read-label D low r) (outside-onward (marked-describes D l) (marked-marks D low (λ j a b. absurd (b (omega arith)))) low r
         (ap (λ (i : ℕ). T (labelsOf p x i)) u ∙ E .out) none (λ y q Y. absurd-bool (cc)))
 
-    came-through : {n : ℕ} (l : List (ℕ → ℕ)) → Describes p T (suc n) o x s → s .turn ≤ suc n → s .rule < 6 → LabelsBut p (suc n) x s s.turn
+    came-through : {n : ℕ} (l : List (ℕ → ℕ)) → Describes p T (suc n) o x s → s .turn ≤ suc n → s .rule < 6 → MarksBut p (suc n) x s s.turn
         → Carries T (suc n) (labelsOf p x) s.turn → Through (blocksOf p) T n x s.turn l → Onward T (suc n) o x (read p s) (some l)
-    unfolding labelled
+    unfolding marked
     came-through {n} l D low r b carry X =
-        let v = suc (labelsOf p x s.turn) in
-        rw (read-label D low r) (through-onward (labelled-describes D v) (labelled-labels D low b) low l r carry X)
+        let v = markAt p (listAt x s.turn) in
+        rw (read-label D low r) (through-onward (marked-describes D v) (marked-marks D low b) low l r carry X)
 
     -- however the path came; it does not come back to a place of one point
     pub onward : (t : ℕ) {left : Option (List (ℕ → ℕ))} → Describes p T t o x s → Came p T t x s left
         → ((l : List (ℕ → ℕ)) → left ≡ some l → t ≡ 0 → ⊥) → Onward T t o x (read p s) left
     onward t D (begins e u r) m =
         rw e (begin-onward (rw e at D) u r)
-    onward t D (through n l e low q r b carry X) m =
-        subst (λ (t : ℕ). Describes p T t o x s → s .turn ≤ t → LabelsBut p t x s s.turn → Carries T t (labelsOf p x) s.turn
+    onward t D (through n l e low q r b carry X C) m =
+        subst (λ (t : ℕ). Describes p T t o x s → s .turn ≤ t → MarksBut p t x s s.turn → Carries T t (labelsOf p x) s.turn
         → Onward T t o x (read p s) (some l)) (sym e)
         (λ D low b carry. came-through l D low r b carry X) D low b carry
     onward zero D (fromLarger l low r q A e X) m = absurd (m l refl refl)

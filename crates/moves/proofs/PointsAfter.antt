@@ -10,6 +10,8 @@ use native.Mathlib.Numerals.{add-one, add-one-le}
 use native.Mathlib.Omega.{arith}
 use Rattle.combinatorics.proofs.Basics.{before-or-not}
 use Rattle.combinatorics.proofs.Fronts.{front-paste}
+use Rattle.combinatorics.proofs.EditsRemove.{swapAt-else}
+use Rattle.combinatorics.specs.Edits.{swapAt}
 use Rattle.combinatorics.specs.Front.{front}
 use Rattle.combinatorics.specs.Lists.{concatMap, upFrom}
 use Rattle.grid.specs.Grid.{at}
@@ -66,6 +68,12 @@ module _ (takes order first : List ℕ) where
   pub earlier-ready : (i j : ℕ) → i ≤ j → ReadyPoint takes order first j → ReadyPoint takes order first i
   earlier-ready i j l r =
       record { low = omega (arith, r .low); few = r .few; indices = r .indices; positive = λ k m. r .positive k (omega arith); fits = λ k m. r .fits k (omega arith) }
+
+-- an exchange of two steps leaves the points before them
+pub after-swapped : (takes order first : List ℕ) (e i : ℕ) → i ≤ e → pointAfter takes (swapAt e order) first i ≡ pointAfter takes order first i
+unfolding pointAfter
+after-swapped takes order first e zero l = refl
+after-swapped takes order first e (suc i) l = rw (swapAt-else 0 e order i (λ q. omega arith) (λ q. omega arith), after-swapped takes order first e i (omega arith))
 
 -- the same steps from two points, and from 16 everywhere
 module _ (takes order : List ℕ) where

@@ -4,8 +4,8 @@ use mathlib.Core.Logic.{⊎-elim}
 use mathlib.Core.Path.{_≡_, refl, _∙_}
 use Prim.Native.Nat.{ℕ, _+_, _-_, _≤_, _<_}
 use borrow.Author.Tests.{eq-eqb, ne-eqb}
-use lib.ListN.{length, set, length-set}
-use lib.Seq.{getD-set-same, getD-set-other}
+use lib.ListN.{length, take, set, length-set}
+use lib.Seq.{getD-set-same, getD-set-other, getD-take}
 use native.Mathlib.Omega.{arith}
 use Rattle.combinatorics.proofs.Basics.{same-or}
 use Rattle.geometry.proofs.Definitions.{one-at}
@@ -34,3 +34,7 @@ module _ (y : List ℕ) (h b : ℕ) where
           ⊎-elim (λ (e : k ≡ h). let m : h < length y = omega arith in rw (e, eq-eqb h h refl) (getD-set-same y h (at y h + 1) 0 m))
           (λ (n : k ≡ h → ⊥). rw (ne-eqb k h n) (omega (arith, getD-set-other y h k (at y h + 1) 0 n)))
           (same-or k h)
+
+  -- the first m numbers
+  pub shifted-moved : (m : ℕ) → 0 < at y b → m ≤ length y → (k : ℕ) → k < m → at (take m (shifted y h b)) k + one-at b k ≡ at (take m y) k + one-at h k
+  shifted-moved m g l k i = rw (getD-take m (shifted y h b) k 0 i, getD-take m y k 0 i) (shifted-at g k (omega arith))

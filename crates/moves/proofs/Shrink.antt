@@ -1,14 +1,14 @@
 -- Point e + 1 leaves, and index e of the order goes with it: the state that `shrink` makes describes the facet, a place over T less that index,
 -- and the point that carries the index as its label leaves next. Assumes nothing.
 use mathlib.Core.Bool.{Bool, true, false, _&&_, _||_, cond}
-use mathlib.Core.List.{List}
+use mathlib.Core.List.{List, map}
 use mathlib.Core.Logic.{⊎-elim}
 use mathlib.Core.Option.{some}
 use mathlib.Core.Path.{_≡_, refl, sym, ap, _∙_}
 use Prim.Native.Nat.{ℕ, suc, _≤_, _<_}
 use borrow.Author.Tests.{eq-eqb, ne-eqb}
 use lib.Dec.{eqb}
-use lib.ListN.{length}
+use lib.ListN.{length, length-map}
 use native.Mathlib.Omega.{arith}
 use Rattle.combinatorics.proofs.Basics.{same-or, before-or-not}
 use Rattle.combinatorics.proofs.EditsRemove.{length-removeAt, removeAt-before, removeAt-behind, Found, found-is}
@@ -24,9 +24,10 @@ use Rattle.place.proofs.ToChain.{labelOf}
 use Rattle.place.specs.Demand.{Accepted}
 use Rattle.place.specs.Problem.{Problem}
 use Rattle.moves.specs.Mask.{bit, withIndex, withoutIndex}
-use Rattle.moves.specs.Step.{State, takingPast, shrink}
-use Rattle.moves.proofs.Describes.{Neighbours, Taking, Describes, AllLabels, labelsOf, Came, fromLarger, GoesOn}
+use Rattle.moves.specs.Step.{State, markLabel, takingPast, shrink}
+use Rattle.moves.proofs.Describes.{Neighbours, Taking, Describes, markAt, AllMarks, labelsOf, Came, fromLarger, GoesOn}
 use Rattle.moves.proofs.Masks.{bit-with, bit-without}
+use Rattle.moves.proofs.Marks.{labels-in, mark-label}
 use Rattle.moves.proofs.Range.{index-below, few}
 use Rattle.moves.proofs.Takes.{or-into, or-not, taking-past, taking-same}
 
@@ -54,7 +55,7 @@ module _ (R : Blocks) {T T' : ℕ → Bool} {b : ℕ} (small : Less T T' b) (l :
       else false q = refl
 
 module _ {p : Problem} (ok : Accepted p) {T : ℕ → Bool} {n : ℕ} {o : ℕ → ℕ} {x : List (ℕ → ℕ)} {s : State} (D : Describes p T (suc n) o x s)
-    (L : AllLabels p (suc n) x s) {e : ℕ} (l : e ≤ n)
+    (L : AllMarks p (suc n) x s) {e : ℕ} (l : e ≤ n)
     (c : Carries T (suc n) (labelsOf p x) (suc e)) {T' : ℕ → Bool} (F : Dropped (blocksOf p) T n (listAt x) (suc e) (o e) T' (omit e o))
     (intoU : Bool) (into : eqb (coord (blocksOf p) (listAt x 0) (o e)) 0 ≡ intoU) {previousOf nextOf : List ℕ}
     (N : Neighbours p.grid previousOf nextOf) where
@@ -83,17 +84,17 @@ module _ {p : Problem} (ok : Accepted p) {T : ℕ → Bool} {n : ℕ} {o : ℕ �
       ⊎-elim (λ (q : j < e). removeAt-before 0 e s.order j q ∙ D .orderAt j (omega arith) ∙ sym (omit-is n e o .lower j m q))
       (λ (q : e ≤ j). removeAt-behind 0 e s.order j q ∙ D .orderAt (suc j) (omega arith) ∙ sym (omit-is n e o .upper j m q)) (before-or-not j e)
 
-  labels-at : (j : ℕ) → j ≤ n → at (removeAt (suc e) s.labels) j ≡ suc (labelsOf p y j)
-  labels-at j m =
+  marks-at : (j : ℕ) → j ≤ n → at (removeAt (suc e) s.marks) j ≡ markAt p (listAt y j)
+  marks-at j m =
       ⊎-elim
-      (λ (q : j < suc e). removeAt-before 0 (suc e) s.labels j q ∙ L j (omega arith)
-      ∙ ap (λ (z : ℕ → ℕ). suc (labelOf p z)) (sym (points j (omega arith) ∙ F .omitsHere .lower j (omega arith) q)))
-      (λ (q : suc e ≤ j). removeAt-behind 0 (suc e) s.labels j q ∙ L (suc j) (omega arith)
-      ∙ ap (λ (z : ℕ → ℕ). suc (labelOf p z)) (sym (points j (omega arith) ∙ F .omitsHere .upper j (omega arith) q)))
+      (λ (q : j < suc e). removeAt-before 0 (suc e) s.marks j q ∙ L j (omega arith)
+      ∙ ap (markAt p) (sym (points j (omega arith) ∙ F .omitsHere .lower j (omega arith) q)))
+      (λ (q : suc e ≤ j). removeAt-behind 0 (suc e) s.marks j q ∙ L (suc j) (omega arith)
+      ∙ ap (markAt p) (sym (points j (omega arith) ∙ F .omitsHere .upper j (omega arith) q)))
       (before-or-not j (suc e))
 
-  labels-long : length (removeAt (suc e) s.labels) ≡ suc n
-  labels-long = omega (arith, length-removeAt (suc e) s.labels (omega (arith, D .labelsLength)), D .labelsLength)
+  marks-long : length (removeAt (suc e) s.marks) ≡ suc n
+  marks-long = omega (arith, length-removeAt (suc e) s.marks (omega (arith, D .marksLength)), D .marksLength)
 
   -- the index that leaves T joins U where its coordinate is 0, and the facet has an index outside U in its block
   zeros-of : (g : Bool) → eqb (coord (blocksOf p) (listAt x 0) (o e)) 0 ≡ g → (k : ℕ)
@@ -131,24 +132,35 @@ module _ {p : Problem} (ok : Accepted p) {T : ℕ → Bool} {n : ℕ} {o : ℕ �
     coefficientsAt = λ k m. D .coefficientsAt k m ∙ ap (λ (z : ℕ → ℕ). z k) (sym first);
     inT = λ k m. rw index (without-less (blocksOf p) F.small leaving-below s.T k m (D .inT k m));
     inU = λ k m. rw (index, first) (zeros-less (blocksOf p) F.small leaving-below s.U k m (listAt x 0) intoU into (D .inU k m));
-    labelsLength = labels-long;
+    marksLength = marks-long;
     taking = rw index (takes-at intoU (λ k. ap (λ (c : ℕ → ℕ). zeros (blocksOf p) T' c k) first ∙ zeros-of intoU into k));
   }
 
   -- the point that carries o e is found
-  lost : Found (suc (o e)) 16 (removeAt (suc e) s.labels) (found (suc (o e)) 16 (removeAt (suc e) s.labels))
+  labels : List ℕ
+  labels = map markLabel (removeAt (suc e) s.marks)
+
+  labels-long : length labels ≡ suc n
+  unfolding labels
+  labels-long = length-map (removeAt (suc e) s.marks) markLabel ∙ marks-long
+
+  label-at : (j : ℕ) → j ≤ n → at labels j ≡ suc (labelsOf p y j)
+  unfolding labels
+  label-at j m = labels-in (removeAt (suc e) s.marks) j (omega (arith, marks-long)) ∙ ap markLabel (marks-at j m) ∙ mark-label ok beneath.place j m
+
+  lost : Found (suc (o e)) 16 labels (found (suc (o e)) 16 labels)
   lost =
       let w = beneath .extended .covers (o e) F.small.has in
-      found-is (suc (o e)) 16 _ w.0 (omega (arith, w .1, labels-long)) (labels-at w.0 w.1 ∙ ap suc w.2)
+      found-is (suc (o e)) 16 _ w.0 (omega (arith, w .1, labels-long)) (label-at w.0 w.1 ∙ ap suc w.2)
       (λ q. omega (arith, w .1, few ok D.chain, ok .settled .sixteenIndices))
 
-  lost-label : labelsOf p y (found (suc (o e)) 16 (removeAt (suc e) s.labels)) ≡ o e
-  lost-label = omega (arith, labels-at (found (suc (o e)) 16 (removeAt (suc e) s.labels)) (omega (arith, lost .inside, labels-long)), lost .is)
+  lost-label : labelsOf p y (found (suc (o e)) 16 labels) ≡ o e
+  lost-label = omega (arith, label-at (found (suc (o e)) 16 labels) (omega (arith, lost .inside, labels-long)), lost .is)
 
   came : Came p T' n y (shrink nextOf s (suc e) e intoU) (some x)
-  unfolding shrink
+  unfolding shrink labels
   came =
-      fromLarger x (rw index (omega (arith, lost .inside, labels-long))) (six intoU) (eight intoU) labels-at
+      fromLarger x (rw index (omega (arith, lost .inside, labels-long))) (six intoU) (eight intoU) marks-at
       (rw index (ap T' lost-label ∙ F .small .out))
       (T, suc n, o, D .chain, beneath .extended)
     where

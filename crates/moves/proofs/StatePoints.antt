@@ -16,7 +16,7 @@ use Rattle.geometry.proofs.Definitions.{back, coord, Moved}
 use Rattle.geometry.proofs.LabelledChains.{listAt}
 use Rattle.geometry.proofs.Moves.{next-moved}
 use Rattle.geometry.proofs.Points.{nth}
-use Rattle.grid.specs.Grid.{Grid, Point, at, numIndices, isGridPoint}
+use Rattle.grid.specs.Grid.{Grid, Point, at, numIndices, isGridPoint, MovedBy}
 use Rattle.place.proofs.BlocksOfGrid.{blocksOf, back-below}
 use Rattle.place.proofs.FromChain.{coord-as, long}
 use Rattle.place.proofs.ToChain.{pointsOf}
@@ -25,7 +25,7 @@ use Rattle.place.specs.Places.{Simplex}
 use Rattle.place.specs.Problem.{Problem}
 use Rattle.moves.proofs.Describes.{Neighbours, Describes}
 use Rattle.moves.proofs.Range.{index-below, few, point-on, coord-below}
-use Rattle.moves.proofs.Shifted.{length-shifted, shifted-at}
+use Rattle.moves.proofs.Shifted.{length-shifted, shifted-at, shifted-moved}
 use Rattle.moves.proofs.Takes.{taken-from}
 use Rattle.moves.specs.Read.{pointAfter, pointIn, pointsFrom, ReadyPoint}
 use Rattle.moves.specs.Step.{State}
@@ -53,7 +53,7 @@ module _ {p : Problem} (ok : Accepted p) {previousOf nextOf : List ℕ} (N : Nei
   abbrev lower : ℕ → ℕ
   lower j = at s.takes (at s.order j)
 
-  order-below : (j : ℕ) → j < t → o j < numIndices p.grid
+  pub order-below : (j : ℕ) → j < t → o j < numIndices p.grid
   order-below j l = index-below ok D.chain (o j) (D .chain .chain .order .within j l)
 
   -- step j of the chain is by the index of the order, and takes from the one found
@@ -64,7 +64,7 @@ module _ {p : Problem} (ok : Accepted p) {previousOf nextOf : List ℕ} (N : Nei
       let b : lower j ≡ back (blocksOf p .previous) w.0 (o j) = ap (at s.takes) e ∙ w .3 in
       (rw (b, e) (next-moved D.chain.chain j l w.2), rw b (back-below p w.0 (o j) (order-below j l)))
 
-  after-is : (i : ℕ) → i ≤ t → (length (after i) ≡ 16) × ((k : ℕ) → k < numIndices p.grid → at (after i) k ≡ coord (blocksOf p) (listAt x i) k)
+  pub after-is : (i : ℕ) → i ≤ t → (length (after i) ≡ 16) × ((k : ℕ) → k < numIndices p.grid → at (after i) k ≡ coord (blocksOf p) (listAt x i) k)
   unfolding pointAfter
   after-is zero l = (D .firstLength, D .firstAt)
   after-is (suc i) l =
@@ -100,6 +100,14 @@ module _ {p : Problem} (ok : Accepted p) {previousOf nextOf : List ℕ} (N : Nei
       let e : length (pointIn p s i) ≡ m = length-take m (after i) ∙ omega (arith, r .0, ok .settled .sixteenIndices) in
       ext-getD 0 (pointIn p s i) (nth (pointsOf p x) i) (e ∙ sym (point-long p.grid _ (point-on ok D.chain i l)))
       (λ k kl. let w : k < m = omega arith in getD-take m (after i) k 0 w ∙ r .1 k w ∙ coord-as ok.settled D.chain i l k w)
+
+  -- each step of the order moves a point by its index
+  pub moved-on : (i : ℕ) → i < t → MovedBy p.grid (pointIn p s i) (pointIn p s (suc i)) (at s.order i) (lower i)
+  unfolding pointAfter
+  moved-on i l =
+      let r = after-is i (omega arith) in
+      let w = moves i l in
+      shifted-moved (after i) (at s.order i) (lower i) (numIndices p.grid) (omega (arith, r .1 (lower i) w.1, w .0 .gives)) (omega (arith, r .0, ok .settled .sixteenIndices))
 
   pub all-points : pointsFrom p s 0 ≡ pointsOf p x
   all-points =

@@ -1,7 +1,7 @@
 -- What keeps a move within its arrays and the width of its numbers: the `requires` of the step's functions. Every state that describes a place
 -- has it (proofs/). Assumes nothing.
 use mathlib.Core.Bool.{Bool, true, false, _&&_, _||_}
-use mathlib.Core.List.{List}
+use mathlib.Core.List.{List, map}
 use mathlib.Core.Logic.{_⊎_}
 use mathlib.Core.Path.{_≡_}
 use Prim.Native.Nat.{ℕ, zero, suc, pred, _-_, _≤_, _<_}
@@ -10,7 +10,7 @@ use lib.ListN.{length, set}
 use Rattle.combinatorics.specs.Edits.{found}
 use Rattle.grid.specs.Grid.{at}
 use Rattle.moves.specs.Mask.{bit}
-use Rattle.moves.specs.Step.{State, firstOutsideOrZero, fills}
+use Rattle.moves.specs.Step.{State, markLabel, firstOutsideOrZero, fills}
 
 -- the test holds of each number that `changedBefore` changes
 unfoldable pub testedBefore : (ℕ → Bool) → (ℕ → ℕ) → List ℕ → ℕ → ℕ → ℕ → List ℕ → Bool
@@ -21,10 +21,10 @@ testedBefore q f way b (suc n) h c = eqb h b || q (at c h) && testedBefore q f w
 abbrev pub IndicesBelow : List ℕ → Type 0
 IndicesBelow way = (h : ℕ) → h < length way → at way h < 16
 
--- the arrays that hold the order and the labels have 16 entries
-pub record SixteenEach (order labels : List ℕ) : Type 0 where
+-- the arrays that hold the order and the marks have 16 entries
+pub record SixteenEach (order marks : List ℕ) : Type 0 where
   pub inOrder : length order ≡ 16
-  pub inLabels : length labels ≡ 16
+  pub inMarks : length marks ≡ 16
 
 pub record ReadyFirst (previous : List ℕ) (s : State) : Type 0 where
   pub some : 1 ≤ length (s .order)
@@ -55,7 +55,7 @@ pub record Ready (previous next : List ℕ) (s : State) : Type 0 where
   pub orderBelow : IndicesBelow (s .order)
   pub takesBelow : IndicesBelow (s .takes)
   pub turn : s .turn ≤ length (s .order)
-  pub label : s .rule < 6 → (1 ≤ at (s .labels) (s .turn)) × (at (s .labels) (s .turn) ≤ 16)
-  pub leaves : s .rule < 6 → bit (s .T) (at (s .labels) (s .turn) - 1) ≡ true → ReadyLeave previous s (found (at (s .labels) (s .turn)) (s .turn) (s .labels))
-  pub grows : s .rule < 6 → bit (s .T) (at (s .labels) (s .turn) - 1) ≡ false → ReadyGrow next s (at (s .labels) (s .turn) - 1)
+  pub label : s .rule < 6 → (1 ≤ markLabel (at (s .marks) (s .turn))) × (markLabel (at (s .marks) (s .turn)) ≤ 16)
+  pub leaves : s .rule < 6 → bit (s .T) (markLabel (at (s .marks) (s .turn)) - 1) ≡ true → ReadyLeave previous s (found (markLabel (at (s .marks) (s .turn))) (s .turn) (map markLabel (s .marks)))
+  pub grows : s .rule < 6 → bit (s .T) (markLabel (at (s .marks) (s .turn)) - 1) ≡ false → ReadyGrow next s (markLabel (at (s .marks) (s .turn)) - 1)
   pub goesOn : 6 ≤ s .rule → ReadyLeave previous s (s .turn)

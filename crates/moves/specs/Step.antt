@@ -1,8 +1,8 @@
 -- The state of a run and one move, on lists: what the functions of this crate compute. The run's own promise does not cite it:
 -- proofs/ shows that these moves follow the path of document 01. Assumes nothing.
 use mathlib.Core.Bool.{Bool, true, false, not, _&&_, _||_, cond}
-use mathlib.Core.List.{List, [], _∷_}
-use Prim.Native.Nat.{ℕ, zero, suc, pred, _+_, _-_}
+use mathlib.Core.List.{List, [], _∷_, map}
+use Prim.Native.Nat.{ℕ, zero, suc, pred, _+_, _-_, _*_, _/_, _%_}
 use lib.Dec.{eqb, ltb}
 use lib.ListN.{length, take, set, replicate}
 use Rattle.combinatorics.specs.Edits.{insertAt, removeAt, swapAt, rotateLeft, rotateRight, found}
@@ -10,7 +10,7 @@ use Rattle.grid.specs.Grid.{at}
 use Rattle.moves.specs.Mask.{bit, withIndex, withoutIndex}
 use Rattle.moves.specs.declared.Sets.{Sets}
 
--- The place: its first point, that point's coefficient list, the indices of T in the order in which each point goes to the next, a label for
+-- The place: its first point, that point's coefficient list, the indices of T in the order in which each point goes to the next, a mark for
 -- each point, for each index the one that a step at it takes from, which is the first met going back that is not in U; T and U. How it was
 -- reached: the rule, or the kind of end and an index of its block; and the number of the point that has just come in, or, after rules 6 and 7,
 -- leaves next.
@@ -18,7 +18,7 @@ pub record State : Type 0 where
   pub first : List ℕ
   pub coefficients : List ℕ
   pub order : List ℕ
-  pub labels : List ℕ
+  pub marks : List ℕ
   pub takes : List ℕ
   pub T : ℕ
   pub U : ℕ
@@ -28,11 +28,11 @@ pub record State : Type 0 where
 
 -- the state that five arrays and the sets hold
 abbrev pub stateOf : List ℕ → List ℕ → List ℕ → List ℕ → List ℕ → Sets → State
-stateOf first coefficients order labels takes s = record {
+stateOf first coefficients order marks takes s = record {
   first = first;
   coefficients = coefficients;
   order = take (s .count) order;
-  labels = take (suc (s .count)) labels;
+  marks = take (suc (s .count)) marks;
   takes = takes;
   T = s .t;
   U = s .u;
@@ -40,6 +40,16 @@ stateOf first coefficients order labels takes s = record {
   rule = s .rule;
   end = s .end;
 }
+
+-- a mark: the label of a point, and 256 times its position
+abbrev pub mark : ℕ → ℕ → ℕ
+mark position label = position * 256 + label
+
+abbrev pub markLabel : ℕ → ℕ
+markLabel m = m % 256
+
+abbrev pub markPosition : ℕ → ℕ
+markPosition m = m / 256
 
 -- the first index met from h on, by the neighbours in `way`, at which the test holds, after at most n steps
 unfoldable pub firstMet : List ℕ → (ℕ → Bool) → ℕ → ℕ → ℕ
@@ -85,7 +95,7 @@ ended s rule h = record {
   first = s .first;
   coefficients = s .coefficients;
   order = s .order;
-  labels = s .labels;
+  marks = s .marks;
   takes = s .takes;
   T = s .T;
   U = s .U;
@@ -100,11 +110,11 @@ shrink next s i e intoU = let x = at (s .order) e in record {
   first = s .first;
   coefficients = s .coefficients;
   order = removeAt e (s .order);
-  labels = removeAt i (s .labels);
+  marks = removeAt i (s .marks);
   takes = cond intoU (takingPast next (s .U) x (s .takes)) (s .takes);
   T = withoutIndex (s .T) x;
   U = cond intoU (withIndex (s .U) x) (s .U);
-  turn = found (suc x) 16 (removeAt i (s .labels));
+  turn = found (suc x) 16 (map markLabel (removeAt i (s .marks)));
   rule = cond intoU 6 7;
   end = 0;
 }
@@ -121,7 +131,7 @@ leaveFirst previous next s =
       first = shifted (s .first) h b;
       coefficients = changedBefore suc previous b 16 h (s .coefficients);
       order = rotateLeft (s .order);
-      labels = rotateLeft (s .labels);
+      marks = rotateLeft (s .marks);
       takes = cond gone (takingPast next (s .U) b (s .takes)) (s .takes);
       T = s .T;
       U = cond gone (withIndex (s .U) b) (s .U);
@@ -140,7 +150,7 @@ leaveMiddle next s i =
       first = s .first;
       coefficients = s .coefficients;
       order = swapAt (i - 1) (s .order);
-      labels = s .labels;
+      marks = s .marks;
       takes = s .takes;
       T = s .T;
       U = s .U;
@@ -163,7 +173,7 @@ leaveLast previous next s =
       first = shifted (s .first) b h;
       coefficients = changedBefore pred previous b 16 h (s .coefficients);
       order = rotateRight (s .order);
-      labels = rotateRight (s .labels);
+      marks = rotateRight (s .marks);
       takes = cond (bit (s .U) b) (takingAt next (s .U) b (s .takes)) (s .takes);
       T = s .T;
       U = withoutIndex (s .U) b;
@@ -178,7 +188,7 @@ joined s takes i h rule = record {
   first = s .first;
   coefficients = s .coefficients;
   order = insertAt i h (s .order);
-  labels = insertAt (suc i) 0 (s .labels);
+  marks = insertAt (suc i) 0 (s .marks);
   takes = takes;
   T = withIndex (s .T) h;
   U = withoutIndex (s .U) h;
@@ -204,18 +214,18 @@ leave previous next s i =
 -- T if it is not there, and if it is, the other point with that label leaves.
 unfoldable pub step : List ℕ → List ℕ → State → State
 step previous next s =
-    let label = at (s .labels) (s .turn) in
+    let label = markLabel (at (s .marks) (s .turn)) in
     let grown = grow next s (label - 1) in
-    let left = leave previous next s (found label (s .turn) (s .labels)) in
+    let left = leave previous next s (found label (s .turn) (map markLabel (s .marks))) in
     cond (ltb (s .rule) 6) (cond (bit (s .T) (label - 1)) left grown) (leave previous next s (s .turn))
 
--- the label of the point that has just come in is read
-unfoldable pub labelled : State → ℕ → State
-labelled s label = record {
+-- the point that has just come in gets its mark
+unfoldable pub marked : State → ℕ → State
+marked s m = record {
   first = s .first;
   coefficients = s .coefficients;
   order = s .order;
-  labels = set (s .labels) (s .turn) label;
+  marks = set (s .marks) (s .turn) m;
   takes = s .takes;
   T = s .T;
   U = s .U;
@@ -230,7 +240,7 @@ begun start zeros takes = record {
   first = start;
   coefficients = replicate 16 0;
   order = [];
-  labels = 0 ∷ [];
+  marks = 0 ∷ [];
   takes = takes;
   T = 0;
   U = zeros;

@@ -9,6 +9,7 @@ mod points;
 mod shifts;
 mod walk;
 
+pub use lists::wide32;
 pub use moves::moved;
 pub use moves::step;
 pub use points::advance;
@@ -35,8 +36,8 @@ pub struct Sets {
 pub struct Place {
     pub first: [u16; 16],
     pub coefficients: [u16; 16],
-    pub order: [u8; 16],
-    pub labels: [u8; 16],
+    pub order: [u32; 16],
+    pub marks: [u32; 16],
     pub takes: [u8; 16],
     pub sets: Sets,
 }

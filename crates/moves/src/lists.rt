@@ -1,8 +1,10 @@
-// Up to 16 small numbers at the front of an array: the order of T and the labels of the points.
+// Up to 16 numbers at the front of an array: the order of T and the marks of the points.
+ghost use mathlib.Core.List.{map};
 ghost use mathlib.Core.Path.{_≡_};
 ghost use Prim.Native.Nat.{_+_, _-_, _≤_, _<_};
 ghost use lib.ListN.{length, take};
 ghost use Rattle.combinatorics.specs.Edits.{insertAt, removeAt, swapAt, rotateLeft, rotateRight, found};
+ghost use Rattle.moves.specs.Step.{markLabel};
 
 pub fn wide(x: u8) -> usize
     ensures { λ r. ⌜ r ≡ x ⌝ }
@@ -10,8 +12,14 @@ pub fn wide(x: u8) -> usize
     x as usize
 }
 
+pub fn wide32(x: u32) -> usize
+    ensures { λ r. ⌜ r ≡ x ⌝ }
+{
+    x as usize
+}
+
 // x put before entry at of the first n.
-pub fn insert(a: &mut [u8; 16], n: usize, at: usize, x: u8)
+pub fn insert(a: &mut [u32; 16], n: usize, at: usize, x: u32)
     requires { ⌜ (at ≤ n) × (n ≤ 15) × (length (now a) ≡ 16) ⌝ }
     ensures { λ _. ⌜ (take (n + 1) (now (a .exit)) ≡ insertAt at x (take n (now (a .entry)))) × (length (now (a .exit)) ≡ 16) ⌝ }
 {
@@ -24,7 +32,7 @@ pub fn insert(a: &mut [u8; 16], n: usize, at: usize, x: u8)
 }
 
 // Entry at of the first n taken out.
-pub fn remove(a: &mut [u8; 16], n: usize, at: usize)
+pub fn remove(a: &mut [u32; 16], n: usize, at: usize)
     requires { ⌜ (at < n) × (n ≤ 16) × (length (now a) ≡ 16) ⌝ }
     ensures { λ _. ⌜ (take (n - 1) (now (a .exit)) ≡ removeAt at (take n (now (a .entry)))) × (length (now (a .exit)) ≡ 16) ⌝ }
 {
@@ -36,7 +44,7 @@ pub fn remove(a: &mut [u8; 16], n: usize, at: usize)
 }
 
 // The first of the first n goes behind the others.
-pub fn turn_left(a: &mut [u8; 16], n: usize)
+pub fn turn_left(a: &mut [u32; 16], n: usize)
     requires { ⌜ (0 < n) × (n ≤ 16) × (length (now a) ≡ 16) ⌝ }
     ensures { λ _. ⌜ (take n (now (a .exit)) ≡ rotateLeft (take n (now (a .entry)))) × (length (now (a .exit)) ≡ 16) ⌝ }
 {
@@ -46,7 +54,7 @@ pub fn turn_left(a: &mut [u8; 16], n: usize)
 }
 
 // The last of the first n goes before the others.
-pub fn turn_right(a: &mut [u8; 16], n: usize)
+pub fn turn_right(a: &mut [u32; 16], n: usize)
     requires { ⌜ (0 < n) × (n ≤ 16) × (length (now a) ≡ 16) ⌝ }
     ensures { λ _. ⌜ (take n (now (a .exit)) ≡ rotateRight (take n (now (a .entry)))) × (length (now (a .exit)) ≡ 16) ⌝ }
 {
@@ -55,7 +63,7 @@ pub fn turn_right(a: &mut [u8; 16], n: usize)
 }
 
 // Entries i and i + 1 change places.
-pub fn exchange(a: &mut [u8; 16], i: usize)
+pub fn exchange(a: &mut [u32; 16], i: usize)
     requires { ⌜ (i + 1 < 16) × (length (now a) ≡ 16) ⌝ }
     ensures { λ _. ⌜ (now (a .exit) ≡ swapAt i (now (a .entry))) × (length (now (a .exit)) ≡ 16) ⌝ }
 {
@@ -64,17 +72,18 @@ pub fn exchange(a: &mut [u8; 16], i: usize)
     a[i + 1] = x;
 }
 
-// The first entry of the first n that is x, entry but passed over; n if there is none.
-pub fn find(a: &[u8; 16], n: usize, x: u8, but: usize) -> usize
+// The first of the first n numbers that is x but for a multiple of 256, entry but passed over; n if there is none. An index of the order is less
+// than 256, and a mark less its position is the label.
+pub fn find(a: &[u32; 16], n: usize, x: u32, but: usize) -> usize
     requires { ⌜ (n ≤ 16) × (length (now a) ≡ 16) ⌝ }
-    ensures { λ r. ⌜ r ≡ found x but (take n (now (a .entry))) ⌝ }
+    ensures { λ r. ⌜ r ≡ found x but (map markLabel (take n (now (a .entry)))) ⌝ }
 {
     let mut k: usize = 0;
     let i = loop {
         if k == n {
             break k;
         }
-        if a[k] == x {
+        if a[k] % 256 == x {
             if k != but {
                 break k;
             }

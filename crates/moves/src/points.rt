@@ -14,6 +14,7 @@ ghost use Rattle.moves.specs.Ready.{IndicesBelow};
 ghost use Rattle.moves.specs.Step.{stateOf, firstOutside};
 use crate::Sets;
 use crate::lists::wide;
+use crate::lists::wide32;
 use crate::mask::add;
 use crate::shifts::shift;
 use crate::walk::first_outside;
@@ -49,13 +50,13 @@ pub fn zeros(y: &[u16; 16], m: usize) -> u16
 }
 
 // The first i steps of the order: on a point, or on counts of its steps.
-pub fn advance(y: &mut [u16; 16], takes: &[u8; 16], order: &[u8; 16], i: usize)
+pub fn advance(y: &mut [u16; 16], takes: &[u8; 16], order: &[u32; 16], i: usize)
     requires { ⌜ IndicesBelow (now takes) × ReadyPoint (now takes) (take i (now order)) (now y) i ⌝ }
     ensures { λ _. ⌜ now (y .exit) ≡ pointAfter (now (takes .entry)) (take i (now (order .entry))) (now (y .entry)) i ⌝ }
 {
     let mut k: usize = 0;
     while k < i {
-        let h = wide(order[k]);
+        let h = wide32(order[k]);
         let b = wide(takes[h]);
         shift(y, h, b);
         k += 1;
@@ -79,7 +80,7 @@ fn put_row(buf: &mut [u16], position: usize, y: &[u16; 16], m: usize)
 pub fn put_points(
     buf: &mut [u16],
     first: &[u16; 16],
-    order: &[u8; 16],
+    order: &[u32; 16],
     takes: &[u8; 16],
     s: Sets,
     m: usize,

@@ -10,7 +10,7 @@ use Rattle.finder.proofs.walk.visit.Statement.{statement}
 use Rattle.finder.proofs.walk.visit.Tie as tie
 use Rattle.finder.proofs.walk.visit.Reads as reads
 use Rattle.finder.proofs.walk.visit.Lts as lts
-use Rattle.finder.proofs.walk.label_in.Reads as label-in-reads
+use Rattle.finder.proofs.walk.mark_in.Reads as mark-in-reads
 use Rattle.moves.proofs.step.Reads as step-reads
 
 step-requires : tie.Need-step-requires
@@ -28,43 +28,50 @@ returns c =
     let g = e .args .g in
     (c .step .ensures .0 ∙ ap (step (g .previous) (g .next)) (sym (read-none (tableOf g (e .args .table .now)) _ (t .if1 .taken))), c .step .ensures .1)
 
-label-in-requires : tie.Need-label-in-requires
-label-in-requires c κs =
-    let t = c .before .before .before in
-    let e = t .before .before .before .before .before in
-    (e .pre .0 .0, e .pre .1 .0 (t .if1 .left))
-
-element-write-labels : tie.Need-element-write-labels
-element-write-labels c =
+mark-in-requires : tie.Need-mark-in-requires
+mark-in-requires c κs =
     let t = c .before .before .before .before in
     let e = t .before .before .before .before .before in
-    let r = e .pre .1 .0 (t .if1 .left) .point in
+    ((e .pre .0 .0, e .pre .1 .0 (t .if1 .left) .0), e .pre .1 .0 (t .if1 .left) .1)
+
+mul-marks : tie.Need-mul-marks
+mul-marks c =
+    let t = c .before .before .before .before .before in
+    let e = t .before .before .before .before .before in
+    let r = e .pre .1 .0 (t .if1 .left) .0 .point in
+    omega (arith, r .low, r .few)
+
+element-write-marks : tie.Need-element-write-marks
+element-write-marks c =
+    let t = c .before .before .before .before .before in
+    let e = t .before .before .before .before .before in
+    let r = e .pre .1 .0 (t .if1 .left) .0 .point in
     omega (arith, r .low, r .few)
 
 step-requires-2 : tie.Need-step-requires-2
 step-requires-2 c κs =
     let w = c .before .before .before .before .before .before .before in
-    let t = w .before .before .before .before in
+    let t = w .before .before .before .before .before in
     let e = t .before .before .before .before .before in
     let a = e .args in
     let g = a .g in
     let b = below g (e .pre .0 .0 .made) in (
-      (b .0, b .1, record { inOrder = e .pre .0 .1 .inOrder; inLabels = length-set (a .labels .now) (a .s .turn) (w .label-in .result) ∙ e .pre .0 .1 .inLabels }),
+      (b .0, b .1, record { inOrder = e .pre .0 .1 .inOrder; inMarks = length-set (a .marks .now) (a .s .turn) (w .mark-in .result) ∙ e .pre .0 .1 .inMarks }),
       subst (Ready (g .previous) (g .next))
-          (sym (read-some (tableOf g (a .table .now)) (a .first .now) (a .coefficients .now) (a .order .now) (a .labels .now) (a .takes .now) (a .s) (w .label-in .result) (t .if1 .left) (e .pre .1 .0 (t .if1 .left) .point) (w .label-in .ensures)))
+          (sym (read-some (tableOf g (a .table .now)) (a .first .now) (a .coefficients .now) (a .order .now) (a .marks .now) (a .takes .now) (a .s) (w .mark-in .result) (t .if1 .left) (e .pre .1 .0 (t .if1 .left) .0 .point) (w .mark-in .ensures)))
           (e .pre .1 .1),
     )
 
 returns-2 : tie.Need-returns-2
 returns-2 c =
     let w = c .before .before .before .before .before .before .before .before in
-    let t = w .before .before .before .before in
+    let t = w .before .before .before .before .before in
     let e = t .before .before .before .before .before in
     let a = e .args in
     let g = a .g in (
       c .step2 .ensures .0
           ∙ ap (step (g .previous) (g .next))
-          (read-some (tableOf g (a .table .now)) (a .first .now) (a .coefficients .now) (a .order .now) (a .labels .now) (a .takes .now) (a .s) (w .label-in .result) (t .if1 .left) (e .pre .1 .0 (t .if1 .left) .point) (w .label-in .ensures)),
+          (read-some (tableOf g (a .table .now)) (a .first .now) (a .coefficients .now) (a .order .now) (a .marks .now) (a .takes .now) (a .s) (w .mark-in .result) (t .if1 .left) (e .pre .1 .0 (t .if1 .left) .0 .point) (w .mark-in .ensures)),
       c .step2 .ensures .1,
     )
 
@@ -74,7 +81,8 @@ visit-spec =
     (tie.spec
     step-requires
     returns
-    label-in-requires
-    element-write-labels
+    mark-in-requires
+    mul-marks
+    element-write-marks
     step-requires-2
     returns-2)

@@ -3,12 +3,13 @@
 use mathlib.Core.Path.{_≡_, refl}
 use Prim.Native.Nat.{suc, _-_, _≤_}
 use native.Mathlib.Omega.{arith}
+use Rattle.combinatorics.proofs.EditsOfArrays.{counted}
 use Rattle.grid.proofs.Fields.{indices-few}
 use Rattle.moves.proofs.Follow.{At, at-first, at-spent}
 use Rattle.moves.specs.Ready.{SixteenEach}
 use Rattle.moves.specs.Step.{stateOf}
-use Rattle.finder.specs.Finish.{problemIn}
-use Rattle.finder.proofs.Visits.{begins, below, ends-facet, ends-place, finished-facet, finished-place, finished-spent, goes-on, reads as at-point, ready}
+use Rattle.finder.specs.Finish.{problemIn, ReadySquare}
+use Rattle.finder.proofs.Visits.{begins, below, ends-facet, ends-place, finished-facet, finished-place, finished-spent, goes-on, reads as at-point, ready, square}
 use Rattle.finder.proofs.walk.walk.Statement.{statement}
 use Rattle.finder.proofs.walk.walk.Tie as tie
 use Rattle.finder.proofs.walk.walk.Reads as reads
@@ -17,11 +18,11 @@ use Rattle.finder.proofs.walk.begin.Reads as begin-reads
 use Rattle.finder.proofs.walk.visit.Reads as visit-reads
 
 abbrev Inv-loop : tie.InvT-loop
-Inv-loop g binomials table first₀ order₀ takes₀ budget coefficients₀ labels₀ s₀ left₀ first order takes coefficients labels s left =
-    At (problemIn g first₀ table) (stateOf first coefficients order labels takes s) (budget - left) × (left ≤ budget) × SixteenEach order labels × (s .rule ≡ 0 → ⊥) × (s .rule ≡ 8 → ⊥)
+Inv-loop g binomials table first₀ order₀ takes₀ budget coefficients₀ marks₀ s₀ left₀ first order takes coefficients marks s left =
+    At (problemIn g first₀ table) (stateOf first coefficients order marks takes s) (budget - left) × (left ≤ budget) × SixteenEach order marks × (s .rule ≡ 0 → ⊥) × (s .rule ≡ 8 → ⊥)
 
 abbrev μ-loop : tie.MeasureT-loop
-μ-loop g binomials table first₀ order₀ takes₀ budget coefficients₀ labels₀ s₀ left₀ first order takes coefficients labels s left = left
+μ-loop g binomials table first₀ order₀ takes₀ budget coefficients₀ marks₀ s₀ left₀ first order takes coefficients marks s left = left
 
 begin-requires : tie.Need-begin-requires Inv-loop μ-loop
 begin-requires c κs = let e = c .before .before .before in indices-few (e .args .g) (e .pre .0 .0 .made)
@@ -40,7 +41,7 @@ loop-holds c =
     let z : a .budget - a .budget ≡ 0 = omega arith in (
       rw z (begins (a .g) (e .pre .0 .0 .made) (a .first .now) (a .table .now) (e .pre .0 .1) (e .pre .0 .2) (a .order .now) (c .fill-takes .last .0) (c .before .before .before .begin .result) (r .0) (r .1) (r .2) (r .3) (r .4) (r .5) (c .fill-takes .ensures .2) (c .fill-takes .ensures .1) (c .fill-takes .ensures .0)),
       omega arith,
-      record { inOrder = e .pre .0 .3; inLabels = refl },
+      record { inOrder = e .pre .0 .3; inMarks = refl },
       (λ q. omega (arith, r .0)),
       (λ q. omega (arith, r .0)),
     )
@@ -50,9 +51,11 @@ visit-requires c κs =
     let l = c .before .before .before .before .before .before .loop in
     let e = c .before .before .before .before .before .before .before .before .before .before .before .before .before .before in
     let a = e .args in
-    let s = stateOf (l .first) (l .coefficients) (l .order) (l .labels) (l .takes) (l .s) in
+    let s = stateOf (l .first) (l .coefficients) (l .order) (l .marks) (l .takes) (l .s) in
     let r = at-point (a .g) (e .pre .0 .0 .made) (a .first .now) (a .table .now) (e .pre .0 .1) s s (a .budget - l .left) (l .inv .0) in
-    ((e .pre .0 .0, l .inv .2), ((λ _. record { firstLength = at-first (e .pre .0 .1) (l .inv .0); takesBelow = r .0; point = r .1; onGrid = r .2 }), ready (a .g) (e .pre .0 .0 .made) (a .first .now) (a .table .now) (e .pre .0 .1) s s (a .budget - l .left) (l .inv .0)))
+    let squared : ReadySquare (a .g) (l .first) (l .order) (l .marks) (l .takes) (l .s) = λ one more low.
+    square (a .g) (e .pre .0 .0 .made) (a .first .now) (a .table .now) (e .pre .0 .1) s s (a .budget - l .left) (l .inv .0) one more (rw (counted (l .order) (l .s .count) (l .inv .2 .inOrder) (r .1 .few)) low) in
+    ((e .pre .0 .0, l .inv .2), ((λ _. (record { firstLength = at-first (e .pre .0 .1) (l .inv .0); takesBelow = r .0; point = r .1; onGrid = r .2 }, squared)), ready (a .g) (e .pre .0 .0 .made) (a .first .now) (a .table .now) (e .pre .0 .1) s s (a .budget - l .left) (l .inv .0)))
 
 sub-left : tie.Need-sub-left Inv-loop μ-loop
 sub-left c = omega arith
@@ -66,7 +69,7 @@ returns c =
     let l = c .before .before .before .before .before .before .before .before .before .loop in
     let e = c .before .before .before .before .before .before .before .before .before .before .before .before .before .before .before .before .before in
     let a = e .args in
-    let s = stateOf (l .first) (l .coefficients) (l .order) (l .labels) (l .takes) (l .s) in
+    let s = stateOf (l .first) (l .coefficients) (l .order) (l .marks) (l .takes) (l .s) in
     let after = stateOf (v .last .1 .1 .1 .0) (v .last .1 .1 .1 .1 .0) (v .last .1 .1 .1 .1 .1 .0) (v .last .1 .1 .1 .1 .1 .1 .0) (v .last .1 .1 .1 .1 .1 .1 .1 .0) (v .result) in
     finished-place (problemIn (a .g) (a .first .now) (a .table .now)) (a .budget) _ (v .last .1 .1 .1 .0) (v .last .1 .1 .1 .1 .0) (v .last .1 .1 .1 .1 .1 .0) (v .last .1 .1 .1 .1 .1 .1 .0) (v .last .1 .1 .1 .1 .1 .1 .1 .0) (a .budget - l .left)
     (ends-place (a .g) (e .pre .0 .0 .made) (a .first .now) (a .table .now) (e .pre .0 .1) s after (a .budget - l .left) (l .inv .0) (v .ensures .0) (c .if1 .taken))
@@ -81,7 +84,7 @@ returns-2 c =
     let l = c .before .before .before .before .before .before .before .before .before .before .before .loop in
     let e = c .before .before .before .before .before .before .before .before .before .before .before .before .before .before .before .before .before .before .before in
     let a = e .args in
-    let s = stateOf (l .first) (l .coefficients) (l .order) (l .labels) (l .takes) (l .s) in
+    let s = stateOf (l .first) (l .coefficients) (l .order) (l .marks) (l .takes) (l .s) in
     let after = stateOf (v .last .1 .1 .1 .0) (v .last .1 .1 .1 .1 .0) (v .last .1 .1 .1 .1 .1 .0) (v .last .1 .1 .1 .1 .1 .1 .0) (v .last .1 .1 .1 .1 .1 .1 .1 .0) (v .result) in
     finished-facet (problemIn (a .g) (a .first .now) (a .table .now)) (a .budget) _ (v .last .1 .1 .1 .0) (v .last .1 .1 .1 .1 .0) (v .last .1 .1 .1 .1 .1 .0) (v .last .1 .1 .1 .1 .1 .1 .0) (v .last .1 .1 .1 .1 .1 .1 .1 .0) (a .budget - l .left)
     (ends-facet (a .g) (e .pre .0 .0 .made) (a .first .now) (a .table .now) (e .pre .0 .1) s after (a .budget - l .left) (l .inv .0) (v .ensures .0) (c .if2 .taken))
@@ -96,7 +99,7 @@ loop-again c =
     let l = c .before .before .before .before .before .before .before .before .before .before .before .loop in
     let e = c .before .before .before .before .before .before .before .before .before .before .before .before .before .before .before .before .before .before .before in
     let a = e .args in
-    let s = stateOf (l .first) (l .coefficients) (l .order) (l .labels) (l .takes) (l .s) in
+    let s = stateOf (l .first) (l .coefficients) (l .order) (l .marks) (l .takes) (l .s) in
     let after = stateOf (v .last .1 .1 .1 .0) (v .last .1 .1 .1 .1 .0) (v .last .1 .1 .1 .1 .1 .0) (v .last .1 .1 .1 .1 .1 .1 .0) (v .last .1 .1 .1 .1 .1 .1 .1 .0) (v .result) in
     let k : a .budget - (l .left - 1) ≡ suc (a .budget - l .left) = omega (arith, l .inv .1, c .before .before .before .before .before .before .before .before .before .before .loop-test .taken) in (
       rw k (goes-on (a .g) (e .pre .0 .0 .made) (a .first .now) (a .table .now) (e .pre .0 .1) s after (a .budget - l .left) (l .inv .0) (v .ensures .0) (c .before .before .if1 .left) (c .if2 .left)),
@@ -112,7 +115,7 @@ returns-3 c =
     let e = c .before .before .before .before .before .before .before .before .before in
     let a = e .args in
     let p = problemIn (a .g) (a .first .now) (a .table .now) in
-    finished-spent p (a .budget) _ _ (l .coefficients) _ (l .labels) _ (l .inv .3) (l .inv .4)
+    finished-spent p (a .budget) _ _ (l .coefficients) _ (l .marks) _ (l .inv .3) (l .inv .4)
     (at-spent (e .pre .0 .1) (l .inv .0) (a .budget) (omega arith)) refl
     (at-first (e .pre .0 .1) (l .inv .0)) (l .inv .2 .inOrder)
 

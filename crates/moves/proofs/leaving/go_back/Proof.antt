@@ -26,8 +26,8 @@ turn-right-requires-2 c κs = search needs
 returns : tie.Need-returns
 returns c =
     let a = c .before .before .before .before .before .before .before .before .args in
-    let labels : take (suc (a .n)) (c .turn-right2 .last .0) ≡ rotateRight (take (suc (a .n)) (a .labels .now)) = rw (← add-one (a .n)) (c .turn-right2 .ensures .0) in
-    (c .before .before .before .before .before .before .shift .ensures, c .before .before .before .before .lower .ensures, c .before .before .turn-right .ensures .0, labels, record { inOrder = c .before .before .turn-right .ensures .1; inLabels = c .turn-right2 .ensures .1 })
+    let marks : take (suc (a .n)) (c .turn-right2 .last .0) ≡ rotateRight (take (suc (a .n)) (a .marks .now)) = rw (← add-one (a .n)) (c .turn-right2 .ensures .0) in
+    (c .before .before .before .before .before .before .shift .ensures, c .before .before .before .before .lower .ensures, c .before .before .turn-right .ensures .0, marks, record { inOrder = c .before .before .turn-right .ensures .1; inMarks = c .turn-right2 .ensures .1 })
 
 pub go-back-spec : {M : Type 1} → statement M
 go-back-spec =

@@ -26,8 +26,8 @@ turn-left-requires-2 c κs = search needs
 returns : tie.Need-returns
 returns c =
     let a = c .before .before .before .before .before .before .before .before .args in
-    let labels : take (suc (a .n)) (c .turn-left2 .last .0) ≡ rotateLeft (take (suc (a .n)) (a .labels .now)) = rw (← add-one (a .n)) (c .turn-left2 .ensures .0) in
-    (c .before .before .before .before .before .before .shift .ensures, c .before .before .before .before .raise .ensures, c .before .before .turn-left .ensures .0, labels, record { inOrder = c .before .before .turn-left .ensures .1; inLabels = c .turn-left2 .ensures .1 })
+    let marks : take (suc (a .n)) (c .turn-left2 .last .0) ≡ rotateLeft (take (suc (a .n)) (a .marks .now)) = rw (← add-one (a .n)) (c .turn-left2 .ensures .0) in
+    (c .before .before .before .before .before .before .shift .ensures, c .before .before .before .before .raise .ensures, c .before .before .turn-left .ensures .0, marks, record { inOrder = c .before .before .turn-left .ensures .1; inMarks = c .turn-left2 .ensures .1 })
 
 pub go-forward-spec : {M : Type 1} → statement M
 go-forward-spec =

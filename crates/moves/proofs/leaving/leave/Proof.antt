@@ -18,7 +18,7 @@ returns : tie.Need-returns
 returns c =
     let s = c .before .before .before .before .before .before .before in
     let a = s .args in
-    let place = stateOf (a .first .now) (a .coefficients .now) (a .order .now) (a .labels .now) (a .takes .now) (a .s) in
+    let place = stateOf (a .first .now) (a .coefficients .now) (a .order .now) (a .marks .now) (a .takes .now) (a .s) in
     (c .leave-first .ensures .0 ∙ is-first (a .previous .now) (a .next .now) place (a .i) (c .before .before .before .before .before .before .if1 .taken), c .leave-first .ensures .1)
 
 leave-middle-requires : tie.Need-leave-middle-requires
@@ -33,7 +33,7 @@ returns-2 c =
     let s = c .before .before .before .before .before .before .before .before in
     let a = s .args in
     let n = counted (a .order .now) (a .s .count) (s .pre .0 .4 .inOrder) (s .pre .1 .few) in
-    let place = stateOf (a .first .now) (a .coefficients .now) (a .order .now) (a .labels .now) (a .takes .now) (a .s) in
+    let place = stateOf (a .first .now) (a .coefficients .now) (a .order .now) (a .marks .now) (a .takes .now) (a .s) in
     (c .leave-middle .ensures .0 (a .coefficients .now) ∙ is-middle (a .previous .now) (a .next .now) place (a .i) (c .before .before .before .before .before .before .before .if1 .left) (rw n (c .before .before .before .before .before .if2 .taken)), c .leave-middle .ensures .1)
 
 leave-last-requires : tie.Need-leave-last-requires
@@ -48,7 +48,7 @@ returns-3 c =
     let s = c .before .before .before .before .before .before .before .before .before in
     let a = s .args in
     let n = counted (a .order .now) (a .s .count) (s .pre .0 .4 .inOrder) (s .pre .1 .few) in
-    let place = stateOf (a .first .now) (a .coefficients .now) (a .order .now) (a .labels .now) (a .takes .now) (a .s) in
+    let place = stateOf (a .first .now) (a .coefficients .now) (a .order .now) (a .marks .now) (a .takes .now) (a .s) in
     (c .leave-last .ensures .0 ∙ is-last (a .previous .now) (a .next .now) place (a .i) (c .before .before .before .before .before .before .before .before .if1 .left) (rw n (c .before .before .before .before .before .before .if2 .left)), c .leave-last .ensures .1)
 
 pub leave-spec : {M : Type 1} → statement M

@@ -21,16 +21,16 @@ returns : tie.Need-returns
 returns c =
     let s = c .before .before .before .before .before .before in
     let a = s .args in
-    let place = stateOf (a .first .now) (a .coefficients .now) (a .order .now) (a .labels .now) (a .takes .now) (a .s) in
+    let place = stateOf (a .first .now) (a .coefficients .now) (a .order .now) (a .marks .now) (a .takes .now) (a .s) in
     let gone = sym (c .before .before .before .before .vanishes .ensures) ∙ c .before .before .before .if1 .taken in
     let filled = sym (c .before .before .fill .ensures) ∙ c .before .if2 .taken in
-    (c .end-at .ensures (a .first .now) (a .coefficients .now) (a .order .now) (a .labels .now) (a .takes .now) ∙ facet-end (a .previous .now) place (a .h) (a .b) (s .pre .1 .0 .2) (s .pre .1 .0 .3) (a .next .now) gone filled, s .pre .0 .2)
+    (c .end-at .ensures (a .first .now) (a .coefficients .now) (a .order .now) (a .marks .now) (a .takes .now) ∙ facet-end (a .previous .now) place (a .h) (a .b) (s .pre .1 .0 .2) (s .pre .1 .0 .3) (a .next .now) gone filled, s .pre .0 .2)
 
 go-forward-requires : tie.Need-go-forward-requires
 go-forward-requires c κs =
     let s = c .before .before .before .before .before .before .before .before .before in
     let a = s .args in
-    let place = stateOf (a .first .now) (a .coefficients .now) (a .order .now) (a .labels .now) (a .takes .now) (a .s) in
+    let place = stateOf (a .first .now) (a .coefficients .now) (a .order .now) (a .marks .now) (a .takes .now) (a .s) in
     let r = first-ready (a .previous .now) place (a .h) (a .b) (s .pre .1 .0 .2) (s .pre .1 .0 .3) (s .pre .1 .1) in
     ((s .pre .0 .3, s .pre .0 .4, s .pre .1 .0 .0, s .pre .1 .0 .1, s .pre .0 .2), (s .pre .0 .0, r .0, r .1, r .2))
 
@@ -47,7 +47,7 @@ returns-2 : tie.Need-returns-2
 returns-2 c =
     let s = c .before .before .before .before .before .before .before .before .before .before .before .before .before .before in
     let a = s .args in
-    let place = stateOf (a .first .now) (a .coefficients .now) (a .order .now) (a .labels .now) (a .takes .now) (a .s) in
+    let place = stateOf (a .first .now) (a .coefficients .now) (a .order .now) (a .marks .now) (a .takes .now) (a .s) in
     let long = length-take-le (a .s .count) (a .order .now) (omega arith) in
     let gone = sym (c .before .before .before .before .before .before .before .before .before .before .before .before .vanishes .ensures) ∙ c .before .before .before .before .before .before .before .before .before .before .before .if1 .taken in
     let open' = sym (c .before .before .before .before .before .before .before .before .before .before .fill .ensures) ∙ c .before .before .before .before .before .before .before .before .before .if2 .left in
@@ -58,7 +58,7 @@ go-forward-requires-2 : tie.Need-go-forward-requires-2
 go-forward-requires-2 c κs =
     let s = c .before .before .before .before .before .before .before in
     let a = s .args in
-    let place = stateOf (a .first .now) (a .coefficients .now) (a .order .now) (a .labels .now) (a .takes .now) (a .s) in
+    let place = stateOf (a .first .now) (a .coefficients .now) (a .order .now) (a .marks .now) (a .takes .now) (a .s) in
     let r = first-ready (a .previous .now) place (a .h) (a .b) (s .pre .1 .0 .2) (s .pre .1 .0 .3) (s .pre .1 .1) in
     ((s .pre .0 .3, s .pre .0 .4, s .pre .1 .0 .0, s .pre .1 .0 .1, s .pre .0 .2), (s .pre .0 .0, r .0, r .1, r .2))
 
@@ -66,7 +66,7 @@ returns-3 : tie.Need-returns-3
 returns-3 c =
     let s = c .before .before .before .before .before .before .before .before in
     let a = s .args in
-    let place = stateOf (a .first .now) (a .coefficients .now) (a .order .now) (a .labels .now) (a .takes .now) (a .s) in
+    let place = stateOf (a .first .now) (a .coefficients .now) (a .order .now) (a .marks .now) (a .takes .now) (a .s) in
     let long = length-take-le (a .s .count) (a .order .now) (omega arith) in
     let stays = sym (c .before .before .before .before .before .before .vanishes .ensures) ∙ c .before .before .before .before .before .if1 .left in
     let g = c .go-forward2 .ensures in

@@ -26,7 +26,7 @@ returns : tie.Need-returns
 returns c =
     let s = c .before .before .before .before .before .before in
     let a = s .args in
-    let place = stateOf (a .first .now) (a .coefficients .now) (a .order .now) (a .labels .now) (a .takes .now) (a .s) in
+    let place = stateOf (a .first .now) (a .coefficients .now) (a .order .now) (a .marks .now) (a .takes .now) (a .s) in
     let long = length-take-le (a .s .count) (a .order .now) (omega arith) in
     (c .shrink .ensures .0 (a .first .now) (a .coefficients .now) ∙ last-to-U (a .previous .now) (a .next .now) place (a .s .count) (a .h) (sym long) (s .pre .1 .0 .1) (c .before .before .before .before .if1 .taken), c .shrink .ensures .1)
 
@@ -46,7 +46,7 @@ returns-2 : tie.Need-returns-2
 returns-2 c =
     let s = c .before .before .before .before .before .before .before .before in
     let a = s .args in
-    let place = stateOf (a .first .now) (a .coefficients .now) (a .order .now) (a .labels .now) (a .takes .now) (a .s) in
+    let place = stateOf (a .first .now) (a .coefficients .now) (a .order .now) (a .marks .now) (a .takes .now) (a .s) in
     let long = length-take-le (a .s .count) (a .order .now) (omega arith) in
     (c .shrink2 .ensures .0 (a .first .now) (a .coefficients .now) ∙ T-loses (a .previous .now) (a .next .now) place (a .s .count) (a .h) (sym long) (s .pre .1 .0 .1) (c .before .before .before .before .before .before .if1 .left) (c .before .before .before .before .if2 .taken), c .shrink2 .ensures .1)
 
@@ -57,7 +57,7 @@ go-back-requires : tie.Need-go-back-requires
 go-back-requires c κs =
     let s = c .before .before .before .before .before .before .before .before .before .before in
     let a = s .args in
-    let place = stateOf (a .first .now) (a .coefficients .now) (a .order .now) (a .labels .now) (a .takes .now) (a .s) in
+    let place = stateOf (a .first .now) (a .coefficients .now) (a .order .now) (a .marks .now) (a .takes .now) (a .s) in
     let long = length-take-le (a .s .count) (a .order .now) (omega arith) in
     let found = c .before .before .before .before .first-outside-or-zero in
     let r = last-ready (a .previous .now) (a .next .now) place (a .s .count) (a .h) (sym long) (s .pre .1 .0 .1) (found .result) (found .ensures .0) (s .pre .1 .1) (c .before .before .before .before .before .before .before .before .if1 .left) (c .before .before .before .before .before .before .if2 .left) in
@@ -80,7 +80,7 @@ returns-3 : tie.Need-returns-3
 returns-3 c =
     let s = c .before .before .before .before .before .before .before .before .before .before .before .before .before .before .before .before in
     let a = s .args in
-    let place = stateOf (a .first .now) (a .coefficients .now) (a .order .now) (a .labels .now) (a .takes .now) (a .s) in
+    let place = stateOf (a .first .now) (a .coefficients .now) (a .order .now) (a .marks .now) (a .takes .now) (a .s) in
     let long = length-take-le (a .s .count) (a .order .now) (omega arith) in
     let found = c .before .before .before .before .before .before .before .before .before .before .first-outside-or-zero in
     let g = c .before .before .before .before .before .go-back .ensures in (
@@ -93,7 +93,7 @@ returns-4 : tie.Need-returns-4
 returns-4 c =
     let s = c .before .before .before .before .before .before .before .before .before .before .before .before .before .before in
     let a = s .args in
-    let place = stateOf (a .first .now) (a .coefficients .now) (a .order .now) (a .labels .now) (a .takes .now) (a .s) in
+    let place = stateOf (a .first .now) (a .coefficients .now) (a .order .now) (a .marks .now) (a .takes .now) (a .s) in
     let long = length-take-le (a .s .count) (a .order .now) (omega arith) in
     let found = c .before .before .before .before .before .before .before .before .first-outside-or-zero in
     let g = c .before .before .before .go-back .ensures in (

@@ -22,8 +22,14 @@ loop-holds c = let a = c .args in (omega arith, omega arith, omega arith, omega 
 sub-a : tie.Need-sub-a Inv-loop μ-loop
 sub-a c = omega arith
 
+mul-a : tie.Need-mul-a Inv-loop μ-loop
+mul-a c = omega arith
+
 element-copy-out-a : tie.Need-element-copy-out-a Inv-loop μ-loop
 element-copy-out-a c = omega arith
+
+mul-a-2 : tie.Need-mul-a-2 Inv-loop μ-loop
+mul-a-2 c = omega arith
 
 element-write-a : tie.Need-element-write-a Inv-loop μ-loop
 element-write-a c = omega arith
@@ -41,6 +47,9 @@ loop-again c =
     let m = take (a .n) (a .a .now) in
     let long : a .n ≤ length m = rw (length-take-le (a .n) (a .a .now) (omega arith)) (omega arith) in
     (omega arith, omega arith, omega arith, rw length-set (omega arith), insert-back (l .a) m (a .n) (l .k) (a .x) (omega arith) (omega arith) (omega arith) long (l .inv .4), omega arith)
+
+mul-a-3 : tie.Need-mul-a-3 Inv-loop μ-loop
+mul-a-3 c = omega arith
 
 element-write-a-2 : tie.Need-element-write-a-2 Inv-loop μ-loop
 element-write-a-2 c = omega arith
@@ -60,10 +69,13 @@ insert-spec =
     μ-loop
     loop-holds
     sub-a
+    mul-a
     element-copy-out-a
+    mul-a-2
     element-write-a
     sub-k
     loop-less
     loop-again
+    mul-a-3
     element-write-a-2
     returns)

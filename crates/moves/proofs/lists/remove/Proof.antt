@@ -24,8 +24,14 @@ add-loop c = omega arith
 add-a : tie.Need-add-a Inv-loop μ-loop
 add-a c = omega arith
 
+mul-a : tie.Need-mul-a Inv-loop μ-loop
+mul-a c = omega arith
+
 element-copy-out-a : tie.Need-element-copy-out-a Inv-loop μ-loop
 element-copy-out-a c = omega arith
+
+mul-a-2 : tie.Need-mul-a-2 Inv-loop μ-loop
+mul-a-2 c = omega arith
 
 element-write-a : tie.Need-element-write-a Inv-loop μ-loop
 element-write-a c = omega arith
@@ -59,7 +65,9 @@ remove-spec =
     loop-holds
     add-loop
     add-a
+    mul-a
     element-copy-out-a
+    mul-a-2
     element-write-a
     add-k
     loop-less

@@ -19,6 +19,9 @@ remove-requires c κs = search needs
 sub-a : tie.Need-sub-a
 sub-a c = search needs
 
+mul-a : tie.Need-mul-a
+mul-a c = search needs
+
 element-write-a : tie.Need-element-write-a
 element-write-a c = search needs
 
@@ -36,4 +39,4 @@ returns c =
 
 pub turn-left-spec : {M : Type 1} → statement M
 turn-left-spec =
-    tie.close (tie.spec element-copy-out-x remove-requires sub-a element-write-a returns)
+    tie.close (tie.spec element-copy-out-x remove-requires sub-a mul-a element-write-a returns)

@@ -13,6 +13,9 @@ use Rattle.moves.proofs.lists.turn_right.Tie as tie
 sub-x : tie.Need-sub-x
 sub-x c = search needs
 
+mul-x : tie.Need-mul-x
+mul-x c = search needs
+
 element-copy-out-x : tie.Need-element-copy-out-x
 element-copy-out-x c = search needs
 
@@ -32,4 +35,4 @@ returns c =
     (rw (add-one, n) at made, c .insert .ensures .1)
 
 pub turn-right-spec : {M : Type 1} → statement M
-turn-right-spec = tie.close (tie.spec sub-x element-copy-out-x sub-insert insert-requires returns)
+turn-right-spec = tie.close (tie.spec sub-x mul-x element-copy-out-x sub-insert insert-requires returns)

@@ -18,20 +18,23 @@ abbrev μ-loop : tie.MeasureT-loop
 loop-holds : tie.Need-loop-holds Inv-loop μ-loop
 loop-holds c = let a = c .args in (after-none (a .takes .now) (a .order .now) (a .y .now), omega arith)
 
+mul-wide32 : tie.Need-mul-wide32 Inv-loop μ-loop
+mul-wide32 c = omega arith
+
+element-copy-out-wide32 : tie.Need-element-copy-out-wide32 Inv-loop μ-loop
+element-copy-out-wide32 c = omega (arith, c .before .before .pre .1 .low, c .before .before .pre .1 .few)
+
+wide32-requires : tie.Need-wide32-requires Inv-loop μ-loop
+wide32-requires c κs = search needs
+
 element-copy-out-wide : tie.Need-element-copy-out-wide Inv-loop μ-loop
-element-copy-out-wide c = omega (arith, c .before .before .pre .1 .low, c .before .before .pre .1 .few)
+element-copy-out-wide c =
+    let s = c .before .before .before .before in
+    let a = s .args in
+    rw (c .wide32 .ensures) (entry-below (a .order .now) (a .i) (c .before .before .before .loop .k) (omega arith) (s .pre .1 .indices))
 
 wide-requires : tie.Need-wide-requires Inv-loop μ-loop
 wide-requires c κs = search needs
-
-element-copy-out-wide-2 : tie.Need-element-copy-out-wide-2 Inv-loop μ-loop
-element-copy-out-wide-2 c =
-    let s = c .before .before .before .before in
-    let a = s .args in
-    rw (c .wide .ensures) (entry-below (a .order .now) (a .i) (c .before .before .before .loop .k) (omega arith) (s .pre .1 .indices))
-
-wide-requires-2 : tie.Need-wide-requires-2 Inv-loop μ-loop
-wide-requires-2 c κs = search needs
 
 shift-requires : tie.Need-shift-requires Inv-loop μ-loop
 shift-requires c κs =
@@ -39,10 +42,10 @@ shift-requires c κs =
     let a = s .args in
     let l = c .before .before .before .before .before .before .loop in
     let ready =
-    step-ready (a .takes .now) (a .order .now) (a .y .now) (a .i) (a .i) (l .k) (c .before .before .before .wide .result) (c .before .wide2 .result) (l .y)
-    (c .before .before .before .before .before .loop-test .taken) (omega arith) (s .pre .1) (l .inv .0) (c .before .before .before .wide .ensures) (c .before .wide2 .ensures)
+    step-ready (a .takes .now) (a .order .now) (a .y .now) (a .i) (a .i) (l .k) (c .before .before .before .wide32 .result) (c .before .wide .result) (l .y)
+    (c .before .before .before .before .before .loop-test .taken) (omega arith) (s .pre .1) (l .inv .0) (c .before .before .before .wide32 .ensures) (c .before .wide .ensures)
     in
-    (rw (c .before .before .before .wide .ensures) (entry-below (a .order .now) (a .i) (l .k) (omega arith) (s .pre .1 .indices)), rw (c .before .wide2 .ensures) (below (a .takes .now) (s .pre .0) _), ready .0, ready .1)
+    (rw (c .before .before .before .wide32 .ensures) (entry-below (a .order .now) (a .i) (l .k) (omega arith) (s .pre .1 .indices)), rw (c .before .wide .ensures) (below (a .takes .now) (s .pre .0) _), ready .0, ready .1)
 
 add-k : tie.Need-add-k Inv-loop μ-loop
 add-k c = omega arith
@@ -54,7 +57,7 @@ loop-again : tie.Need-loop-again Inv-loop μ-loop
 loop-again c =
     let a = c .before .before .before .before .before .before .before .before .args in
     let l = c .before .before .before .before .before .before .before .loop in
-    let on = after-one-more (a .takes .now) (a .order .now) (a .y .now) (l .k) (c .before .before .before .before .wide .result) (c .before .before .wide2 .result) (c .before .before .before .before .wide .ensures) (c .before .before .wide2 .ensures) in
+    let on = after-one-more (a .takes .now) (a .order .now) (a .y .now) (l .k) (c .before .before .before .before .wide32 .result) (c .before .before .wide .result) (c .before .before .before .before .wide32 .ensures) (c .before .before .wide .ensures) in
     (c .shift .ensures ∙ rw (l .inv .0) on, omega arith)
 
 returns : tie.Need-returns Inv-loop μ-loop
@@ -71,10 +74,11 @@ advance-spec =
     Inv-loop
     μ-loop
     loop-holds
+    mul-wide32
+    element-copy-out-wide32
+    wide32-requires
     element-copy-out-wide
     wide-requires
-    element-copy-out-wide-2
-    wide-requires-2
     shift-requires
     add-k
     loop-less

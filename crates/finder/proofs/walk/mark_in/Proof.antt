@@ -1,0 +1,55 @@
+-- `walk::mark_in` meets its contract: the label stands in the table at the position. Assumes nothing.
+use Prim.Native.Nat.{_<_}
+use native.Mathlib.Omega.{arith}
+use Rattle.grid.proofs.Fields.{made-accepted}
+use Rattle.positions.proofs.Positions.{position-below}
+use Rattle.finder.proofs.Visits.{in-table, label-is}
+use borrow.Author.Needs.{needs}
+use Rattle.finder.proofs.walk.mark_in.Statement.{statement}
+use Rattle.finder.proofs.walk.mark_in.Tie as tie
+
+-- the position is small
+few : (c : tie.After-position-in) → c .position-in .result < 60001
+few c =
+    let e = c .before .before in
+    let a = made-accepted (e .args .g) (e .pre .0 .0 .made) in
+    rw (c .position-in .ensures) (omega (arith, position-below _ _ (a .sameNumber) (e .pre .0 .1 .onGrid), a .fewPoints))
+
+position-in-requires : tie.Need-position-in-requires
+position-in-requires c κs = search needs
+
+cast-result : tie.Need-cast-result
+cast-result c = omega (arith, few c)
+
+mul-result : tie.Need-mul-result
+mul-result c = omega (arith, few c)
+
+shared-slice-read-byte : tie.Need-shared-slice-read-byte
+shared-slice-read-byte c =
+    let e = c .before .before .before in
+    let a = e .args in
+    rw (c .before .position-in .ensures) (in-table (a .g) (a .binomials .now) (a .table .now) (e .pre .0 .0) _ (e .pre .0 .1 .onGrid))
+
+byte-requires : tie.Need-byte-requires
+byte-requires c κs = search needs
+
+add-result : tie.Need-add-result
+add-result c = omega (arith, few (c .before .before), c .byte .ensures .1)
+
+returns : tie.Need-returns
+returns c =
+    let e = c .before .before .before .before in
+    let a = e .args in
+    rw (c .byte .ensures .0, c .before .before .position-in .ensures, label-is (a .g) (a .binomials .now) (a .table .now) (e .pre .0 .0))
+
+pub mark-in-spec : {M : Type 1} → statement M
+mark-in-spec =
+    tie.close
+    (tie.spec
+    position-in-requires
+    cast-result
+    mul-result
+    shared-slice-read-byte
+    byte-requires
+    add-result
+    returns)
