@@ -19,7 +19,6 @@ use crate::lists::find;
 use crate::lists::remove;
 use crate::lists::turn_left;
 use crate::lists::turn_right;
-use crate::lists::wide;
 use crate::lists::wide32;
 use crate::mask::add;
 use crate::mask::has;
@@ -30,6 +29,7 @@ use crate::shifts::shift;
 use crate::shifts::take_from;
 use crate::walk::fill;
 use crate::walk::first_outside_or_zero;
+use grid::wide;
 
 const FACET_END: u8 = 8;
 

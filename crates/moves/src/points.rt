@@ -13,11 +13,11 @@ ghost use Rattle.moves.specs.Read.{pointAfter, numbersFrom, ReadyPoint};
 ghost use Rattle.moves.specs.Ready.{IndicesBelow};
 ghost use Rattle.moves.specs.Step.{stateOf, firstOutside};
 use crate::Sets;
-use crate::lists::wide;
 use crate::lists::wide32;
 use crate::mask::add;
 use crate::shifts::shift;
 use crate::walk::first_outside;
+use grid::wide;
 
 // The first m numbers of the slice.
 pub fn taken(y: &[u16], m: usize) -> [u16; 16]

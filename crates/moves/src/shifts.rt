@@ -6,8 +6,8 @@ ghost use lib.Dec.{ltb};
 ghost use Rattle.grid.specs.Grid.{at};
 ghost use Rattle.moves.specs.Ready.{IndicesBelow, testedBefore};
 ghost use Rattle.moves.specs.Step.{shifted, changedBefore, takingFrom};
-use crate::lists::wide;
 use crate::walk::first_outside;
+use grid::wide;
 
 // 1 more at h, 1 less at b.
 pub fn shift(y: &mut [u16; 16], h: usize, b: usize)

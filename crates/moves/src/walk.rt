@@ -7,8 +7,8 @@ ghost use Rattle.grid.specs.Grid.{at};
 ghost use Rattle.moves.specs.Mask.{bit};
 ghost use Rattle.moves.specs.Ready.{IndicesBelow};
 ghost use Rattle.moves.specs.Step.{firstMet, firstOutside, firstOutsideOrZero, fills};
-use crate::lists::wide;
 use crate::mask::has;
+use grid::wide;
 
 // The first index met going from h that is not in the set.
 pub fn first_outside(way: &[u8; 16], mask: u16, h: usize) -> usize
