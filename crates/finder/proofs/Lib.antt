@@ -1,3 +1,4 @@
+pub mod Readings
 pub mod Visits
 pub mod Announcements
 pub mod Refusals

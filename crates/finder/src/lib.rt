@@ -1,6 +1,7 @@
 // The path finder: the run on a label table.
 mod answers;
 mod labels;
+mod reading;
 mod walk;
 
 pub use answers::Answer;

@@ -10,7 +10,7 @@ use Rattle.finder.proofs.walk.visit.Statement.{statement}
 use Rattle.finder.proofs.walk.visit.Tie as tie
 use Rattle.finder.proofs.walk.visit.Reads as reads
 use Rattle.finder.proofs.walk.visit.Lts as lts
-use Rattle.finder.proofs.walk.mark_in.Reads as mark-in-reads
+use Rattle.finder.proofs.reading.mark_in.Reads as mark-in-reads
 use Rattle.moves.proofs.step.Reads as step-reads
 
 step-requires : tie.Need-step-requires

@@ -1,4 +1,4 @@
--- `walk::position_in` meets its contract: by the corners of a square, or by its steps. Assumes nothing.
+-- `reading::position_in` meets its contract: by the corners of a square, or by its steps. Assumes nothing.
 use mathlib.Core.List.{[]}
 use mathlib.Core.Path.{_≡_}
 use Prim.Native.Nat.{_+_, _-_, _/_, _≤_, _<_}
@@ -7,10 +7,10 @@ use Rattle.grid.specs.Grid.{at, position}
 use Rattle.grid.specs.Made.{shape}
 use Rattle.moves.specs.Read.{pointOn}
 use Rattle.moves.specs.Step.{stateOf}
-use Rattle.finder.proofs.Visits.{corner-indices, corner-low, corners-add}
+use Rattle.finder.proofs.Readings.{corner-indices, corner-low, corners-add}
 use borrow.Author.Needs.{needs}
-use Rattle.finder.proofs.walk.position_in.Statement.{statement}
-use Rattle.finder.proofs.walk.position_in.Tie as tie
+use Rattle.finder.proofs.reading.position_in.Statement.{statement}
+use Rattle.finder.proofs.reading.position_in.Tie as tie
 
 -- the point has come in between two steps, and the corners add up
 between : (c : tie.Then2) → (c .before .before .before .before .before .before .before .before .args .s .rule ≡ 1) × (0 < c .before .before .before .before .before .before .before .before .args .s .turn) × (c .before .before .before .before .before .before .before .before .args .s .turn < c .before .before .before .before .before .before .before .before .args .s .count)

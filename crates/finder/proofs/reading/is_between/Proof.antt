@@ -1,10 +1,10 @@
--- `walk::is_between` meets its contract. Assumes nothing.
+-- `reading::is_between` meets its contract. Assumes nothing.
 use mathlib.Core.Path.{sym}
 use borrow.Author.Tests.{ltb-true}
 use native.Mathlib.Omega.{arith}
 use Rattle.combinatorics.proofs.Basics.{absurd-bool}
-use Rattle.finder.proofs.walk.is_between.Statement.{statement}
-use Rattle.finder.proofs.walk.is_between.Tie as tie
+use Rattle.finder.proofs.reading.is_between.Statement.{statement}
+use Rattle.finder.proofs.reading.is_between.Tie as tie
 
 returns : tie.Need-returns
 returns c = λ e. absurd-bool (sym e)
