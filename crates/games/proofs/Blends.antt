@@ -1,7 +1,8 @@
--- Sums weighed by a mix, and that the products of mixes are linear in each of them. Assumes nothing.
+-- Sums weighed by a mix, of numbers and of integers, and that the products of mixes are linear in each of them. Assumes nothing.
 use mathlib.Core.List.{List, [], _∷_, _++_}
 use mathlib.Core.Path.{_≡_, refl, sym, ap, _∙_}
 use Prim.Native.Nat.{ℕ, zero, suc, _+_, _*_, _<_}
+use lib.IntN.{ℤ, pos, _+ℤ_, _-ℤ_, _*ℤ_, +ℤ-assoc, +ℤ-comm}
 use lib.ListN.{length, getD, take, drop, replicate, length-set, length-replicate}
 use native.Mathlib.Numerals.{add-one}
 use native.Mathlib.Omega.{arith}
@@ -9,7 +10,8 @@ use Rattle.combinatorics.proofs.Turns.{map-append}
 use Rattle.combinatorics.specs.Lists.{sum}
 use Rattle.grid.specs.Grid.{at}
 use Rattle.losses.proofs.Weights.{dot-spread, length-weights}
-use Rattle.games.specs.Corners.{blend, unit}
+use Rattle.games.proofs.Integers.{difference-weighed}
+use Rattle.games.specs.Corners.{blend, blendℤ, unit}
 use Rattle.losses.specs.Game.{dot}
 use Rattle.losses.specs.Weights.{weighed, weights}
 
@@ -29,14 +31,22 @@ pub blend-same : (z : List ℕ) (a : ℕ) → blend z (λ k. a) ≡ sum z * a
 blend-same [] a = omega arith
 blend-same (x ∷ z) a = omega (arith, blend-same z a)
 
--- one number more
-pub blend-next : (z : List ℕ) (k : ℕ) (f : ℕ → ℕ) → k < length z → blend (take (k + 1) z) f ≡ blend (take k z) f + getD z k 0 * f k
-blend-next z k f h = rw (add-one k) (go z k f h)
+-- one integer more
+pub blendℤ-next : (z : List ℕ) (k : ℕ) (f : ℕ → ℤ) → k < length z → blendℤ (take (k + 1) z) f ≡ blendℤ (take k z) f +ℤ pos (getD z k 0) *ℤ f k
+blendℤ-next z k f h = rw (add-one k) (go z k f h)
   where
-    go : (z : List ℕ) (k : ℕ) (f : ℕ → ℕ) → k < length z → blend (take (suc k) z) f ≡ blend (take k z) f + getD z k 0 * f k
+    go : (z : List ℕ) (k : ℕ) (f : ℕ → ℤ) → k < length z → blendℤ (take (suc k) z) f ≡ blendℤ (take k z) f +ℤ pos (getD z k 0) *ℤ f k
     go [] k f h = absurd (omega arith)
-    go (x ∷ z) zero f h = omega arith
-    go (x ∷ z) (suc k) f h = omega (arith, go z k (λ i. f (suc i)) (omega arith))
+    go (x ∷ z) zero f h = +ℤ-comm (pos x *ℤ f 0) (pos 0)
+    go (x ∷ z) (suc k) f h =
+        ap (λ (n : ℤ). pos x *ℤ f 0 +ℤ n) (go z k (λ i. f (suc i)) (omega arith)) ∙ sym (+ℤ-assoc (pos x *ℤ f 0) (blendℤ (take k z) (λ i. f (suc i))) (pos (getD z k 0) *ℤ f (suc k)))
+
+-- differences weighed are the difference of what is weighed
+pub blend-difference : (z : List ℕ) (f e : ℕ → ℕ) (d : ℕ → ℤ) → ((k : ℕ) → k < length z → d k ≡ pos (f k) -ℤ pos (e k)) → pos (blend z f) -ℤ pos (blend z e) ≡ blendℤ z d
+blend-difference [] f e d h = refl
+blend-difference (x ∷ z) f e d h =
+    sym (difference-weighed x (f 0) (e 0) (blend z (λ k. f (suc k))) (blend z (λ k. e (suc k))))
+    ∙ rw (h 0 (omega arith), ← blend-difference z (λ k. f (suc k)) (λ k. e (suc k)) (λ k. d (suc k)) (λ k l. h (suc k) (omega arith)))
 
 dot-blend : (z v : List ℕ) → dot z v ≡ blend z (at v)
 dot-blend [] v = refl

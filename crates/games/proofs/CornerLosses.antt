@@ -1,4 +1,4 @@
--- The losses at a point are those at its corners, weighed by the last player's mix. Assumes nothing.
+-- The losses and the differences at a point are those at its corners, weighed by the last player's mix. Assumes nothing.
 use mathlib.Core.Bool.{true, not}
 use mathlib.Core.List.{List, [], _∷_, _++_, map, append-nil}
 use mathlib.Core.Logic.{⊎-elim}
@@ -6,6 +6,7 @@ use mathlib.Core.Path.{_≡_, refl, sym, ap, _∙_, subst}
 use Prim.Native.Nat.{ℕ, zero, suc, _+_, _-_, _*_, _≤_, _<_, pred}
 use borrow.Author.Tests.{eq-eqb, ne-eqb, le-leb, leb-true, lt-ltb, ltb-true}
 use lib.Dec.{eqb, leb, ltb}
+use lib.IntN.{ℤ, natAbs}
 use lib.ListN.{length, getD, take, drop, set, replicate, length-set, length-map, length-append, length-drop, List·getD-append}
 use lib.Seq.{take-set-lt, length-take-le, take-all, drop-at, getD-take, getD-set-same, getD-set-other}
 use native.Mathlib.Nat.{mul-le-mul-left, mul-le-mul-right}
@@ -22,20 +23,18 @@ use Rattle.combinatorics.specs.Front.{front}
 use Rattle.combinatorics.specs.Lists.{all, filter, sum, upFrom}
 use Rattle.grid.proofs.Accepted.{Accepted, accepted, points-are}
 use Rattle.grid.proofs.Listing.{numPoints-is}
-use Rattle.grid.proofs.Round.{Seat, seat, block-at, block-spans}
+use Rattle.grid.proofs.Round.{Seat, seat, block-spans}
 use Rattle.grid.specs.Grid.{Grid, Point, at, blockOf, numBlocks, numIndices, numPoints, binomialProduct, size, division, firstIndex, blocks, isGridPoint}
 use Rattle.grid.specs.Questions.{firstNo, gridQuestions}
-use Rattle.games.proofs.Blends.{blend-agree, blend-times, blend-same, linear, unit-length}
-use Rattle.losses.proofs.Losses.{expected-fits, replaced-fit}
+use Rattle.games.proofs.Blends.{blend-agree, blend-times, blend-same, blend-difference, linear, unit-length}
 use Rattle.losses.proofs.Players.{at-part, point-length, mix-sum, length-mix}
-use Rattle.losses.proofs.Replaced.{mix-lengths, expected-weights, expected-is, replaced-is}
+use Rattle.losses.proofs.Replaced.{mix-lengths, expected-weights, replaced-is}
 use Rattle.games.proofs.Rows.{part-before, part-within}
-use Rattle.losses.proofs.Table.{part-low}
-use Rattle.losses.proofs.Weights.{length-weights, length-weighed, weighed-at}
-use Rattle.games.specs.Corners.{blend, column, lastPlayer, unit, corner, cornerGrid, Cornered}
-use Rattle.losses.specs.Game.{product, dot, mix, opponents, ownFirst, lossesOf, expectedLoss, replacedLoss, playerLoss}
-use Rattle.losses.specs.Known.{Drawn, IsTable}
-use Rattle.losses.specs.Weights.{weights, fit, strategyLosses}
+use Rattle.losses.proofs.Weights.{length-weights, weighed-at}
+use Rattle.games.specs.Corners.{blend, entry, column, lastPlayer, unit, corner, cornerGrid, Cornered}
+use Rattle.losses.specs.Game.{product, dot, mix, opponents, ownFirst, lossesOf, expectedLoss, replacedLoss, playerLoss, difference}
+use Rattle.losses.specs.Known.{Drawn}
+use Rattle.losses.specs.Weights.{weights, strategyLosses}
 
 -- a block ends where a later one begins, or before
 block-before : (ss : List ℕ) (i n : ℕ) → i < n → sum (take i ss) + getD ss i 0 ≤ sum (take n ss)
@@ -213,37 +212,17 @@ module _ (g : Grid) (firsts : List ℕ) (y : Point) (d : Drawn g firsts y) where
       other i l n =
           rw (corner-other g (yes .someBlock) y whole k i (omega arith), getD-set-other (g .divisions) (lastPlayer g) i 1 0 n) (mix-sum g yes y (d .isPoint) i (omega arith))
 
-  -- the losses at the point, in columns of the losses at the corners
-  module _ (losses expected replaced : List ℕ) (t : IsTable g losses) (w : Cornered (cornerGrid g) losses y (size g (lastPlayer g)) expected replaced) (h : ℕ) (inside : h < numIndices g) where
-    abbrev place : Seat g h
-    place = seat g h inside
-
-    pub expected-column : playerLoss g losses y h ≡ column (mix g y (lastPlayer g)) expected h
-    expected-column =
-        expected-blend g (yes .someBlock) y (point-length g yes y (d .isPoint)) losses (blockOf g h) (block-spans (g .sizes) h inside .0)
-        ∙ blend-agree (mix g y (lastPlayer g)) _ _ (λ k l. sym (w .expectedAt k h (omega (arith, length-mix g y (lastPlayer g))) inside))
-
-    pub replaced-column : replacedLoss g losses y h ≡ column (mix g y (lastPlayer g)) replaced h
-    replaced-column =
-        ap (replacedLoss g losses y) (place .is)
-        ∙ replaced-blend g (yes .someBlock) y (point-length g yes y (d .isPoint)) losses (place .j) (place .i) (place .inside) (omega (arith, yes .sameNumber, yes .someBlock)) (mix-sum g yes y (d .isPoint) (lastPlayer g) (omega (arith, yes .someBlock)))
-        ∙ blend-agree (mix g y (lastPlayer g)) _ _ (λ k l. ap (replacedLoss (cornerGrid g) losses (corner g y k)) (sym (place .is)) ∙ sym (w .replacedAt k h (omega (arith, length-mix g y (lastPlayer g))) inside))
-
-    pub columns-fit : (column (mix g y (lastPlayer g)) expected h < 4294967296) × (column (mix g y (lastPlayer g)) replaced h < 4294967296)
-    columns-fit =
-        let j : ℕ = place .j in
-        let low = part-low g losses t j (place .block) in
-        let b : blockOf g h ≡ j = ap (blockOf g) (place .is) ∙ block-at (g .sizes) j (place .i) (place .inside) in
-        let e : dot (mix g y j) (strategyLosses g y j (lossesOf g losses j)) ≡ column (mix g y (lastPlayer g)) expected h = sym (ap (expectedLoss g losses y) b ∙ expected-is g losses y j) ∙ expected-column in
-        let r : division g j * getD (strategyLosses g y j (lossesOf g losses j)) (place .i) 0 ≡ column (mix g y (lastPlayer g)) replaced h = sym (ap (replacedLoss g losses y) (place .is) ∙ replaced-is g losses y j (place .i) (place .inside)) ∙ replaced-column in (
-          rw e at (expected-fits g j yes y (d .isPoint) (place .block) (lossesOf g losses j) low),
-          rw r at (fit-at (division g j) (strategyLosses g y j (lossesOf g losses j)) (place .i) (omega (arith, place .inside, length-weighed (size g j) (weights (map (mix g y) (opponents g j))) (lossesOf g losses j))) (replaced-fit g j yes y (d .isPoint) (place .block) (lossesOf g losses j) low)),
-        )
-      where
-        fit-at : (a : ℕ) (l : List ℕ) (i : ℕ) → i < length l → fit (map (λ v. a * v) l) ≡ true → a * getD l i 0 < 4294967296
-        fit-at a [] i h f = absurd (omega arith)
-        fit-at a (x ∷ l) zero h f = ltb-true (a * x) 4294967296 (and-left (ltb (a * x) 4294967296) (fit (map (λ v. a * v) l)) f)
-        fit-at a (x ∷ l) (suc i) h f = fit-at a l i (omega arith) (and-right (ltb (a * x) 4294967296) (fit (map (λ v. a * v) l)) f)
+  -- the difference at the point, in a column of the differences at the corners
+  pub difference-column : (losses : List ℕ) (differences : List ℤ) → Cornered (cornerGrid g) losses y (size g (lastPlayer g)) differences → (h : ℕ) → h < numIndices g
+      → difference g losses y h ≡ column (mix g y (lastPlayer g)) differences h
+  difference-column losses differences w h inside =
+      let place : Seat g h = seat g h inside in
+      let long = point-length g yes y (d .isPoint) in
+      let p : playerLoss g losses y h ≡ blend (mix g y (lastPlayer g)) (λ k. playerLoss (cornerGrid g) losses (corner g y k) h) = expected-blend g (yes .someBlock) y long losses (blockOf g h) (block-spans (g .sizes) h inside .0) in
+      let q : replacedLoss g losses y h ≡ blend (mix g y (lastPlayer g)) (λ k. replacedLoss (cornerGrid g) losses (corner g y k) h) =
+      rw (place .is) (replaced-blend g (yes .someBlock) y long losses (place .j) (place .i) (place .inside) (omega (arith, yes .sameNumber, yes .someBlock)) (mix-sum g yes y (d .isPoint) (lastPlayer g) (omega (arith, yes .someBlock))))
+      in
+      rw (p, q) (blend-difference (mix g y (lastPlayer g)) _ _ _ (λ k l. w .differenceAt k h (omega (arith, length-mix g y (lastPlayer g))) inside))
 
 -- the array that holds a corner
 take-zeros : (s n : ℕ) → s ≤ n → take {A = ℕ} s (replicate n 0) ≡ replicate s 0
@@ -278,38 +257,32 @@ module _ (g : Grid) (some : 1 ≤ numBlocks g) (few : numIndices g ≤ 16) (y : 
       rw (← last-ends g some) (subst (λ (n : ℕ). take (n + size g (lastPlayer g)) (set (front (take (firstIndex g (lastPlayer g)) y) (replicate 16 0)) (n + k) 1) ≡ corner g y k) f
       (set-unit (take (firstIndex g (lastPlayer g)) y) (size g (lastPlayer g)) 16 k (omega (arith, last-ends g some)) inside))
 
--- one corner more
-module _ (g : Grid) (few : numIndices g ≤ 16) (losses : List ℕ) (y : Point) (k : ℕ) (expected replaced : List ℕ) (w : Cornered g losses y k expected replaced) where
-  turn : (f : ℕ → ℕ → ℕ) (old : List ℕ) → ((i h : ℕ) → i < k → h < numIndices g → at old (i * 16 + h) ≡ f i h) → (part : List ℕ) (from n : ℕ) → from ≡ k * 16 → from ≤ length old
-      → numIndices g ≤ length part → (i h : ℕ) → i < k + 1 → h < numIndices g → at (take from old ++ (front (map (f k) (upFrom 0 (numIndices g))) part ++ drop n (drop from old))) (i * 16 + h) ≡ f i h
-  turn f old stand part from n e inside room i h l b =
-      let new : List ℕ = map (f k) (upFrom 0 (numIndices g)) in
-      let long : length new ≡ numIndices g = length-map (upFrom 0 (numIndices g)) (f k) ∙ length-upFrom 0 (numIndices g) in
-      let wide : length (front new part) ≡ length part = front-length new part (omega arith) in
-      let z : 0 + h ≡ h = omega arith in
-      let value : getD new h 0 ≡ f k h = rw z at (map-at (f k) 0 (numIndices g) h b) in
-      ⊎-elim
-      (λ s.
-      let p : i * 16 + h ≡ from + h = omega (arith, s, e) in
-      ap (at (take from old ++ (front new part ++ drop n (drop from old)))) p
-      ∙ part-within old (front new part) from n inside h (omega arith) ∙ front-at new part h (omega arith) ∙ value ∙ ap (λ (x : ℕ). f x h) (sym s))
-      (λ s. part-before old (front new part) from n inside (i * 16 + h) (omega arith) ∙ stand i h (omega arith) b)
-      (same-or i k)
+-- what stands at the front of an array that is written
+pub written-at : (f : ℕ → ℕ) (n : ℕ) (old new : List ℕ) → new ≡ front (map f (upFrom 0 n)) old → (h : ℕ) → h < n → at new h ≡ f h
+written-at f n old new e h inside =
+    let long : length (map f (upFrom 0 n)) ≡ n = length-map (upFrom 0 n) f ∙ length-upFrom 0 n in
+    let z : 0 + h ≡ h = omega arith in
+    ap (λ (l : List ℕ). at l h) e ∙ front-at (map f (upFrom 0 n)) old h (omega arith) ∙ (rw z at (map-at f 0 n h inside))
 
-  pub cornered-turn : (c : Point) → c ≡ corner g y k → (p q row other : List ℕ) (from n : ℕ) → row ≡ front (map (playerLoss g losses c) (upFrom 0 (numIndices g))) p
-      → other ≡ front (map (replacedLoss g losses c) (upFrom 0 (numIndices g))) q → from ≡ k * 16 → from ≤ length expected → from ≤ length replaced → numIndices g ≤ length p → numIndices g ≤ length q
-      → Cornered g losses y (k + 1) (take from expected ++ (row ++ drop n (drop from expected))) (take from replaced ++ (other ++ drop n (drop from replaced)))
-  cornered-turn c s p q row other from n r o e a b l m = rw (r, o, s) (record {
-    expectedAt = turn (λ i. playerLoss g losses (corner g y i)) expected (w .expectedAt) p from n e a l;
-    replacedAt = turn (λ i. replacedLoss g losses (corner g y i)) replaced (w .replacedAt) q from n e b m;
-  })
+-- one corner more: its row is written from place 16 k on
+pub cornered-turn : (g : Grid) (few : numIndices g ≤ 16) (losses : List ℕ) (y : Point) (k : ℕ) (differences : List ℤ) → Cornered g losses y k differences → (row : List ℤ) (n : ℕ) → k * 16 ≤ length differences → length row ≡ 16
+    → ((h : ℕ) → h < numIndices g → (entry row h ≡ difference g losses (corner g y k) h) × (natAbs (entry row h) < 4294967296)) → Cornered g losses y (k + 1) (take (k * 16) differences ++ (row ++ drop n (drop (k * 16) differences)))
+cornered-turn g few losses y k differences w row n inside long new = record {
+  differenceAt = λ i h l b. ⊎-elim (λ s. rw (here i h s b, s) (new h b .0)) (λ s. rw (before i h (omega arith) b) (w .differenceAt i h (omega arith) b)) (same-or i k);
+  low = λ i h l b. ⊎-elim (λ s. rw (here i h s b) (new h b .1)) (λ s. rw (before i h (omega arith) b) (w .low i h (omega arith) b)) (same-or i k);
+}
+  where
+    whole : List ℤ
+    whole = take (k * 16) differences ++ (row ++ drop n (drop (k * 16) differences))
+
+    here : (i h : ℕ) → i ≡ k → h < numIndices g → entry whole (i * 16 + h) ≡ entry row h
+    here i h s b = rw s (part-within differences row (k * 16) n inside h (omega arith))
+
+    before : (i h : ℕ) → i < k → h < numIndices g → entry whole (i * 16 + h) ≡ entry differences (i * 16 + h)
+    before i h l b = part-before differences row (k * 16) n inside (i * 16 + h) (omega arith)
 
 -- points that differ only in the last player's mix have the same corners
-pub cornered-kept : (g : Grid) (losses : List ℕ) (y z : Point) (n : ℕ) (expected replaced : List ℕ) → take (firstIndex g (lastPlayer g)) z ≡ take (firstIndex g (lastPlayer g)) y
-    → Cornered g losses y n expected replaced → Cornered g losses z n expected replaced
-cornered-kept g losses y z n expected replaced e w =
+pub cornered-kept : (g : Grid) (losses : List ℕ) (y z : Point) (n : ℕ) (differences : List ℤ) → take (firstIndex g (lastPlayer g)) z ≡ take (firstIndex g (lastPlayer g)) y → Cornered g losses y n differences → Cornered g losses z n differences
+cornered-kept g losses y z n differences e w =
     let c : (k : ℕ) → corner g y k ≡ corner g z k = λ k. rw e in
-    record {
-      expectedAt = λ k h a b. w .expectedAt k h a b ∙ ap (λ (p : Point). playerLoss g losses p h) (c k);
-      replacedAt = λ k h a b. w .replacedAt k h a b ∙ ap (λ (p : Point). replacedLoss g losses p h) (c k);
-    }
+    record { differenceAt = λ k h a b. w .differenceAt k h a b ∙ ap (λ (p : Point). difference g losses p h) (c k); low = w .low }

@@ -1,12 +1,11 @@
 -- The first largest of some integers, found by going through them in order. Assumes nothing.
-use mathlib.Core.Bool.{Bool, true, false, not, cond}
+use mathlib.Core.Bool.{Bool, true, false, not}
 use mathlib.Core.Logic.{⊎-elim}
 use mathlib.Core.Path.{_≡_, refl, sym, ap, _∙_, subst}
 use Prim.Native.Nat.{ℕ, zero, suc, _+_, _-_, _≤_, _<_}
 use borrow.Author.Tests.{ltb-true, ltb-false, lt-ltb, le-ltb}
-use lib.Dec.{ltb}
-use lib.IntN.{ℤ, pos, negsuc, _-ℤ_}
-use lib.Signed.{mag, ltZ}
+use lib.IntN.{ℤ, pos, negsuc}
+use lib.Signed.{ltZ}
 use native.Mathlib.Omega.{arith}
 use Rattle.combinatorics.proofs.Agreement.{filter-agree, all-agree}
 use Rattle.combinatorics.proofs.Basics.{absurd-bool, false-of, same-or}
@@ -14,15 +13,6 @@ use Rattle.combinatorics.proofs.Lists.{all-in, in-all, onNumbers}
 use Rattle.combinatorics.proofs.Ranges.{in-upFrom, upFrom-in}
 use Rattle.combinatorics.specs.Lists.{all, filter, firstOr, upFrom}
 use Rattle.losses.specs.Game.{firstLargest}
-
--- the difference of two numbers is no further from 0 than they
-pub mag-difference : (n p q : ℕ) → p < n → q < n → mag (pos p -ℤ pos q) < n
-mag-difference n p zero a b = omega arith
-mag-difference n p (suc q) a b = go (ltb p (suc q)) refl
-  where
-    go : (t : Bool) → ltb p (suc q) ≡ t → mag (cond t (negsuc (suc q - suc p)) (pos (p - suc q))) < n
-    go true e = omega arith
-    go false e = omega arith
 
 less-after : (a b c : ℤ) → ltZ b a ≡ false → ltZ b c ≡ true → ltZ a c ≡ true
 less-after (pos a) (pos b) (pos c) f t = lt-ltb a c (omega (arith, ltb-false b a f, ltb-true b c t))

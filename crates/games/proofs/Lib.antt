@@ -1,9 +1,9 @@
+pub mod Integers
 pub mod Blends
 pub mod Rows
 pub mod PointAfter
 pub mod FirstLargest
 pub mod CornerLosses
-pub mod PointLabel
 pub mod CornerLabels
 pub mod AllLabels
 pub mod Outcomes

@@ -1,25 +1,24 @@
-// The labels of points that differ only in the last player's mix, out of the losses at their corners: the points with one
-// strategy in place of that mix. The losses at corner k stand from place 16 k on.
+// The labels of points that differ only in the last player's mix, out of the differences at their corners: the points with one
+// strategy in place of that mix. The differences at corner k stand from place 16 k on.
 ghost use mathlib.Core.Bool.{false};
 ghost use mathlib.Core.Path.{_≡_};
 ghost use Prim.Native.Nat.{ℕ, suc, _+_, _-_, _*_, _≤_, _<_};
-ghost use lib.IntN.{pos, _-ℤ_};
+ghost use lib.IntN.{pos, natAbs, _+ℤ_, _*ℤ_};
 ghost use lib.ListN.{length, take, set, replicate};
 ghost use Rattle.combinatorics.specs.Front.{front};
 ghost use Rattle.combinatorics.specs.Lists.{sum, upFrom};
-ghost use Rattle.grid.specs.Grid.{at, size};
-ghost use Rattle.games.specs.Corners.{column, lastPlayer, corner as cornerOf, Cornered};
+ghost use Rattle.grid.specs.Grid.{size};
+ghost use Rattle.games.specs.Corners.{entry, column, Low, lastPlayer, corner as cornerOf, Cornered};
 ghost use Rattle.losses.specs.Game.{product, firstLargest};
 ghost use Rattle.losses.specs.Known.{gridOf, Drawn, IsTable};
 use crate::largest;
 use losses::count_of;
 use losses::weigh_point;
-use losses::wide;
 
 // The first numbers of the row, each x times, added to the totals.
-fn add_times(totals: &mut [u32; 16], x: u32, row: &[u32], count: usize)
-    requires { ⌜ (length (now totals) ≡ 16) × (count ≤ 16) × (count ≤ length (now row)) × ((h : ℕ) → h < count → at (now totals) h + x * at (now row) h < 4294967296) ⌝ }
-    ensures { λ _. ⌜ (length (now (totals .exit)) ≡ 16) × ((h : ℕ) → h < count → at (now (totals .exit)) h ≡ at (now (totals .entry)) h + x * at (now (row .entry)) h) ⌝ }
+fn add_times(totals: &mut [i64; 16], x: i64, row: &[i64], count: usize)
+    requires { ⌜ (length (now totals) ≡ 16) × (count ≤ 16) × (count ≤ length (now row)) × ((h : ℕ) → h < count → natAbs (entry (now totals) h) + natAbs x * natAbs (entry (now row) h) < 9223372036854775808) ⌝ }
+    ensures { λ _. ⌜ (length (now (totals .exit)) ≡ 16) × ((h : ℕ) → h < count → entry (now (totals .exit)) h ≡ entry (now (totals .entry)) h +ℤ x *ℤ entry (now (row .entry)) h) ⌝ }
 {
     let mut h: usize = 0;
     while h < count {
@@ -30,28 +29,25 @@ fn add_times(totals: &mut [u32; 16], x: u32, row: &[u32], count: usize)
 }
 
 // The rows weighed by the mix, added to totals that are 0. The totals are lent: handed over by value they would be copied.
-fn add_rows(totals: &mut [u32; 16], mix: &[u16], rows: &[u32], count: usize)
-    requires { ⌜ (now totals ≡ replicate 16 0) × (length (now mix) ≤ 16) × (count ≤ 16) × (length (now rows) ≡ 256) × ((h : ℕ) → h < count → column (now mix) (now rows) h < 4294967296) ⌝ }
-    ensures { λ _. ⌜ ((h : ℕ) → h < count → at (now (totals .exit)) h ≡ column (now (mix .entry)) (now (rows .entry)) h) ⌝ }
+fn add_rows(totals: &mut [i64; 16], mix: &[u16], rows: &[i64], count: usize)
+    requires { ⌜ (now totals ≡ replicate 16 (pos 0)) × (length (now mix) ≤ 16) × (count ≤ 16) × (length (now rows) ≡ 256) × Low (length (now mix)) count (now rows) ⌝ }
+    ensures { λ _. ⌜ ((h : ℕ) → h < count → entry (now (totals .exit)) h ≡ column (now (mix .entry)) (now (rows .entry)) h) ⌝ }
 {
     let mut k: usize = 0;
     while k < mix.len() {
-        add_times(totals, wide(mix[k]), &rows[k * 16..], count);
+        add_times(totals, mix[k] as i64, &rows[k * 16..], count);
         k += 1;
     }
 }
 
 // The label of the point with this mix of the last player.
-pub fn label_point(mix: &[u16], count: usize, expected: &[u32], replaced: &[u32]) -> u8
-    requires { ⌜ (0 < count) × (count ≤ 16) × (length (now mix) ≤ 16) × (length (now expected) ≡ 256) × (length (now replaced) ≡ 256) ⌝ }
-    requires { ⌜ ((h : ℕ) → h < count → column (now mix) (now expected) h < 4294967296) × ((h : ℕ) → h < count → column (now mix) (now replaced) h < 4294967296) ⌝ }
-    ensures { λ r. ⌜ r ≡ suc (firstLargest (λ h. pos (column (now (mix .entry)) (now (expected .entry)) h) -ℤ pos (column (now (mix .entry)) (now (replaced .entry)) h)) (upFrom 0 count)) ⌝ }
+pub fn label_point(mix: &[u16], count: usize, differences: &[i64]) -> u8
+    requires { ⌜ (0 < count) × (count ≤ 16) × (length (now mix) ≤ 16) × (length (now differences) ≡ 256) × Low (length (now mix)) count (now differences) ⌝ }
+    ensures { λ r. ⌜ r ≡ suc (firstLargest (column (now (mix .entry)) (now (differences .entry))) (upFrom 0 count)) ⌝ }
 {
-    let mut p = [0u32; 16];
-    let mut q = [0u32; 16];
-    add_rows(&mut p, mix, expected, count);
-    add_rows(&mut q, mix, replaced, count);
-    (largest::first_largest(&p, &q, count) + 1) as u8
+    let mut totals = [0i64; 16];
+    add_rows(&mut totals, mix, differences, count);
+    (largest::first_largest(&totals, count) + 1) as u8
 }
 
 // The point with 1 at index h and nothing else from index first on.
@@ -69,7 +65,7 @@ fn corner(point: &[u16], first: usize, h: usize) -> [u16; 16]
     corner
 }
 
-// The losses at corner k come to those at the corners before it.
+// The differences at corner k come to those at the corners before it.
 fn weigh_corner(
     sizes: &[u8],
     ones: &[u16],
@@ -79,18 +75,19 @@ fn weigh_corner(
     count: usize,
     k: usize,
     values: &mut [u32],
-    expected: &mut [u32],
-    replaced: &mut [u32],
+    differences: &mut [i64],
 )
-    requires { ⌜ IsTable (gridOf (now sizes) (now ones)) (now losses) × (count ≡ product (now sizes)) × (count ≤ length (now values)) × (length (now expected) ≡ 256) × (length (now replaced) ≡ 256) × (length (now point) ≡ sum (now sizes)) × (k < size (gridOf (now sizes) (now ones)) (lastPlayer (gridOf (now sizes) (now ones)))) ⌝ }
+    requires { ⌜ IsTable (gridOf (now sizes) (now ones)) (now losses) × (count ≡ product (now sizes)) × (count ≤ length (now values)) × (length (now differences) ≡ 256) × (length (now point) ≡ sum (now sizes)) × (k < size (gridOf (now sizes) (now ones)) (lastPlayer (gridOf (now sizes) (now ones)))) ⌝ }
     requires { ⌜ Drawn (gridOf (now sizes) (now ones)) (now firsts) (cornerOf (gridOf (now sizes) (now ones)) (now point) k) ⌝ }
-    requires { ⌜ Cornered (gridOf (now sizes) (now ones)) (now losses) (now point) k (now expected) (now replaced) ⌝ }
-    ensures { λ _. ⌜ Cornered (gridOf (now (sizes .entry)) (now (ones .entry))) (now (losses .entry)) (now (point .entry)) (k + 1) (now (expected .exit)) (now (replaced .exit)) ⌝ }
+    requires { ⌜ Cornered (gridOf (now sizes) (now ones)) (now losses) (now point) k (now differences) ⌝ }
+    ensures { λ _. ⌜ Cornered (gridOf (now (sizes .entry)) (now (ones .entry))) (now (losses .entry)) (now (point .entry)) (k + 1) (now (differences .exit)) ⌝ }
 {
     let indices = point.len();
     let first = count_of(firsts[sizes.len() - 1]);
     let corner = corner(point, first, first + k);
     let at = k * 16;
+    let mut expected = [0u32; 16];
+    let mut replaced = [0u32; 16];
     weigh_point(
         sizes,
         ones,
@@ -99,12 +96,13 @@ fn weigh_corner(
         &corner[..indices],
         count,
         values,
-        &mut expected[at..at + 16],
-        &mut replaced[at..at + 16],
+        &mut expected,
+        &mut replaced,
     );
+    largest::put_differences(&mut differences[at..at + 16], &expected, &replaced);
 }
 
-// The losses at all corners of the point, which stand there unless the point has changed before the last player's mix.
+// The differences at all corners of the point, which stand there unless the point has changed before the last player's mix.
 pub fn weigh_corners(
     sizes: &[u8],
     ones: &[u16],
@@ -114,13 +112,12 @@ pub fn weigh_corners(
     count: usize,
     changed: bool,
     values: &mut [u32],
-    expected: &mut [u32],
-    replaced: &mut [u32],
+    differences: &mut [i64],
 )
-    requires { ⌜ IsTable (gridOf (now sizes) (now ones)) (now losses) × (count ≡ product (now sizes)) × (count ≤ length (now values)) × (length (now expected) ≡ 256) × (length (now replaced) ≡ 256) × (length (now point) ≡ sum (now sizes)) × (1 ≤ length (now sizes)) ⌝ }
+    requires { ⌜ IsTable (gridOf (now sizes) (now ones)) (now losses) × (count ≡ product (now sizes)) × (count ≤ length (now values)) × (length (now differences) ≡ 256) × (length (now point) ≡ sum (now sizes)) × (1 ≤ length (now sizes)) ⌝ }
     requires { ⌜ ((k : ℕ) → k < size (gridOf (now sizes) (now ones)) (lastPlayer (gridOf (now sizes) (now ones))) → Drawn (gridOf (now sizes) (now ones)) (now firsts) (cornerOf (gridOf (now sizes) (now ones)) (now point) k)) ⌝ }
-    requires { ⌜ (changed ≡ false → Cornered (gridOf (now sizes) (now ones)) (now losses) (now point) (size (gridOf (now sizes) (now ones)) (lastPlayer (gridOf (now sizes) (now ones)))) (now expected) (now replaced)) ⌝ }
-    ensures { λ _. ⌜ Cornered (gridOf (now (sizes .entry)) (now (ones .entry))) (now (losses .entry)) (now (point .entry)) (size (gridOf (now (sizes .entry)) (now (ones .entry))) (lastPlayer (gridOf (now (sizes .entry)) (now (ones .entry))))) (now (expected .exit)) (now (replaced .exit)) ⌝ }
+    requires { ⌜ (changed ≡ false → Cornered (gridOf (now sizes) (now ones)) (now losses) (now point) (size (gridOf (now sizes) (now ones)) (lastPlayer (gridOf (now sizes) (now ones)))) (now differences)) ⌝ }
+    ensures { λ _. ⌜ Cornered (gridOf (now (sizes .entry)) (now (ones .entry))) (now (losses .entry)) (now (point .entry)) (size (gridOf (now (sizes .entry)) (now (ones .entry))) (lastPlayer (gridOf (now (sizes .entry)) (now (ones .entry))))) (now (differences .exit)) ⌝ }
 {
     if !changed {
         return;
@@ -137,8 +134,7 @@ pub fn weigh_corners(
             count,
             k,
             values,
-            expected,
-            replaced,
+            differences,
         );
         k += 1;
     }

@@ -22,12 +22,11 @@ fn label_points(
     count: usize,
     point: &mut [u16],
     values: &mut [u32],
-    expected: &mut [u32],
-    replaced: &mut [u32],
+    differences: &mut [i64],
     buffer: &mut [u8],
 )
     requires { ⌜ Laid (gridOf (now sizes) (now divisions)) (now firsts) × IsTable (gridOf (now sizes) (now divisions)) (now losses) × (count ≡ product (now sizes)) × (count ≤ length (now values)) × (now point ≡ getD (points (gridOf (now sizes) (now divisions))) 0 []) × (length (now buffer) ≡ numPoints (gridOf (now sizes) (now divisions))) ⌝ }
-    requires { ⌜ (now ones ≡ set (now divisions) (length (now sizes) - 1) 1) × (length (now expected) ≡ 256) × (length (now replaced) ≡ 256) ⌝ }
+    requires { ⌜ (now ones ≡ set (now divisions) (length (now sizes) - 1) 1) × (length (now differences) ≡ 256) ⌝ }
     ensures { λ _. ⌜ now (buffer .exit) ≡ front (labels (gridOf (now (sizes .entry)) (now (divisions .entry))) (now (losses .entry))) (now (buffer .entry)) ⌝ }
 {
     let first = count_of(firsts[sizes.len() - 1]);
@@ -44,10 +43,9 @@ fn label_points(
             count,
             changed,
             values,
-            expected,
-            replaced,
+            differences,
         );
-        let label = corners::label_point(&point[first..], indices, expected, replaced);
+        let label = corners::label_point(&point[first..], indices, differences);
         buffer[k] = label;
         changed = successor::advance(sizes, firsts, point);
         k += 1;
@@ -74,8 +72,7 @@ pub fn write_labels(
     let mut point = [0u16; 16];
     // the largest product of sizes that add up to at most 16
     let mut values = [0u32; 324];
-    let mut expected = [0u32; 256];
-    let mut replaced = [0u32; 256];
+    let mut differences = [0i64; 256];
     successor::first_point(sizes, divisions, firsts, &mut point);
     label_points(
         sizes,
@@ -86,8 +83,7 @@ pub fn write_labels(
         count,
         &mut point[..indices],
         &mut values,
-        &mut expected,
-        &mut replaced,
+        &mut differences,
         buffer,
     );
 }

@@ -1,4 +1,4 @@
--- `weigh_corners` meets its contract: the losses at the corners passed stand in their rows. Assumes nothing.
+-- `weigh_corners` meets its contract: the differences at the corners passed stand in their rows. Assumes nothing.
 use mathlib.Core.Path.{_≡_, refl}
 use Prim.Native.Nat.{_-_, _≤_, _<_}
 use native.Mathlib.Omega.{arith}
@@ -12,14 +12,14 @@ use Rattle.games.proofs.corners.weigh_corners.Statement.{statement}
 use Rattle.games.proofs.corners.weigh_corners.Tie as tie
 
 abbrev Inv-loop : tie.InvT-loop
-Inv-loop sizes ones firsts losses point count changed values₀ expected₀ replaced₀ size k₀ values expected replaced k =
-    Cornered (gridOf sizes ones) losses point k expected replaced × (k ≤ size) × (length values ≡ length values₀) × (length expected ≡ 256) × (length replaced ≡ 256) × (size ≡ at sizes (length sizes - 1))
+Inv-loop sizes ones firsts losses point count changed values₀ differences₀ size k₀ values differences k =
+    Cornered (gridOf sizes ones) losses point k differences × (k ≤ size) × (length values ≡ length values₀) × (length differences ≡ 256) × (size ≡ at sizes (length sizes - 1))
 
 abbrev μ-loop : tie.MeasureT-loop
-μ-loop sizes ones firsts losses point count changed values₀ expected₀ replaced₀ size k₀ values expected replaced k = size - k
+μ-loop sizes ones firsts losses point count changed values₀ differences₀ size k₀ values differences k = size - k
 
 returns : tie.Need-returns Inv-loop μ-loop
-returns c = c .before .before .before .before .before .before .before .before .pre .1 .1 (not-true _ (c .if1 .taken))
+returns c = c .before .before .before .before .before .before .pre .1 .1 (not-true _ (c .if1 .taken))
 
 sub-count-of : tie.Need-sub-count-of Inv-loop μ-loop
 sub-count-of c = omega arith
@@ -32,16 +32,16 @@ count-of-requires c κs = search needs
 
 loop-holds : tie.Need-loop-holds Inv-loop μ-loop
 loop-holds c =
-    let p = c .before .before .before .before .before .before .before .before .before .before .pre in
-    (record { expectedAt = λ k h b. absurd (omega arith); replacedAt = λ k h b. absurd (omega arith) }, omega arith, refl, p .0 .3, p .0 .4, c .count-of .ensures)
+    let p = c .before .before .before .before .before .before .before .before .pre in
+    (record { differenceAt = λ k h b. absurd (omega arith); low = λ k h b. absurd (omega arith) }, omega arith, refl, p .0 .3, c .count-of .ensures)
 
 weigh-corner-requires : tie.Need-weigh-corner-requires Inv-loop μ-loop
 weigh-corner-requires c κs =
-    let p = c .before .before .before .before .before .before .before .before .before .before .before .before .before .before .before .pre in
-    let l = c .before .before .before .before .loop in
-    let s = c .before .before .before .before .before .before .before .before .before .before .before .before .before .before .before in
-    let inside : l .k < at (s .args .sizes .now) (length (s .args .sizes .now) - 1) = omega (arith, l .inv .5) in
-    ((p .0 .0, p .0 .1, omega (arith, p .0 .2), l .inv .3, l .inv .4, p .0 .5, inside), (p .1 .0 (l .k) inside, l .inv .0))
+    let s = c .before .before .before .before .before .before .before .before .before .before .before .before in
+    let l = c .before .before .before .loop in
+    let p = s .pre in
+    let inside : l .k < at (s .args .sizes .now) (length (s .args .sizes .now) - 1) = omega (arith, l .inv .4) in
+    ((p .0 .0, p .0 .1, omega (arith, p .0 .2), l .inv .3, p .0 .4, inside), (p .1 .0 (l .k) inside, l .inv .0))
 
 add-k : tie.Need-add-k Inv-loop μ-loop
 add-k c = omega arith
@@ -51,8 +51,8 @@ loop-less c = omega arith
 
 loop-again : tie.Need-loop-again Inv-loop μ-loop
 loop-again c =
-    let l = c .before .before .before .before .before .before .before .before .before .before .before .loop in
-    (c .before .before .before .before .before .before .weigh-corner .ensures, omega arith, omega arith, omega arith, omega arith, l .inv .5)
+    let l = c .before .before .before .before .before .before .before .loop in
+    (c .before .before .before .weigh-corner .ensures, omega arith, omega arith, omega arith, l .inv .4)
 
 same-length : tie.Need-same-length Inv-loop μ-loop
 same-length c = omega arith
@@ -60,14 +60,11 @@ same-length c = omega arith
 same-length-2 : tie.Need-same-length-2 Inv-loop μ-loop
 same-length-2 c = omega arith
 
-same-length-3 : tie.Need-same-length-3 Inv-loop μ-loop
-same-length-3 c = omega arith
-
 returns-2 : tie.Need-returns-2 Inv-loop μ-loop
 returns-2 c =
     let l = c .before .loop in
-    let s = c .before .before .before .before .before .before .before .before .before .before .before .before in
-    let e : l .k ≡ at (s .args .sizes .now) (length (s .args .sizes .now) - 1) = omega (arith, l .inv .5) in
+    let s = c .before .before .before .before .before .before .before .before .before .before in
+    let e : l .k ≡ at (s .args .sizes .now) (length (s .args .sizes .now) - 1) = omega (arith, l .inv .4) in
     rw e at (l .inv .0)
 
 pub weigh-corners-spec : {M : Type 1} → statement M
@@ -87,5 +84,4 @@ weigh-corners-spec =
     loop-again
     same-length
     same-length-2
-    same-length-3
     returns-2)

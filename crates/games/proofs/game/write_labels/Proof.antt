@@ -59,22 +59,19 @@ slice-aggregate-label-points-3 c = search needs
 slice-aggregate-label-points-4 : tie.Need-slice-aggregate-label-points-4
 slice-aggregate-label-points-4 c = search needs
 
-slice-aggregate-label-points-5 : tie.Need-slice-aggregate-label-points-5
-slice-aggregate-label-points-5 c = search needs
-
 label-points-requires : tie.Need-label-points-requires
 label-points-requires c κs =
-    let s = c .before .before .before .before .before .before .before .before .before .before .before .before in
+    let s = c .before .before .before .before .before .before .before .before .before .before .before in
     let a = yes s in (
       (
         s .pre .0,
         s .pre .1,
         s .pre .2,
         rw (s .pre .2) (product-few (s .args .sizes .now) (a .fewIndices)),
-        rw (c .before .before .before .before .before .before .first-point .ensures, s .pre .3) (first-array (s .args .sizes .now) (s .args .divisions .now) a .1),
+        rw (c .before .before .before .before .before .first-point .ensures, s .pre .3) (first-array (s .args .sizes .now) (s .args .divisions .now) a .1),
         s .pre .4,
       ),
-      (take-set-lt (length (s .args .sizes .now)) (s .args .padded) (length (s .args .sizes .now) - 1) 1 (omega (arith, a .someBlock)) ∙ ap (λ (l : List ℕ). set l (length (s .args .sizes .now) - 1) 1) (s .pre .5), refl, refl),
+      (take-set-lt (length (s .args .sizes .now)) (s .args .padded) (length (s .args .sizes .now) - 1) 1 (omega (arith, a .someBlock)) ∙ ap (λ (l : List ℕ). set l (length (s .args .sizes .now) - 1) 1) (s .pre .5), refl),
     )
 
 same-length : tie.Need-same-length
@@ -97,7 +94,6 @@ write-labels-spec =
     slice-aggregate-label-points-2
     slice-aggregate-label-points-3
     slice-aggregate-label-points-4
-    slice-aggregate-label-points-5
     label-points-requires
     same-length
     returns)

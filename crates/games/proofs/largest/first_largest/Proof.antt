@@ -1,56 +1,33 @@
 -- `first_largest` meets its contract: the best index leads those passed. Assumes nothing.
-use Prim.Native.Nat.{ℕ, _-_, _≤_}
-use mathlib.Core.List.{List}
+use Prim.Native.Nat.{_-_, _≤_}
 use mathlib.Core.Logic.{⊎-elim}
-use mathlib.Core.Path.{_≡_, sym, _∙_}
+use mathlib.Core.Path.{_≡_, sym}
 use native.Mathlib.Omega.{arith}
-use borrow.Author.Needs.{needs}
-use lib.IntN.{ℤ, pos, _-ℤ_}
 use mir.Val.{toZ, ofZ}
 use mir.Syntax.{w64}
 use mir.Facts.{toZ-ofZ}
-use Rattle.grid.specs.Grid.{at}
 use Rattle.games.proofs.FirstLargest.{Leads, leads-start, leads-taken, leads-kept, leads-end}
+use Rattle.games.specs.Corners.{entry}
 use Rattle.games.proofs.largest.first_largest.Statement.{statement}
 use Rattle.games.proofs.largest.first_largest.Tie as tie
 
-abbrev value : List ℕ → List ℕ → ℕ → ℤ
-value expected replaced h = pos (at expected h) -ℤ pos (at replaced h)
-
 abbrev Inv-loop : tie.InvT-loop
-Inv-loop expected replaced count best₀ most₀ h₀ best most h = Leads (value expected replaced) best (toZ w64 most) h × (1 ≤ h) × (h ≤ count)
+Inv-loop differences count best₀ most₀ h₀ best most h = Leads (entry differences) best (toZ w64 most) h × (1 ≤ h) × (h ≤ count)
 
 abbrev μ-loop : tie.MeasureT-loop
-μ-loop expected replaced count best₀ most₀ h₀ best most h = count - h
+μ-loop differences count best₀ most₀ h₀ best most h = count - h
 
-element-copy-out-difference : tie.Need-element-copy-out-difference Inv-loop μ-loop
-element-copy-out-difference c = omega arith
-
-element-copy-out-difference-2 : tie.Need-element-copy-out-difference-2 Inv-loop μ-loop
-element-copy-out-difference-2 c = omega arith
-
-difference-requires : tie.Need-difference-requires Inv-loop μ-loop
-difference-requires c κs = search needs
+element-copy-out-most : tie.Need-element-copy-out-most Inv-loop μ-loop
+element-copy-out-most c = omega arith
 
 loop-holds : tie.Need-loop-holds Inv-loop μ-loop
-loop-holds c =
-    let a = c .before .before .before .args in
-    (leads-start (value (a .expected .now) (a .replaced .now)) _ (toZ-ofZ {w = w64} (record { sfits = c .difference .ok }) ∙ c .difference .ensures), omega arith, omega arith)
+loop-holds c = (leads-start (entry (c .before .args .differences .now)) _ (toZ-ofZ {w = w64} (record { sfits = c .most .given })), omega arith, omega arith)
 
-mul-difference : tie.Need-mul-difference Inv-loop μ-loop
-mul-difference c = omega arith
+mul-d : tie.Need-mul-d Inv-loop μ-loop
+mul-d c = omega arith
 
-element-copy-out-difference-3 : tie.Need-element-copy-out-difference-3 Inv-loop μ-loop
-element-copy-out-difference-3 c = omega arith
-
-mul-difference-2 : tie.Need-mul-difference-2 Inv-loop μ-loop
-mul-difference-2 c = omega arith
-
-element-copy-out-difference-4 : tie.Need-element-copy-out-difference-4 Inv-loop μ-loop
-element-copy-out-difference-4 c = omega arith
-
-difference-requires-2 : tie.Need-difference-requires-2 Inv-loop μ-loop
-difference-requires-2 c κs = search needs
+element-copy-out-d : tie.Need-element-copy-out-d Inv-loop μ-loop
+element-copy-out-d c = omega arith
 
 add-h : tie.Need-add-h Inv-loop μ-loop
 add-h c = omega arith
@@ -60,11 +37,9 @@ loop-less c = omega arith
 
 loop-again : tie.Need-loop-again Inv-loop μ-loop
 loop-again c =
-    let l = c .before .before .before .before .before .loop in
-    let a = c .before .before .before .before .before .before .before .before .before .args in
-    let v = value (a .expected .now) (a .replaced .now) in
-    let d = c .before .difference2 in
-    let z : toZ w64 (ofZ w64 (d .result)) ≡ v (l .h) = toZ-ofZ {w = w64} (record { sfits = d .ok }) ∙ d .ensures in (
+    let l = c .before .before .before .loop in
+    let v = entry (c .before .before .before .before .before .args .differences .now) in
+    let z : toZ w64 (ofZ w64 (v (l .h))) ≡ v (l .h) = toZ-ofZ {w = w64} (record { sfits = c .before .d .given }) in (
       ⊎-elim
           (λ w. rw (w .1, w .2) (leads-taken v (l .best) _ _ (l .h) (l .inv .0) z (w .0 .taken)))
           (λ w. rw (w .1, w .2) (leads-kept v (l .best) _ _ (l .h) (l .inv .0) z (w .0 .left)))
@@ -76,9 +51,9 @@ loop-again c =
 returns : tie.Need-returns Inv-loop μ-loop
 returns c =
     let l = c .before .loop in
-    let a = c .before .before .before .before .before .args in
+    let a = c .before .before .before .args in
     let e : l .h ≡ a .count = omega arith in
-    (sym (leads-end (value (a .expected .now) (a .replaced .now)) (l .best) _ (a .count) (rw e at (l .inv .0))), omega (arith, l .inv .0 .inside))
+    (sym (leads-end (entry (a .differences .now)) (l .best) _ (a .count) (rw e at (l .inv .0))), omega (arith, l .inv .0 .inside))
 
 pub first-largest-spec : {M : Type 1} → statement M
 first-largest-spec =
@@ -86,15 +61,10 @@ first-largest-spec =
     (tie.spec
     Inv-loop
     μ-loop
-    element-copy-out-difference
-    element-copy-out-difference-2
-    difference-requires
+    element-copy-out-most
     loop-holds
-    mul-difference
-    element-copy-out-difference-3
-    mul-difference-2
-    element-copy-out-difference-4
-    difference-requires-2
+    mul-d
+    element-copy-out-d
     add-h
     loop-less
     loop-again
