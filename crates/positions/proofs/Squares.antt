@@ -1,25 +1,18 @@
 -- The positions of four grid points that make a square add up: those of two opposite corners have the sum of those of the other two. Assumes nothing.
-use mathlib.Core.Bool.{true, cond}
-use mathlib.Core.List.{map}
+use mathlib.Core.Bool.{true}
 use mathlib.Core.Logic.{_⊎_, inl, inr, ⊎-elim}
 use mathlib.Core.Path.{_≡_, refl, sym, ap, _∙_}
 use Prim.Native.Nat.{ℕ, zero, suc, _+_, _-_, _*_, _≤_, _<_}
-use borrow.Author.Tests.{eq-eqb, ne-eqb}
-use lib.Dec.{eqb}
-use lib.ListN.{length-map}
 use native.Mathlib.Nat.{add-mul, add-comm}
-use native.Mathlib.Numerals.{add-one}
 use native.Mathlib.Omega.{arith}
 use Rattle.combinatorics.proofs.Basics.{same-or, before-or-not}
-use Rattle.combinatorics.proofs.Ranges.{length-upFrom}
 use Rattle.combinatorics.specs.Counting.{choose}
-use Rattle.combinatorics.specs.Lists.{sum, upFrom}
 use Rattle.grid.proofs.Accepted.{Accepted, size-two}
 use Rattle.grid.proofs.Round.{block-at, block-fits, block-spans}
-use Rattle.grid.specs.Grid.{Grid, Point, position, numBlocks, numIndices, firstIndex, size, blockOf, isGridPoint, at, MovedBy}
+use Rattle.grid.specs.Grid.{Grid, Point, position, numBlocks, numIndices, firstIndex, size, blockOf, isGridPoint, MovedBy}
 use Rattle.grid.specs.Made.{blockCount}
 use Rattle.positions.specs.Squares.{Apart}
-use Rattle.positions.proofs.Positions.{block-step, rankOf, rank-below, Horner, horner-start, horner-next, horner-done, adds-up}
+use Rattle.positions.proofs.Tails.{tail, hits, hits-out, hits-in, tail-moved, rank, rank-one, rank-next, before, position-is}
 
 -- one step makes a of y; another makes b of y, and d of a
 pub record Square (g : Grid) (y a b d : Point) (h c k e : ℕ) : Type 0 where
@@ -36,31 +29,6 @@ pub record Square (g : Grid) (y a b d : Point) (h c k e : ℕ) : Type 0 where
   pub blockE : blockOf g e ≡ blockOf g k
   pub apart : Apart g h c k e
 
--- the sum of the n coordinates from i on
-abbrev tail : Point → ℕ → ℕ → ℕ
-tail y i n = sum (map (at y) (upFrom i n))
-
--- how many of the n indices from i on are x
-abbrev hits : ℕ → ℕ → ℕ → ℕ
-hits x i zero = 0
-hits x i (suc n) = cond (eqb i x) 1 0 + hits x (suc i) n
-
-hits-out : (x i n : ℕ) → (x < i) ⊎ (i + n ≤ x) → hits x i n ≡ 0
-hits-out x i zero o = refl
-hits-out x i (suc n) o =
-    rw (ne-eqb i x (λ q. ⊎-elim (λ l. omega arith) (λ l. omega arith) o)) (omega (arith, hits-out x (suc i) n (⊎-elim (λ l. inl (omega arith)) (λ l. inr (omega arith)) o)))
-
-hits-in : (x i n : ℕ) → i ≤ x → x < i + n → hits x i n ≡ 1
-hits-in x i zero l m = absurd (omega arith)
-hits-in x i (suc n) l m =
-    ⊎-elim (λ (q : i ≡ x). rw (eq-eqb i x q) (omega (arith, hits-out x (suc i) n (inl (omega arith)))))
-    (λ (q : i ≡ x → ⊥). rw (ne-eqb i x q) (omega (arith, hits-in x (suc i) n (omega (arith, q)) (omega arith))))
-    (same-or i x)
-
-tail-moved : (g : Grid) (y z : Point) (h c : ℕ) → MovedBy g y z h c → (i n : ℕ) → i + n ≤ numIndices g → tail z i n + hits c i n ≡ tail y i n + hits h i n
-tail-moved g y z h c m i zero l = refl
-tail-moved g y z h c m i (suc n) l = omega (arith, m i (omega arith), tail-moved g y z h c m (suc i) n (omega arith))
-
 -- of two steps in a block that are apart, one at least has both its indices in a tail or none
 hits-apart : (c h e k i n : ℕ) → c < h → h ≤ e → e < k → k < i + n → (hits c i n ≡ hits h i n) ⊎ (hits e i n ≡ hits k i n)
 hits-apart c h e k i n u v w l =
@@ -74,20 +42,6 @@ Paired p q r s = ((p ≡ r) × (q ≡ s)) ⊎ ((p ≡ s) × (q ≡ r))
 
 paired-adds : (f : ℕ → ℕ) (p q r s : ℕ) → Paired p q r s → f p + f q ≡ f r + f s
 paired-adds f p q r s = ⊎-elim (λ e. rw (e .0, e .1)) (λ e. rw (e .0, e .1) (add-comm (f s) (f r)))
-
--- the position of the n coordinates from i on
-abbrev rank : Point → ℕ → ℕ → ℕ
-rank y i n = rankOf y i n (tail y i n)
-
-rank-one : (y : Point) (i : ℕ) → rank y i 1 ≡ 0
-rank-one y i = omega (arith, rank-below y i 1 (tail y i 1) (omega arith) refl)
-
-rank-next : (y : Point) (i k : ℕ) → rank y i (suc (suc k)) + choose (tail y (suc i) (suc k) + suc k) (suc k) ≡ choose (tail y i (suc (suc k)) + suc k) (suc k) + rank y (suc i) (suc k)
-unfolding rankOf
-rank-next y i k =
-    let r : Point = map (at y) (upFrom (suc i) (suc k)) in
-    let z : at y i + sum r - at y i ≡ sum r = omega arith in
-    rw z at (block-step k (at y i + sum r) (at y i) r (omega arith) (length-map (upFrom (suc i) (suc k)) (at y) ∙ length-upFrom (suc i) (suc k)) (omega arith))
 
 -- where the tails pair up at each index, the positions in the block add up
 rank-adds : (y a b d : Point) (n i : ℕ) → 1 ≤ n → ((p q : ℕ) → i ≤ p → p + q ≡ i + n → Paired (tail a p q) (tail b p q) (tail y p q) (tail d p q))
@@ -106,20 +60,6 @@ rank-adds y a b d (suc (suc n)) i l paired =
       paired-adds counts _ _ _ _ (paired (suc i) (suc n) (omega arith) (omega arith)),
       rank-adds y a b d (suc n) (suc i) (omega arith) (λ p q m t. paired p q (omega arith) (omega arith)),
     )
-
--- the position in the blocks before j
-abbrev before : Grid → Point → ℕ → ℕ
-before g y zero = 0
-before g y (suc j) = before g y j * blockCount g j + rank y (firstIndex g j) (size g j)
-
-module _ (g : Grid) (y : Point) (x : Accepted g) (h : isGridPoint g y ≡ true) where
-  before-horner : (j : ℕ) → j ≤ numBlocks g → Horner g y j (before g y j)
-  unfolding rankOf
-  before-horner zero l = horner-start g y x h
-  before-horner (suc j) l = rw (adds-up g y x h j l, ← add-one j) (horner-next g y x h j (before g y j) l (before-horner j (omega arith)))
-
-  position-is : before g y (numBlocks g) ≡ position g y
-  position-is = horner-done g y x h _ (before-horner (numBlocks g) (omega arith))
 
 -- an index of another block is in no tail of block j
 outside : (g : Grid) (j i n x : ℕ) → firstIndex g j ≤ i → i + n ≡ firstIndex g j + size g j → (blockOf g x ≡ j → ⊥) → hits x i n ≡ 0

@@ -1,7 +1,7 @@
 -- The table of binomials by which a point's position is found. Assumes nothing.
 use mathlib.Core.List.{List}
 use mathlib.Core.Path.{_≡_}
-use Prim.Native.Nat.{ℕ, _+_, _-_, _*_, _≤_, _<_}
+use Prim.Native.Nat.{ℕ, zero, suc, _+_, _-_, _*_, _≤_, _<_}
 use lib.ListN.{getD}
 use Rattle.combinatorics.specs.Counting.{choose}
 use Rattle.grid.specs.Grid.{Grid, numBlocks, size, division}
@@ -21,3 +21,8 @@ pub record HasBinomials (g : Grid) (t : List ℕ) : Type 0 where
 -- an entry that was right is right
 pub record Keeps (old new : List ℕ) : Type 0 where
   pub right : (k r : ℕ) → 2 ≤ k → k ≤ 15 → r ≤ 344 → IsBinomial old k r → IsBinomial new k r
+
+-- how many lists of k numbers add up to x, which is not 0
+abbrev pub lists : ℕ → ℕ → ℕ
+lists zero x = 0
+lists (suc k) x = choose (x + k) k

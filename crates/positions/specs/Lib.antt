@@ -1,3 +1,4 @@
 pub mod Binomials
 pub mod Steps
 pub mod Squares
+pub mod Falls
