@@ -1,5 +1,5 @@
+pub mod ByTails
 pub mod Positions
 pub mod Squares
 pub mod Steps
 pub mod Table
-pub mod Tails

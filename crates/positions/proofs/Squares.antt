@@ -12,7 +12,7 @@ use Rattle.grid.proofs.Round.{block-at, block-fits, block-spans}
 use Rattle.grid.specs.Grid.{Grid, Point, position, numBlocks, numIndices, firstIndex, size, blockOf, isGridPoint, MovedBy}
 use Rattle.grid.specs.Made.{blockCount}
 use Rattle.positions.specs.Squares.{Apart}
-use Rattle.positions.proofs.Tails.{tail, hits, hits-out, hits-in, tail-moved, rank, rank-one, rank-next, before, position-is}
+use Rattle.positions.proofs.ByTails.{tail, hits, hits-out, hits-in, tail-moved, rank, rank-one, rank-next, before, position-is}
 
 -- one step makes a of y; another makes b of y, and d of a
 pub record Square (g : Grid) (y a b d : Point) (h c k e : ℕ) : Type 0 where

@@ -1,4 +1,4 @@
--- Stores into the table of binomials, and how far its rows are needed. Assumes nothing.
+-- Stores into the table of binomials, how far its rows are needed, and the lists that its entries count. Assumes nothing.
 use mathlib.Core.List.{List}
 use mathlib.Core.Path.{_≡_, refl, _∙_}
 use Prim.Native.Nat.{ℕ, zero, suc, _+_, _-_, _*_, pred, _≤_}
@@ -11,7 +11,7 @@ use mathlib.Core.Logic.{⊎-elim}
 use Rattle.combinatorics.proofs.Binomials.{choose-grows, choose-step}
 use Rattle.combinatorics.specs.Counting.{choose}
 use Rattle.grid.proofs.Capped.{at-set}
-use Rattle.positions.specs.Binomials.{IsBinomial, HasRows, Keeps}
+use Rattle.positions.specs.Binomials.{IsBinomial, HasRows, Keeps, lists}
 
 pub keeps-self : {t : List ℕ} → Keeps t t
 keeps-self = record { right = λ k r a b c e. e }
@@ -49,3 +49,13 @@ rows-next k d t u a b h f row k′ r two l c =
 
 pub rows-kept : (s d : ℕ) (t u : List ℕ) → s ≤ 16 → choose (d + pred s) (pred s) ≤ 60000 → HasRows s d t → Keeps t u → HasRows s d u
 rows-kept s d t u a b h f k r two l c = f .right k r two (omega arith) (omega (arith, division-few d (pred s) (omega arith) b)) (h k r two l c)
+
+-- the lists of k numbers are a binomial, where there are any
+pub lists-row : (k x : ℕ) → 1 ≤ k → lists k x ≡ choose (x + (k - 1)) (k - 1)
+lists-row zero x h = absurd (omega arith)
+lists-row (suc k) x h = let z : suc k - 1 ≡ k = omega arith in rw z
+
+pub lists-grow : (j k x : ℕ) → j ≤ k → lists j x ≤ lists k x
+lists-grow zero k x h = omega arith
+lists-grow (suc j) zero x h = absurd (omega arith)
+lists-grow (suc j) (suc k) x h = choose-grows x x j k (omega arith) (omega arith)

@@ -1,5 +1,5 @@
-// The position of a grid point in the list of all points, by a table of binomials. Both functions are for a grid that `Grid::new` made,
-// and a caller of ours shows that.
+// The position of a grid point in the list of all points, by a table of binomials. A grid here is one that `Grid::new` made, and a
+// caller of ours shows that.
 ghost use mathlib.Core.Bool.{true};
 ghost use mathlib.Core.Path.{_≡_};
 ghost use lib.ListN.{length, take};
@@ -11,8 +11,12 @@ use grid::Grid;
 use grid::wide;
 use grid::wide16;
 
+mod falls;
 mod ranks;
 mod tables;
+
+pub use falls::fall;
+pub use falls::tails;
 
 // The binomials that positions on this grid need, in a table lent by the caller.
 pub fn binomials(g: Grid, t: &mut [u16; 4830])

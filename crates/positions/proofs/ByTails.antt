@@ -126,7 +126,7 @@ tail-none y i (suc n) h = omega (arith, h i (omega arith) (omega arith), tail-no
 
 -- a grid of one block
 module _ (g : Grid) (a : Accepted g) (one : numBlocks g ≡ 1) where
-  all-indices : numIndices g ≡ size g 0
+  pub all-indices : numIndices g ≡ size g 0
   all-indices = go (g .sizes) one
     where
       go : (ss : List ℕ) → length ss ≡ 1 → sum ss ≡ getD ss 0 0

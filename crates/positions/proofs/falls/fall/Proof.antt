@@ -1,0 +1,84 @@
+-- `falls::fall` meets its contract. Assumes nothing.
+use mathlib.Core.Path.{_≡_, _∙_}
+use Prim.Native.Nat.{ℕ, _+_, _-_, pred, _≤_, _<_}
+use Rattle.grid.proofs.Fields.{made-accepted, made-indices, made-blocks, indices-few, division-range, count-range}
+use Rattle.grid.specs.Grid.{size, division}
+use Rattle.grid.specs.Made.{shape}
+use Rattle.positions.proofs.ByTails.{all-indices, falls-by}
+use Rattle.positions.proofs.Table.{division-few, lists-grow}
+use Rattle.positions.specs.Binomials.{IsBinomial}
+use native.Mathlib.Omega.{arith}
+use borrow.Author.Needs.{needs}
+use Rattle.positions.proofs.falls.fall.Statement.{statement}
+use Rattle.positions.proofs.falls.fall.Tie as tie
+
+-- the block has all indices
+indices : (c : tie.Start) → c .args .g .indices ≡ size (shape (c .args .g)) 0
+indices c =
+    let s = c .args .g in
+    let m = c .pre .0 in
+    made-indices s m ∙ all-indices (shape s) (made-accepted s m) (omega (arith, made-blocks s m, c .pre .2))
+
+-- what both entries ask
+asked : (c : tie.Start) (k : ℕ) → k < c .args .g .indices → (k ≤ 15) × (c .args .r + 1 ≤ 60000) × (2 < k → (c .args .r + 1 ≤ 344) × IsBinomial (c .args .t .now) (k - 1) (c .args .r + 1))
+asked c k l =
+    let s = c .args .g in
+    let m = c .pre .0 in
+    let one = c .pre .2 in (
+      omega (arith, indices-few s m),
+      omega (arith, division-range s m 0 (omega arith) .1, c .pre .5),
+      λ h. (omega (arith, c .pre .5, division-few (division (shape s) 0) (pred (size (shape s) 0)) (omega (arith, indices c)) (count-range s m 0 (omega arith))), c .pre .1 .rows 0 (omega (arith, made-blocks s m)) (k - 1) (c .args .r + 1) (omega arith) (omega (arith, indices c)) (omega (arith, c .pre .5))),
+    )
+
+fewer : (c : tie.After-entry2) → c .entry2 .result ≤ c .before .entry .result
+fewer c =
+    let a = c .before .before .args in
+    omega (arith, c .entry2 .ensures, c .before .entry .ensures, lists-grow (a .g .indices - 1 - a .h) (a .g .indices - 1 - a .b) (a .r + 1) (omega (arith, c .before .before .pre .4)))
+
+sub-entry : tie.Need-sub-entry
+sub-entry c = search needs
+
+sub-entry-2 : tie.Need-sub-entry-2
+sub-entry-2 c = search needs
+
+add-entry : tie.Need-add-entry
+add-entry c = omega (arith, asked c 0 (omega (arith, c .pre .3)) .1)
+
+entry-requires : tie.Need-entry-requires
+entry-requires c κs = asked c _ (omega (arith, c .pre .3))
+
+sub-entry-3 : tie.Need-sub-entry-3
+sub-entry-3 c = search needs
+
+sub-entry-4 : tie.Need-sub-entry-4
+sub-entry-4 c = search needs
+
+add-entry-2 : tie.Need-add-entry-2
+add-entry-2 c = omega (arith, asked (c .before) 0 (omega (arith, c .before .pre .3)) .1)
+
+entry-requires-2 : tie.Need-entry-requires-2
+entry-requires-2 c κs = asked (c .before) _ (omega (arith, c .before .pre .3))
+
+sub-result : tie.Need-sub-result
+sub-result c = fewer c
+
+returns : tie.Need-returns
+returns c y z f =
+    let s = c .before .before .args .g in
+    let m = c .before .before .pre .0 in
+    omega (arith, rw (← made-indices s m) at (falls-by (shape s) (made-accepted s m) f), fewer c, c .entry2 .ensures, c .before .entry .ensures)
+
+pub fall-spec : {M : Type 1} → statement M
+fall-spec =
+    tie.close
+    (tie.spec
+    sub-entry
+    sub-entry-2
+    add-entry
+    entry-requires
+    sub-entry-3
+    sub-entry-4
+    add-entry-2
+    entry-requires-2
+    sub-result
+    returns)
