@@ -52,7 +52,7 @@ fn block_number(g: Grid, h: usize) -> u8
 // The walk along the path of an accepted table, and its answer.
 fn announced(
     g: Grid,
-    binomials: &[u16; 4830],
+    binomials: &[u16; 1255],
     start: &[u16],
     labels: &[u8],
     answer: &mut [u16],
@@ -144,7 +144,7 @@ pub fn run(
     if number != 0 {
         return Answer::Refused(number);
     }
-    let mut binomials = [0u16; 4830];
+    let mut binomials = [0u16; 1255];
     positions::binomials(g, &mut binomials);
     announced(g, &binomials, start, labels, answer, budget)
 }

@@ -56,7 +56,7 @@ fn is_between(s: Sets) -> bool
 // below 0: a copy of the first point would wait for the numbers that were just stored there.
 fn position_by_steps(
     g: Grid,
-    binomials: &[u16; 4830],
+    binomials: &[u16; 1255],
     first: &[u16; 16],
     order: &[u32; 16],
     takes: &[u8; 16],
@@ -74,7 +74,7 @@ fn position_by_steps(
 // up. The point that left has still its mark there.
 fn position_in(
     g: Grid,
-    binomials: &[u16; 4830],
+    binomials: &[u16; 1255],
     first: &[u16; 16],
     order: &[u32; 16],
     marks: &[u32; 16],
@@ -103,7 +103,7 @@ fn byte(x: u8) -> u32
 // The mark of the point that has just come in.
 pub fn mark_in(
     g: Grid,
-    binomials: &[u16; 4830],
+    binomials: &[u16; 1255],
     table: &[u8],
     first: &[u16; 16],
     order: &[u32; 16],

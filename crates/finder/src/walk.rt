@@ -32,7 +32,7 @@ pub struct Finish {
 // One place: the mark of the point that has just come in is read, and the move is made.
 fn visit(
     g: Grid,
-    binomials: &[u16; 4830],
+    binomials: &[u16; 1255],
     table: &[u8],
     first: &mut [u16; 16],
     coefficients: &mut [u16; 16],
@@ -95,7 +95,7 @@ fn begin(first: &[u16; 16], m: usize) -> Sets
 // From {v} to the path's end, or until the budget is spent: the number of places left counts down.
 pub fn walk(
     g: Grid,
-    binomials: &[u16; 4830],
+    binomials: &[u16; 1255],
     table: &[u8],
     first: &mut [u16; 16],
     order: &mut [u32; 16],

@@ -6,9 +6,13 @@ use lib.ListN.{getD}
 use Rattle.combinatorics.specs.Counting.{choose}
 use Rattle.grid.specs.Grid.{Grid, numBlocks, size, division}
 
--- row k, from 2 to 15, has r + k choose k for r up to 344
+-- the table has rows 15 to 3, each for r up to 69, and then row 2 for r up to 344: no block that needs a row has a greater division
+abbrev pub InTable : ℕ → ℕ → Type 0
+InTable k r = (2 ≤ k) × (k ≤ 15) × (r ≤ 344) × (3 ≤ k → r ≤ 69)
+
+-- the entry for r in row k
 abbrev pub IsBinomial : List ℕ → ℕ → ℕ → Type 0
-IsBinomial t k r = getD t ((k - 2) * 345 + r) 0 ≡ choose (r + k) k
+IsBinomial t k r = getD t ((15 - k) * 70 + r) 0 ≡ choose (r + k) k
 
 -- the rows that a block of this size needs, as far as its division
 abbrev pub HasRows : ℕ → ℕ → List ℕ → Type 0
@@ -20,7 +24,7 @@ pub record HasBinomials (g : Grid) (t : List ℕ) : Type 0 where
 
 -- an entry that was right is right
 pub record Keeps (old new : List ℕ) : Type 0 where
-  pub right : (k r : ℕ) → 2 ≤ k → k ≤ 15 → r ≤ 344 → IsBinomial old k r → IsBinomial new k r
+  pub right : (k r : ℕ) → InTable k r → IsBinomial old k r → IsBinomial new k r
 
 -- how many lists of k numbers add up to x, which is not 0
 abbrev pub lists : ℕ → ℕ → ℕ

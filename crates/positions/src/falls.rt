@@ -5,18 +5,18 @@ ghost use Prim.Native.Nat.{ℕ, _+_, _-_, _≤_, _<_};
 ghost use Rattle.combinatorics.specs.Lists.{sum, upFrom};
 ghost use Rattle.grid.specs.Grid.{Point, at, division, position};
 ghost use Rattle.grid.specs.Made.{shape, IsMade};
-ghost use Rattle.positions.specs.Binomials.{IsBinomial, HasBinomials, lists};
+ghost use Rattle.positions.specs.Binomials.{InTable, IsBinomial, HasBinomials, lists};
 ghost use Rattle.positions.specs.Falls.{Falls};
 use grid::Grid;
 use grid::wide16;
 
 // How many lists of k numbers add up to x, which is not 0.
-fn entry(t: &[u16; 4830], k: usize, x: usize) -> usize
-    requires { ⌜ (k ≤ 15) × (x ≤ 60000) × (2 < k → (x ≤ 344) × IsBinomial (now t) (k - 1) x) ⌝ }
+fn entry(t: &[u16; 1255], k: usize, x: usize) -> usize
+    requires { ⌜ (x ≤ 60000) × (2 < k → InTable (k - 1) x × IsBinomial (now t) (k - 1) x) ⌝ }
     ensures { λ r. ⌜ r ≡ lists k x ⌝ }
 {
     if 2 < k {
-        let place = (k - 3) * 345 + x;
+        let place = (16 - k) * 70 + x;
         return wide16(t[place]);
     }
     if k == 2 {
@@ -27,7 +27,7 @@ fn entry(t: &[u16; 4830], k: usize, x: usize) -> usize
 
 // By how much a step in a grid of one block lowers the position. It takes from b, an index before its own, h; between them the point is 0,
 // and its coordinates from h on add up to r.
-pub fn fall(g: Grid, t: &[u16; 4830], h: usize, b: usize, r: usize) -> usize
+pub fn fall(g: Grid, t: &[u16; 1255], h: usize, b: usize, r: usize) -> usize
     requires { ⌜ IsMade g × HasBinomials (shape g) (now t) × (g .blocks ≡ 1) × (h < g .indices) × (b < h) × (r < division (shape g) 0) ⌝ }
     ensures { λ f. ⌜ ((y z : Point) → Falls (shape g) y z h b r → position (shape g) y ≡ position (shape g) z + f) ⌝ }
 {

@@ -19,8 +19,8 @@ pub use falls::fall;
 pub use falls::tails;
 
 // The binomials that positions on this grid need, in a table lent by the caller.
-pub fn binomials(g: Grid, t: &mut [u16; 4830])
-    requires { ⌜ IsMade g × (length (now t) ≡ 4830) ⌝ }
+pub fn binomials(g: Grid, t: &mut [u16; 1255])
+    requires { ⌜ IsMade g × (length (now t) ≡ 1255) ⌝ }
     ensures { λ _. ⌜ HasBinomials (shape g) (now (t .exit)) ⌝ }
 {
     let sizes = g.sizes;
@@ -34,7 +34,7 @@ pub fn binomials(g: Grid, t: &mut [u16; 4830])
 }
 
 // The position of the grid point to which the steps lead from y. It stands at the front of the coordinates after the steps.
-pub fn position(g: Grid, t: &[u16; 4830], y: &[u16; 16], steps: &[u16; 16]) -> usize
+pub fn position(g: Grid, t: &[u16; 1255], y: &[u16; 16], steps: &[u16; 16]) -> usize
     requires { ⌜ IsMade g × HasBinomials (shape g) (now t) × CanStep (g .indices) (now y) (now steps) × (isGridPoint (shape g) (take (g .indices) (afterSteps (now y) (now steps))) ≡ true) ⌝ }
     ensures { λ r. ⌜ r ≡ positionOf (shape g) (take (g .indices) (afterSteps (now (y .entry)) (now (steps .entry)))) ⌝ }
 {

@@ -4,23 +4,23 @@ ghost use mathlib.Core.Path.{_≡_};
 ghost use Prim.Native.Nat.{_+_, _-_, _≤_, pred};
 ghost use Rattle.combinatorics.specs.Counting.{choose};
 ghost use Rattle.combinatorics.specs.Lists.{sum, upFrom};
-ghost use Rattle.positions.specs.Binomials.{IsBinomial, HasRows};
+ghost use Rattle.positions.specs.Binomials.{InTable, IsBinomial, HasRows};
 ghost use Rattle.positions.specs.Steps.{afterSteps, CanStep};
 ghost use Rattle.grid.specs.Grid.{at, blockPoints, positionIn};
 use grid::wide16;
 
 // With k + 1 numbers to come that add up to left: how many lists have a first number below x.
-fn lists_before(t: &[u16; 4830], k: usize, left: usize, x: usize) -> usize
-    requires { ⌜ (2 ≤ k) × (k ≤ 15) × (left ≤ 344) × (x ≤ left) × IsBinomial (now t) k left × IsBinomial (now t) k (left - x) ⌝ }
+fn lists_before(t: &[u16; 1255], k: usize, left: usize, x: usize) -> usize
+    requires { ⌜ InTable k left × (x ≤ left) × IsBinomial (now t) k left × IsBinomial (now t) k (left - x) ⌝ }
     ensures { λ r. ⌜ r + choose (left - x + k) k ≡ choose (left + k) k ⌝ }
 {
-    let row = (k - 2) * 345;
+    let row = (15 - k) * 70;
     wide16(t[row + left]) - wide16(t[row + (left - x)])
 }
 
 // The block has size coordinates from first on, which add up to division after the steps.
 pub fn in_block(
-    t: &[u16; 4830],
+    t: &[u16; 1255],
     y: &[u16; 16],
     steps: &[u16; 16],
     first: usize,

@@ -17,7 +17,7 @@ use Rattle.positions.proofs.binomials.Tie as tie
 abbrev Inv-loop : tie.InvT-loop
 Inv-loop t₀ sizes divisions blocks j₀ t j =
     (j ≤ blocks)
-    × (length t ≡ 4830)
+    × (length t ≡ 1255)
     × ((i : ℕ) → i < j → HasRows (getD (take blocks sizes) i 0) (getD (take blocks divisions) i 0) t)
     × (blocks ≤ 6)
 

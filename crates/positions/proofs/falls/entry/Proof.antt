@@ -2,7 +2,7 @@
 use mathlib.Core.Path.{_≡_, refl, _∙_}
 use Prim.Native.Nat.{ℕ, zero, suc, _-_, _<_}
 use Rattle.combinatorics.proofs.Binomials.{choose-one}
-use Rattle.positions.proofs.Table.{lists-row}
+use Rattle.positions.proofs.Table.{place-below, lists-row}
 use Rattle.positions.specs.Binomials.{lists}
 use native.Mathlib.Omega.{arith}
 use borrow.Author.Needs.{needs}
@@ -10,7 +10,7 @@ use Rattle.positions.proofs.falls.entry.Statement.{statement}
 use Rattle.positions.proofs.falls.entry.Tie as tie
 
 sub-place : tie.Need-sub-place
-sub-place c = search needs
+sub-place c = omega (arith, c .before .pre .1 (omega arith) .0 .1)
 
 mul-place : tie.Need-mul-place
 mul-place c = search needs
@@ -22,7 +22,10 @@ mul-wide16 : tie.Need-mul-wide16
 mul-wide16 c = search needs
 
 element-copy-out-wide16 : tie.Need-element-copy-out-wide16
-element-copy-out-wide16 c = omega (arith, c .before .pre .2 (omega arith) .0)
+element-copy-out-wide16 c =
+    let a = c .before .args in
+    let e : 16 - a .k ≡ 15 - (a .k - 1) = omega arith in
+    rw e (place-below (a .k - 1) (a .x) (c .before .pre .1 (omega arith) .0))
 
 wide16-requires : tie.Need-wide16-requires
 wide16-requires c κs = search needs
@@ -30,8 +33,8 @@ wide16-requires c κs = search needs
 returns : tie.Need-returns
 returns c =
     let a = c .before .before .before .args in
-    let e : a .k - 3 ≡ a .k - 1 - 2 = omega arith in
-    c .wide16 .ensures .0 ∙ rw (e, lists-row (a .k) (a .x) (omega arith)) (c .before .before .before .pre .2 (omega arith) .1)
+    let e : 16 - a .k ≡ 15 - (a .k - 1) = omega arith in
+    c .wide16 .ensures .0 ∙ rw (e, lists-row (a .k) (a .x) (omega arith)) (c .before .before .before .pre .1 (omega arith) .1)
 
 add-result : tie.Need-add-result
 add-result c = search needs

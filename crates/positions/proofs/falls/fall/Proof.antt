@@ -5,8 +5,8 @@ use Rattle.grid.proofs.Fields.{made-accepted, made-indices, made-blocks, indice
 use Rattle.grid.specs.Grid.{size, division}
 use Rattle.grid.specs.Made.{shape}
 use Rattle.positions.proofs.ByTails.{all-indices, falls-by}
-use Rattle.positions.proofs.Table.{division-few, lists-grow}
-use Rattle.positions.specs.Binomials.{IsBinomial}
+use Rattle.positions.proofs.Table.{in-table, in-smaller, lists-grow}
+use Rattle.positions.specs.Binomials.{InTable, IsBinomial}
 use native.Mathlib.Omega.{arith}
 use borrow.Author.Needs.{needs}
 use Rattle.positions.proofs.falls.fall.Statement.{statement}
@@ -20,14 +20,13 @@ indices c =
     made-indices s m ∙ all-indices (shape s) (made-accepted s m) (omega (arith, made-blocks s m, c .pre .2))
 
 -- what both entries ask
-asked : (c : tie.Start) (k : ℕ) → k < c .args .g .indices → (k ≤ 15) × (c .args .r + 1 ≤ 60000) × (2 < k → (c .args .r + 1 ≤ 344) × IsBinomial (c .args .t .now) (k - 1) (c .args .r + 1))
+asked : (c : tie.Start) (k : ℕ) → k < c .args .g .indices → (c .args .r + 1 ≤ 60000) × (2 < k → InTable (k - 1) (c .args .r + 1) × IsBinomial (c .args .t .now) (k - 1) (c .args .r + 1))
 asked c k l =
     let s = c .args .g in
     let m = c .pre .0 in
     let one = c .pre .2 in (
-      omega (arith, indices-few s m),
       omega (arith, division-range s m 0 (omega arith) .1, c .pre .5),
-      λ h. (omega (arith, c .pre .5, division-few (division (shape s) 0) (pred (size (shape s) 0)) (omega (arith, indices c)) (count-range s m 0 (omega arith))), c .pre .1 .rows 0 (omega (arith, made-blocks s m)) (k - 1) (c .args .r + 1) (omega arith) (omega (arith, indices c)) (omega (arith, c .pre .5))),
+      λ h. (in-smaller (k - 1) (division (shape s) 0) (in-table (k - 1) (division (shape s) 0) (pred (size (shape s) 0)) (omega arith) (omega (arith, indices c)) (omega (arith, indices c, indices-few s m)) (count-range s m 0 (omega arith))) (k - 1) (c .args .r + 1) (omega arith) (omega arith) (omega (arith, c .pre .5)), c .pre .1 .rows 0 (omega (arith, made-blocks s m)) (k - 1) (c .args .r + 1) (omega arith) (omega (arith, indices c)) (omega (arith, c .pre .5))),
     )
 
 fewer : (c : tie.After-entry2) → c .entry2 .result ≤ c .before .entry .result
@@ -42,7 +41,7 @@ sub-entry-2 : tie.Need-sub-entry-2
 sub-entry-2 c = search needs
 
 add-entry : tie.Need-add-entry
-add-entry c = omega (arith, asked c 0 (omega (arith, c .pre .3)) .1)
+add-entry c = omega (arith, asked c 0 (omega (arith, c .pre .3)) .0)
 
 entry-requires : tie.Need-entry-requires
 entry-requires c κs = asked c _ (omega (arith, c .pre .3))
@@ -54,7 +53,7 @@ sub-entry-4 : tie.Need-sub-entry-4
 sub-entry-4 c = search needs
 
 add-entry-2 : tie.Need-add-entry-2
-add-entry-2 c = omega (arith, asked (c .before) 0 (omega (arith, c .before .pre .3)) .1)
+add-entry-2 c = omega (arith, asked (c .before) 0 (omega (arith, c .before .pre .3)) .0)
 
 entry-requires-2 : tie.Need-entry-requires-2
 entry-requires-2 c κs = asked (c .before) _ (omega (arith, c .before .pre .3))

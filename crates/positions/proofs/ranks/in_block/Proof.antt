@@ -6,7 +6,7 @@ use Rattle.combinatorics.specs.Counting.{choose}
 use Rattle.combinatorics.specs.Lists.{sum, upFrom}
 use Rattle.positions.proofs.Positions.{rankOf, rank-turn, rank-end, rank-below}
 use Rattle.positions.proofs.Steps.{after-at}
-use Rattle.positions.proofs.Table.{division-few}
+use Rattle.positions.proofs.Table.{in-table, in-smaller}
 use Rattle.grid.specs.Grid.{at}
 use Rattle.positions.specs.Steps.{afterSteps}
 use borrow.Author.Needs.{needs}
@@ -91,8 +91,8 @@ lists-before-requires c κs =
     let l = c .before .before .before .before .before .loop in
     let s = c .before .before .before .before .before .before in
     let t = taken c in
-    let d = division-few (s .args .division) (pred (s .args .size)) (omega arith) (s .pre .2) in
-    (omega arith, omega (arith, s .pre .1), omega arith, omega (arith, t .0), s .pre .4 (l .k) (l .left) (omega arith) (l .inv .1) (l .inv .3), s .pre .4 (l .k) _ (omega arith) (l .inv .1) (omega arith))
+    let room = in-table (l .k) (s .args .division) (pred (s .args .size)) (omega arith) (omega arith) (omega (arith, s .pre .1)) (s .pre .2) in
+    (in-smaller (l .k) (s .args .division) room (l .k) (l .left) (omega arith) (omega arith) (l .inv .3), omega (arith, t .0), s .pre .4 (l .k) (l .left) (omega arith) (l .inv .1) (l .inv .3), s .pre .4 (l .k) _ (omega arith) (l .inv .1) (omega arith))
 
 add-rank : tie.Need-add-rank Inv-loop μ-loop
 add-rank c =

@@ -2,6 +2,7 @@
 use mathlib.Core.Path.{_≡_, sym}
 use Prim.Native.Nat.{_-_}
 use Rattle.combinatorics.proofs.Binomials.{choose-one}
+use Rattle.positions.proofs.Table.{place-below, in-smaller}
 use borrow.Author.Needs.{needs}
 use native.Mathlib.Omega.{arith}
 use Rattle.positions.proofs.tables.entry_before.Statement.{statement}
@@ -32,13 +33,17 @@ mul-result : tie.Need-mul-result
 mul-result c = search needs
 
 element-copy-out-result : tie.Need-element-copy-out-result
-element-copy-out-result c = search needs
+element-copy-out-result c =
+    let a = c .before .args in
+    let i = c .before .pre .0 in
+    let e : 16 - a .k ≡ 15 - (a .k - 1) = omega arith in
+    rw e (place-below (a .k - 1) (a .r) (in-smaller (a .k) (a .r) i (a .k - 1) (a .r) (omega arith) (omega arith) (omega arith)))
 
 returns-2 : tie.Need-returns-2
 returns-2 c =
     let a = c .before .before .args in
-    let e : a .k - 3 ≡ a .k - 1 - 2 = omega arith in
-    rw e (c .before .before .pre .3 (omega arith))
+    let e : 16 - a .k ≡ 15 - (a .k - 1) = omega arith in
+    rw e (c .before .before .pre .1 (omega arith))
 
 pub entry-before-spec : {M : Type 1} → statement M
 entry-before-spec =

@@ -3,8 +3,8 @@ use mathlib.Core.Path.{_≡_}
 use Prim.Native.Nat.{_-_, _≤_, pred}
 use lib.ListN.{length}
 use Rattle.combinatorics.proofs.Binomials.{choose-grows}
-use Rattle.positions.proofs.Table.{keeps-self, keeps-both, division-few, rows-next}
-use Rattle.positions.specs.Binomials.{HasRows, Keeps}
+use Rattle.positions.proofs.Table.{keeps-self, keeps-both, in-table, rows-next}
+use Rattle.positions.specs.Binomials.{InTable, HasRows, Keeps}
 use borrow.Author.Needs.{needs}
 use native.Mathlib.Omega.{arith}
 use Rattle.positions.proofs.tables.fill_block.Statement.{statement}
@@ -12,14 +12,16 @@ use Rattle.positions.proofs.tables.fill_block.Tie as tie
 
 abbrev Inv-loop : tie.InvT-loop
 Inv-loop t₀ size division k₀ t k =
-    (2 ≤ k) × (k ≤ size) × (length t ≡ 4830) × Keeps t₀ t × HasRows k division t
+    (2 ≤ k) × (k ≤ size) × (length t ≡ 1255) × Keeps t₀ t × HasRows k division t
 
 abbrev μ-loop : tie.MeasureT-loop
 μ-loop t₀ size division k₀ t k = size - k
 
--- the division of a block with a row to fill
-few : (c : tie.In-loop Inv-loop μ-loop) → c .before .before .args .division ≤ 344
-few c = let a = c .before .before .args in division-few (a .division) (pred (a .size)) (omega arith) (c .before .before .pre .2)
+-- the table has room for the row to fill
+room : (c : tie.In-loop Inv-loop μ-loop) → InTable (c .before .loop .k) (c .before .before .args .division)
+room c =
+    let a = c .before .before .args in
+    in-table (c .before .loop .k) (a .division) (pred (a .size)) (omega arith) (omega arith) (omega (arith, c .before .before .pre .1)) (c .before .before .pre .2)
 
 loop-holds : tie.Need-loop-holds Inv-loop μ-loop
 loop-holds c = let p = c .pre in (omega arith, p .0, p .3, keeps-self, (λ k r two l h. absurd (omega arith)))
@@ -29,9 +31,7 @@ fill-row-requires c κs =
     let l = c .before .before .loop in
     let a = c .before .before .before .args in
     let p = c .before .before .before .pre in (
-      l .inv .0,
-      omega (arith, p .1),
-      few (c .before),
+      room (c .before),
       omega (arith, choose-grows (a .division) (a .division) (l .k) (pred (a .size)) (omega arith) (omega arith), p .2),
       l .inv .2,
       (λ r h m. l .inv .4 (l .k - 1) r (omega arith) (omega arith) m),
@@ -51,7 +51,7 @@ loop-again c =
       omega arith,
       e .0,
       keeps-both (l .inv .3) (e .1),
-      rows-next (l .k) (c .before .before .before .before .args .division) (l .t) (c .fill-row .last .0) (omega (arith, c .before .before .before .before .pre .1)) (few (c .before .before)) (l .inv .4) (e .1) (e .2),
+      rows-next (l .k) (c .before .before .before .before .args .division) (l .t) (c .fill-row .last .0) (room (c .before .before)) (l .inv .4) (e .1) (e .2),
     )
 
 returns : tie.Need-returns Inv-loop μ-loop

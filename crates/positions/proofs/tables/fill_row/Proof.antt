@@ -6,7 +6,7 @@ use lib.ListN.{length, length-set, set}
 use Rattle.combinatorics.proofs.Basics.{before-or-not}
 use Rattle.combinatorics.proofs.Binomials.{choose-none, choose-grows}
 use Rattle.combinatorics.specs.Counting.{choose}
-use Rattle.positions.proofs.Table.{keeps-self, keeps-both, stored-is, stored-keeps, row-next}
+use Rattle.positions.proofs.Table.{keeps-self, keeps-both, in-smaller, stored-is, stored-keeps, row-next}
 use Rattle.positions.specs.Binomials.{IsBinomial, Keeps}
 use borrow.Author.Needs.{needs}
 use native.Mathlib.Omega.{arith}
@@ -15,21 +15,22 @@ use Rattle.positions.proofs.tables.fill_row.Tie as tie
 
 abbrev Inv-loop : tie.InvT-loop
 Inv-loop t₀ k most at last₀ r₀ t last r =
-    (r ≤ most) × (last ≡ choose (r + k) k) × (length t ≡ 4830) × Keeps t₀ t × ((i : ℕ) → i ≤ r → IsBinomial t k i)
+    (r ≤ most) × (last ≡ choose (r + k) k) × (length t ≡ 1255) × Keeps t₀ t × ((i : ℕ) → i ≤ r → IsBinomial t k i)
 
 abbrev μ-loop : tie.MeasureT-loop
 μ-loop t₀ k most at last₀ r₀ t last r = most - r
 
 -- the row's first entry
-started : (c : tie.Start Inv-loop μ-loop) → Keeps (c .args .t .now) (set (c .args .t .now) ((c .args .k - 2) * 345) 1) × IsBinomial (set (c .args .t .now) ((c .args .k - 2) * 345) 1) (c .args .k) 0
+started : (c : tie.Start Inv-loop μ-loop) → Keeps (c .args .t .now) (set (c .args .t .now) ((15 - c .args .k) * 70) 1) × IsBinomial (set (c .args .t .now) ((15 - c .args .k) * 70) 1) (c .args .k) 0
 started c =
     let a = c .args in
     let p = c .pre in
     let t = a .t .now in
-    let z : (a .k - 2) * 345 + 0 ≡ (a .k - 2) * 345 = omega arith in
-    let one = sym (choose-none (a .k)) in (
-      subst (λ (n : ℕ). Keeps t (set t n 1)) z (stored-keeps t (a .k) 0 1 (p .4) (p .0) (p .1) (omega arith) one),
-      subst (λ (n : ℕ). IsBinomial (set t n 1) (a .k) 0) z (stored-is t (a .k) 0 1 (p .4) (p .0) (p .1) (omega arith) one),
+    let z : (15 - a .k) * 70 + 0 ≡ (15 - a .k) * 70 = omega arith in
+    let one = sym (choose-none (a .k)) in
+    let i = in-smaller (a .k) (a .most) (p .0) (a .k) 0 (p .0 .0) (omega arith) (omega arith) in (
+      subst (λ (n : ℕ). Keeps t (set t n 1)) z (stored-keeps t (a .k) 0 1 (p .2) i one),
+      subst (λ (n : ℕ). IsBinomial (set t n 1) (a .k) 0) z (stored-is t (a .k) 0 1 (p .2) i one),
     )
 
 -- the next entry
@@ -53,7 +54,7 @@ loop-holds c =
     let s = started c in (
       omega arith,
       sym (choose-none (c .args .k)),
-      simp length-set (c .pre .4),
+      simp length-set (c .pre .2),
       keeps-self,
       (λ i h. let e : i ≡ 0 = omega arith in rw e (s .1)),
     )
@@ -64,18 +65,18 @@ add-r c = search needs
 entry-before-requires : tie.Need-entry-before-requires Inv-loop μ-loop
 entry-before-requires c κs =
     let l = c .before .before .loop in
-    let s = c .before .before .before in (
-      s .pre .0,
-      s .pre .1,
-      omega (arith, s .pre .2),
-      (λ h. l .inv .3 .right (s .args .k - 1) (l .r + 1) (omega arith) (omega arith) (omega (arith, s .pre .2)) (started s .0 .right (s .args .k - 1) (l .r + 1) (omega arith) (omega arith) (omega (arith, s .pre .2)) (s .pre .5 (l .r + 1) h (omega arith)))),
+    let s = c .before .before .before in
+    let in-row = in-smaller (s .args .k) (s .args .most) (s .pre .0) in (
+      in-row (s .args .k) (l .r + 1) (s .pre .0 .0) (omega arith) (omega arith),
+      (λ h. let i = in-row (s .args .k - 1) (l .r + 1) (omega arith) (omega arith) (omega arith) in
+          l .inv .3 .right (s .args .k - 1) (l .r + 1) i (started s .0 .right (s .args .k - 1) (l .r + 1) i (s .pre .3 (l .r + 1) h (omega arith)))),
     )
 
 add-last : tie.Need-add-last Inv-loop μ-loop
 add-last c =
     let l = c .before .before .before .loop in
     let a = c .before .before .before .before .args in
-    omega (arith, next c, choose-grows (l .r + 1) (a .most) (a .k) (a .k) (omega arith) (omega arith), c .before .before .before .before .pre .3)
+    omega (arith, next c, choose-grows (l .r + 1) (a .most) (a .k) (a .k) (omega arith) (omega arith), c .before .before .before .before .pre .1)
 
 add-t : tie.Need-add-t Inv-loop μ-loop
 add-t c = search needs
@@ -95,13 +96,15 @@ loop-again c =
     let a = c .before .before .before .before .args in
     let p = c .before .before .before .before .pre in
     let v = l .last + c .entry-before .result in
-    let keeps = stored-keeps (l .t) (a .k) (l .r + 1) v (l .inv .2) (p .0) (p .1) (omega arith) (next c) in (
+    let in-row = in-smaller (a .k) (a .most) (p .0) (a .k) in
+    let here = in-row (l .r + 1) (p .0 .0) (omega arith) (omega arith) in
+    let keeps = stored-keeps (l .t) (a .k) (l .r + 1) v (l .inv .2) here (next c) in (
       omega arith,
       next c,
       simp length-set (l .inv .2),
       keeps-both (l .inv .3) keeps,
-      (λ i h. ⊎-elim (λ b. keeps .right (a .k) i (p .0) (p .1) (omega arith) (l .inv .4 i (omega arith)))
-          (λ b. let e : i ≡ l .r + 1 = omega arith in rw e (stored-is (l .t) (a .k) (l .r + 1) v (l .inv .2) (p .0) (p .1) (omega arith) (next c))) (before-or-not i (l .r + 1))),
+      (λ i h. ⊎-elim (λ b. keeps .right (a .k) i (in-row i (p .0 .0) (omega arith) (omega arith)) (l .inv .4 i (omega arith)))
+          (λ b. let e : i ≡ l .r + 1 = omega arith in rw e (stored-is (l .t) (a .k) (l .r + 1) v (l .inv .2) here (next c))) (before-or-not i (l .r + 1))),
     )
 
 returns : tie.Need-returns Inv-loop μ-loop
