@@ -1,7 +1,7 @@
 -- What a place of the walk asks and gives: the arrays of the grid, the storing of a mark, the state in which a walk begins, its outcomes.
 -- Assumes nothing.
 use mathlib.Core.Bool.{true, _&&_}
-use mathlib.Core.List.{List, []}
+use mathlib.Core.List.{List, [], map}
 use mathlib.Core.Logic.{⊎-elim}
 use mathlib.Core.Path.{_≡_, refl, sym, ap, _∙_, subst}
 use Prim.Native.Nat.{ℕ, suc, _-_, _≤_, _<_}
@@ -12,18 +12,20 @@ use lib.Seq.{getD-take, take-set-lt}
 use native.Mathlib.Omega.{arith}
 use Rattle.combinatorics.proofs.Basics.{before-or-not}
 use Rattle.combinatorics.proofs.EditsOfArrays.{first-few}
-use Rattle.grid.proofs.Fields.{following-low, made-indices, made-next, made-previous, previous-low}
+use Rattle.combinatorics.specs.Lists.{sum, upFrom}
+use Rattle.grid.proofs.Fields.{following-low, made-blocks, made-indices, made-next, made-previous, previous-low}
 use Rattle.grid.specs.Grid.{at, isGridPoint, numIndices}
 use Rattle.grid.specs.Made.{IsMade, shape}
 use Rattle.grid.specs.declared.Grid.{Grid as GridStruct}
+use Rattle.positions.proofs.Positions.{map-front}
 use Rattle.place.specs.Demand.{Accepted}
 use Rattle.place.specs.Ends.{Kind, placeEnd, facetEnd}
 use Rattle.place.specs.Path.{answer, spent}
 use Rattle.place.specs.Problem.{Problem, label}
 use Rattle.moves.proofs.Describes.{Neighbours}
-use Rattle.moves.proofs.Follow.{At, EndsAt, at-begin, at-exchanged, at-facet-end, at-place-end, at-reads, at-ready, at-step, ends-answer}
+use Rattle.moves.proofs.Follow.{At, EndsAt, at-begin, at-beside, at-exchanged, at-facet-end, at-place-end, at-reads, at-ready, at-step, ends-answer}
 use Rattle.moves.specs.Mask.{bit}
-use Rattle.moves.specs.Read.{Exchanged, ReadyPoint, markOf, pointIn, read}
+use Rattle.moves.specs.Read.{Exchanged, FallsBeside, ReadyPoint, markOf, pointIn, read}
 use Rattle.moves.specs.Ready.{IndicesBelow, Ready}
 use Rattle.moves.specs.Step.{State, firstOutside, marked, stateOf, step}
 use Rattle.moves.specs.declared.Sets.{Sets}
@@ -92,6 +94,13 @@ module _ (g : GridStruct) (made : IsMade g) (start table : List ℕ) (ok : Accep
 
   pub square : s .rule ≡ 1 → 0 < s .turn → s .turn < length (s .order) → Exchanged (shape g) (s .first) (s .order) (s .marks) (s .takes) (s .turn)
   square = at-exchanged ok (neighbours g made) A
+
+  pub beside : s .rule < 6 → g .blocks ≡ 1 → (tails : List ℕ) → ((k : ℕ) → k < g .indices → at tails k ≡ sum (map (at start) (upFrom k (g .indices - k))))
+      → FallsBeside (shape g) tails (s .first) (s .coefficients) (s .order) (s .marks) (s .takes) (s .turn)
+  beside r one tails are =
+      let m = made-indices g made in
+      at-beside ok (neighbours g made) A r (sym (made-blocks g made) ∙ one) tails
+      (λ k l. rw (← m) (are k (omega arith) ∙ ap sum (sym (map-front start (g .indices) k (g .indices - k) (omega arith)))))
 
   module _ (moved : after ≡ step (g .previous) (g .next) (read (tableOf g table) s)) where
     is-next : step (g .previous) (g .next) (read p s) ≡ after

@@ -14,7 +14,7 @@ use Rattle.place.specs.Path.{answer, ended, spent}
 use Rattle.place.specs.Problem.{Problem}
 use Rattle.place.specs.Questions.{question6, question7, question8}
 use Rattle.moves.specs.Ready.{IndicesBelow}
-use Rattle.moves.specs.Read.{pointOn, pointsFrom, Exchanged, ReadyPoint}
+use Rattle.moves.specs.Read.{pointOn, pointsFrom, Exchanged, FallsBeside, ReadyPoint}
 use Rattle.moves.specs.Step.{State, stateOf}
 use Rattle.moves.specs.declared.Sets.{Sets}
 use Rattle.finder.specs.declared.walk.Finish.{Finish}
@@ -44,6 +44,7 @@ pub record Readable (g : GridStruct) (binomials table : List ℕ) : Type 0 where
 -- the point that has just come in can be computed, and is a grid point
 pub record ReadyRead (g : GridStruct) (first order takes : List ℕ) (s : Sets) : Type 0 where
   pub firstLength : length first ≡ 16
+  pub orderLength : length order ≡ 16
   pub takesBelow : IndicesBelow takes
   pub point : ReadyPoint takes (take (s .count) order) first (s .turn)
   pub onGrid : isGridPoint (shape g) (pointOn (shape g) (stateOf first [] order [] takes s) (s .turn)) ≡ true
@@ -51,6 +52,10 @@ pub record ReadyRead (g : GridStruct) (first order takes : List ℕ) (s : Sets) 
 -- where it has come in between two steps that changed places, the marks of their square stand
 abbrev pub ReadySquare : GridStruct → List ℕ → List ℕ → List ℕ → List ℕ → Sets → Type 0
 ReadySquare g first order marks takes s = s .rule ≡ 1 → 0 < s .turn → s .turn < s .count → Exchanged (shape g) first (take (s .count) order) (take (suc (s .count)) marks) takes (s .turn)
+
+-- in a grid of one block, the steps to and from it, and the marks beside it
+abbrev pub ReadyBeside : GridStruct → List ℕ → List ℕ → List ℕ → List ℕ → List ℕ → List ℕ → Sets → Type 0
+ReadyBeside g tails first coefficients order marks takes s = g .blocks ≡ 1 → FallsBeside (shape g) tails first coefficients (take (s .count) order) (take (suc (s .count)) marks) takes (s .turn)
 
 -- the state e stands at an end, which is the answer: `places` places, an end of the kind given, and as simplex the points of e from number `from` on
 pub record Announced (p : Problem) (budget : ℕ) (kind : Kind) (from : ℕ) (e : State) (places : ℕ) : Type 0 where

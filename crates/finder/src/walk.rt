@@ -11,7 +11,7 @@ ghost use Rattle.moves.specs.Read.{read};
 ghost use Rattle.moves.specs.Ready.{IndicesBelow, Ready, SixteenEach};
 ghost use Rattle.moves.specs.Step.{stateOf};
 ghost use Rattle.moves.specs.Step.{step as stepOf};
-ghost use Rattle.finder.specs.Finish.{tableOf, problemIn, Readable, ReadyRead, ReadySquare, Finished};
+ghost use Rattle.finder.specs.Finish.{tableOf, problemIn, Readable, ReadyRead, ReadySquare, ReadyBeside, Finished};
 use crate::reading::mark_in;
 use grid::Grid;
 use moves::Sets;
@@ -33,6 +33,7 @@ pub struct Finish {
 fn visit(
     g: Grid,
     binomials: &[u16; 1255],
+    tails: &[u32; 16],
     table: &[u8],
     first: &mut [u16; 16],
     coefficients: &mut [u16; 16],
@@ -42,7 +43,7 @@ fn visit(
     s: Sets,
 ) -> Sets
     requires { ⌜ Readable g (now binomials) (now table) × SixteenEach (now order) (now marks) ⌝ }
-    requires { ⌜ (s .rule < 6 → ReadyRead g (now first) (now order) (now takes) s × ReadySquare g (now first) (now order) (now marks) (now takes) s) ⌝ }
+    requires { ⌜ (s .rule < 6 → ReadyRead g (now first) (now order) (now takes) s × ReadySquare g (now first) (now order) (now marks) (now takes) s × ReadyBeside g (now tails) (now first) (now coefficients) (now order) (now marks) (now takes) s) ⌝ }
     requires { ⌜ Ready (g .previous) (g .next) (read (tableOf g (now table)) (stateOf (now first) (now coefficients) (now order) (now marks) (now takes) s)) ⌝ }
     ensures { λ r. ⌜ (stateOf (now (first .exit)) (now (coefficients .exit)) (now (order .exit)) (now (marks .exit)) (now (takes .exit)) r
         ≡ stepOf (g .previous) (g .next) (read (tableOf g (now (table .entry))) (stateOf (now (first .entry)) (now (coefficients .entry)) (now (order .entry)) (now (marks .entry)) (now (takes .entry)) s)))
@@ -63,7 +64,18 @@ fn visit(
         );
     }
     let i = s.turn;
-    marks[i] = mark_in(g, binomials, table, first, order, marks, takes, s);
+    marks[i] = mark_in(
+        g,
+        binomials,
+        tails,
+        table,
+        first,
+        coefficients,
+        order,
+        marks,
+        takes,
+        s,
+    );
     step(
         &previous,
         &next,
@@ -111,11 +123,13 @@ pub fn walk(
     let mut marks = [0u32; 16];
     let mut s = begin(first, g.indices);
     fill_takes(takes, &previous, s.u, g.indices);
+    let tails = positions::tails(first, g.indices);
     let mut left = budget;
     while 0 < left {
         let next = visit(
             g,
             binomials,
+            &tails,
             table,
             first,
             &mut coefficients,

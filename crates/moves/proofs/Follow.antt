@@ -1,12 +1,12 @@
 -- From single moves to the path of document 01: a state that stands at a place of the path goes on to the next place or to the path's end.
 -- The run's proof cites of it `At`, `EndsAt` and their laws: at-begin, at-below, at-spent, at-reads, at-ready, at-step, at-place-end, at-facet-end
 -- and ends-answer. Assumes nothing.
-use mathlib.Core.Bool.{Bool, true, false, _&&_}
+use mathlib.Core.Bool.{Bool, true, false, _&&_, cond}
 use mathlib.Core.List.{List, [], _∷_, _++_}
 use mathlib.Core.Logic.{⊎-elim}
 use mathlib.Core.Option.{Option, none, some}
 use mathlib.Core.Path.{_≡_, refl, sym, ap, _∙_, subst}
-use Prim.Native.Nat.{ℕ, suc, _-_, _≤_, _<_}
+use Prim.Native.Nat.{ℕ, suc, _+_, _-_, _≤_, _<_}
 use borrow.Author.Tests.{lt-ltb, le-ltb}
 use lib.Dec.{eqb, ltb}
 use lib.ListN.{length, length-append, getD-replicate, List·getD-append}
@@ -18,7 +18,8 @@ use Rattle.geometry.proofs.Definitions.{zeros}
 use Rattle.geometry.proofs.Search.{block-back}
 use Rattle.geometry.proofs.LabelledChains.{listAt, LabelledChain, FacetEnd, PlaceEnd}
 use Rattle.grid.proofs.Round.{seat, block-at}
-use Rattle.grid.specs.Grid.{at, numIndices, dimension, blockOf, isGridPoint, position, MovedBy}
+use Rattle.grid.specs.Grid.{at, numBlocks, numIndices, dimension, blockOf, isGridPoint, position, MovedBy}
+use Rattle.positions.specs.Falls.{tailFrom}
 use Rattle.place.proofs.BlocksOfGrid.{blocksOf, back-below, coefficientOf, block-agrees, coord-in, coord-out, coefficientOf-is}
 use Rattle.place.proofs.Bound.{order-short}
 use Rattle.place.proofs.ChainEnds.{complete-of, complete-below, end-below, end-complete, end-labels}
@@ -39,13 +40,14 @@ use Rattle.place.specs.Path.{path, pathLength, answer, spent, ended}
 use Rattle.place.specs.Places.{Simplex, order}
 use Rattle.place.specs.Problem.{Problem}
 use Rattle.moves.specs.Mask.{bit}
-use Rattle.moves.specs.Read.{pointAfter, pointGone, pointIn, pointsFrom, read, Exchanged, ReadyPoint}
+use Rattle.moves.specs.Read.{pointAfter, pointGone, pointIn, pointsFrom, read, above, Exchanged, FallsBeside, ReadyPoint}
 use Rattle.moves.specs.Ready.{IndicesBelow, Ready}
 use Rattle.moves.specs.Step.{State, markPosition, firstOutside, step, begun}
 use Rattle.moves.proofs.Describes.{Neighbours, Describes, MarksBut, Came, begins, through, fromLarger, Reached}
 use Rattle.moves.proofs.Masks.{bit-none}
 use Rattle.moves.proofs.Move.{SamePlace, Outcome, placeEnds, facetEnds, goesOn, Onward, onward}
 use Rattle.moves.proofs.Marks.{mark-position}
+use Rattle.moves.proofs.OneBlock.{lag-is, first-same, falling}
 use Rattle.moves.proofs.Range.{nth-pointsOf, point-on}
 use Rattle.moves.proofs.Shifted.{shifted-moved}
 use Rattle.moves.proofs.StatePoints.{order-below, after-is, ready-point, point-is, moved-on, all-points, later-points}
@@ -260,6 +262,10 @@ module _ {p : Problem} (ok : Accepted p) {previousOf nextOf : List ℕ} (N : Nei
       go _ (through n l e w q r b carry X C) = let d = C one more low in (b, d .0, d .1, d .2)
       go _ (fromLarger l w r q b e X) = absurd (omega arith)
 
+  marked-position : MarksBut p A.t A.x s s.turn → (i : ℕ) → i ≤ A .t → (i ≡ s .turn → ⊥) → markPosition (at s.marks i) ≡ position p.grid (pointIn p s i)
+  marked-position b i l n =
+      ap markPosition (b i l n) ∙ mark-position ok D.chain i l ∙ ap (position p.grid) (sym (point-is ok N D i l ∙ nth-pointsOf p A.x i (omega (arith, D .chain .size))))
+
   pub at-exchanged : s .rule ≡ 1 → 0 < s .turn → s .turn < length s.order → Exchanged p.grid s.first s.order s.marks s.takes s.turn
   at-exchanged one more few =
       let low : s .turn < A .t = omega (arith, D .orderLength) in
@@ -267,8 +273,7 @@ module _ {p : Problem} (ok : Accepted p) {previousOf nextOf : List ℕ} (N : Nei
       let z : suc (s .turn - 1) ≡ s .turn = omega arith in
       let y = after-is ok N D (s .turn - 1) (omega arith) in
       let on : (i : ℕ) → i ≤ A .t → isGridPoint p.grid (pointIn p s i) ≡ true = λ i l. rw (point-is ok N D i l) (point-on ok D.chain i l) in
-      let mark : (i : ℕ) → i ≤ A .t → (i ≡ s .turn → ⊥) → markPosition (at s.marks i) ≡ position p.grid (pointIn p s i) = λ i l n.
-      ap markPosition (c .0 i l n) ∙ mark-position ok D.chain i l ∙ ap (position p.grid) (sym (point-is ok N D i l ∙ nth-pointsOf p A.x i (omega (arith, D .chain .size)))) in
+      let mark = marked-position c.0 in
       record {
         low = few;
         near = on (s .turn - 1) (omega arith);
@@ -286,6 +291,33 @@ module _ {p : Problem} (ok : Accepted p) {previousOf nextOf : List ℕ} (N : Nei
         goneMark = c .3;
         farMark = mark (suc s.turn) (omega arith) (λ q. omega arith);
       }
+
+  -- in a grid of one block: the steps to and from the point whose label is to be read
+  pub at-beside : s .rule < 6 → numBlocks p.grid ≡ 1 → (tails : List ℕ) → ((k : ℕ) → k < numIndices p.grid → at tails k ≡ tailFrom p.grid p.start k)
+      → FallsBeside p.grid tails s.first s.coefficients s.order s.marks s.takes s.turn
+  at-beside r one tails are = go A.left A.came
+    where
+      go : (left : Option (List (ℕ → ℕ))) → Came p A.T A.t A.x s left → FallsBeside p.grid tails s.first s.coefficients s.order s.marks s.takes s.turn
+      go _ (begins e u q) = record {
+        nearMark = λ l. absurd (omega arith);
+        farMark = λ l. absurd (omega (arith, D .orderLength));
+        fromNear = λ l b. absurd (omega arith);
+        toFar = λ l b. absurd (omega (arith, D .orderLength));
+      }
+      go _ (through n l e w q m b carry X C) =
+          let mark = marked-position b in
+          let lag : (i : ℕ) → i ≤ A .t → (i ≡ s .turn → ⊥) → 0 < s .turn → listAt A.x i 0 ≡ listAt A.x 0 0 + above (at s.marks i) (at s.marks 0) = λ i a u v.
+          rw (mark i a u, mark 0 (omega arith) (λ z. omega arith)) (lag-is ok one N D i a) in
+          record {
+            nearMark = λ a. mark (s .turn - 1) (omega arith) (λ z. omega arith);
+            farMark = λ a. mark (suc s.turn) (omega (arith, D .orderLength)) (λ z. omega arith);
+            fromNear = λ a c. falling ok one N D (s .turn - 1) (omega arith) c tails are _ (lag (s .turn - 1) (omega arith) (λ z. omega arith) a);
+            toFar = λ a c. let f : s .turn < A .t = omega (arith, D .orderLength) in
+                falling ok one N D s.turn f c tails are (cond (ltb 0 s.turn) (above (at s.marks (suc s.turn)) (at s.marks 0)) 0)
+                (⊎-elim (λ (z : 0 < s .turn). rw (lt-ltb 0 s.turn z) (sym (first-same ok one N D s.turn f c) ∙ lag (suc s.turn) f (λ u. omega arith) z))
+                (λ (z : s .turn ≤ 0). let y : s .turn ≡ 0 = omega arith in rw (le-ltb 0 s.turn z, y) (omega arith)) (before-or-not 0 s.turn));
+          }
+      go _ (fromLarger l w q m b e X) = absurd (omega arith)
 
   here-place : (length (pointsOf p A.x) ≡ suc A.t) × (length (pointsOf p A.x) ≡ suc (length (order p.grid (pointsOf p A.x))))
   here-place = (long ok.settled A.describes.chain, place-long ok.settled _ (place-of ok.settled A.describes.chain))

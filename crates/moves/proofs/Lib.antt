@@ -16,6 +16,7 @@ pub mod LeaveLast
 pub mod Leaves
 pub mod Grow
 pub mod Move
+pub mod OneBlock
 pub mod Follow
 pub mod PointsAfter
 pub mod ZeroMask

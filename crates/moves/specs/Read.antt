@@ -2,11 +2,12 @@
 use mathlib.Core.Bool.{true, cond}
 use mathlib.Core.List.{List, map}
 use mathlib.Core.Path.{_≡_}
-use Prim.Native.Nat.{ℕ, zero, suc, _-_, _≤_, _<_}
+use Prim.Native.Nat.{ℕ, zero, suc, _+_, _-_, _≤_, _<_}
 use lib.Dec.{ltb}
 use lib.ListN.{length, take}
 use Rattle.combinatorics.specs.Lists.{concatMap, upFrom}
 use Rattle.grid.specs.Grid.{Grid, Point, at, numIndices, blockOf, isGridPoint, position, MovedBy}
+use Rattle.positions.specs.Falls.{tailFrom, Falls}
 use Rattle.place.specs.Places.{Simplex}
 use Rattle.place.specs.Problem.{Problem, label}
 use Rattle.moves.specs.Step.{State, mark, markPosition, shifted, marked}
@@ -64,6 +65,24 @@ pub record Exchanged (g : Grid) (first order marks takes : List ℕ) (turn : ℕ
   pub nearMark : markPosition (at marks (turn - 1)) ≡ position g (pointBy g takes order first (turn - 1))
   pub goneMark : markPosition (at marks turn) ≡ position g (goneBy g takes order first turn)
   pub farMark : markPosition (at marks (suc turn)) ≡ position g (pointBy g takes order first (suc turn))
+
+-- 1 where the first mark's position is above the second's
+abbrev pub above : ℕ → ℕ → ℕ
+above m n = cond (ltb (markPosition n) (markPosition m)) 1 0
+
+-- In a grid of one block, step j of the order lowers the position. The coordinates of point j from the step's index on add up to what those of the start do, but for coefficients:
+-- that of the index, and that of the first index, which is the first point's or, where a step before has gone round the block, 1 more.
+pub record Falling (g : Grid) (tails first coefficients order takes : List ℕ) (j lag : ℕ) : Type 0 where
+  pub falls : Falls g (pointBy g takes order first j) (pointBy g takes order first (suc j)) (at order j) (at takes (at order j)) (tailFrom g (pointBy g takes order first j) (at order j))
+  pub tail : tailFrom g (pointBy g takes order first j) (at order j) + (at coefficients 0 + lag) ≡ at tails (at order j) + at coefficients (at order j)
+
+-- In a grid of one block: the steps to and from the point that has just come in, where they take from an index before their own, and the marks of the points beside it. The position of a point
+-- is above the first's where a step before has gone round the block, and only there.
+pub record FallsBeside (g : Grid) (tails first coefficients order marks takes : List ℕ) (turn : ℕ) : Type 0 where
+  pub nearMark : 0 < turn → markPosition (at marks (turn - 1)) ≡ position g (pointBy g takes order first (turn - 1))
+  pub farMark : turn < length order → markPosition (at marks (suc turn)) ≡ position g (pointBy g takes order first (suc turn))
+  pub fromNear : 0 < turn → at takes (at order (turn - 1)) < at order (turn - 1) → Falling g tails first coefficients order takes (turn - 1) (above (at marks (turn - 1)) (at marks 0))
+  pub toFar : turn < length order → at takes (at order turn) < at order turn → Falling g tails first coefficients order takes turn (cond (ltb 0 turn) (above (at marks (suc turn)) (at marks 0)) 0)
 
 -- point i can be computed: each step has 1 to take and room for 1 more
 pub record ReadyPoint (takes order first : List ℕ) (i : ℕ) : Type 0 where

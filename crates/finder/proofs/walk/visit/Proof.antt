@@ -30,20 +30,20 @@ returns c =
 
 mark-in-requires : tie.Need-mark-in-requires
 mark-in-requires c κs =
-    let t = c .before .before .before .before in
+    let t = c .before .before .before .before .before in
     let e = t .before .before .before .before .before in
-    ((e .pre .0 .0, e .pre .1 .0 (t .if1 .left) .0), e .pre .1 .0 (t .if1 .left) .1)
+    ((e .pre .0 .0, e .pre .1 .0 (t .if1 .left) .0), (e .pre .1 .0 (t .if1 .left) .1, e .pre .1 .0 (t .if1 .left) .2))
 
 mul-marks : tie.Need-mul-marks
 mul-marks c =
-    let t = c .before .before .before .before .before in
+    let t = c .before .before .before .before .before .before in
     let e = t .before .before .before .before .before in
     let r = e .pre .1 .0 (t .if1 .left) .0 .point in
     omega (arith, r .low, r .few)
 
 element-write-marks : tie.Need-element-write-marks
 element-write-marks c =
-    let t = c .before .before .before .before .before in
+    let t = c .before .before .before .before .before .before in
     let e = t .before .before .before .before .before in
     let r = e .pre .1 .0 (t .if1 .left) .0 .point in
     omega (arith, r .low, r .few)
@@ -51,7 +51,7 @@ element-write-marks c =
 step-requires-2 : tie.Need-step-requires-2
 step-requires-2 c κs =
     let w = c .before .before .before .before .before .before .before in
-    let t = w .before .before .before .before .before in
+    let t = w .before .before .before .before .before .before in
     let e = t .before .before .before .before .before in
     let a = e .args in
     let g = a .g in
@@ -65,7 +65,7 @@ step-requires-2 c κs =
 returns-2 : tie.Need-returns-2
 returns-2 c =
     let w = c .before .before .before .before .before .before .before .before in
-    let t = w .before .before .before .before .before in
+    let t = w .before .before .before .before .before .before in
     let e = t .before .before .before .before .before in
     let a = e .args in
     let g = a .g in (

@@ -9,7 +9,7 @@ use Rattle.moves.proofs.Follow.{At, at-first, at-spent}
 use Rattle.moves.specs.Ready.{SixteenEach}
 use Rattle.moves.specs.Step.{stateOf}
 use Rattle.finder.specs.Finish.{problemIn, ReadySquare}
-use Rattle.finder.proofs.Visits.{begins, below, ends-facet, ends-place, finished-facet, finished-place, finished-spent, goes-on, reads as at-point, ready, square}
+use Rattle.finder.proofs.Visits.{begins, below, beside, ends-facet, ends-place, finished-facet, finished-place, finished-spent, goes-on, reads as at-point, ready, square}
 use Rattle.finder.proofs.walk.walk.Statement.{statement}
 use Rattle.finder.proofs.walk.walk.Tie as tie
 use Rattle.finder.proofs.walk.walk.Reads as reads
@@ -18,11 +18,11 @@ use Rattle.finder.proofs.walk.begin.Reads as begin-reads
 use Rattle.finder.proofs.walk.visit.Reads as visit-reads
 
 abbrev Inv-loop : tie.InvT-loop
-Inv-loop g binomials table first₀ order₀ takes₀ budget coefficients₀ marks₀ s₀ left₀ first order takes coefficients marks s left =
+Inv-loop g binomials table first₀ order₀ takes₀ budget coefficients₀ marks₀ s₀ tails left₀ first order takes coefficients marks s left =
     At (problemIn g first₀ table) (stateOf first coefficients order marks takes s) (budget - left) × (left ≤ budget) × SixteenEach order marks × (s .rule ≡ 0 → ⊥) × (s .rule ≡ 8 → ⊥)
 
 abbrev μ-loop : tie.MeasureT-loop
-μ-loop g binomials table first₀ order₀ takes₀ budget coefficients₀ marks₀ s₀ left₀ first order takes coefficients marks s left = left
+μ-loop g binomials table first₀ order₀ takes₀ budget coefficients₀ marks₀ s₀ tails left₀ first order takes coefficients marks s left = left
 
 begin-requires : tie.Need-begin-requires Inv-loop μ-loop
 begin-requires c κs = let e = c .before .before .before in indices-few (e .args .g) (e .pre .0 .0 .made)
@@ -33,13 +33,16 @@ fill-takes-requires c κs =
     let g = e .args .g in
     (indices-few g (e .pre .0 .0 .made), below g (e .pre .0 .0 .made) .0, e .pre .1 .0, e .pre .1 .1)
 
+tails-requires : tie.Need-tails-requires Inv-loop μ-loop
+tails-requires c κs = let e = c .before .before .before .before .before .before .before .before in indices-few (e .args .g) (e .pre .0 .0 .made)
+
 loop-holds : tie.Need-loop-holds Inv-loop μ-loop
 loop-holds c =
-    let e = c .before .before .before .before .before .before .before in
+    let e = c .before .before .before .before .before .before .before .before .before in
     let a = e .args in
-    let r = c .before .before .before .begin .ensures in
+    let r = c .before .before .before .before .before .begin .ensures in
     let z : a .budget - a .budget ≡ 0 = omega arith in (
-      rw z (begins (a .g) (e .pre .0 .0 .made) (a .first .now) (a .table .now) (e .pre .0 .1) (e .pre .0 .2) (a .order .now) (c .fill-takes .last .0) (c .before .before .before .begin .result) (r .0) (r .1) (r .2) (r .3) (r .4) (r .5) (c .fill-takes .ensures .2) (c .fill-takes .ensures .1) (c .fill-takes .ensures .0)),
+      rw z (begins (a .g) (e .pre .0 .0 .made) (a .first .now) (a .table .now) (e .pre .0 .1) (e .pre .0 .2) (a .order .now) (c .before .before .fill-takes .last .0) (c .before .before .before .before .before .begin .result) (r .0) (r .1) (r .2) (r .3) (r .4) (r .5) (c .before .before .fill-takes .ensures .2) (c .before .before .fill-takes .ensures .1) (c .before .before .fill-takes .ensures .0)),
       omega arith,
       record { inOrder = e .pre .0 .3; inMarks = refl },
       (λ q. omega (arith, r .0)),
@@ -48,47 +51,47 @@ loop-holds c =
 
 visit-requires : tie.Need-visit-requires Inv-loop μ-loop
 visit-requires c κs =
-    let l = c .before .before .before .before .before .before .loop in
-    let e = c .before .before .before .before .before .before .before .before .before .before .before .before .before .before in
+    let l = c .before .before .before .before .before .before .before .loop in
+    let e = c .before .before .before .before .before .before .before .before .before .before .before .before .before .before .before .before .before in
     let a = e .args in
     let s = stateOf (l .first) (l .coefficients) (l .order) (l .marks) (l .takes) (l .s) in
     let r = at-point (a .g) (e .pre .0 .0 .made) (a .first .now) (a .table .now) (e .pre .0 .1) s s (a .budget - l .left) (l .inv .0) in
     let squared : ReadySquare (a .g) (l .first) (l .order) (l .marks) (l .takes) (l .s) = λ one more low.
     square (a .g) (e .pre .0 .0 .made) (a .first .now) (a .table .now) (e .pre .0 .1) s s (a .budget - l .left) (l .inv .0) one more (rw (counted (l .order) (l .s .count) (l .inv .2 .inOrder) (r .1 .few)) low) in
-    ((e .pre .0 .0, l .inv .2), ((λ _. (record { firstLength = at-first (e .pre .0 .1) (l .inv .0); takesBelow = r .0; point = r .1; onGrid = r .2 }, squared)), ready (a .g) (e .pre .0 .0 .made) (a .first .now) (a .table .now) (e .pre .0 .1) s s (a .budget - l .left) (l .inv .0)))
+    ((e .pre .0 .0, l .inv .2), ((λ u. (record { firstLength = at-first (e .pre .0 .1) (l .inv .0); orderLength = l .inv .2 .inOrder; takesBelow = r .0; point = r .1; onGrid = r .2 }, squared, λ one. beside (a .g) (e .pre .0 .0 .made) (a .first .now) (a .table .now) (e .pre .0 .1) s s (a .budget - l .left) (l .inv .0) u one (c .before .before .before .before .before .before .before .before .tails .result) (c .before .before .before .before .before .before .before .before .tails .ensures))), ready (a .g) (e .pre .0 .0 .made) (a .first .now) (a .table .now) (e .pre .0 .1) s s (a .budget - l .left) (l .inv .0)))
 
 sub-left : tie.Need-sub-left Inv-loop μ-loop
 sub-left c = omega arith
 
-sub-t24 : tie.Need-sub-t24 Inv-loop μ-loop
-sub-t24 c = omega (arith, c .before .before .before .before .before .before .before .before .before .loop .inv .1)
+sub-t28 : tie.Need-sub-t28 Inv-loop μ-loop
+sub-t28 c = omega (arith, c .before .before .before .before .before .before .before .before .before .before .loop .inv .1)
 
 returns : tie.Need-returns Inv-loop μ-loop
 returns c =
     let v = c .before .before .visit in
-    let l = c .before .before .before .before .before .before .before .before .before .loop in
-    let e = c .before .before .before .before .before .before .before .before .before .before .before .before .before .before .before .before .before in
+    let l = c .before .before .before .before .before .before .before .before .before .before .loop in
+    let e = c .before .before .before .before .before .before .before .before .before .before .before .before .before .before .before .before .before .before .before .before in
     let a = e .args in
     let s = stateOf (l .first) (l .coefficients) (l .order) (l .marks) (l .takes) (l .s) in
-    let after = stateOf (v .last .1 .1 .1 .0) (v .last .1 .1 .1 .1 .0) (v .last .1 .1 .1 .1 .1 .0) (v .last .1 .1 .1 .1 .1 .1 .0) (v .last .1 .1 .1 .1 .1 .1 .1 .0) (v .result) in
-    finished-place (problemIn (a .g) (a .first .now) (a .table .now)) (a .budget) _ (v .last .1 .1 .1 .0) (v .last .1 .1 .1 .1 .0) (v .last .1 .1 .1 .1 .1 .0) (v .last .1 .1 .1 .1 .1 .1 .0) (v .last .1 .1 .1 .1 .1 .1 .1 .0) (a .budget - l .left)
+    let after = stateOf (v .last .1 .1 .1 .1 .0) (v .last .1 .1 .1 .1 .1 .0) (v .last .1 .1 .1 .1 .1 .1 .0) (v .last .1 .1 .1 .1 .1 .1 .1 .0) (v .last .1 .1 .1 .1 .1 .1 .1 .1 .0) (v .result) in
+    finished-place (problemIn (a .g) (a .first .now) (a .table .now)) (a .budget) _ (v .last .1 .1 .1 .1 .0) (v .last .1 .1 .1 .1 .1 .0) (v .last .1 .1 .1 .1 .1 .1 .0) (v .last .1 .1 .1 .1 .1 .1 .1 .0) (v .last .1 .1 .1 .1 .1 .1 .1 .1 .0) (a .budget - l .left)
     (ends-place (a .g) (e .pre .0 .0 .made) (a .first .now) (a .table .now) (e .pre .0 .1) s after (a .budget - l .left) (l .inv .0) (v .ensures .0) (c .if1 .taken))
-    (c .if1 .taken) (omega (arith, l .inv .1, c .before .before .before .before .before .before .before .before .loop-test .taken)) (omega (arith, l .inv .1, c .before .before .before .before .before .before .before .before .loop-test .taken)) (v .ensures .1 .inOrder)
+    (c .if1 .taken) (omega (arith, l .inv .1, c .before .before .before .before .before .before .before .before .before .loop-test .taken)) (omega (arith, l .inv .1, c .before .before .before .before .before .before .before .before .before .loop-test .taken)) (v .ensures .1 .inOrder)
 
-sub-t25 : tie.Need-sub-t25 Inv-loop μ-loop
-sub-t25 c = omega (arith, c .before .before .before .before .before .before .before .before .before .before .before .loop .inv .1)
+sub-t29 : tie.Need-sub-t29 Inv-loop μ-loop
+sub-t29 c = omega (arith, c .before .before .before .before .before .before .before .before .before .before .before .before .loop .inv .1)
 
 returns-2 : tie.Need-returns-2 Inv-loop μ-loop
 returns-2 c =
     let v = c .before .before .before .before .visit in
-    let l = c .before .before .before .before .before .before .before .before .before .before .before .loop in
-    let e = c .before .before .before .before .before .before .before .before .before .before .before .before .before .before .before .before .before .before .before in
+    let l = c .before .before .before .before .before .before .before .before .before .before .before .before .loop in
+    let e = c .before .before .before .before .before .before .before .before .before .before .before .before .before .before .before .before .before .before .before .before .before .before in
     let a = e .args in
     let s = stateOf (l .first) (l .coefficients) (l .order) (l .marks) (l .takes) (l .s) in
-    let after = stateOf (v .last .1 .1 .1 .0) (v .last .1 .1 .1 .1 .0) (v .last .1 .1 .1 .1 .1 .0) (v .last .1 .1 .1 .1 .1 .1 .0) (v .last .1 .1 .1 .1 .1 .1 .1 .0) (v .result) in
-    finished-facet (problemIn (a .g) (a .first .now) (a .table .now)) (a .budget) _ (v .last .1 .1 .1 .0) (v .last .1 .1 .1 .1 .0) (v .last .1 .1 .1 .1 .1 .0) (v .last .1 .1 .1 .1 .1 .1 .0) (v .last .1 .1 .1 .1 .1 .1 .1 .0) (a .budget - l .left)
+    let after = stateOf (v .last .1 .1 .1 .1 .0) (v .last .1 .1 .1 .1 .1 .0) (v .last .1 .1 .1 .1 .1 .1 .0) (v .last .1 .1 .1 .1 .1 .1 .1 .0) (v .last .1 .1 .1 .1 .1 .1 .1 .1 .0) (v .result) in
+    finished-facet (problemIn (a .g) (a .first .now) (a .table .now)) (a .budget) _ (v .last .1 .1 .1 .1 .0) (v .last .1 .1 .1 .1 .1 .0) (v .last .1 .1 .1 .1 .1 .1 .0) (v .last .1 .1 .1 .1 .1 .1 .1 .0) (v .last .1 .1 .1 .1 .1 .1 .1 .1 .0) (a .budget - l .left)
     (ends-facet (a .g) (e .pre .0 .0 .made) (a .first .now) (a .table .now) (e .pre .0 .1) s after (a .budget - l .left) (l .inv .0) (v .ensures .0) (c .if2 .taken))
-    (c .if2 .taken) (omega (arith, l .inv .1, c .before .before .before .before .before .before .before .before .before .before .loop-test .taken)) (omega (arith, l .inv .1, c .before .before .before .before .before .before .before .before .before .before .loop-test .taken)) (v .ensures .1 .inOrder)
+    (c .if2 .taken) (omega (arith, l .inv .1, c .before .before .before .before .before .before .before .before .before .before .before .loop-test .taken)) (omega (arith, l .inv .1, c .before .before .before .before .before .before .before .before .before .before .before .loop-test .taken)) (v .ensures .1 .inOrder)
 
 loop-less : tie.Need-loop-less Inv-loop μ-loop
 loop-less c = omega arith
@@ -96,12 +99,12 @@ loop-less c = omega arith
 loop-again : tie.Need-loop-again Inv-loop μ-loop
 loop-again c =
     let v = c .before .before .before .before .visit in
-    let l = c .before .before .before .before .before .before .before .before .before .before .before .loop in
-    let e = c .before .before .before .before .before .before .before .before .before .before .before .before .before .before .before .before .before .before .before in
+    let l = c .before .before .before .before .before .before .before .before .before .before .before .before .loop in
+    let e = c .before .before .before .before .before .before .before .before .before .before .before .before .before .before .before .before .before .before .before .before .before .before in
     let a = e .args in
     let s = stateOf (l .first) (l .coefficients) (l .order) (l .marks) (l .takes) (l .s) in
-    let after = stateOf (v .last .1 .1 .1 .0) (v .last .1 .1 .1 .1 .0) (v .last .1 .1 .1 .1 .1 .0) (v .last .1 .1 .1 .1 .1 .1 .0) (v .last .1 .1 .1 .1 .1 .1 .1 .0) (v .result) in
-    let k : a .budget - (l .left - 1) ≡ suc (a .budget - l .left) = omega (arith, l .inv .1, c .before .before .before .before .before .before .before .before .before .before .loop-test .taken) in (
+    let after = stateOf (v .last .1 .1 .1 .1 .0) (v .last .1 .1 .1 .1 .1 .0) (v .last .1 .1 .1 .1 .1 .1 .0) (v .last .1 .1 .1 .1 .1 .1 .1 .0) (v .last .1 .1 .1 .1 .1 .1 .1 .1 .0) (v .result) in
+    let k : a .budget - (l .left - 1) ≡ suc (a .budget - l .left) = omega (arith, l .inv .1, c .before .before .before .before .before .before .before .before .before .before .before .loop-test .taken) in (
       rw k (goes-on (a .g) (e .pre .0 .0 .made) (a .first .now) (a .table .now) (e .pre .0 .1) s after (a .budget - l .left) (l .inv .0) (v .ensures .0) (c .before .before .if1 .left) (c .if2 .left)),
       omega (arith, l .inv .1),
       v .ensures .1,
@@ -112,7 +115,7 @@ loop-again c =
 returns-3 : tie.Need-returns-3 Inv-loop μ-loop
 returns-3 c =
     let l = c .before .loop in
-    let e = c .before .before .before .before .before .before .before .before .before in
+    let e = c .before .before .before .before .before .before .before .before .before .before .before in
     let a = e .args in
     let p = problemIn (a .g) (a .first .now) (a .table .now) in
     finished-spent p (a .budget) _ _ (l .coefficients) _ (l .marks) _ (l .inv .3) (l .inv .4)
@@ -127,12 +130,13 @@ walk-spec =
     μ-loop
     begin-requires
     fill-takes-requires
+    tails-requires
     loop-holds
     visit-requires
     sub-left
-    sub-t24
+    sub-t28
     returns
-    sub-t25
+    sub-t29
     returns-2
     loop-less
     loop-again

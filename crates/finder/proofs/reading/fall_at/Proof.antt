@@ -1,0 +1,57 @@
+-- `reading::fall_at` meets its contract: the coordinates from the step's index on add up to what the start and the coefficients tell. Assumes nothing.
+use native.Mathlib.Omega.{arith}
+use Rattle.grid.proofs.Fields.{indices-few}
+use borrow.Author.Needs.{needs}
+use Rattle.finder.proofs.reading.fall_at.Statement.{statement}
+use Rattle.finder.proofs.reading.fall_at.Tie as tie
+
+mul-sum : tie.Need-mul-sum
+mul-sum c = omega (arith, indices-few (c .args .g) (c .pre .0 .0))
+
+element-copy-out-sum : tie.Need-element-copy-out-sum
+element-copy-out-sum c = omega (arith, indices-few (c .args .g) (c .pre .0 .0))
+
+mul-sum-2 : tie.Need-mul-sum-2
+mul-sum-2 c = omega (arith, indices-few (c .before .args .g) (c .before .pre .0 .0))
+
+element-copy-out-sum-2 : tie.Need-element-copy-out-sum-2
+element-copy-out-sum-2 c = omega (arith, indices-few (c .before .args .g) (c .before .pre .0 .0))
+
+sum-requires : tie.Need-sum-requires
+sum-requires c κs = search needs
+
+element-copy-out-wide16 : tie.Need-element-copy-out-wide16
+element-copy-out-wide16 c = search needs
+
+wide16-requires : tie.Need-wide16-requires
+wide16-requires c κs = search needs
+
+add-fall : tie.Need-add-fall
+add-fall c = search needs
+
+sub-fall : tie.Need-sub-fall
+sub-fall c = search needs
+
+fall-requires : tie.Need-fall-requires
+fall-requires c κs =
+    let e = c .before .before .before .before .before in
+    (e .pre .0 .0, e .pre .0 .1, e .pre .0 .2, e .pre .0 .3, e .pre .0 .4, rw (c .before .before .sum .ensures, c .wide16 .ensures .0) (e .pre .1 .1))
+
+returns : tie.Need-returns
+returns c = rw (← c .before .before .before .sum .ensures, ← c .before .wide16 .ensures .0) (c .fall .ensures)
+
+pub fall-at-spec : {M : Type 1} → statement M
+fall-at-spec =
+    tie.close
+    (tie.spec
+    mul-sum
+    element-copy-out-sum
+    mul-sum-2
+    element-copy-out-sum-2
+    sum-requires
+    element-copy-out-wide16
+    wide16-requires
+    add-fall
+    sub-fall
+    fall-requires
+    returns)
