@@ -121,6 +121,21 @@ fn first_no(g: Grid, start: &[u16], labels: &[u8], room: usize) -> u8
     0
 }
 
+// Questions 5 to 9 in document 01's order, on a grid that is made. The printer calls it too: a slip has answered questions 1 to 4.
+pub fn run_on(g: Grid, start: &[u16], labels: &[u8], answer: &mut [u16], budget: u64) -> Answer
+    requires { ⌜ IsMade g ⌝ }
+    ensures answer { λ r. ⌜ r ≡ runAnswer (problemFrom g (now (start .entry)) (now (labels .entry))) (length (now (answer .entry))) budget ⌝ }
+    ensures buffer { λ _. ⌜ now (answer .exit) ≡ runBuffer (problemFrom g (now (start .entry)) (now (labels .entry))) budget (now (answer .entry)) ⌝ }
+{
+    let number = first_no(g, start, labels, answer.len());
+    if number != 0 {
+        return Answer::Refused(number);
+    }
+    let mut binomials = [0u16; 1255];
+    positions::binomials(g, &mut binomials);
+    announced(g, &binomials, start, labels, answer, budget)
+}
+
 // Questions 1 to 9 in document 01's order, on every input. Refusals write nothing. What is written stands at the front of the answer buffer: as many
 // vertices as the answer says, m numbers each.
 pub fn run(
@@ -140,11 +155,5 @@ pub fn run(
     if code != 0 {
         return Answer::Refused(code);
     }
-    let number = first_no(g, start, labels, answer.len());
-    if number != 0 {
-        return Answer::Refused(number);
-    }
-    let mut binomials = [0u16; 1255];
-    positions::binomials(g, &mut binomials);
-    announced(g, &binomials, start, labels, answer, budget)
+    run_on(g, start, labels, answer, budget)
 }

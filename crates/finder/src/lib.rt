@@ -7,3 +7,4 @@ mod walk;
 pub use answers::Answer;
 pub use answers::Kind;
 pub use answers::run;
+pub use answers::run_on;

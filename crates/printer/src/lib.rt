@@ -74,20 +74,10 @@ fn print_run(reading: Reading, labels: &[u8], sheet: &mut [u8; 4096]) -> usize
         × (now (sheet .exit) ≡ front (runSheet (problemOf reading (now (labels .entry))) (reading .budget)) (now (sheet .entry))) ⌝ }
 {
     let grid = reading.grid;
-    let sizes = grid.sizes;
-    let divisions = grid.divisions;
     let start = reading.start;
-    let blocks = grid.blocks;
     let indices = grid.indices;
     let mut buffer = [0u16; 256];
-    let answer = finder::run(
-        &sizes[..blocks],
-        &divisions[..blocks],
-        &start[..indices],
-        labels,
-        &mut buffer,
-        reading.budget,
-    );
+    let answer = finder::run_on(grid, &start[..indices], labels, &mut buffer, reading.budget);
     print_answer(answer, grid, &buffer, sheet)
 }
 
