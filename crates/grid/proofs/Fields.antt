@@ -23,7 +23,7 @@ use Rattle.grid.specs.Grid.{Grid, numBlocks, numIndices, numPoints, size
 use Rattle.grid.specs.Made.{gridOf, madeOf, shape, IsMade, padded, blockCount}
 use Rattle.grid.specs.Questions.{firstNo, gridQuestions}
 
-padded-at : (f : ℕ → ℕ) (n m i : ℕ) → i < m → getD (padded n (map f (upFrom 0 m))) i 0 ≡ f i
+pub padded-at : (f : ℕ → ℕ) (n m i : ℕ) → i < m → getD (padded n (map f (upFrom 0 m))) i 0 ≡ f i
 padded-at f n m i h =
     let e : length (map f (upFrom 0 m)) ≡ m = length-map (upFrom 0 m) f ∙ length-upFrom 0 m in
     let z : 0 + i ≡ i = omega arith in

@@ -3,7 +3,7 @@ use mathlib.Core.List.{List, [], _∷_}
 use mathlib.Core.Path.{_≡_, sym}
 use Prim.Native.Nat.{ℕ, zero, suc, _+_, _-_, _*_, pred, _≤_, _<_}
 use borrow.Author.Tests.{lt-ltb, le-ltb}
-use lib.ListN.{length, getD, take, drop}
+use lib.ListN.{length, getD, take, drop, length-take}
 use native.Mathlib.Nat.{mul-assoc, mul-le-mul, one-le-mul}
 use native.Mathlib.Numerals.{add-one}
 use native.Mathlib.Omega.{arith}
@@ -53,14 +53,17 @@ product-positive [] ds e = omega arith
 product-positive (s ∷ ss) [] e = absurd (omega arith)
 product-positive (s ∷ ss) (d ∷ ds) e = one-le-mul (choose-positive d (pred s)) (product-positive ss ds (omega arith))
 
--- a block has no more points than the grid
+-- the first blocks have no more points than all
+pub product-below : (ss ds : List ℕ) (j : ℕ) → length ds ≡ length ss → binomialProduct (take j ss) (take j ds) ≤ binomialProduct ss ds
+product-below ss ds zero e = product-positive ss ds e
+product-below [] ds (suc j) e = omega arith
+product-below (s ∷ ss) [] (suc j) e = absurd (omega arith)
+product-below (s ∷ ss) (d ∷ ds) (suc j) e = mul-le-mul (omega arith) (product-below ss ds j (omega arith))
+
+-- nor has one block
 pub count-below : (ss ds : List ℕ) (j : ℕ) → j < length ss → length ds ≡ length ss
     → choose (getD ds j 0 + pred (getD ss j 0)) (pred (getD ss j 0)) ≤ binomialProduct ss ds
-count-below [] ds j h e = absurd (omega arith)
-count-below (s ∷ ss) [] j h e = absurd (omega arith)
-count-below (s ∷ ss) (d ∷ ds) zero h e =
-    let p : choose (d + pred s) (pred s) * 1 ≤ choose (d + pred s) (pred s) * binomialProduct ss ds = mul-le-mul (omega arith) (product-positive ss ds (omega arith)) in
-    omega arith
-count-below (s ∷ ss) (d ∷ ds) (suc j) h e =
-    let p : 1 * binomialProduct ss ds ≤ choose (d + pred s) (pred s) * binomialProduct ss ds = mul-le-mul (choose-positive d (pred s)) (omega arith) in
-    omega (arith, count-below ss ds j (omega arith) (omega arith))
+count-below ss ds j h e =
+    let n = choose (getD ds j 0 + pred (getD ss j 0)) (pred (getD ss j 0)) in
+    let p : 1 * n ≤ binomialProduct (take j ss) (take j ds) * n = mul-le-mul (product-positive (take j ss) (take j ds) (simp length-take (omega arith))) (omega arith) in
+    omega (arith, product-next ss ds j h e, product-below ss ds (j + 1) e)

@@ -2,8 +2,9 @@
 use mathlib.Core.List.{List, map}
 use mathlib.Core.Path.{_≡_}
 use Prim.Native.Nat.{ℕ}
-use Rattle.grid.specs.Grid.{Grid, firstIndex, blocks, indices, blockOf, next as after, previous as before}
-use Rattle.grid.specs.Made.{padded, blockCount}
+use Rattle.grid.specs.Grid.{Grid, numBlocks, firstIndex, blocks, indices, blockOf, next as after, previous as before}
+use Rattle.grid.specs.Made.{padded, blockCount, gridOf}
+use Rattle.grid.specs.Questions.{firstNo, gridQuestions}
 
 -- the sizes and divisions lent to the constructor
 abbrev pub lent : List ℕ → List ℕ → Grid
@@ -14,6 +15,12 @@ pub record BlocksMarked (g : Grid) (sizes divisions firsts counts : List ℕ) : 
   pub divisionsAre : divisions ≡ padded 6 (g .divisions)
   pub firstsAre : firsts ≡ padded 6 (map (firstIndex g) (blocks g))
   pub countsAre : counts ≡ padded 6 (map (blockCount g) (blocks g))
+
+-- the counts that an accepted grid has in its struct, and the number of its blocks
+pub record BlocksCounted (g : Grid) (counts : List ℕ) (number : ℕ) : Type 0 where
+  pub accepted : firstNo (gridQuestions g) ≡ 0
+  pub countsAre : counts ≡ gridOf g .counts
+  pub numberIs : number ≡ numBlocks g
 
 pub record IndicesMarked (g : Grid) (block previous next : List ℕ) : Type 0 where
   pub blockIs : block ≡ padded 16 (map (blockOf g) (indices g))

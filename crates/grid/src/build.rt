@@ -6,8 +6,8 @@ ghost use Prim.Native.Nat.{suc, _+_, _≤_, _<_, pred};
 ghost use lib.Dec.{eqb};
 ghost use lib.ListN.{length, replicate};
 ghost use Rattle.combinatorics.specs.Lists.{sum};
-ghost use Rattle.grid.specs.Build.{lent, BlocksMarked, IndicesMarked};
-ghost use Rattle.grid.specs.Grid.{blockIn};
+ghost use Rattle.grid.specs.Build.{lent, BlocksMarked, BlocksCounted, IndicesMarked};
+ghost use Rattle.grid.specs.Grid.{Grid as Shape, blockIn, numPoints};
 ghost use Rattle.grid.specs.Made.{gridOf, noGrid};
 ghost use Rattle.grid.specs.Questions.{firstNo, gridQuestions};
 use crate::Grid;
@@ -92,6 +92,20 @@ fn mark_blocks(
     }
 }
 
+// P from the counts that are marked: question 4 has shown that it fits.
+fn product(counts: &[u16; 6], blocks: usize) -> usize
+    requires { ⌜ ((g : Shape) × BlocksCounted g (now counts) blocks) ⌝ }
+    ensures { λ r. ⌜ ((g : Shape) → BlocksCounted g (now (counts .entry)) blocks → r ≡ numPoints g) ⌝ }
+{
+    let mut product: usize = 1;
+    let mut j: usize = 0;
+    while j < blocks {
+        product = product * wide16(counts[j]);
+        j += 1;
+    }
+    product
+}
+
 // What is known of each index: its block, and its neighbours round the block.
 fn mark_indices(
     sizes: &[u8],
@@ -137,7 +151,7 @@ pub fn built(sizes: &[u8], divisions: &[u16]) -> Grid
     let mut previous = [0u8; 16];
     let mut next = [0u8; 16];
     mark_indices(sizes, indices, &mut block, &mut previous, &mut next);
-    let points = counts::points(sizes, divisions);
+    let points = product(&counts, blocks);
     Grid {
         sizes: own_sizes,
         divisions: own_divisions,

@@ -3,9 +3,9 @@ use mathlib.Core.Path.{_≡_, refl, _∙_}
 use lib.ListN.{length}
 use Rattle.combinatorics.proofs.Turns.{whole}
 use Rattle.combinatorics.specs.Lists.{sum}
-use Rattle.grid.proofs.Accepted.{Accepted, accepted, points-are}
-use Rattle.grid.specs.Build.{lent}
-use Rattle.grid.specs.Grid.{numPoints, next as after, previous as before}
+use Rattle.grid.proofs.Accepted.{Accepted, accepted}
+use Rattle.grid.specs.Build.{lent, BlocksCounted}
+use Rattle.grid.specs.Grid.{next as after, previous as before}
 use Rattle.grid.specs.Made.{gridOf}
 use borrow.Author.Needs.{needs}
 use native.Mathlib.Omega.{arith}
@@ -19,6 +19,12 @@ yes c = accepted _ (c .pre)
 total : (c : tie.After-first-index) → c .first-index .result ≡ sum (c .before .before .before .before .before .before .before .before .args .sizes .now)
 total c = let ss = c .before .before .before .before .before .before .before .before .args .sizes .now in c .first-index .ensures ∙ rw (whole ss (length ss) (omega arith))
 
+-- the counts that are multiplied
+counted : (c : tie.After-mark-blocks)
+    → let s = c .before .before .before .before .before .before .before in BlocksCounted (lent (s .args .sizes .now) (s .args .divisions .now)) (c .mark-blocks .last .1 .1 .1 .1 .1 .0) (length (s .args .sizes .now))
+unfolding gridOf
+counted c = record { accepted = c .before .before .before .before .before .before .before .pre; countsAre = c .mark-blocks .ensures .countsAre; numberIs = refl }
+
 mark-blocks-requires : tie.Need-mark-blocks-requires
 mark-blocks-requires c κs = search needs
 
@@ -31,18 +37,15 @@ mark-indices-requires c κs =
     let t = total (c .before .before .before) in
     (t, rw t (y .fewIndices), y .fewBlocks, refl, refl, refl)
 
-points-requires : tie.Need-points-requires
-points-requires c κs = let y = yes (c .before .before .before .before .before .before .before .before .before .before .before .before) in (y .sizesTwo, y .fewIndices, y .sameNumber)
+product-requires : tie.Need-product-requires
+product-requires c κs = (_, counted (c .before .before .before .before .before .before))
 
 returns : tie.Need-returns
 unfolding gridOf before after
 returns c =
-    let y = yes (c .before .before .before .before .before .before .before .before .before .before .before .before .before) in
-    let a = c .before .before .before .before .before .before .before .before .before .before .before .before .before .args in
-    let b = c .before .before .before .before .before .before .mark-blocks .ensures in
-    let i = c .before .mark-indices .ensures in
-    let p : c .points .result ≡ numPoints (lent (a .sizes .now) (a .divisions .now)) = omega (arith, c .points .ensures, points-are _ y, y .fewPoints) in
-    rw (b .sizesAre, b .divisionsAre, b .firstsAre, b .countsAre, i .blockIs, i .previousIs, i .nextIs, total (c .before .before .before .before .before), p)
+    let b = c .before .before .before .before .before .before .before .mark-blocks .ensures in
+    let i = c .before .before .mark-indices .ensures in
+    rw (b .sizesAre, b .divisionsAre, b .firstsAre, i .blockIs, i .previousIs, i .nextIs, total (c .before .before .before .before .before .before), c .product .ensures _ (counted (c .before .before .before .before .before .before .before)), b .countsAre)
 
 pub built-spec : {M : Type 1} → statement M
 built-spec =
@@ -51,5 +54,5 @@ built-spec =
     mark-blocks-requires
     first-index-requires
     mark-indices-requires
-    points-requires
+    product-requires
     returns)
