@@ -7,7 +7,7 @@ mod point;
 
 pub use point::weigh_point;
 
-pub fn wide(x: u16) -> u32
+fn wide(x: u16) -> u32
     ensures { λ r. ⌜ r ≡ x ⌝ }
 {
     x as u32
