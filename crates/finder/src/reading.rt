@@ -92,6 +92,7 @@ fn gone_round(i: usize, position: u32, first: u32) -> usize
     if first < position { 1 } else { 0 }
 }
 
+// Both widths are known here, so that nothing is left to show of the sum.
 fn sum(tail: u32, coefficient: u16) -> usize
     ensures { λ r. ⌜ r ≡ tail + coefficient ⌝ }
 {
