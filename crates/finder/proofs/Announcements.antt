@@ -27,7 +27,8 @@ use Rattle.place.specs.Demand.{Accepted}
 use Rattle.place.specs.Ends.{Kind}
 use Rattle.place.specs.Path.{answer}
 use Rattle.place.specs.Problem.{Problem}
-use Rattle.finder.specs.Finish.{Announced, Finished, problemFrom, problemIn}
+use Rattle.marks.specs.Reading.{problemFrom}
+use Rattle.finder.specs.Finish.{Announced, Finished, problemIn}
 use Rattle.finder.specs.Run.{caseOf, kindOf, numbersOf}
 use Rattle.finder.specs.declared.answers.Answer.the-variants.{End}
 use Rattle.finder.specs.declared.walk.Finish.{Finish}

@@ -23,7 +23,8 @@ use Rattle.place.specs.Demand.{Accepted}
 use Rattle.place.specs.Path.{answer}
 use Rattle.place.specs.Problem.{Problem, problemOf}
 use Rattle.place.specs.Questions.{question6, question7, question8}
-use Rattle.finder.specs.Finish.{laterQuestions, problemFrom}
+use Rattle.marks.specs.Reading.{problemFrom}
+use Rattle.finder.specs.Finish.{laterQuestions}
 use Rattle.finder.specs.Run.{caseOf, numbersOf, refusal, runAnswer, runBuffer}
 use Rattle.finder.specs.declared.answers.Answer.the-variants.{Refused}
 

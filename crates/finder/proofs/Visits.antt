@@ -29,7 +29,8 @@ use Rattle.moves.specs.Read.{Exchanged, FallsBeside, ReadyPoint, markOf, pointI
 use Rattle.moves.specs.Ready.{IndicesBelow, Ready}
 use Rattle.moves.specs.Step.{State, firstOutside, marked, stateOf, step}
 use Rattle.moves.specs.declared.Sets.{Sets}
-use Rattle.finder.specs.Finish.{Announced, Finished, problemIn, tableOf}
+use Rattle.marks.specs.Reading.{tableOf}
+use Rattle.finder.specs.Finish.{Announced, Finished, problemIn}
 use Rattle.finder.specs.declared.walk.Finish.{Finish}
 
 -- the arrays of neighbours that a made grid keeps

@@ -1,12 +1,9 @@
 -- What the walk along the path needs of its grid and table, and what it gives. The run's own promise does not cite it. Assumes nothing.
-use mathlib.Core.Bool.{true}
 use mathlib.Core.List.{List, [], _∷_}
 use mathlib.Core.Path.{_≡_}
 use Prim.Native.Nat.{ℕ, suc, _≤_, _<_}
 use lib.ListN.{length, take}
-use Rattle.positions.specs.Binomials.{HasBinomials}
-use Rattle.grid.specs.Grid.{blockOf, dimension, isGridPoint, numIndices, numPoints}
-use Rattle.grid.specs.Made.{IsMade, shape}
+use Rattle.grid.specs.Grid.{blockOf, dimension, numIndices}
 use Rattle.grid.specs.Questions.{Question, question5}
 use Rattle.grid.specs.declared.Grid.{Grid as GridStruct}
 use Rattle.place.specs.Ends.{Kind, placeEnd, facetEnd}
@@ -14,18 +11,10 @@ use Rattle.place.specs.Path.{answer, ended, spent}
 use Rattle.place.specs.Problem.{Problem}
 use Rattle.place.specs.Questions.{question6, question7, question8}
 use Rattle.moves.specs.Ready.{IndicesBelow}
-use Rattle.moves.specs.Read.{pointOn, pointsFrom, Exchanged, FallsBeside, ReadyPoint}
+use Rattle.moves.specs.Read.{pointsFrom, ReadyPoint}
 use Rattle.moves.specs.Step.{State, stateOf}
-use Rattle.moves.specs.declared.Sets.{Sets}
+use Rattle.marks.specs.Reading.{problemFrom}
 use Rattle.finder.specs.declared.walk.Finish.{Finish}
-
--- the grid, a start and the label table
-abbrev pub problemFrom : GridStruct → List ℕ → List ℕ → Problem
-problemFrom g start table = record { grid = shape g; start = start; labels = table }
-
--- the start left open, since no label depends on it
-abbrev pub tableOf : GridStruct → List ℕ → Problem
-tableOf g table = problemFrom g [] table
 
 -- with the start that the first array holds
 abbrev pub problemIn : GridStruct → List ℕ → List ℕ → Problem
@@ -34,28 +23,6 @@ problemIn g first table = problemFrom g (take (g .indices) first) table
 -- questions 5 to 8, which a run asks on an accepted grid
 abbrev pub laterQuestions : Problem → ℕ → List Question
 laterQuestions p room = question5 (p .grid) (p .start) ∷ question6 p ∷ question7 p ∷ question8 (p .grid) room ∷ []
-
--- a label can be looked up for every grid point
-pub record Readable (g : GridStruct) (binomials table : List ℕ) : Type 0 where
-  pub made : IsMade g
-  pub filled : HasBinomials (shape g) binomials
-  pub whole : length table ≡ numPoints (shape g)
-
--- the point that has just come in can be computed, and is a grid point
-pub record ReadyRead (g : GridStruct) (first order takes : List ℕ) (s : Sets) : Type 0 where
-  pub firstLength : length first ≡ 16
-  pub orderLength : length order ≡ 16
-  pub takesBelow : IndicesBelow takes
-  pub point : ReadyPoint takes (take (s .count) order) first (s .turn)
-  pub onGrid : isGridPoint (shape g) (pointOn (shape g) (stateOf first [] order [] takes s) (s .turn)) ≡ true
-
--- where it has come in between two steps that changed places, the marks of their square stand
-abbrev pub ReadySquare : GridStruct → List ℕ → List ℕ → List ℕ → List ℕ → Sets → Type 0
-ReadySquare g first order marks takes s = s .rule ≡ 1 → 0 < s .turn → s .turn < s .count → Exchanged (shape g) first (take (s .count) order) (take (suc (s .count)) marks) takes (s .turn)
-
--- in a grid of one block, the steps to and from it, and the marks beside it
-abbrev pub ReadyBeside : GridStruct → List ℕ → List ℕ → List ℕ → List ℕ → List ℕ → List ℕ → Sets → Type 0
-ReadyBeside g tails first coefficients order marks takes s = g .blocks ≡ 1 → FallsBeside (shape g) tails first coefficients (take (s .count) order) (take (suc (s .count)) marks) takes (s .turn)
 
 -- the state e stands at an end, which is the answer: `places` places, an end of the kind given, and as simplex the points of e from number `from` on
 pub record Announced (p : Problem) (budget : ℕ) (kind : Kind) (from : ℕ) (e : State) (places : ℕ) : Type 0 where

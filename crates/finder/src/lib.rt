@@ -1,7 +1,6 @@
 // The path finder: the run on a label table.
 mod answers;
 mod labels;
-mod reading;
 mod walk;
 
 pub use answers::Answer;

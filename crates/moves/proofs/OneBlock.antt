@@ -1,6 +1,6 @@
 -- A grid of one block: the indices met going back, the sum of a point's coordinates from an index on by its coefficients, and a point's position beside that of the first point. Assumes
 -- nothing.
-use mathlib.Core.Bool.{Bool, true, false, cond}
+use mathlib.Core.Bool.{Bool, true, cond}
 use mathlib.Core.List.{List, map}
 use mathlib.Core.Logic.{⊎-elim}
 use mathlib.Core.Path.{_≡_, refl, sym, ap, _∙_, subst}

@@ -4,7 +4,7 @@ use borrow.Author.Needs.{needs}
 use borrow.Author.Tests.{not-false, not-true}
 use native.Mathlib.Omega.{arith}
 use Rattle.grid.proofs.Fields.{indices-few, made-indices, made-points}
-use Rattle.finder.specs.Finish.{problemFrom}
+use Rattle.marks.specs.Reading.{problemFrom}
 use Rattle.finder.proofs.Refusals.{fewer-blocks, no-label, no-length, no-room, no-start, none-no, room-is, room-small}
 use Rattle.finder.proofs.answers.first_no.Statement.{statement}
 use Rattle.finder.proofs.answers.first_no.Tie as tie

@@ -2,7 +2,7 @@
 use mathlib.Core.Path.{sym, _∙_}
 use borrow.Author.Needs.{needs}
 use lib.ListN.{length}
-use Rattle.finder.specs.Finish.{problemFrom}
+use Rattle.marks.specs.Reading.{problemFrom}
 use Rattle.finder.proofs.Refusals.{accepted-with-room, answered, by-later, refused}
 use Rattle.finder.proofs.answers.run_on.Statement.{statement}
 use Rattle.finder.proofs.answers.run_on.Tie as tie

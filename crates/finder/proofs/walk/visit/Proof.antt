@@ -4,13 +4,13 @@ use lib.ListN.{length-set}
 use native.Mathlib.Omega.{arith}
 use Rattle.moves.specs.Ready.{Ready}
 use Rattle.moves.specs.Step.{step}
-use Rattle.finder.specs.Finish.{tableOf}
+use Rattle.marks.specs.Reading.{tableOf}
 use Rattle.finder.proofs.Visits.{below, read-none, read-some}
 use Rattle.finder.proofs.walk.visit.Statement.{statement}
 use Rattle.finder.proofs.walk.visit.Tie as tie
 use Rattle.finder.proofs.walk.visit.Reads as reads
 use Rattle.finder.proofs.walk.visit.Lts as lts
-use Rattle.finder.proofs.reading.mark_in.Reads as mark-in-reads
+use Rattle.marks.proofs.mark_in.Reads as mark-in-reads
 use Rattle.moves.proofs.step.Reads as step-reads
 
 step-requires : tie.Need-step-requires

@@ -8,7 +8,8 @@ use Rattle.grid.proofs.Fields.{indices-few}
 use Rattle.moves.proofs.Follow.{At, at-first, at-spent}
 use Rattle.moves.specs.Ready.{SixteenEach}
 use Rattle.moves.specs.Step.{stateOf}
-use Rattle.finder.specs.Finish.{problemIn, ReadySquare}
+use Rattle.marks.specs.Reading.{ReadySquare}
+use Rattle.finder.specs.Finish.{problemIn}
 use Rattle.finder.proofs.Visits.{begins, below, beside, ends-facet, ends-place, finished-facet, finished-place, finished-spent, goes-on, reads as at-point, ready, square}
 use Rattle.finder.proofs.walk.walk.Statement.{statement}
 use Rattle.finder.proofs.walk.walk.Tie as tie

@@ -1,4 +1,4 @@
--- `reading::add_up` meets its contract: each way out of it tells the case. Assumes nothing.
+-- `marks::add_up` meets its contract: each way out of it tells the case. Assumes nothing.
 use mathlib.Core.Logic.{inl, inr}
 use mathlib.Core.Path.{sym, _∙_}
 use borrow.Author.Tests.{leb-true}
@@ -6,8 +6,8 @@ use native.Mathlib.Omega.{arith}
 use Rattle.combinatorics.proofs.Basics.{absurd-bool}
 use Rattle.grid.proofs.Fields.{indices-few}
 use borrow.Author.Needs.{needs}
-use Rattle.finder.proofs.reading.add_up.Statement.{statement}
-use Rattle.finder.proofs.reading.add_up.Tie as tie
+use Rattle.marks.proofs.add_up.Statement.{statement}
+use Rattle.marks.proofs.add_up.Tie as tie
 
 block-of-requires : tie.Need-block-of-requires
 block-of-requires c κs = search needs

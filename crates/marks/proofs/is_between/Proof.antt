@@ -1,10 +1,10 @@
--- `reading::is_between` meets its contract. Assumes nothing.
+-- `marks::is_between` meets its contract. Assumes nothing.
 use mathlib.Core.Path.{sym}
 use borrow.Author.Tests.{ltb-true}
 use native.Mathlib.Omega.{arith}
 use Rattle.combinatorics.proofs.Basics.{absurd-bool}
-use Rattle.finder.proofs.reading.is_between.Statement.{statement}
-use Rattle.finder.proofs.reading.is_between.Tie as tie
+use Rattle.marks.proofs.is_between.Statement.{statement}
+use Rattle.marks.proofs.is_between.Tie as tie
 
 returns : tie.Need-returns
 returns c = λ e. absurd-bool (sym e)

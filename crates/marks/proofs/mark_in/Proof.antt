@@ -1,12 +1,12 @@
--- `reading::mark_in` meets its contract: the label stands in the table at the position. Assumes nothing.
+-- `marks::mark_in` meets its contract: the label stands in the table at the position. Assumes nothing.
 use Prim.Native.Nat.{_<_}
 use native.Mathlib.Omega.{arith}
 use Rattle.grid.proofs.Fields.{made-accepted}
 use Rattle.positions.proofs.Positions.{position-below}
-use Rattle.finder.proofs.Readings.{in-table, label-is}
+use Rattle.marks.proofs.Readings.{in-table, label-is}
 use borrow.Author.Needs.{needs}
-use Rattle.finder.proofs.reading.mark_in.Statement.{statement}
-use Rattle.finder.proofs.reading.mark_in.Tie as tie
+use Rattle.marks.proofs.mark_in.Statement.{statement}
+use Rattle.marks.proofs.mark_in.Tie as tie
 
 -- the position is small
 few : (c : tie.After-position-in) → c .position-in .result < 60001

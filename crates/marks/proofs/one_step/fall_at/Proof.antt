@@ -1,9 +1,9 @@
--- `reading::fall_at` meets its contract: the coordinates from the step's index on add up to what the start and the coefficients tell. Assumes nothing.
+-- `one_step::fall_at` meets its contract: the coordinates from the step's index on add up to what the start and the coefficients tell. Assumes nothing.
 use native.Mathlib.Omega.{arith}
 use Rattle.grid.proofs.Fields.{indices-few}
 use borrow.Author.Needs.{needs}
-use Rattle.finder.proofs.reading.fall_at.Statement.{statement}
-use Rattle.finder.proofs.reading.fall_at.Tie as tie
+use Rattle.marks.proofs.one_step.fall_at.Statement.{statement}
+use Rattle.marks.proofs.one_step.fall_at.Tie as tie
 
 mul-sum : tie.Need-mul-sum
 mul-sum c = omega (arith, indices-few (c .args .g) (c .pre .0 .0))

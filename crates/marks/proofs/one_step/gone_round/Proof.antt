@@ -1,8 +1,8 @@
--- `reading::gone_round` meets its contract. Assumes nothing.
+-- `one_step::gone_round` meets its contract. Assumes nothing.
 use borrow.Author.Tests.{lt-ltb, le-ltb}
 use native.Mathlib.Omega.{arith}
-use Rattle.finder.proofs.reading.gone_round.Statement.{statement}
-use Rattle.finder.proofs.reading.gone_round.Tie as tie
+use Rattle.marks.proofs.one_step.gone_round.Statement.{statement}
+use Rattle.marks.proofs.one_step.gone_round.Tie as tie
 
 returns : tie.Need-returns
 returns c = (rw (c .if1 .taken), omega arith)

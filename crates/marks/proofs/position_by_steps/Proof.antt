@@ -1,8 +1,8 @@
--- `reading::position_by_steps` meets its contract: the steps of the point are counted, and with the first point they give its position. Assumes nothing.
+-- `marks::position_by_steps` meets its contract: the steps of the point are counted, and with the first point they give its position. Assumes nothing.
 use mathlib.Core.Path.{_∙_}
-use Rattle.finder.proofs.Readings.{can-step, point-at, steps-ready}
-use Rattle.finder.proofs.reading.position_by_steps.Statement.{statement}
-use Rattle.finder.proofs.reading.position_by_steps.Tie as tie
+use Rattle.marks.proofs.Readings.{can-step, point-at, steps-ready}
+use Rattle.marks.proofs.position_by_steps.Statement.{statement}
+use Rattle.marks.proofs.position_by_steps.Tie as tie
 
 advance-requires : tie.Need-advance-requires
 advance-requires c κs =

@@ -1,4 +1,4 @@
--- `reading::position_by_one_step` meets its contract: the step to the point, or the step from it, lowers the position by what `fall_at` gives. Assumes nothing.
+-- `one_step::position_by_one_step` meets its contract: the step to the point, or the step from it, lowers the position by what `fall_at` gives. Assumes nothing.
 use mathlib.Core.List.{List, []}
 use mathlib.Core.Path.{_≡_}
 use Prim.Native.Nat.{ℕ, suc, _+_, _-_, _/_, _≤_, _<_}
@@ -8,10 +8,10 @@ use Rattle.grid.specs.Grid.{at, position}
 use Rattle.grid.specs.Made.{shape}
 use Rattle.moves.specs.Read.{FallsBeside, pointOn}
 use Rattle.moves.specs.Step.{stateOf}
-use Rattle.finder.proofs.Readings.{after-near, before-far, far-low, from-near, order-low, step-low, step-room, to-far}
+use Rattle.marks.proofs.OneStep.{after-near, before-far, far-low, from-near, order-low, step-low, step-room, to-far}
 use borrow.Author.Needs.{needs}
-use Rattle.finder.proofs.reading.position_by_one_step.Statement.{statement}
-use Rattle.finder.proofs.reading.position_by_one_step.Tie as tie
+use Rattle.marks.proofs.one_step.position_by_one_step.Statement.{statement}
+use Rattle.marks.proofs.one_step.position_by_one_step.Tie as tie
 
 -- the step to the point takes from an index before its own
 step-to : (c : tie.Then2) → at (c .before .before .before .before .before .before .args .takes .now) (at (c .before .before .before .before .before .before .args .order .now) (c .before .before .before .before .before .before .args .s .turn - 1)) < at (c .before .before .before .before .before .before .args .order .now) (c .before .before .before .before .before .before .args .s .turn - 1)
