@@ -12,7 +12,7 @@ ghost use Rattle.games.specs.Corners.{entry, column, Low, lastPlayer, co
 ghost use Rattle.losses.specs.Game.{product, firstLargest};
 ghost use Rattle.losses.specs.Known.{gridOf, Drawn, IsTable};
 use crate::largest;
-use losses::count_of;
+use grid::wide;
 use losses::weigh_point;
 
 // The first numbers of the row, each x times, added to the totals.
@@ -83,7 +83,7 @@ fn weigh_corner(
     ensures { λ _. ⌜ Cornered (gridOf (now (sizes .entry)) (now (ones .entry))) (now (losses .entry)) (now (point .entry)) (k + 1) (now (differences .exit)) ⌝ }
 {
     let indices = point.len();
-    let first = count_of(firsts[sizes.len() - 1]);
+    let first = wide(firsts[sizes.len() - 1]);
     let corner = corner(point, first, first + k);
     let at = k * 16;
     let mut expected = [0u32; 16];
@@ -122,7 +122,7 @@ pub fn weigh_corners(
     if !changed {
         return;
     }
-    let size = count_of(sizes[sizes.len() - 1]);
+    let size = wide(sizes[sizes.len() - 1]);
     let mut k: usize = 0;
     while k < size {
         weigh_corner(

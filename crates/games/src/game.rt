@@ -10,7 +10,7 @@ ghost use Rattle.losses.specs.Game.{product, labels};
 ghost use Rattle.losses.specs.Known.{gridOf, Laid, IsTable};
 use crate::corners;
 use crate::successor;
-use losses::count_of;
+use grid::wide;
 
 // The labels of all points, from the first point on. In ones the last division is 1.
 fn label_points(
@@ -29,7 +29,7 @@ fn label_points(
     requires { ⌜ (now ones ≡ set (now divisions) (length (now sizes) - 1) 1) × (length (now differences) ≡ 256) ⌝ }
     ensures { λ _. ⌜ now (buffer .exit) ≡ front (labels (gridOf (now (sizes .entry)) (now (divisions .entry))) (now (losses .entry))) (now (buffer .entry)) ⌝ }
 {
-    let first = count_of(firsts[sizes.len() - 1]);
+    let first = wide(firsts[sizes.len() - 1]);
     let indices = point.len();
     let mut changed = true;
     let mut k: usize = 0;

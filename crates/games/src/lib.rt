@@ -6,7 +6,7 @@ ghost use Rattle.losses.specs.Game.{product};
 ghost use Rattle.losses.specs.Known.{inRange};
 ghost use Rattle.games.specs.Labelling.{question15, labelAnswer, labelBuffer, gameAnswer, gameBuffer};
 use grid::Grid;
-use losses::count_of;
+use grid::wide;
 
 mod corners;
 mod game;
@@ -30,7 +30,7 @@ fn profile_count(sizes: &[u8]) -> usize
     let mut j = sizes.len();
     while 0 < j {
         j -= 1;
-        count = count_of(sizes[j]) * count;
+        count = wide(sizes[j]) * count;
     }
     count
 }

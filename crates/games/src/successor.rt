@@ -8,7 +8,7 @@ ghost use Rattle.combinatorics.specs.Front.{front};
 ghost use Rattle.combinatorics.specs.Lists.{sum};
 ghost use Rattle.losses.specs.Known.{gridOf, Laid, Drawn};
 ghost use Rattle.games.specs.PointAfter.{step, after, afterAll, firstPoint, LastPositive};
-use losses::count_of;
+use grid::wide;
 
 fn last_positive(block: &[u16]) -> usize
     requires { ⌜ 0 < length (now block) ⌝ }
@@ -52,8 +52,8 @@ pub fn advance(sizes: &[u8], firsts: &[u8; 6], point: &mut [u16]) -> bool
     let mut j = sizes.len();
     while 0 < j {
         j -= 1;
-        let first = count_of(firsts[j]);
-        let end = first + count_of(sizes[j]);
+        let first = wide(firsts[j]);
+        let end = first + wide(sizes[j]);
         if advance_block(&mut point[first..end]) {
             return j + 1 < sizes.len();
         }
@@ -68,7 +68,7 @@ pub fn first_point(sizes: &[u8], divisions: &[u16], firsts: &[u8; 6], point: &mu
 {
     let mut j: usize = 0;
     while j < sizes.len() {
-        let last = count_of(firsts[j]) + count_of(sizes[j]) - 1;
+        let last = wide(firsts[j]) + wide(sizes[j]) - 1;
         point[last] = divisions[j];
         j += 1;
     }

@@ -11,8 +11,8 @@ ghost use Rattle.combinatorics.specs.Lists.{sum};
 ghost use Rattle.losses.specs.Game.{dot as dotOf, product, mix};
 ghost use Rattle.losses.specs.Known.{gridOf, Loaded};
 ghost use Rattle.losses.specs.Weights.{weighed, fit, strategyLosses};
-use crate::count_of;
-use crate::wide;
+use crate::long;
+use grid::wide;
 
 // The sum of the mix's numbers times the values, entry by entry.
 fn dot(mix: &[u16], values: &[u32]) -> u32
@@ -22,7 +22,7 @@ fn dot(mix: &[u16], values: &[u32]) -> u32
     let mut total: u32 = 0;
     let mut i: usize = 0;
     while i < mix.len() {
-        total += wide(mix[i]) * values[i];
+        total += long(mix[i]) * values[i];
         i += 1;
     }
     total
@@ -51,7 +51,7 @@ pub fn load(values: &mut [u32], losses: &[u16])
 {
     let mut i: usize = 0;
     while i < losses.len() {
-        values[i] = wide(losses[i]);
+        values[i] = long(losses[i]);
         i += 1;
     }
 }
@@ -77,8 +77,8 @@ fn weigh_block(
     ensures { λ r. ⌜ r ≡ count / getD (now (sizes .entry)) block 0 ⌝ }
     ensures { λ r. ⌜ now (values .exit) ≡ front (weighed r (mix (gridOf (now (sizes .entry)) []) (now (point .entry)) block) (now (values .entry))) (now (values .entry)) ⌝ }
 {
-    let first = count_of(firsts[block]);
-    let size = count_of(sizes[block]);
+    let first = wide(firsts[block]);
+    let size = wide(sizes[block]);
     let rows = count / size;
     weigh(values, rows, &point[first..first + size]);
     rows
@@ -121,7 +121,7 @@ pub fn put_losses(
     let loss = dot(mix, values);
     let mut k: usize = 0;
     while k < mix.len() {
-        let instead = wide(division) * values[k];
+        let instead = long(division) * values[k];
         expected[first + k] = loss;
         replaced[first + k] = instead;
         k += 1;

@@ -7,14 +7,9 @@ mod point;
 
 pub use point::weigh_point;
 
-fn wide(x: u16) -> u32
+// A number of a mix, a division or a loss in 32 bits, with nothing to show at the cast.
+fn long(x: u16) -> u32
     ensures { λ r. ⌜ r ≡ x ⌝ }
 {
     x as u32
-}
-
-pub fn count_of(x: u8) -> usize
-    ensures { λ r. ⌜ r ≡ x ⌝ }
-{
-    x as usize
 }

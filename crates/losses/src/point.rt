@@ -10,8 +10,8 @@ ghost use Rattle.grid.specs.Grid.{size, firstIndex, indicesOf};
 ghost use Rattle.losses.specs.Game.{lossesOf, playerLoss, replacedLoss};
 ghost use Rattle.losses.specs.Known.{gridOf, Played};
 ghost use Rattle.losses.specs.Weights.{strategyLosses};
-use crate::count_of;
 use crate::expected;
+use grid::wide;
 
 // The losses of the player's strategies against the opponents' mixes stand at the front of the values.
 fn strategy_losses(
@@ -49,8 +49,8 @@ fn weigh_player(
     ensures { λ _. ⌜ now (replaced .exit) ≡ paste (now (replaced .entry)) (firstIndex (gridOf (now (sizes .entry)) (now (divisions .entry))) player) (map (replacedLoss (gridOf (now (sizes .entry)) (now (divisions .entry))) (now (losses .entry)) (now (point .entry))) (indicesOf (gridOf (now (sizes .entry)) (now (divisions .entry))) player)) (size (gridOf (now (sizes .entry)) (now (divisions .entry))) player) ⌝ }
 {
     strategy_losses(sizes, firsts, losses, point, count, player, values);
-    let first = count_of(firsts[player]);
-    let size = count_of(sizes[player]);
+    let first = wide(firsts[player]);
+    let size = wide(sizes[player]);
     expected::put_losses(
         &point[first..first + size],
         values,

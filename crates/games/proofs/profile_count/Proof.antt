@@ -22,17 +22,17 @@ loop-holds c = (sym (ap product (drop-length (c .before .args .sizes .now))), om
 sub-j : tie.Need-sub-j Inv-loop μ-loop
 sub-j c = omega arith
 
-shared-slice-read-count-of : tie.Need-shared-slice-read-count-of Inv-loop μ-loop
-shared-slice-read-count-of c = omega arith
+shared-slice-read-wide : tie.Need-shared-slice-read-wide Inv-loop μ-loop
+shared-slice-read-wide c = omega arith
 
-count-of-requires : tie.Need-count-of-requires Inv-loop μ-loop
-count-of-requires c κs = search needs
+wide-requires : tie.Need-wide-requires Inv-loop μ-loop
+wide-requires c κs = search needs
 
 mul-count : tie.Need-mul-count Inv-loop μ-loop
 mul-count c =
     let s = c .before .before .before .before .before in
     let l = c .before .before .before .loop in
-    record { fits = rw (c .count-of .ensures, l .inv .0, product-turn (s .args .sizes .now) (l .j) (omega arith) (omega arith)) (omega (arith, part-few (s .args .sizes .now) (l .j - 1) (s .pre))) }
+    record { fits = rw (c .wide .ensures, l .inv .0, product-turn (s .args .sizes .now) (l .j) (omega arith) (omega arith)) (omega (arith, part-few (s .args .sizes .now) (l .j - 1) (s .pre))) }
 
 loop-less : tie.Need-loop-less Inv-loop μ-loop
 loop-less c = omega arith
@@ -41,7 +41,7 @@ loop-again : tie.Need-loop-again Inv-loop μ-loop
 loop-again c =
     let s = c .before .before .before .before .before in
     let l = c .before .before .before .loop in
-    (rw (c .count-of .ensures, l .inv .0) (product-turn (s .args .sizes .now) (l .j) (omega arith) (omega arith)), omega arith)
+    (rw (c .wide .ensures, l .inv .0) (product-turn (s .args .sizes .now) (l .j) (omega arith) (omega arith)), omega arith)
 
 returns : tie.Need-returns Inv-loop μ-loop
 returns c =
@@ -57,8 +57,8 @@ profile-count-spec =
     μ-loop
     loop-holds
     sub-j
-    shared-slice-read-count-of
-    count-of-requires
+    shared-slice-read-wide
+    wide-requires
     mul-count
     loop-less
     loop-again

@@ -27,12 +27,12 @@ module _ (s : tie.Start) where
   ends = let e = last-ends g (yes .someBlock) in (omega (arith, s .pre .0 .5), yes .fewIndices, omega (arith, s .pre .0 .5, yes .fewIndices))
 
 -- what is known once the first index is read
-module _ (c : tie.After-count-of) where
+module _ (c : tie.After-wide) where
   abbrev start : tie.Start
   start = c .before .before .before .before .before .before .before
 
-  first-is : c .count-of .result ≡ firstIndex (g start) (lastPlayer (g start))
-  first-is = c .count-of .ensures ∙ start .pre .1 .0 .laid .known (lastPlayer (g start)) (omega (arith, yes start .someBlock))
+  first-is : c .wide .result ≡ firstIndex (g start) (lastPlayer (g start))
+  first-is = c .wide .ensures ∙ start .pre .1 .0 .laid .known (lastPlayer (g start)) (omega (arith, yes start .someBlock))
 
 -- and once the corner is made
 module _ (c : tie.After-corner) where
@@ -58,14 +58,14 @@ module _ (c : tie.After-corner) where
 abbrev weighed : tie.After-replaced2 → tie.After-corner
 weighed c = c .before .before .before .before .before .before .before .before .before
 
-sub-count-of : tie.Need-sub-count-of
-sub-count-of c = omega (arith, yes (c .before .before .before .before .before) .someBlock)
+sub-wide : tie.Need-sub-wide
+sub-wide c = omega (arith, yes (c .before .before .before .before .before) .someBlock)
 
-element-copy-out-count-of : tie.Need-element-copy-out-count-of
-element-copy-out-count-of c = omega (arith, yes (c .before .before .before .before .before) .fewBlocks)
+element-copy-out-wide : tie.Need-element-copy-out-wide
+element-copy-out-wide c = omega (arith, yes (c .before .before .before .before .before) .fewBlocks)
 
-count-of-requires : tie.Need-count-of-requires
-count-of-requires c κs = search needs
+wide-requires : tie.Need-wide-requires
+wide-requires c κs = search needs
 
 add-corner : tie.Need-add-corner
 add-corner c = omega (arith, first-is c, ends (start c) .0, ends (start c) .1)
@@ -149,9 +149,9 @@ pub weigh-corner-spec : {M : Type 1} → statement M
 weigh-corner-spec =
     tie.close
     (tie.spec
-    sub-count-of
-    element-copy-out-count-of
-    count-of-requires
+    sub-wide
+    element-copy-out-wide
+    wide-requires
     add-corner
     corner-requires
     mul-at

@@ -21,19 +21,19 @@ abbrev μ-loop : tie.MeasureT-loop
 returns : tie.Need-returns Inv-loop μ-loop
 returns c = c .before .before .before .before .before .before .pre .1 .1 (not-true _ (c .if1 .taken))
 
-sub-count-of : tie.Need-sub-count-of Inv-loop μ-loop
-sub-count-of c = omega arith
+sub-wide : tie.Need-sub-wide Inv-loop μ-loop
+sub-wide c = omega arith
 
-shared-slice-read-count-of : tie.Need-shared-slice-read-count-of Inv-loop μ-loop
-shared-slice-read-count-of c = omega arith
+shared-slice-read-wide : tie.Need-shared-slice-read-wide Inv-loop μ-loop
+shared-slice-read-wide c = omega arith
 
-count-of-requires : tie.Need-count-of-requires Inv-loop μ-loop
-count-of-requires c κs = search needs
+wide-requires : tie.Need-wide-requires Inv-loop μ-loop
+wide-requires c κs = search needs
 
 loop-holds : tie.Need-loop-holds Inv-loop μ-loop
 loop-holds c =
     let p = c .before .before .before .before .before .before .before .before .pre in
-    (record { differenceAt = λ k h b. absurd (omega arith); low = λ k h b. absurd (omega arith) }, omega arith, refl, p .0 .3, c .count-of .ensures)
+    (record { differenceAt = λ k h b. absurd (omega arith); low = λ k h b. absurd (omega arith) }, omega arith, refl, p .0 .3, c .wide .ensures)
 
 weigh-corner-requires : tie.Need-weigh-corner-requires Inv-loop μ-loop
 weigh-corner-requires c κs =
@@ -74,9 +74,9 @@ weigh-corners-spec =
     Inv-loop
     μ-loop
     returns
-    sub-count-of
-    shared-slice-read-count-of
-    count-of-requires
+    sub-wide
+    shared-slice-read-wide
+    wide-requires
     loop-holds
     weigh-corner-requires
     add-k

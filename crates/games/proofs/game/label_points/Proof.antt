@@ -53,7 +53,7 @@ module _ (c : tie.In-loop Inv-loop μ-loop) where
   y = c .before .loop .point
 
   abbrev first : ℕ
-  first = c .before .before .count-of .result
+  first = c .before .before .wide .result
 
   inside : k < numPoints (g start)
   inside = omega (arith, start .pre .0 .5)
@@ -67,14 +67,14 @@ module _ (c : tie.In-loop Inv-loop μ-loop) where
   long : length (start .args .point .now) ≡ numIndices (g start)
   long = sym (c .before .loop .inv .5) ∙ point-length (g start) (yes start) y (drawn .isPoint)
 
-sub-count-of : tie.Need-sub-count-of Inv-loop μ-loop
-sub-count-of c = omega (arith, yes (c .before .before .before .before .before .before .before) .someBlock)
+sub-wide : tie.Need-sub-wide Inv-loop μ-loop
+sub-wide c = omega (arith, yes (c .before .before .before .before .before .before .before) .someBlock)
 
-element-copy-out-count-of : tie.Need-element-copy-out-count-of Inv-loop μ-loop
-element-copy-out-count-of c = omega (arith, yes (c .before .before .before .before .before .before .before) .fewBlocks)
+element-copy-out-wide : tie.Need-element-copy-out-wide Inv-loop μ-loop
+element-copy-out-wide c = omega (arith, yes (c .before .before .before .before .before .before .before) .fewBlocks)
 
-count-of-requires : tie.Need-count-of-requires Inv-loop μ-loop
-count-of-requires c κs = search needs
+wide-requires : tie.Need-wide-requires Inv-loop μ-loop
+wide-requires c κs = search needs
 
 loop-holds : tie.Need-loop-holds Inv-loop μ-loop
 loop-holds c =
@@ -87,7 +87,7 @@ loop-holds c =
       refl,
       s .pre .1 .1,
       (λ f. absurd-bool f),
-      c .count-of .ensures ∙ s .pre .0 .0 .known (lastPlayer (g s)) (omega (arith, yes s .someBlock)),
+      c .wide .ensures ∙ s .pre .0 .0 .known (lastPlayer (g s)) (omega (arith, yes s .someBlock)),
       refl,
     )
 
@@ -193,9 +193,9 @@ label-points-spec =
     (tie.spec
     Inv-loop
     μ-loop
-    sub-count-of
-    element-copy-out-count-of
-    count-of-requires
+    sub-wide
+    element-copy-out-wide
+    wide-requires
     loop-holds
     weigh-corners-requires
     mul-label-point

@@ -25,7 +25,7 @@ abbrev μ-loop : tie.MeasureT-loop
 μ-loop sizes firsts point₀ j₀ point j = j
 
 -- what is known of the block of a turn
-module _ (c : tie.After-count-of2 Inv-loop μ-loop) where
+module _ (c : tie.After-wide2 Inv-loop μ-loop) where
   abbrev s : tie.Start Inv-loop μ-loop
   s = c .before .before .before .before .before .before .before .before
 
@@ -35,8 +35,8 @@ module _ (c : tie.After-count-of2 Inv-loop μ-loop) where
   state : Passed (s .args .sizes .now) (s .args .point .now) (suc k) false (c .before .before .before .before .before .loop .point)
   state = let e : c .before .before .before .before .before .loop .j ≡ suc k = omega arith in rw e at (c .before .before .before .before .before .loop .inv .0)
 
-  first-is : c .before .before .count-of .result ≡ sum (take k (s .args .sizes .now))
-  first-is = c .before .before .count-of .ensures ∙ s .pre .1 .laid .known k (omega arith)
+  first-is : c .before .before .wide .result ≡ sum (take k (s .args .sizes .now))
+  first-is = c .before .before .wide .ensures ∙ s .pre .1 .laid .known k (omega arith)
 
   inside : sum (take k (s .args .sizes .now)) + getD (s .args .sizes .now) k 0 ≤ length (c .before .before .before .before .before .loop .point)
   inside =
@@ -44,16 +44,16 @@ module _ (c : tie.After-count-of2 Inv-loop μ-loop) where
       omega (arith, block-fits (s .args .sizes .now) k, point-length g (accepted g (s .pre .1 .laid .asked)) (s .args .point .now) (s .pre .1 .isPoint))
 
   abbrev f : ℕ
-  f = c .before .before .count-of .result
+  f = c .before .before .wide .result
 
   abbrev n : ℕ
-  n = f + c .count-of2 .result - f
+  n = f + c .wide2 .result - f
 
   abbrev now : List ℕ
   now = c .before .before .before .before .before .loop .point
 
   turned : (b : List ℕ) (moved : Bool) → after (take n (drop f now)) ≡ step moved b → Passed (s .args .sizes .now) (s .args .point .now) k moved (take f now ++ (b ++ drop n (drop f now)))
-  turned b moved = lent-turn (s .args .sizes .now) (s .args .point .now) k (c .before .before .before .before .before .loop .point) (omega arith) state (c .before .before .count-of .result) (c .count-of2 .result) first-is (c .count-of2 .ensures) b moved inside
+  turned b moved = lent-turn (s .args .sizes .now) (s .args .point .now) k (c .before .before .before .before .before .loop .point) (omega arith) state (c .before .before .wide .result) (c .wide2 .result) first-is (c .wide2 .ensures) b moved inside
 
 loop-holds : tie.Need-loop-holds Inv-loop μ-loop
 loop-holds c = (passed-start (c .before .before .args .sizes .now) (c .before .before .args .point .now), omega arith, refl)
@@ -61,19 +61,19 @@ loop-holds c = (passed-start (c .before .before .args .sizes .now) (c .before .b
 sub-j : tie.Need-sub-j Inv-loop μ-loop
 sub-j c = omega arith
 
-element-copy-out-count-of : tie.Need-element-copy-out-count-of Inv-loop μ-loop
-element-copy-out-count-of c =
+element-copy-out-wide : tie.Need-element-copy-out-wide Inv-loop μ-loop
+element-copy-out-wide c =
     let s = c .before .before .before .before in
     omega (arith, accepted (gridOf (s .args .sizes .now) (s .pre .0)) (s .pre .1 .laid .asked) .fewBlocks)
 
-count-of-requires : tie.Need-count-of-requires Inv-loop μ-loop
-count-of-requires c κs = search needs
+wide-requires : tie.Need-wide-requires Inv-loop μ-loop
+wide-requires c κs = search needs
 
-shared-slice-read-count-of : tie.Need-shared-slice-read-count-of Inv-loop μ-loop
-shared-slice-read-count-of c = omega arith
+shared-slice-read-wide : tie.Need-shared-slice-read-wide Inv-loop μ-loop
+shared-slice-read-wide c = omega arith
 
-count-of-requires-2 : tie.Need-count-of-requires-2 Inv-loop μ-loop
-count-of-requires-2 c κs = search needs
+wide-requires-2 : tie.Need-wide-requires-2 Inv-loop μ-loop
+wide-requires-2 c κs = search needs
 
 add-end : tie.Need-add-end Inv-loop μ-loop
 add-end c = omega (arith, first-is c, inside c)
@@ -94,7 +94,7 @@ advance-block-requires : tie.Need-advance-block-requires Inv-loop μ-loop
 advance-block-requires c κs =
     let l = c .before .before .before .before .before .before .loop in
     let s = c .before .before .before .before .before .before .before .before .before in
-    lent-ready (s .args .sizes .now) (s .args .point .now) (l .j - 1) (l .point) (omega arith) (state (c .before)) (c .before .before .before .count-of .result) (c .before .count-of2 .result) (first-is (c .before)) (c .before .count-of2 .ensures) (s .pre .0) (s .args .firsts .now) (s .pre .1)
+    lent-ready (s .args .sizes .now) (s .args .point .now) (l .j - 1) (l .point) (omega arith) (state (c .before)) (c .before .before .before .wide .result) (c .before .wide2 .result) (first-is (c .before)) (c .before .wide2 .ensures) (s .pre .0) (s .args .firsts .now) (s .pre .1)
 
 add-result : tie.Need-add-result Inv-loop μ-loop
 add-result c = omega arith
@@ -138,10 +138,10 @@ advance-spec =
     μ-loop
     loop-holds
     sub-j
-    element-copy-out-count-of
-    count-of-requires
-    shared-slice-read-count-of
-    count-of-requires-2
+    element-copy-out-wide
+    wide-requires
+    shared-slice-read-wide
+    wide-requires-2
     add-end
     mul-advance-block
     sub-advance-block

@@ -24,14 +24,14 @@ abbrev μ-loop : tie.MeasureT-loop
 μ-loop sizes divisions firsts point₀ j₀ point j = length sizes - j
 
 -- the last index of a turn's block
-last-is : (c : tie.After-count-of2 Inv-loop μ-loop)
-    → (c .before .before .count-of .result ≡ sum (take (c .before .before .before .before .before .loop .j) (c .before .before .before .before .before .before .before .before .args .sizes .now)))
-    × (1 ≤ c .before .before .count-of .result + c .count-of2 .result) × (c .before .before .count-of .result + c .count-of2 .result ≤ 16)
+last-is : (c : tie.After-wide2 Inv-loop μ-loop)
+    → (c .before .before .wide .result ≡ sum (take (c .before .before .before .before .before .loop .j) (c .before .before .before .before .before .before .before .before .args .sizes .now)))
+    × (1 ≤ c .before .before .wide .result + c .wide2 .result) × (c .before .before .wide .result + c .wide2 .result ≤ 16)
 last-is c =
     let s = c .before .before .before .before .before .before .before .before in
     let l = c .before .before .before .before .before .loop in
     let g = gridOf (s .args .sizes .now) (s .args .divisions .now) in
-    let e : c .before .before .count-of .result ≡ sum (take (l .j) (s .args .sizes .now)) = c .before .before .count-of .ensures ∙ s .pre .0 .known (l .j) (omega arith) in
+    let e : c .before .before .wide .result ≡ sum (take (l .j) (s .args .sizes .now)) = c .before .before .wide .ensures ∙ s .pre .0 .known (l .j) (omega arith) in
     let t = size-two g (l .inv .2) (l .j) (omega arith) .0 in
     (e, omega arith, omega (arith, block-fits (s .args .sizes .now) (l .j), l .inv .2 .fewIndices))
 
@@ -40,17 +40,17 @@ loop-holds c =
     let s = c .before .before in
     (s .pre .1 ∙ sym (front-none (replicate 16 0)), omega arith, accepted (gridOf (s .args .sizes .now) (s .args .divisions .now)) (s .pre .0 .asked))
 
-element-copy-out-count-of : tie.Need-element-copy-out-count-of Inv-loop μ-loop
-element-copy-out-count-of c = omega (arith, c .before .loop .inv .2 .fewBlocks)
+element-copy-out-wide : tie.Need-element-copy-out-wide Inv-loop μ-loop
+element-copy-out-wide c = omega (arith, c .before .loop .inv .2 .fewBlocks)
 
-count-of-requires : tie.Need-count-of-requires Inv-loop μ-loop
-count-of-requires c κs = search needs
+wide-requires : tie.Need-wide-requires Inv-loop μ-loop
+wide-requires c κs = search needs
 
-shared-slice-read-count-of : tie.Need-shared-slice-read-count-of Inv-loop μ-loop
-shared-slice-read-count-of c = omega arith
+shared-slice-read-wide : tie.Need-shared-slice-read-wide Inv-loop μ-loop
+shared-slice-read-wide c = omega arith
 
-count-of-requires-2 : tie.Need-count-of-requires-2 Inv-loop μ-loop
-count-of-requires-2 c κs = search needs
+wide-requires-2 : tie.Need-wide-requires-2 Inv-loop μ-loop
+wide-requires-2 c κs = search needs
 
 add-last : tie.Need-add-last Inv-loop μ-loop
 add-last c = omega (arith, last-is c)
@@ -80,7 +80,7 @@ loop-again : tie.Need-loop-again Inv-loop μ-loop
 loop-again c =
     let s = c .before .before .before .before .before .before .before .before .before in
     let l = c .before .before .before .before .before .before .loop in
-    (rw (l .inv .0, last-is (c .before) .0, c .before .count-of2 .ensures) (first-turn (s .args .sizes .now) (s .args .divisions .now) (l .j) (l .inv .2) (omega arith)), omega arith, l .inv .2)
+    (rw (l .inv .0, last-is (c .before) .0, c .before .wide2 .ensures) (first-turn (s .args .sizes .now) (s .args .divisions .now) (l .j) (l .inv .2) (omega arith)), omega arith, l .inv .2)
 
 returns : tie.Need-returns Inv-loop μ-loop
 returns c =
@@ -95,10 +95,10 @@ first-point-spec =
     Inv-loop
     μ-loop
     loop-holds
-    element-copy-out-count-of
-    count-of-requires
-    shared-slice-read-count-of
-    count-of-requires-2
+    element-copy-out-wide
+    wide-requires
+    shared-slice-read-wide
+    wide-requires-2
     add-last
     sub-last
     mul-point

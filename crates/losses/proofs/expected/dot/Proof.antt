@@ -18,14 +18,14 @@ abbrev μ-loop : tie.MeasureT-loop
 loop-holds : tie.Need-loop-holds Inv-loop μ-loop
 loop-holds c = (omega arith, omega arith)
 
-mul-wide : tie.Need-mul-wide Inv-loop μ-loop
-mul-wide c = omega arith
+mul-long : tie.Need-mul-long Inv-loop μ-loop
+mul-long c = omega arith
 
-shared-slice-read-wide : tie.Need-shared-slice-read-wide Inv-loop μ-loop
-shared-slice-read-wide c = omega arith
+shared-slice-read-long : tie.Need-shared-slice-read-long Inv-loop μ-loop
+shared-slice-read-long c = omega arith
 
-wide-requires : tie.Need-wide-requires Inv-loop μ-loop
-wide-requires c κs = search needs
+long-requires : tie.Need-long-requires Inv-loop μ-loop
+long-requires c κs = search needs
 
 mul-total : tie.Need-mul-total Inv-loop μ-loop
 mul-total c = omega arith
@@ -37,13 +37,13 @@ mul-total-2 : tie.Need-mul-total-2 Inv-loop μ-loop
 mul-total-2 c =
     let l = c .before .before .before .before .loop in
     let a = c .before .before .before .before .before .before .before .args in
-    record { fits = rw (c .before .wide .ensures) (omega (arith, dot-turn (a .mix .now) (a .values .now) (l .i) (omega arith) (omega arith))) }
+    record { fits = rw (c .before .long .ensures) (omega (arith, dot-turn (a .mix .now) (a .values .now) (l .i) (omega arith) (omega arith))) }
 
 add-total : tie.Need-add-total Inv-loop μ-loop
 add-total c =
     let l = c .before .before .before .before .loop in
     let a = c .before .before .before .before .before .before .before .args in
-    record { fits = rw (c .before .wide .ensures) (omega (arith, dot-turn (a .mix .now) (a .values .now) (l .i) (omega arith) (omega arith))) }
+    record { fits = rw (c .before .long .ensures) (omega (arith, dot-turn (a .mix .now) (a .values .now) (l .i) (omega arith) (omega arith))) }
 
 add-i : tie.Need-add-i Inv-loop μ-loop
 add-i c = omega arith
@@ -55,7 +55,7 @@ loop-again : tie.Need-loop-again Inv-loop μ-loop
 loop-again c =
     let l = c .before .before .before .before .loop in
     let a = c .before .before .before .before .before .before .before .args in
-    (rw (c .before .wide .ensures) (omega (arith, dot-turn (a .mix .now) (a .values .now) (l .i) (omega arith) (omega arith))), omega arith)
+    (rw (c .before .long .ensures) (omega (arith, dot-turn (a .mix .now) (a .values .now) (l .i) (omega arith) (omega arith))), omega arith)
 
 returns : tie.Need-returns Inv-loop μ-loop
 returns c =
@@ -70,9 +70,9 @@ dot-spec =
     Inv-loop
     μ-loop
     loop-holds
-    mul-wide
-    shared-slice-read-wide
-    wide-requires
+    mul-long
+    shared-slice-read-long
+    long-requires
     mul-total
     shared-slice-read-total
     mul-total-2

@@ -32,8 +32,8 @@ loop-holds c =
       refl,
     )
 
-wide-requires : tie.Need-wide-requires Inv-loop μ-loop
-wide-requires c κs = search needs
+long-requires : tie.Need-long-requires Inv-loop μ-loop
+long-requires c κs = search needs
 
 mul-instead : tie.Need-mul-instead Inv-loop μ-loop
 mul-instead c = omega arith
@@ -44,7 +44,7 @@ shared-slice-read-instead c = omega arith
 mul-instead-2 : tie.Need-mul-instead-2 Inv-loop μ-loop
 mul-instead-2 c =
     let s = c .before .before .before .before .before .before .before .before .before in
-    record { fits = rw (c .before .wide .ensures) (times-fit (s .args .replaced .now) (s .args .mix .now) (s .args .values .now) (s .args .first) (c .before .before .before .loop .k) (omega arith) (omega arith) (s .args .division) (omega arith) (s .pre .2)) }
+    record { fits = rw (c .before .long .ensures) (times-fit (s .args .replaced .now) (s .args .mix .now) (s .args .values .now) (s .args .first) (c .before .before .before .loop .k) (omega arith) (omega arith) (s .args .division) (omega arith) (s .pre .2)) }
 
 add-expected : tie.Need-add-expected Inv-loop μ-loop
 add-expected c = omega arith
@@ -75,7 +75,7 @@ loop-again c =
     let l = c .before .before .before .loop in
     let a = c .before .before .before .before .before .before .before .before .before .args in (
       rw (l .inv .0, l .inv .2) (expected-written (a .expected .now) (a .mix .now) (a .values .now) (a .first) (l .k) (omega arith) (omega arith) (dot (a .mix .now) (a .values .now))),
-      rw (l .inv .1, c .before .wide .ensures) (replaced-written (a .replaced .now) (a .mix .now) (a .values .now) (a .first) (l .k) (omega arith) (omega arith) (a .division) (omega arith)),
+      rw (l .inv .1, c .before .long .ensures) (replaced-written (a .replaced .now) (a .mix .now) (a .values .now) (a .first) (l .k) (omega arith) (omega arith) (a .division) (omega arith)),
       l .inv .2,
       omega arith,
       simp length-set (l .inv .4),
@@ -103,7 +103,7 @@ put-losses-spec =
     μ-loop
     dot-requires
     loop-holds
-    wide-requires
+    long-requires
     mul-instead
     shared-slice-read-instead
     mul-instead-2

@@ -16,17 +16,17 @@ use Rattle.losses.proofs.expected.weigh_block.Tie as tie
 inside : (s : tie.Start) → sum (take (s .args .block) (s .args .sizes .now)) + getD (s .args .sizes .now) (s .args .block) 0 ≤ length (s .args .point .now)
 inside s = omega (arith, block-fits (s .args .sizes .now) (s .args .block), s .pre .4)
 
-element-copy-out-count-of : tie.Need-element-copy-out-count-of
-element-copy-out-count-of c = search needs
+element-copy-out-wide : tie.Need-element-copy-out-wide
+element-copy-out-wide c = search needs
 
-count-of-requires : tie.Need-count-of-requires
-count-of-requires c κs = search needs
+wide-requires : tie.Need-wide-requires
+wide-requires c κs = search needs
 
-shared-slice-read-count-of : tie.Need-shared-slice-read-count-of
-shared-slice-read-count-of c = search needs
+shared-slice-read-wide : tie.Need-shared-slice-read-wide
+shared-slice-read-wide c = search needs
 
-count-of-requires-2 : tie.Need-count-of-requires-2
-count-of-requires-2 c κs = search needs
+wide-requires-2 : tie.Need-wide-requires-2
+wide-requires-2 c κs = search needs
 
 div-rows : tie.Need-div-rows
 div-rows c = search needs
@@ -50,9 +50,9 @@ weigh-requires : tie.Need-weigh-requires
 weigh-requires c κs =
     let s = c .before .before .before .before .before .before .before .before .before in
     let g = gridOf (s .args .sizes .now) [] in
-    let e = lent-mix (s .args .sizes .now) (s .args .point .now) (s .args .block) (c .before .before .before .before .count-of .result) (c .before .before .count-of2 .result) (c .before .before .before .before .count-of .ensures ∙ s .pre .2) (c .before .before .count-of2 .ensures) (s .pre .4) in
+    let e = lent-mix (s .args .sizes .now) (s .args .point .now) (s .args .block) (c .before .before .before .before .wide .result) (c .before .before .wide2 .result) (c .before .before .before .before .wide .ensures ∙ s .pre .2) (c .before .before .wide2 .ensures) (s .pre .4) in
     let l = length-mix g (s .args .point .now) (s .args .block) in
-    rw (e, c .before .before .count-of2 .ensures) (omega (arith, l), rw l (omega (arith, div-mul-le-self (s .args .count) (getD (s .args .sizes .now) (s .args .block) 0))), s .pre .6)
+    rw (e, c .before .before .wide2 .ensures) (omega (arith, l), rw l (omega (arith, div-mul-le-self (s .args .count) (getD (s .args .sizes .now) (s .args .block) 0))), s .pre .6)
 
 same-length : tie.Need-same-length
 same-length c = search needs
@@ -60,8 +60,8 @@ same-length c = search needs
 returns : tie.Need-returns
 returns c =
     let s = c .before .before .before .before .before .before .before .before .before .before .before .before in
-    let f = c .before .before .before .before .before .before .before .count-of in
-    let z = c .before .before .before .before .before .count-of2 in
+    let f = c .before .before .before .before .before .before .before .wide in
+    let z = c .before .before .before .before .before .wide2 in
     let e = lent-mix (s .args .sizes .now) (s .args .point .now) (s .args .block) (f .result) (z .result) (f .ensures ∙ s .pre .2) (z .ensures) (s .pre .4) in
     (rw (z .ensures), rw e at (c .before .before .weigh .ensures))
 
@@ -69,10 +69,10 @@ pub weigh-block-spec : {M : Type 1} → statement M
 weigh-block-spec =
     tie.close
     (tie.spec
-    element-copy-out-count-of
-    count-of-requires
-    shared-slice-read-count-of
-    count-of-requires-2
+    element-copy-out-wide
+    wide-requires
+    shared-slice-read-wide
+    wide-requires-2
     div-rows
     add-weigh
     mul-weigh

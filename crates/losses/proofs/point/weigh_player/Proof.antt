@@ -14,15 +14,15 @@ use Rattle.losses.proofs.point.weigh_player.Statement.{statement}
 use Rattle.losses.proofs.point.weigh_player.Tie as tie
 
 -- what is known where the losses are written
-module _ (c : tie.After-count-of2) where
+module _ (c : tie.After-wide2) where
   abbrev s : tie.Start
   s = c .before .before .before .before .before .before .before .before .before .before .before .before .before .before .before
 
   abbrev g : Grid
   g = gridOf (s .args .sizes .now) (s .args .divisions .now)
 
-  first-is : c .before .before .count-of .result ≡ firstIndex g (s .args .player)
-  first-is = c .before .before .count-of .ensures ∙ s .pre .0 .drawn .laid .known (s .args .player) (s .pre .1)
+  first-is : c .before .before .wide .result ≡ firstIndex g (s .args .player)
+  first-is = c .before .before .wide .ensures ∙ s .pre .0 .drawn .laid .known (s .args .player) (s .pre .1)
 
   inside : firstIndex g (s .args .player) + size g (s .args .player) ≤ length (s .args .point .now)
   inside = omega (arith, block-fits (s .args .sizes .now) (s .args .player), point-length g (accepted g (s .pre .0 .drawn .laid .asked)) (s .args .point .now) (s .pre .0 .drawn .isPoint))
@@ -30,19 +30,19 @@ module _ (c : tie.After-count-of2) where
 strategy-losses-requires : tie.Need-strategy-losses-requires
 strategy-losses-requires c κs = search needs
 
-element-copy-out-count-of : tie.Need-element-copy-out-count-of
-element-copy-out-count-of c =
+element-copy-out-wide : tie.Need-element-copy-out-wide
+element-copy-out-wide c =
     let s = c .before .before .before .before .before .before .before .before .before .before .before in
     omega (arith, accepted (gridOf (s .args .sizes .now) (s .args .divisions .now)) (s .pre .0 .drawn .laid .asked) .fewBlocks)
 
-count-of-requires : tie.Need-count-of-requires
-count-of-requires c κs = search needs
+wide-requires : tie.Need-wide-requires
+wide-requires c κs = search needs
 
-shared-slice-read-count-of : tie.Need-shared-slice-read-count-of
-shared-slice-read-count-of c = search needs
+shared-slice-read-wide : tie.Need-shared-slice-read-wide
+shared-slice-read-wide c = search needs
 
-count-of-requires-2 : tie.Need-count-of-requires-2
-count-of-requires-2 c κs = search needs
+wide-requires-2 : tie.Need-wide-requires-2
+wide-requires-2 c κs = search needs
 
 add-put-losses : tie.Need-add-put-losses
 add-put-losses c = omega (arith, first-is c, inside c)
@@ -72,7 +72,7 @@ put-losses-requires c κs =
     let w = c .before .before .before .before .before in
     let s = w .before .before .before .before .before .before .before .before .before .before .before .before .before .before .before in
     let l = w .before .before .before .before .before .before .strategy-losses in
-    let r = player-ready (g w) (s .args .firsts .now) (s .args .losses .now) (s .args .point .now) (s .pre .0 .drawn) (s .pre .0 .table) (s .args .player) (s .pre .1) (l .last .1 .1 .1 .1 .1 .1 .0) (l .ensures) (w .before .before .count-of .result) (w .count-of2 .result) (first-is w) (w .count-of2 .ensures) in
+    let r = player-ready (g w) (s .args .firsts .now) (s .args .losses .now) (s .args .point .now) (s .pre .0 .drawn) (s .pre .0 .table) (s .args .player) (s .pre .1) (l .last .1 .1 .1 .1 .1 .1 .0) (l .ensures) (w .before .before .wide .result) (w .wide2 .result) (first-is w) (w .wide2 .ensures) in
     (r .0, r .1, r .2, omega (arith, r .3, s .pre .2), omega (arith, r .3, s .pre .3))
 
 same-length : tie.Need-same-length
@@ -89,8 +89,8 @@ returns c =
     let w = c .before .before .before .before .before .before .before .before .before .before in
     let s = w .before .before .before .before .before .before .before .before .before .before .before .before .before .before .before in
     let l = w .before .before .before .before .before .before .strategy-losses in
-    let p = player-expected (g w) (s .args .firsts .now) (s .args .losses .now) (s .args .point .now) (s .pre .0 .drawn) (s .pre .0 .table) (s .args .player) (s .pre .1) (l .last .1 .1 .1 .1 .1 .1 .0) (l .ensures) (w .before .before .count-of .result) (w .count-of2 .result) (first-is w) (w .count-of2 .ensures) (s .args .expected .now) in
-    let q = player-replaced (g w) (s .args .firsts .now) (s .args .losses .now) (s .args .point .now) (s .pre .0 .drawn) (s .pre .0 .table) (s .args .player) (s .pre .1) (l .last .1 .1 .1 .1 .1 .1 .0) (l .ensures) (w .before .before .count-of .result) (w .count-of2 .result) (first-is w) (w .count-of2 .ensures) (s .args .replaced .now) in
+    let p = player-expected (g w) (s .args .firsts .now) (s .args .losses .now) (s .args .point .now) (s .pre .0 .drawn) (s .pre .0 .table) (s .args .player) (s .pre .1) (l .last .1 .1 .1 .1 .1 .1 .0) (l .ensures) (w .before .before .wide .result) (w .wide2 .result) (first-is w) (w .wide2 .ensures) (s .args .expected .now) in
+    let q = player-replaced (g w) (s .args .firsts .now) (s .args .losses .now) (s .args .point .now) (s .pre .0 .drawn) (s .pre .0 .table) (s .args .player) (s .pre .1) (l .last .1 .1 .1 .1 .1 .1 .0) (l .ensures) (w .before .before .wide .result) (w .wide2 .result) (first-is w) (w .wide2 .ensures) (s .args .replaced .now) in
     (c .before .before .before .before .put-losses .ensures .0 ∙ p, c .before .before .before .before .put-losses .ensures .1 ∙ q)
 
 pub weigh-player-spec : {M : Type 1} → statement M
@@ -98,10 +98,10 @@ weigh-player-spec =
     tie.close
     (tie.spec
     strategy-losses-requires
-    element-copy-out-count-of
-    count-of-requires
-    shared-slice-read-count-of
-    count-of-requires-2
+    element-copy-out-wide
+    wide-requires
+    shared-slice-read-wide
+    wide-requires-2
     add-put-losses
     mul-put-losses
     sub-put-losses
