@@ -3,13 +3,30 @@ use mathlib.Core.Bool.{true, false}
 use mathlib.Core.List.{List, [], _∷_, map}
 use mathlib.Core.Logic.{⊎-elim}
 use mathlib.Core.Path.{_≡_, refl, sym, ap, _∙_}
-use Prim.Native.Nat.{ℕ, _<_}
-use borrow.Author.Tests.{ltb-true}
+use Prim.Native.Nat.{ℕ, zero, suc, _<_}
+use borrow.Author.Tests.{ltb-true, lt-ltb}
 use lib.Dec.{ltb}
 use native.Mathlib.Omega.{arith}
-use Rattle.combinatorics.proofs.Basics.{absurd-bool, and-left, and-right, false-of, both}
+use Rattle.combinatorics.proofs.Basics.{absurd-bool, and-both, and-left, and-right, false-of, both}
 use Rattle.combinatorics.proofs.Lists.{in-here, in-later, in-cases, Equality}
+use Rattle.combinatorics.specs.Edits.{removeAt}
 use Rattle.combinatorics.specs.Lists.{isIn, distinct, rising}
+
+-- a rising list less one element
+pub rising-less : {A : Type 0} (f : A → ℕ) (i : ℕ) (xs : List A) → rising (map f xs) ≡ true → rising (map f (removeAt i xs)) ≡ true
+rising-less f i [] r = r
+rising-less f zero (x ∷ []) r = refl
+rising-less f zero (x ∷ y ∷ ys) r = and-right (ltb (f x) (f y)) (rising (map f (y ∷ ys))) r
+rising-less f (suc i) (x ∷ []) r = refl
+rising-less f (suc zero) (x ∷ y ∷ []) r = refl
+rising-less f (suc zero) (x ∷ y ∷ z ∷ zs) r =
+    let later = and-right (ltb (f x) (f y)) (rising (map f (y ∷ z ∷ zs))) r in
+    let first = ltb-true (f x) (f y) (and-left (ltb (f x) (f y)) (rising (map f (y ∷ z ∷ zs))) r) in
+    let second = ltb-true (f y) (f z) (and-left (ltb (f y) (f z)) (rising (map f (z ∷ zs))) later) in
+    and-both _ _ (lt-ltb (f x) (f z) (omega arith)) (and-right (ltb (f y) (f z)) (rising (map f (z ∷ zs))) later)
+rising-less f (suc (suc i)) (x ∷ y ∷ ys) r =
+    and-both _ _ (and-left (ltb (f x) (f y)) (rising (map f (y ∷ ys))) r)
+    (rising-less f (suc i) (y ∷ ys) (and-right (ltb (f x) (f y)) (rising (map f (y ∷ ys))) r))
 
 -- a rising list: its first number is below all the others
 module _ {A : Type 0} (E : Equality A) (f : A → ℕ) where

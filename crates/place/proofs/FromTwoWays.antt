@@ -18,6 +18,7 @@ use Rattle.combinatorics.specs.Lists.{filter, all, isIn, distinct, concatMap, s
 use Rattle.grid.specs.Grid.{blocks, bound, numBlocks}
 use Rattle.place.proofs.Positions.{in-at}
 use Rattle.place.proofs.Bound.{count}
+use Rattle.place.proofs.EndPoints.{end-simplex}
 use Rattle.place.proofs.Labels.{place-labelled}
 use Rattle.place.proofs.LinkSymmetry.{place-same, linked-back, linked-other}
 use Rattle.place.proofs.Simplices.{simplex-sound, simplex-self, onSimplices}
@@ -433,6 +434,7 @@ module _ {p : Problem} (ok : Accepted p) (W : TwoWays p) where
         announces = answer-ended e f.1;
         complete = first-complete e fin.0 (ends p (placeAt n (pred (length n)))) fin.1 (ends-complete p _);
         completeOnly = end-only;
+        inOrder = end-simplex p ok.settled path-is .inOrder;
         reaches = answer-ended e f.1 _ (within-bound t);
         alike = λ b c x y. unspent e f.1 b x ∙ sym (unspent e f.1 c y);
       }

@@ -1,15 +1,16 @@
--- The nine marked ends hold of the definitions. Assumes nothing.
+-- The nine marked ends hold of the definitions: each row's table is accepted and has the answer that stands there. Assumes nothing.
 use mathlib.Core.List.{map}
 use mathlib.Core.Path.{_≡_, refl}
 use Rattle.grid.specs.Grid.{next, previous, isGridPoint, points, bound}
+use Rattle.grid.specs.Questions.{firstNo}
 use Rattle.place.specs.Coefficients.{coefficients}
 use Rattle.place.specs.Ends.{isComplete, completeFor, placeEnds, facetEnds, ends, ways}
 use Rattle.place.specs.Links.{exchanged, extended, linked, links}
 use Rattle.place.specs.Path.{waysOn, path, answer}
 use Rattle.place.specs.Places.{setU, setT, labelSet, firstBackOutside, goesTo, grownAt, everyBlockFree, isUnlabelledPlace, isPlace, places}
 use Rattle.place.specs.Problem.{label}
-use Rattle.place.specs.Worked.{table}
+use Rattle.place.specs.Worked.{given, table}
 
-worked : map (λ r. answer r.problem r.budget) table ≡ map (λ r. r .result) table
-unfolding next previous isGridPoint points label coefficients setU setT labelSet firstBackOutside goesTo grownAt everyBlockFree isUnlabelledPlace isPlace places exchanged extended linked links isComplete completeFor placeEnds facetEnds ends ways waysOn bound path answer
+worked : map given table ≡ map (λ r. (0, r .result)) table
+unfolding next previous isGridPoint points label coefficients setU setT labelSet firstBackOutside goesTo grownAt everyBlockFree isUnlabelledPlace isPlace places exchanged extended linked links isComplete completeFor placeEnds facetEnds ends ways waysOn bound path answer firstNo
 worked = refl

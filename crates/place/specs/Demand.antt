@@ -1,14 +1,15 @@
 -- Demand 3, in the order of the customer's sentences. Assumes nothing.
 use mathlib.Core.Bool.{Bool, true, _&&_}
-use mathlib.Core.List.{List, [], _∷_}
+use mathlib.Core.List.{List, [], _∷_, map}
 use mathlib.Core.Logic.{_↔_}
 use mathlib.Core.Option.{Option, none, some}
 use mathlib.Core.Path.{_≡_}
 use Prim.Native.Nat.{ℕ, zero, suc, pred, _≤_, _<_}
 use lib.Dec.{leb}
 use lib.ListN.{length, getD}
-use Rattle.combinatorics.specs.Lists.{all, isIn}
+use Rattle.combinatorics.specs.Lists.{all, isIn, rising}
 use Rattle.grid.specs.Grid.{Point, numBlocks, numIndices, numPoints, isGridPoint, samePoint, bound}
+use Rattle.place.specs.Coefficients.{coefficientSum}
 use Rattle.place.specs.Ends.{End, link, isComplete, ends, ways}
 use Rattle.place.specs.Links.{linked, links}
 use Rattle.place.specs.Path.{waysOn, path, pathLength, spent, answer, announcement}
@@ -78,7 +79,8 @@ pub record Demand3 (p : Problem) : Type 0 where
   pub one : (i : ℕ) → i < pathLength p → length (waysOn p (leftAt (path p .visited) i) (placeAt (path p .visited) i)) ≡ 1
   -- "no simplex stands on it twice"
   pub once : (i j : ℕ) → i < j → j < pathLength p → SamePoints (placeAt (path p .visited) i) (placeAt (path p .visited) j) → ⊥
-  -- "its length is at most the bound"
+  -- "its length is at most the bound": `path` follows at most so many places, so this has its content from `isPath`, by which the path is whole,
+  -- and from `only`, by which every path is this one
   pub bounded : pathLength p ≤ bound (p .grid)
   -- "calls its budget spent exactly when that is smaller than the length"
   pub spends : (budget : ℕ) → (answer p budget ≡ spent budget) ↔ (budget < pathLength p)
@@ -86,6 +88,8 @@ pub record Demand3 (p : Problem) : Type 0 where
   pub announces : (budget : ℕ) → pathLength p ≤ budget → answer p budget ≡ announcement (pathLength p) end
   pub complete : isComplete p (end .simplex) (end .block) ≡ true
   pub completeOnly : (j : ℕ) → j < numBlocks (p .grid) → isComplete p (end .simplex) j ≡ true → j ≡ end .block
+  -- "the vertices in rising coefficient sum"
+  pub inOrder : rising (map (coefficientSum p) (end .simplex)) ≡ true
   -- "a budget of the bound's size reaches a complete simplex"
   pub reaches : answer p (bound (p .grid)) ≡ announcement (pathLength p) end
   -- "runs alike .. that announce an end announce the same .. whatever their budgets"

@@ -1,16 +1,23 @@
 -- Document 01, "Ends worked out": the nine marked rows. Assumes nothing.
 use mathlib.Core.List.{List, [], _∷_}
-use Prim.Native.Nat.{ℕ}
+use Prim.Native.Nat.{ℕ, suc, _*_}
 use lib.ListN.{replicate}
-use Rattle.grid.specs.Grid.{bound}
+use Rattle.grid.specs.Grid.{bound, dimension, numIndices}
+use Rattle.grid.specs.Questions.{firstNo}
 use Rattle.place.specs.Ends.{placeEnd, facetEnd}
-use Rattle.place.specs.Path.{Answer, spent, ended}
+use Rattle.place.specs.Path.{Answer, spent, ended, answer}
 use Rattle.place.specs.Problem.{Problem, problemOf}
+use Rattle.place.specs.Questions.{runQuestions}
 
 pub record Row : Type 0 where
   pub problem : Problem
   pub budget : ℕ
   pub result : Answer
+
+-- what a run on the row's table gives: the number of the first of questions 1 to 8 that is answered no, for an answer buffer of (n + 1) times m
+-- numbers, or 0 and with it the answer
+abbrev pub given : Row → ℕ × Answer
+given r = let p = r .problem in (firstNo (runQuestions p (suc (dimension (p .grid)) * numIndices (p .grid))), answer p (r .budget))
 
 -- "Without a budget, the bound is the budget"
 abbrev pub row : Problem → Answer → Row

@@ -80,7 +80,7 @@ module _ (p : Problem) (budget : ℕ) (old : List ℕ) (large : length old ≡ r
         let few : suc (dimension (p .grid)) ≤ 16 = omega (arith, ok .settled .someBlock, ok .settled .sixteenIndices) in
         ⊎-elim
         (λ l. rw (d .spends budget .1 l) (spends _ budget))
-        (λ l. rw (d .announces budget l) (ends (pathLength p) (d .end .kind) (suc (d .end .block)) (d .end .simplex) few (accepted .1) (end-simplex p (ok .settled) d)))
+        (λ l. rw (d .announces budget l) (ends (pathLength p) (d .end .kind) (suc (d .end .block)) (d .end .simplex) few (accepted .1) (end-simplex p (ok .settled) (d .isPath))))
         (before-or-not budget (pathLength p))
 
   pub run-prints : Prints (runAnswer p (length old) budget) (runBuffer p budget old) (runSheet p budget)
