@@ -8,30 +8,13 @@ ghost use lib.ListN.{length, replicate};
 ghost use Rattle.combinatorics.specs.Lists.{sum};
 ghost use Rattle.grid.specs.Build.{lent, BlocksMarked, BlocksCounted, IndicesMarked};
 ghost use Rattle.grid.specs.Grid.{Grid as Shape, blockIn, numPoints};
-ghost use Rattle.grid.specs.Made.{gridOf, noGrid};
+ghost use Rattle.grid.specs.Made.{gridOf};
 ghost use Rattle.grid.specs.Questions.{firstNo, gridQuestions};
 use crate::Grid;
 use crate::counts;
 use crate::questions;
 use crate::wide;
 use crate::wide16;
-
-pub fn nothing() -> Grid
-    ensures { λ r. ⌜ r ≡ noGrid ⌝ }
-{
-    Grid {
-        sizes: [0u8; 6],
-        divisions: [0u16; 6],
-        firsts: [0u8; 6],
-        counts: [0u16; 6],
-        block: [0u8; 16],
-        previous: [0u8; 16],
-        next: [0u8; 16],
-        blocks: 0,
-        indices: 0,
-        points: 0,
-    }
-}
 
 // The block of index h.
 fn block_of(sizes: &[u8], h: usize) -> usize

@@ -2,8 +2,8 @@
 ghost use mathlib.Core.Bool.{true};
 ghost use mathlib.Core.Path.{_≡_};
 ghost use Prim.Native.Nat.{_≤_, _<_};
-ghost use Rattle.grid.specs.Grid.{bound, isGridPoint, blockOf, next, previous};
-ghost use Rattle.grid.specs.Made.{madeOf, shape, IsMade};
+ghost use Rattle.grid.specs.Grid.{bound, isGridPoint, blockOf};
+ghost use Rattle.grid.specs.Made.{madeOf, noGrid, shape, IsMade};
 
 mod bounds;
 mod build;
@@ -44,6 +44,24 @@ impl Grid {
 
     pub const MAX_POINTS: usize = 60000;
 
+    // What stands beside a refusal.
+    pub fn none() -> Grid
+        ensures { λ r. ⌜ r ≡ noGrid ⌝ }
+    {
+        Grid {
+            sizes: [0u8; 6],
+            divisions: [0u16; 6],
+            firsts: [0u8; 6],
+            counts: [0u16; 6],
+            block: [0u8; 16],
+            previous: [0u8; 16],
+            next: [0u8; 16],
+            blocks: 0,
+            indices: 0,
+            points: 0,
+        }
+    }
+
     // Questions 1 to 4 about any sizes and divisions.
     pub fn new(sizes: &[u8], divisions: &[u16]) -> Made
         ensures { λ r. ⌜ r ≡ madeOf (record { sizes = now (sizes .entry); divisions = now (divisions .entry) }) ⌝ }
@@ -53,7 +71,7 @@ impl Grid {
             let grid = build::built(sizes, divisions);
             Made { code, grid }
         } else {
-            let grid = build::nothing();
+            let grid = Grid::none();
             Made { code, grid }
         }
     }
@@ -101,24 +119,6 @@ impl Grid {
     {
         let block = self.block;
         wide(block[h])
-    }
-
-    // The index before h round its block.
-    pub fn previous(self, h: usize) -> usize
-        requires { ⌜ IsMade self × (h < self .indices) ⌝ }
-        ensures { λ r. ⌜ r ≡ previous (shape self) h ⌝ }
-    {
-        let previous = self.previous;
-        wide(previous[h])
-    }
-
-    // The index after h round its block.
-    pub fn next(self, h: usize) -> usize
-        requires { ⌜ IsMade self × (h < self .indices) ⌝ }
-        ensures { λ r. ⌜ r ≡ next (shape self) h ⌝ }
-    {
-        let next = self.next;
-        wide(next[h])
     }
 }
 

@@ -12,8 +12,8 @@ first-no-requires c κs = search needs
 built-requires : tie.Need-built-requires
 built-requires c κs = sym (c .before .first-no .ensures) ∙ c .if1 .taken
 
-nothing-requires : tie.Need-nothing-requires
-nothing-requires c κs = search needs
+none-requires : tie.Need-none-requires
+none-requires c κs = search needs
 
 returns : tie.Need-returns
 unfolding madeOf
@@ -27,7 +27,7 @@ unfolding madeOf
 returns-2 c =
     let e = c .before .before .first-no .ensures in
     let z = c .before .if1 .left in
-    rw (c .nothing .ensures, ← e, ne-eqb (c .before .before .first-no .result) 0 z)
+    rw (c .none .ensures, ← e, ne-eqb (c .before .before .first-no .result) 0 z)
 
 pub new-spec : {M : Type 1} → statement M
-new-spec = tie.close (tie.spec first-no-requires built-requires nothing-requires returns returns-2)
+new-spec = tie.close (tie.spec first-no-requires built-requires none-requires returns returns-2)
