@@ -2,7 +2,9 @@
 use mathlib.Core.List.{List, map}
 use mathlib.Core.Path.{_≡_}
 use Prim.Native.Nat.{ℕ}
-use Rattle.grid.specs.Grid.{Grid, numBlocks, firstIndex, blocks, indices, blockOf, next as after, previous as before}
+use lib.ListN.{replicate}
+use Rattle.grid.specs.Grid.{Grid, numBlocks, firstIndex, blocks, indices, blockOf}
+use Rattle.grid.specs.Grid.{next as after, previous as before}
 use Rattle.grid.specs.Made.{padded, blockCount, gridOf}
 use Rattle.grid.specs.Questions.{firstNo, gridQuestions}
 
@@ -10,6 +12,14 @@ use Rattle.grid.specs.Questions.{firstNo, gridQuestions}
 abbrev pub lent : List ℕ → List ℕ → Grid
 lent sizes divisions = record { sizes = sizes; divisions = divisions }
 
+-- the arrays about the blocks before they are filled,
+pub record BlocksUnmarked (sizes divisions firsts counts : List ℕ) : Type 0 where
+  pub sizesZero : sizes ≡ replicate 6 0
+  pub divisionsZero : divisions ≡ replicate 6 0
+  pub firstsZero : firsts ≡ replicate 6 0
+  pub countsZero : counts ≡ replicate 6 0
+
+-- and after
 pub record BlocksMarked (g : Grid) (sizes divisions firsts counts : List ℕ) : Type 0 where
   pub sizesAre : sizes ≡ padded 6 (g .sizes)
   pub divisionsAre : divisions ≡ padded 6 (g .divisions)
@@ -22,6 +32,13 @@ pub record BlocksCounted (g : Grid) (counts : List ℕ) (number : ℕ) : Type 0 
   pub countsAre : counts ≡ gridOf g .counts
   pub numberIs : number ≡ numBlocks g
 
+-- the arrays about the indices before they are filled,
+pub record IndicesUnmarked (block previous next : List ℕ) : Type 0 where
+  pub blockZero : block ≡ replicate 16 0
+  pub previousZero : previous ≡ replicate 16 0
+  pub nextZero : next ≡ replicate 16 0
+
+-- and after
 pub record IndicesMarked (g : Grid) (block previous next : List ℕ) : Type 0 where
   pub blockIs : block ≡ padded 16 (map (blockOf g) (indices g))
   pub previousIs : previous ≡ padded 16 (map (before g) (indices g))

@@ -4,9 +4,16 @@ ghost use mathlib.Core.List.{[]};
 ghost use mathlib.Core.Path.{_≡_};
 ghost use Prim.Native.Nat.{suc, _+_, _≤_, _<_, pred};
 ghost use lib.Dec.{eqb};
-ghost use lib.ListN.{length, replicate};
+ghost use lib.ListN.{length};
 ghost use Rattle.combinatorics.specs.Lists.{sum};
-ghost use Rattle.grid.specs.Build.{lent, BlocksMarked, BlocksCounted, IndicesMarked};
+ghost use Rattle.grid.specs.Build.{
+  lent,
+  BlocksUnmarked,
+  BlocksMarked,
+  BlocksCounted,
+  IndicesUnmarked,
+  IndicesMarked,
+};
 ghost use Rattle.grid.specs.Grid.{Grid as Shape, blockIn, numPoints};
 ghost use Rattle.grid.specs.Made.{gridOf};
 ghost use Rattle.grid.specs.Questions.{firstNo, gridQuestions};
@@ -62,8 +69,10 @@ fn mark_blocks(
     firsts: &mut [u8; 6],
     counts: &mut [u16; 6],
 )
-    requires { ⌜ (firstNo (gridQuestions (lent (now sizes) (now divisions))) ≡ 0) × (now «own_sizes» ≡ replicate 6 0) × (now «own_divisions» ≡ replicate 6 0) × (now firsts ≡ replicate 6 0) × (now counts ≡ replicate 6 0) ⌝ }
-    ensures { λ _. ⌜ BlocksMarked (lent (now (sizes .entry)) (now (divisions .entry))) (now («own_sizes» .exit)) (now («own_divisions» .exit)) (now (firsts .exit)) (now (counts .exit)) ⌝ }
+    requires { ⌜ firstNo (gridQuestions (lent (now sizes) (now divisions))) ≡ 0 ⌝ }
+    requires { ⌜ BlocksUnmarked (now «own_sizes») (now «own_divisions») (now firsts) (now counts) ⌝ }
+    ensures { λ _. let g = lent (now (sizes .entry)) (now (divisions .entry)) in
+        ⌜ BlocksMarked g (now («own_sizes» .exit)) (now («own_divisions» .exit)) (now (firsts .exit)) (now (counts .exit)) ⌝ }
 {
     let mut j: usize = 0;
     while j < sizes.len() {
@@ -97,8 +106,10 @@ fn mark_indices(
     previous: &mut [u8; 16],
     next: &mut [u8; 16],
 )
-    requires { ⌜ (indices ≡ sum (now sizes)) × (indices ≤ 16) × (length (now sizes) ≤ 6) × (now block ≡ replicate 16 0) × (now previous ≡ replicate 16 0) × (now next ≡ replicate 16 0) ⌝ }
-    ensures { λ _. ⌜ IndicesMarked (lent (now (sizes .entry)) []) (now (block .exit)) (now (previous .exit)) (now (next .exit)) ⌝ }
+    requires { ⌜ (indices ≡ sum (now sizes)) × (indices ≤ 16) × (length (now sizes) ≤ 6) ⌝ }
+    requires { ⌜ IndicesUnmarked (now block) (now previous) (now next) ⌝ }
+    ensures { λ _. let g = lent (now (sizes .entry)) [] in
+        ⌜ IndicesMarked g (now (block .exit)) (now (previous .exit)) (now (next .exit)) ⌝ }
 {
     let mut h: usize = 0;
     while h < indices {

@@ -24,8 +24,10 @@ fn cap(n: usize) -> usize
 
 // The binomials of r + 1 from those of r.
 fn raise(row: &mut [usize; 16], last: usize)
-    requires { ⌜ (last < 16) × (length (now row) ≡ 16) × ((k : ℕ) → k ≤ last → getD (now row) k 0 ≤ 60001) ⌝ }
-    ensures { λ _. ⌜ (length (now (row .exit)) ≡ 16) × ((r : ℕ) → IsRow r last (now (row .entry)) → IsRow (suc r) last (now (row .exit))) ⌝ }
+    requires { ⌜ (last < 16) × (length (now row) ≡ 16)
+        × ((k : ℕ) → k ≤ last → getD (now row) k 0 ≤ 60001) ⌝ }
+    ensures { λ _. ⌜ (length (now (row .exit)) ≡ 16)
+        × ((r : ℕ) → IsRow r last (now (row .entry)) → IsRow (suc r) last (now (row .exit))) ⌝ }
 {
     let mut k: usize = 1;
     while k <= last {
@@ -57,7 +59,8 @@ pub fn block_count(size: usize, division: usize) -> usize
 
 // P, the product of the blocks' counts.
 pub fn points(sizes: &[u8], divisions: &[u16]) -> usize
-    requires { ⌜ (all (λ s. leb 2 s) (now sizes) ≡ true) × (sum (now sizes) ≤ 16) × (length (now divisions) ≡ length (now sizes)) ⌝ }
+    requires { ⌜ (all (λ s. leb 2 s) (now sizes) ≡ true) × (sum (now sizes) ≤ 16)
+        × (length (now divisions) ≡ length (now sizes)) ⌝ }
     ensures { λ r. ⌜ r ≡ capped (binomialProduct (now (sizes .entry)) (now (divisions .entry))) ⌝ }
 {
     let mut product: usize = 1;

@@ -2,6 +2,7 @@
 ghost use mathlib.Core.Bool.{true};
 ghost use mathlib.Core.Path.{_≡_};
 ghost use Prim.Native.Nat.{_≤_, _<_};
+ghost use Rattle.grid.specs.Build.{lent};
 ghost use Rattle.grid.specs.Grid.{bound, isGridPoint, blockOf};
 ghost use Rattle.grid.specs.Made.{madeOf, noGrid, shape, IsMade};
 
@@ -64,7 +65,7 @@ impl Grid {
 
     // Questions 1 to 4 about any sizes and divisions.
     pub fn new(sizes: &[u8], divisions: &[u16]) -> Made
-        ensures { λ r. ⌜ r ≡ madeOf (record { sizes = now (sizes .entry); divisions = now (divisions .entry) }) ⌝ }
+        ensures { λ r. ⌜ r ≡ madeOf (lent (now (sizes .entry)) (now (divisions .entry))) ⌝ }
     {
         let code = questions::first_no(sizes, divisions);
         if code == 0 {

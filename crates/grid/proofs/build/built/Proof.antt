@@ -35,7 +35,7 @@ mark-indices-requires : tie.Need-mark-indices-requires
 mark-indices-requires c κs =
     let y = yes (c .before .before .before .before .before .before .before .before .before .before .before) in
     let t = total (c .before .before .before) in
-    (t, rw t (y .fewIndices), y .fewBlocks, refl, refl, refl)
+    ((t, rw t (y .fewIndices), y .fewBlocks), record { blockZero = refl; previousZero = refl; nextZero = refl })
 
 product-requires : tie.Need-product-requires
 product-requires c κs = (_, counted (c .before .before .before .before .before .before))

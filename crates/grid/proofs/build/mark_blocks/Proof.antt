@@ -32,7 +32,8 @@ loop-holds : tie.Need-loop-holds Inv-loop μ-loop
 loop-holds c =
     let p = c .before .before .pre in
     let none = sym (front-none (replicate 6 0)) in
-    (p .1 ∙ none, p .2 ∙ none, p .3 ∙ none, p .4 ∙ none, omega arith, accepted _ (p .0))
+    let z = p .1 in
+    (z .sizesZero ∙ none, z .divisionsZero ∙ none, z .firstsZero ∙ none, z .countsZero ∙ none, omega arith, accepted _ (p .0))
 
 shared-slice-read-own-sizes : tie.Need-shared-slice-read-own-sizes Inv-loop μ-loop
 shared-slice-read-own-sizes c = search needs

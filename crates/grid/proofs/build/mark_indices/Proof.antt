@@ -43,7 +43,8 @@ loop-holds : tie.Need-loop-holds Inv-loop μ-loop
 loop-holds c =
     let p = c .before .pre in
     let none = sym (front-none (replicate 16 0)) in
-    (p .3 ∙ none, p .4 ∙ none, p .5 ∙ none, omega arith, p .0, p .1, p .2)
+    let z = p .1 in
+    (z .blockZero ∙ none, z .previousZero ∙ none, z .nextZero ∙ none, omega arith, p .0 .0, p .0 .1, p .0 .2)
 
 block-of-requires : tie.Need-block-of-requires Inv-loop μ-loop
 block-of-requires c κs = search needs
