@@ -1,8 +1,9 @@
 -- Sheets written out byte by byte. Assumes nothing.
 use mathlib.Core.Path.{_≡_, refl}
 use mathlib.Core.List.{[], _∷_, flatMap}
+use Rattle.rounding.specs.Centre.{isNearest, rounded, centre}
 use Rattle.sheet.specs.Decimal.{digits, decimal}
-use Rattle.sheet.specs.Sheet.{spaced, vertexLine, centre, centreLine, endSheet, refusedSheet, spentSheet}
+use Rattle.sheet.specs.Sheet.{spaced, vertexLine, centreLine, endSheet, refusedSheet, spentSheet}
 use Rattle.sheet.specs.declared.Kind.the-variants.{Facet}
 
 -- "For the bytes 4 2 2 2 1 0 1 0 2 2 2 4 it prints": each line of the sheet on a line of its own, the last on two
@@ -16,8 +17,16 @@ pub printed
     48 ∷ 32 ∷ 49 ∷ 32 ∷ 49 ∷ 32 ∷ 48 ∷ 10 ∷
     99 ∷ 101 ∷ 110 ∷ 116 ∷ 114 ∷ 101 ∷
     32 ∷ 48 ∷ 32 ∷ 49 ∷ 48 ∷ 48 ∷ 48 ∷ 48 ∷ 32 ∷ 49 ∷ 48 ∷ 48 ∷ 48 ∷ 48 ∷ 32 ∷ 48 ∷ 10 ∷ []
-unfolding digits decimal flatMap spaced vertexLine centre centreLine endSheet
+unfolding digits decimal flatMap spaced vertexLine isNearest rounded centre centreLine endSheet
 printed = refl
+
+-- "0.5 ten-thousandths prints 0 and 1.5 prints 2", and 2.5 prints 2: of the vertex 1 3 5 19991 and the division 20,000
+pub halves-printed
+    : centreLine ((1 ∷ 3 ∷ 5 ∷ 19991 ∷ []) ∷ []) (20000 ∷ 20000 ∷ 20000 ∷ 20000 ∷ [])
+    ≡ 99 ∷ 101 ∷ 110 ∷ 116 ∷ 114 ∷ 101 ∷
+    32 ∷ 48 ∷ 32 ∷ 50 ∷ 32 ∷ 50 ∷ 32 ∷ 57 ∷ 57 ∷ 57 ∷ 54 ∷ 10 ∷ []
+unfolding digits decimal flatMap spaced isNearest rounded centre centreLine
+halves-printed = refl
 
 -- "refused 4"
 pub refusal : refusedSheet 4 ≡ 114 ∷ 101 ∷ 102 ∷ 117 ∷ 115 ∷ 101 ∷ 100 ∷ 32 ∷ 52 ∷ 10 ∷ []

@@ -1,9 +1,10 @@
 -- The kiosk's sheet, line by line, as bytes. Assumes nothing.
 use mathlib.Core.List.{List, [], _∷_, _++_, map, flatMap}
-use Prim.Native.Nat.{ℕ, _*_, _/_}
+use Prim.Native.Nat.{ℕ}
 use lib.ListN.{length, getD}
 use Rattle.sheet.specs.Decimal.{decimal}
 use Rattle.combinatorics.specs.Lists.{sum}
+use Rattle.rounding.specs.Centre.{centre}
 use Rattle.sheet.specs.Lists.{below}
 use Rattle.sheet.specs.Words.{
   placesWord,
@@ -40,10 +41,6 @@ endLine Facet = endWord ++ (32 ∷ facetWord) ++ newline
 unfoldable pub vertexLine : List ℕ → List ℕ
 vertexLine [] = newline
 vertexLine (x ∷ xs) = decimal x ++ flatMap spaced xs ++ newline
-
--- "10,000 times the coordinate sum over (vertices times d_j), fractions cut off"
-unfoldable pub centre : ℕ → ℕ → ℕ → ℕ
-centre total vertices division = (10000 * total) / (vertices * division)
 
 -- the coordinate sum at the index h
 abbrev pub total : List (List ℕ) → ℕ → ℕ

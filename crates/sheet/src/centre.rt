@@ -3,21 +3,13 @@ use crate::number::byte;
 use crate::number::spaced;
 use crate::number::text;
 use crate::number::wide;
+use rounding::centre;
 ghost use mathlib.Core.Path.{_≡_};
 ghost use Prim.Native.Nat.{_*_, _≤_, _<_};
 ghost use lib.ListN.{length};
 ghost use Rattle.sheet.specs.Answer.{rows, Printable};
 ghost use Rattle.sheet.specs.Part.{Part};
-ghost use Rattle.sheet.specs.Sheet.{centreLine};
-ghost use Rattle.sheet.specs.Sheet.{centre as centreOf, total as totalOf};
-
-// The centre's number for a coordinate sum.
-fn centre(total: u64, count: usize, division: u16) -> u64
-    requires { ⌜ (total ≤ 1048560) × (1 ≤ count) × (count ≤ 16) × (1 ≤ division) ⌝ }
-    ensures { λ r. ⌜ r ≡ centreOf total count division ⌝ }
-{
-    10000 * total / (count as u64 * division as u64)
-}
+ghost use Rattle.sheet.specs.Sheet.{centreLine, total as totalOf};
 
 // The coordinate sum of the vertices at the index h.
 fn total(count: usize, vertices: &[u16], m: usize, h: usize) -> u64

@@ -4,6 +4,7 @@ use crate::games::{self, GAMES};
 use crate::grid::{Grid, MOST_BLOCKS, MOST_INDICES, MOST_POINTS};
 use crate::outcome::{Kind, Outcome};
 use crate::{paper, questions, small};
+use std::cmp::Ordering;
 
 pub const SHEET_BYTES: usize = 4096;
 const ANSWER_NUMBERS: usize = MOST_INDICES * MOST_INDICES;
@@ -139,6 +140,16 @@ pub fn sheet<M: Method>(slip: &[u8], sheet: &mut [u8; SHEET_BYTES]) -> usize {
     page.length
 }
 
+/// The whole number nearest to a fraction, and the even one of two that are equally near.
+fn nearest(above: u64, below: u64) -> u64 {
+    let (number, rest) = (above / below, above % below);
+    match rest.cmp(&(below - rest)) {
+        Ordering::Less => number,
+        Ordering::Equal => number + number % 2,
+        Ordering::Greater => number + 1,
+    }
+}
+
 struct Page<'a> {
     bytes: &'a mut [u8],
     length: usize,
@@ -202,7 +213,7 @@ impl Page<'_> {
         }
         for (range, &division) in grid.ranges().zip(&grid.divisions) {
             for sum in &mut sums[range] {
-                *sum = 10_000 * *sum / (end.vertices as u64 * division as u64);
+                *sum = nearest(10_000 * *sum, end.vertices as u64 * division as u64);
             }
         }
         self.line("centre ", &sums[..grid.m]);
