@@ -1,4 +1,2 @@
-pub mod Decimals
-pub mod Parts
 pub mod Rows
 pub mod Samples

@@ -2,8 +2,9 @@
 use mathlib.Core.Path.{_≡_, refl}
 use mathlib.Core.List.{[], _∷_, flatMap}
 use Rattle.rounding.specs.Centre.{isNearest, rounded, centre}
-use Rattle.sheet.specs.Decimal.{digits, decimal}
-use Rattle.sheet.specs.Sheet.{spaced, vertexLine, centreLine, endSheet, refusedSheet, spentSheet}
+use Rattle.text.specs.Decimal.{digits, decimal}
+use Rattle.text.specs.Line.{spaced}
+use Rattle.sheet.specs.Sheet.{vertexLine, centreLine, endSheet, refusedSheet, spentSheet}
 use Rattle.sheet.specs.declared.Kind.the-variants.{Facet}
 
 -- "For the bytes 4 2 2 2 1 0 1 0 2 2 2 4 it prints": each line of the sheet on a line of its own, the last on two

@@ -2,9 +2,10 @@
 use mathlib.Core.List.{List, [], _∷_, _++_, map, flatMap}
 use Prim.Native.Nat.{ℕ}
 use lib.ListN.{length, getD}
-use Rattle.sheet.specs.Decimal.{decimal}
 use Rattle.combinatorics.specs.Lists.{sum}
 use Rattle.rounding.specs.Centre.{centre}
+use Rattle.text.specs.Decimal.{decimal}
+use Rattle.text.specs.Line.{spaced, newline, line}
 use Rattle.sheet.specs.Lists.{below}
 use Rattle.sheet.specs.Words.{
   placesWord,
@@ -19,18 +20,6 @@ use Rattle.sheet.specs.Words.{
 }
 use Rattle.sheet.specs.declared.Kind.{Kind}
 use Rattle.sheet.specs.declared.Kind.the-variants.{Place, Facet}
-
--- a number behind a blank
-unfoldable pub spaced : ℕ → List ℕ
-spaced n = 32 ∷ decimal n
-
--- the end of each line
-abbrev pub newline : List ℕ
-newline = 10 ∷ []
-
--- a word and a number, as in "places 5"
-abbrev pub line : List ℕ → ℕ → List ℕ
-line word n = word ++ spaced n ++ newline
 
 -- "end place" or "end facet"
 abbrev pub endLine : Kind → List ℕ

@@ -1,14 +1,14 @@
 // The centre of the vertices: at each index their mean in ten-thousandths. Only this crate calls these functions.
-use crate::number::byte;
-use crate::number::spaced;
-use crate::number::text;
-use crate::number::wide;
 use rounding::centre;
+use text::byte;
+use text::spaced;
+use text::text;
+use text::wide;
 ghost use mathlib.Core.Path.{_≡_};
 ghost use Prim.Native.Nat.{_*_, _≤_, _<_};
 ghost use lib.ListN.{length};
 ghost use Rattle.sheet.specs.Answer.{rows, Printable};
-ghost use Rattle.sheet.specs.Part.{Part};
+ghost use Rattle.text.specs.Part.{Part};
 ghost use Rattle.sheet.specs.Sheet.{centreLine, total as totalOf};
 
 // The coordinate sum of the vertices at the index h.

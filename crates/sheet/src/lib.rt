@@ -2,18 +2,17 @@
 // shorter than 2,400 bytes.
 mod centre;
 mod line;
-mod number;
 
 use centre::centre_line;
-use line::labelled;
 use line::vertex_lines;
-use number::text;
+use text::labelled;
+use text::text;
 ghost use mathlib.Core.Path.{_≡_};
 ghost use Prim.Native.Nat.{_+_, _≤_};
 ghost use lib.ListN.{length};
 ghost use Rattle.sheet.specs.Answer.{rows, Printable};
 ghost use Rattle.combinatorics.specs.Front.{front};
-ghost use Rattle.sheet.specs.Part.{Part};
+ghost use Rattle.text.specs.Part.{Part};
 ghost use Rattle.sheet.specs.Sheet.{endLine, endSheet, refusedSheet, spentSheet};
 
 // The kind of end.

@@ -1,28 +1,17 @@
 // The lines of the sheet but the centre's. Only this crate calls these functions: each writes into the buffer from a position on, for which there is
 // room, and returns the position behind what it wrote.
-use crate::number::byte;
-use crate::number::decimal;
-use crate::number::spaced;
-use crate::number::text;
-use crate::number::wide;
+use text::byte;
+use text::decimal;
+use text::spaced;
+use text::wide;
 ghost use mathlib.Core.Path.{_≡_};
 ghost use mathlib.Core.List.{flatMap};
 ghost use Prim.Native.Nat.{_+_, _*_, _≤_, _<_};
 ghost use lib.ListN.{length};
 ghost use Rattle.sheet.specs.Answer.{rows};
-ghost use Rattle.sheet.specs.Part.{Part};
-ghost use Rattle.sheet.specs.Sheet.{line, vertexLine};
-ghost use Rattle.sheet.specs.Sheet.{spaced as spacedOf};
-
-// A line of a word and a number.
-pub fn labelled(out: &mut [u8; 4096], at: usize, word: &[u8], n: u64) -> usize
-    requires { ⌜ (at ≤ 3500) × (length (now word) ≤ 16) ⌝ }
-    ensures { λ r. ⌜ Part (line (now (word .entry)) n) (now (out .entry)) (now (out .exit)) at r × (r ≤ at + 38) × (length (now (out .entry)) ≡ 4096) ⌝ }
-{
-    let mut next = text(out, at, word);
-    next = spaced(out, next, n);
-    byte(out, next, b'\n')
-}
+ghost use Rattle.text.specs.Part.{Part};
+ghost use Rattle.text.specs.Line.{spaced as spacedOf};
+ghost use Rattle.sheet.specs.Sheet.{vertexLine};
 
 // The numbers of `row`, each behind a blank.
 fn all_spaced(out: &mut [u8; 4096], at: usize, row: &[u16]) -> usize

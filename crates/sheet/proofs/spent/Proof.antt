@@ -2,7 +2,7 @@
 use native.Mathlib.Omega.{arith}
 use borrow.Author.Needs.{needs}
 use Rattle.sheet.specs.Sheet.{refusedSheet, spentSheet}
-use Rattle.sheet.proofs.Parts.{part-join, part-front}
+use Rattle.text.proofs.Parts.{part-join, part-front}
 use Rattle.sheet.proofs.spent.Statement.{statement}
 use Rattle.sheet.proofs.spent.Tie as tie
 

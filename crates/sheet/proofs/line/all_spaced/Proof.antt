@@ -7,10 +7,10 @@ use native.Mathlib.Numerals.{add-one}
 use lib.ListN.{length, take}
 use lib.Seq.{take-suc, take-length}
 use borrow.Author.Needs.{needs}
-use Rattle.sheet.specs.Part.{Part}
-use Rattle.sheet.specs.Sheet.{spaced as spacedOf}
-use Rattle.sheet.proofs.Decimals.{spaced-length}
-use Rattle.sheet.proofs.Parts.{part-empty, part-join}
+use Rattle.text.specs.Part.{Part}
+use Rattle.text.specs.Line.{spaced as spacedOf}
+use Rattle.text.proofs.Decimals.{spaced-length}
+use Rattle.text.proofs.Parts.{part-empty, part-join}
 use Rattle.sheet.proofs.Rows.{flatMap-more}
 use Rattle.sheet.proofs.line.all_spaced.Statement.{statement}
 use Rattle.sheet.proofs.line.all_spaced.Tie as tie

@@ -1,14 +1,14 @@
--- `number::text` meets its contract: after i turns the first i bytes are written. Assumes nothing.
+-- `text` meets its contract: after i turns the first i bytes are written. Assumes nothing.
 use mathlib.Core.Path.{_≡_, refl}
 use Prim.Native.Nat.{_+_, _-_, _≤_}
 use native.Mathlib.Omega.{arith}
 use native.Mathlib.Numerals.{add-one}
 use lib.ListN.{length, take, length-set}
 use lib.Seq.{take-suc, take-length}
-use Rattle.sheet.specs.Part.{Part}
-use Rattle.sheet.proofs.Parts.{part-empty, part-byte, part-join}
-use Rattle.sheet.proofs.number.text.Statement.{statement}
-use Rattle.sheet.proofs.number.text.Tie as tie
+use Rattle.text.specs.Part.{Part}
+use Rattle.text.proofs.Parts.{part-empty, part-byte, part-join}
+use Rattle.text.proofs.text.Statement.{statement}
+use Rattle.text.proofs.text.Tie as tie
 
 abbrev Inv-loop : tie.InvT-loop
 Inv-loop out₀ at bytes next₀ i₀ out next i =

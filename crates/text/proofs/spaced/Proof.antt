@@ -1,10 +1,10 @@
--- `number::spaced` meets its contract: the blank and the number are one part. Assumes nothing.
+-- `spaced` meets its contract: the blank and the number are one part. Assumes nothing.
 use native.Mathlib.Omega.{arith}
 use borrow.Author.Needs.{needs}
-use Rattle.sheet.specs.Sheet.{spaced as spacedOf}
-use Rattle.sheet.proofs.Parts.{part-join}
-use Rattle.sheet.proofs.number.spaced.Statement.{statement}
-use Rattle.sheet.proofs.number.spaced.Tie as tie
+use Rattle.text.specs.Line.{spaced as spacedOf}
+use Rattle.text.proofs.Parts.{part-join}
+use Rattle.text.proofs.spaced.Statement.{statement}
+use Rattle.text.proofs.spaced.Tie as tie
 
 byte-requires : tie.Need-byte-requires
 byte-requires c κs = search needs

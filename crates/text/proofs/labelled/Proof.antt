@@ -1,9 +1,9 @@
--- `line::labelled` meets its contract: the word, the number and the newline are one part. Assumes nothing.
+-- `labelled` meets its contract: the word, the number and the newline are one part. Assumes nothing.
 use native.Mathlib.Omega.{arith}
 use borrow.Author.Needs.{needs}
-use Rattle.sheet.proofs.Parts.{part-join}
-use Rattle.sheet.proofs.line.labelled.Statement.{statement}
-use Rattle.sheet.proofs.line.labelled.Tie as tie
+use Rattle.text.proofs.Parts.{part-join}
+use Rattle.text.proofs.labelled.Statement.{statement}
+use Rattle.text.proofs.labelled.Tie as tie
 
 text-requires : tie.Need-text-requires
 text-requires c κs = search needs

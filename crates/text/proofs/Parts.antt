@@ -6,7 +6,7 @@ use native.Mathlib.Omega.{arith}
 use lib.ListN.{length, drop, set, length-append}
 use lib.Seq.{sets, sets-eq}
 use Rattle.combinatorics.specs.Front.{front}
-use Rattle.sheet.specs.Part.{Part}
+use Rattle.text.specs.Part.{Part}
 
 sets-behind : (xs ys old : List ℕ) (at next : ℕ) → next ≡ at + length xs → sets (sets old at xs) next ys ≡ sets old at (xs ++ ys)
 sets-behind [] ys old at next e = let start : next ≡ at = omega arith in rw start

@@ -9,8 +9,8 @@ use native.Mathlib.Nat.{pow-succ'}
 use lib.Dec.{ltb}
 use lib.ListN.{length, getD, length-append, List·getD-append}
 use borrow.Author.Tests.{lt-ltb, le-ltb, ltb-true, ltb-false}
-use Rattle.sheet.specs.Decimal.{digit, digits, decimal}
-use Rattle.sheet.specs.Sheet.{spaced}
+use Rattle.text.specs.Decimal.{digit, digits, decimal}
+use Rattle.text.specs.Line.{spaced}
 
 -- more divisions than the number change nothing
 enough : (f g n : ℕ) → n ≤ f → n ≤ g → digits f n ≡ digits g n

@@ -1,12 +1,12 @@
-// Bytes and decimal numbers. Only this crate calls these functions: each writes into the buffer from a position on, for which there is room, and
-// returns the position behind what it wrote.
+// Bytes, decimal numbers and lines of a word and a number. Only the sheet calls these functions: each writes into the lent buffer from a position on, for which
+// there is room, and returns the position behind what it wrote.
 ghost use mathlib.Core.Path.{_≡_};
 ghost use mathlib.Core.List.{[], _∷_};
 ghost use Prim.Native.Nat.{_+_, _≤_, _<_};
 ghost use lib.ListN.{length};
-ghost use Rattle.sheet.specs.Decimal.{decimal as decimalOf};
-ghost use Rattle.sheet.specs.Part.{Part};
-ghost use Rattle.sheet.specs.Sheet.{spaced as spacedOf};
+ghost use Rattle.text.specs.Decimal.{decimal as decimalOf};
+ghost use Rattle.text.specs.Part.{Part};
+ghost use Rattle.text.specs.Line.{line, spaced as spacedOf};
 
 // One byte.
 pub fn byte(out: &mut [u8; 4096], at: usize, b: u8) -> usize
@@ -53,6 +53,16 @@ pub fn spaced(out: &mut [u8; 4096], at: usize, n: u64) -> usize
 {
     let next = byte(out, at, b' ');
     decimal(out, next, n)
+}
+
+// A line of a word and a number.
+pub fn labelled(out: &mut [u8; 4096], at: usize, word: &[u8], n: u64) -> usize
+    requires { ⌜ (at ≤ 3500) × (length (now word) ≤ 16) ⌝ }
+    ensures { λ r. ⌜ Part (line (now (word .entry)) n) (now (out .entry)) (now (out .exit)) at r × (r ≤ at + 38) × (length (now (out .entry)) ≡ 4096) ⌝ }
+{
+    let mut next = text(out, at, word);
+    next = spaced(out, next, n);
+    byte(out, next, b'\n')
 }
 
 // A number of 16 bits as one of 64.

@@ -1,16 +1,16 @@
--- `number::decimal` meets its contract. The measure is the number, which a division by ten makes smaller. Assumes nothing.
+-- `decimal` meets its contract. The measure is the number, which a division by ten makes smaller. Assumes nothing.
 use Prim.Native.Nat.{ℕ, _<_}
 use native.Mathlib.Omega.{arith}
 use borrow.Fn.Kinds.{In}
 use borrow.Fn.PlainCycle.{Measures, is, falls, and}
-use Rattle.sheet.proofs.Decimals.{decimal-one, decimal-more, decimal-length}
-use Rattle.sheet.proofs.Parts.{part-join}
-use Rattle.sheet.proofs.number.decimal.Reads as decimal
-use Rattle.sheet.proofs.number.decimal.Kinds as decimal-kinds
-use Rattle.sheet.proofs.number.+decimal.Lts-decimal as decimal-lts
-use Rattle.sheet.proofs.number.byte.Reads as byte-reads
-use Rattle.sheet.proofs.number.+decimal.{statement}
-use Rattle.sheet.proofs.number.+decimal.Tie.{close}
+use Rattle.text.proofs.Decimals.{decimal-one, decimal-more, decimal-length}
+use Rattle.text.proofs.Parts.{part-join}
+use Rattle.text.proofs.decimal.Reads as decimal
+use Rattle.text.proofs.decimal.Kinds as decimal-kinds
+use Rattle.text.proofs.+decimal.Lts-decimal as decimal-lts
+use Rattle.text.proofs.byte.Reads as byte-reads
+use Rattle.text.proofs.+decimal.{statement}
+use Rattle.text.proofs.+decimal.Tie.{close}
 
 abbrev μ-decimal : Measures 1 decimal-kinds.ps ℕ
 μ-decimal κs a = a .1 .1 .0
