@@ -245,6 +245,30 @@ pub fn edges(take: Take) {
     }
 }
 
+/// Slips whose centres stand at halves and beside them: every point of a block as one vertex, and every two neighbours. Halves need
+/// that 32 divides vertices times division.
+pub fn halves(take: Take) {
+    for division in [15u16, 16, 31, 32, 33, 48, 96, 160, 4_000, 20_000, 20_001] {
+        let labels = vec![1; division as usize + 1];
+        for first in (0..=division).step_by(if division < 1_000 { 1 } else { 97 }) {
+            let second = division - first;
+            let (divisions, start) = ([1, division], [1, 0, first, second]);
+            let twice = labels.repeat(2);
+            take(Call::Slip(
+                Fields { sizes: &[2, 2], divisions: &divisions, start: Some(&start), labels: Some(&twice), ..Fields::default() }
+                    .bytes(),
+            ));
+            let mut labels = labels.clone();
+            labels[first as usize] = 2;
+            let (divisions, start) = ([division], [first, second]);
+            take(Call::Slip(
+                Fields { sizes: &[2], divisions: &divisions, start: Some(&start), labels: Some(&labels), ..Fields::default() }
+                    .bytes(),
+            ));
+        }
+    }
+}
+
 /// The built-in games on grids of at most `limit` points: the labels, the run on them, and the slip.
 pub fn games(seed: u64, count: usize, limit: usize, take: Take) {
     let mut random = Random(seed);

@@ -181,6 +181,7 @@ fn main() -> ExitCode {
     comparison.part("random grids up to 60,000 points", |take| inputs::random_runs(4, 20_000, 60_000, take));
     comparison.part("faulty runs", |take| inputs::faulty_runs(5, 200_000, take));
     comparison.part("edges", inputs::edges);
+    comparison.part("centres at halves", inputs::halves);
     comparison.part("small games", |take| inputs::games(6, 1_500, 130, take));
     comparison.part("large games", |take| inputs::games(7, 300, 60_000, take));
     comparison.part("labellings", |take| inputs::random_labellings(8, 20_000, 130, take));
