@@ -8,8 +8,9 @@ use native.Mathlib.Omega.{arith}
 use Rattle.combinatorics.proofs.Basics.{before-or-not, same-or}
 use Rattle.combinatorics.proofs.Fronts.{front-none}
 use Rattle.combinatorics.specs.Front.{front}
+use Rattle.questions.specs.Questions.{firstNo}
 use Rattle.grid.specs.Grid.{bound}
-use Rattle.grid.specs.Questions.{firstNo, gridQuestions}
+use Rattle.grid.specs.Questions.{gridQuestions}
 use Rattle.place.proofs.Theorem.{demand3-holds}
 use Rattle.place.specs.Demand.{Accepted, Demand3}
 use Rattle.place.specs.Path.{answer, pathLength}

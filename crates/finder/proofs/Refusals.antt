@@ -1,5 +1,5 @@
 -- The refusals of a run: which of questions 1 to 8 is the first that is answered no, and what its answer and its buffer then are. Assumes nothing.
-use mathlib.Core.Bool.{Bool, true, false, _&&_, cond}
+use mathlib.Core.Bool.{true, false, _&&_}
 use mathlib.Core.List.{List, [], _∷_}
 use mathlib.Core.Path.{_≡_, refl, sym, ap, _∙_}
 use Prim.Native.Nat.{ℕ, suc, _+_, _-_, _*_, _≤_, _<_}
@@ -12,73 +12,37 @@ use Rattle.combinatorics.proofs.Basics.{and-left, and-right}
 use Rattle.combinatorics.proofs.Fronts.{front-none}
 use Rattle.combinatorics.specs.Front.{front}
 use Rattle.combinatorics.specs.Lists.{all, sum}
+use Rattle.questions.proofs.Answers.{asked-next, asked-no, both-yes, first-yes}
+use Rattle.questions.specs.Questions.{firstNo}
 use Rattle.grid.proofs.Fields.{indices-few, made-accepted, made-blocks, made-indices, made-shape}
 use Rattle.grid.specs.Grid.{Grid, dimension, isGridPoint, numIndices, numPoints}
 use Rattle.grid.specs.Made.{IsMade, madeOf, shape}
-use Rattle.grid.specs.Questions.{firstNo, gridQuestions, question1, question2, question3, question4, question5}
+use Rattle.grid.specs.Questions.{gridQuestions}
 use Rattle.grid.specs.declared.Grid.{Grid as GridStruct}
 use Rattle.grid.specs.declared.Made.{Made}
 use Rattle.place.proofs.Accepted.{accepted-of}
 use Rattle.place.specs.Demand.{Accepted}
 use Rattle.place.specs.Path.{answer}
 use Rattle.place.specs.Problem.{Problem, problemOf}
-use Rattle.place.specs.Questions.{question6, question7, question8}
+use Rattle.place.specs.Questions.{question8, tableQuestions}
 use Rattle.marks.specs.Reading.{problemFrom}
 use Rattle.finder.specs.Finish.{laterQuestions}
 use Rattle.finder.specs.Run.{caseOf, numbersOf, refusal, runAnswer, runBuffer}
 use Rattle.finder.specs.declared.answers.Answer.the-variants.{Refused}
 
--- four questions, and a number told by those behind them
-four-no : (a b c d : Bool) (later : ℕ) → (_≡_ {A = ℕ} (cond a (cond b (cond c (cond d 0 4) 3) 2) 1) 0 → ⊥) → cond a (cond b (cond c (cond d later 4) 3) 2) 1 ≡ cond a (cond b (cond c (cond d 0 4) 3) 2) 1
-four-no true true true true later e = absurd (e refl)
-four-no true true true false later e = refl
-four-no true true false d later e = refl
-four-no true false c d later e = refl
-four-no false b c d later e = refl
-
-four-yes : (a b c d : Bool) (later : ℕ) → _≡_ {A = ℕ} (cond a (cond b (cond c (cond d 0 4) 3) 2) 1) 0 → cond a (cond b (cond c (cond d later 4) 3) 2) 1 ≡ later
-four-yes true true true true later e = refl
-four-yes true true true false later e = absurd (omega arith)
-four-yes true true false d later e = absurd (omega arith)
-four-yes true false c d later e = absurd (omega arith)
-four-yes false b c d later e = absurd (omega arith)
-
--- the last of four questions left out
-three-yes : (a b c d : Bool) → _≡_ {A = ℕ} (cond a (cond b (cond c (cond d 0 8) 7) 6) 5) 0 → (_≡_ {A = ℕ} (cond a (cond b (cond c 0 7) 6) 5) 0) × (d ≡ true)
-three-yes true true true true e = (refl, refl)
-three-yes true true true false e = absurd (omega arith)
-three-yes true true false d e = absurd (omega arith)
-three-yes true false c d e = absurd (omega arith)
-three-yes false b c d e = absurd (omega arith)
-
 -- the refusal, by questions 1 to 4 and those behind them
 module _ (p : Problem) (room : ℕ) where
-  abbrev first : Bool
-  first = question1 (p .grid) .answeredYes
-
-  abbrev second : Bool
-  second = question2 (p .grid) .answeredYes
-
-  abbrev third : Bool
-  third = question3 (p .grid) .answeredYes
-
-  abbrev fourth : Bool
-  fourth = question4 (p .grid) .answeredYes
-
   pub by-grid : (firstNo (gridQuestions (p .grid)) ≡ 0 → ⊥) → refusal p room ≡ firstNo (gridQuestions (p .grid))
-  unfolding firstNo
-  by-grid e = four-no first second third fourth _ e
+  by-grid n = asked-no (gridQuestions (p .grid)) (laterQuestions p room) _ n refl
 
   pub by-later : firstNo (gridQuestions (p .grid)) ≡ 0 → refusal p room ≡ firstNo (laterQuestions p room)
-  unfolding firstNo
-  by-later e = four-yes first second third fourth _ e
+  by-later e = asked-next (gridQuestions (p .grid)) (laterQuestions p room) refl e
 
   -- where none is answered no, the table is accepted and the answer has room
   pub accepted-with-room : firstNo (gridQuestions (p .grid)) ≡ 0 → firstNo (laterQuestions p room) ≡ 0 → Accepted p × (suc (dimension (p .grid)) * numIndices (p .grid) ≤ room)
-  unfolding firstNo
   accepted-with-room e f =
-      let w = three-yes (question5 (p .grid) (p .start) .answeredYes) (question6 p .answeredYes) (question7 p .answeredYes) (question8 (p .grid) room .answeredYes) f in
-      (accepted-of p (four-yes first second third fourth _ e ∙ w .0), leb-true (suc (dimension (p .grid)) * numIndices (p .grid)) room (w .1))
+      let w = both-yes (tableQuestions p) (question8 (p .grid) room ∷ []) refl (by-later e ∙ f) in
+      (accepted-of p (w .0), leb-true (suc (dimension (p .grid)) * numIndices (p .grid)) room (first-yes (question8 (p .grid) room) [] (omega arith) (w .1) .0))
 
 -- questions 5 to 8
 module _ (p : Problem) (room : ℕ) where

@@ -3,8 +3,9 @@ use mathlib.Core.List.{List, [], _∷_}
 use mathlib.Core.Path.{_≡_}
 use Prim.Native.Nat.{ℕ, suc, _≤_, _<_}
 use lib.ListN.{length, take}
+use Rattle.questions.specs.Questions.{Question}
 use Rattle.grid.specs.Grid.{blockOf, dimension, numIndices}
-use Rattle.grid.specs.Questions.{Question, question5}
+use Rattle.grid.specs.Questions.{question5}
 use Rattle.grid.specs.declared.Grid.{Grid as GridStruct}
 use Rattle.place.specs.Ends.{Kind, placeEnd, facetEnd}
 use Rattle.place.specs.Path.{answer, ended, spent}

@@ -6,7 +6,7 @@ use lib.Dec.{eqb}
 use lib.ListN.{length}
 use Rattle.combinatorics.specs.Front.{front}
 use Rattle.combinatorics.specs.Lists.{concatMap}
-use Rattle.grid.specs.Questions.{firstNo}
+use Rattle.questions.specs.Questions.{firstNo}
 use Rattle.place.specs.Ends.{Kind as KindOfEnd, placeEnd, facetEnd}
 use Rattle.place.specs.Path.{Answer as PathAnswer, spent, ended, answer}
 use Rattle.place.specs.Problem.{Problem}

@@ -21,11 +21,12 @@ use Rattle.combinatorics.proofs.Turns.{map-append, map-at, sum-next}
 use Rattle.combinatorics.specs.Counting.{choose}
 use Rattle.combinatorics.specs.Front.{front}
 use Rattle.combinatorics.specs.Lists.{all, filter, sum, upFrom}
+use Rattle.questions.specs.Questions.{firstNo}
 use Rattle.grid.proofs.Accepted.{Accepted, accepted, points-are}
 use Rattle.grid.proofs.Listing.{numPoints-is}
 use Rattle.grid.proofs.Round.{Seat, seat, block-spans}
 use Rattle.grid.specs.Grid.{Grid, Point, at, blockOf, numBlocks, numIndices, numPoints, binomialProduct, size, division, firstIndex, blocks, isGridPoint}
-use Rattle.grid.specs.Questions.{firstNo, gridQuestions}
+use Rattle.grid.specs.Questions.{gridQuestions}
 use Rattle.games.proofs.Blends.{blend-agree, blend-times, blend-same, blend-difference, linear, unit-length}
 use Rattle.losses.proofs.Players.{at-part, point-length, mix-sum, length-mix}
 use Rattle.losses.proofs.Replaced.{mix-lengths, expected-weights, replaced-is}

@@ -1,7 +1,6 @@
 -- The games that are built in: their tables have the lengths and the range that questions 10 and 11 ask. Assumes nothing.
 use mathlib.Core.Bool.{Bool, true, false, cond, _&&_}
 use mathlib.Core.List.{List, [], _∷_, _++_}
-use mathlib.Core.Logic.{⊎-elim}
 use mathlib.Core.Path.{_≡_, refl, sym, ap, _∙_}
 use Prim.Native.Nat.{ℕ, suc, _+_, _*_, _<_}
 use borrow.Author.Tests.{eq-eqb, ne-eqb, leb-true}
@@ -10,12 +9,13 @@ use lib.ListN.{length, getD, drop, drop-of-length-le}
 use lib.Seq.{drop-cons}
 use native.Mathlib.Numerals.{add-one}
 use native.Mathlib.Omega.{arith}
-use Rattle.combinatorics.proofs.Basics.{same-or, false-of, and-left, and-right}
+use Rattle.combinatorics.proofs.Basics.{false-of, and-left, and-right}
 use Rattle.combinatorics.proofs.Lists.{same-sound, onNumbers}
 use Rattle.combinatorics.specs.Lists.{all, same}
+use Rattle.questions.proofs.Answers.{first-append}
+use Rattle.questions.specs.Questions.{Question, firstNo}
 use Rattle.grid.specs.Grid.{Grid, numBlocks}
-use Rattle.grid.specs.Questions.{Question, firstNo, gridQuestions}
-use Rattle.games.proofs.Outcomes.{asked-next, asked-no}
+use Rattle.grid.specs.Questions.{gridQuestions}
 use Rattle.losses.specs.Game.{product}
 use Rattle.losses.specs.Known.{inRange}
 use Rattle.games.specs.Labelling.{question10, question11, question12, question15, labelQuestions, gameQuestions, labelledOf, leftIn}
@@ -76,10 +76,7 @@ spared g sizes losses buffer e w r =
     let q : eqb (length losses) (numBlocks g * product (g .sizes)) ≡ true = eq-eqb _ _ (w ∙ sym (ap (λ (ss : List ℕ). length ss * product ss) e)) in
     let rest : List Question = question10 g losses ∷ question11 losses ∷ question12 g buffer ∷ [] in
     let t : firstNo rest ≡ firstNo (question12 g buffer ∷ []) = rw (q, r) in
-    ⊎-elim
-    (λ z. asked-next (gridQuestions g) rest refl z ∙ t ∙ sym (asked-next (gridQuestions g) (question12 g buffer ∷ []) refl z))
-    (λ n. asked-no (gridQuestions g) rest _ n refl ∙ sym (asked-no (gridQuestions g) (question12 g buffer ∷ []) _ n refl))
-    (same-or (firstNo (gridQuestions g)) 0)
+    first-append (gridQuestions g) rest refl ∙ rw t (sym (first-append (gridQuestions g) (question12 g buffer ∷ []) refl))
 
 tables : (b c : Bool)
     → let sizes = cond b sizes1 (cond c sizes2 sizes3) in

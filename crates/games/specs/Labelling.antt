@@ -6,8 +6,9 @@ use lib.Dec.{eqb, leb}
 use lib.ListN.{length}
 use Rattle.combinatorics.specs.Front.{front}
 use Rattle.combinatorics.specs.Lists.{all, same}
+use Rattle.questions.specs.Questions.{Question, ask, firstNo}
 use Rattle.grid.specs.Grid.{Grid, numBlocks, numPoints}
-use Rattle.grid.specs.Questions.{Question, ask, firstNo, gridQuestions}
+use Rattle.grid.specs.Questions.{gridQuestions}
 use Rattle.losses.specs.Game.{product, labels}
 use Rattle.losses.specs.Known.{gridOf, inRange}
 use Rattle.games.specs.Tables.{gameSizes, gameLosses}

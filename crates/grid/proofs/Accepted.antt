@@ -1,7 +1,7 @@
 -- What the questions about a grid tell when all are answered yes. Assumes nothing.
-use mathlib.Core.Bool.{Bool, true, false, cond}
+use mathlib.Core.Bool.{true}
 use mathlib.Core.List.{List, [], _∷_}
-use mathlib.Core.Path.{_≡_, refl}
+use mathlib.Core.Path.{_≡_}
 use Prim.Native.Nat.{ℕ, _≤_, _<_}
 use borrow.Author.Tests.{leb-true, eqb-true}
 use lib.Dec.{leb, eqb}
@@ -9,12 +9,14 @@ use lib.ListN.{length}
 use native.Mathlib.Omega.{arith}
 use Rattle.combinatorics.proofs.Basics.{and-left, and-right}
 use Rattle.combinatorics.specs.Lists.{all, sum}
+use Rattle.questions.proofs.Answers.{first-yes}
+use Rattle.questions.specs.Questions.{firstNo}
 use Rattle.grid.proofs.Listing.{numPoints-is}
 use Rattle.grid.proofs.Prefix.{count-below}
 use Rattle.grid.proofs.Round.{size-range}
 use Rattle.grid.specs.Grid.{Grid, numBlocks, numIndices, numPoints, size, binomialProduct}
 use Rattle.grid.specs.Made.{blockCount}
-use Rattle.grid.specs.Questions.{Question, firstNo, gridQuestions, question1, question2, question3, question4}
+use Rattle.grid.specs.Questions.{gridQuestions, question1, question2, question3, question4}
 
 -- questions 1 to 4 are answered yes
 pub record Accepted (g : Grid) : Type 0 where
@@ -26,21 +28,12 @@ pub record Accepted (g : Grid) : Type 0 where
   pub divisionsOne : all (λ d. leb 1 d) (g .divisions) ≡ true
   pub fewPoints : numPoints g ≤ 60000
 
--- where the list answers 0, its first question is answered yes
-step : (q : Question) (qs : List Question) → 0 < q .number → firstNo (q ∷ qs) ≡ 0 → (q .answeredYes ≡ true) × (firstNo qs ≡ 0)
-unfolding firstNo
-step q qs h e = go (q .answeredYes) e
-  where
-    go : (b : Bool) → cond b (firstNo qs) (q .number) ≡ 0 → (b ≡ true) × (firstNo qs ≡ 0)
-    go true e = (refl, e)
-    go false e = absurd (omega arith)
-
 pub accepted : (g : Grid) → firstNo (gridQuestions g) ≡ 0 → Accepted g
 accepted g e =
-    let a = step (question1 g) (question2 g ∷ question3 g ∷ question4 g ∷ []) (omega arith) e in
-    let b = step (question2 g) (question3 g ∷ question4 g ∷ []) (omega arith) (a .1) in
-    let c = step (question3 g) (question4 g ∷ []) (omega arith) (b .1) in
-    let d = step (question4 g) [] (omega arith) (c .1) in
+    let a = first-yes (question1 g) (question2 g ∷ question3 g ∷ question4 g ∷ []) (omega arith) e in
+    let b = first-yes (question2 g) (question3 g ∷ question4 g ∷ []) (omega arith) (a .1) in
+    let c = first-yes (question3 g) (question4 g ∷ []) (omega arith) (b .1) in
+    let d = first-yes (question4 g) [] (omega arith) (c .1) in
     record {
       someBlock = leb-true 1 (numBlocks g) (and-left (leb 1 (numBlocks g)) (leb (numBlocks g) 6) (a .0));
       fewBlocks = leb-true (numBlocks g) 6 (and-right (leb 1 (numBlocks g)) (leb (numBlocks g) 6) (a .0));

@@ -9,9 +9,10 @@ use Rattle.combinatorics.proofs.Ranges.{upFrom-add}
 use Rattle.combinatorics.proofs.Turns.{map-append, sum-append, sum-counted}
 use Rattle.combinatorics.specs.Counting.{falling}
 use Rattle.combinatorics.specs.Lists.{sum, upFrom}
+use Rattle.questions.specs.Questions.{firstNo}
 use Rattle.grid.proofs.Accepted.{accepted}
 use Rattle.grid.specs.Grid.{Grid, bound, numPoints, numIndices, dimension}
-use Rattle.grid.specs.Questions.{firstNo, gridQuestions}
+use Rattle.grid.specs.Questions.{gridQuestions}
 
 sum-grows : (f g : ℕ → ℕ) (l : List ℕ) → ((i : ℕ) → f i ≤ g i) → sum (map f l) ≤ sum (map g l)
 sum-grows f g [] h = omega arith

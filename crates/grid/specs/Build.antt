@@ -3,10 +3,11 @@ use mathlib.Core.List.{List, map}
 use mathlib.Core.Path.{_≡_}
 use Prim.Native.Nat.{ℕ}
 use lib.ListN.{replicate}
+use Rattle.questions.specs.Questions.{firstNo}
 use Rattle.grid.specs.Grid.{Grid, numBlocks, firstIndex, blocks, indices, blockOf}
 use Rattle.grid.specs.Grid.{next as after, previous as before}
 use Rattle.grid.specs.Made.{padded, blockCount, gridOf}
-use Rattle.grid.specs.Questions.{firstNo, gridQuestions}
+use Rattle.grid.specs.Questions.{gridQuestions}
 
 -- the sizes and divisions lent to the constructor
 abbrev pub lent : List ℕ → List ℕ → Grid

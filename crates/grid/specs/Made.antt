@@ -7,8 +7,9 @@ use lib.Dec.{eqb}
 use lib.ListN.{take, replicate}
 use Rattle.combinatorics.specs.Counting.{choose}
 use Rattle.combinatorics.specs.Front.{front}
+use Rattle.questions.specs.Questions.{firstNo}
 use Rattle.grid.specs.Grid.{Grid, numBlocks, numIndices, numPoints, size, division, firstIndex, blocks, indices, blockOf, next, previous}
-use Rattle.grid.specs.Questions.{firstNo, gridQuestions}
+use Rattle.grid.specs.Questions.{gridQuestions}
 use Rattle.grid.specs.declared.Grid.{Grid as GridStruct}
 use Rattle.grid.specs.declared.Made.{Made}
 

@@ -1,24 +1,11 @@
--- Document 01, "Questions in order": the form of a list of questions, and those about the grid and the start. Assumes nothing.
-use mathlib.Core.Bool.{Bool, _&&_, cond}
+-- Document 01, "Questions in order": those about the grid and the start. Assumes nothing.
+use mathlib.Core.Bool.{_&&_}
 use mathlib.Core.List.{List, [], _∷_}
-use Prim.Native.Nat.{ℕ}
 use lib.Dec.{eqb, leb}
 use lib.ListN.{length}
 use Rattle.combinatorics.specs.Lists.{all}
+use Rattle.questions.specs.Questions.{Question, ask}
 use Rattle.grid.specs.Grid.{Grid, Point, numBlocks, numIndices, numPoints, isGridPoint}
-
--- a question's number, and whether it is answered yes
-pub record Question : Type 0 where
-  pub number : ℕ
-  pub answeredYes : Bool
-
-abbrev pub ask : ℕ → Bool → Question
-ask number answeredYes = record { number = number; answeredYes = answeredYes }
-
--- "the number when the answer is no": that of the first question answered no, and 0 where all are answered yes
-unfoldable pub firstNo : List Question → ℕ
-firstNo [] = 0
-firstNo (q ∷ qs) = cond (q .answeredYes) (firstNo qs) (q .number)
 
 -- "Is N, which outside a slip is the number of sizes lent, from 1 to 6? 1"
 abbrev pub question1 : Grid → Question

@@ -6,6 +6,7 @@ ghost use Prim.Native.Nat.{suc, _+_, _≤_, _<_, pred};
 ghost use lib.Dec.{eqb};
 ghost use lib.ListN.{length};
 ghost use Rattle.combinatorics.specs.Lists.{sum};
+ghost use Rattle.questions.specs.Questions.{firstNo};
 ghost use Rattle.grid.specs.Build.{
   lent,
   BlocksUnmarked,
@@ -16,10 +17,10 @@ ghost use Rattle.grid.specs.Build.{
 };
 ghost use Rattle.grid.specs.Grid.{Grid as Shape, blockIn, numPoints};
 ghost use Rattle.grid.specs.Made.{gridOf};
-ghost use Rattle.grid.specs.Questions.{firstNo, gridQuestions};
+ghost use Rattle.grid.specs.Questions.{gridQuestions};
 use crate::Grid;
 use crate::counts;
-use crate::questions;
+use crate::grid_questions;
 use crate::wide;
 use crate::wide16;
 
@@ -78,7 +79,7 @@ fn mark_blocks(
     while j < sizes.len() {
         own_sizes[j] = sizes[j];
         own_divisions[j] = divisions[j];
-        firsts[j] = questions::first_index(sizes, j) as u8;
+        firsts[j] = grid_questions::first_index(sizes, j) as u8;
         counts[j] = counts::block_count(wide(sizes[j]), wide16(divisions[j])) as u16;
         j += 1;
     }
@@ -114,7 +115,7 @@ fn mark_indices(
     let mut h: usize = 0;
     while h < indices {
         let j = block_of(sizes, h);
-        let first = questions::first_index(sizes, j);
+        let first = grid_questions::first_index(sizes, j);
         let size = wide(sizes[j]);
         block[h] = j as u8;
         previous[h] = index_before(h, first, size);
@@ -140,7 +141,7 @@ pub fn built(sizes: &[u8], divisions: &[u16]) -> Grid
         &mut counts,
     );
     let blocks = sizes.len();
-    let indices = questions::first_index(sizes, blocks);
+    let indices = grid_questions::first_index(sizes, blocks);
     let mut block = [0u8; 16];
     let mut previous = [0u8; 16];
     let mut next = [0u8; 16];

@@ -10,7 +10,7 @@ mod bounds;
 mod build;
 mod coordinates;
 mod counts;
-mod questions;
+mod grid_questions;
 
 // A grid with what is looked up at every move. At the front of each array stand the numbers of the
 // blocks or of the indices, 0 behind.
@@ -67,7 +67,7 @@ impl Grid {
     pub fn new(sizes: &[u8], divisions: &[u16]) -> Made
         ensures { λ r. ⌜ r ≡ madeOf (lent (now (sizes .entry)) (now (divisions .entry))) ⌝ }
     {
-        let code = questions::first_no(sizes, divisions);
+        let code = grid_questions::first_no(sizes, divisions);
         if code == 0 {
             let grid = build::built(sizes, divisions);
             Made { code, grid }

@@ -1,46 +1,34 @@
 -- A table is accepted exactly if questions 1 to 7 are answered yes. Assumes nothing.
-use mathlib.Core.Bool.{Bool, true, false, _&&_, cond}
+use mathlib.Core.List.{[], _∷_}
 use mathlib.Core.Path.{_≡_, refl}
-use Prim.Native.Nat.{ℕ, suc}
-use borrow.Author.Tests.{leb-true, eqb-true, le-leb, eq-eqb}
-use lib.Dec.{eqb, leb}
-use lib.ListN.{length}
+use borrow.Author.Tests.{eqb-true, le-leb, eq-eqb}
 use native.Mathlib.Omega.{arith}
-use Rattle.combinatorics.proofs.Basics.{and-left, and-right}
-use Rattle.combinatorics.specs.Lists.{all}
-use Rattle.grid.specs.Grid.{isGridPoint, numBlocks, numIndices, numPoints}
-use Rattle.grid.specs.Questions.{firstNo}
+use Rattle.questions.proofs.Answers.{both-yes, first-yes}
+use Rattle.questions.specs.Questions.{firstNo}
+use Rattle.grid.proofs.Accepted.{accepted as grid-accepted}
+use Rattle.grid.specs.Grid.{numPoints}
+use Rattle.grid.specs.Questions.{gridQuestions, question5}
 use Rattle.place.specs.Demand.{Accepted}
 use Rattle.place.specs.Problem.{Problem}
-use Rattle.place.specs.Questions.{tableQuestions}
-
--- the first question is answered yes, and so are the others
-both : (b : Bool) (later n : ℕ) → cond b later (suc n) ≡ 0 → (b ≡ true) × (later ≡ 0)
-both true later n e = (refl, e)
-both false later n e = absurd (omega arith)
+use Rattle.place.specs.Questions.{question6, question7, tableQuestions}
 
 pub accepted-of : (p : Problem) → firstNo (tableQuestions p) ≡ 0 → Accepted p
-unfolding firstNo
 accepted-of p e =
     let g = p .grid in
-    let m = numIndices g in
-    let q1 = both (leb 1 (numBlocks g) && leb (numBlocks g) 6) _ 0 e in
-    let q2 = both (all (λ s. leb 2 s) g.sizes && leb m 16) _ 1 q1.1 in
-    let q3 = both (eqb (length g.divisions) (numBlocks g) && all (λ d. leb 1 d) g.divisions) _ 2 q2.1 in
-    let q4 = both (leb (numPoints g) 60000) _ 3 q3.1 in
-    let q5 = both (isGridPoint g p.start) _ 4 q4.1 in
-    let q6 = both (eqb (length p.labels) (numPoints g)) _ 5 q5.1 in
-    let q7 = both (all (λ l. leb 1 l && leb l m) p.labels) 0 6 q6.1 in
+    let parts = both-yes (gridQuestions g) (question5 g p.start ∷ question6 p ∷ question7 p ∷ []) refl e in
+    let a = grid-accepted g parts.0 in
+    let q5 = first-yes (question5 g p.start) (question6 p ∷ question7 p ∷ []) (omega arith) parts.1 in
+    let q6 = first-yes (question6 p) (question7 p ∷ []) (omega arith) q5.1 in
+    let q7 = first-yes (question7 p) [] (omega arith) q6.1 in
     record {
       settled = record {
-        someBlock = leb-true 1 (numBlocks g) (and-left _ _ q1.0);
-        sixBlocks = leb-true (numBlocks g) 6 (and-right (leb 1 (numBlocks g)) (leb (numBlocks g) 6) q1.0);
-        sizes = and-left _ (leb m 16) q2.0;
-        sixteenIndices = leb-true m 16 (and-right (all (λ s. leb 2 s) g.sizes) (leb m 16) q2.0);
-        sameNumber =
-            eqb-true _ (numBlocks g) (and-left _ _ q3.0);
-        divisions = and-right (eqb (length g.divisions) (numBlocks g)) (all (λ d. leb 1 d) g.divisions) q3.0;
-        points = leb-true (numPoints g) 60000 q4.0;
+        someBlock = a .someBlock;
+        sixBlocks = a .fewBlocks;
+        sizes = a .sizesTwo;
+        sixteenIndices = a .fewIndices;
+        sameNumber = a .sameNumber;
+        divisions = a .divisionsOne;
+        points = a .fewPoints;
         start = q5 .0;
       };
       tableLength = eqb-true _ (numPoints g) q6.0;

@@ -2,7 +2,7 @@
 use mathlib.Core.List.{map}
 use mathlib.Core.Path.{_≡_, refl}
 use Rattle.grid.specs.Grid.{next, previous, isGridPoint, points, bound}
-use Rattle.grid.specs.Questions.{firstNo}
+use Rattle.questions.specs.Questions.{firstNo}
 use Rattle.place.specs.Coefficients.{coefficients}
 use Rattle.place.specs.Ends.{isComplete, completeFor, placeEnds, facetEnds, ends, ways}
 use Rattle.place.specs.Links.{exchanged, extended, linked, links}

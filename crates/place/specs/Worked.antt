@@ -3,7 +3,7 @@ use mathlib.Core.List.{List, [], _∷_}
 use Prim.Native.Nat.{ℕ, suc, _*_}
 use lib.ListN.{replicate}
 use Rattle.grid.specs.Grid.{bound, dimension, numIndices}
-use Rattle.grid.specs.Questions.{firstNo}
+use Rattle.questions.specs.Questions.{firstNo}
 use Rattle.place.specs.Ends.{placeEnd, facetEnd}
 use Rattle.place.specs.Path.{Answer, spent, ended, answer}
 use Rattle.place.specs.Problem.{Problem, problemOf}

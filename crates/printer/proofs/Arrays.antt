@@ -10,8 +10,10 @@ use Rattle.combinatorics.proofs.Fronts.{front-full, front-length, front-taken}
 use Rattle.combinatorics.proofs.Ranges.{length-upFrom}
 use Rattle.combinatorics.proofs.Turns.{map-at}
 use Rattle.combinatorics.specs.Front.{front}
+use Rattle.questions.proofs.Answers.{asked-next}
+use Rattle.questions.specs.Questions.{firstNo}
 use Rattle.games.proofs.AllLabels.{labels-length}
-use Rattle.games.proofs.Outcomes.{asked-next, written}
+use Rattle.games.proofs.Outcomes.{written}
 use Rattle.losses.specs.Game.{labels}
 use Rattle.games.specs.Labelling.{question12, question15, gameQuestions, gameBuffer}
 use Rattle.games.specs.Tables.{gameLosses}
@@ -20,7 +22,7 @@ use Rattle.grid.proofs.Fields.{made-accepted, made-blocks, made-indices, made-p
 use Rattle.grid.proofs.Round.{block-spans}
 use Rattle.grid.specs.Grid.{division, blockOf, bound, numIndices, numPoints, indices}
 use Rattle.grid.specs.Made.{gridOf, shape, IsMade, padded}
-use Rattle.grid.specs.Questions.{firstNo, gridQuestions}
+use Rattle.grid.specs.Questions.{gridQuestions}
 use Rattle.grid.specs.declared.Grid.{Grid as GridStruct}
 use Rattle.sheet.specs.Answer.{rows, Printable}
 use Rattle.sheet.specs.Sheet.{endSheet}

@@ -11,9 +11,10 @@ use lib.Seq.{getD-take, take-take, take-all, length-take-le}
 use native.Mathlib.Omega.{arith}
 use Rattle.combinatorics.proofs.Agreement.{map-range}
 use Rattle.combinatorics.proofs.Basics.{true-or-false, same-or, before-or-not}
+use Rattle.questions.specs.Questions.{firstNo}
 use Rattle.grid.proofs.Accepted.{accepted}
 use Rattle.grid.specs.Grid.{Grid}
-use Rattle.grid.specs.Questions.{firstNo, gridQuestions}
+use Rattle.grid.specs.Questions.{gridQuestions}
 use Rattle.sheet.specs.Sheet.{refusedSheet}
 use Rattle.slip.proofs.Laws.{at-first, at-next, length-there, length-absent}
 use Rattle.slip.proofs.Readings.{refused-13, refused-grid, reading-is}

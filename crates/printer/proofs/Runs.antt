@@ -13,12 +13,13 @@ use Rattle.combinatorics.proofs.Basics.{same-or, before-or-not, and-left, and-r
 use Rattle.combinatorics.proofs.Fronts.{front-length}
 use Rattle.combinatorics.specs.Front.{front}
 use Rattle.combinatorics.specs.Lists.{all, concatMap}
+use Rattle.questions.specs.Questions.{firstNo}
 use Rattle.finder.proofs.Refusals.{by-grid, by-later, accepted-with-room, answered as run-answered, refused as run-refused}
 use Rattle.finder.specs.Run.{kindOf as kindAnswered, caseOf, numbersOf, refusal, runAnswer, runBuffer}
 use Rattle.finder.specs.declared.answers.Answer.{Answer}
 use Rattle.finder.specs.declared.answers.Answer.the-variants.{Refused, Spent, End}
 use Rattle.grid.specs.Grid.{Grid, Point, dimension, numIndices, isGridPoint}
-use Rattle.grid.specs.Questions.{firstNo, gridQuestions}
+use Rattle.grid.specs.Questions.{gridQuestions}
 use Rattle.place.proofs.EndPoints.{IsSimplex, end-simplex}
 use Rattle.place.proofs.Theorem.{demand3-holds}
 use Rattle.place.specs.Demand.{Accepted}

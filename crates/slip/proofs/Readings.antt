@@ -1,41 +1,27 @@
 -- What a slip is read to, question by question. Assumes nothing.
 use mathlib.Core.Bool.{Bool, true, false, cond}
-use mathlib.Core.List.{List, [], _∷_, _++_}
+use mathlib.Core.List.{List, [], _∷_}
 use mathlib.Core.Path.{_≡_, refl, ap, _∙_}
 use Prim.Native.Nat.{ℕ, _≤_}
 use borrow.Author.Tests.{leb-true, eqb-true, ne-eqb}
 use lib.Dec.{eqb, leb}
 use lib.ListN.{length}
 use native.Mathlib.Omega.{arith}
-use Rattle.combinatorics.proofs.Basics.{and-left, and-right}
-use Rattle.combinatorics.specs.Lists.{all}
+use Rattle.combinatorics.proofs.Basics.{and-left}
+use Rattle.questions.proofs.Answers.{first-append}
+use Rattle.questions.specs.Questions.{firstNo}
 use Rattle.grid.proofs.Accepted.{accepted as grid-accepted}
 use Rattle.grid.proofs.Fields.{shape-of, is-made}
 use Rattle.grid.specs.declared.Grid.{Grid as GridStruct}
 use Rattle.grid.specs.Grid.{numIndices, numPoints}
 use Rattle.grid.specs.Made.{gridOf, shape}
-use Rattle.grid.specs.Questions.{Question, firstNo, gridQuestions}
+use Rattle.grid.specs.Questions.{gridQuestions}
 use Rattle.slip.proofs.Laws.{told, untold}
 use Rattle.slip.specs.declared.Field.the-variants.{EndsAt, Missing}
 use Rattle.slip.specs.declared.Fields.the-variants.{At, Inexact}
 use Rattle.slip.specs.declared.Reading.{Reading}
 use Rattle.slip.specs.Reading.{refusal, accepted, readingOf, headOf, fieldsOf, Asked, Exact}
 use Rattle.slip.specs.Slip.{slipGrid, headLength, fieldAt, question13, question14, question15, readQuestions}
-
--- one question more in front: with `early` the first no of some questions, `later` that of more, and `rest` that of those behind
-in-front : (yes : Bool) (n early later rest : ℕ) → 1 ≤ n → later ≡ cond (eqb early 0) rest early → cond yes later n ≡ cond (eqb (cond yes early n) 0) rest (cond yes early n)
-in-front true n early later rest h e = e
-in-front false n early later rest h e = rw (ne-eqb n 0 (λ z. omega arith))
-
--- questions are asked until one is answered no
-pub first-append : (qs rs : List Question) → all (λ q. leb 1 (q .number)) qs ≡ true → firstNo (qs ++ rs) ≡ cond (eqb (firstNo qs) 0) (firstNo rs) (firstNo qs)
-unfolding firstNo
-first-append [] rs a = refl
-first-append (q ∷ qs) rs a =
-    let numbered = all (λ q. leb 1 (q .number)) qs in
-    in-front (q .answeredYes) (q .number) (firstNo qs) (firstNo (qs ++ rs)) (firstNo rs)
-    (leb-true 1 (q .number) (and-left (leb 1 (q .number)) numbered a))
-    (first-append qs rs (and-right (leb 1 (q .number)) numbered a))
 
 module _ (slip : List ℕ) where
   pub number-is : firstNo (readQuestions slip) ≡ cond (question13 slip .answeredYes) (cond (eqb (firstNo (gridQuestions (slipGrid slip))) 0) (firstNo (question14 slip ∷ question15 slip ∷ [])) (firstNo (gridQuestions (slipGrid slip)))) 13

@@ -1,38 +1,27 @@
 -- Reading a slip leaves questions 5 and 7 to the run, which refuses as the slip's own order of questions does. Assumes nothing.
-use mathlib.Core.Bool.{Bool, true, false, not, cond}
-use mathlib.Core.List.{List, [], _∷_}
+use mathlib.Core.Bool.{true, false, not, cond}
+use mathlib.Core.List.{List, [], _∷_, _++_}
 use mathlib.Core.Logic.{⊎-elim}
 use mathlib.Core.Path.{_≡_, refl, sym, ap, _∙_}
-use Prim.Native.Nat.{ℕ, suc, _-_}
-use borrow.Author.Tests.{eqb-true, eqb-false, eq-eqb, ne-eqb, le-leb}
+use Prim.Native.Nat.{ℕ, _-_}
+use borrow.Author.Tests.{eqb-true, eq-eqb, ne-eqb, le-leb}
 use lib.Dec.{eqb, leb}
 use lib.ListN.{length, length-map, length-drop, getD, drop}
 use lib.Seq.{length-take-le}
 use native.Mathlib.Omega.{arith}
 use Rattle.combinatorics.proofs.Basics.{true-or-false, absurd-bool, and-right}
 use Rattle.combinatorics.specs.Lists.{all, filter, upFrom}
+use Rattle.questions.proofs.Answers.{both-yes, first-append, first-yes}
+use Rattle.questions.specs.Questions.{firstNo}
 use Rattle.losses.specs.Game.{label, labels}
 use Rattle.games.specs.Tables.{gameLosses}
 use Rattle.grid.specs.Grid.{numPoints, points}
-use Rattle.grid.specs.Questions.{firstNo, gridQuestions, question5}
+use Rattle.grid.specs.Questions.{gridQuestions, question5}
 use Rattle.place.specs.Questions.{question6, question7, question8, runQuestions}
 use Rattle.slip.proofs.Laws.{length-there, length-absent, field-fits, at-next}
-use Rattle.slip.proofs.Readings.{first-append, number-is}
 use Rattle.slip.specs.Reading.{readingOf, labelsOf, accepted}
 use Rattle.slip.specs.Runs.{ThenRuns}
 use Rattle.slip.specs.Slip.{bit, isMap, stands, headLength, slipGrid, slipStart, slipGame, slipLabels, labelField, fieldLength, fieldAt, question13, question14, question15, readQuestions, slipProblem, slipRefusal}
-
--- a question answered no would give its number
-both : (yes : Bool) (later n : ℕ) → cond yes later (suc n) ≡ 0 → (yes ≡ true) × (later ≡ 0)
-both true later n e = (refl, e)
-both false later n e = absurd (omega arith)
-
-none-refuses : (n rest : ℕ) → cond (eqb n 0) rest n ≡ 0 → (n ≡ 0) × (rest ≡ 0)
-none-refuses n rest e =
-    ⊎-elim
-    (λ z. (eqb-true n 0 z, (rw z at e)))
-    (λ z. absurd (eqb-false n 0 z (rw z at e)))
-    (true-or-false (eqb n 0))
 
 module _ (slip : List ℕ) where
   code-is : readingOf slip .code ≡ firstNo (readQuestions slip)
@@ -52,12 +41,13 @@ module _ (slip : List ℕ) where
     number-zero = sym code-is ∙ zero
 
     pub answers : (question13 slip .answeredYes ≡ true) × (firstNo (gridQuestions (slipGrid slip)) ≡ 0) × (question14 slip .answeredYes ≡ true) × (question15 slip .answeredYes ≡ true)
-    unfolding firstNo
     answers =
-        let h = both (question13 slip .answeredYes) _ 12 (sym (number-is slip) ∙ number-zero) in
-        let g = none-refuses (firstNo (gridQuestions (slipGrid slip))) (firstNo (question14 slip ∷ question15 slip ∷ [])) (h .1) in
-        let f = both (question14 slip .answeredYes) _ 13 (g .1) in
-        let k = both (question15 slip .answeredYes) 0 14 (f .1) in
+        let grid = gridQuestions (slipGrid slip) in
+        let behind = question14 slip ∷ question15 slip ∷ [] in
+        let h = first-yes (question13 slip) (grid ++ behind) (omega arith) number-zero in
+        let g = both-yes grid behind refl (h .1) in
+        let f = first-yes (question14 slip) (question15 slip ∷ []) (omega arith) (g .1) in
+        let k = first-yes (question15 slip) [] (omega arith) (f .1) in
         (h .0, g .0, f .0, k .0)
 
     whole : length slip ≡ fieldAt slip 4

@@ -5,9 +5,10 @@ use mathlib.Core.Path.{_≡_}
 use Prim.Native.Nat.{ℕ, suc, _-_}
 use lib.Dec.{eqb, leb}
 use lib.ListN.{length, take, drop, replicate}
+use Rattle.questions.specs.Questions.{firstNo}
 use Rattle.grid.specs.declared.Grid.{Grid as GridStruct}
 use Rattle.grid.specs.Made.{gridOf, noGrid, padded, shape, IsMade}
-use Rattle.grid.specs.Questions.{firstNo, gridQuestions}
+use Rattle.grid.specs.Questions.{gridQuestions}
 use Rattle.slip.specs.Slip.{slipGrid, slipStart, slipBudget, slipGame, fieldAt, readQuestions, headLength, question13, question14}
 use Rattle.slip.specs.declared.Field.{Field}
 use Rattle.slip.specs.declared.Field.the-variants.{EndsAt, Missing}

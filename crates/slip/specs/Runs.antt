@@ -3,9 +3,9 @@ use mathlib.Core.Bool.{true}
 use mathlib.Core.List.{List, []}
 use mathlib.Core.Path.{_≡_}
 use Prim.Native.Nat.{ℕ}
+use Rattle.questions.specs.Questions.{firstNo}
 use Rattle.losses.specs.Game.{labels}
 use Rattle.games.specs.Tables.{gameLosses}
-use Rattle.grid.specs.Questions.{firstNo}
 use Rattle.place.specs.Questions.{question8, runQuestions}
 use Rattle.slip.specs.Reading.{readingOf, labelsOf}
 use Rattle.slip.specs.Slip.{slipGrid, slipLabels, labelField, slipProblem, slipRefusal}

@@ -6,11 +6,12 @@ use Prim.Native.Nat.{ℕ, zero, suc, _+_, _*_, _/_, _%_, _^_}
 use lib.Dec.{eqb, leb}
 use lib.ListN.{length, getD, take, drop}
 use Rattle.combinatorics.specs.Lists.{all, filter, sum, upFrom}
+use Rattle.questions.specs.Questions.{Question, ask, firstNo}
 use Rattle.losses.specs.Game.{labels}
 use Rattle.games.specs.Labelling.{question15 as gameQuestion}
 use Rattle.games.specs.Tables.{gameLosses}
 use Rattle.grid.specs.Grid.{Grid, Point, numIndices, numPoints, division, firstIndex, indices, blockOf, bound}
-use Rattle.grid.specs.Questions.{Question, ask, firstNo, gridQuestions, question5}
+use Rattle.grid.specs.Questions.{gridQuestions, question5}
 use Rattle.place.specs.Problem.{Problem}
 use Rattle.place.specs.Questions.{question7}
 

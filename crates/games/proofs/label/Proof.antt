@@ -7,11 +7,13 @@ use native.Mathlib.Omega.{arith}
 use lib.ListN.{length, take}
 use borrow.Author.Tests.{not-true, not-false}
 use Rattle.combinatorics.specs.Lists.{all}
+use Rattle.questions.proofs.Answers.{asked-no}
+use Rattle.questions.specs.Questions.{firstNo}
 use Rattle.grid.proofs.Accepted.{Accepted, accepted}
 use Rattle.grid.proofs.Fields.{made-code}
 use Rattle.grid.specs.Grid.{Grid, numBlocks, numIndices, numPoints}
-use Rattle.grid.specs.Questions.{firstNo, gridQuestions}
-use Rattle.games.proofs.Outcomes.{asked-no, refused, written, asked10, asked11, asked12, asked-all, made-laid}
+use Rattle.grid.specs.Questions.{gridQuestions}
+use Rattle.games.proofs.Outcomes.{refused, written, asked10, asked11, asked12, asked-all, made-laid}
 use Rattle.losses.proofs.Table.{product-few}
 use Rattle.losses.specs.Game.{product}
 use Rattle.losses.specs.Known.{gridOf, inRange, Laid, IsTable}

@@ -10,8 +10,8 @@ use Rattle.combinatorics.proofs.Turns.{all-next, whole}
 use Rattle.combinatorics.specs.Lists.{all}
 use borrow.Author.Needs.{needs}
 use native.Mathlib.Omega.{arith}
-use Rattle.grid.proofs.questions.each_two.Statement.{statement}
-use Rattle.grid.proofs.questions.each_two.Tie as tie
+use Rattle.grid.proofs.grid_questions.each_two.Statement.{statement}
+use Rattle.grid.proofs.grid_questions.each_two.Tie as tie
 
 abbrev Inv-loop : tie.InvT-loop
 Inv-loop sizes good₀ j₀ good j =

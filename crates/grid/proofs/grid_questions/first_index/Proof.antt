@@ -6,8 +6,8 @@ use Rattle.combinatorics.proofs.Turns.{sum-next}
 use Rattle.combinatorics.specs.Lists.{sum}
 use borrow.Author.Needs.{needs}
 use native.Mathlib.Omega.{arith}
-use Rattle.grid.proofs.questions.first_index.Statement.{statement}
-use Rattle.grid.proofs.questions.first_index.Tie as tie
+use Rattle.grid.proofs.grid_questions.first_index.Statement.{statement}
+use Rattle.grid.proofs.grid_questions.first_index.Tie as tie
 
 abbrev Inv-loop : tie.InvT-loop
 Inv-loop sizes j first₀ i₀ first i =

@@ -8,14 +8,15 @@ use lib.ListN.{length}
 use Rattle.combinatorics.proofs.Basics.{and-both}
 use Rattle.combinatorics.proofs.Turns.{whole}
 use Rattle.combinatorics.specs.Lists.{all, sum}
+use Rattle.questions.specs.Questions.{firstNo}
 use Rattle.grid.proofs.Listing.{numPoints-is}
 use Rattle.grid.specs.Build.{lent}
 use Rattle.grid.specs.Grid.{Grid, numPoints, binomialProduct}
-use Rattle.grid.specs.Questions.{firstNo, question1, question2, question3}
+use Rattle.grid.specs.Questions.{question1, question2, question3}
 use borrow.Author.Needs.{needs}
 use native.Mathlib.Omega.{arith}
-use Rattle.grid.proofs.questions.first_no.Statement.{statement}
-use Rattle.grid.proofs.questions.first_no.Tie as tie
+use Rattle.grid.proofs.grid_questions.first_no.Statement.{statement}
+use Rattle.grid.proofs.grid_questions.first_no.Tie as tie
 
 -- the grid asked about, and what is known past each question
 grid : tie.Start → Grid
