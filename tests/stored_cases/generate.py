@@ -1,8 +1,9 @@
 #!/usr/bin/env python3
-"""Makes the input and the expected output of the programs stored_cases and run_cases from the cases in this folder.
+"""Makes the input and the expected output of the programs stored_cases, run_cases and shelf_cases from the cases in this folder.
 
 Each case is a text of lines. `call` says what is called. A slip is given in hexadecimal, or by its fields; `60000x2` stands for 60,000 times 2, and
-`-` for a field that is not there. The lines behind `expect`, up to `later`, are the sheet.
+`-` for a field that is not there. The lines behind `expect`, up to `later`, are the sheet. A shelf's calls stand in `file`, `ask` or `script`; behind
+`expect` stand a line for each and the list after all of them.
 """
 import itertools
 import pathlib
@@ -68,6 +69,42 @@ def write_runs(chosen):
     (CRATES / "run_cases" / "stdout").write_text("".join(expect for _, expect in chosen))
 
 
+def row(values):
+    return " ".join(["list", *map(str, values)]) + "\n"
+
+
+def shelf_calls(fields):
+    if "script" in fields:
+        return [call.split() for call in fields["script"].split(", ")]
+    return [(word, fields[word]) for word in ("file", "ask") if word in fields]
+
+
+def shelf_input(fields):
+    """Pieces of six bytes."""
+    values, calls = list(numbers(fields["list"])), shelf_calls(fields)
+    lines = [("list", len(values), *values), ("count", fields["count"]), ("calls", len(calls)), *calls]
+    return "".join(f"{word:6}" + " ".join(f"{int(n):05}" for n in rest) + "\n" for word, *rest in lines)
+
+
+def shelf_output(fields, expect):
+    """Each answer, and the list after it: a new count says that the entry behind those filed was written. The last list is the case's."""
+    *answers, last = expect.splitlines()
+    values, text = list(numbers(fields["list"])), ""
+    for (word, sheet), answer in zip(shelf_calls(fields), answers, strict=True):
+        if answer.startswith("count "):
+            values[int(answer.split()[1]) - 1] = int(sheet)
+        text += answer + "\n" + row(values)
+    assert values == list(numbers(last.removeprefix("list"))), fields["name"]
+    return text
+
+
+def write_shelves(chosen):
+    crate = CRATES / "shelf_cases"
+    (crate / "stdin").write_text(f"cases {len(chosen):05}\n" + "".join(shelf_input(fields) for fields, _ in chosen))
+    (crate / "stdout").write_text("".join(f"case {n}\n" + shelf_output(*case) for n, case in enumerate(chosen, 1)))
+
+
 everything = list(cases())
 write_slips([c for c in everything if c[0]["call"] == "slip"])
 write_runs([c for c in everything if c[0]["call"] == "run"])
+write_shelves([c for c in everything if c[0]["call"] == "shelf"])

@@ -1,0 +1,4 @@
+pub mod Shelf
+pub mod Questions
+pub mod Calls
+pub mod Demand
