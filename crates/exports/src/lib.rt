@@ -8,6 +8,9 @@ ghost use Rattle.finder.specs.Run.{runAnswer, runBuffer};
 ghost use Rattle.games.specs.Labelling.{labelAnswer, labelBuffer};
 ghost use Rattle.printer.specs.Printed.{sheetOf};
 ghost use Rattle.exports.specs.Numbers.{kindNumber, runNumber, runFacts, labelNumber, labelCount};
+
+mod shelf_calls;
+
 use finder::Answer;
 use finder::Kind;
 use games::Labelled;

@@ -1,0 +1,30 @@
+-- `leveretplate_current` meets its contract: it is the asking's own, with the answer as numbers. Assumes nothing.
+use mathlib.Core.Path.{refl, sym, _∙_}
+use borrow.Author.Needs.{needs}
+use Rattle.exports.proofs.shelf_calls.leveretplate_current.Statement.{statement}
+use Rattle.exports.proofs.shelf_calls.leveretplate_current.Tie as tie
+
+current-requires : tie.Need-current-requires
+current-requires c κs = search needs
+
+enum-known-number : tie.Need-enum-known-number
+enum-known-number c = search needs
+
+enum-known-found : tie.Need-enum-known-found
+enum-known-found c = search needs
+
+returns : tie.Need-returns
+returns c = rw (sym (c .before .before .before .current .ensures) ∙ c .before .number .given .1) (refl, refl)
+
+returns-2 : tie.Need-returns-2
+returns-2 c = rw (sym (c .before .before .before .current .ensures) ∙ c .before .found .given .1) (refl, refl)
+
+pub leveretplate-current-spec : {M : Type 1} → statement M
+leveretplate-current-spec =
+    tie.close
+    (tie.spec
+    current-requires
+    enum-known-number
+    enum-known-found
+    returns
+    returns-2)
