@@ -1,4 +1,4 @@
-/* Calls each function of the library from C on document 01's examples and says whether they give what the document says. */
+/* Calls each function of the library from C, on document 01's examples and on a small shelf, and says whether they give what the papers say. */
 #include "leveretplate.h"
 
 #include <stdio.h>
@@ -54,11 +54,27 @@ static void check_label(void)
     expect("game 1's labels", leveretplate_label(sizes, 3, divisions, 3, losses, 24, table, 8, &count) == 0 && count == 8 && memcmp(table, expected, 8) == 0);
 }
 
+static void check_shelf(void)
+{
+    uint16_t list[] = {0, 0, 1, 2, 9, 9};
+    const uint16_t after[] = {0, 0, 1, 2, 4, 9};
+    size_t count = 77, last = 77;
+    expect("a replaced sheet named", leveretplate_file(list, 6, 4, 1, &count) == 23 && count == 77 && list[4] == 9);
+    expect("a list with no place left", leveretplate_file(list, 4, 4, 4, &count) == 22 && count == 77);
+    expect("a sheet filed", leveretplate_file(list, 6, 4, 4, &count) == 0 && count == 5);
+    expect("its entry, and those around it", memcmp(list, after, sizeof after) == 0);
+    expect("the current sheet", leveretplate_current(list, 6, 5, 2, &last) == 0 && last == 5);
+    last = 77;
+    expect("a sheet beyond 16 bits", leveretplate_current(list, 6, 5, 65537, &last) == 23 && last == 77);
+    expect("an entry that names a later sheet", leveretplate_current(list, 6, 6, 1, &last) == 21 && last == 77);
+}
+
 int main(void)
 {
     check_sheet();
     check_run();
     check_label();
+    check_shelf();
     printf("%d wrong\n", failures);
     return failures != 0;
 }

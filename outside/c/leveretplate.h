@@ -1,5 +1,5 @@
-/* The simplicial path finder for programs in C. Document 01 fixes every result, and the numbers of refusals are its own; the promises below are proved
- * (crates/exports).
+/* The simplicial path finder and the shelf of sheets for programs in C. Document 01 and the customer's requests fix every result, and the numbers of
+ * refusals are theirs; the promises below are proved (crates/exports).
  *
  * Each array is lent for the time of the call; its pointer is not null, even at length 0, and it overlaps no array that is written to. A call writes
  * only to what is lent without `const`, at the front; what stands behind stays. A refusal writes nothing, except that number 9 gives the places. No call
@@ -12,6 +12,7 @@
 
 #define LEVERETPLATE_FACTS 4    /* places, kind of end (0 place, 1 facet), block, vertices */
 #define LEVERETPLATE_SHEET 4096 /* room for any sheet */
+#define LEVERETPLATE_SHELF 1000 /* the most sheets on a shelf */
 
 /* Follows the path. At an end answers 0, writes the four facts, and the vertices in rising coefficient sum, m numbers each, to the answer buffer. Else
  * answers the refusal's number, 1 to 9; with number 9 the first fact is the places visited, and the other three stay. `facts` has LEVERETPLATE_FACTS
@@ -33,5 +34,16 @@ uint8_t leveretplate_label(const uint8_t *sizes, size_t sizes_length,
 
 /* Writes the sheet of a slip, a refusal's sheet too, and answers its length. `sheet` has LEVERETPLATE_SHEET bytes. */
 size_t leveretplate_sheet(const uint8_t *slip, size_t slip_length, uint8_t *sheet);
+
+/* A shelf is a list and the count of sheets filed, numbered from 1. The entry of sheet i, list[i - 1], is the number of the earlier sheet that it
+ * replaces, or 0; entries behind the count are neither read nor changed, except that filing writes the first of them.
+ *
+ * Files a sheet that replaces sheet `named`, or none if that is 0: writes list[count] and to `filed` the new count, and answers 0. Else answers the
+ * refusal's number: 21 for no shelf, 22 for a full one, 23 for a sheet that is not on it or already replaced. */
+uint8_t leveretplate_file(uint16_t *list, size_t list_length, size_t count, size_t named, size_t *filed);
+
+/* Writes the current one of a sheet, reached by going from each to the sheet that replaces it, to `last`, and answers 0. Else answers the refusal's
+ * number: 21 for no shelf, 23 for a sheet that is not on it. */
+uint8_t leveretplate_current(const uint16_t *list, size_t list_length, size_t count, size_t sheet, size_t *last);
 
 #endif

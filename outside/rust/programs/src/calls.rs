@@ -1,4 +1,4 @@
-//! The three calls, and a call as text in the form of the stored cases.
+//! The calls, and a call as text in the form of the stored cases.
 
 use reference::games::GAMES;
 use std::fmt::{Display, Formatter, Result};
@@ -23,11 +23,26 @@ pub struct LabelCall {
     pub buffer: usize,
 }
 
+/// Calls of a shelf in turn; the count goes on by each answer.
+#[derive(Clone, Debug, PartialEq)]
+pub struct ShelfCalls {
+    pub list: Vec<u16>,
+    pub count: usize,
+    pub calls: Vec<ShelfCall>,
+}
+
+#[derive(Clone, Copy, Debug, PartialEq)]
+pub enum ShelfCall {
+    File(usize),
+    Ask(usize),
+}
+
 #[derive(Clone, Debug, PartialEq)]
 pub enum Call {
     Run(RunCall),
     Label(LabelCall),
     Slip(Vec<u8>),
+    Shelf(ShelfCalls),
 }
 
 /// A slip's fields; those that are none are left out of the slip.
@@ -92,6 +107,15 @@ pub fn hex(bytes: &[u8]) -> String {
     bytes.iter().map(|byte| format!("{byte:02x}")).collect()
 }
 
+impl Display for ShelfCall {
+    fn fmt(&self, to: &mut Formatter) -> Result {
+        match self {
+            ShelfCall::File(named) => write!(to, "file {named}"),
+            ShelfCall::Ask(sheet) => write!(to, "ask {sheet}"),
+        }
+    }
+}
+
 impl Display for Call {
     fn fmt(&self, to: &mut Formatter) -> Result {
         match self {
@@ -104,6 +128,10 @@ impl Display for Call {
             Call::Label(label) => {
                 writeln!(to, "call label\nsizes {}\nd {}", spaced(&label.sizes), spaced(&label.divisions))?;
                 write!(to, "losses {}\nbuffer {}", spaced(&label.losses), label.buffer)
+            }
+            Call::Shelf(ShelfCalls { list, count, calls }) => {
+                let calls: Vec<String> = calls.iter().map(ShelfCall::to_string).collect();
+                write!(to, "call shelf\nlist {}\ncount {count}\nscript {}", spaced(list), calls.join(", "))
             }
         }
     }

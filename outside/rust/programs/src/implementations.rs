@@ -1,9 +1,9 @@
 //! Everything that answers a call: by the definitions, by the paper's steps, and the proved code where it is linked.
 
-use crate::calls::{LabelCall, RunCall};
+use crate::calls::{LabelCall, RunCall, ShelfCall, ShelfCalls};
 use reference::grid::Grid;
 use reference::slip::{self, ByDefinitions, ByPaper, Slip, SHEET_BYTES};
-use reference::{games, paper, questions, small, Outcome};
+use reference::{games, paper, questions, shelf, small, Outcome};
 
 pub type Sheet = [u8; SHEET_BYTES];
 
@@ -20,6 +20,31 @@ pub trait Implementation {
 
     /// The length of the sheet.
     fn sheet(&self, slip: &[u8], sheet: &mut Sheet) -> usize;
+
+    /// Whether it has the shelf's calls.
+    fn has_shelf(&self) -> bool {
+        true
+    }
+
+    /// The new count, or the refusal's number.
+    fn file(&self, list: &mut [u16], count: usize, named: usize) -> Result<usize, u64>;
+
+    /// The current sheet, or the refusal's number.
+    fn current(&self, list: &[u16], count: usize, sheet: usize) -> Result<usize, u64>;
+
+    /// Each answer, with the whole list after it.
+    fn shelf(&self, ShelfCalls { list, count, calls }: &ShelfCalls) -> Vec<(Result<usize, u64>, Vec<u16>)> {
+        let (mut list, mut count) = (list.clone(), *count);
+        let answer = |call: &ShelfCall| match *call {
+            ShelfCall::File(named) => {
+                let filed = self.file(&mut list, count, named);
+                count = filed.unwrap_or(count);
+                (filed, list.clone())
+            }
+            ShelfCall::Ask(sheet) => (self.current(&list, count, sheet), list.clone()),
+        };
+        calls.iter().map(answer).collect()
+    }
 
     /// The grid of a slip that is accepted; for others there is no path to follow.
     fn fits_slip(&self, slip: &[u8]) -> bool {
@@ -52,6 +77,14 @@ impl Implementation for Paper {
     fn sheet(&self, slip: &[u8], sheet: &mut Sheet) -> usize {
         slip::sheet::<ByPaper>(slip, sheet)
     }
+
+    fn file(&self, list: &mut [u16], count: usize, named: usize) -> Result<usize, u64> {
+        shelf::file(list, count, named)
+    }
+
+    fn current(&self, list: &[u16], count: usize, sheet: usize) -> Result<usize, u64> {
+        shelf::current(list, count, sheet)
+    }
 }
 
 pub struct Definitions;
@@ -80,6 +113,19 @@ impl Implementation for Definitions {
 
     fn sheet(&self, slip: &[u8], sheet: &mut Sheet) -> usize {
         slip::sheet::<ByDefinitions>(slip, sheet)
+    }
+
+    /// The shelf has one reference.
+    fn has_shelf(&self) -> bool {
+        false
+    }
+
+    fn file(&self, _: &mut [u16], _: usize, _: usize) -> Result<usize, u64> {
+        unreachable!("it has no shelf")
+    }
+
+    fn current(&self, _: &[u16], _: usize, _: usize) -> Result<usize, u64> {
+        unreachable!("it has no shelf")
     }
 }
 

@@ -1,8 +1,9 @@
 //! The inputs of the comparison and of the benchmark.
 
-use crate::calls::{game_table, Call, Fields, GameTable, LabelCall, RunCall};
+use crate::calls::{game_table, Call, Fields, GameTable, LabelCall, RunCall, ShelfCall, ShelfCalls};
 use crate::random::Random;
 use reference::grid::{Grid, MOST_INDICES};
+use reference::shelf::MOST_SHEETS;
 use reference::{paper, Outcome};
 
 /// Receives each call.
@@ -440,4 +441,63 @@ pub fn long_run(sizes: &[u8], divisions: &[u16], from: From, seed: u64, rounds: 
         }
     }
     RunCall { sizes: sizes.to_vec(), divisions: divisions.to_vec(), start, labels, budget: grid.bound(), answer: room(&grid) }
+}
+
+/// Every list of up to five numbers from 0 to one above its length, with every count to one above its length: each sheet filed and asked for.
+pub fn every_shelf(take: Take) {
+    for length in 0..=5 {
+        let most = length as u16 + 1;
+        let mut list = vec![0; length];
+        loop {
+            for count in 0..=length + 1 {
+                for sheet in (0..=length + 2).chain([65_535, 65_536, 65_537, usize::MAX]) {
+                    for call in [ShelfCall::File(sheet), ShelfCall::Ask(sheet)] {
+                        take(Call::Shelf(ShelfCalls { list: list.clone(), count, calls: vec![call] }));
+                    }
+                }
+            }
+            let Some(at) = list.iter().position(|&number| number < most) else { break };
+            list[..at].fill(0);
+            list[at] += 1;
+        }
+    }
+}
+
+/// Shelves of up to 1,000 sheets, a third of them with 998 or more, some with a fault, and calls in turn on each.
+pub fn random_shelves(seed: u64, count: usize, take: Take) {
+    let mut random = Random(seed);
+    for _ in 0..count {
+        let sheets = if random.chance(3) { MOST_SHEETS - random.below(3) } else { random.below(MOST_SHEETS) };
+        let mut list = random_shelf(&mut random, sheets);
+        list.extend((0..random.below(4)).map(|_| random.below(1 << 16) as u16));
+        let mut count = sheets;
+        match random.below(8) {
+            0 if sheets > 0 => list[random.below(sheets)] = random.below(sheets + 2) as u16,
+            1 => count += random.below(3),
+            _ => {}
+        }
+        let calls = (0..16).map(|_| random_shelf_call(&mut random, &list, sheets)).collect();
+        take(Call::Shelf(ShelfCalls { list, count, calls }));
+    }
+}
+
+/// Each sheet replaces an earlier one that is not replaced, or none.
+fn random_shelf(random: &mut Random, sheets: usize) -> Vec<u16> {
+    let (mut list, mut current) = (Vec::new(), Vec::new());
+    for sheet in 1..=sheets {
+        let replaces = !current.is_empty() && !random.chance(3);
+        list.push(if replaces { current.swap_remove(random.below(current.len())) } else { 0 });
+        current.push(sheet as u16);
+    }
+    list
+}
+
+/// Half of the filings name a sheet that no entry names, or none.
+fn random_shelf_call(random: &mut Random, list: &[u16], sheets: usize) -> ShelfCall {
+    let sheet = random.below(sheets + 3);
+    if random.chance(2) {
+        return ShelfCall::Ask(sheet);
+    }
+    let named = if random.chance(2) { (0..=sheet as u16).rev().find(|named| !list.contains(named)) } else { None };
+    ShelfCall::File(named.map_or(sheet, usize::from))
 }

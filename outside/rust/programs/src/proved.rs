@@ -30,12 +30,27 @@ extern "C" {
 
     /// The length of the sheet.
     fn leveretplate_sheet(slip: *const u8, slip_length: usize, sheet: *mut Sheet) -> usize;
+
+    /// 0 and the new count of sheets, or the refusal's number.
+    fn leveretplate_file(list: *mut u16, list_length: usize, count: usize, named: usize, filed: *mut usize) -> u8;
+
+    /// 0 and the current sheet, or the refusal's number.
+    fn leveretplate_current(list: *const u16, list_length: usize, count: usize, sheet: usize, last: *mut usize) -> u8;
 }
 
 const FACTS: usize = 4;
 
 /// What the facts and the count hold before a call.
 const OLD: u64 = 0x5eed_5eed_5eed_5eed;
+
+/// The value, which a refusal leaves as it was.
+fn answered(number: u8, value: u64) -> Result<usize, u64> {
+    if number == 0 {
+        return Ok(value as usize);
+    }
+    assert_eq!(value, OLD, "a refusal changes the value");
+    Err(number.into())
+}
 
 pub struct Proved;
 
@@ -93,17 +108,25 @@ impl Implementation for Proved {
                 &mut count,
             )
         };
-        match number {
-            0 => Ok(count as usize),
-            number => {
-                assert_eq!(count, OLD, "a refused labelling changes the count");
-                Err(number.into())
-            }
-        }
+        answered(number, count)
     }
 
     fn sheet(&self, slip: &[u8], sheet: &mut Sheet) -> usize {
         // Safety: the pointer comes with the length of its slice, and only the sheet is written to.
         unsafe { leveretplate_sheet(slip.as_ptr(), slip.len(), sheet) }
+    }
+
+    fn file(&self, list: &mut [u16], count: usize, named: usize) -> Result<usize, u64> {
+        let mut filed = OLD as usize;
+        // Safety: the pointer comes with the length of its slice, and only the list and the count are written to.
+        let number = unsafe { leveretplate_file(list.as_mut_ptr(), list.len(), count, named, &mut filed) };
+        answered(number, filed as u64)
+    }
+
+    fn current(&self, list: &[u16], count: usize, sheet: usize) -> Result<usize, u64> {
+        let mut last = OLD as usize;
+        // Safety: the pointer comes with the length of its slice, and only the sheet is written to.
+        let number = unsafe { leveretplate_current(list.as_ptr(), list.len(), count, sheet, &mut last) };
+        answered(number, last as u64)
     }
 }

@@ -1,6 +1,6 @@
 //! The stored cases, each from a `call` line to the next: lines of a word and its values, then `expect` and the lines expected.
 
-use crate::calls::{Call, Fields, LabelCall, RunCall};
+use crate::calls::{spaced, Call, Fields, LabelCall, RunCall, ShelfCall, ShelfCalls};
 use std::collections::HashMap;
 
 pub struct Case {
@@ -25,7 +25,7 @@ fn read_case(lines: &[&str]) -> Case {
         values.insert(word, value);
     }
     let name = values.get("name").unwrap_or(&"").to_string();
-    let expect = lines.map(str::to_string).collect();
+    let mut expect: Vec<String> = lines.map(str::to_string).collect();
     let list = |word: &str| numbers(values.get(word).copied().unwrap_or(""));
     let bytes = |word: &str| list(word).iter().map(|&number| number as u8).collect::<Vec<u8>>();
     let pairs = |word: &str| list(word).iter().map(|&number| number as u16).collect::<Vec<u16>>();
@@ -37,6 +37,15 @@ fn read_case(lines: &[&str]) -> Case {
             Call::Run(RunCall { sizes, divisions, start: pairs("start"), labels: bytes("labels"), budget, answer })
         }
         "label" => Call::Label(LabelCall { sizes, divisions, losses: pairs("losses"), buffer: list("buffer")[0] as usize }),
+        "shelf" => {
+            let one = |word: &str| values.get(word).map(|sheet| format!("{word} {sheet}"));
+            let script = values.get("script").map(|script| script.to_string()).or(one("file")).or(one("ask")).expect("a call");
+            Call::Shelf(ShelfCalls {
+                list: pairs("list"),
+                count: list("count")[0] as usize,
+                calls: script.split(", ").map(shelf_call).collect(),
+            })
+        }
         "slip" => {
             let (start, labels) = (pairs("start"), bytes("labels"));
             let composed = Fields {
@@ -55,7 +64,20 @@ fn read_case(lines: &[&str]) -> Case {
         }
         other => panic!("unknown call {other}"),
     };
+    if let (Call::Shelf(_), Some(list)) = (&call, expect.last_mut()) {
+        *list = format!("list {}", spaced(&numbers(list.trim_start_matches("list"))));
+    }
     Case { name, call, expect }
+}
+
+fn shelf_call(text: &str) -> ShelfCall {
+    let (word, sheet) = text.split_once(' ').expect("a call and its sheet");
+    let sheet = sheet.parse().expect("a sheet");
+    match word {
+        "file" => ShelfCall::File(sheet),
+        "ask" => ShelfCall::Ask(sheet),
+        other => panic!("unknown call {other}"),
+    }
 }
 
 /// Numbers with spaces between; `5x2` stands for five times 2, and `-` for none.

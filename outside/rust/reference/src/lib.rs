@@ -8,6 +8,7 @@ pub mod grid;
 pub mod outcome;
 pub mod paper;
 pub mod questions;
+pub mod shelf;
 pub mod slip;
 pub mod small;
 

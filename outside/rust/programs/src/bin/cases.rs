@@ -4,7 +4,7 @@
 
 use programs::calls::{spaced, Call};
 use programs::implementations::Sheet;
-use programs::{all, stored, Implementation};
+use programs::{all, stored, Implementation, ShelfCall};
 use reference::grid::Grid;
 use reference::slip::SHEET_BYTES;
 use reference::{Kind, Outcome};
@@ -35,6 +35,16 @@ fn given(implementation: &dyn Implementation, call: &Call) -> Option<Vec<String>
                 }
             })
         }
+        Call::Shelf(calls) => implementation.has_shelf().then(|| {
+            let answers = implementation.shelf(calls);
+            let last = answers.last().map(|(_, list)| format!("list {}", spaced(list)));
+            let answered = calls.calls.iter().zip(&answers).map(|(call, (answer, _))| match (call, answer) {
+                (_, Err(number)) => format!("refused {number}"),
+                (ShelfCall::File(_), Ok(count)) => format!("count {count}"),
+                (ShelfCall::Ask(_), Ok(sheet)) => format!("current {sheet}"),
+            });
+            answered.chain(last).collect()
+        }),
         Call::Label(label) => {
             let mut labels = vec![0; label.buffer];
             Some(match implementation.label(label, &mut labels) {

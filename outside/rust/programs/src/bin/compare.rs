@@ -26,7 +26,7 @@ struct Tally {
     ends: usize,
     places: u64,
     longest: u64,
-    refusals: [usize; 16],
+    refusals: [usize; 24],
 }
 
 struct Comparison {
@@ -44,6 +44,8 @@ enum Seen {
     Label(Result<usize, u64>, Vec<u8>),
     /// The sheet's length and buffer.
     Slip(usize, Box<Sheet>),
+    /// Each answer, with the list after it.
+    Shelf(Vec<(Result<usize, u64>, Vec<u16>)>),
 }
 
 impl Comparison {
@@ -57,6 +59,7 @@ impl Comparison {
                 Call::Run(run) => self.run(implementation.as_ref(), run),
                 Call::Label(label) => self.label(implementation.as_ref(), label),
                 Call::Slip(slip) => self.slip(implementation.as_ref(), slip),
+                Call::Shelf(calls) => Ok(Seen::Shelf(implementation.shelf(calls))),
             };
             if call != before {
                 self.differs(&before, implementation.name(), "an input is changed");
@@ -146,6 +149,14 @@ impl Tally {
             Seen::Run(Outcome::Spent(_), _) => self.refusals[9] += 1,
             Seen::Label(Ok(_), _) => self.ends += 1,
             Seen::Label(Err(number), _) => self.refusals[*number as usize] += 1,
+            Seen::Shelf(answers) => {
+                for (answer, _) in answers {
+                    match answer {
+                        Ok(_) => self.ends += 1,
+                        Err(number) => self.refusals[*number as usize] += 1,
+                    }
+                }
+            }
             Seen::Slip(length, sheet) => {
                 let text = String::from_utf8_lossy(&sheet[..*length]);
                 let first = text.lines().next().unwrap_or("");
@@ -164,6 +175,7 @@ fn fits(implementation: &dyn Implementation, call: &Call) -> bool {
             Grid::new(sizes, divisions).map_or(true, |grid| implementation.fits(&grid))
         }
         Call::Slip(slip) => implementation.fits_slip(slip),
+        Call::Shelf(_) => implementation.has_shelf(),
     }
 }
 
@@ -186,6 +198,8 @@ fn main() -> ExitCode {
     comparison.part("large games", |take| inputs::games(7, 300, 60_000, take));
     comparison.part("labellings", |take| inputs::random_labellings(8, 20_000, 130, take));
     comparison.part("damaged and cut slips", |take| inputs::damaged_slips(9, 100_000, take));
+    comparison.part("every small shelf", inputs::every_shelf);
+    comparison.part("random shelves", |take| inputs::random_shelves(10, 3_000, take));
     println!("{} differences, {:.1} s in all", comparison.differences, begin.elapsed().as_secs_f64());
     if comparison.differences == 0 {
         ExitCode::SUCCESS
