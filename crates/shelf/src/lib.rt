@@ -33,8 +33,8 @@ fn first_no(list: &[u16], count: usize, named: usize) -> u8
     0
 }
 
-// Files a sheet under the number of the one that it replaces, or 0: questions 21, 22 and 23, on every list and count. Only the entry behind those
-// filed is written, and a refusal writes nothing.
+// Files a sheet under the number of the one that it replaces, or 0: questions 21, 22 and 23, on every list and count.
+// Only the entry behind those filed is written, and a refusal writes nothing.
 pub fn file(list: &mut [u16], count: usize, named: usize) -> Filed
     ensures answer { λ r. ⌜ r ≡ filing (now (list .entry)) count named ⌝ }
     ensures list { λ _. ⌜ now (list .exit) ≡ listAfter (now (list .entry)) count named ⌝ }

@@ -1,14 +1,12 @@
-// Prints what shelves answer to calls, and the whole list after each call. Standard input is pieces of six bytes: a word,
-// or a number of five digits, each with spaces or a line's end behind it. It has the lines
+// Prints what shelves answer to calls, and the whole list after each call. Standard input is pieces of six bytes: a
+// word or a number of five digits, with spaces or a line's end behind it. It has the lines
 //
 //     cases, and how many there are; and of each case
 //     list, its length and the numbers
 //     count, and the count of sheets
 //     calls, and how many there are; and of each call
 //     file or ask, and the sheet named or asked for
-ghost use mathlib.Core.Path.{_≡_};
 ghost use Prim.Native.Nat.{_≤_};
-ghost use lib.ListN.{length};
 use shelf::Current;
 use shelf::Filed;
 

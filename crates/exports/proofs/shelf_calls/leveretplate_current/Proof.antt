@@ -10,14 +10,14 @@ current-requires c κs = search needs
 enum-known-number : tie.Need-enum-known-number
 enum-known-number c = search needs
 
-enum-known-found : tie.Need-enum-known-found
-enum-known-found c = search needs
+enum-known-last : tie.Need-enum-known-last
+enum-known-last c = search needs
 
 returns : tie.Need-returns
 returns c = rw (sym (c .before .before .before .current .ensures) ∙ c .before .number .given .1) (refl, refl)
 
 returns-2 : tie.Need-returns-2
-returns-2 c = rw (sym (c .before .before .before .current .ensures) ∙ c .before .found .given .1) (refl, refl)
+returns-2 c = rw (sym (c .before .before .before .current .ensures) ∙ c .before .last .given .1) (refl, refl)
 
 pub leveretplate-current-spec : {M : Type 1} → statement M
 leveretplate-current-spec =
@@ -25,6 +25,6 @@ leveretplate-current-spec =
     (tie.spec
     current-requires
     enum-known-number
-    enum-known-found
+    enum-known-last
     returns
     returns-2)
