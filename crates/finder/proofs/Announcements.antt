@@ -1,8 +1,8 @@
 -- From where a walk finished to a run's answer: the start in its array is the start, and the points of the last state are the answer's. Assumes nothing.
 use mathlib.Core.Bool.{true}
 use mathlib.Core.List.{List, []}
-use mathlib.Core.Path.{_≡_, sym, ap, _∙_, subst}
-use Prim.Native.Nat.{ℕ, zero, suc, _-_, _*_, _≤_, _<_}
+use mathlib.Core.Path.{_≡_, refl, sym, ap, _∙_, subst}
+use Prim.Native.Nat.{ℕ, suc, _-_, _*_, _≤_, _<_}
 use borrow.Author.Tests.{eqb-true}
 use lib.Dec.{eqb}
 use lib.ListN.{length, length-map, length-replicate, length-take, replicate, take}
@@ -10,7 +10,6 @@ use lib.Seq.{take-length}
 use native.Mathlib.Nat.{mul-le-mul-right}
 use native.Mathlib.Omega.{arith}
 use Rattle.combinatorics.proofs.Basics.{and-left}
-use Rattle.combinatorics.proofs.EditsOfArrays.{counted}
 use Rattle.combinatorics.proofs.Fronts.{front-length, front-taken}
 use Rattle.combinatorics.proofs.Ranges.{length-upFrom}
 use Rattle.combinatorics.specs.Front.{front}
@@ -19,29 +18,23 @@ use Rattle.grid.proofs.Fields.{indices-few, made-indices}
 use Rattle.grid.specs.Grid.{Grid, Point, blockOf, dimension, isGridPoint, numIndices}
 use Rattle.grid.specs.Made.{IsMade, shape}
 use Rattle.grid.specs.declared.Grid.{Grid as GridStruct}
-use Rattle.moves.specs.Read.{numbersFrom, pointIn, pointsFrom, ReadyPoint}
-use Rattle.moves.specs.Ready.{IndicesBelow}
-use Rattle.moves.specs.Step.{stateOf}
-use Rattle.moves.specs.declared.Sets.{Sets}
+use Rattle.moves.specs.Read.{numbersFrom, pointIn, pointsFrom}
+use Rattle.moves.specs.Step.{Round, State}
 use Rattle.place.specs.Demand.{Accepted}
-use Rattle.place.specs.Ends.{Kind}
 use Rattle.place.specs.Path.{answer}
 use Rattle.place.specs.Problem.{Problem}
 use Rattle.marks.specs.Reading.{problemFrom}
-use Rattle.finder.specs.Finish.{Announced, Finished, problemIn}
+use Rattle.finder.specs.Finish.{Announced, Finished, endOf, firstOf, problemIn}
 use Rattle.finder.specs.Run.{caseOf, kindOf, numbersOf}
 use Rattle.finder.specs.declared.answers.Answer.the-variants.{End}
+use Rattle.finder.specs.declared.answers.Kind.{Kind}
+use Rattle.finder.specs.declared.answers.Kind.the-variants.{Place, Facet}
 use Rattle.finder.specs.declared.walk.Finish.{Finish}
 
 -- a grid point has m numbers
 pub point-long : (g : Grid) (y : Point) → isGridPoint g y ≡ true → length y ≡ numIndices g
 unfolding isGridPoint
 point-long g y h = eqb-true (length y) (numIndices g) (and-left (eqb (length y) (numIndices g)) _ h)
-
-pub zeros-below : (n : ℕ) → IndicesBelow (replicate n 0)
-zeros-below zero h l = absurd (omega arith)
-zeros-below (suc n) zero l = omega arith
-zeros-below (suc n) (suc h) l = zeros-below n h (omega arith)
 
 -- the array that the start was copied to holds it
 module _ (g : GridStruct) (made : IsMade g) (start table : List ℕ) (ok : Accepted (problemFrom g start table)) where
@@ -62,40 +55,37 @@ module _ (g : GridStruct) (made : IsMade g) (start table : List ℕ) (ok : Accep
   accepted-in taken e = rw (e, same-problem) ok
 
   -- where a walk from that array finished
-  pub finished-from : (taken : List ℕ) → taken ≡ front (take (g .indices) start) (replicate 16 0) → (budget : ℕ) (f : Finish) (first order takes : List ℕ)
-      → Finished (problemIn g taken table) budget f first order takes → Finished (problemFrom g start table) budget f first order takes
-  finished-from taken e budget f first order takes F = subst (λ (p : Problem). Finished p budget f first order takes) (ap (λ (t : List ℕ). problemIn g t table) e ∙ same-problem) F
+  pub finished-from : (taken : List ℕ) → taken ≡ front (take (g .indices) start) (replicate 16 0) → (budget : ℕ) (round : Round) (first order : List ℕ) (f : Finish)
+      → Finished (problemIn g taken table) budget round first order f → Finished (problemFrom g start table) budget round first order f
+  finished-from taken e budget round first order f F = subst (λ (p : Problem). Finished p budget round first order f) (ap (λ (t : List ℕ). problemIn g t table) e ∙ same-problem) F
+
+-- the kind, there and back
+kind-is : (kind : Kind) → kindOf (endOf kind) ≡ kind
+kind-is Place = refl
+kind-is Facet = refl
 
 -- the answer at an end
-module _ (g : GridStruct) (made : IsMade g) (start table first order takes : List ℕ) (long : length order ≡ 16) (s : Sets) (budget places : ℕ) (kind : Kind) (from : ℕ)
-    (A : Announced (problemFrom g start table) budget kind from (stateOf first [] order [] takes s) places) where
-  count-is : length (take (s .count) order) ≡ s .count
-  count-is = counted order (s .count) long (A .points .few)
-
-  pub index : s .end < g .indices
+module _ (g : GridStruct) (made : IsMade g) (start table : List ℕ) (budget places : ℕ) (kind : Kind) (e : State) (h : ℕ)
+    (A : Announced (problemFrom g start table) budget (endOf kind) (firstOf kind) e h places) where
+  pub index : h < g .indices
   index = omega (arith, A .index, made-indices g made)
 
-  pub points-ready : ReadyPoint takes (take (s .count) order) first (s .count)
-  points-ready = subst (ReadyPoint takes (take (s .count) order) first) count-is (A .points)
-
-  pub from-low : from ≤ s .count
-  from-low = omega (arith, A .low, count-is)
-
   -- its points have room
-  pub room : (n : ℕ) → suc (dimension (shape g)) * numIndices (shape g) ≤ n → (suc (s .count) - from) * g .indices ≤ n
+  pub room : (n : ℕ) → suc (dimension (shape g)) * numIndices (shape g) ≤ n → (suc (length (e .order)) - firstOf kind) * g .indices ≤ n
   room n l =
-      let a : suc (s .count) - from ≤ suc (dimension (shape g)) = omega (arith, A .few, count-is) in
-      let b : (suc (s .count) - from) * numIndices (shape g) ≤ suc (dimension (shape g)) * numIndices (shape g) = mul-le-mul-right (numIndices (shape g)) a in
+      let a : suc (length (e .order)) - firstOf kind ≤ suc (dimension (shape g)) = omega (arith, A .few) in
+      let b : (suc (length (e .order)) - firstOf kind) * numIndices (shape g) ≤ suc (dimension (shape g)) * numIndices (shape g) = mul-le-mul-right (numIndices (shape g)) a in
       rw (made-indices g made) (omega arith)
 
-  number : length (pointsFrom (problemFrom g start table) (stateOf first [] order [] takes s) from) ≡ suc (s .count) - from
+  number : length (pointsFrom (problemFrom g start table) e (firstOf kind)) ≡ suc (length (e .order)) - firstOf kind
   number =
-      length-map (upFrom from (suc (length (take (s .count) order)) - from)) (pointIn (problemFrom g start table) (stateOf first [] order [] takes s))
-      ∙ length-upFrom from (suc (length (take (s .count) order)) - from) ∙ omega (arith, count-is)
+      length-map (upFrom (firstOf kind) (suc (length (e .order)) - firstOf kind)) (pointIn (problemFrom g start table) e)
+      ∙ length-upFrom (firstOf kind) (suc (length (e .order)) - firstOf kind)
 
   -- they are what is written, and the answer is told by their number and the block
-  pub written : numbersFrom (g .indices) (stateOf first [] order [] takes s) from ≡ numbersOf (answer (problemFrom g start table) budget)
+  pub written : numbersFrom (g .indices) e (firstOf kind) ≡ numbersOf (answer (problemFrom g start table) budget)
   written = rw (A .is, made-indices g made)
 
-  pub told : (block vertices : ℕ) → block ≡ suc (blockOf (shape g) (s .end)) → vertices ≡ suc (s .count) - from → End places (kindOf kind) block vertices ≡ caseOf (answer (problemFrom g start table) budget)
-  told block vertices e q = rw (A .is, e, q, number)
+  pub told : (block vertices : ℕ) → block ≡ suc (blockOf (shape g) h) → vertices ≡ suc (length (e .order)) - firstOf kind
+      → End places kind block vertices ≡ caseOf (answer (problemFrom g start table) budget)
+  told block vertices b q = rw (A .is, b, q, number, kind-is kind)

@@ -14,34 +14,33 @@ use Rattle.combinatorics.proofs.Basics.{before-or-not}
 use Rattle.combinatorics.proofs.EditsOfArrays.{first-few}
 use Rattle.combinatorics.specs.Lists.{sum, upFrom}
 use Rattle.grid.proofs.Fields.{following-low, made-blocks, made-indices, made-next, made-previous, previous-low}
-use Rattle.grid.specs.Grid.{at, isGridPoint, numIndices}
+use Rattle.grid.specs.Grid.{at, blockOf, numIndices, size}
 use Rattle.grid.specs.Made.{IsMade, shape}
 use Rattle.grid.specs.declared.Grid.{Grid as GridStruct}
 use Rattle.positions.proofs.Positions.{map-front}
 use Rattle.place.specs.Demand.{Accepted}
 use Rattle.place.specs.Ends.{Kind, placeEnd, facetEnd}
-use Rattle.place.specs.Path.{answer, spent}
 use Rattle.place.specs.Problem.{Problem, label}
-use Rattle.moves.proofs.Describes.{Neighbours}
-use Rattle.moves.proofs.Follow.{At, EndsAt, at-begin, at-beside, at-exchanged, at-facet-end, at-place-end, at-reads, at-ready, at-step, ends-answer}
+use Rattle.moves.proofs.Follow.{At, EndsAt, NextAt, nextPlace, placeEnds, facetEnds, at-begin, at-beside, at-exchanged, at-first, at-next, at-reads, at-ready, ends-answer}
+use Rattle.moves.specs.Held.{roundOf, stateOf}
 use Rattle.moves.specs.Mask.{bit}
-use Rattle.moves.specs.Read.{Exchanged, FallsBeside, ReadyPoint, markOf, pointIn, read}
-use Rattle.moves.specs.Ready.{IndicesBelow, Ready}
-use Rattle.moves.specs.Step.{State, firstOutside, marked, stateOf, step}
-use Rattle.moves.specs.declared.Sets.{Sets}
-use Rattle.marks.specs.Reading.{tableOf}
-use Rattle.finder.specs.Finish.{Announced, Finished, problemIn}
-use Rattle.finder.specs.declared.walk.Finish.{Finish}
+use Rattle.moves.specs.Read.{markOf, pointIn, read, CanCompute, Exchanged, FallsBeside, Falling}
+use Rattle.moves.specs.Ready.{IsRound, RoundBelow}
+use Rattle.moves.specs.Step.{After, Round, State, goes, endsAtPlace, endsAtFacet, step, withMark}
+use Rattle.moves.specs.declared.Status.{Status}
+use Rattle.marks.specs.Reading.{tableOf, CanRead, HasMarks}
+use Rattle.finder.specs.Finish.{Announced, CanVisit, IsBegun, problemIn}
 
--- the arrays of neighbours that a made grid keeps
-module _ (g : GridStruct) (made : IsMade g) where
-  pub below : IndicesBelow (g .previous) × IndicesBelow (g .next)
-  below = ((λ h l. previous-low g made h), (λ h l. following-low g made h))
+-- the ways round the blocks that a made grid keeps
+module _ (g : GridStruct) (made : IsMade g) (sizes : List ℕ) where
+  pub round-below : RoundBelow (roundOf (g .previous) (g .next) sizes)
+  round-below = record { backward = λ h l. previous-low g made h; forward = λ h l. following-low g made h }
 
-  pub neighbours : Neighbours (shape g) (g .previous) (g .next)
-  neighbours = record {
+  pub is-round : ((h : ℕ) → h < g .indices → at sizes h ≡ size (shape g) (blockOf (shape g) h)) → IsRound (shape g) (roundOf (g .previous) (g .next) sizes)
+  is-round at-sizes = record {
     backward = λ h l. made-previous g made h (omega (arith, made-indices g made));
     forward = λ h l. made-next g made h (omega (arith, made-indices g made));
+    size = λ h l. at-sizes h (omega (arith, made-indices g made));
   }
 
 -- no label depends on the start
@@ -54,21 +53,57 @@ pub read-none : (p : Problem) (s : State) → 6 ≤ s .rule → read p s ≡ s
 unfolding read
 read-none p s l = rw (le-ltb (s .rule) 6 l)
 
-pub read-some : (p : Problem) (first coefficients order marks takes : List ℕ) (s : Sets) (m : ℕ) → s .rule < 6
-    → ReadyPoint takes (take (s .count) order) first (s .turn) → m ≡ markOf p (pointIn p (stateOf first [] order [] takes s) (s .turn))
-    → stateOf first coefficients order (set marks (s .turn) m) takes s ≡ read p (stateOf first coefficients order marks takes s)
-unfolding read marked
-read-some p first coefficients order marks takes s m r R e =
-    rw (e, lt-ltb (s .rule) 6 r, take-set-lt (suc (s .count)) marks (s .turn) (markOf p (pointIn p (stateOf first [] order [] takes s) (s .turn))) (omega (arith, R .low, first-few (s .count) order)))
+pub read-some : (p : Problem) (round : Round) (first coefficients order marks : List ℕ) (s : Status) (m : ℕ) → s .rule < 6
+    → CanCompute (stateOf round first coefficients order marks s) (s .active) → m ≡ markOf p (pointIn p (stateOf round first coefficients order marks s) (s .active))
+    → stateOf round first coefficients order (set marks (s .active) m) s ≡ read p (stateOf round first coefficients order marks s)
+unfolding read withMark
+read-some p round first coefficients order marks s m r R e =
+    rw (e, lt-ltb (s .rule) 6 r, take-set-lt (suc (s .count)) marks (s .active) (markOf p (pointIn p (stateOf round first coefficients order marks s) (s .active))) (omega (arith, R .low, first-few (s .count) order)))
+
+-- to read, the way on is not looked at
+module _ (g : GridStruct) (previous next sizes first coefficients order marks : List ℕ) (s : Status) where
+  abbrev a : State
+  a = stateOf (roundOf previous next sizes) first coefficients order marks s
+
+  abbrev back : State
+  back = stateOf (roundOf previous [] sizes) first coefficients order marks s
+
+  pub read-back : CanRead g a → CanRead g back
+  read-back R = record { below = R .below; firstLength = R .firstLength; point = R .point; onGrid = R .onGrid }
+
+  falling-back : (tails : List ℕ) (j lag : ℕ) → Falling (shape g) tails a j lag → Falling (shape g) tails back j lag
+  falling-back tails j lag F = record { falls = F .falls; tail = F .tail }
+
+  pub marks-back : (tails : List ℕ) → HasMarks g tails a → HasMarks g tails back
+  marks-back tails M = record {
+    square = λ one more low. let X = M .square one more low in record {
+      low = X .low;
+      near = X .near;
+      here = X .here;
+      gone = X .gone;
+      far = X .far;
+      toHere = X .toHere;
+      toGone = X .toGone;
+      toFar = X .toFar;
+      indices = X .indices;
+      nearMark = X .nearMark;
+      goneMark = X .goneMark;
+      farMark = X .farMark;
+    };
+    beside = λ one. let B = M .beside one in record {
+      nearMark = B .nearMark;
+      farMark = B .farMark;
+      fromNear = λ m l. falling-back tails _ _ (B .fromNear m l);
+      toFar = λ m l. falling-back tails _ _ (B .toFar m l);
+    };
+  }
 
 -- where a walk begins
 module _ (g : GridStruct) (made : IsMade g) (first table : List ℕ) (ok : Accepted (problemIn g first table)) where
-  pub begins : length first ≡ 16 → (order takes : List ℕ) (s : Sets) → s .rule ≡ 1 → s .end ≡ 0 → s .count ≡ 0 → s .t ≡ 0 → s .turn ≡ 0
-      → ((k : ℕ) → k < 16 → bit (s .u) k ≡ (ltb k (g .indices) && eqb (at first k) 0))
-      → length takes ≡ 16 → IndicesBelow takes → ((h : ℕ) → h < g .indices → at takes h ≡ firstOutside (g .previous) (s .u) h)
-      → At (problemIn g first table) (stateOf first (replicate 16 0) order (replicate 16 0) takes s) 0
-  begins size order takes s a b c d e zero-at many low from =
-      rw (a, b, c, d, e) (at-begin ok (neighbours g made) first (s .u) takes size (λ k l. sym (start-at k l)) mask-at many low (λ h l. from h (omega (arith, m))))
+  pub begins : {round : Round} → IsRound (shape g) round → length first ≡ 16 → (order : List ℕ) (s : Status) → IsBegun first (g .indices) s
+      → At (problemIn g first table) (stateOf round first (replicate 16 0) order (replicate 16 0) s) 0
+  begins N size order s B =
+      rw (B .rule, B .none, B .empty, B .active) (at-begin ok N first (s .u) size (λ k l. sym (start-at k l)) mask-at)
     where
       m : g .indices ≡ numIndices (shape g)
       m = made-indices g made
@@ -78,62 +113,51 @@ module _ (g : GridStruct) (made : IsMade g) (first table : List ℕ) (ok : Accep
 
       mask-at : (k : ℕ) → k < 16 → bit (s .u) k ≡ (ltb k (numIndices (shape g)) && eqb (at (take (g .indices) first) k) 0)
       mask-at k l =
-          ⊎-elim (λ (x : k < g .indices). zero-at k l ∙ rw (lt-ltb k (g .indices) x, lt-ltb k (numIndices (shape g)) (omega (arith, m)), start-at k (omega (arith, m))))
-          (λ (x : g .indices ≤ k). zero-at k l ∙ rw (le-ltb k (g .indices) x, le-ltb k (numIndices (shape g)) (omega (arith, m))))
+          ⊎-elim (λ (x : k < g .indices). B .zeros k l ∙ rw (lt-ltb k (g .indices) x, lt-ltb k (numIndices (shape g)) (omega (arith, m)), start-at k (omega (arith, m))))
+          (λ (x : g .indices ≤ k). B .zeros k l ∙ rw (le-ltb k (g .indices) x, le-ltb k (numIndices (shape g)) (omega (arith, m))))
           (before-or-not k (g .indices))
 
 -- one place of the walk: what it needs, and where it leads
-module _ (g : GridStruct) (made : IsMade g) (start table : List ℕ) (ok : Accepted (problemIn g start table)) (s after : State) (k : ℕ) (A : At (problemIn g start table) s k) where
+module _ (g : GridStruct) (made : IsMade g) (start table : List ℕ) (ok : Accepted (problemIn g start table)) (s : State) (k : ℕ) (A : At (problemIn g start table) s k) where
   abbrev p : Problem
   p = problemIn g start table
 
-  pub ready : Ready (g .previous) (g .next) (read (tableOf g table) s)
-  ready = rw (same-read g start table s) (at-ready ok (neighbours g made) A)
+  pub visits : RoundBelow (s .round) → (tails : List ℕ) → ((k : ℕ) → k < g .indices → at tails k ≡ sum (map (at start) (upFrom k (g .indices - k)))) → CanVisit g tails table s
+  visits below tails are = record {
+    below = below;
+    reads = λ r. let w = at-reads ok A in record { below = below .backward; firstLength = at-first ok A; point = w .0; onGrid = w .1 };
+    marks = λ r. record {
+      square = at-exchanged ok A;
+      beside = λ one. let m = made-indices g made in
+          at-beside ok A r (sym (made-blocks g made) ∙ one) tails
+          (λ k l. rw (← m) (are k (omega arith) ∙ ap sum (sym (map-front start (g .indices) k (g .indices - k) (omega arith)))));
+    };
+    ready = rw (same-read g start table s) (at-ready ok A);
+  }
 
-  pub reads : IndicesBelow (s .takes) × ReadyPoint (s .takes) (s .order) (s .first) (s .turn) × (isGridPoint (shape g) (pointIn p s (s .turn)) ≡ true)
-  reads = at-reads ok (neighbours g made) A
+  pub leads : (after : After) → after ≡ step (read (tableOf g table) s) → NextAt p k after
+  leads after moved = subst (NextAt p k) (sym (moved ∙ ap step (same-read g start table s))) (at-next ok A)
 
-  pub square : s .rule ≡ 1 → 0 < s .turn → s .turn < length (s .order) → Exchanged (shape g) (s .first) (s .order) (s .marks) (s .takes) (s .turn)
-  square = at-exchanged ok (neighbours g made) A
+pub on-path : {p : Problem} {k : ℕ} {e : State} → NextAt p k (goes e) → At p e (suc k)
+on-path (nextPlace A) = A
 
-  pub beside : s .rule < 6 → g .blocks ≡ 1 → (tails : List ℕ) → ((k : ℕ) → k < g .indices → at tails k ≡ sum (map (at start) (upFrom k (g .indices - k))))
-      → FallsBeside (shape g) tails (s .first) (s .coefficients) (s .order) (s .marks) (s .takes) (s .turn)
-  beside r one tails are =
-      let m = made-indices g made in
-      at-beside ok (neighbours g made) A r (sym (made-blocks g made) ∙ one) tails
-      (λ k l. rw (← m) (are k (omega arith) ∙ ap sum (sym (map-front start (g .indices) k (g .indices - k) (omega arith)))))
+-- at an end, that is the answer
+module _ (p : Problem) (budget : ℕ) (round : Round) (first coefficients order marks : List ℕ) (s : Status) (h k places : ℕ) (q : places ≡ suc k) (l : k < budget) where
+  abbrev last : State
+  last = stateOf round first coefficients order marks s
 
-  module _ (moved : after ≡ step (g .previous) (g .next) (read (tableOf g table) s)) where
-    is-next : step (g .previous) (g .next) (read p s) ≡ after
-    is-next = sym (moved ∙ ap (step (g .previous) (g .next)) (same-read g start table s))
-
-    pub goes-on : (after .rule ≡ 0 → ⊥) → (after .rule ≡ 8 → ⊥) → At p after (suc k)
-    goes-on a b = subst (λ (z : State). (z .rule ≡ 0 → ⊥) → (z .rule ≡ 8 → ⊥) → At p z (suc k)) is-next (at-step ok (neighbours g made) A) a b
-
-    pub ends-place : after .rule ≡ 0 → EndsAt p placeEnd 0 after k
-    ends-place = subst (λ (z : State). z .rule ≡ 0 → EndsAt p placeEnd 0 z k) is-next (at-place-end ok (neighbours g made) A)
-
-    pub ends-facet : after .rule ≡ 8 → EndsAt p facetEnd 1 after k
-    ends-facet = subst (λ (z : State). z .rule ≡ 8 → EndsAt p facetEnd 1 z k) is-next (at-facet-end ok (neighbours g made) A)
-
--- the outcomes of a walk
-module _ (p : Problem) (budget : ℕ) (f : Finish) (first coefficients order marks takes : List ℕ) where
-  announced : (kind : Kind) (from k : ℕ) → EndsAt p kind from (stateOf first coefficients order marks takes (f .sets)) k → f .places ≡ suc k → k < budget
-      → Announced p budget kind from (stateOf first [] order [] takes (f .sets)) (f .places)
-  announced kind from k E q l = record {
+  announced : (kind : Kind) (from : ℕ) → EndsAt p kind from last h k → Announced p budget kind from (stateOf round first [] order [] s) h places
+  announced kind from E = record {
+    firstLength = E .firstLength;
     index = E .index;
     few = E .few;
     low = E .low;
-    takesBelow = E .takesBelow;
-    points = E .points (length (take (f .sets .count) order)) (omega arith);
+    points = E .points;
     is = rw q (ends-answer E budget l);
   }
 
-  pub finished-place : (k : ℕ) → EndsAt p placeEnd 0 (stateOf first coefficients order marks takes (f .sets)) k → f .sets .rule ≡ 0 → f .places ≡ suc k → k < budget → length order ≡ 16 → Finished p budget f first order takes
-  finished-place k E e q l o = record { firstLength = E .firstLength; orderLength = o; place = λ _. announced placeEnd 0 k E q l; facet = λ r. absurd (omega arith); neither = λ n _. absurd (n e) }
+  pub announced-place : NextAt p k (endsAtPlace last h) → Announced p budget placeEnd 0 (stateOf round first [] order [] s) h places
+  announced-place (placeEnds E) = announced placeEnd 0 E
 
-  pub finished-facet : (k : ℕ) → EndsAt p facetEnd 1 (stateOf first coefficients order marks takes (f .sets)) k → f .sets .rule ≡ 8 → f .places ≡ suc k → k < budget → length order ≡ 16 → Finished p budget f first order takes
-  finished-facet k E e q l o = record { firstLength = E .firstLength; orderLength = o; place = λ r. absurd (omega arith); facet = λ _. announced facetEnd 1 k E q l; neither = λ _ n. absurd (n e) }
-
-  pub finished-spent : (f .sets .rule ≡ 0 → ⊥) → (f .sets .rule ≡ 8 → ⊥) → answer p budget ≡ spent budget → f .places ≡ budget → length first ≡ 16 → length order ≡ 16 → Finished p budget f first order takes
-  finished-spent a b e q i o = record { firstLength = i; orderLength = o; place = λ r. absurd (a r); facet = λ r. absurd (b r); neither = λ _ _. (e, q) }
+  pub announced-facet : NextAt p k (endsAtFacet last h) → Announced p budget facetEnd 1 (stateOf round first [] order [] s) h places
+  announced-facet (facetEnds E) = announced facetEnd 1 E

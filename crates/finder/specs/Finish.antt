@@ -1,21 +1,31 @@
 -- What the walk along the path needs of its grid and table, and what it gives. The run's own promise does not cite it. Assumes nothing.
+use mathlib.Core.Bool.{_&&_}
 use mathlib.Core.List.{List, [], _∷_}
 use mathlib.Core.Path.{_≡_}
-use Prim.Native.Nat.{ℕ, suc, _≤_, _<_}
+use Prim.Native.Nat.{ℕ, suc, _*_, _≤_, _<_}
+use lib.Dec.{eqb, ltb}
 use lib.ListN.{length, take}
 use Rattle.questions.specs.Questions.{Question}
-use Rattle.grid.specs.Grid.{blockOf, dimension, numIndices}
+use Rattle.grid.specs.Grid.{at, blockOf, dimension, numIndices}
+use Rattle.grid.specs.Made.{shape}
 use Rattle.grid.specs.Questions.{question5}
 use Rattle.grid.specs.declared.Grid.{Grid as GridStruct}
-use Rattle.place.specs.Ends.{Kind, placeEnd, facetEnd}
+use Rattle.place.specs.Demand.{Accepted}
+use Rattle.place.specs.Ends.{Kind as KindOfEnd, placeEnd, facetEnd}
 use Rattle.place.specs.Path.{answer, ended, spent}
 use Rattle.place.specs.Problem.{Problem}
 use Rattle.place.specs.Questions.{question6, question7, question8}
-use Rattle.moves.specs.Ready.{IndicesBelow}
-use Rattle.moves.specs.Read.{pointsFrom, ReadyPoint}
-use Rattle.moves.specs.Step.{State, stateOf}
-use Rattle.marks.specs.Reading.{problemFrom}
+use Rattle.moves.specs.Held.{stateOf}
+use Rattle.moves.specs.Mask.{bit}
+use Rattle.moves.specs.Ready.{IsRound, RoundBelow, Ready}
+use Rattle.moves.specs.Read.{pointsFrom, read, CanCompute}
+use Rattle.moves.specs.Step.{Round, State}
+use Rattle.moves.specs.declared.Status.{Status}
+use Rattle.marks.specs.Reading.{problemFrom, tableOf, CanRead, HasMarks, Readable}
+use Rattle.finder.specs.declared.answers.Kind.{Kind}
+use Rattle.finder.specs.declared.answers.Kind.the-variants.{Place, Facet}
 use Rattle.finder.specs.declared.walk.Finish.{Finish}
+use Rattle.finder.specs.declared.walk.Finish.the-variants.{Ended, Spent}
 
 -- with the start that the first array holds
 abbrev pub problemIn : GridStruct → List ℕ → List ℕ → Problem
@@ -25,19 +35,57 @@ problemIn g first table = problemFrom g (take (g .indices) first) table
 abbrev pub laterQuestions : Problem → ℕ → List Question
 laterQuestions p room = question5 (p .grid) (p .start) ∷ question6 p ∷ question7 p ∷ question8 (p .grid) room ∷ []
 
--- the state e stands at an end, which is the answer: `places` places, an end of the kind given, and as simplex the points of e from number `from` on
-pub record Announced (p : Problem) (budget : ℕ) (kind : Kind) (from : ℕ) (e : State) (places : ℕ) : Type 0 where
-  pub index : e .end < numIndices (p .grid)
-  pub few : length (e .order) ≤ dimension (p .grid)
-  pub low : from ≤ length (e .order)
-  pub takesBelow : IndicesBelow (e .takes)
-  pub points : ReadyPoint (e .takes) (e .order) (e .first) (length (e .order))
-  pub is : answer p budget ≡ ended places kind (suc (blockOf (p .grid) (e .end))) (length (pointsFrom p e from)) (pointsFrom p e from)
+-- what a run asks behind the questions
+pub record CanRun (g : GridStruct) (binomials start labels answer : List ℕ) : Type 0 where
+  pub readable : Readable g binomials labels
+  pub accepted : Accepted (problemFrom g start labels)
+  pub room : suc (dimension (shape g)) * numIndices (shape g) ≤ length answer
 
--- where a walk of at most `budget` places ends, with the first point, the order and what steps take from at the last place in its arrays
-pub record Finished (p : Problem) (budget : ℕ) (f : Finish) (first order takes : List ℕ) : Type 0 where
+-- what the walk asks
+pub record CanWalk (g : GridStruct) (round : Round) (binomials first order table : List ℕ) : Type 0 where
+  pub readable : Readable g binomials table
+  pub isRound : IsRound (shape g) round
+  pub below : RoundBelow round
+  pub accepted : Accepted (problemIn g first table)
   pub firstLength : length first ≡ 16
   pub orderLength : length order ≡ 16
-  pub place : f .sets .rule ≡ 0 → Announced p budget placeEnd 0 (stateOf first [] order [] takes (f .sets)) (f .places)
-  pub facet : f .sets .rule ≡ 8 → Announced p budget facetEnd 1 (stateOf first [] order [] takes (f .sets)) (f .places)
-  pub neither : (f .sets .rule ≡ 0 → ⊥) → (f .sets .rule ≡ 8 → ⊥) → (answer p budget ≡ spent budget) × (f .places ≡ budget)
+
+-- what one place of it asks
+pub record CanVisit (g : GridStruct) (tails table : List ℕ) (a : State) : Type 0 where
+  pub below : RoundBelow (a .round)
+  pub reads : a .rule < 6 → CanRead g a
+  pub marks : a .rule < 6 → HasMarks g tails a
+  pub ready : Ready (read (tableOf g table) a)
+
+-- the status at {v}, before the mark of its one point is read
+pub record IsBegun (first : List ℕ) (m : ℕ) (s : Status) : Type 0 where
+  pub rule : s .rule ≡ 1
+  pub none : s .count ≡ 0
+  pub empty : s .t ≡ 0
+  pub active : s .active ≡ 0
+  pub zeros : (k : ℕ) → k < 16 → bit (s .u) k ≡ (ltb k m && eqb (at first k) 0)
+
+-- document 01's kind of end, and the number of the first point of the complete simplex
+abbrev pub endOf : Kind → KindOfEnd
+endOf Place = placeEnd
+endOf Facet = facetEnd
+
+abbrev pub firstOf : Kind → ℕ
+firstOf Place = 0
+firstOf Facet = 1
+
+-- the state e stands at an end, which is the answer: `places` places, an end of the kind given for the block of h, and as simplex the points of
+-- e from number `from` on
+pub record Announced (p : Problem) (budget : ℕ) (kind : KindOfEnd) (from : ℕ) (e : State) (h places : ℕ) : Type 0 where
+  pub firstLength : length (e .first) ≡ 16
+  pub index : h < numIndices (p .grid)
+  pub few : length (e .order) ≤ dimension (p .grid)
+  pub low : from ≤ length (e .order)
+  pub points : CanCompute e (length (e .order))
+  pub is : answer p budget ≡ ended places kind (suc (blockOf (p .grid) h)) (length (pointsFrom p e from)) (pointsFrom p e from)
+
+-- where a walk of at most `budget` places ends, with the first point and the order at the last place in its arrays
+abbrev pub Finished : Problem → ℕ → Round → List ℕ → List ℕ → Finish → Type 0
+Finished p budget round first order (Ended kind places h s) =
+    Announced p budget (endOf kind) (firstOf kind) (stateOf round first [] order [] s) h places × (length order ≡ 16)
+Finished p budget round first order Spent = answer p budget ≡ spent budget

@@ -1,24 +1,23 @@
 // The run on a label table: the customer's call.
 ghost use mathlib.Core.Path.{_≡_};
-ghost use Prim.Native.Nat.{suc, _*_, _≤_, _<_};
+ghost use Prim.Native.Nat.{suc, _<_};
 ghost use lib.ListN.{length};
 ghost use Rattle.combinatorics.specs.Front.{front};
 ghost use Rattle.questions.specs.Questions.{firstNo};
-ghost use Rattle.grid.specs.Grid.{blockOf, dimension, numIndices};
+ghost use Rattle.grid.specs.Grid.{blockOf};
 ghost use Rattle.grid.specs.Made.{IsMade, shape};
-ghost use Rattle.place.specs.Demand.{Accepted};
-ghost use Rattle.place.specs.Path.{answer as answerOf};
+ghost use Rattle.place.specs.Path.{Answer as PathAnswer, answer as answerOf};
 ghost use Rattle.place.specs.Problem.{problemOf};
-ghost use Rattle.marks.specs.Reading.{Readable, problemFrom};
-ghost use Rattle.finder.specs.Finish.{laterQuestions};
+ghost use Rattle.marks.specs.Reading.{problemFrom};
+ghost use Rattle.finder.specs.Finish.{CanRun, firstOf, laterQuestions};
 ghost use Rattle.finder.specs.Run.{caseOf, numbersOf, runAnswer, runBuffer};
 use crate::labels::all_indices;
-use crate::walk::FACET_END;
-use crate::walk::PLACE_END;
+use crate::walk::Finish;
 use crate::walk::walk;
 use grid::Grid;
+use moves::block_sizes;
+use moves::padded;
 use moves::put_points;
-use moves::taken;
 
 // The kind of end: a complete place, or what remains of a place less one point.
 pub enum Kind {
@@ -50,6 +49,16 @@ fn block_number(g: Grid, h: usize) -> u8
     j as u8 + 1
 }
 
+// The number of the first point of the complete simplex: a facet end leaves out the first point of its place.
+fn first_vertex(kind: Kind) -> usize
+    ensures { λ r. ⌜ r ≡ firstOf kind ⌝ }
+{
+    match kind {
+        Kind::Place => 0,
+        Kind::Facet => 1,
+    }
+}
+
 // The walk along the path of an accepted table, and its answer.
 fn announced(
     g: Grid,
@@ -59,46 +68,47 @@ fn announced(
     answer: &mut [u16],
     budget: u64,
 ) -> Answer
-    requires { ⌜ Readable g (now binomials) (now labels) × Accepted (problemFrom g (now start) (now labels)) × (suc (dimension (shape g)) * numIndices (shape g) ≤ length (now answer)) ⌝ }
-    ensures { λ r. ⌜ (r ≡ caseOf (answerOf (problemFrom g (now (start .entry)) (now (labels .entry))) budget))
-        × (now (answer .exit) ≡ front (numbersOf (answerOf (problemFrom g (now (start .entry)) (now (labels .entry))) budget)) (now (answer .entry))) ⌝ }
+    ghost { PathAnswer }
+    requires { λ p. ⌜ answerOf (problemFrom g (now start) (now labels)) budget ≡ p ⌝ }
+    requires { λ _. ⌜ CanRun g (now binomials) (now start) (now labels) (now answer) ⌝ }
+    ensures { λ p r. ⌜ r ≡ caseOf p ⌝ }
+    ensures { λ p _. ⌜ now (answer .exit) ≡ front (numbersOf p) (now (answer .entry)) ⌝ }
 {
     let m = g.indices;
-    let mut first = taken(start, m);
+    let previous = g.previous;
+    let next = g.next;
+    let sizes = block_sizes(g);
+    let mut first = padded(start, m);
     let mut order = [0u32; 16];
-    let mut takes = [0u8; 16];
-    let f = walk(
+    let finish = walk(
         g,
         binomials,
         labels,
+        &previous,
+        &next,
+        &sizes,
         &mut first,
         &mut order,
-        &mut takes,
         budget,
     );
-    let places = f.places;
-    let s = f.sets;
-    if s.rule == PLACE_END {
-        let block = block_number(g, s.end);
-        let vertices = put_points(answer, &first, &order, &takes, s, m, 0);
-        return Answer::End {
-            places,
-            kind: Kind::Place,
-            block,
-            vertices,
-        };
+    let Finish::Ended {
+        kind,
+        places,
+        index,
+        status,
+    } = finish
+    else {
+        return Answer::Spent(budget);
+    };
+    let block = block_number(g, index);
+    let from = first_vertex(kind);
+    let vertices = put_points(answer, &previous, &sizes, &first, &order, status, m, from);
+    Answer::End {
+        places,
+        kind,
+        block,
+        vertices,
     }
-    if s.rule == FACET_END {
-        let block = block_number(g, s.end);
-        let vertices = put_points(answer, &first, &order, &takes, s, m, 1);
-        return Answer::End {
-            places,
-            kind: Kind::Facet,
-            block,
-            vertices,
-        };
-    }
-    Answer::Spent(places)
 }
 
 // Questions 5 to 8, on a grid that is accepted: the number of the first that is answered no, or 0.
@@ -125,8 +135,10 @@ fn first_no(g: Grid, start: &[u16], labels: &[u8], room: usize) -> u8
 // Questions 5 to 9 in document 01's order, on a grid that is made. The printer calls it too: a slip has answered questions 1 to 4.
 pub fn run_on(g: Grid, start: &[u16], labels: &[u8], answer: &mut [u16], budget: u64) -> Answer
     requires { ⌜ IsMade g ⌝ }
-    ensures answer { λ r. ⌜ r ≡ runAnswer (problemFrom g (now (start .entry)) (now (labels .entry))) (length (now (answer .entry))) budget ⌝ }
-    ensures buffer { λ _. ⌜ now (answer .exit) ≡ runBuffer (problemFrom g (now (start .entry)) (now (labels .entry))) budget (now (answer .entry)) ⌝ }
+    ensures answer { λ r. ⌜ r
+        ≡ runAnswer (problemFrom g (now (start .entry)) (now (labels .entry))) (length (now (answer .entry))) budget ⌝ }
+    ensures buffer { λ _. ⌜ now (answer .exit)
+        ≡ runBuffer (problemFrom g (now (start .entry)) (now (labels .entry))) budget (now (answer .entry)) ⌝ }
 {
     let number = first_no(g, start, labels, answer.len());
     if number != 0 {
@@ -147,8 +159,12 @@ pub fn run(
     answer: &mut [u16],
     budget: u64,
 ) -> Answer
-    ensures answer { λ r. ⌜ r ≡ runAnswer (problemOf (now (sizes .entry)) (now (divisions .entry)) (now (start .entry)) (now (labels .entry))) (length (now (answer .entry))) budget ⌝ }
-    ensures buffer { λ r. ⌜ now (answer .exit) ≡ runBuffer (problemOf (now (sizes .entry)) (now (divisions .entry)) (now (start .entry)) (now (labels .entry))) budget (now (answer .entry)) ⌝ }
+    ensures answer { λ r. ⌜ r ≡ runAnswer
+        (problemOf (now (sizes .entry)) (now (divisions .entry)) (now (start .entry)) (now (labels .entry)))
+        (length (now (answer .entry))) budget ⌝ }
+    ensures buffer { λ r. ⌜ now (answer .exit) ≡ runBuffer
+        (problemOf (now (sizes .entry)) (now (divisions .entry)) (now (start .entry)) (now (labels .entry)))
+        budget (now (answer .entry)) ⌝ }
 {
     let made = Grid::new(sizes, divisions);
     let code = made.code;

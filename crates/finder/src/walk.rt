@@ -1,33 +1,30 @@
 // The walk from {v} along the path, place by place. Only this crate calls these functions.
-ghost use mathlib.Core.Bool.{_&&_};
 ghost use mathlib.Core.Path.{_≡_};
-ghost use Prim.Native.Nat.{ℕ, _≤_, _<_};
-ghost use lib.Dec.{eqb, ltb};
-ghost use lib.ListN.{length};
-ghost use Rattle.grid.specs.Grid.{at};
-ghost use Rattle.place.specs.Demand.{Accepted};
-ghost use Rattle.moves.specs.Mask.{bit};
+ghost use Prim.Native.Nat.{_≤_};
+ghost use Rattle.marks.specs.Reading.{Readable, tableOf};
+ghost use Rattle.moves.specs.Held.{GivesAll, held, round};
 ghost use Rattle.moves.specs.Read.{read};
-ghost use Rattle.moves.specs.Ready.{IndicesBelow, Ready, SixteenEach};
-ghost use Rattle.moves.specs.Step.{stateOf};
-ghost use Rattle.moves.specs.Step.{step as stepOf};
-ghost use Rattle.marks.specs.Reading.{tableOf, Readable, ReadyRead, ReadySquare, ReadyBeside};
-ghost use Rattle.finder.specs.Finish.{problemIn, Finished};
+ghost use Rattle.moves.specs.Ready.{SixteenEach};
+ghost use Rattle.moves.specs.Step.{Round, State, step as stepOf};
+ghost use Rattle.finder.specs.Finish.{CanVisit, CanWalk, Finished, IsBegun, problemIn};
+use crate::answers::Kind;
 use grid::Grid;
 use marks::mark_in;
-use moves::Sets;
-use moves::fill_takes;
+use moves::Outcome;
+use moves::Status;
 use moves::step;
 use moves::zeros;
 
-pub const PLACE_END: u8 = 0;
-
-pub const FACET_END: u8 = 8;
-
-// The places visited, and the sets at the last: at an end, or where the budget was spent.
-pub struct Finish {
-    pub places: u64,
-    pub sets: Sets,
+// How a walk ended: at the path's end, after so many places, with an index of the block for which the simplex is complete and the status at the
+// last place; or with the budget spent.
+pub enum Finish {
+    Ended {
+        kind: Kind,
+        places: u64,
+        index: usize,
+        status: Status,
+    },
+    Spent,
 }
 
 // One place: the mark of the point that has just come in is read, and the move is made.
@@ -36,72 +33,53 @@ fn visit(
     binomials: &[u16; 1255],
     tails: &[u32; 16],
     table: &[u8],
+    previous: &[u8; 16],
+    next: &[u8; 16],
+    sizes: &[u8; 16],
     first: &mut [u16; 16],
     coefficients: &mut [u16; 16],
     order: &mut [u32; 16],
     marks: &mut [u32; 16],
-    takes: &mut [u8; 16],
-    s: Sets,
-) -> Sets
-    requires { ⌜ Readable g (now binomials) (now table) × SixteenEach (now order) (now marks) ⌝ }
-    requires { ⌜ (s .rule < 6 → ReadyRead g (now first) (now order) (now takes) s × ReadySquare g (now first) (now order) (now marks) (now takes) s × ReadyBeside g (now tails) (now first) (now coefficients) (now order) (now marks) (now takes) s) ⌝ }
-    requires { ⌜ Ready (g .previous) (g .next) (read (tableOf g (now table)) (stateOf (now first) (now coefficients) (now order) (now marks) (now takes) s)) ⌝ }
-    ensures { λ r. ⌜ (stateOf (now (first .exit)) (now (coefficients .exit)) (now (order .exit)) (now (marks .exit)) (now (takes .exit)) r
-        ≡ stepOf (g .previous) (g .next) (read (tableOf g (now (table .entry))) (stateOf (now (first .entry)) (now (coefficients .entry)) (now (order .entry)) (now (marks .entry)) (now (takes .entry)) s)))
-        × SixteenEach (now (order .exit)) (now (marks .exit)) ⌝ }
+    s: Status,
+) -> Outcome
+    ghost { State }
+    requires { λ a. ⌜ held (round previous next sizes) first coefficients order marks s ≡ a ⌝ }
+    requires { λ _. ⌜ Readable g (now binomials) (now table) × SixteenEach (now order) (now marks) ⌝ }
+    requires { λ a. ⌜ CanVisit g (now tails) (now table) a ⌝ }
+    ensures { λ a r. ⌜ GivesAll a first coefficients order marks s r (stepOf (read (tableOf g (now (table .entry))) a)) ⌝ }
 {
-    let previous = g.previous;
-    let next = g.next;
     if 6 <= s.rule {
-        return step(
-            &previous,
-            &next,
-            first,
-            coefficients,
-            order,
-            marks,
-            takes,
-            s,
-        );
+        return step(previous, next, sizes, first, coefficients, order, marks, s);
     }
-    let i = s.turn;
+    let i = s.active;
     marks[i] = mark_in(
         g,
         binomials,
         tails,
         table,
+        previous,
+        sizes,
         first,
         coefficients,
         order,
         marks,
-        takes,
         s,
     );
-    step(
-        &previous,
-        &next,
-        first,
-        coefficients,
-        order,
-        marks,
-        takes,
-        s,
-    )
+    step(previous, next, sizes, first, coefficients, order, marks, s)
 }
 
 // {v}, before the mark of its one point is read.
-fn begin(first: &[u16; 16], m: usize) -> Sets
+fn begin(first: &[u16; 16], m: usize) -> Status
     requires { ⌜ m ≤ 16 ⌝ }
-    ensures { λ r. ⌜ (r .rule ≡ 1) × (r .end ≡ 0) × (r .count ≡ 0) × (r .t ≡ 0) × (r .turn ≡ 0) × ((k : ℕ) → k < 16 → bit (r .u) k ≡ (ltb k m && eqb (at (now (first .entry)) k) 0)) ⌝ }
+    ensures { λ r. ⌜ IsBegun (now (first .entry)) m r ⌝ }
 {
     let u = zeros(first, m);
-    Sets {
+    Status {
         rule: 1,
-        end: 0,
         count: 0,
         t: 0,
         u,
-        turn: 0,
+        active: 0,
     }
 }
 
@@ -110,52 +88,61 @@ pub fn walk(
     g: Grid,
     binomials: &[u16; 1255],
     table: &[u8],
+    previous: &[u8; 16],
+    next: &[u8; 16],
+    sizes: &[u8; 16],
     first: &mut [u16; 16],
     order: &mut [u32; 16],
-    takes: &mut [u8; 16],
     budget: u64,
 ) -> Finish
-    requires { ⌜ Readable g (now binomials) (now table) × Accepted (problemIn g (now first) (now table)) × (length (now first) ≡ 16) × (length (now order) ≡ 16) ⌝ }
-    requires { ⌜ IndicesBelow (now takes) × (length (now takes) ≡ 16) ⌝ }
-    ensures { λ r. ⌜ Finished (problemIn g (now (first .entry)) (now (table .entry))) budget r (now (first .exit)) (now (order .exit)) (now (takes .exit)) ⌝ }
+    ghost { Round }
+    requires { λ w. ⌜ round previous next sizes ≡ w ⌝ }
+    requires { λ w. ⌜ CanWalk g w (now binomials) (now first) (now order) (now table) ⌝ }
+    ensures { λ w r. ⌜ Finished (problemIn g (now (first .entry)) (now (table .entry))) budget w
+        (now (first .exit)) (now (order .exit)) r ⌝ }
 {
-    let previous = g.previous;
     let mut coefficients = [0u16; 16];
     let mut marks = [0u32; 16];
     let mut s = begin(first, g.indices);
-    fill_takes(takes, &previous, s.u, g.indices);
     let tails = positions::tails(first, g.indices);
     let mut left = budget;
     while 0 < left {
-        let next = visit(
+        let outcome = visit(
             g,
             binomials,
             &tails,
             table,
+            previous,
+            next,
+            sizes,
             first,
             &mut coefficients,
             order,
             &mut marks,
-            takes,
             s,
         );
         left -= 1;
-        if next.rule == PLACE_END {
-            return Finish {
-                places: budget - left,
-                sets: next,
-            };
+        match outcome {
+            Outcome::Moved(status) => {
+                s = status;
+            }
+            Outcome::PlaceEnd(index) => {
+                return Finish::Ended {
+                    kind: Kind::Place,
+                    places: budget - left,
+                    index,
+                    status: s,
+                };
+            }
+            Outcome::FacetEnd(index) => {
+                return Finish::Ended {
+                    kind: Kind::Facet,
+                    places: budget - left,
+                    index,
+                    status: s,
+                };
+            }
         }
-        if next.rule == FACET_END {
-            return Finish {
-                places: budget - left,
-                sets: next,
-            };
-        }
-        s = next;
     }
-    Finish {
-        places: budget,
-        sets: s,
-    }
+    Finish::Spent
 }

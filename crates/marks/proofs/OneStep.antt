@@ -1,90 +1,103 @@
 -- In a grid of one block: the position of the point that has come in, by the step to it and by the step from it. Assumes nothing.
-use mathlib.Core.Bool.{cond}
-use mathlib.Core.List.{List, []}
+use mathlib.Core.Bool.{true, false, _||_, cond}
+use mathlib.Core.List.{List}
+use mathlib.Core.Logic.{⊎-elim}
 use mathlib.Core.Path.{_≡_, _∙_}
-use Prim.Native.Nat.{ℕ, suc, _+_, _-_, _/_, _≤_, _<_}
-use borrow.Author.Tests.{lt-ltb}
+use Prim.Native.Nat.{ℕ, suc, _+_, _-_, _≤_, _<_}
+use borrow.Author.Tests.{lt-ltb, le-ltb}
 use lib.Dec.{ltb}
-use lib.ListN.{length, length-take, take}
+use lib.ListN.{length}
 use native.Mathlib.Omega.{arith}
+use Rattle.combinatorics.proofs.Basics.{before-or-not, true-or-false}
 use Rattle.grid.proofs.Fields.{made-accepted, made-indices}
 use Rattle.positions.proofs.ByTails.{falls-room}
 use Rattle.positions.proofs.Positions.{position-below}
 use Rattle.positions.specs.Falls.{Falls, tailFrom}
-use Rattle.grid.specs.Grid.{Point, at, division, position}
+use Rattle.grid.specs.Grid.{Grid, position}
 use Rattle.grid.specs.Made.{IsMade, shape}
 use Rattle.grid.specs.declared.Grid.{Grid as GridStruct}
-use Rattle.moves.specs.Read.{Falling, FallsBeside, pointBy, pointOn}
-use Rattle.moves.specs.Ready.{IndicesBelow}
-use Rattle.moves.specs.Step.{stateOf}
-use Rattle.moves.specs.declared.Sets.{Sets}
-use Rattle.marks.proofs.Readings.{mark-at, order-at}
+use Rattle.moves.specs.Read.{Falling, FallsBeside, pointOn, positionAt, sourceAt, stepAt}
+use Rattle.moves.specs.Step.{State}
+use Rattle.marks.specs.Reading.{CanWeigh, FallsBy, fallsFrom, fallsTo, oneStep, tailBy}
+use Rattle.marks.specs.declared.one_step.Found.the-variants.{At, Nothing}
 
--- a step that lowers the position, by the numbers that the function is lent
-module _ (g : GridStruct) (made : IsMade g) (tails first coefficients order takes : List ℕ) (count j lag : ℕ) (low : j < count)
-    (F : Falling (shape g) tails first coefficients (take count order) takes j lag) where
-  -- the sum of the coordinates from the step's index on
-  abbrev rest : ℕ
-  rest = at tails (at order j) + at coefficients (at order j) - (at coefficients 0 + lag)
+-- a step that lowers the position
+module _ (g : GridStruct) (made : IsMade g) (one : g .blocks ≡ 1) (tails : List ℕ) (a : State) (j lag : ℕ) (most : lag ≤ 1) (F : Falling (shape g) tails a j lag) where
+  falls : Falls (shape g) (pointOn (shape g) a j) (pointOn (shape g) a (suc j)) (stepAt a j) (sourceAt a j) (tailBy tails (a .coefficients) (stepAt a j) lag)
+  falls = let e : tailFrom (shape g) (pointOn (shape g) a j) (stepAt a j) ≡ tailBy tails (a .coefficients) (stepAt a j) lag = omega (arith, F .tail) in rw e at (F .falls)
 
-  is : at (take count order) j ≡ at order j
-  is = order-at order count j low
+  pub can-weigh : CanWeigh g tails (a .coefficients) (stepAt a j) (sourceAt a j) lag
+  can-weigh = record {
+    one = one;
+    index = rw (made-indices g made) (falls .low);
+    before = falls .before;
+    most = most;
+    some = omega (arith, F .tail);
+    room = falls-room (shape g) (made-accepted g made) falls;
+  }
 
-  falls : Falls (shape g) (pointBy (shape g) takes (take count order) first j) (pointBy (shape g) takes (take count order) first (suc j)) (at order j) (at takes (at order j)) rest
-  falls =
-      let e : tailFrom (shape g) (pointBy (shape g) takes (take count order) first j) (at order j) ≡ rest = omega (arith, rw is at (F .tail)) in
-      rw e at (rw is at (F .falls))
-
-  pub step-low : at order j < g .indices
-  step-low = rw (made-indices g made) (falls .low)
-
-  pub step-room : (at coefficients 0 + lag ≤ at tails (at order j) + at coefficients (at order j)) × (rest < division (shape g) 0)
-  step-room = (omega (arith, rw is at (F .tail)), falls-room (shape g) (made-accepted g made) falls)
-
-  pub step-falls : (f : ℕ) → ((y z : Point) → Falls (shape g) y z (at order j) (at takes (at order j)) rest → position (shape g) y ≡ position (shape g) z + f)
-      → position (shape g) (pointBy (shape g) takes (take count order) first j) ≡ position (shape g) (pointBy (shape g) takes (take count order) first (suc j)) + f
+  pub step-falls : (f : ℕ) → FallsBy g tails (a .coefficients) (stepAt a j) (sourceAt a j) lag f
+      → position (shape g) (pointOn (shape g) a j) ≡ position (shape g) (pointOn (shape g) a (suc j)) + f
   step-falls f law = law _ _ falls
 
-pub order-low : (order : List ℕ) (count j : ℕ) → length order ≡ 16 → count ≤ 15 → j < count → IndicesBelow (take count order) → at order j < 16
-order-low order count j e f l below = rw (← order-at order count j l) (below j (omega (arith, length-take count order)))
-
 -- the point that has come in
-module _ (g : GridStruct) (made : IsMade g) (tails first coefficients order marks takes : List ℕ) (s : Sets) (long : s .count ≤ length order)
-    (B : FallsBeside (shape g) tails first coefficients (take (s .count) order) (take (suc (s .count)) marks) takes (s .turn)) where
-  abbrev law : ℕ → ℕ → ℕ → Type 0
-  law j lag f = (y z : Point) → Falls (shape g) y z (at order j) (at takes (at order j)) (at tails (at order j) + at coefficients (at order j) - (at coefficients 0 + lag)) → position (shape g) y ≡ position (shape g) z + f
+module _ (g : GridStruct) (made : IsMade g) (one : g .blocks ≡ 1) (tails : List ℕ) (a : State) (B : FallsBeside (shape g) tails a) where
+  -- how many steps before it have gone round the block, by the mark of point i beside it
+  abbrev pub lagBy : ℕ → ℕ
+  lagBy i = cond (ltb 0 (a .active)) (cond (ltb (positionAt a 0) (positionAt a i)) 1 0) 0
 
-  -- how many steps before the point that has come in have gone round the block, by the mark of a point beside it
-  abbrev lag : ℕ → ℕ
-  lag j = cond (ltb 0 (s .turn)) (cond (ltb (at marks 0 / 256) (at marks j / 256)) 1 0) 0
+  module _ (more : 0 < a .active) (before : sourceAt a (a .active - 1) < stepAt a (a .active - 1)) where
+    pub from-near : Falling (shape g) tails a (a .active - 1) (lagBy (a .active - 1))
+    from-near = rw (lt-ltb 0 (a .active) more) (B .fromNear more before)
 
-  module _ (more : 0 < s .turn) (low : s .turn ≤ s .count) (before : at takes (at order (s .turn - 1)) < at order (s .turn - 1)) where
-    pub from-near : Falling (shape g) tails first coefficients (take (s .count) order) takes (s .turn - 1) (lag (s .turn - 1))
-    from-near =
-        rw (lt-ltb 0 (s .turn) more) (rw (mark-at marks (s .count) 0 (omega arith), mark-at marks (s .count) (s .turn - 1) (omega arith)) at (B .fromNear more (rw (order-at order (s .count) (s .turn - 1) (omega arith)) before)))
+    pub after-near : lagBy (a .active - 1) ≤ 1 → (f : ℕ) → FallsBy g tails (a .coefficients) (stepAt a (a .active - 1)) (sourceAt a (a .active - 1)) (lagBy (a .active - 1)) f
+        → positionAt a (a .active - 1) ≡ position (shape g) (pointOn (shape g) a (a .active)) + f
+    after-near most f h =
+        let z : suc (a .active - 1) ≡ a .active = omega arith in
+        B .nearMark more ∙ (rw z at (step-falls g made one tails a (a .active - 1) (lagBy (a .active - 1)) most from-near f h))
 
-    pub after-near : (f : ℕ) → law (s .turn - 1) (lag (s .turn - 1)) f → at marks (s .turn - 1) / 256 ≡ position (shape g) (pointOn (shape g) (stateOf first [] order [] takes s) (s .turn)) + f
-    after-near f h =
-        let z : suc (s .turn - 1) ≡ s .turn = omega arith in
-        let m : at marks (s .turn - 1) / 256 ≡ position (shape g) (pointBy (shape g) takes (take (s .count) order) first (s .turn - 1)) = rw (mark-at marks (s .count) (s .turn - 1) (omega arith)) at (B .nearMark more) in
-        m ∙ (rw z at (step-falls g made tails first coefficients order takes (s .count) (s .turn - 1) (lag (s .turn - 1)) (omega arith) from-near f h))
+  module _ (low : a .active < length (a .order)) (before : sourceAt a (a .active) < stepAt a (a .active)) where
+    pub to-far : Falling (shape g) tails a (a .active) (lagBy (suc (a .active)))
+    to-far = B .toFar low before
 
-  module _ (low : s .turn < s .count) (before : at takes (at order (s .turn)) < at order (s .turn)) where
-    inside : s .turn < length (take (s .count) order)
-    inside = omega (arith, length-take (s .count) order)
+    pub before-far : lagBy (suc (a .active)) ≤ 1 → (f : ℕ) → FallsBy g tails (a .coefficients) (stepAt a (a .active)) (sourceAt a (a .active)) (lagBy (suc (a .active))) f
+        → position (shape g) (pointOn (shape g) a (a .active)) ≡ positionAt a (suc (a .active)) + f
+    before-far most f h = rw (B .farMark low) (step-falls g made one tails a (a .active) (lagBy (suc (a .active))) most to-far f h)
 
-    pub to-far : Falling (shape g) tails first coefficients (take (s .count) order) takes (s .turn) (lag (s .turn + 1))
-    to-far =
-        let z : suc (s .turn) ≡ s .turn + 1 = omega arith in
-        rw (mark-at marks (s .count) 0 (omega arith), mark-at marks (s .count) (suc (s .turn)) low, z) at (B .toFar inside (rw (order-at order (s .count) (s .turn) low) before))
+    pub far-low : position (shape g) (pointOn (shape g) a (a .active)) ≤ 60000
+    far-low = let w = made-accepted g made in omega (arith, position-below (shape g) _ (w .sameNumber) (to-far .falls .here), w .fewPoints)
 
-    pub before-far : (f : ℕ) → law (s .turn) (lag (s .turn + 1)) f → position (shape g) (pointOn (shape g) (stateOf first [] order [] takes s) (s .turn)) ≡ at marks (s .turn + 1) / 256 + f
-    before-far f h =
-        let z : suc (s .turn) ≡ s .turn + 1 = omega arith in
-        let m : at marks (s .turn + 1) / 256 ≡ position (shape g) (pointBy (shape g) takes (take (s .count) order) first (suc (s .turn))) = rw (← z, ← mark-at marks (s .count) (suc (s .turn)) low) (B .farMark inside) in
-        rw m (step-falls g made tails first coefficients order takes (s .count) (s .turn) (lag (s .turn + 1)) low to-far f h)
+-- the answer, where one of the two steps takes from an index before its own, and where neither does
+module _ (g : Grid) (a : State) where
+  pub found-near : (n : ℕ) → 0 < a .active → sourceAt a (a .active - 1) < stepAt a (a .active - 1) → n ≡ position g (pointOn g a (a .active)) → At n ≡ oneStep g a
+  unfolding oneStep
+  found-near n l b e = rw (lt-ltb 0 (a .active) l, lt-ltb _ _ b, e)
 
-    pub far-low : (f : ℕ) → law (s .turn) (lag (s .turn + 1)) f → at marks (s .turn + 1) / 256 + f ≤ 60000
-    far-low f h =
-        let a = made-accepted g made in
-        omega (arith, before-far f h, position-below (shape g) _ (a .sameNumber) (to-far .falls .here), a .fewPoints)
+  -- the step to the point is none, or takes from its own index or one behind it
+  abbrev pub NotTo : Type 0
+  NotTo = fallsTo a ≡ false
+
+  pub not-to : (0 < a .active → stepAt a (a .active - 1) ≤ sourceAt a (a .active - 1)) → NotTo
+  not-to h =
+      ⊎-elim (λ (l : 0 < a .active). rw (lt-ltb 0 (a .active) l, le-ltb (sourceAt a (a .active - 1)) (stepAt a (a .active - 1)) (h l)))
+      (λ (l : a .active ≤ 0). rw (le-ltb 0 (a .active) l)) (before-or-not 0 (a .active))
+
+  pub not-from : (a .active < length (a .order) → stepAt a (a .active) ≤ sourceAt a (a .active)) → fallsFrom a ≡ false
+  not-from h =
+      ⊎-elim (λ (l : a .active < length (a .order)). rw (lt-ltb (a .active) (length (a .order)) l, le-ltb (sourceAt a (a .active)) (stepAt a (a .active)) (h l)))
+      (λ (l : length (a .order) ≤ a .active). rw (le-ltb (a .active) (length (a .order)) l)) (before-or-not (a .active) (length (a .order)))
+
+  pub found-far : (n : ℕ) → NotTo → a .active < length (a .order) → sourceAt a (a .active) < stepAt a (a .active) → n ≡ position g (pointOn g a (a .active)) → At n ≡ oneStep g a
+  unfolding oneStep
+  found-far n t l b e = rw (t, lt-ltb (a .active) (length (a .order)) l, lt-ltb _ _ b, e)
+
+  pub found-nothing : NotTo → fallsFrom a ≡ false → Nothing ≡ oneStep g a
+  unfolding oneStep
+  found-nothing t f = rw (t, f)
+
+  -- a position that was found is the point's
+  pub one-step-is : (n : ℕ) → At n ≡ oneStep g a → n ≡ position g (pointOn g a (a .active))
+  unfolding oneStep
+  one-step-is n e =
+      ⊎-elim (λ (t : (fallsTo a || fallsFrom a) ≡ true). let z : At n ≡ At (position g (pointOn g a (a .active))) = rw t at e in cc)
+      (λ (f : (fallsTo a || fallsFrom a) ≡ false). let z : At n ≡ Nothing = rw f at e in let y : _≡_ {A = ℕ} 0 1 = cc in absurd (omega arith)) (true-or-false (fallsTo a || fallsFrom a))

@@ -1,18 +1,22 @@
--- What the reading of a mark asks: a grid and a table, a point that can be computed, and the marks around it. Assumes nothing.
-use mathlib.Core.Bool.{true}
+-- What the reading of a mark asks, and the ways in which a position is found. Assumes nothing.
+use mathlib.Core.Bool.{Bool, true, false, not, _&&_, _||_, cond}
 use mathlib.Core.List.{List, []}
 use mathlib.Core.Path.{_≡_}
-use Prim.Native.Nat.{ℕ, suc, _<_}
-use lib.ListN.{length, take}
+use Prim.Native.Nat.{ℕ, suc, _+_, _-_, _≤_, _<_}
+use lib.Dec.{eqb, ltb, leb}
+use lib.ListN.{length}
 use Rattle.positions.specs.Binomials.{HasBinomials}
-use Rattle.grid.specs.Grid.{isGridPoint, numPoints}
+use Rattle.positions.specs.Falls.{Falls}
+use Rattle.grid.specs.Grid.{Grid, Point, at, blockOf, division, isGridPoint, numPoints, position}
 use Rattle.grid.specs.Made.{IsMade, shape}
 use Rattle.grid.specs.declared.Grid.{Grid as GridStruct}
 use Rattle.place.specs.Problem.{Problem}
 use Rattle.moves.specs.Ready.{IndicesBelow}
-use Rattle.moves.specs.Read.{pointOn, Exchanged, FallsBeside, ReadyPoint}
-use Rattle.moves.specs.Step.{stateOf}
-use Rattle.moves.specs.declared.Sets.{Sets}
+use Rattle.moves.specs.Read.{pointOn, stepAt, sourceAt, Exchanged, FallsBeside, CanCompute}
+use Rattle.moves.specs.Step.{State}
+use Rattle.moves.specs.declared.Status.{Status}
+use Rattle.marks.specs.declared.one_step.Found.{Found}
+use Rattle.marks.specs.declared.one_step.Found.the-variants.{At, Nothing}
 
 -- the grid, a start and the label table
 abbrev pub problemFrom : GridStruct → List ℕ → List ℕ → Problem
@@ -28,18 +32,73 @@ pub record Readable (g : GridStruct) (binomials table : List ℕ) : Type 0 where
   pub filled : HasBinomials (shape g) binomials
   pub whole : length table ≡ numPoints (shape g)
 
+-- a grid that was made, with its binomials
+pub record Measured (g : GridStruct) (binomials : List ℕ) : Type 0 where
+  pub made : IsMade g
+  pub filled : HasBinomials (shape g) binomials
+
 -- the point that has just come in can be computed, and is a grid point
-pub record ReadyRead (g : GridStruct) (first order takes : List ℕ) (s : Sets) : Type 0 where
-  pub firstLength : length first ≡ 16
-  pub orderLength : length order ≡ 16
-  pub takesBelow : IndicesBelow takes
-  pub point : ReadyPoint takes (take (s .count) order) first (s .turn)
-  pub onGrid : isGridPoint (shape g) (pointOn (shape g) (stateOf first [] order [] takes s) (s .turn)) ≡ true
+pub record CanRead (g : GridStruct) (a : State) : Type 0 where
+  pub below : IndicesBelow (a .round .previous)
+  pub firstLength : length (a .first) ≡ 16
+  pub point : CanCompute a (a .active)
+  pub onGrid : isGridPoint (shape g) (pointOn (shape g) a (a .active)) ≡ true
 
--- where it has come in between two steps that changed places, the marks of their square stand
-abbrev pub ReadySquare : GridStruct → List ℕ → List ℕ → List ℕ → List ℕ → Sets → Type 0
-ReadySquare g first order marks takes s = s .rule ≡ 1 → 0 < s .turn → s .turn < s .count → Exchanged (shape g) first (take (s .count) order) (take (suc (s .count)) marks) takes (s .turn)
+-- where it has come in between two steps that changed places, the marks of their square stand; and in a grid of one block, the steps to and
+-- from it, and the marks beside it, are known
+pub record HasMarks (g : GridStruct) (tails : List ℕ) (a : State) : Type 0 where
+  pub square : a .rule ≡ 1 → 0 < a .active → a .active < length (a .order) → Exchanged (shape g) a
+  pub beside : g .blocks ≡ 1 → FallsBeside (shape g) tails a
 
--- in a grid of one block, the steps to and from it, and the marks beside it
-abbrev pub ReadyBeside : GridStruct → List ℕ → List ℕ → List ℕ → List ℕ → List ℕ → List ℕ → Sets → Type 0
-ReadyBeside g tails first coefficients order marks takes s = g .blocks ≡ 1 → FallsBeside (shape g) tails first coefficients (take (s .count) order) (take (suc (s .count)) marks) takes (s .turn)
+-- two steps have changed places, and the point has come in between them
+abbrev pub isBetween : Status → Bool
+isBetween s = eqb (s .rule) 1 && (ltb 0 (s .active) && ltb (s .active) (s .count))
+
+-- two steps, to h and to k, where a step at an index takes from the one that `from` gives, are in two blocks; or each takes from an index
+-- before its own, and one ends no later than the other begins
+abbrev pub addUp : Grid → (ℕ → ℕ) → ℕ → ℕ → Bool
+addUp g from h k = not (eqb (blockOf g h) (blockOf g k)) || ltb (from h) h && (ltb (from k) k && (leb h (from k) || leb k (from h)))
+
+-- the step to the point that has come in, or the step from it, takes from an index before its own
+abbrev pub fallsTo : State → Bool
+fallsTo a = ltb 0 (a .active) && ltb (sourceAt a (a .active - 1)) (stepAt a (a .active - 1))
+
+abbrev pub fallsFrom : State → Bool
+fallsFrom a = ltb (a .active) (length (a .order)) && ltb (sourceAt a (a .active)) (stepAt a (a .active))
+
+-- the position by one step, where there is such a step
+unfoldable pub oneStep : Grid → State → Found
+oneStep g a = cond (fallsTo a || fallsFrom a) (At (position g (pointOn g a (a .active)))) Nothing
+
+-- the arrays hold the state but for its first point, which may be any for which the steps beside the point that has come in are known
+abbrev pub CanFall : GridStruct → List ℕ → (List ℕ → State) → Type 0
+CanFall g tails a = (first : List ℕ) × FallsBeside (shape g) tails (a first)
+
+abbrev pub IsFound : GridStruct → List ℕ → (List ℕ → State) → Found → Type 0
+IsFound g tails a r = (first : List ℕ) → FallsBeside (shape g) tails (a first) → r ≡ oneStep (shape g) (a first)
+
+-- the steps of the order, and the point that has come in, are those of an array
+pub record HasOrder (previous steps : List ℕ) (s : Status) : Type 0 where
+  pub below : IndicesBelow previous
+  pub orderBelow : IndicesBelow steps
+  pub active : s .active ≤ s .count
+  pub few : s .count ≤ 15
+  pub many : length steps ≡ s .count
+
+-- the sum of the coordinates from index h on, by the start's and two coefficients
+abbrev pub tailBy : List ℕ → List ℕ → ℕ → ℕ → ℕ
+tailBy tails coefficients h lag = at tails h + at coefficients h - (at coefficients 0 + lag)
+
+-- a step at h that takes from b, an index before it, can be weighed
+pub record CanWeigh (g : GridStruct) (tails coefficients : List ℕ) (h b lag : ℕ) : Type 0 where
+  pub one : g .blocks ≡ 1
+  pub index : h < g .indices
+  pub before : b < h
+  pub most : lag ≤ 1
+  pub some : at coefficients 0 + lag ≤ at tails h + at coefficients h
+  pub room : tailBy tails coefficients h lag < division (shape g) 0
+
+-- it lowers the position by f
+abbrev pub FallsBy : GridStruct → List ℕ → List ℕ → ℕ → ℕ → ℕ → ℕ → Type 0
+FallsBy g tails coefficients h b lag f =
+    (y z : Point) → Falls (shape g) y z h b (tailBy tails coefficients h lag) → position (shape g) y ≡ position (shape g) z + f

@@ -1,59 +1,61 @@
-// The mark of the point that has just come in: its position, by the marks around it or by its steps, and its label in the table. What is public here is
-// for the finder's walk, which shows what it asks.
-ghost use mathlib.Core.Bool.{true};
+// The mark of the point that has just come in: its position, by the marks around it or by its steps, and its label in the table. What is public
+// here is for the finder's walk, which shows what it asks.
 ghost use mathlib.Core.List.{[]};
 ghost use mathlib.Core.Path.{_≡_};
 ghost use Prim.Native.Nat.{_≤_, _<_};
-ghost use Rattle.grid.specs.Grid.{at, position};
+ghost use lib.ListN.{length};
+ghost use Rattle.grid.specs.Grid.{position};
 ghost use Rattle.grid.specs.Made.{shape, IsMade};
-ghost use Rattle.positions.specs.Binomials.{HasBinomials};
-ghost use Rattle.positions.specs.Squares.{Apart};
+ghost use Rattle.moves.specs.Held.{stateOf, held, roundBack};
 ghost use Rattle.moves.specs.Read.{markOf, pointOn};
-ghost use Rattle.moves.specs.Step.{stateOf};
-ghost use Rattle.marks.specs.Reading.{tableOf, Readable, ReadyRead, ReadySquare, ReadyBeside};
+ghost use Rattle.moves.specs.Ready.{IndicesBelow};
+ghost use Rattle.moves.specs.Step.{State, firstOutside};
+ghost use Rattle.marks.specs.Reading.{tableOf, isBetween, addUp, Readable, Measured, CanRead, HasMarks};
 use grid::Grid;
-use grid::wide;
-use moves::Sets;
+use moves::Status;
 use moves::advance;
-use moves::wide32;
+use moves::first_outside;
+use moves::index_at;
+use moves::position_at;
 use one_step::Found;
 use one_step::position_by_one_step;
 
 mod one_step;
 
-// The positions of the corners of a square add up: one step goes to h and one to k, each from where `takes` says.
-fn add_up(g: Grid, takes: &[u8; 16], h: usize, k: usize) -> bool
-    requires { ⌜ IsMade g × (h < g .indices) × (k < g .indices) ⌝ }
-    ensures { λ r. ⌜ (r ≡ true → Apart (shape g) h (at (now (takes .entry)) h) k (at (now (takes .entry)) k)) ⌝ }
+// The positions of the corners of a square add up: one step goes to h and one to k.
+fn add_up(g: Grid, previous: &[u8; 16], sizes: &[u8; 16], u: u16, h: usize, k: usize) -> bool
+    requires { ⌜ IsMade g × IndicesBelow (now previous) ⌝ }
+    requires { ⌜ (h < g .indices) × (k < g .indices) ⌝ }
+    ensures { λ r. ⌜ r ≡ addUp (shape g) (firstOutside (now (previous .entry)) (now (sizes .entry)) u) h k ⌝ }
 {
     if g.block_of(h) != g.block_of(k) {
         return true;
     }
-    let c = wide(takes[h]);
-    let e = wide(takes[k]);
-    if h <= c {
+    let b = first_outside(previous, sizes, u, h);
+    if h <= b {
         return false;
     }
+    let e = first_outside(previous, sizes, u, k);
     if k <= e {
         return false;
     }
     if h <= e {
         return true;
     }
-    k <= c
+    k <= b
 }
 
 // Two steps have changed places, and the point has come in between them.
-fn is_between(s: Sets) -> bool
-    ensures { λ r. ⌜ (r ≡ true → (s .rule ≡ 1) × (0 < s .turn) × (s .turn < s .count)) ⌝ }
+fn is_between(s: Status) -> bool
+    ensures { λ r. ⌜ r ≡ isBetween s ⌝ }
 {
     if s.rule != 1 {
         return false;
     }
-    if s.turn == 0 {
+    if s.active == 0 {
         return false;
     }
-    s.turn < s.count
+    s.active < s.count
 }
 
 // The position of the point that has just come in, by its steps. They are counted in an array of their own, from 16 on so that no count falls
@@ -61,49 +63,69 @@ fn is_between(s: Sets) -> bool
 fn position_by_steps(
     g: Grid,
     binomials: &[u16; 1255],
+    previous: &[u8; 16],
+    sizes: &[u8; 16],
     first: &[u16; 16],
     order: &[u32; 16],
-    takes: &[u8; 16],
-    s: Sets,
+    s: Status,
 ) -> usize
-    requires { ⌜ IsMade g × HasBinomials (shape g) (now binomials) × ReadyRead g (now first) (now order) (now takes) s ⌝ }
-    ensures { λ r. ⌜ r ≡ position (shape g) (pointOn (shape g) (stateOf (now (first .entry)) [] (now (order .entry)) [] (now (takes .entry)) s) (s .turn)) ⌝ }
+    ghost { State }
+    requires { λ a. ⌜ stateOf (roundBack previous sizes) (now first) [] (now order) [] s ≡ a ⌝ }
+    requires { λ a. ⌜ Measured g (now binomials) × CanRead g a ⌝ }
+    ensures { λ a r. ⌜ r ≡ position (shape g) (pointOn (shape g) a (a .active)) ⌝ }
 {
     let mut steps = [16u16; 16];
-    advance(&mut steps, takes, order, s.turn);
+    advance(&mut steps, previous, sizes, s.u, order, s.active);
     positions::position(g, binomials, first, &steps)
 }
 
-// The position of the point that has just come in: where it has come in between two steps that changed places, by the marks of the other corners of
-// their square if these add up, the point that left having still its mark there; in a grid of one block by one step; else by all its steps.
+// The position of the point that has just come in: where it has come in between two steps that changed places, by the marks of the other corners
+// of their square if these add up, the point that left having still its mark there; in a grid of one block by one step; else by all its steps.
 fn position_in(
     g: Grid,
     binomials: &[u16; 1255],
     tails: &[u32; 16],
+    previous: &[u8; 16],
+    sizes: &[u8; 16],
     first: &[u16; 16],
     coefficients: &[u16; 16],
     order: &[u32; 16],
     marks: &[u32; 16],
-    takes: &[u8; 16],
-    s: Sets,
+    s: Status,
 ) -> usize
-    requires { ⌜ IsMade g × HasBinomials (shape g) (now binomials) × ReadyRead g (now first) (now order) (now takes) s ⌝ }
-    requires { ⌜ ReadySquare g (now first) (now order) (now marks) (now takes) s × ReadyBeside g (now tails) (now first) (now coefficients) (now order) (now marks) (now takes) s ⌝ }
-    ensures { λ r. ⌜ r ≡ position (shape g) (pointOn (shape g) (stateOf (now (first .entry)) [] (now (order .entry)) [] (now (takes .entry)) s) (s .turn)) ⌝ }
+    ghost { State }
+    requires { λ a. ⌜ held (roundBack previous sizes) first coefficients order marks s ≡ a ⌝ }
+    requires { λ a. ⌜ Measured g (now binomials) × CanRead g a ⌝ }
+    requires { λ a. ⌜ HasMarks g (now tails) a × (length (a .order) ≡ s .count) ⌝ }
+    ensures { λ a r. ⌜ r ≡ position (shape g) (pointOn (shape g) a (a .active)) ⌝ }
 {
-    let i = s.turn;
+    let i = s.active;
+    let n = s.count;
     if is_between(s) {
-        if add_up(g, takes, wide32(order[i - 1]), wide32(order[i])) {
-            return wide32(marks[i - 1] / 256 + marks[i + 1] / 256 - marks[i] / 256);
+        let h = index_at(order, n, i - 1);
+        let k = index_at(order, n, i);
+        if add_up(g, previous, sizes, s.u, h, k) {
+            return position_at(marks, n, i - 1) + position_at(marks, n, i + 1)
+                - position_at(marks, n, i);
         }
     }
     if g.blocks == 1 {
-        let found = position_by_one_step(g, binomials, tails, coefficients, order, marks, takes, s);
+        let found = position_by_one_step(
+            g,
+            binomials,
+            tails,
+            previous,
+            sizes,
+            coefficients,
+            order,
+            marks,
+            s,
+        );
         if let Found::At(position) = found {
             return position;
         }
     }
-    position_by_steps(g, binomials, first, order, takes, s)
+    position_by_steps(g, binomials, previous, sizes, first, order, s)
 }
 
 fn byte(x: u8) -> u32
@@ -118,26 +140,30 @@ pub fn mark_in(
     binomials: &[u16; 1255],
     tails: &[u32; 16],
     table: &[u8],
+    previous: &[u8; 16],
+    sizes: &[u8; 16],
     first: &[u16; 16],
     coefficients: &[u16; 16],
     order: &[u32; 16],
     marks: &[u32; 16],
-    takes: &[u8; 16],
-    s: Sets,
+    s: Status,
 ) -> u32
-    requires { ⌜ Readable g (now binomials) (now table) × ReadyRead g (now first) (now order) (now takes) s ⌝ }
-    requires { ⌜ ReadySquare g (now first) (now order) (now marks) (now takes) s × ReadyBeside g (now tails) (now first) (now coefficients) (now order) (now marks) (now takes) s ⌝ }
-    ensures { λ r. ⌜ r ≡ markOf (tableOf g (now (table .entry))) (pointOn (shape g) (stateOf (now (first .entry)) [] (now (order .entry)) [] (now (takes .entry)) s) (s .turn)) ⌝ }
+    ghost { State }
+    requires { λ a. ⌜ held (roundBack previous sizes) first coefficients order marks s ≡ a ⌝ }
+    requires { λ a. ⌜ Readable g (now binomials) (now table) × CanRead g a ⌝ }
+    requires { λ a. ⌜ HasMarks g (now tails) a × (length (a .order) ≡ s .count) ⌝ }
+    ensures { λ a r. ⌜ r ≡ markOf (tableOf g (now (table .entry))) (pointOn (shape g) a (a .active)) ⌝ }
 {
     let at = position_in(
         g,
         binomials,
         tails,
+        previous,
+        sizes,
         first,
         coefficients,
         order,
         marks,
-        takes,
         s,
     );
     at as u32 * 256 + byte(table[at])

@@ -1,22 +1,20 @@
 // The position of a point by that of the point beside it, in a grid of one block.
 ghost use mathlib.Core.Bool.{cond};
-ghost use mathlib.Core.List.{List, []};
+ghost use mathlib.Core.List.{List};
 ghost use mathlib.Core.Path.{_≡_};
-ghost use Prim.Native.Nat.{ℕ, suc, _+_, _-_, _≤_, _<_};
+ghost use Prim.Native.Nat.{ℕ, _+_, _≤_, _<_};
 ghost use lib.Dec.{ltb};
-ghost use lib.ListN.{length, take};
-ghost use Rattle.grid.specs.Grid.{Point, at, division, position};
-ghost use Rattle.grid.specs.Made.{shape, IsMade};
-ghost use Rattle.positions.specs.Binomials.{HasBinomials};
-ghost use Rattle.positions.specs.Falls.{Falls};
-ghost use Rattle.moves.specs.Read.{pointOn, FallsBeside};
-ghost use Rattle.moves.specs.Ready.{IndicesBelow};
-ghost use Rattle.moves.specs.Step.{stateOf};
+ghost use lib.ListN.{take};
+ghost use Rattle.grid.specs.Made.{shape};
+ghost use Rattle.moves.specs.Held.{stateOf, roundBack};
+ghost use Rattle.moves.specs.Step.{State};
+ghost use Rattle.marks.specs.Reading.{Measured, HasOrder, CanFall, IsFound, CanWeigh, FallsBy};
 use grid::Grid;
-use grid::wide;
 use grid::wide16;
-use moves::Sets;
-use moves::wide32;
+use moves::Status;
+use moves::first_outside;
+use moves::index_at;
+use moves::position_at;
 
 // A position, or that one step does not lead to it.
 pub enum Found {
@@ -26,7 +24,7 @@ pub enum Found {
 
 // How many steps before a point of the place have gone round the block, in a grid of one block: none before the first point, and else 1 where the
 // position is above the first's, since such a step raises it and every other lowers it.
-fn gone_round(i: usize, position: u32, first: u32) -> usize
+fn gone_round(i: usize, position: usize, first: usize) -> usize
     ensures { λ r. ⌜ (r ≡ cond (ltb 0 i) (cond (ltb first position) 1 0) 0) × (r ≤ 1) ⌝ }
 {
     if i == 0 {
@@ -53,9 +51,8 @@ fn fall_at(
     b: usize,
     lag: usize,
 ) -> usize
-    requires { ⌜ IsMade g × HasBinomials (shape g) (now binomials) × (g .blocks ≡ 1) × (h < g .indices) × (b < h) × (lag ≤ 1) ⌝ }
-    requires { ⌜ (at (now coefficients) 0 + lag ≤ at (now tails) h + at (now coefficients) h) × (at (now tails) h + at (now coefficients) h - (at (now coefficients) 0 + lag) < division (shape g) 0) ⌝ }
-    ensures { λ f. ⌜ ((y z : Point) → Falls (shape g) y z h b (at (now (tails .entry)) h + at (now (coefficients .entry)) h - (at (now (coefficients .entry)) 0 + lag)) → position (shape g) y ≡ position (shape g) z + f) ⌝ }
+    requires { ⌜ Measured g (now binomials) × CanWeigh g (now tails) (now coefficients) h b lag ⌝ }
+    ensures { λ f. ⌜ FallsBy g (now (tails .entry)) (now (coefficients .entry)) h b lag f ⌝ }
 {
     let most = sum(tails[h], coefficients[h]);
     positions::fall(g, binomials, h, b, most - (wide16(coefficients[0]) + lag))
@@ -67,34 +64,37 @@ pub fn position_by_one_step(
     g: Grid,
     binomials: &[u16; 1255],
     tails: &[u32; 16],
+    previous: &[u8; 16],
+    sizes: &[u8; 16],
     coefficients: &[u16; 16],
     order: &[u32; 16],
     marks: &[u32; 16],
-    takes: &[u8; 16],
-    s: Sets,
+    s: Status,
 ) -> Found
-    requires { ⌜ IsMade g × HasBinomials (shape g) (now binomials) × (g .blocks ≡ 1) × (s .turn ≤ s .count) × (s .count ≤ 15) × (length (now order) ≡ 16) × IndicesBelow (take (s .count) (now order)) ⌝ }
-    requires { ⌜ ((first : List ℕ) × FallsBeside (shape g) (now tails) first (now coefficients) (take (s .count) (now order)) (take (suc (s .count)) (now marks)) (now takes) (s .turn)) ⌝ }
-    ensures { λ r. ⌜ ((n : ℕ) (first : List ℕ) → FallsBeside (shape g) (now (tails .entry)) first (now (coefficients .entry)) (take (s .count) (now (order .entry))) (take (suc (s .count)) (now (marks .entry))) (now (takes .entry)) (s .turn)
-        → r ≡ Found.At n → n ≡ position (shape g) (pointOn (shape g) (stateOf first [] (now (order .entry)) [] (now (takes .entry)) s) (s .turn))) ⌝ }
+    ghost { List ℕ → State }
+    requires { λ a. ⌜ (λ first. stateOf (roundBack previous sizes) first (now coefficients) (now order) (now marks) s) ≡ a ⌝ }
+    requires { λ _. ⌜ Measured g (now binomials) × (g .blocks ≡ 1) ⌝ }
+    requires { λ a. ⌜ HasOrder (now previous) (take (s .count) (now order)) s × CanFall g (now tails) a ⌝ }
+    ensures { λ a r. ⌜ IsFound g (now (tails .entry)) a r ⌝ }
 {
-    let i = s.turn;
+    let i = s.active;
+    let n = s.count;
     if 0 < i {
-        let h = wide32(order[i - 1]);
-        let b = wide(takes[h]);
+        let h = index_at(order, n, i - 1);
+        let b = first_outside(previous, sizes, s.u, h);
         if b < h {
-            let near = marks[i - 1] / 256;
-            let lag = gone_round(i, near, marks[0] / 256);
-            return Found::At(wide32(near) - fall_at(g, binomials, tails, coefficients, h, b, lag));
+            let near = position_at(marks, n, i - 1);
+            let lag = gone_round(i, near, position_at(marks, n, 0));
+            return Found::At(near - fall_at(g, binomials, tails, coefficients, h, b, lag));
         }
     }
-    if i < s.count {
-        let h = wide32(order[i]);
-        let b = wide(takes[h]);
+    if i < n {
+        let h = index_at(order, n, i);
+        let b = first_outside(previous, sizes, s.u, h);
         if b < h {
-            let far = marks[i + 1] / 256;
-            let lag = gone_round(i, far, marks[0] / 256);
-            return Found::At(wide32(far) + fall_at(g, binomials, tails, coefficients, h, b, lag));
+            let far = position_at(marks, n, i + 1);
+            let lag = gone_round(i, far, position_at(marks, n, 0));
+            return Found::At(far + fall_at(g, binomials, tails, coefficients, h, b, lag));
         }
     }
     Found::Nothing

@@ -1,6 +1,6 @@
 -- From single moves to the path of document 01: a state that stands at a place of the path goes on to the next place or to the path's end.
--- The run's proof cites of it `At`, `EndsAt` and their laws: at-begin, at-below, at-spent, at-reads, at-ready, at-step, at-place-end, at-facet-end
--- and ends-answer. Assumes nothing.
+-- The run's proof cites of it `At`, `EndsAt`, `NextAt` and their laws: at-begin, at-below, at-spent, at-reads, at-ready, at-next and ends-answer.
+-- Assumes nothing.
 use mathlib.Core.Bool.{Bool, true, false, _&&_, cond}
 use mathlib.Core.List.{List, [], _∷_, _++_}
 use mathlib.Core.Logic.{⊎-elim}
@@ -17,10 +17,9 @@ use Rattle.combinatorics.specs.Edits.{removeAt}
 use Rattle.geometry.proofs.Definitions.{zeros}
 use Rattle.geometry.proofs.Search.{block-back}
 use Rattle.geometry.proofs.LabelledChains.{listAt, LabelledChain, FacetEnd, PlaceEnd}
-use Rattle.grid.proofs.Round.{seat, block-at}
-use Rattle.grid.specs.Grid.{at, numBlocks, numIndices, dimension, blockOf, isGridPoint, position, MovedBy}
+use Rattle.grid.specs.Grid.{at, numBlocks, numIndices, dimension, blockOf, isGridPoint, position}
 use Rattle.positions.specs.Falls.{tailFrom}
-use Rattle.place.proofs.BlocksOfGrid.{blocksOf, back-below, coefficientOf, block-agrees, coord-in, coord-out, coefficientOf-is}
+use Rattle.place.proofs.BlocksOfGrid.{blocksOf, back-below, coefficientOf, coord-in, coord-out, coefficientOf-is}
 use Rattle.place.proofs.Bound.{order-short}
 use Rattle.place.proofs.ChainEnds.{complete-of, complete-below, end-below, end-complete, end-labels}
 use Rattle.place.proofs.ChainLinks.{of-link}
@@ -40,18 +39,18 @@ use Rattle.place.specs.Path.{path, pathLength, answer, spent, ended}
 use Rattle.place.specs.Places.{Simplex, order}
 use Rattle.place.specs.Problem.{Problem}
 use Rattle.moves.specs.Mask.{bit}
-use Rattle.moves.specs.Read.{pointAfter, pointGone, pointIn, pointsFrom, read, above, Exchanged, FallsBeside, ReadyPoint}
-use Rattle.moves.specs.Ready.{IndicesBelow, Ready}
-use Rattle.moves.specs.Step.{State, markPosition, firstOutside, step, begun}
-use Rattle.moves.proofs.Describes.{Neighbours, Describes, MarksBut, Came, begins, through, fromLarger, Reached}
+use Rattle.moves.specs.Read.{arrayOf, pointGone, pointIn, pointsFrom, read, stepAt, sourceAt, positionAt, above, MovedAt, Exchanged, FallsBeside, CanCompute}
+use Rattle.moves.specs.Ready.{IsRound, Ready}
+use Rattle.moves.specs.Step.{State, Round, After, goes, endsAtPlace, endsAtFacet, markPosition, step, begun}
+use Rattle.moves.proofs.Describes.{Describes, MarksBut, Came, begins, through, fromLarger, Reached}
 use Rattle.moves.proofs.Masks.{bit-none}
-use Rattle.moves.proofs.Move.{SamePlace, Outcome, placeEnds, facetEnds, goesOn, Onward, onward}
+use Rattle.moves.proofs.Move.{Outcome, atPlaceEnd, atFacetEnd, goesOn, Onward, onward}
 use Rattle.moves.proofs.Marks.{mark-position}
 use Rattle.moves.proofs.OneBlock.{lag-is, first-same, falling}
 use Rattle.moves.proofs.Range.{nth-pointsOf, point-on}
 use Rattle.moves.proofs.Shifted.{shifted-moved}
 use Rattle.moves.proofs.StatePoints.{order-below, after-is, ready-point, point-is, moved-on, all-points, later-points}
-use Rattle.moves.proofs.Takes.{taken-from, taking-begun}
+use Rattle.moves.proofs.Walks.{block-same, source-from}
 
 -- the place just left is that of the chain, if any
 abbrev LeftIs : Problem → Option (List (ℕ → ℕ)) → Option Simplex → Type 0
@@ -73,29 +72,28 @@ pub record At (p : Problem) (s : State) (k : ℕ) : Type 0 where
   came : Came p T t x s left
   before : LeftIs p left (leftAt places k)
 
--- the state e stands at the path's end, after k + 1 places: an end of the kind given, whose points are those of e from number `from` on
-pub record EndsAt (p : Problem) (kind : Kind) (from : ℕ) (e : State) (k : ℕ) : Type 0 where
+-- the state e stands at the path's end, after k + 1 places: an end of the kind given, for the block of h, whose points are those of e from
+-- number `from` on
+pub record EndsAt (p : Problem) (kind : Kind) (from : ℕ) (e : State) (h k : ℕ) : Type 0 where
   pub firstLength : length e.first ≡ 16
-  pub index : e .end < numIndices p.grid
+  pub index : h < numIndices p.grid
   pub few : length e.order ≤ dimension p.grid
   pub low : from ≤ length e.order
-  pub takesBelow : IndicesBelow e.takes
-  pub points : (i : ℕ) → i ≤ length e.order → ReadyPoint e.takes e.order e.first i
-  pub end : path p .end ≡ some (record { kind = kind; block = blockOf p.grid e.end; simplex = pointsFrom p e from })
+  pub points : CanCompute e (length e.order)
+  pub end : path p .end ≡ some (record { kind = kind; block = blockOf p.grid h; simplex = pointsFrom p e from })
   pub places : pathLength p ≡ suc k
 
+-- what a move from place number k gives: a state at the next place, or the path's end
+pub data NextAt (p : Problem) (k : ℕ) : After → Type 0 where
+  nextPlace : {e : State} → At p e (suc k) → NextAt p k (goes e)
+  placeEnds : {e : State} {h : ℕ} → EndsAt p placeEnd 0 e h k → NextAt p k (endsAtPlace e h)
+  facetEnds : {e : State} {h : ℕ} → EndsAt p facetEnd 1 e h k → NextAt p k (endsAtFacet e h)
+
 -- and so it is the answer, within the budget
-pub ends-answer : {p : Problem} {kind : Kind} {from : ℕ} {e : State} {k : ℕ} → EndsAt p kind from e k → (budget : ℕ)
-    → k < budget
-    → answer p budget ≡ ended (suc k) kind (suc (blockOf p.grid e.end)) (length (pointsFrom p e from)) (pointsFrom p e from)
+pub ends-answer : {p : Problem} {kind : Kind} {from : ℕ} {e : State} {h k : ℕ} → EndsAt p kind from e h k → (budget : ℕ) → k < budget
+    → answer p budget ≡ ended (suc k) kind (suc (blockOf p.grid h)) (length (pointsFrom p e from)) (pointsFrom p e from)
 unfolding answer
 ends-answer {p} E budget l = rw (E .end, le-ltb budget (pathLength p) (omega (arith, E .places)), E .places)
-
--- the block of an index, by the grid
-block-same : (p : Problem) (h : ℕ) → h < numIndices p.grid → blocksOf p .block h ≡ blockOf p.grid h
-block-same p h l =
-    let w = seat p.grid h l in
-    ap (blocksOf p .block) w.is ∙ block-agrees p w.j w.i w.inside ∙ sym (ap (blockOf p.grid) w.is ∙ block-at p.grid.sizes w.j w.i w.inside)
 
 -- a place end, and a facet end without the first point, are ways out of the place
 module _ {p : Problem} (ok : Accepted p) {T : ℕ → Bool} {t : ℕ} {o : ℕ → ℕ} {x : List (ℕ → ℕ)} (S : LabelledChain (blocksOf p) (labelOf p) T t o x)
@@ -150,15 +148,10 @@ left-determines p (some l) q b y c e =
     ap (λ (x : List (ℕ → ℕ)). some x) (sym b.1 ∙ ap (coefficientsOf p) z ∙ c)
 
 module _ (p : Problem) (T : ℕ → Bool) (t : ℕ) (x : List (ℕ → ℕ)) (s : State) where
-  turn-at-most : {left : Option (List (ℕ → ℕ))} → Came p T t x s left → s .turn ≤ t
-  turn-at-most (begins e u r) = omega arith
-  turn-at-most (through n l e low q r b carry X C) = low
-  turn-at-most (fromLarger l low r q a e X) = low
-
-  -- a place that the path comes to by a link is at no end
-  rule-between : (l : List (ℕ → ℕ)) → Came p T t x s (some l) → (0 < s .rule) × (s .rule < 8)
-  rule-between l (through n d e low q r b carry X C) = (q, omega arith)
-  rule-between l (fromLarger d low r q a e X) = (omega arith, q)
+  active-at-most : {left : Option (List (ℕ → ℕ))} → Came p T t x s left → s .active ≤ t
+  active-at-most (begins e u r) = omega arith
+  active-at-most (through n l e low q r b carry X C) = low
+  active-at-most (fromLarger l low r q a e X) = low
 
 -- the start
 module _ {p : Problem} (ok : Accepted p) where
@@ -181,12 +174,11 @@ module _ {p : Problem} (ok : Accepted p) where
       (λ (l : numIndices p.grid ≤ k). rw (start-T k, le-ltb k _ l, coord-out p start-coefficients k l))
       (before-or-not k (numIndices p.grid))
 
-  pub at-begin : {previousOf nextOf : List ℕ} → Neighbours p.grid previousOf nextOf → (first : List ℕ) (mask : ℕ) (takes : List ℕ) → length first ≡ 16
+  pub at-begin : {round : Round} → IsRound p.grid round → (first : List ℕ) (mask : ℕ) → length first ≡ 16
       → ((k : ℕ) → k < numIndices p.grid → at first k ≡ at p.start k)
       → ((k : ℕ) → k < 16 → bit mask k ≡ (ltb k (numIndices p.grid) && eqb (at p.start k) 0))
-      → length takes ≡ 16 → IndicesBelow takes → ((h : ℕ) → h < numIndices p.grid → at takes h ≡ firstOutside previousOf mask h)
-      → At p (begun first mask takes) 0
-  at-begin N first mask takes size same zero-at many low from = record {
+      → At p (begun round first mask) 0
+  at-begin N first mask size same zero-at = record {
     places = v ∷ [];
     many = refl;
     follows = record {
@@ -203,6 +195,7 @@ module _ {p : Problem} (ok : Accepted p) where
     x = coefficientsOf p v;
     describes = record {
       chain = start-chain;
+      round = N;
       orderLength = refl;
       orderAt = λ j l. absurd (omega arith);
       firstLength = size;
@@ -214,7 +207,6 @@ module _ {p : Problem} (ok : Accepted p) where
       inT = λ k l. bit-none k l ∙ sym (start-T k);
       inU = in-U;
       marksLength = refl;
-      taking = taking-begun ok N start-chain.chain mask in-U many low from;
     };
     here = sym (pointsOf-coefficientsOf ok.settled v (parts p v (start-place ok.settled) .gridPoints));
     left = none;
@@ -235,69 +227,67 @@ module _ {p : Problem} (ok : Accepted p) where
   pub at-spent : {s : State} {k : ℕ} → At p s k → (budget : ℕ) → budget ≤ k → answer p budget ≡ spent budget
   at-spent {s} {k} A budget l = demand3-holds ok .spends budget .1 (omega (arith, at-below A))
 
-module _ {p : Problem} (ok : Accepted p) {previousOf nextOf : List ℕ} (N : Neighbours p.grid previousOf nextOf) {s : State} {k : ℕ}
-    (A : At p s k) where
+module _ {p : Problem} (ok : Accepted p) {s : State} {k : ℕ} (A : At p s k) where
   -- the point whose label is to be read can be computed, and is a grid point
-  pub at-reads : IndicesBelow s.takes × ReadyPoint s.takes s.order s.first s.turn × (isGridPoint p.grid (pointIn p s s.turn) ≡ true)
+  pub at-reads : CanCompute s s.active × (isGridPoint p.grid (pointIn p s s.active) ≡ true)
   at-reads =
-      let low = turn-at-most p A.T A.t A.x s A.came in (
-        A .describes .taking .below,
-        ready-point ok N A.describes s.turn low,
-        rw (point-is ok N A.describes s.turn low) (point-on ok A.describes.chain s.turn low),
+      let low = active-at-most p A.T A.t A.x s A.came in (
+        ready-point ok A.describes s.active low,
+        rw (point-is ok A.describes s.active low) (point-on ok A.describes.chain s.active low),
       )
 
   abbrev D : Describes p A.T A.t A.o A.x s
   D = A .describes
 
   -- where two steps have changed places, the marks of the others stand, and that of the point that left
-  crossing : Came p A.T A.t A.x s A.left → s .rule ≡ 1 → 0 < s .turn → s .turn < A .t
-      → MarksBut p A.t A.x s s.turn × (1 ≤ at (pointAfter s.takes s.order s.first (s .turn - 1)) (at s.takes (at s.order s.turn)))
-      × (isGridPoint p.grid (pointGone p.grid s) ≡ true) × (markPosition (at s.marks s.turn) ≡ position p.grid (pointGone p.grid s))
+  crossing : Came p A.T A.t A.x s A.left → s .rule ≡ 1 → 0 < s .active → s .active < A .t
+      → MarksBut p A.t A.x s s.active × (1 ≤ at (arrayOf s (s .active - 1)) (sourceAt s s.active))
+      × (isGridPoint p.grid (pointGone p.grid s) ≡ true) × (positionAt s s.active ≡ position p.grid (pointGone p.grid s))
   crossing C one more low = go A.left C
     where
       go : (left : Option (List (ℕ → ℕ))) → Came p A.T A.t A.x s left
-          → MarksBut p A.t A.x s s.turn × (1 ≤ at (pointAfter s.takes s.order s.first (s .turn - 1)) (at s.takes (at s.order s.turn)))
-          × (isGridPoint p.grid (pointGone p.grid s) ≡ true) × (markPosition (at s.marks s.turn) ≡ position p.grid (pointGone p.grid s))
+          → MarksBut p A.t A.x s s.active × (1 ≤ at (arrayOf s (s .active - 1)) (sourceAt s s.active))
+          × (isGridPoint p.grid (pointGone p.grid s) ≡ true) × (positionAt s s.active ≡ position p.grid (pointGone p.grid s))
       go _ (begins e u r) = absurd (omega arith)
       go _ (through n l e w q r b carry X C) = let d = C one more low in (b, d .0, d .1, d .2)
       go _ (fromLarger l w r q b e X) = absurd (omega arith)
 
-  marked-position : MarksBut p A.t A.x s s.turn → (i : ℕ) → i ≤ A .t → (i ≡ s .turn → ⊥) → markPosition (at s.marks i) ≡ position p.grid (pointIn p s i)
+  marked-position : MarksBut p A.t A.x s s.active → (i : ℕ) → i ≤ A .t → (i ≡ s .active → ⊥) → positionAt s i ≡ position p.grid (pointIn p s i)
   marked-position b i l n =
-      ap markPosition (b i l n) ∙ mark-position ok D.chain i l ∙ ap (position p.grid) (sym (point-is ok N D i l ∙ nth-pointsOf p A.x i (omega (arith, D .chain .size))))
+      ap markPosition (b i l n) ∙ mark-position ok D.chain i l ∙ ap (position p.grid) (sym (point-is ok D i l ∙ nth-pointsOf p A.x i (omega (arith, D .chain .size))))
 
-  pub at-exchanged : s .rule ≡ 1 → 0 < s .turn → s .turn < length s.order → Exchanged p.grid s.first s.order s.marks s.takes s.turn
+  pub at-exchanged : s .rule ≡ 1 → 0 < s .active → s .active < length s.order → Exchanged p.grid s
   at-exchanged one more few =
-      let low : s .turn < A .t = omega (arith, D .orderLength) in
+      let low : s .active < A .t = omega (arith, D .orderLength) in
       let c = crossing A.came one more low in
-      let z : suc (s .turn - 1) ≡ s .turn = omega arith in
-      let y = after-is ok N D (s .turn - 1) (omega arith) in
-      let on : (i : ℕ) → i ≤ A .t → isGridPoint p.grid (pointIn p s i) ≡ true = λ i l. rw (point-is ok N D i l) (point-on ok D.chain i l) in
+      let z : suc (s .active - 1) ≡ s .active = omega arith in
+      let y = after-is ok D (s .active - 1) (omega arith) in
+      let on : (i : ℕ) → i ≤ A .t → isGridPoint p.grid (pointIn p s i) ≡ true = λ i l. rw (point-is ok D i l) (point-on ok D.chain i l) in
       let mark = marked-position c.0 in
       record {
         low = few;
-        near = on (s .turn - 1) (omega arith);
-        here = on s.turn (omega arith);
+        near = on (s .active - 1) (omega arith);
+        here = on s.active (omega arith);
         gone = c .2;
-        far = on (suc s.turn) (omega arith);
-        toHere = subst (λ (i : ℕ). MovedBy p.grid (pointIn p s (s .turn - 1)) (pointIn p s i) (at s.order (s .turn - 1)) (at s.takes (at s.order (s .turn - 1)))) z (moved-on ok N D (s .turn - 1) (omega arith));
-        toGone = shifted-moved (pointAfter s.takes s.order s.first (s .turn - 1)) (at s.order s.turn) (at s.takes (at s.order s.turn)) (numIndices p.grid) c.1 (omega (arith, y .0, ok .settled .sixteenIndices));
-        toFar = moved-on ok N D s.turn low;
+        far = on (suc s.active) (omega arith);
+        toHere = subst (λ (i : ℕ). MovedAt p.grid s (s .active - 1) (pointIn p s (s .active - 1)) (pointIn p s i)) z (moved-on ok D (s .active - 1) (omega arith));
+        toGone = shifted-moved (arrayOf s (s .active - 1)) (stepAt s s.active) (sourceAt s s.active) (numIndices p.grid) c.1 (omega (arith, y .0, ok .settled .sixteenIndices));
+        toFar = moved-on ok D s.active low;
         indices = λ j l. let jl : j < A .t = omega (arith, D .orderLength) in
-            let h : at s.order j < numIndices p.grid = rw (D .orderAt j jl) (order-below ok N D j jl) in
-            let w = taken-from ok N D (at s.order j) h in
+            let h : at s.order j < numIndices p.grid = rw (D .orderAt j jl) (order-below ok D j jl) in
+            let w = source-from ok D (at s.order j) h in
             (h, rw (w .3) (sym (block-same p _ (back-below p w.0 (at s.order j) h)) ∙ block-back (blocksOf p) w.0 (at s.order j) ∙ block-same p (at s.order j) h));
-        nearMark = mark (s .turn - 1) (omega arith) (λ q. omega arith);
+        nearMark = mark (s .active - 1) (omega arith) (λ q. omega arith);
         goneMark = c .3;
-        farMark = mark (suc s.turn) (omega arith) (λ q. omega arith);
+        farMark = mark (suc s.active) (omega arith) (λ q. omega arith);
       }
 
   -- in a grid of one block: the steps to and from the point whose label is to be read
   pub at-beside : s .rule < 6 → numBlocks p.grid ≡ 1 → (tails : List ℕ) → ((k : ℕ) → k < numIndices p.grid → at tails k ≡ tailFrom p.grid p.start k)
-      → FallsBeside p.grid tails s.first s.coefficients s.order s.marks s.takes s.turn
+      → FallsBeside p.grid tails s
   at-beside r one tails are = go A.left A.came
     where
-      go : (left : Option (List (ℕ → ℕ))) → Came p A.T A.t A.x s left → FallsBeside p.grid tails s.first s.coefficients s.order s.marks s.takes s.turn
+      go : (left : Option (List (ℕ → ℕ))) → Came p A.T A.t A.x s left → FallsBeside p.grid tails s
       go _ (begins e u q) = record {
         nearMark = λ l. absurd (omega arith);
         farMark = λ l. absurd (omega (arith, D .orderLength));
@@ -306,36 +296,33 @@ module _ {p : Problem} (ok : Accepted p) {previousOf nextOf : List ℕ} (N : Nei
       }
       go _ (through n l e w q m b carry X C) =
           let mark = marked-position b in
-          let lag : (i : ℕ) → i ≤ A .t → (i ≡ s .turn → ⊥) → 0 < s .turn → listAt A.x i 0 ≡ listAt A.x 0 0 + above (at s.marks i) (at s.marks 0) = λ i a u v.
-          rw (mark i a u, mark 0 (omega arith) (λ z. omega arith)) (lag-is ok one N D i a) in
+          let lag : (i : ℕ) → i ≤ A .t → (i ≡ s .active → ⊥) → 0 < s .active → listAt A.x i 0 ≡ listAt A.x 0 0 + above s i = λ i a u v.
+          rw (mark i a u, mark 0 (omega arith) (λ z. omega arith)) (lag-is ok one D i a) in
           record {
-            nearMark = λ a. mark (s .turn - 1) (omega arith) (λ z. omega arith);
-            farMark = λ a. mark (suc s.turn) (omega (arith, D .orderLength)) (λ z. omega arith);
-            fromNear = λ a c. falling ok one N D (s .turn - 1) (omega arith) c tails are _ (lag (s .turn - 1) (omega arith) (λ z. omega arith) a);
-            toFar = λ a c. let f : s .turn < A .t = omega (arith, D .orderLength) in
-                falling ok one N D s.turn f c tails are (cond (ltb 0 s.turn) (above (at s.marks (suc s.turn)) (at s.marks 0)) 0)
-                (⊎-elim (λ (z : 0 < s .turn). rw (lt-ltb 0 s.turn z) (sym (first-same ok one N D s.turn f c) ∙ lag (suc s.turn) f (λ u. omega arith) z))
-                (λ (z : s .turn ≤ 0). let y : s .turn ≡ 0 = omega arith in rw (le-ltb 0 s.turn z, y) (omega arith)) (before-or-not 0 s.turn));
+            nearMark = λ a. mark (s .active - 1) (omega arith) (λ z. omega arith);
+            farMark = λ a. mark (suc s.active) (omega (arith, D .orderLength)) (λ z. omega arith);
+            fromNear = λ a c. falling ok one D (s .active - 1) (omega arith) c tails are _ (lag (s .active - 1) (omega arith) (λ z. omega arith) a);
+            toFar = λ a c. let f : s .active < A .t = omega (arith, D .orderLength) in
+                falling ok one D s.active f c tails are (cond (ltb 0 s.active) (above s (suc s.active)) 0)
+                (⊎-elim (λ (z : 0 < s .active). rw (lt-ltb 0 s.active z) (sym (first-same ok one D s.active f c) ∙ lag (suc s.active) f (λ u. omega arith) z))
+                (λ (z : s .active ≤ 0). let y : s .active ≡ 0 = omega arith in rw (le-ltb 0 s.active z, y) (omega arith)) (before-or-not 0 s.active));
           }
       go _ (fromLarger l w q m b e X) = absurd (omega arith)
 
   here-place : (length (pointsOf p A.x) ≡ suc A.t) × (length (pointsOf p A.x) ≡ suc (length (order p.grid (pointsOf p A.x))))
   here-place = (long ok.settled A.describes.chain, place-long ok.settled _ (place-of ok.settled A.describes.chain))
 
-  move : Onward ok N A.T A.t A.o A.x (read p s) A.left
-  move = onward ok N A.T A.o A.x s A.t A.describes A.came (λ l q e.
+  move : Onward ok A.T A.t A.o A.x (read p s) A.left
+  move = onward ok A.T A.o A.x s A.t A.describes A.came (λ l q e.
       not-start ok A.follows k A.many (pointsOf p l) (left-of p A.left _ A.before l q)
       (A .here ∙ single ok.settled _ (place-of ok.settled A.describes.chain) (here-place .0 ∙ ap suc e)))
 
   -- the move keeps within its arrays and widths
-  pub at-ready : Ready previousOf nextOf (read p s)
+  pub at-ready : Ready (read p s)
   at-ready = move .ready
 
-  abbrev next : State
-  next = step previousOf nextOf (read p s)
-
-  goes : {y : List (ℕ → ℕ)} → (A .left ≡ some y → ⊥) → Reached p A.x next y → At p next (suc k)
-  goes {y} new R =
+  onto : {e : State} {y : List (ℕ → ℕ)} → (A .left ≡ some y → ⊥) → Reached p A.x e y → At p e (suc k)
+  onto {e} {y} new R =
       let C = A .describes .chain in
       let back = back-again ok.settled C in
       let L = of-link ok.settled _ (place-of ok.settled C) (rw (← back) at R.link) in
@@ -355,50 +342,27 @@ module _ {p : Problem} (ok : Accepted p) {previousOf nextOf : List ℕ} (N : Nei
         before = (ap (λ (z : Simplex). some z) (List·getD-append A.places (pointsOf p y ∷ []) [] k (omega (arith, A .many)) ∙ A .here), back);
       }
 
-  -- not at an end, it stands at the next place
-  pub at-step : (next .rule ≡ 0 → ⊥) → (next .rule ≡ 8 → ⊥) → At p next (suc k)
-  at-step notPlace notFacet = go move.outcome
-    where
-      go : Outcome p A.T A.t A.x A.left (read p s) next → At p next (suc k)
-      go (placeEnds r c e) = absurd (notPlace r)
-      go (facetEnds r n q c e) = absurd (notFacet r)
-      go (goesOn y new R) = goes new R
-
   -- at an end, that is the path's
-  ends-at : (kind : Kind) (from : ℕ) (points : Simplex) → from ≤ A .t → pointsFrom p (read p s) from ≡ points
-      → (next .end < numIndices p.grid) × IsWay p (pointsOf p A.x) (stop (record { kind = kind; block = blockOf p.grid next.end; simplex = points }))
-      → SamePlace (read p s) next → EndsAt p kind from next k
-  ends-at kind from points b c w same =
+  ends-at : (kind : Kind) (from : ℕ) (points : Simplex) (h : ℕ) → from ≤ A .t → pointsFrom p (read p s) from ≡ points
+      → (h < numIndices p.grid) × IsWay p (pointsOf p A.x) (stop (record { kind = kind; block = blockOf p.grid h; simplex = points }))
+      → EndsAt p kind from (read p s) h k
+  ends-at kind from points h b c w =
       let D = move .describes in
-      let l : length next.order ≡ A .t = ap length same.order ∙ D .orderLength in
-      let r = ends-path ok A.follows k A.many (record { kind = kind; block = blockOf p.grid next.end; simplex = points }) (rw A.here w.1) in
+      let r = ends-path ok A.follows k A.many (record { kind = kind; block = blockOf p.grid h; simplex = points }) (rw A.here w.1) in
       record {
-        firstLength = ap length (same .first) ∙ D .firstLength;
+        firstLength = D .firstLength;
         index = w .0;
-        few = omega (arith, l, here-place .0, here-place .1, order-short p _ (place-of ok.settled A.describes.chain));
-        low = omega arith;
-        takesBelow = rw (same .takes) D.taking.below;
-        points = λ i m. rw (same .first, same .order, same .takes) (ready-point ok N D i (omega arith));
-        end = rw (same .first, same .order, same .takes, c) r.0;
+        few = omega (arith, D .orderLength, here-place .0, here-place .1, order-short p _ (place-of ok.settled A.describes.chain));
+        low = omega (arith, D .orderLength);
+        points = ready-point ok D _ (omega (arith, D .orderLength));
+        end = rw c r.0;
         places = r .1;
       }
 
-  pub at-place-end : next .rule ≡ 0 → EndsAt p placeEnd 0 next k
-  at-place-end q = go move.outcome
+  pub at-next : NextAt p k (step (read p s))
+  at-next = go move.outcome
     where
-      go : Outcome p A.T A.t A.x A.left (read p s) next → EndsAt p placeEnd 0 next k
-      go (placeEnds r c e) =
-          ends-at placeEnd 0 _ (omega arith) (all-points ok N move.describes)
-          (place-way ok A.describes.chain next.end c) e
-      go (facetEnds r n z c e) = absurd (omega arith)
-      go (goesOn y new R) = absurd (omega (arith, rule-between p R.T R.t y next A.x R.came .0))
-
-  pub at-facet-end : next .rule ≡ 8 → EndsAt p facetEnd 1 next k
-  at-facet-end q = go move.outcome
-    where
-      go : Outcome p A.T A.t A.x A.left (read p s) next → EndsAt p facetEnd 1 next k
-      go (placeEnds r c e) = absurd (omega arith)
-      go (facetEnds r n z c e) =
-          ends-at facetEnd 1 _ (omega arith) (later-points ok N move.describes)
-          (facet-way ok A.describes.chain next.end z c) e
-      go (goesOn y new R) = absurd (omega (arith, rule-between p R.T R.t y next A.x R.came .1))
+      go : {e : After} → Outcome p A.T A.t A.x A.left (read p s) e → NextAt p k e
+      go (atPlaceEnd h c) = placeEnds (ends-at placeEnd 0 _ h (omega arith) (all-points ok move.describes) (place-way ok A.describes.chain h c))
+      go (atFacetEnd h n z c) = facetEnds (ends-at facetEnd 1 _ h (omega arith) (later-points ok move.describes) (facet-way ok A.describes.chain h z c))
+      go (goesOn y new R) = nextPlace (onto new R)

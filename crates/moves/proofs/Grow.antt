@@ -26,39 +26,27 @@ use Rattle.place.proofs.ToChain.{labelOf}
 use Rattle.place.specs.Demand.{Accepted}
 use Rattle.place.specs.Problem.{Problem}
 use Rattle.moves.specs.Mask.{bit, withIndex, withoutIndex}
-use Rattle.moves.specs.Ready.{ReadyGrow}
-use Rattle.moves.specs.Step.{State, takingAt, firstOutside, fills, ended, grow}
-use Rattle.moves.proofs.Describes.{Neighbours, Taking, Describes, markAt, AllMarks, labelsOf, through, Reached, Grows}
+use Rattle.moves.specs.Ready.{IsRound, ReadyGrow}
+use Rattle.moves.specs.Step.{State, goes, endsAtPlace, firstOutside, isFilled, joined, grow}
+use Rattle.moves.proofs.Describes.{Describes, markAt, AllMarks, labelsOf, through, Reached, Joined, placeEnds, joinedOn, Grows}
 use Rattle.moves.proofs.Masks.{bit-with, bit-without}
 use Rattle.moves.proofs.Range.{few, label-below}
-use Rattle.moves.proofs.Takes.{taking-at, taking-same}
-use Rattle.moves.proofs.Walks.{FirstAt, forward-outside, fills-yes, fills-no}
+use Rattle.moves.proofs.Walks.{FirstAt, forward-outside, filled-yes, filled-no}
 
--- index h stands in the order at a, and point a + 1 has come in
-abbrev joined : State → List ℕ → ℕ → ℕ → ℕ → State
-joined s takes h a rule = record {
-  first = s .first;
-  coefficients = s .coefficients;
-  order = insertAt a h s.order;
-  marks = insertAt (suc a) 0 s.marks;
-  takes = takes;
-  T = withIndex s.T h;
-  U = withoutIndex s.U h;
-  turn = suc a;
-  rule = rule;
-  end = 0;
-}
+-- the place that comes where g goes before the first index ahead of it that is not in U
+abbrev place : State → ℕ → ℕ
+place s h = found (firstOutside s.round.next s.round.sizes s.U h) 16 s.order
 
-module _ (nextOf : List ℕ) (s : State) (h : ℕ) where
-  grow-in-U : bit s.U h ≡ true → grow nextOf s h ≡ joined s (takingAt nextOf s.U h s.takes) h (found (firstOutside nextOf s.U h) 16 s.order) 5
+module _ (s : State) (h : ℕ) where
+  grow-in-U : bit s.U h ≡ true → grow s h ≡ goes (joined s (place s h) h 5)
   unfolding grow
   grow-in-U e = rw e
 
-  grow-outside : bit s.U h ≡ false → fills nextOf s.T s.U h ≡ false → grow nextOf s h ≡ joined s s.takes h (length s.order) 4
+  grow-outside : bit s.U h ≡ false → isFilled s.round s.T s.U h ≡ false → grow s h ≡ goes (joined s (length s.order) h 4)
   unfolding grow
   grow-outside e f = rw (e, f)
 
-  grow-ends : bit s.U h ≡ false → fills nextOf s.T s.U h ≡ true → grow nextOf s h ≡ ended s 0 h
+  grow-ends : bit s.U h ≡ false → isFilled s.round s.T s.U h ≡ true → grow s h ≡ endsAtPlace s h
   unfolding grow
   grow-ends e f = rw (e, f)
 
@@ -86,16 +74,6 @@ module _ {p : Problem} (ok : Accepted p) {T : ℕ → Bool} {t : ℕ} {o : ℕ �
 
   plus-g : Less T+ T g
   plus-g = plus-is T g E.out
-
-  -- the zeros outside T with g are those outside T but g
-  zeros-without : (k : ℕ) → zeros (blocksOf p) T+ (listAt x 0) k ≡ (not (eqb k g) && zeros (blocksOf p) T (listAt x 0) k)
-  unfolding zeros
-  zeros-without k =
-      ⊎-elim (λ (q : k ≡ g). rw (q, plus-g .has, eq-eqb g g refl)) (λ q. rw (sym (plus-g .rest k q), ne-eqb k g q)) (same-or k g)
-
-  zeros-with : zeros (blocksOf p) T (listAt x 0) g ≡ false → (k : ℕ) → zeros (blocksOf p) T+ (listAt x 0) k ≡ zeros (blocksOf p) T (listAt x 0) k
-  zeros-with z k =
-      ⊎-elim (λ (q : k ≡ g). zeros-without k ∙ rw (eq-eqb k g q) (sym (ap (zeros (blocksOf p) T (listAt x 0)) q ∙ z))) (λ q. zeros-without k ∙ rw (ne-eqb k g q)) (same-or k g)
 
   joining-below : g < numIndices p.grid
   joining-below = label-below ok D.chain i E.first
@@ -145,9 +123,10 @@ module _ {p : Problem} (ok : Accepted p) {T : ℕ → Bool} {t : ℕ} {o : ℕ �
         ∙ ap (markAt p) (sym (point-behind (j - 1) v (omega arith)))))
         (before-or-not j (suc a))
 
-    describes : (takes : List ℕ) (rule : ℕ) → Taking p (zeros (blocksOf p) T+ (listAt x 0)) takes → Describes p T+ (suc t) (insert a g o) y (joined s takes g a rule)
-    describes takes rule S = record {
+    describes : (rule : ℕ) → Describes p T+ (suc t) (insert a g o) y (joined s a g rule)
+    describes rule = record {
       chain = enlarged .place;
+      round = D .round;
       orderLength = length-insertAt a g s.order ∙ ap suc D.orderLength;
       orderAt = order-at;
       firstLength = D .firstLength;
@@ -158,111 +137,98 @@ module _ {p : Problem} (ok : Accepted p) {T : ℕ → Bool} {t : ℕ} {o : ℕ �
       inU = λ k m. rw (point-before 0 (omega arith))
           (zeros-plus (blocksOf p) T g (omega (arith, joining-below, ok .settled .sixteenIndices)) s.U k m (listAt x 0) (D .inU k m));
       marksLength = length-insertAt (suc a) 0 s.marks ∙ ap suc D.marksLength;
-      taking = taking-same (λ k. ap (λ (c : ℕ → ℕ). zeros (blocksOf p) T+ c k) (point-before 0 (omega arith))) S;
     }
 
-    joins : (takes : List ℕ) (rule : ℕ) → Taking p (zeros (blocksOf p) T+ (listAt x 0)) takes → 1 < rule → rule < 6
-        → (y : List (ℕ → ℕ)) × Above (blocksOf p) (labelOf p) T t x y × Reached p x (joined s takes g a rule) y
-    joins takes rule S b c = (
-      y,
-      enlarged .above,
-      record {
-        T = T+;
-        t = suc t;
-        o = insert a g o;
-        describes = describes takes rule S;
-        came = through t x refl (omega arith) (omega arith) c marks-at enlarged.carries enlarged.back (λ q _ _. absurd (omega arith));
-        link = enlarged .link;
-      },
-    )
+    joins : (rule : ℕ) → 1 < rule → rule < 6 → Joined p T t x s (goes (joined s a g rule))
+    joins rule b c = joinedOn y enlarged.above (record {
+      T = T+;
+      t = suc t;
+      o = insert a g o;
+      describes = describes rule;
+      came = through t x refl (omega arith) (omega arith) c marks-at enlarged.carries enlarged.back (λ q _ _. absurd (omega arith));
+      link = enlarged .link;
+    })
 
-  module _ {previousOf nextOf : List ℕ} (N : Neighbours p.grid previousOf nextOf) where
-    in-U : bit s.U g ≡ zeros (blocksOf p) T (listAt x 0) g
-    in-U = D .inU g (omega (arith, joining-below, ok .settled .sixteenIndices))
+  abbrev N : IsRound p.grid s.round
+  N = D .round
 
-    room-of : (bit s.U g ≡ true) ⊎ (fills nextOf s.T s.U g ≡ false) → Free (blocksOf p) T+ (listAt x 0)
-    room-of (inl u) = room-in-U D.chain.chain g E.out (sym in-U ∙ u)
-    room-of (inr f) =
-        let w = fills-no ok N s.T s.U D.inT D.inU g joining-below f in
-        room D.chain.chain g E.out w.0 w.1 w.2 w.3 w.4
+  in-U : bit s.U g ≡ zeros (blocksOf p) T (listAt x 0) g
+  in-U = D .inU g (omega (arith, joining-below, ok .settled .sixteenIndices))
 
-    pub grow-ready : ReadyGrow nextOf s g
-    grow-ready = record {
-      low = omega (arith, joining-below, ok .settled .sixteenIndices);
-      few = omega (arith, D .orderLength, few ok D.chain, ok .settled .sixteenIndices);
-      room = λ r. let G = larger plus-g D.chain.chain (room-of r) in
-          omega (arith, D .orderLength, few ok (up-link D.chain E G.3 .place), ok .settled .sixteenIndices);
-    }
+  room-of : (bit s.U g ≡ true) ⊎ (isFilled s.round s.T s.U g ≡ false) → Free (blocksOf p) T+ (listAt x 0)
+  room-of (inl u) = room-in-U D.chain.chain g E.out (sym in-U ∙ u)
+  room-of (inr f) =
+      let w = filled-no ok N s.T s.U D.inT D.inU g joining-below f in
+      room D.chain.chain g E.out w.0 w.1 w.2 w.3 w.4
 
-    -- g's block is full: each of its indices is a label or has coordinate 0
-    complete : fills nextOf s.T s.U g ≡ true → PlaceEnd (blocksOf p) (labelOf p) t x g
-    complete f k b =
-        ⊎-elim (λ (e : k ≡ g). inl (i, E .first, sym e))
-        (λ n. ⊎-elim (λ e. inl (D .chain .covers k e))
-        (λ e. let u = fills-yes ok N s.T s.U D.inT D.inU g joining-below f k b n e in
-        inr (zero-stays D.chain.chain k e (zeros-yes D.chain.chain k u .1))) (true-or-false (T k))) (same-or k g)
+  pub grow-ready : ReadyGrow s g
+  grow-ready = record {
+    low = omega (arith, joining-below, ok .settled .sixteenIndices);
+    few = omega (arith, D .orderLength, few ok D.chain, ok .settled .sixteenIndices);
+    room = λ r. let G = larger plus-g D.chain.chain (room-of r) in
+        omega (arith, D .orderLength, few ok (up-link D.chain E G.3 .place), ok .settled .sixteenIndices);
+  }
 
-    -- g is in U: it goes before the first index forward from it that is not in U, if that is in T, and behind the last otherwise
-    joins-in-U : bit s.U g ≡ true
-        → (y : List (ℕ → ℕ)) × Above (blocksOf p) (labelOf p) T t x y × Reached p x (joined s (takingAt nextOf s.U g s.takes) g (found (firstOutside nextOf s.U g) 16 s.order) 5) y
-    joins-in-U u = ⊎-elim inT notT (true-or-false (T b))
-      where
-        K : Chain (blocksOf p) T t (listAt x) o
-        K = D .chain .chain
+  -- g's block is full: each of its indices is a label or has coordinate 0
+  complete : isFilled s.round s.T s.U g ≡ true → PlaceEnd (blocksOf p) (labelOf p) t x g
+  complete f k b =
+      ⊎-elim (λ (e : k ≡ g). inl (i, E .first, sym e))
+      (λ n. ⊎-elim (λ e. inl (D .chain .covers k e))
+      (λ e. let u = filled-yes ok N s.T s.U D.inT D.inU g joining-below f k b n e in
+      inr (zero-stays D.chain.chain k e (zeros-yes D.chain.chain k u .1))) (true-or-false (T k))) (same-or k g)
 
-        z : zeros (blocksOf p) T (listAt x 0) g ≡ true
-        z = sym in-U ∙ u
+  -- g is in U: it goes before the first index forward from it that is not in U, if that is in T, and behind the last otherwise
+  joins-in-U : bit s.U g ≡ true → Joined p T t x s (goes (joined s (place s g) g 5))
+  joins-in-U u = ⊎-elim inT notT (true-or-false (T b))
+    where
+      K : Chain (blocksOf p) T t (listAt x) o
+      K = D .chain .chain
 
-        out : (n : ℕ) × (n ≤ 16) × FirstAt (blocksOf p .next) (λ k. not (zeros (blocksOf p) T (listAt x 0) k)) g n
-            × (firstOutside nextOf s.U g ≡ back (blocksOf p .next) n g)
-        out = let f = K .free g in forward-outside ok N s.U D.inU g f.0 joining-below f.1 (zeros-out K f.0 f.2 f.3)
+      z : zeros (blocksOf p) T (listAt x 0) g ≡ true
+      z = sym in-U ∙ u
 
-        b : ℕ
-        b = back (blocksOf p .next) out.0 g
+      out : (n : ℕ) × (n ≤ 16) × FirstAt (blocksOf p .next) (λ k. not (zeros (blocksOf p) T (listAt x 0) k)) g n
+          × (firstOutside s.round.next s.round.sizes s.U g ≡ back (blocksOf p .next) n g)
+      out = let f = K .free g in forward-outside ok N s.U D.inU g f.0 joining-below f.1 (zeros-out K f.0 f.2 f.3)
 
-        takes-at : Taking p (zeros (blocksOf p) T+ (listAt x 0)) (takingAt nextOf s.U g s.takes)
-        takes-at = let f = K .free g in taking-at ok N s.U D.inU D.taking g joining-below f.0 f.1 z (zeros-out K f.0 f.2 f.3) zeros-without
+      b : ℕ
+      b = back (blocksOf p .next) out.0 g
 
-        skipped : (j : ℕ) → 0 < j → j < out .0 → zeros (blocksOf p) T (listAt x 0) (back (blocksOf p .next) j g) ≡ true
-        skipped j a c = not-false _ (out .2 .skipped j a c)
+      skipped : (j : ℕ) → 0 < j → j < out .0 → zeros (blocksOf p) T (listAt x 0) (back (blocksOf p .next) j g) ≡ true
+      skipped j a c = not-false _ (out .2 .skipped j a c)
 
-        inT : T b ≡ true
-            → (y : List (ℕ → ℕ)) × Above (blocksOf p) (labelOf p) T t x y × Reached p x
-            (joined s (takingAt nextOf s.U g s.takes) g (found (firstOutside nextOf s.U g) 16 s.order) 5) y
-        inT e =
-            let w = K .order .all b e in
-            let f : ℕ = found (firstOutside nextOf s.U g) 16 s.order in
-            let F : Found (firstOutside nextOf s.U g) 16 s.order f =
-            found-is _ 16 s.order w.0 (omega (arith, w .1, D .orderLength)) (D .orderAt w.0 w.1 ∙ w .2 ∙ sym out.3)
-            (λ q. omega (arith, w .1, few ok D.chain, ok .settled .sixteenIndices)) in
-            let l : f < t = omega (arith, F .inside, D .orderLength) in
-            let r = rises-here K g f l (rises-with K g E.out z out.0 skipped out.2.some f l (sym (D .orderAt f l) ∙ F .is ∙ out .3)) in
-            joins (room-of (inl u)) f (omega arith) r.0 r.1 _ 5 takes-at (omega arith) (omega arith)
+      inT : T b ≡ true → Joined p T t x s (goes (joined s (place s g) g 5))
+      inT e =
+          let w = K .order .all b e in
+          let f : ℕ = found (firstOutside s.round.next s.round.sizes s.U g) 16 s.order in
+          let F : Found (firstOutside s.round.next s.round.sizes s.U g) 16 s.order f =
+          found-is _ 16 s.order w.0 (omega (arith, w .1, D .orderLength)) (D .orderAt w.0 w.1 ∙ w .2 ∙ sym out.3)
+          (λ q. omega (arith, w .1, few ok D.chain, ok .settled .sixteenIndices)) in
+          let l : f < t = omega (arith, F .inside, D .orderLength) in
+          let r = rises-here K g f l (rises-with K g E.out z out.0 skipped out.2.some f l (sym (D .orderAt f l) ∙ F .is ∙ out .3)) in
+          joins (room-of (inl u)) f (omega arith) r.0 r.1 5 (omega arith) (omega arith)
 
-        notT : T b ≡ false
-            → (y : List (ℕ → ℕ)) × Above (blocksOf p) (labelOf p) T t x y × Reached p x
-            (joined s (takingAt nextOf s.U g s.takes) g (found (firstOutside nextOf s.U g) 16 s.order) 5) y
-        notT e =
-            let q : found (firstOutside nextOf s.U g) 16 s.order ≡ t =
-            found-none _ 16 s.order
-            (λ j l m. let jl : j < t = omega (arith, D .orderLength) in
-            absurd-bool (sym (K .order .within j jl) ∙ ap T (sym (D .orderAt j jl) ∙ m ∙ out .3) ∙ e)) ∙ D .orderLength in
-            rw q (joins (room-of (inl u)) t (omega arith) (stays-with K g E.out z out.0 skipped e (not-true _ out.2.stops))
-            (λ j a c. absurd (omega arith)) _ 5 takes-at
-            (omega arith) (omega arith))
+      notT : T b ≡ false → Joined p T t x s (goes (joined s (place s g) g 5))
+      notT e =
+          let q : found (firstOutside s.round.next s.round.sizes s.U g) 16 s.order ≡ t =
+          found-none _ 16 s.order
+          (λ j l m. let jl : j < t = omega (arith, D .orderLength) in
+          absurd-bool (sym (K .order .within j jl) ∙ ap T (sym (D .orderAt j jl) ∙ m ∙ out .3) ∙ e)) ∙ D .orderLength in
+          rw q (joins (room-of (inl u)) t (omega arith) (stays-with K g E.out z out.0 skipped e (not-true _ out.2.stops))
+          (λ j a c. absurd (omega arith)) 5
+          (omega arith) (omega arith))
 
-    -- it is not: behind the last
-    joins-last : bit s.U g ≡ false → fills nextOf s.T s.U g ≡ false
-        → (y : List (ℕ → ℕ)) × Above (blocksOf p) (labelOf p) T t x y × Reached p x (joined s s.takes g (length s.order) 4) y
-    joins-last u f =
-        rw D.orderLength
-        (joins (room-of (inr f)) t (omega arith) (never-rises D.chain.chain g E.out (sym in-U ∙ u))
-        (λ j a c. absurd (omega arith)) _ 4 (taking-same (zeros-with (sym in-U ∙ u)) D.taking)
-        (omega arith) (omega arith))
+  -- it is not: behind the last
+  joins-last : bit s.U g ≡ false → isFilled s.round s.T s.U g ≡ false → Joined p T t x s (goes (joined s (length s.order) g 4))
+  joins-last u f =
+      rw D.orderLength
+      (joins (room-of (inr f)) t (omega arith) (never-rises D.chain.chain g E.out (sym in-U ∙ u))
+      (λ j a c. absurd (omega arith)) 4
+      (omega arith) (omega arith))
 
-pub grows : {p : Problem} → Accepted p → {previousOf nextOf : List ℕ} → Neighbours p.grid previousOf nextOf → Grows p nextOf
-grows {p} ok {previousOf} {nextOf} N T t o x s i D L E =
-    ⊎-elim (λ u. rw (grow-in-U nextOf s _ u) (inr (joins-in-U ok D L E N u)))
-    (λ u. ⊎-elim (λ f. rw (grow-ends nextOf s _ u f) (inl (refl, complete ok D L E N f, refl, refl, refl)))
-    (λ f. rw (grow-outside nextOf s _ u f) (inr (joins-last ok D L E N u f))) (true-or-false (fills nextOf s.T s.U (labelsOf p x i))))
+pub grows : {p : Problem} → Accepted p → Grows p
+grows {p} ok T t o x s i D L E =
+    ⊎-elim (λ u. rw (grow-in-U s _ u) (joins-in-U ok D L E u))
+    (λ u. ⊎-elim (λ f. rw (grow-ends s _ u f) (placeEnds _ (complete ok D L E f)))
+    (λ f. rw (grow-outside s _ u f) (joins-last ok D L E u f)) (true-or-false (isFilled s.round s.T s.U (labelsOf p x i))))
     (true-or-false (bit s.U (labelsOf p x i)))

@@ -1,7 +1,7 @@
 -- The first point leaves: the state that `leave` makes describes the place beyond its facet, or the facet is an end. Assumes nothing.
 use mathlib.Core.Bool.{Bool, true, false, not, _&&_, _||_, cond}
 use mathlib.Core.List.{List}
-use mathlib.Core.Logic.{inl, inr, ⊎-elim}
+use mathlib.Core.Logic.{⊎-elim}
 use mathlib.Core.Option.{some}
 use mathlib.Core.Path.{_≡_, refl, sym, ap, _∙_}
 use Prim.Native.Nat.{ℕ, suc, _≤_, _<_}
@@ -12,7 +12,7 @@ use native.Mathlib.Omega.{arith}
 use Rattle.combinatorics.proofs.Basics.{before-or-not, and-left, and-right}
 use Rattle.combinatorics.proofs.EditsRotate.{length-rotateLeft, rotateLeft-before, rotateLeft-last}
 use Rattle.combinatorics.specs.Edits.{rotateLeft}
-use Rattle.geometry.proofs.Bridge.{changes-of, zeros-out}
+use Rattle.geometry.proofs.Bridge.{changes-of}
 use Rattle.geometry.proofs.Definitions.{back, Blocks, Chain, coord, zeros, Free, Moved, BackOutside, Carries}
 use Rattle.geometry.proofs.FirstLeaves.{moved, zeros-next, filled, filled-only}
 use Rattle.geometry.proofs.LabelledChains.{listAt, tabulate}
@@ -25,19 +25,29 @@ use Rattle.place.proofs.ToChain.{labelOf}
 use Rattle.place.specs.Demand.{Accepted}
 use Rattle.place.specs.Problem.{Problem}
 use Rattle.moves.specs.Mask.{bit, withIndex}
-use Rattle.moves.specs.Ready.{ReadyFirst}
-use Rattle.moves.specs.Step.{State, takingPast, fills, shifted, changedBefore, leaveFirst, leave, ended}
-use Rattle.moves.proofs.Describes.{Neighbours, Taking, Describes, markAt, AllMarks, labelsOf, Came, through, Reached, Left}
+use Rattle.moves.specs.Ready.{IsRound, ReadyFirst}
+use Rattle.moves.specs.Step.{State, goes, endsAtFacet, sourceIn, isFilled, shifted, changedBefore, leaveFirst, leave}
+use Rattle.moves.proofs.Describes.{Describes, markAt, AllMarks, labelsOf, Came, through, Reached, Left, facetEnds, leftOn}
 use Rattle.moves.proofs.Masks.{bit-with}
 use Rattle.moves.proofs.Range.{index-below, coord-below, coefficient-below}
 use Rattle.moves.proofs.Shifted.{length-shifted, shifted-at}
-use Rattle.moves.proofs.Takes.{or-into, or-not, taken-from, taking-past, taking-same}
-use Rattle.moves.proofs.Walks.{ChangedOn, before-outside, changed, tested, backward, previous-below, fills-yes, fills-no}
+use Rattle.moves.proofs.Walks.{ChangedOn, before-outside, changed, tested, backward, previous-below, filled-yes, filled-no, source-from}
 
-module _ {p : Problem} (ok : Accepted p) {previousOf nextOf : List ℕ} (N : Neighbours p.grid previousOf nextOf)
-    {T : ℕ → Bool} {n : ℕ} {o : ℕ → ℕ} {x : List (ℕ → ℕ)} {s : State} (D : Describes p T (suc n) o x s) where
+-- an index joins a set or not
+or-into : (a z : Bool) → (a || z) ≡ (a && true || z)
+or-into true z = refl
+or-into false z = refl
+
+or-not : (a z : Bool) → z ≡ (a && false || z)
+or-not true z = refl
+or-not false z = refl
+
+module _ {p : Problem} (ok : Accepted p) {T : ℕ → Bool} {n : ℕ} {o : ℕ → ℕ} {x : List (ℕ → ℕ)} {s : State} (D : Describes p T (suc n) o x s) where
   abbrev R : Blocks
   R = blocksOf p
+
+  abbrev N : IsRound p.grid s.round
+  N = D .round
 
   abbrev P : ℕ → ℕ → ℕ
   P = listAt x
@@ -48,8 +58,8 @@ module _ {p : Problem} (ok : Accepted p) {previousOf nextOf : List ℕ} (N : Nei
   first-below : o 0 < numIndices p.grid
   first-below = index-below ok D.chain (o 0) (K .order .within 0 (omega arith))
 
-  run : (d : ℕ) × (d ≤ 16) × BackOutside R (zeros R T (P 0)) (o 0) d × (at s.takes (o 0) ≡ back R.previous d (o 0))
-  run = taken-from ok N D (o 0) first-below
+  run : (d : ℕ) × (d ≤ 16) × BackOutside R (zeros R T (P 0)) (o 0) d × (sourceIn s (o 0) ≡ back R.previous d (o 0))
+  run = source-from ok D (o 0) first-below
 
   -- where the first step takes 1 away, and whether that index joins U
   abbrev b : ℕ
@@ -66,29 +76,28 @@ module _ {p : Problem} (ok : Accepted p) {previousOf nextOf : List ℕ} (N : Nei
 
   abbrev onward : Bool → State
   onward into = record {
+    round = s .round;
     first = shifted s.first (o 0) b;
-    coefficients = changedBefore suc previousOf b 16 (o 0) s.coefficients;
+    coefficients = changedBefore suc s.round.previous b 16 (o 0) s.coefficients;
     order = rotateLeft s.order;
     marks = rotateLeft s.marks;
-    takes = cond into (takingPast nextOf s.U b s.takes) s.takes;
     T = s .T;
     U = cond into (withIndex s.U b) s.U;
-    turn = length s.order;
+    active = length s.order;
     rule = cond into 2 1;
-    end = 0;
   }
 
-  leave-is : leave previousOf nextOf s 0 ≡ cond (joins && fills nextOf s.T s.U b) (ended s 8 b) (onward joins)
+  leave-is : leave s 0 ≡ cond (joins && isFilled s.round s.T s.U b) (endsAtFacet s b) (goes (onward joins))
   unfolding leave leaveFirst
   leave-is = rw (D .orderAt 0 (omega arith), run .3, D .firstAt b end-below, D .inT b (omega (arith, end-below, ok .settled .sixteenIndices)))
 
-  pub ready-first : ReadyFirst previousOf s
+  pub ready-first : ReadyFirst s
   ready-first = record {
     some = omega (arith, D .orderLength);
     positive = rw (D .orderAt 0 (omega arith), run .3) (omega (arith, D .firstAt b end-below, moves .gives));
     fits = rw (D .orderAt 0 (omega arith)) (omega (arith, D .firstAt (o 0) first-below, coord-below ok D.chain 0 (omega arith) (o 0) first-below));
     raised = rw (D .orderAt 0 (omega arith), run .3)
-        (tested previousOf (numIndices p.grid) (backward ok N) (previous-below ok N) (λ c. ltb c 65535) suc 16 run.0 s.coefficients first-below
+        (tested s.round.previous (numIndices p.grid) (backward ok N) (previous-below ok N) (λ c. ltb c 65535) suc 16 run.0 s.coefficients first-below
         run.1 (before-outside run.2 moves.apart)
         (λ j l. let k = back R.previous j (o 0) in
         lt-ltb (at s.coefficients k) 65535
@@ -127,11 +136,11 @@ module _ {p : Problem} (ok : Accepted p) {previousOf nextOf : List ℕ} (N : Nei
             D .firstAt k l,
           ))
 
-      raised : ChangedOn R.previous suc (o 0) run.0 s.coefficients (changedBefore suc previousOf b 16 (o 0) s.coefficients)
-      raised = changed previousOf _ (backward ok N) (previous-below ok N) suc 16 run.0 s.coefficients first-below
+      raised : ChangedOn R.previous suc (o 0) run.0 s.coefficients (changedBefore suc s.round.previous b 16 (o 0) s.coefficients)
+      raised = changed s.round.previous _ (backward ok N) (previous-below ok N) suc 16 run.0 s.coefficients first-below
           (omega (arith, D .coefficientsLength, ok .settled .sixteenIndices)) run.1 (before-outside run.2 moves.apart)
 
-      coefficients-at : (k : ℕ) → k < numIndices p.grid → at (changedBefore suc previousOf b 16 (o 0) s.coefficients) k ≡ listAt y 0 k
+      coefficients-at : (k : ℕ) → k < numIndices p.grid → at (changedBefore suc s.round.previous b 16 (o 0) s.coefficients) k ≡ listAt y 0 k
       coefficients-at k l =
           rw (points 0 (omega arith))
           (⊎-elim (λ (e : P 1 k ≡ P 0 k). raised .off k
@@ -146,20 +155,10 @@ module _ {p : Problem} (ok : Accepted p) {previousOf nextOf : List ℕ} (N : Nei
           go true = bit-with s.U b k (omega (arith, end-below, ok .settled .sixteenIndices)) l ∙ rw (D .inU k l) (or-into (eqb k b) _)
           go false = D .inU k l ∙ or-not (eqb k b) _
 
-      -- b joins U or not, and the new place has an index outside U in its block
-      takes-at : (g : Bool) → joins ≡ g → Taking p (zeros R T (listAt y 0)) (cond g (takingPast nextOf s.U b s.takes) s.takes)
-      takes-at g e = go g (λ k. ap (λ (c : ℕ → ℕ). zeros R T c k) (points 0 (omega arith)) ∙ zeros-next K run.2 k ∙ ap (λ (z : Bool). eqb k b && z || zeros R T (P 0) k) e)
-        where
-          go : (g : Bool) → ((k : ℕ) → zeros R T (listAt y 0) k ≡ (eqb k b && g || zeros R T (P 0) k))
-              → Taking p (zeros R T (listAt y 0)) (cond g (takingPast nextOf s.U b s.takes) s.takes)
-          go true z =
-              let f = beyond .place .chain .free b in
-              taking-past ok N s.U D.inU D.taking b end-below f.0 f.1 run.2.stops (zeros-out beyond.place.chain f.0 f.2 f.3) (λ k. z k ∙ sym (or-into (eqb k b) _))
-          go false z = taking-same (λ k. z k ∙ sym (or-not (eqb k b) _)) D.taking
-
       describes : Describes p T (suc n) (first-o K) y (onward joins)
       describes = record {
         chain = beyond .place;
+        round = D .round;
         orderLength = length-rotateLeft s.order ∙ D .orderLength;
         orderAt = order-at;
         firstLength = length-shifted s.first (o 0) b ∙ D .firstLength;
@@ -169,7 +168,6 @@ module _ {p : Problem} (ok : Accepted p) {previousOf nextOf : List ℕ} (N : Nei
         inT = D .inT;
         inU = zeros-at;
         marksLength = length-rotateLeft s.marks ∙ D .marksLength;
-        taking = takes-at joins refl;
       }
 
       came : Came p T (suc n) y (onward joins) (some x)
@@ -190,26 +188,18 @@ module _ {p : Problem} (ok : Accepted p) {previousOf nextOf : List ℕ} (N : Nei
       reached = record { T = T; t = suc n; o = first-o K; describes = describes; came = came; link = beyond .link }
 
     -- the facet is an end exactly where b joins U and fills its block
-    end-or : (e : Bool) → (joins && fills nextOf s.T s.U b) ≡ e → Left p T n x s 0 (cond e (ended s 8 b) (onward joins))
+    end-or : (e : Bool) → (joins && isFilled s.round s.T s.U b) ≡ e → Left p T n x s 0 (cond e (endsAtFacet s b) (goes (onward joins)))
     end-or true e =
-        inl (
-          refl,
-          refl,
-          fill-end D.chain 0 (omega arith) c b
-              (filled K run.2 (and-left joins _ e)
-              (fills-yes ok N s.T s.U D.inT D.inU b end-below (and-right joins _ e))),
-          refl,
-          refl,
-          refl,
-        )
-    end-or false e = inr (y fr, beyond fr .through, reached fr)
+        facetEnds b refl (fill-end D.chain 0 (omega arith) c b
+        (filled K run.2 (and-left joins _ e) (filled-yes ok N s.T s.U D.inT D.inU b end-below (and-right joins _ e))))
+    end-or false e = leftOn (y fr, beyond fr .through, reached fr)
       where
         fr : Free R T (P 1)
         fr =
             ⊎-elim (λ f. f)
             (λ F. let w = filled-only K run.2 F in
-            let k = fills-no ok N s.T s.U D.inT D.inU b end-below (rw w.0 at e) in
+            let k = filled-no ok N s.T s.U D.inT D.inU b end-below (rw w.0 at e) in
             absurd (w .1 k.0 k.1 k.2 k.3 k.4)) (first-or K)
 
-    pub leave-first : Left p T n x s 0 (leave previousOf nextOf s 0)
+    pub leave-first : Left p T n x s 0 (leave s 0)
     leave-first = rw leave-is (end-or _ refl)

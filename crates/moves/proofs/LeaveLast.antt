@@ -12,7 +12,7 @@ use native.Mathlib.Omega.{arith}
 use Rattle.combinatorics.proofs.Basics.{true-or-false, absurd-bool, same-or}
 use Rattle.combinatorics.proofs.EditsRemove.{length-rotateRight, rotateRight-first, rotateRight-later}
 use Rattle.combinatorics.specs.Edits.{rotateRight}
-use Rattle.geometry.proofs.Bridge.{changes-of, zeros-out}
+use Rattle.geometry.proofs.Bridge.{changes-of}
 use Rattle.geometry.proofs.Definitions.{back, Blocks, Chain, coord, zeros, Carries, BackToZero, Moved, OnRun}
 use Rattle.geometry.proofs.LabelledChains.{listAt, tabulate}
 use Rattle.geometry.proofs.Moves.{last-run, last-else, last-moved}
@@ -24,36 +24,36 @@ use Rattle.place.proofs.ToChain.{labelOf}
 use Rattle.place.specs.Demand.{Accepted}
 use Rattle.place.specs.Problem.{Problem}
 use Rattle.moves.specs.Mask.{bit, withoutIndex}
-use Rattle.moves.specs.Ready.{ReadyLast}
-use Rattle.moves.specs.Step.{State, takingAt, shrink, shifted, firstOutsideOrZero, changedBefore, leave, leaveLast}
-use Rattle.moves.proofs.Describes.{Neighbours, Taking, Describes, markAt, AllMarks, MarksBut, labelsOf, through, GoesOn}
+use Rattle.moves.specs.Ready.{IsRound, ReadyLast}
+use Rattle.moves.specs.Step.{State, goes, shrink, shifted, firstOutsideOrZero, changedBefore, leave, leaveLast}
+use Rattle.moves.proofs.Describes.{Describes, markAt, AllMarks, MarksBut, labelsOf, through, GoesOn, Left, leftOn}
 use Rattle.moves.proofs.Masks.{bit-without}
 use Rattle.moves.proofs.Range.{index-below, coord-below}
 use Rattle.moves.proofs.Shifted.{length-shifted, shifted-at}
 use Rattle.moves.proofs.Shrink.{shrunk}
-use Rattle.moves.proofs.Takes.{taking-at, taking-same}
 use Rattle.moves.proofs.Walks.{Before, ChangedOn, before-zero, changed, tested, backward, previous-below, chain-to-zero}
 
 -- a new first point, with 1 more at b and 1 less at h
-abbrev newFirst : List ℕ → List ℕ → State → ℕ → ℕ → State
-newFirst previousOf nextOf s h b = record {
+abbrev newFirst : State → ℕ → ℕ → State
+newFirst s h b = record {
+  round = s .round;
   first = shifted s.first b h;
-  coefficients = changedBefore pred previousOf b 16 h s.coefficients;
+  coefficients = changedBefore pred s.round.previous b 16 h s.coefficients;
   order = rotateRight s.order;
   marks = rotateRight s.marks;
-  takes = cond (bit s.U b) (takingAt nextOf s.U b s.takes) s.takes;
   T = s .T;
   U = withoutIndex s.U b;
-  turn = 0;
+  active = 0;
   rule = cond (bit s.U b) 3 1;
-  end = 0;
 }
 
-module _ {p : Problem} (ok : Accepted p) {previousOf nextOf : List ℕ}
-    (N : Neighbours p.grid previousOf nextOf) {T : ℕ → Bool} {n : ℕ} {o : ℕ → ℕ} {x : List (ℕ → ℕ)} {s : State}
+module _ {p : Problem} (ok : Accepted p) {T : ℕ → Bool} {n : ℕ} {o : ℕ → ℕ} {x : List (ℕ → ℕ)} {s : State}
     (D : Describes p T (suc n) o x s) where
   abbrev R : Blocks
   R = blocksOf p
+
+  abbrev N : IsRound p.grid s.round
+  N = D .round
 
   K : Chain R T (suc n) (listAt x) o
   K = D .chain .chain
@@ -62,7 +62,7 @@ module _ {p : Problem} (ok : Accepted p) {previousOf nextOf : List ℕ}
   last-below = index-below ok D.chain (o n) (K .order .within n (omega arith))
 
   -- the run from the last index
-  run : (m : ℕ) × (m ≤ 16) × BackToZero R T (listAt x 0) (o n) m × (firstOutsideOrZero previousOf s.U s.coefficients (o n) ≡ back R.previous m (o n))
+  run : (m : ℕ) × (m ≤ 16) × BackToZero R T (listAt x 0) (o n) m × (firstOutsideOrZero s.round s.U s.coefficients (o n) ≡ back R.previous m (o n))
   run = chain-to-zero ok N K s.U D.inU s.coefficients D.coefficientsAt (o n) last-below
 
   b : ℕ
@@ -94,12 +94,12 @@ module _ {p : Problem} (ok : Accepted p) {previousOf nextOf : List ℕ}
     falls : (j : ℕ) → j < run .0 → listAt x 0 (back R.previous j (o n)) ≡ suc (z (back R.previous j (o n)))
     falls = last-run K some inside run.2
 
-    lowered : ChangedOn R.previous pred (o n) run.0 s.coefficients (changedBefore pred previousOf b 16 (o n) s.coefficients)
+    lowered : ChangedOn R.previous pred (o n) run.0 s.coefficients (changedBefore pred s.round.previous b 16 (o n) s.coefficients)
     lowered =
-        changed previousOf _ (backward ok N) (previous-below ok N) pred 16 run.0 s.coefficients last-below
+        changed s.round.previous _ (backward ok N) (previous-below ok N) pred 16 run.0 s.coefficients last-below
         (omega (arith, D .coefficientsLength, ok .settled .sixteenIndices)) run.1 before
 
-    coefficients-at : (k : ℕ) → k < numIndices p.grid → at (changedBefore pred previousOf b 16 (o n) s.coefficients) k ≡ z k
+    coefficients-at : (k : ℕ) → k < numIndices p.grid → at (changedBefore pred s.round.previous b 16 (o n) s.coefficients) k ≡ z k
     coefficients-at k m =
         ⊎-elim (λ (q : listAt x 0 k ≡ z k). lowered .off k (λ j l e. omega (arith, falls j l, ap (listAt x 0) e, ap z e)) ∙ D .coefficientsAt k m ∙ q)
         (λ (r : OnRun R (o n) run.0 k). rw (← r.2)
@@ -138,18 +138,6 @@ module _ {p : Problem} (ok : Accepted p) {previousOf nextOf : List ℕ}
         (λ q. rw (ne-eqb k b q) at w ∙ D .inU k m ∙ zeros-else k q)
         (same-or k b)
 
-    -- b leaves U if it was there, and the old place has an index outside U in its block
-    takes-at : (u : Bool) → bit s.U b ≡ u → Taking p (zeros R T z) (cond u (takingAt nextOf s.U b s.takes) s.takes)
-    takes-at true e =
-        let f = K .free b in
-        taking-at ok N s.U D.inU D.taking b end-below f.0 f.1 (sym (D .inU b low) ∙ e) (zeros-out K f.0 f.2 f.3)
-        (λ k. ⊎-elim (λ (q : k ≡ b). rw (eq-eqb k b q) (ap (zeros R T z) q ∙ zeros-end)) (λ q. rw (ne-eqb k b q) (sym (zeros-else k q))) (same-or k b))
-      where
-        low : b < 16
-        low = omega (arith, end-below, ok .settled .sixteenIndices)
-    takes-at false e =
-        taking-same (λ k. ⊎-elim (λ (q : k ≡ b). rw q (zeros-end ∙ sym e ∙ D .inU b (omega (arith, end-below, ok .settled .sixteenIndices)))) (λ q. sym (zeros-else k q)) (same-or k b)) D.taking
-
     module _ (L : AllMarks p (suc n) x s) (c : Carries T (suc n) (labelsOf p x) (suc n)) where
       y : List (ℕ → ℕ)
       y = tabulate (suc (suc n)) (last-p K)
@@ -171,13 +159,13 @@ module _ {p : Problem} (ok : Accepted p) {previousOf nextOf : List ℕ}
       order-at (suc j) m =
           rotateRight-later 0 s.order j (omega (arith, D .orderLength)) ∙ D .orderAt j (omega arith) ∙ last-rotate K .back j (omega arith)
 
-      marks-but : MarksBut p (suc n) y (newFirst previousOf nextOf s (o n) b) 0
+      marks-but : MarksBut p (suc n) y (newFirst s (o n) b) 0
       marks-but zero m q = absurd (q refl)
       marks-but (suc j) m q =
           rotateRight-later 0 s.marks j (omega (arith, D .marksLength)) ∙ L j (omega arith)
           ∙ ap (markAt p) (sym (later j (omega arith)))
 
-      enters : GoesOn p T n x (suc n) (newFirst previousOf nextOf s (o n) b)
+      enters : GoesOn p T n x (suc n) (newFirst s (o n) b)
       enters = (
         y,
         beyond .through,
@@ -187,6 +175,7 @@ module _ {p : Problem} (ok : Accepted p) {previousOf nextOf : List ℕ}
           o = last-o K;
           describes = record {
             chain = beyond .place;
+            round = D .round;
             orderLength = length-rotateRight s.order ∙ D .orderLength;
             orderAt = order-at;
             firstLength = length-shifted s.first b (o n) ∙ D .firstLength;
@@ -196,7 +185,6 @@ module _ {p : Problem} (ok : Accepted p) {previousOf nextOf : List ℕ}
             inT = D .inT;
             inU = λ k m. in-U k m ∙ ap (λ (f : ℕ → ℕ). zeros R T f k) (sym first);
             marksLength = length-rotateRight s.marks ∙ D .marksLength;
-            taking = taking-same (λ k. ap (λ (f : ℕ → ℕ). zeros R T f k) first) (takes-at (bit s.U b) refl);
           };
           came = through n x refl (omega arith) (rule-is (bit s.U b) .0) (rule-is (bit s.U b) .1) marks-but beyond.carries beyond.back (λ _ l _. absurd (omega arith));
           link = beyond .link;
@@ -210,12 +198,12 @@ module _ {p : Problem} (ok : Accepted p) {previousOf nextOf : List ℕ}
   -- the facet is a place
   drops : AllMarks p (suc n) x s → Carries T (suc n) (labelsOf p x) (suc n)
       → (listAt x 0 (o n) ≡ 0) ⊎ (R .start (o n) + listAt x 0 (o n) ≤ listAt x 0 (R .next (o n))) → (into : Bool)
-      → eqb (coord R (listAt x 0) (o n)) 0 ≡ into → GoesOn p T n x (suc n) (shrink nextOf s (suc n) n into)
+      → eqb (coord R (listAt x 0) (o n)) 0 ≡ into → GoesOn p T n x (suc n) (shrink s (suc n) n into)
   drops L c w into e =
-      shrunk ok D L (omega arith) c (dropped K n (omega arith) (λ j m q. last-tight-at K w j (omega (arith, q)))) into e N
+      shrunk ok D L (omega arith) c (dropped K n (omega arith) (λ j m q. last-tight-at K w j (omega (arith, q)))) into e
 
-  move : leave previousOf nextOf s (suc n) ≡ cond (eqb (coord R (listAt x 0) (o n)) 0) (shrink nextOf s (suc n) n true)
-      (cond (eqb (listAt x 0 (o n)) 0) (shrink nextOf s (suc n) n false) (newFirst previousOf nextOf s (o n) b))
+  move : leave s (suc n) ≡ goes (cond (eqb (coord R (listAt x 0) (o n)) 0) (shrink s (suc n) n true)
+      (cond (eqb (listAt x 0 (o n)) 0) (shrink s (suc n) n false) (newFirst s (o n) b)))
   unfolding leave leaveLast b
   move =
       let i : suc n - 1 ≡ n = omega arith in
@@ -230,16 +218,16 @@ module _ {p : Problem} (ok : Accepted p) {previousOf nextOf : List ℕ}
         D .coefficientsAt (o n) last-below,
       ) refl
 
-  pub leave-last : AllMarks p (suc n) x s → Carries T (suc n) (labelsOf p x) (suc n) → GoesOn p T n x (suc n) (leave previousOf nextOf s (suc n))
-  leave-last L c = rw move (go (eqb (coord R (listAt x 0) (o n)) 0) refl (eqb (listAt x 0 (o n)) 0) refl)
+  pub leave-last : AllMarks p (suc n) x s → Carries T (suc n) (labelsOf p x) (suc n) → Left p T n x s (suc n) (leave s (suc n))
+  leave-last L c = rw move (leftOn (go (eqb (coord R (listAt x 0) (o n)) 0) refl (eqb (listAt x 0 (o n)) 0) refl))
     where
       go : (t : Bool) → eqb (coord R (listAt x 0) (o n)) 0 ≡ t → (u : Bool) → eqb (listAt x 0 (o n)) 0 ≡ u
-          → GoesOn p T n x (suc n) (cond t (shrink nextOf s (suc n) n true) (cond u (shrink nextOf s (suc n) n false) (newFirst previousOf nextOf s (o n) b)))
+          → GoesOn p T n x (suc n) (cond t (shrink s (suc n) n true) (cond u (shrink s (suc n) n false) (newFirst s (o n) b)))
       go true e u f = drops L c (inr (omega (arith, eqb-true (coord R (listAt x 0) (o n)) 0 e))) true e
       go false e true f = drops L c (inl (eqb-true _ 0 f)) false e
       go false e false f = enters (omega (arith, eqb-false (coord R (listAt x 0) (o n)) 0 e)) (omega (arith, eqb-false (listAt x 0 (o n)) 0 f)) L c
 
-  pub ready-last : ReadyLast previousOf s (at s.order (length s.order - 1))
+  pub ready-last : ReadyLast s (at s.order (length s.order - 1))
   unfolding b
   ready-last = rw last-index (record {
     some = omega (arith, D .orderLength);
@@ -247,7 +235,7 @@ module _ {p : Problem} (ok : Accepted p) {previousOf nextOf : List ℕ}
     lowered = λ g h. rw run.3
         (let g' : 0 < coord R (listAt x 0) (o n) = omega (arith, D .firstAt (o n) last-below) in
         let h' : 0 < listAt x 0 (o n) = omega (arith, D .coefficientsAt (o n) last-below) in
-        tested previousOf (numIndices p.grid) (backward ok N) (previous-below ok N)
+        tested s.round.previous (numIndices p.grid) (backward ok N) (previous-below ok N)
         (λ c. ltb 0 c) pred 16 run.0 s.coefficients last-below run.1
         (before g' h')
         (λ j m. lt-ltb 0 (at s.coefficients (back R.previous j (o n)))

@@ -23,32 +23,30 @@ use Rattle.place.proofs.ToChain.{labelOf}
 use Rattle.place.specs.Demand.{Accepted}
 use Rattle.place.specs.Problem.{Problem}
 use Rattle.moves.specs.Read.{pointAfter, pointGone, pointIn}
-use Rattle.moves.specs.Step.{State, markPosition, shrink, leave, leaveMiddle}
-use Rattle.moves.proofs.Describes.{Neighbours, Describes, Crossed, markAt, AllMarks, labelsOf, through, GoesOn}
+use Rattle.moves.specs.Step.{State, goes, markPosition, sourceIn, shrink, leave, leaveMiddle}
+use Rattle.moves.proofs.Describes.{Describes, Crossed, markAt, AllMarks, labelsOf, through, GoesOn, Left, leftOn}
 use Rattle.moves.proofs.Marks.{mark-position}
 use Rattle.moves.proofs.PointsAfter.{after-swapped}
 use Rattle.moves.proofs.Range.{nth-pointsOf, index-below, point-on}
 use Rattle.moves.proofs.Shrink.{shrunk}
 use Rattle.moves.proofs.StatePoints.{ready-point, point-is}
-use Rattle.moves.proofs.Takes.{taken-from, taking-same}
+use Rattle.moves.proofs.Walks.{source-from}
 
 -- the steps e and e + 1 exchanged
 abbrev exchanged : State → ℕ → State
 exchanged s e = record {
+  round = s .round;
   first = s .first;
   coefficients = s .coefficients;
   order = swapAt e s.order;
   marks = s .marks;
-  takes = s .takes;
   T = s .T;
   U = s .U;
-  turn = suc e;
+  active = suc e;
   rule = 1;
-  end = 0;
 }
 
-module _ {p : Problem} (ok : Accepted p) {previousOf nextOf : List ℕ}
-    (N : Neighbours p.grid previousOf nextOf) {T : ℕ → Bool} {n : ℕ} {o : ℕ → ℕ} {x : List (ℕ → ℕ)} {s : State}
+module _ {p : Problem} (ok : Accepted p) {T : ℕ → Bool} {n : ℕ} {o : ℕ → ℕ} {x : List (ℕ → ℕ)} {s : State}
     (D : Describes p T (suc n) o x s) (L : AllMarks p (suc n) x s) (e : ℕ) (l : e < n) (c : Carries T (suc n) (labelsOf p x) (suc e)) where
   abbrev R : Blocks
   R = blocksOf p
@@ -61,8 +59,8 @@ module _ {p : Problem} (ok : Accepted p) {previousOf nextOf : List ℕ}
 
   -- the end of the run from the second index
   run : (m : ℕ) × (m ≤ 16)
-      × BackOutside R (zeros R T (listAt x 0)) (o (suc e)) m × (at s.takes (o (suc e)) ≡ back R.previous m (o (suc e)))
-  run = taken-from ok N D (o (suc e)) (indices-below (suc e) (omega arith))
+      × BackOutside R (zeros R T (listAt x 0)) (o (suc e)) m × (sourceIn s (o (suc e)) ≡ back R.previous m (o (suc e)))
+  run = source-from ok D (o (suc e)) (indices-below (suc e) (omega arith))
 
   b : ℕ
   b = back R.previous run.0 (o (suc e))
@@ -70,7 +68,7 @@ module _ {p : Problem} (ok : Accepted p) {previousOf nextOf : List ℕ}
   stuck : Bool
   stuck = eqb (o e) b && eqb (coord R (listAt x 0) b) 0
 
-  move : leave previousOf nextOf s (suc e) ≡ cond stuck (shrink nextOf s (suc e) e true) (exchanged s e)
+  move : leave s (suc e) ≡ goes (cond stuck (shrink s (suc e) e true) (exchanged s e))
   unfolding leave leaveMiddle stuck b
   move =
       let i : suc e - 1 ≡ e = omega arith in
@@ -85,12 +83,12 @@ module _ {p : Problem} (ok : Accepted p) {previousOf nextOf : List ℕ}
       ) refl
 
   -- off the grid: the facet is a place
-  drops : coord R (listAt x e) b ≡ 0 → GoesOn p T n x (suc e) (shrink nextOf s (suc e) e true)
+  drops : coord R (listAt x e) b ≡ 0 → GoesOn p T n x (suc e) (shrink s (suc e) e true)
   unfolding b
   drops z =
       let w = inner-stuck K e l run.2 z in
       shrunk ok D L (omega arith) c (dropped K e (omega arith) (inner-tight-at K e l (inner-if-zero K e l run.2 z)))
-      true (eq-eqb _ 0 w.1) N
+      true (eq-eqb _ 0 w.1)
 
   -- on the grid: the place beyond
   module _ (g : 0 < coord R (listAt x e) b) where
@@ -123,14 +121,14 @@ module _ {p : Problem} (ok : Accepted p) {previousOf nextOf : List ℕ}
     gone-is =
         let f : suc e < length s.order = omega (arith, D .orderLength) in
         let z : suc e - 1 ≡ e = omega arith in
-        rw (z, swapAt-next 0 e s.order f, after-swapped s.takes s.order s.first e e (omega arith)) refl
+        rw (z, swapAt-next 0 e s.order f, after-swapped (sourceIn s) s.order s.first e e (omega arith)) refl
 
     crossed : Crossed p (suc n) (exchanged s e)
     crossed _ _ _ =
         let f : suc e < length s.order = omega (arith, D .orderLength) in
         let z : suc e - 1 ≡ e = omega arith in
-        let i = point-is ok N D (suc e) (omega arith) in (
-          rw (z, swapAt-next 0 e s.order f, after-swapped s.takes s.order s.first e e (omega arith)) (ready-point ok N D (suc e) (omega arith) .positive e (omega arith)),
+        let i = point-is ok D (suc e) (omega arith) in (
+          rw (z, swapAt-next 0 e s.order f, after-swapped (sourceIn s) s.order s.first e e (omega arith)) (ready-point ok D (suc e) (omega arith) .positive e (omega arith)),
           rw (gone-is, i) (point-on ok D.chain (suc e) (omega arith)),
           ap markPosition (L (suc e) (omega arith)) ∙ mark-position ok D.chain (suc e) (omega arith)
               ∙ ap (position p.grid) (sym (gone-is ∙ i ∙ nth-pointsOf p x (suc e) (omega (arith, D .chain .size)))),
@@ -146,6 +144,7 @@ module _ {p : Problem} (ok : Accepted p) {previousOf nextOf : List ℕ}
         o = inner-o K e;
         describes = record {
           chain = beyond .place;
+          round = D .round;
           orderLength = length-swapAt e s.order ∙ D .orderLength;
           orderAt = order-at;
           firstLength = D .firstLength;
@@ -155,7 +154,6 @@ module _ {p : Problem} (ok : Accepted p) {previousOf nextOf : List ℕ}
           inT = D .inT;
           inU = λ k m. D .inU k m ∙ ap (λ (z : ℕ → ℕ). zeros R T z k) (sym first);
           marksLength = D .marksLength;
-          taking = taking-same (λ k. ap (λ (z : ℕ → ℕ). zeros R T z k) first) D.taking;
         };
         came = through n x refl (omega arith) (omega arith) (omega arith)
             (λ j m q. L j m ∙ ap (markAt p) (sym (same j m q))) beyond.carries beyond.back crossed;
@@ -163,11 +161,11 @@ module _ {p : Problem} (ok : Accepted p) {previousOf nextOf : List ℕ}
       },
     )
 
-  pub leave-middle : GoesOn p T n x (suc e) (leave previousOf nextOf s (suc e))
+  pub leave-middle : Left p T n x s (suc e) (leave s (suc e))
   unfolding stuck b
-  leave-middle = rw move (go stuck refl)
+  leave-middle = rw move (leftOn (go stuck refl))
     where
-      go : (t : Bool) → stuck ≡ t → GoesOn p T n x (suc e) (cond t (shrink nextOf s (suc e) e true) (exchanged s e))
+      go : (t : Bool) → stuck ≡ t → GoesOn p T n x (suc e) (cond t (shrink s (suc e) e true) (exchanged s e))
       go true q =
           let z : o e ≡ b = eqb-true (o e) b (and-left (eqb (o e) b) _ q) in
           let z0 : coord R (listAt x 0) b ≡ 0 = eqb-true _ 0 (and-right (eqb (o e) b) _ q) in

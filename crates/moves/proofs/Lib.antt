@@ -4,7 +4,6 @@ pub mod FirstMet
 pub mod ChangedBefore
 pub mod Cases
 pub mod Walks
-pub mod Takes
 pub mod Shifted
 pub mod Shrink
 pub mod Range

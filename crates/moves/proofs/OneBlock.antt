@@ -24,13 +24,12 @@ use Rattle.place.specs.Demand.{Accepted, Settled}
 use Rattle.place.specs.Problem.{Problem}
 use Rattle.positions.proofs.ByTails.{all-indices, position-tells, tails-order}
 use Rattle.positions.specs.Falls.{tailFrom, Falls}
-use Rattle.moves.proofs.Describes.{Neighbours, Describes}
+use Rattle.moves.proofs.Describes.{Describes}
 use Rattle.moves.proofs.Range.{few, point-on}
 use Rattle.moves.proofs.StatePoints.{after-is, moved-on, order-below, point-is}
-use Rattle.moves.proofs.Takes.{taken-from}
-use Rattle.moves.proofs.Walks.{in-block}
-use Rattle.moves.specs.Read.{pointIn, Falling}
-use Rattle.moves.specs.Step.{State}
+use Rattle.moves.proofs.Walks.{in-block, source-from}
+use Rattle.moves.specs.Read.{pointIn, stepAt, sourceAt, Falling}
+use Rattle.moves.specs.Step.{State, sourceIn}
 
 grid-accepted : (p : Problem) → Settled p → GridAccepted p.grid
 grid-accepted p ok = record {
@@ -90,13 +89,13 @@ module _ (p : Problem) (ok : Settled p) (one : numBlocks p.grid ≡ 1) where
       let e : suc (numIndices p.grid - suc k) ≡ numIndices p.grid - k = omega arith in
       subst (λ (n : ℕ). sum (map (at y) (upFrom k n)) + c 0 ≡ sum (map (at p.start) (upFrom k n)) + c k) e (tail-by y c grid are (numIndices p.grid - suc k) k (omega arith))
 
-module _ {p : Problem} (ok : Accepted p) (one : numBlocks p.grid ≡ 1) {previousOf nextOf : List ℕ} (N : Neighbours p.grid previousOf nextOf)
+module _ {p : Problem} (ok : Accepted p) (one : numBlocks p.grid ≡ 1)
     {T : ℕ → Bool} {t : ℕ} {o : ℕ → ℕ} {x : List (ℕ → ℕ)} {s : State} (D : Describes p T t o x s) where
   on-grid : (i : ℕ) → i ≤ t → isGridPoint p.grid (pointIn p s i) ≡ true
-  on-grid i l = rw (point-is ok N D i l) (point-on ok D.chain i l)
+  on-grid i l = rw (point-is ok D i l) (point-on ok D.chain i l)
 
   coordinate-is : (i : ℕ) → i ≤ t → (k : ℕ) → k < numIndices p.grid → at (pointIn p s i) k ≡ coord (blocksOf p) (listAt x i) k
-  coordinate-is i l k m = getD-take (numIndices p.grid) _ k 0 m ∙ after-is ok N D i l .1 k m
+  coordinate-is i l k m = getD-take (numIndices p.grid) _ k 0 m ∙ after-is ok D i l .1 k m
 
   tail-at : (i : ℕ) → i ≤ t → (k : ℕ) → k < numIndices p.grid → tailFrom p.grid (pointIn p s i) k + listAt x i 0 ≡ tailFrom p.grid p.start k + listAt x i k
   tail-at i l k m = tail-is p ok.settled one (pointIn p s i) (listAt x i) (D .chain .chain .grid i l) (coordinate-is i l) k m
@@ -121,43 +120,43 @@ module _ {p : Problem} (ok : Accepted p) (one : numBlocks p.grid ≡ 1) {previou
       apart q e =
           let K = D .chain .chain in
           let f = K .free 0 in
-          let low : f .0 < numIndices p.grid = in-block ok N 0 f.0 (omega (arith, few ok D.chain)) f.1 in
+          let low : f .0 < numIndices p.grid = in-block ok D.round 0 f.0 (omega (arith, few ok D.chain)) f.1 in
           let same = position-tells p.grid (grid-accepted p ok.settled) (pointIn p s 0) (pointIn p s i) (on-grid 0 (omega arith)) (on-grid i l) e in
           omega (arith, tail-at i l f.0 low, tail-at 0 (omega arith) f.0 low, ap (λ y. tailFrom p.grid y f.0) same, free-zero K f.0 f.2 f.3 i l, free-zero K f.0 f.2 f.3 0 (omega arith))
 
-  module _ (j : ℕ) (l : j < t) (before : at s.takes (at s.order j) < at s.order j) where
+  module _ (j : ℕ) (l : j < t) (before : sourceAt s j < stepAt s j) where
     order-at : at s.order j ≡ o j
     order-at = D .orderAt j l
 
     low : o j < numIndices p.grid
-    low = order-below ok N D j l
+    low = order-below ok D j l
 
     -- how far back the index is that the step takes from
-    taken : (n : ℕ) × (n ≤ 16) × BackOutside (blocksOf p) (zeros (blocksOf p) T (listAt x 0)) (o j) n × (at s.takes (o j) ≡ back (blocksOf p .previous) n (o j))
-    taken = taken-from ok N D (o j) low
+    source : (n : ℕ) × (n ≤ 16) × BackOutside (blocksOf p) (zeros (blocksOf p) T (listAt x 0)) (o j) n × (sourceIn s (o j) ≡ back (blocksOf p .previous) n (o j))
+    source = source-from ok D (o j) low
 
-    not-round : back (blocksOf p .previous) (taken .0) (o j) < o j
-    not-round = omega (arith, taken .3, ap (at s.takes) order-at, order-at)
+    not-round : back (blocksOf p .previous) (source .0) (o j) < o j
+    not-round = omega (arith, source .3, ap (sourceIn s) order-at, order-at)
 
     -- the first index keeps its coefficient
     pub first-same : listAt x (suc j) 0 ≡ listAt x j 0
-    first-same = ⊎-elim (λ e. e) (λ r. absurd (first-kept p ok.settled one low (taken .2) not-round r)) (next-else (D .chain .chain) j l (taken .2) 0)
+    first-same = ⊎-elim (λ e. e) (λ r. absurd (first-kept p ok.settled one low (source .2) not-round r)) (next-else (D .chain .chain) j l (source .2) 0)
 
-    falls-at : Falls p.grid (pointIn p s j) (pointIn p s (suc j)) (at s.order j) (at s.takes (at s.order j)) (tailFrom p.grid (pointIn p s j) (at s.order j))
+    falls-at : Falls p.grid (pointIn p s j) (pointIn p s (suc j)) (stepAt s j) (sourceAt s j) (tailFrom p.grid (pointIn p s j) (at s.order j))
     falls-at = record {
       one = one;
       here = on-grid j (omega arith);
       there = on-grid (suc j) l;
-      moved = moved-on ok N D j l;
+      moved = moved-on ok D j l;
       low = rw order-at low;
       before = before;
       between = λ k u w. coordinate-is j (omega arith) k (omega (arith, low, order-at))
-          ∙ chain-place (D .chain .chain) .unused k (passed-over p ok.settled one low (taken .2) not-round k (omega (arith, taken .3, ap (at s.takes) order-at)) (omega (arith, order-at))) j (omega arith);
+          ∙ chain-place (D .chain .chain) .unused k (passed-over p ok.settled one low (source .2) not-round k (omega (arith, source .3, ap (sourceIn s) order-at)) (omega (arith, order-at))) j (omega arith);
       tail = refl;
     }
 
     pub falling : (tails : List ℕ) → ((k : ℕ) → k < numIndices p.grid → at tails k ≡ tailFrom p.grid p.start k) → (lag : ℕ) → listAt x j 0 ≡ listAt x 0 0 + lag
-        → Falling p.grid tails s.first s.coefficients s.order s.takes j lag
+        → Falling p.grid tails s j lag
     falling tails are lag e = record {
       falls = falls-at;
       tail =

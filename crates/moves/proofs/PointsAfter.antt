@@ -20,30 +20,30 @@ use Rattle.moves.proofs.Shifted.{at-most-one, length-shifted, shifted-a
 use Rattle.moves.specs.Read.{pointAfter, ReadyPoint}
 use Rattle.moves.specs.Step.{shifted}
 
-module _ (takes order first : List ℕ) where
-  pub after-none : first ≡ pointAfter takes order first 0
+module _ (from : ℕ → ℕ) (order first : List ℕ) where
+  pub after-none : first ≡ pointAfter from order first 0
   unfolding pointAfter
   after-none = refl
 
-  pub after-one-more : (i h b : ℕ) → h ≡ at order i → b ≡ at takes h
-      → shifted (pointAfter takes order first i) h b ≡ pointAfter takes order first (i + 1)
+  pub after-one-more : (i h b : ℕ) → h ≡ at order i → b ≡ from h
+      → shifted (pointAfter from order first i) h b ≡ pointAfter from order first (i + 1)
   unfolding pointAfter
   after-one-more i h b e f = rw (add-one i, f, e)
 
   -- only the steps before it count
-  pub after-taken : (n i : ℕ) → i ≤ n → pointAfter takes order first i ≡ pointAfter takes (take n order) first i
+  pub after-taken : (n i : ℕ) → i ≤ n → pointAfter from order first i ≡ pointAfter from (take n order) first i
   unfolding pointAfter
   after-taken n zero l = refl
   after-taken n (suc i) l = rw (after-taken n i (omega arith), getD-take n order i 0 (omega arith))
 
-  pub step-ready : (n i k h b : ℕ) (y : List ℕ) → k < i → i ≤ n → ReadyPoint takes (take n order) first i → y ≡ pointAfter takes order first k → h ≡ at order k
-      → b ≡ at takes h → (at y h < 65535) × (1 ≤ at y b)
+  pub step-ready : (n i k h b : ℕ) (y : List ℕ) → k < i → i ≤ n → ReadyPoint from (take n order) first i → y ≡ pointAfter from order first k → h ≡ at order k
+      → b ≡ from h → (at y h < 65535) × (1 ≤ at y b)
   step-ready n i k h b y l m r e f g =
       let atH : h ≡ at (take n order) k = entry order n k h (omega arith) f in
-      let point : y ≡ pointAfter takes (take n order) first k = e ∙ after-taken n k (omega arith) in
+      let point : y ≡ pointAfter from (take n order) first k = e ∙ after-taken n k (omega arith) in
       rw (g, atH, point) (r .fits k l, r .positive k l)
 
-  pub few-ready : (n i : ℕ) → i ≤ n → ReadyPoint takes (take n order) first i → ReadyPoint takes (take i order) first i
+  pub few-ready : (n i : ℕ) → i ≤ n → ReadyPoint from (take n order) first i → ReadyPoint from (take i order) first i
   few-ready n i l r =
       let long : length (take i order) ≡ i = length-take-le i order (omega (arith, r .low, length-take n order)) in
       record {
@@ -57,35 +57,35 @@ module _ (takes order first : List ℕ) where
       same : (j : ℕ) → j < i → at (take i order) j ≡ at (take n order) j
       same j m = getD-take i order j 0 m ∙ sym (getD-take n order j 0 (omega arith))
 
-      points : (j : ℕ) → j < i → pointAfter takes (take i order) first j ≡ pointAfter takes (take n order) first j
+      points : (j : ℕ) → j < i → pointAfter from (take i order) first j ≡ pointAfter from (take n order) first j
       points j m = sym (after-taken i j (omega arith)) ∙ after-taken n j (omega arith)
 
-  pub length-after : (i : ℕ) → length (pointAfter takes order first i) ≡ length first
+  pub length-after : (i : ℕ) → length (pointAfter from order first i) ≡ length first
   unfolding pointAfter
   length-after zero = refl
-  length-after (suc i) = length-shifted (pointAfter takes order first i) (at order i) (at takes (at order i)) ∙ length-after i
+  length-after (suc i) = length-shifted (pointAfter from order first i) (at order i) (from (at order i)) ∙ length-after i
 
-  pub earlier-ready : (i j : ℕ) → i ≤ j → ReadyPoint takes order first j → ReadyPoint takes order first i
+  pub earlier-ready : (i j : ℕ) → i ≤ j → ReadyPoint from order first j → ReadyPoint from order first i
   earlier-ready i j l r =
       record { low = omega (arith, r .low); few = r .few; indices = r .indices; positive = λ k m. r .positive k (omega arith); fits = λ k m. r .fits k (omega arith) }
 
 -- an exchange of two steps leaves the points before them
-pub after-swapped : (takes order first : List ℕ) (e i : ℕ) → i ≤ e → pointAfter takes (swapAt e order) first i ≡ pointAfter takes order first i
+pub after-swapped : (from : ℕ → ℕ) (order first : List ℕ) (e i : ℕ) → i ≤ e → pointAfter from (swapAt e order) first i ≡ pointAfter from order first i
 unfolding pointAfter
-after-swapped takes order first e zero l = refl
-after-swapped takes order first e (suc i) l = rw (swapAt-else 0 e order i (λ q. omega arith) (λ q. omega arith), after-swapped takes order first e i (omega arith))
+after-swapped from order first e zero l = refl
+after-swapped from order first e (suc i) l = rw (swapAt-else 0 e order i (λ q. omega arith) (λ q. omega arith), after-swapped from order first e i (omega arith))
 
 -- the same steps from two points, and from 16 everywhere
-module _ (takes order : List ℕ) where
+module _ (source : ℕ → ℕ) (order : List ℕ) where
   abbrev after : List ℕ → ℕ → List ℕ
-  after y i = pointAfter takes order y i
+  after y i = pointAfter source order y i
 
   abbrev ReadyAfter : List ℕ → ℕ → Type 0
-  ReadyAfter y i = ReadyPoint takes order y i
+  ReadyAfter y i = ReadyPoint source order y i
 
   -- the index that step j takes from
   abbrev from : ℕ → ℕ
-  from j = at takes (at order j)
+  from j = source (at order j)
 
   -- both points change alike
   after-alike : (y z : List ℕ) (i : ℕ) → ReadyAfter y i → ReadyAfter z i → (k : ℕ) → k < length y → k < length z → at (after y i) k + at z k ≡ at y k + at (after z i) k
@@ -94,9 +94,9 @@ module _ (takes order : List ℕ) where
   after-alike y z (suc i) r q k l m =
       omega (
         arith,
-        shifted-at (after y i) (at order i) (from i) (r .positive i (omega arith)) k (omega (arith, length-after takes order y i)),
-        shifted-at (after z i) (at order i) (from i) (q .positive i (omega arith)) k (omega (arith, length-after takes order z i)),
-        after-alike y z i (earlier-ready takes order y i (suc i) (omega arith) r) (earlier-ready takes order z i (suc i) (omega arith) q) k l m,
+        shifted-at (after y i) (at order i) (from i) (r .positive i (omega arith)) k (omega (arith, length-after source order y i)),
+        shifted-at (after z i) (at order i) (from i) (q .positive i (omega arith)) k (omega (arith, length-after source order z i)),
+        after-alike y z i (earlier-ready source order y i (suc i) (omega arith) r) (earlier-ready source order z i (suc i) (omega arith) q) k l m,
       )
 
   module _ (first : List ℕ) (long : length first ≡ 16) where
@@ -108,7 +108,7 @@ module _ (takes order : List ℕ) where
     from-below : (i j : ℕ) → j < i → ReadyAfter first i → from j < 16
     from-below i j l r =
         ⊎-elim (λ (m : from j < 16). m)
-        (λ m. absurd (omega (arith, r .positive j l, List·getD-eq-default (after first j) 0 {n = from j} (omega (arith, length-after takes order first j)))))
+        (λ m. absurd (omega (arith, r .positive j l, List·getD-eq-default (after first j) 0 {n = from j} (omega (arith, length-after source order first j)))))
         (before-or-not (from j) 16)
 
     -- each step changes a count by at most 1
@@ -116,9 +116,9 @@ module _ (takes order : List ℕ) where
     unfolding pointAfter
     counts-near zero r k l = let e = getD-replicate {A = ℕ} 16 k 16 0 l in (omega arith, omega arith)
     counts-near (suc i) r k l =
-        let near = counts-near i (earlier-ready takes order first i (suc i) (omega arith) r) in
+        let near = counts-near i (earlier-ready source order first i (suc i) (omega arith) r) in
         let some : 0 < at (counts i) (from i) = omega (arith, near (from i) (from-below (suc i) i (omega arith) r), r .low, r .few) in
-        let changed = shifted-at (counts i) (at order i) (from i) some k (omega (arith, length-after takes order (replicate 16 16) i)) in
+        let changed = shifted-at (counts i) (at order i) (from i) some k (omega (arith, length-after source order (replicate 16 16) i)) in
         let n = near k l in
         (omega (arith, at-most-one (from i) k), omega (arith, at-most-one (at order i) k))
 
@@ -134,7 +134,7 @@ module _ (takes order : List ℕ) where
         }
       where
         near : (j : ℕ) → j < i → (k : ℕ) → k < 16 → (16 ≤ at (counts j) k + j) × (at (counts j) k ≤ 16 + j)
-        near j l = counts-near j (earlier-ready takes order first j i (omega arith) r)
+        near j l = counts-near j (earlier-ready source order first j i (omega arith) r)
 
     -- the first point and the counts make the point after the steps
     pub counts-add : (i : ℕ) → ReadyAfter first i → (k : ℕ) → k < 16 → at (after first i) k + 16 ≡ at first k + at (counts i) k

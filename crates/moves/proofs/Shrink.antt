@@ -1,6 +1,6 @@
 -- Point e + 1 leaves, and index e of the order goes with it: the state that `shrink` makes describes the facet, a place over T less that index,
 -- and the point that carries the index as its label leaves next. Assumes nothing.
-use mathlib.Core.Bool.{Bool, true, false, _&&_, _||_, cond}
+use mathlib.Core.Bool.{Bool, true, false, cond}
 use mathlib.Core.List.{List, map}
 use mathlib.Core.Logic.{⊎-elim}
 use mathlib.Core.Option.{some}
@@ -13,7 +13,6 @@ use native.Mathlib.Omega.{arith}
 use Rattle.combinatorics.proofs.Basics.{same-or, before-or-not}
 use Rattle.combinatorics.proofs.EditsRemove.{length-removeAt, removeAt-before, removeAt-behind, Found, found-is}
 use Rattle.combinatorics.specs.Edits.{removeAt, found}
-use Rattle.geometry.proofs.Bridge.{zeros-out}
 use Rattle.geometry.proofs.Definitions.{Blocks, coord, zeros, Carries, Dropped, Less, omit}
 use Rattle.geometry.proofs.LabelledChains.{listAt, tabulate}
 use Rattle.geometry.proofs.Onward.{Beneath, drop-link, listAt-tabulate}
@@ -24,12 +23,11 @@ use Rattle.place.proofs.ToChain.{labelOf}
 use Rattle.place.specs.Demand.{Accepted}
 use Rattle.place.specs.Problem.{Problem}
 use Rattle.moves.specs.Mask.{bit, withIndex, withoutIndex}
-use Rattle.moves.specs.Step.{State, markLabel, takingPast, shrink}
-use Rattle.moves.proofs.Describes.{Neighbours, Taking, Describes, markAt, AllMarks, labelsOf, Came, fromLarger, GoesOn}
+use Rattle.moves.specs.Step.{State, markLabel, shrink}
+use Rattle.moves.proofs.Describes.{Describes, markAt, AllMarks, labelsOf, Came, fromLarger, GoesOn}
 use Rattle.moves.proofs.Masks.{bit-with, bit-without}
 use Rattle.moves.proofs.Marks.{labels-in, mark-label}
 use Rattle.moves.proofs.Range.{index-below, few}
-use Rattle.moves.proofs.Takes.{or-into, or-not, taking-past, taking-same}
 
 -- T less b, and the zeros outside it, as masks
 module _ (R : Blocks) {T T' : ℕ → Bool} {b : ℕ} (small : Less T T' b) (l : b < 16) (mask : ℕ) (k : ℕ) (m : k < 16) where
@@ -57,8 +55,7 @@ module _ (R : Blocks) {T T' : ℕ → Bool} {b : ℕ} (small : Less T T' b) (l :
 module _ {p : Problem} (ok : Accepted p) {T : ℕ → Bool} {n : ℕ} {o : ℕ → ℕ} {x : List (ℕ → ℕ)} {s : State} (D : Describes p T (suc n) o x s)
     (L : AllMarks p (suc n) x s) {e : ℕ} (l : e ≤ n)
     (c : Carries T (suc n) (labelsOf p x) (suc e)) {T' : ℕ → Bool} (F : Dropped (blocksOf p) T n (listAt x) (suc e) (o e) T' (omit e o))
-    (intoU : Bool) (into : eqb (coord (blocksOf p) (listAt x 0) (o e)) 0 ≡ intoU) {previousOf nextOf : List ℕ}
-    (N : Neighbours p.grid previousOf nextOf) where
+    (intoU : Bool) (into : eqb (coord (blocksOf p) (listAt x 0) (o e)) 0 ≡ intoU) where
   leaving-below : o e < 16
   leaving-below = omega (arith, index-below ok D.chain (o e) (D .chain .chain .order .within e (omega arith)), ok .settled .sixteenIndices)
 
@@ -96,34 +93,11 @@ module _ {p : Problem} (ok : Accepted p) {T : ℕ → Bool} {n : ℕ} {o : ℕ �
   marks-long : length (removeAt (suc e) s.marks) ≡ suc n
   marks-long = omega (arith, length-removeAt (suc e) s.marks (omega (arith, D .marksLength)), D .marksLength)
 
-  -- the index that leaves T joins U where its coordinate is 0, and the facet has an index outside U in its block
-  zeros-of : (g : Bool) → eqb (coord (blocksOf p) (listAt x 0) (o e)) 0 ≡ g → (k : ℕ)
-      → zeros (blocksOf p) T' (listAt x 0) k ≡ (eqb k (o e) && g || zeros (blocksOf p) T (listAt x 0) k)
-  unfolding zeros
-  zeros-of g z k =
-      ⊎-elim (λ (q : k ≡ o e). rw (q, F .small .out, F .small .has, eq-eqb (o e) (o e) refl, z) (or-none g))
-      (λ q. rw (F .small .rest k q, ne-eqb k (o e) q)) (same-or k (o e))
-    where
-      or-none : (g : Bool) → g ≡ (g || false)
-      or-none true = refl
-      or-none false = refl
-
-  in-T : zeros (blocksOf p) T (listAt x 0) (o e) ≡ false
-  unfolding zeros
-  in-T = rw F.small.has
-
-  takes-at : (g : Bool) → ((k : ℕ) → zeros (blocksOf p) T' (listAt y 0) k ≡ (eqb k (o e) && g || zeros (blocksOf p) T (listAt x 0) k))
-      → Taking p (zeros (blocksOf p) T' (listAt y 0)) (cond g (takingPast nextOf s.U (o e) s.takes) s.takes)
-  takes-at true w =
-      let f = beneath .place .chain .free (o e) in
-      taking-past ok N s.U D.inU D.taking (o e) (index-below ok D.chain (o e) F.small.has) f.0 f.1 in-T (zeros-out beneath.place.chain f.0 f.2 f.3)
-      (λ k. w k ∙ sym (or-into (eqb k (o e)) _))
-  takes-at false w = taking-same (λ k. w k ∙ sym (or-not (eqb k (o e)) _)) D.taking
-
-  describes : Describes p T' n (omit e o) y (shrink nextOf s (suc e) e intoU)
+  describes : Describes p T' n (omit e o) y (shrink s (suc e) e intoU)
   unfolding shrink
   describes = record {
     chain = beneath .place;
+    round = D .round;
     orderLength = omega (arith, length-removeAt e s.order (omega (arith, D .orderLength)), D .orderLength);
     orderAt = order-at;
     firstLength = D .firstLength;
@@ -133,7 +107,6 @@ module _ {p : Problem} (ok : Accepted p) {T : ℕ → Bool} {n : ℕ} {o : ℕ �
     inT = λ k m. rw index (without-less (blocksOf p) F.small leaving-below s.T k m (D .inT k m));
     inU = λ k m. rw (index, first) (zeros-less (blocksOf p) F.small leaving-below s.U k m (listAt x 0) intoU into (D .inU k m));
     marksLength = marks-long;
-    taking = rw index (takes-at intoU (λ k. ap (λ (c : ℕ → ℕ). zeros (blocksOf p) T' c k) first ∙ zeros-of intoU into k));
   }
 
   -- the point that carries o e is found
@@ -157,7 +130,7 @@ module _ {p : Problem} (ok : Accepted p) {T : ℕ → Bool} {n : ℕ} {o : ℕ �
   lost-label : labelsOf p y (found (suc (o e)) 16 labels) ≡ o e
   lost-label = omega (arith, label-at (found (suc (o e)) 16 labels) (omega (arith, lost .inside, labels-long)), lost .is)
 
-  came : Came p T' n y (shrink nextOf s (suc e) e intoU) (some x)
+  came : Came p T' n y (shrink s (suc e) e intoU) (some x)
   unfolding shrink labels
   came =
       fromLarger x (rw index (omega (arith, lost .inside, labels-long))) (six intoU) (eight intoU) marks-at
@@ -172,5 +145,5 @@ module _ {p : Problem} (ok : Accepted p) {T : ℕ → Bool} {n : ℕ} {o : ℕ �
       eight true = omega arith
       eight false = omega arith
 
-  pub shrunk : GoesOn p T n x (suc e) (shrink nextOf s (suc e) e intoU)
+  pub shrunk : GoesOn p T n x (suc e) (shrink s (suc e) e intoU)
   shrunk = (y, beneath .through, record { T = T'; t = n; o = omit e o; describes = describes; came = came; link = beneath .link })

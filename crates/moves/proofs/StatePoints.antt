@@ -23,11 +23,11 @@ use Rattle.place.proofs.ToChain.{pointsOf}
 use Rattle.place.specs.Demand.{Accepted}
 use Rattle.place.specs.Places.{Simplex}
 use Rattle.place.specs.Problem.{Problem}
-use Rattle.moves.proofs.Describes.{Neighbours, Describes}
+use Rattle.moves.proofs.Describes.{Describes}
 use Rattle.moves.proofs.Range.{index-below, few, point-on, coord-below}
 use Rattle.moves.proofs.Shifted.{length-shifted, shifted-at, shifted-moved}
-use Rattle.moves.proofs.Takes.{taken-from}
-use Rattle.moves.specs.Read.{pointAfter, pointIn, pointsFrom, ReadyPoint}
+use Rattle.moves.proofs.Walks.{source-from}
+use Rattle.moves.specs.Read.{pointAfter, arrayOf, pointIn, pointsFrom, sourceAt, CanCompute}
 use Rattle.moves.specs.Step.{State}
 
 point-long : (g : Grid) (y : Point) → isGridPoint g y ≡ true → length y ≡ numIndices g
@@ -45,13 +45,12 @@ map-upFrom f (y ∷ l) b (suc n) e h =
     (λ j m. let w : suc b + j ≡ b + suc j = omega arith in rw w (h (suc j) (omega arith))) in
     rw (first, rest)
 
-module _ {p : Problem} (ok : Accepted p) {previousOf nextOf : List ℕ} (N : Neighbours p.grid previousOf nextOf)
-    {T : ℕ → Bool} {t : ℕ} {o : ℕ → ℕ} {x : List (ℕ → ℕ)} {s : State} (D : Describes p T t o x s) where
+module _ {p : Problem} (ok : Accepted p) {T : ℕ → Bool} {t : ℕ} {o : ℕ → ℕ} {x : List (ℕ → ℕ)} {s : State} (D : Describes p T t o x s) where
   abbrev after : ℕ → List ℕ
-  after i = pointAfter s.takes s.order s.first i
+  after i = arrayOf s i
 
   abbrev lower : ℕ → ℕ
-  lower j = at s.takes (at s.order j)
+  lower j = sourceAt s j
 
   pub order-below : (j : ℕ) → j < t → o j < numIndices p.grid
   order-below j l = index-below ok D.chain (o j) (D .chain .chain .order .within j l)
@@ -59,9 +58,9 @@ module _ {p : Problem} (ok : Accepted p) {previousOf nextOf : List ℕ} (N : Nei
   -- step j of the chain is by the index of the order, and takes from the one found
   moves : (j : ℕ) → j < t → Moved (blocksOf p) (at s.order j) (lower j) (listAt x j) (listAt x (suc j)) × (lower j < numIndices p.grid)
   moves j l =
-      let w = taken-from ok N D (o j) (order-below j l) in
+      let w = source-from ok D (o j) (order-below j l) in
       let e = D .orderAt j l in
-      let b : lower j ≡ back (blocksOf p .previous) w.0 (o j) = ap (at s.takes) e ∙ w .3 in
+      let b : lower j ≡ back (blocksOf p .previous) w.0 (o j) = rw e (w .3) in
       (rw (b, e) (next-moved D.chain.chain j l w.2), rw b (back-below p w.0 (o j) (order-below j l)))
 
   pub after-is : (i : ℕ) → i ≤ t → (length (after i) ≡ 16) × ((k : ℕ) → k < numIndices p.grid → at (after i) k ≡ coord (blocksOf p) (listAt x i) k)
@@ -82,7 +81,7 @@ module _ {p : Problem} (ok : Accepted p) {previousOf nextOf : List ℕ} (N : Nei
         ),
       )
 
-  pub ready-point : (i : ℕ) → i ≤ t → ReadyPoint s.takes s.order s.first i
+  pub ready-point : (i : ℕ) → i ≤ t → CanCompute s i
   ready-point i l = record {
     low = omega (arith, D .orderLength);
     few = omega (arith, D .orderLength, few ok D.chain, ok .settled .sixteenIndices);

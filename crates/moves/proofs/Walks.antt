@@ -13,17 +13,18 @@ use Rattle.combinatorics.proofs.Basics.{true-or-false, absurd-bool, same-or, be
 use Rattle.geometry.proofs.BlocksOfSizes.{back-add}
 use Rattle.geometry.proofs.Bridge.{zeros-yes, zeros-no, zeros-out}
 use Rattle.geometry.proofs.Definitions.{back, Blocks, Chain, BackOutside, BackToZero, zeros}
+use Rattle.geometry.proofs.LabelledChains.{listAt}
 use Rattle.geometry.proofs.Search.{find}
 use Rattle.geometry.proofs.Tight.{block-next}
-use Rattle.grid.proofs.Round.{block-fits}
-use Rattle.grid.specs.Grid.{at, numIndices, blockOf}
-use Rattle.place.proofs.BlocksOfGrid.{blocksOf, back-shift, back-below, block-own, near-block, next-agrees, previous-agrees}
+use Rattle.grid.proofs.Round.{block-fits, seat, block-at}
+use Rattle.grid.specs.Grid.{at, numIndices, size, blockOf}
+use Rattle.place.proofs.BlocksOfGrid.{blocksOf, back-shift, back-below, block-agrees, block-own, near-block, next-agrees, previous-agrees}
 use Rattle.place.specs.Demand.{Accepted}
 use Rattle.place.specs.Problem.{Problem}
 use Rattle.moves.specs.Mask.{bit}
-use Rattle.moves.specs.Ready.{testedBefore}
-use Rattle.moves.specs.Step.{firstMet, firstOutside, firstOutsideOrZero, fills, changedBefore}
-use Rattle.moves.proofs.Describes.{Neighbours}
+use Rattle.moves.specs.Ready.{IsRound, testedBefore}
+use Rattle.moves.specs.Step.{Round, State, sourceIn, firstMet, firstOutside, source, firstOutsideOrZero, isFilled, changedBefore}
+use Rattle.moves.proofs.Describes.{Describes}
 
 -- going from h by g, the n-th index is the first at which the test holds
 pub record FirstAt (g : ℕ → ℕ) (q : ℕ → Bool) (h n : ℕ) : Type 0 where
@@ -56,9 +57,9 @@ module _ (way : List ℕ) {g : ℕ → ℕ} (m : ℕ) (agrees : (h : ℕ) → h 
       (λ j d. rw (back-shift g j h) (s (suc j) (omega arith)))
       (rw (back-shift g n h) e) ∙ back-shift g n h)
 
-  pub first-met : (q : ℕ → Bool) (h d : ℕ) → h < m → d < 16 → q (back g d (g h)) ≡ true
-      → (n : ℕ) × (n ≤ 16) × FirstAt g q h n × (firstMet way q 16 (at way h) ≡ back g n h)
-  first-met q h d l b e =
+  pub first-met : (q : ℕ → Bool) (h d fuel : ℕ) → h < m → d < fuel → q (back g d (g h)) ≡ true
+      → (n : ℕ) × (n ≤ fuel) × FirstAt g q h n × (firstMet way q fuel (at way h) ≡ back g n h)
+  first-met q h d fuel l b e =
       ⊎-elim
       (λ w. (
         suc w.0,
@@ -69,7 +70,7 @@ module _ (way : List ℕ) {g : ℕ → ℕ} (m : ℕ) (agrees : (h : ℕ) → h 
               rw (← z) (rw (back-shift g (j - 1) h) at (w .3 (j - 1) (omega arith)));
           stops = rw (back-shift g w.0 h) at w.2;
         },
-        (rw (agrees h l) (met q 16 w.0 (g h) (inside h l) (omega (arith, w .1)) w.3 w.2)) ∙ back-shift g w.0 h,
+        (rw (agrees h l) (met q fuel w.0 (g h) (inside h l) (omega (arith, w .1)) w.3 w.2)) ∙ back-shift g w.0 h,
       )) (λ none. absurd-bool (sym e ∙ none d (omega arith))) (find (λ j. q (back g j (g h))) (suc d))
 
   -- a walk that comes to b is not at h again before
@@ -168,19 +169,34 @@ before-zero {R} {T} {c} {h} B x = record {
       ⊎-elim (λ y. absurd-bool (sym y ∙ ap T (sym e) ∙ w .0)) (λ y. omega (arith, w .1, ap c e)) B.stops) (same-or j 0);
 }
 
+-- the block of an index, by the grid
+pub block-same : (p : Problem) (h : ℕ) → h < numIndices p.grid → blocksOf p .block h ≡ blockOf p.grid h
+block-same p h l =
+    let w = seat p.grid h l in
+    ap (blocksOf p .block) w.is ∙ block-agrees p w.j w.i w.inside ∙ sym (ap (blockOf p.grid) w.is ∙ block-at p.grid.sizes w.j w.i w.inside)
+
 -- the walks by the grid's neighbours
-module _ {p : Problem} (ok : Accepted p) {previousOf nextOf : List ℕ} (N : Neighbours p.grid previousOf nextOf) where
+module _ {p : Problem} (ok : Accepted p) {round : Round} (N : IsRound p.grid round) where
   -- a block lies within the indices
   pub in-block : (h k : ℕ) → h < numIndices p.grid → blocksOf p .block k ≡ blocksOf p .block h → k < numIndices p.grid
   in-block h k l e = ⊎-elim (λ x. x) (λ x. absurd (omega (arith, block-own p k h x e))) (before-or-not k (numIndices p.grid))
 
-  distance-below-16 : (h k : ℕ) → h < numIndices p.grid → blocksOf p .block k ≡ blocksOf p .block h → blocksOf p .distance h k < 16
-  distance-below-16 h k l e = omega (arith, near-block p h k l e, block-fits p.grid.sizes (blockOf p.grid h), ok .settled .sixteenIndices)
+  -- a block's size is the number of steps that lead round it
+  size-at : (h k : ℕ) → h < numIndices p.grid → k < numIndices p.grid → blocksOf p .block k ≡ blocksOf p .block h
+      → size p.grid (blockOf p.grid k) ≡ at round.sizes h
+  size-at h k l m e = ap (size p.grid) (sym (block-same p k m) ∙ e ∙ block-same p h l) ∙ sym (N .size h l)
 
-  pub backward : (h : ℕ) → h < numIndices p.grid → at previousOf h ≡ blocksOf p .previous h
+  pub size-few : (h : ℕ) → h < numIndices p.grid → at round.sizes h ≤ 16
+  size-few h l = omega (arith, N .size h l, block-fits p.grid.sizes (blockOf p.grid h), ok .settled .sixteenIndices)
+
+  distance-near : (h k : ℕ) → h < numIndices p.grid → k < numIndices p.grid → blocksOf p .block k ≡ blocksOf p .block h
+      → (f : ℕ) → blocksOf p .block f ≡ blocksOf p .block k → blocksOf p .distance k f < at round.sizes h
+  distance-near h k l m e f g = omega (arith, near-block p k f m g, size-at h k l m e)
+
+  pub backward : (h : ℕ) → h < numIndices p.grid → at round.previous h ≡ blocksOf p .previous h
   backward h l = N .backward h l ∙ sym (previous-agrees p h l)
 
-  pub forward : (h : ℕ) → h < numIndices p.grid → at nextOf h ≡ blocksOf p .next h
+  pub forward : (h : ℕ) → h < numIndices p.grid → at round.next h ≡ blocksOf p .next h
   forward h l = N .forward h l ∙ sym (next-agrees p h l)
 
   pub previous-below : (h : ℕ) → h < numIndices p.grid → blocksOf p .previous h < numIndices p.grid
@@ -190,22 +206,22 @@ module _ {p : Problem} (ok : Accepted p) {previousOf nextOf : List ℕ} (N : Nei
   next-below h l = in-block h (blocksOf p .next h) l (block-next (blocksOf p) h)
 
   back-met : (q : ℕ → Bool) (h k : ℕ) → h < numIndices p.grid → blocksOf p .block k ≡ blocksOf p .block h → q k ≡ true
-      → (n : ℕ) × (n ≤ 16) × FirstAt (blocksOf p .previous) q h n × (firstMet previousOf q 16 (at previousOf h) ≡ back (blocksOf p .previous) n h)
+      → (n : ℕ) × (n ≤ at round.sizes h) × FirstAt (blocksOf p .previous) q h n × (firstMet round.previous q (at round.sizes h) (at round.previous h) ≡ back (blocksOf p .previous) n h)
   back-met q h k l e t =
       let R = blocksOf p in
       let b : R .block k ≡ R .block (R .previous h) = e ∙ sym (R .block-previous h) in
-      first-met previousOf _ backward previous-below q h (R .distance (R .previous h) k) l
-      (distance-below-16 (R .previous h) k (previous-below h l) b)
+      first-met round.previous _ backward previous-below q h (R .distance (R .previous h) k) (at round.sizes h) l
+      (distance-near h (R .previous h) l (previous-below h l) (R .block-previous h) k b)
       (ap q (R .reached (R .previous h) k (sym b)) ∙ t)
 
   pub forward-met : (q : ℕ → Bool) (h k : ℕ) → h < numIndices p.grid → blocksOf p .block k ≡ blocksOf p .block h → q k ≡ true
-      → (n : ℕ) × (n ≤ 16) × FirstAt (blocksOf p .next) q h n × (firstMet nextOf q 16 (at nextOf h) ≡ back (blocksOf p .next) n h)
+      → (n : ℕ) × (n ≤ at round.sizes h) × FirstAt (blocksOf p .next) q h n × (firstMet round.next q (at round.sizes h) (at round.next h) ≡ back (blocksOf p .next) n h)
   forward-met q h k l e t =
       let R = blocksOf p in
       let b : R .block k ≡ R .block (R .next h) = e ∙ sym (block-next R h) in
       let d : ℕ = R .distance k (R .next h) in
       let w : back R.next d (R .next h) ≡ k = ap (back R.next d) (sym (R .reached k (R .next h) b)) ∙ forward-back R d k in
-      first-met nextOf _ forward next-below q h d l (distance-below-16 k (R .next h) (in-block h k l e) (sym b)) (ap q w ∙ t)
+      first-met round.next _ forward next-below q h d (at round.sizes h) l (distance-near h k l (in-block h k l e) e (R .next h) (sym b)) (ap q w ∙ t)
 
   -- the first index outside U, going back and going forward
   module _ (U : ℕ) {inU : ℕ → Bool} (same : (k : ℕ) → k < 16 → bit U k ≡ inU k) where
@@ -213,11 +229,11 @@ module _ {p : Problem} (ok : Accepted p) {previousOf nextOf : List ℕ} (N : Nei
     below n h l = same (back (blocksOf p .previous) n h) (omega (arith, back-below p n h l, ok .settled .sixteenIndices))
 
     pub back-outside : (h k : ℕ) → h < numIndices p.grid → blocksOf p .block k ≡ blocksOf p .block h → inU k ≡ false
-        → (n : ℕ) × (n ≤ 16) × BackOutside (blocksOf p) inU h n × (firstOutside previousOf U h ≡ back (blocksOf p .previous) n h)
+        → (n : ℕ) × (n ≤ 16) × BackOutside (blocksOf p) inU h n × (source round U h ≡ back (blocksOf p .previous) n h)
     back-outside h k l e o =
-        let w = back-met _ h k l e (ap not (same k (omega (arith, in-block h k l e, ok .settled .sixteenIndices)) ∙ o)) in (
+        let w = back-met (λ k. not (bit U k)) h k l e (ap not (same k (omega (arith, in-block h k l e, ok .settled .sixteenIndices)) ∙ o)) in (
           w .0,
-          w .1,
+          omega (arith, w .1, size-few h l),
           record {
             some = w .2 .some;
             skipped = λ j a b. sym (below j h l) ∙ not-false _ (w .2 .skipped j a b);
@@ -228,14 +244,14 @@ module _ {p : Problem} (ok : Accepted p) {previousOf nextOf : List ℕ} (N : Nei
         )
 
     pub forward-outside : (h k : ℕ) → h < numIndices p.grid → blocksOf p .block k ≡ blocksOf p .block h → inU k ≡ false
-        → (n : ℕ) × (n ≤ 16) × FirstAt (blocksOf p .next) (λ k. not (inU k)) h n × (firstOutside nextOf U h ≡ back (blocksOf p .next) n h)
+        → (n : ℕ) × (n ≤ 16) × FirstAt (blocksOf p .next) (λ k. not (inU k)) h n × (firstOutside round.next round.sizes U h ≡ back (blocksOf p .next) n h)
     forward-outside h k l e o =
-        let w = forward-met _ h k l e (ap not (same k (omega (arith, in-block h k l e, ok .settled .sixteenIndices)) ∙ o)) in
+        let w = forward-met (λ k. not (bit U k)) h k l e (ap not (same k (omega (arith, in-block h k l e, ok .settled .sixteenIndices)) ∙ o)) in
         let z : (j : ℕ)
         → not (bit U (back (blocksOf p .next) j h)) ≡ not (inU (back (blocksOf p .next) j h)) =
         λ j. ap not (same (back (blocksOf p .next) j h)
         (omega (arith, in-block h (back (blocksOf p .next) j h) l (block-forward (blocksOf p) j h), ok .settled .sixteenIndices))) in
-        (w .0, w .1, record { some = w .2 .some; skipped = λ j a b. sym (z j) ∙ w .2 .skipped j a b; stops = sym (z w.0) ∙ w .2 .stops }, w .3)
+        (w .0, omega (arith, w .1, size-few h l), record { some = w .2 .some; skipped = λ j a b. sym (z j) ∙ w .2 .skipped j a b; stops = sym (z w.0) ∙ w .2 .stops }, w .3)
 
   -- every index of h's block but h is in T or U
   module _ (T U : ℕ) {inT inU : ℕ → Bool} (sameT : (k : ℕ) → k < 16 → bit T k ≡ inT k) (sameU : (k : ℕ) → k < 16 → bit U k ≡ inU k) (h : ℕ)
@@ -243,11 +259,12 @@ module _ {p : Problem} (ok : Accepted p) {previousOf nextOf : List ℕ} (N : Nei
     abbrev stopsAt : ℕ → Bool
     stopsAt k = eqb k h || not (bit T k) && not (bit U k)
 
-    around : (n : ℕ) × (n ≤ 16) × FirstAt (blocksOf p .next) stopsAt h n × (firstMet nextOf stopsAt 16 (at nextOf h) ≡ back (blocksOf p .next) n h)
+    around : (n : ℕ) × (n ≤ at round.sizes h) × FirstAt (blocksOf p .next) stopsAt h n
+        × (firstMet round.next stopsAt (at round.sizes h) (at round.next h) ≡ back (blocksOf p .next) n h)
     around = forward-met stopsAt h h l refl (rw (eq-eqb h h refl))
 
-    pub fills-yes : fills nextOf T U h ≡ true → (k : ℕ) → blocksOf p .block k ≡ blocksOf p .block h → (k ≡ h → ⊥) → inT k ≡ false → inU k ≡ true
-    fills-yes e k b x t =
+    pub filled-yes : isFilled round T U h ≡ true → (k : ℕ) → blocksOf p .block k ≡ blocksOf p .block h → (k ≡ h → ⊥) → inT k ≡ false → inU k ≡ true
+    filled-yes e k b x t =
         let R = blocksOf p in
         let w = around in
         let r : back R.next w.0 h ≡ h = sym w.3 ∙ eqb-true _ _ e in
@@ -258,9 +275,9 @@ module _ {p : Problem} (ok : Accepted p) {previousOf nextOf : List ℕ} (N : Nei
         (λ z. let q : stopsAt k ≡ false = rw (z .3 ∙ y) at (w .2 .skipped z.0 z.1 z.2) in
         sym (sameU k low) ∙ not-false (bit U k) (rw (ne-eqb k h x, sameT k low, t) at q)) (round-again R.next h w.0 w.2.some r d)
 
-    pub fills-no : fills nextOf T U h ≡ false
+    pub filled-no : isFilled round T U h ≡ false
         → (k : ℕ) × (blocksOf p .block k ≡ blocksOf p .block h) × (k ≡ h → ⊥) × (inT k ≡ false) × (inU k ≡ false)
-    fills-no e =
+    filled-no e =
         let R = blocksOf p in
         let w = around in
         let k : ℕ = back R.next w.0 h in
@@ -284,12 +301,12 @@ module _ {p : Problem} (ok : Accepted p) {previousOf nextOf : List ℕ} (N : Nei
     outside h = let f = K .free h in (f .0, f .1, f .2, zeros-out K f.0 f.2 f.3)
 
     pub chain-outside : (h : ℕ) → h < numIndices p.grid → (n : ℕ) × (n ≤ 16)
-        × BackOutside (blocksOf p) (zeros (blocksOf p) T (P 0)) h n × (firstOutside previousOf U h ≡ back (blocksOf p .previous) n h)
+        × BackOutside (blocksOf p) (zeros (blocksOf p) T (P 0)) h n × (source round U h ≡ back (blocksOf p .previous) n h)
     chain-outside h l = let f = outside h in back-outside U same h f.0 l f.1 f.3
 
     pub chain-to-zero : (c : List ℕ) → ((k : ℕ) → k < numIndices p.grid → at c k ≡ P 0 k) → (h : ℕ) → h < numIndices p.grid
-        → (n : ℕ) × (n ≤ 16) × BackToZero (blocksOf p) T (P 0) h n × (firstOutsideOrZero previousOf U c h ≡ back (blocksOf p .previous) n h)
-    chain-to-zero c e h l = (w .0, w .1, record { some = w .2 .some; skipped = skipped; stops = stops }, w .3)
+        → (n : ℕ) × (n ≤ 16) × BackToZero (blocksOf p) T (P 0) h n × (firstOutsideOrZero round U c h ≡ back (blocksOf p .previous) n h)
+    chain-to-zero c e h l = (w .0, omega (arith, w .1, size-few h l), record { some = w .2 .some; skipped = skipped; stops = stops }, w .3)
       where
         R : Blocks
         R = blocksOf p
@@ -297,8 +314,8 @@ module _ {p : Problem} (ok : Accepted p) {previousOf nextOf : List ℕ} (N : Nei
         f : (f : ℕ) × (R .block f ≡ R .block h) × (T f ≡ false) × (zeros R T (P 0) f ≡ false)
         f = outside h
 
-        w : (n : ℕ) × (n ≤ 16) × FirstAt R.previous (λ k. not (bit U k) || eqb (at c k) 0) h n
-            × (firstOutsideOrZero previousOf U c h ≡ back R.previous n h)
+        w : (n : ℕ) × (n ≤ at round.sizes h) × FirstAt R.previous (λ k. not (bit U k) || eqb (at c k) 0) h n
+            × (firstOutsideOrZero round U c h ≡ back R.previous n h)
         w = back-met _ h f.0 l f.1
             (let z : bit U f.0 ≡ false = same f.0 (omega (arith, in-block h f.0 l f.1, ok .settled .sixteenIndices)) ∙ f .3 in rw z)
 
@@ -321,3 +338,8 @@ module _ {p : Problem} (ok : Accepted p) {previousOf nextOf : List ℕ} (N : Nei
             (true-or-false (T k)))
             (λ x. inr (sym (e k (back-below p w.0 h l)) ∙ eqb-true (at c k) 0 x))
             (or-cases (not (bit U k)) _ w.2.stops)
+
+-- how far back from h the index is that a step at h takes from
+pub source-from : {p : Problem} → Accepted p → {T : ℕ → Bool} {t : ℕ} {o : ℕ → ℕ} {x : List (ℕ → ℕ)} {s : State} → Describes p T t o x s → (h : ℕ) → h < numIndices p.grid
+    → (n : ℕ) × (n ≤ 16) × BackOutside (blocksOf p) (zeros (blocksOf p) T (listAt x 0)) h n × (sourceIn s h ≡ back (blocksOf p .previous) n h)
+source-from ok {s} D h l = chain-outside ok D.round D.chain.chain s.U D.inU h l

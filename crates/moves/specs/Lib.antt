@@ -2,3 +2,4 @@ pub mod Mask
 pub mod Step
 pub mod Ready
 pub mod Read
+pub mod Held

@@ -1,15 +1,47 @@
 // Up to 16 numbers at the front of an array: the order of T and the marks of the points.
 ghost use mathlib.Core.List.{map};
 ghost use mathlib.Core.Path.{_≡_};
-ghost use Prim.Native.Nat.{_+_, _-_, _≤_, _<_};
+ghost use Prim.Native.Nat.{suc, _+_, _-_, _≤_, _<_};
 ghost use lib.ListN.{length, take};
 ghost use Rattle.combinatorics.specs.Edits.{insertAt, removeAt, swapAt, rotateLeft, rotateRight, found};
-ghost use Rattle.moves.specs.Step.{markLabel};
+ghost use Rattle.grid.specs.Grid.{at};
+ghost use Rattle.moves.specs.Ready.{HasEntry, IsEntry};
+ghost use Rattle.moves.specs.Step.{markLabel, markPosition};
 
 pub fn wide32(x: u32) -> usize
     ensures { λ r. ⌜ r ≡ x ⌝ }
 {
     x as usize
+}
+
+// Entry e of the first n: an index.
+pub fn index_at(order: &[u32; 16], n: usize, e: usize) -> usize
+    requires { ⌜ HasEntry (now order) n e ⌝ }
+    ensures { λ r. ⌜ IsEntry (now (order .entry)) n e r ⌝ }
+{
+    wide32(order[e])
+}
+
+// The label in a mark. Of an index of the order it is the index itself.
+pub fn label_in(mark: u32) -> u32
+    ensures { λ r. ⌜ r ≡ markLabel mark ⌝ }
+{
+    mark % 256
+}
+
+// The position in a mark.
+fn position_in(mark: u32) -> usize
+    ensures { λ r. ⌜ (r ≡ markPosition mark) × (r < 16777216) ⌝ }
+{
+    wide32(mark / 256)
+}
+
+// The position in mark i of the first n + 1.
+pub fn position_at(marks: &[u32; 16], n: usize, i: usize) -> usize
+    requires { ⌜ (i ≤ n) × (n ≤ 15) ⌝ }
+    ensures { λ r. ⌜ (r ≡ markPosition (at (take (suc n) (now (marks .entry))) i)) × (r < 16777216) ⌝ }
+{
+    position_in(marks[i])
 }
 
 // x put before entry at of the first n.
@@ -38,7 +70,7 @@ pub fn remove(a: &mut [u32; 16], n: usize, at: usize)
 }
 
 // The first of the first n goes behind the others.
-pub fn turn_left(a: &mut [u32; 16], n: usize)
+pub fn rotate_left(a: &mut [u32; 16], n: usize)
     requires { ⌜ (0 < n) × (n ≤ 16) × (length (now a) ≡ 16) ⌝ }
     ensures { λ _. ⌜ (take n (now (a .exit)) ≡ rotateLeft (take n (now (a .entry)))) × (length (now (a .exit)) ≡ 16) ⌝ }
 {
@@ -48,7 +80,7 @@ pub fn turn_left(a: &mut [u32; 16], n: usize)
 }
 
 // The last of the first n goes before the others.
-pub fn turn_right(a: &mut [u32; 16], n: usize)
+pub fn rotate_right(a: &mut [u32; 16], n: usize)
     requires { ⌜ (0 < n) × (n ≤ 16) × (length (now a) ≡ 16) ⌝ }
     ensures { λ _. ⌜ (take n (now (a .exit)) ≡ rotateRight (take n (now (a .entry)))) × (length (now (a .exit)) ≡ 16) ⌝ }
 {
@@ -66,8 +98,7 @@ pub fn exchange(a: &mut [u32; 16], i: usize)
     a[i + 1] = x;
 }
 
-// The first of the first n numbers that is x but for a multiple of 256, entry but passed over; n if there is none. An index of the order is less
-// than 256, and a mark less its position is the label.
+// The first of the first n marks that has the label x, entry but passed over; n if there is none. The order has its indices as labels.
 pub fn find(a: &[u32; 16], n: usize, x: u32, but: usize) -> usize
     requires { ⌜ (n ≤ 16) × (length (now a) ≡ 16) ⌝ }
     ensures { λ r. ⌜ r ≡ found x but (map markLabel (take n (now (a .entry)))) ⌝ }
@@ -77,7 +108,7 @@ pub fn find(a: &[u32; 16], n: usize, x: u32, but: usize) -> usize
         if k == n {
             break k;
         }
-        if a[k] % 256 == x {
+        if label_in(a[k]) == x {
             if k != but {
                 break k;
             }

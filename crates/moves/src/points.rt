@@ -7,20 +7,41 @@ ghost use lib.Dec.{eqb, ltb};
 ghost use lib.ListN.{length, take, replicate};
 ghost use lib.Seq.{paste};
 ghost use Rattle.combinatorics.specs.Front.{front};
-ghost use Rattle.grid.specs.Grid.{at};
+ghost use Rattle.grid.specs.Grid.{at, size, blockOf};
+ghost use Rattle.grid.specs.Made.{IsMade, shape};
+ghost use Rattle.moves.specs.Held.{stateOf, roundBack, CanPut};
 ghost use Rattle.moves.specs.Mask.{bit};
 ghost use Rattle.moves.specs.Read.{pointAfter, numbersFrom, ReadyPoint};
 ghost use Rattle.moves.specs.Ready.{IndicesBelow};
-ghost use Rattle.moves.specs.Step.{stateOf, firstOutside};
-use crate::Sets;
+ghost use Rattle.moves.specs.Step.{State, firstOutside};
+use crate::Status;
 use crate::lists::wide32;
 use crate::mask::add;
 use crate::shifts::shift;
 use crate::walk::first_outside;
+use grid::Grid;
 use grid::wide;
 
-// The first m numbers of the slice.
-pub fn taken(y: &[u16], m: usize) -> [u16; 16]
+// The size of the block of each index.
+pub fn block_sizes(g: Grid) -> [u8; 16]
+    requires { ⌜ IsMade g ⌝ }
+    ensures { λ r. ⌜ ((h : ℕ) → h < g .indices → at r h ≡ size (shape g) (blockOf (shape g) h)) ⌝ }
+{
+    let m = g.indices;
+    let sizes = g.sizes;
+    let block = g.block;
+    let mut a = [0u8; 16];
+    let mut h: usize = 0;
+    while h < m {
+        let j = wide(block[h]);
+        a[h] = sizes[j];
+        h += 1;
+    }
+    a
+}
+
+// The first m numbers of the slice, 0 behind them.
+pub fn padded(y: &[u16], m: usize) -> [u16; 16]
     requires { ⌜ (m ≤ length (now y)) × (m ≤ 16) ⌝ }
     ensures { λ r. ⌜ r ≡ front (take m (now (y .entry))) (replicate 16 0) ⌝ }
 {
@@ -50,14 +71,23 @@ pub fn zeros(y: &[u16; 16], m: usize) -> u16
 }
 
 // The first i steps of the order: on a point, or on counts of its steps.
-pub fn advance(y: &mut [u16; 16], takes: &[u8; 16], order: &[u32; 16], i: usize)
-    requires { ⌜ IndicesBelow (now takes) × ReadyPoint (now takes) (take i (now order)) (now y) i ⌝ }
-    ensures { λ _. ⌜ now (y .exit) ≡ pointAfter (now (takes .entry)) (take i (now (order .entry))) (now (y .entry)) i ⌝ }
+pub fn advance(
+    y: &mut [u16; 16],
+    previous: &[u8; 16],
+    sizes: &[u8; 16],
+    u: u16,
+    order: &[u32; 16],
+    i: usize,
+)
+    requires { ⌜ IndicesBelow (now previous) ⌝ }
+    requires { ⌜ ReadyPoint (firstOutside (now previous) (now sizes) u) (take i (now order)) (now y) i ⌝ }
+    ensures { λ _. ⌜ now (y .exit)
+        ≡ pointAfter (firstOutside (now (previous .entry)) (now (sizes .entry)) u) (take i (now (order .entry))) (now (y .entry)) i ⌝ }
 {
     let mut k: usize = 0;
     while k < i {
         let h = wide32(order[k]);
-        let b = wide(takes[h]);
+        let b = first_outside(previous, sizes, u, h);
         shift(y, h, b);
         k += 1;
     }
@@ -79,40 +109,29 @@ fn put_row(buf: &mut [u16], position: usize, y: &[u16; 16], m: usize)
 // The points of the place from number from on, m numbers each, at the front of the buffer. The result is how many points these are.
 pub fn put_points(
     buf: &mut [u16],
+    previous: &[u8; 16],
+    sizes: &[u8; 16],
     first: &[u16; 16],
     order: &[u32; 16],
-    takes: &[u8; 16],
-    s: Sets,
+    s: Status,
     m: usize,
     from: usize,
 ) -> usize
-    requires { ⌜ IndicesBelow (now takes) × (length (now first) ≡ 16) × ReadyPoint (now takes) (take (s .count) (now order)) (now first) (s .count) ⌝ }
-    requires { ⌜ (m ≤ 16) × (from ≤ s .count) × ((suc (s .count) - from) * m ≤ length (now buf)) ⌝ }
-    ensures { λ r. ⌜ (r ≡ suc (s .count) - from)
-        × (now (buf .exit) ≡ front (numbersFrom m (stateOf (now (first .entry)) [] (now (order .entry)) [] (now (takes .entry)) s) from) (now (buf .entry))) ⌝ }
+    ghost { State }
+    requires { λ a. ⌜ stateOf (roundBack previous sizes) (now first) [] (now order) [] s ≡ a ⌝ }
+    requires { λ a. ⌜ CanPut a m from (length (now buf)) × (length (a .order) ≡ s .count) ⌝ }
+    ensures { λ a r. ⌜ r ≡ suc (length (a .order)) - from ⌝ }
+    ensures { λ a _. ⌜ now (buf .exit) ≡ front (numbersFrom m a from) (now (buf .entry)) ⌝ }
 {
     let end = s.count + 1;
     let mut position: usize = 0;
     let mut i = from;
     while i < end {
         let mut z = *first;
-        advance(&mut z, takes, order, i);
+        advance(&mut z, previous, sizes, s.u, order, i);
         put_row(buf, position, &z, m);
         position += m;
         i += 1;
     }
     end - from
-}
-
-// The index that a step at each index below m takes from: the first met going back that is not in U.
-pub fn fill_takes(takes: &mut [u8; 16], previous: &[u8; 16], u: u16, m: usize)
-    requires { ⌜ (m ≤ 16) × IndicesBelow (now previous) × IndicesBelow (now takes) × (length (now takes) ≡ 16) ⌝ }
-    ensures { λ _. ⌜ ((h : ℕ) → h < m → at (now (takes .exit)) h ≡ firstOutside (now (previous .entry)) u h) × IndicesBelow (now (takes .exit)) × (length (now (takes .exit)) ≡ 16) ⌝ }
-{
-    let mut h: usize = 0;
-    while h < m {
-        let b = first_outside(previous, u, h);
-        takes[h] = b as u8;
-        h += 1;
-    }
 }

@@ -1,12 +1,11 @@
-// The numbers of a point, and of its coefficient list, that change by 1, and the indices that steps take from.
+// The numbers of a point, and of its coefficient list, that change by 1.
 ghost use mathlib.Core.Bool.{true};
 ghost use mathlib.Core.Path.{_≡_};
 ghost use Prim.Native.Nat.{suc, pred, _≤_, _<_};
 ghost use lib.Dec.{ltb};
 ghost use Rattle.grid.specs.Grid.{at};
 ghost use Rattle.moves.specs.Ready.{IndicesBelow, testedBefore};
-ghost use Rattle.moves.specs.Step.{shifted, changedBefore, takingFrom};
-use crate::walk::first_outside;
+ghost use Rattle.moves.specs.Step.{shifted, changedBefore};
 use grid::wide;
 
 // 1 more at h, 1 less at b.
@@ -50,31 +49,4 @@ pub fn lower(c: &mut [u16; 16], previous: &[u8; 16], h: usize, b: usize)
         at = wide(previous[at]);
         left -= 1;
     }
-}
-
-// The numbers at h and at the indices going on from it before b, each made x.
-fn set_before(a: &mut [u8; 16], next: &[u8; 16], h: usize, b: usize, x: u8)
-    requires { ⌜ (h < 16) × IndicesBelow (now next) ⌝ }
-    ensures { λ _. ⌜ now (a .exit) ≡ changedBefore (λ _. x) (now (next .entry)) b 16 h (now (a .entry)) ⌝ }
-{
-    let mut at = h;
-    let mut left: usize = 16;
-    while 0 < left {
-        if at == b {
-            break;
-        }
-        a[at] = x;
-        at = wide(next[at]);
-        left -= 1;
-    }
-}
-
-// A step at an index behind b, as far as the first one that is not in U, takes from x.
-pub fn take_from(takes: &mut [u8; 16], next: &[u8; 16], u: u16, b: usize, x: u8)
-    requires { ⌜ (b < 16) × IndicesBelow (now next) ⌝ }
-    ensures { λ _. ⌜ now (takes .exit) ≡ takingFrom (now (next .entry)) u b x (now (takes .entry)) ⌝ }
-{
-    let last = first_outside(next, u, b);
-    let end = wide(next[last]);
-    set_before(takes, next, wide(next[b]), end, x);
 }

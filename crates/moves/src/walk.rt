@@ -1,22 +1,22 @@
 // Walks round a block, from an index to the neighbours that an array names.
-ghost use mathlib.Core.Bool.{not, _&&_, _||_};
+ghost use mathlib.Core.Bool.{not, _&&_};
+ghost use mathlib.Core.List.{[]};
 ghost use mathlib.Core.Path.{_≡_};
 ghost use Prim.Native.Nat.{_<_};
-ghost use lib.Dec.{eqb};
-ghost use Rattle.grid.specs.Grid.{at};
+ghost use Rattle.moves.specs.Held.{roundOf};
 ghost use Rattle.moves.specs.Mask.{bit};
 ghost use Rattle.moves.specs.Ready.{IndicesBelow};
-ghost use Rattle.moves.specs.Step.{firstMet, firstOutside, firstOutsideOrZero, fills};
+ghost use Rattle.moves.specs.Step.{firstOutside, firstOutsideOrZero, firstFree, isFilled};
 use crate::mask::has;
 use grid::wide;
 
-// The first index met going from h that is not in the set.
-pub fn first_outside(way: &[u8; 16], mask: u16, h: usize) -> usize
+// The first index met going from h that is not in the set: where the way goes back and the set is U, document 01's b.
+pub fn first_outside(way: &[u8; 16], sizes: &[u8; 16], mask: u16, h: usize) -> usize
     requires { ⌜ (h < 16) × IndicesBelow (now way) ⌝ }
-    ensures { λ r. ⌜ (r ≡ firstOutside (now (way .entry)) mask h) × (r < 16) ⌝ }
+    ensures { λ r. ⌜ (r ≡ firstOutside (now (way .entry)) (now (sizes .entry)) mask h) × (r < 16) ⌝ }
 {
     let mut at = wide(way[h]);
-    let mut left: usize = 16;
+    let mut left = wide(sizes[h]);
     let b = loop {
         if left == 0 {
             break at;
@@ -30,24 +30,30 @@ pub fn first_outside(way: &[u8; 16], mask: u16, h: usize) -> usize
     b
 }
 
-// The first index met going from h that is not in the set or has coefficient 0.
-pub fn first_outside_or_zero(way: &[u8; 16], mask: u16, c: &[u16; 16], h: usize) -> usize
-    requires { ⌜ (h < 16) × IndicesBelow (now way) ⌝ }
-    ensures { λ r. ⌜ (r ≡ firstOutsideOrZero (now (way .entry)) mask (now (c .entry)) h) × (r < 16) ⌝ }
+// The first index met going back from h that is not in U or has coefficient 0.
+pub fn first_outside_or_zero(
+    previous: &[u8; 16],
+    sizes: &[u8; 16],
+    u: u16,
+    c: &[u16; 16],
+    h: usize,
+) -> usize
+    requires { ⌜ (h < 16) × IndicesBelow (now previous) ⌝ }
+    ensures { λ r. ⌜ (r ≡ firstOutsideOrZero (roundOf (now (previous .entry)) [] (now (sizes .entry))) u (now (c .entry)) h) × (r < 16) ⌝ }
 {
-    let mut at = wide(way[h]);
-    let mut left: usize = 16;
+    let mut at = wide(previous[h]);
+    let mut left = wide(sizes[h]);
     let b = loop {
         if left == 0 {
             break at;
         }
-        if !has(mask, at) {
+        if !has(u, at) {
             break at;
         }
         if c[at] == 0 {
             break at;
         }
-        at = wide(way[at]);
+        at = wide(previous[at]);
         left -= 1;
     };
     b
@@ -65,12 +71,12 @@ fn in_neither(t: u16, u: u16, h: usize) -> bool
 }
 
 // The first index met going on from h that is h again or is in neither of the two sets.
-fn first_free(next: &[u8; 16], t: u16, u: u16, h: usize) -> usize
+fn first_free(next: &[u8; 16], sizes: &[u8; 16], t: u16, u: u16, h: usize) -> usize
     requires { ⌜ (h < 16) × IndicesBelow (now next) ⌝ }
-    ensures { λ r. ⌜ r ≡ firstMet (now (next .entry)) (λ k. eqb k h || not (bit t k) && not (bit u k)) 16 (at (now (next .entry)) h) ⌝ }
+    ensures { λ r. ⌜ r ≡ firstFree (roundOf [] (now (next .entry)) (now (sizes .entry))) t u h ⌝ }
 {
     let mut at = wide(next[h]);
-    let mut left: usize = 16;
+    let mut left = wide(sizes[h]);
     let b = loop {
         if left == 0 {
             break at;
@@ -88,9 +94,9 @@ fn first_free(next: &[u8; 16], t: u16, u: u16, h: usize) -> usize
 }
 
 // Every index of the block of h but h is in one of the two sets.
-pub fn fill(next: &[u8; 16], t: u16, u: u16, h: usize) -> bool
+pub fn is_filled(next: &[u8; 16], sizes: &[u8; 16], t: u16, u: u16, h: usize) -> bool
     requires { ⌜ (h < 16) × IndicesBelow (now next) ⌝ }
-    ensures { λ r. ⌜ r ≡ fills (now (next .entry)) t u h ⌝ }
+    ensures { λ r. ⌜ r ≡ isFilled (roundOf [] (now (next .entry)) (now (sizes .entry))) t u h ⌝ }
 {
-    first_free(next, t, u, h) == h
+    first_free(next, sizes, t, u, h) == h
 }

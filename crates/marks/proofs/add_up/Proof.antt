@@ -1,48 +1,48 @@
 -- `marks::add_up` meets its contract: each way out of it tells the case. Assumes nothing.
-use mathlib.Core.Logic.{inl, inr}
-use mathlib.Core.Path.{sym, _∙_}
-use borrow.Author.Tests.{leb-true}
+use mathlib.Core.Path.{_≡_, sym, _∙_}
+use borrow.Author.Tests.{eq-eqb, ne-eqb, lt-ltb, le-ltb, le-leb, lt-leb}
 use native.Mathlib.Omega.{arith}
-use Rattle.combinatorics.proofs.Basics.{absurd-bool}
 use Rattle.grid.proofs.Fields.{indices-few}
+use Rattle.grid.specs.Grid.{blockOf}
+use Rattle.grid.specs.Made.{shape}
 use borrow.Author.Needs.{needs}
 use Rattle.marks.proofs.add_up.Statement.{statement}
 use Rattle.marks.proofs.add_up.Tie as tie
 
 block-of-requires : tie.Need-block-of-requires
-block-of-requires c κs = search needs
+block-of-requires c κs = (c .pre .0 .0, c .pre .1 .0)
 
 block-of-requires-2 : tie.Need-block-of-requires-2
-block-of-requires-2 c κs = search needs
+block-of-requires-2 c κs = (c .before .pre .0 .0, c .before .pre .1 .1)
 
 returns : tie.Need-returns
-returns c = λ _. inl (λ e. c .if1 .taken (c .before .before .block-of .ensures ∙ e ∙ sym (c .before .block-of2 .ensures)))
+returns c = rw (ne-eqb _ _ (λ e. c .if1 .taken (c .before .before .block-of .ensures ∙ e ∙ sym (c .before .block-of2 .ensures))))
 
-element-copy-out-wide : tie.Need-element-copy-out-wide
-element-copy-out-wide c = let s = c .before .before .before in omega (arith, s .pre .1, indices-few (s .args .g) (s .pre .0))
-
-wide-requires : tie.Need-wide-requires
-wide-requires c κs = search needs
-
-element-copy-out-wide-2 : tie.Need-element-copy-out-wide-2
-element-copy-out-wide-2 c = let s = c .before .before .before .before .before in omega (arith, s .pre .2, indices-few (s .args .g) (s .pre .0))
-
-wide-requires-2 : tie.Need-wide-requires-2
-wide-requires-2 c κs = search needs
+first-outside-requires : tie.Need-first-outside-requires
+first-outside-requires c κs = let s = c .before .before .before in (omega (arith, s .pre .1 .0, indices-few (s .args .g) (s .pre .0 .0)), s .pre .0 .1)
 
 returns-2 : tie.Need-returns-2
-returns-2 c = λ e. absurd-bool (sym e)
+returns-2 c =
+    let same = sym (c .before .before .before .before .block-of .ensures) ∙ c .before .before .if1 .left ∙ c .before .before .before .block-of2 .ensures in
+    rw (eq-eqb _ _ same, ← c .before .first-outside .ensures .0, le-ltb _ _ (c .if2 .taken))
+
+first-outside-requires-2 : tie.Need-first-outside-requires-2
+first-outside-requires-2 c κs = let s = c .before .before .before .before .before in (omega (arith, s .pre .1 .1, indices-few (s .args .g) (s .pre .0 .0)), s .pre .0 .1)
 
 returns-3 : tie.Need-returns-3
-returns-3 c = λ e. absurd-bool (sym e)
+returns-3 c =
+    let same = sym (c .before .before .before .before .before .before .block-of .ensures) ∙ c .before .before .before .before .if1 .left ∙ c .before .before .before .before .before .block-of2 .ensures in
+    rw (eq-eqb _ _ same, ← c .before .before .before .first-outside .ensures .0, ← c .before .first-outside2 .ensures .0, lt-ltb _ _ (c .before .before .if2 .left), le-ltb _ _ (c .if3 .taken))
 
 returns-4 : tie.Need-returns-4
-returns-4 c = λ _. rw (← c .before .before .before .before .before .wide .ensures, ← c .before .before .before .wide2 .ensures) (inr (omega (arith, c .before .before .if2 .left), omega (arith, c .before .if3 .left), inl (c .if4 .taken)))
+returns-4 c =
+    let same = sym (c .before .before .before .before .before .before .before .block-of .ensures) ∙ c .before .before .before .before .before .if1 .left ∙ c .before .before .before .before .before .before .block-of2 .ensures in
+    rw (eq-eqb _ _ same, ← c .before .before .before .before .first-outside .ensures .0, ← c .before .before .first-outside2 .ensures .0, lt-ltb _ _ (c .before .before .before .if2 .left), lt-ltb _ _ (c .before .if3 .left), le-leb _ _ (c .if4 .taken))
 
 returns-5 : tie.Need-returns-5
-returns-5 c = λ e.
-    let k = c .before .before .before .before .before .before .before .before .before .before .args .k in
-    rw (← c .before .before .before .before .before .wide .ensures, ← c .before .before .before .wide2 .ensures) (inr (omega (arith, c .before .before .if2 .left), omega (arith, c .before .if3 .left), inr (leb-true k _ e)))
+returns-5 c =
+    let same = sym (c .before .before .before .before .before .before .before .block-of .ensures) ∙ c .before .before .before .before .before .if1 .left ∙ c .before .before .before .before .before .before .block-of2 .ensures in
+    rw (eq-eqb _ _ same, ← c .before .before .before .before .first-outside .ensures .0, ← c .before .before .first-outside2 .ensures .0, lt-ltb _ _ (c .before .before .before .if2 .left), lt-ltb _ _ (c .before .if3 .left), lt-leb _ _ (c .if4 .left))
 
 pub add-up-spec : {M : Type 1} → statement M
 add-up-spec =
@@ -51,11 +51,9 @@ add-up-spec =
     block-of-requires
     block-of-requires-2
     returns
-    element-copy-out-wide
-    wide-requires
-    element-copy-out-wide-2
-    wide-requires-2
+    first-outside-requires
     returns-2
+    first-outside-requires-2
     returns-3
     returns-4
     returns-5)

@@ -8,39 +8,44 @@ use borrow.Author.Needs.{needs}
 use Rattle.marks.proofs.mark_in.Statement.{statement}
 use Rattle.marks.proofs.mark_in.Tie as tie
 
--- the position is small
-few : (c : tie.After-position-in) → c .position-in .result < 60001
-few c =
-    let e = c .before .before in
-    let a = made-accepted (e .args .g) (e .pre .0 .0 .made) in
-    rw (c .position-in .ensures) (omega (arith, position-below _ _ (a .sameNumber) (e .pre .0 .1 .onGrid), a .fewPoints))
-
 position-in-requires : tie.Need-position-in-requires
-position-in-requires c κs = search needs
+position-in-requires c κs = let s = c .before in ((record { made = s .pre .0 .0 .made; filled = s .pre .0 .0 .filled }, s .pre .0 .1), s .pre .1)
 
 cast-result : tie.Need-cast-result
-cast-result c = omega (arith, few c)
+cast-result c =
+    let s = c .before .before in
+    let a = made-accepted (s .args .g) (s .pre .0 .0 .made) in
+    let small : c .position-in .result < 60001 = rw (c .position-in .ensures) (omega (arith, position-below _ _ (a .sameNumber) (s .pre .0 .1 .onGrid), a .fewPoints)) in
+    omega arith
 
 mul-result : tie.Need-mul-result
-mul-result c = omega (arith, few c)
+mul-result c =
+    let s = c .before .before in
+    let a = made-accepted (s .args .g) (s .pre .0 .0 .made) in
+    let small : c .position-in .result < 60001 = rw (c .position-in .ensures) (omega (arith, position-below _ _ (a .sameNumber) (s .pre .0 .1 .onGrid), a .fewPoints)) in
+    omega arith
 
 shared-slice-read-byte : tie.Need-shared-slice-read-byte
 shared-slice-read-byte c =
-    let e = c .before .before .before in
-    let a = e .args in
-    rw (c .before .position-in .ensures) (in-table (a .g) (a .binomials .now) (a .table .now) (e .pre .0 .0) _ (e .pre .0 .1 .onGrid))
+    let s = c .before .before .before in
+    let a = s .args in
+    rw (c .before .position-in .ensures) (in-table (a .g) (a .binomials .now) (a .table .now) (s .pre .0 .0) _ (s .pre .0 .1 .onGrid))
 
 byte-requires : tie.Need-byte-requires
 byte-requires c κs = search needs
 
 add-result : tie.Need-add-result
-add-result c = omega (arith, few (c .before .before), c .byte .ensures .1)
+add-result c =
+    let s = c .before .before .before .before in
+    let a = made-accepted (s .args .g) (s .pre .0 .0 .made) in
+    let small : c .before .before .position-in .result < 60001 = rw (c .before .before .position-in .ensures) (omega (arith, position-below _ _ (a .sameNumber) (s .pre .0 .1 .onGrid), a .fewPoints)) in
+    omega (arith, c .byte .ensures .1)
 
 returns : tie.Need-returns
 returns c =
-    let e = c .before .before .before .before in
-    let a = e .args in
-    rw (c .byte .ensures .0, c .before .before .position-in .ensures, label-is (a .g) (a .binomials .now) (a .table .now) (e .pre .0 .0))
+    let s = c .before .before .before .before in
+    let a = s .args in
+    rw (c .byte .ensures .0, c .before .before .position-in .ensures, label-is (a .g) (a .binomials .now) (a .table .now) (s .pre .0 .0))
 
 pub mark-in-spec : {M : Type 1} → statement M
 mark-in-spec =

@@ -1,115 +1,146 @@
--- `marks::position_in` meets its contract: by the corners of a square, or by its steps. Assumes nothing.
+-- `marks::position_in` meets its contract: by the corners of a square, by one step, or by its steps. Assumes nothing.
 use mathlib.Core.List.{[]}
-use mathlib.Core.Path.{_≡_}
-use Prim.Native.Nat.{_+_, _-_, _/_, _≤_, _<_}
+use mathlib.Core.Path.{_≡_, sym, _∙_}
+use Prim.Native.Nat.{suc, _+_}
 use native.Mathlib.Omega.{arith}
-use Rattle.grid.specs.Grid.{at, position}
-use Rattle.grid.specs.Made.{shape}
-use Rattle.moves.specs.Read.{pointOn}
-use Rattle.moves.specs.Step.{stateOf}
-use Rattle.combinatorics.proofs.EditsOfArrays.{counted}
-use Rattle.marks.proofs.Readings.{corner-indices, corner-low, corners-add}
+use Rattle.moves.specs.Held.{stateOf, roundOf}
+use Rattle.marks.proofs.OneStep.{one-step-is}
+use Rattle.marks.proofs.Readings.{between-means, corner-indices, corners-add}
 use borrow.Author.Needs.{needs}
 use Rattle.marks.proofs.position_in.Statement.{statement}
 use Rattle.marks.proofs.position_in.Tie as tie
 
--- the point has come in between two steps, and the corners add up
-between : (c : tie.Then2) → (c .before .before .before .before .before .before .before .before .args .s .rule ≡ 1) × (0 < c .before .before .before .before .before .before .before .before .args .s .turn) × (c .before .before .before .before .before .before .before .before .args .s .turn < c .before .before .before .before .before .before .before .before .args .s .count)
-between c = c .before .before .before .before .before .before .before .is-between .ensures (c .before .before .before .before .before .before .if1 .taken)
-
-low : (c : tie.Then2) → (at (c .before .before .before .before .before .before .before .before .args .marks .now) (c .before .before .before .before .before .before .before .before .args .s .turn - 1) / 256 ≤ 60000) × (at (c .before .before .before .before .before .before .before .before .args .marks .now) (c .before .before .before .before .before .before .before .before .args .s .turn + 1) / 256 ≤ 60000)
-low c =
-    let s = c .before .before .before .before .before .before .before .before in
-    let a = s .args in
-    let b = between c in
-    corner-low (a .g) (s .pre .0 .0) (a .first .now) (a .order .now) (a .marks .now) (a .takes .now) (a .s) (b .1) (b .2) (s .pre .1 .0 (b .0) (b .1) (b .2))
-
-adds : (c : tie.Then2)
-    → position (shape (c .before .before .before .before .before .before .before .before .args .g)) (pointOn (shape (c .before .before .before .before .before .before .before .before .args .g)) (stateOf (c .before .before .before .before .before .before .before .before .args .first .now) [] (c .before .before .before .before .before .before .before .before .args .order .now) [] (c .before .before .before .before .before .before .before .before .args .takes .now) (c .before .before .before .before .before .before .before .before .args .s)) (c .before .before .before .before .before .before .before .before .args .s .turn)) + at (c .before .before .before .before .before .before .before .before .args .marks .now) (c .before .before .before .before .before .before .before .before .args .s .turn) / 256
-    ≡ at (c .before .before .before .before .before .before .before .before .args .marks .now) (c .before .before .before .before .before .before .before .before .args .s .turn - 1) / 256 + at (c .before .before .before .before .before .before .before .before .args .marks .now) (c .before .before .before .before .before .before .before .before .args .s .turn + 1) / 256
-adds c =
-    let s = c .before .before .before .before .before .before .before .before in
-    let a = s .args in
-    let b = between c in
-    corners-add (a .g) (s .pre .0 .0) (a .first .now) (a .order .now) (a .marks .now) (a .takes .now) (a .s) (b .1) (b .2) (s .pre .1 .0 (b .0) (b .1) (b .2))
-    (rw (← c .before .before .before .before .wide32 .ensures, ← c .before .before .wide322 .ensures) (c .before .add-up .ensures (c .if2 .taken)))
-
 is-between-requires : tie.Need-is-between-requires
 is-between-requires c κs = search needs
 
-sub-wide32 : tie.Need-sub-wide32
-sub-wide32 c = omega (arith, c .before .is-between .ensures (c .if1 .taken) .1)
+sub-index-at : tie.Need-sub-index-at
+sub-index-at c =
+    let s = c .before .before in
+    let a = s .args in
+    let R = s .pre .0 .1 in
+    let many = s .pre .1 .1 in
+    let b = between-means (a .s) (sym (c .before .is-between .ensures) ∙ c .if1 .taken) in
+    omega (arith, b)
 
-mul-wide32 : tie.Need-mul-wide32
-mul-wide32 c = search needs
+index-at-requires : tie.Need-index-at-requires
+index-at-requires c κs =
+    let s = c .before .before in
+    let a = s .args in
+    let R = s .pre .0 .1 in
+    let many = s .pre .1 .1 in
+    let b = between-means (a .s) (sym (c .before .is-between .ensures) ∙ c .if1 .taken) in
+    record { low = omega (arith, b); few = omega (arith, R .point .few); below = R .point .indices }
 
-element-copy-out-wide32 : tie.Need-element-copy-out-wide32
-element-copy-out-wide32 c = search needs
-
-wide32-requires : tie.Need-wide32-requires
-wide32-requires c κs = search needs
-
-mul-wide32-2 : tie.Need-mul-wide32-2
-mul-wide32-2 c = search needs
-
-element-copy-out-wide32-2 : tie.Need-element-copy-out-wide32-2
-element-copy-out-wide32-2 c = search needs
-
-wide32-requires-2 : tie.Need-wide32-requires-2
-wide32-requires-2 c κs = search needs
+index-at-requires-2 : tie.Need-index-at-requires-2
+index-at-requires-2 c κs =
+    let s = c .before .before .before in
+    let a = s .args in
+    let R = s .pre .0 .1 in
+    let many = s .pre .1 .1 in
+    let b = between-means (a .s) (sym (c .before .before .is-between .ensures) ∙ c .before .if1 .taken) in
+    record { low = omega (arith, b); few = omega (arith, R .point .few); below = R .point .indices }
 
 add-up-requires : tie.Need-add-up-requires
 add-up-requires c κs =
-    let t = c .before .before .before .before in
-    let s = t .before .before in
-    let b = t .before .is-between .ensures (t .if1 .taken) in
+    let s = c .before .before .before .before in
     let a = s .args in
-    let i = corner-indices (a .g) (s .pre .0 .0) (a .first .now) (a .order .now) (a .marks .now) (a .takes .now) (a .s) (b .1) (b .2) (s .pre .1 .0 (b .0) (b .1) (b .2)) in
-    (s .pre .0 .0, rw (c .before .before .wide32 .ensures) (i .0), rw (c .wide322 .ensures) (i .1))
+    let R = s .pre .0 .1 in
+    let many = s .pre .1 .1 in
+    let b = between-means (a .s) (sym (c .before .before .before .is-between .ensures) ∙ c .before .before .if1 .taken) in
+    let place = stateOf (roundOf (a .previous .now) [] (a .sizes .now)) (a .first .now) (a .coefficients .now) (a .order .now) (a .marks .now) (a .s) in
+    let X = s .pre .1 .0 .square (b .0) (b .1) (rw many (b .2)) in
+    let i = corner-indices (a .g) (s .pre .0 .0 .made) place (b .1) X in
+    ((s .pre .0 .0 .made, R .below), (rw (c .before .index-at .ensures .is) (i .0), rw (c .index-at2 .ensures .is) (i .1)))
 
-sub-wide32-2 : tie.Need-sub-wide32-2
-sub-wide32-2 c = omega (arith, between c .1)
+sub-position-at : tie.Need-sub-position-at
+sub-position-at c =
+    let s = c .before .before .before .before .before .before in
+    let a = s .args in
+    let R = s .pre .0 .1 in
+    let many = s .pre .1 .1 in
+    let b = between-means (a .s) (sym (c .before .before .before .before .before .is-between .ensures) ∙ c .before .before .before .before .if1 .taken) in
+    omega (arith, b)
 
-mul-wide32-3 : tie.Need-mul-wide32-3
-mul-wide32-3 c = search needs
+position-at-requires : tie.Need-position-at-requires
+position-at-requires c κs =
+    let s = c .before .before .before .before .before .before in
+    let a = s .args in
+    let R = s .pre .0 .1 in
+    let many = s .pre .1 .1 in
+    let b = between-means (a .s) (sym (c .before .before .before .before .before .is-between .ensures) ∙ c .before .before .before .before .if1 .taken) in
+    (omega (arith, b), omega (arith, R .point .few))
 
-element-copy-out-wide32-3 : tie.Need-element-copy-out-wide32-3
-element-copy-out-wide32-3 c = search needs
+add-position-at : tie.Need-add-position-at
+add-position-at c =
+    let s = c .before .before .before .before .before .before .before in
+    let a = s .args in
+    let R = s .pre .0 .1 in
+    let many = s .pre .1 .1 in
+    omega (arith, R .point .low, R .point .few)
 
-add-wide32 : tie.Need-add-wide32
-add-wide32 c = search needs
+position-at-requires-2 : tie.Need-position-at-requires-2
+position-at-requires-2 c κs =
+    let s = c .before .before .before .before .before .before .before in
+    let a = s .args in
+    let R = s .pre .0 .1 in
+    let many = s .pre .1 .1 in
+    let b = between-means (a .s) (sym (c .before .before .before .before .before .before .is-between .ensures) ∙ c .before .before .before .before .before .if1 .taken) in
+    (omega (arith, b), omega (arith, R .point .few))
 
-mul-wide32-4 : tie.Need-mul-wide32-4
-mul-wide32-4 c = search needs
+add-result : tie.Need-add-result
+add-result c = omega (arith, c .before .position-at .ensures .1, c .position-at2 .ensures .1)
 
-element-copy-out-wide32-4 : tie.Need-element-copy-out-wide32-4
-element-copy-out-wide32-4 c = let s = c .before .before .before .before .before .before .before .before .before in let b = between (c .before) in omega (arith, b .2, s .pre .1 .0 (b .0) (b .1) (b .2) .low, s .pre .0 .2 .point .few)
+position-at-requires-3 : tie.Need-position-at-requires-3
+position-at-requires-3 c κs =
+    let s = c .before .before .before .before .before .before .before .before in
+    let a = s .args in
+    let R = s .pre .0 .1 in
+    let many = s .pre .1 .1 in
+    let b = between-means (a .s) (sym (c .before .before .before .before .before .before .before .is-between .ensures) ∙ c .before .before .before .before .before .before .if1 .taken) in
+    (omega (arith, b), omega (arith, R .point .few))
 
-add-wide32-2 : tie.Need-add-wide32-2
-add-wide32-2 c = let l = low (c .before .before) in omega arith
-
-mul-wide32-5 : tie.Need-mul-wide32-5
-mul-wide32-5 c = search needs
-
-element-copy-out-wide32-5 : tie.Need-element-copy-out-wide32-5
-element-copy-out-wide32-5 c = search needs
-
-sub-wide32-3 : tie.Need-sub-wide32-3
-sub-wide32-3 c = omega (arith, adds (c .before .before .before))
-
-wide32-requires-3 : tie.Need-wide32-requires-3
-wide32-requires-3 c κs = search needs
+sub-result : tie.Need-sub-result
+sub-result c =
+    let s = c .before .before .before .before .before .before .before .before .before in
+    let a = s .args in
+    let R = s .pre .0 .1 in
+    let many = s .pre .1 .1 in
+    let b = between-means (a .s) (sym (c .before .before .before .before .before .before .before .before .is-between .ensures) ∙ c .before .before .before .before .before .before .before .if1 .taken) in
+    let place = stateOf (roundOf (a .previous .now) [] (a .sizes .now)) (a .first .now) (a .coefficients .now) (a .order .now) (a .marks .now) (a .s) in
+    let X = s .pre .1 .0 .square (b .0) (b .1) (rw many (b .2)) in
+    let h = c .before .before .before .before .before .before .index-at in
+    let k = c .before .before .before .before .before .index-at2 in
+    let apart = rw (h .ensures .is, k .ensures .is) at (sym (c .before .before .before .before .add-up .ensures) ∙ c .before .before .before .if2 .taken) in
+    let up : a .s .active + 1 ≡ suc (a .s .active) = omega arith in
+    let sum = corners-add (a .g) (s .pre .0 .0 .made) place (b .1) X apart in
+    let far = rw up at (c .before .position-at2 .ensures .0) in
+    omega (arith, sum, c .before .before .position-at .ensures .0, far, c .position-at3 .ensures .0)
 
 returns : tie.Need-returns
-returns c = omega (arith, adds (c .before .before .before .before), c .wide323 .ensures)
+returns c =
+    let s = c .before .before .before .before .before .before .before .before .before in
+    let a = s .args in
+    let R = s .pre .0 .1 in
+    let many = s .pre .1 .1 in
+    let b = between-means (a .s) (sym (c .before .before .before .before .before .before .before .before .is-between .ensures) ∙ c .before .before .before .before .before .before .before .if1 .taken) in
+    let place = stateOf (roundOf (a .previous .now) [] (a .sizes .now)) (a .first .now) (a .coefficients .now) (a .order .now) (a .marks .now) (a .s) in
+    let X = s .pre .1 .0 .square (b .0) (b .1) (rw many (b .2)) in
+    let h = c .before .before .before .before .before .before .index-at in
+    let k = c .before .before .before .before .before .index-at2 in
+    let apart = rw (h .ensures .is, k .ensures .is) at (sym (c .before .before .before .before .add-up .ensures) ∙ c .before .before .before .if2 .taken) in
+    let up : a .s .active + 1 ≡ suc (a .s .active) = omega arith in
+    let sum = corners-add (a .g) (s .pre .0 .0 .made) place (b .1) X apart in
+    let far = rw up at (c .before .position-at2 .ensures .0) in
+    omega (arith, sum, c .before .before .position-at .ensures .0, far, c .position-at3 .ensures .0)
 
 position-by-one-step-requires : tie.Need-position-by-one-step-requires
 position-by-one-step-requires c κs =
-    let e = c .before .before .before .before in
-    let R = e .pre .0 .2 in
-    let few = counted (e .args .order .now) (e .args .s .count) (R .orderLength) (R .point .few) in (
-      (e .pre .0 .0, e .pre .0 .1, c .if3 .taken, omega (arith, R .point .low), omega (arith, R .point .few), R .orderLength, R .point .indices),
-      (e .args .first .now, e .pre .1 .1 (c .if3 .taken)),
+    let s = c .before .before .before .before in
+    let a = s .args in
+    let R = s .pre .0 .1 in
+    let many = s .pre .1 .1 in (
+      (s .pre .0 .0, c .if3 .taken),
+      (record { below = R .below; orderBelow = R .point .indices; active = omega (arith, R .point .low); few = omega (arith, R .point .few); many = many }, (a .first .now, s .pre .1 .0 .beside (c .if3 .taken))),
     )
 
 enum-known-found : tie.Need-enum-known-found
@@ -117,15 +148,20 @@ enum-known-found c = search needs
 
 returns-2 : tie.Need-returns-2
 returns-2 c =
-    let t = c .before .before .before .before in
-    let e = t .before .before .before .before in
-    c .before .before .before .position-by-one-step .ensures (c .before .found .given .0 .0) (e .args .first .now) (e .pre .1 .1 (t .if3 .taken)) (c .before .found .given .1)
+    let s = c .before .before .before .before .before .before .before .before in
+    let a = s .args in
+    let R = s .pre .0 .1 in
+    let many = s .pre .1 .1 in
+    one-step-is _ (stateOf (roundOf (a .previous .now) [] (a .sizes .now)) (a .first .now) (a .coefficients .now) (a .order .now) (a .marks .now) (a .s)) _ (sym (c .before .found .given .1) ∙ c .before .before .before .position-by-one-step .ensures (a .first .now) (s .pre .1 .0 .beside (c .before .before .before .before .if3 .taken)))
 
 enum-told : tie.Need-enum-told
 enum-told c = search needs
 
 position-by-steps-requires : tie.Need-position-by-steps-requires
-position-by-steps-requires c κs = search needs
+position-by-steps-requires c κs =
+    let s = c .before .before .before .before in
+    let R = s .pre .0 .1 in
+    (s .pre .0 .0, record { below = R .below; firstLength = R .firstLength; point = R .point; onGrid = R .onGrid })
 
 returns-3 : tie.Need-returns-3
 returns-3 c = search needs
@@ -135,25 +171,17 @@ position-in-spec =
     tie.close
     (tie.spec
     is-between-requires
-    sub-wide32
-    mul-wide32
-    element-copy-out-wide32
-    wide32-requires
-    mul-wide32-2
-    element-copy-out-wide32-2
-    wide32-requires-2
+    sub-index-at
+    index-at-requires
+    index-at-requires-2
     add-up-requires
-    sub-wide32-2
-    mul-wide32-3
-    element-copy-out-wide32-3
-    add-wide32
-    mul-wide32-4
-    element-copy-out-wide32-4
-    add-wide32-2
-    mul-wide32-5
-    element-copy-out-wide32-5
-    sub-wide32-3
-    wide32-requires-3
+    sub-position-at
+    position-at-requires
+    add-position-at
+    position-at-requires-2
+    add-result
+    position-at-requires-3
+    sub-result
     returns
     position-by-one-step-requires
     enum-known-found

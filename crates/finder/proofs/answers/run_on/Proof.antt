@@ -27,7 +27,7 @@ announced-requires c κs =
     let a = e .args in
     let p = problemFrom (a .g) (a .start .now) (a .labels .now) in
     let w = accepted-with-room p (length (a .answer .now)) (e .pre .accepted) (sym (c .before .before .before .before .before .first-no .ensures) ∙ c .before .before .before .before .if1 .left) in
-    (record { made = e .pre; filled = c .before .before .binomials2 .ensures; whole = w .0 .tableLength }, w .0, w .1)
+    record { readable = record { made = e .pre; filled = c .before .before .binomials2 .ensures; whole = w .0 .tableLength }; accepted = w .0; room = w .1 }
 
 same-length : tie.Need-same-length
 same-length c = search needs

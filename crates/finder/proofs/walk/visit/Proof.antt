@@ -2,78 +2,70 @@
 use mathlib.Core.Path.{sym, ap, _∙_, subst}
 use lib.ListN.{length-set}
 use native.Mathlib.Omega.{arith}
+use Rattle.combinatorics.proofs.EditsOfArrays.{counted}
+use Rattle.moves.specs.Held.{roundOf}
 use Rattle.moves.specs.Ready.{Ready}
 use Rattle.moves.specs.Step.{step}
 use Rattle.marks.specs.Reading.{tableOf}
-use Rattle.finder.proofs.Visits.{below, read-none, read-some}
+use Rattle.finder.proofs.Visits.{marks-back, read-back, read-none, read-some}
+use borrow.Author.Needs.{needs}
 use Rattle.finder.proofs.walk.visit.Statement.{statement}
 use Rattle.finder.proofs.walk.visit.Tie as tie
-use Rattle.finder.proofs.walk.visit.Reads as reads
-use Rattle.finder.proofs.walk.visit.Lts as lts
-use Rattle.marks.proofs.mark_in.Reads as mark-in-reads
-use Rattle.moves.proofs.step.Reads as step-reads
 
 step-requires : tie.Need-step-requires
 step-requires c κs =
-    let t = c .before .before .before .before .before .before .before in
-    let e = t .before .before .before .before .before in
-    let g = e .args .g in
-    let b = below g (e .pre .0 .0 .made) in
-    ((b .0, b .1, e .pre .0 .1), subst (Ready (g .previous) (g .next)) (read-none (tableOf g (e .args .table .now)) _ (t .if1 .taken)) (e .pre .1 .1))
+    let s = c .before .before .before .before .before .before .before in
+    let a = s .args in
+    record { below = s .pre .1 .below; each = s .pre .0 .1; ready = subst Ready (read-none (tableOf (a .g) (a .table .now)) _ (c .before .before .before .before .if1 .taken)) (s .pre .1 .ready) }
 
 returns : tie.Need-returns
 returns c =
-    let t = c .before .before .before .before .before .before .before .before in
-    let e = t .before .before .before .before .before in
-    let g = e .args .g in
-    (c .step .ensures .0 ∙ ap (step (g .previous) (g .next)) (sym (read-none (tableOf g (e .args .table .now)) _ (t .if1 .taken))), c .step .ensures .1)
+    let s = c .before .before .before .before .before .before .before .before in
+    let a = s .args in
+    record { after = c .step .ensures .after ∙ ap step (sym (read-none (tableOf (a .g) (a .table .now)) _ (c .before .before .before .before .before .if1 .taken))); each = c .step .ensures .each }
 
 mark-in-requires : tie.Need-mark-in-requires
 mark-in-requires c κs =
-    let t = c .before .before .before .before .before in
-    let e = t .before .before .before .before .before in
-    ((e .pre .0 .0, e .pre .1 .0 (t .if1 .left) .0), (e .pre .1 .0 (t .if1 .left) .1, e .pre .1 .0 (t .if1 .left) .2))
+    let s = c .before .before .before .before .before .before .before in
+    let a = s .args in
+    let read = c .before .before .before .before .if1 .left in
+    let R = s .pre .1 .reads read in
+    let many = counted (a .order .now) (a .s .count) (s .pre .0 .1 .inOrder) (R .point .few) in
+    ((s .pre .0 .0, read-back (a .g) (a .previous .now) (a .next .now) (a .sizes .now) (a .first .now) (a .coefficients .now) (a .order .now) (a .marks .now) (a .s) R), (marks-back (a .g) (a .previous .now) (a .next .now) (a .sizes .now) (a .first .now) (a .coefficients .now) (a .order .now) (a .marks .now) (a .s) (a .tails .now) (s .pre .1 .marks read), many))
 
 mul-marks : tie.Need-mul-marks
 mul-marks c =
-    let t = c .before .before .before .before .before .before in
-    let e = t .before .before .before .before .before in
-    let r = e .pre .1 .0 (t .if1 .left) .0 .point in
+    let s = c .before .before .before .before .before .before .before .before in
+    let a = s .args in
+    let read = c .before .before .before .before .before .if1 .left in
+    let r = s .pre .1 .reads read .point in
     omega (arith, r .low, r .few)
 
 element-write-marks : tie.Need-element-write-marks
 element-write-marks c =
-    let t = c .before .before .before .before .before .before in
-    let e = t .before .before .before .before .before in
-    let r = e .pre .1 .0 (t .if1 .left) .0 .point in
+    let s = c .before .before .before .before .before .before .before .before in
+    let a = s .args in
+    let read = c .before .before .before .before .before .if1 .left in
+    let r = s .pre .1 .reads read .point in
     omega (arith, r .low, r .few)
 
 step-requires-2 : tie.Need-step-requires-2
 step-requires-2 c κs =
-    let w = c .before .before .before .before .before .before .before in
-    let t = w .before .before .before .before .before .before in
-    let e = t .before .before .before .before .before in
-    let a = e .args in
-    let g = a .g in
-    let b = below g (e .pre .0 .0 .made) in (
-      (b .0, b .1, record { inOrder = e .pre .0 .1 .inOrder; inMarks = length-set (a .marks .now) (a .s .turn) (w .mark-in .result) ∙ e .pre .0 .1 .inMarks }),
-      subst (Ready (g .previous) (g .next))
-          (sym (read-some (tableOf g (a .table .now)) (a .first .now) (a .coefficients .now) (a .order .now) (a .marks .now) (a .takes .now) (a .s) (w .mark-in .result) (t .if1 .left) (e .pre .1 .0 (t .if1 .left) .0 .point) (w .mark-in .ensures)))
-          (e .pre .1 .1),
-    )
+    let s = c .before .before .before .before .before .before .before .before .before .before .before .before in
+    let a = s .args in
+    let read = c .before .before .before .before .before .before .before .before .before .if1 .left in
+    record {
+      below = s .pre .1 .below;
+      each = record { inOrder = s .pre .0 .1 .inOrder; inMarks = length-set (a .marks .now) (a .s .active) (c .before .before .before .before .mark-in .result) ∙ s .pre .0 .1 .inMarks };
+      ready = subst Ready (sym (read-some (tableOf (a .g) (a .table .now)) (roundOf (a .previous .now) (a .next .now) (a .sizes .now)) (a .first .now) (a .coefficients .now) (a .order .now) (a .marks .now) (a .s) (c .before .before .before .before .mark-in .result) read (s .pre .1 .reads read .point) (c .before .before .before .before .mark-in .ensures))) (s .pre .1 .ready);
+    }
 
 returns-2 : tie.Need-returns-2
 returns-2 c =
-    let w = c .before .before .before .before .before .before .before .before in
-    let t = w .before .before .before .before .before .before in
-    let e = t .before .before .before .before .before in
-    let a = e .args in
-    let g = a .g in (
-      c .step2 .ensures .0
-          ∙ ap (step (g .previous) (g .next))
-          (read-some (tableOf g (a .table .now)) (a .first .now) (a .coefficients .now) (a .order .now) (a .marks .now) (a .takes .now) (a .s) (w .mark-in .result) (t .if1 .left) (e .pre .1 .0 (t .if1 .left) .0 .point) (w .mark-in .ensures)),
-      c .step2 .ensures .1,
-    )
+    let s = c .before .before .before .before .before .before .before .before .before .before .before .before .before in
+    let a = s .args in
+    let read = c .before .before .before .before .before .before .before .before .before .before .if1 .left in
+    record { after = c .step2 .ensures .after ∙ ap step (read-some (tableOf (a .g) (a .table .now)) (roundOf (a .previous .now) (a .next .now) (a .sizes .now)) (a .first .now) (a .coefficients .now) (a .order .now) (a .marks .now) (a .s) (c .before .before .before .before .before .mark-in .result) read (s .pre .1 .reads read .point) (c .before .before .before .before .before .mark-in .ensures)); each = c .step2 .ensures .each }
 
 pub visit-spec : {M : Type 1} → statement M
 visit-spec =

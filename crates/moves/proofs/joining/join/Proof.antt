@@ -1,11 +1,11 @@
 -- `joining::join` meets its contract. Assumes nothing.
 use mathlib.Core.Path.{_≡_, refl}
 use Prim.Native.Nat.{suc, _+_}
-use borrow.Author.Needs.{needs}
 use lib.ListN.{take}
 use native.Mathlib.Numerals.{add-one}
 use Rattle.combinatorics.specs.Edits.{insertAt}
 use Rattle.moves.proofs.Cases.{same-state}
+use borrow.Author.Needs.{needs}
 use Rattle.moves.proofs.joining.join.Statement.{statement}
 use Rattle.moves.proofs.joining.join.Tie as tie
 
@@ -42,10 +42,11 @@ returns c =
     let n = a .s .count in
     let marks : take (suc (n + 1)) (c .before .before .insert2 .last .0) ≡ insertAt (suc (a .i)) 0 (take (suc n) (a .marks .now)) =
     rw (← add-one (n + 1), ← add-one (a .i), ← add-one n) (c .before .before .insert2 .ensures .0)
-    in (
-      λ first coefficients takes taking. same-state (a .rule) 0 refl refl (c .before .before .before .before .insert .ensures .0) marks refl (c .before .add .ensures) (c .without .ensures) (add-one (a .i)),
-      record { inOrder = c .before .before .before .before .insert .ensures .1; inMarks = c .before .before .insert2 .ensures .1 },
-    )
+    in
+    record {
+      state = λ round first coefficients. same-state round (a .rule) refl refl (c .before .before .before .before .insert .ensures .0) marks (c .before .add .ensures) (c .without .ensures) (add-one (a .i));
+      each = record { inOrder = c .before .before .before .before .insert .ensures .1; inMarks = c .before .before .insert2 .ensures .1 };
+    }
 
 pub join-spec : {M : Type 1} → statement M
 join-spec =

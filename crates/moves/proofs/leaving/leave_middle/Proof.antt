@@ -1,76 +1,62 @@
 -- `leaving::leave_middle` meets its contract: rule 6 or rule 1. Assumes nothing.
+use mathlib.Core.Bool.{true}
+use mathlib.Core.List.{[]}
 use mathlib.Core.Logic.{⊎-elim}
-use mathlib.Core.Path.{_≡_, refl, _∙_}
-use Prim.Native.Nat.{_-_, _<_}
-use borrow.Author.Needs.{needs}
+use mathlib.Core.Path.{_≡_, refl, ap, _∙_}
+use Prim.Native.Nat.{_-_}
 use lib.ListN.{take}
 use native.Mathlib.Omega.{arith}
 use Rattle.combinatorics.proofs.EditsOfArrays.{take-swap}
 use Rattle.combinatorics.specs.Edits.{swapAt}
 use Rattle.grid.specs.Grid.{at}
-use Rattle.moves.specs.Step.{stateOf}
-use Rattle.moves.proofs.Cases.{same-state, middle-to-U, steps-exchanged}
-use Rattle.moves.proofs.FirstMet.{below, entry, entry-below}
+use Rattle.moves.specs.Held.{stateOf, roundOf, noRound}
+use Rattle.moves.specs.Step.{State, goes}
+use Rattle.moves.proofs.Cases.{same-state, besideAfter, shrink-beside, middle-to-U, steps-exchanged}
+use borrow.Author.Needs.{needs}
 use Rattle.moves.proofs.leaving.leave_middle.Statement.{statement}
 use Rattle.moves.proofs.leaving.leave_middle.Tie as tie
 
-mul-wide32 : tie.Need-mul-wide32
-mul-wide32 c = search needs
+index-at-requires : tie.Need-index-at-requires
+index-at-requires c κs = search needs
 
-element-copy-out-wide32 : tie.Need-element-copy-out-wide32
-element-copy-out-wide32 c = search needs
+sub-index-at : tie.Need-sub-index-at
+sub-index-at c = search needs
 
-wide32-requires : tie.Need-wide32-requires
-wide32-requires c κs = search needs
+index-at-requires-2 : tie.Need-index-at-requires-2
+index-at-requires-2 c κs = search needs
 
-sub-wide32 : tie.Need-sub-wide32
-sub-wide32 c = search needs
-
-mul-wide32-2 : tie.Need-mul-wide32-2
-mul-wide32-2 c = search needs
-
-element-copy-out-wide32-2 : tie.Need-element-copy-out-wide32-2
-element-copy-out-wide32-2 c = search needs
-
-wide32-requires-2 : tie.Need-wide32-requires-2
-wide32-requires-2 c κs = search needs
-
-element-copy-out-wide : tie.Need-element-copy-out-wide
-element-copy-out-wide c = let s = c .before .before .before .before in rw (c .before .before .wide32 .ensures) (entry-below (s .args .order .now) (s .args .s .count) (s .args .i) (s .pre .6) (s .pre .2))
-
-wide-requires : tie.Need-wide-requires
-wide-requires c κs = search needs
-
--- the index that the step takes from is one of the array's
-taken-low : (c : tie.Then1) → c .before .wide .result < 16
-taken-low c = rw (c .before .wide .ensures) (below (c .before .before .before .before .before .before .before .args .takes .now) (c .before .before .before .before .before .before .before .pre .1) _)
+first-outside-requires : tie.Need-first-outside-requires
+first-outside-requires c κs = (c .before .before .index-at .ensures .index, c .before .before .before .before .pre .0 .0)
 
 mul-if2 : tie.Need-mul-if2
-mul-if2 c = omega (arith, taken-low c)
+mul-if2 c = search needs
 
 element-copy-out-if2 : tie.Need-element-copy-out-if2
-element-copy-out-if2 c = taken-low c
+element-copy-out-if2 c = search needs
 
 sub-shrink : tie.Need-sub-shrink
 sub-shrink c = search needs
 
 shrink-requires : tie.Need-shrink-requires
-shrink-requires c κs = search needs
+shrink-requires c κs =
+    let s = c .before .before .before .before .before .before .before .before .before .before in
+    let q = s .pre .1 in
+    (s .pre .0 .1, record { point = omega arith; entry = omega arith })
 
 returns : tie.Need-returns
 returns c =
-    let s = c .before .before .before .before .before .before .before .before .before .before .before .before .before in
+    let s = c .before .before .before .before .before .before .before .before .before .before .before in
     let a = s .args in
-    let h = c .before .before .before .before .before .before .before .before .before .before .before .wide32 .result in
-    let w = c .before .before .before .before .before .before .before .before .before .wide322 .result in
-    let b = c .before .before .before .before .before .before .before .wide .result in
-    let atH = entry (a .order .now) (a .s .count) (a .i) h (s .pre .6) (c .before .before .before .before .before .before .before .before .before .before .before .wide32 .ensures) in
-    let atW = entry (a .order .now) (a .s .count) (a .i - 1) w (omega arith) (c .before .before .before .before .before .before .before .before .before .wide322 .ensures) in
-    let atB = c .before .before .before .before .before .before .before .wide .ensures in (
-      λ coefficients. c .shrink .ensures .0 (a .first .now) coefficients
-          ∙ middle-to-U (a .next .now) (stateOf (a .first .now) coefficients (a .order .now) (a .marks .now) (a .takes .now) (a .s)) (a .i) h w b atH atW atB (c .before .before .before .before .before .before .if1 .taken) (c .before .before .before .before .if2 .taken),
-      c .shrink .ensures .1,
-    )
+    let h = c .before .before .before .before .before .before .before .before .before .index-at in
+    let w = c .before .before .before .before .before .before .before .index-at2 in
+    let b = c .before .before .before .before .before .before .first-outside in
+    let round = roundOf (a .previous .now) [] (a .sizes .now) in
+    record {
+      after = ap (besideAfter round (a .first .now) []) (c .shrink .ensures .after)
+          ∙ ap (λ (x : State). goes x) (shrink-beside (stateOf noRound [] [] (a .order .now) (a .marks .now) (a .s)) (a .first .now) [] round (a .i) (a .i - 1) true
+          ∙ middle-to-U (stateOf round (a .first .now) [] (a .order .now) (a .marks .now) (a .s)) (a .i) (h .result) (w .result) (b .result) (h .ensures .is) (w .ensures .is) (b .ensures .0) (c .before .before .before .before .before .if1 .taken) (c .before .before .before .if2 .taken));
+      each = c .shrink .ensures .each;
+    }
 
 sub-exchange : tie.Need-sub-exchange
 sub-exchange c = search needs
@@ -80,36 +66,30 @@ exchange-requires c κs = search needs
 
 returns-2 : tie.Need-returns-2
 returns-2 c =
-    let s = c .before .before .before .before .before .before .before .before .before in
+    let s = c .before .before .before .before .before .before .before .before in
     let a = s .args in
-    let h = c .before .before .before .before .before .before .before .wide32 .result in
-    let w = c .before .before .before .before .before .wide322 .result in
-    let b = c .before .before .before .wide .result in
-    let atH = entry (a .order .now) (a .s .count) (a .i) h (s .pre .6) (c .before .before .before .before .before .before .before .wide32 .ensures) in
-    let atW = entry (a .order .now) (a .s .count) (a .i - 1) w (omega arith) (c .before .before .before .before .before .wide322 .ensures) in
-    let atB = c .before .before .before .wide .ensures in
-    let stays : (w ≡ b → at (a .first .now) b ≡ 0 → ⊥) = ⊎-elim (λ t _. t .2 .left) (λ t e _. t .left e) (c .before .before .if1 .came) in
+    let h = c .before .before .before .before .before .before .index-at in
+    let w = c .before .before .before .before .index-at2 in
+    let b = c .before .before .before .first-outside in
+    let round = roundOf (a .previous .now) [] (a .sizes .now) in
+    let stays : (w .result ≡ b .result → at (a .first .now) (b .result) ≡ 0 → ⊥) = ⊎-elim (λ t _. t .2 .left) (λ t e _. t .left e) (c .before .before .if1 .came) in
     let order : take (a .s .count) (c .exchange .last .0) ≡ swapAt (a .i - 1) (take (a .s .count) (a .order .now)) =
     rw (c .exchange .ensures .0) (take-swap (a .s .count) (a .i - 1) (a .order .now) (omega arith))
-    in (
-      λ coefficients. same-state 1 0 refl refl order refl refl refl refl refl
-          ∙ steps-exchanged (a .next .now) (stateOf (a .first .now) coefficients (a .order .now) (a .marks .now) (a .takes .now) (a .s)) (a .i) h w b atH atW atB stays,
-      record { inOrder = c .exchange .ensures .1; inMarks = s .pre .3 .inMarks },
-    )
+    in
+    record {
+      after = ap (λ (x : State). goes x) (same-state _ 1 refl refl order refl refl refl refl
+          ∙ steps-exchanged (stateOf round (a .first .now) [] (a .order .now) (a .marks .now) (a .s)) (a .i) (h .result) (w .result) (b .result) (h .ensures .is) (w .ensures .is) (b .ensures .0) stays);
+      each = record { inOrder = c .exchange .ensures .1; inMarks = s .pre .0 .1 .each .inMarks };
+    }
 
 pub leave-middle-spec : {M : Type 1} → statement M
 leave-middle-spec =
     tie.close
     (tie.spec
-    mul-wide32
-    element-copy-out-wide32
-    wide32-requires
-    sub-wide32
-    mul-wide32-2
-    element-copy-out-wide32-2
-    wide32-requires-2
-    element-copy-out-wide
-    wide-requires
+    index-at-requires
+    sub-index-at
+    index-at-requires-2
+    first-outside-requires
     mul-if2
     element-copy-out-if2
     sub-shrink

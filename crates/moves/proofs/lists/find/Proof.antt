@@ -2,6 +2,7 @@
 -- entries left. Assumes nothing.
 use mathlib.Core.List.{List, map}
 use mathlib.Core.Logic.{⊎-elim}
+use borrow.Author.Needs.{needs}
 use mathlib.Core.Path.{_≡_, refl, sym, ap, _∙_}
 use Prim.Native.Nat.{ℕ, _-_, _≤_, _<_}
 use lib.ListN.{length, length-map, getD, take, drop}
@@ -24,8 +25,8 @@ abbrev μ-loop : tie.MeasureT-loop
 loop-holds : tie.Need-loop-holds Inv-loop μ-loop
 loop-holds c = (omega arith, omega arith, refl)
 
-mul-if2 : tie.Need-mul-if2 Inv-loop μ-loop
-mul-if2 c = omega arith
+mul-label-in : tie.Need-mul-label-in Inv-loop μ-loop
+mul-label-in c = omega arith
 
 -- the label of entry k is among the labels
 label-at : (a : List ℕ) (n k : ℕ) → k < n → n ≤ length a → (k < length (map markLabel (take n a))) × (getD (map markLabel (take n a)) k 0 ≡ markLabel (getD a k 0))
@@ -33,8 +34,11 @@ label-at a n k l m =
     let long = length-take-le n a m in
     (rw (length-map (take n a) markLabel, long) l, labels-in (take n a) k (omega arith) ∙ ap markLabel (getD-take n a k 0 l))
 
-element-copy-out-if2 : tie.Need-element-copy-out-if2 Inv-loop μ-loop
-element-copy-out-if2 c = omega arith
+element-copy-out-label-in : tie.Need-element-copy-out-label-in Inv-loop μ-loop
+element-copy-out-label-in c = omega arith
+
+label-in-requires : tie.Need-label-in-requires Inv-loop μ-loop
+label-in-requires c κs = search needs
 
 add-k : tie.Need-add-k Inv-loop μ-loop
 add-k c = omega arith
@@ -44,11 +48,11 @@ loop-less c = omega arith
 
 loop-again : tie.Need-loop-again Inv-loop μ-loop
 loop-again c =
-    let a = c .before .before .before .before .args in
-    let l = c .before .before .before .loop in
+    let a = c .before .before .before .before .before .args in
+    let l = c .before .before .before .before .loop in
     let here = label-at (a .a .now) (a .n) (l .k) (omega arith) (omega arith) in
     let other : (getD (map markLabel (take (a .n) (a .a .now))) (l .k) 0 ≡ a .x → l .k ≡ a .but) =
-    ⊎-elim (λ w e. w .1 .left) (λ w e. absurd (w .left (sym (here .1) ∙ e))) (c .if2 .came)
+    ⊎-elim (λ w e. w .1 .left) (λ w e. absurd (w .left (c .before .label-in .ensures ∙ sym (here .1) ∙ e))) (c .if2 .came)
     in
     (omega arith, omega arith, rw add-one (sym (found-later (a .x) (a .but) (l .k) (map markLabel (take (a .n) (a .a .now))) (here .0) other) ∙ l .inv .2))
 
@@ -60,10 +64,10 @@ returns c =
 
 returns-2 : tie.Need-returns-2 Inv-loop μ-loop
 returns-2 c =
-    let a = c .before .before .before .before .before .args in
-    let l = c .before .before .before .before .loop in
+    let a = c .before .before .before .before .before .before .args in
+    let l = c .before .before .before .before .before .loop in
     let here = label-at (a .a .now) (a .n) (l .k) (omega arith) (omega arith) in
-    sym (found-here (a .x) (a .but) (l .k) (map markLabel (take (a .n) (a .a .now))) (here .0) (here .1 ∙ c .before .if2 .taken) (c .if3 .taken)) ∙ l .inv .2
+    sym (found-here (a .x) (a .but) (l .k) (map markLabel (take (a .n) (a .a .now))) (here .0) (here .1 ∙ sym (c .before .before .label-in .ensures) ∙ c .before .if2 .taken) (c .if3 .taken)) ∙ l .inv .2
 
 pub find-spec : {M : Type 1} → statement M
 find-spec =
@@ -72,8 +76,9 @@ find-spec =
     Inv-loop
     μ-loop
     loop-holds
-    mul-if2
-    element-copy-out-if2
+    mul-label-in
+    element-copy-out-label-in
+    label-in-requires
     add-k
     loop-less
     loop-again

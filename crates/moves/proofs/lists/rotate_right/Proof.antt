@@ -1,4 +1,4 @@
--- `lists::turn_right` meets its contract: the list less its last stands behind what was last. Assumes nothing.
+-- `lists::rotate_right` meets its contract: the list less its last stands behind what was last. Assumes nothing.
 use mathlib.Core.Path.{_≡_, _∙_}
 use Prim.Native.Nat.{suc, _+_, _-_}
 use borrow.Author.Needs.{needs}
@@ -7,8 +7,8 @@ use native.Mathlib.Numerals.{add-one}
 use native.Mathlib.Omega.{arith}
 use Rattle.combinatorics.proofs.EditsOfArrays.{rotate-right}
 use Rattle.combinatorics.specs.Edits.{rotateRight}
-use Rattle.moves.proofs.lists.turn_right.Statement.{statement}
-use Rattle.moves.proofs.lists.turn_right.Tie as tie
+use Rattle.moves.proofs.lists.rotate_right.Statement.{statement}
+use Rattle.moves.proofs.lists.rotate_right.Tie as tie
 
 sub-x : tie.Need-sub-x
 sub-x c = search needs
@@ -34,5 +34,5 @@ returns c =
     in
     (rw (add-one, n) at made, c .insert .ensures .1)
 
-pub turn-right-spec : {M : Type 1} → statement M
-turn-right-spec = tie.close (tie.spec sub-x mul-x element-copy-out-x sub-insert insert-requires returns)
+pub rotate-right-spec : {M : Type 1} → statement M
+rotate-right-spec = tie.close (tie.spec sub-x mul-x element-copy-out-x sub-insert insert-requires returns)

@@ -1,12 +1,12 @@
--- `points::taken` meets its contract. The invariant: the first h numbers stand at the front. The measure: the numbers left. Assumes nothing.
+-- `points::padded` meets its contract. The invariant: the first h numbers stand at the front. The measure: the numbers left. Assumes nothing.
 use mathlib.Core.Path.{_≡_, sym}
 use Prim.Native.Nat.{_-_, _≤_}
 use lib.ListN.{length, take, replicate}
 use native.Mathlib.Omega.{arith}
 use Rattle.combinatorics.proofs.Fronts.{front-none, front-copy}
 use Rattle.combinatorics.specs.Front.{front}
-use Rattle.moves.proofs.points.taken.Statement.{statement}
-use Rattle.moves.proofs.points.taken.Tie as tie
+use Rattle.moves.proofs.points.padded.Statement.{statement}
+use Rattle.moves.proofs.points.padded.Tie as tie
 
 abbrev Inv-loop : tie.InvT-loop
 Inv-loop y m a₀ h₀ a h = (a ≡ front (take h y) (replicate 16 0)) × (h ≤ m) × (m ≤ 16) × (m ≤ length y)
@@ -46,8 +46,8 @@ returns c =
     let all-m : c .before .before .args .m ≡ l .h = omega arith in
     rw all-m (l .inv .0)
 
-pub taken-spec : {M : Type 1} → statement M
-taken-spec =
+pub padded-spec : {M : Type 1} → statement M
+padded-spec =
     tie.close
     (tie.spec
     Inv-loop

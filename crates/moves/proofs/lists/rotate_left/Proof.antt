@@ -1,4 +1,4 @@
--- `lists::turn_left` meets its contract: what was first stands behind the list less its first. Assumes nothing.
+-- `lists::rotate_left` meets its contract: what was first stands behind the list less its first. Assumes nothing.
 use mathlib.Core.Path.{_≡_}
 use Prim.Native.Nat.{suc, _-_, _<_}
 use borrow.Author.Needs.{needs}
@@ -7,8 +7,8 @@ use lib.Seq.{length-take-le, getD-take, take-suc-set}
 use native.Mathlib.Omega.{arith}
 use Rattle.combinatorics.proofs.EditsOfArrays.{rotate-left}
 use Rattle.combinatorics.specs.Edits.{rotateLeft}
-use Rattle.moves.proofs.lists.turn_left.Statement.{statement}
-use Rattle.moves.proofs.lists.turn_left.Tie as tie
+use Rattle.moves.proofs.lists.rotate_left.Statement.{statement}
+use Rattle.moves.proofs.lists.rotate_left.Tie as tie
 
 element-copy-out-x : tie.Need-element-copy-out-x
 element-copy-out-x c = search needs
@@ -37,6 +37,6 @@ returns c =
     in
     (rw n at made, rw length-set (omega arith))
 
-pub turn-left-spec : {M : Type 1} → statement M
-turn-left-spec =
+pub rotate-left-spec : {M : Type 1} → statement M
+rotate-left-spec =
     tie.close (tie.spec element-copy-out-x remove-requires sub-a mul-a element-write-a returns)
