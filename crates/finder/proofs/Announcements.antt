@@ -18,8 +18,8 @@ use Rattle.grid.proofs.Fields.{indices-few, made-indices}
 use Rattle.grid.specs.Grid.{Grid, Point, blockOf, dimension, isGridPoint, numIndices}
 use Rattle.grid.specs.Made.{IsMade, shape}
 use Rattle.grid.specs.declared.Grid.{Grid as GridStruct}
-use Rattle.moves.specs.Read.{numbersFrom, pointIn, pointsFrom}
-use Rattle.moves.specs.Step.{Round, State}
+use Rattle.rules.specs.Read.{numbersFrom, pointIn, pointsFrom}
+use Rattle.rules.specs.Step.{Round, State}
 use Rattle.place.specs.Demand.{Accepted}
 use Rattle.place.specs.Path.{answer}
 use Rattle.place.specs.Problem.{Problem}

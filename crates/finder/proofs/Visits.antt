@@ -2,7 +2,7 @@
 -- Assumes nothing.
 use mathlib.Core.Bool.{true, _&&_}
 use mathlib.Core.List.{List, [], map}
-use mathlib.Core.Logic.{⊎-elim}
+use mathlib.Core.Logic.{_⊎_, ⊎-elim}
 use mathlib.Core.Path.{_≡_, refl, sym, ap, _∙_, subst}
 use Prim.Native.Nat.{ℕ, suc, _-_, _≤_, _<_}
 use borrow.Author.Tests.{lt-ltb, le-ltb}
@@ -21,12 +21,12 @@ use Rattle.positions.proofs.Positions.{map-front}
 use Rattle.place.specs.Demand.{Accepted}
 use Rattle.place.specs.Ends.{Kind, placeEnd, facetEnd}
 use Rattle.place.specs.Problem.{Problem, label}
-use Rattle.moves.proofs.Follow.{At, EndsAt, NextAt, nextPlace, placeEnds, facetEnds, at-begin, at-beside, at-exchanged, at-first, at-next, at-reads, at-ready, ends-answer}
+use Rattle.rules.proofs.Follow.{At, EndsAt, NextAt, nextPlace, placeEnds, facetEnds, at-begin, at-beside, at-exchanged, at-first, at-next, at-reads, at-ready, ends-answer}
 use Rattle.moves.specs.Held.{roundOf, stateOf}
-use Rattle.moves.specs.Mask.{bit}
-use Rattle.moves.specs.Read.{markOf, pointIn, read, CanCompute, Exchanged, FallsBeside, Falling}
-use Rattle.moves.specs.Ready.{IsRound, RoundBelow}
-use Rattle.moves.specs.Step.{After, Round, State, goes, endsAtPlace, endsAtFacet, step, withMark}
+use Rattle.rules.specs.Mask.{bit}
+use Rattle.rules.specs.Read.{markOf, pointIn, read, CanCompute, Exchanged, FallsBeside, Falling}
+use Rattle.rules.specs.Ready.{IsRound, RoundBelow}
+use Rattle.rules.specs.Step.{After, Round, State, goes, endsAtPlace, endsAtFacet, step, withMark}
 use Rattle.moves.specs.declared.Status.{Status}
 use Rattle.marks.specs.Reading.{tableOf, CanRead, HasMarks}
 use Rattle.finder.specs.Finish.{Announced, CanVisit, IsBegun, problemIn}
@@ -140,6 +140,12 @@ module _ (g : GridStruct) (made : IsMade g) (start table : List ℕ) (ok : Accep
 
 pub on-path : {p : Problem} {k : ℕ} {e : State} → NextAt p k (goes e) → At p e (suc k)
 on-path (nextPlace A) = A
+
+-- a move gives one of three answers
+pub one-of-three : (x : ℕ) → (x ≡ 0) ⊎ (x ≡ 2) → (x ≡ 0) ⊎ (x ≡ 1) → (x ≡ 1) ⊎ (x ≡ 2) → ⊥
+one-of-three x a b c =
+    ⊎-elim (λ (e : x ≡ 0). ⊎-elim (λ (f : x ≡ 1). omega arith) (λ (f : x ≡ 2). omega arith) c)
+    (λ (e : x ≡ 2). ⊎-elim (λ (f : x ≡ 0). omega arith) (λ (f : x ≡ 1). omega arith) b) a
 
 -- at an end, that is the answer
 module _ (p : Problem) (budget : ℕ) (round : Round) (first coefficients order marks : List ℕ) (s : Status) (h k places : ℕ) (q : places ≡ suc k) (l : k < budget) where

@@ -1,4 +1,5 @@
--- What the walk along the path needs of its grid and table, and what it gives. The run's own promise does not cite it. Assumes nothing.
+-- What the walk along the path needs of its grid and table, and what it gives. The run's own promise does not cite it.
+-- Assumes nothing.
 use mathlib.Core.Bool.{_&&_}
 use mathlib.Core.List.{List, [], _∷_}
 use mathlib.Core.Path.{_≡_}
@@ -16,10 +17,10 @@ use Rattle.place.specs.Path.{answer, ended, spent}
 use Rattle.place.specs.Problem.{Problem}
 use Rattle.place.specs.Questions.{question6, question7, question8}
 use Rattle.moves.specs.Held.{stateOf}
-use Rattle.moves.specs.Mask.{bit}
-use Rattle.moves.specs.Ready.{IsRound, RoundBelow, Ready}
-use Rattle.moves.specs.Read.{pointsFrom, read, CanCompute}
-use Rattle.moves.specs.Step.{Round, State}
+use Rattle.rules.specs.Mask.{bit}
+use Rattle.rules.specs.Ready.{IsRound, RoundBelow, Ready}
+use Rattle.rules.specs.Read.{pointsFrom, read, CanCompute}
+use Rattle.rules.specs.Step.{Round, State}
 use Rattle.moves.specs.declared.Status.{Status}
 use Rattle.marks.specs.Reading.{problemFrom, tableOf, CanRead, HasMarks, Readable}
 use Rattle.finder.specs.declared.answers.Kind.{Kind}
@@ -74,15 +75,16 @@ abbrev pub firstOf : Kind → ℕ
 firstOf Place = 0
 firstOf Facet = 1
 
--- the state e stands at an end, which is the answer: `places` places, an end of the kind given for the block of h, and as simplex the points of
--- e from number `from` on
+-- the state e stands at an end, which is the answer: `places` places, an end of the kind given for the block of h, and
+-- as simplex the points of e from number `from` on
 pub record Announced (p : Problem) (budget : ℕ) (kind : KindOfEnd) (from : ℕ) (e : State) (h places : ℕ) : Type 0 where
   pub firstLength : length (e .first) ≡ 16
   pub index : h < numIndices (p .grid)
   pub few : length (e .order) ≤ dimension (p .grid)
   pub low : from ≤ length (e .order)
   pub points : CanCompute e (length (e .order))
-  pub is : answer p budget ≡ ended places kind (suc (blockOf (p .grid) h)) (length (pointsFrom p e from)) (pointsFrom p e from)
+  pub is : answer p budget
+      ≡ ended places kind (suc (blockOf (p .grid) h)) (length (pointsFrom p e from)) (pointsFrom p e from)
 
 -- where a walk of at most `budget` places ends, with the first point and the order at the last place in its arrays
 abbrev pub Finished : Problem → ℕ → Round → List ℕ → List ℕ → Finish → Type 0

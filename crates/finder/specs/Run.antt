@@ -20,8 +20,8 @@ abbrev pub kindOf : KindOfEnd → Kind
 kindOf placeEnd = Place
 kindOf facetEnd = Facet
 
--- "The answer has the places, the kind of end, the block, the number of vertices": the enum's case and values for each answer of an accepted table.
--- "A budget is called spent by number 9", which "also returns the places visited"
+-- "The answer has the places, the kind of end, the block, the number of vertices": the enum's case and values for each
+-- answer of an accepted table. "A budget is called spent by number 9", which "also returns the places visited"
 abbrev pub caseOf : PathAnswer → Answer
 caseOf (spent n) = Spent n
 caseOf (ended n kind block vertices simplex) = End n (kindOf kind) block vertices

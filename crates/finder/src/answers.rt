@@ -18,6 +18,7 @@ use grid::Grid;
 use moves::block_sizes;
 use moves::padded;
 use moves::put_points;
+use positions::ENTRIES;
 
 // The kind of end: a complete place, or what remains of a place less one point.
 pub enum Kind {
@@ -62,7 +63,7 @@ fn first_vertex(kind: Kind) -> usize
 // The walk along the path of an accepted table, and its answer.
 fn announced(
     g: Grid,
-    binomials: &[u16; 1255],
+    binomials: &[u16; ENTRIES],
     start: &[u16],
     labels: &[u8],
     answer: &mut [u16],
@@ -132,7 +133,8 @@ fn first_no(g: Grid, start: &[u16], labels: &[u8], room: usize) -> u8
     0
 }
 
-// Questions 5 to 9 in document 01's order, on a grid that is made. The printer calls it too: a slip has answered questions 1 to 4.
+// Questions 5 to 9 in document 01's order, on a grid that is made. The printer calls it too: a slip has answered
+// questions 1 to 4.
 pub fn run_on(g: Grid, start: &[u16], labels: &[u8], answer: &mut [u16], budget: u64) -> Answer
     requires { ⌜ IsMade g ⌝ }
     ensures answer { λ r. ⌜ r
@@ -144,13 +146,13 @@ pub fn run_on(g: Grid, start: &[u16], labels: &[u8], answer: &mut [u16], budget:
     if number != 0 {
         return Answer::Refused(number);
     }
-    let mut binomials = [0u16; 1255];
+    let mut binomials = [0u16; ENTRIES];
     positions::binomials(g, &mut binomials);
     announced(g, &binomials, start, labels, answer, budget)
 }
 
-// Questions 1 to 9 in document 01's order, on every input. Refusals write nothing. What is written stands at the front of the answer buffer: as many
-// vertices as the answer says, m numbers each.
+// Questions 1 to 9 in document 01's order, on every input. Refusals write nothing. What is written stands at the front
+// of the answer buffer: as many vertices as the answer says, m numbers each.
 pub fn run(
     sizes: &[u8],
     divisions: &[u16],

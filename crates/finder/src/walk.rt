@@ -3,9 +3,9 @@ ghost use mathlib.Core.Path.{_≡_};
 ghost use Prim.Native.Nat.{_≤_};
 ghost use Rattle.marks.specs.Reading.{Readable, tableOf};
 ghost use Rattle.moves.specs.Held.{GivesAll, held, round};
-ghost use Rattle.moves.specs.Read.{read};
-ghost use Rattle.moves.specs.Ready.{SixteenEach};
-ghost use Rattle.moves.specs.Step.{Round, State, step as stepOf};
+ghost use Rattle.rules.specs.Read.{read};
+ghost use Rattle.rules.specs.Ready.{SixteenEach};
+ghost use Rattle.rules.specs.Step.{Round, State, step as stepOf};
 ghost use Rattle.finder.specs.Finish.{CanVisit, CanWalk, Finished, IsBegun, problemIn};
 use crate::answers::Kind;
 use grid::Grid;
@@ -14,9 +14,10 @@ use moves::Outcome;
 use moves::Status;
 use moves::step;
 use moves::zeros;
+use positions::ENTRIES;
 
-// How a walk ended: at the path's end, after so many places, with an index of the block for which the simplex is complete and the status at the
-// last place; or with the budget spent.
+// How a walk ended: at the path's end, after so many places, with an index of the block for which the simplex is
+// complete and the status at the last place; or with the budget spent.
 pub enum Finish {
     Ended {
         kind: Kind,
@@ -30,7 +31,7 @@ pub enum Finish {
 // One place: the mark of the point that has just come in is read, and the move is made.
 fn visit(
     g: Grid,
-    binomials: &[u16; 1255],
+    binomials: &[u16; ENTRIES],
     tails: &[u32; 16],
     table: &[u8],
     previous: &[u8; 16],
@@ -46,25 +47,25 @@ fn visit(
     requires { λ a. ⌜ held (round previous next sizes) first coefficients order marks s ≡ a ⌝ }
     requires { λ _. ⌜ Readable g (now binomials) (now table) × SixteenEach (now order) (now marks) ⌝ }
     requires { λ a. ⌜ CanVisit g (now tails) (now table) a ⌝ }
-    ensures { λ a r. ⌜ GivesAll a first coefficients order marks s r (stepOf (read (tableOf g (now (table .entry))) a)) ⌝ }
+    ensures { λ a r. ⌜ GivesAll a first coefficients order marks s r
+        (stepOf (read (tableOf g (now (table .entry))) a)) ⌝ }
 {
-    if 6 <= s.rule {
-        return step(previous, next, sizes, first, coefficients, order, marks, s);
+    if s.rule < 6 {
+        let i = s.active;
+        marks[i] = mark_in(
+            g,
+            binomials,
+            tails,
+            table,
+            previous,
+            sizes,
+            first,
+            coefficients,
+            order,
+            marks,
+            s,
+        );
     }
-    let i = s.active;
-    marks[i] = mark_in(
-        g,
-        binomials,
-        tails,
-        table,
-        previous,
-        sizes,
-        first,
-        coefficients,
-        order,
-        marks,
-        s,
-    );
     step(previous, next, sizes, first, coefficients, order, marks, s)
 }
 
@@ -86,7 +87,7 @@ fn begin(first: &[u16; 16], m: usize) -> Status
 // From {v} to the path's end, or until the budget is spent: the number of places left counts down.
 pub fn walk(
     g: Grid,
-    binomials: &[u16; 1255],
+    binomials: &[u16; ENTRIES],
     table: &[u8],
     previous: &[u8; 16],
     next: &[u8; 16],
@@ -122,26 +123,24 @@ pub fn walk(
             s,
         );
         left -= 1;
-        match outcome {
-            Outcome::Moved(status) => {
-                s = status;
-            }
-            Outcome::PlaceEnd(index) => {
-                return Finish::Ended {
-                    kind: Kind::Place,
-                    places: budget - left,
-                    index,
-                    status: s,
-                };
-            }
-            Outcome::FacetEnd(index) => {
-                return Finish::Ended {
-                    kind: Kind::Facet,
-                    places: budget - left,
-                    index,
-                    status: s,
-                };
-            }
+        if let Outcome::PlaceEnd(index) = outcome {
+            return Finish::Ended {
+                kind: Kind::Place,
+                places: budget - left,
+                index,
+                status: s,
+            };
+        }
+        if let Outcome::FacetEnd(index) = outcome {
+            return Finish::Ended {
+                kind: Kind::Facet,
+                places: budget - left,
+                index,
+                status: s,
+            };
+        }
+        if let Outcome::Moved(status) = outcome {
+            s = status;
         }
     }
     Finish::Spent

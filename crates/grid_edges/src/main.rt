@@ -35,7 +35,7 @@ fn show_position(sizes: &[u8], divisions: &[u16], y: [u16; 16]) {
         write(b"refused ", 5);
         return;
     }
-    let mut t = [0u16; 1255];
+    let mut t = [0u16; positions::ENTRIES];
     positions::binomials(grid, &mut t);
     let none = [16u16; 16];
     write(

@@ -16,8 +16,8 @@ use Rattle.positions.specs.Falls.{Falls, tailFrom}
 use Rattle.grid.specs.Grid.{Grid, position}
 use Rattle.grid.specs.Made.{IsMade, shape}
 use Rattle.grid.specs.declared.Grid.{Grid as GridStruct}
-use Rattle.moves.specs.Read.{Falling, FallsBeside, pointOn, positionAt, sourceAt, stepAt}
-use Rattle.moves.specs.Step.{State}
+use Rattle.rules.specs.Read.{Falling, FallsBeside, pointOn, positionAt, sourceAt, stepAt}
+use Rattle.rules.specs.Step.{State}
 use Rattle.marks.specs.Reading.{CanWeigh, FallsBy, fallsFrom, fallsTo, oneStep, tailBy}
 use Rattle.marks.specs.declared.one_step.Found.the-variants.{At, Nothing}
 

@@ -21,10 +21,10 @@ use Rattle.grid.specs.Grid.{Grid, Point, at, blockOf, isGridPoint, position}
 use Rattle.grid.specs.Made.{IsMade, shape}
 use Rattle.grid.specs.declared.Grid.{Grid as GridStruct}
 use Rattle.place.specs.Problem.{label}
-use Rattle.moves.proofs.PointsAfter.{after-taken, counts-add, counts-ready, few-ready, length-after}
+use Rattle.rules.proofs.PointsAfter.{after-taken, counts-add, counts-ready, few-ready, length-after}
 use Rattle.moves.specs.Held.{stateOf}
-use Rattle.moves.specs.Read.{Exchanged, ReadyPoint, pointAfter, pointOn, positionAt, stepAt}
-use Rattle.moves.specs.Step.{State, Round, source, sourceIn}
+use Rattle.rules.specs.Read.{Exchanged, ReadyPoint, pointAfter, pointOn, positionAt, stepAt}
+use Rattle.rules.specs.Step.{State, Round, source, sourceIn}
 use Rattle.moves.specs.declared.Status.{Status}
 use Rattle.marks.specs.Reading.{Readable, CanRead, addUp, isBetween, tableOf}
 

@@ -11,9 +11,9 @@ use Rattle.grid.specs.Grid.{Grid, Point, at, blockOf, division, isGridPoint, nu
 use Rattle.grid.specs.Made.{IsMade, shape}
 use Rattle.grid.specs.declared.Grid.{Grid as GridStruct}
 use Rattle.place.specs.Problem.{Problem}
-use Rattle.moves.specs.Ready.{IndicesBelow}
-use Rattle.moves.specs.Read.{pointOn, stepAt, sourceAt, Exchanged, FallsBeside, CanCompute}
-use Rattle.moves.specs.Step.{State}
+use Rattle.rules.specs.Ready.{IndicesBelow}
+use Rattle.rules.specs.Read.{pointOn, stepAt, sourceAt, Exchanged, FallsBeside, CanCompute}
+use Rattle.rules.specs.Step.{State}
 use Rattle.moves.specs.declared.Status.{Status}
 use Rattle.marks.specs.declared.one_step.Found.{Found}
 use Rattle.marks.specs.declared.one_step.Found.the-variants.{At, Nothing}
@@ -44,8 +44,8 @@ pub record CanRead (g : GridStruct) (a : State) : Type 0 where
   pub point : CanCompute a (a .active)
   pub onGrid : isGridPoint (shape g) (pointOn (shape g) a (a .active)) ≡ true
 
--- where it has come in between two steps that changed places, the marks of their square stand; and in a grid of one block, the steps to and
--- from it, and the marks beside it, are known
+-- where it has come in between two steps that changed places, the marks of their square stand; and in a grid of one
+-- block, the steps to and from it, and the marks beside it, are known
 pub record HasMarks (g : GridStruct) (tails : List ℕ) (a : State) : Type 0 where
   pub square : a .rule ≡ 1 → 0 < a .active → a .active < length (a .order) → Exchanged (shape g) a
   pub beside : g .blocks ≡ 1 → FallsBeside (shape g) tails a
@@ -54,10 +54,12 @@ pub record HasMarks (g : GridStruct) (tails : List ℕ) (a : State) : Type 0 whe
 abbrev pub isBetween : Status → Bool
 isBetween s = eqb (s .rule) 1 && (ltb 0 (s .active) && ltb (s .active) (s .count))
 
--- two steps, to h and to k, where a step at an index takes from the one that `from` gives, are in two blocks; or each takes from an index
--- before its own, and one ends no later than the other begins
+-- two steps, to h and to k, where a step at an index takes from the one that `from` gives, are in two blocks; or each
+-- takes from an index before its own, and one ends no later than the other begins
 abbrev pub addUp : Grid → (ℕ → ℕ) → ℕ → ℕ → Bool
-addUp g from h k = not (eqb (blockOf g h) (blockOf g k)) || ltb (from h) h && (ltb (from k) k && (leb h (from k) || leb k (from h)))
+addUp g from h k =
+    not (eqb (blockOf g h) (blockOf g k))
+    || ltb (from h) h && (ltb (from k) k && (leb h (from k) || leb k (from h)))
 
 -- the step to the point that has come in, or the step from it, takes from an index before its own
 abbrev pub fallsTo : State → Bool
@@ -70,7 +72,8 @@ fallsFrom a = ltb (a .active) (length (a .order)) && ltb (sourceAt a (a .active)
 unfoldable pub oneStep : Grid → State → Found
 oneStep g a = cond (fallsTo a || fallsFrom a) (At (position g (pointOn g a (a .active)))) Nothing
 
--- the arrays hold the state but for its first point, which may be any for which the steps beside the point that has come in are known
+-- the arrays hold the state but for its first point, which may be any for which the steps beside the point that has
+-- come in are known
 abbrev pub CanFall : GridStruct → List ℕ → (List ℕ → State) → Type 0
 CanFall g tails a = (first : List ℕ) × FallsBeside (shape g) tails (a first)
 
@@ -101,4 +104,5 @@ pub record CanWeigh (g : GridStruct) (tails coefficients : List ℕ) (h b lag : 
 -- it lowers the position by f
 abbrev pub FallsBy : GridStruct → List ℕ → List ℕ → ℕ → ℕ → ℕ → ℕ → Type 0
 FallsBy g tails coefficients h b lag f =
-    (y z : Point) → Falls (shape g) y z h b (tailBy tails coefficients h lag) → position (shape g) y ≡ position (shape g) z + f
+    (y z : Point) → Falls (shape g) y z h b (tailBy tails coefficients h lag)
+    → position (shape g) y ≡ position (shape g) z + f

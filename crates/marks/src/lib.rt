@@ -1,5 +1,5 @@
-// The mark of the point that has just come in: its position, by the marks around it or by its steps, and its label in the table. What is public
-// here is for the finder's walk, which shows what it asks.
+// The mark of the point that has just come in: its position, by the marks around it or by its steps, and its label in
+// the table. What is public here is for the finder's walk, which shows what it asks.
 ghost use mathlib.Core.List.{[]};
 ghost use mathlib.Core.Path.{_≡_};
 ghost use Prim.Native.Nat.{_≤_, _<_};
@@ -7,18 +7,19 @@ ghost use lib.ListN.{length};
 ghost use Rattle.grid.specs.Grid.{position};
 ghost use Rattle.grid.specs.Made.{shape, IsMade};
 ghost use Rattle.moves.specs.Held.{stateOf, held, roundBack};
-ghost use Rattle.moves.specs.Read.{markOf, pointOn};
-ghost use Rattle.moves.specs.Ready.{IndicesBelow};
-ghost use Rattle.moves.specs.Step.{State, firstOutside};
+ghost use Rattle.rules.specs.Read.{markOf, pointOn};
+ghost use Rattle.rules.specs.Ready.{IndicesBelow};
+ghost use Rattle.rules.specs.Step.{State, firstOutside};
 ghost use Rattle.marks.specs.Reading.{tableOf, isBetween, addUp, Readable, Measured, CanRead, HasMarks};
 use grid::Grid;
 use moves::Status;
 use moves::advance;
-use moves::first_outside;
 use moves::index_at;
 use moves::position_at;
+use moves::source;
 use one_step::Found;
 use one_step::position_by_one_step;
+use positions::ENTRIES;
 
 mod one_step;
 
@@ -31,11 +32,11 @@ fn add_up(g: Grid, previous: &[u8; 16], sizes: &[u8; 16], u: u16, h: usize, k: u
     if g.block_of(h) != g.block_of(k) {
         return true;
     }
-    let b = first_outside(previous, sizes, u, h);
+    let b = source(previous, sizes, u, h);
     if h <= b {
         return false;
     }
-    let e = first_outside(previous, sizes, u, k);
+    let e = source(previous, sizes, u, k);
     if k <= e {
         return false;
     }
@@ -58,11 +59,11 @@ fn is_between(s: Status) -> bool
     s.active < s.count
 }
 
-// The position of the point that has just come in, by its steps. They are counted in an array of their own, from 16 on so that no count falls
-// below 0: a copy of the first point would wait for the numbers that were just stored there.
+// The position of the point that has just come in, by its steps. They are counted in an array of their own, from 16 on
+// so that no count falls below 0: a copy of the first point would wait for the numbers that were just stored there.
 fn position_by_steps(
     g: Grid,
-    binomials: &[u16; 1255],
+    binomials: &[u16; ENTRIES],
     previous: &[u8; 16],
     sizes: &[u8; 16],
     first: &[u16; 16],
@@ -79,11 +80,12 @@ fn position_by_steps(
     positions::position(g, binomials, first, &steps)
 }
 
-// The position of the point that has just come in: where it has come in between two steps that changed places, by the marks of the other corners
-// of their square if these add up, the point that left having still its mark there; in a grid of one block by one step; else by all its steps.
+// The position of the point that has just come in: where it has come in between two steps that changed places, by the
+// marks of the other corners of their square if these add up, the point that left having still its mark there; in a
+// grid of one block by one step; else by all its steps.
 fn position_in(
     g: Grid,
-    binomials: &[u16; 1255],
+    binomials: &[u16; ENTRIES],
     tails: &[u32; 16],
     previous: &[u8; 16],
     sizes: &[u8; 16],
@@ -137,7 +139,7 @@ fn byte(x: u8) -> u32
 // The mark of the point that has just come in.
 pub fn mark_in(
     g: Grid,
-    binomials: &[u16; 1255],
+    binomials: &[u16; ENTRIES],
     tails: &[u32; 16],
     table: &[u8],
     previous: &[u8; 16],

@@ -6,15 +6,16 @@ ghost use Prim.Native.Nat.{ℕ, _+_, _≤_, _<_};
 ghost use lib.Dec.{ltb};
 ghost use lib.ListN.{take};
 ghost use Rattle.grid.specs.Made.{shape};
-ghost use Rattle.moves.specs.Held.{stateOf, roundBack};
-ghost use Rattle.moves.specs.Step.{State};
+ghost use Rattle.moves.specs.Held.{heldButFirst, roundBack};
+ghost use Rattle.rules.specs.Step.{State};
 ghost use Rattle.marks.specs.Reading.{Measured, HasOrder, CanFall, IsFound, CanWeigh, FallsBy};
 use grid::Grid;
 use grid::wide16;
 use moves::Status;
-use moves::first_outside;
 use moves::index_at;
 use moves::position_at;
+use moves::source;
+use positions::ENTRIES;
 
 // A position, or that one step does not lead to it.
 pub enum Found {
@@ -22,8 +23,8 @@ pub enum Found {
     Nothing,
 }
 
-// How many steps before a point of the place have gone round the block, in a grid of one block: none before the first point, and else 1 where the
-// position is above the first's, since such a step raises it and every other lowers it.
+// How many steps before a point of the place have gone round the block, in a grid of one block: none before the first
+// point, and else 1 where the position is above the first's, since such a step raises it and every other lowers it.
 fn gone_round(i: usize, position: usize, first: usize) -> usize
     ensures { λ r. ⌜ (r ≡ cond (ltb 0 i) (cond (ltb first position) 1 0) 0) × (r ≤ 1) ⌝ }
 {
@@ -40,11 +41,11 @@ fn sum(tail: u32, coefficient: u16) -> usize
     tail as usize + coefficient as usize
 }
 
-// By how much a step in a grid of one block lowers the position. It takes from b, an index before its own, h; lag is how many steps before it have
-// gone round the block.
+// By how much a step in a grid of one block lowers the position. It takes from b, an index before its own, h; lag is
+// how many steps before it have gone round the block.
 fn fall_at(
     g: Grid,
-    binomials: &[u16; 1255],
+    binomials: &[u16; ENTRIES],
     tails: &[u32; 16],
     coefficients: &[u16; 16],
     h: usize,
@@ -58,11 +59,11 @@ fn fall_at(
     positions::fall(g, binomials, h, b, most - (wide16(coefficients[0]) + lag))
 }
 
-// In a grid of one block, the position of the point that has just come in by the mark of the point before it or behind it, where the step between
-// them takes from an index before its own.
+// In a grid of one block, the position of the point that has just come in by the mark of the point before it or behind
+// it, where the step between them takes from an index before its own.
 pub fn position_by_one_step(
     g: Grid,
-    binomials: &[u16; 1255],
+    binomials: &[u16; ENTRIES],
     tails: &[u32; 16],
     previous: &[u8; 16],
     sizes: &[u8; 16],
@@ -72,7 +73,7 @@ pub fn position_by_one_step(
     s: Status,
 ) -> Found
     ghost { List ℕ → State }
-    requires { λ a. ⌜ (λ first. stateOf (roundBack previous sizes) first (now coefficients) (now order) (now marks) s) ≡ a ⌝ }
+    requires { λ a. ⌜ heldButFirst (roundBack previous sizes) coefficients order marks s ≡ a ⌝ }
     requires { λ _. ⌜ Measured g (now binomials) × (g .blocks ≡ 1) ⌝ }
     requires { λ a. ⌜ HasOrder (now previous) (take (s .count) (now order)) s × CanFall g (now tails) a ⌝ }
     ensures { λ a r. ⌜ IsFound g (now (tails .entry)) a r ⌝ }
@@ -81,7 +82,7 @@ pub fn position_by_one_step(
     let n = s.count;
     if 0 < i {
         let h = index_at(order, n, i - 1);
-        let b = first_outside(previous, sizes, s.u, h);
+        let b = source(previous, sizes, s.u, h);
         if b < h {
             let near = position_at(marks, n, i - 1);
             let lag = gone_round(i, near, position_at(marks, n, 0));
@@ -90,7 +91,7 @@ pub fn position_by_one_step(
     }
     if i < n {
         let h = index_at(order, n, i);
-        let b = first_outside(previous, sizes, s.u, h);
+        let b = source(previous, sizes, s.u, h);
         if b < h {
             let far = position_at(marks, n, i + 1);
             let lag = gone_round(i, far, position_at(marks, n, 0));

@@ -13,11 +13,11 @@ use Rattle.combinatorics.proofs.Basics.{true-or-false, false-of, and-left, and-
 use Rattle.combinatorics.specs.Edits.{removeAt, swapAt, rotateLeft, rotateRight, found}
 use Rattle.grid.specs.Grid.{at}
 use Rattle.combinatorics.proofs.EditsOfArrays.{counted}
-use Rattle.moves.proofs.FirstMet.{entry}
-use Rattle.moves.specs.Mask.{bit, withIndex, withoutIndex}
+use Rattle.rules.proofs.FirstMet.{entry}
+use Rattle.rules.specs.Mask.{bit, withIndex, withoutIndex}
 use Rattle.moves.specs.Held.{stateOf, roundOf, answered}
-use Rattle.moves.specs.Ready.{testedBefore, SixteenEach, ReadyFirst, ReadyLast, ReadyLeave, ReadyGrow, labelIn, Ready}
-use Rattle.moves.specs.Step.{State, Round, After, goes, endsAtPlace, endsAtFacet, markLabel, firstOutside, sourceIn, firstOutsideOrZero, isFilled, shifted, changedBefore, shrink, joined, grow, leaveFirst, leaveMiddle, leaveLast, leave, step}
+use Rattle.rules.specs.Ready.{testedBefore, SixteenEach, ReadyFirst, ReadyLast, ReadyLeave, ReadyGrow, labelIn, Ready}
+use Rattle.rules.specs.Step.{State, Round, After, goes, endsAtPlace, endsAtFacet, markLabel, firstOutside, sourceIn, firstOutsideOrZero, isFilled, shifted, changedBefore, shrink, joined, grow, leaveFirst, leaveMiddle, leaveLast, leave, step}
 use Rattle.moves.specs.declared.Outcome.{Outcome}
 use Rattle.moves.specs.declared.Outcome.the-variants.{Moved, PlaceEnd, FacetEnd}
 use Rattle.moves.specs.declared.Status.{Status}

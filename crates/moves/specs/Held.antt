@@ -9,9 +9,10 @@ use denote.Ref.{RefT, now}
 use denote.Triple.Both.{Both}
 use Rattle.combinatorics.specs.Edits.{rotateLeft, rotateRight}
 use Rattle.grid.specs.Grid.{at}
-use Rattle.moves.specs.Read.{CanCompute}
-use Rattle.moves.specs.Ready.{IndicesBelow, RoundBelow, testedBefore, SixteenEach, Ready, ReadyGrow}
-use Rattle.moves.specs.Step.{State, Round, After, goes, endsAtPlace, endsAtFacet, shifted, changedBefore, sourceIn, joined}
+use Rattle.rules.specs.Read.{CanCompute}
+use Rattle.rules.specs.Ready.{IndicesBelow, RoundBelow, testedBefore, SixteenEach, Ready, ReadyGrow}
+use Rattle.rules.specs.Step.{State, Round, After, goes, endsAtPlace, endsAtFacet}
+use Rattle.rules.specs.Step.{shifted, changedBefore, sourceIn, joined}
 use Rattle.moves.specs.declared.Outcome.{Outcome}
 use Rattle.moves.specs.declared.Outcome.the-variants.{Moved, PlaceEnd, FacetEnd}
 use Rattle.moves.specs.declared.Status.{Status}
@@ -58,6 +59,10 @@ noRound = roundOf [] [] []
 abbrev pub held : Round → Lent → Lent → Lent → Lent → Status → State
 held round first coefficients order marks s = stateOf round (now first) (now coefficients) (now order) (now marks) s
 
+-- of a call that is lent all but the first point: whatever that is
+abbrev pub heldButFirst : Round → Lent → Lent → Lent → Status → List ℕ → State
+heldButFirst round coefficients order marks s first = stateOf round first (now coefficients) (now order) (now marks) s
+
 -- of a call that is lent no first point, or not its coefficients
 abbrev pub heldBy : Round → List ℕ → List ℕ → Lent → Lent → Status → State
 heldBy round first coefficients order marks s = stateOf round first coefficients (now order) (now marks) s
@@ -65,20 +70,26 @@ heldBy round first coefficients order marks s = stateOf round first coefficients
 -- what an answer stands for; at an end the status is that of before
 abbrev pub answered : Round → List ℕ → List ℕ → List ℕ → List ℕ → Status → Outcome → After
 answered round first coefficients order marks s (Moved r) = goes (stateOf round first coefficients order marks r)
-answered round first coefficients order marks s (PlaceEnd h) = endsAtPlace (stateOf round first coefficients order marks s) h
-answered round first coefficients order marks s (FacetEnd h) = endsAtFacet (stateOf round first coefficients order marks s) h
+answered round first coefficients order marks s (PlaceEnd h) =
+    endsAtPlace (stateOf round first coefficients order marks s) h
+answered round first coefficients order marks s (FacetEnd h) =
+    endsAtFacet (stateOf round first coefficients order marks s) h
 
--- What a call leaves in the arrays, with its answer r to the state a. The records are over lists: a call lends an array anew, under another name.
-pub record Holds (round : Round) (first coefficients order marks : List ℕ) (s : Status) (r : Outcome) (want : After) : Type 0 where
+-- What a call leaves in the arrays, with its answer r to the state a. The records are over lists: a call lends an array
+-- anew, under another name.
+pub record Holds (round : Round) (first coefficients order marks : List ℕ) (s : Status) (r : Outcome) (want : After)
+    : Type 0 where
   pub after : answered round first coefficients order marks s r ≡ want
   pub each : SixteenEach order marks
 
 abbrev pub Gives : State → List ℕ → List ℕ → LentBoth → LentBoth → Status → Outcome → After → Type 0
-Gives a first coefficients order marks s r want = Holds (a .round) first coefficients (now (order .exit)) (now (marks .exit)) s r want
+Gives a first coefficients order marks s r want =
+    Holds (a .round) first coefficients (now (order .exit)) (now (marks .exit)) s r want
 
 -- the same where the first point is lent too
 abbrev pub GivesAll : State → LentBoth → LentBoth → LentBoth → LentBoth → Status → Outcome → After → Type 0
-GivesAll a first coefficients order marks s r want = Gives a (now (first .exit)) (now (coefficients .exit)) order marks s r want
+GivesAll a first coefficients order marks s r want =
+    Gives a (now (first .exit)) (now (coefficients .exit)) order marks s r want
 
 -- what every function asks that makes a point leave
 pub record SoundIn (order marks : List ℕ) (s : Status) : Type 0 where
@@ -109,7 +120,8 @@ pub record CanJoin (order marks : Lent) (s : Status) (i h : ℕ) : Type 0 where
 
 -- it has, whatever the ways round the blocks and the first point are
 pub record Joins (order marks : LentBoth) (s : Status) (i h rule : ℕ) (r : Status) : Type 0 where
-  pub state : (round : Round) (first coefficients : List ℕ) → stateOf round first coefficients (now (order .exit)) (now (marks .exit)) r
+  pub state : (round : Round) (first coefficients : List ℕ)
+      → stateOf round first coefficients (now (order .exit)) (now (marks .exit)) r
       ≡ joined (stateOf round first coefficients (now (order .entry)) (now (marks .entry)) s) i h rule
   pub each : SixteenEach (now (order .exit)) (now (marks .exit))
 

@@ -1,5 +1,1 @@
-pub mod Mask
-pub mod Step
-pub mod Ready
-pub mod Read
 pub mod Held

@@ -2,7 +2,7 @@
 ghost use mathlib.Core.List.{[]};
 ghost use mathlib.Core.Path.{_≡_};
 ghost use Rattle.moves.specs.Held.{roundOn, heldBy, Gives, CanJoin, Joins, CanGrow};
-ghost use Rattle.moves.specs.Step.{State, grow as grown};
+ghost use Rattle.rules.specs.Step.{State, grow as grown};
 use crate::Outcome;
 use crate::Status;
 use crate::lists::find;

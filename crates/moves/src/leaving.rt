@@ -1,7 +1,7 @@
-// A point leaves the place, and the place on the other side of the facet opposite to it comes, by rules 1, 2, 3, 6 and 7. The place is lent:
-// first is its first point, coefficients that point's coefficient list, order the indices of T in the order in which each point goes to the
-// next, marks a mark for each point. So are the ways round the blocks: previous and next have the index before and after each, sizes the size
-// of its block.
+// A point leaves the place, and the place on the other side of the facet opposite to it comes, by rules 1, 2, 3, 6 and
+// 7. The place is lent: first is its first point, coefficients that point's coefficient list, order the indices of T in
+// the order in which each point goes to the next, marks a mark for each point. So are the ways round the blocks:
+// previous and next have the index before and after each, sizes the size of its block.
 ghost use mathlib.Core.Bool.{not, _&&_};
 ghost use mathlib.Core.List.{[]};
 ghost use mathlib.Core.Path.{_≡_};
@@ -10,10 +10,11 @@ ghost use lib.Dec.{eqb};
 ghost use lib.ListN.{length};
 ghost use Rattle.grid.specs.Grid.{at};
 ghost use Rattle.moves.specs.Held.{round, roundBack, noRound, held, heldBy, Gives, GivesAll, Sound, CanShrink};
-ghost use Rattle.moves.specs.Held.{CanGo, CanGoForward, GoesForward, CanGoBack, GoesBack, IsFirstStep, IsLastStep, IsMiddle};
-ghost use Rattle.moves.specs.Mask.{bit};
-ghost use Rattle.moves.specs.Ready.{IndicesBelow, RoundBelow, ReadyFirst, ReadyLast, ReadyLeave};
-ghost use Rattle.moves.specs.Step.{State, goes, leaveFirst, leaveMiddle, leaveLast, shrink as shrunk, leave as left};
+ghost use Rattle.moves.specs.Held.{CanGo, CanGoForward, GoesForward, CanGoBack, GoesBack};
+ghost use Rattle.moves.specs.Held.{IsFirstStep, IsLastStep, IsMiddle};
+ghost use Rattle.rules.specs.Mask.{bit};
+ghost use Rattle.rules.specs.Ready.{IndicesBelow, RoundBelow, ReadyFirst, ReadyLast, ReadyLeave};
+ghost use Rattle.rules.specs.Step.{State, goes, leaveFirst, leaveMiddle, leaveLast, shrink as shrunk, leave as left};
 use crate::Outcome;
 use crate::Status;
 use crate::lists::exchange;
@@ -28,11 +29,12 @@ use crate::mask::without;
 use crate::shifts::lower;
 use crate::shifts::raise;
 use crate::shifts::shift;
-use crate::walk::first_outside;
 use crate::walk::first_outside_or_zero;
 use crate::walk::is_filled;
+use crate::walk::source;
 
-// Point i and entry e of the order go. The index of that entry leaves T, and joins U where `joins`; the point labelled by it leaves next.
+// Point i and entry e of the order go. The index of that entry leaves T, and joins U where `joins`; the point labelled
+// by it leaves next.
 fn shrink(
     order: &mut [u32; 16],
     marks: &mut [u32; 16],
@@ -92,7 +94,8 @@ fn go_forward(
     rotate_left(marks, n + 1);
 }
 
-// A new first point comes in before the first, h being the index of the step from it and b the index that this step takes from.
+// A new first point comes in before the first, h being the index of the step from it and b the index that this step
+// takes from.
 fn go_back(
     previous: &[u8; 16],
     first: &mut [u16; 16],
@@ -186,7 +189,7 @@ fn leave_first(
     ensures { λ a r. ⌜ GivesAll a first coefficients order marks s r (leaveFirst a) ⌝ }
 {
     let h = index_at(order, s.count, 0);
-    let b = first_outside(previous, sizes, s.u, h);
+    let b = source(previous, sizes, s.u, h);
     leave_first_at(
         previous,
         next,
@@ -201,7 +204,8 @@ fn leave_first(
     )
 }
 
-// Point i, neither the first nor the last, leaves: the steps to it and from it change places, or the index of the step to it moves to U.
+// Point i, neither the first nor the last, leaves: the steps to it and from it change places, or the index of the step
+// to it moves to U.
 fn leave_middle(
     previous: &[u8; 16],
     sizes: &[u8; 16],
@@ -219,7 +223,7 @@ fn leave_middle(
 {
     let from = index_at(order, s.count, i);
     let to = index_at(order, s.count, i - 1);
-    let b = first_outside(previous, sizes, s.u, from);
+    let b = source(previous, sizes, s.u, from);
     if to == b {
         if first[b] == 0 {
             return shrink(order, marks, s, i, i - 1, true);

@@ -1,5 +1,5 @@
-// The state of a run, and the move from a place to the next by the seven rules. What is public here is for the reading of marks and the
-// finder, which show what it asks.
+// The state of a run, and the move from a place to the next by the seven rules. What is public here is for the reading
+// of marks and the finder, which show what it asks.
 mod joining;
 mod leaving;
 mod lists;
@@ -18,7 +18,7 @@ pub use points::block_sizes;
 pub use points::padded;
 pub use points::put_points;
 pub use points::zeros;
-pub use walk::first_outside;
+pub use walk::source;
 
 // What the next move looks at, beside the arrays. T and U are masks of 16 indices.
 pub struct Status {
@@ -32,8 +32,8 @@ pub struct Status {
     pub active: usize,
 }
 
-// What a move gives: the status at the next place, or an end, with an index of the block for which the simplex is complete. At an end nothing
-// that was lent has changed.
+// What a move gives: the status at the next place, or an end, with an index of the block for which the simplex is
+// complete. At an end nothing that was lent has changed.
 pub enum Outcome {
     Moved(Status),
     PlaceEnd(usize),

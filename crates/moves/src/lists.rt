@@ -5,8 +5,8 @@ ghost use Prim.Native.Nat.{suc, _+_, _-_, _≤_, _<_};
 ghost use lib.ListN.{length, take};
 ghost use Rattle.combinatorics.specs.Edits.{insertAt, removeAt, swapAt, rotateLeft, rotateRight, found};
 ghost use Rattle.grid.specs.Grid.{at};
-ghost use Rattle.moves.specs.Ready.{HasEntry, IsEntry};
-ghost use Rattle.moves.specs.Step.{markLabel, markPosition};
+ghost use Rattle.rules.specs.Ready.{HasEntry, IsEntry};
+ghost use Rattle.rules.specs.Step.{markLabel, markPosition};
 
 pub fn wide32(x: u32) -> usize
     ensures { λ r. ⌜ r ≡ x ⌝ }
@@ -47,7 +47,8 @@ pub fn position_at(marks: &[u32; 16], n: usize, i: usize) -> usize
 // x put before entry at of the first n.
 pub fn insert(a: &mut [u32; 16], n: usize, at: usize, x: u32)
     requires { ⌜ (at ≤ n) × (n ≤ 15) × (length (now a) ≡ 16) ⌝ }
-    ensures { λ _. ⌜ (take (n + 1) (now (a .exit)) ≡ insertAt at x (take n (now (a .entry)))) × (length (now (a .exit)) ≡ 16) ⌝ }
+    ensures { λ _. ⌜ (take (n + 1) (now (a .exit)) ≡ insertAt at x (take n (now (a .entry))))
+        × (length (now (a .exit)) ≡ 16) ⌝ }
 {
     let mut k = n;
     while at < k {
@@ -60,7 +61,8 @@ pub fn insert(a: &mut [u32; 16], n: usize, at: usize, x: u32)
 // Entry at of the first n taken out.
 pub fn remove(a: &mut [u32; 16], n: usize, at: usize)
     requires { ⌜ (at < n) × (n ≤ 16) × (length (now a) ≡ 16) ⌝ }
-    ensures { λ _. ⌜ (take (n - 1) (now (a .exit)) ≡ removeAt at (take n (now (a .entry)))) × (length (now (a .exit)) ≡ 16) ⌝ }
+    ensures { λ _. ⌜ (take (n - 1) (now (a .exit)) ≡ removeAt at (take n (now (a .entry))))
+        × (length (now (a .exit)) ≡ 16) ⌝ }
 {
     let mut k = at;
     while k + 1 < n {
@@ -82,7 +84,8 @@ pub fn rotate_left(a: &mut [u32; 16], n: usize)
 // The last of the first n goes before the others.
 pub fn rotate_right(a: &mut [u32; 16], n: usize)
     requires { ⌜ (0 < n) × (n ≤ 16) × (length (now a) ≡ 16) ⌝ }
-    ensures { λ _. ⌜ (take n (now (a .exit)) ≡ rotateRight (take n (now (a .entry)))) × (length (now (a .exit)) ≡ 16) ⌝ }
+    ensures { λ _. ⌜ (take n (now (a .exit)) ≡ rotateRight (take n (now (a .entry))))
+        × (length (now (a .exit)) ≡ 16) ⌝ }
 {
     let x = a[n - 1];
     insert(a, n - 1, 0, x);
@@ -98,7 +101,8 @@ pub fn exchange(a: &mut [u32; 16], i: usize)
     a[i + 1] = x;
 }
 
-// The first of the first n marks that has the label x, entry but passed over; n if there is none. The order has its indices as labels.
+// The first of the first n marks that has the label x, entry but passed over; n if there is none. The order has its
+// indices as labels.
 pub fn find(a: &[u32; 16], n: usize, x: u32, but: usize) -> usize
     requires { ⌜ (n ≤ 16) × (length (now a) ≡ 16) ⌝ }
     ensures { λ r. ⌜ r ≡ found x but (map markLabel (take n (now (a .entry)))) ⌝ }

@@ -1,7 +1,7 @@
 // Sets of indices as masks of 16 bits.
 ghost use mathlib.Core.Path.{_≡_};
 ghost use Prim.Native.Nat.{_<_};
-ghost use Rattle.moves.specs.Mask.{bit, withIndex, withoutIndex};
+ghost use Rattle.rules.specs.Mask.{bit, withIndex, withoutIndex};
 
 // Index h belongs to the set.
 pub fn has(mask: u16, h: usize) -> bool

@@ -10,15 +10,15 @@ ghost use Rattle.combinatorics.specs.Front.{front};
 ghost use Rattle.grid.specs.Grid.{at, size, blockOf};
 ghost use Rattle.grid.specs.Made.{IsMade, shape};
 ghost use Rattle.moves.specs.Held.{stateOf, roundBack, CanPut};
-ghost use Rattle.moves.specs.Mask.{bit};
-ghost use Rattle.moves.specs.Read.{pointAfter, numbersFrom, ReadyPoint};
-ghost use Rattle.moves.specs.Ready.{IndicesBelow};
-ghost use Rattle.moves.specs.Step.{State, firstOutside};
+ghost use Rattle.rules.specs.Mask.{bit};
+ghost use Rattle.rules.specs.Read.{pointAfter, numbersFrom, ReadyPoint};
+ghost use Rattle.rules.specs.Ready.{IndicesBelow};
+ghost use Rattle.rules.specs.Step.{State, firstOutside};
 use crate::Status;
 use crate::lists::wide32;
 use crate::mask::add;
 use crate::shifts::shift;
-use crate::walk::first_outside;
+use crate::walk::source;
 use grid::Grid;
 use grid::wide;
 
@@ -81,13 +81,13 @@ pub fn advance(
 )
     requires { ⌜ IndicesBelow (now previous) ⌝ }
     requires { ⌜ ReadyPoint (firstOutside (now previous) (now sizes) u) (take i (now order)) (now y) i ⌝ }
-    ensures { λ _. ⌜ now (y .exit)
-        ≡ pointAfter (firstOutside (now (previous .entry)) (now (sizes .entry)) u) (take i (now (order .entry))) (now (y .entry)) i ⌝ }
+    ensures { λ _. ⌜ now (y .exit) ≡ pointAfter (firstOutside (now (previous .entry)) (now (sizes .entry)) u)
+        (take i (now (order .entry))) (now (y .entry)) i ⌝ }
 {
     let mut k: usize = 0;
     while k < i {
         let h = wide32(order[k]);
-        let b = first_outside(previous, sizes, u, h);
+        let b = source(previous, sizes, u, h);
         shift(y, h, b);
         k += 1;
     }
@@ -106,7 +106,8 @@ fn put_row(buf: &mut [u16], position: usize, y: &[u16; 16], m: usize)
     }
 }
 
-// The points of the place from number from on, m numbers each, at the front of the buffer. The result is how many points these are.
+// The points of the place from number from on, m numbers each, at the front of the buffer. The result is how many
+// points these are.
 pub fn put_points(
     buf: &mut [u16],
     previous: &[u8; 16],

@@ -4,8 +4,8 @@ ghost use mathlib.Core.Path.{_≡_};
 ghost use Prim.Native.Nat.{suc, pred, _≤_, _<_};
 ghost use lib.Dec.{ltb};
 ghost use Rattle.grid.specs.Grid.{at};
-ghost use Rattle.moves.specs.Ready.{IndicesBelow, testedBefore};
-ghost use Rattle.moves.specs.Step.{shifted, changedBefore};
+ghost use Rattle.rules.specs.Ready.{IndicesBelow, testedBefore};
+ghost use Rattle.rules.specs.Step.{shifted, changedBefore};
 use grid::wide;
 
 // 1 more at h, 1 less at b.
@@ -19,7 +19,8 @@ pub fn shift(y: &mut [u16; 16], h: usize, b: usize)
 
 // The coefficients of h and of the indices going back from it before b, each raised by 1.
 pub fn raise(c: &mut [u16; 16], previous: &[u8; 16], h: usize, b: usize)
-    requires { ⌜ (h < 16) × IndicesBelow (now previous) × (testedBefore (λ x. ltb x 65535) suc (now previous) b 16 h (now c) ≡ true) ⌝ }
+    requires { ⌜ (h < 16) × IndicesBelow (now previous) ⌝ }
+    requires { ⌜ testedBefore (λ x. ltb x 65535) suc (now previous) b 16 h (now c) ≡ true ⌝ }
     ensures { λ _. ⌜ now (c .exit) ≡ changedBefore suc (now (previous .entry)) b 16 h (now (c .entry)) ⌝ }
 {
     let mut at = h;
@@ -36,7 +37,8 @@ pub fn raise(c: &mut [u16; 16], previous: &[u8; 16], h: usize, b: usize)
 
 // The same, each lowered by 1.
 pub fn lower(c: &mut [u16; 16], previous: &[u8; 16], h: usize, b: usize)
-    requires { ⌜ (h < 16) × IndicesBelow (now previous) × (testedBefore (λ x. ltb 0 x) pred (now previous) b 16 h (now c) ≡ true) ⌝ }
+    requires { ⌜ (h < 16) × IndicesBelow (now previous) ⌝ }
+    requires { ⌜ testedBefore (λ x. ltb 0 x) pred (now previous) b 16 h (now c) ≡ true ⌝ }
     ensures { λ _. ⌜ now (c .exit) ≡ changedBefore pred (now (previous .entry)) b 16 h (now (c .entry)) ⌝ }
 {
     let mut at = h;

@@ -4,13 +4,13 @@ ghost use mathlib.Core.List.{[]};
 ghost use mathlib.Core.Path.{_≡_};
 ghost use Prim.Native.Nat.{_<_};
 ghost use Rattle.moves.specs.Held.{roundOf};
-ghost use Rattle.moves.specs.Mask.{bit};
-ghost use Rattle.moves.specs.Ready.{IndicesBelow};
-ghost use Rattle.moves.specs.Step.{firstOutside, firstOutsideOrZero, firstFree, isFilled};
+ghost use Rattle.rules.specs.Mask.{bit};
+ghost use Rattle.rules.specs.Ready.{IndicesBelow};
+ghost use Rattle.rules.specs.Step.{firstOutside, firstOutsideOrZero, firstFree, isFilled};
 use crate::mask::has;
 use grid::wide;
 
-// The first index met going from h that is not in the set: where the way goes back and the set is U, document 01's b.
+// The first index met going from h that is not in the set, by a loop round the block.
 pub fn first_outside(way: &[u8; 16], sizes: &[u8; 16], mask: u16, h: usize) -> usize
     requires { ⌜ (h < 16) × IndicesBelow (now way) ⌝ }
     ensures { λ r. ⌜ (r ≡ firstOutside (now (way .entry)) (now (sizes .entry)) mask h) × (r < 16) ⌝ }
@@ -30,6 +30,19 @@ pub fn first_outside(way: &[u8; 16], sizes: &[u8; 16], mask: u16, h: usize) -> u
     b
 }
 
+// Document 01's b: the first index met going back from h that is not in U. It is mostly the first of all, so that the
+// loop is seldom entered.
+pub fn source(previous: &[u8; 16], sizes: &[u8; 16], u: u16, h: usize) -> usize
+    requires { ⌜ (h < 16) × IndicesBelow (now previous) ⌝ }
+    ensures { λ r. ⌜ (r ≡ firstOutside (now (previous .entry)) (now (sizes .entry)) u h) × (r < 16) ⌝ }
+{
+    let at = wide(previous[h]);
+    if has(u, at) {
+        return first_outside(previous, sizes, u, h);
+    }
+    at
+}
+
 // The first index met going back from h that is not in U or has coefficient 0.
 pub fn first_outside_or_zero(
     previous: &[u8; 16],
@@ -39,7 +52,8 @@ pub fn first_outside_or_zero(
     h: usize,
 ) -> usize
     requires { ⌜ (h < 16) × IndicesBelow (now previous) ⌝ }
-    ensures { λ r. ⌜ (r ≡ firstOutsideOrZero (roundOf (now (previous .entry)) [] (now (sizes .entry))) u (now (c .entry)) h) × (r < 16) ⌝ }
+    ensures { λ r. ⌜ (r ≡ firstOutsideOrZero (roundOf (now (previous .entry)) [] (now (sizes .entry))) u
+        (now (c .entry)) h) × (r < 16) ⌝ }
 {
     let mut at = wide(previous[h]);
     let mut left = wide(sizes[h]);

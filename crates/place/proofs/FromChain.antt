@@ -93,7 +93,7 @@ module _ {p : Problem} (ok : Settled p) where
     coord-beyond : (j : ℕ) → j ≤ t → (k : ℕ) → numIndices p.grid ≤ k → coord (blocksOf p) (listAt x j) k ≡ 1
     coord-beyond j l k m = rw (← coefficient-at j (omega (arith, S .size))) (coord-out p (coefficients-at j l) k m)
 
-    in-U : (k : ℕ) → inU p (pointsOf p x) k ≡ U k
+    pub in-U : (k : ℕ) → inU p (pointsOf p x) k ≡ U k
     in-U k = both _ _
         (λ u. let w = U-means p.grid (pointsOf p x) k .0 u in
         ⊎-elim (λ e. e)

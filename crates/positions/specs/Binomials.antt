@@ -6,7 +6,8 @@ use lib.ListN.{getD}
 use Rattle.combinatorics.specs.Counting.{choose}
 use Rattle.grid.specs.Grid.{Grid, numBlocks, size, division}
 
--- the table has rows 15 to 3, each for r up to 69, and then row 2 for r up to 344: no block that needs a row has a greater division
+-- the table has rows 15 to 3, each for r up to 69, and then row 2 for r up to 344: no block that needs a row has a
+-- greater division
 abbrev pub InTable : ℕ → ℕ → Type 0
 InTable k r = (2 ≤ k) × (k ≤ 15) × (r ≤ 344) × (3 ≤ k → r ≤ 69)
 

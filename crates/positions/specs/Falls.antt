@@ -10,7 +10,8 @@ use Rattle.grid.specs.Grid.{Grid, Point, numBlocks, numIndices, at, isGridPoint
 abbrev pub tailFrom : Grid → List ℕ → ℕ → ℕ
 tailFrom g y h = sum (map (at y) (upFrom h (numIndices g - h)))
 
--- In a grid of one block, z is y with 1 more at h and 1 less at an index b before it; y is 0 between them, and its coordinates from h on add up to r.
+-- In a grid of one block, z is y with 1 more at h and 1 less at an index b before it; y is 0 between them, and its
+-- coordinates from h on add up to r.
 pub record Falls (g : Grid) (y z : Point) (h b r : ℕ) : Type 0 where
   pub one : numBlocks g ≡ 1
   pub here : isGridPoint g y ≡ true

@@ -4,7 +4,8 @@ use Prim.Native.Nat.{ℕ, _+_, _-_, _≤_, _<_}
 use Rattle.combinatorics.specs.Lists.{upFrom}
 use Rattle.grid.specs.Grid.{at}
 
--- the 16 coordinates of y after its steps: each count begins at 16, so that it does not fall below 0 where steps take from the coordinate
+-- the 16 coordinates of y after its steps: each count begins at 16, so that it does not fall below 0 where steps take
+-- from the coordinate
 unfoldable pub afterSteps : List ℕ → List ℕ → List ℕ
 afterSteps y steps = map (λ k. at y k + at steps k - 16) (upFrom 0 16)
 

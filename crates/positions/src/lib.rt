@@ -1,5 +1,5 @@
-// The position of a grid point in the list of all points, by a table of binomials. A grid here is one that `Grid::new` made, and a
-// caller of ours shows that.
+// The position of a grid point in the list of all points, by a table of binomials. A grid here is one that `Grid::new`
+// made, and a caller of ours shows that.
 ghost use mathlib.Core.Bool.{true};
 ghost use mathlib.Core.Path.{_≡_};
 ghost use lib.ListN.{length, take};
@@ -18,8 +18,13 @@ mod tables;
 pub use falls::fall;
 pub use falls::tails;
 
+// How many numbers the table of binomials has, and how far apart its rows stand.
+pub const ENTRIES: usize = 1255;
+
+const ROW: usize = 70;
+
 // The binomials that positions on this grid need, in a table lent by the caller.
-pub fn binomials(g: Grid, t: &mut [u16; 1255])
+pub fn binomials(g: Grid, t: &mut [u16; ENTRIES])
     requires { ⌜ IsMade g × (length (now t) ≡ 1255) ⌝ }
     ensures { λ _. ⌜ HasBinomials (shape g) (now (t .exit)) ⌝ }
 {
@@ -33,8 +38,9 @@ pub fn binomials(g: Grid, t: &mut [u16; 1255])
     }
 }
 
-// The position of the grid point to which the steps lead from y. It stands at the front of the coordinates after the steps.
-pub fn position(g: Grid, t: &[u16; 1255], y: &[u16; 16], steps: &[u16; 16]) -> usize
+// The position of the grid point to which the steps lead from y. It stands at the front of the coordinates after the
+// steps.
+pub fn position(g: Grid, t: &[u16; ENTRIES], y: &[u16; 16], steps: &[u16; 16]) -> usize
     requires { ⌜ IsMade g × HasBinomials (shape g) (now t) × CanStep (g .indices) (now y) (now steps) × (isGridPoint (shape g) (take (g .indices) (afterSteps (now y) (now steps))) ≡ true) ⌝ }
     ensures { λ r. ⌜ r ≡ positionOf (shape g) (take (g .indices) (afterSteps (now (y .entry)) (now (steps .entry)))) ⌝ }
 {

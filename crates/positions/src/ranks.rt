@@ -7,20 +7,22 @@ ghost use Rattle.combinatorics.specs.Lists.{sum, upFrom};
 ghost use Rattle.positions.specs.Binomials.{InTable, IsBinomial, HasRows};
 ghost use Rattle.positions.specs.Steps.{afterSteps, CanStep};
 ghost use Rattle.grid.specs.Grid.{at, blockPoints, positionIn};
+use crate::ENTRIES;
+use crate::ROW;
 use grid::wide16;
 
 // With k + 1 numbers to come that add up to left: how many lists have a first number below x.
-fn lists_before(t: &[u16; 1255], k: usize, left: usize, x: usize) -> usize
+fn lists_before(t: &[u16; ENTRIES], k: usize, left: usize, x: usize) -> usize
     requires { ⌜ InTable k left × (x ≤ left) × IsBinomial (now t) k left × IsBinomial (now t) k (left - x) ⌝ }
     ensures { λ r. ⌜ r + choose (left - x + k) k ≡ choose (left + k) k ⌝ }
 {
-    let row = (15 - k) * 70;
+    let row = (15 - k) * ROW;
     wide16(t[row + left]) - wide16(t[row + (left - x)])
 }
 
 // The block has size coordinates from first on, which add up to division after the steps.
 pub fn in_block(
-    t: &[u16; 1255],
+    t: &[u16; ENTRIES],
     y: &[u16; 16],
     steps: &[u16; 16],
     first: usize,

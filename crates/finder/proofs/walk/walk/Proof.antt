@@ -4,12 +4,12 @@ use mathlib.Core.Path.{_≡_, refl, subst}
 use Prim.Native.Nat.{suc, _-_, _≤_}
 use native.Mathlib.Omega.{arith}
 use Rattle.grid.proofs.Fields.{indices-few}
-use Rattle.moves.proofs.Follow.{At, NextAt, at-spent}
+use Rattle.rules.proofs.Follow.{At, NextAt, at-spent}
 use Rattle.moves.specs.Held.{answered, roundOf, stateOf}
-use Rattle.moves.specs.Ready.{SixteenEach}
+use Rattle.rules.specs.Ready.{SixteenEach}
 use Rattle.moves.specs.declared.Outcome.{Outcome}
 use Rattle.finder.specs.Finish.{problemIn}
-use Rattle.finder.proofs.Visits.{announced-facet, announced-place, begins, leads, on-path, visits}
+use Rattle.finder.proofs.Visits.{announced-facet, announced-place, begins, leads, on-path, one-of-three, visits}
 use borrow.Author.Needs.{needs}
 use Rattle.finder.proofs.walk.walk.Statement.{statement}
 use Rattle.finder.proofs.walk.walk.Tie as tie
@@ -56,27 +56,6 @@ sub-left c = omega arith
 enum-known-outcome : tie.Need-enum-known-outcome Inv-loop μ-loop
 enum-known-outcome c = search needs
 
-loop-less : tie.Need-loop-less Inv-loop μ-loop
-loop-less c = omega arith
-
-loop-again : tie.Need-loop-again Inv-loop μ-loop
-loop-again c =
-    let s = c .before .before .before .before .before .before .before .before .before .before .before .before .before .before .before .before in
-    let a = s .args in
-    let w = s .pre in
-    let l = c .before .before .before .before .before .before .before .before .before .before .loop in
-    let round = roundOf (a .previous .now) (a .next .now) (a .sizes .now) in
-    let place = stateOf round (l .first) (l .coefficients) (l .order) (l .marks) (l .s) in
-    let v = c .before .before .before .visit in
-    let answer = answered round (v .last .1 .1 .1 .1 .1 .1 .1 .0) (v .last .1 .1 .1 .1 .1 .1 .1 .1 .0) (v .last .1 .1 .1 .1 .1 .1 .1 .1 .1 .0) (v .last .1 .1 .1 .1 .1 .1 .1 .1 .1 .1 .0) (l .s) in
-    let led = leads (a .g) (w .readable .made) (a .first .now) (a .table .now) (w .accepted) place (a .budget - l .left) (l .inv .0) (answer (v .result)) (v .ensures .after) in
-    let k : a .budget - (l .left - 1) ≡ suc (a .budget - l .left) = omega (arith, l .inv .1, c .before .before .before .before .before .before .before .before .before .loop-test .taken) in
-    let next = subst (λ (r : Outcome). NextAt (problemIn (a .g) (a .first .now) (a .table .now)) (a .budget - l .left) (answer r)) (c .before .outcome .given .1) led in
-    (rw k (on-path next), omega (arith, l .inv .1), v .ensures .each)
-
-enum-known-outcome-2 : tie.Need-enum-known-outcome-2 Inv-loop μ-loop
-enum-known-outcome-2 c = search needs
-
 sub-t29 : tie.Need-sub-t29 Inv-loop μ-loop
 sub-t29 c = omega (arith, c .before .before .before .before .before .before .before .before .before .before .loop .inv .1)
 
@@ -91,34 +70,61 @@ returns c =
     let v = c .before .before .before .visit in
     let answer = answered round (v .last .1 .1 .1 .1 .1 .1 .1 .0) (v .last .1 .1 .1 .1 .1 .1 .1 .1 .0) (v .last .1 .1 .1 .1 .1 .1 .1 .1 .1 .0) (v .last .1 .1 .1 .1 .1 .1 .1 .1 .1 .1 .0) (l .s) in
     let led = leads (a .g) (w .readable .made) (a .first .now) (a .table .now) (w .accepted) place (a .budget - l .left) (l .inv .0) (answer (v .result)) (v .ensures .after) in
-    let next = subst (λ (r : Outcome). NextAt (problemIn (a .g) (a .first .now) (a .table .now)) (a .budget - l .left) (answer r)) (c .before .outcome2 .given .1) led in (
-      announced-place (problemIn (a .g) (a .first .now) (a .table .now)) (a .budget) round (v .last .1 .1 .1 .1 .1 .1 .1 .0) (v .last .1 .1 .1 .1 .1 .1 .1 .1 .0) (v .last .1 .1 .1 .1 .1 .1 .1 .1 .1 .0) (v .last .1 .1 .1 .1 .1 .1 .1 .1 .1 .1 .0) (l .s) (c .before .outcome2 .given .0 .0) (a .budget - l .left) _
+    let next = subst (λ (r : Outcome). NextAt (problemIn (a .g) (a .first .now) (a .table .now)) (a .budget - l .left) (answer r)) (c .before .outcome .given .1) led in (
+      announced-place (problemIn (a .g) (a .first .now) (a .table .now)) (a .budget) round (v .last .1 .1 .1 .1 .1 .1 .1 .0) (v .last .1 .1 .1 .1 .1 .1 .1 .1 .0) (v .last .1 .1 .1 .1 .1 .1 .1 .1 .1 .0) (v .last .1 .1 .1 .1 .1 .1 .1 .1 .1 .1 .0) (l .s) (c .before .outcome .given .0 .0) (a .budget - l .left) _
           (omega (arith, l .inv .1, c .before .before .before .before .before .before .before .before .before .loop-test .taken)) (omega (arith, l .inv .1, c .before .before .before .before .before .before .before .before .before .loop-test .taken)) next,
+      v .ensures .each .inOrder,
+    )
+
+enum-known-outcome-2 : tie.Need-enum-known-outcome-2 Inv-loop μ-loop
+enum-known-outcome-2 c = search needs
+
+sub-t31 : tie.Need-sub-t31 Inv-loop μ-loop
+sub-t31 c = omega (arith, c .before .before .before .before .before .before .before .before .before .before .before .loop .inv .1)
+
+returns-2 : tie.Need-returns-2 Inv-loop μ-loop
+returns-2 c =
+    let s = c .before .before .before .before .before .before .before .before .before .before .before .before .before .before .before .before .before in
+    let a = s .args in
+    let w = s .pre in
+    let l = c .before .before .before .before .before .before .before .before .before .before .before .loop in
+    let round = roundOf (a .previous .now) (a .next .now) (a .sizes .now) in
+    let place = stateOf round (l .first) (l .coefficients) (l .order) (l .marks) (l .s) in
+    let v = c .before .before .before .before .visit in
+    let answer = answered round (v .last .1 .1 .1 .1 .1 .1 .1 .0) (v .last .1 .1 .1 .1 .1 .1 .1 .1 .0) (v .last .1 .1 .1 .1 .1 .1 .1 .1 .1 .0) (v .last .1 .1 .1 .1 .1 .1 .1 .1 .1 .1 .0) (l .s) in
+    let led = leads (a .g) (w .readable .made) (a .first .now) (a .table .now) (w .accepted) place (a .budget - l .left) (l .inv .0) (answer (v .result)) (v .ensures .after) in
+    let next = subst (λ (r : Outcome). NextAt (problemIn (a .g) (a .first .now) (a .table .now)) (a .budget - l .left) (answer r)) (c .before .outcome2 .given .1) led in (
+      announced-facet (problemIn (a .g) (a .first .now) (a .table .now)) (a .budget) round (v .last .1 .1 .1 .1 .1 .1 .1 .0) (v .last .1 .1 .1 .1 .1 .1 .1 .1 .0) (v .last .1 .1 .1 .1 .1 .1 .1 .1 .1 .0) (v .last .1 .1 .1 .1 .1 .1 .1 .1 .1 .1 .0) (l .s) (c .before .outcome2 .given .0 .0) (a .budget - l .left) _
+          (omega (arith, l .inv .1, c .before .before .before .before .before .before .before .before .before .before .loop-test .taken)) (omega (arith, l .inv .1, c .before .before .before .before .before .before .before .before .before .before .loop-test .taken)) next,
       v .ensures .each .inOrder,
     )
 
 enum-known-outcome-3 : tie.Need-enum-known-outcome-3 Inv-loop μ-loop
 enum-known-outcome-3 c = search needs
 
-sub-t31 : tie.Need-sub-t31 Inv-loop μ-loop
-sub-t31 c = omega (arith, c .before .before .before .before .before .before .before .before .before .before .loop .inv .1)
+loop-less : tie.Need-loop-less Inv-loop μ-loop
+loop-less c = omega arith
 
-returns-2 : tie.Need-returns-2 Inv-loop μ-loop
-returns-2 c =
-    let s = c .before .before .before .before .before .before .before .before .before .before .before .before .before .before .before .before in
+loop-again : tie.Need-loop-again Inv-loop μ-loop
+loop-again c =
+    let s = c .before .before .before .before .before .before .before .before .before .before .before .before .before .before .before .before .before .before in
     let a = s .args in
     let w = s .pre in
-    let l = c .before .before .before .before .before .before .before .before .before .before .loop in
+    let l = c .before .before .before .before .before .before .before .before .before .before .before .before .loop in
     let round = roundOf (a .previous .now) (a .next .now) (a .sizes .now) in
     let place = stateOf round (l .first) (l .coefficients) (l .order) (l .marks) (l .s) in
-    let v = c .before .before .before .visit in
+    let v = c .before .before .before .before .before .visit in
     let answer = answered round (v .last .1 .1 .1 .1 .1 .1 .1 .0) (v .last .1 .1 .1 .1 .1 .1 .1 .1 .0) (v .last .1 .1 .1 .1 .1 .1 .1 .1 .1 .0) (v .last .1 .1 .1 .1 .1 .1 .1 .1 .1 .1 .0) (l .s) in
     let led = leads (a .g) (w .readable .made) (a .first .now) (a .table .now) (w .accepted) place (a .budget - l .left) (l .inv .0) (answer (v .result)) (v .ensures .after) in
-    let next = subst (λ (r : Outcome). NextAt (problemIn (a .g) (a .first .now) (a .table .now)) (a .budget - l .left) (answer r)) (c .before .outcome3 .given .1) led in (
-      announced-facet (problemIn (a .g) (a .first .now) (a .table .now)) (a .budget) round (v .last .1 .1 .1 .1 .1 .1 .1 .0) (v .last .1 .1 .1 .1 .1 .1 .1 .1 .0) (v .last .1 .1 .1 .1 .1 .1 .1 .1 .1 .0) (v .last .1 .1 .1 .1 .1 .1 .1 .1 .1 .1 .0) (l .s) (c .before .outcome3 .given .0 .0) (a .budget - l .left) _
-          (omega (arith, l .inv .1, c .before .before .before .before .before .before .before .before .before .loop-test .taken)) (omega (arith, l .inv .1, c .before .before .before .before .before .before .before .before .before .loop-test .taken)) next,
-      v .ensures .each .inOrder,
-    )
+    let k : a .budget - (l .left - 1) ≡ suc (a .budget - l .left) = omega (arith, l .inv .1, c .before .before .before .before .before .before .before .before .before .before .before .loop-test .taken) in
+    let next = subst (λ (r : Outcome). NextAt (problemIn (a .g) (a .first .now) (a .table .now)) (a .budget - l .left) (answer r)) (c .before .outcome3 .given .1) led in
+    (rw k (on-path next), omega (arith, l .inv .1), v .ensures .each)
+
+loop-less-2 : tie.Need-loop-less-2 Inv-loop μ-loop
+loop-less-2 c = omega arith
+
+loop-again-2 : tie.Need-loop-again-2 Inv-loop μ-loop
+loop-again-2 c = absurd (one-of-three _ (c .before .before .match .keys2) (c .before .match2 .keys2) (c .match3 .keys2))
 
 returns-3 : tie.Need-returns-3 Inv-loop μ-loop
 returns-3 c =
@@ -140,12 +146,14 @@ walk-spec =
     visit-requires
     sub-left
     enum-known-outcome
-    loop-less
-    loop-again
-    enum-known-outcome-2
     sub-t29
     returns
-    enum-known-outcome-3
+    enum-known-outcome-2
     sub-t31
     returns-2
+    enum-known-outcome-3
+    loop-less
+    loop-again
+    loop-less-2
+    loop-again-2
     returns-3)

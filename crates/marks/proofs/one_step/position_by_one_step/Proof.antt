@@ -8,7 +8,7 @@ use lib.ListN.{length, take}
 use native.Mathlib.Omega.{arith}
 use Rattle.grid.specs.Made.{shape}
 use Rattle.moves.specs.Held.{stateOf, roundOf}
-use Rattle.moves.specs.Read.{sourceAt, stepAt}
+use Rattle.rules.specs.Read.{sourceAt, stepAt}
 use Rattle.marks.proofs.OneStep.{can-weigh, lagBy, from-near, after-near, to-far, before-far, far-low, not-to, not-from, found-near, found-far, found-nothing}
 use borrow.Author.Needs.{needs}
 use Rattle.marks.proofs.one_step.position_by_one_step.Statement.{statement}
@@ -20,8 +20,8 @@ sub-index-at c = search needs
 index-at-requires : tie.Need-index-at-requires
 index-at-requires c κs = let o = c .before .pre .1 .0 in record { low = omega (arith, o .active); few = omega (arith, o .few); below = o .orderBelow }
 
-first-outside-requires : tie.Need-first-outside-requires
-first-outside-requires c κs = (c .index-at .ensures .index, c .before .before .pre .1 .0 .below)
+source-requires : tie.Need-source-requires
+source-requires c κs = (c .index-at .ensures .index, c .before .before .pre .1 .0 .below)
 
 sub-position-at : tie.Need-sub-position-at
 sub-position-at c = search needs
@@ -45,7 +45,7 @@ fall-at-requires c κs =
     let first = s .pre .1 .1 .0 in
     let B = s .pre .1 .1 .1 in
     let h = c .before .before .before .before .before .index-at in
-    let b = c .before .before .before .before .first-outside in
+    let b = c .before .before .before .before .source in
     let place = stateOf (roundOf (a .previous .now) [] (a .sizes .now)) first (a .coefficients .now) (a .order .now) (a .marks .now) (a .s) in
     let before : sourceAt place (a .s .active - 1) < stepAt place (a .s .active - 1) = rw (← h .ensures .is, ← b .ensures .0) (c .before .before .before .if2 .taken) in
     let more = c .before .before .before .before .before .before .if1 .taken in
@@ -64,7 +64,7 @@ sub-t24 c =
     let first = s .pre .1 .1 .0 in
     let B = s .pre .1 .1 .1 in
     let h = c .before .before .before .before .before .before .index-at in
-    let b = c .before .before .before .before .before .first-outside in
+    let b = c .before .before .before .before .before .source in
     let place = stateOf (roundOf (a .previous .now) [] (a .sizes .now)) first (a .coefficients .now) (a .order .now) (a .marks .now) (a .s) in
     let before : sourceAt place (a .s .active - 1) < stepAt place (a .s .active - 1) = rw (← h .ensures .is, ← b .ensures .0) (c .before .before .before .before .if2 .taken) in
     let more = c .before .before .before .before .before .before .before .if1 .taken in
@@ -83,7 +83,7 @@ returns c =
     let made = s .pre .0 .0 .made in
     let one = s .pre .0 .1 in
     let h = c .before .before .before .before .before .before .index-at in
-    let b = c .before .before .before .before .before .first-outside in
+    let b = c .before .before .before .before .before .source in
     let place = stateOf (roundOf (a .previous .now) [] (a .sizes .now)) first (a .coefficients .now) (a .order .now) (a .marks .now) (a .s) in
     let before : sourceAt place (a .s .active - 1) < stepAt place (a .s .active - 1) = rw (← h .ensures .is, ← b .ensures .0) (c .before .before .before .before .if2 .taken) in
     let more = c .before .before .before .before .before .before .before .if1 .taken in
@@ -96,8 +96,8 @@ returns c =
 index-at-requires-2 : tie.Need-index-at-requires-2
 index-at-requires-2 c κs = let o = c .before .before .pre .1 .0 in record { low = omega (arith, o .active); few = omega (arith, o .few); below = o .orderBelow }
 
-first-outside-requires-2 : tie.Need-first-outside-requires-2
-first-outside-requires-2 c κs = (c .index-at2 .ensures .index, c .before .before .before .pre .1 .0 .below)
+source-requires-2 : tie.Need-source-requires-2
+source-requires-2 c κs = (c .index-at2 .ensures .index, c .before .before .before .pre .1 .0 .below)
 
 add-position-at : tie.Need-add-position-at
 add-position-at c = let o = c .before .before .before .before .before .pre .1 .0 in omega (arith, o .active, o .few)
@@ -121,7 +121,7 @@ fall-at-requires-2 c κs =
     let first = s .pre .1 .1 .0 in
     let B = s .pre .1 .1 .1 in
     let h = c .before .before .before .before .before .index-at2 in
-    let b = c .before .before .before .before .first-outside2 in
+    let b = c .before .before .before .before .source2 in
     let place = stateOf (roundOf (a .previous .now) [] (a .sizes .now)) first (a .coefficients .now) (a .order .now) (a .marks .now) (a .s) in
     let before : sourceAt place (a .s .active) < stepAt place (a .s .active) = rw (← h .ensures .is, ← b .ensures .0) (c .before .before .before .if4 .taken) in
     let more : a .s .active < length (take (a .s .count) (a .order .now)) = rw (o .many) (c .before .before .before .before .before .before .if3 .taken) in
@@ -142,7 +142,7 @@ add-t27 c =
     let first = s .pre .1 .1 .0 in
     let B = s .pre .1 .1 .1 in
     let h = c .before .before .before .before .before .before .index-at2 in
-    let b = c .before .before .before .before .before .first-outside2 in
+    let b = c .before .before .before .before .before .source2 in
     let place = stateOf (roundOf (a .previous .now) [] (a .sizes .now)) first (a .coefficients .now) (a .order .now) (a .marks .now) (a .s) in
     let before : sourceAt place (a .s .active) < stepAt place (a .s .active) = rw (← h .ensures .is, ← b .ensures .0) (c .before .before .before .before .if4 .taken) in
     let more : a .s .active < length (take (a .s .count) (a .order .now)) = rw (o .many) (c .before .before .before .before .before .before .before .if3 .taken) in
@@ -163,7 +163,7 @@ returns-2 c =
     let made = s .pre .0 .0 .made in
     let one = s .pre .0 .1 in
     let h = c .before .before .before .before .before .before .index-at2 in
-    let b = c .before .before .before .before .before .first-outside2 in
+    let b = c .before .before .before .before .before .source2 in
     let place = stateOf (roundOf (a .previous .now) [] (a .sizes .now)) first (a .coefficients .now) (a .order .now) (a .marks .now) (a .s) in
     let before : sourceAt place (a .s .active) < stepAt place (a .s .active) = rw (← h .ensures .is, ← b .ensures .0) (c .before .before .before .before .if4 .taken) in
     let more : a .s .active < length (take (a .s .count) (a .order .now)) = rw (o .many) (c .before .before .before .before .before .before .before .if3 .taken) in
@@ -186,7 +186,7 @@ returns-3 c =
     let one = s .pre .0 .1 in
     let place = stateOf (roundOf (a .previous .now) [] (a .sizes .now)) first (a .coefficients .now) (a .order .now) (a .marks .now) (a .s) in
     let notTo = not-to (shape (a .g)) place (λ l. ⊎-elim (λ w. rw (← w .1 .ensures .is, ← w .2 .ensures .0) (w .3 .left)) (λ w. absurd (omega (arith, w .left))) (c .before .before .before .before .if1 .came)) in
-    found-nothing (shape (a .g)) place notTo (not-from (shape (a .g)) place (λ l. rw (← c .before .before .index-at2 .ensures .is, ← c .before .first-outside2 .ensures .0) (c .if4 .left)))
+    found-nothing (shape (a .g)) place notTo (not-from (shape (a .g)) place (λ l. rw (← c .before .before .index-at2 .ensures .is, ← c .before .source2 .ensures .0) (c .if4 .left)))
 
 returns-4 : tie.Need-returns-4
 returns-4 c =
@@ -206,7 +206,7 @@ position-by-one-step-spec =
     (tie.spec
     sub-index-at
     index-at-requires
-    first-outside-requires
+    source-requires
     sub-position-at
     position-at-requires
     position-at-requires-2
@@ -215,7 +215,7 @@ position-by-one-step-spec =
     sub-t24
     returns
     index-at-requires-2
-    first-outside-requires-2
+    source-requires-2
     add-position-at
     position-at-requires-3
     position-at-requires-4

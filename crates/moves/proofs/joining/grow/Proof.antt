@@ -9,10 +9,10 @@ use native.Mathlib.Omega.{arith}
 use Rattle.combinatorics.proofs.EditsOfArrays.{counted, found-low}
 use Rattle.combinatorics.specs.Edits.{found}
 use Rattle.moves.specs.Held.{stateOf, roundOf}
-use Rattle.moves.specs.Mask.{bit}
-use Rattle.moves.specs.Step.{State, goes, isFilled}
+use Rattle.rules.specs.Mask.{bit}
+use Rattle.rules.specs.Step.{State, goes, isFilled}
 use Rattle.moves.proofs.Cases.{joins-from-U, place-end, joins-from-outside}
-use Rattle.moves.proofs.Marks.{indices-in}
+use Rattle.rules.proofs.Marks.{indices-in}
 use borrow.Author.Needs.{needs}
 use Rattle.moves.proofs.joining.grow.Statement.{statement}
 use Rattle.moves.proofs.joining.grow.Tie as tie

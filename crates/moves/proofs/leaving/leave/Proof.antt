@@ -5,7 +5,7 @@ use native.Mathlib.Omega.{arith}
 use Rattle.combinatorics.proofs.EditsOfArrays.{counted}
 use Rattle.moves.specs.Held.{stateOf, roundOf}
 use Rattle.moves.proofs.Cases.{beside, besideAfter, onRoundAfter, middle-beside, last-beside, is-first, is-middle, is-last}
-use Rattle.moves.specs.Step.{State, goes}
+use Rattle.rules.specs.Step.{State, goes}
 use borrow.Author.Needs.{needs}
 use Rattle.moves.proofs.leaving.leave.Statement.{statement}
 use Rattle.moves.proofs.leaving.leave.Tie as tie

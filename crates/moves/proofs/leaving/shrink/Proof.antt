@@ -3,7 +3,7 @@ use mathlib.Core.Bool.{Bool, true, false}
 use mathlib.Core.List.{[]}
 use mathlib.Core.Path.{refl, sym, ap, _∙_}
 use Rattle.moves.specs.Held.{stateOf, noRound}
-use Rattle.moves.specs.Step.{State, goes, shrink}
+use Rattle.rules.specs.Step.{State, goes, shrink}
 use Rattle.moves.proofs.Cases.{shrinks}
 use borrow.Author.Needs.{needs}
 use Rattle.moves.proofs.leaving.shrink.Statement.{statement}

@@ -11,8 +11,8 @@ use native.Mathlib.Numerals.{add-one}
 use native.Mathlib.Omega.{arith}
 use Rattle.combinatorics.proofs.EditsOfArrays.{first-few, found-here, found-later, found-past}
 use Rattle.combinatorics.specs.Edits.{foundFrom, found}
-use Rattle.moves.specs.Step.{markLabel}
-use Rattle.moves.proofs.Marks.{labels-in}
+use Rattle.rules.specs.Step.{markLabel}
+use Rattle.rules.proofs.Marks.{labels-in}
 use Rattle.moves.proofs.lists.find.Statement.{statement}
 use Rattle.moves.proofs.lists.find.Tie as tie
 

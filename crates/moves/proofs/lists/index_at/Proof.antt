@@ -1,5 +1,5 @@
 -- `lists::index_at` meets its contract. Assumes nothing.
-use Rattle.moves.proofs.FirstMet.{entry, entry-below}
+use Rattle.rules.proofs.FirstMet.{entry, entry-below}
 use borrow.Author.Needs.{needs}
 use Rattle.moves.proofs.lists.index_at.Statement.{statement}
 use Rattle.moves.proofs.lists.index_at.Tie as tie

@@ -3,8 +3,8 @@ use mathlib.Core.Path.{refl, ap, _∙_}
 use Prim.Native.Nat.{suc}
 use borrow.Author.Needs.{needs}
 use native.Mathlib.Omega.{arith}
-use Rattle.moves.specs.Step.{markPosition}
-use Rattle.moves.proofs.FirstMet.{entry}
+use Rattle.rules.specs.Step.{markPosition}
+use Rattle.rules.proofs.FirstMet.{entry}
 use Rattle.moves.proofs.lists.position_at.Statement.{statement}
 use Rattle.moves.proofs.lists.position_at.Tie as tie
 

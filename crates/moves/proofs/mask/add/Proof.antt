@@ -1,7 +1,7 @@
 -- `mask::add` meets its contract. Assumes nothing.
 use mathlib.Core.Path.{refl}
 use borrow.Author.Needs.{needs}
-use Rattle.moves.specs.Mask.{withIndex}
+use Rattle.rules.specs.Mask.{withIndex}
 use Rattle.moves.proofs.mask.add.Statement.{statement}
 use Rattle.moves.proofs.mask.add.Tie as tie
 use Rattle.moves.proofs.mask.add.Reads as reads

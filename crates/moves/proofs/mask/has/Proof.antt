@@ -1,7 +1,7 @@
 -- `mask::has` meets its contract. Assumes nothing.
 use mathlib.Core.Path.{refl}
 use borrow.Author.Needs.{needs}
-use Rattle.moves.specs.Mask.{bit}
+use Rattle.rules.specs.Mask.{bit}
 use Rattle.moves.proofs.mask.has.Statement.{statement}
 use Rattle.moves.proofs.mask.has.Tie as tie
 use Rattle.moves.proofs.mask.has.Reads as reads

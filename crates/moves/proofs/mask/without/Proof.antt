@@ -1,7 +1,7 @@
 -- `mask::without` meets its contract. Assumes nothing.
 use mathlib.Core.Path.{refl}
 use borrow.Author.Needs.{needs}
-use Rattle.moves.specs.Mask.{withoutIndex}
+use Rattle.rules.specs.Mask.{withoutIndex}
 use Rattle.moves.proofs.mask.without.Statement.{statement}
 use Rattle.moves.proofs.mask.without.Tie as tie
 use Rattle.moves.proofs.mask.without.Reads as reads

@@ -8,7 +8,7 @@ use native.Mathlib.Numerals.{add-one}
 use native.Mathlib.Omega.{arith}
 use Rattle.combinatorics.proofs.EditsOfArrays.{counted}
 use Rattle.moves.specs.Held.{stateOf, roundOf}
-use Rattle.moves.specs.Step.{markLabel}
+use Rattle.rules.specs.Step.{markLabel}
 use Rattle.moves.proofs.Cases.{besideAfter, answered-beside, grow-beside, leaving-ready, leaving-leaves, other-leaving, join-ready, label-joins, count-low, active-low, mark-held, label-low}
 use borrow.Author.Needs.{needs}
 use Rattle.moves.proofs.moves.step.Statement.{statement}

@@ -3,10 +3,10 @@ use mathlib.Core.Path.{_≡_, _∙_}
 use Prim.Native.Nat.{_-_, _≤_}
 use borrow.Author.Needs.{needs}
 use native.Mathlib.Omega.{arith}
-use Rattle.moves.specs.Read.{pointAfter}
-use Rattle.moves.specs.Step.{firstOutside}
-use Rattle.moves.proofs.FirstMet.{entry-below}
-use Rattle.moves.proofs.PointsAfter.{after-none, after-one-more, after-taken, step-ready}
+use Rattle.rules.specs.Read.{pointAfter}
+use Rattle.rules.specs.Step.{firstOutside}
+use Rattle.rules.proofs.FirstMet.{entry-below}
+use Rattle.rules.proofs.PointsAfter.{after-none, after-one-more, after-taken, step-ready}
 use Rattle.moves.proofs.points.advance.Statement.{statement}
 use Rattle.moves.proofs.points.advance.Tie as tie
 
@@ -28,8 +28,8 @@ element-copy-out-wide32 c = omega (arith, c .before .before .pre .1 .low, c .bef
 wide32-requires : tie.Need-wide32-requires Inv-loop μ-loop
 wide32-requires c κs = search needs
 
-first-outside-requires : tie.Need-first-outside-requires Inv-loop μ-loop
-first-outside-requires c κs =
+source-requires : tie.Need-source-requires Inv-loop μ-loop
+source-requires c κs =
     let s = c .before .before .before .before in
     let a = s .args in
     (rw (c .wide32 .ensures) (entry-below (a .order .now) (a .i) (c .before .before .before .loop .k) (omega arith) (s .pre .1 .indices)), s .pre .0)
@@ -40,7 +40,7 @@ shift-requires c κs =
     let a = s .args in
     let l = c .before .before .before .before .before .loop in
     let h = c .before .before .wide32 in
-    let b = c .before .first-outside in
+    let b = c .before .source in
     let ready =
     step-ready (firstOutside (a .previous .now) (a .sizes .now) (a .u)) (a .order .now) (a .y .now) (a .i) (a .i) (l .k) (h .result) (b .result) (l .y)
     (c .before .before .before .before .loop-test .taken) (omega arith) (s .pre .1) (l .inv .0) (h .ensures) (b .ensures .0)
@@ -58,7 +58,7 @@ loop-again c =
     let a = c .before .before .before .before .before .before .before .args in
     let l = c .before .before .before .before .before .before .loop in
     let h = c .before .before .before .wide32 in
-    let b = c .before .before .first-outside in
+    let b = c .before .before .source in
     let on = after-one-more (firstOutside (a .previous .now) (a .sizes .now) (a .u)) (a .order .now) (a .y .now) (l .k) (h .result) (b .result) (h .ensures) (b .ensures .0) in
     (c .shift .ensures ∙ rw (l .inv .0) on, omega arith)
 
@@ -79,7 +79,7 @@ advance-spec =
     mul-wide32
     element-copy-out-wide32
     wide32-requires
-    first-outside-requires
+    source-requires
     shift-requires
     add-k
     loop-less

@@ -8,9 +8,9 @@ use lib.Seq.{length-take-le}
 use native.Mathlib.Omega.{arith}
 use Rattle.combinatorics.proofs.Fronts.{front-none}
 use Rattle.combinatorics.specs.Front.{front}
-use Rattle.moves.specs.Read.{pointAfter, ReadyPoint}
-use Rattle.moves.specs.Step.{firstOutside}
-use Rattle.moves.proofs.PointsAfter.{after-taken, few-ready, length-after, earlier-ready, inRow, same-rows, room, next-position, row-put}
+use Rattle.rules.specs.Read.{pointAfter, ReadyPoint}
+use Rattle.rules.specs.Step.{firstOutside}
+use Rattle.rules.proofs.PointsAfter.{after-taken, few-ready, length-after, earlier-ready, inRow, same-rows, room, next-position, row-put}
 use Rattle.moves.proofs.points.put_points.Statement.{statement}
 use Rattle.moves.proofs.points.put_points.Tie as tie
 

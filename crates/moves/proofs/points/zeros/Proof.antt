@@ -4,7 +4,7 @@ use mathlib.Core.Path.{_≡_, _∙_}
 use Prim.Native.Nat.{_-_, _≤_}
 use borrow.Author.Needs.{needs}
 use native.Mathlib.Omega.{arith}
-use Rattle.moves.proofs.ZeroMask.{ZerosBelow, no-zeros, zero-more, none-more}
+use Rattle.rules.proofs.ZeroMask.{ZerosBelow, no-zeros, zero-more, none-more}
 use Rattle.moves.proofs.points.zeros.Statement.{statement}
 use Rattle.moves.proofs.points.zeros.Tie as tie
 

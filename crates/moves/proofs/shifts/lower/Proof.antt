@@ -9,10 +9,10 @@ use lib.Dec.{ltb}
 use native.Mathlib.Numerals.{sub-one}
 use native.Mathlib.Omega.{arith}
 use Rattle.grid.specs.Grid.{at}
-use Rattle.moves.specs.Ready.{testedBefore}
-use Rattle.moves.specs.Step.{changedBefore}
-use Rattle.moves.proofs.ChangedBefore.{changed-spent, changed-all, changed-onward, tested-here, tested-onward}
-use Rattle.moves.proofs.FirstMet.{below}
+use Rattle.rules.specs.Ready.{testedBefore}
+use Rattle.rules.specs.Step.{changedBefore}
+use Rattle.rules.proofs.ChangedBefore.{changed-spent, changed-all, changed-onward, tested-here, tested-onward}
+use Rattle.rules.proofs.FirstMet.{below}
 use Rattle.moves.proofs.shifts.lower.Statement.{statement}
 use Rattle.moves.proofs.shifts.lower.Tie as tie
 
@@ -24,7 +24,7 @@ abbrev μ-loop : tie.MeasureT-loop
 μ-loop c₀ previous h b at₀ left₀ c at left = left
 
 loop-holds : tie.Need-loop-holds Inv-loop μ-loop
-loop-holds c = (refl, c .pre .2, omega arith, omega arith)
+loop-holds c = (refl, c .pre .1, omega arith, omega arith)
 
 mul-c : tie.Need-mul-c Inv-loop μ-loop
 mul-c c = omega arith
@@ -65,7 +65,7 @@ loop-again c =
     let other = c .before .before .before .if1 .left in (
       rw (sub-one (at (l .c) (l .at)), c .wide .ensures) (changed-onward pred way (s .args .b) (l .left) (l .at) (l .c) (omega arith) other ∙ l .inv .0),
       rw (sub-one (at (l .c) (l .at)), c .wide .ensures) (tested-onward pred way (s .args .b) (λ x. ltb 0 x) (l .left) (l .at) (l .c) (omega arith) other (l .inv .1)),
-      rw (c .wide .ensures) (below way (s .pre .1) (l .at)),
+      rw (c .wide .ensures) (below way (s .pre .0 .1) (l .at)),
       omega arith,
     )
 

@@ -1,6 +1,6 @@
 -- `shifts::shift` meets its contract. What is taken from is positive also where 1 was added to it. Assumes nothing.
 use borrow.Author.Needs.{needs}
-use Rattle.moves.proofs.ChangedBefore.{raised-positive}
+use Rattle.rules.proofs.ChangedBefore.{raised-positive}
 use Rattle.moves.proofs.shifts.shift.Statement.{statement}
 use Rattle.moves.proofs.shifts.shift.Tie as tie
 

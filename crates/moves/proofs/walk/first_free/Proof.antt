@@ -10,8 +10,8 @@ use lib.Dec.{eqb}
 use native.Mathlib.Omega.{arith}
 use Rattle.combinatorics.proofs.Basics.{or-left, or-right}
 use Rattle.moves.specs.Held.{roundOf}
-use Rattle.moves.specs.Step.{firstMet, firstFree}
-use Rattle.moves.proofs.FirstMet.{homeOrFree, below, met-spent, met-here, met-onward}
+use Rattle.rules.specs.Step.{firstMet, firstFree}
+use Rattle.rules.proofs.FirstMet.{homeOrFree, below, met-spent, met-here, met-onward}
 use Rattle.moves.proofs.walk.first_free.Statement.{statement}
 use Rattle.moves.proofs.walk.first_free.Tie as tie
 

@@ -6,8 +6,8 @@ use Prim.Native.Nat.{_<_}
 use borrow.Author.Needs.{needs}
 use native.Mathlib.Omega.{arith}
 use Rattle.grid.specs.Grid.{at}
-use Rattle.moves.specs.Step.{firstMet, firstOutside}
-use Rattle.moves.proofs.FirstMet.{outside, below, met-spent, met-here, met-onward}
+use Rattle.rules.specs.Step.{firstMet, firstOutside}
+use Rattle.rules.proofs.FirstMet.{outside, below, met-spent, met-here, met-onward}
 use Rattle.moves.proofs.walk.first_outside.Statement.{statement}
 use Rattle.moves.proofs.walk.first_outside.Tie as tie
 

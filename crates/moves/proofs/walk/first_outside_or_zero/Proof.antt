@@ -10,10 +10,10 @@ use lib.Dec.{eqb}
 use native.Mathlib.Omega.{arith}
 use Rattle.combinatorics.proofs.Basics.{or-left, or-right}
 use Rattle.grid.specs.Grid.{at}
-use Rattle.moves.specs.Mask.{bit}
+use Rattle.rules.specs.Mask.{bit}
 use Rattle.moves.specs.Held.{roundOf}
-use Rattle.moves.specs.Step.{firstMet, firstOutsideOrZero}
-use Rattle.moves.proofs.FirstMet.{outsideOrZero, below, met-spent, met-here, met-onward}
+use Rattle.rules.specs.Step.{firstMet, firstOutsideOrZero}
+use Rattle.rules.proofs.FirstMet.{outsideOrZero, below, met-spent, met-here, met-onward}
 use Rattle.moves.proofs.walk.first_outside_or_zero.Statement.{statement}
 use Rattle.moves.proofs.walk.first_outside_or_zero.Tie as tie
 

@@ -13,10 +13,10 @@ use Rattle.geometry.proofs.LabelledChains.{listAt, LabelledChain, Link, FacetEn
 use Rattle.place.proofs.BlocksOfGrid.{blocksOf, pointOf}
 use Rattle.place.proofs.ToChain.{labelOf}
 use Rattle.place.specs.Problem.{Problem}
-use Rattle.moves.specs.Mask.{bit}
-use Rattle.moves.specs.Read.{arrayOf, pointGone, sourceAt, positionAt}
-use Rattle.moves.specs.Ready.{IsRound}
-use Rattle.moves.specs.Step.{State, After, goes, endsAtPlace, endsAtFacet, mark, leave, grow}
+use Rattle.rules.specs.Mask.{bit}
+use Rattle.rules.specs.Read.{arrayOf, pointGone, sourceAt, positionAt}
+use Rattle.rules.specs.Ready.{IsRound}
+use Rattle.rules.specs.Step.{State, After, goes, endsAtPlace, endsAtFacet, mark, leave, grow}
 
 -- the label that names the index of point j of a chain
 abbrev pub labelsOf : Problem → List (ℕ → ℕ) → ℕ → ℕ

@@ -8,8 +8,8 @@ use borrow.Author.Tests.{eq-eqb, ne-eqb}
 use lib.ListN.{set}
 use Rattle.combinatorics.proofs.Basics.{and-left, and-right}
 use Rattle.grid.specs.Grid.{at}
-use Rattle.moves.specs.Ready.{testedBefore}
-use Rattle.moves.specs.Step.{changedBefore}
+use Rattle.rules.specs.Ready.{testedBefore}
+use Rattle.rules.specs.Step.{changedBefore}
 
 -- a number that is positive stays so where one is raised
 pub raised-positive : (y : List ℕ) (h b : ℕ) → 1 ≤ at y b → 1 ≤ at (set y h (at y h + 1)) b

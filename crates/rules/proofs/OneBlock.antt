@@ -24,12 +24,12 @@ use Rattle.place.specs.Demand.{Accepted, Settled}
 use Rattle.place.specs.Problem.{Problem}
 use Rattle.positions.proofs.ByTails.{all-indices, position-tells, tails-order}
 use Rattle.positions.specs.Falls.{tailFrom, Falls}
-use Rattle.moves.proofs.Describes.{Describes}
-use Rattle.moves.proofs.Range.{few, point-on}
-use Rattle.moves.proofs.StatePoints.{after-is, moved-on, order-below, point-is}
-use Rattle.moves.proofs.Walks.{in-block, source-from}
-use Rattle.moves.specs.Read.{pointIn, stepAt, sourceAt, Falling}
-use Rattle.moves.specs.Step.{State, sourceIn}
+use Rattle.rules.proofs.Describes.{Describes}
+use Rattle.rules.proofs.Range.{few, point-on}
+use Rattle.rules.proofs.StatePoints.{after-is, moved-on, order-below, point-is}
+use Rattle.rules.proofs.Walks.{in-block, source-from}
+use Rattle.rules.specs.Read.{pointIn, stepAt, sourceAt, Falling}
+use Rattle.rules.specs.Step.{State, sourceIn}
 
 grid-accepted : (p : Problem) → Settled p → GridAccepted p.grid
 grid-accepted p ok = record {

@@ -23,16 +23,16 @@ use Rattle.place.proofs.BlocksOfGrid.{blocksOf}
 use Rattle.place.proofs.ToChain.{labelOf}
 use Rattle.place.specs.Demand.{Accepted}
 use Rattle.place.specs.Problem.{Problem}
-use Rattle.moves.specs.Mask.{bit}
-use Rattle.moves.specs.Read.{markOf, read}
-use Rattle.moves.specs.Ready.{labelIn, Ready, ReadyLeave, ReadyGrow}
-use Rattle.moves.specs.Step.{State, After, goes, endsAtPlace, endsAtFacet, markLabel, leave, step, withMark}
-use Rattle.moves.proofs.Describes.{Describes, labelsOf, markAt, AllMarks, MarksBut, Came, begins, through, fromLarger, Reached, Left, facetEnds, leftOn, Joined, placeEnds, joinedOn}
-use Rattle.moves.proofs.Grow.{grows, grow-ready}
-use Rattle.moves.proofs.Leaves.{leaves, leave-ready}
-use Rattle.moves.proofs.Marks.{labels-in, mark-is, mark-label}
-use Rattle.moves.proofs.Range.{index-below, label-below}
-use Rattle.moves.proofs.StatePoints.{point-is}
+use Rattle.rules.specs.Mask.{bit}
+use Rattle.rules.specs.Read.{markOf, read}
+use Rattle.rules.specs.Ready.{labelIn, Ready, ReadyLeave, ReadyGrow}
+use Rattle.rules.specs.Step.{State, After, goes, endsAtPlace, endsAtFacet, markLabel, leave, step, withMark}
+use Rattle.rules.proofs.Describes.{Describes, labelsOf, markAt, AllMarks, MarksBut, Came, begins, through, fromLarger, Reached, Left, facetEnds, leftOn, Joined, placeEnds, joinedOn}
+use Rattle.rules.proofs.Grow.{grows, grow-ready}
+use Rattle.rules.proofs.Leaves.{leaves, leave-ready}
+use Rattle.rules.proofs.Marks.{labels-in, mark-is, mark-label}
+use Rattle.rules.proofs.Range.{index-below, label-below}
+use Rattle.rules.proofs.StatePoints.{point-is}
 
 -- the mark that is read is that of the point that has come in
 module _ {p : Problem} {T : ℕ → Bool} {t : ℕ} {o : ℕ → ℕ} {x : List (ℕ → ℕ)} {s : State} (D : Describes p T t o x s) where

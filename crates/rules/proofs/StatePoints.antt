@@ -23,12 +23,12 @@ use Rattle.place.proofs.ToChain.{pointsOf}
 use Rattle.place.specs.Demand.{Accepted}
 use Rattle.place.specs.Places.{Simplex}
 use Rattle.place.specs.Problem.{Problem}
-use Rattle.moves.proofs.Describes.{Describes}
-use Rattle.moves.proofs.Range.{index-below, few, point-on, coord-below}
-use Rattle.moves.proofs.Shifted.{length-shifted, shifted-at, shifted-moved}
-use Rattle.moves.proofs.Walks.{source-from}
-use Rattle.moves.specs.Read.{pointAfter, arrayOf, pointIn, pointsFrom, sourceAt, CanCompute}
-use Rattle.moves.specs.Step.{State}
+use Rattle.rules.proofs.Describes.{Describes}
+use Rattle.rules.proofs.Range.{index-below, few, point-on, coord-below}
+use Rattle.rules.proofs.Shifted.{length-shifted, shifted-at, shifted-moved}
+use Rattle.rules.proofs.Walks.{source-from}
+use Rattle.rules.specs.Read.{pointAfter, arrayOf, pointIn, pointsFrom, sourceAt, CanCompute}
+use Rattle.rules.specs.Step.{State}
 
 point-long : (g : Grid) (y : Point) → isGridPoint g y ≡ true → length y ≡ numIndices g
 unfolding isGridPoint

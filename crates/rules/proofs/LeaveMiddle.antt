@@ -22,15 +22,15 @@ use Rattle.place.proofs.BlocksOfGrid.{blocksOf, back-below}
 use Rattle.place.proofs.ToChain.{labelOf}
 use Rattle.place.specs.Demand.{Accepted}
 use Rattle.place.specs.Problem.{Problem}
-use Rattle.moves.specs.Read.{pointAfter, pointGone, pointIn}
-use Rattle.moves.specs.Step.{State, goes, markPosition, sourceIn, shrink, leave, leaveMiddle}
-use Rattle.moves.proofs.Describes.{Describes, Crossed, markAt, AllMarks, labelsOf, through, GoesOn, Left, leftOn}
-use Rattle.moves.proofs.Marks.{mark-position}
-use Rattle.moves.proofs.PointsAfter.{after-swapped}
-use Rattle.moves.proofs.Range.{nth-pointsOf, index-below, point-on}
-use Rattle.moves.proofs.Shrink.{shrunk}
-use Rattle.moves.proofs.StatePoints.{ready-point, point-is}
-use Rattle.moves.proofs.Walks.{source-from}
+use Rattle.rules.specs.Read.{pointAfter, pointGone, pointIn}
+use Rattle.rules.specs.Step.{State, goes, markPosition, sourceIn, shrink, leave, leaveMiddle}
+use Rattle.rules.proofs.Describes.{Describes, Crossed, markAt, AllMarks, labelsOf, through, GoesOn, Left, leftOn}
+use Rattle.rules.proofs.Marks.{mark-position}
+use Rattle.rules.proofs.PointsAfter.{after-swapped}
+use Rattle.rules.proofs.Range.{nth-pointsOf, index-below, point-on}
+use Rattle.rules.proofs.Shrink.{shrunk}
+use Rattle.rules.proofs.StatePoints.{ready-point, point-is}
+use Rattle.rules.proofs.Walks.{source-from}
 
 -- the steps e and e + 1 exchanged
 abbrev exchanged : State → ℕ → State

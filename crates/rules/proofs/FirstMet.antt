@@ -7,26 +7,16 @@ use native.Mathlib.Omega.{arith}
 use lib.Dec.{eqb}
 use lib.ListN.{take}
 use lib.Seq.{getD-take}
-use Rattle.grid.proofs.Fields.{following-low, previous-low}
 use Rattle.grid.specs.Grid.{at}
-use Rattle.grid.specs.Made.{IsMade}
-use Rattle.grid.specs.declared.Grid.{Grid as GridStruct}
-use Rattle.moves.specs.Mask.{bit}
-use Rattle.moves.specs.Ready.{IndicesBelow}
-use Rattle.moves.specs.Step.{firstMet}
+use Rattle.rules.specs.Mask.{bit}
+use Rattle.rules.specs.Ready.{IndicesBelow}
+use Rattle.rules.specs.Step.{firstMet}
 
 -- past the end of the list `at` gives 0, which is below 16 too
 pub below : (way : List ℕ) → IndicesBelow way → (h : ℕ) → at way h < 16
 below [] b h = omega arith
 below (x ∷ way) b zero = b 0 (omega arith)
 below (x ∷ way) b (suc h) = below way (λ k l. b (suc k) (omega arith)) h
-
--- the arrays of neighbours of a made grid
-pub previous-below : {g : GridStruct} → IsMade g → IndicesBelow (g .previous)
-previous-below {g} made h l = previous-low g made h
-
-pub next-below : {g : GridStruct} → IsMade g → IndicesBelow (g .next)
-next-below {g} made h l = following-low g made h
 
 -- an entry of the array is one of the list at its front
 pub entry : (l : List ℕ) (n e h : ℕ) → e < n → h ≡ at l e → h ≡ at (take n l) e

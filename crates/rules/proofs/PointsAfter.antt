@@ -15,10 +15,10 @@ use Rattle.combinatorics.specs.Edits.{swapAt}
 use Rattle.combinatorics.specs.Front.{front}
 use Rattle.combinatorics.specs.Lists.{concatMap, upFrom}
 use Rattle.grid.specs.Grid.{at}
-use Rattle.moves.proofs.FirstMet.{entry}
-use Rattle.moves.proofs.Shifted.{at-most-one, length-shifted, shifted-at}
-use Rattle.moves.specs.Read.{pointAfter, ReadyPoint}
-use Rattle.moves.specs.Step.{shifted}
+use Rattle.rules.proofs.FirstMet.{entry}
+use Rattle.rules.proofs.Shifted.{at-most-one, length-shifted, shifted-at}
+use Rattle.rules.specs.Read.{pointAfter, ReadyPoint}
+use Rattle.rules.specs.Step.{shifted}
 
 module _ (from : ℕ → ℕ) (order first : List ℕ) where
   pub after-none : first ≡ pointAfter from order first 0

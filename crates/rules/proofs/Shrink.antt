@@ -22,12 +22,12 @@ use Rattle.place.proofs.BlocksOfGrid.{blocksOf}
 use Rattle.place.proofs.ToChain.{labelOf}
 use Rattle.place.specs.Demand.{Accepted}
 use Rattle.place.specs.Problem.{Problem}
-use Rattle.moves.specs.Mask.{bit, withIndex, withoutIndex}
-use Rattle.moves.specs.Step.{State, markLabel, shrink}
-use Rattle.moves.proofs.Describes.{Describes, markAt, AllMarks, labelsOf, Came, fromLarger, GoesOn}
-use Rattle.moves.proofs.Masks.{bit-with, bit-without}
-use Rattle.moves.proofs.Marks.{labels-in, mark-label}
-use Rattle.moves.proofs.Range.{index-below, few}
+use Rattle.rules.specs.Mask.{bit, withIndex, withoutIndex}
+use Rattle.rules.specs.Step.{State, markLabel, shrink}
+use Rattle.rules.proofs.Describes.{Describes, markAt, AllMarks, labelsOf, Came, fromLarger, GoesOn}
+use Rattle.rules.proofs.Masks.{bit-with, bit-without}
+use Rattle.rules.proofs.Marks.{labels-in, mark-label}
+use Rattle.rules.proofs.Range.{index-below, few}
 
 -- T less b, and the zeros outside it, as masks
 module _ (R : Blocks) {T T' : ℕ → Bool} {b : ℕ} (small : Less T T' b) (l : b < 16) (mask : ℕ) (k : ℕ) (m : k < 16) where

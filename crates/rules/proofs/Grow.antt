@@ -25,13 +25,13 @@ use Rattle.place.proofs.BlocksOfGrid.{blocksOf}
 use Rattle.place.proofs.ToChain.{labelOf}
 use Rattle.place.specs.Demand.{Accepted}
 use Rattle.place.specs.Problem.{Problem}
-use Rattle.moves.specs.Mask.{bit, withIndex, withoutIndex}
-use Rattle.moves.specs.Ready.{IsRound, ReadyGrow}
-use Rattle.moves.specs.Step.{State, goes, endsAtPlace, firstOutside, isFilled, joined, grow}
-use Rattle.moves.proofs.Describes.{Describes, markAt, AllMarks, labelsOf, through, Reached, Joined, placeEnds, joinedOn, Grows}
-use Rattle.moves.proofs.Masks.{bit-with, bit-without}
-use Rattle.moves.proofs.Range.{few, label-below}
-use Rattle.moves.proofs.Walks.{FirstAt, forward-outside, filled-yes, filled-no}
+use Rattle.rules.specs.Mask.{bit, withIndex, withoutIndex}
+use Rattle.rules.specs.Ready.{IsRound, ReadyGrow}
+use Rattle.rules.specs.Step.{State, goes, endsAtPlace, firstOutside, isFilled, joined, grow}
+use Rattle.rules.proofs.Describes.{Describes, markAt, AllMarks, labelsOf, through, Reached, Joined, placeEnds, joinedOn, Grows}
+use Rattle.rules.proofs.Masks.{bit-with, bit-without}
+use Rattle.rules.proofs.Range.{few, label-below}
+use Rattle.rules.proofs.Walks.{FirstAt, forward-outside, filled-yes, filled-no}
 
 -- the place that comes where g goes before the first index ahead of it that is not in U
 abbrev place : State → ℕ → ℕ

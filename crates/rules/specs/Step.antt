@@ -1,5 +1,5 @@
--- The state of a run and one move, on lists: what the functions of this crate compute. The run's own promise does not cite it:
--- proofs/ shows that these moves follow the path of document 01. Assumes nothing.
+-- The state of a run and one move, on lists: what the functions of this crate compute. The run's own promise does not
+-- cite it: proofs/ shows that these moves follow the path of document 01. Assumes nothing.
 use mathlib.Core.Bool.{Bool, true, false, not, _&&_, _||_, cond}
 use mathlib.Core.List.{List, [], _∷_, map}
 use Prim.Native.Nat.{ℕ, zero, suc, pred, _+_, _-_, _*_, _/_, _%_}
@@ -7,7 +7,7 @@ use lib.Dec.{eqb, ltb}
 use lib.ListN.{length, set, replicate}
 use Rattle.combinatorics.specs.Edits.{insertAt, removeAt, swapAt, rotateLeft, rotateRight, found}
 use Rattle.grid.specs.Grid.{at}
-use Rattle.moves.specs.Mask.{bit, withIndex, withoutIndex}
+use Rattle.rules.specs.Mask.{bit, withIndex, withoutIndex}
 
 -- the ways round the blocks: of each index the one before it, the one after it, and the size of its block
 pub record Round : Type 0 where
@@ -15,9 +15,9 @@ pub record Round : Type 0 where
   pub next : List ℕ
   pub sizes : List ℕ
 
--- The place: its first point, that point's coefficient list, the indices of T in the order in which each point goes to the next, a mark for
--- each point, T and U. How it was reached: by which of the seven rules; and the number of the point that has just come in, or, after rules 6
--- and 7, leaves next. The ways round the blocks stay the same.
+-- The place: its first point, that point's coefficient list, the indices of T in the order in which each point goes to
+-- the next, a mark for each point, T and U. How it was reached: by which of the seven rules; and the number of the
+-- point that has just come in, or, after rules 6 and 7, leaves next. The ways round the blocks stay the same.
 pub record State : Type 0 where
   pub round : Round
   pub first : List ℕ
@@ -29,8 +29,8 @@ pub record State : Type 0 where
   pub active : ℕ
   pub rule : ℕ
 
--- what a move gives: the state at the next place; or that the state's place is an end, or a facet of it, with an index of the block for which
--- the simplex is complete
+-- what a move gives: the state at the next place; or that the state's place is an end, or a facet of it, with an index
+-- of the block for which the simplex is complete
 pub data After : Type 0 where
   goes : State → After
   endsAtPlace : State → ℕ → After
@@ -69,7 +69,8 @@ firstOutsideOrZero round U c h =
 
 -- the first index met going on from h that is h again or is in neither T nor U
 abbrev pub firstFree : Round → ℕ → ℕ → ℕ → ℕ
-firstFree round T U h = firstMet (round .next) (λ k. eqb k h || not (bit T k) && not (bit U k)) (at (round .sizes) h) (at (round .next) h)
+firstFree round T U h =
+    firstMet (round .next) (λ k. eqb k h || not (bit T k) && not (bit U k)) (at (round .sizes) h) (at (round .next) h)
 
 -- every index of h's block but h is in T or U
 abbrev pub isFilled : Round → ℕ → ℕ → ℕ → Bool
@@ -82,9 +83,11 @@ shifted y h b = let z = set y h (at y h + 1) in set z b (at z b - 1)
 -- the numbers at h, and at the indices going on by `way` before b, changed by f; at most n of them
 unfoldable pub changedBefore : (ℕ → ℕ) → List ℕ → ℕ → ℕ → ℕ → List ℕ → List ℕ
 changedBefore f way b zero h c = c
-changedBefore f way b (suc n) h c = let changed = changedBefore f way b n (at way h) (set c h (f (at c h))) in cond (eqb h b) c changed
+changedBefore f way b (suc n) h c =
+    let changed = changedBefore f way b n (at way h) (set c h (f (at c h))) in cond (eqb h b) c changed
 
--- Point i and entry e of the order go. The index x of that entry leaves T, and joins U where `intoU`; the point labelled x leaves next.
+-- Point i and entry e of the order go. The index x of that entry leaves T, and joins U where `intoU`; the point
+-- labelled x leaves next.
 unfoldable pub shrink : State → ℕ → ℕ → Bool → State
 shrink s i e intoU = let x = at (s .order) e in record {
   round = s .round;
@@ -118,7 +121,8 @@ leaveFirst s =
       rule = cond gone 2 1;
     }))
 
--- Point i, neither the first nor the last, leaves: the steps to it and from it change places, or the index of the step to it moves from T to U.
+-- Point i, neither the first nor the last, leaves: the steps to it and from it change places, or the index of the step
+-- to it moves from T to U.
 unfoldable pub leaveMiddle : State → ℕ → State
 leaveMiddle s i =
     let b = sourceIn s (at (s .order) i) in
@@ -172,7 +176,8 @@ joined s i h rule = record {
   rule = rule;
 }
 
--- The label h, not in T, has come in: it joins T, before the step at which its coefficient rises or behind the last step, or the place is an end.
+-- The label h, not in T, has come in: it joins T, before the step at which its coefficient rises or behind the last
+-- step, or the place is an end.
 unfoldable pub grow : State → ℕ → After
 grow s h =
     let ahead = firstOutside (s .round .next) (s .round .sizes) (s .U) h in
@@ -185,8 +190,8 @@ grow s h =
 unfoldable pub leave : State → ℕ → After
 leave s i = cond (eqb i 0) (leaveFirst s) (goes (cond (ltb i (length (s .order))) (leaveMiddle s i) (leaveLast s)))
 
--- The move from a place whose points all have their labels. After rules 6 and 7 the point named leaves. Otherwise the label that came in joins
--- T if it is not there, and if it is, the other point with that label leaves.
+-- The move from a place whose points all have their labels. After rules 6 and 7 the point named leaves. Otherwise the
+-- label that came in joins T if it is not there, and if it is, the other point with that label leaves.
 unfoldable pub step : State → After
 step s =
     let label = markLabel (at (s .marks) (s .active)) in

@@ -1,5 +1,5 @@
 -- From single moves to the path of document 01: a state that stands at a place of the path goes on to the next place or to the path's end.
--- The run's proof cites of it `At`, `EndsAt`, `NextAt` and their laws: at-begin, at-below, at-spent, at-reads, at-ready, at-next and ends-answer.
+-- The run's proof cites of it `At`, `EndsAt`, `NextAt` and their laws: at-begin, at-below, at-spent, at-T, at-U, at-reads, at-ready, at-next and ends-answer.
 -- Assumes nothing.
 use mathlib.Core.Bool.{Bool, true, false, _&&_, cond}
 use mathlib.Core.List.{List, [], _∷_, _++_}
@@ -14,6 +14,7 @@ use lib.Seq.{getD-at}
 use native.Mathlib.Omega.{arith}
 use Rattle.combinatorics.proofs.Basics.{absurd-bool, true-or-false, before-or-not}
 use Rattle.combinatorics.specs.Edits.{removeAt}
+use Rattle.combinatorics.specs.Lists.{isIn}
 use Rattle.geometry.proofs.Definitions.{zeros}
 use Rattle.geometry.proofs.Search.{block-back}
 use Rattle.geometry.proofs.LabelledChains.{listAt, LabelledChain, FacetEnd, PlaceEnd}
@@ -23,12 +24,12 @@ use Rattle.place.proofs.BlocksOfGrid.{blocksOf, back-below, coefficientOf, coor
 use Rattle.place.proofs.Bound.{order-short}
 use Rattle.place.proofs.ChainEnds.{complete-of, complete-below, end-below, end-complete, end-labels}
 use Rattle.place.proofs.ChainLinks.{of-link}
-use Rattle.place.proofs.FromChain.{back-again, place-of, long, pointsOf-grid, T-is}
+use Rattle.place.proofs.FromChain.{back-again, place-of, long, pointsOf-grid, T-is, in-U}
 use Rattle.place.proofs.Labels.{place-labelled}
 use Rattle.place.proofs.LinkSymmetry.{parts}
 use Rattle.place.proofs.Run.{below-length, not-start, ends-path, goes-on}
 use Rattle.place.proofs.Start.{start-place}
-use Rattle.place.proofs.Theorem.{demand3-holds, zeroes, single, block-of, in-facets}
+use Rattle.place.proofs.Theorem.{demand3-holds, run-follows, zeroes, single, block-of, in-facets}
 use Rattle.place.proofs.ToChain.{inT, coefficientsOf, pointsOf, labelOf, place-long, labelledChain-of, pointsOf-coefficientsOf}
 use Rattle.place.proofs.Ways.{IsWay, byPlace, byFacet}
 use Rattle.place.specs.Coefficients.{IsCoefficients, coefficients}
@@ -36,21 +37,21 @@ use Rattle.place.specs.Demand.{Accepted, allLabelled, Follows, placeAt, leftAt}
 use Rattle.place.specs.Ends.{Kind, placeEnd, facetEnd, stop}
 use Rattle.place.specs.Links.{linked}
 use Rattle.place.specs.Path.{path, pathLength, answer, spent, ended}
-use Rattle.place.specs.Places.{Simplex, order}
+use Rattle.place.specs.Places.{Simplex, order, setT, setU}
 use Rattle.place.specs.Problem.{Problem}
-use Rattle.moves.specs.Mask.{bit}
-use Rattle.moves.specs.Read.{arrayOf, pointGone, pointIn, pointsFrom, read, stepAt, sourceAt, positionAt, above, MovedAt, Exchanged, FallsBeside, CanCompute}
-use Rattle.moves.specs.Ready.{IsRound, Ready}
-use Rattle.moves.specs.Step.{State, Round, After, goes, endsAtPlace, endsAtFacet, markPosition, step, begun}
-use Rattle.moves.proofs.Describes.{Describes, MarksBut, Came, begins, through, fromLarger, Reached}
-use Rattle.moves.proofs.Masks.{bit-none}
-use Rattle.moves.proofs.Move.{Outcome, atPlaceEnd, atFacetEnd, goesOn, Onward, onward}
-use Rattle.moves.proofs.Marks.{mark-position}
-use Rattle.moves.proofs.OneBlock.{lag-is, first-same, falling}
-use Rattle.moves.proofs.Range.{nth-pointsOf, point-on}
-use Rattle.moves.proofs.Shifted.{shifted-moved}
-use Rattle.moves.proofs.StatePoints.{order-below, after-is, ready-point, point-is, moved-on, all-points, later-points}
-use Rattle.moves.proofs.Walks.{block-same, source-from}
+use Rattle.rules.specs.Mask.{bit}
+use Rattle.rules.specs.Read.{arrayOf, pointGone, pointIn, pointsFrom, read, stepAt, sourceAt, positionAt, above, MovedAt, Exchanged, FallsBeside, CanCompute}
+use Rattle.rules.specs.Ready.{IsRound, Ready}
+use Rattle.rules.specs.Step.{State, Round, After, goes, endsAtPlace, endsAtFacet, markPosition, step, begun}
+use Rattle.rules.proofs.Describes.{Describes, MarksBut, Came, begins, through, fromLarger, Reached}
+use Rattle.rules.proofs.Masks.{bit-none}
+use Rattle.rules.proofs.Move.{Outcome, atPlaceEnd, atFacetEnd, goesOn, Onward, onward}
+use Rattle.rules.proofs.Marks.{mark-position}
+use Rattle.rules.proofs.OneBlock.{lag-is, first-same, falling}
+use Rattle.rules.proofs.Range.{nth-pointsOf, point-on}
+use Rattle.rules.proofs.Shifted.{shifted-moved}
+use Rattle.rules.proofs.StatePoints.{order-below, after-is, ready-point, point-is, moved-on, all-points, later-points}
+use Rattle.rules.proofs.Walks.{block-same, source-from}
 
 -- the place just left is that of the chain, if any
 abbrev LeftIs : Problem → Option (List (ℕ → ℕ)) → Option Simplex → Type 0
@@ -235,6 +236,16 @@ module _ {p : Problem} (ok : Accepted p) {s : State} {k : ℕ} (A : At p s k) wh
         ready-point ok A.describes s.active low,
         rw (point-is ok A.describes s.active low) (point-on ok A.describes.chain s.active low),
       )
+
+  -- "T and U are sets of at most 16 indices": bit h of each mask says whether index h is in the set of the path's place
+  on-path : placeAt (path p .visited) k ≡ pointsOf p A.x
+  on-path = sym (run-follows ok A.places A.follows k (omega (arith, A .many)) .1) ∙ A .here
+
+  pub at-T : (h : ℕ) → h < 16 → bit s.T h ≡ isIn eqb h (setT p (placeAt (path p .visited) k))
+  at-T h l = rw on-path (A .describes .inT h l ∙ sym (ap (λ (t : ℕ → Bool). t h) (T-is ok.settled A.describes.chain)))
+
+  pub at-U : (h : ℕ) → h < 16 → bit s.U h ≡ isIn eqb h (setU p.grid (placeAt (path p .visited) k))
+  at-U h l = rw on-path (A .describes .inU h l ∙ sym (in-U ok.settled A.describes.chain h))
 
   abbrev D : Describes p A.T A.t A.o A.x s
   D = A .describes

@@ -24,14 +24,14 @@ use Rattle.place.proofs.BlocksOfGrid.{blocksOf, back-below}
 use Rattle.place.proofs.ToChain.{labelOf}
 use Rattle.place.specs.Demand.{Accepted}
 use Rattle.place.specs.Problem.{Problem}
-use Rattle.moves.specs.Mask.{bit, withIndex}
-use Rattle.moves.specs.Ready.{IsRound, ReadyFirst}
-use Rattle.moves.specs.Step.{State, goes, endsAtFacet, sourceIn, isFilled, shifted, changedBefore, leaveFirst, leave}
-use Rattle.moves.proofs.Describes.{Describes, markAt, AllMarks, labelsOf, Came, through, Reached, Left, facetEnds, leftOn}
-use Rattle.moves.proofs.Masks.{bit-with}
-use Rattle.moves.proofs.Range.{index-below, coord-below, coefficient-below}
-use Rattle.moves.proofs.Shifted.{length-shifted, shifted-at}
-use Rattle.moves.proofs.Walks.{ChangedOn, before-outside, changed, tested, backward, previous-below, filled-yes, filled-no, source-from}
+use Rattle.rules.specs.Mask.{bit, withIndex}
+use Rattle.rules.specs.Ready.{IsRound, ReadyFirst}
+use Rattle.rules.specs.Step.{State, goes, endsAtFacet, sourceIn, isFilled, shifted, changedBefore, leaveFirst, leave}
+use Rattle.rules.proofs.Describes.{Describes, markAt, AllMarks, labelsOf, Came, through, Reached, Left, facetEnds, leftOn}
+use Rattle.rules.proofs.Masks.{bit-with}
+use Rattle.rules.proofs.Range.{index-below, coord-below, coefficient-below}
+use Rattle.rules.proofs.Shifted.{length-shifted, shifted-at}
+use Rattle.rules.proofs.Walks.{ChangedOn, before-outside, changed, tested, backward, previous-below, filled-yes, filled-no, source-from}
 
 -- an index joins a set or not
 or-into : (a z : Bool) → (a || z) ≡ (a && true || z)

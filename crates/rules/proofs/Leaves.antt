@@ -8,13 +8,13 @@ use native.Mathlib.Omega.{arith}
 use Rattle.geometry.proofs.Orders.{lt-or}
 use Rattle.place.specs.Demand.{Accepted}
 use Rattle.place.specs.Problem.{Problem}
-use Rattle.moves.specs.Ready.{ReadyLeave}
-use Rattle.moves.specs.Step.{State}
-use Rattle.moves.proofs.Describes.{Describes, Leaves}
-use Rattle.moves.proofs.LeaveFirst.{leave-first, ready-first}
-use Rattle.moves.proofs.LeaveLast.{leave-last, ready-last}
-use Rattle.moves.proofs.LeaveMiddle.{leave-middle}
-use Rattle.moves.proofs.Range.{few}
+use Rattle.rules.specs.Ready.{ReadyLeave}
+use Rattle.rules.specs.Step.{State}
+use Rattle.rules.proofs.Describes.{Describes, Leaves}
+use Rattle.rules.proofs.LeaveFirst.{leave-first, ready-first}
+use Rattle.rules.proofs.LeaveLast.{leave-last, ready-last}
+use Rattle.rules.proofs.LeaveMiddle.{leave-middle}
+use Rattle.rules.proofs.Range.{few}
 
 pub leaves : {p : Problem} → Accepted p → Leaves p
 leaves ok T n o x s zero D L l c = leave-first ok D L c

@@ -23,15 +23,15 @@ use Rattle.place.proofs.BlocksOfGrid.{blocksOf, back-below}
 use Rattle.place.proofs.ToChain.{labelOf}
 use Rattle.place.specs.Demand.{Accepted}
 use Rattle.place.specs.Problem.{Problem}
-use Rattle.moves.specs.Mask.{bit, withoutIndex}
-use Rattle.moves.specs.Ready.{IsRound, ReadyLast}
-use Rattle.moves.specs.Step.{State, goes, shrink, shifted, firstOutsideOrZero, changedBefore, leave, leaveLast}
-use Rattle.moves.proofs.Describes.{Describes, markAt, AllMarks, MarksBut, labelsOf, through, GoesOn, Left, leftOn}
-use Rattle.moves.proofs.Masks.{bit-without}
-use Rattle.moves.proofs.Range.{index-below, coord-below}
-use Rattle.moves.proofs.Shifted.{length-shifted, shifted-at}
-use Rattle.moves.proofs.Shrink.{shrunk}
-use Rattle.moves.proofs.Walks.{Before, ChangedOn, before-zero, changed, tested, backward, previous-below, chain-to-zero}
+use Rattle.rules.specs.Mask.{bit, withoutIndex}
+use Rattle.rules.specs.Ready.{IsRound, ReadyLast}
+use Rattle.rules.specs.Step.{State, goes, shrink, shifted, firstOutsideOrZero, changedBefore, leave, leaveLast}
+use Rattle.rules.proofs.Describes.{Describes, markAt, AllMarks, MarksBut, labelsOf, through, GoesOn, Left, leftOn}
+use Rattle.rules.proofs.Masks.{bit-without}
+use Rattle.rules.proofs.Range.{index-below, coord-below}
+use Rattle.rules.proofs.Shifted.{length-shifted, shifted-at}
+use Rattle.rules.proofs.Shrink.{shrunk}
+use Rattle.rules.proofs.Walks.{Before, ChangedOn, before-zero, changed, tested, backward, previous-below, chain-to-zero}
 
 -- a new first point, with 1 more at b and 1 less at h
 abbrev newFirst : State → ℕ → ℕ → State

@@ -18,7 +18,7 @@ use Rattle.place.proofs.Labels.{label-ok}
 use Rattle.place.proofs.ToChain.{pointsOf, labelOf, indexOf, index-is, grid-at, place-long}
 use Rattle.place.specs.Demand.{Accepted}
 use Rattle.place.specs.Problem.{Problem, label}
-use Rattle.moves.proofs.Describes.{labelsOf}
+use Rattle.rules.proofs.Describes.{labelsOf}
 
 pub nth-pointsOf : (p : Problem) (x : List (ℕ → ℕ)) (j : ℕ) → j < length x → nth (pointsOf p x) j ≡ pointOf p (listAt x j)
 nth-pointsOf p [] j l = absurd (omega arith)

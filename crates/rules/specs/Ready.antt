@@ -1,5 +1,5 @@
--- What keeps a move within its arrays and the width of its numbers: the `requires` of the step's functions. Every state that describes a place
--- has it (proofs/). Assumes nothing.
+-- What keeps a move within its arrays and the width of its numbers: the `requires` of the step's functions. Every state
+-- that describes a place has it (proofs/). Assumes nothing.
 use mathlib.Core.Bool.{Bool, true, false, _&&_, _||_}
 use mathlib.Core.List.{List, map}
 use mathlib.Core.Logic.{_⊎_}
@@ -9,8 +9,8 @@ use lib.Dec.{eqb, ltb}
 use lib.ListN.{length, set, take}
 use Rattle.combinatorics.specs.Edits.{found}
 use Rattle.grid.specs.Grid.{Grid, at, numIndices, size, blockOf, previous, next}
-use Rattle.moves.specs.Mask.{bit}
-use Rattle.moves.specs.Step.{State, Round, markLabel, sourceIn, firstOutsideOrZero, isFilled}
+use Rattle.rules.specs.Mask.{bit}
+use Rattle.rules.specs.Step.{State, Round, markLabel, sourceIn, firstOutsideOrZero, isFilled}
 
 -- the test holds of each number that `changedBefore` changes
 unfoldable pub testedBefore : (ℕ → Bool) → (ℕ → ℕ) → List ℕ → ℕ → ℕ → ℕ → List ℕ → Bool
@@ -51,7 +51,8 @@ pub record ReadyFirst (s : State) : Type 0 where
   pub some : 1 ≤ length (s .order)
   pub positive : 1 ≤ at (s .first) (sourceIn s (at (s .order) 0))
   pub fits : at (s .first) (at (s .order) 0) < 65535
-  pub raised : testedBefore (λ c. ltb c 65535) suc (s .round .previous) (sourceIn s (at (s .order) 0)) 16 (at (s .order) 0) (s .coefficients) ≡ true
+  pub raised : testedBefore (λ c. ltb c 65535) suc (s .round .previous) (sourceIn s (at (s .order) 0)) 16
+      (at (s .order) 0) (s .coefficients) ≡ true
 
 -- the last point can leave by its step at h
 pub record ReadyLast (s : State) (h : ℕ) : Type 0 where
@@ -59,7 +60,8 @@ pub record ReadyLast (s : State) (h : ℕ) : Type 0 where
   pub fits : 0 < at (s .first) h → 0 < at (s .coefficients) h
       → at (s .first) (firstOutsideOrZero (s .round) (s .U) (s .coefficients) h) < 65535
   pub lowered : 0 < at (s .first) h → 0 < at (s .coefficients) h
-      → testedBefore (λ c. ltb 0 c) pred (s .round .previous) (firstOutsideOrZero (s .round) (s .U) (s .coefficients) h) 16 h (s .coefficients) ≡ true
+      → testedBefore (λ c. ltb 0 c) pred (s .round .previous)
+      (firstOutsideOrZero (s .round) (s .U) (s .coefficients) h) 16 h (s .coefficients) ≡ true
 
 -- point i can leave
 pub record ReadyLeave (s : State) (i : ℕ) : Type 0 where
@@ -82,6 +84,7 @@ pub record Ready (s : State) : Type 0 where
   pub orderBelow : IndicesBelow (s .order)
   pub active : s .active ≤ length (s .order)
   pub label : s .rule < 6 → (1 ≤ labelIn s) × (labelIn s ≤ 16)
-  pub leaves : s .rule < 6 → bit (s .T) (labelIn s - 1) ≡ true → ReadyLeave s (found (labelIn s) (s .active) (map markLabel (s .marks)))
+  pub leaves : s .rule < 6 → bit (s .T) (labelIn s - 1) ≡ true
+      → ReadyLeave s (found (labelIn s) (s .active) (map markLabel (s .marks)))
   pub grows : s .rule < 6 → bit (s .T) (labelIn s - 1) ≡ false → ReadyGrow s (labelIn s - 1)
   pub goesOn : 6 ≤ s .rule → ReadyLeave s (s .active)

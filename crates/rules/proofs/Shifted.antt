@@ -10,7 +10,7 @@ use native.Mathlib.Omega.{arith}
 use Rattle.combinatorics.proofs.Basics.{same-or}
 use Rattle.geometry.proofs.Definitions.{one-at}
 use Rattle.grid.specs.Grid.{at}
-use Rattle.moves.specs.Step.{shifted}
+use Rattle.rules.specs.Step.{shifted}
 
 pub at-most-one : (b k : ℕ) → one-at b k ≤ 1
 at-most-one b k = ⊎-elim (λ (e : k ≡ b). rw (eq-eqb k b e) (omega arith)) (λ (n : k ≡ b → ⊥). rw (ne-eqb k b n) (omega arith)) (same-or k b)

@@ -9,7 +9,7 @@ use Rattle.combinatorics.proofs.Basics.{absurd-bool}
 use Rattle.combinatorics.proofs.Lists.{all-in, onNumbers}
 use Rattle.combinatorics.proofs.Ranges.{in-upFrom}
 use Rattle.combinatorics.specs.Lists.{all, upFrom}
-use Rattle.moves.specs.Mask.{bit, withIndex, withoutIndex}
+use Rattle.rules.specs.Mask.{bit, withIndex, withoutIndex}
 
 or-last-bit : (a b : ℕ) → bitOr a b % 2 ≡ max (a % 2) (b % 2)
 or-last-bit a b = omega (arith, or-step a b)

@@ -12,11 +12,11 @@ use Rattle.place.proofs.BlocksOfGrid.{blocksOf, pointOf}
 use Rattle.place.proofs.ToChain.{pointsOf, labelOf}
 use Rattle.place.specs.Demand.{Accepted}
 use Rattle.place.specs.Problem.{Problem}
-use Rattle.moves.specs.Read.{markOf}
-use Rattle.moves.specs.Ready.{IndicesBelow}
-use Rattle.moves.specs.Step.{mark, markLabel, markPosition}
-use Rattle.moves.proofs.Describes.{markAt, labelsOf}
-use Rattle.moves.proofs.Range.{nth-pointsOf, label-is, label-below}
+use Rattle.rules.specs.Read.{markOf}
+use Rattle.rules.specs.Ready.{IndicesBelow}
+use Rattle.rules.specs.Step.{mark, markLabel, markPosition}
+use Rattle.rules.proofs.Describes.{markAt, labelsOf}
+use Rattle.rules.proofs.Range.{nth-pointsOf, label-is, label-below}
 
 pub label-in : (position label : ℕ) → label < 256 → markLabel (mark position label) ≡ label
 label-in position label l = omega arith

@@ -21,10 +21,10 @@ use Rattle.grid.specs.Grid.{at, numIndices, size, blockOf}
 use Rattle.place.proofs.BlocksOfGrid.{blocksOf, back-shift, back-below, block-agrees, block-own, near-block, next-agrees, previous-agrees}
 use Rattle.place.specs.Demand.{Accepted}
 use Rattle.place.specs.Problem.{Problem}
-use Rattle.moves.specs.Mask.{bit}
-use Rattle.moves.specs.Ready.{IsRound, testedBefore}
-use Rattle.moves.specs.Step.{Round, State, sourceIn, firstMet, firstOutside, source, firstOutsideOrZero, isFilled, changedBefore}
-use Rattle.moves.proofs.Describes.{Describes}
+use Rattle.rules.specs.Mask.{bit}
+use Rattle.rules.specs.Ready.{IsRound, testedBefore}
+use Rattle.rules.specs.Step.{Round, State, sourceIn, firstMet, firstOutside, source, firstOutsideOrZero, isFilled, changedBefore}
+use Rattle.rules.proofs.Describes.{Describes}
 
 -- going from h by g, the n-th index is the first at which the test holds
 pub record FirstAt (g : ℕ → ℕ) (q : ℕ → Bool) (h n : ℕ) : Type 0 where

@@ -9,8 +9,8 @@ use lib.Dec.{eqb, ltb}
 use native.Mathlib.Omega.{arith}
 use Rattle.combinatorics.proofs.Basics.{same-or, before-or-not}
 use Rattle.grid.specs.Grid.{at}
-use Rattle.moves.proofs.Masks.{bit-with, bit-none}
-use Rattle.moves.specs.Mask.{bit, withIndex}
+use Rattle.rules.proofs.Masks.{bit-with, bit-none}
+use Rattle.rules.specs.Mask.{bit, withIndex}
 
 -- the mask has the indices below h at which y is 0
 abbrev pub ZerosBelow : List ℕ → ℕ → ℕ → Type 0

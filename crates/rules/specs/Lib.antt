@@ -1,0 +1,4 @@
+pub mod Mask
+pub mod Step
+pub mod Ready
+pub mod Read
