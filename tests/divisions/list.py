@@ -1,6 +1,7 @@
 #!/usr/bin/env python3
-"""The divisions and remainders left in each crate, read off the code that `rt mir` prints, with the reason for each. It fails where a function that finds a
-position, prepares for it or reads what is kept of it has one, and where a function has one without a reason.
+"""The divisions and remainders left in each crate, read off the code that `rt mir` prints, with the reason for each. It
+fails where a crate that finds positions, prepares for them or reads what is kept of them has one, and where a function
+of another has one without a reason.
 
     tests/divisions/list.py [CRATE ..]     all crates of crates.txt if none is named
 """
@@ -15,6 +16,10 @@ ROOT = pathlib.Path(__file__).resolve().parents[2]
 WITHOUT = ["positions", "moves", "marks", "finder"]
 
 REASONS = {
+    "losses::expected::weigh_block": "how long a row of a loss table is",
+    "slip::layout::stands": "one bit of the slip's first byte",
+    "sheet::centre::centre": "the centre in ten-thousandths, fractions cut off",
+    "sheet::number::decimal": "a number's decimal digits",
 }
 
 
@@ -47,7 +52,7 @@ def main():
         for name, (divisions, remainders) in sorted(found.items()):
             reason = REASONS.get(name)
             if crate in WITHOUT:
-                reason, bad = "NOT ALLOWED: a position is found here", bad + 1
+                reason, bad = "NOT ALLOWED: positions are found here", bad + 1
             elif reason is None:
                 reason, bad = "NO REASON GIVEN", bad + 1
             print(f"{name}: {divisions} divisions, {remainders} remainders: {reason}")

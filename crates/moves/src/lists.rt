@@ -26,14 +26,14 @@ pub fn index_at(order: &[u32; 16], n: usize, e: usize) -> usize
 pub fn label_in(mark: u32) -> u32
     ensures { λ r. ⌜ r ≡ markLabel mark ⌝ }
 {
-    mark % 256
+    mark & 255
 }
 
 // The position in a mark.
 fn position_in(mark: u32) -> usize
     ensures { λ r. ⌜ (r ≡ markPosition mark) × (r < 16777216) ⌝ }
 {
-    wide32(mark / 256)
+    wide32(mark >> 8)
 }
 
 // The position in mark i of the first n + 1.

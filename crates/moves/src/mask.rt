@@ -8,7 +8,7 @@ pub fn has(mask: u16, h: usize) -> bool
     requires { ⌜ h < 16 ⌝ }
     ensures { λ r. ⌜ r ≡ bit mask h ⌝ }
 {
-    (mask >> h) % 2 == 1
+    (mask >> h) & 1 == 1
 }
 
 // The set with index h.

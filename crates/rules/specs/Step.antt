@@ -1,4 +1,4 @@
--- The state of a run and one move, on lists: what the functions of this crate compute. The run's own promise does not
+-- The state of a run and one move, on lists: what the functions of `moves` compute. The run's own promise does not
 -- cite it: proofs/ shows that these moves follow the path of document 01. Assumes nothing.
 use mathlib.Core.Bool.{Bool, true, false, not, _&&_, _||_, cond}
 use mathlib.Core.List.{List, [], _∷_, map}

@@ -4,18 +4,13 @@ use borrow.Author.Needs.{needs}
 use Rattle.rules.specs.Mask.{withoutIndex}
 use Rattle.moves.proofs.mask.without.Statement.{statement}
 use Rattle.moves.proofs.mask.without.Tie as tie
-use Rattle.moves.proofs.mask.without.Reads as reads
-use Rattle.moves.proofs.mask.without.Lts as lts
 
--- src/masks.rt:27:22
 cast-result : tie.Need-cast-result
 cast-result c = search needs
 
--- src/masks.rt:27:14
 shl-result : tie.Need-shl-result
 shl-result c = search needs
 
--- src/masks.rt:23:1
 returns : tie.Need-returns
 unfolding withoutIndex
 returns c = refl
