@@ -2,8 +2,8 @@
  * refusals are theirs; the promises below are proved (crates/exports).
  *
  * Each array is lent for the time of the call; its pointer is not null, even at length 0, and it overlaps no array that is written to. A call writes
- * only to what is lent without `const`, at the front; what stands behind stays. A refusal writes nothing, except that number 9 gives the places. No call
- * keeps anything or fails to return. */
+ * only to what is lent without `const`, at the front; what stands behind stays. A refusal writes nothing, except that number 9 gives the places, and
+ * that a slip which is refused has a sheet too. No call keeps anything or fails to return. */
 #ifndef LEVERETPLATE_H
 #define LEVERETPLATE_H
 

@@ -13,13 +13,15 @@ import sys
 ROOT = pathlib.Path(__file__).resolve().parents[2]
 
 # the crates that find a point's position, prepare for it and read what is kept of it
-WITHOUT = ["positions", "moves", "marks", "finder"]
+WITHOUT = ["positions", "rules", "moves", "marks", "finder"]
 
 REASONS = {
     "losses::expected::weigh_block": "how long a row of a loss table is",
-    "slip::layout::stands": "one bit of the slip's first byte",
-    "sheet::centre::centre": "the centre in ten-thousandths, fractions cut off",
-    "sheet::number::decimal": "a number's decimal digits",
+    "slip::brought": "how many losses of two bytes a slip brings",
+    "slip::fields::stands": "one bit of the slip's first byte",
+    "rounding::centre": "the centre in ten-thousandths, rounded",
+    "text::decimal": "a number's decimal digits",
+    "shelf_cases::entry": "a program of the tests, which reads an entry of 16 bits",
 }
 
 

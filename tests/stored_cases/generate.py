@@ -1,5 +1,5 @@
 #!/usr/bin/env python3
-"""Makes the input and the expected output of the programs stored_cases, run_cases and shelf_cases from the cases in this folder.
+"""Makes the input and the expected output of the programs stored_cases, exported_calls and shelf_cases from the cases in this folder.
 
 Each case is a text of lines. `call` says what is called. A slip is given in hexadecimal, or by its fields; `60000x2` stands for 60,000 times 2, and
 `-` for a field that is not there. The lines behind `expect`, up to `later`, are the sheet. A shelf's calls stand in `file`, `ask` or `script`; behind
@@ -34,11 +34,12 @@ def little(values, size):
 def slip(fields):
     if "slip" in fields:
         return bytes.fromhex(fields["slip"])
-    there = [fields.get(name, "-") != "-" for name in ("start", "budget", "labels", "game")]
+    names = ("start", "budget", "labels", "game", "losses")
+    there = [fields.get(name, "-") != "-" for name in names]
     sizes = list(numbers(fields["sizes"]))
     out = bytes([sum(bit << k for k, bit in enumerate(there)), len(sizes), *sizes])
     out += little(numbers(fields["d"]), 2)
-    for name, size, bit in zip(("start", "budget", "labels", "game"), (2, 8, 1, 1), there):
+    for name, size, bit in zip(names, (2, 8, 1, 1, 2), there):
         if bit:
             out += little(numbers(fields[name]), size)
     return out
@@ -65,8 +66,51 @@ def write_slips(chosen):
     (CRATES / "stored_cases" / "stdout").write_text(text)
 
 
-def write_runs(chosen):
-    (CRATES / "run_cases" / "stdout").write_text("".join(expect for _, expect in chosen))
+def counted(values, count_size, size):
+    values = list(values)
+    return len(values).to_bytes(count_size, "little") + little(values, size)
+
+
+def run_call(fields):
+    """A run, and at an end the lines of the whole answer buffer: the vertices, and 0 for the room behind them."""
+    room = int(fields["answer"])
+    data = b"\0" + counted(numbers(fields["sizes"]), 1, 1) + counted(numbers(fields["d"]), 1, 2)
+    data += counted(numbers(fields["start"]), 1, 2) + counted(numbers(fields["labels"]), 2, 1)
+    return data + room.to_bytes(2, "little") + int(fields["budget"]).to_bytes(8, "little")
+
+
+def label_call(fields):
+    data = counted(numbers(fields["sizes"]), 1, 1) + counted(numbers(fields["d"]), 1, 2)
+    table = b"\1" + data + counted(numbers(fields["losses"]), 2, 2) if "losses" in fields else None
+    game = None if table else b"\2" + data + bytes([int(fields["game"])])
+    return (table or game) + int(fields["buffer"]).to_bytes(2, "little")
+
+
+def as_run(fields, expect):
+    """A slip with a start and labels as a run with exactly the room that question 8 asks, in the exported call's numbers for the kind of end."""
+    m = len(list(numbers(fields["start"])))
+    rows = m - len(list(numbers(fields["sizes"]))) + 1
+    lines = [line for line in expect.splitlines() if not line.startswith(("bound", "centre"))]
+    if "vertices" in expect:
+        lines += [" ".join("0" * m)] * (rows - int(re.search(r"vertices (\d+)", expect)[1]))
+    kinds = {"end place": "kind 0", "end facet": "kind 1"}
+    text = "".join(kinds.get(line, line) + "\n" for line in lines)
+    budget = fields.get("budget", "-")
+    return {**fields, "answer": rows * m, "budget": 2**63 if budget == "-" else budget}, text
+
+
+def with_count(expect):
+    return f"count {len(expect.split()) - 1}\n{expect}" if expect.startswith("labels") else expect
+
+
+def write_calls(chosen):
+    data = len(chosen).to_bytes(2, "little")
+    text = ""
+    for number, (call, expect) in enumerate(chosen, 1):
+        data += call
+        text += f"call {number}\n{expect}"
+    (CRATES / "exported_calls" / "stdin").write_bytes(data)
+    (CRATES / "exported_calls" / "stdout").write_text(text)
 
 
 def row(values):
@@ -106,5 +150,9 @@ def write_shelves(chosen):
 
 everything = list(cases())
 write_slips([c for c in everything if c[0]["call"] == "slip"])
-write_runs([c for c in everything if c[0]["call"] == "run"])
 write_shelves([c for c in everything if c[0]["call"] == "shelf"])
+calls = [(run_call(f), e) for f, e in everything if f["call"] == "run"]
+ends = [(f, e) for f, e in everything if f.get("name", "").startswith("end ") and f.get("start", "-") != "-"]
+calls += [(run_call(f), e) for f, e in (as_run(f, e) for f, e in ends)]
+calls += [(label_call(f), with_count(e)) for f, e in everything if f["call"] == "label"]
+write_calls(calls)

@@ -1,4 +1,5 @@
-// The calls for programs in C and Rust, under the names that the static library defines. Each only names a case of an enum by a number.
+// The calls for programs in C and Rust, under the names that the static library defines. Each only names a case of an
+// enum by a number.
 ghost use mathlib.Core.Path.{_≡_};
 ghost use Prim.Native.Nat.{_≤_};
 ghost use lib.ListN.{length};
@@ -50,8 +51,8 @@ fn put_answer(answer: Answer, facts: &mut [u64]) -> u8
     }
 }
 
-// The run on a label table: 0 at an end, else the refusal's number. The facts are the places, the kind of end (0 place, 1 facet), the block and the
-// number of vertices; of the refusals only 9 writes one, the places.
+// The run on a label table: 0 at an end, else the refusal's number. The facts are the places, the kind of end (0 place,
+// 1 facet), the block and the number of vertices; of the refusals only 9 writes one, the places.
 #[no_mangle]
 pub extern "C" fn leveretplate_run(
     sizes: &[u8],
@@ -62,9 +63,16 @@ pub extern "C" fn leveretplate_run(
     budget: u64,
     facts: &mut [u64; 4],
 ) -> u8
-    ensures number { λ r. ⌜ r ≡ runNumber (runAnswer (problemOf (now (sizes .entry)) (now (divisions .entry)) (now (start .entry)) (now (labels .entry))) (length (now (answer .entry))) budget) ⌝ }
-    ensures facts { λ _. ⌜ now (facts .exit) ≡ front (runFacts (runAnswer (problemOf (now (sizes .entry)) (now (divisions .entry)) (now (start .entry)) (now (labels .entry))) (length (now (answer .entry))) budget)) (now (facts .entry)) ⌝ }
-    ensures buffer { λ _. ⌜ now (answer .exit) ≡ runBuffer (problemOf (now (sizes .entry)) (now (divisions .entry)) (now (start .entry)) (now (labels .entry))) budget (now (answer .entry)) ⌝ }
+    ensures number { λ r. ⌜ (let p = problemOf
+        (now (sizes .entry)) (now (divisions .entry)) (now (start .entry)) (now (labels .entry)) in
+        r ≡ runNumber (runAnswer p (length (now (answer .entry))) budget)) ⌝ }
+    ensures facts { λ _. ⌜ (let p = problemOf
+        (now (sizes .entry)) (now (divisions .entry)) (now (start .entry)) (now (labels .entry)) in
+        let found = runAnswer p (length (now (answer .entry))) budget in
+        now (facts .exit) ≡ front (runFacts found) (now (facts .entry))) ⌝ }
+    ensures buffer { λ _. ⌜ (let p = problemOf
+        (now (sizes .entry)) (now (divisions .entry)) (now (start .entry)) (now (labels .entry)) in
+        now (answer .exit) ≡ runBuffer p budget (now (answer .entry))) ⌝ }
 {
     let found = finder::run(sizes, divisions, start, labels, answer, budget);
     put_answer(found, facts)
@@ -79,9 +87,13 @@ pub extern "C" fn leveretplate_label(
     labels: &mut [u8],
     count: &mut u64,
 ) -> u8
-    ensures number { λ r. ⌜ r ≡ labelNumber (labelAnswer (now (sizes .entry)) (now (divisions .entry)) (now (losses .entry)) (now (labels .entry))) ⌝ }
-    ensures count { λ _. ⌜ now (count .exit) ≡ labelCount (labelAnswer (now (sizes .entry)) (now (divisions .entry)) (now (losses .entry)) (now (labels .entry))) (now (count .entry)) ⌝ }
-    ensures buffer { λ _. ⌜ now (labels .exit) ≡ labelBuffer (now (sizes .entry)) (now (divisions .entry)) (now (losses .entry)) (now (labels .entry)) ⌝ }
+    ensures number { λ r. ⌜ r ≡ labelNumber (labelAnswer
+        (now (sizes .entry)) (now (divisions .entry)) (now (losses .entry)) (now (labels .entry))) ⌝ }
+    ensures count { λ _. ⌜ now (count .exit) ≡ labelCount (labelAnswer
+        (now (sizes .entry)) (now (divisions .entry)) (now (losses .entry)) (now (labels .entry)))
+        (now (count .entry)) ⌝ }
+    ensures buffer { λ _. ⌜ now (labels .exit) ≡ labelBuffer
+        (now (sizes .entry)) (now (divisions .entry)) (now (losses .entry)) (now (labels .entry)) ⌝ }
 {
     match games::label(sizes, divisions, losses, labels) {
         Labelled::Refused(number) => number,
@@ -95,7 +107,8 @@ pub extern "C" fn leveretplate_label(
 // The sheet of a slip: its length.
 #[no_mangle]
 pub extern "C" fn leveretplate_sheet(slip: &[u8], sheet: &mut [u8; 4096]) -> usize
-    ensures { λ r. ⌜ (r ≡ length (sheetOf (now (slip .entry)))) × (now (sheet .exit) ≡ front (sheetOf (now (slip .entry))) (now (sheet .entry))) ⌝ }
+    ensures { λ r. ⌜ (r ≡ length (sheetOf (now (slip .entry))))
+        × (now (sheet .exit) ≡ front (sheetOf (now (slip .entry))) (now (sheet .entry))) ⌝ }
 {
     printer::print(slip, sheet)
 }

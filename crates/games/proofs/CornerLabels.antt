@@ -1,4 +1,4 @@
--- The label of a point out of the differences at its corners, as the functions are lent them. Assumes nothing.
+-- The label of a point out of the differences at its corners, as the functions are lentMix them. Assumes nothing.
 use mathlib.Core.List.{List}
 use mathlib.Core.Path.{_≡_, sym, ap, _∙_, subst}
 use Prim.Native.Nat.{ℕ, suc, _-_, _≤_, _<_}
@@ -9,38 +9,39 @@ use native.Mathlib.Omega.{arith}
 use Rattle.combinatorics.specs.Lists.{upFrom}
 use Rattle.grid.proofs.Accepted.{Accepted, accepted}
 use Rattle.grid.specs.Grid.{Grid, Point, numIndices, size, firstIndex}
-use Rattle.games.proofs.CornerLosses.{last-ends, own-part, corner-drawn, difference-column}
+use Rattle.games.proofs.CornerLosses.{last-ends, own-part, corner-point, difference-column}
 use Rattle.games.proofs.FirstLargest.{largest-agree}
-use Rattle.losses.proofs.Players.{point-length, length-mix}
-use Rattle.games.specs.Corners.{column, Low, lastPlayer, corner, cornerGrid, Cornered}
+use Rattle.points_in_order.proofs.Blocks.{point-length, block-length}
+use Rattle.games.specs.Corners.{column, RowsToAdd, lastPlayer, corner, cornerGrid, Cornered}
 use Rattle.losses.specs.Game.{mix, difference, firstLargest, label}
-use Rattle.losses.specs.Known.{gridOf, Drawn}
+use Rattle.grid.specs.Build.{lent}
+use Rattle.points_in_order.specs.Lent.{PointWithFirsts}
 
-module _ (g : Grid) (firsts losses ones : List ℕ) (e : ones ≡ set (g .divisions) (lastPlayer g) 1) (y : Point) (d : Drawn g firsts y) where
-  pub corners-drawn : (k : ℕ) → k < size g (lastPlayer g) → Drawn (gridOf (g .sizes) ones) firsts (corner g y k)
-  corners-drawn = subst (λ (o : List ℕ). (k : ℕ) → k < size g (lastPlayer g) → Drawn (gridOf (g .sizes) o) firsts (corner g y k)) (sym e) (corner-drawn g firsts y d)
+module _ (g : Grid) (firsts losses ones : List ℕ) (e : ones ≡ set (g .divisions) (lastPlayer g) 1) (y : Point) (d : PointWithFirsts g firsts y) where
+  pub corner-points : (k : ℕ) → k < size g (lastPlayer g) → PointWithFirsts (lent (g .sizes) ones) firsts (corner g y k)
+  corner-points = subst (λ (o : List ℕ). (k : ℕ) → k < size g (lastPlayer g) → PointWithFirsts (lent (g .sizes) o) firsts (corner g y k)) (sym e) (corner-point g firsts y d)
 
-  module _ (differences : List ℤ) (stand : Cornered (gridOf (g .sizes) ones) losses y (size g (lastPlayer g)) differences) (first : ℕ) (f : first ≡ firstIndex g (lastPlayer g)) where
+  module _ (differences : List ℤ) (stand : Cornered (lent (g .sizes) ones) losses y (size g (lastPlayer g)) differences) (first : ℕ) (f : first ≡ firstIndex g (lastPlayer g)) where
     abbrev yes : Accepted g
-    yes = accepted g (d .laid .asked)
+    yes = accepted g (d .grid .accepted)
 
-    -- the part of the point that is lent
-    abbrev lent : List ℕ
-    lent = take (length y - first) (drop first y)
+    -- the part of the point that is lentMix
+    abbrev lentMix : List ℕ
+    lentMix = take (length y - first) (drop first y)
 
-    own : lent ≡ mix g y (lastPlayer g)
+    own : lentMix ≡ mix g y (lastPlayer g)
     own =
         take-all (length y - first) (drop first y) (omega (arith, length-drop first y))
         ∙ ap (λ (n : ℕ). drop n y) f
         ∙ sym (own-part g (yes .someBlock) y (point-length g yes y (d .isPoint)))
 
-    pub lent-few : length lent ≤ 16
-    lent-few = rw own (omega (arith, length-mix g y (lastPlayer g), last-ends g (yes .someBlock), yes .fewIndices))
+    lent-few : length lentMix ≤ 16
+    lent-few = rw own (omega (arith, block-length g y (lastPlayer g), last-ends g (yes .someBlock), yes .fewIndices))
 
-    pub lent-low : Low (length lent) (numIndices g) differences
-    lent-low = rw (own, length-mix g y (lastPlayer g)) (stand .low)
+    pub lent-rows : length differences ≡ 256 → RowsToAdd lentMix differences (numIndices g)
+    lent-rows whole = record { fewRows = lent-few; few = yes .fewIndices; whole = whole; low = rw (own, block-length g y (lastPlayer g)) (stand .low) }
 
-    pub lent-label : suc (firstLargest (column lent differences) (upFrom 0 (numIndices g))) ≡ label g losses y
+    pub lent-label : suc (firstLargest (column lentMix differences) (upFrom 0 (numIndices g))) ≡ label g losses y
     unfolding label
     lent-label =
         let corners : Cornered (cornerGrid g) losses y (size g (lastPlayer g)) differences = rw e at stand in

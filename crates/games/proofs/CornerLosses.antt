@@ -3,7 +3,7 @@ use mathlib.Core.Bool.{true, not}
 use mathlib.Core.List.{List, [], _∷_, _++_, map, append-nil}
 use mathlib.Core.Logic.{⊎-elim}
 use mathlib.Core.Path.{_≡_, refl, sym, ap, _∙_, subst}
-use Prim.Native.Nat.{ℕ, zero, suc, _+_, _-_, _*_, _≤_, _<_, pred}
+use Prim.Native.Nat.{ℕ, zero, suc, _+_, _*_, _≤_, _<_, pred}
 use borrow.Author.Tests.{eq-eqb, ne-eqb, le-leb, leb-true, lt-ltb, ltb-true}
 use lib.Dec.{eqb, leb, ltb}
 use lib.IntN.{ℤ, natAbs}
@@ -28,13 +28,13 @@ use Rattle.grid.proofs.Round.{Seat, seat, block-spans}
 use Rattle.grid.specs.Grid.{Grid, Point, at, blockOf, numBlocks, numIndices, numPoints, binomialProduct, size, division, firstIndex, blocks, isGridPoint}
 use Rattle.grid.specs.Questions.{gridQuestions}
 use Rattle.games.proofs.Blends.{blend-agree, blend-times, blend-same, blend-difference, linear, unit-length}
-use Rattle.losses.proofs.Players.{at-part, point-length, mix-sum, length-mix}
+use Rattle.points_in_order.proofs.Blocks.{at-part, point-length, block-sum, block-length}
 use Rattle.losses.proofs.Replaced.{mix-lengths, expected-weights, replaced-is}
 use Rattle.games.proofs.Rows.{part-before, part-within}
 use Rattle.losses.proofs.Weights.{length-weights, weighed-at}
 use Rattle.games.specs.Corners.{blend, entry, column, lastPlayer, unit, corner, cornerGrid, Cornered}
 use Rattle.losses.specs.Game.{product, dot, mix, opponents, ownFirst, lossesOf, expectedLoss, replacedLoss, playerLoss, difference}
-use Rattle.losses.specs.Known.{Drawn}
+use Rattle.points_in_order.specs.Lent.{PointWithFirsts}
 use Rattle.losses.specs.Weights.{weights, strategyLosses}
 
 -- a block ends where a later one begins, or before
@@ -106,7 +106,7 @@ module _ (g : Grid) (some : 1 ≤ numBlocks g) where
     split-blend is js t a b =
         ap (λ (l : List (List ℕ)). dot (weights l) t) (map-append (mix g y) is (last ∷ js))
         ∙ linear (map (mix g y) is) own (map (mix g y) js) t
-        ∙ blend-agree own _ _ (λ k h. sym (rw (map-append, corner-last k, outer-mixes k is a, outer-mixes k js b, length-mix g y last)))
+        ∙ blend-agree own _ _ (λ k h. sym (rw (map-append, corner-last k, outer-mixes k is a, outer-mixes k js b, block-length g y last)))
 
     players-blend : (ps is js : List ℕ) (t : List ℕ) → ps ≡ is ++ last ∷ js → all (λ i. ltb i last) is ≡ true → all (λ i. ltb i last) js ≡ true
         → dot (weights (map (mix g y) ps)) t ≡ blend own (λ k. dot (weights (map (mix g (corner g y k)) ps)) t)
@@ -192,14 +192,14 @@ corner-asked g a =
       le-leb (numPoints (cornerGrid g)) 60000 few,
     )
 
-module _ (g : Grid) (firsts : List ℕ) (y : Point) (d : Drawn g firsts y) where
+module _ (g : Grid) (firsts : List ℕ) (y : Point) (d : PointWithFirsts g firsts y) where
   abbrev yes : Accepted g
-  yes = accepted g (d .laid .asked)
+  yes = accepted g (d .grid .accepted)
 
-  pub corner-drawn : (k : ℕ) → k < size g (lastPlayer g) → Drawn (cornerGrid g) firsts (corner g y k)
+  pub corner-point : (k : ℕ) → k < size g (lastPlayer g) → PointWithFirsts (cornerGrid g) firsts (corner g y k)
   unfolding isGridPoint
-  corner-drawn k h = record {
-    laid = record { asked = corner-asked g yes; known = d .laid .known };
+  corner-point k h = record {
+    grid = record { accepted = corner-asked g yes; first = d .grid .first };
     isPoint = and-both _ _ (eq-eqb _ _ (corner-length g (yes .someBlock) y whole k)) (in-all onNumbers _ (blocks g) (λ i m. eq-eqb _ _ (⊎-elim (at-last i) (other i (upFrom-in 0 (numBlocks g) i m .1)) (same-or i (lastPlayer g)))));
   }
     where
@@ -211,7 +211,7 @@ module _ (g : Grid) (firsts : List ℕ) (y : Point) (d : Drawn g firsts y) where
 
       other : (i : ℕ) → i < 0 + numBlocks g → (i ≡ lastPlayer g → ⊥) → sum (mix g (corner g y k) i) ≡ division (cornerGrid g) i
       other i l n =
-          rw (corner-other g (yes .someBlock) y whole k i (omega arith), getD-set-other (g .divisions) (lastPlayer g) i 1 0 n) (mix-sum g yes y (d .isPoint) i (omega arith))
+          rw (corner-other g (yes .someBlock) y whole k i (omega arith), getD-set-other (g .divisions) (lastPlayer g) i 1 0 n) (block-sum g yes y (d .isPoint) i (omega arith))
 
   -- the difference at the point, in a column of the differences at the corners
   pub difference-column : (losses : List ℕ) (differences : List ℤ) → Cornered (cornerGrid g) losses y (size g (lastPlayer g)) differences → (h : ℕ) → h < numIndices g
@@ -221,9 +221,9 @@ module _ (g : Grid) (firsts : List ℕ) (y : Point) (d : Drawn g firsts y) where
       let long = point-length g yes y (d .isPoint) in
       let p : playerLoss g losses y h ≡ blend (mix g y (lastPlayer g)) (λ k. playerLoss (cornerGrid g) losses (corner g y k) h) = expected-blend g (yes .someBlock) y long losses (blockOf g h) (block-spans (g .sizes) h inside .0) in
       let q : replacedLoss g losses y h ≡ blend (mix g y (lastPlayer g)) (λ k. replacedLoss (cornerGrid g) losses (corner g y k) h) =
-      rw (place .is) (replaced-blend g (yes .someBlock) y long losses (place .j) (place .i) (place .inside) (omega (arith, yes .sameNumber, yes .someBlock)) (mix-sum g yes y (d .isPoint) (lastPlayer g) (omega (arith, yes .someBlock))))
+      rw (place .is) (replaced-blend g (yes .someBlock) y long losses (place .j) (place .i) (place .inside) (omega (arith, yes .sameNumber, yes .someBlock)) (block-sum g yes y (d .isPoint) (lastPlayer g) (omega (arith, yes .someBlock))))
       in
-      rw (p, q) (blend-difference (mix g y (lastPlayer g)) _ _ _ (λ k l. w .differenceAt k h (omega (arith, length-mix g y (lastPlayer g))) inside))
+      rw (p, q) (blend-difference (mix g y (lastPlayer g)) _ _ _ (λ k l. w .differenceAt k h (omega (arith, block-length g y (lastPlayer g))) inside))
 
 -- the array that holds a corner
 take-zeros : (s n : ℕ) → s ≤ n → take {A = ℕ} s (replicate n 0) ≡ replicate s 0

@@ -1,11 +1,8 @@
 pub mod Integers
 pub mod Blends
 pub mod Rows
-pub mod PointAfter
 pub mod FirstLargest
 pub mod CornerLosses
 pub mod CornerLabels
 pub mod AllLabels
 pub mod Outcomes
-pub mod Games
-pub mod Worked

@@ -1,24 +1,54 @@
 -- What each outcome of the questions makes of the answer and of the buffer. Assumes nothing.
-use mathlib.Core.Bool.{true, false}
-use mathlib.Core.List.{List, [], _∷_}
+use mathlib.Core.Bool.{Bool, true, false, cond}
+use mathlib.Core.List.{List, [], _∷_, _++_}
 use mathlib.Core.Path.{_≡_, refl, sym, ap, _∙_}
-use Prim.Native.Nat.{ℕ, _*_}
-use borrow.Author.Tests.{eq-eqb, ne-eqb}
-use lib.ListN.{length, take}
+use Prim.Native.Nat.{ℕ, _*_, _≤_, _<_}
+use borrow.Author.Tests.{eq-eqb, ne-eqb, ltb-true}
+use lib.Dec.{ltb}
+use lib.ListN.{length, replicate}
 use native.Mathlib.Omega.{arith}
+use Rattle.combinatorics.proofs.Basics.{and-left, and-right}
+use Rattle.combinatorics.proofs.Fronts.{front-length}
 use Rattle.combinatorics.specs.Front.{front}
 use Rattle.combinatorics.specs.Lists.{all}
-use Rattle.questions.proofs.Answers.{asked-next}
+use Rattle.grid.proofs.Fields.{made-accepted, blocks-range, made-is, made-shape, made-blocks, made-first, made-points}
+use Rattle.grid.specs.Grid.{Grid, numBlocks, numPoints}
+use Rattle.grid.specs.Made.{madeOf, gridOf, IsMade, shape}
 use Rattle.questions.specs.Questions.{Question, firstNo}
-use Rattle.grid.proofs.Fields.{made-code, made-is, made-shape, made-blocks, made-first, made-points, made-indices}
-use Rattle.grid.specs.Grid.{Grid, numBlocks, numIndices, numPoints, firstIndex}
-use Rattle.grid.specs.Made.{madeOf, shape}
 use Rattle.grid.specs.Questions.{gridQuestions}
+use Rattle.grid.specs.declared.Grid.{Grid as GridStruct}
 use Rattle.grid.specs.declared.Made.{Made}
 use Rattle.losses.specs.Game.{product, labels}
-use Rattle.losses.specs.Known.{inRange, Laid}
-use Rattle.games.specs.Labelling.{question10, question11, question12, labelQuestions, labelledOf, leftIn}
+use Rattle.losses.specs.Table.{question10, question11, inRange}
+use Rattle.points_in_order.specs.Lent.{WithFirsts}
+use Rattle.games.specs.Labelling.{question12, labelQuestions, labelledOf, leftIn}
 use Rattle.games.specs.declared.Labelled.the-variants.{Refused, Written}
+
+-- questions answered yes, and what is asked after them
+abbrev numbered : List Question → Bool
+numbered qs = all (λ q. ltb 0 (q .number)) qs
+
+pub asked-next : (qs rs : List Question) → numbered qs ≡ true → firstNo qs ≡ 0 → firstNo (qs ++ rs) ≡ firstNo rs
+unfolding firstNo
+asked-next [] rs a e = refl
+asked-next (q ∷ qs) rs a e = go (q .answeredYes) e (asked-next qs rs (and-right (ltb 0 (q .number)) (numbered qs) a))
+  where
+    some : 0 < q .number
+    some = ltb-true 0 (q .number) (and-left (ltb 0 (q .number)) (numbered qs) a)
+
+    go : (b : Bool) → cond b (firstNo qs) (q .number) ≡ 0 → (firstNo qs ≡ 0 → firstNo (qs ++ rs) ≡ firstNo rs) → cond b (firstNo (qs ++ rs)) (q .number) ≡ firstNo rs
+    go true e i = i e
+    go false e i = absurd (omega (arith, some))
+
+-- a question answered no, whatever is asked after it
+pub asked-no : (qs rs : List Question) (n : ℕ) → (n ≡ 0 → ⊥) → firstNo qs ≡ n → firstNo (qs ++ rs) ≡ n
+unfolding firstNo
+asked-no [] rs n h e = absurd (h (sym e))
+asked-no (q ∷ qs) rs n h e = go (q .answeredYes) e (asked-no qs rs n h)
+  where
+    go : (b : Bool) → cond b (firstNo qs) (q .number) ≡ n → (firstNo qs ≡ n → firstNo (qs ++ rs) ≡ n) → cond b (firstNo (qs ++ rs)) (q .number) ≡ n
+    go true e i = i e
+    go false e i = e
 
 module _ (g : Grid) (questions : List Question) (losses buffer : List ℕ) where
   pub refused : (n : ℕ) → (n ≡ 0 → ⊥) → firstNo questions ≡ n → (Refused n ≡ labelledOf g questions) × (buffer ≡ leftIn g questions losses buffer)
@@ -51,14 +81,24 @@ module _ (g : Grid) (losses buffer : List ℕ) (a : firstNo (gridQuestions g) �
     unfolding firstNo
     asked-all h n = rest ∙ rw (eq-eqb _ _ e, h, eq-eqb _ _ n)
 
--- what the constructor hands over
-pub made-laid : (g : Grid) (r : Made) → r ≡ madeOf g → r .code ≡ 0 → Laid g (r .grid .firsts) × (r .grid .points ≡ numPoints g) × (r .grid .indices ≡ numIndices g) × (take (numBlocks g) (r .grid .divisions) ≡ g .divisions)
-made-laid g r is z =
+-- what a struct that the constructor has made holds
+module _ (s : GridStruct) (made : IsMade s) where
+  pub made-firsts : WithFirsts (shape s) (s .firsts)
+  made-firsts = record { accepted = made .accepted; first = λ j h. made-first s made j (omega (arith, made-blocks s made)) }
+
+  -- the numbers of the blocks lie in their arrays
+  pub blocks-room : (s .blocks ≤ length (s .sizes)) × (s .blocks ≤ length (s .divisions))
+  unfolding gridOf
+  blocks-room =
+      let a = made-accepted s made in
+      let few : length (shape s .divisions) ≤ 6 = omega (arith, a .sameNumber, a .fewBlocks) in
+      let sizes = ap (λ z. length (z .sizes)) (made .made) ∙ front-length (shape s .sizes) (replicate 6 0) (a .fewBlocks) in
+      let divisions = ap (λ z. length (z .divisions)) (made .made) ∙ front-length (shape s .divisions) (replicate 6 0) few in
+      (omega (arith, sizes, blocks-range s made .1), omega (arith, divisions, blocks-range s made .1))
+
+-- and what it answers of sizes and divisions that are lent
+pub made-on : (g : Grid) (r : Made) → r ≡ madeOf g → r .code ≡ 0 → IsMade (r .grid) × (shape (r .grid) ≡ g) × (r .grid .points ≡ numPoints g)
+made-on g r is z =
     let m = made-is g r is z in
-    let e : shape (r .grid) ≡ g = made-shape g r is z in
-    let b : r .grid .blocks ≡ numBlocks g = made-blocks (r .grid) m ∙ ap numBlocks e in (
-      record { asked = sym (made-code g r is) ∙ z; known = λ j h. made-first (r .grid) m j (omega arith) ∙ ap (λ (x : Grid). firstIndex x j) e },
-      made-points (r .grid) m ∙ ap numPoints e,
-      made-indices (r .grid) m ∙ ap numIndices e,
-      ap (λ (n : ℕ). take n (r .grid .divisions)) (sym b) ∙ ap (λ (x : Grid). x .divisions) e,
-    )
+    let e = made-shape g r is z in
+    (m, e, made-points (r .grid) m ∙ ap numPoints e)

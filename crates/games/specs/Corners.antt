@@ -2,12 +2,14 @@
 -- in that mix, so they are weighed once for all points that differ only there. The promises of a labelling do not cite this. Assumes nothing.
 use mathlib.Core.List.{List, [], _∷_, _++_}
 use mathlib.Core.Path.{_≡_}
-use Prim.Native.Nat.{ℕ, suc, _+_, _-_, _*_, _<_}
+use Prim.Native.Nat.{ℕ, suc, _+_, _-_, _*_, _≤_, _<_}
 use lib.IntN.{ℤ, pos, natAbs, _+ℤ_, _*ℤ_}
-use lib.ListN.{getD, take, set, replicate}
-use Rattle.grid.specs.Grid.{Grid, Point, numBlocks, numIndices, size, firstIndex}
-use Rattle.losses.specs.Game.{difference}
-use Rattle.losses.specs.Known.{gridOf}
+use lib.ListN.{length, getD, take, set, replicate}
+use Rattle.grid.specs.Grid.{Grid, Point, numBlocks, numIndices, numPoints, points, size, firstIndex}
+use Rattle.losses.specs.Game.{product, difference}
+use Rattle.losses.specs.Table.{IsTable}
+use Rattle.points_in_order.specs.Lent.{WithFirsts}
+use Rattle.grid.specs.Build.{lent}
 
 -- the sum of f 0, f 1, .. weighed by a mix
 abbrev pub blend : List ℕ → (ℕ → ℕ) → ℕ
@@ -43,9 +45,47 @@ corner g y k = take (firstIndex g (lastPlayer g)) y ++ unit (size g (lastPlayer 
 
 -- the grid with 1 as the last division, whose points the corners are
 abbrev pub cornerGrid : Grid → Grid
-cornerGrid g = gridOf (g .sizes) (set (g .divisions) (lastPlayer g) 1)
+cornerGrid g = lent (g .sizes) (set (g .divisions) (lastPlayer g) 1)
+
+-- there is a corner for each of the last player's strategies
+abbrev pub numCorners : Grid → ℕ
+numCorners g = size g (lastPlayer g)
 
 -- the differences at the first n corners: row k of the table has those at corner k
 pub record Cornered (g : Grid) (losses : List ℕ) (y : Point) (n : ℕ) (differences : List ℤ) : Type 0 where
   pub differenceAt : (k h : ℕ) → k < n → h < numIndices g → entry differences (k * 16 + h) ≡ difference g losses (corner g y k) h
   pub low : Low n (numIndices g) differences
+
+-- a game with the corners of a point, room for a player's losses, and the table of rows
+pub record CornersToWeigh (g : Grid) (losses : List ℕ) (y : Point) (count : ℕ) (values : List ℕ) (differences : List ℤ) : Type 0 where
+  pub some : 1 ≤ numBlocks g
+  pub table : IsTable g losses
+  pub isCount : count ≡ product (g .sizes)
+  pub room : count ≤ length values
+  pub whole : length y ≡ numIndices g
+  pub rows : length differences ≡ 256
+
+-- rows, a number of the mix for each, whose sums fit 64 bits
+pub record RowsToAdd (mix : List ℕ) (rows : List ℤ) (count : ℕ) : Type 0 where
+  pub fewRows : length mix ≤ 16
+  pub few : count ≤ 16
+  pub whole : length rows ≡ 256
+  pub low : Low (length mix) count rows
+
+-- totals to which x times a row is added, and the sums fit 64 bits
+pub record RowToAdd (totals : List ℤ) (x : ℤ) (row : List ℤ) (count : ℕ) : Type 0 where
+  pub sixteen : length totals ≡ 16
+  pub few : count ≤ 16
+  pub inside : count ≤ length row
+  pub fits : (h : ℕ) → h < count → natAbs (entry totals h) + natAbs x * natAbs (entry row h) < 9223372036854775808
+
+-- a game whose points are labelled from the first on, with the divisions of the corners' grid
+pub record PointsToLabel (g : Grid) (ones firsts losses : List ℕ) (count : ℕ) (point values : List ℕ) (differences : List ℤ) (buffer : List ℕ) : Type 0 where
+  pub grid : WithFirsts g firsts
+  pub onesAre : ones ≡ cornerGrid g .divisions
+  pub table : IsTable g losses
+  pub isCount : count ≡ product (g .sizes)
+  pub room : count ≤ length values
+  pub first : point ≡ getD (points g) 0 []
+  pub rows : length differences ≡ 256
+  pub whole : length buffer ≡ numPoints g

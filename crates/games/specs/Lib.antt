@@ -1,4 +1,2 @@
-pub mod Tables
 pub mod Labelling
 pub mod Corners
-pub mod PointAfter

@@ -1,24 +1,26 @@
-// The labels of points that differ only in the last player's mix, out of the differences at their corners: the points with one
-// strategy in place of that mix. The differences at corner k stand from place 16 k on.
+// The labels of points that differ only in the last player's mix, out of the differences at their corners: the points
+// with one strategy in place of that mix. The differences at corner k stand from position 16 k on.
 ghost use mathlib.Core.Bool.{false};
 ghost use mathlib.Core.Path.{_≡_};
-ghost use Prim.Native.Nat.{ℕ, suc, _+_, _-_, _*_, _≤_, _<_};
-ghost use lib.IntN.{pos, natAbs, _+ℤ_, _*ℤ_};
+ghost use Prim.Native.Nat.{ℕ, suc, _+_, _≤_, _<_};
+ghost use lib.IntN.{pos, _+ℤ_, _*ℤ_};
 ghost use lib.ListN.{length, take, set, replicate};
 ghost use Rattle.combinatorics.specs.Front.{front};
-ghost use Rattle.combinatorics.specs.Lists.{sum, upFrom};
-ghost use Rattle.grid.specs.Grid.{size};
-ghost use Rattle.games.specs.Corners.{entry, column, Low, lastPlayer, corner as cornerOf, Cornered};
-ghost use Rattle.losses.specs.Game.{product, firstLargest};
-ghost use Rattle.losses.specs.Known.{gridOf, Drawn, IsTable};
+ghost use Rattle.combinatorics.specs.Lists.{upFrom};
+ghost use Rattle.games.specs.Corners.{entry, column, corner as cornerOf, numCorners};
+ghost use Rattle.games.specs.Corners.{Cornered, CornersToWeigh, RowToAdd, RowsToAdd};
+ghost use Rattle.losses.specs.Game.{firstLargest};
+ghost use Rattle.grid.specs.Build.{lent};
+ghost use Rattle.points_in_order.specs.Lent.{PointWithFirsts};
 use crate::largest;
 use grid::wide;
 use losses::weigh_point;
 
 // The first numbers of the row, each x times, added to the totals.
 fn add_times(totals: &mut [i64; 16], x: i64, row: &[i64], count: usize)
-    requires { ⌜ (length (now totals) ≡ 16) × (count ≤ 16) × (count ≤ length (now row)) × ((h : ℕ) → h < count → natAbs (entry (now totals) h) + natAbs x * natAbs (entry (now row) h) < 9223372036854775808) ⌝ }
-    ensures { λ _. ⌜ (length (now (totals .exit)) ≡ 16) × ((h : ℕ) → h < count → entry (now (totals .exit)) h ≡ entry (now (totals .entry)) h +ℤ x *ℤ entry (now (row .entry)) h) ⌝ }
+    requires { ⌜ RowToAdd (now totals) x (now row) count ⌝ }
+    ensures { λ _. ⌜ (length (now (totals .exit)) ≡ 16) × ((h : ℕ) → h < count
+        → entry (now (totals .exit)) h ≡ entry (now (totals .entry)) h +ℤ x *ℤ entry (now (row .entry)) h) ⌝ }
 {
     let mut h: usize = 0;
     while h < count {
@@ -28,10 +30,12 @@ fn add_times(totals: &mut [i64; 16], x: i64, row: &[i64], count: usize)
     }
 }
 
-// The rows weighed by the mix, added to totals that are 0. The totals are lent: handed over by value they would be copied.
+// The rows weighed by the mix, added to totals that are 0. The totals are lent: handed over by value they would be
+// copied.
 fn add_rows(totals: &mut [i64; 16], mix: &[u16], rows: &[i64], count: usize)
-    requires { ⌜ (now totals ≡ replicate 16 (pos 0)) × (length (now mix) ≤ 16) × (count ≤ 16) × (length (now rows) ≡ 256) × Low (length (now mix)) count (now rows) ⌝ }
-    ensures { λ _. ⌜ ((h : ℕ) → h < count → entry (now (totals .exit)) h ≡ column (now (mix .entry)) (now (rows .entry)) h) ⌝ }
+    requires { ⌜ (now totals ≡ replicate 16 (pos 0)) × RowsToAdd (now mix) (now rows) count ⌝ }
+    ensures { λ _. ⌜ ((h : ℕ) → h < count
+        → entry (now (totals .exit)) h ≡ column (now (mix .entry)) (now (rows .entry)) h) ⌝ }
 {
     let mut k: usize = 0;
     while k < mix.len() {
@@ -42,8 +46,9 @@ fn add_rows(totals: &mut [i64; 16], mix: &[u16], rows: &[i64], count: usize)
 
 // The label of the point with this mix of the last player.
 pub fn label_point(mix: &[u16], count: usize, differences: &[i64]) -> u8
-    requires { ⌜ (0 < count) × (count ≤ 16) × (length (now mix) ≤ 16) × (length (now differences) ≡ 256) × Low (length (now mix)) count (now differences) ⌝ }
-    ensures { λ r. ⌜ r ≡ suc (firstLargest (column (now (mix .entry)) (now (differences .entry))) (upFrom 0 count)) ⌝ }
+    requires { ⌜ (0 < count) × RowsToAdd (now mix) (now differences) count ⌝ }
+    ensures { λ r. ⌜ (let values = column (now (mix .entry)) (now (differences .entry)) in
+        r ≡ suc (firstLargest values (upFrom 0 count))) ⌝ }
 {
     let mut totals = [0i64; 16];
     add_rows(&mut totals, mix, differences, count);
@@ -77,10 +82,13 @@ fn weigh_corner(
     values: &mut [u32],
     differences: &mut [i64],
 )
-    requires { ⌜ IsTable (gridOf (now sizes) (now ones)) (now losses) × (count ≡ product (now sizes)) × (count ≤ length (now values)) × (length (now differences) ≡ 256) × (length (now point) ≡ sum (now sizes)) × (k < size (gridOf (now sizes) (now ones)) (lastPlayer (gridOf (now sizes) (now ones)))) ⌝ }
-    requires { ⌜ Drawn (gridOf (now sizes) (now ones)) (now firsts) (cornerOf (gridOf (now sizes) (now ones)) (now point) k) ⌝ }
-    requires { ⌜ Cornered (gridOf (now sizes) (now ones)) (now losses) (now point) k (now differences) ⌝ }
-    ensures { λ _. ⌜ Cornered (gridOf (now (sizes .entry)) (now (ones .entry))) (now (losses .entry)) (now (point .entry)) (k + 1) (now (differences .exit)) ⌝ }
+    requires { ⌜ (let g = lent (now sizes) (now ones) in
+        (CornersToWeigh g (now losses) (now point) count (now values) (now differences)
+        × (k < numCorners g)
+        × PointWithFirsts g (now firsts) (cornerOf g (now point) k))) ⌝ }
+    requires { ⌜ Cornered (lent (now sizes) (now ones)) (now losses) (now point) k (now differences) ⌝ }
+    ensures { λ _. ⌜ (let g = lent (now (sizes .entry)) (now (ones .entry)) in
+        Cornered g (now (losses .entry)) (now (point .entry)) (k + 1) (now (differences .exit))) ⌝ }
 {
     let indices = point.len();
     let first = wide(firsts[sizes.len() - 1]);
@@ -102,7 +110,8 @@ fn weigh_corner(
     largest::put_differences(&mut differences[at..at + 16], &expected, &replaced);
 }
 
-// The differences at all corners of the point, which stand there unless the point has changed before the last player's mix.
+// The differences at all corners of the point, which stand there unless the point has changed before the last player's
+// mix.
 pub fn weigh_corners(
     sizes: &[u8],
     ones: &[u16],
@@ -114,10 +123,12 @@ pub fn weigh_corners(
     values: &mut [u32],
     differences: &mut [i64],
 )
-    requires { ⌜ IsTable (gridOf (now sizes) (now ones)) (now losses) × (count ≡ product (now sizes)) × (count ≤ length (now values)) × (length (now differences) ≡ 256) × (length (now point) ≡ sum (now sizes)) × (1 ≤ length (now sizes)) ⌝ }
-    requires { ⌜ ((k : ℕ) → k < size (gridOf (now sizes) (now ones)) (lastPlayer (gridOf (now sizes) (now ones))) → Drawn (gridOf (now sizes) (now ones)) (now firsts) (cornerOf (gridOf (now sizes) (now ones)) (now point) k)) ⌝ }
-    requires { ⌜ (changed ≡ false → Cornered (gridOf (now sizes) (now ones)) (now losses) (now point) (size (gridOf (now sizes) (now ones)) (lastPlayer (gridOf (now sizes) (now ones)))) (now differences)) ⌝ }
-    ensures { λ _. ⌜ Cornered (gridOf (now (sizes .entry)) (now (ones .entry))) (now (losses .entry)) (now (point .entry)) (size (gridOf (now (sizes .entry)) (now (ones .entry))) (lastPlayer (gridOf (now (sizes .entry)) (now (ones .entry))))) (now (differences .exit)) ⌝ }
+    requires { ⌜ (let g = lent (now sizes) (now ones) in
+        (CornersToWeigh g (now losses) (now point) count (now values) (now differences)
+        × ((k : ℕ) → k < numCorners g → PointWithFirsts g (now firsts) (cornerOf g (now point) k))
+        × (changed ≡ false → Cornered g (now losses) (now point) (numCorners g) (now differences)))) ⌝ }
+    ensures { λ _. ⌜ (let g = lent (now (sizes .entry)) (now (ones .entry)) in
+        Cornered g (now (losses .entry)) (now (point .entry)) (numCorners g) (now (differences .exit))) ⌝ }
 {
     if !changed {
         return;

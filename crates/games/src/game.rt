@@ -1,16 +1,17 @@
 // The labels of all points of a game.
-ghost use mathlib.Core.List.{[]};
 ghost use mathlib.Core.Path.{_≡_};
-ghost use Prim.Native.Nat.{_-_, _≤_};
-ghost use lib.ListN.{length, getD, take, set};
+ghost use lib.ListN.{length, take};
 ghost use Rattle.combinatorics.specs.Front.{front};
 ghost use Rattle.combinatorics.specs.Lists.{sum};
-ghost use Rattle.grid.specs.Grid.{points, numPoints};
-ghost use Rattle.losses.specs.Game.{product, labels};
-ghost use Rattle.losses.specs.Known.{gridOf, Laid, IsTable};
+ghost use Rattle.grid.specs.Build.{lent};
+ghost use Rattle.grid.specs.Grid.{numPoints};
+ghost use Rattle.points_in_order.specs.Lent.{WithFirsts};
+ghost use Rattle.losses.specs.Game.{labels};
+ghost use Rattle.losses.specs.Table.{IsTable};
+ghost use Rattle.games.specs.Corners.{PointsToLabel};
 use crate::corners;
-use crate::successor;
 use grid::wide;
+use losses::num_profiles;
 
 // The labels of all points, from the first point on. In ones the last division is 1.
 fn label_points(
@@ -25,9 +26,10 @@ fn label_points(
     differences: &mut [i64],
     buffer: &mut [u8],
 )
-    requires { ⌜ Laid (gridOf (now sizes) (now divisions)) (now firsts) × IsTable (gridOf (now sizes) (now divisions)) (now losses) × (count ≡ product (now sizes)) × (count ≤ length (now values)) × (now point ≡ getD (points (gridOf (now sizes) (now divisions))) 0 []) × (length (now buffer) ≡ numPoints (gridOf (now sizes) (now divisions))) ⌝ }
-    requires { ⌜ (now ones ≡ set (now divisions) (length (now sizes) - 1) 1) × (length (now differences) ≡ 256) ⌝ }
-    ensures { λ _. ⌜ now (buffer .exit) ≡ front (labels (gridOf (now (sizes .entry)) (now (divisions .entry))) (now (losses .entry))) (now (buffer .entry)) ⌝ }
+    requires { ⌜ PointsToLabel (lent (now sizes) (now divisions)) (now ones) (now firsts) (now losses) count
+        (now point) (now values) (now differences) (now buffer) ⌝ }
+    ensures { λ _. ⌜ (let g = lent (now (sizes .entry)) (now (divisions .entry)) in
+        now (buffer .exit) ≡ front (labels g (now (losses .entry))) (now (buffer .entry))) ⌝ }
 {
     let first = wide(firsts[sizes.len() - 1]);
     let indices = point.len();
@@ -47,7 +49,7 @@ fn label_points(
         );
         let label = corners::label_point(&point[first..], indices, differences);
         buffer[k] = label;
-        changed = successor::advance(sizes, firsts, point);
+        changed = points_in_order::advance(sizes, firsts, point);
         k += 1;
     }
 }
@@ -59,21 +61,24 @@ pub fn write_labels(
     padded: [u16; 6],
     firsts: &[u8; 6],
     losses: &[u16],
-    count: usize,
     indices: usize,
     buffer: &mut [u8],
 )
-    requires { ⌜ Laid (gridOf (now sizes) (now divisions)) (now firsts) × IsTable (gridOf (now sizes) (now divisions)) (now losses) × (count ≡ product (now sizes)) × (indices ≡ sum (now sizes)) × (length (now buffer) ≡ numPoints (gridOf (now sizes) (now divisions))) × (take (length (now sizes)) padded ≡ now divisions) ⌝ }
-    ensures { λ _. ⌜ now (buffer .exit) ≡ front (labels (gridOf (now (sizes .entry)) (now (divisions .entry))) (now (losses .entry))) (now (buffer .entry)) ⌝ }
+    requires { ⌜ (let g = lent (now sizes) (now divisions) in
+        (WithFirsts g (now firsts) × IsTable g (now losses) × (length (now buffer) ≡ numPoints g))) ⌝ }
+    requires { ⌜ (indices ≡ sum (now sizes)) × (take (length (now sizes)) padded ≡ now divisions) ⌝ }
+    ensures { λ _. ⌜ (let g = lent (now (sizes .entry)) (now (divisions .entry)) in
+        now (buffer .exit) ≡ front (labels g (now (losses .entry))) (now (buffer .entry))) ⌝ }
 {
     let blocks = sizes.len();
+    let count = num_profiles(sizes);
     let mut ones = padded;
     ones[blocks - 1] = 1;
     let mut point = [0u16; 16];
     // the largest product of sizes that add up to at most 16
     let mut values = [0u32; 324];
     let mut differences = [0i64; 256];
-    successor::first_point(sizes, divisions, firsts, &mut point);
+    points_in_order::first_point(sizes, divisions, firsts, &mut point);
     label_points(
         sizes,
         divisions,

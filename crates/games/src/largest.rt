@@ -17,7 +17,8 @@ fn difference(expected: u32, replaced: u32) -> i64
 // The expected losses less the replaced ones, entry by entry.
 pub fn put_differences(differences: &mut [i64], expected: &[u32; 16], replaced: &[u32; 16])
     requires { ⌜ length (now differences) ≡ 16 ⌝ }
-    ensures { λ _. ⌜ ((h : ℕ) → h < 16 → (entry (now (differences .exit)) h ≡ pos (at (now (expected .entry)) h) -ℤ pos (at (now (replaced .entry)) h)) × (natAbs (entry (now (differences .exit)) h) < 4294967296)) ⌝ }
+    ensures { λ _. ⌜ ((h : ℕ) → h < 16 → (let d = entry (now (differences .exit)) h in
+        ((d ≡ pos (at (now (expected .entry)) h) -ℤ pos (at (now (replaced .entry)) h)) × (natAbs d < 4294967296)))) ⌝ }
 {
     let mut h: usize = 0;
     while h < 16 {

@@ -19,10 +19,12 @@ use Rattle.combinatorics.specs.Front.{front}
 use Rattle.combinatorics.specs.Lists.{all, sum}
 use Rattle.grid.proofs.Accepted.{Accepted, accepted, size-two}
 use Rattle.grid.specs.Grid.{Grid, Point, at, numBlocks, division, size, isGridPoint, blocks}
-use Rattle.losses.proofs.Players.{length-others, product-own, product-append, product-drop, divisions-few, point-length, mix-sum, length-mix}
+use Rattle.losses.proofs.Players.{length-others, product-own, product-append, product-drop, divisions-few}
+use Rattle.points_in_order.proofs.Blocks.{point-length, block-sum, block-length}
 use Rattle.losses.proofs.Weights.{length-weighed, weighed-spread, weighed-front, sum-weights, dot-bound}
 use Rattle.losses.specs.Game.{product, dot, mix, opponents}
-use Rattle.losses.specs.Known.{gridOf, Loaded}
+use Rattle.grid.specs.Build.{lent}
+use Rattle.losses.specs.AtPoint.{PlayerAtPoint, BlockToWeigh}
 use Rattle.losses.specs.Weights.{weighed, weights, fit, strategyLosses}
 
 pub fit-weighed : (n b : ℕ) (u t : List ℕ) → all (λ v. leb v b) t ≡ true → sum u * b < 4294967296 → fit (weighed n u t) ≡ true
@@ -46,7 +48,7 @@ module _ (g : Grid) (j : ℕ) where
   module _ (a : Accepted g) (y : Point) (p : isGridPoint g y ≡ true) (h : j < numBlocks g) where
     opponents-sums : (k : ℕ) → map sum (map (mix g y) (drop k (opponents g j))) ≡ drop k (map (division g) (opponents g j))
     opponents-sums k =
-        map-map sum (mix g y) (drop k (opponents g j)) ∙ map-agree (λ i. ltb i (numBlocks g)) (λ i. sum (mix g y i)) (division g) (drop k (opponents g j)) (all-drop _ k (opponents g j) opponents-below) (λ i b. mix-sum g a y p i (ltb-true i _ b)) ∙ map-drop (division g) k (opponents g j)
+        map-map sum (mix g y) (drop k (opponents g j)) ∙ map-agree (λ i. ltb i (numBlocks g)) (λ i. sum (mix g y i)) (division g) (drop k (opponents g j)) (all-drop _ k (opponents g j) opponents-below) (λ i b. block-sum g a y p i (ltb-true i _ b)) ∙ map-drop (division g) k (opponents g j)
 
     division-one : (i : ℕ) → i < numBlocks g → 1 ≤ division g i
     division-one i b = leb-true 1 _ (at-all (λ d. leb 1 d) (g .divisions) i (a .divisionsOne) (omega (arith, a .sameNumber)))
@@ -81,7 +83,7 @@ module _ (g : Grid) (j : ℕ) where
     expected-fits losses b =
         let d = dot-bound (sum (weights (map (mix g y) (opponents g j))) * 1000) (mix g y j) (strategyLosses g y j losses) (all-strategies (size g j) losses b) in
         let o = own-few in
-        let m = rw (mix-sum g a y p j h) at d in
+        let m = rw (block-sum g a y p j h) at d in
         omega arith
 
     pub replaced-fit : (losses : List ℕ) → all (λ v. leb v 1000) losses ≡ true → fit (map (λ v. division g j * v) (strategyLosses g y j losses)) ≡ true
@@ -93,7 +95,7 @@ pub weigh-turn : (g : Grid) (j : ℕ) (y : Point) (k rows more : ℕ) (losses va
     → weighed rows (mix g y (getD (opponents g j) k 0)) values ≡ weighed rows (weights (map (mix g y) (drop k (opponents g j)))) losses
 weigh-turn g j y k rows more losses values h e room w =
     let x : List ℕ = mix g y (getD (opponents g j) k 0) in
-    let f : rows * length x ≡ more = rw (length-mix g y (getD (opponents g j) k 0)) (sym e) in
+    let f : rows * length x ≡ more = rw (block-length g y (getD (opponents g j) k 0)) (sym e) in
     let front : weighed rows x (take more values ++ drop more values) ≡ weighed rows x (take more values) =
     weighed-front rows x (take more values) (drop more values) (omega (arith, length-take-le more values room))
     in
@@ -160,22 +162,22 @@ module _ (g : Grid) (y : Point) (j : ℕ) (h : j < numBlocks g) where
   weighed-done losses rows values w = let e : rows ≡ size g j = w .count ∙ mul-one (size g j) in rw e at (w .stand)
 
 -- what weighing by the opponent at place k asks
-pub turn-ready : (ss ds firsts : List ℕ) (y : Point) (j : ℕ) (old : List ℕ) → Loaded (gridOf ss ds) firsts y j old
-    → (k rows : ℕ) (values : List ℕ) → k < length ss - 1 → WeighedFrom (gridOf ss []) y j (take (product ss) old) (suc k) rows values
-    → let block = getD (opponents (gridOf ss []) j) k 0 in
-    (block < length ss) × (length ss ≤ 6) × (getD firsts block 0 ≡ sum (take block ss)) × (0 < getD ss block 0) × (sum ss ≡ length y) × (rows ≤ length values)
-    × (fit (weighed (rows / getD ss block 0) (mix (gridOf ss []) y block) values) ≡ true)
+pub turn-ready : (ss ds firsts : List ℕ) (y : Point) (j : ℕ) (old : List ℕ) → PlayerAtPoint (lent ss ds) firsts y j old
+    → (k rows : ℕ) (values : List ℕ) → k < length ss - 1 → WeighedFrom (lent ss []) y j (take (product ss) old) (suc k) rows values
+    → let block = getD (opponents (lent ss []) j) k 0 in
+    BlockToWeigh (lent ss []) firsts y block rows values
 turn-ready ss ds firsts y j old l k rows values h w =
-    let g : Grid = gridOf ss ds in
-    let a = accepted g (l .drawn .laid .asked) in
+    let g : Grid = lent ss ds in
+    let a = accepted g (l .point .grid .accepted) in
     let block : ℕ = getD (opponents g j) k 0 in
     let inside : block < length ss = ltb-true block (length ss) (at-all (λ i. ltb i (length ss)) (opponents g j) k (opponents-below g j) (omega (arith, length-others j (length ss) (l .isPlayer)))) in
-    let some : 0 < size g block = omega (arith, size-two g a block inside .0) in (
-      inside,
-      a .fewBlocks,
-      l .drawn .laid .known block inside,
-      some,
-      sym (point-length g a y (l .drawn .isPoint)),
-      w .room,
-      rw (turn-weighed (gridOf ss []) y j (l .isPlayer) (take (product ss) old) k rows values h some w) (rows-fit g j a y (l .drawn .isPoint) (l .isPlayer) (rows / size g block) k (take (product ss) old) (l .low)),
-    )
+    let some : 0 < size g block = omega (arith, size-two g a block inside .0) in
+    record {
+      inside = inside;
+      six = a .fewBlocks;
+      first = l .point .grid .first block inside;
+      some = some;
+      whole = sym (point-length g a y (l .point .isPoint));
+      room = w .room;
+      fits = rw (turn-weighed (lent ss []) y j (l .isPlayer) (take (product ss) old) k rows values h some w) (rows-fit g j a y (l .point .isPoint) (l .isPlayer) (rows / size g block) k (take (product ss) old) (l .low));
+    }

@@ -3,25 +3,24 @@ use mathlib.Core.Bool.{true, not, cond}
 use mathlib.Core.List.{List, [], _∷_, _++_, map}
 use mathlib.Core.Logic.{⊎-elim}
 use mathlib.Core.Path.{_≡_, refl, sym, ap, _∙_, subst, subst⁻¹}
-use Prim.Native.Nat.{ℕ, zero, suc, _+_, _-_, _*_, _≤_, _<_, pred}
-use borrow.Author.Tests.{ne-eqb, eqb-true, leb-true, lt-ltb, le-ltb}
+use Prim.Native.Nat.{ℕ, zero, suc, _+_, _-_, _*_, _≤_, _<_}
+use borrow.Author.Tests.{ne-eqb, leb-true, lt-ltb, le-ltb}
 use lib.Dec.{eqb, leb, ltb}
-use lib.ListN.{length, getD, take, drop, length-append, length-map, length-drop, List·getD-append}
-use lib.Seq.{drop-cons, split-at, getD-append-add, take-all}
+use lib.ListN.{length, getD, take, drop, length-append, length-drop, List·getD-append}
+use lib.Seq.{split-at, getD-append-add, take-all}
 use native.Mathlib.Nat.{mul-assoc, mul-left-comm, mul-le-mul, mul-le-mul-right}
 use native.Mathlib.Omega.{arith}
 use Rattle.combinatorics.proofs.Basics.{and-left, and-right, before-or-not}
-use Rattle.combinatorics.proofs.Binomials.{choose-grows, choose-one}
-use Rattle.combinatorics.proofs.Lists.{all-in, filter-append, onNumbers, eqb-self}
-use Rattle.combinatorics.proofs.Ranges.{in-upFrom, length-upFrom, upFrom-add}
+use Rattle.combinatorics.proofs.Lists.{filter-append, eqb-self}
+use Rattle.combinatorics.proofs.Ranges.{length-upFrom, upFrom-add}
 use Rattle.combinatorics.proofs.Turns.{map-append}
-use Rattle.combinatorics.specs.Counting.{choose}
 use Rattle.combinatorics.specs.Lists.{all, filter, sum, upFrom}
-use Rattle.grid.proofs.Accepted.{Accepted, points-are, count-few, size-two}
+use Rattle.grid.proofs.Accepted.{Accepted, points-are}
 use Rattle.grid.proofs.Round.{block-fits}
-use Rattle.grid.specs.Grid.{Grid, Point, at, numBlocks, numIndices, binomialProduct, division, size, firstIndex, blocks, isGridPoint}
+use Rattle.grid.specs.Grid.{Grid, at, binomialProduct}
+use Rattle.points_in_order.proofs.Blocks.{at-part, division-below}
 use Rattle.losses.specs.Game.{product, mix}
-use Rattle.losses.specs.Known.{gridOf}
+use Rattle.grid.specs.Build.{lent}
 
 -- all numbers but j
 abbrev others : ℕ → ℕ → List ℕ
@@ -60,11 +59,6 @@ others-at j n k h l =
     (getD-append-add (upFrom 0 j) (upFrom (suc j) (n - suc j)) (k - j) 0 ∙ at-upFrom (suc j) (n - suc j) (k - j) (omega arith) ∙ omega arith)))
     (before-or-not k j))
 
--- the coordinates at some indices that follow one another
-pub at-part : (y : List ℕ) (b n : ℕ) → b + n ≤ length y → map (at y) (upFrom b n) ≡ take n (drop b y)
-at-part y b zero h = refl
-at-part y b (suc n) h = rw (drop-cons y b 0 (omega arith)) (ap (λ (l : List ℕ). getD y b 0 ∷ l) (at-part y (suc b) n (omega arith)))
-
 pub product-append : (u v : List ℕ) → product (u ++ v) ≡ product u * product v
 product-append [] v = omega arith
 product-append (x ∷ u) v = rw (product-append u v) (sym (mul-assoc x (product u) (product v)))
@@ -96,10 +90,6 @@ product-drop (suc p) (x ∷ xs) a =
     let m : 1 * product xs ≤ x * product xs = mul-le-mul-right (product xs) one in
     omega (arith, product-drop p xs (and-right (leb 1 x) (all (λ x. leb 1 x) xs) a))
 
--- a block has more points than its division
-division-below : (s d : ℕ) → 2 ≤ s → d ≤ choose (d + pred s) (pred s)
-division-below s d h = omega (arith, choose-one d, choose-grows d d 1 (pred s) (omega arith) (omega arith))
-
 divisions-below : (ss ds : List ℕ) → all (λ s. leb 2 s) ss ≡ true → length ds ≡ length ss → product ds ≤ binomialProduct ss ds
 divisions-below [] [] a e = omega arith
 divisions-below [] (d ∷ ds) a e = absurd (omega arith)
@@ -111,28 +101,8 @@ module _ (g : Grid) (a : Accepted g) where
   pub divisions-few : product (g .divisions) ≤ 60000
   divisions-few = omega (arith, divisions-below (g .sizes) (g .divisions) (a .sizesTwo) (a .sameNumber), points-are g a, a .fewPoints)
 
-  pub division-few : (i : ℕ) → i < numBlocks g → division g i ≤ 60000
-  division-few i h = omega (arith, division-below (size g i) (division g i) (size-two g a i h .0), count-few g a i h)
-
-  module _ (y : Point) (p : isGridPoint g y ≡ true) where
-    pub point-length : length y ≡ numIndices g
-    unfolding isGridPoint
-    point-length = eqb-true _ _ (and-left (eqb (length y) (numIndices g)) _ p)
-
-    pub mix-sum : (i : ℕ) → i < numBlocks g → sum (mix g y i) ≡ division g i
-    unfolding isGridPoint
-    mix-sum i h =
-        eqb-true _ _ (all-in onNumbers (λ j. eqb (sum (mix g y j)) (division g j)) (blocks g) (and-right (eqb (length y) (numIndices g)) _ p) i (in-upFrom 0 (numBlocks g) i (omega arith) (omega arith)))
-
-    -- the mix is a part of the point
-    pub mix-part : (i : ℕ) → mix g y i ≡ take (size g i) (drop (firstIndex g i) y)
-    mix-part i = at-part y (firstIndex g i) (size g i) (omega (arith, block-fits (g .sizes) i, point-length))
-
-pub length-mix : (g : Grid) (y : Point) (i : ℕ) → length (mix g y i) ≡ size g i
-length-mix g y i = rw (length-map, length-upFrom)
-
 -- the part of a point that is lent for a block is the block's mix
-pub lent-mix : (ss y : List ℕ) (i first s : ℕ) → first ≡ sum (take i ss) → s ≡ getD ss i 0 → sum ss ≡ length y → take (first + s - first) (drop first y) ≡ mix (gridOf ss []) y i
+pub lent-mix : (ss y : List ℕ) (i first s : ℕ) → first ≡ sum (take i ss) → s ≡ getD ss i 0 → sum ss ≡ length y → take (first + s - first) (drop first y) ≡ mix (lent ss []) y i
 lent-mix ss y i first s e f h =
     let z : first + s - first ≡ s = omega arith in
     rw (z, e, f) (sym (at-part y (sum (take i ss)) (getD ss i 0) (omega (arith, block-fits ss i))))

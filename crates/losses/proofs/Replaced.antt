@@ -14,7 +14,7 @@ use Rattle.combinatorics.proofs.Turns.{map-at}
 use Rattle.combinatorics.specs.Lists.{upFrom}
 use Rattle.grid.proofs.Round.{block-at, block-fits}
 use Rattle.grid.specs.Grid.{Grid, Point, at, numIndices, division, size, firstIndex, blockOf, blocks, indicesOf}
-use Rattle.losses.proofs.Players.{length-mix}
+use Rattle.points_in_order.proofs.Blocks.{block-length}
 use Rattle.losses.proofs.Weights.{dot-spread, length-weighed, chances}
 use Rattle.losses.specs.Game.{dot, profiles, chance, mix, opponents, ownFirst, lossesOf, expectedLoss, replaced, replacedLoss, playerLoss}
 use Rattle.losses.specs.Weights.{weighed, weights, strategyLosses}
@@ -37,7 +37,7 @@ picked d b (suc n) (suc k) (x ∷ t) l =
 
 pub mix-lengths : (g : Grid) (y : Point) (l : List ℕ) → map (size g) l ≡ map length (map (mix g y) l)
 mix-lengths g y [] = refl
-mix-lengths g y (i ∷ l) = rw (length-mix g y i, mix-lengths g y l)
+mix-lengths g y (i ∷ l) = rw (block-length g y i, mix-lengths g y l)
 
 module _ (g : Grid) (losses : List ℕ) where
   pub expected-weights : (y : Point) (j : ℕ) → expectedLoss g losses y j ≡ dot (weights (map (mix g y) (ownFirst g j))) (lossesOf g losses j)
@@ -51,7 +51,7 @@ module _ (g : Grid) (losses : List ℕ) where
       let others : List ℕ = weights (map (mix g y) (opponents g j)) in
       expected-weights y j
       ∙ dot-spread (mix g y j) others (lossesOf g losses j)
-      ∙ ap (λ (n : ℕ). dot (mix g y j) (weighed n others (lossesOf g losses j))) (length-mix g y j)
+      ∙ ap (λ (n : ℕ). dot (mix g y j) (weighed n others (lossesOf g losses j))) (block-length g y j)
 
   module _ (y : Point) (j k : ℕ) (h : k < size g j) where
     abbrev own : ℕ

@@ -19,7 +19,8 @@ use Rattle.combinatorics.specs.Front.{front}
 use Rattle.combinatorics.specs.Lists.{all, sum, upFrom}
 use Rattle.grid.specs.Grid.{Grid, Point, numBlocks}
 use Rattle.losses.specs.Game.{product, lossesOf}
-use Rattle.losses.specs.Known.{inRange, IsTable, Loaded, Played}
+use Rattle.losses.specs.AtPoint.{PlayerAtPoint, GameAtPoint}
+use Rattle.losses.specs.Table.{inRange, IsTable}
 
 low-all : (l : List ℕ) → all inRange l ≡ true → all (λ v. leb v 1000) l ≡ true
 low-all [] a = refl
@@ -40,8 +41,8 @@ pub lent-part : (g : Grid) (losses : List ℕ) (j from count : ℕ) → count �
 lent-part g losses j from count e f = let z : from + count - from ≡ count = omega arith in rw (z, f, e)
 
 -- a player's losses loaded into the values
-pub loaded : (g : Grid) (firsts losses : List ℕ) (y : Point) (count : ℕ) (values : List ℕ) → Played g firsts losses y count values
-    → (j : ℕ) → j < numBlocks g → Loaded g firsts y j (front (lossesOf g losses j) values) × (take count (front (lossesOf g losses j) values) ≡ lossesOf g losses j)
+pub loaded : (g : Grid) (firsts losses : List ℕ) (y : Point) (count : ℕ) (values : List ℕ) → GameAtPoint g firsts losses y count values
+    → (j : ℕ) → j < numBlocks g → PlayerAtPoint g firsts y j (front (lossesOf g losses j) values) × (take count (front (lossesOf g losses j) values) ≡ lossesOf g losses j)
 loaded g firsts losses y count values p j h =
     let n = part-length g losses (p .table) j h in
     let t : take (product (g .sizes)) (front (lossesOf g losses j) values) ≡ lossesOf g losses j =
@@ -49,7 +50,7 @@ loaded g firsts losses y count values p j h =
     in
     let room : product (g .sizes) ≤ length values = omega (arith, p .isCount, p .room) in (
       record {
-        drawn = p .drawn;
+        point = p .point;
         isPlayer = h;
         room = rw (front-length (lossesOf g losses j) values (omega arith)) room;
         low = rw t (part-low g losses (p .table) j h);

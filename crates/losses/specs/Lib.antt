@@ -1,3 +1,4 @@
 pub mod Game
-pub mod Known
+pub mod Table
+pub mod AtPoint
 pub mod Weights

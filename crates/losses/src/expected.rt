@@ -7,9 +7,10 @@ ghost use lib.Dec.{ltb};
 ghost use lib.ListN.{length, getD, take, replicate};
 ghost use lib.Seq.{paste};
 ghost use Rattle.combinatorics.specs.Front.{front};
-ghost use Rattle.combinatorics.specs.Lists.{sum};
 ghost use Rattle.losses.specs.Game.{dot as dotOf, product, mix};
-ghost use Rattle.losses.specs.Known.{gridOf, Loaded};
+ghost use Rattle.grid.specs.Build.{lent};
+ghost use Rattle.grid.specs.Grid.{size};
+ghost use Rattle.losses.specs.AtPoint.{BlockToWeigh, LossesFit, PlayerAtPoint};
 ghost use Rattle.losses.specs.Weights.{weighed, fit, strategyLosses};
 use crate::long;
 use grid::wide;
@@ -30,8 +31,11 @@ fn dot(mix: &[u16], values: &[u32]) -> u32
 
 // Each row of values, as long as the mix, becomes the sum of its values weighed by the mix.
 fn weigh(values: &mut [u32], rows: usize, mix: &[u16])
-    requires { ⌜ (0 < length (now mix)) × (rows * length (now mix) ≤ length (now values)) × (fit (weighed rows (now mix) (now values)) ≡ true) ⌝ }
-    ensures { λ _. ⌜ now (values .exit) ≡ front (weighed rows (now (mix .entry)) (now (values .entry))) (now (values .entry)) ⌝ }
+    requires { ⌜ (0 < length (now mix))
+        × (rows * length (now mix) ≤ length (now values))
+        × (fit (weighed rows (now mix) (now values)) ≡ true) ⌝ }
+    ensures { λ _. ⌜ (let old = now (values .entry) in
+        now (values .exit) ≡ front (weighed rows (now (mix .entry)) old) old) ⌝ }
 {
     let width = mix.len();
     let mut row: usize = 0;
@@ -73,9 +77,10 @@ fn weigh_block(
     count: usize,
     values: &mut [u32],
 ) -> usize
-    requires { ⌜ (block < length (now sizes)) × (length (now sizes) ≤ 6) × (getD (now firsts) block 0 ≡ sum (take block (now sizes))) × (0 < getD (now sizes) block 0) × (sum (now sizes) ≡ length (now point)) × (count ≤ length (now values)) × (fit (weighed (count / getD (now sizes) block 0) (mix (gridOf (now sizes) []) (now point) block) (now values)) ≡ true) ⌝ }
+    requires { ⌜ BlockToWeigh (lent (now sizes) []) (now firsts) (now point) block count (now values) ⌝ }
     ensures { λ r. ⌜ r ≡ count / getD (now (sizes .entry)) block 0 ⌝ }
-    ensures { λ r. ⌜ now (values .exit) ≡ front (weighed r (mix (gridOf (now (sizes .entry)) []) (now (point .entry)) block) (now (values .entry))) (now (values .entry)) ⌝ }
+    ensures { λ r. ⌜ (let own = mix (lent (now (sizes .entry)) []) (now (point .entry)) block in
+        now (values .exit) ≡ front (weighed r own (now (values .entry))) (now (values .entry))) ⌝ }
 {
     let first = wide(firsts[block]);
     let size = wide(sizes[block]);
@@ -94,8 +99,11 @@ pub fn weigh_opponents(
     count: usize,
     values: &mut [u32],
 )
-    requires { ⌜ (count ≡ product (now sizes)) × ((ds : List ℕ) × Loaded (gridOf (now sizes) ds) (now firsts) (now point) player (now values)) ⌝ }
-    ensures { λ _. ⌜ take (getD (now (sizes .entry)) player 0) (now (values .exit)) ≡ strategyLosses (gridOf (now (sizes .entry)) []) (now (point .entry)) player (take count (now (values .entry))) ⌝ }
+    requires { ⌜ (count ≡ product (now sizes))
+        × ((ds : List ℕ) × PlayerAtPoint (lent (now sizes) ds) (now firsts) (now point) player (now values)) ⌝ }
+    ensures { λ _. ⌜ (let g = lent (now (sizes .entry)) [] in
+        take (size g player) (now (values .exit))
+        ≡ strategyLosses g (now (point .entry)) player (take count (now (values .entry)))) ⌝ }
 {
     let mut rows = count;
     let mut place = sizes.len() - 1;
@@ -114,9 +122,15 @@ pub fn put_losses(
     expected: &mut [u32],
     replaced: &mut [u32],
 )
-    requires { ⌜ (length (now mix) ≤ length (now values)) × (dotOf (now mix) (now values) < 4294967296) × (fit (map (λ v. division * v) (take (length (now mix)) (now values))) ≡ true) × (first + length (now mix) ≤ length (now expected)) × (first + length (now mix) ≤ length (now replaced)) ⌝ }
-    ensures { λ _. ⌜ now (expected .exit) ≡ paste (now (expected .entry)) first (replicate (length (now (mix .entry))) (dotOf (now (mix .entry)) (now (values .entry)))) (length (now (mix .entry))) ⌝ }
-    ensures { λ _. ⌜ now (replaced .exit) ≡ paste (now (replaced .entry)) first (map (λ v. division * v) (take (length (now (mix .entry))) (now (values .entry)))) (length (now (mix .entry))) ⌝ }
+    requires { ⌜ LossesFit division (now mix) (now values)
+        × (first + length (now mix) ≤ length (now expected))
+        × (first + length (now mix) ≤ length (now replaced)) ⌝ }
+    ensures { λ _. ⌜ (let n = length (now (mix .entry)) in
+        let loss = dotOf (now (mix .entry)) (now (values .entry)) in
+        now (expected .exit) ≡ paste (now (expected .entry)) first (replicate n loss) n) ⌝ }
+    ensures { λ _. ⌜ (let n = length (now (mix .entry)) in
+        let instead = map (λ v. division * v) (take n (now (values .entry))) in
+        now (replaced .exit) ≡ paste (now (replaced .entry)) first instead n) ⌝ }
 {
     let loss = dot(mix, values);
     let mut k: usize = 0;

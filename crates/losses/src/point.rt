@@ -1,14 +1,14 @@
-// The losses at a point, at each index: the expected loss of its player, and the loss if the index's strategy replaces the mix.
+// The losses at a point, at each index: the expected loss of its player, and the loss if the index's strategy replaces
+// the mix.
 ghost use mathlib.Core.List.{List, [], map};
 ghost use mathlib.Core.Path.{_≡_};
-ghost use Prim.Native.Nat.{ℕ, _≤_, _<_};
-ghost use lib.ListN.{length, getD, take};
-ghost use lib.Seq.{paste};
+ghost use Prim.Native.Nat.{ℕ, _<_};
+ghost use lib.ListN.{length, take};
 ghost use Rattle.combinatorics.specs.Front.{front};
-ghost use Rattle.combinatorics.specs.Lists.{sum, upFrom};
-ghost use Rattle.grid.specs.Grid.{size, firstIndex, indicesOf};
+ghost use Rattle.grid.specs.Grid.{numBlocks, size, indices};
 ghost use Rattle.losses.specs.Game.{lossesOf, playerLoss, replacedLoss};
-ghost use Rattle.losses.specs.Known.{gridOf, Played};
+ghost use Rattle.grid.specs.Build.{lent};
+ghost use Rattle.losses.specs.AtPoint.{GameAtPoint, HasRoom, withBlock};
 ghost use Rattle.losses.specs.Weights.{strategyLosses};
 use crate::expected;
 use grid::wide;
@@ -23,8 +23,12 @@ fn strategy_losses(
     player: usize,
     values: &mut [u32],
 )
-    requires { ⌜ (player < length (now sizes)) × ((ds : List ℕ) × Played (gridOf (now sizes) ds) (now firsts) (now losses) (now point) count (now values)) ⌝ }
-    ensures { λ _. ⌜ take (getD (now (sizes .entry)) player 0) (now (values .exit)) ≡ strategyLosses (gridOf (now (sizes .entry)) []) (now (point .entry)) player (lossesOf (gridOf (now (sizes .entry)) []) (now (losses .entry)) player) ⌝ }
+    requires { ⌜ (player < length (now sizes))
+        × ((ds : List ℕ)
+        × GameAtPoint (lent (now sizes) ds) (now firsts) (now losses) (now point) count (now values)) ⌝ }
+    ensures { λ _. ⌜ (let g = lent (now (sizes .entry)) [] in
+        take (size g player) (now (values .exit))
+        ≡ strategyLosses g (now (point .entry)) player (lossesOf g (now (losses .entry)) player)) ⌝ }
 {
     let at = player * count;
     expected::load(values, &losses[at..at + count]);
@@ -44,9 +48,16 @@ fn weigh_player(
     expected: &mut [u32],
     replaced: &mut [u32],
 )
-    requires { ⌜ Played (gridOf (now sizes) (now divisions)) (now firsts) (now losses) (now point) count (now values) × (player < length (now sizes)) × (sum (now sizes) ≤ length (now expected)) × (sum (now sizes) ≤ length (now replaced)) ⌝ }
-    ensures { λ _. ⌜ now (expected .exit) ≡ paste (now (expected .entry)) (firstIndex (gridOf (now (sizes .entry)) (now (divisions .entry))) player) (map (playerLoss (gridOf (now (sizes .entry)) (now (divisions .entry))) (now (losses .entry)) (now (point .entry))) (indicesOf (gridOf (now (sizes .entry)) (now (divisions .entry))) player)) (size (gridOf (now (sizes .entry)) (now (divisions .entry))) player) ⌝ }
-    ensures { λ _. ⌜ now (replaced .exit) ≡ paste (now (replaced .entry)) (firstIndex (gridOf (now (sizes .entry)) (now (divisions .entry))) player) (map (replacedLoss (gridOf (now (sizes .entry)) (now (divisions .entry))) (now (losses .entry)) (now (point .entry))) (indicesOf (gridOf (now (sizes .entry)) (now (divisions .entry))) player)) (size (gridOf (now (sizes .entry)) (now (divisions .entry))) player) ⌝ }
+    requires { ⌜ (let g = lent (now sizes) (now divisions) in
+        GameAtPoint g (now firsts) (now losses) (now point) count (now values)
+        × (player < numBlocks g)
+        × HasRoom g (now expected) (now replaced)) ⌝ }
+    ensures { λ _. ⌜ (let g = lent (now (sizes .entry)) (now (divisions .entry)) in
+        let loss = playerLoss g (now (losses .entry)) (now (point .entry)) in
+        now (expected .exit) ≡ withBlock g player loss (now (expected .entry))) ⌝ }
+    ensures { λ _. ⌜ (let g = lent (now (sizes .entry)) (now (divisions .entry)) in
+        let instead = replacedLoss g (now (losses .entry)) (now (point .entry)) in
+        now (replaced .exit) ≡ withBlock g player instead (now (replaced .entry))) ⌝ }
 {
     strategy_losses(sizes, firsts, losses, point, count, player, values);
     let first = wide(firsts[player]);
@@ -73,9 +84,15 @@ pub fn weigh_point(
     expected: &mut [u32],
     replaced: &mut [u32],
 )
-    requires { ⌜ Played (gridOf (now sizes) (now divisions)) (now firsts) (now losses) (now point) count (now values) × (sum (now sizes) ≤ length (now expected)) × (sum (now sizes) ≤ length (now replaced)) ⌝ }
-    ensures { λ _. ⌜ now (expected .exit) ≡ front (map (playerLoss (gridOf (now (sizes .entry)) (now (divisions .entry))) (now (losses .entry)) (now (point .entry))) (upFrom 0 (sum (now (sizes .entry))))) (now (expected .entry)) ⌝ }
-    ensures { λ _. ⌜ now (replaced .exit) ≡ front (map (replacedLoss (gridOf (now (sizes .entry)) (now (divisions .entry))) (now (losses .entry)) (now (point .entry))) (upFrom 0 (sum (now (sizes .entry))))) (now (replaced .entry)) ⌝ }
+    requires { ⌜ (let g = lent (now sizes) (now divisions) in
+        GameAtPoint g (now firsts) (now losses) (now point) count (now values)
+        × HasRoom g (now expected) (now replaced)) ⌝ }
+    ensures { λ _. ⌜ (let g = lent (now (sizes .entry)) (now (divisions .entry)) in
+        let loss = playerLoss g (now (losses .entry)) (now (point .entry)) in
+        now (expected .exit) ≡ front (map loss (indices g)) (now (expected .entry))) ⌝ }
+    ensures { λ _. ⌜ (let g = lent (now (sizes .entry)) (now (divisions .entry)) in
+        let instead = replacedLoss g (now (losses .entry)) (now (point .entry)) in
+        now (replaced .exit) ≡ front (map instead (indices g)) (now (replaced .entry))) ⌝ }
 {
     let mut player: usize = 0;
     while player < sizes.len() {

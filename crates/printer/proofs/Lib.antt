@@ -3,3 +3,4 @@ pub mod Vertices
 pub mod Runs
 pub mod Slips
 pub mod LongInputs
+pub mod OwnGame

@@ -1,35 +1,41 @@
--- What a slip that is read leaves to the run, and so what it prints. Assumes nothing.
-use mathlib.Core.Bool.{true}
+-- What a slip that is read leaves to its losses and to the run, and so what it prints. Assumes nothing.
+use mathlib.Core.Bool.{true, false}
 use mathlib.Core.List.{List}
 use mathlib.Core.Logic.{⊎-elim}
 use mathlib.Core.Path.{_≡_, sym, ap, _∙_}
 use Prim.Native.Nat.{ℕ, suc, _+_, _*_, _≤_}
 use borrow.Author.Tests.{ne-eqb, le-leb}
 use lib.ListN.{length, length-map, take, replicate}
-use native.Mathlib.Nat.{mul-le-mul-right}
+use native.Mathlib.Nat.{mul-le-mul, mul-le-mul-right}
 use native.Mathlib.Omega.{arith}
 use Rattle.combinatorics.proofs.Basics.{true-or-false}
 use Rattle.combinatorics.proofs.Fronts.{front-length, front-taken}
 use Rattle.combinatorics.proofs.Ranges.{length-upFrom}
 use Rattle.combinatorics.specs.Lists.{upFrom}
-use Rattle.losses.specs.Game.{labels}
-use Rattle.games.specs.Tables.{gameLosses}
+use Rattle.little_endian.specs.Numbers.{number, words}
+use Rattle.losses.proofs.Table.{product-few}
+use Rattle.losses.specs.Game.{product, labels}
+use Rattle.losses.specs.Table.{IsTable}
 use Rattle.grid.proofs.Accepted.{accepted as grid-accepted}
 use Rattle.grid.proofs.Fields.{is-made, shape-of}
-use Rattle.grid.specs.Grid.{Grid, dimension, numIndices}
+use Rattle.grid.specs.Grid.{Grid, numBlocks, dimension, numIndices}
 use Rattle.grid.specs.Made.{gridOf, shape}
 use Rattle.place.specs.Problem.{Problem}
 use Rattle.place.specs.Questions.{question8}
 use Rattle.sheet.specs.Sheet.{refusedSheet}
-use Rattle.slip.proofs.Runs.{answers, reading-accepted, game-is, with-game, then-runs}
-use Rattle.slip.specs.Reading.{readingOf, labelsOf}
-use Rattle.slip.specs.Slip.{stands, number, words, fieldAt, defaultCoordinate, slipGrid, slipStart, slipLabels, slipProblem}
+use Rattle.slip.proofs.Laws.{labels-only}
+use Rattle.slip.proofs.Runs.{answers, reading-accepted, refused-as-read, then-runs}
+use Rattle.slip.specs.Reading.{refusal, readingOf, labelsIn}
+use Rattle.slip.specs.Slip.{stands, fieldAt, defaultCoordinate, slipGrid, slipStart, slipLosses, slipLabels, slipProblem, question11}
 use Rattle.printer.specs.Printed.{sheetOf}
-use Rattle.printer.specs.Run.{room, Readable, IsGame, problemOf, gameProblem, runSheet}
+use Rattle.printer.specs.Run.{room, HasGrid, problemWith, lossProblem, runSheet}
 
 pub refusal-printed : (slip : List ℕ) → (readingOf slip .code ≡ 0 → ⊥) → sheetOf slip ≡ refusedSheet (readingOf slip .code)
 unfolding sheetOf
-refusal-printed slip h = rw (then-runs slip .refused h, ne-eqb (readingOf slip .code) 0 h)
+refusal-printed slip h = rw (refused-as-read slip .refused h, ne-eqb (readingOf slip .code) 0 h)
+
+pub refused-by : (slip : List ℕ) (number : ℕ) → (number ≡ 0 → ⊥) → refusal number ≡ readingOf slip → sheetOf slip ≡ refusedSheet number
+refused-by slip number h e = refusal-printed slip (λ z. h (ap (λ r. r .code) e ∙ z)) ∙ ap (λ r. refusedSheet (r .code)) (sym e)
 
 -- a slip that is read
 module _ (slip : List ℕ) (zero : readingOf slip .code ≡ 0) where
@@ -45,12 +51,12 @@ module _ (slip : List ℕ) (zero : readingOf slip .code ≡ 0) where
   grid-is : shape (readingOf slip .grid) ≡ slipGrid slip
   grid-is = ap (λ r. shape (r .grid)) (reading-accepted slip zero) ∙ shape-of (slipGrid slip) (grid-accepted (slipGrid slip) (answers slip zero .1) .sameNumber)
 
-  pub readable : Readable (readingOf slip)
-  readable =
+  pub has-grid : HasGrid (readingOf slip)
+  has-grid =
       let few = grid-accepted (slipGrid slip) (answers slip zero .1) .fewIndices in
       rw (reading-accepted slip zero) (record { made = is-made (slipGrid slip) (answers slip zero .1); whole = front-length (slipStart slip) (replicate 16 0) (omega (arith, few, start-length)) })
 
-  problem-is : (labels : List ℕ) → labels ≡ slipLabels slip → problemOf (readingOf slip) labels ≡ slipProblem slip
+  problem-is : (labels : List ℕ) → labels ≡ slipLabels slip → problemWith (readingOf slip) labels ≡ slipProblem slip
   unfolding gridOf
   problem-is labels e =
       let start : take (readingOf slip .grid .indices) (readingOf slip .start) ≡ slipStart slip = rw (reading-accepted slip zero, ← start-length) (front-taken (slipStart slip) (replicate 16 0)) in
@@ -62,23 +68,34 @@ module _ (slip : List ℕ) (zero : readingOf slip .code ≡ 0) where
       let m = numIndices (slipGrid slip) in
       le-leb (suc (dimension (slipGrid slip)) * m) room (omega (arith, a .fewIndices, mul-le-mul-right m (let l : suc (dimension (slipGrid slip)) ≤ 16 = omega (arith, a .someBlock, a .fewIndices) in l)))
 
+  pub out-of-range-printed : question11 slip .answeredYes ≡ false → sheetOf slip ≡ refusedSheet 11
+  unfolding sheetOf
+  out-of-range-printed e = rw (then-runs slip zero .outOfRange e)
+
   -- with the slip's labels the run prints the slip's sheet
-  prints : (labels : List ℕ) → labels ≡ slipLabels slip → runSheet (problemOf (readingOf slip) labels) (readingOf slip .budget) ≡ sheetOf slip
+  prints : question11 slip .answeredYes ≡ true → (labels : List ℕ) → labels ≡ slipLabels slip → runSheet (problemWith (readingOf slip) labels) (readingOf slip .budget) ≡ sheetOf slip
   unfolding runSheet sheetOf
-  prints labels e =
+  prints range labels e =
       ap (λ (p : Problem). runSheet p (readingOf slip .budget)) (problem-is labels e)
       ∙ ap (λ r. runSheet (slipProblem slip) (r .budget)) (reading-accepted slip zero)
-      ∙ rw (then-runs slip .runs zero room enough)
+      ∙ rw (then-runs slip zero .runs range room enough)
 
-  pub table-printed : readingOf slip .game ≡ 0 → runSheet (problemOf (readingOf slip) (labelsOf slip (readingOf slip))) (readingOf slip .budget) ≡ sheetOf slip
-  table-printed e = prints (labelsOf slip (readingOf slip)) (then-runs slip .handed zero ∙ sym (then-runs slip .table zero e))
+  pub table-printed : stands slip 2 ≡ true → runSheet (problemWith (readingOf slip) (labelsIn slip (readingOf slip .table))) (readingOf slip .budget) ≡ sheetOf slip
+  table-printed two =
+      let four = labels-only slip (answers slip zero .0) two .1 in
+      prints (rw four) (labelsIn slip (readingOf slip .table)) (then-runs slip zero .handed ∙ sym (then-runs slip zero .table two))
 
-  module _ (some : readingOf slip .game ≡ 0 → ⊥) where
-    pub game-printed : runSheet (gameProblem (readingOf slip)) (readingOf slip .budget) ≡ sheetOf slip
-    game-printed = prints _ (ap (λ (g : Grid). labels g (gameLosses (readingOf slip .game))) grid-is ∙ sym (then-runs slip .game zero some .1))
+  module _ (two : stands slip 2 ≡ false) (range : question11 slip .answeredYes ≡ true) where
+    pub losses-printed : runSheet (lossProblem (readingOf slip) (slipLosses slip)) (readingOf slip .budget) ≡ sheetOf slip
+    losses-printed = prints range _ (ap (λ (g : Grid). labels g (slipLosses slip)) grid-is ∙ sym (then-runs slip zero .game two))
 
-    pub is-game : IsGame (readingOf slip)
-    is-game =
-        let sizes = ap (λ g. g .sizes) grid-is in
-        let stood : stands slip 3 ≡ true = with-game slip zero (λ e. some (game-is slip zero ∙ e)) in
-        rw (sizes, game-is slip zero) (rw stood at (answers slip zero .3))
+    pub is-table : IsTable (shape (readingOf slip .grid)) (slipLosses slip)
+    is-table = rw grid-is (then-runs slip zero .losses two range)
+
+    -- at most 1,944 losses
+    pub losses-few : length (slipLosses slip) ≤ 1944
+    losses-few =
+        let a = grid-accepted (slipGrid slip) (answers slip zero .1) in
+        let t = then-runs slip zero .losses two range in
+        let most = mul-le-mul {n₁ = numBlocks (slipGrid slip)} {m₁ = product (slipGrid slip .sizes)} {n₂ = 6} {m₂ = 324} (a .fewBlocks) (product-few (slipGrid slip .sizes) (a .fewIndices)) in
+        omega (arith, t .whole, most)

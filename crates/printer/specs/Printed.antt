@@ -12,8 +12,8 @@ use Rattle.sheet.specs.declared.Kind.the-variants.{Place, Facet}
 use Rattle.slip.specs.Slip.{slipGrid, slipProblem, slipBudget, slipRefusal}
 
 -- "vertices times d_j": the division of each index's block
-abbrev pub divisionsOf : Grid → List ℕ
-divisionsOf g = map (λ h. division g (blockOf g h)) (indices g)
+abbrev pub indexDivisions : Grid → List ℕ
+indexDivisions g = map (λ h. division g (blockOf g h)) (indices g)
 
 -- "end place" or "end facet"
 abbrev pub kindOf : KindOfEnd → Kind
@@ -24,10 +24,10 @@ kindOf facetEnd = Facet
 -- line"
 abbrev pub answerSheet : Grid → Answer → List ℕ
 answerSheet g (spent places) = spentSheet places
-answerSheet g (ended places kind block vertices simplex) = endSheet places (bound g) (kindOf kind) block simplex (divisionsOf g)
+answerSheet g (ended places kind block vertices simplex) = endSheet places (bound g) (kindOf kind) block simplex (indexDivisions g)
 
--- "The kiosk program reads a slip from standard input. For the bytes .. it prints": "A slip asks 13, 1 to 4, 14, 15, 5, 7, and then runs", and "A
--- refusal prints one line"
+-- "The kiosk program reads a slip from standard input. For the bytes .. it prints": a slip asks 13, 1 to 4, 14,
+-- 15, 11, 5, 7, and then runs, and "A refusal prints one line"
 unfoldable pub sheetOf : List ℕ → List ℕ
 sheetOf slip =
     cond (eqb (slipRefusal slip) 0) (answerSheet (slipGrid slip) (answer (slipProblem slip) (slipBudget slip))) (refusedSheet (slipRefusal slip))

@@ -1,18 +1,17 @@
 -- The sheet of a run, and that of an answer in its buffer. The customer's promise does not cite them. Assumes nothing.
-use mathlib.Core.Bool.{true, cond}
+use mathlib.Core.Bool.{false, cond}
 use mathlib.Core.List.{List}
 use mathlib.Core.Path.{_≡_}
 use Prim.Native.Nat.{ℕ, _*_, _≤_}
 use lib.Dec.{eqb}
 use lib.ListN.{length, take}
+use Rattle.combinatorics.specs.Front.{front}
 use Rattle.finder.specs.Run.{refusal}
 use Rattle.finder.specs.declared.answers.Answer.{Answer}
 use Rattle.finder.specs.declared.answers.Answer.the-variants.{Refused, Spent, End}
 use Rattle.finder.specs.declared.answers.Kind.{Kind}
 use Rattle.finder.specs.declared.answers.Kind.the-variants.{Place, Facet}
 use Rattle.losses.specs.Game.{labels}
-use Rattle.games.specs.Labelling.{question15}
-use Rattle.games.specs.Tables.{gameLosses}
 use Rattle.grid.specs.Grid.{Grid, numIndices, bound}
 use Rattle.grid.specs.Made.{IsMade, shape}
 use Rattle.place.specs.Path.{answer}
@@ -22,7 +21,9 @@ use Rattle.sheet.specs.Sheet.{endSheet, refusedSheet, spentSheet}
 use Rattle.sheet.specs.declared.Kind.{Kind as KindOnSheet}
 use Rattle.sheet.specs.declared.Kind.the-variants.{Place as PlaceOnSheet, Facet as FacetOnSheet}
 use Rattle.slip.specs.declared.Reading.{Reading}
-use Rattle.printer.specs.Printed.{answerSheet, divisionsOf}
+use Rattle.slip.specs.Reading.{readingOf}
+use Rattle.slip.specs.Slip.{stands}
+use Rattle.printer.specs.Printed.{answerSheet, indexDivisions}
 
 abbrev pub onSheet : Kind → KindOnSheet
 onSheet Place = PlaceOnSheet
@@ -36,28 +37,35 @@ room = 256
 unfoldable pub printed : Grid → Answer → List ℕ → List ℕ
 printed g (Refused number) buffer = refusedSheet number
 printed g (Spent places) buffer = spentSheet places
-printed g (End places kind block vertices) buffer = endSheet places (bound g) (onSheet kind) block (rows vertices (numIndices g) buffer) (divisionsOf g)
+printed g (End places kind block vertices) buffer = endSheet places (bound g) (onSheet kind) block (rows vertices (numIndices g) buffer) (indexDivisions g)
 
 -- the vertices of an answer are at least one, at most 16, and all in the buffer
 pub record Fits (g : Grid) (answer : Answer) (buffer : List ℕ) : Type 0 where
   pub end : (places : ℕ) (kind : Kind) (block vertices : ℕ) → answer ≡ End places kind block vertices → (1 ≤ vertices) × (vertices ≤ 16) × (vertices * numIndices g ≤ length buffer)
 
+-- what a call has printed: how many bytes, and that they stand at the front
+pub record Prints (sheet old : List ℕ) (count : ℕ) (new : List ℕ) : Type 0 where
+  pub counted : count ≡ length sheet
+  pub stands : new ≡ front sheet old
+
 -- what a reading leaves to the run: a grid that was made, and the start's numbers at the front of the array
-pub record Readable (r : Reading) : Type 0 where
+pub record HasGrid (r : Reading) : Type 0 where
   pub made : IsMade (r .grid)
   pub whole : length (r .start) ≡ 16
 
--- its game is 1, 2 or 3, with these sizes
-abbrev pub IsGame : Reading → Type 0
-IsGame r = question15 (r .game) (shape (r .grid) .sizes) .answeredYes ≡ true
+-- the reading of a slip that is accepted as it is read and has no labels
+pub record IsGameReading (slip : List ℕ) (r : Reading) : Type 0 where
+  pub isReading : r ≡ readingOf slip
+  pub read : r .code ≡ 0
+  pub noLabels : stands slip 2 ≡ false
 
 -- the problem of a reading and a label table
-abbrev pub problemOf : Reading → List ℕ → Problem
-problemOf r labels = record { grid = shape (r .grid); start = take (r .grid .indices) (r .start); labels = labels }
+abbrev pub problemWith : Reading → List ℕ → Problem
+problemWith r labels = record { grid = shape (r .grid); start = take (r .grid .indices) (r .start); labels = labels }
 
--- and that of a reading with a game
-abbrev pub gameProblem : Reading → Problem
-gameProblem r = problemOf r (labels (shape (r .grid)) (gameLosses (r .game)))
+-- and that of a reading and losses
+abbrev pub lossProblem : Reading → List ℕ → Problem
+lossProblem r losses = problemWith r (labels (shape (r .grid)) losses)
 
 -- what the run on a problem prints
 unfoldable pub runSheet : Problem → ℕ → List ℕ

@@ -3,11 +3,15 @@ ghost use mathlib.Core.Path.{_≡_};
 ghost use lib.ListN.{length};
 ghost use Rattle.combinatorics.specs.Front.{front};
 ghost use Rattle.grid.specs.Made.{IsMade, shape, padded};
-ghost use Rattle.printer.specs.Printed.{divisionsOf, sheetOf};
-ghost use Rattle.printer.specs.Run.{onSheet, printed, Fits, Readable, IsGame, problemOf, gameProblem, runSheet};
+ghost use Rattle.losses.specs.Table.{IsTable};
+ghost use Rattle.printer.specs.Printed.{indexDivisions, sheetOf};
+ghost use Rattle.printer.specs.Run.{onSheet, printed, Prints, Fits, HasGrid, IsGameReading};
+ghost use Rattle.printer.specs.Run.{problemWith, lossProblem, runSheet};
 use finder::Answer;
 use grid::Grid;
+use slip::Losses;
 use slip::Reading;
+use slip::Table;
 
 // The kind of end, as the sheet names it.
 fn on_sheet(kind: finder::Kind) -> sheet::Kind
@@ -22,7 +26,7 @@ fn on_sheet(kind: finder::Kind) -> sheet::Kind
 // The division of each index's block.
 fn divisions_of(grid: Grid) -> [u16; 16]
     requires { ⌜ IsMade grid ⌝ }
-    ensures { λ r. ⌜ r ≡ padded 16 (divisionsOf (shape grid)) ⌝ }
+    ensures { λ r. ⌜ r ≡ padded 16 (indexDivisions (shape grid)) ⌝ }
 {
     let indices = grid.indices;
     let block_divisions = grid.divisions;
@@ -38,7 +42,8 @@ fn divisions_of(grid: Grid) -> [u16; 16]
 // The sheet of an answer with its vertices.
 fn print_answer(answer: Answer, grid: Grid, buffer: &[u16], sheet: &mut [u8; 4096]) -> usize
     requires { ⌜ IsMade grid × Fits (shape grid) answer (now buffer) ⌝ }
-    ensures { λ r. ⌜ (r ≡ length (printed (shape grid) answer (now (buffer .entry)))) × (now (sheet .exit) ≡ front (printed (shape grid) answer (now (buffer .entry))) (now (sheet .entry))) ⌝ }
+    ensures { λ r. ⌜ Prints (printed (shape grid) answer (now (buffer .entry)))
+        (now (sheet .entry)) r (now (sheet .exit)) ⌝ }
 {
     match answer {
         Answer::Refused(number) => sheet::refused(sheet, number),
@@ -69,9 +74,9 @@ fn print_answer(answer: Answer, grid: Grid, buffer: &[u16], sheet: &mut [u8; 409
 
 // The run on a label table, and its sheet.
 fn print_run(reading: Reading, labels: &[u8], sheet: &mut [u8; 4096]) -> usize
-    requires { ⌜ Readable reading ⌝ }
-    ensures { λ r. ⌜ (r ≡ length (runSheet (problemOf reading (now (labels .entry))) (reading .budget)))
-        × (now (sheet .exit) ≡ front (runSheet (problemOf reading (now (labels .entry))) (reading .budget)) (now (sheet .entry))) ⌝ }
+    requires { ⌜ HasGrid reading ⌝ }
+    ensures { λ r. ⌜ Prints (runSheet (problemWith reading (now (labels .entry))) (reading .budget))
+        (now (sheet .entry)) r (now (sheet .exit)) ⌝ }
 {
     let grid = reading.grid;
     let start = reading.start;
@@ -81,39 +86,58 @@ fn print_run(reading: Reading, labels: &[u8], sheet: &mut [u8; 4096]) -> usize
     print_answer(answer, grid, &buffer, sheet)
 }
 
-// The run on the labels of a game, which are filled in here.
-fn label_and_print(reading: Reading, labels: &mut [u8], sheet: &mut [u8; 4096]) -> usize
-    requires { ⌜ Readable reading × IsGame reading × (length (now labels) ≡ reading .grid .points) ⌝ }
-    ensures { λ r. ⌜ (r ≡ length (runSheet (gameProblem reading) (reading .budget))) × (now (sheet .exit) ≡ front (runSheet (gameProblem reading) (reading .budget)) (now (sheet .entry))) ⌝ }
+// The run on the labels of losses, which are filled in here.
+fn label_and_print(
+    reading: Reading,
+    losses: &[u16],
+    labels: &mut [u8],
+    sheet: &mut [u8; 4096],
+) -> usize
+    requires { ⌜ HasGrid reading
+        × IsTable (shape (reading .grid)) (now losses)
+        × (length (now labels) ≡ reading .grid .points) ⌝ }
+    ensures { λ r. ⌜ Prints (runSheet (lossProblem reading (now (losses .entry))) (reading .budget))
+        (now (sheet .entry)) r (now (sheet .exit)) ⌝ }
 {
-    let grid = reading.grid;
-    let sizes = grid.sizes;
-    let divisions = grid.divisions;
-    let blocks = grid.blocks;
-    games::label_game(reading.game, &sizes[..blocks], &divisions[..blocks], labels);
+    games::label_on(reading.grid, losses, labels);
     print_run(reading, labels, sheet)
 }
 
-// The run on a game, with P bytes for its labels.
-fn print_game(reading: Reading, sheet: &mut [u8; 4096]) -> usize
-    requires { ⌜ Readable reading × IsGame reading ⌝ }
-    ensures { λ r. ⌜ (r ≡ length (runSheet (gameProblem reading) (reading .budget))) × (now (sheet .exit) ≡ front (runSheet (gameProblem reading) (reading .budget)) (now (sheet .entry))) ⌝ }
+// The run on losses, with P bytes for their labels.
+fn print_labelled(reading: Reading, losses: &[u16], sheet: &mut [u8; 4096]) -> usize
+    requires { ⌜ HasGrid reading × IsTable (shape (reading .grid)) (now losses) ⌝ }
+    ensures { λ r. ⌜ Prints (runSheet (lossProblem reading (now (losses .entry))) (reading .budget))
+        (now (sheet .entry)) r (now (sheet .exit)) ⌝ }
 {
     let points = reading.grid.points;
     let mut labels = [0u8; 60000];
-    label_and_print(reading, &mut labels[..points], sheet)
+    label_and_print(reading, losses, &mut labels[..points], sheet)
+}
+
+// The sheet of a slip with a game or losses. 1,944 losses are the most that a grid has.
+fn print_game(slip: &[u8], reading: Reading, sheet: &mut [u8; 4096]) -> usize
+    requires { ⌜ IsGameReading (now slip) reading ⌝ }
+    ensures { λ r. ⌜ Prints (sheetOf (now (slip .entry))) (now (sheet .entry)) r (now (sheet .exit)) ⌝ }
+{
+    let mut losses = [0u16; 1944];
+    let Losses::Count(count) = slip::losses_of(slip, reading, &mut losses) else {
+        return sheet::refused(sheet, 11);
+    };
+    print_labelled(reading, &losses[..count], sheet)
 }
 
 // The sheet of any bytes, at the front of the buffer. The result is the sheet's length.
 pub fn print(slip: &[u8], sheet: &mut [u8; 4096]) -> usize
-    ensures { λ r. ⌜ (r ≡ length (sheetOf (now (slip .entry)))) × (now (sheet .exit) ≡ front (sheetOf (now (slip .entry))) (now (sheet .entry))) ⌝ }
+    ensures { λ r. ⌜ (r ≡ length (sheetOf (now (slip .entry))))
+        × (now (sheet .exit) ≡ front (sheetOf (now (slip .entry))) (now (sheet .entry))) ⌝ }
 {
     let reading = slip::read(slip);
     if reading.code != 0 {
         return sheet::refused(sheet, reading.code);
     }
-    if reading.game != 0 {
-        return print_game(reading, sheet);
+    let table = reading.table;
+    if let Table::LabelsFrom(_) = table {
+        return print_run(reading, slip::labels_of(slip, reading), sheet);
     }
-    print_run(reading, slip::labels_of(slip, reading), sheet)
+    print_game(slip, reading, sheet)
 }

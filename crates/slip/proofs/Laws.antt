@@ -1,36 +1,26 @@
 -- Laws of the definitions of a slip. Assumes nothing.
-use mathlib.Core.Bool.{Bool, true, false, _&&_, cond, Bool·beq}
-use mathlib.Core.List.{List, _++_, map}
+use mathlib.Core.Bool.{Bool, true, false, not, cond, Bool·beq}
+use mathlib.Core.List.{List, [], _∷_, _++_, map}
+use mathlib.Core.Logic.{⊎-elim}
 use mathlib.Core.Path.{_≡_, refl, sym, ap, _∙_}
 use Prim.Native.Nat.{ℕ, zero, suc, _+_, _-_, _*_, _≤_, _<_}
-use borrow.Author.Tests.{leb-true, leb-false, le-leb, lt-leb, eq-eqb, ne-eqb}
-use lib.Dec.{leb}
-use lib.ListN.{length, length-map, getD, take, drop, replicate}
+use borrow.Author.Tests.{leb-true, eq-eqb, ne-eqb}
+use lib.Dec.{eqb, leb, ltb}
+use lib.ListN.{length, getD, take, drop, replicate}
 use native.Mathlib.Omega.{arith}
-use Rattle.combinatorics.proofs.Basics.{absurd-bool}
+use Rattle.combinatorics.proofs.Basics.{absurd-bool, and-left, and-right, true-or-false}
 use Rattle.combinatorics.proofs.Lists.{all-in, onNumbers}
-use Rattle.combinatorics.proofs.Ranges.{length-upFrom, in-upFrom}
+use Rattle.combinatorics.proofs.Ranges.{in-upFrom}
 use Rattle.combinatorics.proofs.Turns.{sum-counted}
 use Rattle.combinatorics.specs.Front.{front}
-use Rattle.combinatorics.specs.Lists.{sum, upFrom}
+use Rattle.combinatorics.specs.Lists.{all, filter, sum, upFrom}
+use Rattle.little_endian.proofs.Laws.{length-words}
+use Rattle.little_endian.specs.Numbers.{words}
 use Rattle.grid.specs.Build.{lent}
-use Rattle.grid.specs.Grid.{Grid, numIndices, division, firstIndex, blockOf}
+use Rattle.grid.specs.Grid.{Grid, numIndices, numPoints, division, firstIndex, blockOf}
 use Rattle.grid.specs.Made.{padded}
-use Rattle.slip.specs.declared.Field.the-variants.{EndsAt, Missing}
-use Rattle.slip.specs.declared.Fields.the-variants.{Inexact}
-use Rattle.slip.specs.Reading.{fieldOf, fieldsOf}
-use Rattle.slip.specs.Slip.{number, words, numBlocksOf, slipGrid, isMap, stands, headLength, fieldLengths, fieldLength, fieldAt, defaultCoordinate, slipStart}
-
--- a number from its lowest 16 bits and the bytes behind them
-pub number-split : (k : ℕ) (bytes : List ℕ) (at behind : ℕ) → behind ≡ at + 2 → number (suc (suc k)) bytes at ≡ number 2 bytes at + 65536 * number k bytes behind
-unfolding number
-number-split k bytes at behind e =
-    let two : at + 1 + 1 ≡ behind = omega arith in
-    rw two (omega arith)
-
-pub length-words : (count : ℕ) (bytes : List ℕ) (from : ℕ) → length (words count bytes from) ≡ count
-unfolding words
-length-words count bytes from = length-map (upFrom 0 count) (λ i. number 2 bytes (from + 2 * i)) ∙ length-upFrom 0 count
+use Rattle.losses.specs.Table.{numLosses}
+use Rattle.slip.specs.Slip.{bit, numBlocksOf, slipGrid, isMap, stands, headLength, fieldLengths, fieldLength, fieldAt, fieldsEnd, defaultCoordinate, slipStart, question13, question14}
 
 beq-true : (a b : Bool) → Bool·beq a b ≡ true → a ≡ b
 beq-true true true e = refl
@@ -38,12 +28,14 @@ beq-true false false e = refl
 beq-true true false e = absurd-bool (sym e)
 beq-true false true e = absurd-bool (sym e)
 
--- the maps that question 13 lets pass are 4 to 11, by a test of all bytes
-pub map-passes : (b : ℕ) → b < 256 → isMap b ≡ (leb 4 b && leb b 11)
+-- the maps that question 13 lets pass are 4 to 11 and 16 to 19
+abbrev pub passes : ℕ → Bool
+passes b = cond (ltb b 4) false (cond (ltb b 12) true (cond (ltb b 16) false (ltb b 20)))
+
+-- by a test of all bytes
+pub map-passes : (b : ℕ) → b < 256 → isMap b ≡ passes b
 unfolding isMap
-map-passes b h =
-    beq-true (isMap b) (leb 4 b && leb b 11)
-    (all-in onNumbers (λ x. Bool·beq (isMap x) (leb 4 x && leb x 11)) (upFrom 0 256) refl b (in-upFrom 0 256 b (omega arith) (omega arith)))
+map-passes b h = beq-true (isMap b) (passes b) (all-in onNumbers (λ x. Bool·beq (isMap x) (passes x)) (upFrom 0 256) refl b (in-upFrom 0 256 b (omega arith) (omega arith)))
 
 -- "each block has d_j at its first index", and 0 elsewhere
 module _ (g : Grid) (h j : ℕ) (in-block : j ≡ blockOf g h) where
@@ -54,15 +46,6 @@ module _ (g : Grid) (h j : ℕ) (in-block : j ≡ blockOf g h) where
   pub default-other : (h ≡ firstIndex g j → ⊥) → 0 ≡ defaultCoordinate g h
   unfolding defaultCoordinate
   default-other n = sym (ap (λ b. cond b (division g (blockOf g h)) 0) (ne-eqb h (firstIndex g (blockOf g h)) (λ e. n (e ∙ sym (ap (firstIndex g) in-block)))))
-
--- what a field answers tells whether its bytes are there
-pub told : (b : Bool) (x end : ℕ) → cond b (EndsAt x) Missing ≡ EndsAt end → (b ≡ true) × (end ≡ x)
-told true x end e = (refl, cc)
-told false x end e = absurd (let z : _≡_ {A = ℕ} 0 1 = cc in omega arith)
-
-pub untold : (b : Bool) (x : ℕ) → cond b (EndsAt x) Missing ≡ Missing → b ≡ false
-untold true x e = absurd (let z : _≡_ {A = ℕ} 0 1 = cc in omega arith)
-untold false x e = refl
 
 -- the fields of a slip
 module _ (slip : List ℕ) where
@@ -87,7 +70,7 @@ module _ (slip : List ℕ) where
       let s = ap (λ n. sum (map (fieldLength slip) (upFrom 0 n))) e ∙ sum-counted (fieldLength slip) 0 k in
       omega (arith, s, ap (fieldLength slip) z)
 
-  pub at-grows : (k d : ℕ) → fieldAt slip k ≤ fieldAt slip (d + k)
+  at-grows : (k d : ℕ) → fieldAt slip k ≤ fieldAt slip (d + k)
   at-grows k zero = let z : 0 + k ≡ k = omega arith in rw z (omega arith)
   at-grows k (suc d) = let z : suc d + k ≡ suc (d + k) = omega arith in rw z (omega (arith, at-next (d + k), at-grows k d))
 
@@ -97,44 +80,60 @@ module _ (slip : List ℕ) where
       let z : 2 + n - 2 ≡ n = omega arith in
       rw (d, z, e)
 
-  -- where the slip ends with its fields, each field is there
-  module _ (whole : length slip ≡ fieldAt slip 4) where
-    pub some-byte : 0 < length slip
-    some-byte = omega (arith, at-grows 0 4, at-first)
-
-    pub field-fits : (k d : ℕ) → d + suc k ≡ 4 → fieldAt slip k + fieldLength slip k ≤ length slip
-    field-fits k d e =
-        let g : fieldAt slip (suc k) ≤ fieldAt slip 4 = rw e at (at-grows (suc k) d) in
-        omega (arith, at-next k)
-
   pub start-there : (n at : ℕ) → stands slip 0 ≡ true → n ≡ numIndices (slipGrid slip) → at ≡ fieldAt slip 0 → words n slip at ++ drop n (replicate 16 0) ≡ padded 16 (slipStart slip)
   unfolding slipStart front
   start-there n at t e f = rw (t, e, f, length-words)
 
-  pub field-ends : (k end : ℕ) → end ≡ fieldAt slip k + fieldLength slip k → end ≤ length slip → EndsAt end ≡ fieldOf slip k
-  unfolding fieldOf
-  field-ends k end e h =
-      let n : fieldAt slip (suc k) ≡ end = at-next k ∙ sym e in
-      rw (n, le-leb end (length slip) h)
-
-  pub field-missing : (k : ℕ) → length slip < fieldAt slip k + fieldLength slip k → Missing ≡ fieldOf slip k
-  unfolding fieldOf
-  field-missing k h = rw (lt-leb (fieldAt slip (suc k)) (length slip) (omega (arith, at-next k)))
-
-  pub ends-at : (k end : ℕ) → fieldOf slip k ≡ EndsAt end → (end ≡ fieldAt slip (suc k)) × (end ≤ length slip)
-  unfolding fieldOf
-  ends-at k end e =
-      let t = told (leb (fieldAt slip (suc k)) (length slip)) (fieldAt slip (suc k)) end e in
-      (t .1, omega (arith, t .1, leb-true (fieldAt slip (suc k)) (length slip) (t .0)))
-
-  -- the fields named end behind the slip's end
-  pub inexact : (k d : ℕ) → d + k ≡ 4 → length slip < fieldAt slip k → Inexact ≡ fieldsOf slip
-  unfolding fieldsOf
+  -- field k ends behind the slip's end
+  pub inexact : (k d : ℕ) → d + k ≡ 5 → length slip < fieldAt slip k → question14 slip .answeredYes ≡ false
   inexact k d e h =
-      let g : fieldAt slip k ≤ fieldAt slip 4 = rw e at (at-grows k d) in
-      rw (ne-eqb (length slip) (fieldAt slip 4) (λ f. omega arith))
+      let g : fieldAt slip k ≤ fieldAt slip 5 = rw e at (at-grows k d) in
+      ne-eqb (length slip) (fieldsEnd slip) (λ f. omega arith)
 
-  pub missing : (k d : ℕ) → d + suc k ≡ 4 → fieldOf slip k ≡ Missing → Inexact ≡ fieldsOf slip
-  unfolding fieldOf
-  missing k d e f =
-      inexact (suc k) d e (leb-false (fieldAt slip (suc k)) (length slip) (untold (leb (fieldAt slip (suc k)) (length slip)) (fieldAt slip (suc k)) f))
+  pub exact : length slip ≡ fieldsEnd slip → question14 slip .answeredYes ≡ true
+  exact = eq-eqb (length slip) (fieldsEnd slip)
+
+  -- where question 13 is answered yes, exactly one of bits 2, 3 and 4 stands
+  module _ (head : question13 slip .answeredYes ≡ true) where
+    pub head-fits : headLength slip ≤ length slip
+    head-fits = leb-true (headLength slip) (length slip) (and-left (leb (headLength slip) (length slip)) _ head)
+
+    one-bit : eqb (length (filter (stands slip) (2 ∷ 3 ∷ 4 ∷ []))) 1 ≡ true
+    unfolding isMap stands
+    one-bit = and-right (all (λ k. not (bit (getD slip 0 0) k)) (upFrom 5 3)) _ (and-right (leb (headLength slip) (length slip)) (isMap (getD slip 0 0)) head)
+
+    -- labels: neither game nor losses
+    pub labels-only : stands slip 2 ≡ true → (stands slip 3 ≡ false) × (stands slip 4 ≡ false)
+    labels-only two = go (stands slip 3) (stands slip 4) refl refl
+      where
+        go : (b c : Bool) → stands slip 3 ≡ b → stands slip 4 ≡ c → (b ≡ false) × (c ≡ false)
+        go true true y z = absurd-bool (sym (rw (two, y, z) at one-bit))
+        go true false y z = absurd-bool (sym (rw (two, y, z) at one-bit))
+        go false true y z = absurd-bool (sym (rw (two, y, z) at one-bit))
+        go false false y z = (refl, refl)
+
+    module _ (two : stands slip 2 ≡ false) where
+      -- a game: no losses
+      pub game-only : stands slip 3 ≡ true → stands slip 4 ≡ false
+      game-only three = ⊎-elim (λ (y : stands slip 4 ≡ true). absurd-bool (sym (rw (two, three, y) at one-bit))) (λ n. n) (true-or-false (stands slip 4))
+
+      -- neither labels nor a game: losses
+      pub losses-only : stands slip 3 ≡ false → stands slip 4 ≡ true
+      losses-only three = ⊎-elim (λ y. y) (λ (n : stands slip 4 ≡ false). absurd-bool (sym (rw (two, three, n) at one-bit))) (true-or-false (stands slip 4))
+
+    -- the one field of the three is the last of the slip
+    pub labels-last : stands slip 2 ≡ true → fieldsEnd slip ≡ fieldAt slip 2 + numPoints (slipGrid slip)
+    labels-last two =
+        let none = labels-only two in
+        omega (arith, at-next 2, at-next 3, at-next 4, length-there 2 two, length-absent 3 (none .0), length-absent 4 (none .1))
+
+    pub game-last : stands slip 2 ≡ false → stands slip 3 ≡ true → (fieldAt slip 3 ≡ fieldAt slip 2) × (fieldsEnd slip ≡ fieldAt slip 2 + 1)
+    game-last two three =
+        let none = length-absent 2 two in
+        (omega (arith, at-next 2, none), omega (arith, at-next 2, at-next 3, at-next 4, none, length-there 3 three, length-absent 4 (game-only two three)))
+
+    pub losses-last : stands slip 2 ≡ false → stands slip 3 ≡ false → (fieldAt slip 4 ≡ fieldAt slip 2) × (fieldsEnd slip ≡ fieldAt slip 2 + 2 * numLosses (slipGrid slip))
+    losses-last two three =
+        let none = length-absent 2 two in
+        let some = length-there 4 (losses-only two three) in
+        (omega (arith, at-next 2, at-next 3, none, length-absent 3 three), omega (arith, at-next 2, at-next 3, at-next 4, none, length-absent 3 three, some))

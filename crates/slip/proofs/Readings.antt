@@ -1,30 +1,58 @@
 -- What a slip is read to, question by question. Assumes nothing.
 use mathlib.Core.Bool.{Bool, true, false, cond}
-use mathlib.Core.List.{List, [], _∷_}
-use mathlib.Core.Path.{_≡_, refl, ap, _∙_}
-use Prim.Native.Nat.{ℕ, _≤_}
-use borrow.Author.Tests.{leb-true, eqb-true, ne-eqb}
+use mathlib.Core.List.{List, [], _∷_, _++_}
+use mathlib.Core.Path.{_≡_, refl, sym, ap, _∙_}
+use Prim.Native.Nat.{ℕ, _≤_, _<_}
+use borrow.Author.Tests.{leb-true, leb-false, le-leb, lt-leb, ne-eqb}
 use lib.Dec.{eqb, leb}
-use lib.ListN.{length}
+use lib.ListN.{length, replicate}
 use native.Mathlib.Omega.{arith}
-use Rattle.combinatorics.proofs.Basics.{and-left}
-use Rattle.questions.proofs.Answers.{first-append}
-use Rattle.questions.specs.Questions.{firstNo}
-use Rattle.grid.proofs.Accepted.{accepted as grid-accepted}
+use Rattle.combinatorics.proofs.Basics.{and-left, and-right}
+use Rattle.combinatorics.proofs.Fronts.{front-length}
+use Rattle.combinatorics.specs.Lists.{all}
+use Rattle.grid.proofs.Accepted.{Accepted, accepted as grid-accepted}
 use Rattle.grid.proofs.Fields.{shape-of, is-made}
 use Rattle.grid.specs.declared.Grid.{Grid as GridStruct}
-use Rattle.grid.specs.Grid.{numIndices, numPoints}
-use Rattle.grid.specs.Made.{gridOf, shape}
+use Rattle.grid.specs.Grid.{numBlocks, numIndices, numPoints}
+use Rattle.grid.specs.Made.{gridOf, shape, IsMade, padded}
+use Rattle.questions.specs.Questions.{Question, firstNo}
 use Rattle.grid.specs.Questions.{gridQuestions}
-use Rattle.slip.proofs.Laws.{told, untold}
+use Rattle.slip.proofs.Laws.{inexact}
+use Rattle.slip.specs.declared.Budget.the-variants.{Is, Missing as NoBudget}
 use Rattle.slip.specs.declared.Field.the-variants.{EndsAt, Missing}
-use Rattle.slip.specs.declared.Fields.the-variants.{At, Inexact}
 use Rattle.slip.specs.declared.Reading.{Reading}
-use Rattle.slip.specs.Reading.{refusal, accepted, readingOf, headOf, fieldsOf, Asked, Exact}
-use Rattle.slip.specs.Slip.{slipGrid, headLength, fieldAt, question13, question14, question15, readQuestions}
+use Rattle.slip.specs.declared.Table.{Table}
+use Rattle.slip.specs.declared.Table.the-variants.{LabelsFrom, Game, LossesFrom, Missing as NoTable}
+use Rattle.slip.specs.Reading.{refusal, accepted, readingOf, headOf, startOf, budgetOf, tableOf, tableNamed, Asked}
+use Rattle.slip.specs.Slip.{stands, slipGrid, slipStart, slipBudget, slipGame, headLength, fieldAt, question13, question14, question15, readQuestions}
+
+-- one question more in front: with `early` the first no of some questions, `later` that of more, and `rest` that of those behind
+in-front : (yes : Bool) (n early later rest : ℕ) → 1 ≤ n → later ≡ cond (eqb early 0) rest early → cond yes later n ≡ cond (eqb (cond yes early n) 0) rest (cond yes early n)
+in-front true n early later rest h e = e
+in-front false n early later rest h e = rw (ne-eqb n 0 (λ z. omega arith))
+
+-- questions are asked until one is answered no
+pub first-append : (qs rs : List Question) → all (λ q. leb 1 (q .number)) qs ≡ true → firstNo (qs ++ rs) ≡ cond (eqb (firstNo qs) 0) (firstNo rs) (firstNo qs)
+unfolding firstNo
+first-append [] rs a = refl
+first-append (q ∷ qs) rs a =
+    let numbered = all (λ q. leb 1 (q .number)) qs in
+    in-front (q .answeredYes) (q .number) (firstNo qs) (firstNo (qs ++ rs)) (firstNo rs)
+    (leb-true 1 (q .number) (and-left (leb 1 (q .number)) numbered a))
+    (first-append qs rs (and-right (leb 1 (q .number)) numbered a))
+
+-- what a field answers tells whether its bytes are there
+told : (b : Bool) (x end : ℕ) → cond b (EndsAt x) Missing ≡ EndsAt end → (b ≡ true) × (end ≡ x)
+told true x end e = (refl, cc)
+told false x end e = absurd (let z : _≡_ {A = ℕ} 0 1 = cc in omega arith)
+
+untold : (b : Bool) (x : ℕ) → cond b (EndsAt x) Missing ≡ Missing → b ≡ false
+untold true x e = absurd (let z : _≡_ {A = ℕ} 0 1 = cc in omega arith)
+untold false x e = refl
 
 module _ (slip : List ℕ) where
-  pub number-is : firstNo (readQuestions slip) ≡ cond (question13 slip .answeredYes) (cond (eqb (firstNo (gridQuestions (slipGrid slip))) 0) (firstNo (question14 slip ∷ question15 slip ∷ [])) (firstNo (gridQuestions (slipGrid slip)))) 13
+  pub number-is : firstNo (readQuestions slip)
+      ≡ cond (question13 slip .answeredYes) (cond (eqb (firstNo (gridQuestions (slipGrid slip))) 0) (firstNo (question14 slip ∷ question15 slip ∷ [])) (firstNo (gridQuestions (slipGrid slip)))) 13
   unfolding firstNo
   number-is = ap (λ n. cond (question13 slip .answeredYes) n 13) (first-append (gridQuestions (slipGrid slip)) (question14 slip ∷ question15 slip ∷ []) refl)
 
@@ -42,15 +70,19 @@ module _ (slip : List ℕ) where
   fields-number false b x = refl
 
   -- behind questions 13 and 1 to 4
-  pub reading-is : question13 slip .answeredYes ≡ true → firstNo (gridQuestions (slipGrid slip)) ≡ 0 → readingOf slip ≡ cond (question14 slip .answeredYes) (cond (question15 slip .answeredYes) (accepted slip) (refusal 15)) (refusal 14)
-  unfolding readingOf firstNo
-  reading-is e f = rw (number-is, e, f) (fields-number (question14 slip .answeredYes) (question15 slip .answeredYes) (accepted slip))
+  module _ (head : question13 slip .answeredYes ≡ true) (accepts : firstNo (gridQuestions (slipGrid slip)) ≡ 0) where
+    reading-is : readingOf slip ≡ cond (question14 slip .answeredYes) (cond (question15 slip .answeredYes) (accepted slip) (refusal 15)) (refusal 14)
+    unfolding readingOf firstNo
+    reading-is = rw (number-is, head, accepts) (fields-number (question14 slip .answeredYes) (question15 slip .answeredYes) (accepted slip))
 
-  pub all-yes : question13 slip .answeredYes ≡ true → firstNo (gridQuestions (slipGrid slip)) ≡ 0 → question14 slip .answeredYes ≡ true → question15 slip .answeredYes ≡ true → accepted slip ≡ readingOf slip
-  all-yes e f g h = rw (reading-is e f, g, h)
+    pub refused-14 : question14 slip .answeredYes ≡ false → refusal 14 ≡ readingOf slip
+    refused-14 e = sym (reading-is ∙ rw e)
 
-  pub head-fits : question13 slip .answeredYes ≡ true → headLength slip ≤ length slip
-  head-fits e = leb-true (headLength slip) (length slip) (and-left (leb (headLength slip) (length slip)) _ e)
+    pub refused-15 : question14 slip .answeredYes ≡ true → question15 slip .answeredYes ≡ false → refusal 15 ≡ readingOf slip
+    refused-15 e f = sym (reading-is ∙ rw (e, f))
+
+    pub all-yes : question14 slip .answeredYes ≡ true → question15 slip .answeredYes ≡ true → accepted slip ≡ readingOf slip
+    all-yes e f = rw (reading-is, e, f)
 
   pub head-there : (at : ℕ) → headOf slip ≡ EndsAt at → (question13 slip .answeredYes ≡ true) × (at ≡ headLength slip)
   unfolding headOf
@@ -60,37 +92,103 @@ module _ (slip : List ℕ) where
   unfolding headOf
   head-missing e = untold (question13 slip .answeredYes) (headLength slip) e
 
-  fields-told : (b : Bool) (x y z x′ y′ z′ : ℕ) → cond b (At x y z) Inexact ≡ At x′ y′ z′ → (b ≡ true) × (x′ ≡ x) × (y′ ≡ y) × (z′ ≡ z)
-  fields-told true x y z x′ y′ z′ e = (refl, cc, cc, cc)
-  fields-told false x y z x′ y′ z′ e = absurd (let z : _≡_ {A = ℕ} 0 1 = cc in omega arith)
+  -- the start's bytes are there, or not
+  pub start-is : fieldAt slip 1 ≤ length slip → startOf slip ≡ record { field = EndsAt (fieldAt slip 1); start = padded 16 (slipStart slip) }
+  unfolding startOf
+  start-is h = rw (le-leb (fieldAt slip 1) (length slip) h)
 
-  pub fields-there : (budget labels game : ℕ) → fieldsOf slip ≡ At budget labels game → (length slip ≡ fieldAt slip 4) × (budget ≡ fieldAt slip 1) × (labels ≡ fieldAt slip 2) × (game ≡ fieldAt slip 3)
-  unfolding fieldsOf
-  fields-there budget labels game e =
-      let t = fields-told (question14 slip .answeredYes) (fieldAt slip 1) (fieldAt slip 2) (fieldAt slip 3) budget labels game e in
-      (eqb-true (length slip) (fieldAt slip 4) (t .0), t .1, t .2, t .3)
+  pub no-start : length slip < fieldAt slip 1 → startOf slip ≡ record { field = Missing; start = replicate 16 0 }
+  unfolding startOf
+  no-start h = rw (lt-leb (fieldAt slip 1) (length slip) h)
 
-  fields-untold : (b : Bool) (x y z : ℕ) → cond b (At x y z) Inexact ≡ Inexact → b ≡ false
-  fields-untold true x y z e = absurd (let z : _≡_ {A = ℕ} 0 1 = cc in omega arith)
-  fields-untold false x y z e = refl
+  pub start-there : (end : ℕ) → startOf slip .field ≡ EndsAt end → (end ≡ fieldAt slip 1) × (end ≤ length slip) × (startOf slip .start ≡ padded 16 (slipStart slip))
+  unfolding startOf
+  start-there end e =
+      let t = told (leb (fieldAt slip 1) (length slip)) (fieldAt slip 1) end e in
+      (t .1, omega (arith, t .1, leb-true (fieldAt slip 1) (length slip) (t .0)), rw (t .0))
 
-  pub fields-inexact : fieldsOf slip ≡ Inexact → question14 slip .answeredYes ≡ false
-  unfolding fieldsOf
-  fields-inexact e = fields-untold (question14 slip .answeredYes) (fieldAt slip 1) (fieldAt slip 2) (fieldAt slip 3) e
+  pub start-missing : startOf slip .field ≡ Missing → question14 slip .answeredYes ≡ false
+  unfolding startOf
+  start-missing e = inexact slip 1 4 (omega arith) (leb-false (fieldAt slip 1) (length slip) (untold (leb (fieldAt slip 1) (length slip)) (fieldAt slip 1) e))
 
-  module _ (at : ℕ) (grid : GridStruct) (a : Asked slip at grid) where
-    pub asked-fields : (at ≡ headLength slip) × (at ≤ length slip) × (grid .indices ≡ numIndices (slipGrid slip)) × (grid .indices ≤ 16) × (grid .points ≡ numPoints (slipGrid slip)) × (grid .points ≤ 60000)
+  -- and so of the budget
+  pub budget-is : fieldAt slip 2 ≤ length slip → budgetOf slip ≡ Is (slipBudget slip) (fieldAt slip 2)
+  unfolding budgetOf
+  budget-is h = rw (le-leb (fieldAt slip 2) (length slip) h)
+
+  pub no-budget : length slip < fieldAt slip 2 → budgetOf slip ≡ NoBudget
+  unfolding budgetOf
+  no-budget h = rw (lt-leb (fieldAt slip 2) (length slip) h)
+
+  budget-told : (b : Bool) (places end x y : ℕ) → cond b (Is x y) NoBudget ≡ Is places end → (b ≡ true) × (places ≡ x) × (end ≡ y)
+  budget-told true places end x y e = (refl, cc, cc)
+  budget-told false places end x y e = absurd (let z : _≡_ {A = ℕ} 0 1 = cc in omega arith)
+
+  budget-untold : (b : Bool) (x y : ℕ) → cond b (Is x y) NoBudget ≡ NoBudget → b ≡ false
+  budget-untold true x y e = absurd (let z : _≡_ {A = ℕ} 0 1 = cc in omega arith)
+  budget-untold false x y e = refl
+
+  pub budget-there : (places end : ℕ) → budgetOf slip ≡ Is places end → (places ≡ slipBudget slip) × (end ≡ fieldAt slip 2) × (end ≤ length slip)
+  unfolding budgetOf
+  budget-there places end e =
+      let t = budget-told (leb (fieldAt slip 2) (length slip)) places end (slipBudget slip) (fieldAt slip 2) e in
+      (t .1, t .2, omega (arith, t .2, leb-true (fieldAt slip 2) (length slip) (t .0)))
+
+  pub budget-missing : budgetOf slip ≡ NoBudget → question14 slip .answeredYes ≡ false
+  unfolding budgetOf
+  budget-missing e = inexact slip 2 3 (omega arith) (leb-false (fieldAt slip 2) (length slip) (budget-untold (leb (fieldAt slip 2) (length slip)) (slipBudget slip) (fieldAt slip 2) e))
+
+  -- labels, game or losses
+  pub table-is : question14 slip .answeredYes ≡ true → tableOf slip ≡ tableNamed slip
+  unfolding tableOf
+  table-is e = rw e
+
+  pub no-table : question14 slip .answeredYes ≡ false → tableOf slip ≡ NoTable
+  unfolding tableOf
+  no-table e = rw e
+
+  named : (a b : Bool) (x y z : ℕ) → cond a (LabelsFrom x) (cond b (Game y) (LossesFrom z)) ≡ NoTable → ⊥
+  named true b x y z e = let z : _≡_ {A = ℕ} 0 1 = cc in omega arith
+  named false true x y z e = let z : _≡_ {A = ℕ} 0 1 = cc in omega arith
+  named false false x y z e = let z : _≡_ {A = ℕ} 0 1 = cc in omega arith
+
+  table-told : (b : Bool) (t : Table) → (t ≡ NoTable → ⊥) → cond b t NoTable ≡ NoTable → b ≡ false
+  table-told true t n e = absurd (n e)
+  table-told false t n e = refl
+
+  pub table-missing : tableOf slip ≡ NoTable → question14 slip .answeredYes ≡ false
+  unfolding tableOf
+  table-missing e = table-told (question14 slip .answeredYes) (tableNamed slip) (named (stands slip 2) (stands slip 3) (fieldAt slip 2) (slipGame slip) (fieldAt slip 4)) e
+
+  table-some : (b : Bool) (t : Table) → (cond b t NoTable ≡ NoTable → ⊥) → b ≡ true
+  table-some true t n = refl
+  table-some false t n = absurd (n refl)
+
+  pub table-there : (tableOf slip ≡ NoTable → ⊥) → question14 slip .answeredYes ≡ true
+  unfolding tableOf
+  table-there n = table-some (question14 slip .answeredYes) (tableNamed slip) n
+
+  -- the struct that the fields are read with
+  module _ (grid : GridStruct) (a : Asked slip grid) where
+    pub is-accepted : Accepted (slipGrid slip)
+    is-accepted = grid-accepted (slipGrid slip) (a .accepts)
+
+    pub asked-made : IsMade grid × (shape grid ≡ slipGrid slip)
+    asked-made = (rw (a .isGrid) (is-made (slipGrid slip) (a .accepts)), ap shape (a .isGrid) ∙ shape-of (slipGrid slip) (is-accepted .sameNumber))
+
+    pub asked-indices : (grid .indices ≡ numIndices (slipGrid slip)) × (grid .indices ≤ 16)
     unfolding gridOf
-    asked-fields =
-        let g = grid-accepted (slipGrid slip) (a .accepts) in
+    asked-indices =
         let i : grid .indices ≡ numIndices (slipGrid slip) = ap (λ z. z .indices) (a .isGrid) in
-        let p : grid .points ≡ numPoints (slipGrid slip) = ap (λ z. z .points) (a .isGrid) in
-        (a .begins, omega (arith, a .begins, head-fits (a .head)), i, omega (arith, g .fewIndices), p, omega (arith, g .fewPoints))
+        (i, omega (arith, is-accepted .fewIndices))
 
-    pub asked-exact : length slip ≡ fieldAt slip 4 → Exact slip grid
-    asked-exact e =
-        record {
-          made = rw (a .isGrid) (is-made (slipGrid slip) (a .accepts));
-          isGrid = ap shape (a .isGrid) ∙ shape-of (slipGrid slip) (grid-accepted (slipGrid slip) (a .accepts) .sameNumber);
-          whole = e;
-        }
+    pub asked-points : grid .points ≡ numPoints (slipGrid slip)
+    unfolding gridOf
+    asked-points = ap (λ z. z .points) (a .isGrid)
+
+    pub sizes-room : grid .blocks ≤ length (grid .sizes)
+    unfolding gridOf
+    sizes-room =
+        let few = is-accepted .fewBlocks in
+        let b : grid .blocks ≡ numBlocks (slipGrid slip) = ap (λ z. z .blocks) (a .isGrid) in
+        omega (arith, b, few, ap (λ z. length (z .sizes)) (a .isGrid) ∙ front-length (slipGrid slip .sizes) (replicate 6 0) few)

@@ -1,65 +1,84 @@
 -- What the functions of the crate answer, by document 01's definitions. Assumes nothing.
-use mathlib.Core.Bool.{true, cond}
+use mathlib.Core.Bool.{true, false, cond}
 use mathlib.Core.List.{List, []}
 use mathlib.Core.Path.{_≡_}
-use Prim.Native.Nat.{ℕ, suc, _-_}
+use Prim.Native.Nat.{ℕ}
 use lib.Dec.{eqb, leb}
-use lib.ListN.{length, take, drop, replicate}
-use Rattle.questions.specs.Questions.{firstNo}
+use lib.ListN.{length, drop, replicate}
 use Rattle.grid.specs.declared.Grid.{Grid as GridStruct}
-use Rattle.grid.specs.Made.{gridOf, noGrid, padded, shape, IsMade}
+use Rattle.grid.specs.Made.{gridOf, noGrid, padded}
+use Rattle.questions.specs.Questions.{firstNo}
 use Rattle.grid.specs.Questions.{gridQuestions}
-use Rattle.slip.specs.Slip.{slipGrid, slipStart, slipBudget, slipGame, fieldAt, readQuestions, headLength, question13, question14}
+use Rattle.slip.specs.Slip.{stands, slipGrid, slipStart, slipBudget, slipGame, slipLosses, fieldAt, readQuestions, headLength}
+use Rattle.slip.specs.Slip.{question11, question13, question14}
+use Rattle.slip.specs.declared.Budget.{Budget}
+use Rattle.slip.specs.declared.Budget.the-variants.{Is, Missing as NoBudget}
 use Rattle.slip.specs.declared.Field.{Field}
 use Rattle.slip.specs.declared.Field.the-variants.{EndsAt, Missing}
-use Rattle.slip.specs.declared.Fields.{Fields}
-use Rattle.slip.specs.declared.Fields.the-variants.{At, Inexact}
-use Rattle.slip.specs.declared.Part.{Part}
+use Rattle.slip.specs.declared.Losses.{Losses}
+use Rattle.slip.specs.declared.Losses.the-variants.{Count, OutOfRange}
 use Rattle.slip.specs.declared.Reading.{Reading}
-
-abbrev pub part : ℕ → ℕ → Part
-part begin end = record { begin = begin; end = end }
-
-abbrev pub reading : ℕ → GridStruct → List ℕ → ℕ → Part → ℕ → Reading
-reading code grid start budget labels game = record { code = code; grid = grid; start = start; budget = budget; labels = labels; game = game }
-
--- "A refusal returns its number", and nothing else
-abbrev pub refusal : ℕ → Reading
-refusal number = reading number noGrid (replicate 16 0) 0 (part 0 0) 0
-
--- what an accepted slip says
-abbrev pub accepted : List ℕ → Reading
-accepted slip = reading 0 (gridOf (slipGrid slip)) (padded 16 (slipStart slip)) (slipBudget slip) (part (fieldAt slip 2) (fieldAt slip 3)) (slipGame slip)
-
--- the number of the first of the questions up to 15 that is answered no, or 0 and what the slip says
-unfoldable pub readingOf : List ℕ → Reading
-readingOf slip = cond (eqb (firstNo (readQuestions slip)) 0) (accepted slip) (refusal (firstNo (readQuestions slip)))
-
--- the part of the slip's bytes where a reading has the labels; empty where the slip has no such part
-unfoldable pub labelsOf : List ℕ → Reading → List ℕ
-labelsOf slip r = cond (leb (r .labels .end) (length slip)) (take (r .labels .end - r .labels .begin) (drop (r .labels .begin) slip)) []
+use Rattle.slip.specs.declared.Start.{Start}
+use Rattle.slip.specs.declared.Table.{Table}
+use Rattle.slip.specs.declared.Table.the-variants.{LabelsFrom, Game, LossesFrom, Missing as NoTable}
 
 -- map, N, sizes and divisions as a field: the position behind them, unless question 13 is answered no
 unfoldable pub headOf : List ℕ → Field
 headOf slip = cond (question13 slip .answeredYes) (EndsAt (headLength slip)) Missing
 
--- field k: the position behind it, where its bytes are there
-unfoldable pub fieldOf : List ℕ → ℕ → Field
-fieldOf slip k = cond (leb (fieldAt slip (suc k)) (length slip)) (EndsAt (fieldAt slip (suc k))) Missing
+-- the start where its bytes are there, and the position behind them
+unfoldable pub startOf : List ℕ → Start
+startOf slip =
+    let fits = leb (fieldAt slip 1) (length slip) in
+    record { field = cond fits (EndsAt (fieldAt slip 1)) Missing; start = cond fits (padded 16 (slipStart slip)) (replicate 16 0) }
 
--- where the fields begin, unless question 14 is answered no
-unfoldable pub fieldsOf : List ℕ → Fields
-fieldsOf slip = cond (question14 slip .answeredYes) (At (fieldAt slip 1) (fieldAt slip 2) (fieldAt slip 3)) Inexact
+-- the budget where its bytes are there, and the position behind them
+unfoldable pub budgetOf : List ℕ → Budget
+budgetOf slip = cond (leb (fieldAt slip 2) (length slip)) (Is (slipBudget slip) (fieldAt slip 2)) NoBudget
 
--- where the fields are looked for: questions 13 and 1 to 4 are answered yes, the struct is the slip's grid, and the fields begin at a position
-pub record Asked (slip : List ℕ) (at : ℕ) (grid : GridStruct) : Type 0 where
+-- the one of labels, game and losses that the map names
+abbrev pub tableNamed : List ℕ → Table
+tableNamed slip = cond (stands slip 2) (LabelsFrom (fieldAt slip 2)) (cond (stands slip 3) (Game (slipGame slip)) (LossesFrom (fieldAt slip 4)))
+
+-- unless question 14 is answered no
+unfoldable pub tableOf : List ℕ → Table
+tableOf slip = cond (question14 slip .answeredYes) (tableNamed slip) NoTable
+
+abbrev pub reading : ℕ → GridStruct → List ℕ → ℕ → Table → Reading
+reading code grid start budget table = record { code = code; grid = grid; start = start; budget = budget; table = table }
+
+-- "A refusal returns its number", and nothing else
+abbrev pub refusal : ℕ → Reading
+refusal number = reading number noGrid (replicate 16 0) 0 NoTable
+
+-- what an accepted slip says
+abbrev pub accepted : List ℕ → Reading
+accepted slip = reading 0 (gridOf (slipGrid slip)) (padded 16 (slipStart slip)) (slipBudget slip) (tableNamed slip)
+
+-- the number of the first of the questions up to 15 that is answered no, or 0 and what the slip says
+unfoldable pub readingOf : List ℕ → Reading
+readingOf slip = let number = firstNo (readQuestions slip) in cond (eqb number 0) (accepted slip) (refusal number)
+
+-- the part of the slip's bytes where a reading has the labels; empty where it has none
+unfoldable pub labelsIn : List ℕ → Table → List ℕ
+labelsIn slip (LabelsFrom begin) = drop begin slip
+labelsIn slip (Game number) = []
+labelsIn slip (LossesFrom begin) = []
+labelsIn slip NoTable = []
+
+-- question 11 of a slip with a game or losses, and how many losses there are
+unfoldable pub lossesOf : List ℕ → Losses
+lossesOf slip = cond (question11 slip .answeredYes) (Count (length (slipLosses slip))) OutOfRange
+
+-- where the fields are read: questions 13 and 1 to 4 are answered yes, and the struct is the slip's grid
+pub record Asked (slip : List ℕ) (grid : GridStruct) : Type 0 where
   pub head : question13 slip .answeredYes ≡ true
   pub accepts : firstNo (gridQuestions (slipGrid slip)) ≡ 0
   pub isGrid : grid ≡ gridOf (slipGrid slip)
-  pub begins : at ≡ headLength slip
 
--- where the fields are read: the struct is the slip's grid, and question 14 is answered yes
-pub record Exact (slip : List ℕ) (grid : GridStruct) : Type 0 where
-  pub made : IsMade grid
-  pub isGrid : shape grid ≡ slipGrid slip
-  pub whole : length slip ≡ fieldAt slip 4
+-- a reading of a slip with a game or losses, and room for the losses
+pub record WithLosses (slip : List ℕ) (r : Reading) (room : List ℕ) : Type 0 where
+  pub isReading : r ≡ readingOf slip
+  pub read : r .code ≡ 0
+  pub noLabels : stands slip 2 ≡ false
+  pub whole : length room ≡ 1944

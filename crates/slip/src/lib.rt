@@ -1,16 +1,18 @@
-// Slips: what the bytes say, or the question that refuses them.
+// Slips: what the bytes say, or the question that refuses them. The printer alone calls what is public here, and shows
+// what it asks.
+ghost use mathlib.Core.Bool.{true};
 ghost use mathlib.Core.Path.{_≡_};
 ghost use Prim.Native.Nat.{_≤_};
 ghost use lib.ListN.{length};
+ghost use Rattle.combinatorics.specs.Front.{front};
 ghost use Rattle.grid.specs.Made.{madeOf};
-ghost use Rattle.slip.specs.Reading.{refusal, readingOf, labelsOf, Asked};
-ghost use Rattle.slip.specs.Slip.{slipGrid, headLength, numBlocksOf};
+ghost use Rattle.slip.specs.Reading.{refusal, readingOf, tableNamed, labelsIn, lossesOf, Asked, WithLosses};
+ghost use Rattle.slip.specs.Slip.{slipGrid, slipLosses, headLength, numBlocksOf, question13, question15};
 use grid::Grid;
 use grid::Made;
+use grid::wide;
 
-mod contents;
-mod layout;
-mod numbers;
+mod fields;
 
 // The position behind a field, or that its bytes are not there.
 pub enum Field {
@@ -18,20 +20,25 @@ pub enum Field {
     Missing,
 }
 
-// Where budget, labels and game begin, or that the fields named do not end where the slip ends.
-pub enum Fields {
-    At {
-        budget: usize,
-        labels: usize,
-        game: usize,
-    },
-    Inexact,
+// The start's numbers at the front, 0 behind, and the position behind the field.
+pub struct Start {
+    pub field: Field,
+    pub start: [u16; 16],
 }
 
-// Where a part of the slip begins and ends.
-pub struct Part {
-    pub begin: usize,
-    pub end: usize,
+// The budget and the position behind the field, or that its bytes are not there.
+pub enum Budget {
+    Is { places: u64, end: usize },
+    Missing,
+}
+
+// What stands at the end of a slip: labels or losses from a position on, or the number of a game; or that the remaining
+// bytes are not exactly the field.
+pub enum Table {
+    LabelsFrom(usize),
+    Game(u8),
+    LossesFrom(usize),
+    Missing,
 }
 
 // What a slip says, or the number of the question answered no beside zeros.
@@ -41,10 +48,13 @@ pub struct Reading {
     // the start's numbers at the front, 0 behind
     pub start: [u16; 16],
     pub budget: u64,
-    // the label field, which is empty with a game
-    pub labels: Part,
-    // the game's number, or 0
-    pub game: u8,
+    pub table: Table,
+}
+
+// How many losses a slip has, or that question 11 is answered no.
+pub enum Losses {
+    Count(usize),
+    OutOfRange,
 }
 
 fn refused(code: u8) -> Reading
@@ -62,14 +72,12 @@ fn refused(code: u8) -> Reading
         indices: 0,
         points: 0,
     };
-    let labels = Part { begin: 0, end: 0 };
     Reading {
         code,
         grid,
         start: [0u16; 16],
         budget: 0,
-        labels,
-        game: 0,
+        table: Table::Missing,
     }
 }
 
@@ -79,7 +87,7 @@ fn grid_in(slip: &[u8], divisions: &mut [u16]) -> Made
     ensures { λ r. ⌜ r ≡ madeOf (slipGrid (now (slip .entry))) ⌝ }
 {
     let end = 2 + divisions.len();
-    numbers::words(slip, end, divisions);
+    little_endian::words(slip, end, divisions);
     Grid::new(&slip[2..end], divisions)
 }
 
@@ -88,43 +96,50 @@ fn grid_of(slip: &[u8]) -> Made
     requires { ⌜ headLength (now slip) ≤ length (now slip) ⌝ }
     ensures { λ r. ⌜ r ≡ madeOf (slipGrid (now (slip .entry))) ⌝ }
 {
-    let blocks = numbers::wide(slip[1]);
+    let blocks = wide(slip[1]);
     let mut divisions = [0u16; 255];
     grid_in(slip, &mut divisions[..blocks])
 }
 
+// Question 15.
+fn is_known(slip: &[u8], table: Table) -> bool
+    requires { ⌜ (question13 (now slip) .answeredYes ≡ true) × (table ≡ tableNamed (now slip)) ⌝ }
+    ensures { λ r. ⌜ r ≡ question15 (now (slip .entry)) .answeredYes ⌝ }
+{
+    let Table::Game(number) = table else {
+        return true;
+    };
+    let end = 2 + wide(slip[1]);
+    built_in::is_game(number, &slip[2..end])
+}
+
 // Questions 14 and 15, of the fields, which begin at a position.
 fn read_fields(slip: &[u8], at: usize, grid: Grid) -> Reading
-    requires { ⌜ Asked (now slip) at grid ⌝ }
+    requires { ⌜ Asked (now slip) grid × (at ≡ headLength (now slip)) ⌝ }
     ensures { λ r. ⌜ r ≡ readingOf (now (slip .entry)) ⌝ }
 {
-    let indices = grid.indices;
-    let points = grid.points;
-    let Fields::At {
-        budget,
-        labels,
-        game,
-    } = layout::fields(slip, at, indices, points)
-    else {
+    let read = fields::start(slip, at, grid);
+    let field = read.field;
+    let Field::EndsAt(behind) = field else {
         return refused(14);
     };
-    let number = contents::game(slip, game, grid);
-    if !contents::is_known(slip, number) {
+    let Budget::Is { places, end } = fields::budget(slip, behind, grid) else {
+        return refused(14);
+    };
+    let table = fields::table(slip, end, grid);
+    if let Table::Missing = table {
+        return refused(14);
+    }
+    if !is_known(slip, table) {
         return refused(15);
     }
-    let start = contents::start(slip, at, grid);
-    let places = contents::budget(slip, budget, grid);
-    let part = Part {
-        begin: labels,
-        end: game,
-    };
+    let start = read.start;
     Reading {
         code: 0,
         grid,
         start,
         budget: places,
-        labels: part,
-        game: number,
+        table,
     }
 }
 
@@ -132,7 +147,7 @@ fn read_fields(slip: &[u8], at: usize, grid: Grid) -> Reading
 pub fn read(slip: &[u8]) -> Reading
     ensures { λ r. ⌜ r ≡ readingOf (now (slip .entry)) ⌝ }
 {
-    let Field::EndsAt(at) = layout::head(slip) else {
+    let Field::EndsAt(at) = fields::head(slip) else {
         return refused(13);
     };
     let made = grid_of(slip);
@@ -146,15 +161,42 @@ pub fn read(slip: &[u8]) -> Reading
 
 // The part of the slip where a reading has the labels.
 pub fn labels_of(slip: &[u8], reading: Reading) -> &[u8]
-    ensures { λ r. ⌜ now r ≡ labelsOf (now (slip .entry)) reading ⌝ }
+    ensures { λ r. ⌜ now r ≡ labelsIn (now (slip .entry)) (reading .table) ⌝ }
 {
-    let begin = reading.labels.begin;
-    let end = reading.labels.end;
-    if slip.len() < end {
+    let table = reading.table;
+    let Table::LabelsFrom(begin) = table else {
+        return &slip[0..0];
+    };
+    if slip.len() < begin {
         return &slip[0..0];
     }
-    if end < begin {
-        return &slip[0..0];
+    &slip[begin..]
+}
+
+// The losses that are brought, to the front of the room, and question 11.
+fn brought(slip: &[u8], begin: usize, reading: Reading, room: &mut [u16]) -> Losses
+    requires { ⌜ WithLosses (now slip) reading (now room) × (reading .table ≡ Table.LossesFrom begin) ⌝ }
+    ensures { λ r. ⌜ r ≡ lossesOf (now (slip .entry)) ⌝ }
+    ensures { λ _. ⌜ now (room .exit) ≡ front (slipLosses (now (slip .entry))) (now (room .entry)) ⌝ }
+{
+    let count = (slip.len() - begin) / 2;
+    little_endian::words(slip, begin, &mut room[..count]);
+    if !losses::in_range(&room[..count]) {
+        return Losses::OutOfRange;
     }
-    &slip[begin..end]
+    Losses::Count(count)
+}
+
+// The losses of a slip with a game or losses, to the front of the room, and question 11.
+pub fn losses_of(slip: &[u8], reading: Reading, room: &mut [u16]) -> Losses
+    requires { ⌜ WithLosses (now slip) reading (now room) ⌝ }
+    ensures { λ r. ⌜ r ≡ lossesOf (now (slip .entry)) ⌝ }
+    ensures { λ _. ⌜ now (room .exit) ≡ front (slipLosses (now (slip .entry))) (now (room .entry)) ⌝ }
+{
+    let table = reading.table;
+    match table {
+        Table::Game(number) => Losses::Count(built_in::put_losses(number, room)),
+        Table::LossesFrom(begin) => brought(slip, begin, reading, room),
+        _ => Losses::OutOfRange,
+    }
 }

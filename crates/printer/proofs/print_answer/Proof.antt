@@ -1,7 +1,7 @@
 -- `printer::print_answer` meets its contract, case by case. Assumes nothing.
 use mathlib.Core.Path.{sym}
 use lib.Seq.{length-take-le}
-use Rattle.printer.proofs.Arrays.{same-sheet, divisions-room, printable, end-printed}
+use Rattle.printer.proofs.Arrays.{same-sheet, as-prints, divisions-room, printable, end-printed}
 use Rattle.printer.specs.Run.{printed}
 use borrow.Author.Needs.{needs}
 use Rattle.printer.proofs.print_answer.Statement.{statement}
@@ -44,11 +44,11 @@ ended-requires c κs =
 
 returns : tie.Need-returns
 unfolding printed
-returns c = rw (c .before .before .before .answer .given .1) (c .refused .ensures)
+returns c = rw (c .before .before .before .answer .given .1) (as-prints (c .refused .ensures))
 
 returns-2 : tie.Need-returns-2
 unfolding printed
-returns-2 c = rw (c .before .before .before .answer2 .given .1) (c .spent .ensures)
+returns-2 c = rw (c .before .before .before .answer2 .given .1) (as-prints (c .spent .ensures))
 
 returns-3 : tie.Need-returns-3
 unfolding printed
@@ -56,7 +56,7 @@ returns-3 c =
     let s = c .before .before .before .before .before .before .before .before .before .before in
     let end = c .before .before .before .before .before .before .before .answer3 .given in
     let e = end-printed (s .args .grid) (s .pre .0) _ (c .before .before .before .before .before .divisions-of .ensures) (end .0 .1 .1 .1 .0) (s .args .buffer .now) _ _ _ _ _ (c .before .before .before .before .bound .ensures) (c .before .before .before .on-sheet .ensures) in
-    rw (end .1) (same-sheet (s .args .sheet .now) e (c .ended .ensures))
+    rw (end .1) (same-sheet (s .args .sheet .now) e (as-prints (c .ended .ensures)))
 
 pub print-answer-spec : {M : Type 1} → statement M
 print-answer-spec =

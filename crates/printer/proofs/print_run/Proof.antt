@@ -7,7 +7,7 @@ use Rattle.grid.proofs.Fields.{indices-few}
 use Rattle.printer.proofs.Arrays.{same-sheet}
 use Rattle.printer.proofs.Runs.{run-prints}
 use Rattle.grid.specs.Made.{shape}
-use Rattle.printer.specs.Run.{printed, Fits, problemOf, runSheet}
+use Rattle.printer.specs.Run.{printed, Fits, problemWith, runSheet}
 use borrow.Author.Needs.{needs}
 use Rattle.printer.proofs.print_run.Statement.{statement}
 use Rattle.printer.proofs.print_run.Tie as tie
@@ -33,11 +33,11 @@ slice-aggregate-print-answer c = search needs
 printed-run : (c : tie.After-run-on) → let s = c .before .before .before .before .before .before in
     let answer = c .run-on .result in
     let buffer = c .run-on .last .1 .1 .1 .0 in
-    (printed (shape (s .args .reading .grid)) answer buffer ≡ runSheet (problemOf (s .args .reading) (s .args .labels .now)) (s .args .reading .budget))
+    (printed (shape (s .args .reading .grid)) answer buffer ≡ runSheet (problemWith (s .args .reading) (s .args .labels .now)) (s .args .reading .budget))
     × Fits (shape (s .args .reading .grid)) answer buffer
 printed-run c =
     let s = c .before .before .before .before .before .before in
-    rw (c .run-on .ensures .0, c .run-on .ensures .1) (run-prints (problemOf (s .args .reading) (s .args .labels .now)) (s .args .reading .budget) (replicate 256 0) refl)
+    rw (c .run-on .ensures .0, c .run-on .ensures .1) (run-prints (problemWith (s .args .reading) (s .args .labels .now)) (s .args .reading .budget) (replicate 256 0) refl)
 
 print-answer-requires : tie.Need-print-answer-requires
 print-answer-requires c κs =

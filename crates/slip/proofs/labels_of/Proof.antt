@@ -1,13 +1,17 @@
--- `slip::labels_of` meets its contract: the part, or nothing where the slip has no such part. Assumes nothing.
-use mathlib.Core.Path.{_≡_}
-use Prim.Native.Nat.{_-_}
-use borrow.Author.Needs.{needs}
-use borrow.Author.Tests.{le-leb, lt-leb}
-use lib.ListN.{length}
+-- `slip::labels_of` meets its contract: the part, or nothing where the reading has no labels. Assumes nothing.
 use native.Mathlib.Omega.{arith}
-use Rattle.slip.specs.Reading.{labelsOf}
+use mathlib.Core.Path.{sym}
+use Prim.Native.Nat.{_-_}
+use lib.ListN.{length, drop, length-drop, drop-of-length-le}
+use lib.Seq.{take-all}
+use Rattle.slip.proofs.Tables.{not-labels}
+use Rattle.slip.specs.Reading.{labelsIn}
+use borrow.Author.Needs.{needs}
 use Rattle.slip.proofs.labels_of.Statement.{statement}
 use Rattle.slip.proofs.labels_of.Tie as tie
+
+enum-known-table : tie.Need-enum-known-table
+enum-known-table c = search needs
 
 sub-result : tie.Need-sub-result
 sub-result c = search needs
@@ -19,10 +23,7 @@ part-result-end : tie.Need-part-result-end
 part-result-end c = search needs
 
 returns : tie.Need-returns
-unfolding labelsOf
-returns c =
-    let a = c .before .before .args in
-    rw (lt-leb (a .reading .labels .end) (length (a .slip .now)) (omega arith))
+returns c = sym (not-labels (c .before .before .args .slip .now) (c .before .before .args .reading .table) (c .before .match .keys2))
 
 sub-result-2 : tie.Need-sub-result-2
 sub-result-2 c = search needs
@@ -34,11 +35,11 @@ part-result-end-2 : tie.Need-part-result-end-2
 part-result-end-2 c = search needs
 
 returns-2 : tie.Need-returns-2
-unfolding labelsOf
-returns-2 c =
-    let a = c .before .before .before .args in
-    let z : a .reading .labels .end - a .reading .labels .begin ≡ 0 = omega arith in
-    rw (le-leb (a .reading .labels .end) (length (a .slip .now)) (omega arith), z)
+unfolding labelsIn
+returns-2 c = rw (c .before .before .before .table .given .1) (sym (drop-of-length-le (c .before .before .before .before .before .args .slip .now) {i = c .before .before .before .table .given .0 .0} (omega arith)))
+
+sub-result-3 : tie.Need-sub-result-3
+sub-result-3 c = search needs
 
 part-result-start-3 : tie.Need-part-result-start-3
 part-result-start-3 c = search needs
@@ -47,15 +48,14 @@ part-result-end-3 : tie.Need-part-result-end-3
 part-result-end-3 c = search needs
 
 returns-3 : tie.Need-returns-3
-unfolding labelsOf
-returns-3 c =
-    let a = c .before .before .before .args in
-    rw (le-leb (a .reading .labels .end) (length (a .slip .now)) (omega arith))
+unfolding labelsIn
+returns-3 c = rw (c .before .before .before .table .given .1) (take-all (length (c .before .before .before .before .before .args .slip .now) - c .before .before .before .table .given .0 .0) (drop (c .before .before .before .table .given .0 .0) (c .before .before .before .before .before .args .slip .now)) (omega (arith, length-drop (c .before .before .before .table .given .0 .0) (c .before .before .before .before .before .args .slip .now))))
 
 pub labels-of-spec : {M : Type 1} → statement M
 labels-of-spec =
     tie.close
     (tie.spec
+    enum-known-table
     sub-result
     part-result-start
     part-result-end
@@ -64,6 +64,7 @@ labels-of-spec =
     part-result-start-2
     part-result-end-2
     returns-2
+    sub-result-3
     part-result-start-3
     part-result-end-3
     returns-3)

@@ -1,15 +1,16 @@
 -- `slip::read` meets its contract, question by question. Assumes nothing.
 use mathlib.Core.Bool.{true}
 use mathlib.Core.Path.{_≡_, sym, _∙_}
-use borrow.Author.Needs.{needs}
 use Rattle.grid.proofs.Fields.{made-code, made-grid}
-use Rattle.slip.proofs.Readings.{refused-13, refused-grid, head-fits, head-there, head-missing}
+use Rattle.slip.proofs.Laws.{head-fits}
+use Rattle.slip.proofs.Readings.{refused-13, refused-grid, head-there, head-missing}
 use Rattle.slip.specs.Slip.{slipGrid, headLength, question13}
+use borrow.Author.Needs.{needs}
 use Rattle.slip.proofs.read.Statement.{statement}
 use Rattle.slip.proofs.read.Tie as tie
 
 -- map, N, sizes and divisions are there
-there : (c : tie.After-known-told) → (question13 (c .before .before .before .before .before .args .slip .now) .answeredYes ≡ true) × (c .before .at .given .0 .0 ≡ headLength (c .before .before .before .before .before .args .slip .now))
+there : (c : tie.After-known-told) → let slip = c .before .before .before .before .before .args .slip .now in (question13 slip .answeredYes ≡ true) × (c .before .at .given .0 .0 ≡ headLength slip)
 there c = head-there (c .before .before .before .before .before .args .slip .now) (c .before .at .given .0 .0) (sym (c .before .before .before .head .ensures) ∙ c .before .at .given .1)
 
 head-requires : tie.Need-head-requires
@@ -30,7 +31,7 @@ returns c =
     c .refused .ensures ∙ refused-13 slip (head-missing slip (sym (c .before .before .before .head .ensures) ∙ c .before .enum-told .given .1))
 
 grid-of-requires : tie.Need-grid-of-requires
-grid-of-requires c κs = head-fits (c .before .before .before .before .before .args .slip .now) (there c .0)
+grid-of-requires c κs = head-fits (c .before .before .before .before .before .args .slip .now) (there (c) .0)
 
 refused-requires-2 : tie.Need-refused-requires-2
 refused-requires-2 c κs = search needs
@@ -38,7 +39,8 @@ refused-requires-2 c κs = search needs
 returns-2 : tie.Need-returns-2
 returns-2 c =
     let slip = c .before .before .before .before .before .before .before .before .args .slip .now in
-    c .refused2 .ensures ∙ refused-grid slip (c .before .before .grid-of .result .code) (there (c .before .before .before) .0) (sym (made-code (slipGrid slip) (c .before .before .grid-of .result) (c .before .before .grid-of .ensures))) (c .before .if1 .taken)
+    let r = c .before .before .grid-of .result in
+    c .refused2 .ensures ∙ refused-grid slip (r .code) (there (c .before .before .before) .0) (sym (made-code (slipGrid slip) r (c .before .before .grid-of .ensures))) (c .before .if1 .taken)
 
 read-fields-requires : tie.Need-read-fields-requires
 read-fields-requires c κs =
@@ -46,12 +48,7 @@ read-fields-requires c κs =
     let r = c .before .before .grid-of .result in
     let e = c .before .before .grid-of .ensures in
     let t = there (c .before .before .before) in
-    record {
-      head = t .0;
-      accepts = sym (made-code g r e) ∙ c .before .if1 .left;
-      isGrid = made-grid g r e (c .before .if1 .left);
-      begins = t .1;
-    }
+    (record { head = t .0; accepts = sym (made-code g r e) ∙ c .before .if1 .left; isGrid = made-grid g r e (c .before .if1 .left) }, t .1)
 
 returns-3 : tie.Need-returns-3
 returns-3 c = search needs

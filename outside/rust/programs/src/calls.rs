@@ -54,6 +54,7 @@ pub struct Fields<'a> {
     pub budget: Option<u64>,
     pub labels: Option<&'a [u8]>,
     pub game: Option<u8>,
+    pub losses: Option<&'a [u16]>,
 }
 
 impl Fields<'_> {
@@ -62,7 +63,8 @@ impl Fields<'_> {
         let map = bit(self.start.is_some(), 1)
             | bit(self.budget.is_some(), 2)
             | bit(self.labels.is_some(), 4)
-            | bit(self.game.is_some(), 8);
+            | bit(self.game.is_some(), 8)
+            | bit(self.losses.is_some(), 16);
         let mut slip = vec![map, self.sizes.len() as u8];
         slip.extend(self.sizes);
         slip.extend(self.divisions.iter().flat_map(|division| division.to_le_bytes()));
@@ -70,6 +72,7 @@ impl Fields<'_> {
         slip.extend(self.budget.iter().flat_map(|budget| budget.to_le_bytes()));
         slip.extend(self.labels.unwrap_or(&[]));
         slip.extend(self.game);
+        slip.extend(self.losses.unwrap_or(&[]).iter().flat_map(|loss| loss.to_le_bytes()));
         slip
     }
 }
@@ -78,7 +81,7 @@ impl RunCall {
     /// The slip of the same run. Its questions come in another order, and it lends an answer buffer that is long enough.
     pub fn slip(&self) -> Vec<u8> {
         let (start, budget, labels) = (Some(&self.start[..]), Some(self.budget), Some(&self.labels[..]));
-        Fields { sizes: &self.sizes, divisions: &self.divisions, start, budget, labels, game: None }.bytes()
+        Fields { sizes: &self.sizes, divisions: &self.divisions, start, budget, labels, ..Fields::default() }.bytes()
     }
 }
 

@@ -290,10 +290,11 @@ pub fn games(seed: u64, count: usize, limit: usize, take: Take) {
             divisions: &divisions,
             start: start_field,
             budget: budget_field,
-            labels: None,
             game: Some(game as u8),
+            ..Fields::default()
         };
         take(Call::Slip(fields.bytes()));
+        take(Call::Slip(Fields { game: None, losses: Some(&losses), ..fields }.bytes()));
         take(Call::Run(RunCall { sizes, divisions, start, labels, budget, answer: room(&grid) }));
     }
 }
@@ -369,9 +370,38 @@ fn random_slip(random: &mut Random) -> Vec<u8> {
     let sizes = game_table(game).sizes;
     if random.chance(3) {
         let divisions = random_divisions(random, &sizes, 60);
-        return Fields { sizes: &sizes, divisions: &divisions, start: None, budget, labels: None, game: Some(game as u8) }.bytes();
+        return Fields { sizes: &sizes, divisions: &divisions, start: None, budget, game: Some(game as u8), ..Fields::default() }.bytes();
     }
-    Fields { sizes: &run.sizes, divisions: &run.divisions, start, budget, labels: Some(&run.labels), game: None }.bytes()
+    let fields = Fields { sizes: &run.sizes, divisions: &run.divisions, start, budget, ..Fields::default() };
+    if random.chance(3) {
+        let losses = random_losses(random, &run.sizes);
+        return Fields { losses: Some(&losses), ..fields }.bytes();
+    }
+    Fields { labels: Some(&run.labels), ..fields }.bytes()
+}
+
+/// Losses of a game with these sizes, now and then one out of range.
+fn random_losses(random: &mut Random, sizes: &[u8]) -> Vec<u16> {
+    let length = sizes.len() * sizes.iter().map(|&size| size as usize).product::<usize>();
+    let highest = *random.among(&[1, 2, 10, 1000]);
+    let mut losses: Vec<u16> = (0..length).map(|_| 1 + random.below(highest) as u16).collect();
+    if random.chance(4) {
+        losses[random.below(length)] = *random.among(&[0, 256, 1000, 1001, 1024]);
+    }
+    losses
+}
+
+/// Slips with losses of their own on grids of at most `limit` points.
+pub fn own_games(seed: u64, count: usize, limit: usize, take: Take) {
+    let mut random = Random(seed);
+    for _ in 0..count {
+        let run = random_run(&mut random, limit);
+        let losses = random_losses(&mut random, &run.sizes);
+        let start = (!random.chance(3)).then_some(&run.start[..]);
+        let budget = random.chance(3).then_some(run.budget);
+        let fields = Fields { sizes: &run.sizes, divisions: &run.divisions, start, budget, losses: Some(&losses), ..Fields::default() };
+        take(Call::Slip(fields.bytes()));
+    }
 }
 
 fn damage(random: &mut Random, slip: &mut Vec<u8>) {

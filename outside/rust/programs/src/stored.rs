@@ -25,7 +25,7 @@ fn read_case(lines: &[&str]) -> Case {
         values.insert(word, value);
     }
     let name = values.get("name").unwrap_or(&"").to_string();
-    let mut expect: Vec<String> = lines.map(str::to_string).collect();
+    let mut expect: Vec<String> = lines.take_while(|&line| line != "later").map(str::to_string).collect();
     let list = |word: &str| numbers(values.get(word).copied().unwrap_or(""));
     let bytes = |word: &str| list(word).iter().map(|&number| number as u8).collect::<Vec<u8>>();
     let pairs = |word: &str| list(word).iter().map(|&number| number as u16).collect::<Vec<u16>>();
@@ -36,6 +36,7 @@ fn read_case(lines: &[&str]) -> Case {
             let (budget, answer) = (list("budget")[0], list("answer")[0] as usize);
             Call::Run(RunCall { sizes, divisions, start: pairs("start"), labels: bytes("labels"), budget, answer })
         }
+        "label" if given("game") => Call::Label(LabelCall::of_game(list("game")[0] as usize, &divisions, list("buffer")[0] as usize)),
         "label" => Call::Label(LabelCall { sizes, divisions, losses: pairs("losses"), buffer: list("buffer")[0] as usize }),
         "shelf" => {
             let one = |word: &str| values.get(word).map(|sheet| format!("{word} {sheet}"));
@@ -47,7 +48,7 @@ fn read_case(lines: &[&str]) -> Case {
             })
         }
         "slip" => {
-            let (start, labels) = (pairs("start"), bytes("labels"));
+            let (start, labels, losses) = (pairs("start"), bytes("labels"), pairs("losses"));
             let composed = Fields {
                 sizes: &sizes,
                 divisions: &divisions,
@@ -55,6 +56,7 @@ fn read_case(lines: &[&str]) -> Case {
                 budget: given("budget").then(|| list("budget")[0]),
                 labels: given("labels").then_some(&labels[..]),
                 game: given("game").then(|| list("game")[0] as u8),
+                losses: given("losses").then_some(&losses[..]),
             };
             let slip = values.get("slip").map(|hex| from_hex(hex));
             if let (Some(slip), true) = (&slip, given("sizes")) {

@@ -3,6 +3,8 @@
 pub const MOST_BLOCKS: usize = 6;
 pub const MOST_INDICES: usize = 16;
 pub const MOST_POINTS: usize = 60_000;
+/// Of a loss table: 3 3 3 3 2 2 in any order.
+pub const MOST_LOSSES: usize = 1_944;
 
 #[derive(Clone, Debug, PartialEq, Eq)]
 pub struct Grid {
@@ -44,6 +46,11 @@ impl Grid {
     /// The number of dimensions.
     pub fn n(&self) -> usize {
         self.m - self.blocks
+    }
+
+    /// The length of a loss table: N times the product of the sizes.
+    pub fn losses(&self) -> usize {
+        self.blocks * self.sizes[..self.blocks].iter().product::<usize>()
     }
 
     /// The indices of each block, counted from 0.

@@ -23,7 +23,7 @@ pub fn of_run(sizes: &[u8], divisions: &[u16], start: &[u16], labels: &[u8], ans
 /// Questions 1 to 4 and 10 to 12.
 pub fn of_labelling(sizes: &[u8], divisions: &[u16], losses: &[u16], labels: usize) -> Result<Grid, u64> {
     let grid = Grid::new(sizes, divisions)?;
-    if losses.len() != grid.blocks * grid.sizes[..grid.blocks].iter().product::<usize>() {
+    if losses.len() != grid.losses() {
         return Err(10);
     }
     if losses.iter().any(|&loss| !(1..=1000).contains(&loss)) {

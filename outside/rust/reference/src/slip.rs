@@ -1,7 +1,7 @@
 //! Reading a slip, running it, and printing its sheet.
 
 use crate::games::{self, GAMES};
-use crate::grid::{Grid, MOST_BLOCKS, MOST_INDICES, MOST_POINTS};
+use crate::grid::{Grid, MOST_BLOCKS, MOST_INDICES, MOST_LOSSES, MOST_POINTS};
 use crate::outcome::{Kind, Outcome};
 use crate::{paper, questions, small};
 use std::cmp::Ordering;
@@ -9,7 +9,7 @@ use std::cmp::Ordering;
 pub const SHEET_BYTES: usize = 4096;
 const ANSWER_NUMBERS: usize = MOST_INDICES * MOST_INDICES;
 
-/// A slip for which questions 13, 1 to 4, 14, 15, 5 and 7 are answered yes.
+/// A slip for which questions 13, 1 to 4, 14, 15, 11, 5 and 7 are answered yes.
 pub struct Slip<'a> {
     pub grid: Grid,
     pub start: [u16; MOST_INDICES],
@@ -17,10 +17,11 @@ pub struct Slip<'a> {
     pub table: Table<'a>,
 }
 
-/// Where the labels come from: a part of the slip, or a game.
+/// Where the labels come from: a part of the slip, a game, or losses, two bytes each.
 pub enum Table<'a> {
     Labels(&'a [u8]),
     Game(usize),
+    Losses(&'a [u8]),
 }
 
 fn take<'a>(bytes: &mut &'a [u8], count: usize, number: u64) -> Result<&'a [u8], u64> {
@@ -43,7 +44,7 @@ pub fn read(slip: &[u8]) -> Result<Slip<'_>, u64> {
     let (map, blocks) = (head[0], head[1] as usize);
     let sizes = take(&mut rest, blocks, 13)?;
     let pairs = take(&mut rest, 2 * blocks, 13)?;
-    if map >> 4 != 0 || (map >> 2 & 1) == (map >> 3 & 1) {
+    if map >> 5 != 0 || (map >> 2 & 7).count_ones() != 1 {
         return Err(13);
     }
     let mut divisions = [0; MOST_BLOCKS];
@@ -64,8 +65,10 @@ pub fn read(slip: &[u8]) -> Result<Slip<'_>, u64> {
     }
     let table = if map & 4 != 0 {
         Table::Labels(take(&mut rest, grid.points, 14)?)
-    } else {
+    } else if map & 8 != 0 {
         Table::Game(take(&mut rest, 1, 14)?[0] as usize)
+    } else {
+        Table::Losses(take(&mut rest, 2 * grid.losses(), 14)?)
     };
     if !rest.is_empty() {
         return Err(14);
@@ -73,6 +76,11 @@ pub fn read(slip: &[u8]) -> Result<Slip<'_>, u64> {
     if let Table::Game(game) = table {
         if game == 0 || game > GAMES.len() || GAMES[game - 1].sizes != sizes {
             return Err(15);
+        }
+    }
+    if let Table::Losses(bytes) = table {
+        if !bytes.chunks_exact(2).all(|pair| (1..=1000).contains(&number16(pair))) {
+            return Err(11);
         }
     }
     if !grid.has_point(&start[..grid.m]) {
@@ -129,6 +137,16 @@ pub fn sheet<M: Method>(slip: &[u8], sheet: &mut [u8; SHEET_BYTES]) -> usize {
                     room = [0; MOST_POINTS];
                     let labels = &mut room[..slip.grid.points];
                     M::fill(&slip.grid, GAMES[game - 1].losses, labels);
+                    labels
+                }
+                Table::Losses(bytes) => {
+                    let mut losses = [0; MOST_LOSSES];
+                    for (loss, pair) in losses.iter_mut().zip(bytes.chunks_exact(2)) {
+                        *loss = number16(pair);
+                    }
+                    room = [0; MOST_POINTS];
+                    let labels = &mut room[..slip.grid.points];
+                    M::fill(&slip.grid, &losses[..bytes.len() / 2], labels);
                     labels
                 }
             };

@@ -53,12 +53,12 @@ module _ (c : tie.After-shared-slice-known2 Inv-loop μ-loop) where
   number h = rw (take-all (length rows - k * 16) (drop (k * 16) rows) (omega (arith, length-drop (k * 16) rows))) (getD-drop (k * 16) rows h (pos 0))
 
   low : (h : ℕ) → h < s .args .count → natAbs (entry totals h) + natAbs (toZ w64 x) * natAbs (entry row h) ≤ (k + 1) * 281474976710656
-  low h b = rw (number h, x-is) (total-low (natAbs (entry totals h)) x (natAbs (entry rows (k * 16 + h))) k (c .before .before .before .loop .inv .0 h b .1) x-low (s .pre .4 k h (omega arith) b))
+  low h b = rw (number h, x-is) (total-low (natAbs (entry totals h)) x (natAbs (entry rows (k * 16 + h))) k (c .before .before .before .loop .inv .0 h b .1) x-low (s .pre .1 .low k h (omega arith) b))
 
 loop-holds : tie.Need-loop-holds Inv-loop μ-loop
 loop-holds c =
     let p = c .before .pre in
-    ((λ h b. let e : entry (c .before .args .totals .now) h ≡ pos 0 = rw (p .0) (getD-replicate 16 h (pos 0) (pos 0) (omega (arith, p .2))) in (e, rw e (omega arith))), omega arith, ap length (p .0))
+    ((λ h b. let e : entry (c .before .args .totals .now) h ≡ pos 0 = rw (p .0) (getD-replicate 16 h (pos 0) (pos 0) (omega (arith, p .1 .few))) in (e, rw e (omega arith))), omega arith, ap length (p .0))
 
 mul-add-times : tie.Need-mul-add-times Inv-loop μ-loop
 mul-add-times c = omega arith
@@ -86,12 +86,14 @@ part-add-times-end c = omega arith
 
 add-times-requires : tie.Need-add-times-requires Inv-loop μ-loop
 add-times-requires c κs =
-    let w = c .before in (
-      w .before .before .before .loop .inv .2,
-      s w .pre .2,
-      simp (length-take, length-drop) (omega (arith, s w .pre .1, s w .pre .2, s w .pre .3)),
-      λ h b. omega (arith, low w h b, s w .pre .1),
-    )
+    let w = c .before in
+    let p = s w .pre .1 in
+    record {
+      sixteen = w .before .before .before .loop .inv .2;
+      few = p .few;
+      inside = simp (length-take, length-drop) (omega (arith, p .fewRows, p .few, p .whole));
+      fits = λ h b. omega (arith, low w h b, p .fewRows);
+    }
 
 add-k : tie.Need-add-k Inv-loop μ-loop
 add-k c = omega arith

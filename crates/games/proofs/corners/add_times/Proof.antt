@@ -37,7 +37,7 @@ module _ (c : tie.After-total2 Inv-loop μ-loop) where
   total = entry (c .before .before .before .loop .totals) h
 
   low : natAbs total + natAbs x * natAbs number < 9223372036854775808
-  low = rw (c .before .before .before .loop .inv .0 .left h (omega arith)) (s .pre .3 h (omega arith))
+  low = rw (c .before .before .before .loop .inv .0 .left h (omega arith)) (s .pre .fits h (omega arith))
 
   x-is : toZ w64 (ofZ w64 x) ≡ x
   x-is = toZ-ofZ {w = w64} (s .fits .x)
@@ -55,7 +55,7 @@ module _ (c : tie.After-total2 Inv-loop μ-loop) where
   sum-fits = record { sfits = omega (arith, mag-low (total +ℤ x *ℤ number), weighed-low total x number, low) }
 
 loop-holds : tie.Need-loop-holds Inv-loop μ-loop
-loop-holds c = (added-start (c .args .totals .now) (c .args .row .now) _, omega arith, c .pre .0)
+loop-holds c = (added-start (c .args .totals .now) (c .args .row .now) _, omega arith, c .pre .sixteen)
 
 mul-total : tie.Need-mul-total Inv-loop μ-loop
 mul-total c = omega arith

@@ -7,19 +7,19 @@ use borrow.Author.Tests.{not-true}
 use lib.ListN.{length}
 use Rattle.grid.specs.Grid.{at}
 use Rattle.games.specs.Corners.{Cornered}
-use Rattle.losses.specs.Known.{gridOf}
+use Rattle.grid.specs.Build.{lent}
 use Rattle.games.proofs.corners.weigh_corners.Statement.{statement}
 use Rattle.games.proofs.corners.weigh_corners.Tie as tie
 
 abbrev Inv-loop : tie.InvT-loop
 Inv-loop sizes ones firsts losses point count changed values₀ differences₀ size k₀ values differences k =
-    Cornered (gridOf sizes ones) losses point k differences × (k ≤ size) × (length values ≡ length values₀) × (length differences ≡ 256) × (size ≡ at sizes (length sizes - 1))
+    Cornered (lent sizes ones) losses point k differences × (k ≤ size) × (length values ≡ length values₀) × (length differences ≡ 256) × (size ≡ at sizes (length sizes - 1))
 
 abbrev μ-loop : tie.MeasureT-loop
 μ-loop sizes ones firsts losses point count changed values₀ differences₀ size k₀ values differences k = size - k
 
 returns : tie.Need-returns Inv-loop μ-loop
-returns c = c .before .before .before .before .before .before .pre .1 .1 (not-true _ (c .if1 .taken))
+returns c = c .before .before .before .before .before .before .pre .2 (not-true _ (c .if1 .taken))
 
 sub-wide : tie.Need-sub-wide Inv-loop μ-loop
 sub-wide c = omega arith
@@ -33,15 +33,28 @@ wide-requires c κs = search needs
 loop-holds : tie.Need-loop-holds Inv-loop μ-loop
 loop-holds c =
     let p = c .before .before .before .before .before .before .before .before .pre in
-    (record { differenceAt = λ k h b. absurd (omega arith); low = λ k h b. absurd (omega arith) }, omega arith, refl, p .0 .3, c .wide .ensures)
+    (record { differenceAt = λ k h b. absurd (omega arith); low = λ k h b. absurd (omega arith) }, omega arith, refl, p .0 .rows, c .wide .ensures)
 
 weigh-corner-requires : tie.Need-weigh-corner-requires Inv-loop μ-loop
 weigh-corner-requires c κs =
     let s = c .before .before .before .before .before .before .before .before .before .before .before .before in
     let l = c .before .before .before .loop in
     let p = s .pre in
-    let inside : l .k < at (s .args .sizes .now) (length (s .args .sizes .now) - 1) = omega (arith, l .inv .4) in
-    ((p .0 .0, p .0 .1, omega (arith, p .0 .2), l .inv .3, p .0 .4, inside), (p .1 .0 (l .k) inside, l .inv .0))
+    let inside : l .k < at (s .args .sizes .now) (length (s .args .sizes .now) - 1) = omega (arith, l .inv .4) in (
+      (
+        record {
+          some = p .0 .some;
+          table = p .0 .table;
+          isCount = p .0 .isCount;
+          room = omega (arith, p .0 .room);
+          whole = p .0 .whole;
+          rows = l .inv .3;
+        },
+        inside,
+        p .1 (l .k) inside,
+      ),
+      l .inv .0,
+    )
 
 add-k : tie.Need-add-k Inv-loop μ-loop
 add-k c = omega arith

@@ -44,7 +44,7 @@ shared-slice-read-instead c = omega arith
 mul-instead-2 : tie.Need-mul-instead-2 Inv-loop μ-loop
 mul-instead-2 c =
     let s = c .before .before .before .before .before .before .before .before .before in
-    record { fits = rw (c .before .long .ensures) (times-fit (s .args .replaced .now) (s .args .mix .now) (s .args .values .now) (s .args .first) (c .before .before .before .loop .k) (omega arith) (omega arith) (s .args .division) (omega arith) (s .pre .2)) }
+    record { fits = rw (c .before .long .ensures) (times-fit (s .args .replaced .now) (s .args .mix .now) (s .args .values .now) (s .args .first) (c .before .before .before .loop .k) (omega arith) (omega arith) (s .args .division) (omega arith) (s .pre .0 .replacedFit)) }
 
 add-expected : tie.Need-add-expected Inv-loop μ-loop
 add-expected c = omega arith

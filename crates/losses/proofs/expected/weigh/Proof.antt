@@ -30,9 +30,9 @@ room c =
     (omega arith, omega arith)
 
 -- and is what stood there
-lent : (c : tie.In-loop Inv-loop μ-loop)
+lent-row : (c : tie.In-loop Inv-loop μ-loop)
     → take (length (c .before .loop .values) - c .before .loop .at) (drop (c .before .loop .at) (c .before .loop .values)) ≡ drop (c .before .loop .row * length (c .before .before .before .before .args .mix .now)) (c .before .before .before .before .args .values .now)
-lent c =
+lent-row c =
     let l = c .before .loop in
     let a = c .before .before .before .before .args in
     let r = room c in
@@ -55,7 +55,7 @@ dot-requires c κs =
     let l = c .before .before .before .loop in
     let s = c .before .before .before .before .before .before in
     let r = room (c .before .before) in
-    rw (lent (c .before .before)) (rw length-drop (omega arith), row-fits (s .args .rows) (l .row) (s .args .mix .now) (s .args .values .now) (omega arith) (s .pre .2))
+    rw (lent-row (c .before .before)) (rw length-drop (omega arith), row-fits (s .args .rows) (l .row) (s .args .mix .now) (s .args .values .now) (omega arith) (s .pre .2))
 
 mul-values : tie.Need-mul-values Inv-loop μ-loop
 mul-values c = omega (arith, room (c .before .before .before))
@@ -77,7 +77,7 @@ loop-again c =
     let l = c .before .before .before .before .loop in
     let a = c .before .before .before .before .before .before .before .args in
     let r = room (c .before .before .before) in (
-      rw (l .inv .0, c .dot .ensures, lent (c .before .before .before)) (row-written (a .mix .now) (a .values .now) (l .row) (omega arith) (omega arith) (omega arith)),
+      rw (l .inv .0, c .dot .ensures, lent-row (c .before .before .before)) (row-written (a .mix .now) (a .values .now) (l .row) (omega arith) (omega arith) (omega arith)),
       omega arith,
       omega arith,
       simp length-set (l .inv .3),

@@ -7,14 +7,15 @@ use native.Mathlib.Nat.{div-mul-le-self}
 use Rattle.combinatorics.specs.Lists.{sum}
 use lib.ListN.{length, getD, take}
 use Rattle.grid.proofs.Round.{block-fits}
-use Rattle.losses.proofs.Players.{lent-mix, length-mix}
-use Rattle.losses.specs.Known.{gridOf}
+use Rattle.losses.proofs.Players.{lent-mix}
+use Rattle.points_in_order.proofs.Blocks.{block-length}
+use Rattle.grid.specs.Build.{lent}
 use borrow.Author.Needs.{needs}
 use Rattle.losses.proofs.expected.weigh_block.Statement.{statement}
 use Rattle.losses.proofs.expected.weigh_block.Tie as tie
 
 inside : (s : tie.Start) → sum (take (s .args .block) (s .args .sizes .now)) + getD (s .args .sizes .now) (s .args .block) 0 ≤ length (s .args .point .now)
-inside s = omega (arith, block-fits (s .args .sizes .now) (s .args .block), s .pre .4)
+inside s = omega (arith, block-fits (s .args .sizes .now) (s .args .block), s .pre .whole)
 
 element-copy-out-wide : tie.Need-element-copy-out-wide
 element-copy-out-wide c = search needs
@@ -49,10 +50,10 @@ part-weigh-end c = let r = inside (c .before .before .before .before .before .be
 weigh-requires : tie.Need-weigh-requires
 weigh-requires c κs =
     let s = c .before .before .before .before .before .before .before .before .before in
-    let g = gridOf (s .args .sizes .now) [] in
-    let e = lent-mix (s .args .sizes .now) (s .args .point .now) (s .args .block) (c .before .before .before .before .wide .result) (c .before .before .wide2 .result) (c .before .before .before .before .wide .ensures ∙ s .pre .2) (c .before .before .wide2 .ensures) (s .pre .4) in
-    let l = length-mix g (s .args .point .now) (s .args .block) in
-    rw (e, c .before .before .wide2 .ensures) (omega (arith, l), rw l (omega (arith, div-mul-le-self (s .args .count) (getD (s .args .sizes .now) (s .args .block) 0))), s .pre .6)
+    let g = lent (s .args .sizes .now) [] in
+    let e = lent-mix (s .args .sizes .now) (s .args .point .now) (s .args .block) (c .before .before .before .before .wide .result) (c .before .before .wide2 .result) (c .before .before .before .before .wide .ensures ∙ s .pre .first) (c .before .before .wide2 .ensures) (s .pre .whole) in
+    let l = block-length g (s .args .point .now) (s .args .block) in
+    rw (e, c .before .before .wide2 .ensures) (omega (arith, l), rw l (omega (arith, div-mul-le-self (s .args .count) (getD (s .args .sizes .now) (s .args .block) 0))), s .pre .fits)
 
 same-length : tie.Need-same-length
 same-length c = search needs
@@ -62,7 +63,7 @@ returns c =
     let s = c .before .before .before .before .before .before .before .before .before .before .before .before in
     let f = c .before .before .before .before .before .before .before .wide in
     let z = c .before .before .before .before .before .wide2 in
-    let e = lent-mix (s .args .sizes .now) (s .args .point .now) (s .args .block) (f .result) (z .result) (f .ensures ∙ s .pre .2) (z .ensures) (s .pre .4) in
+    let e = lent-mix (s .args .sizes .now) (s .args .point .now) (s .args .block) (f .result) (z .result) (f .ensures ∙ s .pre .first) (z .ensures) (s .pre .whole) in
     (rw (z .ensures), rw e at (c .before .before .weigh .ensures))
 
 pub weigh-block-spec : {M : Type 1} → statement M

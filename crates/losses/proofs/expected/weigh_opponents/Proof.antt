@@ -9,13 +9,13 @@ use Rattle.losses.proofs.Losses.{WeighedFrom, weighed-start, weighed-tu
 use Rattle.grid.proofs.Accepted.{accepted}
 use Rattle.losses.proofs.Players.{others-at}
 use Rattle.losses.specs.Game.{product, opponents}
-use Rattle.losses.specs.Known.{gridOf}
+use Rattle.grid.specs.Build.{lent}
 use Rattle.losses.proofs.expected.weigh_opponents.Statement.{statement}
 use Rattle.losses.proofs.expected.weigh_opponents.Tie as tie
 
 abbrev Inv-loop : tie.InvT-loop
 Inv-loop sizes firsts point player count values₀ rows₀ place₀ values rows place =
-    WeighedFrom (gridOf sizes []) point player (take (product sizes) values₀) place rows values × (place ≤ length sizes - 1) × (length values ≡ length values₀)
+    WeighedFrom (lent sizes []) point player (take (product sizes) values₀) place rows values × (place ≤ length sizes - 1) × (length values ≡ length values₀)
 
 abbrev μ-loop : tie.MeasureT-loop
 μ-loop sizes firsts point player count values₀ rows₀ place₀ values rows place = place
@@ -28,10 +28,10 @@ module _ (c : tie.After-opponent Inv-loop μ-loop) where
   abbrev place : ℕ
   place = c .before .before .loop .place - 1
 
-  state : WeighedFrom (gridOf (s .args .sizes .now) []) (s .args .point .now) (s .args .player) (take (product (s .args .sizes .now)) (s .args .values .now)) (suc place) (c .before .before .loop .rows) (c .before .before .loop .values)
+  state : WeighedFrom (lent (s .args .sizes .now) []) (s .args .point .now) (s .args .player) (take (product (s .args .sizes .now)) (s .args .values .now)) (suc place) (c .before .before .loop .rows) (c .before .before .loop .values)
   state = let e : c .before .before .loop .place ≡ suc place = omega arith in rw e at (c .before .before .loop .inv .0)
 
-  block-is : c .opponent .result ≡ getD (opponents (gridOf (s .args .sizes .now) []) (s .args .player)) place 0
+  block-is : c .opponent .result ≡ getD (opponents (lent (s .args .sizes .now) []) (s .args .player)) place 0
   block-is = c .opponent .ensures ∙ sym (others-at (s .args .player) (length (s .args .sizes .now)) place (s .pre .1 .1 .isPlayer) (omega arith))
 
 sub-place : tie.Need-sub-place Inv-loop μ-loop
@@ -41,7 +41,7 @@ loop-holds : tie.Need-loop-holds Inv-loop μ-loop
 loop-holds c =
     let s = c .before .before .before in
     let l = s .pre .1 .1 in
-    (rw (s .pre .0) (weighed-start (gridOf (s .args .sizes .now) []) (s .args .point .now) (s .args .player) (l .isPlayer) (s .args .values .now) (l .room)), omega arith, refl)
+    (rw (s .pre .0) (weighed-start (lent (s .args .sizes .now) []) (s .args .point .now) (s .args .player) (l .isPlayer) (s .args .values .now) (l .room)), omega arith, refl)
 
 sub-place-2 : tie.Need-sub-place-2 Inv-loop μ-loop
 sub-place-2 c = omega arith
@@ -49,7 +49,7 @@ sub-place-2 c = omega arith
 opponent-requires : tie.Need-opponent-requires Inv-loop μ-loop
 opponent-requires c κs =
     let s = c .before .before .before .before .before in
-    omega (arith, accepted (gridOf (s .args .sizes .now) (s .pre .1 .0)) (s .pre .1 .1 .drawn .laid .asked) .fewBlocks)
+    omega (arith, accepted (lent (s .args .sizes .now) (s .pre .1 .0)) (s .pre .1 .1 .point .grid .accepted) .fewBlocks)
 
 weigh-block-requires : tie.Need-weigh-block-requires Inv-loop μ-loop
 weigh-block-requires c κs =
@@ -67,7 +67,7 @@ loop-again c =
     let l = c .before .before .before .before .before .before .loop in
     let w = c .before .before .weigh-block in
     let r = turn-ready (s .args .sizes .now) (s .pre .1 .0) (s .args .firsts .now) (s .args .point .now) (s .args .player) (s .args .values .now) (s .pre .1 .1) (l .place - 1) (l .rows) (l .values) (omega arith) (state (c .before .before .before .before)) in
-    let t = weighed-turn (gridOf (s .args .sizes .now) []) (s .args .point .now) (s .args .player) (s .pre .1 .1 .isPlayer) (take (product (s .args .sizes .now)) (s .args .values .now)) (l .place - 1) (l .rows) (l .values) (omega arith) (r .3) (state (c .before .before .before .before)) in
+    let t = weighed-turn (lent (s .args .sizes .now) []) (s .args .point .now) (s .args .player) (s .pre .1 .1 .isPlayer) (take (product (s .args .sizes .now)) (s .args .values .now)) (l .place - 1) (l .rows) (l .values) (omega arith) (r .some) (state (c .before .before .before .before)) in
     (rw (w .ensures .1, w .ensures .0, block-is (c .before .before .before .before)) t, omega arith, omega arith)
 
 same-length : tie.Need-same-length Inv-loop μ-loop
@@ -78,7 +78,7 @@ returns c =
     let s = c .before .before .before .before .before in
     let l = c .before .loop in
     let e : l .place ≡ 0 = omega arith in
-    rw (s .pre .0) (weighed-done (gridOf (s .args .sizes .now) []) (s .args .point .now) (s .args .player) (s .pre .1 .1 .isPlayer) (take (product (s .args .sizes .now)) (s .args .values .now)) (l .rows) (l .values) (rw e at (l .inv .0)))
+    rw (s .pre .0) (weighed-done (lent (s .args .sizes .now) []) (s .args .point .now) (s .args .player) (s .pre .1 .1 .isPlayer) (take (product (s .args .sizes .now)) (s .args .values .now)) (l .rows) (l .values) (rw e at (l .inv .0)))
 
 pub weigh-opponents-spec : {M : Type 1} → statement M
 weigh-opponents-spec =

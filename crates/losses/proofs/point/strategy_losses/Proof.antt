@@ -8,7 +8,7 @@ use Rattle.combinatorics.specs.Front.{front}
 use Rattle.losses.specs.Game.{lossesOf}
 use Rattle.losses.specs.Weights.{strategyLosses}
 use Rattle.losses.proofs.Table.{part-inside, lent-part, loaded}
-use Rattle.losses.specs.Known.{gridOf}
+use Rattle.grid.specs.Build.{lent}
 use borrow.Author.Needs.{needs}
 use Rattle.losses.proofs.point.strategy_losses.Statement.{statement}
 use Rattle.losses.proofs.point.strategy_losses.Tie as tie
@@ -16,12 +16,12 @@ use Rattle.losses.proofs.point.strategy_losses.Tie as tie
 inside : (s : tie.Start) → s .args .player * s .args .count + s .args .count ≤ length (s .args .losses .now)
 inside s =
     let p = s .pre .1 .1 in
-    rw (p .isCount) (part-inside (gridOf (s .args .sizes .now) (s .pre .1 .0)) (s .args .losses .now) (p .table) (s .args .player) (s .pre .0))
+    rw (p .isCount) (part-inside (lent (s .args .sizes .now) (s .pre .1 .0)) (s .args .losses .now) (p .table) (s .args .player) (s .pre .0))
 
 front-is : (s : tie.Start) (values : List ℕ)
     → values ≡ front (take (s .args .player * s .args .count + s .args .count - s .args .player * s .args .count) (drop (s .args .player * s .args .count) (s .args .losses .now))) (s .args .values .now)
-    → values ≡ front (lossesOf (gridOf (s .args .sizes .now) (s .pre .1 .0)) (s .args .losses .now) (s .args .player)) (s .args .values .now)
-front-is s values e = e ∙ ap (λ (part : List ℕ). front part (s .args .values .now)) (lent-part (gridOf (s .args .sizes .now) (s .pre .1 .0)) (s .args .losses .now) (s .args .player) _ (s .args .count) (s .pre .1 .1 .isCount) refl)
+    → values ≡ front (lossesOf (lent (s .args .sizes .now) (s .pre .1 .0)) (s .args .losses .now) (s .args .player)) (s .args .values .now)
+front-is s values e = e ∙ ap (λ (part : List ℕ). front part (s .args .values .now)) (lent-part (lent (s .args .sizes .now) (s .pre .1 .0)) (s .args .losses .now) (s .args .player) _ (s .args .count) (s .pre .1 .1 .isCount) refl)
 
 mul-at : tie.Need-mul-at
 mul-at c = omega (arith, inside (c .before .before .before .before))
@@ -48,7 +48,7 @@ weigh-opponents-requires : tie.Need-weigh-opponents-requires
 weigh-opponents-requires c κs =
     let s = c .before .before .before .before .before .before .before .before .before .before in
     let p = s .pre .1 .1 in
-    (p .isCount, (s .pre .1 .0, rw (front-is s (c .before .before .before .load .last .0) (c .before .before .before .load .ensures)) (loaded (gridOf (s .args .sizes .now) (s .pre .1 .0)) (s .args .firsts .now) (s .args .losses .now) (s .args .point .now) (s .args .count) (s .args .values .now) p (s .args .player) (s .pre .0) .0)))
+    (p .isCount, (s .pre .1 .0, rw (front-is s (c .before .before .before .load .last .0) (c .before .before .before .load .ensures)) (loaded (lent (s .args .sizes .now) (s .pre .1 .0)) (s .args .firsts .now) (s .args .losses .now) (s .args .point .now) (s .args .count) (s .args .values .now) p (s .args .player) (s .pre .0) .0)))
 
 same-length : tie.Need-same-length
 same-length c = search needs
@@ -56,7 +56,7 @@ same-length c = search needs
 returns : tie.Need-returns
 returns c =
     let s = c .before .before .before .before .before .before .before .before .before .before .before .before .before in
-    let g = gridOf (s .args .sizes .now) (s .pre .1 .0) in
+    let g = lent (s .args .sizes .now) (s .pre .1 .0) in
     let l = c .before .before .before .before .before .before .load in
     let t = loaded g (s .args .firsts .now) (s .args .losses .now) (s .args .point .now) (s .args .count) (s .args .values .now) (s .pre .1 .1) (s .args .player) (s .pre .0) .1 in
     c .before .before .weigh-opponents .ensures ∙ ap (λ (part : List ℕ). strategyLosses g (s .args .point .now) (s .args .player) part) (ap (λ (v : List ℕ). take (s .args .count) v) (front-is s (l .last .0) (l .ensures)) ∙ t)

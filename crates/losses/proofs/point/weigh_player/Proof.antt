@@ -6,9 +6,9 @@ use lib.ListN.{length}
 use Rattle.grid.proofs.Accepted.{accepted}
 use Rattle.grid.proofs.Round.{block-fits}
 use Rattle.grid.specs.Grid.{Grid, size, firstIndex}
-use Rattle.losses.proofs.Player.{player-ready, player-expected, player-replaced}
-use Rattle.losses.proofs.Players.{point-length}
-use Rattle.losses.specs.Known.{gridOf}
+use Rattle.losses.proofs.Player.{player-fits, player-ends, player-expected, player-replaced}
+use Rattle.points_in_order.proofs.Blocks.{point-length}
+use Rattle.grid.specs.Build.{lent}
 use borrow.Author.Needs.{needs}
 use Rattle.losses.proofs.point.weigh_player.Statement.{statement}
 use Rattle.losses.proofs.point.weigh_player.Tie as tie
@@ -19,13 +19,13 @@ module _ (c : tie.After-wide2) where
   s = c .before .before .before .before .before .before .before .before .before .before .before .before .before .before .before
 
   abbrev g : Grid
-  g = gridOf (s .args .sizes .now) (s .args .divisions .now)
+  g = lent (s .args .sizes .now) (s .args .divisions .now)
 
   first-is : c .before .before .wide .result ≡ firstIndex g (s .args .player)
-  first-is = c .before .before .wide .ensures ∙ s .pre .0 .drawn .laid .known (s .args .player) (s .pre .1)
+  first-is = c .before .before .wide .ensures ∙ s .pre .0 .point .grid .first (s .args .player) (s .pre .1)
 
   inside : firstIndex g (s .args .player) + size g (s .args .player) ≤ length (s .args .point .now)
-  inside = omega (arith, block-fits (s .args .sizes .now) (s .args .player), point-length g (accepted g (s .pre .0 .drawn .laid .asked)) (s .args .point .now) (s .pre .0 .drawn .isPoint))
+  inside = omega (arith, block-fits (s .args .sizes .now) (s .args .player), point-length g (accepted g (s .pre .0 .point .grid .accepted)) (s .args .point .now) (s .pre .0 .point .isPoint))
 
 strategy-losses-requires : tie.Need-strategy-losses-requires
 strategy-losses-requires c κs = search needs
@@ -33,7 +33,7 @@ strategy-losses-requires c κs = search needs
 element-copy-out-wide : tie.Need-element-copy-out-wide
 element-copy-out-wide c =
     let s = c .before .before .before .before .before .before .before .before .before .before .before in
-    omega (arith, accepted (gridOf (s .args .sizes .now) (s .args .divisions .now)) (s .pre .0 .drawn .laid .asked) .fewBlocks)
+    omega (arith, accepted (lent (s .args .sizes .now) (s .args .divisions .now)) (s .pre .0 .point .grid .accepted) .fewBlocks)
 
 wide-requires : tie.Need-wide-requires
 wide-requires c κs = search needs
@@ -65,15 +65,16 @@ mul-put-losses-2 c = search needs
 shared-slice-read-put-losses : tie.Need-shared-slice-read-put-losses
 shared-slice-read-put-losses c =
     let s = c .before .before .before .before .before .before .before .before .before .before .before .before .before .before .before .before .before .before in
-    omega (arith, accepted (gridOf (s .args .sizes .now) (s .args .divisions .now)) (s .pre .0 .drawn .laid .asked) .sameNumber)
+    omega (arith, accepted (lent (s .args .sizes .now) (s .args .divisions .now)) (s .pre .0 .point .grid .accepted) .sameNumber)
 
 put-losses-requires : tie.Need-put-losses-requires
 put-losses-requires c κs =
     let w = c .before .before .before .before .before in
     let s = w .before .before .before .before .before .before .before .before .before .before .before .before .before .before .before in
     let l = w .before .before .before .before .before .before .strategy-losses in
-    let r = player-ready (g w) (s .args .firsts .now) (s .args .losses .now) (s .args .point .now) (s .pre .0 .drawn) (s .pre .0 .table) (s .args .player) (s .pre .1) (l .last .1 .1 .1 .1 .1 .1 .0) (l .ensures) (w .before .before .wide .result) (w .wide2 .result) (first-is w) (w .wide2 .ensures) in
-    (r .0, r .1, r .2, omega (arith, r .3, s .pre .2), omega (arith, r .3, s .pre .3))
+    let fits = player-fits (g w) (s .args .firsts .now) (s .args .losses .now) (s .args .point .now) (s .pre .0 .point) (s .pre .0 .table) (s .args .player) (s .pre .1) (l .last .1 .1 .1 .1 .1 .1 .0) (l .ensures) (w .before .before .wide .result) (w .wide2 .result) (first-is w) (w .wide2 .ensures) in
+    let ends = player-ends (g w) (s .args .firsts .now) (s .args .losses .now) (s .args .point .now) (s .pre .0 .point) (s .pre .0 .table) (s .args .player) (s .pre .1) (l .last .1 .1 .1 .1 .1 .1 .0) (l .ensures) (w .before .before .wide .result) (w .wide2 .result) (first-is w) (w .wide2 .ensures) in
+    (fits, omega (arith, ends, s .pre .2 .ofExpected), omega (arith, ends, s .pre .2 .ofReplaced))
 
 same-length : tie.Need-same-length
 same-length c = search needs
@@ -89,8 +90,8 @@ returns c =
     let w = c .before .before .before .before .before .before .before .before .before .before in
     let s = w .before .before .before .before .before .before .before .before .before .before .before .before .before .before .before in
     let l = w .before .before .before .before .before .before .strategy-losses in
-    let p = player-expected (g w) (s .args .firsts .now) (s .args .losses .now) (s .args .point .now) (s .pre .0 .drawn) (s .pre .0 .table) (s .args .player) (s .pre .1) (l .last .1 .1 .1 .1 .1 .1 .0) (l .ensures) (w .before .before .wide .result) (w .wide2 .result) (first-is w) (w .wide2 .ensures) (s .args .expected .now) in
-    let q = player-replaced (g w) (s .args .firsts .now) (s .args .losses .now) (s .args .point .now) (s .pre .0 .drawn) (s .pre .0 .table) (s .args .player) (s .pre .1) (l .last .1 .1 .1 .1 .1 .1 .0) (l .ensures) (w .before .before .wide .result) (w .wide2 .result) (first-is w) (w .wide2 .ensures) (s .args .replaced .now) in
+    let p = player-expected (g w) (s .args .firsts .now) (s .args .losses .now) (s .args .point .now) (s .pre .0 .point) (s .pre .0 .table) (s .args .player) (s .pre .1) (l .last .1 .1 .1 .1 .1 .1 .0) (l .ensures) (w .before .before .wide .result) (w .wide2 .result) (first-is w) (w .wide2 .ensures) (s .args .expected .now) in
+    let q = player-replaced (g w) (s .args .firsts .now) (s .args .losses .now) (s .args .point .now) (s .pre .0 .point) (s .pre .0 .table) (s .args .player) (s .pre .1) (l .last .1 .1 .1 .1 .1 .1 .0) (l .ensures) (w .before .before .wide .result) (w .wide2 .result) (first-is w) (w .wide2 .ensures) (s .args .replaced .now) in
     (c .before .before .before .before .put-losses .ensures .0 ∙ p, c .before .before .before .before .put-losses .ensures .1 ∙ q)
 
 pub weigh-player-spec : {M : Type 1} → statement M

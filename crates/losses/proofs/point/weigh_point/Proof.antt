@@ -10,13 +10,13 @@ use Rattle.combinatorics.specs.Front.{front}
 use Rattle.combinatorics.specs.Lists.{sum, upFrom}
 use Rattle.losses.proofs.Player.{filled-turn}
 use Rattle.losses.specs.Game.{playerLoss, replacedLoss}
-use Rattle.losses.specs.Known.{gridOf}
+use Rattle.grid.specs.Build.{lent}
 use Rattle.losses.proofs.point.weigh_point.Statement.{statement}
 use Rattle.losses.proofs.point.weigh_point.Tie as tie
 
 abbrev Inv-loop : tie.InvT-loop
 Inv-loop sizes divisions firsts losses point count values₀ expected₀ replaced₀ player₀ values expected replaced player =
-    (expected ≡ front (map (playerLoss (gridOf sizes divisions) losses point) (upFrom 0 (sum (take player sizes)))) expected₀) × (replaced ≡ front (map (replacedLoss (gridOf sizes divisions) losses point) (upFrom 0 (sum (take player sizes)))) replaced₀) × (player ≤ length sizes) × (length values ≡ length values₀) × (length expected ≡ length expected₀) × (length replaced ≡ length replaced₀)
+    (expected ≡ front (map (playerLoss (lent sizes divisions) losses point) (upFrom 0 (sum (take player sizes)))) expected₀) × (replaced ≡ front (map (replacedLoss (lent sizes divisions) losses point) (upFrom 0 (sum (take player sizes)))) replaced₀) × (player ≤ length sizes) × (length values ≡ length values₀) × (length expected ≡ length expected₀) × (length replaced ≡ length replaced₀)
 
 abbrev μ-loop : tie.MeasureT-loop
 μ-loop sizes divisions firsts losses point count values₀ expected₀ replaced₀ player₀ values expected replaced player = length sizes - player
@@ -29,7 +29,7 @@ loop-holds c =
 weigh-player-requires : tie.Need-weigh-player-requires Inv-loop μ-loop
 weigh-player-requires c κs =
     let p = c .before .before .before .before .before .before .before .before .before .before .before .before .pre in
-    (record { drawn = p .0 .drawn; table = p .0 .table; isCount = p .0 .isCount; room = omega (arith, p .0 .room) }, omega arith, omega arith, omega arith)
+    (record { point = p .0 .point; table = p .0 .table; isCount = p .0 .isCount; room = omega (arith, p .0 .room) }, omega arith, record { ofExpected = omega (arith, p .1 .ofExpected); ofReplaced = omega (arith, p .1 .ofReplaced) })
 
 add-player : tie.Need-add-player Inv-loop μ-loop
 add-player c = omega arith
@@ -42,9 +42,9 @@ loop-again c =
     let s = c .before .before .before .before .before .before .before .before .before .before .before .before .before .before .before .before .before .before .before in
     let l = c .before .before .before .before .before .before .before .before .before .before .before .loop in
     let w = c .before .before .before .before .before .before .weigh-player in
-    let g = gridOf (s .args .sizes .now) (s .args .divisions .now) in (
-      rw (w .ensures .0, l .inv .0) (filled-turn (playerLoss g (s .args .losses .now) (s .args .point .now)) (s .args .sizes .now) (s .args .expected .now) (l .player) (omega arith) (s .pre .1)),
-      rw (w .ensures .1, l .inv .1) (filled-turn (replacedLoss g (s .args .losses .now) (s .args .point .now)) (s .args .sizes .now) (s .args .replaced .now) (l .player) (omega arith) (s .pre .2)),
+    let g = lent (s .args .sizes .now) (s .args .divisions .now) in (
+      rw (w .ensures .0, l .inv .0) (filled-turn (playerLoss g (s .args .losses .now) (s .args .point .now)) (s .args .sizes .now) (s .args .expected .now) (l .player) (omega arith) (s .pre .1 .ofExpected)),
+      rw (w .ensures .1, l .inv .1) (filled-turn (replacedLoss g (s .args .losses .now) (s .args .point .now)) (s .args .sizes .now) (s .args .replaced .now) (l .player) (omega arith) (s .pre .1 .ofReplaced)),
       omega arith,
       omega arith,
       omega arith,

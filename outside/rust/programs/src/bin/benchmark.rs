@@ -9,7 +9,7 @@ use programs::implementations::{Paper, Sheet};
 use programs::inputs::{long_run, From};
 use programs::Implementation;
 use reference::games::{self, GAMES};
-use reference::grid::Grid;
+use reference::grid::{Grid, MOST_LOSSES};
 use reference::slip::SHEET_BYTES;
 use reference::Outcome;
 use std::hint::black_box;
@@ -204,4 +204,7 @@ fn main() {
             Fields { sizes: GAMES[game].sizes, divisions: GAME_DIVISIONS[game], game: Some(game as u8 + 1), ..Fields::default() };
         benchmark.sheet(&name, &fields.bytes());
     }
+    let losses: Vec<u16> = (0..MOST_LOSSES).map(|at| 1 + (at * 7919 % 1000) as u16).collect();
+    let own = Fields { sizes: &[3, 3, 3, 3, 2, 2], divisions: &[1; 6], losses: Some(&losses), ..Fields::default() };
+    benchmark.sheet("own game, 3 3 3 3 2 2;1 1 1 1 1 1, 1,944 losses", &own.bytes());
 }

@@ -197,6 +197,8 @@ fn main() -> ExitCode {
     comparison.part("small games", |take| inputs::games(6, 1_500, 130, take));
     comparison.part("large games", |take| inputs::games(7, 300, 60_000, take));
     comparison.part("labellings", |take| inputs::random_labellings(8, 20_000, 130, take));
+    comparison.part("small games of one's own", |take| inputs::own_games(10, 40_000, 130, take));
+    comparison.part("large games of one's own", |take| inputs::own_games(11, 1_000, 60_000, take));
     comparison.part("damaged and cut slips", |take| inputs::damaged_slips(9, 100_000, take));
     comparison.part("every small shelf", inputs::every_shelf);
     comparison.part("random shelves", |take| inputs::random_shelves(10, 3_000, take));

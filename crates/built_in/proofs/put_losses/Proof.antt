@@ -1,0 +1,62 @@
+-- `put_losses` meets its contract: the table that is put is the game's. Assumes nothing.
+use Rattle.built_in.proofs.Games.{losses-of-1, losses-of-2, losses-of-3}
+use Rattle.built_in.specs.Tables.{losses1, losses2, losses3}
+use borrow.Author.Needs.{needs}
+use Rattle.built_in.proofs.put_losses.Statement.{statement}
+use Rattle.built_in.proofs.put_losses.Tie as tie
+
+slice-aggregate-put : tie.Need-slice-aggregate-put
+slice-aggregate-put c = search needs
+
+put-requires : tie.Need-put-requires
+put-requires c κs = search needs
+
+same-length : tie.Need-same-length
+same-length c = search needs
+
+returns : tie.Need-returns
+unfolding losses1
+returns c = rw (losses-of-1 (c .before .before .before .before .before .before .before .args .game) (c .before .before .before .before .before .if1 .taken)) (c .before .before .put .ensures)
+
+slice-aggregate-put-2 : tie.Need-slice-aggregate-put-2
+slice-aggregate-put-2 c = search needs
+
+put-requires-2 : tie.Need-put-requires-2
+put-requires-2 c κs = search needs
+
+same-length-2 : tie.Need-same-length-2
+same-length-2 c = search needs
+
+returns-2 : tie.Need-returns-2
+unfolding losses2
+returns-2 c = rw (losses-of-2 (c .before .before .before .before .before .before .before .before .args .game) (c .before .before .before .before .before .if2 .taken)) (c .before .before .put2 .ensures)
+
+slice-aggregate-put-3 : tie.Need-slice-aggregate-put-3
+slice-aggregate-put-3 c = search needs
+
+put-requires-3 : tie.Need-put-requires-3
+put-requires-3 c κs = search needs
+
+same-length-3 : tie.Need-same-length-3
+same-length-3 c = search needs
+
+returns-3 : tie.Need-returns-3
+unfolding losses3
+returns-3 c = rw (losses-of-3 (c .before .before .before .before .before .before .before .before .args .game) (c .before .before .before .before .before .before .if1 .left) (c .before .before .before .before .before .if2 .left)) (c .before .before .put3 .ensures)
+
+pub put-losses-spec : {M : Type 1} → statement M
+put-losses-spec =
+    tie.close
+    (tie.spec
+    slice-aggregate-put
+    put-requires
+    same-length
+    returns
+    slice-aggregate-put-2
+    put-requires-2
+    same-length-2
+    returns-2
+    slice-aggregate-put-3
+    put-requires-3
+    same-length-3
+    returns-3)

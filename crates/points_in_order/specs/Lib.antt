@@ -1,0 +1,2 @@
+pub mod PointAfter
+pub mod Lent

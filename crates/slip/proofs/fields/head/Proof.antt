@@ -1,0 +1,67 @@
+-- `slip::fields::head` meets its contract: the bytes are there, and the map passes. Assumes nothing.
+use native.Mathlib.Omega.{arith}
+use mathlib.Core.Path.{sym, _∙_}
+use borrow.Author.Tests.{le-leb, lt-leb, not-true, not-false}
+use lib.ListN.{length}
+use Rattle.slip.specs.Reading.{headOf}
+use Rattle.slip.specs.Slip.{headLength}
+use borrow.Author.Needs.{needs}
+use Rattle.slip.proofs.fields.head.Statement.{statement}
+use Rattle.slip.proofs.fields.head.Tie as tie
+
+returns : tie.Need-returns
+unfolding headOf
+returns c =
+    let slip = c .before .before .args .slip .now in
+    rw (lt-leb (headLength slip) (length slip) (omega arith))
+
+shared-slice-read-wide : tie.Need-shared-slice-read-wide
+shared-slice-read-wide c = search needs
+
+wide-requires : tie.Need-wide-requires
+wide-requires c κs = search needs
+
+mul-end : tie.Need-mul-end
+mul-end c = omega (arith, c .before .shared-slice-known2 .given 1)
+
+add-end : tie.Need-add-end
+add-end c = omega (arith, c .before .shared-slice-known2 .given 1)
+
+returns-2 : tie.Need-returns-2
+unfolding headOf
+returns-2 c =
+    let slip = c .before .before .before .before .before .args .slip .now in
+    rw (lt-leb (headLength slip) (length slip) (omega arith))
+
+shared-slice-read-is-map : tie.Need-shared-slice-read-is-map
+shared-slice-read-is-map c = search needs
+
+is-map-requires : tie.Need-is-map-requires
+is-map-requires c κs = search needs
+
+returns-3 : tie.Need-returns-3
+unfolding headOf
+returns-3 c =
+    let slip = c .before .before .before .before .before .before .before .before .args .slip .now in
+    rw (le-leb (headLength slip) (length slip) (omega arith), sym (c .before .is-map .ensures) ∙ not-true _ (c .if3 .taken))
+
+returns-4 : tie.Need-returns-4
+unfolding headOf
+returns-4 c =
+    let slip = c .before .before .before .before .before .before .before .before .args .slip .now in
+    rw (le-leb (headLength slip) (length slip) (omega arith), sym (c .before .is-map .ensures) ∙ not-false _ (c .if3 .left), c .before .before .before .before .wide .ensures)
+
+pub head-spec : {M : Type 1} → statement M
+head-spec =
+    tie.close
+    (tie.spec
+    returns
+    shared-slice-read-wide
+    wide-requires
+    mul-end
+    add-end
+    returns-2
+    shared-slice-read-is-map
+    is-map-requires
+    returns-3
+    returns-4)

@@ -1,0 +1,63 @@
+-- `slip::losses_of` meets its contract: the losses of the game, or those that are brought. Assumes nothing.
+use native.Mathlib.Omega.{arith}
+use mathlib.Core.Path.{ap, _∙_}
+use Rattle.slip.proofs.LossesRead.{table-named, game-losses, game-count, code}
+use Rattle.slip.proofs.Runs.{answers}
+use Rattle.slip.proofs.Tables.{has-losses}
+use Rattle.slip.specs.declared.Losses.the-variants.{Count}
+use borrow.Author.Needs.{needs}
+use Rattle.slip.proofs.losses_of.Statement.{statement}
+use Rattle.slip.proofs.losses_of.Tie as tie
+
+enum-known-table : tie.Need-enum-known-table
+enum-known-table c = search needs
+
+put-losses-requires : tie.Need-put-losses-requires
+put-losses-requires c κs = omega (arith, c .before .before .before .before .before .before .pre .whole)
+
+enum-known-table-2 : tie.Need-enum-known-table-2
+enum-known-table-2 c = search needs
+
+brought-requires : tie.Need-brought-requires
+brought-requires c κs = (c .before .before .before .before .before .before .pre, c .before .before .table2 .given .1)
+
+same-length : tie.Need-same-length
+same-length c = search needs
+
+returns : tie.Need-returns
+returns c =
+    let s = c .before .before .before .before .before .before .before .before .before in
+    let a = s .args in
+    let g = c .before .before .before .before .before .table .given in
+    let p = c .before .before .put-losses .ensures in (
+      ap Count (p .0) ∙ game-count (a .slip .now) (a .reading) (a .room .now) (s .pre) (g .0 .0) (g .1),
+      p .1 ∙ rw (game-losses (a .slip .now) (a .reading) (a .room .now) (s .pre) (g .0 .0) (g .1)),
+    )
+
+same-length-2 : tie.Need-same-length-2
+same-length-2 c = search needs
+
+returns-2 : tie.Need-returns-2
+returns-2 c = search needs
+
+returns-3 : tie.Need-returns-3
+returns-3 c =
+    let s = c .before .before .before in
+    let a = s .args in
+    let named = table-named (a .slip .now) (a .reading) (a .room .now) (s .pre) in
+    let head = answers (a .slip .now) (code (a .slip .now) (a .reading) (a .room .now) (s .pre)) .0 in
+    absurd (has-losses (a .slip .now) head (a .reading .table) (c .match .keys3) named (s .pre .noLabels))
+
+pub losses-of-spec : {M : Type 1} → statement M
+losses-of-spec =
+    tie.close
+    (tie.spec
+    enum-known-table
+    put-losses-requires
+    enum-known-table-2
+    brought-requires
+    same-length
+    returns
+    same-length-2
+    returns-2
+    returns-3)
