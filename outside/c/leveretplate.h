@@ -2,8 +2,8 @@
  * refusals are theirs; the promises below are proved (crates/exports).
  *
  * Each array is lent for the time of the call; its pointer is not null, even at length 0, and it overlaps no array that is written to. A call writes
- * only to what is lent without `const`, at the front; what stands behind stays. A refusal writes nothing, except that number 9 gives the places, and
- * that a slip which is refused has a sheet too. No call keeps anything or fails to return. */
+ * only to what is lent without `const`, at the front; what stands behind stays. A refusal writes nothing, except that number 9 gives the places and
+ * 16 the places and a position, and that a slip which is refused has a sheet too. No call keeps anything or fails to return. */
 #ifndef LEVERETPLATE_H
 #define LEVERETPLATE_H
 
@@ -15,8 +15,9 @@
 #define LEVERETPLATE_SHELF 1000 /* the most sheets on a shelf */
 
 /* Follows the path. At an end answers 0, writes the four facts, and the vertices in rising coefficient sum, m numbers each, to the answer buffer. Else
- * answers the refusal's number, 1 to 9; with number 9 the first fact is the places visited, and the other three stay. `facts` has LEVERETPLATE_FACTS
- * numbers. */
+ * answers the refusal's number, 1 to 9 or 16. With number 9 the first fact is the places visited, and the other three stay. With number 16 a place
+ * within the budget needs a label that is 0, not yet known: the first fact is the places visited before it, the second the label's position in the
+ * table, from 0, and the other two stay. `facts` has LEVERETPLATE_FACTS numbers. */
 uint8_t leveretplate_run(const uint8_t *sizes, size_t sizes_length,
                          const uint16_t *divisions, size_t divisions_length,
                          const uint16_t *start, size_t start_length,

@@ -87,16 +87,24 @@ def label_call(fields):
 
 
 def as_run(fields, expect):
-    """A slip with a start and labels as a run with exactly the room that question 8 asks, in the exported call's numbers for the kind of end."""
+    """A slip with a start and labels as a run with exactly the room that question 8 asks."""
     m = len(list(numbers(fields["start"])))
     rows = m - len(list(numbers(fields["sizes"]))) + 1
     lines = [line for line in expect.splitlines() if not line.startswith(("bound", "centre"))]
     if "vertices" in expect:
         lines += [" ".join("0" * m)] * (rows - int(re.search(r"vertices (\d+)", expect)[1]))
-    kinds = {"end place": "kind 0", "end facet": "kind 1"}
-    text = "".join(kinds.get(line, line) + "\n" for line in lines)
     budget = fields.get("budget", "-")
-    return {**fields, "answer": rows * m, "budget": 2**63 if budget == "-" else budget}, text
+    return {**fields, "answer": rows * m, "budget": 2**63 if budget == "-" else budget}, "".join(line + "\n" for line in lines)
+
+
+def run_answer(fields, expect):
+    """What the program prints: the exported call's numbers for the kind of end, and of the answer buffer, 0 before the call, a line for each vertex."""
+    text = expect.replace("end place", "kind 0").replace("end facet", "kind 1")
+    before, found, after = text.partition("answer-after ")
+    if not found:
+        return text
+    m, after = len(list(numbers(fields["start"]))), after.replace(".", "0").split()
+    return before + "".join(" ".join(after[i : i + m]) + "\n" for i in range(0, len(after), m))
 
 
 def with_count(expect):
@@ -151,8 +159,8 @@ def write_shelves(chosen):
 everything = list(cases())
 write_slips([c for c in everything if c[0]["call"] == "slip"])
 write_shelves([c for c in everything if c[0]["call"] == "shelf"])
-calls = [(run_call(f), e) for f, e in everything if f["call"] == "run"]
+runs_stored = [c for c in everything if c[0]["call"] == "run"]
 ends = [(f, e) for f, e in everything if f.get("name", "").startswith("end ") and f.get("start", "-") != "-"]
-calls += [(run_call(f), e) for f, e in (as_run(f, e) for f, e in ends)]
+calls = [(run_call(f), run_answer(f, e)) for f, e in runs_stored + [as_run(f, e) for f, e in ends]]
 calls += [(label_call(f), with_count(e)) for f, e in everything if f["call"] == "label"]
 write_calls(calls)

@@ -102,8 +102,11 @@ fn run(sizes: &[u8], divisions: &[u16], start: &[u16], labels: &[u8], answer: &m
     );
     if number != 0 {
         show(b"refused ", number as u64);
-        if number == 9 {
+        if number == 9 || number == 16 {
             show(b"places ", facts[0]);
+        }
+        if number == 16 {
+            show(b"position ", facts[1]);
         }
         return;
     }

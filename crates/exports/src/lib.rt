@@ -36,6 +36,11 @@ fn put_answer(answer: Answer, facts: &mut [u64]) -> u8
             facts[0] = visited;
             9
         }
+        Answer::Unknown { places, position } => {
+            facts[0] = places;
+            facts[1] = position as u64;
+            16
+        }
         Answer::End {
             places,
             kind,
@@ -52,7 +57,8 @@ fn put_answer(answer: Answer, facts: &mut [u64]) -> u8
 }
 
 // The run on a label table: 0 at an end, else the refusal's number. The facts are the places, the kind of end (0 place,
-// 1 facet), the block and the number of vertices; of the refusals only 9 writes one, the places.
+// 1 facet), the block and the number of vertices; of the refusals 9 writes one, the places, and 16 two, the places
+// before and the position of the label that is not yet known.
 #[no_mangle]
 pub extern "C" fn leveretplate_run(
     sizes: &[u8],

@@ -1,24 +1,38 @@
--- Demand 3 in one piece holds: what a run answers and writes is told by the path's answer, which demand 3 on the definitions tells. Assumes nothing.
-use mathlib.Core.List.{List}
+-- Demand 3 in one piece holds, and filling a gap changes no end: what a run answers and writes is told by the path's answer. Assumes nothing.
+use mathlib.Core.List.{List, []}
 use mathlib.Core.Logic.{⊎-elim}
-use mathlib.Core.Path.{_≡_, refl, sym, _∙_, subst}
+use mathlib.Core.Path.{_≡_, refl, sym, ap, _∙_, subst}
 use Prim.Native.Nat.{ℕ, _≤_, _<_}
-use lib.ListN.{length, length-replicate, replicate}
+use lib.ListN.{length, getD, length-replicate, replicate}
 use native.Mathlib.Omega.{arith}
-use Rattle.combinatorics.proofs.Basics.{before-or-not, same-or}
+use Rattle.combinatorics.proofs.Basics.{same-or}
 use Rattle.combinatorics.proofs.Fronts.{front-none}
 use Rattle.combinatorics.specs.Front.{front}
 use Rattle.questions.specs.Questions.{firstNo}
 use Rattle.grid.specs.Grid.{bound}
 use Rattle.grid.specs.Questions.{gridQuestions}
+use Rattle.place.proofs.Filling.{filling-holds}
 use Rattle.place.proofs.Theorem.{demand3-holds}
-use Rattle.place.specs.Demand.{Accepted, Demand3}
-use Rattle.place.specs.Path.{answer, pathLength}
-use Rattle.place.specs.Problem.{Problem}
-use Rattle.finder.specs.Demand.{Demand3InOnePiece, announcementOf, vertexNumbers}
+use Rattle.place.specs.Demand.{Accepted, Demand3, Ended, Filling}
+use Rattle.place.specs.Path.{Answer as PathAnswer, spent, ended, unknown, answer, pathLength}
+use Rattle.place.specs.Problem.{Problem, withLabels}
+use Rattle.finder.specs.Demand.{Demand3InOnePiece, FillingInOnePiece, RunEnded, announcementOf}
 use Rattle.finder.specs.Run.{caseOf, numbersOf, refusal, runAnswer, runBuffer}
-use Rattle.finder.specs.declared.answers.Answer.the-variants.{Spent}
+use Rattle.finder.specs.declared.answers.Answer.{Answer}
+use Rattle.finder.specs.declared.answers.Answer.the-variants.{End, Spent, Unknown}
+use Rattle.finder.specs.declared.answers.Kind.{Kind}
 use Rattle.finder.proofs.Refusals.{accepted-with-room, answered, by-grid, by-later}
+
+-- an answer is told by its case
+case-spent : (a : PathAnswer) (b : ℕ) → caseOf a ≡ Spent b → a ≡ spent b
+case-spent (spent n) b e = let z : n ≡ b = cc in rw z
+case-spent (ended n kind block vertices simplex) b e = absurd (let z : _≡_ {A = ℕ} 0 1 = cc in omega arith)
+case-spent (unknown n i) b e = absurd (let z : _≡_ {A = ℕ} 0 1 = cc in omega arith)
+
+case-unknown : (a : PathAnswer) (n i : ℕ) → caseOf a ≡ Unknown n i → a ≡ unknown n i
+case-unknown (spent k) n i e = absurd (let z : _≡_ {A = ℕ} 0 1 = cc in omega arith)
+case-unknown (ended k kind block vertices simplex) n i e = absurd (let z : _≡_ {A = ℕ} 0 1 = cc in omega arith)
+case-unknown (unknown k j) n i e = let y : k ≡ n = cc in let z : j ≡ i = cc in rw (y, z)
 
 -- a table that no question refuses is accepted
 unrefused : (p : Problem) (room : ℕ) → refusal p room ≡ 0 → Accepted p
@@ -39,39 +53,71 @@ module _ (p : Problem) (room : ℕ) (none : refusal p room ≡ 0) where
   tells-spent : (budget : ℕ) → budget < pathLength p → runAnswer p room budget ≡ Spent budget
   tells-spent budget l = sym (told budget) ∙ rw (D .spends budget .1 l)
 
-  tells-end : (budget : ℕ) → pathLength p ≤ budget → runAnswer p room budget ≡ announcementOf (pathLength p) (D .end)
-  tells-end budget l = sym (told budget) ∙ rw (D .announces budget l)
-
-  writes-end : (budget : ℕ) (old : List ℕ) → length old ≡ room → pathLength p ≤ budget → runBuffer p budget old ≡ front (vertexNumbers (D .end)) old
-  writes-end budget old e l = sym (same budget old e .1) ∙ rw (D .announces budget l)
-
   spent-only : (budget : ℕ) → runAnswer p room budget ≡ Spent budget → budget < pathLength p
-  spent-only budget e =
-      ⊎-elim (λ l. l) (λ l. absurd (let q : announcementOf (pathLength p) (D .end) ≡ Spent budget = sym (tells-end budget l) ∙ e in let z : _≡_ {A = ℕ} 0 1 = cc in omega arith))
-      (before-or-not budget (pathLength p))
+  spent-only budget e = D .spends budget .0 (case-spent (answer p budget) budget (told budget ∙ e))
 
-  long-enough : (budget : ℕ) → (runAnswer p room budget ≡ Spent budget → ⊥) → pathLength p ≤ budget
-  long-enough budget n = ⊎-elim (λ l. absurd (n (tells-spent budget l))) (λ l. l) (before-or-not budget (pathLength p))
+  unspent : (budget : ℕ) → (runAnswer p room budget ≡ Spent budget → ⊥) → answer p budget ≡ spent budget → ⊥
+  unspent budget n q = n (sym (told budget) ∙ rw q)
 
--- the path's end is the same whatever buffer is lent
-same-end : (p : Problem) (room other : ℕ) (a : refusal p room ≡ 0) (b : refusal p other ≡ 0) → D p other b .end ≡ D p room a .end
-same-end p room other a b = let e = D p room a .ends in let f = D p other b .ends in cc
+  unwritten : (budget : ℕ) (old : List ℕ) → length old ≡ room → numbersOf (answer p budget) ≡ [] → runBuffer p budget old ≡ old
+  unwritten budget old e q = sym (same budget old e .1) ∙ rw q (front-none old)
+
+  -- where no place has a gap
+  module _ (E : Ended p) where
+    tells-end : (budget : ℕ) → pathLength p ≤ budget → runAnswer p room budget ≡ announcementOf (pathLength p) (E .end)
+    tells-end budget l = sym (told budget) ∙ rw (E .announces budget l)
+
+    run-ended : RunEnded p room
+    run-ended = record {
+      path = E;
+      announces = tells-end;
+      written = λ budget old e l. sym (same budget old e .1) ∙ rw (E .announces budget l);
+      reaches = tells-end (bound (p .grid)) (D .bounded);
+    }
 
 -- demand 3 of every table that a run accepts
 pub run-demand3 : Demand3InOnePiece
-run-demand3 p room none = record {
-  path = D p room none;
-  spends = λ budget. (spent-only p room none budget, tells-spent p room none budget);
-  unwritten = λ budget old e l. sym (same p room none budget old e .1) ∙ rw (D p room none .spends budget .1 l) (front-none old);
-  announces = tells-end p room none;
-  written = writes-end p room none;
-  reaches = tells-end p room none (bound (p .grid)) (D p room none .bounded);
-  alike = λ b c old other e accepted x y.
-      let l = long-enough p room none b x in
-      let k = long-enough p (length other) accepted c y in
-      let q = same-end p room (length other) none accepted in (
-        tells-end p room none b l ∙ sym (rw q at (tells-end p (length other) accepted c k)),
-        writes-end p room none b old e l,
-        rw q at (writes-end p (length other) accepted c other refl k),
-      );
+run-demand3 p room none =
+    let d = D p room none in
+    record {
+      path = d;
+      spends = λ budget. (spent-only p room none budget, tells-spent p room none budget);
+      unwritten = λ budget old e l. unwritten p room none budget old e (rw (d .spends budget .1 l));
+      ended = λ known. run-ended p room none (d .ended known);
+      asks = λ y g budget l. sym (told p room none budget) ∙ rw (d .asks y g budget l);
+      unwrittenAsking = λ budget n i old e q.
+          unwritten p room none budget old e (rw (case-unknown (answer p budget) n i (told p room none budget ∙ q)));
+      alike = λ b c old other e accepted x y.
+          let q = d .alike b c (unspent p room none b x) (unspent p (length other) accepted c y) in (
+            sym (told p room none b) ∙ ap caseOf q ∙ told p (length other) accepted c,
+            numbersOf (answer p b),
+            sym (same p room none b old e .1),
+            sym (same p (length other) accepted c other refl .1) ∙ rw q,
+          );
+    }
+
+-- what filling gaps changes
+pub run-filling : FillingInOnePiece
+run-filling p labels room a b fills = record {
+  same = sames;
+  sameBuffer = λ budget old e h.
+      sym (same q room b budget old e .1) ∙ rw (filled .same budget (asked budget h)) (same p room a budget old e .1);
+  stays = λ budget places kind block vertices e. sames budget (λ n i f. absurd (never _ e f)) ∙ e;
 }
+  where
+    q : Problem
+    q = withLabels p labels
+
+    filled : Filling p labels
+    filled = filling-holds (unrefused p room a) (unrefused q room b) fills
+
+    asked : (budget : ℕ) → ((n i : ℕ) → runAnswer p room budget ≡ Unknown n i → getD labels i 0 ≡ 0) → (n i : ℕ)
+        → answer p budget ≡ unknown n i → getD labels i 0 ≡ 0
+    asked budget h n i e = h n i (sym (told p room a budget) ∙ rw e)
+
+    sames : (budget : ℕ) → ((n i : ℕ) → runAnswer p room budget ≡ Unknown n i → getD labels i 0 ≡ 0)
+        → runAnswer q room budget ≡ runAnswer p room budget
+    sames budget h = sym (told q room b budget) ∙ rw (filled .same budget (asked budget h)) (told p room a budget)
+
+    never : {places block vertices n i : ℕ} {kind : Kind} (r : Answer) → r ≡ End places kind block vertices → r ≡ Unknown n i → ⊥
+    never r e f = let z : _≡_ {A = ℕ} 0 1 = cc in omega arith

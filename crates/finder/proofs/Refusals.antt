@@ -55,11 +55,11 @@ module _ (p : Problem) (room : ℕ) where
   no-length on n = rw (on, ne-eqb (length (p .labels)) (numPoints (p .grid)) n)
 
   module _ (on : isGridPoint (p .grid) (p .start) ≡ true) (whole : length (p .labels) ≡ numPoints (p .grid)) where
-    pub no-label : all (λ l. leb 1 l && leb l (numIndices (p .grid))) (p .labels) ≡ false → 7 ≡ firstNo (laterQuestions p room)
+    pub no-label : all (λ l. leb l (numIndices (p .grid))) (p .labels) ≡ false → 7 ≡ firstNo (laterQuestions p room)
     unfolding firstNo
     no-label e = rw (on, eq-eqb (length (p .labels)) (numPoints (p .grid)) whole, e)
 
-    module _ (labelled : all (λ l. leb 1 l && leb l (numIndices (p .grid))) (p .labels) ≡ true) where
+    module _ (labelled : all (λ l. leb l (numIndices (p .grid))) (p .labels) ≡ true) where
       pub no-room : room < suc (dimension (p .grid)) * numIndices (p .grid) → 8 ≡ firstNo (laterQuestions p room)
       unfolding firstNo
       no-room l = rw (on, eq-eqb (length (p .labels)) (numPoints (p .grid)) whole, labelled, lt-leb (suc (dimension (p .grid)) * numIndices (p .grid)) room l)

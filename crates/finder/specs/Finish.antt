@@ -7,26 +7,30 @@ use Prim.Native.Nat.{ℕ, suc, _*_, _≤_, _<_}
 use lib.Dec.{eqb, ltb}
 use lib.ListN.{length, take}
 use Rattle.questions.specs.Questions.{Question}
-use Rattle.grid.specs.Grid.{at, blockOf, dimension, numIndices}
+use Rattle.grid.specs.Grid.{at, blockOf, dimension, numIndices, position}
 use Rattle.grid.specs.Made.{shape}
 use Rattle.grid.specs.Questions.{question5}
 use Rattle.grid.specs.declared.Grid.{Grid as GridStruct}
 use Rattle.place.specs.Demand.{Accepted}
 use Rattle.place.specs.Ends.{Kind as KindOfEnd, placeEnd, facetEnd}
-use Rattle.place.specs.Path.{answer, ended, spent}
-use Rattle.place.specs.Problem.{Problem}
+use Rattle.place.specs.Path.{answer, ended, spent, unknown}
+use Rattle.place.specs.Problem.{Problem, label}
 use Rattle.place.specs.Questions.{question6, question7, question8}
 use Rattle.moves.specs.Held.{stateOf}
 use Rattle.rules.specs.Mask.{bit}
 use Rattle.rules.specs.Ready.{IsRound, RoundBelow, Ready}
-use Rattle.rules.specs.Read.{pointsFrom, read, CanCompute}
+use Rattle.rules.specs.Read.{pointIn, pointsFrom, read, CanCompute}
 use Rattle.rules.specs.Step.{Round, State}
+use Rattle.moves.specs.declared.Outcome.{Outcome}
+use Rattle.moves.specs.declared.Outcome.the-variants.{Moved as OutcomeMoved, PlaceEnd as OutcomePlaceEnd, FacetEnd as OutcomeFacetEnd}
 use Rattle.moves.specs.declared.Status.{Status}
 use Rattle.marks.specs.Reading.{problemFrom, tableOf, CanRead, HasMarks, Readable}
 use Rattle.finder.specs.declared.answers.Kind.{Kind}
 use Rattle.finder.specs.declared.answers.Kind.the-variants.{Place, Facet}
 use Rattle.finder.specs.declared.walk.Finish.{Finish}
-use Rattle.finder.specs.declared.walk.Finish.the-variants.{Ended, Spent}
+use Rattle.finder.specs.declared.walk.Finish.the-variants.{Ended, Spent, Unknown as UnknownLabel}
+use Rattle.finder.specs.declared.walk.Visited.{Visited}
+use Rattle.finder.specs.declared.walk.Visited.the-variants.{Moved, PlaceEnd, FacetEnd, Unknown}
 
 -- with the start that the first array holds
 abbrev pub problemIn : GridStruct → List ℕ → List ℕ → Problem
@@ -51,12 +55,33 @@ pub record CanWalk (g : GridStruct) (round : Round) (binomials first order table
   pub firstLength : length first ≡ 16
   pub orderLength : length order ≡ 16
 
--- what one place of it asks
+-- the label of the point that has come in is known, or nothing is read; or it is not, and stands at this position
+abbrev pub IsKnown : Problem → State → Type 0
+IsKnown p a = a .rule < 6 → 0 < label p (pointIn p a (a .active))
+
+pub record IsUnknown (p : Problem) (a : State) (place : ℕ) : Type 0 where
+  pub reads : a .rule < 6
+  pub zero : label p (pointIn p a (a .active)) ≡ 0
+  pub at : place ≡ position (p .grid) (pointIn p a (a .active))
+
+-- what one place of the walk asks
 pub record CanVisit (g : GridStruct) (tails table : List ℕ) (a : State) : Type 0 where
   pub below : RoundBelow (a .round)
   pub reads : a .rule < 6 → CanRead g a
   pub marks : a .rule < 6 → HasMarks g tails a
-  pub ready : Ready (read (tableOf g table) a)
+  pub ready : IsKnown (tableOf g table) a → Ready (read (tableOf g table) a)
+
+-- what it leads to, where `made` says what a move gives
+abbrev pub Gives : Problem → State → (Outcome → Type 0) → Visited → Type 0
+Gives p a made (Moved s) = IsKnown p a × made (OutcomeMoved s)
+Gives p a made (PlaceEnd h) = IsKnown p a × made (OutcomePlaceEnd h)
+Gives p a made (FacetEnd h) = IsKnown p a × made (OutcomeFacetEnd h)
+Gives p a made (Unknown place) = IsUnknown p a place
+
+abbrev pub visitOf : Outcome → Visited
+visitOf (OutcomeMoved s) = Moved s
+visitOf (OutcomePlaceEnd h) = PlaceEnd h
+visitOf (OutcomeFacetEnd h) = FacetEnd h
 
 -- the status at {v}, before the mark of its one point is read
 pub record IsBegun (first : List ℕ) (m : ℕ) (s : Status) : Type 0 where
@@ -90,4 +115,5 @@ pub record Announced (p : Problem) (budget : ℕ) (kind : KindOfEnd) (from : ℕ
 abbrev pub Finished : Problem → ℕ → Round → List ℕ → List ℕ → Finish → Type 0
 Finished p budget round first order (Ended kind places h s) =
     Announced p budget (endOf kind) (firstOf kind) (stateOf round first [] order [] s) h places × (length order ≡ 16)
+Finished p budget round first order (UnknownLabel places place) = answer p budget ≡ unknown places place
 Finished p budget round first order Spent = answer p budget ≡ spent budget

@@ -8,11 +8,11 @@ use Rattle.combinatorics.specs.Front.{front}
 use Rattle.combinatorics.specs.Lists.{concatMap}
 use Rattle.questions.specs.Questions.{firstNo}
 use Rattle.place.specs.Ends.{Kind as KindOfEnd, placeEnd, facetEnd}
-use Rattle.place.specs.Path.{Answer as PathAnswer, spent, ended, answer}
+use Rattle.place.specs.Path.{Answer as PathAnswer, spent, ended, unknown, answer}
 use Rattle.place.specs.Problem.{Problem}
 use Rattle.place.specs.Questions.{runQuestions}
 use Rattle.finder.specs.declared.answers.Answer.{Answer}
-use Rattle.finder.specs.declared.answers.Answer.the-variants.{Refused, Spent, End}
+use Rattle.finder.specs.declared.answers.Answer.the-variants.{Refused, Spent, Unknown, End}
 use Rattle.finder.specs.declared.answers.Kind.{Kind}
 use Rattle.finder.specs.declared.answers.Kind.the-variants.{Place, Facet}
 
@@ -21,15 +21,18 @@ kindOf placeEnd = Place
 kindOf facetEnd = Facet
 
 -- "The answer has the places, the kind of end, the block, the number of vertices": the enum's case and values for each
--- answer of an accepted table. "A budget is called spent by number 9", which "also returns the places visited"
+-- answer of an accepted table. "A budget is called spent by number 9", which "also returns the places visited". Request
+-- 02: 16, "with the places visited before it and the point's position in the table returned"
 abbrev pub caseOf : PathAnswer → Answer
 caseOf (spent n) = Spent n
 caseOf (ended n kind block vertices simplex) = End n (kindOf kind) block vertices
+caseOf (unknown n position) = Unknown n position
 
 -- "the vertices in rising coefficient sum, m 16-bit numbers each": the numbers that an answer writes
 abbrev pub numbersOf : PathAnswer → List ℕ
 numbersOf (spent n) = []
 numbersOf (ended n kind block vertices simplex) = concatMap (λ y. y) simplex
+numbersOf (unknown n position) = []
 
 -- the number of the first of questions 1 to 8 that is answered no, or 0
 abbrev pub refusal : Problem → ℕ → ℕ

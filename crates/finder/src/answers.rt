@@ -11,10 +11,10 @@ ghost use Rattle.place.specs.Problem.{problemOf};
 ghost use Rattle.marks.specs.Reading.{problemFrom};
 ghost use Rattle.finder.specs.Finish.{CanRun, firstOf, laterQuestions};
 ghost use Rattle.finder.specs.Run.{caseOf, numbersOf, runAnswer, runBuffer};
-use crate::labels::all_indices;
 use crate::walk::Finish;
 use crate::walk::walk;
 use grid::Grid;
+use label_table::all_at_most;
 use moves::block_sizes;
 use moves::padded;
 use moves::put_points;
@@ -32,6 +32,11 @@ pub enum Answer {
     Refused(u8),
     // Number 9: the path has not ended within the budget. The places visited equal the budget.
     Spent(u64),
+    // Number 16: a place within the budget needs a label that is not yet known. The places visited before it, and the position of the label.
+    Unknown {
+        places: u64,
+        position: usize,
+    },
     // The end of the path.
     End {
         places: u64,
@@ -92,23 +97,25 @@ fn announced(
         &mut order,
         budget,
     );
-    let Finish::Ended {
-        kind,
-        places,
-        index,
-        status,
-    } = finish
-    else {
-        return Answer::Spent(budget);
-    };
-    let block = block_number(g, index);
-    let from = first_vertex(kind);
-    let vertices = put_points(answer, &previous, &sizes, &first, &order, status, m, from);
-    Answer::End {
-        places,
-        kind,
-        block,
-        vertices,
+    match finish {
+        Finish::Spent => Answer::Spent(budget),
+        Finish::Unknown { places, position } => Answer::Unknown { places, position },
+        Finish::Ended {
+            kind,
+            places,
+            index,
+            status,
+        } => {
+            let block = block_number(g, index);
+            let from = first_vertex(kind);
+            let vertices = put_points(answer, &previous, &sizes, &first, &order, status, m, from);
+            Answer::End {
+                places,
+                kind,
+                block,
+                vertices,
+            }
+        }
     }
 }
 
@@ -124,7 +131,7 @@ fn first_no(g: Grid, start: &[u16], labels: &[u8], room: usize) -> u8
     if labels.len() != g.points {
         return 6;
     }
-    if !all_indices(labels, m as u8) {
+    if !all_at_most(labels, m as u8) {
         return 7;
     }
     if room < (m - g.blocks + 1) * m {

@@ -1,6 +1,5 @@
 // The path finder: the run on a label table.
 mod answers;
-mod labels;
 mod walk;
 
 pub use answers::Answer;

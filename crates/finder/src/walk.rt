@@ -6,9 +6,10 @@ ghost use Rattle.moves.specs.Held.{GivesAll, held, round};
 ghost use Rattle.rules.specs.Read.{read};
 ghost use Rattle.rules.specs.Ready.{SixteenEach};
 ghost use Rattle.rules.specs.Step.{Round, State, step as stepOf};
-ghost use Rattle.finder.specs.Finish.{CanVisit, CanWalk, Finished, IsBegun, problemIn};
+ghost use Rattle.finder.specs.Finish.{CanVisit, CanWalk, Finished, Gives, IsBegun, problemIn, visitOf};
 use crate::answers::Kind;
 use grid::Grid;
+use marks::Reading;
 use marks::mark_in;
 use moves::Outcome;
 use moves::Status;
@@ -16,8 +17,16 @@ use moves::step;
 use moves::zeros;
 use positions::ENTRIES;
 
-// How a walk ended: at the path's end, after so many places, with an index of the block for which the simplex is
-// complete and the status at the last place; or with the budget spent.
+// What a place of the walk leads to: what the move gives; or that the label of the point that has come in is not yet known, with its position.
+pub enum Visited {
+    Moved(Status),
+    PlaceEnd(usize),
+    FacetEnd(usize),
+    Unknown(usize),
+}
+
+// How a walk ended: at the path's end, after so many places, with an index of the block for which the simplex is complete and the status at the
+// last place; at a place that needs a label not yet known, after so many places before it, with the label's position; or with the budget spent.
 pub enum Finish {
     Ended {
         kind: Kind,
@@ -25,7 +34,21 @@ pub enum Finish {
         index: usize,
         status: Status,
     },
+    Unknown {
+        places: u64,
+        position: usize,
+    },
     Spent,
+}
+
+fn moved(outcome: Outcome) -> Visited
+    ensures { λ r. ⌜ r ≡ visitOf outcome ⌝ }
+{
+    match outcome {
+        Outcome::Moved(status) => Visited::Moved(status),
+        Outcome::PlaceEnd(index) => Visited::PlaceEnd(index),
+        Outcome::FacetEnd(index) => Visited::FacetEnd(index),
+    }
 }
 
 // One place: the mark of the point that has just come in is read, and the move is made.
@@ -42,17 +65,17 @@ fn visit(
     order: &mut [u32; 16],
     marks: &mut [u32; 16],
     s: Status,
-) -> Outcome
+) -> Visited
     ghost { State }
     requires { λ a. ⌜ held (round previous next sizes) first coefficients order marks s ≡ a ⌝ }
     requires { λ _. ⌜ Readable g (now binomials) (now table) × SixteenEach (now order) (now marks) ⌝ }
     requires { λ a. ⌜ CanVisit g (now tails) (now table) a ⌝ }
-    ensures { λ a r. ⌜ GivesAll a first coefficients order marks s r
-        (stepOf (read (tableOf g (now (table .entry))) a)) ⌝ }
+    ensures { λ a r. let p = tableOf g (now (table .entry)) in
+        ⌜ Gives p a (λ o. GivesAll a first coefficients order marks s o (stepOf (read p a))) r ⌝ }
 {
     if s.rule < 6 {
         let i = s.active;
-        marks[i] = mark_in(
+        let reading = mark_in(
             g,
             binomials,
             tails,
@@ -65,8 +88,16 @@ fn visit(
             marks,
             s,
         );
+        match reading {
+            Reading::Unknown(position) => {
+                return Visited::Unknown(position);
+            }
+            Reading::Marked(mark) => {
+                marks[i] = mark;
+            }
+        }
     }
-    step(previous, next, sizes, first, coefficients, order, marks, s)
+    moved(step(previous, next, sizes, first, coefficients, order, marks, s))
 }
 
 // {v}, before the mark of its one point is read.
@@ -108,7 +139,7 @@ pub fn walk(
     let tails = positions::tails(first, g.indices);
     let mut left = budget;
     while 0 < left {
-        let outcome = visit(
+        let seen = visit(
             g,
             binomials,
             &tails,
@@ -123,24 +154,32 @@ pub fn walk(
             s,
         );
         left -= 1;
-        if let Outcome::PlaceEnd(index) = outcome {
-            return Finish::Ended {
-                kind: Kind::Place,
-                places: budget - left,
-                index,
-                status: s,
-            };
-        }
-        if let Outcome::FacetEnd(index) = outcome {
-            return Finish::Ended {
-                kind: Kind::Facet,
-                places: budget - left,
-                index,
-                status: s,
-            };
-        }
-        if let Outcome::Moved(status) = outcome {
-            s = status;
+        match seen {
+            Visited::Moved(status) => {
+                s = status;
+            }
+            Visited::Unknown(position) => {
+                return Finish::Unknown {
+                    places: budget - left - 1,
+                    position,
+                };
+            }
+            Visited::PlaceEnd(index) => {
+                return Finish::Ended {
+                    kind: Kind::Place,
+                    places: budget - left,
+                    index,
+                    status: s,
+                };
+            }
+            Visited::FacetEnd(index) => {
+                return Finish::Ended {
+                    kind: Kind::Facet,
+                    places: budget - left,
+                    index,
+                    status: s,
+                };
+            }
         }
     }
     Finish::Spent

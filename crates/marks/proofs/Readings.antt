@@ -5,7 +5,7 @@ use mathlib.Core.List.{List, []}
 use mathlib.Core.Logic.{_⊎_, inl, inr, ⊎-elim}
 use mathlib.Core.Path.{_≡_, refl, sym, _∙_}
 use Prim.Native.Nat.{ℕ, suc, _+_, _-_, _≤_, _<_}
-use borrow.Author.Tests.{eqb-true, eqb-false, eq-eqb, ltb-true, leb-true, not-true}
+use borrow.Author.Tests.{eqb-true, eqb-false, eq-eqb, ltb-true, leb-true, ne-eqb, not-true}
 use lib.Dec.{eqb, ltb, leb}
 use lib.ListN.{length, replicate, take}
 use native.Mathlib.Omega.{arith}
@@ -24,9 +24,10 @@ use Rattle.place.specs.Problem.{label}
 use Rattle.rules.proofs.PointsAfter.{after-taken, counts-add, counts-ready, few-ready, length-after}
 use Rattle.moves.specs.Held.{stateOf}
 use Rattle.rules.specs.Read.{Exchanged, ReadyPoint, pointAfter, pointOn, positionAt, stepAt}
-use Rattle.rules.specs.Step.{State, Round, source, sourceIn}
+use Rattle.rules.specs.Step.{State, Round, mark, source, sourceIn}
 use Rattle.moves.specs.declared.Status.{Status}
-use Rattle.marks.specs.Reading.{Readable, CanRead, addUp, isBetween, tableOf}
+use Rattle.marks.specs.Reading.{Readable, CanRead, addUp, isBetween, readingOf, tableOf}
+use Rattle.marks.specs.declared.Reading.the-variants.{Marked, Unknown}
 
 -- a grid point's label stands in the table at its position
 module _ (g : GridStruct) (binomials table : List ℕ) (R : Readable g binomials table) (y : Point) where
@@ -36,6 +37,14 @@ module _ (g : GridStruct) (binomials table : List ℕ) (R : Readable g binomials
   pub label-is : label (tableOf g table) y ≡ at table (position (shape g) y)
   unfolding label
   label-is = refl
+
+  -- what is read of the point, by the byte that stands in the table
+  pub read-gap : at table (position (shape g) y) ≡ 0 → Unknown (position (shape g) y) ≡ readingOf (tableOf g table) y
+  read-gap e = rw (label-is, e)
+
+  pub read-mark : (at table (position (shape g) y) ≡ 0 → ⊥)
+      → Marked (mark (position (shape g) y) (at table (position (shape g) y))) ≡ readingOf (tableOf g table) y
+  read-mark n = rw (label-is, ne-eqb (at table (position (shape g) y)) 0 n)
 
 -- the tests mean what they say
 pub between-means : (s : Status) → isBetween s ≡ true → (s .rule ≡ 1) × (0 < s .active) × (s .active < s .count)

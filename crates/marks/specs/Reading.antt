@@ -10,11 +10,13 @@ use Rattle.positions.specs.Falls.{Falls}
 use Rattle.grid.specs.Grid.{Grid, Point, at, blockOf, division, isGridPoint, numPoints, position}
 use Rattle.grid.specs.Made.{IsMade, shape}
 use Rattle.grid.specs.declared.Grid.{Grid as GridStruct}
-use Rattle.place.specs.Problem.{Problem}
+use Rattle.place.specs.Problem.{Problem, label}
 use Rattle.rules.specs.Ready.{IndicesBelow}
-use Rattle.rules.specs.Read.{pointOn, stepAt, sourceAt, Exchanged, FallsBeside, CanCompute}
+use Rattle.rules.specs.Read.{markOf, pointOn, stepAt, sourceAt, Exchanged, FallsBeside, CanCompute}
 use Rattle.rules.specs.Step.{State}
 use Rattle.moves.specs.declared.Status.{Status}
+use Rattle.marks.specs.declared.Reading.{Reading}
+use Rattle.marks.specs.declared.Reading.the-variants.{Marked, Unknown}
 use Rattle.marks.specs.declared.one_step.Found.{Found}
 use Rattle.marks.specs.declared.one_step.Found.the-variants.{At, Nothing}
 
@@ -31,6 +33,10 @@ pub record Readable (g : GridStruct) (binomials table : List ℕ) : Type 0 where
   pub made : IsMade g
   pub filled : HasBinomials (shape g) binomials
   pub whole : length table ≡ numPoints (shape g)
+
+-- Request 02, "Looking up a label may therefore answer that there is none": what is read of a point
+abbrev pub readingOf : Problem → Point → Reading
+readingOf p y = cond (eqb (label p y) 0) (Unknown (position (p .grid) y)) (Marked (markOf p y))
 
 -- a grid that was made, with its binomials
 pub record Measured (g : GridStruct) (binomials : List ℕ) : Type 0 where

@@ -7,10 +7,10 @@ ghost use lib.ListN.{length};
 ghost use Rattle.grid.specs.Grid.{position};
 ghost use Rattle.grid.specs.Made.{shape, IsMade};
 ghost use Rattle.moves.specs.Held.{stateOf, held, roundBack};
-ghost use Rattle.rules.specs.Read.{markOf, pointOn};
+ghost use Rattle.rules.specs.Read.{pointOn};
 ghost use Rattle.rules.specs.Ready.{IndicesBelow};
 ghost use Rattle.rules.specs.Step.{State, firstOutside};
-ghost use Rattle.marks.specs.Reading.{tableOf, isBetween, addUp, Readable, Measured, CanRead, HasMarks};
+ghost use Rattle.marks.specs.Reading.{tableOf, readingOf, isBetween, addUp, Readable, Measured, CanRead, HasMarks};
 use grid::Grid;
 use moves::Status;
 use moves::advance;
@@ -136,7 +136,13 @@ fn byte(x: u8) -> u32
     x as u32
 }
 
-// The mark of the point that has just come in.
+// What is read of the point that has just come in: its mark; or that its label is not yet known, with its position.
+pub enum Reading {
+    Marked(u32),
+    Unknown(usize),
+}
+
+// Looks up the label of the point that has just come in.
 pub fn mark_in(
     g: Grid,
     binomials: &[u16; ENTRIES],
@@ -149,12 +155,12 @@ pub fn mark_in(
     order: &[u32; 16],
     marks: &[u32; 16],
     s: Status,
-) -> u32
+) -> Reading
     ghost { State }
     requires { λ a. ⌜ held (roundBack previous sizes) first coefficients order marks s ≡ a ⌝ }
     requires { λ a. ⌜ Readable g (now binomials) (now table) × CanRead g a ⌝ }
     requires { λ a. ⌜ HasMarks g (now tails) a × (length (a .order) ≡ s .count) ⌝ }
-    ensures { λ a r. ⌜ r ≡ markOf (tableOf g (now (table .entry))) (pointOn (shape g) a (a .active)) ⌝ }
+    ensures { λ a r. ⌜ r ≡ readingOf (tableOf g (now (table .entry))) (pointOn (shape g) a (a .active)) ⌝ }
 {
     let at = position_in(
         g,
@@ -168,5 +174,9 @@ pub fn mark_in(
         marks,
         s,
     );
-    at as u32 * 256 + byte(table[at])
+    let label = byte(table[at]);
+    if label == 0 {
+        return Reading::Unknown(at);
+    }
+    Reading::Marked(at as u32 * 256 + label)
 }

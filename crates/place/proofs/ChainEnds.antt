@@ -25,9 +25,9 @@ use Rattle.place.proofs.ToChain.{inT-agrees, inT, coefficientsOf, label
 use Rattle.place.proofs.LinkSymmetry.{parts}
 use Rattle.place.proofs.Positions.{set-of, at-in, in-at}
 use Rattle.place.proofs.BlocksOfGrid.{blocksOf, coefficientOf, block-agrees, block-inside, coord-in, coord-out}
-use Rattle.place.specs.Demand.{Settled, allLabelled}
+use Rattle.place.specs.Demand.{Settled}
 use Rattle.place.specs.Ends.{isComplete}
-use Rattle.place.specs.Places.{Simplex, isPlace, setU, setT, labelSet}
+use Rattle.place.specs.Places.{Simplex, isPlace, setU, setT, labelSet, allLabelled}
 use Rattle.place.specs.Problem.{Problem, label}
 
 complete-ext : (R : Blocks) (l : (ℕ → ℕ) → ℕ) (t : ℕ) {q q' : ℕ → ℕ → ℕ} → ((j : ℕ) → j ≤ t → q j ≡ q' j) → (h : ℕ) → Complete R l t q h

@@ -24,9 +24,9 @@ use Rattle.place.proofs.Meaning.{T-means}
 use Rattle.place.proofs.LinkSymmetry.{parts, place-distinct}
 use Rattle.place.proofs.Positions.{set-of, at-in, in-at, same-at}
 use Rattle.place.proofs.BlocksOfGrid.{blocksOf, pointOf, coefficientOf, point-coefficientOf}
-use Rattle.place.specs.Demand.{Settled, allLabelled}
+use Rattle.place.specs.Demand.{Settled}
 use Rattle.place.specs.Links.{shared, exchanged, extended, linked}
-use Rattle.place.specs.Places.{Simplex, isPlace, setT, labelSet, within, order}
+use Rattle.place.specs.Places.{Simplex, isPlace, setT, labelSet, within, order, allLabelled}
 use Rattle.place.specs.Problem.{Problem, label}
 
 -- a filter that leaves one out

@@ -1,5 +1,6 @@
--- Demand 3 for every accepted table, from theorem W. In order: ends are complete; no place stands twice; one way on from each place; the bound; the
--- path is the only list that is one; a run follows it; the path backward; demand 3. Assumes nothing.
+-- Demand 3 for every accepted table, from theorem W. In order: ends are complete; no place stands twice; one way on from each place
+-- whose points have labels; the bound; the path stops at an end or at a gap; the answer; the path is the only list that is one; a run
+-- follows it; what holds where the path ends; demand 3. Assumes nothing.
 use mathlib.Core.Bool.{Bool, true, false, not}
 use mathlib.Core.List.{List, [], _∷_, _++_, map}
 use mathlib.Core.Logic.{_⊎_, inl, inr, ⊎-elim}
@@ -8,30 +9,36 @@ use mathlib.Core.Path.{_≡_, refl, sym, ap, _∙_, subst₂}
 use Prim.Native.Nat.{ℕ, zero, suc, pred, _+_, _≤_, _<_}
 use borrow.Author.Tests.{lt-ltb, le-ltb}
 use lib.Dec.{eqb}
-use lib.ListN.{length, length-append, length-map}
+use lib.ListN.{length, getD, length-append, length-map}
 use lib.Seq.{ext-getD}
 use native.Mathlib.Omega.{arith}
-use Rattle.combinatorics.proofs.Basics.{before-or-not, absurd-bool, true-or-false, and-both, and-left, and-right, false-of}
-use Rattle.combinatorics.proofs.Lists.{in-filter, in-cases, in-here, distinct-filter, only-list, only-member, pigeon, length-without}
+use Rattle.combinatorics.proofs.Basics.{absurd-bool, and-both, and-left, and-right, before-or-not, false-of, not-is, same-or, true-or-false}
+use Rattle.combinatorics.proofs.Lists.{all-in, in-filter, filter-in, in-cases, in-here}
+use Rattle.combinatorics.proofs.Lists.{distinct-filter, only-member, pigeon, length-without}
 use Rattle.combinatorics.proofs.Walk.{Walks, apart}
 use Rattle.combinatorics.specs.Lists.{filter, all, isIn, distinct, concatMap, same}
-use Rattle.grid.specs.Grid.{blocks, bound, numBlocks}
+use Rattle.grid.proofs.Points.{onPoints}
+use Rattle.grid.specs.Grid.{Point, blocks, position, bound, numBlocks}
 use Rattle.place.proofs.Positions.{in-at}
 use Rattle.place.proofs.Bound.{count}
 use Rattle.place.proofs.EndPoints.{end-simplex}
-use Rattle.place.proofs.Labels.{place-labelled}
-use Rattle.place.proofs.LinkSymmetry.{place-same, linked-back, linked-other}
+use Rattle.place.proofs.Gaps.{one-gap}
+use Rattle.place.proofs.Labels.{zero-at}
+use Rattle.place.proofs.LinkSymmetry.{parts, place-same, linked-back, linked-other}
 use Rattle.place.proofs.Simplices.{simplex-sound, simplex-self, onSimplices}
 use Rattle.place.proofs.ListOfPlaces.{places-all, places-distinct}
 use Rattle.place.proofs.Start.{start-place}
-use Rattle.place.proofs.PathSteps.{linksOn, waysOn-split, Trail, trail, Link, first, step-links, all-places, onward, passes, finish, leftFrom, unended, more-fuel}
+use Rattle.place.proofs.PathSteps.{linksOn, waysOn-split, Trail, stuck, stops, goes, trail, Link, first, step-links}
+use Rattle.place.proofs.PathSteps.{all-places, onward, passes, known, finish, leftFrom, unended, more-fuel}
 use Rattle.place.proofs.Ways.{IsWay, byPlace, byFacet, byLink, sameWay, onEnds, onWays, end-is, in-ways}
-use Rattle.place.specs.Demand.{Accepted, TwoWays, placeAt, leftAt, Follows, IsPath, Demand3, Reverses}
+use Rattle.place.specs.Demand.{Accepted, Settled, TwoWays, placeAt, lastPlace, leftAt, Follows, IsPath, Stop}
+use Rattle.place.specs.Demand.{atEnd, atGap, NoGap, Ended, Demand3}
 use Rattle.place.specs.Ends.{End, Way, stop, link, isComplete, completeFor, placeEnds, facetEnds, facets, ends, ways, placeEnd, facetEnd}
 use Rattle.place.specs.Links.{linked, links}
-use Rattle.place.specs.Path.{isBack, waysOn, SimplicialPath, sameSimplex, path, pathLength, Answer, spent, announcement, answerWithin, answer}
-use Rattle.place.specs.Places.{Simplex, isPlace, places, setT, labelSet}
-use Rattle.place.specs.Problem.{Problem}
+use Rattle.place.specs.Path.{isBack, waysOn, sameSimplex, pathFrom, path, pathLength}
+use Rattle.place.specs.Path.{Answer, spent, unknown, announcement, outcome, answer}
+use Rattle.place.specs.Places.{Simplex, isPlace, places, setT, labelSet, allLabelled, unlabelled}
+use Rattle.place.specs.Problem.{Problem, hasLabel}
 
 pub in-placeAt : (l : List Simplex) (s : Simplex) → isIn sameSimplex s l ≡ true → (j : ℕ) × (j < length l) × (s ≡ placeAt l j)
 in-placeAt l s m = let j = in-at onSimplices [] s l m in (j .0, j .1, sym j.2)
@@ -77,88 +84,104 @@ filter-true : (xs : List Simplex) → filter (λ t. true) xs ≡ xs
 filter-true [] = refl
 filter-true (x ∷ xs) = ap (λ l. x ∷ l) (filter-true xs)
 
-length-ways : (p : Problem) (s : Simplex) → length (ways p s) ≡ length (ends p s) + length (links p s)
+pub length-ways : (p : Problem) (s : Simplex) → length (ways p s) ≡ length (ends p s) + length (links p s)
 unfolding ways
 length-ways p s = rw (length-append, length-map, length-map)
 
 length-waysOn : (p : Problem) (l : Option Simplex) (s : Simplex) → length (waysOn p l s) ≡ length (ends p s) + length (linksOn p l s)
 length-waysOn p l s = ap length (waysOn-split p l s) ∙ rw (length-append, length-map, length-map)
 
+-- a list stops where its last place has an end or a gap
+abbrev pub Final : Problem → List Simplex → Type 0
+Final p s = allLabelled p (lastPlace s) ≡ true → ends p (lastPlace s) ≡ [] → ⊥
+
+pub back : {p : Problem} (a b : Simplex) → Link p a b → Link p b a
+back {p} a b k = record { from = k .to; to = k .from; by = linked-back p a b k.from k.to k.by }
+
+pub in-links : {p : Problem} → Settled p → {a b : Simplex} → Link p a b → isIn sameSimplex b (links p a) ≡ true
+unfolding links
+in-links {p} ok {a} {b} k = in-filter onSimplices (linked p a) b (places p) (places-all p ok.sameNumber b k.to) k.by
+
+-- of three members of a list of at most two, two are the same
+pub among-two : (x y z : Simplex) (l : List Simplex) → length l ≤ 2 → isIn sameSimplex x l ≡ true → isIn sameSimplex y l ≡ true
+    → isIn sameSimplex z l ≡ true → (x ≡ y) ⊎ ((x ≡ z) ⊎ (y ≡ z))
+among-two x y z l c mx my mz = go (sameSimplex x y) (sameSimplex x z) (sameSimplex y z) refl refl refl
+  where
+    inAll : (w : Simplex) → isIn sameSimplex w (x ∷ y ∷ z ∷ []) ≡ true → isIn sameSimplex w l ≡ true
+    inAll w m =
+        ⊎-elim (λ e. rw e mx) (λ m. ⊎-elim (λ e. rw e my) (λ m. ⊎-elim (λ e. rw e mz) (λ m. absurd-bool (sym m))
+        (in-cases onSimplices w z [] m)) (in-cases onSimplices w y (z ∷ []) m)) (in-cases onSimplices w x (y ∷ z ∷ []) m)
+
+    go : (b c d : Bool) → sameSimplex x y ≡ b → sameSimplex x z ≡ c → sameSimplex y z ≡ d → (x ≡ y) ⊎ ((x ≡ z) ⊎ (y ≡ z))
+    go true c d e f g = inl (simplex-sound x y e)
+    go false true d e f g = inr (inl (simplex-sound x z f))
+    go false false true e f g = inr (inr (simplex-sound y z g))
+    go false false false e f g =
+        let d : distinct sameSimplex (x ∷ y ∷ z ∷ []) ≡ true = rw (e, f, g) in
+        absurd (omega (arith, pigeon onSimplices (x ∷ y ∷ z ∷ []) l d inAll))
+
+links-distinct : (p : Problem) (a : Simplex) → distinct sameSimplex (links p a) ≡ true
+unfolding links
+links-distinct p a = distinct-filter onSimplices (linked p a) (places p) (places-distinct p)
+
 module _ {p : Problem} (ok : Accepted p) (W : TwoWays p) where
-  one-start : length (ways p (p .start ∷ [])) ≡ 1
-  one-start = W .start (place-labelled ok _ (start-place ok.settled))
-
-  back : (a b : Simplex) → Link p a b → Link p b a
-  back a b k = record { from = k .to; to = k .from; by = linked-back p a b k.from k.to k.by }
-
-  in-links : {a b : Simplex} → Link p a b → isIn sameSimplex b (links p a) ≡ true
-  unfolding links
-  in-links {a} {b} k = in-filter onSimplices (linked p a) b (places p) (places-all p ok.settled.sameNumber b k.to) k.by
-
-  links-distinct : (a : Simplex) → distinct sameSimplex (links p a) ≡ true
-  unfolding links
-  links-distinct a = distinct-filter onSimplices (linked p a) (places p) (places-distinct p)
-
-  ways-le : (s : Simplex) → isPlace p s ≡ true → length (ways p s) ≤ 2
-  ways-le s h =
-      ⊎-elim (λ e. rw (simplex-sound s (p .start ∷ []) e) (omega (arith, one-start)))
-      (λ e. omega (arith, W .other s h (place-labelled ok s h) (λ q. absurd-bool (sym (simplex-self s) ∙ (rw (← q) at e)))))
+  ways-le : (s : Simplex) → isPlace p s ≡ true → allLabelled p s ≡ true → length (ways p s) ≤ 2
+  ways-le s h own =
+      ⊎-elim (λ e. let q = simplex-sound s (p .start ∷ []) e in rw q (omega (arith, W .start (rw q at own))))
+      (λ e. omega (arith, W .other s h own (λ q. absurd-bool (sym (simplex-self s) ∙ (rw (← q) at e)))))
       (true-or-false (sameSimplex s (p .start ∷ [])))
 
-  two : (a x y z : Simplex) → Link p a x → Link p a y → Link p a z → (x ≡ y) ⊎ ((x ≡ z) ⊎ (y ≡ z))
-  two a x y z kx ky kz = go (sameSimplex x y) (sameSimplex x z) (sameSimplex y z) refl refl refl
-    where
-      inAll : (w : Simplex) → isIn sameSimplex w (x ∷ y ∷ z ∷ []) ≡ true → isIn sameSimplex w (links p a) ≡ true
-      inAll w m =
-          ⊎-elim (λ e. rw e (in-links kx)) (λ m. ⊎-elim (λ e. rw e (in-links ky)) (λ m. ⊎-elim (λ e. rw e (in-links kz)) (λ m. absurd-bool (sym m))
-          (in-cases onSimplices w z [] m)) (in-cases onSimplices w y (z ∷ []) m)) (in-cases onSimplices w x (y ∷ z ∷ []) m)
+  -- a link between places whose points have labels
+  record Known (a b : Simplex) : Type 0 where
+    pub joins : Link p a b
+    pub ownFrom : allLabelled p a ≡ true
+    pub ownTo : allLabelled p b ≡ true
 
-      go : (b c d : Bool) → sameSimplex x y ≡ b → sameSimplex x z ≡ c → sameSimplex y z ≡ d → (x ≡ y) ⊎ ((x ≡ z) ⊎ (y ≡ z))
-      go true c d e f g = inl (simplex-sound x y e)
-      go false true d e f g = inr (inl (simplex-sound x z f))
-      go false false true e f g = inr (inr (simplex-sound y z g))
-      go false false false e f g =
-          let d : distinct sameSimplex (x ∷ y ∷ z ∷ []) ≡ true = rw (e, f, g) in
-          absurd (omega (arith, pigeon onSimplices (x ∷ y ∷ z ∷ []) (links p a) d inAll, ways-le a kx.from, length-ways p a))
+  two : (a x y z : Simplex) → Known a x → Known a y → Known a z → (x ≡ y) ⊎ ((x ≡ z) ⊎ (y ≡ z))
+  two a x y z kx ky kz =
+      among-two x y z (links p a) (omega (arith, ways-le a kx.joins.from kx.ownFrom, length-ways p a)) (in-links ok.settled kx.joins)
+      (in-links ok.settled ky.joins) (in-links ok.settled kz.joins)
 
-  one-link : (x y : Simplex) → Link p (p .start ∷ []) x → Link p (p .start ∷ []) y → x ≡ y
-  one-link x y kx ky = go (sameSimplex x y) refl
-    where
-      inAll : (w : Simplex) → isIn sameSimplex w (x ∷ y ∷ []) ≡ true → isIn sameSimplex w (links p (p .start ∷ [])) ≡ true
-      inAll w m =
-          ⊎-elim (λ e. rw e (in-links kx)) (λ m. ⊎-elim (λ e. rw e (in-links ky)) (λ m. absurd-bool (sym m))
-          (in-cases onSimplices w y [] m)) (in-cases onSimplices w x (y ∷ []) m)
+  one-link : (x y : Simplex) → Known (p .start ∷ []) x → Known (p .start ∷ []) y → x ≡ y
+  one-link x y kx ky =
+      only-member onSimplices x y (links p (p .start ∷ [])) (omega (arith, W .start kx.ownFrom, length-ways p (p .start ∷ [])))
+      (in-links ok.settled kx.joins) (in-links ok.settled ky.joins)
 
-      go : (b : Bool) → sameSimplex x y ≡ b → x ≡ y
-      go true e = simplex-sound x y e
-      go false e =
-          let d : distinct sameSimplex (x ∷ y ∷ []) ≡ true = rw e in
-          absurd (omega (arith, pigeon onSimplices (x ∷ y ∷ []) (links p (p .start ∷ [])) d inAll, one-start, length-ways p (p .start ∷ [])))
+  walks : {n : ℕ} {s : List Simplex} {e : Option End} → Trail p n none (p .start ∷ []) s e → (k : ℕ) → k < length s
+      → allLabelled p (placeAt s k) ≡ true → Walks Known (placeAt s) k
+  walks {s = s} t k c own = record {
+    linked = λ i h. record {
+      joins = step-links p t (start-place ok.settled) i (omega arith);
+      ownFrom = known p t i (omega arith);
+      ownTo = ⊎-elim (λ (e : suc i ≡ k). rw e own) (λ (n : suc i ≡ k → ⊥). known p t (suc i) (omega (arith, n))) (same-or (suc i) k);
+    };
+    onward = λ i h q. onward p t i (omega arith) q;
+  }
 
-  walks : {n : ℕ} {s : List Simplex} {e : Option End} → Trail p n none (p .start ∷ []) s e → (k : ℕ) → k < length s → Walks (Link p) (placeAt s) k
-  walks t k c = record { linked = λ i h. step-links p t (start-place ok.settled) i (omega arith); onward = λ i h q. onward p t i (omega arith) q }
-
-  -- no place stands twice
+  -- no place stands twice: a place with a gap is not one before it, for these have none
   pub never-twice : {n : ℕ} {s : List Simplex} {e : Option End} → Trail p n none (p .start ∷ []) s e → (i j : ℕ) → i < j → j < length s
       → placeAt s i ≡ placeAt s j → ⊥
   never-twice {s = s} t i j l c q =
       let z : placeAt s 0 ≡ p .start ∷ [] = first p t (omega arith) in
-      apart (Link p) back (λ a k. linked-other p a k.by) two (placeAt s) (rw z one-link) j (walks t j c) j i j (omega arith) l (omega arith) q
+      let own : allLabelled p (placeAt s j) ≡ true = rw (← q) (known p t i (omega arith)) in
+      apart Known (λ a b k. record { joins = back a b k.joins; ownFrom = k .ownTo; ownTo = k .ownFrom })
+      (λ a k. linked-other p a k.joins.by) two (placeAt s) (rw z one-link) j (walks t j c own) j i j (omega arith) l (omega arith) q
 
-  -- at each place exactly one way on
+  -- at each place whose points have labels exactly one way on
   pub one-way : {n : ℕ} {s : List Simplex} {e : Option End} → Trail p n none (p .start ∷ []) s e → (i : ℕ) → i < length s
-      → length (waysOn p (leftAt s i) (placeAt s i)) ≡ 1
-  one-way {s = s} t zero c =
+      → allLabelled p (placeAt s i) ≡ true → length (waysOn p (leftAt s i) (placeAt s i)) ≡ 1
+  one-way {s = s} t zero c own =
       rw (first p t c)
-      (length-waysOn p none (p .start ∷ []) ∙ (rw (filter-true (links p (p .start ∷ []))) (sym (length-ways p (p .start ∷ [])) ∙ one-start)))
-  one-way {s = s} t (suc i) c =
+      (length-waysOn p none (p .start ∷ [])
+      ∙ (rw (filter-true (links p (p .start ∷ []))) (sym (length-ways p (p .start ∷ [])) ∙ W .start (rw (first p t c) at own))))
+  one-way {s = s} t (suc i) c own =
       let k : Link p (placeAt s i) (placeAt s (suc i)) = step-links p t (start-place ok.settled) i c in
       let z : placeAt s 0 ≡ p .start ∷ [] = first p t (omega arith) in
-      let w : length (ways p (placeAt s (suc i))) ≡ 2 = W .other (placeAt s (suc i)) k.to (place-labelled ok (placeAt s (suc i)) k.to)
+      let w : length (ways p (placeAt s (suc i))) ≡ 2 = W .other (placeAt s (suc i)) k.to own
       (λ q. never-twice t 0 (suc i) (omega arith) c (z ∙ sym q)) in
       let m : suc (length (linksOn p (some (placeAt s i)) (placeAt s (suc i)))) ≡ length (links p (placeAt s (suc i))) =
-      length-without onSimplices (placeAt s i) (links p (placeAt s (suc i))) (links-distinct (placeAt s (suc i)))
-      (in-links (back (placeAt s i) (placeAt s (suc i)) k))
+      length-without onSimplices (placeAt s i) (links p (placeAt s (suc i))) (links-distinct p (placeAt s (suc i)))
+      (in-links ok.settled (back (placeAt s i) (placeAt s (suc i)) k))
       in
       omega (arith, length-waysOn p (some (placeAt s i)) (placeAt s (suc i)), length-ways p (placeAt s (suc i)))
 
@@ -171,43 +194,53 @@ module _ {p : Problem} (ok : Accepted p) (W : TwoWays p) where
   left-same s zero = refl
   left-same s (suc i) = refl
 
-  -- with more fuel than the bound the path ends
-  ends-long : {n : ℕ} {s : List Simplex} {e : Option End} → Trail p n none (p .start ∷ []) s e → bound p.grid < n → (f : End) × (e ≡ some f)
-  ends-long {n} {s} {e = none} t c =
+  -- with more fuel than the bound the path stops at an end or at a gap
+  stops-long : {n : ℕ} {s : List Simplex} {e : Option End} → Trail p n none (p .start ∷ []) s e → bound p.grid < n → Stop p (lastPlace s) e
+  stops-long {n} {s} {e = none} t c =
       ⊎-elim (λ q. absurd (omega (arith, within-bound t)))
-      (λ i. absurd (let z : length (waysOn p (leftAt s i.0) (placeAt s i.0)) ≡ 0 = ap length (rw (left-same s i.0) at i.2) in
-      omega (arith, one-way t i.0 i.1))) (unended p t refl)
-  ends-long {e = some f} t c = (f, refl)
+      (λ i.
+      let k : pred (length s) ≡ i .0 = omega (arith, i .1) in
+      let l : i .0 < length s = omega (arith, i .1) in
+      let f : allLabelled p (placeAt s i.0) ≡ false = false-of _
+      (λ own. absurd (let z : length (waysOn p (leftAt s i.0) (placeAt s i.0)) ≡ 0 = ap length (rw (left-same s i.0) at (i .2 own)) in
+      omega (arith, one-way t i.0 l own))) in
+      let g = one-gap ok.settled (placeAt s i.0) (all-places p t (start-place ok.settled) i.0 l) f in
+      rw k (atGap g.0 g.1)) (unended p t refl)
+  stops-long {e = some f} t c = let w = finish p t f refl in atEnd w.finishes.0 w.whole w.finishes.1
 
-  path-ends : (f : End) × (path p .end ≡ some f)
+  -- the path is the same with more fuel
+  path-long : path p ≡ pathFrom p (suc (bound p.grid)) none (p .start ∷ [])
   unfolding path
-  path-ends =
-      let b = bound p.grid in
-      let t = trail p (suc b) none _ in
-      let i = ends-long t (omega arith) in
-      (i .0, ap (λ (r : SimplicialPath). r .end) (more-fuel p b none _ i.0 i.1 (within-bound t)) ∙ i .1)
+  path-long = more-fuel p (bound p.grid) none _ (within-bound (trail p (suc (bound p.grid)) none _))
+
+  path-trail : Trail p (suc (bound p.grid)) none (p .start ∷ []) (path p .visited) (path p .end)
+  path-trail = rw path-long (trail p (suc (bound p.grid)) none (p .start ∷ []))
+
+  path-stop : Stop p (lastPlace (path p .visited)) (path p .end)
+  path-stop = stops-long path-trail (omega arith)
 
   answer-spent : (b : ℕ) → b < pathLength p → answer p b ≡ spent b
   unfolding answer
-  answer-spent b h = go (path p .end)
-    where
-      go : (e : Option End) → answerWithin b (pathLength p) e ≡ spent b
-      go none = refl
-      go (some e) = rw (lt-ltb b _ h)
+  answer-spent b h = rw (lt-ltb b _ h)
+
+  answer-out : (b : ℕ) → pathLength p ≤ b → answer p b ≡ outcome p (path p .visited) (path p .end)
+  unfolding answer
+  answer-out b h = rw (le-ltb b _ h)
 
   answer-ended : (e : End) → path p .end ≡ some e → (b : ℕ) → pathLength p ≤ b → answer p b ≡ announcement (pathLength p) e
-  unfolding answer
-  answer-ended e q b h = rw (q, le-ltb b _ h)
+  answer-ended e q b h = answer-out b h ∙ ap (λ (x : Option End). outcome p (path p .visited) x) q
 
-  ended-not-spent : (n b : ℕ) (e : End) (x : Answer) → x ≡ announcement n e → x ≡ spent b → ⊥
-  ended-not-spent n b e x q r = absurd-bool (cc)
+  out-not-spent : (s : List Simplex) (e : Option End) (b : ℕ) → outcome p s e ≡ spent b → ⊥
+  out-not-spent s none b q = absurd-bool (cc)
+  out-not-spent s (some e) b q = absurd-bool (cc)
 
-  path-trail : Trail p (bound p.grid) none (p .start ∷ []) (path p .visited) (path p .end)
-  unfolding path
-  path-trail = trail p _ none _
+  spent-short : (b : ℕ) → answer p b ≡ spent b → b < pathLength p
+  spent-short b q =
+      ⊎-elim (λ h. h) (λ h. absurd (out-not-spent (path p .visited) (path p .end) b (sym (answer-out b h) ∙ q)))
+      (before-or-not b (pathLength p))
 
-  unspent : (e : End) → path p .end ≡ some e → (b : ℕ) → (answer p b ≡ spent b → ⊥) → answer p b ≡ announcement (pathLength p) e
-  unspent e q b z = answer-ended e q b (⊎-elim (λ h. absurd (z (answer-spent b h))) (λ h. h) (before-or-not b (pathLength p)))
+  unspent : (b : ℕ) → (answer p b ≡ spent b → ⊥) → answer p b ≡ outcome p (path p .visited) (path p .end)
+  unspent b z = answer-out b (⊎-elim (λ h. absurd (z (answer-spent b h))) (λ h. h) (before-or-not b (pathLength p)))
 
   -- links on from a place with one way on are the same
   next-same : (l : Option Simplex) (h x y : Simplex) → length (waysOn p l h) ≡ 1 → isIn sameSimplex x (linksOn p l h) ≡ true
@@ -218,7 +251,7 @@ module _ {p : Problem} (ok : Accepted p) (W : TwoWays p) where
       → isIn sameSimplex (placeAt s (suc i)) (linksOn p (leftAt s i) (placeAt s i)) ≡ true
   path-next {s} k i c =
       in-filter onSimplices (λ t. not (isBack (leftAt s i) (link t))) (placeAt s (suc i)) (links p (placeAt s i))
-      (in-links (record { from = k .places i (omega arith); to = k .places (suc i) c; by = k .links i c })) (go i c)
+      (in-links ok.settled (record { from = k .places i (omega arith); to = k .places (suc i) c; by = k .links i c })) (go i c)
     where
       go : (i : ℕ) → suc i < length s → not (isBack (leftAt s i) (link (placeAt s (suc i)))) ≡ true
       go zero c = refl
@@ -226,219 +259,237 @@ module _ {p : Problem} (ok : Accepted p) (W : TwoWays p) where
           let z : sameSimplex (placeAt s i) (placeAt s (suc (suc i))) ≡ false = false-of _
           (λ q. k .onward i c (simplex-sound (placeAt s i) (placeAt s (suc (suc i))) q)) in rw z
 
-  -- a list that follows the path, beside one that ends and has one way on at each place
-  module _ {t : List Simplex} {f : End} (kt : IsPath p t f) (o : (i : ℕ) → i < length t → length (waysOn p (leftAt t i) (placeAt t i)) ≡ 1) where
-    agree : (s : List Simplex) → Follows p s → (i : ℕ) → i < length s → (i < length t) × (placeAt s i ≡ placeAt t i) × (leftAt s i ≡ leftAt t i)
-    agree s ks zero a = (kt .follows .nonempty, ks .begins ∙ sym kt.follows.begins, refl)
+  -- a list that follows the path, beside one that stops and has one way on at each place without a gap
+  module _ {t : List Simplex} (kt : Follows p t) (final : Final p t)
+      (o : (i : ℕ) → i < length t → allLabelled p (placeAt t i) ≡ true → length (waysOn p (leftAt t i) (placeAt t i)) ≡ 1) where
+    agree : (s : List Simplex) → Follows p s → (i : ℕ) → i < length s
+        → (i < length t) × (placeAt s i ≡ placeAt t i) × (leftAt s i ≡ leftAt t i)
+    agree s ks zero a = (kt .nonempty, ks .begins ∙ sym kt.begins, refl)
     agree s ks (suc i) a =
         let h = agree s ks i (omega arith) in
         let open-here : ends p (placeAt t i) ≡ [] = rw h.1 at (ks .passes i a) in
-        let n = kt .follows .nonempty in
+        let own : allLabelled p (placeAt t i) ≡ true = rw h.1 at (ks .known i a) in
+        let n = kt .nonempty in
         let b : suc i < length t = ⊎-elim
         (λ c. c)
-        (λ c. absurd (let q : i ≡ pred (length t) = omega (arith, h .0) in
-        let z : _≡_ {A = ℕ} 0 1 = cc (kt .finishes .1, ap (λ (x : ℕ). ends p (placeAt t x)) q) in omega arith))
+        (λ c. absurd (let q : pred (length t) ≡ i = omega (arith, h .0) in final (rw q own) (rw q open-here)))
         (before-or-not (suc i) (length t)) in
         let m : isIn sameSimplex (placeAt s (suc i)) (linksOn p (leftAt t i) (placeAt t i)) ≡ true = subst₂
         (λ (x : Simplex) (l : Option Simplex). isIn sameSimplex (placeAt s (suc i)) (linksOn p l x) ≡ true) h.1 h.2
         (path-next ks i a) in (
           b,
-          next-same (leftAt t i) (placeAt t i) _ _ (o i h.0) m (path-next kt.follows i b),
+          next-same (leftAt t i) (placeAt t i) _ _ (o i h.0 own) m (path-next kt i b),
           ap (λ (x : Simplex). some x) h.1,
         )
 
-    -- where it has no end it is not yet the whole path
-    agree-more : (s : List Simplex) → Follows p s → ends p (placeAt s (pred (length s))) ≡ [] → length s < length t
-    agree-more s ks e =
+    -- where it has no end and no gap it is not yet the whole path
+    agree-more : (s : List Simplex) → Follows p s → allLabelled p (lastPlace s) ≡ true → ends p (lastPlace s) ≡ [] → length s < length t
+    agree-more s ks own e =
         let c = ks .nonempty in
         let h = agree s ks (pred (length s)) (omega arith) in
         ⊎-elim (λ l. l) (λ l. absurd (
-        let q : pred (length s) ≡ pred (length t) = omega (arith, h .0) in
-        let z : _≡_ {A = ℕ} 0 1 = cc (kt .finishes .1, ap (λ (x : ℕ). ends p (placeAt t x)) q, ap (ends p) h.1) in omega arith))
+        let q : pred (length t) ≡ pred (length s) = omega (arith, h .0) in
+        final (rw (q, ← h .1) own) (rw (q, ← h .1) e)))
         (before-or-not (length s) (length t))
 
-    agree-all : (s : List Simplex) (e : End) → IsPath p s e → (s ≡ t) × (e ≡ f)
-    agree-all s e ks =
-        let c = ks .follows .nonempty in
-        let h = agree s ks.follows (pred (length s)) (omega arith) in
+    -- and where it stops it is
+    agree-all : (s : List Simplex) → Follows p s → Final p s → s ≡ t
+    agree-all s ks halts =
+        let c = ks .nonempty in
+        let h = agree s ks (pred (length s)) (omega arith) in
         let l : length s ≡ length t =
-        ⊎-elim (λ d. absurd (
-        let b : ends p (placeAt t (pred (length s))) ≡ [] = kt .follows .passes (pred (length s)) (omega arith) in
-        let z : _≡_ {A = ℕ} 0 1 = cc (ks .finishes .1, ap (ends p) h.1) in omega arith)) (λ d. omega (arith, h .0))
-        (before-or-not (length s) (length t))
+        ⊎-elim
+        (λ d. absurd (halts (rw h.1 (kt .known (pred (length s)) (omega arith))) (rw h.1 (kt .passes (pred (length s)) (omega arith)))))
+        (λ d. omega (arith, h .0)) (before-or-not (length s) (length t))
         in
-        let q : s ≡ t = ext-getD [] s t l (λ i c. agree s ks.follows i c .1) in
-        let a : ends p (placeAt s (pred (length s))) ≡ e ∷ ks .finishes .0 = ks .finishes .1 in
-        let b : ends p (placeAt t (pred (length t))) ≡ f ∷ kt .finishes .0 = kt .finishes .1 in
-        let r : ends p (placeAt s (pred (length s))) ≡ ends p (placeAt t (pred (length t))) = rw q in
-        (q, cc)
+        ext-getD [] s t l (λ i c. agree s ks i c .1)
 
-  path-is : IsPath p (path p .visited) path-ends.0
-  path-is =
+  pub gap-not-all : (s : Simplex) {y : Point} → unlabelled p s ≡ y ∷ [] → allLabelled p s ≡ true → ⊥
+  gap-not-all s {y} e own =
+      let m = filter-in onPoints (λ y. not (hasLabel p y)) y s (rw e (in-here onPoints y [])) in
+      absurd-bool (sym (all-in onPoints (hasLabel p) s own y m.0) ∙ not-is _ m.1)
+
+  path-final : Final p (path p .visited)
+  path-final = go path-stop
+    where
+      go : {s : Simplex} {e : Option End} → Stop p s e → allLabelled p s ≡ true → ends p s ≡ [] → ⊥
+      go (atEnd es own q) o n = let z : _≡_ {A = ℕ} 0 1 = cc in omega arith
+      go {s} (atGap y g) o n = gap-not-all s g o
+
+  path-nonempty : 0 < pathLength p
+  path-nonempty = go path-trail
+    where
+      go : {s : List Simplex} {e : Option End} → Trail p (suc (bound p.grid)) none (p .start ∷ []) s e → 0 < length s
+      go (stuck q) = omega arith
+      go (stops es own q) = omega arith
+      go (goes t own q m k) = omega arith
+
+  pub path-follows : Follows p (path p .visited)
+  path-follows =
       let t = path-trail in
-      let fin = finish p t path-ends.0 path-ends.1 in
       record {
-        follows = record {
-          nonempty = fin .0;
-          begins = first p t fin.0;
-          places = all-places p t (start-place ok.settled);
-          links = λ i h. step-links p t (start-place ok.settled) i h .by;
-          onward = onward p t;
-          passes = passes p t;
-        };
-        finishes = fin .1;
+        nonempty = path-nonempty;
+        begins = first p t path-nonempty;
+        places = all-places p t (start-place ok.settled);
+        links = λ i h. step-links p t (start-place ok.settled) i h .by;
+        onward = onward p t;
+        passes = passes p t;
+        known = known p t;
       }
 
-  -- the end's points are complete for no other block: that would be another way on from the last place
-  end-only : (j : ℕ) → j < numBlocks p.grid → isComplete p path-ends.0.simplex j ≡ true → j ≡ path-ends .0 .block
-  unfolding waysOn
-  end-only j l c = go (end-is p s e (rw path-is.finishes.1 (in-here onEnds e path-is.finishes.0))) refl
+  -- a list that follows the path and stops is the path,
+  pub whole-path : (s : List Simplex) → Follows p s → Final p s → s ≡ path p .visited
+  whole-path = agree-all path-follows path-final (one-way path-trail)
+
+  -- and its end is the path's
+  pub only-path : (s : List Simplex) (e : End) → IsPath p s e → (s ≡ path p .visited) × (path p .end ≡ some e)
+  only-path s e k =
+      let q = whole-path s k.follows (λ own n. let f = k .finishes .1 in let z : _≡_ {A = ℕ} 0 1 = cc in omega arith) in
+      (q, go path-stop (rw q at k.whole) (rw q at k.finishes.1))
     where
-      e : End
-      e = path-ends .0
-
-      n : List Simplex
-      n = path p .visited
-
-      i : ℕ
-      i = pred (length n)
-
-      s : Simplex
-      s = placeAt n i
-
-      below : (k : ℕ) → 0 < k → pred k < k
-      below k h = omega arith
-
-      stays : (w : Option Simplex) (d : End) → not (isBack w (stop d)) ≡ true
-      stays none d = refl
-      stays (some t) d = refl
-
-      on : (d : End) → IsWay p s (stop d) → isIn sameWay (stop d) (waysOn p (leftAt n i) s) ≡ true
-      on d k = in-filter onWays (λ w. not (isBack (leftAt n i) w)) (stop d) (ways p s) (in-ways p s ok.settled.sameNumber k) (stays (leftAt n i) d)
-
-      same-block : (d f : End) → IsWay p s (stop d) → IsWay p s (stop f) → d .block ≡ f .block
-      same-block d f a b =
-          let q : stop d ≡ stop f = only-member onWays (stop d) (stop f) (waysOn p (leftAt n i) s)
-          (omega (arith, one-way path-trail i (below (length n) path-is.follows.nonempty))) (on d a) (on f b) in
-          let r : d ≡ f = cc in
-          ap (λ (x : End). x .block) r
-
-      go : {w : Way} → IsWay p s w → w ≡ stop e → j ≡ e .block
-      go (byPlace k lk ck) q =
-          let r : record { kind = placeEnd; block = k; simplex = s } ≡ e = cc in
-          same-block (record { kind = placeEnd; block = j; simplex = s }) e (byPlace j l (rw (ap (λ (x : End). x .simplex) r) c))
-          (rw (← r) (byPlace k lk ck))
-      go (byFacet f k m t lk ck) q =
-          let r : record { kind = facetEnd; block = k; simplex = f } ≡ e = cc in
-          same-block (record { kind = facetEnd; block = j; simplex = f }) e (byFacet f j m t l (rw (ap (λ (x : End). x .simplex) r) c))
-          (rw (← r) (byFacet f k m t lk ck))
-      go (byLink t ht k) q = absurd-bool (cc)
+      go : {l : Simplex} {d : Option End} → Stop p l d → allLabelled p l ≡ true → ends p l ≡ e ∷ k .finishes .0 → d ≡ some e
+      go (atEnd {e = d} es own q) o n = let z : d ≡ e = cc in ap (λ (x : End). some x) z
+      go {l} (atGap y g) o n = absurd (gap-not-all l g o)
 
   -- what a run that goes from place to place needs: its places are the path's,
   pub follows-path : (s : List Simplex) → Follows p s → (i : ℕ) → i < length s
       → (i < pathLength p) × (placeAt s i ≡ placeAt (path p .visited) i) × (leftAt s i ≡ leftAt (path p .visited) i)
-  follows-path = agree path-is (one-way path-trail)
+  follows-path = agree path-follows path-final (one-way path-trail)
 
-  -- and there is more of the path where there is no end
-  pub follows-more : (s : List Simplex) → Follows p s → ends p (placeAt s (pred (length s))) ≡ [] → length s < pathLength p
-  follows-more = agree-more path-is (one-way path-trail)
+  -- and there is more of the path where there is no end and no gap
+  pub follows-more : (s : List Simplex) → Follows p s → allLabelled p (lastPlace s) ≡ true → ends p (lastPlace s) ≡ []
+      → length s < pathLength p
+  follows-more = agree-more path-follows path-final (one-way path-trail)
 
-  -- the path backward
-  pub reverses : Reverses p
-  reverses = record { last = last; between = between; start = begin }
+  -- a path without a gap has an end
+  pub ends-known : NoGap p → (e : End) × (path p .end ≡ some e)
+  ends-known n = go path-stop (n (pred (pathLength p)) (omega (arith, path-nonempty)))
     where
-      n : List Simplex
-      n = path p .visited
+      go : {l : Simplex} {d : Option End} → Stop p l d → allLabelled p l ≡ true → (e : End) × (d ≡ some e)
+      go (atEnd {e = e} es own q) o = (e, refl)
+      go {l} (atGap y g) o = absurd (gap-not-all l g o)
 
-      at-place : ℕ → Simplex
-      at-place i = placeAt n i
+  -- where the path has an end
+  module _ (e : End) (ended : path p .end ≡ some e) where
+    pub path-is : IsPath p (path p .visited) e
+    path-is = let w = finish p path-trail e ended in record { follows = path-follows; whole = w .whole; finishes = w .finishes }
 
-      link-to : (i : ℕ) → suc i < length n → Link p (at-place i) (at-place (suc i))
-      link-to i c = step-links p path-trail (start-place ok.settled) i c
+    pub no-gap : NoGap p
+    no-gap i c =
+        ⊎-elim (λ (q : pred (pathLength p) ≡ i). rw (← q) (path-is .whole))
+        (λ (n : pred (pathLength p) ≡ i → ⊥). known p path-trail i (omega (arith, n))) (same-or (pred (pathLength p)) i)
 
-      before : (i : ℕ) → suc i < length n → isIn sameSimplex (at-place i) (links p (at-place (suc i))) ≡ true
-      before i c = in-links (back (at-place i) _ (link-to i c))
+    -- the end's points are complete for no other block: that would be another way on from the last place
+    end-only : (j : ℕ) → j < numBlocks p.grid → isComplete p e.simplex j ≡ true → j ≡ e .block
+    unfolding waysOn
+    end-only j l c = go (end-is p s e (rw path-is.finishes.1 (in-here onEnds e path-is.finishes.0))) refl
+      where
+        n : List Simplex
+        n = path p .visited
 
-      two-out : (i : ℕ) → suc i < length n → length (ends p (at-place (suc i))) + length (links p (at-place (suc i))) ≡ 2
-      two-out i c =
-          sym (length-ways p _)
-          ∙ W .other (at-place (suc i)) (link-to i c .to) (place-labelled ok _ (link-to i c .to))
-          (λ q. never-twice path-trail 0 (suc i) (omega arith) c (first p path-trail (omega arith) ∙ sym q))
+        i : ℕ
+        i = pred (length n)
 
-      -- the links but the one to the place after, which is one of them
-      others : (a b : Simplex) → isIn sameSimplex b (links p a) ≡ true → suc (length (linksOn p (some b) a)) ≡ length (links p a)
-      others a b m = length-without onSimplices b (links p a) (links-distinct a) m
+        s : Simplex
+        s = placeAt n i
 
-      some-end : (i : ℕ) → suc (suc i) ≡ length n → 0 < length (ends p (at-place (suc i)))
-      some-end i e =
-          let q : pred (length n) ≡ suc i = omega arith in
-          let w : ends p (at-place (suc i)) ≡ path-ends .0 ∷ path-is .finishes .0 = rw q at path-is.finishes.1 in
-          omega (arith, ap length w)
+        below : (k : ℕ) → 0 < k → pred k < k
+        below k h = omega arith
 
-      last : (i : ℕ) → suc (suc i) ≡ pathLength p → links p (at-place (suc i)) ≡ at-place i ∷ []
-      last i e = only-list onSimplices (at-place i) _ (omega (arith, two-out i (omega arith), some-end i e))
-          (before i (omega arith))
+        stays : (w : Option Simplex) (d : End) → not (isBack w (stop d)) ≡ true
+        stays none d = refl
+        stays (some t) d = refl
 
-      between : (i : ℕ) → suc (suc i) < pathLength p → waysOn p (some (at-place (suc (suc i)))) (at-place (suc i)) ≡ link (at-place i) ∷ []
-      between i c =
-          let a = at-place (suc i) in
-          let b = at-place (suc (suc i)) in
-          let none-here : ends p a ≡ [] = path-is .follows .passes (suc i) c in
-          let m : isIn sameSimplex b (links p a) ≡ true = in-links (link-to (suc i) c) in
-          let q : sameSimplex b (at-place i) ≡ false = false-of _
-          (λ e. never-twice path-trail i (suc (suc i)) (omega arith) c (sym (simplex-sound b (at-place i) e))) in
-          let one : linksOn p (some b) a ≡ at-place i ∷ [] =
-          only-list onSimplices (at-place i) _ (omega (arith, others a b m, two-out i (omega arith), ap length none-here))
-          (in-filter onSimplices _ (at-place i) (links p a) (before i (omega arith)) (rw q))
-          in
-          waysOn-split p (some b) a ∙ rw (none-here, one)
+        on : (d : End) → IsWay p s (stop d) → isIn sameWay (stop d) (waysOn p (leftAt n i) s) ≡ true
+        on d k = in-filter onWays (λ w. not (isBack (leftAt n i) w)) (stop d) (ways p s)
+            (in-ways p s ok.settled.sameNumber k) (stays (leftAt n i) d)
 
-      nil-of : (l : List Simplex) → length l ≡ 0 → l ≡ []
-      nil-of [] e = refl
-      nil-of (x ∷ l) e = absurd (omega arith)
+        same-block : (d f : End) → IsWay p s (stop d) → IsWay p s (stop f) → d .block ≡ f .block
+        same-block d f a b =
+            let q : stop d ≡ stop f = only-member onWays (stop d) (stop f) (waysOn p (leftAt n i) s)
+            (omega (arith, one-way path-trail i (below (length n) path-nonempty) path-is.whole)) (on d a) (on f b) in
+            let r : d ≡ f = cc in
+            ap (λ (x : End). x .block) r
 
-      begin : 1 < pathLength p → waysOn p (some (at-place 1)) (p .start ∷ []) ≡ []
-      begin c =
-          let v = p .start ∷ [] in
-          let e : at-place 0 ≡ v = first p path-trail (omega arith) in
-          let none-here : ends p v ≡ [] = rw e at (path-is .follows .passes 0 c) in
-          let m : isIn sameSimplex (at-place 1) (links p v) ≡ true = in-links (rw e at (link-to 0 c)) in
-          let one : length
-          (linksOn p (some (at-place 1)) v) ≡ 0 = omega (arith, others v (at-place 1) m, length-ways p v, one-start, ap length none-here) in
-          waysOn-split p _ v ∙ rw (none-here, nil-of (linksOn p (some (at-place 1)) v) one)
+        go : {w : Way} → IsWay p s w → w ≡ stop e → j ≡ e .block
+        go (byPlace k lk ck) q =
+            let r : record { kind = placeEnd; block = k; simplex = s } ≡ e = cc in
+            same-block (record { kind = placeEnd; block = j; simplex = s }) e (byPlace j l (rw (ap (λ (x : End). x .simplex) r) c))
+            (rw (← r) (byPlace k lk ck))
+        go (byFacet f k m t lk ck) q =
+            let r : record { kind = facetEnd; block = k; simplex = f } ≡ e = cc in
+            same-block (record { kind = facetEnd; block = j; simplex = f }) e (byFacet f j m t l (rw (ap (λ (x : End). x .simplex) r) c))
+            (rw (← r) (byFacet f k m t lk ck))
+        go (byLink t ht k) q = absurd-bool (cc)
+
+    whole-end : Ended p
+    whole-end =
+        let fin = path-is .finishes in
+        record {
+          end = e;
+          isPath = path-is;
+          ends = ended;
+          announces = answer-ended e ended;
+          complete = first-complete fin.0 _ fin.1 (ends-complete p _);
+          completeOnly = end-only;
+          inOrder = end-simplex p ok.settled path-is .inOrder;
+          reaches = answer-ended e ended _ (within-bound path-trail);
+        }
+      where
+        first-complete : (es l : List End) → l ≡ e ∷ es → all (λ e. isComplete p e.simplex e.block) l ≡ true
+            → isComplete p e.simplex e.block ≡ true
+        first-complete es l q a = and-left _ _ (rw q at a)
 
   pub demand3 : Demand3 p
   demand3 =
-      let f = path-ends in
-      let e = f .0 in
       let t = path-trail in
       let n = path p .visited in
-      let fin = path-is .finishes in
       record {
-        end = e;
-        isPath = path-is;
-        ends = f .1;
-        only = agree-all path-is (one-way t);
+        follows = path-follows;
+        stops = path-stop;
+        ended = λ k. let e = ends-known k in whole-end e.0 e.1;
+        only = only-path;
         one = one-way t;
         once = λ i j l c q. never-twice t i j l c
             (place-same p (placeAt n i) (placeAt n j) (all-places p t (start-place ok.settled) i (omega arith))
             (all-places p t (start-place ok.settled) j c) q);
         bounded = within-bound t;
-        spends = λ b. (
-          (λ q. ⊎-elim
-              (λ h. h)
-              (λ h. absurd (ended-not-spent _ b e (answer p b) (answer-ended e f.1 b h) q))
-              (before-or-not b (pathLength p))),
-          answer-spent b,
-        );
-        announces = answer-ended e f.1;
-        complete = first-complete e fin.0 (ends p (placeAt n (pred (length n)))) fin.1 (ends-complete p _);
-        completeOnly = end-only;
-        inOrder = end-simplex p ok.settled path-is .inOrder;
-        reaches = answer-ended e f.1 _ (within-bound t);
-        alike = λ b c x y. unspent e f.1 b x ∙ sym (unspent e f.1 c y);
+        spends = λ b. (spent-short b, answer-spent b);
+        enough = λ b h q. absurd (omega (arith, spent-short b q, within-bound t));
+        asks = asks;
+        asked = λ b n i q. asked b n i q (path p .end) refl path-stop;
+        alike = λ b c x y. unspent b x ∙ sym (unspent c y);
       }
     where
-      first-complete : (e : End) (es l : List End) → l ≡ e ∷ es → all (λ e. isComplete p e.simplex e.block) l ≡ true
-          → isComplete p e.simplex e.block ≡ true
-      first-complete e es l q a = and-left _ _ (rw q at a)
+      asks : (y : Point) → unlabelled p (lastPlace (path p .visited)) ≡ y ∷ [] → (b : ℕ) → pathLength p ≤ b
+          → answer p b ≡ unknown (pred (pathLength p)) (position p.grid y)
+      asks y g b h = answer-out b h ∙ go (path p .end) path-stop
+        where
+          go : (d : Option End) → Stop p (lastPlace (path p .visited)) d
+              → outcome p (path p .visited) d ≡ unknown (pred (pathLength p)) (position p.grid y)
+          go none k = rw g
+          go (some e) (atEnd es own q) = absurd (gap-not-all (lastPlace (path p .visited)) g own)
+
+      out-not-asks : (e : End) (x : Answer) (k n i : ℕ) → x ≡ announcement k e → x ≡ unknown n i → ⊥
+      out-not-asks e x k n i q r = absurd-bool (cc)
+
+      spent-not-asks : (x : Answer) (b n i : ℕ) → x ≡ spent b → x ≡ unknown n i → ⊥
+      spent-not-asks x b n i q r = absurd-bool (cc)
+
+      asked : (b n i : ℕ) → answer p b ≡ unknown n i → (d : Option End) → path p .end ≡ d → Stop p (lastPlace (path p .visited)) d
+          → (suc n ≡ pathLength p) × (n < b) × (getD p.labels i 0 ≡ 0)
+      asked b n i q d r k = ⊎-elim (λ h. absurd (spent-not-asks (answer p b) b n i (answer-spent b h) q)) (λ h. go h d r k)
+          (before-or-not b (pathLength p))
+        where
+          go : pathLength p ≤ b → (d : Option End) → path p .end ≡ d → Stop p (lastPlace (path p .visited)) d
+              → (suc n ≡ pathLength p) × (n < b) × (getD p.labels i 0 ≡ 0)
+          go h (some e) r k = absurd (out-not-asks e (answer p b) _ n i (answer-ended e r b h) q)
+          go h none r (atGap y g) =
+              let a = asks y g b h in
+              let z : pred (pathLength p) ≡ n = cc in
+              let w : position p.grid y ≡ i = cc in
+              let m = filter-in onPoints (λ y. not (hasLabel p y)) y (lastPlace (path p .visited)) (rw g (in-here onPoints y [])) in
+              let c = path-nonempty in
+              let l = all-places p path-trail (start-place ok.settled) (pred (pathLength p)) (omega arith) in
+              let o = zero-at ok y (all-in onPoints _ (lastPlace (path p .visited)) (parts p _ l .gridPoints) y m.0) (not-is _ m.1) in
+              (omega arith, omega arith, rw (← w) o)

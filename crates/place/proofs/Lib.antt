@@ -12,6 +12,7 @@ pub mod FromChain
 pub mod ChainLinks
 pub mod Facets
 pub mod ChainEnds
+pub mod Gaps
 pub mod PathSteps
 pub mod Ways
 pub mod Accepted
@@ -19,6 +20,9 @@ pub mod Start
 pub mod Bound
 pub mod FromTwoWays
 pub mod Theorem
+pub mod Backwards
 pub mod Worked
 pub mod Run
 pub mod EndPoints
+pub mod Filling
+pub mod Filled

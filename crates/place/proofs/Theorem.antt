@@ -1,10 +1,11 @@
 -- Theorem W: {v} has exactly one way out, every other place exactly two. In order: a place of two or more points; the start, and that no other
--- place has one point; theorem W; demand 3, the path backward, and what a run needs. Assumes nothing.
+-- place has one point; theorem W; demand 3, and what a run needs. Assumes nothing.
 use mathlib.Core.Bool.{true}
 use mathlib.Core.List.{List, [], _∷_}
-use mathlib.Core.Logic.{_⊎_, inl, inr, ⊎-elim}
+use mathlib.Core.Logic.{_↔_, _⊎_, inl, inr, ⊎-elim}
+use mathlib.Core.Option.{some}
 use mathlib.Core.Path.{_≡_, refl, sym, ap, _∙_, fun-ext}
-use Prim.Native.Nat.{ℕ, zero, suc, pred, _+_, _≤_, _<_}
+use Prim.Native.Nat.{ℕ, zero, suc, _+_, _≤_, _<_}
 use borrow.Author.Tests.{lt-ltb}
 use lib.ListN.{length}
 use native.Mathlib.Omega.{arith}
@@ -23,16 +24,16 @@ use Rattle.place.proofs.ToChain.{inT, coefficientsOf, pointsOf, labelOf
 use Rattle.place.proofs.Facets.{oneLess-at, at-oneLess}
 use Rattle.place.proofs.ChainLinks.{link-of, of-link}
 use Rattle.place.proofs.LinkSymmetry.{parts}
-use Rattle.place.proofs.FromTwoWays.{demand3, reverses, follows-path, follows-more}
+use Rattle.place.proofs.FromTwoWays.{Final, demand3, path-is, ends-known, no-gap, follows-path, follows-more, whole-path}
 use Rattle.place.proofs.BlocksOfGrid.{blocksOf, pointOf, coefficientOf, block-agrees, point-coefficientOf}
 use Rattle.place.proofs.Start.{start-place}
 use Rattle.place.proofs.ChainEnds.{complete-to, complete-of, complete-below, facet-end, end-below, end-complete, end-labels}
 use Rattle.place.proofs.Ways.{IsWay, byPlace, byFacet, byLink, exactly-one, exactly-two}
-use Rattle.place.specs.Demand.{Accepted, Settled, allLabelled, TwoWays, Demand3, Reverses, Follows, placeAt, leftAt}
-use Rattle.place.specs.Ends.{Kind, placeEnd, facetEnd, Way, stop, link, ways, facets, ends}
+use Rattle.place.specs.Demand.{Accepted, Settled, TwoWays, NoGap, Demand3, IsPath, Follows, placeAt, lastPlace, leftAt}
+use Rattle.place.specs.Ends.{Kind, placeEnd, facetEnd, End, Way, stop, link, ways, facets, ends}
 use Rattle.place.specs.Links.{linked}
 use Rattle.place.specs.Path.{sameSimplex, path, pathLength}
-use Rattle.place.specs.Places.{Simplex, isPlace, order}
+use Rattle.place.specs.Places.{Simplex, isPlace, order, allLabelled}
 use Rattle.place.specs.Problem.{Problem}
 
 abbrev atPlace : Simplex → ℕ → Way
@@ -260,15 +261,24 @@ module _ {p : Problem} (ok : Settled p) where
 pub demand3-holds : {p : Problem} → Accepted p → Demand3 p
 demand3-holds {p} ok = demand3 ok (twoWays ok.settled)
 
--- and the path backward
-pub reverses-holds : {p : Problem} → Accepted p → Reverses p
-reverses-holds {p} ok = reverses ok (twoWays ok.settled)
+-- a path that reached an end
+pub ended-path : {p : Problem} → Accepted p → {e : End} → path p .end ≡ some e → IsPath p (path p .visited) e × NoGap p
+ended-path ok {e} q = (path-is ok (twoWays ok.settled) e q, no-gap ok (twoWays ok.settled) e q)
+
+-- a path has no gap exactly if it has an end
+pub gapless : {p : Problem} → Accepted p → NoGap p ↔ ((e : End) × (path p .end ≡ some e))
+gapless {p} ok = (ends-known ok (twoWays ok.settled), (λ e. no-gap ok (twoWays ok.settled) e.0 e.1))
 
 -- what a run that goes from place to place needs: its places are the path's,
 pub run-follows : {p : Problem} → Accepted p → (s : List Simplex) → Follows p s → (i : ℕ) → i < length s
     → (i < pathLength p) × (placeAt s i ≡ placeAt (path p .visited) i) × (leftAt s i ≡ leftAt (path p .visited) i)
 run-follows {p} ok = follows-path ok (twoWays ok.settled)
 
--- and there is more of the path where there is no end
-pub run-more : {p : Problem} → Accepted p → (s : List Simplex) → Follows p s → ends p (placeAt s (pred (length s))) ≡ [] → length s < pathLength p
+-- there is more of the path where there is no end and no gap,
+pub run-more : {p : Problem} → Accepted p → (s : List Simplex) → Follows p s → allLabelled p (lastPlace s) ≡ true
+    → ends p (lastPlace s) ≡ [] → length s < pathLength p
 run-more {p} ok = follows-more ok (twoWays ok.settled)
+
+-- and no more where there is one
+pub run-whole : {p : Problem} → Accepted p → (s : List Simplex) → Follows p s → Final p s → s ≡ path p .visited
+run-whole {p} ok = whole-path ok (twoWays ok.settled)

@@ -27,8 +27,8 @@ use Rattle.place.proofs.IndexSets.{no-empty, goes-at, order-within, ord
 use Rattle.place.proofs.Positions.{at-in, in-at, same-at, occurs-in, set-of, not-all, order-long, each-at}
 use Rattle.place.proofs.BlocksOfGrid.{blocksOf, pointOf, coefficientOf, block-agrees, beyond, on-ring, hasZeros, coord-in, coord-out, coefficientOf-is, point-grid, coefficientOf-point, point-coefficientOf, outside-before, back-below}
 use Rattle.place.specs.Coefficients.{IsCoefficients, coefficients}
-use Rattle.place.specs.Demand.{Settled, allLabelled}
-use Rattle.place.specs.Places.{Simplex, isPlace, setU, setT, labelSet, within, order, unit}
+use Rattle.place.specs.Demand.{Settled}
+use Rattle.place.specs.Places.{Simplex, isPlace, setU, setT, labelSet, within, order, unit, allLabelled}
 use Rattle.place.specs.Problem.{Problem, label}
 
 abbrev pub inT : Problem → Simplex → ℕ → Bool

@@ -1,4 +1,5 @@
--- The nine marked ends hold of the definitions: each row's table is accepted and has the answer that stands there. Assumes nothing.
+-- The nine marked ends, and the three rows with a label not yet known, hold of the definitions: each row's table is accepted and has the answer
+-- that stands there. Assumes nothing.
 use mathlib.Core.List.{map}
 use mathlib.Core.Path.{_≡_, refl}
 use Rattle.grid.specs.Grid.{next, previous, isGridPoint, points, bound}

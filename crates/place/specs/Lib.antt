@@ -7,3 +7,4 @@ pub mod Ends
 pub mod Path
 pub mod Worked
 pub mod Demand
+pub mod Backwards

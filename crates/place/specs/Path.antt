@@ -1,14 +1,14 @@
--- Document 01, "Links, ends, counting": the path, its length, and a run's answer. Assumes nothing.
+-- Document 01, "Links, ends, counting": the path, its length, and a run's answer, also where a label is not yet known. Assumes nothing.
 use mathlib.Core.Bool.{Bool, false, not, cond}
 use mathlib.Core.List.{List, [], _∷_}
 use mathlib.Core.Option.{Option, none, some}
-use Prim.Native.Nat.{ℕ, zero, suc}
+use Prim.Native.Nat.{ℕ, zero, suc, pred}
 use lib.Dec.{ltb}
-use lib.ListN.{length}
-use Rattle.combinatorics.specs.Lists.{filter, same}
-use Rattle.grid.specs.Grid.{samePoint, bound}
+use lib.ListN.{length, getD}
+use Rattle.combinatorics.specs.Lists.{filter, firstOr, same}
+use Rattle.grid.specs.Grid.{samePoint, position, bound}
 use Rattle.place.specs.Ends.{Kind, End, Way, stop, link, ways}
-use Rattle.place.specs.Places.{Simplex}
+use Rattle.place.specs.Places.{Simplex, allLabelled, unlabelled}
 use Rattle.place.specs.Problem.{Problem}
 
 abbrev pub sameSimplex : Simplex → Simplex → Bool
@@ -34,10 +34,11 @@ follow rest here [] = record { visited = here ∷ []; end = none }
 follow rest here (stop e ∷ ws) = record { visited = here ∷ []; end = some e }
 follow rest here (link s ∷ ws) = let r = rest s in record { visited = here ∷ r .visited; end = r .end }
 
--- "goes on by links, never back to the place just left, until a place end or facet end", over at most n places
+-- "goes on by links, never back to the place just left, until a place end or facet end", or until a place with a gap, that is
+-- a point without a label: from there no way on is known. Over at most n places.
 abbrev pub pathFrom : Problem → ℕ → Option Simplex → Simplex → SimplicialPath
 pathFrom p zero left here = record { visited = []; end = none }
-pathFrom p (suc n) left here = follow (λ s. pathFrom p n (some here) s) here (waysOn p left here)
+pathFrom p (suc n) left here = follow (λ s. pathFrom p n (some here) s) here (cond (allLabelled p here) (waysOn p left here) [])
 
 -- "The path begins at the place {v}"
 unfoldable pub path : Problem → SimplicialPath
@@ -49,19 +50,22 @@ pathLength p = length (path p .visited)
 
 -- A run's answer, of an accepted table. "Number 9 also returns the places visited, which equal the budget"; "The answer has the places, the kind
 -- of end, the block, the number of vertices, and the vertices in rising coefficient sum". The block counts from 1 here.
+-- Request 02: "16 when a place within the budget needs a label that is 0, with the places visited before it and the point's position".
 pub data Answer : Type 0 where
   spent : (places : ℕ) → Answer
   ended : (places : ℕ) (kind : Kind) (block vertices : ℕ) (simplex : Simplex) → Answer
+  unknown : (places position : ℕ) → Answer
 
 -- an end as the run announces it, with the count of places
 abbrev pub announcement : ℕ → End → Answer
 announcement n e = ended n (e .kind) (suc (e .block)) (length (e .simplex)) (e .simplex)
 
--- "Has the path ended within the budget? 9": of a path of n places
-abbrev pub answerWithin : ℕ → ℕ → Option End → Answer
-answerWithin budget n none = spent budget
-answerWithin budget n (some e) = cond (ltb budget n) (spent budget) (announcement n e)
+-- what a run says of the whole path: its end, or its last place's point without a label
+abbrev pub outcome : Problem → List Simplex → Option End → Answer
+outcome p s none = unknown (pred (length s)) (position (p .grid) (firstOr [] (unlabelled p (getD s (pred (length s)) []))))
+outcome p s (some e) = announcement (length s) e
 
--- "An end is announced if the path reaches one within the budget, and the budget is called spent if it does not"
+-- "Has the path ended within the budget? 9": "An end is announced if the path reaches one within the budget, and the budget is
+-- called spent if it does not"
 unfoldable pub answer : Problem → ℕ → Answer
-answer p budget = answerWithin budget (pathLength p) (path p .end)
+answer p budget = cond (ltb budget (pathLength p)) (spent budget) (outcome p (path p .visited) (path p .end))

@@ -6,7 +6,7 @@ use lib.Dec.{eqb, ltb, leb}
 use Rattle.combinatorics.specs.Lists.{filter, all, any, isIn, firstOr, occurrences, rising, sublists}
 use Rattle.grid.specs.Grid.{Grid, Point, at, size, blockOf, blocks, indices, indicesOf, previous, isGridPoint, points}
 use Rattle.place.specs.Coefficients.{coefficients, coefficientSum}
-use Rattle.place.specs.Problem.{Problem, label}
+use Rattle.place.specs.Problem.{Problem, label, hasLabel}
 
 abbrev pub Simplex : Type 0
 Simplex = List Point
@@ -25,6 +25,14 @@ setT p s =
 -- the indices that are labels of the points; label l names index l - 1, and 0 names none
 unfoldable pub labelSet : Problem → Simplex → List ℕ
 labelSet p s = let ls = map (label p) s in filter (λ h. isIn eqb (suc h) ls) (indices (p .grid))
+
+-- every point of the set has a label
+abbrev pub allLabelled : Problem → Simplex → Bool
+allLabelled p s = all (hasLabel p) s
+
+-- its points that have none
+abbrev pub unlabelled : Problem → Simplex → Simplex
+unlabelled p s = filter (λ y. not (hasLabel p y)) s
 
 -- a set of indices within another
 abbrev pub within : List ℕ → List ℕ → Bool

@@ -1,5 +1,4 @@
 -- Document 01, "Questions in order": the questions about a label table and an answer buffer, and those of a run. Assumes nothing.
-use mathlib.Core.Bool.{_&&_}
 use mathlib.Core.List.{List, [], _∷_, _++_}
 use Prim.Native.Nat.{ℕ, suc, _*_}
 use lib.Dec.{eqb, leb}
@@ -14,9 +13,9 @@ use Rattle.place.specs.Problem.{Problem}
 abbrev pub question6 : Problem → Question
 question6 p = ask 6 (eqb (length (p .labels)) (numPoints (p .grid)))
 
--- "Is every byte of it, on the path or off, from 1 to m? 7"
+-- "Is every byte of it, on the path or off, from" 0 "to m? 7": request 02, "question 7 accepts 0 to m"
 abbrev pub question7 : Problem → Question
-question7 p = ask 7 (all (λ l. leb 1 l && leb l (numIndices (p .grid))) (p .labels))
+question7 p = ask 7 (all (λ l. leb l (numIndices (p .grid))) (p .labels))
 
 -- "Has the answer buffer at least (n + 1) times m numbers? 8"
 abbrev pub question8 : Grid → ℕ → Question

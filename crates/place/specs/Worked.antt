@@ -1,11 +1,11 @@
--- Document 01, "Ends worked out": the nine marked rows. Assumes nothing.
+-- Document 01, "Ends worked out": the nine marked rows; and three of request 02, where a label is not yet known. Assumes nothing.
 use mathlib.Core.List.{List, [], _∷_}
 use Prim.Native.Nat.{ℕ, suc, _*_}
 use lib.ListN.{replicate}
 use Rattle.grid.specs.Grid.{bound, dimension, numIndices}
 use Rattle.questions.specs.Questions.{firstNo}
 use Rattle.place.specs.Ends.{placeEnd, facetEnd}
-use Rattle.place.specs.Path.{Answer, spent, ended, answer}
+use Rattle.place.specs.Path.{Answer, spent, ended, unknown, answer}
 use Rattle.place.specs.Problem.{Problem, problemOf}
 use Rattle.place.specs.Questions.{runQuestions}
 
@@ -39,4 +39,7 @@ table =
     ∷ row (problemOf (2 ∷ 2 ∷ []) (1 ∷ 1 ∷ []) (1 ∷ 0 ∷ 1 ∷ 0 ∷ []) (3 ∷ 1 ∷ 2 ∷ 4 ∷ []))
     (ended 3 placeEnd 2 3 ((1 ∷ 0 ∷ 1 ∷ 0 ∷ []) ∷ (1 ∷ 0 ∷ 0 ∷ 1 ∷ []) ∷ (0 ∷ 1 ∷ 0 ∷ 1 ∷ []) ∷ []))
     ∷ row (problemOf (2 ∷ 2 ∷ []) (1 ∷ 1 ∷ []) (1 ∷ 0 ∷ 1 ∷ 0 ∷ []) (2 ∷ 2 ∷ 2 ∷ 4 ∷ [])) (ended 5 facetEnd 1 1 ((0 ∷ 1 ∷ 1 ∷ 0 ∷ []) ∷ []))
+    ∷ row (problemOf (2 ∷ []) (1 ∷ []) (1 ∷ 0 ∷ []) (1 ∷ 0 ∷ [])) (unknown 0 1)
+    ∷ rowWith (problemOf (2 ∷ []) (1 ∷ []) (1 ∷ 0 ∷ []) (1 ∷ 0 ∷ [])) 0 (spent 0)
+    ∷ row (problemOf (2 ∷ []) (1 ∷ []) (1 ∷ 0 ∷ []) (0 ∷ 2 ∷ [])) (unknown 1 0)
     ∷ []

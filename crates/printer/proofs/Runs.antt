@@ -2,6 +2,7 @@
 use mathlib.Core.Bool.{true}
 use mathlib.Core.List.{List, [], _∷_}
 use mathlib.Core.Logic.{⊎-elim}
+use mathlib.Core.Option.{Option, none, some}
 use mathlib.Core.Path.{_≡_, refl, sym, ap, _∙_}
 use Prim.Native.Nat.{ℕ, suc, _*_, _≤_}
 use borrow.Author.Tests.{eq-eqb, ne-eqb}
@@ -17,17 +18,17 @@ use Rattle.questions.specs.Questions.{firstNo}
 use Rattle.finder.proofs.Refusals.{by-grid, by-later, accepted-with-room, answered as run-answered, refused as run-refused}
 use Rattle.finder.specs.Run.{kindOf as kindAnswered, caseOf, numbersOf, refusal, runAnswer, runBuffer}
 use Rattle.finder.specs.declared.answers.Answer.{Answer}
-use Rattle.finder.specs.declared.answers.Answer.the-variants.{Refused, Spent, End}
+use Rattle.finder.specs.declared.answers.Answer.the-variants.{Refused, Spent, Unknown, End}
 use Rattle.grid.specs.Grid.{Grid, Point, dimension, numIndices, isGridPoint}
 use Rattle.grid.specs.Questions.{gridQuestions}
 use Rattle.place.proofs.EndPoints.{IsSimplex, end-simplex}
-use Rattle.place.proofs.Theorem.{demand3-holds}
-use Rattle.place.specs.Demand.{Accepted}
-use Rattle.place.specs.Ends.{Kind as KindOfEnd, placeEnd, facetEnd}
-use Rattle.place.specs.Path.{answer, pathLength, ended}
+use Rattle.place.proofs.Theorem.{demand3-holds, gapless}
+use Rattle.place.specs.Demand.{Accepted, Stop, atGap, lastPlace}
+use Rattle.place.specs.Ends.{End as EndOfPath, Kind as KindOfEnd, placeEnd, facetEnd}
+use Rattle.place.specs.Path.{answer, path, pathLength, ended}
 use Rattle.place.specs.Problem.{Problem}
 use Rattle.place.specs.Places.{Simplex}
-use Rattle.sheet.specs.Sheet.{refusedSheet, spentSheet}
+use Rattle.sheet.specs.Sheet.{refusedSheet, spentSheet, unknownSheet}
 use Rattle.printer.proofs.Vertices.{rows-of, rows-length}
 use Rattle.printer.specs.Printed.{kindOf, answerSheet}
 use Rattle.printer.specs.Run.{onSheet, room, printed, Fits, runSheet}
@@ -55,6 +56,10 @@ module _ (p : Problem) (budget : ℕ) (old : List ℕ) (large : length old ≡ r
   unfolding printed
   spends buffer n = (refl, record { end = λ places kind block vertices e. absurd (let z : _≡_ {A = ℕ} 0 1 = cc in omega arith) })
 
+  unknowns : (buffer : List ℕ) (n i : ℕ) → Prints (Unknown n i) buffer (unknownSheet n i)
+  unfolding printed
+  unknowns buffer n i = (refl, record { end = λ places kind block vertices e. absurd (let z : _≡_ {A = ℕ} 0 1 = cc in omega arith) })
+
   -- an end with a simplex of the grid
   ends : (places : ℕ) (kind : KindOfEnd) (block : ℕ) (s : Simplex) → suc (dimension (p .grid)) ≤ 16 → suc (dimension (p .grid)) * numIndices (p .grid) ≤ room → IsSimplex p s
       → Prints (End places (kindAnswered kind) block (length s)) (front (concatMap (λ y. y) s) old) (answerSheet (p .grid) (ended places kind block (length s) s))
@@ -67,12 +72,12 @@ module _ (p : Problem) (budget : ℕ) (old : List ℕ) (large : length old ≡ r
       let w : length (front (concatMap (λ y. y) s) old) ≡ room = front-length (concatMap (λ y. y) s) old (omega (arith, l, large)) ∙ large in
       (rw (kind-same kind, rows-of m s (drop (length (concatMap (λ y. y) s)) old) a), record { end = λ places kind block vertices e. let v : vertices ≡ length s = cc in rw v (i .some, omega (arith, i .few), omega (arith, w)) })
 
-  module _ (none : refusal p room ≡ 0) where
+  module _ (unrefused : refusal p room ≡ 0) where
     grid-yes : firstNo (gridQuestions (p .grid)) ≡ 0
-    grid-yes = ⊎-elim (λ e. e) (λ n. absurd (n (sym (by-grid p room n) ∙ none))) (same-or (firstNo (gridQuestions (p .grid))) 0)
+    grid-yes = ⊎-elim (λ e. e) (λ n. absurd (n (sym (by-grid p room n) ∙ unrefused))) (same-or (firstNo (gridQuestions (p .grid))) 0)
 
     accepted : Accepted p × (suc (dimension (p .grid)) * numIndices (p .grid) ≤ room)
-    accepted = accepted-with-room p room grid-yes (sym (by-later p room grid-yes) ∙ none)
+    accepted = accepted-with-room p room grid-yes (sym (by-later p room grid-yes) ∙ unrefused)
 
     answered : Prints (caseOf (answer p budget)) (front (numbersOf (answer p budget)) old) (answerSheet (p .grid) (answer p budget))
     answered =
@@ -81,8 +86,17 @@ module _ (p : Problem) (budget : ℕ) (old : List ℕ) (large : length old ≡ r
         let few : suc (dimension (p .grid)) ≤ 16 = omega (arith, ok .settled .someBlock, ok .settled .sixteenIndices) in
         ⊎-elim
         (λ l. rw (d .spends budget .1 l) (spends _ budget))
-        (λ l. rw (d .announces budget l) (ends (pathLength p) (d .end .kind) (suc (d .end .block)) (d .end .simplex) few (accepted .1) (end-simplex p (ok .settled) (d .isPath))))
+        (λ l. stopped l few (path p .end) refl (d .stops))
         (before-or-not budget (pathLength p))
+      where
+        -- the path stops at an end, or at a label that is not known
+        stopped : pathLength p ≤ budget → suc (dimension (p .grid)) ≤ 16 → (e : Option EndOfPath) → path p .end ≡ e → Stop p (lastPlace (path p .visited)) e
+            → Prints (caseOf (answer p budget)) (front (numbersOf (answer p budget)) old) (answerSheet (p .grid) (answer p budget))
+        stopped l few (some e) q s =
+            let E = demand3-holds (accepted .0) .ended (gapless (accepted .0) .1 (e, q)) in
+            rw (E .announces budget l)
+            (ends (pathLength p) (E .end .kind) (suc (E .end .block)) (E .end .simplex) few (accepted .1) (end-simplex p (accepted .0 .settled) (E .isPath)))
+        stopped l few none q (atGap y g) = rw (demand3-holds (accepted .0) .asks y g budget l) (unknowns _ _ _)
 
   pub run-prints : Prints (runAnswer p (length old) budget) (runBuffer p budget old) (runSheet p budget)
   unfolding runSheet

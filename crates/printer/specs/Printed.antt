@@ -5,8 +5,8 @@ use Prim.Native.Nat.{ℕ}
 use lib.Dec.{eqb}
 use Rattle.grid.specs.Grid.{Grid, division, blockOf, indices, bound}
 use Rattle.place.specs.Ends.{Kind as KindOfEnd, placeEnd, facetEnd}
-use Rattle.place.specs.Path.{Answer, spent, ended, answer}
-use Rattle.sheet.specs.Sheet.{endSheet, refusedSheet, spentSheet}
+use Rattle.place.specs.Path.{Answer, spent, ended, unknown, answer}
+use Rattle.sheet.specs.Sheet.{endSheet, refusedSheet, spentSheet, unknownSheet}
 use Rattle.sheet.specs.declared.Kind.{Kind}
 use Rattle.sheet.specs.declared.Kind.the-variants.{Place, Facet}
 use Rattle.slip.specs.Slip.{slipGrid, slipProblem, slipBudget, slipRefusal}
@@ -21,9 +21,10 @@ kindOf placeEnd = Place
 kindOf facetEnd = Facet
 
 -- "The answer has the places, the kind of end, the block, the number of vertices, and the vertices"; of a budget that is spent, "9 adds a "places"
--- line"
+-- line"; request 02: of a label that is not yet known, "its sheet adds a "places" and a "position" line"
 abbrev pub answerSheet : Grid → Answer → List ℕ
 answerSheet g (spent places) = spentSheet places
+answerSheet g (unknown places place) = unknownSheet places place
 answerSheet g (ended places kind block vertices simplex) = endSheet places (bound g) (kindOf kind) block simplex (indexDivisions g)
 
 -- "The kiosk program reads a slip from standard input. For the bytes .. it prints": a slip asks 13, 1 to 4, 14,

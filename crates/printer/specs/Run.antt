@@ -8,7 +8,7 @@ use lib.ListN.{length, take}
 use Rattle.combinatorics.specs.Front.{front}
 use Rattle.finder.specs.Run.{refusal}
 use Rattle.finder.specs.declared.answers.Answer.{Answer}
-use Rattle.finder.specs.declared.answers.Answer.the-variants.{Refused, Spent, End}
+use Rattle.finder.specs.declared.answers.Answer.the-variants.{Refused, Spent, Unknown, End}
 use Rattle.finder.specs.declared.answers.Kind.{Kind}
 use Rattle.finder.specs.declared.answers.Kind.the-variants.{Place, Facet}
 use Rattle.losses.specs.Game.{labels}
@@ -17,7 +17,7 @@ use Rattle.grid.specs.Made.{IsMade, shape}
 use Rattle.place.specs.Path.{answer}
 use Rattle.place.specs.Problem.{Problem}
 use Rattle.sheet.specs.Answer.{rows}
-use Rattle.sheet.specs.Sheet.{endSheet, refusedSheet, spentSheet}
+use Rattle.sheet.specs.Sheet.{endSheet, refusedSheet, spentSheet, unknownSheet}
 use Rattle.sheet.specs.declared.Kind.{Kind as KindOnSheet}
 use Rattle.sheet.specs.declared.Kind.the-variants.{Place as PlaceOnSheet, Facet as FacetOnSheet}
 use Rattle.slip.specs.declared.Reading.{Reading}
@@ -37,6 +37,7 @@ room = 256
 unfoldable pub printed : Grid → Answer → List ℕ → List ℕ
 printed g (Refused number) buffer = refusedSheet number
 printed g (Spent places) buffer = spentSheet places
+printed g (Unknown places place) buffer = unknownSheet places place
 printed g (End places kind block vertices) buffer = endSheet places (bound g) (onSheet kind) block (rows vertices (numIndices g) buffer) (indexDivisions g)
 
 -- the vertices of an answer are at least one, at most 16, and all in the buffer

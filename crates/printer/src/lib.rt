@@ -48,6 +48,7 @@ fn print_answer(answer: Answer, grid: Grid, buffer: &[u16], sheet: &mut [u8; 409
     match answer {
         Answer::Refused(number) => sheet::refused(sheet, number),
         Answer::Spent(places) => sheet::spent(sheet, places),
+        Answer::Unknown { places, position } => sheet::unknown(sheet, places, position as u64),
         Answer::End {
             places,
             kind,

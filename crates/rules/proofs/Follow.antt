@@ -3,41 +3,44 @@
 -- Assumes nothing.
 use mathlib.Core.Bool.{Bool, true, false, _&&_, cond}
 use mathlib.Core.List.{List, [], _∷_, _++_}
-use mathlib.Core.Logic.{⊎-elim}
+use mathlib.Core.Logic.{inl, inr, ⊎-elim}
 use mathlib.Core.Option.{Option, none, some}
 use mathlib.Core.Path.{_≡_, refl, sym, ap, _∙_, subst}
-use Prim.Native.Nat.{ℕ, suc, _+_, _-_, _≤_, _<_}
+use Prim.Native.Nat.{ℕ, zero, suc, pred, _+_, _-_, _≤_, _<_}
 use borrow.Author.Tests.{lt-ltb, le-ltb}
 use lib.Dec.{eqb, ltb}
-use lib.ListN.{length, length-append, getD-replicate, List·getD-append}
+use lib.ListN.{length, length-append, length-map, getD-replicate, List·getD-append}
 use lib.Seq.{getD-at}
 use native.Mathlib.Omega.{arith}
 use Rattle.combinatorics.proofs.Basics.{absurd-bool, true-or-false, before-or-not}
 use Rattle.combinatorics.specs.Edits.{removeAt}
 use Rattle.combinatorics.specs.Lists.{isIn}
-use Rattle.geometry.proofs.Definitions.{zeros}
+use Rattle.geometry.proofs.Definitions.{zeros, Omit}
 use Rattle.geometry.proofs.Search.{block-back}
+use Rattle.geometry.proofs.Points.{nth}
 use Rattle.geometry.proofs.LabelledChains.{listAt, LabelledChain, FacetEnd, PlaceEnd}
-use Rattle.grid.specs.Grid.{at, numBlocks, numIndices, dimension, blockOf, isGridPoint, position}
+use Rattle.grid.proofs.Points.{onPoints}
+use Rattle.grid.specs.Grid.{at, numBlocks, numIndices, dimension, blockOf, isGridPoint, position, samePoint}
 use Rattle.positions.specs.Falls.{tailFrom}
-use Rattle.place.proofs.BlocksOfGrid.{blocksOf, back-below, coefficientOf, coord-in, coord-out, coefficientOf-is}
+use Rattle.place.proofs.BlocksOfGrid.{blocksOf, back-below, pointOf, coefficientOf, coord-in, coord-out, coefficientOf-is}
 use Rattle.place.proofs.Bound.{order-short}
 use Rattle.place.proofs.ChainEnds.{complete-of, complete-below, end-below, end-complete, end-labels}
 use Rattle.place.proofs.ChainLinks.{of-link}
 use Rattle.place.proofs.FromChain.{back-again, place-of, long, pointsOf-grid, T-is, in-U}
-use Rattle.place.proofs.Labels.{place-labelled}
 use Rattle.place.proofs.LinkSymmetry.{parts}
+use Rattle.place.proofs.Positions.{at-in}
 use Rattle.place.proofs.Run.{below-length, not-start, ends-path, goes-on}
 use Rattle.place.proofs.Start.{start-place}
 use Rattle.place.proofs.Theorem.{demand3-holds, run-follows, zeroes, single, block-of, in-facets}
 use Rattle.place.proofs.ToChain.{inT, coefficientsOf, pointsOf, labelOf, place-long, labelledChain-of, pointsOf-coefficientsOf}
 use Rattle.place.proofs.Ways.{IsWay, byPlace, byFacet}
 use Rattle.place.specs.Coefficients.{IsCoefficients, coefficients}
-use Rattle.place.specs.Demand.{Accepted, allLabelled, Follows, placeAt, leftAt}
+use Rattle.place.specs.Demand.{Follows, placeAt, leftAt}
+use Rattle.place.proofs.Filled.{FullyLabelled, full-accepted, full-place}
 use Rattle.place.specs.Ends.{Kind, placeEnd, facetEnd, stop}
 use Rattle.place.specs.Links.{linked}
 use Rattle.place.specs.Path.{path, pathLength, answer, spent, ended}
-use Rattle.place.specs.Places.{Simplex, order, setT, setU}
+use Rattle.place.specs.Places.{Simplex, order, setT, setU, allLabelled}
 use Rattle.place.specs.Problem.{Problem}
 use Rattle.rules.specs.Mask.{bit}
 use Rattle.rules.specs.Read.{arrayOf, pointGone, pointIn, pointsFrom, read, stepAt, sourceAt, positionAt, above, MovedAt, Exchanged, FallsBeside, CanCompute}
@@ -97,13 +100,13 @@ unfolding answer
 ends-answer {p} E budget l = rw (E .end, le-ltb budget (pathLength p) (omega (arith, E .places)), E .places)
 
 -- a place end, and a facet end without the first point, are ways out of the place
-module _ {p : Problem} (ok : Accepted p) {T : ℕ → Bool} {t : ℕ} {o : ℕ → ℕ} {x : List (ℕ → ℕ)} (S : LabelledChain (blocksOf p) (labelOf p) T t o x)
+module _ {p : Problem} (ok : FullyLabelled p) {T : ℕ → Bool} {t : ℕ} {o : ℕ → ℕ} {x : List (ℕ → ℕ)} (S : LabelledChain (blocksOf p) (labelOf p) T t o x)
     (h : ℕ) where
   abbrev a : Simplex
   a = pointsOf p x
 
   own : allLabelled p a ≡ true
-  own = place-labelled ok a (place-of ok.settled S)
+  own = full-place ok a (place-of ok.settled S)
 
   place-way : PlaceEnd (blocksOf p) (labelOf p) t x h
       → (h < numIndices p.grid) × IsWay p a (stop (record { kind = placeEnd; block = blockOf p.grid h; simplex = a }))
@@ -148,14 +151,42 @@ left-determines p (some l) q b y c e =
     let z : pointsOf p l ≡ pointsOf p y = cc in
     ap (λ (x : List (ℕ → ℕ)). some x) (sym b.1 ∙ ap (coefficientsOf p) z ∙ c)
 
+-- a list less one element has the others, and they stand in the list
+kept : {A : Type 0} {n i : ℕ} {p q : ℕ → A} → Omit n i p q → i ≤ n → (j : ℕ) → j ≤ n → (j ≡ i → ⊥) → (f : ℕ) × (f < n) × (q f ≡ p j)
+kept {n} {i} {p} m c j l ne =
+    ⊎-elim (λ (d : j < i). (j, omega arith, m .lower j (omega arith) d))
+    (λ (d : i ≤ j). let z : suc (pred j) ≡ j = omega (arith, ne) in
+    (pred j, omega (arith, ne), m .upper (pred j) (omega (arith, ne)) (omega (arith, ne)) ∙ ap p z)) (before-or-not j i)
+
+stands : {A : Type 0} {n i : ℕ} {p q : ℕ → A} → Omit n i p q → (f : ℕ) → f < n → (g : ℕ) × (g ≤ n) × (p g ≡ q f)
+stands {n} {i} m f l =
+    ⊎-elim (λ (d : f < i). (f, omega arith, sym (m .lower f l d))) (λ (d : i ≤ f). (suc f, omega arith, sym (m .upper f l d)))
+    (before-or-not f i)
+
 module _ (p : Problem) (T : ℕ → Bool) (t : ℕ) (x : List (ℕ → ℕ)) (s : State) where
+  -- the place just left has every point but the one that has come in, and after rules 6 and 7 every one
+  others : {left : Option (List (ℕ → ℕ))} → Came p T t x s left → (j : ℕ) → j ≤ t → (s .rule < 6 → j ≡ s .active → ⊥)
+      → (l : List (ℕ → ℕ)) × (left ≡ some l) × (g : ℕ) × (g < length l) × (listAt l g ≡ listAt x j)
+  others (begins e u r) j c ne = absurd (ne r (omega arith))
+  others (through n l e low z r b carry (inl X) C) j c ne =
+      let B = X .1 .2 in
+      let f = kept B.omitsHere (omega arith) j (omega arith) (ne r) in
+      let g = stands B.omitsThere f.0 f.1 in
+      (l, refl, g .0, omega (arith, X .0, g .1), g .2 ∙ f .2)
+  others (through n l e low z r b carry (inr X) C) j c ne =
+      let f = kept X.1.3 (omega arith) j (omega arith) (ne r) in
+      (l, refl, f .0, omega (arith, X .0, f .1), f .2)
+  others (fromLarger l low r q b e X) j c ne =
+      let w = X .4 .part j c in
+      (l, refl, w .0, omega (arith, w .1, X .3 .size), w .2)
+
   active-at-most : {left : Option (List (ℕ → ℕ))} → Came p T t x s left → s .active ≤ t
   active-at-most (begins e u r) = omega arith
   active-at-most (through n l e low q r b carry X C) = low
   active-at-most (fromLarger l low r q a e X) = low
 
 -- the start
-module _ {p : Problem} (ok : Accepted p) where
+module _ {p : Problem} (ok : FullyLabelled p) where
   abbrev v : Simplex
   v = p .start ∷ []
 
@@ -189,6 +220,7 @@ module _ {p : Problem} (ok : Accepted p) where
       links = λ i l. absurd (omega arith);
       onward = λ i l. absurd (omega arith);
       passes = λ i l. absurd (omega arith);
+      known = λ i l. absurd (omega arith);
     };
     T = inT p v;
     t = 0;
@@ -223,12 +255,12 @@ module _ {p : Problem} (ok : Accepted p) where
   at-first A = A.describes.firstLength
 
   pub at-below : {s : State} {k : ℕ} → At p s k → k < pathLength p
-  at-below {k} A = below-length ok A.follows k A.many
+  at-below {k} A = below-length (full-accepted ok) A.follows k A.many
 
   pub at-spent : {s : State} {k : ℕ} → At p s k → (budget : ℕ) → budget ≤ k → answer p budget ≡ spent budget
-  at-spent {s} {k} A budget l = demand3-holds ok .spends budget .1 (omega (arith, at-below A))
+  at-spent {s} {k} A budget l = demand3-holds (full-accepted ok) .spends budget .1 (omega (arith, at-below A))
 
-module _ {p : Problem} (ok : Accepted p) {s : State} {k : ℕ} (A : At p s k) where
+module _ {p : Problem} (ok : FullyLabelled p) {s : State} {k : ℕ} (A : At p s k) where
   -- the point whose label is to be read can be computed, and is a grid point
   pub at-reads : CanCompute s s.active × (isGridPoint p.grid (pointIn p s s.active) ≡ true)
   at-reads =
@@ -239,7 +271,7 @@ module _ {p : Problem} (ok : Accepted p) {s : State} {k : ℕ} (A : At p s k) wh
 
   -- "T and U are sets of at most 16 indices": bit h of each mask says whether index h is in the set of the path's place
   on-path : placeAt (path p .visited) k ≡ pointsOf p A.x
-  on-path = sym (run-follows ok A.places A.follows k (omega (arith, A .many)) .1) ∙ A .here
+  on-path = sym (run-follows (full-accepted ok) A.places A.follows k (omega (arith, A .many)) .1) ∙ A .here
 
   pub at-T : (h : ℕ) → h < 16 → bit s.T h ≡ isIn eqb h (setT p (placeAt (path p .visited) k))
   at-T h l = rw on-path (A .describes .inT h l ∙ sym (ap (λ (t : ℕ → Bool). t h) (T-is ok.settled A.describes.chain)))
@@ -323,10 +355,39 @@ module _ {p : Problem} (ok : Accepted p) {s : State} {k : ℕ} (A : At p s k) wh
   here-place : (length (pointsOf p A.x) ≡ suc A.t) × (length (pointsOf p A.x) ≡ suc (length (order p.grid (pointsOf p A.x))))
   here-place = (long ok.settled A.describes.chain, place-long ok.settled _ (place-of ok.settled A.describes.chain))
 
+  here-labelled : allLabelled p (placeAt A.places k) ≡ true
+  here-labelled = full-place ok _ (A .follows .places k (omega (arith, A .many)))
+
   move : Onward ok A.T A.t A.o A.x (read p s) A.left
   move = onward ok A.T A.o A.x s A.t A.describes A.came (λ l q e.
-      not-start ok A.follows k A.many (pointsOf p l) (left-of p A.left _ A.before l q)
+      not-start (full-accepted ok) A.follows k A.many (pointsOf p l) (left-of p A.left _ A.before l q)
       (A .here ∙ single ok.settled _ (place-of ok.settled A.describes.chain) (here-place .0 ∙ ap suc e)))
+
+  -- the path's place is that of the state
+  pub at-place : placeAt (path p .visited) k ≡ pointsFrom p s 0
+  at-place =
+      sym (run-follows (full-accepted ok) A.places A.follows k (omega (arith, A .many)) .1) ∙ A .here ∙ sym (all-points ok D)
+
+  -- its points but the one that has come in are points of the path's place before
+  pub at-others : (j : ℕ) → j ≤ length s.order → (s .rule < 6 → j ≡ s .active → ⊥)
+      → (h : ℕ) × (suc h ≡ k) × (isIn samePoint (pointIn p s j) (placeAt (path p .visited) h) ≡ true)
+  at-others j c ne = go k refl (left-of p A.left _ A.before w.0 w.1)
+    where
+      low : j ≤ A .t
+      low = omega (arith, D .orderLength)
+
+      w : (l : List (ℕ → ℕ)) × (A .left ≡ some l) × (g : ℕ) × (g < length l) × (listAt l g ≡ listAt A.x j)
+      w = others p A.T A.t A.x s A.came j low ne
+
+      go : (i : ℕ) → k ≡ i → leftAt A.places i ≡ some (pointsOf p w.0)
+          → (h : ℕ) × (suc h ≡ k) × (isIn samePoint (pointIn p s j) (placeAt (path p .visited) h) ≡ true)
+      go zero q e = absurd-bool (cc)
+      go (suc h) q e =
+          let z : placeAt A.places h ≡ pointsOf p w.0 = cc in
+          let f = run-follows (full-accepted ok) A.places A.follows h (omega (arith, A .many)) .1 in
+          let y : pointIn p s j ≡ nth (pointsOf p w.0) w.2 = point-is ok D j low ∙ nth-pointsOf p A.x j (omega (arith, D .chain .size))
+          ∙ ap (pointOf p) (sym w.4) ∙ sym (nth-pointsOf p w.0 w.2 w.3) in
+          (h, sym q, rw (← f, z, y) (at-in onPoints [] (pointsOf p w.0) w.2 (omega (arith, w .3, length-map w.0 (pointOf p)))))
 
   -- the move keeps within its arrays and widths
   pub at-ready : Ready (read p s)
@@ -341,7 +402,7 @@ module _ {p : Problem} (ok : Accepted p) {s : State} {k : ℕ} (A : At p s k) wh
       record {
         places = A .places ++ (pointsOf p y ∷ []);
         many = length-append A.places (pointsOf p y ∷ []) ∙ omega (arith, A .many);
-        follows = goes-on ok A.follows k A.many (pointsOf p y) L.0 joined (λ q. new (left-determines p A.left _ A.before y L.2 q));
+        follows = goes-on (full-accepted ok) A.follows k A.many here-labelled (pointsOf p y) L.0 joined (λ q. new (left-determines p A.left _ A.before y L.2 q));
         T = R .T;
         t = R .t;
         o = R .o;
@@ -359,7 +420,7 @@ module _ {p : Problem} (ok : Accepted p) {s : State} {k : ℕ} (A : At p s k) wh
       → EndsAt p kind from (read p s) h k
   ends-at kind from points h b c w =
       let D = move .describes in
-      let r = ends-path ok A.follows k A.many (record { kind = kind; block = blockOf p.grid h; simplex = points }) (rw A.here w.1) in
+      let r = ends-path (full-accepted ok) A.follows k A.many here-labelled (record { kind = kind; block = blockOf p.grid h; simplex = points }) (rw A.here w.1) in
       record {
         firstLength = D .firstLength;
         index = w .0;

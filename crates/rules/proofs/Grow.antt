@@ -23,7 +23,7 @@ use Rattle.geometry.proofs.Onward.{Enlarged, up-link, listAt-tabulate}
 use Rattle.grid.specs.Grid.{at, numIndices}
 use Rattle.place.proofs.BlocksOfGrid.{blocksOf}
 use Rattle.place.proofs.ToChain.{labelOf}
-use Rattle.place.specs.Demand.{Accepted}
+use Rattle.place.proofs.Filled.{FullyLabelled}
 use Rattle.place.specs.Problem.{Problem}
 use Rattle.rules.specs.Mask.{bit, withIndex, withoutIndex}
 use Rattle.rules.specs.Ready.{IsRound, ReadyGrow}
@@ -64,7 +64,7 @@ module _ (R : Blocks) (T : ℕ → Bool) (g : ℕ) (l : g < 16) (mask : ℕ) (k 
       ⊎-elim (λ (q : k ≡ g). rw (eq-eqb k g q) (rw (eq-eqb k g q) at (bit-without mask g k l m)))
       (λ n. rw (ne-eqb k g n) (rw (ne-eqb k g n) at (bit-without mask g k l m) ∙ e)) (same-or k g)
 
-module _ {p : Problem} (ok : Accepted p) {T : ℕ → Bool} {t : ℕ} {o : ℕ → ℕ} {x : List (ℕ → ℕ)} {s : State} (D : Describes p T t o x s)
+module _ {p : Problem} (ok : FullyLabelled p) {T : ℕ → Bool} {t : ℕ} {o : ℕ → ℕ} {x : List (ℕ → ℕ)} {s : State} (D : Describes p T t o x s)
     (L : AllMarks p t x s) {i : ℕ} (E : Extra T t (labelsOf p x) i) where
   abbrev g : ℕ
   g = labelsOf p x i
@@ -226,7 +226,7 @@ module _ {p : Problem} (ok : Accepted p) {T : ℕ → Bool} {t : ℕ} {o : ℕ �
       (λ j a c. absurd (omega arith)) 4
       (omega arith) (omega arith))
 
-pub grows : {p : Problem} → Accepted p → Grows p
+pub grows : {p : Problem} → FullyLabelled p → Grows p
 grows {p} ok T t o x s i D L E =
     ⊎-elim (λ u. rw (grow-in-U s _ u) (joins-in-U ok D L E u))
     (λ u. ⊎-elim (λ f. rw (grow-ends s _ u f) (placeEnds _ (complete ok D L E f)))

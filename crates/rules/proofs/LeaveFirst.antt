@@ -22,7 +22,7 @@ use Rattle.geometry.proofs.Ways.{first-or, first-p, first-o, first-later, first
 use Rattle.grid.specs.Grid.{at, numIndices}
 use Rattle.place.proofs.BlocksOfGrid.{blocksOf, back-below}
 use Rattle.place.proofs.ToChain.{labelOf}
-use Rattle.place.specs.Demand.{Accepted}
+use Rattle.place.proofs.Filled.{FullyLabelled}
 use Rattle.place.specs.Problem.{Problem}
 use Rattle.rules.specs.Mask.{bit, withIndex}
 use Rattle.rules.specs.Ready.{IsRound, ReadyFirst}
@@ -42,7 +42,7 @@ or-not : (a z : Bool) → z ≡ (a && false || z)
 or-not true z = refl
 or-not false z = refl
 
-module _ {p : Problem} (ok : Accepted p) {T : ℕ → Bool} {n : ℕ} {o : ℕ → ℕ} {x : List (ℕ → ℕ)} {s : State} (D : Describes p T (suc n) o x s) where
+module _ {p : Problem} (ok : FullyLabelled p) {T : ℕ → Bool} {n : ℕ} {o : ℕ → ℕ} {x : List (ℕ → ℕ)} {s : State} (D : Describes p T (suc n) o x s) where
   abbrev R : Blocks
   R = blocksOf p
 

@@ -21,7 +21,7 @@ use Rattle.geometry.proofs.Ways.{last-z, last-p, last-o, last-first, last-later
 use Rattle.grid.specs.Grid.{at, numIndices}
 use Rattle.place.proofs.BlocksOfGrid.{blocksOf, back-below}
 use Rattle.place.proofs.ToChain.{labelOf}
-use Rattle.place.specs.Demand.{Accepted}
+use Rattle.place.proofs.Filled.{FullyLabelled}
 use Rattle.place.specs.Problem.{Problem}
 use Rattle.rules.specs.Mask.{bit, withoutIndex}
 use Rattle.rules.specs.Ready.{IsRound, ReadyLast}
@@ -47,7 +47,7 @@ newFirst s h b = record {
   rule = cond (bit s.U b) 3 1;
 }
 
-module _ {p : Problem} (ok : Accepted p) {T : ℕ → Bool} {n : ℕ} {o : ℕ → ℕ} {x : List (ℕ → ℕ)} {s : State}
+module _ {p : Problem} (ok : FullyLabelled p) {T : ℕ → Bool} {n : ℕ} {o : ℕ → ℕ} {x : List (ℕ → ℕ)} {s : State}
     (D : Describes p T (suc n) o x s) where
   abbrev R : Blocks
   R = blocksOf p

@@ -20,7 +20,7 @@ use Rattle.geometry.proofs.Ways.{inner-p, inner-o, inner-same, inner-swap, inne
 use Rattle.grid.specs.Grid.{at, numIndices, position}
 use Rattle.place.proofs.BlocksOfGrid.{blocksOf, back-below}
 use Rattle.place.proofs.ToChain.{labelOf}
-use Rattle.place.specs.Demand.{Accepted}
+use Rattle.place.proofs.Filled.{FullyLabelled}
 use Rattle.place.specs.Problem.{Problem}
 use Rattle.rules.specs.Read.{pointAfter, pointGone, pointIn}
 use Rattle.rules.specs.Step.{State, goes, markPosition, sourceIn, shrink, leave, leaveMiddle}
@@ -46,7 +46,7 @@ exchanged s e = record {
   rule = 1;
 }
 
-module _ {p : Problem} (ok : Accepted p) {T : ℕ → Bool} {n : ℕ} {o : ℕ → ℕ} {x : List (ℕ → ℕ)} {s : State}
+module _ {p : Problem} (ok : FullyLabelled p) {T : ℕ → Bool} {n : ℕ} {o : ℕ → ℕ} {x : List (ℕ → ℕ)} {s : State}
     (D : Describes p T (suc n) o x s) (L : AllMarks p (suc n) x s) (e : ℕ) (l : e < n) (c : Carries T (suc n) (labelsOf p x) (suc e)) where
   abbrev R : Blocks
   R = blocksOf p

@@ -6,7 +6,7 @@ use mathlib.Core.Path.{_≡_}
 use Prim.Native.Nat.{ℕ, zero, suc, _≤_, _<_}
 use native.Mathlib.Omega.{arith}
 use Rattle.geometry.proofs.Orders.{lt-or}
-use Rattle.place.specs.Demand.{Accepted}
+use Rattle.place.proofs.Filled.{FullyLabelled}
 use Rattle.place.specs.Problem.{Problem}
 use Rattle.rules.specs.Ready.{ReadyLeave}
 use Rattle.rules.specs.Step.{State}
@@ -16,12 +16,12 @@ use Rattle.rules.proofs.LeaveLast.{leave-last, ready-last}
 use Rattle.rules.proofs.LeaveMiddle.{leave-middle}
 use Rattle.rules.proofs.Range.{few}
 
-pub leaves : {p : Problem} → Accepted p → Leaves p
+pub leaves : {p : Problem} → FullyLabelled p → Leaves p
 leaves ok T n o x s zero D L l c = leave-first ok D L c
 leaves ok T n o x s (suc e) D L l c =
     ⊎-elim (λ (m : e < n). leave-middle ok D L e m c) (λ (m : e ≡ n). rw m (leave-last ok D L (rw m at c))) (lt-or e n l)
 
-pub leave-ready : {p : Problem} → Accepted p → {T : ℕ → Bool} {n : ℕ} {o : ℕ → ℕ} {x : List (ℕ → ℕ)} {s : State} (i : ℕ)
+pub leave-ready : {p : Problem} → FullyLabelled p → {T : ℕ → Bool} {n : ℕ} {o : ℕ → ℕ} {x : List (ℕ → ℕ)} {s : State} (i : ℕ)
     → Describes p T (suc n) o x s → i ≤ suc n → ReadyLeave s i
 leave-ready ok i D l = record {
   low = omega (arith, D .orderLength);

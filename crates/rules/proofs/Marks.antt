@@ -10,7 +10,7 @@ use Rattle.geometry.proofs.Points.{nth}
 use Rattle.grid.specs.Grid.{at, position}
 use Rattle.place.proofs.BlocksOfGrid.{blocksOf, pointOf}
 use Rattle.place.proofs.ToChain.{pointsOf, labelOf}
-use Rattle.place.specs.Demand.{Accepted}
+use Rattle.place.proofs.Filled.{FullyLabelled}
 use Rattle.place.specs.Problem.{Problem}
 use Rattle.rules.specs.Read.{markOf}
 use Rattle.rules.specs.Ready.{IndicesBelow}
@@ -37,7 +37,7 @@ indices-in (h ∷ l) below =
     let e : markLabel h ≡ h = omega arith in
     rw (e, indices-in l (λ k m. below (suc k) (omega arith)))
 
-module _ {p : Problem} (ok : Accepted p) {T : ℕ → Bool} {t : ℕ} {o : ℕ → ℕ} {x : List (ℕ → ℕ)} (S : LabelledChain (blocksOf p) (labelOf p) T t o x) (j : ℕ) (l : j ≤ t) where
+module _ {p : Problem} (ok : FullyLabelled p) {T : ℕ → Bool} {t : ℕ} {o : ℕ → ℕ} {x : List (ℕ → ℕ)} (S : LabelledChain (blocksOf p) (labelOf p) T t o x) (j : ℕ) (l : j ≤ t) where
   pub mark-label : markLabel (markAt p (listAt x j)) ≡ suc (labelsOf p x j)
   mark-label = label-in (position p.grid (pointOf p (listAt x j))) (suc (labelsOf p x j)) (omega (arith, label-below ok S j l, ok .settled .sixteenIndices))
 

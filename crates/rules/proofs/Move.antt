@@ -21,7 +21,7 @@ use Rattle.geometry.proofs.Onward.{through-determines, through-not-above, start
 use Rattle.grid.specs.Grid.{at}
 use Rattle.place.proofs.BlocksOfGrid.{blocksOf}
 use Rattle.place.proofs.ToChain.{labelOf}
-use Rattle.place.specs.Demand.{Accepted}
+use Rattle.place.proofs.Filled.{FullyLabelled}
 use Rattle.place.specs.Problem.{Problem}
 use Rattle.rules.specs.Mask.{bit}
 use Rattle.rules.specs.Read.{markOf, read}
@@ -65,7 +65,7 @@ pub data Outcome (p : Problem) (T : ℕ → Bool) (t : ℕ) (x : List (ℕ → �
   atFacetEnd : (h n : ℕ) → t ≡ suc n → FacetEnd (blocksOf p) (labelOf p) T n x 0 h → Outcome p T t x left s (endsAtFacet s h)
   goesOn : {e : State} (y : List (ℕ → ℕ)) → (left ≡ some y → ⊥) → Reached p x e y → Outcome p T t x left s (goes e)
 
-module _ {p : Problem} (ok : Accepted p) where
+module _ {p : Problem} (ok : FullyLabelled p) where
   -- a chain, the state with all its labels, what the move from it needs and gives
   pub record Onward (T : ℕ → Bool) (t : ℕ) (o : ℕ → ℕ) (x : List (ℕ → ℕ)) (s : State) (left : Option (List (ℕ → ℕ))) : Type 0 where
     pub describes : Describes p T t o x s

@@ -20,7 +20,8 @@ use Rattle.grid.proofs.Accepted.{Accepted as GridAccepted}
 use Rattle.grid.proofs.Round.{next-at, next-round}
 use Rattle.grid.specs.Grid.{Point, at, numBlocks, numIndices, firstIndex, isGridPoint, position}
 use Rattle.place.proofs.BlocksOfGrid.{blocksOf, next-agrees, start-inside}
-use Rattle.place.specs.Demand.{Accepted, Settled}
+use Rattle.place.specs.Demand.{Settled}
+use Rattle.place.proofs.Filled.{FullyLabelled}
 use Rattle.place.specs.Problem.{Problem}
 use Rattle.positions.proofs.ByTails.{all-indices, position-tells, tails-order}
 use Rattle.positions.specs.Falls.{tailFrom, Falls}
@@ -89,7 +90,7 @@ module _ (p : Problem) (ok : Settled p) (one : numBlocks p.grid ≡ 1) where
       let e : suc (numIndices p.grid - suc k) ≡ numIndices p.grid - k = omega arith in
       subst (λ (n : ℕ). sum (map (at y) (upFrom k n)) + c 0 ≡ sum (map (at p.start) (upFrom k n)) + c k) e (tail-by y c grid are (numIndices p.grid - suc k) k (omega arith))
 
-module _ {p : Problem} (ok : Accepted p) (one : numBlocks p.grid ≡ 1)
+module _ {p : Problem} (ok : FullyLabelled p) (one : numBlocks p.grid ≡ 1)
     {T : ℕ → Bool} {t : ℕ} {o : ℕ → ℕ} {x : List (ℕ → ℕ)} {s : State} (D : Describes p T t o x s) where
   on-grid : (i : ℕ) → i ≤ t → isGridPoint p.grid (pointIn p s i) ≡ true
   on-grid i l = rw (point-is ok D i l) (point-on ok D.chain i l)

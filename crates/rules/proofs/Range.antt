@@ -14,9 +14,8 @@ use Rattle.place.proofs.BlocksOfGrid.{blocksOf, pointOf}
 use Rattle.place.proofs.Bound.{order-short}
 use Rattle.place.proofs.Coefficients.{coefficients-at-most}
 use Rattle.place.proofs.FromChain.{T-range, coefficient-at, coord-as, long, place-of, pointsOf-grid}
-use Rattle.place.proofs.Labels.{label-ok}
 use Rattle.place.proofs.ToChain.{pointsOf, labelOf, indexOf, index-is, grid-at, place-long}
-use Rattle.place.specs.Demand.{Accepted}
+use Rattle.place.proofs.Filled.{FullyLabelled, full-label}
 use Rattle.place.specs.Problem.{Problem, label}
 use Rattle.rules.proofs.Describes.{labelsOf}
 
@@ -25,7 +24,7 @@ nth-pointsOf p [] j l = absurd (omega arith)
 nth-pointsOf p (c ∷ x) zero l = refl
 nth-pointsOf p (c ∷ x) (suc j) l = nth-pointsOf p x j (omega arith)
 
-module _ {p : Problem} (ok : Accepted p) {T : ℕ → Bool} {t : ℕ} {o : ℕ → ℕ} {x : List (ℕ → ℕ)}
+module _ {p : Problem} (ok : FullyLabelled p) {T : ℕ → Bool} {t : ℕ} {o : ℕ → ℕ} {x : List (ℕ → ℕ)}
     (S : LabelledChain (blocksOf p) (labelOf p) T t o x) where
   pub index-below : (k : ℕ) → T k ≡ true → k < numIndices p.grid
   index-below = T-range ok.settled S
@@ -37,7 +36,7 @@ module _ {p : Problem} (ok : Accepted p) {T : ℕ → Bool} {t : ℕ} {o : ℕ �
       omega (arith, order-short p (pointsOf p x) h, place-long ok.settled (pointsOf p x) h, long ok.settled S, ok .settled .someBlock, index-some)
     where
       index-some : 0 < numIndices p.grid
-      index-some = omega (arith, index-is (numIndices p.grid) (label p p.start) (label-ok ok p.start ok.settled.start) .1)
+      index-some = omega (arith, index-is (numIndices p.grid) (label p p.start) (full-label ok p.start ok.settled.start) .1)
 
   pub point-on : (j : ℕ) → j ≤ t → isGridPoint p.grid (nth (pointsOf p x) j) ≡ true
   point-on j l = grid-at ok.settled (pointsOf p x) (pointsOf-grid ok.settled S) j (omega (arith, long ok.settled S))
@@ -67,7 +66,7 @@ module _ {p : Problem} (ok : Accepted p) {T : ℕ → Bool} {t : ℕ} {o : ℕ �
 
   named : (j : ℕ) → j ≤ t → (suc (indexOf (numIndices p.grid) (label p (nth (pointsOf p x) j))) ≡ label p (nth (pointsOf p x) j))
       × (indexOf (numIndices p.grid) (label p (nth (pointsOf p x) j)) < numIndices p.grid)
-  named j l = index-is _ _ (label-ok ok _ (point-on j l))
+  named j l = index-is _ _ (full-label ok _ (point-on j l))
 
   pub label-is : (j : ℕ) → j ≤ t → suc (labelsOf p x j) ≡ label p (nth (pointsOf p x) j)
   label-is j l = ap suc (index-of j l) ∙ named j l .0

@@ -20,7 +20,7 @@ use Rattle.geometry.proofs.Ways.{omit-is}
 use Rattle.grid.specs.Grid.{at}
 use Rattle.place.proofs.BlocksOfGrid.{blocksOf}
 use Rattle.place.proofs.ToChain.{labelOf}
-use Rattle.place.specs.Demand.{Accepted}
+use Rattle.place.proofs.Filled.{FullyLabelled}
 use Rattle.place.specs.Problem.{Problem}
 use Rattle.rules.specs.Mask.{bit, withIndex, withoutIndex}
 use Rattle.rules.specs.Step.{State, markLabel, shrink}
@@ -52,7 +52,7 @@ module _ (R : Blocks) {T T' : ℕ → Bool} {b : ℕ} (small : Less T T' b) (l :
       else true q = rw (ne-eqb k b q) at (bit-with mask b k l m)
       else false q = refl
 
-module _ {p : Problem} (ok : Accepted p) {T : ℕ → Bool} {n : ℕ} {o : ℕ → ℕ} {x : List (ℕ → ℕ)} {s : State} (D : Describes p T (suc n) o x s)
+module _ {p : Problem} (ok : FullyLabelled p) {T : ℕ → Bool} {n : ℕ} {o : ℕ → ℕ} {x : List (ℕ → ℕ)} {s : State} (D : Describes p T (suc n) o x s)
     (L : AllMarks p (suc n) x s) {e : ℕ} (l : e ≤ n)
     (c : Carries T (suc n) (labelsOf p x) (suc e)) {T' : ℕ → Bool} (F : Dropped (blocksOf p) T n (listAt x) (suc e) (o e) T' (omit e o))
     (intoU : Bool) (into : eqb (coord (blocksOf p) (listAt x 0) (o e)) 0 ≡ intoU) where

@@ -20,7 +20,7 @@ use Rattle.grid.specs.Grid.{Grid, Point, at, numIndices, isGridPoint, MovedBy}
 use Rattle.place.proofs.BlocksOfGrid.{blocksOf, back-below}
 use Rattle.place.proofs.FromChain.{coord-as, long}
 use Rattle.place.proofs.ToChain.{pointsOf}
-use Rattle.place.specs.Demand.{Accepted}
+use Rattle.place.proofs.Filled.{FullyLabelled}
 use Rattle.place.specs.Places.{Simplex}
 use Rattle.place.specs.Problem.{Problem}
 use Rattle.rules.proofs.Describes.{Describes}
@@ -45,7 +45,7 @@ map-upFrom f (y ∷ l) b (suc n) e h =
     (λ j m. let w : suc b + j ≡ b + suc j = omega arith in rw w (h (suc j) (omega arith))) in
     rw (first, rest)
 
-module _ {p : Problem} (ok : Accepted p) {T : ℕ → Bool} {t : ℕ} {o : ℕ → ℕ} {x : List (ℕ → ℕ)} {s : State} (D : Describes p T t o x s) where
+module _ {p : Problem} (ok : FullyLabelled p) {T : ℕ → Bool} {t : ℕ} {o : ℕ → ℕ} {x : List (ℕ → ℕ)} {s : State} (D : Describes p T t o x s) where
   abbrev after : ℕ → List ℕ
   after i = arrayOf s i
 

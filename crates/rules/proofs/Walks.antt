@@ -19,7 +19,7 @@ use Rattle.geometry.proofs.Tight.{block-next}
 use Rattle.grid.proofs.Round.{block-fits, seat, block-at}
 use Rattle.grid.specs.Grid.{at, numIndices, size, blockOf}
 use Rattle.place.proofs.BlocksOfGrid.{blocksOf, back-shift, back-below, block-agrees, block-own, near-block, next-agrees, previous-agrees}
-use Rattle.place.specs.Demand.{Accepted}
+use Rattle.place.proofs.Filled.{FullyLabelled}
 use Rattle.place.specs.Problem.{Problem}
 use Rattle.rules.specs.Mask.{bit}
 use Rattle.rules.specs.Ready.{IsRound, testedBefore}
@@ -176,7 +176,7 @@ block-same p h l =
     ap (blocksOf p .block) w.is ∙ block-agrees p w.j w.i w.inside ∙ sym (ap (blockOf p.grid) w.is ∙ block-at p.grid.sizes w.j w.i w.inside)
 
 -- the walks by the grid's neighbours
-module _ {p : Problem} (ok : Accepted p) {round : Round} (N : IsRound p.grid round) where
+module _ {p : Problem} (ok : FullyLabelled p) {round : Round} (N : IsRound p.grid round) where
   -- a block lies within the indices
   pub in-block : (h k : ℕ) → h < numIndices p.grid → blocksOf p .block k ≡ blocksOf p .block h → k < numIndices p.grid
   in-block h k l e = ⊎-elim (λ x. x) (λ x. absurd (omega (arith, block-own p k h x e))) (before-or-not k (numIndices p.grid))
@@ -340,6 +340,6 @@ module _ {p : Problem} (ok : Accepted p) {round : Round} (N : IsRound p.grid rou
             (or-cases (not (bit U k)) _ w.2.stops)
 
 -- how far back from h the index is that a step at h takes from
-pub source-from : {p : Problem} → Accepted p → {T : ℕ → Bool} {t : ℕ} {o : ℕ → ℕ} {x : List (ℕ → ℕ)} {s : State} → Describes p T t o x s → (h : ℕ) → h < numIndices p.grid
+pub source-from : {p : Problem} → FullyLabelled p → {T : ℕ → Bool} {t : ℕ} {o : ℕ → ℕ} {x : List (ℕ → ℕ)} {s : State} → Describes p T t o x s → (h : ℕ) → h < numIndices p.grid
     → (n : ℕ) × (n ≤ 16) × BackOutside (blocksOf p) (zeros (blocksOf p) T (listAt x 0)) h n × (sourceIn s h ≡ back (blocksOf p .previous) n h)
 source-from ok {s} D h l = chain-outside ok D.round D.chain.chain s.U D.inU h l

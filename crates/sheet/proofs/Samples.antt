@@ -4,7 +4,7 @@ use mathlib.Core.List.{[], _∷_, flatMap}
 use Rattle.rounding.specs.Centre.{isNearest, rounded, centre}
 use Rattle.text.specs.Decimal.{digits, decimal}
 use Rattle.text.specs.Line.{spaced}
-use Rattle.sheet.specs.Sheet.{vertexLine, centreLine, endSheet, refusedSheet, spentSheet}
+use Rattle.sheet.specs.Sheet.{vertexLine, centreLine, endSheet, refusedSheet, spentSheet, unknownSheet}
 use Rattle.sheet.specs.declared.Kind.the-variants.{Facet}
 
 -- "For the bytes 4 2 2 2 1 0 1 0 2 2 2 4 it prints": each line of the sheet on a line of its own, the last on two
@@ -41,3 +41,12 @@ pub spent-after-two
     112 ∷ 108 ∷ 97 ∷ 99 ∷ 101 ∷ 115 ∷ 32 ∷ 50 ∷ 10 ∷ []
 unfolding digits decimal spaced refusedSheet spentSheet
 spent-after-two = refl
+
+-- 16 with 0 places, at position 1
+pub unknown-at-one
+    : unknownSheet 0 1
+    ≡ 114 ∷ 101 ∷ 102 ∷ 117 ∷ 115 ∷ 101 ∷ 100 ∷ 32 ∷ 49 ∷ 54 ∷ 10 ∷
+    112 ∷ 108 ∷ 97 ∷ 99 ∷ 101 ∷ 115 ∷ 32 ∷ 48 ∷ 10 ∷
+    112 ∷ 111 ∷ 115 ∷ 105 ∷ 116 ∷ 105 ∷ 111 ∷ 110 ∷ 32 ∷ 49 ∷ 10 ∷ []
+unfolding digits decimal spaced refusedSheet unknownSheet
+unknown-at-one = refl

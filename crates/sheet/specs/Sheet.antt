@@ -17,6 +17,7 @@ use Rattle.sheet.specs.Words.{
   verticesWord,
   centreWord,
   refusedWord,
+  positionWord,
 }
 use Rattle.sheet.specs.declared.Kind.{Kind}
 use Rattle.sheet.specs.declared.Kind.the-variants.{Place, Facet}
@@ -62,3 +63,7 @@ refusedSheet number = line refusedWord number
 -- "9 adds a "places" line"
 unfoldable pub spentSheet : ℕ → List ℕ
 spentSheet places = refusedSheet 9 ++ line placesWord places
+
+-- Request 02: "its sheet adds a "places" and a "position" line"
+unfoldable pub unknownSheet : ℕ → ℕ → List ℕ
+unknownSheet places position = refusedSheet 16 ++ line placesWord places ++ line positionWord position

@@ -37,3 +37,7 @@ centreWord = 99 ∷ 101 ∷ 110 ∷ 116 ∷ 114 ∷ 101 ∷ []
 -- "refused"
 abbrev pub refusedWord : List ℕ
 refusedWord = 114 ∷ 101 ∷ 102 ∷ 117 ∷ 115 ∷ 101 ∷ 100 ∷ []
+
+-- "position"
+abbrev pub positionWord : List ℕ
+positionWord = 112 ∷ 111 ∷ 115 ∷ 105 ∷ 116 ∷ 105 ∷ 111 ∷ 110 ∷ []

@@ -13,7 +13,7 @@ ghost use lib.ListN.{length};
 ghost use Rattle.sheet.specs.Answer.{rows, Printable};
 ghost use Rattle.combinatorics.specs.Front.{front};
 ghost use Rattle.text.specs.Part.{Part};
-ghost use Rattle.sheet.specs.Sheet.{endLine, endSheet, refusedSheet, spentSheet};
+ghost use Rattle.sheet.specs.Sheet.{endLine, endSheet, refusedSheet, spentSheet, unknownSheet};
 
 // The kind of end.
 pub enum Kind {
@@ -21,7 +21,7 @@ pub enum Kind {
     Facet,
 }
 
-// The sheet of a refusal other than 9.
+// The sheet of a refusal other than 9 and 16.
 pub fn refused(out: &mut [u8; 4096], number: u8) -> usize
     ensures { λ r. ⌜ (r ≡ length (refusedSheet number)) × (now (out .exit) ≡ front (refusedSheet number) (now (out .entry))) ⌝ }
 {
@@ -34,6 +34,16 @@ pub fn spent(out: &mut [u8; 4096], places: u64) -> usize
 {
     let next = labelled(out, 0, b"refused", 9);
     labelled(out, next, b"places", places)
+}
+
+// The sheet of refusal 16: the label at a position of the table is not yet known.
+pub fn unknown(out: &mut [u8; 4096], places: u64, position: u64) -> usize
+    ensures { λ r. ⌜ (let sheet = unknownSheet places position in
+        (r ≡ length sheet) × (now (out .exit) ≡ front sheet (now (out .entry)))) ⌝ }
+{
+    let mut next = labelled(out, 0, b"refused", 16);
+    next = labelled(out, next, b"places", places);
+    labelled(out, next, b"position", position)
 }
 
 // The sheet of an end. `divisions` has the division of each index's block, and `vertices` begins with `count` vertices of as many numbers each.

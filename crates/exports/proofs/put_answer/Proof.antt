@@ -15,6 +15,12 @@ unfolding front
 one x [] h = absurd (omega arith)
 one x (o ∷ old) h = refl
 
+two : (x y : ℕ) (old : List ℕ) → 4 ≤ length old → set (set old 0 x) 1 y ≡ front (x ∷ y ∷ []) old
+unfolding front
+two x y (a ∷ b ∷ old) h = refl
+two x y [] h = absurd (omega arith)
+two x y (a ∷ []) h = absurd (omega arith)
+
 four : (x y z u : ℕ) (old : List ℕ) → 4 ≤ length old → set (set (set (set old 0 x) 1 y) 2 z) 3 u ≡ front (x ∷ y ∷ z ∷ u ∷ []) old
 unfolding front
 four x y z u (a ∷ b ∷ c ∷ d ∷ old) h = refl
@@ -38,20 +44,29 @@ enum-known-answer-3 c = search needs
 slice-write-facts-2 : tie.Need-slice-write-facts-2
 slice-write-facts-2 c = search needs
 
+slice-write-facts-3 : tie.Need-slice-write-facts-3
+slice-write-facts-3 c = simp length-set (omega arith)
+
+enum-known-answer-4 : tie.Need-enum-known-answer-4
+enum-known-answer-4 c = search needs
+
+slice-write-facts-4 : tie.Need-slice-write-facts-4
+slice-write-facts-4 c = search needs
+
 kind-number-requires : tie.Need-kind-number-requires
 kind-number-requires c κs = search needs
 
-slice-write-facts-3 : tie.Need-slice-write-facts-3
-slice-write-facts-3 c = simp length-set (omega arith)
+slice-write-facts-5 : tie.Need-slice-write-facts-5
+slice-write-facts-5 c = simp length-set (omega arith)
 
 cast-facts : tie.Need-cast-facts
 cast-facts c = search needs
 
-slice-write-facts-4 : tie.Need-slice-write-facts-4
-slice-write-facts-4 c = simp length-set (omega arith)
+slice-write-facts-6 : tie.Need-slice-write-facts-6
+slice-write-facts-6 c = simp length-set (omega arith)
 
-slice-write-facts-5 : tie.Need-slice-write-facts-5
-slice-write-facts-5 c = search needs
+slice-write-facts-7 : tie.Need-slice-write-facts-7
+slice-write-facts-7 c = simp length-set (omega arith)
 
 returns : tie.Need-returns
 returns c = rw (c .before .answer .given .1) (refl, sym (front-none _))
@@ -66,7 +81,13 @@ same-length-2 : tie.Need-same-length-2
 same-length-2 c = search needs
 
 returns-3 : tie.Need-returns-3
-returns-3 c = rw (c .before .before .answer3 .given .1, c .kind-number .ensures) (refl, four _ _ _ _ _ (omega arith))
+returns-3 c = rw (c .before .answer3 .given .1) (refl, two _ _ _ (omega arith))
+
+same-length-3 : tie.Need-same-length-3
+same-length-3 c = search needs
+
+returns-4 : tie.Need-returns-4
+returns-4 c = rw (c .before .before .answer4 .given .1, c .kind-number .ensures) (refl, four _ _ _ _ _ (omega arith))
 
 pub put-answer-spec : {M : Type 1} → statement M
 put-answer-spec =
@@ -77,13 +98,18 @@ put-answer-spec =
     slice-write-facts
     enum-known-answer-3
     slice-write-facts-2
-    kind-number-requires
     slice-write-facts-3
-    cast-facts
+    enum-known-answer-4
     slice-write-facts-4
+    kind-number-requires
     slice-write-facts-5
+    cast-facts
+    slice-write-facts-6
+    slice-write-facts-7
     returns
     same-length
     returns-2
     same-length-2
-    returns-3)
+    returns-3
+    same-length-3
+    returns-4)

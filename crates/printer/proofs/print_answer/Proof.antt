@@ -22,6 +22,12 @@ spent-requires c κs = search needs
 enum-known-answer-3 : tie.Need-enum-known-answer-3
 enum-known-answer-3 c = search needs
 
+unknown-requires : tie.Need-unknown-requires
+unknown-requires c κs = search needs
+
+enum-known-answer-4 : tie.Need-enum-known-answer-4
+enum-known-answer-4 c = search needs
+
 divisions-of-requires : tie.Need-divisions-of-requires
 divisions-of-requires c κs = search needs
 
@@ -40,7 +46,7 @@ slice-aggregate-ended c = sym (length-take-le _ _ (array-share-prefix-divisions 
 ended-requires : tie.Need-ended-requires
 ended-requires c κs =
     let s = c .before .before .before .before .before .before .before .before .before in
-    printable (s .args .grid) (s .pre .0) _ (c .before .before .before .before .divisions-of .ensures) _ _ (s .pre .1 .end _ _ _ _ (c .before .before .before .before .before .before .answer3 .given .1))
+    printable (s .args .grid) (s .pre .0) _ (c .before .before .before .before .divisions-of .ensures) _ _ (s .pre .1 .end _ _ _ _ (c .before .before .before .before .before .before .answer4 .given .1))
 
 returns : tie.Need-returns
 unfolding printed
@@ -52,9 +58,13 @@ returns-2 c = rw (c .before .before .before .answer2 .given .1) (as-prints (c .s
 
 returns-3 : tie.Need-returns-3
 unfolding printed
-returns-3 c =
+returns-3 c = rw (c .before .before .before .answer3 .given .1) (as-prints (c .unknown .ensures))
+
+returns-4 : tie.Need-returns-4
+unfolding printed
+returns-4 c =
     let s = c .before .before .before .before .before .before .before .before .before .before in
-    let end = c .before .before .before .before .before .before .before .answer3 .given in
+    let end = c .before .before .before .before .before .before .before .answer4 .given in
     let e = end-printed (s .args .grid) (s .pre .0) _ (c .before .before .before .before .before .divisions-of .ensures) (end .0 .1 .1 .1 .0) (s .args .buffer .now) _ _ _ _ _ (c .before .before .before .before .bound .ensures) (c .before .before .before .on-sheet .ensures) in
     rw (end .1) (same-sheet (s .args .sheet .now) e (as-prints (c .ended .ensures)))
 
@@ -67,6 +77,8 @@ print-answer-spec =
     enum-known-answer-2
     spent-requires
     enum-known-answer-3
+    unknown-requires
+    enum-known-answer-4
     divisions-of-requires
     bound-requires
     on-sheet-requires
@@ -75,4 +87,5 @@ print-answer-spec =
     ended-requires
     returns
     returns-2
-    returns-3)
+    returns-3
+    returns-4)

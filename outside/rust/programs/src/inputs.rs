@@ -119,6 +119,21 @@ pub fn random_labels(random: &mut Random, grid: &Grid) -> Vec<u8> {
     (0..grid.points).map(|_| *random.among(&choice)).collect()
 }
 
+/// Takes some of the labels away: one, or each with the same chance.
+fn with_gaps(random: &mut Random, labels: &mut [u8]) {
+    if random.chance(2) {
+        let at = random.below(labels.len());
+        labels[at] = 0;
+    } else {
+        let of = 2 + random.below(30);
+        labels.iter_mut().for_each(|label| {
+            if random.chance(of) {
+                *label = 0;
+            }
+        });
+    }
+}
+
 /// All indices but one of each block, counted from 1.
 pub fn one_left_out(random: &mut Random, grid: &Grid) -> Vec<u8> {
     let mut choice = Vec::new();
@@ -160,6 +175,19 @@ pub fn random_runs(seed: u64, count: usize, limit: usize, take: Take) {
     let mut random = Random(seed);
     for number in 0..count {
         let run = random_run(&mut random, limit);
+        if number % 8 == 0 {
+            take(Call::Slip(run.slip()));
+        }
+        take(Call::Run(run));
+    }
+}
+
+/// Random runs on tables where some labels are not yet known, some of them also as slips.
+pub fn gap_runs(seed: u64, count: usize, limit: usize, take: Take) {
+    let mut random = Random(seed);
+    for number in 0..count {
+        let mut run = random_run(&mut random, limit);
+        with_gaps(&mut random, &mut run.labels);
         if number % 8 == 0 {
             take(Call::Slip(run.slip()));
         }

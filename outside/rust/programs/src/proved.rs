@@ -7,8 +7,8 @@ use reference::{End, Kind, Outcome};
 
 #[rustfmt::skip]
 extern "C" {
-    /// 0 at an end, else the refusal's number. The facts are places, kind (0 place, 1 facet), block and vertices; of a refusal only
-    /// number 9 sets one, the places.
+    /// 0 at an end, else the refusal's number. The facts are places, kind (0 place, 1 facet), block and vertices; of the refusals
+    /// number 9 sets one, the places, and number 16 two, the places and the position.
     fn leveretplate_run(
         sizes: *const u8, sizes_length: usize,
         divisions: *const u16, divisions_length: usize,
@@ -82,6 +82,7 @@ impl Implementation for Proved {
         let written = match number {
             0 => FACTS,
             9 => 1,
+            16 => 2,
             _ => 0,
         };
         assert!(facts[written..].iter().all(|&fact| fact == OLD), "a fact is changed that number {number} leaves");
@@ -91,6 +92,7 @@ impl Implementation for Proved {
                 Outcome::Ended(End { places, kind, block: block as usize, vertices: vertices as usize })
             }
             9 => Outcome::Spent(places),
+            16 => Outcome::Unknown { places, position: kind as usize },
             number => Outcome::Refused(number.into()),
         }
     }

@@ -20,8 +20,10 @@ pub struct End {
 #[derive(Clone, Copy, Debug, PartialEq, Eq)]
 pub enum Outcome {
     Ended(End),
-    /// Any refusal but number 9.
+    /// Any refusal but numbers 9 and 16.
     Refused(u64),
     /// Number 9, with the places visited.
     Spent(u64),
+    /// Number 16: a label that the path needs is 0, with the places visited before and the label's position in the table.
+    Unknown { places: u64, position: usize },
 }

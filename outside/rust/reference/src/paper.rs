@@ -421,7 +421,12 @@ pub fn follow(grid: &Grid, start: &[u16], labels: &[u8], answer: &mut [u16], bud
     let mut incoming = 0;
     loop {
         // Step 1: the label of the vertex that came in.
-        let label = frame.labels[place.positions[incoming & LOW] as usize] as usize - 1 & LOW;
+        let position = place.positions[incoming & LOW] as usize;
+        let byte = frame.labels[position] as usize;
+        if byte == 0 {
+            return Outcome::Unknown { places: places - 1, position };
+        }
+        let label = byte - 1 & LOW;
         if place.t >> label & 1 == 0 {
             if place.u >> label & 1 == 0 && frame.one_left(&place, label) {
                 let vertices = place.write(&frame, grid.m, place.first, answer);

@@ -37,10 +37,9 @@ pub fn of_labelling(sizes: &[u8], divisions: &[u16], losses: &[u16], labels: usi
 
 /// Question 7, over the whole table without leaving early, so that the compiler can test many bytes at once.
 pub fn labels_in_range(labels: &[u8], m: usize) -> bool {
-    let last = m as u8 - 1;
     let mut outside = 0u8;
     for &label in labels {
-        outside |= (label.wrapping_sub(1) > last) as u8;
+        outside |= (label > m as u8) as u8;
     }
     outside == 0
 }

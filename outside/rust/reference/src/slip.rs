@@ -213,6 +213,11 @@ impl Page<'_> {
                 self.line("refused ", &[9]);
                 return self.line("places ", &[places]);
             }
+            Outcome::Unknown { places, position } => {
+                self.line("refused ", &[16]);
+                self.line("places ", &[places]);
+                return self.line("position ", &[position as u64]);
+            }
             Outcome::Ended(end) => end,
         };
         self.line("places ", &[end.places]);

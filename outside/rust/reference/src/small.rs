@@ -91,7 +91,7 @@ impl Problem {
     }
 
     fn label_set(&self, labels: &[u8], set: &[usize]) -> u16 {
-        set.iter().fold(0, |any, &y| any | 1 << (labels[y] - 1))
+        set.iter().filter(|&&y| labels[y] != 0).fold(0, |any, &y| any | 1 << (labels[y] - 1))
     }
 
     fn is_place(&self, labels: &[u8], set: &[usize]) -> bool {
@@ -161,6 +161,9 @@ impl Problem {
         let mut here = vec![self.start];
         let mut come_from: Option<Set> = None;
         for places in 1..=budget {
+            if let Some(&position) = here.iter().find(|&&y| labels[y] == 0) {
+                return Outcome::Unknown { places: places - 1, position };
+            }
             let mut on = self.ways(labels, &here);
             on.retain(|way| come_from.as_ref().map_or(true, |place| *way != Way::Link(place.clone())));
             assert!(on.len() == 1, "{} ways on from {:?}", on.len(), here);

@@ -41,7 +41,7 @@ fn edges() {
     assert!(matches!(run(59_999, &[2; 60_000]), Outcome::Ended(End { places: 60_000, .. })));
     assert_eq!(run(60_000, &[2; 60_001]), Outcome::Refused(4));
     assert!(matches!(run(1, &[2, 2]), Outcome::Ended(_)));
-    assert_eq!(run(1, &[2, 0]), Outcome::Refused(7));
+    assert_eq!(run(1, &[2, 0]), Outcome::Unknown { places: 0, position: 1 });
     assert_eq!(run(1, &[3, 2]), Outcome::Refused(7));
 }
 

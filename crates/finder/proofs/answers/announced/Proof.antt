@@ -44,6 +44,9 @@ walk-requires c κs =
 enum-known-finish : tie.Need-enum-known-finish
 enum-known-finish c = search needs
 
+enum-known-finish-2 : tie.Need-enum-known-finish-2
+enum-known-finish-2 c = search needs
+
 enum-told : tie.Need-enum-told
 enum-told c = search needs
 
@@ -59,6 +62,19 @@ returns c =
     let A = subst (Finished p (a .budget) round (w .last .1 .1 .1 .1 .1 .1 .0) (w .last .1 .1 .1 .1 .1 .1 .1 .0)) (c .enum-told .given .1) F in
     (rw A, rw A (sym (front-none (a .answer .now))))
 
+returns-2 : tie.Need-returns-2
+returns-2 c =
+    let s = c .before .before .before .before .before .before .before .before .before .before .before .before .before .before .before .before in
+    let a = s .args in
+    let made = s .pre .readable .made in
+    let w = c .before .before .before .walk in
+    let p = problemFrom (a .g) (a .start .now) (a .labels .now) in
+    let round = roundOf (a .g .previous) (a .g .next) (c .before .before .before .before .before .before .before .before .before .before .block-sizes .result) in
+    let t = c .before .before .before .before .before .before .before .before .before .padded in
+    let F = finished-from (a .g) made (a .start .now) (a .labels .now) (s .pre .accepted) (t .result) (t .ensures) (a .budget) round (w .last .1 .1 .1 .1 .1 .1 .0) (w .last .1 .1 .1 .1 .1 .1 .1 .0) (w .result) (w .ensures) in
+    let A = subst (Finished p (a .budget) round (w .last .1 .1 .1 .1 .1 .1 .0) (w .last .1 .1 .1 .1 .1 .1 .1 .0)) (c .before .finish .given .1) F in
+    (rw A, rw A (sym (front-none (a .answer .now))))
+
 block-number-requires : tie.Need-block-number-requires
 block-number-requires c κs =
     let s = c .before .before .before .before .before .before .before .before .before .before .before .before .before .before .before .before in
@@ -68,9 +84,9 @@ block-number-requires c κs =
     let p = problemFrom (a .g) (a .start .now) (a .labels .now) in
     let round = roundOf (a .g .previous) (a .g .next) (c .before .before .before .before .before .before .before .before .before .before .block-sizes .result) in
     let F = finished-from (a .g) made (a .start .now) (a .labels .now) (s .pre .accepted) (c .before .before .before .before .before .before .before .before .before .padded .result) (c .before .before .before .before .before .before .before .before .before .padded .ensures) (a .budget) round (w .last .1 .1 .1 .1 .1 .1 .0) (w .last .1 .1 .1 .1 .1 .1 .1 .0) (w .result) (w .ensures) in
-    let A = subst (Finished p (a .budget) round (w .last .1 .1 .1 .1 .1 .1 .0) (w .last .1 .1 .1 .1 .1 .1 .1 .0)) (c .before .finish .given .1) F in
-    let e = stateOf round (w .last .1 .1 .1 .1 .1 .1 .0) [] (w .last .1 .1 .1 .1 .1 .1 .1 .0) [] (c .before .finish .given .0 .1 .1 .1 .0) in
-    (made, index (a .g) made (a .start .now) (a .labels .now) (a .budget) (c .before .finish .given .0 .1 .0) (c .before .finish .given .0 .0) e (c .before .finish .given .0 .1 .1 .0) (A .0))
+    let A = subst (Finished p (a .budget) round (w .last .1 .1 .1 .1 .1 .1 .0) (w .last .1 .1 .1 .1 .1 .1 .1 .0)) (c .before .finish2 .given .1) F in
+    let e = stateOf round (w .last .1 .1 .1 .1 .1 .1 .0) [] (w .last .1 .1 .1 .1 .1 .1 .1 .0) [] (c .before .finish2 .given .0 .1 .1 .1 .0) in
+    (made, index (a .g) made (a .start .now) (a .labels .now) (a .budget) (c .before .finish2 .given .0 .1 .0) (c .before .finish2 .given .0 .0) e (c .before .finish2 .given .0 .1 .1 .0) (A .0))
 
 first-vertex-requires : tie.Need-first-vertex-requires
 first-vertex-requires c κs = search needs
@@ -84,16 +100,16 @@ put-points-requires c κs =
     let p = problemFrom (a .g) (a .start .now) (a .labels .now) in
     let round = roundOf (a .g .previous) (a .g .next) (c .before .before .before .before .before .before .before .before .before .before .before .before .before .before .before .before .before .block-sizes .result) in
     let F = finished-from (a .g) made (a .start .now) (a .labels .now) (s .pre .accepted) (c .before .before .before .before .before .before .before .before .before .before .before .before .before .before .before .before .padded .result) (c .before .before .before .before .before .before .before .before .before .before .before .before .before .before .before .before .padded .ensures) (a .budget) round (w .last .1 .1 .1 .1 .1 .1 .0) (w .last .1 .1 .1 .1 .1 .1 .1 .0) (w .result) (w .ensures) in
-    let A = subst (Finished p (a .budget) round (w .last .1 .1 .1 .1 .1 .1 .0) (w .last .1 .1 .1 .1 .1 .1 .1 .0)) (c .before .before .before .before .before .before .before .before .finish .given .1) F in
-    let e = stateOf round (w .last .1 .1 .1 .1 .1 .1 .0) [] (w .last .1 .1 .1 .1 .1 .1 .1 .0) [] (c .before .before .before .before .before .before .before .before .finish .given .0 .1 .1 .1 .0) in
-    let n = counted (w .last .1 .1 .1 .1 .1 .1 .1 .0) (c .before .before .before .before .before .before .before .before .finish .given .0 .1 .1 .1 .0 .count) (A .1) (A .0 .points .few) in (
+    let A = subst (Finished p (a .budget) round (w .last .1 .1 .1 .1 .1 .1 .0) (w .last .1 .1 .1 .1 .1 .1 .1 .0)) (c .before .before .before .before .before .before .before .before .finish2 .given .1) F in
+    let e = stateOf round (w .last .1 .1 .1 .1 .1 .1 .0) [] (w .last .1 .1 .1 .1 .1 .1 .1 .0) [] (c .before .before .before .before .before .before .before .before .finish2 .given .0 .1 .1 .1 .0) in
+    let n = counted (w .last .1 .1 .1 .1 .1 .1 .1 .0) (c .before .before .before .before .before .before .before .before .finish2 .given .0 .1 .1 .1 .0 .count) (A .1) (A .0 .points .few) in (
       record {
         below = round-below (a .g) made (c .before .before .before .before .before .before .before .before .before .before .before .before .before .before .before .before .before .block-sizes .result) .backward;
         firstLength = A .0 .firstLength;
         points = A .0 .points;
         short = indices-few (a .g) made;
         low = rw (c .before .before .before .before .before .first-vertex .ensures) (A .0 .low);
-        fits = rw (c .before .before .before .before .before .first-vertex .ensures) (room (a .g) made (a .start .now) (a .labels .now) (a .budget) (c .before .before .before .before .before .before .before .before .finish .given .0 .1 .0) (c .before .before .before .before .before .before .before .before .finish .given .0 .0) e (c .before .before .before .before .before .before .before .before .finish .given .0 .1 .1 .0) (A .0) _ (s .pre .room));
+        fits = rw (c .before .before .before .before .before .first-vertex .ensures) (room (a .g) made (a .start .now) (a .labels .now) (a .budget) (c .before .before .before .before .before .before .before .before .finish2 .given .0 .1 .0) (c .before .before .before .before .before .before .before .before .finish2 .given .0 .0) e (c .before .before .before .before .before .before .before .before .finish2 .given .0 .1 .1 .0) (A .0) _ (s .pre .room));
       },
       n,
     )
@@ -101,8 +117,8 @@ put-points-requires c κs =
 same-length : tie.Need-same-length
 same-length c = search needs
 
-returns-2 : tie.Need-returns-2
-returns-2 c =
+returns-3 : tie.Need-returns-3
+returns-3 c =
     let s = c .before .before .before .before .before .before .before .before .before .before .before .before .before .before .before .before .before .before .before .before .before .before .before .before .before .before in
     let a = s .args in
     let made = s .pre .readable .made in
@@ -110,11 +126,11 @@ returns-2 c =
     let p = problemFrom (a .g) (a .start .now) (a .labels .now) in
     let round = roundOf (a .g .previous) (a .g .next) (c .before .before .before .before .before .before .before .before .before .before .before .before .before .before .before .before .before .before .before .before .block-sizes .result) in
     let F = finished-from (a .g) made (a .start .now) (a .labels .now) (s .pre .accepted) (c .before .before .before .before .before .before .before .before .before .before .before .before .before .before .before .before .before .before .before .padded .result) (c .before .before .before .before .before .before .before .before .before .before .before .before .before .before .before .before .before .before .before .padded .ensures) (a .budget) round (w .last .1 .1 .1 .1 .1 .1 .0) (w .last .1 .1 .1 .1 .1 .1 .1 .0) (w .result) (w .ensures) in
-    let A = subst (Finished p (a .budget) round (w .last .1 .1 .1 .1 .1 .1 .0) (w .last .1 .1 .1 .1 .1 .1 .1 .0)) (c .before .before .before .before .before .before .before .before .before .before .before .finish .given .1) F in
-    let e = stateOf round (w .last .1 .1 .1 .1 .1 .1 .0) [] (w .last .1 .1 .1 .1 .1 .1 .1 .0) [] (c .before .before .before .before .before .before .before .before .before .before .before .finish .given .0 .1 .1 .1 .0) in
+    let A = subst (Finished p (a .budget) round (w .last .1 .1 .1 .1 .1 .1 .0) (w .last .1 .1 .1 .1 .1 .1 .1 .0)) (c .before .before .before .before .before .before .before .before .before .before .before .finish2 .given .1) F in
+    let e = stateOf round (w .last .1 .1 .1 .1 .1 .1 .0) [] (w .last .1 .1 .1 .1 .1 .1 .1 .0) [] (c .before .before .before .before .before .before .before .before .before .before .before .finish2 .given .0 .1 .1 .1 .0) in
     let v = c .before .before .put-points .ensures in
     let from = c .before .before .before .before .before .before .before .before .first-vertex .ensures in
-    (told (a .g) made (a .start .now) (a .labels .now) (a .budget) (c .before .before .before .before .before .before .before .before .before .before .before .finish .given .0 .1 .0) (c .before .before .before .before .before .before .before .before .before .before .before .finish .given .0 .0) e (c .before .before .before .before .before .before .before .before .before .before .before .finish .given .0 .1 .1 .0) (A .0) (c .before .before .before .before .before .before .before .before .before .block-number .result) (c .before .before .put-points .result) (c .before .before .before .before .before .before .before .before .before .block-number .ensures) (rw from at (v .0)), (rw from at (v .1)) ∙ ap (λ (x : List ℕ). front x (a .answer .now)) (written (a .g) made (a .start .now) (a .labels .now) (a .budget) (c .before .before .before .before .before .before .before .before .before .before .before .finish .given .0 .1 .0) (c .before .before .before .before .before .before .before .before .before .before .before .finish .given .0 .0) e (c .before .before .before .before .before .before .before .before .before .before .before .finish .given .0 .1 .1 .0) (A .0)))
+    (told (a .g) made (a .start .now) (a .labels .now) (a .budget) (c .before .before .before .before .before .before .before .before .before .before .before .finish2 .given .0 .1 .0) (c .before .before .before .before .before .before .before .before .before .before .before .finish2 .given .0 .0) e (c .before .before .before .before .before .before .before .before .before .before .before .finish2 .given .0 .1 .1 .0) (A .0) (c .before .before .before .before .before .before .before .before .before .block-number .result) (c .before .before .put-points .result) (c .before .before .before .before .before .before .before .before .before .block-number .ensures) (rw from at (v .0)), (rw from at (v .1)) ∙ ap (λ (x : List ℕ). front x (a .answer .now)) (written (a .g) made (a .start .now) (a .labels .now) (a .budget) (c .before .before .before .before .before .before .before .before .before .before .before .finish2 .given .0 .1 .0) (c .before .before .before .before .before .before .before .before .before .before .before .finish2 .given .0 .0) e (c .before .before .before .before .before .before .before .before .before .before .before .finish2 .given .0 .1 .1 .0) (A .0)))
 
 pub announced-spec : {M : Type 1} → statement M
 announced-spec =
@@ -123,11 +139,13 @@ announced-spec =
     block-sizes-requires
     padded-requires
     walk-requires
-    enum-known-finish
     enum-told
-    returns
+    enum-known-finish
+    enum-known-finish-2
     block-number-requires
     first-vertex-requires
     put-points-requires
+    returns
+    returns-2
     same-length
-    returns-2)
+    returns-3)

@@ -23,18 +23,18 @@ returns-2 c =
     let a = e .args in
     no-length (problemFrom (a .g) (a .start .now) (a .labels .now)) (a .room) (sym (c .before .before .before .is-grid-point .ensures) ∙ not-false _ (c .before .before .if1 .left)) (λ q. c .if2 .taken (q ∙ sym (made-points (a .g) (e .pre))))
 
-cast-all-indices : tie.Need-cast-all-indices
-cast-all-indices c = let e = c .before .before .before .before .before .before in omega (arith, indices-few (e .args .g) (e .pre))
+cast-all-at-most : tie.Need-cast-all-at-most
+cast-all-at-most c = let e = c .before .before .before .before .before .before in omega (arith, indices-few (e .args .g) (e .pre))
 
-all-indices-requires : tie.Need-all-indices-requires
-all-indices-requires c κs = search needs
+all-at-most-requires : tie.Need-all-at-most-requires
+all-at-most-requires c κs = search needs
 
 returns-3 : tie.Need-returns-3
 returns-3 c =
     let e = c .before .before .before .before .before .before .before .before in
     let a = e .args in
     no-label (problemFrom (a .g) (a .start .now) (a .labels .now)) (a .room) (sym (c .before .before .before .before .before .is-grid-point .ensures) ∙ not-false _ (c .before .before .before .before .if1 .left)) (c .before .before .if2 .left ∙ made-points (a .g) (e .pre))
-    (rw (← (made-indices (a .g) (e .pre))) (sym (c .before .all-indices .ensures) ∙ not-true _ (c .if3 .taken)))
+    (rw (← (made-indices (a .g) (e .pre))) (sym (c .before .all-at-most .ensures) ∙ not-true _ (c .if3 .taken)))
 
 sub-if4 : tie.Need-sub-if4
 sub-if4 c = let e = c .before .before .before .before .before .before .before .before .before in fewer-blocks (e .args .g) (e .pre)
@@ -50,14 +50,14 @@ returns-4 c =
     let e = c .before .before .before .before .before .before .before .before .before .before in
     let a = e .args in
     no-room (problemFrom (a .g) (a .start .now) (a .labels .now)) (a .room) (sym (c .before .before .before .before .before .before .before .is-grid-point .ensures) ∙ not-false _ (c .before .before .before .before .before .before .if1 .left)) (c .before .before .before .before .if2 .left ∙ made-points (a .g) (e .pre))
-    (rw (← (made-indices (a .g) (e .pre))) (sym (c .before .before .before .all-indices .ensures) ∙ not-false _ (c .before .before .if3 .left))) (rw (← (room-is (a .g) (e .pre))) (c .if4 .taken))
+    (rw (← (made-indices (a .g) (e .pre))) (sym (c .before .before .before .all-at-most .ensures) ∙ not-false _ (c .before .before .if3 .left))) (rw (← (room-is (a .g) (e .pre))) (c .if4 .taken))
 
 returns-5 : tie.Need-returns-5
 returns-5 c =
     let e = c .before .before .before .before .before .before .before .before .before .before in
     let a = e .args in
     none-no (problemFrom (a .g) (a .start .now) (a .labels .now)) (a .room) (sym (c .before .before .before .before .before .before .before .is-grid-point .ensures) ∙ not-false _ (c .before .before .before .before .before .before .if1 .left)) (c .before .before .before .before .if2 .left ∙ made-points (a .g) (e .pre))
-    (rw (← (made-indices (a .g) (e .pre))) (sym (c .before .before .before .all-indices .ensures) ∙ not-false _ (c .before .before .if3 .left))) (rw (← (room-is (a .g) (e .pre))) (c .if4 .left))
+    (rw (← (made-indices (a .g) (e .pre))) (sym (c .before .before .before .all-at-most .ensures) ∙ not-false _ (c .before .before .if3 .left))) (rw (← (room-is (a .g) (e .pre))) (c .if4 .left))
 
 pub first-no-spec : {M : Type 1} → statement M
 first-no-spec =
@@ -66,8 +66,8 @@ first-no-spec =
     is-grid-point-requires
     returns
     returns-2
-    cast-all-indices
-    all-indices-requires
+    cast-all-at-most
+    all-at-most-requires
     returns-3
     sub-if4
     add-if4

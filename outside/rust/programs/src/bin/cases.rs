@@ -26,6 +26,9 @@ fn given(implementation: &dyn Implementation, call: &Call) -> Option<Vec<String>
             fits.then(|| match implementation.run(run, &mut answer) {
                 Outcome::Refused(number) => vec![format!("refused {number}")],
                 Outcome::Spent(places) => vec!["refused 9".to_string(), format!("places {places}")],
+                Outcome::Unknown { places, position } => {
+                    vec!["refused 16".to_string(), format!("places {places}"), format!("position {position}")]
+                }
                 Outcome::Ended(end) => {
                     let kind = if end.kind == Kind::Place { "place" } else { "facet" };
                     let m = run.start.len();

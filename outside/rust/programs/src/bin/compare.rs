@@ -147,6 +147,7 @@ impl Tally {
             }
             Seen::Run(Outcome::Refused(number), _) => self.refusals[*number as usize] += 1,
             Seen::Run(Outcome::Spent(_), _) => self.refusals[9] += 1,
+            Seen::Run(Outcome::Unknown { .. }, _) => self.refusals[16] += 1,
             Seen::Label(Ok(_), _) => self.ends += 1,
             Seen::Label(Err(number), _) => self.refusals[*number as usize] += 1,
             Seen::Shelf(answers) => {
@@ -191,6 +192,8 @@ fn main() -> ExitCode {
     comparison.part("random grids up to 130 points", |take| inputs::random_runs(2, 100_000, 130, take));
     comparison.part("random grids up to 2,000 points", |take| inputs::random_runs(3, 300_000, 2_000, take));
     comparison.part("random grids up to 60,000 points", |take| inputs::random_runs(4, 20_000, 60_000, take));
+    comparison.part("tables with gaps up to 30 points", |take| inputs::gap_runs(10, 200_000, 30, take));
+    comparison.part("tables with gaps up to 2,000 points", |take| inputs::gap_runs(11, 100_000, 2_000, take));
     comparison.part("faulty runs", |take| inputs::faulty_runs(5, 200_000, take));
     comparison.part("edges", inputs::edges);
     comparison.part("centres at halves", inputs::halves);

@@ -1,0 +1,19 @@
+// A label table. Every call that is lent one asks question 7 of it.
+ghost use mathlib.Core.Path.{_≡_};
+ghost use lib.Dec.{leb};
+ghost use Rattle.combinatorics.specs.Lists.{all};
+
+// Question 7: is every byte at most m? The loop has one way out, so that several bytes are compared at once.
+pub fn all_at_most(labels: &[u8], m: u8) -> bool
+    ensures { λ r. ⌜ r ≡ all (λ l. leb l m) (now (labels .entry)) ⌝ }
+{
+    let mut good = true;
+    let mut i: usize = 0;
+    while i < labels.len() {
+        if m < labels[i] {
+            good = false;
+        }
+        i += 1;
+    }
+    good
+}
