@@ -1,0 +1,16 @@
+-- The trail of document 01's sheet is the one worked out by hand. Assumes nothing.
+use mathlib.Core.Path.{_≡_, refl}
+use Rattle.grid.specs.Grid.{next, previous, isGridPoint, points, bound}
+use Rattle.place.specs.Coefficients.{coefficients}
+use Rattle.place.specs.Ends.{isComplete, completeFor, placeEnds, facetEnds, ends, ways}
+use Rattle.place.specs.Links.{exchanged, extended, linked, links}
+use Rattle.place.specs.Path.{waysOn, path}
+use Rattle.place.specs.Places.{setU, setT, labelSet, firstBackOutside, goesTo, grownAt, everyBlockFree, isUnlabelledPlace, isPlace, places}
+use Rattle.place.specs.Problem.{label}
+use Rattle.trail.specs.Change.{change, rules}
+use Rattle.trail.specs.Record.{recordOf, startRecord, trailOf}
+use Rattle.trail.specs.Worked.{sheet, sheetTrail}
+
+worked : trailOf sheet (path sheet .visited) ≡ sheetTrail
+unfolding next previous isGridPoint points label coefficients setU setT labelSet firstBackOutside goesTo grownAt everyBlockFree isUnlabelledPlace isPlace places exchanged extended linked links isComplete completeFor placeEnds facetEnds ends ways waysOn bound path change rules recordOf startRecord trailOf
+worked = refl

@@ -1,0 +1,73 @@
+-- Request 03: the change from a place to the next, and its rule. Assumes nothing.
+use mathlib.Core.Bool.{Bool, not, _&&_, cond}
+use mathlib.Core.List.{List, [], _∷_, map}
+use Prim.Native.Nat.{ℕ, suc}
+use lib.Dec.{eqb}
+use lib.ListN.{length}
+use Rattle.combinatorics.specs.Lists.{filter, isIn, same}
+use Rattle.grid.specs.Grid.{samePoint, position}
+use Rattle.place.specs.Places.{Simplex, setT, setU}
+use Rattle.place.specs.Problem.{Problem}
+
+-- the elements of a list that are not in another
+abbrev pub outside : {A : Type 0} → (A → A → Bool) → List A → List A → List A
+outside eq b a = filter (λ x. not (isIn eq x b)) a
+
+-- "0 point come in, 1 point gone out (table positions ..), 2 index into T, 3 out of T, 4 into U, 5 out of U"
+pub record Change : Type 0 where
+  pub pointsIn : List ℕ
+  pub pointsOut : List ℕ
+  pub intoT : List ℕ
+  pub outOfT : List ℕ
+  pub intoU : List ℕ
+  pub outOfU : List ℕ
+
+-- from the set a of points to the set b
+unfoldable pub change : Problem → Simplex → Simplex → Change
+change p a b = let g = p .grid in record {
+  pointsIn = map (position g) (outside samePoint a b);
+  pointsOut = map (position g) (outside samePoint b a);
+  intoT = outside eqb (setT p a) (setT p b);
+  outOfT = outside eqb (setT p b) (setT p a);
+  intoU = outside eqb (setU g a) (setU g b);
+  outOfU = outside eqb (setU g b) (setU g a);
+}
+
+-- how many elements a list has
+abbrev pub none : {A : Type 0} → List A → Bool
+none xs = eqb (length xs) 0
+
+abbrev pub one : {A : Type 0} → List A → Bool
+one xs = eqb (length xs) 1
+
+-- what a set of indices does, by the indices that come into it and go out of it
+abbrev pub keeps : List ℕ → List ℕ → Bool
+keeps into outOf = none into && none outOf
+
+abbrev pub gains : List ℕ → List ℕ → Bool
+gains into outOf = one into && none outOf
+
+abbrev pub loses : List ℕ → List ℕ → Bool
+loses into outOf = none into && one outOf
+
+-- the seven rules as tests, in order: "Rule 1 keeps T and U; 2 keeps T and U gains; 3 keeps T and U loses; 4 takes an index into T from outside U;
+-- 5 takes it from U; 6 moves an index from T to U; 7 only drops it from T". Where U is kept an index that comes into T was outside it.
+abbrev pub ruleTests : Change → List Bool
+ruleTests c =
+    (keeps (c .intoT) (c .outOfT) && keeps (c .intoU) (c .outOfU))
+    ∷ (keeps (c .intoT) (c .outOfT) && gains (c .intoU) (c .outOfU))
+    ∷ (keeps (c .intoT) (c .outOfT) && loses (c .intoU) (c .outOfU))
+    ∷ (gains (c .intoT) (c .outOfT) && keeps (c .intoU) (c .outOfU))
+    ∷ (gains (c .intoT) (c .outOfT) && loses (c .intoU) (c .outOfU) && same eqb (c .intoT) (c .outOfU))
+    ∷ (loses (c .intoT) (c .outOfT) && gains (c .intoU) (c .outOfU) && same eqb (c .outOfT) (c .intoU))
+    ∷ (loses (c .intoT) (c .outOfT) && keeps (c .intoU) (c .outOfU))
+    ∷ []
+
+-- the numbers, from k on, of the tests that hold
+abbrev pub holding : ℕ → List Bool → List ℕ
+holding k [] = []
+holding k (t ∷ ts) = let rest = holding (suc k) ts in cond t (k ∷ rest) rest
+
+-- the rules that make the change, counted from 1
+unfoldable pub rules : Change → List ℕ
+rules c = holding 1 (ruleTests c)

@@ -1,0 +1,4 @@
+pub mod Change
+pub mod Record
+pub mod Trail
+pub mod Worked
