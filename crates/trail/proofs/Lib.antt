@@ -1,1 +1,4 @@
+pub mod Outside
+pub mod Rules
+pub mod Tells
 pub mod Worked

@@ -1,6 +1,7 @@
 -- Request 03: the change from a place to the next, and its rule. Assumes nothing.
 use mathlib.Core.Bool.{Bool, not, _&&_, cond}
 use mathlib.Core.List.{List, [], _∷_, map}
+use mathlib.Core.Path.{_≡_}
 use Prim.Native.Nat.{ℕ, suc}
 use lib.Dec.{eqb}
 use lib.ListN.{length}
@@ -71,3 +72,23 @@ holding k (t ∷ ts) = let rest = holding (suc k) ts in cond t (k ∷ rest) rest
 -- the rules that make the change, counted from 1
 unfoldable pub rules : Change → List ℕ
 rules c = holding 1 (ruleTests c)
+
+-- A change by one rule alone, with the points that come in and go out, by their positions, and the index that the rule is about
+abbrev pub changeBy : (pointsIn pointsOut intoT outOfT intoU outOfU : List ℕ) → Change
+changeBy pointsIn pointsOut intoT outOfT intoU outOfU = record {
+  pointsIn = pointsIn;
+  pointsOut = pointsOut;
+  intoT = intoT;
+  outOfT = outOfT;
+  intoU = intoU;
+  outOfU = outOfU;
+}
+
+pub data ByRule (c : Change) : ℕ → Type 0 where
+  rule1 : (y z : ℕ) → c ≡ changeBy (y ∷ []) (z ∷ []) [] [] [] [] → ByRule c 1
+  rule2 : (y z h : ℕ) → c ≡ changeBy (y ∷ []) (z ∷ []) [] [] (h ∷ []) [] → ByRule c 2
+  rule3 : (y z h : ℕ) → c ≡ changeBy (y ∷ []) (z ∷ []) [] [] [] (h ∷ []) → ByRule c 3
+  rule4 : (y h : ℕ) → c ≡ changeBy (y ∷ []) [] (h ∷ []) [] [] [] → ByRule c 4
+  rule5 : (y h : ℕ) → c ≡ changeBy (y ∷ []) [] (h ∷ []) [] [] (h ∷ []) → ByRule c 5
+  rule6 : (z h : ℕ) → c ≡ changeBy [] (z ∷ []) [] (h ∷ []) (h ∷ []) [] → ByRule c 6
+  rule7 : (z h : ℕ) → c ≡ changeBy [] (z ∷ []) [] (h ∷ []) [] [] → ByRule c 7

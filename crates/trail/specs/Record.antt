@@ -5,7 +5,7 @@ use Rattle.combinatorics.specs.Lists.{concatMap}
 use Rattle.grid.specs.Grid.{position}
 use Rattle.place.specs.Places.{Simplex}
 use Rattle.place.specs.Problem.{Problem}
-use Rattle.trail.specs.Change.{Change, change, rules}
+use Rattle.trail.specs.Change.{Change, change, rules, ByRule, rule1, rule2, rule3, rule4, rule5, rule6, rule7}
 
 -- "table positions, 16 bits"; document 01, "multi-byte fields little-endian"
 abbrev pub bytes16 : ℕ → List ℕ
@@ -51,3 +51,13 @@ recordsFrom p a (b ∷ s) = recordOf p a b ++ recordsFrom p b s
 unfoldable pub trailOf : Problem → List Simplex → List ℕ
 trailOf p [] = []
 trailOf p (a ∷ s) = startRecord p ++ recordsFrom p a s
+
+-- the records of the seven rules, written out
+abbrev pub recordBy : {c : Change} {r : ℕ} → ByRule c r → List ℕ
+recordBy (rule1 y z e) = 67 ∷ bytes16 y ++ bytes16 z ++ (1 ∷ [])
+recordBy (rule2 y z h e) = 83 ∷ bytes16 y ++ bytes16 z ++ (suc h ∷ 2 ∷ [])
+recordBy (rule3 y z h e) = 99 ∷ bytes16 y ++ bytes16 z ++ (suc h ∷ 3 ∷ [])
+recordBy (rule4 y h e) = 69 ∷ bytes16 y ++ (suc h ∷ 4 ∷ [])
+recordBy (rule5 y h e) = 101 ∷ bytes16 y ++ (suc h ∷ suc h ∷ 5 ∷ [])
+recordBy (rule6 z h e) = 90 ∷ bytes16 z ++ (suc h ∷ suc h ∷ 6 ∷ [])
+recordBy (rule7 z h e) = 74 ∷ bytes16 z ++ (suc h ∷ 7 ∷ [])
