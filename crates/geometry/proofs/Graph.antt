@@ -109,7 +109,7 @@ module _ {R : Blocks} {labelOf : (ℕ → ℕ) → ℕ} {T : ℕ → Bool} {s : 
   abbrev pub Facet : List (ℕ → ℕ) → Type 0
   Facet x = (i : ℕ) × (i ≤ suc s) × Carries T (suc s) (λ j. labelOf (listAt a j)) i × Through R T s a i x
 
-  swapped-facet : {T' : ℕ → Bool} {t' : ℕ} {o' : ℕ → ℕ} {x : List (ℕ → ℕ)} → LabelledChain R labelOf T' t' o' x → Swapped labelOf T (suc s) a T' t' x
+  pub swapped-facet : {T' : ℕ → Bool} {t' : ℕ} {o' : ℕ → ℕ} {x : List (ℕ → ℕ)} → LabelledChain R labelOf T' t' o' x → Swapped labelOf T (suc s) a T' t' x
       → Facet x
   swapped-facet {t'} {o'} {x} S W =
       let C : Chain R T (suc s) (listAt x) o' = rw W.sizes at (rw W.sameT at S.chain) in (

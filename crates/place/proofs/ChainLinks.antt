@@ -96,7 +96,7 @@ module _ {p : Problem} (ok : Settled p) (a b : Simplex) (ha : isPlace p a ≡ tr
   lb : length b ≡ suc tb
   lb = place-long ok b hb
 
-  exchanged-swapped : exchanged p a b ≡ true → Swapped (labelOf p) (inT p a) ta (coefficientsOf p a) (inT p b) tb (coefficientsOf p b)
+  pub exchanged-swapped : exchanged p a b ≡ true → Swapped (labelOf p) (inT p a) ta (coefficientsOf p a) (inT p b) tb (coefficientsOf p b)
   unfolding exchanged
   exchanged-swapped e =
       let s = shared a b in
@@ -216,7 +216,7 @@ module _ {p : Problem} (ok : Settled p) (a b : Simplex) (ha : isPlace p a ≡ tr
       one-left-out : length a ≡ suc (length (shared a b))
       one-left-out = missing-one _ a W.i il old-out (λ j l n. let f = others j l n in rw f.3 at (at-in onPoints [] b f.0 f.1))
 
-  extended-to : allLabelled p a ≡ true → extended p a b ≡ true
+  pub extended-to : allLabelled p a ≡ true → extended p a b ≡ true
       → Extended (labelOf p) (inT p a) ta (coefficientsOf p a) (inT p b) tb (coefficientsOf p b)
   unfolding extended
   extended-to own e =

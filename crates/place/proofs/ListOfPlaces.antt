@@ -11,7 +11,7 @@ use native.Mathlib.Omega.{arith}
 use Rattle.combinatorics.proofs.Basics.{absurd-bool, false-of, true-or-false}
 use Rattle.combinatorics.proofs.Lists.{in-here, in-later, in-cases, all-in, in-map, map-in, in-filter, distinct-filter, distinct-map, distinct-append, distinct-out, distinct-tail, in-append-left, in-append-right, append-in}
 use Rattle.combinatorics.proofs.Rising.{rising-tail, rising-below}
-use Rattle.combinatorics.specs.Lists.{isIn, distinct, rising, sublists}
+use Rattle.combinatorics.specs.Lists.{all, isIn, distinct, rising, sublists}
 use Rattle.grid.proofs.Points.{point-sound, point-self, onPoints, distinct-points, in-points}
 use Rattle.grid.specs.Grid.{Point, samePoint, points, isGridPoint, numBlocks}
 use Rattle.place.proofs.LinkSymmetry.{parts}
@@ -165,10 +165,15 @@ module _ (p : Problem) where
       distinct-filter onSimplices (isPlace p) (sublists (inOrder p (points p.grid)))
       (distinct-sublists (inOrder p (points p.grid)) (order-distinct (points p.grid) (distinct-points p.grid)))
 
+  -- every set of grid points, in order, is one of the sublists
+  pub sets-all : length p.grid.divisions ≡ numBlocks p.grid → (s : Simplex) → all (isGridPoint p.grid) s ≡ true
+      → rising (map (coefficientSum p) s) ≡ true → isIn sameSimplex s (sublists (inOrder p (points p.grid))) ≡ true
+  sets-all e s on r =
+      in-sublists (inOrder p (points p.grid)) (order-sorted (points p.grid)) s r
+      (λ y m. in-order (points p.grid) y (in-points p.grid y e (all-in onPoints (isGridPoint p.grid) s on y m)))
+
   pub places-all : length p.grid.divisions ≡ numBlocks p.grid → (s : Simplex) → isPlace p s ≡ true → isIn sameSimplex s (places p) ≡ true
   unfolding places
   places-all e s h =
       let k = parts p s h in
-      in-filter onSimplices (isPlace p) s (sublists (inOrder p (points p.grid)))
-      (in-sublists (inOrder p (points p.grid)) (order-sorted (points p.grid)) s k.inOrder
-      (λ y m. in-order (points p.grid) y (in-points p.grid y e (all-in onPoints (isGridPoint p.grid) s k.gridPoints y m)))) h
+      in-filter onSimplices (isPlace p) s (sublists (inOrder p (points p.grid))) (sets-all e s k.gridPoints k.inOrder) h

@@ -1,4 +1,6 @@
 pub mod Outside
 pub mod Rules
 pub mod Tells
+pub mod Zeros
+pub mod LinkRules
 pub mod Worked
