@@ -3,4 +3,5 @@ pub mod Rules
 pub mod Tells
 pub mod Zeros
 pub mod LinkRules
+pub mod Reading
 pub mod Worked

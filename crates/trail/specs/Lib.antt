@@ -1,4 +1,5 @@
 pub mod Change
 pub mod Record
 pub mod Trail
+pub mod Demand
 pub mod Worked
