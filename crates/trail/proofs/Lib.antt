@@ -4,4 +4,5 @@ pub mod Tells
 pub mod Zeros
 pub mod LinkRules
 pub mod Reading
+pub mod RunTrail
 pub mod Worked
