@@ -5,4 +5,5 @@ pub mod Zeros
 pub mod LinkRules
 pub mod Reading
 pub mod RunTrail
+pub mod Tables
 pub mod Worked

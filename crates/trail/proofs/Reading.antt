@@ -102,15 +102,15 @@ module _ (p : Problem) (even : length p.grid.divisions ≡ numBlocks p.grid) (a 
 
 -- the table is not looked at
 module _ (p : Problem) (labels : List ℕ) where
-  T-alike : (s : Simplex) → setT (withLabels p labels) s ≡ setT p s
+  pub T-alike : (s : Simplex) → setT (withLabels p labels) s ≡ setT p s
   unfolding setT coefficients
   T-alike s = refl
 
-  place-alike : (s : Simplex) → isUnlabelledPlace (withLabels p labels) s ≡ isUnlabelledPlace p s
+  pub place-alike : (s : Simplex) → isUnlabelledPlace (withLabels p labels) s ≡ isUnlabelledPlace p s
   unfolding isUnlabelledPlace setT coefficients
   place-alike s = refl
 
-  change-alike : (a b : Simplex) → change (withLabels p labels) a b ≡ change p a b
+  pub change-alike : (a b : Simplex) → change (withLabels p labels) a b ≡ change p a b
   unfolding change
   change-alike a b = rw (T-alike a, T-alike b)
 

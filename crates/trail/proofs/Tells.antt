@@ -106,9 +106,9 @@ same-set a b c e f y m =
     (λ (t : isIn samePoint y a ≡ false). outside-in onPoints y c a (rw e at (in-outside onPoints y b a m t)) .0)
     (true-or-false (isIn samePoint y a))
 
--- the two conditions of an unlabelled place that are needed here
+-- the conditions of an unlabelled place that are needed here
 pub unlabelled-parts : (p : Problem) (s : Simplex) → isUnlabelledPlace p s ≡ true
-    → (all (isGridPoint p.grid) s ≡ true) × (rising (map (coefficientSum p) s) ≡ true)
+    → (all (isGridPoint p.grid) s ≡ true) × (rising (map (coefficientSum p) s) ≡ true) × (usesEachOnce (setT p s) (order p.grid s) ≡ true)
 unfolding isUnlabelledPlace
 unlabelled-parts p s h =
     let g = p .grid in
@@ -117,8 +117,9 @@ unlabelled-parts p s h =
     let c : Bool = eachGoesToNext g (setU g s) s in
     let d : Bool = usesEachOnce (setT p s) (order g s) in
     let e : Bool = everyBlockFree g (setT p s) (setU g s) in
-    let k : (a && b) ≡ true = and-left (a && b) c (and-left (a && b && c) d (and-left (a && b && c && d) e h)) in
-    (and-left a b k, and-right a b k)
+    let k : (a && b && c && d) ≡ true = and-left (a && b && c && d) e h in
+    let l : (a && b) ≡ true = and-left (a && b) c (and-left (a && b && c) d k) in
+    (and-left a b l, and-right a b l, and-right (a && b && c) d k)
 
 -- the conditions of a record apart from its bytes
 pub record Moves (p : Problem) (a b : Simplex) : Type 0 where
