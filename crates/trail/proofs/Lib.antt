@@ -6,4 +6,5 @@ pub mod LinkRules
 pub mod Reading
 pub mod RunTrail
 pub mod Tables
+pub mod Shapes
 pub mod Worked
