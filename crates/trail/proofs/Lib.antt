@@ -7,4 +7,5 @@ pub mod Reading
 pub mod RunTrail
 pub mod Tables
 pub mod Shapes
+pub mod SomeLinks
 pub mod Worked

@@ -9,24 +9,24 @@ use lib.Dec.{eqb}
 use lib.ListN.{length, length-map}
 use native.Mathlib.Omega.{arith}
 use Rattle.combinatorics.proofs.Basics.{absurd-bool, true-or-false, same-or, and-left, and-right, and-both, both}
-use Rattle.combinatorics.proofs.Lists.{all-in, in-all, in-here, in-cases, distinct-filter, filter-cong, pigeon, onNumbers}
+use Rattle.combinatorics.proofs.Lists.{in-all, in-here, in-cases, distinct-filter, filter-cong, pigeon, onNumbers}
 use Rattle.combinatorics.proofs.Ranges.{distinct-upFrom}
 use Rattle.combinatorics.proofs.Rising.{rising-distinct}
-use Rattle.combinatorics.specs.Lists.{all, filter, isIn, distinct, occurrences}
+use Rattle.combinatorics.specs.Lists.{all, filter, isIn, distinct}
 use Rattle.geometry.proofs.Definitions.{Less}
 use Rattle.grid.proofs.Points.{onPoints}
 use Rattle.grid.specs.Grid.{Point, numIndices, indices, samePoint, position}
 use Rattle.place.proofs.IndexSets.{no-empty, order-within, order-distinct, T-distinct}
 use Rattle.place.proofs.Meaning.{T-means}
-use Rattle.place.proofs.Positions.{set-of, occurs-in}
-use Rattle.place.proofs.ToChain.{inT, size-positive, place-long}
+use Rattle.place.proofs.Positions.{set-of}
+use Rattle.place.proofs.ToChain.{inT, place-long}
 use Rattle.place.specs.Coefficients.{coefficientSum}
 use Rattle.place.specs.Demand.{Settled}
 use Rattle.place.specs.Places.{Simplex, setT, setU, labelSet, within, order, isUnlabelledPlace, isPlace}
 use Rattle.place.specs.Problem.{Problem, withLabels}
 use Rattle.trail.proofs.Outside.{one-of, none-of, in-outside, outside-in, outside-count}
 use Rattle.trail.proofs.Reading.{T-alike}
-use Rattle.trail.proofs.Tables.{Labelled, some-table}
+use Rattle.trail.proofs.Tables.{Labelled, some-table, some-index, in-order}
 use Rattle.trail.proofs.Tells.{Moves, unlabelled-parts}
 use Rattle.trail.specs.Change.{Change, change, rules, outside, keeps, gains, loses}
 
@@ -86,18 +86,10 @@ module _ {p : Problem} (ok : Settled p) where
       place = and-both _ _ h (in-all onNumbers (λ k. isIn eqb k (labelSet p [])) (setT p []) (λ k m. absurd-bool (sym (T-means p [] k .0 m .2 .1))))
   not-empty (y ∷ s) h = omega arith
 
-  in-order : (s : Simplex) → isUnlabelledPlace p s ≡ true → (k : ℕ) → isIn eqb k (setT p s) ≡ true → isIn eqb k (order p.grid s) ≡ true
-  in-order s h k m =
-      occurs-in k (order p.grid s) (eqb-true _ _ (all-in onNumbers (λ h. eqb (occurrences h (order p.grid s)) 1) (setT p s)
-      (and-right (within (order p.grid s) (setT p s)) _ (unlabelled-parts p s h .2)) k m))
-
-  some-index : 0 < numIndices p.grid
-  some-index = omega (arith, size-positive ok 0 ok.someBlock, Rattle.grid.proofs.Round.block-fits p.grid.sizes 0)
-
   -- T has one index less than the place has points
   pub T-long : (s : Simplex) → isUnlabelledPlace p s ≡ true → length s ≡ suc (length (setT p s))
   T-long s h =
-      let w = some-table ok s h 0 0 (not-empty s h) some-index in
+      let w = some-table ok s h 0 0 (not-empty s h) (some-index ok) in
       let q = withLabels p w.0 in
       let settled = w .1 .accepted .settled in
       let e : setT q s ≡ setT p s = T-alike p w.0 s in
@@ -107,7 +99,7 @@ module _ {p : Problem} (ok : Settled p) where
         place-long settled s place,
         ap length e,
         pigeon onNumbers (order p.grid s) (setT q s) (order-distinct q s place) (order-within q s place),
-        pigeon onNumbers (setT q s) (order p.grid s) (T-distinct q s place) (λ k m. in-order s h k (rw e at m)),
+        pigeon onNumbers (setT q s) (order p.grid s) (T-distinct q s place) (λ k m. in-order p s h k (rw e at m)),
       )
 
   pub T-unique : (s : Simplex) → distinct eqb (setT p s) ≡ true

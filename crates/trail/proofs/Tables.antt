@@ -4,7 +4,7 @@ use mathlib.Core.Bool.{Bool, true, false, _&&_, cond}
 use mathlib.Core.List.{List, [], _∷_, map}
 use mathlib.Core.Logic.{_⊎_, inl, inr, ⊎-elim}
 use mathlib.Core.Path.{_≡_, refl, sym, ap, _∙_}
-use Prim.Native.Nat.{ℕ, zero, suc, _≤_, _<_}
+use Prim.Native.Nat.{ℕ, zero, suc, _-_, _≤_, _<_}
 use borrow.Author.Tests.{eqb-true, leb-true, le-leb}
 use lib.Dec.{eqb, leb}
 use lib.ListN.{length, getD, length-map}
@@ -70,6 +70,22 @@ given-all (x ∷ s) d (l ∷ ls) e =
     later [] h = refl
     later (y ∷ r) h = rw (other y (h y (in-here onPoints y r))) (ap (λ (k : List ℕ). given s ls y ∷ k) (later r (λ z m. h z (in-later onPoints z y r m))))
 
+-- grid and start are the same with another table
+pub settled-with : {p : Problem} → Settled p → (labels : List ℕ) → Settled (withLabels p labels)
+settled-with ok labels = record {
+  someBlock = ok .someBlock;
+  sixBlocks = ok .sixBlocks;
+  sizes = ok .sizes;
+  sixteenIndices = ok .sixteenIndices;
+  sameNumber = ok .sameNumber;
+  divisions = ok .divisions;
+  points = ok .points;
+  start = ok .start;
+}
+
+pub some-index : {p : Problem} → Settled p → 0 < numIndices p.grid
+some-index {p} ok = omega (arith, size-positive ok 0 ok.someBlock, block-fits p.grid.sizes 0)
+
 module _ {p : Problem} (ok : Settled p) (s : Simplex) (on : all (isGridPoint p.grid) s ≡ true) (d : distinct samePoint s ≡ true) (ls : List ℕ)
     (long : length ls ≡ length s) (names : Names (numIndices p.grid) ls) where
   label-given : (y : Point) → isGridPoint p.grid y ≡ true → label (withLabels p (table p.grid s ls)) y ≡ given s ls y
@@ -78,26 +94,14 @@ module _ {p : Problem} (ok : Settled p) (s : Simplex) (on : all (isGridPoint p.g
       mapped-at (given s ls) (points p.grid) (position p.grid y) (position-in (points p.grid) y (in-points p.grid y ok.sameNumber h))
       ∙ ap (given s ls) (at-position p.grid ok.sameNumber y h)
 
-  some-index : 1 ≤ numIndices p.grid
-  some-index = omega (arith, size-positive ok 0 ok.someBlock, block-fits p.grid.sizes 0)
-
   given-in : (y : Point) → (1 ≤ given s ls y) × (given s ls y ≤ numIndices p.grid)
-  given-in = given-names (numIndices p.grid) some-index s ls names
+  given-in = given-names (numIndices p.grid) (some-index ok) s ls names
 
   -- it has a label for every grid point, and is accepted
   pub table-accepted : Accepted (withLabels p (table p.grid s ls))
   unfolding table
   table-accepted = record {
-    settled = record {
-      someBlock = ok .someBlock;
-      sixBlocks = ok .sixBlocks;
-      sizes = ok .sizes;
-      sixteenIndices = ok .sixteenIndices;
-      sameNumber = ok .sameNumber;
-      divisions = ok .divisions;
-      points = ok .points;
-      start = ok .start;
-    };
+    settled = settled-with ok (map (given s ls) (points p.grid));
     tableLength = length-map (points p.grid) (given s ls);
     labels = in-all onNumbers (λ l. leb l (numIndices p.grid)) (map (given s ls) (points p.grid)) (λ l m.
         let w = map-in onPoints onNumbers (given s ls) l (points p.grid) m in
@@ -129,6 +133,12 @@ insertAt-in (suc i) x l (y ∷ ys) m =
     (λ n. ⊎-elim (λ e. inl e) (λ k. inr (in-later onNumbers l y ys k)) (insertAt-in i x l ys n))
     (in-cases onNumbers l y (insertAt i x ys) m)
 
+-- each index of T is in the order
+pub in-order : (p : Problem) (s : Simplex) → isUnlabelledPlace p s ≡ true → (k : ℕ) → isIn eqb k (setT p s) ≡ true → isIn eqb k (order p.grid s) ≡ true
+in-order p s h k m =
+    occurs-in k (order p.grid s) (eqb-true _ _ (all-in onNumbers (λ h. eqb (occurrences h (order p.grid s)) 1) (setT p s)
+    (and-right (within (order p.grid s) (setT p s)) _ (unlabelled-parts p s h .2)) k m))
+
 -- A table over which s is a place, its points but point i carry T, and point i has label x: over it point i may leave, and x, if not in T, joins.
 pub record Labelled (p : Problem) (s : Simplex) (i x : ℕ) (labels : List ℕ) : Type 0 where
   pub accepted : Accepted (withLabels p labels)
@@ -137,6 +147,7 @@ pub record Labelled (p : Problem) (s : Simplex) (i x : ℕ) (labels : List ℕ) 
   pub inOrder : map (label (withLabels p labels)) s ≡ insertAt i (suc x) (map suc (order p.grid s))
   pub here : label (withLabels p labels) (nth s i) ≡ suc x
   pub carries : (k : ℕ) → isIn eqb k (setT p s) ≡ true → (j : ℕ) × (j < length s) × (j ≡ i → ⊥) × (label (withLabels p labels) (nth s j) ≡ suc k)
+  pub inside : (j : ℕ) → j < length s → (j ≡ i → ⊥) → (k : ℕ) × (isIn eqb k (setT p s) ≡ true) × (label (withLabels p labels) (nth s j) ≡ suc k)
 
 module _ {p : Problem} (ok : Settled p) (s : Simplex) (h : isUnlabelledPlace p s ≡ true) (i x : ℕ) (il : i < length s) (xl : x < numIndices p.grid) where
   o : List ℕ
@@ -153,23 +164,17 @@ module _ {p : Problem} (ok : Settled p) (s : Simplex) (h : isUnlabelledPlace p s
       go [] l = absurd (omega arith)
       go (y ∷ s) l = ap suc (sym (order-long p.grid y s))
 
-  in-o : (k : ℕ) → isIn eqb k (setT p s) ≡ true → isIn eqb k o ≡ true
+  o-in-T : (k : ℕ) → isIn eqb k o ≡ true → isIn eqb k (setT p s) ≡ true
   unfolding o
-  in-o k m =
-      occurs-in k (order p.grid s) (eqb-true _ _ (all-in onNumbers (λ h. eqb (occurrences h (order p.grid s)) 1) (setT p s)
-      (and-right (within (order p.grid s) (setT p s)) _ (unlabelled-parts p s h .2)) k m))
-
-  o-below : (k : ℕ) → isIn eqb k o ≡ true → k < numIndices p.grid
-  unfolding o
-  o-below k m =
-      T-means p s k .0 (all-in onNumbers (λ k. isIn eqb k (setT p s)) (order p.grid s)
-      (and-left (within (order p.grid s) (setT p s)) _ (unlabelled-parts p s h .2)) k m) .0
+  o-in-T k m =
+      all-in onNumbers (λ k. isIn eqb k (setT p s)) (order p.grid s)
+      (and-left (within (order p.grid s) (setT p s)) _ (unlabelled-parts p s h .2)) k m
 
   names : Names (numIndices p.grid) ls
   unfolding ls
   names l m =
       ⊎-elim (λ (e : l ≡ suc x). (omega arith, omega arith))
-      (λ n. let w = map-in onNumbers onNumbers suc l o n in let b = o-below w.0 w.1 in (omega (arith, w .2), omega (arith, w .2)))
+      (λ n. let w = map-in onNumbers onNumbers suc l o n in let b = T-means p s w.0 .0 (o-in-T w.0 w.1) .0 in (omega (arith, w .2), omega (arith, w .2)))
       (insertAt-in i (suc x) l (map suc o) m)
 
   ls-long : length ls ≡ length s
@@ -195,10 +200,15 @@ module _ {p : Problem} (ok : Settled p) (s : Simplex) (h : isUnlabelledPlace p s
   short : i ≤ length (map suc o)
   short = omega (arith, il, long, length-map o suc)
 
+  suc-at : (o : List ℕ) (j : ℕ) → j < length o → getD (map suc o) j 0 ≡ suc (getD o j 0)
+  suc-at [] j l = absurd (omega arith)
+  suc-at (y ∷ o) zero l = refl
+  suc-at (y ∷ o) (suc j) l = suc-at o j (omega arith)
+
   carried : (k : ℕ) → isIn eqb k (setT p s) ≡ true → (j : ℕ) × (j < length s) × (j ≡ i → ⊥) × (label q (nth s j) ≡ suc k)
-  unfolding ls
+  unfolding ls o
   carried k m =
-      let w = in-at onNumbers 0 k o (in-o k m) in
+      let w = in-at onNumbers 0 k o (in-order p s h k m) in
       let e : getD (map suc o) w.0 0 ≡ suc k = suc-at o w.0 w.1 ∙ ap suc w.2 in
       ⊎-elim
       (λ (l : w .0 < i). let b : w .0 < length s = omega arith in
@@ -206,11 +216,20 @@ module _ {p : Problem} (ok : Settled p) (s : Simplex) (h : isUnlabelledPlace p s
       (λ (l : i ≤ w .0). let b : suc w.0 < length s = omega (arith, w .1, long) in
       (suc w.0, b, (λ (z : suc w.0 ≡ i). omega arith), at-point (suc w.0) b ∙ insertAt-behind 0 i (suc x) (map suc o) w.0 short l ∙ e))
       (before-or-not w.0 i)
-    where
-      suc-at : (o : List ℕ) (j : ℕ) → j < length o → getD (map suc o) j 0 ≡ suc (getD o j 0)
-      suc-at [] j l = absurd (omega arith)
-      suc-at (y ∷ o) zero l = refl
-      suc-at (y ∷ o) (suc j) l = suc-at o j (omega arith)
+
+  inside : (j : ℕ) → j < length s → (j ≡ i → ⊥) → (k : ℕ) × (isIn eqb k (setT p s) ≡ true) × (label q (nth s j) ≡ suc k)
+  unfolding ls
+  inside j l n =
+      ⊎-elim
+      (λ (b : j < i). let c : j < length o = omega (arith, long) in
+      (getD o j 0, o-in-T _ (at-in onNumbers 0 o j c), at-point j l ∙ insertAt-before 0 i (suc x) (map suc o) j short b ∙ suc-at o j c))
+      (λ (b : i ≤ j). let e : suc (j - 1) ≡ j = omega (arith, n) in let c : j - 1 < length o = omega (arith, long, n) in
+      (
+        getD o (j - 1) 0,
+        o-in-T _ (at-in onNumbers 0 o (j - 1) c),
+        at-point j l ∙ ap (λ (m : ℕ). getD ls m 0) (sym e) ∙ insertAt-behind 0 i (suc x) (map suc o) (j - 1) short (omega (arith, n)) ∙ suc-at o (j - 1) c,
+      ))
+      (before-or-not j i)
 
   pub some-table : (labels : List ℕ) × Labelled p s i x labels
   unfolding isPlace ls q o
@@ -226,5 +245,6 @@ module _ {p : Problem} (ok : Settled p) (s : Simplex) (h : isUnlabelledPlace p s
       inOrder = labels-are;
       here = at-point i il ∙ insertAt-here 0 i (suc x) (map suc o) short;
       carries = carried;
+      inside = inside;
     },
   )
