@@ -8,4 +8,5 @@ pub mod RunTrail
 pub mod Tables
 pub mod Shapes
 pub mod SomeLinks
+pub mod OneNext
 pub mod Worked

@@ -41,7 +41,7 @@ unfolding labelSet setT
 labels-T p s t f g = set-of _ (indices p.grid) ∙ filter-cong onNumbers (indices p.grid) (λ k m. both _ _ (f k) (g k)) ∙ sym (set-of _ (indices p.grid))
 
 -- what is not left out is in the other set
-stays-in : (a b : Simplex) {z : Point} → outside samePoint b a ≡ z ∷ [] → (y : Point) → isIn samePoint y a ≡ true → (y ≡ z → ⊥) → isIn samePoint y b ≡ true
+pub stays-in : (a b : Simplex) {z : Point} → outside samePoint b a ≡ z ∷ [] → (y : Point) → isIn samePoint y a ≡ true → (y ≡ z → ⊥) → isIn samePoint y b ≡ true
 stays-in a b {z} e y m n =
     ⊎-elim (λ t. t)
     (λ f. ⊎-elim (λ q. absurd (n q)) (λ q. absurd-bool (sym q)) (in-cases onPoints y z [] (rw e at (in-outside onPoints y a b m f))))
