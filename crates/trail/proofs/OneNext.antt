@@ -1,5 +1,5 @@
--- One candidate: from an unlabelled place there is at most one move that takes a given point out, and at most one by which a given index comes into T
--- and no point goes out. Assumes nothing.
+-- From an unlabelled place at most one move takes a given point out, and at most one brings a given index into T and takes no point out. In order:
+-- over a table, one place through a facet and one above, and none at an end; moves are links over a table; what tells the next place. Assumes nothing.
 use mathlib.Core.Bool.{Bool, true, false}
 use mathlib.Core.List.{List, [], _∷_, map}
 use mathlib.Core.Logic.{⊎-elim}
@@ -10,24 +10,30 @@ use lib.ListN.{length, length-map}
 use native.Mathlib.Omega.{arith}
 use Rattle.combinatorics.proofs.Basics.{absurd-bool, same-or, before-or-not}
 use Rattle.combinatorics.proofs.Lists.{in-here, in-cases, onNumbers}
+use Rattle.combinatorics.specs.Edits.{removeAt}
 use Rattle.combinatorics.specs.Lists.{isIn}
-use Rattle.geometry.proofs.Definitions.{Blocks, Chain}
-use Rattle.geometry.proofs.Graph.{Through, Above, through-one, above-one, exit, start-exit, from-same}
+use Rattle.geometry.proofs.Definitions.{Blocks, Chain, Fills}
+use Rattle.geometry.proofs.Graph.{Through, Above, drops-of, through-one, larger, above-one, exit, start-exit, from-same}
+use Rattle.geometry.proofs.Exits.{kinds, inside-not-complete, larger-is, up-not-complete, complete-fills}
 use Rattle.geometry.proofs.Labels.{from-omit, to-omit}
 use Rattle.geometry.proofs.LabelledChains.{LabelledChain, LinkTo, listAt}
 use Rattle.geometry.proofs.Points.{nth, listAt-map}
 use Rattle.geometry.proofs.Sorted.{rising-chain}
+use Rattle.geometry.proofs.Unique.{not-next-fills, not-drops-fills}
+use Rattle.geometry.proofs.Ways.{omit-is}
 use Rattle.grid.proofs.Points.{onPoints}
-use Rattle.grid.specs.Grid.{Point, at, numIndices, samePoint}
+use Rattle.grid.specs.Grid.{Point, at, numBlocks, firstIndex, samePoint}
 use Rattle.place.proofs.BlocksOfGrid.{blocksOf, pointOf, coefficientOf}
+use Rattle.place.proofs.ChainEnds.{complete-to, facet-end}
 use Rattle.place.proofs.ChainLinks.{link-of}
 use Rattle.place.proofs.LinkSymmetry.{parts}
 use Rattle.place.proofs.Positions.{at-in, in-at, same-at}
 use Rattle.place.proofs.Meaning.{T-means}
 use Rattle.place.proofs.ToChain.{inT, coefficientsOf, labelOf, place-long, labelledChain-of, pointsOf-coefficientsOf}
 use Rattle.place.specs.Demand.{Settled}
+use Rattle.place.specs.Ends.{isComplete}
 use Rattle.place.specs.Links.{linked}
-use Rattle.place.specs.Places.{Simplex, setT, order, isUnlabelledPlace, isPlace, allLabelled}
+use Rattle.place.specs.Places.{Simplex, setT, labelSet, order, isUnlabelledPlace, isPlace, allLabelled}
 use Rattle.place.specs.Problem.{Problem, withLabels}
 use Rattle.trail.proofs.Outside.{in-outside, outside-in, outside-count}
 use Rattle.trail.proofs.Shapes.{Shape, exchange, joins, leaves, shape-of, not-empty, points-distinct}
@@ -119,69 +125,109 @@ module _ {q : Problem} (ok : Settled q) (a : Simplex) (ha : isPlace q a ≡ true
           (through-one (coefficientsOf q a) A.chain (omega arith) (coefficientsOf q b) (coefficientsOf q c)
           (through A i il b hb lb ob B) (through A i il c hc lc oc C))
 
-module _ {p : Problem} (ok : Settled p) (a b c : Simplex) (ha : isUnlabelledPlace p a ≡ true) (mb : isMove p a b ≡ true) (mc : isMove p a c ≡ true) where
+  -- at a facet end nothing lies through the facet,
+  none-through : (i : ℕ) → i < length a → (j : ℕ) → j < numBlocks q.grid → labelSet q (removeAt i a) ≡ setT q a → isComplete q (removeAt i a) j ≡ true
+      → (b : Simplex) → isPlace q b ≡ true → linked q a b ≡ true → length b ≤ length a
+      → ((j : ℕ) → j < length a → (j ≡ i → ⊥) → isIn samePoint (nth a j) b ≡ true) → ⊥
+  none-through i il j lj labels c b hb eb lb ob = go (length (order q.grid a)) (place-long ok a ha) (labelledChain-of ok a ha) (onto b hb eb)
+    where
+      go : (t : ℕ) → length a ≡ suc t → LabelledChain (blocksOf q) (labelOf q) (inT q a) t (at (order q.grid a)) (coefficientsOf q a)
+          → LinkTo (blocksOf q) (labelOf q) (inT q a) t (coefficientsOf q a) (coefficientsOf q b) → ⊥
+      go zero e A B = let X = start-exit A B in omega (arith, X .4 .sizes, X .3 .size, long b, lb, e)
+      go (suc s) e A B =
+          let E = facet-end ok a ha s e i (omega arith) own j lj labels c in
+          let h = firstIndex q.grid j + 0 in
+          let F : Fills (blocksOf q) (inT q a) s (listAt (coefficientsOf q a)) i =
+          (h, complete-fills (blocksOf q) (labelOf q) (inT q a) (omega arith) (omit-is (suc s) i (listAt (coefficientsOf q a))) E.inside h E.complete) in
+          ⊎-elim (λ N. not-next-fills A.chain i (omega arith) (listAt (coefficientsOf q b), N .1 .0, N .1 .1, N .1 .2) F)
+          (λ D. not-drops-fills A.chain (omega arith) (drops-of (coefficientsOf q a) A.chain (coefficientsOf q b) D.1.2 D.1.3) F)
+          (through A i il b hb lb ob B)
+
+  -- and at a place end nothing above
+  none-above : (j : ℕ) → j < numBlocks q.grid → isComplete q a j ≡ true → (b : Simplex) → isPlace q b ≡ true → linked q a b ≡ true
+      → length b ≡ suc (length a) → ⊥
+  none-above j lj c b hb eb lb =
+      let A = labelledChain-of ok a ha in
+      let X = above b hb eb lb in
+      let w = larger A X.3 X.4 in
+      let h = firstIndex q.grid j + 0 in
+      let C = complete-to ok a (parts q a ha .gridPoints) (length (order q.grid a)) (place-long ok a ha) j lj c in
+      ⊎-elim (λ W. inside-not-complete (labelOf q) A.chain A.covers W.2.all h C)
+      (λ W. let e = larger-is (labelOf q) A.chain A.covers W.1 w.1.1 X.4.covers in
+      up-not-complete (labelOf q) A.chain A.covers W.1 (rw e at w.1.1) w.1.2.1 h C)
+      (kinds (labelOf q) A.chain A.covers)
+
+module _ {p : Problem} (ok : Settled p) (a : Simplex) (ha : isUnlabelledPlace p a ≡ true) where
   counted : (b : Simplex) → isMove p a b ≡ true → length (outside samePoint a b) + length a ≡ length (outside samePoint b a) + length b
   counted b m = outside-count onPoints a b (points-distinct p a ha) (points-distinct p b (moves-of p a b m .place))
 
-  -- the point that goes out tells the next place
-  pub out-tells : {z : Point} → outside samePoint b a ≡ z ∷ [] → outside samePoint c a ≡ z ∷ [] → b ≡ c
-  out-tells {z} eb ec = go (number-of ok a b eb)
-    where
-      go : (i : ℕ) × (i < length a) × (nth a i ≡ z) → b ≡ c
-      go i =
-          one-through (settled-with ok t.0) a t.1.place (t .1 .known a (unlabelled-parts p a ha .0)) i.0 i.1 b c
-          (B .0 .to) (C .0 .to) (B .0 .by) (C .0 .by) (B .1) (C .1) (others b eb) (others c ec)
-        where
-          t : (labels : List ℕ) × Labelled p a i.0 0 labels
-          t = some-table ok a ha i.0 0 i.1 (some-index ok)
+  -- over a table where the points but one carry T
+  module _ {i x : ℕ} (il : i < length a) {labels : List ℕ} (L : Labelled p a i x labels) where
+    all-known : allLabelled (withLabels p labels) a ≡ true
+    all-known = L .known a (unlabelled-parts p a ha .0)
 
-          over : (b : Simplex) → isMove p a b ≡ true → outside samePoint b a ≡ z ∷ [] → LinkOver p a b t.0 × (length b ≤ length a)
-          over b m e = pick (shape-of ok a b ha (moves-of p a b m))
-            where
-              hb : isUnlabelledPlace p b ≡ true
-              hb = moves-of p a b m .place
+    others : (b : Simplex) → outside samePoint b a ≡ nth a i ∷ [] → (j : ℕ) → j < length a → (j ≡ i → ⊥) → isIn samePoint (nth a j) b ≡ true
+    others b e j l n = stays-in a b e (nth a j) (at-in onPoints [] a j l) (λ q. n (same-at onPoints [] a (points-distinct p a ha) j i l il q))
 
-              pick : Shape p a b → LinkOver p a b t.0 × (length b ≤ length a)
-              pick (exchange y w come out q) = (exchange-links a b ha hb i.1 t.1 e i.2 come q, omega (arith, counted b m, ap length come, ap length e))
-              pick (joins y g come out T) = absurd (omega (arith, ap length out, ap length e))
-              pick (leaves w g come out T) = (leave-links a b ha hb i.1 t.1 e i.2 come T, omega (arith, counted b m, ap length come, ap length e))
+    -- each move that takes that one out is a link,
+    pub over-out : (b : Simplex) → isMove p a b ≡ true → outside samePoint b a ≡ nth a i ∷ [] → LinkOver p a b labels × (length b ≤ length a)
+    over-out b m e = pick (shape-of ok a b ha (moves-of p a b m))
+      where
+        hb : isUnlabelledPlace p b ≡ true
+        hb = moves-of p a b m .place
 
-          B : LinkOver p a b t.0 × (length b ≤ length a)
-          B = over b mb eb
+        pick : Shape p a b → LinkOver p a b labels × (length b ≤ length a)
+        pick (exchange y w come out q) = (exchange-links a b ha hb il L e refl come q, omega (arith, counted b m, ap length come, ap length e))
+        pick (joins y g come out T) = absurd (omega (arith, ap length out, ap length e))
+        pick (leaves w g come out T) = (leave-links a b ha hb il L e refl come T, omega (arith, counted b m, ap length come, ap length e))
 
-          C : LinkOver p a c t.0 × (length c ≤ length a)
-          C = over c mc ec
+    -- and each by which its label comes into T
+    pub over-into : (b : Simplex) → isMove p a b ≡ true → outside samePoint b a ≡ [] → outside eqb (setT p a) (setT p b) ≡ x ∷ []
+        → LinkOver p a b labels × (length b ≡ suc (length a))
+    over-into b m e t = pick (shape-of ok a b ha (moves-of p a b m))
+      where
+        pick : Shape p a b → LinkOver p a b labels × (length b ≡ suc (length a))
+        pick (exchange y w come out q) = absurd (omega (arith, ap length out, ap length e))
+        pick (joins y h come out T) =
+            let n : h ≡ x = ⊎-elim (λ z. z) (λ z. absurd-bool (sym z))
+            (in-cases onNumbers h x [] (rw t at (in-outside onNumbers h (setT p b) (setT p a) T.has T.out))) in
+            (join-links a b ha (moves-of p a b m .place) il L come out (rw n at T), omega (arith, counted b m, ap length come, ap length e))
+        pick (leaves w h come out T) = absurd (omega (arith, ap length out, ap length e))
 
-          others : (b : Simplex) → outside samePoint b a ≡ z ∷ [] → (j : ℕ) → j < length a → (j ≡ i .0 → ⊥) → isIn samePoint (nth a j) b ≡ true
-          others b e j l n = stays-in a b e (nth a j) (at-in onPoints [] a j l)
-              (λ q. n (same-at onPoints [] a (points-distinct p a ha) j i.0 l i.1 (q ∙ sym i.2)))
+    -- at a facet end there is no such move, nor at a place end
+    pub out-none : (j : ℕ) → j < numBlocks p.grid → labelSet (withLabels p labels) (removeAt i a) ≡ setT (withLabels p labels) a
+        → isComplete (withLabels p labels) (removeAt i a) j ≡ true → (b : Simplex) → isMove p a b ≡ true → outside samePoint b a ≡ nth a i ∷ [] → ⊥
+    out-none j lj s c b m e =
+        let B = over-out b m e in
+        none-through (settled-with ok labels) a L.place all-known i il j lj s c b B.0.to B.0.by B.1 (others b e)
 
-  -- where none goes out, the index that comes into T does
-  pub into-tells : {g : ℕ} → outside samePoint b a ≡ [] → outside samePoint c a ≡ [] → outside eqb (setT p a) (setT p b) ≡ g ∷ []
-      → outside eqb (setT p a) (setT p c) ≡ g ∷ [] → b ≡ c
-  into-tells {g} ob oc tb tc =
-      one-above (settled-with ok t.0) a t.1.place (t .1 .known a (unlabelled-parts p a ha .0)) b c
-      (B .0 .to) (C .0 .to) (B .0 .by) (C .0 .by) (B .1) (C .1)
-    where
-      g-below : g < numIndices p.grid
-      g-below = T-means p b g .0 (outside-in onNumbers g (setT p b) (setT p a) (rw tb (in-here onNumbers g [])) .0) .0
+    pub into-none : (j : ℕ) → j < numBlocks p.grid → isComplete (withLabels p labels) a j ≡ true → (b : Simplex) → isMove p a b ≡ true
+        → outside samePoint b a ≡ [] → outside eqb (setT p a) (setT p b) ≡ x ∷ [] → ⊥
+    into-none j lj c b m e t =
+        let B = over-into b m e t in
+        none-above (settled-with ok labels) a L.place all-known j lj c b B.0.to B.0.by B.1
 
-      t : (labels : List ℕ) × Labelled p a 0 g labels
-      t = some-table ok a ha 0 g (not-empty ok a ha) g-below
+  -- the point that goes out tells the next place,
+  pub out-tells : (b c : Simplex) → isMove p a b ≡ true → isMove p a c ≡ true → {z : Point} → outside samePoint b a ≡ z ∷ []
+      → outside samePoint c a ≡ z ∷ [] → b ≡ c
+  out-tells b c mb mc {z} eb ec =
+      let n = number-of ok a b eb in
+      let t = some-table ok a ha n.0 0 n.1 (some-index ok) in
+      let L = t .1 in
+      let fb : outside samePoint b a ≡ nth a n.0 ∷ [] = rw n.2 eb in
+      let fc : outside samePoint c a ≡ nth a n.0 ∷ [] = rw n.2 ec in
+      let B = over-out n.1 L b mb fb in
+      let C = over-out n.1 L c mc fc in
+      one-through (settled-with ok t.0) a L.place (all-known n.1 L) n.0 n.1 b c B.0.to C.0.to B.0.by C.0.by B.1 C.1 (others n.1 L b fb) (others n.1 L c fc)
 
-      over : (b : Simplex) → isMove p a b ≡ true → outside samePoint b a ≡ [] → outside eqb (setT p a) (setT p b) ≡ g ∷ []
-          → LinkOver p a b t.0 × (length b ≡ suc (length a))
-      over b m e i = pick (shape-of ok a b ha (moves-of p a b m))
-        where
-          pick : Shape p a b → LinkOver p a b t.0 × (length b ≡ suc (length a))
-          pick (exchange y w come out q) = absurd (omega (arith, ap length out, ap length e))
-          pick (joins y h come out T) =
-              let n : h ≡ g = ⊎-elim (λ z. z) (λ z. absurd-bool (sym z)) (in-cases onNumbers h g [] (rw i at (in-outside onNumbers h (setT p b) (setT p a) T.has T.out))) in
-              (join-links a b ha (moves-of p a b m .place) (not-empty ok a ha) t.1 come out (rw n at T), omega (arith, counted b m, ap length come, ap length e))
-          pick (leaves w h come out T) = absurd (omega (arith, ap length out, ap length e))
-
-      B : LinkOver p a b t.0 × (length b ≡ suc (length a))
-      B = over b mb ob tb
-
-      C : LinkOver p a c t.0 × (length c ≡ suc (length a))
-      C = over c mc oc tc
+  -- and where none goes out, the index that comes into T
+  pub into-tells : (b c : Simplex) → isMove p a b ≡ true → isMove p a c ≡ true → {g : ℕ} → outside samePoint b a ≡ [] → outside samePoint c a ≡ []
+      → outside eqb (setT p a) (setT p b) ≡ g ∷ [] → outside eqb (setT p a) (setT p c) ≡ g ∷ [] → b ≡ c
+  into-tells b c mb mc {g} ob oc tb tc =
+      let below = T-means p b g .0 (outside-in onNumbers g (setT p b) (setT p a) (rw tb (in-here onNumbers g [])) .0) .0 in
+      let l = not-empty ok a ha in
+      let t = some-table ok a ha 0 g l below in
+      let L = t .1 in
+      let B = over-into l L b mb ob tb in
+      let C = over-into l L c mc oc tc in
+      one-above (settled-with ok t.0) a L.place (all-known l L) b c B.0.to C.0.to B.0.by C.0.by B.1 C.1
