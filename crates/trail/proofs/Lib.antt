@@ -9,4 +9,5 @@ pub mod Tables
 pub mod Shapes
 pub mod SomeLinks
 pub mod OneNext
+pub mod Accepting
 pub mod Worked

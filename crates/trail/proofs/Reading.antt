@@ -60,7 +60,7 @@ module _ (p : Problem) (even : length p.grid.divisions ≡ numBlocks p.grid) (a 
   fits b = isMove p a b && begins (recordOf p a b) bytes
 
   -- what is found is a place whose record stands there
-  found : (b : Simplex) → isIn sameSimplex b (readOn p a bytes) ≡ true → (isMove p a b ≡ true) × (begins (recordOf p a b) bytes ≡ true)
+  pub found : (b : Simplex) → isIn sameSimplex b (readOn p a bytes) ≡ true → (isMove p a b ≡ true) × (begins (recordOf p a b) bytes ≡ true)
   unfolding readOn
   found b m =
       let w = filter-in onSimplices fits b (unlabelledPlaces p) m .1 in

@@ -1,15 +1,20 @@
--- Request 03: what holds over a run's trail, of every list of places that follows the path, whether it ends or not. Assumes nothing.
+-- Request 03: what holds over a run's trail, of every list of places that follows the path, whether it ends or not; which records a reader accepts,
+-- and the customer's reasons for 17. Assumes nothing.
+use mathlib.Core.Bool.{true, false}
 use mathlib.Core.List.{List, [], _∷_, _++_}
 use mathlib.Core.Option.{none, some}
 use mathlib.Core.Path.{_≡_}
-use Prim.Native.Nat.{ℕ, suc, pred, _+_, _*_, _≤_, _<_}
+use Prim.Native.Nat.{ℕ, suc, pred, _+_, _*_, _%_, _≤_, _<_}
+use lib.Dec.{eqb}
 use lib.ListN.{length, take}
+use Rattle.combinatorics.specs.Lists.{isIn}
+use Rattle.grid.specs.Grid.{Point, numPoints, position, samePoint}
 use Rattle.place.specs.Demand.{placeAt}
-use Rattle.place.specs.Places.{Simplex}
+use Rattle.place.specs.Places.{Simplex, isUnlabelledPlace}
 use Rattle.place.specs.Problem.{Problem, withLabels}
 use Rattle.trail.specs.Change.{change, rules, ByRule}
-use Rattle.trail.specs.Record.{startRecord, trailOf}
-use Rattle.trail.specs.Trail.{rebuilt}
+use Rattle.trail.specs.Record.{startRecord, trailOf, recordBy}
+use Rattle.trail.specs.Trail.{rebuiltFrom, rebuilt}
 
 pub record Trails (p : Problem) (s : List Simplex) : Type 0 where
   -- each link is one of the seven rules, and no other
@@ -24,3 +29,38 @@ pub record Trails (p : Problem) (s : List Simplex) : Type 0 where
   -- "17 .. when there is no such record"
   pub noMore : (labels : List ℕ) (i : ℕ) → length s < i → rebuilt (withLabels p labels) (trailOf p s) i ≡ none
   pub notZero : (labels bytes : List ℕ) → rebuilt (withLabels p labels) bytes 0 ≡ none
+
+-- The n + 1 records at the front of the bytes lead from a to c: the first is that of one rule, byte by byte, and the others lead on from the place
+-- that it makes
+pub record Accepts (p : Problem) (a : Simplex) (bytes : List ℕ) (n : ℕ) (c : Simplex) : Type 0 where
+  pub next : Simplex
+  pub place : isUnlabelledPlace p next ≡ true
+  pub rule : ℕ
+  pub byRule : ByRule (change p a next) rule
+  pub behind : List ℕ
+  pub stands : bytes ≡ recordBy byRule ++ behind
+  pub goesOn : rebuiltFrom p n next behind ≡ some c
+
+-- the place a, and a next record of map byte m
+pub record Refuses (p : Problem) (a : Simplex) : Type 0 where
+  -- "there is no such record"
+  pub noRecord : (n : ℕ) → rebuiltFrom p (suc n) a [] ≡ none
+  -- "change no point"
+  pub noPoint : (n m : ℕ) (rest : List ℕ) → m % 4 ≡ 0 → rebuiltFrom p (suc n) a (m ∷ rest) ≡ none
+  -- "bring in one already there"
+  pub alreadyThere : (n m low high : ℕ) (rest : List ℕ) (y : Point) → m % 2 ≡ 1 → isIn samePoint y a ≡ true → position (p .grid) y ≡ low + 256 * high
+      → rebuiltFrom p (suc n) a (m ∷ low ∷ high ∷ rest) ≡ none
+  -- "or off the table"
+  pub offTheTable : (n m low high : ℕ) (rest : List ℕ) → m % 2 ≡ 1 → numPoints (p .grid) ≤ low + 256 * high
+      → rebuiltFrom p (suc n) a (m ∷ low ∷ high ∷ rest) ≡ none
+  -- "take out one not there": alone, or behind the one that comes in
+  pub notThere : (n m low high : ℕ) (rest : List ℕ) → m % 4 ≡ 2
+      → ((y : Point) → isIn samePoint y a ≡ true → position (p .grid) y ≡ low + 256 * high → ⊥)
+      → rebuiltFrom p (suc n) a (m ∷ low ∷ high ∷ rest) ≡ none
+  pub notThereBehind : (n m x y low high : ℕ) (rest : List ℕ) → m % 4 ≡ 3
+      → ((y : Point) → isIn samePoint y a ≡ true → position (p .grid) y ≡ low + 256 * high → ⊥)
+      → rebuiltFrom p (suc n) a (m ∷ x ∷ y ∷ low ∷ high ∷ rest) ≡ none
+  -- "change T and U otherwise than one of the seven rules alone does": by the fields that such a change has
+  pub otherwise : (n m : ℕ) (rest : List ℕ) → (isIn eqb m (67 ∷ 83 ∷ 99 ∷ 69 ∷ 101 ∷ 90 ∷ 74 ∷ []) ≡ false) → rebuiltFrom p (suc n) a (m ∷ rest) ≡ none
+  -- "have bit 7 set"
+  pub bitSeven : (n m : ℕ) (rest : List ℕ) → 128 ≤ m → rebuiltFrom p (suc n) a (m ∷ rest) ≡ none
