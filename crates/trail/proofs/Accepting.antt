@@ -11,7 +11,7 @@ use lib.ListN.{length, drop}
 use lib.Seq.{drop-append-seam}
 use native.Mathlib.Nat.{div-add-mod}
 use native.Mathlib.Omega.{arith}
-use Rattle.combinatorics.proofs.Basics.{absurd-bool}
+use Rattle.combinatorics.proofs.Basics.{absurd-bool, true-or-false}
 use Rattle.combinatorics.proofs.Lists.{all-in, in-here}
 use Rattle.combinatorics.specs.Lists.{isIn}
 use Rattle.grid.proofs.Points.{onPoints, in-points, position-in}
@@ -25,11 +25,12 @@ use Rattle.place.specs.Problem.{Problem}
 use Rattle.trail.proofs.Outside.{outside-in}
 use Rattle.trail.proofs.Reading.{begins-self, found, move-of, reads-on, reads-none}
 use Rattle.trail.proofs.Rules.{recorded}
+use Rattle.trail.proofs.RunTrail.{unlabelled-of}
 use Rattle.trail.proofs.SomeLinks.{move-rule}
 use Rattle.trail.proofs.Tells.{begins-with, moves-of, unlabelled-parts, positions-tell}
 use Rattle.trail.specs.Change.{Change, change, outside, ByRule, rule1, rule2, rule3, rule4, rule5, rule6, rule7}
 use Rattle.trail.specs.Demand.{Accepts, Refuses}
-use Rattle.trail.specs.Record.{recordOf, recordBy}
+use Rattle.trail.specs.Record.{recordOf, startRecord, recordBy}
 use Rattle.trail.specs.Trail.{isMove, begins, readOn, goOn, rebuiltFrom, rebuilt}
 
 module _ {p : Problem} (ok : Settled p) (a : Simplex) (ha : isUnlabelledPlace p a ≡ true) where
@@ -230,3 +231,12 @@ module _ {p : Problem} (ok : Settled p) where
       → isUnlabelledPlace p c ≡ true
   from-place zero a ha bytes c e = let q : a ≡ c = cc in rw (← q) ha
   from-place (suc n) a ha bytes c e = let A = accepts ok a ha bytes n c .0 e in from-place n A.next A.place A.behind c A.goesOn
+
+  pub rebuilt-place : (bytes : List ℕ) (number : ℕ) (c : Simplex) → rebuilt p bytes number ≡ some c → isUnlabelledPlace p c ≡ true
+  unfolding rebuilt
+  rebuilt-place bytes zero c e = absurd-bool (cc)
+  rebuilt-place bytes (suc n) c e =
+      ⊎-elim
+      (λ t. from-place n (p .start ∷ []) (unlabelled-of p (p .start ∷ []) (start-place ok)) (drop (length (startRecord p)) bytes) c (rw t at e))
+      (λ f. let z : none ≡ some c = rw f at e in absurd-bool (cc))
+      (true-or-false (begins (startRecord p) bytes))

@@ -1,3 +1,4 @@
+pub mod Worked
 pub mod Outside
 pub mod Rules
 pub mod Tells
@@ -10,4 +11,3 @@ pub mod Shapes
 pub mod SomeLinks
 pub mod OneNext
 pub mod Accepting
-pub mod Worked

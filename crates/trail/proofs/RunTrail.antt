@@ -1,7 +1,7 @@
 -- Over a run's trail the places that a reader rebuilds are the path. In order: the records behind a place; the whole trail; every list of places
 -- that follows the path. Assumes nothing.
 use mathlib.Core.Bool.{Bool, true, false, _&&_, cond}
-use mathlib.Core.List.{List, [], _∷_, _++_, append-assoc}
+use mathlib.Core.List.{List, [], _∷_, _++_, append-assoc, append-nil}
 use mathlib.Core.Option.{none, some}
 use mathlib.Core.Path.{_≡_, refl, sym, ap, _∙_}
 use Prim.Native.Nat.{ℕ, zero, suc, pred, _+_, _*_, _≤_, _<_}
@@ -10,7 +10,7 @@ use lib.Seq.{drop-append-seam, take-append-seam}
 use native.Mathlib.Omega.{arith}
 use Rattle.combinatorics.proofs.Basics.{absurd-bool, and-left}
 use Rattle.grid.specs.Grid.{numBlocks}
-use Rattle.place.specs.Demand.{Settled, Follows, placeAt}
+use Rattle.place.specs.Demand.{Settled, Follows, placeAt, lastPlace}
 use Rattle.place.specs.Places.{Simplex, isUnlabelledPlace, isPlace, within, setT, labelSet}
 use Rattle.place.specs.Problem.{Problem, withLabels}
 use Rattle.trail.proofs.LinkRules.{rule-of-link}
@@ -96,6 +96,16 @@ module _ (p : Problem) (even : length p.grid.divisions ≡ numBlocks p.grid) whe
       more labels zero c = refl
       more labels (suc i) c = without-labels p labels _ (suc i) ∙ start-read (recordsFrom p a s) i
           ∙ ap (λ (b : Simplex). rebuiltFrom p i b (recordsFrom p a s)) (sym e) ∙ no-more a s R i (omega arith)
+
+-- one place more is one record more
+pub one-more : (p : Problem) (s : List Simplex) (b : Simplex) → 0 < length s → trailOf p (s ++ (b ∷ [])) ≡ trailOf p s ++ recordOf p (lastPlace s) b
+unfolding trailOf
+one-more p [] b l = absurd (omega arith)
+one-more p (a ∷ s) b l = ap (λ (x : List ℕ). startRecord p ++ x) (go a s) ∙ sym (append-assoc (startRecord p) (recordsFrom p a s) _)
+  where
+    go : (a : Simplex) (s : List Simplex) → recordsFrom p a (s ++ (b ∷ [])) ≡ recordsFrom p a s ++ recordOf p (lastPlace (a ∷ s)) b
+    go a [] = append-nil (recordOf p a b)
+    go a (c ∷ s) = ap (λ (x : List ℕ). recordOf p a c ++ x) (go c s) ∙ sym (append-assoc (recordOf p a c) (recordsFrom p c s) _)
 
 -- every list of places that follows the path: it may end, or stop at a gap or where a budget is spent
 pub run-trail : {p : Problem} → Settled p → (s : List Simplex) → Follows p s → Trails p s
