@@ -1,11 +1,11 @@
 -- Which records a reader accepts: exactly those of a rule that leads to an unlabelled place. So each of the customer's reasons refuses. Assumes
 -- nothing.
-use mathlib.Core.Bool.{Bool, true, false}
+use mathlib.Core.Bool.{true, false}
 use mathlib.Core.List.{List, [], _∷_, _++_, map}
-use mathlib.Core.Logic.{_⊎_, inl, inr, ⊎-elim, _↔_}
+use mathlib.Core.Logic.{_⊎_, ⊎-elim, _↔_}
 use mathlib.Core.Option.{Option, none, some}
 use mathlib.Core.Path.{_≡_, refl, sym, ap, _∙_}
-use Prim.Native.Nat.{ℕ, zero, suc, _+_, _*_, _%_, _/_, _≤_, _<_}
+use Prim.Native.Nat.{ℕ, zero, suc, _+_, _*_, _%_, _/_, _<_}
 use lib.Dec.{eqb}
 use lib.ListN.{length, drop}
 use lib.Seq.{drop-append-seam}
@@ -23,7 +23,7 @@ use Rattle.place.specs.Path.{sameSimplex}
 use Rattle.place.specs.Places.{Simplex, isUnlabelledPlace}
 use Rattle.place.specs.Problem.{Problem}
 use Rattle.trail.proofs.Outside.{outside-in}
-use Rattle.trail.proofs.Reading.{begins-self, found, move-of, reads-on, reads-none}
+use Rattle.trail.proofs.Reading.{begins-self, found, move-of, reads-on}
 use Rattle.trail.proofs.Rules.{recorded}
 use Rattle.trail.proofs.RunTrail.{unlabelled-of}
 use Rattle.trail.proofs.SomeLinks.{move-rule}

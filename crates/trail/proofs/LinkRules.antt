@@ -1,25 +1,25 @@
 -- Each link is exactly one rule. In order: a set less an index, as lists; U as the zeros of the first point; an exchange; an index that comes into T;
 -- links. Assumes nothing.
-use mathlib.Core.Bool.{Bool, true, false, _&&_, _||_, not}
+use mathlib.Core.Bool.{Bool, true, _&&_, _||_}
 use mathlib.Core.List.{List, [], _∷_, map}
 use mathlib.Core.Logic.{_⊎_, inl, inr, ⊎-elim}
 use mathlib.Core.Path.{_≡_, refl, sym, ap, _∙_, subst}
-use Prim.Native.Nat.{ℕ, zero, suc, _+_, _≤_, _<_}
+use Prim.Native.Nat.{ℕ, zero, suc, _≤_, _<_}
 use borrow.Author.Tests.{eqb-true}
 use lib.Dec.{eqb}
 use lib.ListN.{length, length-map}
 use native.Mathlib.Omega.{arith}
-use Rattle.combinatorics.proofs.Basics.{absurd-bool, true-or-false, before-or-not, and-left, and-right, or-cases, both, false-of}
+use Rattle.combinatorics.proofs.Basics.{absurd-bool, true-or-false, same-or, before-or-not, and-left, and-right, or-cases, both}
 use Rattle.combinatorics.proofs.Lists.{all-in, in-all, same-sound, distinct-filter, onNumbers}
 use Rattle.combinatorics.proofs.Ranges.{distinct-upFrom}
-use Rattle.combinatorics.specs.Lists.{all, filter, isIn, same, distinct}
+use Rattle.combinatorics.specs.Lists.{all, isIn, same, distinct}
 use Rattle.geometry.proofs.Bridge.{chain-place}
-use Rattle.geometry.proofs.Definitions.{Less, coord, zeros}
+use Rattle.geometry.proofs.Definitions.{Less, Place, coord, zeros}
 use Rattle.geometry.proofs.Graph.{larger, swapped-facet, Facet}
 use Rattle.geometry.proofs.LabelledChains.{LabelledChain, Swapped, listAt}
 use Rattle.geometry.proofs.Points.{nth, listAt-map}
 use Rattle.grid.proofs.Points.{onPoints}
-use Rattle.grid.specs.Grid.{Point, at, numIndices, indices, isGridPoint, samePoint, position}
+use Rattle.grid.specs.Grid.{Point, at, numIndices, indices, samePoint, position}
 use Rattle.place.proofs.BlocksOfGrid.{blocksOf, coefficientOf, coord-in, coord-out}
 use Rattle.place.proofs.ChainLinks.{exchanged-swapped, extended-to}
 use Rattle.place.proofs.IndexSets.{T-distinct}
@@ -28,15 +28,14 @@ use Rattle.place.proofs.Meaning.{U-means}
 use Rattle.place.proofs.Positions.{at-in, in-at}
 use Rattle.place.proofs.Theorem.{single}
 use Rattle.place.proofs.ToChain.{inT, inU, coefficientsOf, labelOf, is-at, place-long, place-chain, labelledChain-of}
-use Rattle.place.specs.Coefficients.{coefficients}
 use Rattle.place.specs.Demand.{Settled}
 use Rattle.place.specs.Links.{shared, exchanged, extended, linked}
 use Rattle.place.specs.Places.{Simplex, setT, setU, labelSet, within, isPlace, allLabelled, order}
 use Rattle.place.specs.Problem.{Problem, hasLabel}
-use Rattle.trail.proofs.Outside.{one-of, filter-split, shared-same, outside-count, outside-none, outside-one}
+use Rattle.trail.proofs.Outside.{one-of, filter-split, outside-count, outside-none, outside-one}
 use Rattle.trail.proofs.Rules.{back, inverse}
 use Rattle.trail.proofs.Zeros.{Exchange, beside-zeros, grown-zeros}
-use Rattle.trail.specs.Change.{Change, change, changeBy, outside, ByRule, rule1, rule2, rule3, rule4, rule5}
+use Rattle.trail.specs.Change.{change, changeBy, outside, ByRule, rule1, rule2, rule3, rule4, rule5}
 
 -- two sets of indices, as lists without repeats
 module _ (u v : List ℕ) where
@@ -48,9 +47,9 @@ module _ (u v : List ℕ) where
       → (outside eqb v u ≡ g ∷ []) × (outside eqb u v ≡ [])
   less-one d {g} L = (
     outside-one onNumbers u v d g L.has L.out
-        (λ k m n. ⊎-elim (λ e. e) (λ ne. absurd-bool (sym m ∙ sym (L .rest k ne) ∙ n)) (Rattle.combinatorics.proofs.Basics.same-or k g)),
+        (λ k m n. ⊎-elim (λ e. e) (λ ne. absurd-bool (sym m ∙ sym (L .rest k ne) ∙ n)) (same-or k g)),
     outside-none onNumbers v u
-        (λ k m. ⊎-elim (λ (e : k ≡ g). rw e L.has) (λ ne. sym (L .rest k ne) ∙ m) (Rattle.combinatorics.proofs.Basics.same-or k g)),
+        (λ k m. ⊎-elim (λ (e : k ≡ g). rw e L.has) (λ ne. sym (L .rest k ne) ∙ m) (same-or k g)),
   )
 
 U-distinct : (p : Problem) (s : Simplex) → distinct eqb (setU p.grid s) ≡ true
@@ -98,7 +97,7 @@ module _ {p : Problem} (ok : Settled p) where
     pub U-zeros : (k : ℕ) → inU p s k ≡ zeros (blocksOf p) (inT p s) (listAt (coefficientsOf p s) 0) k
     U-zeros k = both _ _ to of
       where
-        P : Rattle.geometry.proofs.Definitions.Place (blocksOf p) (inT p s) (zeros (blocksOf p) (inT p s) (listAt (coefficientsOf p s) 0)) (length (order p.grid s)) (listAt (coefficientsOf p s)) (at (order p.grid s))
+        P : Place (blocksOf p) (inT p s) (zeros (blocksOf p) (inT p s) (listAt (coefficientsOf p s) 0)) (length (order p.grid s)) (listAt (coefficientsOf p s)) (at (order p.grid s))
         P = chain-place (place-chain ok s h)
 
         to : inU p s k ≡ true → zeros (blocksOf p) (inT p s) (listAt (coefficientsOf p s) 0) k ≡ true
@@ -113,8 +112,11 @@ module _ {p : Problem} (ok : Settled p) where
         of : zeros (blocksOf p) (inT p s) (listAt (coefficientsOf p s) 0) k ≡ true → inU p s k ≡ true
         of z =
             ⊎-elim
-            (λ (l : k < numIndices p.grid). U-means p.grid s k .1 (l, (λ y m. let j = in-at onPoints [] y s m in
-            ap (λ (y : Point). at y k) (sym j.2) ∙ sym (in-coord j.0 j.1 k l) ∙ P .unused k z j.0 (omega (arith, j .1, place-long ok s h)))))
+            (λ (l : k < numIndices p.grid). U-means p.grid s k .1 (
+              l,
+              (λ y m. let j = in-at onPoints [] y s m in
+                  ap (λ (y : Point). at y k) (sym j.2) ∙ sym (in-coord j.0 j.1 k l) ∙ P .unused k z j.0 (omega (arith, j .1, place-long ok s h))),
+            ))
             (λ (l : numIndices p.grid ≤ k).
             absurd (omega (arith, P .unused k z 0 (omega arith), out-coord 0 (omega (arith, place-long ok s h)) k l)))
             (before-or-not k (numIndices p.grid))

@@ -1,6 +1,6 @@
 -- From an unlabelled place at most one move takes a given point out, and at most one brings a given index into T and takes no point out. In order:
 -- over a table, one place through a facet and one above, and none at an end; moves are links over a table; what tells the next place. Assumes nothing.
-use mathlib.Core.Bool.{Bool, true, false}
+use mathlib.Core.Bool.{Bool, true}
 use mathlib.Core.List.{List, [], _∷_, map}
 use mathlib.Core.Logic.{⊎-elim}
 use mathlib.Core.Path.{_≡_, refl, sym, ap, _∙_}
@@ -39,7 +39,7 @@ use Rattle.trail.proofs.Outside.{in-outside, outside-in, outside-count}
 use Rattle.trail.proofs.Shapes.{Shape, exchange, joins, leaves, shape-of, not-empty, points-distinct}
 use Rattle.trail.proofs.SomeLinks.{LinkOver, stays-in, exchange-links, leave-links, join-links, number-of}
 use Rattle.trail.proofs.Tables.{Labelled, some-table, some-index, settled-with}
-use Rattle.trail.proofs.Tells.{Moves, moves-of, unlabelled-parts}
+use Rattle.trail.proofs.Tells.{moves-of, unlabelled-parts}
 use Rattle.trail.specs.Change.{outside}
 use Rattle.trail.specs.Trail.{isMove}
 

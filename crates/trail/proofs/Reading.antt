@@ -1,29 +1,26 @@
 -- What a reader rebuilds. In order: the record at the front of the bytes leads to its place, or to none; the table is not looked at; over a run's
 -- trail the places are the path. Assumes nothing.
-use mathlib.Core.Bool.{Bool, true, false, _&&_, not, cond}
-use mathlib.Core.List.{List, [], _∷_, _++_, map, append-assoc}
-use mathlib.Core.Logic.{⊎-elim}
+use mathlib.Core.Bool.{Bool, true, _&&_, not}
+use mathlib.Core.List.{List, [], _∷_, _++_}
 use mathlib.Core.Option.{Option, none, some}
 use mathlib.Core.Path.{_≡_, refl, sym, ap, _∙_}
-use Prim.Native.Nat.{ℕ, zero, suc, pred, _+_, _*_, _≤_, _<_}
-use borrow.Author.Tests.{eq-eqb, le-leb}
-use lib.Dec.{eqb, leb}
-use lib.ListN.{length, drop, take, length-append}
-use lib.Seq.{drop-append-seam, take-append-seam}
+use Prim.Native.Nat.{ℕ, zero, suc, _+_, _≤_}
+use borrow.Author.Tests.{le-leb}
+use lib.ListN.{length, drop}
 use native.Mathlib.Omega.{arith}
-use Rattle.combinatorics.proofs.Basics.{absurd-bool, true-or-false, and-left, and-right, and-both, false-of}
-use Rattle.combinatorics.proofs.Lists.{in-here, in-later, in-filter, filter-in, filter-cong, eqb-self}
+use Rattle.combinatorics.proofs.Basics.{absurd-bool, and-left, and-right, and-both}
+use Rattle.combinatorics.proofs.Lists.{in-here, in-filter, filter-in, filter-cong, eqb-self}
 use Rattle.combinatorics.specs.Lists.{all, filter, isIn, sublists}
 use Rattle.grid.specs.Grid.{Point, numBlocks, isGridPoint, points}
 use Rattle.place.proofs.ListOfPlaces.{sets-all}
 use Rattle.place.proofs.Simplices.{onSimplices}
 use Rattle.place.specs.Coefficients.{coefficients}
 use Rattle.place.specs.Path.{sameSimplex}
-use Rattle.place.specs.Places.{Simplex, setT, setU, isUnlabelledPlace, insert, inOrder}
+use Rattle.place.specs.Places.{Simplex, setT, isUnlabelledPlace, insert, inOrder}
 use Rattle.place.specs.Problem.{Problem, withLabels}
 use Rattle.trail.proofs.Rules.{rules-are}
-use Rattle.trail.proofs.Tells.{Moves, moves-of, unlabelled-parts, record-tells}
-use Rattle.trail.specs.Change.{Change, change, rules, ByRule, rule1, rule2, rule3, rule4, rule5, rule6, rule7, none as isNone, one}
+use Rattle.trail.proofs.Tells.{moves-of, unlabelled-parts, record-tells}
+use Rattle.trail.specs.Change.{Change, change, ByRule, rule1, rule2, rule3, rule4, rule5, rule6, rule7, none as isNone}
 use Rattle.trail.specs.Record.{encoded, fields, recordOf, startRecord}
 use Rattle.trail.specs.Trail.{isMove, begins, unlabelledPlaces, readOn, goOn, rebuiltFrom, rebuilt}
 

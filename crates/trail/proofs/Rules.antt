@@ -1,14 +1,9 @@
 -- The seven rules exclude each other; the bytes of each one's record; the rule of the change back. Assumes nothing.
-use mathlib.Core.Bool.{Bool, true, false, _&&_, not}
-use mathlib.Core.List.{List, [], _∷_}
-use mathlib.Core.Logic.{⊎-elim}
-use mathlib.Core.Path.{_≡_, refl, sym, ap, _∙_}
+use mathlib.Core.List.{[], _∷_}
+use mathlib.Core.Path.{_≡_, ap}
 use Prim.Native.Nat.{ℕ, zero, suc, _<_, _≤_}
-use borrow.Author.Tests.{eqb-true}
-use lib.Dec.{eqb}
 use lib.ListN.{length}
 use native.Mathlib.Omega.{arith}
-use Rattle.combinatorics.proofs.Basics.{and-left, and-right}
 use Rattle.combinatorics.proofs.Lists.{eqb-self}
 use Rattle.trail.specs.Change.{Change, rules, changeBy, ByRule, rule1, rule2, rule3, rule4, rule5, rule6, rule7}
 use Rattle.trail.specs.Record.{fields, encoded, recordBy}

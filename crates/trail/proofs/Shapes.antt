@@ -1,18 +1,18 @@
 -- What a move does, by its points and T: an exchange keeps T, a point more is an index more in T, a point less an index less. Assumes nothing.
-use mathlib.Core.Bool.{Bool, true, false, _&&_}
-use mathlib.Core.List.{List, [], _∷_, map}
+use mathlib.Core.Bool.{true, false}
+use mathlib.Core.List.{List, [], _∷_}
 use mathlib.Core.Logic.{_⊎_, inl, inr, ⊎-elim}
-use mathlib.Core.Path.{_≡_, refl, sym, ap, _∙_}
-use Prim.Native.Nat.{ℕ, zero, suc, _+_, _≤_, _<_}
+use mathlib.Core.Path.{_≡_, sym, ap, _∙_}
+use Prim.Native.Nat.{ℕ, suc, _+_, _≤_, _<_}
 use borrow.Author.Tests.{eqb-true}
 use lib.Dec.{eqb}
 use lib.ListN.{length, length-map}
 use native.Mathlib.Omega.{arith}
-use Rattle.combinatorics.proofs.Basics.{absurd-bool, true-or-false, same-or, and-left, and-right, and-both, both}
+use Rattle.combinatorics.proofs.Basics.{absurd-bool, true-or-false, and-left, and-right, and-both, both}
 use Rattle.combinatorics.proofs.Lists.{in-all, in-here, in-cases, distinct-filter, filter-cong, pigeon, onNumbers}
 use Rattle.combinatorics.proofs.Ranges.{distinct-upFrom}
 use Rattle.combinatorics.proofs.Rising.{rising-distinct}
-use Rattle.combinatorics.specs.Lists.{all, filter, isIn, distinct}
+use Rattle.combinatorics.specs.Lists.{filter, isIn, distinct}
 use Rattle.geometry.proofs.Definitions.{Less}
 use Rattle.grid.proofs.Points.{onPoints}
 use Rattle.grid.specs.Grid.{Point, numIndices, indices, samePoint, position}
@@ -22,11 +22,11 @@ use Rattle.place.proofs.Positions.{set-of}
 use Rattle.place.proofs.ToChain.{inT, place-long}
 use Rattle.place.specs.Coefficients.{coefficientSum}
 use Rattle.place.specs.Demand.{Settled}
-use Rattle.place.specs.Places.{Simplex, setT, setU, labelSet, within, order, isUnlabelledPlace, isPlace}
+use Rattle.place.specs.Places.{Simplex, setT, labelSet, order, isUnlabelledPlace, isPlace}
 use Rattle.place.specs.Problem.{Problem, withLabels}
 use Rattle.trail.proofs.Outside.{one-of, none-of, in-outside, outside-in, outside-count}
 use Rattle.trail.proofs.Reading.{T-alike}
-use Rattle.trail.proofs.Tables.{Labelled, some-table, some-index, in-order}
+use Rattle.trail.proofs.Tables.{some-table, some-index, in-order}
 use Rattle.trail.proofs.Tells.{Moves, unlabelled-parts}
 use Rattle.trail.specs.Change.{Change, change, rules, outside, keeps, gains, loses}
 

@@ -1,18 +1,18 @@
 -- The reader's checks leave exactly the links over some table. In order: sets of labels; over a table where the points of a place but one carry T, a
 -- move that takes that point out is a link, and so is one by which that point's label joins T; each move is a link over some table, and each
 -- link is a move. Assumes nothing.
-use mathlib.Core.Bool.{Bool, true, false, _&&_, _||_}
-use mathlib.Core.List.{List, [], _∷_, map}
+use mathlib.Core.Bool.{true, _||_}
+use mathlib.Core.List.{List, [], _∷_}
 use mathlib.Core.Logic.{⊎-elim}
-use mathlib.Core.Path.{_≡_, refl, sym, ap, _∙_}
-use Prim.Native.Nat.{ℕ, suc, _+_, _≤_, _<_}
+use mathlib.Core.Path.{_≡_, sym, ap, _∙_}
+use Prim.Native.Nat.{ℕ, suc, _+_, _<_}
 use borrow.Author.Tests.{eq-eqb}
 use lib.Dec.{eqb}
 use lib.ListN.{length}
 use native.Mathlib.Omega.{arith}
 use Rattle.combinatorics.proofs.Basics.{absurd-bool, true-or-false, same-or, and-both, or-left, or-right, both}
 use Rattle.combinatorics.proofs.Lists.{in-here, in-cases, in-all, in-filter, filter-cong, same-self, eqb-self, onNumbers}
-use Rattle.combinatorics.specs.Lists.{all, filter, isIn, same}
+use Rattle.combinatorics.specs.Lists.{all, isIn, same}
 use Rattle.geometry.proofs.Definitions.{Less}
 use Rattle.geometry.proofs.Points.{nth}
 use Rattle.grid.proofs.Points.{onPoints}
@@ -22,7 +22,7 @@ use Rattle.place.proofs.Positions.{set-of, at-in, in-at, same-at}
 use Rattle.place.proofs.ToChain.{inT}
 use Rattle.place.specs.Demand.{Settled, Accepted}
 use Rattle.place.specs.Links.{shared, exchanged, extended, linked}
-use Rattle.place.specs.Places.{Simplex, setT, labelSet, within, isUnlabelledPlace, isPlace, allLabelled}
+use Rattle.place.specs.Places.{Simplex, setT, labelSet, isUnlabelledPlace, isPlace, allLabelled}
 use Rattle.place.specs.Problem.{Problem, label, withLabels}
 use Rattle.trail.proofs.LinkRules.{rule-of-link}
 use Rattle.trail.proofs.Outside.{filter-split, in-outside, outside-in, outside-count}

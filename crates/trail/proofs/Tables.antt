@@ -1,30 +1,30 @@
 -- A label table that gives the points of a set the labels of a list. So an unlabelled place is a place over some table, with all of T carried by its
 -- points but one, and any index as that one's label. Assumes nothing.
-use mathlib.Core.Bool.{Bool, true, false, _&&_, cond}
+use mathlib.Core.Bool.{true, false, cond}
 use mathlib.Core.List.{List, [], _∷_, map}
 use mathlib.Core.Logic.{_⊎_, inl, inr, ⊎-elim}
 use mathlib.Core.Path.{_≡_, refl, sym, ap, _∙_}
 use Prim.Native.Nat.{ℕ, zero, suc, _-_, _≤_, _<_}
-use borrow.Author.Tests.{eqb-true, leb-true, le-leb}
+use borrow.Author.Tests.{eqb-true, le-leb}
 use lib.Dec.{eqb, leb}
 use lib.ListN.{length, getD, length-map}
 use native.Mathlib.Omega.{arith}
 use Rattle.combinatorics.proofs.Basics.{absurd-bool, true-or-false, and-left, and-right, and-both, false-of, before-or-not}
 use Rattle.combinatorics.proofs.EditsInsert.{length-insertAt, insertAt-before, insertAt-here, insertAt-behind}
-use Rattle.combinatorics.proofs.Lists.{all-in, in-all, in-here, in-later, in-cases, in-map, map-in, distinct-out, distinct-tail, onNumbers}
+use Rattle.combinatorics.proofs.Lists.{all-in, in-all, in-here, in-later, in-cases, map-in, distinct-out, distinct-tail, onNumbers}
 use Rattle.combinatorics.proofs.Rising.{rising-distinct}
 use Rattle.combinatorics.specs.Edits.{insertAt}
 use Rattle.combinatorics.specs.Lists.{all, isIn, distinct, occurrences}
 use Rattle.geometry.proofs.Points.{nth}
 use Rattle.grid.proofs.Round.{block-fits}
 use Rattle.grid.proofs.Points.{onPoints, point-sound, point-self, in-points, position-in}
-use Rattle.grid.specs.Grid.{Grid, Point, at, numIndices, numBlocks, isGridPoint, samePoint, points, position}
+use Rattle.grid.specs.Grid.{Grid, Point, at, numIndices, isGridPoint, samePoint, points, position}
 use Rattle.place.proofs.Meaning.{T-means, labels-mean}
 use Rattle.place.proofs.Positions.{at-in, in-at, occurs-in, order-long}
 use Rattle.place.proofs.ToChain.{size-positive}
 use Rattle.place.specs.Coefficients.{coefficientSum}
 use Rattle.place.specs.Demand.{Settled, Accepted}
-use Rattle.place.specs.Places.{Simplex, setT, labelSet, within, order, isUnlabelledPlace, isPlace, allLabelled, usesEachOnce}
+use Rattle.place.specs.Places.{Simplex, setT, labelSet, within, order, isUnlabelledPlace, isPlace, allLabelled}
 use Rattle.place.specs.Problem.{Problem, label, hasLabel, withLabels}
 use Rattle.trail.proofs.Reading.{T-alike, place-alike}
 use Rattle.trail.proofs.Tells.{at-position, unlabelled-parts}
@@ -223,8 +223,7 @@ module _ {p : Problem} (ok : Settled p) (s : Simplex) (h : isUnlabelledPlace p s
       ⊎-elim
       (λ (b : j < i). let c : j < length o = omega (arith, long) in
       (getD o j 0, o-in-T _ (at-in onNumbers 0 o j c), at-point j l ∙ insertAt-before 0 i (suc x) (map suc o) j short b ∙ suc-at o j c))
-      (λ (b : i ≤ j). let e : suc (j - 1) ≡ j = omega (arith, n) in let c : j - 1 < length o = omega (arith, long, n) in
-      (
+      (λ (b : i ≤ j). let e : suc (j - 1) ≡ j = omega (arith, n) in let c : j - 1 < length o = omega (arith, long, n) in (
         getD o (j - 1) 0,
         o-in-T _ (at-in onNumbers 0 o (j - 1) c),
         at-point j l ∙ ap (λ (m : ℕ). getD ls m 0) (sym e) ∙ insertAt-behind 0 i (suc x) (map suc o) (j - 1) short (omega (arith, n)) ∙ suc-at o (j - 1) c,

@@ -1,15 +1,15 @@
 -- U along a link of the geometry, U being the zeros of the first point outside T: where T is kept, U is kept, gains an index or loses one; where an
 -- index comes into T, U is kept or loses that index. Assumes nothing.
-use mathlib.Core.Bool.{Bool, true, false, not, _&&_, _||_}
+use mathlib.Core.Bool.{Bool, true, false, _&&_, _||_}
 use mathlib.Core.Logic.{_⊎_, inl, inr, ⊎-elim}
 use mathlib.Core.Path.{_≡_, refl, sym, ap, _∙_}
 use Prim.Native.Nat.{ℕ, suc, _≤_}
-use borrow.Author.Tests.{eqb-true, eq-eqb, ne-eqb}
+use borrow.Author.Tests.{eq-eqb, ne-eqb}
 use lib.Dec.{eqb}
 use native.Mathlib.Omega.{arith}
-use Rattle.combinatorics.proofs.Basics.{absurd-bool, true-or-false, same-or, and-left, and-right}
+use Rattle.combinatorics.proofs.Basics.{true-or-false, same-or}
 use Rattle.geometry.proofs.Bridge.{chain-place}
-use Rattle.geometry.proofs.Definitions.{Blocks, Chain, BackOutside, Less, Beside, Grown, coord, zeros}
+use Rattle.geometry.proofs.Definitions.{Blocks, Chain, Goes, BackOutside, Less, Beside, Grown, zeros}
 use Rattle.geometry.proofs.FirstLeaves
 use Rattle.geometry.proofs.Grow.{grown-at}
 use Rattle.geometry.proofs.Unique.{kind, goes-last, goes-first, stays}
@@ -23,7 +23,7 @@ module _ {R : Blocks} {T : ℕ → Bool} {s : ℕ} {p : ℕ → ℕ → ℕ} {o 
   next-zeros : ((k : ℕ) → zeros R T (p 1) k ≡ zeros R T (p 0) k) ⊎ ((g : ℕ) × Less (zeros R T (p 1)) (zeros R T (p 0)) g)
   next-zeros = go (chain-place K .step 0 (omega arith))
     where
-      go : (n : ℕ) × Rattle.geometry.proofs.Definitions.Goes R (zeros R T (p 0)) (o 0) (p 0) (p 1) n
+      go : (n : ℕ) × Goes R (zeros R T (p 0)) (o 0) (p 0) (p 1) n
           → ((k : ℕ) → zeros R T (p 1) k ≡ zeros R T (p 0) k) ⊎ ((g : ℕ) × Less (zeros R T (p 1)) (zeros R T (p 0)) g)
       go w = ⊎-elim joined (λ (f : J ≡ false). inl (λ k. N k ∙ (rw f (and-none k)))) (true-or-false J)
         where
@@ -43,11 +43,14 @@ module _ {R : Blocks} {T : ℕ → Bool} {s : ℕ} {p : ℕ → ℕ → ℕ} {o 
           and-none k = ⊎-elim (λ t. rw t) (λ f. rw f) (true-or-false (eqb k b))
 
           joined : J ≡ true → ((k : ℕ) → zeros R T (p 1) k ≡ zeros R T (p 0) k) ⊎ ((g : ℕ) × Less (zeros R T (p 1)) (zeros R T (p 0)) g)
-          joined j = inr (b, record {
-            has = N b ∙ (rw (j, eq-eqb b b refl));
-            out = w .1 .stops;
-            rest = λ k n. sym (N k ∙ (rw (ne-eqb k b n)));
-          })
+          joined j = inr (
+            b,
+            record {
+              has = N b ∙ (rw (j, eq-eqb b b refl));
+              out = w .1 .stops;
+              rest = λ k n. sym (N k ∙ (rw (ne-eqb k b n)));
+            },
+          )
 
 module _ {R : Blocks} {T : ℕ → Bool} {s : ℕ} {p : ℕ → ℕ → ℕ} {o : ℕ → ℕ} (K : Chain R T (suc s) p o) where
   -- a point is exchanged

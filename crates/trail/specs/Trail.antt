@@ -1,18 +1,16 @@
 -- Request 03: what a reader rebuilds from a trail, and what holds over a run's trail. Assumes nothing.
 use mathlib.Core.Bool.{Bool, true, false, not, _&&_, cond}
-use mathlib.Core.List.{List, [], _∷_, _++_}
+use mathlib.Core.List.{List, [], _∷_}
 use mathlib.Core.Option.{Option, none, some}
-use mathlib.Core.Path.{_≡_}
-use Prim.Native.Nat.{ℕ, zero, suc, pred, _+_, _*_, _≤_, _<_}
+use Prim.Native.Nat.{ℕ, zero, suc}
 use lib.Dec.{eqb, leb}
 use lib.ListN.{length, drop}
 use Rattle.combinatorics.specs.Lists.{filter, sublists}
 use Rattle.grid.specs.Grid.{points}
-use Rattle.place.specs.Demand.{placeAt}
 use Rattle.place.specs.Places.{Simplex, setT, setU, isUnlabelledPlace, inOrder}
 use Rattle.place.specs.Problem.{Problem}
-use Rattle.trail.specs.Change.{Change, change, rules, none as isNone, one}
-use Rattle.trail.specs.Record.{recordOf, startRecord, trailOf}
+use Rattle.trail.specs.Change.{change, rules, none as isNone, one}
+use Rattle.trail.specs.Record.{recordOf, startRecord}
 
 -- One point comes in, one goes out, or both: a record has room for one of each, and must not "change no point". The record does not "break the first
 -- two conditions of a place", nor "change T and U otherwise than one of the seven rules alone does".
