@@ -20,7 +20,39 @@ use Rattle.place.specs.Links.{shared, exchanged, extended, linked}
 use Rattle.place.specs.Places.{Simplex, setT, setU, labelSet, within, isPlace, isUnlabelledPlace, eachGoesToNext, usesEachOnce, everyBlockFree, order}
 use Rattle.place.specs.Problem.{Problem, label}
 
--- the conditions of a place, by name
+-- the conditions of a place that do not look at labels, by name
+pub record UnlabelledParts (p : Problem) (s : Simplex) : Type 0 where
+  pub gridPoints : all (isGridPoint p.grid) s ≡ true
+  pub inOrder : rising (map (coefficientSum p) s) ≡ true
+  pub steps : eachGoesToNext p.grid (setU p.grid s) s ≡ true
+  pub once : usesEachOnce (setT p s) (order p.grid s) ≡ true
+  pub free : everyBlockFree p.grid (setT p s) (setU p.grid s) ≡ true
+
+pub unlabelled-parts : (p : Problem) (s : Simplex) → isUnlabelledPlace p s ≡ true → UnlabelledParts p s
+unfolding isUnlabelledPlace
+unlabelled-parts p s h =
+    let g = p .grid in
+    let a : Bool = all (isGridPoint g) s in
+    let b : Bool = rising (map (coefficientSum p) s) in
+    let c : Bool = eachGoesToNext g (setU g s) s in
+    let d : Bool = usesEachOnce (setT p s) (order g s) in
+    let e : Bool = everyBlockFree g (setT p s) (setU g s) in
+    let k1 : (a && b && c && d) ≡ true = and-left _ e h in
+    let k2 : (a && b && c) ≡ true = and-left (a && b && c) d k1 in
+    let k3 : (a && b) ≡ true = and-left (a && b) c k2 in
+    record {
+      gridPoints = and-left a b k3;
+      inOrder = and-right a b k3;
+      steps = and-right (a && b) c k2;
+      once = and-right (a && b && c) d k1;
+      free = and-right (a && b && c && d) e h;
+    }
+
+pub unlabelled-of : (p : Problem) (s : Simplex) → isPlace p s ≡ true → isUnlabelledPlace p s ≡ true
+unfolding isPlace
+unlabelled-of p s h = and-left (isUnlabelledPlace p s) (within (setT p s) (labelSet p s)) h
+
+-- and all of them
 pub record Parts (p : Problem) (s : Simplex) : Type 0 where
   pub gridPoints : all (isGridPoint p.grid) s ≡ true
   pub inOrder : rising (map (coefficientSum p) s) ≡ true
@@ -30,26 +62,16 @@ pub record Parts (p : Problem) (s : Simplex) : Type 0 where
   pub labelled : within (setT p s) (labelSet p s) ≡ true
 
 pub parts : (p : Problem) (s : Simplex) → isPlace p s ≡ true → Parts p s
-unfolding isPlace isUnlabelledPlace
+unfolding isPlace
 parts p s h =
-    let g = p .grid in
-    let a : Bool = all (isGridPoint g) s in
-    let b : Bool = rising (map (coefficientSum p) s) in
-    let c : Bool = eachGoesToNext g (setU g s) s in
-    let d : Bool = usesEachOnce (setT p s) (order g s) in
-    let e : Bool = everyBlockFree g (setT p s) (setU g s) in
-    let f : Bool = within (setT p s) (labelSet p s) in
-    let k : (a && b && c && d && e) ≡ true = and-left _ f h in
-    let k1 : (a && b && c && d) ≡ true = and-left _ e k in
-    let k2 : (a && b && c) ≡ true = and-left (a && b && c) d k1 in
-    let k3 : (a && b) ≡ true = and-left (a && b) c k2 in
+    let k = unlabelled-parts p s (unlabelled-of p s h) in
     record {
-      gridPoints = and-left a b k3;
-      inOrder = and-right a b k3;
-      steps = and-right (a && b) c k2;
-      once = and-right (a && b && c) d k1;
-      free = and-right (a && b && c && d) e k;
-      labelled = and-right (a && b && c && d && e) f h;
+      gridPoints = k .gridPoints;
+      inOrder = k .inOrder;
+      steps = k .steps;
+      once = k .once;
+      free = k .free;
+      labelled = and-right (isUnlabelledPlace p s) (within (setT p s) (labelSet p s)) h;
     }
 
 module _ (p : Problem) where

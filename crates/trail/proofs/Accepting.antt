@@ -18,6 +18,7 @@ use Rattle.grid.proofs.Points.{onPoints, in-points, position-in}
 use Rattle.grid.specs.Grid.{Point, isGridPoint, position, samePoint, points}
 use Rattle.place.proofs.Simplices.{onSimplices}
 use Rattle.place.proofs.Start.{start-place}
+use Rattle.place.proofs.LinkSymmetry.{unlabelled-of, unlabelled-parts}
 use Rattle.place.specs.Demand.{Settled}
 use Rattle.place.specs.Path.{sameSimplex}
 use Rattle.place.specs.Places.{Simplex, isUnlabelledPlace}
@@ -25,9 +26,8 @@ use Rattle.place.specs.Problem.{Problem}
 use Rattle.trail.proofs.Outside.{outside-in}
 use Rattle.trail.proofs.Reading.{begins-self, found, move-of, reads-on}
 use Rattle.trail.proofs.Rules.{recorded}
-use Rattle.trail.proofs.RunTrail.{unlabelled-of}
 use Rattle.trail.proofs.SomeLinks.{move-rule}
-use Rattle.trail.proofs.Tells.{begins-with, moves-of, unlabelled-parts, positions-tell}
+use Rattle.trail.proofs.Tells.{begins-with, moves-of, positions-tell}
 use Rattle.trail.specs.Change.{Change, change, outside, ByRule, rule1, rule2, rule3, rule4, rule5, rule6, rule7}
 use Rattle.trail.specs.Demand.{Accepts, Refuses}
 use Rattle.trail.specs.Record.{recordOf, startRecord, recordBy}
@@ -39,7 +39,7 @@ module _ {p : Problem} (ok : Settled p) (a : Simplex) (ha : isUnlabelledPlace p 
   by-rule b m = recorded m
 
   pub accepts : (bytes : List ℕ) (n : ℕ) (c : Simplex) → (rebuiltFrom p (suc n) a bytes ≡ some c) ↔ Accepts p a bytes n c
-  accepts bytes n c = (to (readOn p a bytes) (λ b k. found p ok.sameNumber a (unlabelled-parts p a ha .0) bytes b k), of)
+  accepts bytes n c = (to (readOn p a bytes) (λ b k. found p ok.sameNumber a (unlabelled-parts p a ha .gridPoints) bytes b k), of)
     where
       rest : Simplex → Option Simplex
       rest b = rebuiltFrom p n b (drop (length (recordOf p a b)) bytes)
@@ -65,7 +65,7 @@ module _ {p : Problem} (ok : Settled p) (a : Simplex) (ha : isUnlabelledPlace p 
           let b = A .next in
           let e : bytes ≡ recordOf p a b ++ A .behind = A .stands ∙ ap (λ (r : List ℕ). r ++ A .behind) (sym (by-rule b A.byRule)) in
           ap (rebuiltFrom p (suc n) a) e
-          ∙ reads-on p ok.sameNumber a (unlabelled-parts p a ha .0) (recordOf p a b ++ A .behind) b (move-of p a b A.place A.byRule)
+          ∙ reads-on p ok.sameNumber a (unlabelled-parts p a ha .gridPoints) (recordOf p a b ++ A .behind) b (move-of p a b A.place A.byRule)
           (begins-self (recordOf p a b) A.behind) n
           ∙ ap (rebuiltFrom p n b) (drop-append-seam (recordOf p a b) A.behind) ∙ A .goesOn
 
@@ -169,7 +169,7 @@ module _ {p : Problem} (ok : Settled p) (a : Simplex) (ha : isUnlabelledPlace p 
   in-from b x hb e =
       let w = one-mapped (position p.grid) (outside samePoint a b) x e in
       let v = outside-in onPoints w.0 b a w.1 in
-      (w .0, all-in onPoints (isGridPoint p.grid) b (unlabelled-parts p b hb .0) w.0 v.0, v .1, w .2)
+      (w .0, all-in onPoints (isGridPoint p.grid) b (unlabelled-parts p b hb .gridPoints) w.0 v.0, v .1, w .2)
 
   out-from : (b : Simplex) (x : ℕ) → change p a b .pointsOut ≡ x ∷ [] → (y : Point) × (isIn samePoint y a ≡ true) × (position p.grid y ≡ x)
   unfolding change
@@ -183,7 +183,7 @@ module _ {p : Problem} (ok : Settled p) (a : Simplex) (ha : isUnlabelledPlace p 
     noPoint = λ n m rest o. refuse (m ∷ rest) n (λ c A. some-point A.byRule (ap (λ (k : ℕ). k % 4) (sym (map-is A.byRule m rest A.behind A.stands)) ∙ o));
     alreadyThere = λ n m low high rest y o i e. refuse (m ∷ low ∷ high ∷ rest) n (λ c A.
         let w = come A o in
-        let same : y ≡ w .0 = at-one (position-same y w.0 (all-in onPoints (isGridPoint p.grid) a (unlabelled-parts p a ha .0) y i) w.1 (e ∙ sym w.3)) in
+        let same : y ≡ w .0 = at-one (position-same y w.0 (all-in onPoints (isGridPoint p.grid) a (unlabelled-parts p a ha .gridPoints) y i) w.1 (e ∙ sym w.3)) in
         absurd-bool (sym i ∙ ap (λ (z : Point). isIn samePoint z a) same ∙ w .2));
     offTheTable = λ n m low high rest o l. refuse (m ∷ low ∷ high ∷ rest) n (λ c A.
         let w = come A o in

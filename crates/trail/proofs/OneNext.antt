@@ -26,7 +26,7 @@ use Rattle.grid.specs.Grid.{Point, at, numBlocks, firstIndex, samePoint}
 use Rattle.place.proofs.BlocksOfGrid.{blocksOf, pointOf, coefficientOf}
 use Rattle.place.proofs.ChainEnds.{complete-to, facet-end}
 use Rattle.place.proofs.ChainLinks.{link-of}
-use Rattle.place.proofs.LinkSymmetry.{parts}
+use Rattle.place.proofs.LinkSymmetry.{parts, unlabelled-parts}
 use Rattle.place.proofs.Positions.{at-in, in-at, same-at}
 use Rattle.place.proofs.Meaning.{T-means}
 use Rattle.place.proofs.ToChain.{inT, coefficientsOf, labelOf, place-long, labelledChain-of, pointsOf-coefficientsOf}
@@ -39,7 +39,7 @@ use Rattle.trail.proofs.Outside.{in-outside, outside-in, outside-count}
 use Rattle.trail.proofs.Shapes.{Shape, exchange, joins, leaves, shape-of, not-empty, points-distinct}
 use Rattle.trail.proofs.SomeLinks.{LinkOver, stays-in, exchange-links, leave-links, join-links, number-of}
 use Rattle.trail.proofs.Tables.{Labelled, some-table, some-index, settled-with}
-use Rattle.trail.proofs.Tells.{moves-of, unlabelled-parts}
+use Rattle.trail.proofs.Tells.{moves-of}
 use Rattle.trail.specs.Change.{outside}
 use Rattle.trail.specs.Trail.{isMove}
 
@@ -164,7 +164,7 @@ module _ {p : Problem} (ok : Settled p) (a : Simplex) (ha : isUnlabelledPlace p 
   -- over a table where the points but one carry T
   module _ {i x : ℕ} (il : i < length a) {labels : List ℕ} (L : Labelled p a i x labels) where
     all-known : allLabelled (withLabels p labels) a ≡ true
-    all-known = L .known a (unlabelled-parts p a ha .0)
+    all-known = L .known a (unlabelled-parts p a ha .gridPoints)
 
     others : (b : Simplex) → outside samePoint b a ≡ nth a i ∷ [] → (j : ℕ) → j < length a → (j ≡ i → ⊥) → isIn samePoint (nth a j) b ≡ true
     others b e j l n = stays-in a b e (nth a j) (at-in onPoints [] a j l) (λ q. n (same-at onPoints [] a (points-distinct p a ha) j i l il q))

@@ -14,12 +14,13 @@ use Rattle.combinatorics.specs.Lists.{all, filter, isIn, sublists}
 use Rattle.grid.specs.Grid.{Point, numBlocks, isGridPoint, points}
 use Rattle.place.proofs.ListOfPlaces.{sets-all}
 use Rattle.place.proofs.Simplices.{onSimplices}
+use Rattle.place.proofs.LinkSymmetry.{unlabelled-parts}
 use Rattle.place.specs.Coefficients.{coefficients}
 use Rattle.place.specs.Path.{sameSimplex}
 use Rattle.place.specs.Places.{Simplex, setT, isUnlabelledPlace, insert, inOrder}
 use Rattle.place.specs.Problem.{Problem, withLabels}
 use Rattle.trail.proofs.Rules.{rules-are}
-use Rattle.trail.proofs.Tells.{moves-of, unlabelled-parts, record-tells}
+use Rattle.trail.proofs.Tells.{moves-of, record-tells}
 use Rattle.trail.specs.Change.{Change, change, ByRule, rule1, rule2, rule3, rule4, rule5, rule6, rule7, none as isNone}
 use Rattle.trail.specs.Record.{encoded, fields, recordOf, startRecord}
 use Rattle.trail.specs.Trail.{isMove, begins, unlabelledPlaces, readOn, goOn, rebuiltFrom, rebuilt}
@@ -70,7 +71,7 @@ module _ (p : Problem) (even : length p.grid.divisions ≡ numBlocks p.grid) (a 
       let h = moves-of p a b m .place in
       let k = unlabelled-parts p b h in
       in-filter onSimplices fits b (unlabelledPlaces p)
-      (in-filter onSimplices (isUnlabelledPlace p) b (sublists (inOrder p (points p.grid))) (sets-all p even b k.0 k.1) h)
+      (in-filter onSimplices (isUnlabelledPlace p) b (sublists (inOrder p (points p.grid))) (sets-all p even b k.gridPoints k.inOrder) h)
       (and-both _ _ m e)
 
   -- the record leads to its place,

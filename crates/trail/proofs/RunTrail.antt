@@ -8,23 +8,19 @@ use Prim.Native.Nat.{ℕ, zero, suc, _+_, _*_, _≤_, _<_}
 use lib.ListN.{length, length-append}
 use lib.Seq.{drop-append-seam, take-append-seam}
 use native.Mathlib.Omega.{arith}
-use Rattle.combinatorics.proofs.Basics.{absurd-bool, and-left}
+use Rattle.combinatorics.proofs.Basics.{absurd-bool}
 use Rattle.grid.specs.Grid.{numBlocks}
+use Rattle.place.proofs.LinkSymmetry.{unlabelled-of, unlabelled-parts}
 use Rattle.place.specs.Demand.{Settled, Follows, placeAt, lastPlace}
-use Rattle.place.specs.Places.{Simplex, isUnlabelledPlace, isPlace, within, setT, labelSet}
+use Rattle.place.specs.Places.{Simplex, isUnlabelledPlace}
 use Rattle.place.specs.Problem.{Problem, withLabels}
 use Rattle.trail.proofs.LinkRules.{rule-of-link}
 use Rattle.trail.proofs.Reading.{begins-self, move-of, reads-on, reads-none, without-labels}
 use Rattle.trail.proofs.Rules.{rules-are, record-short}
-use Rattle.trail.proofs.Tells.{unlabelled-parts}
 use Rattle.trail.specs.Change.{change, ByRule}
 use Rattle.trail.specs.Demand.{Trails}
 use Rattle.trail.specs.Record.{recordOf, startRecord, recordsFrom, trailOf}
 use Rattle.trail.specs.Trail.{begins, rebuiltFrom, rebuilt}
-
-pub unlabelled-of : (p : Problem) (s : Simplex) → isPlace p s ≡ true → isUnlabelledPlace p s ≡ true
-unfolding isPlace
-unlabelled-of p s h = and-left (isUnlabelledPlace p s) (within (setT p s) (labelSet p s)) h
 
 -- places, each reached from the one before by a rule
 pub record ByRules (p : Problem) (s : List Simplex) : Type 0 where
@@ -38,7 +34,7 @@ module _ (p : Problem) (even : length p.grid.divisions ≡ numBlocks p.grid) whe
   one-read : {a b : Simplex} {s : List Simplex} → ByRules p (a ∷ b ∷ s) → (x : List ℕ) (n : ℕ)
       → rebuiltFrom p (suc n) a (recordOf p a b ++ x) ≡ rebuiltFrom p n b x
   one-read {a} {b} R x n =
-      reads-on p even a (unlabelled-parts p a (R .places 0 (omega arith)) .0) (recordOf p a b ++ x) b
+      reads-on p even a (unlabelled-parts p a (R .places 0 (omega arith)) .gridPoints) (recordOf p a b ++ x) b
       (move-of p a b (R .places 1 (omega arith)) (R .byRule 0 (omega arith) .1)) (begins-self (recordOf p a b) x) n
       ∙ ap (rebuiltFrom p n b) (drop-append-seam (recordOf p a b) x)
 
@@ -56,7 +52,7 @@ module _ (p : Problem) (even : length p.grid.divisions ≡ numBlocks p.grid) whe
 
   no-more : (a : Simplex) (s : List Simplex) → ByRules p (a ∷ s) → (n : ℕ) → length s < n → rebuiltFrom p n a (recordsFrom p a s) ≡ none
   no-more a s R zero l = absurd (omega arith)
-  no-more a [] R (suc n) l = reads-none p even a (unlabelled-parts p a (R .places 0 (omega arith)) .0) [] (λ b m e. no-record a b e) n
+  no-more a [] R (suc n) l = reads-none p even a (unlabelled-parts p a (R .places 0 (omega arith)) .gridPoints) [] (λ b m e. no-record a b e) n
   no-more a (b ∷ s) R (suc n) l = one-read R (recordsFrom p b s) n ∙ no-more b s (later R) n (omega arith)
 
   records-short : (a : Simplex) (s : List Simplex) → ByRules p (a ∷ s) → length (recordsFrom p a s) ≤ 7 * length s

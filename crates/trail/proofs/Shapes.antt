@@ -20,6 +20,7 @@ use Rattle.place.proofs.IndexSets.{no-empty, order-within, order-distinct, T-di
 use Rattle.place.proofs.Meaning.{T-means}
 use Rattle.place.proofs.Positions.{set-of}
 use Rattle.place.proofs.ToChain.{inT, place-long}
+use Rattle.place.proofs.LinkSymmetry.{unlabelled-parts}
 use Rattle.place.specs.Coefficients.{coefficientSum}
 use Rattle.place.specs.Demand.{Settled}
 use Rattle.place.specs.Places.{Simplex, setT, labelSet, order, isUnlabelledPlace, isPlace}
@@ -27,7 +28,7 @@ use Rattle.place.specs.Problem.{Problem, withLabels}
 use Rattle.trail.proofs.Outside.{one-of, none-of, in-outside, outside-in, outside-count}
 use Rattle.trail.proofs.Reading.{T-alike}
 use Rattle.trail.proofs.Tables.{some-table, some-index, in-order}
-use Rattle.trail.proofs.Tells.{Moves, unlabelled-parts}
+use Rattle.trail.proofs.Tells.{Moves}
 use Rattle.trail.specs.Change.{Change, change, rules, outside, keeps, gains, loses}
 
 -- two lists that differ by an index
@@ -75,7 +76,7 @@ pub data Shape (p : Problem) (a b : Simplex) : Type 0 where
   leaves : (z : Point) (g : ℕ) → outside samePoint a b ≡ [] → outside samePoint b a ≡ z ∷ [] → Less (inT p a) (inT p b) g → Shape p a b
 
 pub points-distinct : (p : Problem) (s : Simplex) → isUnlabelledPlace p s ≡ true → distinct samePoint s ≡ true
-points-distinct p s h = rising-distinct onPoints (coefficientSum p) s (unlabelled-parts p s h .1)
+points-distinct p s h = rising-distinct onPoints (coefficientSum p) s (unlabelled-parts p s h .inOrder)
 
 module _ {p : Problem} (ok : Settled p) where
   pub not-empty : (s : Simplex) → isUnlabelledPlace p s ≡ true → 0 < length s

@@ -20,6 +20,7 @@ use Rattle.grid.specs.Grid.{Point, numIndices, indices, samePoint, isGridPoint}
 use Rattle.place.proofs.Meaning.{T-means, labels-mean}
 use Rattle.place.proofs.Positions.{set-of, at-in, in-at, same-at}
 use Rattle.place.proofs.ToChain.{inT}
+use Rattle.place.proofs.LinkSymmetry.{unlabelled-of, unlabelled-parts}
 use Rattle.place.specs.Demand.{Settled, Accepted}
 use Rattle.place.specs.Links.{shared, exchanged, extended, linked}
 use Rattle.place.specs.Places.{Simplex, setT, labelSet, isUnlabelledPlace, isPlace, allLabelled}
@@ -27,10 +28,9 @@ use Rattle.place.specs.Problem.{Problem, label, withLabels}
 use Rattle.trail.proofs.LinkRules.{rule-of-link}
 use Rattle.trail.proofs.Outside.{filter-split, in-outside, outside-in, outside-count}
 use Rattle.trail.proofs.Reading.{T-alike, place-alike, change-alike, move-of}
-use Rattle.trail.proofs.RunTrail.{unlabelled-of}
 use Rattle.trail.proofs.Shapes.{Shape, exchange, joins, leaves, shape-of, not-empty, points-distinct}
 use Rattle.trail.proofs.Tables.{settled-with, Labelled, some-table, some-index}
-use Rattle.trail.proofs.Tells.{Moves, moves-of, unlabelled-parts}
+use Rattle.trail.proofs.Tells.{Moves, moves-of}
 use Rattle.trail.specs.Change.{change, outside, ByRule}
 use Rattle.trail.specs.Trail.{isMove}
 
@@ -181,7 +181,7 @@ module _ {p : Problem} (ok : Settled p) where
       M = moves-of p a b m
 
       on : all (isGridPoint p.grid) a ≡ true
-      on = unlabelled-parts p a ha .0
+      on = unlabelled-parts p a ha .gridPoints
 
       go : Shape p a b → (labels : List ℕ) × LinkOver p a b labels × Accepted (withLabels p labels) × (allLabelled (withLabels p labels) a ≡ true)
       go (exchange y z come out e) =

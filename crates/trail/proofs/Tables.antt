@@ -22,12 +22,13 @@ use Rattle.grid.specs.Grid.{Grid, Point, at, numIndices, isGridPoint, samePoint
 use Rattle.place.proofs.Meaning.{T-means, labels-mean}
 use Rattle.place.proofs.Positions.{at-in, in-at, occurs-in, order-long}
 use Rattle.place.proofs.ToChain.{size-positive}
+use Rattle.place.proofs.LinkSymmetry.{unlabelled-parts}
 use Rattle.place.specs.Coefficients.{coefficientSum}
 use Rattle.place.specs.Demand.{Settled, Accepted}
 use Rattle.place.specs.Places.{Simplex, setT, labelSet, within, order, isUnlabelledPlace, isPlace, allLabelled}
 use Rattle.place.specs.Problem.{Problem, label, hasLabel, withLabels}
 use Rattle.trail.proofs.Reading.{T-alike, place-alike}
-use Rattle.trail.proofs.Tells.{at-position, unlabelled-parts}
+use Rattle.trail.proofs.Tells.{at-position}
 
 mapped-at : (f : Point → ℕ) (xs : List Point) (i : ℕ) → i < length xs → getD (map f xs) i 0 ≡ f (getD xs i [])
 mapped-at f [] i l = absurd (omega arith)
@@ -137,7 +138,7 @@ insertAt-in (suc i) x l (y ∷ ys) m =
 pub in-order : (p : Problem) (s : Simplex) → isUnlabelledPlace p s ≡ true → (k : ℕ) → isIn eqb k (setT p s) ≡ true → isIn eqb k (order p.grid s) ≡ true
 in-order p s h k m =
     occurs-in k (order p.grid s) (eqb-true _ _ (all-in onNumbers (λ h. eqb (occurrences h (order p.grid s)) 1) (setT p s)
-    (and-right (within (order p.grid s) (setT p s)) _ (unlabelled-parts p s h .2)) k m))
+    (and-right (within (order p.grid s) (setT p s)) _ (unlabelled-parts p s h .once)) k m))
 
 -- A table over which s is a place, its points but point i carry T, and point i has label x: over it point i may leave, and x, if not in T, joins.
 pub record Labelled (p : Problem) (s : Simplex) (i x : ℕ) (labels : List ℕ) : Type 0 where
@@ -168,7 +169,7 @@ module _ {p : Problem} (ok : Settled p) (s : Simplex) (h : isUnlabelledPlace p s
   unfolding o
   o-in-T k m =
       all-in onNumbers (λ k. isIn eqb k (setT p s)) (order p.grid s)
-      (and-left (within (order p.grid s) (setT p s)) _ (unlabelled-parts p s h .2)) k m
+      (and-left (within (order p.grid s) (setT p s)) _ (unlabelled-parts p s h .once)) k m
 
   names : Names (numIndices p.grid) ls
   unfolding ls
@@ -182,10 +183,10 @@ module _ {p : Problem} (ok : Settled p) (s : Simplex) (h : isUnlabelledPlace p s
   ls-long = length-insertAt i (suc x) (map suc o) ∙ ap suc (length-map o suc) ∙ sym long
 
   on : all (isGridPoint p.grid) s ≡ true
-  on = unlabelled-parts p s h .0
+  on = unlabelled-parts p s h .gridPoints
 
   d : distinct samePoint s ≡ true
-  d = rising-distinct onPoints (coefficientSum p) s (unlabelled-parts p s h .1)
+  d = rising-distinct onPoints (coefficientSum p) s (unlabelled-parts p s h .inOrder)
 
   q : Problem
   q = withLabels p (table p.grid s ls)

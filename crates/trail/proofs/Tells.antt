@@ -12,11 +12,12 @@ use native.Mathlib.Omega.{arith}
 use Rattle.combinatorics.proofs.Basics.{absurd-bool, and-left, and-right, and-both, not-is, both, true-or-false, before-or-not}
 use Rattle.combinatorics.proofs.Lists.{all-in, in-all}
 use Rattle.combinatorics.proofs.Rising.{rising-same}
-use Rattle.combinatorics.specs.Lists.{all, concatMap, isIn, rising}
+use Rattle.combinatorics.specs.Lists.{all, concatMap, isIn}
 use Rattle.grid.proofs.Points.{onPoints, in-points}
 use Rattle.grid.specs.Grid.{Grid, Point, numBlocks, isGridPoint, samePoint, points, position}
+use Rattle.place.proofs.LinkSymmetry.{unlabelled-parts}
 use Rattle.place.specs.Coefficients.{coefficientSum}
-use Rattle.place.specs.Places.{Simplex, setT, setU, order, eachGoesToNext, usesEachOnce, everyBlockFree, isUnlabelledPlace}
+use Rattle.place.specs.Places.{Simplex, isUnlabelledPlace}
 use Rattle.place.specs.Problem.{Problem}
 use Rattle.positions.proofs.Positions.{at-positionIn}
 use Rattle.trail.proofs.Outside.{one-of, in-outside, outside-in}
@@ -106,21 +107,6 @@ same-set a b c e f y m =
     (λ (t : isIn samePoint y a ≡ false). outside-in onPoints y c a (rw e at (in-outside onPoints y b a m t)) .0)
     (true-or-false (isIn samePoint y a))
 
--- the conditions of an unlabelled place that are needed here
-pub unlabelled-parts : (p : Problem) (s : Simplex) → isUnlabelledPlace p s ≡ true
-    → (all (isGridPoint p.grid) s ≡ true) × (rising (map (coefficientSum p) s) ≡ true) × (usesEachOnce (setT p s) (order p.grid s) ≡ true)
-unfolding isUnlabelledPlace
-unlabelled-parts p s h =
-    let g = p .grid in
-    let a : Bool = all (isGridPoint g) s in
-    let b : Bool = rising (map (coefficientSum p) s) in
-    let c : Bool = eachGoesToNext g (setU g s) s in
-    let d : Bool = usesEachOnce (setT p s) (order g s) in
-    let e : Bool = everyBlockFree g (setT p s) (setU g s) in
-    let k : (a && b && c && d) ≡ true = and-left (a && b && c && d) e h in
-    let l : (a && b) ≡ true = and-left (a && b) c (and-left (a && b && c) d k) in
-    (and-left a b l, and-right a b l, and-right (a && b && c) d k)
-
 -- the conditions of a record apart from its bytes
 pub record Moves (p : Problem) (a b : Simplex) : Type 0 where
   pub place : isUnlabelledPlace p b ≡ true
@@ -161,13 +147,13 @@ module _ {p : Problem} (even : length p.grid.divisions ≡ numBlocks p.grid) {a 
   pub record-tells : (bytes : List ℕ) → begins (recordOf p a b) bytes ≡ true → begins (recordOf p a c) bytes ≡ true → b ≡ c
   unfolding recordOf change
   record-tells bytes hb hc =
-      rising-same onPoints (coefficientSum p) b c (unlabelled-parts p b B.place .1) (unlabelled-parts p c C.place .1)
+      rising-same onPoints (coefficientSum p) b c (unlabelled-parts p b B.place .inOrder) (unlabelled-parts p c C.place .inOrder)
       (λ y. both _ _ (same-set a b c came.0 came.1 y) (same-set a c b (sym came.0) (sym came.1) y))
     where
       came : (outside samePoint a b ≡ outside samePoint a c) × (outside samePoint b a ≡ outside samePoint c a)
       came =
           let w = fields-tell (change p a b) (change p a c) B.fewIn C.fewIn B.fewOut C.fewOut _ _
           (sym (begins-with (recordOf p a b) bytes hb) ∙ begins-with (recordOf p a c) bytes hc) in
-          let gb = unlabelled-parts p b B.place .0 in
-          let gc = unlabelled-parts p c C.place .0 in
+          let gb = unlabelled-parts p b B.place .gridPoints in
+          let gc = unlabelled-parts p c C.place .gridPoints in
           (positions-tell p.grid even _ _ (grid-outside b a gb) (grid-outside c a gc) w.0, positions-tell p.grid even _ _ (grid-outside a b on) (grid-outside a c on) w.1)
