@@ -29,7 +29,7 @@ use Rattle.trail.proofs.Rules.{recorded}
 use Rattle.trail.proofs.SomeLinks.{move-rule}
 use Rattle.trail.proofs.Tells.{begins-with, moves-of, positions-tell}
 use Rattle.trail.specs.Change.{Change, change, outside, ByRule, rule1, rule2, rule3, rule4, rule5, rule6, rule7}
-use Rattle.trail.specs.Demand.{Accepts, Refuses}
+use Rattle.trail.specs.Demand.{Accepts, Refuses, mapBytes}
 use Rattle.trail.specs.Record.{recordOf, startRecord, recordBy}
 use Rattle.trail.specs.Trail.{isMove, begins, readOn, goOn, rebuiltFrom, rebuilt}
 
@@ -100,7 +100,7 @@ module _ {c : Change} where
   map-is (rule6 z h e) m rest behind q = cc
   map-is (rule7 z h e) m rest behind q = cc
 
-  one-of-seven : {r : ℕ} (k : ByRule c r) → isIn eqb (mapBy k) (67 ∷ 83 ∷ 99 ∷ 69 ∷ 101 ∷ 90 ∷ 74 ∷ []) ≡ true
+  one-of-seven : {r : ℕ} (k : ByRule c r) → isIn eqb (mapBy k) mapBytes ≡ true
   one-of-seven (rule1 y z e) = refl
   one-of-seven (rule2 y z h e) = refl
   one-of-seven (rule3 y z h e) = refl
@@ -183,7 +183,8 @@ module _ {p : Problem} (ok : Settled p) (a : Simplex) (ha : isUnlabelledPlace p 
     noPoint = λ n m rest o. refuse (m ∷ rest) n (λ c A. some-point A.byRule (ap (λ (k : ℕ). k % 4) (sym (map-is A.byRule m rest A.behind A.stands)) ∙ o));
     alreadyThere = λ n m low high rest y o i e. refuse (m ∷ low ∷ high ∷ rest) n (λ c A.
         let w = come A o in
-        let same : y ≡ w .0 = at-one (position-same y w.0 (all-in onPoints (isGridPoint p.grid) a (unlabelled-parts p a ha .gridPoints) y i) w.1 (e ∙ sym w.3)) in
+        let same : y ≡ w .0 = at-one
+        (position-same y w.0 (all-in onPoints (isGridPoint p.grid) a (unlabelled-parts p a ha .gridPoints) y i) w.1 (e ∙ sym w.3)) in
         absurd-bool (sym i ∙ ap (λ (z : Point). isIn samePoint z a) same ∙ w .2));
     offTheTable = λ n m low high rest o l. refuse (m ∷ low ∷ high ∷ rest) n (λ c A.
         let w = come A o in
@@ -195,7 +196,8 @@ module _ {p : Problem} (ok : Settled p) (a : Simplex) (ha : isUnlabelledPlace p 
         let w = out-from A.next (low + 256 * high) (goes-behind A.byRule m x y low high rest A.behind A.stands (four A o)) in
         h w.0 w.1 w.2);
     otherwise = λ n m rest o. refuse (m ∷ rest) n (λ c A.
-        absurd-bool (sym (one-of-seven A.byRule) ∙ ap (λ (k : ℕ). isIn eqb k (67 ∷ 83 ∷ 99 ∷ 69 ∷ 101 ∷ 90 ∷ 74 ∷ [])) (sym (map-is A.byRule m rest A.behind A.stands)) ∙ o));
+        absurd-bool (sym (one-of-seven A.byRule)
+        ∙ ap (λ (k : ℕ). isIn eqb k mapBytes) (sym (map-is A.byRule m rest A.behind A.stands)) ∙ o));
     bitSeven = λ n m rest l. refuse (m ∷ rest) n (λ c A. omega (arith, l, map-is A.byRule m rest A.behind A.stands, seven-bits A.byRule));
   }
     where

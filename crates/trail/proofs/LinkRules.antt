@@ -97,7 +97,8 @@ module _ {p : Problem} (ok : Settled p) where
     pub U-zeros : (k : ℕ) → inU p s k ≡ zeros (blocksOf p) (inT p s) (listAt (coefficientsOf p s) 0) k
     U-zeros k = both _ _ to of
       where
-        P : Place (blocksOf p) (inT p s) (zeros (blocksOf p) (inT p s) (listAt (coefficientsOf p s) 0)) (length (order p.grid s)) (listAt (coefficientsOf p s)) (at (order p.grid s))
+        P : Place (blocksOf p) (inT p s) (zeros (blocksOf p) (inT p s) (listAt (coefficientsOf p s) 0))
+            (length (order p.grid s)) (listAt (coefficientsOf p s)) (at (order p.grid s))
         P = chain-place (place-chain ok s h)
 
         to : inU p s k ≡ true → zeros (blocksOf p) (inT p s) (listAt (coefficientsOf p s) 0) k ≡ true
@@ -145,7 +146,8 @@ module _ {p : Problem} (ok : Settled p) where
         gone = one-of (outside samePoint b a) (omega (arith, X .0, filter-split (λ y. isIn samePoint y b) a))
 
         come : (y : Point) × (outside samePoint a b ≡ y ∷ [])
-        come = one-of (outside samePoint a b) (omega (arith, X .0, X .1, ap length gone.1, outside-count onPoints a b (place-distinct p a ha) (place-distinct p b hb)))
+        come = one-of (outside samePoint a b)
+            (omega (arith, X .0, X .1, ap length gone.1, outside-count onPoints a b (place-distinct p a ha) (place-distinct p b hb)))
 
         T-kept : (outside eqb (setT p b) (setT p a) ≡ []) × (outside eqb (setT p a) (setT p b) ≡ [])
         T-kept = alike-none (setT p a) (setT p b) (λ k. ap (λ (u : List ℕ). isIn eqb k u) X.2)

@@ -93,7 +93,8 @@ module _ {q : Problem} (ok : Settled q) (a : Simplex) (ha : isPlace q a ≡ true
   one-above b c hb hc eb ec lb lc = same-points b c hb hc (above-one (labelledChain-of ok a ha) (above b hb eb lb) (above c hc ec lc))
 
   -- a place that is not larger lies through the facet whose point it has not
-  module _ {s : ℕ} (A : LabelledChain (blocksOf q) (labelOf q) (inT q a) (suc s) (at (order q.grid a)) (coefficientsOf q a)) (i : ℕ) (il : i < length a) where
+  module _ {s : ℕ} (A : LabelledChain (blocksOf q) (labelOf q) (inT q a) (suc s) (at (order q.grid a)) (coefficientsOf q a)) (i : ℕ)
+      (il : i < length a) where
     through : (b : Simplex) → isPlace q b ≡ true → length b ≤ length a
         → ((j : ℕ) → j < length a → (j ≡ i → ⊥) → isIn samePoint (nth a j) b ≡ true)
         → LinkTo (blocksOf q) (labelOf q) (inT q a) (suc s) (coefficientsOf q a) (coefficientsOf q b)

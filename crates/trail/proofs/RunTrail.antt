@@ -4,14 +4,18 @@ use mathlib.Core.Bool.{true}
 use mathlib.Core.List.{List, [], _∷_, _++_, append-assoc, append-nil}
 use mathlib.Core.Option.{none, some}
 use mathlib.Core.Path.{_≡_, refl, sym, ap, _∙_}
-use Prim.Native.Nat.{ℕ, zero, suc, _+_, _*_, _≤_, _<_}
+use Prim.Native.Nat.{ℕ, zero, suc, pred, _+_, _*_, _^_, _≤_, _<_}
 use lib.ListN.{length, length-append}
 use lib.Seq.{drop-append-seam, take-append-seam}
+use native.Mathlib.Nat.{mul-le-mul}
 use native.Mathlib.Omega.{arith}
 use Rattle.combinatorics.proofs.Basics.{absurd-bool}
-use Rattle.grid.specs.Grid.{numBlocks}
+use Rattle.grid.proofs.Terms.{terms-few}
+use Rattle.grid.specs.Grid.{numBlocks, numIndices, dimension, bound}
 use Rattle.place.proofs.LinkSymmetry.{unlabelled-of, unlabelled-parts}
-use Rattle.place.specs.Demand.{Settled, Follows, placeAt, lastPlace}
+use Rattle.place.proofs.Theorem.{demand3-holds, run-follows}
+use Rattle.place.specs.Demand.{Settled, Accepted, Follows, placeAt, lastPlace}
+use Rattle.place.specs.Path.{path}
 use Rattle.place.specs.Places.{Simplex, isUnlabelledPlace}
 use Rattle.place.specs.Problem.{Problem, withLabels}
 use Rattle.trail.proofs.LinkRules.{rule-of-link}
@@ -110,3 +114,18 @@ run-trail {p} ok s F =
       places = λ i l. unlabelled-of p (placeAt s i) (F .places i l);
       byRule = λ i l. rule-of-link ok (placeAt s i) (placeAt s (suc i)) (F .places i (omega arith)) (F .places (suc i) l) (F .known i l) (F .links i l);
     })
+
+-- so the path itself
+pub path-trail : {p : Problem} → Accepted p → Trails p (path p .visited)
+path-trail {p} ok = run-trail ok.settled (path p .visited) (demand3-holds ok .follows)
+
+-- the length of a run's trail fits 64 bits
+pub trail-fits : {p : Problem} → Accepted p → (s : List Simplex) → Follows p s → length (trailOf p s) < 2 ^ 64
+unfolding bound
+trail-fits {p} ok s F =
+    let g = p .grid in
+    let k = ok .settled in
+    let last = run-follows ok s F (pred (length s)) (omega (arith, F .nonempty)) .0 in
+    let most : bound g ≤ 60000 * 35951249665217 = mul-le-mul k.points
+    (terms-few (numIndices g) (dimension g) k.sixteenIndices (omega (arith, k .sixteenIndices, k .someBlock))) in
+    omega (arith, run-trail k s F .short, F .nonempty, last, demand3-holds ok .bounded)

@@ -41,7 +41,8 @@ unfolding labelSet setT
 labels-T p s t f g = set-of _ (indices p.grid) ∙ filter-cong onNumbers (indices p.grid) (λ k m. both _ _ (f k) (g k)) ∙ sym (set-of _ (indices p.grid))
 
 -- what is not left out is in the other set
-pub stays-in : (a b : Simplex) {z : Point} → outside samePoint b a ≡ z ∷ [] → (y : Point) → isIn samePoint y a ≡ true → (y ≡ z → ⊥) → isIn samePoint y b ≡ true
+pub stays-in : (a b : Simplex) {z : Point} → outside samePoint b a ≡ z ∷ [] → (y : Point) → isIn samePoint y a ≡ true → (y ≡ z → ⊥)
+    → isIn samePoint y b ≡ true
 stays-in a b {z} e y m n =
     ⊎-elim (λ t. t)
     (λ f. ⊎-elim (λ q. absurd (n q)) (λ q. absurd-bool (sym q)) (in-cases onPoints y z [] (rw e at (in-outside onPoints y a b m f))))
@@ -70,7 +71,8 @@ module _ {p : Problem} (a b : Simplex) (ha : isUnlabelledPlace p a ≡ true) (hb
   -- a place over the table, where its T is carried
   place-b : ((k : ℕ) → isIn eqb k (setT p b) ≡ true → isIn eqb k (labelSet (withLabels p labels) b) ≡ true) → isPlace (withLabels p labels) b ≡ true
   unfolding isPlace
-  place-b h = and-both _ _ (place-alike p labels b ∙ hb) (in-all onNumbers (λ k. isIn eqb k (labelSet (withLabels p labels) b)) (setT (withLabels p labels) b)
+  place-b h = and-both _ _ (place-alike p labels b ∙ hb)
+      (in-all onNumbers (λ k. isIn eqb k (labelSet (withLabels p labels) b)) (setT (withLabels p labels) b)
       (λ k m. h k (rw (T-alike p labels b) at m)))
 
   below : (k : ℕ) → isIn eqb k (setT p a) ≡ true → k < numIndices p.grid

@@ -93,7 +93,8 @@ module _ (g : Grid) (even : length (g .divisions) ≡ numBlocks g) where
       let q : position g x ≡ position g y = cc in
       let r : map (position g) a ≡ map (position g) b = cc in
       let w : x ≡ y = sym (at-position x (and-left _ _ ha)) ∙ ap (λ (i : ℕ). getD (points g) i []) q ∙ at-position y (and-left _ _ hb) in
-      let v : a ≡ b = positions-tell a b (and-right (isGridPoint g x) (all (isGridPoint g) a) ha) (and-right (isGridPoint g y) (all (isGridPoint g) b) hb) r in
+      let v : a ≡ b = positions-tell a b
+      (and-right (isGridPoint g x) (all (isGridPoint g) a) ha) (and-right (isGridPoint g y) (all (isGridPoint g) b) hb) r in
       cc
 
 -- what comes in and what goes out tell the set of points
@@ -133,7 +134,8 @@ moves-of p a b h =
       fewIn = leb-true _ 1 (and-right x y k3);
       fewOut = leb-true _ 1 (and-right (x && y) z k2);
       some = ⊎-elim (λ l. l)
-          (λ (l : length c.pointsIn + length c.pointsOut ≤ 0). absurd-bool (sym (and-both _ _ (eq-eqb (length c.pointsIn) 0 (omega arith)) (eq-eqb (length c.pointsOut) 0 (omega arith))) ∙ n))
+          (λ (l : length c.pointsIn + length c.pointsOut ≤ 0).
+          absurd-bool (sym (and-both _ _ (eq-eqb (length c.pointsIn) 0 (omega arith)) (eq-eqb (length c.pointsOut) 0 (omega arith))) ∙ n))
           (before-or-not 0 (length c.pointsIn + length c.pointsOut));
       rule = one-of (rules c) (eqb-true _ 1 (and-right (x && y && z && not u) w h));
     }
@@ -141,7 +143,8 @@ moves-of p a b h =
 module _ {p : Problem} (even : length p.grid.divisions ≡ numBlocks p.grid) {a b c : Simplex} (on : all (isGridPoint p.grid) a ≡ true)
     (B : Moves p a b) (C : Moves p a c) where
   grid-outside : (s t : Simplex) → all (isGridPoint p.grid) s ≡ true → all (isGridPoint p.grid) (outside samePoint t s) ≡ true
-  grid-outside s t h = in-all onPoints (isGridPoint p.grid) (outside samePoint t s) (λ y m. all-in onPoints (isGridPoint p.grid) s h y (outside-in onPoints y s t m .0))
+  grid-outside s t h = in-all onPoints (isGridPoint p.grid) (outside samePoint t s)
+      (λ y m. all-in onPoints (isGridPoint p.grid) s h y (outside-in onPoints y s t m .0))
 
   -- "record-tells"
   pub record-tells : (bytes : List ℕ) → begins (recordOf p a b) bytes ≡ true → begins (recordOf p a c) bytes ≡ true → b ≡ c
@@ -155,5 +158,7 @@ module _ {p : Problem} (even : length p.grid.divisions ≡ numBlocks p.grid) {a 
           let w = fields-tell (change p a b) (change p a c) B.fewIn C.fewIn B.fewOut C.fewOut _ _
           (sym (begins-with (recordOf p a b) bytes hb) ∙ begins-with (recordOf p a c) bytes hc) in
           let gb = unlabelled-parts p b B.place .gridPoints in
-          let gc = unlabelled-parts p c C.place .gridPoints in
-          (positions-tell p.grid even _ _ (grid-outside b a gb) (grid-outside c a gc) w.0, positions-tell p.grid even _ _ (grid-outside a b on) (grid-outside a c on) w.1)
+          let gc = unlabelled-parts p c C.place .gridPoints in (
+            positions-tell p.grid even _ _ (grid-outside b a gb) (grid-outside c a gc) w.0,
+            positions-tell p.grid even _ _ (grid-outside a b on) (grid-outside a c on) w.1,
+          )

@@ -19,7 +19,8 @@ use Rattle.trail.specs.Trail.{rebuiltFrom, rebuilt}
 pub record Trails (p : Problem) (s : List Simplex) : Type 0 where
   -- each link is one of the seven rules, and no other
   pub byRule : (i : ℕ) → suc i < length s → (r : ℕ) × ByRule (change p (placeAt s i) (placeAt s (suc i))) r
-  pub alone : (i r : ℕ) → suc i < length s → ByRule (change p (placeAt s i) (placeAt s (suc i))) r → rules (change p (placeAt s i) (placeAt s (suc i))) ≡ r ∷ []
+  pub alone : (i r : ℕ) → suc i < length s → ByRule (change p (placeAt s i) (placeAt s (suc i))) r
+      → rules (change p (placeAt s i) (placeAt s (suc i))) ≡ r ∷ []
   -- a whole trail is v's record, 3 bytes, and at most 7 bytes for each place behind it
   pub first : (length (startRecord p) ≡ 3) × (take 3 (trailOf p s) ≡ startRecord p)
   pub long : 3 ≤ length (trailOf p s)
@@ -41,6 +42,10 @@ pub record Accepts (p : Problem) (a : Simplex) (bytes : List ℕ) (n : ℕ) (c :
   pub stands : bytes ≡ recordBy byRule ++ behind
   pub goesOn : rebuiltFrom p n next behind ≡ some c
 
+-- the map bytes of the seven rules
+abbrev pub mapBytes : List ℕ
+mapBytes = 67 ∷ 83 ∷ 99 ∷ 69 ∷ 101 ∷ 90 ∷ 74 ∷ []
+
 -- the place a, and a next record of map byte m
 pub record Refuses (p : Problem) (a : Simplex) : Type 0 where
   -- "there is no such record"
@@ -61,6 +66,6 @@ pub record Refuses (p : Problem) (a : Simplex) : Type 0 where
       → ((y : Point) → isIn samePoint y a ≡ true → position (p .grid) y ≡ low + 256 * high → ⊥)
       → rebuiltFrom p (suc n) a (m ∷ x ∷ y ∷ low ∷ high ∷ rest) ≡ none
   -- "change T and U otherwise than one of the seven rules alone does": by the fields that such a change has
-  pub otherwise : (n m : ℕ) (rest : List ℕ) → (isIn eqb m (67 ∷ 83 ∷ 99 ∷ 69 ∷ 101 ∷ 90 ∷ 74 ∷ []) ≡ false) → rebuiltFrom p (suc n) a (m ∷ rest) ≡ none
+  pub otherwise : (n m : ℕ) (rest : List ℕ) → isIn eqb m mapBytes ≡ false → rebuiltFrom p (suc n) a (m ∷ rest) ≡ none
   -- "have bit 7 set"
   pub bitSeven : (n m : ℕ) (rest : List ℕ) → 128 ≤ m → rebuiltFrom p (suc n) a (m ∷ rest) ≡ none
