@@ -52,17 +52,22 @@ module _ (u v : List ℕ) where
         (λ k m. ⊎-elim (λ (e : k ≡ g). rw e L.has) (λ ne. sym (L .rest k ne) ∙ m) (same-or k g)),
   )
 
-U-distinct : (p : Problem) (s : Simplex) → distinct eqb (setU p.grid s) ≡ true
+pub U-distinct : (p : Problem) (s : Simplex) → distinct eqb (setU p.grid s) ≡ true
 unfolding setU
 U-distinct p s = distinct-filter onNumbers (λ h. all (λ y. eqb (at y h) 0) s) (indices p.grid) (distinct-upFrom 0 (numIndices p.grid))
 
 -- a change by its parts
-change-is : (p : Problem) (a b : Simplex) {i o : Simplex} {t t' u u' : List ℕ} → outside samePoint a b ≡ i → outside samePoint b a ≡ o
+pub change-is : (p : Problem) (a b : Simplex) {i o : Simplex} {t t' u u' : List ℕ} → outside samePoint a b ≡ i → outside samePoint b a ≡ o
     → outside eqb (setT p a) (setT p b) ≡ t → outside eqb (setT p b) (setT p a) ≡ t'
     → outside eqb (setU p.grid a) (setU p.grid b) ≡ u → outside eqb (setU p.grid b) (setU p.grid a) ≡ u'
     → change p a b ≡ changeBy (map (position p.grid) i) (map (position p.grid) o) t t' u u'
 unfolding change
 change-is p a b ei eo et et' eu eu' = rw (ei, eo, et, et', eu, eu')
+
+-- the link back is the inverse rule
+pub rule-back : (p : Problem) (a b : Simplex) {r : ℕ} → ByRule (change p a b) r → ByRule (change p b a) (inverse r)
+unfolding change
+rule-back p a b m = back m
 
 exchanged-parts : (p : Problem) (a b : Simplex) → exchanged p a b ≡ true
     → (length a ≡ suc (length (shared a b))) × (length b ≡ suc (length (shared a b))) × (setT p a ≡ setT p b)
@@ -216,11 +221,11 @@ module _ {p : Problem} (ok : Settled p) where
   -- each link from a place whose points have labels is a rule; `rules-are` says that it is one only
   pub rule-of-link : (a b : Simplex) → isPlace p a ≡ true → isPlace p b ≡ true → allLabelled p a ≡ true → linked p a b ≡ true
       → (r : ℕ) × ByRule (change p a b) r
-  unfolding linked change
+  unfolding linked
   rule-of-link a b ha hb own e =
       ⊎-elim
       (λ m. ⊎-elim (exchanged-rule a b ha hb e) (extended-rule a b ha hb own) (or-cases (exchanged p a b) (extended p a b) m))
       (λ x. let w = extended-rule b a hb ha
       (in-all onPoints (hasLabel p) b (λ y m. all-in onPoints (hasLabel p) a own y (all-in onPoints _ b (extended-parts p b a x .1) y m))) x in
-      (inverse w.0, back w.1))
+      (inverse w.0, rule-back p b a w.1))
       (or-cases (exchanged p a b || extended p a b) (extended p b a) e)

@@ -21,7 +21,7 @@ use Rattle.place.specs.Places.{Simplex, setT, isUnlabelledPlace, insert, inOrde
 use Rattle.place.specs.Problem.{Problem, withLabels}
 use Rattle.trail.proofs.Rules.{rules-are}
 use Rattle.trail.proofs.Tells.{moves-of, record-tells}
-use Rattle.trail.specs.Change.{Change, change, ByRule, rule1, rule2, rule3, rule4, rule5, rule6, rule7, none as isNone}
+use Rattle.trail.specs.Change.{Change, change, ByRule, rule1, rule2, rule3, rule4, rule5, rule6, rule7, empty}
 use Rattle.trail.specs.Record.{encoded, fields, recordOf, startRecord}
 use Rattle.trail.specs.Trail.{isMove, begins, unlabelledPlaces, readOn, goOn, rebuiltFrom, rebuilt}
 
@@ -44,7 +44,7 @@ move-of p a b h {r} m =
     few (rule6 z h e) = rw e (omega arith, omega arith)
     few (rule7 z h e) = rw e (omega arith, omega arith)
 
-    some : {r : ℕ} → ByRule (change p a b) r → not (isNone (change p a b .pointsIn) && isNone (change p a b .pointsOut)) ≡ true
+    some : {r : ℕ} → ByRule (change p a b) r → not (empty (change p a b .pointsIn) && empty (change p a b .pointsOut)) ≡ true
     some (rule1 y z e) = rw e
     some (rule2 y z h e) = rw e
     some (rule3 y z h e) = rw e

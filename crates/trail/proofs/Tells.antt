@@ -21,7 +21,7 @@ use Rattle.place.specs.Places.{Simplex, isUnlabelledPlace}
 use Rattle.place.specs.Problem.{Problem}
 use Rattle.positions.proofs.Positions.{at-positionIn}
 use Rattle.trail.proofs.Outside.{one-of, in-outside, outside-in}
-use Rattle.trail.specs.Change.{Change, change, rules, outside, none as isNone, one}
+use Rattle.trail.specs.Change.{Change, change, rules, outside, empty, single}
 use Rattle.trail.specs.Record.{bytes16, bitMap, fields, encoded, recordOf}
 use Rattle.trail.specs.Trail.{begins, isMove}
 
@@ -123,8 +123,8 @@ moves-of p a b h =
     let x : Bool = isUnlabelledPlace p b in
     let y : Bool = leb (length c.pointsIn) 1 in
     let z : Bool = leb (length c.pointsOut) 1 in
-    let u : Bool = isNone c.pointsIn && isNone c.pointsOut in
-    let w : Bool = one (rules c) in
+    let u : Bool = empty c.pointsIn && empty c.pointsOut in
+    let w : Bool = single (rules c) in
     let k1 : (x && y && z && not u) ≡ true = and-left (x && y && z && not u) w h in
     let k2 : (x && y && z) ≡ true = and-left (x && y && z) (not u) k1 in
     let k3 : (x && y) ≡ true = and-left (x && y) z k2 in

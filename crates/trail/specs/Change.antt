@@ -34,22 +34,22 @@ change p a b = let g = p .grid in record {
   outOfU = outside eqb (setU g b) (setU g a);
 }
 
--- how many elements a list has
-abbrev pub none : {A : Type 0} → List A → Bool
-none xs = eqb (length xs) 0
+-- a list has no element, or one
+abbrev pub empty : {A : Type 0} → List A → Bool
+empty xs = eqb (length xs) 0
 
-abbrev pub one : {A : Type 0} → List A → Bool
-one xs = eqb (length xs) 1
+abbrev pub single : {A : Type 0} → List A → Bool
+single xs = eqb (length xs) 1
 
 -- what a set of indices does, by the indices that come into it and go out of it
 abbrev pub keeps : List ℕ → List ℕ → Bool
-keeps into outOf = none into && none outOf
+keeps into outOf = empty into && empty outOf
 
 abbrev pub gains : List ℕ → List ℕ → Bool
-gains into outOf = one into && none outOf
+gains into outOf = single into && empty outOf
 
 abbrev pub loses : List ℕ → List ℕ → Bool
-loses into outOf = none into && one outOf
+loses into outOf = empty into && single outOf
 
 -- the seven rules as tests, in order: "Rule 1 keeps T and U; 2 keeps T and U gains; 3 keeps T and U loses; 4 takes an index into T from outside U;
 -- 5 takes it from U; 6 moves an index from T to U; 7 only drops it from T". Where U is kept an index that comes into T was outside it.
@@ -73,7 +73,7 @@ holding k (t ∷ ts) = let rest = holding (suc k) ts in cond t (k ∷ rest) rest
 unfoldable pub rules : Change → List ℕ
 rules c = holding 1 (ruleTests c)
 
--- A change by one rule alone, with the points that come in and go out, by their positions, and the index that the rule is about
+-- a change by its parts
 abbrev pub changeBy : (pointsIn pointsOut intoT outOfT intoU outOfU : List ℕ) → Change
 changeBy pointsIn pointsOut intoT outOfT intoU outOfU = record {
   pointsIn = pointsIn;
@@ -84,6 +84,7 @@ changeBy pointsIn pointsOut intoT outOfT intoU outOfU = record {
   outOfU = outOfU;
 }
 
+-- A change by one rule alone, with the point y that comes in and the point z that goes out, by their positions, and the index h that the rule is about
 pub data ByRule (c : Change) : ℕ → Type 0 where
   rule1 : (y z : ℕ) → c ≡ changeBy (y ∷ []) (z ∷ []) [] [] [] [] → ByRule c 1
   rule2 : (y z h : ℕ) → c ≡ changeBy (y ∷ []) (z ∷ []) [] [] (h ∷ []) [] → ByRule c 2

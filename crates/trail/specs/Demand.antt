@@ -65,7 +65,7 @@ pub record Refuses (p : Problem) (a : Simplex) : Type 0 where
   pub notThereBehind : (n m x y low high : ℕ) (rest : List ℕ) → m % 4 ≡ 3
       → ((y : Point) → isIn samePoint y a ≡ true → position (p .grid) y ≡ low + 256 * high → ⊥)
       → rebuiltFrom p (suc n) a (m ∷ x ∷ y ∷ low ∷ high ∷ rest) ≡ none
-  -- "change T and U otherwise than one of the seven rules alone does": by the fields that such a change has
+  -- "change T and U otherwise than one of the seven rules alone does", or "fields other than the change just made and its rule": a map of no rule
   pub otherwise : (n m : ℕ) (rest : List ℕ) → isIn eqb m mapBytes ≡ false → rebuiltFrom p (suc n) a (m ∷ rest) ≡ none
   -- "have bit 7 set"
   pub bitSeven : (n m : ℕ) (rest : List ℕ) → 128 ≤ m → rebuiltFrom p (suc n) a (m ∷ rest) ≡ none

@@ -1,4 +1,4 @@
--- Request 03: what a reader rebuilds from a trail, and what holds over a run's trail. Assumes nothing.
+-- Request 03: what a reader rebuilds from a trail. Assumes nothing.
 use mathlib.Core.Bool.{Bool, true, false, not, _&&_, cond}
 use mathlib.Core.List.{List, [], _∷_}
 use mathlib.Core.Option.{Option, none, some}
@@ -9,7 +9,7 @@ use Rattle.combinatorics.specs.Lists.{filter, sublists}
 use Rattle.grid.specs.Grid.{points}
 use Rattle.place.specs.Places.{Simplex, setT, setU, isUnlabelledPlace, inOrder}
 use Rattle.place.specs.Problem.{Problem}
-use Rattle.trail.specs.Change.{change, rules, none as isNone, one}
+use Rattle.trail.specs.Change.{change, rules, empty, single}
 use Rattle.trail.specs.Record.{recordOf, startRecord}
 
 -- One point comes in, one goes out, or both: a record has room for one of each, and must not "change no point". The record does not "break the first
@@ -18,7 +18,7 @@ unfoldable pub isMove : Problem → Simplex → Simplex → Bool
 isMove p a b =
     let c = change p a b in
     isUnlabelledPlace p b
-    && leb (length (c .pointsIn)) 1 && leb (length (c .pointsOut)) 1 && not (isNone (c .pointsIn) && isNone (c .pointsOut)) && one (rules c)
+    && leb (length (c .pointsIn)) 1 && leb (length (c .pointsOut)) 1 && not (empty (c .pointsIn) && empty (c .pointsOut)) && single (rules c)
 
 -- the bytes begin with those of a record
 abbrev pub begins : List ℕ → List ℕ → Bool
