@@ -167,23 +167,26 @@ module _ {p : Problem} (ok : Accepted p) (W : TwoWays p) where
       apart Known (λ a b k. record { joins = back a b k.joins; ownFrom = k .ownTo; ownTo = k .ownFrom })
       (λ a k. linked-other p a k.joins.by) two (placeAt s) (rw z one-link) j (walks t j c own) j i j (omega arith) l (omega arith) q
 
-  -- at each place whose points have labels exactly one way on
+  -- exactly one way on from {v}, and from any other place that one comes to by a link, where its points have labels;
+  pub one-from-start : allLabelled p (p .start ∷ []) ≡ true → length (waysOn p none (p .start ∷ [])) ≡ 1
+  one-from-start own =
+      length-waysOn p none (p .start ∷ [])
+      ∙ (rw (filter-true (links p (p .start ∷ []))) (sym (length-ways p (p .start ∷ [])) ∙ W .start own))
+
+  pub one-from : (a b : Simplex) → Link p a b → allLabelled p b ≡ true → (b ≡ p .start ∷ [] → ⊥) → length (waysOn p (some a) b) ≡ 1
+  one-from a b k own ne =
+      let m : suc (length (linksOn p (some a) b)) ≡ length (links p b) =
+      length-without onSimplices a (links p b) (links-distinct p b) (in-links ok.settled (back a b k)) in
+      omega (arith, length-waysOn p (some a) b, length-ways p b, W .other b k.to own ne)
+
+  -- so on the path
   pub one-way : {n : ℕ} {s : List Simplex} {e : Option End} → Trail p n none (p .start ∷ []) s e → (i : ℕ) → i < length s
       → allLabelled p (placeAt s i) ≡ true → length (waysOn p (leftAt s i) (placeAt s i)) ≡ 1
-  one-way {s = s} t zero c own =
-      rw (first p t c)
-      (length-waysOn p none (p .start ∷ [])
-      ∙ (rw (filter-true (links p (p .start ∷ []))) (sym (length-ways p (p .start ∷ [])) ∙ W .start (rw (first p t c) at own))))
+  one-way {s = s} t zero c own = rw (first p t c) (one-from-start (rw (first p t c) at own))
   one-way {s = s} t (suc i) c own =
-      let k : Link p (placeAt s i) (placeAt s (suc i)) = step-links p t (start-place ok.settled) i c in
       let z : placeAt s 0 ≡ p .start ∷ [] = first p t (omega arith) in
-      let w : length (ways p (placeAt s (suc i))) ≡ 2 = W .other (placeAt s (suc i)) k.to own
-      (λ q. never-twice t 0 (suc i) (omega arith) c (z ∙ sym q)) in
-      let m : suc (length (linksOn p (some (placeAt s i)) (placeAt s (suc i)))) ≡ length (links p (placeAt s (suc i))) =
-      length-without onSimplices (placeAt s i) (links p (placeAt s (suc i))) (links-distinct p (placeAt s (suc i)))
-      (in-links ok.settled (back (placeAt s i) (placeAt s (suc i)) k))
-      in
-      omega (arith, length-waysOn p (some (placeAt s i)) (placeAt s (suc i)), length-ways p (placeAt s (suc i)))
+      one-from (placeAt s i) (placeAt s (suc i)) (step-links p t (start-place ok.settled) i c) own
+      (λ q. never-twice t 0 (suc i) (omega arith) c (z ∙ sym q))
 
   pub within-bound : {n : ℕ} {s : List Simplex} {e : Option End} → Trail p n none (p .start ∷ []) s e → length s ≤ bound p.grid
   within-bound {s = s} t =
