@@ -1,64 +1,33 @@
 -- A table that agrees with another wherever that has an index has the other's path, up to the other's gap, and so its answer. In
--- order: labels; places, links and ends; the path; the answer. Assumes nothing.
-use mathlib.Core.Bool.{Bool, true, false, not, _&&_, _||_, cond}
-use mathlib.Core.List.{List, [], _∷_, map}
+-- order: labels and places; the path; the answer. Assumes nothing.
+use mathlib.Core.Bool.{Bool, true, false, not}
+use mathlib.Core.List.{List, [], _∷_}
 use mathlib.Core.Logic.{⊎-elim}
 use mathlib.Core.Option.{Option, none, some}
-use mathlib.Core.Path.{_≡_, refl, sym, ap, _∙_}
+use mathlib.Core.Path.{_≡_, refl, sym, _∙_}
 use Prim.Native.Nat.{ℕ, suc, pred, _≤_, _<_}
 use borrow.Author.Tests.{leb-true}
-use lib.Dec.{eqb, leb, ltb}
-use lib.ListN.{length, getD}
+use lib.Dec.{eqb, leb}
+use lib.ListN.{getD}
 use native.Mathlib.Omega.{arith}
 use Rattle.combinatorics.proofs.Basics.{absurd-bool, and-both, and-left, and-right, before-or-not}
-use Rattle.combinatorics.proofs.Basics.{or-cases, or-left, or-right, true-or-false}
+use Rattle.combinatorics.proofs.Basics.{true-or-false}
 use Rattle.combinatorics.proofs.Lists.{all-in, in-all, in-here, in-filter, filter-in, only-member, onNumbers}
-use Rattle.combinatorics.specs.Lists.{filter, all, isIn, same, concatMap, oneLess}
+use Rattle.combinatorics.specs.Lists.{isIn, same}
 use Rattle.grid.proofs.Points.{onPoints}
-use Rattle.grid.specs.Grid.{Point, samePoint, isGridPoint, position, numIndices, blocks, indicesOf}
+use Rattle.grid.specs.Grid.{Point, samePoint, isGridPoint, position, numIndices}
 use Rattle.place.proofs.Gaps.{label-named}
 use Rattle.place.proofs.Labels.{label-ok}
 use Rattle.place.proofs.LinkSymmetry.{parts}
+use Rattle.place.proofs.Local.{Agree, setT-same, unlabelled-same, linked-local, ends-local}
 use Rattle.place.proofs.Meaning.{labels-mean}
 use Rattle.place.proofs.Run.{asks-path}
 use Rattle.place.proofs.Theorem.{demand3-holds, gapless, run-follows}
-use Rattle.place.specs.Coefficients.{coefficients}
 use Rattle.place.specs.Demand.{Accepted, Follows, placeAt, lastPlace, Stop, atEnd, atGap, Fills, Filling}
-use Rattle.place.specs.Ends.{End, isComplete, completeFor, placeEnds, facetEnds, facets, ends, facetEnd}
-use Rattle.place.specs.Links.{shared, exchanged, extended, linked}
+use Rattle.place.specs.Ends.{End}
 use Rattle.place.specs.Path.{path, pathLength, Answer, unknown, announcement, answer}
-use Rattle.place.specs.Places.{Simplex, setU, setT, labelSet, within, isUnlabelledPlace, isPlace, allLabelled, unlabelled}
+use Rattle.place.specs.Places.{Simplex, setT, labelSet, within, isUnlabelledPlace, isPlace, allLabelled, unlabelled}
 use Rattle.place.specs.Problem.{Problem, label, hasLabel, withLabels}
-
-all-cons : {A : Type 0} (q : A → Bool) (x : A) (l : List (List A)) → q x ≡ true → all (all q) l ≡ true
-    → all (all q) (map (λ k. x ∷ k) l) ≡ true
-all-cons q x [] h a = refl
-all-cons q x (k ∷ l) h a =
-    and-both _ _ (and-both _ _ h (and-left (all q k) (all (all q) l) a)) (all-cons q x l h (and-right (all q k) (all (all q) l) a))
-
-all-oneLess : {A : Type 0} (q : A → Bool) (s : List A) → all q s ≡ true → all (all q) (oneLess s) ≡ true
-all-oneLess q [] a = refl
-all-oneLess q (x ∷ s) a =
-    and-both _ _ (and-right (q x) (all q s) a)
-    (all-cons q x (oneLess s) (and-left (q x) (all q s) a) (all-oneLess q s (and-right (q x) (all q s) a)))
-
-concatMap-same : {A B : Type 0} (F G : A → List B) (q r known : A → Bool) (xs : List A) → all known xs ≡ true
-    → ((x : A) → known x ≡ true → (F x ≡ G x) × (q x ≡ r x)) → concatMap F (filter q xs) ≡ concatMap G (filter r xs)
-concatMap-same F G q r known [] a k = refl
-concatMap-same {A} F G q r known (x ∷ xs) a k =
-    let h = k x (and-left (known x) (all known xs) a) in
-    pick (filter q xs) (filter r xs) h.0 (concatMap-same F G q r known xs (and-right (known x) (all known xs) a) k) (q x) (r x) h.1
-  where
-    pick : (ys zs : List A) → F x ≡ G x → concatMap F ys ≡ concatMap G zs → (b c : Bool) → b ≡ c
-        → concatMap F (cond b (x ∷ ys) ys) ≡ concatMap G (cond c (x ∷ zs) zs)
-    pick ys zs e i true true t = rw (e, i)
-    pick ys zs e i true false t = absurd-bool t
-    pick ys zs e i false true t = absurd-bool (sym t)
-    pick ys zs e i false false t = i
-
--- what remains of a place, as facet ends
-abbrev asEnds : Problem → Simplex → List End
-asEnds p f = map (λ j. record { kind = facetEnd; block = j; simplex = f }) (completeFor p f)
 
 module _ (p : Problem) (labels : List ℕ) (fills : Fills p labels) where
   abbrev filled : Problem
@@ -77,14 +46,8 @@ module _ (p : Problem) (labels : List ℕ) (fills : Fills p labels) where
   all-stay : (s : Simplex) → allLabelled p s ≡ true → allLabelled filled s ≡ true
   all-stay s a = in-all onPoints _ s (λ y m. label-stays y (all-in onPoints (hasLabel p) s a y m))
 
-  map-same : (s : Simplex) → allLabelled p s ≡ true → map (label filled) s ≡ map (label p) s
-  map-same [] a = refl
-  map-same (y ∷ s) a =
-      rw (label-same y (and-left (hasLabel p y) (allLabelled p s) a), map-same s (and-right (hasLabel p y) (allLabelled p s) a))
-
-  labelSet-same : (s : Simplex) → allLabelled p s ≡ true → labelSet filled s ≡ labelSet p s
-  unfolding labelSet
-  labelSet-same s a = rw (map-same s a)
+  agree : (s : Simplex) → allLabelled p s ≡ true → Agree p labels s
+  agree s a y m = label-same y (all-in onPoints (hasLabel p) s a y m)
 
   labelSet-grows : (s : Simplex) (h : ℕ) → isIn eqb h (labelSet p s) ≡ true → isIn eqb h (labelSet filled s) ≡ true
   labelSet-grows s h m =
@@ -95,81 +58,11 @@ module _ (p : Problem) (labels : List ℕ) (fills : Fills p labels) where
   within-grows : (t : List ℕ) (s : Simplex) → within t (labelSet p s) ≡ true → within t (labelSet filled s) ≡ true
   within-grows t s w = in-all onNumbers _ t (λ h m. labelSet-grows s h (all-in onNumbers (λ h. isIn eqb h (labelSet p s)) t w h m))
 
-  setT-same : (s : Simplex) → setT filled s ≡ setT p s
-  unfolding setT coefficients
-  setT-same s = refl
-
-  unlabelled-place : (s : Simplex) → isUnlabelledPlace filled s ≡ isUnlabelledPlace p s
-  unfolding isUnlabelledPlace setT coefficients
-  unlabelled-place s = refl
-
   place-stays : (s : Simplex) → isPlace p s ≡ true → isPlace filled s ≡ true
   unfolding isPlace
   place-stays s h =
       let a : Bool = isUnlabelledPlace p s in let b : Bool = within (setT p s) (labelSet p s) in
-      and-both _ _ (unlabelled-place s ∙ and-left a b h) (rw (setT-same s) (within-grows (setT p s) s (and-right a b h)))
-
-  exchanged-stays : (a b : Simplex) → exchanged p a b ≡ true → exchanged filled a b ≡ true
-  unfolding exchanged
-  exchanged-stays a b e =
-      let s = shared a b in
-      let c : Bool = eqb (length a) (suc (length s)) && eqb (length b) (suc (length s)) && same eqb (setT p a) (setT p b) in
-      let d : Bool = within (setT p a) (labelSet p s) in
-      rw (setT-same a, setT-same b) (and-both _ _ (and-left c d e) (within-grows (setT p a) s (and-right c d e)))
-
-  extended-stays : (a b : Simplex) → allLabelled p a ≡ true → extended p a b ≡ true → extended filled a b ≡ true
-  unfolding extended
-  extended-stays a b own e = rw (labelSet-same a own, setT-same b) e
-
-  smaller-labelled : (a b : Simplex) → allLabelled p b ≡ true → extended p a b ≡ true → allLabelled p a ≡ true
-  unfolding extended
-  smaller-labelled a b own e =
-      let c : Bool = eqb (length b) (suc (length a)) in
-      let d : Bool = all (λ y. isIn samePoint y b) a in
-      let f : Bool = same eqb (labelSet p a) (setT p b) in
-      let i = and-right c d (and-left (c && d) f e) in
-      in-all onPoints (hasLabel p) a (λ y m. all-in onPoints (hasLabel p) b own y (all-in onPoints (λ y. isIn samePoint y b) a i y m))
-
-  link-stays : (a b : Simplex) → allLabelled p a ≡ true → linked p a b ≡ true → linked filled a b ≡ true
-  unfolding linked
-  link-stays a b own e =
-      let x : Bool = exchanged p a b in let y : Bool = extended p a b in let z : Bool = extended p b a in
-      let x′ : Bool = exchanged filled a b in let y′ : Bool = extended filled a b in let z′ : Bool = extended filled b a in
-      ⊎-elim (λ m. or-left (x′ || y′) z′
-      (⊎-elim (λ n. or-left x′ y′ (exchanged-stays a b n)) (λ n. or-right x′ y′ (extended-stays a b own n)) (or-cases x y m)))
-      (λ n. or-right (x′ || y′) z′ (extended-stays b a (smaller-labelled b a own n) n)) (or-cases (x || y) z e)
-
-  completeFor-same : (s : Simplex) → allLabelled p s ≡ true → completeFor filled s ≡ completeFor p s
-  unfolding completeFor isComplete
-  completeFor-same s a =
-      ap (λ (l : List ℕ). filter (λ j. all (λ h. isIn eqb h l || isIn eqb h (setU p.grid s)) (indicesOf p.grid j)) (blocks p.grid))
-      (labelSet-same s a)
-
-  placeEnds-same : (s : Simplex) → allLabelled p s ≡ true → placeEnds filled s ≡ placeEnds p s
-  unfolding placeEnds
-  placeEnds-same s a = rw (completeFor-same s a)
-
-  facets-labelled : (s : Simplex) → allLabelled p s ≡ true → all (allLabelled p) (facets s) ≡ true
-  facets-labelled s a = go (ltb 1 (length s))
-    where
-      go : (b : Bool) → all (allLabelled p) (cond b (oneLess s) []) ≡ true
-      go true = all-oneLess (hasLabel p) s a
-      go false = refl
-
-  facetEnds-same : (s : Simplex) → allLabelled p s ≡ true → facetEnds filled s ≡ facetEnds p s
-  unfolding facetEnds
-  facetEnds-same s a =
-      rw (setT-same s) (concatMap-same (asEnds filled) (asEnds p)
-      (λ f. same eqb (labelSet filled f) (setT p s)) (λ f. same eqb (labelSet p f) (setT p s)) (allLabelled p)
-      (facets s) (facets-labelled s a)
-      (λ f own. (
-        ap (λ (l : List ℕ). map (λ j. let e : End = record { kind = facetEnd; block = j; simplex = f } in e) l) (completeFor-same f own),
-        ap (λ (l : List ℕ). same eqb l (setT p s)) (labelSet-same f own),
-      )))
-
-  ends-same : (s : Simplex) → allLabelled p s ≡ true → ends filled s ≡ ends p s
-  unfolding ends
-  ends-same s a = rw (placeEnds-same s a, facetEnds-same s a)
+      and-both _ _ (unlabelled-same p labels s ∙ and-left a b h) (rw (setT-same p labels s) (within-grows (setT p s) s (and-right a b h)))
 
   -- what follows the one path follows the other
   pub follows-filled : (s : List Simplex) → Follows p s → Follows filled s
@@ -177,9 +70,9 @@ module _ (p : Problem) (labels : List ℕ) (fills : Fills p labels) where
     nonempty = k .nonempty;
     begins = k .begins;
     places = λ i c. place-stays (placeAt s i) (k .places i c);
-    links = λ i c. link-stays (placeAt s i) (placeAt s (suc i)) (k .known i c) (k .links i c);
+    links = λ i c. linked-local p labels (placeAt s i) (placeAt s (suc i)) (agree (placeAt s i) (k .known i c)) ∙ k .links i c;
     onward = k .onward;
-    passes = λ i c. ends-same (placeAt s i) (k .known i c) ∙ k .passes i c;
+    passes = λ i c. ends-local p labels (placeAt s i) (agree (placeAt s i) (k .known i c)) ∙ k .passes i c;
     known = λ i c. all-stay (placeAt s i) (k .known i c);
   }
 
@@ -219,7 +112,7 @@ module _ {p : Problem} {labels : List ℕ} (ok : Accepted p) (okFilled : Accepte
           (record {
             follows = follows;
             whole = all-stay p labels fills (lastPlace (path p .visited)) own;
-            finishes = (es, ends-same p labels fills (lastPlace (path p .visited)) own ∙ w);
+            finishes = (es, ends-local p labels (lastPlace (path p .visited)) (agree p labels fills (lastPlace (path p .visited)) own) ∙ w);
           })) b
       go none r (atGap y g) = ⊎-elim
           (λ c. demand3-holds okFilled .spends b .1

@@ -3,6 +3,7 @@ pub mod Coefficients
 pub mod LinkSymmetry
 pub mod Meaning
 pub mod ListOfPlaces
+pub mod Local
 pub mod IndexSets
 pub mod Labels
 pub mod BlocksOfGrid

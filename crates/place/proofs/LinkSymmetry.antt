@@ -97,14 +97,14 @@ module _ (p : Problem) where
       let i = map-in onPoints onNumbers (label p) l a m in
       rw i.2 (in-map onPoints onNumbers (label p) i.0 b (h i.0 i.1))
 
-  labelSet-in : (a b : Simplex) → ((y : Point) → isIn samePoint y a ≡ true → isIn samePoint y b ≡ true) → (h : ℕ) → isIn eqb h (labelSet p a) ≡ true
+  pub labelSet-in : (a b : Simplex) → ((y : Point) → isIn samePoint y a ≡ true → isIn samePoint y b ≡ true) → (h : ℕ) → isIn eqb h (labelSet p a) ≡ true
       → isIn eqb h (labelSet p b) ≡ true
   unfolding labelSet
   labelSet-in a b k h m =
       let i = filter-in onNumbers (λ h. isIn eqb (suc h) (map (label p) a)) h (indices p.grid) m in
       in-filter onNumbers (λ h. isIn eqb (suc h) (map (label p) b)) h (indices p.grid) i.0 (labels-in a b k (suc h) i.1)
 
-  within-mono : (t a b : List ℕ) → ((h : ℕ) → isIn eqb h a ≡ true → isIn eqb h b ≡ true) → within t a ≡ true → within t b ≡ true
+  pub within-mono : (t a b : List ℕ) → ((h : ℕ) → isIn eqb h a ≡ true → isIn eqb h b ≡ true) → within t a ≡ true → within t b ≡ true
   within-mono [] a b k w = refl
   within-mono (x ∷ t) a b k w =
       and-both _ _ (k x (and-left (isIn eqb x a) (within t a) w)) (within-mono t a b k (and-right (isIn eqb x a) (within t a) w))
