@@ -18,7 +18,7 @@ use Rattle.place.proofs.Simplices.{onSimplices}
 use Rattle.place.specs.Coefficients.{coefficients}
 use Rattle.place.specs.Ends.{End, isComplete, completeFor, placeEnds, facetEnds, facets, ends, ways, facetEnd}
 use Rattle.place.specs.Links.{shared, exchanged, extended, linked, links}
-use Rattle.place.specs.Places.{Simplex, setU, setT, labelSet, within, isUnlabelledPlace, isPlace, places, insert, inOrder}
+use Rattle.place.specs.Places.{Simplex, setU, setT, labelSet, within, isUnlabelledPlace, isPlace, allLabelled, places, insert, inOrder}
 use Rattle.place.specs.Problem.{Problem, label, withLabels}
 
 all-cons : {A : Type 0} (q : A → Bool) (x : A) (l : List (List A)) → q x ≡ true → all (all q) l ≡ true
@@ -90,6 +90,10 @@ module _ (p : Problem) (labels : List ℕ) where
   pub place-local : (s : Simplex) → Agree p labels s → isPlace other s ≡ isPlace p s
   unfolding isPlace
   place-local s k = rw (unlabelled-same s, setT-same s, labelSet-same s k)
+
+  pub known-local : (s : Simplex) → Agree p labels s → allLabelled other s ≡ allLabelled p s
+  known-local [] k = refl
+  known-local (y ∷ s) k = rw (k y (in-here onPoints y s), known-local s (λ z m. k z (in-later onPoints z y s m)))
 
   agree-shared : (a b : Simplex) → Agree p labels a → Agree p labels (shared a b)
   agree-shared a b k y m = k y (filter-in onPoints (λ y. isIn samePoint y b) y a m .0)

@@ -28,7 +28,7 @@ use Rattle.place.proofs.Positions.{at-in, in-at, same-at, occurs-in, se
 use Rattle.place.proofs.BlocksOfGrid.{blocksOf, pointOf, coefficientOf, block-agrees, beyond, on-ring, hasZeros, coord-in, coord-out, coefficientOf-is, point-grid, coefficientOf-point, point-coefficientOf, outside-before, back-below}
 use Rattle.place.specs.Coefficients.{IsCoefficients, coefficients}
 use Rattle.place.specs.Demand.{Settled}
-use Rattle.place.specs.Places.{Simplex, isPlace, setU, setT, labelSet, within, order, unit, allLabelled}
+use Rattle.place.specs.Places.{Simplex, isPlace, setU, setT, labelSet, within, order, unit, everyBlockFree, allLabelled}
 use Rattle.place.specs.Problem.{Problem, label}
 
 abbrev pub inT : Problem → Simplex → ℕ → Bool
@@ -64,6 +64,27 @@ index-is m l e =
 -- the label of a point, as an index
 abbrev pub labelOf : Problem → (ℕ → ℕ) → ℕ
 labelOf p c = indexOf (numIndices p.grid) (label p (pointOf p c))
+
+-- every block of the ring has an index in neither of two sets, if every block of the grid has one
+pub free-index : (p : Problem) (t u : List ℕ) → everyBlockFree p.grid t u ≡ true → ((k : ℕ) → isIn eqb k t ≡ true → k < numIndices p.grid)
+    → ((k : ℕ) → isIn eqb k u ≡ true → k < numIndices p.grid) → (i : ℕ)
+    → (f : ℕ) × (blocksOf p .block f ≡ blocksOf p .block i) × (isIn eqb f t ≡ false) × (isIn eqb f u ≡ false)
+free-index p t u every t-below u-below i =
+    let g = p .grid in
+    ⊎-elim
+    (λ (l : i < numIndices g). let e = seat g i l in
+    let f = free-means p [] t u .0 every e.j e.block in
+    let r = upFrom-in (firstIndex g e.j) (size g e.j) f.0 f.1 in
+    let q : f .0 ≡ firstIndex g e.j + (f .0 - firstIndex g e.j) = omega (arith, r .0) in (
+      f .0,
+      ap (blocksOf p .block) q ∙ block-agrees p e.j (f .0 - firstIndex g e.j) (omega (arith, r .0, r .1))
+          ∙ sym (ap (blocksOf p .block) e.is ∙ block-agrees p e.j e.i e.inside),
+      f .2,
+      f .3,
+    ))
+    (λ (l : numIndices g ≤ i).
+    (i, refl, false-of _ (λ m. absurd (omega (arith, t-below i m))), false-of _ (λ m. absurd (omega (arith, u-below i m)))))
+    (before-or-not i (numIndices g))
 
 module _ {p : Problem} (ok : Settled p) where
   pub size-positive : (j : ℕ) → j < numBlocks p.grid → 0 < size p.grid j
@@ -163,22 +184,7 @@ module _ {p : Problem} (ok : Settled p) where
         (same-or (coefficientOf p (nth s j) k) 0)
 
     free-at : (i : ℕ) → (f : ℕ) × (blocksOf p .block f ≡ blocksOf p .block i) × (inT p s f ≡ false) × (inU p s f ≡ false)
-    free-at i =
-        let g = p .grid in
-        ⊎-elim
-        (λ (l : i < numIndices g). let e = seat g i l in
-        let f = free-means p s (setT p s) (setU g s) .0 (parts p s h .free) e.j e.block in
-        let r = upFrom-in (firstIndex g e.j) (size g e.j) f.0 f.1 in
-        let q : f .0 ≡ firstIndex g e.j + (f .0 - firstIndex g e.j) = omega (arith, r .0) in (
-          f .0,
-          ap (blocksOf p .block) q ∙ block-agrees p e.j (f .0 - firstIndex g e.j) (omega (arith, r .0, r .1))
-              ∙ sym (ap (blocksOf p .block) e.is ∙ block-agrees p e.j e.i e.inside),
-          f .2,
-          f .3,
-        ))
-        (λ (l : numIndices g ≤ i).
-        (i, refl, false-of _ (λ m. absurd (omega (arith, T-below i m))), false-of _ (λ m. absurd (omega (arith, U-below i m)))))
-        (before-or-not i (numIndices g))
+    free-at = free-index p (setT p s) (setU p.grid s) (parts p s h .free) T-below U-below
 
     goes : (j : ℕ) → j < length (order p.grid s)
         → (n : ℕ) × Goes (blocksOf p) (inU p s) (at (order p.grid s) j) (coefficientOf p (nth s j)) (coefficientOf p (nth s (suc j))) n
