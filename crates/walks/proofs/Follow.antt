@@ -1,0 +1,194 @@
+-- Calls over one table, made from {v}, follow the path of an accepted table to its end or to its gap. Assumes nothing.
+use mathlib.Core.Bool.{Bool, true, false, not, cond}
+use mathlib.Core.List.{List, [], _∷_}
+use mathlib.Core.Option.{Option, none, some}
+use mathlib.Core.Path.{_≡_, refl, sym, ap, _∙_}
+use Prim.Native.Nat.{ℕ, zero, suc, pred, _≤_, _<_}
+use lib.Dec.{ltb}
+use native.Mathlib.Omega.{arith}
+use Rattle.combinatorics.proofs.Basics.{absurd-bool, false-of, not-is}
+use Rattle.combinatorics.proofs.Lists.{all-in, filter-in, in-filter, in-here, only-list}
+use Rattle.grid.proofs.Points.{onPoints}
+use Rattle.grid.specs.Grid.{Point, bound}
+use Rattle.place.proofs.FromTwoWays.{back}
+use Rattle.place.proofs.PathSteps.{Link, waysOn-split}
+use Rattle.place.proofs.Simplices.{simplex-sound}
+use Rattle.place.proofs.Theorem.{demand3-holds}
+use Rattle.place.proofs.Ways.{byLink, onWays, in-ways}
+use Rattle.place.specs.Demand.{Accepted, Demand3, Stop, atEnd, atGap, placeAt, leftAt}
+use Rattle.place.specs.Ends.{Kind, End, link, ends, ways}
+use Rattle.place.specs.Path.{isBack, waysOn, sameSimplex, path, pathLength, spent, unknown, ended as runEnded, outcome, answer}
+use Rattle.place.specs.Places.{Simplex, allLabelled, unlabelled}
+use Rattle.place.specs.Problem.{Problem, hasLabel}
+use Rattle.walks.proofs.Meaning.{Came, begins, came, Stands, Passes, of-passes, meets-16, one-way-on}
+use Rattle.walks.proofs.Moved.{next-onward, answer-refused}
+use Rattle.walks.specs.Claims.{walkAt, facingBack, called, CallsFollow}
+use Rattle.walks.specs.Next.{refused, ended, moved, byWay, nextOf, ruleOf, moveAnswer, moveWalk}
+use Rattle.walks.specs.Preview.{moveTo, preview}
+use Rattle.walks.specs.Walk.{Walk}
+
+pred-below : (n : ℕ) → 0 < n → pred n < n
+pred-below n c = omega arith
+
+module _ {p : Problem} (ok : Accepted p) where
+  abbrev visited : List Simplex
+  visited = path p .visited
+
+  abbrev here : ℕ → Simplex
+  here i = placeAt visited i
+
+  follows : Demand3 p
+  follows = demand3-holds ok
+
+  link-at : (i : ℕ) → suc i < pathLength p → Link p (here i) (here (suc i))
+  link-at i c = record { from = follows .follows .places i (omega arith); to = follows .follows .places (suc i) c; by = follows .follows .links i c }
+
+  not-start : (i : ℕ) → suc i < pathLength p → here (suc i) ≡ p .start ∷ [] → ⊥
+  not-start i c q = follows .once 0 (suc i) (omega arith) c (λ y. rw (follows .follows .begins, q))
+
+  came-at : (i : ℕ) → i < pathLength p → Came p (leftAt visited i) (here i)
+  came-at zero c = rw (follows .follows .begins) begins
+  came-at (suc i) c = came (link-at i c) (not-start i c)
+
+  stands-at : (i : ℕ) → i < pathLength p → Stands p (walkAt p i)
+  stands-at i c = record {
+    place = follows .follows .places i c;
+    came = came-at i c;
+    some = omega arith;
+    bounded = omega (arith, follows .bounded);
+  }
+
+  passes-at : (i : ℕ) → i < pathLength p → allLabelled p (here i) ≡ true → Passes (walkAt p i) p.labels
+  passes-at i c own = record { accepted = ok; stands = stands-at i c; known = own }
+
+  onward-at : (i : ℕ) → suc i < pathLength p → isBack (leftAt visited i) (link (here (suc i))) ≡ false
+  onward-at zero c = refl
+  onward-at (suc i) c = false-of _ (λ q. follows .follows .onward i c (simplex-sound (here i) (here (suc (suc i))) q))
+
+  -- before the last place the one way on is the link to the next
+  ways-at : (i : ℕ) → suc i < pathLength p → waysOn p (leftAt visited i) (here i) ≡ link (here (suc i)) ∷ []
+  unfolding waysOn
+  ways-at i c =
+      only-list onWays (link (here (suc i))) (waysOn p (leftAt visited i) (here i))
+      (omega (arith, follows .one i (omega arith) (follows .follows .known i c)))
+      (in-filter onWays (λ w. not (isBack (leftAt visited i) w)) (link (here (suc i))) (ways p (here i))
+      (in-ways p (here i) ok.settled.sameNumber (byLink (here (suc i)) (follows .follows .places (suc i) c) (follows .follows .links i c)))
+      (rw (onward-at i c)))
+
+  next-at : (i : ℕ) → suc i < pathLength p → nextOf (walkAt p i) p.labels ≡ moved (here (suc i))
+  next-at i c =
+      next-onward (walkAt p i) p.labels (of-passes (walkAt p i) p.labels (passes-at i (omega arith) (follows .follows .known i c)))
+      ∙ ap byWay (ways-at i c)
+
+  stands : (i : ℕ) → i < pathLength p → called p i ≡ walkAt p i
+  unfolding moveWalk
+  stands zero c = rw (follows .follows .begins)
+  stands (suc i) c = ap (λ (w : Walk). moveWalk w p.labels) (stands i (omega arith)) ∙ rw (next-at i c)
+
+  moves : (i : ℕ) → suc i < pathLength p → moveAnswer (called p i) p.labels ≡ moved (ruleOf p (here i) (here (suc i)))
+  unfolding moveAnswer
+  moves i c = rw (stands i (omega arith), next-at i c)
+
+  shows : (i : ℕ) → suc i < pathLength p → preview (called p i) p.labels ≡ moved (moveTo p (here i) (here (suc i)))
+  unfolding preview
+  shows i c = rw (stands i (omega arith), next-at i c)
+
+  abbrev last : ℕ
+  last = pred (pathLength p)
+
+  last-below : last < pathLength p
+  last-below = pred-below (pathLength p) follows.follows.nonempty
+
+  -- at the end
+  ends-at : (e : End) (es : List End) → allLabelled p (here last) ≡ true → ends p (here last) ≡ e ∷ es
+      → moveAnswer (called p last) p.labels ≡ ended e.kind (suc e.block) e.simplex
+  unfolding moveAnswer
+  ends-at e es own q =
+      rw (
+        stands last last-below,
+        next-onward (walkAt p last) p.labels (of-passes (walkAt p last) p.labels (passes-at last last-below own)),
+        waysOn-split p (leftAt visited last) (here last),
+        q,
+      )
+
+  -- at the gap
+  gap-at : (y : Point) → unlabelled p (here last) ≡ y ∷ [] → moveAnswer (called p last) p.labels ≡ refused 16
+  gap-at y g =
+      let m = filter-in onPoints (λ y. not (hasLabel p y)) y (here last) (rw g (in-here onPoints y [])) in
+      let f : allLabelled p (here last) ≡ false = false-of _ (λ own. absurd-bool (sym (all-in onPoints (hasLabel p) (here last) own y m.0) ∙ not-is _ m.1)) in
+      rw (stands last last-below)
+      (answer-refused (walkAt p last) p.labels 16 (λ z. absurd (omega arith)) (meets-16 (walkAt p last) p.labels ok (stands-at last last-below) f))
+
+  places-at : (n : ℕ) → n ≡ pathLength p → called p (pred n) .places ≡ n
+  places-at n e =
+      let c = follows .follows .nonempty in
+      rw (stands (pred n) (omega arith)) (omega arith)
+
+  -- what the run says
+  run-ended : (b n : ℕ) (k : Kind) (j v : ℕ) (s : Simplex) → answer p b ≡ runEnded n k j v s
+      → (n ≡ pathLength p) × (moveAnswer (called p last) p.labels ≡ ended k j s)
+  unfolding answer
+  run-ended b n k j v s q = go (ltb b (pathLength p)) (path p .end) follows.stops q
+    where
+      go : (c : Bool) (d : Option End) → Stop p (here last) d → cond c (spent b) (outcome p visited d) ≡ runEnded n k j v s
+          → (n ≡ pathLength p) × (moveAnswer (called p last) p.labels ≡ ended k j s)
+      go true d t q = absurd-bool (cc)
+      go false none t q = absurd-bool (cc)
+      go false (some e) (atEnd es own w) q =
+          let a : pathLength p ≡ n = cc in
+          let f : e .kind ≡ k = cc in
+          let g : suc e.block ≡ j = cc in
+          let h : e .simplex ≡ s = cc in
+          (sym a, rw (← f, ← g, ← h) (ends-at e es own w))
+
+  run-asks : (b n i : ℕ) → answer p b ≡ unknown n i → (suc n ≡ pathLength p) × (moveAnswer (called p last) p.labels ≡ refused 16)
+  unfolding answer
+  run-asks b n i q = (follows .asked b n i q .0, go (ltb b (pathLength p)) (path p .end) follows.stops q)
+    where
+      go : (c : Bool) (d : Option End) → Stop p (here last) d → cond c (spent b) (outcome p visited d) ≡ unknown n i
+          → moveAnswer (called p last) p.labels ≡ refused 16
+      go true d t q = absurd-bool (cc)
+      go false (some e) t q = absurd-bool (cc)
+      go false none (atGap y g) q = gap-at y g
+
+  -- facing back, between {v} and the last place
+  module _ (i n : ℕ) (c : suc (suc i) < pathLength p) (some-place : 1 ≤ n) (few : n ≤ bound p.grid) where
+    behind : Link p (here i) (here (suc i))
+    behind = link-at i (omega arith)
+
+    passes-back : Passes (facingBack p (suc i) n) p.labels
+    passes-back = record {
+      accepted = ok;
+      stands = record {
+        place = behind .to;
+        came = came (back (here (suc i)) (here (suc (suc i))) (link-at (suc i) c)) (not-start i (omega arith));
+        some = some-place;
+        bounded = few;
+      };
+      known = follows .follows .known (suc i) c;
+    }
+
+    ways-back : waysOn p (some (here (suc (suc i)))) (here (suc i)) ≡ link (here i) ∷ []
+    unfolding waysOn
+    ways-back =
+        let l = back (here i) (here (suc i)) behind in
+        let away : sameSimplex (here (suc (suc i))) (here i) ≡ false = false-of _ (λ q. follows .follows .onward i c (sym (simplex-sound _ _ q))) in
+        only-list onWays (link (here i)) (waysOn p (some (here (suc (suc i)))) (here (suc i)))
+        (omega (arith, one-way-on (facingBack p (suc i) n) p.labels passes-back))
+        (in-filter onWays (λ w. not (isBack (some (here (suc (suc i)))) w)) (link (here i)) (ways p (here (suc i)))
+        (in-ways p (here (suc i)) ok.settled.sameNumber (byLink (here i) l.to l.by)) (rw away))
+
+    moves-back : moveWalk (facingBack p (suc i) n) p.labels ≡ facingBack p i (suc n)
+    unfolding moveWalk
+    moves-back =
+        rw (next-onward (facingBack p (suc i) n) p.labels (of-passes (facingBack p (suc i) n) p.labels passes-back) ∙ ap byWay ways-back)
+
+  pub calls-follow : CallsFollow p
+  calls-follow = record {
+    stands = stands;
+    moves = moves;
+    shows = shows;
+    ends = λ b n k j v s q. let r = run-ended b n k j v s q in (places-at n r.0, rw (r .0) (r .1));
+    gap = λ b n i q. let r = run-asks b n i q in let z : n ≡ last = ap pred r.0 in (places-at (suc n) r.0, rw z (r .1));
+    back = moves-back;
+  }

@@ -1,0 +1,5 @@
+pub mod Worked
+pub mod Meaning
+pub mod Local
+pub mod Moved
+pub mod Follow

@@ -1,0 +1,5 @@
+pub mod Walk
+pub mod Next
+pub mod Preview
+pub mod Claims
+pub mod Worked
