@@ -69,12 +69,23 @@ static void check_shelf(void)
     expect("an entry that names a later sheet", leveretplate_current(list, 6, 6, 1, &last) == 21 && last == 77);
 }
 
+static void check_check(void)
+{
+    const uint8_t sizes[] = {2, 2}, table[] = {3, 1, 2, 4};
+    const uint16_t divisions[] = {1, 1};
+    const uint16_t end[] = {0, 1, 0, 1, 1, 0, 1, 0, 1, 0, 0, 1}, twice[] = {1, 0, 1, 0, 1, 0, 1, 0};
+    expect("the end in another order", leveretplate_check(sizes, 2, divisions, 2, table, 4, end, 12) == 256 * 2);
+    expect("a point that stands twice", leveretplate_check(sizes, 2, divisions, 2, table, 4, twice, 8) == 0);
+    expect("part of a point", leveretplate_check(sizes, 2, divisions, 2, table, 4, end, 11) == 19);
+}
+
 int main(void)
 {
     check_sheet();
     check_run();
     check_label();
     check_shelf();
+    check_check();
     printf("%d wrong\n", failures);
     return failures != 0;
 }

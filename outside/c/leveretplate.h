@@ -33,6 +33,14 @@ uint8_t leveretplate_label(const uint8_t *sizes, size_t sizes_length,
                            uint8_t *labels, size_t labels_length,
                            uint64_t *count);
 
+/* Says of points, m numbers each one after another and in any order, whether they are distinct, belong to one simplex of the Q triangulation and are
+ * complete: 256 times the first block for which they are, counted from 1; 0 where they are not; or the refusal's number, 1 to 4, 6, 7 or 19. A label 0
+ * stands for no index. Writes nothing. */
+uint16_t leveretplate_check(const uint8_t *sizes, size_t sizes_length,
+                            const uint16_t *divisions, size_t divisions_length,
+                            const uint8_t *labels, size_t labels_length,
+                            const uint16_t *points, size_t points_length);
+
 /* Writes the sheet of a slip, a refusal's sheet too, and answers its length. `sheet` has LEVERETPLATE_SHEET bytes. */
 size_t leveretplate_sheet(const uint8_t *slip, size_t slip_length, uint8_t *sheet);
 

@@ -1,5 +1,5 @@
 #!/usr/bin/env python3
-"""Makes the input and the expected output of the programs stored_cases, exported_calls and shelf_cases from the cases in this folder.
+"""Makes the input and the expected output of the programs stored_cases, exported_calls, check_cases and shelf_cases from the cases in this folder.
 
 Each case is a text of lines. `call` says what is called. A slip is given in hexadecimal, or by its fields; `60000x2` stands for 60,000 times 2, and
 `-` for a field that is not there. The lines behind `expect`, up to `later`, are the sheet. A shelf's calls stand in `file`, `ask` or `script`; behind
@@ -156,6 +156,19 @@ def write_shelves(chosen):
     (crate / "stdout").write_text("".join(f"case {n}\n" + shelf_output(*case) for n, case in enumerate(chosen, 1)))
 
 
+def write_checks(chosen):
+    data = len(chosen).to_bytes(2, "little")
+    text = ""
+    for number, (fields, expect) in enumerate(chosen, 1):
+        for name in ("sizes", "d", "labels", "points"):
+            for value, group in itertools.groupby(numbers(fields.get(name, ""))):
+                data += little((len(list(group)), value), 2)
+            data += little((0, 0), 2)
+        text += f"list {number}\n{expect}"
+    (CRATES / "check_cases" / "stdin").write_bytes(data)
+    (CRATES / "check_cases" / "stdout").write_text(text)
+
+
 everything = list(cases())
 write_slips([c for c in everything if c[0]["call"] == "slip"])
 write_shelves([c for c in everything if c[0]["call"] == "shelf"])
@@ -164,3 +177,4 @@ ends = [(f, e) for f, e in everything if f.get("name", "").startswith("end ") an
 calls = [(run_call(f), run_answer(f, e)) for f, e in runs_stored + [as_run(f, e) for f, e in ends]]
 calls += [(label_call(f), with_count(e)) for f, e in everything if f["call"] == "label"]
 write_calls(calls)
+write_checks([c for c in everything if c[0]["call"] == "check"])

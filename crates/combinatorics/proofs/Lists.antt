@@ -3,7 +3,7 @@ use mathlib.Core.Bool.{Bool, true, false, not, cond}
 use mathlib.Core.List.{List, [], _∷_, _++_, map}
 use mathlib.Core.Logic.{_⊎_, inl, inr, ⊎-elim}
 use mathlib.Core.Path.{_≡_, refl, sym, ap, _∙_, subst}
-use Prim.Native.Nat.{ℕ, suc, _*_, _≤_, zero, _<_}
+use Prim.Native.Nat.{ℕ, suc, _+_, _*_, _≤_, zero, _<_}
 use borrow.Author.Tests.{eqb-true, eq-eqb}
 use lib.Dec.{eqb}
 use lib.ListN.{length, length-append, getD}
@@ -186,6 +186,27 @@ module _ {A : Type 0} (E : Equality A) where
       (filter-all ys (λ z n. rw (false-of (eq x z) (λ k. absurd-bool (sym (rw (← sound x z k, sound x y t) at n) ∙ out)))))))
       (λ f. rw f (omega (arith, length-without x ys (distinct-tail eq y ys d) (rw f at m))))
       (true-or-false (eq x y))
+
+  -- a list no longer than a list without repeats whose elements it all has, has no repeats either
+  pub distinct-within : (b a : List A) → distinct eq a ≡ true → ((z : A) → isIn eq z a ≡ true → isIn eq z b ≡ true) → length b ≤ length a
+      → distinct eq b ≡ true
+  distinct-within [] a d h l = refl
+  distinct-within (x ∷ b) a d h l =
+      let not-in-b : ((z : A) → isIn eq z a ≡ true → isIn eq z b ≡ true) → ⊥ = λ k. omega (arith, pigeon a b d k) in
+      let out : isIn eq x b ≡ false = false-of _ (λ m. not-in-b (λ z n. ⊎-elim (λ e. rw e m) (λ k. k) (in-cases z x b (h z n)))) in
+      let here : isIn eq x a ≡ true =
+      ⊎-elim (λ t. t) (λ f. absurd (not-in-b (λ z n. ⊎-elim (λ e. absurd-bool (sym n ∙ (rw e f))) (λ k. k) (in-cases z x b (h z n)))))
+      (true-or-false (isIn eq x a)) in
+      rw out (distinct-within b (filter (λ y. not (eq x y)) a) (distinct-filter (λ y. not (eq x y)) a d)
+      (λ z n. let w = filter-in (λ y. not (eq x y)) z a n in
+      ⊎-elim (λ (e : z ≡ x). absurd-bool (sym (self x) ∙ (rw e at (not-is (eq x z) w.1)))) (λ k. k) (in-cases z x b (h z w.0)))
+      (omega (arith, length-without x a d here)))
+
+-- as many elements pass a test as do not fail it
+pub length-passing : {A : Type 0} (q : A → Bool) (xs : List A) → length (filter q xs) + length (filter (λ x. not (q x)) xs) ≡ length xs
+length-passing q [] = omega arith
+length-passing q (x ∷ xs) =
+    let i = length-passing q xs in ⊎-elim (λ t. rw t (omega arith)) (λ f. rw f (omega arith)) (true-or-false (q x))
 
 module _ {A B : Type 0} (E : Equality A) (F : Equality B) where
   open Equality E using (eq, sound, self)

@@ -11,12 +11,7 @@ use native.Mathlib.Omega.{arith}
 use Rattle.combinatorics.proofs.Basics.{absurd-bool, false-of}
 use Rattle.combinatorics.proofs.Lists.{in-here, in-later, in-map, in-filter, distinct-filter, distinct-out, distinct-tail, in-concatMap, length-concatMap, length-without, onNumbers, onLists}
 use Rattle.combinatorics.specs.Counting.{falling}
-use Rattle.combinatorics.specs.Lists.{filter, isIn, distinct, concatMap, upFrom, sum, same}
-
--- lists of at most n different elements, in every order
-abbrev pub selections : ℕ → List ℕ → List (List ℕ)
-selections zero xs = [] ∷ []
-selections (suc n) xs = [] ∷ concatMap (λ x. map (λ l. x ∷ l) (selections n (filter (λ y. not (eqb x y)) xs))) xs
+use Rattle.combinatorics.specs.Lists.{filter, isIn, distinct, concatMap, upFrom, sum, same, selections}
 
 abbrev pub orders : ℕ → ℕ → ℕ
 orders m n = sum (map (falling m) (upFrom 0 (suc n)))

@@ -70,3 +70,8 @@ sublists (x ∷ xs) = let rest = sublists xs in map (λ l. x ∷ l) rest ++ rest
 abbrev pub oneLess : {A : Type 0} → List A → List (List A)
 oneLess [] = []
 oneLess (x ∷ xs) = xs ∷ map (λ l. x ∷ l) (oneLess xs)
+
+-- lists of at most n different elements, in every order
+abbrev pub selections : ℕ → List ℕ → List (List ℕ)
+selections zero xs = [] ∷ []
+selections (suc n) xs = [] ∷ concatMap (λ x. map (λ l. x ∷ l) (selections n (filter (λ y. not (eqb x y)) xs))) xs

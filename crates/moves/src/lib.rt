@@ -12,6 +12,8 @@ mod walk;
 pub use lists::index_at;
 pub use lists::position_at;
 pub use lists::wide32;
+pub use mask::add;
+pub use mask::has;
 pub use moves::step;
 pub use points::advance;
 pub use points::block_sizes;

@@ -11,8 +11,8 @@ use native.Mathlib.Omega.{arith}
 use Rattle.combinatorics.proofs.Basics.{absurd-bool, and-both, and-left, and-right, or-left, or-right, or-cases, true-or-false}
 use Rattle.combinatorics.proofs.Lists.{length-filter-le, in-map, map-in, in-filter, filter-append, distinct-map, in-concatMap, length-concatMap, pigeon, onNumbers, all-cong}
 use Rattle.combinatorics.proofs.Ranges.{distinct-upFrom, length-upFrom, all-shift, upFrom-add}
-use Rattle.combinatorics.proofs.Selections.{selections, orders, length-selections, in-selections}
-use Rattle.combinatorics.specs.Lists.{filter, all, any, isIn, distinct, concatMap, upFrom, sum, firstOr}
+use Rattle.combinatorics.proofs.Selections.{orders, length-selections, in-selections}
+use Rattle.combinatorics.specs.Lists.{filter, all, any, isIn, distinct, concatMap, upFrom, sum, firstOr, selections}
 use Rattle.geometry.proofs.Graph.{code-determines}
 use Rattle.grid.proofs.Points.{onPoints, in-points}
 use Rattle.grid.specs.Grid.{samePoint, points, isGridPoint, numBlocks, numIndices, dimension, indices, blocks, indicesOf, at, bound}

@@ -3,7 +3,8 @@ ghost use mathlib.Core.Path.{_≡_};
 ghost use Prim.Native.Nat.{_≤_};
 ghost use Rattle.rounding.specs.Centre.{centre as centreOf};
 
-// The centre's number for the sum of `count` coordinates: of the quotient and the next number the nearest, and the even one where both are equally near.
+// The centre's number for the sum of `count` coordinates: of the quotient and the next number the nearest, and the even
+// one where both are equally near.
 pub fn centre(total: u64, count: usize, division: u16) -> u64
     requires { ⌜ (total ≤ 1048560) × (1 ≤ count) × (count ≤ 16) × (1 ≤ division) ⌝ }
     ensures { λ r. ⌜ r ≡ centreOf total count division ⌝ }

@@ -35,11 +35,11 @@ min-and zero (suc (suc y)) a b = absurd (omega arith)
 min-and (suc zero) (suc (suc y)) a b = absurd (omega arith)
 min-and (suc (suc x)) y a b = absurd (omega arith)
 
-bit-or : (a b k : ℕ) → bit (bitOr a b) k ≡ (bit a k || bit b k)
+pub bit-or : (a b k : ℕ) → bit (bitOr a b) k ≡ (bit a k || bit b k)
 unfolding bit
 bit-or a b k = rw (or-shr, or-last-bit) (max-or (a / 2 ^ k % 2) (b / 2 ^ k % 2) (omega arith) (omega arith))
 
-bit-and : (a b k : ℕ) → bit (bitAnd a b) k ≡ (bit a k && bit b k)
+pub bit-and : (a b k : ℕ) → bit (bitAnd a b) k ≡ (bit a k && bit b k)
 unfolding bit
 bit-and a b k = rw (and-shr, and-last-bit) (min-and (a / 2 ^ k % 2) (b / 2 ^ k % 2) (omega arith) (omega arith))
 

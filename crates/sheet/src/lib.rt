@@ -23,14 +23,16 @@ pub enum Kind {
 
 // The sheet of a refusal other than 9 and 16.
 pub fn refused(out: &mut [u8; 4096], number: u8) -> usize
-    ensures { λ r. ⌜ (r ≡ length (refusedSheet number)) × (now (out .exit) ≡ front (refusedSheet number) (now (out .entry))) ⌝ }
+    ensures { λ r. ⌜ (r ≡ length (refusedSheet number))
+        × (now (out .exit) ≡ front (refusedSheet number) (now (out .entry))) ⌝ }
 {
     labelled(out, 0, b"refused", number as u64)
 }
 
 // The sheet of refusal 9, the budget spent.
 pub fn spent(out: &mut [u8; 4096], places: u64) -> usize
-    ensures { λ r. ⌜ (r ≡ length (spentSheet places)) × (now (out .exit) ≡ front (spentSheet places) (now (out .entry))) ⌝ }
+    ensures { λ r. ⌜ (r ≡ length (spentSheet places))
+        × (now (out .exit) ≡ front (spentSheet places) (now (out .entry))) ⌝ }
 {
     let next = labelled(out, 0, b"refused", 9);
     labelled(out, next, b"places", places)

@@ -16,7 +16,8 @@ ghost use Rattle.sheet.specs.Sheet.{vertexLine};
 // The numbers of `row`, each behind a blank.
 fn all_spaced(out: &mut [u8; 4096], at: usize, row: &[u16]) -> usize
     requires { ⌜ (at ≤ 3600) × (length (now row) ≤ 16) ⌝ }
-    ensures { λ r. ⌜ Part (flatMap spacedOf (now (row .entry))) (now (out .entry)) (now (out .exit)) at r × (r ≤ at + 96) ⌝ }
+    ensures { λ r. ⌜ Part (flatMap spacedOf (now (row .entry))) (now (out .entry)) (now (out .exit)) at r
+        × (r ≤ at + 96) ⌝ }
 {
     let mut next = at;
     let mut i: usize = 0;
@@ -46,7 +47,8 @@ pub fn vertex_lines(
     m: usize,
 ) -> usize
     requires { ⌜ (at ≤ 1500) × (count ≤ 16) × (1 ≤ m) × (m ≤ 16) × (count * m ≤ length (now vertices)) ⌝ }
-    ensures { λ r. ⌜ Part (flatMap vertexLine (rows count m (now (vertices .entry)))) (now (out .entry)) (now (out .exit)) at r × (r ≤ at + 117 * count) ⌝ }
+    ensures { λ r. ⌜ Part (flatMap vertexLine (rows count m (now (vertices .entry)))) (now (out .entry)) (now (out .exit)) at r
+        × (r ≤ at + 117 * count) ⌝ }
 {
     let mut next = at;
     let mut k: usize = 0;

@@ -1,5 +1,5 @@
-// Bytes, decimal numbers and lines of a word and a number. Only the sheet calls these functions: each writes into the lent buffer from a position on, for which
-// there is room, and returns the position behind what it wrote.
+// Bytes, decimal numbers and lines of a word and a number. Only the sheet calls these functions: each writes into the
+// lent buffer from a position on, for which there is room, and returns the position behind what it wrote.
 ghost use mathlib.Core.Path.{_≡_};
 ghost use mathlib.Core.List.{[], _∷_};
 ghost use Prim.Native.Nat.{_+_, _≤_, _<_};
@@ -58,7 +58,8 @@ pub fn spaced(out: &mut [u8; 4096], at: usize, n: u64) -> usize
 // A line of a word and a number.
 pub fn labelled(out: &mut [u8; 4096], at: usize, word: &[u8], n: u64) -> usize
     requires { ⌜ (at ≤ 3500) × (length (now word) ≤ 16) ⌝ }
-    ensures { λ r. ⌜ Part (line (now (word .entry)) n) (now (out .entry)) (now (out .exit)) at r × (r ≤ at + 38) × (length (now (out .entry)) ≡ 4096) ⌝ }
+    ensures { λ r. ⌜ Part (line (now (word .entry)) n) (now (out .entry)) (now (out .exit)) at r
+        × (r ≤ at + 38) × (length (now (out .entry)) ≡ 4096) ⌝ }
 {
     let mut next = text(out, at, word);
     next = spaced(out, next, n);

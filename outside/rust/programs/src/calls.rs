@@ -37,12 +37,22 @@ pub enum ShelfCall {
     Ask(usize),
 }
 
+/// A list of points to be checked, m numbers each one after another.
+#[derive(Clone, Debug, Default, PartialEq)]
+pub struct CheckCall {
+    pub sizes: Vec<u8>,
+    pub divisions: Vec<u16>,
+    pub labels: Vec<u8>,
+    pub points: Vec<u16>,
+}
+
 #[derive(Clone, Debug, PartialEq)]
 pub enum Call {
     Run(RunCall),
     Label(LabelCall),
     Slip(Vec<u8>),
     Shelf(ShelfCalls),
+    Check(CheckCall),
 }
 
 /// A slip's fields; those that are none are left out of the slip.
@@ -127,6 +137,10 @@ impl Display for Call {
                 writeln!(to, "call run\nsizes {}\nd {}", spaced(&run.sizes), spaced(&run.divisions))?;
                 writeln!(to, "start {}\nlabels {}", spaced(&run.start), spaced(&run.labels))?;
                 write!(to, "budget {}\nanswer {}\nslip {}", run.budget, run.answer, hex(&run.slip()))
+            }
+            Call::Check(check) => {
+                writeln!(to, "call check\nsizes {}\nd {}", spaced(&check.sizes), spaced(&check.divisions))?;
+                write!(to, "labels {}\npoints {}", spaced(&check.labels), spaced(&check.points))
             }
             Call::Label(label) => {
                 writeln!(to, "call label\nsizes {}\nd {}", spaced(&label.sizes), spaced(&label.divisions))?;

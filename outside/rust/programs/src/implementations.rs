@@ -1,9 +1,9 @@
 //! Everything that answers a call: by the definitions, by the paper's steps, and the proved code where it is linked.
 
-use crate::calls::{LabelCall, RunCall, ShelfCall, ShelfCalls};
+use crate::calls::{CheckCall, LabelCall, RunCall, ShelfCall, ShelfCalls};
 use reference::grid::Grid;
 use reference::slip::{self, ByDefinitions, ByPaper, Slip, SHEET_BYTES};
-use reference::{games, paper, questions, shelf, small, Outcome};
+use reference::{check, games, paper, questions, shelf, small, Outcome, Verdict};
 
 pub type Sheet = [u8; SHEET_BYTES];
 
@@ -17,6 +17,13 @@ pub trait Implementation {
 
     /// The count of labels written, or the refusal's number.
     fn label(&self, call: &LabelCall, labels: &mut [u8]) -> Result<usize, u64>;
+
+    fn check(&self, call: &CheckCall) -> Verdict;
+
+    /// Whether a list of points on this grid can be checked in reasonable time.
+    fn fits_check(&self, grid: &Grid) -> bool {
+        self.fits(grid)
+    }
 
     /// The length of the sheet.
     fn sheet(&self, slip: &[u8], sheet: &mut Sheet) -> usize;
@@ -74,6 +81,10 @@ impl Implementation for Paper {
         games::label(&call.sizes, &call.divisions, &call.losses, labels)
     }
 
+    fn check(&self, call: &CheckCall) -> Verdict {
+        check::by_lists(&call.sizes, &call.divisions, &call.labels, &call.points)
+    }
+
     fn sheet(&self, slip: &[u8], sheet: &mut Sheet) -> usize {
         slip::sheet::<ByPaper>(slip, sheet)
     }
@@ -109,6 +120,14 @@ impl Implementation for Definitions {
         let grid = questions::of_labelling(&call.sizes, &call.divisions, &call.losses, labels.len())?;
         games::fill_by_rule(&grid, &call.losses, labels);
         Ok(grid.points)
+    }
+
+    fn check(&self, call: &CheckCall) -> Verdict {
+        check::by_search(&call.sizes, &call.divisions, &call.labels, &call.points)
+    }
+
+    fn fits_check(&self, grid: &Grid) -> bool {
+        check::fits(grid)
     }
 
     fn sheet(&self, slip: &[u8], sheet: &mut Sheet) -> usize {

@@ -1,6 +1,6 @@
 //! The inputs of the comparison and of the benchmark.
 
-use crate::calls::{game_table, Call, Fields, GameTable, LabelCall, RunCall, ShelfCall, ShelfCalls};
+use crate::calls::{game_table, Call, CheckCall, Fields, GameTable, LabelCall, RunCall, ShelfCall, ShelfCalls};
 use crate::random::Random;
 use reference::grid::{Grid, MOST_INDICES};
 use reference::shelf::MOST_SHEETS;
@@ -441,6 +441,163 @@ fn damage(random: &mut Random, slip: &mut Vec<u8>) {
         3 => slip.iter_mut().skip(at).take(1).for_each(|byte| *byte ^= 1 << random.below(8)),
         4 => slip.iter_mut().take(1).for_each(|byte| *byte = random.below(32) as u8),
         _ => slip.iter_mut().skip(at % 20).take(1).for_each(|byte| *byte = random.below(18) as u8),
+    }
+}
+
+/// Every set of up to n + 1 points of small grids, some with a point that stands twice, in random order and with random labels, gaps too.
+pub fn every_list(take: Take) {
+    let mut random = Random(14);
+    let grids: [(&[u8], &[u16]); 9] = [
+        (&[2], &[3]),
+        (&[3], &[2]),
+        (&[4], &[1]),
+        (&[2, 2], &[1, 1]),
+        (&[2, 2], &[2, 1]),
+        (&[3, 2], &[1, 1]),
+        (&[2, 2, 2], &[1, 1, 1]),
+        (&[3, 3], &[1, 1]),
+        (&[4], &[2]),
+    ];
+    for (sizes, divisions) in grids {
+        let grid = Grid::new(sizes, divisions).expect("a grid");
+        let all = grid.all_points();
+        for set in 1u32..1 << all.len() {
+            if set.count_ones() as usize > grid.n() + 1 {
+                continue;
+            }
+            let mut chosen: Vec<usize> = (0..all.len()).filter(|&at| set >> at & 1 == 1).collect();
+            if chosen.len() <= grid.n() && random.chance(8) {
+                chosen.push(*random.among(&chosen));
+            }
+            for at in 1..chosen.len() {
+                chosen.swap(at, random.below(at + 1));
+            }
+            take(check_of(&mut random, sizes, divisions, &grid, chosen.iter().map(|&at| &all[at][..grid.m])));
+        }
+    }
+}
+
+/// A list with random labels, mostly such that some block may be complete.
+fn check_of<'a>(
+    random: &mut Random,
+    sizes: &[u8],
+    divisions: &[u16],
+    grid: &Grid,
+    points: impl Iterator<Item = &'a [u16]>,
+) -> Call {
+    let mut labels = random_labels(random, grid);
+    for _ in 0..random.below(3) {
+        let at = random.below(labels.len());
+        labels[at] = 0;
+    }
+    Call::Check(CheckCall {
+        sizes: sizes.to_vec(),
+        divisions: divisions.to_vec(),
+        labels,
+        points: points.flatten().copied().collect(),
+    })
+}
+
+/// Parts of random simplices, some with a point moved, in random order.
+pub fn lists_near_simplices(seed: u64, count: usize, limit: usize, take: Take) {
+    let mut random = Random(seed);
+    for _ in 0..count {
+        let (sizes, divisions, grid) = random_grid(&mut random, limit);
+        let mut points = random_simplex(&mut random, &grid);
+        for _ in 0..random.below(points.len()) {
+            points.swap_remove(random.below(points.len()));
+        }
+        for at in 1..points.len() {
+            points.swap(at, random.below(at + 1));
+        }
+        if random.chance(3) {
+            let at = random.below(points.len());
+            points[at] = random_start(&mut random, &grid);
+        }
+        take(check_of(&mut random, &sizes, &divisions, &grid, points.iter().map(|point| &point[..])));
+    }
+}
+
+/// From a random point steps at indices in random order, as far as they stay on the grid.
+fn random_simplex(random: &mut Random, grid: &Grid) -> Vec<Vec<u16>> {
+    let mut points = vec![random_start(random, grid)];
+    let mut left: Vec<u8> = one_left_out(random, grid);
+    while !left.is_empty() {
+        let h = left.swap_remove(random.below(left.len())) as usize - 1;
+        let range = grid.ranges().find(|range| range.contains(&h)).expect("a block");
+        let before = if h == range.start { range.end - 1 } else { h - 1 };
+        let mut next = points[points.len() - 1].clone();
+        if next[before] > 0 {
+            next[h] += 1;
+            next[before] -= 1;
+            points.push(next);
+        }
+    }
+    points
+}
+
+/// All points of a simplex that begins at the first corner, the last first, with the label 1 everywhere: the test goes through all of them.
+pub fn whole_simplex(sizes: &[u8], divisions: &[u16]) -> CheckCall {
+    let grid = Grid::new(sizes, divisions).expect("a grid");
+    let mut points = vec![grid.first_corner()[..grid.m].to_vec()];
+    for range in grid.ranges() {
+        for h in range.start + 1..range.end {
+            let mut next = points[points.len() - 1].clone();
+            next[h] += 1;
+            next[h - 1] -= 1;
+            points.push(next);
+        }
+    }
+    points.reverse();
+    CheckCall { sizes: sizes.to_vec(), divisions: divisions.to_vec(), labels: vec![1; grid.points], points: points.concat() }
+}
+
+/// The ends that the reference announces, in random order, on their own tables.
+pub fn checked_ends(seed: u64, count: usize, limit: usize, take: Take) {
+    let mut random = Random(seed);
+    for _ in 0..count {
+        let RunCall { sizes, divisions, start, labels, .. } = random_run(&mut random, limit);
+        let grid = Grid::new(&sizes, &divisions).expect("a grid");
+        let mut answer = [0; MOST_INDICES * MOST_INDICES];
+        let Outcome::Ended(end) = paper::follow(&grid, &start, &labels, &mut answer, u64::MAX) else { continue };
+        let mut points: Vec<&[u16]> = answer.chunks_exact(grid.m).take(end.vertices).collect();
+        for at in 1..points.len() {
+            points.swap(at, random.below(at + 1));
+        }
+        take(Call::Check(CheckCall { sizes, divisions, labels, points: points.concat() }));
+    }
+}
+
+/// Lists with one to three faults, so that the order of the questions shows.
+pub fn faulty_lists(seed: u64, count: usize, take: Take) {
+    let mut random = Random(seed);
+    for _ in 0..count {
+        let (sizes, divisions, grid) = random_grid(&mut random, 40);
+        let points = random_simplex(&mut random, &grid);
+        let labels = random_labels(&mut random, &grid);
+        let mut call = CheckCall { sizes, divisions, labels, points: points.concat() };
+        for _ in 0..1 + random.below(3) {
+            spoil_list(&mut random, &mut call);
+        }
+        take(Call::Check(call));
+    }
+}
+
+fn spoil_list(random: &mut Random, call: &mut CheckCall) {
+    let (label, number) = (random.below(call.labels.len().max(1)), random.below(call.points.len().max(1)));
+    match random.below(12) {
+        0 => call.sizes = vec![2; 7 * random.below(2)],
+        1 => call.sizes.iter_mut().take(1).for_each(|size| *size = 1),
+        2 => drop(call.divisions.pop()),
+        3 => call.divisions.iter_mut().take(1).for_each(|division| *division = u16::MAX),
+        4 => drop(call.labels.pop()),
+        5 => call.labels.push(0),
+        6 => call.labels.iter_mut().skip(label).take(1).for_each(|label| *label = 17 + random.below(239) as u8),
+        7 => call.points.clear(),
+        8 => drop(call.points.pop()),
+        9 => call.points.extend_from_within(..),
+        10 => call.points.iter_mut().skip(number).take(1).for_each(|number| *number = number.wrapping_add(1)),
+        _ => call.points.iter_mut().skip(number).take(1).for_each(|number| *number = random.next() as u16),
     }
 }
 

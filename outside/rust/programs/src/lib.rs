@@ -8,5 +8,5 @@ pub mod proved;
 pub mod random;
 pub mod stored;
 
-pub use calls::{Call, LabelCall, RunCall, ShelfCall, ShelfCalls};
+pub use calls::{Call, CheckCall, LabelCall, RunCall, ShelfCall, ShelfCalls};
 pub use implementations::{all, Implementation};

@@ -1,9 +1,9 @@
 //! The proved code behind its C interface. Only this file knows the foreign signatures.
 
-use crate::calls::{LabelCall, RunCall};
+use crate::calls::{CheckCall, LabelCall, RunCall};
 use crate::implementations::{Implementation, Sheet};
 use reference::grid::Grid;
-use reference::{End, Kind, Outcome};
+use reference::{End, Kind, Outcome, Verdict};
 
 #[rustfmt::skip]
 extern "C" {
@@ -27,6 +27,14 @@ extern "C" {
         labels: *mut u8, labels_length: usize,
         count: *mut u64,
     ) -> u8;
+
+    /// The refusal's number, 256 times the block where the answer is yes, 0 where it is no.
+    fn leveretplate_check(
+        sizes: *const u8, sizes_length: usize,
+        divisions: *const u16, divisions_length: usize,
+        labels: *const u8, labels_length: usize,
+        points: *const u16, points_length: usize,
+    ) -> u16;
 
     /// The length of the sheet.
     fn leveretplate_sheet(slip: *const u8, slip_length: usize, sheet: *mut Sheet) -> usize;
@@ -111,6 +119,24 @@ impl Implementation for Proved {
             )
         };
         answered(number, count)
+    }
+
+    fn check(&self, call: &CheckCall) -> Verdict {
+        // Safety: each pointer comes with the length of its slice, and nothing is written to.
+        #[rustfmt::skip]
+        let number = unsafe {
+            leveretplate_check(
+                call.sizes.as_ptr(), call.sizes.len(),
+                call.divisions.as_ptr(), call.divisions.len(),
+                call.labels.as_ptr(), call.labels.len(),
+                call.points.as_ptr(), call.points.len(),
+            )
+        };
+        match number {
+            0 => Verdict::No,
+            number if number < 256 => Verdict::Refused(number.into()),
+            number => Verdict::Yes(number as usize / 256),
+        }
     }
 
     fn sheet(&self, slip: &[u8], sheet: &mut Sheet) -> usize {

@@ -1,6 +1,6 @@
 //! The stored cases, each from a `call` line to the next: lines of a word and its values, then `expect` and the lines expected.
 
-use crate::calls::{spaced, Call, Fields, LabelCall, RunCall, ShelfCall, ShelfCalls};
+use crate::calls::{spaced, Call, CheckCall, Fields, LabelCall, RunCall, ShelfCall, ShelfCalls};
 use std::collections::HashMap;
 
 pub struct Case {
@@ -37,6 +37,7 @@ fn read_case(lines: &[&str]) -> Case {
             Call::Run(RunCall { sizes, divisions, start: pairs("start"), labels: bytes("labels"), budget, answer })
         }
         "label" if given("game") => Call::Label(LabelCall::of_game(list("game")[0] as usize, &divisions, list("buffer")[0] as usize)),
+        "check" => Call::Check(CheckCall { sizes, divisions, labels: bytes("labels"), points: pairs("points") }),
         "label" => Call::Label(LabelCall { sizes, divisions, losses: pairs("losses"), buffer: list("buffer")[0] as usize }),
         "shelf" => {
             let one = |word: &str| values.get(word).map(|sheet| format!("{word} {sheet}"));

@@ -4,9 +4,9 @@
 //!     cargo run --release --bin benchmark            # everything
 //!     cargo run --release --bin benchmark -- "16;6"  # the lines that have this text
 
-use programs::calls::{Fields, LabelCall, RunCall};
+use programs::calls::{CheckCall, Fields, LabelCall, RunCall};
 use programs::implementations::{Paper, Sheet};
-use programs::inputs::{long_run, From};
+use programs::inputs::{long_run, whole_simplex, From};
 use programs::Implementation;
 use reference::games::{self, GAMES};
 use reference::grid::{Grid, MOST_LOSSES};
@@ -132,6 +132,16 @@ impl Benchmark {
         self.print(name, "point", call.buffer as u64, &mut calls);
     }
 
+    fn check(&self, name: &str, call: &CheckCall) {
+        let mut calls: Vec<Box<dyn FnMut()>> = Vec::new();
+        for implementation in &self.implementations {
+            calls.push(Box::new(move || {
+                black_box(implementation.check(black_box(call)));
+            }));
+        }
+        self.print(name, "", 0, &mut calls);
+    }
+
     fn sheet(&self, name: &str, slip: &[u8]) {
         let mut buffers: Vec<Box<Sheet>> = self.implementations.iter().map(|_| Box::new([0; SHEET_BYTES])).collect();
         let mut calls: Vec<Box<dyn FnMut()>> = Vec::new();
@@ -194,6 +204,10 @@ fn main() {
         let points = Grid::new(GAMES[game].sizes, GAME_DIVISIONS[game]).expect("a grid").points;
         let name = format!("game {}, {}", game + 1, grid_name(GAMES[game].sizes, GAME_DIVISIONS[game]));
         benchmark.label(&name, &LabelCall::of_game(game + 1, GAME_DIVISIONS[game], points));
+    }
+    println!("\nchecking all n + 1 points of a simplex, the last first");
+    for (sizes, divisions) in [(&[16u8][..], &[1u16][..]), (&[3, 3, 3, 3, 2, 2], &[1; 6])] {
+        benchmark.check(&grid_name(sizes, divisions), &whole_simplex(sizes, divisions));
     }
     println!("\nslip to sheet");
     benchmark.sheet("document 01's example", &[4, 2, 2, 2, 1, 0, 1, 0, 2, 2, 2, 4]);

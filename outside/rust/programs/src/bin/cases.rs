@@ -7,7 +7,7 @@ use programs::implementations::Sheet;
 use programs::{all, stored, Implementation, ShelfCall};
 use reference::grid::Grid;
 use reference::slip::SHEET_BYTES;
-use reference::{Kind, Outcome};
+use reference::{Kind, Outcome, Verdict};
 use std::process::ExitCode;
 
 /// What the implementation gives, as the lines of `expect`; none if the grid is too large for it.
@@ -48,6 +48,14 @@ fn given(implementation: &dyn Implementation, call: &Call) -> Option<Vec<String>
             });
             answered.chain(last).collect()
         }),
+        Call::Check(check) => {
+            let fits = Grid::new(&check.sizes, &check.divisions).map_or(true, |grid| implementation.fits_check(&grid));
+            fits.then(|| match implementation.check(check) {
+                Verdict::Refused(number) => vec![format!("refused {number}")],
+                Verdict::Yes(block) => vec!["yes".to_string(), format!("block {block}")],
+                Verdict::No => vec!["no".to_string()],
+            })
+        }
         Call::Label(label) => {
             let mut labels = vec![0; label.buffer];
             Some(match implementation.label(label, &mut labels) {

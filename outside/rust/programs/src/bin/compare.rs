@@ -5,10 +5,10 @@
 use programs::calls::Call;
 use programs::implementations::Sheet;
 use programs::inputs::{self, Take};
-use programs::{all, Implementation, LabelCall, RunCall};
+use programs::{all, CheckCall, Implementation, LabelCall, RunCall};
 use reference::grid::Grid;
 use reference::slip::SHEET_BYTES;
-use reference::Outcome;
+use reference::{Outcome, Verdict};
 use std::process::ExitCode;
 use std::time::Instant;
 
@@ -46,6 +46,7 @@ enum Seen {
     Slip(usize, Box<Sheet>),
     /// Each answer, with the list after it.
     Shelf(Vec<(Result<usize, u64>, Vec<u16>)>),
+    Check(Verdict),
 }
 
 impl Comparison {
@@ -60,6 +61,7 @@ impl Comparison {
                 Call::Label(label) => self.label(implementation.as_ref(), label),
                 Call::Slip(slip) => self.slip(implementation.as_ref(), slip),
                 Call::Shelf(calls) => Ok(Seen::Shelf(implementation.shelf(calls))),
+                Call::Check(check) => Ok(Seen::Check(implementation.check(check))),
             };
             if call != before {
                 self.differs(&before, implementation.name(), "an input is changed");
@@ -158,6 +160,9 @@ impl Tally {
                     }
                 }
             }
+            Seen::Check(Verdict::Refused(number)) => self.refusals[*number as usize] += 1,
+            Seen::Check(Verdict::Yes(_)) => self.ends += 1,
+            Seen::Check(Verdict::No) => {}
             Seen::Slip(length, sheet) => {
                 let text = String::from_utf8_lossy(&sheet[..*length]);
                 let first = text.lines().next().unwrap_or("");
@@ -174,6 +179,9 @@ fn fits(implementation: &dyn Implementation, call: &Call) -> bool {
     match call {
         Call::Run(RunCall { sizes, divisions, .. }) | Call::Label(LabelCall { sizes, divisions, .. }) => {
             Grid::new(sizes, divisions).map_or(true, |grid| implementation.fits(&grid))
+        }
+        Call::Check(CheckCall { sizes, divisions, .. }) => {
+            Grid::new(sizes, divisions).map_or(true, |grid| implementation.fits_check(&grid))
         }
         Call::Slip(slip) => implementation.fits_slip(slip),
         Call::Shelf(_) => implementation.has_shelf(),
@@ -202,6 +210,11 @@ fn main() -> ExitCode {
     comparison.part("labellings", |take| inputs::random_labellings(8, 20_000, 130, take));
     comparison.part("small games of one's own", |take| inputs::own_games(10, 40_000, 130, take));
     comparison.part("large games of one's own", |take| inputs::own_games(11, 1_000, 60_000, take));
+    comparison.part("every list of points of the smallest grids", inputs::every_list);
+    comparison.part("lists near simplices", |take| inputs::lists_near_simplices(12, 200_000, 200, take));
+    comparison.part("lists near simplices of large grids", |take| inputs::lists_near_simplices(13, 5_000, 60_000, take));
+    comparison.part("ends of runs, checked", |take| inputs::checked_ends(14, 200_000, 500, take));
+    comparison.part("faulty lists", |take| inputs::faulty_lists(15, 200_000, take));
     comparison.part("damaged and cut slips", |take| inputs::damaged_slips(9, 100_000, take));
     comparison.part("every small shelf", inputs::every_shelf);
     comparison.part("random shelves", |take| inputs::random_shelves(10, 3_000, take));

@@ -1,0 +1,4 @@
+pub mod Following
+pub mod WholeSets
+pub mod Nestings
+pub mod ListedPoints

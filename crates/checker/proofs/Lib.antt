@@ -1,0 +1,4 @@
+pub mod ListRefusals
+pub mod Covering
+pub mod Answers
+pub mod EachEnd

@@ -1,0 +1,82 @@
+-- `check` meets its contract: questions 1 to 4, then 6, 7 and 19, and then the verdict. Assumes nothing.
+use mathlib.Core.Path.{_≡_, sym, ap, _∙_}
+use Prim.Native.Nat.{ℕ, _/_}
+use lib.ListN.{length}
+use Rattle.questions.specs.Questions.{firstNo}
+use Rattle.grid.proofs.Fields.{made-code, made-indices, made-is, made-shape}
+use Rattle.grid.specs.Grid.{Grid}
+use Rattle.grid.specs.Made.{shape}
+use Rattle.simplices.specs.Simplices.{verdict}
+use Rattle.chains.specs.Listed.{listed}
+use Rattle.checker.proofs.Answers.{refused-grid, refused-list, judged-is, passed-labels, passed-list}
+use Rattle.checker.proofs.ListRefusals.{some-index}
+use Rattle.checker.specs.Check.{pointsOf, listQuestions, caseOf}
+use borrow.Author.Needs.{needs}
+use Rattle.checker.proofs.check.Statement.{statement}
+use Rattle.checker.proofs.check.Tie as tie
+
+new-requires : tie.Need-new-requires
+new-requires c κs = search needs
+
+returns : tie.Need-returns
+returns c = let b = c .before .before .before .before .before .before .before in
+    let G : Grid = record { sizes = b .args .sizes .now; divisions = b .args .divisions .now } in
+    let r = c .before .before .new .result in
+    refused-grid G (b .args .labels .now) (b .args .numbers .now) (r .code) (c .if1 .taken) (made-code G r (c .before .before .new .ensures))
+
+first-no-requires : tie.Need-first-no-requires
+first-no-requires c κs = let b = c .before .before .before .before .before .before .before in
+    let G : Grid = record { sizes = b .args .sizes .now; divisions = b .args .divisions .now } in
+    made-is G (c .before .before .new .result) (c .before .before .new .ensures) (c .if1 .left)
+
+returns-2 : tie.Need-returns-2
+returns-2 c = let b = c .before .before .before .before .before .before .before .before .before in
+    let G : Grid = record { sizes = b .args .sizes .now; divisions = b .args .divisions .now } in
+    let n = c .before .before .before .before .new in
+    let zero = c .before .before .if1 .left in
+    refused-list G (b .args .labels .now) (b .args .numbers .now) (sym (made-code G (n .result) (n .ensures)) ∙ zero) (c .before .first-no .result) (c .if2 .taken)
+    (c .before .first-no .ensures ∙ ap (λ (h : Grid). firstNo (listQuestions h (b .args .labels .now) (b .args .numbers .now))) (made-shape G (n .result) (n .ensures) zero))
+
+div-judged : tie.Need-div-judged
+div-judged c = let b = c .before .before .before .before .before .before .before .before .before in
+    let G : Grid = record { sizes = b .args .sizes .now; divisions = b .args .divisions .now } in
+    let n = c .before .before .before .before .new in
+    some-index (n .result .grid) (made-is G (n .result) (n .ensures) (c .before .before .if1 .left))
+
+judged-requires : tie.Need-judged-requires
+judged-requires c κs = let b = c .before .before .before .before .before .before .before .before .before in
+    let G : Grid = record { sizes = b .args .sizes .now; divisions = b .args .divisions .now } in
+    let n = c .before .before .before .before .new in
+    let s = n .result .grid in
+    let made = made-is G (n .result) (n .ensures) (c .before .before .if1 .left) in
+    let none = sym (c .before .first-no .ensures) ∙ c .if2 .left in
+    let w = passed-list s made (b .args .labels .now) (b .args .numbers .now) none in
+    (w .0, passed-labels s made (b .args .labels .now) (b .args .numbers .now) none, w .1)
+
+returns-3 : tie.Need-returns-3
+returns-3 c = let b = c .before .before .before .before .before .before .before .before .before .before in
+    let G : Grid = record { sizes = b .args .sizes .now; divisions = b .args .divisions .now } in
+    let n = c .before .before .before .before .before .new in
+    let zero = c .before .before .before .if1 .left in
+    let s = n .result .grid in
+    let made = made-is G (n .result) (n .ensures) zero in
+    let labels = b .args .labels .now in
+    let numbers = b .args .numbers .now in
+    let same = made-shape G (n .result) (n .ensures) zero in
+    let none = ap (λ (h : Grid). firstNo (listQuestions h labels numbers)) (sym same) ∙ sym (c .before .before .first-no .ensures) ∙ c .before .if2 .left in
+    c .judged .ensures
+    ∙ ap (λ (m : ℕ). caseOf (verdict (shape s) labels (listed m (length numbers / m) numbers))) (made-indices s made)
+    ∙ ap (λ (h : Grid). caseOf (verdict h labels (pointsOf h numbers))) same
+    ∙ judged-is G labels numbers (sym (made-code G (n .result) (n .ensures)) ∙ zero) none
+
+pub check-spec : {M : Type 1} → statement M
+check-spec =
+    tie.close
+    (tie.spec
+    new-requires
+    returns
+    first-no-requires
+    returns-2
+    div-judged
+    judged-requires
+    returns-3)

@@ -1,0 +1,42 @@
+-- `cover::label_at` meets its contract: no steps lead from the point to itself, and its position is below the table's length. Assumes nothing.
+use mathlib.Core.Path.{_≡_, refl, sym, ap, _∙_}
+use Prim.Native.Nat.{ℕ, _≤_}
+use borrow.Author.Tests.{leb-true}
+use lib.Dec.{leb}
+use lib.ListN.{getD, take}
+use native.Mathlib.Omega.{arith}
+use Rattle.combinatorics.proofs.Lists.{at-all}
+use Rattle.grid.proofs.Fields.{made-accepted}
+use Rattle.grid.specs.Grid.{numIndices, position}
+use Rattle.grid.specs.Made.{shape}
+use Rattle.place.specs.Problem.{label}
+use Rattle.checker.proofs.Covering.{can-stay, stays-on-grid, same-position, label-inside}
+use Rattle.checker.proofs.cover.label_at.Statement.{statement}
+use Rattle.checker.proofs.cover.label_at.Tie as tie
+
+position-requires : tie.Need-position-requires
+position-requires c κs = let b = c .before .before in
+    let s = b .args .g in
+    let y = b .args .y .now in
+    (b .pre .0, b .pre .2, can-stay s (b .pre .0) y (b .pre .3), stays-on-grid s (b .pre .0) y (b .pre .3))
+
+shared-slice-read-result : tie.Need-shared-slice-read-result
+shared-slice-read-result c = let b = c .before .before .before .before in
+    let s = b .args .g in
+    let y = b .args .y .now in
+    let is : c .before .position .result ≡ position (shape s) (take (s .indices) y) = same-position s (b .pre .0) y (b .pre .3) _ (c .before .position .ensures) in
+    omega (arith, label-inside s (b .pre .0) y (b .pre .3) (b .args .labels .now) (b .pre .1 .whole))
+
+returns : tie.Need-returns
+unfolding label
+returns c = let b = c .before .before .before .before in
+    let s = b .args .g in
+    let y = b .args .y .now in
+    let labels = b .args .labels .now in
+    let is : c .before .position .result ≡ position (shape s) (take (s .indices) y) = same-position s (b .pre .0) y (b .pre .3) _ (c .before .position .ensures) in
+    let low = label-inside s (b .pre .0) y (b .pre .3) labels (b .pre .1 .whole) in
+    let most = leb-true (getD labels (position (shape s) (take (s .indices) y)) 0) (numIndices (shape s)) (at-all (λ l. leb l (numIndices (shape s))) labels (position (shape s) (take (s .indices) y)) (b .pre .1 .within) low) in
+    rw is (refl, omega (arith, most, made-accepted s (b .pre .0) .fewIndices))
+
+pub label-at-spec : {M : Type 1} → statement M
+label-at-spec = tie.close (tie.spec position-requires shared-slice-read-result returns)

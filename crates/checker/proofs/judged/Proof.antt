@@ -1,0 +1,41 @@
+-- `judged` meets its contract: the test, and then the first block that is covered. Assumes nothing.
+use mathlib.Core.Path.{_≡_, sym, ap, _∙_}
+use borrow.Author.Tests.{not-true, not-false}
+use Rattle.checker.proofs.Answers.{verdict-no, verdict-covered}
+use Rattle.checker.specs.Check.{caseOf}
+use borrow.Author.Needs.{needs}
+use Rattle.checker.proofs.judged.Statement.{statement}
+use Rattle.checker.proofs.judged.Tie as tie
+
+one-chain-requires : tie.Need-one-chain-requires
+one-chain-requires c κs = search needs
+
+returns : tie.Need-returns
+returns c = let b = c .before .before .before .before in
+    ap caseOf (verdict-no (b .pre .0) (b .pre .2) (b .args .labels .now) (sym (c .before .one-chain .ensures) ∙ not-true _ (c .if1 .taken)))
+
+binomials-requires : tie.Need-binomials-requires
+binomials-requires c κs = search needs
+
+covered-requires : tie.Need-covered-requires
+covered-requires c κs = search needs
+
+first-whole-requires : tie.Need-first-whole-requires
+first-whole-requires c κs = search needs
+
+returns-2 : tie.Need-returns-2
+returns-2 c = let b = c .before .before .before .before .before .before .before .before .before in
+    c .first-whole .ensures
+    ∙ ap caseOf (verdict-covered (b .pre .0) (b .pre .2) (b .args .labels .now) (c .before .covered .result)
+    (sym (c .before .before .before .before .before .before .one-chain .ensures) ∙ not-false _ (c .before .before .before .before .before .if1 .left)) (c .before .covered .ensures))
+
+pub judged-spec : {M : Type 1} → statement M
+judged-spec =
+    tie.close
+    (tie.spec
+    one-chain-requires
+    returns
+    binomials-requires
+    covered-requires
+    first-whole-requires
+    returns-2)

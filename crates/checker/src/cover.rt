@@ -1,0 +1,105 @@
+// The indices that are labels of the points or belong to their U, and the first block that has all of its own.
+ghost use mathlib.Core.Bool.{true};
+ghost use mathlib.Core.Path.{_≡_};
+ghost use Prim.Native.Nat.{_-_, _≤_};
+ghost use lib.ListN.{take};
+ghost use Rattle.combinatorics.specs.Lists.{all, upFrom};
+ghost use Rattle.grid.specs.Grid.{isGridPoint};
+ghost use Rattle.grid.specs.Made.{IsMade, shape};
+ghost use Rattle.rules.specs.Mask.{bit};
+ghost use Rattle.place.specs.Problem.{label};
+ghost use Rattle.simplices.specs.Simplices.{labelledBy};
+ghost use Rattle.chains.specs.Listed.{listed, Listed};
+ghost use Rattle.positions.specs.Binomials.{HasBinomials};
+ghost use Rattle.checker.specs.Check.{caseOf};
+ghost use Rattle.checker.specs.Covered.{IsCovered, firstWhole, Labelled, withLabel};
+use crate::Answer;
+use grid::Grid;
+use grid::wide;
+use moves::add;
+use moves::has;
+use moves::padded;
+use moves::zeros;
+
+// The set with the index that a label names; 0 names none.
+fn with_label(set: u16, label: u8) -> u16
+    requires { ⌜ label ≤ 16 ⌝ }
+    ensures { λ r. ⌜ r ≡ withLabel set label ⌝ }
+{
+    if label == 0 {
+        set
+    } else {
+        add(set, wide(label) - 1)
+    }
+}
+
+// The label of a grid point, which stands at the front; its position is the one to which no steps lead.
+fn label_at(g: Grid, binomials: &[u16; 1255], labels: &[u8], y: &[u16; 16]) -> u8
+    requires { ⌜ IsMade g × Labelled g (now labels) × HasBinomials (shape g) (now binomials)
+        × (isGridPoint (shape g) (take (g .indices) (now y)) ≡ true) ⌝ }
+    ensures { λ r. ⌜ (r ≡ label (labelledBy (shape g) (now (labels .entry))) (take (g .indices) (now (y .entry))))
+        × (r ≤ 16) ⌝ }
+{
+    let steps = [16u16; 16];
+    let position = positions::position(g, binomials, y, &steps);
+    labels[position]
+}
+
+// The points are taken from the last to the first.
+pub fn covered(
+    g: Grid,
+    binomials: &[u16; 1255],
+    labels: &[u8],
+    numbers: &[u16],
+    count: usize,
+) -> u16
+    requires { ⌜ Listed g count (now numbers) × Labelled g (now labels) × HasBinomials (shape g) (now binomials) ⌝ }
+    ensures { λ r. ⌜ IsCovered (shape g) (now (labels .entry)) (listed (g .indices) count (now (numbers .entry))) r ⌝ }
+{
+    let m = g.indices;
+    let mut labelled: u16 = 0;
+    let mut zero: u16 = 65535;
+    let mut k = count;
+    while 0 < k {
+        k -= 1;
+        let at = k * m;
+        let y = padded(&numbers[at..at + m], m);
+        labelled = with_label(labelled, label_at(g, binomials, labels, &y));
+        zero = zeros(&y, m) & zero;
+    }
+    labelled | zero
+}
+
+// Whether the set has all indices from first up to end.
+fn has_all(set: u16, first: usize, end: usize) -> bool
+    requires { ⌜ end ≤ 16 ⌝ }
+    ensures { λ r. ⌜ r ≡ all (bit set) (upFrom first (end - first)) ⌝ }
+{
+    let mut h = first;
+    while h < end {
+        if !has(set, h) {
+            return false;
+        }
+        h += 1;
+    }
+    true
+}
+
+// The first block whose indices the set has all.
+pub fn first_whole(g: Grid, set: u16) -> Answer
+    requires { ⌜ IsMade g ⌝ }
+    ensures { λ r. ⌜ r ≡ caseOf (firstWhole (shape g) set) ⌝ }
+{
+    let firsts = g.firsts;
+    let sizes = g.sizes;
+    let blocks = g.blocks;
+    let mut j: usize = 0;
+    while j < blocks {
+        let first = wide(firsts[j]);
+        if has_all(set, first, first + wide(sizes[j])) {
+            return Answer::Yes(j as u8 + 1);
+        }
+        j += 1;
+    }
+    Answer::No
+}

@@ -1,0 +1,57 @@
+// The checker of end simplices from other programs: the customer's call.
+ghost use mathlib.Core.Path.{_≡_};
+ghost use Prim.Native.Nat.{_≤_};
+ghost use Rattle.grid.specs.Build.{lent};
+ghost use Rattle.grid.specs.Made.{shape};
+ghost use Rattle.simplices.specs.Simplices.{verdict};
+ghost use Rattle.chains.specs.Listed.{listed, Listed};
+ghost use Rattle.checker.specs.Check.{caseOf, checkAnswer};
+ghost use Rattle.checker.specs.Covered.{Labelled};
+use grid::Grid;
+
+mod cover;
+mod refusals;
+
+// What the checker says of a list of points. It writes nothing.
+pub enum Answer {
+    // The number of the first of questions 1 to 4, 6, 7 and 19 that is answered no.
+    Refused(u8),
+    // The points are distinct, belong to one simplex and are complete for this block, the first such, counted from 1.
+    Yes(u8),
+    No,
+}
+
+// The verdict on points of the grid.
+fn judged(g: Grid, labels: &[u8], numbers: &[u16], count: usize) -> Answer
+    requires { ⌜ Listed g count (now numbers) × Labelled g (now labels) × (1 ≤ count) ⌝ }
+    ensures { λ r. ⌜ r ≡ caseOf (verdict (shape g) (now (labels .entry))
+        (listed (g .indices) count (now (numbers .entry)))) ⌝ }
+{
+    if !chains::one_chain(g, numbers, count) {
+        return Answer::No;
+    }
+    let mut binomials = [0u16; 1255];
+    positions::binomials(g, &mut binomials);
+    let covered = cover::covered(g, &binomials, labels, numbers, count);
+    cover::first_whole(g, covered)
+}
+
+// Questions 1 to 4, 6, 7 and 19 in this order, on every input, and then the verdict. The points stand one after another
+// in `numbers`, m numbers each.
+pub fn check(sizes: &[u8], divisions: &[u16], labels: &[u8], numbers: &[u16]) -> Answer
+    ensures { λ r. ⌜ r ≡ checkAnswer (lent (now (sizes .entry)) (now (divisions .entry)))
+        (now (labels .entry)) (now (numbers .entry)) ⌝ }
+{
+    let made = Grid::new(sizes, divisions);
+    let code = made.code;
+    let g = made.grid;
+    if code != 0 {
+        return Answer::Refused(code);
+    }
+    let number = refusals::first_no(g, labels, numbers);
+    if number != 0 {
+        return Answer::Refused(number);
+    }
+    let m = g.indices;
+    judged(g, labels, numbers, numbers.len() / m)
+}

@@ -1,0 +1,13 @@
+pub mod Tests
+pub mod Along
+pub mod Closed
+pub mod Smallest
+pub mod Grown
+pub mod Theorem
+pub mod Relabelled
+pub mod Places
+pub mod Search
+pub mod Ends
+pub mod Answers
+pub mod Starts
+pub mod Worked

@@ -1,0 +1,3 @@
+pub mod Simplices
+pub mod Chains
+pub mod Worked
