@@ -10,6 +10,9 @@ use reference::slip::SHEET_BYTES;
 use reference::{Kind, Outcome, Verdict};
 use std::process::ExitCode;
 
+/// What the answer buffer holds before a run; no coordinate is as large. A case writes it as a dot.
+const UNTOUCHED: u16 = u16::MAX;
+
 /// What the implementation gives, as the lines of `expect`; none if the grid is too large for it.
 fn given(implementation: &dyn Implementation, call: &Call) -> Option<Vec<String>> {
     match call {
@@ -21,7 +24,7 @@ fn given(implementation: &dyn Implementation, call: &Call) -> Option<Vec<String>
             })
         }
         Call::Run(run) => {
-            let mut answer = vec![0; run.answer];
+            let mut answer = vec![UNTOUCHED; run.answer];
             let fits = Grid::new(&run.sizes, &run.divisions).map_or(true, |grid| implementation.fits(&grid));
             fits.then(|| match implementation.run(run, &mut answer) {
                 Outcome::Refused(number) => vec![format!("refused {number}")],
@@ -31,10 +34,14 @@ fn given(implementation: &dyn Implementation, call: &Call) -> Option<Vec<String>
                 }
                 Outcome::Ended(end) => {
                     let kind = if end.kind == Kind::Place { "place" } else { "facet" };
-                    let m = run.start.len();
-                    let head = [format!("places {}", end.places), format!("end {kind}"), format!("block {}", end.block)];
-                    let vertices = answer.chunks_exact(m).take(end.vertices).map(|vertex| spaced(vertex));
-                    head.into_iter().chain([format!("vertices {}", end.vertices)]).chain(vertices).collect()
+                    let number = |x: &u16| if *x == UNTOUCHED { ".".to_string() } else { x.to_string() };
+                    vec![
+                        format!("places {}", end.places),
+                        format!("end {kind}"),
+                        format!("block {}", end.block),
+                        format!("vertices {}", end.vertices),
+                        format!("answer-after {}", answer.iter().map(number).collect::<Vec<_>>().join(" ")),
+                    ]
                 }
             })
         }
