@@ -4,3 +4,4 @@ pub mod Runs
 pub mod Slips
 pub mod LongInputs
 pub mod OwnGame
+mod Sample

@@ -1,3 +1,4 @@
 pub mod Printed
 pub mod Run
 pub mod OwnGame
+pub mod Sample
