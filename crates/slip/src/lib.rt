@@ -60,21 +60,9 @@ pub enum Losses {
 fn refused(code: u8) -> Reading
     ensures { λ r. ⌜ r ≡ refusal code ⌝ }
 {
-    let grid = Grid {
-        sizes: [0u8; 6],
-        divisions: [0u16; 6],
-        firsts: [0u8; 6],
-        counts: [0u16; 6],
-        block: [0u8; 16],
-        previous: [0u8; 16],
-        next: [0u8; 16],
-        blocks: 0,
-        indices: 0,
-        points: 0,
-    };
     Reading {
         code,
-        grid,
+        grid: Grid::none(),
         start: [0u16; 16],
         budget: 0,
         table: Table::Missing,
