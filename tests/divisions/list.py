@@ -21,6 +21,9 @@ REASONS = {
     "slip::fields::stands": "one bit of the slip's first byte",
     "rounding::centre": "the centre in ten-thousandths, rounded",
     "text::decimal": "a number's decimal digits",
+    "checker::check": "how many points of m numbers a list has",
+    "checker::refusals::is_list": "how many points of m numbers a list has",
+    "check_cases::bytes_of": "a program of the tests, which reads a byte",
     "shelf_cases::entry": "a program of the tests, which reads an entry of 16 bits",
 }
 
