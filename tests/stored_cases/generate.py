@@ -45,84 +45,69 @@ def slip(fields):
     return out
 
 
-def runs(data):
-    """Runs of equal bytes, each a count of 16 bits and the byte; a count of 0 ends them."""
-    for byte, group in itertools.groupby(data):
+def word(number):
+    return number.to_bytes(2, "little")
+
+
+def wide(number):
+    return number.to_bytes(8, "little")
+
+
+def listed(values):
+    """Runs of equal numbers, each a count and the number, of 16 bits each; a count of 0 ends them."""
+    data = b""
+    for value, group in itertools.groupby(values):
         count = len(list(group))
         while count:
             part = min(count, 65535)
-            yield part.to_bytes(2, "little") + bytes([byte])
+            data += word(part) + word(value)
             count -= part
-    yield b"\0\0\0"
+    return data + word(0) + word(0)
 
 
-def write_slips(chosen):
-    data = len(chosen).to_bytes(2, "little")
-    text = ""
-    for number, (fields, expect) in enumerate(chosen, 1):
-        data += b"".join(runs(slip(fields)))
-        text += f"slip {number}\n{expect}"
-    (CRATES / "stored_cases" / "stdin").write_bytes(data)
-    (CRATES / "stored_cases" / "stdout").write_text(text)
+def row(name, values):
+    return " ".join([name, *map(str, values)]) + "\n"
 
 
-def counted(values, count_size, size):
-    values = list(values)
-    return len(values).to_bytes(count_size, "little") + little(values, size)
+def write(crate, name, chosen):
+    """The number of the cases and each one's input; and what the program prints of each behind its number."""
+    data = word(len(chosen)) + b"".join(data for data, _ in chosen)
+    text = "".join(f"{name} {number}\n{text}" for number, (_, text) in enumerate(chosen, 1))
+    (CRATES / crate / "stdin").write_bytes(data)
+    (CRATES / crate / "stdout").write_text(text)
 
 
-def run_call(fields):
-    """A run, and at an end the lines of the whole answer buffer: the vertices, and 0 for the room behind them."""
+def on_grid(fields):
+    return listed(numbers(fields["sizes"])) + listed(numbers(fields["d"]))
+
+
+def run_call(fields, expect):
+    """A run, and what the program prints of it: the exported call's number for the kind of end, and the whole answer buffer, lent full of 65535."""
     room = int(fields["answer"])
-    data = b"\0" + counted(numbers(fields["sizes"]), 1, 1) + counted(numbers(fields["d"]), 1, 2)
-    data += counted(numbers(fields["start"]), 1, 2) + counted(numbers(fields["labels"]), 2, 1)
-    return data + room.to_bytes(2, "little") + int(fields["budget"]).to_bytes(8, "little")
+    data = word(0) + on_grid(fields) + listed(numbers(fields["start"])) + listed(numbers(fields["labels"])) + word(room) + wide(int(fields["budget"]))
+    lines = expect.replace("end place", "kind 0").replace("end facet", "kind 1").replace("answer-after ", "").splitlines()
+    numbered = [line for line in lines if line[0] not in "0123456789"]
+    written = [int(n) for line in lines if line not in numbered for n in line.split() if n != "."]
+    return data, "".join(line + "\n" for line in numbered) + row("answer", written + [65535] * (room - len(written)))
 
 
-def label_call(fields):
-    data = counted(numbers(fields["sizes"]), 1, 1) + counted(numbers(fields["d"]), 1, 2)
-    table = b"\1" + data + counted(numbers(fields["losses"]), 2, 2) if "losses" in fields else None
-    game = None if table else b"\2" + data + bytes([int(fields["game"])])
-    return (table or game) + int(fields["buffer"]).to_bytes(2, "little")
+def label_call(fields, expect):
+    """A labelling, and the whole label buffer, lent full of 255."""
+    room = int(fields["buffer"])
+    table = word(1) + on_grid(fields) + listed(numbers(fields["losses"])) if "losses" in fields else None
+    data = (table or word(2) + on_grid(fields) + word(int(fields["game"]))) + word(room)
+    if expect.startswith("refused"):
+        return data, expect + row("labels", [255] * room)
+    return data, f"count {len(expect.split()) - 1}\n{expect}"
 
 
 def as_run(fields, expect):
     """A slip with a start and labels as a run with exactly the room that question 8 asks."""
     m = len(list(numbers(fields["start"])))
-    rows = m - len(list(numbers(fields["sizes"]))) + 1
+    room = (m - len(list(numbers(fields["sizes"]))) + 1) * m
     lines = [line for line in expect.splitlines() if not line.startswith(("bound", "centre"))]
-    if "vertices" in expect:
-        lines += [" ".join("0" * m)] * (rows - int(re.search(r"vertices (\d+)", expect)[1]))
     budget = fields.get("budget", "-")
-    return {**fields, "answer": rows * m, "budget": 2**63 if budget == "-" else budget}, "".join(line + "\n" for line in lines)
-
-
-def run_answer(fields, expect):
-    """What the program prints: the exported call's numbers for the kind of end, and of the answer buffer, 0 before the call, a line for each vertex."""
-    text = expect.replace("end place", "kind 0").replace("end facet", "kind 1")
-    before, found, after = text.partition("answer-after ")
-    if not found:
-        return text
-    m, after = len(list(numbers(fields["start"]))), after.replace(".", "0").split()
-    return before + "".join(" ".join(after[i : i + m]) + "\n" for i in range(0, len(after), m))
-
-
-def with_count(expect):
-    return f"count {len(expect.split()) - 1}\n{expect}" if expect.startswith("labels") else expect
-
-
-def write_calls(chosen):
-    data = len(chosen).to_bytes(2, "little")
-    text = ""
-    for number, (call, expect) in enumerate(chosen, 1):
-        data += call
-        text += f"call {number}\n{expect}"
-    (CRATES / "exported_calls" / "stdin").write_bytes(data)
-    (CRATES / "exported_calls" / "stdout").write_text(text)
-
-
-def row(values):
-    return " ".join(["list", *map(str, values)]) + "\n"
+    return {**fields, "answer": room, "budget": 2**63 if budget == "-" else budget}, "".join(line + "\n" for line in lines)
 
 
 def shelf_calls(fields):
@@ -131,50 +116,34 @@ def shelf_calls(fields):
     return [(word, fields[word]) for word in ("file", "ask") if word in fields]
 
 
-def shelf_input(fields):
-    """Pieces of six bytes."""
-    values, calls = list(numbers(fields["list"])), shelf_calls(fields)
-    lines = [("list", len(values), *values), ("count", fields["count"]), ("calls", len(calls)), *calls]
-    return "".join(f"{word:6}" + " ".join(f"{int(n):05}" for n in rest) + "\n" for word, *rest in lines)
-
-
-def shelf_output(fields, expect):
+def shelf_case(fields, expect):
     """Each answer, and the list after it: a new count says that the entry behind those filed was written. The last list is the case's."""
+    values, calls = list(numbers(fields["list"])), shelf_calls(fields)
+    data = listed(values) + wide(int(fields["count"])) + word(len(calls))
     *answers, last = expect.splitlines()
-    values, text = list(numbers(fields["list"])), ""
-    for (word, sheet), answer in zip(shelf_calls(fields), answers, strict=True):
+    text = ""
+    for (name, sheet), answer in zip(calls, answers, strict=True):
+        data += word(name == "file") + wide(int(sheet))
         if answer.startswith("count "):
             values[int(answer.split()[1]) - 1] = int(sheet)
-        text += answer + "\n" + row(values)
+        text += answer + "\n" + row("list", values)
     assert values == list(numbers(last.removeprefix("list"))), fields["name"]
-    return text
+    return data, text
 
 
-def write_shelves(chosen):
-    crate = CRATES / "shelf_cases"
-    (crate / "stdin").write_text(f"cases {len(chosen):05}\n" + "".join(shelf_input(fields) for fields, _ in chosen))
-    (crate / "stdout").write_text("".join(f"case {n}\n" + shelf_output(*case) for n, case in enumerate(chosen, 1)))
-
-
-def write_checks(chosen):
-    data = len(chosen).to_bytes(2, "little")
-    text = ""
-    for number, (fields, expect) in enumerate(chosen, 1):
-        for name in ("sizes", "d", "labels", "points"):
-            for value, group in itertools.groupby(numbers(fields.get(name, ""))):
-                data += little((len(list(group)), value), 2)
-            data += little((0, 0), 2)
-        text += f"list {number}\n{expect}"
-    (CRATES / "check_cases" / "stdin").write_bytes(data)
-    (CRATES / "check_cases" / "stdout").write_text(text)
+def check_case(fields, expect):
+    return on_grid(fields) + listed(numbers(fields["labels"])) + listed(numbers(fields.get("points", ""))), expect
 
 
 everything = list(cases())
-write_slips([c for c in everything if c[0]["call"] == "slip"])
-write_shelves([c for c in everything if c[0]["call"] == "shelf"])
-runs_stored = [c for c in everything if c[0]["call"] == "run"]
-ends = [(f, e) for f, e in everything if f.get("name", "").startswith("end ") and f.get("start", "-") != "-"]
-calls = [(run_call(f), run_answer(f, e)) for f, e in runs_stored + [as_run(f, e) for f, e in ends]]
-calls += [(label_call(f), with_count(e)) for f, e in everything if f["call"] == "label"]
-write_calls(calls)
-write_checks([c for c in everything if c[0]["call"] == "check"])
+
+
+def called(call):
+    return [case for case in everything if case[0]["call"] == call]
+
+
+ends = [as_run(f, e) for f, e in everything if f.get("name", "").startswith("end ") and f.get("start", "-") != "-"]
+write("stored_cases", "slip", [(listed(slip(f)), e) for f, e in called("slip")])
+write("exported_calls", "call", [run_call(*case) for case in called("run") + ends] + [label_call(*case) for case in called("label")])
+write("check_cases", "list", [check_case(*case) for case in called("check")])
+write("shelf_cases", "case", [shelf_case(*case) for case in called("shelf")])

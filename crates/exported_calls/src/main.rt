@@ -1,105 +1,22 @@
 // Makes the calls that standard input holds, each through its exported function, and prints what they answer. A call is
-// a kind, the sizes and the divisions, each list behind its count of one byte, and then
-//   kind 0, a run: the start behind a count of one byte, the labels behind one of two, the length of the answer buffer,
-//   the budget;
-//   kind 1, a labelling: the losses behind a count of two bytes, the length of the label buffer;
+// a kind, of 16 bits, the sizes and the divisions as lists, and then
+//   kind 0, a run: the start and the labels as lists, the length of the answer buffer, the budget;
+//   kind 1, a labelling: the losses as a list, the length of the label buffer;
 //   kind 2, a labelling of a game that is built in: the game's number, the length of the label buffer.
-// Numbers are little-endian. Lengths, divisions, starts and losses have two bytes each, the budget eight. How many
-// calls there are stands first, in two bytes.
-ghost use mathlib.Core.Path.{_≡_};
-ghost use Prim.Native.Nat.{_≤_};
-ghost use lib.ListN.{length};
-use libc::STDOUT_FILENO;
+// Lengths and a game's number have 16 bits, the budget 64. How many calls there are stands first, in 16 bits. The
+// buffers are lent full of 65535 or 255, and printed whole.
+use case_reader::bytes;
+use case_reader::number;
+use case_reader::show;
+use case_reader::show_bytes;
+use case_reader::show_words;
+use case_reader::within_bytes;
+use case_reader::within_words;
+use case_reader::word;
+use case_reader::words;
 
-fn byte() -> u8 {
-    let mut one = [0u8; 1];
-    io::read_full(0, &mut one);
-    one[0]
-}
-
-fn word() -> u16 {
-    let mut pair = [0u8; 2];
-    io::read_full(0, &mut pair);
-    let mut read = [0u16; 1];
-    little_endian::words(&pair, 0, &mut read);
-    read[0]
-}
-
-fn from_byte(x: u8) -> u64 {
-    x as u64
-}
-
-fn from_word(x: u16) -> u64 {
-    x as u64
-}
-
-// A count, but no more than there is room for.
-fn within(count: usize, most: usize) -> usize
-    ensures { λ r. ⌜ r ≤ most ⌝ }
-{
-    if most < count { most } else { count }
-}
-
-fn words(room: &mut [u16])
-    ensures { λ _. ⌜ length (now (room .exit)) ≡ length (now (room .entry)) ⌝ }
-{
-    let mut i: usize = 0;
-    while i < room.len() {
-        let number = word();
-        room[i] = number;
-        i += 1;
-    }
-}
-
-fn show(text: &[u8], number: u64) {
-    io::write_all(STDOUT_FILENO, text);
-    io::print_decimal(STDOUT_FILENO, number);
-    io::write_all(STDOUT_FILENO, b"\n");
-}
-
-// The numbers of a list, a line for each `width` of them.
-fn show_rows(numbers: &[u16], width: usize) {
-    let mut i: usize = 0;
-    let mut column: usize = 0;
-    while i < numbers.len() {
-        io::print_decimal(STDOUT_FILENO, from_word(numbers[i]));
-        i += 1;
-        column += 1;
-        if column == width {
-            io::write_all(STDOUT_FILENO, b"\n");
-            column = 0;
-        } else {
-            io::write_all(STDOUT_FILENO, b" ");
-        }
-    }
-}
-
-fn show_labels(labels: &[u8]) {
-    io::write_all(STDOUT_FILENO, b"labels");
-    let mut i: usize = 0;
-    while i < labels.len() {
-        io::write_all(STDOUT_FILENO, b" ");
-        io::print_decimal(STDOUT_FILENO, from_byte(labels[i]));
-        i += 1;
-    }
-    io::write_all(STDOUT_FILENO, b"\n");
-}
-
-// The run's answer, in the numbers of the exported call, and at an end the whole answer buffer, a line for each vertex
-// that it has room for.
-fn run(sizes: &[u8], divisions: &[u16], start: &[u16], labels: &[u8], answer: &mut [u16]) {
-    let mut eight = [0u8; 8];
-    io::read_full(0, &mut eight);
-    let mut facts = [0u64; 4];
-    let number = exports::leveretplate_run(
-        sizes,
-        divisions,
-        start,
-        labels,
-        answer,
-        little_endian::number64(&eight, 0),
-        &mut facts,
-    );
+// The run's answer, in the numbers of the exported call.
+fn show_facts(number: u8, facts: &[u64; 4]) {
     if number != 0 {
         show(b"refused ", number as u64);
         if number == 9 || number == 16 {
@@ -114,96 +31,95 @@ fn run(sizes: &[u8], divisions: &[u16], start: &[u16], labels: &[u8], answer: &m
     show(b"kind ", facts[1]);
     show(b"block ", facts[2]);
     show(b"vertices ", facts[3]);
-    show_rows(answer, start.len());
 }
 
-// The labels of a game, and the whole buffer.
-fn label(sizes: &[u8], divisions: &[u16], losses: &[u16], labels: &mut [u8]) {
-    let mut count: u64 = 0;
-    let number = exports::leveretplate_label(sizes, divisions, losses, labels, &mut count);
-    if number != 0 {
-        show(b"refused ", number as u64);
-        return;
-    }
-    show(b"count ", count);
-    show_labels(labels);
-}
-
-fn label_with(sizes: &[u8], divisions: &[u16], losses: &[u16]) {
-    let mut labels = [0u8; 60000];
-    let length = within(word() as usize, 60000);
-    label(sizes, divisions, losses, &mut labels[..length]);
-}
-
-fn run_on(sizes: &[u8], divisions: &[u16], start: &[u16], labels: &mut [u8]) {
-    io::read_full(0, labels);
-    let mut answer = [0u16; 256];
-    let room = within(word() as usize, 256);
-    run(sizes, divisions, start, labels, &mut answer[..room]);
-}
-
-fn run_from(sizes: &[u8], divisions: &[u16], start: &mut [u16]) {
-    words(start);
-    let mut labels = [0u8; 60000];
-    let points = within(word() as usize, 60000);
-    run_on(sizes, divisions, start, &mut labels[..points]);
+// A run: its answer, and the whole answer buffer.
+fn run(sizes: &[u8], divisions: &[u16], start: &[u16], labels: &[u8], answer: &mut [u16]) {
+    let budget = number();
+    let mut facts = [0u64; 4];
+    let answered = exports::leveretplate_run(
+        sizes,
+        divisions,
+        start,
+        labels,
+        answer,
+        budget,
+        &mut facts,
+    );
+    show_facts(answered, &facts);
+    show_words(b"answer", answer);
 }
 
 fn make_run(sizes: &[u8], divisions: &[u16]) {
     let mut start = [0u16; 16];
-    let indices = within(byte() as usize, 16);
-    run_from(sizes, divisions, &mut start[..indices]);
+    let mut labels = [0u8; 60000];
+    let mut answer = [65535u16; 256];
+    let given = words(&mut start);
+    let labelled = bytes(&mut labels);
+    let room = within_words(word() as usize, &answer);
+    run(
+        sizes,
+        divisions,
+        &start[..given],
+        &labels[..labelled],
+        &mut answer[..room],
+    );
 }
 
-fn label_read(sizes: &[u8], divisions: &[u16], losses: &mut [u16]) {
-    words(losses);
-    label_with(sizes, divisions, losses);
+// The labels of a game, and the whole label buffer.
+fn label(sizes: &[u8], divisions: &[u16], losses: &[u16], labels: &mut [u8]) {
+    let mut count: u64 = 0;
+    let answered = exports::leveretplate_label(sizes, divisions, losses, labels, &mut count);
+    if answered == 0 {
+        show(b"count ", count);
+    } else {
+        show(b"refused ", answered as u64);
+    }
+    show_bytes(b"labels", labels);
+}
+
+fn label_with(sizes: &[u8], divisions: &[u16], losses: &[u16]) {
+    let mut labels = [255u8; 60000];
+    let room = within_bytes(word() as usize, &labels);
+    label(sizes, divisions, losses, &mut labels[..room]);
 }
 
 fn make_labelling(sizes: &[u8], divisions: &[u16]) {
     let mut losses = [0u16; 2000];
-    let count = within(word() as usize, 2000);
-    label_read(sizes, divisions, &mut losses[..count]);
+    let given = words(&mut losses);
+    label_with(sizes, divisions, &losses[..given]);
 }
 
 // The table is that of the code, so that a loss changed there shows.
 fn make_game(sizes: &[u8], divisions: &[u16]) {
+    let game = (word() % 256) as u8;
     let mut losses = [0u16; 81];
-    let count = within(built_in::put_losses(byte(), &mut losses), 81);
-    label_with(sizes, divisions, &losses[..count]);
+    let count = built_in::put_losses(game, &mut losses);
+    let put = within_words(count, &losses);
+    label_with(sizes, divisions, &losses[..put]);
 }
 
-fn make(kind: u8, sizes: &[u8], divisions: &mut [u16]) {
-    words(divisions);
+fn make_next() {
+    let kind = word();
+    let mut sizes = [0u8; 8];
+    let mut divisions = [0u16; 8];
+    let blocks = bytes(&mut sizes);
+    let given = words(&mut divisions);
     if kind == 0 {
-        return make_run(sizes, divisions);
+        return make_run(&sizes[..blocks], &divisions[..given]);
     }
     if kind == 1 {
-        return make_labelling(sizes, divisions);
+        return make_labelling(&sizes[..blocks], &divisions[..given]);
     }
-    make_game(sizes, divisions)
-}
-
-fn make_on(kind: u8, sizes: &mut [u8]) {
-    io::read_full(0, sizes);
-    let mut divisions = [0u16; 8];
-    let count = within(byte() as usize, 8);
-    make(kind, sizes, &mut divisions[..count]);
-}
-
-fn make_call(number: usize) {
-    show(b"call ", number as u64);
-    let kind = byte();
-    let mut sizes = [0u8; 8];
-    let blocks = within(byte() as usize, 8);
-    make_on(kind, &mut sizes[..blocks]);
+    make_game(&sizes[..blocks], &divisions[..given])
 }
 
 fn main() {
-    let calls = word() as usize;
-    let mut k: usize = 0;
+    let calls = word() as u64;
+    let mut k: u64 = 0;
     while k < calls {
         k += 1;
-        make_call(k);
+        show(b"call ", k);
+        make_next();
     }
 }

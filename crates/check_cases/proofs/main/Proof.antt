@@ -5,13 +5,13 @@ use Rattle.check_cases.proofs.main.Statement.{statement}
 use Rattle.check_cases.proofs.main.Tie as tie
 
 abbrev Inv-loop : tie.InvT-loop
-Inv-loop lists k₀ k = (k ≤ lists) × (lists ≤ 65535)
+Inv-loop lists k₀ t3 k = (k ≤ lists) × (lists ≤ 65535)
 
 abbrev μ-loop : tie.MeasureT-loop
-μ-loop lists k₀ k = lists - k
+μ-loop lists k₀ t3 k = lists - k
 
-number-requires : tie.Need-number-requires Inv-loop μ-loop
-number-requires c κs = search needs
+word-requires : tie.Need-word-requires Inv-loop μ-loop
+word-requires c κs = search needs
 
 cast-lists : tie.Need-cast-lists Inv-loop μ-loop
 cast-lists c = search needs
@@ -22,8 +22,14 @@ loop-holds c = search needs
 add-k : tie.Need-add-k Inv-loop μ-loop
 add-k c = search needs
 
-print-next-requires : tie.Need-print-next-requires Inv-loop μ-loop
-print-next-requires c κs = search needs
+slice-aggregate-show : tie.Need-slice-aggregate-show Inv-loop μ-loop
+slice-aggregate-show c = search needs
+
+show-requires : tie.Need-show-requires Inv-loop μ-loop
+show-requires c κs = search needs
+
+check-next-requires : tie.Need-check-next-requires Inv-loop μ-loop
+check-next-requires c κs = search needs
 
 loop-less : tie.Need-loop-less Inv-loop μ-loop
 loop-less c = search needs
@@ -40,11 +46,13 @@ main-spec =
     (tie.spec
     Inv-loop
     μ-loop
-    number-requires
+    word-requires
     cast-lists
     loop-holds
     add-k
-    print-next-requires
+    slice-aggregate-show
+    show-requires
+    check-next-requires
     loop-less
     loop-again
     returns)

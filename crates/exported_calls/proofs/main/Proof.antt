@@ -1,14 +1,14 @@
--- `main` is safe and ends. Assumes nothing.
+-- `exported_calls::main` is safe and ends. The invariant: no more calls than there are. Assumes nothing.
 use Prim.Native.Nat.{_≤_, _-_}
 use borrow.Author.Needs.{needs}
 use Rattle.exported_calls.proofs.main.Statement.{statement}
 use Rattle.exported_calls.proofs.main.Tie as tie
 
 abbrev Inv-loop : tie.InvT-loop
-Inv-loop calls k₀ k = k ≤ calls
+Inv-loop calls k₀ t3 k = (k ≤ calls) × (calls ≤ 65535)
 
 abbrev μ-loop : tie.MeasureT-loop
-μ-loop calls k₀ k = calls - k
+μ-loop calls k₀ t3 k = calls - k
 
 word-requires : tie.Need-word-requires Inv-loop μ-loop
 word-requires c κs = search needs
@@ -22,8 +22,14 @@ loop-holds c = search needs
 add-k : tie.Need-add-k Inv-loop μ-loop
 add-k c = search needs
 
-make-call-requires : tie.Need-make-call-requires Inv-loop μ-loop
-make-call-requires c κs = search needs
+slice-aggregate-show : tie.Need-slice-aggregate-show Inv-loop μ-loop
+slice-aggregate-show c = search needs
+
+show-requires : tie.Need-show-requires Inv-loop μ-loop
+show-requires c κs = search needs
+
+make-next-requires : tie.Need-make-next-requires Inv-loop μ-loop
+make-next-requires c κs = search needs
 
 loop-less : tie.Need-loop-less Inv-loop μ-loop
 loop-less c = search needs
@@ -44,7 +50,9 @@ main-spec =
     cast-calls
     loop-holds
     add-k
-    make-call-requires
+    slice-aggregate-show
+    show-requires
+    make-next-requires
     loop-less
     loop-again
     returns)

@@ -1,29 +1,35 @@
--- `shelf_cases::main` is safe and ends: each turn leaves fewer cases. Assumes nothing.
+-- `shelf_cases::main` is safe and ends. The invariant: no more shelves than there are. Assumes nothing.
 use Prim.Native.Nat.{_≤_, _-_}
 use borrow.Author.Needs.{needs}
 use Rattle.shelf_cases.proofs.main.Statement.{statement}
 use Rattle.shelf_cases.proofs.main.Tie as tie
 
 abbrev Inv-loop : tie.InvT-loop
-Inv-loop cases case₀ case = case ≤ 99999
+Inv-loop shelves k₀ t3 k = (k ≤ shelves) × (shelves ≤ 65535)
 
 abbrev μ-loop : tie.MeasureT-loop
-μ-loop cases case₀ case = cases - case
+μ-loop shelves k₀ t3 k = shelves - k
 
 word-requires : tie.Need-word-requires Inv-loop μ-loop
 word-requires c κs = search needs
 
-number-requires : tie.Need-number-requires Inv-loop μ-loop
-number-requires c κs = search needs
+cast-shelves : tie.Need-cast-shelves Inv-loop μ-loop
+cast-shelves c = search needs
 
 loop-holds : tie.Need-loop-holds Inv-loop μ-loop
 loop-holds c = search needs
 
-add-case : tie.Need-add-case Inv-loop μ-loop
-add-case c = search needs
+add-k : tie.Need-add-k Inv-loop μ-loop
+add-k c = search needs
 
-run-case-requires : tie.Need-run-case-requires Inv-loop μ-loop
-run-case-requires c κs = search needs
+slice-aggregate-show : tie.Need-slice-aggregate-show Inv-loop μ-loop
+slice-aggregate-show c = search needs
+
+show-requires : tie.Need-show-requires Inv-loop μ-loop
+show-requires c κs = search needs
+
+make-next-requires : tie.Need-make-next-requires Inv-loop μ-loop
+make-next-requires c κs = search needs
 
 loop-less : tie.Need-loop-less Inv-loop μ-loop
 loop-less c = search needs
@@ -41,10 +47,12 @@ main-spec =
     Inv-loop
     μ-loop
     word-requires
-    number-requires
+    cast-shelves
     loop-holds
-    add-case
-    run-case-requires
+    add-k
+    slice-aggregate-show
+    show-requires
+    make-next-requires
     loop-less
     loop-again
     returns)

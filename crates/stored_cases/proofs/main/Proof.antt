@@ -5,31 +5,28 @@ use Rattle.stored_cases.proofs.main.Statement.{statement}
 use Rattle.stored_cases.proofs.main.Tie as tie
 
 abbrev Inv-loop : tie.InvT-loop
-Inv-loop slips k₀ k = (k ≤ slips) × (slips ≤ 65535)
+Inv-loop slips k₀ t3 k = (k ≤ slips) × (slips ≤ 65535)
 
 abbrev μ-loop : tie.MeasureT-loop
-μ-loop slips k₀ k = slips - k
+μ-loop slips k₀ t3 k = slips - k
 
-slice-aggregate-read-full : tie.Need-slice-aggregate-read-full Inv-loop μ-loop
-slice-aggregate-read-full c = search needs
+word-requires : tie.Need-word-requires Inv-loop μ-loop
+word-requires c κs = search needs
 
-read-full-requires : tie.Need-read-full-requires Inv-loop μ-loop
-read-full-requires c κs = search needs
-
-array-read-number : tie.Need-array-read-number Inv-loop μ-loop
-array-read-number c = search needs
-
-array-read-number-2 : tie.Need-array-read-number-2 Inv-loop μ-loop
-array-read-number-2 c = search needs
-
-number-requires : tie.Need-number-requires Inv-loop μ-loop
-number-requires c κs = search needs
+cast-slips : tie.Need-cast-slips Inv-loop μ-loop
+cast-slips c = search needs
 
 loop-holds : tie.Need-loop-holds Inv-loop μ-loop
 loop-holds c = search needs
 
 add-k : tie.Need-add-k Inv-loop μ-loop
 add-k c = search needs
+
+slice-aggregate-show : tie.Need-slice-aggregate-show Inv-loop μ-loop
+slice-aggregate-show c = search needs
+
+show-requires : tie.Need-show-requires Inv-loop μ-loop
+show-requires c κs = search needs
 
 print-next-requires : tie.Need-print-next-requires Inv-loop μ-loop
 print-next-requires c κs = search needs
@@ -49,13 +46,12 @@ main-spec =
     (tie.spec
     Inv-loop
     μ-loop
-    slice-aggregate-read-full
-    read-full-requires
-    array-read-number
-    array-read-number-2
-    number-requires
+    word-requires
+    cast-slips
     loop-holds
     add-k
+    slice-aggregate-show
+    show-requires
     print-next-requires
     loop-less
     loop-again

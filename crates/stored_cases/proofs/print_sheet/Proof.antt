@@ -12,11 +12,11 @@ print-requires c κs = search needs
 array-share-prefix-sheet : tie.Need-array-share-prefix-sheet
 array-share-prefix-sheet c = rw (c .print .ensures .0, c .print .ensures .1) (sheet-inside _ _)
 
-slice-aggregate-write-all : tie.Need-slice-aggregate-write-all
-slice-aggregate-write-all c = sym (length-take-le _ _ (array-share-prefix-sheet (c .before)))
+slice-aggregate-show-text : tie.Need-slice-aggregate-show-text
+slice-aggregate-show-text c = sym (length-take-le _ _ (array-share-prefix-sheet (c .before)))
 
-write-all-requires : tie.Need-write-all-requires
-write-all-requires c κs = search needs
+show-text-requires : tie.Need-show-text-requires
+show-text-requires c κs = search needs
 
 returns : tie.Need-returns
 returns c = search needs
@@ -27,6 +27,6 @@ print-sheet-spec =
     (tie.spec
     print-requires
     array-share-prefix-sheet
-    slice-aggregate-write-all
-    write-all-requires
+    slice-aggregate-show-text
+    show-text-requires
     returns)

@@ -1,23 +1,26 @@
--- `stored_cases::fill` meets its contract. The invariant: the slip keeps its length. Assumes nothing.
+-- `case_reader::fill` meets its contract. The invariant: the list keeps its length. Assumes nothing.
 use mathlib.Core.Path.{_≡_, refl}
 use Prim.Native.Nat.{_≤_, _-_}
 use lib.ListN.{length}
 use native.Mathlib.Omega.{arith}
 use borrow.Author.Needs.{needs}
-use Rattle.stored_cases.proofs.fill.Statement.{statement}
-use Rattle.stored_cases.proofs.fill.Tie as tie
+use Rattle.case_reader.proofs.fill.Statement.{statement}
+use Rattle.case_reader.proofs.fill.Tie as tie
 
 abbrev Inv-loop : tie.InvT-loop
-Inv-loop slip₀ from to byte i₀ slip i = (length slip ≡ length slip₀) × (to ≤ length slip₀)
+Inv-loop list₀ from to number i₀ list i = (length list ≡ length list₀) × (to ≤ length list₀)
 
 abbrev μ-loop : tie.MeasureT-loop
-μ-loop slip₀ from to byte i₀ slip i = to - i
+μ-loop list₀ from to number i₀ list i = to - i
 
 loop-holds : tie.Need-loop-holds Inv-loop μ-loop
 loop-holds c = (refl, c .pre)
 
-slice-write-slip : tie.Need-slice-write-slip Inv-loop μ-loop
-slice-write-slip c = omega arith
+mul-list : tie.Need-mul-list Inv-loop μ-loop
+mul-list c = search needs
+
+slice-write-list : tie.Need-slice-write-list Inv-loop μ-loop
+slice-write-list c = omega arith
 
 add-i : tie.Need-add-i Inv-loop μ-loop
 add-i c = omega arith
@@ -41,7 +44,8 @@ fill-spec =
     Inv-loop
     μ-loop
     loop-holds
-    slice-write-slip
+    mul-list
+    slice-write-list
     add-i
     loop-less
     loop-again

@@ -1,11 +1,12 @@
--- `check_cases::read_list` meets its contract. The invariant: the runs so far lie in the list, which keeps its length. Assumes nothing.
-use mathlib.Core.Path.{_≡_, refl, _∙_}
+-- `case_reader::words` meets its contract. The invariant: the runs so far lie in the list, which keeps its length. Assumes nothing.
+use mathlib.Core.Path.{_≡_, refl}
 use Prim.Native.Nat.{_≤_}
 use lib.ListN.{length}
 use native.Mathlib.Omega.{arith}
 use borrow.Author.Needs.{needs}
-use Rattle.check_cases.proofs.read_list.Statement.{statement}
-use Rattle.check_cases.proofs.read_list.Tie as tie
+use Rattle.case_reader.proofs.Counted.{counted}
+use Rattle.case_reader.proofs.words.Statement.{statement}
+use Rattle.case_reader.proofs.words.Tie as tie
 
 abbrev Inv-loop : tie.InvT-loop
 Inv-loop list₀ at₀ left₀ list at left = (at ≤ length list) × (length list ≡ length list₀)
@@ -23,7 +24,7 @@ same-length : tie.Need-same-length Inv-loop μ-loop
 same-length c = search needs
 
 returns : tie.Need-returns Inv-loop μ-loop
-returns c = search needs
+returns c = counted _ _ (c .before .before .before .read-run .ensures .0)
 
 sub-left : tie.Need-sub-left Inv-loop μ-loop
 sub-left c = omega arith
@@ -38,10 +39,10 @@ same-length-2 : tie.Need-same-length-2 Inv-loop μ-loop
 same-length-2 c = search needs
 
 returns-2 : tie.Need-returns-2 Inv-loop μ-loop
-returns-2 c = search needs
+returns-2 c = counted _ _ (c .before .loop .inv .0)
 
-pub read-list-spec : {M : Type 1} → statement M
-read-list-spec =
+pub words-spec : {M : Type 1} → statement M
+words-spec =
     tie.close
     (tie.spec
     Inv-loop

@@ -1,20 +1,25 @@
--- `check_cases::bytes_of` meets its contract. The invariant: the bytes keep their number. Assumes nothing.
+-- `case_reader::put_bytes` meets its contract. The invariant: no more bytes are put than there is room for. Assumes
+-- nothing.
 use mathlib.Core.Path.{_≡_, refl}
 use Prim.Native.Nat.{_≤_, _-_}
 use lib.ListN.{length}
 use native.Mathlib.Omega.{arith}
 use borrow.Author.Needs.{needs}
-use Rattle.check_cases.proofs.bytes_of.Statement.{statement}
-use Rattle.check_cases.proofs.bytes_of.Tie as tie
+use Rattle.case_reader.proofs.Counted.{counted}
+use Rattle.case_reader.proofs.put_bytes.Statement.{statement}
+use Rattle.case_reader.proofs.put_bytes.Tie as tie
 
 abbrev Inv-loop : tie.InvT-loop
-Inv-loop list bytes₀ count i₀ bytes i = (length bytes ≡ length bytes₀) × (count ≤ length list) × (count ≤ length bytes₀)
+Inv-loop numbers bytes₀ count i₀ bytes i = (length bytes ≡ length bytes₀) × (count ≤ length numbers) × (count ≤ length bytes₀)
 
 abbrev μ-loop : tie.MeasureT-loop
-μ-loop list bytes₀ count i₀ bytes i = count - i
+μ-loop numbers bytes₀ count i₀ bytes i = count - i
+
+smaller-requires : tie.Need-smaller-requires Inv-loop μ-loop
+smaller-requires c κs = search needs
 
 loop-holds : tie.Need-loop-holds Inv-loop μ-loop
-loop-holds c = (refl, c .pre .0, c .pre .1)
+loop-holds c = search needs
 
 mul-bytes : tie.Need-mul-bytes Inv-loop μ-loop
 mul-bytes c = search needs
@@ -41,14 +46,15 @@ same-length : tie.Need-same-length Inv-loop μ-loop
 same-length c = search needs
 
 returns : tie.Need-returns Inv-loop μ-loop
-returns c = search needs
+returns c = counted _ _ (omega arith)
 
-pub bytes-of-spec : {M : Type 1} → statement M
-bytes-of-spec =
+pub put-bytes-spec : {M : Type 1} → statement M
+put-bytes-spec =
     tie.close
     (tie.spec
     Inv-loop
     μ-loop
+    smaller-requires
     loop-holds
     mul-bytes
     shared-slice-read-bytes

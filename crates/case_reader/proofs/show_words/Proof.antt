@@ -1,0 +1,63 @@
+-- `case_reader::show_words` is safe and ends. Assumes nothing.
+use Prim.Native.Nat.{_≤_, _-_}
+use lib.ListN.{length}
+use borrow.Author.Needs.{needs}
+use Rattle.case_reader.proofs.show_words.Statement.{statement}
+use Rattle.case_reader.proofs.show_words.Tie as tie
+
+abbrev Inv-loop : tie.InvT-loop
+Inv-loop text list i₀ t4 i = i ≤ length list
+
+abbrev μ-loop : tie.MeasureT-loop
+μ-loop text list i₀ t4 i = length list - i
+
+show-text-requires : tie.Need-show-text-requires Inv-loop μ-loop
+show-text-requires c κs = search needs
+
+loop-holds : tie.Need-loop-holds Inv-loop μ-loop
+loop-holds c = search needs
+
+mul-show-word : tie.Need-mul-show-word Inv-loop μ-loop
+mul-show-word c = search needs
+
+shared-slice-read-show-word : tie.Need-shared-slice-read-show-word Inv-loop μ-loop
+shared-slice-read-show-word c = search needs
+
+show-word-requires : tie.Need-show-word-requires Inv-loop μ-loop
+show-word-requires c κs = search needs
+
+add-i : tie.Need-add-i Inv-loop μ-loop
+add-i c = search needs
+
+loop-less : tie.Need-loop-less Inv-loop μ-loop
+loop-less c = search needs
+
+loop-again : tie.Need-loop-again Inv-loop μ-loop
+loop-again c = search needs
+
+slice-aggregate-show-text : tie.Need-slice-aggregate-show-text Inv-loop μ-loop
+slice-aggregate-show-text c = search needs
+
+show-text-requires-2 : tie.Need-show-text-requires-2 Inv-loop μ-loop
+show-text-requires-2 c κs = search needs
+
+returns : tie.Need-returns Inv-loop μ-loop
+returns c = search needs
+
+pub show-words-spec : {M : Type 1} → statement M
+show-words-spec =
+    tie.close
+    (tie.spec
+    Inv-loop
+    μ-loop
+    show-text-requires
+    loop-holds
+    mul-show-word
+    shared-slice-read-show-word
+    show-word-requires
+    add-i
+    loop-less
+    loop-again
+    slice-aggregate-show-text
+    show-text-requires-2
+    returns)
