@@ -35,7 +35,7 @@ case-unknown (ended k kind block vertices simplex) n i e = absurd (let z : _≡_
 case-unknown (unknown k j) n i e = let y : k ≡ n = cc in let z : j ≡ i = cc in rw (y, z)
 
 -- a table that no question refuses is accepted
-unrefused : (p : Problem) (room : ℕ) → refusal p room ≡ 0 → Accepted p
+pub unrefused : (p : Problem) (room : ℕ) → refusal p room ≡ 0 → Accepted p
 unrefused p room e =
     let grid : firstNo (gridQuestions (p .grid)) ≡ 0 = ⊎-elim (λ q. q) (λ n. absurd (n (sym (by-grid p room n) ∙ e))) (same-or (firstNo (gridQuestions (p .grid))) 0) in
     accepted-with-room p room grid (sym (by-later p room grid) ∙ e) .0

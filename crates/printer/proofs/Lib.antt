@@ -4,4 +4,5 @@ pub mod Runs
 pub mod Slips
 pub mod LongInputs
 pub mod OwnGame
+pub mod Filling
 mod Sample

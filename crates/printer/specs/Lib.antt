@@ -1,4 +1,5 @@
 pub mod Printed
 pub mod Run
 pub mod OwnGame
+pub mod Filling
 pub mod Sample
