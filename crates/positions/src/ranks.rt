@@ -29,8 +29,11 @@ pub fn in_block(
     size: usize,
     division: usize,
 ) -> usize
-    requires { ⌜ (2 ≤ size) × (first + size ≤ 16) × (choose (division + pred size) (pred size) ≤ 60000) × (sum (map (at (afterSteps (now y) (now steps))) (upFrom first size)) ≡ division) × HasRows size division (now t) × CanStep (first + size) (now y) (now steps) ⌝ }
-    ensures { λ r. ⌜ r ≡ positionIn (blockPoints size division) (map (at (afterSteps (now (y .entry)) (now (steps .entry)))) (upFrom first size)) ⌝ }
+    requires { ⌜ (2 ≤ size) × (first + size ≤ 16) × (choose (division + pred size) (pred size) ≤ 60000)
+        × (sum (map (at (afterSteps (now y) (now steps))) (upFrom first size)) ≡ division)
+        × HasRows size division (now t) × CanStep (first + size) (now y) (now steps) ⌝ }
+    ensures { λ r. ⌜ (let after = afterSteps (now (y .entry)) (now (steps .entry)) in
+        r ≡ positionIn (blockPoints size division) (map (at after) (upFrom first size))) ⌝ }
 {
     let mut rank: usize = 0;
     let mut left = division;

@@ -1,4 +1,5 @@
-// The bytes of the kiosk's sheet. Each function writes a sheet at the front of the lent buffer and returns the sheet's length. The longest sheet is
+// The bytes of the kiosk's sheet. Each function writes a sheet at the front of the lent buffer and returns the
+// sheet's length. The longest sheet is
 // shorter than 2,400 bytes.
 mod centre;
 mod line;
@@ -48,7 +49,8 @@ pub fn unknown(out: &mut [u8; 4096], places: u64, position: u64) -> usize
     labelled(out, next, b"position", position)
 }
 
-// The sheet of an end. `divisions` has the division of each index's block, and `vertices` begins with `count` vertices of as many numbers each.
+// The sheet of an end. `divisions` has the division of each index's block, and `vertices` begins with `count`
+// vertices of as many numbers each.
 // Public only because the kiosk calls it, with an answer that a run has given.
 pub fn ended(
     out: &mut [u8; 4096],

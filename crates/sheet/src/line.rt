@@ -1,4 +1,5 @@
-// The lines of the sheet but the centre's. Only this crate calls these functions: each writes into the buffer from a position on, for which there is
+// The lines of the sheet but the centre's. Only this crate calls these functions: each writes into the buffer from a
+// position on, for which there is
 // room, and returns the position behind what it wrote.
 use text::byte;
 use text::decimal;
