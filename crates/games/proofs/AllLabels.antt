@@ -1,18 +1,14 @@
 -- The labels of all points, one point after the other. Assumes nothing.
-use mathlib.Core.List.{List, [], _∷_, map}
-use mathlib.Core.Path.{_≡_, refl}
-use Prim.Native.Nat.{ℕ, zero, suc, _+_, _<_}
+use mathlib.Core.List.{List, [], map}
+use mathlib.Core.Path.{_≡_}
+use Prim.Native.Nat.{ℕ, _+_, _<_}
 use lib.ListN.{length, getD, take, set, length-map}
 use native.Mathlib.Omega.{arith}
 use Rattle.combinatorics.proofs.Fronts.{front-copy}
 use Rattle.combinatorics.specs.Front.{front}
 use Rattle.grid.specs.Grid.{Grid, Point, points, numPoints}
 use Rattle.losses.specs.Game.{label, labels}
-
-at-map : (f : Point → ℕ) (xs : List Point) (k : ℕ) → k < length xs → getD (map f xs) k 0 ≡ f (getD xs k [])
-at-map f [] k h = absurd (omega arith)
-at-map f (x ∷ xs) zero h = refl
-at-map f (x ∷ xs) (suc k) h = at-map f xs k (omega arith)
+use Rattle.points_in_order.proofs.InOrder.{at-map}
 
 pub labels-length : (g : Grid) (losses : List ℕ) → length (labels g losses) ≡ numPoints g
 unfolding labels
