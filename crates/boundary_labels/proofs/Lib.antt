@@ -1,0 +1,6 @@
+pub mod Rounds
+pub mod PointLabels
+pub mod Tables
+pub mod Complete
+pub mod Ends
+pub mod Worked
