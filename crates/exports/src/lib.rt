@@ -10,6 +10,7 @@ ghost use Rattle.games.specs.Labelling.{labelAnswer, labelBuffer};
 ghost use Rattle.printer.specs.Printed.{sheetOf};
 ghost use Rattle.exports.specs.Numbers.{kindNumber, runNumber, runFacts, labelNumber, labelCount};
 
+mod boundary_calls;
 mod check_calls;
 mod shelf_calls;
 
