@@ -54,6 +54,21 @@ static void check_label(void)
     expect("game 1's labels", leveretplate_label(sizes, 3, divisions, 3, losses, 24, table, 8, &count) == 0 && count == 8 && memcmp(table, expected, 8) == 0);
 }
 
+static void check_boundary(void)
+{
+    const uint8_t sizes[] = {2}, old[] = {1, 1, 0, 1, 1}, expected[] = {1, 1, 0, 1, 2};
+    const uint16_t divisions[] = {4}, start[] = {2, 2}, one[] = {3, 1};
+    uint8_t table[6] = {77, 77, 77, 77, 77, 77};
+    uint16_t answer[4] = {0};
+    uint64_t count = 77, facts[LEVERETPLATE_FACTS] = {0};
+    expect("a label buffer too long", leveretplate_boundary(sizes, 1, divisions, 1, old, 5, table, 6, &count) == 12 && count == 77 && table[0] == 77);
+    expect("a boundary table", leveretplate_boundary(sizes, 1, divisions, 1, old, 5, table, 5, &count) == 0 && count == 5);
+    expect("its labels, and the byte behind them", memcmp(table, expected, 5) == 0 && table[5] == 77);
+    expect("a run that needs its gap", leveretplate_run(sizes, 1, divisions, 1, start, 2, table, 5, answer, 4, 20, facts) == 16 && facts[1] == 2);
+    expect("a facet end on the old table", leveretplate_run(sizes, 1, divisions, 1, one, 2, old, 5, answer, 4, 20, facts) == 0 && facts[1] == 1);
+    expect("a place end on the new one", leveretplate_run(sizes, 1, divisions, 1, one, 2, table, 5, answer, 4, 20, facts) == 0 && facts[1] == 0);
+}
+
 static void check_shelf(void)
 {
     uint16_t list[] = {0, 0, 1, 2, 9, 9};
@@ -84,6 +99,7 @@ int main(void)
     check_sheet();
     check_run();
     check_label();
+    check_boundary();
     check_shelf();
     check_check();
     printf("%d wrong\n", failures);

@@ -33,6 +33,16 @@ uint8_t leveretplate_label(const uint8_t *sizes, size_t sizes_length,
                            uint8_t *labels, size_t labels_length,
                            uint64_t *count);
 
+/* Writes the boundary table of an old table, `old`, which is not altered, and its count of bytes P, and answers 0: a point with no 0 among its numbers
+ * keeps its old label, 0 too, and every other point gets the label of rule (1.3), the first index whose number is 0 and whose number before it, round
+ * the block, is positive. Else answers the refusal's number, 1 to 4, 6 or 7, which are asked of the old table, or 12. Every end that leveretplate_run
+ * announces on a table so written is a place end. */
+uint8_t leveretplate_boundary(const uint8_t *sizes, size_t sizes_length,
+                              const uint16_t *divisions, size_t divisions_length,
+                              const uint8_t *old, size_t old_length,
+                              uint8_t *labels, size_t labels_length,
+                              uint64_t *count);
+
 /* Says of points, m numbers each one after another and in any order, whether they are distinct, belong to one simplex of the Q triangulation and are
  * complete: 256 times the first block for which they are, counted from 1; 0 where they are not; or the refusal's number, 1 to 4, 6, 7 or 19. A label 0
  * stands for no index. Writes nothing. */

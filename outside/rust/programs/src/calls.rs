@@ -23,6 +23,15 @@ pub struct LabelCall {
     pub buffer: usize,
 }
 
+/// The boundary table of a table of labels; `buffer` is the length of the label buffer.
+#[derive(Clone, Debug, Default, PartialEq)]
+pub struct BoundaryCall {
+    pub sizes: Vec<u8>,
+    pub divisions: Vec<u16>,
+    pub labels: Vec<u8>,
+    pub buffer: usize,
+}
+
 /// Calls of a shelf in turn; the count goes on by each answer.
 #[derive(Clone, Debug, PartialEq)]
 pub struct ShelfCalls {
@@ -53,6 +62,7 @@ pub enum Call {
     Slip(Vec<u8>),
     Shelf(ShelfCalls),
     Check(CheckCall),
+    Boundary(BoundaryCall),
 }
 
 /// A slip's fields; those that are none are left out of the slip.
@@ -141,6 +151,10 @@ impl Display for Call {
             Call::Check(check) => {
                 writeln!(to, "call check\nsizes {}\nd {}", spaced(&check.sizes), spaced(&check.divisions))?;
                 write!(to, "labels {}\npoints {}", spaced(&check.labels), spaced(&check.points))
+            }
+            Call::Boundary(boundary) => {
+                writeln!(to, "call boundary\nsizes {}\nd {}", spaced(&boundary.sizes), spaced(&boundary.divisions))?;
+                write!(to, "labels {}\nbuffer {}", spaced(&boundary.labels), boundary.buffer)
             }
             Call::Label(label) => {
                 writeln!(to, "call label\nsizes {}\nd {}", spaced(&label.sizes), spaced(&label.divisions))?;

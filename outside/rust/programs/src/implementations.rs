@@ -1,9 +1,9 @@
 //! Everything that answers a call: by the definitions, by the paper's steps, and the proved code where it is linked.
 
-use crate::calls::{CheckCall, LabelCall, RunCall, ShelfCall, ShelfCalls};
+use crate::calls::{BoundaryCall, CheckCall, LabelCall, RunCall, ShelfCall, ShelfCalls};
 use reference::grid::Grid;
 use reference::slip::{self, ByDefinitions, ByPaper, Slip, SHEET_BYTES};
-use reference::{check, games, paper, questions, shelf, small, Outcome, Verdict};
+use reference::{boundary, check, games, paper, questions, shelf, small, Outcome, Verdict};
 
 pub type Sheet = [u8; SHEET_BYTES];
 
@@ -19,6 +19,9 @@ pub trait Implementation {
     fn label(&self, call: &LabelCall, labels: &mut [u8]) -> Result<usize, u64>;
 
     fn check(&self, call: &CheckCall) -> Verdict;
+
+    /// The count of labels written, or the refusal's number.
+    fn boundary(&self, call: &BoundaryCall, labels: &mut [u8]) -> Result<usize, u64>;
 
     /// Whether a list of points on this grid can be checked in reasonable time.
     fn fits_check(&self, grid: &Grid) -> bool {
@@ -85,6 +88,10 @@ impl Implementation for Paper {
         check::by_lists(&call.sizes, &call.divisions, &call.labels, &call.points)
     }
 
+    fn boundary(&self, call: &BoundaryCall, labels: &mut [u8]) -> Result<usize, u64> {
+        boundary::write(&call.sizes, &call.divisions, &call.labels, labels)
+    }
+
     fn sheet(&self, slip: &[u8], sheet: &mut Sheet) -> usize {
         slip::sheet::<ByPaper>(slip, sheet)
     }
@@ -124,6 +131,10 @@ impl Implementation for Definitions {
 
     fn check(&self, call: &CheckCall) -> Verdict {
         check::by_search(&call.sizes, &call.divisions, &call.labels, &call.points)
+    }
+
+    fn boundary(&self, call: &BoundaryCall, labels: &mut [u8]) -> Result<usize, u64> {
+        boundary::by_rule(&call.sizes, &call.divisions, &call.labels, labels)
     }
 
     fn fits_check(&self, grid: &Grid) -> bool {

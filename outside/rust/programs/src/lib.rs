@@ -1,5 +1,6 @@
 //! What the programs share: calls, the implementations that answer them, inputs, and stored cases.
 
+pub mod boundary_inputs;
 pub mod calls;
 pub mod implementations;
 pub mod inputs;
@@ -8,5 +9,5 @@ pub mod proved;
 pub mod random;
 pub mod stored;
 
-pub use calls::{Call, CheckCall, LabelCall, RunCall, ShelfCall, ShelfCalls};
+pub use calls::{BoundaryCall, Call, CheckCall, LabelCall, RunCall, ShelfCall, ShelfCalls};
 pub use implementations::{all, Implementation};

@@ -1,6 +1,6 @@
 //! The proved code behind its C interface. Only this file knows the foreign signatures.
 
-use crate::calls::{CheckCall, LabelCall, RunCall};
+use crate::calls::{BoundaryCall, CheckCall, LabelCall, RunCall};
 use crate::implementations::{Implementation, Sheet};
 use reference::grid::Grid;
 use reference::{End, Kind, Outcome, Verdict};
@@ -35,6 +35,15 @@ extern "C" {
         labels: *const u8, labels_length: usize,
         points: *const u16, points_length: usize,
     ) -> u16;
+
+    /// 0 and the count of labels, or the refusal's number.
+    fn leveretplate_boundary(
+        sizes: *const u8, sizes_length: usize,
+        divisions: *const u16, divisions_length: usize,
+        old: *const u8, old_length: usize,
+        labels: *mut u8, labels_length: usize,
+        count: *mut u64,
+    ) -> u8;
 
     /// The length of the sheet.
     fn leveretplate_sheet(slip: *const u8, slip_length: usize, sheet: *mut Sheet) -> usize;
@@ -137,6 +146,22 @@ impl Implementation for Proved {
             number if number < 256 => Verdict::Refused(number.into()),
             number => Verdict::Yes(number as usize / 256),
         }
+    }
+
+    fn boundary(&self, call: &BoundaryCall, labels: &mut [u8]) -> Result<usize, u64> {
+        let mut count = OLD;
+        // Safety: each pointer comes with the length of its slice, and only the labels and the count are written to.
+        #[rustfmt::skip]
+        let number = unsafe {
+            leveretplate_boundary(
+                call.sizes.as_ptr(), call.sizes.len(),
+                call.divisions.as_ptr(), call.divisions.len(),
+                call.labels.as_ptr(), call.labels.len(),
+                labels.as_mut_ptr(), labels.len(),
+                &mut count,
+            )
+        };
+        answered(number, count)
     }
 
     fn sheet(&self, slip: &[u8], sheet: &mut Sheet) -> usize {

@@ -1,6 +1,6 @@
 //! The stored cases, each from a `call` line to the next: lines of a word and its values, then `expect` and the lines expected.
 
-use crate::calls::{spaced, Call, CheckCall, Fields, LabelCall, RunCall, ShelfCall, ShelfCalls};
+use crate::calls::{spaced, BoundaryCall, Call, CheckCall, Fields, LabelCall, RunCall, ShelfCall, ShelfCalls};
 use std::collections::HashMap;
 
 pub struct Case {
@@ -36,8 +36,13 @@ fn read_case(lines: &[&str]) -> Case {
             let (budget, answer) = (list("budget")[0], list("answer")[0] as usize);
             Call::Run(RunCall { sizes, divisions, start: pairs("start"), labels: bytes("labels"), budget, answer })
         }
-        "label" if given("game") => Call::Label(LabelCall::of_game(list("game")[0] as usize, &divisions, list("buffer")[0] as usize)),
+        "label" if given("game") => {
+            Call::Label(LabelCall::of_game(list("game")[0] as usize, &divisions, list("buffer")[0] as usize))
+        }
         "check" => Call::Check(CheckCall { sizes, divisions, labels: bytes("labels"), points: pairs("points") }),
+        "boundary" => {
+            Call::Boundary(BoundaryCall { sizes, divisions, labels: bytes("labels"), buffer: list("buffer")[0] as usize })
+        }
         "label" => Call::Label(LabelCall { sizes, divisions, losses: pairs("losses"), buffer: list("buffer")[0] as usize }),
         "shelf" => {
             let one = |word: &str| values.get(word).map(|sheet| format!("{word} {sheet}"));
@@ -67,8 +72,16 @@ fn read_case(lines: &[&str]) -> Case {
         }
         other => panic!("unknown call {other}"),
     };
-    if let (Call::Shelf(_), Some(list)) = (&call, expect.last_mut()) {
-        *list = format!("list {}", spaced(&numbers(list.trim_start_matches("list"))));
+    // A list of numbers is written out, where the case has counts of equal ones.
+    let written_out = match &call {
+        Call::Shelf(_) => Some("list"),
+        Call::Boundary(_) => Some("labels-after"),
+        _ => None,
+    };
+    if let (Some(word), Some(line)) = (written_out, expect.last_mut()) {
+        if let Some(values) = line.strip_prefix(word) {
+            *line = format!("{word} {}", spaced(&numbers(values)));
+        }
     }
     Case { name, call, expect }
 }

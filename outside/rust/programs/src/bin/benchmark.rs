@@ -4,7 +4,7 @@
 //!     cargo run --release --bin benchmark            # everything
 //!     cargo run --release --bin benchmark -- "16;6"  # the lines that have this text
 
-use programs::calls::{CheckCall, Fields, LabelCall, RunCall};
+use programs::calls::{BoundaryCall, CheckCall, Fields, LabelCall, RunCall};
 use programs::implementations::{Paper, Sheet};
 use programs::inputs::{long_run, whole_simplex, From};
 use programs::Implementation;
@@ -32,6 +32,15 @@ const LONG_RUNS: [(&[u8], &[u16], From, u64, usize); 8] = [
     (&[2, 2, 2], &[38, 38, 38], From::LastCorner, 363, 500),
     (&[3, 3, 3], &[7, 7, 8], From::LastCorner, 1, 5_000),
     (&[2, 2, 2, 2], &[14, 14, 15, 15], From::LastCorner, 2, 3_000),
+];
+
+/// Grids with a boundary of a few points, of some, and of all.
+const BOUNDARY_GRIDS: [(&[u8], &[u16]); 5] = [
+    (&[2], &[59_999]),
+    (&[2, 2], &[240, 240]),
+    (&[3, 3, 3], &[7, 7, 8]),
+    (&[2, 2, 2, 2, 2, 2], &[5, 5, 5, 5, 5, 6]),
+    (&[16], &[6]),
 ];
 
 extern "C" {
@@ -132,6 +141,17 @@ impl Benchmark {
         self.print(name, "point", call.buffer as u64, &mut calls);
     }
 
+    fn boundary(&self, name: &str, call: &BoundaryCall) {
+        let mut buffers = vec![vec![0; call.buffer]; self.implementations.len()];
+        let mut calls: Vec<Box<dyn FnMut()>> = Vec::new();
+        for (implementation, labels) in self.implementations.iter().zip(&mut buffers) {
+            calls.push(Box::new(move || {
+                black_box(implementation.boundary(black_box(call), labels)).expect("a table");
+            }));
+        }
+        self.print(name, "point", call.buffer as u64, &mut calls);
+    }
+
     fn check(&self, name: &str, call: &CheckCall) {
         let mut calls: Vec<Box<dyn FnMut()>> = Vec::new();
         for implementation in &self.implementations {
@@ -204,6 +224,12 @@ fn main() {
         let points = Grid::new(GAMES[game].sizes, GAME_DIVISIONS[game]).expect("a grid").points;
         let name = format!("game {}, {}", game + 1, grid_name(GAMES[game].sizes, GAME_DIVISIONS[game]));
         benchmark.label(&name, &LabelCall::of_game(game + 1, GAME_DIVISIONS[game], points));
+    }
+    println!("\nthe boundary table of a table, questions included");
+    for (sizes, divisions) in BOUNDARY_GRIDS {
+        let points = Grid::new(sizes, divisions).expect("a grid").points;
+        let (sizes, divisions, labels) = (sizes.to_vec(), divisions.to_vec(), vec![1; points]);
+        benchmark.boundary(&format!("boundary of {}", grid_name(&sizes, &divisions)), &BoundaryCall { sizes, divisions, labels, buffer: points });
     }
     println!("\nchecking all n + 1 points of a simplex, the last first");
     for (sizes, divisions) in [(&[16u8][..], &[1u16][..]), (&[3, 3, 3, 3, 2, 2], &[1; 6])] {

@@ -13,6 +13,9 @@ use std::process::ExitCode;
 /// What the answer buffer holds before a run; no coordinate is as large. A case writes it as a dot.
 const UNTOUCHED: u16 = u16::MAX;
 
+/// What the label buffer holds before a boundary table is written; it is no label.
+const UNTOUCHED_BYTE: u8 = u8::MAX;
+
 /// What the implementation gives, as the lines of `expect`; none if the grid is too large for it.
 fn given(implementation: &dyn Implementation, call: &Call) -> Option<Vec<String>> {
     match call {
@@ -61,6 +64,14 @@ fn given(implementation: &dyn Implementation, call: &Call) -> Option<Vec<String>
                 Verdict::Refused(number) => vec![format!("refused {number}")],
                 Verdict::Yes(block) => vec!["yes".to_string(), format!("block {block}")],
                 Verdict::No => vec!["no".to_string()],
+            })
+        }
+        Call::Boundary(boundary) => {
+            let mut labels = vec![UNTOUCHED_BYTE; boundary.buffer];
+            Some(match implementation.boundary(boundary, &mut labels) {
+                Ok(count) => vec![format!("written {count}"), format!("labels-after {}", spaced(&labels))],
+                Err(number) if labels.iter().all(|&label| label == UNTOUCHED_BYTE) => vec![format!("refused {number}")],
+                Err(number) => vec![format!("refused {number}, with the buffer changed")],
             })
         }
         Call::Label(label) => {

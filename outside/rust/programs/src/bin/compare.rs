@@ -2,10 +2,11 @@
 //!
 //!     cargo run --release --bin compare
 
+use programs::boundary_inputs;
 use programs::calls::Call;
 use programs::implementations::Sheet;
 use programs::inputs::{self, Take};
-use programs::{all, CheckCall, Implementation, LabelCall, RunCall};
+use programs::{all, BoundaryCall, CheckCall, Implementation, LabelCall, RunCall};
 use reference::grid::Grid;
 use reference::slip::SHEET_BYTES;
 use reference::{Outcome, Verdict};
@@ -47,6 +48,7 @@ enum Seen {
     /// Each answer, with the list after it.
     Shelf(Vec<(Result<usize, u64>, Vec<u16>)>),
     Check(Verdict),
+    Boundary(Result<usize, u64>, Vec<u8>),
 }
 
 impl Comparison {
@@ -62,6 +64,7 @@ impl Comparison {
                 Call::Slip(slip) => self.slip(implementation.as_ref(), slip),
                 Call::Shelf(calls) => Ok(Seen::Shelf(implementation.shelf(calls))),
                 Call::Check(check) => Ok(Seen::Check(implementation.check(check))),
+                Call::Boundary(boundary) => self.boundary(implementation.as_ref(), boundary),
             };
             if call != before {
                 self.differs(&before, implementation.name(), "an input is changed");
@@ -112,6 +115,15 @@ impl Comparison {
         Ok(Seen::Label(number, labels))
     }
 
+    fn boundary(&mut self, implementation: &dyn Implementation, boundary: &BoundaryCall) -> Result<Seen, &'static str> {
+        let mut labels: Vec<u8> = (0..boundary.buffer).map(|at| pattern(at) as u8).collect();
+        let number = implementation.boundary(boundary, &mut labels);
+        if number.is_err() && (0..labels.len()).any(|at| labels[at] != pattern(at) as u8) {
+            return Err("a refusal by the boundary rule changed its buffer");
+        }
+        Ok(Seen::Boundary(number, labels))
+    }
+
     fn slip(&mut self, implementation: &dyn Implementation, slip: &[u8]) -> Result<Seen, &'static str> {
         let mut sheet: Box<Sheet> = Box::new([0; SHEET_BYTES]);
         sheet.copy_from_slice(&self.untouched);
@@ -150,8 +162,8 @@ impl Tally {
             Seen::Run(Outcome::Refused(number), _) => self.refusals[*number as usize] += 1,
             Seen::Run(Outcome::Spent(_), _) => self.refusals[9] += 1,
             Seen::Run(Outcome::Unknown { .. }, _) => self.refusals[16] += 1,
-            Seen::Label(Ok(_), _) => self.ends += 1,
-            Seen::Label(Err(number), _) => self.refusals[*number as usize] += 1,
+            Seen::Label(Ok(_), _) | Seen::Boundary(Ok(_), _) => self.ends += 1,
+            Seen::Label(Err(number), _) | Seen::Boundary(Err(number), _) => self.refusals[*number as usize] += 1,
             Seen::Shelf(answers) => {
                 for (answer, _) in answers {
                     match answer {
@@ -177,7 +189,9 @@ impl Tally {
 
 fn fits(implementation: &dyn Implementation, call: &Call) -> bool {
     match call {
-        Call::Run(RunCall { sizes, divisions, .. }) | Call::Label(LabelCall { sizes, divisions, .. }) => {
+        Call::Run(RunCall { sizes, divisions, .. })
+        | Call::Label(LabelCall { sizes, divisions, .. })
+        | Call::Boundary(BoundaryCall { sizes, divisions, .. }) => {
             Grid::new(sizes, divisions).map_or(true, |grid| implementation.fits(&grid))
         }
         Call::Check(CheckCall { sizes, divisions, .. }) => {
@@ -215,6 +229,10 @@ fn main() -> ExitCode {
     comparison.part("lists near simplices of large grids", |take| inputs::lists_near_simplices(13, 5_000, 60_000, take));
     comparison.part("ends of runs, checked", |take| inputs::checked_ends(14, 200_000, 500, take));
     comparison.part("faulty lists", |take| inputs::faulty_lists(15, 200_000, take));
+    comparison.part("every old table of the smallest grids", boundary_inputs::every_table);
+    comparison.part("boundary tables up to 2,000 points", |take| boundary_inputs::tables(16, 200_000, 2_000, take));
+    comparison.part("boundary tables up to 60,000 points", |take| boundary_inputs::tables(17, 2_000, 60_000, take));
+    comparison.part("faulty boundary calls", |take| boundary_inputs::faulty_calls(18, 200_000, take));
     comparison.part("damaged and cut slips", |take| inputs::damaged_slips(9, 100_000, take));
     comparison.part("every small shelf", inputs::every_shelf);
     comparison.part("random shelves", |take| inputs::random_shelves(10, 3_000, take));
