@@ -1,5 +1,5 @@
 #!/usr/bin/env python3
-"""Makes the input and the expected output of the programs stored_cases, exported_calls, check_cases and shelf_cases from the cases in this folder.
+"""Makes the input and the expected output of the programs that run the stored cases in this folder.
 
 Each case is a text of lines. `call` says what is called. A slip is given in hexadecimal, or by its fields; `60000x2` stands for 60,000 times 2, and
 `-` for a field that is not there. The lines behind `expect`, up to `later`, are the sheet. A shelf's calls stand in `file`, `ask` or `script`; behind
@@ -69,6 +69,11 @@ def row(name, values):
     return " ".join([name, *map(str, values)]) + "\n"
 
 
+def runs(name, values):
+    """A line of runs of equal numbers: 3x0 stands for three times 0."""
+    return " ".join([name, *(f"{len(list(group))}x{value}" for value, group in itertools.groupby(values))]) + "\n"
+
+
 def write(crate, name, chosen):
     """The number of the cases and each one's input; and what the program prints of each behind its number."""
     data = word(len(chosen)) + b"".join(data for data, _ in chosen)
@@ -97,8 +102,9 @@ def label_call(fields, expect):
     table = word(1) + on_grid(fields) + listed(numbers(fields["losses"])) if "losses" in fields else None
     data = (table or word(2) + on_grid(fields) + word(int(fields["game"]))) + word(room)
     if expect.startswith("refused"):
-        return data, expect + row("labels", [255] * room)
-    return data, f"count {len(expect.split()) - 1}\n{expect}"
+        return data, expect + runs("labels", [255] * room)
+    written = list(numbers(expect.removeprefix("labels")))
+    return data, f"count {len(written)}\n" + runs("labels", written)
 
 
 def as_run(fields, expect):
@@ -135,6 +141,14 @@ def check_case(fields, expect):
     return on_grid(fields) + listed(numbers(fields["labels"])) + listed(numbers(fields.get("points", ""))), expect
 
 
+def boundary_case(fields, expect):
+    """The answer, and the whole buffer, which is 255 throughout where nothing was written."""
+    room = int(fields["buffer"])
+    answer, *after = expect.splitlines()
+    buffer = numbers(after[0].removeprefix("labels-after")) if after else [255] * room
+    return on_grid(fields) + listed(numbers(fields["labels"])) + word(room), f"{answer}\n" + runs("buffer", buffer)
+
+
 everything = list(cases())
 
 
@@ -146,4 +160,5 @@ ends = [as_run(f, e) for f, e in everything if f.get("name", "").startswith("end
 write("stored_cases", "slip", [(listed(slip(f)), e) for f, e in called("slip")])
 write("exported_calls", "call", [run_call(*case) for case in called("run") + ends] + [label_call(*case) for case in called("label")])
 write("check_cases", "list", [check_case(*case) for case in called("check")])
+write("boundary_cases", "table", [boundary_case(*case) for case in called("boundary")])
 write("shelf_cases", "case", [shelf_case(*case) for case in called("shelf")])

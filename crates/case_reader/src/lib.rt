@@ -2,7 +2,7 @@
 // little-endian. A list is runs of equal numbers, a run being a count and the number, of 16 bits each; a run of no
 // numbers ends it.
 ghost use mathlib.Core.Path.{_≡_};
-ghost use Prim.Native.Nat.{_≤_};
+ghost use Prim.Native.Nat.{_+_, _≤_, _<_};
 ghost use lib.ListN.{length};
 ghost use Rattle.io.specs.Counts.{Counts};
 use libc::STDIN_FILENO;
@@ -123,9 +123,26 @@ fn show_word(number: u16) {
     io::print_decimal(STDOUT_FILENO, number as u64);
 }
 
-fn show_byte(number: u8) {
+// How many bytes from `at` on equal the one there.
+fn run_length(bytes: &[u8], at: usize) -> usize
+    requires { ⌜ at < length (now bytes) ⌝ }
+    ensures { λ r. ⌜ (1 ≤ r) × (at + r ≤ length (now (bytes .entry))) ⌝ }
+{
+    let mut i = at + 1;
+    while i < bytes.len() {
+        if bytes[i] != bytes[at] {
+            return i - at;
+        }
+        i += 1;
+    }
+    i - at
+}
+
+fn show_run(count: usize, byte: u8) {
     show_text(b" ");
-    io::print_decimal(STDOUT_FILENO, number as u64);
+    io::print_decimal(STDOUT_FILENO, count as u64);
+    show_text(b"x");
+    io::print_decimal(STDOUT_FILENO, byte as u64);
 }
 
 // A text and a list, on a line.
@@ -139,12 +156,14 @@ pub fn show_words(text: &[u8], list: &[u16]) {
     show_text(b"\n");
 }
 
+// A text and a list of bytes as runs of equal ones, on a line: 3x0 stands for three times 0.
 pub fn show_bytes(text: &[u8], list: &[u8]) {
     show_text(text);
-    let mut i: usize = 0;
-    while i < list.len() {
-        show_byte(list[i]);
-        i += 1;
+    let mut at: usize = 0;
+    while at < list.len() {
+        let count = run_length(list, at);
+        show_run(count, list[at]);
+        at += count;
     }
     show_text(b"\n");
 }

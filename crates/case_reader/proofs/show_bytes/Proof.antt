@@ -1,4 +1,4 @@
--- `case_reader::show_bytes` is safe and ends. Assumes nothing.
+-- `case_reader::show_bytes` is safe and ends: each run has a byte. Assumes nothing.
 use Prim.Native.Nat.{_≤_, _-_}
 use lib.ListN.{length}
 use borrow.Author.Needs.{needs}
@@ -6,10 +6,10 @@ use Rattle.case_reader.proofs.show_bytes.Statement.{statement}
 use Rattle.case_reader.proofs.show_bytes.Tie as tie
 
 abbrev Inv-loop : tie.InvT-loop
-Inv-loop text list i₀ t4 i = i ≤ length list
+Inv-loop text list at₀ t5 at = at ≤ length list
 
 abbrev μ-loop : tie.MeasureT-loop
-μ-loop text list i₀ t4 i = length list - i
+μ-loop text list at₀ t5 at = length list - at
 
 show-text-requires : tie.Need-show-text-requires Inv-loop μ-loop
 show-text-requires c κs = search needs
@@ -17,14 +17,17 @@ show-text-requires c κs = search needs
 loop-holds : tie.Need-loop-holds Inv-loop μ-loop
 loop-holds c = search needs
 
-shared-slice-read-show-byte : tie.Need-shared-slice-read-show-byte Inv-loop μ-loop
-shared-slice-read-show-byte c = search needs
+run-length-requires : tie.Need-run-length-requires Inv-loop μ-loop
+run-length-requires c κs = search needs
 
-show-byte-requires : tie.Need-show-byte-requires Inv-loop μ-loop
-show-byte-requires c κs = search needs
+shared-slice-read-show-run : tie.Need-shared-slice-read-show-run Inv-loop μ-loop
+shared-slice-read-show-run c = search needs
 
-add-i : tie.Need-add-i Inv-loop μ-loop
-add-i c = search needs
+show-run-requires : tie.Need-show-run-requires Inv-loop μ-loop
+show-run-requires c κs = search needs
+
+add-at : tie.Need-add-at Inv-loop μ-loop
+add-at c = search needs
 
 loop-less : tie.Need-loop-less Inv-loop μ-loop
 loop-less c = search needs
@@ -49,9 +52,10 @@ show-bytes-spec =
     μ-loop
     show-text-requires
     loop-holds
-    shared-slice-read-show-byte
-    show-byte-requires
-    add-i
+    run-length-requires
+    shared-slice-read-show-run
+    show-run-requires
+    add-at
     loop-less
     loop-again
     slice-aggregate-show-text
