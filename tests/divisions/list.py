@@ -23,8 +23,7 @@ REASONS = {
     "text::decimal": "a number's decimal digits",
     "checker::check": "how many points of m numbers a list has",
     "checker::refusals::is_list": "how many points of m numbers a list has",
-    "case_lists::bytes_of": "a program of the tests, which reads a byte",
-    "shelf_cases::entry": "a program of the tests, which reads an entry of 16 bits",
+    "case_reader::put_bytes": "a program of the tests, which reads a byte",
 }
 
 

@@ -1,9 +1,10 @@
 -- What is known where a point is labelled and where the table is written. The call's own promise does not cite it.
 -- Assumes nothing.
-use mathlib.Core.Bool.{true}
+use mathlib.Core.Bool.{true, cond}
 use mathlib.Core.List.{List, []}
 use mathlib.Core.Path.{_≡_}
-use Prim.Native.Nat.{ℕ, _<_}
+use Prim.Native.Nat.{ℕ, _≤_, _<_}
+use lib.Dec.{eqb}
 use lib.ListN.{length, getD}
 use Rattle.questions.specs.Questions.{firstNo}
 use Rattle.grid.specs.Grid.{Grid, Point, isGridPoint, numIndices, numPoints, points, previous}
@@ -27,3 +28,11 @@ pub record PointsToLabel (g : Grid) (firsts before old : List ℕ) (point : Poin
   pub first : point ≡ getD (points g) 0 []
   pub oldWhole : length old ≡ numPoints g
   pub room : length buffer ≡ numPoints g
+
+-- the label found, or the old one where none was, which is 0
+abbrev pub foundOr : ℕ → ℕ → ℕ
+foundOr found old = cond (eqb found 0) old found
+
+-- a part of a table has one label, found for all of it, or the old ones
+abbrev pub FilledBy : List ℕ → List ℕ → ℕ → ℕ → ℕ → Type 0
+FilledBy table old found from to = (i : ℕ) → from ≤ i → i < to → foundOr found (getD old i 0) ≡ getD table i 0

@@ -1,4 +1,5 @@
--- The points of the table, one from the other: what is known of the k-th and of what is made of it, and that the next follows it. Assumes nothing.
+-- The points of the table, one from the other: what is known of the k-th and of what is made of it, and that the next
+-- follows it. Assumes nothing.
 use mathlib.Core.Bool.{true}
 use mathlib.Core.List.{List, [], _∷_, map}
 use mathlib.Core.Path.{_≡_, refl, ap}

@@ -1,3 +1,4 @@
 pub mod Blocks
 pub mod PointAfter
 pub mod InOrder
+pub mod Shifts

@@ -1,2 +1,3 @@
 pub mod PointAfter
 pub mod Lent
+pub mod Shifted

@@ -1,19 +1,25 @@
--- `write_from` meets its contract: the new labels of the points passed stand at the front of the buffer. Assumes
--- nothing.
-use mathlib.Core.List.{[]}
-use mathlib.Core.Path.{_≡_, refl, sym, _∙_}
-use Prim.Native.Nat.{ℕ, _-_, _≤_, _<_}
-use lib.ListN.{length, getD, take, length-set}
+-- `write_from` meets its contract: the new labels of the points passed stand at the front of the buffer, and a turn
+-- passes a point and those behind it that are labelled alike. Assumes nothing.
+use mathlib.Core.Bool.{cond}
+use mathlib.Core.List.{List, []}
+use mathlib.Core.Path.{_≡_, refl, sym, ap, _∙_}
+use Prim.Native.Nat.{ℕ, _+_, _-_, _≤_, _<_}
+use borrow.Author.Needs.{needs}
+use lib.ListN.{length, getD, set, take, length-set}
 use native.Mathlib.Omega.{arith}
 use Rattle.combinatorics.proofs.Fronts.{front-none}
 use Rattle.combinatorics.specs.Front.{front}
-use Rattle.grid.specs.Grid.{Grid, Point, numPoints, points}
+use Rattle.grid.proofs.Accepted.{Accepted, accepted}
 use Rattle.grid.specs.Build.{lent}
+use Rattle.grid.specs.Grid.{Grid, Point, numPoints, points}
 use Rattle.points_in_order.proofs.InOrder.{next-point, point-at}
 use Rattle.points_in_order.specs.Lent.{PointWithFirsts}
-use Rattle.boundary.proofs.Turns.{all-written, written}
-use Rattle.boundary_labels.specs.Boundary.{boundaryTable}
-use Rattle.boundary.specs.Lent.{PointToLabel}
+use Rattle.points_in_order.specs.Shifted.{lastButOne, lastOne, shifted}
+use Rattle.boundary_labels.proofs.PointLabels.{table-length}
+use Rattle.boundary_labels.specs.Boundary.{boundaryLabel, boundaryTable, isInterior}
+use Rattle.boundary.proofs.Turns.{all-written, few, found-or-is, long, low, turn-filled, turn-fits, turn-point}
+use Rattle.boundary.proofs.Turns.{written}
+use Rattle.boundary.specs.Lent.{FilledBy, PointToLabel, foundOr}
 use Rattle.boundary.proofs.table.write_from.Statement.{statement}
 use Rattle.boundary.proofs.table.write_from.Tie as tie
 
@@ -27,66 +33,177 @@ abbrev μ-loop : tie.MeasureT-loop
 μ-loop sizes divisions firsts previous old point₀ labels₀ k₀ point labels k = length labels₀ - k
 
 -- what is known in a turn
-module _ (c : tie.In-loop Inv-loop μ-loop) where
+module _ (t : tie.In-loop Inv-loop μ-loop) where
   abbrev start : tie.Start Inv-loop μ-loop
-  start = c .before .before .before .before .before .before .before
+  start = t .before .before .before .before .before .before .before
 
   abbrev g : Grid
   g = lent (start .args .sizes .now) (start .args .divisions .now)
 
+  abbrev firsts : List ℕ
+  firsts = start .args .firsts .now
+
+  abbrev old : List ℕ
+  old = start .args .old .now
+
   abbrev k : ℕ
-  k = c .before .loop .k
+  k = t .before .loop .k
 
   abbrev y : Point
-  y = c .before .loop .point
+  y = t .before .loop .point
 
   inside : k < numPoints g
   inside = omega (arith, start .pre .room)
 
   stands : y ≡ getD (points g) k []
-  stands = c .before .loop .inv .1 inside
+  stands = t .before .loop .inv .1 inside
 
-  here : PointWithFirsts g (start .args .firsts .now) y
-  here = point-at g (start .args .firsts .now) (start .pre .grid) k inside y stands
+  here : PointWithFirsts g firsts y
+  here = point-at g firsts (start .pre .grid) k inside y stands
 
   on : PointToLabel g (start .args .previous .now) y
   on = record { accepted = here .grid .accepted; isPoint = here .isPoint; befores = start .pre .befores }
+
+  few-points : numPoints g ≤ 60000
+  few-points = accepted g (start .pre .grid .accepted) .fewPoints
+
+  short : length y ≤ 16
+  short = few g (start .args .previous .now) y on
+
+  -- no further points yet
+  two : 2 ≤ length y
+  two = long g firsts old (start .pre .grid) k y stands 0 (omega (arith, inside)) (λ n. absurd (omega arith))
+
+-- and once it is known how many more points are labelled alike
+module _ (c : tie.After-more-alike Inv-loop μ-loop) where
+  abbrev t : tie.In-loop Inv-loop μ-loop
+  t = c .before .before .before .before .before .before
+
+  abbrev more : ℕ
+  more = c .more-alike .result
+
+  fits : k t + 1 + more ≤ numPoints (g t)
+  fits = omega (arith, start t .pre .oldWhole, inside t, c .more-alike .ensures .0)
+
+  alike : 0 < more → (0 < lastButOne (y t)) × (more < lastOne (y t))
+  alike = c .more-alike .ensures .1
+
+  lowered : more ≤ lastOne (y t)
+  lowered = low (g t) (firsts t) (old t) (start t .pre .grid) (k t) (y t) (stands t) more fits alike
+
+  raised : lastButOne (y t) + more < 65536
+  raised = turn-fits (g t) (firsts t) (old t) (start t .pre .grid) (k t) (y t) (stands t) more fits alike
+
+  ends : shifted (y t) more ≡ getD (points (g t)) (k t + more) []
+  ends = turn-point (g t) (firsts t) (old t) (start t .pre .grid) (k t) (y t) (stands t) more fits alike
+
+  abbrev found : ℕ
+  found = c .before .before .before .before .label .result
+
+  is-found : found ≡ cond (isInterior (y t)) 0 (boundaryLabel (g t) (y t))
+  is-found = c .before .before .before .before .label .ensures (g t) (on t)
+
+  byte-is : (o : ℕ) → foundOr found o ≡ cond (isInterior (y t)) o (boundaryLabel (g t) (y t))
+  byte-is =
+      found-or-is (g t) (firsts t) (old t) (start t .pre .grid) (k t) (y t) (stands t) more fits alike found is-found
+
+  filled : FilledBy (boundaryTable (g t) (old t)) (old t) found (k t + 1) (k t + 1 + more)
+  filled =
+      turn-filled (g t) (firsts t) (old t) (start t .pre .grid) (k t) (y t) (stands t) more fits alike found is-found
 
 loop-holds : tie.Need-loop-holds Inv-loop μ-loop
 loop-holds c =
     let s = c .before .before .before .before .before in
     (sym (front-none (s .args .labels .now)), (λ h. s .pre .first), omega arith, refl, refl)
 
-shared-slice-read-label : tie.Need-shared-slice-read-label Inv-loop μ-loop
-shared-slice-read-label c = let t = c .before .before in omega (arith, inside t, start t .pre .oldWhole)
-
 label-requires : tie.Need-label-requires Inv-loop μ-loop
-label-requires c κs = let t = c .before .before in (g t, on t)
+label-requires c κs = let t = c .before in (g t, on t)
+
+shared-slice-read-found-or : tie.Need-shared-slice-read-found-or Inv-loop μ-loop
+shared-slice-read-found-or c = let t = c .before .before .before in omega (arith, inside t, start t .pre .oldWhole)
+
+found-or-requires : tie.Need-found-or-requires Inv-loop μ-loop
+found-or-requires c κs = search needs
 
 slice-write-labels : tie.Need-slice-write-labels Inv-loop μ-loop
 slice-write-labels c = omega arith
 
+sub-more-alike : tie.Need-sub-more-alike Inv-loop μ-loop
+sub-more-alike c = let t = c .before .before .before .before .before in omega (arith, inside t, start t .pre .oldWhole)
+
+sub-more-alike-2 : tie.Need-sub-more-alike-2 Inv-loop μ-loop
+sub-more-alike-2 c =
+    let t = c .before .before .before .before .before in omega (arith, inside t, start t .pre .oldWhole)
+
+more-alike-requires : tie.Need-more-alike-requires Inv-loop μ-loop
+more-alike-requires c κs = let t = c .before .before .before .before .before in (two t, short t)
+
+add-fill : tie.Need-add-fill Inv-loop μ-loop
+add-fill c = let m = c .before in omega (arith, fits m, few-points (t m))
+
+add-fill-2 : tie.Need-add-fill-2 Inv-loop μ-loop
+add-fill-2 c = let m = c .before in omega (arith, fits m, few-points (t m))
+
+add-fill-3 : tie.Need-add-fill-3 Inv-loop μ-loop
+add-fill-3 c = let m = c .before in omega (arith, fits m, few-points (t m))
+
+fill-requires : tie.Need-fill-requires Inv-loop μ-loop
+fill-requires c κs =
+    let m = c .before in
+    let s = start (t m) in
+    let room : k (t m) + 1 + more m ≤ length (t m .before .loop .labels) =
+    omega (arith, fits m, s .pre .room, t m .before .loop .inv .3) in
+    (omega arith, omega (arith, fits m, s .pre .oldWhole), rw length-set room)
+
+shift-requires : tie.Need-shift-requires Inv-loop μ-loop
+shift-requires c κs = let m = c .before .before .before .before .before in (two (t m), short (t m), lowered m, raised m)
+
 advance-requires : tie.Need-advance-requires Inv-loop μ-loop
-advance-requires c κs = let t = c .before .before .before .before in (start t .args .divisions .now, here t)
+advance-requires c κs =
+    let h = c .before .before .before in
+    let m = h .before .before .before .before .before .before in
+    let s = start (t m) in
+    let z = point-at (g (t m)) (firsts (t m)) (s .pre .grid) (k (t m) + more m) (omega (arith, fits m)) _ in
+    (s .args .divisions .now, z (h .shift .ensures ∙ ends m))
+
+-- a turn from its end back to where the further points were counted
+abbrev counted : tie.After-slice-known5 Inv-loop μ-loop → tie.After-more-alike Inv-loop μ-loop
+counted c = c .before .before .before .before .before .before .before .before .before .before .before .before
 
 add-k : tie.Need-add-k Inv-loop μ-loop
-add-k c = omega arith
+add-k c = let m = counted c in omega (arith, fits m, few-points (t m))
+
+add-k-2 : tie.Need-add-k-2 Inv-loop μ-loop
+add-k-2 c = let m = counted c in omega (arith, fits m, few-points (t m))
 
 loop-less : tie.Need-loop-less Inv-loop μ-loop
-loop-less c = omega arith
+loop-less c = let m = counted c in omega (arith, fits m, start (t m) .pre .room)
 
 loop-again : tie.Need-loop-again Inv-loop μ-loop
 loop-again c =
-    let t = c .before .before .before .before .before .before .before in
-    let s = start t in
-    let i = t .before .loop .inv in
-    let old = s .args .old .now in
-    let firsts = s .args .firsts .now in
-    let is = c .before .before .before .before .label .ensures (g t) (on t) in (
-      rw (i .0) (written (g t) old (s .args .labels .now) (s .pre .room) (k t) (inside t) (y t) (stands t) _ is),
-      (λ h. c .before .before .advance .ensures .0 ∙ next-point (g t) firsts (s .pre .grid) (k t) h (y t) (stands t)),
+    let h = c .before .before .before .before .before .before in
+    let f = h .before .before .before .before in
+    let m = f .before .before in
+    let o = m .before .before .found-or in
+    let s = start (t m) in
+    let i = t m .before .loop .inv in
+    let T = boundaryTable (g (t m)) (old (t m)) in
+    let B = s .args .labels .now in
+    let room = s .pre .room in
+    let byte = o .ensures ∙ byte-is m (getD (old (t m)) (k (t m)) 0) in
+    let here = written (g (t m)) (old (t m)) B room (k (t m)) (inside (t m)) (y (t m)) (stands (t m)) _ byte in
+    let first = ap (λ (l : List ℕ). set l (k (t m)) (o .result)) (i .0) ∙ here in
+    let n : length T ≡ numPoints (g (t m)) = table-length (g (t m)) (old (t m)) in
+    let same : length (set (t m .before .loop .labels) (k (t m)) (o .result)) ≡ numPoints (g (t m)) =
+    rw length-set (i .3 ∙ room) in
+    let e : k (t m) + 1 + more m ≡ k (t m) + (1 + more m) = omega arith in
+    let at = h .shift .ensures ∙ ends m in (
+      f .fill .ensures T B (n ∙ sym same) (room ∙ sym n) first (filled m) ∙ ap (λ (n : ℕ). front (take n T) B) e,
+      (λ q. c .before .before .advance .ensures .0
+          ∙ next-point (g (t m)) (firsts (t m)) (s .pre .grid) (k (t m) + more m) (omega arith) _ at
+          ∙ ap (λ (n : ℕ). getD (points (g (t m))) n []) (omega arith)),
+      omega (arith, fits m, room),
       omega arith,
-      simp length-set (i .3),
       omega arith,
     )
 
@@ -111,11 +228,21 @@ write-from-spec =
     Inv-loop
     μ-loop
     loop-holds
-    shared-slice-read-label
     label-requires
+    shared-slice-read-found-or
+    found-or-requires
     slice-write-labels
+    sub-more-alike
+    sub-more-alike-2
+    more-alike-requires
+    add-fill
+    add-fill-2
+    add-fill-3
+    fill-requires
+    shift-requires
     advance-requires
     add-k
+    add-k-2
     loop-less
     loop-again
     same-length

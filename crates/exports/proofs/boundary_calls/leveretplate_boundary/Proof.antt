@@ -1,4 +1,5 @@
--- `leveretplate_boundary` meets its contract: it is the boundary rule's own, with the answer as numbers. Assumes nothing.
+-- `leveretplate_boundary` meets its contract: it is the boundary rule's own, with the answer as numbers. Assumes
+-- nothing.
 use mathlib.Core.Path.{refl, sym, _∙_}
 use borrow.Author.Needs.{needs}
 use Rattle.exports.proofs.boundary_calls.leveretplate_boundary.Statement.{statement}
