@@ -24,6 +24,7 @@ REASONS = {
     "checker::check": "how many points of m numbers a list has",
     "checker::refusals::is_list": "how many points of m numbers a list has",
     "case_reader::put_bytes": "a program of the tests, which reads a byte",
+    "exported_calls::make_game": "a program of the tests, which reads the number of a game",
 }
 
 
