@@ -66,7 +66,7 @@ fn first_vertex(kind: Kind) -> usize
 }
 
 // The walk along the path of an accepted table, and its answer.
-fn announced(
+pub fn announced(
     g: Grid,
     binomials: &[u16; ENTRIES],
     start: &[u16],
@@ -120,7 +120,7 @@ fn announced(
 }
 
 // Questions 5 to 8, on a grid that is accepted: the number of the first that is answered no, or 0.
-fn first_no(g: Grid, start: &[u16], labels: &[u8], room: usize) -> u8
+pub fn first_no(g: Grid, start: &[u16], labels: &[u8], room: usize) -> u8
     requires { ⌜ IsMade g ⌝ }
     ensures { λ r. ⌜ r ≡ firstNo (laterQuestions (problemFrom g (now (start .entry)) (now (labels .entry))) room) ⌝ }
 {

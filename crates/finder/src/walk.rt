@@ -1,4 +1,4 @@
-// The walk from {v} along the path, place by place. Only this crate calls these functions.
+// The walk from {v} along the path, place by place. Only `begin` is called by another crate too.
 ghost use mathlib.Core.Path.{_≡_};
 ghost use Prim.Native.Nat.{_≤_};
 ghost use Rattle.marks.specs.Reading.{Readable, tableOf};
@@ -101,7 +101,7 @@ fn visit(
 }
 
 // {v}, before the mark of its one point is read.
-fn begin(first: &[u16; 16], m: usize) -> Status
+pub fn begin(first: &[u16; 16], m: usize) -> Status
     requires { ⌜ m ≤ 16 ⌝ }
     ensures { λ r. ⌜ IsBegun (now (first .entry)) m r ⌝ }
 {

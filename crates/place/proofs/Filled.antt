@@ -111,7 +111,7 @@ module _ {p : Problem} (ok : Accepted p) where
   filled-label y h = fill-at p.labels (position p.grid y) h
 
   -- the path's places are the filled table's, as far as they go
-  beside : (k : ℕ) → k < pathLength p → (k < pathLength (filledTable p))
+  pub beside : (k : ℕ) → k < pathLength p → (k < pathLength (filledTable p))
       × (placeAt (path p .visited) k ≡ placeAt (path (filledTable p) .visited) k)
   beside k l =
       let w = run-follows accepted-filled (path p .visited) (follows-filled p (map fill p.labels) fills (path p .visited) (demand3-holds ok .follows)) k l in
