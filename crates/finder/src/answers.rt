@@ -65,7 +65,8 @@ fn first_vertex(kind: Kind) -> usize
     }
 }
 
-// The walk along the path of an accepted table, and its answer.
+// The walk along the path of an accepted table, and its answer: the run behind all its questions. A refinement calls it
+// too, which has asked them of its levels, and so does the report of where the path came nearest.
 pub fn announced(
     g: Grid,
     binomials: &[u16; ENTRIES],
