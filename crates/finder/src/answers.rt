@@ -47,7 +47,7 @@ pub enum Answer {
 }
 
 // The number, from 1, of the block of index h.
-fn block_number(g: Grid, h: usize) -> u8
+pub fn block_number(g: Grid, h: usize) -> u8
     requires { ⌜ IsMade g × (h < g .indices) ⌝ }
     ensures { λ r. ⌜ r ≡ suc (blockOf (shape g) h) ⌝ }
 {
@@ -56,7 +56,7 @@ fn block_number(g: Grid, h: usize) -> u8
 }
 
 // The number of the first point of the complete simplex: a facet end leaves out the first point of its place.
-fn first_vertex(kind: Kind) -> usize
+pub fn first_vertex(kind: Kind) -> usize
     ensures { λ r. ⌜ r ≡ firstOf kind ⌝ }
 {
     match kind {

@@ -1,4 +1,5 @@
-// The walk from {v} along the path, place by place. Only `begin` is called by another crate too.
+// The walk from {v} along the path, place by place. What is public is also for the walks that write a trail and that
+// report where the path came nearest.
 ghost use mathlib.Core.Path.{_≡_};
 ghost use Prim.Native.Nat.{_≤_};
 ghost use Rattle.marks.specs.Reading.{Readable, tableOf};
@@ -41,7 +42,7 @@ pub enum Finish {
     Spent,
 }
 
-fn moved(outcome: Outcome) -> Visited
+pub fn moved(outcome: Outcome) -> Visited
     ensures { λ r. ⌜ r ≡ visitOf outcome ⌝ }
 {
     match outcome {

@@ -9,7 +9,11 @@ mod points;
 mod shifts;
 mod walk;
 
+pub use joining::grow;
+pub use leaving::leave;
+pub use lists::find;
 pub use lists::index_at;
+pub use lists::label_in;
 pub use lists::position_at;
 pub use lists::wide32;
 pub use mask::add;

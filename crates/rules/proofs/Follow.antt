@@ -46,7 +46,7 @@ use Rattle.rules.specs.Mask.{bit}
 use Rattle.rules.specs.Read.{arrayOf, pointGone, pointIn, pointsFrom, read, stepAt, sourceAt, positionAt, above, MovedAt, Exchanged, FallsBeside, CanCompute}
 use Rattle.rules.specs.Ready.{IsRound, Ready}
 use Rattle.rules.specs.Step.{State, Round, After, goes, endsAtPlace, endsAtFacet, markPosition, step, begun}
-use Rattle.rules.proofs.Describes.{Describes, MarksBut, Came, begins, through, fromLarger, Reached}
+use Rattle.rules.proofs.Describes.{Describes, markAt, MarksBut, Came, begins, through, fromLarger, Reached}
 use Rattle.rules.proofs.Masks.{bit-none}
 use Rattle.rules.proofs.Move.{Outcome, atPlaceEnd, atFacetEnd, goesOn, Onward, onward}
 use Rattle.rules.proofs.Marks.{mark-position}
@@ -295,9 +295,28 @@ module _ {p : Problem} (ok : FullyLabelled p) {s : State} {k : ℕ} (A : At p s 
       go _ (through n l e w q r b carry X C) = let d = C one more low in (b, d .0, d .1, d .2)
       go _ (fromLarger l w r q b e X) = absurd (omega arith)
 
+  own-position : (i : ℕ) → i ≤ A .t → at s.marks i ≡ markAt p (listAt A.x i) → positionAt s i ≡ position p.grid (pointIn p s i)
+  own-position i l e =
+      ap markPosition e ∙ mark-position ok D.chain i l ∙ ap (position p.grid) (sym (point-is ok D i l ∙ nth-pointsOf p A.x i (omega (arith, D .chain .size))))
+
   marked-position : MarksBut p A.t A.x s s.active → (i : ℕ) → i ≤ A .t → (i ≡ s .active → ⊥) → positionAt s i ≡ position p.grid (pointIn p s i)
-  marked-position b i l n =
-      ap markPosition (b i l n) ∙ mark-position ok D.chain i l ∙ ap (position p.grid) (sym (point-is ok D i l ∙ nth-pointsOf p A.x i (omega (arith, D .chain .size))))
+  marked-position b i l n = own-position i l (b i l n)
+
+  -- there is a mark for each point,
+  pub at-long : length s.marks ≡ suc (length s.order)
+  at-long = D .marksLength ∙ ap suc (sym D.orderLength)
+
+  -- and each point but the one that has come in has its position in its mark
+  pub at-marks : (i : ℕ) → i ≤ length s.order → (s .rule < 6 → i ≡ s .active → ⊥) → positionAt s i ≡ position p.grid (pointIn p s i)
+  at-marks i c ne = go A.left A.came
+    where
+      low : i ≤ A .t
+      low = omega (arith, D .orderLength)
+
+      go : (left : Option (List (ℕ → ℕ))) → Came p A.T A.t A.x s left → positionAt s i ≡ position p.grid (pointIn p s i)
+      go _ (begins e u r) = absurd (ne r (omega arith))
+      go _ (through n l e w q r b carry X C) = marked-position b i low (ne r)
+      go _ (fromLarger l w r q b e X) = own-position i low (b i low)
 
   pub at-exchanged : s .rule ≡ 1 → 0 < s .active → s .active < length s.order → Exchanged p.grid s
   at-exchanged one more few =
