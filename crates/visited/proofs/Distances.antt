@@ -1,0 +1,170 @@
+-- The distance of two grid points: a whole number, at most 2 N D, and 0 only from a point to itself. Assumes nothing.
+use mathlib.Core.Bool.{true, false, not, _&&_}
+use mathlib.Core.List.{List, [], _∷_, _++_, map}
+use mathlib.Core.Logic.{_↔_, ⊎-elim}
+use mathlib.Core.Path.{_≡_, refl, sym, ap, _∙_, subst}
+use Prim.Native.Nat.{ℕ, zero, suc, _+_, _-_, _*_, _≤_, _<_}
+use borrow.Author.Tests.{eqb-true, leb-true}
+use lib.Dec.{eqb, leb}
+use lib.ListN.{length, getD, take}
+use lib.Seq.{ext-getD, take-all}
+use native.Mathlib.Nat.{add-mul, suc-mul, mul-comm, mul-assoc, mul-le-mul, mul-le-mul-left, mul-le-mul-right}
+use native.Mathlib.Numerals.{add-one}
+use native.Mathlib.Omega.{arith}
+use Rattle.combinatorics.proofs.Basics.{and-left, before-or-not, same-or, true-or-false}
+use Rattle.combinatorics.proofs.Agreement.{map-range}
+use Rattle.combinatorics.proofs.Lists.{at-all, filter-append}
+use Rattle.combinatorics.proofs.Ranges.{upFrom-add}
+use Rattle.combinatorics.proofs.Turns.{map-append, sum-append, sum-next, upFrom-next}
+use Rattle.combinatorics.specs.Lists.{all, filter, sum, upFrom}
+use Rattle.grid.proofs.Accepted.{Accepted}
+use Rattle.grid.proofs.Round.{block-at, block-spans}
+use Rattle.grid.specs.Grid.{Grid, Point, at, blockOf, blocks, division, firstIndex, indices, indicesOf, isGridPoint, numBlocks, numIndices, size}
+use Rattle.losses.proofs.Players.{divisions-few, product-append, product-own}
+use Rattle.losses.specs.Game.{product}
+use Rattle.positions.proofs.Positions.{adds-up}
+use Rattle.visited.specs.Demand.{Distances}
+use Rattle.visited.specs.Distance.{allDivisions, apart, distance, otherDivisions}
+
+-- one coordinate
+module _ (g : Grid) (w y : Point) where
+  abbrev pub term : ℕ → ℕ
+  term h = apart (at y h) (at w h) * otherDivisions g (blockOf g h)
+
+  -- the first indices, and one more
+  pub distance-turn : (i : ℕ) → sum (map term (upFrom 0 (i + 1))) ≡ sum (map term (upFrom 0 i)) + term i
+  distance-turn i = let z : 0 + i ≡ i = omega arith in rw (upFrom-next 0 i, map-append, sum-append, z) (omega arith)
+
+  pub distance-is : distance g w y ≡ sum (map term (upFrom 0 (numIndices g)))
+  unfolding distance
+  distance-is = refl
+
+apart-most : (a b : ℕ) → apart a b ≤ a + b
+apart-most a b = omega arith
+
+module _ (g : Grid) (a : Accepted g) where
+  -- the divisions of the blocks below n but j
+  abbrev pub partOthers : ℕ → ℕ → ℕ
+  partOthers j n = product (map (division g) (filter (λ i. not (eqb i j)) (upFrom 0 n)))
+
+  one : (i : ℕ) → i < numBlocks g → 1 ≤ division g i
+  one i l = leb-true 1 (division g i) (at-all (λ d. leb 1 d) (g .divisions) i (a .divisionsOne) (omega (arith, a .sameNumber)))
+
+  pub others-next : (j n : ℕ) → partOthers j (n + 1) ≡ partOthers j n * product (map (division g) (filter (λ i. not (eqb i j)) (n ∷ [])))
+  others-next j n =
+      let z : 0 + n ≡ n = omega arith in
+      rw (upFrom-next 0 n, filter-append, map-append, z)
+      (product-append (map (division g) (filter (λ i. not (eqb i j)) (upFrom 0 n))) (map (division g) (filter (λ i. not (eqb i j)) (n ∷ []))))
+
+  some : (j b n : ℕ) → b + n ≤ numBlocks g → 1 ≤ product (map (division g) (filter (λ i. not (eqb i j)) (upFrom b n)))
+  some j b zero l = omega arith
+  some j b (suc n) l =
+      ⊎-elim (λ t. rw t (let m : 1 * 1 ≤ division g b * product (map (division g) (filter (λ i. not (eqb i j)) (upFrom (suc b) n))) =
+      mul-le-mul (one b (omega arith)) (some j (suc b) n (omega arith)) in omega arith))
+      (λ f. rw f (some j (suc b) n (omega arith))) (true-or-false (not (eqb b j)))
+
+  others-split : (j n k : ℕ) → n + k ≡ numBlocks g
+      → otherDivisions g j ≡ partOthers j n * product (map (division g) (filter (λ i. not (eqb i j)) (upFrom n k)))
+  unfolding otherDivisions
+  others-split j n k e =
+      let z : 0 + n ≡ n = omega arith in
+      rw (← e, upFrom-add 0 n k, filter-append, map-append, z)
+      (product-append (map (division g) (filter (λ i. not (eqb i j)) (upFrom 0 n))) (map (division g) (filter (λ i. not (eqb i j)) (upFrom n k))))
+
+  pub part-most : (j n : ℕ) → n ≤ numBlocks g → partOthers j n ≤ otherDivisions g j
+  part-most j n l =
+      let k : ℕ = numBlocks g - n in
+      let rest : ℕ = product (map (division g) (filter (λ i. not (eqb i j)) (upFrom n k))) in
+      let m : partOthers j n * 1 ≤ partOthers j n * rest = mul-le-mul-left (partOthers j n) (some j n k (omega arith)) in
+      omega (arith, others-split j n k (omega arith))
+
+  -- "D / d_j"
+  pub whole-at : (j : ℕ) → j < numBlocks g → otherDivisions g j * division g j ≡ allDivisions g
+  unfolding otherDivisions
+  whole-at j l =
+      mul-comm (product (map (division g) (filter (λ i. not (eqb i j)) (blocks g)))) (division g j)
+      ∙ sym (rw (a .sameNumber) at (product-own (g .divisions) j (omega (arith, a .sameNumber))))
+
+  pub others-positive : (j : ℕ) → 1 ≤ otherDivisions g j
+  unfolding otherDivisions
+  others-positive j = some j 0 (numBlocks g) (omega arith)
+
+  pub others-few : (j : ℕ) → j < numBlocks g → otherDivisions g j ≤ 60000
+  others-few j l =
+      let m : otherDivisions g j * 1 ≤ otherDivisions g j * division g j = mul-le-mul-left (otherDivisions g j) (one j l) in
+      omega (arith, whole-at j l, divisions-few g a)
+
+  whole : (h : ℕ) → h < numIndices g → otherDivisions g (blockOf g h) * division g (blockOf g h) ≡ allDivisions g
+  whole h l = whole-at (blockOf g h) (block-spans (g .sizes) h l .0)
+
+  module _ (w y : Point) (onW : isGridPoint g w ≡ true) (onY : isGridPoint g y ≡ true) where
+    -- the indices of a block
+    weighed : (c b n : ℕ) → sum (map (λ h. apart (at y h) (at w h) * c) (upFrom b n)) ≤ (sum (map (at y) (upFrom b n)) + sum (map (at w) (upFrom b n))) * c
+    weighed c b zero = omega arith
+    weighed c b (suc n) =
+        let ys : ℕ = sum (map (at y) (upFrom (suc b) n)) in
+        let ws : ℕ = sum (map (at w) (upFrom (suc b) n)) in
+        let m : apart (at y b) (at w b) * c ≤ (at y b + at w b) * c = mul-le-mul-right c (apart-most (at y b) (at w b)) in
+        let d : (at y b + ys + (at w b + ws)) * c ≡ (at y b + at w b) * c + (ys + ws) * c =
+        ap (λ (n : ℕ). n * c) (let z : at y b + ys + (at w b + ws) ≡ at y b + at w b + (ys + ws) = omega arith in z) ∙ add-mul (at y b + at w b) (ys + ws) c in
+        omega (arith, weighed c (suc b) n)
+
+    block-most : (j : ℕ) → j < numBlocks g → sum (map (term g w y) (indicesOf g j)) ≤ 2 * allDivisions g
+    block-most j l =
+        let c : ℕ = otherDivisions g j in
+        let d : ℕ = division g j in
+        let e : map (term g w y) (indicesOf g j) ≡ map (λ h. apart (at y h) (at w h) * c) (indicesOf g j) =
+        map-range (term g w y) (λ h. apart (at y h) (at w h) * c) (firstIndex g j) (size g j)
+        (λ k m. ap (λ (i : ℕ). apart (at y (firstIndex g j + k)) (at w (firstIndex g j + k)) * otherDivisions g i) (block-at (g .sizes) j k m)) in
+        let f : (d + d) * c ≡ d * c + d * c = add-mul d d c in
+        rw e (omega (arith, rw (adds-up g y a onY j l, adds-up g w a onW j l) at (weighed c (firstIndex g j) (size g j)), mul-comm d c, whole-at j l))
+
+    blocks-most : (j : ℕ) → j ≤ numBlocks g → sum (map (term g w y) (upFrom 0 (firstIndex g j))) ≤ j * (2 * allDivisions g)
+    blocks-most zero l = omega arith
+    blocks-most (suc j) l =
+        let z : 0 + firstIndex g j ≡ firstIndex g j = omega arith in
+        let e : firstIndex g (suc j) ≡ firstIndex g j + size g j = rw (← add-one j) (sum-next (g .sizes) j l) in
+        let m : suc j * (2 * allDivisions g) ≡ j * (2 * allDivisions g) + 2 * allDivisions g = suc-mul j (2 * allDivisions g) in
+        rw (e, upFrom-add 0 (firstIndex g j) (size g j), map-append, sum-append, z) (omega (arith, blocks-most j (omega arith), block-most j l))
+
+    most : distance g w y ≤ 2 * numBlocks g * allDivisions g
+    most =
+        let e : firstIndex g (numBlocks g) ≡ numIndices g = ap sum (take-all (numBlocks g) (g .sizes) (omega arith)) in
+        let m : numBlocks g * (2 * allDivisions g) ≡ 2 * numBlocks g * allDivisions g =
+        sym (mul-assoc (numBlocks g) 2 (allDivisions g)) ∙ ap (λ (n : ℕ). n * allDivisions g) (mul-comm (numBlocks g) 2) in
+        omega (arith, distance-is g w y, rw e at (blocks-most (numBlocks g) (omega arith)))
+
+    -- at distance 0 all coordinates agree
+    term-zero : (b n : ℕ) → sum (map (term g w y) (upFrom b n)) ≡ 0 → (k : ℕ) → k < n → term g w y (b + k) ≡ 0
+    term-zero b zero e k l = absurd (omega arith)
+    term-zero b (suc n) e zero l = let z : b + 0 ≡ b = omega arith in rw z (omega arith)
+    term-zero b (suc n) e (suc k) l = let z : b + suc k ≡ suc b + k = omega arith in rw z (term-zero (suc b) n (omega arith) k (omega arith))
+
+    same-at : distance g w y ≡ 0 → (h : ℕ) → h < numIndices g → at y h ≡ at w h
+    same-at e h l =
+        let c : ℕ = otherDivisions g (blockOf g h) in
+        let z : 0 + h ≡ h = omega arith in
+        let t : apart (at y h) (at w h) * c ≡ 0 = rw z at (term-zero 0 (numIndices g) (sym (distance-is g w y) ∙ e) h l) in
+        let m : apart (at y h) (at w h) * 1 ≤ apart (at y h) (at w h) * c = mul-le-mul-left (apart (at y h) (at w h)) (others-positive (blockOf g h)) in
+        omega arith
+
+    long : (z : Point) → isGridPoint g z ≡ true → length z ≡ numIndices g
+    unfolding isGridPoint
+    long z h = eqb-true (length z) (numIndices g) (and-left (eqb (length z) (numIndices g)) _ h)
+
+    same-point : distance g w y ≡ 0 → y ≡ w
+    same-point e = ext-getD 0 y w (long y onY ∙ sym (long w onW)) (λ i l. same-at e i (omega (arith, long y onY)))
+
+  no-terms : (w : Point) (b n : ℕ) → sum (map (term g w w) (upFrom b n)) ≡ 0
+  no-terms w b zero = refl
+  no-terms w b (suc n) =
+      let z : apart (at w b) (at w b) ≡ 0 = omega arith in
+      let t : apart (at w b) (at w b) * otherDivisions g (blockOf g b) ≡ 0 * otherDivisions g (blockOf g b) = ap (λ (x : ℕ). x * otherDivisions g (blockOf g b)) z in
+      omega (arith, no-terms w (suc b) n)
+
+  pub distances : Distances g
+  distances = record {
+    whole = whole;
+    most = most;
+    none = λ w y i j. (same-point w y i j, (λ e. rw e (distance-is g w w ∙ no-terms w 0 (numIndices g))));
+  }

@@ -1,0 +1,4 @@
+pub mod Firsts
+pub mod Visits
+pub mod Distances
+pub mod Nearest

@@ -1,0 +1,5 @@
+pub mod Visited
+pub mod Distance
+pub mod Nearest
+pub mod Questions
+pub mod Demand
