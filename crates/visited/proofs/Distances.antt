@@ -4,11 +4,11 @@ use mathlib.Core.List.{List, [], _∷_, _++_, map}
 use mathlib.Core.Logic.{_↔_, ⊎-elim}
 use mathlib.Core.Path.{_≡_, refl, sym, ap, _∙_, subst}
 use Prim.Native.Nat.{ℕ, zero, suc, _+_, _-_, _*_, _≤_, _<_}
-use borrow.Author.Tests.{eqb-true, leb-true}
+use borrow.Author.Tests.{eq-eqb, eqb-true, leb-true, ne-eqb}
 use lib.Dec.{eqb, leb}
 use lib.ListN.{length, getD, take}
-use lib.Seq.{ext-getD, take-all}
-use native.Mathlib.Nat.{add-mul, suc-mul, mul-comm, mul-assoc, mul-le-mul, mul-le-mul-left, mul-le-mul-right}
+use lib.Seq.{ext-getD, getD-take, take-all}
+use native.Mathlib.Nat.{add-mul, suc-mul, mul-comm, mul-assoc, mul-one, mul-le-mul, mul-le-mul-left, mul-le-mul-right}
 use native.Mathlib.Numerals.{add-one}
 use native.Mathlib.Omega.{arith}
 use Rattle.combinatorics.proofs.Basics.{and-left, before-or-not, same-or, true-or-false}
@@ -39,22 +39,36 @@ module _ (g : Grid) (w y : Point) where
   unfolding distance
   distance-is = refl
 
+  -- of a point at the front of a longer list
+  pub distance-front : (m : ℕ) → m ≡ numIndices g → sum (map term (upFrom 0 m)) ≡ distance g w (take m y)
+  unfolding distance
+  distance-front m e =
+      rw (← e) (ap sum (map-range term (λ h. apart (at (take m y) h) (at w h) * otherDivisions g (blockOf g h)) 0 m
+      (λ k l. let z : 0 + k ≡ k = omega arith in rw (z, getD-take m y k 0 l))))
+
 apart-most : (a b : ℕ) → apart a b ≤ a + b
 apart-most a b = omega arith
 
-module _ (g : Grid) (a : Accepted g) where
-  -- the divisions of the blocks below n but j
-  abbrev pub partOthers : ℕ → ℕ → ℕ
-  partOthers j n = product (map (division g) (filter (λ i. not (eqb i j)) (upFrom 0 n)))
+-- the numbers below n of a list but number j, multiplied
+abbrev pub partOthers : List ℕ → ℕ → ℕ → ℕ
+partOthers ds j n = product (map (at ds) (filter (λ i. not (eqb i j)) (upFrom 0 n)))
 
-  one : (i : ℕ) → i < numBlocks g → 1 ≤ division g i
-  one i l = leb-true 1 (division g i) (at-all (λ d. leb 1 d) (g .divisions) i (a .divisionsOne) (omega (arith, a .sameNumber)))
-
-  pub others-next : (j n : ℕ) → partOthers j (n + 1) ≡ partOthers j n * product (map (division g) (filter (λ i. not (eqb i j)) (n ∷ [])))
-  others-next j n =
+module _ (ds : List ℕ) (j n : ℕ) where
+  part-next : partOthers ds j (n + 1) ≡ partOthers ds j n * product (map (at ds) (filter (λ i. not (eqb i j)) (n ∷ [])))
+  part-next =
       let z : 0 + n ≡ n = omega arith in
       rw (upFrom-next 0 n, filter-append, map-append, z)
-      (product-append (map (division g) (filter (λ i. not (eqb i j)) (upFrom 0 n))) (map (division g) (filter (λ i. not (eqb i j)) (n ∷ []))))
+      (product-append (map (at ds) (filter (λ i. not (eqb i j)) (upFrom 0 n))) (map (at ds) (filter (λ i. not (eqb i j)) (n ∷ []))))
+
+  pub part-other : (n ≡ j → ⊥) → partOthers ds j (n + 1) ≡ partOthers ds j n * at ds n
+  part-other d = part-next ∙ rw (ne-eqb n j d) (ap (λ (x : ℕ). partOthers ds j n * x) (mul-one (at ds n)))
+
+  pub part-own : n ≡ j → partOthers ds j (n + 1) ≡ partOthers ds j n
+  part-own e = part-next ∙ rw (eq-eqb n j e) (mul-one (partOthers ds j n))
+
+module _ (g : Grid) (a : Accepted g) where
+  one : (i : ℕ) → i < numBlocks g → 1 ≤ division g i
+  one i l = leb-true 1 (division g i) (at-all (λ d. leb 1 d) (g .divisions) i (a .divisionsOne) (omega (arith, a .sameNumber)))
 
   some : (j b n : ℕ) → b + n ≤ numBlocks g → 1 ≤ product (map (division g) (filter (λ i. not (eqb i j)) (upFrom b n)))
   some j b zero l = omega arith
@@ -64,19 +78,23 @@ module _ (g : Grid) (a : Accepted g) where
       (λ f. rw f (some j (suc b) n (omega arith))) (true-or-false (not (eqb b j)))
 
   others-split : (j n k : ℕ) → n + k ≡ numBlocks g
-      → otherDivisions g j ≡ partOthers j n * product (map (division g) (filter (λ i. not (eqb i j)) (upFrom n k)))
+      → otherDivisions g j ≡ partOthers (g .divisions) j n * product (map (division g) (filter (λ i. not (eqb i j)) (upFrom n k)))
   unfolding otherDivisions
   others-split j n k e =
       let z : 0 + n ≡ n = omega arith in
       rw (← e, upFrom-add 0 n k, filter-append, map-append, z)
       (product-append (map (division g) (filter (λ i. not (eqb i j)) (upFrom 0 n))) (map (division g) (filter (λ i. not (eqb i j)) (upFrom n k))))
 
-  pub part-most : (j n : ℕ) → n ≤ numBlocks g → partOthers j n ≤ otherDivisions g j
+  pub part-most : (j n : ℕ) → n ≤ numBlocks g → partOthers (g .divisions) j n ≤ otherDivisions g j
   part-most j n l =
       let k : ℕ = numBlocks g - n in
       let rest : ℕ = product (map (division g) (filter (λ i. not (eqb i j)) (upFrom n k))) in
-      let m : partOthers j n * 1 ≤ partOthers j n * rest = mul-le-mul-left (partOthers j n) (some j n k (omega arith)) in
+      let m : partOthers (g .divisions) j n * 1 ≤ partOthers (g .divisions) j n * rest = mul-le-mul-left (partOthers (g .divisions) j n) (some j n k (omega arith)) in
       omega (arith, others-split j n k (omega arith))
+
+  pub part-whole : (j : ℕ) → partOthers (g .divisions) j (numBlocks g) ≡ otherDivisions g j
+  unfolding otherDivisions
+  part-whole j = refl
 
   -- "D / d_j"
   pub whole-at : (j : ℕ) → j < numBlocks g → otherDivisions g j * division g j ≡ allDivisions g

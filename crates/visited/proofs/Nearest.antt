@@ -132,7 +132,7 @@ module _ {p : Problem} (ok : Accepted p) where
     fewPoints = s .points;
   }
 
-  some-visited : 0 < length (visitedVertices p)
+  pub some-visited : 0 < length (visitedVertices p)
   some-visited =
       let D = demand3-holds ok .follows in
       let here : isIn samePoint (p .start) (placeAt (pathOf p .visited) 0) ≡ true = rw (D .begins) (in-here onPoints (p .start) []) in
