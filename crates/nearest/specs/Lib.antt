@@ -1,2 +1,3 @@
 pub mod Measure
 pub mod Survey
+pub mod Report

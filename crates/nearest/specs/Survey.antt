@@ -21,7 +21,7 @@ use Rattle.rules.specs.Read.{markOf, pointOn}
 use Rattle.rules.specs.Ready.{IsRound, RoundBelow}
 use Rattle.rules.specs.Step.{Round, State}
 use Rattle.moves.specs.Held.{LentBoth}
-use Rattle.marks.specs.Reading.{Readable}
+use Rattle.marks.specs.Reading.{Readable, problemFrom}
 use Rattle.finder.specs.Finish.{problemIn}
 use Rattle.visited.specs.Distance.{distance}
 use Rattle.visited.specs.Nearest.{firstLeast, nearest, positionsWithin}
@@ -100,6 +100,16 @@ pub record CanPass (g : GridStruct) (round : Round) (binomials first table weigh
   pub end : End
   pub ended : pathOf (problemIn g first table) .end ≡ some end
   pub all : places ≡ pathLength (problemIn g first table)
+
+-- the same of the slices that the call was lent
+pub record CanSurvey (g : GridStruct) (binomials start labels w list : List ℕ) (places : ℕ) : Type 0 where
+  pub readable : Readable g binomials labels
+  pub accepted : Accepted (problemFrom g start labels)
+  pub onGrid : isGridPoint (shape g) w ≡ true
+  pub room : numPoints (shape g) ≤ length list
+  pub end : End
+  pub ended : pathOf (problemFrom g start labels) .end ≡ some end
+  pub all : places ≡ pathLength (problemFrom g start labels)
 
 -- and what it gives
 pub record Surveyed (p : Problem) (w : Point) (given : ℕ) (list : LentBoth) (r : Tally) : Type 0 where

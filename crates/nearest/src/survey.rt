@@ -11,12 +11,13 @@ ghost use Rattle.moves.specs.Held.{held, round, roundBack, stateOf};
 ghost use Rattle.rules.specs.Read.{CanCompute};
 ghost use Rattle.rules.specs.Ready.{IndicesBelow, SixteenEach};
 ghost use Rattle.rules.specs.Step.{Round, State};
-ghost use Rattle.marks.specs.Reading.{CanRead, HasMarks, Readable, tableOf};
+ghost use Rattle.marks.specs.Reading.{CanRead, HasMarks, Readable, problemFrom, tableOf};
 ghost use Rattle.finder.specs.Finish.{IsKnown, problemIn};
 ghost use Rattle.visited.specs.Distance.{distance};
 ghost use Rattle.nearest.specs.Measure.{CanMeasure};
 ghost use Rattle.nearest.specs.Survey.{
   CanPass,
+  CanSurvey,
   HasMet,
   HasRoom,
   Surveyed,
@@ -28,6 +29,7 @@ ghost use Rattle.nearest.specs.Survey.{
   pointCome,
 };
 use crate::distances::distance_of;
+use crate::distances::weights;
 use finder::begin;
 use grid::Grid;
 use marks::Reading;
@@ -35,6 +37,8 @@ use marks::mark_in;
 use moves::Outcome;
 use moves::Status;
 use moves::advance;
+use moves::block_sizes;
+use moves::padded;
 use moves::position_at;
 use moves::step;
 use positions::ENTRIES;
@@ -247,7 +251,19 @@ pub fn pass(
             s,
         );
         t = meet(
-            previous, sizes, first, &order, s, weights, w, m, came, given, &mut seen, list, t,
+            previous,
+            sizes,
+            first,
+            &order,
+            s,
+            weights,
+            w,
+            m,
+            came,
+            given,
+            &mut seen,
+            list,
+            t,
         );
         match step(
             previous,
@@ -272,4 +288,40 @@ pub fn pass(
         left -= 1;
     }
     t
+}
+
+// The second pass behind a run that has reached its end after so many places.
+pub fn survey(
+    g: Grid,
+    binomials: &[u16; ENTRIES],
+    start: &[u16],
+    labels: &[u8],
+    w: &[u16],
+    given: u64,
+    list: &mut [u16],
+    places: u64,
+) -> Tally
+    requires { ⌜ CanSurvey g (now binomials) (now start) (now labels) (now w) (now list) places ⌝ }
+    ensures { λ r. ⌜ Surveyed (problemFrom g (now (start .entry)) (now (labels .entry))) (now (w .entry)) given list r ⌝ }
+{
+    let m = g.indices;
+    let previous = g.previous;
+    let next = g.next;
+    let sizes = block_sizes(g);
+    let weights = weights(g);
+    let mut first = padded(start, m);
+    pass(
+        g,
+        binomials,
+        labels,
+        &previous,
+        &next,
+        &sizes,
+        &mut first,
+        &weights,
+        w,
+        given,
+        list,
+        places,
+    )
 }

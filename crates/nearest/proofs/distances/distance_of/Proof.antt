@@ -44,7 +44,7 @@ element-copy-out-total : tie.Need-element-copy-out-total Inv-loop μ-loop
 element-copy-out-total c = omega (arith, c .before .before .before .before .before .before .pre .1 .sixteen)
 
 mul-total-2 : tie.Need-mul-total-2 Inv-loop μ-loop
-mul-total-2 c = 
+mul-total-2 c =
     let s = c .before .before .before .before .before .before .before in
     let h = c .before .before .before .before .before .loop .h in
     let C = s .pre .1 in
@@ -52,7 +52,7 @@ mul-total-2 c =
     omega arith
 
 add-total : tie.Need-add-total Inv-loop μ-loop
-add-total c = 
+add-total c =
     let s = c .before .before .before .before .before .before .before in
     let l = c .before .before .before .before .before .loop in
     let C = s .pre .1 in
@@ -66,7 +66,7 @@ loop-less : tie.Need-loop-less Inv-loop μ-loop
 loop-less c = search needs
 
 loop-again : tie.Need-loop-again Inv-loop μ-loop
-loop-again c = 
+loop-again c =
     let s = c .before .before .before .before .before .before .before in
     let a = s .args in
     let l = c .before .before .before .before .before .loop in

@@ -48,7 +48,7 @@ wide16-requires : tie.Need-wide16-requires Inv-loop μ-loop
 wide16-requires c κs = search needs
 
 mul-product : tie.Need-mul-product Inv-loop μ-loop
-mul-product c = 
+mul-product c =
     let s = c .before .before .before .before .before in
     let l = c .before .before .before .loop in
     rw (l .inv .0, c .wide16 .ensures .0) (omega (arith, few (s .args .g) (s .pre .0) (s .args .j) (s .pre .1) (l .i) (c .before .before .loop-test .taken) (c .before .if1 .taken)))
@@ -60,17 +60,20 @@ loop-less : tie.Need-loop-less Inv-loop μ-loop
 loop-less c = search needs
 
 loop-again : tie.Need-loop-again Inv-loop μ-loop
-loop-again c = 
+loop-again c =
     let s = c .before .before .before .before in
     let l = c .before .before .loop in
-    let ds = take (s .args .g .blocks) (s .args .g .divisions) in
-    (⊎-elim
-    (λ w. rw (w .2, l .inv .0, w .1 .ensures .0) (sym (other (s .args .g) (s .args .j) (l .i) (c .before .loop-test .taken) (w .0 .taken))))
-    (λ w. rw (w .1, l .inv .0) (sym (part-own ds (s .args .j) (l .i) (w .0 .left))))
-    (c .if1 .came), omega (arith, c .before .loop-test .taken), l .inv .2)
+    let ds = take (s .args .g .blocks) (s .args .g .divisions) in (
+      ⊎-elim
+          (λ w. rw (w .2, l .inv .0, w .1 .ensures .0) (sym (other (s .args .g) (s .args .j) (l .i) (c .before .loop-test .taken) (w .0 .taken))))
+          (λ w. rw (w .1, l .inv .0) (sym (part-own ds (s .args .j) (l .i) (w .0 .left))))
+          (c .if1 .came),
+      omega (arith, c .before .loop-test .taken),
+      l .inv .2,
+    )
 
 returns : tie.Need-returns Inv-loop μ-loop
-returns c = 
+returns c =
     let s = c .before .before .before in
     let l = c .before .loop in
     let g = s .args .g in

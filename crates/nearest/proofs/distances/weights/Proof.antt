@@ -26,7 +26,7 @@ block-of-requires : tie.Need-block-of-requires Inv-loop μ-loop
 block-of-requires c κs = (c .before .before .pre, c .loop-test .taken)
 
 others-requires : tie.Need-others-requires Inv-loop μ-loop
-others-requires c κs = 
+others-requires c κs =
     let s = c .before .before .before in
     let g = s .args .g in
     (s .pre, rw (c .block-of .ensures) (omega (arith, made-blocks g (s .pre), block-spans (shape g .sizes) (c .before .before .loop .h) (omega (arith, made-indices g (s .pre), c .before .loop-test .taken)) .0)))
@@ -44,18 +44,21 @@ loop-less : tie.Need-loop-less Inv-loop μ-loop
 loop-less c = search needs
 
 loop-again : tie.Need-loop-again Inv-loop μ-loop
-loop-again c = 
+loop-again c =
     let s = c .before .before .before .before in
     let g = s .args .g in
     let l = c .before .before .before .loop in
     let t = c .before .before .loop-test .taken in
     let few = indices-few g (s .pre) in
-    let r = c .others in
-    ((λ k d. at-set (λ (x : ℕ). (x ≡ otherDivisions (shape g) (blockOf (shape g) k)) × (x ≤ 60000)) (l .a) (l .h) (r .result) k (omega (arith, l .inv .2))
-    (λ e. rw e (r .ensures .0 ∙ ap (otherDivisions (shape g)) (c .before .block-of .ensures), r .ensures .1)) (λ n. l .inv .0 k (omega (arith, n)))), omega arith, length-set (l .a) (l .h) (r .result) ∙ l .inv .2)
+    let r = c .others in (
+      (λ k d. at-set (λ (x : ℕ). (x ≡ otherDivisions (shape g) (blockOf (shape g) k)) × (x ≤ 60000)) (l .a) (l .h) (r .result) k (omega (arith, l .inv .2))
+          (λ e. rw e (r .ensures .0 ∙ ap (otherDivisions (shape g)) (c .before .block-of .ensures), r .ensures .1)) (λ n. l .inv .0 k (omega (arith, n)))),
+      omega arith,
+      length-set (l .a) (l .h) (r .result) ∙ l .inv .2,
+    )
 
 returns : tie.Need-returns Inv-loop μ-loop
-returns c = 
+returns c =
     let s = c .before .before in
     let l = c .before .loop in
     let m = made-indices (s .args .g) (s .pre) in

@@ -16,7 +16,7 @@ enum-told : tie.Need-enum-told
 enum-told c = search needs
 
 returns : tie.Need-returns
-returns c g C =  rw (c .enum-told .given .1) record { tally = refl; marks = refl; written = refl }
+returns c g C = rw (c .enum-told .given .1) record { tally = refl; marks = refl; written = refl }
 
 element-copy-out-if1 : tie.Need-element-copy-out-if1
 element-copy-out-if1 c =

@@ -26,7 +26,7 @@ use Rattle.nearest.proofs.survey.pass.Statement.{statement}
 use Rattle.nearest.proofs.survey.pass.Tie as tie
 
 abbrev Inv-loop : tie.InvT-loop
-Inv-loop g binomials table previous next sizes first₀ weights w given list₀ places m coefficients₀ order₀ marks₀ seen₀ s₀ tails t₀ left₀ first list coefficients order marks seen s t left = 
+Inv-loop g binomials table previous next sizes first₀ weights w given list₀ places m coefficients₀ order₀ marks₀ seen₀ s₀ tails t₀ left₀ first list coefficients order marks seen s t left =
     OnPath (problemIn g first₀ table) (stateOf (roundOf previous next sizes) first coefficients order marks s) (places - left) × (left ≤ places) × SixteenEach order marks
     × Kept (shape g) w given list₀ (verticesOf (take (places - left) (pathOf (problemIn g first₀ table) .visited))) seen list t × (length list ≡ length list₀)
 
@@ -62,8 +62,7 @@ came-in-requires c κs =
     let place = stateOf round (l .first) (l .coefficients) (l .order) (l .marks) (l .s) in
     let k = a .places - l .left in
     let can = visits (a .g) (x .readable .made) (a .first .now) (a .table .now) (x .accepted) place k (l .inv .0) (x .below) (c .before .before .before .before .before .before .before .tails .result) (c .before .before .before .before .before .before .before .tails .ensures) in
-    let known = knows (a .g) (a .first .now) (a .table .now) (x .accepted) place k (l .inv .0) (ended-path (x .accepted) (x .ended) .1) in
-    (
+    let known = knows (a .g) (a .first .now) (a .table .now) (x .accepted) place k (l .inv .0) (ended-path (x .accepted) (x .ended) .1) in (
       (x .readable, l .inv .2),
       (
         (
@@ -82,8 +81,7 @@ meet-requires c κs =
     let l = c .before .before .before .before .before .before .before .before .before .before .before .loop in
     let round = roundOf (a .previous .now) (a .next .now) (a .sizes .now) in
     let place = stateOf round (l .first) (l .coefficients) (l .order) (l .marks) (l .s) in
-    let k = a .places - l .left in
-    (
+    let k = a .places - l .left in (
       (x .below .backward, computed (a .g) (a .first .now) (a .table .now) (x .accepted) place k (l .inv .0)),
       (
         shape (a .g),

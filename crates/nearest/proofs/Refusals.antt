@@ -1,0 +1,133 @@
+-- Which question is the first that is answered no, and what the answer and the two buffers then are; and what an end in the answer tells of the
+-- path. Assumes nothing.
+use mathlib.Core.Bool.{Bool, true, false, cond}
+use mathlib.Core.List.{List, [], _∷_, _++_}
+use mathlib.Core.Logic.{⊎-elim}
+use mathlib.Core.Option.{Option, none, some}
+use mathlib.Core.Path.{_≡_, refl, sym, ap, _∙_}
+use Prim.Native.Nat.{ℕ, _≤_, _<_}
+use denote.Enum.Declared.{tagOf}
+use types.Run.{OneOf}
+use borrow.Author.Tests.{eq-eqb, le-leb, le-ltb, leb-true, lt-leb, lt-ltb, ne-eqb}
+use lib.Dec.{eqb, leb}
+use lib.ListN.{length}
+use native.Mathlib.Omega.{arith}
+use Rattle.combinatorics.proofs.Basics.{before-or-not, true-or-false}
+use Rattle.combinatorics.proofs.Fronts.{front-none}
+use Rattle.combinatorics.specs.Front.{front}
+use Rattle.questions.proofs.Answers.{asked-next, asked-no, both-yes, first-yes}
+use Rattle.questions.specs.Questions.{firstNo}
+use Rattle.grid.specs.Grid.{Point, isGridPoint, numPoints}
+use Rattle.grid.specs.Questions.{gridQuestions, question5}
+use Rattle.place.specs.Ends.{End as EndOfPath, Kind as KindOfEnd}
+use Rattle.place.specs.Path.{Answer as PathAnswer, answer, ended, outcome, path as pathOf, pathLength, spent, unknown}
+use Rattle.place.specs.Places.{Simplex}
+use Rattle.place.specs.Problem.{Problem}
+use Rattle.place.specs.Questions.{question6, question7, question8}
+use Rattle.finder.proofs.answers.Answer.{the-type}
+use Rattle.finder.specs.Finish.{laterQuestions}
+use Rattle.finder.specs.Run.{caseOf, numbersOf}
+use Rattle.finder.specs.declared.answers.Answer.{Answer}
+use Rattle.finder.specs.declared.answers.Answer.the-variants.{End, Refused, Spent, Unknown}
+use Rattle.finder.specs.declared.answers.Kind.{Kind}
+use Rattle.visited.specs.Questions.{pointQuestions, question8List}
+use Rattle.nearest.specs.Report.{answerBuffer, listBuffer, listedIn, nearRefusal, nearestIn, reportOf}
+use Rattle.nearest.specs.declared.reports.Nearest.{Nearest}
+use Rattle.nearest.specs.declared.reports.Nearest.the-variants.{Nothing}
+use Rattle.nearest.specs.declared.reports.Report.{Report}
+
+module _ (p : Problem) (w : Point) (room listRoom : ℕ) where
+  pub by-grid : (firstNo (gridQuestions (p .grid)) ≡ 0 → ⊥) → nearRefusal p w room listRoom ≡ firstNo (gridQuestions (p .grid))
+  by-grid n = asked-no (gridQuestions (p .grid)) (pointQuestions p w room listRoom) _ n refl
+
+  pub by-point : firstNo (gridQuestions (p .grid)) ≡ 0 → nearRefusal p w room listRoom ≡ firstNo (pointQuestions p w room listRoom)
+  by-point e = asked-next (gridQuestions (p .grid)) (pointQuestions p w room listRoom) refl e
+
+  -- questions 5 to 8: the start's number is w's
+  pub no-point : isGridPoint (p .grid) w ≡ false → 5 ≡ firstNo (pointQuestions p w room listRoom)
+  unfolding firstNo
+  no-point e = go (isGridPoint (p .grid) (p .start)) (isGridPoint (p .grid) w) e
+    where
+      go : (a b : Bool) → b ≡ false → 5 ≡ cond a (cond b (firstNo (question6 p ∷ question7 p ∷ question8 (p .grid) room ∷ question8List (p .grid) listRoom ∷ [])) 5) 5
+      go true b e = rw e
+      go false b e = refl
+
+  module _ (on : isGridPoint (p .grid) w ≡ true) where
+    behind : firstNo (pointQuestions p w room listRoom) ≡ firstNo (laterQuestions p room ++ (question8List (p .grid) listRoom ∷ []))
+    unfolding firstNo
+    behind = rw on
+
+    pub no-later : (n : ℕ) → (n ≡ 0 → ⊥) → n ≡ firstNo (laterQuestions p room) → n ≡ firstNo (pointQuestions p w room listRoom)
+    no-later n z e = sym (behind ∙ asked-no (laterQuestions p room) (question8List (p .grid) listRoom ∷ []) n z (sym e))
+
+    module _ (later : firstNo (laterQuestions p room) ≡ 0) where
+      list-only : firstNo (pointQuestions p w room listRoom) ≡ firstNo (question8List (p .grid) listRoom ∷ [])
+      list-only = behind ∙ asked-next (laterQuestions p room) (question8List (p .grid) listRoom ∷ []) refl later
+
+      pub no-list : listRoom < numPoints (p .grid) → 8 ≡ firstNo (pointQuestions p w room listRoom)
+      unfolding firstNo
+      no-list l = sym (list-only ∙ rw (lt-leb (numPoints (p .grid)) listRoom l))
+
+      pub none-no : numPoints (p .grid) ≤ listRoom → _≡_ {A = ℕ} 0 (firstNo (pointQuestions p w room listRoom))
+      unfolding firstNo
+      none-no l = sym (list-only ∙ rw (le-leb (numPoints (p .grid)) listRoom l))
+
+  -- where none is answered no
+  pub all-yes : firstNo (pointQuestions p w room listRoom) ≡ 0
+      → (isGridPoint (p .grid) w ≡ true) × (firstNo (laterQuestions p room) ≡ 0) × (numPoints (p .grid) ≤ listRoom)
+  all-yes e =
+      let a = first-yes (question5 (p .grid) (p .start)) (question5 (p .grid) w ∷ question6 p ∷ question7 p ∷ question8 (p .grid) room ∷ question8List (p .grid) listRoom ∷ []) (omega arith) e in
+      let on = first-yes (question5 (p .grid) w) (question6 p ∷ question7 p ∷ question8 (p .grid) room ∷ question8List (p .grid) listRoom ∷ []) (omega arith) (a .1) .0 in
+      let b = both-yes (laterQuestions p room) (question8List (p .grid) listRoom ∷ []) refl (sym (behind on) ∙ e) in
+      (on, b .0, leb-true (numPoints (p .grid)) listRoom (first-yes (question8List (p .grid) listRoom) [] (omega arith) (b .1) .0))
+
+-- the answer and the buffers
+module _ (p : Problem) (w : Point) (given budget : ℕ) (old list : List ℕ) where
+  pub refused : (n : ℕ) → (n ≡ 0 → ⊥) → nearRefusal p w (length old) (length list) ≡ n
+      → (record { run = Refused n; nearest = Nothing } ≡ reportOf p w given (length old) (length list) budget)
+      × (old ≡ answerBuffer p w (length list) budget old) × (list ≡ listBuffer p w given (length old) budget list)
+  unfolding reportOf answerBuffer listBuffer
+  refused n z e =
+      let q : eqb (nearRefusal p w (length old) (length list)) 0 ≡ false = ne-eqb (nearRefusal p w (length old) (length list)) 0 (λ f. z (sym e ∙ f)) in
+      (rw (q, e), rw (q, front-none old), rw (q, front-none list))
+
+  pub answered : nearRefusal p w (length old) (length list) ≡ 0
+      → (record { run = caseOf (answer p budget); nearest = nearestIn p w given (answer p budget) } ≡ reportOf p w given (length old) (length list) budget)
+      × (front (numbersOf (answer p budget)) old ≡ answerBuffer p w (length list) budget old)
+      × (front (listedIn p w given (answer p budget)) list ≡ listBuffer p w given (length old) budget list)
+  unfolding reportOf answerBuffer listBuffer
+  answered e = (rw e, rw e, rw e)
+
+-- an end in the answer is the path's, after all its places
+case-ended : (a : PathAnswer) {n block vertices : ℕ} {kind : Kind} → caseOf a ≡ End n kind block vertices
+    → (k : KindOfEnd) × (s : Simplex) × (a ≡ ended n k block vertices s)
+case-ended (spent m) e = absurd (let z : _≡_ {A = ℕ} 0 1 = cc in omega arith)
+case-ended (unknown m i) e = absurd (let z : _≡_ {A = ℕ} 0 1 = cc in omega arith)
+case-ended (ended m k b v s) {n} {block} {vertices} e =
+    let x : m ≡ n = cc in let y : b ≡ block = cc in let z : v ≡ vertices = cc in (k, s, rw (x, y, z))
+
+module _ (p : Problem) (budget : ℕ) where
+  ended-outcome : {n block vertices : ℕ} {kind : KindOfEnd} {s : Simplex} (places : List Simplex) (e : Option EndOfPath) → outcome p places e ≡ ended n kind block vertices s
+      → (f : EndOfPath) × (e ≡ some f) × (n ≡ length places)
+  ended-outcome places none q = absurd (let z : _≡_ {A = ℕ} 0 1 = cc in omega arith)
+  ended-outcome {n} places (some f) q = let x : length places ≡ n = cc in (f, refl, sym x)
+
+  pub ended-is : {n block vertices : ℕ} {kind : KindOfEnd} {s : Simplex} → answer p budget ≡ ended n kind block vertices s
+      → (e : EndOfPath) × (pathOf p .end ≡ some e) × (n ≡ pathLength p)
+  unfolding answer
+  ended-is e =
+      ⊎-elim
+      (λ (l : budget < pathLength p). absurd (let f = rw (lt-ltb budget (pathLength p) l) at e in let z : _≡_ {A = ℕ} 0 1 = cc in omega arith))
+      (λ (l : pathLength p ≤ budget). ended-outcome (pathOf p .visited) (pathOf p .end) (rw (le-ltb budget (pathLength p) l) at e))
+      (before-or-not budget (pathLength p))
+
+  pub at-end : {n block vertices : ℕ} {kind : Kind} → caseOf (answer p budget) ≡ End n kind block vertices
+      → (k : KindOfEnd) × (s : Simplex) × (answer p budget ≡ ended n k block vertices s)
+  at-end e = case-ended (answer p budget) e
+
+-- where it is none, nothing is reported and listed
+pub no-end : (p : Problem) (w : Point) (given : ℕ) (a : PathAnswer) → OneOf (0 ∷ 1 ∷ 2 ∷ []) (tagOf the-type (caseOf a))
+    → (nearestIn p w given a ≡ Nothing) × (listedIn p w given a ≡ [])
+no-end p w given (spent n) h = (refl, refl)
+no-end p w given (unknown n i) h = (refl, refl)
+no-end p w given (ended n kind block vertices s) h = absurd (⊎-elim (λ e. omega arith) (λ r. ⊎-elim (λ e. omega arith) (λ e. omega arith) r) h)

@@ -1,0 +1,53 @@
+-- What a run that reports where the path came nearest answers and leaves in its two buffers, on every input. Assumes nothing.
+use mathlib.Core.Bool.{cond}
+use mathlib.Core.List.{List, []}
+use Prim.Native.Nat.{ℕ}
+use lib.Dec.{eqb}
+use lib.ListN.{length}
+use Rattle.combinatorics.specs.Front.{front}
+use Rattle.questions.specs.Questions.{firstNo}
+use Rattle.grid.specs.Grid.{Point, position}
+use Rattle.place.specs.Path.{Answer as PathAnswer, answer, ended, spent, unknown}
+use Rattle.place.specs.Problem.{Problem}
+use Rattle.finder.specs.Run.{caseOf, numbersOf}
+use Rattle.finder.specs.declared.answers.Answer.the-variants.{Refused}
+use Rattle.visited.specs.Nearest.{nearest as nearestVertex, positionsWithin}
+use Rattle.visited.specs.Questions.{nearQuestions}
+use Rattle.nearest.specs.declared.reports.Nearest.{Nearest}
+use Rattle.nearest.specs.declared.reports.Nearest.the-variants.{Nothing, Vertex}
+use Rattle.nearest.specs.declared.reports.Report.{Report}
+
+-- the number of the first of questions 1 to 8 that is answered no, or 0
+abbrev pub nearRefusal : Problem → Point → ℕ → ℕ → ℕ
+nearRefusal p w room listRoom = firstNo (nearQuestions p w room listRoom)
+
+-- "report the table position of the visited vertex nearest to it", with the number of those listed. "A refusal returns its number and no count": 9
+-- and 16, with which no end is reached, report none
+abbrev pub nearestIn : Problem → Point → ℕ → PathAnswer → Nearest
+nearestIn p w given (ended n kind block vertices simplex) = Vertex (position (p .grid) (nearestVertex p w)) (length (positionsWithin p w given))
+nearestIn p w given (spent n) = Nothing
+nearestIn p w given (unknown n i) = Nothing
+
+-- "list all visited vertices within a given distance"
+abbrev pub listedIn : Problem → Point → ℕ → PathAnswer → List ℕ
+listedIn p w given (ended n kind block vertices simplex) = positionsWithin p w given
+listedIn p w given (spent n) = []
+listedIn p w given (unknown n i) = []
+
+-- the answer: that of a run, and what is reported besides
+unfoldable pub reportOf : Problem → Point → ℕ → ℕ → ℕ → ℕ → Report
+reportOf p w given room listRoom budget =
+    let number = nearRefusal p w room listRoom in
+    cond (eqb number 0)
+    (record { run = caseOf (answer p budget); nearest = nearestIn p w given (answer p budget) })
+    (record { run = Refused number; nearest = Nothing })
+
+-- "A refusal .. changes no buffer. What a call does write stands at the front of its buffer, old contents behind": the answer buffer, for a list
+-- of `listRoom` positions; and the list, for an answer buffer of `room` numbers
+unfoldable pub answerBuffer : Problem → Point → ℕ → ℕ → List ℕ → List ℕ
+answerBuffer p w listRoom budget old =
+    front (cond (eqb (nearRefusal p w (length old) listRoom) 0) (numbersOf (answer p budget)) []) old
+
+unfoldable pub listBuffer : Problem → Point → ℕ → ℕ → ℕ → List ℕ → List ℕ
+listBuffer p w given room budget old =
+    front (cond (eqb (nearRefusal p w room (length old)) 0) (listedIn p w given (answer p budget)) []) old
