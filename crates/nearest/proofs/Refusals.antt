@@ -32,9 +32,9 @@ use Rattle.finder.specs.declared.answers.Answer.the-variants.{End, Refused, Spe
 use Rattle.finder.specs.declared.answers.Kind.{Kind}
 use Rattle.visited.specs.Questions.{pointQuestions, question8List}
 use Rattle.nearest.specs.Report.{answerBuffer, listBuffer, listedIn, nearRefusal, nearestIn, reportOf}
-use Rattle.nearest.specs.declared.reports.Nearest.{Nearest}
-use Rattle.nearest.specs.declared.reports.Nearest.the-variants.{Nothing}
-use Rattle.nearest.specs.declared.reports.Report.{Report}
+use Rattle.nearest.specs.declared.Nearest.{Nearest}
+use Rattle.nearest.specs.declared.Nearest.the-variants.{Nothing}
+use Rattle.nearest.specs.declared.Report.{Report}
 
 module _ (p : Problem) (w : Point) (room listRoom : ℕ) where
   pub by-grid : (firstNo (gridQuestions (p .grid)) ≡ 0 → ⊥) → nearRefusal p w room listRoom ≡ firstNo (gridQuestions (p .grid))

@@ -13,9 +13,9 @@ use Rattle.finder.specs.Run.{caseOf, numbersOf}
 use Rattle.finder.specs.declared.answers.Answer.the-variants.{Refused}
 use Rattle.visited.specs.Nearest.{nearest as nearestVertex, positionsWithin}
 use Rattle.visited.specs.Questions.{nearQuestions}
-use Rattle.nearest.specs.declared.reports.Nearest.{Nearest}
-use Rattle.nearest.specs.declared.reports.Nearest.the-variants.{Nothing, Vertex}
-use Rattle.nearest.specs.declared.reports.Report.{Report}
+use Rattle.nearest.specs.declared.Nearest.{Nearest}
+use Rattle.nearest.specs.declared.Nearest.the-variants.{Nothing, Vertex}
+use Rattle.nearest.specs.declared.Report.{Report}
 
 -- the number of the first of questions 1 to 8 that is answered no, or 0
 abbrev pub nearRefusal : Problem → Point → ℕ → ℕ → ℕ

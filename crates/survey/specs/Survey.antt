@@ -1,0 +1,118 @@
+-- What the second pass over the path notes of the vertices that it meets, and what it gives. The call's own promise does not cite it.
+-- Assumes nothing.
+use mathlib.Core.Bool.{true, cond}
+use mathlib.Core.List.{List, map}
+use mathlib.Core.Option.{some}
+use mathlib.Core.Path.{_≡_}
+use Prim.Native.Nat.{ℕ, _+_, _≤_, _<_}
+use lib.Dec.{eqb, ltb, leb}
+use lib.ListN.{length, set}
+use denote.Ref.{now}
+use Rattle.combinatorics.specs.Front.{front}
+use Rattle.combinatorics.specs.Lists.{filter, isIn}
+use Rattle.grid.specs.Grid.{Grid, Point, at, isGridPoint, numPoints, position}
+use Rattle.grid.specs.Made.{shape}
+use Rattle.grid.specs.declared.Grid.{Grid as GridStruct}
+use Rattle.place.specs.Demand.{Accepted}
+use Rattle.place.specs.Ends.{End}
+use Rattle.place.specs.Path.{path as pathOf, pathLength}
+use Rattle.place.specs.Problem.{Problem}
+use Rattle.rules.specs.Read.{markOf, pointOn}
+use Rattle.rules.specs.Ready.{IsRound, RoundBelow}
+use Rattle.rules.specs.Step.{Round, State}
+use Rattle.moves.specs.Held.{LentBoth}
+use Rattle.marks.specs.Reading.{Readable, problemFrom}
+use Rattle.finder.specs.Finish.{problemIn}
+use Rattle.visited.specs.Distance.{distance}
+use Rattle.visited.specs.Nearest.{firstLeast, nearest, positionsWithin}
+use Rattle.distances.specs.Measure.{CanMeasure}
+use Rattle.survey.specs.declared.Came.{Came}
+use Rattle.survey.specs.declared.Came.the-variants.{At, Nothing}
+use Rattle.survey.specs.declared.Tally.{Tally}
+
+-- the point that has come in, if one has; its position; and the marks with its mark
+abbrev pub pointCome : Grid → State → Point
+pointCome g a = pointOn g a (a .active)
+
+abbrev pub comeIn : Grid → State → Came
+comeIn g a = cond (ltb (a .rule) 6) (At (position g (pointCome g a))) Nothing
+
+abbrev pub markedIn : Problem → State → List ℕ → List ℕ
+markedIn p a marks = cond (ltb (a .rule) 6) (set marks (a .active) (markOf p (pointCome (p .grid) a))) marks
+
+-- a vertex at a position and a distance is met for the first time: the list where it is within the given distance, and what is kept
+abbrev pub listedIn : ℕ → ℕ → ℕ → ℕ → List ℕ → List ℕ
+listedIn given listed position away list = cond (leb away given) (set list listed position) list
+
+abbrev pub listedAfter : ℕ → ℕ → ℕ → ℕ
+listedAfter given listed away = cond (leb away given) (listed + 1) listed
+
+abbrev pub noted : ℕ → Tally → ℕ → ℕ → Tally
+noted given t position away = record {
+  nearest = cond (ltb away (t .least)) position (t .nearest);
+  least = cond (ltb away (t .least)) away (t .least);
+  listed = listedAfter given (t .listed) away;
+}
+
+-- what is kept, the marks of the vertices met and the list, after the vertex that has come in, if one has: only one not met before is noted
+abbrev pub tallyAfter : ℕ → Tally → ℕ → List ℕ → Came → Tally
+tallyAfter given t away seen Nothing = t
+tallyAfter given t away seen (At q) = cond (eqb (at seen q) 0) (noted given t q away) t
+
+abbrev pub seenAfter : List ℕ → Came → List ℕ
+seenAfter seen Nothing = seen
+seenAfter seen (At q) = cond (eqb (at seen q) 0) (set seen q 1) seen
+
+abbrev pub listAfter : ℕ → Tally → ℕ → List ℕ → List ℕ → Came → List ℕ
+listAfter given t away seen list Nothing = list
+listAfter given t away seen list (At q) = cond (eqb (at seen q) 0) (listedIn given (t .listed) q away list) list
+
+-- there is room to note it
+abbrev pub HasRoom : ℕ → Tally → ℕ → List ℕ → List ℕ → Came → Type 0
+HasRoom given t away seen list Nothing = length list ≡ length list
+HasRoom given t away seen list (At q) = (q < 60000) × (at seen q ≡ 0 → away ≤ given → t .listed < length list)
+
+pub record HasMet (given : ℕ) (t : Tally) (away : ℕ) (came : Came) (seen list : LentBoth) (r : Tally) : Type 0 where
+  pub tally : r ≡ tallyAfter given t away (now (seen .entry)) came
+  pub marks : now (seen .exit) ≡ seenAfter (now (seen .entry)) came
+  pub written : now (list .exit) ≡ listAfter given t away (now (seen .entry)) (now (list .entry)) came
+
+-- what is kept of the vertices met so far, l, in a list buffer that had the contents `old`
+pub record Kept (g : Grid) (w : Point) (given : ℕ) (old : List ℕ) (l : List Point) (seen list : List ℕ) (t : Tally) : Type 0 where
+  pub long : length seen ≡ 60000
+  pub marks : (i : ℕ) → i < 60000 → at seen i ≡ cond (isIn eqb i (map (position g) l)) 1 0
+  pub listed : t .listed ≡ length (filter (λ y. leb (distance g w y) given) l)
+  pub written : list ≡ front (map (position g) (filter (λ y. leb (distance g w y) given) l)) old
+  pub none : length l ≡ 0 → t .least ≡ 18446744073709551615
+  pub nearest : 0 < length l → t .nearest ≡ position g (firstLeast (distance g w) l)
+  pub least : 0 < length l → t .least ≡ distance g w (firstLeast (distance g w) l)
+
+-- what the second pass asks: a run has reached the path's end
+pub record CanPass (g : GridStruct) (round : Round) (binomials first table weights w list : List ℕ) (places : ℕ) : Type 0 where
+  pub readable : Readable g binomials table
+  pub isRound : IsRound (shape g) round
+  pub below : RoundBelow round
+  pub accepted : Accepted (problemIn g first table)
+  pub firstLength : length first ≡ 16
+  pub measure : CanMeasure (shape g) weights w (g .indices)
+  pub onGrid : isGridPoint (shape g) w ≡ true
+  pub room : numPoints (shape g) ≤ length list
+  pub end : End
+  pub ended : pathOf (problemIn g first table) .end ≡ some end
+  pub all : places ≡ pathLength (problemIn g first table)
+
+-- the same of the slices that the call was lent
+pub record CanSurvey (g : GridStruct) (binomials start labels w list : List ℕ) (places : ℕ) : Type 0 where
+  pub readable : Readable g binomials labels
+  pub accepted : Accepted (problemFrom g start labels)
+  pub onGrid : isGridPoint (shape g) w ≡ true
+  pub room : numPoints (shape g) ≤ length list
+  pub end : End
+  pub ended : pathOf (problemFrom g start labels) .end ≡ some end
+  pub all : places ≡ pathLength (problemFrom g start labels)
+
+-- and what it gives
+pub record Surveyed (p : Problem) (w : Point) (given : ℕ) (list : LentBoth) (r : Tally) : Type 0 where
+  pub nearest : r .nearest ≡ position (p .grid) (nearest p w)
+  pub listed : r .listed ≡ length (positionsWithin p w given)
+  pub written : now (list .exit) ≡ front (positionsWithin p w given) (now (list .entry))
