@@ -106,7 +106,15 @@ case-ended (unknown m i) e = absurd (let z : _≡_ {A = ℕ} 0 1 = cc in omega a
 case-ended (ended m k b v s) {n} {block} {vertices} e =
     let x : m ≡ n = cc in let y : b ≡ block = cc in let z : v ≡ vertices = cc in (k, s, rw (x, y, z))
 
+case-unknown : (a : PathAnswer) {n i : ℕ} → caseOf a ≡ Unknown n i → a ≡ unknown n i
+case-unknown (spent m) e = absurd (let z : _≡_ {A = ℕ} 0 1 = cc in omega arith)
+case-unknown (ended m k b v s) e = absurd (let z : _≡_ {A = ℕ} 0 1 = cc in omega arith)
+case-unknown (unknown m j) {n} {i} e = let x : m ≡ n = cc in let y : j ≡ i = cc in rw (x, y)
+
 module _ (p : Problem) (budget : ℕ) where
+  pub at-gap : {n i : ℕ} → caseOf (answer p budget) ≡ Unknown n i → answer p budget ≡ unknown n i
+  at-gap e = case-unknown (answer p budget) e
+
   ended-outcome : {n block vertices : ℕ} {kind : KindOfEnd} {s : Simplex} (places : List Simplex) (e : Option EndOfPath) → outcome p places e ≡ ended n kind block vertices s
       → (f : EndOfPath) × (e ≡ some f) × (n ≡ length places)
   ended-outcome places none q = absurd (let z : _≡_ {A = ℕ} 0 1 = cc in omega arith)

@@ -7,11 +7,11 @@ ghost use Rattle.place.specs.Problem.{problemOf};
 ghost use Rattle.marks.specs.Reading.{problemFrom};
 ghost use Rattle.visited.specs.Questions.{pointQuestions};
 ghost use Rattle.nearest.specs.Report.{answerBuffer, listBuffer, reportOf};
-use survey::survey;
 use finder::Answer;
 use finder::announced;
 use grid::Grid;
 use positions::ENTRIES;
+use survey::survey;
 
 // The nearest visited vertex, by its position, and how many positions are listed; nothing where the run reached no end.
 pub enum Nearest {
