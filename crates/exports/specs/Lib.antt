@@ -1,3 +1,4 @@
 pub mod Check
+pub mod Near
 pub mod Numbers
 pub mod Shelf
