@@ -1,0 +1,6 @@
+pub mod Grids
+pub mod GameLabels
+pub mod Starts
+pub mod Vertices
+pub mod Buffers
+pub mod Claims

@@ -1,0 +1,4 @@
+pub mod Levels
+pub mod Questions
+pub mod Buffers
+pub mod Claims
