@@ -1,0 +1,3 @@
+pub mod NextGrids
+pub mod MadeLevels
+pub mod Asked
