@@ -1,0 +1,5 @@
+pub mod LevelStarts
+pub mod LevelRuns
+pub mod Solved
+pub mod AllRuns
+pub mod Outcomes

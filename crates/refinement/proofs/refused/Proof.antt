@@ -1,0 +1,18 @@
+-- `refinement::refused` meets its contract. Assumes nothing.
+use mathlib.Core.List.{List}
+use mathlib.Core.Path.{ap}
+use lib.ListN.{replicate}
+use borrow.Author.Needs.{needs}
+use Rattle.refinement.specs.declared.Level.{Level}
+use Rattle.refinement.specs.declared.Refined.{Refined}
+use Rattle.refinement.proofs.refused.Statement.{statement}
+use Rattle.refinement.proofs.refused.Tie as tie
+
+no-level-requires : tie.Need-no-level-requires
+no-level-requires c κs = search needs
+
+returns : tie.Need-returns
+returns c = rw (c .no-level .ensures)
+
+pub refused-spec : {M : Type 1} → statement M
+refused-spec = tie.close (tie.spec no-level-requires returns)
