@@ -1,4 +1,5 @@
 pub mod Check
 pub mod Near
 pub mod Numbers
+pub mod Refine
 pub mod Shelf

@@ -1,13 +1,14 @@
 -- What each outcome of the questions makes of a refinement's answer and of both buffers. Assumes nothing.
 use mathlib.Core.Bool.{Bool, true, false, _&&_}
 use mathlib.Core.List.{List, [], _∷_, _++_}
+use mathlib.Core.Logic.{⊎-elim}
 use mathlib.Core.Path.{_≡_, refl, sym, ap, _∙_, subst}
 use Prim.Native.Nat.{ℕ, pred, _*_, _-_, _≤_, _<_}
 use borrow.Author.Tests.{eqb-true, leb-true, ne-eqb}
 use lib.Dec.{leb}
 use lib.ListN.{length, getD}
 use native.Mathlib.Omega.{arith}
-use Rattle.combinatorics.proofs.Basics.{and-left, and-right}
+use Rattle.combinatorics.proofs.Basics.{and-left, and-right, same-or}
 use Rattle.games.specs.Labelling.{question12}
 use Rattle.grid.proofs.Accepted.{accepted}
 use Rattle.grid.proofs.Fields.{is-made, made-points, shape-of}
@@ -18,6 +19,7 @@ use Rattle.grid.specs.declared.Grid.{Grid as GridStruct}
 use Rattle.level_questions.specs.Grids.{AreMade}
 use Rattle.level_questions.specs.Later.{askedBehind}
 use Rattle.level_questions.specs.declared.grids.Grids.{Grids}
+use Rattle.levels.proofs.Claims.{passed}
 use Rattle.levels.proofs.Grids.{level-first, levels-yes, numbered-levels}
 use Rattle.levels.specs.Buffers.{numbersAfter}
 use Rattle.levels.specs.Levels.{Refinement, gridAt}
@@ -160,3 +162,14 @@ module _ (g : Grid) (k levels : ℕ) (some : 1 ≤ levels) (m : Grids) (made : A
       w .0 ∙ ap (λ (r : Refinement). labels (lastGrid r levels) losses) game-same,
       w .1 ∙ ap (λ (r : Refinement). numbersAfter r levels old) game-same,
     )
+
+-- an answer has at most as many levels as its array
+pub answer-few : (r : Refinement) (levels : ℕ) (buffer old : List ℕ)
+    → (refineAnswer r levels buffer old .count ≤ 8) × (length (refineAnswer r levels buffer old .levels) ≡ 8)
+unfolding refineAnswer levelsOf
+answer-few r levels buffer old =
+    ⊎-elim
+    (λ (z : refusal r levels buffer old ≡ 0). let w = passed r levels buffer (length old) z in
+    rw z (w .levelsRange .1, refl))
+    (λ (n : refusal r levels buffer old ≡ 0 → ⊥). rw (ne-eqb (refusal r levels buffer old) 0 n) (omega arith, refl))
+    (same-or (refusal r levels buffer old) 0)

@@ -25,7 +25,7 @@ use Rattle.refinement.specs.declared.Level.{Level}
 part-whole : (a : ℕ) (xs : List ℕ) → a ≤ length xs → take (length xs - a) (drop a xs) ≡ drop a xs
 part-whole a xs h = take-all (length xs - a) (drop a xs) (omega (arith, length-drop a xs))
 
-put-back : (a : ℕ) (xs ys new : List ℕ) → a ≤ length xs → new ≡ front ys (take (length xs - a) (drop a xs))
+pub put-back : (a : ℕ) (xs ys new : List ℕ) → a ≤ length xs → new ≡ front ys (take (length xs - a) (drop a xs))
     → take a xs ++ (new ++ drop (length xs - a) (drop a xs)) ≡ take a xs ++ front ys (drop a xs)
 put-back a xs ys new h e =
     let none : drop (length xs - a) (drop a xs) ≡ [] = drop-of-length-le (drop a xs) {i = length xs - a} (omega (arith, length-drop a xs)) in

@@ -7,6 +7,7 @@ use lib.ListN.{length, set, length-set}
 use Rattle.combinatorics.proofs.Fronts.{front-none}
 use Rattle.combinatorics.specs.Front.{front}
 use borrow.Author.Needs.{needs}
+use Rattle.exports.proofs.Facts.{four}
 use Rattle.exports.proofs.put_answer.Statement.{statement}
 use Rattle.exports.proofs.put_answer.Tie as tie
 
@@ -20,14 +21,6 @@ unfolding front
 two x y (a ∷ b ∷ old) h = refl
 two x y [] h = absurd (omega arith)
 two x y (a ∷ []) h = absurd (omega arith)
-
-four : (x y z u : ℕ) (old : List ℕ) → 4 ≤ length old → set (set (set (set old 0 x) 1 y) 2 z) 3 u ≡ front (x ∷ y ∷ z ∷ u ∷ []) old
-unfolding front
-four x y z u (a ∷ b ∷ c ∷ d ∷ old) h = refl
-four x y z u [] h = absurd (omega arith)
-four x y z u (a ∷ []) h = absurd (omega arith)
-four x y z u (a ∷ b ∷ []) h = absurd (omega arith)
-four x y z u (a ∷ b ∷ c ∷ []) h = absurd (omega arith)
 
 enum-known-answer : tie.Need-enum-known-answer
 enum-known-answer c = search needs

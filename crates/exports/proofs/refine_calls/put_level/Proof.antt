@@ -1,0 +1,44 @@
+-- `put_level` meets its contract: the facts are stored one behind the other. Assumes nothing.
+use lib.ListN.{length-set}
+use native.Mathlib.Omega.{arith}
+use borrow.Author.Needs.{needs}
+use Rattle.exports.proofs.Facts.{four}
+use Rattle.exports.proofs.refine_calls.put_level.Statement.{statement}
+use Rattle.exports.proofs.refine_calls.put_level.Tie as tie
+
+slice-write-facts : tie.Need-slice-write-facts
+slice-write-facts c = search needs
+
+kind-number-requires : tie.Need-kind-number-requires
+kind-number-requires c κs = search needs
+
+slice-write-facts-2 : tie.Need-slice-write-facts-2
+slice-write-facts-2 c = simp length-set (omega arith)
+
+cast-facts : tie.Need-cast-facts
+cast-facts c = search needs
+
+slice-write-facts-3 : tie.Need-slice-write-facts-3
+slice-write-facts-3 c = simp length-set (omega arith)
+
+slice-write-facts-4 : tie.Need-slice-write-facts-4
+slice-write-facts-4 c = simp length-set (omega arith)
+
+same-length : tie.Need-same-length
+same-length c = search needs
+
+returns : tie.Need-returns
+returns c = rw (c .before .kind-number .ensures) (four _ _ _ _ (c .before .before .before .args .facts .now) (c .before .before .before .pre))
+
+pub put-level-spec : {M : Type 1} → statement M
+put-level-spec =
+    tie.close
+    (tie.spec
+    slice-write-facts
+    kind-number-requires
+    slice-write-facts-2
+    cast-facts
+    slice-write-facts-3
+    slice-write-facts-4
+    same-length
+    returns)
