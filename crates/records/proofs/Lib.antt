@@ -1,0 +1,3 @@
+pub mod Differences
+pub mod Told
+pub mod Kept

@@ -1,0 +1,171 @@
+// The record of a place, as bytes, by T and U at the place before it and at the place, and by the positions of the points
+// that come in and go out. What is public here is for the writer and the reader of a trail, which show what it asks.
+ghost use mathlib.Core.Path.{_≡_};
+ghost use Prim.Native.Nat.{suc, _+_, _/_, _%_, _≤_, _<_};
+ghost use lib.ListN.{length};
+ghost use lib.Seq.{paste};
+ghost use Rattle.records.specs.Records.{differing, exchangedRecord, joinedRecord, leftRecord, recordFrom};
+ghost use Rattle.records.specs.Records.{firstRecord, IsRecord};
+use moves::has;
+
+// T and U of a place, as masks.
+pub struct Sets {
+    pub t: u16,
+    pub u: u16,
+}
+
+// A record: its bytes at the front, 0 behind them.
+pub struct Record {
+    pub bytes: [u8; 8],
+    pub length: usize,
+}
+
+fn low_byte(n: usize) -> u8
+    ensures { λ r. ⌜ r ≡ n % 256 ⌝ }
+{
+    (n & 255) as u8
+}
+
+fn high_byte(n: usize) -> u8
+    requires { ⌜ n < 65536 ⌝ }
+    ensures { λ r. ⌜ r ≡ n / 256 ⌝ }
+{
+    (n >> 8) as u8
+}
+
+// An index as the record has it, counted from 1.
+fn from_one(h: usize) -> u8
+    requires { ⌜ h < 16 ⌝ }
+    ensures { λ r. ⌜ r ≡ suc h ⌝ }
+{
+    h as u8 + 1
+}
+
+// The first index at which two sets differ; 16 where they are the same.
+fn difference(a: u16, b: u16) -> usize
+    ensures { λ r. ⌜ (r ≡ differing a b) × (r ≤ 16) ⌝ }
+{
+    if a == b {
+        return 16;
+    }
+    let mut h: usize = 0;
+    while h < 16 {
+        if has(a, h) != has(b, h) {
+            break;
+        }
+        h += 1;
+    }
+    h
+}
+
+// T is kept: rules 1 to 3, by what U does.
+fn exchanged(before: u16, after: u16, come: usize, gone: usize) -> Record
+    requires { ⌜ (come < 65536) × (gone < 65536) ⌝ }
+    ensures { λ r. ⌜ IsRecord (exchangedRecord before after come gone) r ⌝ }
+{
+    let a = low_byte(come);
+    let b = high_byte(come);
+    let c = low_byte(gone);
+    let d = high_byte(gone);
+    let h = difference(before, after);
+    if h == 16 {
+        return Record {
+            bytes: [67, a, b, c, d, 1, 0, 0],
+            length: 6,
+        };
+    }
+    let i = from_one(h);
+    if has(after, h) {
+        return Record {
+            bytes: [83, a, b, c, d, i, 2, 0],
+            length: 7,
+        };
+    }
+    Record {
+        bytes: [99, a, b, c, d, i, 3, 0],
+        length: 7,
+    }
+}
+
+// Index h comes into T: rules 4 and 5.
+fn joined(before: u16, after: u16, h: usize, come: usize) -> Record
+    requires { ⌜ (h < 16) × (come < 65536) ⌝ }
+    ensures { λ r. ⌜ IsRecord (joinedRecord before after h come) r ⌝ }
+{
+    let a = low_byte(come);
+    let b = high_byte(come);
+    let i = from_one(h);
+    if difference(before, after) == 16 {
+        return Record {
+            bytes: [69, a, b, i, 4, 0, 0, 0],
+            length: 5,
+        };
+    }
+    Record {
+        bytes: [101, a, b, i, i, 5, 0, 0],
+        length: 6,
+    }
+}
+
+// Index h goes out of T: rules 6 and 7.
+fn left(before: u16, after: u16, h: usize, gone: usize) -> Record
+    requires { ⌜ (h < 16) × (gone < 65536) ⌝ }
+    ensures { λ r. ⌜ IsRecord (leftRecord before after h gone) r ⌝ }
+{
+    let a = low_byte(gone);
+    let b = high_byte(gone);
+    let i = from_one(h);
+    if difference(before, after) == 16 {
+        return Record {
+            bytes: [74, a, b, i, 7, 0, 0, 0],
+            length: 5,
+        };
+    }
+    Record {
+        bytes: [90, a, b, i, i, 6, 0, 0],
+        length: 6,
+    }
+}
+
+// The record of a place behind the first.
+pub fn record_of(before: Sets, after: Sets, come: usize, gone: usize) -> Record
+    requires { ⌜ (come < 65536) × (gone < 65536) ⌝ }
+    ensures { λ r. ⌜ IsRecord (recordFrom (before .t) (before .u) (after .t) (after .u) come gone) r ⌝ }
+{
+    let h = difference(before.t, after.t);
+    if h == 16 {
+        return exchanged(before.u, after.u, come, gone);
+    }
+    if has(after.t, h) {
+        return joined(before.u, after.u, h, come);
+    }
+    left(before.u, after.u, h, gone)
+}
+
+// The record of {v}.
+pub fn first_record(come: usize) -> Record
+    requires { ⌜ come < 65536 ⌝ }
+    ensures { λ r. ⌜ IsRecord (firstRecord come) r ⌝ }
+{
+    let a = low_byte(come);
+    let b = high_byte(come);
+    Record {
+        bytes: [1, a, b, 0, 0, 0, 0, 0],
+        length: 3,
+    }
+}
+
+// The record's bytes, stored from a position of the trail on.
+pub fn put(trail: &mut [u8], at: usize, made: Record)
+    requires { ⌜ (at + made .length ≤ length (now trail)) × (made .length ≤ 8) × (length (made .bytes) ≡ 8) ⌝ }
+    ensures { λ _. ⌜ now (trail .exit) ≡ paste (now (trail .entry)) at (made .bytes) (made .length) ⌝ }
+{
+    let bytes = made.bytes;
+    let n = made.length;
+    let mut k: usize = 0;
+    while k < n {
+        let x = bytes[k];
+        trail[at + k] = x;
+        k += 1;
+    }
+}
