@@ -1,0 +1,288 @@
+-- `trail_walk::follow` meets its contract. The loop's invariant: the state that the arrays and the status hold stands at the place whose number is what is
+-- spent of the budget, and the trail has the records of the places before it. The measure is what is left of the budget. Assumes nothing.
+use mathlib.Core.Bool.{false, cond}
+use mathlib.Core.List.{List}
+use mathlib.Core.Path.{_≡_, refl, sym, ap, _∙_}
+use Prim.Native.Nat.{ℕ, suc, _+_, _-_, _≤_}
+use borrow.Author.Needs.{needs}
+use lib.ListN.{length, take}
+use native.Mathlib.Omega.{arith}
+use Rattle.combinatorics.specs.Front.{front}
+use Rattle.finder.proofs.Visits.{OnPath, announced-facet, announced-place, asked, begins, goes-on, leads, spends, visits}
+use Rattle.finder.specs.Finish.{problemIn}
+use Rattle.grid.proofs.Fields.{indices-few}
+use Rattle.moves.specs.Held.{roundOf, stateOf}
+use Rattle.place.specs.Path.{path}
+use Rattle.rules.specs.Ready.{SixteenEach}
+use Rattle.trail.specs.Record.{trailOf}
+use Rattle.trail_walk.proofs.OnTrail.{SoFar, come-low, ended-whole, next-long, next-short, next-so-far, next-trail, so-far-none, trail-none, whole-at, whole-fits}
+use Rattle.trail_walk.proofs.follow.Statement.{statement}
+use Rattle.trail_walk.proofs.follow.Tie as tie
+
+abbrev Inv-loop : tie.InvT-loop
+Inv-loop g binomials table previous next sizes first₀ order₀ trail₀ writes budget coefficients₀ marks₀ s₀ tails before₀ at₀ left₀ first order trail coefficients marks s before at left =
+    let p = problemIn g first₀ table in
+    OnPath p (stateOf (roundOf previous next sizes) first coefficients order marks s) (budget - left) × (left ≤ budget) × SixteenEach order marks
+    × SoFar g first₀ table before (budget - left) at × (trail ≡ cond writes (front (trailOf p (take (budget - left) (path p .visited))) trail₀) trail₀)
+    × (length trail ≡ length trail₀)
+
+abbrev μ-loop : tie.MeasureT-loop
+μ-loop g binomials table previous next sizes first₀ order₀ trail₀ writes budget coefficients₀ marks₀ s₀ tails before₀ at₀ left₀ first order trail coefficients marks s before at left = left
+
+begin-requires : tie.Need-begin-requires Inv-loop μ-loop
+begin-requires c κs = indices-few (c .before .before .before .args .g) (c .before .before .before .pre .0 .readable .made)
+
+tails-requires : tie.Need-tails-requires Inv-loop μ-loop
+tails-requires c κs = indices-few (c .before .before .before .before .before .args .g) (c .before .before .before .before .before .pre .0 .readable .made)
+
+loop-holds : tie.Need-loop-holds Inv-loop μ-loop
+loop-holds c =
+    let a = c .before .before .before .before .before .before .args in
+    let w = c .before .before .before .before .before .before .pre .0 in
+    let z : a .budget - a .budget ≡ 0 = omega arith in (
+      rw z (begins (a .g) (w .readable .made) (a .first .now) (a .table .now) (w .accepted) (w .isRound) (w .firstLength) (a .order .now) (c .before .before .begin .result) (c .before .before .begin .ensures)),
+      omega arith,
+      record { inOrder = w .orderLength; inMarks = refl },
+      rw z (so-far-none (a .g) (a .first .now) (a .table .now) (w .accepted) _ (omega arith)),
+      rw z (trail-none (a .g) (a .first .now) (a .table .now) (w .accepted) (a .writes) (a .trail .now)),
+      refl,
+    )
+
+visit-requires : tie.Need-visit-requires Inv-loop μ-loop
+visit-requires c κs =
+    let a = c .before .before .before .before .before .before .before .before .before .before .before .before .before .before .args in
+    let w = c .before .before .before .before .before .before .before .before .before .before .before .before .before .before .pre .0 in
+    let l = c .before .before .before .before .before .before .before .loop in
+    let start = a .first .now in
+    let table = a .table .now in
+    let round = roundOf (a .previous .now) (a .next .now) (a .sizes .now) in
+    let place = stateOf round (l .first) (l .coefficients) (l .order) (l .marks) (l .s) in
+    let k = a .budget - l .left in (
+      (w .readable, l .inv .2),
+      (
+        visits (a .g) (w .readable .made) start table (w .accepted) place k (l .inv .0) (w .below) (c .before .before .before .before .before .before .before .before .tails .result) (c .before .before .before .before .before .before .before .before .tails .ensures),
+        record {
+          come = λ known. come-low (a .g) start table (w .accepted) place k (l .inv .0) known;
+          gone = l .inv .3 .low;
+          room = λ known e. omega (arith, next-short (a .g) start table (w .accepted) place k (l .inv .0) known (l .before) (l .at) (l .inv .3), c .before .before .before .before .before .before .before .before .before .before .before .before .before .before .pre .1 e, l .inv .5);
+        },
+      ),
+    )
+
+sub-left : tie.Need-sub-left Inv-loop μ-loop
+sub-left c = omega arith
+
+enum-known-seen : tie.Need-enum-known-seen Inv-loop μ-loop
+enum-known-seen c = search needs
+
+add-at : tie.Need-add-at Inv-loop μ-loop
+add-at c =
+    let a = c .before .before .before .before .before .before .before .before .before .before .before .before .before .before .before .before .before .before .before .before .before .args in
+    let w = c .before .before .before .before .before .before .before .before .before .before .before .before .before .before .before .before .before .before .before .before .before .pre .0 in
+    let l = c .before .before .before .before .before .before .before .before .before .before .before .before .before .before .loop in
+    let start = a .first .now in
+    let table = a .table .now in
+    let round = roundOf (a .previous .now) (a .next .now) (a .sizes .now) in
+    let place = stateOf round (l .first) (l .coefficients) (l .order) (l .marks) (l .s) in
+    let k = a .budget - l .left in
+    let G = rw (c .before .before .seen .given .1) at (c .before .before .before .before .before .before .visit .ensures .0) in
+    let Y = c .before .before .before .before .before .before .visit .ensures .1 in
+    omega (arith, Y .long (G .0), next-short (a .g) start table (w .accepted) place k (l .inv .0) (G .0) (l .before) (l .at) (l .inv .3), whole-fits (a .g) start table (w .accepted))
+
+loop-less : tie.Need-loop-less Inv-loop μ-loop
+loop-less c = omega arith
+
+loop-again : tie.Need-loop-again Inv-loop μ-loop
+loop-again c =
+    let a = c .before .before .before .before .before .before .before .before .before .before .before .before .before .before .before .before .before .before .before .before .before .args in
+    let w = c .before .before .before .before .before .before .before .before .before .before .before .before .before .before .before .before .before .before .before .before .before .pre .0 in
+    let l = c .before .before .before .before .before .before .before .before .before .before .before .before .before .before .loop in
+    let start = a .first .now in
+    let table = a .table .now in
+    let round = roundOf (a .previous .now) (a .next .now) (a .sizes .now) in
+    let place = stateOf round (l .first) (l .coefficients) (l .order) (l .marks) (l .s) in
+    let k = a .budget - l .left in
+    let G = rw (c .before .before .seen .given .1) at (c .before .before .before .before .before .before .visit .ensures .0) in
+    let Y = c .before .before .before .before .before .before .visit .ensures .1 in
+    let test = c .before .before .before .before .before .before .before .before .before .before .before .before .before .loop-test .taken in
+    let e : a .budget - (l .left - 1) ≡ suc k = omega (arith, l .inv .1, test) in
+    let next = goes-on (a .g) (w .readable .made) start table (w .accepted) place k (l .inv .0) (G .0) (leads (a .g) (w .readable .made) start table (w .accepted) place k (l .inv .0) (G .0) _ (G .1 .after)) in
+    let can = visits (a .g) (w .readable .made) start table (w .accepted) place k (l .inv .0) (w .below) (c .before .before .before .before .before .before .before .before .before .before .before .before .before .before .before .tails .result) (c .before .before .before .before .before .before .before .before .before .before .before .before .before .before .before .tails .ensures) in (
+      rw e next,
+      omega (arith, l .inv .1),
+      G .1 .each,
+      rw e (next-so-far (a .g) start table (w .accepted) place k (l .inv .0) (G .0) (l .before) (l .at) (l .inv .3) (can .ready (G .0)) _ (sym (G .1 .after)) next _ _ (Y .gone (G .0)) (Y .long (G .0))),
+      rw e (Y .written (G .0) ∙ next-trail (a .g) start table (w .accepted) place k (l .inv .0) (G .0) (l .before) (l .at) (l .inv .3) (a .writes) (a .trail .now) (l .trail) (c .before .before .before .before .before .before .before .before .before .before .before .before .before .before .before .before .before .before .before .before .before .pre .1) (l .inv .4)),
+      omega (arith, l .inv .5),
+    )
+
+enum-known-seen-2 : tie.Need-enum-known-seen-2 Inv-loop μ-loop
+enum-known-seen-2 c = search needs
+
+sub-t36 : tie.Need-sub-t36 Inv-loop μ-loop
+sub-t36 c = omega (arith, c .before .before .before .before .before .before .before .before .before .before .before .before .before .loop .inv .1)
+
+sub-t37 : tie.Need-sub-t37 Inv-loop μ-loop
+sub-t37 c = omega (arith, c .before .before .before .before .before .before .before .before .before .before .before .before .before .loop .inv .1, c .before .before .before .before .before .before .before .before .before .before .before .before .loop-test .taken)
+
+same-length : tie.Need-same-length Inv-loop μ-loop
+same-length c = omega (arith, c .before .before .before .before .before .before .before .before .before .before .before .before .before .loop .inv .5)
+
+returns : tie.Need-returns Inv-loop μ-loop
+returns c =
+    let a = c .before .before .before .before .before .before .before .before .before .before .before .before .before .before .before .before .before .before .before .before .args in
+    let w = c .before .before .before .before .before .before .before .before .before .before .before .before .before .before .before .before .before .before .before .before .pre .0 in
+    let l = c .before .before .before .before .before .before .before .before .before .before .before .before .before .loop in
+    let start = a .first .now in
+    let table = a .table .now in
+    let round = roundOf (a .previous .now) (a .next .now) (a .sizes .now) in
+    let place = stateOf round (l .first) (l .coefficients) (l .order) (l .marks) (l .s) in
+    let k = a .budget - l .left in
+    let G = rw (c .before .seen2 .given .1) at (c .before .before .before .before .before .visit .ensures .0) in
+    let Y = c .before .before .before .before .before .visit .ensures .1 in
+    let test = c .before .before .before .before .before .before .before .before .before .before .before .before .loop-test .taken in
+    let e : a .budget - (l .left - 1) - 1 ≡ k = omega (arith, l .inv .1, test) in (
+      rw e (asked (a .g) (w .readable .made) start table (w .accepted) place k (l .inv .0) G (a .budget) (omega (arith, l .inv .1, test))),
+      λ f. Y .kept f ∙ l .inv .4 ∙ (rw f),
+    )
+
+enum-known-seen-3 : tie.Need-enum-known-seen-3 Inv-loop μ-loop
+enum-known-seen-3 c = search needs
+
+enum-known-seen-4 : tie.Need-enum-known-seen-4 Inv-loop μ-loop
+enum-known-seen-4 c = search needs
+
+sub-t40 : tie.Need-sub-t40 Inv-loop μ-loop
+sub-t40 c = omega (arith, c .before .before .before .before .before .before .before .before .before .before .before .before .before .loop .inv .1)
+
+add-t42 : tie.Need-add-t42 Inv-loop μ-loop
+add-t42 c =
+    let a = c .before .before .before .before .before .before .before .before .before .before .before .before .before .before .before .before .before .before .before .before .before .args in
+    let w = c .before .before .before .before .before .before .before .before .before .before .before .before .before .before .before .before .before .before .before .before .before .pre .0 in
+    let l = c .before .before .before .before .before .before .before .before .before .before .before .before .before .before .loop in
+    let start = a .first .now in
+    let table = a .table .now in
+    let round = roundOf (a .previous .now) (a .next .now) (a .sizes .now) in
+    let place = stateOf round (l .first) (l .coefficients) (l .order) (l .marks) (l .s) in
+    let k = a .budget - l .left in
+    let G = rw (c .before .before .seen3 .given .1) at (c .before .before .before .before .before .before .visit .ensures .0) in
+    let Y = c .before .before .before .before .before .before .visit .ensures .1 in
+    omega (arith, Y .long (G .0), next-short (a .g) start table (w .accepted) place k (l .inv .0) (G .0) (l .before) (l .at) (l .inv .3), whole-fits (a .g) start table (w .accepted))
+
+same-length-2 : tie.Need-same-length-2 Inv-loop μ-loop
+same-length-2 c = omega (arith, c .before .before .before .before .before .before .before .before .before .before .before .before .before .before .loop .inv .5)
+
+returns-2 : tie.Need-returns-2 Inv-loop μ-loop
+returns-2 c =
+    let a = c .before .before .before .before .before .before .before .before .before .before .before .before .before .before .before .before .before .before .before .before .before .args in
+    let w = c .before .before .before .before .before .before .before .before .before .before .before .before .before .before .before .before .before .before .before .before .before .pre .0 in
+    let l = c .before .before .before .before .before .before .before .before .before .before .before .before .before .before .loop in
+    let start = a .first .now in
+    let table = a .table .now in
+    let round = roundOf (a .previous .now) (a .next .now) (a .sizes .now) in
+    let place = stateOf round (l .first) (l .coefficients) (l .order) (l .marks) (l .s) in
+    let k = a .budget - l .left in
+    let G = rw (c .before .before .seen3 .given .1) at (c .before .before .before .before .before .before .visit .ensures .0) in
+    let Y = c .before .before .before .before .before .before .visit .ensures .1 in
+    let test = c .before .before .before .before .before .before .before .before .before .before .before .before .before .loop-test .taken in
+    let e : a .budget - (l .left - 1) ≡ suc k = omega (arith, l .inv .1, test) in
+    let N = announced-place (a .g) (w .readable .made) start table (w .accepted) place k (l .inv .0) (G .0) (a .budget) round (c .before .before .before .before .before .before .visit .last .1 .1 .1 .1 .1 .1 .1 .0) (c .before .before .before .before .before .before .visit .last .1 .1 .1 .1 .1 .1 .1 .1 .0) (c .before .before .before .before .before .before .visit .last .1 .1 .1 .1 .1 .1 .1 .1 .1 .0) (c .before .before .before .before .before .before .visit .last .1 .1 .1 .1 .1 .1 .1 .1 .1 .1 .0) (l .s) (c .before .before .seen3 .given .0 .0) _ e (omega (arith, l .inv .1, test))
+    (leads (a .g) (w .readable .made) start table (w .accepted) place k (l .inv .0) (G .0) _ (G .1 .after)) in
+    let whole = whole-at (a .g) start table (w .accepted) k (sym e ∙ ended-whole (problemIn (a .g) start table) (a .budget) (N .is)) in (
+      (N, G .1 .each .inOrder),
+      (
+        ap (λ (n : ℕ). l .at + n) (Y .long (G .0)) ∙ next-long (a .g) start table (w .accepted) place k (l .inv .0) (G .0) (l .before) (l .at) (l .inv .3) ∙ ap length whole,
+        Y .written (G .0) ∙ next-trail (a .g) start table (w .accepted) place k (l .inv .0) (G .0) (l .before) (l .at) (l .inv .3) (a .writes) (a .trail .now) (l .trail) (c .before .before .before .before .before .before .before .before .before .before .before .before .before .before .before .before .before .before .before .before .before .pre .1) (l .inv .4)
+            ∙ ap (λ (x : List ℕ). cond (a .writes) (front x (a .trail .now)) (a .trail .now)) whole,
+      ),
+    )
+
+sub-t44 : tie.Need-sub-t44 Inv-loop μ-loop
+sub-t44 c = omega (arith, c .before .before .before .before .before .before .before .before .before .before .before .before .before .loop .inv .1)
+
+add-t46 : tie.Need-add-t46 Inv-loop μ-loop
+add-t46 c =
+    let a = c .before .before .before .before .before .before .before .before .before .before .before .before .before .before .before .before .before .before .before .before .before .args in
+    let w = c .before .before .before .before .before .before .before .before .before .before .before .before .before .before .before .before .before .before .before .before .before .pre .0 in
+    let l = c .before .before .before .before .before .before .before .before .before .before .before .before .before .before .loop in
+    let start = a .first .now in
+    let table = a .table .now in
+    let round = roundOf (a .previous .now) (a .next .now) (a .sizes .now) in
+    let place = stateOf round (l .first) (l .coefficients) (l .order) (l .marks) (l .s) in
+    let k = a .budget - l .left in
+    let G = rw (c .before .before .seen4 .given .1) at (c .before .before .before .before .before .before .visit .ensures .0) in
+    let Y = c .before .before .before .before .before .before .visit .ensures .1 in
+    omega (arith, Y .long (G .0), next-short (a .g) start table (w .accepted) place k (l .inv .0) (G .0) (l .before) (l .at) (l .inv .3), whole-fits (a .g) start table (w .accepted))
+
+same-length-3 : tie.Need-same-length-3 Inv-loop μ-loop
+same-length-3 c = omega (arith, c .before .before .before .before .before .before .before .before .before .before .before .before .before .before .loop .inv .5)
+
+returns-3 : tie.Need-returns-3 Inv-loop μ-loop
+returns-3 c =
+    let a = c .before .before .before .before .before .before .before .before .before .before .before .before .before .before .before .before .before .before .before .before .before .args in
+    let w = c .before .before .before .before .before .before .before .before .before .before .before .before .before .before .before .before .before .before .before .before .before .pre .0 in
+    let l = c .before .before .before .before .before .before .before .before .before .before .before .before .before .before .loop in
+    let start = a .first .now in
+    let table = a .table .now in
+    let round = roundOf (a .previous .now) (a .next .now) (a .sizes .now) in
+    let place = stateOf round (l .first) (l .coefficients) (l .order) (l .marks) (l .s) in
+    let k = a .budget - l .left in
+    let G = rw (c .before .before .seen4 .given .1) at (c .before .before .before .before .before .before .visit .ensures .0) in
+    let Y = c .before .before .before .before .before .before .visit .ensures .1 in
+    let test = c .before .before .before .before .before .before .before .before .before .before .before .before .before .loop-test .taken in
+    let e : a .budget - (l .left - 1) ≡ suc k = omega (arith, l .inv .1, test) in
+    let N = announced-facet (a .g) (w .readable .made) start table (w .accepted) place k (l .inv .0) (G .0) (a .budget) round (c .before .before .before .before .before .before .visit .last .1 .1 .1 .1 .1 .1 .1 .0) (c .before .before .before .before .before .before .visit .last .1 .1 .1 .1 .1 .1 .1 .1 .0) (c .before .before .before .before .before .before .visit .last .1 .1 .1 .1 .1 .1 .1 .1 .1 .0) (c .before .before .before .before .before .before .visit .last .1 .1 .1 .1 .1 .1 .1 .1 .1 .1 .0) (l .s) (c .before .before .seen4 .given .0 .0) _ e (omega (arith, l .inv .1, test))
+    (leads (a .g) (w .readable .made) start table (w .accepted) place k (l .inv .0) (G .0) _ (G .1 .after)) in
+    let whole = whole-at (a .g) start table (w .accepted) k (sym e ∙ ended-whole (problemIn (a .g) start table) (a .budget) (N .is)) in (
+      (N, G .1 .each .inOrder),
+      (
+        ap (λ (n : ℕ). l .at + n) (Y .long (G .0)) ∙ next-long (a .g) start table (w .accepted) place k (l .inv .0) (G .0) (l .before) (l .at) (l .inv .3) ∙ ap length whole,
+        Y .written (G .0) ∙ next-trail (a .g) start table (w .accepted) place k (l .inv .0) (G .0) (l .before) (l .at) (l .inv .3) (a .writes) (a .trail .now) (l .trail) (c .before .before .before .before .before .before .before .before .before .before .before .before .before .before .before .before .before .before .before .before .before .pre .1) (l .inv .4)
+            ∙ ap (λ (x : List ℕ). cond (a .writes) (front x (a .trail .now)) (a .trail .now)) whole,
+      ),
+    )
+
+same-length-4 : tie.Need-same-length-4 Inv-loop μ-loop
+same-length-4 c = omega (arith, c .before .loop .inv .5)
+
+returns-4 : tie.Need-returns-4 Inv-loop μ-loop
+returns-4 c =
+    let a = c .before .before .before .before .before .before .before .before .args in
+    let w = c .before .before .before .before .before .before .before .before .pre .0 in
+    let l = c .before .loop in (
+      spends (a .g) (w .readable .made) (a .first .now) (a .table .now) (w .accepted) _ (a .budget - l .left) (l .inv .0) (a .budget) (omega arith),
+      λ f. l .inv .4 ∙ (rw f),
+    )
+
+pub follow-spec : {M : Type 1} → statement M
+follow-spec =
+    tie.close
+    (tie.spec
+    Inv-loop
+    μ-loop
+    begin-requires
+    tails-requires
+    loop-holds
+    visit-requires
+    sub-left
+    enum-known-seen
+    add-at
+    loop-less
+    loop-again
+    enum-known-seen-2
+    sub-t36
+    sub-t37
+    same-length
+    returns
+    enum-known-seen-3
+    sub-t40
+    add-t42
+    same-length-2
+    returns-2
+    enum-known-seen-4
+    sub-t44
+    add-t46
+    same-length-3
+    returns-3
+    same-length-4
+    returns-4)
