@@ -1,0 +1,3 @@
+pub mod Writing
+pub mod Again
+pub mod Claims

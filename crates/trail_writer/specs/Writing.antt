@@ -1,0 +1,50 @@
+-- Request 03: what a run that writes a trail answers, and what it leaves in the answer buffer and in the trail buffer, on every input. Assumes nothing.
+use mathlib.Core.Bool.{Bool, true, false, cond}
+use mathlib.Core.List.{List, [], _∷_}
+use Prim.Native.Nat.{ℕ}
+use lib.Dec.{eqb, leb}
+use lib.ListN.{length}
+use Rattle.combinatorics.specs.Front.{front}
+use Rattle.finder.specs.Run.{kindOf, numbersOf, refusal}
+use Rattle.place.specs.Path.{Answer as PathAnswer, answer, ended, path, spent, unknown}
+use Rattle.place.specs.Problem.{Problem}
+use Rattle.questions.specs.Questions.{Question, ask, firstNo}
+use Rattle.trail.specs.Record.{trailOf}
+use Rattle.trail_writer.specs.declared.answers.Answer.{Answer}
+use Rattle.trail_writer.specs.declared.answers.Answer.the-variants.{Refused, Spent, Unknown, End}
+
+-- "A run can write a trail": that of the whole path
+abbrev pub wholeTrail : Problem → List ℕ
+wholeTrail p = trailOf p (path p .visited)
+
+-- "17 when the trail buffer is shorter than the whole trail": is it as long at least?
+abbrev pub question17 : Problem → ℕ → Question
+question17 p room = ask 17 (leb (length (wholeTrail p)) room)
+
+-- "asked after the run has ended and before anything is written (that run announces no end ..)": of an accepted table. A run that meets 9 or 16 has
+-- not ended, and is not asked. The end is the run's, with the bytes written.
+abbrev pub trailCase : Problem → ℕ → PathAnswer → Answer
+trailCase p room (spent n) = Spent n
+trailCase p room (unknown n position) = Unknown n position
+trailCase p room (ended n kind block vertices simplex) =
+    let number = firstNo (question17 p room ∷ []) in
+    cond (eqb number 0) (End n (kindOf kind) block vertices (length (wholeTrail p))) (Refused number)
+
+-- questions 1 to 8 come first; the answer buffer has `room` numbers, the trail buffer `trailRoom` bytes
+unfoldable pub trailAnswer : Problem → ℕ → ℕ → ℕ → Answer
+trailAnswer p room trailRoom budget = cond (eqb (refusal p room) 0) (trailCase p trailRoom (answer p budget)) (Refused (refusal p room))
+
+-- "A refusal returns its number and no count, and changes no buffer": only a run that announces an end writes
+abbrev pub announces : Answer → Bool
+announces (Refused number) = false
+announces (Spent n) = false
+announces (Unknown n position) = false
+announces (End n kind block vertices bytes) = true
+
+-- "What a call does write stands at the front of its buffer, old contents behind"
+unfoldable pub answerBuffer : Problem → ℕ → ℕ → List ℕ → List ℕ
+answerBuffer p trailRoom budget old =
+    front (cond (announces (trailAnswer p (length old) trailRoom budget)) (numbersOf (answer p budget)) []) old
+
+unfoldable pub trailBuffer : Problem → ℕ → ℕ → List ℕ → List ℕ
+trailBuffer p room budget old = front (cond (announces (trailAnswer p room (length old) budget)) (wholeTrail p) []) old
