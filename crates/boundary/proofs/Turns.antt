@@ -88,7 +88,8 @@ module _ (g : Grid) (old buffer : List ℕ) (room : length buffer ≡ numPoints 
 
 -- a turn over the points: the k-th, and as many behind it as are labelled alike
 module _ (g : Grid) (firsts old : List ℕ) (l : WithFirsts g firsts) (k : ℕ) (y : Point)
-    (here : y ≡ getD (points g) k []) (more : ℕ) (inside : k + 1 + more ≤ numPoints g) (alike : 0 < more → (0 < lastButOne y) × (more < lastOne y)) where
+    (here : y ≡ getD (points g) k []) (more : ℕ) (inside : k + 1 + more ≤ numPoints g)
+    (alike : 0 < more → (0 < lastButOne y) × (more < lastOne y)) where
   a-turn : Accepted g
   a-turn = accepted g (l .accepted)
 

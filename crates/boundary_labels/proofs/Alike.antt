@@ -60,7 +60,8 @@ module _ (g : Grid) (y : Point) (long : 2 ≤ length y) (positive : 0 < lastButO
 
   -- the label of the shifted point, whose old byte is given
   shifted-label : (old : ℕ)
-      → cond (isInterior (shifted y i)) old (boundaryLabel g (shifted y i)) ≡ cond (isInterior y) old (boundaryLabel g y)
+      → cond (isInterior (shifted y i)) old (boundaryLabel g (shifted y i))
+      ≡ cond (isInterior y) old (boundaryLabel g y)
   shifted-label old =
       let e : isInterior (shifted y i) ≡ isInterior y =
       sym (interior-alike (shifted y 0) (shifted y i) same-length alike) ∙ ap isInterior (shifted-none y long) in
