@@ -65,8 +65,9 @@ def listed(values):
     return data + word(0) + word(0)
 
 
-def row(name, values):
-    return " ".join([name, *map(str, values)]) + "\n"
+def filled(written, room):
+    """A buffer that was lent full of 65535."""
+    return written + [65535] * (room - len(written))
 
 
 def runs(name, values):
@@ -93,7 +94,7 @@ def run_call(fields, expect):
     lines = expect.replace("end place", "kind 0").replace("end facet", "kind 1").replace("answer-after ", "").splitlines()
     numbered = [line for line in lines if line[0] not in "0123456789"]
     written = [int(n) for line in lines if line not in numbered for n in line.split() if n != "."]
-    return data, "".join(line + "\n" for line in numbered) + row("answer", written + [65535] * (room - len(written)))
+    return data, "".join(line + "\n" for line in numbered) + runs("answer", filled(written, room))
 
 
 def label_call(fields, expect):
@@ -132,13 +133,25 @@ def shelf_case(fields, expect):
         data += word(name == "file") + wide(int(sheet))
         if answer.startswith("count "):
             values[int(answer.split()[1]) - 1] = int(sheet)
-        text += answer + "\n" + row("list", values)
+        text += answer + "\n" + runs("list", values)
     assert values == list(numbers(last.removeprefix("list"))), fields["name"]
     return data, text
 
 
 def check_case(fields, expect):
     return on_grid(fields) + listed(numbers(fields["labels"])) + listed(numbers(fields.get("points", ""))), expect
+
+
+def near_case(fields, expect):
+    """The run's answer, and both buffers whole."""
+    lists = (listed(numbers(fields[name].replace("-", ""))) for name in ("sizes", "d", "start", "labels", "w"))
+    rooms = int(fields["answer"]), int(fields["list"])
+    data = b"".join(lists) + word(rooms[0]) + word(rooms[1]) + wide(int(fields["budget"])) + wide(int(fields["distance"]))
+    lines = expect.splitlines()
+    vertices = [int(n) for line in lines if line[0].isdigit() for n in line.split()]
+    positions = [int(n) for line in lines if line.startswith("list") for n in line.split()[1:]]
+    text = "".join(line + "\n" for line in lines if not line[0].isdigit() and not line.startswith("list"))
+    return data, text + runs("answer", filled(vertices, rooms[0])) + runs("list", filled(positions, rooms[1]))
 
 
 def boundary_case(fields, expect):
@@ -161,4 +174,5 @@ write("stored_cases", "slip", [(listed(slip(f)), e) for f, e in called("slip")])
 write("exported_calls", "call", [run_call(*case) for case in called("run") + ends] + [label_call(*case) for case in called("label")])
 write("check_cases", "list", [check_case(*case) for case in called("check")])
 write("boundary_cases", "table", [boundary_case(*case) for case in called("boundary")])
+write("near_cases", "call", [near_case(*case) for case in called("near")])
 write("shelf_cases", "case", [shelf_case(*case) for case in called("shelf")])

@@ -118,19 +118,29 @@ pub fn show(text: &[u8], number: u64) {
     show_text(b"\n");
 }
 
-fn show_word(number: u16) {
+fn show_run(count: usize, number: u64) {
     show_text(b" ");
-    io::print_decimal(STDOUT_FILENO, number as u64);
+    io::print_decimal(STDOUT_FILENO, count as u64);
+    show_text(b"x");
+    io::print_decimal(STDOUT_FILENO, number);
+}
+
+fn from_byte(x: u8) -> u64 {
+    x as u64
+}
+
+fn from_word(x: u16) -> u64 {
+    x as u64
 }
 
 // How many bytes from `at` on equal the one there.
-fn run_length(bytes: &[u8], at: usize) -> usize
-    requires { ⌜ at < length (now bytes) ⌝ }
-    ensures { λ r. ⌜ (1 ≤ r) × (at + r ≤ length (now (bytes .entry))) ⌝ }
+fn run_of_bytes(list: &[u8], at: usize) -> usize
+    requires { ⌜ at < length (now list) ⌝ }
+    ensures { λ r. ⌜ (1 ≤ r) × (at + r ≤ length (now (list .entry))) ⌝ }
 {
     let mut i = at + 1;
-    while i < bytes.len() {
-        if bytes[i] != bytes[at] {
+    while i < list.len() {
+        if list[i] != list[at] {
             return i - at;
         }
         i += 1;
@@ -138,31 +148,39 @@ fn run_length(bytes: &[u8], at: usize) -> usize
     i - at
 }
 
-fn show_run(count: usize, byte: u8) {
-    show_text(b" ");
-    io::print_decimal(STDOUT_FILENO, count as u64);
-    show_text(b"x");
-    io::print_decimal(STDOUT_FILENO, byte as u64);
-}
-
-// A text and a list, on a line.
-pub fn show_words(text: &[u8], list: &[u16]) {
-    show_text(text);
-    let mut i: usize = 0;
-    while i < list.len() {
-        show_word(list[i]);
-        i += 1;
-    }
-    show_text(b"\n");
-}
-
 // A text and a list of bytes as runs of equal ones, on a line: 3x0 stands for three times 0.
 pub fn show_bytes(text: &[u8], list: &[u8]) {
     show_text(text);
     let mut at: usize = 0;
     while at < list.len() {
-        let count = run_length(list, at);
-        show_run(count, list[at]);
+        let count = run_of_bytes(list, at);
+        show_run(count, from_byte(list[at]));
+        at += count;
+    }
+    show_text(b"\n");
+}
+
+fn run_of_words(list: &[u16], at: usize) -> usize
+    requires { ⌜ at < length (now list) ⌝ }
+    ensures { λ r. ⌜ (1 ≤ r) × (at + r ≤ length (now (list .entry))) ⌝ }
+{
+    let mut i = at + 1;
+    while i < list.len() {
+        if list[i] != list[at] {
+            return i - at;
+        }
+        i += 1;
+    }
+    i - at
+}
+
+// The same of numbers of 16 bits.
+pub fn show_words(text: &[u8], list: &[u16]) {
+    show_text(text);
+    let mut at: usize = 0;
+    while at < list.len() {
+        let count = run_of_words(list, at);
+        show_run(count, from_word(list[at]));
         at += count;
     }
     show_text(b"\n");

@@ -1,4 +1,4 @@
--- `case_reader::show_bytes` is safe and ends: each run has a byte. Assumes nothing.
+-- `case_reader::show_bytes` is safe and ends: each run has a number. Assumes nothing.
 use Prim.Native.Nat.{_≤_, _-_}
 use lib.ListN.{length}
 use borrow.Author.Needs.{needs}
@@ -17,11 +17,14 @@ show-text-requires c κs = search needs
 loop-holds : tie.Need-loop-holds Inv-loop μ-loop
 loop-holds c = search needs
 
-run-length-requires : tie.Need-run-length-requires Inv-loop μ-loop
-run-length-requires c κs = search needs
+run-of-bytes-requires : tie.Need-run-of-bytes-requires Inv-loop μ-loop
+run-of-bytes-requires c κs = search needs
 
-shared-slice-read-show-run : tie.Need-shared-slice-read-show-run Inv-loop μ-loop
-shared-slice-read-show-run c = search needs
+shared-slice-read-from-byte : tie.Need-shared-slice-read-from-byte Inv-loop μ-loop
+shared-slice-read-from-byte c = search needs
+
+from-byte-requires : tie.Need-from-byte-requires Inv-loop μ-loop
+from-byte-requires c κs = search needs
 
 show-run-requires : tie.Need-show-run-requires Inv-loop μ-loop
 show-run-requires c κs = search needs
@@ -52,8 +55,9 @@ show-bytes-spec =
     μ-loop
     show-text-requires
     loop-holds
-    run-length-requires
-    shared-slice-read-show-run
+    run-of-bytes-requires
+    shared-slice-read-from-byte
+    from-byte-requires
     show-run-requires
     add-at
     loop-less

@@ -1,4 +1,4 @@
--- `case_reader::show_words` is safe and ends. Assumes nothing.
+-- `case_reader::show_words` is safe and ends: each run has a number. Assumes nothing.
 use Prim.Native.Nat.{_≤_, _-_}
 use lib.ListN.{length}
 use borrow.Author.Needs.{needs}
@@ -6,10 +6,10 @@ use Rattle.case_reader.proofs.show_words.Statement.{statement}
 use Rattle.case_reader.proofs.show_words.Tie as tie
 
 abbrev Inv-loop : tie.InvT-loop
-Inv-loop text list i₀ t4 i = i ≤ length list
+Inv-loop text list at₀ t5 at = at ≤ length list
 
 abbrev μ-loop : tie.MeasureT-loop
-μ-loop text list i₀ t4 i = length list - i
+μ-loop text list at₀ t5 at = length list - at
 
 show-text-requires : tie.Need-show-text-requires Inv-loop μ-loop
 show-text-requires c κs = search needs
@@ -17,17 +17,23 @@ show-text-requires c κs = search needs
 loop-holds : tie.Need-loop-holds Inv-loop μ-loop
 loop-holds c = search needs
 
-mul-show-word : tie.Need-mul-show-word Inv-loop μ-loop
-mul-show-word c = search needs
+run-of-words-requires : tie.Need-run-of-words-requires Inv-loop μ-loop
+run-of-words-requires c κs = search needs
 
-shared-slice-read-show-word : tie.Need-shared-slice-read-show-word Inv-loop μ-loop
-shared-slice-read-show-word c = search needs
+mul-from-word : tie.Need-mul-from-word Inv-loop μ-loop
+mul-from-word c = search needs
 
-show-word-requires : tie.Need-show-word-requires Inv-loop μ-loop
-show-word-requires c κs = search needs
+shared-slice-read-from-word : tie.Need-shared-slice-read-from-word Inv-loop μ-loop
+shared-slice-read-from-word c = search needs
 
-add-i : tie.Need-add-i Inv-loop μ-loop
-add-i c = search needs
+from-word-requires : tie.Need-from-word-requires Inv-loop μ-loop
+from-word-requires c κs = search needs
+
+show-run-requires : tie.Need-show-run-requires Inv-loop μ-loop
+show-run-requires c κs = search needs
+
+add-at : tie.Need-add-at Inv-loop μ-loop
+add-at c = search needs
 
 loop-less : tie.Need-loop-less Inv-loop μ-loop
 loop-less c = search needs
@@ -52,10 +58,12 @@ show-words-spec =
     μ-loop
     show-text-requires
     loop-holds
-    mul-show-word
-    shared-slice-read-show-word
-    show-word-requires
-    add-i
+    run-of-words-requires
+    mul-from-word
+    shared-slice-read-from-word
+    from-word-requires
+    show-run-requires
+    add-at
     loop-less
     loop-again
     slice-aggregate-show-text

@@ -1,15 +1,15 @@
--- `case_reader::run_length` meets its contract. Assumes nothing.
+-- `case_reader::run_of_bytes` meets its contract. Assumes nothing.
 use Prim.Native.Nat.{_≤_, _-_, _<_}
 use lib.ListN.{length}
 use borrow.Author.Needs.{needs}
-use Rattle.case_reader.proofs.run_length.Statement.{statement}
-use Rattle.case_reader.proofs.run_length.Tie as tie
+use Rattle.case_reader.proofs.run_of_bytes.Statement.{statement}
+use Rattle.case_reader.proofs.run_of_bytes.Tie as tie
 
 abbrev Inv-loop : tie.InvT-loop
-Inv-loop bytes at i₀ i = (at < i) × (i ≤ length bytes)
+Inv-loop list at i₀ i = (at < i) × (i ≤ length list)
 
 abbrev μ-loop : tie.MeasureT-loop
-μ-loop bytes at i₀ i = length bytes - i
+μ-loop list at i₀ i = length list - i
 
 add-i : tie.Need-add-i Inv-loop μ-loop
 add-i c = search needs
@@ -44,8 +44,8 @@ sub-result-2 c = search needs
 returns-2 : tie.Need-returns-2 Inv-loop μ-loop
 returns-2 c = search needs
 
-pub run-length-spec : {M : Type 1} → statement M
-run-length-spec =
+pub run-of-bytes-spec : {M : Type 1} → statement M
+run-of-bytes-spec =
     tie.close
     (tie.spec
     Inv-loop
