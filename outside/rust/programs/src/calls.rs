@@ -1,5 +1,6 @@
 //! The calls, and a call as text in the form of the stored cases.
 
+use crate::near::NearCall;
 use reference::games::GAMES;
 use std::fmt::{Display, Formatter, Result};
 
@@ -63,6 +64,7 @@ pub enum Call {
     Shelf(ShelfCalls),
     Check(CheckCall),
     Boundary(BoundaryCall),
+    Near(NearCall),
 }
 
 /// A slip's fields; those that are none are left out of the slip.
@@ -148,6 +150,7 @@ impl Display for Call {
                 writeln!(to, "start {}\nlabels {}", spaced(&run.start), spaced(&run.labels))?;
                 write!(to, "budget {}\nanswer {}\nslip {}", run.budget, run.answer, hex(&run.slip()))
             }
+            Call::Near(near) => near.fmt(to),
             Call::Check(check) => {
                 writeln!(to, "call check\nsizes {}\nd {}", spaced(&check.sizes), spaced(&check.divisions))?;
                 write!(to, "labels {}\npoints {}", spaced(&check.labels), spaced(&check.points))

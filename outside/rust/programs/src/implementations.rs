@@ -2,8 +2,9 @@
 
 use crate::calls::{BoundaryCall, CheckCall, LabelCall, RunCall, ShelfCall, ShelfCalls};
 use reference::grid::Grid;
-use reference::slip::{self, ByDefinitions, ByPaper, Slip, SHEET_BYTES};
-use reference::{boundary, check, games, paper, questions, shelf, small, Outcome, Verdict};
+use reference::slip::{self, ByDefinitions, ByPaper, SHEET_BYTES, Slip};
+use reference::{boundary, check, games, nearest, paper, questions, shelf, small, Near, Outcome, Verdict};
+use crate::near::NearCall;
 
 pub type Sheet = [u8; SHEET_BYTES];
 
@@ -22,6 +23,7 @@ pub trait Implementation {
 
     /// The count of labels written, or the refusal's number.
     fn boundary(&self, call: &BoundaryCall, labels: &mut [u8]) -> Result<usize, u64>;
+    fn near(&self, call: &NearCall, answer: &mut [u16], list: &mut [u16]) -> Near;
 
     /// Whether a list of points on this grid can be checked in reasonable time.
     fn fits_check(&self, grid: &Grid) -> bool {
@@ -92,6 +94,10 @@ impl Implementation for Paper {
         boundary::write(&call.sizes, &call.divisions, &call.labels, labels)
     }
 
+    fn near(&self, call: &NearCall, answer: &mut [u16], list: &mut [u16]) -> Near {
+        call.by(nearest::by_paper, answer, list)
+    }
+
     fn sheet(&self, slip: &[u8], sheet: &mut Sheet) -> usize {
         slip::sheet::<ByPaper>(slip, sheet)
     }
@@ -135,6 +141,10 @@ impl Implementation for Definitions {
 
     fn boundary(&self, call: &BoundaryCall, labels: &mut [u8]) -> Result<usize, u64> {
         boundary::by_rule(&call.sizes, &call.divisions, &call.labels, labels)
+    }
+
+    fn near(&self, call: &NearCall, answer: &mut [u16], list: &mut [u16]) -> Near {
+        call.by(nearest::by_definitions, answer, list)
     }
 
     fn fits_check(&self, grid: &Grid) -> bool {

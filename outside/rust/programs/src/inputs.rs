@@ -120,7 +120,7 @@ pub fn random_labels(random: &mut Random, grid: &Grid) -> Vec<u8> {
 }
 
 /// Takes some of the labels away: one, or each with the same chance.
-fn with_gaps(random: &mut Random, labels: &mut [u8]) {
+pub fn with_gaps(random: &mut Random, labels: &mut [u8]) {
     if random.chance(2) {
         let at = random.below(labels.len());
         labels[at] = 0;
@@ -207,7 +207,7 @@ pub fn faulty_runs(seed: u64, count: usize, take: Take) {
     }
 }
 
-fn spoil(random: &mut Random, run: &mut RunCall) {
+pub fn spoil(random: &mut Random, run: &mut RunCall) {
     let any = |random: &mut Random, length: usize| random.below(length.max(1));
     let m = run.start.len() as u8;
     let (size, division) = (any(random, run.sizes.len()), any(random, run.divisions.len()));

@@ -4,6 +4,7 @@ pub mod boundary_inputs;
 pub mod calls;
 pub mod implementations;
 pub mod inputs;
+pub mod near;
 #[cfg(feature = "proved")]
 pub mod proved;
 pub mod random;
@@ -11,3 +12,4 @@ pub mod stored;
 
 pub use calls::{BoundaryCall, Call, CheckCall, LabelCall, RunCall, ShelfCall, ShelfCalls};
 pub use implementations::{all, Implementation};
+pub use near::NearCall;

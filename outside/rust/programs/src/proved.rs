@@ -2,8 +2,9 @@
 
 use crate::calls::{BoundaryCall, CheckCall, LabelCall, RunCall};
 use crate::implementations::{Implementation, Sheet};
+use crate::near::NearCall;
 use reference::grid::Grid;
-use reference::{End, Kind, Outcome, Verdict};
+use reference::{End, Kind, Near, Outcome, Verdict};
 
 #[rustfmt::skip]
 extern "C" {
@@ -17,6 +18,21 @@ extern "C" {
         answer: *mut u16, answer_length: usize,
         budget: u64,
         facts: *mut [u64; FACTS],
+    ) -> u8;
+
+    /// A run's number and facts, and at an end the nearest position and the number of positions listed.
+    fn leveretplate_nearest(
+        sizes: *const u8, sizes_length: usize,
+        divisions: *const u16, divisions_length: usize,
+        start: *const u16, start_length: usize,
+        labels: *const u8, labels_length: usize,
+        answer: *mut u16, answer_length: usize,
+        budget: u64,
+        w: *const u16, w_length: usize,
+        distance: u64,
+        list: *mut u16, list_length: usize,
+        facts: *mut [u64; FACTS],
+        near: *mut [u64; 2],
     ) -> u8;
 
     /// 0 and the count of labels, or the refusal's number.
@@ -69,6 +85,27 @@ fn answered(number: u8, value: u64) -> Result<usize, u64> {
     Err(number.into())
 }
 
+/// What a run's number and facts say.
+fn outcome(number: u8, facts: [u64; FACTS]) -> Outcome {
+    let [places, kind, block, vertices] = facts;
+    let written = match number {
+        0 => FACTS,
+        9 => 1,
+        16 => 2,
+        _ => 0,
+    };
+    assert!(facts[written..].iter().all(|&fact| fact == OLD), "a fact is changed that number {number} leaves");
+    match number {
+        0 => {
+            let kind = if kind == 0 { Kind::Place } else { Kind::Facet };
+            Outcome::Ended(End { places, kind, block: block as usize, vertices: vertices as usize })
+        }
+        9 => Outcome::Spent(places),
+        16 => Outcome::Unknown { places, position: kind as usize },
+        number => Outcome::Refused(number.into()),
+    }
+}
+
 pub struct Proved;
 
 impl Implementation for Proved {
@@ -95,23 +132,33 @@ impl Implementation for Proved {
                 &mut facts,
             )
         };
-        let [places, kind, block, vertices] = facts;
-        let written = match number {
-            0 => FACTS,
-            9 => 1,
-            16 => 2,
-            _ => 0,
+        outcome(number, facts)
+    }
+
+    fn near(&self, call: &NearCall, answer: &mut [u16], list: &mut [u16]) -> Near {
+        let (mut facts, mut near) = ([OLD; FACTS], [OLD; 2]);
+        let run = &call.run;
+        // Safety: each pointer comes with the length of its slice, and only the answer, the list, the facts and the two numbers are
+        // written to.
+        #[rustfmt::skip]
+        let number = unsafe {
+            leveretplate_nearest(
+                run.sizes.as_ptr(), run.sizes.len(),
+                run.divisions.as_ptr(), run.divisions.len(),
+                run.start.as_ptr(), run.start.len(),
+                run.labels.as_ptr(), run.labels.len(),
+                answer.as_mut_ptr(), answer.len(),
+                run.budget,
+                call.w.as_ptr(), call.w.len(),
+                call.distance,
+                list.as_mut_ptr(), list.len(),
+                &mut facts,
+                &mut near,
+            )
         };
-        assert!(facts[written..].iter().all(|&fact| fact == OLD), "a fact is changed that number {number} leaves");
-        match number {
-            0 => {
-                let kind = if kind == 0 { Kind::Place } else { Kind::Facet };
-                Outcome::Ended(End { places, kind, block: block as usize, vertices: vertices as usize })
-            }
-            9 => Outcome::Spent(places),
-            16 => Outcome::Unknown { places, position: kind as usize },
-            number => Outcome::Refused(number.into()),
-        }
+        assert!(number == 0 || near == [OLD; 2], "a refusal reports a vertex");
+        let nearest = (number == 0).then_some((near[0] as usize, near[1] as usize));
+        Near { run: outcome(number, facts), nearest }
     }
 
     fn label(&self, call: &LabelCall, labels: &mut [u8]) -> Result<usize, u64> {

@@ -1,6 +1,7 @@
 //! The stored cases, each from a `call` line to the next: lines of a word and its values, then `expect` and the lines expected.
 
 use crate::calls::{spaced, BoundaryCall, Call, CheckCall, Fields, LabelCall, RunCall, ShelfCall, ShelfCalls};
+use crate::near::NearCall;
 use std::collections::HashMap;
 
 pub struct Case {
@@ -32,9 +33,14 @@ fn read_case(lines: &[&str]) -> Case {
     let given = |word: &str| values.get(word).is_some_and(|&value| value != "-");
     let (sizes, divisions) = (bytes("sizes"), pairs("d"));
     let call = match values["call"] {
-        "run" => {
+        word @ ("run" | "near") => {
             let (budget, answer) = (list("budget")[0], list("answer")[0] as usize);
-            Call::Run(RunCall { sizes, divisions, start: pairs("start"), labels: bytes("labels"), budget, answer })
+            let run = RunCall { sizes, divisions, start: pairs("start"), labels: bytes("labels"), budget, answer };
+            if word == "run" {
+                Call::Run(run)
+            } else {
+                Call::Near(NearCall { run, w: pairs("w"), distance: list("distance")[0], list: list("list")[0] as usize })
+            }
         }
         "label" if given("game") => {
             Call::Label(LabelCall::of_game(list("game")[0] as usize, &divisions, list("buffer")[0] as usize))

@@ -7,6 +7,7 @@ pub mod boundary;
 pub mod check;
 pub mod games;
 pub mod grid;
+pub mod nearest;
 pub mod outcome;
 pub mod paper;
 pub mod questions;
@@ -16,4 +17,5 @@ pub mod small;
 
 pub use check::Verdict;
 pub use grid::Grid;
+pub use nearest::Near;
 pub use outcome::{End, Kind, Outcome};

@@ -412,6 +412,18 @@ pub fn run(sizes: &[u8], divisions: &[u16], start: &[u16], labels: &[u8], answer
 
 /// Follows the path on an accepted table.
 pub fn follow(grid: &Grid, start: &[u16], labels: &[u8], answer: &mut [u16], budget: u64) -> Outcome {
+    follow_past(grid, start, labels, answer, budget, |_| ())
+}
+
+/// The same, with the position of each point that comes in.
+pub fn follow_past(
+    grid: &Grid,
+    start: &[u16],
+    labels: &[u8],
+    answer: &mut [u16],
+    budget: u64,
+    mut comes_in: impl FnMut(usize),
+) -> Outcome {
     if budget == 0 {
         return Outcome::Spent(0);
     }
@@ -422,6 +434,7 @@ pub fn follow(grid: &Grid, start: &[u16], labels: &[u8], answer: &mut [u16], bud
     loop {
         // Step 1: the label of the vertex that came in.
         let position = place.positions[incoming & LOW] as usize;
+        comes_in(position);
         let byte = frame.labels[position] as usize;
         if byte == 0 {
             return Outcome::Unknown { places: places - 1, position };

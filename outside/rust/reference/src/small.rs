@@ -158,9 +158,15 @@ impl Problem {
 
     /// Follows the path; panics where document 01's "exactly one link or end" fails.
     pub fn follow(&self, labels: &[u8], budget: u64, answer: &mut [u16]) -> Outcome {
+        self.follow_past(labels, budget, answer, |_| ())
+    }
+
+    /// The same, with each place as the positions of its points.
+    pub fn follow_past(&self, labels: &[u8], budget: u64, answer: &mut [u16], mut passes: impl FnMut(&[usize])) -> Outcome {
         let mut here = vec![self.start];
         let mut come_from: Option<Set> = None;
         for places in 1..=budget {
+            passes(&here);
             if let Some(&position) = here.iter().find(|&&y| labels[y] == 0) {
                 return Outcome::Unknown { places: places - 1, position };
             }

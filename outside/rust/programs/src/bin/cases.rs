@@ -4,7 +4,7 @@
 
 use programs::calls::{spaced, Call};
 use programs::implementations::Sheet;
-use programs::{all, stored, Implementation, ShelfCall};
+use programs::{all, near, stored, Implementation, ShelfCall};
 use reference::grid::Grid;
 use reference::slip::SHEET_BYTES;
 use reference::{Kind, Outcome, Verdict};
@@ -15,6 +15,27 @@ const UNTOUCHED: u16 = u16::MAX;
 
 /// What the label buffer holds before a boundary table is written; it is no label.
 const UNTOUCHED_BYTE: u8 = u8::MAX;
+/// What a run answers and leaves in its buffer.
+fn run_lines(outcome: Outcome, answer: &[u16]) -> Vec<String> {
+    match outcome {
+        Outcome::Refused(number) => vec![format!("refused {number}")],
+        Outcome::Spent(places) => vec!["refused 9".to_string(), format!("places {places}")],
+        Outcome::Unknown { places, position } => {
+            vec!["refused 16".to_string(), format!("places {places}"), format!("position {position}")]
+        }
+        Outcome::Ended(end) => {
+            let kind = if end.kind == Kind::Place { "place" } else { "facet" };
+            let number = |x: &u16| if *x == UNTOUCHED { ".".to_string() } else { x.to_string() };
+            vec![
+                format!("places {}", end.places),
+                format!("end {kind}"),
+                format!("block {}", end.block),
+                format!("vertices {}", end.vertices),
+                format!("answer-after {}", answer.iter().map(number).collect::<Vec<_>>().join(" ")),
+            ]
+        }
+    }
+}
 
 /// What the implementation gives, as the lines of `expect`; none if the grid is too large for it.
 fn given(implementation: &dyn Implementation, call: &Call) -> Option<Vec<String>> {
@@ -29,23 +50,23 @@ fn given(implementation: &dyn Implementation, call: &Call) -> Option<Vec<String>
         Call::Run(run) => {
             let mut answer = vec![UNTOUCHED; run.answer];
             let fits = Grid::new(&run.sizes, &run.divisions).map_or(true, |grid| implementation.fits(&grid));
-            fits.then(|| match implementation.run(run, &mut answer) {
-                Outcome::Refused(number) => vec![format!("refused {number}")],
-                Outcome::Spent(places) => vec!["refused 9".to_string(), format!("places {places}")],
-                Outcome::Unknown { places, position } => {
-                    vec!["refused 16".to_string(), format!("places {places}"), format!("position {position}")]
+            fits.then(|| run_lines(implementation.run(run, &mut answer), &answer))
+        }
+        Call::Near(call) => {
+            let (mut answer, mut list) = (vec![UNTOUCHED; call.run.answer], vec![UNTOUCHED; call.list]);
+            let fits = Grid::new(&call.run.sizes, &call.run.divisions).map_or(true, |grid| implementation.fits(&grid));
+            fits.then(|| {
+                let near = implementation.near(call, &mut answer, &mut list);
+                let (vertices, listed) = near::written(call, &near);
+                let untouched = answer[vertices..].iter().chain(&list[listed..]).all(|&number| number == UNTOUCHED);
+                assert!(untouched, "a buffer is changed behind what is written");
+                let mut lines = run_lines(near.run, &answer);
+                if near.nearest.is_some() {
+                    lines.pop();
+                    lines.extend(answer[..vertices].chunks(call.run.start.len()).map(spaced));
                 }
-                Outcome::Ended(end) => {
-                    let kind = if end.kind == Kind::Place { "place" } else { "facet" };
-                    let number = |x: &u16| if *x == UNTOUCHED { ".".to_string() } else { x.to_string() };
-                    vec![
-                        format!("places {}", end.places),
-                        format!("end {kind}"),
-                        format!("block {}", end.block),
-                        format!("vertices {}", end.vertices),
-                        format!("answer-after {}", answer.iter().map(number).collect::<Vec<_>>().join(" ")),
-                    ]
-                }
+                lines.extend(near::lines(&near, &list));
+                lines
             })
         }
         Call::Shelf(calls) => implementation.has_shelf().then(|| {

@@ -6,10 +6,10 @@ use programs::boundary_inputs;
 use programs::calls::Call;
 use programs::implementations::Sheet;
 use programs::inputs::{self, Take};
-use programs::{all, BoundaryCall, CheckCall, Implementation, LabelCall, RunCall};
+use programs::{all, near, BoundaryCall, CheckCall, Implementation, LabelCall, NearCall, RunCall};
 use reference::grid::Grid;
 use reference::slip::SHEET_BYTES;
-use reference::{Outcome, Verdict};
+use reference::{Near, Outcome, Verdict};
 use std::process::ExitCode;
 use std::time::Instant;
 
@@ -49,6 +49,7 @@ enum Seen {
     Shelf(Vec<(Result<usize, u64>, Vec<u16>)>),
     Check(Verdict),
     Boundary(Result<usize, u64>, Vec<u8>),
+    Near(Near, Vec<u16>, Vec<u16>),
 }
 
 impl Comparison {
@@ -65,6 +66,7 @@ impl Comparison {
                 Call::Shelf(calls) => Ok(Seen::Shelf(implementation.shelf(calls))),
                 Call::Check(check) => Ok(Seen::Check(implementation.check(check))),
                 Call::Boundary(boundary) => self.boundary(implementation.as_ref(), boundary),
+                Call::Near(near) => self.near(implementation.as_ref(), near),
             };
             if call != before {
                 self.differs(&before, implementation.name(), "an input is changed");
@@ -104,6 +106,18 @@ impl Comparison {
             return Err("the answer buffer is changed where it must not be");
         }
         Ok(Seen::Run(outcome, answer))
+    }
+
+    fn near(&mut self, implementation: &dyn Implementation, call: &NearCall) -> Result<Seen, &'static str> {
+        let mut answer: Vec<u16> = (0..call.run.answer).map(pattern).collect();
+        let mut list: Vec<u16> = (0..call.list).map(pattern).collect();
+        let near = implementation.near(call, &mut answer, &mut list);
+        let (vertices, listed) = near::written(call, &near);
+        let changed = |buffer: &[u16], written: usize| (written..buffer.len()).any(|at| buffer[at] != pattern(at));
+        if changed(&answer, vertices) || changed(&list, listed) {
+            return Err("a buffer is changed where it must not be");
+        }
+        Ok(Seen::Near(near, answer, list))
     }
 
     fn label(&mut self, implementation: &dyn Implementation, label: &LabelCall) -> Result<Seen, &'static str> {
@@ -152,16 +166,22 @@ impl Comparison {
 }
 
 impl Tally {
-    fn count(&mut self, seen: &Seen) {
-        match seen {
-            Seen::Run(Outcome::Ended(end), _) => {
+    fn count_run(&mut self, outcome: &Outcome) {
+        match outcome {
+            Outcome::Ended(end) => {
                 self.ends += 1;
                 self.places += end.places;
                 self.longest = self.longest.max(end.places);
             }
-            Seen::Run(Outcome::Refused(number), _) => self.refusals[*number as usize] += 1,
-            Seen::Run(Outcome::Spent(_), _) => self.refusals[9] += 1,
-            Seen::Run(Outcome::Unknown { .. }, _) => self.refusals[16] += 1,
+            Outcome::Refused(number) => self.refusals[*number as usize] += 1,
+            Outcome::Spent(_) => self.refusals[9] += 1,
+            Outcome::Unknown { .. } => self.refusals[16] += 1,
+        }
+    }
+
+    fn count(&mut self, seen: &Seen) {
+        match seen {
+            Seen::Run(outcome, _) | Seen::Near(Near { run: outcome, .. }, ..) => self.count_run(outcome),
             Seen::Label(Ok(_), _) | Seen::Boundary(Ok(_), _) => self.ends += 1,
             Seen::Label(Err(number), _) | Seen::Boundary(Err(number), _) => self.refusals[*number as usize] += 1,
             Seen::Shelf(answers) => {
@@ -189,7 +209,8 @@ impl Tally {
 
 fn fits(implementation: &dyn Implementation, call: &Call) -> bool {
     match call {
-        Call::Run(RunCall { sizes, divisions, .. })
+        Call::Near(NearCall { run: RunCall { sizes, divisions, .. }, .. })
+        | Call::Run(RunCall { sizes, divisions, .. })
         | Call::Label(LabelCall { sizes, divisions, .. })
         | Call::Boundary(BoundaryCall { sizes, divisions, .. }) => {
             Grid::new(sizes, divisions).map_or(true, |grid| implementation.fits(&grid))
@@ -233,6 +254,10 @@ fn main() -> ExitCode {
     comparison.part("boundary tables up to 2,000 points", |take| boundary_inputs::tables(16, 200_000, 2_000, take));
     comparison.part("boundary tables up to 60,000 points", |take| boundary_inputs::tables(17, 2_000, 60_000, take));
     comparison.part("faulty boundary calls", |take| boundary_inputs::faulty_calls(18, 200_000, take));
+    comparison.part("runs near a point, up to 30 points", |take| near::random_nears(16, 200_000, 30, take));
+    comparison.part("runs near a point, up to 300 points", |take| near::random_nears(17, 20_000, 300, take));
+    comparison.part("runs near a point, up to 60,000 points", |take| near::random_nears(18, 10_000, 60_000, take));
+    comparison.part("faulty runs near a point", |take| near::faulty_nears(19, 200_000, take));
     comparison.part("damaged and cut slips", |take| inputs::damaged_slips(9, 100_000, take));
     comparison.part("every small shelf", inputs::every_shelf);
     comparison.part("random shelves", |take| inputs::random_shelves(10, 3_000, take));
