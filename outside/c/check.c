@@ -94,6 +94,31 @@ static void check_check(void)
     expect("part of a point", leveretplate_check(sizes, 2, divisions, 2, table, 4, end, 11) == 19);
 }
 
+static void check_refine(void)
+{
+    /* Document 01's game 1, whose grid of 8 points becomes one of 27. */
+    const uint8_t sizes[] = {2, 2, 2};
+    const uint16_t divisions[] = {1, 1, 1}, large[] = {40000, 1, 1}, start[] = {1, 0, 1, 0, 1, 0};
+    const uint16_t losses[] = {1, 2, 8, 5, 8, 8, 2, 2, 4, 2, 2, 1, 2, 6, 1, 3, 4, 1, 4, 2, 8, 8, 2, 1};
+    const uint16_t second[] = {1, 1, 1, 1, 2, 0, 1, 1, 0, 2, 2, 0, 0, 2, 0, 2, 2, 0, 0, 2, 0, 2, 1, 1, 77};
+    const uint64_t expected[] = {4, 0, 2, 4, 7, 0, 2, 4, 5};
+    uint8_t table[27] = {0};
+    uint16_t answer[49];
+    uint64_t facts[LEVERETPLATE_LEVELS * LEVERETPLATE_FACTS] = {5, 5, 5, 5, 5, 5, 5, 5, 5};
+    uint8_t number;
+    for (size_t at = 0; at < 49; at++)
+        answer[at] = 77;
+    number = leveretplate_refine(sizes, 3, large, 3, start, 6, losses, 24, 2, 2, table, 27, answer, 49, facts);
+    expect("40,000 times 2", number == 4 && facts[0] == 5 && answer[0] == 77 && table[0] == 0);
+    number = leveretplate_refine(sizes, 3, divisions, 3, start, 6, losses, 24, 2, 2, table, 8, answer, 49, facts);
+    expect("a label buffer for the first level", number == 12 && facts[0] == 5 && answer[0] == 77 && table[0] == 0);
+    number = leveretplate_refine(sizes, 3, divisions, 3, start, 6, losses, 24, 258, 2, table, 27, answer, 49, facts);
+    expect("a factor beyond a byte", number == 18 && facts[0] == 5 && answer[0] == 77 && table[0] == 0);
+    number = leveretplate_refine(sizes, 3, divisions, 3, start, 6, losses, 24, 2, 2, table, 27, answer, 49, facts);
+    expect("both levels", number == 0 && memcmp(facts, expected, sizeof expected) == 0);
+    expect("the second level's vertices, and the number behind them", memcmp(answer + 24, second, sizeof second) == 0);
+}
+
 int main(void)
 {
     check_sheet();
@@ -102,6 +127,7 @@ int main(void)
     check_boundary();
     check_shelf();
     check_check();
+    check_refine();
     printf("%d wrong\n", failures);
     return failures != 0;
 }

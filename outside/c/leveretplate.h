@@ -11,6 +11,7 @@
 #include <stdint.h>
 
 #define LEVERETPLATE_FACTS 4    /* places, kind of end (0 place, 1 facet), block, vertices */
+#define LEVERETPLATE_LEVELS 8   /* the most levels of a refinement */
 #define LEVERETPLATE_SHEET 4096 /* room for any sheet */
 #define LEVERETPLATE_SHELF 1000 /* the most sheets on a shelf */
 
@@ -42,6 +43,22 @@ uint8_t leveretplate_boundary(const uint8_t *sizes, size_t sizes_length,
                               const uint8_t *old, size_t old_length,
                               uint8_t *labels, size_t labels_length,
                               uint64_t *count);
+
+/* Runs the game with these losses on `levels` grids, from 1 to 8. Level i, counted from 0, has k to the i times the divisions, k being `factor`, from 2
+ * to 10; the first starts at `start`, each next one at k times the first vertex of the end before, and each has its bound as budget, so that every level
+ * ends. Answers 0; writes four facts for each level, one level behind the other, as leveretplate_run does at an end; writes the vertices of level i to
+ * the answer buffer from i times (n + 1) times m on, and the last level's labels to `labels`, which has exactly its P bytes. Numbers of the answer
+ * buffer between the levels and behind them stay, and so do facts behind the last level. Else answers the refusal's number, 18, 1 to 4 of any level, 5,
+ * 10, 11, 12 or 8, put in this order. `facts` has LEVERETPLATE_LEVELS times LEVERETPLATE_FACTS numbers. */
+uint8_t leveretplate_refine(const uint8_t *sizes, size_t sizes_length,
+                            const uint16_t *divisions, size_t divisions_length,
+                            const uint16_t *start, size_t start_length,
+                            const uint16_t *losses, size_t losses_length,
+                            size_t factor,
+                            size_t levels,
+                            uint8_t *labels, size_t labels_length,
+                            uint16_t *answer, size_t answer_length,
+                            uint64_t *facts);
 
 /* Says of points, m numbers each one after another and in any order, whether they are distinct, belong to one simplex of the Q triangulation and are
  * complete: 256 times the first block for which they are, counted from 1; 0 where they are not; or the refusal's number, 1 to 4, 6, 7 or 19. A label 0

@@ -1,6 +1,7 @@
 //! The calls, and a call as text in the form of the stored cases.
 
 use crate::near::NearCall;
+use crate::refinements::RefineCall;
 use reference::games::GAMES;
 use std::fmt::{Display, Formatter, Result};
 
@@ -65,6 +66,7 @@ pub enum Call {
     Check(CheckCall),
     Boundary(BoundaryCall),
     Near(NearCall),
+    Refine(RefineCall),
 }
 
 /// A slip's fields; those that are none are left out of the slip.
@@ -145,6 +147,7 @@ impl Display for Call {
     fn fmt(&self, to: &mut Formatter) -> Result {
         match self {
             Call::Slip(slip) => write!(to, "call slip\nslip {}", hex(slip)),
+            Call::Refine(refine) => refine.write(to),
             Call::Run(run) => {
                 writeln!(to, "call run\nsizes {}\nd {}", spaced(&run.sizes), spaced(&run.divisions))?;
                 writeln!(to, "start {}\nlabels {}", spaced(&run.start), spaced(&run.labels))?;

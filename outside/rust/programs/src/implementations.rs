@@ -3,8 +3,10 @@
 use crate::calls::{BoundaryCall, CheckCall, LabelCall, RunCall, ShelfCall, ShelfCalls};
 use reference::grid::Grid;
 use reference::slip::{self, ByDefinitions, ByPaper, SHEET_BYTES, Slip};
-use reference::{boundary, check, games, nearest, paper, questions, shelf, small, Near, Outcome, Verdict};
+use reference::{boundary, check, games, nearest, paper, questions, shelf, small, End, Near, Outcome, Verdict};
 use crate::near::NearCall;
+use crate::refinements::RefineCall;
+use reference::refine::Method;
 
 pub type Sheet = [u8; SHEET_BYTES];
 
@@ -29,6 +31,9 @@ pub trait Implementation {
     fn fits_check(&self, grid: &Grid) -> bool {
         self.fits(grid)
     }
+
+    /// The end of each level, or the refusal's number.
+    fn refine(&self, call: &RefineCall, labels: &mut [u8], answer: &mut [u16]) -> Result<Vec<End>, u64>;
 
     /// The length of the sheet.
     fn sheet(&self, slip: &[u8], sheet: &mut Sheet) -> usize;
@@ -98,6 +103,10 @@ impl Implementation for Paper {
         call.by(nearest::by_paper, answer, list)
     }
 
+    fn refine(&self, call: &RefineCall, labels: &mut [u8], answer: &mut [u16]) -> Result<Vec<End>, u64> {
+        call.game().refine(&Method { fill: games::fill, run: paper::run }, labels, answer)
+    }
+
     fn sheet(&self, slip: &[u8], sheet: &mut Sheet) -> usize {
         slip::sheet::<ByPaper>(slip, sheet)
     }
@@ -149,6 +158,10 @@ impl Implementation for Definitions {
 
     fn fits_check(&self, grid: &Grid) -> bool {
         check::fits(grid)
+    }
+
+    fn refine(&self, call: &RefineCall, labels: &mut [u8], answer: &mut [u16]) -> Result<Vec<End>, u64> {
+        call.game().refine(&Method { fill: games::fill_by_rule, run: small::run }, labels, answer)
     }
 
     fn sheet(&self, slip: &[u8], sheet: &mut Sheet) -> usize {

@@ -8,8 +8,10 @@ pub mod near;
 #[cfg(feature = "proved")]
 pub mod proved;
 pub mod random;
+pub mod refinements;
 pub mod stored;
 
 pub use calls::{BoundaryCall, Call, CheckCall, LabelCall, RunCall, ShelfCall, ShelfCalls};
 pub use implementations::{all, Implementation};
 pub use near::NearCall;
+pub use refinements::RefineCall;

@@ -3,6 +3,7 @@
 use crate::calls::{BoundaryCall, CheckCall, LabelCall, RunCall};
 use crate::implementations::{Implementation, Sheet};
 use crate::near::NearCall;
+use crate::refinements::RefineCall;
 use reference::grid::Grid;
 use reference::{End, Kind, Near, Outcome, Verdict};
 
@@ -59,6 +60,17 @@ extern "C" {
         old: *const u8, old_length: usize,
         labels: *mut u8, labels_length: usize,
         count: *mut u64,
+    /// 0 where all levels were run, else the refusal's number. The facts are four for each level, as a run's.
+    fn leveretplate_refine(
+        sizes: *const u8, sizes_length: usize,
+        divisions: *const u16, divisions_length: usize,
+        start: *const u16, start_length: usize,
+        losses: *const u16, losses_length: usize,
+        factor: usize,
+        levels: usize,
+        labels: *mut u8, labels_length: usize,
+        answer: *mut u16, answer_length: usize,
+        facts: *mut [u64; LEVELS * FACTS],
     ) -> u8;
 
     /// The length of the sheet.
@@ -72,6 +84,7 @@ extern "C" {
 }
 
 const FACTS: usize = 4;
+const LEVELS: usize = 8;
 
 /// What the facts and the count hold before a call.
 const OLD: u64 = 0x5eed_5eed_5eed_5eed;
@@ -209,6 +222,37 @@ impl Implementation for Proved {
             )
         };
         answered(number, count)
+    }
+
+    fn refine(&self, call: &RefineCall, labels: &mut [u8], answer: &mut [u16]) -> Result<Vec<End>, u64> {
+        let mut facts = [OLD; LEVELS * FACTS];
+        // Safety: each pointer comes with the length of its slice, and only labels, answer and facts are written to.
+        #[rustfmt::skip]
+        let number = unsafe {
+            leveretplate_refine(
+                call.sizes.as_ptr(), call.sizes.len(),
+                call.divisions.as_ptr(), call.divisions.len(),
+                call.start.as_ptr(), call.start.len(),
+                call.losses.as_ptr(), call.losses.len(),
+                call.factor,
+                call.levels,
+                labels.as_mut_ptr(), labels.len(),
+                answer.as_mut_ptr(), answer.len(),
+                &mut facts,
+            )
+        };
+        let levels = if number == 0 { call.levels } else { 0 };
+        assert!(facts[levels * FACTS..].iter().all(|&fact| fact == OLD), "a fact is changed behind the levels");
+        if number != 0 {
+            return Err(number.into());
+        }
+        let end = |facts: &[u64]| End {
+            places: facts[0],
+            kind: if facts[1] == 0 { Kind::Place } else { Kind::Facet },
+            block: facts[2] as usize,
+            vertices: facts[3] as usize,
+        };
+        Ok(facts[..levels * FACTS].chunks(FACTS).map(end).collect())
     }
 
     fn sheet(&self, slip: &[u8], sheet: &mut Sheet) -> usize {

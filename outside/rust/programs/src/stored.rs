@@ -2,6 +2,7 @@
 
 use crate::calls::{spaced, BoundaryCall, Call, CheckCall, Fields, LabelCall, RunCall, ShelfCall, ShelfCalls};
 use crate::near::NearCall;
+use crate::refinements::{self, RefineCall};
 use std::collections::HashMap;
 
 pub struct Case {
@@ -44,6 +45,22 @@ fn read_case(lines: &[&str]) -> Case {
         }
         "label" if given("game") => {
             Call::Label(LabelCall::of_game(list("game")[0] as usize, &divisions, list("buffer")[0] as usize))
+        }
+        "label" if given("game") => {
+            Call::Label(LabelCall::of_game(list("game")[0] as usize, &divisions, list("buffer")[0] as usize))
+        }
+        "refine" => {
+            let one = |word: &str| list(word)[0] as usize;
+            Call::Refine(RefineCall {
+                sizes,
+                divisions,
+                start: pairs("start"),
+                losses: pairs("losses"),
+                factor: one("k"),
+                levels: one("levels"),
+                buffer: one("buffer"),
+                answer: one("answer"),
+            })
         }
         "check" => Call::Check(CheckCall { sizes, divisions, labels: bytes("labels"), points: pairs("points") }),
         "boundary" => {
@@ -88,6 +105,9 @@ fn read_case(lines: &[&str]) -> Case {
         if let Some(values) = line.strip_prefix(word) {
             *line = format!("{word} {}", spaced(&numbers(values)));
         }
+    }
+    if let Call::Refine(_) = call {
+        expect = expect.iter().map(|line| refinements::expected(line)).collect();
     }
     Case { name, call, expect }
 }

@@ -11,6 +11,7 @@ pub mod nearest;
 pub mod outcome;
 pub mod paper;
 pub mod questions;
+pub mod refine;
 pub mod shelf;
 pub mod slip;
 pub mod small;

@@ -7,7 +7,7 @@
 use programs::calls::{BoundaryCall, CheckCall, Fields, LabelCall, RunCall};
 use programs::implementations::{Paper, Sheet};
 use programs::inputs::{long_run, whole_simplex, From};
-use programs::Implementation;
+use programs::{refinements, Implementation, RefineCall};
 use reference::games::{self, GAMES};
 use reference::grid::{Grid, MOST_LOSSES};
 use reference::slip::SHEET_BYTES;
@@ -162,6 +162,34 @@ impl Benchmark {
         self.print(name, "", 0, &mut calls);
     }
 
+    /// Beside the refinement, its labellings and runs one by one, each with its own questions; the ratio is to those of the same code.
+    fn refine(&self, name: &str, call: &RefineCall) {
+        if !name.contains(&self.text) {
+            return;
+        }
+        for implementation in &self.implementations {
+            let levels = one_by_one(implementation.as_ref(), call);
+            let (mut labels, mut answer) = (vec![0; call.buffer], vec![0; call.answer]);
+            let (mut tables, mut answers) = (vec![0; call.buffer], vec![0; call.answer]);
+            let mut calls: Vec<Box<dyn FnMut()>> = vec![
+                Box::new(|| {
+                    for (label, run) in &levels {
+                        let table = &mut tables[..label.buffer];
+                        black_box(implementation.label(black_box(label), table)).expect("a labelling");
+                        black_box(implementation.run(black_box(run), &mut answers[..run.answer]));
+                    }
+                }),
+                Box::new(|| {
+                    black_box(implementation.refine(black_box(call), &mut labels, &mut answer)).expect("a refinement");
+                }),
+            ];
+            let [parts, whole] = &time(&mut calls)[..] else { unreachable!("two calls") };
+            print!("{name:44} {:8} {:9.2} us (least {:.2})", implementation.name(), whole.median / 1e3, whole.least / 1e3);
+            print!("  one by one {:.2} us (least {:.2})", parts.median / 1e3, parts.least / 1e3);
+            println!("  ratio {:.3} (of the least {:.3})", whole.median / parts.median, whole.least / parts.least);
+        }
+    }
+
     fn sheet(&self, name: &str, slip: &[u8]) {
         let mut buffers: Vec<Box<Sheet>> = self.implementations.iter().map(|_| Box::new([0; SHEET_BYTES])).collect();
         let mut calls: Vec<Box<dyn FnMut()>> = Vec::new();
@@ -201,6 +229,25 @@ fn game_run(game: usize) -> RunCall {
     RunCall { sizes: sizes.to_vec(), divisions: divisions.to_vec(), start, labels, budget: grid.bound(), answer }
 }
 
+/// The labelling and the run of each level of a refinement.
+fn one_by_one(implementation: &dyn Implementation, call: &RefineCall) -> Vec<(LabelCall, RunCall)> {
+    let mut levels = Vec::new();
+    let (sizes, losses, mut start) = (&call.sizes, &call.losses, call.start.clone());
+    for grid in call.game().grids().expect("accepted grids") {
+        let divisions = grid.divisions[..grid.blocks].to_vec();
+        let label = LabelCall { sizes: sizes.clone(), divisions: divisions.clone(), losses: losses.clone(), buffer: grid.points };
+        let mut labels = vec![0; grid.points];
+        implementation.label(&label, &mut labels).expect("a labelling");
+        let (budget, answer) = (grid.bound(), (grid.n() + 1) * grid.m);
+        let run = RunCall { sizes: sizes.clone(), divisions, start, labels, budget, answer };
+        let mut vertices = vec![0; answer];
+        implementation.run(&run, &mut vertices);
+        start = vertices[..grid.m].iter().map(|&number| number.wrapping_mul(call.factor as u16)).collect();
+        levels.push((label, run));
+    }
+    levels
+}
+
 fn main() {
     #[allow(unused_mut)]
     let mut implementations: Vec<Box<dyn Implementation>> = vec![Box::new(Paper)];
@@ -234,6 +281,11 @@ fn main() {
     println!("\nchecking all n + 1 points of a simplex, the last first");
     for (sizes, divisions) in [(&[16u8][..], &[1u16][..]), (&[3, 3, 3, 3, 2, 2], &[1; 6])] {
         benchmark.check(&grid_name(sizes, divisions), &whole_simplex(sizes, divisions));
+    }
+    println!("\nrefinements, each division doubled as often as P allows");
+    for game in 1..=GAMES.len() {
+        let call = refinements::of_game(game);
+        benchmark.refine(&format!("game {game}, {} levels, last P {}", call.levels, call.buffer), &call);
     }
     println!("\nslip to sheet");
     benchmark.sheet("document 01's example", &[4, 2, 2, 2, 1, 0, 1, 0, 2, 2, 2, 4]);

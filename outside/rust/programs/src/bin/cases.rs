@@ -95,6 +95,14 @@ fn given(implementation: &dyn Implementation, call: &Call) -> Option<Vec<String>
                 Err(number) => vec![format!("refused {number}, with the buffer changed")],
             })
         }
+        Call::Refine(refine) => {
+            let fits = refine.largest().map_or(true, |grid| implementation.fits(&grid));
+            let (mut labels, mut answer) = (vec![0; refine.buffer], vec![UNTOUCHED; refine.answer]);
+            fits.then(|| match implementation.refine(refine, &mut labels, &mut answer) {
+                Err(number) => vec![format!("refused {number}")],
+                Ok(ends) => refine.lines(&ends, &labels, &answer, UNTOUCHED),
+            })
+        }
         Call::Label(label) => {
             let mut labels = vec![0; label.buffer];
             Some(match implementation.label(label, &mut labels) {

@@ -6,10 +6,10 @@ use programs::boundary_inputs;
 use programs::calls::Call;
 use programs::implementations::Sheet;
 use programs::inputs::{self, Take};
-use programs::{all, near, BoundaryCall, CheckCall, Implementation, LabelCall, NearCall, RunCall};
+use programs::{all, near, refinements, BoundaryCall, CheckCall, Implementation, LabelCall, NearCall, RefineCall, RunCall};
 use reference::grid::Grid;
 use reference::slip::SHEET_BYTES;
-use reference::{Near, Outcome, Verdict};
+use reference::{End, Near, Outcome, Verdict};
 use std::process::ExitCode;
 use std::time::Instant;
 
@@ -50,6 +50,7 @@ enum Seen {
     Check(Verdict),
     Boundary(Result<usize, u64>, Vec<u8>),
     Near(Near, Vec<u16>, Vec<u16>),
+    Refine(Result<Vec<End>, u64>, Vec<u8>, Vec<u16>),
 }
 
 impl Comparison {
@@ -67,6 +68,7 @@ impl Comparison {
                 Call::Check(check) => Ok(Seen::Check(implementation.check(check))),
                 Call::Boundary(boundary) => self.boundary(implementation.as_ref(), boundary),
                 Call::Near(near) => self.near(implementation.as_ref(), near),
+                Call::Refine(refine) => self.refine(implementation.as_ref(), refine),
             };
             if call != before {
                 self.differs(&before, implementation.name(), "an input is changed");
@@ -138,6 +140,20 @@ impl Comparison {
         Ok(Seen::Boundary(number, labels))
     }
 
+    fn refine(&mut self, implementation: &dyn Implementation, call: &RefineCall) -> Result<Seen, &'static str> {
+        let mut labels: Vec<u8> = (0..call.buffer).map(|at| pattern(at) as u8).collect();
+        let mut answer: Vec<u16> = (0..call.answer).map(pattern).collect();
+        let ends = implementation.refine(call, &mut labels, &mut answer);
+        let written = |at: usize| ends.as_ref().is_ok_and(|ends| call.is_vertex(ends, at));
+        if (0..answer.len()).any(|at| !written(at) && answer[at] != pattern(at)) {
+            return Err("the answer buffer is changed where it must not be");
+        }
+        if ends.is_err() && (0..labels.len()).any(|at| labels[at] != pattern(at) as u8) {
+            return Err("a refused refinement changed the label buffer");
+        }
+        Ok(Seen::Refine(ends, labels, answer))
+    }
+
     fn slip(&mut self, implementation: &dyn Implementation, slip: &[u8]) -> Result<Seen, &'static str> {
         let mut sheet: Box<Sheet> = Box::new([0; SHEET_BYTES]);
         sheet.copy_from_slice(&self.untouched);
@@ -195,6 +211,12 @@ impl Tally {
             Seen::Check(Verdict::Refused(number)) => self.refusals[*number as usize] += 1,
             Seen::Check(Verdict::Yes(_)) => self.ends += 1,
             Seen::Check(Verdict::No) => {}
+            Seen::Refine(Err(number), ..) => self.refusals[*number as usize] += 1,
+            Seen::Refine(Ok(ends), ..) => {
+                self.ends += ends.len();
+                self.places += ends.iter().map(|end| end.places).sum::<u64>();
+                self.longest = ends.iter().map(|end| end.places).fold(self.longest, u64::max);
+            }
             Seen::Slip(length, sheet) => {
                 let text = String::from_utf8_lossy(&sheet[..*length]);
                 let first = text.lines().next().unwrap_or("");
@@ -218,6 +240,7 @@ fn fits(implementation: &dyn Implementation, call: &Call) -> bool {
         Call::Check(CheckCall { sizes, divisions, .. }) => {
             Grid::new(sizes, divisions).map_or(true, |grid| implementation.fits_check(&grid))
         }
+        Call::Refine(refine) => refine.largest().map_or(true, |grid| implementation.fits(&grid)),
         Call::Slip(slip) => implementation.fits_slip(slip),
         Call::Shelf(_) => implementation.has_shelf(),
     }
@@ -258,6 +281,10 @@ fn main() -> ExitCode {
     comparison.part("runs near a point, up to 300 points", |take| near::random_nears(17, 20_000, 300, take));
     comparison.part("runs near a point, up to 60,000 points", |take| near::random_nears(18, 10_000, 60_000, take));
     comparison.part("faulty runs near a point", |take| near::faulty_nears(19, 200_000, take));
+    comparison.part("refinements of small games", |take| refinements::random(16, 20_000, 300, take));
+    comparison.part("refinements of large games", |take| refinements::random(17, 3_000, 60_000, take));
+    comparison.part("faulty refinements", |take| refinements::faulty(18, 100_000, take));
+    comparison.part("edges of refinements", refinements::edges);
     comparison.part("damaged and cut slips", |take| inputs::damaged_slips(9, 100_000, take));
     comparison.part("every small shelf", inputs::every_shelf);
     comparison.part("random shelves", |take| inputs::random_shelves(10, 3_000, take));
