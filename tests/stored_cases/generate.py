@@ -8,6 +8,7 @@ Each case is a text of lines. `call` says what is called. A slip is given in hex
 import itertools
 import pathlib
 import re
+import zlib
 
 HERE = pathlib.Path(__file__).resolve().parent
 CRATES = HERE.parent.parent / "crates"
@@ -154,6 +155,32 @@ def near_case(fields, expect):
     return data, text + runs("answer", filled(vertices, rooms[0])) + runs("list", filled(positions, rooms[1]))
 
 
+def repeated(text):
+    """`3x.` is three dots."""
+    for word in text.split():
+        count, _, rest = word.rpartition("x")
+        yield from [rest] * int(count or 1)
+
+
+def refine_case(fields, expect):
+    """The refusal or the levels; the answer buffer, with 65535 where a dot says that it is as it was; the label buffer by its CRC-32, in decimal."""
+    data = on_grid(fields) + b"".join(listed(numbers(fields[name])) for name in ("start", "losses"))
+    data += b"".join(word(int(fields[name])) for name in ("k", "levels", "buffer", "answer"))
+    if expect.startswith("refused"):
+        expect += f"answer-after {fields['answer']}x.\nlabels-after {fields['buffer']}x0\n"
+    text = ""
+    for line in expect.splitlines():
+        name, _, rest = line.partition(" ")
+        if name == "answer-after":
+            line = runs(name, (65535 if item == "." else int(item) for item in repeated(rest))).rstrip("\n")
+        if name == "labels-after":
+            labels = None if rest.startswith("crc32") else bytes(map(int, repeated(rest)))
+            total, count = (zlib.crc32(labels), len(labels)) if labels is not None else (int(rest.split()[1], 16), rest.split()[3])
+            line = f"labels-after crc32 {total}\nof {count}"
+        text += line + "\n"
+    return data, text
+
+
 def boundary_case(fields, expect):
     """The answer, and the whole buffer, which is 255 throughout where nothing was written."""
     room = int(fields["buffer"])
@@ -175,4 +202,5 @@ write("exported_calls", "call", [run_call(*case) for case in called("run") + end
 write("check_cases", "list", [check_case(*case) for case in called("check")])
 write("boundary_cases", "table", [boundary_case(*case) for case in called("boundary")])
 write("near_cases", "call", [near_case(*case) for case in called("near")])
+write("refine_cases", "refinement", [refine_case(*case) for case in called("refine")])
 write("shelf_cases", "case", [shelf_case(*case) for case in called("shelf")])
