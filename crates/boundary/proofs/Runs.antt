@@ -14,7 +14,7 @@ use Rattle.grid.specs.Build.{lent}
 use Rattle.grid.specs.Grid.{Point, points}
 use Rattle.grid.specs.Questions.{question5}
 use Rattle.place.proofs.Accepted.{accepted-of}
-use Rattle.place.specs.Ends.{Kind as KindOfEnd, placeEnd}
+use Rattle.place.specs.Ends.{Kind as KindOfEnd}
 use Rattle.place.specs.Path.{Answer as PathAnswer, answer, ended, spent, unknown}
 use Rattle.place.specs.Places.{Simplex}
 use Rattle.place.specs.Problem.{Problem, problemOf}
@@ -27,11 +27,11 @@ use Rattle.finder.specs.declared.answers.Kind.{Kind}
 use Rattle.finder.specs.declared.answers.Kind.the-variants.{Place}
 use Rattle.games.specs.declared.Labelled.the-variants.{Written}
 use Rattle.boundary_labels.proofs.Ends.{accepted-again, over-new-table}
-use Rattle.boundary_labels.specs.Boundary.{boundaryTable, isInterior}
+use Rattle.boundary_labels.specs.Boundary.{isInterior}
 use Rattle.boundary_labels.specs.Claims.{AcceptedAgain, OverNewTable}
 use Rattle.boundary.proofs.Outcomes.{Wrote, call-wrote}
 use Rattle.boundary.specs.Call.{boundaryAnswer, boundaryBuffer}
-use Rattle.boundary.specs.Runs.{CallsLeadToPlaceEnds, RunsOver}
+use Rattle.boundary.specs.Runs.{CallsLeadToPlaceEnds}
 
 module _ (p : Problem) (room budget : ℕ) where
   -- an answer that is no refusal is the path's, and questions 1 to 7 are answered yes

@@ -1,16 +1,15 @@
 -- Points that have their 0s at the same indices have the same boundary label or are all interior; so the points that
 -- follow one where only its last two numbers change, both positive, are labelled alike. Assumes nothing.
-use mathlib.Core.Bool.{Bool, true, not, cond, _&&_}
+use mathlib.Core.Bool.{not, cond}
 use mathlib.Core.List.{List, [], _∷_, _++_}
 use mathlib.Core.Path.{_≡_, refl, sym, ap, _∙_}
 use Prim.Native.Nat.{ℕ, zero, suc, _+_, _-_, _≤_, _<_}
 use borrow.Author.Tests.{lt-ltb, ne-eqb}
 use lib.Dec.{eqb, ltb}
 use lib.ListN.{length, getD, take, length-append}
-use lib.Seq.{length-take-le}
 use native.Mathlib.Omega.{arith}
 use Rattle.combinatorics.proofs.Lists.{filter-cong, onNumbers}
-use Rattle.combinatorics.specs.Lists.{all, filter, firstOr}
+use Rattle.combinatorics.specs.Lists.{firstOr}
 use Rattle.grid.specs.Grid.{Grid, Point, at, indices, numPoints, points, previous}
 use Rattle.points_in_order.proofs.Shifts.{shifted-none, shifted-points, two-numbers}
 use Rattle.points_in_order.specs.Lent.{WithFirsts}

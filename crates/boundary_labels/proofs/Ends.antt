@@ -6,7 +6,7 @@ use mathlib.Core.List.{List, [], _∷_, map}
 use mathlib.Core.Logic.{⊎-elim}
 use mathlib.Core.Option.{Option, none, some}
 use mathlib.Core.Path.{_≡_, refl, sym, ap, _∙_}
-use Prim.Native.Nat.{ℕ, suc, _≤_, _<_}
+use Prim.Native.Nat.{ℕ, _≤_, _<_}
 use borrow.Author.Tests.{eqb-true, le-leb}
 use lib.Dec.{eqb, leb, ltb}
 use lib.ListN.{length, getD, List·getD-eq-default}
@@ -16,7 +16,7 @@ use Rattle.combinatorics.proofs.Lists.{all-in, concatMap-in, filter-in, in-all,
 use Rattle.combinatorics.proofs.Ranges.{upFrom-in}
 use Rattle.combinatorics.specs.Lists.{all, filter, isIn, same}
 use Rattle.grid.proofs.Points.{onPoints, points-in}
-use Rattle.grid.specs.Grid.{Grid, Point, blocks, isGridPoint, numBlocks, numIndices, numPoints, points, samePoint}
+use Rattle.grid.specs.Grid.{Point, blocks, isGridPoint, numBlocks, numIndices, numPoints, points}
 use Rattle.place.proofs.Accepted.{accepted-is}
 use Rattle.place.proofs.Labels.{place-labelled}
 use Rattle.place.proofs.LinkSymmetry.{parts}
@@ -26,17 +26,16 @@ use Rattle.place.proofs.Theorem.{demand3-holds}
 use Rattle.place.proofs.Ways.{IsWay, byFacet, byPlace, onEnds}
 use Rattle.place.specs.Demand.{Accepted, NoGap, Settled, placeAt}
 use Rattle.place.specs.Ends.{End, Kind, completeFor, facetEnd, facetEnds, facets, isComplete, placeEnd, stop}
-use Rattle.place.specs.Path.{announcement, answer, ended, outcome, path, pathLength, sameSimplex, spent, unknown}
+use Rattle.place.specs.Path.{answer, ended, outcome, path, pathLength, sameSimplex, spent, unknown}
 use Rattle.place.specs.Places.{Simplex, isPlace, labelSet, setT, setU}
 use Rattle.place.specs.Problem.{Problem, label}
-use Rattle.points_in_order.proofs.InOrder.{at-in}
 use Rattle.simplices.proofs.Answers.{last-place, stop-points}
 use Rattle.simplices.proofs.Places.{accepted-grid}
 use Rattle.boundary_labels.proofs.Complete.{complete-by-labels}
 use Rattle.boundary_labels.proofs.PointLabels.{table-kth}
 use Rattle.boundary_labels.proofs.Tables.{new-byte, new-range, new-table}
 use Rattle.boundary_labels.specs.Boundary.{boundaryLabel, boundaryTable, isInterior, newLabel}
-use Rattle.boundary_labels.specs.Claims.{AcceptedAgain, KnownInside, NewTable, OverNewTable}
+use Rattle.boundary_labels.specs.Claims.{AcceptedAgain, KnownInside, OverNewTable}
 
 module _ {p : Problem} (ok : Settled p) (old : List ℕ) (is : p .labels ≡ boundaryTable (p .grid) old) where
   -- the labels of a facet end are T, so T would have all indices of a block, and a place leaves one of each block free

@@ -1,9 +1,9 @@
 -- What the new table is: of P bytes, each from 0 to m where the old ones are, with no 0 on the boundary; and to write
 -- it twice is to write it once. Assumes nothing.
-use mathlib.Core.Bool.{Bool, true, false}
+use mathlib.Core.Bool.{true, false}
 use mathlib.Core.List.{List, [], _∷_, map}
 use mathlib.Core.Logic.{⊎-elim}
-use mathlib.Core.Path.{_≡_, refl, ap, _∙_}
+use mathlib.Core.Path.{_≡_, refl, _∙_}
 use Prim.Native.Nat.{ℕ, _≤_}
 use borrow.Author.Tests.{le-leb}
 use lib.Dec.{leb}
@@ -17,7 +17,7 @@ use Rattle.grid.proofs.Points.{in-points, onPoints, points-in, position-in}
 use Rattle.grid.specs.Grid.{Grid, Point, isGridPoint, numIndices, numPoints, points, position, samePoint}
 use Rattle.boundary_labels.proofs.PointLabels.{boundary-index, table-at, table-length}
 use Rattle.boundary_labels.specs.Boundary.{boundaryLabel, boundaryTable, byteOf, isInterior, newLabel}
-use Rattle.boundary_labels.specs.Claims.{IsFirstIndex, NewTable}
+use Rattle.boundary_labels.specs.Claims.{NewTable}
 
 map-cong : (f h : Point → ℕ) (xs : List Point) → ((y : Point) → isIn samePoint y xs ≡ true → f y ≡ h y)
     → map f xs ≡ map h xs

@@ -1,6 +1,6 @@
 -- Request 12, what holds over the new table, in the order of the customer's sentences. Assumes nothing.
 use mathlib.Core.Bool.{true, false}
-use mathlib.Core.List.{List, [], _∷_}
+use mathlib.Core.List.{List, []}
 use mathlib.Core.Option.{some}
 use mathlib.Core.Path.{_≡_}
 use Prim.Native.Nat.{ℕ, _≤_, _<_}
@@ -9,7 +9,6 @@ use lib.ListN.{length, getD}
 use Rattle.combinatorics.specs.Lists.{all, isIn}
 use Rattle.questions.specs.Questions.{firstNo}
 use Rattle.grid.specs.Grid.{Grid, Point, at, indicesOf, isGridPoint, numBlocks, numIndices, numPoints, points, previous}
-use Rattle.grid.specs.Questions.{gridQuestions}
 use Rattle.place.specs.Demand.{Ended, NoGap}
 use Rattle.place.specs.Ends.{End, Kind, facetEnds, isComplete, placeEnd}
 use Rattle.place.specs.Path.{answer, ended, path, unknown}

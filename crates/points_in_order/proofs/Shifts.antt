@@ -7,18 +7,18 @@ use Prim.Native.Nat.{ℕ, zero, suc, _+_, _-_, _≤_, _<_}
 use borrow.Author.Tests.{leb-true}
 use lib.Dec.{leb}
 use lib.ListN.{length, getD, take, drop, set, length-append, length-drop, take-append-drop}
-use lib.Seq.{drop-append-le, drop-cons, drop-length, length-take-le, set-at, take-append-le, take-at, take-length}
+use lib.Seq.{drop-append-le, drop-cons, drop-length, length-take-le, take-append-le, take-length}
 use native.Mathlib.Omega.{arith}
 use Rattle.combinatorics.proofs.Basics.{and-left, and-right}
 use Rattle.combinatorics.specs.Lists.{all, sum}
 use Rattle.grid.proofs.Accepted.{Accepted, accepted, size-two}
 use Rattle.grid.proofs.Round.{block-fits}
-use Rattle.grid.specs.Grid.{Grid, Point, at, numIndices, numPoints, points}
+use Rattle.grid.specs.Grid.{Grid, Point, numIndices, numPoints, points}
 use Rattle.points_in_order.proofs.Blocks.{point-length}
 use Rattle.points_in_order.proofs.InOrder.{next-point, point-at}
 use Rattle.points_in_order.proofs.PointAfter.{after-moves}
 use Rattle.points_in_order.specs.Lent.{WithFirsts}
-use Rattle.points_in_order.specs.PointAfter.{Step, step, after, afterAll}
+use Rattle.points_in_order.specs.PointAfter.{step, after, afterAll}
 use Rattle.points_in_order.specs.Shifted.{lastButOne, lastOne, shifted}
 
 -- in a block

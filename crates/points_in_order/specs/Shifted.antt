@@ -1,5 +1,5 @@
 -- The points that follow one another where only the last two numbers change. Assumes nothing.
-use mathlib.Core.List.{List, [], _∷_, _++_}
+use mathlib.Core.List.{[], _∷_, _++_}
 use Prim.Native.Nat.{ℕ, _+_, _-_}
 use lib.ListN.{length, take}
 use Rattle.grid.specs.Grid.{Point, at}

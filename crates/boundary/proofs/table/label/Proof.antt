@@ -1,6 +1,5 @@
 -- `label` meets its contract: no index passed has a 0 behind a positive number. Assumes nothing.
 use mathlib.Core.Logic.{⊎-elim}
-use mathlib.Core.Path.{refl}
 use Prim.Native.Nat.{ℕ, _-_, _≤_, _<_}
 use borrow.Author.Count.{below-more}
 use borrow.Author.Needs.{needs}

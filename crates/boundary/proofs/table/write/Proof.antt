@@ -1,8 +1,6 @@
 -- `write` meets its contract: the grid's arrays are lent, and the array holds the first point. Assumes nothing.
-use mathlib.Core.Path.{_≡_, refl, sym, _∙_}
-use Prim.Native.Nat.{_≤_}
+use mathlib.Core.Path.{refl, sym, _∙_}
 use borrow.Author.Needs.{needs}
-use lib.ListN.{length}
 use lib.Seq.{length-take-le}
 use native.Mathlib.Omega.{arith}
 use Rattle.grid.proofs.Fields.{indices-few, made-accepted, made-indices, made-points, made-previous}
