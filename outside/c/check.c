@@ -43,6 +43,26 @@ static void check_run(void)
     expect("its vertices, and the number behind them", memcmp(answer, vertices, sizeof vertices) == 0);
 }
 
+static void check_nearest(void)
+{
+    const uint8_t sizes[] = {2}, table[] = {1, 1, 1, 1, 1};
+    const uint16_t divisions[] = {4}, start[] = {2, 2}, w[] = {0, 4}, off[] = {0, 3};
+    const uint16_t within[] = {2, 3, 77, 77, 77, 77};
+    uint16_t answer[4] = {77, 77, 77, 77}, list[6] = {77, 77, 77, 77, 77, 77};
+    uint64_t facts[LEVERETPLATE_FACTS] = {5, 6, 7, 8}, near[LEVERETPLATE_NEAR] = {5, 6};
+    uint8_t number;
+    number = leveretplate_nearest(sizes, 1, divisions, 1, start, 2, table, 5, answer, 4, 9, off, 2, 6, list, 6, facts, near);
+    expect("a point off the grid", number == 5 && near[0] == 5 && list[0] == 77);
+    number = leveretplate_nearest(sizes, 1, divisions, 1, start, 2, table, 5, answer, 4, 9, w, 2, 6, list, 4, facts, near);
+    expect("a list one short", number == 8 && near[0] == 5 && list[0] == 77);
+    number = leveretplate_nearest(sizes, 1, divisions, 1, start, 2, table, 5, answer, 4, 2, w, 2, 6, list, 6, facts, near);
+    expect("a budget of 2, and no vertex", number == 9 && facts[0] == 2 && near[0] == 5 && list[0] == 77 && answer[0] == 77);
+    number = leveretplate_nearest(sizes, 1, divisions, 1, start, 2, table, 5, answer, 4, 9, w, 2, 6, list, 6, facts, near);
+    expect("the nearest vertex, and how many are listed", number == 0 && facts[0] == 3 && near[0] == 2 && near[1] == 2);
+    expect("their positions, and the numbers behind them", memcmp(list, within, sizeof within) == 0);
+    expect("the vertex of the end", answer[0] == 4 && answer[1] == 0 && answer[2] == 77);
+}
+
 static void check_label(void)
 {
     const uint8_t sizes[] = {2, 2, 2}, expected[] = {3, 6, 1, 1, 5, 2, 5, 4};
@@ -123,6 +143,7 @@ int main(void)
 {
     check_sheet();
     check_run();
+    check_nearest();
     check_label();
     check_boundary();
     check_shelf();

@@ -12,6 +12,7 @@
 
 #define LEVERETPLATE_FACTS 4    /* places, kind of end (0 place, 1 facet), block, vertices */
 #define LEVERETPLATE_LEVELS 8   /* the most levels of a refinement */
+#define LEVERETPLATE_NEAR 2     /* the nearest vertex's position, how many positions are listed */
 #define LEVERETPLATE_SHEET 4096 /* room for any sheet */
 #define LEVERETPLATE_SHELF 1000 /* the most sheets on a shelf */
 
@@ -26,6 +27,24 @@ uint8_t leveretplate_run(const uint8_t *sizes, size_t sizes_length,
                          uint16_t *answer, size_t answer_length,
                          uint64_t budget,
                          uint64_t *facts);
+
+/* Follows the path as leveretplate_run does, with the same answer, facts and vertices, and reports where it came nearest to the grid point w. The
+ * distance of two points is the sum over all indices of the absolute coordinate difference times the product of the other blocks' divisions. At an end
+ * the two numbers of `near` are the position in the table, from 0, of the visited vertex nearest to w, of equally near ones the one met first, and how
+ * many visited vertices are at most at the given distance from w; their positions stand at the front of the list, each once, in order of first visit.
+ * Question 5 is put for w too, and 8 for a list of at least P positions. With every refusal, 9 and 16 included, `near`, the answer buffer and the list
+ * are as before. `facts` has LEVERETPLATE_FACTS numbers, `near` LEVERETPLATE_NEAR. */
+uint8_t leveretplate_nearest(const uint8_t *sizes, size_t sizes_length,
+                             const uint16_t *divisions, size_t divisions_length,
+                             const uint16_t *start, size_t start_length,
+                             const uint8_t *labels, size_t labels_length,
+                             uint16_t *answer, size_t answer_length,
+                             uint64_t budget,
+                             const uint16_t *w, size_t w_length,
+                             uint64_t distance,
+                             uint16_t *list, size_t list_length,
+                             uint64_t *facts,
+                             uint64_t *near);
 
 /* Writes the labels of the game with these losses and their count P, and answers 0; else answers the refusal's number, 1 to 4 or 10 to 12. */
 uint8_t leveretplate_label(const uint8_t *sizes, size_t sizes_length,

@@ -7,7 +7,7 @@
 use programs::calls::{BoundaryCall, CheckCall, Fields, LabelCall, RunCall};
 use programs::implementations::{Paper, Sheet};
 use programs::inputs::{long_run, whole_simplex, From};
-use programs::{refinements, Implementation, RefineCall};
+use programs::{refinements, Implementation, NearCall, RefineCall};
 use reference::games::{self, GAMES};
 use reference::grid::{Grid, MOST_LOSSES};
 use reference::slip::SHEET_BYTES;
@@ -130,6 +130,27 @@ impl Benchmark {
         self.print(&name, "place", places, &mut calls);
     }
 
+    /// The call that reports where the path came nearest, beside the run alone: the most that it may take is 3 times as long.
+    fn near(&self, name: &str, call: &NearCall) {
+        if !name.contains(&self.text) {
+            return;
+        }
+        for implementation in &self.implementations {
+            let (mut alone, mut answer, mut list) = (vec![0; call.run.answer], vec![0; call.run.answer], vec![0; call.list]);
+            let timings = time(&mut [
+                Box::new(|| {
+                    black_box(implementation.run(black_box(&call.run), &mut alone));
+                }),
+                Box::new(|| {
+                    black_box(implementation.near(black_box(call), &mut answer, &mut list));
+                }),
+            ]);
+            let [run, near] = [&timings[0], &timings[1]];
+            print!("{name:44} {:8} {:9.2} us (least {:.2})", implementation.name(), near.median / 1e3, near.least / 1e3);
+            println!("  {:.2} times the run (of the least {:.2})", near.median / run.median, near.least / run.least);
+        }
+    }
+
     fn label(&self, name: &str, call: &LabelCall) {
         let mut buffers = vec![vec![0; call.buffer]; self.implementations.len()];
         let mut calls: Vec<Box<dyn FnMut()>> = Vec::new();
@@ -247,6 +268,13 @@ fn one_by_one(implementation: &dyn Implementation, call: &RefineCall) -> Vec<(La
     }
     levels
 }
+/// The run with the last corner as w, and a distance that lists all.
+fn near_run(run: RunCall) -> NearCall {
+    let grid = Grid::new(&run.sizes, &run.divisions).expect("a grid");
+    let mut w = vec![0; grid.m];
+    grid.ranges().zip(grid.divisions).for_each(|(range, division)| w[range.end - 1] = division);
+    NearCall { run, w, distance: u64::MAX, list: grid.points }
+}
 
 fn main() {
     #[allow(unused_mut)]
@@ -266,6 +294,12 @@ fn main() {
     println!("\nthe questions alone (budget 0)");
     benchmark.run("2;59999, 60,000 labels", &RunCall { budget: 0, ..straight.clone() });
     benchmark.run("3 3 3;7 7 8, 58,320 labels", &RunCall { budget: 0, ..game_run(1) });
+    println!("\nruns near the last corner, every visited vertex listed");
+    benchmark.near("near, 2;59999, one label", &near_run(straight.clone()));
+    for (sizes, divisions, from, seed, rounds) in LONG_RUNS {
+        let run = long_run(sizes, divisions, from, seed, rounds);
+        benchmark.near(&format!("near, {}", grid_name(sizes, divisions)), &near_run(run));
+    }
     println!("\nlabelling");
     for game in 0..GAMES.len() {
         let points = Grid::new(GAMES[game].sizes, GAME_DIVISIONS[game]).expect("a grid").points;
