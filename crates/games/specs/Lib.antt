@@ -1,2 +1,2 @@
 pub mod Labelling
-pub mod Corners
+pub mod Points

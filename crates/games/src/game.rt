@@ -1,17 +1,59 @@
 // The labels of all points of a game.
+ghost use mathlib.Core.Bool.{false};
+ghost use mathlib.Core.List.{List, []};
 ghost use mathlib.Core.Path.{_≡_};
+ghost use Prim.Native.Nat.{ℕ, _-_};
 ghost use lib.ListN.{length, take};
 ghost use Rattle.combinatorics.specs.Front.{front};
 ghost use Rattle.combinatorics.specs.Lists.{sum};
+ghost use Rattle.corners.specs.Corners.{numCorners, Cornered};
+ghost use Rattle.games.specs.Points.{ChangeToWeigh, PointsToLabel};
 ghost use Rattle.grid.specs.Build.{lent};
 ghost use Rattle.grid.specs.Grid.{numPoints};
-ghost use Rattle.points_in_order.specs.Lent.{WithFirsts};
+ghost use Rattle.weighed_losses.specs.Levels.{Owners, StandTo};
 ghost use Rattle.losses.specs.Game.{labels};
 ghost use Rattle.losses.specs.Table.{IsTable};
-ghost use Rattle.games.specs.Corners.{PointsToLabel};
-use crate::corners;
+ghost use Rattle.points_in_order.specs.Lent.{WithFirsts};
+use corners::label_point;
+use corners::weigh_corners;
 use grid::wide;
+use weighed_losses::load_losses;
+use weighed_losses::rests;
+use weighed_losses::weigh_levels;
 use losses::num_profiles;
+use points_in_order::advance;
+
+// The levels behind the first block that has changed and the differences at the corners of the point. They stand there
+// already if no block before the last has changed.
+fn weigh_changed(
+    sizes: &[u8],
+    ones: &[u16],
+    firsts: &[u8; 6],
+    owners: &[u8; 16],
+    rests: &[usize; 36],
+    point: &[u16],
+    first: usize,
+    changed: bool,
+    levels: &mut [u32],
+    differences: &mut [i64],
+)
+    requires { ⌜ ((ds losses : List ℕ) × ChangeToWeigh (lent (now sizes) ds) (now ones) (now firsts) (now owners)
+        (now rests) losses (now point) first changed (now levels) (now differences)) ⌝ }
+    ensures { λ _. ⌜ (let y = now (point .entry) in
+        (losses : List ℕ) → StandTo (lent (now (sizes .entry)) []) losses y first (now (levels .entry))
+        → StandTo (lent (now (sizes .entry)) []) losses y (length (now (sizes .entry)) - 1) (now (levels .exit))) ⌝ }
+    ensures { λ _. ⌜ (let g = lent (now (sizes .entry)) (now (ones .entry)) in
+        let y = now (point .entry) in
+        (losses : List ℕ) → StandTo (lent (now (sizes .entry)) []) losses y first (now (levels .entry))
+        → (changed ≡ false → Cornered g losses y (numCorners g) (now (differences .entry)))
+        → Cornered g losses y (numCorners g) (now (differences .exit))) ⌝ }
+{
+    if !changed {
+        return;
+    }
+    weigh_levels(sizes, firsts, owners, rests, point, first, levels);
+    weigh_corners(sizes, ones, firsts, owners, point, levels, differences);
+}
 
 // The labels of all points, from the first point on. In ones the last division is 1.
 fn label_points(
@@ -19,37 +61,53 @@ fn label_points(
     divisions: &[u16],
     ones: &[u16],
     firsts: &[u8; 6],
+    owners: &[u8; 16],
     losses: &[u16],
-    count: usize,
     point: &mut [u16],
-    values: &mut [u32],
+    levels: &mut [u32],
     differences: &mut [i64],
     buffer: &mut [u8],
 )
-    requires { ⌜ PointsToLabel (lent (now sizes) (now divisions)) (now ones) (now firsts) (now losses) count
-        (now point) (now values) (now differences) (now buffer) ⌝ }
+    requires { ⌜ PointsToLabel (lent (now sizes) (now divisions)) (now ones) (now firsts) (now owners) (now losses)
+        (now point) (now levels) (now differences) (now buffer) ⌝ }
     ensures { λ _. ⌜ (let g = lent (now (sizes .entry)) (now (divisions .entry)) in
         now (buffer .exit) ≡ front (labels g (now (losses .entry))) (now (buffer .entry))) ⌝ }
 {
-    let first = wide(firsts[sizes.len() - 1]);
+    let last = sizes.len() - 1;
+    let from = wide(firsts[last]);
     let indices = point.len();
+    let rests = rests(sizes);
+    let count = num_profiles(sizes);
+    load_losses(
+        sizes,
+        firsts,
+        owners,
+        &rests,
+        losses,
+        count,
+        indices,
+        levels,
+    );
+    let mut first: usize = 0;
     let mut changed = true;
     let mut k: usize = 0;
     while k < buffer.len() {
-        corners::weigh_corners(
+        weigh_changed(
             sizes,
             ones,
             firsts,
-            losses,
+            owners,
+            &rests,
             point,
-            count,
+            first,
             changed,
-            values,
+            levels,
             differences,
         );
-        let label = corners::label_point(&point[first..], indices, differences);
+        let label = label_point(&point[from..], indices, differences);
         buffer[k] = label;
-        changed = points_in_order::advance(sizes, firsts, point);
+        first = advance(sizes, firsts, point);
+        changed = first < last;
         k += 1;
     }
 }
@@ -60,23 +118,24 @@ pub fn write_labels(
     divisions: &[u16],
     padded: [u16; 6],
     firsts: &[u8; 6],
+    owners: &[u8; 16],
     losses: &[u16],
     indices: usize,
     buffer: &mut [u8],
 )
     requires { ⌜ (let g = lent (now sizes) (now divisions) in
-        (WithFirsts g (now firsts) × IsTable g (now losses) × (length (now buffer) ≡ numPoints g))) ⌝ }
+        (WithFirsts g (now firsts) × Owners g (now owners) × IsTable g (now losses)
+        × (length (now buffer) ≡ numPoints g))) ⌝ }
     requires { ⌜ (indices ≡ sum (now sizes)) × (take (length (now sizes)) padded ≡ now divisions) ⌝ }
     ensures { λ _. ⌜ (let g = lent (now (sizes .entry)) (now (divisions .entry)) in
         now (buffer .exit) ≡ front (labels g (now (losses .entry))) (now (buffer .entry))) ⌝ }
 {
     let blocks = sizes.len();
-    let count = num_profiles(sizes);
     let mut ones = padded;
     ones[blocks - 1] = 1;
     let mut point = [0u16; 16];
-    // the largest product of sizes that add up to at most 16
-    let mut values = [0u32; 324];
+    // 162 numbers for each of 16 indices on 6 levels
+    let mut levels = [0u32; 15552];
     let mut differences = [0i64; 256];
     points_in_order::first_point(sizes, divisions, firsts, &mut point);
     label_points(
@@ -84,10 +143,10 @@ pub fn write_labels(
         divisions,
         &ones[..blocks],
         firsts,
+        owners,
         losses,
-        count,
         &mut point[..indices],
-        &mut values,
+        &mut levels,
         &mut differences,
         buffer,
     );

@@ -9,9 +9,7 @@ use grid::Grid;
 use losses::in_range;
 use losses::num_profiles;
 
-mod corners;
 mod game;
-mod largest;
 
 pub enum Labelled {
     // the number of the first question answered no
@@ -55,11 +53,13 @@ pub fn label_on(grid: Grid, losses: &[u16], buffer: &mut [u8])
     let divisions = grid.divisions;
     let padded = grid.divisions;
     let firsts = grid.firsts;
+    let owners = grid.block;
     game::write_labels(
         &sizes[..blocks],
         &divisions[..blocks],
         padded,
         &firsts,
+        &owners,
         losses,
         grid.indices,
         buffer,

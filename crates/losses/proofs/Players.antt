@@ -1,18 +1,17 @@
 -- A player and the opponents, in a grid that is accepted. Assumes nothing.
-use mathlib.Core.Bool.{true, not, cond}
+use mathlib.Core.Bool.{true, not}
 use mathlib.Core.List.{List, [], _∷_, _++_, map}
-use mathlib.Core.Logic.{⊎-elim}
-use mathlib.Core.Path.{_≡_, refl, sym, ap, _∙_, subst, subst⁻¹}
+use mathlib.Core.Path.{_≡_, refl, sym, ap, _∙_, subst}
 use Prim.Native.Nat.{ℕ, zero, suc, _+_, _-_, _*_, _≤_, _<_}
-use borrow.Author.Tests.{ne-eqb, leb-true, lt-ltb, le-ltb}
-use lib.Dec.{eqb, leb, ltb}
-use lib.ListN.{length, getD, take, drop, length-append, length-drop, List·getD-append}
-use lib.Seq.{split-at, getD-append-add, take-all}
-use native.Mathlib.Nat.{mul-assoc, mul-left-comm, mul-le-mul, mul-le-mul-right}
+use borrow.Author.Tests.{ne-eqb, leb-true}
+use lib.Dec.{eqb, leb}
+use lib.ListN.{length, getD, take, drop, length-drop}
+use lib.Seq.{split-at, take-all}
+use native.Mathlib.Nat.{mul-assoc, mul-left-comm, mul-le-mul}
 use native.Mathlib.Omega.{arith}
-use Rattle.combinatorics.proofs.Basics.{and-left, and-right, before-or-not}
+use Rattle.combinatorics.proofs.Basics.{and-left, and-right}
 use Rattle.combinatorics.proofs.Lists.{filter-append, eqb-self}
-use Rattle.combinatorics.proofs.Ranges.{length-upFrom, upFrom-add}
+use Rattle.combinatorics.proofs.Ranges.{upFrom-add}
 use Rattle.combinatorics.proofs.Turns.{map-append}
 use Rattle.combinatorics.specs.Lists.{all, filter, sum, upFrom}
 use Rattle.grid.proofs.Accepted.{Accepted, points-are}
@@ -40,25 +39,6 @@ others-are j n h =
     let e : j + suc (n - suc j) ≡ n = omega arith in
     subst (λ (k : ℕ). others j k ≡ upFrom 0 j ++ upFrom (suc j) (n - suc j)) e (others-split j (n - suc j))
 
-pub length-others : (j n : ℕ) → j < n → length (others j n) ≡ n - 1
-length-others j n h = rw (others-are j n h, length-append, length-upFrom, length-upFrom) (omega arith)
-
-at-upFrom : (b n k : ℕ) → k < n → getD (upFrom b n) k 0 ≡ b + k
-at-upFrom b zero k h = absurd (omega arith)
-at-upFrom b (suc n) zero h = omega arith
-at-upFrom b (suc n) (suc k) h = at-upFrom (suc b) n k (omega arith) ∙ omega arith
-
-pub others-at : (j n k : ℕ) → j < n → k < n - 1 → getD (others j n) k 0 ≡ cond (ltb k j) k (suc k)
-others-at j n k h l =
-    rw (others-are j n h)
-    (⊎-elim
-    (λ b. rw (lt-ltb k j b, List·getD-append (upFrom 0 j) (upFrom (suc j) (n - suc j)) 0 k (rw (length-upFrom 0 j) b), at-upFrom 0 j k b) (omega arith))
-    (λ (b : j ≤ k).
-    let e : k ≡ length (upFrom 0 j) + (k - j) = rw (length-upFrom 0 j) (omega arith) in
-    rw (le-ltb k j b) (subst⁻¹ (λ (i : ℕ). getD (upFrom 0 j ++ upFrom (suc j) (n - suc j)) i 0 ≡ suc k) e
-    (getD-append-add (upFrom 0 j) (upFrom (suc j) (n - suc j)) (k - j) 0 ∙ at-upFrom (suc j) (n - suc j) (k - j) (omega arith) ∙ omega arith)))
-    (before-or-not k j))
-
 pub product-append : (u v : List ℕ) → product (u ++ v) ≡ product u * product v
 product-append [] v = omega arith
 product-append (x ∷ u) v = rw (product-append u v) (sym (mul-assoc x (product u) (product v)))
@@ -74,21 +54,12 @@ product-own xs j h =
     in
     rw (e, product-append u v) (ap product (split-at xs j 0 h) ∙ product-append u (getD xs j 0 ∷ v) ∙ mul-left-comm (product u) (getD xs j 0) (product v))
 
-product-positive : (xs : List ℕ) → all (λ x. leb 1 x) xs ≡ true → 1 ≤ product xs
+pub product-positive : (xs : List ℕ) → all (λ x. leb 1 x) xs ≡ true → 1 ≤ product xs
 product-positive [] a = omega arith
 product-positive (x ∷ xs) a =
     let p : 1 ≤ x = leb-true 1 x (and-left (leb 1 x) (all (λ x. leb 1 x) xs) a) in
     let m : 1 * 1 ≤ x * product xs = mul-le-mul p (product-positive xs (and-right (leb 1 x) (all (λ x. leb 1 x) xs) a)) in
     omega arith
-
--- leaving out factors makes a product no larger
-pub product-drop : (p : ℕ) (xs : List ℕ) → all (λ x. leb 1 x) xs ≡ true → product (drop p xs) ≤ product xs
-product-drop zero xs a = omega arith
-product-drop (suc p) [] a = omega arith
-product-drop (suc p) (x ∷ xs) a =
-    let one : 1 ≤ x = leb-true 1 x (and-left (leb 1 x) (all (λ x. leb 1 x) xs) a) in
-    let m : 1 * product xs ≤ x * product xs = mul-le-mul-right (product xs) one in
-    omega (arith, product-drop p xs (and-right (leb 1 x) (all (λ x. leb 1 x) xs) a))
 
 divisions-below : (ss ds : List ℕ) → all (λ s. leb 2 s) ss ≡ true → length ds ≡ length ss → product ds ≤ binomialProduct ss ds
 divisions-below [] [] a e = omega arith

@@ -1,25 +1,22 @@
 -- The loss table of a game, taken apart by player, and the room that a player's losses need. Assumes nothing.
 use mathlib.Core.Bool.{Bool, true, false}
 use mathlib.Core.List.{List, [], _∷_}
-use mathlib.Core.Path.{_≡_, refl, sym, ap, _∙_, subst}
+use mathlib.Core.Path.{_≡_, refl, sym, ap, _∙_}
 use Prim.Native.Nat.{ℕ, zero, suc, _+_, _-_, _*_, _≤_, _<_}
 use borrow.Author.Tests.{leb-true, le-leb}
 use lib.Dec.{leb}
-use lib.ListN.{length, getD, take, drop, length-drop}
-use lib.Seq.{length-take-le, drop-cons}
-use native.Mathlib.Nat.{le-trans, mul-le-mul-left, mul-le-mul-right}
+use lib.ListN.{length, getD, take, drop}
+use lib.Seq.{drop-cons}
+use native.Mathlib.Nat.{le-trans, mul-le-mul-left}
 use native.Mathlib.Omega.{arith}
 use Rattle.combinatorics.proofs.Agreement.{all-drop, all-take}
 use Rattle.combinatorics.proofs.Basics.{false-of, and-both, and-left, and-right}
-use Rattle.combinatorics.proofs.Fronts.{front-length, front-taken}
 use Rattle.combinatorics.proofs.Lists.{all-in, at-all, onNumbers}
 use Rattle.combinatorics.proofs.Ranges.{in-upFrom}
 use Rattle.combinatorics.proofs.Turns.{all-next}
-use Rattle.combinatorics.specs.Front.{front}
 use Rattle.combinatorics.specs.Lists.{all, sum, upFrom}
-use Rattle.grid.specs.Grid.{Grid, Point, numBlocks}
+use Rattle.grid.specs.Grid.{Grid, numBlocks}
 use Rattle.losses.specs.Game.{product, lossesOf}
-use Rattle.losses.specs.AtPoint.{PlayerAtPoint, GameAtPoint}
 use Rattle.losses.specs.Table.{inRange, IsTable}
 
 low-all : (l : List ℕ) → all inRange l ≡ true → all (λ v. leb v 1000) l ≡ true
@@ -27,36 +24,8 @@ low-all [] a = refl
 low-all (x ∷ l) a = and-both _ _ (and-right (leb 1 x) (leb x 1000) (and-left (inRange x) (all inRange l) a)) (low-all l (and-right (inRange x) (all inRange l) a))
 
 module _ (g : Grid) (losses : List ℕ) (t : IsTable g losses) (j : ℕ) (h : j < numBlocks g) where
-  pub part-inside : j * product (g .sizes) + product (g .sizes) ≤ length losses
-  part-inside = omega (arith, mul-le-mul-right (product (g .sizes)) h, t .whole)
-
-  pub part-length : length (lossesOf g losses j) ≡ product (g .sizes)
-  part-length = length-take-le (product (g .sizes)) (drop (j * product (g .sizes)) losses) (omega (arith, length-drop (j * product (g .sizes)) losses, part-inside))
-
   pub part-low : all (λ v. leb v 1000) (lossesOf g losses j) ≡ true
   part-low = low-all (lossesOf g losses j) (all-take inRange (product (g .sizes)) (drop (j * product (g .sizes)) losses) (all-drop inRange (j * product (g .sizes)) losses (t .range)))
-
--- the part of the table that is lent for a player
-pub lent-part : (g : Grid) (losses : List ℕ) (j from count : ℕ) → count ≡ product (g .sizes) → from ≡ j * count → take (from + count - from) (drop from losses) ≡ lossesOf g losses j
-lent-part g losses j from count e f = let z : from + count - from ≡ count = omega arith in rw (z, f, e)
-
--- a player's losses loaded into the values
-pub loaded : (g : Grid) (firsts losses : List ℕ) (y : Point) (count : ℕ) (values : List ℕ) → GameAtPoint g firsts losses y count values
-    → (j : ℕ) → j < numBlocks g → PlayerAtPoint g firsts y j (front (lossesOf g losses j) values) × (take count (front (lossesOf g losses j) values) ≡ lossesOf g losses j)
-loaded g firsts losses y count values p j h =
-    let n = part-length g losses (p .table) j h in
-    let t : take (product (g .sizes)) (front (lossesOf g losses j) values) ≡ lossesOf g losses j =
-    subst (λ (m : ℕ). take m (front (lossesOf g losses j) values) ≡ lossesOf g losses j) n (front-taken (lossesOf g losses j) values)
-    in
-    let room : product (g .sizes) ≤ length values = omega (arith, p .isCount, p .room) in (
-      record {
-        point = p .point;
-        isPlayer = h;
-        room = rw (front-length (lossesOf g losses j) values (omega arith)) room;
-        low = rw t (part-low g losses (p .table) j h);
-      },
-      rw (p .isCount) t,
-    )
 
 -- the largest product of numbers that add up to m, at place m
 largest : List ℕ

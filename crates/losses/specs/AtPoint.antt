@@ -2,40 +2,27 @@
 use mathlib.Core.Bool.{true}
 use mathlib.Core.List.{List, map}
 use mathlib.Core.Path.{_≡_}
-use Prim.Native.Nat.{ℕ, _*_, _/_, _≤_, _<_}
-use lib.Dec.{leb}
+use Prim.Native.Nat.{ℕ, _+_, _*_, _≤_, _<_}
 use lib.ListN.{length, getD, take}
 use lib.Seq.{paste}
-use Rattle.combinatorics.specs.Lists.{all}
-use Rattle.grid.specs.Grid.{Grid, Point, numBlocks, numIndices, size, firstIndex, indicesOf}
+use Rattle.grid.specs.Grid.{Grid, Point, at, numBlocks, numIndices, size, firstIndex, indicesOf}
 use Rattle.points_in_order.specs.Lent.{PointWithFirsts}
-use Rattle.losses.specs.Game.{product, dot, mix}
+use Rattle.losses.specs.Game.{dot, lossesOf}
 use Rattle.losses.specs.Table.{IsTable}
-use Rattle.losses.specs.Weights.{weighed, fit}
+use Rattle.losses.specs.Weights.{fit, strategyLosses}
 
--- a point of a game, with room for the losses of a player
-pub record GameAtPoint (g : Grid) (firsts losses : List ℕ) (y : Point) (count : ℕ) (values : List ℕ) : Type 0 where
+-- at each index the loss of its strategy against the opponents' mixes
+abbrev pub StrategiesStand : Grid → List ℕ → Point → List ℕ → Type 0
+StrategiesStand g losses y values =
+    (j i : ℕ) → j < numBlocks g → i < size g j
+    → at values (firstIndex g j + i) ≡ getD (strategyLosses g y j (lossesOf g losses j)) i 0
+
+-- a point of a game, with the losses of the strategies there
+pub record GameAtPoint (g : Grid) (firsts losses : List ℕ) (y : Point) (values : List ℕ) : Type 0 where
   pub point : PointWithFirsts g firsts y
   pub table : IsTable g losses
-  pub isCount : count ≡ product (g .sizes)
-  pub room : count ≤ length values
-
--- a player at a point, with the player's losses at the front of the values
-pub record PlayerAtPoint (g : Grid) (firsts : List ℕ) (y : Point) (player : ℕ) (values : List ℕ) : Type 0 where
-  pub point : PointWithFirsts g firsts y
-  pub isPlayer : player < numBlocks g
-  pub room : product (g .sizes) ≤ length values
-  pub low : all (λ v. leb v 1000) (take (product (g .sizes)) values) ≡ true
-
--- a block of the grid by whose mix the values are weighed, and the sums fit
-pub record BlockToWeigh (g : Grid) (firsts : List ℕ) (y : Point) (block count : ℕ) (values : List ℕ) : Type 0 where
-  pub inside : block < numBlocks g
-  pub six : numBlocks g ≤ 6
-  pub first : getD firsts block 0 ≡ firstIndex g block
-  pub some : 0 < size g block
-  pub whole : numIndices g ≡ length y
-  pub room : count ≤ length values
-  pub fits : fit (weighed (count / size g block) (mix g y block) values) ≡ true
+  pub stand : StrategiesStand g losses y values
+  pub room : numIndices g ≤ length values
 
 -- the losses of a player's strategies, weighed by the mix, and each times the division, fit
 pub record LossesFit (division : ℕ) (mix values : List ℕ) : Type 0 where

@@ -13,7 +13,7 @@ mod point;
 pub use point::weigh_point;
 
 // A number of a mix, a division or a loss in 32 bits, with nothing to show at the cast.
-fn long(x: u16) -> u32
+pub fn long(x: u16) -> u32
     ensures { λ r. ⌜ r ≡ x ⌝ }
 {
     x as u32

@@ -33,9 +33,9 @@ afterAll (s ∷ ss) y =
     let own = after (take s y) in
     cond (later .moved) (step true (take s y ++ later .list)) (step (own .moved) (own .list ++ later .list))
 
--- the coordinates before those of the last block
-abbrev pub beforeLast : List ℕ → List ℕ → List ℕ
-beforeLast sizes y = take (sum (take (length sizes - 1) sizes)) y
+-- the coordinates before those of block j
+abbrev pub beforeBlock : List ℕ → ℕ → List ℕ → List ℕ
+beforeBlock sizes j y = take (sum (take j sizes)) y
 
 -- the first: each block has its division at its last index
 abbrev pub firstPoint : List ℕ → List ℕ → List ℕ

@@ -1,5 +1,4 @@
 // The grid points in rising lexicographic order, one from the other.
-ghost use mathlib.Core.Bool.{false};
 ghost use mathlib.Core.List.{List};
 ghost use mathlib.Core.Path.{_≡_};
 ghost use Prim.Native.Nat.{ℕ, _<_};
@@ -8,7 +7,7 @@ ghost use Rattle.combinatorics.specs.Front.{front};
 ghost use Rattle.combinatorics.specs.Lists.{sum};
 ghost use Rattle.grid.specs.Build.{lent};
 ghost use Rattle.points_in_order.specs.Lent.{WithFirsts, PointWithFirsts};
-ghost use Rattle.points_in_order.specs.PointAfter.{step, after, afterAll, beforeLast, firstPoint, LastPositive};
+ghost use Rattle.points_in_order.specs.PointAfter.{step, after, afterAll, beforeBlock, firstPoint, LastPositive};
 use grid::wide;
 
 fn last_positive(block: &[u16]) -> usize
@@ -44,13 +43,14 @@ fn advance_block(block: &mut [u16]) -> bool
     true
 }
 
-// The grid point becomes the one after it. The last becomes the first. False: only the last block has changed.
-pub fn advance(sizes: &[u8], firsts: &[u8; 6], point: &mut [u16]) -> bool
+// The grid point becomes the one after it. The last becomes the first. The blocks before the one answered keep their
+// coordinates.
+pub fn advance(sizes: &[u8], firsts: &[u8; 6], point: &mut [u16]) -> usize
     requires { ⌜ ((ds : List ℕ) × PointWithFirsts (lent (now sizes) ds) (now firsts) (now point)) ⌝ }
     ensures { λ _. ⌜ now (point .exit) ≡ afterAll (now (sizes .entry)) (now (point .entry)) .list ⌝ }
-    ensures { λ r. ⌜ (r ≡ false
-        → beforeLast (now (sizes .entry)) (now (point .exit))
-        ≡ beforeLast (now (sizes .entry)) (now (point .entry))) ⌝ }
+    ensures { λ r. ⌜ (r < length (now (sizes .entry)))
+        × (beforeBlock (now (sizes .entry)) r (now (point .exit))
+        ≡ beforeBlock (now (sizes .entry)) r (now (point .entry))) ⌝ }
 {
     let mut j = sizes.len();
     while 0 < j {
@@ -58,10 +58,10 @@ pub fn advance(sizes: &[u8], firsts: &[u8; 6], point: &mut [u16]) -> bool
         let first = wide(firsts[j]);
         let end = first + wide(sizes[j]);
         if advance_block(&mut point[first..end]) {
-            return j + 1 < sizes.len();
+            return j;
         }
     }
-    true
+    0
 }
 
 // The first grid point, at the front of an array of zeros.

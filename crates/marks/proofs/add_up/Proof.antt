@@ -10,10 +10,10 @@ use Rattle.marks.proofs.add_up.Statement.{statement}
 use Rattle.marks.proofs.add_up.Tie as tie
 
 block-of-requires : tie.Need-block-of-requires
-block-of-requires c κs = (c .pre .0 .0, c .pre .1 .0)
+block-of-requires c κs = search needs
 
 block-of-requires-2 : tie.Need-block-of-requires-2
-block-of-requires-2 c κs = (c .before .pre .0 .0, c .before .pre .1 .1)
+block-of-requires-2 c κs = search needs
 
 returns : tie.Need-returns
 returns c = rw (ne-eqb _ _ (λ e. c .if1 .taken (c .before .before .block-of .ensures ∙ e ∙ sym (c .before .block-of2 .ensures))))

@@ -5,9 +5,7 @@ use mathlib.Core.Path.{_≡_, refl, ap, _∙_}
 use Prim.Native.Nat.{ℕ, suc, _+_, _-_, _≤_}
 use native.Mathlib.Omega.{arith}
 use borrow.Author.Needs.{needs}
-use borrow.Author.Tests.{ltb-false}
 use lib.ListN.{length, getD, take, drop}
-use Rattle.combinatorics.proofs.Basics.{absurd-bool}
 use Rattle.combinatorics.specs.Lists.{sum}
 use Rattle.points_in_order.proofs.PointAfter.{Passed, passed-start, lent-turn, lent-ready, passed-moved, passed-end}
 use Rattle.points_in_order.proofs.Blocks.{point-length}
@@ -96,9 +94,6 @@ advance-block-requires c κs =
     let s = c .before .before .before .before .before .before .before .before .before in
     lent-ready (s .args .sizes .now) (s .args .point .now) (l .j - 1) (l .point) (omega arith) (state (c .before)) (c .before .before .before .wide .result) (c .before .wide2 .result) (first-is (c .before)) (c .before .wide2 .ensures) (s .pre .0) (s .args .firsts .now) (s .pre .1)
 
-add-result : tie.Need-add-result Inv-loop μ-loop
-add-result c = omega arith
-
 same-length : tie.Need-same-length Inv-loop μ-loop
 same-length c = search needs
 
@@ -109,7 +104,7 @@ returns c =
     let w = c .before .before .before .before .before in
     let p = turned w (a .last .0) true (a .ensures ∙ ap (λ (b : Bool). step b (a .last .0)) (c .if1 .taken)) in (
       passed-moved (s .args .sizes .now) (s .args .point .now) (k w) _ p,
-      λ f. let e : length (s .args .sizes .now) - 1 ≡ k w = omega (arith, ltb-false (k w + 1) (length (s .args .sizes .now)) f) in rw e (p .before),
+      (omega arith, p .before),
     )
 
 loop-less : tie.Need-loop-less Inv-loop μ-loop
@@ -128,7 +123,7 @@ returns-2 c =
     let s = c .before .before .before .before in
     let l = c .before .loop in
     let e : l .j ≡ 0 = omega arith in
-    (passed-end (s .args .sizes .now) (s .args .point .now) (l .point) (rw e at (l .inv .0)), λ f. absurd-bool f)
+    (passed-end (s .args .sizes .now) (s .args .point .now) (l .point) (rw e at (l .inv .0)), (omega (arith, accepted (lent (s .args .sizes .now) (s .pre .0)) (s .pre .1 .grid .accepted) .someBlock), refl))
 
 pub advance-spec : {M : Type 1} → statement M
 advance-spec =
@@ -148,7 +143,6 @@ advance-spec =
     part-advance-block-start
     part-advance-block-end
     advance-block-requires
-    add-result
     same-length
     returns
     loop-less

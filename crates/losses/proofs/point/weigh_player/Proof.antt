@@ -2,38 +2,43 @@
 use mathlib.Core.Path.{_≡_, _∙_}
 use Prim.Native.Nat.{_+_, _≤_}
 use native.Mathlib.Omega.{arith}
-use lib.ListN.{length}
-use Rattle.grid.proofs.Accepted.{accepted}
-use Rattle.grid.proofs.Round.{block-fits}
-use Rattle.grid.specs.Grid.{Grid, size, firstIndex}
-use Rattle.losses.proofs.Player.{player-fits, player-ends, player-expected, player-replaced}
-use Rattle.points_in_order.proofs.Blocks.{point-length}
-use Rattle.grid.specs.Build.{lent}
 use borrow.Author.Needs.{needs}
+use lib.ListN.{length}
+use Rattle.grid.proofs.Accepted.{Accepted, accepted}
+use Rattle.grid.proofs.Round.{block-fits}
+use Rattle.grid.specs.Build.{lent}
+use Rattle.grid.specs.Grid.{Grid, firstIndex}
+use Rattle.points_in_order.proofs.Blocks.{point-length}
+use Rattle.losses.proofs.Player.{player-fits, player-ends, player-expected, player-replaced}
+use Rattle.losses.specs.AtPoint.{GameAtPoint}
 use Rattle.losses.proofs.point.weigh_player.Statement.{statement}
 use Rattle.losses.proofs.point.weigh_player.Tie as tie
 
+yes : (s : tie.Start) → Accepted (lent (s .args .sizes .now) (s .args .divisions .now))
+yes s = accepted (lent (s .args .sizes .now) (s .args .divisions .now)) (s .pre .0 .1 .point .grid .accepted)
+
 -- what is known where the losses are written
 module _ (c : tie.After-wide2) where
-  abbrev s : tie.Start
-  s = c .before .before .before .before .before .before .before .before .before .before .before .before .before .before .before
+  abbrev start : tie.Start
+  start = c .before .before .before .before .before .before .before .before .before .before
 
   abbrev g : Grid
-  g = lent (s .args .sizes .now) (s .args .divisions .now)
+  g = lent (start .args .sizes .now) (start .args .divisions .now)
 
-  first-is : c .before .before .wide .result ≡ firstIndex g (s .args .player)
-  first-is = c .before .before .wide .ensures ∙ s .pre .0 .point .grid .first (s .args .player) (s .pre .1)
+  abbrev game : GameAtPoint g (start .args .firsts .now) (start .pre .0 .0) (start .args .point .now) (start .args .values .now)
+  game = start .pre .0 .1
 
-  inside : firstIndex g (s .args .player) + size g (s .args .player) ≤ length (s .args .point .now)
-  inside = omega (arith, block-fits (s .args .sizes .now) (s .args .player), point-length g (accepted g (s .pre .0 .point .grid .accepted)) (s .args .point .now) (s .pre .0 .point .isPoint))
+  first-is : c .before .before .wide .result ≡ firstIndex g (start .args .player)
+  first-is = c .before .before .wide .ensures ∙ game .point .grid .first (start .args .player) (start .pre .1)
 
-strategy-losses-requires : tie.Need-strategy-losses-requires
-strategy-losses-requires c κs = search needs
+  inside : firstIndex g (start .args .player) + c .wide2 .result ≤ length (start .args .point .now)
+  inside = omega (arith, c .wide2 .ensures, block-fits (start .args .sizes .now) (start .args .player), point-length g (yes start) (start .args .point .now) (game .point .isPoint))
+
+  inside-values : firstIndex g (start .args .player) + c .wide2 .result ≤ length (start .args .values .now)
+  inside-values = omega (arith, c .wide2 .ensures, block-fits (start .args .sizes .now) (start .args .player), game .room)
 
 element-copy-out-wide : tie.Need-element-copy-out-wide
-element-copy-out-wide c =
-    let s = c .before .before .before .before .before .before .before .before .before .before .before in
-    omega (arith, accepted (lent (s .args .sizes .now) (s .args .divisions .now)) (s .pre .0 .point .grid .accepted) .fewBlocks)
+element-copy-out-wide c = omega (arith, yes (c .before .before .before .before .before .before) .fewBlocks, c .before .before .before .before .before .before .pre .1)
 
 wide-requires : tie.Need-wide-requires
 wide-requires c κs = search needs
@@ -44,8 +49,8 @@ shared-slice-read-wide c = search needs
 wide-requires-2 : tie.Need-wide-requires-2
 wide-requires-2 c κs = search needs
 
-add-put-losses : tie.Need-add-put-losses
-add-put-losses c = omega (arith, first-is c, inside c)
+add-end : tie.Need-add-end
+add-end c = omega (arith, first-is c, inside c)
 
 mul-put-losses : tie.Need-mul-put-losses
 mul-put-losses c = omega (arith, first-is c, inside c)
@@ -60,20 +65,31 @@ part-put-losses-end : tie.Need-part-put-losses-end
 part-put-losses-end c = let e = first-is c in let i = inside c in search needs
 
 mul-put-losses-2 : tie.Need-mul-put-losses-2
-mul-put-losses-2 c = search needs
+mul-put-losses-2 c = omega (arith, first-is (c .before), inside-values (c .before))
+
+sub-put-losses-2 : tie.Need-sub-put-losses-2
+sub-put-losses-2 c = search needs
+
+part-put-losses-start-2 : tie.Need-part-put-losses-start-2
+part-put-losses-start-2 c = search needs
+
+part-put-losses-end-2 : tie.Need-part-put-losses-end-2
+part-put-losses-end-2 c = let e = first-is (c .before) in let i = inside-values (c .before) in search needs
+
+mul-put-losses-3 : tie.Need-mul-put-losses-3
+mul-put-losses-3 c = search needs
 
 shared-slice-read-put-losses : tie.Need-shared-slice-read-put-losses
-shared-slice-read-put-losses c =
-    let s = c .before .before .before .before .before .before .before .before .before .before .before .before .before .before .before .before .before .before in
-    omega (arith, accepted (lent (s .args .sizes .now) (s .args .divisions .now)) (s .pre .0 .point .grid .accepted) .sameNumber)
+shared-slice-read-put-losses c = omega (arith, yes (c .before .before .before .before .before .before .before .before .before .before .before .before .before) .sameNumber, c .before .before .before .before .before .before .before .before .before .before .before .before .before .pre .1)
 
 put-losses-requires : tie.Need-put-losses-requires
 put-losses-requires c κs =
     let w = c .before .before .before .before .before in
-    let s = w .before .before .before .before .before .before .before .before .before .before .before .before .before .before .before in
-    let l = w .before .before .before .before .before .before .strategy-losses in
-    let fits = player-fits (g w) (s .args .firsts .now) (s .args .losses .now) (s .args .point .now) (s .pre .0 .point) (s .pre .0 .table) (s .args .player) (s .pre .1) (l .last .1 .1 .1 .1 .1 .1 .0) (l .ensures) (w .before .before .wide .result) (w .wide2 .result) (first-is w) (w .wide2 .ensures) in
-    let ends = player-ends (g w) (s .args .firsts .now) (s .args .losses .now) (s .args .point .now) (s .pre .0 .point) (s .pre .0 .table) (s .args .player) (s .pre .1) (l .last .1 .1 .1 .1 .1 .1 .0) (l .ensures) (w .before .before .wide .result) (w .wide2 .result) (first-is w) (w .wide2 .ensures) in
+    let s = start w in
+    let t = s .pre .0 .0 in
+    let stand = game w .stand in
+    let fits = player-fits (g w) (start w .args .firsts .now) t (start w .args .point .now) (game w .point) (start w .args .player) (start w .pre .1) (start w .args .values .now) (game w .room) stand (w .before .before .wide .result) (w .wide2 .result) (first-is w) (w .wide2 .ensures) (game w .table) in
+    let ends = player-ends (g w) (start w .args .firsts .now) t (start w .args .point .now) (game w .point) (start w .args .player) (start w .pre .1) (start w .args .values .now) (game w .room) stand (w .before .before .wide .result) (w .wide2 .result) (first-is w) (w .wide2 .ensures) in
     (fits, omega (arith, ends, s .pre .2 .ofExpected), omega (arith, ends, s .pre .2 .ofReplaced))
 
 same-length : tie.Need-same-length
@@ -82,36 +98,32 @@ same-length c = search needs
 same-length-2 : tie.Need-same-length-2
 same-length-2 c = search needs
 
-same-length-3 : tie.Need-same-length-3
-same-length-3 c = search needs
-
 returns : tie.Need-returns
 returns c =
     let w = c .before .before .before .before .before .before .before .before .before .before in
-    let s = w .before .before .before .before .before .before .before .before .before .before .before .before .before .before .before in
-    let l = w .before .before .before .before .before .before .strategy-losses in
-    let p = player-expected (g w) (s .args .firsts .now) (s .args .losses .now) (s .args .point .now) (s .pre .0 .point) (s .pre .0 .table) (s .args .player) (s .pre .1) (l .last .1 .1 .1 .1 .1 .1 .0) (l .ensures) (w .before .before .wide .result) (w .wide2 .result) (first-is w) (w .wide2 .ensures) (s .args .expected .now) in
-    let q = player-replaced (g w) (s .args .firsts .now) (s .args .losses .now) (s .args .point .now) (s .pre .0 .point) (s .pre .0 .table) (s .args .player) (s .pre .1) (l .last .1 .1 .1 .1 .1 .1 .0) (l .ensures) (w .before .before .wide .result) (w .wide2 .result) (first-is w) (w .wide2 .ensures) (s .args .replaced .now) in
-    (c .before .before .before .before .put-losses .ensures .0 ∙ p, c .before .before .before .before .put-losses .ensures .1 ∙ q)
+    let p = c .before .before .before .before .put-losses .ensures in
+    ((λ t stand. p .0 ∙ player-expected (g w) (start w .args .firsts .now) t (start w .args .point .now) (game w .point) (start w .args .player) (start w .pre .1) (start w .args .values .now) (game w .room) stand (w .before .before .wide .result) (w .wide2 .result) (first-is w) (w .wide2 .ensures) (start w .args .expected .now)), λ t stand. p .1 ∙ player-replaced (g w) (start w .args .firsts .now) t (start w .args .point .now) (game w .point) (start w .args .player) (start w .pre .1) (start w .args .values .now) (game w .room) stand (w .before .before .wide .result) (w .wide2 .result) (first-is w) (w .wide2 .ensures) (start w .args .replaced .now))
 
 pub weigh-player-spec : {M : Type 1} → statement M
 weigh-player-spec =
     tie.close
     (tie.spec
-    strategy-losses-requires
     element-copy-out-wide
     wide-requires
     shared-slice-read-wide
     wide-requires-2
-    add-put-losses
+    add-end
     mul-put-losses
     sub-put-losses
     part-put-losses-start
     part-put-losses-end
     mul-put-losses-2
+    sub-put-losses-2
+    part-put-losses-start-2
+    part-put-losses-end-2
+    mul-put-losses-3
     shared-slice-read-put-losses
     put-losses-requires
     same-length
     same-length-2
-    same-length-3
     returns)

@@ -275,6 +275,17 @@ fn near_run(run: RunCall) -> NearCall {
     grid.ranges().zip(grid.divisions).for_each(|(range, division)| w[range.end - 1] = division);
     NearCall { run, w, distance: u64::MAX, list: grid.points }
 }
+/// The game with the most losses: they go through the numbers from 1 to 1,000.
+fn own_game() -> LabelCall {
+    let (sizes, divisions) = (vec![3, 3, 3, 3, 2, 2], vec![2; 6]);
+    let losses = (0..MOST_LOSSES).map(|at| 1 + (at * 7919 % 1000) as u16).collect();
+    let buffer = Grid::new(&sizes, &divisions).expect("a grid").points;
+    LabelCall { sizes, divisions, losses, buffer }
+}
+
+fn own_name(sizes: &[u8], divisions: &[u16]) -> String {
+    format!("own game, {}, {} losses", grid_name(sizes, divisions), MOST_LOSSES)
+}
 
 fn main() {
     #[allow(unused_mut)]
@@ -312,6 +323,8 @@ fn main() {
         let (sizes, divisions, labels) = (sizes.to_vec(), divisions.to_vec(), vec![1; points]);
         benchmark.boundary(&format!("boundary of {}", grid_name(&sizes, &divisions)), &BoundaryCall { sizes, divisions, labels, buffer: points });
     }
+    let own = own_game();
+    benchmark.label(&own_name(&own.sizes, &own.divisions), &own);
     println!("\nchecking all n + 1 points of a simplex, the last first");
     for (sizes, divisions) in [(&[16u8][..], &[1u16][..]), (&[3, 3, 3, 3, 2, 2], &[1; 6])] {
         benchmark.check(&grid_name(sizes, divisions), &whole_simplex(sizes, divisions));
@@ -330,7 +343,8 @@ fn main() {
             Fields { sizes: GAMES[game].sizes, divisions: GAME_DIVISIONS[game], game: Some(game as u8 + 1), ..Fields::default() };
         benchmark.sheet(&name, &fields.bytes());
     }
-    let losses: Vec<u16> = (0..MOST_LOSSES).map(|at| 1 + (at * 7919 % 1000) as u16).collect();
-    let own = Fields { sizes: &[3, 3, 3, 3, 2, 2], divisions: &[1; 6], losses: Some(&losses), ..Fields::default() };
-    benchmark.sheet("own game, 3 3 3 3 2 2;1 1 1 1 1 1, 1,944 losses", &own.bytes());
+    for divisions in [&own.divisions[..], &[1; 6]] {
+        let fields = Fields { sizes: &own.sizes, divisions, losses: Some(&own.losses), ..Fields::default() };
+        benchmark.sheet(&own_name(&own.sizes, divisions), &fields.bytes());
+    }
 }

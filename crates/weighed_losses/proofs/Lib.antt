@@ -1,0 +1,4 @@
+pub mod Blends
+pub mod Levels
+pub mod Writing
+pub mod NextLevel
