@@ -4,7 +4,8 @@ use Prim.Native.Nat.{ℕ}
 use Rattle.nearest.specs.declared.Nearest.{Nearest}
 use Rattle.nearest.specs.declared.Nearest.the-variants.{Nothing, Vertex}
 
--- "report the table position of the visited vertex nearest to it", and "the result gives how much was written"; a refusal "no count"
+-- "report the table position of the visited vertex nearest to it", and "the result gives how much was written"; a
+-- refusal "no count"
 abbrev pub nearFacts : Nearest → List ℕ
 nearFacts Nothing = []
 nearFacts (Vertex position listed) = position ∷ listed ∷ []

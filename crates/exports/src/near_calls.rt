@@ -39,15 +39,18 @@ pub extern "C" fn leveretplate_nearest(
 ) -> u8
     ensures number { λ r. ⌜ (let p = problemOf
         (now (sizes .entry)) (now (divisions .entry)) (now (start .entry)) (now (labels .entry)) in
-        let found = reportOf p (now (w .entry)) distance (length (now (answer .entry))) (length (now (list .entry))) budget in
+        let found = reportOf p (now (w .entry)) distance
+        (length (now (answer .entry))) (length (now (list .entry))) budget in
         r ≡ runNumber (found .run)) ⌝ }
     ensures facts { λ _. ⌜ (let p = problemOf
         (now (sizes .entry)) (now (divisions .entry)) (now (start .entry)) (now (labels .entry)) in
-        let found = reportOf p (now (w .entry)) distance (length (now (answer .entry))) (length (now (list .entry))) budget in
+        let found = reportOf p (now (w .entry)) distance
+        (length (now (answer .entry))) (length (now (list .entry))) budget in
         now (facts .exit) ≡ front (runFacts (found .run)) (now (facts .entry))) ⌝ }
     ensures near { λ _. ⌜ (let p = problemOf
         (now (sizes .entry)) (now (divisions .entry)) (now (start .entry)) (now (labels .entry)) in
-        let found = reportOf p (now (w .entry)) distance (length (now (answer .entry))) (length (now (list .entry))) budget in
+        let found = reportOf p (now (w .entry)) distance
+        (length (now (answer .entry))) (length (now (list .entry))) budget in
         now (near .exit) ≡ front (nearFacts (found .nearest)) (now (near .entry))) ⌝ }
     ensures answer { λ _. ⌜ (let p = problemOf
         (now (sizes .entry)) (now (divisions .entry)) (now (start .entry)) (now (labels .entry)) in

@@ -1,32 +1,29 @@
 -- What request 11 asks holds of every call that is not refused before it runs. Assumes nothing.
 use mathlib.Core.Bool.{true}
-use mathlib.Core.List.{List, []}
+use mathlib.Core.List.{List}
 use mathlib.Core.Logic.{⊎-elim}
-use mathlib.Core.Path.{_≡_, refl, sym, ap, _∙_, subst}
-use Prim.Native.Nat.{ℕ, _<_}
+use mathlib.Core.Path.{_≡_, sym, ap, _∙_}
+use Prim.Native.Nat.{ℕ}
 use lib.ListN.{length, length-replicate, replicate}
 use Rattle.combinatorics.proofs.Basics.{same-or}
 use Rattle.combinatorics.proofs.Fronts.{front-none}
 use Rattle.combinatorics.specs.Front.{front}
 use Rattle.questions.specs.Questions.{firstNo}
-use Rattle.grid.specs.Grid.{Point, isGridPoint, numPoints, position}
+use Rattle.grid.specs.Grid.{Point, isGridPoint}
 use Rattle.grid.specs.Questions.{gridQuestions}
 use Rattle.place.proofs.Theorem.{demand3-holds}
 use Rattle.place.specs.Demand.{Accepted}
-use Rattle.place.specs.Path.{Answer as PathAnswer, answer, pathLength, spent, unknown}
+use Rattle.place.specs.Path.{answer, spent, unknown}
 use Rattle.place.specs.Problem.{Problem}
 use Rattle.finder.proofs.Refusals.{accepted-with-room, answered as run-answered, by-later}
 use Rattle.finder.specs.Finish.{laterQuestions}
-use Rattle.finder.specs.Run.{caseOf, numbersOf, refusal, runAnswer, runBuffer}
-use Rattle.finder.specs.declared.answers.Answer.the-variants.{End, Unknown}
-use Rattle.finder.specs.declared.answers.Kind.{Kind}
+use Rattle.finder.specs.Run.{caseOf, numbersOf, runAnswer, runBuffer}
 use Rattle.visited.proofs.Distances.{distances}
 use Rattle.visited.proofs.Nearest.{grid-accepted, is-list, is-nearest}
 use Rattle.visited.proofs.Visits.{visits}
-use Rattle.visited.specs.Nearest.{nearest, positionsWithin}
+use Rattle.visited.specs.Nearest.{nearest}
 use Rattle.nearest.specs.Demand.{NearDemandHolds}
 use Rattle.nearest.specs.Report.{answerBuffer, listBuffer, listedIn, nearRefusal, nearestIn, reportOf}
-use Rattle.nearest.specs.declared.Nearest.the-variants.{Nothing, Vertex}
 use Rattle.nearest.specs.declared.Report.{Report}
 use Rattle.nearest.proofs.Refusals.{all-yes, answered, at-end, at-gap, by-grid, by-point}
 

@@ -4,15 +4,15 @@ use mathlib.Core.Bool.{Bool, true, false, cond}
 use mathlib.Core.List.{List, [], _∷_, _++_}
 use mathlib.Core.Logic.{⊎-elim}
 use mathlib.Core.Option.{Option, none, some}
-use mathlib.Core.Path.{_≡_, refl, sym, ap, _∙_}
+use mathlib.Core.Path.{_≡_, refl, sym, _∙_}
 use Prim.Native.Nat.{ℕ, _≤_, _<_}
 use denote.Enum.Declared.{tagOf}
 use types.Run.{OneOf}
-use borrow.Author.Tests.{eq-eqb, le-leb, le-ltb, leb-true, lt-leb, lt-ltb, ne-eqb}
-use lib.Dec.{eqb, leb}
+use borrow.Author.Tests.{le-leb, le-ltb, leb-true, lt-leb, lt-ltb, ne-eqb}
+use lib.Dec.{eqb}
 use lib.ListN.{length}
 use native.Mathlib.Omega.{arith}
-use Rattle.combinatorics.proofs.Basics.{before-or-not, true-or-false}
+use Rattle.combinatorics.proofs.Basics.{before-or-not}
 use Rattle.combinatorics.proofs.Fronts.{front-none}
 use Rattle.combinatorics.specs.Front.{front}
 use Rattle.questions.proofs.Answers.{asked-next, asked-no, both-yes, first-yes}
@@ -27,14 +27,11 @@ use Rattle.place.specs.Questions.{question6, question7, question8}
 use Rattle.finder.proofs.answers.Answer.{the-type}
 use Rattle.finder.specs.Finish.{laterQuestions}
 use Rattle.finder.specs.Run.{caseOf, numbersOf}
-use Rattle.finder.specs.declared.answers.Answer.{Answer}
-use Rattle.finder.specs.declared.answers.Answer.the-variants.{End, Refused, Spent, Unknown}
+use Rattle.finder.specs.declared.answers.Answer.the-variants.{End, Refused, Unknown}
 use Rattle.finder.specs.declared.answers.Kind.{Kind}
 use Rattle.visited.specs.Questions.{pointQuestions, question8List}
 use Rattle.nearest.specs.Report.{answerBuffer, listBuffer, listedIn, nearRefusal, nearestIn, reportOf}
-use Rattle.nearest.specs.declared.Nearest.{Nearest}
 use Rattle.nearest.specs.declared.Nearest.the-variants.{Nothing}
-use Rattle.nearest.specs.declared.Report.{Report}
 
 module _ (p : Problem) (w : Point) (room listRoom : ℕ) where
   pub by-grid : (firstNo (gridQuestions (p .grid)) ≡ 0 → ⊥) → nearRefusal p w room listRoom ≡ firstNo (gridQuestions (p .grid))

@@ -1,4 +1,5 @@
--- What a run that reports where the path came nearest answers and leaves in its two buffers, on every input. Assumes nothing.
+-- What a run that reports where the path came nearest answers and leaves in its two buffers, on every input. Assumes
+-- nothing.
 use mathlib.Core.Bool.{cond}
 use mathlib.Core.List.{List, []}
 use Prim.Native.Nat.{ℕ}
@@ -21,10 +22,11 @@ use Rattle.nearest.specs.declared.Report.{Report}
 abbrev pub nearRefusal : Problem → Point → ℕ → ℕ → ℕ
 nearRefusal p w room listRoom = firstNo (nearQuestions p w room listRoom)
 
--- "report the table position of the visited vertex nearest to it", with the number of those listed. "A refusal returns its number and no count": 9
--- and 16, with which no end is reached, report none
+-- "report the table position of the visited vertex nearest to it", with the number of those listed. "A refusal returns
+-- its number and no count": 9 and 16, with which no end is reached, report none
 abbrev pub nearestIn : Problem → Point → ℕ → PathAnswer → Nearest
-nearestIn p w given (ended n kind block vertices simplex) = Vertex (position (p .grid) (nearestVertex p w)) (length (positionsWithin p w given))
+nearestIn p w given (ended n kind block vertices simplex) =
+    Vertex (position (p .grid) (nearestVertex p w)) (length (positionsWithin p w given))
 nearestIn p w given (spent n) = Nothing
 nearestIn p w given (unknown n i) = Nothing
 
@@ -42,8 +44,8 @@ reportOf p w given room listRoom budget =
     (record { run = caseOf (answer p budget); nearest = nearestIn p w given (answer p budget) })
     (record { run = Refused number; nearest = Nothing })
 
--- "A refusal .. changes no buffer. What a call does write stands at the front of its buffer, old contents behind": the answer buffer, for a list
--- of `listRoom` positions; and the list, for an answer buffer of `room` numbers
+-- "A refusal .. changes no buffer. What a call does write stands at the front of its buffer, old contents behind": the
+-- answer buffer, for a list of `listRoom` positions; and the list, for an answer buffer of `room` numbers
 unfoldable pub answerBuffer : Problem → Point → ℕ → ℕ → List ℕ → List ℕ
 answerBuffer p w listRoom budget old =
     front (cond (eqb (nearRefusal p w (length old) listRoom) 0) (numbersOf (answer p budget)) []) old

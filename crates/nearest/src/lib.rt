@@ -57,7 +57,8 @@ fn run_on(
     list: &mut [u16],
 ) -> Report
     requires { ⌜ IsMade g ⌝ }
-    ensures report { λ r. ⌜ r ≡ reportOf (problemFrom g (now (start .entry)) (now (labels .entry))) (now (w .entry)) given
+    ensures report { λ r. ⌜ r
+        ≡ reportOf (problemFrom g (now (start .entry)) (now (labels .entry))) (now (w .entry)) given
         (length (now (answer .entry))) (length (now (list .entry))) budget ⌝ }
     ensures answer { λ _. ⌜ now (answer .exit)
         ≡ answerBuffer (problemFrom g (now (start .entry)) (now (labels .entry))) (now (w .entry))

@@ -4,7 +4,7 @@ use mathlib.Core.List.{List, [], _∷_, _++_, append-nil, map}
 use mathlib.Core.Logic.{⊎-elim}
 use mathlib.Core.Path.{_≡_, refl, sym, ap, _∙_, subst}
 use Prim.Native.Nat.{ℕ, suc, _+_, _*_, _<_, _≤_}
-use borrow.Author.Tests.{eq-eqb, eqb-true, le-leb, le-ltb, leb-true, lt-leb, lt-ltb}
+use borrow.Author.Tests.{le-leb, le-ltb, leb-true, lt-ltb}
 use lib.Dec.{eqb, leb, ltb}
 use lib.ListN.{getD-replicate, length, length-append, length-map, length-replicate, length-set, replicate, set, take}
 use lib.Seq.{getD-set-other, getD-set-same, getD-take}
@@ -143,9 +143,6 @@ module _ (g : Grid) (a : Accepted g) (w : Point) (onW : isGridPoint g w ≡ true
           × (cond (ltb (distance g w y) (t .least)) (distance g w y) (t .least) ≡ distance g w (firstLeast (distance g w) (l ++ (y ∷ []))))
       least-more = ⊎-elim some (λ (e : length l ≤ 0). only l e (K .none (omega arith))) (before-or-not 0 (length l))
         where
-          f : Point → ℕ
-          f = distance g w
-
           only : (l : List Point) → length l ≤ 0 → t .least ≡ 18446744073709551615
               → (cond (ltb (distance g w y) (t .least)) q (t .nearest) ≡ position g (firstLeast (distance g w) (l ++ (y ∷ []))))
               × (cond (ltb (distance g w y) (t .least)) (distance g w y) (t .least) ≡ distance g w (firstLeast (distance g w) (l ++ (y ∷ []))))

@@ -1,14 +1,13 @@
 -- One place of the second pass: every label is known, the point that has come in is the only one that may be new, and so what is kept of the
 -- vertices up to a place becomes what is kept of those up to the next. Assumes nothing.
 use mathlib.Core.Bool.{Bool, true, false, cond}
-use mathlib.Core.List.{List, [], _∷_, _++_, append-nil, map}
+use mathlib.Core.List.{List, [], _∷_, _++_, append-nil}
 use mathlib.Core.Logic.{⊎-elim}
-use mathlib.Core.Option.{some}
 use mathlib.Core.Path.{_≡_, refl, sym, ap, _∙_, subst}
 use Prim.Native.Nat.{ℕ, suc, _-_, _<_, _≤_}
 use borrow.Author.Tests.{eq-eqb, le-ltb, leb-true, lt-ltb, ne-eqb}
-use lib.Dec.{eqb, leb, ltb}
-use lib.ListN.{length, length-map, length-set, length-take, replicate, set, take}
+use lib.Dec.{eqb, leb}
+use lib.ListN.{length, length-map, length-set, length-take, take}
 use lib.Seq.{getD-take, take-all}
 use native.Mathlib.Omega.{arith}
 use Rattle.combinatorics.proofs.Basics.{absurd-bool, and-left, before-or-not, false-of, true-or-false}
@@ -17,20 +16,19 @@ use Rattle.combinatorics.proofs.Ranges.{in-upFrom, upFrom-in}
 use Rattle.combinatorics.specs.Front.{front}
 use Rattle.combinatorics.specs.Lists.{isIn, upFrom}
 use Rattle.grid.proofs.Points.{onPoints}
-use Rattle.grid.specs.Grid.{Point, at, isGridPoint, numIndices, numPoints, position, samePoint}
-use Rattle.grid.specs.Made.{IsMade, shape}
+use Rattle.grid.specs.Grid.{Point, at, isGridPoint, numPoints, position, samePoint}
+use Rattle.grid.specs.Made.{shape}
 use Rattle.grid.specs.declared.Grid.{Grid as GridStruct}
 use Rattle.place.proofs.Filled.{FullyLabelled, beside, filled-full, filledTable}
 use Rattle.place.proofs.LinkSymmetry.{parts}
-use Rattle.place.proofs.Theorem.{demand3-holds, ended-path}
+use Rattle.place.proofs.Theorem.{demand3-holds}
 use Rattle.place.specs.Demand.{Accepted, NoGap, placeAt}
-use Rattle.place.specs.Ends.{End}
 use Rattle.place.specs.Path.{path as pathOf, pathLength}
 use Rattle.place.specs.Places.{Simplex}
 use Rattle.place.specs.Problem.{Problem, hasLabel, label}
 use Rattle.rules.proofs.Follow.{At as StandsAt, NextAt, placeEnds, facetEnds, at-others, at-place, at-reads}
 use Rattle.rules.specs.Read.{CanCompute, pointIn, pointsFrom, read}
-use Rattle.rules.specs.Step.{Round, State, endsAtFacet, endsAtPlace}
+use Rattle.rules.specs.Step.{State, endsAtFacet, endsAtPlace}
 use Rattle.moves.specs.Held.{roundOf, stateOf}
 use Rattle.moves.specs.declared.Status.{Status}
 use Rattle.marks.specs.Reading.{tableOf}
@@ -91,17 +89,16 @@ module _ (g : GridStruct) (first table : List ℕ) (ok : Accepted (problemIn g f
       (rw (getD-take k walked (i .0) [] h) at (i .2))
 
   -- at the end the path has no place more
+  no-more : (k : ℕ) → k < pathLength p → pathLength (filledTable p) ≡ suc k → pathLength p ≡ suc k
+  no-more k l e =
+      ⊎-elim (λ (c : suc k < pathLength p). absurd (omega (arith, beside ok (suc k) c .0))) (λ (c : pathLength p ≤ suc k). omega arith)
+      (before-or-not (suc k) (pathLength p))
+
   pub last-place : (k h : ℕ) (last : State) → k < pathLength p → NextAt (filledTable p) k (endsAtPlace last h) → pathLength p ≡ suc k
   last-place k h last l (placeEnds E) = no-more k l (E .places)
-    where
-      no-more : (k : ℕ) → k < pathLength p → pathLength (filledTable p) ≡ suc k → pathLength p ≡ suc k
-      no-more k l e = ⊎-elim (λ (c : suc k < pathLength p). absurd (omega (arith, beside ok (suc k) c .0))) (λ (c : pathLength p ≤ suc k). omega arith) (before-or-not (suc k) (pathLength p))
 
   pub last-facet : (k h : ℕ) (last : State) → k < pathLength p → NextAt (filledTable p) k (endsAtFacet last h) → pathLength p ≡ suc k
   last-facet k h last l (facetEnds E) = no-more k l (E .places)
-    where
-      no-more : (k : ℕ) → k < pathLength p → pathLength (filledTable p) ≡ suc k → pathLength p ≡ suc k
-      no-more k l e = ⊎-elim (λ (c : suc k < pathLength p). absurd (omega (arith, beside ok (suc k) c .0))) (λ (c : pathLength p ≤ suc k). omega arith) (before-or-not (suc k) (pathLength p))
 
   module _ (s : State) (k : ℕ) (here : OnPath p s k) where
     A : StandsAt (filledTable p) s k

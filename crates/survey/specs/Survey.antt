@@ -1,5 +1,5 @@
--- What the second pass over the path notes of the vertices that it meets, and what it gives. The call's own promise does not cite it.
--- Assumes nothing.
+-- What the second pass over the path notes of the vertices that it meets, and what it gives. The call's own promise
+-- does not cite it. Assumes nothing.
 use mathlib.Core.Bool.{true, cond}
 use mathlib.Core.List.{List, map}
 use mathlib.Core.Option.{some}
@@ -40,7 +40,8 @@ comeIn g a = cond (ltb (a .rule) 6) (At (position g (pointCome g a))) Nothing
 abbrev pub markedIn : Problem → State → List ℕ → List ℕ
 markedIn p a marks = cond (ltb (a .rule) 6) (set marks (a .active) (markOf p (pointCome (p .grid) a))) marks
 
--- a vertex at a position and a distance is met for the first time: the list where it is within the given distance, and what is kept
+-- a vertex at a position and a distance is met for the first time: the list where it is within the given distance, and
+-- what is kept
 abbrev pub listedIn : ℕ → ℕ → ℕ → ℕ → List ℕ → List ℕ
 listedIn given listed position away list = cond (leb away given) (set list listed position) list
 
@@ -54,7 +55,8 @@ noted given t position away = record {
   listed = listedAfter given (t .listed) away;
 }
 
--- what is kept, the marks of the vertices met and the list, after the vertex that has come in, if one has: only one not met before is noted
+-- what is kept, the marks of the vertices met and the list, after the vertex that has come in, if one has: only one not
+-- met before is noted
 abbrev pub tallyAfter : ℕ → Tally → ℕ → List ℕ → Came → Tally
 tallyAfter given t away seen Nothing = t
 tallyAfter given t away seen (At q) = cond (eqb (at seen q) 0) (noted given t q away) t
@@ -78,7 +80,8 @@ pub record HasMet (given : ℕ) (t : Tally) (away : ℕ) (came : Came) (seen lis
   pub written : now (list .exit) ≡ listAfter given t away (now (seen .entry)) (now (list .entry)) came
 
 -- what is kept of the vertices met so far, l, in a list buffer that had the contents `old`
-pub record Kept (g : Grid) (w : Point) (given : ℕ) (old : List ℕ) (l : List Point) (seen list : List ℕ) (t : Tally) : Type 0 where
+pub record Kept (g : Grid) (w : Point) (given : ℕ) (old : List ℕ) (l : List Point) (seen list : List ℕ)
+    (t : Tally) : Type 0 where
   pub long : length seen ≡ 60000
   pub marks : (i : ℕ) → i < 60000 → at seen i ≡ cond (isIn eqb i (map (position g) l)) 1 0
   pub listed : t .listed ≡ length (filter (λ y. leb (distance g w y) given) l)
@@ -88,7 +91,8 @@ pub record Kept (g : Grid) (w : Point) (given : ℕ) (old : List ℕ) (l : List 
   pub least : 0 < length l → t .least ≡ distance g w (firstLeast (distance g w) l)
 
 -- what the second pass asks: a run has reached the path's end
-pub record CanPass (g : GridStruct) (round : Round) (binomials first table weights w list : List ℕ) (places : ℕ) : Type 0 where
+pub record CanPass (g : GridStruct) (round : Round) (binomials first table weights w list : List ℕ)
+    (places : ℕ) : Type 0 where
   pub readable : Readable g binomials table
   pub isRound : IsRound (shape g) round
   pub below : RoundBelow round

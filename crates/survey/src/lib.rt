@@ -221,7 +221,8 @@ pub fn pass(
     ghost { Round }
     requires { λ x. ⌜ round previous next sizes ≡ x ⌝ }
     requires { λ x. ⌜ CanPass g x (now binomials) (now first) (now table) (now weights) (now w) (now list) places ⌝ }
-    ensures { λ _ r. ⌜ Surveyed (problemIn g (now (first .entry)) (now (table .entry))) (now (w .entry)) given list r ⌝ }
+    ensures { λ _ r. ⌜ Surveyed (problemIn g (now (first .entry)) (now (table .entry)))
+        (now (w .entry)) given list r ⌝ }
 {
     let m = g.indices;
     let mut coefficients = [0u16; 16];
@@ -302,7 +303,8 @@ pub fn survey(
     places: u64,
 ) -> Tally
     requires { ⌜ CanSurvey g (now binomials) (now start) (now labels) (now w) (now list) places ⌝ }
-    ensures { λ r. ⌜ Surveyed (problemFrom g (now (start .entry)) (now (labels .entry))) (now (w .entry)) given list r ⌝ }
+    ensures { λ r. ⌜ Surveyed (problemFrom g (now (start .entry)) (now (labels .entry)))
+        (now (w .entry)) given list r ⌝ }
 {
     let m = g.indices;
     let previous = g.previous;

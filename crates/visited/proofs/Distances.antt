@@ -1,25 +1,25 @@
 -- The distance of two grid points: a whole number, at most 2 N D, and 0 only from a point to itself. Assumes nothing.
-use mathlib.Core.Bool.{true, false, not, _&&_}
-use mathlib.Core.List.{List, [], _∷_, _++_, map}
-use mathlib.Core.Logic.{_↔_, ⊎-elim}
-use mathlib.Core.Path.{_≡_, refl, sym, ap, _∙_, subst}
+use mathlib.Core.Bool.{true, not}
+use mathlib.Core.List.{List, [], _∷_, map}
+use mathlib.Core.Logic.{⊎-elim}
+use mathlib.Core.Path.{_≡_, refl, sym, ap, _∙_}
 use Prim.Native.Nat.{ℕ, zero, suc, _+_, _-_, _*_, _≤_, _<_}
 use borrow.Author.Tests.{eq-eqb, eqb-true, leb-true, ne-eqb}
 use lib.Dec.{eqb, leb}
-use lib.ListN.{length, getD, take}
+use lib.ListN.{length, take}
 use lib.Seq.{ext-getD, getD-take, take-all}
 use native.Mathlib.Nat.{add-mul, suc-mul, mul-comm, mul-assoc, mul-one, mul-le-mul, mul-le-mul-left, mul-le-mul-right}
 use native.Mathlib.Numerals.{add-one}
 use native.Mathlib.Omega.{arith}
-use Rattle.combinatorics.proofs.Basics.{and-left, before-or-not, same-or, true-or-false}
+use Rattle.combinatorics.proofs.Basics.{and-left, true-or-false}
 use Rattle.combinatorics.proofs.Agreement.{map-range}
 use Rattle.combinatorics.proofs.Lists.{at-all, filter-append}
 use Rattle.combinatorics.proofs.Ranges.{upFrom-add}
 use Rattle.combinatorics.proofs.Turns.{map-append, sum-append, sum-next, upFrom-next}
-use Rattle.combinatorics.specs.Lists.{all, filter, sum, upFrom}
+use Rattle.combinatorics.specs.Lists.{filter, sum, upFrom}
 use Rattle.grid.proofs.Accepted.{Accepted}
 use Rattle.grid.proofs.Round.{block-at, block-spans}
-use Rattle.grid.specs.Grid.{Grid, Point, at, blockOf, blocks, division, firstIndex, indices, indicesOf, isGridPoint, numBlocks, numIndices, size}
+use Rattle.grid.specs.Grid.{Grid, Point, at, blockOf, blocks, division, firstIndex, indicesOf, isGridPoint, numBlocks, numIndices, size}
 use Rattle.losses.proofs.Players.{divisions-few, product-append, product-own}
 use Rattle.losses.specs.Game.{product}
 use Rattle.positions.proofs.Positions.{adds-up}

@@ -2,14 +2,11 @@
 use mathlib.Core.Bool.{Bool, true, false, not, _&&_, _||_, cond}
 use mathlib.Core.List.{List, [], _∷_, _++_, append-nil}
 use mathlib.Core.Logic.{_⊎_, ⊎-elim}
-use mathlib.Core.Path.{_≡_, refl, sym, ap, _∙_, subst}
-use Prim.Native.Nat.{_≤_}
-use lib.ListN.{length}
-use native.Mathlib.Omega.{arith}
+use mathlib.Core.Path.{_≡_, refl, sym, ap, _∙_}
 use Rattle.combinatorics.proofs.Basics.{absurd-bool, both, false-of, not-is, true-or-false}
-use Rattle.combinatorics.proofs.Lists.{Equality, distinct-filter, distinct-out, filter-all, filter-append, filter-cong, filter-in, in-cases, in-filter, in-here, in-later}
+use Rattle.combinatorics.proofs.Lists.{Equality, distinct-filter, filter-all, filter-append, filter-cong, filter-in, in-cases, in-filter, in-here, in-later}
 use Rattle.combinatorics.specs.Lists.{distinct, filter, isIn}
-use Rattle.trail.proofs.Outside.{outside-in, outside-none, outside-one}
+use Rattle.trail.proofs.Outside.{outside-none, outside-one}
 use Rattle.trail.specs.Change.{outside}
 use Rattle.visited.specs.Visited.{firsts}
 

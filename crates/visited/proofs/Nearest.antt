@@ -1,21 +1,21 @@
 -- The first of the elements with the least value: what it is, and what one element more changes. So the nearest of the visited vertices and the
 -- list of those within a distance. Assumes nothing.
 use mathlib.Core.Bool.{Bool, true, false}
-use mathlib.Core.List.{List, [], _∷_, _++_, map}
-use mathlib.Core.Logic.{_↔_, ⊎-elim}
-use mathlib.Core.Path.{_≡_, refl, sym, ap, _∙_, subst}
-use Prim.Native.Nat.{ℕ, zero, suc, _*_, _≤_, _<_}
+use mathlib.Core.List.{List, [], _∷_, _++_}
+use mathlib.Core.Logic.{⊎-elim}
+use mathlib.Core.Path.{_≡_, refl, sym, _∙_, subst}
+use Prim.Native.Nat.{ℕ, zero, suc, _≤_, _<_}
 use borrow.Author.Tests.{leb-true, le-leb}
-use lib.Dec.{eqb, leb}
+use lib.Dec.{leb}
 use lib.ListN.{length, length-append, length-map, getD, List·getD-append}
 use lib.Seq.{getD-at}
 use native.Mathlib.Omega.{arith}
-use Rattle.combinatorics.proofs.Basics.{absurd-bool, before-or-not, false-of, same-or, true-or-false}
-use Rattle.combinatorics.proofs.Lists.{all-in, append-in, distinct-filter, distinct-map, filter-all, filter-in, in-all, in-append-right, in-cases, in-filter, in-here, in-later, length-filter-le, onNumbers}
-use Rattle.combinatorics.specs.Lists.{all, distinct, filter, firstOr, isIn}
+use Rattle.combinatorics.proofs.Basics.{absurd-bool, before-or-not, false-of}
+use Rattle.combinatorics.proofs.Lists.{all-in, append-in, distinct-filter, distinct-map, filter-all, filter-in, in-all, in-cases, in-filter, in-here, length-filter-le, onNumbers}
+use Rattle.combinatorics.specs.Lists.{all, filter, firstOr, isIn}
 use Rattle.grid.proofs.Accepted.{Accepted as GridAccepted}
 use Rattle.grid.proofs.Points.{onPoints}
-use Rattle.grid.specs.Grid.{Point, isGridPoint, numBlocks, numPoints, position, samePoint}
+use Rattle.grid.specs.Grid.{Point, isGridPoint, position, samePoint}
 use Rattle.place.proofs.Positions.{at-in, in-at}
 use Rattle.place.proofs.Theorem.{demand3-holds}
 use Rattle.place.specs.Demand.{Accepted, placeAt}
@@ -23,8 +23,8 @@ use Rattle.place.specs.Path.{path as pathOf}
 use Rattle.place.specs.Problem.{Problem}
 use Rattle.positions.proofs.ByTails.{position-tells}
 use Rattle.visited.specs.Demand.{IsList, IsNearest}
-use Rattle.visited.specs.Distance.{allDivisions, distance}
-use Rattle.visited.specs.Nearest.{firstLeast, nearest, positionsWithin, verticesWithin}
+use Rattle.visited.specs.Distance.{distance}
+use Rattle.visited.specs.Nearest.{firstLeast, verticesWithin}
 use Rattle.visited.specs.Visited.{firstVisit, visitedVertices}
 use Rattle.visited.proofs.Distances.{distances}
 use Rattle.visited.proofs.Visits.{rising-filter, visits}

@@ -5,29 +5,39 @@ use mathlib.Core.Logic.{⊎-elim}
 use mathlib.Core.Path.{_≡_, refl, sym, ap, _∙_, subst}
 use Prim.Native.Nat.{ℕ, zero, suc, _+_, _≤_, _<_}
 use borrow.Author.Tests.{eqb-true, lt-ltb}
-use lib.Dec.{eqb, ltb}
+use lib.Dec.{eqb}
 use lib.ListN.{length, getD, take}
 use lib.Seq.{take-suc, take-all}
 use native.Mathlib.Omega.{arith}
-use Rattle.combinatorics.proofs.Basics.{absurd-bool, and-both, and-left, and-right, before-or-not, false-of, or-cases, true-or-false}
+use Rattle.combinatorics.proofs.Basics.{absurd-bool, and-both, and-left, and-right, false-of, or-cases, true-or-false}
 use Rattle.combinatorics.proofs.Lists.{Equality, all-in, append-in, distinct-filter, distinct-out, filter-in, in-append-left, in-append-right, in-cases, in-here, in-later, only-member, pigeon}
 use Rattle.combinatorics.proofs.Rising.{rising-below, rising-tail}
-use Rattle.combinatorics.proofs.Turns.{map-append}
 use Rattle.combinatorics.specs.Lists.{all, distinct, filter, isIn, rising, same}
 use Rattle.grid.proofs.Points.{in-points, onPoints}
-use Rattle.grid.specs.Grid.{Point, isGridPoint, numPoints, points, samePoint}
+use Rattle.grid.specs.Grid.{Point, isGridPoint, points, samePoint}
 use Rattle.place.proofs.LinkSymmetry.{parts, place-distinct}
 use Rattle.place.proofs.Theorem.{demand3-holds}
 use Rattle.place.specs.Demand.{Accepted, Follows, placeAt}
 use Rattle.place.specs.Links.{exchanged, extended, linked, shared}
-use Rattle.place.specs.Path.{path as pathOf, pathLength}
+use Rattle.place.specs.Path.{path as pathOf}
 use Rattle.place.specs.Places.{Simplex, isPlace, labelSet, setT, within}
 use Rattle.place.specs.Problem.{Problem}
 use Rattle.trail.proofs.Outside.{filter-split, in-outside, outside-count, outside-in, outside-none}
 use Rattle.trail.specs.Change.{outside}
 use Rattle.visited.specs.Demand.{Visits}
-use Rattle.visited.specs.Visited.{firsts, firstVisit, firstWith, pointsOfPlaces, verticesOf, visitedVertices}
+use Rattle.visited.specs.Visited.{firsts, firstWith, pointsOfPlaces, verticesOf, visitedVertices}
 use Rattle.visited.proofs.Firsts.{firsts-append, firsts-distinct, firsts-in, in-firsts}
+
+-- a list without repeats whose elements are all the same has at most one
+module _ {A : Type 0} (E : Equality A) where
+  open Equality E using (eq)
+
+  alike-one : (xs : List A) → distinct eq xs ≡ true → ((x y : A) → isIn eq x xs ≡ true → isIn eq y xs ≡ true → x ≡ y) → length xs ≤ 1
+  alike-one [] d h = omega arith
+  alike-one (x ∷ []) d h = omega arith
+  alike-one (x ∷ y ∷ ys) d h =
+      let e : y ≡ x = h y x (in-later E y x (y ∷ ys) (in-here E y ys)) (in-here E x (y ∷ ys)) in
+      absurd-bool (sym (in-here E y ys) ∙ subst (λ (z : A). isIn eq z (y ∷ ys) ≡ false) (sym e) (distinct-out eq x (y ∷ ys) d))
 
 -- lists that rise
 module _ {A : Type 0} (E : Equality A) (f : A → ℕ) where
@@ -50,14 +60,6 @@ module _ {A : Type 0} (E : Equality A) (f : A → ℕ) where
   rising-filter q (x ∷ xs) r =
       let i = rising-filter q xs (rising-tail E f x xs r) in
       ⊎-elim (λ t. rw t (rising-front x (filter q xs) (λ z m. rising-below E f x xs r z (filter-in E q z xs m .0)) i)) (λ n. rw n i) (true-or-false (q x))
-
-  -- a list without repeats whose elements are all the same has at most one
-  alike-one : (xs : List A) → distinct eq xs ≡ true → ((x y : A) → isIn eq x xs ≡ true → isIn eq y xs ≡ true → x ≡ y) → length xs ≤ 1
-  alike-one [] d h = omega arith
-  alike-one (x ∷ []) d h = omega arith
-  alike-one (x ∷ y ∷ ys) d h =
-      let e : y ≡ x = h y x (in-later E y x (y ∷ ys) (in-here E y ys)) (in-here E x (y ∷ ys)) in
-      absurd-bool (sym (in-here E y ys) ∙ subst (λ (z : A). isIn eq z (y ∷ ys) ≡ false) (sym e) (distinct-out eq x (y ∷ ys) d))
 
 -- the points of places
 concat-append : (a b : List Simplex) → pointsOfPlaces (a ++ b) ≡ pointsOfPlaces a ++ pointsOfPlaces b
@@ -134,7 +136,7 @@ module _ (s : List Simplex) (O : OneByOne s) where
 
   few-new : (n : ℕ) → n < length s → length (new n) ≤ 1
   few-new n l =
-      alike-one onPoints (λ y. 0) (new n)
+      alike-one onPoints (new n)
       (distinct-filter onPoints (λ x. not (isIn samePoint x (pointsOfPlaces (take n s)))) (firsts samePoint (placeAt s n)) (firsts-distinct onPoints (placeAt s n)))
       (same-new n l)
 

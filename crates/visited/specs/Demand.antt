@@ -1,4 +1,5 @@
--- What holds of the visited vertices, of the nearest of them and of the list, whatever w and the given distance are. Assumes nothing.
+-- What holds of the visited vertices, of the nearest of them and of the list, whatever w and the given distance are.
+-- Assumes nothing.
 use mathlib.Core.Bool.{true}
 use mathlib.Core.List.{[], map}
 use mathlib.Core.Logic.{_↔_}
@@ -30,7 +31,8 @@ pub record Visits (p : Problem) : Type 0 where
 pub record Distances (g : Grid) : Type 0 where
   pub whole : (h : ℕ) → h < numIndices g → otherDivisions g (blockOf g h) * division g (blockOf g h) ≡ allDivisions g
   -- no two grid points are farther apart than 2 N D
-  pub most : (w y : Point) → isGridPoint g w ≡ true → isGridPoint g y ≡ true → distance g w y ≤ 2 * numBlocks g * allDivisions g
+  pub most : (w y : Point) → isGridPoint g w ≡ true → isGridPoint g y ≡ true
+      → distance g w y ≤ 2 * numBlocks g * allDivisions g
   -- and only a point itself is at distance 0
   pub none : (w y : Point) → isGridPoint g w ≡ true → isGridPoint g y ≡ true → (distance g w y ≡ 0) ↔ (y ≡ w)
 
@@ -39,10 +41,13 @@ pub record IsNearest (p : Problem) (w : Point) : Type 0 where
   pub number : ℕ
   pub low : number < length (visitedVertices p)
   pub is : getD (visitedVertices p) number [] ≡ nearest p w
-  pub least : (z : Point) → isIn samePoint z (visitedVertices p) ≡ true → distance (p .grid) w (nearest p w) ≤ distance (p .grid) w z
-  pub earlier : (i : ℕ) → i < number → distance (p .grid) w (nearest p w) < distance (p .grid) w (getD (visitedVertices p) i [])
+  pub least : (z : Point) → isIn samePoint z (visitedVertices p) ≡ true
+      → distance (p .grid) w (nearest p w) ≤ distance (p .grid) w z
+  pub earlier : (i : ℕ) → i < number
+      → distance (p .grid) w (nearest p w) < distance (p .grid) w (getD (visitedVertices p) i [])
 
--- the list has the visited vertices within the distance and no others, no position twice, "in order of first visit", and has room
+-- the list has the visited vertices within the distance and no others, no position twice, "in order of first visit",
+-- and has room
 pub record IsList (p : Problem) (w : Point) (given : ℕ) : Type 0 where
   pub each : (y : Point) → (isIn samePoint y (verticesWithin p w given) ≡ true)
       ↔ ((isIn samePoint y (visitedVertices p) ≡ true) × (distance (p .grid) w y ≤ given))

@@ -12,7 +12,8 @@ use Rattle.place.specs.Questions.{question6, question7, question8}
 abbrev pub question8List : Grid → ℕ → Question
 question8List g room = ask 8 (leb (numPoints g) room)
 
--- the questions of a run behind 1 to 4, where "Question 5 is put for w too", for an answer buffer of `room` numbers and a list of `listRoom`
+-- the questions of a run behind 1 to 4, where "Question 5 is put for w too", for an answer buffer of `room` numbers and
+-- a list of `listRoom`
 abbrev pub pointQuestions : Problem → Point → ℕ → ℕ → List Question
 pointQuestions p w room listRoom =
     question5 (p .grid) (p .start)

@@ -20,7 +20,8 @@ pointsOfPlaces s = concatMap (λ place. place) s
 abbrev pub verticesOf : List Simplex → List Point
 verticesOf s = firsts samePoint (pointsOfPlaces s)
 
--- "visited vertices .. each once, in order of first visit": a visited vertex is a point of a place of the path, {v} and the last place included
+-- "visited vertices .. each once, in order of first visit": a visited vertex is a point of a place of the path, {v} and
+-- the last place included
 unfoldable pub visitedVertices : Problem → List Point
 visitedVertices p = verticesOf (pathOf p .visited)
 

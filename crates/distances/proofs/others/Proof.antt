@@ -1,5 +1,4 @@
 -- `distances::others` meets its contract. The invariant: the product of the other divisions so far. Assumes nothing.
-use mathlib.Core.List.{List}
 use mathlib.Core.Logic.{⊎-elim}
 use mathlib.Core.Path.{_≡_, refl, sym, ap, _∙_}
 use Prim.Native.Nat.{ℕ, _+_, _-_, _*_, _≤_, _<_}
@@ -7,7 +6,6 @@ use lib.ListN.{getD, take}
 use lib.Seq.{getD-take}
 use native.Mathlib.Omega.{arith}
 use Rattle.grid.proofs.Fields.{blocks-range, made-accepted, made-blocks}
-use Rattle.grid.specs.Grid.{at}
 use Rattle.grid.specs.Made.{IsMade, shape}
 use Rattle.grid.specs.declared.Grid.{Grid as GridStruct}
 use Rattle.visited.proofs.Distances.{others-few, part-most, part-other, part-own, partOthers, part-whole}

@@ -1,5 +1,5 @@
 -- `nearest::first_no` meets its contract: each exit is the first question that is answered no. Assumes nothing.
-use mathlib.Core.Path.{_≡_, sym, _∙_}
+use mathlib.Core.Path.{sym, _∙_}
 use borrow.Author.Tests.{not-false, not-true}
 use native.Mathlib.Omega.{arith}
 use Rattle.grid.proofs.Fields.{made-points}

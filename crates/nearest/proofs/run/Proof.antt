@@ -1,5 +1,5 @@
 -- `nearest::run` meets its contract: questions 1 to 4, and then the others on the grid that they let through. Assumes nothing.
-use mathlib.Core.Path.{_≡_, sym, ap, _∙_, subst}
+use mathlib.Core.Path.{sym, ap, _∙_}
 use lib.ListN.{length}
 use Rattle.grid.proofs.Fields.{made-code, made-is}
 use Rattle.grid.specs.Grid.{Grid}

@@ -1,10 +1,7 @@
 -- `nearest::run_on` meets its contract: the questions, the run, and after an end the second pass. Assumes nothing.
-use mathlib.Core.List.{List, []}
-use mathlib.Core.Path.{_≡_, refl, sym, ap, _∙_, subst}
-use Prim.Native.Nat.{ℕ}
+use mathlib.Core.Path.{_≡_, sym, _∙_}
 use lib.ListN.{length}
 use Rattle.combinatorics.proofs.Fronts.{front-none}
-use Rattle.combinatorics.specs.Front.{front}
 use Rattle.place.specs.Path.{answer}
 use Rattle.marks.specs.Reading.{problemFrom}
 use Rattle.finder.proofs.Refusals.{accepted-with-room}

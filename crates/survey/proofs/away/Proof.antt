@@ -1,14 +1,11 @@
 -- `survey::away` meets its contract: the first point is taken through its steps. Assumes nothing.
-use mathlib.Core.List.{List}
-use mathlib.Core.Path.{_≡_, refl, sym, ap, _∙_}
-use Prim.Native.Nat.{ℕ}
+use mathlib.Core.Path.{_≡_, sym, _∙_}
 use lib.ListN.{take}
 use native.Mathlib.Omega.{arith}
 use Rattle.combinatorics.proofs.EditsOfArrays.{first-few}
 use Rattle.rules.proofs.PointsAfter.{after-taken, few-ready}
 use Rattle.rules.specs.Read.{pointAfter}
 use Rattle.rules.specs.Step.{firstOutside}
-use Rattle.visited.specs.Distance.{distance}
 use Rattle.survey.proofs.away.Statement.{statement}
 use Rattle.survey.proofs.away.Tie as tie
 

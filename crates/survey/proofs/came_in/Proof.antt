@@ -1,21 +1,18 @@
 -- `survey::came_in` meets its contract: a label that is known is read with its mark, which holds the position. Assumes nothing.
 use mathlib.Core.List.{[]}
-use mathlib.Core.Path.{_≡_, refl, sym, ap, _∙_}
-use Prim.Native.Nat.{ℕ, suc, _<_, _≤_}
+use mathlib.Core.Path.{refl, sym, ap, _∙_}
+use Prim.Native.Nat.{ℕ}
 use borrow.Author.Tests.{le-ltb, lt-ltb}
-use lib.ListN.{getD, length, set, take}
-use lib.Seq.{getD-set-same, getD-take}
+use lib.ListN.{set}
 use native.Mathlib.Omega.{arith}
-use Rattle.combinatorics.proofs.EditsOfArrays.{counted, first-few}
+use Rattle.combinatorics.proofs.EditsOfArrays.{counted}
 use Rattle.grid.specs.Grid.{position}
 use Rattle.grid.specs.Made.{shape}
 use Rattle.marks.proofs.Readings.{label-is}
 use Rattle.marks.specs.Reading.{tableOf}
 use Rattle.moves.specs.Held.{roundOf, stateOf}
 use Rattle.finder.proofs.Visits.{marked-known, unknown-zero}
-use Rattle.rules.proofs.Marks.{position-in}
 use Rattle.rules.specs.Read.{pointOn}
-use Rattle.rules.specs.Step.{markPosition}
 use Rattle.survey.proofs.Keeping.{marks-hold}
 use Rattle.survey.specs.declared.Came.the-variants.{At}
 use borrow.Author.Needs.{needs}

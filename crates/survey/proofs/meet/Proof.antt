@@ -1,10 +1,7 @@
 -- `survey::meet` meets its contract. Assumes nothing.
-use mathlib.Core.List.{[]}
-use mathlib.Core.Path.{_≡_, refl, sym, ap, _∙_, subst}
-use Prim.Native.Nat.{ℕ}
+use mathlib.Core.Path.{refl}
 use borrow.Author.Tests.{eq-eqb, ne-eqb}
 use native.Mathlib.Omega.{arith}
-use Rattle.survey.specs.Survey.{HasRoom, tallyAfter, seenAfter, listAfter}
 use borrow.Author.Needs.{needs}
 use Rattle.survey.proofs.meet.Statement.{statement}
 use Rattle.survey.proofs.meet.Tie as tie

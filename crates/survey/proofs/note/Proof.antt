@@ -1,7 +1,6 @@
 -- `survey::note` meets its contract. Assumes nothing.
 use mathlib.Core.Path.{refl}
 use borrow.Author.Tests.{le-ltb, lt-ltb}
-use native.Mathlib.Omega.{arith}
 use borrow.Author.Needs.{needs}
 use Rattle.survey.proofs.note.Statement.{statement}
 use Rattle.survey.proofs.note.Tie as tie
