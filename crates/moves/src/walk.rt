@@ -74,7 +74,7 @@ pub fn first_outside_or_zero(
 }
 
 // The index is in neither of the two sets.
-fn in_neither(t: u16, u: u16, h: usize) -> bool
+pub fn in_neither(t: u16, u: u16, h: usize) -> bool
     requires { ⌜ h < 16 ⌝ }
     ensures { λ r. ⌜ r ≡ (not (bit t h) && not (bit u h)) ⌝ }
 {

@@ -28,7 +28,7 @@ use Rattle.walks.proofs.KeptForm.{back-same, grid-long, labelled, meets
 use Rattle.walks.proofs.KeptPlace.{Conditions, at-stepped, conditions-of, distinct-points, is-zero, kept-place, length-stepped, points-long, points-on, zero-is}
 use Rattle.walks.specs.Kept.{isKept, keptPoints, pointsBy, stepped, zeroOutside}
 
-of-conditions : (p : Problem) (y : Point) (o : List ℕ) → Conditions p y o → isKept p y o ≡ true
+pub of-conditions : (p : Problem) (y : Point) (o : List ℕ) → Conditions p y o → isKept p y o ≡ true
 unfolding isKept
 of-conditions p y o k =
     and-both _ _ (and-both _ _ (and-both _ _ (and-both _ _ k.onGrid (and-both _ _ k.below k.different)) k.free)
