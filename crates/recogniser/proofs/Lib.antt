@@ -1,0 +1,5 @@
+pub mod OrderSets
+pub mod Blocks
+pub mod Following
+pub mod Steps
+pub mod Together
