@@ -108,7 +108,7 @@ module _ {p : Problem} (ok : FullyLabelled p) {T : ℕ → Bool} {t : ℕ} {o : 
   own : allLabelled p a ≡ true
   own = full-place ok a (place-of ok.settled S)
 
-  place-way : PlaceEnd (blocksOf p) (labelOf p) t x h
+  pub place-way : PlaceEnd (blocksOf p) (labelOf p) t x h
       → (h < numIndices p.grid) × IsWay p a (stop (record { kind = placeEnd; block = blockOf p.grid h; simplex = a }))
   place-way c =
       let d : PlaceEnd (blocksOf p) (labelOf p) t (coefficientsOf p a) h = rw (back-again ok.settled S) c in
@@ -120,7 +120,7 @@ module _ {p : Problem} (ok : FullyLabelled p) {T : ℕ → Bool} {t : ℕ} {o : 
             (complete-of ok.settled a (pointsOf-grid ok.settled S) t (long ok.settled S) h (blocksOf p .block h) j refl d)),
       )
 
-  facet-way : {n : ℕ} → t ≡ suc n → FacetEnd (blocksOf p) (labelOf p) T n x 0 h
+  pub facet-way : {n : ℕ} → t ≡ suc n → FacetEnd (blocksOf p) (labelOf p) T n x 0 h
       → (h < numIndices p.grid) × IsWay p a (stop (record { kind = facetEnd; block = blockOf p.grid h; simplex = removeAt 0 a }))
   facet-way {n} e F =
       let q = place-of ok.settled S in

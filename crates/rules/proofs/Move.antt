@@ -73,7 +73,7 @@ module _ {p : Problem} (ok : FullyLabelled p) where
     pub outcome : Outcome p T t x left s (step s)
 
   -- a point with a label outside T is the only one
-  extra-at : {T : ℕ → Bool} {t : ℕ} {o : ℕ → ℕ} {x : List (ℕ → ℕ)} → LabelledChain (blocksOf p) (labelOf p) T t o x → (i : ℕ) → i ≤ t
+  pub extra-at : {T : ℕ → Bool} {t : ℕ} {o : ℕ → ℕ} {x : List (ℕ → ℕ)} → LabelledChain (blocksOf p) (labelOf p) T t o x → (i : ℕ) → i ≤ t
       → T (labelsOf p x i) ≡ false → Extra T t (labelsOf p x) i
   extra-at {T} {t} {x} A i l e =
       ⊎-elim (λ w. absurd-bool (sym (w .2 .all i l) ∙ e))
@@ -86,16 +86,16 @@ module _ {p : Problem} (ok : FullyLabelled p) where
   -- a chain and a state whose points all have their labels
   module _ {T : ℕ → Bool} {t : ℕ} {o : ℕ → ℕ} {x : List (ℕ → ℕ)} {s : State} (D : Describes p T t o x s) (A : AllMarks p t x s)
       (low : s .active ≤ t) where
-    label-at : (j : ℕ) → j ≤ t → markLabel (at s.marks j) ≡ suc (labelsOf p x j)
+    pub label-at : (j : ℕ) → j ≤ t → markLabel (at s.marks j) ≡ suc (labelsOf p x j)
     label-at j l = ap markLabel (A j l) ∙ mark-label ok D.chain j l
 
-    label-index : labelIn s - 1 ≡ labelsOf p x s.active
+    pub label-index : labelIn s - 1 ≡ labelsOf p x s.active
     label-index = omega (arith, label-at s.active low)
 
-    label-bit : bit s.T (labelIn s - 1) ≡ T (labelsOf p x s.active)
+    pub label-bit : bit s.T (labelIn s - 1) ≡ T (labelsOf p x s.active)
     label-bit = ap (bit s.T) label-index ∙ D .inT (labelsOf p x s.active) (omega (arith, label-below ok D.chain s.active low, ok .settled .sixteenIndices))
 
-    ready-of : (s .rule < 6 → bit s.T (labelIn s - 1) ≡ true → ReadyLeave s (found (labelIn s) s.active (map markLabel s.marks)))
+    pub ready-of : (s .rule < 6 → bit s.T (labelIn s - 1) ≡ true → ReadyLeave s (found (labelIn s) s.active (map markLabel s.marks)))
         → (s .rule < 6 → bit s.T (labelIn s - 1) ≡ false → ReadyGrow s (labelIn s - 1)) → (6 ≤ s .rule → ReadyLeave s s.active) → Ready s
     ready-of left joined later = record {
       orderBelow = λ j l. let w : j < t = omega (arith, D .orderLength) in
@@ -127,7 +127,7 @@ module _ {p : Problem} (ok : FullyLabelled p) where
 
     -- it is in T: the other point that has it
     module _ (carry : Carries T t (labelsOf p x) s.active) (inside : T (labelsOf p x s.active) ≡ true) where
-      abbrev other : ℕ
+      abbrev pub other : ℕ
       other = found (labelIn s) s.active (map markLabel s.marks)
 
       labels-long : length (map markLabel s.marks) ≡ suc t
@@ -136,15 +136,15 @@ module _ {p : Problem} (ok : FullyLabelled p) where
       carried : (j : ℕ) → j ≤ t → at (map markLabel s.marks) j ≡ suc (labelsOf p x j)
       carried j l = labels-in s.marks j (omega (arith, D .marksLength)) ∙ label-at j l
 
-      other-found : Found (labelIn s) s.active (map markLabel s.marks) other
+      pub other-found : Found (labelIn s) s.active (map markLabel s.marks) other
       other-found =
           let c = carry (labelsOf p x s.active) inside in
           found-is _ s.active (map markLabel s.marks) c.0 (omega (arith, c .1, labels-long)) (carried c.0 c.1 ∙ ap suc c.3 ∙ sym (label-at s.active low)) c.2
 
-      other-at-most : other ≤ t
+      pub other-at-most : other ≤ t
       other-at-most = omega (arith, other-found .inside, labels-long)
 
-      other-carries : Carries T t (labelsOf p x) other
+      pub other-carries : Carries T t (labelsOf p x) other
       other-carries k e =
           let c = carry k e in
           let q : labelsOf p x s.active ≡ labelsOf p x other = omega (arith, carried other other-at-most, label-at s.active low, other-found .is) in
