@@ -1,0 +1,6 @@
+pub mod Choice
+pub mod Kept
+pub mod Ways
+pub mod Carried
+pub mod Gap
+pub mod Next
