@@ -110,6 +110,10 @@ module _ {p : Problem} (ok : Settled p) (s : Simplex) (place : isPlace p s ≡ t
       (λ w. ⊎-elim (λ (e : i ≡ w .0). rw e w.1) (λ e. absurd-bool (sym (w .1 .rest i il e) ∙ none-in)) (same-or i w.0))
       (kinds (labelOf p) own.chain own.covers)
 
+  -- no other point's label can be done without
+  pub gap-only : (j : ℕ) → j ≤ suc n → Carries T (suc n) (λ j. labelOf p (listAt x j)) j → j ≡ i
+  gap-only j l c = extra .only j l c
+
   -- what is linked lies opposite to it
   opposite : (b : Simplex) → isPlace p b ≡ true → linked p s b ≡ true → Through (blocksOf p) T n x i (coefficientsOf p b)
   opposite b hb e =

@@ -4,3 +4,4 @@ pub mod Ways
 pub mod Carried
 pub mod Gap
 pub mod Next
+pub mod Unknown

@@ -49,7 +49,7 @@ use Rattle.walk_moves.proofs.Carried.{carried, points-long}
 use Rattle.walk_moves.proofs.Choice.{came-by, from-start, not-linked, other-on}
 use Rattle.walk_moves.proofs.Gap.{gap-back, gap-way}
 use Rattle.walk_moves.proofs.Kept.{chain, describes, full, marks, order-same, place-filled}
-use Rattle.walk_moves.proofs.Ways.{leaves-by, ready-leaves, ready-on, start-ready, start-way, way-back, way-onward, ways-apart}
+use Rattle.walk_moves.proofs.Ways.{Fits, fits-back, fits-onward, fits-start, leaves-by, ready-leaves, ready-on, start-ready, start-way, way-back, way-onward, ways-apart}
 use Rattle.walk_moves.specs.Lent.{Lent, wayOf}
 use Rattle.walk_moves.specs.Spare.{Spare}
 
@@ -145,6 +145,9 @@ module _ (w : Walk) (labels : List ℕ) (ok : Accepted (over w labels)) (y : Poi
         the-way = subst (λ (z : Simplex). IsWay q z (wayOf q (step S))) points-same
             (start-way (full ok y o place) (described 0 e S L) (all-marked 0 e S L) a r)
 
+  pub fits-v : length o ≡ 0 → (S : State) → Lent p q y o S → S .active ≡ 0 → S .rule < 6 → Fits (full ok y o place) S (step S)
+  fits-v e S L a r = fits-start (full ok y o place) (described 0 e S L) (all-marked 0 e S L) a r
+
   -- a place of two or more points, and the point whose label the others do not need
   module _ (n : ℕ) (e : length o ≡ suc n) (i : ℕ) (low : i ≤ suc n) (spare : Spare p s o i) where
     carries : Carries (inT q s) (suc n) (labelsOf q (coefficientsOf q s)) i
@@ -158,6 +161,12 @@ module _ (w : Walk) (labels : List ℕ) (ok : Accepted (over w labels)) (y : Poi
 
     pub ready-b : (S : State) → Lent p q y o S → S .active ≡ i → 6 ≤ S .rule → Ready S
     ready-b S L a r = ready-leaves (full ok y o place) (described (suc n) e S L) (all-marked (suc n) e S L) (omega arith) (carries-at S a) r
+
+    pub fits-a : (S : State) → Lent p q y o S → S .active ≡ i → S .rule < 6 → Fits (full ok y o place) S (step S)
+    fits-a S L a r = fits-onward (full ok y o place) (described (suc n) e S L) (all-marked (suc n) e S L) (omega arith) (carries-at S a) r
+
+    pub fits-b : (S : State) → Lent p q y o S → S .active ≡ i → 6 ≤ S .rule → Fits (full ok y o place) S (step S)
+    fits-b S L a r = fits-back (full ok y o place) (described (suc n) e S L) (all-marked (suc n) e S L) (omega arith) (carries-at S a) r
 
     way-a : (S : State) → Lent p q y o S → S .active ≡ i → S .rule < 6 → IsWay q s (wayOf q (step S))
     way-a S L a r = subst (λ (z : Simplex). IsWay q z (wayOf q (step S))) points-same

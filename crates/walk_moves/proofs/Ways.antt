@@ -5,26 +5,31 @@ use mathlib.Core.Logic.{_⊎_, inl, inr, ⊎-elim}
 use mathlib.Core.Path.{_≡_, refl, sym, ap, _∙_, subst}
 use Prim.Native.Nat.{ℕ, zero, suc, pred, _-_, _≤_, _<_}
 use borrow.Author.Tests.{le-ltb, lt-ltb}
+use lib.Dec.{eqb}
+use lib.ListN.{length}
 use native.Mathlib.Omega.{arith}
 use Rattle.combinatorics.proofs.Basics.{absurd-bool, true-or-false}
 use Rattle.combinatorics.specs.Edits.{found, removeAt}
+use Rattle.combinatorics.specs.Lists.{isIn}
 use Rattle.geometry.proofs.Definitions.{Carries, Extra}
 use Rattle.geometry.proofs.LabelledChains.{LabelledChain, Link, listAt}
 use Rattle.geometry.proofs.Onward.{through-determines, through-not-above, start-extra}
-use Rattle.grid.specs.Grid.{at}
+use Rattle.grid.specs.Grid.{at, numIndices}
 use Rattle.place.proofs.BlocksOfGrid.{blocksOf}
 use Rattle.place.proofs.ChainLinks.{of-link}
 use Rattle.place.proofs.Filled.{FullyLabelled}
-use Rattle.place.proofs.FromChain.{back-again, place-of}
+use Rattle.place.proofs.FromChain.{T-is, back-again, in-U, place-of}
 use Rattle.place.proofs.ToChain.{coefficientsOf, labelOf, pointsOf}
 use Rattle.place.proofs.Ways.{IsWay, byLink}
 use Rattle.place.specs.Ends.{Kind, Way, facetEnd, link, placeEnd, stop}
+use Rattle.place.specs.Places.{isPlace, setT, setU}
 use Rattle.place.specs.Problem.{Problem}
 use Rattle.rules.proofs.Describes.{AllMarks, Describes, Joined, Left, Reached, facetEnds, joinedOn, labelsOf, leftOn, placeEnds}
 use Rattle.rules.proofs.Follow.{facet-way, place-way}
 use Rattle.rules.proofs.Grow.{grow-ready, grows}
 use Rattle.rules.proofs.Leaves.{leave-ready, leaves}
 use Rattle.rules.proofs.Move.{extra-at, label-bit, label-index, other, other-at-most, other-carries, other-found, ready-of}
+use Rattle.rules.proofs.Range.{few}
 use Rattle.rules.proofs.StatePoints.{all-points, later-points}
 use Rattle.rules.specs.Mask.{bit}
 use Rattle.rules.specs.Ready.{Ready, labelIn}
@@ -149,7 +154,72 @@ module _ {q : Problem} (full : FullyLabelled q) where
         ready-of full D A start-low (λ z w. absurd-bool (sym w ∙ b))
         (λ z w. rw (label-index full D A start-low) (grow-ready full D A (extra-at full D.chain S.active start-low start-out))) (λ z. absurd (omega arith))
 
-    pub start-way : IsWay q (pointsOf q x) (wayOf q (step S))
+    pub start-joins : Joined q T 0 x S (step S)
     unfolding step
-    start-way = joined-way {after = step S} D (rw (lt-ltb S.rule 6 r, label-bit full D A start-low ∙ start-out, label-index full D A start-low)
-        (grows full T 0 o x S S.active D A (extra-at full D.chain S.active start-low start-out)))
+    start-joins = rw (lt-ltb S.rule 6 r, label-bit full D A start-low ∙ start-out, label-index full D A start-low)
+        (grows full T 0 o x S S.active D A (extra-at full D.chain S.active start-low start-out))
+
+    pub start-way : IsWay q (pointsOf q x) (wayOf q (step S))
+    start-way = joined-way D start-joins
+
+-- what comes after a move fits its arrays, and an end names an index
+module _ {q : Problem} (full : FullyLabelled q) where
+  reached-fits : {x : List (ℕ → ℕ)} {e : State} {y : List (ℕ → ℕ)} → Reached q x e y → (length e.order ≤ 15) × (length e.first ≡ 16)
+  reached-fits R = (omega (arith, R .describes .orderLength, few full R.describes.chain, full .settled .sixteenIndices), R .describes .firstLength)
+
+  reached-place : {x : List (ℕ → ℕ)} {e : State} {y : List (ℕ → ℕ)} → Reached q x e y → isPlace q (keptBy q e) ≡ true
+  reached-place R = rw (kept-described full R.describes) (place-of full.settled R.describes.chain)
+
+  reached-masks : {x : List (ℕ → ℕ)} {e : State} {y : List (ℕ → ℕ)} → Reached q x e y
+      → ((k : ℕ) → k < 16 → bit e.T k ≡ isIn eqb k (setT q (keptBy q e))) × ((k : ℕ) → k < 16 → bit e.U k ≡ isIn eqb k (setU q.grid (keptBy q e)))
+  reached-masks {e} {y} R =
+      let D = R .describes in
+      (λ k l. rw (kept-described full D) (D .inT k l ∙ sym (ap (λ (t : ℕ → Bool). t k) (T-is full.settled D.chain))),
+      λ k l. rw (kept-described full D) (D .inU k l ∙ sym (in-U full.settled D.chain k)))
+
+  -- what a move gives, whichever it is
+  pub record Fits (S : State) (after : After) : Type 0 where
+    pub moves : (e : State) → after ≡ goes e → (length e.order ≤ 15) × (length e.first ≡ 16) × (isPlace q (keptBy q e) ≡ true)
+        × ((k : ℕ) → k < 16 → bit e.T k ≡ isIn eqb k (setT q (keptBy q e))) × ((k : ℕ) → k < 16 → bit e.U k ≡ isIn eqb k (setU q.grid (keptBy q e)))
+    pub place : (s : State) (h : ℕ) → after ≡ endsAtPlace s h → (s ≡ S) × (h < numIndices q.grid)
+    pub facet : (s : State) (h : ℕ) → after ≡ endsAtFacet s h → (s ≡ S) × (h < numIndices q.grid) × (1 ≤ length S.order)
+
+  moves-fits : {x : List (ℕ → ℕ)} {f : State} {y : List (ℕ → ℕ)} {S : State} → Reached q x f y → Fits S (goes f)
+  moves-fits {f = f} R = record {
+    moves = λ e z. let r : f ≡ e = cc in rw (← r) (let a = reached-fits R in let m = reached-masks R in (a .0, a .1, reached-place R, m .0, m .1));
+    place = λ s h z. absurd-bool (cc);
+    facet = λ s h z. absurd-bool (cc);
+  }
+
+  left-fits : {T : ℕ → Bool} {n : ℕ} {o : ℕ → ℕ} {x : List (ℕ → ℕ)} {S : State} {i : ℕ} {after : After} → Describes q T (suc n) o x S → Left q T n x S i after → Fits S after
+  left-fits {S = S} D (facetEnds h z F) = record {
+    moves = λ e r. absurd-bool (cc);
+    place = λ s k r. absurd-bool (cc);
+    facet = λ s k r. let a : S ≡ s = cc in let b : h ≡ k = cc in (sym a, rw (← b) (facet-way full D.chain h refl F .0), omega (arith, D .orderLength));
+  }
+  left-fits D (leftOn w) = moves-fits w.2
+
+  joined-fits : {T : ℕ → Bool} {t : ℕ} {o : ℕ → ℕ} {x : List (ℕ → ℕ)} {S : State} {after : After} → Describes q T t o x S → Joined q T t x S after → Fits S after
+  joined-fits {S = S} D (placeEnds h c) = record {
+    moves = λ e r. absurd-bool (cc);
+    place = λ s k r. let a : S ≡ s = cc in let b : h ≡ k = cc in (sym a, rw (← b) (place-way full D.chain h c .0));
+    facet = λ s k r. absurd-bool (cc);
+  }
+  joined-fits D (joinedOn y Y R) = moves-fits R
+
+  module _ {T : ℕ → Bool} {n : ℕ} {o : ℕ → ℕ} {x : List (ℕ → ℕ)} {S : State} (D : Describes q T (suc n) o x S) (A : AllMarks q (suc n) x S) (low : S .active ≤ suc n)
+      (carry : Carries T (suc n) (labelsOf q x) S.active) where
+    pub fits-back : 6 ≤ S .rule → Fits S (step S)
+    fits-back r = left-fits D (leaves-by full D A low carry r)
+
+    pub fits-onward : S .rule < 6 → Fits S (step S)
+    fits-onward r = ⊎-elim (λ e. left-fits D (other-leaves full D A low carry r e)) (λ e. joined-fits D (joins-by full D A low carry r e)) (true-or-false (T (labelsOf q x S.active)))
+
+  pub fits-start : {T : ℕ → Bool} {o : ℕ → ℕ} {x : List (ℕ → ℕ)} {S : State} → Describes q T 0 o x S → AllMarks q 0 x S → S .active ≡ 0 → S .rule < 6 → Fits S (step S)
+  fits-start D A first r = joined-fits D (start-joins full D A first r)
+
+-- the masks of a state are the sets of its place
+pub described-masks : {q : Problem} (full : FullyLabelled q) {T : ℕ → Bool} {t : ℕ} {o : ℕ → ℕ} {x : List (ℕ → ℕ)} {e : State} → Describes q T t o x e
+    → ((k : ℕ) → k < 16 → bit e.T k ≡ isIn eqb k (setT q (pointsOf q x))) × ((k : ℕ) → k < 16 → bit e.U k ≡ isIn eqb k (setU q.grid (pointsOf q x)))
+described-masks full D =
+    (λ k l. D .inT k l ∙ sym (ap (λ (t : ℕ → Bool). t k) (T-is full.settled D.chain)), λ k l. D .inU k l ∙ sym (in-U full.settled D.chain k))

@@ -1,0 +1,75 @@
+-- The first tests of a call: the places so far, and how the present place is kept. Assumes nothing.
+use mathlib.Core.Bool.{Bool, true, false, _&&_, cond}
+use mathlib.Core.List.{List, []}
+use mathlib.Core.Logic.{_⊎_, inl, inr, ⊎-elim}
+use mathlib.Core.Path.{_≡_, refl, sym, ap, _∙_, subst}
+use Prim.Native.Nat.{ℕ, suc, pred, _+_, _-_, _≤_, _<_}
+use borrow.Author.Tests.{eq-eqb, le-leb, leb-true, lt-leb, ne-eqb}
+use lib.Dec.{eqb, leb}
+use lib.ListN.{length, set, take, length-set}
+use lib.Seq.{getD-set-other, getD-set-same}
+use native.Mathlib.Omega.{arith}
+use Rattle.combinatorics.proofs.Basics.{absurd-bool, and-both, and-left, and-right, before-or-not, false-of, same-or, true-or-false}
+use Rattle.grid.proofs.Fields.{made-indices}
+use Rattle.grid.specs.Grid.{at, bound, numIndices}
+use Rattle.grid.specs.Made.{IsMade, shape}
+use Rattle.grid.specs.declared.Grid.{Grid as GridStruct}
+use Rattle.place.proofs.Accepted.{accepted-of}
+use Rattle.place.proofs.IndexSets.{no-empty}
+use Rattle.place.specs.Demand.{Accepted}
+use Rattle.place.specs.Places.{isPlace}
+use Rattle.place.specs.Questions.{tableQuestions}
+use Rattle.questions.specs.Questions.{firstNo}
+use Rattle.walks.specs.Next.{nextOf, refused}
+use Rattle.walk_moves.proofs.Next.{no-count, no-place}
+use Rattle.walk_calls.proofs.Held.{held, held-parts, not-held}
+use Rattle.walk_calls.specs.Moving.{CanStand, FilledBy}
+use Rattle.walk_calls.specs.Standing.{pointsOn, tableOn, walkOn}
+use Rattle.walk_calls.specs.Walks.{holdsNumbers, holdsPlace, keptAs, placeOf, samePlace}
+use Rattle.walk_calls.specs.declared.Place.{Place}
+use Rattle.walk_calls.specs.declared.Walk.{Walk as WalkStruct}
+
+pub fill-no : (marks : List ℕ) (point : ℕ) (unknown : Bool) → unknown ≡ false → length marks ≡ 16 → FilledBy marks point unknown marks
+fill-no marks point unknown e l = record { long = l; each = λ j. rw e (omega arith) }
+
+pub fill-yes : (marks : List ℕ) (point : ℕ) (unknown : Bool) → unknown ≡ true → length marks ≡ 16 → point < 16 → FilledBy marks point unknown (set marks point (at marks point + 1))
+fill-yes marks point unknown e l low = record {
+  long = length-set marks point (at marks point + 1) ∙ l;
+  each = λ j. ⊎-elim (λ (q : j ≡ point). rw (e, q, eq-eqb point point refl) (getD-set-same marks point (at marks point + 1) 0 (omega arith)))
+      (λ (q : j ≡ point → ⊥). rw (e, ne-eqb j point q) (getD-set-other marks point j (at marks point + 1) 0 q ∙ omega arith)) (same-or j point);
+}
+
+module _ (g : GridStruct) (w : WalkStruct) (labels : List ℕ) (made : IsMade g) (asked : firstNo (tableQuestions (tableOn g w labels)) ≡ 0) where
+  ok : Accepted (tableOn g w labels)
+  ok = accepted-of (tableOn g w labels) asked
+
+  pub out-of-range : (leb 1 (w .places) && leb (w .places) (bound (shape g))) ≡ false → nextOf (walkOn (shape g) w) labels ≡ refused 20
+  out-of-range f = no-count (walkOn (shape g) w) labels ok
+      (⊎-elim (λ (l : w .places < 1). inl (omega arith)) (λ (l : 1 ≤ w .places). ⊎-elim (λ (m : bound (shape g) < w .places). inr m)
+      (λ (m : w .places ≤ bound (shape g)). absurd-bool (sym (and-both _ _ (le-leb 1 (w .places) l) (le-leb (w .places) (bound (shape g)) m)) ∙ f)) (before-or-not (bound (shape g)) (w .places)))
+      (before-or-not (w .places) 1))
+
+  pub not-kept-so : holdsPlace (shape g) (w .present) ≡ false → nextOf (walkOn (shape g) w) labels ≡ refused 20
+  not-kept-so f = no-place (walkOn (shape g) w) labels ok (false-of _ (λ h. no-empty (tableOn g w labels) ok.settled.someBlock (rw (not-held (shape g) (w .present) f) at h)))
+
+  pub kept-rightly : holdsNumbers (g .indices) (w .present) ≡ true → length (w .present .first) ≡ 16 → length (w .present .order) ≡ 16
+      → (leb 1 (w .places) && leb (w .places) (bound (shape g))) ≡ true → (n : ℕ) → n ≡ pred (w .present .count) → CanStand g w labels (w .present .first) (w .present .order) n
+  kept-rightly t fl ol range n is =
+      let h : holdsPlace (shape g) (w .present) ≡ true = rw (← (made-indices g made)) t in
+      let k = held-parts (shape g) (w .present) h in
+      record {
+        made = made;
+        asked = asked;
+        few = omega (arith, is, k .0, k .1);
+        firstLong = fl;
+        orderLong = ol;
+        present = held (shape g) (w .present) h ∙ rw (is, made-indices g made);
+        some = leb-true 1 _ (and-left (leb 1 (w .places)) (leb (w .places) (bound (shape g))) range);
+        most = leb-true _ _ (and-right (leb 1 (w .places)) (leb (w .places) (bound (shape g))) range);
+      }
+
+  pub kept-wrongly : holdsNumbers (g .indices) (w .present) ≡ false → nextOf (walkOn (shape g) w) labels ≡ refused 20
+  kept-wrongly f = not-kept-so (rw (← (made-indices g made)) f)
+
+pub count-some : (m : ℕ) (b : Place) → holdsNumbers m b ≡ true → 1 ≤ b .count
+count-some m b e = leb-true 1 _ (and-left (leb 1 (b .count)) (leb (b .count) 16) (and-left (leb 1 (b .count) && leb (b .count) 16) (samePlace b (keptAs m (b .first) (b .order) (pred (b .count)))) e))

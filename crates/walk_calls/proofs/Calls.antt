@@ -1,0 +1,118 @@
+-- The moving call by its parts. In order: a refusal by questions 1 to 7; what comes next; the grid of a walk. Assumes nothing.
+use mathlib.Core.Bool.{Bool, true, false, _&&_, cond}
+use mathlib.Core.List.{List, [], _∷_, _++_, map}
+use mathlib.Core.Path.{_≡_, refl, sym, ap, _∙_, subst}
+use Prim.Native.Nat.{ℕ, suc, _+_, _*_, _≤_, _<_}
+use borrow.Author.Tests.{le-leb, lt-leb}
+use lib.Dec.{eqb, leb}
+use lib.ListN.{length, take, replicate, length-replicate}
+use native.Mathlib.Nat.{mul-le-mul}
+use native.Mathlib.Omega.{arith}
+use Rattle.combinatorics.proofs.Basics.{absurd-bool}
+use Rattle.combinatorics.specs.Front.{front}
+use Rattle.combinatorics.specs.Counting.{falling}
+use Rattle.combinatorics.specs.Lists.{sum, upFrom}
+use Rattle.grid.proofs.Terms.{terms-few}
+use Rattle.grid.specs.Grid.{Grid, bound, dimension, numIndices, numPoints}
+use Rattle.grid.specs.Questions.{gridQuestions, question5}
+use Rattle.place.specs.Demand.{Accepted}
+use Rattle.place.specs.Places.{Simplex, allLabelled}
+use Rattle.place.specs.Questions.{question6, question7, tableQuestions}
+use Rattle.questions.proofs.Answers.{asked-next, asked-no}
+use Rattle.questions.specs.Questions.{ask, firstNo}
+use Rattle.walks.proofs.Moved.{moved-passes, next-refused}
+use Rattle.walks.specs.Next.{Outcome, ended, moved, nextOf, refused, ruleOf}
+use Rattle.walks.specs.Walk.{Walk, isWalk, over, walkQuestions}
+use Rattle.walk_calls.specs.Moving.{callOn, movedTo, unmovedAs}
+use Rattle.walk_calls.specs.Standing.{walkOn}
+use Rattle.walk_calls.specs.Walks.{answerOf, callOf, firstSix, gridOf, nextAs, numbersOf, padded, placeAfter, placeOf, stored, structOn, walkOf}
+use Rattle.walk_calls.specs.declared.Answer.{Answer}
+use Rattle.walk_calls.specs.declared.Answer.the-variants.{Ended, Moved, Refused}
+use Rattle.walk_calls.specs.declared.Call.{Call}
+use Rattle.walk_calls.specs.declared.Kind.{Kind}
+use Rattle.walk_calls.specs.declared.Next.{Next}
+use Rattle.walk_calls.specs.declared.Walk.{Walk as WalkStruct}
+
+abbrev pub madeCall : Answer → List ℕ → WalkStruct → Call
+madeCall answer simplex walk = record { answer = answer; simplex = simplex; walk = walk }
+
+module _ (g : Grid) (w : WalkStruct) (labels : List ℕ) where
+  abbrev walk : Walk
+  walk = walkOn g w
+
+  call-refused : (k : ℕ) → nextOf walk labels ≡ refused k → unmovedAs w k ≡ callOn g w labels
+  unfolding callOn front
+  call-refused k z = rw z
+
+  -- the first of questions 1 to 7 that is answered no
+  pub table-refused : (k : ℕ) → (k ≡ 0 → ⊥) → firstNo (tableQuestions (over walk labels)) ≡ k → unmovedAs w k ≡ callOn g w labels
+  table-refused k ne e = call-refused k (next-refused walk labels k ne
+      (asked-no (tableQuestions (over walk labels)) (ask 20 (isWalk (over walk labels) walk) ∷ ask 16 (allLabelled (over walk labels) (walk .present)) ∷ []) k ne e))
+
+  -- what comes next
+  module _ (next : Next) (is : next ≡ nextAs walk labels (nextOf walk labels)) where
+    pub call-moved : (rule : ℕ) → next .answer ≡ Moved rule → madeCall (next .answer) (next .simplex) (movedTo w (next .place)) ≡ callOn g w labels
+    unfolding callOn nextAs
+    call-moved rule e = go (nextOf walk labels) is
+      where
+        go : (n : Outcome Simplex) → next ≡ nextAs walk labels n → madeCall (next .answer) (next .simplex) (movedTo w (next .place))
+            ≡ madeCall (answerOf (ruleOf (over walk labels) (placeOf g (w .present))) n) (padded 256 (numbersOf n)) (structOn g w n)
+        go (refused k) q = absurd-bool (let z = ap (λ (x : Next). x .answer) q in cc)
+        go (ended k b s) q = absurd-bool (let z = ap (λ (x : Next). x .answer) q in cc)
+        go (moved s) q = rw q
+
+    pub call-refuses : (k : ℕ) → next .answer ≡ Refused k → madeCall (next .answer) (next .simplex) w ≡ callOn g w labels
+    unfolding callOn nextAs
+    call-refuses k e = go (nextOf walk labels) is
+      where
+        go : (n : Outcome Simplex) → next ≡ nextAs walk labels n → madeCall (next .answer) (next .simplex) w
+            ≡ madeCall (answerOf (ruleOf (over walk labels) (placeOf g (w .present))) n) (padded 256 (numbersOf n)) (structOn g w n)
+        go (refused k) q = rw q
+        go (ended k b s) q = rw q
+        go (moved s) q = absurd-bool (let z = ap (λ (x : Next). x .answer) q in cc)
+
+    pub call-ended : (kind : Kind) (block vertices : ℕ) → next .answer ≡ Ended kind block vertices → madeCall (next .answer) (next .simplex) w ≡ callOn g w labels
+    unfolding callOn nextAs
+    call-ended kind block vertices e = go (nextOf walk labels) is
+      where
+        go : (n : Outcome Simplex) → next ≡ nextAs walk labels n → madeCall (next .answer) (next .simplex) w
+            ≡ madeCall (answerOf (ruleOf (over walk labels) (placeOf g (w .present))) n) (padded 256 (numbersOf n)) (structOn g w n)
+        go (refused k) q = rw q
+        go (ended k b s) q = rw q
+        go (moved s) q = absurd-bool (let z = ap (λ (x : Next). x .answer) q in cc)
+
+    -- a walk that is moved has room to count on
+    pub places-few : (rule : ℕ) → next .answer ≡ Moved rule → w .places < 18446744073709551615
+    unfolding nextAs bound
+    places-few rule e = go (nextOf walk labels) refl is
+      where
+        go : (n : Outcome Simplex) → nextOf walk labels ≡ n → next ≡ nextAs walk labels n → w .places < 18446744073709551615
+        go (refused k) x q = absurd-bool (let z = ap (λ (x : Next). x .answer) q in cc)
+        go (ended k b s) x q = absurd-bool (let z = ap (λ (x : Next). x .answer) q in cc)
+        go (moved s) x q =
+            let P = moved-passes walk labels s x .0 in
+            let ok = P .accepted .settled in
+            let few : numPoints g * sum (map (falling (numIndices g)) (upFrom 0 (suc (dimension g)))) ≤ 60000 * 35951249665217 =
+            mul-le-mul (ok .points) (terms-few (numIndices g) (dimension g) (ok .sixteenIndices) (omega (arith, ok .sixteenIndices, ok .someBlock))) in
+            omega (arith, P .stands .bounded, few)
+
+pub call-on-own : (w : WalkStruct) (labels : List ℕ) → callOf w labels ≡ callOn (gridOf w) w labels
+unfolding callOf callOn
+call-on-own w labels = refl
+
+pub six-blocks : (w : WalkStruct) → w .blocks ≤ 6 → gridOf w ≡ record { sizes = take (w .blocks) (w .sizes); divisions = take (w .blocks) (w .divisions) }
+six-blocks w l = rw (le-leb (w .blocks) 6 l)
+
+and-no : (a : Bool) → (a && false) ≡ false
+and-no true = refl
+and-no false = refl
+
+pub too-many-blocks : (w : WalkStruct) (labels : List ℕ) → 6 < w .blocks → unmovedAs w 1 ≡ callOf w labels
+unfolding firstNo
+too-many-blocks w labels l = table-refused (gridOf w) w labels 1 (λ e. absurd (omega arith))
+    (rw (lt-leb (w .blocks) 6 l, length-replicate {A = ℕ} (w .blocks) 0) (rw (lt-leb (w .blocks) 6 l, and-no (leb 1 (w .blocks))))) ∙ sym (call-on-own w labels)
+
+-- a refusal by questions 1 to 4
+pub grid-refused : (w : WalkStruct) (labels : List ℕ) (k : ℕ) → (k ≡ 0 → ⊥) → firstNo (gridQuestions (gridOf w)) ≡ k → unmovedAs w k ≡ callOf w labels
+grid-refused w labels k ne e = table-refused (gridOf w) w labels k ne (asked-no (gridQuestions (gridOf w)) (question5 (gridOf w) (walkOf w .start) ∷ question6 (over (walkOf w) labels)
+    ∷ question7 (over (walkOf w) labels) ∷ []) k ne e) ∙ sym (call-on-own w labels)

@@ -1,0 +1,172 @@
+-- From a place that is kept rightly to one that is recognised, with its spare point. In order: what is asked; labels; T among the labels; the spare point. Assumes
+-- nothing.
+use mathlib.Core.Bool.{Bool, true, false, _&&_, cond}
+use mathlib.Core.List.{List, []}
+use mathlib.Core.Logic.{_⊎_, inl, inr, ⊎-elim}
+use mathlib.Core.Path.{_≡_, refl, sym, ap, _∙_, subst}
+use Prim.Native.Nat.{ℕ, zero, suc, pred, _+_, _*_, _≤_, _<_}
+use borrow.Author.Tests.{ltb-true}
+use lib.Dec.{eqb, ltb}
+use lib.ListN.{length, getD, take, length-take}
+use native.Mathlib.Omega.{arith}
+use Rattle.combinatorics.proofs.Basics.{absurd-bool, and-both, and-left, and-right, before-or-not, both, false-of}
+use Rattle.combinatorics.proofs.Lists.{all-in, in-all, onNumbers}
+use Rattle.combinatorics.specs.Lists.{isIn}
+use Rattle.grid.proofs.Fields.{following-low, made-accepted, made-indices, made-next, made-previous, previous-low}
+use Rattle.grid.proofs.Points.{in-points, onPoints, position-in}
+use Rattle.grid.specs.Grid.{Point, at, blockOf, isGridPoint, numIndices, numPoints, points, position, size}
+use Rattle.grid.specs.Made.{IsMade, shape}
+use Rattle.grid.specs.declared.Grid.{Grid as GridStruct}
+use Rattle.place.proofs.Accepted.{accepted-of}
+use Rattle.place.proofs.Labels.{label-within}
+use Rattle.place.proofs.LinkSymmetry.{parts}
+use Rattle.place.proofs.Meaning.{labels-mean}
+use Rattle.place.proofs.Positions.{at-in, in-at}
+use Rattle.place.specs.Demand.{Accepted}
+use Rattle.place.specs.Places.{Simplex, isPlace, labelSet, within}
+use Rattle.place.specs.Problem.{Problem, label}
+use Rattle.records.proofs.Differences.{same-mask}
+use Rattle.rules.proofs.Marks.{label-in}
+use Rattle.rules.specs.Mask.{bit}
+use Rattle.rules.specs.Step.{markLabel}
+use Rattle.walks.proofs.KeptPlace.{Conditions, conditions-of, points-long, points-on}
+use Rattle.walks.proofs.Recognised.{recognised}
+use Rattle.walks.specs.Kept.{isKept, keptPoints}
+use Rattle.walks.specs.Next.{nextOf, refused}
+use Rattle.walk_moves.proofs.Next.{no-place}
+use Rattle.walk_moves.proofs.Unknown.{some-spare}
+use Rattle.walk_moves.specs.Spare.{Spare, again, outside, unknown}
+use Rattle.recogniser.specs.Kept.{Recognised, Seen}
+use Rattle.recogniser.specs.declared.Sets.{Sets}
+use Rattle.walk_calls.specs.Moving.{CanChoose, CanStand, FilledBy}
+use Rattle.walk_calls.specs.Spares.{LabelsLow, NotNew, SparesOf, again as seenAgain, labelAt, outside as seenOutside, unknown as unseen}
+use Rattle.walk_calls.specs.Standing.{IsRoundOf, Standing, pointsOn, tableOn, walkOn}
+use Rattle.walk_calls.specs.declared.Spared.{Spared}
+use Rattle.walk_calls.specs.declared.Walk.{Walk as WalkStruct}
+
+-- the ways round the blocks
+pub round-of : (g : GridStruct) → IsMade g → (sizes : List ℕ) → ((h : ℕ) → h < g .indices → at sizes h ≡ size (shape g) (blockOf (shape g) h))
+    → IsRoundOf g (g .previous) (g .next) sizes
+round-of g made sizes s = record {
+  round = record {
+    backward = λ h l. made-previous g made h (omega (arith, made-indices g made));
+    forward = λ h l. made-next g made h (omega (arith, made-indices g made));
+    size = λ h l. s h (omega (arith, made-indices g made));
+  };
+  below = record { backward = λ h l. previous-low g made h; forward = λ h l. following-low g made h };
+}
+
+module _ {g : GridStruct} {w : WalkStruct} {labels first order : List ℕ} {n : ℕ} (C : CanStand g w labels first order n) where
+  abbrev p : Problem
+  p = tableOn g w labels
+
+  abbrev y : Point
+  y = take (g .indices) first
+
+  abbrev o : List ℕ
+  o = take n order
+
+  abbrev s : Simplex
+  s = keptPoints (shape g) y o
+
+  pub ok : Accepted p
+  ok = accepted-of p C.asked
+
+  long-o : length o ≡ n
+  long-o = length-take n order ∙ omega (arith, C .orderLong, C .few)
+
+  refuses : isPlace p s ≡ false → nextOf (walkOn (shape g) w) labels ≡ refused 20
+  refuses f = no-place (walkOn (shape g) w) labels ok (rw C.present f)
+
+  pub not-kept : isKept p y o ≡ false → nextOf (walkOn (shape g) w) labels ≡ refused 20
+  not-kept f = refuses (recognised ok.settled y o ∙ (rw f))
+
+  module _ {list marks : List ℕ} {t u : ℕ} (S : Seen p y o list marks t u) where
+    -- the points are on the grid, and their labels stand in the marks
+    on-grid : (j : ℕ) → j ≤ n → isGridPoint (shape g) (getD s j []) ≡ true
+    on-grid j l = let k = conditions-of p y o S.kept in
+        all-in onPoints (isGridPoint (shape g)) s (points-on ok.settled y o k) (getD s j []) (at-in onPoints [] s j (omega (arith, points-long ok.settled y o k, long-o)))
+
+    label-few : (j : ℕ) → j ≤ n → label p (getD s j []) ≤ 16
+    label-few j l = omega (arith, label-within ok (getD s j []) (on-grid j l), ok .settled .sixteenIndices)
+
+    pub label-is : (j : ℕ) → j ≤ n → labelAt marks j ≡ label p (getD s j [])
+    label-is j l = ap markLabel (S .marked j (omega (arith, long-o))) ∙ label-in (position (shape g) (getD s j [])) (label p (getD s j [])) (omega (arith, label-few j l))
+
+    pub labels-low : LabelsLow marks n
+    labels-low j l = omega (arith, label-is j l, label-few j l)
+
+    -- T is among the labels exactly if all of it is seen
+    module _ {r : Spared} (P : SparesOf marks n t r) where
+      seen-in : (k : ℕ) → k < 16 → bit (r .seen) k ≡ true → isIn eqb k (labelSet p s) ≡ true
+      seen-in k l b =
+          let v = P .known k l b in
+          let jl : v .1 .0 ≤ n = omega (arith, v .1 .1) in
+          let e = sym (label-is v.1.0 jl) ∙ v .1 .2 in
+          labels-mean p s k .1 (omega (arith, e, label-within ok (getD s v.1.0 []) (on-grid v.1.0 jl)), (getD s v.1.0 [], at-in onPoints [] s v.1.0 (omega (arith, points-long ok.settled y o (conditions-of p y o S.kept), long-o)), e))
+
+      below : (k : ℕ) → isIn eqb k o ≡ true → k < 16
+      below k m = let b = conditions-of p y o S.kept .below in
+          omega (arith, ltb-true k (numIndices (shape g)) (all-in onNumbers (λ h. ltb h (numIndices (shape g))) o b k m), ok .settled .sixteenIndices)
+
+      pub all-seen : r .seen ≡ t → isPlace p s ≡ true
+      all-seen e = recognised ok.settled y o ∙ and-both _ _ S.kept (in-all onNumbers _ o (λ k m. seen-in k (below k m) (ap (λ (x : ℕ). bit x k) e ∙ S .inT k (below k m) ∙ m)))
+
+      pub not-all : r .seen < 65536 → t < 65536 → (r .seen ≡ t → ⊥) → nextOf (walkOn (shape g) w) labels ≡ refused 20
+      not-all ls lt ne = refuses (false-of _ (λ h. ne (same-mask (r .seen) t ls lt (λ k l. both (bit (r .seen) k) (bit t k) (λ b. P .known k l b .0) (λ b.
+          let m = sym (S .inT k l) ∙ b in
+          let v = labels-mean p s k .0 (all-in onNumbers (λ h. isIn eqb h (labelSet p s)) o (and-right (isKept p y o) (within o (labelSet p s)) (sym (recognised ok.settled y o) ∙ h)) k m) in
+          let i = in-at onPoints [] v.1.0 s v.1.1 in
+          let il : i .0 ≤ n = omega (arith, i .1, points-long ok.settled y o (conditions-of p y o S.kept), long-o) in
+          P .all i.0 k (omega (arith, il)) l (label-is i.0 il ∙ ap (label p) i.2 ∙ v .1 .2) b)))))
+
+      -- the spare point
+      module _ (place : isPlace p s ≡ true) where
+        not-new : (j : ℕ) × (j ≤ n) × NotNew marks t j
+        not-new =
+            let v = some-spare ok y o place in
+            let jl : v .0 ≤ n = omega (arith, v .1, long-o) in
+            (v .0, jl, ⊎-elim (λ z. unseen (label-is v.0 jl ∙ z)) (λ z. ⊎-elim
+            (λ x. ⊎-elim (λ (l : x .0 < 16). seenOutside x.0 (label-is v.0 jl ∙ x .1) (S .inT x.0 l ∙ x .2)) (λ l. absurd (omega (arith, l, x .1, label-few v.0 jl))) (before-or-not x.0 16))
+            (λ x. seenAgain x.0 x.1 (label-is x.0 (omega (arith, x .1)) ∙ x .2 ∙ sym (label-is v.0 jl))) z) v.2)
+
+        found : (r .point ≤ n) × NotNew marks t (r .point)
+        found = let v = not-new in let f = P .spare v.0 (omega (arith, v .1)) v.2 in (omega (arith, f .0), f .1)
+
+        spare-of : Spare p s o (r .point)
+        spare-of = go (found .1)
+          where
+            go : NotNew marks t (r .point) → Spare p s o (r .point)
+            go (unseen z) = unknown (sym (label-is (r .point) found.0) ∙ z)
+            go (seenOutside h z b) = let e = sym (label-is (r .point) found.0) ∙ z in outside h e (sym (S .inT h (omega (arith, e, label-few (r .point) found.0))) ∙ b)
+            go (seenAgain j l z) = again j (omega (arith, l, found .0, long-o)) (λ e. omega (arith, l, e)) (sym (label-is j (omega (arith, l, found .0))) ∙ z ∙ label-is (r .point) found.0)
+
+        pub can-choose : length first ≡ 16 → CanChoose g w labels first list order marks n t u (r .point)
+        can-choose fl = record {
+          low = omega (arith, found .0, C .few);
+          long = S .marksLong;
+          room = omega (arith, S .marked (r .point) (omega (arith, found .0, long-o)), label-few (r .point) found.0, low-position (r .point) found.0, made-accepted g C.made .fewPoints);
+          stands = λ own un e F. record {
+            made = C .made;
+            asked = C .asked;
+            few = C .few;
+            firstLong = fl;
+            listLong = S .listLong;
+            orderLong = C .orderLong;
+            marksLong = F .long;
+            present = C .present;
+            place = place;
+            inT = S .inT;
+            inU = S .inU;
+            listAt = S .listAt;
+            low = found .0;
+            spare = spare-of;
+            unknownIs = e ∙ ap (λ (x : ℕ). eqb x 0) (label-is (r .point) found.0);
+            marked = λ j l. F .each j ∙ ap (λ (x : ℕ). x + cond (un && eqb j (r .point)) 1 0) (S .marked j (omega (arith, long-o)));
+            some = C .some;
+            most = C .most;
+          };
+        }
+          where
+            low-position : (j : ℕ) → j ≤ n → position (shape g) (getD s j []) < numPoints (shape g)
+            low-position j l = position-in (points (shape g)) (getD s j []) (in-points (shape g) (getD s j []) ok.settled.sameNumber (on-grid j l))

@@ -1,0 +1,7 @@
+pub mod Walks
+pub mod Spares
+pub mod Ways
+pub mod Ends
+pub mod Standing
+pub mod Asked
+pub mod Moving

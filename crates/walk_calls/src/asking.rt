@@ -1,0 +1,39 @@
+// Questions 5, 6 and 7, and whether the places so far are in range.
+ghost use mathlib.Core.Bool.{_&&_};
+ghost use mathlib.Core.Path.{_≡_};
+ghost use lib.Dec.{leb};
+ghost use Rattle.questions.specs.Questions.{firstNo};
+ghost use Rattle.grid.specs.Grid.{bound};
+ghost use Rattle.grid.specs.Made.{IsMade, shape};
+ghost use Rattle.walk_calls.specs.Asked.{laterQuestions};
+use grid::Grid;
+use label_table::all_at_most;
+
+// The number of the first of questions 5 to 7 that is answered no, or 0, on a grid that is accepted.
+pub fn first_no(g: Grid, start: &[u16], labels: &[u8]) -> u8
+    requires { ⌜ IsMade g ⌝ }
+    ensures { λ r. ⌜ r ≡ firstNo (laterQuestions g (now (start .entry)) (now (labels .entry))) ⌝ }
+{
+    let m = g.indices;
+    if !g.is_grid_point(start) {
+        return 5;
+    }
+    if labels.len() != g.points {
+        return 6;
+    }
+    if !all_at_most(labels, m as u8) {
+        return 7;
+    }
+    0
+}
+
+// Whether the places so far are from 1 to the bound.
+pub fn in_range(g: Grid, places: u64) -> bool
+    requires { ⌜ IsMade g ⌝ }
+    ensures { λ r. ⌜ r ≡ (leb 1 places && leb places (bound (shape g))) ⌝ }
+{
+    if places == 0 {
+        return false;
+    }
+    places <= g.bound()
+}

@@ -1,0 +1,254 @@
+// The moving call by value.
+ghost use mathlib.Core.Path.{_≡_};
+ghost use Prim.Native.Nat.{_≤_, _<_};
+ghost use lib.ListN.{length, take};
+ghost use Rattle.questions.specs.Questions.{firstNo};
+ghost use Rattle.grid.specs.Made.{IsMade, shape};
+ghost use Rattle.place.specs.Questions.{tableQuestions};
+ghost use Rattle.recogniser.specs.Kept.{Recognised};
+ghost use Rattle.walk_calls.specs.Moving.{CanChoose, CanFill, CanStand, FilledBy, callOn, movedTo, unmovedAs};
+ghost use Rattle.walk_calls.specs.Standing.{IsRoundOf, nextIn, tableOn};
+ghost use Rattle.walk_calls.specs.Walks.{callOf};
+use crate::Answer;
+use crate::Call;
+use crate::Next;
+use crate::Place;
+use crate::Walk;
+use crate::asking::first_no;
+use crate::asking::in_range;
+use crate::choice::from_other;
+use crate::choice::from_start;
+use crate::ending::refused;
+use crate::keeping::is_kept;
+use crate::spares::spare;
+use grid::Grid;
+use grid::wide;
+use moves::block_sizes;
+use moves::label_in;
+use positions::ENTRIES;
+use recogniser::Sets;
+use recogniser::recognise;
+
+// T and U of the place with this first point and order, if it is one but for its labels; the coefficients and the marks
+// into their arrays.
+fn seen(
+    g: Grid,
+    w: Walk,
+    labels: &[u8],
+    first: &[u16; 16],
+    order: &[u32; 16],
+    n: usize,
+    list: &mut [u16; 16],
+    marks: &mut [u32; 16],
+) -> Sets
+    requires { ⌜ CanStand g w (now labels) (now first) (now order) n × (length (now marks) ≡ 16) ⌝ }
+    ensures { λ r. ⌜ Recognised (tableOn g w (now (labels .entry))) (take (g .indices) (now (first .entry)))
+        (take n (now (order .entry))) (now (list .exit)) (now (marks .exit)) r ⌝ }
+{
+    let previous = g.previous;
+    let sizes = block_sizes(g);
+    let start = w.start;
+    let m = g.indices;
+    let mut binomials = [0u16; ENTRIES];
+    positions::binomials(g, &mut binomials);
+    recognise(
+        g,
+        &binomials,
+        &start[..m],
+        labels,
+        &previous,
+        &sizes,
+        first,
+        order,
+        n,
+        list,
+        marks,
+    )
+}
+
+// The marks, with index 1 for the label of this point where it is not yet known.
+fn filled(marks: &[u32; 16], point: usize, unknown: bool) -> [u32; 16]
+    requires { ⌜ CanFill (now marks) point unknown ⌝ }
+    ensures { λ r. ⌜ FilledBy (now (marks .entry)) point unknown r ⌝ }
+{
+    let mut own = *marks;
+    if unknown {
+        own[point] = own[point] + 1;
+    }
+    own
+}
+
+// What comes next from a place, by the point whose label the others do not need.
+fn chosen(
+    g: Grid,
+    sizes: &[u8; 16],
+    first: &[u16; 16],
+    list: &[u16; 16],
+    order: &[u32; 16],
+    marks: &[u32; 16],
+    labels: &[u8],
+    w: Walk,
+    n: usize,
+    sets: Sets,
+    point: usize,
+) -> Next
+    requires { ⌜ CanChoose g w (now labels) (now first) (now list) (now order) (now marks) n (sets .t) (sets .u) point ⌝ }
+    requires { ⌜ IsRoundOf g (g .previous) (g .next) (now sizes) ⌝ }
+    ensures { λ r. ⌜ r ≡ nextIn g w (now (labels .entry)) ⌝ }
+{
+    let previous = g.previous;
+    let next = g.next;
+    let t = sets.t;
+    let u = sets.u;
+    let unknown = label_in(marks[point]) == 0;
+    let own = filled(marks, point, unknown);
+    if n == 0 {
+        return from_start(
+            g, &previous, &next, sizes, first, list, order, &own, labels, w, t, u, unknown,
+        );
+    }
+    from_other(
+        g, &previous, &next, sizes, first, list, order, &own, labels, w, n, t, u, point, unknown,
+    )
+}
+
+// What comes next from a place that is kept rightly: it is recognised, its labels must have all of T, and one of the two
+// moves from it must lead back.
+fn stand(
+    g: Grid,
+    w: Walk,
+    labels: &[u8],
+    first: &[u16; 16],
+    order: &[u32; 16],
+    n: usize,
+) -> Next
+    requires { ⌜ CanStand g w (now labels) (now first) (now order) n ⌝ }
+    ensures { λ r. ⌜ r ≡ nextIn g w (now (labels .entry)) ⌝ }
+{
+    let mut list = [0u16; 16];
+    let mut marks = [0u32; 16];
+    let sets = seen(g, w, labels, first, order, n, &mut list, &mut marks);
+    if !sets.is {
+        return refused(20);
+    }
+    let spared = spare(&marks, n, sets.t);
+    if spared.seen != sets.t {
+        return refused(20);
+    }
+    let sizes = block_sizes(g);
+    chosen(
+        g,
+        &sizes,
+        first,
+        &list,
+        order,
+        &marks,
+        labels,
+        w,
+        n,
+        sets,
+        spared.point,
+    )
+}
+
+// What comes next on a walk whose grid is made, and which passes questions 1 to 7: 20 and 16 are asked, and the two
+// moves from its present place are made.
+fn next_on(g: Grid, w: Walk, labels: &[u8]) -> Next
+    requires { ⌜ IsMade g × (firstNo (tableQuestions (tableOn g w (now labels))) ≡ 0) ⌝ }
+    ensures { λ r. ⌜ r ≡ nextIn g w (now (labels .entry)) ⌝ }
+{
+    let m = g.indices;
+    if !in_range(g, w.places) {
+        return refused(20);
+    }
+    let present = w.present;
+    if !is_kept(present, m) {
+        return refused(20);
+    }
+    let first = present.first;
+    let order = present.order;
+    let n = wide(present.count) - 1;
+    stand(g, w, labels, &first, &order, n)
+}
+
+// The walk moved on to a place: what was the present place is then the one before.
+fn moved_to(w: Walk, place: Place) -> Walk
+    requires { ⌜ w .places < 18446744073709551615 ⌝ }
+    ensures { λ r. ⌜ r ≡ movedTo w place ⌝ }
+{
+    let present = w.present;
+    let start = w.start;
+    let divisions = w.divisions;
+    let sizes = w.sizes;
+    Walk {
+        places: w.places + 1,
+        present: place,
+        before: present,
+        start,
+        divisions,
+        sizes,
+        blocks: w.blocks,
+    }
+}
+
+// The call, once the grid is made: questions 5 to 7, and then what comes next.
+fn call_on(g: Grid, w: Walk, labels: &[u8]) -> Call
+    requires { ⌜ IsMade g ⌝ }
+    ensures { λ r. ⌜ r ≡ callOn (shape g) w (now (labels .entry)) ⌝ }
+{
+    let start = w.start;
+    let m = g.indices;
+    let number = first_no(g, &start[..m], labels);
+    if number != 0 {
+        return unmoved(w, number);
+    }
+    let next = next_on(g, w, labels);
+    let answer = next.answer;
+    let simplex = next.simplex;
+    let place = next.place;
+    let walk = match answer {
+        Answer::Moved(_) => moved_to(w, place),
+        Answer::Refused(_) => w,
+        Answer::Ended {
+            kind: _,
+            block: _,
+            vertices: _,
+        } => w,
+    };
+    Call {
+        answer,
+        simplex,
+        walk,
+    }
+}
+
+// A refusal: the walk is as it was.
+fn unmoved(w: Walk, number: u8) -> Call
+    ensures { λ r. ⌜ r ≡ unmovedAs w number ⌝ }
+{
+    Call {
+        answer: Answer::Refused(number),
+        simplex: [0u16; 256],
+        walk: w,
+    }
+}
+
+// Moves a walk on by one place: questions 1 to 7 on its own grid and start and the table lent, then 20 and 16. At an end,
+// and where it is refused, the walk is as it was.
+pub fn moved(w: Walk, labels: &[u8]) -> Call
+    ensures { λ r. ⌜ r ≡ callOf w (now (labels .entry)) ⌝ }
+{
+    let blocks = wide(w.blocks);
+    if 6 < blocks {
+        return unmoved(w, 1);
+    }
+    let sizes = w.sizes;
+    let divisions = w.divisions;
+    let made = Grid::new(&sizes[..blocks], &divisions[..blocks]);
+    let code = made.code;
+    let g = made.grid;
+    if code != 0 {
+        return unmoved(w, code);
+    }
+    call_on(g, w, labels)
+}
