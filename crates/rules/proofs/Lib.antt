@@ -1,4 +1,5 @@
 pub mod Masks
+pub mod SameMasks
 pub mod Describes
 pub mod FirstMet
 pub mod ChangedBefore

@@ -11,7 +11,7 @@ use Rattle.combinatorics.proofs.Basics.{absurd-bool, both}
 use Rattle.combinatorics.proofs.Lists.{all-in, in-all, onNumbers}
 use Rattle.combinatorics.proofs.Ranges.{in-upFrom, upFrom-in}
 use Rattle.combinatorics.specs.Lists.{all, upFrom}
-use Rattle.records.proofs.Differences.{same-mask}
+use Rattle.rules.proofs.SameMasks.{same-mask}
 use Rattle.rules.proofs.Masks.{bit-and}
 use Rattle.rules.specs.Mask.{bit}
 use Rattle.walk_calls.specs.Ways.{alike, within}

@@ -25,7 +25,7 @@ use Rattle.place.proofs.Positions.{at-in, in-at}
 use Rattle.place.specs.Demand.{Accepted}
 use Rattle.place.specs.Places.{Simplex, isPlace, labelSet, within}
 use Rattle.place.specs.Problem.{Problem, label}
-use Rattle.records.proofs.Differences.{same-mask}
+use Rattle.rules.proofs.SameMasks.{same-mask}
 use Rattle.rules.proofs.Marks.{label-in}
 use Rattle.rules.specs.Mask.{bit}
 use Rattle.rules.specs.Step.{markLabel}
