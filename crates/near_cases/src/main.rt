@@ -75,8 +75,10 @@ fn print_call(
         distance,
         list,
     );
-    print_run(report.run);
-    print_nearest(report.nearest);
+    let run = report.run;
+    let found = report.nearest;
+    print_run(run);
+    print_nearest(found);
     show_words(b"answer", answer);
     show_words(b"list", list);
 }

@@ -24,7 +24,8 @@ fn print_kind(kind: Kind) {
 fn print_level(number: usize, level: Level) {
     show(b"level ", number as u64);
     show(b"places ", level.places);
-    print_kind(level.kind);
+    let kind = level.kind;
+    print_kind(kind);
     show(b"block ", level.block as u64);
     show(b"vertices ", level.vertices as u64);
 }
