@@ -14,7 +14,8 @@ use Rattle.refinement.specs.declared.Level.{Level}
 use Rattle.exports.specs.Refine.{levelFacts}
 
 -- four facts, stored one behind the other
-pub four : (x y z u : ℕ) (old : List ℕ) → 4 ≤ length old → set (set (set (set old 0 x) 1 y) 2 z) 3 u ≡ front (x ∷ y ∷ z ∷ u ∷ []) old
+pub four : (x y z u : ℕ) (old : List ℕ) → 4 ≤ length old
+    → set (set (set (set old 0 x) 1 y) 2 z) 3 u ≡ front (x ∷ y ∷ z ∷ u ∷ []) old
 unfolding front
 four x y z u (a ∷ b ∷ c ∷ d ∷ old) h = refl
 four x y z u [] h = absurd (omega arith)
@@ -23,7 +24,8 @@ four x y z u (a ∷ b ∷ []) h = absurd (omega arith)
 four x y z u (a ∷ b ∷ c ∷ []) h = absurd (omega arith)
 
 -- what is put behind a front makes a longer front
-front-more : (p row old : List ℕ) → take (length p) (front p old) ++ front row (drop (length p) (front p old)) ≡ front (p ++ row) old
+front-more : (p row old : List ℕ)
+    → take (length p) (front p old) ++ front row (drop (length p) (front p old)) ≡ front (p ++ row) old
 unfolding front
 front-more p row old = rw (take-append-seam, drop-append-seam, drop-drop, length-append, append-assoc)
 
@@ -40,7 +42,8 @@ facts-next : (i : ℕ) (levels : List Level) (other : Level) → i < length leve
     → factsOf (suc i) levels ≡ factsOf i levels ++ levelFacts (getD levels i other)
 facts-next i [] other h = absurd (omega arith)
 facts-next zero (l ∷ levels) other h = refl
-facts-next (suc i) (l ∷ levels) other h = ap (λ (x : List ℕ). levelFacts l ++ x) (facts-next i levels other (omega arith))
+facts-next (suc i) (l ∷ levels) other h =
+    ap (λ (x : List ℕ). levelFacts l ++ x) (facts-next i levels other (omega arith))
 
 -- one level more, in its part of the buffer
 module _ (levels : List Level) (eight : length levels ≡ 8) (old facts : List ℕ) (long : 32 ≤ length old) (i : ℕ)
@@ -58,7 +61,8 @@ module _ (levels : List Level) (eight : length levels ≡ 8) (old facts : List �
 
   pub facts-put : (other : Level) (new : List ℕ) → i < 8
       → new ≡ front (levelFacts (getD levels i other)) (take (length facts - 4 * i) (drop (4 * i) facts))
-      → take (4 * i) facts ++ (new ++ drop (length facts - 4 * i) (drop (4 * i) facts)) ≡ front (factsOf (i + 1) levels) old
+      → take (4 * i) facts ++ (new ++ drop (length facts - 4 * i) (drop (4 * i) facts)) ≡ front (factsOf (i + 1) levels)
+      old
   facts-put other new h e =
       let p = factsOf i levels in
       let row = levelFacts (getD levels i other) in

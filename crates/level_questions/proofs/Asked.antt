@@ -39,9 +39,23 @@ module _ (g : Grid) (points : ℕ) (start losses : List ℕ) (levels labelRoom r
           pub no-room : room < levels * levelRoom g → 8 ≡ number
           unfolding firstNo
           no-room l =
-              rw (on, eq-eqb (length losses) (numLosses g) whole, range, eq-eqb labelRoom points exact, lt-leb (levels * levelRoom g) room l)
+              rw (
+                on,
+                eq-eqb (length losses) (numLosses g) whole,
+                range,
+                eq-eqb labelRoom points exact,
+                lt-leb
+                    (levels * levelRoom g) room l,
+              )
 
           pub none-no : levels * levelRoom g ≤ room → _≡_ {A = ℕ} 0 number
           unfolding firstNo
           none-no l =
-              rw (on, eq-eqb (length losses) (numLosses g) whole, range, eq-eqb labelRoom points exact, le-leb (levels * levelRoom g) room l)
+              rw (
+                on,
+                eq-eqb (length losses) (numLosses g) whole,
+                range,
+                eq-eqb labelRoom points exact,
+                le-leb
+                    (levels * levelRoom g) room l,
+              )

@@ -79,9 +79,11 @@ module _ (g : Grid) (k : ℕ) where
           go (suc j) e =
               let h = gridAt g k j in
               let s : shape last ≡ h = ap shape (m .isLast j e) ∙ shape-of h (accepted h (level-yes j e) .sameNumber) in
-              is ∙ ap (λ (x : Grid). madeOf (finer k x)) s ∙ ap madeOf (sym (level-next g k j)) ∙ ap (λ (x : ℕ). madeOf (gridAt g k x)) e
+              is ∙ ap (λ (x : Grid). madeOf (finer k x)) s ∙ ap madeOf (sym (level-next g k j)) ∙ ap
+              (λ (x : ℕ). madeOf (gridAt g k x)) e
 
-      pub next-stops : (levels : ℕ) → i < levels → (n .code ≡ 0 → ⊥) → AreMade g k levels (record { code = n .code; grids = grids })
+      pub next-stops : (levels : ℕ) → i < levels → (n .code ≡ 0 → ⊥)
+          → AreMade g k levels (record { code = n .code; grids = grids })
       next-stops levels h z = record {
         code = sym (levels-no g k levels i (n .code) h (m .yes) z (sym (made-code (gridAt g k i) n next-is)));
         grids = λ e. absurd (z e);

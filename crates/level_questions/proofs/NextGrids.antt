@@ -30,33 +30,43 @@ module _ (g : GridStruct) (made : IsMade g) (k : ℕ) where
   many : length (times k (shape g .divisions)) ≡ g .blocks
   many = length-map (shape g .divisions) (λ d. k * d) ∙ made-accepted g made .sameNumber ∙ sym (made-blocks g made)
 
-  pub next-at : (j x : ℕ) → j < g .blocks → x ≡ getD (g .divisions) j 0 → k * x ≡ getD (times k (shape g .divisions)) j 0
+  pub next-at : (j x : ℕ) → j < g .blocks → x ≡ getD (g .divisions) j 0
+      → k * x ≡ getD (times k (shape g .divisions)) j 0
   next-at j x h e = rw (times-at k (shape g .divisions) j, getD-take (g .blocks) (g .divisions) j 0, e)
 
-  pub next-put : (numbers : List ℕ) (j x : ℕ) → numbers ≡ front (take j (times k (shape g .divisions))) (replicate 6 0) → j < g .blocks
-      → x ≡ getD (g .divisions) j 0 → set numbers j (k * x) ≡ front (take (j + 1) (times k (shape g .divisions))) (replicate 6 0)
+  pub next-put : (numbers : List ℕ) (j x : ℕ) → numbers ≡ front (take j (times k (shape g .divisions))) (replicate 6 0)
+      → j < g .blocks
+      → x ≡ getD (g .divisions) j 0
+      → set numbers j (k * x) ≡ front (take (j + 1) (times k (shape g .divisions))) (replicate 6 0)
   next-put numbers j x n h e =
       rw (n, next-at j x h e)
-      (front-copy (times k (shape g .divisions)) (replicate 6 0) j (omega (arith, many)) (omega (arith, blocks-range g made .1)))
+      (front-copy (times k (shape g .divisions)) (replicate 6 0) j (omega (arith, many))
+      (omega (arith, blocks-range g made .1)))
 
-  some-long : (numbers : List ℕ) (j : ℕ) → numbers ≡ front (take j (times k (shape g .divisions))) (replicate 6 0) → length numbers ≡ 6
+  some-long : (numbers : List ℕ) (j : ℕ) → numbers ≡ front (take j (times k (shape g .divisions))) (replicate 6 0)
+      → length numbers ≡ 6
   some-long numbers j n =
       rw n (front-length (take j (times k (shape g .divisions))) (replicate 6 0)
       (rw (length-take j (times k (shape g .divisions))) (omega (arith, many, blocks-range g made .1))))
 
-  pub next-all : (numbers : List ℕ) (j : ℕ) → numbers ≡ front (take j (times k (shape g .divisions))) (replicate 6 0) → g .blocks ≡ j
+  pub next-all : (numbers : List ℕ) (j : ℕ) → numbers ≡ front (take j (times k (shape g .divisions))) (replicate 6 0)
+      → g .blocks ≡ j
       → AreNext g k (record { fit = true; numbers = numbers })
   next-all numbers j n e =
-      let w : numbers ≡ front (times k (shape g .divisions)) (replicate 6 0) = n ∙ front-whole (times k (shape g .divisions)) (replicate 6 0) j (omega (arith, many)) in
+      let w : numbers ≡ front (times k (shape g .divisions)) (replicate 6 0) =
+      n ∙ front-whole (times k (shape g .divisions)) (replicate 6 0) j (omega (arith, many))
+      in
       record {
         whole = some-long numbers j n;
         numbers = λ t.
-            ap (take (g .blocks)) w ∙ ap (λ (n : ℕ). take n (front (times k (shape g .divisions)) (replicate 6 0))) (sym many)
+            ap (take (g .blocks)) w ∙ ap (λ (n : ℕ). take n (front (times k (shape g .divisions)) (replicate 6 0)))
+            (sym many)
             ∙ front-taken (times k (shape g .divisions)) (replicate 6 0);
         large = λ f. absurd-bool f;
       }
 
-  pub next-not : (numbers : List ℕ) (j x : ℕ) → numbers ≡ front (take j (times k (shape g .divisions))) (replicate 6 0) → j < g .blocks
+  pub next-not : (numbers : List ℕ) (j x : ℕ) → numbers ≡ front (take j (times k (shape g .divisions))) (replicate 6 0)
+      → j < g .blocks
       → x ≡ getD (g .divisions) j 0 → 65535 < k * x → AreNext g k (record { fit = false; numbers = numbers })
   next-not numbers j x n h e l = record {
     whole = some-long numbers j n;
@@ -74,4 +84,5 @@ module _ (g : GridStruct) (made : IsMade g) (k : ℕ) (some : 1 ≤ k) (r : Divi
       rw (n, too-large (shape g) k some (l .0) (made .accepted) (l .1))
 
   pub next-lent : r .fit ≡ true → lent (take (g .blocks) (g .sizes)) (take (g .blocks) (r .numbers)) ≡ finer k (shape g)
-  next-lent t = ap (λ (ds : List ℕ). let h : Grid = record { sizes = shape g .sizes; divisions = ds } in h) (next .numbers t)
+  next-lent t =
+      ap (λ (ds : List ℕ). let h : Grid = record { sizes = shape g .sizes; divisions = ds } in h) (next .numbers t)

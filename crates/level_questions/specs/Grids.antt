@@ -21,4 +21,5 @@ pub record AreNext (grid : GridStruct) (k : ℕ) (r : Divisions) : Type 0 where
 -- the questions of all levels, and the grids where they are answered yes
 pub record AreMade (g : Grid) (k levels : ℕ) (r : Grids) : Type 0 where
   pub code : r .code ≡ firstNo (levelQuestions g k levels)
-  pub grids : r .code ≡ 0 → (i : ℕ) → i < levels → (other : GridStruct) → getD (r .grids) i other ≡ gridOf (gridAt g k i)
+  pub grids : r .code ≡ 0 → (i : ℕ) → i < levels → (other : GridStruct)
+      → getD (r .grids) i other ≡ gridOf (gridAt g k i)

@@ -1,4 +1,5 @@
--- Questions 5, 10, 11, 12 and 8 as the program puts them. The promise of a refinement does not cite it. Assumes nothing.
+-- Questions 5, 10, 11, 12 and 8 as the program puts them. The promise of a refinement does not cite it. Assumes
+-- nothing.
 use mathlib.Core.List.{List, [], _∷_}
 use Prim.Native.Nat.{ℕ}
 use lib.Dec.{eqb}

@@ -18,8 +18,8 @@ pub fn room_of(grid: Grid) -> usize
     (m - grid.blocks + 1) * m
 }
 
-// The number of the first that is answered no, or 0, given the first grid, the last level's P, and how long both buffers
-// are.
+// The number of the first that is answered no, or 0, given the first grid, the last level's P, and how long both
+// buffers are.
 pub fn first_no(
     grid: Grid,
     points: usize,

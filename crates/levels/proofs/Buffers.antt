@@ -6,7 +6,8 @@ use mathlib.Core.Path.{_≡_, refl, sym, ap, _∙_}
 use Prim.Native.Nat.{ℕ, zero, suc, _+_, _-_, _*_, _/_, _%_, _≤_, _<_}
 use borrow.Author.Tests.{le-ltb, lt-ltb}
 use lib.Dec.{ltb}
-use lib.ListN.{length, getD, take, drop, length-append, length-drop, length-map, length-take, List·getD-append, List·getD-eq-default}
+use lib.ListN.{length, getD, take, drop, length-append, length-drop, length-map, length-take, List·getD-append}
+use lib.ListN.{List·getD-eq-default}
 use lib.Seq.{ext-getD, getD-append-add, getD-drop, getD-take, length-take-le}
 use native.Mathlib.Nat.{div-add-mod', div-eq-of-lt-le, div-lt-iff-lt-mul}
 use native.Mathlib.Omega.{arith}
@@ -27,7 +28,9 @@ module _ (room : ℕ) (some : 0 < room) where
   level-before i q h = div-lt-iff-lt-mul some .1 h
 
   level-from : (i q : ℕ) → i * room ≤ q → i ≤ q / room
-  level-from i q h = ⊎-elim (λ (l : q / room < i). let m = div-lt-iff-lt-mul some .0 l in absurd (omega arith)) (λ l. l) (before-or-not (q / room) i)
+  level-from i q h =
+      ⊎-elim (λ (l : q / room < i). let m = div-lt-iff-lt-mul some .0 l in absurd (omega arith)) (λ l. l)
+      (before-or-not (q / room) i)
 
   number-in : (i q : ℕ) → q / room ≡ i → i * room + q % room ≡ q
   number-in i q e = rw e at (div-add-mod' q room)
@@ -56,7 +59,8 @@ module _ (r : Refinement) (some : 0 < levelRoom (r .grid)) (old : List ℕ) wher
   -- one level more
   module _ (i : ℕ) (fits : (i + 1) * room ≤ length old) (few : length (levelNumbers r i) ≤ room) where
     abbrev written : List ℕ
-    written = take (i * room) (numbersAfter r i old) ++ front (levelNumbers r i) (drop (i * room) (numbersAfter r i old))
+    written =
+        take (i * room) (numbersAfter r i old) ++ front (levelNumbers r i) (drop (i * room) (numbersAfter r i old))
 
     begin : i * room + room ≤ length old
     begin = omega (arith, fits)
@@ -66,12 +70,17 @@ module _ (r : Refinement) (some : 0 < levelRoom (r .grid)) (old : List ℕ) wher
 
     tail-length : length (front (levelNumbers r i) (drop (i * room) (numbersAfter r i old))) ≡ length old - i * room
     tail-length =
-        let d : length (drop (i * room) (numbersAfter r i old)) ≡ length old - i * room = length-drop (i * room) (numbersAfter r i old) ∙ rw (after-length i) in
+        let d : length (drop (i * room) (numbersAfter r i old)) ≡ length old - i * room =
+        length-drop (i * room) (numbersAfter r i old) ∙ rw (after-length i)
+        in
         front-length (levelNumbers r i) (drop (i * room) (numbersAfter r i old)) (omega (arith, d, few, begin)) ∙ d
 
     written-length : length written ≡ length old
     written-length =
-        let a = length-append (take (i * room) (numbersAfter r i old)) (front (levelNumbers r i) (drop (i * room) (numbersAfter r i old))) in
+        let a =
+        length-append (take (i * room) (numbersAfter r i old))
+        (front (levelNumbers r i) (drop (i * room) (numbersAfter r i old)))
+        in
         omega (arith, a, head-length, tail-length, begin)
 
     -- in front of the level
@@ -79,28 +88,38 @@ module _ (r : Refinement) (some : 0 < levelRoom (r .grid)) (old : List ℕ) wher
     written-before q h =
         let l = level-before room some i q h in
         let inside : q < length (take (i * room) (numbersAfter r i old)) = omega (arith, head-length) in
-        List·getD-append (take (i * room) (numbersAfter r i old)) (front (levelNumbers r i) (drop (i * room) (numbersAfter r i old))) 0 q inside
+        List·getD-append (take (i * room) (numbersAfter r i old))
+        (front (levelNumbers r i) (drop (i * room) (numbersAfter r i old))) 0 q inside
         ∙ getD-take (i * room) (numbersAfter r i old) q 0 h
         ∙ after-at i q (omega (arith, begin))
         ∙ rw (lt-ltb (q / room) i l, lt-ltb (q / room) (i + 1) (omega arith))
 
     -- number t of the level's room, and what stands behind
-    written-at : (t : ℕ) → i * room + t < length old → getD written (i * room + t) 0 ≡ numberAt r (i + 1) old (i * room + t)
+    written-at : (t : ℕ) → i * room + t < length old
+        → getD written (i * room + t) 0 ≡ numberAt r (i + 1) old (i * room + t)
     written-at t h =
         let q = i * room + t in
         let tail = drop (i * room) (numbersAfter r i old) in
-        let e : getD written q 0 ≡ getD (front (levelNumbers r i) tail) t 0 = rw head-length at (getD-append-add (take (i * room) (numbersAfter r i old)) (front (levelNumbers r i) tail) t 0) in
-        let o : getD tail t 0 ≡ getD old q 0 = getD-drop (i * room) (numbersAfter r i old) t 0 ∙ after-at i q h ∙ number-untouched i q (omega arith) in
+        let e : getD written q 0 ≡ getD (front (levelNumbers r i) tail) t 0 =
+        rw head-length at (getD-append-add (take (i * room) (numbersAfter r i old)) (front (levelNumbers r i) tail)
+        t 0)
+        in
+        let o : getD tail t 0 ≡ getD old q 0 =
+        getD-drop (i * room) (numbersAfter r i old) t 0 ∙ after-at i q h ∙ number-untouched i q (omega arith)
+        in
         e ∙ ⊎-elim
         (λ (l : t < room).
         let d : q / room ≡ i = div-eq-of-lt-le room (omega arith) (omega arith) in
         let m : q % room ≡ t = omega (arith, number-in room some i q d) in
         rw (d, m, lt-ltb i (i + 1) (omega arith))
         (⊎-elim
-        (λ (w : t < length (levelNumbers r i)). front-at (levelNumbers r i) tail t w ∙ inside (levelNumbers r i) t 0 (getD old q 0) w)
-        (λ (w : length (levelNumbers r i) ≤ t). front-behind (levelNumbers r i) tail t w ∙ o ∙ sym (List·getD-eq-default (levelNumbers r i) (getD old q 0) w))
+        (λ (w : t < length (levelNumbers r i)). front-at (levelNumbers r i) tail t w ∙ inside (levelNumbers r i) t 0
+        (getD old q 0) w)
+        (λ (w : length (levelNumbers r i) ≤ t). front-behind (levelNumbers r i) tail t w ∙ o ∙ sym
+        (List·getD-eq-default (levelNumbers r i) (getD old q 0) w))
         (before-or-not t (length (levelNumbers r i)))))
-        (λ (l : room ≤ t). front-behind (levelNumbers r i) tail t (omega (arith, few)) ∙ o ∙ sym (number-untouched (i + 1) q (omega arith)))
+        (λ (l : room ≤ t). front-behind (levelNumbers r i) tail t (omega (arith, few)) ∙ o ∙ sym
+        (number-untouched (i + 1) q (omega arith)))
         (before-or-not t room)
       where
         inside : (l : List ℕ) (t a b : ℕ) → t < length l → getD l t a ≡ getD l t b
@@ -113,6 +132,7 @@ module _ (r : Refinement) (some : 0 < levelRoom (r .grid)) (old : List ℕ) wher
         let w : q < length old = rw written-length at h in
         ⊎-elim
         (λ (l : q < i * room). written-before q l)
-        (λ (l : i * room ≤ q). let z : i * room + (q - i * room) ≡ q = omega arith in rw z at (written-at (q - i * room) (rw z w)))
+        (λ (l : i * room ≤ q). let z : i * room + (q - i * room) ≡ q = omega arith in rw z at
+        (written-at (q - i * room) (rw z w)))
         (before-or-not q (i * room))
         ∙ sym (after-at (i + 1) q w))

@@ -31,7 +31,8 @@ use Rattle.questions.proofs.Answers.{asked-next, both-yes, first-yes}
 use Rattle.questions.specs.Questions.{firstNo}
 use Rattle.levels.specs.Claims.{EveryRefinement, Level, Levels}
 use Rattle.levels.specs.Levels.{Refinement, endOf, levelEnd, levelGrid, levelProblem, levelStart, verticesOf}
-use Rattle.levels.specs.Questions.{lastGrid, laterQuestions, levelQuestions, levelRoom, question18, question8, refineQuestions}
+use Rattle.levels.specs.Questions.{lastGrid, laterQuestions, levelQuestions, levelRoom, question18, question8}
+use Rattle.levels.specs.Questions.{refineQuestions}
 use Rattle.levels.proofs.Grids.{levels-yes, numbered-levels}
 use Rattle.levels.proofs.Starts.{level-full, no-gap, start-on-grid}
 
@@ -42,17 +43,25 @@ pub record Passed (r : Refinement) (levels : ℕ) (buffer : List ℕ) (room : �
   pub grids : firstNo (levelQuestions (r .grid) (r .factor) levels) ≡ 0
   pub later : firstNo (laterQuestions r levels buffer room) ≡ 0
 
-pub passed : (r : Refinement) (levels : ℕ) (buffer : List ℕ) (room : ℕ) → firstNo (refineQuestions r levels buffer room) ≡ 0
+pub passed : (r : Refinement) (levels : ℕ) (buffer : List ℕ) (room : ℕ)
+    → firstNo (refineQuestions r levels buffer room) ≡ 0
     → Passed r levels buffer room
 passed r levels buffer room e =
     let k = r .factor in
     let a = first-yes (question18 k levels) _ (omega arith) e in
-    let b = both-yes (levelQuestions (r .grid) (r .factor) levels) (laterQuestions r levels buffer room) (numbered-levels (r .grid) (r .factor) levels) (a .1) in
+    let b =
+    both-yes (levelQuestions (r .grid) (r .factor) levels) (laterQuestions r levels buffer room)
+    (numbered-levels (r .grid) (r .factor) levels) (a .1)
+    in
     let f = and-left (leb 2 k && leb k 10) (leb 1 levels && leb levels 8) (a .0) in
     let l = and-right (leb 2 k && leb k 10) (leb 1 levels && leb levels 8) (a .0) in
     record {
       factor = (leb-true 2 k (and-left (leb 2 k) (leb k 10) f), leb-true k 10 (and-right (leb 2 k) (leb k 10) f));
-      levelsRange = (leb-true 1 levels (and-left (leb 1 levels) (leb levels 8) l), leb-true levels 8 (and-right (leb 1 levels) (leb levels 8) l));
+      levelsRange = (
+        leb-true 1 levels (and-left (leb 1 levels) (leb levels 8) l),
+        leb-true levels 8
+            (and-right (leb 1 levels) (leb levels 8) l),
+      );
       grids = b .0;
       later = b .1;
     }
@@ -75,8 +84,11 @@ as-run : (p : Problem) (room : ℕ) → refusal p room ≡ 0 → (old : List ℕ
     → (runAnswer p room (bound (p .grid)) ≡ caseOf (endOf p))
     × (runBuffer p (bound (p .grid)) old ≡ front (concatMap (λ y. y) (verticesOf (endOf p))) old)
 as-run p room none old e =
-    let w = answered p (bound (p .grid)) old (ap (refusal p) e ∙ none) in
-    (ap (λ (n : ℕ). runAnswer p n (bound (p .grid))) (sym e) ∙ sym (w .0), sym (w .1) ∙ ap (λ (l : List ℕ). front l old) (numbers-are (endOf p)))
+    let w = answered p (bound (p .grid)) old (ap (refusal p) e ∙ none) in (
+      ap (λ (n : ℕ). runAnswer p n (bound (p .grid))) (sym e) ∙ sym (w .0),
+      sym (w .1) ∙ ap (λ (l : List ℕ). front l old)
+          (numbers-are (endOf p)),
+    )
 
 module _ (r : Refinement) (n : ℕ) (each : (i : ℕ) → i < n → firstNo (gridQuestions (levelGrid r i)) ≡ 0)
     (on : isGridPoint (r .grid) (r .start) ≡ true) where
@@ -98,10 +110,17 @@ module _ (r : Refinement) (n : ℕ) (each : (i : ℕ) → i < n → firstNo (gri
       }
 
   -- the places of the levels from b on
-  within : (b k : ℕ) → b + k ≤ n → sum (map (λ i. pathLength (levelProblem r i)) (upFrom b k)) ≤ sum (map (λ i. bound (levelGrid r i)) (upFrom b k))
+  within : (b k : ℕ) → b + k ≤ n
+      → sum (map (λ i. pathLength (levelProblem r i)) (upFrom b k)) ≤ sum
+      (map (λ i. bound (levelGrid r i)) (upFrom b k))
   within b zero h = omega arith
   within b (suc k) h =
-      omega (arith, demand3-holds (full-accepted (level-full r n each on b (omega arith))) .bounded, within (suc b) k (omega arith))
+      omega (
+        arith,
+        demand3-holds (full-accepted (level-full r n each on b (omega arith))) .bounded,
+        within (suc b) k
+            (omega arith),
+      )
 
   -- the largest bound is 60,000 times 35,951,249,665,217
   bound-few : (i : ℕ) → i < n → bound (levelGrid r i) ≤ 2157074979913020000

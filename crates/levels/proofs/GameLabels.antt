@@ -16,7 +16,8 @@ first-below : (q : ℕ → Bool) (b n m : ℕ) → 1 ≤ m → b + n ≤ m → f
 first-below q b zero m some h = omega arith
 first-below q b (suc n) m some h = go (q b) (first-below q (suc b) n m some (omega arith))
   where
-    go : (t : Bool) → firstOr 0 (filter q (upFrom (suc b) n)) < m → firstOr 0 (cond t (b ∷ filter q (upFrom (suc b) n)) (filter q (upFrom (suc b) n))) < m
+    go : (t : Bool) → firstOr 0 (filter q (upFrom (suc b) n)) < m
+        → firstOr 0 (cond t (b ∷ filter q (upFrom (suc b) n)) (filter q (upFrom (suc b) n))) < m
     go true l = omega arith
     go false l = l
 

@@ -1,4 +1,5 @@
--- The grids of the levels: the first, the next from the one before, and what questions 1 to 4 say of all of them. Assumes nothing.
+-- The grids of the levels: the first, the next from the one before, and what questions 1 to 4 say of all of them.
+-- Assumes nothing.
 use mathlib.Core.Bool.{Bool, true, false, _&&_, cond}
 use mathlib.Core.List.{List, [], _∷_, _++_, append-assoc, map}
 use mathlib.Core.Logic.{⊎-elim}
@@ -66,13 +67,15 @@ product-grows : (ss ds : List ℕ) (a b : ℕ) → a ≤ b → binomialProduct s
 product-grows [] ds a b h = omega arith
 product-grows (s ∷ ss) [] a b h = omega arith
 product-grows (s ∷ ss) (d ∷ ds) a b h =
-    mul-le-mul (choose-grows (a * d) (b * d) (pred s) (pred s) (mul-le-mul h (omega arith)) (omega arith)) (product-grows ss ds a b h)
+    mul-le-mul (choose-grows (a * d) (b * d) (pred s) (pred s) (mul-le-mul h (omega arith)) (omega arith))
+    (product-grows ss ds a b h)
 
 module _ (g : Grid) (k : ℕ) (some : 1 ≤ k) where
   power-some : (i : ℕ) → 1 ≤ k ^ i
   power-some i = rw (pow-zero k) at (pow-le-pow-right {n = k} (omega arith) {i = 0} {j = i} (omega arith))
 
-  pub points-grow : (i j : ℕ) → i ≤ j → all (λ s. leb 2 s) (g .sizes) ≡ true → numPoints (gridAt g k i) ≤ numPoints (gridAt g k j)
+  pub points-grow : (i j : ℕ) → i ≤ j → all (λ s. leb 2 s) (g .sizes) ≡ true
+      → numPoints (gridAt g k i) ≤ numPoints (gridAt g k j)
   points-grow i j h two =
       rw (numPoints-is (gridAt g k i) two, numPoints-is (gridAt g k j) two)
       (product-grows (g .sizes) (g .divisions) (k ^ i) (k ^ j) (pow-le-pow-right {n = k} (omega arith) h))
@@ -82,7 +85,8 @@ third : (g : Grid) (c : ℕ) → 1 ≤ c → question3 (finer c g) ≡ question3
 third g c some = rw (length-map (g .divisions) (λ d. c * d), times-positive c (g .divisions) some)
 
 -- the questions of one level more
-concat-append : {A B : Type 0} (f : A → List B) (xs ys : List A) → concatMap f (xs ++ ys) ≡ concatMap f xs ++ concatMap f ys
+concat-append : {A B : Type 0} (f : A → List B) (xs ys : List A)
+    → concatMap f (xs ++ ys) ≡ concatMap f xs ++ concatMap f ys
 concat-append f [] ys = refl
 concat-append f (x ∷ xs) ys = rw (concat-append f xs ys, append-assoc)
 
@@ -101,19 +105,26 @@ module _ (g : Grid) (k : ℕ) where
       go (i ∷ is) = go is
 
   -- where all levels are answered yes, each is
-  pub levels-yes : (n : ℕ) → firstNo (levelQuestions g k n) ≡ 0 → (i : ℕ) → i < n → firstNo (gridQuestions (gridAt g k i)) ≡ 0
+  pub levels-yes : (n : ℕ) → firstNo (levelQuestions g k n) ≡ 0 → (i : ℕ) → i < n
+      → firstNo (gridQuestions (gridAt g k i)) ≡ 0
   levels-yes zero e i h = absurd (omega arith)
   levels-yes (suc n) e i h =
-      let parts = both-yes (levelQuestions g k n) (gridQuestions (gridAt g k n)) (numbered-levels n) (rw (questions-next n) at e) in
-      ⊎-elim (λ (l : i < n). levels-yes n (parts .0) i l) (λ (l : n ≤ i). let z : i ≡ n = omega arith in rw z (parts .1)) (before-or-not i n)
+      let parts =
+      both-yes (levelQuestions g k n) (gridQuestions (gridAt g k n)) (numbered-levels n)
+      (rw (questions-next n) at e)
+      in
+      ⊎-elim (λ (l : i < n). levels-yes n (parts .0) i l)
+      (λ (l : n ≤ i). let z : i ≡ n = omega arith in rw z (parts .1)) (before-or-not i n)
 
   -- a level more that is answered yes,
   pub levels-more : (n : ℕ) → firstNo (levelQuestions g k n) ≡ 0 → firstNo (gridQuestions (gridAt g k n)) ≡ 0
       → firstNo (levelQuestions g k (suc n)) ≡ 0
-  levels-more n e f = rw (questions-next n) (asked-next (levelQuestions g k n) (gridQuestions (gridAt g k n)) (numbered-levels n) e ∙ f)
+  levels-more n e f =
+      rw (questions-next n) (asked-next (levelQuestions g k n) (gridQuestions (gridAt g k n)) (numbered-levels n) e ∙ f)
 
   -- and the first that is not
-  pub levels-no : (n i c : ℕ) → i < n → firstNo (levelQuestions g k i) ≡ 0 → (c ≡ 0 → ⊥) → firstNo (gridQuestions (gridAt g k i)) ≡ c
+  pub levels-no : (n i c : ℕ) → i < n → firstNo (levelQuestions g k i) ≡ 0 → (c ≡ 0 → ⊥)
+      → firstNo (gridQuestions (gridAt g k i)) ≡ c
       → firstNo (levelQuestions g k n) ≡ c
   levels-no zero i c h e z f = absurd (omega arith)
   levels-no (suc n) i c h e z f =
@@ -136,7 +147,8 @@ abbrev first : Bool → Bool → Bool → ℕ → ℕ
 first a b c n = cond a (cond b (cond c n 3) 2) 1
 
 -- where 4 can only go from yes to no, a refusal stays
-mixed-stays : (g h k : Grid) → (all (λ s. leb 2 s) (g .sizes) ≡ true → numPoints h ≤ numPoints k) → (firstNo (mixed g h) ≡ 0 → ⊥)
+mixed-stays : (g h k : Grid) → (all (λ s. leb 2 s) (g .sizes) ≡ true → numPoints h ≤ numPoints k)
+    → (firstNo (mixed g h) ≡ 0 → ⊥)
     → firstNo (mixed g k) ≡ firstNo (mixed g h)
 unfolding firstNo
 mixed-stays g h k grows n = go (question1 g .answeredYes) (question2 g .answeredYes) (question3 g .answeredYes) refl n
@@ -147,11 +159,16 @@ mixed-stays g h k grows n = go (question1 g .answeredYes) (question2 g .answered
     last : question2 g .answeredYes ≡ true → (fourth h ≡ 0 → ⊥) → fourth k ≡ fourth h
     last e n =
         ⊎-elim
-        (λ (l : 60000 < numPoints h). rw (lt-leb (numPoints h) 60000 l, lt-leb (numPoints k) 60000 (omega (arith, grows (two e)))))
+        (λ (l : 60000 < numPoints h). rw (
+          lt-leb (numPoints h) 60000 l,
+          lt-leb (numPoints k) 60000
+              (omega (arith, grows (two e))),
+        ))
         (λ (l : numPoints h ≤ 60000). absurd (n (rw (le-leb (numPoints h) 60000 l))))
         (before-or-not 60000 (numPoints h))
 
-    go : (a b c : Bool) → question2 g .answeredYes ≡ b → (first a b c (fourth h) ≡ 0 → ⊥) → first a b c (fourth k) ≡ first a b c (fourth h)
+    go : (a b c : Bool) → question2 g .answeredYes ≡ b → (first a b c (fourth h) ≡ 0 → ⊥)
+        → first a b c (fourth k) ≡ first a b c (fourth h)
     go true true true e n = last e n
     go true true false e n = refl
     go true false c e n = refl
@@ -174,7 +191,8 @@ refused g h a l =
 module _ (g : Grid) (k : ℕ) (some : 1 ≤ k) where
   as-mixed : (i : ℕ) → firstNo (gridQuestions (gridAt g k i)) ≡ firstNo (mixed g (gridAt g k i))
   as-mixed i =
-      ap (λ (q : Question). firstNo (question1 g ∷ question2 g ∷ q ∷ question4 (gridAt g k i) ∷ [])) (third g (k ^ i) (power-some g k some i))
+      ap (λ (q : Question). firstNo (question1 g ∷ question2 g ∷ q ∷ question4 (gridAt g k i) ∷ []))
+      (third g (k ^ i) (power-some g k some i))
 
   asked : (n : ℕ) → firstNo (levelQuestions g k (suc n)) ≡ firstNo (mixed g (gridAt g k n))
   asked zero = as-mixed 0
@@ -182,7 +200,8 @@ module _ (g : Grid) (k : ℕ) (some : 1 ≤ k) where
       let l = levelQuestions g k (suc n) in
       let h = gridAt g k in
       ⊎-elim
-      (λ (z : firstNo l ≡ 0). rw (questions-next g k (suc n)) (asked-next l (gridQuestions (h (suc n))) (numbered-levels g k (suc n)) z ∙ as-mixed (suc n)))
+      (λ (z : firstNo l ≡ 0). rw (questions-next g k (suc n))
+      (asked-next l (gridQuestions (h (suc n))) (numbered-levels g k (suc n)) z ∙ as-mixed (suc n)))
       (λ (z : firstNo l ≡ 0 → ⊥). rw (questions-next g k (suc n))
       (asked-no l (gridQuestions (h (suc n))) (firstNo l) z refl
       ∙ asked n
@@ -190,11 +209,17 @@ module _ (g : Grid) (k : ℕ) (some : 1 ≤ k) where
       (same-or (firstNo l) 0)
 
   -- A division that 16 bits do not hold is refused with 4, on a grid finer than one that is accepted.
-  pub too-large : (j : ℕ) → firstNo (gridQuestions g) ≡ 0 → 60000 ≤ division (finer k g) j → firstNo (gridQuestions (finer k g)) ≡ 4
+  pub too-large : (j : ℕ) → firstNo (gridQuestions g) ≡ 0 → 60000 ≤ division (finer k g) j
+      → firstNo (gridQuestions (finer k g)) ≡ 4
   too-large j e l =
       let a = accepted g e in
       let many : 60000 < numPoints (finer k g) =
-      omega (arith, l, division-below (finer k g) (a .sizesTwo) (length-map (g .divisions) (λ d. k * d) ∙ a .sameNumber) j)
+      omega (
+        arith,
+        l,
+        division-below (finer k g) (a .sizesTwo) (length-map (g .divisions) (λ d. k * d) ∙ a .sameNumber)
+            j,
+      )
       in
       ap (λ (q : Question). firstNo (question1 g ∷ question2 g ∷ q ∷ question4 (finer k g) ∷ [])) (third g k some)
       ∙ refused g (finer k g) a many

@@ -24,7 +24,8 @@ use Rattle.place.specs.Path.{path}
 use Rattle.place.specs.Places.{Simplex}
 use Rattle.place.specs.Problem.{Problem}
 use Rattle.questions.specs.Questions.{firstNo}
-use Rattle.levels.specs.Levels.{Refinement, endOf, finer, firstVertex, gameProblem, levelGrid, levelProblem, levelStart, times, verticesOf}
+use Rattle.levels.specs.Levels.{Refinement, endOf, finer, firstVertex, gameProblem, levelGrid, levelProblem}
+use Rattle.levels.specs.Levels.{levelStart, times, verticesOf}
 use Rattle.levels.proofs.GameLabels.{labels-range}
 use Rattle.levels.proofs.Grids.{level-first, level-next, times-at}
 
@@ -41,7 +42,10 @@ module _ (k : ℕ) (g : Grid) where
       let sums = and-right (eqb (length y) (numIndices g)) _ h in
       and-both _ _ (eq-eqb (length (times k y)) (numIndices g) (length-map y (λ x. k * x) ∙ long))
       (in-all onNumbers _ (blocks g) (λ j m.
-      let s = eqb-true _ _ (all-in onNumbers (λ j. eqb (sum (map (at y) (indicesOf g j))) (division g j)) (blocks g) sums j m) in
+      let s =
+      eqb-true _ _ (all-in onNumbers (λ j. eqb (sum (map (at y) (indicesOf g j))) (division g j)) (blocks g) sums j
+      m)
+      in
       eq-eqb _ _ (sum-times y (indicesOf g j) ∙ ap (λ (x : ℕ). k * x) s ∙ sym (times-at k (g .divisions) j))))
 
 -- the run of a table without gaps
@@ -62,12 +66,14 @@ module _ {p : Problem} (ok : FullyLabelled p) where
   pub first-on-grid : isGridPoint (p .grid) (firstVertex p) ≡ true
   first-on-grid = go (verticesOf (endOf p)) (is-simplex .some) (is-simplex .onGrid)
     where
-      go : (s : Simplex) → 1 ≤ length s → all (isGridPoint (p .grid)) s ≡ true → isGridPoint (p .grid) (firstOr [] s) ≡ true
+      go : (s : Simplex) → 1 ≤ length s → all (isGridPoint (p .grid)) s ≡ true
+          → isGridPoint (p .grid) (firstOr [] s) ≡ true
       go [] l a = absurd (omega arith)
       go (y ∷ s) l a = and-left (isGridPoint (p .grid) y) (all (isGridPoint (p .grid)) s) a
 
 -- an accepted grid, a start on it and a game
-pub game-full : (g : Grid) (start : Point) (losses : List ℕ) → firstNo (gridQuestions g) ≡ 0 → isGridPoint g start ≡ true
+pub game-full : (g : Grid) (start : Point) (losses : List ℕ) → firstNo (gridQuestions g) ≡ 0
+    → isGridPoint g start ≡ true
     → FullyLabelled (gameProblem g start losses)
 game-full g start losses e on =
     let a = accepted g e in
@@ -95,7 +101,9 @@ module _ (r : Refinement) (n : ℕ) (each : (i : ℕ) → i < n → firstNo (gri
   start-on-grid zero h = rw (level-first (r .grid) (r .factor)) on
   start-on-grid (suc i) h =
       let y = firstVertex (levelProblem r i) in
-      let full = game-full (levelGrid r i) (levelStart r i) (r .losses) (each i (omega arith)) (start-on-grid i (omega arith)) in
+      let full =
+      game-full (levelGrid r i) (levelStart r i) (r .losses) (each i (omega arith)) (start-on-grid i (omega arith))
+      in
       subst (λ (g : Grid). isGridPoint g (times (r .factor) y) ≡ true) (sym (level-next (r .grid) (r .factor) i))
       (times-on-grid (r .factor) (levelGrid r i) y (first-on-grid full))
 

@@ -1,4 +1,5 @@
--- The numbers that a level writes: they fit its room, and its first vertex stands in front, from which the next level starts. Assumes nothing.
+-- The numbers that a level writes: they fit its room, and its first vertex stands in front, from which the next level
+-- starts. Assumes nothing.
 use mathlib.Core.Bool.{Bool, true, _&&_}
 use mathlib.Core.List.{List, [], _∷_, _++_, append-assoc}
 use mathlib.Core.Path.{_≡_, refl, sym, ap, _∙_}
@@ -21,7 +22,8 @@ use Rattle.place.specs.Places.{Simplex}
 use Rattle.place.specs.Problem.{Problem}
 use Rattle.questions.specs.Questions.{firstNo}
 use Rattle.levels.specs.Buffers.{levelNumbers, numbersAfter}
-use Rattle.levels.specs.Levels.{Refinement, endOf, firstVertex, levelGrid, levelProblem, levelStart, times, verticesOf}
+use Rattle.levels.specs.Levels.{Refinement, endOf, firstVertex, levelGrid, levelProblem, levelStart, times}
+use Rattle.levels.specs.Levels.{verticesOf}
 use Rattle.levels.specs.Questions.{levelRoom}
 use Rattle.levels.proofs.Buffers.{after-length, after-next}
 use Rattle.levels.proofs.Grids.{times-at}
@@ -32,7 +34,8 @@ pub point-long : (g : Grid) (y : Point) → isGridPoint g y ≡ true → length 
 unfolding isGridPoint
 point-long g y h = eqb-true (length y) (numIndices g) (and-left (eqb (length y) (numIndices g)) _ h)
 
-numbers-long : (g : Grid) (s : Simplex) → all (isGridPoint g) s ≡ true → length (concatMap (λ y. y) s) ≡ length s * numIndices g
+numbers-long : (g : Grid) (s : Simplex) → all (isGridPoint g) s ≡ true
+    → length (concatMap (λ y. y) s) ≡ length s * numIndices g
 numbers-long g [] a = omega arith
 numbers-long g (y ∷ s) a =
     let e = point-long g y (and-left (isGridPoint g y) (all (isGridPoint g) s) a) in
@@ -44,20 +47,26 @@ module _ {p : Problem} (ok : FullyLabelled p) where
   pub numbers-few : length (concatMap (λ y. y) (verticesOf (endOf p))) ≤ levelRoom (p .grid)
   numbers-few =
       let i = is-simplex ok in
-      let m : length (verticesOf (endOf p)) * numIndices (p .grid) ≤ levelRoom (p .grid) = mul-le-mul (i .few) (omega arith) in
+      let m : length (verticesOf (endOf p)) * numIndices (p .grid) ≤ levelRoom (p .grid) =
+      mul-le-mul (i .few) (omega arith)
+      in
       omega (arith, numbers-long (p .grid) (verticesOf (endOf p)) (i .onGrid), m)
 
   -- the first vertex in front of what they are written over
-  pub first-in-front : (old : List ℕ) → take (numIndices (p .grid)) (front (concatMap (λ y. y) (verticesOf (endOf p))) old) ≡ firstVertex p
+  pub first-in-front : (old : List ℕ)
+      → take (numIndices (p .grid)) (front (concatMap (λ y. y) (verticesOf (endOf p))) old) ≡ firstVertex p
   unfolding front
-  first-in-front old = go (verticesOf (endOf p)) (is-simplex ok .some) (point-long (p .grid) (firstVertex p) (first-on-grid ok))
+  first-in-front old =
+      go (verticesOf (endOf p)) (is-simplex ok .some) (point-long (p .grid) (firstVertex p) (first-on-grid ok))
     where
       go : (s : Simplex) → 1 ≤ length s → length (firstOr [] s) ≡ numIndices (p .grid)
-          → take (numIndices (p .grid)) (concatMap (λ y. y) s ++ drop (length (concatMap (λ y. y) s)) old) ≡ firstOr [] s
+          → take (numIndices (p .grid)) (concatMap (λ y. y) s ++ drop (length (concatMap (λ y. y) s)) old) ≡ firstOr []
+          s
       go [] h e = absurd (omega arith)
       go (y ∷ s) h e =
           let rest = drop (length (y ++ concatMap (λ y. y) s)) old in
-          rw (append-assoc y (concatMap (λ y. y) s) rest) (take-at y (concatMap (λ y. y) s ++ rest) (numIndices (p .grid)) e)
+          rw (append-assoc y (concatMap (λ y. y) s) rest)
+          (take-at y (concatMap (λ y. y) s ++ rest) (numIndices (p .grid)) e)
 
 each-small : (k : ℕ) (y : List ℕ) → ((j : ℕ) → k * getD y j 0 ≤ 65535) → all (λ x. leb (k * x) 65535) y ≡ true
 each-small k [] h = refl
@@ -71,13 +80,18 @@ module _ (r : Refinement) (n : ℕ) (each : (i : ℕ) → i < n → firstNo (gri
 
   -- the first vertex of level i, read where it was written
   pub first-read : (i : ℕ) (old : List ℕ) → i < n → 0 < levelRoom (r .grid) → (i + 1) * levelRoom (r .grid) ≤ length old
-      → take (numIndices (r .grid)) (drop (i * levelRoom (r .grid)) (numbersAfter r (i + 1) old)) ≡ firstVertex (levelProblem r i)
+      → take (numIndices (r .grid)) (drop (i * levelRoom (r .grid)) (numbersAfter r (i + 1) old)) ≡ firstVertex
+      (levelProblem r i)
   first-read i old h some fits =
       let room = levelRoom (r .grid) in
       let before = numbersAfter r i old in
-      let head : length (take (i * room) before) ≡ i * room = length-take-le (i * room) before (omega (arith, fits, after-length r some old i)) in
-      ap (λ (l : List ℕ). take (numIndices (r .grid)) (drop (i * room) l)) (sym (after-next r some old i fits (level-few i h)))
-      ∙ ap (take (numIndices (r .grid))) (drop-at (take (i * room) before) (front (levelNumbers r i) (drop (i * room) before)) (i * room) head)
+      let head : length (take (i * room) before) ≡ i * room =
+      length-take-le (i * room) before (omega (arith, fits, after-length r some old i))
+      in
+      ap (λ (l : List ℕ). take (numIndices (r .grid)) (drop (i * room) l))
+      (sym (after-next r some old i fits (level-few i h)))
+      ∙ ap (take (numIndices (r .grid))) (drop-at (take (i * room) before)
+      (front (levelNumbers r i) (drop (i * room) before)) (i * room) head)
       ∙ first-in-front (level-full r n each on i h) (drop (i * room) before)
 
   -- k times its numbers fit 16 bits where there is a next level
@@ -88,4 +102,10 @@ module _ (r : Refinement) (n : ℕ) (each : (i : ℕ) → i < n → firstNo (gri
       let a = accepted g (each (suc i) h) in
       let y = firstVertex (levelProblem r i) in
       each-small (r .factor) y (λ j.
-      omega (arith, times-at (r .factor) y j, a .fewPoints, coordinate-below g (a .sizesTwo) (a .sameNumber) (times (r .factor) y) (start-on-grid r n each on (suc i) h) j))
+      omega (
+        arith,
+        times-at (r .factor) y j,
+        a .fewPoints,
+        coordinate-below g (a .sizesTwo) (a .sameNumber)
+            (times (r .factor) y) (start-on-grid r n each on (suc i) h) j,
+      ))

@@ -12,7 +12,8 @@ use Rattle.levels.specs.Questions.{levelRoom}
 abbrev pub levelNumbers : Refinement → ℕ → List ℕ
 levelNumbers r i = concatMap (λ y. y) (verticesOf (levelEnd r i))
 
--- "the vertices of level i, counted from 0, begin at i times (n + 1) times m in the answer buffer, and the numbers between are
+-- "the vertices of level i, counted from 0, begin at i times (n + 1) times m in the answer buffer, and the numbers
+-- between are
 -- untouched": number q of the buffer, with `room` numbers for each of the levels
 abbrev pub numberAt : Refinement → ℕ → List ℕ → ℕ → ℕ
 numberAt r levels old q =

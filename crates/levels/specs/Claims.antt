@@ -44,7 +44,8 @@ abbrev pub EveryRefinement : Type 0
 EveryRefinement = (r : Refinement) (levels : ℕ) (buffer : List ℕ) (room : ℕ)
     → firstNo (refineQuestions r levels buffer room) ≡ 0 → Levels r levels
 
--- Questions 1 to 4 of all levels are 1 to 3 of the first and 4 of the last: 1 to 3 are the same at every level, and 4 can only go from
+-- Questions 1 to 4 of all levels are 1 to 3 of the first and 4 of the last: 1 to 3 are the same at every level, and 4
+-- can only go from
 -- yes to no. So it does not show whether they are put level by level or question by question.
 abbrev pub AskedOfAll : Type 0
 AskedOfAll = (g : Grid) (k levels : ℕ) → 1 ≤ k → 1 ≤ levels

@@ -1,4 +1,5 @@
--- Request 05, "Refinement runs": the grids of the levels, their problems, their ends and where each run starts. Levels count
+-- Request 05, "Refinement runs": the grids of the levels, their problems, their ends and where each run starts. Levels
+-- count
 -- from 0. Assumes nothing.
 use mathlib.Core.List.{List, [], map}
 use Prim.Native.Nat.{ℕ, zero, suc, _*_, _^_}

@@ -29,7 +29,8 @@ use Rattle.levels.proofs.Grids.{level-first, levels-yes, points-grow}
 use Rattle.levels.proofs.Starts.{first-on-grid, level-full, start-on-grid}
 use Rattle.levels.proofs.Vertices.{first-read, level-few, point-long, restart-small}
 use Rattle.levels.specs.Buffers.{levelNumbers, numbersAfter}
-use Rattle.levels.specs.Levels.{Refinement, endOf, firstVertex, gameProblem, levelEnd, levelGrid, levelProblem, levelStart, times}
+use Rattle.levels.specs.Levels.{Refinement, endOf, firstVertex, gameProblem, levelEnd, levelGrid, levelProblem}
+use Rattle.levels.specs.Levels.{levelStart, times}
 use Rattle.levels.specs.Questions.{lastGrid, levelRoom}
 use Rattle.losses.specs.Game.{labels}
 use Rattle.losses.specs.Table.{IsTable}
@@ -43,9 +44,11 @@ use Rattle.refinement.specs.declared.Level.{Level}
 at-range : {A : Type 0} (f : ℕ → A) (b n j : ℕ) (d : A) → j < n → getD (map f (upFrom b n)) j d ≡ f (b + j)
 at-range f b zero j d h = absurd (omega arith)
 at-range f b (suc n) zero d h = let e : b + 0 ≡ b = omega arith in rw e
-at-range f b (suc n) (suc j) d h = let e : suc b + j ≡ b + suc j = omega arith in at-range f (suc b) n j d (omega arith) ∙ ap f e
+at-range f b (suc n) (suc j) d h =
+    let e : suc b + j ≡ b + suc j = omega arith in at-range f (suc b) n j d (omega arith) ∙ ap f e
 
-pub levels-none : (r : Refinement) → levelsOf r 0 ≡ noLevel ∷ noLevel ∷ noLevel ∷ noLevel ∷ noLevel ∷ noLevel ∷ noLevel ∷ noLevel ∷ []
+pub levels-none : (r : Refinement)
+    → levelsOf r 0 ≡ noLevel ∷ noLevel ∷ noLevel ∷ noLevel ∷ noLevel ∷ noLevel ∷ noLevel ∷ noLevel ∷ []
 unfolding levelsOf
 levels-none r = refl
 
@@ -57,15 +60,18 @@ level-at : (r : Refinement) (i j : ℕ) → j < 8 → getD (levelsOf r i) j noLe
 unfolding levelsOf
 level-at r i j h = let e : 0 + j ≡ j = omega arith in at-range (entryOf r i) 0 8 j noLevel h ∙ ap (entryOf r i) e
 
-pub levels-next : (r : Refinement) (i : ℕ) (v : Level) → i < 8 → v ≡ levelOf (caseOf (levelEnd r i)) → set (levelsOf r i) i v ≡ levelsOf r (i + 1)
+pub levels-next : (r : Refinement) (i : ℕ) (v : Level) → i < 8 → v ≡ levelOf (caseOf (levelEnd r i))
+    → set (levelsOf r i) i v ≡ levelsOf r (i + 1)
 levels-next r i v h e =
-    ext-getD noLevel (set (levelsOf r i) i v) (levelsOf r (i + 1)) (length-set (levelsOf r i) i v ∙ levels-long r i ∙ sym (levels-long r (i + 1)))
+    ext-getD noLevel (set (levelsOf r i) i v) (levelsOf r (i + 1))
+    (length-set (levelsOf r i) i v ∙ levels-long r i ∙ sym (levels-long r (i + 1)))
     (λ j l.
     let w : j < 8 = omega (arith, length-set (levelsOf r i) i v, levels-long r i) in
     ⊎-elim
     (λ (q : j ≡ i). let o : i < length (levelsOf r i) = omega (arith, levels-long r i) in
     rw q (getD-set-same (levelsOf r i) i v noLevel o ∙ e ∙ entry-now r i) ∙ sym (level-at r (i + 1) j w))
-    (λ (q : j ≡ i → ⊥). getD-set-other (levelsOf r i) i j v noLevel q ∙ level-at r i j w ∙ entry-other r i j q ∙ sym (level-at r (i + 1) j w))
+    (λ (q : j ≡ i → ⊥). getD-set-other (levelsOf r i) i j v noLevel q ∙ level-at r i j w ∙ entry-other r i j q ∙ sym
+    (level-at r (i + 1) j w))
     (same-or j i))
   where
     entry-now : (r : Refinement) (i : ℕ) → levelOf (caseOf (levelEnd r i)) ≡ entryOf r (i + 1) i
@@ -83,12 +89,15 @@ abbrev pub labelsAfter : Refinement → ℕ → List ℕ → List ℕ
 labelsAfter r zero buffer = buffer
 labelsAfter r (suc i) buffer = front (labels (levelGrid r i) (r .losses)) (labelsAfter r i buffer)
 
-module _ (r : Refinement) (levels : ℕ) (grids : List GridStruct) (buffer answer : List ℕ) (ok : CanRunAll r levels grids buffer answer) where
+module _ (r : Refinement) (levels : ℕ) (grids : List GridStruct) (buffer answer : List ℕ)
+    (ok : CanRunAll r levels grids buffer answer) where
   each : (i : ℕ) → i < levels → firstNo (gridQuestions (levelGrid r i)) ≡ 0
   each = levels-yes (r .grid) (r .factor) levels (ok .yes)
 
   first-accepted : Accepted (r .grid)
-  first-accepted = accepted (r .grid) (ap (λ (g : Grid). firstNo (gridQuestions g)) (sym (level-first (r .grid) (r .factor))) ∙ each 0 (omega (arith, ok .some .0)))
+  first-accepted =
+      accepted (r .grid) (ap (λ (g : Grid). firstNo (gridQuestions g)) (sym (level-first (r .grid) (r .factor))) ∙ each
+      0 (omega (arith, ok .some .0)))
 
   room-some : 0 < levelRoom (r .grid)
   room-some =
@@ -102,7 +111,10 @@ module _ (r : Refinement) (levels : ℕ) (grids : List GridStruct) (buffer answe
   -- a level's P is at most the last one's
   points-room : (i : ℕ) → i < levels → numPoints (levelGrid r i) ≤ length buffer
   points-room i h =
-      let p = points-grow (r .grid) (r .factor) (omega (arith, ok .factor .0)) i (pred levels) (omega arith) (first-accepted .sizesTwo) in
+      let p =
+      points-grow (r .grid) (r .factor) (omega (arith, ok .factor .0)) i (pred levels) (omega arith)
+      (first-accepted .sizesTwo)
+      in
       omega (arith, p, ok .exact)
 
   pub labels-long : (i : ℕ) → i ≤ levels → length (labelsAfter r i buffer) ≡ length buffer
@@ -118,7 +130,9 @@ module _ (r : Refinement) (levels : ℕ) (grids : List GridStruct) (buffer answe
       go : (n : ℕ) → n ≡ levels → labelsAfter r n buffer ≡ labels (lastGrid r n) (r .losses)
       go zero e = absurd (omega (arith, ok .some .0))
       go (suc i) e =
-          let p : numPoints (levelGrid r i) ≡ numPoints (lastGrid r levels) = ap (λ (n : ℕ). numPoints (levelGrid r (pred n))) e in
+          let p : numPoints (levelGrid r i) ≡ numPoints (lastGrid r levels) =
+          ap (λ (n : ℕ). numPoints (levelGrid r (pred n))) e
+          in
           front-full (labels (levelGrid r i) (r .losses)) (labelsAfter r i buffer)
           (omega (arith, labels-length (levelGrid r i) (r .losses), p, ok .exact, labels-long i (omega arith)))
 
@@ -135,10 +149,14 @@ module _ (r : Refinement) (levels : ℕ) (grids : List GridStruct) (buffer answe
       omega (arith, p, ok .room)
 
   vertex-read : (i : ℕ) → suc i < levels
-      → take (numIndices (r .grid)) (drop (i * levelRoom (r .grid)) (numbersAfter r (suc i) answer)) ≡ firstVertex (levelProblem r i)
-  vertex-read i h = rw (add-one i) at (first-read r levels each (ok .onGrid) i answer (omega arith) room-some (level-fits i (omega arith)))
+      → take (numIndices (r .grid)) (drop (i * levelRoom (r .grid)) (numbersAfter r (suc i) answer)) ≡ firstVertex
+      (levelProblem r i)
+  vertex-read i h =
+      rw (add-one i) at (first-read r levels each (ok .onGrid) i answer (omega arith) room-some
+      (level-fits i (omega arith)))
 
-  starts-at : (i : ℕ) → i < levels → firstOf (levelGrid r i) i (r .start) (r .factor) (numbersAfter r i answer) ≡ levelStart r i
+  starts-at : (i : ℕ) → i < levels
+      → firstOf (levelGrid r i) i (r .start) (r .factor) (numbersAfter r i answer) ≡ levelStart r i
   unfolding levelStart
   starts-at zero h = refl
   starts-at (suc i) h = ap (times (r .factor)) (vertex-read i h)
@@ -153,7 +171,13 @@ module _ (r : Refinement) (levels : ℕ) (grids : List GridStruct) (buffer answe
     fit = λ j e.
         let w : suc j < levels = omega arith in
         rw (e, vertex-read j w) (record {
-          few = omega (arith, point-long (levelGrid r j) (firstVertex (levelProblem r j)) (first-on-grid (level-full r levels each (ok .onGrid) j (omega arith))), first-accepted .fewIndices);
+          few =
+              omega (
+                arith,
+                point-long (levelGrid r j) (firstVertex (levelProblem r j))
+                    (first-on-grid (level-full r levels each (ok .onGrid) j (omega arith))),
+                first-accepted .fewIndices,
+              );
           factor = ok .factor .1;
           small = restart-small r levels each (ok .onGrid) j w;
         });
@@ -179,7 +203,10 @@ module _ (r : Refinement) (levels : ℕ) (grids : List GridStruct) (buffer answe
       points =
           omega (arith, made-points g grid-made ∙ ap numPoints shape-is, points-room i h, labels-long i (omega arith));
       room =
-          let e = ap (λ (s : Grid). suc i * levelRoom s) shape-is ∙ ap (λ (n : ℕ). n * levelRoom (r .grid)) (sym (add-one i)) in
+          let e =
+          ap (λ (s : Grid). suc i * levelRoom s) shape-is ∙ ap (λ (n : ℕ). n * levelRoom (r .grid))
+          (sym (add-one i))
+          in
           omega (arith, e, level-fits i h, answer-long i);
     }
 
@@ -189,18 +216,24 @@ module _ (r : Refinement) (levels : ℕ) (grids : List GridStruct) (buffer answe
         ∙ ap (λ (y : List ℕ). gameProblem (levelGrid r i) y (r .losses)) (starts-at i h)
 
     pub level-solved : (v : Level)
-        → v ≡ levelOf (caseOf (endOf (problemAt (shape g) i (r .start) (r .losses) (r .factor) (numbersAfter r i answer))))
+        → v ≡ levelOf (caseOf
+        (endOf (problemAt (shape g) i (r .start) (r .losses) (r .factor) (numbersAfter r i answer))))
         → v ≡ levelOf (caseOf (levelEnd r i))
     level-solved v e = e ∙ ap (λ (p : Problem). levelOf (caseOf (endOf p))) problem-is
 
-    pub labels-solved : (now : List ℕ) → now ≡ front (labels (shape g) (r .losses)) (labelsAfter r i buffer) → now ≡ labelsAfter r (i + 1) buffer
+    pub labels-solved : (now : List ℕ) → now ≡ front (labels (shape g) (r .losses)) (labelsAfter r i buffer)
+        → now ≡ labelsAfter r (i + 1) buffer
     labels-solved now e =
-        e ∙ ap (λ (s : Grid). front (labels s (r .losses)) (labelsAfter r i buffer)) shape-is ∙ ap (λ (n : ℕ). labelsAfter r n buffer) (sym (add-one i))
+        e ∙ ap (λ (s : Grid). front (labels s (r .losses)) (labelsAfter r i buffer)) shape-is ∙ ap
+        (λ (n : ℕ). labelsAfter r n buffer) (sym (add-one i))
 
     pub answer-solved : (now : List ℕ)
-        → now ≡ writtenAt (shape g) i (problemAt (shape g) i (r .start) (r .losses) (r .factor) (numbersAfter r i answer)) (numbersAfter r i answer)
+        → now ≡ writtenAt (shape g) i (problemAt (shape g) i (r .start) (r .losses) (r .factor)
+        (numbersAfter r i answer)) (numbersAfter r i answer)
         → now ≡ numbersAfter r (i + 1) answer
     answer-solved now e =
-        e ∙ ap (λ (s : Grid). writtenAt s i (problemAt (shape g) i (r .start) (r .losses) (r .factor) (numbersAfter r i answer)) (numbersAfter r i answer)) shape-is
+        e ∙ ap (λ (s : Grid). writtenAt s i
+        (problemAt (shape g) i (r .start) (r .losses) (r .factor) (numbersAfter r i answer)) (numbersAfter r i answer))
+        shape-is
         ∙ ap (λ (p : Problem). writtenAt (levelGrid r i) i p (numbersAfter r i answer)) problem-is
         ∙ after-next r room-some answer i (level-fits i h) (level-few r levels each (ok .onGrid) i h)

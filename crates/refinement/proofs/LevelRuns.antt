@@ -34,7 +34,8 @@ pub not-end : (a : Answer) → OneOf (0 ∷ 1 ∷ 2 ∷ []) (tagOf the-type a) �
 not-end (Refused number) h = refl
 not-end (Spent places) h = refl
 not-end (Unknown places position) h = refl
-not-end (End places kind block vertices) h = absurd (⊎-elim (λ e. omega arith) (λ r. ⊎-elim (λ e. omega arith) (λ e. omega arith) r) h)
+not-end (End places kind block vertices) h =
+    absurd (⊎-elim (λ e. omega arith) (λ r. ⊎-elim (λ e. omega arith) (λ e. omega arith) r) h)
 
 module _ (g : GridStruct) (start losses : List ℕ) (labelRoom room : ℕ) (ok : CanRun g start losses labelRoom room)
     (table : List ℕ) (is : table ≡ labels (shape g) losses) where
@@ -53,7 +54,9 @@ module _ (g : GridStruct) (start losses : List ℕ) (labelRoom room : ℕ) (ok :
 
   module _ (budget : ℕ) (b : budget ≡ bound (shape g)) where
     ended : answer (problemFrom g start table) budget ≡ endOf (gameProblem (shape g) start losses)
-    ended = ap (λ (n : ℕ). answer (problemFrom g start table) n) b ∙ ap (λ (p : Problem). answer p (bound (shape g))) same-problem
+    ended =
+        ap (λ (n : ℕ). answer (problemFrom g start table) n) b ∙ ap (λ (p : Problem). answer p (bound (shape g)))
+        same-problem
 
     pub told : (a : Answer) → a ≡ caseOf (answer (problemFrom g start table) budget)
         → levelOf a ≡ levelOf (caseOf (endOf (gameProblem (shape g) start losses)))
@@ -61,4 +64,6 @@ module _ (g : GridStruct) (start losses : List ℕ) (labelRoom room : ℕ) (ok :
 
     pub written : (old now : List ℕ) → now ≡ front (numbersOf (answer (problemFrom g start table) budget)) old
         → now ≡ front (numbersIn (gameProblem (shape g) start losses)) old
-    written old now e = e ∙ ap (λ (l : List ℕ). front l old) (ap numbersOf ended ∙ numbers-are (endOf (gameProblem (shape g) start losses)))
+    written old now e =
+        e ∙ ap (λ (l : List ℕ). front l old)
+        (ap numbersOf ended ∙ numbers-are (endOf (gameProblem (shape g) start losses)))

@@ -43,21 +43,27 @@ module _ (g : GridStruct) (made : IsMade g) (level : ℕ) (start : List ℕ) (k 
     ends-inside =
         let m = numIndices (shape g) in
         let a : 1 * m ≤ suc (dimension (shape g)) * m = mul-le-mul (omega arith) (omega arith) in
-        let b : level * levelRoom (shape g) ≡ suc (level - 1) * levelRoom (shape g) = ap (λ (l : ℕ). l * levelRoom (shape g)) one-more in
+        let b : level * levelRoom (shape g) ≡ suc (level - 1) * levelRoom (shape g) =
+        ap (λ (l : ℕ). l * levelRoom (shape g)) one-more
+        in
         rw is (omega (arith, a, b, ok .room, made-indices g made))
 
     part-is : take ((level - 1) * room + g .indices - (level - 1) * room) (drop ((level - 1) * room) answer)
         ≡ take (numIndices (shape g)) (drop ((level - 1) * levelRoom (shape g)) answer)
     part-is =
-        let n : (level - 1) * room + g .indices - (level - 1) * room ≡ numIndices (shape g) = omega (arith, made-indices g made) in
+        let n : (level - 1) * room + g .indices - (level - 1) * room ≡ numIndices (shape g) =
+        omega (arith, made-indices g made)
+        in
         ap (λ (x : ℕ). take x (drop ((level - 1) * room) answer)) n
         ∙ ap (λ (x : ℕ). take (numIndices (shape g)) (drop ((level - 1) * x) answer)) is
 
-    pub part-fits : Fit k (take ((level - 1) * room + g .indices - (level - 1) * room) (drop ((level - 1) * room) answer))
+    pub part-fits : Fit k (take ((level - 1) * room + g .indices - (level - 1) * room)
+        (drop ((level - 1) * room) answer))
     part-fits = rw part-is (ok .fit (level - 1) one-more)
 
     pub start-later : (r : List ℕ)
-        → r ≡ padded 16 (times k (take ((level - 1) * room + g .indices - (level - 1) * room) (drop ((level - 1) * room) answer)))
+        → r ≡ padded 16 (times k
+        (take ((level - 1) * room + g .indices - (level - 1) * room) (drop ((level - 1) * room) answer)))
         → r ≡ padded 16 (firstOf (shape g) level start k answer)
     start-later r e =
         e ∙ ap (λ (l : List ℕ). padded 16 (times k l)) part-is

@@ -23,7 +23,8 @@ use Rattle.levels.proofs.Claims.{passed}
 use Rattle.levels.proofs.Grids.{level-first, levels-yes, numbered-levels}
 use Rattle.levels.specs.Buffers.{numbersAfter}
 use Rattle.levels.specs.Levels.{Refinement, gridAt}
-use Rattle.levels.specs.Questions.{lastGrid, laterQuestions, levelQuestions, levelRoom, question18, question8, refineQuestions}
+use Rattle.levels.specs.Questions.{lastGrid, laterQuestions, levelQuestions, levelRoom, question18, question8}
+use Rattle.levels.specs.Questions.{refineQuestions}
 use Rattle.losses.specs.Game.{labels}
 use Rattle.losses.specs.Table.{numLosses, question10, question11}
 use Rattle.questions.proofs.Answers.{asked-next, asked-no, first-yes}
@@ -46,9 +47,11 @@ module _ (r : Refinement) (levels : ℕ) (buffer old : List ℕ) where
   -- what a refinement answers and leaves in both buffers
   abbrev pub Left : Refined → List ℕ → List ℕ → Type 0
   Left a b c =
-      (a ≡ refineAnswer r levels buffer old) × ((b ≡ labelsLeft r levels buffer old) × (c ≡ answerLeft r levels buffer old))
+      (a ≡ refineAnswer r levels buffer old)
+      × ((b ≡ labelsLeft r levels buffer old) × (c ≡ answerLeft r levels buffer old))
 
-  refused-with : (a : Refined) (n : ℕ) → (n ≡ 0 → ⊥) → refusal r levels buffer old ≡ n → a ≡ refused n → Left a buffer old
+  refused-with : (a : Refined) (n : ℕ) → (n ≡ 0 → ⊥) → refusal r levels buffer old ≡ n → a ≡ refused n
+      → Left a buffer old
   unfolding refineAnswer labelsLeft answerLeft
   refused-with a n z e w = (rw (w, e, ne-eqb n 0 z), (rw (e, ne-eqb n 0 z), rw (e, ne-eqb n 0 z)))
 
@@ -59,37 +62,50 @@ module _ (r : Refinement) (levels : ℕ) (buffer old : List ℕ) where
   passed-with e found b c f l n = (rw (e, f), (rw (e, l), rw (e, n)))
 
   -- question 18
-  pub refused-range : (a : Refined) → question18 (r .factor) levels .answeredYes ≡ false → a ≡ refused 18 → Left a buffer old
+  pub refused-range : (a : Refined) → question18 (r .factor) levels .answeredYes ≡ false → a ≡ refused 18
+      → Left a buffer old
   refused-range a e w = refused-with a 18 (λ z. omega arith) (asked-no-first (question18 (r .factor) levels) _ e) w
 
   module _ (yes : question18 (r .factor) levels .answeredYes ≡ true) where
-    rest : refusal r levels buffer old ≡ firstNo (levelQuestions (r .grid) (r .factor) levels ++ laterQuestions r levels buffer (length old))
+    rest : refusal r levels buffer old ≡ firstNo
+        (levelQuestions (r .grid) (r .factor) levels ++ laterQuestions r levels buffer (length old))
     rest = asked-yes (question18 (r .factor) levels) _ yes
 
     -- questions 1 to 4 of all levels
-    pub refused-grids : (a : Refined) (n : ℕ) → (n ≡ 0 → ⊥) → n ≡ firstNo (levelQuestions (r .grid) (r .factor) levels) → a ≡ refused n → Left a buffer old
+    pub refused-grids : (a : Refined) (n : ℕ) → (n ≡ 0 → ⊥) → n ≡ firstNo (levelQuestions (r .grid) (r .factor) levels)
+        → a ≡ refused n → Left a buffer old
     refused-grids a n z e w =
-        refused-with a n z (rest ∙ asked-no (levelQuestions (r .grid) (r .factor) levels) (laterQuestions r levels buffer (length old)) n z (sym e)) w
+        refused-with a n z (rest ∙ asked-no (levelQuestions (r .grid) (r .factor) levels)
+        (laterQuestions r levels buffer (length old)) n z (sym e)) w
 
     module _ (grids : firstNo (levelQuestions (r .grid) (r .factor) levels) ≡ 0) where
       later : refusal r levels buffer old ≡ firstNo (laterQuestions r levels buffer (length old))
-      later = rest ∙ asked-next (levelQuestions (r .grid) (r .factor) levels) (laterQuestions r levels buffer (length old)) (numbered-levels (r .grid) (r .factor) levels) grids
+      later =
+          rest ∙ asked-next (levelQuestions (r .grid) (r .factor) levels) (laterQuestions r levels buffer (length old))
+          (numbered-levels (r .grid) (r .factor) levels) grids
 
-      pub refused-later : (a : Refined) (n : ℕ) → (n ≡ 0 → ⊥) → n ≡ firstNo (laterQuestions r levels buffer (length old)) → a ≡ refused n → Left a buffer old
+      pub refused-later : (a : Refined) (n : ℕ) → (n ≡ 0 → ⊥)
+          → n ≡ firstNo (laterQuestions r levels buffer (length old)) → a ≡ refused n → Left a buffer old
       refused-later a n z e w = refused-with a n z (later ∙ sym e) w
 
-      pub passed-later : firstNo (laterQuestions r levels buffer (length old)) ≡ 0 → (found : List Level) (b c : List ℕ) → found ≡ levelsOf r levels
+      pub passed-later : firstNo (laterQuestions r levels buffer (length old)) ≡ 0 → (found : List Level) (b c : List ℕ)
+          → found ≡ levelsOf r levels
           → b ≡ labels (lastGrid r levels) (r .losses) → c ≡ numbersAfter r levels old
           → Left (record { code = 0; count = levels; levels = found }) b c
       passed-later e = passed-with (later ∙ e)
 
 -- the range of k and of the levels
-pub in-ranges : (k levels : ℕ) → question18 k levels .answeredYes ≡ true → ((2 ≤ k) × (k ≤ 10)) × ((1 ≤ levels) × (levels ≤ 8))
+pub in-ranges : (k levels : ℕ) → question18 k levels .answeredYes ≡ true
+    → ((2 ≤ k) × (k ≤ 10)) × ((1 ≤ levels) × (levels ≤ 8))
 in-ranges k levels e =
     let f = and-left (leb 2 k && leb k 10) (leb 1 levels && leb levels 8) e in
     let l = and-right (leb 2 k && leb k 10) (leb 1 levels && leb levels 8) e in (
       (leb-true 2 k (and-left (leb 2 k) (leb k 10) f), leb-true k 10 (and-right (leb 2 k) (leb k 10) f)),
-      (leb-true 1 levels (and-left (leb 1 levels) (leb levels 8) l), leb-true levels 8 (and-right (leb 1 levels) (leb levels 8) l)),
+      (
+        leb-true 1 levels (and-left (leb 1 levels) (leb levels 8) l),
+        leb-true levels 8
+            (and-right (leb 1 levels) (leb levels 8) l),
+      ),
     )
 
 -- the grids that were made
@@ -101,7 +117,11 @@ module _ (g : Grid) (k levels : ℕ) (some : 1 ≤ levels) (m : Grids) (made : A
       → IsMade (getD (m .grids) i other) × (shape (getD (m .grids) i other) ≡ gridAt g k i)
   level-made i h other =
       let e = levels-yes g k levels grids-yes i h in
-      rw (made .grids z i h other) (is-made (gridAt g k i) e, shape-of (gridAt g k i) (accepted (gridAt g k i) e .sameNumber))
+      rw (made .grids z i h other) (
+        is-made (gridAt g k i) e,
+        shape-of (gridAt g k i)
+            (accepted (gridAt g k i) e .sameNumber),
+      )
 
   pub first-made : (other : GridStruct) → IsMade (getD (m .grids) 0 other)
   first-made other = level-made 0 (omega arith) other .0
@@ -113,7 +133,8 @@ module _ (g : Grid) (k levels : ℕ) (some : 1 ≤ levels) (m : Grids) (made : A
   last-points other =
       let e : levels - 1 ≡ pred levels = omega arith in
       let l = level-made (levels - 1) (omega arith) other in
-      made-points (getD (m .grids) (levels - 1) other) (l .0) ∙ ap numPoints (l .1) ∙ ap (λ (i : ℕ). numPoints (gridAt g k i)) e
+      made-points (getD (m .grids) (levels - 1) other) (l .0) ∙ ap numPoints (l .1) ∙ ap
+      (λ (i : ℕ). numPoints (gridAt g k i)) e
 
   module _ (start losses buffer old : List ℕ) where
     abbrev game : Refinement
@@ -124,14 +145,17 @@ module _ (g : Grid) (k levels : ℕ) (some : 1 ≤ levels) (m : Grids) (made : A
 
     -- the questions behind the grids'
     pub asked-later : (n : ℕ) (one other : GridStruct)
-        → n ≡ firstNo (askedBehind (shape (getD (m .grids) 0 one)) (getD (m .grids) (levels - 1) other .points) start losses levels (length buffer) (length old))
+        → n ≡ firstNo (askedBehind (shape (getD (m .grids) 0 one)) (getD (m .grids) (levels - 1) other .points) start
+        losses levels (length buffer) (length old))
         → n ≡ firstNo (laterQuestions game levels buffer (length old))
     asked-later n one other e =
         e
-        ∙ ap (λ (h : Grid). firstNo (askedBehind h (getD (m .grids) (levels - 1) other .points) start losses levels (length buffer) (length old))) (first-shape one)
+        ∙ ap (λ (h : Grid). firstNo (askedBehind h (getD (m .grids) (levels - 1) other .points) start losses levels
+        (length buffer) (length old))) (first-shape one)
         ∙ ap (λ (p : ℕ). firstNo (askedBehind g p start losses levels (length buffer) (length old))) (last-points other)
 
-    module _ (range : ((2 ≤ k) × (k ≤ 10)) × ((1 ≤ levels) × (levels ≤ 8))) (yes : firstNo (laterQuestions game levels buffer (length old)) ≡ 0) where
+    module _ (range : ((2 ≤ k) × (k ≤ 10)) × ((1 ≤ levels) × (levels ≤ 8)))
+        (yes : firstNo (laterQuestions game levels buffer (length old)) ≡ 0) where
       can-run-game : CanRunAll game levels (m .grids) buffer old
       can-run-game =
           let q5 = first-yes (question5 g start) _ (omega arith) yes in
@@ -155,8 +179,10 @@ module _ (g : Grid) (k levels : ℕ) (some : 1 ≤ levels) (m : Grids) (made : A
 
     -- what was run is the game lent
     pub as-lent : (found : List Level) (b c : List ℕ) → found ≡ levelsOf (gameOf (m .grids) start losses k) levels
-        → (b ≡ labels (lastGrid (gameOf (m .grids) start losses k) levels) losses) × (c ≡ numbersAfter (gameOf (m .grids) start losses k) levels old)
-        → (found ≡ levelsOf game levels) × (b ≡ labels (lastGrid game levels) losses) × (c ≡ numbersAfter game levels old)
+        → (b ≡ labels (lastGrid (gameOf (m .grids) start losses k) levels) losses)
+        × (c ≡ numbersAfter (gameOf (m .grids) start losses k) levels old)
+        → (found ≡ levelsOf game levels) × (b ≡ labels (lastGrid game levels) losses)
+        × (c ≡ numbersAfter game levels old)
     as-lent found b c f w = (
       f ∙ ap (λ (r : Refinement). levelsOf r levels) game-same,
       w .0 ∙ ap (λ (r : Refinement). labels (lastGrid r levels) losses) game-same,

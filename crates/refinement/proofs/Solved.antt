@@ -28,7 +28,9 @@ part-whole a xs h = take-all (length xs - a) (drop a xs) (omega (arith, length-d
 pub put-back : (a : ℕ) (xs ys new : List ℕ) → a ≤ length xs → new ≡ front ys (take (length xs - a) (drop a xs))
     → take a xs ++ (new ++ drop (length xs - a) (drop a xs)) ≡ take a xs ++ front ys (drop a xs)
 put-back a xs ys new h e =
-    let none : drop (length xs - a) (drop a xs) ≡ [] = drop-of-length-le (drop a xs) {i = length xs - a} (omega (arith, length-drop a xs)) in
+    let none : drop (length xs - a) (drop a xs) ≡ [] =
+    drop-of-length-le (drop a xs) {i = length xs - a} (omega (arith, length-drop a xs))
+    in
     let is : new ≡ front ys (drop a xs) = e ∙ ap (front ys) (part-whole a xs h) in
     ap (λ (l : List ℕ). take a xs ++ l) (ap (λ (l : List ℕ). new ++ l) none ∙ append-nil new ∙ is)
 
@@ -36,12 +38,17 @@ module _ (g : GridStruct) (level : ℕ) (start losses : List ℕ) (k : ℕ) (buf
     (ok : CanSolve g level start losses k buffer answer) (room : ℕ) (is : room ≡ levelRoom (shape g))
     (first : List ℕ) (f : first ≡ padded 16 (firstOf (shape g) level start k answer)) where
   first-long : length (firstOf (shape g) level start k answer) ≡ g .indices
-  first-long = point-long (shape g) (firstOf (shape g) level start k answer) (ok .onGrid) ∙ sym (made-indices g (ok .made))
+  first-long =
+      point-long (shape g) (firstOf (shape g) level start k answer) (ok .onGrid) ∙ sym (made-indices g (ok .made))
 
   pub first-inside : g .indices ≤ length first
   first-inside =
-      let few : length (firstOf (shape g) level start k answer) ≤ 16 = omega (arith, first-long, indices-few g (ok .made)) in
-      let l : length (padded 16 (firstOf (shape g) level start k answer)) ≡ 16 = front-length (firstOf (shape g) level start k answer) (replicate 16 0) few in
+      let few : length (firstOf (shape g) level start k answer) ≤ 16 =
+      omega (arith, first-long, indices-few g (ok .made))
+      in
+      let l : length (padded 16 (firstOf (shape g) level start k answer)) ≡ 16 =
+      front-length (firstOf (shape g) level start k answer) (replicate 16 0) few
+      in
       omega (arith, few, first-long, ap length f ∙ l)
 
   start-is : take (g .indices) first ≡ firstOf (shape g) level start k answer
@@ -69,15 +76,19 @@ module _ (g : GridStruct) (level : ℕ) (start losses : List ℕ) (k : ℕ) (buf
       → r ≡ levelOf (caseOf (endOf (problemAt (shape g) level start losses k answer)))
   level-told r e = e ∙ ap (λ (y : List ℕ). levelOf (caseOf (endOf (gameProblem (shape g) y losses)))) start-is
 
-  pub labels-told : (new : List ℕ) → new ≡ labels (shape g) losses → new ++ drop (g .points) buffer ≡ front (labels (shape g) losses) buffer
+  pub labels-told : (new : List ℕ) → new ≡ labels (shape g) losses
+      → new ++ drop (g .points) buffer ≡ front (labels (shape g) losses) buffer
   unfolding front
   labels-told new e = rw (e, made-points g (ok .made), ← labels-length (shape g) losses)
 
   pub answer-told : (new : List ℕ)
-      → new ≡ front (numbersIn (gameProblem (shape g) (take (g .indices) first) losses)) (take (length answer - level * room) (drop (level * room) answer))
+      → new ≡ front (numbersIn (gameProblem (shape g) (take (g .indices) first) losses))
+      (take (length answer - level * room) (drop (level * room) answer))
       → take (level * room) answer ++ (new ++ drop (length answer - level * room) (drop (level * room) answer))
       ≡ writtenAt (shape g) level (problemAt (shape g) level start losses k answer) answer
   answer-told new e =
       put-back (level * room) answer (numbersIn (gameProblem (shape g) (take (g .indices) first) losses)) new begins e
-      ∙ ap (λ (y : List ℕ). take (level * room) answer ++ front (numbersIn (gameProblem (shape g) y losses)) (drop (level * room) answer)) start-is
-      ∙ ap (λ (n : ℕ). take (level * n) answer ++ front (numbersIn (problemAt (shape g) level start losses k answer)) (drop (level * n) answer)) is
+      ∙ ap (λ (y : List ℕ). take (level * room) answer ++ front (numbersIn (gameProblem (shape g) y losses))
+      (drop (level * room) answer)) start-is
+      ∙ ap (λ (n : ℕ). take (level * n) answer ++ front (numbersIn (problemAt (shape g) level start losses k answer))
+      (drop (level * n) answer)) is

@@ -26,7 +26,8 @@ lentGame g start losses k = record { grid = g; start = start; losses = losses; f
 abbrev pub noLevel : Level
 noLevel = record { places = 0; kind = Place; block = 0; vertices = 0 }
 
--- "The result has each level's places, kind of end, block and number of vertices". The other cases of a run are none of a level's
+-- "The result has each level's places, kind of end, block and number of vertices". The other cases of a run are none of
+-- a level's
 -- (`announced` of `Level`, levels/specs/Claims).
 abbrev pub levelOf : Answer → Level
 levelOf (RunRefused number) = noLevel
@@ -57,7 +58,8 @@ refineAnswer r levels buffer old =
 
 -- "The label buffer .. ends holding" the last level's table
 unfoldable pub labelsLeft : Refinement → ℕ → List ℕ → List ℕ → List ℕ
-labelsLeft r levels buffer old = cond (eqb (refusal r levels buffer old) 0) (labels (lastGrid r levels) (r .losses)) buffer
+labelsLeft r levels buffer old =
+    cond (eqb (refusal r levels buffer old) 0) (labels (lastGrid r levels) (r .losses)) buffer
 
 unfoldable pub answerLeft : Refinement → ℕ → List ℕ → List ℕ → List ℕ
 answerLeft r levels buffer old = cond (eqb (refusal r levels buffer old) 0) (numbersAfter r levels old) old

@@ -52,13 +52,14 @@ problemAt g level start losses k answer = gameProblem g (firstOf g level start k
 abbrev pub writtenAt : Grid → ℕ → Problem → List ℕ → List ℕ
 writtenAt g level p old = take (level * levelRoom g) old ++ front (numbersIn p) (drop (level * levelRoom g) old)
 
-pub record CanSolve (grid : GridStruct) (level : ℕ) (start losses : List ℕ) (k : ℕ) (buffer answer : List ℕ) : Type 0 where
-  pub made : IsMade grid
-  pub starts : CanStart (shape grid) level start k answer
-  pub onGrid : isGridPoint (shape grid) (firstOf (shape grid) level start k answer) ≡ true
-  pub table : IsTable (shape grid) losses
-  pub points : grid .points ≤ length buffer
-  pub room : suc level * levelRoom (shape grid) ≤ length answer
+pub record CanSolve (grid : GridStruct) (level : ℕ) (start losses : List ℕ) (k : ℕ) (buffer answer : List ℕ) : Type 0
+  where
+    pub made : IsMade grid
+    pub starts : CanStart (shape grid) level start k answer
+    pub onGrid : isGridPoint (shape grid) (firstOf (shape grid) level start k answer) ≡ true
+    pub table : IsTable (shape grid) losses
+    pub points : grid .points ≤ length buffer
+    pub room : suc level * levelRoom (shape grid) ≤ length answer
 
 -- the refinement whose first grid is the first of these
 abbrev pub gameOf : List GridStruct → List ℕ → List ℕ → ℕ → Refinement

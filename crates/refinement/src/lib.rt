@@ -52,10 +52,10 @@ fn refused(code: u8) -> Refined
     }
 }
 
-// A game on finer and finer grids: level i, counted from 0, has k^i times the divisions, and starts at k times the first
-// vertex of the level before. All questions come first, in this order: 18, 1 to 4 of each level, 5, 10, 11, 12, 8. Behind
-// them the label buffer holds the last level's labels, and the answer buffer the vertices of level i from i times
-// (n + 1) times m on.
+// A game on finer and finer grids: level i, counted from 0, has k^i times the divisions, and starts at k times the
+// first vertex of the level before. All questions come first, in this order: 18, 1 to 4 of each level, 5, 10, 11, 12
+// and 8. Behind them the label buffer holds the last level's labels, and the answer buffer the vertices of level i from
+// i times (n + 1) times m on.
 pub fn refine(
     sizes: &[u8],
     divisions: &[u16],
@@ -66,12 +66,15 @@ pub fn refine(
     labels: &mut [u8],
     answer: &mut [u16],
 ) -> Refined
-    ensures answer { λ r. ⌜ r ≡ refineAnswer (lentGame (lent (now (sizes .entry)) (now (divisions .entry)))
-        (now (start .entry)) (now (losses .entry)) factor) levels (now (labels .entry)) (now (answer .entry)) ⌝ }
-    ensures labels { λ _. ⌜ now (labels .exit) ≡ labelsLeft (lentGame (lent (now (sizes .entry)) (now (divisions .entry)))
-        (now (start .entry)) (now (losses .entry)) factor) levels (now (labels .entry)) (now (answer .entry)) ⌝ }
-    ensures numbers { λ _. ⌜ now (answer .exit) ≡ answerLeft (lentGame (lent (now (sizes .entry)) (now (divisions .entry)))
-        (now (start .entry)) (now (losses .entry)) factor) levels (now (labels .entry)) (now (answer .entry)) ⌝ }
+    ensures answer { λ r. ⌜ (let game = lentGame (lent (now (sizes .entry)) (now (divisions .entry)))
+        (now (start .entry)) (now (losses .entry)) factor in
+        r ≡ refineAnswer game levels (now (labels .entry)) (now (answer .entry))) ⌝ }
+    ensures labels { λ _. ⌜ (let game = lentGame (lent (now (sizes .entry)) (now (divisions .entry)))
+        (now (start .entry)) (now (losses .entry)) factor in
+        now (labels .exit) ≡ labelsLeft game levels (now (labels .entry)) (now (answer .entry))) ⌝ }
+    ensures numbers { λ _. ⌜ (let game = lentGame (lent (now (sizes .entry)) (now (divisions .entry)))
+        (now (start .entry)) (now (losses .entry)) factor in
+        now (answer .exit) ≡ answerLeft game levels (now (labels .entry)) (now (answer .entry))) ⌝ }
 {
     if !in_range(factor, levels) {
         return refused(18);

@@ -14,7 +14,12 @@ returns-2 c =
 returns-3 : tie.Need-returns-3
 returns-3 c =
     let a = c .before .before .before .args in
-    rw (le-leb 2 (a .factor) (c .before .before .if1 .left), le-leb (a .factor) 10 (c .before .if2 .left), lt-leb 1 (a .levels) (c .if3 .taken))
+    rw (
+      le-leb 2 (a .factor) (c .before .before .if1 .left),
+      le-leb (a .factor) 10 (c .before .if2 .left),
+      lt-leb 1
+          (a .levels) (c .if3 .taken),
+    )
 
 returns-4 : tie.Need-returns-4
 returns-4 c =

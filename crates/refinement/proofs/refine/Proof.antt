@@ -1,4 +1,5 @@
--- `refinement::refine` meets its contract: each question is asked where all before it are answered yes, and then the levels are run. Assumes nothing.
+-- `refinement::refine` meets its contract: each question is asked where all before it are answered yes, and then the
+-- levels are run. Assumes nothing.
 use mathlib.Core.Bool.{true}
 use mathlib.Core.Path.{_≡_, refl, sym, ap, _∙_}
 use Prim.Native.Nat.{_≤_}
@@ -9,7 +10,8 @@ use Rattle.grid.specs.Build.{lent}
 use Rattle.grid.specs.Grid.{Grid}
 use Rattle.levels.specs.Levels.{Refinement}
 use Rattle.levels.specs.Questions.{question18}
-use Rattle.refinement.proofs.Outcomes.{as-lent, asked-later, can-run-all, first-made, in-ranges, passed-later, refused-grids, refused-later, refused-range}
+use Rattle.refinement.proofs.Outcomes.{as-lent, asked-later, can-run-all, first-made, in-ranges, passed-later}
+use Rattle.refinement.proofs.Outcomes.{refused-grids, refused-later, refused-range}
 use Rattle.refinement.specs.Answer.{lentGame}
 use Rattle.refinement.proofs.refine.Statement.{statement}
 use Rattle.refinement.proofs.refine.Tie as tie
@@ -22,11 +24,17 @@ abbrev game : tie.Start → Refinement
 game s = lentGame (grid s) (s .args .start .now) (s .args .losses .now) (s .args .factor)
 
 -- question 18 is answered yes
-asked : (c : tie.Else1) → question18 (c .before .before .before .before .before .before .before .before .args .factor) (c .before .before .before .before .before .before .before .before .args .levels) .answeredYes ≡ true
+asked : (c : tie.Else1)
+    → question18 (c .before .before .before .before .before .before .before .before .args .factor)
+    (c .before .before .before .before .before .before .before .before .args .levels) .answeredYes ≡ true
 asked c = sym (c .before .in-range .ensures) ∙ not-false _ (c .if1 .left)
 
-ranges : (c : tie.Else1) → let a = c .before .before .before .before .before .before .before .before .args in ((2 ≤ a .factor) × (a .factor ≤ 10)) × ((1 ≤ a .levels) × (a .levels ≤ 8))
-ranges c = in-ranges (c .before .before .before .before .before .before .before .before .args .factor) (c .before .before .before .before .before .before .before .before .args .levels) (asked c)
+ranges : (c : tie.Else1)
+    → let a = c .before .before .before .before .before .before .before .before .args in
+    ((2 ≤ a .factor) × (a .factor ≤ 10)) × ((1 ≤ a .levels) × (a .levels ≤ 8))
+ranges c =
+    in-ranges (c .before .before .before .before .before .before .before .before .args .factor)
+    (c .before .before .before .before .before .before .before .before .args .levels) (asked c)
 
 in-range-requires : tie.Need-in-range-requires
 in-range-requires c κs = search needs
@@ -50,7 +58,8 @@ returns-2 : tie.Need-returns-2
 returns-2 c =
     let s = c .before .before .before .before .before .before .before .before .before .before .before .before in
     let m = c .before .before .before .made-levels in
-    refused-grids (game s) (s .args .levels) (s .args .labels .now) (s .args .answer .now) (asked (c .before .before .before .before)) (c .refused2 .result) (m .result .code)
+    refused-grids (game s) (s .args .levels) (s .args .labels .now) (s .args .answer .now)
+    (asked (c .before .before .before .before)) (c .refused2 .result) (m .result .code)
     (c .before .if2 .taken) (m .ensures .code) (c .refused2 .ensures)
 
 array-copy-out-first : tie.Need-array-copy-out-first
@@ -67,33 +76,50 @@ array-copy-out-last c = omega (arith, ranges (c .before .before .before .before 
 
 first-no-requires : tie.Need-first-no-requires
 first-no-requires c κs =
-    let s = c .before .before .before .before .before .before .before .before .before .before .before .before .before .before in
+    let far = c .before .before .before .before .before .before .before .before .before .before in
+    let s = far .before .before .before .before in
     let m = c .before .before .before .before .before .made-levels in
-    let w = ranges (c .before .before .before .before .before .before) in
-    (first-made (grid s) (s .args .factor) (s .args .levels) (w .1 .0) (m .result) (m .ensures) (c .before .before .before .if2 .left) _, w .1 .1)
+    let w = ranges (c .before .before .before .before .before .before) in (
+      first-made (grid s) (s .args .factor) (s .args .levels) (w .1 .0) (m .result) (m .ensures)
+          (c .before .before .before .if2 .left) _,
+      w .1 .1,
+    )
 
 refused-requires-3 : tie.Need-refused-requires-3
 refused-requires-3 c κs = search needs
 
 returns-3 : tie.Need-returns-3
 returns-3 c =
-    let s = c .before .before .before .before .before .before .before .before .before .before .before .before .before .before .before .before .before in
+    let far = c .before .before .before .before .before .before .before .before .before .before in
+    let s = far .before .before .before .before .before .before .before in
     let m = c .before .before .before .before .before .before .before .before .made-levels in
     let w = ranges (c .before .before .before .before .before .before .before .before .before) in
     let n = c .before .before .first-no in
     let z = c .before .before .before .before .before .before .if2 .left in
-    let l = asked-later (grid s) (s .args .factor) (s .args .levels) (w .1 .0) (m .result) (m .ensures) z (s .args .start .now) (s .args .losses .now) (s .args .labels .now) (s .args .answer .now) (n .result) _ _ (n .ensures) in
-    refused-later (game s) (s .args .levels) (s .args .labels .now) (s .args .answer .now) (asked (c .before .before .before .before .before .before .before .before .before)) (sym (m .ensures .code) ∙ z) (c .refused3 .result) (n .result) (c .before .if3 .taken) l (c .refused3 .ensures)
+    let l =
+    asked-later (grid s) (s .args .factor) (s .args .levels) (w .1 .0) (m .result) (m .ensures) z
+    (s .args .start .now) (s .args .losses .now) (s .args .labels .now) (s .args .answer .now) (n .result) _ _
+    (n .ensures)
+    in
+    refused-later (game s) (s .args .levels) (s .args .labels .now) (s .args .answer .now)
+    (asked (c .before .before .before .before .before .before .before .before .before)) (sym (m .ensures .code) ∙ z)
+    (c .refused3 .result) (n .result) (c .before .if3 .taken) l (c .refused3 .ensures)
 
 run-levels-requires : tie.Need-run-levels-requires
 run-levels-requires c κs =
-    let s = c .before .before .before .before .before .before .before .before .before .before .before .before .before .before .before .before .before .before in
+    let far = c .before .before .before .before .before .before .before .before .before .before in
+    let s = far .before .before .before .before .before .before .before .before in
     let m = c .before .before .before .before .before .before .before .before .before .made-levels in
-    let w = ranges (c .before .before .before .before .before .before .before .before .before .before) in
+    let w = ranges (far) in
     let n = c .before .before .before .first-no in
     let z = c .before .before .before .before .before .before .before .if2 .left in
-    let l = asked-later (grid s) (s .args .factor) (s .args .levels) (w .1 .0) (m .result) (m .ensures) z (s .args .start .now) (s .args .losses .now) (s .args .labels .now) (s .args .answer .now) (n .result) _ _ (n .ensures) in
-    can-run-all (grid s) (s .args .factor) (s .args .levels) (w .1 .0) (m .result) (m .ensures) z (s .args .start .now) (s .args .losses .now) (s .args .labels .now) (s .args .answer .now) w (sym l ∙ c .before .before .if3 .left)
+    let l =
+    asked-later (grid s) (s .args .factor) (s .args .levels) (w .1 .0) (m .result) (m .ensures) z
+    (s .args .start .now) (s .args .losses .now) (s .args .labels .now) (s .args .answer .now) (n .result) _ _
+    (n .ensures)
+    in
+    can-run-all (grid s) (s .args .factor) (s .args .levels) (w .1 .0) (m .result) (m .ensures) z (s .args .start .now)
+    (s .args .losses .now) (s .args .labels .now) (s .args .answer .now) w (sym l ∙ c .before .before .if3 .left)
 
 same-length : tie.Need-same-length
 same-length c = search needs
@@ -103,15 +129,28 @@ same-length-2 c = search needs
 
 returns-4 : tie.Need-returns-4
 returns-4 c =
-    let s = c .before .before .before .before .before .before .before .before .before .before .before .before .before .before .before .before .before .before .before .before .before .before .before in
-    let m = c .before .before .before .before .before .before .before .before .before .before .before .before .before .before .made-levels in
-    let w = ranges (c .before .before .before .before .before .before .before .before .before .before .before .before .before .before .before) in
+    let far = c .before .before .before .before .before .before .before .before .before .before in
+    let s =
+    far .before .before .before .before .before .before .before .before .before .before .before .before .before
+    in
+    let m = far .before .before .before .before .made-levels in
+    let w = ranges (far .before .before .before .before .before) in
     let n = c .before .before .before .before .before .before .before .before .first-no in
-    let z = c .before .before .before .before .before .before .before .before .before .before .before .before .if2 .left in
-    let l = asked-later (grid s) (s .args .factor) (s .args .levels) (w .1 .0) (m .result) (m .ensures) z (s .args .start .now) (s .args .losses .now) (s .args .labels .now) (s .args .answer .now) (n .result) _ _ (n .ensures) in
+    let z = far .before .before .if2 .left in
+    let l =
+    asked-later (grid s) (s .args .factor) (s .args .levels) (w .1 .0) (m .result) (m .ensures) z
+    (s .args .start .now) (s .args .losses .now) (s .args .labels .now) (s .args .answer .now) (n .result) _ _
+    (n .ensures)
+    in
     let q = c .before .before .before .before .run-levels in
-    let f = as-lent (grid s) (s .args .factor) (s .args .levels) (w .1 .0) (m .result) (m .ensures) z (s .args .start .now) (s .args .losses .now) (s .args .labels .now) (s .args .answer .now) (q .result) _ _ (q .ensures .0) (q .ensures .1) in
-    passed-later (game s) (s .args .levels) (s .args .labels .now) (s .args .answer .now) (asked (c .before .before .before .before .before .before .before .before .before .before .before .before .before .before .before)) (sym (m .ensures .code) ∙ z) (sym l ∙ c .before .before .before .before .before .before .before .if3 .left) (q .result) _ _ (f .0) (f .1) (f .2)
+    let f =
+    as-lent (grid s) (s .args .factor) (s .args .levels) (w .1 .0) (m .result) (m .ensures) z (s .args .start .now)
+    (s .args .losses .now) (s .args .labels .now) (s .args .answer .now) (q .result) _ _ (q .ensures .0)
+    (q .ensures .1)
+    in
+    passed-later (game s) (s .args .levels) (s .args .labels .now) (s .args .answer .now)
+    (asked (far .before .before .before .before .before)) (sym (m .ensures .code) ∙ z)
+    (sym l ∙ c .before .before .before .before .before .before .before .if3 .left) (q .result) _ _ (f .0) (f .1) (f .2)
 
 pub refine-spec : {M : Type 1} → statement M
 refine-spec =

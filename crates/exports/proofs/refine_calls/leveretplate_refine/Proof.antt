@@ -15,14 +15,17 @@ use Rattle.exports.proofs.refine_calls.leveretplate_refine.Tie as tie
 
 -- what is lent
 abbrev game : tie.Start → Refinement
-game s = lentGame (lent (s .args .sizes .now) (s .args .divisions .now)) (s .args .start .now) (s .args .losses .now) (s .args .factor)
+game s =
+    lentGame (lent (s .args .sizes .now) (s .args .divisions .now)) (s .args .start .now) (s .args .losses .now)
+    (s .args .factor)
 
 refine-requires : tie.Need-refine-requires
 refine-requires c κs = search needs
 
 put-levels-requires : tie.Need-put-levels-requires
 put-levels-requires c κs =
-    let s = c .before .before .before .before .before .before .before .before .before .before .before .before .before .before in
+    let far = c .before .before .before .before .before .before .before .before .before .before in
+    let s = far .before .before .before .before in
     let few = answer-few (game s) (s .args .levels) (s .args .labels .now) (s .args .answer .now) in
     let found = c .before .before .before .before .before .refine .ensures .0 in
     (rw found (few .0), rw found (few .1), search needs)
@@ -35,10 +38,18 @@ same-length-2 c = search needs
 
 returns : tie.Need-returns
 returns c =
-    let s = c .before .before .before .before .before .before .before .before .before .before .before .before .before .before .before in
+    let far = c .before .before .before .before .before .before .before .before .before .before in
+    let s = far .before .before .before .before .before in
     let w = c .before .before .before .before .before .before .refine .ensures in (
       ap (λ (found : Refined). found .code) (w .0),
-      (w .1 .0, (w .1 .1, c .put-levels .ensures ∙ ap (λ (found : Refined). front (refinedFacts found) (s .args .facts .now)) (w .0))),
+      (
+        w .1 .0,
+        (
+          w .1 .1,
+          c .put-levels .ensures ∙ ap
+              (λ (found : Refined). front (refinedFacts found) (s .args .facts .now)) (w .0),
+        ),
+      ),
     )
 
 pub leveretplate-refine-spec : {M : Type 1} → statement M

@@ -28,7 +28,9 @@ same-length : tie.Need-same-length
 same-length c = search needs
 
 returns : tie.Need-returns
-returns c = rw (c .before .kind-number .ensures) (four _ _ _ _ (c .before .before .before .args .facts .now) (c .before .before .before .pre))
+returns c =
+    rw (c .before .kind-number .ensures) (four _ _ _ _ (c .before .before .before .args .facts .now)
+    (c .before .before .before .pre))
 
 pub put-level-spec : {M : Type 1} → statement M
 put-level-spec =

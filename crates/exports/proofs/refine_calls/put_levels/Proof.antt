@@ -34,7 +34,11 @@ sub-put-level : tie.Need-sub-put-level Inv-loop μ-loop
 sub-put-level c =
     let s = c .before .before .before .before .before in
     let l = c .before .before .loop in
-    omega (arith, facts-room (s .args .found .levels) (s .pre .1) (s .args .facts .now) (l .facts) (s .pre .2) (l .i) (l .inv .0) (omega (arith, s .pre .0)))
+    omega (
+      arith,
+      facts-room (s .args .found .levels) (s .pre .1) (s .args .facts .now) (l .facts) (s .pre .2) (l .i)
+          (l .inv .0) (omega (arith, s .pre .0)),
+    )
 
 part-put-level-start : tie.Need-part-put-level-start Inv-loop μ-loop
 part-put-level-start c = sub-put-level c
@@ -46,7 +50,8 @@ put-level-requires : tie.Need-put-level-requires Inv-loop μ-loop
 put-level-requires c κs =
     let s = c .before .before .before .before .before .before in
     let l = c .before .before .before .loop in
-    facts-part (s .args .found .levels) (s .pre .1) (s .args .facts .now) (l .facts) (s .pre .2) (l .i) (l .inv .0) (omega (arith, s .pre .0))
+    facts-part (s .args .found .levels) (s .pre .1) (s .args .facts .now) (l .facts) (s .pre .2) (l .i) (l .inv .0)
+    (omega (arith, s .pre .0))
 
 add-i : tie.Need-add-i Inv-loop μ-loop
 add-i c = omega arith
@@ -57,14 +62,18 @@ loop-less c = omega arith
 loop-again : tie.Need-loop-again Inv-loop μ-loop
 loop-again c =
     let s = c .before .before .before .before .before .before .before .before .before in
-    let l = c .before .before .before .before .before .before .loop in
-    (facts-put (s .args .found .levels) (s .pre .1) (s .args .facts .now) (l .facts) (s .pre .2) (l .i) (l .inv .0) _ _ (omega (arith, s .pre .0)) (c .before .before .put-level .ensures), omega arith)
+    let l = c .before .before .before .before .before .before .loop in (
+      facts-put (s .args .found .levels) (s .pre .1) (s .args .facts .now) (l .facts) (s .pre .2) (l .i) (l .inv .0) _ _
+          (omega (arith, s .pre .0)) (c .before .before .put-level .ensures),
+      omega arith,
+    )
 
 same-length : tie.Need-same-length Inv-loop μ-loop
 same-length c =
     let s = c .before .before .before .before in
     let l = c .before .loop in
-    facts-length (s .args .found .levels) (s .pre .1) (s .args .facts .now) (l .facts) (s .pre .2) (l .i) (l .inv .0) (omega (arith, s .pre .0, l .inv .1))
+    facts-length (s .args .found .levels) (s .pre .1) (s .args .facts .now) (l .facts) (s .pre .2) (l .i) (l .inv .0)
+    (omega (arith, s .pre .0, l .inv .1))
 
 returns : tie.Need-returns Inv-loop μ-loop
 returns c =

@@ -1,4 +1,5 @@
--- `level_questions::grids::next_divisions` meets its contract. The invariant: the divisions so far, times k, stand at the front. Assumes nothing.
+-- `level_questions::grids::next_divisions` meets its contract. The invariant: the divisions so far, times k, stand at
+-- the front. Assumes nothing.
 use mathlib.Core.Path.{_≡_, sym, ap}
 use Prim.Native.Nat.{_≤_, _-_}
 use borrow.Author.Needs.{needs}
@@ -20,7 +21,8 @@ abbrev μ-loop : tie.MeasureT-loop
 μ-loop factor blocks divisions numbers₀ j₀ numbers j = blocks - j
 
 loop-holds : tie.Need-loop-holds Inv-loop μ-loop
-loop-holds c = (sym (front-none (replicate 6 0)), omega arith, blocks-range (c .before .args .grid) (c .before .pre .0) .1)
+loop-holds c =
+    (sym (front-none (replicate 6 0)), omega arith, blocks-range (c .before .args .grid) (c .before .pre .0) .1)
 
 mul-wide16 : tie.Need-mul-wide16 Inv-loop μ-loop
 mul-wide16 c = omega arith
@@ -32,14 +34,20 @@ wide16-requires : tie.Need-wide16-requires Inv-loop μ-loop
 wide16-requires c κs = search needs
 
 mul-product : tie.Need-mul-product Inv-loop μ-loop
-mul-product c = omega (arith, product-small (c .before .before .before .before .args .factor) (c .wide16 .result) (c .before .before .before .before .pre .1) (c .wide16 .ensures .1))
+mul-product c =
+    omega (
+      arith,
+      product-small (c .before .before .before .before .args .factor) (c .wide16 .result)
+          (c .before .before .before .before .pre .1) (c .wide16 .ensures .1),
+    )
 
 returns : tie.Need-returns Inv-loop μ-loop
 returns c =
     let s = c .before .before .before .before .before in
     let l = c .before .before .before .loop in
     let w = c .before .wide16 in
-    next-not (s .args .grid) (s .pre .0) (s .args .factor) (l .numbers) (l .j) (w .result) (l .inv .0) (omega arith) (w .ensures .0) (c .if1 .taken)
+    next-not (s .args .grid) (s .pre .0) (s .args .factor) (l .numbers) (l .j) (w .result) (l .inv .0) (omega arith)
+    (w .ensures .0) (c .if1 .taken)
 
 cast-numbers : tie.Need-cast-numbers Inv-loop μ-loop
 cast-numbers c = omega arith
@@ -60,8 +68,12 @@ loop-again : tie.Need-loop-again Inv-loop μ-loop
 loop-again c =
     let s = c .before .before .before .before .before in
     let l = c .before .before .before .loop in
-    let w = c .before .wide16 in
-    (next-put (s .args .grid) (s .pre .0) (s .args .factor) (l .numbers) (l .j) (w .result) (l .inv .0) (omega arith) (w .ensures .0), omega arith, l .inv .2)
+    let w = c .before .wide16 in (
+      next-put (s .args .grid) (s .pre .0) (s .args .factor) (l .numbers) (l .j) (w .result) (l .inv .0) (omega arith)
+          (w .ensures .0),
+      omega arith,
+      l .inv .2,
+    )
 
 returns-2 : tie.Need-returns-2 Inv-loop μ-loop
 returns-2 c =

@@ -21,10 +21,12 @@ returns : tie.Need-returns
 returns c =
     let s = c .before .before .before .before in
     let n = c .before .before .before .next-divisions in
-    next-refused (s .args .grid) (s .pre .0) (s .args .factor) (s .pre .1) (n .result) (n .ensures) (c .none .result) (c .none .ensures) (not-true _ (c .before .if1 .taken))
+    next-refused (s .args .grid) (s .pre .0) (s .args .factor) (s .pre .1) (n .result) (n .ensures) (c .none .result)
+    (c .none .ensures) (not-true _ (c .before .if1 .taken))
 
 array-share-prefix-sizes : tie.Need-array-share-prefix-sizes
-array-share-prefix-sizes c = let s = c .before .before .before .before .before in blocks-room (s .args .grid) (s .pre .0) .0
+array-share-prefix-sizes c =
+    let s = c .before .before .before .before .before in blocks-room (s .args .grid) (s .pre .0) .0
 
 slice-aggregate-new : tie.Need-slice-aggregate-new
 slice-aggregate-new c = sym (length-take-le _ _ (array-share-prefix-sizes (c .before)))
@@ -32,7 +34,12 @@ slice-aggregate-new c = sym (length-take-le _ _ (array-share-prefix-sizes (c .be
 array-share-prefix-divisions : tie.Need-array-share-prefix-divisions
 array-share-prefix-divisions c =
     let s = c .before .before .before .before .before .before in
-    omega (arith, c .before .before .before .before .before .next-divisions .ensures .whole, blocks-range (s .args .grid) (s .pre .0) .1)
+    omega (
+      arith,
+      c .before .before .before .before .before .next-divisions .ensures .whole,
+      blocks-range
+          (s .args .grid) (s .pre .0) .1,
+    )
 
 slice-aggregate-new-2 : tie.Need-slice-aggregate-new-2
 slice-aggregate-new-2 c = sym (length-take-le _ _ (array-share-prefix-divisions (c .before)))
@@ -45,7 +52,8 @@ returns-2 c =
     let s = c .before .before .before .before .before .before .before .before in
     let n = c .before .before .before .before .before .before .before .next-divisions in
     c .new .ensures
-    ∙ ap madeOf (next-lent (s .args .grid) (s .pre .0) (s .args .factor) (s .pre .1) (n .result) (n .ensures) (not-false _ (c .before .before .before .before .before .if1 .left)))
+    ∙ ap madeOf (next-lent (s .args .grid) (s .pre .0) (s .args .factor) (s .pre .1) (n .result) (n .ensures)
+    (not-false _ (c .before .before .before .before .before .if1 .left)))
 
 pub next-grid-spec : {M : Type 1} → statement M
 next-grid-spec =

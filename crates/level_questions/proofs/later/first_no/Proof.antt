@@ -1,4 +1,5 @@
--- `level_questions::later::first_no` meets its contract: each question is asked where all before it are answered yes. Assumes nothing.
+-- `level_questions::later::first_no` meets its contract: each question is asked where all before it are answered yes.
+-- Assumes nothing.
 use mathlib.Core.Bool.{true}
 use mathlib.Core.Path.{_≡_, sym, ap, _∙_}
 use Prim.Native.Nat.{ℕ, _*_, _≤_}
@@ -22,21 +23,27 @@ use Rattle.level_questions.proofs.later.first_no.Statement.{statement}
 use Rattle.level_questions.proofs.later.first_no.Tie as tie
 
 -- what is known behind each question
-on : (c : tie.Else1) → isGridPoint (shape (c .before .before .before .before .args .grid)) (c .before .before .before .before .args .start .now) ≡ true
+on : (c : tie.Else1)
+    → isGridPoint (shape (c .before .before .before .before .args .grid))
+    (c .before .before .before .before .args .start .now) ≡ true
 on c = sym (c .before .is-grid-point .ensures) ∙ not-false _ (c .if1 .left)
 
-count-is : (c : tie.After-num-profiles) → let g = c .before .before .before .before .before .before .before .args .grid in
+count-is : (c : tie.After-num-profiles)
+    → let g = c .before .before .before .before .before .before .before .args .grid in
     g .blocks * c .num-profiles .result ≡ numLosses (shape g)
 count-is c =
     let s = c .before .before .before .before .before .before .before in
     let g = s .args .grid in
-    ap (λ (n : ℕ). g .blocks * n) (c .num-profiles .ensures) ∙ ap (λ (n : ℕ). n * product (shape g .sizes)) (made-blocks g (s .pre .0))
+    ap (λ (n : ℕ). g .blocks * n) (c .num-profiles .ensures) ∙ ap (λ (n : ℕ). n * product (shape g .sizes))
+    (made-blocks g (s .pre .0))
 
 whole : (c : tie.Else2) → let a = c .before .before .before .before .before .before .before .before .args in
     length (a .losses .now) ≡ numLosses (shape (a .grid))
 whole c = c .if2 .left ∙ count-is (c .before)
 
-range : (c : tie.Else3) → all inRange (c .before .before .before .before .before .before .before .before .before .before .args .losses .now) ≡ true
+range : (c : tie.Else3)
+    → all inRange (c .before .before .before .before .before .before .before .before .before .before .args .losses .now)
+    ≡ true
 range c = sym (c .before .in-range .ensures) ∙ not-false _ (c .if3 .left)
 
 is-grid-point-requires : tie.Need-is-grid-point-requires
@@ -45,16 +52,19 @@ is-grid-point-requires c κs = search needs
 returns : tie.Need-returns
 returns c =
     let a = c .before .before .before .before .args in
-    no-start (shape (a .grid)) (a .points) (a .start .now) (a .losses .now) (a .levels) (a .label-room) (a .room) (sym (c .before .is-grid-point .ensures) ∙ not-true _ (c .if1 .taken))
+    no-start (shape (a .grid)) (a .points) (a .start .now) (a .losses .now) (a .levels) (a .label-room) (a .room)
+    (sym (c .before .is-grid-point .ensures) ∙ not-true _ (c .if1 .taken))
 
 array-share-prefix-sizes : tie.Need-array-share-prefix-sizes
-array-share-prefix-sizes c = let s = c .before .before .before .before .before in blocks-room (s .args .grid) (s .pre .0) .0
+array-share-prefix-sizes c =
+    let s = c .before .before .before .before .before in blocks-room (s .args .grid) (s .pre .0) .0
 
 slice-aggregate-num-profiles : tie.Need-slice-aggregate-num-profiles
 slice-aggregate-num-profiles c = sym (length-take-le _ _ (array-share-prefix-sizes (c .before)))
 
 num-profiles-requires : tie.Need-num-profiles-requires
-num-profiles-requires c κs = let s = c .before .before .before .before .before .before in made-accepted (s .args .grid) (s .pre .0) .fewIndices
+num-profiles-requires c κs =
+    let s = c .before .before .before .before .before .before in made-accepted (s .args .grid) (s .pre .0) .fewIndices
 
 mul-if2 : tie.Need-mul-if2
 mul-if2 c =
@@ -62,14 +72,16 @@ mul-if2 c =
     let g = s .args .grid in
     let few = product-few (shape g .sizes) (made-accepted g (s .pre .0) .fewIndices) in
     let m : g .blocks * c .num-profiles .result ≤ 6 * 324 =
-    mul-le-mul {n₁ = g .blocks} {m₁ = c .num-profiles .result} {n₂ = 6} {m₂ = 324} (blocks-range g (s .pre .0) .1) (omega (arith, few, c .num-profiles .ensures))
+    mul-le-mul {n₁ = g .blocks} {m₁ = c .num-profiles .result} {n₂ = 6} {m₂ = 324} (blocks-range g (s .pre .0) .1)
+    (omega (arith, few, c .num-profiles .ensures))
     in
     omega arith
 
 returns-2 : tie.Need-returns-2
 returns-2 c =
     let a = c .before .before .before .before .before .before .before .before .args in
-    no-length (shape (a .grid)) (a .points) (a .start .now) (a .losses .now) (a .levels) (a .label-room) (a .room) (on (c .before .before .before .before))
+    no-length (shape (a .grid)) (a .points) (a .start .now) (a .losses .now) (a .levels) (a .label-room) (a .room)
+    (on (c .before .before .before .before))
     (λ e. c .if2 .taken (e ∙ sym (count-is (c .before))))
 
 in-range-requires : tie.Need-in-range-requires
@@ -79,13 +91,15 @@ returns-3 : tie.Need-returns-3
 returns-3 c =
     let a = c .before .before .before .before .before .before .before .before .before .before .args in
     no-range (shape (a .grid)) (a .points) (a .start .now) (a .losses .now) (a .levels) (a .label-room) (a .room)
-    (on (c .before .before .before .before .before .before)) (whole (c .before .before)) (sym (c .before .in-range .ensures) ∙ not-true _ (c .if3 .taken))
+    (on (c .before .before .before .before .before .before)) (whole (c .before .before))
+    (sym (c .before .in-range .ensures) ∙ not-true _ (c .if3 .taken))
 
 returns-4 : tie.Need-returns-4
 returns-4 c =
     let a = c .before .before .before .before .before .before .before .before .before .before .before .args in
     no-buffer (shape (a .grid)) (a .points) (a .start .now) (a .losses .now) (a .levels) (a .label-room) (a .room)
-    (on (c .before .before .before .before .before .before .before)) (whole (c .before .before .before)) (range (c .before)) (c .if4 .taken)
+    (on (c .before .before .before .before .before .before .before)) (whole (c .before .before .before))
+    (range (c .before)) (c .if4 .taken)
 
 room-of-requires : tie.Need-room-of-requires
 room-of-requires c κs = search needs
@@ -98,16 +112,24 @@ mul-if5 c =
 
 returns-5 : tie.Need-returns-5
 returns-5 c =
-    let a = c .before .before .before .before .before .before .before .before .before .before .before .before .before .args in
+    let a =
+    c .before .before .before .before .before .before .before .before .before .before .before .before .before .args
+    in
     no-room (shape (a .grid)) (a .points) (a .start .now) (a .losses .now) (a .levels) (a .label-room) (a .room)
-    (on (c .before .before .before .before .before .before .before .before .before)) (whole (c .before .before .before .before .before)) (range (c .before .before .before)) (c .before .before .if4 .left)
+    (on (c .before .before .before .before .before .before .before .before .before))
+    (whole (c .before .before .before .before .before)) (range (c .before .before .before))
+    (c .before .before .if4 .left)
     (rw (c .before .room-of .ensures .0) at (c .if5 .taken))
 
 returns-6 : tie.Need-returns-6
 returns-6 c =
-    let a = c .before .before .before .before .before .before .before .before .before .before .before .before .before .args in
+    let a =
+    c .before .before .before .before .before .before .before .before .before .before .before .before .before .args
+    in
     none-no (shape (a .grid)) (a .points) (a .start .now) (a .losses .now) (a .levels) (a .label-room) (a .room)
-    (on (c .before .before .before .before .before .before .before .before .before)) (whole (c .before .before .before .before .before)) (range (c .before .before .before)) (c .before .before .if4 .left)
+    (on (c .before .before .before .before .before .before .before .before .before))
+    (whole (c .before .before .before .before .before)) (range (c .before .before .before))
+    (c .before .before .if4 .left)
     (rw (c .before .room-of .ensures .0) at (c .if5 .left))
 
 pub first-no-spec : {M : Type 1} → statement M

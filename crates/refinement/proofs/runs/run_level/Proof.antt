@@ -7,19 +7,24 @@ use Rattle.refinement.proofs.runs.run_level.Statement.{statement}
 use Rattle.refinement.proofs.runs.run_level.Tie as tie
 
 label-on-requires : tie.Need-label-on-requires
-label-on-requires c κs = let s = c .before .before .before .before .before in (s .pre .made, s .pre .table, s .pre .whole)
+label-on-requires c κs =
+    let s = c .before .before .before .before .before in (s .pre .made, s .pre .table, s .pre .whole)
 
 binomials-requires : tie.Need-binomials-requires
 binomials-requires c κs = (c .before .before .before .before .before .before .before .before .before .pre .made, refl)
 
 bound-requires : tie.Need-bound-requires
-bound-requires c κs = c .before .before .before .before .before .before .before .before .before .before .before .before .before .pre .made
+bound-requires c κs =
+    c .before .before .before .before .before .before .before .before .before .before .before .before .before .pre .made
 
 announced-requires : tie.Need-announced-requires
 announced-requires c κs =
-    let s = c .before .before .before .before .before .before .before .before .before .before .before .before .before .before in
+    let far = c .before .before .before .before .before .before .before .before .before .before in
+    let s = far .before .before .before .before in
     let a = s .args in
-    can-announce (a .grid) (a .start .now) (a .losses .now) _ _ (s .pre) _ (c .before .before .before .before .before .before .before .before .label-on .ensures) _ _ (c .before .before .before .before .binomials2 .ensures) refl
+    can-announce (a .grid) (a .start .now) (a .losses .now) _ _ (s .pre) _
+    (c .before .before .before .before .before .before .before .before .label-on .ensures) _ _
+    (c .before .before .before .before .binomials2 .ensures) refl
 
 enum-known-found : tie.Need-enum-known-found
 enum-known-found c = search needs
@@ -35,14 +40,18 @@ same-length-2 c = search needs
 
 returns : tie.Need-returns
 returns c =
-    let s = c .before .before .before .before .before .before .before .before .before .before .before .before .before .before .before .before .before .before .before .before in
+    let far = c .before .before .before .before .before .before .before .before .before .before in
+    let s = far .before .before .before .before .before .before .before .before .before .before in
     let a = s .args in
     let w = c .before .before .before .before .before .announced in
     let b = c .before .before .before .before .before .before .bound in (
-      ap levelOf (sym (c .before .found .given .1)) ∙ told (a .grid) (a .start .now) (a .losses .now) _ _ (s .pre) _ (c .before .before .before .before .before .before .before .before .before .before .before .before .before .before .label-on .ensures) (b .result) (b .ensures) (w .result) (w .ensures .0),
+      ap levelOf (sym (c .before .found .given .1)) ∙ told (a .grid) (a .start .now) (a .losses .now) _ _ (s .pre) _
+          (far .before .before .before .before .label-on .ensures) (b .result) (b .ensures) (w .result) (w .ensures .0),
       (
-        c .before .before .before .before .before .before .before .before .before .before .before .before .before .before .label-on .ensures,
-        written (a .grid) (a .start .now) (a .losses .now) _ _ (s .pre) _ (c .before .before .before .before .before .before .before .before .before .before .before .before .before .before .label-on .ensures) (b .result) (b .ensures) (a .answer .now) _ (w .ensures .1),
+        far .before .before .before .before .label-on .ensures,
+        written (a .grid) (a .start .now) (a .losses .now) _ _ (s .pre) _
+            (far .before .before .before .before .label-on .ensures) (b .result) (b .ensures) (a .answer .now) _
+            (w .ensures .1),
       ),
     )
 
@@ -54,16 +63,20 @@ same-length-4 c = search needs
 
 returns-2 : tie.Need-returns-2
 returns-2 c =
-    let s = c .before .before .before .before .before .before .before .before .before .before .before .before .before .before .before .before .before .before .before in
+    let far = c .before .before .before .before .before .before .before .before .before .before in
+    let s = far .before .before .before .before .before .before .before .before .before in
     let a = s .args in
     let w = c .before .before .before .before .announced in
     let b = c .before .before .before .before .before .bound in (
       c .no-level .ensures
           ∙ sym (not-end (w .result) (c .before .match .keys2))
-          ∙ told (a .grid) (a .start .now) (a .losses .now) _ _ (s .pre) _ (c .before .before .before .before .before .before .before .before .before .before .before .before .before .label-on .ensures) (b .result) (b .ensures) (w .result) (w .ensures .0),
+          ∙ told (a .grid) (a .start .now) (a .losses .now) _ _ (s .pre) _
+          (far .before .before .before .label-on .ensures) (b .result) (b .ensures) (w .result) (w .ensures .0),
       (
-        c .before .before .before .before .before .before .before .before .before .before .before .before .before .label-on .ensures,
-        written (a .grid) (a .start .now) (a .losses .now) _ _ (s .pre) _ (c .before .before .before .before .before .before .before .before .before .before .before .before .before .label-on .ensures) (b .result) (b .ensures) (a .answer .now) _ (w .ensures .1),
+        far .before .before .before .label-on .ensures,
+        written (a .grid) (a .start .now) (a .losses .now) _ _ (s .pre) _
+            (far .before .before .before .label-on .ensures) (b .result) (b .ensures) (a .answer .now) _
+            (w .ensures .1),
       ),
     )
 

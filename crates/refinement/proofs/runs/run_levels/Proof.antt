@@ -1,4 +1,5 @@
--- `refinement::runs::run_levels` meets its contract. The invariant: the levels so far are in the array and in both buffers. Assumes nothing.
+-- `refinement::runs::run_levels` meets its contract. The invariant: the levels so far are in the array and in both
+-- buffers. Assumes nothing.
 use mathlib.Core.List.{List}
 use mathlib.Core.Path.{_≡_, refl, sym, ap, _∙_}
 use Prim.Native.Nat.{ℕ, _≤_, _<_, _-_}
@@ -7,7 +8,9 @@ use native.Mathlib.Omega.{arith}
 use lib.ListN.{length, set}
 use Rattle.levels.specs.Buffers.{numbersAfter}
 use Rattle.levels.specs.Levels.{Refinement}
-use Rattle.refinement.proofs.AllRuns.{answer-first, answer-long, answer-solved, can-solve, labels-last, labels-long, labels-solved, labelsAfter, level-solved, levels-next, levels-none}
+use Rattle.refinement.proofs.AllRuns.{answer-first, answer-long, answer-solved, can-solve, labels-last}
+use Rattle.refinement.proofs.AllRuns.{labels-long, labels-solved, labelsAfter, level-solved, levels-next}
+use Rattle.refinement.proofs.AllRuns.{levels-none}
 use Rattle.refinement.specs.Answer.{levelsOf}
 use Rattle.refinement.specs.Runs.{gameOf}
 use Rattle.refinement.specs.declared.Level.{Level}
@@ -31,8 +34,13 @@ loop-holds : tie.Need-loop-holds Inv-loop μ-loop
 loop-holds c =
     let s = c .before .before .before .before .before in
     let a = s .args in
-    let r = gameOf (a .t1) (a .start .now) (a .losses .now) (a .factor) in
-    (rw (c .no-level .ensures) (sym (levels-none r)), refl, sym (answer-first r (a .levels) (a .t1) (a .labels .now) (a .answer .now) (s .pre)), omega arith)
+    let r = gameOf (a .t1) (a .start .now) (a .losses .now) (a .factor) in (
+      rw (c .no-level .ensures) (sym (levels-none r)),
+      refl,
+      sym
+          (answer-first r (a .levels) (a .t1) (a .labels .now) (a .answer .now) (s .pre)),
+      omega arith,
+    )
 
 mul-grid : tie.Need-mul-grid Inv-loop μ-loop
 mul-grid c = omega (arith, c .before .before .before .before .before .before .before .pre .some .1)
@@ -46,14 +54,26 @@ solve-requires c κs =
     let a = s .args in
     let r = gameOf (a .t1) (a .start .now) (a .losses .now) (a .factor) in
     let l = c .before .before .before .before .loop in
-    let can = can-solve r (a .levels) (a .t1) (a .labels .now) (a .answer .now) (s .pre) (l .i) (omega arith) _ _ refl in
+    let can =
+    can-solve r (a .levels) (a .t1) (a .labels .now) (a .answer .now) (s .pre) (l .i) (omega arith) _ _ refl
+    in
     rw (l .inv .1, l .inv .2) can
 
 mul-found : tie.Need-mul-found Inv-loop μ-loop
-mul-found c = omega (arith, c .before .before .before .before .before .before .before .before .before .before .before .before .before .before .before .pre .some .1)
+mul-found c =
+    let far = c .before .before .before .before .before .before .before .before .before .before in
+    omega (
+      arith,
+      far .before .before .before .before .before .pre .some .1,
+    )
 
 array-set-from-found : tie.Need-array-set-from-found Inv-loop μ-loop
-array-set-from-found c = omega (arith, c .before .before .before .before .before .before .before .before .before .before .before .before .before .before .before .pre .some .1)
+array-set-from-found c =
+    let far = c .before .before .before .before .before .before .before .before .before .before in
+    omega (
+      arith,
+      far .before .before .before .before .before .pre .some .1,
+    )
 
 add-i : tie.Need-add-i Inv-loop μ-loop
 add-i c = omega arith
@@ -63,17 +83,23 @@ loop-less c = omega arith
 
 loop-again : tie.Need-loop-again Inv-loop μ-loop
 loop-again c =
-    let s = c .before .before .before .before .before .before .before .before .before .before .before .before .before .before .before in
+    let t = c .before .before .before .before .before .before .before .before in
+    let s = t .before .before .before .before .before .before .before in
     let a = s .args in
     let r = gameOf (a .t1) (a .start .now) (a .losses .now) (a .factor) in
-    let l = c .before .before .before .before .before .before .before .before .before .loop in
+    let l = t .before .loop in
     let w = c .before .before .before .before .solve in
-    let few : l .i < 8 = omega (arith, s .pre .some .1) in (
+    let on : l .i < a .levels = t .loop-test .taken in
+    let few : l .i < 8 = omega (arith, on, s .pre .some .1) in (
       ap (λ (x : List Level). set x (l .i) (w .result)) (l .inv .0)
-          ∙ levels-next r (l .i) (w .result) few (level-solved r (a .levels) (a .t1) (a .labels .now) (a .answer .now) (s .pre) (l .i) (omega arith) _ _ refl (w .result) (rw (l .inv .2) at (w .ensures .0))),
-      labels-solved r (a .levels) (a .t1) (a .labels .now) (a .answer .now) (s .pre) (l .i) (omega arith) _ _ refl _ (rw (l .inv .1) at (w .ensures .1 .0)),
-      answer-solved r (a .levels) (a .t1) (a .labels .now) (a .answer .now) (s .pre) (l .i) (omega arith) _ _ refl _ (rw (l .inv .2) at (w .ensures .1 .1)),
-      omega arith,
+          ∙ levels-next r (l .i) (w .result) few
+          (level-solved r (a .levels) (a .t1) (a .labels .now) (a .answer .now) (s .pre) (l .i) on _ _ refl
+          (w .result) (rw (l .inv .2) at (w .ensures .0))),
+      labels-solved r (a .levels) (a .t1) (a .labels .now) (a .answer .now) (s .pre) (l .i) on _ _ refl _
+          (rw (l .inv .1) at (w .ensures .1 .0)),
+      answer-solved r (a .levels) (a .t1) (a .labels .now) (a .answer .now) (s .pre) (l .i) on _ _ refl _
+          (rw (l .inv .2) at (w .ensures .1 .1)),
+      omega (arith, on),
     )
 
 same-length : tie.Need-same-length Inv-loop μ-loop
@@ -82,7 +108,8 @@ same-length c =
     let a = s .args in
     let r = gameOf (a .t1) (a .start .now) (a .losses .now) (a .factor) in
     let l = c .before .loop in
-    ap length (l .inv .1) ∙ labels-long r (a .levels) (a .t1) (a .labels .now) (a .answer .now) (s .pre) (l .i) (l .inv .3)
+    ap length (l .inv .1) ∙ labels-long r (a .levels) (a .t1) (a .labels .now) (a .answer .now) (s .pre) (l .i)
+    (l .inv .3)
 
 same-length-2 : tie.Need-same-length-2 Inv-loop μ-loop
 same-length-2 c =
@@ -101,7 +128,8 @@ returns c =
     let e : l .i ≡ a .levels = omega arith in (
       l .inv .0 ∙ ap (levelsOf r) e,
       (
-        l .inv .1 ∙ ap (λ (n : ℕ). labelsAfter r n (a .labels .now)) e ∙ labels-last r (a .levels) (a .t1) (a .labels .now) (a .answer .now) (s .pre),
+        l .inv .1 ∙ ap (λ (n : ℕ). labelsAfter r n (a .labels .now)) e ∙ labels-last r (a .levels) (a .t1)
+            (a .labels .now) (a .answer .now) (s .pre),
         l .inv .2 ∙ ap (λ (n : ℕ). numbersAfter r n (a .answer .now)) e,
       ),
     )

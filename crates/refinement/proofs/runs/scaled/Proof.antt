@@ -1,4 +1,5 @@
--- `refinement::runs::scaled` meets its contract. The invariant: the numbers so far, times k, stand at the front. Assumes nothing.
+-- `refinement::runs::scaled` meets its contract. The invariant: the numbers so far, times k, stand at the front.
+-- Assumes nothing.
 use mathlib.Core.Path.{_≡_, sym, _∙_}
 use Prim.Native.Nat.{ℕ, _*_, _≤_, _<_, _-_}
 use borrow.Author.Needs.{needs}
@@ -15,17 +16,22 @@ use Rattle.refinement.proofs.runs.scaled.Statement.{statement}
 use Rattle.refinement.proofs.runs.scaled.Tie as tie
 
 abbrev Inv-loop : tie.InvT-loop
-Inv-loop numbers factor start₀ h₀ start h = (start ≡ front (take h (times factor numbers)) (replicate 16 0)) × (h ≤ length numbers)
+Inv-loop numbers factor start₀ h₀ start h =
+    (start ≡ front (take h (times factor numbers)) (replicate 16 0)) × (h ≤ length numbers)
 
 abbrev μ-loop : tie.MeasureT-loop
 μ-loop numbers factor start₀ h₀ start h = length numbers - h
 
 -- the product fits
-fits : (c : tie.After-wide16 Inv-loop μ-loop) → c .before .before .before .before .before .args .factor * c .wide16 .result ≤ 65535
+fits : (c : tie.After-wide16 Inv-loop μ-loop)
+    → c .before .before .before .before .before .args .factor * c .wide16 .result ≤ 65535
 fits c =
     let s = c .before .before .before .before .before in
     let h = c .before .before .before .loop .h in
-    let l = leb-true _ _ (at-all (λ x. leb (s .args .factor * x) 65535) (s .args .numbers .now) h (s .pre .small) (omega arith)) in
+    let l =
+    leb-true _ _ (at-all (λ x. leb (s .args .factor * x) 65535) (s .args .numbers .now) h (s .pre .small)
+    (omega arith))
+    in
     rw (c .wide16 .ensures .0) l
 
 loop-holds : tie.Need-loop-holds Inv-loop μ-loop
@@ -63,16 +69,23 @@ loop-again c =
     let s = c .before .before .before .before .before in
     let l = c .before .before .before .loop in
     let all = times (s .args .factor) (s .args .numbers .now) in
-    let long : length all ≡ length (s .args .numbers .now) = length-map (s .args .numbers .now) (λ x. s .args .factor * x) in
-    let e : s .args .factor * c .wide16 .result ≡ getD all (l .h) 0 = rw (times-at (s .args .factor) (s .args .numbers .now) (l .h), c .wide16 .ensures .0) in
-    (rw (l .inv .0, e) (front-copy all (replicate 16 0) (l .h) (omega (arith, long)) (omega (arith, s .pre .few))), omega arith)
+    let long : length all ≡ length (s .args .numbers .now) =
+    length-map (s .args .numbers .now) (λ x. s .args .factor * x)
+    in
+    let e : s .args .factor * c .wide16 .result ≡ getD all (l .h) 0 =
+    rw (times-at (s .args .factor) (s .args .numbers .now) (l .h), c .wide16 .ensures .0)
+    in (
+      rw (l .inv .0, e) (front-copy all (replicate 16 0) (l .h) (omega (arith, long)) (omega (arith, s .pre .few))),
+      omega arith,
+    )
 
 returns : tie.Need-returns Inv-loop μ-loop
 returns c =
     let s = c .before .before .before in
     let l = c .before .loop in
     let all = times (s .args .factor) (s .args .numbers .now) in
-    l .inv .0 ∙ front-whole all (replicate 16 0) (l .h) (omega (arith, length-map (s .args .numbers .now) (λ x. s .args .factor * x)))
+    l .inv .0 ∙ front-whole all (replicate 16 0) (l .h)
+    (omega (arith, length-map (s .args .numbers .now) (λ x. s .args .factor * x)))
 
 pub scaled-spec : {M : Type 1} → statement M
 scaled-spec =

@@ -14,20 +14,26 @@ room-of-requires c κs = c .before .before .before .before .pre .made
 
 -- where the level's room begins
 at-small : (c : tie.After-room-of) → c .before .before .before .before .before .args .level * c .room-of .result ≤ 2176
-at-small c = let s = c .before .before .before .before .before in room-begins (s .args .level) (c .room-of .result) (s .pre .starts .few) (c .room-of .ensures .1)
+at-small c =
+    let s = c .before .before .before .before .before in room-begins (s .args .level) (c .room-of .result)
+    (s .pre .starts .few) (c .room-of .ensures .1)
 
 mul-at : tie.Need-mul-at
 mul-at c = omega (arith, at-small c)
 
 start-of-requires : tie.Need-start-of-requires
-start-of-requires c κs = (c .before .before .before .before .before .before .pre .starts, c .before .before .before .before .before .before .pre .made)
+start-of-requires c κs = (
+  c .before .before .before .before .before .before .pre .starts,
+  c .before .before .before .before .before .before .pre .made,
+)
 
 array-share-prefix-first : tie.Need-array-share-prefix-first
 array-share-prefix-first c =
     let s = c .before .before .before .before .before .before .before in
     let a = s .args in
     let m = c .before .before .room-of in
-    first-inside (a .grid) (a .level) (a .start .now) (a .losses .now) (a .factor) (a .labels .now) (a .answer .now) (s .pre) (m .result) (m .ensures .0) (c .start-of .result) (c .start-of .ensures)
+    first-inside (a .grid) (a .level) (a .start .now) (a .losses .now) (a .factor) (a .labels .now) (a .answer .now)
+    (s .pre) (m .result) (m .ensures .0) (c .start-of .result) (c .start-of .ensures)
 
 slice-aggregate-run-level : tie.Need-slice-aggregate-run-level
 slice-aggregate-run-level c = sym (length-take-le _ _ (array-share-prefix-first (c .before)))
@@ -36,7 +42,8 @@ slice-relend-prefix-run-level : tie.Need-slice-relend-prefix-run-level
 slice-relend-prefix-run-level c = c .before .before .before .before .before .before .before .before .pre .points
 
 slice-aggregate-run-level-2 : tie.Need-slice-aggregate-run-level-2
-slice-aggregate-run-level-2 c = sym (length-take-le _ _ (c .before .before .before .before .before .before .before .before .before .pre .points))
+slice-aggregate-run-level-2 c =
+    sym (length-take-le _ _ (c .before .before .before .before .before .before .before .before .before .pre .points))
 
 mul-run-level : tie.Need-mul-run-level
 mul-run-level c = omega (arith, at-small (c .before .before .before .before))
@@ -47,7 +54,8 @@ sub-run-level c =
     let a = s .args in
     let m = c .before .before .before .before .room-of in
     let f = c .before .before .start-of in
-    begins (a .grid) (a .level) (a .start .now) (a .losses .now) (a .factor) (a .labels .now) (a .answer .now) (s .pre) (m .result) (m .ensures .0) (f .result) (f .ensures)
+    begins (a .grid) (a .level) (a .start .now) (a .losses .now) (a .factor) (a .labels .now) (a .answer .now) (s .pre)
+    (m .result) (m .ensures .0) (f .result) (f .ensures)
 
 part-run-level-start : tie.Need-part-run-level-start
 part-run-level-start c = sub-run-level c
@@ -61,7 +69,8 @@ run-level-requires c κs =
     let a = s .args in
     let m = c .before .before .before .before .before .room-of in
     let f = c .before .before .before .start-of in
-    can-run (a .grid) (a .level) (a .start .now) (a .losses .now) (a .factor) (a .labels .now) (a .answer .now) (s .pre) (m .result) (m .ensures .0) (f .result) (f .ensures)
+    can-run (a .grid) (a .level) (a .start .now) (a .losses .now) (a .factor) (a .labels .now) (a .answer .now) (s .pre)
+    (m .result) (m .ensures .0) (f .result) (f .ensures)
 
 same-length : tie.Need-same-length
 same-length c = search needs
@@ -71,15 +80,19 @@ same-length-2 c = search needs
 
 returns : tie.Need-returns
 returns c =
-    let s = c .before .before .before .before .before .before .before .before .before .before .before .before .before .before .before in
+    let far = c .before .before .before .before .before .before .before .before .before .before in
+    let s = far .before .before .before .before .before in
     let a = s .args in
-    let m = c .before .before .before .before .before .before .before .before .before .before .room-of in
+    let m = far .room-of in
     let f = c .before .before .before .before .before .before .before .before .start-of in
     let r = c .before .before .before .before .run-level in (
-      level-told (a .grid) (a .level) (a .start .now) (a .losses .now) (a .factor) (a .labels .now) (a .answer .now) (s .pre) (m .result) (m .ensures .0) (f .result) (f .ensures) (r .result) (r .ensures .0),
+      level-told (a .grid) (a .level) (a .start .now) (a .losses .now) (a .factor) (a .labels .now) (a .answer .now)
+          (s .pre) (m .result) (m .ensures .0) (f .result) (f .ensures) (r .result) (r .ensures .0),
       (
-        labels-told (a .grid) (a .level) (a .start .now) (a .losses .now) (a .factor) (a .labels .now) (a .answer .now) (s .pre) (m .result) (m .ensures .0) (f .result) (f .ensures) _ (r .ensures .1 .0),
-        answer-told (a .grid) (a .level) (a .start .now) (a .losses .now) (a .factor) (a .labels .now) (a .answer .now) (s .pre) (m .result) (m .ensures .0) (f .result) (f .ensures) _ (r .ensures .1 .1),
+        labels-told (a .grid) (a .level) (a .start .now) (a .losses .now) (a .factor) (a .labels .now) (a .answer .now)
+            (s .pre) (m .result) (m .ensures .0) (f .result) (f .ensures) _ (r .ensures .1 .0),
+        answer-told (a .grid) (a .level) (a .start .now) (a .losses .now) (a .factor) (a .labels .now) (a .answer .now)
+            (s .pre) (m .result) (m .ensures .0) (f .result) (f .ensures) _ (r .ensures .1 .1),
       ),
     )
 

@@ -3,21 +3,26 @@ use Prim.Native.Nat.{_-_, _*_, _≤_}
 use borrow.Author.Needs.{needs}
 use native.Mathlib.Omega.{arith}
 use Rattle.grid.proofs.Fields.{indices-few}
-use Rattle.refinement.proofs.LevelStarts.{ends-inside, part-fits, room-begins, start-first, start-later, start-long}
+use Rattle.refinement.proofs.LevelStarts.{ends-inside, part-fits, room-begins, start-first, start-later}
+use Rattle.refinement.proofs.LevelStarts.{start-long}
 use Rattle.refinement.proofs.runs.start_of.Statement.{statement}
 use Rattle.refinement.proofs.runs.start_of.Tie as tie
 
 padded-requires : tie.Need-padded-requires
 padded-requires c κs =
     let s = c .before .before .before in
-    let a = s .args in
-    (start-long (a .grid) (s .pre .1) (a .level) (a .start .now) (a .factor) (a .answer .now) (s .pre .0), indices-few (a .grid) (s .pre .1))
+    let a = s .args in (
+      start-long (a .grid) (s .pre .1) (a .level) (a .start .now) (a .factor) (a .answer .now) (s .pre .0),
+      indices-few
+          (a .grid) (s .pre .1),
+    )
 
 returns : tie.Need-returns
 returns c =
     let s = c .before .before .before .before in
     let a = s .args in
-    start-first (a .grid) (s .pre .1) (a .level) (a .start .now) (a .factor) (a .answer .now) (s .pre .0) (c .before .if1 .taken) (c .padded .result) (c .padded .ensures)
+    start-first (a .grid) (s .pre .1) (a .level) (a .start .now) (a .factor) (a .answer .now) (s .pre .0)
+    (c .before .if1 .taken) (c .padded .result) (c .padded .ensures)
 
 sub-at : tie.Need-sub-at
 sub-at c = search needs
@@ -35,7 +40,8 @@ mul-at : tie.Need-mul-at
 mul-at c = omega (arith, at-small c)
 
 add-scaled : tie.Need-add-scaled
-add-scaled c = let s = c .before .before .before .before in omega (arith, at-small c, indices-few (s .args .grid) (s .pre .1))
+add-scaled c =
+    let s = c .before .before .before .before in omega (arith, at-small c, indices-few (s .args .grid) (s .pre .1))
 
 mul-scaled : tie.Need-mul-scaled
 mul-scaled c = omega (arith, at-small c)
@@ -50,19 +56,23 @@ part-scaled-end : tie.Need-part-scaled-end
 part-scaled-end c =
     let s = c .before .before .before .before in
     let a = s .args in
-    ends-inside (a .grid) (s .pre .1) (a .level) (a .start .now) (a .factor) (a .answer .now) (s .pre .0) (c .before .if1 .left) (c .room-of .result) (c .room-of .ensures .0)
+    ends-inside (a .grid) (s .pre .1) (a .level) (a .start .now) (a .factor) (a .answer .now) (s .pre .0)
+    (c .before .if1 .left) (c .room-of .result) (c .room-of .ensures .0)
 
 scaled-requires : tie.Need-scaled-requires
 scaled-requires c κs =
     let s = c .before .before .before .before .before in
     let a = s .args in
-    part-fits (a .grid) (s .pre .1) (a .level) (a .start .now) (a .factor) (a .answer .now) (s .pre .0) (c .before .before .if1 .left) (c .before .room-of .result) (c .before .room-of .ensures .0)
+    part-fits (a .grid) (s .pre .1) (a .level) (a .start .now) (a .factor) (a .answer .now) (s .pre .0)
+    (c .before .before .if1 .left) (c .before .room-of .result) (c .before .room-of .ensures .0)
 
 returns-2 : tie.Need-returns-2
 returns-2 c =
     let s = c .before .before .before .before .before .before in
     let a = s .args in
-    start-later (a .grid) (s .pre .1) (a .level) (a .start .now) (a .factor) (a .answer .now) (s .pre .0) (c .before .before .before .if1 .left) (c .before .before .room-of .result) (c .before .before .room-of .ensures .0) (c .scaled .result) (c .scaled .ensures)
+    start-later (a .grid) (s .pre .1) (a .level) (a .start .now) (a .factor) (a .answer .now) (s .pre .0)
+    (c .before .before .before .if1 .left) (c .before .before .room-of .result) (c .before .before .room-of .ensures .0)
+    (c .scaled .result) (c .scaled .ensures)
 
 pub start-of-spec : {M : Type 1} → statement M
 start-of-spec =
