@@ -1,9 +1,9 @@
 -- The next grid from the one before: its divisions one by one, and the answer of the constructor. Assumes nothing.
 use mathlib.Core.Bool.{true, false}
 use mathlib.Core.List.{List}
-use mathlib.Core.Path.{_≡_, refl, sym, ap, _∙_}
+use mathlib.Core.Path.{_≡_, sym, ap, _∙_}
 use Prim.Native.Nat.{ℕ, _+_, _*_, _≤_, _<_}
-use lib.ListN.{length, getD, length-map, length-replicate, length-take, replicate, set, take}
+use lib.ListN.{length, getD, length-map, length-take, replicate, set, take}
 use lib.Seq.{getD-take}
 use native.Mathlib.Nat.{mul-le-mul}
 use native.Mathlib.Omega.{arith}

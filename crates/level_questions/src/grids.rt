@@ -1,10 +1,9 @@
 // The grids of the levels.
 ghost use mathlib.Core.Bool.{true, false};
 ghost use mathlib.Core.Path.{_≡_};
-ghost use Prim.Native.Nat.{ℕ, _≤_, _<_};
-ghost use lib.ListN.{getD, take};
+ghost use Prim.Native.Nat.{_≤_, _<_};
 ghost use Rattle.grid.specs.Build.{lent};
-ghost use Rattle.grid.specs.Made.{IsMade, madeOf, noGrid, shape};
+ghost use Rattle.grid.specs.Made.{IsMade, madeOf, shape};
 ghost use Rattle.levels.specs.Levels.{finer};
 ghost use Rattle.level_questions.specs.Grids.{AreMade, AreNext};
 use grid::Grid;

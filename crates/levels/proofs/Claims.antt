@@ -2,14 +2,13 @@
 use mathlib.Core.Bool.{true, _&&_}
 use mathlib.Core.List.{List, [], _∷_, map}
 use mathlib.Core.Path.{_≡_, refl, sym, ap, _∙_}
-use Prim.Native.Nat.{ℕ, zero, suc, _+_, _*_, _^_, _≤_, _<_}
+use Prim.Native.Nat.{ℕ, zero, suc, _+_, _*_, _≤_, _<_}
 use borrow.Author.Tests.{le-leb, leb-true}
 use lib.Dec.{leb}
 use lib.ListN.{length, length-replicate, replicate}
 use native.Mathlib.Nat.{mul-le-mul}
 use native.Mathlib.Omega.{arith}
 use Rattle.combinatorics.proofs.Basics.{and-left, and-right}
-use Rattle.combinatorics.specs.Counting.{falling}
 use Rattle.combinatorics.specs.Front.{front}
 use Rattle.combinatorics.specs.Lists.{concatMap, sum, upFrom}
 use Rattle.finder.proofs.Demand.{run-demand3}
@@ -17,10 +16,8 @@ use Rattle.finder.proofs.Refusals.{answered}
 use Rattle.finder.specs.Run.{caseOf, numbersOf, refusal, runAnswer, runBuffer}
 use Rattle.grid.proofs.Accepted.{accepted}
 use Rattle.grid.proofs.Terms.{terms-few}
-use Rattle.grid.specs.Grid.{Grid, bound, dimension, isGridPoint, numIndices, numPoints}
+use Rattle.grid.specs.Grid.{bound, dimension, isGridPoint, numIndices}
 use Rattle.grid.specs.Questions.{gridQuestions, question5}
-use Rattle.losses.specs.Table.{question10, question11}
-use Rattle.games.specs.Labelling.{question12}
 use Rattle.place.proofs.Accepted.{accepted-is}
 use Rattle.place.proofs.Filled.{FullyLabelled, full-accepted}
 use Rattle.place.proofs.Theorem.{demand3-holds}
@@ -29,12 +26,26 @@ use Rattle.place.specs.Problem.{Problem}
 use Rattle.place.specs.Questions.{question8 as runQuestion8, tableQuestions}
 use Rattle.questions.proofs.Answers.{asked-next, both-yes, first-yes}
 use Rattle.questions.specs.Questions.{firstNo}
-use Rattle.levels.specs.Claims.{EveryRefinement, Level, Levels}
-use Rattle.levels.specs.Levels.{Refinement, endOf, levelEnd, levelGrid, levelProblem, levelStart, verticesOf}
-use Rattle.levels.specs.Questions.{lastGrid, laterQuestions, levelQuestions, levelRoom, question18, question8}
+use Rattle.levels.specs.Claims.{EveryRefinement, Level}
+use Rattle.levels.specs.Levels.{Refinement, endOf, levelGrid, levelProblem, levelStart, verticesOf}
+use Rattle.levels.specs.Questions.{laterQuestions, levelQuestions, levelRoom, question18}
 use Rattle.levels.specs.Questions.{refineQuestions}
 use Rattle.levels.proofs.Grids.{levels-yes, numbered-levels}
 use Rattle.levels.proofs.Starts.{level-full, no-gap, start-on-grid}
+
+-- the range of k and of the levels
+pub in-ranges : (k levels : ℕ) → question18 k levels .answeredYes ≡ true
+    → ((2 ≤ k) × (k ≤ 10)) × ((1 ≤ levels) × (levels ≤ 8))
+in-ranges k levels e =
+    let f = and-left (leb 2 k && leb k 10) (leb 1 levels && leb levels 8) e in
+    let l = and-right (leb 2 k && leb k 10) (leb 1 levels && leb levels 8) e in (
+      (leb-true 2 k (and-left (leb 2 k) (leb k 10) f), leb-true k 10 (and-right (leb 2 k) (leb k 10) f)),
+      (
+        leb-true 1 levels (and-left (leb 1 levels) (leb levels 8) l),
+        leb-true levels 8
+            (and-right (leb 1 levels) (leb levels 8) l),
+      ),
+    )
 
 -- the questions, one by one, where all are answered yes
 pub record Passed (r : Refinement) (levels : ℕ) (buffer : List ℕ) (room : ℕ) : Type 0 where
@@ -44,27 +55,15 @@ pub record Passed (r : Refinement) (levels : ℕ) (buffer : List ℕ) (room : �
   pub later : firstNo (laterQuestions r levels buffer room) ≡ 0
 
 pub passed : (r : Refinement) (levels : ℕ) (buffer : List ℕ) (room : ℕ)
-    → firstNo (refineQuestions r levels buffer room) ≡ 0
-    → Passed r levels buffer room
+    → firstNo (refineQuestions r levels buffer room) ≡ 0 → Passed r levels buffer room
 passed r levels buffer room e =
-    let k = r .factor in
-    let a = first-yes (question18 k levels) _ (omega arith) e in
+    let a = first-yes (question18 (r .factor) levels) _ (omega arith) e in
+    let w = in-ranges (r .factor) levels (a .0) in
     let b =
     both-yes (levelQuestions (r .grid) (r .factor) levels) (laterQuestions r levels buffer room)
     (numbered-levels (r .grid) (r .factor) levels) (a .1)
     in
-    let f = and-left (leb 2 k && leb k 10) (leb 1 levels && leb levels 8) (a .0) in
-    let l = and-right (leb 2 k && leb k 10) (leb 1 levels && leb levels 8) (a .0) in
-    record {
-      factor = (leb-true 2 k (and-left (leb 2 k) (leb k 10) f), leb-true k 10 (and-right (leb 2 k) (leb k 10) f));
-      levelsRange = (
-        leb-true 1 levels (and-left (leb 1 levels) (leb levels 8) l),
-        leb-true levels 8
-            (and-right (leb 1 levels) (leb levels 8) l),
-      );
-      grids = b .0;
-      later = b .1;
-    }
+    record { factor = w .0; levelsRange = w .1; grids = b .0; later = b .1 }
 
 -- the numbers of an answer are those of its vertices
 pub numbers-are : (a : Answer) → numbersOf a ≡ concatMap (λ y. y) (verticesOf a)

@@ -1,28 +1,26 @@
 -- The grids of the levels: the first, the next from the one before, and what questions 1 to 4 say of all of them.
 -- Assumes nothing.
-use mathlib.Core.Bool.{Bool, true, false, _&&_, cond}
-use mathlib.Core.List.{List, [], _∷_, _++_, append-assoc, map}
+use mathlib.Core.Bool.{Bool, true, false, cond}
+use mathlib.Core.List.{List, [], _∷_, _++_, append-assoc}
 use mathlib.Core.Logic.{⊎-elim}
 use mathlib.Core.Path.{_≡_, refl, sym, ap, _∙_}
 use Prim.Native.Nat.{ℕ, zero, suc, pred, _+_, _*_, _^_, _≤_, _<_}
-use borrow.Author.Tests.{eq-eqb, leb-true, le-leb, lt-leb}
-use lib.Dec.{eqb, leb}
+use borrow.Author.Tests.{eq-eqb, le-leb, lt-leb}
+use lib.Dec.{leb}
 use lib.ListN.{length, getD, length-map}
 use native.Mathlib.Nat.{mul-assoc, mul-le-mul, pow-le-pow-right, pow-succ', pow-zero}
 use native.Mathlib.Numerals.{add-one}
 use native.Mathlib.Omega.{arith}
-use Rattle.combinatorics.proofs.Basics.{and-both, and-left, and-right, before-or-not, same-or}
+use Rattle.combinatorics.proofs.Basics.{and-left, before-or-not, same-or}
 use Rattle.combinatorics.proofs.Binomials.{choose-grows}
-use Rattle.combinatorics.proofs.Ranges.{upFrom-in}
 use Rattle.combinatorics.proofs.Turns.{upFrom-next}
-use Rattle.combinatorics.specs.Counting.{choose}
 use Rattle.combinatorics.specs.Lists.{all, concatMap, upFrom}
 use Rattle.grid.proofs.Accepted.{Accepted, accepted}
 use Rattle.grid.proofs.CoordinatesBelow.{division-below}
 use Rattle.grid.proofs.Listing.{numPoints-is}
 use Rattle.grid.specs.Grid.{Grid, binomialProduct, division, numBlocks, numIndices, numPoints}
 use Rattle.grid.specs.Questions.{gridQuestions, question1, question2, question3, question4}
-use Rattle.questions.proofs.Answers.{asked-next, asked-no, both-yes, first-yes, numbered}
+use Rattle.questions.proofs.Answers.{asked-next, asked-no, both-yes, numbered}
 use Rattle.questions.specs.Questions.{Question, firstNo}
 use Rattle.levels.specs.Claims.{AskedOfAll}
 use Rattle.levels.specs.Levels.{finer, gridAt, times}

@@ -1,10 +1,10 @@
 -- Each level's start is a point of its grid, and its run ends. Assumes nothing.
-use mathlib.Core.Bool.{true, _&&_}
+use mathlib.Core.Bool.{true}
 use mathlib.Core.List.{List, [], _∷_, map}
-use mathlib.Core.Path.{_≡_, refl, sym, ap, _∙_, subst}
-use Prim.Native.Nat.{ℕ, zero, suc, _+_, _*_, _≤_, _<_}
-use borrow.Author.Tests.{eqb-true, eq-eqb, leb-true}
-use lib.Dec.{eqb, leb}
+use mathlib.Core.Path.{_≡_, sym, ap, _∙_, subst}
+use Prim.Native.Nat.{ℕ, zero, suc, _*_, _≤_, _<_}
+use borrow.Author.Tests.{eqb-true, eq-eqb}
+use lib.Dec.{eqb}
 use lib.ListN.{length, length-map}
 use native.Mathlib.Nat.{mul-add}
 use native.Mathlib.Omega.{arith}
@@ -13,13 +13,13 @@ use Rattle.combinatorics.proofs.Lists.{all-in, in-all, onNumbers}
 use Rattle.combinatorics.specs.Lists.{all, firstOr, sum}
 use Rattle.games.proofs.AllLabels.{labels-length}
 use Rattle.grid.proofs.Accepted.{accepted, blocks-few}
-use Rattle.grid.specs.Grid.{Grid, Point, at, blocks, bound, division, indicesOf, isGridPoint, numIndices}
+use Rattle.grid.specs.Grid.{Grid, Point, at, blocks, division, indicesOf, isGridPoint, numIndices}
 use Rattle.grid.specs.Questions.{gridQuestions}
 use Rattle.losses.specs.Game.{labels}
 use Rattle.place.proofs.EndPoints.{IsSimplex, end-simplex}
 use Rattle.place.proofs.Filled.{FullyLabelled, full-accepted, full-place}
 use Rattle.place.proofs.Theorem.{demand3-holds}
-use Rattle.place.specs.Demand.{Accepted, Demand3, Ended, NoGap, Settled, placeAt}
+use Rattle.place.specs.Demand.{Ended, NoGap, placeAt}
 use Rattle.place.specs.Path.{path}
 use Rattle.place.specs.Places.{Simplex}
 use Rattle.place.specs.Problem.{Problem}

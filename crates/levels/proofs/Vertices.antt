@@ -1,11 +1,11 @@
 -- The numbers that a level writes: they fit its room, and its first vertex stands in front, from which the next level
 -- starts. Assumes nothing.
-use mathlib.Core.Bool.{Bool, true, _&&_}
+use mathlib.Core.Bool.{true}
 use mathlib.Core.List.{List, [], _∷_, _++_, append-assoc}
 use mathlib.Core.Path.{_≡_, refl, sym, ap, _∙_}
-use Prim.Native.Nat.{ℕ, zero, suc, _+_, _*_, _≤_, _<_}
-use borrow.Author.Tests.{eqb-true, le-leb}
-use lib.Dec.{eqb, leb}
+use Prim.Native.Nat.{ℕ, suc, _+_, _*_, _≤_, _<_}
+use borrow.Author.Tests.{le-leb}
+use lib.Dec.{leb}
 use lib.ListN.{length, getD, drop, length-append, take}
 use lib.Seq.{drop-at, length-take-le, take-at}
 use native.Mathlib.Nat.{mul-le-mul}
@@ -13,9 +13,10 @@ use native.Mathlib.Omega.{arith}
 use Rattle.combinatorics.proofs.Basics.{and-both, and-left, and-right}
 use Rattle.combinatorics.specs.Front.{front}
 use Rattle.combinatorics.specs.Lists.{all, concatMap, firstOr}
+use Rattle.finder.proofs.Announcements.{point-long}
 use Rattle.grid.proofs.Accepted.{accepted}
 use Rattle.grid.proofs.CoordinatesBelow.{coordinate-below}
-use Rattle.grid.specs.Grid.{Grid, Point, dimension, isGridPoint, numIndices, numPoints}
+use Rattle.grid.specs.Grid.{Grid, isGridPoint, numIndices}
 use Rattle.grid.specs.Questions.{gridQuestions}
 use Rattle.place.proofs.Filled.{FullyLabelled}
 use Rattle.place.specs.Places.{Simplex}
@@ -29,11 +30,7 @@ use Rattle.levels.proofs.Buffers.{after-length, after-next}
 use Rattle.levels.proofs.Grids.{times-at}
 use Rattle.levels.proofs.Starts.{first-on-grid, is-simplex, level-full, start-on-grid}
 
--- a grid point has m numbers
-pub point-long : (g : Grid) (y : Point) → isGridPoint g y ≡ true → length y ≡ numIndices g
-unfolding isGridPoint
-point-long g y h = eqb-true (length y) (numIndices g) (and-left (eqb (length y) (numIndices g)) _ h)
-
+-- the numbers of points of the grid
 numbers-long : (g : Grid) (s : Simplex) → all (isGridPoint g) s ≡ true
     → length (concatMap (λ y. y) s) ≡ length s * numIndices g
 numbers-long g [] a = omega arith

@@ -1,11 +1,9 @@
 -- The levels one after another: what each finds in both buffers, and what it leaves there. Assumes nothing.
-use mathlib.Core.Bool.{true, cond}
-use mathlib.Core.List.{List, [], _∷_, _++_, map}
+use mathlib.Core.List.{List, [], _∷_, map}
 use mathlib.Core.Logic.{⊎-elim}
-use mathlib.Core.Path.{_≡_, refl, sym, ap, _∙_, subst}
+use mathlib.Core.Path.{_≡_, refl, sym, ap, _∙_}
 use Prim.Native.Nat.{ℕ, zero, suc, pred, _+_, _*_, _≤_, _<_}
 use borrow.Author.Tests.{le-ltb, lt-ltb}
-use lib.Dec.{ltb}
 use lib.ListN.{length, getD, drop, length-map, length-set, set, take}
 use lib.Seq.{ext-getD, getD-set-other, getD-set-same}
 use native.Mathlib.Nat.{mul-le-mul}
@@ -16,28 +14,28 @@ use Rattle.combinatorics.proofs.Fronts.{front-full, front-length}
 use Rattle.combinatorics.proofs.Ranges.{length-upFrom}
 use Rattle.combinatorics.specs.Front.{front}
 use Rattle.combinatorics.specs.Lists.{upFrom}
+use Rattle.finder.proofs.Announcements.{point-long}
 use Rattle.finder.specs.Run.{caseOf}
 use Rattle.games.proofs.AllLabels.{labels-length}
 use Rattle.grid.proofs.Accepted.{Accepted, accepted, blocks-few}
 use Rattle.grid.proofs.Fields.{is-made, made-points, shape-of}
-use Rattle.grid.specs.Grid.{Grid, dimension, isGridPoint, numIndices, numPoints}
+use Rattle.grid.specs.Grid.{Grid, dimension, numIndices, numPoints}
 use Rattle.grid.specs.Made.{IsMade, gridOf, shape}
 use Rattle.grid.specs.Questions.{gridQuestions}
 use Rattle.grid.specs.declared.Grid.{Grid as GridStruct}
 use Rattle.levels.proofs.Buffers.{after-length, after-next, after-none}
 use Rattle.levels.proofs.Grids.{level-first, levels-yes, points-grow}
 use Rattle.levels.proofs.Starts.{first-on-grid, level-full, start-on-grid}
-use Rattle.levels.proofs.Vertices.{first-read, level-few, point-long, restart-small}
-use Rattle.levels.specs.Buffers.{levelNumbers, numbersAfter}
+use Rattle.levels.proofs.Vertices.{first-read, level-few, restart-small}
+use Rattle.levels.specs.Buffers.{numbersAfter}
 use Rattle.levels.specs.Levels.{Refinement, endOf, firstVertex, gameProblem, levelEnd, levelGrid, levelProblem}
 use Rattle.levels.specs.Levels.{levelStart, times}
 use Rattle.levels.specs.Questions.{lastGrid, levelRoom}
 use Rattle.losses.specs.Game.{labels}
-use Rattle.losses.specs.Table.{IsTable}
 use Rattle.place.specs.Problem.{Problem}
 use Rattle.questions.specs.Questions.{firstNo}
 use Rattle.refinement.specs.Answer.{entryOf, levelOf, levelsOf, noLevel}
-use Rattle.refinement.specs.Runs.{CanRunAll, CanSolve, CanStart, Fit, firstOf, problemAt, writtenAt}
+use Rattle.refinement.specs.Runs.{CanRunAll, CanSolve, CanStart, firstOf, problemAt, writtenAt}
 use Rattle.refinement.specs.declared.Level.{Level}
 
 -- the array of the levels, one more a turn

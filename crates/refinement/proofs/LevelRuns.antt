@@ -1,8 +1,8 @@
 -- One level: its labels and its run, behind all questions. Assumes nothing.
 use mathlib.Core.List.{List, [], _∷_}
 use mathlib.Core.Logic.{⊎-elim}
-use mathlib.Core.Path.{_≡_, refl, sym, ap, _∙_}
-use Prim.Native.Nat.{ℕ, _≤_}
+use mathlib.Core.Path.{_≡_, refl, ap, _∙_}
+use Prim.Native.Nat.{ℕ}
 use denote.Enum.Declared.{tagOf}
 use types.Run.{OneOf}
 use lib.ListN.{length}
@@ -14,7 +14,7 @@ use Rattle.finder.specs.Run.{caseOf, numbersOf}
 use Rattle.finder.specs.declared.answers.Answer.{Answer}
 use Rattle.finder.specs.declared.answers.Answer.the-variants.{Refused, Spent, Unknown, End}
 use Rattle.games.proofs.AllLabels.{labels-length}
-use Rattle.grid.specs.Grid.{bound, numPoints}
+use Rattle.grid.specs.Grid.{bound}
 use Rattle.grid.specs.Made.{shape}
 use Rattle.grid.specs.declared.Grid.{Grid as GridStruct}
 use Rattle.levels.proofs.Claims.{numbers-are}

@@ -1,20 +1,19 @@
 -- What each outcome of the questions makes of a refinement's answer and of both buffers. Assumes nothing.
-use mathlib.Core.Bool.{Bool, true, false, _&&_}
+use mathlib.Core.Bool.{true, false}
 use mathlib.Core.List.{List, [], _∷_, _++_}
 use mathlib.Core.Logic.{⊎-elim}
 use mathlib.Core.Path.{_≡_, refl, sym, ap, _∙_, subst}
 use Prim.Native.Nat.{ℕ, pred, _*_, _-_, _≤_, _<_}
 use borrow.Author.Tests.{eqb-true, leb-true, ne-eqb}
-use lib.Dec.{leb}
 use lib.ListN.{length, getD}
 use native.Mathlib.Omega.{arith}
-use Rattle.combinatorics.proofs.Basics.{and-left, and-right, same-or}
+use Rattle.combinatorics.proofs.Basics.{same-or}
 use Rattle.games.specs.Labelling.{question12}
 use Rattle.grid.proofs.Accepted.{accepted}
 use Rattle.grid.proofs.Fields.{is-made, made-points, shape-of}
 use Rattle.grid.specs.Grid.{Grid, numPoints}
-use Rattle.grid.specs.Made.{IsMade, gridOf, noGrid, shape}
-use Rattle.grid.specs.Questions.{gridQuestions, question5}
+use Rattle.grid.specs.Made.{IsMade, noGrid, shape}
+use Rattle.grid.specs.Questions.{question5}
 use Rattle.grid.specs.declared.Grid.{Grid as GridStruct}
 use Rattle.level_questions.specs.Grids.{AreMade}
 use Rattle.level_questions.specs.Later.{askedBehind}
@@ -24,7 +23,6 @@ use Rattle.levels.proofs.Grids.{level-first, levels-yes, numbered-levels}
 use Rattle.levels.specs.Buffers.{numbersAfter}
 use Rattle.levels.specs.Levels.{Refinement, gridAt}
 use Rattle.levels.specs.Questions.{lastGrid, laterQuestions, levelQuestions, levelRoom, question18, question8}
-use Rattle.levels.specs.Questions.{refineQuestions}
 use Rattle.losses.specs.Game.{labels}
 use Rattle.losses.specs.Table.{numLosses, question10, question11}
 use Rattle.questions.proofs.Answers.{asked-next, asked-no, first-yes}
@@ -93,20 +91,6 @@ module _ (r : Refinement) (levels : ℕ) (buffer old : List ℕ) where
           → b ≡ labels (lastGrid r levels) (r .losses) → c ≡ numbersAfter r levels old
           → Left (record { code = 0; count = levels; levels = found }) b c
       passed-later e = passed-with (later ∙ e)
-
--- the range of k and of the levels
-pub in-ranges : (k levels : ℕ) → question18 k levels .answeredYes ≡ true
-    → ((2 ≤ k) × (k ≤ 10)) × ((1 ≤ levels) × (levels ≤ 8))
-in-ranges k levels e =
-    let f = and-left (leb 2 k && leb k 10) (leb 1 levels && leb levels 8) e in
-    let l = and-right (leb 2 k && leb k 10) (leb 1 levels && leb levels 8) e in (
-      (leb-true 2 k (and-left (leb 2 k) (leb k 10) f), leb-true k 10 (and-right (leb 2 k) (leb k 10) f)),
-      (
-        leb-true 1 levels (and-left (leb 1 levels) (leb levels 8) l),
-        leb-true levels 8
-            (and-right (leb 1 levels) (leb levels 8) l),
-      ),
-    )
 
 -- the grids that were made
 module _ (g : Grid) (k levels : ℕ) (some : 1 ≤ levels) (m : Grids) (made : AreMade g k levels m) (z : m .code ≡ 0) where

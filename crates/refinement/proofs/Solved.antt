@@ -1,8 +1,8 @@
 -- One level in its part of both buffers. Assumes nothing.
 use mathlib.Core.List.{List, [], _++_, append-nil}
-use mathlib.Core.Path.{_≡_, refl, sym, ap, _∙_}
-use Prim.Native.Nat.{ℕ, suc, _+_, _-_, _*_, _≤_, _<_}
-use lib.ListN.{length, drop, drop-of-length-le, length-drop, length-replicate, replicate, take}
+use mathlib.Core.Path.{_≡_, sym, ap, _∙_}
+use Prim.Native.Nat.{ℕ, _-_, _*_, _≤_}
+use lib.ListN.{length, drop, drop-of-length-le, length-drop, replicate, take}
 use lib.Seq.{length-take-le, take-all}
 use native.Mathlib.Omega.{arith}
 use Rattle.combinatorics.proofs.Fronts.{front-length, front-taken}
@@ -11,8 +11,7 @@ use Rattle.finder.proofs.Announcements.{point-long}
 use Rattle.finder.specs.Run.{caseOf}
 use Rattle.games.proofs.AllLabels.{labels-length}
 use Rattle.grid.proofs.Fields.{indices-few, made-indices, made-points}
-use Rattle.grid.specs.Grid.{numIndices}
-use Rattle.grid.specs.Made.{IsMade, padded, shape}
+use Rattle.grid.specs.Made.{padded, shape}
 use Rattle.grid.specs.declared.Grid.{Grid as GridStruct}
 use Rattle.levels.specs.Levels.{endOf, gameProblem}
 use Rattle.levels.specs.Questions.{levelRoom}

@@ -1,5 +1,4 @@
 -- `refine_cases::read_sizes` meets its contract. Assumes nothing.
-use lib.ListN.{length}
 use mathlib.Core.Path.{sym}
 use lib.Seq.{length-take-le}
 use borrow.Author.Needs.{needs}

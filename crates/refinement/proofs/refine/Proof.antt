@@ -1,16 +1,17 @@
 -- `refinement::refine` meets its contract: each question is asked where all before it are answered yes, and then the
 -- levels are run. Assumes nothing.
 use mathlib.Core.Bool.{true}
-use mathlib.Core.Path.{_≡_, refl, sym, ap, _∙_}
+use mathlib.Core.Path.{_≡_, sym, _∙_}
 use Prim.Native.Nat.{_≤_}
 use borrow.Author.Needs.{needs}
 use borrow.Author.Tests.{not-false, not-true}
 use native.Mathlib.Omega.{arith}
 use Rattle.grid.specs.Build.{lent}
 use Rattle.grid.specs.Grid.{Grid}
+use Rattle.levels.proofs.Claims.{in-ranges}
 use Rattle.levels.specs.Levels.{Refinement}
 use Rattle.levels.specs.Questions.{question18}
-use Rattle.refinement.proofs.Outcomes.{as-lent, asked-later, can-run-all, first-made, in-ranges, passed-later}
+use Rattle.refinement.proofs.Outcomes.{as-lent, asked-later, can-run-all, first-made, passed-later}
 use Rattle.refinement.proofs.Outcomes.{refused-grids, refused-later, refused-range}
 use Rattle.refinement.specs.Answer.{lentGame}
 use Rattle.refinement.proofs.refine.Statement.{statement}

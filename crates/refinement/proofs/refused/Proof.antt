@@ -1,10 +1,5 @@
 -- `refinement::refused` meets its contract. Assumes nothing.
-use mathlib.Core.List.{List}
-use mathlib.Core.Path.{ap}
-use lib.ListN.{replicate}
 use borrow.Author.Needs.{needs}
-use Rattle.refinement.specs.declared.Level.{Level}
-use Rattle.refinement.specs.declared.Refined.{Refined}
 use Rattle.refinement.proofs.refused.Statement.{statement}
 use Rattle.refinement.proofs.refused.Tie as tie
 

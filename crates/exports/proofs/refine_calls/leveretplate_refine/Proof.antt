@@ -1,7 +1,5 @@
 -- `leveretplate_refine` meets its contract: it is the refinement's own, with the levels as numbers. Assumes nothing.
-use mathlib.Core.List.{List}
 use mathlib.Core.Path.{ap, _∙_}
-use Prim.Native.Nat.{ℕ}
 use Rattle.combinatorics.specs.Front.{front}
 use Rattle.grid.specs.Build.{lent}
 use Rattle.levels.specs.Levels.{Refinement}

@@ -14,7 +14,6 @@ use Rattle.games.proofs.Outcomes.{blocks-room}
 use Rattle.grid.proofs.Fields.{blocks-range, made-accepted, made-blocks}
 use Rattle.grid.specs.Grid.{isGridPoint}
 use Rattle.grid.specs.Made.{shape}
-use Rattle.levels.specs.Questions.{levelRoom}
 use Rattle.losses.proofs.Table.{product-few}
 use Rattle.losses.specs.Game.{product}
 use Rattle.losses.specs.Table.{inRange, numLosses}

@@ -1,5 +1,5 @@
 -- `refinement::runs::run_level` meets its contract. Assumes nothing.
-use mathlib.Core.Path.{_≡_, refl, sym, ap, _∙_}
+use mathlib.Core.Path.{refl, sym, ap, _∙_}
 use borrow.Author.Needs.{needs}
 use Rattle.refinement.proofs.LevelRuns.{can-announce, not-end, told, written}
 use Rattle.refinement.specs.Answer.{levelOf}

@@ -7,7 +7,6 @@ use borrow.Author.Needs.{needs}
 use native.Mathlib.Omega.{arith}
 use lib.ListN.{length, set}
 use Rattle.levels.specs.Buffers.{numbersAfter}
-use Rattle.levels.specs.Levels.{Refinement}
 use Rattle.refinement.proofs.AllRuns.{answer-first, answer-long, answer-solved, can-solve, labels-last}
 use Rattle.refinement.proofs.AllRuns.{labels-long, labels-solved, labelsAfter, level-solved, levels-next}
 use Rattle.refinement.proofs.AllRuns.{levels-none}
