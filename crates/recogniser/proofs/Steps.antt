@@ -198,8 +198,14 @@ module _ (g : GridStruct) (made : IsMade g) (table first order : List ℕ) (n : 
         moves : MovedBy (shape g) z (pointWith g first (shifted steps h b)) h b
         moves i il =
             let m : i < g .indices = omega (arith, made-indices g made) in
-            omega (arith, with-at g made first steps i m, with-at g made first (shifted steps h b) i m, shifted-at steps h b count-b i (omega (arith, R .long, few g made)),
-            R .on .can i m, can-next i m)
+            omega (
+              arith,
+              with-at g made first steps i m,
+              with-at g made first (shifted steps h b) i m,
+              shifted-at steps h b count-b i (omega (arith, R .long, few g made)),
+              R .on .can i m,
+              can-next i m,
+            )
 
         next-on : OnGrid g first (shifted steps h b)
         next-on = record {

@@ -188,9 +188,12 @@ module _ (g : GridStruct) (binomials start table previous sizes first order : Li
           different = at-distinct onNumbers 0 o (λ i j a b e. let il : i < n = omega (arith, long-o) in let jl : j < n = omega (arith, long-o) in
               S .once i j il jl (sym (at-o i il) ∙ e ∙ at-o j jl));
           free = free-means p [] o u .1 (λ j l. let f = F .each j (omega (arith, made-blocks g made)) in
-              let w = block-spans (shape g .sizes) f.index (omega (arith, f .below, m-is)) in
-              (f .index, in-upFrom (firstIndex (shape g) j) (size (shape g) j) f.index (rw f.block at w.1) (rw f.block at w.2),
-              free-index f.index f.below f.free .0, free-index f.index f.below f.free .1));
+              let w = block-spans (shape g .sizes) f.index (omega (arith, f .below, m-is)) in (
+                f .index,
+                in-upFrom (firstIndex (shape g) j) (size (shape g) j) f.index (rw f.block at w.1) (rw f.block at w.2),
+                free-index f.index f.below f.free .0,
+                free-index f.index f.below f.free .1,
+              ));
           zero = λ k l a b. let kl : k < g .indices = omega (arith, m-is) in
               sym (L k kl) ∙ F .zero k kl (in-T k (omega (arith, few)) ∙ a, in-U k (omega (arith, few)) ∙ b);
           can = sym (M .can);

@@ -32,14 +32,7 @@ fn first_of(v: &[u16], y: &[u16; 16], first: usize, end: usize) -> usize
 }
 
 // The coefficients of a block, from that of its first index on.
-fn put_block(
-    list: &mut [u16; 16],
-    v: &[u16],
-    y: &[u16; 16],
-    first: usize,
-    end: usize,
-    from: usize,
-)
+fn put_block(list: &mut [u16; 16], v: &[u16], y: &[u16; 16], first: usize, end: usize, from: usize)
     requires { ⌜ ((c : List ℕ) × InBlock c (now v) (now y) first end × (from ≡ at c first)) × (length (now list) ≡ 16) ⌝ }
     ensures { λ _. ⌜ ((c : List ℕ) → InBlock c (now (v .entry)) (now (y .entry)) first end → from ≡ at c first
         → PutIn c first end (now (list .entry)) (now (list .exit))) ⌝ }

@@ -5,17 +5,18 @@ ghost use mathlib.Core.Path.{_≡_};
 ghost use Prim.Native.Nat.{_≤_};
 ghost use lib.ListN.{length, take};
 ghost use Rattle.recogniser.specs.Kept.{CanRecognise, Recognised, problemOn};
+
 mod coefficients;
 mod free;
 mod points;
 
 use coefficients::coefficients;
+use free::is_free;
+use free::sets_of;
 use grid::Grid;
 use moves::zeros;
 use points::mark_points;
 use positions::ENTRIES;
-use free::is_free;
-use free::sets_of;
 
 // T and U as masks, where there are such sets.
 pub struct Sets {
@@ -67,7 +68,18 @@ pub fn recognise(
     if !is_free(g, list, sets.t, sets.u) {
         return nothing();
     }
-    if !mark_points(g, binomials, table, previous, sizes, first, sets.u, order, n, marks) {
+    if !mark_points(
+        g,
+        binomials,
+        table,
+        previous,
+        sizes,
+        first,
+        sets.u,
+        order,
+        n,
+        marks,
+    ) {
         return nothing();
     }
     sets

@@ -1,11 +1,3 @@
-pub mod Alike
-pub mod Labels
-pub mod Tried
-pub mod Held
-pub mod MaskTests
-pub mod RuleTold
-pub mod Chosen
-pub mod Decided
 pub mod Stood
 pub mod Later
 pub mod Begins

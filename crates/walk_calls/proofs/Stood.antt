@@ -39,10 +39,10 @@ use Rattle.walk_moves.specs.Spare.{Spare, again, outside, unknown}
 use Rattle.recogniser.specs.Kept.{Recognised, Seen}
 use Rattle.recogniser.specs.declared.Sets.{Sets}
 use Rattle.walk_calls.specs.Moving.{CanChoose, CanStand, FilledBy}
-use Rattle.walk_calls.specs.Spares.{LabelsLow, NotNew, SparesOf, again as seenAgain, labelAt, outside as seenOutside, unknown as unseen}
-use Rattle.walk_calls.specs.Standing.{IsRoundOf, Standing, pointsOn, tableOn, walkOn}
-use Rattle.walk_calls.specs.declared.Spared.{Spared}
-use Rattle.walk_calls.specs.declared.Walk.{Walk as WalkStruct}
+use Rattle.walk_ways.specs.Spares.{LabelsLow, NotNew, SparesOf, again as seenAgain, labelAt, outside as seenOutside, unknown as unseen}
+use Rattle.walk_ways.specs.Standing.{IsRoundOf, Standing, pointsOn, tableOn, walkOn}
+use Rattle.walk_ways.specs.declared.Spared.{Spared}
+use Rattle.walk_ways.specs.declared.Walk.{Walk as WalkStruct}
 
 -- the ways round the blocks
 pub round-of : (g : GridStruct) → IsMade g → (sizes : List ℕ) → ((h : ℕ) → h < g .indices → at sizes h ≡ size (shape g) (blockOf (shape g) h))
@@ -125,10 +125,13 @@ module _ {g : GridStruct} {w : WalkStruct} {labels first order : List ℕ} {n : 
         not-new : (j : ℕ) × (j ≤ n) × NotNew marks t j
         not-new =
             let v = some-spare ok y o place in
-            let jl : v .0 ≤ n = omega (arith, v .1, long-o) in
-            (v .0, jl, ⊎-elim (λ z. unseen (label-is v.0 jl ∙ z)) (λ z. ⊎-elim
-            (λ x. ⊎-elim (λ (l : x .0 < 16). seenOutside x.0 (label-is v.0 jl ∙ x .1) (S .inT x.0 l ∙ x .2)) (λ l. absurd (omega (arith, l, x .1, label-few v.0 jl))) (before-or-not x.0 16))
-            (λ x. seenAgain x.0 x.1 (label-is x.0 (omega (arith, x .1)) ∙ x .2 ∙ sym (label-is v.0 jl))) z) v.2)
+            let jl : v .0 ≤ n = omega (arith, v .1, long-o) in (
+              v .0,
+              jl,
+              ⊎-elim (λ z. unseen (label-is v.0 jl ∙ z)) (λ z. ⊎-elim
+                  (λ x. ⊎-elim (λ (l : x .0 < 16). seenOutside x.0 (label-is v.0 jl ∙ x .1) (S .inT x.0 l ∙ x .2)) (λ l. absurd (omega (arith, l, x .1, label-few v.0 jl))) (before-or-not x.0 16))
+                  (λ x. seenAgain x.0 x.1 (label-is x.0 (omega (arith, x .1)) ∙ x .2 ∙ sym (label-is v.0 jl))) z) v.2,
+            )
 
         found : (r .point ≤ n) × NotNew marks t (r .point)
         found = let v = not-new in let f = P .spare v.0 (omega (arith, v .1)) v.2 in (omega (arith, f .0), f .1)

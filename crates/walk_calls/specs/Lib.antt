@@ -1,7 +1,3 @@
-pub mod Walks
-pub mod Spares
-pub mod Ways
-pub mod Ends
-pub mod Standing
 pub mod Asked
+pub mod Calls
 pub mod Moving

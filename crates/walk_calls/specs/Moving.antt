@@ -12,13 +12,13 @@ use Rattle.place.specs.Questions.{tableQuestions}
 use Rattle.questions.specs.Questions.{firstNo}
 use Rattle.walks.specs.Next.{nextOf, ruleOf}
 use Rattle.walks.specs.Walk.{over}
-use Rattle.walk_calls.specs.Spares.{labelAt}
-use Rattle.walk_calls.specs.Standing.{Standing, pointsOn, tableOn, walkOn}
-use Rattle.walk_calls.specs.Walks.{answerOf, numbersOf, padded, placeOf, structOn}
-use Rattle.walk_calls.specs.declared.Answer.the-variants.{Refused}
+use Rattle.walk_ways.specs.Spares.{labelAt}
+use Rattle.walk_ways.specs.Standing.{Standing, pointsOn, tableOn, walkOn}
+use Rattle.walk_ways.specs.Walks.{answerOf, numbersOf, padded, placeOf, structOn}
+use Rattle.walk_ways.specs.declared.Answer.the-variants.{Refused}
 use Rattle.walk_calls.specs.declared.Call.{Call}
-use Rattle.walk_calls.specs.declared.Place.{Place}
-use Rattle.walk_calls.specs.declared.Walk.{Walk as WalkStruct}
+use Rattle.walk_ways.specs.declared.Place.{Place}
+use Rattle.walk_ways.specs.declared.Walk.{Walk as WalkStruct}
 
 -- the walk passes questions 1 to 7, its places so far are in range, and its present place is kept rightly
 pub record CanStand (g : GridStruct) (w : WalkStruct) (labels first order : List ℕ) (n : ℕ) : Type 0 where

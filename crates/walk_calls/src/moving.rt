@@ -7,20 +7,11 @@ ghost use Rattle.grid.specs.Made.{IsMade, shape};
 ghost use Rattle.place.specs.Questions.{tableQuestions};
 ghost use Rattle.recogniser.specs.Kept.{Recognised};
 ghost use Rattle.walk_calls.specs.Moving.{CanChoose, CanFill, CanStand, FilledBy, callOn, movedTo, unmovedAs};
-ghost use Rattle.walk_calls.specs.Standing.{IsRoundOf, nextIn, tableOn};
-ghost use Rattle.walk_calls.specs.Walks.{callOf};
-use crate::Answer;
+ghost use Rattle.walk_ways.specs.Standing.{IsRoundOf, nextIn, tableOn};
+ghost use Rattle.walk_calls.specs.Calls.{callOf};
 use crate::Call;
-use crate::Next;
-use crate::Place;
-use crate::Walk;
 use crate::asking::first_no;
 use crate::asking::in_range;
-use crate::choice::from_other;
-use crate::choice::from_start;
-use crate::ending::refused;
-use crate::keeping::is_kept;
-use crate::spares::spare;
 use grid::Grid;
 use grid::wide;
 use moves::block_sizes;
@@ -28,6 +19,15 @@ use moves::label_in;
 use positions::ENTRIES;
 use recogniser::Sets;
 use recogniser::recognise;
+use walk_ways::Answer;
+use walk_ways::Next;
+use walk_ways::Place;
+use walk_ways::Walk;
+use walk_ways::from_other;
+use walk_ways::from_start;
+use walk_ways::is_kept;
+use walk_ways::refused;
+use walk_ways::spare;
 
 // T and U of the place with this first point and order, if it is one but for its labels; the coefficients and the marks
 // into their arrays.
@@ -104,24 +104,43 @@ fn chosen(
     let own = filled(marks, point, unknown);
     if n == 0 {
         return from_start(
-            g, &previous, &next, sizes, first, list, order, &own, labels, w, t, u, unknown,
+            g,
+            &previous,
+            &next,
+            sizes,
+            first,
+            list,
+            order,
+            &own,
+            labels,
+            w,
+            t,
+            u,
+            unknown,
         );
     }
     from_other(
-        g, &previous, &next, sizes, first, list, order, &own, labels, w, n, t, u, point, unknown,
+        g,
+        &previous,
+        &next,
+        sizes,
+        first,
+        list,
+        order,
+        &own,
+        labels,
+        w,
+        n,
+        t,
+        u,
+        point,
+        unknown,
     )
 }
 
 // What comes next from a place that is kept rightly: it is recognised, its labels must have all of T, and one of the two
 // moves from it must lead back.
-fn stand(
-    g: Grid,
-    w: Walk,
-    labels: &[u8],
-    first: &[u16; 16],
-    order: &[u32; 16],
-    n: usize,
-) -> Next
+fn stand(g: Grid, w: Walk, labels: &[u8], first: &[u16; 16], order: &[u32; 16], n: usize) -> Next
     requires { ⌜ CanStand g w (now labels) (now first) (now order) n ⌝ }
     ensures { λ r. ⌜ r ≡ nextIn g w (now (labels .entry)) ⌝ }
 {

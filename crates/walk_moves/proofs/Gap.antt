@@ -77,10 +77,15 @@ module _ {p : Problem} (ok : Settled p) where
   link-any : (a b : Simplex) → isPlace p a ≡ true → isPlace p b ≡ true → linked p a b ≡ true
       → LinkTo (blocksOf p) (labelOf p) (inT p a) (length (order p.grid a)) (coefficientsOf p a) (coefficientsOf p b)
   unfolding linked
-  link-any a b ha hb e = (inT p b, length (order p.grid b), at (order p.grid b), labelledChain-of ok b hb,
-      ⊎-elim (λ m. ⊎-elim (λ x. inl (exchanged-swapped ok a b ha hb x)) (λ x. inr (inl (extended-to ok a b ha hb (smaller-known a b ha hb x) x)))
-      (or-cases (exchanged p a b) (extended p a b) m))
-      (λ x. inr (inr (extended-to ok b a hb ha (smaller-known b a hb ha x) x))) (or-cases (exchanged p a b || extended p a b) (extended p b a) e))
+  link-any a b ha hb e = (
+    inT p b,
+    length (order p.grid b),
+    at (order p.grid b),
+    labelledChain-of ok b hb,
+    ⊎-elim (λ m. ⊎-elim (λ x. inl (exchanged-swapped ok a b ha hb x)) (λ x. inr (inl (extended-to ok a b ha hb (smaller-known a b ha hb x) x)))
+        (or-cases (exchanged p a b) (extended p a b) m))
+        (λ x. inr (inr (extended-to ok b a hb ha (smaller-known b a hb ha x) x))) (or-cases (exchanged p a b || extended p a b) (extended p b a) e),
+  )
 
 -- point i of a place has no label
 module _ {p : Problem} (ok : Settled p) (s : Simplex) (place : isPlace p s ≡ true) (n : ℕ) (size : length (order p.grid s) ≡ suc n) (i : ℕ) (il : i ≤ suc n)

@@ -194,8 +194,12 @@ module _ (w : Walk) (labels : List ℕ) (ok : Accepted (over w labels)) (y : Poi
       -- the point has no label
       module _ (unknown : label p (nth s i) ≡ 0) where
         unknown-place : allLabelled p w.present ≡ false
-        unknown-place = rw is (false-of _ (λ t. omega (arith, unknown, leb-true 1 (label p (nth s i))
-            (and-left _ _ (all-in onPoints (hasLabel p) s t (nth s i) (at-in onPoints [] s i (omega (arith, long))))))))
+        unknown-place = rw is (false-of _ (λ t. omega (
+          arith,
+          unknown,
+          leb-true 1 (label p (nth s i))
+              (and-left _ _ (all-in onPoints (hasLabel p) s t (nth s i) (at-in onPoints [] s i (omega (arith, long))))),
+        )))
 
         size : length (order p.grid s) ≡ suc n
         size = ap length (order-same ok y o place) ∙ e
@@ -254,5 +258,9 @@ module _ (w : Walk) (labels : List ℕ) (ok : Accepted (over w labels)) (y : Poi
 
   -- {v} without a label
   pub unknown-v : length o ≡ 0 → w .before ≡ none → label p (nth s 0) ≡ 0 → nextOf w labels ≡ refused 16
-  unknown-v e b z = gap w labels ok (stands (rw (b, is, is-start e) begins)) (rw is (false-of _ (λ t. omega (arith, z, leb-true 1 (label p (nth s 0))
-      (and-left _ _ (all-in onPoints (hasLabel p) s t (nth s 0) (at-in onPoints [] s 0 (omega (arith, long)))))))))
+  unknown-v e b z = gap w labels ok (stands (rw (b, is, is-start e) begins)) (rw is (false-of _ (λ t. omega (
+    arith,
+    z,
+    leb-true 1 (label p (nth s 0))
+        (and-left _ _ (all-in onPoints (hasLabel p) s t (nth s 0) (at-in onPoints [] s 0 (omega (arith, long))))),
+  ))))

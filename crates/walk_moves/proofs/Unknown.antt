@@ -77,9 +77,13 @@ module _ {p : Problem} (ok : Accepted p) (y : Point) (o : List ℕ) (place : isP
           go : (n : ℕ) → label p (nth s j) ≡ n
               → (label p (nth s j) ≡ 0) ⊎ (((h : ℕ) × (label p (nth s j) ≡ suc h) × (isIn eqb h o ≡ false)) ⊎ ((i : ℕ) × (i < j) × (label p (nth s i) ≡ label p (nth s j))))
           go zero e = inl e
-          go (suc h) e = inr (inl (h, e, false-of _ (λ m.
-              let t : inT p s h ≡ true = T-own h ∙ m in
-              absurd-bool (sym t ∙ ap (inT p s) (sym (index-own j h l (T-means p s h .0 t .0) e)) ∙ f))))
+          go (suc h) e = inr (inl (
+            h,
+            e,
+            false-of _ (λ m.
+                let t : inT p s h ≡ true = T-own h ∙ m in
+                absurd-bool (sym t ∙ ap (inT p s) (sym (index-own j h l (T-means p s h .0 t .0) e)) ∙ f)),
+          ))
 
       label-in : (j : ℕ) → j ≤ length o → inT p s (labelOf p (listAt (coefficientsOf p s) j)) ≡ true → suc (labelOf p (listAt (coefficientsOf p s) j)) ≡ label p (nth s j)
       label-in j l t = ap suc (label-own j l) ∙ index-suc (numIndices p.grid) (label p (nth s j)) (omega (arith, label-own j l, T-means p s _ .0 t .0))

@@ -173,9 +173,10 @@ module _ {q : Problem} (full : FullyLabelled q) where
   reached-masks : {x : List (ℕ → ℕ)} {e : State} {y : List (ℕ → ℕ)} → Reached q x e y
       → ((k : ℕ) → k < 16 → bit e.T k ≡ isIn eqb k (setT q (keptBy q e))) × ((k : ℕ) → k < 16 → bit e.U k ≡ isIn eqb k (setU q.grid (keptBy q e)))
   reached-masks {e} {y} R =
-      let D = R .describes in
-      (λ k l. rw (kept-described full D) (D .inT k l ∙ sym (ap (λ (t : ℕ → Bool). t k) (T-is full.settled D.chain))),
-      λ k l. rw (kept-described full D) (D .inU k l ∙ sym (in-U full.settled D.chain k)))
+      let D = R .describes in (
+        λ k l. rw (kept-described full D) (D .inT k l ∙ sym (ap (λ (t : ℕ → Bool). t k) (T-is full.settled D.chain))),
+        λ k l. rw (kept-described full D) (D .inU k l ∙ sym (in-U full.settled D.chain k)),
+      )
 
   -- what a move gives, whichever it is
   pub record Fits (S : State) (after : After) : Type 0 where

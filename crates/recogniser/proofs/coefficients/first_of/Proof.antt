@@ -21,7 +21,7 @@ abbrev μ-loop : tie.MeasureT-loop
 μ-loop v y first end x₀ least₀ h₀ x least h = end - h
 
 loop-holds : tie.Need-loop-holds Inv-loop μ-loop
-loop-holds c = let a = c  .before .args in let B = c  .before .pre .1 in
+loop-holds c = let a = c .before .args in let B = c .before .pre .1 in
     (omega arith, omega (arith, B .some), B .few, B .long, omega arith, λ d D. follow-none d (a .v .now) (a .y .now) (a .first) (a .end) D)
 
 mul-wide16 : tie.Need-mul-wide16 Inv-loop μ-loop
@@ -34,9 +34,13 @@ wide16-requires : tie.Need-wide16-requires Inv-loop μ-loop
 wide16-requires c κs = search needs
 
 add-x : tie.Need-add-x Inv-loop μ-loop
-add-x c = let a = c  .before .before .before .before .before .before .args in let l = c  .before .before .before .before .loop in
-    omega (arith, follow-small (c  .before .before .before .before .before .before .pre .0) (a .v .now) (a .y .now) (a .first) (a .end) (c  .before .before .before .before .before .before .pre .1) (l .h) (l .x) (l .least) (l .inv .0) (omega arith)
-    (l .inv .5 (c  .before .before .before .before .before .before .pre .0) (c  .before .before .before .before .before .before .pre .1)), c .wide16 .ensures)
+add-x c = let a = c .before .before .before .before .before .before .args in let l = c .before .before .before .before .loop in
+    omega (
+      arith,
+      follow-small (c .before .before .before .before .before .before .pre .0) (a .v .now) (a .y .now) (a .first) (a .end) (c .before .before .before .before .before .before .pre .1) (l .h) (l .x) (l .least) (l .inv .0) (omega arith)
+          (l .inv .5 (c .before .before .before .before .before .before .pre .0) (c .before .before .before .before .before .before .pre .1)),
+      c .wide16 .ensures,
+    )
 
 mul-wide16-2 : tie.Need-mul-wide16-2 Inv-loop μ-loop
 mul-wide16-2 c = omega arith
@@ -48,9 +52,14 @@ wide16-requires-2 : tie.Need-wide16-requires-2 Inv-loop μ-loop
 wide16-requires-2 c κs = search needs
 
 sub-x : tie.Need-sub-x Inv-loop μ-loop
-sub-x c = let a = c  .before .before .before .before .before .before .before .before .args in let l = c  .before .before .before .before .before .before .loop in
-    omega (arith, follow-fits (c  .before .before .before .before .before .before .before .before .pre .0) (a .v .now) (a .y .now) (a .first) (a .end) (c  .before .before .before .before .before .before .before .before .pre .1) (l .h) (l .x) (l .least) (l .inv .0) (omega arith)
-    (l .inv .5 (c  .before .before .before .before .before .before .before .before .pre .0) (c  .before .before .before .before .before .before .before .before .pre .1)), c  .before .before .wide16 .ensures, c .wide162 .ensures)
+sub-x c = let a = c .before .before .before .before .before .before .before .before .args in let l = c .before .before .before .before .before .before .loop in
+    omega (
+      arith,
+      follow-fits (c .before .before .before .before .before .before .before .before .pre .0) (a .v .now) (a .y .now) (a .first) (a .end) (c .before .before .before .before .before .before .before .before .pre .1) (l .h) (l .x) (l .least) (l .inv .0) (omega arith)
+          (l .inv .5 (c .before .before .before .before .before .before .before .before .pre .0) (c .before .before .before .before .before .before .before .before .pre .1)),
+      c .before .before .wide16 .ensures,
+      c .wide162 .ensures,
+    )
 
 add-h : tie.Need-add-h Inv-loop μ-loop
 add-h c = omega arith
@@ -59,19 +68,33 @@ loop-less : tie.Need-loop-less Inv-loop μ-loop
 loop-less c = omega arith
 
 loop-again : tie.Need-loop-again Inv-loop μ-loop
-loop-again c = let a = c  .before .before .before .before .before .before .before .before .args in let l = c  .before .before .before .before .before .before .loop in
-    let e1 = c  .before .before .wide16 .ensures .0 in let e2 = c .wide162 .ensures .0 in
-    ⊎-elim (λ w. rw (w .1, e1, e2) (omega arith, omega arith, l .inv .2, l .inv .3, omega (arith, w .0 .taken), λ d D.
-    follow-less d (a .v .now) (a .y .now) (a .first) (a .end) D (l .h) (l .x) (l .least) (l .inv .0) (omega arith) (l .inv .5 d D) (w .0 .taken)))
-    (λ w. rw (w .1, e1, e2) (omega arith, omega arith, l .inv .2, l .inv .3, l .inv .4, λ d D.
-    follow-not d (a .v .now) (a .y .now) (a .first) (a .end) D (l .h) (l .x) (l .least) (l .inv .0) (omega arith) (l .inv .5 d D) (w .0 .left)))
-    (c  .before .before .before .before .if1 .came)
+loop-again c = let a = c .before .before .before .before .before .before .before .before .args in let l = c .before .before .before .before .before .before .loop in
+    let e1 = c .before .before .wide16 .ensures .0 in let e2 = c .wide162 .ensures .0 in
+    ⊎-elim (λ w. rw (w .1, e1, e2) (
+      omega arith,
+      omega arith,
+      l .inv .2,
+      l .inv .3,
+      omega (arith, w .0 .taken),
+      λ d D.
+          follow-less d (a .v .now) (a .y .now) (a .first) (a .end) D (l .h) (l .x) (l .least) (l .inv .0) (omega arith) (l .inv .5 d D) (w .0 .taken),
+    ))
+    (λ w. rw (w .1, e1, e2) (
+      omega arith,
+      omega arith,
+      l .inv .2,
+      l .inv .3,
+      l .inv .4,
+      λ d D.
+          follow-not d (a .v .now) (a .y .now) (a .first) (a .end) D (l .h) (l .x) (l .least) (l .inv .0) (omega arith) (l .inv .5 d D) (w .0 .left),
+    ))
+    (c .before .before .before .before .if1 .came)
 
 sub-result : tie.Need-sub-result Inv-loop μ-loop
-sub-result c = omega (arith, c  .before .loop .inv .4)
+sub-result c = omega (arith, c .before .loop .inv .4)
 
 returns : tie.Need-returns Inv-loop μ-loop
-returns c = let a = c  .before .before .before .args in let l = c  .before .loop in
+returns c = let a = c .before .before .before .args in let l = c .before .loop in
     let e : l .h ≡ a .end = omega arith in
     λ d D. follow-all d (a .v .now) (a .y .now) (a .first) (a .end) D (l .x) (l .least) (rw e at (l .inv .5 d D)) (l .inv .4)
 

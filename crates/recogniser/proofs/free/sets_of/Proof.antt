@@ -30,19 +30,19 @@ wide32-requires : tie.Need-wide32-requires Inv-loop μ-loop
 wide32-requires c κs = search needs
 
 returns : tie.Need-returns Inv-loop μ-loop
-returns c = let l = c  .before .before .before .before .loop in
+returns c = let l = c .before .before .before .before .loop in
     record {
       yes = λ e. absurd-bool (sym e);
-      no = λ e. beyond (l .k) (omega arith) (rw (sym (c  .before .wide32 .ensures)) (c .if1 .taken));
+      no = λ e. beyond (l .k) (omega arith) (rw (sym (c .before .wide32 .ensures)) (c .if1 .taken));
     }
 
 has-requires : tie.Need-has-requires Inv-loop μ-loop
 has-requires c κs = search needs
 
 returns-2 : tie.Need-returns-2 Inv-loop μ-loop
-returns-2 c = let a = c  .before .before .before .before .before .before .before .args in let l = c  .before .before .before .before .before .before .loop in
-    let w = stands-twice (a .order .now) (l .k) (a .m) (a .zeros) (l .t) (l .u) (c  .before .before .before .wide32 .result) (l .inv .4) (c  .before .before .before .wide32 .ensures) (c  .before .before .if1 .left) (l .inv .2)
-    (sym (c  .before .has .ensures) ∙ c .if2 .taken) in
+returns-2 c = let a = c .before .before .before .before .before .before .before .args in let l = c .before .before .before .before .before .before .loop in
+    let w = stands-twice (a .order .now) (l .k) (a .m) (a .zeros) (l .t) (l .u) (c .before .before .before .wide32 .result) (l .inv .4) (c .before .before .before .wide32 .ensures) (c .before .before .if1 .left) (l .inv .2)
+    (sym (c .before .has .ensures) ∙ c .if2 .taken) in
     record { yes = λ e. absurd-bool (sym e); no = λ e. twice (w .0) (l .k) (w .1) (omega arith) (w .2) }
 
 add-requires : tie.Need-add-requires Inv-loop μ-loop
@@ -58,13 +58,18 @@ loop-less : tie.Need-loop-less Inv-loop μ-loop
 loop-less c = omega arith
 
 loop-again : tie.Need-loop-again Inv-loop μ-loop
-loop-again c = let a = c  .before .before .before .before .before .before .before .before .before .args in let l = c  .before .before .before .before .before .before .before .before .loop in
-    (omega arith, l .inv .1, l .inv .2, l .inv .3, rw (c .without .ensures, c  .before .add .ensures)
-    (sets-more (a .order .now) (l .k) (a .m) (a .zeros) (l .t) (l .u) (c  .before .before .before .before .before .wide32 .result) (l .inv .4) (c  .before .before .before .before .before .wide32 .ensures) (c  .before .before .before .before .if1 .left) (l .inv .2)
-    (sym (c  .before .before .before .has .ensures) ∙ c  .before .before .if2 .left)))
+loop-again c = let a = c .before .before .before .before .before .before .before .before .before .args in let l = c .before .before .before .before .before .before .before .before .loop in (
+  omega arith,
+  l .inv .1,
+  l .inv .2,
+  l .inv .3,
+  rw (c .without .ensures, c .before .add .ensures)
+      (sets-more (a .order .now) (l .k) (a .m) (a .zeros) (l .t) (l .u) (c .before .before .before .before .before .wide32 .result) (l .inv .4) (c .before .before .before .before .before .wide32 .ensures) (c .before .before .before .before .if1 .left) (l .inv .2)
+      (sym (c .before .before .before .has .ensures) ∙ c .before .before .if2 .left)),
+)
 
 returns-3 : tie.Need-returns-3 Inv-loop μ-loop
-returns-3 c = let a = c  .before .before .args in let l = c  .before .loop in
+returns-3 c = let a = c .before .before .args in let l = c .before .loop in
     let e : l .k ≡ a .n = omega arith in
     record { yes = λ q. rw (← e) (l .inv .4); no = λ q. absurd-bool q }
 

@@ -8,30 +8,35 @@ use Rattle.recogniser.proofs.points.mark_at.Statement.{statement}
 use Rattle.recogniser.proofs.points.mark_at.Tie as tie
 
 position-requires : tie.Need-position-requires
-position-requires c κs = let s = c  .before in (s .pre .0 .made, s .pre .0 .filled, s .pre .1 .can, s .pre .1 .point)
+position-requires c κs = let s = c .before in (s .pre .0 .made, s .pre .0 .filled, s .pre .1 .can, s .pre .1 .point)
 
 shared-slice-read-label : tie.Need-shared-slice-read-label
-shared-slice-read-label c = let s = c  .before .before .before in let a = s .args in
-    omega (arith, c  .before .position .ensures, position-low (a .g) (s .pre .0 .made) (pointWith (a .g) (a .first .now) (a .steps .now)) (s .pre .1 .point), s .pre .0 .whole)
+shared-slice-read-label c = let s = c .before .before .before in let a = s .args in
+    omega (arith, c .before .position .ensures, position-low (a .g) (s .pre .0 .made) (pointWith (a .g) (a .first .now) (a .steps .now)) (s .pre .1 .point), s .pre .0 .whole)
 
 cast-label : tie.Need-cast-label
-cast-label c = omega (arith, c .shared-slice-known2 .given (c  .before .position .result))
+cast-label c = omega (arith, c .shared-slice-known2 .given (c .before .position .result))
 
 cast-result : tie.Need-cast-result
-cast-result c = let s = c  .before .before .before in let a = s .args in
-    omega (arith, c  .before .position .ensures, position-low (a .g) (s .pre .0 .made) (pointWith (a .g) (a .first .now) (a .steps .now)) (s .pre .1 .point), made-accepted (a .g) (s .pre .0 .made) .fewPoints)
+cast-result c = let s = c .before .before .before in let a = s .args in
+    omega (arith, c .before .position .ensures, position-low (a .g) (s .pre .0 .made) (pointWith (a .g) (a .first .now) (a .steps .now)) (s .pre .1 .point), made-accepted (a .g) (s .pre .0 .made) .fewPoints)
 
 mul-result : tie.Need-mul-result
-mul-result c = let s = c  .before .before .before in let a = s .args in
-    omega (arith, c  .before .position .ensures, position-low (a .g) (s .pre .0 .made) (pointWith (a .g) (a .first .now) (a .steps .now)) (s .pre .1 .point), made-accepted (a .g) (s .pre .0 .made) .fewPoints)
+mul-result c = let s = c .before .before .before in let a = s .args in
+    omega (arith, c .before .position .ensures, position-low (a .g) (s .pre .0 .made) (pointWith (a .g) (a .first .now) (a .steps .now)) (s .pre .1 .point), made-accepted (a .g) (s .pre .0 .made) .fewPoints)
 
 add-result : tie.Need-add-result
-add-result c = let s = c  .before .before .before in let a = s .args in
-    omega (arith, c  .before .position .ensures, position-low (a .g) (s .pre .0 .made) (pointWith (a .g) (a .first .now) (a .steps .now)) (s .pre .1 .point), made-accepted (a .g) (s .pre .0 .made) .fewPoints,
-    c .shared-slice-known2 .given (c  .before .position .result))
+add-result c = let s = c .before .before .before in let a = s .args in
+    omega (
+      arith,
+      c .before .position .ensures,
+      position-low (a .g) (s .pre .0 .made) (pointWith (a .g) (a .first .now) (a .steps .now)) (s .pre .1 .point),
+      made-accepted (a .g) (s .pre .0 .made) .fewPoints,
+      c .shared-slice-known2 .given (c .before .position .result),
+    )
 
 returns : tie.Need-returns
-returns c = record { is = rw (c  .before .position .ensures) refl }
+returns c = record { is = rw (c .before .position .ensures) refl }
 
 pub mark-at-spec : {M : Type 1} → statement M
 mark-at-spec =

@@ -14,26 +14,26 @@ use Rattle.walk_calls.proofs.moving.seen.Statement.{statement}
 use Rattle.walk_calls.proofs.moving.seen.Tie as tie
 
 block-sizes-requires : tie.Need-block-sizes-requires
-block-sizes-requires c κs = c  .before .before .pre .0 .made
+block-sizes-requires c κs = c .before .before .pre .0 .made
 
 binomials-requires : tie.Need-binomials-requires
-binomials-requires c κs = (c  .before .before .before .before .before .pre .0 .made, refl)
+binomials-requires c κs = (c .before .before .before .before .before .pre .0 .made, refl)
 
 array-share-prefix-start : tie.Need-array-share-prefix-start
-array-share-prefix-start c = let h = c  .before .before .before .before .before .before .before .good .1 .0 .1 .1 .1 .1 .1 .0 in let z : length (c  .before .before .before .before .before .before .before .args .w .start) ≡ 16 = length-unmapped _ (c  .before .before .before .before .before .before .before .args .w .start) 16 (search (h, needs)) in omega (arith, indices-few (c  .before .before .before .before .before .before .before .args .g) (c  .before .before .before .before .before .before .before .pre .0 .made))
+array-share-prefix-start c = let h = c .before .before .before .before .before .before .before .good .1 .0 .1 .1 .1 .1 .1 .0 in let z : length (c .before .before .before .before .before .before .before .args .w .start) ≡ 16 = length-unmapped _ (c .before .before .before .before .before .before .before .args .w .start) 16 (search (h, needs)) in omega (arith, indices-few (c .before .before .before .before .before .before .before .args .g) (c .before .before .before .before .before .before .before .pre .0 .made))
 
 slice-aggregate-recognise : tie.Need-slice-aggregate-recognise
-slice-aggregate-recognise c = let h = c  .before .before .before .before .before .before .before .before .good .1 .0 .1 .1 .1 .1 .1 .0 in let z : length (c  .before .before .before .before .before .before .before .before .args .w .start) ≡ 16 = length-unmapped _ (c  .before .before .before .before .before .before .before .before .args .w .start) 16 (search (h, needs)) in simp length-take (omega (arith, indices-few (c  .before .before .before .before .before .before .before .before .args .g) (c  .before .before .before .before .before .before .before .before .pre .0 .made)))
+slice-aggregate-recognise c = let h = c .before .before .before .before .before .before .before .before .good .1 .0 .1 .1 .1 .1 .1 .0 in let z : length (c .before .before .before .before .before .before .before .before .args .w .start) ≡ 16 = length-unmapped _ (c .before .before .before .before .before .before .before .before .args .w .start) 16 (search (h, needs)) in simp length-take (omega (arith, indices-few (c .before .before .before .before .before .before .before .before .args .g) (c .before .before .before .before .before .before .before .before .pre .0 .made)))
 
 recognise-requires : tie.Need-recognise-requires
-recognise-requires c κs = let s = c  .before .before .before .before .before .before .before .before .before .before .before .before in let C = s .pre .0 in let g = s .args .g in
+recognise-requires c κs = let s = c .before .before .before .before .before .before .before .before .before .before .before .before in let C = s .pre .0 in let g = s .args .g in
     record {
-      readable = record { made = C .made; filled = c  .before .before .before .before .before .before .binomials2 .ensures; whole = ok C .tableLength };
+      readable = record { made = C .made; filled = c .before .before .before .before .before .before .binomials2 .ensures; whole = ok C .tableLength };
       labels = ok C .labels;
       startOn = rw (made-indices g (C .made)) (ok C .settled .start);
       below = λ h l. previous-low g (C .made) h;
       backward = λ h l. made-previous g (C .made) h (omega (arith, made-indices g (C .made)));
-      blockSizes = λ h l. c  .before .before .before .before .before .before .before .before .before .block-sizes .ensures h (omega (arith, made-indices g (C .made)));
+      blockSizes = λ h l. c .before .before .before .before .before .before .before .before .before .block-sizes .ensures h (omega (arith, made-indices g (C .made)));
       few = C .few;
       firstLong = C .firstLong;
       orderLong = C .orderLong;
@@ -41,7 +41,7 @@ recognise-requires c κs = let s = c  .before .before .before .before .before .b
     }
 
 returns : tie.Need-returns
-returns c = let s = c  .before .before .before .before .before .before .before .before .before .before .before .before .before in let a = s .args in
+returns c = let s = c .before .before .before .before .before .before .before .before .before .before .before .before .before in let a = s .args in
     subst (λ (m : ℕ). Recognised (problemOn (a .g) (take m (a .w .start)) (a .labels .now)) (take (a .g .indices) (a .first .now)) (take (a .n) (a .order .now))
     (c .recognise .last .1 .1 .1 .1 .1 .1 .1 .1 .1 .0) (c .recognise .last .1 .1 .1 .1 .1 .1 .1 .1 .1 .1 .0) (c .recognise .result)) (made-indices (a .g) (s .pre .0 .made)) (c .recognise .ensures)
 

@@ -1,0 +1,18 @@
+-- What the moving call gives. Assumes nothing.
+use mathlib.Core.List.{List}
+use Prim.Native.Nat.{ℕ}
+use Rattle.walks.specs.Next.{nextOf, ruleOf}
+use Rattle.walks.specs.Walk.{over}
+use Rattle.walk_ways.specs.Walks.{answerOf, gridOf, numbersOf, padded, structOn, walkOf}
+use Rattle.walk_ways.specs.declared.Walk.{Walk as WalkStruct}
+use Rattle.walk_calls.specs.declared.Call.{Call}
+
+-- the answer, the simplex and the walk of the moving call
+unfoldable pub callOf : WalkStruct → List ℕ → Call
+callOf w labels =
+    let n = nextOf (walkOf w) labels in
+    record {
+      answer = answerOf (ruleOf (over (walkOf w) labels) (walkOf w .present)) n;
+      simplex = padded 256 (numbersOf n);
+      walk = structOn (gridOf w) w n;
+    }

@@ -1,0 +1,66 @@
+-- Tests of masks as numbers, and as sets of indices. Assumes nothing.
+use mathlib.Core.Bool.{Bool, Bool·beq, true, false, not, _&&_, _||_}
+use mathlib.Core.List.{List}
+use mathlib.Core.Path.{_≡_, refl, sym, ap, _∙_}
+use Prim.Native.Nat.{ℕ, _<_, _≤_}
+use borrow.Author.Tests.{eqb-true, eq-eqb}
+use lib.Bits.{and-le-l, bitAnd}
+use lib.Dec.{eqb}
+use native.Mathlib.Omega.{arith}
+use Rattle.combinatorics.proofs.Basics.{absurd-bool, both}
+use Rattle.combinatorics.proofs.Lists.{all-in, in-all, onNumbers}
+use Rattle.combinatorics.proofs.Ranges.{in-upFrom, upFrom-in}
+use Rattle.combinatorics.specs.Lists.{all, upFrom}
+use Rattle.rules.proofs.SameMasks.{same-mask}
+use Rattle.rules.proofs.Masks.{bit-and}
+use Rattle.rules.specs.Mask.{bit}
+use Rattle.walk_ways.specs.Ways.{alike, within}
+
+beq-is : (a b : Bool) → Bool·beq a b ≡ true → a ≡ b
+beq-is true true e = refl
+beq-is false false e = refl
+beq-is true false e = absurd-bool (sym e)
+beq-is false true e = absurd-bool (sym e)
+
+is-beq : (a b : Bool) → a ≡ b → Bool·beq a b ≡ true
+is-beq true true e = refl
+is-beq false false e = refl
+is-beq true false e = absurd-bool e
+is-beq false true e = absurd-bool (sym e)
+
+pub alike-of : (a b : ℕ) → ((k : ℕ) → k < 16 → bit a k ≡ bit b k) → alike a b ≡ true
+unfolding alike
+alike-of a b h = in-all onNumbers (λ k. Bool·beq (bit a k) (bit b k)) (upFrom 0 16) (λ k m. is-beq _ _ (h k (omega (arith, upFrom-in 0 16 k m .1))))
+
+pub of-alike : (a b : ℕ) → alike a b ≡ true → (k : ℕ) → k < 16 → bit a k ≡ bit b k
+unfolding alike
+of-alike a b e k l = beq-is _ _ (all-in onNumbers (λ k. Bool·beq (bit a k) (bit b k)) (upFrom 0 16) e k (in-upFrom 0 16 k (omega arith) (omega arith)))
+
+or-is : (a b : Bool) → (not a || b) ≡ true → a ≡ (a && b)
+or-is true true e = refl
+or-is true false e = sym e
+or-is false b e = refl
+
+is-or : (a b : Bool) → (a ≡ true → b ≡ true) → (not a || b) ≡ true
+is-or true b h = h refl
+is-or false b h = refl
+
+pub within-of : (a b : ℕ) → ((k : ℕ) → k < 16 → bit a k ≡ true → bit b k ≡ true) → within a b ≡ true
+unfolding within
+within-of a b h = in-all onNumbers (λ k. not (bit a k) || bit b k) (upFrom 0 16) (λ k m. is-or _ _ (h k (omega (arith, upFrom-in 0 16 k m .1))))
+
+pub of-within : (a b : ℕ) → within a b ≡ true → (k : ℕ) → k < 16 → bit a k ≡ (bit a k && bit b k)
+unfolding within
+of-within a b e k l = or-is _ _ (all-in onNumbers (λ k. not (bit a k) || bit b k) (upFrom 0 16) e k (in-upFrom 0 16 k (omega arith) (omega arith)))
+
+pub same-alike : (a b : ℕ) → a < 65536 → b < 65536 → eqb a b ≡ alike a b
+same-alike a b la lb = both (eqb a b) (alike a b) (λ e. alike-of a b (λ k l. ap (λ (x : ℕ). bit x k) (eqb-true a b e))) (λ e. eq-eqb a b (same-mask a b la lb (of-alike a b e)))
+
+and-true : (a b : Bool) → a ≡ (a && b) → a ≡ true → b ≡ true
+and-true true b e q = sym e
+and-true false b e q = absurd-bool (sym q)
+
+pub and-within : (a b : ℕ) → a < 65536 → eqb (bitAnd a b) a ≡ within a b
+and-within a b la = both (eqb (bitAnd a b) a) (within a b)
+    (λ e. within-of a b (λ k l t. and-true (bit a k) (bit b k) (ap (λ (x : ℕ). bit x k) (sym (eqb-true (bitAnd a b) a e)) ∙ bit-and a b k) t))
+    (λ e. eq-eqb (bitAnd a b) a (same-mask (bitAnd a b) a (omega (arith, and-le-l a b)) la (λ k l. bit-and a b k ∙ sym (of-within a b e k l))))

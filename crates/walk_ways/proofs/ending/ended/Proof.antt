@@ -1,0 +1,45 @@
+-- `ending::ended` meets its contract. Assumes nothing.
+use mathlib.Core.Path.{_≡_, refl, sym, ap, _∙_}
+use native.Mathlib.Numerals.{add-one}
+use Rattle.grid.proofs.Fields.{blocks-range, made-blocks, made-indices}
+use Rattle.grid.proofs.Round.{block-spans}
+use Rattle.grid.specs.Made.{shape}
+use borrow.Author.Needs.{needs}
+use native.Mathlib.Omega.{arith}
+use Rattle.walk_ways.proofs.ending.ended.Statement.{statement}
+use Rattle.walk_ways.proofs.ending.ended.Tie as tie
+
+slice-aggregate-put-points : tie.Need-slice-aggregate-put-points
+slice-aggregate-put-points c = search needs
+
+put-points-requires : tie.Need-put-points-requires
+put-points-requires c κs = search needs
+
+block-of-requires : tie.Need-block-of-requires
+block-of-requires c κs = search needs
+
+cast-block : tie.Need-cast-block
+cast-block c = let s = c .before .before .before .before in let g = s .args .g in
+    omega (arith, c .block-of .ensures, block-spans (shape g .sizes) (s .args .h) (omega (arith, s .pre .1, made-indices g (s .pre .0))) .0, made-blocks g (s .pre .0), blocks-range g (s .pre .0))
+
+add-block : tie.Need-add-block
+add-block c = let s = c .before .before .before .before in let g = s .args .g in
+    omega (arith, c .block-of .ensures, block-spans (shape g .sizes) (s .args .h) (omega (arith, s .pre .1, made-indices g (s .pre .0))) .0, made-blocks g (s .pre .0), blocks-range g (s .pre .0))
+
+none-requires : tie.Need-none-requires
+none-requires c κs = search needs
+
+returns : tie.Need-returns
+returns c = rw (c .none .ensures, c .before .block-of .ensures, add-one, c .before .before .before .put-points .ensures .0, c .before .before .before .put-points .ensures .1)
+
+pub ended-spec : {M : Type 1} → statement M
+ended-spec =
+    tie.close
+    (tie.spec
+    slice-aggregate-put-points
+    put-points-requires
+    block-of-requires
+    cast-block
+    add-block
+    none-requires
+    returns)

@@ -1,0 +1,5 @@
+pub mod Walks
+pub mod Spares
+pub mod Ways
+pub mod Ends
+pub mod Standing

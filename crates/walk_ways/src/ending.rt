@@ -1,0 +1,91 @@
+// The answer at an end, and what a way tells.
+ghost use mathlib.Core.List.{[]};
+ghost use mathlib.Core.Path.{_≡_};
+ghost use Prim.Native.Nat.{_≤_, _<_};
+ghost use lib.ListN.{length};
+ghost use Rattle.grid.specs.Made.{IsMade, shape};
+ghost use Rattle.moves.specs.Held.{stateOf, roundBack, CanPut};
+ghost use Rattle.rules.specs.Step.{State};
+ghost use Rattle.walk_ways.specs.Ends.{endAs, refusedAs, toldAs, CanTell};
+use crate::Answer;
+use crate::Kind;
+use crate::Leads;
+use crate::Next;
+use crate::Way;
+use crate::keeping::none;
+use grid::Grid;
+use moves::Status;
+use moves::put_points;
+
+// An end with the points from number from on, complete for the block of index h.
+fn ended(
+    g: Grid,
+    previous: &[u8; 16],
+    sizes: &[u8; 16],
+    first: &[u16; 16],
+    order: &[u32; 16],
+    s: Status,
+    kind: Kind,
+    h: usize,
+    from: usize,
+) -> Next
+    ghost { State }
+    requires { λ a. ⌜ stateOf (roundBack previous sizes) (now first) [] (now order) [] s ≡ a ⌝ }
+    requires { λ a. ⌜ IsMade g × (h < g .indices) × CanPut a (g .indices) from 256 × (length (a .order) ≡ s .count) ⌝ }
+    ensures { λ a r. ⌜ r ≡ endAs g a kind h from ⌝ }
+{
+    let m = g.indices;
+    let mut simplex = [0u16; 256];
+    let vertices = put_points(&mut simplex, previous, sizes, first, order, s, m, from);
+    let block = g.block_of(h) as u8 + 1;
+    let place = none();
+    Next {
+        answer: Answer::Ended {
+            kind,
+            block,
+            vertices,
+        },
+        simplex,
+        place,
+    }
+}
+
+// A refusal.
+pub fn refused(number: u8) -> Next
+    ensures { λ r. ⌜ r ≡ refusedAs number ⌝ }
+{
+    let place = none();
+    Next {
+        answer: Answer::Refused(number),
+        simplex: [0u16; 256],
+        place,
+    }
+}
+
+// What a way on tells: the move, or the end.
+pub fn told(
+    g: Grid,
+    previous: &[u8; 16],
+    sizes: &[u8; 16],
+    first: &[u16; 16],
+    order: &[u32; 16],
+    s: Status,
+    way: Way,
+) -> Next
+    ghost { State }
+    requires { λ a. ⌜ stateOf (roundBack previous sizes) (now first) [] (now order) [] s ≡ a ⌝ }
+    requires { λ a. ⌜ IsMade g × CanTell g a way × (length (a .order) ≡ s .count) ⌝ }
+    ensures { λ a r. ⌜ r ≡ toldAs g a way ⌝ }
+{
+    let leads = way.leads;
+    let place = way.place;
+    match leads {
+        Leads::Onto(rule) => Next {
+            answer: Answer::Moved(rule),
+            simplex: [0u16; 256],
+            place,
+        },
+        Leads::PlaceEnd(h) => ended(g, previous, sizes, first, order, s, Kind::Place, h, 0),
+        Leads::FacetEnd(h) => ended(g, previous, sizes, first, order, s, Kind::Facet, h, 1),
+    }
+}
