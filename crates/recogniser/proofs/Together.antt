@@ -38,12 +38,16 @@ use Rattle.walks.proofs.KeptPlace.{Conditions, conditions-of, is-zero, zero-is}
 use Rattle.walks.proofs.Recognised.{of-conditions}
 use Rattle.walks.specs.Kept.{canStep, isKept, zeroOutside}
 use Rattle.recogniser.proofs.Following.{settled-on}
-use Rattle.recogniser.specs.Kept.{CanRecognise, Seen, problemOn}
+use Rattle.recogniser.specs.Kept.{CanRecognise, Recognised, Seen, problemOn}
 use Rattle.recogniser.specs.Pieces.{AllFree, AreSets, CanMark, FreeIn, Marked, NoSets, NotFree, beyond, filled, inNeither, positive, startedOn, twice, zeroOn}
+use Rattle.recogniser.specs.declared.Sets.{Sets}
 
 pub is-not : (b : Bool) → not b ≡ false → b ≡ true
 is-not true e = refl
 is-not false e = sym e
+
+pub not-recognised : {p : Problem} {y : Point} {o list marks : List ℕ} {r : Sets} → r .is ≡ false → isKept p y o ≡ false → Recognised p y o list marks r
+not-recognised e h = record { yes = λ t. absurd-bool (sym t ∙ e); no = λ _. h }
 
 module _ (g : GridStruct) (binomials start table previous sizes first order : List ℕ) (n : ℕ) (marks : List ℕ)
     (C : CanRecognise g binomials start table previous sizes first order n marks) where

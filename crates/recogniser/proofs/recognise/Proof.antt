@@ -4,7 +4,7 @@ use mathlib.Core.Path.{_≡_, refl, sym, ap, _∙_, subst}
 use lib.ListN.{length, take, length-take}
 use Rattle.combinatorics.proofs.Basics.{absurd-bool, not-is}
 use Rattle.grid.proofs.Fields.{indices-few}
-use Rattle.recogniser.proofs.Together.{is-not, off-grid, no-sets, not-free, cannot-step, can-mark, all-seen}
+use Rattle.recogniser.proofs.Together.{is-not, not-recognised, off-grid, no-sets, not-free, cannot-step, can-mark, all-seen}
 use Rattle.recogniser.specs.Pieces.{Marked}
 use borrow.Author.Needs.{needs}
 use native.Mathlib.Omega.{arith}
@@ -25,7 +25,7 @@ nothing-requires c κs = search needs
 
 returns : tie.Need-returns
 returns c = let s = c .before .before .before .before .before .before .before in let a = s .args in
-    record { yes = λ e. absurd-bool (sym e ∙ c .nothing .ensures); no = λ e. off-grid (a .g) (a .binomials .now) (a .start .now) (a .table .now) (a .previous .now) (a .sizes .now) (a .first .now) (a .order .now) (a .n) (a .marks .now) (s .pre) (sym (c .before .before .is-grid-point .ensures) ∙ not-is _ (c .before .if1 .taken)) }
+    not-recognised (c .nothing .ensures) (off-grid (a .g) (a .binomials .now) (a .start .now) (a .table .now) (a .previous .now) (a .sizes .now) (a .first .now) (a .order .now) (a .n) (a .marks .now) (s .pre) (sym (c .before .before .is-grid-point .ensures) ∙ not-is _ (c .before .if1 .taken)))
 
 zeros-requires : tie.Need-zeros-requires
 zeros-requires c κs = indices-few (c .before .before .before .before .before .before .args .g) (c .before .before .before .before .before .before .pre .readable .made)
@@ -38,7 +38,7 @@ nothing-requires-2 c κs = search needs
 
 returns-2 : tie.Need-returns-2
 returns-2 c = let s = c .before .before .before .before .before .before .before .before .before .before .before in let a = s .args in
-    record { yes = λ e. absurd-bool (sym e ∙ c .nothing2 .ensures); no = λ e. no-sets (a .g) (a .binomials .now) (a .start .now) (a .table .now) (a .previous .now) (a .sizes .now) (a .first .now) (a .order .now) (a .n) (a .marks .now) (s .pre) (c .before .before .before .sets-of .ensures .no (not-is _ (c .before .if2 .taken))) }
+    not-recognised (c .nothing2 .ensures) (no-sets (a .g) (a .binomials .now) (a .start .now) (a .table .now) (a .previous .now) (a .sizes .now) (a .first .now) (a .order .now) (a .n) (a .marks .now) (s .pre) (c .before .before .before .sets-of .ensures .no (not-is _ (c .before .if2 .taken))))
 
 coefficients-requires : tie.Need-coefficients-requires
 coefficients-requires c κs = let s = c .before .before .before .before .before .before .before .before .before .before in
@@ -52,11 +52,8 @@ nothing-requires-3 c κs = search needs
 
 returns-3 : tie.Need-returns-3
 returns-3 c = let s = c .before .before .before .before .before .before .before .before .before .before .before .before .before .before .before in let a = s .args in let r = c .before .before .before .before .before .before .before .sets-of .result in
-    record {
-      yes = λ e. absurd-bool (sym e ∙ c .nothing3 .ensures);
-      no = λ e. not-free (a .g) (a .binomials .now) (a .start .now) (a .table .now) (a .previous .now) (a .sizes .now) (a .first .now) (a .order .now) (a .n) (a .marks .now) (s .pre) (c .before .before .before .before .before .before .before .before .zeros .result) (r .t) (r .u)
-          (c .before .before .before .before .before .before .before .sets-of .ensures .yes (is-not _ (c .before .before .before .before .before .if2 .left))) (c .before .before .before .before .before .before .before .before .zeros .ensures) (c .before .before .before .before .coefficients .result) (c .before .before .before .before .coefficients .ensures .1) (c .before .before .is-free .ensures .no (not-is _ (c .before .if3 .taken)));
-    }
+    not-recognised (c .nothing3 .ensures) (not-free (a .g) (a .binomials .now) (a .start .now) (a .table .now) (a .previous .now) (a .sizes .now) (a .first .now) (a .order .now) (a .n) (a .marks .now) (s .pre) (c .before .before .before .before .before .before .before .before .zeros .result) (r .t) (r .u)
+    (c .before .before .before .before .before .before .before .sets-of .ensures .yes (is-not _ (c .before .before .before .before .before .if2 .left))) (c .before .before .before .before .before .before .before .before .zeros .ensures) (c .before .before .before .before .coefficients .result) (c .before .before .before .before .coefficients .ensures .1) (c .before .before .is-free .ensures .no (not-is _ (c .before .if3 .taken))))
 
 mark-points-requires : tie.Need-mark-points-requires
 mark-points-requires c κs = let s = c .before .before .before .before .before .before .before .before .before .before .before .before .before .before .before in let a = s .args in let r = c .before .before .before .before .before .before .before .sets-of .result in (
@@ -71,7 +68,7 @@ nothing-requires-4 c κs = search needs
 
 returns-4 : tie.Need-returns-4
 returns-4 c = let s = c .before .before .before .before .before .before .before .before .before .before .before .before .before .before .before .before .before .before in let a = s .args in
-    record { yes = λ e. absurd-bool (sym e ∙ c .nothing4 .ensures); no = λ e. cannot-step (a .g) (a .binomials .now) (a .start .now) (a .table .now) (a .previous .now) (a .sizes .now) (a .first .now) (a .order .now) (a .n) (a .marks .now) (s .pre) (sym (c .before .before .mark-points .ensures .can) ∙ not-is _ (c .before .if4 .taken)) }
+    not-recognised (c .nothing4 .ensures) (cannot-step (a .g) (a .binomials .now) (a .start .now) (a .table .now) (a .previous .now) (a .sizes .now) (a .first .now) (a .order .now) (a .n) (a .marks .now) (s .pre) (sym (c .before .before .mark-points .ensures .can) ∙ not-is _ (c .before .if4 .taken)))
 
 returns-5 : tie.Need-returns-5
 returns-5 c = let s = c .before .before .before .before .before .before .before .before .before .before .before .before .before .before .before .before .before in let a = s .args in let r = c .before .before .before .before .before .before .before .before .before .sets-of .result in
