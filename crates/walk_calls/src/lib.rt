@@ -1,7 +1,9 @@
 // A walk that is lent and moved on by one place with each call.
 mod asking;
+mod lending;
 mod moving;
 
+pub use lending::move_on;
 pub use moving::moved;
 use walk_ways::Answer;
 use walk_ways::Walk;
