@@ -27,3 +27,4 @@ pub mod Run
 pub mod EndPoints
 pub mod Filling
 pub mod Filled
+pub mod LabelsRead

@@ -7,4 +7,5 @@ pub mod Ends
 pub mod Path
 pub mod Worked
 pub mod Demand
+pub mod LabelsRead
 pub mod Backwards
