@@ -7,8 +7,8 @@ use mathlib.Core.Logic.{inl, inr, ⊎-elim}
 use mathlib.Core.Option.{Option, none, some}
 use mathlib.Core.Path.{_≡_, refl, sym, ap, _∙_, subst}
 use Prim.Native.Nat.{ℕ, zero, suc, pred, _+_, _-_, _≤_, _<_}
-use borrow.Author.Tests.{lt-ltb, le-ltb}
-use lib.Dec.{eqb, ltb}
+use borrow.Author.Tests.{lt-ltb, le-ltb, le-leb, lt-leb}
+use lib.Dec.{eqb, leb, ltb}
 use lib.ListN.{length, length-append, length-map, getD-replicate, List·getD-append}
 use lib.Seq.{getD-at}
 use native.Mathlib.Omega.{arith}
@@ -27,6 +27,7 @@ use Rattle.place.proofs.Bound.{order-short}
 use Rattle.place.proofs.ChainEnds.{complete-of, complete-below, end-below, end-complete, end-labels}
 use Rattle.place.proofs.ChainLinks.{of-link}
 use Rattle.place.proofs.FromChain.{back-again, place-of, long, pointsOf-grid, T-is, in-U}
+use Rattle.place.proofs.LabelsRead.{link-brings}
 use Rattle.place.proofs.LinkSymmetry.{parts}
 use Rattle.place.proofs.Positions.{at-in}
 use Rattle.place.proofs.Run.{below-length, not-start, ends-path, goes-on}
@@ -38,6 +39,7 @@ use Rattle.place.specs.Coefficients.{IsCoefficients, coefficients}
 use Rattle.place.specs.Demand.{Follows, placeAt, leftAt}
 use Rattle.place.proofs.Filled.{FullyLabelled, full-accepted, full-place}
 use Rattle.place.specs.Ends.{Kind, placeEnd, facetEnd, stop}
+use Rattle.place.specs.LabelsRead.{pointCameIn}
 use Rattle.place.specs.Links.{linked}
 use Rattle.place.specs.Path.{path, pathLength, answer, spent, ended}
 use Rattle.place.specs.Places.{Simplex, order, setT, setU, allLabelled}
@@ -282,6 +284,20 @@ module _ {p : Problem} (ok : FullyLabelled p) {s : State} {k : ℕ} (A : At p s 
   abbrev D : Describes p A.T A.t A.o A.x s
   D = A .describes
 
+  -- request 10: the place just left has more points exactly where no mark is to be read
+  no-fewer : {left : Option (List (ℕ → ℕ))} → Came p A.T A.t A.x s left → (l : List (ℕ → ℕ)) → left ≡ some l
+      → leb (length l) (length A.x) ≡ ltb s.rule 6
+  no-fewer (begins e u r) l q = absurd-bool (cc)
+  no-fewer (through n d e low z r b carry (inl X) C) l q =
+      let w : d ≡ l = cc in
+      le-leb (length l) (length A.x) (omega (arith, ap length w, X .0, D .chain .size)) ∙ sym (lt-ltb s.rule 6 r)
+  no-fewer (through n d e low z r b carry (inr X) C) l q =
+      let w : d ≡ l = cc in
+      le-leb (length l) (length A.x) (omega (arith, ap length w, X .0, D .chain .size)) ∙ sym (lt-ltb s.rule 6 r)
+  no-fewer (fromLarger d low r m b e X) l q =
+      let w : d ≡ l = cc in
+      lt-leb (length l) (length A.x) (omega (arith, ap length w, X .3 .size, X .4 .sizes, D .chain .size)) ∙ sym (le-ltb s.rule 6 r)
+
   -- where two steps have changed places, the marks of the others stand, and that of the point that left
   crossing : Came p A.T A.t A.x s A.left → s .rule ≡ 1 → 0 < s .active → s .active < A .t
       → MarksBut p A.t A.x s s.active × (1 ≤ at (arrayOf s (s .active - 1)) (sourceAt s s.active))
@@ -457,3 +473,25 @@ module _ {p : Problem} (ok : FullyLabelled p) {s : State} {k : ℕ} (A : At p s 
       go (atPlaceEnd h c) = placeEnds (ends-at placeEnd 0 _ h (omega arith) (all-points ok move.describes) (place-way ok A.describes.chain h c))
       go (atFacetEnd h n z c) = facetEnds (ends-at facetEnd 1 _ h (omega arith) (later-points ok move.describes) (facet-way ok A.describes.chain h z c))
       go (goesOn y new R) = nextPlace (onto new R)
+
+-- request 10: at a place behind the first a point has come in exactly where a mark is to be read
+pub at-new : {p : Problem} → FullyLabelled p → {s : State} {k : ℕ} → At p s (suc k)
+    → pointCameIn (placeAt (path p .visited) k) (placeAt (path p .visited) (suc k)) ≡ ltb (s .rule) 6
+at-new {p} ok {s} {k} A = go A.left refl A.before
+  where
+    here : (i : ℕ) → i ≤ suc k → placeAt A.places i ≡ placeAt (path p .visited) i
+    here i l = run-follows (full-accepted ok) A.places A.follows i (omega (arith, A .many)) .1
+
+    go : (left : Option (List (ℕ → ℕ))) → A .left ≡ left → LeftIs p left (some (placeAt A.places k))
+        → pointCameIn (placeAt (path p .visited) k) (placeAt (path p .visited) (suc k)) ≡ ltb (s .rule) 6
+    go none e b = absurd-bool (cc)
+    go (some l) e b =
+        let a = placeAt A.places k in
+        let c = placeAt A.places (suc k) in
+        let linkage = A .follows .links k (omega (arith, A .many)) in
+        let place = A .follows .places (suc k) (omega (arith, A .many)) in
+        let left-is : a ≡ pointsOf p l = cc in
+        let x : length a ≡ length l = ap length left-is ∙ length-map l (pointOf p) in
+        let y : length c ≡ length A.x = ap length (A .here) ∙ length-map A.x (pointOf p) in
+        rw (sym (here k (omega arith)), sym (here (suc k) (omega arith)))
+        (link-brings p a c place linkage ∙ rw (x, y) (no-fewer ok A A.came l e))
