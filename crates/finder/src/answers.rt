@@ -32,7 +32,8 @@ pub enum Answer {
     Refused(u8),
     // Number 9: the path has not ended within the budget. The places visited equal the budget.
     Spent(u64),
-    // Number 16: a place within the budget needs a label that is not yet known. The places visited before it, and the position of the label.
+    // Number 16: a place within the budget needs a label that is not yet known. The places visited before it, and
+    // the position of the label.
     Unknown {
         places: u64,
         position: usize,

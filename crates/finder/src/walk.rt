@@ -18,7 +18,8 @@ use moves::step;
 use moves::zeros;
 use positions::ENTRIES;
 
-// What a place of the walk leads to: what the move gives; or that the label of the point that has come in is not yet known, with its position.
+// What a place of the walk leads to: what the move gives; or that the label of the point that has come in is not yet
+// known, with its position.
 pub enum Visited {
     Moved(Status),
     PlaceEnd(usize),
@@ -26,8 +27,9 @@ pub enum Visited {
     Unknown(usize),
 }
 
-// How a walk ended: at the path's end, after so many places, with an index of the block for which the simplex is complete and the status at the
-// last place; at a place that needs a label not yet known, after so many places before it, with the label's position; or with the budget spent.
+// How a walk ended: at the path's end, after so many places, with an index of the block for which the simplex is
+// complete and the status at the last place; at a place that needs a label not yet known, after so many places before
+// it, with the label's position; or with the budget spent.
 pub enum Finish {
     Ended {
         kind: Kind,
