@@ -16,7 +16,7 @@ ROOT = pathlib.Path(__file__).resolve().parents[2]
 WITHOUT = ["positions", "rules", "moves", "marks", "finder"]
 
 REASONS = {
-    "levels::lengths::rests": "which block and player a place stands for, 36 times a game",
+    "weighed_losses::lengths::rests": "which block and player a place stands for, 36 times a game",
     "slip::brought": "how many losses of two bytes a slip brings",
     "slip::fields::stands": "one bit of the slip's first byte",
     "rounding::centre": "the centre in ten-thousandths, rounded",
