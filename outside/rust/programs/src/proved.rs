@@ -60,6 +60,8 @@ extern "C" {
         old: *const u8, old_length: usize,
         labels: *mut u8, labels_length: usize,
         count: *mut u64,
+    ) -> u8;
+
     /// 0 where all levels were run, else the refusal's number. The facts are four for each level, as a run's.
     fn leveretplate_refine(
         sizes: *const u8, sizes_length: usize,
