@@ -83,7 +83,7 @@ fn position_by_steps(
 // The position of the point that has just come in: where it has come in between two steps that changed places, by the
 // marks of the other corners of their square if these add up, the point that left having still its mark there; in a
 // grid of one block by one step; else by all its steps.
-fn position_in(
+pub fn position_in(
     g: Grid,
     binomials: &[u16; ENTRIES],
     tails: &[u32; 16],

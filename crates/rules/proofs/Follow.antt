@@ -63,20 +63,24 @@ abbrev LeftIs : Problem → Option (List (ℕ → ℕ)) → Option Simplex → T
 LeftIs p none q = q ≡ none
 LeftIs p (some l) q = (q ≡ some (pointsOf p l)) × (coefficientsOf p (pointsOf p l) ≡ l)
 
--- the state stands at place number k, from 0, of a list of places that follows the path
-pub record At (p : Problem) (s : State) (k : ℕ) : Type 0 where
-  places : List Simplex
-  many : length places ≡ suc k
-  follows : Follows p places
+-- the state describes a place to which some link has led, if any
+pub record Stands (p : Problem) (s : State) : Type 0 where
   T : ℕ → Bool
   t : ℕ
   o : ℕ → ℕ
   x : List (ℕ → ℕ)
   describes : Describes p T t o x s
-  here : placeAt places k ≡ pointsOf p x
   left : Option (List (ℕ → ℕ))
   came : Came p T t x s left
-  before : LeftIs p left (leftAt places k)
+
+-- the state stands at place number k, from 0, of a list of places that follows the path
+pub record At (p : Problem) (s : State) (k : ℕ) : Type 0 where
+  places : List Simplex
+  many : length places ≡ suc k
+  follows : Follows p places
+  stands : Stands p s
+  here : placeAt places k ≡ pointsOf p stands.x
+  before : LeftIs p stands.left (leftAt places k)
 
 -- the state e stands at the path's end, after k + 1 places: an end of the kind given, for the block of h, whose points are those of e from
 -- number `from` on
@@ -208,27 +212,14 @@ module _ {p : Problem} (ok : FullyLabelled p) where
       (λ (l : numIndices p.grid ≤ k). rw (start-T k, le-ltb k _ l, coord-out p start-coefficients k l))
       (before-or-not k (numIndices p.grid))
 
-  pub at-begin : {round : Round} → IsRound p.grid round → (first : List ℕ) (mask : ℕ) → length first ≡ 16
-      → ((k : ℕ) → k < numIndices p.grid → at first k ≡ at p.start k)
-      → ((k : ℕ) → k < 16 → bit mask k ≡ (ltb k (numIndices p.grid) && eqb (at p.start k) 0))
-      → At p (begun round first mask) 0
-  at-begin N first mask size same zero-at = record {
-    places = v ∷ [];
-    many = refl;
-    follows = record {
-      nonempty = omega arith;
-      begins = refl;
-      places = λ i l. let e : i ≡ 0 = omega arith in rw e (start-place ok.settled);
-      links = λ i l. absurd (omega arith);
-      onward = λ i l. absurd (omega arith);
-      passes = λ i l. absurd (omega arith);
-      known = λ i l. absurd (omega arith);
-    };
-    T = inT p v;
-    t = 0;
-    o = at (order p.grid v);
-    x = coefficientsOf p v;
-    describes = record {
+  module _ {round : Round} (N : IsRound p.grid round) (first : List ℕ) (mask : ℕ) (size : length first ≡ 16)
+      (same : (k : ℕ) → k < numIndices p.grid → at first k ≡ at p.start k)
+      (zero-at : (k : ℕ) → k < 16 → bit mask k ≡ (ltb k (numIndices p.grid) && eqb (at p.start k) 0)) where
+    start-zeros : (k : ℕ) → k < 16 → bit mask k ≡ zeros (blocksOf p) (inT p v) (listAt (coefficientsOf p v) 0) k
+    start-zeros k l = zero-at k l ∙ sym (start-U k)
+
+    pub start-describes : Describes p (inT p v) 0 (at (order p.grid v)) (coefficientsOf p v) (begun round first mask)
+    start-describes = record {
       chain = start-chain;
       round = N;
       orderLength = refl;
@@ -240,21 +231,39 @@ module _ {p : Problem} (ok : FullyLabelled p) where
           λ k l. getD-replicate 16 k 0 0 (omega (arith, ok .settled .sixteenIndices))
           ∙ ap (λ (c : ℕ → ℕ). c k) (sym (zeroes ok.settled p.start (start-place ok.settled)));
       inT = λ k l. bit-none k l ∙ sym (start-T k);
-      inU = in-U;
+      inU = start-zeros;
       marksLength = refl;
-    };
-    here = sym (pointsOf-coefficientsOf ok.settled v (parts p v (start-place ok.settled) .gridPoints));
-    left = none;
-    came = begins refl refl (omega arith);
-    before = refl;
-  }
-    where
-      in-U : (k : ℕ) → k < 16 → bit mask k ≡ zeros (blocksOf p) (inT p v) (listAt (coefficientsOf p v) 0) k
-      in-U k l = zero-at k l ∙ sym (start-U k)
+    }
+
+    pub at-begin : At p (begun round first mask) 0
+    at-begin = record {
+      places = v ∷ [];
+      many = refl;
+      follows = record {
+        nonempty = omega arith;
+        begins = refl;
+        places = λ i l. let e : i ≡ 0 = omega arith in rw e (start-place ok.settled);
+        links = λ i l. absurd (omega arith);
+        onward = λ i l. absurd (omega arith);
+        passes = λ i l. absurd (omega arith);
+        known = λ i l. absurd (omega arith);
+      };
+      stands = record {
+        T = inT p v;
+        t = 0;
+        o = at (order p.grid v);
+        x = coefficientsOf p v;
+        describes = start-describes;
+        left = none;
+        came = begins refl refl (omega arith);
+      };
+      here = sym (pointsOf-coefficientsOf ok.settled v (parts p v (start-place ok.settled) .gridPoints));
+      before = refl;
+    }
 
   -- the path has more than k places, so that a budget up to k is spent
   pub at-first : {s : State} {k : ℕ} → At p s k → length s.first ≡ 16
-  at-first A = A.describes.firstLength
+  at-first A = A.stands.describes.firstLength
 
   pub at-below : {s : State} {k : ℕ} → At p s k → k < pathLength p
   at-below {k} A = below-length (full-accepted ok) A.follows k A.many
@@ -262,24 +271,18 @@ module _ {p : Problem} (ok : FullyLabelled p) where
   pub at-spent : {s : State} {k : ℕ} → At p s k → (budget : ℕ) → budget ≤ k → answer p budget ≡ spent budget
   at-spent {s} {k} A budget l = demand3-holds (full-accepted ok) .spends budget .1 (omega (arith, at-below A))
 
-module _ {p : Problem} (ok : FullyLabelled p) {s : State} {k : ℕ} (A : At p s k) where
+-- a place to which a link has led is one at which a state stands
+abbrev pub reached-stands : {p : Problem} {x : List (ℕ → ℕ)} {s : State} {y : List (ℕ → ℕ)} → Reached p x s y → Stands p s
+reached-stands {p} {x} {s} {y} R = record { T = R .T; t = R .t; o = R .o; x = y; describes = R .describes; left = some x; came = R .came }
+
+module _ {p : Problem} (ok : FullyLabelled p) {s : State} (A : Stands p s) where
   -- the point whose label is to be read can be computed, and is a grid point
-  pub at-reads : CanCompute s s.active × (isGridPoint p.grid (pointIn p s s.active) ≡ true)
-  at-reads =
+  pub stands-reads : CanCompute s s.active × (isGridPoint p.grid (pointIn p s s.active) ≡ true)
+  stands-reads =
       let low = active-at-most p A.T A.t A.x s A.came in (
         ready-point ok A.describes s.active low,
         rw (point-is ok A.describes s.active low) (point-on ok A.describes.chain s.active low),
       )
-
-  -- "T and U are sets of at most 16 indices": bit h of each mask says whether index h is in the set of the path's place
-  on-path : placeAt (path p .visited) k ≡ pointsOf p A.x
-  on-path = sym (run-follows (full-accepted ok) A.places A.follows k (omega (arith, A .many)) .1) ∙ A .here
-
-  pub at-T : (h : ℕ) → h < 16 → bit s.T h ≡ isIn eqb h (setT p (placeAt (path p .visited) k))
-  at-T h l = rw on-path (A .describes .inT h l ∙ sym (ap (λ (t : ℕ → Bool). t h) (T-is ok.settled A.describes.chain)))
-
-  pub at-U : (h : ℕ) → h < 16 → bit s.U h ≡ isIn eqb h (setU p.grid (placeAt (path p .visited) k))
-  at-U h l = rw on-path (A .describes .inU h l ∙ sym (in-U ok.settled A.describes.chain h))
 
   abbrev D : Describes p A.T A.t A.o A.x s
   D = A .describes
@@ -319,12 +322,12 @@ module _ {p : Problem} (ok : FullyLabelled p) {s : State} {k : ℕ} (A : At p s 
   marked-position b i l n = own-position i l (b i l n)
 
   -- there is a mark for each point,
-  pub at-long : length s.marks ≡ suc (length s.order)
-  at-long = D .marksLength ∙ ap suc (sym D.orderLength)
+  pub stands-long : length s.marks ≡ suc (length s.order)
+  stands-long = D .marksLength ∙ ap suc (sym D.orderLength)
 
   -- and each point but the one that has come in has its position in its mark
-  pub at-marks : (i : ℕ) → i ≤ length s.order → (s .rule < 6 → i ≡ s .active → ⊥) → positionAt s i ≡ position p.grid (pointIn p s i)
-  at-marks i c ne = go A.left A.came
+  pub stands-marks : (i : ℕ) → i ≤ length s.order → (s .rule < 6 → i ≡ s .active → ⊥) → positionAt s i ≡ position p.grid (pointIn p s i)
+  stands-marks i c ne = go A.left A.came
     where
       low : i ≤ A .t
       low = omega (arith, D .orderLength)
@@ -334,8 +337,8 @@ module _ {p : Problem} (ok : FullyLabelled p) {s : State} {k : ℕ} (A : At p s 
       go _ (through n l e w q r b carry X C) = marked-position b i low (ne r)
       go _ (fromLarger l w r q b e X) = own-position i low (b i low)
 
-  pub at-exchanged : s .rule ≡ 1 → 0 < s .active → s .active < length s.order → Exchanged p.grid s
-  at-exchanged one more few =
+  pub stands-exchanged : s .rule ≡ 1 → 0 < s .active → s .active < length s.order → Exchanged p.grid s
+  stands-exchanged one more few =
       let low : s .active < A .t = omega (arith, D .orderLength) in
       let c = crossing A.came one more low in
       let z : suc (s .active - 1) ≡ s .active = omega arith in
@@ -361,9 +364,9 @@ module _ {p : Problem} (ok : FullyLabelled p) {s : State} {k : ℕ} (A : At p s 
       }
 
   -- in a grid of one block: the steps to and from the point whose label is to be read
-  pub at-beside : s .rule < 6 → numBlocks p.grid ≡ 1 → (tails : List ℕ) → ((k : ℕ) → k < numIndices p.grid → at tails k ≡ tailFrom p.grid p.start k)
+  pub stands-beside : s .rule < 6 → numBlocks p.grid ≡ 1 → (tails : List ℕ) → ((k : ℕ) → k < numIndices p.grid → at tails k ≡ tailFrom p.grid p.start k)
       → FallsBeside p.grid tails s
-  at-beside r one tails are = go A.left A.came
+  stands-beside r one tails are = go A.left A.came
     where
       go : (left : Option (List (ℕ → ℕ))) → Came p A.T A.t A.x s left → FallsBeside p.grid tails s
       go _ (begins e u q) = record {
@@ -387,32 +390,62 @@ module _ {p : Problem} (ok : FullyLabelled p) {s : State} {k : ℕ} (A : At p s 
           }
       go _ (fromLarger l w q m b e X) = absurd (omega arith)
 
-  here-place : (length (pointsOf p A.x) ≡ suc A.t) × (length (pointsOf p A.x) ≡ suc (length (order p.grid (pointsOf p A.x))))
-  here-place = (long ok.settled A.describes.chain, place-long ok.settled _ (place-of ok.settled A.describes.chain))
+module _ {p : Problem} (ok : FullyLabelled p) {s : State} {k : ℕ} (A : At p s k) where
+  pub at-reads : CanCompute s s.active × (isGridPoint p.grid (pointIn p s s.active) ≡ true)
+  at-reads = stands-reads ok A.stands
+
+  pub at-long : length s.marks ≡ suc (length s.order)
+  at-long = stands-long ok A.stands
+
+  pub at-marks : (i : ℕ) → i ≤ length s.order → (s .rule < 6 → i ≡ s .active → ⊥) → positionAt s i ≡ position p.grid (pointIn p s i)
+  at-marks = stands-marks ok A.stands
+
+  pub at-exchanged : s .rule ≡ 1 → 0 < s .active → s .active < length s.order → Exchanged p.grid s
+  at-exchanged = stands-exchanged ok A.stands
+
+  pub at-beside : s .rule < 6 → numBlocks p.grid ≡ 1 → (tails : List ℕ) → ((k : ℕ) → k < numIndices p.grid → at tails k ≡ tailFrom p.grid p.start k)
+      → FallsBeside p.grid tails s
+  at-beside = stands-beside ok A.stands
+
+  -- "T and U are sets of at most 16 indices": bit h of each mask says whether index h is in the set of the path's place
+  on-path : placeAt (path p .visited) k ≡ pointsOf p A.stands.x
+  on-path = sym (run-follows (full-accepted ok) A.places A.follows k (omega (arith, A .many)) .1) ∙ A .here
+
+  pub at-T : (h : ℕ) → h < 16 → bit s.T h ≡ isIn eqb h (setT p (placeAt (path p .visited) k))
+  at-T h l = rw on-path (A .stands .describes .inT h l ∙ sym (ap (λ (t : ℕ → Bool). t h) (T-is ok.settled A.stands.describes.chain)))
+
+  pub at-U : (h : ℕ) → h < 16 → bit s.U h ≡ isIn eqb h (setU p.grid (placeAt (path p .visited) k))
+  at-U h l = rw on-path (A .stands .describes .inU h l ∙ sym (in-U ok.settled A.stands.describes.chain h))
+
+  abbrev described : Describes p A.stands.T A.stands.t A.stands.o A.stands.x s
+  described = A .stands .describes
+
+  here-place : (length (pointsOf p A.stands.x) ≡ suc A.stands.t) × (length (pointsOf p A.stands.x) ≡ suc (length (order p.grid (pointsOf p A.stands.x))))
+  here-place = (long ok.settled A.stands.describes.chain, place-long ok.settled _ (place-of ok.settled A.stands.describes.chain))
 
   here-labelled : allLabelled p (placeAt A.places k) ≡ true
   here-labelled = full-place ok _ (A .follows .places k (omega (arith, A .many)))
 
-  move : Onward ok A.T A.t A.o A.x (read p s) A.left
-  move = onward ok A.T A.o A.x s A.t A.describes A.came (λ l q e.
-      not-start (full-accepted ok) A.follows k A.many (pointsOf p l) (left-of p A.left _ A.before l q)
-      (A .here ∙ single ok.settled _ (place-of ok.settled A.describes.chain) (here-place .0 ∙ ap suc e)))
+  move : Onward ok A.stands.T A.stands.t A.stands.o A.stands.x (read p s) A.stands.left
+  move = onward ok A.stands.T A.stands.o A.stands.x s A.stands.t A.stands.describes A.stands.came (λ l q e.
+      not-start (full-accepted ok) A.follows k A.many (pointsOf p l) (left-of p A.stands.left _ A.before l q)
+      (A .here ∙ single ok.settled _ (place-of ok.settled A.stands.describes.chain) (here-place .0 ∙ ap suc e)))
 
   -- the path's place is that of the state
   pub at-place : placeAt (path p .visited) k ≡ pointsFrom p s 0
   at-place =
-      sym (run-follows (full-accepted ok) A.places A.follows k (omega (arith, A .many)) .1) ∙ A .here ∙ sym (all-points ok D)
+      sym (run-follows (full-accepted ok) A.places A.follows k (omega (arith, A .many)) .1) ∙ A .here ∙ sym (all-points ok described)
 
   -- its points but the one that has come in are points of the path's place before
   pub at-others : (j : ℕ) → j ≤ length s.order → (s .rule < 6 → j ≡ s .active → ⊥)
       → (h : ℕ) × (suc h ≡ k) × (isIn samePoint (pointIn p s j) (placeAt (path p .visited) h) ≡ true)
-  at-others j c ne = go k refl (left-of p A.left _ A.before w.0 w.1)
+  at-others j c ne = go k refl (left-of p A.stands.left _ A.before w.0 w.1)
     where
-      low : j ≤ A .t
-      low = omega (arith, D .orderLength)
+      low : j ≤ A .stands .t
+      low = omega (arith, described .orderLength)
 
-      w : (l : List (ℕ → ℕ)) × (A .left ≡ some l) × (g : ℕ) × (g < length l) × (listAt l g ≡ listAt A.x j)
-      w = others p A.T A.t A.x s A.came j low ne
+      w : (l : List (ℕ → ℕ)) × (A .stands .left ≡ some l) × (g : ℕ) × (g < length l) × (listAt l g ≡ listAt A.stands.x j)
+      w = others p A.stands.T A.stands.t A.stands.x s A.stands.came j low ne
 
       go : (i : ℕ) → k ≡ i → leftAt A.places i ≡ some (pointsOf p w.0)
           → (h : ℕ) × (suc h ≡ k) × (isIn samePoint (pointIn p s j) (placeAt (path p .visited) h) ≡ true)
@@ -420,7 +453,7 @@ module _ {p : Problem} (ok : FullyLabelled p) {s : State} {k : ℕ} (A : At p s 
       go (suc h) q e =
           let z : placeAt A.places h ≡ pointsOf p w.0 = cc in
           let f = run-follows (full-accepted ok) A.places A.follows h (omega (arith, A .many)) .1 in
-          let y : pointIn p s j ≡ nth (pointsOf p w.0) w.2 = point-is ok D j low ∙ nth-pointsOf p A.x j (omega (arith, D .chain .size))
+          let y : pointIn p s j ≡ nth (pointsOf p w.0) w.2 = point-is ok described j low ∙ nth-pointsOf p A.stands.x j (omega (arith, described .chain .size))
           ∙ ap (pointOf p) (sym w.4) ∙ sym (nth-pointsOf p w.0 w.2 w.3) in
           (h, sym q, rw (← f, z, y) (at-in onPoints [] (pointsOf p w.0) w.2 (omega (arith, w .3, length-map w.0 (pointOf p)))))
 
@@ -428,30 +461,24 @@ module _ {p : Problem} (ok : FullyLabelled p) {s : State} {k : ℕ} (A : At p s 
   pub at-ready : Ready (read p s)
   at-ready = move .ready
 
-  onto : {e : State} {y : List (ℕ → ℕ)} → (A .left ≡ some y → ⊥) → Reached p A.x e y → At p e (suc k)
+  onto : {e : State} {y : List (ℕ → ℕ)} → (A .stands .left ≡ some y → ⊥) → Reached p A.stands.x e y → At p e (suc k)
   onto {e} {y} new R =
-      let C = A .describes .chain in
+      let C = A .stands .describes .chain in
       let back = back-again ok.settled C in
       let L = of-link ok.settled _ (place-of ok.settled C) (rw (← back) at R.link) in
       let joined : linked p (placeAt A.places k) (pointsOf p y) ≡ true = rw A.here L.1 in
       record {
         places = A .places ++ (pointsOf p y ∷ []);
         many = length-append A.places (pointsOf p y ∷ []) ∙ omega (arith, A .many);
-        follows = goes-on (full-accepted ok) A.follows k A.many here-labelled (pointsOf p y) L.0 joined (λ q. new (left-determines p A.left _ A.before y L.2 q));
-        T = R .T;
-        t = R .t;
-        o = R .o;
-        x = y;
-        describes = R .describes;
+        follows = goes-on (full-accepted ok) A.follows k A.many here-labelled (pointsOf p y) L.0 joined (λ q. new (left-determines p A.stands.left _ A.before y L.2 q));
+        stands = reached-stands R;
         here = getD-at A.places (pointsOf p y) [] [] (suc k) A.many;
-        left = some A.x;
-        came = R .came;
         before = (ap (λ (z : Simplex). some z) (List·getD-append A.places (pointsOf p y ∷ []) [] k (omega (arith, A .many)) ∙ A .here), back);
       }
 
   -- at an end, that is the path's
-  ends-at : (kind : Kind) (from : ℕ) (points : Simplex) (h : ℕ) → from ≤ A .t → pointsFrom p (read p s) from ≡ points
-      → (h < numIndices p.grid) × IsWay p (pointsOf p A.x) (stop (record { kind = kind; block = blockOf p.grid h; simplex = points }))
+  ends-at : (kind : Kind) (from : ℕ) (points : Simplex) (h : ℕ) → from ≤ A .stands .t → pointsFrom p (read p s) from ≡ points
+      → (h < numIndices p.grid) × IsWay p (pointsOf p A.stands.x) (stop (record { kind = kind; block = blockOf p.grid h; simplex = points }))
       → EndsAt p kind from (read p s) h k
   ends-at kind from points h b c w =
       let D = move .describes in
@@ -459,7 +486,7 @@ module _ {p : Problem} (ok : FullyLabelled p) {s : State} {k : ℕ} (A : At p s 
       record {
         firstLength = D .firstLength;
         index = w .0;
-        few = omega (arith, D .orderLength, here-place .0, here-place .1, order-short p _ (place-of ok.settled A.describes.chain));
+        few = omega (arith, D .orderLength, here-place .0, here-place .1, order-short p _ (place-of ok.settled A.stands.describes.chain));
         low = omega (arith, D .orderLength);
         points = ready-point ok D _ (omega (arith, D .orderLength));
         end = rw c r.0;
@@ -469,9 +496,9 @@ module _ {p : Problem} (ok : FullyLabelled p) {s : State} {k : ℕ} (A : At p s 
   pub at-next : NextAt p k (step (read p s))
   at-next = go move.outcome
     where
-      go : {e : After} → Outcome p A.T A.t A.x A.left (read p s) e → NextAt p k e
-      go (atPlaceEnd h c) = placeEnds (ends-at placeEnd 0 _ h (omega arith) (all-points ok move.describes) (place-way ok A.describes.chain h c))
-      go (atFacetEnd h n z c) = facetEnds (ends-at facetEnd 1 _ h (omega arith) (later-points ok move.describes) (facet-way ok A.describes.chain h z c))
+      go : {e : After} → Outcome p A.stands.T A.stands.t A.stands.x A.stands.left (read p s) e → NextAt p k e
+      go (atPlaceEnd h c) = placeEnds (ends-at placeEnd 0 _ h (omega arith) (all-points ok move.describes) (place-way ok A.stands.describes.chain h c))
+      go (atFacetEnd h n z c) = facetEnds (ends-at facetEnd 1 _ h (omega arith) (later-points ok move.describes) (facet-way ok A.stands.describes.chain h z c))
       go (goesOn y new R) = nextPlace (onto new R)
 
 -- request 10: at a place behind the first a point has come in exactly where a mark is to be read

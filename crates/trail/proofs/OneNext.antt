@@ -44,7 +44,7 @@ use Rattle.trail.specs.Change.{outside}
 use Rattle.trail.specs.Trail.{isMove}
 
 -- what goes through facet i of a chain has not its point i
-not-there : {R : Blocks} {T : ℕ → Bool} {s : ℕ} (a : List (ℕ → ℕ)) {o : ℕ → ℕ} → Chain R T (suc s) (listAt a) o → {i : ℕ} → i ≤ suc s → (x : List (ℕ → ℕ))
+pub not-there : {R : Blocks} {T : ℕ → Bool} {s : ℕ} (a : List (ℕ → ℕ)) {o : ℕ → ℕ} → Chain R T (suc s) (listAt a) o → {i : ℕ} → i ≤ suc s → (x : List (ℕ → ℕ))
     → Through R T s a i x → (f : ℕ) → f < length x → listAt x f ≡ listAt a i → ⊥
 not-there {s} a K {i} l x W f fl e =
     ⊎-elim

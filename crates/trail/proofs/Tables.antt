@@ -1,6 +1,6 @@
 -- A label table that gives the points of a set the labels of a list. So an unlabelled place is a place over some table, with all of T carried by its
 -- points but one, and any index as that one's label. Assumes nothing.
-use mathlib.Core.Bool.{true, false, cond}
+use mathlib.Core.Bool.{true, false, _&&_, cond}
 use mathlib.Core.List.{List, [], _∷_, map}
 use mathlib.Core.Logic.{_⊎_, inl, inr, ⊎-elim}
 use mathlib.Core.Path.{_≡_, refl, sym, ap, _∙_}
@@ -19,6 +19,7 @@ use Rattle.geometry.proofs.Points.{nth}
 use Rattle.grid.proofs.Round.{block-fits}
 use Rattle.grid.proofs.Points.{onPoints, point-sound, point-self, in-points, position-in}
 use Rattle.grid.specs.Grid.{Grid, Point, at, numIndices, isGridPoint, samePoint, points, position}
+use Rattle.place.proofs.Filled.{FullyLabelled}
 use Rattle.place.proofs.Meaning.{T-means, labels-mean}
 use Rattle.place.proofs.Positions.{at-in, in-at, occurs-in, order-long}
 use Rattle.place.proofs.ToChain.{size-positive}
@@ -109,6 +110,17 @@ module _ {p : Problem} (ok : Settled p) (s : Simplex) (on : all (isGridPoint p.g
         rw w.2 (le-leb _ _ (given-in w.0 .1)));
   }
 
+  pub table-full : FullyLabelled (withLabels p (table p.grid s ls))
+  unfolding table
+  table-full = record {
+    settled = settled-with ok (map (given s ls) (points p.grid));
+    tableLength = length-map (points p.grid) (given s ls);
+    labels = in-all onNumbers (λ l. leb 1 l && leb l (numIndices p.grid)) (map (given s ls) (points p.grid)) (λ l m.
+        let w = map-in onPoints onNumbers (given s ls) l (points p.grid) m in
+        let v = given-in w.0 in
+        rw w.2 (and-both _ _ (le-leb 1 (given s ls w.0) v.0) (le-leb (given s ls w.0) (numIndices p.grid) v.1)));
+  }
+
   pub table-labelled : (r : Simplex) → all (isGridPoint p.grid) r ≡ true → allLabelled (withLabels p (table p.grid s ls)) r ≡ true
   table-labelled r h = in-all onPoints (hasLabel (withLabels p (table p.grid s ls))) r (λ y m.
       let e = label-given y (all-in onPoints (isGridPoint p.grid) r h y m) in
@@ -143,6 +155,7 @@ in-order p s h k m =
 -- A table over which s is a place, its points but point i carry T, and point i has label x: over it point i may leave, and x, if not in T, joins.
 pub record Labelled (p : Problem) (s : Simplex) (i x : ℕ) (labels : List ℕ) : Type 0 where
   pub accepted : Accepted (withLabels p labels)
+  pub full : FullyLabelled (withLabels p labels)
   pub known : (r : Simplex) → all (isGridPoint p.grid) r ≡ true → allLabelled (withLabels p labels) r ≡ true
   pub place : isPlace (withLabels p labels) s ≡ true
   pub inOrder : map (label (withLabels p labels)) s ≡ insertAt i (suc x) (map suc (order p.grid s))
@@ -237,6 +250,7 @@ module _ {p : Problem} (ok : Settled p) (s : Simplex) (h : isUnlabelledPlace p s
     table p.grid s ls,
     record {
       accepted = table-accepted ok s on d ls ls-long names;
+      full = table-full ok s on d ls ls-long names;
       known = table-labelled ok s on d ls ls-long names;
       place = and-both _ _ (place-alike p (table p.grid s ls) s ∙ h) (in-all onNumbers (λ k. isIn eqb k (labelSet q s)) (setT q s) (λ k m.
           let t = T-alike p (table p.grid s ls) s in
