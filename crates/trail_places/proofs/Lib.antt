@@ -1,0 +1,4 @@
+pub mod Shows
+pub mod Stripped
+pub mod Reached
+pub mod Moves
