@@ -1,3 +1,4 @@
 pub mod Differences
 pub mod Told
 pub mod Kept
+pub mod Begins

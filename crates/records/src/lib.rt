@@ -2,8 +2,9 @@
 // that come in and go out. What is public here is for the writer and the reader of a trail, which show what it asks.
 ghost use mathlib.Core.Path.{_≡_};
 ghost use Prim.Native.Nat.{suc, _+_, _/_, _%_, _≤_, _<_};
-ghost use lib.ListN.{length};
+ghost use lib.ListN.{drop, length, take};
 ghost use lib.Seq.{paste};
+ghost use Rattle.trail.specs.Trail.{begins};
 ghost use Rattle.records.specs.Records.{differing, exchangedRecord, joinedRecord, leftRecord, recordFrom};
 ghost use Rattle.records.specs.Records.{firstRecord, IsRecord};
 use moves::has;
@@ -168,4 +169,25 @@ pub fn put(trail: &mut [u8], at: usize, made: Record)
         trail[at + k] = x;
         k += 1;
     }
+}
+
+// The bytes of the trail from a position on begin with the record's.
+pub fn stands(trail: &[u8], at: usize, made: Record) -> bool
+    requires { ⌜ (at ≤ length (now trail)) × (made .length ≤ 8) × (length (made .bytes) ≡ 8) ⌝ }
+    ensures { λ r. ⌜ r ≡ begins (take (made .length) (made .bytes)) (drop at (now (trail .entry))) ⌝ }
+{
+    let bytes = made.bytes;
+    let n = made.length;
+    if trail.len() - at < n {
+        return false;
+    }
+    let mut k: usize = 0;
+    while k < n {
+        let x = bytes[k];
+        if trail[at + k] != x {
+            return false;
+        }
+        k += 1;
+    }
+    true
 }

@@ -1,0 +1,35 @@
+-- `answers::placed` meets its contract. Assumes nothing.
+use mathlib.Core.Path.{refl, _∙_}
+use borrow.Author.Needs.{needs}
+use native.Mathlib.Omega.{arith}
+use Rattle.trail_reader.proofs.Rebuilt.{minus-none}
+use Rattle.trail_reader.proofs.answers.placed.Statement.{statement}
+use Rattle.trail_reader.proofs.answers.placed.Tie as tie
+
+slice-aggregate-put-points : tie.Need-slice-aggregate-put-points
+slice-aggregate-put-points c = search needs
+
+put-points-requires : tie.Need-put-points-requires
+put-points-requires c κs = c .before .pre
+
+mask-requires : tie.Need-mask-requires
+mask-requires c κs = search needs
+
+mask-requires-2 : tie.Need-mask-requires-2
+mask-requires-2 c κs = search needs
+
+returns : tie.Need-returns
+returns c =
+    let t = c .before .mask .ensures in
+    let u = c .mask2 .ensures in
+    record {
+      answer = rw (c .before .before .before .put-points .ensures .0, t .0, u .0, minus-none);
+      lowT = omega (arith, t .0, t .1);
+      lowU = omega (arith, u .0, u .1);
+      points = c .before .before .before .put-points .ensures .1;
+    }
+
+pub placed-spec : {M : Type 1} → statement M
+placed-spec =
+    tie.close
+    (tie.spec slice-aggregate-put-points put-points-requires mask-requires mask-requires-2 returns)

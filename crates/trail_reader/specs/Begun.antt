@@ -1,0 +1,43 @@
+-- What the reading behind questions 1 to 5 asks and gives. The reader's own promise does not cite it. Assumes nothing.
+use mathlib.Core.List.{List}
+use mathlib.Core.Path.{_≡_}
+use Prim.Native.Nat.{ℕ, suc, _<_}
+use lib.ListN.{length, replicate, take}
+use Rattle.combinatorics.specs.Front.{front}
+use Rattle.grid.specs.Made.{IsMade, shape}
+use Rattle.grid.specs.declared.Grid.{Grid as GridStruct}
+use Rattle.marks.specs.Reading.{Measured}
+use Rattle.moves.specs.declared.Status.{Status}
+use Rattle.place.specs.Demand.{Settled}
+use Rattle.rules.specs.Read.{numbersFrom}
+use Rattle.rules.specs.Ready.{IsRound, RoundBelow}
+use Rattle.rules.specs.Step.{Round, State}
+use Rattle.trail.specs.Trail.{reading}
+use Rattle.trail_steps.specs.Ways.{problemBy}
+use Rattle.trail_reader.specs.Reading.{caseOf, numbersOf}
+use Rattle.trail_reader.specs.declared.answers.Answer.the-variants.{Place}
+use Rattle.trail_reader.specs.declared.answers.Reading.{Reading}
+
+pub record CanRead (g : GridStruct) (start : List ℕ) : Type 0 where
+  pub made : IsMade g
+  pub settled : Settled (problemBy g start)
+
+-- what the reading asks with the start in an array
+pub record CanRebuild (g : GridStruct) (round : Round) (binomials first : List ℕ) : Type 0 where
+  pub measured : Measured g binomials
+  pub isRound : IsRound (shape g) round
+  pub below : RoundBelow round
+  pub firstLength : length first ≡ 16
+  pub settled : Settled (problemBy g (take (g .indices) first))
+
+-- the place that a state holds, with masks of 16 bits
+pub record IsPlace (a : State) (m : ℕ) (s : Status) (r : Reading) : Type 0 where
+  pub answer : r .answer ≡ Place (suc (length (a .order))) (s .t) (s .u)
+  pub lowT : s .t < 65536
+  pub lowU : s .u < 65536
+  pub points : r .points ≡ front (numbersFrom m a 0) (replicate 256 0)
+
+-- the answer, and the points
+pub record Reads (g : GridStruct) (start trail : List ℕ) (number : ℕ) (r : Reading) : Type 0 where
+  pub answer : r .answer ≡ caseOf (reading (problemBy g start) trail number)
+  pub points : r .points ≡ front (numbersOf (reading (problemBy g start) trail number)) (replicate 256 0)

@@ -1,0 +1,184 @@
+// The reader of a trail: the customer's call.
+ghost use mathlib.Core.List.{[]};
+ghost use mathlib.Core.Path.{_≡_};
+ghost use Prim.Native.Nat.{_<_};
+ghost use lib.ListN.{length, replicate, take};
+ghost use Rattle.moves.specs.Held.{CanPut, round, roundBack, stateOf};
+ghost use Rattle.place.specs.Problem.{problemOf};
+ghost use Rattle.rules.specs.Step.{Round, State};
+ghost use Rattle.trail_reader.specs.Begun.{CanRead, CanRebuild, IsPlace, Reads};
+ghost use Rattle.trail_reader.specs.Reading.{readAnswer, readPoints};
+use crate::following::Reached;
+use crate::following::follow;
+use finder::begin;
+use grid::Grid;
+use marks::position_in;
+use moves::Status;
+use moves::block_sizes;
+use moves::padded;
+use moves::put_points;
+use positions::ENTRIES;
+use records::first_record;
+use records::stands;
+
+// What the reader answers: the number of the first of questions 1 to 5 and 17 that is answered no; or how many points the
+// place has, and T and U as masks, bit h for index h + 1.
+pub enum Answer {
+    Refused(u8),
+    Place { points: usize, t: u16, u: u16 },
+}
+
+// The answer, and the points of the place in rising coefficient sum, m numbers each, at the front of 256 numbers, 0 behind.
+pub struct Reading {
+    pub answer: Answer,
+    pub points: [u16; 256],
+}
+
+fn refused(number: u8) -> Reading
+    ensures { λ r. ⌜ (r .answer ≡ Answer.Refused number) × (r .points ≡ replicate 256 0) ⌝ }
+{
+    Reading {
+        answer: Answer::Refused(number),
+        points: [0u16; 256],
+    }
+}
+
+// A mask of T or U, of which the prover then knows that it has 16 bits.
+fn mask(x: u16) -> u16
+    ensures { λ r. ⌜ (r ≡ x) × (r < 65536) ⌝ }
+{
+    x
+}
+
+// The place that the arrays hold.
+fn placed(
+    previous: &[u8; 16],
+    sizes: &[u8; 16],
+    first: &[u16; 16],
+    order: &[u32; 16],
+    s: Status,
+    m: usize,
+) -> Reading
+    ghost { State }
+    requires { λ a. ⌜ stateOf (roundBack previous sizes) (now first) [] (now order) [] s ≡ a ⌝ }
+    requires { λ a. ⌜ CanPut a m 0 256 × (length (a .order) ≡ s .count) ⌝ }
+    ensures { λ a r. ⌜ IsPlace a m s r ⌝ }
+{
+    let mut points = [0u16; 256];
+    let count = put_points(&mut points, previous, sizes, first, order, s, m, 0);
+    let answer = Answer::Place {
+        points: count,
+        t: mask(s.t),
+        u: mask(s.u),
+    };
+    Reading { answer, points }
+}
+
+// The place at a record, the start being the first point that is lent.
+fn rebuilt(
+    g: Grid,
+    binomials: &[u16; ENTRIES],
+    previous: &[u8; 16],
+    next: &[u8; 16],
+    sizes: &[u8; 16],
+    first: &mut [u16; 16],
+    trail: &[u8],
+    number: u64,
+) -> Reading
+    ghost { Round }
+    requires { λ w. ⌜ round previous next sizes ≡ w ⌝ }
+    requires { λ w. ⌜ CanRebuild g w (now binomials) (now first) ⌝ }
+    requires { λ _. ⌜ 0 < number ⌝ }
+    ensures { λ _ r. ⌜ Reads g (take (g .indices) (now (first .entry))) (now (trail .entry)) number r ⌝ }
+{
+    let m = g.indices;
+    let mut coefficients = [0u16; 16];
+    let mut order = [0u32; 16];
+    let mut marks = [0u32; 16];
+    let s = begin(first, m);
+    let tails = positions::tails(first, m);
+    let position = position_in(
+        g,
+        binomials,
+        &tails,
+        previous,
+        sizes,
+        first,
+        &coefficients,
+        &order,
+        &marks,
+        s,
+    );
+    if !stands(trail, 0, first_record(position)) {
+        return refused(17);
+    }
+    marks[0] = position as u32 * 256;
+    let reached = follow(
+        g,
+        binomials,
+        &tails,
+        previous,
+        next,
+        sizes,
+        first,
+        &mut coefficients,
+        &mut order,
+        &mut marks,
+        s,
+        trail,
+        3,
+        number - 1,
+    );
+    match reached {
+        Reached::At(status) => placed(previous, sizes, first, &order, status, m),
+        Reached::Nowhere => refused(17),
+    }
+}
+
+// The reading behind questions 1 to 5.
+fn read_on(g: Grid, start: &[u16], trail: &[u8], number: u64) -> Reading
+    requires { ⌜ CanRead g (now start) ⌝ }
+    ensures { λ r. ⌜ Reads g (now (start .entry)) (now (trail .entry)) number r ⌝ }
+{
+    if number == 0 {
+        return refused(17);
+    }
+    let previous = g.previous;
+    let next = g.next;
+    let sizes = block_sizes(g);
+    let mut binomials = [0u16; ENTRIES];
+    positions::binomials(g, &mut binomials);
+    let mut first = padded(start, g.indices);
+    rebuilt(
+        g,
+        &binomials,
+        &previous,
+        &next,
+        &sizes,
+        &mut first,
+        trail,
+        number,
+    )
+}
+
+// Questions 1 to 5, then 17, on every input: the place at a record of the trail, the records counted from 1. Only the
+// records up to that one are looked at.
+pub fn read(sizes: &[u8], divisions: &[u16], start: &[u16], trail: &[u8], number: u64) -> Reading
+    ensures answer { λ r. ⌜ r .answer ≡ readAnswer
+        (problemOf (now (sizes .entry)) (now (divisions .entry)) (now (start .entry)) [])
+        (now (trail .entry)) number ⌝ }
+    ensures points { λ r. ⌜ r .points ≡ readPoints
+        (problemOf (now (sizes .entry)) (now (divisions .entry)) (now (start .entry)) [])
+        (now (trail .entry)) number ⌝ }
+{
+    let made = Grid::new(sizes, divisions);
+    let code = made.code;
+    let g = made.grid;
+    if code != 0 {
+        return refused(code);
+    }
+    if !g.is_grid_point(start) {
+        return refused(5);
+    }
+    read_on(g, start, trail, number)
+}

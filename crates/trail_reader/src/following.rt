@@ -1,0 +1,75 @@
+// The records of a trail behind the first, one after another. Only this crate calls these functions.
+ghost use mathlib.Core.Path.{_≡_};
+ghost use lib.ListN.{length};
+ghost use Rattle.moves.specs.Held.{held, round, stateOf};
+ghost use Rattle.rules.specs.Step.{State};
+ghost use Rattle.trail_steps.specs.Ways.{CanGoOn};
+ghost use Rattle.trail_reader.specs.Reached.{ReachesFrom};
+use grid::Grid;
+use moves::Status;
+use positions::ENTRIES;
+use trail_steps::Next;
+use trail_steps::next_place;
+
+// Where the records lead: to a place, or nowhere.
+pub enum Reached {
+    At(Status),
+    Nowhere,
+}
+
+// The place to which the next records lead from the place in the arrays. The number of records left counts down.
+pub fn follow(
+    g: Grid,
+    binomials: &[u16; ENTRIES],
+    tails: &[u32; 16],
+    previous: &[u8; 16],
+    next: &[u8; 16],
+    sizes: &[u8; 16],
+    first: &mut [u16; 16],
+    coefficients: &mut [u16; 16],
+    order: &mut [u32; 16],
+    marks: &mut [u32; 16],
+    begun: Status,
+    trail: &[u8],
+    from: usize,
+    number: u64,
+) -> Reached
+    ghost { State }
+    requires { λ a. ⌜ held (round previous next sizes) first coefficients order marks begun ≡ a ⌝ }
+    requires { λ a. ⌜ CanGoOn g (now binomials) (now tails) (now order) (now marks) a (begun .count)
+        (length (now trail)) from ⌝ }
+    ensures { λ a r. ⌜ ReachesFrom g (now (tails .entry)) (now (trail .entry)) from a number (now (order .exit))
+        (stateOf (a .round) (now (first .exit)) (now (coefficients .exit)) (now (order .exit)) (now (marks .exit))) r ⌝ }
+{
+    let mut s = begun;
+    let mut at = from;
+    let mut left = number;
+    while 0 < left {
+        let step = next_place(
+            g,
+            binomials,
+            tails,
+            previous,
+            next,
+            sizes,
+            first,
+            coefficients,
+            order,
+            marks,
+            s,
+            trail,
+            at,
+        );
+        match step {
+            Next::At { status, bytes } => {
+                s = status;
+                at += bytes;
+            }
+            Next::Nowhere => {
+                return Reached::Nowhere;
+            }
+        }
+        left -= 1;
+    }
+    Reached::At(s)
+}
