@@ -8,8 +8,6 @@ ghost use Rattle.place.specs.Problem.{problemOf};
 ghost use Rattle.rules.specs.Step.{Round, State};
 ghost use Rattle.trail_reader.specs.Begun.{CanRead, CanRebuild, IsPlace, Reads};
 ghost use Rattle.trail_reader.specs.Reading.{readAnswer, readPoints};
-use crate::following::Reached;
-use crate::following::follow;
 use finder::begin;
 use grid::Grid;
 use marks::position_in;
@@ -20,6 +18,8 @@ use moves::put_points;
 use positions::ENTRIES;
 use records::first_record;
 use records::stands;
+use trail_following::Reached;
+use trail_following::follow;
 
 // What the reader answers: the number of the first of questions 1 to 5 and 17 that is answered no; or how many points the
 // place has, and T and U as masks, bit h for index h + 1.

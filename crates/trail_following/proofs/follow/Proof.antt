@@ -1,4 +1,4 @@
--- `following::follow` meets its contract. The loop's invariant: the arrays hold a place, from which the records that are left lead where all lead from
+-- `trail_following::follow` meets its contract. The loop's invariant: the arrays hold a place, from which the records that are left lead where all lead from
 -- the first. The measure: the records left. Assumes nothing.
 use mathlib.Core.List.{List}
 use mathlib.Core.Path.{_≡_, refl, sym, ap, _∙_}
@@ -11,8 +11,8 @@ use Rattle.place.specs.Places.{Simplex}
 use Rattle.rules.specs.Ready.{SixteenEach}
 use Rattle.trail.specs.Trail.{rebuiltFrom}
 use Rattle.trail_steps.specs.Ways.{HasRead, problemBy}
-use Rattle.trail_reader.proofs.following.follow.Statement.{statement}
-use Rattle.trail_reader.proofs.following.follow.Tie as tie
+use Rattle.trail_following.proofs.follow.Statement.{statement}
+use Rattle.trail_following.proofs.follow.Tie as tie
 
 abbrev Inv-loop : tie.InvT-loop
 Inv-loop g binomials tails previous next sizes first₀ coefficients₀ order₀ marks₀ trail from number s₀ at₀ left₀ first coefficients order marks s at left =

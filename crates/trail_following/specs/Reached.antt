@@ -11,8 +11,8 @@ use Rattle.rules.specs.Step.{State}
 use Rattle.trail.specs.Trail.{rebuiltFrom}
 use Rattle.trail_places.specs.Shows.{Shows}
 use Rattle.trail_steps.specs.Ways.{HasRead, problemBy}
-use Rattle.trail_reader.specs.declared.following.Reached.{Reached}
-use Rattle.trail_reader.specs.declared.following.Reached.the-variants.{At, Nowhere}
+use Rattle.trail_following.specs.declared.Reached.{Reached}
+use Rattle.trail_following.specs.declared.Reached.the-variants.{At, Nowhere}
 
 -- the place that the records lead to, in a state
 pub record Rebuilds (g : GridStruct) (start bytes : List ℕ) (a : Simplex) (number : ℕ) (order : List ℕ) (s : State) (count : ℕ) : Type 0 where

@@ -1,10 +1,10 @@
-// The records of a trail behind the first, one after another. Only this crate calls these functions.
+// The records of a trail behind the first, one after another. What is public here is for the reader, which shows what it asks.
 ghost use mathlib.Core.Path.{_≡_};
 ghost use lib.ListN.{length};
 ghost use Rattle.moves.specs.Held.{held, round, stateOf};
 ghost use Rattle.rules.specs.Step.{State};
 ghost use Rattle.trail_steps.specs.Ways.{CanGoOn};
-ghost use Rattle.trail_reader.specs.Reached.{ReachesFrom};
+ghost use Rattle.trail_following.specs.Reached.{ReachesFrom};
 use grid::Grid;
 use moves::Status;
 use positions::ENTRIES;
