@@ -10,6 +10,8 @@ import pathlib
 import re
 import zlib
 
+import walks
+
 HERE = pathlib.Path(__file__).resolve().parent
 CRATES = HERE.parent.parent / "crates"
 
@@ -204,3 +206,4 @@ write("boundary_cases", "table", [boundary_case(*case) for case in called("bound
 write("near_cases", "call", [near_case(*case) for case in called("near")])
 write("refine_cases", "refinement", [refine_case(*case) for case in called("refine")])
 write("shelf_cases", "case", [shelf_case(*case) for case in called("shelf")])
+walks.write()

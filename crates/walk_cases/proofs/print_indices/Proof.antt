@@ -1,0 +1,61 @@
+-- `print_indices` is safe and ends. Assumes nothing.
+use mathlib.Core.Path.{_≡_, refl, sym}
+use Prim.Native.Nat.{_≤_, _-_}
+use lib.ListN.{length}
+use native.Mathlib.Omega.{arith}
+use borrow.Author.Needs.{needs}
+use Rattle.walk_cases.proofs.print_indices.Statement.{statement}
+use Rattle.walk_cases.proofs.print_indices.Tie as tie
+
+abbrev Inv-loop : tie.InvT-loop
+Inv-loop list i₀ t3 i = i ≤ length list
+
+abbrev μ-loop : tie.MeasureT-loop
+μ-loop list i₀ t3 i = length list - i
+
+loop-holds : tie.Need-loop-holds Inv-loop μ-loop
+loop-holds c = search needs
+
+mul-print-index : tie.Need-mul-print-index Inv-loop μ-loop
+mul-print-index c = search needs
+
+shared-slice-read-print-index : tie.Need-shared-slice-read-print-index Inv-loop μ-loop
+shared-slice-read-print-index c = omega arith
+
+print-index-requires : tie.Need-print-index-requires Inv-loop μ-loop
+print-index-requires c κs = search needs
+
+add-i : tie.Need-add-i Inv-loop μ-loop
+add-i c = omega arith
+
+loop-less : tie.Need-loop-less Inv-loop μ-loop
+loop-less c = omega arith
+
+loop-again : tie.Need-loop-again Inv-loop μ-loop
+loop-again c = search needs
+
+slice-aggregate-write-all : tie.Need-slice-aggregate-write-all Inv-loop μ-loop
+slice-aggregate-write-all c = search needs
+
+write-all-requires : tie.Need-write-all-requires Inv-loop μ-loop
+write-all-requires c κs = search needs
+
+returns : tie.Need-returns Inv-loop μ-loop
+returns c = search needs
+
+pub print-indices-spec : {M : Type 1} → statement M
+print-indices-spec =
+    tie.close
+    (tie.spec
+    Inv-loop
+    μ-loop
+    loop-holds
+    mul-print-index
+    shared-slice-read-print-index
+    print-index-requires
+    add-i
+    loop-less
+    loop-again
+    slice-aggregate-write-all
+    write-all-requires
+    returns)
