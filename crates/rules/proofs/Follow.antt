@@ -504,12 +504,12 @@ module _ {p : Problem} (ok : FullyLabelled p) {s : State} {k : ℕ} (A : At p s 
 -- request 10: at a place behind the first a point has come in exactly where a mark is to be read
 pub at-new : {p : Problem} → FullyLabelled p → {s : State} {k : ℕ} → At p s (suc k)
     → pointCameIn (placeAt (path p .visited) k) (placeAt (path p .visited) (suc k)) ≡ ltb (s .rule) 6
-at-new {p} ok {s} {k} A = go A.left refl A.before
+at-new {p} ok {s} {k} A = go A.stands.left refl A.before
   where
     here : (i : ℕ) → i ≤ suc k → placeAt A.places i ≡ placeAt (path p .visited) i
     here i l = run-follows (full-accepted ok) A.places A.follows i (omega (arith, A .many)) .1
 
-    go : (left : Option (List (ℕ → ℕ))) → A .left ≡ left → LeftIs p left (some (placeAt A.places k))
+    go : (left : Option (List (ℕ → ℕ))) → A .stands .left ≡ left → LeftIs p left (some (placeAt A.places k))
         → pointCameIn (placeAt (path p .visited) k) (placeAt (path p .visited) (suc k)) ≡ ltb (s .rule) 6
     go none e b = absurd-bool (cc)
     go (some l) e b =
@@ -519,6 +519,6 @@ at-new {p} ok {s} {k} A = go A.left refl A.before
         let place = A .follows .places (suc k) (omega (arith, A .many)) in
         let left-is : a ≡ pointsOf p l = cc in
         let x : length a ≡ length l = ap length left-is ∙ length-map l (pointOf p) in
-        let y : length c ≡ length A.x = ap length (A .here) ∙ length-map A.x (pointOf p) in
+        let y : length c ≡ length A.stands.x = ap length (A .here) ∙ length-map A.stands.x (pointOf p) in
         rw (sym (here k (omega arith)), sym (here (suc k) (omega arith)))
-        (link-brings p a c place linkage ∙ rw (x, y) (no-fewer ok A A.came l e))
+        (link-brings p a c place linkage ∙ rw (x, y) (no-fewer ok (A .stands) A.stands.came l e))
