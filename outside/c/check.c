@@ -63,6 +63,33 @@ static void check_nearest(void)
     expect("the vertex of the end", answer[0] == 4 && answer[1] == 0 && answer[2] == 77);
 }
 
+static void check_trail(void)
+{
+    /* Document 01's sheet, whose path has five places. */
+    const uint8_t sizes[] = {2, 2}, table[] = {2, 2, 2, 4};
+    const uint16_t divisions[] = {1, 1}, start[] = {1, 0, 1, 0};
+    const uint8_t records[] = {1, 3, 0, 101, 2, 0, 4, 4, 5, 101, 0, 0, 2, 2, 5, 67, 1, 0, 2, 0, 1, 90, 0, 0, 4, 4, 6, 77};
+    const uint16_t expected[] = {1, 0, 1, 0, 0, 1, 1, 0};
+    uint8_t trail[28], number;
+    uint16_t answer[12], points[LEVERETPLATE_POINTS];
+    uint64_t facts[LEVERETPLATE_FACTS] = {5, 6, 7, 8}, bytes = 77, place[LEVERETPLATE_PLACE] = {5, 6, 7};
+    memset(trail, 77, sizeof trail);
+    memset(answer, 77, sizeof answer);
+    memset(points, 77, sizeof points);
+    number = leveretplate_run_with_trail(sizes, 2, divisions, 2, start, 4, table, 4, answer, 12, 68, trail, 26, facts, &bytes);
+    expect("a trail buffer one short", number == 17 && facts[0] == 5 && bytes == 77 && trail[0] == 77 && answer[0] == 77 * 257);
+    number = leveretplate_run_with_trail(sizes, 2, divisions, 2, start, 4, table, 4, answer, 12, 4, trail, 28, facts, &bytes);
+    expect("a budget of 4, and no trail", number == 9 && facts[0] == 4 && bytes == 77 && trail[0] == 77 && answer[0] == 77 * 257);
+    number = leveretplate_run_with_trail(sizes, 2, divisions, 2, start, 4, table, 4, answer, 12, 68, trail, 28, facts, &bytes);
+    expect("the end with its trail", number == 0 && facts[0] == 5 && facts[1] == 1 && bytes == 27 && answer[1] == 1 && answer[4] == 77 * 257);
+    expect("the records, and the byte behind them", memcmp(trail, records, sizeof records) == 0);
+    number = leveretplate_read_trail(sizes, 2, divisions, 2, start, 4, trail, 27, 6, points, place);
+    expect("a record beyond the last", number == 17 && place[0] == 5 && points[0] == 77 * 257);
+    number = leveretplate_read_trail(sizes, 2, divisions, 2, start, 4, trail, 27, 5, points, place);
+    expect("the last record's place", number == 0 && place[0] == 2 && place[1] == 2 && place[2] == 8);
+    expect("its points, and 0 behind them", memcmp(points, expected, sizeof expected) == 0 && points[8] == 0 && points[255] == 0);
+}
+
 static void check_label(void)
 {
     const uint8_t sizes[] = {2, 2, 2}, expected[] = {3, 6, 1, 1, 5, 2, 5, 4};
@@ -144,6 +171,7 @@ int main(void)
     check_sheet();
     check_run();
     check_nearest();
+    check_trail();
     check_label();
     check_boundary();
     check_shelf();

@@ -13,6 +13,8 @@
 #define LEVERETPLATE_FACTS 4    /* places, kind of end (0 place, 1 facet), block, vertices */
 #define LEVERETPLATE_LEVELS 8   /* the most levels of a refinement */
 #define LEVERETPLATE_NEAR 2     /* the nearest vertex's position, how many positions are listed */
+#define LEVERETPLATE_PLACE 3    /* how many points, T, U */
+#define LEVERETPLATE_POINTS 256 /* room for the numbers of any place's points */
 #define LEVERETPLATE_SHEET 4096 /* room for any sheet */
 #define LEVERETPLATE_SHELF 1000 /* the most sheets on a shelf */
 
@@ -45,6 +47,36 @@ uint8_t leveretplate_nearest(const uint8_t *sizes, size_t sizes_length,
                              uint16_t *list, size_t list_length,
                              uint64_t *facts,
                              uint64_t *near);
+
+/* Follows the path as leveretplate_run does, with the same answer, facts and vertices, and writes its trail: one record for each place, the first that of
+ * the start. A record is a bit map byte and then the fields whose bit stands, in bit order: 0 the point come in and 1 the point gone out, each its position
+ * in the table in 16 bits, low byte first; 2 the index into T, 3 out of T, 4 into U, 5 out of U and 6 the rule, a byte each. At an end `bytes` is the number
+ * of bytes written to the front of the trail buffer, at most 3 + 7 times (places - 1). Answers 17 where a run that ended has a trail longer than the trail
+ * buffer; this is asked behind 9 and 16. With every refusal, 9, 16 and 17 included, `bytes`, the answer buffer and the trail buffer are as before. `facts`
+ * has LEVERETPLATE_FACTS numbers. */
+uint8_t leveretplate_run_with_trail(const uint8_t *sizes, size_t sizes_length,
+                                    const uint16_t *divisions, size_t divisions_length,
+                                    const uint16_t *start, size_t start_length,
+                                    const uint8_t *labels, size_t labels_length,
+                                    uint16_t *answer, size_t answer_length,
+                                    uint64_t budget,
+                                    uint8_t *trail, size_t trail_length,
+                                    uint64_t *facts,
+                                    uint64_t *bytes);
+
+/* Rebuilds the place at a record of a trail, the records counted from 1, and answers 0: `place` has the number of points, T and U, sets of indices as masks
+ * in which bit h stands for index h + 1; `points` has the points in rising coefficient sum, m numbers each, and 0 behind them. Over a run's trail record i
+ * gives the path's place i. Only the records up to the one asked for are looked at, and no label table. Else answers the refusal's number, 1 to 5, or 17
+ * where there is no such record, or the records up to it do not begin with the start's, or one of them is not exactly the record of a change from its
+ * place to a set of points that meets the first two conditions of a place, by one of the seven rules; and writes nothing. `points` has LEVERETPLATE_POINTS
+ * numbers, `place` LEVERETPLATE_PLACE. */
+uint8_t leveretplate_read_trail(const uint8_t *sizes, size_t sizes_length,
+                                const uint16_t *divisions, size_t divisions_length,
+                                const uint16_t *start, size_t start_length,
+                                const uint8_t *trail, size_t trail_length,
+                                uint64_t record,
+                                uint16_t *points,
+                                uint64_t *place);
 
 /* Writes the labels of the game with these losses and their count P, and answers 0; else answers the refusal's number, 1 to 4 or 10 to 12. */
 uint8_t leveretplate_label(const uint8_t *sizes, size_t sizes_length,

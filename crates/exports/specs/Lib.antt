@@ -3,3 +3,4 @@ pub mod Near
 pub mod Numbers
 pub mod Refine
 pub mod Shelf
+pub mod Trail

@@ -15,6 +15,7 @@ mod check_calls;
 mod near_calls;
 mod refine_calls;
 mod shelf_calls;
+mod trail_calls;
 
 use finder::Answer;
 use finder::Kind;
