@@ -183,6 +183,51 @@ def refine_case(fields, expect):
     return data, text
 
 
+def lent(fields, *names):
+    """Lists of numbers; a dash is a list of none."""
+    return b"".join(listed(numbers(fields[name].replace("-", ""))) for name in names)
+
+
+def hex_runs(name, digits):
+    return runs(name, bytes.fromhex(digits))
+
+
+def trail_lines(expect, room):
+    """The trail buffer, lent full of 255: whole, or of a long trail the first and the last 40 bytes, the weighed sum, and what stands behind."""
+    said = dict(line.partition(" ")[::2] for line in expect.splitlines())
+    if "trail-sum" not in said:
+        written = list(bytes.fromhex(said.get("trail", "")))
+        return runs("trail", written + [255] * (room - len(written)))
+    ends = hex_runs("trail-front", said["trail-front"]) + hex_runs("trail-back", said["trail-back"])
+    return ends + f"trail-sum {said['trail-sum']}\n" + runs("behind", [255] * (room - int(said["trail-bytes"])))
+
+
+def write_trail_case(fields, expect):
+    """The run's answer with the bytes written, and both buffers whole."""
+    rooms = int(fields["answer"]), int(fields["trail"])
+    data = word(0) + lent(fields, "sizes", "d", "start", "labels") + word(rooms[0]) + wide(rooms[1]) + wide(int(fields["budget"]))
+    lines = expect.splitlines()
+    vertices = [int(n) for line in lines if line[0].isdigit() for n in line.split()]
+    answer = [line for line in lines if not line[0].isdigit() and line.split()[0] not in ("trail", "trail-front", "trail-back", "trail-sum")]
+    text = "".join(line + "\n" for line in answer) + runs("answer", filled(vertices, rooms[0]))
+    return data, text + trail_lines(expect, rooms[1])
+
+
+def mask(indices):
+    """A set of indices, counted from 1, as the reader gives it."""
+    return sum(1 << (int(index) - 1) for index in indices.replace("-", "").split())
+
+
+def read_trail_case(fields, expect):
+    """The number of points, T and U; and the points' numbers at the front of 256, 0 behind. A refusal has none."""
+    data = word(1) + lent(fields, "sizes", "d", "start") + listed(bytes.fromhex(fields["trail"])) + wide(int(fields["record"]))
+    lines = expect.splitlines()
+    said = dict(line.partition(" ")[::2] for line in lines)
+    points = [int(n) for line in lines if line[0].isdigit() for n in line.split()]
+    place = f"points {said['points']}\nT {mask(said['T'])}\nU {mask(said['U'])}\n" if "points" in said else expect
+    return data, place + runs("numbers", points + [0] * (256 - len(points)))
+
+
 def boundary_case(fields, expect):
     """The answer, and the whole buffer, which is 255 throughout where nothing was written."""
     room = int(fields["buffer"])
@@ -204,6 +249,8 @@ write("exported_calls", "call", [run_call(*case) for case in called("run") + end
 write("check_cases", "list", [check_case(*case) for case in called("check")])
 write("boundary_cases", "table", [boundary_case(*case) for case in called("boundary")])
 write("near_cases", "call", [near_case(*case) for case in called("near")])
+written, read = called("run-with-trail"), called("read-trail")
+write("trail_cases", "call", [write_trail_case(*case) for case in written] + [read_trail_case(*case) for case in read])
 write("refine_cases", "refinement", [refine_case(*case) for case in called("refine")])
 write("shelf_cases", "case", [shelf_case(*case) for case in called("shelf")])
 walks.write()
