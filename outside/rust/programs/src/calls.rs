@@ -2,6 +2,7 @@
 
 use crate::near::NearCall;
 use crate::refinements::RefineCall;
+use crate::trails::{ReadCall, TrailCall};
 use reference::games::GAMES;
 use std::fmt::{Display, Formatter, Result};
 
@@ -67,6 +68,8 @@ pub enum Call {
     Boundary(BoundaryCall),
     Near(NearCall),
     Refine(RefineCall),
+    Trail(TrailCall),
+    Read(ReadCall),
 }
 
 /// A slip's fields; those that are none are left out of the slip.
@@ -154,6 +157,8 @@ impl Display for Call {
                 write!(to, "budget {}\nanswer {}\nslip {}", run.budget, run.answer, hex(&run.slip()))
             }
             Call::Near(near) => near.fmt(to),
+            Call::Trail(trail) => trail.fmt(to),
+            Call::Read(read) => read.fmt(to),
             Call::Check(check) => {
                 writeln!(to, "call check\nsizes {}\nd {}", spaced(&check.sizes), spaced(&check.divisions))?;
                 write!(to, "labels {}\npoints {}", spaced(&check.labels), spaced(&check.points))

@@ -3,9 +3,10 @@
 use crate::calls::{BoundaryCall, CheckCall, LabelCall, RunCall, ShelfCall, ShelfCalls};
 use reference::grid::Grid;
 use reference::slip::{self, ByDefinitions, ByPaper, SHEET_BYTES, Slip};
-use reference::{boundary, check, games, nearest, paper, questions, shelf, small, End, Near, Outcome, Verdict};
+use reference::{boundary, check, games, nearest, paper, questions, shelf, small, trail, End, Near, Outcome, Rebuilt, Verdict, Written};
 use crate::near::NearCall;
 use crate::refinements::RefineCall;
+use crate::trails::{ReadCall, TrailCall};
 use reference::refine::Method;
 
 pub type Sheet = [u8; SHEET_BYTES];
@@ -26,6 +27,12 @@ pub trait Implementation {
     /// The count of labels written, or the refusal's number.
     fn boundary(&self, call: &BoundaryCall, labels: &mut [u8]) -> Result<usize, u64>;
     fn near(&self, call: &NearCall, answer: &mut [u16], list: &mut [u16]) -> Near;
+
+    /// A run that writes a trail.
+    fn write(&self, call: &TrailCall, answer: &mut [u16], trail: &mut [u8]) -> Written;
+
+    /// The place at a record of a trail, or the refusal's number.
+    fn read(&self, call: &ReadCall) -> Result<Rebuilt, u64>;
 
     /// Whether a list of points on this grid can be checked in reasonable time.
     fn fits_check(&self, grid: &Grid) -> bool {
@@ -103,6 +110,14 @@ impl Implementation for Paper {
         call.by(nearest::by_paper, answer, list)
     }
 
+    fn write(&self, call: &TrailCall, answer: &mut [u16], to: &mut [u8]) -> Written {
+        call.by(trail::write_by_paper, answer, to)
+    }
+
+    fn read(&self, call: &ReadCall) -> Result<Rebuilt, u64> {
+        call.by(trail::read_by_fields)
+    }
+
     fn refine(&self, call: &RefineCall, labels: &mut [u8], answer: &mut [u16]) -> Result<Vec<End>, u64> {
         call.game().refine(&Method { fill: games::fill, run: paper::run }, labels, answer)
     }
@@ -154,6 +169,14 @@ impl Implementation for Definitions {
 
     fn near(&self, call: &NearCall, answer: &mut [u16], list: &mut [u16]) -> Near {
         call.by(nearest::by_definitions, answer, list)
+    }
+
+    fn write(&self, call: &TrailCall, answer: &mut [u16], to: &mut [u8]) -> Written {
+        call.by(trail::write_by_definitions, answer, to)
+    }
+
+    fn read(&self, call: &ReadCall) -> Result<Rebuilt, u64> {
+        call.by(trail::read_by_search)
     }
 
     fn fits_check(&self, grid: &Grid) -> bool {

@@ -10,8 +10,10 @@ pub mod proved;
 pub mod random;
 pub mod refinements;
 pub mod stored;
+pub mod trails;
 
 pub use calls::{BoundaryCall, Call, CheckCall, LabelCall, RunCall, ShelfCall, ShelfCalls};
 pub use implementations::{all, Implementation};
 pub use near::NearCall;
 pub use refinements::RefineCall;
+pub use trails::{ReadCall, TrailCall};

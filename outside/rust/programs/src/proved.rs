@@ -4,8 +4,9 @@ use crate::calls::{BoundaryCall, CheckCall, LabelCall, RunCall};
 use crate::implementations::{Implementation, Sheet};
 use crate::near::NearCall;
 use crate::refinements::RefineCall;
+use crate::trails::{ReadCall, TrailCall};
 use reference::grid::Grid;
-use reference::{End, Kind, Near, Outcome, Verdict};
+use reference::{End, Kind, Near, Outcome, Rebuilt, Verdict, Written};
 
 #[rustfmt::skip]
 extern "C" {
@@ -75,6 +76,30 @@ extern "C" {
         facts: *mut [u64; LEVELS * FACTS],
     ) -> u8;
 
+    /// A run's number and facts, and at an end the number of bytes written to the trail.
+    fn leveretplate_run_with_trail(
+        sizes: *const u8, sizes_length: usize,
+        divisions: *const u16, divisions_length: usize,
+        start: *const u16, start_length: usize,
+        labels: *const u8, labels_length: usize,
+        answer: *mut u16, answer_length: usize,
+        budget: u64,
+        trail: *mut u8, trail_length: usize,
+        facts: *mut [u64; FACTS],
+        bytes: *mut u64,
+    ) -> u8;
+
+    /// 0 and the place, or the refusal's number. The place is its number of points, T and U.
+    fn leveretplate_read_trail(
+        sizes: *const u8, sizes_length: usize,
+        divisions: *const u16, divisions_length: usize,
+        start: *const u16, start_length: usize,
+        trail: *const u8, trail_length: usize,
+        record: u64,
+        points: *mut [u16; NUMBERS],
+        place: *mut [u64; 3],
+    ) -> u8;
+
     /// The length of the sheet.
     fn leveretplate_sheet(slip: *const u8, slip_length: usize, sheet: *mut Sheet) -> usize;
 
@@ -87,6 +112,8 @@ extern "C" {
 
 const FACTS: usize = 4;
 const LEVELS: usize = 8;
+/// The numbers of a place's points, 16 of each of 16.
+const NUMBERS: usize = 256;
 
 /// What the facts and the count hold before a call.
 const OLD: u64 = 0x5eed_5eed_5eed_5eed;
@@ -174,6 +201,52 @@ impl Implementation for Proved {
         assert!(number == 0 || near == [OLD; 2], "a refusal reports a vertex");
         let nearest = (number == 0).then_some((near[0] as usize, near[1] as usize));
         Near { run: outcome(number, facts), nearest }
+    }
+
+    fn write(&self, call: &TrailCall, answer: &mut [u16], trail: &mut [u8]) -> Written {
+        let (mut facts, mut bytes) = ([OLD; FACTS], OLD);
+        let run = &call.run;
+        // Safety: each pointer comes with the length of its slice, and only the answer, the trail, the facts and the count are written to.
+        #[rustfmt::skip]
+        let number = unsafe {
+            leveretplate_run_with_trail(
+                run.sizes.as_ptr(), run.sizes.len(),
+                run.divisions.as_ptr(), run.divisions.len(),
+                run.start.as_ptr(), run.start.len(),
+                run.labels.as_ptr(), run.labels.len(),
+                answer.as_mut_ptr(), answer.len(),
+                run.budget,
+                trail.as_mut_ptr(), trail.len(),
+                &mut facts,
+                &mut bytes,
+            )
+        };
+        Written { run: outcome(number, facts), bytes: answered(number, bytes).ok() }
+    }
+
+    fn read(&self, call: &ReadCall) -> Result<Rebuilt, u64> {
+        let (mut points, mut place) = ([u16::MAX; NUMBERS], [OLD; 3]);
+        // Safety: each pointer comes with the length of its slice, and only the points and the place are written to.
+        #[rustfmt::skip]
+        let number = unsafe {
+            leveretplate_read_trail(
+                call.sizes.as_ptr(), call.sizes.len(),
+                call.divisions.as_ptr(), call.divisions.len(),
+                call.start.as_ptr(), call.start.len(),
+                call.trail.as_ptr(), call.trail.len(),
+                call.record,
+                &mut points,
+                &mut place,
+            )
+        };
+        if number != 0 {
+            assert!(points == [u16::MAX; NUMBERS] && place == [OLD; 3], "a refusal changes a buffer");
+            return Err(number.into());
+        }
+        let (m, [count, t, u]) = (call.start.len(), place);
+        let (numbers, behind) = points.split_at(count as usize * m);
+        assert!(behind.iter().all(|&number| number == 0), "a number other than 0 stands behind the points");
+        Ok(Rebuilt { points: numbers.chunks(m).map(<[u16]>::to_vec).collect(), t: t as u16, u: u as u16 })
     }
 
     fn label(&self, call: &LabelCall, labels: &mut [u8]) -> Result<usize, u64> {

@@ -3,6 +3,7 @@
 use crate::calls::{spaced, BoundaryCall, Call, CheckCall, Fields, LabelCall, RunCall, ShelfCall, ShelfCalls};
 use crate::near::NearCall;
 use crate::refinements::{self, RefineCall};
+use crate::trails::{ReadCall, TrailCall};
 use std::collections::HashMap;
 
 pub struct Case {
@@ -34,13 +35,13 @@ fn read_case(lines: &[&str]) -> Case {
     let given = |word: &str| values.get(word).is_some_and(|&value| value != "-");
     let (sizes, divisions) = (bytes("sizes"), pairs("d"));
     let call = match values["call"] {
-        word @ ("run" | "near") => {
+        word @ ("run" | "near" | "run-with-trail") => {
             let (budget, answer) = (list("budget")[0], list("answer")[0] as usize);
             let run = RunCall { sizes, divisions, start: pairs("start"), labels: bytes("labels"), budget, answer };
-            if word == "run" {
-                Call::Run(run)
-            } else {
-                Call::Near(NearCall { run, w: pairs("w"), distance: list("distance")[0], list: list("list")[0] as usize })
+            match word {
+                "run" => Call::Run(run),
+                "near" => Call::Near(NearCall { run, w: pairs("w"), distance: list("distance")[0], list: list("list")[0] as usize }),
+                _ => Call::Trail(TrailCall { run, room: list("trail")[0] as usize }),
             }
         }
         "label" if given("game") => {
@@ -48,6 +49,10 @@ fn read_case(lines: &[&str]) -> Case {
         }
         "label" if given("game") => {
             Call::Label(LabelCall::of_game(list("game")[0] as usize, &divisions, list("buffer")[0] as usize))
+        }
+        "read-trail" => {
+            let trail = from_hex(values["trail"]);
+            Call::Read(ReadCall { sizes, divisions, start: pairs("start"), trail, record: list("record")[0] })
         }
         "refine" => {
             let one = |word: &str| list(word)[0] as usize;

@@ -15,8 +15,10 @@ pub mod refine;
 pub mod shelf;
 pub mod slip;
 pub mod small;
+pub mod trail;
 
 pub use check::Verdict;
 pub use grid::Grid;
 pub use nearest::Near;
 pub use outcome::{End, Kind, Outcome};
+pub use trail::{Rebuilt, Written};

@@ -7,6 +7,7 @@
 use crate::grid::{Grid, MOST_BLOCKS, MOST_INDICES};
 use crate::outcome::{End, Kind, Outcome};
 use crate::questions;
+use crate::trail::Set;
 
 type Coefficients = [u16; MOST_INDICES];
 
@@ -233,6 +234,11 @@ impl Place {
         place
     }
 
+    /// The points of the slots that are used, in any order.
+    fn set(&self) -> Set {
+        Set { positions: bits(self.used).map(|slot| self.positions[slot] as usize).collect(), t: self.t, u: self.u }
+    }
+
     fn next(&self, slot: usize) -> usize {
         self.next[slot & LOW] as usize & LOW
     }
@@ -422,7 +428,31 @@ pub fn follow_past(
     labels: &[u8],
     answer: &mut [u16],
     budget: u64,
+    comes_in: impl FnMut(usize),
+) -> Outcome {
+    follow_watched(grid, start, labels, answer, budget, comes_in, |_| ())
+}
+
+/// The same, with each place as its points, T and U.
+pub fn follow_places(
+    grid: &Grid,
+    start: &[u16],
+    labels: &[u8],
+    answer: &mut [u16],
+    budget: u64,
+    mut passes: impl FnMut(Set),
+) -> Outcome {
+    follow_watched(grid, start, labels, answer, budget, |_| (), |place| passes(place.set()))
+}
+
+fn follow_watched(
+    grid: &Grid,
+    start: &[u16],
+    labels: &[u8],
+    answer: &mut [u16],
+    budget: u64,
     mut comes_in: impl FnMut(usize),
+    mut passes: impl FnMut(&Place),
 ) -> Outcome {
     if budget == 0 {
         return Outcome::Spent(0);
@@ -431,6 +461,7 @@ pub fn follow_past(
     let mut place = Place::at_start(&frame, grid.m, position);
     let mut places = 1;
     let mut incoming = 0;
+    passes(&place);
     loop {
         // Step 1: the label of the vertex that came in.
         let position = place.positions[incoming & LOW] as usize;
@@ -451,6 +482,7 @@ pub fn follow_past(
             place.holder[label] = incoming as u8;
             incoming = place.grow(&frame, label);
             places += 1;
+            passes(&place);
             continue;
         }
         let mut leaving = std::mem::replace(&mut place.holder[label], incoming as u8) as usize;
@@ -464,11 +496,13 @@ pub fn follow_past(
                 _ if places == budget => return Outcome::Spent(places),
                 Exchange::Replaced => {
                     places += 1;
+                    passes(&place);
                     incoming = leaving;
                     break;
                 }
                 Exchange::Dropped(lost) => {
                     places += 1;
+                    passes(&place);
                     leaving = place.holder[lost & LOW] as usize;
                 }
             }

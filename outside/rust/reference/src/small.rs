@@ -5,7 +5,7 @@
 
 use crate::grid::{Grid, MOST_INDICES};
 use crate::outcome::{End, Kind, Outcome};
-use crate::questions;
+use crate::{questions, trail};
 
 /// A grid and start, with what the conditions ask of each grid point. Sets of indices are masks, bit h for index h + 1.
 pub struct Problem {
@@ -95,8 +95,13 @@ impl Problem {
     }
 
     fn is_place(&self, labels: &[u8], set: &[usize]) -> bool {
+        self.set_t(set) & !self.label_set(labels, set) == 0 && self.is_shape(set)
+    }
+
+    /// The first two conditions of a place, which look at no label.
+    pub fn is_shape(&self, set: &[usize]) -> bool {
         let (t, u) = (self.set_t(set), self.set_u(set));
-        if t.count_ones() as usize + 1 != set.len() || t & !self.label_set(labels, set) != 0 {
+        if t.count_ones() as usize + 1 != set.len() {
             return false;
         }
         if (0..self.grid.m).any(|h| self.block[h] & !(t | u) == 0) {
@@ -110,6 +115,44 @@ impl Problem {
             }
         }
         used == t
+    }
+
+    /// The position of the start.
+    pub fn start(&self) -> usize {
+        self.start
+    }
+
+    pub fn numbers(&self, position: usize) -> &[u16] {
+        &self.points[position].numbers[..self.grid.m]
+    }
+
+    /// A set of points in rising order of coefficient sum, with its T and U.
+    pub fn set(&self, positions: &[usize]) -> trail::Set {
+        let positions = self.in_order(positions.to_vec());
+        trail::Set { t: self.set_t(&positions), u: self.set_u(&positions), positions }
+    }
+
+    /// Every set with a point more, with one fewer that leaves some, or with one exchanged.
+    pub fn each_near(&self, set: &[usize], mut take: impl FnMut(&[usize])) {
+        let outside: Vec<usize> = (0..self.points.len()).filter(|z| !set.contains(z)).collect();
+        let mut near = set.to_vec();
+        for &z in &outside {
+            near.push(z);
+            take(&near);
+            near.pop();
+        }
+        for gone in 0..set.len() {
+            let mut near = set.to_vec();
+            near.remove(gone);
+            if !near.is_empty() {
+                take(&near);
+            }
+            for &z in &outside {
+                near.push(z);
+                take(&near);
+                near.pop();
+            }
+        }
     }
 
     /// The blocks, counted from 1, for which the set is complete.

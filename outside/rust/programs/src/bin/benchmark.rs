@@ -7,7 +7,7 @@
 use programs::calls::{BoundaryCall, CheckCall, Fields, LabelCall, RunCall};
 use programs::implementations::{Paper, Sheet};
 use programs::inputs::{long_run, whole_simplex, From};
-use programs::{refinements, Implementation, NearCall, RefineCall};
+use programs::{refinements, Implementation, NearCall, ReadCall, RefineCall, TrailCall};
 use reference::games::{self, GAMES};
 use reference::grid::{Grid, MOST_LOSSES};
 use reference::slip::SHEET_BYTES;
@@ -18,6 +18,9 @@ use std::time::Duration;
 /// Odd, so that there is a median. The repetitions are short, so that few of them are interrupted.
 const REPETITIONS: usize = 101;
 const REPETITION: Duration = Duration::from_millis(2);
+
+/// Room for the trails of the benchmark's paths.
+const MOST_TRAIL: usize = 500_000;
 
 /// Divisions that bring each game's grid near 60,000 points.
 const GAME_DIVISIONS: [&[u16]; 3] = [&[38, 38, 38], &[7, 7, 8], &[14, 14, 15, 15]];
@@ -151,6 +154,47 @@ impl Benchmark {
         }
     }
 
+    /// The run that writes a trail, and the reading of that trail's last record, beside the run alone: the most that they may take is 2.5
+    /// times as long and as long.
+    fn trail(&self, name: &str, run: &RunCall) {
+        if !name.contains(&self.text) {
+            return;
+        }
+        for implementation in &self.implementations {
+            let (mut alone, mut answer, mut trail) = (vec![0; run.answer], vec![0; run.answer], vec![0; MOST_TRAIL]);
+            let call = TrailCall { run: run.clone(), room: trail.len() };
+            let written = implementation.write(&call, &mut answer, &mut trail);
+            let (Outcome::Ended(end), Some(bytes)) = (written.run, written.bytes) else { unreachable!("an end and its trail") };
+            let read = read_of(run, trail[..bytes].to_vec(), end.places);
+            let timings = time(&mut [
+                Box::new(|| {
+                    black_box(implementation.run(black_box(run), &mut alone));
+                }),
+                Box::new(|| {
+                    black_box(implementation.write(black_box(&call), &mut answer, &mut trail));
+                }),
+                Box::new(|| {
+                    black_box(implementation.read(black_box(&read))).expect("a place");
+                }),
+            ]);
+            let [run, write, read] = [&timings[0], &timings[1], &timings[2]];
+            print!("{name:44} {:8} {:9.2} us (least {:.2})", implementation.name(), write.median / 1e3, write.least / 1e3);
+            print!("  {:.2} times the run (of the least {:.2})", write.median / run.median, write.least / run.least);
+            print!("  record {} read {:.2} us (least {:.2})", end.places, read.median / 1e3, read.least / 1e3);
+            println!("  {:.2} times the run (of the least {:.2})", read.median / run.median, read.least / run.least);
+        }
+    }
+
+    fn read(&self, name: &str, call: &ReadCall) {
+        let mut calls: Vec<Box<dyn FnMut()>> = Vec::new();
+        for implementation in &self.implementations {
+            calls.push(Box::new(move || {
+                black_box(implementation.read(black_box(call))).expect("a place");
+            }));
+        }
+        self.print(name, "record", call.record, &mut calls);
+    }
+
     fn label(&self, name: &str, call: &LabelCall) {
         let mut buffers = vec![vec![0; call.buffer]; self.implementations.len()];
         let mut calls: Vec<Box<dyn FnMut()>> = Vec::new();
@@ -226,6 +270,21 @@ impl Benchmark {
 fn grid_name(sizes: &[u8], divisions: &[u16]) -> String {
     let text = |numbers: Vec<String>| numbers.join(" ");
     format!("{};{}", text(sizes.iter().map(u8::to_string).collect()), text(divisions.iter().map(u16::to_string).collect()))
+}
+
+fn read_of(run: &RunCall, trail: Vec<u8>, record: u64) -> ReadCall {
+    ReadCall { sizes: run.sizes.clone(), divisions: run.divisions.clone(), start: run.start.clone(), trail, record }
+}
+
+/// The whole trail of the path over one label, on a grid of one block of two indices, and the reading of its third record.
+fn third_record(division: u16) -> ReadCall {
+    let points = division as usize + 1;
+    let (sizes, divisions, start) = (vec![2], vec![division], vec![division, 0]);
+    let run = RunCall { sizes, divisions, start, labels: vec![2; points], budget: u64::MAX, answer: 4 };
+    let (mut answer, mut trail) = ([0; 4], vec![0; MOST_TRAIL]);
+    let written = Paper.write(&TrailCall { run: run.clone(), room: MOST_TRAIL }, &mut answer, &mut trail);
+    trail.truncate(written.bytes.expect("a trail"));
+    read_of(&run, trail, 3)
 }
 
 /// The table of one label, whose path goes from the first corner to the other.
@@ -310,6 +369,16 @@ fn main() {
     for (sizes, divisions, from, seed, rounds) in LONG_RUNS {
         let run = long_run(sizes, divisions, from, seed, rounds);
         benchmark.near(&format!("near, {}", grid_name(sizes, divisions)), &near_run(run));
+    }
+    println!("\nruns that write a trail, and the reading of its last record");
+    benchmark.trail("trail, 2;59999, one label", &straight);
+    for (sizes, divisions, from, seed, rounds) in LONG_RUNS {
+        let run = long_run(sizes, divisions, from, seed, rounds);
+        benchmark.trail(&format!("trail, {}", grid_name(sizes, divisions)), &run);
+    }
+    println!("\nthe third record of a trail, on grids with few and many points");
+    for division in [3, 300, 59_999] {
+        benchmark.read(&format!("read, 2;{division}"), &third_record(division));
     }
     println!("\nlabelling");
     for game in 0..GAMES.len() {

@@ -4,7 +4,7 @@
 
 use programs::calls::{spaced, Call};
 use programs::implementations::Sheet;
-use programs::{all, near, stored, Implementation, ShelfCall};
+use programs::{all, near, stored, trails, Implementation, ShelfCall};
 use reference::grid::Grid;
 use reference::slip::SHEET_BYTES;
 use reference::{Kind, Outcome, Verdict};
@@ -68,6 +68,28 @@ fn given(implementation: &dyn Implementation, call: &Call) -> Option<Vec<String>
                 lines.extend(near::lines(&near, &list));
                 lines
             })
+        }
+        Call::Trail(call) => {
+            let (mut answer, mut trail) = (vec![UNTOUCHED; call.run.answer], vec![UNTOUCHED_BYTE; call.room]);
+            let fits = Grid::new(&call.run.sizes, &call.run.divisions).map_or(true, |grid| implementation.fits(&grid));
+            fits.then(|| {
+                let written = implementation.write(call, &mut answer, &mut trail);
+                let (vertices, bytes) = call.written(&written);
+                let numbers = answer[vertices..].iter().all(|&number| number == UNTOUCHED);
+                assert!(numbers && trail[bytes..].iter().all(|&byte| byte == UNTOUCHED_BYTE), "a buffer is changed behind what is written");
+                let mut lines = run_lines(written.run, &answer);
+                if written.bytes.is_some() {
+                    lines.pop();
+                    lines.extend(answer[..vertices].chunks(call.run.start.len()).map(spaced));
+                    lines.extend(trails::written_lines(&trail[..bytes]));
+                }
+                lines
+            })
+        }
+        Call::Read(call) => {
+            let grid = Grid::new(&call.sizes, &call.divisions).ok();
+            let fits = grid.as_ref().map_or(true, |grid| implementation.fits(grid));
+            fits.then(|| trails::read_lines(implementation.read(call), grid))
         }
         Call::Shelf(calls) => implementation.has_shelf().then(|| {
             let answers = implementation.shelf(calls);

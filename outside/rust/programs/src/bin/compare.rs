@@ -6,10 +6,12 @@ use programs::boundary_inputs;
 use programs::calls::Call;
 use programs::implementations::Sheet;
 use programs::inputs::{self, Take};
-use programs::{all, near, refinements, BoundaryCall, CheckCall, Implementation, LabelCall, NearCall, RefineCall, RunCall};
+use programs::{all, near, refinements, trails};
+use programs::{BoundaryCall, CheckCall, Implementation, LabelCall, NearCall, ReadCall, RefineCall, RunCall, TrailCall};
 use reference::grid::Grid;
 use reference::slip::SHEET_BYTES;
-use reference::{End, Near, Outcome, Verdict};
+use reference::trail::WHY;
+use reference::{End, Near, Outcome, Rebuilt, Verdict, Written};
 use std::process::ExitCode;
 use std::time::Instant;
 
@@ -28,6 +30,8 @@ struct Tally {
     places: u64,
     longest: u64,
     refusals: [usize; 24],
+    /// Of the readings that get 17, by the reference's reasons.
+    reasons: [usize; WHY.len()],
 }
 
 struct Comparison {
@@ -51,6 +55,8 @@ enum Seen {
     Boundary(Result<usize, u64>, Vec<u8>),
     Near(Near, Vec<u16>, Vec<u16>),
     Refine(Result<Vec<End>, u64>, Vec<u8>, Vec<u16>),
+    Trail(Written, Vec<u16>, Vec<u8>),
+    Read(Result<Rebuilt, u64>),
 }
 
 impl Comparison {
@@ -69,6 +75,8 @@ impl Comparison {
                 Call::Boundary(boundary) => self.boundary(implementation.as_ref(), boundary),
                 Call::Near(near) => self.near(implementation.as_ref(), near),
                 Call::Refine(refine) => self.refine(implementation.as_ref(), refine),
+                Call::Trail(trail) => self.write(implementation.as_ref(), trail),
+                Call::Read(read) => Ok(Seen::Read(implementation.read(read))),
             };
             if call != before {
                 self.differs(&before, implementation.name(), "an input is changed");
@@ -77,6 +85,9 @@ impl Comparison {
                 (_, Err(fault)) => self.differs(&call, implementation.name(), fault),
                 (None, Ok(seen)) => {
                     self.tally.count(&seen);
+                    if let (Call::Read(read), Seen::Read(Err(17))) = (&call, &seen) {
+                        self.tally.reasons[read.why().expect("a reason for 17")] += 1;
+                    }
                     first = Some(seen);
                 }
                 (Some(first), Ok(seen)) => {
@@ -154,6 +165,18 @@ impl Comparison {
         Ok(Seen::Refine(ends, labels, answer))
     }
 
+    fn write(&mut self, implementation: &dyn Implementation, call: &TrailCall) -> Result<Seen, &'static str> {
+        let mut answer: Vec<u16> = (0..call.run.answer).map(pattern).collect();
+        let mut trail: Vec<u8> = (0..call.room).map(|at| pattern(at) as u8).collect();
+        let written = implementation.write(call, &mut answer, &mut trail);
+        let (vertices, bytes) = call.written(&written);
+        let answer_changed = (vertices..answer.len()).any(|at| answer[at] != pattern(at));
+        if answer_changed || (bytes..trail.len()).any(|at| trail[at] != pattern(at) as u8) {
+            return Err("a buffer is changed where it must not be");
+        }
+        Ok(Seen::Trail(written, answer, trail))
+    }
+
     fn slip(&mut self, implementation: &dyn Implementation, slip: &[u8]) -> Result<Seen, &'static str> {
         let mut sheet: Box<Sheet> = Box::new([0; SHEET_BYTES]);
         sheet.copy_from_slice(&self.untouched);
@@ -169,7 +192,7 @@ impl Comparison {
         let begin = Instant::now();
         self.tally = Tally::default();
         inputs(&mut |call| self.take(call));
-        let Tally { calls, compared, ends, places, longest, refusals } = &self.tally;
+        let Tally { calls, compared, ends, places, longest, refusals, reasons } = &self.tally;
         let refused: Vec<String> = refusals
             .iter()
             .enumerate()
@@ -178,6 +201,10 @@ impl Comparison {
             .collect();
         println!("{name}: {calls} calls, {compared} compared, {ends} ends, {places} places, longest path {longest}, refusals [{}], {:.1} s",
             refused.join(", "), begin.elapsed().as_secs_f64());
+        let reasons: Vec<String> = WHY.iter().zip(reasons).filter(|(_, &count)| count > 0).map(|(why, count)| format!("{why:?}: {count}")).collect();
+        if !reasons.is_empty() {
+            println!("    reasons for 17: {}", reasons.join(", "));
+        }
     }
 }
 
@@ -197,7 +224,11 @@ impl Tally {
 
     fn count(&mut self, seen: &Seen) {
         match seen {
-            Seen::Run(outcome, _) | Seen::Near(Near { run: outcome, .. }, ..) => self.count_run(outcome),
+            Seen::Run(outcome, _) | Seen::Near(Near { run: outcome, .. }, ..) | Seen::Trail(Written { run: outcome, .. }, ..) => {
+                self.count_run(outcome)
+            }
+            Seen::Read(Ok(_)) => self.ends += 1,
+            Seen::Read(Err(number)) => self.refusals[*number as usize] += 1,
             Seen::Label(Ok(_), _) | Seen::Boundary(Ok(_), _) => self.ends += 1,
             Seen::Label(Err(number), _) | Seen::Boundary(Err(number), _) => self.refusals[*number as usize] += 1,
             Seen::Shelf(answers) => {
@@ -233,6 +264,8 @@ fn fits(implementation: &dyn Implementation, call: &Call) -> bool {
     match call {
         Call::Near(NearCall { run: RunCall { sizes, divisions, .. }, .. })
         | Call::Run(RunCall { sizes, divisions, .. })
+        | Call::Trail(TrailCall { run: RunCall { sizes, divisions, .. }, .. })
+        | Call::Read(ReadCall { sizes, divisions, .. })
         | Call::Label(LabelCall { sizes, divisions, .. })
         | Call::Boundary(BoundaryCall { sizes, divisions, .. }) => {
             Grid::new(sizes, divisions).map_or(true, |grid| implementation.fits(&grid))
@@ -285,6 +318,15 @@ fn main() -> ExitCode {
     comparison.part("refinements of large games", |take| refinements::random(17, 3_000, 60_000, take));
     comparison.part("faulty refinements", |take| refinements::faulty(18, 100_000, take));
     comparison.part("edges of refinements", refinements::edges);
+    comparison.part("trails written, up to 30 points", |take| trails::random_writes(20, 100_000, 30, take));
+    comparison.part("trails written, up to 300 points", |take| trails::random_writes(21, 10_000, 300, take));
+    comparison.part("trails written, up to 60,000 points", |take| trails::random_writes(22, 3_000, 60_000, take));
+    comparison.part("faulty runs with a trail", |take| trails::faulty_writes(23, 100_000, take));
+    comparison.part("trails read, up to 30 points", |take| trails::random_reads(24, 200_000, 30, take));
+    comparison.part("trails read, up to 300 points", |take| trails::random_reads(25, 10_000, 300, take));
+    comparison.part("trails read, up to 60,000 points", |take| trails::random_reads(26, 3_000, 60_000, take));
+    comparison.part("walks by any moves read", |take| trails::random_walks(27, 20_000, 30, take));
+    comparison.part("faulty readings", |take| trails::faulty_reads(28, 100_000, take));
     comparison.part("damaged and cut slips", |take| inputs::damaged_slips(9, 100_000, take));
     comparison.part("every small shelf", inputs::every_shelf);
     comparison.part("random shelves", |take| inputs::random_shelves(10, 3_000, take));
