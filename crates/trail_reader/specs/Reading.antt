@@ -13,7 +13,8 @@ use Rattle.trail.specs.Trail.{Reading as TrailReading, noRecord, placed, readin
 use Rattle.trail_reader.specs.declared.answers.Answer.{Answer}
 use Rattle.trail_reader.specs.declared.answers.Answer.the-variants.{Place, Refused}
 
--- document 01, "T and U are sets of at most 16 indices": a set as a mask, in which the bit of index h, counted from 0, has value 2 to the power of h
+-- document 01, "T and U are sets of at most 16 indices": a set as a mask, in which the bit of index h, counted from 0,
+-- has value 2 to the power of h
 abbrev pub maskFrom : List ℕ → ℕ → ℕ → ℕ
 maskFrom set h zero = 0
 maskFrom set h (suc n) = let rest = maskFrom set (suc h) n in cond (isIn eqb h set) 1 0 + 2 * rest
@@ -36,7 +37,8 @@ startQuestions p = gridQuestions (p .grid) ++ (question5 (p .grid) (p .start) �
 abbrev pub readQuestions : Problem → List ℕ → ℕ → List Question
 readQuestions p bytes number = startQuestions p ++ (question17 p bytes number ∷ [])
 
--- "rebuilds the place at that record": how many points it has, T and U; the points' numbers, in rising coefficient sum, m each
+-- "rebuilds the place at that record": how many points it has, T and U; the points' numbers, in rising coefficient sum,
+-- m each
 abbrev pub caseOf : TrailReading → Answer
 caseOf noRecord = Refused 17
 caseOf (placed points T U) = Place (length points) (maskOf T) (maskOf U)
@@ -48,7 +50,8 @@ numbersOf (placed points T U) = concatMap (λ y. y) points
 -- "A refusal returns its number": the first question answered no; else the place
 unfoldable pub readAnswer : Problem → List ℕ → ℕ → Answer
 readAnswer p bytes number =
-    let refusal = firstNo (readQuestions p bytes number) in cond (eqb refusal 0) (caseOf (reading p bytes number)) (Refused refusal)
+    let refusal = firstNo (readQuestions p bytes number) in
+    cond (eqb refusal 0) (caseOf (reading p bytes number)) (Refused refusal)
 
 -- the points stand at the front of 256 numbers, 0 behind; a place has at most 16 points of 16 numbers
 unfoldable pub readPoints : Problem → List ℕ → ℕ → List ℕ

@@ -21,14 +21,15 @@ use records::stands;
 use trail_following::Reached;
 use trail_following::follow;
 
-// What the reader answers: the number of the first of questions 1 to 5 and 17 that is answered no; or how many points the
-// place has, and T and U as masks, bit h for index h + 1.
+// What the reader answers: the number of the first of questions 1 to 5 and 17 that is answered no; or how many points
+// the place has, and T and U as masks, bit h for index h + 1.
 pub enum Answer {
     Refused(u8),
     Place { points: usize, t: u16, u: u16 },
 }
 
-// The answer, and the points of the place in rising coefficient sum, m numbers each, at the front of 256 numbers, 0 behind.
+// The answer, and the points of the place in rising coefficient sum, m numbers each, at the front of 256 numbers, 0
+// behind.
 pub struct Reading {
     pub answer: Answer,
     pub points: [u16; 256],

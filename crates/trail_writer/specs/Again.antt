@@ -15,7 +15,8 @@ use Rattle.rules.specs.Step.{Round}
 use Rattle.trail_writer.specs.Writing.{wholeTrail}
 
 -- an end within the budget, and room for the whole trail
-pub record CanWriteTrail (g : GridStruct) (round : Round) (binomials start labels : List ℕ) (room budget : ℕ) : Type 0 where
+pub record CanWriteTrail (g : GridStruct) (round : Round) (binomials start labels : List ℕ)
+    (room budget : ℕ) : Type 0 where
   pub readable : Readable g binomials labels
   pub isRound : IsRound (shape g) round
   pub below : RoundBelow round

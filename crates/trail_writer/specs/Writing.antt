@@ -1,4 +1,5 @@
--- Request 03: what a run that writes a trail answers, and what it leaves in the answer buffer and in the trail buffer, on every input. Assumes nothing.
+-- Request 03: what a run that writes a trail answers, and what it leaves in the answer buffer and in the trail buffer,
+-- on every input. Assumes nothing.
 use mathlib.Core.Bool.{Bool, true, false, cond}
 use mathlib.Core.List.{List, [], _∷_}
 use Prim.Native.Nat.{ℕ}
@@ -21,8 +22,8 @@ wholeTrail p = trailOf p (path p .visited)
 abbrev pub question17 : Problem → ℕ → Question
 question17 p room = ask 17 (leb (length (wholeTrail p)) room)
 
--- "asked after the run has ended and before anything is written (that run announces no end ..)": of an accepted table. A run that meets 9 or 16 has
--- not ended, and is not asked. The end is the run's, with the bytes written.
+-- "asked after the run has ended and before anything is written (that run announces no end ..)": of an accepted table.
+-- A run that meets 9 or 16 has not ended, and is not asked. The end is the run's, with the bytes written.
 abbrev pub trailCase : Problem → ℕ → PathAnswer → Answer
 trailCase p room (spent n) = Spent n
 trailCase p room (unknown n position) = Unknown n position
@@ -32,7 +33,8 @@ trailCase p room (ended n kind block vertices simplex) =
 
 -- questions 1 to 8 come first; the answer buffer has `room` numbers, the trail buffer `trailRoom` bytes
 unfoldable pub trailAnswer : Problem → ℕ → ℕ → ℕ → Answer
-trailAnswer p room trailRoom budget = cond (eqb (refusal p room) 0) (trailCase p trailRoom (answer p budget)) (Refused (refusal p room))
+trailAnswer p room trailRoom budget =
+    cond (eqb (refusal p room) 0) (trailCase p trailRoom (answer p budget)) (Refused (refusal p room))
 
 -- "A refusal returns its number and no count, and changes no buffer": only a run that announces an end writes
 abbrev pub announces : Answer → Bool

@@ -13,7 +13,8 @@ ghost use Rattle.place.specs.Path.{Answer as PathAnswer, answer as answerOf};
 ghost use Rattle.place.specs.Problem.{problemOf};
 ghost use Rattle.rules.specs.Step.{Round};
 ghost use Rattle.trail_writer.specs.Again.{CanWriteTrail};
-ghost use Rattle.trail_writer.specs.Writing.{announces, answerBuffer, trailAnswer, trailBuffer, trailCase, wholeTrail};
+ghost use Rattle.trail_writer.specs.Writing.{announces, answerBuffer, trailAnswer, trailBuffer};
+ghost use Rattle.trail_writer.specs.Writing.{trailCase, wholeTrail};
 use finder::Finish;
 use finder::Kind;
 use finder::block_number;
@@ -26,10 +27,11 @@ use moves::put_points;
 use positions::ENTRIES;
 use trail_walk::follow;
 
-// What a run that writes a trail answers. The block counts from 1. The vertices, m numbers each, stand at the front of the
-// answer buffer, and the trail at the front of the trail buffer.
+// What a run that writes a trail answers. The block counts from 1. The vertices, m numbers each, stand at the front of
+// the answer buffer, and the trail at the front of the trail buffer.
 pub enum Answer {
-    // The number of the first of questions 1 to 8 that is answered no; or 17: the trail buffer is shorter than the trail.
+    // The number of the first of questions 1 to 8 that is answered no; or 17: the trail buffer is shorter than the
+    // trail.
     Refused(u8),
     // Number 9: the path has not ended within the budget. The places visited equal the budget.
     Spent(u64),
@@ -162,8 +164,8 @@ fn announced(
     }
 }
 
-// Questions 1 to 8, then 9 or 16, then 17, on every input. Refusals write nothing. What is written stands at the front of
-// each buffer: as many vertices as the answer says, m numbers each, and as many bytes of the trail.
+// Questions 1 to 8, then 9 or 16, then 17, on every input. Refusals write nothing. What is written stands at the front
+// of each buffer: as many vertices as the answer says, m numbers each, and as many bytes of the trail.
 pub fn run_with_trail(
     sizes: &[u8],
     divisions: &[u16],
