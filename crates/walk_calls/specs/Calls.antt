@@ -6,6 +6,7 @@ use Rattle.walks.specs.Walk.{over}
 use Rattle.walk_ways.specs.Walks.{answerOf, gridOf, numbersOf, padded, structOn, walkOf}
 use Rattle.walk_ways.specs.declared.Walk.{Walk as WalkStruct}
 use Rattle.walk_calls.specs.declared.Call.{Call}
+use Rattle.walk_calls.specs.declared.Told.{Told}
 
 -- the answer, the simplex and the walk of the moving call
 unfoldable pub callOf : WalkStruct → List ℕ → Call
@@ -16,3 +17,7 @@ callOf w labels =
       simplex = padded 256 (numbersOf n);
       walk = structOn (gridOf w) w n;
     }
+
+-- what a call tells besides the walk
+abbrev pub toldIn : Call → Told
+toldIn c = record { answer = c .answer; simplex = c .simplex }

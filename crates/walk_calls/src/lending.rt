@@ -1,19 +1,33 @@
-// The moving call on a walk that is lent.
+// The moving call on a walk that is lent: one thin function, which calls the by-value step.
 ghost use mathlib.Core.Path.{_≡_};
-ghost use Rattle.walk_calls.specs.Calls.{callOf};
+ghost use Rattle.walk_calls.specs.Calls.{callOf, toldIn};
 use crate::Call;
+use crate::Told;
 use crate::moving::moved;
+use walk_ways::Walk;
 
-// The same call on the walk that a call gave.
-pub fn again(c: Call, labels: &[u8]) -> Call
-    ensures { λ r. ⌜ r ≡ callOf (c .walk) (now (labels .entry)) ⌝ }
+// The walk after a call.
+fn walk_in(c: Call) -> Walk
+    ensures { λ r. ⌜ r ≡ c .walk ⌝ }
 {
-    moved(c.walk, labels)
+    c.walk
 }
 
-// Moves the walk on, in place: the answer and the simplex are this call's.
-pub fn move_on(c: &mut Call, labels: &[u8])
-    ensures { λ _. ⌜ now (c .exit) ≡ callOf (now (c .entry) .walk) (now (labels .entry)) ⌝ }
+// What a call tells besides.
+pub fn told_in(c: Call) -> Told
+    ensures { λ r. ⌜ r ≡ toldIn c ⌝ }
 {
-    *c = again(*c, labels);
+    let answer = c.answer;
+    let simplex = c.simplex;
+    Told { answer, simplex }
+}
+
+// Moves a lent walk on by one place, and tells the answer. At an end, and where it is refused, the walk is as it was.
+pub fn move_on(w: &mut Walk, labels: &[u8]) -> Told
+    ensures { λ r. ⌜ (r ≡ toldIn (callOf (now (w .entry)) (now (labels .entry))))
+        × (now (w .exit) ≡ callOf (now (w .entry)) (now (labels .entry)) .walk) ⌝ }
+{
+    let c = moved(*w, labels);
+    *w = walk_in(c);
+    told_in(c)
 }

@@ -4,6 +4,7 @@ mod lending;
 mod moving;
 
 pub use lending::move_on;
+pub use lending::told_in;
 pub use moving::moved;
 use walk_ways::Answer;
 use walk_ways::Walk;
@@ -13,4 +14,10 @@ pub struct Call {
     pub answer: Answer,
     pub simplex: [u16; 256],
     pub walk: Walk,
+}
+
+// What a call tells besides the walk: the answer, and the simplex of an end.
+pub struct Told {
+    pub answer: Answer,
+    pub simplex: [u16; 256],
 }
