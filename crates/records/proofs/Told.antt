@@ -37,7 +37,7 @@ within-other u v q k m =
     ⊎-elim (λ y. y) (λ z. absurd-bool (sym (rw q at (in-outside onNumbers k u v m z)))) (true-or-false (isIn eqb k v))
 
 module _ {a b : ℕ} {u v : List ℕ} (A : IsMask a u) (B : IsMask b v) where
-  kept : outside eqb u v ≡ [] → outside eqb v u ≡ [] → eqb (differing a b) 16 ≡ true
+  pub kept : outside eqb u v ≡ [] → outside eqb v u ≡ [] → eqb (differing a b) 16 ≡ true
   kept e f = eq-eqb (differing a b) 16 (none-differs a b (λ k l. A .bits k l ∙ both _ _ (within-other u v f k) (within-other v u e k) ∙ sym (B .bits k l)))
 
   differs : {h : ℕ} → h < 16 → (bit a h ≡ bit b h → ⊥) → ((k : ℕ) → (k ≡ h → ⊥) → isIn eqb k u ≡ isIn eqb k v) → (eqb h 16 ≡ false) × (differing a b ≡ h)
@@ -46,7 +46,7 @@ module _ {a b : ℕ} {u v : List ℕ} (A : IsMask a u) (B : IsMask b v) where
     only-differs a b h l d (λ k m n. A .bits k m ∙ rest k n ∙ sym (B .bits k m)),
   )
 
-  gained : {h : ℕ} → outside eqb u v ≡ h ∷ [] → outside eqb v u ≡ [] → (eqb h 16 ≡ false) × (differing a b ≡ h) × (bit b h ≡ true)
+  pub gained : {h : ℕ} → outside eqb u v ≡ h ∷ [] → outside eqb v u ≡ [] → (eqb h 16 ≡ false) × (differing a b ≡ h) × (bit b h ≡ true)
   gained {h} e f =
       let L = less-of v u e f in
       let l = B .below h L.has in
@@ -54,7 +54,7 @@ module _ {a b : ℕ} {u v : List ℕ} (A : IsMask a u) (B : IsMask b v) where
       let w = differs l (λ q. absurd-bool (sym y ∙ sym q ∙ A .bits h l ∙ L .out)) (λ k n. L .rest k n) in
       (w .0, w .1, y)
 
-  lost : {h : ℕ} → outside eqb u v ≡ [] → outside eqb v u ≡ h ∷ [] → (eqb h 16 ≡ false) × (differing a b ≡ h) × (bit b h ≡ false)
+  pub lost : {h : ℕ} → outside eqb u v ≡ [] → outside eqb v u ≡ h ∷ [] → (eqb h 16 ≡ false) × (differing a b ≡ h) × (bit b h ≡ false)
   lost {h} e f =
       let L = less-of u v f e in
       let l = A .below h L.has in
@@ -69,7 +69,7 @@ pasted {bytes} {r} R d at = rw (R .are, R .long, front-taken bytes (replicate 8 
 module _ (p : Problem) (a b : Simplex) {T U T' U' y z : ℕ} (t : IsMask T (setT p a)) (t' : IsMask T' (setT p b))
     (u : IsMask U (setU p.grid a)) (u' : IsMask U' (setU p.grid b))
     (come : (x : ℕ) → change p a b .pointsIn ≡ x ∷ [] → y ≡ x) (gone : (x : ℕ) → change p a b .pointsOut ≡ x ∷ [] → z ≡ x) where
-  into : {i o t t' u u' : List ℕ} → change p a b ≡ changeBy i o t t' u u'
+  pub into : {i o t t' u u' : List ℕ} → change p a b ≡ changeBy i o t t' u u'
       → (outside eqb (setT p a) (setT p b) ≡ t) × (outside eqb (setT p b) (setT p a) ≡ t')
       × (outside eqb (setU p.grid a) (setU p.grid b) ≡ u) × (outside eqb (setU p.grid b) (setU p.grid a) ≡ u')
   unfolding change

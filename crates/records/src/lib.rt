@@ -43,7 +43,7 @@ fn from_one(h: usize) -> u8
 }
 
 // The first index at which two sets differ; 16 where they are the same.
-fn difference(a: u16, b: u16) -> usize
+pub fn difference(a: u16, b: u16) -> usize
     ensures { λ r. ⌜ (r ≡ differing a b) × (r ≤ 16) ⌝ }
 {
     if a == b {

@@ -108,10 +108,14 @@ and-no : (a : Bool) → (a && false) ≡ false
 and-no true = refl
 and-no false = refl
 
-pub too-many-blocks : (w : WalkStruct) (labels : List ℕ) → 6 < w .blocks → unmovedAs w 1 ≡ callOf w labels
+-- neither more than six blocks nor none are a grid's
+pub too-many-blocks : (w : WalkStruct) → 6 < w .blocks → firstNo (gridQuestions (gridOf w)) ≡ firstNo (gridQuestions (record { sizes = []; divisions = [] }))
 unfolding firstNo
-too-many-blocks w labels l = table-refused (gridOf w) w labels 1 (λ e. absurd (omega arith))
-    (rw (lt-leb (w .blocks) 6 l, length-replicate {A = ℕ} (w .blocks) 0) (rw (lt-leb (w .blocks) 6 l, and-no (leb 1 (w .blocks))))) ∙ sym (call-on-own w labels)
+too-many-blocks w l = rw (lt-leb (w .blocks) 6 l, length-replicate {A = ℕ} (w .blocks) 0) (rw (lt-leb (w .blocks) 6 l, and-no (leb 1 (w .blocks))))
+
+pub none-refused : (k : ℕ) → k ≡ firstNo (gridQuestions (record { sizes = []; divisions = [] })) → k ≡ 0 → ⊥
+unfolding firstNo
+none-refused k e z = omega (arith, e, z)
 
 -- a refusal by questions 1 to 4
 pub grid-refused : (w : WalkStruct) (labels : List ℕ) (k : ℕ) → (k ≡ 0 → ⊥) → firstNo (gridQuestions (gridOf w)) ≡ k → unmovedAs w k ≡ callOf w labels

@@ -2,3 +2,4 @@ pub mod Stood
 pub mod Later
 pub mod Begins
 pub mod Calls
+pub mod GridIn

@@ -38,7 +38,7 @@ use Rattle.walk_moves.proofs.Unknown.{some-spare}
 use Rattle.walk_moves.specs.Spare.{Spare, again, outside, unknown}
 use Rattle.recogniser.specs.Kept.{Recognised, Seen}
 use Rattle.recogniser.specs.declared.Sets.{Sets}
-use Rattle.walk_calls.specs.Moving.{CanChoose, CanStand, FilledBy}
+use Rattle.walk_calls.specs.Moving.{CanChoose, CanSee, CanStand, FilledBy}
 use Rattle.walk_ways.specs.Spares.{LabelsLow, NotNew, SparesOf, again as seenAgain, labelAt, outside as seenOutside, unknown as unseen}
 use Rattle.walk_ways.specs.Standing.{IsRoundOf, Standing, pointsOn, tableOn, walkOn}
 use Rattle.walk_ways.specs.declared.Spared.{Spared}
@@ -68,6 +68,9 @@ module _ {g : GridStruct} {w : WalkStruct} {labels first order : List ℕ} {n : 
 
   abbrev s : Simplex
   s = keptPoints (shape g) y o
+
+  pub can-see : CanSee g w labels first order n
+  can-see = record { made = C .made; asked = C .asked; few = C .few; firstLong = C .firstLong; orderLong = C .orderLong }
 
   pub ok : Accepted p
   ok = accepted-of p C.asked

@@ -7,7 +7,9 @@ use lib.Dec.{eqb}
 use lib.ListN.{length, replicate}
 use Rattle.grid.specs.Grid.{Grid, at, bound}
 use Rattle.grid.specs.Made.{IsMade, shape}
+use Rattle.grid.specs.Questions.{gridQuestions}
 use Rattle.grid.specs.declared.Grid.{Grid as GridStruct}
+use Rattle.grid.specs.declared.Made.{Made}
 use Rattle.place.specs.Questions.{tableQuestions}
 use Rattle.questions.specs.Questions.{firstNo}
 use Rattle.walks.specs.Next.{nextOf, ruleOf}
@@ -19,6 +21,19 @@ use Rattle.walk_ways.specs.declared.Answer.the-variants.{Refused}
 use Rattle.walk_calls.specs.declared.Call.{Call}
 use Rattle.walk_ways.specs.declared.Place.{Place}
 use Rattle.walk_ways.specs.declared.Walk.{Walk as WalkStruct}
+
+-- what `Grid::new` gives of a walk's grid
+pub record GridIn (g : Grid) (r : Made) : Type 0 where
+  pub code : r .code ≡ firstNo (gridQuestions g)
+  pub is : r .code ≡ 0 → IsMade (r .grid) × (shape (r .grid) ≡ g)
+
+-- the walk passes questions 1 to 7, and there are 16 numbers each
+pub record CanSee (g : GridStruct) (w : WalkStruct) (labels first order : List ℕ) (n : ℕ) : Type 0 where
+  pub made : IsMade g
+  pub asked : firstNo (tableQuestions (tableOn g w labels)) ≡ 0
+  pub few : n ≤ 15
+  pub firstLong : length first ≡ 16
+  pub orderLong : length order ≡ 16
 
 -- the walk passes questions 1 to 7, its places so far are in range, and its present place is kept rightly
 pub record CanStand (g : GridStruct) (w : WalkStruct) (labels first order : List ℕ) (n : ℕ) : Type 0 where

@@ -5,7 +5,10 @@ mod moving;
 
 pub use lending::move_on;
 pub use lending::told_in;
+pub use asking::first_no;
+pub use moving::grid_in;
 pub use moving::moved;
+pub use moving::seen;
 use walk_ways::Answer;
 use walk_ways::Walk;
 

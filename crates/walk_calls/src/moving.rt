@@ -1,18 +1,22 @@
 // The moving call by value.
+ghost use mathlib.Core.Bool.{cond};
 ghost use mathlib.Core.Path.{_≡_};
 ghost use Prim.Native.Nat.{_≤_, _<_};
+ghost use lib.Dec.{leb};
 ghost use lib.ListN.{length, take};
 ghost use Rattle.questions.specs.Questions.{firstNo};
 ghost use Rattle.grid.specs.Made.{IsMade, shape};
 ghost use Rattle.place.specs.Questions.{tableQuestions};
 ghost use Rattle.recogniser.specs.Kept.{Recognised};
-ghost use Rattle.walk_calls.specs.Moving.{CanChoose, CanFill, CanStand, FilledBy, callOn, movedTo, unmovedAs};
+ghost use Rattle.walk_calls.specs.Moving.{CanChoose, CanFill, CanSee, CanStand, FilledBy, GridIn, callOn, movedTo, unmovedAs};
 ghost use Rattle.walk_ways.specs.Standing.{IsRoundOf, nextIn, tableOn};
+ghost use Rattle.walk_ways.specs.Walks.{gridOf};
 ghost use Rattle.walk_calls.specs.Calls.{callOf};
 use crate::Call;
 use crate::asking::first_no;
 use crate::asking::in_range;
 use grid::Grid;
+use grid::Made;
 use grid::wide;
 use moves::block_sizes;
 use moves::label_in;
@@ -31,7 +35,7 @@ use walk_ways::spare;
 
 // T and U of the place with this first point and order, if it is one but for its labels; the coefficients and the marks
 // into their arrays.
-fn seen(
+pub fn seen(
     g: Grid,
     w: Walk,
     labels: &[u8],
@@ -41,7 +45,7 @@ fn seen(
     list: &mut [u16; 16],
     marks: &mut [u32; 16],
 ) -> Sets
-    requires { ⌜ CanStand g w (now labels) (now first) (now order) n × (length (now marks) ≡ 16) ⌝ }
+    requires { ⌜ CanSee g w (now labels) (now first) (now order) n × (length (now marks) ≡ 16) ⌝ }
     ensures { λ r. ⌜ Recognised (tableOn g w (now (labels .entry))) (take (g .indices) (now (first .entry)))
         (take n (now (order .entry))) (now (list .exit)) (now (marks .exit)) r ⌝ }
 {
@@ -252,18 +256,32 @@ fn unmoved(w: Walk, number: u8) -> Call
     }
 }
 
+// A number of blocks that has its places in a walk: more than six are no grid's, and neither is none.
+fn six(blocks: u8) -> usize
+    ensures { λ r. ⌜ r ≡ cond (leb blocks 6) blocks 0 ⌝ }
+{
+    if 6 < blocks {
+        return 0;
+    }
+    wide(blocks)
+}
+
+// The grid of a walk, and the number of the first of questions 1 to 4 that is answered no.
+pub fn grid_in(w: Walk) -> Made
+    ensures { λ r. ⌜ GridIn (gridOf w) r ⌝ }
+{
+    let blocks = six(w.blocks);
+    let sizes = w.sizes;
+    let divisions = w.divisions;
+    Grid::new(&sizes[..blocks], &divisions[..blocks])
+}
+
 // Moves a walk on by one place: questions 1 to 7 on its own grid and start and the table lent, then 20 and 16. At an end,
 // and where it is refused, the walk is as it was.
 pub fn moved(w: Walk, labels: &[u8]) -> Call
     ensures { λ r. ⌜ r ≡ callOf w (now (labels .entry)) ⌝ }
 {
-    let blocks = wide(w.blocks);
-    if 6 < blocks {
-        return unmoved(w, 1);
-    }
-    let sizes = w.sizes;
-    let divisions = w.divisions;
-    let made = Grid::new(&sizes[..blocks], &divisions[..blocks]);
+    let made = grid_in(w);
     let code = made.code;
     let g = made.grid;
     if code != 0 {

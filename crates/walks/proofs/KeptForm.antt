@@ -174,7 +174,7 @@ module _ (p : Problem) (y : Point) (o : List ℕ) (place : isPlace p (keptPoints
   pub order-is : order p.grid s ≡ o
   order-is = order-kept p u y o (parts p s place .gridPoints) (parts p s place .inOrder)
 
-  T-is : (k : ℕ) → isIn eqb k o ≡ isIn eqb k (setT p s)
+  pub T-is : (k : ℕ) → isIn eqb k o ≡ isIn eqb k (setT p s)
   T-is k =
       both _ _ (λ m. order-within p s place k (rw order-is m))
       (λ m. rw order-is at (occurs-in k (order p.grid s) (eqb-true _ 1
@@ -184,7 +184,7 @@ module _ (p : Problem) (y : Point) (o : List ℕ) (place : isPlace p (keptPoints
   first-in : isIn samePoint y s ≡ true
   first-in = rw (split p.grid u y o) (in-here onPoints y (later p.grid u y o))
 
-  U-is : (k : ℕ) → isIn eqb k u ≡ isIn eqb k (setU p.grid s)
+  pub U-is : (k : ℕ) → isIn eqb k u ≡ isIn eqb k (setU p.grid s)
   U-is k =
       both _ _ (λ m. let w = zero-is p o y k m in U-means p.grid s k .1 (w .0, zero-all p u y o k w.0 w.1 w.2))
       (λ m. let w = U-means p.grid s k .0 m in

@@ -6,7 +6,8 @@ use Rattle.grid.proofs.Fields.{indices-few, made-indices, made-previous, previo
 use Rattle.grid.specs.Grid.{numIndices}
 use Rattle.grid.specs.Made.{shape}
 use Rattle.recogniser.specs.Kept.{Recognised, problemOn}
-use Rattle.walk_calls.proofs.Stood.{ok}
+use Rattle.place.proofs.Accepted.{accepted-of}
+use Rattle.walk_ways.specs.Standing.{tableOn}
 use Prim.Native.Nat.{ℕ}
 use borrow.Author.Needs.{needs, length-unmapped}
 use native.Mathlib.Omega.{arith}
@@ -26,11 +27,11 @@ slice-aggregate-recognise : tie.Need-slice-aggregate-recognise
 slice-aggregate-recognise c = let h = c .before .before .before .before .before .before .before .before .good .1 .0 .1 .1 .1 .1 .1 .0 in let z : length (c .before .before .before .before .before .before .before .before .args .w .start) ≡ 16 = length-unmapped _ (c .before .before .before .before .before .before .before .before .args .w .start) 16 (search (h, needs)) in simp length-take (omega (arith, indices-few (c .before .before .before .before .before .before .before .before .args .g) (c .before .before .before .before .before .before .before .before .pre .0 .made)))
 
 recognise-requires : tie.Need-recognise-requires
-recognise-requires c κs = let s = c .before .before .before .before .before .before .before .before .before .before .before .before in let C = s .pre .0 in let g = s .args .g in
+recognise-requires c κs = let s = c .before .before .before .before .before .before .before .before .before .before .before .before in let C = s .pre .0 in let g = s .args .g in let ok = accepted-of (tableOn g (s .args .w) (s .args .labels .now)) (C .asked) in
     record {
-      readable = record { made = C .made; filled = c .before .before .before .before .before .before .binomials2 .ensures; whole = ok C .tableLength };
-      labels = ok C .labels;
-      startOn = rw (made-indices g (C .made)) (ok C .settled .start);
+      readable = record { made = C .made; filled = c .before .before .before .before .before .before .binomials2 .ensures; whole = ok .tableLength };
+      labels = ok .labels;
+      startOn = rw (made-indices g (C .made)) (ok .settled .start);
       below = λ h l. previous-low g (C .made) h;
       backward = λ h l. made-previous g (C .made) h (omega (arith, made-indices g (C .made)));
       blockSizes = λ h l. c .before .before .before .before .before .before .before .before .before .block-sizes .ensures h (omega (arith, made-indices g (C .made)));

@@ -3,13 +3,13 @@ use mathlib.Core.Path.{_≡_, refl, sym, ap, _∙_}
 use Rattle.combinatorics.proofs.Basics.{not-is}
 use Rattle.recogniser.proofs.Together.{is-not}
 use Rattle.walk_ways.proofs.Chosen.{refused-is}
-use Rattle.walk_calls.proofs.Stood.{all-seen, can-choose, labels-low, not-all, not-kept, round-of}
+use Rattle.walk_calls.proofs.Stood.{all-seen, can-choose, can-see, labels-low, not-all, not-kept, round-of}
 use borrow.Author.Needs.{needs}
 use Rattle.walk_calls.proofs.moving.stand.Statement.{statement}
 use Rattle.walk_calls.proofs.moving.stand.Tie as tie
 
 seen-requires : tie.Need-seen-requires
-seen-requires c κs = (c .before .before .before .pre, refl)
+seen-requires c κs = (can-see (c .before .before .before .pre), refl)
 
 refused-requires : tie.Need-refused-requires
 refused-requires c κs = search needs
