@@ -3,9 +3,9 @@ mod asking;
 mod lending;
 mod moving;
 
+pub use asking::first_no;
 pub use lending::move_on;
 pub use lending::told_in;
-pub use asking::first_no;
 pub use moving::grid_in;
 pub use moving::moved;
 pub use moving::seen;

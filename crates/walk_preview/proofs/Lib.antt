@@ -1,0 +1,4 @@
+pub mod Among
+pub mod Changed
+pub mod BothSeen
+pub mod Calls

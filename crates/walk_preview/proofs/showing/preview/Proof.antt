@@ -1,0 +1,56 @@
+-- `showing::preview` meets its contract. Assumes nothing.
+use mathlib.Core.Path.{_≡_, sym, ap, _∙_}
+use borrow.Author.Needs.{needs}
+use Rattle.walk_preview.proofs.Calls.{moves-of, shown-ended, shown-moved, shown-refused, shownWith}
+use Rattle.walk_ways.specs.declared.Answer.{Answer}
+use Rattle.walk_preview.proofs.showing.preview.Statement.{statement}
+use Rattle.walk_preview.proofs.showing.preview.Tie as tie
+
+moved-requires : tie.Need-moved-requires
+moved-requires c κs = search needs
+
+enum-known-answer : tie.Need-enum-known-answer
+enum-known-answer c = search needs
+
+change-in-requires : tie.Need-change-in-requires
+change-in-requires c κs = moves-of (c .before .before .before .before .before .before .before .args .w) (c .before .before .before .before .before .before .before .args .labels .now) (c .before .before .before .before .before .moved .result) (c .before .before .before .before .before .moved .ensures) (c .before .answer .given .0 .0) (c .before .answer .given .1)
+
+enum-told : tie.Need-enum-told
+enum-told c = search needs
+
+unchanged-requires : tie.Need-unchanged-requires
+unchanged-requires c κs = search needs
+
+enum-told-2 : tie.Need-enum-told-2
+enum-told-2 c = search needs
+
+unchanged-requires-2 : tie.Need-unchanged-requires-2
+unchanged-requires-2 c κs = search needs
+
+returns : tie.Need-returns
+returns c = let m = c .before .before .before .before .before .before .moved in
+    ap (λ (a : Answer). shownWith a (m .result .simplex) (c .change-in .result)) (sym (c .before .before .answer .given .1))
+    ∙ shown-moved (c .before .before .before .before .before .before .before .before .args .w) (c .before .before .before .before .before .before .before .before .args .labels .now) (m .result) (m .ensures) (c .before .before .answer .given .0 .0) (c .before .before .answer .given .1) (c .change-in .result) (c .change-in .ensures)
+
+returns-2 : tie.Need-returns-2
+returns-2 c = let m = c .before .before .before .before .before .moved in
+    shown-refused (c .before .before .before .before .before .before .before .args .w) (c .before .before .before .before .before .before .before .args .labels .now) (m .result) (m .ensures) (c .before .enum-told .given .0 .0) (c .before .enum-told .given .1) (c .unchanged .result) (c .unchanged .ensures)
+
+returns-3 : tie.Need-returns-3
+returns-3 c = let m = c .before .before .before .before .before .moved in
+    shown-ended (c .before .before .before .before .before .before .before .args .w) (c .before .before .before .before .before .before .before .args .labels .now) (m .result) (m .ensures) _ _ _ (c .before .enum-told2 .given .1) (c .unchanged2 .result) (c .unchanged2 .ensures)
+
+pub preview-spec : {M : Type 1} → statement M
+preview-spec =
+    tie.close
+    (tie.spec
+    moved-requires
+    enum-known-answer
+    change-in-requires
+    enum-told
+    unchanged-requires
+    enum-told-2
+    unchanged-requires-2
+    returns
+    returns-2
+    returns-3)
