@@ -56,7 +56,7 @@ round-of g made sizes s = record {
   below = record { backward = λ h l. previous-low g made h; forward = λ h l. following-low g made h };
 }
 
-module _ {g : GridStruct} {w : WalkStruct} {labels first order : List ℕ} {n : ℕ} (C : CanStand g w labels first order n) where
+module _ {g : GridStruct} {w : WalkStruct} {labels first order : List ℕ} {n : ℕ} (C : CanSee g w labels first order n) where
   abbrev p : Problem
   p = tableOn g w labels
 
@@ -69,20 +69,14 @@ module _ {g : GridStruct} {w : WalkStruct} {labels first order : List ℕ} {n : 
   abbrev s : Simplex
   s = keptPoints (shape g) y o
 
-  pub can-see : CanSee g w labels first order n
-  can-see = record { made = C .made; asked = C .asked; few = C .few; firstLong = C .firstLong; orderLong = C .orderLong }
-
   pub ok : Accepted p
   ok = accepted-of p C.asked
 
   long-o : length o ≡ n
   long-o = length-take n order ∙ omega (arith, C .orderLong, C .few)
 
-  refuses : isPlace p s ≡ false → nextOf (walkOn (shape g) w) labels ≡ refused 20
-  refuses f = no-place (walkOn (shape g) w) labels ok (rw C.present f)
-
-  pub not-kept : isKept p y o ≡ false → nextOf (walkOn (shape g) w) labels ≡ refused 20
-  not-kept f = refuses (recognised ok.settled y o ∙ (rw f))
+  pub not-kept-place : isKept p y o ≡ false → isPlace p s ≡ false
+  not-kept-place f = recognised ok.settled y o ∙ (rw f)
 
   module _ {list marks : List ℕ} {t u : ℕ} (S : Seen p y o list marks t u) where
     -- the points are on the grid, and their labels stand in the marks
@@ -115,13 +109,13 @@ module _ {g : GridStruct} {w : WalkStruct} {labels first order : List ℕ} {n : 
       pub all-seen : r .seen ≡ t → isPlace p s ≡ true
       all-seen e = recognised ok.settled y o ∙ and-both _ _ S.kept (in-all onNumbers _ o (λ k m. seen-in k (below k m) (ap (λ (x : ℕ). bit x k) e ∙ S .inT k (below k m) ∙ m)))
 
-      pub not-all : r .seen < 65536 → t < 65536 → (r .seen ≡ t → ⊥) → nextOf (walkOn (shape g) w) labels ≡ refused 20
-      not-all ls lt ne = refuses (false-of _ (λ h. ne (same-mask (r .seen) t ls lt (λ k l. both (bit (r .seen) k) (bit t k) (λ b. P .known k l b .0) (λ b.
+      pub not-all-place : r .seen < 65536 → t < 65536 → (r .seen ≡ t → ⊥) → isPlace p s ≡ false
+      not-all-place ls lt ne = false-of _ (λ h. ne (same-mask (r .seen) t ls lt (λ k l. both (bit (r .seen) k) (bit t k) (λ b. P .known k l b .0) (λ b.
           let m = sym (S .inT k l) ∙ b in
           let v = labels-mean p s k .0 (all-in onNumbers (λ h. isIn eqb h (labelSet p s)) o (and-right (isKept p y o) (within o (labelSet p s)) (sym (recognised ok.settled y o) ∙ h)) k m) in
           let i = in-at onPoints [] v.1.0 s v.1.1 in
           let il : i .0 ≤ n = omega (arith, i .1, points-long ok.settled y o (conditions-of p y o S.kept), long-o) in
-          P .all i.0 k (omega (arith, il)) l (label-is i.0 il ∙ ap (label p) i.2 ∙ v .1 .2) b)))))
+          P .all i.0 k (omega (arith, il)) l (label-is i.0 il ∙ ap (label p) i.2 ∙ v .1 .2) b))))
 
       -- the spare point
       module _ (place : isPlace p s ≡ true) where
@@ -147,8 +141,8 @@ module _ {g : GridStruct} {w : WalkStruct} {labels first order : List ℕ} {n : 
             go (seenOutside h z b) = let e = sym (label-is (r .point) found.0) ∙ z in outside h e (sym (S .inT h (omega (arith, e, label-few (r .point) found.0))) ∙ b)
             go (seenAgain j l z) = again j (omega (arith, l, found .0, long-o)) (λ e. omega (arith, l, e)) (sym (label-is j (omega (arith, l, found .0))) ∙ z ∙ label-is (r .point) found.0)
 
-        pub can-choose : length first ≡ 16 → CanChoose g w labels first list order marks n t u (r .point)
-        can-choose fl = record {
+        pub can-choose : CanStand g w labels first order n → CanChoose g w labels first list order marks n t u (r .point)
+        can-choose D = record {
           low = omega (arith, found .0, C .few);
           long = S .marksLong;
           room = omega (arith, S .marked (r .point) (omega (arith, found .0, long-o)), label-few (r .point) found.0, low-position (r .point) found.0, made-accepted g C.made .fewPoints);
@@ -156,11 +150,11 @@ module _ {g : GridStruct} {w : WalkStruct} {labels first order : List ℕ} {n : 
             made = C .made;
             asked = C .asked;
             few = C .few;
-            firstLong = fl;
+            firstLong = C .firstLong;
             listLong = S .listLong;
             orderLong = C .orderLong;
             marksLong = F .long;
-            present = C .present;
+            present = D .present;
             place = place;
             inT = S .inT;
             inU = S .inU;
@@ -169,10 +163,18 @@ module _ {g : GridStruct} {w : WalkStruct} {labels first order : List ℕ} {n : 
             spare = spare-of;
             unknownIs = e ∙ ap (λ (x : ℕ). eqb x 0) (label-is (r .point) found.0);
             marked = λ j l. F .each j ∙ ap (λ (x : ℕ). x + cond (un && eqb j (r .point)) 1 0) (S .marked j (omega (arith, long-o)));
-            some = C .some;
-            most = C .most;
+            some = D .some;
+            most = D .most;
           };
         }
           where
             low-position : (j : ℕ) → j ≤ n → position (shape g) (getD s j []) < numPoints (shape g)
             low-position j l = position-in (points (shape g)) (getD s j []) (in-points (shape g) (getD s j []) ok.settled.sameNumber (on-grid j l))
+
+-- a walk whose present place is no place is refused
+module _ {g : GridStruct} {w : WalkStruct} {labels first order : List ℕ} {n : ℕ} (D : CanStand g w labels first order n) where
+  pub can-see : CanSee g w labels first order n
+  can-see = record { made = D .made; asked = D .asked; few = D .few; firstLong = D .firstLong; orderLong = D .orderLong }
+
+  pub no-place-there : isPlace (tableOn g w labels) (pointsOn g first order n) ≡ false → nextOf (walkOn (shape g) w) labels ≡ refused 20
+  no-place-there f = no-place (walkOn (shape g) w) labels (ok can-see) (rw D.present f)

@@ -9,6 +9,7 @@ pub use choice::from_other;
 pub use choice::from_start;
 pub use ending::refused;
 pub use keeping::is_kept;
+pub use keeping::none;
 pub use spares::spare;
 
 // A place as it is kept: its first point, the indices of T from 0 in the order in which each point goes to the next, and

@@ -3,7 +3,7 @@ use mathlib.Core.Path.{_≡_, refl, sym, ap, _∙_}
 use Rattle.combinatorics.proofs.Basics.{not-is}
 use Rattle.recogniser.proofs.Together.{is-not}
 use Rattle.walk_ways.proofs.Chosen.{refused-is}
-use Rattle.walk_calls.proofs.Stood.{all-seen, can-choose, can-see, labels-low, not-all, not-kept, round-of}
+use Rattle.walk_calls.proofs.Stood.{all-seen, can-choose, can-see, labels-low, no-place-there, not-all-place, not-kept-place, round-of}
 use borrow.Author.Needs.{needs}
 use Rattle.walk_calls.proofs.moving.stand.Statement.{statement}
 use Rattle.walk_calls.proofs.moving.stand.Tie as tie
@@ -16,24 +16,24 @@ refused-requires c κs = search needs
 
 returns : tie.Need-returns
 returns c = let s = c .before .before .before .before .before .before .before in let a = s .args in
-    c .refused .ensures ∙ refused-is (a .g) (a .w) (a .labels .now) 20 (not-kept (s .pre) (c .before .before .before .seen .ensures .no (not-is _ (c .before .if1 .taken))))
+    c .refused .ensures ∙ refused-is (a .g) (a .w) (a .labels .now) 20 (no-place-there (s .pre) (not-kept-place (can-see (s .pre)) (c .before .before .before .seen .ensures .no (not-is _ (c .before .if1 .taken)))))
 
 spare-requires : tie.Need-spare-requires
-spare-requires c κs = let s = c .before .before .before .before .before .before .before in let S = c .before .before .before .seen .ensures .yes (is-not _ (c .before .if1 .left)) in (s .pre .few, S .marksLong, labels-low (s .pre) S)
+spare-requires c κs = let s = c .before .before .before .before .before .before .before in let S = c .before .before .before .seen .ensures .yes (is-not _ (c .before .if1 .left)) in (s .pre .few, S .marksLong, labels-low (can-see (s .pre)) S)
 
 refused-requires-2 : tie.Need-refused-requires-2
 refused-requires-2 c κs = search needs
 
 returns-2 : tie.Need-returns-2
 returns-2 c = let s = c .before .before .before .before .before .before .before .before .before .before .before .before in let a = s .args in let S = c .before .before .before .before .before .before .before .before .seen .ensures .yes (is-not _ (c .before .before .before .before .before .before .if1 .left)) in
-    c .refused2 .ensures ∙ refused-is (a .g) (a .w) (a .labels .now) 20 (not-all (s .pre) S (c .before .before .before .before .spare .ensures) (search needs) (search needs) (c .before .if2 .taken))
+    c .refused2 .ensures ∙ refused-is (a .g) (a .w) (a .labels .now) 20 (no-place-there (s .pre) (not-all-place (can-see (s .pre)) S (c .before .before .before .before .spare .ensures) (search needs) (search needs) (c .before .if2 .taken)))
 
 block-sizes-requires : tie.Need-block-sizes-requires
 block-sizes-requires c κs = c .before .before .before .before .before .before .before .before .before .before .before .pre .made
 
 chosen-requires : tie.Need-chosen-requires
 chosen-requires c κs = let s = c .before .before .before .before .before .before .before .before .before .before .before .before .before .before .before in let a = s .args in let S = c .before .before .before .before .before .before .before .before .before .before .before .seen .ensures .yes (is-not _ (c .before .before .before .before .before .before .before .before .before .if1 .left)) in (
-  can-choose (s .pre) S (c .before .before .before .before .before .before .before .spare .ensures) (all-seen (s .pre) S (c .before .before .before .before .before .before .before .spare .ensures) (c .before .before .before .before .if2 .left)) (s .pre .firstLong),
+  can-choose (can-see (s .pre)) S (c .before .before .before .before .before .before .before .spare .ensures) (all-seen (can-see (s .pre)) S (c .before .before .before .before .before .before .before .spare .ensures) (c .before .before .before .before .if2 .left)) (s .pre),
   round-of (a .g) (s .pre .made) (c .before .before .before .block-sizes .result) (c .before .before .before .block-sizes .ensures),
 )
 

@@ -1,0 +1,44 @@
+// What a viewer asks besides: the walk at {v}, a walk that faces the other way, and the points of a place.
+ghost use mathlib.Core.Path.{_≡_};
+ghost use Rattle.walk_views.specs.Turned.{turnedAs};
+
+mod beginning;
+mod pointing;
+
+pub use beginning::at_start;
+pub use pointing::points;
+use walk_ways::Walk;
+
+// The number of the first of questions 1 to 5 that is answered no, or 0 and the walk at {v}.
+pub struct Begun {
+    pub code: u8,
+    pub walk: Walk,
+}
+
+// The number of the first of questions 1 to 7 and 20 that is answered no, or 0, how many points the place has, and their
+// numbers, m for each point in rising order of coefficient sum, with 0 behind.
+pub struct PlacePoints {
+    pub code: u8,
+    pub count: usize,
+    pub numbers: [u16; 256],
+}
+
+// The walk with the present place and the one before it exchanged: it faces the other way.
+pub fn turned(w: Walk) -> Walk
+    ensures { λ r. ⌜ r ≡ turnedAs w ⌝ }
+{
+    let present = w.present;
+    let before = w.before;
+    let start = w.start;
+    let divisions = w.divisions;
+    let sizes = w.sizes;
+    Walk {
+        places: w.places,
+        present: before,
+        before: present,
+        start,
+        divisions,
+        sizes,
+        blocks: w.blocks,
+    }
+}
