@@ -166,6 +166,41 @@ static void check_refine(void)
     expect("the second level's vertices, and the number behind them", memcmp(answer + 24, second, sizeof second) == 0);
 }
 
+static struct leveretplate_step step;
+
+static void check_walk(void)
+{
+    const uint8_t sizes[] = {2, 2}, table[] = {2, 2, 2, 4}, rules[] = {5, 5, 1, 6};
+    const uint16_t divisions[] = {1, 1}, start[] = {1, 0, 1, 0}, off[] = {1, 0, 1, 1}, points[] = {1, 0, 1, 0, 0, 1, 1, 0, 0};
+    struct leveretplate_walk end;
+    int rightly = 1;
+    leveretplate_walk_at_start(&step, sizes, 2, divisions, 2, off, 4);
+    expect("a walk at a start off the grid", step.number == 5 && step.walk.places == 0);
+    leveretplate_walk_at_start(&step, sizes, 2, divisions, 2, start, 4);
+    expect("the walk at {v}", step.number == 0 && step.walk.places == 1 && step.walk.present.count == 1 && step.walk.before.count == 0);
+    leveretplate_preview(&step, table, 4);
+    expect("its first move shown", step.rule == 5 && step.map == 37 && step.fields[0] == 2 && step.fields[2] == 4 && step.fields[5] == 4
+                                       && step.walk.places == 1);
+    for (size_t at = 0; at < 4; at++) {
+        leveretplate_move_on(&step, table, 4);
+        rightly &= step.number == 0 && step.rule == rules[at] && step.walk.places == at + 2;
+    }
+    expect("the path by calls", rightly);
+    end = step.walk;
+    leveretplate_move_on(&step, table, 4);
+    expect("its end", step.number == 0 && step.kind == 1 && step.block == 1 && step.vertices == 1 && step.rule == 0 && step.simplex[1] == 1);
+    expect("the walk at the end", memcmp(&step.walk, &end, sizeof end) == 0);
+    leveretplate_walk_points(&step, table, 4);
+    expect("its points", step.vertices == 2 && memcmp(step.simplex, points, sizeof points) == 0);
+    step.walk.present = end.before;
+    step.walk.before = end.present;
+    leveretplate_move_on(&step, table, 4);
+    expect("the walk back", step.rule == 1 && step.walk.places == 6);
+    step.walk.places = 69;
+    leveretplate_move_on(&step, table, 4);
+    expect("places above the bound", step.number == 20 && step.walk.places == 69);
+}
+
 int main(void)
 {
     check_sheet();

@@ -133,4 +133,53 @@ uint8_t leveretplate_file(uint16_t *list, size_t list_length, size_t count, size
  * number: 21 for no shelf, 23 for a sheet that is not on it. */
 uint8_t leveretplate_current(const uint16_t *list, size_t list_length, size_t count, size_t sheet, size_t *last);
 
+/* A walk is lent and moved on by one place with each call. A place is kept as its first point, the indices of T from 0 in the order in which each point
+ * goes to the next, and the count of its points; what stands behind is 0, and 0 points with nothing but 0 are no place. At the front of each array of a
+ * walk stand the numbers of the blocks or of the indices. Two walks are the same exactly if these numbers are. */
+struct leveretplate_place {
+    uint16_t first[16];
+    uint32_t order[16];
+    uint8_t count;
+};
+
+struct leveretplate_walk {
+    uint64_t places; /* so far */
+    struct leveretplate_place present, before;
+    uint16_t start[16], divisions[6];
+    uint8_t sizes[6], blocks;
+};
+
+/* A walk, and behind it what the last call on it has answered. Every call below writes all of what stands behind the walk: 0 where it says nothing. */
+struct leveretplate_step {
+    struct leveretplate_walk walk;
+    uint64_t vertices;     /* of an end, or points of a place */
+    uint32_t fields[6];    /* of a move that is shown: point in, point out (positions from 0), index into T, out of T, into U, out of U (from 1) */
+    uint16_t simplex[256]; /* m numbers for each vertex or point in rising coefficient sum */
+    uint8_t number;        /* the refusal's number, or 0 */
+    uint8_t kind;          /* of an end: 0 place, 1 facet */
+    uint8_t block;         /* of an end, from 1; 0 where there is none */
+    uint8_t rule;          /* of a move, 1 to 7; 0 where there is none */
+    uint8_t map;           /* bit b stands exactly if field b is there */
+};
+
+/* Makes the walk at {v}, with none before it and 1 as its places so far. Else the number is the refusal's, 1 to 5, and the walk stays. */
+void leveretplate_walk_at_start(struct leveretplate_step *step,
+                                const uint8_t *sizes, size_t sizes_length,
+                                const uint16_t *divisions, size_t divisions_length,
+                                const uint16_t *start, size_t start_length);
+
+/* Moves the walk on by one place and tells the rule. At an end tells its kind, block and simplex, and the walk stays. Else the number is the refusal's, and
+ * the walk stays: 1 to 7, asked of the walk's own grid and start and of the table; 20, where the present place is not a place, or the one before it not
+ * linked to it, or only one of "it is {v}" and "it has none before it" holds, or the places so far are not from 1 to the bound; 16, where a point of the
+ * present place has label 0. Any numbers may stand in the walk. */
+void leveretplate_move_on(struct leveretplate_step *step, const uint8_t *labels, size_t labels_length);
+
+/* Shows the move before it is made: the answer that leveretplate_move_on would give, and of a move the map and the fields of the trail's record. The walk
+ * stays. */
+void leveretplate_preview(struct leveretplate_step *step, const uint8_t *labels, size_t labels_length);
+
+/* Gives the number of the present place's points and the points. Else the number is the refusal's, 1 to 7, or 20 where it is not a place over the table.
+ * The walk stays. */
+void leveretplate_walk_points(struct leveretplate_step *step, const uint8_t *labels, size_t labels_length);
+
 #endif

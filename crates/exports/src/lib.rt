@@ -12,6 +12,7 @@ ghost use Rattle.exports.specs.Numbers.{kindNumber, runNumber, runFacts,
 
 mod boundary_calls;
 mod check_calls;
+mod lent_walks;
 mod near_calls;
 mod refine_calls;
 mod shelf_calls;

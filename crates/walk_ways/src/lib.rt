@@ -15,6 +15,7 @@ pub use spares::spare;
 // A place as it is kept: its first point, the indices of T from 0 in the order in which each point goes to the next, and
 // how many points it has. What stands behind is 0, so that places are the same exactly if their structs are; 0 points
 // and nothing but 0 are no place.
+#[repr(C)]
 pub struct Place {
     pub first: [u16; 16],
     pub order: [u32; 16],
@@ -23,6 +24,7 @@ pub struct Place {
 
 // A walk: the places so far, the present place, the one before it or none, the start, and the grid by its divisions,
 // its sizes and the number of its blocks. At the front of each array stand the numbers of the blocks or of the indices.
+#[repr(C)]
 pub struct Walk {
     pub places: u64,
     pub present: Place,

@@ -1,0 +1,47 @@
+// The calls on a walk, for programs in C and Rust: each takes the struct by reference, calls the by-value step and stores
+// what it gives.
+ghost use mathlib.Core.Path.{_≡_};
+ghost use Rattle.walk_steps.specs.Steps.{begunStep, movedStep, pointedStep, shownStep};
+use walk_steps::Step;
+use walk_steps::begun_step;
+use walk_steps::moved_step;
+use walk_steps::pointed_step;
+use walk_steps::shown_step;
+
+// Makes the walk at {v}, with 1 as its places so far.
+#[no_mangle]
+pub extern "C" fn leveretplate_walk_at_start(
+    s: &mut Step,
+    sizes: &[u8],
+    divisions: &[u16],
+    start: &[u16],
+)
+    ensures { λ _. ⌜ now (s .exit) ≡ begunStep (now (s .entry))
+        (now (sizes .entry)) (now (divisions .entry)) (now (start .entry)) ⌝ }
+{
+    *s = begun_step(*s, sizes, divisions, start);
+}
+
+// Moves the walk on by one place.
+#[no_mangle]
+pub extern "C" fn leveretplate_move_on(s: &mut Step, labels: &[u8])
+    ensures { λ _. ⌜ now (s .exit) ≡ movedStep (now (s .entry)) (now (labels .entry)) ⌝ }
+{
+    *s = moved_step(*s, labels);
+}
+
+// Shows the move before it is made: the walk is as it was.
+#[no_mangle]
+pub extern "C" fn leveretplate_preview(s: &mut Step, labels: &[u8])
+    ensures { λ _. ⌜ now (s .exit) ≡ shownStep (now (s .entry)) (now (labels .entry)) ⌝ }
+{
+    *s = shown_step(*s, labels);
+}
+
+// Gives the points of the present place: the walk is as it was.
+#[no_mangle]
+pub extern "C" fn leveretplate_walk_points(s: &mut Step, labels: &[u8])
+    ensures { λ _. ⌜ now (s .exit) ≡ pointedStep (now (s .entry)) (now (labels .entry)) ⌝ }
+{
+    *s = pointed_step(*s, labels);
+}
