@@ -212,6 +212,7 @@ int main(void)
     check_shelf();
     check_check();
     check_refine();
+    check_walk();
     printf("%d wrong\n", failures);
     return failures != 0;
 }
