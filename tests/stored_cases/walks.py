@@ -1,4 +1,4 @@
-"""The input and the expected output of the program walk_cases, from the walks in walks/walk.txt.
+"""The input and the expected output of the programs walk_cases, preview_cases and backwards_cases, from the walks in walks/.
 
 A walk's places are points there; the lines behind `later` give them as the walk keeps them, the first point and the order counted from 1. A place that has no such
 form cannot be lent: its walk is left out, unless a question before 20 refuses it, and then an empty place stands for it.
@@ -8,7 +8,7 @@ import pathlib
 import re
 
 HERE = pathlib.Path(__file__).resolve().parent
-CRATE = HERE.parent.parent / "crates" / "walk_cases"
+CRATES = HERE.parent.parent / "crates"
 
 
 def numbers(text):
@@ -49,10 +49,14 @@ def stated(name, text, later, refused):
     return EMPTY if refused else None
 
 
-def walks():
-    for block in re.split(r"^(?=call move)", (HERE / "walks" / "walk.txt").read_text(), flags=re.M)[1:]:
+def blocks(file):
+    for block in re.split(r"^(?=call [a-z])", (HERE / "walks" / file).read_text(), flags=re.M)[1:]:
         head, _, rest = block.partition("expect\n")
-        expect, _, later = rest.partition("later\n")
+        yield (head, *rest.partition("later\n")[::2])
+
+
+def walks():
+    for head, expect, later in blocks("walk.txt"):
         lines = [line.partition(" ")[::2] for line in head.splitlines()]
         fields = dict(lines)
         tables = [list(numbers(text)) for word, text in lines if word == "labels"]
@@ -83,13 +87,33 @@ def as_text(name, place):
     return f"{name}\n" + row("first", first) + row("order", order) + row("count", [count])
 
 
-def write():
-    chosen, data, text = list(walks()), b"", ""
+def of_walk(fields, present, before):
+    sizes, count = list(numbers(fields["sizes"])), int(fields["places"])
+    data = bytes(padded(sizes, 6)) + bytes([len(sizes)]) + little(padded(numbers(fields["d"]), 6), 2)
+    return data + little(padded(numbers(fields["start"]), 16), 2) + as_bytes(present) + as_bytes(before) + little([count], 8)
+
+
+def ended(answer):
+    """An end's lines up to the number of vertices, and the numbers of the vertices."""
+    lines, _, rows = answer.partition("vertices ")
+    return lines + f"vertices {rows.split()[0]}\n", list(map(int, rows.split()[1:]))
+
+
+def row(word, values):
+    return " ".join([word, *map(str, values)]) + "\n"
+
+
+def store(crate, chosen, data, text):
+    (CRATES / crate / "stdin").write_bytes(len(chosen).to_bytes(2, "little") + data)
+    (CRATES / crate / "stdout").write_text(text)
+
+
+def write_moves():
+    origins = list(origin_moves())
+    chosen, data, text = list(walks()) + origins, b"", ""
     for number, (fields, tables, answers, (present, before)) in enumerate(chosen, 1):
-        sizes, count = list(numbers(fields["sizes"])), int(fields["places"])
-        data += bytes(padded(sizes, 6)) + bytes([len(sizes)]) + little(padded(numbers(fields["d"]), 6), 2)
-        data += little(padded(numbers(fields["start"]), 16), 2) + as_bytes(present) + as_bytes(before)
-        data += little([count], 8) + little([len(answers)], 2)
+        count = int(fields["places"])
+        data += of_walk(fields, present, before) + little([len(answers)], 2)
         text += f"walk {number}\n"
         for k, answer in enumerate(answers):
             data += as_runs(tables[min(k, len(tables) - 1)])
@@ -99,12 +123,128 @@ def write():
                 present, before, count = kept(points(moved["present"])), kept(points(moved["before"])), int(moved["places"])
                 answer = f"rule {moved['rule']}\n"
             elif answer.startswith("end"):
-                answer, _, rows = answer.partition("vertices ")
-                answer, simplex = answer + f"vertices {rows.split()[0]}\n", list(map(int, rows.split()[1:]))
-            text += answer + " ".join(["simplex", *map(str, padded(simplex, 256))]) + "\n"
+                answer, simplex = ended(answer)
+            text += answer + row("simplex", padded(simplex, 256))
             text += as_text("present", present) + as_text("before", before) + f"places {count}\n"
-    CRATE.joinpath("stdin").write_bytes(len(chosen).to_bytes(2, "little") + data)
-    CRATE.joinpath("stdout").write_text(text)
+    store("walk_cases", chosen, data, text)
+
+
+FIELDS = ("in", "out", "into-T", "out-of-T", "into-U", "out-of-U")
+
+
+def write_previews():
+    chosen, data, text = [], b"", ""
+    for head, expect, later in blocks("preview.txt"):
+        fields = dict(line.partition(" ")[::2] for line in head.splitlines())
+        places = [stated(name, fields[name], later, re.fullmatch(r"refused [1-7]\n", expect)) for name in ("present", "before")]
+        if None in places:
+            continue
+        chosen.append(fields)
+        data += of_walk(fields, *places) + as_runs(list(numbers(fields["labels"])))
+        simplex, shown = [], ["-"] * 6
+        if expect.startswith("end"):
+            expect, simplex = ended(expect)
+        elif not expect.startswith("refused"):
+            record = dict(line.partition(" ")[::2] for line in expect.splitlines())
+            expect, shown = f"rule {record['rule']}\n", [record[name] for name in FIELDS]
+        there = sum(1 << bit for bit, field in enumerate(shown) if field != "-")
+        text += f"walk {len(chosen)}\n" + expect + row("simplex", padded(simplex, 256))
+        text += f"map {there}\n" + row("fields", [0 if field == "-" else field for field in shown])
+    store("preview_cases", chosen, data, text)
+
+
+class Table:
+    """The grid, start and labels of a path, by the definitions: what is needed to name a place's T and U, its rule and its end."""
+
+    def __init__(self, fields):
+        sizes, divisions = list(numbers(fields["sizes"])), list(numbers(fields["d"]))
+        ends = list(itertools.accumulate(sizes))
+        self.blocks = [list(range(end - size, end)) for size, end in zip(sizes, ends)]
+        self.start, self.labels = list(numbers(fields["start"])), list(numbers(fields["labels"]))
+        parts = [[y for y in itertools.product(range(d + 1), repeat=n) if sum(y) == d] for n, d in zip(sizes, divisions)]
+        self.position = {sum(y, ()): at for at, y in enumerate(itertools.product(*parts))}
+
+    def coefficients(self, point):
+        found = {}
+        for block in self.blocks:
+            column = list(itertools.accumulate((self.start[h] - point[h] for h in block[:-1]), initial=0))
+            found.update((h, c - min(column)) for h, c in zip(block, column))
+        return found
+
+    def set_u(self, place):
+        return {h for block in self.blocks for h in block if all(y[h] == 0 for y in place)}
+
+    def set_t(self, place):
+        u, lists = self.set_u(place), [self.coefficients(y) for y in place]
+        return {h for block in self.blocks for h in block if h not in u and any(c[h] for c in lists)}
+
+    def rule(self, a, b):
+        t, u = len(self.set_t(b)) - len(self.set_t(a)), len(self.set_u(b)) - len(self.set_u(a))
+        return {(0, 0): 1, (0, 1): 2, (0, -1): 3, (1, 0): 4, (1, -1): 5, (-1, 1): 6, (-1, 0): 7}[t, u]
+
+    def named(self, place):
+        return {self.labels[self.position[tuple(y)]] - 1 for y in place}
+
+    def end(self, place):
+        for kind, sets in (("place", [place]), ("facet", [[y for y in place if y != x] for x in place])):
+            for rest in sets:
+                if rest and (kind == "place" or self.named(rest) == self.set_t(place)):
+                    for block, indices in enumerate(self.blocks, 1):
+                        if self.named(rest) | self.set_u(rest) >= set(indices):
+                            return f"end {kind}\nblock {block}\nvertices {len(rest)}\n"
+
+
+def runs(values):
+    return " ".join(f"{len(list(group))}x{value}" for value, group in itertools.groupby(values))
+
+
+def listed(values):
+    data = b"".join(little([len(list(group)), value], 2) for value, group in itertools.groupby(values))
+    return data + b"\0\0\0\0"
+
+
+OPPOSITE = {1: 1, 2: 3, 3: 2, 4: 7, 5: 6, 6: 5, 7: 4}
+
+
+def write_backwards():
+    chosen, data, text = [], b"", ""
+    for head, expect, _ in blocks("backwards.txt"):
+        fields = dict(line.partition(" ")[::2] for line in head.splitlines())
+        if fields["call"] != "backwards" or not expect.startswith("places"):
+            continue
+        chosen.append(fields)
+        data += b"".join(listed(numbers(fields[name])) for name in ("sizes", "d", "start", "labels"))
+        table = Table(fields)
+        path = [points(line.partition(" at ")[2]) for line in expect.splitlines()[1:]][::-1]
+        rules = [table.rule(a, b) for a, b in itertools.pairwise(path)]
+        at = lambda place: f"points {len(place)}\nnumbers {runs(padded(sum(place, []), 256))}\n"
+        text += f"path {len(chosen)}\nbegun 0\n"
+        for place, rule in zip(path, rules):
+            text += at(place) + f"rule {rule}\n"
+        text += at(path[-1]) + table.end(path[-1]) + f"places {len(path)}\nback\n"
+        for place, rule in zip(path[-2:0:-1], rules[-2::-1]):
+            text += at(place) + f"rule {OPPOSITE[rule]}\n"
+        text += at(path[0] if len(path) > 1 else []) + f"refused 20\nplaces {max(2 * len(path) - 2, 1)}\n"
+    store("backwards_cases", chosen, data, text)
+
+
+def origin_moves():
+    """Each walk that has an origin, as a move from there."""
+    for head, expect, _ in blocks("backwards.txt"):
+        fields = dict(line.partition(" ")[::2] for line in head.splitlines())
+        origin = dict(line.partition(" ")[::2] for line in expect.splitlines())
+        if fields["call"] != "origin" or "present" not in origin:
+            continue
+        here, there = points(origin["present"]), points(fields["present"])
+        before = EMPTY if origin["before"] == "-" else kept(points(origin["before"]))
+        answer = f"rule {Table(fields).rule(here, there)}\npresent {fields['present']}\nbefore {fields['before']}\nplaces {fields['places']}\n"
+        yield {**fields, "places": origin["places"]}, [list(numbers(fields["labels"]))], [answer], [kept(here), before]
+
+
+def write():
+    write_moves()
+    write_previews()
+    write_backwards()
 
 
 if __name__ == "__main__":

@@ -1,11 +1,11 @@
--- `read_numbers` meets its contract. The invariant: the list keeps its length. Assumes nothing.
+-- `read_indices` meets its contract. The invariant: the list keeps its length. Assumes nothing.
 use mathlib.Core.Path.{_≡_, refl, sym}
 use Prim.Native.Nat.{_≤_, _-_}
 use lib.ListN.{length}
 use native.Mathlib.Omega.{arith}
 use borrow.Author.Needs.{needs}
-use Rattle.walk_cases.proofs.read_numbers.Statement.{statement}
-use Rattle.walk_cases.proofs.read_numbers.Tie as tie
+use Rattle.walk_reader.proofs.read_indices.Statement.{statement}
+use Rattle.walk_reader.proofs.read_indices.Tie as tie
 
 abbrev Inv-loop : tie.InvT-loop
 Inv-loop list₀ i₀ list i = length list ≡ length list₀
@@ -18,6 +18,9 @@ loop-holds c = search needs
 
 number-requires : tie.Need-number-requires Inv-loop μ-loop
 number-requires c κs = search needs
+
+cast-list : tie.Need-cast-list Inv-loop μ-loop
+cast-list c = omega arith
 
 mul-list : tie.Need-mul-list Inv-loop μ-loop
 mul-list c = omega arith
@@ -40,14 +43,15 @@ same-length c = search needs
 returns : tie.Need-returns Inv-loop μ-loop
 returns c = search needs
 
-pub read-numbers-spec : {M : Type 1} → statement M
-read-numbers-spec =
+pub read-indices-spec : {M : Type 1} → statement M
+read-indices-spec =
     tie.close
     (tie.spec
     Inv-loop
     μ-loop
     loop-holds
     number-requires
+    cast-list
     mul-list
     slice-write-list
     add-i

@@ -4,8 +4,8 @@ use Prim.Native.Nat.{_≤_}
 use lib.ListN.{length}
 use native.Mathlib.Omega.{arith}
 use borrow.Author.Needs.{needs}
-use Rattle.walk_cases.proofs.read_list.Statement.{statement}
-use Rattle.walk_cases.proofs.read_list.Tie as tie
+use Rattle.walk_reader.proofs.read_list.Statement.{statement}
+use Rattle.walk_reader.proofs.read_list.Tie as tie
 
 abbrev Inv-loop : tie.InvT-loop
 Inv-loop list₀ at₀ left₀ list at left = (at ≤ length list) × (length list ≡ length list₀)

@@ -1,0 +1,108 @@
+// Walks the paths that standard input holds to their end by calls, and then back by calls to {v}, and prints the places
+// and the rules. How many there are stands first, in 16 bits. A path is its sizes, divisions, start and labels as lists.
+use case_reader::bytes;
+use case_reader::show;
+use case_reader::show_text;
+use case_reader::show_words;
+use case_reader::word;
+use case_reader::words;
+use walk_calls::moved;
+use walk_views::at_start;
+use walk_views::points;
+use walk_views::turned;
+use walk_ways::Answer;
+use walk_ways::Kind;
+use walk_ways::Walk;
+
+fn print_points(w: Walk, labels: &[u8]) {
+    let p = points(w, labels);
+    let numbers = p.numbers;
+    show(b"points ", p.count as u64);
+    show_words(b"numbers", &numbers);
+}
+
+fn print_kind(kind: Kind) {
+    match kind {
+        Kind::Place => show_text(b"end place\n"),
+        Kind::Facet => show_text(b"end facet\n"),
+    }
+}
+
+// What a call has answered, and whether it has moved the walk.
+fn print_answer(answer: Answer) -> bool {
+    match answer {
+        Answer::Refused(number) => {
+            show(b"refused ", number as u64);
+            false
+        }
+        Answer::Ended {
+            kind,
+            block,
+            vertices,
+        } => {
+            print_kind(kind);
+            show(b"block ", block as u64);
+            show(b"vertices ", vertices as u64);
+            false
+        }
+        Answer::Moved(rule) => {
+            show(b"rule ", rule as u64);
+            true
+        }
+    }
+}
+
+// The walk after the last call that moves it; no more than 60,000 are made.
+fn walk_on(first: Walk, labels: &[u8]) -> Walk {
+    let mut w = first;
+    let mut left: usize = 60000;
+    while 0 < left {
+        print_points(w, labels);
+        let c = moved(w, labels);
+        let answer = c.answer;
+        if !print_answer(answer) {
+            return w;
+        }
+        w = c.walk;
+        left -= 1;
+    }
+    w
+}
+
+fn print_path(sizes: &[u8], divisions: &[u16], start: &[u16], labels: &[u8]) {
+    let begun = at_start(sizes, divisions, start);
+    let at_v = begun.walk;
+    show(b"begun ", begun.code as u64);
+    let last = walk_on(at_v, labels);
+    show(b"places ", last.places);
+    show_text(b"back\n");
+    let back = walk_on(turned(last), labels);
+    show(b"places ", back.places);
+}
+
+fn print_next() {
+    let mut sizes = [0u8; 64];
+    let mut divisions = [0u16; 64];
+    let mut start = [0u16; 64];
+    let mut labels = [0u8; 60000];
+    let blocks = bytes(&mut sizes);
+    let given = words(&mut divisions);
+    let from = words(&mut start);
+    let labelled = bytes(&mut labels);
+    print_path(
+        &sizes[..blocks],
+        &divisions[..given],
+        &start[..from],
+        &labels[..labelled],
+    );
+}
+
+fn main() {
+    let paths = word() as u64;
+    let mut k: u64 = 0;
+    while k < paths {
+        k += 1;
+        show(b"path ", k);
+        print_next();
+    }
+}

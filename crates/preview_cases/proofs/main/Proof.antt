@@ -1,0 +1,50 @@
+-- `preview_cases::main` is safe and ends. The invariant: no more walks than there are. Assumes nothing.
+use Prim.Native.Nat.{_≤_, _-_}
+use borrow.Author.Needs.{needs}
+use Rattle.preview_cases.proofs.main.Statement.{statement}
+use Rattle.preview_cases.proofs.main.Tie as tie
+
+abbrev Inv-loop : tie.InvT-loop
+Inv-loop walks k₀ k = (k ≤ walks) × (walks ≤ 65535)
+
+abbrev μ-loop : tie.MeasureT-loop
+μ-loop walks k₀ k = walks - k
+
+number-requires : tie.Need-number-requires Inv-loop μ-loop
+number-requires c κs = search needs
+
+cast-walks : tie.Need-cast-walks Inv-loop μ-loop
+cast-walks c = search needs
+
+loop-holds : tie.Need-loop-holds Inv-loop μ-loop
+loop-holds c = search needs
+
+add-k : tie.Need-add-k Inv-loop μ-loop
+add-k c = search needs
+
+print-next-requires : tie.Need-print-next-requires Inv-loop μ-loop
+print-next-requires c κs = search needs
+
+loop-less : tie.Need-loop-less Inv-loop μ-loop
+loop-less c = search needs
+
+loop-again : tie.Need-loop-again Inv-loop μ-loop
+loop-again c = search needs
+
+returns : tie.Need-returns Inv-loop μ-loop
+returns c = search needs
+
+pub main-spec : {M : Type 1} → statement M
+main-spec =
+    tie.close
+    (tie.spec
+    Inv-loop
+    μ-loop
+    number-requires
+    cast-walks
+    loop-holds
+    add-k
+    print-next-requires
+    loop-less
+    loop-again
+    returns)
