@@ -11,6 +11,8 @@ pub mod random;
 pub mod refinements;
 pub mod stored;
 pub mod trails;
+#[cfg(feature = "proved")]
+pub mod walks;
 
 pub use calls::{BoundaryCall, Call, CheckCall, LabelCall, RunCall, ShelfCall, ShelfCalls};
 pub use implementations::{all, Implementation};

@@ -16,6 +16,7 @@ pub mod shelf;
 pub mod slip;
 pub mod small;
 pub mod trail;
+pub mod walks;
 
 pub use check::Verdict;
 pub use grid::Grid;

@@ -26,10 +26,10 @@ struct Point {
 }
 
 /// A set of grid points by their positions, in rising order of coefficient sum.
-type Set = Vec<usize>;
+pub(crate) type Set = Vec<usize>;
 
 #[derive(Clone, PartialEq, Eq, Debug)]
-enum Way {
+pub(crate) enum Way {
     Link(Set),
     End(Kind, usize, Set),
 }
@@ -51,12 +51,12 @@ impl Problem {
     }
 
     /// "the set of indices h with y_h = 0 at all of them"
-    fn set_u(&self, set: &[usize]) -> u16 {
+    pub(crate) fn set_u(&self, set: &[usize]) -> u16 {
         set.iter().fold(self.all_indices(), |common, &y| common & self.points[y].zero)
     }
 
     /// "the set of indices not in U whose coefficient is positive at one of them at least"
-    fn set_t(&self, set: &[usize]) -> u16 {
+    pub(crate) fn set_t(&self, set: &[usize]) -> u16 {
         set.iter().fold(0, |any, &y| any | self.points[y].positive) & !self.set_u(set)
     }
 
@@ -84,8 +84,26 @@ impl Problem {
         })
     }
 
+    /// The position of a grid point.
+    pub(crate) fn position(&self, numbers: &[u16; MOST_INDICES]) -> Option<usize> {
+        self.points.iter().position(|point| point.numbers == *numbers)
+    }
+
+    pub(crate) fn numbers(&self, y: usize) -> [u16; MOST_INDICES] {
+        self.points[y].numbers
+    }
+
+    pub(crate) fn start(&self) -> usize {
+        self.start
+    }
+
+    /// Whether the coefficient sums rise from each point to the next.
+    pub(crate) fn rises(&self, set: &[usize]) -> bool {
+        set.windows(2).all(|pair| self.points[pair[0]].coefficient_sum < self.points[pair[1]].coefficient_sum)
+    }
+
     /// The set in rising order of coefficient sum.
-    fn in_order(&self, mut set: Set) -> Set {
+    pub(crate) fn in_order(&self, mut set: Set) -> Set {
         set.sort_by_key(|&y| self.points[y].coefficient_sum);
         set
     }
@@ -94,7 +112,7 @@ impl Problem {
         set.iter().filter(|&&y| labels[y] != 0).fold(0, |any, &y| any | 1 << (labels[y] - 1))
     }
 
-    fn is_place(&self, labels: &[u8], set: &[usize]) -> bool {
+    pub(crate) fn is_place(&self, labels: &[u8], set: &[usize]) -> bool {
         self.set_t(set) & !self.label_set(labels, set) == 0 && self.is_shape(set)
     }
 
@@ -162,7 +180,7 @@ impl Problem {
     }
 
     /// The links and ends of a place.
-    fn ways(&self, labels: &[u8], place: &Set) -> Vec<Way> {
+    pub(crate) fn ways(&self, labels: &[u8], place: &Set) -> Vec<Way> {
         let t = self.set_t(place);
         let mut ways: Vec<Way> = self.complete(labels, place).map(|j| Way::End(Kind::Place, j, place.clone())).collect();
         let outside = || (0..self.points.len()).filter(|z| !place.contains(z));

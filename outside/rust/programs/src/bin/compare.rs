@@ -330,6 +330,11 @@ fn main() -> ExitCode {
     comparison.part("damaged and cut slips", |take| inputs::damaged_slips(9, 100_000, take));
     comparison.part("every small shelf", inputs::every_shelf);
     comparison.part("random shelves", |take| inputs::random_shelves(10, 3_000, take));
+    #[cfg(feature = "proved")]
+    {
+        comparison.differences += programs::walks::compare("walks on grids up to 30 points", 20, 20_000, 30);
+        comparison.differences += programs::walks::compare("walks on grids up to 130 points", 21, 2_000, 130);
+    }
     println!("{} differences, {:.1} s in all", comparison.differences, begin.elapsed().as_secs_f64());
     if comparison.differences == 0 {
         ExitCode::SUCCESS
