@@ -22,9 +22,11 @@ use Rattle.walk_ways.specs.Walks.{gridOf}
 use Rattle.walk_ways.specs.declared.Walk.{Walk as WalkStruct}
 
 pub few-blocks : (b n : ℕ) → n ≡ cond (leb b 6) b 0 → n ≤ 6
-few-blocks b n e = ⊎-elim (λ t. let z : n ≡ b = e ∙ (rw t) in omega (arith, leb-true b 6 t)) (λ f. let z : n ≡ 0 = e ∙ (rw f) in omega arith) (true-or-false (leb b 6))
+few-blocks b n e = ⊎-elim (λ t. let z : n ≡ b = e ∙ (rw t) in
+    omega (arith, leb-true b 6 t)) (λ f. let z : n ≡ 0 = e ∙ (rw f) in omega arith) (true-or-false (leb b 6))
 
-module _ (w : WalkStruct) (n : ℕ) (is : n ≡ cond (leb (w .blocks) 6) (w .blocks) 0) (r : Made) (made : r ≡ madeOf (lent (take n (w .sizes)) (take n (w .divisions)))) where
+module _ (w : WalkStruct) (n : ℕ) (is : n ≡ cond (leb (w .blocks) 6) (w .blocks) 0) (r : Made) (made : r ≡ madeOf (lent
+    (take n (w .sizes)) (take n (w .divisions)))) where
   abbrev G : Grid
   G = lent (take n (w .sizes)) (take n (w .divisions))
 
@@ -36,11 +38,15 @@ module _ (w : WalkStruct) (n : ℕ) (is : n ≡ cond (leb (w .blocks) 6) (w .blo
 
   of-none : 6 < w .blocks → n ≡ 0 → GridIn (gridOf w) r
   of-none l z =
-      let e : G ≡ record { sizes = []; divisions = [] } = ap (λ (k : ℕ). lent (take k (w .sizes)) (take k (w .divisions))) z in
-      let c : r .code ≡ firstNo (gridQuestions (record { sizes = []; divisions = [] })) = made-code G r made ∙ ap (λ (g : Grid). firstNo (gridQuestions g)) e in
+      let e : G ≡ record { sizes = []; divisions = [] } = ap (λ (k : ℕ). lent (take k (w .sizes)) (take k
+      (w .divisions))) z in
+      let c : r .code ≡ firstNo (gridQuestions (record { sizes = []; divisions = [] })) = made-code G r made
+      ∙ ap (λ (g : Grid). firstNo (gridQuestions g)) e in
       record { code = c ∙ sym (too-many-blocks w l); is = λ q. absurd (none-refused (r .code) c q) }
 
   pub grid-in : GridIn (gridOf w) r
   grid-in =
-      ⊎-elim (λ t. let k : n ≡ w .blocks = is ∙ (rw t) in of-own (ap (λ (b : ℕ). lent (take b (w .sizes)) (take b (w .divisions))) k ∙ sym (six-blocks w (leb-true (w .blocks) 6 t))))
+      ⊎-elim (λ t. let k : n ≡ w .blocks = is ∙ (rw t) in
+      of-own (ap (λ (b : ℕ). lent (take b (w .sizes)) (take b (w .divisions))) k
+      ∙ sym (six-blocks w (leb-true (w .blocks) 6 t))))
       (λ f. of-none (leb-false (w .blocks) 6 f) (is ∙ (rw f))) (true-or-false (leb (w .blocks) 6))

@@ -31,7 +31,8 @@ module _ (l others : List ℕ) (k : ℕ) (low : k < length l) where
   pub outside-here : isIn eqb (getD l k 0) others ≡ false → firstOr 0 (outside eqb others (drop k l)) ≡ getD l k 0
   outside-here f = rw (drop-cons l k 0 low, f)
 
-  pub outside-later : isIn eqb (getD l k 0) others ≡ true → outside eqb others (drop (suc k) l) ≡ outside eqb others (drop k l)
+  pub outside-later : isIn eqb (getD l k 0) others ≡ true
+      → outside eqb others (drop (suc k) l) ≡ outside eqb others (drop k l)
   outside-later t = rw (drop-cons l k 0 low, t)
 
 pub outside-done : (l others : List ℕ) (k : ℕ) → length l ≤ k → _≡_ {A = List ℕ} (outside eqb others (drop k l)) []

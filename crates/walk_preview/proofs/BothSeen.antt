@@ -1,4 +1,5 @@
--- What is shown of a walk that a call moves. In order: both places are kept; what is seen of them; the change. Assumes nothing.
+-- What is shown of a walk that a call moves. In order: both places are kept; what is seen of them; the change. Assumes
+-- nothing.
 use mathlib.Core.Bool.{true, false}
 use mathlib.Core.List.{List, [], _∷_, map}
 use mathlib.Core.Logic.{⊎-elim}
@@ -48,15 +49,18 @@ padded-long : (xs : List ℕ) → length xs ≤ 16 → length (padded 16 xs) ≡
 padded-long xs l = let z = length-replicate {A = ℕ} 16 0 in front-length xs (replicate 16 0) (omega (arith, z)) ∙ z
 
 -- a place that is recognised
-module _ {p : Problem} (ok : Accepted p) {y : Point} {o list marks : List ℕ} {r : Sets} (R : Recognised p y o list marks r)
+module _ {p : Problem} (ok : Accepted p) {y : Point} {o list marks : List ℕ} {r : Sets}
+    (R : Recognised p y o list marks r)
     (place : isPlace p (keptPoints p.grid y o) ≡ true) where
   pub sees : Seen p y o list marks (r .t) (r .u)
   sees =
       ⊎-elim (λ t. R .yes t)
-      (λ f. absurd-bool (sym (and-left (isKept p y o) (within o (labelSet p (keptPoints p.grid y o))) (sym (recognised ok.settled y o) ∙ place)) ∙ R .no f))
+      (λ f. absurd-bool (sym (and-left (isKept p y o) (within o (labelSet p (keptPoints p.grid y o))) (sym
+      (recognised ok.settled y o) ∙ place)) ∙ R .no f))
       (true-or-false (r .is))
 
-module _ {g : GridStruct} {w : WalkStruct} {labels : List ℕ} {next : Place} {rule : ℕ} (C : CanShow g w labels next rule) where
+module _ {g : GridStruct} {w : WalkStruct} {labels : List ℕ} {next : Place} {rule : ℕ}
+    (C : CanShow g w labels next rule) where
   abbrev W : Walk
   W = walkOn (shape g) w
 
@@ -88,10 +92,12 @@ module _ {g : GridStruct} {w : WalkStruct} {labels : List ℕ} {next : Place} {r
   holds : holdsPlace (shape g) (w .present) ≡ true
   holds =
       ⊎-elim (λ t. t)
-      (λ f. absurd (no-empty p ok.settled.someBlock (subst (λ (s : Simplex). isPlace p s ≡ true) (not-held (shape g) (w .present) f) here-place)))
+      (λ f. absurd (no-empty p ok.settled.someBlock (subst (λ (s : Simplex). isPlace p s ≡ true) (not-held (shape g)
+      (w .present) f) here-place)))
       (true-or-false (holdsPlace (shape g) (w .present)))
 
-  held-so : (1 ≤ w .present .count) × (w .present .count ≤ 16) × (w .present ≡ keptAs (numIndices (shape g)) (w .present .first) (w .present .order) (pred (w .present .count)))
+  held-so : (1 ≤ w .present .count) × (w .present .count ≤ 16) × (w .present ≡ keptAs (numIndices (shape g))
+      (w .present .first) (w .present .order) (pred (w .present .count)))
   held-so = held-parts (shape g) (w .present) holds
 
   pub some-present : 1 ≤ w .present .count
@@ -105,11 +111,18 @@ module _ {g : GridStruct} {w : WalkStruct} {labels : List ℕ} {next : Place} {r
     made = C .made;
     asked = accepted-is ok;
     few = omega (arith, held-so .0, held-so .1);
-    firstLong = ap (λ (b : Place). length (b .first)) (held-so .2) ∙ padded-long _ (take-few (numIndices (shape g)) (w .present .first) (omega (arith, made-indices g (C .made), m-few)));
-    orderLong = ap (λ (b : Place). length (b .order)) (held-so .2) ∙ padded-long _ (take-few (pred (w .present .count)) (w .present .order) (omega (arith, held-so .1)));
+    firstLong = ap (λ (b : Place). length (b .first)) (held-so .2)
+        ∙ padded-long _ (take-few (numIndices (shape g)) (w .present .first) (omega (
+          arith,
+          made-indices g (C .made),
+          m-few,
+        )));
+    orderLong = ap (λ (b : Place). length (b .order)) (held-so .2)
+        ∙ padded-long _ (take-few (pred (w .present .count)) (w .present .order) (omega (arith, held-so .1)));
   }
 
-  here-is : (n : ℕ) → n ≡ pred (w .present .count) → here ≡ keptPoints (shape g) (take (g .indices) (w .present .first)) (take n (w .present .order))
+  here-is : (n : ℕ) → n ≡ pred (w .present .count) → here ≡ keptPoints (shape g) (take (g .indices)
+      (w .present .first)) (take n (w .present .order))
   here-is n e = held (shape g) (w .present) holds ∙ rw (e, made-indices g (C .made))
 
   -- and so is the next
@@ -159,7 +172,8 @@ module _ {g : GridStruct} {w : WalkStruct} {labels : List ℕ} {next : Place} {r
   }
 
   first-taken : take (g .indices) (next .first) ≡ y
-  first-taken = ap (take (g .indices)) next-first ∙ padded-taken (g .indices) y (y-long ∙ sym (made-indices g (C .made)))
+  first-taken = ap (take (g .indices)) next-first ∙ padded-taken (g .indices) y (y-long
+      ∙ sym (made-indices g (C .made)))
 
   order-taken : (k : ℕ) → k ≡ pred (next .count) → take k (next .order) ≡ o
   order-taken k e = ap (take k) next-order ∙ padded-taken k o (omega (arith, next-count))
@@ -176,14 +190,16 @@ module _ {g : GridStruct} {w : WalkStruct} {labels : List ℕ} {next : Place} {r
   by-rule : ByRule (change p here there) rule
   by-rule =
       subst (λ (q : ℕ). ByRule (change p here there) q) (sym (C .moves .byRule))
-      (subst (λ (s : Simplex). ByRule (change p here s) (ruleOf p here there)) stands (calls-hold W labels .rule (ruleOf p here there) answers))
+      (subst (λ (s : Simplex). ByRule (change p here s) (ruleOf p here there)) stands (calls-hold W labels .rule
+      (ruleOf p here there) answers))
 
   change-is : changeOn g w labels ≡ changedOf (change p here there)
   unfolding preview
   change-is = rw (C .moves .moves)
 
   -- by what is seen of both places
-  module _ (n k : ℕ) (is-n : n ≡ pred (w .present .count)) (is-k : k ≡ pred (next .count)) {list marks list2 marks2 : List ℕ} {a b : Sets}
+  module _ (n k : ℕ) (is-n : n ≡ pred (w .present .count)) (is-k : k ≡ pred
+      (next .count)) {list marks list2 marks2 : List ℕ} {a b : Sets}
       (A : Recognised p (take (g .indices) (w .present .first)) (take n (w .present .order)) list marks a)
       (B : Recognised p (take (g .indices) (next .first)) (take k (next .order)) list2 marks2 b) where
     abbrev z : Point
@@ -215,7 +231,8 @@ module _ {g : GridStruct} {w : WalkStruct} {labels : List ℕ} {next : Place} {r
     r-long = length-take n (w .present .order) ∙ omega (arith, see-present n is-n .orderLong, see-present n is-n .few)
 
     from-long : length from ≡ suc n
-    from-long = place-long ok.settled from here-kept ∙ ap (λ (x : List ℕ). suc (length x)) (order-is p z r here-kept) ∙ ap suc r-long
+    from-long = place-long ok.settled from here-kept ∙ ap (λ (x : List ℕ). suc (length x)) (order-is p z r here-kept)
+        ∙ ap suc r-long
 
     k-is : k ≡ length o
     k-is = omega (arith, next-count)
@@ -224,10 +241,19 @@ module _ {g : GridStruct} {w : WalkStruct} {labels : List ℕ} {next : Place} {r
     onto-long = ap length there-is ∙ there-long ∙ ap suc (sym k-is)
 
     marks-from : take (suc n) marks ≡ map (markOf p) from
-    marks-from = marks-are p from n marks from-long (omega (arith, S .marksLong, see-present n is-n .few)) (λ j l. S .marked j (omega (arith, r-long)))
+    marks-from = marks-are p from n marks from-long (omega (
+      arith,
+      S .marksLong,
+      see-present n is-n .few,
+    )) (λ j l. S .marked j (omega (arith, r-long)))
 
     marks-onto : take (suc k) marks2 ≡ map (markOf p) onto
-    marks-onto = marks-are p onto k marks2 onto-long (omega (arith, R .marksLong, k-is, o-few)) (λ j l. R .marked j (omega (arith, k-is)))
+    marks-onto = marks-are p onto k marks2 onto-long (omega (
+      arith,
+      R .marksLong,
+      k-is,
+      o-few,
+    )) (λ j l. R .marked j (omega (arith, k-is)))
 
     on-from : all (isGridPoint (shape g)) from ≡ true
     on-from = parts p from here-kept .gridPoints
@@ -249,12 +275,15 @@ module _ {g : GridStruct} {w : WalkStruct} {labels : List ℕ} {next : Place} {r
     both-same : change p here there ≡ change p from onto
     both-same = ap (λ (x : Simplex). change p x there) (here-is n is-n) ∙ ap (change p from) (sym there-is)
 
-    pub shown : changeFor rule (otherIn (take (suc k) marks2) (take (suc n) marks)) (otherIn (take (suc n) marks) (take (suc k) marks2)) (suc (indexFrom (a .t) (a .u) (b .t) (b .u)))
+    pub shown : changeFor rule (otherIn (take (suc k) marks2) (take (suc n) marks)) (otherIn (take (suc n) marks) (take
+        (suc k) marks2)) (suc (indexFrom (a .t) (a .u) (b .t) (b .u)))
         ≡ changeOn g w labels
     shown =
         rw (marks-from, marks-onto)
         (changed p from onto
-        (maskT p few from (a .t) (λ k l. S .inT k l ∙ T-is p z r here-kept k)) (maskT p few onto (b .t) (λ k l. R .inT k l ∙ T-is p y o there-kept k))
-        (maskU p few from (a .u) (λ k l. S .inU k l ∙ U-is p z r here-kept k)) (maskU p few onto (b .u) (λ k l. R .inU k l ∙ U-is p y o there-kept k))
+        (maskT p few from (a .t) (λ k l. S .inT k l ∙ T-is p z r here-kept k)) (maskT p few onto (b .t)
+        (λ k l. R .inT k l ∙ T-is p y o there-kept k))
+        (maskU p few from (a .u) (λ k l. S .inU k l ∙ U-is p z r here-kept k)) (maskU p few onto (b .u)
+        (λ k l. R .inU k l ∙ U-is p y o there-kept k))
         come gone (subst (λ (c : Change). ByRule c rule) both-same by-rule)
         ∙ ap changedOf (sym both-same) ∙ sym change-is)

@@ -36,7 +36,8 @@ use Rattle.trail.specs.Change.{ByRule, Change, change, changeBy, outside, rule1
 use Rattle.walk_preview.specs.Changes.{changeFor, changedOf, indexFrom, otherIn}
 
 -- numbers that tell elements apart carry what is outside
-outside-map : (f : Point → ℕ) (a b : List Point) → ((x y : Point) → isIn samePoint x a ≡ true → isIn samePoint y b ≡ true → f x ≡ f y → x ≡ y)
+outside-map : (f : Point → ℕ) (a b : List Point) → ((x y : Point) → isIn samePoint x a ≡ true
+    → isIn samePoint y b ≡ true → f x ≡ f y → x ≡ y)
     → outside eqb (map f b) (map f a) ≡ map f (outside samePoint b a)
 outside-map f [] b tells = refl
 outside-map f (x ∷ a) b tells =
@@ -45,14 +46,17 @@ outside-map f (x ∷ a) b tells =
     both (isIn eqb (f x) (map f b)) (isIn samePoint x b)
     (λ m. let w = map-in onPoints onNumbers f (f x) b m in rw (tells x w.0 (in-here onPoints x a) w.1 w.2) (w .1))
     (λ m. in-map onPoints onNumbers f x b m) in
-    ⊎-elim (λ t. let g : isIn eqb (f x) (map f b) ≡ true = e ∙ t in rw (g, t) rest) (λ n. let g : isIn eqb (f x) (map f b) ≡ false = e ∙ n in rw (g, n) (ap (λ (l : List ℕ). f x ∷ l) rest)) (true-or-false (isIn samePoint x b))
+    ⊎-elim (λ t. let g : isIn eqb (f x) (map f b) ≡ true = e ∙ t in
+    rw (g, t) rest) (λ n. let g : isIn eqb (f x) (map f b) ≡ false = e ∙ n in
+    rw (g, n) (ap (λ (l : List ℕ). f x ∷ l) rest)) (true-or-false (isIn samePoint x b))
 
 -- the marks of a list of points, in an array
 pub marks-are : (p : Problem) (s : Simplex) (n : ℕ) (marks : List ℕ) → length s ≡ suc n → suc n ≤ length marks
     → ((j : ℕ) → j ≤ n → at marks j ≡ markOf p (getD s j [])) → take (suc n) marks ≡ map (markOf p) s
 marks-are p s n marks long room each =
     let l = length-take-le (suc n) marks room in
-    ext-getD 0 (take (suc n) marks) (map (markOf p) s) (l ∙ sym (length-map s (markOf p) ∙ long)) (λ j m. let k : j ≤ n = omega (arith, l) in
+    ext-getD 0 (take (suc n) marks) (map (markOf p) s) (l ∙ sym (length-map s (markOf p)
+    ∙ long)) (λ j m. let k : j ≤ n = omega (arith, l) in
     getD-take (suc n) marks j 0 (omega arith) ∙ each j k ∙ sym (same j (omega arith)))
   where
     same : (j : ℕ) → j < length s → getD (map (markOf p) s) j 0 ≡ markOf p (getD s j [])
@@ -65,23 +69,33 @@ marks-are p s n marks long room each =
 
 module _ {p : Problem} (ok : Accepted p) where
   pub grid-asked : firstNo (gridQuestions p.grid) ≡ 0
-  grid-asked = both-yes (gridQuestions p.grid) (question5 p.grid p.start ∷ question6 p ∷ question7 p ∷ []) refl (accepted-is ok) .0
+  grid-asked = both-yes (gridQuestions p.grid) (question5 p.grid p.start ∷ question6 p ∷ question7 p ∷ []) refl
+      (accepted-is ok) .0
 
   mark-position : (y : Point) → isGridPoint p.grid y ≡ true → markPosition (markOf p y) ≡ position p.grid y
-  mark-position y h = position-in (position p.grid y) (label p y) (omega (arith, label-within ok y h, ok .settled .sixteenIndices))
+  mark-position y h = position-in (position p.grid y) (label p y) (omega (
+    arith,
+    label-within ok y h,
+    ok .settled .sixteenIndices,
+  ))
 
-  marks-tell : (y z : Point) → isGridPoint p.grid y ≡ true → isGridPoint p.grid z ≡ true → markOf p y ≡ markOf p z → y ≡ z
-  marks-tell y z h i e = position-tells p.grid (accepted-grid p.grid grid-asked) y z h i (sym (mark-position y h) ∙ ap markPosition e ∙ mark-position z i)
+  marks-tell : (y z : Point) → isGridPoint p.grid y ≡ true → isGridPoint p.grid z ≡ true → markOf p y ≡ markOf p z
+      → y ≡ z
+  marks-tell y z h i e = position-tells p.grid (accepted-grid p.grid grid-asked) y z h i (sym (mark-position y h)
+      ∙ ap markPosition e ∙ mark-position z i)
 
   -- the only point of one place that is not in the other
   pub only-other : (a b : Simplex) → all (isGridPoint p.grid) a ≡ true → all (isGridPoint p.grid) b ≡ true → (x : ℕ)
       → map (position p.grid) (outside samePoint a b) ≡ x ∷ [] → otherIn (map (markOf p) b) (map (markOf p) a) ≡ x
   only-other a b on-a on-b x e =
       ap (λ (l : List ℕ). markPosition (firstOr 0 l)) (outside-map (markOf p) b a (λ y z m n.
-      marks-tell y z (all-in onPoints (isGridPoint p.grid) b on-b y m) (all-in onPoints (isGridPoint p.grid) a on-a z n)))
-      ∙ go (outside samePoint a b) e (λ y m. all-in onPoints (isGridPoint p.grid) b on-b y (outside-in onPoints y b a m .0))
+      marks-tell y z (all-in onPoints (isGridPoint p.grid) b on-b y m) (all-in onPoints
+      (isGridPoint p.grid) a on-a z n)))
+      ∙ go (outside samePoint a b) e (λ y m. all-in onPoints (isGridPoint p.grid) b on-b y
+      (outside-in onPoints y b a m .0))
     where
-      go : (o : List Point) → map (position p.grid) o ≡ x ∷ [] → ((y : Point) → isIn samePoint y o ≡ true → isGridPoint p.grid y ≡ true)
+      go : (o : List Point) → map (position p.grid) o ≡ x ∷ [] → ((y : Point) → isIn samePoint y o ≡ true
+          → isGridPoint p.grid y ≡ true)
           → markPosition (firstOr 0 (map (markOf p) o)) ≡ x
       go [] q on = absurd-bool (cc)
       go (y ∷ o) q on = mark-position y (on y (in-here onPoints y o)) ∙ ap (firstOr 0) q
@@ -97,20 +111,35 @@ module _ (p : Problem) (few : numIndices p.grid ≤ 16) (s : Simplex) (m : ℕ) 
 -- the fields of the rule are those of the change
 module _ (p : Problem) (a b : Simplex) {T U T' U' y z : ℕ} (t : IsMask T (setT p a)) (t' : IsMask T' (setT p b))
     (u : IsMask U (setU p.grid a)) (u' : IsMask U' (setU p.grid b))
-    (come : (x : ℕ) → change p a b .pointsIn ≡ x ∷ [] → y ≡ x) (gone : (x : ℕ) → change p a b .pointsOut ≡ x ∷ [] → z ≡ x) where
+    (come : (x : ℕ) → change p a b .pointsIn ≡ x ∷ [] → y ≡ x) (gone : (x : ℕ) → change p a b .pointsOut ≡ x ∷ []
+    → z ≡ x) where
   abbrev parts : {i o t t' u u' : List ℕ} → change p a b ≡ changeBy i o t t' u u'
       → (outside eqb (setT p a) (setT p b) ≡ t) × (outside eqb (setT p b) (setT p a) ≡ t')
       × (outside eqb (setU p.grid a) (setU p.grid b) ≡ u) × (outside eqb (setU p.grid b) (setU p.grid a) ≡ u')
   parts e = into p a b t t' u u' come gone e
 
-  pub changed : {r : ℕ} → ByRule (change p a b) r → changeFor r y z (suc (indexFrom T U T' U')) ≡ changedOf (change p a b)
-  changed (rule1 x w e) = rw (come x (ap (λ (c : Change). c .pointsIn) e), gone w (ap (λ (c : Change). c .pointsOut) e)) (sym (ap changedOf e))
+  pub changed : {r : ℕ} → ByRule (change p a b) r → changeFor r y z (suc (indexFrom T U T' U')) ≡ changedOf
+      (change p a b)
+  changed (rule1 x w e) = rw (
+    come x (ap (λ (c : Change). c .pointsIn) e),
+    gone w (ap (λ (c : Change). c .pointsOut) e),
+  ) (sym (ap changedOf e))
   changed (rule2 x w h e) =
       let i = parts e in let f = gained u u' (i .2) (i .3) in
-      rw (kept t t' (i .0) (i .1), f .1, come x (ap (λ (c : Change). c .pointsIn) e), gone w (ap (λ (c : Change). c .pointsOut) e)) (sym (ap changedOf e))
+      rw (
+        kept t t' (i .0) (i .1),
+        f .1,
+        come x (ap (λ (c : Change). c .pointsIn) e),
+        gone w (ap (λ (c : Change). c .pointsOut) e),
+      ) (sym (ap changedOf e))
   changed (rule3 x w h e) =
       let i = parts e in let f = lost u u' (i .2) (i .3) in
-      rw (kept t t' (i .0) (i .1), f .1, come x (ap (λ (c : Change). c .pointsIn) e), gone w (ap (λ (c : Change). c .pointsOut) e)) (sym (ap changedOf e))
+      rw (
+        kept t t' (i .0) (i .1),
+        f .1,
+        come x (ap (λ (c : Change). c .pointsIn) e),
+        gone w (ap (λ (c : Change). c .pointsOut) e),
+      ) (sym (ap changedOf e))
   changed (rule4 x h e) =
       let i = parts e in let d = gained t t' (i .0) (i .1) in
       rw (d .1, d .0, come x (ap (λ (c : Change). c .pointsIn) e)) (sym (ap changedOf e))

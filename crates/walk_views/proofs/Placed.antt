@@ -58,18 +58,22 @@ module _ (g : Grid) (w : WalkStruct) (labels : List ℕ) where
   s = placeOf g (w .present)
 
   pub points-refused : (k : ℕ) → (k ≡ 0 → ⊥) → firstNo (tableQuestions q) ≡ k → noPoints k ≡ pointsOn g w labels
-  points-refused k ne e = let z = asked-no (tableQuestions q) (ask 20 (isPlace q s) ∷ []) k ne e in rw (z, ne-eqb k 0 ne)
+  points-refused k ne e = let z = asked-no (tableQuestions q) (ask 20 (isPlace q s) ∷ []) k ne e in
+      rw (z, ne-eqb k 0 ne)
 
   module _ (asked : firstNo (tableQuestions q) ≡ 0) where
     pub points-none : isPlace q s ≡ false → noPoints 20 ≡ pointsOn g w labels
     unfolding firstNo
-    points-none f = let z : firstNo (placeQuestions q s) ≡ 20 = asked-next (tableQuestions q) (ask 20 (isPlace q s) ∷ []) refl asked ∙ (rw f) in rw z
+    points-none f = let z : firstNo (placeQuestions q s) ≡ 20 = asked-next (tableQuestions q) (ask 20
+        (isPlace q s) ∷ []) refl asked ∙ (rw f) in rw z
 
     pub points-there : isPlace q s ≡ true → pointsAt g w ≡ pointsOn g w labels
     unfolding firstNo
-    points-there t = let z : firstNo (placeQuestions q s) ≡ 0 = asked-next (tableQuestions q) (ask 20 (isPlace q s) ∷ []) refl asked ∙ (rw t) in rw z
+    points-there t = let z : firstNo (placeQuestions q s) ≡ 0 = asked-next (tableQuestions q) (ask 20
+        (isPlace q s) ∷ []) refl asked ∙ (rw t) in rw z
 
-module _ {g : GridStruct} {w : WalkStruct} {labels first order : List ℕ} {n : ℕ} {sets : Sets} (C : CanPoint g w labels first order n sets)
+module _ {g : GridStruct} {w : WalkStruct} {labels first order : List ℕ} {n : ℕ} {sets : Sets}
+    (C : CanPoint g w labels first order n sets)
     (sizes : List ℕ) (is : (h : ℕ) → h < g .indices → at sizes h ≡ size (shape g) (blockOf (shape g) h)) where
   abbrev p : Problem
   p = tableOn g w labels
@@ -118,7 +122,8 @@ module _ {g : GridStruct} {w : WalkStruct} {labels first order : List ℕ} {n : 
     inT = C .seen .inT;
     inU = C .seen .inU;
     marksLong = length-take (suc n) markings ∙ omega (arith, length-map here (markOf filled), here-long, long-o);
-    marked = λ j l. getD-take (suc n) markings j 0 (omega (arith, long-o)) ∙ marked-at here j (omega (arith, here-long, long-o));
+    marked = λ j l. getD-take (suc n) markings j 0 (omega (arith, long-o))
+        ∙ marked-at here j (omega (arith, here-long, long-o));
   }
     where
       marked-at : (r : Simplex) (j : ℕ) → j < length r → getD (map (markOf filled) r) j 0 ≡ markOf filled (getD r j [])
@@ -133,10 +138,15 @@ module _ {g : GridStruct} {w : WalkStruct} {labels first order : List ℕ} {n : 
   can-put = record {
     below = N .below .backward;
     firstLength = C .sees .firstLong;
-    points = rw (ap length refl) (ready-point (full (ok (C .sees)) y o (C .place)) (describes (ok (C .sees)) y o (C .place) state lent) (length o) (omega arith));
+    points = rw (ap length refl) (ready-point (full (ok (C .sees)) y o (C .place)) (describes (ok (C .sees)) y o
+        (C .place) state lent) (length o) (omega arith));
     short = omega (arith, m-is, ok (C .sees) .settled .sixteenIndices);
     low = omega (arith, long-o);
-    fits = product (suc (length o) - 0) (g .indices) (omega (arith, long-o, C .sees .few)) (omega (arith, m-is, ok (C .sees) .settled .sixteenIndices));
+    fits = product (suc (length o) - 0) (g .indices) (omega (arith, long-o, C .sees .few)) (omega (
+      arith,
+      m-is,
+      ok (C .sees) .settled .sixteenIndices,
+    ));
   }
     where
       product : (x m : ℕ) → x ≤ 16 → m ≤ 16 → x * m ≤ 256
@@ -148,26 +158,41 @@ module _ {g : GridStruct} {w : WalkStruct} {labels first order : List ℕ} {n : 
   points-here : pointsFrom filled state 0 ≡ here
   points-here =
       all-points (full (ok (C .sees)) y o (C .place)) (describes (ok (C .sees)) y o (C .place) state lent)
-      ∙ pointsOf-coefficientsOf (filled-full (ok (C .sees)) .settled) here (parts filled here (place-filled (ok (C .sees)) y o (C .place)) .gridPoints)
+      ∙ pointsOf-coefficientsOf (filled-full (ok (C .sees)) .settled) here (parts filled here (place-filled (ok
+      (C .sees)) y o (C .place)) .gridPoints)
 
   numbers-here : numbersFrom (g .indices) told 0 ≡ concatMap (λ y. y) here
   numbers-here = ap (λ (m : ℕ). numbersFrom m told 0) m-is ∙ ap (concatMap (λ y. y)) points-here
 
-  pub put-so : (count : ℕ) (numbers : List ℕ) → count ≡ suc (length (told .order)) - 0 → numbers ≡ front (numbersFrom (g .indices) told 0) (replicate 256 0)
+  pub put-so : (count : ℕ) (numbers : List ℕ) → count ≡ suc (length (told .order)) - 0
+      → numbers ≡ front (numbersFrom (g .indices) told 0) (replicate 256 0)
       → pointsBy count numbers ≡ pointsAt (shape g) w
   unfolding pointsAt
   put-so count numbers e f =
-      let c : count ≡ length (placeOf (shape g) (w .present)) = omega (arith, e, long-o, here-long, ap length (C .present)) in
-      let d : numbers ≡ padded 256 (concatMap (λ y. y) (placeOf (shape g) (w .present))) = f ∙ ap (λ (l : List ℕ). front l (replicate 256 0)) (numbers-here ∙ ap (concatMap (λ y. y)) (sym (C .present))) in
+      let c : count ≡ length (placeOf (shape g) (w .present)) = omega (
+        arith,
+        e,
+        long-o,
+        here-long,
+        ap length (C .present),
+      ) in
+      let d : numbers ≡ padded 256 (concatMap (λ y. y) (placeOf (shape g) (w .present))) = f
+      ∙ ap (λ (l : List ℕ). front l (replicate 256 0)) (numbers-here
+      ∙ ap (concatMap (λ y. y)) (sym (C .present))) in
       rw (c, d)
 
 -- from a place that is kept rightly
-module _ (g : GridStruct) (w : WalkStruct) (labels : List ℕ) (made : IsMade g) (asked : firstNo (tableQuestions (tableOn g w labels)) ≡ 0) where
-  pub no-place-held : holdsNumbers (g .indices) (w .present) ≡ false → isPlace (tableOn g w labels) (placeOf (shape g) (w .present)) ≡ false
-  no-place-held f = false-of _ (λ h. no-empty (tableOn g w labels) (accepted-of (tableOn g w labels) asked .settled .someBlock)
-      (subst (λ (s : Simplex). isPlace (tableOn g w labels) s ≡ true) (not-held (shape g) (w .present) (rw (← (made-indices g made)) f)) h))
+module _ (g : GridStruct) (w : WalkStruct) (labels : List ℕ) (made : IsMade g) (asked : firstNo (tableQuestions
+    (tableOn g w labels)) ≡ 0) where
+  pub no-place-held : holdsNumbers (g .indices) (w .present) ≡ false
+      → isPlace (tableOn g w labels) (placeOf (shape g) (w .present)) ≡ false
+  no-place-held f = false-of _ (λ h. no-empty (tableOn g w labels) (accepted-of
+      (tableOn g w labels) asked .settled .someBlock)
+      (subst (λ (s : Simplex). isPlace (tableOn g w labels) s ≡ true) (not-held (shape g) (w .present) (rw (←
+      (made-indices g made)) f)) h))
 
-  module _ (h : holdsNumbers (g .indices) (w .present) ≡ true) (fl : length (w .present .first) ≡ 16) (ol : length (w .present .order) ≡ 16) (n : ℕ)
+  module _ (h : holdsNumbers (g .indices) (w .present) ≡ true) (fl : length (w .present .first) ≡ 16) (ol : length
+      (w .present .order) ≡ 16) (n : ℕ)
       (is : n ≡ pred (w .present .count)) where
     holds : holdsPlace (shape g) (w .present) ≡ true
     holds = rw (← (made-indices g made)) h
@@ -176,5 +201,6 @@ module _ (g : GridStruct) (w : WalkStruct) (labels : List ℕ) (made : IsMade g)
     view = let k = held-parts (shape g) (w .present) holds in
         record { made = made; asked = asked; few = omega (arith, is, k .0, k .1); firstLong = fl; orderLong = ol }
 
-    pub present-is : placeOf (shape g) (w .present) ≡ keptPoints (shape g) (take (g .indices) (w .present .first)) (take n (w .present .order))
+    pub present-is : placeOf (shape g) (w .present) ≡ keptPoints (shape g) (take (g .indices) (w .present .first))
+        (take n (w .present .order))
     present-is = held (shape g) (w .present) holds ∙ rw (is, made-indices g made)

@@ -48,16 +48,19 @@ module _ (g : Grid) (v : Point) where
   -- a refusal by questions 1 to 4, and by 5
   pub no-grid : (k : ℕ) → (k ≡ 0 → ⊥) → k ≡ firstNo (gridQuestions g) → begunBy k noWalk ≡ begunOf g v
   unfolding begunOf
-  no-grid k ne e = let z : firstNo (startQuestions g v) ≡ k = asked-no (gridQuestions g) (question5 g v ∷ []) k ne (sym e) in rw (z, ne-eqb k 0 ne)
+  no-grid k ne e = let z : firstNo (startQuestions g v) ≡ k = asked-no (gridQuestions g) (question5 g v ∷ []) k ne
+      (sym e) in rw (z, ne-eqb k 0 ne)
 
   module _ (asked : firstNo (gridQuestions g) ≡ 0) where
     pub no-start : isGridPoint g v ≡ false → begunBy 5 noWalk ≡ begunOf g v
     unfolding begunOf firstNo
-    no-start f = let z : firstNo (startQuestions g v) ≡ 5 = asked-next (gridQuestions g) (question5 g v ∷ []) refl asked ∙ (rw f) in rw z
+    no-start f = let z : firstNo (startQuestions g v) ≡ 5 = asked-next (gridQuestions g)
+        (question5 g v ∷ []) refl asked ∙ (rw f) in rw z
 
     pub begins : isGridPoint g v ≡ true → begunBy 0 (startWalk g v) ≡ begunOf g v
     unfolding begunOf firstNo
-    begins t = let z : firstNo (startQuestions g v) ≡ 0 = asked-next (gridQuestions g) (question5 g v ∷ []) refl asked ∙ (rw t) in rw z
+    begins t = let z : firstNo (startQuestions g v) ≡ 0 = asked-next (gridQuestions g) (question5 g v ∷ []) refl asked
+        ∙ (rw t) in rw z
 
 -- "from {v} with 1 as its places so far"
 module _ (g : Grid) (v : Point) (labels : List ℕ) (asked : firstNo (startQuestions g v) ≡ 0) where
@@ -65,7 +68,8 @@ module _ (g : Grid) (v : Point) (labels : List ℕ) (asked : firstNo (startQuest
   p = record { grid = g; start = v; labels = labels }
 
   parts : (firstNo (gridQuestions g) ≡ 0) × (isGridPoint g v ≡ true)
-  parts = let b = both-yes (gridQuestions g) (question5 g v ∷ []) refl asked in (b .0, first-yes (question5 g v) [] (omega arith) (b .1) .0)
+  parts = let b = both-yes (gridQuestions g) (question5 g v ∷ []) refl asked in
+      (b .0, first-yes (question5 g v) [] (omega arith) (b .1) .0)
 
   pub long : length v ≡ numIndices g
   long = grid-long p v (parts .1)
@@ -75,7 +79,8 @@ module _ (g : Grid) (v : Point) (labels : List ℕ) (asked : firstNo (startQuest
       let a = accepted-grid g (parts .0) in
       let six : length (g .sizes) ≤ 6 = a .fewBlocks in
       let s : take (length (g .sizes)) (padded 6 (g .sizes)) ≡ g .sizes = front-taken (g .sizes) (replicate 6 0) in
-      let d : take (length (g .sizes)) (padded 6 (g .divisions)) ≡ g .divisions = rw (← (a .sameNumber)) (front-taken (g .divisions) (replicate 6 0)) in
+      let d : take (length (g .sizes)) (padded 6 (g .divisions)) ≡ g .divisions = rw (← (a .sameNumber)) (front-taken
+      (g .divisions) (replicate 6 0)) in
       rw (le-leb (length (g .sizes)) 6 six, s, d)
 
   few : numIndices g ≤ 16
@@ -88,15 +93,23 @@ module _ (g : Grid) (v : Point) (labels : List ℕ) (asked : firstNo (startQuest
   present-is =
       let z = length-replicate {A = ℕ} 16 0 in
       let l : length (padded 16 v) ≡ 16 = front-length v (replicate 16 0) (omega (arith, z, long, few)) ∙ z in
-      let e : startWalk g v .present ≡ keptAs (numIndices g) (padded 16 v) (replicate 16 0) 0 = rw (taken, front-none (replicate 16 0)) in
-      ap (placeOf g) e ∙ kept-held g (padded 16 v) (replicate 16 0) 0 few (omega arith) l (omega arith) ∙ ap (λ (y : Point). y ∷ []) taken
+      let e : startWalk g v .present ≡ keptAs (numIndices g) (padded 16 v) (replicate 16 0) 0 = rw (
+        taken,
+        front-none (replicate 16 0),
+      ) in
+      ap (placeOf g) e ∙ kept-held g (padded 16 v) (replicate 16 0) 0 few (omega arith) l (omega arith)
+      ∙ ap (λ (y : Point). y ∷ []) taken
 
   pub at-start : walkOf (startWalk g v) ≡ walkAtStart p
   at-start = ap (λ (h : Grid). walkOn h (startWalk g v)) grid-is ∙ rw (taken, present-is)
 
 -- as it is made on a grid that is accepted
 pub short : (g : Grid) (v : Point) → firstNo (gridQuestions g) ≡ 0 → isGridPoint g v ≡ true → length v ≤ 16
-short g v e t = omega (arith, grid-long (record { grid = g; start = v; labels = [] }) v t, accepted-grid g e .fewIndices)
+short g v e t = omega (
+  arith,
+  grid-long (record { grid = g; start = v; labels = [] }) v t,
+  accepted-grid g e .fewIndices,
+)
 
 pub start-made : (g : GridStruct) → IsMade g → (y v : List ℕ) → y ≡ padded 16 v → (b : Place) → b ≡ nowhere
     → walkWith y b (g .divisions) (g .sizes) (g .blocks) ≡ startWalk (shape g) v
@@ -105,7 +118,10 @@ start-made g made y v e b f =
     let s : g .sizes ≡ padded 6 (shape g .sizes) = ap (λ (z : GridStruct). z .sizes) (made .made) in
     let d : g .divisions ≡ padded 6 (shape g .divisions) = ap (λ (z : GridStruct). z .divisions) (made .made) in
     let n : g .blocks ≡ length (shape g .sizes) = made-blocks g made in
-    ap (λ (l : List ℕ). walkWith y b l (g .sizes) (g .blocks)) d ∙ ap (λ (l : List ℕ). walkWith y b (padded 6 (shape g .divisions)) l (g .blocks)) s
+    ap (λ (l : List ℕ). walkWith y b l (g .sizes) (g .blocks)) d
+    ∙ ap (λ (l : List ℕ). walkWith y b (padded 6 (shape g .divisions)) l (g .blocks)) s
     ∙ ap (λ (k : ℕ). walkWith y b (padded 6 (shape g .divisions)) (padded 6 (shape g .sizes)) k) n
-    ∙ ap (λ (l : List ℕ). walkWith l b (padded 6 (shape g .divisions)) (padded 6 (shape g .sizes)) (length (shape g .sizes))) e
-    ∙ ap (λ (z : Place). walkWith (padded 16 v) z (padded 6 (shape g .divisions)) (padded 6 (shape g .sizes)) (length (shape g .sizes))) f
+    ∙ ap (λ (l : List ℕ). walkWith l b (padded 6 (shape g .divisions)) (padded 6 (shape g .sizes)) (length
+    (shape g .sizes))) e
+    ∙ ap (λ (z : Place). walkWith (padded 16 v) z (padded 6 (shape g .divisions)) (padded 6 (shape g .sizes)) (length
+    (shape g .sizes))) f

@@ -1,4 +1,5 @@
--- `walk_cases::read_list` meets its contract. The invariant: the runs so far lie in the list, which keeps its length. Assumes nothing.
+-- `walk_cases::read_list` meets its contract. The invariant: the runs so far lie in the list, which keeps its length.
+-- Assumes nothing.
 use mathlib.Core.Path.{_≡_, refl, _∙_}
 use Prim.Native.Nat.{_≤_}
 use lib.ListN.{length}

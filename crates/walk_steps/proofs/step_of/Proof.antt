@@ -22,13 +22,16 @@ enum-known-answer-3 : tie.Need-enum-known-answer-3
 enum-known-answer-3 c = search needs
 
 returns : tie.Need-returns
-returns c = c .unanswered .ensures ∙ (let a = c .before .before .before .before .before .args in sym (ap (λ (x : Answer). stepOf (a .walk) x (a .simplex) (a .change)) (c .before .before .answer .given .1)))
+returns c = c .unanswered .ensures ∙ (let a = c .before .before .before .before .before .args in
+    sym (ap (λ (x : Answer). stepOf (a .walk) x (a .simplex) (a .change)) (c .before .before .answer .given .1)))
 
 returns-2 : tie.Need-returns-2
-returns-2 c = rw (c .kind-number .ensures) (let a = c .before .before .before .before .before .args in sym (ap (λ (x : Answer). stepOf (a .walk) x (a .simplex) (a .change)) (c .before .before .answer2 .given .1)))
+returns-2 c = rw (c .kind-number .ensures) (let a = c .before .before .before .before .before .args in
+    sym (ap (λ (x : Answer). stepOf (a .walk) x (a .simplex) (a .change)) (c .before .before .answer2 .given .1)))
 
 returns-3 : tie.Need-returns-3
-returns-3 c = (let a = c .before .before .before .before .args in sym (ap (λ (x : Answer). stepOf (a .walk) x (a .simplex) (a .change)) (c .before .answer3 .given .1)))
+returns-3 c = (let a = c .before .before .before .before .args in
+    sym (ap (λ (x : Answer). stepOf (a .walk) x (a .simplex) (a .change)) (c .before .answer3 .given .1)))
 
 pub step-of-spec : {M : Type 1} → statement M
 step-of-spec =

@@ -16,22 +16,52 @@ six-requires : tie.Need-six-requires
 six-requires c κs = search needs
 
 array-share-prefix-sizes : tie.Need-array-share-prefix-sizes
-array-share-prefix-sizes c = let h = c .before .before .before .good .0 .1 .1 .1 .1 .1 .1 .1 .0 in let z : length (c .before .before .before .args .w .sizes) ≡ 6 = length-unmapped _ (c .before .before .before .args .w .sizes) 6 (search (h, needs)) in omega (arith, few-blocks (c .before .before .before .args .w .blocks) (c .before .before .six .result) (c .before .before .six .ensures))
+array-share-prefix-sizes c = let h = c .before .before .before .good .0 .1 .1 .1 .1 .1 .1 .1 .0 in
+    let z : length (c .before .before .before .args .w .sizes) ≡ 6 = length-unmapped _
+    (c .before .before .before .args .w .sizes) 6 (search (h, needs)) in
+    omega (
+      arith,
+      few-blocks (c .before .before .before .args .w .blocks) (c .before .before .six .result)
+          (c .before .before .six .ensures),
+    )
 
 slice-aggregate-new : tie.Need-slice-aggregate-new
-slice-aggregate-new c = let h = c .before .before .before .before .good .0 .1 .1 .1 .1 .1 .1 .1 .0 in let z : length (c .before .before .before .before .args .w .sizes) ≡ 6 = length-unmapped _ (c .before .before .before .before .args .w .sizes) 6 (search (h, needs)) in simp length-take (omega (arith, few-blocks (c .before .before .before .before .args .w .blocks) (c .before .before .before .six .result) (c .before .before .before .six .ensures)))
+slice-aggregate-new c = let h = c .before .before .before .before .good .0 .1 .1 .1 .1 .1 .1 .1 .0 in
+    let z : length (c .before .before .before .before .args .w .sizes) ≡ 6 = length-unmapped _
+    (c .before .before .before .before .args .w .sizes) 6 (search (h, needs)) in
+    simp length-take (omega (
+      arith,
+      few-blocks (c .before .before .before .before .args .w .blocks)
+          (c .before .before .before .six .result) (c .before .before .before .six .ensures),
+    ))
 
 array-share-prefix-divisions : tie.Need-array-share-prefix-divisions
-array-share-prefix-divisions c = let h = c .before .before .before .before .good .0 .1 .1 .1 .1 .1 .1 .0 in let z : length (c .before .before .before .before .args .w .divisions) ≡ 6 = length-unmapped _ (c .before .before .before .before .args .w .divisions) 6 (search (h, needs)) in omega (arith, few-blocks (c .before .before .before .before .args .w .blocks) (c .before .before .before .six .result) (c .before .before .before .six .ensures))
+array-share-prefix-divisions c = let h = c .before .before .before .before .good .0 .1 .1 .1 .1 .1 .1 .0 in
+    let z : length (c .before .before .before .before .args .w .divisions) ≡ 6 = length-unmapped _
+    (c .before .before .before .before .args .w .divisions) 6 (search (h, needs)) in
+    omega (
+      arith,
+      few-blocks (c .before .before .before .before .args .w .blocks)
+          (c .before .before .before .six .result) (c .before .before .before .six .ensures),
+    )
 
 slice-aggregate-new-2 : tie.Need-slice-aggregate-new-2
-slice-aggregate-new-2 c = let h = c .before .before .before .before .before .good .0 .1 .1 .1 .1 .1 .1 .0 in let z : length (c .before .before .before .before .before .args .w .divisions) ≡ 6 = length-unmapped _ (c .before .before .before .before .before .args .w .divisions) 6 (search (h, needs)) in simp length-take (omega (arith, few-blocks (c .before .before .before .before .before .args .w .blocks) (c .before .before .before .before .six .result) (c .before .before .before .before .six .ensures)))
+slice-aggregate-new-2 c = let h = c .before .before .before .before .before .good .0 .1 .1 .1 .1 .1 .1 .0 in
+    let z : length (c .before .before .before .before .before .args .w .divisions) ≡ 6 = length-unmapped _
+    (c .before .before .before .before .before .args .w .divisions) 6 (search (h, needs)) in
+    simp length-take (omega (
+      arith,
+      few-blocks (c .before .before .before .before .before .args .w .blocks)
+          (c .before .before .before .before .six .result) (c .before .before .before .before .six .ensures),
+    ))
 
 new-requires : tie.Need-new-requires
 new-requires c κs = search needs
 
 returns : tie.Need-returns
-returns c = grid-in (c .before .before .before .before .before .before .args .w) (c .before .before .before .before .before .six .result) (c .before .before .before .before .before .six .ensures) (c .new .result) (c .new .ensures)
+returns c = grid-in (c .before .before .before .before .before .before .args .w)
+    (c .before .before .before .before .before .six .result) (c .before .before .before .before .before .six .ensures)
+    (c .new .result) (c .new .ensures)
 
 pub grid-in-spec : {M : Type 1} → statement M
 grid-in-spec =

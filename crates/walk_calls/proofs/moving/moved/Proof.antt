@@ -1,4 +1,5 @@
--- `moving::moved` meets its contract: questions 1 to 4 on the walk's own grid, and then the call on that grid. Assumes nothing.
+-- `moving::moved` meets its contract: questions 1 to 4 on the walk's own grid, and then the call on that grid. Assumes
+-- nothing.
 use mathlib.Core.Path.{_≡_, sym, ap, _∙_}
 use Rattle.grid.specs.Grid.{Grid}
 use Rattle.walk_calls.proofs.Calls.{call-on-own, grid-refused}
@@ -14,15 +15,19 @@ unmoved-requires : tie.Need-unmoved-requires
 unmoved-requires c κs = search needs
 
 returns : tie.Need-returns
-returns c = let w = c .before .before .before .before .before .args .w in let made = c .before .before .before .grid-in in
-    c .unmoved .ensures ∙ grid-refused w (c .before .before .before .before .before .args .labels .now) (made .result .code) (c .before .if1 .taken) (sym (made .ensures .code))
+returns c = let w = c .before .before .before .before .before .args .w in
+    let made = c .before .before .before .grid-in in
+    c .unmoved .ensures ∙ grid-refused w (c .before .before .before .before .before .args .labels .now)
+    (made .result .code) (c .before .if1 .taken) (sym (made .ensures .code))
 
 call-on-requires : tie.Need-call-on-requires
 call-on-requires c κs = c .before .before .grid-in .ensures .is (c .if1 .left) .0
 
 returns-2 : tie.Need-returns-2
-returns-2 c = let w = c .before .before .before .before .before .args .w in let labels = c .before .before .before .before .before .args .labels .now in
-    c .call-on .ensures ∙ ap (λ (g : Grid). callOn g w labels) (c .before .before .before .grid-in .ensures .is (c .before .if1 .left) .1) ∙ sym (call-on-own w labels)
+returns-2 c = let w = c .before .before .before .before .before .args .w in
+    let labels = c .before .before .before .before .before .args .labels .now in
+    c .call-on .ensures ∙ ap (λ (g : Grid). callOn g w labels) (c .before .before .before .grid-in .ensures .is
+    (c .before .if1 .left) .1) ∙ sym (call-on-own w labels)
 
 pub moved-spec : {M : Type 1} → statement M
 moved-spec = tie.close (tie.spec grid-in-requires unmoved-requires returns call-on-requires returns-2)

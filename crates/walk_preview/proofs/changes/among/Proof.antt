@@ -1,4 +1,5 @@
--- `changes::among` meets its contract. The invariant: the mark is among those from k on exactly if it is among all. The measure: the marks left.
+-- `changes::among` meets its contract. The invariant: the mark is among those from k on exactly if it is among all. The
+-- measure: the marks left.
 -- Assumes nothing.
 use mathlib.Core.Path.{_≡_, refl, sym, _∙_}
 use Prim.Native.Nat.{ℕ, suc, _+_, _-_, _≤_}
@@ -13,7 +14,8 @@ use Rattle.walk_preview.proofs.changes.among.Statement.{statement}
 use Rattle.walk_preview.proofs.changes.among.Tie as tie
 
 abbrev Inv-loop : tie.InvT-loop
-Inv-loop marks n mark k₀ k = (isIn eqb mark (drop k (take (suc n) marks)) ≡ isIn eqb mark (take (suc n) marks)) × (k ≤ n + 1) × (n ≤ 15) × (length marks ≡ 16)
+Inv-loop marks n mark k₀ k = (isIn eqb mark (drop k (take (suc n) marks)) ≡ isIn eqb mark (take (suc n) marks)) ×
+    (k ≤ n + 1) × (n ≤ 15) × (length marks ≡ 16)
 
 abbrev μ-loop : tie.MeasureT-loop
 μ-loop marks n mark k₀ k = n + 1 - k
@@ -45,7 +47,8 @@ loop-again c = let a = c .before .before .before .before .args in let l = c .bef
     let marks = a .marks .now in let n = a .n in
     let long = length-take-le (suc n) marks (omega (arith, l .inv .2, l .inv .3)) in
     let z = in-later (take (suc n) marks) (l .k) (omega (arith, long, c .before .before .loop-test .taken)) (a .mark)
-    (λ e. c .if1 .left (sym (getD-take (suc n) marks (l .k) 0 (omega (arith, c .before .before .loop-test .taken))) ∙ e)) in
+    (λ e. c .if1 .left (sym (getD-take (suc n) marks (l .k) 0 (omega (arith, c .before .before .loop-test .taken)))
+    ∙ e)) in
     (rw (add-one (l .k)) (z ∙ l .inv .0), omega (arith, c .before .before .loop-test .taken), l .inv .2, l .inv .3)
 
 returns-2 : tie.Need-returns-2 Inv-loop μ-loop

@@ -27,7 +27,15 @@ returns-7 c = rw (c .match .keys7)
 
 returns-8 : tie.Need-returns-8
 returns-8 c = let r = c .before .args .rule in let n = c .match .rest in
-    rw (ne-eqb r 1 (n .0 .0 .0 .0 .0 .0 .1), ne-eqb r 2 (n .0 .0 .0 .0 .0 .1), ne-eqb r 3 (n .0 .0 .0 .0 .1), ne-eqb r 4 (n .0 .0 .0 .1), ne-eqb r 5 (n .0 .0 .1), ne-eqb r 6 (n .0 .1), ne-eqb r 7 (n .1))
+    rw (
+      ne-eqb r 1 (n .0 .0 .0 .0 .0 .0 .1),
+      ne-eqb r 2 (n .0 .0 .0 .0 .0 .1),
+      ne-eqb r 3 (n .0 .0 .0 .0 .1),
+      ne-eqb r 4 (n .0 .0 .0 .1),
+      ne-eqb r 5 (n .0 .0 .1),
+      ne-eqb r 6 (n .0 .1),
+      ne-eqb r 7 (n .1),
+    )
 
 pub change-for-spec : {M : Type 1} → statement M
 change-for-spec = tie.close (tie.spec returns returns-2 returns-3 returns-4 returns-5 returns-6 returns-7 returns-8)

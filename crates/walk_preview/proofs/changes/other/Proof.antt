@@ -1,4 +1,5 @@
--- `changes::other` meets its contract. The invariant: the first mark that is not among the others stands from j on. The measure: the marks left.
+-- `changes::other` meets its contract. The invariant: the first mark that is not among the others stands from j on. The
+-- measure: the marks left.
 -- Assumes nothing.
 use mathlib.Core.Bool.{true, false}
 use mathlib.Core.List.{List}
@@ -20,7 +21,8 @@ use Rattle.walk_preview.proofs.changes.other.Tie as tie
 
 abbrev Inv-loop : tie.InvT-loop
 Inv-loop marks n others k j₀ j =
-    (outside eqb (take (suc k) others) (drop j (take (suc n) marks)) ≡ outside eqb (take (suc k) others) (take (suc n) marks)) × (j ≤ n + 1) × (n ≤ 15)
+    (outside eqb (take (suc k) others) (drop j (take (suc n) marks)) ≡ outside eqb (take (suc k) others) (take
+    (suc n) marks)) × (j ≤ n + 1) × (n ≤ 15)
     × (length marks ≡ 16) × (k ≤ 15) × (length others ≡ 16)
 
 abbrev μ-loop : tie.MeasureT-loop
@@ -39,16 +41,24 @@ among-requires : tie.Need-among-requires Inv-loop μ-loop
 among-requires c κs = (c .before .before .loop .inv .4, c .before .before .loop .inv .5)
 
 position-at-requires : tie.Need-position-at-requires Inv-loop μ-loop
-position-at-requires c κs = (c .before .before .before .loop-test .taken, c .before .before .before .before .loop .inv .2)
+position-at-requires c κs = (
+  c .before .before .before .loop-test .taken,
+  c .before .before .before .before .loop .inv .2,
+)
 
 cast-result : tie.Need-cast-result Inv-loop μ-loop
 cast-result c = omega arith
 
 returns : tie.Need-returns Inv-loop μ-loop
-returns c = let a = c .before .before .before .before .before .before .args in let l = c .before .before .before .before .before .loop in
+returns c = let a = c .before .before .before .before .before .before .args in
+    let l = c .before .before .before .before .before .loop in
     let long = length-take-le (suc (a .n)) (a .marks .now) (omega (arith, l .inv .2, l .inv .3)) in
-    let g = getD-take (suc (a .n)) (a .marks .now) (l .j) 0 (omega (arith, c .before .before .before .before .loop-test .taken)) in
-    c .position-at .ensures .0 ∙ ap markPosition (sym (outside-here (take (suc (a .n)) (a .marks .now)) (take (suc (a .k)) (a .others .now)) (l .j) (omega (arith, long, c .before .before .before .before .loop-test .taken))
+    let g = getD-take (suc (a .n)) (a .marks .now) (l .j) 0 (omega (
+      arith,
+      c .before .before .before .before .loop-test .taken,
+    )) in
+    c .position-at .ensures .0 ∙ ap markPosition (sym (outside-here (take (suc (a .n)) (a .marks .now)) (take (suc
+    (a .k)) (a .others .now)) (l .j) (omega (arith, long, c .before .before .before .before .loop-test .taken))
     (rw g (sym (c .before .before .among .ensures) ∙ not-is _ (c .before .if1 .taken)))) ∙ ap (firstOr 0) (l .inv .0))
 
 add-j : tie.Need-add-j Inv-loop μ-loop
@@ -58,17 +68,32 @@ loop-less : tie.Need-loop-less Inv-loop μ-loop
 loop-less c = omega arith
 
 loop-again : tie.Need-loop-again Inv-loop μ-loop
-loop-again c = let a = c .before .before .before .before .before .args in let l = c .before .before .before .before .loop in
+loop-again c = let a = c .before .before .before .before .before .args in
+    let l = c .before .before .before .before .loop in
     let long = length-take-le (suc (a .n)) (a .marks .now) (omega (arith, l .inv .2, l .inv .3)) in
-    let g = getD-take (suc (a .n)) (a .marks .now) (l .j) 0 (omega (arith, c .before .before .before .loop-test .taken)) in
-    let z = outside-later (take (suc (a .n)) (a .marks .now)) (take (suc (a .k)) (a .others .now)) (l .j) (omega (arith, long, c .before .before .before .loop-test .taken))
-    (rw g (sym (c .before .among .ensures) ∙ is-not _ (c .if1 .left))) in
-    (rw (add-one (l .j)) (z ∙ l .inv .0), omega (arith, c .before .before .before .loop-test .taken), l .inv .2, l .inv .3, l .inv .4, l .inv .5)
+    let g = getD-take (suc (a .n)) (a .marks .now) (l .j) 0 (omega (
+      arith,
+      c .before .before .before .loop-test .taken,
+    )) in
+    let z = outside-later (take (suc (a .n)) (a .marks .now)) (take (suc (a .k)) (a .others .now)) (l .j) (omega (
+      arith,
+      long,
+      c .before .before .before .loop-test .taken,
+    ))
+    (rw g (sym (c .before .among .ensures) ∙ is-not _ (c .if1 .left))) in (
+      rw (add-one (l .j)) (z ∙ l .inv .0),
+      omega (arith, c .before .before .before .loop-test .taken),
+      l .inv .2,
+      l .inv .3,
+      l .inv .4,
+      l .inv .5,
+    )
 
 returns-2 : tie.Need-returns-2 Inv-loop μ-loop
 returns-2 c = let a = c .before .before .args in let l = c .before .loop in
     let long = length-take-le (suc (a .n)) (a .marks .now) (omega (arith, l .inv .2, l .inv .3)) in
-    ap (λ (r : List ℕ). markPosition (firstOr 0 r)) (sym (outside-done (take (suc (a .n)) (a .marks .now)) (take (suc (a .k)) (a .others .now)) (l .j) (omega (arith, long))) ∙ l .inv .0)
+    ap (λ (r : List ℕ). markPosition (firstOr 0 r)) (sym (outside-done (take (suc (a .n)) (a .marks .now)) (take (suc
+    (a .k)) (a .others .now)) (l .j) (omega (arith, long))) ∙ l .inv .0)
 
 pub other-spec : {M : Type 1} → statement M
 other-spec =

@@ -1,4 +1,5 @@
--- `beginning::copied` meets its contract. The invariant: the first k numbers stand at the front. The measure: the numbers left. Assumes nothing.
+-- `beginning::copied` meets its contract. The invariant: the first k numbers stand at the front. The measure: the
+-- numbers left. Assumes nothing.
 use mathlib.Core.Path.{_≡_, refl, sym, ap, _∙_}
 use Prim.Native.Nat.{_-_, _≤_}
 use lib.ListN.{length, take, replicate}
@@ -9,7 +10,8 @@ use Rattle.walk_views.proofs.beginning.copied.Statement.{statement}
 use Rattle.walk_views.proofs.beginning.copied.Tie as tie
 
 abbrev Inv-loop : tie.InvT-loop
-Inv-loop numbers a₀ k₀ a k = (a ≡ front (take k numbers) (replicate 16 0)) × (k ≤ length numbers) × (length numbers ≤ 16)
+Inv-loop numbers a₀ k₀ a k = (a ≡ front (take k numbers) (replicate 16 0)) × (k ≤ length numbers) ×
+    (length numbers ≤ 16)
 
 abbrev μ-loop : tie.MeasureT-loop
 μ-loop numbers a₀ k₀ a k = length numbers - k
@@ -36,11 +38,16 @@ loop-less : tie.Need-loop-less Inv-loop μ-loop
 loop-less c = omega arith
 
 loop-again : tie.Need-loop-again Inv-loop μ-loop
-loop-again c = let l = c .before .before .loop in
-    (rw (l .inv .0) (front-copy (c .before .before .before .args .numbers .now) (replicate 16 0) (l .k) (omega arith) (omega arith)), omega arith, l .inv .2)
+loop-again c = let l = c .before .before .loop in (
+  rw (l .inv .0) (front-copy (c .before .before .before .args .numbers .now) (replicate 16 0) (l .k) (omega arith)
+      (omega arith)),
+  omega arith,
+  l .inv .2,
+)
 
 returns : tie.Need-returns Inv-loop μ-loop
-returns c = let l = c .before .loop in l .inv .0 ∙ front-whole (c .before .before .args .numbers .now) (replicate 16 0) (l .k) (omega arith)
+returns c = let l = c .before .loop in l .inv .0 ∙ front-whole (c .before .before .args .numbers .now) (replicate 16 0)
+    (l .k) (omega arith)
 
 pub copied-spec : {M : Type 1} → statement M
 copied-spec =

@@ -20,34 +20,66 @@ no-points-requires : tie.Need-no-points-requires
 no-points-requires c κs = search needs
 
 returns : tie.Need-returns
-returns c = let s = c .before .before .before .before .before in let a = s .args in c .no-points .ensures ∙ points-none (shape (a .g)) (a .w) (a .labels .now) (s .pre .1)
-    (no-place-held (a .g) (a .w) (a .labels .now) (s .pre .0) (s .pre .1) (sym (c .before .before .is-kept .ensures .0) ∙ not-is _ (c .before .if1 .taken)))
+returns c = let s = c .before .before .before .before .before in
+    let a = s .args in c .no-points .ensures ∙ points-none (shape (a .g)) (a .w) (a .labels .now) (s .pre .1)
+    (no-place-held (a .g) (a .w) (a .labels .now) (s .pre .0) (s .pre .1) (sym
+    (c .before .before .is-kept .ensures .0) ∙ not-is _ (c .before .if1 .taken)))
 
 wide-requires : tie.Need-wide-requires
 wide-requires c κs = search needs
 
 sub-n : tie.Need-sub-n
-sub-n c = omega (arith, c .wide .ensures, count-some (c .before .before .before .before .before .before .before .args .g .indices) (c .before .before .before .before .before .before .before .args .w .present) (sym (c .before .before .before .before .is-kept .ensures .0) ∙ is-not _ (c .before .before .before .if1 .left)))
+sub-n c = omega (
+  arith,
+  c .wide .ensures,
+  count-some (c .before .before .before .before .before .before .before .args .g
+      .indices) (c .before .before .before .before .before .before .before .args .w .present) (sym
+      (c .before .before .before .before .is-kept .ensures .0) ∙ is-not _ (c .before .before .before .if1 .left)),
+)
 
 seen-requires : tie.Need-seen-requires
-seen-requires c κs = let s = c .before .before .before .before .before .before .before .before .before .before .before in let g = s .args .g in let w = s .args .w in let labels = s .args .labels .now in let n = c .before .before .before .before .wide .result - 1 in let k = c .before .before .before .before .before .before .before .before .is-kept .ensures in
-    let h = sym (k .0) ∙ is-not _ (c .before .before .before .before .before .before .before .if1 .left) in let e : n ≡ pred (w .present .count) = omega (arith, c .before .before .before .before .wide .ensures) in
-    let C = view g w labels (s .pre .0) (s .pre .1) h (k .1) (k .2) n e in let P = present-is g w labels (s .pre .0) (s .pre .1) h (k .1) (k .2) n e in
+seen-requires c κs = let s = c .before .before .before .before .before .before .before .before .before .before .before
+    in let g = s .args .g in let w = s .args .w in let labels = s .args .labels .now in
+    let n = c .before .before .before .before .wide .result - 1 in
+    let k = c .before .before .before .before .before .before .before .before .is-kept .ensures in
+    let h = sym (k .0) ∙ is-not _ (c .before .before .before .before .before .before .before .if1 .left) in
+    let e : n ≡ pred (w .present .count) = omega (arith, c .before .before .before .before .wide .ensures) in
+    let C = view g w labels (s .pre .0) (s .pre .1) h (k .1) (k .2) n e in
+    let P = present-is g w labels (s .pre .0) (s .pre .1) h (k .1) (k .2) n e in
     (C, refl)
 
 no-points-requires-2 : tie.Need-no-points-requires-2
 no-points-requires-2 c κs = search needs
 
 returns-2 : tie.Need-returns-2
-returns-2 c = let s = c .before .before .before .before .before .before .before .before .before .before .before .before .before .before .before in let g = s .args .g in let w = s .args .w in let labels = s .args .labels .now in let n = c .before .before .before .before .before .before .before .before .wide .result - 1 in let k = c .before .before .before .before .before .before .before .before .before .before .before .before .is-kept .ensures in
-    let h = sym (k .0) ∙ is-not _ (c .before .before .before .before .before .before .before .before .before .before .before .if1 .left) in let e : n ≡ pred (w .present .count) = omega (arith, c .before .before .before .before .before .before .before .before .wide .ensures) in
-    let C = view g w labels (s .pre .0) (s .pre .1) h (k .1) (k .2) n e in let P = present-is g w labels (s .pre .0) (s .pre .1) h (k .1) (k .2) n e in
-    c .no-points2 .ensures ∙ points-none (shape g) w labels (s .pre .1) (rw P (not-kept-place C (c .before .before .before .seen .ensures .no (not-is _ (c .before .if2 .taken)))))
+returns-2 c = let s = c .before .before .before .before .before .before .before .before .before .before .before .before
+    .before .before .before in let g = s .args .g in let w = s .args .w in let labels = s .args .labels .now in
+    let n = c .before .before .before .before .before .before .before .before .wide .result - 1 in
+    let k = c .before .before .before .before .before .before .before .before .before .before .before .before .is-kept
+    .ensures in
+    let h = sym (k .0) ∙ is-not _ (c .before .before .before .before .before .before .before .before .before .before
+    .before .if1 .left) in let e : n ≡ pred (w .present .count) = omega (
+      arith,
+      c .before .before .before .before .before .before .before .before .wide .ensures,
+    ) in
+    let C = view g w labels (s .pre .0) (s .pre .1) h (k .1) (k .2) n e in
+    let P = present-is g w labels (s .pre .0) (s .pre .1) h (k .1) (k .2) n e in
+    c .no-points2 .ensures ∙ points-none (shape g) w labels (s .pre .1) (rw P (not-kept-place C
+    (c .before .before .before .seen .ensures .no (not-is _ (c .before .if2 .taken)))))
 
 spare-requires : tie.Need-spare-requires
-spare-requires c κs = let s = c .before .before .before .before .before .before .before .before .before .before .before .before .before .before .before in let g = s .args .g in let w = s .args .w in let labels = s .args .labels .now in let n = c .before .before .before .before .before .before .before .before .wide .result - 1 in let k = c .before .before .before .before .before .before .before .before .before .before .before .before .is-kept .ensures in
-    let h = sym (k .0) ∙ is-not _ (c .before .before .before .before .before .before .before .before .before .before .before .if1 .left) in let e : n ≡ pred (w .present .count) = omega (arith, c .before .before .before .before .before .before .before .before .wide .ensures) in
-    let C = view g w labels (s .pre .0) (s .pre .1) h (k .1) (k .2) n e in let P = present-is g w labels (s .pre .0) (s .pre .1) h (k .1) (k .2) n e in
+spare-requires c κs = let s = c .before .before .before .before .before .before .before .before .before .before .before
+    .before .before .before .before in let g = s .args .g in let w = s .args .w in
+    let labels = s .args .labels .now in let n = c .before .before .before .before .before .before .before .before .wide
+    .result - 1 in let k = c .before .before .before .before .before .before .before .before .before .before .before
+    .before .is-kept .ensures in
+    let h = sym (k .0) ∙ is-not _ (c .before .before .before .before .before .before .before .before .before .before
+    .before .if1 .left) in let e : n ≡ pred (w .present .count) = omega (
+      arith,
+      c .before .before .before .before .before .before .before .before .wide .ensures,
+    ) in
+    let C = view g w labels (s .pre .0) (s .pre .1) h (k .1) (k .2) n e in
+    let P = present-is g w labels (s .pre .0) (s .pre .1) h (k .1) (k .2) n e in
     let S = c .before .before .before .seen .ensures .yes (is-not _ (c .before .if2 .left)) in
     (C .few, S .marksLong, labels-low C S)
 
@@ -55,25 +87,74 @@ no-points-requires-3 : tie.Need-no-points-requires-3
 no-points-requires-3 c κs = search needs
 
 returns-3 : tie.Need-returns-3
-returns-3 c = let s = c .before .before .before .before .before .before .before .before .before .before .before .before .before .before .before .before .before .before .before .before in let g = s .args .g in let w = s .args .w in let labels = s .args .labels .now in let n = c .before .before .before .before .before .before .before .before .before .before .before .before .before .wide .result - 1 in let k = c .before .before .before .before .before .before .before .before .before .before .before .before .before .before .before .before .before .is-kept .ensures in
-    let h = sym (k .0) ∙ is-not _ (c .before .before .before .before .before .before .before .before .before .before .before .before .before .before .before .before .if1 .left) in let e : n ≡ pred (w .present .count) = omega (arith, c .before .before .before .before .before .before .before .before .before .before .before .before .before .wide .ensures) in
-    let C = view g w labels (s .pre .0) (s .pre .1) h (k .1) (k .2) n e in let P = present-is g w labels (s .pre .0) (s .pre .1) h (k .1) (k .2) n e in
-    let S = c .before .before .before .before .before .before .before .before .seen .ensures .yes (is-not _ (c .before .before .before .before .before .before .if2 .left)) in
-    c .no-points3 .ensures ∙ points-none (shape g) w labels (s .pre .1) (rw P (not-all-place C S (c .before .before .before .before .spare .ensures) (search needs) (search needs) (c .before .if3 .taken)))
+returns-3 c = let s = c .before .before .before .before .before .before .before .before .before .before .before .before
+    .before .before .before .before .before .before .before .before in let g = s .args .g in let w = s .args .w in
+    let labels = s .args .labels .now in let n = c .before .before .before .before .before .before .before .before
+    .before .before .before .before .before .wide .result - 1 in
+    let k = c .before .before .before .before .before .before .before .before .before .before .before .before .before
+    .before .before .before .before .is-kept .ensures in
+    let h = sym (k .0) ∙ is-not _ (c .before .before .before .before .before .before .before .before .before .before
+    .before .before .before .before .before .before .if1 .left) in
+    let e : n ≡ pred (w .present .count) = omega (
+      arith,
+      c .before .before .before .before .before .before .before .before .before .before .before .before .before .wide
+          .ensures,
+    ) in
+    let C = view g w labels (s .pre .0) (s .pre .1) h (k .1) (k .2) n e in
+    let P = present-is g w labels (s .pre .0) (s .pre .1) h (k .1) (k .2) n e in
+    let S = c .before .before .before .before .before .before .before .before .seen .ensures .yes (is-not _
+    (c .before .before .before .before .before .before .if2 .left)) in
+    c .no-points3 .ensures ∙ points-none (shape g) w labels (s .pre .1) (rw P (not-all-place C S
+    (c .before .before .before .before .spare .ensures) (search needs) (search needs) (c .before .if3 .taken)))
 
 put-requires : tie.Need-put-requires
-put-requires c κs = let s = c .before .before .before .before .before .before .before .before .before .before .before .before .before .before .before .before .before .before .before .before .before in let g = s .args .g in let w = s .args .w in let labels = s .args .labels .now in let n = c .before .before .before .before .before .before .before .before .before .before .before .before .before .before .wide .result - 1 in let k = c .before .before .before .before .before .before .before .before .before .before .before .before .before .before .before .before .before .before .is-kept .ensures in
-    let h = sym (k .0) ∙ is-not _ (c .before .before .before .before .before .before .before .before .before .before .before .before .before .before .before .before .before .if1 .left) in let e : n ≡ pred (w .present .count) = omega (arith, c .before .before .before .before .before .before .before .before .before .before .before .before .before .before .wide .ensures) in
-    let C = view g w labels (s .pre .0) (s .pre .1) h (k .1) (k .2) n e in let P = present-is g w labels (s .pre .0) (s .pre .1) h (k .1) (k .2) n e in
-    let S = c .before .before .before .before .before .before .before .before .before .seen .ensures .yes (is-not _ (c .before .before .before .before .before .before .before .if2 .left)) in
-    record { sees = C; present = P; place = all-seen C S (c .before .before .before .before .before .spare .ensures) (c .before .before .if3 .left); list = _; marks = _; seen = S }
+put-requires c κs = let s = c .before .before .before .before .before .before .before .before .before .before .before
+    .before .before .before .before .before .before .before .before .before .before in let g = s .args .g in
+    let w = s .args .w in let labels = s .args .labels .now in
+    let n = c .before .before .before .before .before .before .before .before .before .before .before .before .before
+    .before .wide .result - 1 in let k = c .before .before .before .before .before .before .before .before .before
+    .before .before .before .before .before .before .before .before .before .is-kept .ensures in
+    let h = sym (k .0) ∙ is-not _ (c .before .before .before .before .before .before .before .before .before .before
+    .before .before .before .before .before .before .before .if1 .left) in
+    let e : n ≡ pred (w .present .count) = omega (
+      arith,
+      c .before .before .before .before .before .before .before .before .before .before .before .before .before
+          .before .wide .ensures,
+    ) in
+    let C = view g w labels (s .pre .0) (s .pre .1) h (k .1) (k .2) n e in
+    let P = present-is g w labels (s .pre .0) (s .pre .1) h (k .1) (k .2) n e in
+    let S = c .before .before .before .before .before .before .before .before .before .seen .ensures .yes (is-not _
+    (c .before .before .before .before .before .before .before .if2 .left)) in
+    record {
+      sees = C;
+      present = P;
+      place = all-seen C S (c .before .before .before .before .before .spare .ensures)
+          (c .before .before .if3 .left);
+      list = _;
+      marks = _;
+      seen = S;
+    }
 
 returns-4 : tie.Need-returns-4
-returns-4 c = let s = c .before .before .before .before .before .before .before .before .before .before .before .before .before .before .before .before .before .before .before .before .before .before in let g = s .args .g in let w = s .args .w in let labels = s .args .labels .now in let n = c .before .before .before .before .before .before .before .before .before .before .before .before .before .before .before .wide .result - 1 in let k = c .before .before .before .before .before .before .before .before .before .before .before .before .before .before .before .before .before .before .before .is-kept .ensures in
-    let h = sym (k .0) ∙ is-not _ (c .before .before .before .before .before .before .before .before .before .before .before .before .before .before .before .before .before .before .if1 .left) in let e : n ≡ pred (w .present .count) = omega (arith, c .before .before .before .before .before .before .before .before .before .before .before .before .before .before .before .wide .ensures) in
-    let C = view g w labels (s .pre .0) (s .pre .1) h (k .1) (k .2) n e in let P = present-is g w labels (s .pre .0) (s .pre .1) h (k .1) (k .2) n e in
-    let S = c .before .before .before .before .before .before .before .before .before .before .seen .ensures .yes (is-not _ (c .before .before .before .before .before .before .before .before .if2 .left)) in
-    c .put .ensures ∙ points-there (shape g) w labels (s .pre .1) (rw P (all-seen C S (c .before .before .before .before .before .before .spare .ensures) (c .before .before .before .if3 .left)))
+returns-4 c = let s = c .before .before .before .before .before .before .before .before .before .before .before .before
+    .before .before .before .before .before .before .before .before .before .before in let g = s .args .g in
+    let w = s .args .w in let labels = s .args .labels .now in
+    let n = c .before .before .before .before .before .before .before .before .before .before .before .before .before
+    .before .before .wide .result - 1 in let k = c .before .before .before .before .before .before .before .before
+    .before .before .before .before .before .before .before .before .before .before .before .is-kept .ensures in
+    let h = sym (k .0) ∙ is-not _ (c .before .before .before .before .before .before .before .before .before .before
+    .before .before .before .before .before .before .before .before .if1 .left) in
+    let e : n ≡ pred (w .present .count) = omega (
+      arith,
+      c .before .before .before .before .before .before .before .before .before .before .before .before .before
+          .before .before .wide .ensures,
+    ) in
+    let C = view g w labels (s .pre .0) (s .pre .1) h (k .1) (k .2) n e in
+    let P = present-is g w labels (s .pre .0) (s .pre .1) h (k .1) (k .2) n e in
+    let S = c .before .before .before .before .before .before .before .before .before .before .seen .ensures .yes
+    (is-not _ (c .before .before .before .before .before .before .before .before .if2 .left)) in
+    c .put .ensures ∙ points-there (shape g) w labels (s .pre .1) (rw P (all-seen C S
+    (c .before .before .before .before .before .before .spare .ensures) (c .before .before .before .if3 .left)))
 
 pub points-on-spec : {M : Type 1} → statement M
 points-on-spec =

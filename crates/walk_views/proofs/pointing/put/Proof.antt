@@ -12,10 +12,18 @@ slice-aggregate-put-points : tie.Need-slice-aggregate-put-points
 slice-aggregate-put-points c = search needs
 
 put-points-requires : tie.Need-put-points-requires
-put-points-requires c κs = (can-put (c .before .before .before .before .before .before .pre) (c .before .before .before .block-sizes .result) (c .before .before .before .block-sizes .ensures), told-long (c .before .before .before .before .before .before .pre) (c .before .before .before .block-sizes .result) (c .before .before .before .block-sizes .ensures))
+put-points-requires c κs = (
+  can-put (c .before .before .before .before .before .before .pre)
+      (c .before .before .before .block-sizes .result) (c .before .before .before .block-sizes .ensures),
+  told-long (c .before .before .before .before .before .before .pre) (c .before .before .before .block-sizes .result)
+      (c .before .before .before .block-sizes .ensures),
+)
 
 returns : tie.Need-returns
-returns c = put-so (c .before .before .before .before .before .before .before .before .pre) (c .before .before .before .before .before .block-sizes .result) (c .before .before .before .before .before .block-sizes .ensures) (c .before .put-points .result) (c .before .put-points .last .0) (c .before .put-points .ensures .0) (c .before .put-points .ensures .1)
+returns c = put-so (c .before .before .before .before .before .before .before .before .pre)
+    (c .before .before .before .before .before .block-sizes .result)
+    (c .before .before .before .before .before .block-sizes .ensures) (c .before .put-points .result)
+    (c .before .put-points .last .0) (c .before .put-points .ensures .0) (c .before .put-points .ensures .1)
 
 pub put-spec : {M : Type 1} → statement M
 put-spec = tie.close (tie.spec block-sizes-requires slice-aggregate-put-points put-points-requires returns)
