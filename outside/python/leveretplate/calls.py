@@ -1,0 +1,210 @@
+"""One function for each exported call: plain lists in and out, and a refusal as an exception.
+
+`outside/c/leveretplate.h` states what is proved of each. A grid is given by its sizes and divisions; a table has one
+label for each grid point, in the order of `grids.grid_points`.
+"""
+
+import ctypes
+from collections.abc import Sequence
+from typing import NamedTuple
+
+from .grids import MOST_POINTS, count_points
+from .library import call, lend, number, room
+from .questions import Refused
+
+Numbers = Sequence[int]
+
+# The numbers that the library gives of an end, in their order.
+FACTS = ("places", "kind", "block", "vertices")
+KINDS = ("place", "facet")
+MOST_LEVELS = 8
+NO_LIMIT = 2 ** 64 - 1
+SHEET_BYTES = 4096
+
+# The largest simplex of any grid has 16 points of 16 numbers at most.
+SIMPLEX_NUMBERS = 256
+
+
+class End(NamedTuple):
+    """The end of a path: the places visited, the kind of end, "place" or "facet", the block, and the vertices."""
+
+    places: int
+    kind: str
+    block: int
+    vertices: list[list[int]]
+
+
+class Nearest(NamedTuple):
+    """The end of a path, the position of the visited vertex nearest to w, and the positions of those within reach."""
+
+    end: End
+    nearest: int
+    within: list[int]
+
+
+class Refinement(NamedTuple):
+    """The end of each level, and the last level's labels."""
+
+    ends: list[End]
+    labels: list[int]
+
+
+def sheet(slip: bytes) -> str:
+    """The sheet of a slip; that of a refused slip says so.
+
+    >>> print(sheet(bytes([4, 2, 2, 2, 1, 0, 1, 0, 2, 2, 2, 4])), end="")
+    places 5
+    bound 68
+    end facet
+    block 1
+    vertices 1
+    0 1 1 0
+    centre 0 10000 10000 0
+    """
+    written = (ctypes.c_uint8 * SHEET_BYTES)()
+    length = call("sheet", lend("slip", 8, slip), written, answer=ctypes.c_size_t)
+    return bytes(written[:length]).decode("ascii")
+
+
+def run(sizes: Numbers, divisions: Numbers, start: Numbers, labels: Numbers, budget: int = NO_LIMIT) -> End:
+    """Follows the path over a label table to its end.
+
+    >>> run([2, 2], [1, 1], [1, 0, 1, 0], [3, 1, 2, 4])
+    End(places=3, kind='place', block=2, vertices=[[1, 0, 1, 0], [1, 0, 0, 1], [0, 1, 0, 1]])
+    >>> run([3], [3], [1, 1, 1], [1] * 10)
+    End(places=3, kind='facet', block=1, vertices=[[3, 0, 0]])
+    >>> run([2], [4], [2, 2], [1] * 5, budget=2)
+    Traceback (most recent call last):
+    leveretplate.questions.Refused: refused 9: Has the path ended within the budget? (places 2)
+    """
+    answer, facts = room(16, SIMPLEX_NUMBERS), _facts()
+    refusal = call("run", *_run(sizes, divisions, start, labels), answer, number("budget", budget), facts)
+    _accept(refusal, facts)
+    return _end(facts, answer, sum(sizes))
+
+
+def nearest(sizes: Numbers, divisions: Numbers, start: Numbers, labels: Numbers, w: Numbers, distance: int,
+            budget: int = NO_LIMIT) -> Nearest:
+    """A run that also reports where the path came nearest to the grid point w, and what is within a distance of it.
+
+    >>> nearest([2], [4], [2, 2], [1] * 5, w=[0, 4], distance=6)
+    Nearest(end=End(places=3, kind='facet', block=1, vertices=[[4, 0]]), nearest=2, within=[2, 3])
+    """
+    answer, facts, near = room(16, SIMPLEX_NUMBERS), _facts(), (ctypes.c_uint64 * 2)()
+    lent = _run(sizes, divisions, start, labels)
+    positions = room(16, _points(sizes, divisions))
+    refusal = call("nearest", *lent, answer, number("budget", budget), lend("w", 16, w), number("distance", distance),
+                   positions, facts, near)
+    _accept(refusal, facts)
+    return Nearest(_end(facts, answer, sum(sizes)), near[0], positions[:near[1]].tolist())
+
+
+def label(sizes: Numbers, divisions: Numbers, losses: Numbers) -> list[int]:
+    """The labels that a game's losses give.
+
+    >>> label([2, 2, 2], [1, 1, 1], [1, 2, 8, 5, 8, 8, 2, 2, 4, 2, 2, 1, 2, 6, 1, 3, 4, 1, 4, 2, 8, 8, 2, 1])
+    [3, 6, 1, 1, 5, 2, 5, 4]
+    """
+    grid, count = _grid(sizes, divisions), (ctypes.c_uint64 * 1)()
+    labels = room(8, _points(*grid))
+    _accept(call("label", *grid, lend("losses", 16, losses), labels, count))
+    return labels.tolist()
+
+
+def boundary(sizes: Numbers, divisions: Numbers, labels: Numbers) -> list[int]:
+    """The table with the same labels inside and the labels of rule (1.3) on the boundary.
+
+    >>> boundary([3], [3], [1] * 10)
+    [1, 1, 1, 3, 2, 1, 3, 2, 3, 2]
+    """
+    grid, count = _grid(sizes, divisions), (ctypes.c_uint64 * 1)()
+    written = room(8, _points(*grid))
+    _accept(call("boundary", *grid, lend("labels", 8, labels), written, count))
+    return written.tolist()
+
+
+def refine(sizes: Numbers, divisions: Numbers, start: Numbers, losses: Numbers, factor: int, levels: int) -> Refinement:
+    """Runs a game on finer and finer grids, each next one `factor` times finer and started at the end before.
+
+    >>> game_1 = [1, 2, 8, 5, 8, 8, 2, 2, 4, 2, 2, 1, 2, 6, 1, 3, 4, 1, 4, 2, 8, 8, 2, 1]
+    >>> [end.places for end in refine([2, 2, 2], [1, 1, 1], [1, 0, 1, 0, 1, 0], game_1, factor=2, levels=6).ends]
+    [4, 7, 8, 12, 27, 19]
+    """
+    grid, finer = _grid(sizes, divisions), (number("factor", factor), number("levels", levels))
+    finest = factor ** min(max(levels - 1, 0), MOST_LEVELS - 1)
+    labels = room(8, _points(sizes, [finest * d for d in divisions]))
+    answer, facts = room(16, MOST_LEVELS * SIMPLEX_NUMBERS), _facts(MOST_LEVELS)
+    _accept(call("refine", *grid, lend("start", 16, start), lend("losses", 16, losses), *finer, labels, answer, facts))
+    m = sum(sizes)
+    block = (m - len(sizes) + 1) * m
+    ends = [_end(facts[level * len(FACTS):], answer[level * block:], m) for level in range(levels)]
+    return Refinement(ends, labels.tolist())
+
+
+def check(sizes: Numbers, divisions: Numbers, labels: Numbers, points: Sequence[Numbers]) -> int | None:
+    """The first block for which the points, in any order, are a complete simplex; None where they are none.
+
+    >>> check([2, 2], [1, 1], [3, 1, 2, 4], [[0, 1, 0, 1], [1, 0, 1, 0], [1, 0, 0, 1]])
+    2
+    >>> check([2, 2], [1, 1], [3, 1, 2, 4], [[1, 0, 1, 0], [1, 0, 1, 0]]) is None
+    True
+    """
+    numbers = lend("points", 16, (coordinate for point in points for coordinate in point))
+    answer = call("check", *_grid(sizes, divisions), lend("labels", 8, labels), numbers, answer=ctypes.c_uint16)
+    block, refusal = divmod(answer, 256)
+    _accept(refusal)
+    return block or None
+
+
+def file(shelf: Numbers, named: int = 0) -> list[int]:
+    """The shelf with one more sheet, which replaces the sheet named, or none. Entry i - 1 is what sheet i replaces.
+
+    >>> file([0, 0, 1, 2], named=4)
+    [0, 0, 1, 2, 4]
+    >>> file([0, 0, 1, 2], named=1)
+    Traceback (most recent call last):
+    leveretplate.questions.Refused: refused 23: Is the sheet on the shelf and, if it is to be replaced, not yet replaced?
+    """
+    entries, filed = lend("shelf", 16, [*shelf, 0]), (ctypes.c_size_t * 1)()
+    _accept(call("file", entries, number("count", len(shelf)), number("named", named), filed))
+    return entries.tolist()
+
+
+def current(shelf: Numbers, sheet: int) -> int:
+    """The current one of a sheet, reached by going from each to the sheet that replaces it.
+
+    >>> current([0, 0, 1, 2, 4], 2)
+    5
+    """
+    last = (ctypes.c_size_t * 1)()
+    _accept(call("current", lend("shelf", 16, shelf), number("count", len(shelf)), number("sheet", sheet), last))
+    return last[0]
+
+
+def _grid(sizes: Numbers, divisions: Numbers) -> tuple:
+    return lend("sizes", 8, sizes), lend("divisions", 16, divisions)
+
+
+def _run(sizes: Numbers, divisions: Numbers, start: Numbers, labels: Numbers) -> tuple:
+    return *_grid(sizes, divisions), lend("start", 16, start), lend("labels", 8, labels)
+
+
+def _points(sizes: Numbers, divisions: Numbers) -> int:
+    """P, or the most points of a grid that is refused, so that no more room than that is ever made."""
+    return min(count_points(sizes, divisions), MOST_POINTS)
+
+
+def _facts(levels: int = 1) -> ctypes.Array:
+    return (ctypes.c_uint64 * (levels * len(FACTS)))()
+
+
+def _accept(refusal: int, facts: Numbers = ()) -> None:
+    """Raises a refusal. Numbers 9 and 16 of a run have told the places, and 16 the position of a label."""
+    if refusal:
+        raise Refused(refusal, *facts[:{9: 1, 16: 2}.get(refusal, 0)])
+
+
+def _end(facts: Numbers, numbers: Numbers, m: int) -> End:
+    fact = dict(zip(FACTS, facts))
+    vertices = [list(numbers[first:first + m]) for first in range(0, fact["vertices"] * m, m)]
+    return End(fact["places"], KINDS[fact["kind"]], fact["block"], vertices)
