@@ -1,0 +1,130 @@
+"""A slip as readable text, in the field names of the stored cases.
+
+    sizes 2 2
+    d 10 10
+    start 10 0 10 0
+    losses 1 3 3 1 3 1 1 3
+
+A field stands on a line of its own, in any order; "-" is a field that is absent, 12x3 is twelve times 3. The lines
+`call`, `name`, `note` and `source` are not read, and nothing is from a line `expect` on, so that a stored case is a text
+too. Its line `slip` has the bytes in hex: alone it is the slip, beside other fields it must agree with them.
+"""
+
+import re
+from itertools import groupby
+
+from .malformed import Malformed
+from .slips import TABLES, WIDTHS, Slip
+
+# The field that is called d in the stored cases.
+FIELDS = {"d" if field == "divisions" else field: field for field in WIDTHS}
+UNREAD = ("call", "name", "note", "source")
+
+# No field of an accepted slip has more than 60,000 numbers.
+MOST_NUMBERS = 100_000
+
+
+def to_bytes(text: str) -> bytes:
+    """The bytes of the slip that a text describes.
+
+    >>> to_bytes("sizes 2 2" + chr(10) + "d 2x1" + chr(10) + "labels 3x2 4").hex(" ")
+    '04 02 02 02 01 00 01 00 02 02 02 04'
+    """
+    lines = _lines(text)
+    values = {FIELDS[name]: _numbers(name, *lines[name]) for name in FIELDS if name in lines}
+    stated = _hex(*lines["slip"]) if "slip" in lines else None
+    if stated is not None and not values:
+        return stated
+    for name in ("sizes", "d"):
+        if name not in lines:
+            raise Malformed(f"a line with the {name} is needed")
+    if len(values.keys() & set(TABLES)) != 1:
+        raise Malformed("exactly one of labels, game and losses is needed")
+    made = Slip(**{field: _single(field, numbers) for field, numbers in values.items()}).encode()
+    if stated not in (None, made):
+        raise Malformed("these are not the bytes of the other fields", lines["slip"][0])
+    return made
+
+
+def of_slip(slip: Slip) -> str:
+    """The text of a slip, equal numbers in a row as one item.
+
+    >>> print(of_slip(Slip([2], [4], start=[3, 1], labels=[1] * 5)), end="")
+    sizes 2
+    d 4
+    start 3 1
+    labels 5x1
+    """
+    there = ((name, slip.numbers(field)) for name, field in FIELDS.items())
+    return "".join(f"{name} {_items(numbers)}\n" for name, numbers in there if numbers is not None)
+
+
+def points(text: str) -> list[int]:
+    """The numbers of the field `points`, which a check reads."""
+    lines = _lines(text)
+    if "points" not in lines:
+        raise Malformed("points are needed, in a second file or, in a text, as a line with the points")
+    return _numbers("points", *lines["points"])
+
+
+def points_of_sheet(sheet: str) -> list[int]:
+    """The numbers of the lines that have nothing but numbers, which on a sheet are the vertices.
+
+    >>> points_of_sheet("vertices 2" + chr(10) + "1 0" + chr(10) + "0 1" + chr(10) + "centre 5000 5000")
+    [1, 0, 0, 1]
+    """
+    rows = [line.split() for line in sheet.splitlines()]
+    return [int(item) for row in rows if all(map(_is_number, row)) for item in row]
+
+
+def _lines(text: str) -> dict[str, tuple[int, str]]:
+    """The fields that are there, each with its line's number and what stands behind the name."""
+    lines: dict[str, tuple[int, str]] = {}
+    for at, line in enumerate(text.splitlines(), 1):
+        name, _, value = line.strip().partition(" ")
+        if name == "expect":
+            break
+        if not name or name in UNREAD or value.strip() == "-":
+            continue
+        if name not in (*FIELDS, "slip", "points"):
+            raise Malformed(f"{name[:20]!r} is no field; the fields are {', '.join(FIELDS)}", at)
+        if name in lines:
+            raise Malformed(f"a second line with the {name}", at)
+        lines[name] = at, value
+    return lines
+
+
+def _numbers(name: str, at: int, value: str) -> list[int]:
+    numbers: list[int] = []
+    for item in value.split():
+        match = re.fullmatch(r"(?:([0-9]{1,6})x)?([0-9]{1,20})", item)
+        if not match:
+            raise Malformed(f"{name}: {item[:20]!r} is no whole number", at)
+        numbers += [int(match[2])] * int(match[1] or 1)
+        if len(numbers) > MOST_NUMBERS:
+            raise Malformed(f"{name}: more than {MOST_NUMBERS:,} numbers", at)
+    if not numbers:
+        raise Malformed(f"{name}: numbers are needed, or - for none", at)
+    if FIELDS.get(name) in ("budget", "game") and len(numbers) > 1:
+        raise Malformed(f"{name}: one number is needed", at)
+    return numbers
+
+
+def _is_number(item: str) -> bool:
+    return re.fullmatch("[0-9]{1,20}", item) is not None
+
+
+def _single(field: str, numbers: list[int]) -> list[int] | int:
+    return numbers[0] if field in ("budget", "game") else numbers
+
+
+def _hex(at: int, value: str) -> bytes:
+    try:
+        return bytes.fromhex(value)
+    except ValueError:
+        raise Malformed("slip: bytes in hex are needed", at) from None
+
+
+def _items(numbers: list[int]) -> str:
+    runs = [(number, len(list(equal))) for number, equal in groupby(numbers)]
+    return " ".join(f"{count}x{number}" if count > 2 else " ".join([str(number)] * count) for number, count in runs)
