@@ -81,7 +81,7 @@ def read(text: str) -> Game:
     """
     tokens = _Tokens(text)
     for word in ("NFG", "1", "[RD]"):
-        tokens.take(word, "NFG 1 R, with which a Gambit file begins,")
+        tokens.take(word, "NFG 1 R, with which a game in strategic form begins,")
     title = _unquoted(tokens.take(TEXT, "the title"))
     players = [_unquoted(name) for name in tokens.braced(TEXT, "a player's name")]
     sizes = _sizes(tokens)

@@ -47,7 +47,7 @@ def read_text(path: str) -> str:
 def read(path: str, choices: Choices) -> Brought:
     """What a file holds, as a slip."""
     data = read_bytes(path)
-    if data.lstrip().startswith(b"NFG"):
+    if data.lstrip().startswith((b"NFG", b"EFG")):
         return _from_gambit(_text(data), choices)
     # The second byte of a slip is its number of blocks, and no text has such a byte.
     text = None if re.search(rb"[\x00-\x08]", data) else _text(data)

@@ -37,7 +37,7 @@ def to_bytes(text: str) -> bytes:
         return stated
     for name in ("sizes", "d"):
         if name not in lines:
-            raise Malformed(f"a line with the {name} is needed")
+            raise Malformed(f"the field {name} is missing")
     if len(values.keys() & set(TABLES)) != 1:
         raise Malformed("exactly one of labels, game and losses is needed")
     made = Slip(**{field: _single(field, numbers) for field, numbers in values.items()}).encode()
@@ -63,7 +63,7 @@ def points(text: str) -> list[int]:
     """The numbers of the field `points`, which a check reads."""
     lines = _lines(text)
     if "points" not in lines:
-        raise Malformed("points are needed, in a second file or, in a text, as a line with the points")
+        raise Malformed("points are needed, in a second file or as the field points of a text")
     return _numbers("points", *lines["points"])
 
 
@@ -89,7 +89,7 @@ def _lines(text: str) -> dict[str, tuple[int, str]]:
         if name not in (*FIELDS, "slip", "points"):
             raise Malformed(f"{name[:20]!r} is no field; the fields are {', '.join(FIELDS)}", at)
         if name in lines:
-            raise Malformed(f"a second line with the {name}", at)
+            raise Malformed(f"a second field {name}", at)
         lines[name] = at, value
     return lines
 

@@ -1,0 +1,95 @@
+"""The commands, each as a researcher gives it."""
+
+import contextlib
+import io
+import pathlib
+import random
+import tempfile
+import unittest
+
+from leveretplate.__main__ import main
+
+from .commands import SAMPLES, command
+
+DOCUMENT_01 = bytes.fromhex("04 02 02 02 01 00 01 00 02 02 02 04")
+SHEET = b"places 5\nbound 68\nend facet\nblock 1\nvertices 1\n0 1 1 0\ncentre 0 10000 10000 0\n"
+
+
+class Commands(unittest.TestCase):
+    def answer(self, *words: object, given: bytes = b"") -> str:
+        shown = command(*words, given=given)
+        self.assertEqual((shown.returncode, shown.stderr), (0, b""))
+        return shown.stdout.decode()
+
+    def test_slip_there_and_back(self):
+        text = self.answer("slip", "-", "--text", given=DOCUMENT_01)
+        self.assertEqual(text, "sizes 2 2\nd 1 1\nlabels 3x2 4\n")
+        self.assertEqual(command("slip", "-", given=text.encode()).stdout, DOCUMENT_01)
+
+    def test_sheet(self):
+        self.assertEqual(self.answer("sheet", "-", given=DOCUMENT_01), SHEET.decode())
+
+    def test_refused_sheet(self):
+        shown = command("sheet", SAMPLES / "square.txt", "--budget", 3)
+        self.assertEqual((shown.returncode, shown.stdout), (1, b"refused 9\nplaces 3\n"))
+        self.assertTrue(shown.stderr.endswith(b"refused 9: Has the path ended within the budget?\n"))
+
+    def test_game_by_text_and_by_gambit(self):
+        by_text = self.answer("sheet", SAMPLES / "square.txt")
+        by_gambit = self.answer("sheet", SAMPLES / "matching-pennies.nfg", "--divisions", 10)
+        self.assertIn("centre 5333 4667 4667 5333", by_text)
+        self.assertIn("centre 5333 4667 4667 5333", by_gambit)
+
+    def test_outcomes_and_their_map(self):
+        text = self.answer("slip", SAMPLES / "battle.nfg", "--text", "--divisions", 3, 4, "--start", 3, 0, 0, 4)
+        self.assertEqual(text, "sizes 2 2\nd 3 4\nstart 3 0 0 4\nlosses 1 3 3 2 2 3 3 1\n")
+
+    def test_refine(self):
+        lines = self.answer("refine", SAMPLES / "game-1.txt", "--divisions", 1).splitlines()
+        self.assertEqual(len(lines), 7)
+        self.assertIn("0.2031 0.7969 0.4297 0.5703 0.6953 0.3047  0.0444 by player 2, index 4", lines[-1])
+
+    def test_refine_needs_a_game(self):
+        shown = command("refine", SAMPLES / "triangle.txt")
+        self.assertEqual(shown.returncode, 2)
+        self.assertTrue(shown.stderr.endswith(b"this needs a game, and the slip has labels\n"))
+
+    def test_check_of_a_sheet(self):
+        with tempfile.NamedTemporaryFile() as sheet:
+            sheet.write(self.answer("sheet", SAMPLES / "triangle.txt").encode())
+            sheet.flush()
+            self.assertEqual(self.answer("check", SAMPLES / "triangle.txt", sheet.name), "yes\nblock 1\n")
+
+    def test_check_of_a_text(self):
+        text = b"sizes 2 2\nd 1 1\nlabels 3 1 2 4\npoints 1 0 1 0 1 0 1 0\n"
+        self.assertEqual(self.answer("check", "-", given=text), "no\n")
+
+    def test_no_file(self):
+        shown = command("sheet", "no-such-file")
+        self.assertEqual((shown.returncode, shown.stderr), (2, b"leveretplate: no-such-file: No such file or directory\n"))
+
+
+class Damaged(unittest.TestCase):
+    """Samples with random damage: an answer, or one line, and never a traceback."""
+
+    def test_damaged_samples(self):
+        choose = random.Random(30)
+        samples = [path.read_bytes() for path in sorted(SAMPLES.iterdir())]
+        with tempfile.TemporaryDirectory() as folder:
+            path = pathlib.Path(folder, "damaged")
+            for _ in range(1000):
+                path.write_bytes(self.damaged(choose, choose.choice(samples)))
+                words = choose.choice((["sheet"], ["refine", "--levels", "2"], ["check"], ["slip", "--text"]))
+                divisions = ["--divisions", "2"] if choose.random() < 0.5 else []
+                said = io.StringIO()
+                with contextlib.redirect_stderr(said), contextlib.redirect_stdout(io.StringIO()):
+                    status = main([words[0], str(path), *words[1:], *divisions])
+                self.assertEqual((status > 0, status < 3), (said.getvalue().count("\n") == 1, True))
+
+    @staticmethod
+    def damaged(choose: random.Random, sample: bytes) -> bytes:
+        for _ in range(choose.randint(1, 3)):
+            at, until = sorted(choose.randrange(len(sample) + 1) for _ in range(2))
+            put = choose.choice((b"", b"{", b"}", b'"', b"-1", b"99999999", b"1/3", b"\x00", b"\xff", b" ", b"\n", b"x"))
+            sample = sample[:at] + put + sample[at if choose.random() < 0.7 else until:]
+        return sample

@@ -1,0 +1,154 @@
+"""Refinements of random two-player games beside the equilibria that lrsnash, of Debian's package lrslib, finds.
+
+For the centre of each level's end the distance to the nearest extreme equilibrium is measured, as the largest difference
+of a coordinate. A path ends where no player gains much, so what holds of every game is a bound on the gain. The distance
+follows it, except in two kinds of games, which are counted:
+
+- between: lrsnash lists the corners of a connected set of equilibria, and the end is near a point between two of them;
+- flat: a small gain is no sign of an equilibrium nearby, since payoffs differ by little, and the grid, at most 60,000
+  points, ends too coarse to tell.
+"""
+
+import pathlib
+import random
+import statistics
+import subprocess
+import tempfile
+import unittest
+from collections import Counter, defaultdict
+from fractions import Fraction
+from itertools import combinations
+from typing import NamedTuple
+
+from leveretplate import gambit, refine
+from leveretplate.games import largest_gain
+from leveretplate.grids import centre, corner, split
+from leveretplate.progress import shown
+from leveretplate.refining import aligned, most_levels
+from leveretplate.slips import Slip
+
+GAMES = 400
+SEED = 30
+
+# An end is near an equilibrium within this many steps of its grid.
+NEAR = 3
+
+# Points looked at between two equilibria.
+BETWEEN = 400
+
+Mix = list[Fraction]
+
+
+def random_game(choose: random.Random, most_payoff: int) -> gambit.Game:
+    """A game by way of a Gambit file, so that its reader is compared too."""
+    sizes = [choose.randint(2, 4), choose.randint(2, 4)]
+    payoffs = " ".join(str(choose.randint(0, most_payoff)) for _ in range(2 * sizes[0] * sizes[1]))
+    return gambit.read(f'NFG 1 R "Random" {{ "Row" "Column" }} {{ {sizes[0]} {sizes[1]} }} {payoffs}')
+
+
+def matrix(game: gambit.Game, player: int) -> str:
+    rows, columns = map(range, game.sizes)
+    return "".join(" ".join(str(game.payoffs[row, column][player]) for column in columns) + "\n" for row in rows)
+
+
+def lrsnash(game: gambit.Game, folder: str) -> list[Mix]:
+    """The extreme equilibria: each line 1 is a mix of the row player, which goes with each line 2 of its paragraph."""
+    path = pathlib.Path(folder, "game")
+    path.write_text(f"{game.sizes[0]} {game.sizes[1]}\n\n{matrix(game, 0)}\n{matrix(game, 1)}")
+    printed = subprocess.run(["lrsnash", str(path)], capture_output=True, text=True, check=True, timeout=60).stdout
+    found: list[Mix] = []
+    for paragraph in printed.split("\n\n"):
+        lines = [line.split() for line in paragraph.splitlines() if line[:2] in ("1 ", "2 ")]
+        rows, columns = ([[*map(Fraction, line[1:-1])] for line in lines if line[0] == player] for player in "12")
+        found += [row + column for row in rows for column in columns]
+    return found
+
+
+def distance(a: Mix, b: Mix) -> Fraction:
+    return max(abs(x - y) for x, y in zip(a, b))
+
+
+def nearest_between(game: gambit.Game, point: Mix, equilibria: list[Mix]) -> Fraction:
+    """The distance to points between two equilibria that share a player's mix; these are equilibria too."""
+    pairs = [(a, b) for a, b in combinations(equilibria, 2)
+             if any(x == y for x, y in zip(split(game.sizes, a), split(game.sizes, b)))]
+    between = ([x + Fraction(part, BETWEEN) * (y - x) for x, y in zip(a, b)] for a, b in pairs for part in range(BETWEEN))
+    return min((distance(point, other) for other in between), default=Fraction(1))
+
+
+def gain_bound(game: gambit.Game, division: int) -> Fraction:
+    """A gain that no centre of an end exceeds.
+
+    Coordinates of two vertices of an end differ by one step at most, so a mix of s strategies moves by at most half of s
+    steps of weight. A player's gain then changes by at most `change` steps times the range of the payoffs. Every index of
+    the end's block is played nowhere in the simplex or has the largest gain at one of its vertices, and the gains of a
+    block, weighed by the mix, add up to 0: so the largest is at most twice the change.
+    """
+    row, column = (size // 2 for size in game.sizes)
+    change = max(row + 2 * column, column + 2 * row)
+    widest = max(max(payoffs) - min(payoffs) for payoffs in zip(*game.payoffs.values()))
+    return Fraction(2 * change, division) * widest
+
+
+class Level(NamedTuple):
+    """A level's division, the centre of its end, and the largest gain there, in payoffs."""
+
+    division: int
+    middle: Mix
+    gain: Fraction
+
+
+def levels(game: gambit.Game) -> list[Level]:
+    losses, unit = game.losses()
+    count = most_levels(Slip(game.sizes, [1, 1], losses=losses), 2)
+    found = []
+    for level, end in enumerate(refine(game.sizes, [1, 1], corner(game.sizes, [1, 1]), losses, 2, count).ends):
+        middle = centre(game.sizes, [2 ** level] * 2, end.vertices)
+        found.append(Level(2 ** level, middle, unit * largest_gain(game.sizes, losses, middle).amount))
+    return found
+
+
+def kind(game: gambit.Game, last: Level, equilibria: list[Mix]) -> str:
+    reach = Fraction(NEAR, last.division)
+    if min(distance(last.middle, equilibrium) for equilibrium in equilibria) <= reach:
+        return "near"
+    return "between" if nearest_between(game, last.middle, equilibria) <= reach else "flat"
+
+
+class Peers(unittest.TestCase):
+    def compare(self, most_payoff: int) -> tuple[dict[int, float], Counter]:
+        """The median distance on each division, and how many games agree, or why not; both are printed."""
+        distances: dict[int, list[Fraction]] = defaultdict(list)
+        gains: dict[int, list[Fraction]] = defaultdict(list)
+        kinds: Counter = Counter()
+        choose = random.Random(SEED)
+        with tempfile.TemporaryDirectory() as folder:
+            for _ in shown(range(GAMES), "games compared:"):
+                game = random_game(choose, most_payoff)
+                equilibria = lrsnash(game, folder)
+                losses = game.losses().losses
+                self.assertEqual({largest_gain(game.sizes, losses, mix).amount for mix in equilibria}, {0})
+                for division, middle, gain in (found := levels(game)):
+                    self.assertLessEqual(gain, gain_bound(game, division))
+                    distances[division].append(min(distance(middle, equilibrium) for equilibrium in equilibria))
+                    gains[division].append(gain)
+                kinds[kind(game, found[-1], equilibria)] += 1
+        print(f"\n{GAMES} games with payoffs from 0 to {most_payoff}; on the last grid {dict(kinds)}")
+        table = [("division", "games", "median distance", "nine tenths within", "median gain", "largest gain")]
+        for division in distances:
+            far = sorted(map(float, distances[division]))
+            table.append((str(division), str(len(far)), f"{statistics.median(far):.4f}", f"{far[len(far) * 9 // 10]:.4f}",
+                          f"{float(statistics.median(gains[division])):.3f}", f"{float(max(gains[division])):.3f}"))
+        print(aligned(table), end="")
+        return {division: float(statistics.median(far)) for division, far in distances.items()}, kinds
+
+    def test_many_payoffs(self):
+        medians, kinds = self.compare(most_payoff=99)
+        self.assertEqual(sorted(medians.values(), reverse=True), list(medians.values()))
+        self.assertLess(medians[128], medians[1] / 64)
+        self.assertGreater(kinds["near"], GAMES * 9 / 10)
+
+    def test_few_payoffs(self):
+        medians, kinds = self.compare(most_payoff=3)
+        self.assertEqual(sorted(medians.values(), reverse=True), list(medians.values()))
+        self.assertGreater(kinds["near"] + kinds["between"], GAMES * 9 / 10)
