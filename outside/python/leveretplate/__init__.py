@@ -7,8 +7,9 @@
 `python3 -m leveretplate` has the commands. Nothing here is proved but what the library answers.
 """
 
-from .calls import End, Nearest, Refinement, boundary, check, current, file, label, nearest, refine, run, sheet
+from .calls import (End, Nearest, Place, Refinement, boundary, check, current, file, label, nearest, read_trail, refine,
+                    run, run_with_trail, sheet)
 from .questions import QUESTIONS, Refused
 
-__all__ = ["QUESTIONS", "End", "Nearest", "Refinement", "Refused", "boundary", "check", "current", "file", "label",
-           "nearest", "refine", "run", "sheet"]
+__all__ = ["QUESTIONS", "End", "Nearest", "Place", "Refinement", "Refused", "boundary", "check", "current", "file",
+           "label", "nearest", "read_trail", "refine", "run", "run_with_trail", "sheet"]

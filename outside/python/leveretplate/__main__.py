@@ -1,7 +1,7 @@
-"""The commands: slip, sheet, refine and check.
+"""The commands: slip, sheet, refine, trail and check.
 
-What is wrong with an input is said in one line on standard error. The exit status is 0 for an answer, 1 for a refusal by
-number, and 2 for an input that cannot be read.
+What is wrong with an input is said in one line on standard error. The exit status is 0 for an answer, 1 for a refusal
+by number, and 2 for an input that cannot be read.
 """
 
 import argparse
@@ -9,7 +9,7 @@ import os
 import sys
 from collections.abc import Callable
 
-from . import calls, inputs, refining, texts
+from . import calls, inputs, refining, texts, trails
 from .malformed import Malformed
 from .questions import Refused
 from .slips import decode
@@ -43,6 +43,12 @@ def refine(arguments: Arguments) -> None:
     print(refining.aligned([refining.HEADINGS, *refining.rows(game, arguments.factor, levels, brought.unit)]), end="")
 
 
+def trail(arguments: Arguments) -> None:
+    """Print the path in words, move by move."""
+    for line in trails.lines(decode(_brought(arguments).slip)):
+        print(line)
+
+
 def check(arguments: Arguments) -> None:
     """Say whether points are a complete simplex, and for which block first."""
     brought = _brought(arguments)
@@ -62,7 +68,7 @@ def _brought(arguments: Arguments) -> inputs.Brought:
 
 def _parser() -> argparse.ArgumentParser:
     shared = argparse.ArgumentParser(add_help=False)
-    shared.add_argument("file", help="a text with the fields of a slip, a Gambit .nfg file, or a slip; - is standard input")
+    shared.add_argument("file", help="a text of a slip's fields, a Gambit .nfg file, or a slip; - is standard input")
     shared.add_argument("--divisions", type=int, nargs="+", metavar="D", help="one for all blocks, or one for each")
     shared.add_argument("--start", type=int, nargs="+", metavar="Y", help="a number for each index")
     shared.add_argument("--budget", type=int, metavar="PLACES", help="the most places to visit")
@@ -79,6 +85,7 @@ def _parser() -> argparse.ArgumentParser:
     finer = command(refine)
     finer.add_argument("--factor", type=int, default=2, metavar="K", help="how much finer each next grid is; 2 to 10")
     finer.add_argument("--levels", type=int, metavar="L", help="1 to 8; as many as fit if not given")
+    command(trail)
     command(check).add_argument("points", nargs="?", help="a sheet, or lines of points; else the text's field points")
     return parser
 

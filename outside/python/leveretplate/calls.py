@@ -20,6 +20,8 @@ KINDS = ("place", "facet")
 MOST_LEVELS = 8
 NO_LIMIT = 2 ** 64 - 1
 SHEET_BYTES = 4096
+START_BYTES = 3
+MOST_RECORD_BYTES = 7
 
 # The largest simplex of any grid has 16 points of 16 numbers at most.
 SIMPLEX_NUMBERS = 256
@@ -40,6 +42,14 @@ class Nearest(NamedTuple):
     end: End
     nearest: int
     within: list[int]
+
+
+class Place(NamedTuple):
+    """A place: its points in rising coefficient sum, T and U."""
+
+    points: list[list[int]]
+    t: list[int]
+    u: list[int]
 
 
 class Refinement(NamedTuple):
@@ -97,6 +107,38 @@ def nearest(sizes: Numbers, divisions: Numbers, start: Numbers, labels: Numbers,
                    positions, facts, near)
     _accept(refusal, facts)
     return Nearest(_end(facts, answer, sum(sizes)), near[0], positions[:near[1]].tolist())
+
+
+def run_with_trail(sizes: Numbers, divisions: Numbers, start: Numbers, labels: Numbers,
+                   budget: int = NO_LIMIT) -> tuple[End, bytes]:
+    """A run that also writes its trail: one record for each place, the start's first.
+
+    >>> end, trail = run_with_trail([2, 2], [1, 1], [1, 0, 1, 0], [2, 2, 2, 4])
+    >>> trail.hex(" ")
+    '01 03 00 65 02 00 04 04 05 65 00 00 02 02 05 43 01 00 02 00 01 5a 00 00 04 04 06'
+    """
+    lent, limit = _run(sizes, divisions, start, labels), number("budget", budget)
+    longest = START_BYTES + MOST_RECORD_BYTES * run(sizes, divisions, start, labels, budget).places
+    answer, trail, facts, written = room(16, SIMPLEX_NUMBERS), room(8, longest), _facts(), (ctypes.c_uint64 * 1)()
+    _accept(call("run_with_trail", *lent, answer, limit, trail, facts, written), facts)
+    return _end(facts, answer, sum(sizes)), trail[:written[0]].tobytes()
+
+
+def read_trail(sizes: Numbers, divisions: Numbers, start: Numbers, trail: bytes, record: int) -> Place:
+    """The place at a record of a trail, the records counted from 1.
+
+    >>> trail = bytes.fromhex("010300 650200040405 650000020205 430100020001 5a0000040406")
+    >>> read_trail([2, 2], [1, 1], [1, 0, 1, 0], trail, 5)
+    Place(points=[[1, 0, 1, 0], [0, 1, 1, 0]], t=[2], u=[4])
+    >>> read_trail([2, 2], [1, 1], [1, 0, 1, 0], trail, 6)
+    Traceback (most recent call last):
+    leveretplate.questions.Refused: refused 17: Is there such a record, and is each up to it that of a move?
+    """
+    points, place = (ctypes.c_uint16 * SIMPLEX_NUMBERS)(), (ctypes.c_uint64 * 3)()
+    _accept(call("read_trail", *_grid(sizes, divisions), lend("start", 16, start), lend("trail", 8, trail),
+                 number("record", record), points, place))
+    count, t, u = place
+    return Place(_rows(points, count, sum(sizes)), _indices(t), _indices(u))
 
 
 def label(sizes: Numbers, divisions: Numbers, losses: Numbers) -> list[int]:
@@ -163,7 +205,7 @@ def file(shelf: Numbers, named: int = 0) -> list[int]:
     [0, 0, 1, 2, 4]
     >>> file([0, 0, 1, 2], named=1)
     Traceback (most recent call last):
-    leveretplate.questions.Refused: refused 23: Is the sheet on the shelf and, if it is to be replaced, not yet replaced?
+    leveretplate.questions.Refused: refused 23: Is the sheet on the shelf and, to be replaced, not yet replaced?
     """
     entries, filed = lend("shelf", 16, [*shelf, 0]), (ctypes.c_size_t * 1)()
     _accept(call("file", entries, number("count", len(shelf)), number("named", named), filed))
@@ -206,5 +248,13 @@ def _accept(refusal: int, facts: Numbers = ()) -> None:
 
 def _end(facts: Numbers, numbers: Numbers, m: int) -> End:
     fact = dict(zip(FACTS, facts))
-    vertices = [list(numbers[first:first + m]) for first in range(0, fact["vertices"] * m, m)]
-    return End(fact["places"], KINDS[fact["kind"]], fact["block"], vertices)
+    return End(fact["places"], KINDS[fact["kind"]], fact["block"], _rows(numbers, fact["vertices"], m))
+
+
+def _rows(numbers: Numbers, count: int, m: int) -> list[list[int]]:
+    return [list(numbers[first:first + m]) for first in range(0, count * m, m)]
+
+
+def _indices(mask: int) -> list[int]:
+    """The indices of a set, from 1, of which bit h stands for index h + 1."""
+    return [bit + 1 for bit in range(16) if mask >> bit & 1]

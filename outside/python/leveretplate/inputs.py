@@ -13,11 +13,12 @@ from .slips import Slip, decode
 
 
 class Brought(NamedTuple):
-    """The bytes of a slip, the text that it came from, if any, and what one loss stands for."""
+    """The bytes of a slip, the text that it came from, if any, what one loss stands for, and a title."""
 
     slip: bytes
     text: str | None
     unit: Fraction
+    title: str
 
 
 class Choices(NamedTuple):
@@ -54,7 +55,7 @@ def read(path: str, choices: Choices) -> Brought:
     slip = data if text is None else texts.to_bytes(text)
     if any(value is not None for value in choices):
         slip = choices.applied(decode(slip)).encode()
-    return Brought(slip, text, Fraction(1))
+    return Brought(slip, text, Fraction(1), pathlib.Path(path).name)
 
 
 def _from_gambit(text: str, choices: Choices) -> Brought:
@@ -62,7 +63,7 @@ def _from_gambit(text: str, choices: Choices) -> Brought:
     losses, unit = game.losses()
     if choices.divisions is None:
         raise Malformed("a Gambit file has no divisions: --divisions gives them")
-    return Brought(choices.applied(Slip(game.sizes, [], losses=losses)).encode(), None, unit)
+    return Brought(choices.applied(Slip(game.sizes, [], losses=losses)).encode(), None, unit, game.title)
 
 
 def _text(data: bytes) -> str:

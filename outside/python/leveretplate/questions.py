@@ -17,13 +17,13 @@ QUESTIONS: dict[int, str] = {
     14: "Are the remaining bytes of the slip exactly the fields announced?",
     15: "Is the game 1, 2 or 3, with these sizes?",
     16: "Are the labels known that the path needs?",
-    17: "Is there such a record, with every record up to it the one record of a move?",
+    17: "Is there such a record, and is each up to it that of a move?",
     18: "Is the factor from 2 to 10, and the number of levels from 1 to 8?",
     19: "Are the points at least one, whole, not more than the largest simplex has, and on the grid?",
     20: "Is the walk at a place, come from one linked to it, with places so far from 1 to the bound?",
     21: "Is this a shelf, on which each sheet replaces at most one earlier sheet that no other replaces?",
     22: "Is there room for one more sheet among the 1,000?",
-    23: "Is the sheet on the shelf and, if it is to be replaced, not yet replaced?",
+    23: "Is the sheet on the shelf and, to be replaced, not yet replaced?",
 }
 
 

@@ -6,8 +6,8 @@
     losses 1 3 3 1 3 1 1 3
 
 A field stands on a line of its own, in any order; "-" is a field that is absent, 12x3 is twelve times 3. The lines
-`call`, `name`, `note` and `source` are not read, and nothing is from a line `expect` on, so that a stored case is a text
-too. Its line `slip` has the bytes in hex: alone it is the slip, beside other fields it must agree with them.
+`call`, `name`, `note` and `source` are not read, and nothing is from a line `expect` on, so that a stored case is a
+text too. Its line `slip` has the bytes in hex: alone it is the slip, beside other fields it must agree with them.
 """
 
 import re

@@ -1,8 +1,8 @@
 """Refinements of random two-player games beside the equilibria that lrsnash, of Debian's package lrslib, finds.
 
-For the centre of each level's end the distance to the nearest extreme equilibrium is measured, as the largest difference
-of a coordinate. A path ends where no player gains much, so what holds of every game is a bound on the gain. The distance
-follows it, except in two kinds of games, which are counted:
+For the centre of each level's end the distance to the nearest extreme equilibrium is measured, as the largest
+difference of a coordinate. A path ends where no player gains much, so what holds of every game is a bound on the gain.
+The distance follows it, except in two kinds of games, which are counted:
 
 - between: lrsnash lists the corners of a connected set of equilibria, and the end is near a point between two of them;
 - flat: a small gain is no sign of an equilibrium nearby, since payoffs differ by little, and the grid, at most 60,000
@@ -72,17 +72,18 @@ def nearest_between(game: gambit.Game, point: Mix, equilibria: list[Mix]) -> Fra
     """The distance to points between two equilibria that share a player's mix; these are equilibria too."""
     pairs = [(a, b) for a, b in combinations(equilibria, 2)
              if any(x == y for x, y in zip(split(game.sizes, a), split(game.sizes, b)))]
-    between = ([x + Fraction(part, BETWEEN) * (y - x) for x, y in zip(a, b)] for a, b in pairs for part in range(BETWEEN))
+    parts = [Fraction(part, BETWEEN) for part in range(BETWEEN)]
+    between = ([x + part * (y - x) for x, y in zip(a, b)] for a, b in pairs for part in parts)
     return min((distance(point, other) for other in between), default=Fraction(1))
 
 
 def gain_bound(game: gambit.Game, division: int) -> Fraction:
     """A gain that no centre of an end exceeds.
 
-    Coordinates of two vertices of an end differ by one step at most, so a mix of s strategies moves by at most half of s
-    steps of weight. A player's gain then changes by at most `change` steps times the range of the payoffs. Every index of
-    the end's block is played nowhere in the simplex or has the largest gain at one of its vertices, and the gains of a
-    block, weighed by the mix, add up to 0: so the largest is at most twice the change.
+    Coordinates of two vertices of an end differ by one step at most, so a mix of s strategies moves by at most half of
+    s steps of weight. A player's gain then changes by at most `change` steps times the range of the payoffs. Every
+    index of the end's block is played nowhere in the simplex or has the largest gain at one of its vertices, and the
+    gains of a block, weighed by the mix, add up to 0: so the largest is at most twice the change.
     """
     row, column = (size // 2 for size in game.sizes)
     change = max(row + 2 * column, column + 2 * row)
@@ -137,8 +138,10 @@ class Peers(unittest.TestCase):
         table = [("division", "games", "median distance", "nine tenths within", "median gain", "largest gain")]
         for division in distances:
             far = sorted(map(float, distances[division]))
-            table.append((str(division), str(len(far)), f"{statistics.median(far):.4f}", f"{far[len(far) * 9 // 10]:.4f}",
-                          f"{float(statistics.median(gains[division])):.3f}", f"{float(max(gains[division])):.3f}"))
+            near = (statistics.median(far), far[len(far) * 9 // 10])
+            gained = (statistics.median(gains[division]), max(gains[division]))
+            figures = [f"{number:.4f}" for number in near] + [f"{float(number):.3f}" for number in gained]
+            table.append((str(division), str(len(far)), *figures))
         print(aligned(table), end="")
         return {division: float(statistics.median(far)) for division, far in distances.items()}, kinds
 

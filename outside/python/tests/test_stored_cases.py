@@ -74,7 +74,8 @@ def run_lines(fields: Fields) -> list[str]:
 
 def nearest_lines(fields: Fields) -> list[str]:
     found = leveretplate.nearest(*table_run(fields), numbers(fields["w"]), int(fields["distance"]), budget(fields))
-    return with_vertices(found.end) + [f"nearest {found.nearest}", f"within {len(found.within)}", joined("list", found.within)]
+    near = [f"nearest {found.nearest}", f"within {len(found.within)}", joined("list", found.within)]
+    return with_vertices(found.end) + near
 
 
 def label_lines(fields: Fields) -> list[str]:
