@@ -4,12 +4,15 @@
 label for each grid point, in the order of `grids.grid_points`.
 """
 
+from __future__ import annotations
+
 import ctypes
+from array import array
 from collections.abc import Sequence
 from typing import NamedTuple
 
 from .grids import MOST_POINTS, count_points
-from .library import call, lend, number, room
+from .library import Fixed, call, lend, number, room
 from .questions import Refused
 
 Numbers = Sequence[int]
@@ -71,9 +74,9 @@ def sheet(slip: bytes) -> str:
     0 1 1 0
     centre 0 10000 10000 0
     """
-    written = (ctypes.c_uint8 * SHEET_BYTES)()
-    length = call("sheet", lend("slip", 8, slip), written, answer=ctypes.c_size_t)
-    return bytes(written[:length]).decode("ascii")
+    written = room(8, SHEET_BYTES)
+    length = call("sheet", lend("slip", 8, slip), Fixed(written), answer=ctypes.c_size_t)
+    return written[:length].tobytes().decode("ascii")
 
 
 def run(sizes: Numbers, divisions: Numbers, start: Numbers, labels: Numbers, budget: int = NO_LIMIT) -> End:
@@ -88,7 +91,7 @@ def run(sizes: Numbers, divisions: Numbers, start: Numbers, labels: Numbers, bud
     leveretplate.questions.Refused: refused 9: Has the path ended within the budget? (places 2)
     """
     answer, facts = room(16, SIMPLEX_NUMBERS), _facts()
-    refusal = call("run", *_run(sizes, divisions, start, labels), answer, number("budget", budget), facts)
+    refusal = call("run", *_run(sizes, divisions, start, labels), answer, number("budget", budget), Fixed(facts))
     _accept(refusal, facts)
     return _end(facts, answer, sum(sizes))
 
@@ -100,11 +103,11 @@ def nearest(sizes: Numbers, divisions: Numbers, start: Numbers, labels: Numbers,
     >>> nearest([2], [4], [2, 2], [1] * 5, w=[0, 4], distance=6)
     Nearest(end=End(places=3, kind='facet', block=1, vertices=[[4, 0]]), nearest=2, within=[2, 3])
     """
-    answer, facts, near = room(16, SIMPLEX_NUMBERS), _facts(), (ctypes.c_uint64 * 2)()
+    answer, facts, near = room(16, SIMPLEX_NUMBERS), _facts(), room(64, 2)
     lent = _run(sizes, divisions, start, labels)
     positions = room(16, _points(sizes, divisions))
     refusal = call("nearest", *lent, answer, number("budget", budget), lend("w", 16, w), number("distance", distance),
-                   positions, facts, near)
+                   positions, Fixed(facts), Fixed(near))
     _accept(refusal, facts)
     return Nearest(_end(facts, answer, sum(sizes)), near[0], positions[:near[1]].tolist())
 
@@ -119,8 +122,8 @@ def run_with_trail(sizes: Numbers, divisions: Numbers, start: Numbers, labels: N
     """
     lent, limit = _run(sizes, divisions, start, labels), number("budget", budget)
     longest = START_BYTES + MOST_RECORD_BYTES * run(sizes, divisions, start, labels, budget).places
-    answer, trail, facts, written = room(16, SIMPLEX_NUMBERS), room(8, longest), _facts(), (ctypes.c_uint64 * 1)()
-    _accept(call("run_with_trail", *lent, answer, limit, trail, facts, written), facts)
+    answer, trail, facts, written = room(16, SIMPLEX_NUMBERS), room(8, longest), _facts(), room(64, 1)
+    _accept(call("run_with_trail", *lent, answer, limit, trail, Fixed(facts), Fixed(written)), facts)
     return _end(facts, answer, sum(sizes)), trail[:written[0]].tobytes()
 
 
@@ -134,9 +137,9 @@ def read_trail(sizes: Numbers, divisions: Numbers, start: Numbers, trail: bytes,
     Traceback (most recent call last):
     leveretplate.questions.Refused: refused 17: Is there such a record, and is each up to it that of a move?
     """
-    points, place = (ctypes.c_uint16 * SIMPLEX_NUMBERS)(), (ctypes.c_uint64 * 3)()
+    points, place = room(16, SIMPLEX_NUMBERS), room(64, 3)
     _accept(call("read_trail", *_grid(sizes, divisions), lend("start", 16, start), lend("trail", 8, trail),
-                 number("record", record), points, place))
+                 number("record", record), Fixed(points), Fixed(place)))
     count, t, u = place
     return Place(_rows(points, count, sum(sizes)), _indices(t), _indices(u))
 
@@ -147,9 +150,9 @@ def label(sizes: Numbers, divisions: Numbers, losses: Numbers) -> list[int]:
     >>> label([2, 2, 2], [1, 1, 1], [1, 2, 8, 5, 8, 8, 2, 2, 4, 2, 2, 1, 2, 6, 1, 3, 4, 1, 4, 2, 8, 8, 2, 1])
     [3, 6, 1, 1, 5, 2, 5, 4]
     """
-    grid, count = _grid(sizes, divisions), (ctypes.c_uint64 * 1)()
+    grid = _grid(sizes, divisions)
     labels = room(8, _points(*grid))
-    _accept(call("label", *grid, lend("losses", 16, losses), labels, count))
+    _accept(call("label", *grid, lend("losses", 16, losses), labels, Fixed(room(64, 1))))
     return labels.tolist()
 
 
@@ -159,9 +162,9 @@ def boundary(sizes: Numbers, divisions: Numbers, labels: Numbers) -> list[int]:
     >>> boundary([3], [3], [1] * 10)
     [1, 1, 1, 3, 2, 1, 3, 2, 3, 2]
     """
-    grid, count = _grid(sizes, divisions), (ctypes.c_uint64 * 1)()
+    grid = _grid(sizes, divisions)
     written = room(8, _points(*grid))
-    _accept(call("boundary", *grid, lend("labels", 8, labels), written, count))
+    _accept(call("boundary", *grid, lend("labels", 8, labels), written, Fixed(room(64, 1))))
     return written.tolist()
 
 
@@ -176,10 +179,11 @@ def refine(sizes: Numbers, divisions: Numbers, start: Numbers, losses: Numbers, 
     finest = factor ** min(max(levels - 1, 0), MOST_LEVELS - 1)
     labels = room(8, _points(sizes, [finest * d for d in divisions]))
     answer, facts = room(16, MOST_LEVELS * SIMPLEX_NUMBERS), _facts(MOST_LEVELS)
-    _accept(call("refine", *grid, lend("start", 16, start), lend("losses", 16, losses), *finer, labels, answer, facts))
+    _accept(call("refine", *grid, lend("start", 16, start), lend("losses", 16, losses), *finer, labels, answer,
+                 Fixed(facts)))
     m = sum(sizes)
-    block = (m - len(sizes) + 1) * m
-    ends = [_end(facts[level * len(FACTS):], answer[level * block:], m) for level in range(levels)]
+    apart = (m - len(sizes) + 1) * m
+    ends = [_end(facts[level * len(FACTS):], answer[level * apart:], m) for level in range(levels)]
     return Refinement(ends, labels.tolist())
 
 
@@ -207,8 +211,8 @@ def file(shelf: Numbers, named: int = 0) -> list[int]:
     Traceback (most recent call last):
     leveretplate.questions.Refused: refused 23: Is the sheet on the shelf and, to be replaced, not yet replaced?
     """
-    entries, filed = lend("shelf", 16, [*shelf, 0]), (ctypes.c_size_t * 1)()
-    _accept(call("file", entries, number("count", len(shelf)), number("named", named), filed))
+    entries = lend("shelf", 16, [*shelf, 0])
+    _accept(call("file", entries, number("count", len(shelf)), number("named", named), Fixed(room(64, 1))))
     return entries.tolist()
 
 
@@ -218,16 +222,16 @@ def current(shelf: Numbers, sheet: int) -> int:
     >>> current([0, 0, 1, 2, 4], 2)
     5
     """
-    last = (ctypes.c_size_t * 1)()
-    _accept(call("current", lend("shelf", 16, shelf), number("count", len(shelf)), number("sheet", sheet), last))
+    last = room(64, 1)
+    _accept(call("current", lend("shelf", 16, shelf), number("count", len(shelf)), number("sheet", sheet), Fixed(last)))
     return last[0]
 
 
-def _grid(sizes: Numbers, divisions: Numbers) -> tuple:
+def _grid(sizes: Numbers, divisions: Numbers) -> tuple[array[int], ...]:
     return lend("sizes", 8, sizes), lend("divisions", 16, divisions)
 
 
-def _run(sizes: Numbers, divisions: Numbers, start: Numbers, labels: Numbers) -> tuple:
+def _run(sizes: Numbers, divisions: Numbers, start: Numbers, labels: Numbers) -> tuple[array[int], ...]:
     return *_grid(sizes, divisions), lend("start", 16, start), lend("labels", 8, labels)
 
 
@@ -236,8 +240,8 @@ def _points(sizes: Numbers, divisions: Numbers) -> int:
     return min(count_points(sizes, divisions), MOST_POINTS)
 
 
-def _facts(levels: int = 1) -> ctypes.Array:
-    return (ctypes.c_uint64 * (levels * len(FACTS)))()
+def _facts(levels: int = 1) -> array[int]:
+    return room(64, levels * len(FACTS))
 
 
 def _accept(refusal: int, facts: Numbers = ()) -> None:

@@ -1,10 +1,10 @@
 """Games: the three that are built in, and what a player gains by leaving a mix."""
 
 from collections.abc import Sequence
+from dataclasses import dataclass
 from fractions import Fraction
 from itertools import product
 from math import prod
-from typing import NamedTuple
 
 from .grids import split
 
@@ -22,7 +22,8 @@ BUILT_IN: dict[int, tuple[list[int], list[int]]] = {
 }
 
 
-class Gain(NamedTuple):
+@dataclass(frozen=True)
+class Gain:
     """How much less a player loses, at most, by another strategy: the amount, the player and the index, from 1."""
 
     amount: Fraction

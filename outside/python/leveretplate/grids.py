@@ -4,6 +4,9 @@ from collections.abc import Iterator, Sequence
 from fractions import Fraction
 from itertools import pairwise, product
 from math import comb, prod
+from typing import TypeVar
+
+Number = TypeVar("Number")
 
 MOST_POINTS = 60_000
 
@@ -45,7 +48,7 @@ def corner(sizes: Sequence[int], divisions: Sequence[int]) -> list[int]:
     return [number for s, d in zip(sizes, divisions) for number in [d] + [0] * (s - 1)]
 
 
-def split(sizes: Sequence[int], numbers: Sequence) -> list[Sequence]:
+def split(sizes: Sequence[int], numbers: Sequence[Number]) -> list[Sequence[Number]]:
     """The numbers of each block.
 
     >>> split([2, 3], [4, 0, 5, 0, 0])

@@ -1,17 +1,26 @@
 """The proved library: where its shared object is, and how numbers are lent to its calls."""
 
+from __future__ import annotations
+
 import ctypes
 import functools
 import os
 import pathlib
 from array import array
 from collections.abc import Iterable
+from typing import NamedTuple
 
 LOCATION = "LEVERETPLATE_SHARED_LIBRARY"
 LINKED = pathlib.Path(__file__).resolve().parents[3] / "target" / "python" / "libleveretplate.so"
 
 # An array of length 0 still needs an address that is not null.
 _NOWHERE = (ctypes.c_uint64 * 1)()
+
+
+class Fixed(NamedTuple):
+    """An array to be lent without its length, which the call knows."""
+
+    numbers: array[int]
 
 
 @functools.cache
@@ -22,7 +31,7 @@ def _library() -> ctypes.CDLL:
     return ctypes.CDLL(path)
 
 
-def lend(what: str, bits: int, numbers: Iterable[int]) -> array:
+def lend(what: str, bits: int, numbers: Iterable[int]) -> array[int]:
     """An array of numbers of 8, 16 or 64 bits, to be lent to a call.
 
     >>> lend("labels", 8, [1, 300])
@@ -40,20 +49,25 @@ def number(what: str, value: int) -> ctypes.c_uint64:
     return ctypes.c_uint64(lend(what, 64, [value])[0])
 
 
-def room(bits: int, count: int) -> array:
+def room(bits: int, count: int) -> array[int]:
     """An array of as many zeros, for a call to write to."""
     return lend("room", bits, [0] * count)
 
 
-def call(name: str, *arguments: array | ctypes.c_uint64 | ctypes.Array, answer: type = ctypes.c_uint8) -> int:
-    """Makes an exported call. An array is lent with its length, an array of ctypes as its address alone."""
+def call(name: str, *arguments: array[int] | Fixed | ctypes.c_uint64, answer: type = ctypes.c_uint8) -> int:
+    """Makes an exported call. An array is lent with its length, if the call does not know it."""
     function = _library()["leveretplate_" + name]
     function.restype = answer
-    passed = []
+    passed: list[ctypes.c_void_p | ctypes.c_uint64] = []
     for argument in arguments:
-        if isinstance(argument, array):
-            address, length = argument.buffer_info()
-            passed += [ctypes.c_void_p(address or ctypes.addressof(_NOWHERE)), ctypes.c_size_t(length)]
+        if isinstance(argument, Fixed):
+            passed.append(_address(argument.numbers))
+        elif isinstance(argument, array):
+            passed += [_address(argument), ctypes.c_uint64(len(argument))]
         else:
             passed.append(argument)
-    return function(*passed)
+    return int(function(*passed))
+
+
+def _address(numbers: array[int]) -> ctypes.c_void_p:
+    return ctypes.c_void_p(numbers.buffer_info()[0] or ctypes.addressof(_NOWHERE))

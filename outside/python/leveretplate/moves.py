@@ -39,7 +39,8 @@ class Move(NamedTuple):
         """
         ways = ((self.point_in, "comes in"), (self.point_out, "goes out"))
         moved = [f"{listed(points[position])} {way}" for position, way in ways if position is not None]
-        return f"rule {self.rule}, {RULES[self.rule].format(**self._asdict())}: {', '.join(moved)}"
+        rule = "the start" if self.rule is None else f"rule {self.rule}, {RULES[self.rule].format(**self._asdict())}"
+        return f"{rule}: {', '.join(moved)}"
 
 
 def listed(numbers: Iterable[int]) -> str:
@@ -62,3 +63,8 @@ def records(trail: bytes) -> Iterator[Move]:
             fields.append(int.from_bytes(trail[at:at + there], "little") if there else None)
             at += there
         yield Move(*fields)
+
+
+def changed(indices: set[int], into: int | None, out: int | None) -> set[int]:
+    """T or U after a move that takes one index in or another out, if any."""
+    return {index for index in indices | {into} if index is not None and index != out}

@@ -2,7 +2,7 @@
 
 from dataclasses import dataclass
 
-from .calls import label
+from .calls import NO_LIMIT, label
 from .games import BUILT_IN
 from .grids import corner
 from .malformed import Malformed
@@ -12,6 +12,7 @@ from .questions import Refused
 WIDTHS = {"sizes": 1, "divisions": 2, "start": 2, "budget": 8, "labels": 1, "game": 1, "losses": 2}
 OPTIONAL = tuple(WIDTHS)[2:]
 TABLES = ("labels", "game", "losses")
+SINGLE = ("budget", "game")
 
 
 @dataclass
@@ -26,9 +27,16 @@ class Slip:
     game: int | None = None
     losses: list[int] | None = None
 
+    @classmethod
+    def of(cls, fields: dict[str, list[int]]) -> "Slip":
+        """The slip of these fields, each as a list, also where it is a single number."""
+        budget, game = (fields[field][0] if field in fields else None for field in SINGLE)
+        return cls(fields["sizes"], fields["divisions"], fields.get("start"), budget, fields.get("labels"), game,
+                   fields.get("losses"))
+
     def numbers(self, field: str) -> list[int] | None:
         """A field as a list, also where it is a single number."""
-        value = getattr(self, field)
+        value: list[int] | int | None = getattr(self, field)
         return [value] if isinstance(value, int) else value
 
     def encode(self) -> bytes:
@@ -49,13 +57,17 @@ class Slip:
         """The start, or the corner where a path without one starts."""
         return corner(self.sizes, self.divisions) if self.start is None else self.start
 
+    def limit(self) -> int:
+        """The budget, or one that no path spends."""
+        return NO_LIMIT if self.budget is None else self.budget
+
     def loss_table(self) -> list[int]:
         """The losses of the slip's game, brought or built in."""
-        if self.labels is not None:
-            raise Malformed("this needs a game, and the slip has labels")
-        if self.game is None:
+        if self.losses is not None:
             return self.losses
-        sizes, losses = BUILT_IN.get(self.game, (None, None))
+        if self.game is None:
+            raise Malformed("this needs a game, and the slip has labels")
+        sizes, losses = BUILT_IN.get(self.game, ([], []))
         if sizes != self.sizes:
             raise Refused(15)
         return losses
@@ -89,7 +101,7 @@ def decode(slip: bytes) -> Slip:
         values[field], rest = _decode(field, rest[:length]), rest[length:]
     if rest:
         raise Malformed("bytes follow the last field of the slip")
-    return Slip(**{field: numbers[0] if field in ("budget", "game") else numbers for field, numbers in values.items()})
+    return Slip.of(values)
 
 
 def _encode(field: str, numbers: list[int]) -> bytes:

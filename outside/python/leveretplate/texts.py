@@ -14,7 +14,7 @@ import re
 from itertools import groupby
 
 from .malformed import Malformed
-from .slips import TABLES, WIDTHS, Slip
+from .slips import SINGLE, TABLES, WIDTHS, Slip
 
 # The field that is called d in the stored cases.
 FIELDS = {"d" if field == "divisions" else field: field for field in WIDTHS}
@@ -40,7 +40,7 @@ def to_bytes(text: str) -> bytes:
             raise Malformed(f"the field {name} is missing")
     if len(values.keys() & set(TABLES)) != 1:
         raise Malformed("exactly one of labels, game and losses is needed")
-    made = Slip(**{field: _single(field, numbers) for field, numbers in values.items()}).encode()
+    made = Slip.of(values).encode()
     if stated not in (None, made):
         raise Malformed("these are not the bytes of the other fields", lines["slip"][0])
     return made
@@ -105,17 +105,13 @@ def _numbers(name: str, at: int, value: str) -> list[int]:
             raise Malformed(f"{name}: more than {MOST_NUMBERS:,} numbers", at)
     if not numbers:
         raise Malformed(f"{name}: numbers are needed, or - for none", at)
-    if FIELDS.get(name) in ("budget", "game") and len(numbers) > 1:
+    if name in SINGLE and len(numbers) > 1:
         raise Malformed(f"{name}: one number is needed", at)
     return numbers
 
 
 def _is_number(item: str) -> bool:
     return re.fullmatch("[0-9]{1,20}", item) is not None
-
-
-def _single(field: str, numbers: list[int]) -> list[int] | int:
-    return numbers[0] if field in ("budget", "game") else numbers
 
 
 def _hex(at: int, value: str) -> bytes:

@@ -2,9 +2,9 @@
 
 from collections.abc import Iterator
 
-from .calls import NO_LIMIT, run_with_trail
+from .calls import run_with_trail
 from .grids import grid_points
-from .moves import listed, records
+from .moves import changed, listed, records
 from .slips import Slip
 
 
@@ -13,21 +13,19 @@ def lines(slip: Slip) -> Iterator[str]:
 
     >>> for line in lines(Slip([2, 2], [1, 1], labels=[2, 2, 2, 4])):
     ...     print(line)
-    place 1: the start, 1 0 1 0; T -, U 2 4
+    place 1: the start: 1 0 1 0 comes in; T -, U 2 4
     place 2: rule 5, 4 goes from U to T: 1 0 0 1 comes in; T 4, U 2
     place 3: rule 5, 2 goes from U to T: 0 1 0 1 comes in; T 2 4, U -
     place 4: rule 1, T and U stay: 0 1 1 0 comes in, 1 0 0 1 goes out; T 2 4, U -
     place 5: rule 6, 4 goes from T to U: 0 1 0 1 goes out; T 2, U 4
     end: facet, block 1: 0 1 1 0
     """
-    start, budget = slip.first(), NO_LIMIT if slip.budget is None else slip.budget
-    end, trail = run_with_trail(slip.sizes, slip.divisions, start, slip.label_table(), budget)
+    start = slip.first()
+    end, trail = run_with_trail(slip.sizes, slip.divisions, start, slip.label_table(), slip.limit())
     points = list(grid_points(slip.sizes, slip.divisions))
     t: set[int] = set()
     u = {index for index, number in enumerate(start, 1) if number == 0}
     for place, move in enumerate(records(trail), 1):
-        t = (t | {move.into_t}) - {move.out_of_t, None}
-        u = (u | {move.into_u}) - {move.out_of_u, None}
-        how = f"the start, {listed(start)}" if move.rule is None else move.words(points)
-        yield f"place {place}: {how}; T {listed(sorted(t))}, U {listed(sorted(u))}"
+        t, u = changed(t, move.into_t, move.out_of_t), changed(u, move.into_u, move.out_of_u)
+        yield f"place {place}: {move.words(points)}; T {listed(sorted(t))}, U {listed(sorted(u))}"
     yield f"end: {end.kind}, block {end.block}: {', '.join(map(listed, end.vertices))}"

@@ -29,8 +29,7 @@ class Trail(unittest.TestCase):
                     points = set(map(listed, place.points))
                     moved = [f"{point} comes in" for point in points - before]
                     moved += [f"{point} goes out" for point in before - points]
-                    if record > 1:
-                        self.assertEqual(line.rpartition(": ")[2].partition(";")[0], ", ".join(moved))
+                    self.assertEqual(line.rpartition(": ")[2].partition(";")[0], ", ".join(moved))
                     before = points
                 vertices = ", ".join(map(listed, end.vertices))
                 self.assertEqual(told[-1], f"end: {end.kind}, block {end.block}: {vertices}")
