@@ -1,4 +1,4 @@
-"""The commands: slip, sheet, refine, trail and check.
+"""The commands: slip, sheet, refine, trail, check and page.
 
 What is wrong with an input is said in one line on standard error. The exit status is 0 for an answer, 1 for a refusal
 by number, and 2 for an input that cannot be read.
@@ -6,11 +6,11 @@ by number, and 2 for an input that cannot be read.
 
 import argparse
 import os
+import pathlib
 import sys
 from collections.abc import Callable
 
-from . import calls, inputs, refining, texts, trails
-from .malformed import Malformed
+from . import calls, inputs, pages, refining, texts, trails
 from .questions import Refused
 from .slips import decode
 
@@ -61,6 +61,16 @@ def check(arguments: Arguments) -> None:
     print("no" if block is None else f"yes\nblock {block}")
 
 
+def page(arguments: Arguments) -> None:
+    """Write a page for a browser that shows the path place by place."""
+    brought = _brought(arguments)
+    written = pages.page(decode(brought.slip), arguments.title or brought.title)
+    if arguments.output == "-":
+        print(written, end="")
+    else:
+        pathlib.Path(arguments.output).write_text(written, "utf-8")
+
+
 def _brought(arguments: Arguments) -> inputs.Brought:
     choices = inputs.Choices(arguments.divisions, arguments.start, arguments.budget)
     return inputs.read(arguments.file, choices)
@@ -87,6 +97,9 @@ def _parser() -> argparse.ArgumentParser:
     finer.add_argument("--levels", type=int, metavar="L", help="1 to 8; as many as fit if not given")
     command(trail)
     command(check).add_argument("points", nargs="?", help="a sheet, or lines of points; else the text's field points")
+    shown = command(page)
+    shown.add_argument("--output", default="-", metavar="HTML", help="the file to write; standard output if not given")
+    shown.add_argument("--title", help="the heading; the title of a Gambit file, the note of a text, if not given")
     return parser
 
 

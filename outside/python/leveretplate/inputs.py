@@ -55,7 +55,7 @@ def read(path: str, choices: Choices) -> Brought:
     slip = data if text is None else texts.to_bytes(text)
     if any(value is not None for value in choices):
         slip = choices.applied(decode(slip)).encode()
-    return Brought(slip, text, Fraction(1), pathlib.Path(path).name)
+    return Brought(slip, text, Fraction(1), texts.note(text or "") or pathlib.Path(path).name)
 
 
 def _from_gambit(text: str, choices: Choices) -> Brought:

@@ -59,6 +59,16 @@ def of_slip(slip: Slip) -> str:
     return "".join(f"{name} {_items(numbers)}\n" for name, numbers in there if numbers is not None)
 
 
+def note(text: str) -> str | None:
+    """The note of a text, if it has one.
+
+    >>> note("note A segment" + chr(10) + "sizes 2")
+    'A segment'
+    """
+    found = re.search(r"^note +(.*\S)", text, re.MULTILINE)
+    return found[1] if found else None
+
+
 def points(text: str) -> list[int]:
     """The numbers of the field `points`, which a check reads."""
     lines = _lines(text)
