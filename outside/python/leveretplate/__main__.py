@@ -21,7 +21,8 @@ def slip(arguments: Arguments) -> None:
     """Write the bytes of the slip, or with --text its fields as text."""
     brought = _brought(arguments)
     if arguments.text:
-        print(texts.of_slip(decode(brought.slip)), end="")
+        note = f"{brought.title}; {brought.losses.map()}" if brought.losses else texts.note(brought.text or "")
+        print(texts.of_slip(decode(brought.slip), note), end="")
     else:
         sys.stdout.buffer.write(brought.slip)
 
@@ -36,11 +37,14 @@ def sheet(arguments: Arguments) -> None:
 
 
 def refine(arguments: Arguments) -> None:
-    """Solve the game on finer and finer grids, and print where each level ends and what a player still gains there."""
+    """Solve the game on finer and finer grids, and print each level's centre and the largest gain that is left there.
+
+    Gains are in payoffs where a Gambit file was brought, and else in losses.
+    """
     brought = _brought(arguments)
     game = decode(brought.slip)
     levels = arguments.levels or refining.most_levels(game, arguments.factor)
-    print(refining.aligned([refining.HEADINGS, *refining.rows(game, arguments.factor, levels, brought.unit)]), end="")
+    print(refining.aligned([refining.HEADINGS, *refining.rows(game, arguments.factor, levels, brought.unit())]), end="")
 
 
 def trail(arguments: Arguments) -> None:

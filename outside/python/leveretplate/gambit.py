@@ -33,10 +33,14 @@ Profile = tuple[int, ...]
 
 
 class Losses(NamedTuple):
-    """A game's losses in document 01's order, and the payoff for which one loss stands."""
+    """A game's losses in document 01's order, and the unit of their map."""
 
     losses: list[int]
     unit: Fraction
+
+    def map(self) -> str:
+        """The map from payoffs to these losses, in words."""
+        return f"loss = 1 + (largest payoff of the player - payoff) / ({self.unit})"
 
 
 @dataclass

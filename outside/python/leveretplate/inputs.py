@@ -13,12 +13,16 @@ from .slips import Slip, decode
 
 
 class Brought(NamedTuple):
-    """The bytes of a slip, the text that it came from, if any, what one loss stands for, and a title."""
+    """The bytes of a slip, the text that it came from, if any, a title, and how losses were made of payoffs, if so."""
 
     slip: bytes
     text: str | None
-    unit: Fraction
     title: str
+    losses: gambit.Losses | None
+
+    def unit(self) -> Fraction:
+        """What one loss stands for, in what was brought."""
+        return self.losses.unit if self.losses else Fraction(1)
 
 
 class Choices(NamedTuple):
@@ -55,15 +59,16 @@ def read(path: str, choices: Choices) -> Brought:
     slip = data if text is None else texts.to_bytes(text)
     if any(value is not None for value in choices):
         slip = choices.applied(decode(slip)).encode()
-    return Brought(slip, text, Fraction(1), texts.note(text or "") or pathlib.Path(path).name)
+    return Brought(slip, text, texts.note(text or "") or pathlib.Path(path).name, None)
 
 
 def _from_gambit(text: str, choices: Choices) -> Brought:
     game = gambit.read(text)
-    losses, unit = game.losses()
+    losses = game.losses()
     if choices.divisions is None:
         raise Malformed("a Gambit file has no divisions: --divisions gives them")
-    return Brought(choices.applied(Slip(game.sizes, [], losses=losses)).encode(), None, unit, game.title)
+    slip = choices.applied(Slip(game.sizes, [], losses=losses.losses))
+    return Brought(slip.encode(), None, game.title, losses)
 
 
 def _text(data: bytes) -> str:

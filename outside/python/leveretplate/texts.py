@@ -46,17 +46,19 @@ def to_bytes(text: str) -> bytes:
     return made
 
 
-def of_slip(slip: Slip) -> str:
-    """The text of a slip, equal numbers in a row as one item.
+def of_slip(slip: Slip, remark: str | None = None) -> str:
+    """The text of a slip, equal numbers in a row as one item, behind a note if there is a remark to make.
 
-    >>> print(of_slip(Slip([2], [4], start=[3, 1], labels=[1] * 5)), end="")
+    >>> print(of_slip(Slip([2], [4], start=[3, 1], labels=[1] * 5), "A segment"), end="")
+    note A segment
     sizes 2
     d 4
     start 3 1
     labels 5x1
     """
     there = ((name, slip.numbers(field)) for name, field in FIELDS.items())
-    return "".join(f"{name} {_items(numbers)}\n" for name, numbers in there if numbers is not None)
+    fields = "".join(f"{name} {_items(numbers)}\n" for name, numbers in there if numbers is not None)
+    return f"note {' '.join(remark.split())}\n{fields}" if remark else fields
 
 
 def note(text: str) -> str | None:

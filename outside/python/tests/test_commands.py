@@ -42,7 +42,8 @@ class Commands(unittest.TestCase):
 
     def test_outcomes_and_their_map(self):
         text = self.answer("slip", SAMPLES / "battle.nfg", "--text", "--divisions", 3, 4, "--start", 3, 0, 0, 4)
-        self.assertEqual(text, "sizes 2 2\nd 3 4\nstart 3 0 0 4\nlosses 1 3 3 2 2 3 3 1\n")
+        stated = "Battle of the sexes, by outcomes; loss = 1 + (largest payoff of the player - payoff) / (1/2)"
+        self.assertEqual(text, f"note {stated}\nsizes 2 2\nd 3 4\nstart 3 0 0 4\nlosses 1 3 3 2 2 3 3 1\n")
 
     def test_refine(self):
         lines = self.answer("refine", SAMPLES / "game-1.txt", "--divisions", 1).splitlines()
