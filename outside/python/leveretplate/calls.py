@@ -17,8 +17,11 @@ from .questions import Refused
 
 Numbers = Sequence[int]
 
-# The numbers that the library gives of an end, in their order.
+# The numbers that the library gives of an end, of the nearest vertex and of a place, in their order.
 FACTS = ("places", "kind", "block", "vertices")
+NEAR = ("position", "listed")
+PLACE = ("points", "t", "u")
+
 KINDS = ("place", "facet")
 MOST_LEVELS = 8
 NO_LIMIT = 2 ** 64 - 1
@@ -103,13 +106,14 @@ def nearest(sizes: Numbers, divisions: Numbers, start: Numbers, labels: Numbers,
     >>> nearest([2], [4], [2, 2], [1] * 5, w=[0, 4], distance=6)
     Nearest(end=End(places=3, kind='facet', block=1, vertices=[[4, 0]]), nearest=2, within=[2, 3])
     """
-    answer, facts, near = room(16, SIMPLEX_NUMBERS), _facts(), room(64, 2)
+    answer, facts, near = room(16, SIMPLEX_NUMBERS), _facts(), room(64, len(NEAR))
     lent = _run(sizes, divisions, start, labels)
     positions = room(16, _points(sizes, divisions))
     refusal = call("nearest", *lent, answer, number("budget", budget), lend("w", 16, w), number("distance", distance),
                    positions, Fixed(facts), Fixed(near))
     _accept(refusal, facts)
-    return Nearest(_end(facts, answer, sum(sizes)), near[0], positions[:near[1]].tolist())
+    fact = dict(zip(NEAR, near))
+    return Nearest(_end(facts, answer, sum(sizes)), fact["position"], positions[:fact["listed"]].tolist())
 
 
 def run_with_trail(sizes: Numbers, divisions: Numbers, start: Numbers, labels: Numbers,
@@ -137,11 +141,11 @@ def read_trail(sizes: Numbers, divisions: Numbers, start: Numbers, trail: bytes,
     Traceback (most recent call last):
     leveretplate.questions.Refused: refused 17: Is there such a record, and is each up to it that of a move?
     """
-    points, place = room(16, SIMPLEX_NUMBERS), room(64, 3)
+    points, place = room(16, SIMPLEX_NUMBERS), room(64, len(PLACE))
     _accept(call("read_trail", *_grid(sizes, divisions), lend("start", 16, start), lend("trail", 8, trail),
                  number("record", record), Fixed(points), Fixed(place)))
-    count, t, u = place
-    return Place(_rows(points, count, sum(sizes)), _indices(t), _indices(u))
+    fact = dict(zip(PLACE, place))
+    return Place(_rows(points, fact["points"], sum(sizes)), _indices(fact["t"]), _indices(fact["u"]))
 
 
 def label(sizes: Numbers, divisions: Numbers, losses: Numbers) -> list[int]:

@@ -46,7 +46,7 @@ class Page(unittest.TestCase):
     def hold_to_sheet(self, printed: list[str]):
         """Holds what is shown at the last place to the lines of the sheet."""
         fields = dict(line.split(" ", 1) for line in printed)
-        vertices = printed[5:5 + int(fields["vertices"])]
+        vertices = [line for line in printed if line.replace(" ", "").isdigit()]
         shown = self.browser.run(READ)
         self.assertEqual(shown["place"], f"Place {fields['places']} of {fields['places']}")
         self.assertEqual(shown["kind"], f"The path ends: a {fields['end']} end, complete for block {fields['block']}")
