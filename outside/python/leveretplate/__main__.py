@@ -43,8 +43,10 @@ def refine(arguments: Arguments) -> None:
     """
     brought = _brought(arguments)
     game = decode(brought.slip)
-    levels = arguments.levels or refining.most_levels(game, arguments.factor)
-    print(refining.aligned([refining.HEADINGS, *refining.rows(game, arguments.factor, levels, brought.unit())]), end="")
+    factor, levels = arguments.factor, arguments.levels
+    if levels is None:
+        levels = refining.most_levels(game, factor)
+    print(refining.aligned([refining.HEADINGS, *refining.rows(game, factor, levels, brought.unit())]), end="")
 
 
 def trail(arguments: Arguments) -> None:

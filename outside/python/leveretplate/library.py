@@ -56,7 +56,10 @@ def room(bits: int, count: int) -> array[int]:
 
 def call(name: str, *arguments: array[int] | Fixed | ctypes.c_uint64, answer: type = ctypes.c_uint8) -> int:
     """Makes an exported call. An array is lent with its length, if the call does not know it."""
-    function = _library()["leveretplate_" + name]
+    try:
+        function = _library()["leveretplate_" + name]
+    except AttributeError:
+        raise OSError(f"the shared library has no call {name}: `outside/run python` links a new one") from None
     function.restype = answer
     passed: list[ctypes.c_void_p | ctypes.c_uint64] = []
     for argument in arguments:

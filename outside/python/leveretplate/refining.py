@@ -12,11 +12,13 @@ HEADINGS = ("level", "divisions", "places", "end", "block", "centre", "largest g
 
 
 def most_levels(slip: Slip, factor: int) -> int:
-    """As many levels as the library takes, with at most 60,000 grid points on the last.
+    """As many levels as the library takes, with at most 60,000 grid points on the last; 1 for a factor that it refuses.
 
     >>> most_levels(Slip([2, 2, 2], [1, 1, 1], game=1), 2)
     6
     """
+    if factor < 2:
+        return 1
     fitting = (levels for levels in range(MOST_LEVELS, 1, -1)
                if count_points(slip.sizes, [factor ** (levels - 1) * d for d in slip.divisions]) <= MOST_POINTS)
     return next(fitting, 1)

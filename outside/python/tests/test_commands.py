@@ -50,6 +50,12 @@ class Commands(unittest.TestCase):
         self.assertEqual(len(lines), 7)
         self.assertIn("0.2031 0.7969 0.4297 0.5703 0.6953 0.3047  0.0444 by player 2, index 4", lines[-1])
 
+    def test_refine_refused(self):
+        for options in (["--levels", 0], ["--factor", 1], ["--factor", 11, "--levels", 1]):
+            shown = command("refine", SAMPLES / "game-1.txt", *options)
+            self.assertEqual((shown.returncode, shown.stdout), (1, b""))
+            self.assertIn(b"refused 18: Is the factor from 2 to 10", shown.stderr)
+
     def test_refine_needs_a_game(self):
         shown = command("refine", SAMPLES / "triangle.txt")
         self.assertEqual(shown.returncode, 2)
