@@ -154,6 +154,7 @@ function show() {
         row.classList.toggle("here", k === at);
         row.hidden = element("guess").checked && k > at;
     });
+    element("path").scrollTop = element("rows").rows[at].offsetTop - element("path").clientHeight / 2;
 }
 
 function go(place) {
