@@ -9,7 +9,10 @@
 
 from .calls import (End, Nearest, Place, Refinement, boundary, check, current, file, label, nearest, read_trail, refine,
                     run, run_with_trail, sheet)
+from .moves import Move
 from .questions import QUESTIONS, Refused
+from .walks import Walk, move_on, preview, walk_at_start, walk_points
 
-__all__ = ["QUESTIONS", "End", "Nearest", "Place", "Refinement", "Refused", "boundary", "check", "current", "file",
-           "label", "nearest", "read_trail", "refine", "run", "run_with_trail", "sheet"]
+__all__ = ["QUESTIONS", "End", "Move", "Nearest", "Place", "Refinement", "Refused", "Walk", "boundary", "check",
+           "current", "file", "label", "move_on", "nearest", "preview", "read_trail", "refine", "run", "run_with_trail",
+           "sheet", "walk_at_start", "walk_points"]

@@ -145,7 +145,7 @@ def read_trail(sizes: Numbers, divisions: Numbers, start: Numbers, trail: bytes,
     _accept(call("read_trail", *_grid(sizes, divisions), lend("start", 16, start), lend("trail", 8, trail),
                  number("record", record), Fixed(points), Fixed(place)))
     fact = dict(zip(PLACE, place))
-    return Place(_rows(points, fact["points"], sum(sizes)), _indices(fact["t"]), _indices(fact["u"]))
+    return Place(rows(points, fact["points"], sum(sizes)), _indices(fact["t"]), _indices(fact["u"]))
 
 
 def label(sizes: Numbers, divisions: Numbers, losses: Numbers) -> list[int]:
@@ -256,10 +256,11 @@ def _accept(refusal: int, facts: Numbers = ()) -> None:
 
 def _end(facts: Numbers, numbers: Numbers, m: int) -> End:
     fact = dict(zip(FACTS, facts))
-    return End(fact["places"], KINDS[fact["kind"]], fact["block"], _rows(numbers, fact["vertices"], m))
+    return End(fact["places"], KINDS[fact["kind"]], fact["block"], rows(numbers, fact["vertices"], m))
 
 
-def _rows(numbers: Numbers, count: int, m: int) -> list[list[int]]:
+def rows(numbers: Numbers, count: int, m: int) -> list[list[int]]:
+    """The points that stand one after another in a buffer, m numbers each."""
     return [list(numbers[first:first + m]) for first in range(0, count * m, m)]
 
 

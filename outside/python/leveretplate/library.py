@@ -54,8 +54,9 @@ def room(bits: int, count: int) -> array[int]:
     return lend("room", bits, [0] * count)
 
 
-def call(name: str, *arguments: array[int] | Fixed | ctypes.c_uint64, answer: type = ctypes.c_uint8) -> int:
-    """Makes an exported call. An array is lent with its length, if the call does not know it."""
+def call(name: str, *arguments: array[int] | Fixed | ctypes.c_uint64 | ctypes.Structure,
+         answer: type | None = ctypes.c_uint8) -> int:
+    """Makes an exported call. An array is lent with its length, if the call does not know it, a struct by address."""
     try:
         function = _library()["leveretplate_" + name]
     except AttributeError:
@@ -67,9 +68,11 @@ def call(name: str, *arguments: array[int] | Fixed | ctypes.c_uint64, answer: ty
             passed.append(_address(argument.numbers))
         elif isinstance(argument, array):
             passed += [_address(argument), ctypes.c_uint64(len(argument))]
+        elif isinstance(argument, ctypes.Structure):
+            passed.append(ctypes.c_void_p(ctypes.addressof(argument)))
         else:
             passed.append(argument)
-    return int(function(*passed))
+    return function(*passed) or 0
 
 
 def _address(numbers: array[int]) -> ctypes.c_void_p:

@@ -65,6 +65,15 @@ def records(trail: bytes) -> Iterator[Move]:
         yield Move(*fields)
 
 
-def changed(indices: set[int], into: int | None, out: int | None) -> set[int]:
-    """T or U after a move that takes one index in or another out, if any."""
+def at_start(start: Sequence[int]) -> tuple[set[int], set[int]]:
+    """T and U of the start's place: no index, and those at which the start is 0."""
+    return set(), {index for index, number in enumerate(start, 1) if number == 0}
+
+
+def after(move: Move, t: set[int], u: set[int]) -> tuple[set[int], set[int]]:
+    """T and U after a move."""
+    return _changed(t, move.into_t, move.out_of_t), _changed(u, move.into_u, move.out_of_u)
+
+
+def _changed(indices: set[int], into: int | None, out: int | None) -> set[int]:
     return {index for index in indices | {into} if index is not None and index != out}

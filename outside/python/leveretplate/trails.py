@@ -4,7 +4,7 @@ from collections.abc import Iterator
 
 from .calls import run_with_trail
 from .grids import grid_points
-from .moves import changed, listed, records
+from .moves import after, at_start, listed, records
 from .slips import Slip
 
 
@@ -23,9 +23,8 @@ def lines(slip: Slip) -> Iterator[str]:
     start = slip.first()
     end, trail = run_with_trail(slip.sizes, slip.divisions, start, slip.label_table(), slip.limit())
     points = list(grid_points(slip.sizes, slip.divisions))
-    t: set[int] = set()
-    u = {index for index, number in enumerate(start, 1) if number == 0}
+    t, u = at_start(start)
     for place, move in enumerate(records(trail), 1):
-        t, u = changed(t, move.into_t, move.out_of_t), changed(u, move.into_u, move.out_of_u)
+        t, u = after(move, t, u)
         yield f"place {place}: {move.words(points)}; T {listed(sorted(t))}, U {listed(sorted(u))}"
     yield f"end: {end.kind}, block {end.block}: {', '.join(map(listed, end.vertices))}"

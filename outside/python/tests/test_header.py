@@ -1,13 +1,38 @@
-"""The package beside the C header: the same constants, and a function for each declared call."""
+"""The package beside the C header: the same constants and structs, and a function for each declared call."""
 
+import ctypes
 import pathlib
 import re
+import subprocess
+import tempfile
 import unittest
 
-from leveretplate import calls
+import leveretplate
+from leveretplate import calls, walks
 
-OUTSIDE = pathlib.Path(__file__).resolve().parents[2]
-HEADER = (OUTSIDE / "c" / "leveretplate.h").read_text()
+FOLDER = pathlib.Path(__file__).resolve().parents[2] / "c"
+HEADER = (FOLDER / "leveretplate.h").read_text()
+
+STRUCTS: dict[str, type[ctypes.Structure]] = {
+    "leveretplate_place": walks.KeptPlace, "leveretplate_walk": walks.KeptWalk, "leveretplate_step": walks.Walk}
+
+
+def laid_out_in_c() -> list[str]:
+    """The size of each struct and where each of its fields stands, as a C compiler has it."""
+    asked = [f"sizeof(struct {name})" for name in STRUCTS]
+    asked += [f"offsetof(struct {name}, {field})" for name, kept in STRUCTS.items() for field, _ in kept._fields_]
+    lines = "".join(f'printf("{text} %zu\\n", {text});' for text in asked)
+    with tempfile.TemporaryDirectory() as folder:
+        source, program = pathlib.Path(folder, "layout.c"), pathlib.Path(folder, "layout")
+        source.write_text(f'#include <stdio.h>\n#include "leveretplate.h"\nint main(void) {{ {lines} }}\n')
+        subprocess.run(["cc", "-I", str(FOLDER), "-o", str(program), str(source)], check=True)
+        return subprocess.run([str(program)], check=True, capture_output=True, text=True).stdout.splitlines()
+
+
+def laid_out_here() -> list[str]:
+    sizes = [f"sizeof(struct {name}) {ctypes.sizeof(kept)}" for name, kept in STRUCTS.items()]
+    return sizes + [f"offsetof(struct {name}, {field}) {getattr(kept, field).offset}"
+                    for name, kept in STRUCTS.items() for field, _ in kept._fields_]
 
 
 class Header(unittest.TestCase):
@@ -17,7 +42,10 @@ class Header(unittest.TestCase):
                  "LEVELS": calls.MOST_LEVELS, "SHEET": calls.SHEET_BYTES, "POINTS": calls.SIMPLEX_NUMBERS}
         self.assertEqual({name: stated[name] for name in known}, known)
 
+    def test_structs(self):
+        self.assertEqual(laid_out_here(), laid_out_in_c())
+
     def test_a_function_for_each_call(self):
         declared = re.findall(r"^\w+ leveretplate_(\w+)\(", HEADER, re.MULTILINE)
-        self.assertGreater(len(declared), 10)
-        self.assertEqual([name for name in declared if not callable(getattr(calls, name, None))], [])
+        self.assertGreater(len(declared), 14)
+        self.assertEqual([name for name in declared if not callable(getattr(leveretplate, name, None))], [])
