@@ -81,12 +81,12 @@ class Page(unittest.TestCase):
                 self.assertEqual(self.step_to_end(told), int(printed[0].split()[1]) - 1)
                 self.hold_to_sheet(printed)
                 self.browser.screenshot(written.with_suffix(".png"))
-                self.browser.print(written.with_suffix(".pdf"))
-                self.assertTrue(written.with_suffix(".pdf").read_bytes().startswith(b"%PDF"))
                 self.browser.media("print")
                 self.hold_to_sheet(printed)
                 self.assertFalse(self.browser.run("element('forward').checkVisibility()"))
                 self.browser.screenshot(written.with_name(f"{written.stem}-print.png"))
+                self.browser.print(written.with_suffix(".pdf"))
+                self.assertTrue(written.with_suffix(".pdf").read_bytes().startswith(b"%PDF"))
 
     def test_guess_first(self):
         written, _, told = self.made("square.txt", [])
