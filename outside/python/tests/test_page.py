@@ -7,6 +7,10 @@ import pathlib
 import unittest
 
 
+from leveretplate.grids import grid_points
+from leveretplate.moves import listed
+from leveretplate.slips import decode
+
 from .chromium import Chromium
 from .commands import SAMPLES, command
 
@@ -19,6 +23,7 @@ SHOWN = {"segment.txt": [], "triangle.txt": [], "square.txt": [], "game-1.txt": 
 
 READ = """({
     place: element("place").innerText,
+    came: element("came").innerText.replaceAll("\\u00a0", " "),
     t: element("t").innerText, u: element("u").innerText,
     points: [...element("points").rows].map(row => row.cells[0].innerText),
     labels: [...element("points").rows].map(row => row.cells[1].innerText),
@@ -36,7 +41,7 @@ class Page(unittest.TestCase):
         cls.browser = cls.enterClassContext(Chromium())
 
     def made(self, name: str, options: list[str]) -> tuple[pathlib.Path, list[str], list[str]]:
-        """The page of a sample, the lines of its sheet, and those of its trail."""
+        """The page of a sample, the lines of its sheet, and those of its trail in words."""
         written = PAGES / f"{pathlib.Path(name).stem}.html"
         shown = command("page", SAMPLES / name, *options, "--output", written)
         self.assertEqual((shown.returncode, shown.stderr), (0, b""))
@@ -59,13 +64,21 @@ class Page(unittest.TestCase):
             self.assertEqual(len(shown["points"]), len(vertices) + 1)
             self.assertLessEqual(set(vertices), set(shown["points"]))
 
-    def step_to_end(self, told: list[str]) -> int:
-        """Steps forward to the end, holding T and U of each place to the trail's words; says how many steps it took."""
+    def labels(self, name: str, options: list[str]) -> dict[str, str]:
+        """The label of each grid point of a sample, both as they are written."""
+        slip = decode(command("slip", SAMPLES / name, *options).stdout)
+        return dict(zip(map(listed, grid_points(slip.sizes, slip.divisions)), map(str, slip.label_table())))
+
+    def step_to_end(self, told: list[str], labels: dict[str, str]) -> int:
+        """Steps forward to the end, each place held to the trail's words and the table; gives the steps it took."""
         steps = 0
         while True:
             shown = self.browser.run(READ)
             t, u = (shown[name].replace("none", "-") for name in "tu")
-            self.assertTrue(told[steps].endswith(f"; T {t}, U {u}"), (told[steps], t, u))
+            came = shown["came"].removeprefix("Reached by ").removesuffix(".")
+            how = came if steps else f"the start: {shown['points'][0]} comes in"
+            self.assertEqual(told[steps], f"place {steps + 1}: {how}; T {t}, U {u}")
+            self.assertEqual(shown["labels"], [labels[point] for point in shown["points"]])
             if self.browser.run("element('forward').disabled"):
                 return steps
             self.browser.run("element('forward').click()")
@@ -78,7 +91,8 @@ class Page(unittest.TestCase):
                 self.browser.media("screen")
                 self.browser.open(written)
                 self.assertEqual(self.browser.run("performance.getEntriesByType('resource').length"), 0)
-                self.assertEqual(self.step_to_end(told), int(printed[0].split()[1]) - 1)
+                steps = self.step_to_end(told, self.labels(name, options))
+                self.assertEqual(steps, int(printed[0].split()[1]) - 1)
                 self.hold_to_sheet(printed)
                 self.browser.screenshot(written.with_suffix(".png"))
                 self.browser.media("print")

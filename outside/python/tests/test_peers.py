@@ -37,24 +37,32 @@ NEAR = 3
 BETWEEN = 400
 
 Mix = list[Fraction]
+Matrix = list[list[int]]
 
 
-def random_game(choose: random.Random, most_payoff: int) -> gambit.Game:
-    """A game by way of a Gambit file, so that its reader is compared too."""
-    sizes = [choose.randint(2, 4), choose.randint(2, 4)]
-    payoffs = " ".join(str(choose.randint(0, most_payoff)) for _ in range(2 * sizes[0] * sizes[1]))
-    return gambit.read(f'NFG 1 R "Random" {{ "Row" "Column" }} {{ {sizes[0]} {sizes[1]} }} {payoffs}')
+def random_matrices(choose: random.Random, most_payoff: int) -> list[Matrix]:
+    """The payoffs of the row player and of the column player."""
+    rows, columns = range(choose.randint(2, 4)), range(choose.randint(2, 4))
+    return [[[choose.randint(0, most_payoff) for _ in columns] for _ in rows] for _ in range(2)]
 
 
-def matrix(game: gambit.Game, player: int) -> str:
-    rows, columns = map(range, game.sizes)
-    return "".join(" ".join(str(game.payoffs[row, column][player]) for column in columns) + "\n" for row in rows)
+def as_gambit(matrices: list[Matrix]) -> str:
+    """A Gambit file of a game, in which the row changes first."""
+    rows, columns = len(matrices[0]), len(matrices[0][0])
+    payoffs = [str(matrix[row][column]) for column in range(columns) for row in range(rows) for matrix in matrices]
+    return f'NFG 1 R "Random" {{ "Row" "Column" }} {{ {rows} {columns} }} {" ".join(payoffs)}'
 
 
-def lrsnash(game: gambit.Game, folder: str) -> list[Mix]:
+def as_lrsnash(matrices: list[Matrix]) -> str:
+    """The same game as lrsnash reads it."""
+    paragraphs = ["\n".join(" ".join(map(str, row)) for row in matrix) for matrix in matrices]
+    return f"{len(matrices[0])} {len(matrices[0][0])}\n\n" + "\n\n".join(paragraphs) + "\n"
+
+
+def lrsnash(matrices: list[Matrix], folder: str) -> list[Mix]:
     """The extreme equilibria: each line 1 is a mix of the row player, which goes with each line 2 of its paragraph."""
     path = pathlib.Path(folder, "game")
-    path.write_text(f"{game.sizes[0]} {game.sizes[1]}\n\n{matrix(game, 0)}\n{matrix(game, 1)}")
+    path.write_text(as_lrsnash(matrices))
     printed = subprocess.run(["lrsnash", str(path)], capture_output=True, text=True, check=True, timeout=60).stdout
     found: list[Mix] = []
     for paragraph in printed.split("\n\n"):
@@ -125,8 +133,8 @@ class Peers(unittest.TestCase):
         choose = random.Random(SEED)
         with tempfile.TemporaryDirectory() as folder:
             for _ in shown(range(GAMES), "games compared:"):
-                game = random_game(choose, most_payoff)
-                equilibria = lrsnash(game, folder)
+                matrices = random_matrices(choose, most_payoff)
+                game, equilibria = gambit.read(as_gambit(matrices)), lrsnash(matrices, folder)
                 losses = game.losses().losses
                 self.assertEqual({largest_gain(game.sizes, losses, mix).amount for mix in equilibria}, {0})
                 for division, middle, gain in (found := levels(game)):
