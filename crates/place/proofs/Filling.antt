@@ -76,15 +76,15 @@ module _ (p : Problem) (labels : List ℕ) (fills : Fills p labels) where
     known = λ i c. all-stay (placeAt s i) (k .known i c);
   }
 
-differ : (a : Answer) (n : ℕ) (e : End) (m i : ℕ) → a ≡ announcement n e → a ≡ unknown m i → ⊥
-differ a n e m i r u = absurd-bool (cc)
+differ : (a : Answer) (n read : ℕ) (e : End) (m i : ℕ) → a ≡ announcement n read e → a ≡ unknown m i → ⊥
+differ a n read e m i r u = absurd-bool (cc)
 
 -- where the path ends no label is asked for
 pub ended-not-asks : {p : Problem} → Accepted p → (e : End) → path p .end ≡ some e → (b n i : ℕ) → answer p b ≡ unknown n i → ⊥
 ended-not-asks {p} ok e w b n i q =
     let d = demand3-holds ok .ended (gapless ok .1 (e, w)) in
     let a = demand3-holds ok .asked b n i q in
-    differ (answer p b) (pathLength p) d.end n i (d .announces b (omega (arith, a .0, a .1))) q
+    differ (answer p b) (pathLength p) _ d.end n i (d .announces b (omega (arith, a .0, a .1))) q
 
 module _ {p : Problem} {labels : List ℕ} (ok : Accepted p) (okFilled : Accepted (withLabels p labels)) (fills : Fills p labels) where
   length-is : pathLength p ≡ suc (pred (pathLength p))
@@ -173,6 +173,6 @@ module _ {p : Problem} {labels : List ℕ} (ok : Accepted p) (okFilled : Accepte
   pub filling-holds : Filling p labels
   filling-holds = record {
     same = same-answer;
-    stays = λ b n e r. same-answer b (λ m i u. absurd (differ (answer p b) n e m i r u)) ∙ r;
+    stays = λ b n read e r. same-answer b (λ m i u. absurd (differ (answer p b) n read e m i r u)) ∙ r;
     further = further;
   }

@@ -36,6 +36,7 @@ use Rattle.place.specs.Demand.{atEnd, atGap, NoGap, Ended, Demand3}
 use Rattle.place.specs.Ends.{End, Way, stop, link, isComplete, completeFor, placeEnds, facetEnds, facets, ends, ways, placeEnd, facetEnd}
 use Rattle.place.specs.Links.{linked, links}
 use Rattle.place.specs.Path.{isBack, waysOn, sameSimplex, pathFrom, path, pathLength}
+use Rattle.place.specs.LabelsRead.{labelsRead}
 use Rattle.place.specs.Path.{Answer, spent, unknown, announcement, outcome, answer}
 use Rattle.place.specs.Places.{Simplex, isPlace, places, setT, labelSet, allLabelled, unlabelled}
 use Rattle.place.specs.Problem.{Problem, hasLabel}
@@ -230,7 +231,7 @@ module _ {p : Problem} (ok : Accepted p) (W : TwoWays p) where
   unfolding answer
   answer-out b h = rw (le-ltb b _ h)
 
-  answer-ended : (e : End) → path p .end ≡ some e → (b : ℕ) → pathLength p ≤ b → answer p b ≡ announcement (pathLength p) e
+  answer-ended : (e : End) → path p .end ≡ some e → (b : ℕ) → pathLength p ≤ b → answer p b ≡ announcement (pathLength p) (labelsRead (path p .visited)) e
   answer-ended e q b h = answer-out b h ∙ ap (λ (x : Option End). outcome p (path p .visited) x) q
 
   out-not-spent : (s : List Simplex) (e : Option End) (b : ℕ) → outcome p s e ≡ spent b → ⊥
@@ -473,8 +474,8 @@ module _ {p : Problem} (ok : Accepted p) (W : TwoWays p) where
           go none k = rw g
           go (some e) (atEnd es own q) = absurd (gap-not-all (lastPlace (path p .visited)) g own)
 
-      out-not-asks : (e : End) (x : Answer) (k n i : ℕ) → x ≡ announcement k e → x ≡ unknown n i → ⊥
-      out-not-asks e x k n i q r = absurd-bool (cc)
+      out-not-asks : (e : End) (x : Answer) (k r n i : ℕ) → x ≡ announcement k r e → x ≡ unknown n i → ⊥
+      out-not-asks e x k t n i q r = absurd-bool (cc)
 
       spent-not-asks : (x : Answer) (b n i : ℕ) → x ≡ spent b → x ≡ unknown n i → ⊥
       spent-not-asks x b n i q r = absurd-bool (cc)
@@ -486,7 +487,7 @@ module _ {p : Problem} (ok : Accepted p) (W : TwoWays p) where
         where
           go : pathLength p ≤ b → (d : Option End) → path p .end ≡ d → Stop p (lastPlace (path p .visited)) d
               → (suc n ≡ pathLength p) × (n < b) × (getD p.labels i 0 ≡ 0)
-          go h (some e) r k = absurd (out-not-asks e (answer p b) _ n i (answer-ended e r b h) q)
+          go h (some e) r k = absurd (out-not-asks e (answer p b) _ _ n i (answer-ended e r b h) q)
           go h none r (atGap y g) =
               let a = asks y g b h in
               let z : pred (pathLength p) ≡ n = cc in

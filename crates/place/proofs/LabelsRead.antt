@@ -103,7 +103,7 @@ pub came-none : (s : List Simplex) → cameIn s 0 ≡ 0
 unfolding cameIn
 came-none s = refl
 
-came-few : (s : List Simplex) (k : ℕ) → cameIn s k ≤ k
+pub came-few : (s : List Simplex) (k : ℕ) → cameIn s k ≤ k
 unfolding cameIn
 came-few s k = omega (arith, length-filter-le (λ i. pointCameIn (placeAt s i) (placeAt s (suc i))) (upFrom 0 k), length-upFrom 0 k)
 

@@ -71,7 +71,7 @@ module _ (p : Problem) (labels : List ℕ) where
   abbrev other : Problem
   other = withLabels p labels
 
-  map-same : (s : Simplex) → Agree p labels s → map (label other) s ≡ map (label p) s
+  pub map-same : (s : Simplex) → Agree p labels s → map (label other) s ≡ map (label p) s
   map-same [] k = refl
   map-same (y ∷ s) k = rw (k y (in-here onPoints y s), map-same s (λ z m. k z (in-later onPoints z y s m)))
 

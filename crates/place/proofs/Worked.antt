@@ -6,6 +6,7 @@ use Rattle.grid.specs.Grid.{next, previous, isGridPoint, points, bound}
 use Rattle.questions.specs.Questions.{firstNo}
 use Rattle.place.specs.Coefficients.{coefficients}
 use Rattle.place.specs.Ends.{isComplete, completeFor, placeEnds, facetEnds, ends, ways}
+use Rattle.place.specs.LabelsRead.{cameIn, labelsRead}
 use Rattle.place.specs.Links.{exchanged, extended, linked, links}
 use Rattle.place.specs.Path.{waysOn, path, answer}
 use Rattle.place.specs.Places.{setU, setT, labelSet, firstBackOutside, goesTo, grownAt, everyBlockFree, isUnlabelledPlace, isPlace, places}
@@ -13,5 +14,5 @@ use Rattle.place.specs.Problem.{label}
 use Rattle.place.specs.Worked.{given, table}
 
 worked : map given table ≡ map (λ r. (0, r .result)) table
-unfolding next previous isGridPoint points label coefficients setU setT labelSet firstBackOutside goesTo grownAt everyBlockFree isUnlabelledPlace isPlace places exchanged extended linked links isComplete completeFor placeEnds facetEnds ends ways waysOn bound path answer firstNo
+unfolding next previous isGridPoint points label coefficients setU setT labelSet firstBackOutside goesTo grownAt everyBlockFree isUnlabelledPlace isPlace places exchanged extended linked links isComplete completeFor placeEnds facetEnds ends ways waysOn bound path answer cameIn labelsRead firstNo
 worked = refl

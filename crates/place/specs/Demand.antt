@@ -12,6 +12,7 @@ use Rattle.grid.specs.Grid.{Point, numBlocks, numIndices, numPoints, position, 
 use Rattle.place.specs.Coefficients.{coefficientSum}
 use Rattle.place.specs.Ends.{End, link, isComplete, ends, ways}
 use Rattle.place.specs.Links.{linked, links}
+use Rattle.place.specs.LabelsRead.{labelsRead}
 use Rattle.place.specs.Path.{waysOn, path, pathLength, spent, unknown, answer, announcement}
 use Rattle.place.specs.Places.{Simplex, isPlace, allLabelled, unlabelled}
 use Rattle.place.specs.Problem.{Problem, withLabels}
@@ -85,14 +86,14 @@ pub record Ended (p : Problem) : Type 0 where
   pub end : End
   pub isPath : IsPath p (path p .visited) end
   pub ends : path p .end ≡ some end
-  -- "otherwise it announces the kind, block and complete simplex of the path's end, and the length"
-  pub announces : (budget : ℕ) → pathLength p ≤ budget → answer p budget ≡ announcement (pathLength p) end
+  -- "otherwise it announces the kind, block and complete simplex of the path's end, and the length", and the labels read
+  pub announces : (budget : ℕ) → pathLength p ≤ budget → answer p budget ≡ announcement (pathLength p) (labelsRead (path p .visited)) end
   pub complete : isComplete p (end .simplex) (end .block) ≡ true
   pub completeOnly : (j : ℕ) → j < numBlocks (p .grid) → isComplete p (end .simplex) j ≡ true → j ≡ end .block
   -- "the vertices in rising coefficient sum"
   pub inOrder : rising (map (coefficientSum p) (end .simplex)) ≡ true
   -- "a budget of the bound's size reaches a complete simplex"
-  pub reaches : answer p (bound (p .grid)) ≡ announcement (pathLength p) end
+  pub reaches : answer p (bound (p .grid)) ≡ announcement (pathLength p) (labelsRead (path p .visited)) end
 
 pub record Demand3 (p : Problem) : Type 0 where
   -- the path goes by links and passes no end and no gap; it stops at the one or the other
@@ -129,7 +130,8 @@ Fills p labels = (i : ℕ) → 0 < getD (p .labels) i 0 → getD labels i 0 ≡ 
 pub record Filling (p : Problem) (labels : List ℕ) : Type 0 where
   pub same : (budget : ℕ) → ((n i : ℕ) → answer p budget ≡ unknown n i → getD labels i 0 ≡ 0)
       → answer (withLabels p labels) budget ≡ answer p budget
-  pub stays : (budget n : ℕ) (e : End) → answer p budget ≡ announcement n e → answer (withLabels p labels) budget ≡ announcement n e
+  pub stays : (budget n read : ℕ) (e : End) → answer p budget ≡ announcement n read e
+      → answer (withLabels p labels) budget ≡ announcement n read e
   -- and where the table has the label asked for, a label that its answer asks for is needed later
   pub further : (budget n i m j : ℕ) → answer p budget ≡ unknown n i → 0 < getD labels i 0
       → answer (withLabels p labels) budget ≡ unknown m j → n < m

@@ -4,8 +4,8 @@ pub mod Coefficients
 pub mod Places
 pub mod Links
 pub mod Ends
+pub mod LabelsRead
 pub mod Path
 pub mod Worked
 pub mod Demand
-pub mod LabelsRead
 pub mod Backwards

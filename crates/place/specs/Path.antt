@@ -8,6 +8,7 @@ use lib.ListN.{length, getD}
 use Rattle.combinatorics.specs.Lists.{filter, firstOr, same}
 use Rattle.grid.specs.Grid.{samePoint, position, bound}
 use Rattle.place.specs.Ends.{Kind, End, Way, stop, link, ways}
+use Rattle.place.specs.LabelsRead.{labelsRead}
 use Rattle.place.specs.Places.{Simplex, allLabelled, unlabelled}
 use Rattle.place.specs.Problem.{Problem}
 
@@ -51,19 +52,20 @@ pathLength p = length (path p .visited)
 -- A run's answer, of an accepted table. "Number 9 also returns the places visited, which equal the budget"; "The answer has the places, the kind
 -- of end, the block, the number of vertices, and the vertices in rising coefficient sum". The block counts from 1 here.
 -- Request 02: "16 when a place within the budget needs a label that is 0, with the places visited before it and the point's position".
+-- Request 10: "the result .. and the sheet gain 'labels read' after 'places'"; "a refusal gives none".
 pub data Answer : Type 0 where
   spent : (places : ℕ) → Answer
-  ended : (places : ℕ) (kind : Kind) (block vertices : ℕ) (simplex : Simplex) → Answer
+  ended : (places read : ℕ) (kind : Kind) (block vertices : ℕ) (simplex : Simplex) → Answer
   unknown : (places position : ℕ) → Answer
 
--- an end as the run announces it, with the count of places
-abbrev pub announcement : ℕ → End → Answer
-announcement n e = ended n (e .kind) (suc (e .block)) (length (e .simplex)) (e .simplex)
+-- an end as the run announces it, with the count of places and the labels read
+abbrev pub announcement : ℕ → ℕ → End → Answer
+announcement n read e = ended n read (e .kind) (suc (e .block)) (length (e .simplex)) (e .simplex)
 
 -- what a run says of the whole path: its end, or its last place's point without a label
 abbrev pub outcome : Problem → List Simplex → Option End → Answer
 outcome p s none = unknown (pred (length s)) (position (p .grid) (firstOr [] (unlabelled p (getD s (pred (length s)) []))))
-outcome p s (some e) = announcement (length s) e
+outcome p s (some e) = announcement (length s) (labelsRead s) e
 
 -- "Has the path ended within the budget? 9": "An end is announced if the path reaches one within the budget, and the budget is
 -- called spent if it does not"

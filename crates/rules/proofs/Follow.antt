@@ -39,7 +39,7 @@ use Rattle.place.specs.Coefficients.{IsCoefficients, coefficients}
 use Rattle.place.specs.Demand.{Follows, placeAt, leftAt}
 use Rattle.place.proofs.Filled.{FullyLabelled, full-accepted, full-place}
 use Rattle.place.specs.Ends.{Kind, placeEnd, facetEnd, stop}
-use Rattle.place.specs.LabelsRead.{pointCameIn}
+use Rattle.place.specs.LabelsRead.{cameIn, labelsRead, pointCameIn}
 use Rattle.place.specs.Links.{linked}
 use Rattle.place.specs.Path.{path, pathLength, answer, spent, ended}
 use Rattle.place.specs.Places.{Simplex, order, setT, setU, allLabelled}
@@ -101,8 +101,8 @@ pub data NextAt (p : Problem) (k : ℕ) : After → Type 0 where
 
 -- and so it is the answer, within the budget
 pub ends-answer : {p : Problem} {kind : Kind} {from : ℕ} {e : State} {h k : ℕ} → EndsAt p kind from e h k → (budget : ℕ) → k < budget
-    → answer p budget ≡ ended (suc k) kind (suc (blockOf p.grid h)) (length (pointsFrom p e from)) (pointsFrom p e from)
-unfolding answer
+    → answer p budget ≡ ended (suc k) (suc (cameIn (path p .visited) k)) kind (suc (blockOf p.grid h)) (length (pointsFrom p e from)) (pointsFrom p e from)
+unfolding answer labelsRead
 ends-answer {p} E budget l = rw (E .end, le-ltb budget (pathLength p) (omega (arith, E .places)), E .places)
 
 -- a place end, and a facet end without the first point, are ways out of the place

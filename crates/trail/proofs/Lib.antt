@@ -5,6 +5,7 @@ pub mod Tells
 pub mod Zeros
 pub mod LinkRules
 pub mod Reading
+pub mod LabelsRead
 pub mod RunTrail
 pub mod Tables
 pub mod Shapes

@@ -20,6 +20,7 @@ use Rattle.place.specs.Places.{Simplex, isUnlabelledPlace}
 use Rattle.place.specs.Problem.{Problem, withLabels}
 use Rattle.trail.proofs.LinkRules.{rule-of-link}
 use Rattle.trail.proofs.Reading.{begins-self, move-of, reads-on, reads-none, without-labels}
+use Rattle.trail.proofs.LabelsRead.{read-back}
 use Rattle.trail.proofs.Rules.{rules-are, record-short}
 use Rattle.trail.specs.Change.{change, ByRule}
 use Rattle.trail.specs.Demand.{Trails}
@@ -83,15 +84,21 @@ module _ (p : Problem) (even : length p.grid.divisions ≡ numBlocks p.grid) whe
     first = (start-long, (rw (← start-long) (take-append-seam (startRecord p) (recordsFrom p a s))));
     long = omega (arith, length-append (startRecord p) (recordsFrom p a s), start-long);
     short = omega (arith, length-append (startRecord p) (recordsFrom p a s), start-long, records-short a s R);
-    reads = λ labels rest i c. without-labels p labels _ (suc i)
-        ∙ ap (λ (x : List ℕ). rebuilt p x (suc i)) (append-assoc (startRecord p) (recordsFrom p a s) rest)
-        ∙ start-read (recordsFrom p a s ++ rest) i
-        ∙ ap (λ (b : Simplex). rebuiltFrom p i b (recordsFrom p a s ++ rest)) (sym e)
-        ∙ records-read a s R rest i (omega arith);
+    reads = back;
+    labelsSoFar = λ labels rest i c. read-back (withLabels p labels) _ (a ∷ s) i (λ k l. back labels rest k (omega arith));
     noMore = more;
     notZero = λ labels bytes. refl;
   }
     where
+      back : (labels rest : List ℕ) (i : ℕ) → i < suc (length s)
+          → rebuilt (withLabels p labels) ((startRecord p ++ recordsFrom p a s) ++ rest) (suc i) ≡ some (placeAt (a ∷ s) i)
+      back labels rest i c =
+          without-labels p labels _ (suc i)
+          ∙ ap (λ (x : List ℕ). rebuilt p x (suc i)) (append-assoc (startRecord p) (recordsFrom p a s) rest)
+          ∙ start-read (recordsFrom p a s ++ rest) i
+          ∙ ap (λ (b : Simplex). rebuiltFrom p i b (recordsFrom p a s ++ rest)) (sym e)
+          ∙ records-read a s R rest i (omega arith)
+
       more : (labels : List ℕ) (i : ℕ) → suc (length s) < i → rebuilt (withLabels p labels) (startRecord p ++ recordsFrom p a s) i ≡ none
       more labels zero c = refl
       more labels (suc i) c = without-labels p labels _ (suc i) ∙ start-read (recordsFrom p a s) i

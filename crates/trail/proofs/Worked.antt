@@ -4,13 +4,14 @@ use mathlib.Core.Path.{_≡_, refl}
 use Rattle.grid.specs.Grid.{next, previous, isGridPoint, points, bound}
 use Rattle.place.specs.Coefficients.{coefficients}
 use Rattle.place.specs.Ends.{isComplete, completeFor, placeEnds, facetEnds, ends, ways}
+use Rattle.place.specs.LabelsRead.{cameIn, labelsRead}
 use Rattle.place.specs.Links.{exchanged, extended, linked, links}
 use Rattle.place.specs.Path.{waysOn, path}
 use Rattle.place.specs.Places.{setU, setT, labelSet, firstBackOutside, goesTo, grownAt, everyBlockFree, isUnlabelledPlace, isPlace, places}
 use Rattle.place.specs.Problem.{label}
 use Rattle.trail.specs.Change.{change, rules}
 use Rattle.trail.specs.Record.{recordOf, startRecord, trailOf}
-use Rattle.trail.specs.Trail.{isMove, unlabelledPlaces, readOn, rebuilt, reading}
+use Rattle.trail.specs.Trail.{isMove, unlabelledPlaces, readOn, rebuilt, rebuiltPlaces, reading}
 use Rattle.trail.specs.Worked.{sheet, sheetTrail, table}
 
 written : trailOf sheet (path sheet .visited) ≡ sheetTrail
@@ -18,5 +19,5 @@ unfolding next previous isGridPoint points label coefficients setU setT labelSet
 written = refl
 
 worked : map (λ r. reading r.problem r.bytes r.number) table ≡ map (λ r. r .result) table
-unfolding next previous isGridPoint points coefficients setU setT firstBackOutside goesTo grownAt everyBlockFree isUnlabelledPlace change rules recordOf startRecord isMove unlabelledPlaces readOn rebuilt reading
+unfolding next previous isGridPoint points coefficients setU setT firstBackOutside goesTo grownAt everyBlockFree isUnlabelledPlace change rules recordOf startRecord isMove unlabelledPlaces readOn rebuilt rebuiltPlaces cameIn labelsRead reading
 worked = refl

@@ -10,11 +10,12 @@ use lib.ListN.{length, take}
 use Rattle.combinatorics.specs.Lists.{isIn}
 use Rattle.grid.specs.Grid.{Point, numPoints, position, samePoint}
 use Rattle.place.specs.Demand.{placeAt}
+use Rattle.place.specs.LabelsRead.{cameIn, labelsRead}
 use Rattle.place.specs.Places.{Simplex, isUnlabelledPlace}
 use Rattle.place.specs.Problem.{Problem, withLabels}
 use Rattle.trail.specs.Change.{change, rules, ByRule}
 use Rattle.trail.specs.Record.{startRecord, trailOf, recordBy}
-use Rattle.trail.specs.Trail.{rebuiltFrom, rebuilt}
+use Rattle.trail.specs.Trail.{rebuiltFrom, rebuilt, rebuiltPlaces}
 
 pub record Trails (p : Problem) (s : List Simplex) : Type 0 where
   -- each link is one of the seven rules, and no other
@@ -27,6 +28,9 @@ pub record Trails (p : Problem) (s : List Simplex) : Type 0 where
   pub short : length (trailOf p s) ≤ 3 + 7 * pred (length s)
   -- "over a run's trail these places are the path": for any label table, since the reader is given none, and whatever stands behind the trail
   pub reads : (labels rest : List ℕ) (i : ℕ) → i < length s → rebuilt (withLabels p labels) (trailOf p s ++ rest) (suc i) ≡ some (placeAt s i)
+  -- Request 10: "a rebuilt trail of the same path" has the labels read of the path's places up to the record
+  pub labelsSoFar : (labels rest : List ℕ) (i : ℕ) → i < length s
+      → labelsRead (rebuiltPlaces (withLabels p labels) (trailOf p s ++ rest) (suc i)) ≡ suc (cameIn s i)
   -- "17 .. when there is no such record"
   pub noMore : (labels : List ℕ) (i : ℕ) → length s < i → rebuilt (withLabels p labels) (trailOf p s) i ≡ none
   pub notZero : (labels bytes : List ℕ) → rebuilt (withLabels p labels) bytes 0 ≡ none

@@ -1,12 +1,13 @@
 -- Request 03: what a reader rebuilds from a trail. Assumes nothing.
 use mathlib.Core.Bool.{Bool, true, false, not, _&&_, cond}
-use mathlib.Core.List.{List, [], _∷_}
+use mathlib.Core.List.{List, [], _∷_, map}
 use mathlib.Core.Option.{Option, none, some}
 use Prim.Native.Nat.{ℕ, zero, suc}
 use lib.Dec.{eqb, leb}
 use lib.ListN.{length, drop}
-use Rattle.combinatorics.specs.Lists.{filter, sublists}
+use Rattle.combinatorics.specs.Lists.{filter, sublists, upFrom}
 use Rattle.grid.specs.Grid.{points}
+use Rattle.place.specs.LabelsRead.{labelsRead}
 use Rattle.place.specs.Places.{Simplex, setT, setU, isUnlabelledPlace, inOrder}
 use Rattle.place.specs.Problem.{Problem}
 use Rattle.trail.specs.Change.{change, rules, empty, single}
@@ -53,14 +54,26 @@ rebuilt p bytes (suc n) =
     let place = rebuiltFrom p n (p .start ∷ []) (drop (length (startRecord p)) bytes) in
     cond (begins (startRecord p) bytes) place none
 
--- the reader's answer behind questions 1 to 5: the place's points in rising coefficient sum, T and U; or 17
+abbrev pub placeIn : Option Simplex → Simplex
+placeIn none = []
+placeIn (some s) = s
+
+-- the places that records lead to from a place, that place first and n behind it; and those of "a rebuilt trail" up to a record's number
+unfoldable pub placesFrom : Problem → ℕ → Simplex → List ℕ → List Simplex
+placesFrom p n a bytes = map (λ i. placeIn (rebuiltFrom p i a bytes)) (upFrom 0 (suc n))
+
+unfoldable pub rebuiltPlaces : Problem → List ℕ → ℕ → List Simplex
+rebuiltPlaces p bytes number = map (λ i. placeIn (rebuilt p bytes (suc i))) (upFrom 0 number)
+
+-- the reader's answer behind questions 1 to 5: the labels read up to the record, the place's points in rising coefficient sum, T and U; or 17
 pub data Reading : Type 0 where
   noRecord : Reading
-  placed : (points : Simplex) (T U : List ℕ) → Reading
+  placed : (read : ℕ) (points : Simplex) (T U : List ℕ) → Reading
 
-abbrev pub readingOf : Problem → Option Simplex → Reading
-readingOf p none = noRecord
-readingOf p (some s) = placed s (setT p s) (setU (p .grid) s)
+abbrev pub readingOf : Problem → ℕ → Option Simplex → Reading
+readingOf p read none = noRecord
+readingOf p read (some s) = placed read s (setT p s) (setU (p .grid) s)
 
+-- Request 10: "a rebuilt trail of the same path" gives the labels read, those of the places rebuilt
 unfoldable pub reading : Problem → List ℕ → ℕ → Reading
-reading p bytes number = readingOf p (rebuilt p bytes number)
+reading p bytes number = readingOf p (labelsRead (rebuiltPlaces p bytes number)) (rebuilt p bytes number)

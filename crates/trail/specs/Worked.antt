@@ -38,14 +38,14 @@ row p bytes number r = record { problem = p; bytes = bytes; number = number; res
 abbrev pub table : List Row
 table =
     -- its first record, its last, and one more
-    row sheet sheetTrail 1 (placed ((1 ∷ 0 ∷ 1 ∷ 0 ∷ []) ∷ []) [] (1 ∷ 3 ∷ []))
-    ∷ row sheet sheetTrail 5 (placed ((1 ∷ 0 ∷ 1 ∷ 0 ∷ []) ∷ (0 ∷ 1 ∷ 1 ∷ 0 ∷ []) ∷ []) (1 ∷ []) (3 ∷ []))
+    row sheet sheetTrail 1 (placed 1 ((1 ∷ 0 ∷ 1 ∷ 0 ∷ []) ∷ []) [] (1 ∷ 3 ∷ []))
+    ∷ row sheet sheetTrail 5 (placed 4 ((1 ∷ 0 ∷ 1 ∷ 0 ∷ []) ∷ (0 ∷ 1 ∷ 1 ∷ 0 ∷ []) ∷ []) (1 ∷ []) (3 ∷ []))
     ∷ row sheet sheetTrail 6 noRecord
     -- 0 is no number
     ∷ row sheet (1 ∷ 3 ∷ 0 ∷ []) 0 noRecord
     -- what is behind the record asked for is not looked at
     ∷ row sheet (take 26 sheetTrail) 4
-    (placed ((1 ∷ 0 ∷ 1 ∷ 0 ∷ []) ∷ (0 ∷ 1 ∷ 1 ∷ 0 ∷ []) ∷ (0 ∷ 1 ∷ 0 ∷ 1 ∷ []) ∷ []) (1 ∷ 3 ∷ []) [])
+    (placed 4 ((1 ∷ 0 ∷ 1 ∷ 0 ∷ []) ∷ (0 ∷ 1 ∷ 1 ∷ 0 ∷ []) ∷ (0 ∷ 1 ∷ 0 ∷ 1 ∷ []) ∷ []) (1 ∷ 3 ∷ []) [])
     -- "do not begin with v's"
     ∷ row sheet (1 ∷ 2 ∷ 0 ∷ []) 1 noRecord
     -- "change no point"
@@ -69,7 +69,7 @@ table =
     ∷ row triangle (1 ∷ 2 ∷ 0 ∷ 101 ∷ 1 ∷ 0 ∷ 2 ∷ 2 ∷ 5 ∷ 63 ∷ 0 ∷ 0 ∷ 1 ∷ 0 ∷ 3 ∷ 2 ∷ 2 ∷ 3 ∷ []) 3 noRecord
     -- back on {v}, and off another way
     ∷ row triangle (1 ∷ 2 ∷ 0 ∷ 101 ∷ 1 ∷ 0 ∷ 2 ∷ 2 ∷ 5 ∷ 90 ∷ 1 ∷ 0 ∷ 2 ∷ 2 ∷ 6 ∷ 101 ∷ 0 ∷ 0 ∷ 3 ∷ 3 ∷ 5 ∷ []) 4
-    (placed ((1 ∷ 0 ∷ 0 ∷ []) ∷ (0 ∷ 0 ∷ 1 ∷ []) ∷ []) (2 ∷ []) (1 ∷ []))
+    (placed 3 ((1 ∷ 0 ∷ 0 ∷ []) ∷ (0 ∷ 0 ∷ 1 ∷ []) ∷ []) (2 ∷ []) (1 ∷ []))
     -- rules 4 and 2
-    ∷ row wide (1 ∷ 5 ∷ 0 ∷ 69 ∷ 8 ∷ 0 ∷ 1 ∷ 4 ∷ 83 ∷ 9 ∷ 0 ∷ 5 ∷ 0 ∷ 3 ∷ 2 ∷ []) 3 (placed ((2 ∷ 1 ∷ 0 ∷ []) ∷ (3 ∷ 0 ∷ 0 ∷ []) ∷ []) (0 ∷ []) (2 ∷ []))
+    ∷ row wide (1 ∷ 5 ∷ 0 ∷ 69 ∷ 8 ∷ 0 ∷ 1 ∷ 4 ∷ 83 ∷ 9 ∷ 0 ∷ 5 ∷ 0 ∷ 3 ∷ 2 ∷ []) 3 (placed 3 ((2 ∷ 1 ∷ 0 ∷ []) ∷ (3 ∷ 0 ∷ 0 ∷ []) ∷ []) (0 ∷ []) (2 ∷ []))
     ∷ []

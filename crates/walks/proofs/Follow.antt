@@ -3,7 +3,7 @@ use mathlib.Core.Bool.{Bool, true, false, not, cond}
 use mathlib.Core.List.{List, [], _∷_}
 use mathlib.Core.Option.{Option, none, some}
 use mathlib.Core.Path.{_≡_, refl, sym, ap, _∙_}
-use Prim.Native.Nat.{ℕ, zero, suc, pred, _≤_, _<_}
+use Prim.Native.Nat.{ℕ, zero, suc, pred, _+_, _≤_, _<_}
 use lib.Dec.{ltb}
 use native.Mathlib.Omega.{arith}
 use Rattle.combinatorics.proofs.Basics.{absurd-bool, false-of, not-is}
@@ -11,12 +11,14 @@ use Rattle.combinatorics.proofs.Lists.{all-in, filter-in, in-filter, in-here, o
 use Rattle.grid.proofs.Points.{onPoints}
 use Rattle.grid.specs.Grid.{Point, bound}
 use Rattle.place.proofs.FromTwoWays.{back}
+use Rattle.place.proofs.LabelsRead.{came-few, came-next, came-none}
 use Rattle.place.proofs.PathSteps.{Link, waysOn-split}
 use Rattle.place.proofs.Simplices.{simplex-sound}
 use Rattle.place.proofs.Theorem.{demand3-holds}
 use Rattle.place.proofs.Ways.{byLink, onWays, in-ways}
 use Rattle.place.specs.Demand.{Accepted, Demand3, Stop, atEnd, atGap, placeAt, leftAt}
 use Rattle.place.specs.Ends.{Kind, End, link, ends, ways}
+use Rattle.place.specs.LabelsRead.{cameIn, labelsRead, pointCameIn}
 use Rattle.place.specs.Path.{isBack, waysOn, sameSimplex, path, pathLength, spent, unknown, ended as runEnded, outcome, answer}
 use Rattle.place.specs.Places.{Simplex, allLabelled, unlabelled}
 use Rattle.place.specs.Problem.{Problem, hasLabel}
@@ -56,6 +58,9 @@ module _ {p : Problem} (ok : Accepted p) where
     came = came-at i c;
     some = omega arith;
     bounded = omega (arith, follows .bounded);
+    carries = refl;
+    read = omega arith;
+    readFew = omega (arith, came-few visited i);
   }
 
   passes-at : (i : ℕ) → i < pathLength p → allLabelled p (here i) ≡ true → Passes (walkAt p i) p.labels
@@ -82,8 +87,10 @@ module _ {p : Problem} (ok : Accepted p) where
 
   stands : (i : ℕ) → i < pathLength p → called p i ≡ walkAt p i
   unfolding moveWalk
-  stands zero c = rw (follows .follows .begins)
-  stands (suc i) c = ap (λ (w : Walk). moveWalk w p.labels) (stands i (omega arith)) ∙ rw (next-at i c)
+  stands zero c = rw (follows .follows .begins, came-none visited)
+  stands (suc i) c =
+      let z : suc (cameIn visited i) + cond (pointCameIn (here i) (here (suc i))) 1 0 ≡ suc (cameIn visited (suc i)) = omega (arith, came-next visited i) in
+      ap (λ (w : Walk). moveWalk w p.labels) (stands i (omega arith)) ∙ rw (next-at i c, z)
 
   moves : (i : ℕ) → suc i < pathLength p → moveAnswer (called p i) p.labels ≡ moved (ruleOf p (here i) (here (suc i)))
   unfolding moveAnswer
@@ -124,22 +131,29 @@ module _ {p : Problem} (ok : Accepted p) where
       let c = follows .follows .nonempty in
       rw (stands (pred n) (omega arith)) (omega arith)
 
+  read-at : (n : ℕ) → n ≡ pathLength p → called p (pred n) .read ≡ labelsRead visited
+  unfolding labelsRead
+  read-at n e =
+      let c = follows .follows .nonempty in
+      rw (stands (pred n) (omega arith), e) refl
+
   -- what the run says
-  run-ended : (b n : ℕ) (k : Kind) (j v : ℕ) (s : Simplex) → answer p b ≡ runEnded n k j v s
-      → (n ≡ pathLength p) × (moveAnswer (called p last) p.labels ≡ ended k j s)
+  run-ended : (b n read : ℕ) (k : Kind) (j v : ℕ) (s : Simplex) → answer p b ≡ runEnded n read k j v s
+      → (n ≡ pathLength p) × (read ≡ labelsRead visited) × (moveAnswer (called p last) p.labels ≡ ended k j s)
   unfolding answer
-  run-ended b n k j v s q = go (ltb b (pathLength p)) (path p .end) follows.stops q
+  run-ended b n read k j v s q = go (ltb b (pathLength p)) (path p .end) follows.stops q
     where
-      go : (c : Bool) (d : Option End) → Stop p (here last) d → cond c (spent b) (outcome p visited d) ≡ runEnded n k j v s
-          → (n ≡ pathLength p) × (moveAnswer (called p last) p.labels ≡ ended k j s)
+      go : (c : Bool) (d : Option End) → Stop p (here last) d → cond c (spent b) (outcome p visited d) ≡ runEnded n read k j v s
+          → (n ≡ pathLength p) × (read ≡ labelsRead visited) × (moveAnswer (called p last) p.labels ≡ ended k j s)
       go true d t q = absurd-bool (cc)
       go false none t q = absurd-bool (cc)
       go false (some e) (atEnd es own w) q =
           let a : pathLength p ≡ n = cc in
+          let r : labelsRead visited ≡ read = cc in
           let f : e .kind ≡ k = cc in
           let g : suc e.block ≡ j = cc in
           let h : e .simplex ≡ s = cc in
-          (sym a, rw (← f, ← g, ← h) (ends-at e es own w))
+          (sym a, sym r, rw (← f, ← g, ← h) (ends-at e es own w))
 
   run-asks : (b n i : ℕ) → answer p b ≡ unknown n i → (suc n ≡ pathLength p) × (moveAnswer (called p last) p.labels ≡ refused 16)
   unfolding answer
@@ -152,18 +166,21 @@ module _ {p : Problem} (ok : Accepted p) where
       go false none (atGap y g) q = gap-at y g
 
   -- facing back, between {v} and the last place
-  module _ (i n : ℕ) (c : suc (suc i) < pathLength p) (some-place : 1 ≤ n) (few : n ≤ bound p.grid) where
+  module _ (i n read : ℕ) (c : suc (suc i) < pathLength p) (few : n ≤ bound p.grid) (some-read : 1 ≤ read) (read-few : read ≤ n) where
     behind : Link p (here i) (here (suc i))
     behind = link-at i (omega arith)
 
-    passes-back : Passes (facingBack p (suc i) n) p.labels
+    passes-back : Passes (facingBack p (suc i) n read) p.labels
     passes-back = record {
       accepted = ok;
       stands = record {
         place = behind .to;
         came = came (back (here (suc i)) (here (suc (suc i))) (link-at (suc i) c)) (not-start i (omega arith));
-        some = some-place;
+        some = omega arith;
         bounded = few;
+        carries = refl;
+        read = some-read;
+        readFew = read-few;
       };
       known = follows .follows .known (suc i) c;
     }
@@ -174,21 +191,21 @@ module _ {p : Problem} (ok : Accepted p) where
         let l = back (here i) (here (suc i)) behind in
         let away : sameSimplex (here (suc (suc i))) (here i) ≡ false = false-of _ (λ q. follows .follows .onward i c (sym (simplex-sound _ _ q))) in
         only-list onWays (link (here i)) (waysOn p (some (here (suc (suc i)))) (here (suc i)))
-        (omega (arith, one-way-on (facingBack p (suc i) n) p.labels passes-back))
+        (omega (arith, one-way-on (facingBack p (suc i) n read) p.labels passes-back))
         (in-filter onWays (λ w. not (isBack (some (here (suc (suc i)))) w)) (link (here i)) (ways p (here (suc i)))
         (in-ways p (here (suc i)) ok.settled.sameNumber (byLink (here i) l.to l.by)) (rw away))
 
-    moves-back : moveWalk (facingBack p (suc i) n) p.labels ≡ facingBack p i (suc n)
+    moves-back : moveWalk (facingBack p (suc i) n read) p.labels ≡ facingBack p i (suc n) (read + cond (pointCameIn (here (suc i)) (here i)) 1 0)
     unfolding moveWalk
     moves-back =
-        rw (next-onward (facingBack p (suc i) n) p.labels (of-passes (facingBack p (suc i) n) p.labels passes-back) ∙ ap byWay ways-back)
+        rw (next-onward (facingBack p (suc i) n read) p.labels (of-passes (facingBack p (suc i) n read) p.labels passes-back) ∙ ap byWay ways-back)
 
   pub calls-follow : CallsFollow p
   calls-follow = record {
     stands = stands;
     moves = moves;
     shows = shows;
-    ends = λ b n k j v s q. let r = run-ended b n k j v s q in (places-at n r.0, rw (r .0) (r .1));
+    ends = λ b n read k j v s q. let r = run-ended b n read k j v s q in (places-at n r.0, read-at n r.0 ∙ sym (r .1), rw (r .0) (r .2));
     gap = λ b n i q. let r = run-asks b n i q in let z : n ≡ last = ap pred r.0 in (places-at (suc n) r.0, rw z (r .1));
     back = moves-back;
   }

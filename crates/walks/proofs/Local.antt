@@ -6,7 +6,7 @@ use mathlib.Core.Path.{_≡_, sym, ap, _∙_}
 use Prim.Native.Nat.{ℕ}
 use Rattle.combinatorics.proofs.Basics.{both}
 use Rattle.place.proofs.FromTwoWays.{back}
-use Rattle.place.proofs.Local.{Agree, place-local, linked-local, linked-stays, known-local, ways-local}
+use Rattle.place.proofs.Local.{Agree, map-same, place-local, linked-local, linked-stays, known-local, ways-local}
 use Rattle.place.specs.Demand.{Accepted}
 use Rattle.place.specs.Path.{waysOn}
 use Rattle.place.specs.Places.{Simplex, allLabelled}
@@ -33,6 +33,9 @@ module _ (p : Problem) (labels : List ℕ) where
     came = came-stays k h.came;
     some = h .some;
     bounded = h .bounded;
+    carries = h .carries ∙ sym (map-same p labels w.present k);
+    read = h .read;
+    readFew = h .readFew;
   }
 
 module _ (w : Walk) (labels others : List ℕ) (ok : Accepted (over w labels)) (okOthers : Accepted (over w others))

@@ -4,11 +4,13 @@ use mathlib.Core.List.{List, [], _∷_}
 use mathlib.Core.Option.{Option, none, some}
 use mathlib.Core.Path.{_≡_, refl, sym, _∙_}
 use Prim.Native.Nat.{ℕ, _≤_}
-use borrow.Author.Tests.{leb-true, le-leb}
-use lib.Dec.{leb}
+use borrow.Author.Tests.{eqb-true, leb-true, le-leb}
+use lib.Dec.{eqb, leb}
 use lib.ListN.{length}
 use native.Mathlib.Omega.{arith}
 use Rattle.combinatorics.proofs.Basics.{absurd-bool, and-both, and-left, and-right, false-of}
+use Rattle.combinatorics.proofs.Lists.{eqb-self, same-self, same-sound}
+use Rattle.combinatorics.specs.Lists.{same}
 use Rattle.grid.specs.Grid.{bound}
 use Rattle.place.proofs.Accepted.{accepted-of, accepted-is}
 use Rattle.place.proofs.FromTwoWays.{one-from-start, one-from}
@@ -23,19 +25,22 @@ use Rattle.place.specs.Problem.{Problem}
 use Rattle.place.specs.Questions.{tableQuestions}
 use Rattle.questions.proofs.Answers.{both-yes, first-yes, asked-next}
 use Rattle.questions.specs.Questions.{firstNo, ask}
-use Rattle.walks.specs.Walk.{Walk, over, cameByLink, isStart, hasNone, bothOrNeither, isWalk, walkQuestions}
+use Rattle.walks.specs.Walk.{Walk, labelsOf, over, cameByLink, isStart, hasNone, bothOrNeither, isWalk, walkQuestions}
 
 -- a walk stands at {v} with none before it, or elsewhere with one before it
 pub data Came (p : Problem) : Option Simplex → Simplex → Type 0 where
   begins : Came p none (p .start ∷ [])
   came : {a s : Simplex} → Link p a s → (s ≡ p .start ∷ [] → ⊥) → Came p (some a) s
 
--- the four conditions of question 20
+-- the conditions of question 20
 pub record Stands (p : Problem) (w : Walk) : Type 0 where
   pub place : isPlace p (w .present) ≡ true
   pub came : Came p (w .before) (w .present)
   pub some : 1 ≤ w .places
   pub bounded : w .places ≤ bound (p .grid)
+  pub carries : w .carried ≡ labelsOf p (w .present)
+  pub read : 1 ≤ w .read
+  pub readFew : w .read ≤ w .places
 
 with-none : (a : Bool) → bothOrNeither a true ≡ true → a ≡ true
 with-none true e = refl
@@ -70,21 +75,32 @@ module _ (p : Problem) where
       let b : Bool = cameByLink p w.before w.present in
       let c : Bool = bothOrNeither (isStart p w.present) (hasNone w.before) in
       let d : Bool = leb 1 w.places in let e : Bool = leb w.places (bound p.grid) in
-      let k : (a && b && c) ≡ true = and-left (a && b && c) (d && e) h in
-      let l : (d && e) ≡ true = and-right (a && b && c) (d && e) h in
+      let x : Bool = same eqb w.carried (labelsOf p w.present) in
+      let y : Bool = leb 1 w.read in let z : Bool = leb w.read w.places in
+      let u : (a && b && c && (d && e) && x) ≡ true = and-left (a && b && c && (d && e) && x) (y && z) h in
+      let v : (y && z) ≡ true = and-right (a && b && c && (d && e) && x) (y && z) h in
+      let f : (a && b && c && (d && e)) ≡ true = and-left (a && b && c && (d && e)) x u in
+      let k : (a && b && c) ≡ true = and-left (a && b && c) (d && e) f in
+      let l : (d && e) ≡ true = and-right (a && b && c) (d && e) f in
       let m : (a && b) ≡ true = and-left (a && b) c k in
       record {
         place = and-left a b m;
         came = came-of w.before w.present (and-left a b m) (and-right a b m) (and-right (a && b) c k);
         some = leb-true 1 _ (and-left d e l);
         bounded = leb-true _ _ (and-right d e l);
+        carries = same-sound eqb eqb-true _ _ (and-right (a && b && c && (d && e)) x u);
+        read = leb-true 1 _ (and-left y z v);
+        readFew = leb-true _ _ (and-right y z v);
       }
 
   pub of-stands : (w : Walk) → Stands p w → isWalk p w ≡ true
   unfolding isWalk
   of-stands w k =
       let c = of-came k.came in
-      and-both _ _ (and-both _ _ (and-both _ _ k.place c.0) c.1) (and-both _ _ (le-leb 1 _ k.some) (le-leb _ _ k.bounded))
+      let places = and-both _ _ (le-leb 1 _ k.some) (le-leb _ _ k.bounded) in
+      let read = and-both _ _ (le-leb 1 _ k.read) (le-leb _ _ k.readFew) in
+      let carried : same eqb w.carried (labelsOf p w.present) ≡ true = rw (k .carries) (same-self eqb eqb-self (labelsOf p w.present)) in
+      and-both _ _ (and-both _ _ (and-both _ _ (and-both _ _ (and-both _ _ k.place c.0) c.1) places) carried) read
 
 -- a walk that is not refused
 pub record Passes (w : Walk) (labels : List ℕ) : Type 0 where

@@ -1,5 +1,5 @@
 -- What holds of every walk and table. In order: what a call that moves tells; a walk that has been moved; where it came from. Assumes nothing.
-use mathlib.Core.Bool.{true, false, not}
+use mathlib.Core.Bool.{Bool, true, false, not, cond}
 use mathlib.Core.List.{List, [], _∷_}
 use mathlib.Core.Logic.{_↔_, _⊎_, inl, inr, ⊎-elim}
 use mathlib.Core.Option.{Option, some}
@@ -19,6 +19,7 @@ use Rattle.place.proofs.Theorem.{twoWays}
 use Rattle.place.proofs.Ways.{IsWay, byPlace, byFacet, byLink, onWays, way-is}
 use Rattle.place.specs.Demand.{Accepted, SamePoints}
 use Rattle.place.specs.Ends.{Way, stop, link, ways}
+use Rattle.place.specs.LabelsRead.{pointCameIn}
 use Rattle.place.specs.Links.{links}
 use Rattle.place.specs.Path.{isBack, waysOn, sameSimplex}
 use Rattle.place.specs.Places.{Simplex, isPlace, allLabelled}
@@ -33,7 +34,7 @@ use Rattle.walks.proofs.Meaning.{Came, begins, came, Stands, stands-of,
 use Rattle.walks.specs.Claims.{Calls}
 use Rattle.walks.specs.Next.{Outcome, refused, ended, moved, onMove, byWay, nextOf, ruleOf, moveAnswer, movedTo, walkAfter, moveWalk, afterCalls}
 use Rattle.walks.specs.Preview.{Move, moveTo, preview, seen}
-use Rattle.walks.specs.Walk.{Walk, SameBefore, sameBefore, SameWalk, over, walkQuestions}
+use Rattle.walks.specs.Walk.{Walk, SameBefore, sameBefore, SameWalk, labelsOf, over, walkQuestions}
 
 -- a link to a place other than the one before
 pub record Onward (p : Problem) (l : Option Simplex) (here s : Simplex) : Type 0 where
@@ -88,7 +89,7 @@ module _ (w : Walk) (labels : List ℕ) where
       go (ended k b s) q e = absurd-bool (cc)
       go (moved s) q e = (s, q)
 
-  walk-next : (s : Simplex) → nextOf w labels ≡ moved s → moveWalk w labels ≡ movedTo w s
+  walk-next : (s : Simplex) → nextOf w labels ≡ moved s → moveWalk w labels ≡ movedTo p w s
   unfolding moveWalk
   walk-next s e = rw e
 
@@ -151,7 +152,7 @@ module _ (w : Walk) (labels : List ℕ) where
   unfolding moveAnswer moveWalk
   unmoved never = go (nextOf w labels) never
     where
-      go : (o : Outcome Simplex) → ((r : ℕ) → onMove (ruleOf p w.present) o ≡ moved r → ⊥) → walkAfter w o ≡ w
+      go : (o : Outcome Simplex) → ((r : ℕ) → onMove (ruleOf p w.present) o ≡ moved r → ⊥) → walkAfter p w o ≡ w
       go (refused n) never = refl
       go (ended k b t) never = refl
       go (moved t) never = absurd (never (ruleOf p w.present t) refl)
@@ -165,7 +166,7 @@ module _ (w : Walk) (labels : List ℕ) where
   unfolding preview moveAnswer moveWalk
   shown = go (nextOf w labels)
     where
-      go : (o : Outcome Simplex) → onMove (moveTo p w.present) o ≡ seen w labels (onMove (ruleOf p w.present) o) (walkAfter w o)
+      go : (o : Outcome Simplex) → onMove (moveTo p w.present) o ≡ seen w labels (onMove (ruleOf p w.present) o) (walkAfter p w o)
       go (refused n) = refl
       go (ended l c t) = refl
       go (moved t) = refl
@@ -187,26 +188,38 @@ module _ (w : Walk) (labels : List ℕ) where
 never-start : {p : Problem} {a s : Simplex} → Came p (some a) s → s ≡ p .start ∷ [] → ⊥
 never-start (came j ne) q = ne q
 
--- a walk that has been moved on: the four conditions of question 20 are down to two
-module _ (w : Walk) (labels : List ℕ) {s : Simplex} (k : Passes w labels × Onward (over w labels) w.before w.present s) where
-  stands-next : (s ≡ w .start ∷ [] → ⊥) → suc w.places ≤ bound w.grid → Stands (over w labels) (movedTo w s)
-  stands-next ne b = record { place = k .1 .joins .to; came = came k.1.joins ne; some = omega arith; bounded = b }
+one-at-most : (b : Bool) → cond b 1 0 ≤ 1
+one-at-most true = omega arith
+one-at-most false = omega arith
 
-  next-20 : (moveAnswer (movedTo w s) labels ≡ refused 20) ↔ ((s ≡ w .start ∷ []) ⊎ (bound w.grid < suc w.places))
+-- a walk that has been moved on: the conditions of question 20 are down to two
+module _ (w : Walk) (labels : List ℕ) {s : Simplex} (k : Passes w labels × Onward (over w labels) w.before w.present s) where
+  stands-next : (s ≡ w .start ∷ [] → ⊥) → suc w.places ≤ bound w.grid → Stands (over w labels) (movedTo (over w labels) w s)
+  stands-next ne b = record {
+    place = k .1 .joins .to;
+    came = came k.1.joins ne;
+    some = omega arith;
+    bounded = b;
+    carries = refl;
+    read = omega (arith, k .0 .stands .read);
+    readFew = omega (arith, k .0 .stands .readFew, one-at-most (pointCameIn w.present s));
+  }
+
+  next-20 : (moveAnswer (movedTo (over w labels) w s) labels ≡ refused 20) ↔ ((s ≡ w .start ∷ []) ⊎ (bound w.grid < suc w.places))
   next-20 = (forth, back-20)
     where
-      forth : moveAnswer (movedTo w s) labels ≡ refused 20 → (s ≡ w .start ∷ []) ⊎ (bound w.grid < suc w.places)
+      forth : moveAnswer (movedTo (over w labels) w s) labels ≡ refused 20 → (s ≡ w .start ∷ []) ⊎ (bound w.grid < suc w.places)
       forth e =
           ⊎-elim (λ q. inl (simplex-sound s (w .start ∷ []) q))
           (λ q. ⊎-elim (λ b. inr b)
-          (λ b. absurd (is-20 (movedTo w s) labels k.0.accepted e
+          (λ b. absurd (is-20 (movedTo (over w labels) w s) labels k.0.accepted e
           (stands-next (λ z. absurd-bool (sym (simplex-self (w .start ∷ [])) ∙ (rw z at q))) b)))
           (before-or-not (bound w.grid) (suc w.places)))
           (true-or-false (sameSimplex s (w .start ∷ [])))
 
-      back-20 : (s ≡ w .start ∷ []) ⊎ (bound w.grid < suc w.places) → moveAnswer (movedTo w s) labels ≡ refused 20
+      back-20 : (s ≡ w .start ∷ []) ⊎ (bound w.grid < suc w.places) → moveAnswer (movedTo (over w labels) w s) labels ≡ refused 20
       back-20 c =
-          not-20 (movedTo w s) labels k.0.accepted
+          not-20 (movedTo (over w labels) w s) labels k.0.accepted
           (λ j. ⊎-elim (λ q. never-start j.came q) (λ b. omega (arith, j .bounded)) c)
 
 -- two walks that stand at one place and go on to one place came from one place, or both from none
@@ -224,21 +237,24 @@ one-origin {p} ok {s = s} (came {a = x} {s = here} k ne) (came {a = y} j _) own 
     apart z e f = absurd-bool (sym (simplex-self s) ∙ (rw e at f))
 
 module _ (labels : List ℕ) (w x : Walk) {s t : Simplex} (e : nextOf w labels ≡ moved s) (f : nextOf x labels ≡ moved t)
-    (same : SameWalk (movedTo w s) (movedTo x t)) where
+    (same : SameWalk (movedTo (over w labels) w s) (movedTo (over x labels) x t)) where
   same-problem : over x labels ≡ over w labels
   same-problem = λ i. record { grid = sym same.grid i; start = sym same.start i; labels = labels }
 
   moved-from : w ≡ x
   moved-from =
       let a = moved-passes w labels s e in
-      let b = subst (λ (p : Problem). (Accepted p) × (Came p x.before x.present) × (isPlace p x.present ≡ true) × Onward p x.before x.present t)
-      same-problem (let b = moved-passes x labels t f in (b .0 .accepted, b .0 .stands .came, b .0 .stands .place, b .1)) in
+      let b = subst (λ (p : Problem). (Accepted p) × (Came p x.before x.present) × (isPlace p x.present ≡ true) × Onward p x.before x.present t
+      × (x .carried ≡ labelsOf p x.present))
+      same-problem (let b = moved-passes x labels t f in (b .0 .accepted, b .0 .stands .came, b .0 .stands .place, b .1, b .0 .stands .carries)) in
       let h : w .present ≡ x .present = place-same (over w labels) w.present x.present a.0.stands.place b.2 (points same.before) in
       let q : s ≡ t = place-same (over w labels) s t a.1.joins.to b.3.joins.to same.present in
       let o : w .before ≡ x .before =
       one-origin a.0.accepted a.0.stands.came (rw (← h) at b.1) a.0.known a.1 (rw (← q) at (rw (← h) at b.3)) in
       let n : w .places ≡ x .places = (let z = same .places in omega arith) in
-      λ i. record { grid = same .grid i; start = same .start i; present = h i; before = o i; places = n i }
+      let l : w .carried ≡ x .carried = a .0 .stands .carries ∙ ap (labelsOf (over w labels)) h ∙ sym (b .4) in
+      let m : w .read ≡ x .read = (let z = rw (← h, ← q) at same.read in omega (arith, z)) in
+      λ i. record { grid = same .grid i; start = same .start i; present = h i; before = o i; places = n i; carried = l i; read = m i }
     where
       points : SameBefore (some w.present) (some x.present) → SamePoints w.present x.present
       points (sameBefore k) = k
@@ -252,7 +268,7 @@ calls-hold w labels = record {
   next = λ r e. let m = moved-next w labels r e in rw (walk-next w labels m.0 m.1) (next-20 w labels (moved-passes w labels m.0 m.1));
   back = λ r e q others ok. let m = moved-next w labels r e in
       let z = walk-next w labels m.0 m.1 in
-      rw z (not-20 (movedTo w m.0) others ok (λ j. never-start j.came (rw z at q)));
+      rw z (not-20 (movedTo (over w labels) w m.0) others ok (λ j. never-start j.came (rw z at q)));
   local = λ others ok okOthers k. next-local w labels others ok okOthers k;
   shown = shown w labels;
   named = named w labels;

@@ -1,15 +1,16 @@
--- What requests 08, 09 and 14 say of calls, in the order of the customer's sentences. Assumes nothing.
-use mathlib.Core.Bool.{true}
+-- What requests 08, 09, 10 and 14 say of calls, in the order of the customer's sentences. Assumes nothing.
+use mathlib.Core.Bool.{true, cond}
 use mathlib.Core.List.{List, [], _∷_}
 use mathlib.Core.Logic.{_↔_, _⊎_}
 use mathlib.Core.Option.{some}
 use mathlib.Core.Path.{_≡_}
-use Prim.Native.Nat.{ℕ, suc, pred, _≤_, _<_}
+use Prim.Native.Nat.{ℕ, suc, pred, _+_, _≤_, _<_}
 use lib.ListN.{length}
 use Rattle.combinatorics.specs.Lists.{isIn}
 use Rattle.grid.specs.Grid.{Point, samePoint, bound}
 use Rattle.place.specs.Demand.{Accepted, placeAt, leftAt}
 use Rattle.place.specs.Ends.{Kind}
+use Rattle.place.specs.LabelsRead.{cameIn, pointCameIn}
 use Rattle.place.specs.Path.{path, pathLength, waysOn, ended as runEnded, unknown, answer}
 use Rattle.place.specs.Places.{Simplex}
 use Rattle.place.specs.Problem.{Problem, label}
@@ -18,7 +19,7 @@ use Rattle.trail.specs.Change.{change, ByRule}
 use Rattle.trail.specs.Record.{fields, encoded, recordOf}
 use Rattle.walks.specs.Next.{refused, ended, moved, nextOf, ruleOf, moveAnswer, moveWalk, afterCalls}
 use Rattle.walks.specs.Preview.{Move, moveTo, preview, seen}
-use Rattle.walks.specs.Walk.{Walk, SameWalk, walkAtStart, over, walkQuestions}
+use Rattle.walks.specs.Walk.{Walk, SameWalk, walkAtStart, labelsOf, over, walkQuestions}
 
 -- the walk at the i-th place of the path, from 0
 abbrev pub walkAt : Problem → ℕ → Walk
@@ -28,16 +29,20 @@ walkAt p i = let s = path p .visited in record {
   present = placeAt s i;
   before = leftAt s i;
   places = suc i;
+  carried = labelsOf p (placeAt s i);
+  read = suc (cameIn s i);
 }
 
 -- a walk at the i-th place that faces back: the one before it is the next on the path
-abbrev pub facingBack : Problem → ℕ → ℕ → Walk
-facingBack p i n = let s = path p .visited in record {
+abbrev pub facingBack : Problem → ℕ → ℕ → ℕ → Walk
+facingBack p i n read = let s = path p .visited in record {
   grid = p .grid;
   start = p .start;
   present = placeAt s i;
   before = some (placeAt s (suc i));
   places = n;
+  carried = labelsOf p (placeAt s i);
+  read = read;
 }
 
 -- the walk after i calls "over one table, made from {v} with 1 as its places so far"
@@ -46,7 +51,7 @@ called p i = afterCalls i (walkAtStart p) (p .labels)
 
 -- "agree up to the end with one run", of an accepted table
 pub record CallsFollow (p : Problem) : Type 0 where
-  -- they stand at the places of the path, one after the other, and count them
+  -- they stand at the places of the path, one after the other, count them, carry their labels and count the labels read
   pub stands : (i : ℕ) → i < pathLength p → called p i ≡ walkAt p i
   -- "each call moves it on by one place and reports the rule",
   pub moves : (i : ℕ) → suc i < pathLength p
@@ -54,16 +59,18 @@ pub record CallsFollow (p : Problem) : Type 0 where
   -- which the preview shows before: the record of the move
   pub shows : (i : ℕ) → suc i < pathLength p → let a = placeAt (path p .visited) i in let b = placeAt (path p .visited) (suc i) in
       preview (called p i) (p .labels) ≡ moved (moveTo p a b)
-  -- "at an end the call gives its kind, block and simplex", those of the run, and its places are the run's,
-  pub ends : (budget n : ℕ) (kind : Kind) (block vertices : ℕ) (simplex : Simplex) → answer p budget ≡ runEnded n kind block vertices simplex
-      → (called p (pred n) .places ≡ n) × (moveAnswer (called p (pred n)) (p .labels) ≡ ended kind block simplex)
+  -- "at an end the call gives its kind, block and simplex", those of the run, and its places and labels read are the run's,
+  pub ends : (budget n read : ℕ) (kind : Kind) (block vertices : ℕ) (simplex : Simplex)
+      → answer p budget ≡ runEnded n read kind block vertices simplex
+      → (called p (pred n) .places ≡ n) × (called p (pred n) .read ≡ read) × (moveAnswer (called p (pred n)) (p .labels) ≡ ended kind block simplex)
   -- and where the run meets 16 the walk does, with one place more than those visited before
   pub gap : (budget n position : ℕ) → answer p budget ≡ unknown n position
       → (called p n .places ≡ suc n) × (moveAnswer (called p n) (p .labels) ≡ refused 16)
   -- request 14, "moving by links and never to the place just left", by calls: between {v} and the last place a walk that faces back is moved to the
   -- place before, and faces back there
-  pub back : (i n : ℕ) → suc (suc i) < pathLength p → 1 ≤ n → n ≤ bound (p .grid)
-      → moveWalk (facingBack p (suc i) n) (p .labels) ≡ facingBack p i (suc n)
+  pub back : (i n read : ℕ) → suc (suc i) < pathLength p → n ≤ bound (p .grid) → 1 ≤ read → read ≤ n → let s = path p .visited in
+      moveWalk (facingBack p (suc i) n read) (p .labels)
+      ≡ facingBack p i (suc n) (read + cond (pointCameIn (placeAt s (suc i)) (placeAt s i)) 1 0)
 
 -- of every walk and table: wherever the walk stands, and whichever way it faces
 pub record Calls (w : Walk) (labels : List ℕ) : Type 0 where

@@ -2,16 +2,17 @@
 use mathlib.Core.Bool.{cond}
 use mathlib.Core.List.{List, [], _∷_}
 use mathlib.Core.Option.{some}
-use Prim.Native.Nat.{ℕ, zero, suc}
+use Prim.Native.Nat.{ℕ, zero, suc, _+_}
 use lib.Dec.{eqb}
 use Rattle.combinatorics.specs.Lists.{firstOr}
 use Rattle.place.specs.Ends.{Kind, Way, stop, link}
+use Rattle.place.specs.LabelsRead.{pointCameIn}
 use Rattle.place.specs.Path.{waysOn}
 use Rattle.place.specs.Places.{Simplex}
 use Rattle.place.specs.Problem.{Problem}
 use Rattle.questions.specs.Questions.{firstNo}
 use Rattle.trail.specs.Change.{change, rules}
-use Rattle.walks.specs.Walk.{Walk, over, walkQuestions}
+use Rattle.walks.specs.Walk.{Walk, labelsOf, over, walkQuestions}
 
 -- What a call gives: a refusal's number; or an end's "kind, block and simplex", the block counted from 1; or what it says of a move.
 pub data Outcome (A : Type 0) : Type 0 where
@@ -45,18 +46,27 @@ ruleOf p a s = firstOr 0 (rules (change p a s))
 unfoldable pub moveAnswer : Walk → List ℕ → Outcome ℕ
 moveAnswer w labels = onMove (ruleOf (over w labels) (w .present)) (nextOf w labels)
 
--- the walk moved on to a place: what was the present place is then the one before
-abbrev pub movedTo : Walk → Simplex → Walk
-movedTo w s = record { grid = w .grid; start = w .start; present = s; before = some (w .present); places = suc (w .places) }
+-- the walk moved on to a place: what was the present place is then the one before. Request 10: it carries the place's labels, and the labels read are
+-- "1 plus the moves by which a point came in"
+abbrev pub movedTo : Problem → Walk → Simplex → Walk
+movedTo p w s = record {
+  grid = w .grid;
+  start = w .start;
+  present = s;
+  before = some (w .present);
+  places = suc (w .places);
+  carried = labelsOf p s;
+  read = w .read + cond (pointCameIn (w .present) s) 1 0;
+}
 
 -- "at an end .. the walk is unchanged"; 20 and 16 "return only their number and leave the walk unchanged", and so do 1 to 7
-abbrev pub walkAfter : Walk → Outcome Simplex → Walk
-walkAfter w (refused number) = w
-walkAfter w (ended kind block simplex) = w
-walkAfter w (moved s) = movedTo w s
+abbrev pub walkAfter : Problem → Walk → Outcome Simplex → Walk
+walkAfter p w (refused number) = w
+walkAfter p w (ended kind block simplex) = w
+walkAfter p w (moved s) = movedTo p w s
 
 unfoldable pub moveWalk : Walk → List ℕ → Walk
-moveWalk w labels = walkAfter w (nextOf w labels)
+moveWalk w labels = walkAfter (over w labels) w (nextOf w labels)
 
 -- the walk after n calls "over one table"
 abbrev pub afterCalls : ℕ → Walk → List ℕ → Walk
