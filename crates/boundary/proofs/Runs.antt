@@ -46,17 +46,17 @@ module _ (p : Problem) (room budget : ℕ) where
       go false q e = absurd (never (refusal p room) e)
 
 -- the path's answer, by the run's
-ended-case : (places : ℕ) (kind : Kind) (block vertices : ℕ) (o : PathAnswer)
-    → caseOf o ≡ End places kind block vertices
-    → (k : KindOfEnd) × (s : Simplex) × (o ≡ ended places k block vertices s) × (kindOf k ≡ kind)
-ended-case places kind block vertices (spent n) e = absurd-bool (cc)
-ended-case places kind block vertices (unknown n i) e = absurd-bool (cc)
-ended-case places kind block vertices (ended n k b v s) e = (k, s, (cc), (cc))
+ended-case : (places read : ℕ) (kind : Kind) (block vertices : ℕ) (o : PathAnswer)
+    → caseOf o ≡ End places read kind block vertices
+    → (k : KindOfEnd) × (s : Simplex) × (o ≡ ended places read k block vertices s) × (kindOf k ≡ kind)
+ended-case places read kind block vertices (spent n) e = absurd-bool (cc)
+ended-case places read kind block vertices (unknown n i) e = absurd-bool (cc)
+ended-case places read kind block vertices (ended n l k b v s) e = (k, s, (cc), (cc))
 
 unknown-case : (places position : ℕ) (o : PathAnswer) → caseOf o ≡ Unknown places position → o ≡ unknown places position
 unknown-case places position (spent n) e = absurd-bool (cc)
 unknown-case places position (unknown n i) e = cc
-unknown-case places position (ended n k b v s) e = absurd-bool (cc)
+unknown-case places position (ended n l k b v s) e = absurd-bool (cc)
 
 module _ (sizes divisions old buffer : List ℕ) (count : ℕ)
     (e : boundaryAnswer sizes divisions old buffer ≡ Written count) (start : Point) (room : ℕ) where
@@ -71,12 +71,12 @@ module _ (sizes divisions old buffer : List ℕ) (count : ℕ)
       let ok = accepted-of p q .settled in
       (over-new-table ok old (wrote .table), accepted-again ok old (wrote .table) (wrote .long) (wrote .range))
 
-  place-ends : (budget places : ℕ) (kind : Kind) (block vertices : ℕ)
-      → runAnswer p room budget ≡ End places kind block vertices → kind ≡ Place
-  place-ends budget places kind block vertices r =
-      let u = unrefused p room budget (End places kind block vertices) (λ n q. absurd-bool (cc)) r in
-      let c = ended-case places kind block vertices (answer p budget) (u .1) in
-      sym (c .3) ∙ ap kindOf (over (u .0) .0 .announced budget places (c .0) block vertices (c .1) (c .2))
+  place-ends : (budget places read : ℕ) (kind : Kind) (block vertices : ℕ)
+      → runAnswer p room budget ≡ End places read kind block vertices → kind ≡ Place
+  place-ends budget places read kind block vertices r =
+      let u = unrefused p room budget (End places read kind block vertices) (λ n q. absurd-bool (cc)) r in
+      let c = ended-case places read kind block vertices (answer p budget) (u .1) in
+      sym (c .3) ∙ ap kindOf (over (u .0) .0 .announced budget places read (c .0) block vertices (c .1) (c .2))
 
   asks-inside : (budget places position : ℕ) → runAnswer p room budget ≡ Unknown places position
       → isInterior (getD (points (p .grid)) position []) ≡ true

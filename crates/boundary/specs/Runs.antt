@@ -19,8 +19,8 @@ use Rattle.boundary.specs.Call.{boundaryAnswer, boundaryBuffer}
 
 pub record RunsOver (p : Problem) (room : ℕ) : Type 0 where
   -- "every end that a run announces is a place end"
-  pub kinds : (budget places : ℕ) (kind : Kind) (block vertices : ℕ)
-      → runAnswer p room budget ≡ End places kind block vertices → kind ≡ Place
+  pub kinds : (budget places read : ℕ) (kind : Kind) (block vertices : ℕ)
+      → runAnswer p room budget ≡ End places read kind block vertices → kind ≡ Place
   -- a label that a run asks for is that of an interior point: the boundary has no gap
   pub asks : (budget places position : ℕ) → runAnswer p room budget ≡ Unknown places position
       → isInterior (getD (points (p .grid)) position []) ≡ true

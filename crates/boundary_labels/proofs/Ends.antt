@@ -75,13 +75,13 @@ module _ {p : Problem} (ok : Settled p) (old : List ℕ) (is : p .labels ≡ bou
   path-end : (e : End) → path p .end ≡ some e → e .kind ≡ placeEnd
   path-end e q = let w = last-place ok e q in stops-at-place (w .0) e (w .1) (w .2)
 
-  announced-end : (budget places : ℕ) (kind : Kind) (block vertices : ℕ) (simplex : Simplex)
-      → answer p budget ≡ ended places kind block vertices simplex → kind ≡ placeEnd
+  announced-end : (budget places read : ℕ) (kind : Kind) (block vertices : ℕ) (simplex : Simplex)
+      → answer p budget ≡ ended places read kind block vertices simplex → kind ≡ placeEnd
   unfolding answer
-  announced-end budget places kind block vertices simplex q = go (ltb budget (pathLength p)) (path p .end) refl q
+  announced-end budget places read kind block vertices simplex q = go (ltb budget (pathLength p)) (path p .end) refl q
     where
       go : (b : Bool) (o : Option End) → path p .end ≡ o
-          → cond b (spent budget) (outcome p (path p .visited) o) ≡ ended places kind block vertices simplex
+          → cond b (spent budget) (outcome p (path p .visited) o) ≡ ended places read kind block vertices simplex
           → kind ≡ placeEnd
       go true o e q = absurd-bool (cc)
       go false none e q = absurd-bool (cc)

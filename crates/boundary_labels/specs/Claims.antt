@@ -53,8 +53,8 @@ pub record OverNewTable (p : Problem) : Type 0 where
   -- so the path's end is a place end,
   pub pathEnd : (e : End) → path p .end ≡ some e → e .kind ≡ placeEnd
   -- and so is what a run announces, whatever its budget
-  pub announced : (budget places : ℕ) (kind : Kind) (block vertices : ℕ) (simplex : Simplex)
-      → answer p budget ≡ ended places kind block vertices simplex → kind ≡ placeEnd
+  pub announced : (budget places read : ℕ) (kind : Kind) (block vertices : ℕ) (simplex : Simplex)
+      → answer p budget ≡ ended places read kind block vertices simplex → kind ≡ placeEnd
 
 -- the same of a path that ends
 pub record EndsAtPlace (p : Problem) : Type 0 where

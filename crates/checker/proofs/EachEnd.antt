@@ -19,6 +19,7 @@ use Rattle.grid.proofs.Accepted.{Accepted, accepted, blocks-few}
 use Rattle.grid.specs.Grid.{Grid, Point, dimension, isGridPoint, numIndices}
 use Rattle.grid.specs.Questions.{gridQuestions, question5}
 use Rattle.place.specs.Ends.{Kind, End}
+use Rattle.place.specs.LabelsRead.{labelsRead}
 use Rattle.place.specs.Path.{answer, outcome, announcement, ended, path, pathLength, spent}
 use Rattle.place.specs.Places.{Simplex}
 use Rattle.place.specs.Problem.{Problem}
@@ -85,22 +86,22 @@ module _ {g : Grid} (A : Accepted g) (ys : List Point) (some-point : 1 ≤ lengt
       sym (list-points g (concatMap (λ y. y) ys) (omega (arith, some-index)) (rw as-many (sym long)) (rw as-many few)) ∙ rw same-points on
 
 -- what a run announces is the path's end
-announced-end : (p : Problem) (budget places : ℕ) (kind : Kind) (block vertices : ℕ) (simplex : Simplex) → answer p budget ≡ ended places kind block vertices simplex
+announced-end : (p : Problem) (budget places read : ℕ) (kind : Kind) (block vertices : ℕ) (simplex : Simplex) → answer p budget ≡ ended places read kind block vertices simplex
     → (e : End) × (path p .end ≡ some e) × (block ≡ suc (e .block)) × (simplex ≡ e .simplex)
 unfolding answer
-announced-end p budget places kind block vertices simplex h = go (path p .end) refl h
+announced-end p budget places read kind block vertices simplex h = go (path p .end) refl h
   where
-    go : (o : Option End) → path p .end ≡ o → cond (ltb budget (pathLength p)) (spent budget) (outcome p (path p .visited) o) ≡ ended places kind block vertices simplex
+    go : (o : Option End) → path p .end ≡ o → cond (ltb budget (pathLength p)) (spent budget) (outcome p (path p .visited) o) ≡ ended places read kind block vertices simplex
         → (e : End) × (path p .end ≡ some e) × (block ≡ suc (e .block)) × (simplex ≡ e .simplex)
     go none q h = unended (ltb budget (pathLength p)) h
       where
-        unended : (b : Bool) → cond b (spent budget) (outcome p (path p .visited) none) ≡ ended places kind block vertices simplex
+        unended : (b : Bool) → cond b (spent budget) (outcome p (path p .visited) none) ≡ ended places read kind block vertices simplex
             → (e : End) × (path p .end ≡ some e) × (block ≡ suc (e .block)) × (simplex ≡ e .simplex)
         unended true h = absurd-bool (cc)
         unended false h = absurd-bool (cc)
     go (some e) q h = within (ltb budget (pathLength p)) h
       where
-        within : (b : Bool) → cond b (spent budget) (announcement (pathLength p) e) ≡ ended places kind block vertices simplex
+        within : (b : Bool) → cond b (spent budget) (announcement (pathLength p) (labelsRead (path p .visited)) e) ≡ ended places read kind block vertices simplex
             → (e : End) × (path p .end ≡ some e) × (block ≡ suc (e .block)) × (simplex ≡ e .simplex)
         within true h = absurd-bool (cc)
         within false h = (e, q, (cc), (cc))
@@ -108,8 +109,8 @@ announced-end p budget places kind block vertices simplex h = go (path p .end) r
 -- "Each end we print gets yes"
 pub each-end : (p : Problem) → firstNo (tableQuestions p) ≡ 0 → EachEndGetsYes p
 each-end p questions = record {
-  yes = λ budget places kind block vertices simplex h.
-      let e = announced-end p budget places kind block vertices simplex h in
+  yes = λ budget places read kind block vertices simplex h.
+      let e = announced-end p budget places read kind block vertices simplex h in
       ap (λ (s : Simplex). checkAnswer p.grid p.labels (concatMap (λ y. y) s)) e.3 ∙ end-yes e.0 e.1 ∙ ap (λ (n : ℕ). Yes n) (sym e.2);
 }
   where

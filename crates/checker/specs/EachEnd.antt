@@ -11,5 +11,5 @@ use Rattle.checker.specs.declared.Answer.the-variants.{Yes}
 
 -- whatever the budget, an end that is announced gets yes with its block
 pub record EachEndGetsYes (p : Problem) : Type 0 where
-  pub yes : (budget places : ℕ) (kind : Kind) (block vertices : ℕ) (simplex : Simplex) → answer p budget ≡ ended places kind block vertices simplex
+  pub yes : (budget places read : ℕ) (kind : Kind) (block vertices : ℕ) (simplex : Simplex) → answer p budget ≡ ended places read kind block vertices simplex
       → checkAnswer (p .grid) (p .labels) (concatMap (λ y. y) simplex) ≡ Yes block

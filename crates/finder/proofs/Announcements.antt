@@ -65,8 +65,8 @@ kind-is Place = refl
 kind-is Facet = refl
 
 -- the answer at an end
-module _ (g : GridStruct) (made : IsMade g) (start table : List ℕ) (budget places : ℕ) (kind : Kind) (e : State) (h : ℕ)
-    (A : Announced (problemFrom g start table) budget (endOf kind) (firstOf kind) e h places) where
+module _ (g : GridStruct) (made : IsMade g) (start table : List ℕ) (budget places : ℕ) (kind : Kind) (e : State) (h : ℕ) {read : ℕ}
+    (A : Announced (problemFrom g start table) budget (endOf kind) (firstOf kind) e h places read) where
   pub index : h < g .indices
   index = omega (arith, A .index, made-indices g made)
 
@@ -87,5 +87,5 @@ module _ (g : GridStruct) (made : IsMade g) (start table : List ℕ) (budget pla
   written = rw (A .is, made-indices g made)
 
   pub told : (block vertices : ℕ) → block ≡ suc (blockOf (shape g) h) → vertices ≡ suc (length (e .order)) - firstOf kind
-      → End places kind block vertices ≡ caseOf (answer (problemFrom g start table) budget)
+      → End places read kind block vertices ≡ caseOf (answer (problemFrom g start table) budget)
   told block vertices b q = rw (A .is, b, q, number, kind-is kind)

@@ -26,12 +26,12 @@ use Rattle.finder.proofs.Refusals.{accepted-with-room, answered, by-gri
 -- an answer is told by its case
 case-spent : (a : PathAnswer) (b : ℕ) → caseOf a ≡ Spent b → a ≡ spent b
 case-spent (spent n) b e = let z : n ≡ b = cc in rw z
-case-spent (ended n kind block vertices simplex) b e = absurd (let z : _≡_ {A = ℕ} 0 1 = cc in omega arith)
+case-spent (ended n read kind block vertices simplex) b e = absurd (let z : _≡_ {A = ℕ} 0 1 = cc in omega arith)
 case-spent (unknown n i) b e = absurd (let z : _≡_ {A = ℕ} 0 1 = cc in omega arith)
 
 case-unknown : (a : PathAnswer) (n i : ℕ) → caseOf a ≡ Unknown n i → a ≡ unknown n i
 case-unknown (spent k) n i e = absurd (let z : _≡_ {A = ℕ} 0 1 = cc in omega arith)
-case-unknown (ended k kind block vertices simplex) n i e = absurd (let z : _≡_ {A = ℕ} 0 1 = cc in omega arith)
+case-unknown (ended k read kind block vertices simplex) n i e = absurd (let z : _≡_ {A = ℕ} 0 1 = cc in omega arith)
 case-unknown (unknown k j) n i e = let y : k ≡ n = cc in let z : j ≡ i = cc in rw (y, z)
 
 -- a table that no question refuses is accepted
@@ -64,7 +64,7 @@ module _ (p : Problem) (room : ℕ) (none : refusal p room ≡ 0) where
 
   -- where no place has a gap
   module _ (E : Ended p) where
-    tells-end : (budget : ℕ) → pathLength p ≤ budget → runAnswer p room budget ≡ announcementOf (pathLength p) (E .end)
+    tells-end : (budget : ℕ) → pathLength p ≤ budget → runAnswer p room budget ≡ announcementOf p (E .end)
     tells-end budget l = sym (told budget) ∙ rw (E .announces budget l)
 
     run-ended : RunEnded p room
@@ -102,7 +102,7 @@ run-filling p labels room a b fills = record {
   same = sames;
   sameBuffer = λ budget old e h.
       sym (same q room b budget old e .1) ∙ rw (filled .same budget (asked budget h)) (same p room a budget old e .1);
-  stays = λ budget places kind block vertices e. sames budget (λ n i f. absurd (never _ e f)) ∙ e;
+  stays = λ budget places read kind block vertices e. sames budget (λ n i f. absurd (never _ e f)) ∙ e;
 }
   where
     q : Problem
@@ -119,5 +119,5 @@ run-filling p labels room a b fills = record {
         → runAnswer q room budget ≡ runAnswer p room budget
     sames budget h = sym (told q room b budget) ∙ rw (filled .same budget (asked budget h)) (told p room a budget)
 
-    never : {places block vertices n i : ℕ} {kind : Kind} (r : Answer) → r ≡ End places kind block vertices → r ≡ Unknown n i → ⊥
+    never : {places read block vertices n i : ℕ} {kind : Kind} (r : Answer) → r ≡ End places read kind block vertices → r ≡ Unknown n i → ⊥
     never r e f = let z : _≡_ {A = ℕ} 0 1 = cc in omega arith

@@ -4,7 +4,7 @@ use mathlib.Core.Bool.{true, false, _&&_}
 use mathlib.Core.List.{List, [], map}
 use mathlib.Core.Logic.{⊎-elim}
 use mathlib.Core.Path.{_≡_, refl, sym, ap, _∙_, subst}
-use Prim.Native.Nat.{ℕ, suc, _-_, _≤_, _<_}
+use Prim.Native.Nat.{ℕ, suc, _+_, _-_, _≤_, _<_}
 use borrow.Author.Tests.{eq-eqb, lt-ltb, le-ltb, ne-eqb}
 use lib.Dec.{eqb, ltb}
 use lib.ListN.{length, replicate, set, take}
@@ -22,14 +22,16 @@ use Rattle.grid.specs.Made.{IsMade, shape}
 use Rattle.grid.specs.declared.Grid.{Grid as GridStruct}
 use Rattle.positions.proofs.Positions.{map-front}
 use Rattle.place.proofs.Filled.{FullyLabelled, ends-alike, filled-full, filled-label, filledTable, further-on, gap-answer, known-before}
+use Rattle.place.proofs.LabelsRead.{came-few, came-next, came-none}
 use Rattle.place.proofs.Labels.{label-ok}
 use Rattle.place.proofs.Theorem.{demand3-holds}
 use Rattle.place.specs.Demand.{Accepted, placeAt}
+use Rattle.place.specs.LabelsRead.{cameIn}
 use Rattle.place.specs.Ends.{Kind, placeEnd, facetEnd}
 use Rattle.place.specs.Path.{answer, path, pathLength, spent, unknown}
 use Rattle.place.specs.Places.{allLabelled}
 use Rattle.place.specs.Problem.{Problem, hasLabel, label}
-use Rattle.rules.proofs.Follow.{At, EndsAt, NextAt, nextPlace, placeEnds, facetEnds, at-begin, at-below, at-beside, at-exchanged, at-first, at-next, at-others, at-place, at-reads, at-ready, ends-answer}
+use Rattle.rules.proofs.Follow.{At, EndsAt, NextAt, nextPlace, placeEnds, facetEnds, at-begin, at-below, at-beside, at-exchanged, at-first, at-new, at-next, at-others, at-place, at-reads, at-ready, ends-answer}
 use Rattle.moves.specs.Held.{roundOf, stateOf}
 use Rattle.rules.specs.Mask.{bit}
 use Rattle.rules.specs.Read.{markOf, pointIn, pointsFrom, read, CanCompute, Exchanged, FallsBeside, Falling}
@@ -40,7 +42,7 @@ use Rattle.moves.specs.declared.Outcome.the-variants.{Moved, PlaceEnd, FacetEnd
 use Rattle.moves.specs.declared.Status.{Status}
 use Rattle.marks.specs.Reading.{readingOf, tableOf, CanRead, HasMarks}
 use Rattle.marks.specs.declared.Reading.the-variants.{Marked, Unknown as UnknownLabel}
-use Rattle.finder.specs.Finish.{Announced, CanVisit, Gives, IsBegun, IsKnown, IsUnknown, problemIn, visitOf}
+use Rattle.finder.specs.Finish.{Announced, CanVisit, Gives, IsBegun, IsKnown, IsUnknown, labelsAt, problemIn, visitOf}
 
 -- the ways round the blocks that a made grid keeps
 module _ (g : GridStruct) (made : IsMade g) (sizes : List ℕ) where
@@ -129,6 +131,10 @@ module _ (g : GridStruct) (previous next sizes first coefficients order marks : 
 abbrev pub OnPath : Problem → State → ℕ → Type 0
 OnPath p s k = At (filledTable p) s k × (k < pathLength p)
 
+-- the labels read before the one that place number k asks for, if it asks for one, are those of the moves up to it
+abbrev pub HasRead : Problem → State → ℕ → ℕ → Type 0
+HasRead p s k labels = labels + labelsAt (s .rule) ≡ suc (cameIn (path (filledTable p) .visited) k)
+
 -- where a walk begins
 module _ (g : GridStruct) (made : IsMade g) (first table : List ℕ) (ok : Accepted (problemIn g first table)) where
   pub begins : {round : Round} → IsRound (shape g) round → length first ≡ 16 → (order : List ℕ) (s : Status) → IsBegun first (g .indices) s
@@ -149,6 +155,13 @@ module _ (g : GridStruct) (made : IsMade g) (first table : List ℕ) (ok : Accep
           ⊎-elim (λ (x : k < g .indices). B .zeros k l ∙ rw (lt-ltb k (g .indices) x, lt-ltb k (numIndices (shape g)) (omega (arith, m)), start-at k (omega (arith, m))))
           (λ (x : g .indices ≤ k). B .zeros k l ∙ rw (le-ltb k (g .indices) x, le-ltb k (numIndices (shape g)) (omega (arith, m))))
           (before-or-not k (g .indices))
+
+-- a walk begins with nothing read, and reads no more labels than the places it has come to
+pub begins-reading : (p : Problem) (s : State) → s .rule ≡ 1 → HasRead p s 0 0
+begins-reading p s e = rw (e, came-none (path (filledTable p) .visited)) refl
+
+pub reads-few : (p : Problem) (s : State) (k labels : ℕ) → HasRead p s k labels → labels + labelsAt (s .rule) ≤ suc k
+reads-few p s k labels R = omega (arith, R, came-few (path (filledTable p) .visited) k)
 
 -- one place of the walk: what it needs, and where it leads
 module _ (g : GridStruct) (made : IsMade g) (start table : List ℕ) (ok : Accepted (problemIn g start table)) (s : State) (k : ℕ)
@@ -219,29 +232,35 @@ module _ (g : GridStruct) (made : IsMade g) (start table : List ℕ) (ok : Accep
     pub goes-on : {e : State} → NextAt (filledTable p) k (goes e) → OnPath p e (suc k)
     goes-on (nextPlace B) = (B, further-on ok k (here .1) (own known) (at-below full B))
 
+    pub reads-on : (labels : ℕ) → HasRead p s k labels → {e : State} → NextAt (filledTable p) k (goes e)
+        → HasRead p e (suc k) (labels + labelsAt (s .rule))
+    reads-on labels R (nextPlace B) =
+        let t = path (filledTable p) .visited in
+        rw (came-next t k, at-new full B, R) (omega arith)
+
     -- at an end, that is the answer
-    module _ (budget : ℕ) (round : Round) (first coefficients order marks : List ℕ) (status : Status) (h places : ℕ) (q : places ≡ suc k)
-        (l : k < budget) where
+    module _ (budget : ℕ) (round : Round) (first coefficients order marks : List ℕ) (status : Status) (h places labels : ℕ) (q : places ≡ suc k)
+        (l : k < budget) (R : labels ≡ suc (cameIn (path (filledTable p) .visited) k)) where
       abbrev last : State
       last = stateOf round first coefficients order marks status
 
       announced : (kind : Kind) (from : ℕ) → EndsAt (filledTable p) kind from last h k
-          → Announced p budget kind from (stateOf round first [] order [] status) h places
+          → Announced p budget kind from (stateOf round first [] order [] status) h places labels
       announced kind from E = record {
         firstLength = E .firstLength;
         index = E .index;
         few = E .few;
         low = E .low;
         points = E .points;
-        is = rw q (ends-alike ok k (here .1) (own known) (E .places) budget ∙ ends-answer E budget l);
+        is = rw (q, R) (ends-alike ok k (here .1) (own known) (E .places) budget ∙ ends-answer E budget l);
       }
 
       pub announced-place : NextAt (filledTable p) k (endsAtPlace last h)
-          → Announced p budget placeEnd 0 (stateOf round first [] order [] status) h places
+          → Announced p budget placeEnd 0 (stateOf round first [] order [] status) h places labels
       announced-place (placeEnds E) = announced placeEnd 0 E
 
       pub announced-facet : NextAt (filledTable p) k (endsAtFacet last h)
-          → Announced p budget facetEnd 1 (stateOf round first [] order [] status) h places
+          → Announced p budget facetEnd 1 (stateOf round first [] order [] status) h places labels
       announced-facet (facetEnds E) = announced facetEnd 1 E
 
   -- where the label is not known, it is asked for

@@ -10,6 +10,7 @@ use Rattle.combinatorics.specs.Lists.{concatMap}
 use Rattle.grid.specs.Grid.{Point, bound, position}
 use Rattle.place.specs.Demand.{Demand3, Ended, Fills, NoGap, lastPlace}
 use Rattle.place.specs.Ends.{End as EndOfPath}
+use Rattle.place.specs.LabelsRead.{labelsRead}
 use Rattle.place.specs.Path.{path as pathOf, pathLength}
 use Rattle.place.specs.Places.{unlabelled}
 use Rattle.place.specs.Problem.{Problem, withLabels}
@@ -18,9 +19,10 @@ use Rattle.finder.specs.declared.answers.Answer.{Answer}
 use Rattle.finder.specs.declared.answers.Answer.the-variants.{End, Spent, Unknown}
 use Rattle.finder.specs.declared.answers.Kind.{Kind}
 
--- "the kind, block and complete simplex of the path's end, and the length as the count of simplices visited"; the block counts from 1
-abbrev pub announcementOf : ℕ → EndOfPath → Answer
-announcementOf places e = End places (kindOf (e .kind)) (suc (e .block)) (length (e .simplex))
+-- "the kind, block and complete simplex of the path's end, and the length as the count of simplices visited"; the block counts from 1. Request 10:
+-- with the labels read on the path
+abbrev pub announcementOf : Problem → EndOfPath → Answer
+announcementOf p e = End (pathLength p) (labelsRead (pathOf p .visited)) (kindOf (e .kind)) (suc (e .block)) (length (e .simplex))
 
 -- "A table is accepted if, with its grid, start and answer buffer, a run's questions 1 to 8 are answered yes"; the buffer has `room` numbers
 abbrev pub AcceptedWith : Problem → ℕ → Type 0
@@ -35,11 +37,11 @@ pub record RunEnded (p : Problem) (room : ℕ) : Type 0 where
   -- "one path from the start, which ends", complete for the block named
   pub path : Ended p
   -- "otherwise it announces the kind, block and complete simplex of the path's end, and the length"; its vertices stand in the answer buffer
-  pub announces : (budget : ℕ) → pathLength p ≤ budget → runAnswer p room budget ≡ announcementOf (pathLength p) (path .end)
+  pub announces : (budget : ℕ) → pathLength p ≤ budget → runAnswer p room budget ≡ announcementOf p (path .end)
   pub written : (budget : ℕ) (old : List ℕ) → length old ≡ room → pathLength p ≤ budget
       → runBuffer p budget old ≡ front (vertexNumbers (path .end)) old
   -- "So on every accepted table a budget of the bound's size reaches a complete simplex"
-  pub reaches : runAnswer p room (bound (p .grid)) ≡ announcementOf (pathLength p) (path .end)
+  pub reaches : runAnswer p room (bound (p .grid)) ≡ announcementOf p (path .end)
 
 pub record RunDemand3 (p : Problem) (room : ℕ) : Type 0 where
   -- "has, whatever its labels, one path from the start .. and no simplex stands on it twice .. its length is at most the bound"; it stops at an
@@ -76,8 +78,8 @@ pub record RunFilling (p : Problem) (labels : List ℕ) (room : ℕ) : Type 0 wh
       → ((n i : ℕ) → runAnswer p room budget ≡ Unknown n i → getD labels i 0 ≡ 0)
       → runBuffer (withLabels p labels) budget old ≡ runBuffer p budget old
   -- so an end stays, and the vertices with it
-  pub stays : (budget places : ℕ) (kind : Kind) (block vertices : ℕ) → runAnswer p room budget ≡ End places kind block vertices
-      → runAnswer (withLabels p labels) room budget ≡ End places kind block vertices
+  pub stays : (budget places read : ℕ) (kind : Kind) (block vertices : ℕ) → runAnswer p room budget ≡ End places read kind block vertices
+      → runAnswer (withLabels p labels) room budget ≡ End places read kind block vertices
 
 abbrev pub FillingInOnePiece : Type 0
 FillingInOnePiece = (p : Problem) (labels : List ℕ) (room : ℕ) → AcceptedWith p room → AcceptedWith (withLabels p labels) room

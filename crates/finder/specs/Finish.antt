@@ -1,6 +1,6 @@
 -- What the walk along the path needs of its grid and table, and what it gives. The run's own promise does not cite it.
 -- Assumes nothing.
-use mathlib.Core.Bool.{_&&_}
+use mathlib.Core.Bool.{_&&_, cond}
 use mathlib.Core.List.{List, [], _∷_}
 use mathlib.Core.Path.{_≡_}
 use Prim.Native.Nat.{ℕ, suc, _*_, _≤_, _<_}
@@ -83,6 +83,10 @@ visitOf (OutcomeMoved s) = Moved s
 visitOf (OutcomePlaceEnd h) = PlaceEnd h
 visitOf (OutcomeFacetEnd h) = FacetEnd h
 
+-- the labels that are read at a place: that of the point which has come in; none after rules 6 and 7, by which none does
+abbrev pub labelsAt : ℕ → ℕ
+labelsAt rule = cond (ltb rule 6) 1 0
+
 -- the status at {v}, before the mark of its one point is read
 pub record IsBegun (first : List ℕ) (m : ℕ) (s : Status) : Type 0 where
   pub rule : s .rule ≡ 1
@@ -101,19 +105,19 @@ firstOf Place = 0
 firstOf Facet = 1
 
 -- the state e stands at an end, which is the answer: `places` places, an end of the kind given for the block of h, and
--- as simplex the points of e from number `from` on
-pub record Announced (p : Problem) (budget : ℕ) (kind : KindOfEnd) (from : ℕ) (e : State) (h places : ℕ) : Type 0 where
+-- as simplex the points of e from number `from` on; `labels` labels were read
+pub record Announced (p : Problem) (budget : ℕ) (kind : KindOfEnd) (from : ℕ) (e : State) (h places labels : ℕ) : Type 0 where
   pub firstLength : length (e .first) ≡ 16
   pub index : h < numIndices (p .grid)
   pub few : length (e .order) ≤ dimension (p .grid)
   pub low : from ≤ length (e .order)
   pub points : CanCompute e (length (e .order))
   pub is : answer p budget
-      ≡ ended places kind (suc (blockOf (p .grid) h)) (length (pointsFrom p e from)) (pointsFrom p e from)
+      ≡ ended places labels kind (suc (blockOf (p .grid) h)) (length (pointsFrom p e from)) (pointsFrom p e from)
 
 -- where a walk of at most `budget` places ends, with the first point and the order at the last place in its arrays
 abbrev pub Finished : Problem → ℕ → Round → List ℕ → List ℕ → Finish → Type 0
-Finished p budget round first order (Ended kind places h s) =
-    Announced p budget (endOf kind) (firstOf kind) (stateOf round first [] order [] s) h places × (length order ≡ 16)
+Finished p budget round first order (Ended kind places h s labels) =
+    Announced p budget (endOf kind) (firstOf kind) (stateOf round first [] order [] s) h places labels × (length order ≡ 16)
 Finished p budget round first order (UnknownLabel places place) = answer p budget ≡ unknown places place
 Finished p budget round first order Spent = answer p budget ≡ spent budget

@@ -22,16 +22,17 @@ kindOf facetEnd = Facet
 
 -- "The answer has the places, the kind of end, the block, the number of vertices": the enum's case and values for each
 -- answer of an accepted table. "A budget is called spent by number 9", which "also returns the places visited". Request
--- 02: 16, "with the places visited before it and the point's position in the table returned"
+-- 02: 16, "with the places visited before it and the point's position in the table returned". Request 10: the labels read
+-- stand after the places, and "a refusal gives none".
 abbrev pub caseOf : PathAnswer → Answer
 caseOf (spent n) = Spent n
-caseOf (ended n kind block vertices simplex) = End n (kindOf kind) block vertices
+caseOf (ended n read kind block vertices simplex) = End n read (kindOf kind) block vertices
 caseOf (unknown n position) = Unknown n position
 
 -- "the vertices in rising coefficient sum, m 16-bit numbers each": the numbers that an answer writes
 abbrev pub numbersOf : PathAnswer → List ℕ
 numbersOf (spent n) = []
-numbersOf (ended n kind block vertices simplex) = concatMap (λ y. y) simplex
+numbersOf (ended n read kind block vertices simplex) = concatMap (λ y. y) simplex
 numbersOf (unknown n position) = []
 
 -- the number of the first of questions 1 to 8 that is answered no, or 0

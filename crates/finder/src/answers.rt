@@ -38,9 +38,10 @@ pub enum Answer {
         places: u64,
         position: usize,
     },
-    // The end of the path.
+    // The end of the path, and the labels read up to it.
     End {
         places: u64,
+        labels_read: u64,
         kind: Kind,
         block: u8,
         vertices: usize,
@@ -107,12 +108,14 @@ pub fn announced(
             places,
             index,
             status,
+            labels_read,
         } => {
             let block = block_number(g, index);
             let from = first_vertex(kind);
             let vertices = put_points(answer, &previous, &sizes, &first, &order, status, m, from);
             Answer::End {
                 places,
+                labels_read,
                 kind,
                 block,
                 vertices,

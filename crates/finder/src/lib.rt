@@ -13,4 +13,5 @@ pub use answers::run_on;
 pub use walk::Finish;
 pub use walk::Visited;
 pub use walk::begin;
+pub use walk::labels_at;
 pub use walk::moved;

@@ -7,7 +7,7 @@ ghost use Rattle.moves.specs.Held.{GivesAll, held, round};
 ghost use Rattle.rules.specs.Read.{read};
 ghost use Rattle.rules.specs.Ready.{SixteenEach};
 ghost use Rattle.rules.specs.Step.{Round, State, step as stepOf};
-ghost use Rattle.finder.specs.Finish.{CanVisit, CanWalk, Finished, Gives, IsBegun, problemIn, visitOf};
+ghost use Rattle.finder.specs.Finish.{CanVisit, CanWalk, Finished, Gives, IsBegun, labelsAt, problemIn, visitOf};
 use crate::answers::Kind;
 use grid::Grid;
 use marks::Reading;
@@ -28,14 +28,15 @@ pub enum Visited {
 }
 
 // How a walk ended: at the path's end, after so many places, with an index of the block for which the simplex is
-// complete and the status at the last place; at a place that needs a label not yet known, after so many places before
-// it, with the label's position; or with the budget spent.
+// complete, the status at the last place and the labels read; at a place that needs a label not yet known, after so many
+// places before it, with the label's position; or with the budget spent.
 pub enum Finish {
     Ended {
         kind: Kind,
         places: u64,
         index: usize,
         status: Status,
+        labels_read: u64,
     },
     Unknown {
         places: u64,
@@ -118,6 +119,16 @@ pub fn begin(first: &[u16; 16], m: usize) -> Status
     }
 }
 
+// The labels that are read at a place: that of the point which has come in, if one has.
+pub fn labels_at(s: Status) -> u64
+    ensures { λ r. ⌜ r ≡ labelsAt (s .rule) ⌝ }
+{
+    if s.rule < 6 {
+        return 1;
+    }
+    0
+}
+
 // From {v} to the path's end, or until the budget is spent: the number of places left counts down.
 pub fn walk(
     g: Grid,
@@ -140,6 +151,7 @@ pub fn walk(
     let mut marks = [0u32; 16];
     let mut s = begin(first, g.indices);
     let tails = positions::tails(first, g.indices);
+    let mut labels_read = 0u64;
     let mut left = budget;
     while 0 < left {
         let seen = visit(
@@ -156,6 +168,7 @@ pub fn walk(
             &mut marks,
             s,
         );
+        labels_read += labels_at(s);
         left -= 1;
         match seen {
             Visited::Moved(status) => {
@@ -173,6 +186,7 @@ pub fn walk(
                     places: budget - left,
                     index,
                     status: s,
+                    labels_read,
                 };
             }
             Visited::FacetEnd(index) => {
@@ -181,6 +195,7 @@ pub fn walk(
                     places: budget - left,
                     index,
                     status: s,
+                    labels_read,
                 };
             }
         }

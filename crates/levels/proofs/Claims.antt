@@ -68,7 +68,7 @@ passed r levels buffer room e =
 -- the numbers of an answer are those of its vertices
 pub numbers-are : (a : Answer) → numbersOf a ≡ concatMap (λ y. y) (verticesOf a)
 numbers-are (spent n) = refl
-numbers-are (ended n kind block vertices simplex) = refl
+numbers-are (ended n read kind block vertices simplex) = refl
 numbers-are (unknown n position) = refl
 
 -- a table without gaps, with room for the answer

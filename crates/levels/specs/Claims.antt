@@ -27,7 +27,7 @@ pub record Level (r : Refinement) (i room : ℕ) : Type 0 where
       → runBuffer (levelProblem r i) (bound (levelGrid r i)) old ≡ front (levelNumbers r i) old
   -- no level is spent, and none asks for a label: each announces the end of its path
   pub ended : RunEnded (levelProblem r i) room
-  pub announced : caseOf (levelEnd r i) ≡ announcementOf (pathLength (levelProblem r i)) (ended .path .end)
+  pub announced : caseOf (levelEnd r i) ≡ announcementOf (levelProblem r i) (ended .path .end)
 
 -- what is asked of all levels, and what is said of all
 pub record Levels (r : Refinement) (levels : ℕ) : Type 0 where

@@ -43,7 +43,7 @@ endOf p = answer p (bound (p .grid))
 -- the vertices that an answer has
 abbrev pub verticesOf : Answer → Simplex
 verticesOf (spent n) = []
-verticesOf (ended n kind block vertices simplex) = simplex
+verticesOf (ended n read kind block vertices simplex) = simplex
 verticesOf (unknown n position) = []
 
 -- "the first vertex of the last end"

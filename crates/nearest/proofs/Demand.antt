@@ -72,7 +72,7 @@ near-demand p w room listRoom none = record {
   run = same-run p w room listRoom none;
   answer = λ budget old e. sym (reported p w room listRoom none 0 budget old (replicate listRoom 0) e (length-replicate listRoom 0) .1) ∙ run-is p w room listRoom none budget old e .1;
   alike = λ other given next budget otherRoom n. same-run p w room listRoom none given budget ∙ sym (same-run p other room otherRoom n next budget);
-  ended = λ given budget n block vertices kind e. told p w room listRoom none given budget
+  ended = λ given budget n read block vertices kind e. told p w room listRoom none given budget
       ∙ (let a = at-end p budget (case-is p w room listRoom none budget ∙ e) in rw (a .2));
   spent = λ given budget old e l. let a = demand3-holds (ok p w room listRoom none) .spends budget .1 l in (
     told p w room listRoom none given budget ∙ rw a,

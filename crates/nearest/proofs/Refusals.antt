@@ -96,28 +96,28 @@ module _ (p : Problem) (w : Point) (given budget : ℕ) (old list : List ℕ) wh
   answered e = (rw e, rw e, rw e)
 
 -- an end in the answer is the path's, after all its places
-case-ended : (a : PathAnswer) {n block vertices : ℕ} {kind : Kind} → caseOf a ≡ End n kind block vertices
-    → (k : KindOfEnd) × (s : Simplex) × (a ≡ ended n k block vertices s)
+case-ended : (a : PathAnswer) {n read block vertices : ℕ} {kind : Kind} → caseOf a ≡ End n read kind block vertices
+    → (k : KindOfEnd) × (s : Simplex) × (a ≡ ended n read k block vertices s)
 case-ended (spent m) e = absurd (let z : _≡_ {A = ℕ} 0 1 = cc in omega arith)
 case-ended (unknown m i) e = absurd (let z : _≡_ {A = ℕ} 0 1 = cc in omega arith)
-case-ended (ended m k b v s) {n} {block} {vertices} e =
-    let x : m ≡ n = cc in let y : b ≡ block = cc in let z : v ≡ vertices = cc in (k, s, rw (x, y, z))
+case-ended (ended m l k b v s) {n} {read} {block} {vertices} e =
+    let x : m ≡ n = cc in let w : l ≡ read = cc in let y : b ≡ block = cc in let z : v ≡ vertices = cc in (k, s, rw (x, w, y, z))
 
 case-unknown : (a : PathAnswer) {n i : ℕ} → caseOf a ≡ Unknown n i → a ≡ unknown n i
 case-unknown (spent m) e = absurd (let z : _≡_ {A = ℕ} 0 1 = cc in omega arith)
-case-unknown (ended m k b v s) e = absurd (let z : _≡_ {A = ℕ} 0 1 = cc in omega arith)
+case-unknown (ended m l k b v s) e = absurd (let z : _≡_ {A = ℕ} 0 1 = cc in omega arith)
 case-unknown (unknown m j) {n} {i} e = let x : m ≡ n = cc in let y : j ≡ i = cc in rw (x, y)
 
 module _ (p : Problem) (budget : ℕ) where
   pub at-gap : {n i : ℕ} → caseOf (answer p budget) ≡ Unknown n i → answer p budget ≡ unknown n i
   at-gap e = case-unknown (answer p budget) e
 
-  ended-outcome : {n block vertices : ℕ} {kind : KindOfEnd} {s : Simplex} (places : List Simplex) (e : Option EndOfPath) → outcome p places e ≡ ended n kind block vertices s
+  ended-outcome : {n read block vertices : ℕ} {kind : KindOfEnd} {s : Simplex} (places : List Simplex) (e : Option EndOfPath) → outcome p places e ≡ ended n read kind block vertices s
       → (f : EndOfPath) × (e ≡ some f) × (n ≡ length places)
   ended-outcome places none q = absurd (let z : _≡_ {A = ℕ} 0 1 = cc in omega arith)
   ended-outcome {n} places (some f) q = let x : length places ≡ n = cc in (f, refl, sym x)
 
-  pub ended-is : {n block vertices : ℕ} {kind : KindOfEnd} {s : Simplex} → answer p budget ≡ ended n kind block vertices s
+  pub ended-is : {n read block vertices : ℕ} {kind : KindOfEnd} {s : Simplex} → answer p budget ≡ ended n read kind block vertices s
       → (e : EndOfPath) × (pathOf p .end ≡ some e) × (n ≡ pathLength p)
   unfolding answer
   ended-is e =
@@ -126,8 +126,8 @@ module _ (p : Problem) (budget : ℕ) where
       (λ (l : pathLength p ≤ budget). ended-outcome (pathOf p .visited) (pathOf p .end) (rw (le-ltb budget (pathLength p) l) at e))
       (before-or-not budget (pathLength p))
 
-  pub at-end : {n block vertices : ℕ} {kind : Kind} → caseOf (answer p budget) ≡ End n kind block vertices
-      → (k : KindOfEnd) × (s : Simplex) × (answer p budget ≡ ended n k block vertices s)
+  pub at-end : {n read block vertices : ℕ} {kind : Kind} → caseOf (answer p budget) ≡ End n read kind block vertices
+      → (k : KindOfEnd) × (s : Simplex) × (answer p budget ≡ ended n read k block vertices s)
   at-end e = case-ended (answer p budget) e
 
 -- where it is none, nothing is reported and listed
@@ -135,4 +135,4 @@ pub no-end : (p : Problem) (w : Point) (given : ℕ) (a : PathAnswer) → OneOf 
     → (nearestIn p w given a ≡ Nothing) × (listedIn p w given a ≡ [])
 no-end p w given (spent n) h = (refl, refl)
 no-end p w given (unknown n i) h = (refl, refl)
-no-end p w given (ended n kind block vertices s) h = absurd (⊎-elim (λ e. omega arith) (λ r. ⊎-elim (λ e. omega arith) (λ e. omega arith) r) h)
+no-end p w given (ended n read kind block vertices s) h = absurd (⊎-elim (λ e. omega arith) (λ r. ⊎-elim (λ e. omega arith) (λ e. omega arith) r) h)

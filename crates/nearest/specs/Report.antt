@@ -25,14 +25,14 @@ nearRefusal p w room listRoom = firstNo (nearQuestions p w room listRoom)
 -- "report the table position of the visited vertex nearest to it", with the number of those listed. "A refusal returns
 -- its number and no count": 9 and 16, with which no end is reached, report none
 abbrev pub nearestIn : Problem → Point → ℕ → PathAnswer → Nearest
-nearestIn p w given (ended n kind block vertices simplex) =
+nearestIn p w given (ended n read kind block vertices simplex) =
     Vertex (position (p .grid) (nearestVertex p w)) (length (positionsWithin p w given))
 nearestIn p w given (spent n) = Nothing
 nearestIn p w given (unknown n i) = Nothing
 
 -- "list all visited vertices within a given distance"
 abbrev pub listedIn : Problem → Point → ℕ → PathAnswer → List ℕ
-listedIn p w given (ended n kind block vertices simplex) = positionsWithin p w given
+listedIn p w given (ended n read kind block vertices simplex) = positionsWithin p w given
 listedIn p w given (spent n) = []
 listedIn p w given (unknown n i) = []
 

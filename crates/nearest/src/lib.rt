@@ -79,6 +79,7 @@ fn run_on(
     let run = announced(g, &binomials, start, labels, answer, budget);
     let Answer::End {
         places,
+        labels_read: _,
         kind: _,
         block: _,
         vertices: _,

@@ -74,7 +74,7 @@ module _ (g : GridStruct) (made : IsMade g) where
             whole = rw (n, m) (f .2);
           })
 
-      pub end-printed : (places b block : ℕ) (k kind : Kind) → b ≡ bound (shape g) → k ≡ kind
-          → endSheet places b k block (rows vertices (length (take (g .indices) array)) buffer) (take (g .indices) array)
-          ≡ endSheet places (bound (shape g)) kind block (rows vertices (numIndices (shape g)) buffer) (indexDivisions (shape g))
-      end-printed places b block k kind e f = rw (e, f, divisions-taken, length-indexDivisions, made-indices g made)
+      pub end-printed : (places read b block : ℕ) (k kind : Kind) → b ≡ bound (shape g) → k ≡ kind
+          → endSheet places read b k block (rows vertices (length (take (g .indices) array)) buffer) (take (g .indices) array)
+          ≡ endSheet places read (bound (shape g)) kind block (rows vertices (numIndices (shape g)) buffer) (indexDivisions (shape g))
+      end-printed places read b block k kind e f = rw (e, f, divisions-taken, length-indexDivisions, made-indices g made)

@@ -226,5 +226,5 @@ module _ (before labels filling : List ℕ) (F : FilledSlip before labels fillin
   pub sheet-filling : SheetFilling before labels filling
   sheet-filling = record {
     same = λ h. same-sheet (filled .same (slipBudget old) h);
-    stays = λ n e r. same-sheet (filled .stays (slipBudget old) n e r ∙ sym r);
+    stays = λ n read e r. same-sheet (filled .stays (slipBudget old) n read e r ∙ sym r);
   }

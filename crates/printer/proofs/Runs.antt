@@ -50,27 +50,27 @@ module _ (p : Problem) (budget : ℕ) (old : List ℕ) (large : length old ≡ r
 
   refused : (buffer : List ℕ) (n : ℕ) → Prints (Refused n) buffer (refusedSheet n)
   unfolding printed
-  refused buffer n = (refl, record { end = λ places kind block vertices e. absurd (let z : _≡_ {A = ℕ} 0 1 = cc in omega arith) })
+  refused buffer n = (refl, record { end = λ places read kind block vertices e. absurd (let z : _≡_ {A = ℕ} 0 1 = cc in omega arith) })
 
   spends : (buffer : List ℕ) (n : ℕ) → Prints (Spent n) buffer (spentSheet n)
   unfolding printed
-  spends buffer n = (refl, record { end = λ places kind block vertices e. absurd (let z : _≡_ {A = ℕ} 0 1 = cc in omega arith) })
+  spends buffer n = (refl, record { end = λ places read kind block vertices e. absurd (let z : _≡_ {A = ℕ} 0 1 = cc in omega arith) })
 
   unknowns : (buffer : List ℕ) (n i : ℕ) → Prints (Unknown n i) buffer (unknownSheet n i)
   unfolding printed
-  unknowns buffer n i = (refl, record { end = λ places kind block vertices e. absurd (let z : _≡_ {A = ℕ} 0 1 = cc in omega arith) })
+  unknowns buffer n i = (refl, record { end = λ places read kind block vertices e. absurd (let z : _≡_ {A = ℕ} 0 1 = cc in omega arith) })
 
   -- an end with a simplex of the grid
-  ends : (places : ℕ) (kind : KindOfEnd) (block : ℕ) (s : Simplex) → suc (dimension (p .grid)) ≤ 16 → suc (dimension (p .grid)) * numIndices (p .grid) ≤ room → IsSimplex p s
-      → Prints (End places (kindAnswered kind) block (length s)) (front (concatMap (λ y. y) s) old) (answerSheet (p .grid) (ended places kind block (length s) s))
+  ends : (places read : ℕ) (kind : KindOfEnd) (block : ℕ) (s : Simplex) → suc (dimension (p .grid)) ≤ 16 → suc (dimension (p .grid)) * numIndices (p .grid) ≤ room → IsSimplex p s
+      → Prints (End places read (kindAnswered kind) block (length s)) (front (concatMap (λ y. y) s) old) (answerSheet (p .grid) (ended places read kind block (length s) s))
   unfolding printed front
-  ends places kind block s few small i =
+  ends places read kind block s few small i =
       let m = numIndices (p .grid) in
       let a = m-numbers (p .grid) s (i .onGrid) in
       let l = rows-length m s a in
       let le : length s * m ≤ room = omega (arith, mul-le-mul-right m (i .few)) in
       let w : length (front (concatMap (λ y. y) s) old) ≡ room = front-length (concatMap (λ y. y) s) old (omega (arith, l, large)) ∙ large in
-      (rw (kind-same kind, rows-of m s (drop (length (concatMap (λ y. y) s)) old) a), record { end = λ places kind block vertices e. let v : vertices ≡ length s = cc in rw v (i .some, omega (arith, i .few), omega (arith, w)) })
+      (rw (kind-same kind, rows-of m s (drop (length (concatMap (λ y. y) s)) old) a), record { end = λ places read kind block vertices e. let v : vertices ≡ length s = cc in rw v (i .some, omega (arith, i .few), omega (arith, w)) })
 
   module _ (unrefused : refusal p room ≡ 0) where
     grid-yes : firstNo (gridQuestions (p .grid)) ≡ 0
@@ -95,7 +95,7 @@ module _ (p : Problem) (budget : ℕ) (old : List ℕ) (large : length old ≡ r
         stopped l few (some e) q s =
             let E = demand3-holds (accepted .0) .ended (gapless (accepted .0) .1 (e, q)) in
             rw (E .announces budget l)
-            (ends (pathLength p) (E .end .kind) (suc (E .end .block)) (E .end .simplex) few (accepted .1) (end-simplex p (accepted .0 .settled) (E .isPath)))
+            (ends (pathLength p) _ (E .end .kind) (suc (E .end .block)) (E .end .simplex) few (accepted .1) (end-simplex p (accepted .0 .settled) (E .isPath)))
         stopped l few none q (atGap y g) = rw (demand3-holds (accepted .0) .asks y g budget l) (unknowns _ _ _)
 
   pub run-prints : Prints (runAnswer p (length old) budget) (runBuffer p budget old) (runSheet p budget)

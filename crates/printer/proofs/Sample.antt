@@ -5,6 +5,7 @@ use Rattle.questions.specs.Questions.{firstNo}
 use Rattle.grid.specs.Grid.{next, previous, isGridPoint, points, bound}
 use Rattle.place.specs.Coefficients.{coefficients}
 use Rattle.place.specs.Ends.{isComplete, completeFor, placeEnds, facetEnds, ends, ways}
+use Rattle.place.specs.LabelsRead.{cameIn, labelsRead}
 use Rattle.place.specs.Links.{exchanged, extended, linked, links}
 use Rattle.place.specs.Path.{waysOn, path, answer}
 use Rattle.place.specs.Places.{
@@ -42,5 +43,5 @@ use Rattle.printer.specs.Printed.{sheetOf}
 use Rattle.printer.specs.Sample.{sampleSlip, sampleSheet}
 
 sample : sheetOf sampleSlip ≡ sampleSheet
-unfolding flatMap firstNo next previous isGridPoint points bound coefficients isComplete completeFor placeEnds facetEnds ends ways exchanged extended linked links waysOn path answer setU setT labelSet firstBackOutside goesTo grownAt everyBlockFree isUnlabelledPlace isPlace places label number words isMap stands fieldLength fieldAt defaultCoordinate slipStart slipBudget labelField slipGame slipLosses slipLabels isNearest rounded centre digits decimal spaced vertexLine centreLine endSheet sheetOf
+unfolding flatMap firstNo next previous isGridPoint points bound coefficients isComplete completeFor placeEnds facetEnds ends ways exchanged extended linked links waysOn path cameIn labelsRead answer setU setT labelSet firstBackOutside goesTo grownAt everyBlockFree isUnlabelledPlace isPlace places label number words isMap stands fieldLength fieldAt defaultCoordinate slipStart slipBudget labelField slipGame slipLosses slipLabels isNearest rounded centre digits decimal spaced vertexLine centreLine endSheet sheetOf
 sample = refl

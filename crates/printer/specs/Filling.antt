@@ -28,6 +28,6 @@ pub record SheetFilling (before labels filling : List ℕ) : Type 0 where
   pub same : ((n i : ℕ) → answer (slipProblem (before ++ labels)) (slipBudget (before ++ labels)) ≡ unknown n i
       → getD filling i 0 ≡ 0)
       → sheetOf (before ++ filling) ≡ sheetOf (before ++ labels)
-  pub stays : (n : ℕ) (e : End)
-      → answer (slipProblem (before ++ labels)) (slipBudget (before ++ labels)) ≡ announcement n e
+  pub stays : (n read : ℕ) (e : End)
+      → answer (slipProblem (before ++ labels)) (slipBudget (before ++ labels)) ≡ announcement n read e
       → sheetOf (before ++ filling) ≡ sheetOf (before ++ labels)

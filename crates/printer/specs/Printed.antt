@@ -25,7 +25,8 @@ kindOf facetEnd = Facet
 abbrev pub answerSheet : Grid → Answer → List ℕ
 answerSheet g (spent places) = spentSheet places
 answerSheet g (unknown places place) = unknownSheet places place
-answerSheet g (ended places kind block vertices simplex) = endSheet places (bound g) (kindOf kind) block simplex (indexDivisions g)
+answerSheet g (ended places read kind block vertices simplex) =
+    endSheet places read (bound g) (kindOf kind) block simplex (indexDivisions g)
 
 -- "The kiosk program reads a slip from standard input. For the bytes .. it prints": a slip asks 13, 1 to 4, 14,
 -- 15, 11, 5, 7, and then runs, and "A refusal prints one line"

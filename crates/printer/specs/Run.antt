@@ -38,11 +38,13 @@ unfoldable pub printed : Grid → Answer → List ℕ → List ℕ
 printed g (Refused number) buffer = refusedSheet number
 printed g (Spent places) buffer = spentSheet places
 printed g (Unknown places place) buffer = unknownSheet places place
-printed g (End places kind block vertices) buffer = endSheet places (bound g) (onSheet kind) block (rows vertices (numIndices g) buffer) (indexDivisions g)
+printed g (End places read kind block vertices) buffer =
+    endSheet places read (bound g) (onSheet kind) block (rows vertices (numIndices g) buffer) (indexDivisions g)
 
 -- the vertices of an answer are at least one, at most 16, and all in the buffer
 pub record Fits (g : Grid) (answer : Answer) (buffer : List ℕ) : Type 0 where
-  pub end : (places : ℕ) (kind : Kind) (block vertices : ℕ) → answer ≡ End places kind block vertices → (1 ≤ vertices) × (vertices ≤ 16) × (vertices * numIndices g ≤ length buffer)
+  pub end : (places read : ℕ) (kind : Kind) (block vertices : ℕ) → answer ≡ End places read kind block vertices
+      → (1 ≤ vertices) × (vertices ≤ 16) × (vertices * numIndices g ≤ length buffer)
 
 -- what a call has printed: how many bytes, and that they stand at the front
 pub record Prints (sheet old : List ℕ) (count : ℕ) (new : List ℕ) : Type 0 where

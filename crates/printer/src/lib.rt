@@ -51,6 +51,7 @@ fn print_answer(answer: Answer, grid: Grid, buffer: &[u16], sheet: &mut [u8; 409
         Answer::Unknown { places, position } => sheet::unknown(sheet, places, position as u64),
         Answer::End {
             places,
+            labels_read,
             kind,
             block,
             vertices,
@@ -62,6 +63,7 @@ fn print_answer(answer: Answer, grid: Grid, buffer: &[u16], sheet: &mut [u8; 409
             sheet::ended(
                 sheet,
                 places,
+                labels_read,
                 bound,
                 kind,
                 block,

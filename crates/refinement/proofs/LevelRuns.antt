@@ -34,7 +34,7 @@ pub not-end : (a : Answer) → OneOf (0 ∷ 1 ∷ 2 ∷ []) (tagOf the-type a) �
 not-end (Refused number) h = refl
 not-end (Spent places) h = refl
 not-end (Unknown places position) h = refl
-not-end (End places kind block vertices) h =
+not-end (End places read kind block vertices) h =
     absurd (⊎-elim (λ e. omega arith) (λ r. ⊎-elim (λ e. omega arith) (λ e. omega arith) r) h)
 
 module _ (g : GridStruct) (start losses : List ℕ) (labelRoom room : ℕ) (ok : CanRun g start losses labelRoom room)

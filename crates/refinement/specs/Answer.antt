@@ -24,16 +24,23 @@ lentGame g start losses k = record { grid = g; start = start; losses = losses; f
 
 -- behind the last level
 abbrev pub noLevel : Level
-noLevel = record { places = 0; kind = Place; block = 0; vertices = 0 }
+noLevel = record { places = 0; «labels_read» = 0; kind = Place; block = 0; vertices = 0 }
 
--- "The result has each level's places, kind of end, block and number of vertices". The other cases of a run are none of
+-- "The result has each level's places, kind of end, block and number of vertices"; request 10: "for each level of a
+-- refinement too" it gains the labels read. The other cases of a run are none of
 -- a level's
 -- (`announced` of `Level`, levels/specs/Claims).
 abbrev pub levelOf : Answer → Level
 levelOf (RunRefused number) = noLevel
 levelOf (Spent places) = noLevel
 levelOf (Unknown places position) = noLevel
-levelOf (End places kind block vertices) = record { places = places; kind = kind; block = block; vertices = vertices }
+levelOf (End places read kind block vertices) = record {
+  places = places;
+  «labels_read» = read;
+  kind = kind;
+  block = block;
+  vertices = vertices;
+}
 
 -- entry i of the array
 abbrev pub entryOf : Refinement → ℕ → ℕ → Level

@@ -14,6 +14,7 @@ mod runs;
 // A level's answer.
 pub struct Level {
     pub places: u64,
+    pub labels_read: u64,
     pub kind: Kind,
     pub block: u8,
     pub vertices: usize,
@@ -34,6 +35,7 @@ fn no_level() -> Level
     let kind = Kind::Place;
     Level {
         places: 0,
+        labels_read: 0,
         kind,
         block: 0,
         vertices: 0,

@@ -70,11 +70,13 @@ fn run_level(
     match found {
         Answer::End {
             places,
+            labels_read,
             kind,
             block,
             vertices,
         } => Level {
             places,
+            labels_read,
             kind,
             block,
             vertices,

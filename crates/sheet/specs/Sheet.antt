@@ -9,6 +9,7 @@ use Rattle.text.specs.Line.{spaced, newline, line}
 use Rattle.sheet.specs.Lists.{below}
 use Rattle.sheet.specs.Words.{
   placesWord,
+  labelsReadWord,
   boundWord,
   endWord,
   placeWord,
@@ -45,10 +46,11 @@ unfoldable pub centreLine : List (List ℕ) → List ℕ → List ℕ
 centreLine vertices divisions =
     centreWord ++ flatMap (λ h. spaced (centreAt vertices divisions h)) (below (length divisions)) ++ newline
 
--- "it prints": the sheet of an end
-unfoldable pub endSheet : ℕ → ℕ → Kind → ℕ → List (List ℕ) → List ℕ → List ℕ
-endSheet places bound kind block vertices divisions =
+-- "it prints": the sheet of an end. Request 10: "the sheet gain[s] 'labels read' after 'places'"; the sheets of refusals, below, do not.
+unfoldable pub endSheet : ℕ → ℕ → ℕ → Kind → ℕ → List (List ℕ) → List ℕ → List ℕ
+endSheet places read bound kind block vertices divisions =
     line placesWord places
+    ++ line labelsReadWord read
     ++ line boundWord bound
     ++ endLine kind
     ++ line blockWord block

@@ -6,6 +6,10 @@ use Prim.Native.Nat.{ℕ}
 abbrev pub placesWord : List ℕ
 placesWord = 112 ∷ 108 ∷ 97 ∷ 99 ∷ 101 ∷ 115 ∷ []
 
+-- "labels read", with the blank between
+abbrev pub labelsReadWord : List ℕ
+labelsReadWord = 108 ∷ 97 ∷ 98 ∷ 101 ∷ 108 ∷ 115 ∷ 32 ∷ 114 ∷ 101 ∷ 97 ∷ 100 ∷ []
+
 -- "bound"
 abbrev pub boundWord : List ℕ
 boundWord = 98 ∷ 111 ∷ 117 ∷ 110 ∷ 100 ∷ []

@@ -55,6 +55,7 @@ pub fn unknown(out: &mut [u8; 4096], places: u64, position: u64) -> usize
 pub fn ended(
     out: &mut [u8; 4096],
     places: u64,
+    labels_read: u64,
     bound: u64,
     kind: Kind,
     block: u8,
@@ -64,10 +65,11 @@ pub fn ended(
 ) -> usize
     requires { ⌜ Printable count (now vertices) (now divisions) ⌝ }
     ensures { λ r. ⌜ (let simplex = rows count (length (now (divisions .entry))) (now (vertices .entry)) in
-        let sheet = endSheet places bound kind block simplex (now (divisions .entry)) in
+        let sheet = endSheet places «labels_read» bound kind block simplex (now (divisions .entry)) in
         (r ≡ length sheet) × (now (out .exit) ≡ front sheet (now (out .entry)))) ⌝ }
 {
     let mut next = labelled(out, 0, b"places", places);
+    next = labelled(out, next, b"labels read", labels_read);
     next = labelled(out, next, b"bound", bound);
     next = end_line(out, next, kind);
     next = labelled(out, next, b"block", block as u64);

@@ -6,24 +6,26 @@ use Prim.Native.Nat.{ℕ}
 use lib.ListN.{drop, length}
 use Rattle.grid.specs.declared.Grid.{Grid as GridStruct}
 use Rattle.moves.specs.declared.Status.{Status}
+use Rattle.place.specs.LabelsRead.{cameIn}
 use Rattle.place.specs.Places.{Simplex}
 use Rattle.rules.specs.Step.{State}
-use Rattle.trail.specs.Trail.{rebuiltFrom}
+use Rattle.trail.specs.Trail.{placesFrom, rebuiltFrom}
 use Rattle.trail_places.specs.Shows.{Shows}
 use Rattle.trail_steps.specs.Ways.{HasRead, problemBy}
 use Rattle.trail_following.specs.declared.Reached.{Reached}
 use Rattle.trail_following.specs.declared.Reached.the-variants.{At, Nowhere}
 
--- the place that the records lead to, in a state
-pub record Rebuilds (g : GridStruct) (start bytes : List ℕ) (a : Simplex) (number : ℕ) (order : List ℕ) (s : State) (count : ℕ) : Type 0 where
+-- the place that the records lead to, in a state, and how many of them bring a point in
+pub record Rebuilds (g : GridStruct) (start bytes : List ℕ) (a : Simplex) (number : ℕ) (order : List ℕ) (s : State) (count came : ℕ) : Type 0 where
   pub place : Simplex
   pub shows : Shows (problemBy g start) place s
   pub sixteen : length order ≡ 16
   pub many : length (s .order) ≡ count
   pub is : rebuiltFrom (problemBy g start) number a bytes ≡ some place
+  pub brought : came ≡ cameIn (placesFrom (problemBy g start) number a bytes) number
 
 abbrev pub Reaches : GridStruct → List ℕ → List ℕ → Simplex → ℕ → List ℕ → (Status → State) → Reached → Type 0
-Reaches g start bytes a number order s (At status) = Rebuilds g start bytes a number order (s status) (status .count)
+Reaches g start bytes a number order s (At status came) = Rebuilds g start bytes a number order (s status) (status .count) came
 Reaches g start bytes a number order s Nowhere = rebuiltFrom (problemBy g start) number a bytes ≡ none
 
 -- from whatever place the arrays held

@@ -1,6 +1,7 @@
 // The records of a trail behind the first, one after another. What is public here is for the reader, which shows what it asks.
 ghost use mathlib.Core.Path.{_≡_};
-ghost use lib.ListN.{length};
+ghost use Prim.Native.Nat.{_%_, _≤_, _<_};
+ghost use lib.ListN.{getD, length};
 ghost use Rattle.moves.specs.Held.{held, round, stateOf};
 ghost use Rattle.rules.specs.Step.{State};
 ghost use Rattle.trail_steps.specs.Ways.{CanGoOn};
@@ -11,10 +12,19 @@ use positions::ENTRIES;
 use trail_steps::Next;
 use trail_steps::next_place;
 
-// Where the records lead: to a place, or nowhere.
+// Where the records lead: to a place, with the number of them that bring a point in; or nowhere.
 pub enum Reached {
-    At(Status),
+    At { status: Status, came: u64 },
     Nowhere,
+}
+
+// Bit 0 of the byte at a position, which stands in a record's map byte if the record brings a point in.
+fn low_bit(trail: &[u8], at: usize) -> u64
+    requires { ⌜ at < length (now trail) ⌝ }
+    ensures { λ r. ⌜ (r ≡ getD (now (trail .entry)) at 0 % 2) × (r ≤ 1) ⌝ }
+{
+    let byte = trail[at];
+    (byte % 2) as u64
 }
 
 // The place to which the next records lead from the place in the arrays. The number of records left counts down.
@@ -43,6 +53,7 @@ pub fn follow(
 {
     let mut s = begun;
     let mut at = from;
+    let mut came = 0u64;
     let mut left = number;
     while 0 < left {
         let step = next_place(
@@ -63,6 +74,7 @@ pub fn follow(
         match step {
             Next::At { status, bytes } => {
                 s = status;
+                came += low_bit(trail, at);
                 at += bytes;
             }
             Next::Nowhere => {
@@ -71,5 +83,5 @@ pub fn follow(
         }
         left -= 1;
     }
-    Reached::At(s)
+    Reached::At { status: s, came }
 }

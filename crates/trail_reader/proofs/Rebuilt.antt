@@ -4,7 +4,7 @@ use mathlib.Core.Bool.{Bool, true, false, cond}
 use mathlib.Core.List.{List, [], _∷_, _++_, map}
 use mathlib.Core.Option.{Option, none, some}
 use mathlib.Core.Path.{_≡_, refl, sym, ap, _∙_}
-use Prim.Native.Nat.{ℕ, zero, suc, _-_, _*_, _≤_, _<_}
+use Prim.Native.Nat.{ℕ, zero, suc, _+_, _-_, _*_, _≤_, _<_}
 use borrow.Author.Tests.{eq-eqb, ne-eqb}
 use lib.Dec.{eqb}
 use lib.ListN.{drop, length, length-append, length-replicate, length-take, replicate, take}
@@ -23,6 +23,7 @@ use Rattle.grid.specs.declared.Grid.{Grid as GridStruct}
 use Rattle.moves.specs.Held.{roundOf, stateOf}
 use Rattle.moves.specs.declared.Status.{Status}
 use Rattle.place.specs.Demand.{Settled}
+use Rattle.place.specs.LabelsRead.{cameIn, labelsRead}
 use Rattle.place.specs.Places.{Simplex, setT, setU}
 use Rattle.place.specs.Problem.{Problem, withLabels}
 use Rattle.questions.proofs.Answers.{asked-next, asked-no}
@@ -34,7 +35,8 @@ use Rattle.rules.specs.Step.{State}
 use Rattle.trail.proofs.Tables.{some-index, some-table}
 use Rattle.trail.proofs.Tells.{begins-with}
 use Rattle.trail.specs.Record.{startRecord}
-use Rattle.trail.specs.Trail.{Reading as TrailReading, begins, noRecord, placed, reading, rebuilt, rebuiltFrom}
+use Rattle.trail.proofs.LabelsRead.{read-from}
+use Rattle.trail.specs.Trail.{Reading as TrailReading, begins, noRecord, placed, placesFrom, reading, rebuilt, rebuiltFrom, rebuiltPlaces}
 use Rattle.trail_places.proofs.Shows.{describes, shows-long}
 use Rattle.trail_places.specs.Shows.{Shows}
 use Rattle.trail_steps.proofs.Arrived.{mask-T, mask-U}
@@ -76,9 +78,13 @@ module _ (p : Problem) (bytes : List ℕ) where
       unfolding reading
       reads-none e = rw (behind ∙ e)
 
-      pub reads-place : (b : Simplex) → rebuiltFrom p before (p .start ∷ []) (drop 3 bytes) ≡ some b → reading p bytes number ≡ placed b (setT p b) (setU (p .grid) b)
-      unfolding reading
-      reads-place b e = rw (behind ∙ e)
+      pub reads-place : (b : Simplex) → rebuiltFrom p before (p .start ∷ []) (drop 3 bytes) ≡ some b → (came : ℕ)
+          → came ≡ cameIn (placesFrom p before (p .start ∷ []) (drop 3 bytes)) before → reading p bytes number ≡ placed (came + 1) b (setT p b) (setU (p .grid) b)
+      unfolding reading startRecord
+      reads-place b e came f =
+          let read = ap (λ (n : ℕ). labelsRead (rebuiltPlaces p bytes n)) one-more ∙ read-from p bytes before starts in
+          let z : came + 1 ≡ suc came = omega arith in
+          rw (behind ∙ e, read, z, f) refl
 
 -- the place that a state holds
 module _ {p : Problem} (ok : Settled p) {b : Simplex} {s : State} (S : Shows p b s) where
@@ -98,26 +104,27 @@ module _ {p : Problem} (ok : Settled p) {b : Simplex} {s : State} (S : Shows p b
       let few : suc (length (s .order)) ≤ 16 = omega (arith, S .orderLength, shows-few ok S) in
       mul-le-mul few l
 
-  pub case-is : s .T < 65536 → s .U < 65536 → Place (suc (length (s .order))) (s .T) (s .U) ≡ caseOf (placed b (setT p b) (setU (p .grid) b))
-  case-is t u =
+  pub case-is : (read : ℕ) → s .T < 65536 → s .U < 65536
+      → Place (suc (length (s .order))) (s .T) (s .U) read ≡ caseOf (placed read b (setT p b) (setU (p .grid) b))
+  case-is read t u =
       let n : suc (length (s .order)) ≡ length b = omega (arith, S .orderLength, shows-long S) in
       rw (n, ← mask-is (mask-T ok S) t, ← mask-is (mask-U ok S) u)
 
-  pub numbers-are : (m : ℕ) → m ≡ numIndices (p .grid) → numbersFrom m s 0 ≡ numbersOf (placed b (setT p b) (setU (p .grid) b))
-  numbers-are m e = rw e (ap (concatMap (λ y. y)) points-are)
+  pub numbers-are : (read m : ℕ) → m ≡ numIndices (p .grid) → numbersFrom m s 0 ≡ numbersOf (placed read b (setT p b) (setU (p .grid) b))
+  numbers-are read m e = rw e (ap (concatMap (λ y. y)) points-are)
 
 pub minus-none : (n : ℕ) → n - 0 ≡ n
 minus-none n = omega arith
 
 -- so the reader's answer is that of the place
 pub reads-by : (g : GridStruct) → IsMade g → (start trail : List ℕ) (number : ℕ) → Settled (problemBy g start) → (b : Simplex)
-    (previous next sizes first coefficients order marks : List ℕ) (status : Status)
+    (previous next sizes first coefficients order marks : List ℕ) (status : Status) (labels : ℕ)
     → Shows (problemBy g start) b (stateOf (roundOf previous next sizes) first coefficients order marks status) → (r : Reading)
-    → IsPlace (stateOf (roundOf previous [] sizes) first [] order [] status) (g .indices) status r
-    → reading (problemBy g start) trail number ≡ placed b (setT (problemBy g start) b) (setU (shape g) b) → Reads g start trail number r
-reads-by g made start trail number ok b previous next sizes first coefficients order marks status S r I e = record {
-  answer = I .answer ∙ case-is ok S (I .lowT) (I .lowU) ∙ ap caseOf (sym e);
-  points = I .points ∙ ap (λ (l : List ℕ). front l (replicate 256 0)) (numbers-are ok S (g .indices) (made-indices g made))
+    → IsPlace (stateOf (roundOf previous [] sizes) first [] order [] status) (g .indices) status labels r
+    → reading (problemBy g start) trail number ≡ placed labels b (setT (problemBy g start) b) (setU (shape g) b) → Reads g start trail number r
+reads-by g made start trail number ok b previous next sizes first coefficients order marks status labels S r I e = record {
+  answer = I .answer ∙ case-is ok S labels (I .lowT) (I .lowU) ∙ ap caseOf (sym e);
+  points = I .points ∙ ap (λ (l : List ℕ). front l (replicate 256 0)) (numbers-are ok S labels (g .indices) (made-indices g made))
       ∙ ap (λ (x : TrailReading). front (numbersOf x) (replicate 256 0)) (sym e);
 }
 
@@ -191,7 +198,7 @@ module _ (p : Problem) (bytes : List ℕ) (number : ℕ) where
         go noRecord q =
             let w = by-number 17 (λ z. omega arith) (no-place (ap isPlaced q)) in
             (ap caseOf q ∙ w .0, ap (λ (r : TrailReading). front (numbersOf r) (replicate 256 0)) q ∙ front-none (replicate 256 0) ∙ w .1)
-        go (placed b T U) q = answered (a-place (ap isPlaced q))
+        go (placed read b T U) q = answered (a-place (ap isPlaced q))
 
 -- bytes that begin with a record are no fewer
 begins-long : (r bytes : List ℕ) → begins r bytes ≡ true → length r ≤ length bytes

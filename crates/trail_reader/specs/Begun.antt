@@ -30,9 +30,9 @@ pub record CanRebuild (g : GridStruct) (round : Round) (binomials first : List �
   pub firstLength : length first ≡ 16
   pub settled : Settled (problemBy g (take (g .indices) first))
 
--- the place that a state holds, with masks of 16 bits
-pub record IsPlace (a : State) (m : ℕ) (s : Status) (r : Reading) : Type 0 where
-  pub answer : r .answer ≡ Place (suc (length (a .order))) (s .t) (s .u)
+-- the place that a state holds, with masks of 16 bits and the labels read
+pub record IsPlace (a : State) (m : ℕ) (s : Status) (labels : ℕ) (r : Reading) : Type 0 where
+  pub answer : r .answer ≡ Place (suc (length (a .order))) (s .t) (s .u) labels
   pub lowT : s .t < 65536
   pub lowU : s .u < 65536
   pub points : r .points ≡ front (numbersFrom m a 0) (replicate 256 0)

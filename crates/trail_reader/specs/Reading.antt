@@ -25,7 +25,7 @@ maskOf set = maskFrom set 0 16
 -- "the reader gives 17, after 5, when there is no such record, or when .."
 abbrev pub isPlaced : TrailReading → Bool
 isPlaced noRecord = false
-isPlaced (placed points T U) = true
+isPlaced (placed read points T U) = true
 
 abbrev pub question17 : Problem → List ℕ → ℕ → Question
 question17 p bytes number = ask 17 (isPlaced (reading p bytes number))
@@ -37,15 +37,15 @@ startQuestions p = gridQuestions (p .grid) ++ (question5 (p .grid) (p .start) �
 abbrev pub readQuestions : Problem → List ℕ → ℕ → List Question
 readQuestions p bytes number = startQuestions p ++ (question17 p bytes number ∷ [])
 
--- "rebuilds the place at that record": how many points it has, T and U; the points' numbers, in rising coefficient sum,
--- m each
+-- "rebuilds the place at that record": how many points it has, T and U, and request 10's labels read; the points'
+-- numbers, in rising coefficient sum, m each
 abbrev pub caseOf : TrailReading → Answer
 caseOf noRecord = Refused 17
-caseOf (placed points T U) = Place (length points) (maskOf T) (maskOf U)
+caseOf (placed read points T U) = Place (length points) (maskOf T) (maskOf U) read
 
 abbrev pub numbersOf : TrailReading → List ℕ
 numbersOf noRecord = []
-numbersOf (placed points T U) = concatMap (λ y. y) points
+numbersOf (placed read points T U) = concatMap (λ y. y) points
 
 -- "A refusal returns its number": the first question answered no; else the place
 unfoldable pub readAnswer : Problem → List ℕ → ℕ → Answer

@@ -22,10 +22,15 @@ use trail_following::Reached;
 use trail_following::follow;
 
 // What the reader answers: the number of the first of questions 1 to 5 and 17 that is answered no; or how many points
-// the place has, and T and U as masks, bit h for index h + 1.
+// the place has, T and U as masks, bit h for index h + 1, and the labels read up to the place.
 pub enum Answer {
     Refused(u8),
-    Place { points: usize, t: u16, u: u16 },
+    Place {
+        points: usize,
+        t: u16,
+        u: u16,
+        labels_read: u64,
+    },
 }
 
 // The answer, and the points of the place in rising coefficient sum, m numbers each, at the front of 256 numbers, 0
@@ -59,11 +64,12 @@ fn placed(
     order: &[u32; 16],
     s: Status,
     m: usize,
+    labels_read: u64,
 ) -> Reading
     ghost { State }
     requires { λ a. ⌜ stateOf (roundBack previous sizes) (now first) [] (now order) [] s ≡ a ⌝ }
     requires { λ a. ⌜ CanPut a m 0 256 × (length (a .order) ≡ s .count) ⌝ }
-    ensures { λ a r. ⌜ IsPlace a m s r ⌝ }
+    ensures { λ a r. ⌜ IsPlace a m s «labels_read» r ⌝ }
 {
     let mut points = [0u16; 256];
     let count = put_points(&mut points, previous, sizes, first, order, s, m, 0);
@@ -71,6 +77,7 @@ fn placed(
         points: count,
         t: mask(s.t),
         u: mask(s.u),
+        labels_read,
     };
     Reading { answer, points }
 }
@@ -131,7 +138,7 @@ fn rebuilt(
         number - 1,
     );
     match reached {
-        Reached::At(status) => placed(previous, sizes, first, &order, status, m),
+        Reached::At { status, came } => placed(previous, sizes, first, &order, status, m, came + 1),
         Reached::Nowhere => refused(17),
     }
 }

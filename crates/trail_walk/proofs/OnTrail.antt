@@ -55,19 +55,19 @@ use Rattle.trail_visits.specs.Visited.{goneOf, recordHere}
 use Rattle.trail_visits.specs.declared.Before.{Before}
 
 -- a run that has ended has visited the whole path
-pub ended-whole : (p : Problem) (budget : ℕ) {n : ℕ} {kind : Kind} {block vertices : ℕ} {simplex : Simplex} → answer p budget ≡ ended n kind block vertices simplex
+pub ended-whole : (p : Problem) (budget : ℕ) {n read : ℕ} {kind : Kind} {block vertices : ℕ} {simplex : Simplex} → answer p budget ≡ ended n read kind block vertices simplex
     → n ≡ pathLength p
 unfolding answer
-ended-whole p budget {n} {kind} {block} {vertices} {simplex} e =
-    ⊎-elim (λ t. let f : spent budget ≡ ended n kind block vertices simplex = rw t at e in absurd (never f))
+ended-whole p budget {n} {read} {kind} {block} {vertices} {simplex} e =
+    ⊎-elim (λ t. let f : spent budget ≡ ended n read kind block vertices simplex = rw t at e in absurd (never f))
     (λ t. go (path p .end) refl (rw t at e)) (true-or-false (ltb budget (pathLength p)))
   where
-    never : spent budget ≡ ended n kind block vertices simplex → ⊥
+    never : spent budget ≡ ended n read kind block vertices simplex → ⊥
     never f = let z : _≡_ {A = ℕ} 0 1 = cc in omega arith
 
-    go : (x : Option End) → path p .end ≡ x → outcome p (path p .visited) (path p .end) ≡ ended n kind block vertices simplex → n ≡ pathLength p
-    go none w f = let h : outcome p (path p .visited) none ≡ ended n kind block vertices simplex = rw w at f in absurd (let z : _≡_ {A = ℕ} 0 1 = cc in omega arith)
-    go (some x) w f = let h : outcome p (path p .visited) (some x) ≡ ended n kind block vertices simplex = rw w at f in cc
+    go : (x : Option End) → path p .end ≡ x → outcome p (path p .visited) (path p .end) ≡ ended n read kind block vertices simplex → n ≡ pathLength p
+    go none w f = let h : outcome p (path p .visited) none ≡ ended n read kind block vertices simplex = rw w at f in absurd (let z : _≡_ {A = ℕ} 0 1 = cc in omega arith)
+    go (some x) w f = let h : outcome p (path p .visited) (some x) ≡ ended n read kind block vertices simplex = rw w at f in cc
 
 mapped-one : (f : Point → ℕ) (l : List Point) (x : ℕ) → map f l ≡ x ∷ []
     → (y : Point) × (l ≡ y ∷ []) × (isIn samePoint y l ≡ true) × (f y ≡ x)

@@ -17,7 +17,7 @@ HasRoom p writes room = writes ≡ true → length (trailOf p (path p .visited))
 
 -- what a walk leaves in the trail, and counts
 abbrev pub Recorded : Problem → Bool → List ℕ → List ℕ → ℕ → Finish → Type 0
-Recorded p writes old new bytes (Ended kind places h s) =
+Recorded p writes old new bytes (Ended kind places h s labels) =
     let whole = trailOf p (path p .visited) in (bytes ≡ length whole) × (new ≡ cond writes (front whole old) old)
 Recorded p writes old new bytes (UnknownLabel places place) = writes ≡ false → new ≡ old
 Recorded p writes old new bytes Spent = writes ≡ false → new ≡ old

@@ -10,6 +10,7 @@ use finder::Finish;
 use finder::Kind;
 use finder::Visited;
 use finder::begin;
+use finder::labels_at;
 use grid::Grid;
 use positions::ENTRIES;
 use trail_visits::Before;
@@ -55,6 +56,7 @@ pub fn follow(
         gone: 0,
     };
     let mut at: usize = 0;
+    let mut labels_read = 0u64;
     let mut left = budget;
     while 0 < left {
         let passed = visit(
@@ -75,6 +77,7 @@ pub fn follow(
             before,
             writes,
         );
+        labels_read += labels_at(s);
         left -= 1;
         let seen = passed.seen;
         match seen {
@@ -103,6 +106,7 @@ pub fn follow(
                         places: budget - left,
                         index,
                         status: s,
+                        labels_read,
                     },
                     bytes: at + passed.bytes,
                 };
@@ -114,6 +118,7 @@ pub fn follow(
                         places: budget - left,
                         index,
                         status: s,
+                        labels_read,
                     },
                     bytes: at + passed.bytes,
                 };

@@ -48,24 +48,24 @@ module _ (p : Problem) (trailRoom : ℕ) where
   bytes-off : length (wholeTrail p) ≤ trailRoom → (a : PathAnswer) → withoutBytes (trailCase p trailRoom a) ≡ caseOf a
   bytes-off l (spent n) = refl
   bytes-off l (unknown n position) = refl
-  bytes-off l (ended n kind block vertices simplex) = rw (← (has-room p trailRoom l n kind block vertices simplex))
+  bytes-off l (ended n read kind block vertices simplex) = rw (← (has-room p trailRoom l n read kind block vertices simplex))
 
   numbers-alike : length (wholeTrail p) ≤ trailRoom → (a : PathAnswer) → cond (announces (trailCase p trailRoom a)) (numbersOf a) [] ≡ numbersOf a
   numbers-alike l (spent n) = refl
   numbers-alike l (unknown n position) = refl
-  numbers-alike l (ended n kind block vertices simplex) = rw (← (has-room p trailRoom l n kind block vertices simplex))
+  numbers-alike l (ended n read kind block vertices simplex) = rw (← (has-room p trailRoom l n read kind block vertices simplex))
 
-  is-17 : trailRoom < length (wholeTrail p) → (a : PathAnswer) {n : ℕ} {kind : Kind} {block vertices : ℕ} → caseOf a ≡ RunEnd n kind block vertices
+  is-17 : trailRoom < length (wholeTrail p) → (a : PathAnswer) {n read : ℕ} {kind : Kind} {block vertices : ℕ} → caseOf a ≡ RunEnd n read kind block vertices
       → trailCase p trailRoom a ≡ Refused 17
   is-17 l (spent m) e = absurd (let z : _≡_ {A = ℕ} 0 1 = cc in omega arith)
   is-17 l (unknown m position) e = absurd (let z : _≡_ {A = ℕ} 0 1 = cc in omega arith)
-  is-17 l (ended m k b v s) e = sym (too-short p trailRoom l (ended m k b v s) refl)
+  is-17 l (ended m r k b v s) e = sym (too-short p trailRoom l (ended m r k b v s) refl)
 
   of-17 : (a : PathAnswer) → withoutBytes (trailCase p trailRoom a) ≡ RunRefused 17
-      → (n : ℕ) × (kind : Kind) × (block : ℕ) × (vertices : ℕ) × (caseOf a ≡ RunEnd n kind block vertices)
+      → (n : ℕ) × (read : ℕ) × (kind : Kind) × (block : ℕ) × (vertices : ℕ) × (caseOf a ≡ RunEnd n read kind block vertices)
   of-17 (spent m) e = absurd (let z : _≡_ {A = ℕ} 0 1 = cc in omega arith)
   of-17 (unknown m position) e = absurd (let z : _≡_ {A = ℕ} 0 1 = cc in omega arith)
-  of-17 (ended m k b v s) e = (m, kindOf k, b, v, refl)
+  of-17 (ended m r k b v s) e = (m, r, kindOf k, b, v, refl)
 
 module _ (p : Problem) (room trailRoom budget : ℕ) where
   -- by whether questions 1 to 8 are answered yes
@@ -81,16 +81,16 @@ module _ (p : Problem) (room trailRoom budget : ℕ) where
       ⊎-elim (λ e. rw (eq-eqb (refusal p (length old)) 0 e, numbers-alike p trailRoom l (answer p budget)))
       (λ n. rw (ne-eqb (refusal p (length old)) 0 n)) (same-or (refusal p (length old)) 0)
 
-  no-room : trailRoom < length (wholeTrail p) → (n : ℕ) (kind : Kind) (block vertices : ℕ) → runAnswer p room budget ≡ RunEnd n kind block vertices
+  no-room : trailRoom < length (wholeTrail p) → (n read : ℕ) (kind : Kind) (block vertices : ℕ) → runAnswer p room budget ≡ RunEnd n read kind block vertices
       → trailAnswer p room trailRoom budget ≡ Refused 17
   unfolding trailAnswer runAnswer
-  no-room l n kind block vertices e =
+  no-room l n read kind block vertices e =
       ⊎-elim (λ z. rw (eq-eqb (refusal p room) 0 z) (is-17 p trailRoom l (answer p budget) (rw (eq-eqb (refusal p room) 0 z) at e)))
-      (λ z. let f : RunRefused (refusal p room) ≡ RunEnd n kind block vertices = rw (ne-eqb (refusal p room) 0 z) at e in
+      (λ z. let f : RunRefused (refusal p room) ≡ RunEnd n read kind block vertices = rw (ne-eqb (refusal p room) 0 z) at e in
       absurd (let w : _≡_ {A = ℕ} 0 1 = cc in omega arith)) (same-or (refusal p room) 0)
 
   only-ends : withoutBytes (trailAnswer p room trailRoom budget) ≡ RunRefused 17
-      → (n : ℕ) × (kind : Kind) × (block : ℕ) × (vertices : ℕ) × (runAnswer p room budget ≡ RunEnd n kind block vertices)
+      → (n : ℕ) × (read : ℕ) × (kind : Kind) × (block : ℕ) × (vertices : ℕ) × (runAnswer p room budget ≡ RunEnd n read kind block vertices)
   unfolding trailAnswer runAnswer
   only-ends e =
       ⊎-elim (λ z. rw (eq-eqb (refusal p room) 0 z) (of-17 p trailRoom (answer p budget) (rw (eq-eqb (refusal p room) 0 z) at e)))
@@ -109,28 +109,28 @@ module _ (p : Problem) (room trailRoom budget : ℕ) where
 
 -- a run that announces an end has written the whole trail
 module _ (p : Problem) (room budget : ℕ) (accepted : Accepted p) (old : List ℕ) where
-  case-end : (a : PathAnswer) {n : ℕ} {kind : Kind} {block vertices bytes : ℕ} → trailCase p (length old) a ≡ End n kind block vertices bytes
+  case-end : (a : PathAnswer) {n read : ℕ} {kind : Kind} {block vertices bytes : ℕ} → trailCase p (length old) a ≡ End n read kind block vertices bytes
       → (answer p budget ≡ a) → (n ≡ pathLength p) × (bytes ≡ length (wholeTrail p))
   case-end (spent m) e q = absurd (let z : _≡_ {A = ℕ} 0 1 = cc in omega arith)
   case-end (unknown m position) e q = absurd (let z : _≡_ {A = ℕ} 0 1 = cc in omega arith)
-  case-end (ended m k b v s) {n} {kind} {block} {vertices} {bytes} e q =
+  case-end (ended m r k b v s) {n} {read} {kind} {block} {vertices} {bytes} e q =
       ⊎-elim
       (λ (l : length old < length (wholeTrail p)).
-      let f : Refused 17 ≡ End n kind block vertices bytes = too-short p (length old) l (ended m k b v s) refl ∙ e in
+      let f : Refused 17 ≡ End n read kind block vertices bytes = too-short p (length old) l (ended m r k b v s) refl ∙ e in
       absurd (let z : _≡_ {A = ℕ} 0 1 = cc in omega arith))
       (λ (l : length (wholeTrail p) ≤ length old).
-      let f : End m (kindOf k) b v (length (wholeTrail p)) ≡ End n kind block vertices bytes = has-room p (length old) l m k b v s ∙ e in
+      let f : End m r (kindOf k) b v (length (wholeTrail p)) ≡ End n read kind block vertices bytes = has-room p (length old) l m r k b v s ∙ e in
       let c : m ≡ n = cc in
       let d : length (wholeTrail p) ≡ bytes = cc in
       (sym c ∙ ended-whole p budget q, sym d))
       (before-or-not (length old) (length (wholeTrail p)))
 
-  module _ {n : ℕ} {kind : Kind} {block vertices bytes : ℕ} (e : trailAnswer p room (length old) budget ≡ End n kind block vertices bytes) where
+  module _ {n read : ℕ} {kind : Kind} {block vertices bytes : ℕ} (e : trailAnswer p room (length old) budget ≡ End n read kind block vertices bytes) where
     ended-so : (n ≡ pathLength p) × (bytes ≡ length (wholeTrail p))
     unfolding trailAnswer
     ended-so =
         ⊎-elim (λ z. case-end (answer p budget) (rw (eq-eqb (refusal p room) 0 z) at e) refl)
-        (λ z. let f : Refused (refusal p room) ≡ End n kind block vertices bytes = rw (ne-eqb (refusal p room) 0 z) at e in
+        (λ z. let f : Refused (refusal p room) ≡ End n read kind block vertices bytes = rw (ne-eqb (refusal p room) 0 z) at e in
         absurd (let w : _≡_ {A = ℕ} 0 1 = cc in omega arith)) (same-or (refusal p room) 0)
 
     buffer-is : trailBuffer p room budget old ≡ wholeTrail p ++ drop (length (wholeTrail p)) old
@@ -155,9 +155,9 @@ module _ (p : Problem) (room budget : ℕ) (accepted : Accepted p) (old : List �
 
   reads : ReadsBack p room budget old
   reads = record {
-    long = λ n kind block vertices bytes e. long-enough e;
-    reads = λ n kind block vertices bytes e. reads-back e;
-    noMore = λ n kind block vertices bytes e. no-more e;
+    long = λ n read kind block vertices bytes e. long-enough e;
+    reads = λ n read kind block vertices bytes e. reads-back e;
+    noMore = λ n read kind block vertices bytes e. no-more e;
   }
 
 pub trails-of-runs : TrailsOfRuns

@@ -37,31 +37,31 @@ pub problem-from : (g : GridStruct) → IsMade g → (start table : List ℕ) �
 problem-from g made start table ok taken e = ap (λ (t : List ℕ). problemIn g t table) e ∙ same-problem g made start table ok
 
 -- a walk whose path has an end has it too
-pub ends-again : (p : Problem) (budget : ℕ) (round : Round) (first order old new : List ℕ) (bytes : ℕ) (f : Finish) {n : ℕ} {kind : KindOfEnd}
-    {block vertices : ℕ} {simplex : Simplex} → answer p budget ≡ ended n kind block vertices simplex → Finished p budget round first order f
+pub ends-again : (p : Problem) (budget : ℕ) (round : Round) (first order old new : List ℕ) (bytes : ℕ) (f : Finish) {n read : ℕ} {kind : KindOfEnd}
+    {block vertices : ℕ} {simplex : Simplex} → answer p budget ≡ ended n read kind block vertices simplex → Finished p budget round first order f
     → Recorded p true old new bytes f → new ≡ front (wholeTrail p) old
-ends-again p budget round first order old new bytes (Ended kind places h s) e F R = R .1
+ends-again p budget round first order old new bytes (Ended kind places h s labels) e F R = R .1
 ends-again p budget round first order old new bytes (FinishUnknown places place) e F R = absurd (let z : _≡_ {A = ℕ} 0 1 = cc in omega arith)
 ends-again p budget round first order old new bytes FinishSpent e F R = absurd (let z : _≡_ {A = ℕ} 0 1 = cc in omega arith)
 
 module _ (p : Problem) (room : ℕ) where
-  pub too-short : room < length (wholeTrail p) → (a : PathAnswer) {n : ℕ} {kind : KindOfEnd} {block vertices : ℕ} {simplex : Simplex}
-      → a ≡ ended n kind block vertices simplex → Refused 17 ≡ trailCase p room a
+  pub too-short : room < length (wholeTrail p) → (a : PathAnswer) {n read : ℕ} {kind : KindOfEnd} {block vertices : ℕ} {simplex : Simplex}
+      → a ≡ ended n read kind block vertices simplex → Refused 17 ≡ trailCase p room a
   unfolding firstNo
   too-short l a e = rw (e, lt-leb (length (wholeTrail p)) room l)
 
-  pub has-room : length (wholeTrail p) ≤ room → (n : ℕ) (kind : KindOfEnd) (block vertices : ℕ) (simplex : Simplex)
-      → End n (kindOf kind) block vertices (length (wholeTrail p)) ≡ trailCase p room (ended n kind block vertices simplex)
+  pub has-room : length (wholeTrail p) ≤ room → (n read : ℕ) (kind : KindOfEnd) (block vertices : ℕ) (simplex : Simplex)
+      → End n read (kindOf kind) block vertices (length (wholeTrail p)) ≡ trailCase p room (ended n read kind block vertices simplex)
   unfolding firstNo
-  has-room l n kind block vertices simplex = rw (le-leb (length (wholeTrail p)) room l)
+  has-room l n read kind block vertices simplex = rw (le-leb (length (wholeTrail p)) room l)
 
-  pub end-with-room : length (wholeTrail p) ≤ room → (a : PathAnswer) (n : ℕ) (kind : Kind) (block vertices : ℕ) → RunEnd n kind block vertices ≡ caseOf a
-      → End n kind block vertices (length (wholeTrail p)) ≡ trailCase p room a
-  end-with-room l (spent m) n kind block vertices e = absurd (let z : _≡_ {A = ℕ} 0 1 = cc in omega arith)
-  end-with-room l (unknown m position) n kind block vertices e = absurd (let z : _≡_ {A = ℕ} 0 1 = cc in omega arith)
-  end-with-room l (ended m k b v s) n kind block vertices e =
-      let z : End n kind block vertices (length (wholeTrail p)) ≡ End m (kindOf k) b v (length (wholeTrail p)) = cc in
-      z ∙ has-room l m k b v s
+  pub end-with-room : length (wholeTrail p) ≤ room → (a : PathAnswer) (n read : ℕ) (kind : Kind) (block vertices : ℕ) → RunEnd n read kind block vertices ≡ caseOf a
+      → End n read kind block vertices (length (wholeTrail p)) ≡ trailCase p room a
+  end-with-room l (spent m) n read kind block vertices e = absurd (let z : _≡_ {A = ℕ} 0 1 = cc in omega arith)
+  end-with-room l (unknown m position) n read kind block vertices e = absurd (let z : _≡_ {A = ℕ} 0 1 = cc in omega arith)
+  end-with-room l (ended m r k b v s) n read kind block vertices e =
+      let z : End n read kind block vertices (length (wholeTrail p)) ≡ End m r (kindOf k) b v (length (wholeTrail p)) = cc in
+      z ∙ has-room l m r k b v s
 
 -- what a run that writes a trail then answers, and what it leaves in its buffers
 module _ (p : Problem) (budget : ℕ) (old oldTrail : List ℕ) where

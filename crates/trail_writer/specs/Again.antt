@@ -21,6 +21,6 @@ pub record CanWriteTrail (g : GridStruct) (round : Round) (binomials start label
   pub isRound : IsRound (shape g) round
   pub below : RoundBelow round
   pub accepted : Accepted (problemFrom g start labels)
-  pub ends : (n : ℕ) × (kind : Kind) × (block : ℕ) × (vertices : ℕ) × (simplex : Simplex)
-      × (answer (problemFrom g start labels) budget ≡ ended n kind block vertices simplex)
+  pub ends : (n : ℕ) × (read : ℕ) × (kind : Kind) × (block : ℕ) × (vertices : ℕ) × (simplex : Simplex)
+      × (answer (problemFrom g start labels) budget ≡ ended n read kind block vertices simplex)
   pub fits : length (wholeTrail (problemFrom g start labels)) ≤ room

@@ -23,7 +23,7 @@ abbrev pub withoutBytes : Answer → RunAnswer
 withoutBytes (Refused number) = RunRefused number
 withoutBytes (Spent n) = RunSpent n
 withoutBytes (Unknown n position) = RunUnknown n position
-withoutBytes (End n kind block vertices bytes) = RunEnd n kind block vertices
+withoutBytes (End n read kind block vertices bytes) = RunEnd n read kind block vertices
 
 pub record Writes (p : Problem) (room trailRoom budget : ℕ) : Type 0 where
   -- "what demands 2 and 3 say of announcing one is judged on runs that write no trail or have room for it": where there
@@ -33,12 +33,12 @@ pub record Writes (p : Problem) (room trailRoom budget : ℕ) : Type 0 where
   pub sameBuffer : length (wholeTrail p) ≤ trailRoom → (old : List ℕ) → length old ≡ room
       → answerBuffer p trailRoom budget old ≡ runBuffer p budget old
   -- where there is none, a run that would announce an end gets 17, and only such a run
-  pub noRoom : trailRoom < length (wholeTrail p) → (n : ℕ) (kind : Kind) (block vertices : ℕ)
-      → runAnswer p room budget ≡ RunEnd n kind block vertices
+  pub noRoom : trailRoom < length (wholeTrail p) → (n read : ℕ) (kind : Kind) (block vertices : ℕ)
+      → runAnswer p room budget ≡ RunEnd n read kind block vertices
       → trailAnswer p room trailRoom budget ≡ Refused 17
   pub otherwise : withoutBytes (trailAnswer p room trailRoom budget) ≡ RunRefused 17
-      → (n : ℕ) × (kind : Kind) × (block : ℕ) × (vertices : ℕ)
-      × (runAnswer p room budget ≡ RunEnd n kind block vertices)
+      → (n : ℕ) × (read : ℕ) × (kind : Kind) × (block : ℕ) × (vertices : ℕ)
+      × (runAnswer p room budget ≡ RunEnd n read kind block vertices)
   -- nothing is written then, nor at any other refusal
   pub unwritten : (n : ℕ) → trailAnswer p room trailRoom budget ≡ Refused n
       → ((old : List ℕ) → length old ≡ room → answerBuffer p trailRoom budget old ≡ old)
@@ -47,16 +47,16 @@ pub record Writes (p : Problem) (room trailRoom budget : ℕ) : Type 0 where
 -- "over a run's trail these places are the path": what a run has written reads back, place by place, whatever was
 -- behind it in the buffer
 pub record ReadsBack (p : Problem) (room budget : ℕ) (old : List ℕ) : Type 0 where
-  pub long : (n : ℕ) (kind : Kind) (block vertices bytes : ℕ)
-      → trailAnswer p room (length old) budget ≡ End n kind block vertices bytes
+  pub long : (n read : ℕ) (kind : Kind) (block vertices bytes : ℕ)
+      → trailAnswer p room (length old) budget ≡ End n read kind block vertices bytes
       → (n ≡ pathLength p) × (3 ≤ bytes) × (bytes ≤ 3 + 7 * pred n)
       × (take bytes (trailBuffer p room budget old) ≡ wholeTrail p)
-  pub reads : (n : ℕ) (kind : Kind) (block vertices bytes : ℕ)
-      → trailAnswer p room (length old) budget ≡ End n kind block vertices bytes
+  pub reads : (n read : ℕ) (kind : Kind) (block vertices bytes : ℕ)
+      → trailAnswer p room (length old) budget ≡ End n read kind block vertices bytes
       → (labels : List ℕ) (i : ℕ) → i < n
       → rebuilt (withLabels p labels) (trailBuffer p room budget old) (suc i) ≡ some (placeAt (path p .visited) i)
-  pub noMore : (n : ℕ) (kind : Kind) (block vertices bytes : ℕ)
-      → trailAnswer p room (length old) budget ≡ End n kind block vertices bytes
+  pub noMore : (n read : ℕ) (kind : Kind) (block vertices bytes : ℕ)
+      → trailAnswer p room (length old) budget ≡ End n read kind block vertices bytes
       → (labels : List ℕ) (i : ℕ) → n < i
       → rebuilt (withLabels p labels) (take bytes (trailBuffer p room budget old)) i ≡ none
 

@@ -27,9 +27,9 @@ question17 p room = ask 17 (leb (length (wholeTrail p)) room)
 abbrev pub trailCase : Problem → ℕ → PathAnswer → Answer
 trailCase p room (spent n) = Spent n
 trailCase p room (unknown n position) = Unknown n position
-trailCase p room (ended n kind block vertices simplex) =
+trailCase p room (ended n read kind block vertices simplex) =
     let number = firstNo (question17 p room ∷ []) in
-    cond (eqb number 0) (End n (kindOf kind) block vertices (length (wholeTrail p))) (Refused number)
+    cond (eqb number 0) (End n read (kindOf kind) block vertices (length (wholeTrail p))) (Refused number)
 
 -- questions 1 to 8 come first; the answer buffer has `room` numbers, the trail buffer `trailRoom` bytes
 unfoldable pub trailAnswer : Problem → ℕ → ℕ → ℕ → Answer
@@ -41,7 +41,7 @@ abbrev pub announces : Answer → Bool
 announces (Refused number) = false
 announces (Spent n) = false
 announces (Unknown n position) = false
-announces (End n kind block vertices bytes) = true
+announces (End n read kind block vertices bytes) = true
 
 -- "What a call does write stands at the front of its buffer, old contents behind"
 unfoldable pub answerBuffer : Problem → ℕ → ℕ → List ℕ → List ℕ

@@ -41,9 +41,10 @@ pub enum Answer {
         places: u64,
         position: usize,
     },
-    // The end of the path, and how many bytes the trail has.
+    // The end of the path, the labels read up to it, and how many bytes the trail has.
     End {
         places: u64,
+        labels_read: u64,
         kind: Kind,
         block: u8,
         vertices: usize,
@@ -135,6 +136,7 @@ fn announced(
             places,
             index,
             status,
+            labels_read,
         } => {
             if trail.len() < bytes {
                 return Answer::Refused(17);
@@ -155,6 +157,7 @@ fn announced(
             let vertices = put_points(answer, &previous, &sizes, &first, &order, status, m, from);
             Answer::End {
                 places,
+                labels_read,
                 kind,
                 block,
                 vertices,

@@ -12,9 +12,10 @@ use Rattle.grid.proofs.Fields.{indices-few, made-indices}
 use Rattle.grid.specs.Grid.{position}
 use Rattle.grid.specs.Made.{shape}
 use Rattle.moves.specs.Held.{roundOf, stateOf}
+use Rattle.place.proofs.LabelsRead.{came-few}
 use Rattle.place.specs.Places.{Simplex}
 use Rattle.trail.specs.Record.{startRecord}
-use Rattle.trail.specs.Trail.{Reading as TrailReading, begins}
+use Rattle.trail.specs.Trail.{Reading as TrailReading, begins, placesFrom}
 use Rattle.trail_steps.proofs.Arrived.{position-low}
 use Rattle.trail_steps.proofs.Ways.{taken-record}
 use Rattle.trail_steps.specs.Ways.{problemBy}
@@ -114,6 +115,19 @@ follow-requires c κs =
 enum-known-reached : tie.Need-enum-known-reached
 enum-known-reached c = search needs
 
+add-placed : tie.Need-add-placed
+add-placed c =
+    let a = c .before .before .before .before .before .before .before .before .before .before .before .before .before .before .before .before .before .before .before .before .before .before .before .before .before .args in
+    let w = c .before .before .before .before .before .before .before .before .before .before .before .before .before .before .before .before .before .before .before .before .before .before .before .before .before .pre .0 in
+    let made = w .measured .made in
+    let first = a .first .now in
+    let p = problemBy (a .g) (take (a .g .indices) first) in
+    let trail = a .trail .now in
+    let number = a .number in
+    let H = v-read (a .g) made first (w .settled) (a .previous .now) (a .next .now) (a .sizes .now) (replicate 16 0) (w .isRound) (w .firstLength) (c .before .before .before .before .before .before .before .before .before .before .before .before .before .before .before .before .before .before .before .before .before .before .begin .result) (c .before .before .before .before .before .before .before .before .before .before .before .before .before .before .before .before .before .before .before .before .before .before .begin .ensures) (c .before .before .before .before .before .before .before .before .before .before .before .before .before .before .before .before .before .before .before .before .tails .result) (c .before .before .before .before .before .before .before .before .before .before .before .before .before .before .before .before .before .before .before .before .tails .ensures) (c .before .before .before .before .before .before .before .before .before .before .before .before .before .before .position-in .result) (c .before .before .before .before .before .before .before .before .before .before .before .before .before .before .position-in .ensures) in
+    let R = (rw (c .before .before .before .reached .given .1) at (c .before .before .before .before .before .follow .ensures)) (take (a .g .indices) first) (p .start ∷ []) H in
+    omega (arith, R .brought, came-few (placesFrom p (number - 1) (p .start ∷ []) (drop 3 trail)) (number - 1), c .before .before .before .before .before .before .before .before .before .before .before .before .before .before .before .before .before .before .before .before .before .before .before .before .before .pre .1, c .before .before .before .before .before .before .before .before .before .before .before .before .before .before .before .before .before .before .before .before .before .before .before .before .before .fits .number .fits)
+
 placed-requires : tie.Need-placed-requires
 placed-requires c κs =
     let a = c .before .before .before .before .before .before .before .before .before .before .before .before .before .before .before .before .before .before .before .before .before .before .before .before .before .args in
@@ -158,8 +172,8 @@ returns-2 c =
     let yes = sym told ∙ not-false _ (c .before .before .before .before .before .before .before .before .before .before .before .before .if1 .left) in
     let H = v-read (a .g) made first (w .settled) (a .previous .now) (a .next .now) (a .sizes .now) (replicate 16 0) (w .isRound) (w .firstLength) (c .before .before .before .before .before .before .before .before .before .before .before .before .before .before .before .before .before .before .before .before .before .before .before .begin .result) (c .before .before .before .before .before .before .before .before .before .before .before .before .before .before .before .before .before .before .before .before .before .before .before .begin .ensures) (c .before .before .before .before .before .before .before .before .before .before .before .before .before .before .before .before .before .before .before .before .before .tails .result) (c .before .before .before .before .before .before .before .before .before .before .before .before .before .before .before .before .before .before .before .before .before .tails .ensures) (c .before .before .before .before .before .before .before .before .before .before .before .before .before .before .before .position-in .result) (c .before .before .before .before .before .before .before .before .before .before .before .before .before .before .before .position-in .ensures) in
     let R = (rw (c .before .before .before .before .reached .given .1) at (c .before .before .before .before .before .before .follow .ensures)) (take (a .g .indices) first) (p .start ∷ []) H in
-    let there = reads-place p trail number (c .before .before .before .before .before .before .before .before .before .before .before .before .before .before .before .before .before .before .before .before .before .before .before .before .before .before .pre .1) yes (R .place) (R .is) in
-    reads-by (a .g) made (take (a .g .indices) first) trail number (w .settled) (R .place) (a .previous .now) (a .next .now) (a .sizes .now) (c .before .before .before .before .before .before .follow .last .1 .1 .1 .1 .1 .1 .0) (c .before .before .before .before .before .before .follow .last .1 .1 .1 .1 .1 .1 .1 .0) (c .before .before .before .before .before .before .follow .last .1 .1 .1 .1 .1 .1 .1 .1 .0) (c .before .before .before .before .before .before .follow .last .1 .1 .1 .1 .1 .1 .1 .1 .1 .0) (c .before .before .before .before .reached .given .0 .0) (R .shows) (c .placed .result) (c .placed .ensures) there
+    let there = reads-place p trail number (c .before .before .before .before .before .before .before .before .before .before .before .before .before .before .before .before .before .before .before .before .before .before .before .before .before .before .pre .1) yes (R .place) (R .is) _ (R .brought) in
+    reads-by (a .g) made (take (a .g .indices) first) trail number (w .settled) (R .place) (a .previous .now) (a .next .now) (a .sizes .now) (c .before .before .before .before .before .before .follow .last .1 .1 .1 .1 .1 .1 .0) (c .before .before .before .before .before .before .follow .last .1 .1 .1 .1 .1 .1 .1 .0) (c .before .before .before .before .before .before .follow .last .1 .1 .1 .1 .1 .1 .1 .1 .0) (c .before .before .before .before .before .before .follow .last .1 .1 .1 .1 .1 .1 .1 .1 .1 .0) (c .before .before .before .before .reached .given .0 .0) _ (R .shows) (c .placed .result) (c .placed .ensures) there
 
 returns-3 : tie.Need-returns-3
 returns-3 c =
@@ -196,6 +210,7 @@ rebuilt-spec =
     sub-follow
     follow-requires
     enum-known-reached
+    add-placed
     placed-requires
     enum-told
     refused-requires-2

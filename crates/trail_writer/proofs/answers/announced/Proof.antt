@@ -111,7 +111,7 @@ write-trail-requires c κs =
       isRound = is-round (a .g) made (c .before .before .before .before .before .before .before .before .before .before .before .before .before .before .before .before .before .before .block-sizes .result) (c .before .before .before .before .before .before .before .before .before .before .before .before .before .before .before .before .before .before .block-sizes .ensures);
       below = round-below (a .g) made (c .before .before .before .before .before .before .before .before .before .before .before .before .before .before .before .before .before .before .block-sizes .result);
       accepted = w .accepted;
-      ends = (_, _, _, _, _, F .0 .is);
+      ends = (_, _, _, _, _, _, F .0 .is);
       fits = omega (arith, R .0, ap length (R .1), c .before .before .before .before .if1 .left);
     }
 
@@ -236,7 +236,7 @@ returns-4 c =
     let from = c .before .before .before .before .before .before .before .before .first-vertex .ensures in
     let said = told (a .g) made (a .start .now) (a .labels .now) (a .budget) places kind e index (F .0) (c .before .before .before .before .before .before .before .before .before .block-number .result) (c .before .before .put-points .result) (c .before .before .before .before .before .before .before .before .before .block-number .ensures) (rw from at (v .0)) in
     let put = written (a .g) made (a .start .now) (a .labels .now) (a .budget) places kind e index (F .0) in
-    let end = end-with-room p (length (a .trail .now)) (omega (arith, R .0, ap length (R .1), c .before .before .before .before .before .before .before .before .before .before .before .before .before .before .before .before .before .if1 .left)) (answer p (a .budget)) places kind (c .before .before .before .before .before .before .before .before .before .block-number .result) (c .before .before .put-points .result) said in (
+    let end = end-with-room p (length (a .trail .now)) (omega (arith, R .0, ap length (R .1), c .before .before .before .before .before .before .before .before .before .before .before .before .before .before .before .before .before .if1 .left)) (answer p (a .budget)) places _ kind (c .before .before .before .before .before .before .before .before .before .block-number .result) (c .before .before .put-points .result) said in (
       (rw (R .0) end),
       ((rw from at (v .1)) ∙ ap (λ (x : List ℕ). front x (a .answer .now)) put, c .before .before .before .before .before .before .before .before .before .before .before .before .write-trail .ensures ∙ ap (front (wholeTrail p)) (R .1)),
     )

@@ -50,7 +50,7 @@ returns c =
     let round = roundOf (a .previous .now) (a .next .now) (a .sizes .now) in
     let same = problem-from (a .g) (w .readable .made) (a .start .now) (a .labels .now) (w .accepted) (t .result) (t .ensures) in
     ends-again (problemFrom (a .g) (a .start .now) (a .labels .now)) (a .budget) round (c .before .before .follow .last .1 .1 .1 .1 .1 .1 .0) (c .before .before .follow .last .1 .1 .1 .1 .1 .1 .1 .0) (a .trail .now) (c .before .before .follow .last .1 .1 .1 .1 .1 .1 .1 .1 .0) (f .result .bytes)
-    (f .result .finish) (w .ends .5)
+    (f .result .finish) (w .ends .6)
     (subst (λ (p : Problem). Finished p (a .budget) round (c .before .before .follow .last .1 .1 .1 .1 .1 .1 .0) (c .before .before .follow .last .1 .1 .1 .1 .1 .1 .1 .0) (f .result .finish)) same (f .ensures .0))
     (subst (λ (p : Problem). Recorded p true (a .trail .now) (c .before .before .follow .last .1 .1 .1 .1 .1 .1 .1 .1 .0) (f .result .bytes) (f .result .finish)) same (f .ensures .1))
 
