@@ -30,7 +30,7 @@ use Rattle.rules.proofs.Shifted.{at-most-one, length-shifted, shifted-at}
 use Rattle.rules.specs.Step.{shifted}
 use Rattle.walks.proofs.KeptPlace.{at-stepped, length-stepped}
 use Rattle.walks.specs.Kept.{canStep, keptPoints, pointsBy, stepped}
-use Rattle.recogniser.specs.Pieces.{CanMark, OnGrid, markIn, pointWith, startedOn, zeroOn}
+use Rattle.recogniser.specs.Pieces.{CanMark, OnGrid, bareMark, pointWith, startedOn, zeroOn}
 
 -- a point that is moved within a block stays on the grid
 pub moved-on : (g : Grid) (y z : Point) (h b : ℕ) → length z ≡ numIndices g → isGridPoint g y ≡ true → MovedBy g y z h b → h < numIndices g → b < numIndices g
@@ -83,7 +83,7 @@ module _ (g : GridStruct) (made : IsMade g) where
   with-at : (first steps : List ℕ) (k : ℕ) → k < g .indices → at (pointWith g first steps) k ≡ at first k + at steps k - 16
   with-at first steps k l = getD-take (g .indices) (afterSteps first steps) k 0 l ∙ counted first steps k (omega (arith, few))
 
-  with-none : (first : List ℕ) → length first ≡ 16 → pointWith g first (replicate 16 16) ≡ take (g .indices) first
+  pub with-none : (first : List ℕ) → length first ≡ 16 → pointWith g first (replicate 16 16) ≡ take (g .indices) first
   with-none first e =
       ext-getD 0 (pointWith g first (replicate 16 16)) (take (g .indices) first) (with-long first (replicate 16 16) ∙ sym (length-take (g .indices) first ∙ omega (arith, few)))
       (λ k l. let m : k < g .indices = omega (arith, with-long first (replicate 16 16)) in
@@ -102,7 +102,7 @@ module _ (g : GridStruct) (made : IsMade g) where
       (omega (arith, with-at first steps k kl, ok .can k kl, shifted-at steps h b some k (omega (arith, few)), at-most-one b k, at-most-one h k)))))
 
 -- k steps are made, and the points before have their marks
-pub record Reached (g : GridStruct) (table first order : List ℕ) (n : ℕ) (marks steps : List ℕ) (k : ℕ) : Type 0 where
+pub record Reached (g : GridStruct) (first order : List ℕ) (n : ℕ) (marks steps : List ℕ) (k : ℕ) : Type 0 where
   pub long : length steps ≡ 16
   pub counts : (i : ℕ) → i < 16 → (16 ≤ at steps i + k) × (at steps i ≤ 16 + k)
   pub on : OnGrid g first steps
@@ -111,9 +111,9 @@ pub record Reached (g : GridStruct) (table first order : List ℕ) (n : ℕ) (ma
   pub can : canStep (shape g) (zeroOn g first order n) (pointWith g first steps) (drop k (take n order))
       ≡ canStep (shape g) (zeroOn g first order n) (take (g .indices) first) (take n order)
   pub marksLong : length marks ≡ 16
-  pub marked : (j : ℕ) → j < k → at marks j ≡ markIn g table (getD (keptPoints (shape g) (take (g .indices) first) (take n order)) j [])
+  pub marked : (j : ℕ) → j < k → at marks j ≡ bareMark (shape g) (getD (keptPoints (shape g) (take (g .indices) first) (take n order)) j [])
 
-module _ (g : GridStruct) (made : IsMade g) (table first order : List ℕ) (n : ℕ) where
+module _ (g : GridStruct) (made : IsMade g) (first order : List ℕ) (n : ℕ) where
   abbrev y : Point
   y = take (g .indices) first
 
@@ -139,7 +139,7 @@ module _ (g : GridStruct) (made : IsMade g) (table first order : List ℕ) (n : 
   drop-next (x ∷ l) (suc k) z r e = drop-next l k z r e
 
   module _ (from : ℕ → ℕ) (marks₀ : List ℕ) (M : CanMark g from first order n marks₀) where
-    pub reached-none : Reached g table first order n marks₀ (replicate 16 16) 0
+    pub reached-none : Reached g first order n marks₀ (replicate 16 16) 0
     reached-none = record {
       long = refl;
       counts = λ i l. let w = getD-replicate {A = ℕ} 16 i 16 0 l in (omega (arith, w), omega (arith, w));
@@ -150,7 +150,7 @@ module _ (g : GridStruct) (made : IsMade g) (table first order : List ℕ) (n : 
       marked = λ j l. absurd (omega arith);
     }
 
-    module _ (marks steps : List ℕ) (k : ℕ) (R : Reached g table first order n marks steps k) (l : k < n) (h b : ℕ) (isH : h ≡ at order k) (isB : b ≡ from h) where
+    module _ (marks steps : List ℕ) (k : ℕ) (R : Reached g first order n marks steps k) (l : k < n) (h b : ℕ) (isH : h ≡ at order k) (isB : b ≡ from h) where
       abbrev z : Point
       z = pointWith g first steps
 
@@ -215,7 +215,7 @@ module _ (g : GridStruct) (made : IsMade g) (table first order : List ℕ) (n : 
               (ap (blockOf (shape g)) (isB ∙ ap from isH) ∙ M .inBlock k l ∙ ap (blockOf (shape g)) (sym isH));
         }
 
-        pub reached-more : (r : ℕ) → r ≡ markIn g table z → Reached g table first order n (set marks k r) (shifted steps h b) (k + 1)
+        pub reached-more : (r : ℕ) → r ≡ bareMark (shape g) z → Reached g first order n (set marks k r) (shifted steps h b) (k + 1)
         reached-more r e = record {
           long = length-shifted steps h b ∙ R .long;
           counts = λ i il. let w = shifted-at steps h b count-b i (omega (arith, R .long)) in let v = R .counts i il in
@@ -225,12 +225,12 @@ module _ (g : GridStruct) (made : IsMade g) (table first order : List ℕ) (n : 
           can = rw (add-one k) (ap (λ (q : Point). canStep (shape g) zeros q (drop (suc k) o)) next-point
               ∙ sym (here-can ∙ (rw (← source, lt-ltb 0 (at z b) (omega (arith, with-at g made first steps b low-b))))));
           marksLong = length-set marks k r ∙ R .marksLong;
-          marked = λ j jl. ⊎-elim (λ (q : j ≡ k). rw q (getD-set-same marks k r 0 (omega (arith, R .marksLong, M .few)) ∙ e ∙ ap (markIn g table) (sym here-point)))
+          marked = λ j jl. ⊎-elim (λ (q : j ≡ k). rw q (getD-set-same marks k r 0 (omega (arith, R .marksLong, M .few)) ∙ e ∙ ap (bareMark (shape g)) (sym here-point)))
               (λ (q : j ≡ k → ⊥). getD-set-other marks k j r 0 q ∙ R .marked j (omega (arith, q))) (same-or j k);
         }
 
     -- all steps are made: the last point's mark
-    module _ (marks steps : List ℕ) (R : Reached g table first order n marks steps n) where
+    module _ (marks steps : List ℕ) (R : Reached g first order n marks steps n) where
       none-left : drop n o ≡ []
       none-left = drop-all o n (omega (arith, length-take n order, M .orderLong, M .few))
         where
@@ -246,9 +246,9 @@ module _ (g : GridStruct) (made : IsMade g) (table first order : List ℕ) (n : 
       last-point : getD points n [] ≡ pointWith g first steps
       last-point = drop-first points n (pointWith g first steps) [] (sym (R .rest) ∙ ap (pointsBy (shape g) zeros (pointWith g first steps)) none-left)
 
-      pub marked-all : (r : ℕ) → r ≡ markIn g table (pointWith g first steps) → (j : ℕ) → j ≤ n → at (set marks n r) j ≡ markIn g table (getD points j [])
+      pub marked-all : (r : ℕ) → r ≡ bareMark (shape g) (pointWith g first steps) → (j : ℕ) → j ≤ n → at (set marks n r) j ≡ bareMark (shape g) (getD points j [])
       marked-all r e j l =
-          ⊎-elim (λ (q : j ≡ n). rw q (getD-set-same marks n r 0 (omega (arith, R .marksLong, M .few)) ∙ e ∙ ap (markIn g table) (sym last-point)))
+          ⊎-elim (λ (q : j ≡ n). rw q (getD-set-same marks n r 0 (omega (arith, R .marksLong, M .few)) ∙ e ∙ ap (bareMark (shape g)) (sym last-point)))
           (λ (q : j ≡ n → ⊥). getD-set-other marks n j r 0 q ∙ R .marked j (omega (arith, q))) (same-or j n)
 
 pub position-low : (g : GridStruct) → IsMade g → (y : Point) → isGridPoint (shape g) y ≡ true → position (shape g) y < numPoints (shape g)

@@ -22,37 +22,37 @@ use Rattle.grid.specs.Grid.{Point, at, blockOf, firstIndex, indicesOf, isGridPo
 use Rattle.grid.specs.Made.{IsMade, shape}
 use Rattle.grid.specs.declared.Grid.{Grid as GridStruct}
 use Rattle.place.proofs.BlocksOfGrid.{back-below, before-same, blocksOf, outside-before}
-use Rattle.place.proofs.Filled.{FullyLabelled, filledTable, filled-full}
+use Rattle.place.proofs.Filled.{FullyLabelled}
 use Rattle.place.proofs.Meaning.{free-means}
 use Rattle.place.proofs.Positions.{at-distinct, at-in, in-at, same-at}
 use Rattle.place.specs.Coefficients.{coefficients}
-use Rattle.place.specs.Demand.{Accepted}
 use Rattle.place.specs.Places.{firstBackOutside}
-use Rattle.place.specs.Problem.{Problem, label}
+use Rattle.place.specs.Problem.{Problem, withLabels}
 use Rattle.rules.proofs.Walks.{back-outside, block-same}
 use Rattle.rules.specs.Mask.{bit}
-use Rattle.rules.specs.Read.{markOf}
 use Rattle.rules.specs.Ready.{IsRound}
 use Rattle.rules.specs.Step.{Round, firstOutside}
+use Rattle.trail.proofs.Tables.{table, table-full}
 use Rattle.walks.proofs.KeptPlace.{Conditions, conditions-of, is-zero, zero-is}
 use Rattle.walks.proofs.Recognised.{of-conditions}
 use Rattle.walks.specs.Kept.{canStep, isKept, zeroOutside}
 use Rattle.recogniser.proofs.Following.{settled-on}
-use Rattle.recogniser.specs.Kept.{CanRecognise, Recognised, Seen, problemOn}
-use Rattle.recogniser.specs.Pieces.{AllFree, AreSets, CanMark, FreeIn, Marked, NoSets, NotFree, beyond, filled, inNeither, positive, startedOn, twice, zeroOn}
+use Rattle.recogniser.specs.Kept.{CanRecognise, Recognised, Seen}
+use Rattle.recogniser.specs.Pieces.{AllFree, AreSets, CanMark, FreeIn, Marked, NoSets, NotFree, bareMark, beyond, filled, inNeither, positive, startedOn, twice, zeroOn}
 use Rattle.recogniser.specs.declared.Sets.{Sets}
 
 pub is-not : (b : Bool) → not b ≡ false → b ≡ true
 is-not true e = refl
 is-not false e = sym e
 
-pub not-recognised : {p : Problem} {y : Point} {o list marks : List ℕ} {r : Sets} → r .is ≡ false → isKept p y o ≡ false → Recognised p y o list marks r
+pub not-recognised : {p : Problem} {marking : Point → ℕ} {y : Point} {o list marks : List ℕ} {r : Sets} → r .is ≡ false → isKept p y o ≡ false
+    → Recognised p marking y o list marks r
 not-recognised e h = record { yes = λ t. absurd-bool (sym t ∙ e); no = λ _. h }
 
-module _ (g : GridStruct) (binomials start table previous sizes first order : List ℕ) (n : ℕ) (marks : List ℕ)
-    (C : CanRecognise g binomials start table previous sizes first order n marks) where
+module _ (g : GridStruct) (binomials start previous sizes first order : List ℕ) (n : ℕ) (marks : List ℕ)
+    (C : CanRecognise g binomials start previous sizes first order n marks) where
   abbrev p : Problem
-  p = problemOn g start table
+  p = startedOn g start
 
   abbrev y : Point
   y = take (g .indices) first
@@ -64,7 +64,7 @@ module _ (g : GridStruct) (binomials start table previous sizes first order : Li
   u = zeroOutside (shape g) o y
 
   made : IsMade g
-  made = C .readable .made
+  made = C .located .made
 
   m-is : g .indices ≡ numIndices (shape g)
   m-is = made-indices g made
@@ -72,11 +72,12 @@ module _ (g : GridStruct) (binomials start table previous sizes first order : Li
   few : numIndices (shape g) ≤ 16
   few = made-accepted g made .fewIndices
 
-  pub accepted : Accepted p
-  accepted = record { settled = settled-on g made p refl (C .startOn); tableLength = C .readable .whole; labels = C .labels }
+  -- some table without gaps, for the ways round the blocks
+  abbrev q : Problem
+  q = withLabels p (table (shape g) [] [])
 
-  full : FullyLabelled (filledTable p)
-  full = filled-full accepted
+  full : FullyLabelled q
+  full = table-full (settled-on g made p refl (C .startOn)) [] refl refl [] refl (λ l m. absurd-bool (sym m))
 
   long-o : length o ≡ n
   long-o = length-take n order ∙ omega (arith, C .orderLong, C .few)
@@ -121,7 +122,6 @@ module _ (g : GridStruct) (binomials start table previous sizes first order : Li
     free-index k l w = (sym (in-T k (omega (arith, few, m-is))) ∙ w .0, sym (in-U k (omega (arith, few, m-is))) ∙ w .1)
 
     pub not-free : (list : List ℕ) → ((k : ℕ) → k < g .indices → at list k ≡ at (coefficients (startedOn g start) y) k) → NotFree g list t v → isKept p y o ≡ false
-    unfolding coefficients
     not-free list L (filled j l none) = false-of _ (λ h.
         let f = free-means p [] o u .0 (conditions-of p y o h .free) j (omega (arith, made-blocks g made)) in
         let r = upFrom-in (firstIndex (shape g) j) (size (shape g) j) f.0 f.1 in
@@ -157,7 +157,6 @@ module _ (g : GridStruct) (binomials start table previous sizes first order : Li
           let hl : h < numIndices (shape g) = omega (arith, S .below j l, m-is) in
           let f = F .each (blockOf (shape g) h) (omega (arith, block-spans (shape g .sizes) h hl .0, made-blocks g made)) in
           let fl : f .index < numIndices (shape g) = omega (arith, f .below, m-is) in
-          let q = filledTable p in
           let same-block : blocksOf q .block f.index ≡ blocksOf q .block h = block-same q f.index fl ∙ f .block ∙ sym (block-same q h hl) in
           let other : (f .index ≡ h → ⊥) = λ e. absurd-bool (sym (S .has j l) ∙ (rw e at (f .free .0))) in
           let free = free-index f.index f.below f.free in
@@ -182,8 +181,7 @@ module _ (g : GridStruct) (binomials start table previous sizes first order : Li
 
       -- all passed
       pub all-seen : isGridPoint (shape g) y ≡ true → length list ≡ 16 → ((k : ℕ) → k < g .indices → at list k ≡ at (coefficients (startedOn g start) y) k)
-          → (new : List ℕ) → Marked g table first order n new true → Seen p y o list new t v
-      unfolding coefficients label
+          → (new : List ℕ) → Marked g first order n new true → Seen p (bareMark (shape g)) y o list new t v
       all-seen on long L new M = record {
         kept = of-conditions p y o (record {
           onGrid = on;
@@ -209,3 +207,20 @@ module _ (g : GridStruct) (binomials start table previous sizes first order : Li
         marksLong = M .long;
         marked = λ j l. M .each refl j (omega (arith, long-o));
       }
+
+-- whatever the label table
+pub with-table : (g : GridStruct) (start labels : List ℕ) {marking : Point → ℕ} {y : Point} {o list marks : List ℕ} {r : Sets}
+    → Recognised (startedOn g start) marking y o list marks r → Recognised (withLabels (startedOn g start) labels) marking y o list marks r
+unfolding isKept coefficients
+with-table g start labels R = record {
+  yes = λ e. let S = R .yes e in record {
+    kept = S .kept;
+    inT = S .inT;
+    inU = S .inU;
+    listLong = S .listLong;
+    listAt = S .listAt;
+    marksLong = S .marksLong;
+    marked = S .marked;
+  };
+  no = R .no;
+}

@@ -5,7 +5,7 @@ use mathlib.Core.Path.{_≡_}
 use Prim.Native.Nat.{ℕ, suc, _+_, _≤_, _<_}
 use lib.Dec.{eqb}
 use lib.ListN.{length, take, getD}
-use Rattle.grid.specs.Grid.{Point, at, blockOf, isGridPoint, numBlocks, numIndices, numPoints, position}
+use Rattle.grid.specs.Grid.{Grid, Point, at, blockOf, isGridPoint, numBlocks, numIndices, position}
 use Rattle.grid.specs.Made.{IsMade, shape}
 use Rattle.grid.specs.declared.Grid.{Grid as GridStruct}
 use Rattle.place.specs.Places.{firstBackOutside}
@@ -13,7 +13,7 @@ use Rattle.place.specs.Problem.{Problem}
 use Rattle.positions.specs.Binomials.{HasBinomials}
 use Rattle.positions.specs.Steps.{afterSteps, CanStep}
 use Rattle.rules.specs.Mask.{bit}
-use Rattle.rules.specs.Step.{mark}
+use Rattle.rules.specs.Step.{mark, markPosition}
 use Rattle.walks.specs.Kept.{canStep, keptPoints, zeroOutside}
 use Rattle.recogniser.specs.declared.Sets.{Sets}
 
@@ -82,11 +82,10 @@ pub record PutIn (c : List ℕ) (first end : ℕ) (old new : List ℕ) : Type 0 
   pub outside : (k : ℕ) → (k < first → at new k ≡ at old k)
   pub behind : (k : ℕ) → (end ≤ k → at new k ≡ at old k)
 
--- a label can be looked up for every grid point
-pub record Readable (g : GridStruct) (binomials table : List ℕ) : Type 0 where
+-- the position of every grid point can be told
+pub record Located (g : GridStruct) (binomials : List ℕ) : Type 0 where
   pub made : IsMade g
   pub filled : HasBinomials (shape g) binomials
-  pub whole : length table ≡ numPoints (shape g)
 
 -- the point with these counts of steps
 abbrev pub pointWith : GridStruct → List ℕ → List ℕ → Point
@@ -96,12 +95,12 @@ pub record OnGrid (g : GridStruct) (first steps : List ℕ) : Type 0 where
   pub can : CanStep (g .indices) first steps
   pub point : isGridPoint (shape g) (pointWith g first steps) ≡ true
 
--- the mark of a grid point, by the table
-abbrev pub markIn : GridStruct → List ℕ → Point → ℕ
-markIn g table y = let at = position (shape g) y in mark at (getD table at 0)
+-- the mark of a grid point whose label is not read
+abbrev pub bareMark : Grid → Point → ℕ
+bareMark g y = mark (position g y) 0
 
-pub record IsMark (g : GridStruct) (table first steps : List ℕ) (r : ℕ) : Type 0 where
-  pub is : r ≡ markIn g table (pointWith g first steps)
+pub record IsMark (g : GridStruct) (first steps : List ℕ) (r : ℕ) : Type 0 where
+  pub is : r ≡ bareMark (shape g) (pointWith g first steps)
 
 -- U, by the first point and the order
 abbrev pub zeroOn : GridStruct → List ℕ → List ℕ → ℕ → List ℕ
@@ -119,8 +118,20 @@ pub record CanMark (g : GridStruct) (from : ℕ → ℕ) (first order : List ℕ
   pub inBlock : (j : ℕ) → j < n → blockOf (shape g) (from (at order j)) ≡ blockOf (shape g) (at order j)
   pub sourcesBelow : (j : ℕ) → j < n → from (at order j) < g .indices
 
-pub record Marked (g : GridStruct) (table first order : List ℕ) (n : ℕ) (marks : List ℕ) (r : Bool) : Type 0 where
+pub record Marked (g : GridStruct) (first order : List ℕ) (n : ℕ) (marks : List ℕ) (r : Bool) : Type 0 where
   pub can : r ≡ canStep (shape g) (zeroOn g first order n) (take (g .indices) first) (take n order)
   pub long : length marks ≡ 16
   pub each : r ≡ true → (j : ℕ) → j ≤ n
-      → at marks j ≡ markIn g table (getD (keptPoints (shape g) (take (g .indices) first) (take n order)) j [])
+      → at marks j ≡ bareMark (shape g) (getD (keptPoints (shape g) (take (g .indices) first) (take n order)) j [])
+
+-- the position in each mark of the first n + 1 is in the table, and the mark has room for a label
+pub record CanRead (table marks : List ℕ) (n : ℕ) : Type 0 where
+  pub few : n ≤ 15
+  pub long : length marks ≡ 16
+  pub within : (j : ℕ) → j ≤ n → markPosition (at marks j) < length table
+  pub room : (j : ℕ) → j ≤ n → at marks j < 4294967040
+
+-- each of the first n + 1 marks has the label at its position
+pub record LabelsPut (table : List ℕ) (n : ℕ) (old new : List ℕ) : Type 0 where
+  pub long : length new ≡ 16
+  pub each : (j : ℕ) → j ≤ n → at new j ≡ at old j + getD table (markPosition (at old j)) 0

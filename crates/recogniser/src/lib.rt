@@ -1,10 +1,13 @@
 // Whether a first point and an order of indices are the points of a place, its labels apart, and what a move from there
-// looks at. What is public here is for the call that moves a walk, which shows what it asks.
+// looks at; and the labels of its points. What is public here is for the call that moves a walk, which shows what it
+// asks.
 ghost use mathlib.Core.Bool.{false};
 ghost use mathlib.Core.Path.{_≡_};
 ghost use Prim.Native.Nat.{_≤_};
 ghost use lib.ListN.{length, take};
-ghost use Rattle.recogniser.specs.Kept.{CanRecognise, Recognised, problemOn};
+ghost use Rattle.grid.specs.Made.{shape};
+ghost use Rattle.recogniser.specs.Kept.{CanRecognise, Recognised};
+ghost use Rattle.recogniser.specs.Pieces.{bareMark, startedOn};
 
 mod coefficients;
 mod free;
@@ -16,6 +19,7 @@ use free::sets_of;
 use grid::Grid;
 use moves::zeros;
 use points::mark_points;
+pub use points::read_labels;
 use positions::ENTRIES;
 
 // T and U as masks, where there are such sets.
@@ -37,12 +41,11 @@ fn nothing() -> Sets
 }
 
 // Recognises the first n + 1 points of a first point and an order, and puts the first point's coefficients and the
-// marks of all points into their arrays.
+// positions of all points, in marks without labels, into their arrays.
 pub fn recognise(
     g: Grid,
     binomials: &[u16; ENTRIES],
     start: &[u16],
-    table: &[u8],
     previous: &[u8; 16],
     sizes: &[u8; 16],
     first: &[u16; 16],
@@ -51,8 +54,8 @@ pub fn recognise(
     list: &mut [u16; 16],
     marks: &mut [u32; 16],
 ) -> Sets
-    requires { ⌜ CanRecognise g (now binomials) (now start) (now table) (now previous) (now sizes) (now first) (now order) n (now marks) ⌝ }
-    ensures { λ r. ⌜ Recognised (problemOn g (now (start .entry)) (now (table .entry))) (take (g .indices) (now (first .entry)))
+    requires { ⌜ CanRecognise g (now binomials) (now start) (now previous) (now sizes) (now first) (now order) n (now marks) ⌝ }
+    ensures { λ r. ⌜ Recognised (startedOn g (now (start .entry))) (bareMark (shape g)) (take (g .indices) (now (first .entry)))
         (take n (now (order .entry))) (now (list .exit)) (now (marks .exit)) r ⌝ }
 {
     let m = g.indices;
@@ -71,7 +74,6 @@ pub fn recognise(
     if !mark_points(
         g,
         binomials,
-        table,
         previous,
         sizes,
         first,

@@ -1,39 +1,32 @@
-// The points of a first point and an order, and their marks.
+// The points of a first point and an order, their positions, and their labels, which are read in one function.
 ghost use mathlib.Core.Path.{_≡_};
 ghost use Prim.Native.Nat.{ℕ, _≤_, _<_};
 ghost use Rattle.positions.specs.Steps.{afterSteps};
 ghost use Rattle.grid.specs.Made.{shape};
 ghost use Rattle.rules.specs.Ready.{IndicesBelow};
 ghost use Rattle.rules.specs.Step.{firstOutside};
-ghost use Rattle.recogniser.specs.Pieces.{CanMark, IsMark, Marked, Readable, OnGrid};
+ghost use Rattle.recogniser.specs.Pieces.{CanMark, CanRead, IsMark, LabelsPut, Located, Marked, OnGrid};
 use grid::Grid;
 use grid::wide16;
+use moves::position_at;
 use moves::source;
 use moves::wide32;
 use positions::ENTRIES;
 
-// The mark of the point with these counts of steps: its label in the lowest 8 bits, its position above.
-fn mark_at(
-    g: Grid,
-    binomials: &[u16; ENTRIES],
-    table: &[u8],
-    first: &[u16; 16],
-    steps: &[u16; 16],
-) -> u32
-    requires { ⌜ Readable g (now binomials) (now table) × OnGrid g (now first) (now steps) ⌝ }
-    ensures { λ r. ⌜ IsMark g (now (table .entry)) (now (first .entry)) (now (steps .entry)) r ⌝ }
+// The mark of the point with these counts of steps: its position, above the lowest 8 bits, where its label has room.
+fn mark_at(g: Grid, binomials: &[u16; ENTRIES], first: &[u16; 16], steps: &[u16; 16]) -> u32
+    requires { ⌜ Located g (now binomials) × OnGrid g (now first) (now steps) ⌝ }
+    ensures { λ r. ⌜ IsMark g (now (first .entry)) (now (steps .entry)) r ⌝ }
 {
     let at = positions::position(g, binomials, first, steps);
-    let label = table[at] as u32;
-    at as u32 * 256 + label
+    at as u32 * 256
 }
 
-// The marks of the points, one after the other by the first n steps of the order; whether each step has 1 to take. The
-// steps are counted from 16 on, so that no count falls below 0.
+// The positions of the points, one after the other by the first n steps of the order, in marks without labels; whether
+// each step has 1 to take. The steps are counted from 16 on, so that no count falls below 0.
 pub fn mark_points(
     g: Grid,
     binomials: &[u16; ENTRIES],
-    table: &[u8],
     previous: &[u8; 16],
     sizes: &[u8; 16],
     first: &[u16; 16],
@@ -42,14 +35,14 @@ pub fn mark_points(
     n: usize,
     marks: &mut [u32; 16],
 ) -> bool
-    requires { ⌜ Readable g (now binomials) (now table) × IndicesBelow (now previous) ⌝ }
+    requires { ⌜ Located g (now binomials) × IndicesBelow (now previous) ⌝ }
     requires { ⌜ CanMark g (firstOutside (now previous) (now sizes) u) (now first) (now order) n (now marks) ⌝ }
-    ensures { λ r. ⌜ Marked g (now (table .entry)) (now (first .entry)) (now (order .entry)) n (now (marks .exit)) r ⌝ }
+    ensures { λ r. ⌜ Marked g (now (first .entry)) (now (order .entry)) n (now (marks .exit)) r ⌝ }
 {
     let mut steps = [16u16; 16];
     let mut k: usize = 0;
     while k < n {
-        marks[k] = mark_at(g, binomials, table, first, &steps);
+        marks[k] = mark_at(g, binomials, first, &steps);
         let h = wide32(order[k]);
         let b = source(previous, sizes, u, h);
         if wide16(first[b]) + wide16(steps[b]) <= 16 {
@@ -59,6 +52,20 @@ pub fn mark_points(
         steps[b] = steps[b] - 1;
         k += 1;
     }
-    marks[n] = mark_at(g, binomials, table, first, &steps);
+    marks[n] = mark_at(g, binomials, first, &steps);
     true
+}
+
+// Reads the labels of the first n + 1 points into their marks.
+pub fn read_labels(table: &[u8], n: usize, marks: &mut [u32; 16])
+    requires { ⌜ CanRead (now table) (now marks) n ⌝ }
+    ensures { λ _. ⌜ LabelsPut (now (table .entry)) n (now (marks .entry)) (now (marks .exit)) ⌝ }
+{
+    let mut k: usize = 0;
+    while k <= n {
+        let at = position_at(marks, n, k);
+        let label = table[at] as u32;
+        marks[k] = marks[k] + label;
+        k += 1;
+    }
 }

@@ -21,8 +21,9 @@ use Rattle.place.specs.Places.{isPlace}
 use Rattle.place.specs.Questions.{tableQuestions}
 use Rattle.questions.specs.Questions.{firstNo}
 use Rattle.walks.specs.Next.{nextOf, refused}
-use Rattle.walk_moves.proofs.Next.{no-count, no-place}
+use Rattle.walk_moves.proofs.Next.{no-count, no-place, no-read}
 use Rattle.walk_ways.proofs.Held.{held, held-parts, not-held}
+use Rattle.walk_calls.specs.Asked.{inRange}
 use Rattle.walk_calls.specs.Moving.{CanStand, FilledBy}
 use Rattle.walk_ways.specs.Standing.{pointsOn, tableOn, walkOn}
 use Rattle.walk_ways.specs.Walks.{holdsNumbers, holdsPlace, keptAs, placeOf, samePlace}
@@ -43,20 +44,31 @@ module _ (g : GridStruct) (w : WalkStruct) (labels : List ℕ) (made : IsMade g)
   ok : Accepted (tableOn g w labels)
   ok = accepted-of (tableOn g w labels) asked
 
-  pub out-of-range : (leb 1 (w .places) && leb (w .places) (bound (shape g))) ≡ false → nextOf (walkOn (shape g) w) labels ≡ refused 20
-  out-of-range f = no-count (walkOn (shape g) w) labels ok
+  bound-passed : (leb 1 (w .places) && leb (w .places) (bound (shape g))) ≡ false → nextOf (walkOn (shape g) w) labels ≡ refused 20
+  bound-passed f = no-count (walkOn (shape g) w) labels ok
       (⊎-elim (λ (l : w .places < 1). inl (omega arith)) (λ (l : 1 ≤ w .places). ⊎-elim (λ (m : bound (shape g) < w .places). inr m)
       (λ (m : w .places ≤ bound (shape g)). absurd-bool (sym (and-both _ _ (le-leb 1 (w .places) l) (le-leb (w .places) (bound (shape g)) m)) ∙ f)) (before-or-not (bound (shape g)) (w .places)))
       (before-or-not (w .places) 1))
+
+  read-passed : (leb 1 (w .«labels_read») && leb (w .«labels_read») (w .places)) ≡ false → nextOf (walkOn (shape g) w) labels ≡ refused 20
+  read-passed f = no-read (walkOn (shape g) w) labels ok
+      (⊎-elim (λ (l : w .«labels_read» < 1). inl (omega arith)) (λ (l : 1 ≤ w .«labels_read»). ⊎-elim (λ (m : w .places < w .«labels_read»). inr m)
+      (λ (m : w .«labels_read» ≤ w .places). absurd-bool (sym (and-both _ _ (le-leb 1 (w .«labels_read») l) (le-leb (w .«labels_read») (w .places) m)) ∙ f)) (before-or-not (w .places) (w .«labels_read»)))
+      (before-or-not (w .«labels_read») 1))
+
+  pub out-of-range : inRange (shape g) (w .places) (w .«labels_read») ≡ false → nextOf (walkOn (shape g) w) labels ≡ refused 20
+  out-of-range f = ⊎-elim (λ t. read-passed (rw t at f)) (λ n. bound-passed n) (true-or-false (leb 1 (w .places) && leb (w .places) (bound (shape g))))
 
   pub not-kept-so : holdsPlace (shape g) (w .present) ≡ false → nextOf (walkOn (shape g) w) labels ≡ refused 20
   not-kept-so f = no-place (walkOn (shape g) w) labels ok (false-of _ (λ h. no-empty (tableOn g w labels) ok.settled.someBlock (rw (not-held (shape g) (w .present) f) at h)))
 
   pub kept-rightly : holdsNumbers (g .indices) (w .present) ≡ true → length (w .present .first) ≡ 16 → length (w .present .order) ≡ 16
-      → (leb 1 (w .places) && leb (w .places) (bound (shape g))) ≡ true → (n : ℕ) → n ≡ pred (w .present .count) → CanStand g w labels (w .present .first) (w .present .order) n
+      → inRange (shape g) (w .places) (w .«labels_read») ≡ true → (n : ℕ) → n ≡ pred (w .present .count) → CanStand g w labels (w .present .first) (w .present .order) n
   kept-rightly t fl ol range n is =
       let h : holdsPlace (shape g) (w .present) ≡ true = rw (← (made-indices g made)) t in
       let k = held-parts (shape g) (w .present) h in
+      let a = leb 1 (w .places) in let b = leb (w .places) (bound (shape g)) in let c = leb 1 (w .«labels_read») in let d = leb (w .«labels_read») (w .places) in
+      let ab = and-left (a && b) (c && d) range in let cd = and-right (a && b) (c && d) range in
       record {
         made = made;
         asked = asked;
@@ -64,8 +76,11 @@ module _ (g : GridStruct) (w : WalkStruct) (labels : List ℕ) (made : IsMade g)
         firstLong = fl;
         orderLong = ol;
         present = held (shape g) (w .present) h ∙ rw (is, made-indices g made);
-        some = leb-true 1 _ (and-left (leb 1 (w .places)) (leb (w .places) (bound (shape g))) range);
-        most = leb-true _ _ (and-right (leb 1 (w .places)) (leb (w .places) (bound (shape g))) range);
+        count = omega (arith, is, k .0);
+        some = leb-true 1 _ (and-left a b ab);
+        most = leb-true _ _ (and-right a b ab);
+        read = leb-true 1 _ (and-left c d cd);
+        readFew = leb-true _ _ (and-right c d cd);
       }
 
   pub kept-wrongly : holdsNumbers (g .indices) (w .present) ≡ false → nextOf (walkOn (shape g) w) labels ≡ refused 20

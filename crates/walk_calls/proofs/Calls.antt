@@ -23,7 +23,9 @@ use Rattle.questions.specs.Questions.{ask, firstNo}
 use Rattle.walks.proofs.Moved.{moved-passes, next-refused}
 use Rattle.walks.specs.Next.{Outcome, ended, moved, nextOf, refused, ruleOf}
 use Rattle.walks.specs.Walk.{Walk, isWalk, over, walkQuestions}
-use Rattle.walk_calls.specs.Moving.{callOn, movedTo, unmovedAs}
+use Rattle.walk_calls.specs.Moving.{CarriesTo, callOn, movedTo, unmovedAs}
+use Rattle.walk_calls.specs.Placing.{GoesTo}
+use Rattle.walk_labels.specs.declared.Carried.{Carried}
 use Rattle.walk_ways.specs.Standing.{walkOn}
 use Rattle.walk_ways.specs.Walks.{answerOf, firstSix, gridOf, nextAs, numbersOf, padded, placeAfter, placeOf, stored, structOn, walkOf}
 use Rattle.walk_calls.specs.Calls.{callOf}
@@ -32,6 +34,7 @@ use Rattle.walk_ways.specs.declared.Answer.the-variants.{Ended, Moved, Refused}
 use Rattle.walk_calls.specs.declared.Call.{Call}
 use Rattle.walk_ways.specs.declared.Kind.{Kind}
 use Rattle.walk_ways.specs.declared.Next.{Next}
+use Rattle.walk_ways.specs.declared.Place.{Place}
 use Rattle.walk_ways.specs.declared.Walk.{Walk as WalkStruct}
 
 abbrev pub madeCall : Answer → List ℕ → WalkStruct → Call
@@ -52,22 +55,29 @@ module _ (g : Grid) (w : WalkStruct) (labels : List ℕ) where
 
   -- what comes next
   module _ (next : Next) (is : next ≡ nextAs walk labels (nextOf walk labels)) where
-    pub call-moved : (rule : ℕ) → next .answer ≡ Moved rule → madeCall (next .answer) (next .simplex) (movedTo w (next .place)) ≡ callOn g w labels
-    unfolding callOn nextAs
-    call-moved rule e = go (nextOf walk labels) is
+    -- a walk that is moved: where to, and that it has room to count on
+    pub goes-to : (rule : ℕ) → next .answer ≡ Moved rule → GoesTo g w labels (next .place)
+    unfolding nextAs
+    goes-to rule e = go (nextOf walk labels) refl is
       where
-        go : (n : Outcome Simplex) → next ≡ nextAs walk labels n → madeCall (next .answer) (next .simplex) (movedTo w (next .place))
-            ≡ madeCall (answerOf (ruleOf (over walk labels) (placeOf g (w .present))) n) (padded 256 (numbersOf n)) (structOn g w n)
-        go (refused k) q = absurd-bool (let z = ap (λ (x : Next). x .answer) q in cc)
-        go (ended k b s) q = absurd-bool (let z = ap (λ (x : Next). x .answer) q in cc)
-        go (moved s) q = rw q
+        go : (n : Outcome Simplex) → nextOf walk labels ≡ n → next ≡ nextAs walk labels n → GoesTo g w labels (next .place)
+        go (refused k) x q = absurd-bool (let z = ap (λ (x : Next). x .answer) q in cc)
+        go (ended k b s) x q = absurd-bool (let z = ap (λ (x : Next). x .answer) q in cc)
+        go (moved s) x q = record { to = s; moves = x; place = ap (λ (x : Next). x .place) q }
+
+    pub call-moved : (G : GoesTo g w labels (next .place)) (on : Carried) → CarriesTo (over walk labels) (placeOf g (w .present)) (G .to) on
+        → madeCall (next .answer) (next .simplex) (movedTo w (next .place) on) ≡ callOn g w labels
+    unfolding callOn nextAs
+    call-moved G on C =
+        let q : next ≡ nextAs walk labels (moved (G .to)) = is ∙ ap (nextAs walk labels) G.moves in
+        rw (G .moves, q, C .labels, C .cameIn)
 
     pub call-refuses : (k : ℕ) → next .answer ≡ Refused k → madeCall (next .answer) (next .simplex) w ≡ callOn g w labels
     unfolding callOn nextAs
     call-refuses k e = go (nextOf walk labels) is
       where
         go : (n : Outcome Simplex) → next ≡ nextAs walk labels n → madeCall (next .answer) (next .simplex) w
-            ≡ madeCall (answerOf (ruleOf (over walk labels) (placeOf g (w .present))) n) (padded 256 (numbersOf n)) (structOn g w n)
+            ≡ madeCall (answerOf (ruleOf (over walk labels) (placeOf g (w .present))) n) (padded 256 (numbersOf n)) (structOn (over walk labels) w n)
         go (refused k) q = rw q
         go (ended k b s) q = rw q
         go (moved s) q = absurd-bool (let z = ap (λ (x : Next). x .answer) q in cc)
@@ -77,25 +87,20 @@ module _ (g : Grid) (w : WalkStruct) (labels : List ℕ) where
     call-ended kind block vertices e = go (nextOf walk labels) is
       where
         go : (n : Outcome Simplex) → next ≡ nextAs walk labels n → madeCall (next .answer) (next .simplex) w
-            ≡ madeCall (answerOf (ruleOf (over walk labels) (placeOf g (w .present))) n) (padded 256 (numbersOf n)) (structOn g w n)
+            ≡ madeCall (answerOf (ruleOf (over walk labels) (placeOf g (w .present))) n) (padded 256 (numbersOf n)) (structOn (over walk labels) w n)
         go (refused k) q = rw q
         go (ended k b s) q = rw q
         go (moved s) q = absurd-bool (let z = ap (λ (x : Next). x .answer) q in cc)
 
-    -- a walk that is moved has room to count on
-    pub places-few : (rule : ℕ) → next .answer ≡ Moved rule → w .places < 18446744073709551615
-    unfolding nextAs bound
-    places-few rule e = go (nextOf walk labels) refl is
-      where
-        go : (n : Outcome Simplex) → nextOf walk labels ≡ n → next ≡ nextAs walk labels n → w .places < 18446744073709551615
-        go (refused k) x q = absurd-bool (let z = ap (λ (x : Next). x .answer) q in cc)
-        go (ended k b s) x q = absurd-bool (let z = ap (λ (x : Next). x .answer) q in cc)
-        go (moved s) x q =
-            let P = moved-passes walk labels s x .0 in
-            let ok = P .accepted .settled in
-            let few : numPoints g * sum (map (falling (numIndices g)) (upFrom 0 (suc (dimension g)))) ≤ 60000 * 35951249665217 =
-            mul-le-mul (ok .points) (terms-few (numIndices g) (dimension g) (ok .sixteenIndices) (omega (arith, ok .sixteenIndices, ok .someBlock))) in
-            omega (arith, P .stands .bounded, few)
+pub places-few : (g : Grid) (w : WalkStruct) (labels : List ℕ) {next : Place} → GoesTo g w labels next
+    → (w .places < 18446744073709551615) × (w .«labels_read» < 18446744073709551615)
+unfolding bound
+places-few g w labels G =
+    let P = moved-passes (walkOn g w) labels (G .to) (G .moves) .0 in
+    let ok = P .accepted .settled in
+    let few : numPoints g * sum (map (falling (numIndices g)) (upFrom 0 (suc (dimension g)))) ≤ 60000 * 35951249665217 =
+    mul-le-mul (ok .points) (terms-few (numIndices g) (dimension g) (ok .sixteenIndices) (omega (arith, ok .sixteenIndices, ok .someBlock))) in
+    (omega (arith, P .stands .bounded, few), omega (arith, P .stands .bounded, P .stands .readFew, few))
 
 pub call-on-own : (w : WalkStruct) (labels : List ℕ) → callOf w labels ≡ callOn (gridOf w) w labels
 unfolding callOf callOn

@@ -1,3 +1,5 @@
+pub mod Placed
+pub mod BothPlaced
 pub mod Stood
 pub mod Later
 pub mod Begins

@@ -1,17 +1,18 @@
 -- From a place that is kept rightly to one that is recognised, with its spare point. In order: what is asked; labels; T among the labels; the spare point. Assumes
 -- nothing.
 use mathlib.Core.Bool.{Bool, true, false, _&&_, cond}
-use mathlib.Core.List.{List, []}
+use mathlib.Core.List.{List, [], _∷_, map}
 use mathlib.Core.Logic.{_⊎_, inl, inr, ⊎-elim}
 use mathlib.Core.Path.{_≡_, refl, sym, ap, _∙_, subst}
 use Prim.Native.Nat.{ℕ, zero, suc, pred, _+_, _*_, _≤_, _<_}
-use borrow.Author.Tests.{ltb-true}
+use borrow.Author.Tests.{eqb-true, ltb-true}
 use lib.Dec.{eqb, ltb}
-use lib.ListN.{length, getD, take, length-take}
+use lib.ListN.{length, getD, take, length-map, length-take}
+use lib.Seq.{ext-getD, getD-take, length-take-le}
 use native.Mathlib.Omega.{arith}
-use Rattle.combinatorics.proofs.Basics.{absurd-bool, and-both, and-left, and-right, before-or-not, both, false-of}
-use Rattle.combinatorics.proofs.Lists.{all-in, in-all, onNumbers}
-use Rattle.combinatorics.specs.Lists.{isIn}
+use Rattle.combinatorics.proofs.Basics.{absurd-bool, and-both, and-left, and-right, before-or-not, both, false-of, true-or-false}
+use Rattle.combinatorics.proofs.Lists.{all-in, eqb-self, in-all, onNumbers, same-self, same-sound}
+use Rattle.combinatorics.specs.Lists.{isIn, same}
 use Rattle.grid.proofs.Fields.{following-low, made-accepted, made-indices, made-next, made-previous, previous-low}
 use Rattle.grid.proofs.Points.{in-points, onPoints, position-in}
 use Rattle.grid.specs.Grid.{Point, at, blockOf, isGridPoint, numIndices, numPoints, points, position, size}
@@ -26,21 +27,28 @@ use Rattle.place.specs.Demand.{Accepted}
 use Rattle.place.specs.Places.{Simplex, isPlace, labelSet, within}
 use Rattle.place.specs.Problem.{Problem, label}
 use Rattle.rules.proofs.SameMasks.{same-mask}
-use Rattle.rules.proofs.Marks.{label-in}
+use Rattle.rules.proofs.Marks.{label-in, labels-in}
 use Rattle.rules.specs.Mask.{bit}
+use Rattle.rules.specs.Read.{markOf}
 use Rattle.rules.specs.Step.{markLabel}
 use Rattle.walks.proofs.KeptPlace.{Conditions, conditions-of, points-long, points-on}
 use Rattle.walks.proofs.Recognised.{recognised}
 use Rattle.walks.specs.Kept.{isKept, keptPoints}
 use Rattle.walks.specs.Next.{nextOf, refused}
-use Rattle.walk_moves.proofs.Next.{no-place}
+use Rattle.walks.specs.Walk.{labelsOf}
+use Rattle.walk_moves.proofs.Next.{no-place, not-carried}
 use Rattle.walk_moves.proofs.Unknown.{some-spare}
+use Rattle.walk_labels.specs.Carrying.{labelsIn}
 use Rattle.walk_moves.specs.Spare.{Spare, again, outside, unknown}
 use Rattle.recogniser.specs.Kept.{Recognised, Seen}
 use Rattle.recogniser.specs.declared.Sets.{Sets}
-use Rattle.walk_calls.specs.Moving.{CanChoose, CanSee, CanStand, FilledBy}
+use Rattle.walk_calls.proofs.Placed.{kept-on-grid, kept-position}
+use Rattle.walk_calls.specs.Moving.{CanChoose, CanStand, FilledBy}
+use Rattle.walk_calls.specs.Placing.{CanSee}
+use Rattle.walk_ways.proofs.Held.{padded-taken}
 use Rattle.walk_ways.specs.Spares.{LabelsLow, NotNew, SparesOf, again as seenAgain, labelAt, outside as seenOutside, unknown as unseen}
 use Rattle.walk_ways.specs.Standing.{IsRoundOf, Standing, pointsOn, tableOn, walkOn}
+use Rattle.walk_ways.specs.Walks.{carriedOf, padded, placeOf}
 use Rattle.walk_ways.specs.declared.Spared.{Spared}
 use Rattle.walk_ways.specs.declared.Walk.{Walk as WalkStruct}
 
@@ -78,11 +86,10 @@ module _ {g : GridStruct} {w : WalkStruct} {labels first order : List ℕ} {n : 
   pub not-kept-place : isKept p y o ≡ false → isPlace p s ≡ false
   not-kept-place f = recognised ok.settled y o ∙ (rw f)
 
-  module _ {list marks : List ℕ} {t u : ℕ} (S : Seen p y o list marks t u) where
+  module _ {list marks : List ℕ} {t u : ℕ} (S : Seen p (markOf p) y o list marks t u) where
     -- the points are on the grid, and their labels stand in the marks
     on-grid : (j : ℕ) → j ≤ n → isGridPoint (shape g) (getD s j []) ≡ true
-    on-grid j l = let k = conditions-of p y o S.kept in
-        all-in onPoints (isGridPoint (shape g)) s (points-on ok.settled y o k) (getD s j []) (at-in onPoints [] s j (omega (arith, points-long ok.settled y o k, long-o)))
+    on-grid j l = kept-on-grid C S.kept j l
 
     label-few : (j : ℕ) → j ≤ n → label p (getD s j []) ≤ 16
     label-few j l = omega (arith, label-within ok (getD s j []) (on-grid j l), ok .settled .sixteenIndices)
@@ -141,11 +148,12 @@ module _ {g : GridStruct} {w : WalkStruct} {labels first order : List ℕ} {n : 
             go (seenOutside h z b) = let e = sym (label-is (r .point) found.0) ∙ z in outside h e (sym (S .inT h (omega (arith, e, label-few (r .point) found.0))) ∙ b)
             go (seenAgain j l z) = again j (omega (arith, l, found .0, long-o)) (λ e. omega (arith, l, e)) (sym (label-is j (omega (arith, l, found .0))) ∙ z ∙ label-is (r .point) found.0)
 
-        pub can-choose : CanStand g w labels first order n → CanChoose g w labels first list order marks n t u (r .point)
-        can-choose D = record {
+        pub can-choose : CanStand g w labels first order n → carriedOf w ≡ labelsOf p (placeOf (shape g) (w .present))
+            → CanChoose g w labels first list order marks n t u (r .point)
+        can-choose D carried = record {
           low = omega (arith, found .0, C .few);
           long = S .marksLong;
-          room = omega (arith, S .marked (r .point) (omega (arith, found .0, long-o)), label-few (r .point) found.0, low-position (r .point) found.0, made-accepted g C.made .fewPoints);
+          room = omega (arith, S .marked (r .point) (omega (arith, found .0, long-o)), label-few (r .point) found.0, kept-position C S.kept (r .point) found.0, made-accepted g C.made .fewPoints);
           stands = λ own un e F. record {
             made = C .made;
             asked = C .asked;
@@ -163,13 +171,15 @@ module _ {g : GridStruct} {w : WalkStruct} {labels first order : List ℕ} {n : 
             spare = spare-of;
             unknownIs = e ∙ ap (λ (x : ℕ). eqb x 0) (label-is (r .point) found.0);
             marked = λ j l. F .each j ∙ ap (λ (x : ℕ). x + cond (un && eqb j (r .point)) 1 0) (S .marked j (omega (arith, long-o)));
-            some = D .some;
-            most = D .most;
+            counted = record {
+              some = D .some;
+              most = D .most;
+              carries = carried;
+              read = D .read;
+              readFew = D .readFew;
+            };
           };
         }
-          where
-            low-position : (j : ℕ) → j ≤ n → position (shape g) (getD s j []) < numPoints (shape g)
-            low-position j l = position-in (points (shape g)) (getD s j []) (in-points (shape g) (getD s j []) ok.settled.sameNumber (on-grid j l))
 
 -- a walk whose present place is no place is refused
 module _ {g : GridStruct} {w : WalkStruct} {labels first order : List ℕ} {n : ℕ} (D : CanStand g w labels first order n) where
@@ -178,3 +188,47 @@ module _ {g : GridStruct} {w : WalkStruct} {labels first order : List ℕ} {n : 
 
   pub no-place-there : isPlace (tableOn g w labels) (pointsOn g first order n) ≡ false → nextOf (walkOn (shape g) w) labels ≡ refused 20
   no-place-there f = no-place (walkOn (shape g) w) labels (ok can-see) (rw D.present f)
+
+  -- the labels that are carried, beside those in the marks
+  module _ {list marks : List ℕ} {t u : ℕ} (S : Seen (tableOn g w labels) (markOf (tableOn g w labels)) (take (g .indices) first) (take n order) list marks t u) where
+    abbrev there : Simplex
+    there = pointsOn g first order n
+
+    there-long : length there ≡ suc n
+    there-long = points-long (ok can-see .settled) (take (g .indices) first) (take n order) (conditions-of (tableOn g w labels) (take (g .indices) first) (take n order) S.kept)
+        ∙ ap suc (length-take n order ∙ omega (arith, D .orderLong, D .few))
+
+    in-marks : map markLabel (take (suc n) marks) ≡ labelsOf (tableOn g w labels) there
+    in-marks =
+        let l = length-take-le (suc n) marks (omega (arith, S .marksLong, D .few)) in
+        let m = length-map (take (suc n) marks) markLabel ∙ l in
+        ext-getD 0 (map markLabel (take (suc n) marks)) (labelsOf (tableOn g w labels) there) (m ∙ sym (length-map there (label (tableOn g w labels)) ∙ there-long)) (λ j h.
+        let jl : j ≤ n = omega (arith, m) in
+        labels-in (take (suc n) marks) j (omega (arith, l)) ∙ ap markLabel (getD-take (suc n) marks j 0 (omega arith)) ∙ label-is can-see S j jl
+        ∙ sym (label-at there j (omega (arith, there-long))))
+      where
+        label-at : (r : Simplex) (j : ℕ) → j < length r → getD (labelsOf (tableOn g w labels) r) j 0 ≡ label (tableOn g w labels) (getD r j [])
+        label-at [] j l = absurd (omega arith)
+        label-at (z ∷ r) zero l = refl
+        label-at (z ∷ r) (suc j) l = label-at r j (omega arith)
+
+    pub carries-own : same eqb (w .carried) (labelsIn marks n) ≡ true → carriedOf w ≡ labelsOf (tableOn g w labels) (placeOf (shape g) (w .present))
+    unfolding carriedOf
+    carries-own e =
+        let a : w .carried ≡ padded 16 (labelsOf (tableOn g w labels) there) = same-sound eqb eqb-true (w .carried) _ e ∙ ap (padded 16) in-marks in
+        let b : take (w .present .count) (w .carried) ≡ labelsOf (tableOn g w labels) there =
+        ap (take (w .present .count)) a ∙ padded-taken (w .present .count) (labelsOf (tableOn g w labels) there) (length-map there (label (tableOn g w labels)) ∙ there-long ∙ sym D.count) in
+        rw (b, D .present) (rw (← a) (rw (same-self eqb eqb-self (w .carried))))
+
+    pub carries-others : same eqb (w .carried) (labelsIn marks n) ≡ false → nextOf (walkOn (shape g) w) labels ≡ refused 20
+    unfolding carriedOf
+    carries-others f = not-carried (walkOn (shape g) w) labels (ok can-see) (λ e.
+        let own : List ℕ = take (w .present .count) (w .carried) in
+        let z : cond (same eqb (w .carried) (padded 16 own)) own [] ≡ labelsOf (tableOn g w labels) there = e ∙ ap (labelsOf (tableOn g w labels)) D.present in
+        ⊎-elim (λ t.
+        let a : own ≡ labelsOf (tableOn g w labels) there = rw t at z in
+        let b : w .carried ≡ labelsIn marks n = same-sound eqb eqb-true (w .carried) (padded 16 own) t ∙ ap (padded 16) (a ∙ sym in-marks) in
+        absurd-bool (sym (same-self eqb eqb-self (w .carried)) ∙ ap (same eqb (w .carried)) b ∙ f))
+        (λ x. let a : [] ≡ labelsOf (tableOn g w labels) there = rw x at z in
+        omega (arith, ap length a, length-map there (label (tableOn g w labels)), there-long))
+        (true-or-false (same eqb (w .carried) (padded 16 own))))

@@ -3,7 +3,7 @@ use mathlib.Core.List.{List}
 use Prim.Native.Nat.{ℕ}
 use Rattle.walks.specs.Next.{nextOf, ruleOf}
 use Rattle.walks.specs.Walk.{over}
-use Rattle.walk_ways.specs.Walks.{answerOf, gridOf, numbersOf, padded, structOn, walkOf}
+use Rattle.walk_ways.specs.Walks.{answerOf, numbersOf, padded, structOn, walkOf}
 use Rattle.walk_ways.specs.declared.Walk.{Walk as WalkStruct}
 use Rattle.walk_calls.specs.declared.Call.{Call}
 use Rattle.walk_calls.specs.declared.Told.{Told}
@@ -15,7 +15,7 @@ callOf w labels =
     record {
       answer = answerOf (ruleOf (over (walkOf w) labels) (walkOf w .present)) n;
       simplex = padded 256 (numbersOf n);
-      walk = structOn (gridOf w) w n;
+      walk = structOn (over (walkOf w) labels) w n;
     }
 
 -- what a call tells besides the walk

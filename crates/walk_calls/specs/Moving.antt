@@ -2,7 +2,7 @@
 use mathlib.Core.Bool.{Bool, true, _&&_, cond}
 use mathlib.Core.List.{List}
 use mathlib.Core.Path.{_≡_}
-use Prim.Native.Nat.{ℕ, _+_, _≤_, _<_}
+use Prim.Native.Nat.{ℕ, suc, _+_, _≤_, _<_}
 use lib.Dec.{eqb}
 use lib.ListN.{length, replicate}
 use Rattle.grid.specs.Grid.{Grid, at, bound}
@@ -10,10 +10,14 @@ use Rattle.grid.specs.Made.{IsMade, shape}
 use Rattle.grid.specs.Questions.{gridQuestions}
 use Rattle.grid.specs.declared.Grid.{Grid as GridStruct}
 use Rattle.grid.specs.declared.Made.{Made}
+use Rattle.place.specs.LabelsRead.{pointCameIn}
+use Rattle.place.specs.Places.{Simplex}
+use Rattle.place.specs.Problem.{Problem}
 use Rattle.place.specs.Questions.{tableQuestions}
 use Rattle.questions.specs.Questions.{firstNo}
 use Rattle.walks.specs.Next.{nextOf, ruleOf}
-use Rattle.walks.specs.Walk.{over}
+use Rattle.walks.specs.Walk.{labelsOf, over}
+use Rattle.walk_labels.specs.declared.Carried.{Carried}
 use Rattle.walk_ways.specs.Spares.{labelAt}
 use Rattle.walk_ways.specs.Standing.{Standing, pointsOn, tableOn, walkOn}
 use Rattle.walk_ways.specs.Walks.{answerOf, numbersOf, padded, placeOf, structOn}
@@ -27,15 +31,7 @@ pub record GridIn (g : Grid) (r : Made) : Type 0 where
   pub code : r .code ≡ firstNo (gridQuestions g)
   pub is : r .code ≡ 0 → IsMade (r .grid) × (shape (r .grid) ≡ g)
 
--- the walk passes questions 1 to 7, and there are 16 numbers each
-pub record CanSee (g : GridStruct) (w : WalkStruct) (labels first order : List ℕ) (n : ℕ) : Type 0 where
-  pub made : IsMade g
-  pub asked : firstNo (tableQuestions (tableOn g w labels)) ≡ 0
-  pub few : n ≤ 15
-  pub firstLong : length first ≡ 16
-  pub orderLong : length order ≡ 16
-
--- the walk passes questions 1 to 7, its places so far are in range, and its present place is kept rightly
+-- the walk passes questions 1 to 7, its places so far and its labels read are in range, and its present place is kept rightly
 pub record CanStand (g : GridStruct) (w : WalkStruct) (labels first order : List ℕ) (n : ℕ) : Type 0 where
   pub made : IsMade g
   pub asked : firstNo (tableQuestions (tableOn g w labels)) ≡ 0
@@ -43,8 +39,11 @@ pub record CanStand (g : GridStruct) (w : WalkStruct) (labels first order : List
   pub firstLong : length first ≡ 16
   pub orderLong : length order ≡ 16
   pub present : placeOf (shape g) (w .present) ≡ pointsOn g first order n
+  pub count : w .present .count ≡ suc n
   pub some : 1 ≤ w .places
   pub most : w .places ≤ bound (shape g)
+  pub read : 1 ≤ w .«labels_read»
+  pub readFew : w .«labels_read» ≤ w .places
 
 pub record CanFill (marks : List ℕ) (point : ℕ) (unknown : Bool) : Type 0 where
   pub low : point < 16
@@ -63,16 +62,23 @@ pub record CanChoose (g : GridStruct) (w : WalkStruct) (labels first list order 
   pub stands : (own : List ℕ) (unknown : Bool) → unknown ≡ eqb (labelAt marks point) 0 → FilledBy marks point unknown own
       → Standing g w labels first list order own n t u point unknown
 
+-- the labels of the next place, with 0 behind, and whether one of its points came in
+pub record CarriesTo (p : Problem) (here there : Simplex) (r : Carried) : Type 0 where
+  pub labels : r .labels ≡ padded 16 (labelsOf p there)
+  pub cameIn : r .«came_in» ≡ pointCameIn here there
+
 -- the walk moved on to a place
-abbrev pub movedTo : WalkStruct → Place → WalkStruct
-movedTo w place = record {
+abbrev pub movedTo : WalkStruct → Place → Carried → WalkStruct
+movedTo w place on = record {
   places = w .places + 1;
+  «labels_read» = w .«labels_read» + cond (on .«came_in») 1 0;
   present = place;
   before = w .present;
   start = w .start;
   divisions = w .divisions;
   sizes = w .sizes;
   blocks = w .blocks;
+  carried = on .labels;
 }
 
 abbrev pub unmovedAs : WalkStruct → ℕ → Call
@@ -85,5 +91,5 @@ callOn g w labels =
     record {
       answer = answerOf (ruleOf (over (walkOn g w) labels) (placeOf g (w .present))) n;
       simplex = padded 256 (numbersOf n);
-      walk = structOn g w n;
+      walk = structOn (over (walkOn g w) labels) w n;
     }

@@ -3,26 +3,29 @@ ghost use mathlib.Core.Bool.{cond};
 ghost use mathlib.Core.Path.{_≡_};
 ghost use Prim.Native.Nat.{_≤_, _<_};
 ghost use lib.Dec.{leb};
-ghost use lib.ListN.{length, take};
 ghost use Rattle.questions.specs.Questions.{firstNo};
 ghost use Rattle.grid.specs.Made.{IsMade, shape};
 ghost use Rattle.place.specs.Questions.{tableQuestions};
-ghost use Rattle.recogniser.specs.Kept.{Recognised};
-ghost use Rattle.walk_calls.specs.Moving.{CanChoose, CanFill, CanSee, CanStand, FilledBy, GridIn, callOn, movedTo, unmovedAs};
+ghost use Rattle.walk_calls.specs.Moving.{CanChoose, CanFill, CanStand, FilledBy, GridIn};
+ghost use Rattle.walk_calls.specs.Moving.{CarriesTo, callOn, movedTo, unmovedAs};
+ghost use Rattle.walk_calls.specs.Placing.{GoesTo};
 ghost use Rattle.walk_ways.specs.Standing.{IsRoundOf, nextIn, tableOn};
-ghost use Rattle.walk_ways.specs.Walks.{gridOf};
+ghost use Rattle.walk_ways.specs.Walks.{gridOf, placeOf};
 ghost use Rattle.walk_calls.specs.Calls.{callOf};
 use crate::Call;
 use crate::asking::first_no;
 use crate::asking::in_range;
+use crate::placing::both_placed;
+use crate::placing::seen;
 use grid::Grid;
 use grid::Made;
 use grid::wide;
 use moves::block_sizes;
 use moves::label_in;
-use positions::ENTRIES;
 use recogniser::Sets;
-use recogniser::recognise;
+use walk_labels::Carried;
+use walk_labels::carries;
+use walk_labels::carry;
 use walk_ways::Answer;
 use walk_ways::Next;
 use walk_ways::Place;
@@ -32,43 +35,6 @@ use walk_ways::from_start;
 use walk_ways::is_kept;
 use walk_ways::refused;
 use walk_ways::spare;
-
-// T and U of the place with this first point and order, if it is one but for its labels; the coefficients and the marks
-// into their arrays.
-pub fn seen(
-    g: Grid,
-    w: Walk,
-    labels: &[u8],
-    first: &[u16; 16],
-    order: &[u32; 16],
-    n: usize,
-    list: &mut [u16; 16],
-    marks: &mut [u32; 16],
-) -> Sets
-    requires { ⌜ CanSee g w (now labels) (now first) (now order) n × (length (now marks) ≡ 16) ⌝ }
-    ensures { λ r. ⌜ Recognised (tableOn g w (now (labels .entry))) (take (g .indices) (now (first .entry)))
-        (take n (now (order .entry))) (now (list .exit)) (now (marks .exit)) r ⌝ }
-{
-    let previous = g.previous;
-    let sizes = block_sizes(g);
-    let start = w.start;
-    let m = g.indices;
-    let mut binomials = [0u16; ENTRIES];
-    positions::binomials(g, &mut binomials);
-    recognise(
-        g,
-        &binomials,
-        &start[..m],
-        labels,
-        &previous,
-        &sizes,
-        first,
-        order,
-        n,
-        list,
-        marks,
-    )
-}
 
 // The marks, with index 1 for the label of this point where it is not yet known.
 fn filled(marks: &[u32; 16], point: usize, unknown: bool) -> [u32; 16]
@@ -142,8 +108,8 @@ fn chosen(
     )
 }
 
-// What comes next from a place that is kept rightly: it is recognised, its labels must have all of T, and one of the two
-// moves from it must lead back.
+// What comes next from a place that is kept rightly: it is recognised, its labels must be those carried and have all of
+// T, and one of the two moves from it must lead back.
 fn stand(g: Grid, w: Walk, labels: &[u8], first: &[u16; 16], order: &[u32; 16], n: usize) -> Next
     requires { ⌜ CanStand g w (now labels) (now first) (now order) n ⌝ }
     ensures { λ r. ⌜ r ≡ nextIn g w (now (labels .entry)) ⌝ }
@@ -152,6 +118,10 @@ fn stand(g: Grid, w: Walk, labels: &[u8], first: &[u16; 16], order: &[u32; 16], 
     let mut marks = [0u32; 16];
     let sets = seen(g, w, labels, first, order, n, &mut list, &mut marks);
     if !sets.is {
+        return refused(20);
+    }
+    let carried = w.carried;
+    if !carries(&marks, n, &carried) {
         return refused(20);
     }
     let spared = spare(&marks, n, sets.t);
@@ -181,7 +151,7 @@ fn next_on(g: Grid, w: Walk, labels: &[u8]) -> Next
     ensures { λ r. ⌜ r ≡ nextIn g w (now (labels .entry)) ⌝ }
 {
     let m = g.indices;
-    if !in_range(g, w.places) {
+    if !in_range(g, w.places, w.labels_read) {
         return refused(20);
     }
     let present = w.present;
@@ -194,23 +164,49 @@ fn next_on(g: Grid, w: Walk, labels: &[u8]) -> Next
     stand(g, w, labels, &first, &order, n)
 }
 
+// The labels of the place to which the walk is moved: those that it carries, and the table's of a point that comes in.
+fn carried_to(g: Grid, w: Walk, labels: &[u8], next: Place) -> Carried
+    requires { ⌜ IsMade g × GoesTo (shape g) w (now labels) next ⌝ }
+    ensures { λ r. ⌜ ((G : GoesTo (shape g) w (now (labels .entry)) next)
+        → CarriesTo (tableOn g w (now (labels .entry))) (placeOf (shape g) (w .present)) (G .to) r) ⌝ }
+{
+    let b = both_placed(g, w, next);
+    let from = b.from;
+    let onto = b.onto;
+    let carried = w.carried;
+    carry(&from, b.n, &carried, &onto, b.k, labels)
+}
+
+// 1 where a point came in.
+fn one_if(came_in: bool) -> u64
+    ensures { λ r. ⌜ r ≡ cond came_in 1 0 ⌝ }
+{
+    if came_in {
+        return 1;
+    }
+    0
+}
+
 // The walk moved on to a place: what was the present place is then the one before.
-fn moved_to(w: Walk, place: Place) -> Walk
-    requires { ⌜ w .places < 18446744073709551615 ⌝ }
-    ensures { λ r. ⌜ r ≡ movedTo w place ⌝ }
+fn moved_to(w: Walk, place: Place, on: Carried) -> Walk
+    requires { ⌜ (w .places < 18446744073709551615) × (w .«labels_read» < 18446744073709551615) ⌝ }
+    ensures { λ r. ⌜ r ≡ movedTo w place on ⌝ }
 {
     let present = w.present;
     let start = w.start;
     let divisions = w.divisions;
     let sizes = w.sizes;
+    let carried = on.labels;
     Walk {
         places: w.places + 1,
+        labels_read: w.labels_read + one_if(on.came_in),
         present: place,
         before: present,
         start,
         divisions,
         sizes,
         blocks: w.blocks,
+        carried,
     }
 }
 
@@ -230,7 +226,7 @@ fn call_on(g: Grid, w: Walk, labels: &[u8]) -> Call
     let simplex = next.simplex;
     let place = next.place;
     let walk = match answer {
-        Answer::Moved(_) => moved_to(w, place),
+        Answer::Moved(_) => moved_to(w, place, carried_to(g, w, labels, place)),
         Answer::Refused(_) => w,
         Answer::Ended {
             kind: _,

@@ -23,7 +23,7 @@ use Rattle.place.proofs.Filled.{FullyLabelled, fill, filledTable, filled-full, 
 use Rattle.place.proofs.FromTwoWays.{back}
 use Rattle.place.proofs.Labels.{label-ok}
 use Rattle.place.proofs.LinkSymmetry.{parts}
-use Rattle.place.proofs.Local.{Agree, known-local}
+use Rattle.place.proofs.Local.{Agree, known-local, map-same}
 use Rattle.place.proofs.PathSteps.{Link}
 use Rattle.place.proofs.Positions.{at-in}
 use Rattle.place.proofs.Theorem.{single}
@@ -44,12 +44,13 @@ use Rattle.walks.proofs.Meaning.{Came, Stands, begins, came, meets-16, meets-20
 use Rattle.walks.proofs.Moved.{next-onward, next-refused}
 use Rattle.walks.specs.Kept.{keptPoints}
 use Rattle.walks.specs.Next.{byWay, nextOf, refused}
-use Rattle.walks.specs.Walk.{Walk, isWalk, over}
+use Rattle.walks.specs.Walk.{Walk, isWalk, labelsOf as labelsAt, over}
 use Rattle.walk_moves.proofs.Carried.{carried, points-long}
 use Rattle.walk_moves.proofs.Choice.{came-by, from-start, not-linked, other-on}
 use Rattle.walk_moves.proofs.Gap.{gap-back, gap-way}
 use Rattle.walk_moves.proofs.Kept.{chain, describes, full, marks, order-same, place-filled}
 use Rattle.walk_moves.proofs.Ways.{Fits, fits-back, fits-onward, fits-start, leaves-by, ready-leaves, ready-on, start-ready, start-way, way-back, way-onward, ways-apart}
+use Rattle.walk_moves.specs.Counted.{Counted}
 use Rattle.walk_moves.specs.Lent.{Lent, wayOf}
 use Rattle.walk_moves.specs.Spare.{Spare}
 
@@ -63,12 +64,18 @@ module _ (w : Walk) (labels : List ℕ) where
   pub no-count : Accepted (over w labels) → (w .places ≡ 0) ⊎ (bound (w .grid) < w .places) → nextOf w labels ≡ refused 20
   no-count ok c = no-walk ok (λ h. ⊎-elim (λ e. omega (arith, h .some, e)) (λ e. omega (arith, h .bounded, e)) c)
 
+  pub no-read : Accepted (over w labels) → (w .read ≡ 0) ⊎ (w .places < w .read) → nextOf w labels ≡ refused 20
+  no-read ok c = no-walk ok (λ h. ⊎-elim (λ e. omega (arith, h .read, e)) (λ e. omega (arith, h .readFew, e)) c)
+
+  pub not-carried : Accepted (over w labels) → (w .carried ≡ labelsAt (over w labels) w.present → ⊥) → nextOf w labels ≡ refused 20
+  not-carried ok n = no-walk ok (λ h. n h.carries)
+
   pub gap : Accepted (over w labels) → Stands (over w labels) w → allLabelled (over w labels) w.present ≡ false → nextOf w labels ≡ refused 16
   gap ok h f = next-refused w labels 16 (λ e. absurd (omega arith)) (meets-16 w labels ok h f)
 
 -- the walk stands at a kept place
 module _ (w : Walk) (labels : List ℕ) (ok : Accepted (over w labels)) (y : Point) (o : List ℕ) (is : w .present ≡ keptPoints (w .grid) y o)
-    (place : isPlace (over w labels) (keptPoints (w .grid) y o) ≡ true) (one : 1 ≤ w .places) (most : w .places ≤ bound (w .grid)) where
+    (place : isPlace (over w labels) (keptPoints (w .grid) y o) ≡ true) (counted : Counted w labels) where
   abbrev p : Problem
   p = over w labels
 
@@ -91,7 +98,15 @@ module _ (w : Walk) (labels : List ℕ) (ok : Accepted (over w labels)) (y : Poi
   not-start n e z = omega (arith, long, ap length z)
 
   stands : Came p w.before w.present → Stands p w
-  stands c = record { place = here; came = c; some = one; bounded = most }
+  stands c = record {
+    place = here;
+    came = c;
+    some = counted .some;
+    bounded = counted .most;
+    carries = counted .carries;
+    read = counted .read;
+    readFew = counted .readFew;
+  }
 
   pub start-with-one : (b : Simplex) → length o ≡ 0 → w .before ≡ some b → nextOf w labels ≡ refused 20
   start-with-one b e z = no-walk w labels ok (λ h. go h.came z refl)
@@ -132,7 +147,15 @@ module _ (w : Walk) (labels : List ℕ) (ok : Accepted (over w labels)) (y : Poi
     onward way c e =
         sym same-next ∙ next-onward w (map fill labels) (of-passes w (map fill labels) (record {
           accepted = full-accepted (filled-full ok);
-          stands = record { place = rw is (place-filled ok y o place); came = c; some = one; bounded = most };
+          stands = record {
+            place = rw is (place-filled ok y o place);
+            came = c;
+            some = counted .some;
+            bounded = counted .most;
+            carries = counted .carries ∙ sym (map-same p (map fill labels) w.present agree);
+            read = counted .read;
+            readFew = counted .readFew;
+          };
           known = rw is known-filled;
         })) ∙ ap byWay e
 

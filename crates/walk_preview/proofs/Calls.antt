@@ -14,7 +14,7 @@ use Rattle.walks.specs.Preview.{moveTo, preview}
 use Rattle.walks.specs.Walk.{over}
 use Rattle.walk_calls.specs.Calls.{callOf}
 use Rattle.walk_calls.specs.declared.Call.{Call}
-use Rattle.walk_preview.proofs.Changed.{grid-asked}
+use Rattle.walk_calls.proofs.BothPlaced.{grid-asked}
 use Rattle.walk_preview.specs.Changes.{noChange}
 use Rattle.walk_preview.specs.Previews.{Moves, changeIn, shownAs}
 use Rattle.walk_preview.specs.declared.Change.{Change as ChangeStruct}
@@ -26,9 +26,8 @@ use Rattle.walk_ways.specs.declared.Kind.{Kind}
 use Rattle.walk_ways.specs.declared.Place.{Place}
 use Rattle.walk_ways.specs.declared.Walk.{Walk as WalkStruct}
 
-pub grid-passes : {w : WalkStruct} {labels : List ℕ} {next : Place} {rule : ℕ} → Moves (gridOf w) w labels next rule
-    → firstNo (gridQuestions (gridOf w)) ≡ 0
-grid-passes {w} {labels} M = grid-asked (moved-passes (walkOf w) labels (M .to) (M .moves) .0 .accepted)
+pub grid-passes : {w : WalkStruct} {labels : List ℕ} {next : Place} {rule : ℕ} → Moves (gridOf w) w labels next rule → firstNo (gridQuestions (gridOf w)) ≡ 0
+grid-passes {w} {labels} M = grid-asked (moved-passes (walkOf w) labels (M .goes .to) (M .goes .moves) .0 .accepted)
 
 abbrev pub shownWith : Answer → List ℕ → ChangeStruct → Shown
 shownWith answer simplex change = record { answer = answer; simplex = simplex; change = change }
@@ -38,15 +37,14 @@ module _ (w : WalkStruct) (labels : List ℕ) where
   callBy n = record {
     answer = answerOf (ruleOf (over (walkOf w) labels) (walkOf w .present)) n;
     simplex = padded 256 (numbersOf n);
-    walk = structOn (gridOf w) w n;
+    walk = structOn (over (walkOf w) labels) w n;
   }
 
   call-is : (n : Outcome Simplex) → nextOf (walkOf w) labels ≡ n → callOf w labels ≡ callBy n
   unfolding callOf
   call-is n e = rw e
 
-  preview-is : (n : Outcome Simplex) → nextOf (walkOf w) labels ≡ n
-      → preview (walkOf w) labels ≡ onMove (moveTo (over (walkOf w) labels) (walkOf w .present)) n
+  preview-is : (n : Outcome Simplex) → nextOf (walkOf w) labels ≡ n → preview (walkOf w) labels ≡ onMove (moveTo (over (walkOf w) labels) (walkOf w .present)) n
   unfolding preview
   preview-is n e = rw e
 
@@ -58,9 +56,7 @@ module _ (w : WalkStruct) (labels : List ℕ) where
         go (refused k) q = absurd-bool (let z = ap (λ (x : Call). x .answer) (is ∙ call-is (refused k) q) in cc)
         go (ended k b s) q = absurd-bool (let z = ap (λ (x : Call). x .answer) (is ∙ call-is (ended k b s) q) in cc)
         go (moved s) q = record {
-          to = s;
-          moves = q;
-          place = ap (λ (x : Call). x .walk .present) (is ∙ call-is (moved s) q);
+          goes = record { to = s; moves = q; place = ap (λ (x : Call). x .walk .present) (is ∙ call-is (moved s) q) };
           byRule = let z = ap (λ (x : Call). x .answer) (is ∙ call-is (moved s) q) in cc;
         }
 
@@ -69,14 +65,12 @@ module _ (w : WalkStruct) (labels : List ℕ) where
     unfolding front
     shown-moved rule e change d = go (nextOf (walkOf w) labels) refl
       where
-        go : (n : Outcome Simplex) → nextOf (walkOf w) labels ≡ n
-            → shownWith (c .answer) (c .simplex) change ≡ shownAs (preview (walkOf w) labels)
+        go : (n : Outcome Simplex) → nextOf (walkOf w) labels ≡ n → shownWith (c .answer) (c .simplex) change ≡ shownAs (preview (walkOf w) labels)
         go (refused k) q = absurd-bool (let z = ap (λ (x : Call). x .answer) (is ∙ call-is (refused k) q) in cc)
         go (ended k b s) q = absurd-bool (let z = ap (λ (x : Call). x .answer) (is ∙ call-is (ended k b s) q) in cc)
         go (moved s) q = rw (is, call-is (moved s) q, d, preview-is (moved s) q)
 
-    still : (change : ChangeStruct) → change ≡ noChange → (n : Outcome Simplex) → nextOf (walkOf w) labels ≡ n
-        → ((s : Simplex) → n ≡ moved s → ⊥)
+    still : (change : ChangeStruct) → change ≡ noChange → (n : Outcome Simplex) → nextOf (walkOf w) labels ≡ n → ((s : Simplex) → n ≡ moved s → ⊥)
         → shownWith (c .answer) (c .simplex) change ≡ shownAs (preview (walkOf w) labels)
     unfolding front
     still change d (refused k) q f = rw (is, call-is (refused k) q, d, preview-is (refused k) q)
@@ -88,8 +82,7 @@ module _ (w : WalkStruct) (labels : List ℕ) where
     shown-refused number e change d = still change d (nextOf (walkOf w) labels) refl
         (λ s q. absurd-bool (let z = ap (λ (x : Call). x .answer) (is ∙ call-is (moved s) q) in cc))
 
-    pub shown-ended : (kind : Kind) (block vertices : ℕ) → c .answer ≡ Ended kind block vertices
-        → (change : ChangeStruct) → change ≡ noChange
+    pub shown-ended : (kind : Kind) (block vertices : ℕ) → c .answer ≡ Ended kind block vertices → (change : ChangeStruct) → change ≡ noChange
         → shownWith (c .answer) (c .simplex) change ≡ shownAs (preview (walkOf w) labels)
     shown-ended kind block vertices e change d = still change d (nextOf (walkOf w) labels) refl
         (λ s q. absurd-bool (let z = ap (λ (x : Call). x .answer) (is ∙ call-is (moved s) q) in cc))

@@ -7,12 +7,12 @@ use Rattle.combinatorics.specs.Lists.{concatMap}
 use Rattle.grid.specs.Grid.{Grid}
 use Rattle.grid.specs.Made.{IsMade, shape}
 use Rattle.grid.specs.declared.Grid.{Grid as GridStruct}
-use Rattle.place.specs.Places.{Simplex}
-use Rattle.walks.specs.Next.{Outcome, ended, moved, nextOf, refused, ruleOf}
+use Rattle.walks.specs.Next.{Outcome, ended, moved, refused, ruleOf}
 use Rattle.walks.specs.Preview.{Move, preview}
 use Rattle.walks.specs.Walk.{Walk, over}
+use Rattle.walk_calls.specs.Placing.{GoesTo}
 use Rattle.walk_ways.specs.Standing.{walkOn}
-use Rattle.walk_ways.specs.Walks.{gridOf, kindOf, padded, stored, walkOf}
+use Rattle.walk_ways.specs.Walks.{gridOf, kindOf, padded, walkOf}
 use Rattle.walk_ways.specs.declared.Answer.the-variants.{Ended, Moved, Refused}
 use Rattle.walk_ways.specs.declared.Place.{Place}
 use Rattle.walk_ways.specs.declared.Walk.{Walk as WalkStruct}
@@ -42,10 +42,8 @@ changeOn g w labels = changeShown (preview (walkOn (shape g) w) labels)
 
 -- a call moves the walk, on this grid, to the next place by this rule
 pub record Moves (g : Grid) (w : WalkStruct) (labels : List ℕ) (next : Place) (rule : ℕ) : Type 0 where
-  pub to : Simplex
-  pub moves : nextOf (walkOn g w) labels ≡ moved to
-  pub place : next ≡ stored g to
-  pub byRule : rule ≡ ruleOf (over (walkOn g w) labels) (walkOn g w .present) to
+  pub goes : GoesTo g w labels next
+  pub byRule : rule ≡ ruleOf (over (walkOn g w) labels) (walkOn g w .present) (goes .to)
 
 abbrev pub MovesTo : WalkStruct → List ℕ → Place → ℕ → Type 0
 MovesTo w labels next rule = Moves (gridOf w) w labels next rule

@@ -1,5 +1,7 @@
 // The preview: what the moving call would do to a copy of the walk.
+ghost use mathlib.Core.List.{List};
 ghost use mathlib.Core.Path.{_≡_};
+ghost use Prim.Native.Nat.{ℕ};
 ghost use Rattle.walks.specs.Preview.{preview as previewOf};
 ghost use Rattle.walk_ways.specs.Walks.{walkOf};
 ghost use Rattle.walk_preview.specs.Changes.{noChange};
@@ -10,10 +12,9 @@ use crate::changes::change_for;
 use crate::changes::index_of;
 use crate::changes::other;
 use grid::Grid;
-use grid::wide;
+use walk_calls::both_placed;
 use walk_calls::grid_in;
 use walk_calls::moved;
-use walk_calls::seen;
 use walk_ways::Answer;
 use walk_ways::Place;
 use walk_ways::Walk;
@@ -28,36 +29,30 @@ fn unchanged() -> Change
     }
 }
 
-// What changes from the walk's present place to the next, both recognised anew.
-fn change_on(g: Grid, w: Walk, labels: &[u8], next: Place, rule: u8) -> Change
-    requires { ⌜ CanShow g w (now labels) next rule ⌝ }
-    ensures { λ r. ⌜ r ≡ changeOn g w (now (labels .entry)) ⌝ }
+// What changes from the walk's present place to the next, whatever the table over which a call moves it so: the points
+// are told by their positions, and no label is read.
+fn change_on(g: Grid, w: Walk, next: Place, rule: u8) -> Change
+    requires { ⌜ ((labels : List ℕ) × CanShow g w labels next rule) ⌝ }
+    ensures { λ r. ⌜ ((labels : List ℕ) → CanShow g w labels next rule → r ≡ changeOn g w labels) ⌝ }
 {
-    let present = w.present;
-    let first = present.first;
-    let order = present.order;
-    let n = wide(present.count) - 1;
-    let first2 = next.first;
-    let order2 = next.order;
-    let k = wide(next.count) - 1;
-    let mut list = [0u16; 16];
-    let mut marks = [0u32; 16];
-    let mut marks2 = [0u32; 16];
-    let a = seen(g, w, labels, &first, &order, n, &mut list, &mut marks);
-    let b = seen(g, w, labels, &first2, &order2, k, &mut list, &mut marks2);
-    let come = other(&marks2, k, &marks, n);
-    let gone = other(&marks, n, &marks2, k);
-    change_for(rule, come, gone, index_of(a.t, a.u, b.t, b.u))
+    let b = both_placed(g, w, next);
+    let n = b.n;
+    let k = b.k;
+    let from = b.from;
+    let onto = b.onto;
+    let come = other(&onto, k, &from, n);
+    let gone = other(&from, n, &onto, k);
+    change_for(rule, come, gone, index_of(b.t, b.u, b.t2, b.u2))
 }
 
 // The same, on the grid of the walk.
-fn change_in(w: Walk, labels: &[u8], next: Place, rule: u8) -> Change
-    requires { ⌜ MovesTo w (now labels) next rule ⌝ }
-    ensures { λ r. ⌜ r ≡ changeIn w (now (labels .entry)) ⌝ }
+fn change_in(w: Walk, next: Place, rule: u8) -> Change
+    requires { ⌜ ((labels : List ℕ) × MovesTo w labels next rule) ⌝ }
+    ensures { λ r. ⌜ ((labels : List ℕ) → MovesTo w labels next rule → r ≡ changeIn w labels) ⌝ }
 {
     let made = grid_in(w);
     let g = made.grid;
-    change_on(g, w, labels, next, rule)
+    change_on(g, w, next, rule)
 }
 
 // Shows the move before it is made: the moving call's refusals and ends, and what a move would change. Nothing is moved.
@@ -69,7 +64,7 @@ pub fn preview(w: Walk, labels: &[u8]) -> Shown
     let simplex = c.simplex;
     let next = c.walk.present;
     let change = match answer {
-        Answer::Moved(rule) => change_in(w, labels, next, rule),
+        Answer::Moved(rule) => change_in(w, next, rule),
         Answer::Refused(_) => unchanged(),
         Answer::Ended {
             kind: _,

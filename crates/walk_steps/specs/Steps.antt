@@ -78,7 +78,7 @@ unfoldable pub pointedStep : Step → List ℕ → Step
 pointedStep s labels = let p = pointsOf (s .walk) labels in unansweredStep (s .walk) (p .code) (p .count) (p .numbers)
 
 -- the walk at {v}; with a refusal the walk as it was
-unfoldable pub begunStep : Step → List ℕ → List ℕ → List ℕ → Step
-begunStep s sizes divisions start =
-    let b = begunOf (lent sizes divisions) start in
+unfoldable pub begunStep : Step → List ℕ → List ℕ → List ℕ → List ℕ → Step
+begunStep s sizes divisions start labels =
+    let b = begunOf (lent sizes divisions) start labels in
     unansweredStep (cond (eqb (b .code) 0) (b .walk) (s .walk)) (b .code) 0 (replicate 256 0)

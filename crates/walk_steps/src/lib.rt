@@ -137,10 +137,11 @@ pub fn pointed_step(s: Step, labels: &[u8]) -> Step
 }
 
 // The walk at {v}, or with a refusal the walk as it was.
-pub fn begun_step(s: Step, sizes: &[u8], divisions: &[u16], start: &[u16]) -> Step
-    ensures { λ r. ⌜ r ≡ begunStep s (now (sizes .entry)) (now (divisions .entry)) (now (start .entry)) ⌝ }
+pub fn begun_step(s: Step, sizes: &[u8], divisions: &[u16], start: &[u16], labels: &[u8]) -> Step
+    ensures { λ r. ⌜ r ≡ begunStep s
+        (now (sizes .entry)) (now (divisions .entry)) (now (start .entry)) (now (labels .entry)) ⌝ }
 {
-    let b = at_start(sizes, divisions, start);
+    let b = at_start(sizes, divisions, start, labels);
     let code = b.code;
     if code != 0 {
         let old = s.walk;

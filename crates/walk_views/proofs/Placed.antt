@@ -35,7 +35,7 @@ use Rattle.rules.specs.Step.{State}
 use Rattle.walks.specs.Kept.{keptPoints}
 use Rattle.walks.specs.Walk.{over}
 use Rattle.walk_calls.proofs.Stood.{ok, round-of}
-use Rattle.walk_calls.specs.Moving.{CanSee}
+use Rattle.walk_calls.specs.Placing.{CanSee}
 use Rattle.walk_moves.proofs.Carried.{points-long}
 use Rattle.walk_moves.proofs.Kept.{describes, full, place-filled}
 use Rattle.walk_moves.specs.Lent.{Lent}

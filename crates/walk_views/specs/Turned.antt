@@ -1,14 +1,17 @@
 -- A walk that faces the other way. Assumes nothing.
+use Rattle.walk_ways.specs.declared.Place.{Place}
 use Rattle.walk_ways.specs.declared.Walk.{Walk as WalkStruct}
 
--- the present place and the one before it exchanged
-abbrev pub turnedAs : WalkStruct → WalkStruct
-turnedAs w = record {
+-- the walk with another place before it
+abbrev pub turnedAs : WalkStruct → Place → WalkStruct
+turnedAs w before = record {
   places = w .places;
-  present = w .before;
-  before = w .present;
+  «labels_read» = w .«labels_read»;
+  present = w .present;
+  before = before;
   start = w .start;
   divisions = w .divisions;
   sizes = w .sizes;
   blocks = w .blocks;
+  carried = w .carried;
 }

@@ -15,8 +15,9 @@ use Rattle.place.specs.Questions.{tableQuestions}
 use Rattle.questions.specs.Questions.{Question, ask, firstNo}
 use Rattle.recogniser.specs.Kept.{Seen}
 use Rattle.recogniser.specs.declared.Sets.{Sets}
+use Rattle.rules.specs.Read.{markOf}
 use Rattle.walks.specs.Walk.{over}
-use Rattle.walk_calls.specs.Moving.{CanSee}
+use Rattle.walk_calls.specs.Placing.{CanSee}
 use Rattle.walk_ways.specs.Standing.{pointsOn as pointsBy, tableOn, walkOn}
 use Rattle.walk_ways.specs.Walks.{gridOf, padded, placeOf}
 use Rattle.walk_ways.specs.declared.Walk.{Walk as WalkStruct}
@@ -48,4 +49,4 @@ pub record CanPoint (g : GridStruct) (w : WalkStruct) (labels first order : List
   pub place : isPlace (tableOn g w labels) (pointsBy g first order n) ≡ true
   pub list : List ℕ
   pub marks : List ℕ
-  pub seen : Seen (tableOn g w labels) (take (g .indices) first) (take n order) list marks (sets .t) (sets .u)
+  pub seen : Seen (tableOn g w labels) (markOf (tableOn g w labels)) (take (g .indices) first) (take n order) list marks (sets .t) (sets .u)

@@ -1,13 +1,18 @@
 // The walk at {v}.
 ghost use mathlib.Core.Path.{_≡_};
 ghost use Prim.Native.Nat.{_≤_};
-ghost use lib.ListN.{length, replicate};
+ghost use lib.ListN.{length, replicate, take};
 ghost use Rattle.combinatorics.specs.Front.{front};
 ghost use Rattle.grid.specs.Build.{lent};
 ghost use Rattle.grid.specs.Made.{IsMade, shape};
-ghost use Rattle.walk_views.specs.Begun.{begunOf, noWalk, startWalk};
+ghost use Rattle.place.specs.Problem.{label as labelIn};
+ghost use Rattle.questions.specs.Questions.{firstNo};
+ghost use Rattle.walk_calls.specs.Asked.{laterQuestions};
+ghost use Rattle.walk_views.specs.Begun.{begunOf, begunOn, noWalk, startWalk, CanLookUp};
 use crate::Begun;
 use grid::Grid;
+use positions::ENTRIES;
+use walk_calls::first_no;
 use walk_ways::Place;
 use walk_ways::Walk;
 use walk_ways::none;
@@ -34,21 +39,38 @@ fn no_walk() -> Walk
     let before = none();
     Walk {
         places: 0,
+        labels_read: 0,
         present,
         before,
         start: [0u16; 16],
         divisions: [0u16; 6],
         sizes: [0u8; 6],
         blocks: 0,
+        carried: [0u8; 16],
     }
 }
 
-// The walk at {v}, on a grid that is accepted.
-fn start_on(g: Grid, start: &[u16]) -> Walk
-    requires { ⌜ IsMade g × (length (now start) ≤ 16) ⌝ }
-    ensures { λ r. ⌜ r ≡ startWalk (shape g) (now (start .entry)) ⌝ }
+// The table's label of the start, whose numbers stand at the front of y.
+fn label_of(g: Grid, y: &[u16; 16], labels: &[u8]) -> u8
+    requires { ⌜ CanLookUp g (now y) (now labels) ⌝ }
+    ensures { λ r. ⌜ (let v = take (g .indices) (now (y .entry)) in
+        r ≡ labelIn (begunOn (shape g) v (now (labels .entry))) v) ⌝ }
+{
+    let mut binomials = [0u16; ENTRIES];
+    positions::binomials(g, &mut binomials);
+    let steps = [16u16; 16];
+    labels[positions::position(g, &binomials, y, &steps)]
+}
+
+// The walk at {v}, behind questions 1 to 7.
+fn start_on(g: Grid, start: &[u16], labels: &[u8]) -> Walk
+    requires { ⌜ IsMade g × (firstNo (laterQuestions g (now start) (now labels)) ≡ 0) ⌝ }
+    ensures { λ r. ⌜ (let v = now (start .entry) in
+        r ≡ startWalk (shape g) v (labelIn (begunOn (shape g) v (now (labels .entry))) v)) ⌝ }
 {
     let y = copied(start);
+    let mut carried = [0u8; 16];
+    carried[0] = label_of(g, &y, labels);
     let divisions = g.divisions;
     let sizes = g.sizes;
     let before = none();
@@ -59,18 +81,22 @@ fn start_on(g: Grid, start: &[u16]) -> Walk
     };
     Walk {
         places: 1,
+        labels_read: 1,
         present,
         before,
         start: y,
         divisions,
         sizes,
         blocks: g.blocks as u8,
+        carried,
     }
 }
 
-// Makes the walk at {v}, with 1 as its places so far: questions 1 to 5 about any sizes, divisions and start.
-pub fn at_start(sizes: &[u8], divisions: &[u16], start: &[u16]) -> Begun
-    ensures { λ r. ⌜ r ≡ begunOf (lent (now (sizes .entry)) (now (divisions .entry))) (now (start .entry)) ⌝ }
+// Makes the walk at {v}, with 1 as its places so far and its labels read: questions 1 to 7 about any sizes, divisions,
+// start and labels.
+pub fn at_start(sizes: &[u8], divisions: &[u16], start: &[u16], labels: &[u8]) -> Begun
+    ensures { λ r. ⌜ r ≡ begunOf
+        (lent (now (sizes .entry)) (now (divisions .entry))) (now (start .entry)) (now (labels .entry)) ⌝ }
 {
     let made = Grid::new(sizes, divisions);
     let code = made.code;
@@ -79,10 +105,11 @@ pub fn at_start(sizes: &[u8], divisions: &[u16], start: &[u16]) -> Begun
         let walk = no_walk();
         return Begun { code, walk };
     }
-    if !g.is_grid_point(start) {
+    let number = first_no(g, start, labels);
+    if number != 0 {
         let walk = no_walk();
-        return Begun { code: 5, walk };
+        return Begun { code: number, walk };
     }
-    let walk = start_on(g, start);
+    let walk = start_on(g, start, labels);
     Begun { code: 0, walk }
 }

@@ -7,9 +7,10 @@ mod pointing;
 
 pub use beginning::at_start;
 pub use pointing::points;
+use walk_ways::Place;
 use walk_ways::Walk;
 
-// The number of the first of questions 1 to 5 that is answered no, or 0 and the walk at {v}.
+// The number of the first of questions 1 to 7 that is answered no, or 0 and the walk at {v}.
 pub struct Begun {
     pub code: u8,
     pub walk: Walk,
@@ -23,22 +24,24 @@ pub struct PlacePoints {
     pub numbers: [u16; 256],
 }
 
-// The walk with the present place and the one before it exchanged: it faces the other way.
-pub fn turned(w: Walk) -> Walk
-    ensures { λ r. ⌜ r ≡ turnedAs w ⌝ }
+// The walk with another place before it: it faces the other way where that is the one it would be moved on to.
+pub fn turned(w: Walk, before: Place) -> Walk
+    ensures { λ r. ⌜ r ≡ turnedAs w before ⌝ }
 {
     let present = w.present;
-    let before = w.before;
     let start = w.start;
     let divisions = w.divisions;
     let sizes = w.sizes;
+    let carried = w.carried;
     Walk {
         places: w.places,
-        present: before,
-        before: present,
+        labels_read: w.labels_read,
+        present,
+        before,
         start,
         divisions,
         sizes,
         blocks: w.blocks,
+        carried,
     }
 }

@@ -160,8 +160,8 @@ module _ {g : GridStruct} {w : WalkStruct} {labels first list order marks : List
 
     pub tried-start : n ≡ 0 → point ≡ 0 → (rule : ℕ) → rule < 6 → Tried rule
     tried-start e f rule r = record {
-      ready = ready-v walk labels ok y o S.present S.place S.some S.most (long-o ∙ e) (stateAs rule) (lent rule) f r;
-      fits = fits-v walk labels ok y o S.present S.place S.some S.most (long-o ∙ e) (stateAs rule) (lent rule) f r;
+      ready = ready-v walk labels ok y o S.present S.place S.counted (long-o ∙ e) (stateAs rule) (lent rule) f r;
+      fits = fits-v walk labels ok y o S.present S.place S.counted (long-o ∙ e) (stateAs rule) (lent rule) f r;
     }
 
     module _ (k : ℕ) (e : n ≡ suc k) where
@@ -170,14 +170,14 @@ module _ {g : GridStruct} {w : WalkStruct} {labels first list order marks : List
 
       pub tried-on : (rule : ℕ) → rule < 6 → Tried rule
       tried-on rule r = record {
-        ready = ready-a walk labels ok y o S.present S.place S.some S.most k (long-o ∙ e) point low-point S.spare (stateAs rule) (lent rule) refl r;
-        fits = fits-a walk labels ok y o S.present S.place S.some S.most k (long-o ∙ e) point low-point S.spare (stateAs rule) (lent rule) refl r;
+        ready = ready-a walk labels ok y o S.present S.place S.counted k (long-o ∙ e) point low-point S.spare (stateAs rule) (lent rule) refl r;
+        fits = fits-a walk labels ok y o S.present S.place S.counted k (long-o ∙ e) point low-point S.spare (stateAs rule) (lent rule) refl r;
       }
 
       pub tried-back : (rule : ℕ) → 6 ≤ rule → Tried rule
       tried-back rule r = record {
-        ready = ready-b walk labels ok y o S.present S.place S.some S.most k (long-o ∙ e) point low-point S.spare (stateAs rule) (lent rule) refl r;
-        fits = fits-b walk labels ok y o S.present S.place S.some S.most k (long-o ∙ e) point low-point S.spare (stateAs rule) (lent rule) refl r;
+        ready = ready-b walk labels ok y o S.present S.place S.counted k (long-o ∙ e) point low-point S.spare (stateAs rule) (lent rule) refl r;
+        fits = fits-b walk labels ok y o S.present S.place S.counted k (long-o ∙ e) point low-point S.spare (stateAs rule) (lent rule) refl r;
       }
 
     -- the way, as a struct

@@ -57,16 +57,16 @@ module _ {g : GridStruct} {w : WalkStruct} {labels first list order marks : List
   -- {v}
   module _ (e : n ≡ 0) where
     pub start-20 : samePlace (w .before) nowhere ≡ false → nextOf walk labels ≡ refused 20
-    start-20 f = start-with-one walk labels (ok S) (y S) (o S) S.present S.place S.some S.most (placeOf (shape g) (w .before)) (long-o S ∙ e) (rw f)
+    start-20 f = start-with-one walk labels (ok S) (y S) (o S) S.present S.place S.counted (placeOf (shape g) (w .before)) (long-o S ∙ e) (rw f)
 
     pub start-16 : samePlace (w .before) nowhere ≡ true → unknown ≡ true → nextOf walk labels ≡ refused 16
     start-16 f v =
         let z : point ≡ 0 = omega (arith, S .low) in
-        unknown-v walk labels (ok S) (y S) (o S) S.present S.place S.some S.most (long-o S ∙ e) (rw f) (ap (λ (i : ℕ). label (p S) (getD s i [])) (sym z) ∙ unknown-label v)
+        unknown-v walk labels (ok S) (y S) (o S) S.present S.place S.counted (long-o S ∙ e) (rw f) (ap (λ (i : ℕ). label (p S) (getD s i [])) (sym z) ∙ unknown-label v)
 
     pub start-on : {previous next sizes : List ℕ} (N : IsRoundOf g previous next sizes) → samePlace (w .before) nowhere ≡ true → unknown ≡ false
         → nextOf walk labels ≡ byWay (wayOf (q S N) (step (stateAs S N 1)) ∷ [])
-    start-on N f v = from-v walk labels (ok S) (y S) (o S) S.present S.place S.some S.most (known-all v) (long-o S ∙ e) (rw f) (stateAs S N 1) (lent S N 1) (omega (arith, S .low)) (omega arith)
+    start-on N f v = from-v walk labels (ok S) (y S) (o S) S.present S.place S.counted (known-all v) (long-o S ∙ e) (rw f) (stateAs S N 1) (lent S N 1) (omega (arith, S .low)) (omega arith)
 
   -- any other place
   module _ (k : ℕ) (e : n ≡ suc k) {previous next sizes : List ℕ} (N : IsRoundOf g previous next sizes) (long : length (w .before .order) ≡ 16) where
@@ -84,32 +84,32 @@ module _ {g : GridStruct} {w : WalkStruct} {labels first list order marks : List
 
     pub other-16 : back 6 ≡ true → unknown ≡ true → nextOf walk labels ≡ refused 16
     other-16 z v = let f = leads-there S N 6 (tried-back S N k e 6 (omega arith)) long z in
-        back-unknown walk labels (ok S) (y S) (o S) S.present S.place S.some S.most k (long-o S ∙ e) point low S.spare (f .0) (f .1) staying leaving (lent S N 1) (lent S N 6) refl refl
+        back-unknown walk labels (ok S) (y S) (o S) S.present S.place S.counted k (long-o S ∙ e) point low S.spare (f .0) (f .1) staying leaving (lent S N 1) (lent S N 6) refl refl
         (omega arith) (omega arith) (unknown-label v) (f .2)
 
     pub other-on : back 6 ≡ true → unknown ≡ false → nextOf walk labels ≡ byWay (wayOf (q S N) (step staying) ∷ [])
     other-on z v = let f = leads-there S N 6 (tried-back S N k e 6 (omega arith)) long z in
-        onward-a walk labels (ok S) (y S) (o S) S.present S.place S.some S.most k (long-o S ∙ e) point low S.spare (f .0) (f .1) staying leaving (lent S N 1) (lent S N 6) refl refl
+        onward-a walk labels (ok S) (y S) (o S) S.present S.place S.counted k (long-o S ∙ e) point low S.spare (f .0) (f .1) staying leaving (lent S N 1) (lent S N 6) refl refl
         (omega arith) (omega arith) (known-all v) (f .2)
 
     pub other-back : back 1 ≡ true → unknown ≡ false → nextOf walk labels ≡ byWay (wayOf (q S N) (step leaving) ∷ [])
     other-back z v = let f = leads-there S N 1 (tried-on S N k e 1 (omega arith)) long z in
-        onward-b walk labels (ok S) (y S) (o S) S.present S.place S.some S.most k (long-o S ∙ e) point low S.spare (f .0) (f .1) staying leaving (lent S N 1) (lent S N 6) refl refl
+        onward-b walk labels (ok S) (y S) (o S) S.present S.place S.counted k (long-o S ∙ e) point low S.spare (f .0) (f .1) staying leaving (lent S N 1) (lent S N 6) refl refl
         (omega arith) (omega arith) (known-all v) (f .2)
 
     -- none before, or a place to which neither move leads
     without : (before : Option Simplex) → beforeOf (shape g) (w .before) ≡ before → ((b : Simplex) → beforeOf (shape g) (w .before) ≡ some b → nextOf walk labels ≡ refused 20)
         → nextOf walk labels ≡ refused 20
-    without none z h = without-one walk labels (ok S) (y S) (o S) S.present S.place S.some S.most k (long-o S ∙ e) point low S.spare z
+    without none z h = without-one walk labels (ok S) (y S) (o S) S.present S.place S.counted k (long-o S ∙ e) point low S.spare z
     without (some b) z h = h b z
 
     pub other-20-unknown : back 6 ≡ false → unknown ≡ true → nextOf walk labels ≡ refused 20
     other-20-unknown z v = without (beforeOf (shape g) (w .before)) refl (λ b before.
-        not-back-unknown walk labels (ok S) (y S) (o S) S.present S.place S.some S.most k (long-o S ∙ e) point low S.spare b before staying leaving (lent S N 1) (lent S N 6) refl refl
+        not-back-unknown walk labels (ok S) (y S) (o S) S.present S.place S.counted k (long-o S ∙ e) point low S.spare b before staying leaving (lent S N 1) (lent S N 6) refl refl
         (omega arith) (omega arith) (unknown-label v) (leads-elsewhere S N 6 (tried-back S N k e 6 (omega arith)) long z b before))
 
     pub other-20 : back 6 ≡ false → back 1 ≡ false → unknown ≡ false → nextOf walk labels ≡ refused 20
     other-20 z x v = without (beforeOf (shape g) (w .before)) refl (λ b before.
-        neither walk labels (ok S) (y S) (o S) S.present S.place S.some S.most k (long-o S ∙ e) point low S.spare b before staying leaving (lent S N 1) (lent S N 6) refl refl
+        neither walk labels (ok S) (y S) (o S) S.present S.place S.counted k (long-o S ∙ e) point low S.spare b before staying leaving (lent S N 1) (lent S N 6) refl refl
         (omega arith) (omega arith) (known-all v) (leads-elsewhere S N 1 (tried-on S N k e 1 (omega arith)) long x b before)
         (leads-elsewhere S N 6 (tried-back S N k e 6 (omega arith)) long z b before))

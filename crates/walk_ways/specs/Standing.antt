@@ -6,7 +6,7 @@ use Prim.Native.Nat.{ℕ, _+_, _≤_, _<_}
 use lib.Dec.{eqb}
 use lib.ListN.{length, take, getD}
 use Rattle.combinatorics.specs.Lists.{isIn}
-use Rattle.grid.specs.Grid.{Grid, at, bound, numIndices}
+use Rattle.grid.specs.Grid.{Grid, at, numIndices}
 use Rattle.grid.specs.Made.{IsMade, shape}
 use Rattle.grid.specs.declared.Grid.{Grid as GridStruct}
 use Rattle.place.specs.Coefficients.{coefficients}
@@ -21,8 +21,9 @@ use Rattle.rules.specs.Step.{Round}
 use Rattle.walks.specs.Kept.{keptPoints, zeroOutside}
 use Rattle.walks.specs.Next.{nextOf}
 use Rattle.walks.specs.Walk.{Walk, over}
+use Rattle.walk_moves.specs.Counted.{Counted}
 use Rattle.walk_moves.specs.Spare.{Spare}
-use Rattle.walk_ways.specs.Walks.{beforeOf, nextAs, placeOf, samePlace}
+use Rattle.walk_ways.specs.Walks.{beforeOf, carriedOf, nextAs, placeOf, samePlace}
 use Rattle.walk_ways.specs.declared.Leads.{Leads}
 use Rattle.walk_ways.specs.declared.Leads.the-variants.{FacetEnd, Onto, PlaceEnd}
 use Rattle.walk_ways.specs.declared.Next.{Next}
@@ -38,6 +39,8 @@ walkOn g w = record {
   present = placeOf g (w .present);
   before = beforeOf g (w .before);
   places = w .places;
+  carried = carriedOf w;
+  read = w .«labels_read»;
 }
 
 abbrev pub nextIn : GridStruct → WalkStruct → List ℕ → Next
@@ -63,7 +66,7 @@ pub record IsRoundOf (g : GridStruct) (previous next sizes : List ℕ) : Type 0 
   pub round : IsRound (shape g) (record { previous = previous; next = next; sizes = sizes })
   pub below : RoundBelow (record { previous = previous; next = next; sizes = sizes })
 
--- The walk passes questions 1 to 7, its places so far are in range, and its present place is one. T and U are masks, `list` has the first point's coefficients, and
+-- The walk passes questions 1 to 7, its counts are in range, it carries its place's labels, and its present place is one. T and U are masks, `list` has the first point's coefficients, and
 -- `marks` the marks of the points, with index 1 for the label that is not yet known, if any: that of the spare point.
 pub record Standing (g : GridStruct) (w : WalkStruct) (labels first list order marks : List ℕ) (n t u point : ℕ) (unknown : Bool) : Type 0 where
   pub made : IsMade g
@@ -83,5 +86,4 @@ pub record Standing (g : GridStruct) (w : WalkStruct) (labels first list order m
   pub unknownIs : unknown ≡ eqb (label (tableOn g w labels) (getD (pointsOn g first order n) point [])) 0
   pub marked : (j : ℕ) → j ≤ n
       → at marks j ≡ markOf (tableOn g w labels) (getD (pointsOn g first order n) j []) + cond (unknown && eqb j point) 1 0
-  pub some : 1 ≤ w .places
-  pub most : w .places ≤ bound (shape g)
+  pub counted : Counted (walkOn (shape g) w) labels

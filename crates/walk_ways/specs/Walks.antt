@@ -9,10 +9,12 @@ use Rattle.combinatorics.specs.Front.{front}
 use Rattle.combinatorics.specs.Lists.{concatMap, firstOr, same}
 use Rattle.grid.specs.Grid.{Grid, Point, numIndices}
 use Rattle.place.specs.Ends.{Kind, facetEnd, placeEnd}
+use Rattle.place.specs.LabelsRead.{pointCameIn}
 use Rattle.place.specs.Places.{Simplex, order}
+use Rattle.place.specs.Problem.{Problem}
 use Rattle.walks.specs.Kept.{keptPoints}
 use Rattle.walks.specs.Next.{Outcome, ended, moved, refused, ruleOf}
-use Rattle.walks.specs.Walk.{Walk, over}
+use Rattle.walks.specs.Walk.{Walk, labelsOf, over}
 use Rattle.walk_ways.specs.declared.Answer.{Answer}
 use Rattle.walk_ways.specs.declared.Answer.the-variants.{Ended, Moved, Refused}
 use Rattle.walk_ways.specs.declared.Kind.{Kind as KindStruct}
@@ -56,7 +58,12 @@ firstSix n xs = cond (leb n 6) (take n xs) (replicate n 0)
 abbrev pub gridOf : WalkStruct → Grid
 gridOf w = record { sizes = firstSix (w .blocks) (w .sizes); divisions = firstSix (w .blocks) (w .divisions) }
 
--- "A walk holds the grid, the start, the present place, the one before it and the places so far"
+-- "Runs and walks now carry their place's labels": one for each point of the present place, with 0 behind. With anything else behind it carries none,
+-- which are no place's labels
+unfoldable pub carriedOf : WalkStruct → List ℕ
+carriedOf w = let own = take (w .present .count) (w .carried) in cond (same eqb (w .carried) (padded 16 own)) own []
+
+-- "A walk holds the grid, the start, the present place, the one before it and the places so far", its place's labels and the labels read
 abbrev pub walkOf : WalkStruct → Walk
 walkOf w = let g = gridOf w in record {
   grid = g;
@@ -64,6 +71,8 @@ walkOf w = let g = gridOf w in record {
   present = placeOf g (w .present);
   before = beforeOf g (w .before);
   places = w .places;
+  carried = carriedOf w;
+  read = w .«labels_read»;
 }
 
 -- a place, kept
@@ -98,16 +107,19 @@ nextAs w labels n = record {
   place = placeAfter (w .grid) n;
 }
 
--- "each call moves it on by one place": what was the present place is then the one before; else the walk is as it was
-abbrev pub structOn : Grid → WalkStruct → Outcome Simplex → WalkStruct
-structOn g w (refused number) = w
-structOn g w (ended kind block simplex) = w
-structOn g w (moved s) = record {
+-- "each call moves it on by one place": what was the present place is then the one before, it carries the labels of the next, over the table of p, and its
+-- labels read are one more if a point came in; else the walk is as it was
+abbrev pub structOn : Problem → WalkStruct → Outcome Simplex → WalkStruct
+structOn p w (refused number) = w
+structOn p w (ended kind block simplex) = w
+structOn p w (moved s) = let g = p .grid in record {
   places = w .places + 1;
+  «labels_read» = w .«labels_read» + cond (pointCameIn (placeOf g (w .present)) s) 1 0;
   present = stored g s;
   before = w .present;
   start = w .start;
   divisions = w .divisions;
   sizes = w .sizes;
   blocks = w .blocks;
+  carried = padded 16 (labelsOf p s);
 }

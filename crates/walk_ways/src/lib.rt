@@ -22,17 +22,21 @@ pub struct Place {
     pub count: u8,
 }
 
-// A walk: the places so far, the present place, the one before it or none, the start, and the grid by its divisions,
-// its sizes and the number of its blocks. At the front of each array stand the numbers of the blocks or of the indices.
+// A walk: the places so far, the labels read, the present place, the one before it or none, the start, the grid by its
+// divisions, its sizes and the number of its blocks, and the labels of the present place's points in their order, which
+// it carries. At the front of each array stand the numbers of the blocks, the indices or the points; behind the labels
+// stands 0.
 #[repr(C)]
 pub struct Walk {
     pub places: u64,
+    pub labels_read: u64,
     pub present: Place,
     pub before: Place,
     pub start: [u16; 16],
     pub divisions: [u16; 6],
     pub sizes: [u8; 6],
     pub blocks: u8,
+    pub carried: [u8; 16],
 }
 
 // The kind of end: a complete place, or what remains of a place less one point.

@@ -19,7 +19,7 @@ unanswered-requires c κs = search needs
 
 returns : tie.Need-returns
 unfolding begunStep
-returns c = let s = c .before .before .before .before .before .before .before .args .s .walk in
+returns c = let s = c .before .before .before .before .before .before .before .before .args .s .walk in
     let b = c .before .before .before .at-start in let F : Begun
     → Step = λ x. unansweredStep (cond (eqb (x .code) 0) (x .walk) s) (x .code) 0 (replicate 256 0) in
     c .unanswered .ensures ∙ _∙_ {b = F (b .result)} (rw (ne-eqb (b .result .code) 0 (c .before .before .if1 .taken)))
@@ -30,7 +30,7 @@ unanswered-requires-2 c κs = search needs
 
 returns-2 : tie.Need-returns-2
 unfolding begunStep
-returns-2 c = let s = c .before .before .before .before .before .before .before .args .s .walk in
+returns-2 c = let s = c .before .before .before .before .before .before .before .before .args .s .walk in
     let b = c .before .before .before .at-start in let F : Begun
     → Step = λ x. unansweredStep (cond (eqb (x .code) 0) (x .walk) s) (x .code) 0 (replicate 256 0) in
     c .unanswered2 .ensures ∙ _∙_ {b = F (b .result)} (rw (c .before .before .if1 .left)) (ap F (b .ensures))

@@ -2,50 +2,24 @@
 use mathlib.Core.Path.{_≡_, refl, sym, ap, _∙_}
 use Rattle.grid.proofs.Fields.{made-accepted}
 use Rattle.recogniser.proofs.Steps.{position-low}
-use Rattle.recogniser.specs.Pieces.{markIn, pointWith}
+use Rattle.recogniser.specs.Pieces.{pointWith}
 use native.Mathlib.Omega.{arith}
 use Rattle.recogniser.proofs.points.mark_at.Statement.{statement}
 use Rattle.recogniser.proofs.points.mark_at.Tie as tie
 
 position-requires : tie.Need-position-requires
-position-requires c κs = let s = c .before in (s .pre .0 .made, s .pre .0 .filled, s .pre .1 .can, s .pre .1 .point)
-
-shared-slice-read-label : tie.Need-shared-slice-read-label
-shared-slice-read-label c = let s = c .before .before .before in let a = s .args in
-    omega (arith, c .before .position .ensures, position-low (a .g) (s .pre .0 .made) (pointWith (a .g) (a .first .now) (a .steps .now)) (s .pre .1 .point), s .pre .0 .whole)
-
-cast-label : tie.Need-cast-label
-cast-label c = omega (arith, c .shared-slice-known2 .given (c .before .position .result))
+position-requires c κs = let s = c in (s .pre .0 .made, s .pre .0 .filled, s .pre .1 .can, s .pre .1 .point)
 
 cast-result : tie.Need-cast-result
-cast-result c = let s = c .before .before .before in let a = s .args in
-    omega (arith, c .before .position .ensures, position-low (a .g) (s .pre .0 .made) (pointWith (a .g) (a .first .now) (a .steps .now)) (s .pre .1 .point), made-accepted (a .g) (s .pre .0 .made) .fewPoints)
+cast-result c = let s = c .before in let a = s .args in
+    omega (arith, c .position .ensures, position-low (a .g) (s .pre .0 .made) (pointWith (a .g) (a .first .now) (a .steps .now)) (s .pre .1 .point), made-accepted (a .g) (s .pre .0 .made) .fewPoints)
 
 mul-result : tie.Need-mul-result
-mul-result c = let s = c .before .before .before in let a = s .args in
-    omega (arith, c .before .position .ensures, position-low (a .g) (s .pre .0 .made) (pointWith (a .g) (a .first .now) (a .steps .now)) (s .pre .1 .point), made-accepted (a .g) (s .pre .0 .made) .fewPoints)
-
-add-result : tie.Need-add-result
-add-result c = let s = c .before .before .before in let a = s .args in
-    omega (
-      arith,
-      c .before .position .ensures,
-      position-low (a .g) (s .pre .0 .made) (pointWith (a .g) (a .first .now) (a .steps .now)) (s .pre .1 .point),
-      made-accepted (a .g) (s .pre .0 .made) .fewPoints,
-      c .shared-slice-known2 .given (c .before .position .result),
-    )
+mul-result c = let s = c .before in let a = s .args in
+    omega (arith, c .position .ensures, position-low (a .g) (s .pre .0 .made) (pointWith (a .g) (a .first .now) (a .steps .now)) (s .pre .1 .point), made-accepted (a .g) (s .pre .0 .made) .fewPoints)
 
 returns : tie.Need-returns
-returns c = record { is = rw (c .before .position .ensures) refl }
+returns c = record { is = omega (arith, c .position .ensures) }
 
 pub mark-at-spec : {M : Type 1} → statement M
-mark-at-spec =
-    tie.close
-    (tie.spec
-    position-requires
-    shared-slice-read-label
-    cast-label
-    cast-result
-    mul-result
-    add-result
-    returns)
+mark-at-spec = tie.close (tie.spec position-requires cast-result mul-result returns)

@@ -9,7 +9,7 @@ use Rattle.grid.specs.Grid.{numIndices}
 use Rattle.grid.specs.Made.{shape}
 use Rattle.place.specs.Questions.{tableQuestions}
 use Rattle.questions.specs.Questions.{firstNo}
-use Rattle.walk_calls.proofs.Calls.{call-ended, call-moved, call-refuses, places-few, table-refused}
+use Rattle.walk_calls.proofs.Calls.{call-ended, call-moved, call-refuses, goes-to, places-few, table-refused}
 use Rattle.walk_calls.proofs.Later.{behind-four}
 use Rattle.walk_calls.specs.Asked.{laterQuestions}
 use borrow.Author.Needs.{needs}
@@ -18,11 +18,11 @@ use Rattle.walk_calls.proofs.moving.call_on.Statement.{statement}
 use Rattle.walk_calls.proofs.moving.call_on.Tie as tie
 
 array-share-prefix-start : tie.Need-array-share-prefix-start
-array-share-prefix-start c = let h = c .before .before .good .1 .0 .1 .1 .1 .1 .1 .0 in let z : length (c .before .before .args .w .start) ≡ 16 = length-unmapped _ (c .before .before .args .w .start) 16 (search (h, needs)) in
+array-share-prefix-start c = let h = c .before .before .good .1 .0 .1 .1 .1 .1 .1 .1 .0 in let z : length (c .before .before .args .w .start) ≡ 16 = length-unmapped _ (c .before .before .args .w .start) 16 (search (h, needs)) in
     omega (arith, indices-few (c .before .before .args .g) (c .before .before .pre))
 
 slice-aggregate-first-no : tie.Need-slice-aggregate-first-no
-slice-aggregate-first-no c = let h = c .before .before .before .good .1 .0 .1 .1 .1 .1 .1 .0 in let z : length (c .before .before .before .args .w .start) ≡ 16 = length-unmapped _ (c .before .before .before .args .w .start) 16 (search (h, needs)) in
+slice-aggregate-first-no c = let h = c .before .before .before .good .1 .0 .1 .1 .1 .1 .1 .1 .0 in let z : length (c .before .before .before .args .w .start) ≡ 16 = length-unmapped _ (c .before .before .before .args .w .start) 16 (search (h, needs)) in
     simp length-take (omega (arith, indices-few (c .before .before .before .args .g) (c .before .before .before .pre)))
 
 first-no-requires : tie.Need-first-no-requires
@@ -46,8 +46,13 @@ next-on-requires c κs = let s = c .before .before .before .before .before in le
 enum-told : tie.Need-enum-told
 enum-told c = search needs
 
+carried-to-requires : tie.Need-carried-to-requires
+carried-to-requires c κs = let s = c .before .before .before .before .before .before .before .before .before .before in let a = s .args in
+    (s .pre, goes-to (shape (a .g)) (a .w) (a .labels .now) (c .before .before .before .before .next-on .result) (c .before .before .before .before .next-on .ensures) (c .enum-told .given .0 .0) (c .enum-told .given .1))
+
 moved-to-requires : tie.Need-moved-to-requires
-moved-to-requires c κs = let a = c .before .before .before .before .before .before .before .before .before .before .args in places-few (shape (a .g)) (a .w) (a .labels .now) (c .before .before .before .before .next-on .result) (c .before .before .before .before .next-on .ensures) (c .enum-told .given .0 .0) (c .enum-told .given .1)
+moved-to-requires c κs = let a = c .before .before .before .before .before .before .before .before .before .before .before .args in
+    places-few (shape (a .g)) (a .w) (a .labels .now) (goes-to (shape (a .g)) (a .w) (a .labels .now) (c .before .before .before .before .before .next-on .result) (c .before .before .before .before .before .next-on .ensures) (c .before .enum-told .given .0 .0) (c .before .enum-told .given .1))
 
 enum-told-2 : tie.Need-enum-told-2
 enum-told-2 c = search needs
@@ -56,7 +61,9 @@ enum-told-3 : tie.Need-enum-told-3
 enum-told-3 c = search needs
 
 returns-2 : tie.Need-returns-2
-returns-2 c = let a = c .before .before .before .before .before .before .before .before .before .before .before .args in rw (c .moved-to .ensures) (call-moved (shape (a .g)) (a .w) (a .labels .now) (c .before .before .before .before .before .next-on .result) (c .before .before .before .before .before .next-on .ensures) (c .before .enum-told .given .0 .0) (c .before .enum-told .given .1))
+returns-2 c = let a = c .before .before .before .before .before .before .before .before .before .before .before .before .args in
+    let G = goes-to (shape (a .g)) (a .w) (a .labels .now) (c .before .before .before .before .before .before .next-on .result) (c .before .before .before .before .before .before .next-on .ensures) (c .before .before .enum-told .given .0 .0) (c .before .before .enum-told .given .1) in
+    rw (c .moved-to .ensures) (call-moved (shape (a .g)) (a .w) (a .labels .now) (c .before .before .before .before .before .before .next-on .result) (c .before .before .before .before .before .before .next-on .ensures) G (c .before .carried-to .result) (c .before .carried-to .ensures G))
 
 returns-3 : tie.Need-returns-3
 returns-3 c = let a = c .before .before .before .before .before .before .before .before .before .before .args in call-refuses (shape (a .g)) (a .w) (a .labels .now) (c .before .before .before .before .next-on .result) (c .before .before .before .before .next-on .ensures) (c .enum-told2 .given .0 .0) (c .enum-told2 .given .1)
@@ -75,6 +82,7 @@ call-on-spec =
     returns
     next-on-requires
     enum-told
+    carried-to-requires
     moved-to-requires
     enum-told-2
     enum-told-3

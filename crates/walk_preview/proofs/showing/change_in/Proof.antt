@@ -1,32 +1,43 @@
 -- `showing::change_in` meets its contract. Assumes nothing.
+use mathlib.Core.List.{List}
 use mathlib.Core.Path.{_≡_, sym, ap, _∙_, subst}
+use Prim.Native.Nat.{ℕ}
 use borrow.Author.Needs.{needs}
 use Rattle.grid.specs.Grid.{Grid}
+use Rattle.grid.specs.Made.{shape}
+use Rattle.grid.specs.declared.Made.{Made}
 use Rattle.walks.specs.Preview.{preview}
+use Rattle.walk_calls.specs.Moving.{GridIn}
 use Rattle.walk_preview.proofs.Calls.{grid-passes}
-use Rattle.walk_preview.specs.Previews.{Moves, changeShown}
+use Rattle.walk_preview.specs.Previews.{CanShow, Moves, MovesTo, changeShown}
 use Rattle.walk_ways.specs.Standing.{walkOn}
+use Rattle.walk_ways.specs.Walks.{gridOf}
+use Rattle.walk_ways.specs.declared.Place.{Place}
+use Rattle.walk_ways.specs.declared.Walk.{Walk as WalkStruct}
 use Rattle.walk_preview.proofs.showing.change_in.Statement.{statement}
 use Rattle.walk_preview.proofs.showing.change_in.Tie as tie
+
+module _ (w : WalkStruct) (made : Made) (is : GridIn (gridOf w) made) (labels : List ℕ) (next : Place) (rule : ℕ) (M : MovesTo w labels next rule) where
+  same-grid : shape (made .grid) ≡ gridOf w
+  same-grid = is .is (is .code ∙ grid-passes M) .1
+
+  can-show : CanShow (made .grid) w labels next rule
+  can-show = record {
+    made = is .is (is .code ∙ grid-passes M) .0;
+    moves = subst (λ (g : Grid). Moves g w labels next rule) (sym same-grid) M;
+  }
 
 grid-in-requires : tie.Need-grid-in-requires
 grid-in-requires c κs = search needs
 
 change-on-requires : tie.Need-change-on-requires
-change-on-requires c κs = let M = c .before .before .before .pre in let made = c .before .grid-in .ensures in
-    let is = made .is (made .code ∙ grid-passes M) in
-    record {
-      made = is .0;
-      moves = subst (λ (g : Grid). Moves g (c .before .before .before .args .w)
-          (c .before .before .before .args .labels .now) (c .before .before .before .args .next)
-          (c .before .before .before .args .rule)) (sym (is .1)) M;
-    }
+change-on-requires c κs = let s = c .before .before in let a = s .args in
+    (s .pre .0, can-show (a .w) (c .before .grid-in .result) (c .before .grid-in .ensures) (s .pre .0) (a .next) (a .rule) (s .pre .1))
 
 returns : tie.Need-returns
-returns c = let M = c .before .before .before .before .pre in let made = c .before .before .grid-in .ensures in
-    c .change-on .ensures ∙ ap (λ (g : Grid). changeShown (preview (walkOn g
-    (c .before .before .before .before .args .w)) (c .before .before .before .before .args .labels .now))) (made .is
-    (made .code ∙ grid-passes M) .1)
+returns c labels M = let a = c .before .before .before .args in let made = c .before .before .grid-in in
+    c .change-on .ensures labels (can-show (a .w) (made .result) (made .ensures) labels (a .next) (a .rule) M)
+    ∙ ap (λ (g : Grid). changeShown (preview (walkOn g (a .w)) labels)) (same-grid (a .w) (made .result) (made .ensures) labels (a .next) (a .rule) M)
 
 pub change-in-spec : {M : Type 1} → statement M
 change-in-spec = tie.close (tie.spec grid-in-requires change-on-requires returns)

@@ -1,15 +1,17 @@
 -- `beginning::at_start` meets its contract. Assumes nothing.
+use mathlib.Core.List.{List}
 use mathlib.Core.Path.{_≡_, sym, ap, _∙_}
+use Prim.Native.Nat.{ℕ}
 use borrow.Author.Needs.{needs}
-use native.Mathlib.Omega.{arith}
 use Rattle.grid.proofs.Fields.{made-code, made-is, made-shape}
-use Rattle.walk_views.proofs.Start.{begins, no-grid, no-start}
-use Rattle.combinatorics.proofs.Basics.{not-is}
 use Rattle.grid.specs.Build.{lent}
-use Rattle.grid.specs.Grid.{Grid, isGridPoint}
-use Rattle.recogniser.proofs.Together.{is-not}
-use Rattle.walk_views.proofs.Start.{begunBy, short}
-use Rattle.walk_views.specs.Begun.{startWalk}
+use Rattle.grid.specs.Grid.{Grid}
+use Rattle.place.specs.Problem.{label}
+use Rattle.place.specs.Questions.{tableQuestions}
+use Rattle.questions.specs.Questions.{firstNo}
+use Rattle.walk_calls.proofs.Later.{behind-four}
+use Rattle.walk_views.proofs.Start.{begins, begunBy, no-grid, refuses}
+use Rattle.walk_views.specs.Begun.{begunOn, startWalk}
 use Rattle.walk_views.proofs.beginning.at_start.Statement.{statement}
 use Rattle.walk_views.proofs.beginning.at_start.Tie as tie
 
@@ -20,50 +22,54 @@ no-walk-requires : tie.Need-no-walk-requires
 no-walk-requires c κs = search needs
 
 returns : tie.Need-returns
-returns c = let a = c .before .before .before .before .before .before .before .args in
-    let G = lent (a .sizes .now) (a .divisions .now) in let v = a .start .now in
-    ap (begunBy (c .before .before .before .new .result .code)) (c .no-walk .ensures)
-    ∙ no-grid G v (c .before .before .before .new .result .code) (c .before .if1 .taken) (made-code G
-    (c .before .before .before .new .result) (c .before .before .before .new .ensures))
+returns c =
+    let a = c .before .before .before .before .before .before .before .before .args in
+    let G = lent (a .sizes .now) (a .divisions .now) in
+    let made = c .before .before .before .new in
+    ap (begunBy (made .result .code)) (c .no-walk .ensures)
+    ∙ no-grid G (a .start .now) (a .labels .now) (made .result .code) (c .before .if1 .taken) (made-code G (made .result) (made .ensures))
 
-is-grid-point-requires : tie.Need-is-grid-point-requires
-is-grid-point-requires c κs = let a = c .before .before .before .before .before .before .args in
-    made-is (lent (a .sizes .now) (a .divisions .now)) (c .before .before .new .result)
-    (c .before .before .new .ensures) (c .if1 .left)
+first-no-requires : tie.Need-first-no-requires
+first-no-requires c κs =
+    let a = c .before .before .before .before .before .before .before .args in
+    made-is (lent (a .sizes .now) (a .divisions .now)) (c .before .before .new .result) (c .before .before .new .ensures) (c .if1 .left)
 
 no-walk-requires-2 : tie.Need-no-walk-requires-2
 no-walk-requires-2 c κs = search needs
 
 returns-2 : tie.Need-returns-2
-returns-2 c = let a = c .before .before .before .before .before .before .before .before .before .args in
-    let G = lent (a .sizes .now) (a .divisions .now) in let v = a .start .now in
-    let r = c .before .before .before .before .before .new .result in
-    let e = c .before .before .before .before .before .new .ensures in
+returns-2 c =
+    let a = c .before .before .before .before .before .before .before .before .before .before .args in
+    let G = lent (a .sizes .now) (a .divisions .now) in
+    let made = c .before .before .before .before .before .new in
     let z = c .before .before .before .if1 .left in
-    ap (begunBy 5) (c .no-walk2 .ensures) ∙ no-start G v (sym (made-code G r e) ∙ z)
-    (ap (λ (g : Grid). isGridPoint g v) (sym (made-shape G r e z)) ∙ sym (c .before .before .is-grid-point .ensures)
-    ∙ not-is _ (c .before .if2 .taken))
+    let first = c .before .before .first-no in
+    let is = made-is G (made .result) (made .ensures) z in
+    let same = made-shape G (made .result) (made .ensures) z in
+    let asked : firstNo (tableQuestions (begunOn G (a .start .now) (a .labels .now))) ≡ first .result =
+    ap (λ (g : Grid). firstNo (tableQuestions (begunOn g (a .start .now) (a .labels .now)))) (sym same)
+    ∙ behind-four (made .result .grid) (a .start .now) (a .labels .now) (is .accepted) ∙ sym (first .ensures) in
+    ap (begunBy (first .result)) (c .no-walk2 .ensures) ∙ refuses G (a .start .now) (a .labels .now) (first .result) (c .before .if2 .taken) asked
 
 start-on-requires : tie.Need-start-on-requires
-start-on-requires c κs = let a = c .before .before .before .before .before .before .before .before .args in
-    let G = lent (a .sizes .now) (a .divisions .now) in let v = a .start .now in
-    let r = c .before .before .before .before .new .result in
-    let e = c .before .before .before .before .new .ensures in let z = c .before .before .if1 .left in (
-      made-is G r e z,
-      short G v (sym (made-code G r e) ∙ z) (ap (λ (g : Grid). isGridPoint g v) (sym
-          (made-shape G r e z)) ∙ sym (c .before .is-grid-point .ensures) ∙ is-not _ (c .if2 .left)),
-    )
+start-on-requires c κs =
+    let a = c .before .before .before .before .before .before .before .before .before .args in
+    let made = c .before .before .before .before .new in
+    (made-is (lent (a .sizes .now) (a .divisions .now)) (made .result) (made .ensures) (c .before .before .if1 .left), sym (c .before .first-no .ensures) ∙ c .if2 .left)
 
 returns-3 : tie.Need-returns-3
-returns-3 c = let a = c .before .before .before .before .before .before .before .before .before .args in
-    let G = lent (a .sizes .now) (a .divisions .now) in let v = a .start .now in
-    let r = c .before .before .before .before .before .new .result in
-    let e = c .before .before .before .before .before .new .ensures in
+returns-3 c =
+    let a = c .before .before .before .before .before .before .before .before .before .before .args in
+    let G = lent (a .sizes .now) (a .divisions .now) in
+    let made = c .before .before .before .before .before .new in
     let z = c .before .before .before .if1 .left in
-    ap (begunBy 0) (c .start-on .ensures ∙ ap (λ (g : Grid). startWalk g v) (made-shape G r e z))
-    ∙ begins G v (sym (made-code G r e) ∙ z)
-    (ap (λ (g : Grid). isGridPoint g v) (sym (made-shape G r e z)) ∙ sym (c .before .before .is-grid-point .ensures)
-    ∙ is-not _ (c .before .if2 .left))
+    let is = made-is G (made .result) (made .ensures) z in
+    let same = made-shape G (made .result) (made .ensures) z in
+    let asked : firstNo (tableQuestions (begunOn G (a .start .now) (a .labels .now))) ≡ 0 =
+    ap (λ (g : Grid). firstNo (tableQuestions (begunOn g (a .start .now) (a .labels .now)))) (sym same)
+    ∙ behind-four (made .result .grid) (a .start .now) (a .labels .now) (is .accepted) ∙ sym (c .before .before .first-no .ensures) ∙ c .before .if2 .left in
+    ap (begunBy 0) (c .start-on .ensures ∙ ap (λ (g : Grid). startWalk g (a .start .now) (label (begunOn g (a .start .now) (a .labels .now)) (a .start .now))) same)
+    ∙ begins G (a .start .now) (a .labels .now) asked
 
 pub at-start-spec : {M : Type 1} → statement M
 at-start-spec =
@@ -72,7 +78,7 @@ at-start-spec =
     new-requires
     no-walk-requires
     returns
-    is-grid-point-requires
+    first-no-requires
     no-walk-requires-2
     returns-2
     start-on-requires

@@ -1,30 +1,41 @@
 -- `beginning::start_on` meets its contract. Assumes nothing.
-use mathlib.Core.Path.{_≡_, sym, ap, _∙_}
+use mathlib.Core.Path.{_≡_, refl, sym, ap, _∙_}
+use Prim.Native.Nat.{ℕ}
 use borrow.Author.Needs.{needs}
 use native.Mathlib.Omega.{arith}
+use Rattle.combinatorics.specs.Front.{front}
 use Rattle.grid.proofs.Fields.{blocks-range}
-use Rattle.walk_views.proofs.Start.{start-made}
+use Rattle.walk_views.proofs.Start.{can-look-up, short, start-made}
 use Rattle.walk_views.proofs.beginning.start_on.Statement.{statement}
 use Rattle.walk_views.proofs.beginning.start_on.Tie as tie
 
 copied-requires : tie.Need-copied-requires
-copied-requires c κs = search needs
+copied-requires c κs = let s = c .before .before in let a = s .args in short (a .g) (s .pre .0) (a .start .now) (a .labels .now) (s .pre .1)
+
+label-of-requires : tie.Need-label-of-requires
+label-of-requires c κs =
+    let s = c .before .before .before .before in
+    let a = s .args in
+    can-look-up (a .g) (s .pre .0) (a .start .now) (a .labels .now) (s .pre .1) (c .before .copied .result) (c .before .copied .ensures)
+
+array-write-carried : tie.Need-array-write-carried
+array-write-carried c = search needs
 
 none-requires : tie.Need-none-requires
 none-requires c κs = search needs
 
-cast-t9 : tie.Need-cast-t9
-cast-t9 c = omega (
-  arith,
-  blocks-range (c .before .before .before .before .before .before .args .g)
-      (c .before .before .before .before .before .before .pre .0) .1,
-)
+cast-t11 : tie.Need-cast-t11
+cast-t11 c = omega (arith, blocks-range (c .before .before .before .before .before .before .before .before .before .args .g) (c .before .before .before .before .before .before .before .before .before .pre .0) .1)
 
 returns : tie.Need-returns
-returns c = start-made (c .before .before .before .before .before .before .args .g)
-    (c .before .before .before .before .before .before .pre .0) (c .before .before .before .before .copied .result)
-    (c .before .before .before .before .before .before .args .start .now)
-    (c .before .before .before .before .copied .ensures) (c .before .none .result) (c .before .none .ensures)
+unfolding front
+returns c =
+    let s = c .before .before .before .before .before .before .before .before .before in
+    let a = s .args in
+    let y = c .before .before .before .before .before .before .copied in
+    let l = c .before .before .before .before .label-of in
+    start-made (a .g) (s .pre .0) (a .start .now) (a .labels .now) (s .pre .1) (y .result) (y .ensures) (c .before .none .result) (c .before .none .ensures) _
+    (l .result) (l .ensures) refl
 
 pub start-on-spec : {M : Type 1} → statement M
-start-on-spec = tie.close (tie.spec copied-requires none-requires cast-t9 returns)
+start-on-spec = tie.close (tie.spec copied-requires label-of-requires array-write-carried none-requires cast-t11 returns)

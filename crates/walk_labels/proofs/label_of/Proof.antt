@@ -1,0 +1,22 @@
+-- `label_of` meets its contract. Assumes nothing.
+use borrow.Author.Needs.{needs}
+use borrow.Author.Tests.{le-leb, lt-leb}
+use native.Mathlib.Omega.{arith}
+use Rattle.walk_labels.proofs.label_of.Statement.{statement}
+use Rattle.walk_labels.proofs.label_of.Tie as tie
+
+element-copy-out-result : tie.Need-element-copy-out-result
+element-copy-out-result c = search needs
+
+returns : tie.Need-returns
+returns c = let a = c .before .before .args in rw (le-leb (a .i) (a .n) (c .before .if1 .taken))
+
+shared-slice-read-result : tie.Need-shared-slice-read-result
+shared-slice-read-result c = search needs
+
+returns-2 : tie.Need-returns-2
+returns-2 c = let a = c .before .before .args in rw (lt-leb (a .i) (a .n) (omega (arith, c .before .if1 .left)))
+
+pub label-of-spec : {M : Type 1} → statement M
+label-of-spec =
+    tie.close (tie.spec element-copy-out-result returns shared-slice-read-result returns-2)
