@@ -10,18 +10,19 @@
 #include <stddef.h>
 #include <stdint.h>
 
-#define LEVERETPLATE_FACTS 4    /* places, kind of end (0 place, 1 facet), block, vertices */
+#define LEVERETPLATE_VERSION 2  /* of this interface; CHANGELOG.md says what changed */
+#define LEVERETPLATE_FACTS 5    /* places, labels read, kind of end (0 place, 1 facet), block, vertices */
 #define LEVERETPLATE_LEVELS 8   /* the most levels of a refinement */
 #define LEVERETPLATE_NEAR 2     /* the nearest vertex's position, how many positions are listed */
-#define LEVERETPLATE_PLACE 3    /* how many points, T, U */
+#define LEVERETPLATE_PLACE 4    /* how many points, T, U, labels read */
 #define LEVERETPLATE_POINTS 256 /* room for the numbers of any place's points */
 #define LEVERETPLATE_SHEET 4096 /* room for any sheet */
 #define LEVERETPLATE_SHELF 1000 /* the most sheets on a shelf */
 
-/* Follows the path. At an end answers 0, writes the four facts, and the vertices in rising coefficient sum, m numbers each, to the answer buffer. Else
- * answers the refusal's number, 1 to 9 or 16. With number 9 the first fact is the places visited, and the other three stay. With number 16 a place
- * within the budget needs a label that is 0, not yet known: the first fact is the places visited before it, the second the label's position in the
- * table, from 0, and the other two stay. `facts` has LEVERETPLATE_FACTS numbers. */
+/* Follows the path. At an end answers 0, writes the five facts, and the vertices in rising coefficient sum, m numbers each, to the answer buffer. The
+ * labels read are 1 plus the moves by which a point came in. Else answers the refusal's number, 1 to 9 or 16. With number 9 the first fact is the
+ * places visited, and the others stay. With number 16 a place within the budget needs a label that is 0, not yet known: the first fact is the places
+ * visited before it, the second the label's position in the table, from 0, and the others stay. `facts` has LEVERETPLATE_FACTS numbers. */
 uint8_t leveretplate_run(const uint8_t *sizes, size_t sizes_length,
                          const uint16_t *divisions, size_t divisions_length,
                          const uint16_t *start, size_t start_length,
@@ -65,7 +66,7 @@ uint8_t leveretplate_run_with_trail(const uint8_t *sizes, size_t sizes_length,
                                     uint64_t *bytes);
 
 /* Rebuilds the place at a record of a trail, the records counted from 1, and answers 0: `place` has the number of points, T and U, sets of indices as masks
- * in which bit h stands for index h + 1; `points` has the points in rising coefficient sum, m numbers each, and 0 behind them. Over a run's trail record i
+ * in which bit h stands for index h + 1, and the labels read up to that place; `points` has the points in rising coefficient sum, m numbers each, and 0 behind them. Over a run's trail record i
  * gives the path's place i. Only the records up to the one asked for are looked at, and no label table. Else answers the refusal's number, 1 to 5, or 17
  * where there is no such record, or the records up to it do not begin with the start's, or one of them is not exactly the record of a change from its
  * place to a set of points that meets the first two conditions of a place, by one of the seven rules; and writes nothing. `points` has LEVERETPLATE_POINTS
@@ -97,7 +98,7 @@ uint8_t leveretplate_boundary(const uint8_t *sizes, size_t sizes_length,
 
 /* Runs the game with these losses on `levels` grids, from 1 to 8. Level i, counted from 0, has k to the i times the divisions, k being `factor`, from 2
  * to 10; the first starts at `start`, each next one at k times the first vertex of the end before, and each has its bound as budget, so that every level
- * ends. Answers 0; writes four facts for each level, one level behind the other, as leveretplate_run does at an end; writes the vertices of level i to
+ * ends. Answers 0; writes five facts for each level, one level behind the other, as leveretplate_run does at an end; writes the vertices of level i to
  * the answer buffer from i times (n + 1) times m on, and the last level's labels to `labels`, which has exactly its P bytes. Numbers of the answer
  * buffer between the levels and behind them stay, and so do facts behind the last level. Else answers the refusal's number, 18, 1 to 4 of any level, 5,
  * 10, 11, 12 or 8, put in this order. `facts` has LEVERETPLATE_LEVELS times LEVERETPLATE_FACTS numbers. */
@@ -135,7 +136,8 @@ uint8_t leveretplate_current(const uint16_t *list, size_t list_length, size_t co
 
 /* A walk is lent and moved on by one place with each call. A place is kept as its first point, the indices of T from 0 in the order in which each point
  * goes to the next, and the count of its points; what stands behind is 0, and 0 points with nothing but 0 are no place. At the front of each array of a
- * walk stand the numbers of the blocks or of the indices. Two walks are the same exactly if these numbers are. */
+ * walk stand the numbers of the blocks or of the indices. A walk carries the labels of the present place's points in their order, 0 behind. Two walks are
+ * the same exactly if these numbers are. */
 struct leveretplate_place {
     uint16_t first[16];
     uint32_t order[16];
@@ -143,10 +145,10 @@ struct leveretplate_place {
 };
 
 struct leveretplate_walk {
-    uint64_t places; /* so far */
+    uint64_t places, labels_read; /* so far */
     struct leveretplate_place present, before;
     uint16_t start[16], divisions[6];
-    uint8_t sizes[6], blocks;
+    uint8_t sizes[6], blocks, carried[16];
 };
 
 /* A walk, and behind it what the last call on it has answered. Every call below writes all of what stands behind the walk: 0 where it says nothing. */
@@ -162,15 +164,18 @@ struct leveretplate_step {
     uint8_t map;           /* bit b stands exactly if field b is there */
 };
 
-/* Makes the walk at {v}, with none before it and 1 as its places so far. Else the number is the refusal's, 1 to 5, and the walk stays. */
+/* Makes the walk at {v}, with none before it, 1 as its places so far and its labels read, and the table's label of v. Else the number is the refusal's, 1
+ * to 7, and the walk stays. */
 void leveretplate_walk_at_start(struct leveretplate_step *step,
                                 const uint8_t *sizes, size_t sizes_length,
                                 const uint16_t *divisions, size_t divisions_length,
-                                const uint16_t *start, size_t start_length);
+                                const uint16_t *start, size_t start_length,
+                                const uint8_t *labels, size_t labels_length);
 
 /* Moves the walk on by one place and tells the rule. At an end tells its kind, block and simplex, and the walk stays. Else the number is the refusal's, and
  * the walk stays: 1 to 7, asked of the walk's own grid and start and of the table; 20, where the present place is not a place, or the one before it not
- * linked to it, or only one of "it is {v}" and "it has none before it" holds, or the places so far are not from 1 to the bound; 16, where a point of the
+ * linked to it, or only one of "it is {v}" and "it has none before it" holds, or the places so far are not from 1 to the bound, or the labels
+ * that it carries are not the table's, 0 included, or its labels read not from 1 to its places; 16, where a point of the
  * present place has label 0. Any numbers may stand in the walk. */
 void leveretplate_move_on(struct leveretplate_step *step, const uint8_t *labels, size_t labels_length);
 

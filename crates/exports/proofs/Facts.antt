@@ -13,15 +13,16 @@ use Rattle.refinement.proofs.Solved.{put-back}
 use Rattle.refinement.specs.declared.Level.{Level}
 use Rattle.exports.specs.Refine.{levelFacts}
 
--- four facts, stored one behind the other
-pub four : (x y z u : ℕ) (old : List ℕ) → 4 ≤ length old
-    → set (set (set (set old 0 x) 1 y) 2 z) 3 u ≡ front (x ∷ y ∷ z ∷ u ∷ []) old
+-- five facts, stored one behind the other
+pub five : (x y z u v : ℕ) (old : List ℕ) → 5 ≤ length old
+    → set (set (set (set (set old 0 x) 1 y) 2 z) 3 u) 4 v ≡ front (x ∷ y ∷ z ∷ u ∷ v ∷ []) old
 unfolding front
-four x y z u (a ∷ b ∷ c ∷ d ∷ old) h = refl
-four x y z u [] h = absurd (omega arith)
-four x y z u (a ∷ []) h = absurd (omega arith)
-four x y z u (a ∷ b ∷ []) h = absurd (omega arith)
-four x y z u (a ∷ b ∷ c ∷ []) h = absurd (omega arith)
+five x y z u v (a ∷ b ∷ c ∷ d ∷ e ∷ old) h = refl
+five x y z u v [] h = absurd (omega arith)
+five x y z u v (a ∷ []) h = absurd (omega arith)
+five x y z u v (a ∷ b ∷ []) h = absurd (omega arith)
+five x y z u v (a ∷ b ∷ c ∷ []) h = absurd (omega arith)
+five x y z u v (a ∷ b ∷ c ∷ d ∷ []) h = absurd (omega arith)
 
 -- what is put behind a front makes a longer front
 front-more : (p row old : List ℕ)
@@ -33,7 +34,7 @@ front-more p row old = rw (take-append-seam, drop-append-seam, drop-drop, length
 abbrev pub factsOf : ℕ → List Level → List ℕ
 factsOf i levels = concatMap levelFacts (take i levels)
 
-facts-long : (i : ℕ) (levels : List Level) → i ≤ length levels → length (factsOf i levels) ≡ 4 * i
+facts-long : (i : ℕ) (levels : List Level) → i ≤ length levels → length (factsOf i levels) ≡ 5 * i
 facts-long zero levels h = omega arith
 facts-long (suc i) [] h = absurd (omega arith)
 facts-long (suc i) (l ∷ levels) h = omega (arith, facts-long i levels (omega arith))
@@ -46,29 +47,29 @@ facts-next (suc i) (l ∷ levels) other h =
     ap (λ (x : List ℕ). levelFacts l ++ x) (facts-next i levels other (omega arith))
 
 -- one level more, in its part of the buffer
-module _ (levels : List Level) (eight : length levels ≡ 8) (old facts : List ℕ) (long : 32 ≤ length old) (i : ℕ)
+module _ (levels : List Level) (eight : length levels ≡ 8) (old facts : List ℕ) (long : 40 ≤ length old) (i : ℕ)
     (is : facts ≡ front (factsOf i levels) old) where
   pub facts-length : i ≤ 8 → length facts ≡ length old
   facts-length h = rw is (front-length (factsOf i levels) old (omega (arith, facts-long i levels (omega arith))))
 
-  pub facts-room : i < 8 → 4 * i + 4 ≤ length facts
+  pub facts-room : i < 8 → 5 * i + 5 ≤ length facts
   facts-room h = omega (arith, facts-length (omega arith))
 
-  pub facts-part : i < 8 → 4 ≤ length (take (length facts - 4 * i) (drop (4 * i) facts))
+  pub facts-part : i < 8 → 5 ≤ length (take (length facts - 5 * i) (drop (5 * i) facts))
   facts-part h =
-      let e = take-all (length facts - 4 * i) (drop (4 * i) facts) (omega (arith, length-drop (4 * i) facts)) in
-      rw e (omega (arith, length-drop (4 * i) facts, facts-room h))
+      let e = take-all (length facts - 5 * i) (drop (5 * i) facts) (omega (arith, length-drop (5 * i) facts)) in
+      rw e (omega (arith, length-drop (5 * i) facts, facts-room h))
 
   pub facts-put : (other : Level) (new : List ℕ) → i < 8
-      → new ≡ front (levelFacts (getD levels i other)) (take (length facts - 4 * i) (drop (4 * i) facts))
-      → take (4 * i) facts ++ (new ++ drop (length facts - 4 * i) (drop (4 * i) facts)) ≡ front (factsOf (i + 1) levels)
+      → new ≡ front (levelFacts (getD levels i other)) (take (length facts - 5 * i) (drop (5 * i) facts))
+      → take (5 * i) facts ++ (new ++ drop (length facts - 5 * i) (drop (5 * i) facts)) ≡ front (factsOf (i + 1) levels)
       old
   facts-put other new h e =
       let p = factsOf i levels in
       let row = levelFacts (getD levels i other) in
-      let n : length p ≡ 4 * i = facts-long i levels (omega arith) in
-      put-back (4 * i) facts row new (omega (arith, facts-room h)) e
-      ∙ ap (λ (l : List ℕ). take (4 * i) l ++ front row (drop (4 * i) l)) is
+      let n : length p ≡ 5 * i = facts-long i levels (omega arith) in
+      put-back (5 * i) facts row new (omega (arith, facts-room h)) e
+      ∙ ap (λ (l : List ℕ). take (5 * i) l ++ front row (drop (5 * i) l)) is
       ∙ ap (λ (k : ℕ). take k (front p old) ++ front row (drop k (front p old))) (sym n)
       ∙ front-more p row old
       ∙ ap (λ (l : List ℕ). front l old) (sym (facts-next i levels other (omega arith)))

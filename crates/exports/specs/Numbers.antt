@@ -17,15 +17,15 @@ abbrev pub runNumber : Answer → ℕ
 runNumber (Refused number) = number
 runNumber (Spent places) = 9
 runNumber (Unknown places position) = 16
-runNumber (End places kind block vertices) = 0
+runNumber (End places read kind block vertices) = 0
 
 -- "The answer has the places, the kind of end, the block, the number of vertices"; "Number 9 also returns the places visited"; 16 "the places
--- visited before it and the point's position in the table"; a refusal "no count"
+-- visited before it and the point's position in the table"; a refusal "no count". Request 10: the labels read stand after the places.
 abbrev pub runFacts : Answer → List ℕ
 runFacts (Refused number) = []
 runFacts (Spent places) = places ∷ []
 runFacts (Unknown places position) = places ∷ position ∷ []
-runFacts (End places kind block vertices) = places ∷ kindNumber kind ∷ block ∷ vertices ∷ []
+runFacts (End places read kind block vertices) = places ∷ read ∷ kindNumber kind ∷ block ∷ vertices ∷ []
 
 -- "A refusal returns its number"; 0 where the labels are written
 abbrev pub labelNumber : Labelled → ℕ

@@ -7,9 +7,9 @@ use Rattle.refinement.specs.declared.Level.{Level}
 use Rattle.refinement.specs.declared.Refined.{Refined}
 use Rattle.exports.specs.Numbers.{kindNumber}
 
--- "each level's places, kind of end, block and number of vertices"
+-- "each level's places, kind of end, block and number of vertices", and request 10's labels read after the places
 abbrev pub levelFacts : Level → List ℕ
-levelFacts level = level .places ∷ kindNumber (level .kind) ∷ level .block ∷ level .vertices ∷ []
+levelFacts level = level .places ∷ level .«labels_read» ∷ kindNumber (level .kind) ∷ level .block ∷ level .vertices ∷ []
 
 -- of the levels that were run, one behind the other; a refusal has none
 abbrev pub refinedFacts : Refined → List ℕ

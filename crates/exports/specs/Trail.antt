@@ -11,19 +11,19 @@ abbrev pub bytesWritten : WriterAnswer → ℕ → ℕ
 bytesWritten (Refused number) old = old
 bytesWritten (Spent places) old = old
 bytesWritten (Unknown places position) old = old
-bytesWritten (End places kind block vertices bytes) old = bytes
+bytesWritten (End places read kind block vertices bytes) old = bytes
 
 -- "A refusal returns its number"; 0 where the reader "rebuilds the place at that record"
 abbrev pub readNumber : ReaderAnswer → ℕ
 readNumber (NotRead number) = number
-readNumber (Place points t u) = 0
+readNumber (Place points t u read) = 0
 
--- how many points the place has, T and U; a refusal has none of these
+-- how many points the place has, T, U and the labels read; a refusal has none of these
 abbrev pub placeFacts : ReaderAnswer → List ℕ
 placeFacts (NotRead number) = []
-placeFacts (Place points t u) = points ∷ t ∷ u ∷ []
+placeFacts (Place points t u read) = points ∷ t ∷ u ∷ read ∷ []
 
 -- the numbers of the points; a refusal "changes no buffer"
 abbrev pub pointsLeft : ReaderAnswer → List ℕ → List ℕ → List ℕ
 pointsLeft (NotRead number) new old = old
-pointsLeft (Place points t u) new old = new
+pointsLeft (Place points t u read) new old = new

@@ -8,18 +8,19 @@ use walk_steps::moved_step;
 use walk_steps::pointed_step;
 use walk_steps::shown_step;
 
-// Makes the walk at {v}, with 1 as its places so far.
+// Makes the walk at {v}, with 1 as its places so far and its labels read.
 #[no_mangle]
 pub extern "C" fn leveretplate_walk_at_start(
     s: &mut Step,
     sizes: &[u8],
     divisions: &[u16],
     start: &[u16],
+    labels: &[u8],
 )
     ensures { λ _. ⌜ now (s .exit) ≡ begunStep (now (s .entry))
-        (now (sizes .entry)) (now (divisions .entry)) (now (start .entry)) ⌝ }
+        (now (sizes .entry)) (now (divisions .entry)) (now (start .entry)) (now (labels .entry)) ⌝ }
 {
-    *s = begun_step(*s, sizes, divisions, start);
+    *s = begun_step(*s, sizes, divisions, start, labels);
 }
 
 // Moves the walk on by one place.

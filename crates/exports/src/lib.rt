@@ -33,7 +33,7 @@ fn kind_number(kind: Kind) -> u64
 
 // The facts to the front of their buffer, and the number.
 fn put_answer(answer: Answer, facts: &mut [u64]) -> u8
-    requires { ⌜ 4 ≤ length (now facts) ⌝ }
+    requires { ⌜ 5 ≤ length (now facts) ⌝ }
     ensures { λ r. ⌜ (r ≡ runNumber answer) × (now (facts .exit) ≡ front (runFacts answer) (now (facts .entry))) ⌝ }
 {
     match answer {
@@ -49,22 +49,24 @@ fn put_answer(answer: Answer, facts: &mut [u64]) -> u8
         }
         Answer::End {
             places,
+            labels_read,
             kind,
             block,
             vertices,
         } => {
             facts[0] = places;
-            facts[1] = kind_number(kind);
-            facts[2] = block as u64;
-            facts[3] = vertices as u64;
+            facts[1] = labels_read;
+            facts[2] = kind_number(kind);
+            facts[3] = block as u64;
+            facts[4] = vertices as u64;
             0
         }
     }
 }
 
-// The run on a label table: 0 at an end, else the refusal's number. The facts are the places, the kind of end (0 place,
-// 1 facet), the block and the number of vertices; of the refusals 9 writes one, the places, and 16 two, the places
-// before and the position of the label that is not yet known.
+// The run on a label table: 0 at an end, else the refusal's number. The facts are the places, the labels read, the kind of
+// end (0 place, 1 facet), the block and the number of vertices; of the refusals 9 writes one, the places, and 16 two,
+// the places before and the position of the label that is not yet known.
 #[no_mangle]
 pub extern "C" fn leveretplate_run(
     sizes: &[u8],
@@ -73,7 +75,7 @@ pub extern "C" fn leveretplate_run(
     labels: &[u8],
     answer: &mut [u16],
     budget: u64,
-    facts: &mut [u64; 4],
+    facts: &mut [u64; 5],
 ) -> u8
     ensures number { λ r. ⌜ (let p = problemOf
         (now (sizes .entry)) (now (divisions .entry)) (now (start .entry)) (now (labels .entry)) in

@@ -34,7 +34,7 @@ pub extern "C" fn leveretplate_nearest(
     w: &[u16],
     distance: u64,
     list: &mut [u16],
-    facts: &mut [u64; 4],
+    facts: &mut [u64; 5],
     near: &mut [u64; 2],
 ) -> u8
     ensures number { λ r. ⌜ (let p = problemOf

@@ -12,19 +12,20 @@ use refinement::Refined;
 
 // The facts of a level to the front of their buffer.
 fn put_level(level: Level, facts: &mut [u64])
-    requires { ⌜ 4 ≤ length (now facts) ⌝ }
+    requires { ⌜ 5 ≤ length (now facts) ⌝ }
     ensures { λ _. ⌜ now (facts .exit) ≡ front (levelFacts level) (now (facts .entry)) ⌝ }
 {
     let kind = level.kind;
     facts[0] = level.places;
-    facts[1] = kind_number(kind);
-    facts[2] = level.block as u64;
-    facts[3] = level.vertices as u64;
+    facts[1] = level.labels_read;
+    facts[2] = kind_number(kind);
+    facts[3] = level.block as u64;
+    facts[4] = level.vertices as u64;
 }
 
 // The facts of each level behind those of the one before.
 fn put_levels(found: Refined, facts: &mut [u64])
-    requires { ⌜ (found .count ≤ 8) × (length (found .levels) ≡ 8) × (32 ≤ length (now facts)) ⌝ }
+    requires { ⌜ (found .count ≤ 8) × (length (found .levels) ≡ 8) × (40 ≤ length (now facts)) ⌝ }
     ensures { λ _. ⌜ now (facts .exit) ≡ front (refinedFacts found) (now (facts .entry)) ⌝ }
 {
     let count = found.count;
@@ -32,14 +33,14 @@ fn put_levels(found: Refined, facts: &mut [u64])
     let mut i: usize = 0;
     while i < count {
         let level = levels[i];
-        let at = 4 * i;
+        let at = 5 * i;
         put_level(level, &mut facts[at..]);
         i += 1;
     }
 }
 
-// A game on finer and finer grids: 0 where all levels were run, else the refusal's number. The facts are four for each
-// level: the places, the kind of end (0 place, 1 facet), the block and the number of vertices.
+// A game on finer and finer grids: 0 where all levels were run, else the refusal's number. The facts are five for each
+// level: the places, the labels read, the kind of end (0 place, 1 facet), the block and the number of vertices.
 #[no_mangle]
 pub extern "C" fn leveretplate_refine(
     sizes: &[u8],
@@ -50,7 +51,7 @@ pub extern "C" fn leveretplate_refine(
     levels: usize,
     labels: &mut [u8],
     answer: &mut [u16],
-    facts: &mut [u64; 32],
+    facts: &mut [u64; 40],
 ) -> u8
     ensures number { λ r. ⌜ (let game = lentGame (lent (now (sizes .entry)) (now (divisions .entry)))
         (now (start .entry)) (now (losses .entry)) factor in

@@ -24,12 +24,14 @@ fn without_bytes(answer: trail_writer::Answer) -> finder::Answer
         }
         trail_writer::Answer::End {
             places,
+            labels_read,
             kind,
             block,
             vertices,
             bytes,
         } => finder::Answer::End {
             places,
+            labels_read,
             kind,
             block,
             vertices,
@@ -47,6 +49,7 @@ fn bytes_written(answer: trail_writer::Answer, old: u64) -> u64
         trail_writer::Answer::Unknown { places, position } => old,
         trail_writer::Answer::End {
             places,
+            labels_read,
             kind,
             block,
             vertices,
@@ -66,7 +69,7 @@ pub extern "C" fn leveretplate_run_with_trail(
     answer: &mut [u16],
     budget: u64,
     trail: &mut [u8],
-    facts: &mut [u64; 4],
+    facts: &mut [u64; 5],
     bytes: &mut u64,
 ) -> u8
     ensures number { λ r. ⌜ (let p = problemOf
@@ -101,14 +104,14 @@ pub extern "C" fn leveretplate_run_with_trail(
     put_answer(without_bytes(found), facts)
 }
 
-// The number of points, T and U to the front of their buffer, and the points to theirs, where a place is rebuilt.
+// The number of points, T, U and the labels read to the front of their buffer, and the points to theirs, where a place is rebuilt.
 fn put_place(
     found: trail_reader::Answer,
     from: [u16; 256],
     points: &mut [u16; 256],
     place: &mut [u64],
 ) -> u8
-    requires { ⌜ 3 ≤ length (now place) ⌝ }
+    requires { ⌜ 4 ≤ length (now place) ⌝ }
     ensures number { λ r. ⌜ r ≡ readNumber found ⌝ }
     ensures points { λ _. ⌜ now (points .exit) ≡ pointsLeft found from (now (points .entry)) ⌝ }
     ensures place { λ _. ⌜ now (place .exit) ≡ front (placeFacts found) (now (place .entry)) ⌝ }
@@ -119,18 +122,20 @@ fn put_place(
             points: count,
             t,
             u,
+            labels_read,
         } => {
             *points = from;
             place[0] = count as u64;
             place[1] = t as u64;
             place[2] = u as u64;
+            place[3] = labels_read;
             0
         }
     }
 }
 
 // The place at a record of a trail: 0 where it is rebuilt, else the refusal's number. `place` has the number of points,
-// T and U as masks, bit h for index h + 1; `points` has the points' numbers, and 0 behind them.
+// T and U as masks, bit h for index h + 1, and the labels read up to the place; `points` has the points' numbers, and 0 behind them.
 #[no_mangle]
 pub extern "C" fn leveretplate_read_trail(
     sizes: &[u8],
@@ -139,7 +144,7 @@ pub extern "C" fn leveretplate_read_trail(
     trail: &[u8],
     record_number: u64,
     points: &mut [u16; 256],
-    place: &mut [u64; 3],
+    place: &mut [u64; 4],
 ) -> u8
     ensures number { λ r. ⌜ (let p = problemOf
         (now (sizes .entry)) (now (divisions .entry)) (now (start .entry)) [] in

@@ -7,16 +7,16 @@ use lib.ListN.{length, set, length-set}
 use Rattle.combinatorics.proofs.Fronts.{front-none}
 use Rattle.combinatorics.specs.Front.{front}
 use borrow.Author.Needs.{needs}
-use Rattle.exports.proofs.Facts.{four}
+use Rattle.exports.proofs.Facts.{five}
 use Rattle.exports.proofs.put_answer.Statement.{statement}
 use Rattle.exports.proofs.put_answer.Tie as tie
 
-one : (x : ℕ) (old : List ℕ) → 4 ≤ length old → set old 0 x ≡ front (x ∷ []) old
+one : (x : ℕ) (old : List ℕ) → 5 ≤ length old → set old 0 x ≡ front (x ∷ []) old
 unfolding front
 one x [] h = absurd (omega arith)
 one x (o ∷ old) h = refl
 
-two : (x y : ℕ) (old : List ℕ) → 4 ≤ length old → set (set old 0 x) 1 y ≡ front (x ∷ y ∷ []) old
+two : (x y : ℕ) (old : List ℕ) → 5 ≤ length old → set (set old 0 x) 1 y ≡ front (x ∷ y ∷ []) old
 unfolding front
 two x y (a ∷ b ∷ old) h = refl
 two x y [] h = absurd (omega arith)
@@ -61,6 +61,9 @@ slice-write-facts-6 c = simp length-set (omega arith)
 slice-write-facts-7 : tie.Need-slice-write-facts-7
 slice-write-facts-7 c = simp length-set (omega arith)
 
+slice-write-facts-8 : tie.Need-slice-write-facts-8
+slice-write-facts-8 c = simp length-set (omega arith)
+
 returns : tie.Need-returns
 returns c = rw (c .before .answer .given .1) (refl, sym (front-none _))
 
@@ -80,7 +83,7 @@ same-length-3 : tie.Need-same-length-3
 same-length-3 c = search needs
 
 returns-4 : tie.Need-returns-4
-returns-4 c = rw (c .before .before .answer4 .given .1, c .kind-number .ensures) (refl, four _ _ _ _ _ (omega arith))
+returns-4 c = rw (c .before .before .answer4 .given .1, c .kind-number .ensures) (refl, five _ _ _ _ _ _ (omega arith))
 
 pub put-answer-spec : {M : Type 1} → statement M
 put-answer-spec =
@@ -94,11 +97,12 @@ put-answer-spec =
     slice-write-facts-3
     enum-known-answer-4
     slice-write-facts-4
-    kind-number-requires
     slice-write-facts-5
-    cast-facts
+    kind-number-requires
     slice-write-facts-6
+    cast-facts
     slice-write-facts-7
+    slice-write-facts-8
     returns
     same-length
     returns-2

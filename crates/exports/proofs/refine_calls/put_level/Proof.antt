@@ -2,7 +2,7 @@
 use lib.ListN.{length-set}
 use native.Mathlib.Omega.{arith}
 use borrow.Author.Needs.{needs}
-use Rattle.exports.proofs.Facts.{four}
+use Rattle.exports.proofs.Facts.{five}
 use Rattle.exports.proofs.refine_calls.put_level.Statement.{statement}
 use Rattle.exports.proofs.refine_calls.put_level.Tie as tie
 
@@ -24,12 +24,15 @@ slice-write-facts-3 c = simp length-set (omega arith)
 slice-write-facts-4 : tie.Need-slice-write-facts-4
 slice-write-facts-4 c = simp length-set (omega arith)
 
+slice-write-facts-5 : tie.Need-slice-write-facts-5
+slice-write-facts-5 c = simp length-set (omega arith)
+
 same-length : tie.Need-same-length
 same-length c = search needs
 
 returns : tie.Need-returns
 returns c =
-    rw (c .before .kind-number .ensures) (four _ _ _ _ (c .before .before .before .args .facts .now)
+    rw (c .before .kind-number .ensures) (five _ _ _ _ _ (c .before .before .before .args .facts .now)
     (c .before .before .before .pre))
 
 pub put-level-spec : {M : Type 1} → statement M
@@ -37,10 +40,11 @@ put-level-spec =
     tie.close
     (tie.spec
     slice-write-facts
-    kind-number-requires
     slice-write-facts-2
-    cast-facts
+    kind-number-requires
     slice-write-facts-3
+    cast-facts
     slice-write-facts-4
+    slice-write-facts-5
     same-length
     returns)

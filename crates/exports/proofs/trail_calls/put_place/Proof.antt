@@ -1,4 +1,4 @@
--- `trail_calls::put_place` meets its contract: the three numbers are stored one behind the other. Assumes nothing.
+-- `trail_calls::put_place` meets its contract: the four numbers are stored one behind the other. Assumes nothing.
 use mathlib.Core.List.{List, [], _∷_}
 use mathlib.Core.Path.{_≡_, refl, sym}
 use Prim.Native.Nat.{ℕ, _≤_}
@@ -10,12 +10,13 @@ use borrow.Author.Needs.{needs}
 use Rattle.exports.proofs.trail_calls.put_place.Statement.{statement}
 use Rattle.exports.proofs.trail_calls.put_place.Tie as tie
 
-three : (x y z : ℕ) (old : List ℕ) → 3 ≤ length old → set (set (set old 0 x) 1 y) 2 z ≡ front (x ∷ y ∷ z ∷ []) old
+four : (x y z u : ℕ) (old : List ℕ) → 4 ≤ length old → set (set (set (set old 0 x) 1 y) 2 z) 3 u ≡ front (x ∷ y ∷ z ∷ u ∷ []) old
 unfolding front
-three x y z (a ∷ b ∷ c ∷ old) h = refl
-three x y z [] h = absurd (omega arith)
-three x y z (a ∷ []) h = absurd (omega arith)
-three x y z (a ∷ b ∷ []) h = absurd (omega arith)
+four x y z u (a ∷ b ∷ c ∷ d ∷ old) h = refl
+four x y z u [] h = absurd (omega arith)
+four x y z u (a ∷ []) h = absurd (omega arith)
+four x y z u (a ∷ b ∷ []) h = absurd (omega arith)
+four x y z u (a ∷ b ∷ c ∷ []) h = absurd (omega arith)
 
 enum-known-found : tie.Need-enum-known-found
 enum-known-found c = search needs
@@ -38,6 +39,9 @@ cast-place-2 c = search needs
 slice-write-place-3 : tie.Need-slice-write-place-3
 slice-write-place-3 c = simp length-set (omega arith)
 
+slice-write-place-4 : tie.Need-slice-write-place-4
+slice-write-place-4 c = simp length-set (omega arith)
+
 same-length : tie.Need-same-length
 same-length c = search needs
 
@@ -45,7 +49,7 @@ returns : tie.Need-returns
 returns c = rw (c .before .found .given .1) (refl, (refl, sym (front-none _)))
 
 returns-2 : tie.Need-returns-2
-returns-2 c = rw (c .before .found2 .given .1) (refl, (refl, three _ _ _ _ (omega arith)))
+returns-2 c = rw (c .before .found2 .given .1) (refl, (refl, four _ _ _ _ _ (omega arith)))
 
 pub put-place-spec : {M : Type 1} → statement M
 put-place-spec =
@@ -58,6 +62,7 @@ put-place-spec =
     slice-write-place-2
     cast-place-2
     slice-write-place-3
+    slice-write-place-4
     returns
     same-length
     returns-2)
