@@ -219,12 +219,12 @@ def mask(indices):
 
 
 def read_trail_case(fields, expect):
-    """The number of points, T and U; and the points' numbers at the front of 256, 0 behind. A refusal has none."""
+    """The number of points, T, U and the labels read; and the points' numbers at the front of 256, 0 behind. A refusal has none."""
     data = word(1) + lent(fields, "sizes", "d", "start") + listed(bytes.fromhex(fields["trail"])) + wide(int(fields["record"]))
     lines = expect.splitlines()
     said = dict(line.partition(" ")[::2] for line in lines)
     points = [int(n) for line in lines if line[0].isdigit() for n in line.split()]
-    place = f"points {said['points']}\nT {mask(said['T'])}\nU {mask(said['U'])}\n" if "points" in said else expect
+    place = f"points {said['points']}\nT {mask(said['T'])}\nU {mask(said['U'])}\nlabels {said['labels']}\n" if "points" in said else expect
     return data, place + runs("numbers", points + [0] * (256 - len(points)))
 
 

@@ -2,8 +2,12 @@
 
 A walk's places are points there; the lines behind `later` give them as the walk keeps them, the first point and the order counted from 1. A place that has no such
 form cannot be lent: its walk is left out, unless a question before 20 refuses it, and then an empty place stands for it.
+
+Labels are carried by point. Where a walk does not say which, it carries those of its first table, and its labels read are 1.
 """
+import functools
 import itertools
+import operator
 import pathlib
 import re
 
@@ -35,7 +39,7 @@ EMPTY = padded([], 16), padded([], 16), 0
 
 
 def points(text):
-    return [list(map(int, part.split())) for part in text.split("/")]
+    return [] if text == "-" else [list(map(int, part.split())) for part in text.split("/")]
 
 
 def stated(name, text, later, refused):
@@ -49,6 +53,45 @@ def stated(name, text, later, refused):
     return EMPTY if refused else None
 
 
+def block(size, d):
+    """The points of a block in lexicographic order."""
+    return [(d,)] if size == 1 else [(y, *rest) for y in range(d + 1) for rest in block(size - 1, d - y)]
+
+
+@functools.cache
+def positions(sizes, divisions):
+    """The position of each grid point."""
+    grid = itertools.product(*(block(size, d) for size, d in zip(sizes, divisions)))
+    return {sum(parts, ()): position for position, parts in enumerate(grid)}
+
+
+def label_of(fields, table, point):
+    return table[positions(tuple(numbers(fields["sizes"])), tuple(numbers(fields["d"])))[tuple(point)]]
+
+
+def rising(listed, place):
+    """The points of a place as they are listed, put in the order in which it is kept."""
+    first, order, _ = place
+    chain, left = [], [tuple(point) for point in listed]
+    for k in range(len(left)):
+        raised = [q for q in left if not chain or q[order[k - 1]] == chain[-1][order[k - 1]] + 1 and sum(map(abs, map(operator.sub, q, chain[-1]))) == 2]
+        chain.append(tuple(first[: len(left[0])]) if not chain else raised[0])
+        left.remove(chain[-1])
+    return chain
+
+
+def carried_at_first(fields, table, place, answers):
+    """The labels that the walk carries, in the order in which its place is kept; of a walk that is refused before 20 none."""
+    if place == EMPTY or re.match("refused [1-7]$", answers[0], re.M):
+        return []
+    listed = points(fields["present"])
+    labels = list(numbers(fields["carried"])) if "carried" in fields else [label_of(fields, table, point) for point in listed]
+    if len(labels) < len(listed):
+        return labels
+    by_point = dict(zip(map(tuple, listed), labels))
+    return [by_point[point] for point in rising(listed, place)]
+
+
 def blocks(file):
     for block in re.split(r"^(?=call [a-z])", (HERE / "walks" / file).read_text(), flags=re.M)[1:]:
         head, _, rest = block.partition("expect\n")
@@ -56,7 +99,7 @@ def blocks(file):
 
 
 def walks():
-    for head, expect, later in blocks("walk.txt"):
+    for head, expect, later in itertools.chain(blocks("walk.txt"), blocks("carried.txt")):
         lines = [line.partition(" ")[::2] for line in head.splitlines()]
         fields = dict(lines)
         tables = [list(numbers(text)) for word, text in lines if word == "labels"]
@@ -87,10 +130,13 @@ def as_text(name, place):
     return f"{name}\n" + row("first", first) + row("order", order) + row("count", [count])
 
 
-def of_walk(fields, present, before):
-    sizes, count = list(numbers(fields["sizes"])), int(fields["places"])
+def of_walk(fields, present, before, table, answers):
+    """The bytes of a walk, its labels read and the labels that it carries."""
+    sizes, read = list(numbers(fields["sizes"])), int(fields.get("labels-read", 1))
+    carried = padded(carried_at_first(fields, table, present, answers), 16)
     data = bytes(padded(sizes, 6)) + bytes([len(sizes)]) + little(padded(numbers(fields["d"]), 6), 2)
-    return data + little(padded(numbers(fields["start"]), 16), 2) + as_bytes(present) + as_bytes(before) + little([count], 8)
+    data += little(padded(numbers(fields["start"]), 16), 2) + as_bytes(present) + as_bytes(before)
+    return data + little([int(fields["places"]), read], 8) + bytes(carried), read, carried
 
 
 def ended(answer):
@@ -112,8 +158,9 @@ def write_moves():
     origins = list(origin_moves())
     chosen, data, text = list(walks()) + origins, b"", ""
     for number, (fields, tables, answers, (present, before)) in enumerate(chosen, 1):
-        count = int(fields["places"])
-        data += of_walk(fields, present, before) + little([len(answers)], 2)
+        count, listed = int(fields["places"]), points(fields["present"])
+        lent, read, carried = of_walk(fields, present, before, tables[0], answers)
+        data += lent + little([len(answers)], 2)
         text += f"walk {number}\n"
         for k, answer in enumerate(answers):
             data += as_runs(tables[min(k, len(tables) - 1)])
@@ -122,10 +169,16 @@ def write_moves():
                 moved = dict(line.partition(" ")[::2] for line in answer.splitlines())
                 present, before, count = kept(points(moved["present"])), kept(points(moved["before"])), int(moved["places"])
                 answer = f"rule {moved['rule']}\n"
+                before_listed, listed = listed, points(moved["present"])
+                carried = padded((label_of(fields, tables[min(k, len(tables) - 1)], point) for point in listed), 16)
+                read += any(point not in before_listed for point in listed)
+                assert carried == padded(numbers(moved["carried"]), 16) if "carried" in moved else True, fields
+                assert read == int(moved.get("labels-read", read)), fields
             elif answer.startswith("end"):
                 answer, simplex = ended(answer)
             text += answer + row("simplex", padded(simplex, 256))
-            text += as_text("present", present) + as_text("before", before) + f"places {count}\n"
+            text += as_text("present", present) + as_text("before", before) + f"places {count}\nlabels read {read}\n"
+            text += row("carried", carried)
     store("walk_cases", chosen, data, text)
 
 
@@ -140,7 +193,8 @@ def write_previews():
         if None in places:
             continue
         chosen.append(fields)
-        data += of_walk(fields, *places) + as_runs(list(numbers(fields["labels"])))
+        table = list(numbers(fields["labels"]))
+        data += of_walk(fields, *places, table, [expect])[0] + as_runs(table)
         simplex, shown = [], ["-"] * 6
         if expect.startswith("end"):
             expect, simplex = ended(expect)
@@ -221,10 +275,12 @@ def write_backwards():
         text += f"path {len(chosen)}\nbegun 0\n"
         for place, rule in zip(path, rules):
             text += at(place) + f"rule {rule}\n"
-        text += at(path[-1]) + table.end(path[-1]) + f"places {len(path)}\nback\n"
+        came = lambda way: sum(any(point not in a for point in b) for a, b in itertools.pairwise(way))
+        text += at(path[-1]) + table.end(path[-1]) + f"places {len(path)}\nlabels read {1 + came(path)}\nback\n"
         for place, rule in zip(path[-2:0:-1], rules[-2::-1]):
             text += at(place) + f"rule {OPPOSITE[rule]}\n"
-        text += at(path[0] if len(path) > 1 else []) + f"refused 20\nplaces {max(2 * len(path) - 2, 1)}\n"
+        read = 1 + came(path[:-1]) + came(path[-2::-1])
+        text += at(path[0]) + f"refused 20\nplaces {max(2 * len(path) - 3, 1)}\nlabels read {read}\n"
     store("backwards_cases", chosen, data, text)
 
 
@@ -238,7 +294,7 @@ def origin_moves():
         here, there = points(origin["present"]), points(fields["present"])
         before = EMPTY if origin["before"] == "-" else kept(points(origin["before"]))
         answer = f"rule {Table(fields).rule(here, there)}\npresent {fields['present']}\nbefore {fields['before']}\nplaces {fields['places']}\n"
-        yield {**fields, "places": origin["places"]}, [list(numbers(fields["labels"]))], [answer], [kept(here), before]
+        yield {**fields, **origin}, [list(numbers(fields["labels"]))], [answer], [kept(here), before]
 
 
 def write():

@@ -14,6 +14,12 @@ use walk_ways::Answer;
 use walk_ways::Kind;
 use walk_ways::Walk;
 
+// A walk, and the walk one call before.
+struct Both {
+    last: Walk,
+    behind: Walk,
+}
+
 fn print_points(w: Walk, labels: &[u8]) {
     let p = points(w, labels);
     let numbers = p.numbers;
@@ -52,32 +58,36 @@ fn print_answer(answer: Answer) -> bool {
     }
 }
 
-// The walk after the last call that moves it; no more than 60,000 are made.
-fn walk_on(first: Walk, labels: &[u8]) -> Walk {
+// The walk after the last call that moves it, and as it was before that call. No more than 60,000 calls are made.
+fn walk_on(first: Walk, labels: &[u8]) -> Both {
     let mut w = first;
+    let mut behind = first;
     let mut left: usize = 60000;
     while 0 < left {
         print_points(w, labels);
         let c = moved(w, labels);
         let answer = c.answer;
         if !print_answer(answer) {
-            return w;
+            return Both { last: w, behind };
         }
+        behind = w;
         w = c.walk;
         left -= 1;
     }
-    w
+    Both { last: w, behind }
 }
 
 fn print_path(sizes: &[u8], divisions: &[u16], start: &[u16], labels: &[u8]) {
-    let begun = at_start(sizes, divisions, start);
+    let begun = at_start(sizes, divisions, start, labels);
     let at_v = begun.walk;
     show(b"begun ", begun.code as u64);
-    let last = walk_on(at_v, labels);
-    show(b"places ", last.places);
+    let there = walk_on(at_v, labels);
+    show(b"places ", there.last.places);
+    show(b"labels read ", there.last.labels_read);
     show_text(b"back\n");
-    let back = walk_on(turned(last), labels);
-    show(b"places ", back.places);
+    let back = walk_on(turned(there.behind, there.last.present), labels);
+    show(b"places ", back.last.places);
+    show(b"labels read ", back.last.labels_read);
 }
 
 fn print_next() {

@@ -16,7 +16,7 @@ use case_reader::word;
 use case_reader::words;
 
 // The run's answer, in the numbers of the exported call.
-fn show_facts(number: u8, facts: &[u64; 4]) {
+fn show_facts(number: u8, facts: &[u64; 5]) {
     if number != 0 {
         show(b"refused ", number as u64);
         if number == 9 || number == 16 {
@@ -28,15 +28,16 @@ fn show_facts(number: u8, facts: &[u64; 4]) {
         return;
     }
     show(b"places ", facts[0]);
-    show(b"kind ", facts[1]);
-    show(b"block ", facts[2]);
-    show(b"vertices ", facts[3]);
+    show(b"labels read ", facts[1]);
+    show(b"kind ", facts[2]);
+    show(b"block ", facts[3]);
+    show(b"vertices ", facts[4]);
 }
 
 // A run: its answer, and the whole answer buffer.
 fn run(sizes: &[u8], divisions: &[u16], start: &[u16], labels: &[u8], answer: &mut [u16]) {
     let budget = number();
-    let mut facts = [0u64; 4];
+    let mut facts = [0u64; 5];
     let answered = exports::leveretplate_run(
         sizes,
         divisions,

@@ -31,11 +31,13 @@ fn print_run(run: Answer) {
         }
         Answer::End {
             places,
+            labels_read,
             kind,
             block,
             vertices,
         } => {
             show(b"places ", places);
+            show(b"labels read ", labels_read);
             print_kind(kind);
             show(b"block ", block as u64);
             show(b"vertices ", vertices as u64);

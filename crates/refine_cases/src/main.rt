@@ -24,6 +24,7 @@ fn print_kind(kind: Kind) {
 fn print_level(number: usize, level: Level) {
     show(b"level ", number as u64);
     show(b"places ", level.places);
+    show(b"labels read ", level.labels_read);
     let kind = level.kind;
     print_kind(kind);
     show(b"block ", level.block as u64);

@@ -45,12 +45,14 @@ fn print_answer(found: Answer) -> usize {
         }
         Answer::End {
             places,
+            labels_read,
             kind,
             block,
             vertices,
             bytes,
         } => {
             show(b"places ", places);
+            show(b"labels read ", labels_read);
             print_kind(kind);
             show(b"block ", block as u64);
             show(b"vertices ", vertices as u64);
@@ -130,10 +132,16 @@ fn print_run(
 fn print_place(found: trail_reader::Answer) {
     match found {
         trail_reader::Answer::Refused(number) => show(b"refused ", number as u64),
-        trail_reader::Answer::Place { points, t, u } => {
+        trail_reader::Answer::Place {
+            points,
+            t,
+            u,
+            labels_read,
+        } => {
             show(b"points ", points as u64);
             show(b"T ", t as u64);
             show(b"U ", u as u64);
+            show(b"labels read ", labels_read);
         }
     }
 }

@@ -3,11 +3,26 @@
 use walk_calls::Call;
 use walk_reader::number;
 use walk_reader::print_answer;
+use walk_reader::print_labels;
 use walk_reader::print_numbers;
 use walk_reader::print_place;
 use walk_reader::read_list;
 use walk_reader::read_walk;
 use walk_ways::Walk;
+
+fn print_walk(w: Walk) {
+    let carried = w.carried;
+    io::write_all(1, b"present\n");
+    print_place(w.present);
+    io::write_all(1, b"before\n");
+    print_place(w.before);
+    io::write_all(1, b"places ");
+    io::print_decimal(1, w.places);
+    io::write_all(1, b"\nlabels read ");
+    io::print_decimal(1, w.labels_read);
+    io::write_all(1, b"\ncarried");
+    print_labels(&carried);
+}
 
 fn print_call(c: Call) {
     let answer = c.answer;
@@ -15,13 +30,7 @@ fn print_call(c: Call) {
     print_answer(answer);
     io::write_all(1, b"simplex");
     print_numbers(&simplex);
-    io::write_all(1, b"present\n");
-    print_place(c.walk.present);
-    io::write_all(1, b"before\n");
-    print_place(c.walk.before);
-    io::write_all(1, b"places ");
-    io::print_decimal(1, c.walk.places);
-    io::write_all(1, b"\n");
+    print_walk(c.walk);
 }
 
 // The walk after the call over the labels that are read next.

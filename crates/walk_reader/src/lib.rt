@@ -1,8 +1,8 @@
 // What the programs of the stored walks read from standard input, and the lines that they print. Numbers are
 // little-endian, of 16 bits if nothing else is said. Of each walk come 6 sizes, a byte each, the number of blocks, 6
 // divisions and 16 numbers of the start, the present place and the one before it, each as its first point, its order and
-// its count, and the places so far. Labels are runs of equal labels, a run being a count of 16 bits and the label. A run
-// of no labels ends them.
+// its count, the places so far and the labels read, of 64 bits each, and 16 labels that it carries, a byte each. Labels
+// are runs of equal labels, a run being a count of 16 bits and the label. A run of no labels ends them.
 ghost use mathlib.Core.Path.{_≡_};
 ghost use Prim.Native.Nat.{_≤_};
 ghost use lib.ListN.{length};
@@ -61,7 +61,7 @@ fn read_place() -> Place {
     }
 }
 
-fn read_places() -> u64 {
+fn read_count() -> u64 {
     let mut bytes = [0u8; 8];
     io::read_full(0, &mut bytes);
     little_endian::number64(&bytes, 0)
@@ -77,14 +77,20 @@ pub fn read_walk() -> Walk {
     read_numbers(&mut start);
     let present = read_place();
     let before = read_place();
+    let places = read_count();
+    let labels_read = read_count();
+    let mut carried = [0u8; 16];
+    io::read_full(0, &mut carried);
     Walk {
-        places: read_places(),
+        places,
+        labels_read,
         present,
         before,
         start,
         divisions,
         sizes,
         blocks,
+        carried,
     }
 }
 
@@ -153,6 +159,20 @@ pub fn print_indices(list: &[u32]) {
     let mut i: usize = 0;
     while i < list.len() {
         print_index(list[i]);
+        i += 1;
+    }
+    io::write_all(1, b"\n");
+}
+
+fn print_label(x: u8) {
+    io::write_all(1, b" ");
+    io::print_decimal(1, x as u64);
+}
+
+pub fn print_labels(list: &[u8; 16]) {
+    let mut i: usize = 0;
+    while i < 16 {
+        print_label(list[i]);
         i += 1;
     }
     io::write_all(1, b"\n");

@@ -4,10 +4,10 @@ use Rattle.backwards_cases.proofs.walk_on.Statement.{statement}
 use Rattle.backwards_cases.proofs.walk_on.Tie as tie
 
 abbrev Inv-loop : tie.InvT-loop
-Inv-loop labels w₀ left₀ w left = Unit {0}
+Inv-loop labels w₀ behind₀ left₀ w behind left = Unit {0}
 
 abbrev μ-loop : tie.MeasureT-loop
-μ-loop labels w₀ left₀ w left = left
+μ-loop labels w₀ behind₀ left₀ w behind left = left
 
 loop-holds : tie.Need-loop-holds Inv-loop μ-loop
 loop-holds c = tt
