@@ -10,7 +10,7 @@ use reference::{End, Kind, Near, Outcome, Rebuilt, Verdict, Written};
 
 #[rustfmt::skip]
 extern "C" {
-    /// 0 at an end, else the refusal's number. The facts are places, kind (0 place, 1 facet), block and vertices; of the refusals
+    /// 0 at an end, else the refusal's number. The facts are places, labels read, kind (0 place, 1 facet), block and vertices; of the refusals
     /// number 9 sets one, the places, and number 16 two, the places and the position.
     fn leveretplate_run(
         sizes: *const u8, sizes_length: usize,
@@ -97,7 +97,7 @@ extern "C" {
         trail: *const u8, trail_length: usize,
         record: u64,
         points: *mut [u16; NUMBERS],
-        place: *mut [u64; 3],
+        place: *mut [u64; 4],
     ) -> u8;
 
     /// The length of the sheet.
@@ -110,7 +110,7 @@ extern "C" {
     fn leveretplate_current(list: *const u16, list_length: usize, count: usize, sheet: usize, last: *mut usize) -> u8;
 }
 
-const FACTS: usize = 4;
+const FACTS: usize = 5;
 const LEVELS: usize = 8;
 /// The numbers of a place's points, 16 of each of 16.
 const NUMBERS: usize = 256;
@@ -129,7 +129,7 @@ fn answered(number: u8, value: u64) -> Result<usize, u64> {
 
 /// What a run's number and facts say.
 fn outcome(number: u8, facts: [u64; FACTS]) -> Outcome {
-    let [places, kind, block, vertices] = facts;
+    let [places, second, kind, block, vertices] = facts;
     let written = match number {
         0 => FACTS,
         9 => 1,
@@ -140,10 +140,10 @@ fn outcome(number: u8, facts: [u64; FACTS]) -> Outcome {
     match number {
         0 => {
             let kind = if kind == 0 { Kind::Place } else { Kind::Facet };
-            Outcome::Ended(End { places, kind, block: block as usize, vertices: vertices as usize })
+            Outcome::Ended(End { places, labels_read: second, kind, block: block as usize, vertices: vertices as usize })
         }
         9 => Outcome::Spent(places),
-        16 => Outcome::Unknown { places, position: kind as usize },
+        16 => Outcome::Unknown { places, position: second as usize },
         number => Outcome::Refused(number.into()),
     }
 }
@@ -225,7 +225,7 @@ impl Implementation for Proved {
     }
 
     fn read(&self, call: &ReadCall) -> Result<Rebuilt, u64> {
-        let (mut points, mut place) = ([u16::MAX; NUMBERS], [OLD; 3]);
+        let (mut points, mut place) = ([u16::MAX; NUMBERS], [OLD; 4]);
         // Safety: each pointer comes with the length of its slice, and only the points and the place are written to.
         #[rustfmt::skip]
         let number = unsafe {
@@ -240,13 +240,13 @@ impl Implementation for Proved {
             )
         };
         if number != 0 {
-            assert!(points == [u16::MAX; NUMBERS] && place == [OLD; 3], "a refusal changes a buffer");
+            assert!(points == [u16::MAX; NUMBERS] && place == [OLD; 4], "a refusal changes a buffer");
             return Err(number.into());
         }
-        let (m, [count, t, u]) = (call.start.len(), place);
+        let (m, [count, t, u, labels_read]) = (call.start.len(), place);
         let (numbers, behind) = points.split_at(count as usize * m);
         assert!(behind.iter().all(|&number| number == 0), "a number other than 0 stands behind the points");
-        Ok(Rebuilt { points: numbers.chunks(m).map(<[u16]>::to_vec).collect(), t: t as u16, u: u as u16 })
+        Ok(Rebuilt { points: numbers.chunks(m).map(<[u16]>::to_vec).collect(), t: t as u16, u: u as u16, labels_read })
     }
 
     fn label(&self, call: &LabelCall, labels: &mut [u8]) -> Result<usize, u64> {
@@ -323,9 +323,10 @@ impl Implementation for Proved {
         }
         let end = |facts: &[u64]| End {
             places: facts[0],
-            kind: if facts[1] == 0 { Kind::Place } else { Kind::Facet },
-            block: facts[2] as usize,
-            vertices: facts[3] as usize,
+            labels_read: facts[1],
+            kind: if facts[2] == 0 { Kind::Place } else { Kind::Facet },
+            block: facts[3] as usize,
+            vertices: facts[4] as usize,
         };
         Ok(facts[..levels * FACTS].chunks(FACTS).map(end).collect())
     }

@@ -52,6 +52,7 @@ impl RefineCall {
             let kind = if end.kind == Kind::Place { "place" } else { "facet" };
             lines.push(format!("level {level}"));
             lines.push(format!("places {}", end.places));
+            lines.push(format!("labels read {}", end.labels_read));
             lines.push(format!("end {kind}"));
             lines.push(format!("block {}", end.block));
             lines.push(format!("vertices {}", end.vertices));

@@ -110,6 +110,7 @@ pub fn read_lines(read: Result<Rebuilt, u64>, grid: Option<Grid>) -> Vec<String>
     lines.push(format!("positions {}", spaced(&place.points.iter().map(position).collect::<Vec<_>>())));
     lines.push(format!("T {}", indices(place.t)));
     lines.push(format!("U {}", indices(place.u)));
+    lines.push(format!("labels read {}", place.labels_read));
     lines
 }
 

@@ -11,6 +11,8 @@ pub enum Kind {
 #[derive(Clone, Copy, Debug, PartialEq, Eq)]
 pub struct End {
     pub places: u64,
+    /// 1 plus the moves by which a point came in.
+    pub labels_read: u64,
     pub kind: Kind,
     /// Counted from 1.
     pub block: usize,

@@ -460,12 +460,14 @@ fn follow_watched(
     let (frame, position) = Frame::new(grid, start, labels);
     let mut place = Place::at_start(&frame, grid.m, position);
     let mut places = 1;
+    let mut labels_read = 0;
     let mut incoming = 0;
     passes(&place);
     loop {
         // Step 1: the label of the vertex that came in.
         let position = place.positions[incoming & LOW] as usize;
         comes_in(position);
+        labels_read += 1;
         let byte = frame.labels[position] as usize;
         if byte == 0 {
             return Outcome::Unknown { places: places - 1, position };
@@ -474,7 +476,7 @@ fn follow_watched(
         if place.t >> label & 1 == 0 {
             if place.u >> label & 1 == 0 && frame.one_left(&place, label) {
                 let vertices = place.write(&frame, grid.m, place.first, answer);
-                return Outcome::Ended(End { places, kind: Kind::Place, block: frame.block[label] as usize + 1, vertices });
+                return Outcome::Ended(End { places, labels_read, kind: Kind::Place, block: frame.block[label] as usize + 1, vertices });
             }
             if places == budget {
                 return Outcome::Spent(places);
@@ -491,7 +493,7 @@ fn follow_watched(
             match place.exchange(&frame, leaving) {
                 Exchange::Complete(h) => {
                     let vertices = place.write(&frame, grid.m, place.next(leaving), answer);
-                    return Outcome::Ended(End { places, kind: Kind::Facet, block: frame.block[h] as usize + 1, vertices });
+                    return Outcome::Ended(End { places, labels_read, kind: Kind::Facet, block: frame.block[h] as usize + 1, vertices });
                 }
                 _ if places == budget => return Outcome::Spent(places),
                 Exchange::Replaced => {

@@ -221,6 +221,7 @@ impl Page<'_> {
             Outcome::Ended(end) => end,
         };
         self.line("places ", &[end.places]);
+        self.line("labels read ", &[end.labels_read]);
         self.line("bound ", &[grid.bound()]);
         self.text(if end.kind == Kind::Place { "end place\n" } else { "end facet\n" });
         self.line("block ", &[end.block as u64]);

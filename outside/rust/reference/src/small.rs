@@ -89,14 +89,6 @@ impl Problem {
         self.points.iter().position(|point| point.numbers == *numbers)
     }
 
-    pub(crate) fn numbers(&self, y: usize) -> [u16; MOST_INDICES] {
-        self.points[y].numbers
-    }
-
-    pub(crate) fn start(&self) -> usize {
-        self.start
-    }
-
     /// Whether the coefficient sums rise from each point to the next.
     pub(crate) fn rises(&self, set: &[usize]) -> bool {
         set.windows(2).all(|pair| self.points[pair[0]].coefficient_sum < self.points[pair[1]].coefficient_sum)
@@ -226,8 +218,10 @@ impl Problem {
     pub fn follow_past(&self, labels: &[u8], budget: u64, answer: &mut [u16], mut passes: impl FnMut(&[usize])) -> Outcome {
         let mut here = vec![self.start];
         let mut come_from: Option<Set> = None;
+        let mut labels_read = 0;
         for places in 1..=budget {
             passes(&here);
+            labels_read += come_from.as_ref().map_or(true, |before| here.iter().any(|y| !before.contains(y))) as u64;
             if let Some(&position) = here.iter().find(|&&y| labels[y] == 0) {
                 return Outcome::Unknown { places: places - 1, position };
             }
@@ -241,7 +235,7 @@ impl Problem {
                         let m = self.grid.m;
                         answer[vertex * m..(vertex + 1) * m].copy_from_slice(&self.points[y].numbers[..m]);
                     }
-                    return Outcome::Ended(End { places, kind, block, vertices: set.len() });
+                    return Outcome::Ended(End { places, labels_read, kind, block, vertices: set.len() });
                 }
             }
         }

@@ -18,6 +18,7 @@ pub struct Rebuilt {
     pub points: Vec<Vec<u16>>,
     pub t: u16,
     pub u: u16,
+    pub labels_read: u64,
 }
 
 /// Why a reader gives 17, in the order of the request's sentence.
@@ -218,9 +219,9 @@ fn asked(sizes: &[u8], divisions: &[u16], start: &[u16]) -> Result<Grid, u64> {
 /// The place at a record by the fields of the records up to it, or the refusal's number.
 pub fn read_by_fields(sizes: &[u8], divisions: &[u16], start: &[u16], trail: &[u8], record: u64) -> Result<Rebuilt, u64> {
     let grid = asked(sizes, divisions, start)?;
-    let shape = Reader { grid: &grid, start }.read(trail, record).map_err(|_| 17u64)?;
+    let (shape, labels_read) = Reader { grid: &grid, start }.read(trail, record).map_err(|_| 17u64)?;
     let points = shape.points.iter().map(|point| point[..grid.m].to_vec()).collect();
-    Ok(Rebuilt { points, t: shape.set.t, u: shape.set.u })
+    Ok(Rebuilt { points, t: shape.set.t, u: shape.set.u, labels_read })
 }
 
 /// The reason for a 17.
@@ -317,7 +318,8 @@ fn fields(bytes: &[u8]) -> Option<Fields> {
 }
 
 impl Reader<'_> {
-    fn read(&self, trail: &[u8], record: u64) -> Result<Shape, Why> {
+    /// The place at a record, and the labels read up to it, by the records with a point that comes in.
+    fn read(&self, trail: &[u8], record: u64) -> Result<(Shape, u64), Why> {
         if record == 0 || trail.is_empty() {
             return Err(Why::NoSuchRecord);
         }
@@ -328,12 +330,14 @@ impl Reader<'_> {
         }
         let mut rest = &trail[begin.len()..];
         let mut here = self.shape(vec![first]).expect("{v} is a place");
+        let mut labels_read = 1;
         for _ in 1..record {
             let (next, length) = self.next(&here, rest)?;
+            labels_read += (rest[0] & 1) as u64;
             rest = &rest[length..];
             here = next;
         }
-        Ok(here)
+        Ok((here, labels_read))
     }
 
     /// The place that the record at the front of the bytes leads to, and the record's length.
@@ -430,13 +434,15 @@ pub fn read_by_search(sizes: &[u8], divisions: &[u16], start: &[u16], trail: &[u
         return Err(17);
     }
     let mut rest = &trail[begin.len()..];
+    let mut labels_read = 1;
     for _ in 1..record {
         let (next, record) = search(&problem, &here, rest).ok_or(17u64)?;
         rest = &rest[record.len()..];
+        labels_read += next.positions.iter().any(|position| !here.positions.contains(position)) as u64;
         here = next;
     }
     let points = here.positions.iter().map(|&position| problem.numbers(position).to_vec()).collect();
-    Ok(Rebuilt { points, t: here.t, u: here.u })
+    Ok(Rebuilt { points, t: here.t, u: here.u, labels_read })
 }
 
 fn search(problem: &small::Problem, here: &Set, bytes: &[u8]) -> Option<(Set, Vec<u8>)> {

@@ -20,12 +20,15 @@ pub const NONE: Place = Place { first: [0; MOST_INDICES], order: [0; MOST_INDICE
 #[derive(Clone, Copy, Debug, PartialEq, Eq)]
 pub struct Walk {
     pub places: u64,
+    pub labels_read: u64,
     pub present: Place,
     pub before: Place,
     pub start: [u16; MOST_INDICES],
     pub divisions: [u16; 6],
     pub sizes: [u8; 6],
     pub blocks: u8,
+    /// The labels of the present place's points, 0 behind.
+    pub carried: [u8; MOST_INDICES],
 }
 
 #[repr(C)]
@@ -49,6 +52,8 @@ pub enum Twenty {
     NotLinked,
     OnlyOne,
     Count,
+    OtherLabels,
+    LabelsRead,
 }
 
 /// What is refused, with the reason for 20.
@@ -83,7 +88,7 @@ impl Step {
     fn put(&mut self, problem: &Problem, m: usize, set: &[usize]) {
         self.vertices = set.len() as u64;
         for (vertex, &y) in set.iter().enumerate() {
-            self.simplex[vertex * m..(vertex + 1) * m].copy_from_slice(&problem.numbers(y)[..m]);
+            self.simplex[vertex * m..(vertex + 1) * m].copy_from_slice(problem.numbers(y));
         }
     }
 }
@@ -153,7 +158,8 @@ impl<'a> Table<'a> {
 
     /// A place as its first point and order.
     fn kept(&self, set: &[usize]) -> Place {
-        let mut place = Place { first: self.problem.numbers(set[0]), order: [0; MOST_INDICES], count: set.len() as u8 };
+        let mut place = Place { count: set.len() as u8, ..NONE };
+        place.first[..self.grid.m].copy_from_slice(self.problem.numbers(set[0]));
         for (at, pair) in set.windows(2).enumerate() {
             let (y, z) = (self.problem.numbers(pair[0]), self.problem.numbers(pair[1]));
             place.order[at] = (0..self.grid.m).find(|&h| z[h] > y[h]).expect("a step raises a coordinate") as u32;
@@ -166,6 +172,19 @@ impl<'a> Table<'a> {
         let set = self.place(place).expect("a place");
         let links = self.problem.ways(self.labels, &set).into_iter();
         links.filter_map(|way| if let Way::Link(other) = way { Some(self.kept(&other)) } else { None }).collect()
+    }
+
+    /// The labels of points, as a walk carries them.
+    fn carried(&self, set: &[usize]) -> [u8; MOST_INDICES] {
+        let mut carried = [0; MOST_INDICES];
+        carried.iter_mut().zip(set).for_each(|(label, &y)| *label = self.labels[y]);
+        carried
+    }
+
+    /// The walk with the labels of its present place, if it stands on one.
+    pub fn labelled(&self, walk: Walk) -> Walk {
+        let set = self.place(&walk.present).unwrap_or_default();
+        Walk { carried: self.carried(&set), ..walk }
     }
 
     /// 20 and 16, and then the one way on.
@@ -183,6 +202,12 @@ impl<'a> Table<'a> {
         }
         if walk.places == 0 || walk.places > self.grid.bound() {
             return Err(twenty(Twenty::Count));
+        }
+        if walk.carried != self.carried(&here) {
+            return Err(twenty(Twenty::OtherLabels));
+        }
+        if walk.labels_read == 0 || walk.labels_read > walk.places {
+            return Err(twenty(Twenty::LabelsRead));
         }
         if here.iter().any(|&y| self.labels[y] == 0) {
             return Err(16.into());
@@ -248,7 +273,14 @@ pub fn call(step: &Step, labels: &[u8], shown: bool) -> (Step, Option<Twenty>) {
                 after.fields = fields.map(|field| field.unwrap_or(0));
             } else {
                 let walk = step.walk;
-                after.walk = Walk { places: walk.places + 1, present: table.kept(&to), before: walk.present, ..walk };
+                after.walk = Walk {
+                    places: walk.places + 1,
+                    labels_read: walk.labels_read + fields[0].is_some() as u64,
+                    present: table.kept(&to),
+                    before: walk.present,
+                    carried: table.carried(&to),
+                    ..walk
+                };
             }
         }
     }
@@ -269,8 +301,8 @@ pub fn points(step: &Step, labels: &[u8]) -> Step {
     after
 }
 
-/// The walk at {v}.
-pub fn at_start(step: &Step, sizes: &[u8], divisions: &[u16], start: &[u16]) -> Step {
+/// The walk at {v}, over a table.
+pub fn at_start(step: &Step, sizes: &[u8], divisions: &[u16], start: &[u16], labels: &[u8]) -> Step {
     let grid = match Grid::new(sizes, divisions) {
         Ok(grid) => grid,
         Err(number) => return refused(step, number as u8).0,
@@ -280,16 +312,21 @@ pub fn at_start(step: &Step, sizes: &[u8], divisions: &[u16], start: &[u16]) -> 
     }
     let mut walk = Walk {
         places: 1,
+        labels_read: 1,
         present: NONE,
         before: NONE,
         start: [0; MOST_INDICES],
         divisions: [0; 6],
         sizes: [0; 6],
         blocks: sizes.len() as u8,
+        carried: [0; MOST_INDICES],
     };
     walk.start[..start.len()].copy_from_slice(start);
     walk.sizes[..sizes.len()].copy_from_slice(sizes);
     walk.divisions[..divisions.len()].copy_from_slice(divisions);
     walk.present = Place { first: walk.start, order: [0; MOST_INDICES], count: 1 };
-    Step::of(walk)
+    match Table::of(&walk, labels) {
+        Ok(table) => Step::of(table.labelled(walk)),
+        Err(number) => refused(step, number).0,
+    }
 }

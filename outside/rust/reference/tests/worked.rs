@@ -54,7 +54,7 @@ fn printed<M: Method>(slip: &[u8]) -> String {
 #[test]
 fn example_sheet() {
     let slip = [4, 2, 2, 2, 1, 0, 1, 0, 2, 2, 2, 4];
-    let expected = "places 5\nbound 68\nend facet\nblock 1\nvertices 1\n0 1 1 0\ncentre 0 10000 10000 0\n";
+    let expected = "places 5\nlabels read 4\nbound 68\nend facet\nblock 1\nvertices 1\n0 1 1 0\ncentre 0 10000 10000 0\n";
     assert_eq!(printed::<ByPaper>(&slip), expected);
     assert_eq!(printed::<ByDefinitions>(&slip), expected);
 }

@@ -28,6 +28,7 @@ fn run_lines(outcome: Outcome, answer: &[u16]) -> Vec<String> {
             let number = |x: &u16| if *x == UNTOUCHED { ".".to_string() } else { x.to_string() };
             vec![
                 format!("places {}", end.places),
+                format!("labels read {}", end.labels_read),
                 format!("end {kind}"),
                 format!("block {}", end.block),
                 format!("vertices {}", end.vertices),
