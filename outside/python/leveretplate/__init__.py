@@ -2,7 +2,7 @@
 
     >>> import leveretplate
     >>> leveretplate.run([2, 2], [1, 1], [1, 0, 1, 0], [2, 2, 2, 4])
-    End(places=5, kind='facet', block=1, vertices=[[0, 1, 1, 0]])
+    End(places=5, labels_read=4, kind='facet', block=1, vertices=[[0, 1, 1, 0]])
 
 `python3 -m leveretplate` has the commands. Nothing here is proved but what the library answers.
 """

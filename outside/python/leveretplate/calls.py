@@ -18,9 +18,9 @@ from .questions import Refused
 Numbers = Sequence[int]
 
 # The numbers that the library gives of an end, of the nearest vertex and of a place, in their order.
-FACTS = ("places", "kind", "block", "vertices")
+FACTS = ("places", "labels_read", "kind", "block", "vertices")
 NEAR = ("position", "listed")
-PLACE = ("points", "t", "u")
+PLACE = ("points", "t", "u", "labels_read")
 
 KINDS = ("place", "facet")
 MOST_LEVELS = 8
@@ -34,9 +34,10 @@ SIMPLEX_NUMBERS = 256
 
 
 class End(NamedTuple):
-    """The end of a path: the places visited, the kind of end, "place" or "facet", the block, and the vertices."""
+    """The end of a path: places visited, labels read, kind of end, "place" or "facet", block, and vertices."""
 
     places: int
+    labels_read: int
     kind: str
     block: int
     vertices: list[list[int]]
@@ -51,11 +52,12 @@ class Nearest(NamedTuple):
 
 
 class Place(NamedTuple):
-    """A place: its points in rising coefficient sum, T and U."""
+    """A place: its points in rising coefficient sum, T and U, and the labels read up to it."""
 
     points: list[list[int]]
     t: list[int]
     u: list[int]
+    labels_read: int
 
 
 class Refinement(NamedTuple):
@@ -70,6 +72,7 @@ def sheet(slip: bytes) -> str:
 
     >>> print(sheet(bytes([4, 2, 2, 2, 1, 0, 1, 0, 2, 2, 2, 4])), end="")
     places 5
+    labels read 4
     bound 68
     end facet
     block 1
@@ -86,9 +89,9 @@ def run(sizes: Numbers, divisions: Numbers, start: Numbers, labels: Numbers, bud
     """Follows the path over a label table to its end.
 
     >>> run([2, 2], [1, 1], [1, 0, 1, 0], [3, 1, 2, 4])
-    End(places=3, kind='place', block=2, vertices=[[1, 0, 1, 0], [1, 0, 0, 1], [0, 1, 0, 1]])
+    End(places=3, labels_read=3, kind='place', block=2, vertices=[[1, 0, 1, 0], [1, 0, 0, 1], [0, 1, 0, 1]])
     >>> run([3], [3], [1, 1, 1], [1] * 10)
-    End(places=3, kind='facet', block=1, vertices=[[3, 0, 0]])
+    End(places=3, labels_read=3, kind='facet', block=1, vertices=[[3, 0, 0]])
     >>> run([2], [4], [2, 2], [1] * 5, budget=2)
     Traceback (most recent call last):
     leveretplate.questions.Refused: refused 9: Has the path ended within the budget? (places 2)
@@ -104,7 +107,7 @@ def nearest(sizes: Numbers, divisions: Numbers, start: Numbers, labels: Numbers,
     """A run that also reports where the path came nearest to the grid point w, and what is within a distance of it.
 
     >>> nearest([2], [4], [2, 2], [1] * 5, w=[0, 4], distance=6)
-    Nearest(end=End(places=3, kind='facet', block=1, vertices=[[4, 0]]), nearest=2, within=[2, 3])
+    Nearest(end=End(places=3, labels_read=3, kind='facet', block=1, vertices=[[4, 0]]), nearest=2, within=[2, 3])
     """
     answer, facts, near = room(16, SIMPLEX_NUMBERS), _facts(), room(64, len(NEAR))
     lent = _run(sizes, divisions, start, labels)
@@ -136,7 +139,7 @@ def read_trail(sizes: Numbers, divisions: Numbers, start: Numbers, trail: bytes,
 
     >>> trail = bytes.fromhex("010300 650200040405 650000020205 430100020001 5a0000040406")
     >>> read_trail([2, 2], [1, 1], [1, 0, 1, 0], trail, 5)
-    Place(points=[[1, 0, 1, 0], [0, 1, 1, 0]], t=[2], u=[4])
+    Place(points=[[1, 0, 1, 0], [0, 1, 1, 0]], t=[2], u=[4], labels_read=4)
     >>> read_trail([2, 2], [1, 1], [1, 0, 1, 0], trail, 6)
     Traceback (most recent call last):
     leveretplate.questions.Refused: refused 17: Is there such a record, and is each up to it that of a move?
@@ -145,7 +148,8 @@ def read_trail(sizes: Numbers, divisions: Numbers, start: Numbers, trail: bytes,
     _accept(call("read_trail", *_grid(sizes, divisions), lend("start", 16, start), lend("trail", 8, trail),
                  number("record", record), Fixed(points), Fixed(place)))
     fact = dict(zip(PLACE, place))
-    return Place(rows(points, fact["points"], sum(sizes)), _indices(fact["t"]), _indices(fact["u"]))
+    return Place(rows(points, fact["points"], sum(sizes)), _indices(fact["t"]), _indices(fact["u"]),
+                 fact["labels_read"])
 
 
 def label(sizes: Numbers, divisions: Numbers, losses: Numbers) -> list[int]:
@@ -256,7 +260,8 @@ def _accept(refusal: int, facts: Numbers = ()) -> None:
 
 def _end(facts: Numbers, numbers: Numbers, m: int) -> End:
     fact = dict(zip(FACTS, facts))
-    return End(fact["places"], KINDS[fact["kind"]], fact["block"], rows(numbers, fact["vertices"], m))
+    vertices = rows(numbers, fact["vertices"], m)
+    return End(fact["places"], fact["labels_read"], KINDS[fact["kind"]], fact["block"], vertices)
 
 
 def rows(numbers: Numbers, count: int, m: int) -> list[list[int]]:

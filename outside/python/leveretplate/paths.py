@@ -23,9 +23,9 @@ def follow(slip: Slip, labels: list[int]) -> Path:
 
     >>> path = follow(Slip([2, 2], [1, 1]), [2, 2, 2, 4])
     >>> path.places[1], path.moves[1].rule
-    (Place(points=[[1, 0, 1, 0], [1, 0, 0, 1]], t=[4], u=[2]), 5)
+    (Place(points=[[1, 0, 1, 0], [1, 0, 0, 1]], t=[4], u=[2], labels_read=2), 5)
     >>> path.end
-    End(places=5, kind='facet', block=1, vertices=[[0, 1, 1, 0]])
+    End(places=5, labels_read=4, kind='facet', block=1, vertices=[[0, 1, 1, 0]])
     """
     steps = list(shown(_steps(slip, labels), "places shown:"))
     moves = [coming for _, coming in steps if isinstance(coming, Move)]
@@ -35,11 +35,11 @@ def follow(slip: Slip, labels: list[int]) -> Path:
 
 def _steps(slip: Slip, labels: list[int]) -> Iterator[tuple[Place, Move | End]]:
     """Each place with what comes next."""
-    walk = walk_at_start(slip.sizes, slip.divisions, slip.first())
+    walk = walk_at_start(slip.sizes, slip.divisions, slip.first(), labels)
     t, u = at_start(slip.first())
     while True:
         coming = preview(walk, labels)
-        yield Place(walk_points(walk, labels), sorted(t), sorted(u)), coming
+        yield Place(walk_points(walk, labels), sorted(t), sorted(u), walk.labels_read()), coming
         if isinstance(coming, End):
             return
         t, u = after(coming, t, u)

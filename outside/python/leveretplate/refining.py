@@ -8,7 +8,7 @@ from .games import largest_gain
 from .grids import MOST_POINTS, centre, count_points
 from .slips import Slip
 
-HEADINGS = ("level", "divisions", "places", "end", "block", "centre", "largest gain")
+HEADINGS = ("level", "divisions", "places", "labels read", "end", "block", "centre", "largest gain")
 
 
 def most_levels(slip: Slip, factor: int) -> int:
@@ -32,8 +32,8 @@ def rows(slip: Slip, factor: int, levels: int, unit: Fraction) -> Iterator[tuple
         divisions = [factor ** level * d for d in slip.divisions]
         middle = centre(slip.sizes, divisions, end.vertices)
         gain = largest_gain(slip.sizes, losses, middle)
-        yield (str(level), " ".join(map(str, divisions)), str(end.places), end.kind, str(end.block),
-               " ".join(f"{float(number):.4f}" for number in middle),
+        yield (str(level), " ".join(map(str, divisions)), str(end.places), str(end.labels_read), end.kind,
+               str(end.block), " ".join(f"{float(number):.4f}" for number in middle),
                f"{float(gain.amount * unit):.4f} by player {gain.player}, index {gain.index}")
 
 

@@ -24,9 +24,11 @@ class KeptPlace(ctypes.Structure):
 class KeptWalk(ctypes.Structure):
     """A walk as the library keeps it."""
 
-    _fields_ = [("places", ctypes.c_uint64), ("present", KeptPlace), ("before", KeptPlace),
+    _fields_ = [("places", ctypes.c_uint64), ("labels_read", ctypes.c_uint64),
+                ("present", KeptPlace), ("before", KeptPlace),
                 ("start", ctypes.c_uint16 * MOST_INDICES), ("divisions", ctypes.c_uint16 * MOST_BLOCKS),
-                ("sizes", ctypes.c_uint8 * MOST_BLOCKS), ("blocks", ctypes.c_uint8)]
+                ("sizes", ctypes.c_uint8 * MOST_BLOCKS), ("blocks", ctypes.c_uint8),
+                ("carried", ctypes.c_uint8 * MOST_INDICES)]
 
 
 class Walk(ctypes.Structure):
@@ -40,26 +42,32 @@ class Walk(ctypes.Structure):
         """The places so far."""
         return int(self.walk.places)
 
+    def labels_read(self) -> int:
+        """The labels read so far."""
+        return int(self.walk.labels_read)
 
-def walk_at_start(sizes: Numbers, divisions: Numbers, start: Numbers) -> Walk:
-    """The walk at its start, with 1 as its places so far.
 
-    >>> walk_at_start([2, 2], [1, 1], [1, 0, 1, 0]).places()
+def walk_at_start(sizes: Numbers, divisions: Numbers, start: Numbers, labels: Numbers) -> Walk:
+    """The walk at its start, with 1 as its places so far and the table's label of the start.
+
+    >>> walk_at_start([2, 2], [1, 1], [1, 0, 1, 0], [2, 2, 2, 4]).places()
     1
     """
     walk = Walk()
-    _ask(walk, "walk_at_start", lend("sizes", 8, sizes), lend("divisions", 16, divisions), lend("start", 16, start))
+    _ask(walk, "walk_at_start", lend("sizes", 8, sizes), lend("divisions", 16, divisions), lend("start", 16, start),
+         lend("labels", 8, labels))
     return walk
 
 
 def move_on(walk: Walk, labels: Numbers) -> int | End:
     """Moves the walk on by one place and tells the rule; at an end tells the end, and the walk stays.
 
-    >>> labels, walk = [2, 2, 2, 4], walk_at_start([2, 2], [1, 1], [1, 0, 1, 0])
+    >>> labels = [2, 2, 2, 4]
+    >>> walk = walk_at_start([2, 2], [1, 1], [1, 0, 1, 0], labels)
     >>> [move_on(walk, labels) for _ in range(4)]
     [5, 5, 1, 6]
     >>> move_on(walk, labels)
-    End(places=5, kind='facet', block=1, vertices=[[0, 1, 1, 0]])
+    End(places=5, labels_read=4, kind='facet', block=1, vertices=[[0, 1, 1, 0]])
     """
     _ask(walk, "move_on", lend("labels", 8, labels))
     return int(walk.rule) or _end(walk)
@@ -68,7 +76,7 @@ def move_on(walk: Walk, labels: Numbers) -> int | End:
 def preview(walk: Walk, labels: Numbers) -> Move | End:
     """The move that `move_on` would make, or the end that it would tell; the walk stays.
 
-    >>> preview(walk_at_start([2, 2], [1, 1], [1, 0, 1, 0]), [2, 2, 2, 4])
+    >>> preview(walk_at_start([2, 2], [1, 1], [1, 0, 1, 0], [2, 2, 2, 4]), [2, 2, 2, 4])
     Move(point_in=2, point_out=None, into_t=4, out_of_t=None, into_u=None, out_of_u=4, rule=5)
     """
     _ask(walk, "preview", lend("labels", 8, labels))
@@ -81,7 +89,7 @@ def preview(walk: Walk, labels: Numbers) -> Move | End:
 def walk_points(walk: Walk, labels: Numbers) -> list[list[int]]:
     """The points of the present place in rising coefficient sum.
 
-    >>> walk_points(walk_at_start([2, 2], [1, 1], [1, 0, 1, 0]), [2, 2, 2, 4])
+    >>> walk_points(walk_at_start([2, 2], [1, 1], [1, 0, 1, 0], [2, 2, 2, 4]), [2, 2, 2, 4])
     [[1, 0, 1, 0]]
     """
     _ask(walk, "walk_points", lend("labels", 8, labels))
@@ -95,7 +103,7 @@ def _ask(walk: Walk, name: str, *lent: array[int]) -> None:
 
 
 def _end(walk: Walk) -> End:
-    return End(walk.places(), KINDS[walk.kind], walk.block, _vertices(walk))
+    return End(walk.places(), walk.labels_read(), KINDS[walk.kind], walk.block, _vertices(walk))
 
 
 def _vertices(walk: Walk) -> list[list[int]]:

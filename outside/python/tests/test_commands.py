@@ -12,7 +12,7 @@ from leveretplate.__main__ import main
 from .commands import SAMPLES, command
 
 DOCUMENT_01 = bytes.fromhex("04 02 02 02 01 00 01 00 02 02 02 04")
-SHEET = b"places 5\nbound 68\nend facet\nblock 1\nvertices 1\n0 1 1 0\ncentre 0 10000 10000 0\n"
+SHEET = b"places 5\nlabels read 4\nbound 68\nend facet\nblock 1\nvertices 1\n0 1 1 0\ncentre 0 10000 10000 0\n"
 
 
 class Commands(unittest.TestCase):

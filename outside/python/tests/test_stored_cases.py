@@ -61,7 +61,8 @@ def budget(fields: Fields) -> int:
 
 
 def end_lines(end: End) -> list[str]:
-    return [f"places {end.places}", f"end {end.kind}", f"block {end.block}", f"vertices {len(end.vertices)}"]
+    return [f"places {end.places}", f"labels read {end.labels_read}", f"end {end.kind}",
+            f"block {end.block}", f"vertices {len(end.vertices)}"]
 
 
 def with_vertices(end: End) -> list[str]:

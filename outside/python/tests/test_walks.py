@@ -15,7 +15,7 @@ DOCUMENT_01 = [2, 2, 2, 4]
 
 class Walks(unittest.TestCase):
     def setUp(self):
-        self.walk = walk_at_start([2, 2], [1, 1], [1, 0, 1, 0])
+        self.walk = walk_at_start([2, 2], [1, 1], [1, 0, 1, 0], DOCUMENT_01)
 
     def refusal(self, labels: list[int]) -> int:
         """The number by which each call on the walk refuses it, and leaves it as it was."""
@@ -52,7 +52,13 @@ class Walks(unittest.TestCase):
     def test_refusals(self):
         self.assertEqual(self.refusal([2, 2, 2]), 6)
         self.assertEqual(self.refusal([2, 2, 2, 5]), 7)
+        self.assertEqual(self.refusal([2, 2, 2, 0]), 20)
+        self.walk.walk.carried[0] = 0
         self.assertEqual(self.refusal([2, 2, 2, 0]), 16)
+        self.walk.walk.carried[0] = 4
+        self.walk.walk.labels_read = 2
+        self.assertEqual(self.refusal(DOCUMENT_01), 20)
+        self.walk.walk.labels_read = 1
         self.walk.walk.places = 0
         self.assertEqual(self.refusal(DOCUMENT_01), 20)
         self.walk.walk.places, self.walk.walk.present.count = 1, 0
@@ -61,5 +67,5 @@ class Walks(unittest.TestCase):
             walk_points(self.walk, DOCUMENT_01)
         self.assertEqual(caught.exception.number, 20)
         with self.assertRaises(Refused) as caught:
-            walk_at_start([2], [4], [2, 1])
+            walk_at_start([2], [4], [2, 1], [1] * 5)
         self.assertEqual(caught.exception.number, 5)
