@@ -1,12 +1,16 @@
--- The first index at which two masks differ: the only one, or none. Assumes nothing.
-use mathlib.Core.Bool.{Bool, true, false, Bool·beq}
+-- The first index at which two masks differ: the only one, or none; and the length of a record, which the sets alone tell. Assumes nothing.
+use mathlib.Core.Bool.{Bool, true, false, Bool·beq, cond}
 use mathlib.Core.Logic.{⊎-elim}
 use mathlib.Core.Path.{_≡_, refl, sym, ap, _∙_}
 use Prim.Native.Nat.{ℕ, zero, suc, _+_, _≤_, _<_}
+use borrow.Author.Tests.{eq-eqb, ne-eqb}
+use lib.Dec.{eqb}
+use lib.ListN.{length}
 use native.Mathlib.Omega.{arith}
-use Rattle.combinatorics.proofs.Basics.{absurd-bool, same-or}
+use Rattle.combinatorics.proofs.Basics.{absurd-bool, same-or, true-or-false}
 use Rattle.rules.specs.Mask.{bit}
-use Rattle.records.specs.Records.{differingFrom, differing}
+use Rattle.rules.proofs.SameMasks.{same-mask}
+use Rattle.records.specs.Records.{differingFrom, differing, recordFrom}
 
 beq-unlike : (x y : Bool) → (x ≡ y → ⊥) → Bool·beq x y ≡ false
 beq-unlike true true n = absurd (n refl)
@@ -19,6 +23,12 @@ beq-alike true true e = refl
 beq-alike false false e = refl
 beq-alike true false e = absurd-bool e
 beq-alike false true e = absurd-bool (sym e)
+
+alike-beq : (x y : Bool) → Bool·beq x y ≡ true → x ≡ y
+alike-beq true true e = refl
+alike-beq false false e = refl
+alike-beq true false e = absurd-bool (sym e)
+alike-beq false true e = absurd-bool (sym e)
 
 -- the search, step by step
 module _ (a b : ℕ) where
@@ -56,3 +66,41 @@ module _ (a b : ℕ) where
 
   pub same-none : a ≡ b → differing a b ≡ 16
   same-none e = none-differs (λ i l. ap (λ (m : ℕ). bit m i) e)
+
+  -- where none is, they are alike
+  alike-from : (n k : ℕ) → k + n ≡ 16 → differingFrom a b n k ≡ 16 → (i : ℕ) → k ≤ i → i < 16 → bit a i ≡ bit b i
+  alike-from zero k s e i l m = absurd (omega arith)
+  alike-from (suc n) k s e i l m =
+      ⊎-elim
+      (λ (q : Bool·beq (bit a k) (bit b k) ≡ true). ⊎-elim (λ (z : i ≡ k). rw z (alike-beq _ _ q))
+      (λ ne. alike-from n (suc k) (omega arith) (sym (differs-later n k q) ∙ e) i (omega (arith, ne)) m) (same-or i k))
+      (λ (q : Bool·beq (bit a k) (bit b k) ≡ false). absurd (omega (arith, sym (differs-here (suc n) k q) ∙ e)))
+      (true-or-false (Bool·beq (bit a k) (bit b k)))
+
+  pub alike-none : a < 65536 → b < 65536 → eqb a b ≡ eqb (differing a b) 16
+  alike-none la lb =
+      ⊎-elim (λ (e : a ≡ b). eq-eqb a b e ∙ sym (eq-eqb (differing a b) 16 (same-none e)))
+      (λ n. ne-eqb a b n
+      ∙ sym (ne-eqb (differing a b) 16 (λ d. n (same-mask a b la lb (λ i l. alike-from 16 0 (omega arith) d i (omega arith) l)))))
+      (same-or a b)
+
+-- a record's length, by what T and U do
+pub record-length : (T U T' U' y z : ℕ) → length (recordFrom T U T' U' y z)
+    ≡ cond (eqb (differing T T') 16) (cond (eqb (differing U U') 16) 6 7) (cond (eqb (differing U U') 16) 5 6)
+unfolding recordFrom
+record-length T U T' U' y z =
+    let h = differing T T' in
+    let i = differing U U' in
+    ⊎-elim
+    (λ (t : eqb h 16 ≡ true). ⊎-elim (λ (u : eqb i 16 ≡ true). rw (t, u))
+    (λ (u : eqb i 16 ≡ false). ⊎-elim (λ (b : bit U' i ≡ true). rw (t, u, b)) (λ (b : bit U' i ≡ false). rw (t, u, b)) (true-or-false (bit U' i)))
+    (true-or-false (eqb i 16)))
+    (λ (t : eqb h 16 ≡ false). ⊎-elim
+    (λ (b : bit T' h ≡ true). ⊎-elim (λ (u : eqb i 16 ≡ true). rw (t, b, u)) (λ (u : eqb i 16 ≡ false). rw (t, b, u)) (true-or-false (eqb i 16)))
+    (λ (b : bit T' h ≡ false). ⊎-elim (λ (u : eqb i 16 ≡ true). rw (t, b, u)) (λ (u : eqb i 16 ≡ false). rw (t, b, u)) (true-or-false (eqb i 16)))
+    (true-or-false (bit T' h)))
+    (true-or-false (eqb h 16))
+
+-- so it is the same, whatever points come in and go out
+pub length-alike : (T U T' U' y z z' : ℕ) → length (recordFrom T U T' U' y z) ≡ length (recordFrom T U T' U' y z')
+length-alike T U T' U' y z z' = record-length T U T' U' y z ∙ sym (record-length T U T' U' y z')

@@ -1,7 +1,8 @@
 // The record of a place, as bytes, by T and U at the place before it and at the place, and by the positions of the points
 // that come in and go out. What is public here is for the writer and the reader of a trail, which show what it asks.
 ghost use mathlib.Core.Path.{_≡_};
-ghost use Prim.Native.Nat.{suc, _+_, _/_, _%_, _≤_, _<_};
+ghost use Prim.Native.Nat.{ℕ, suc, _+_, _/_, _%_, _≤_, _<_};
+ghost use lib.Dec.{eqb};
 ghost use lib.ListN.{drop, length, take};
 ghost use lib.Seq.{paste};
 ghost use Rattle.trail.specs.Trail.{begins};
@@ -57,6 +58,13 @@ pub fn difference(a: u16, b: u16) -> usize
         h += 1;
     }
     h
+}
+
+// Two sets are the same.
+fn alike(a: u16, b: u16) -> bool
+    ensures { λ r. ⌜ r ≡ eqb (differing a b) 16 ⌝ }
+{
+    a == b
 }
 
 // T is kept: rules 1 to 3, by what U does.
@@ -141,6 +149,23 @@ pub fn record_of(before: Sets, after: Sets, come: usize, gone: usize) -> Record
         return joined(before.u, after.u, h, come);
     }
     left(before.u, after.u, h, gone)
+}
+
+// How many bytes the record of a place behind the first has: the sets alone tell, whatever points come in and go out.
+pub fn length_of(before: Sets, after: Sets) -> usize
+    ensures { λ r. ⌜ ((come gone : ℕ) → r ≡ length (recordFrom (before .t) (before .u) (after .t) (after .u) come gone)) ⌝ }
+{
+    let kept = alike(before.u, after.u);
+    if alike(before.t, after.t) {
+        if kept {
+            return 6;
+        }
+        return 7;
+    }
+    if kept {
+        return 5;
+    }
+    6
 }
 
 // The record of {v}.

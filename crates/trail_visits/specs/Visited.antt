@@ -15,7 +15,6 @@ use Rattle.moves.specs.Held.{Lent, noRound, stateOf}
 use Rattle.moves.specs.declared.Status.{Status}
 use Rattle.place.specs.Problem.{Problem}
 use Rattle.records.specs.Records.{firstRecord, recordFrom}
-use Rattle.records.specs.declared.Record.{Record}
 use Rattle.rules.specs.Mask.{bit}
 use Rattle.rules.specs.Read.{positionAt, read}
 use Rattle.rules.specs.Ready.{labelIn}
@@ -64,21 +63,23 @@ pub record CanTell (a : State) (s : Status) : Type 0 where
   pub label : s .rule < 6 → (1 ≤ labelIn a) × (labelIn a ≤ 16)
   pub other : s .rule < 6 → bit (a .T) (labelIn a - 1) ≡ true → found (labelIn a) (a .active) (map markLabel (a .marks)) ≤ s .count
 
--- a record can be stored
-pub record CanStore (room at : ℕ) (made : Record) (writes : Bool) : Type 0 where
-  pub fits : writes ≡ true → at + made .length ≤ room
-  pub short : made .length ≤ 8
-  pub eight : length (made .bytes) ≡ 8
-
--- the record can be made, and has room where the walk writes
-pub record CanRecord (p : Problem) (a : State) (trail : List ℕ) (at : ℕ) (before : Before) (writes : Bool) : Type 0 where
-  pub come : IsKnown p a → positionAt (read p a) (a .active) < 65536
+-- the record of a place can be made, and stored
+pub record CanWrite (a : State) (trail : List ℕ) (at : ℕ) (before : Before) : Type 0 where
+  pub come : positionAt a (a .active) < 65536
   pub gone : before .gone < 65536
-  pub room : IsKnown p a → writes ≡ true → at + length (recordHere (read p a) before at) ≤ length trail
+  pub room : at + length (recordHere a before at) ≤ length trail
 
--- what a place of the walk leaves in the trail, and tells the next one
+-- where the walk writes
+abbrev pub CanRecord : Problem → State → List ℕ → ℕ → Before → Bool → Type 0
+CanRecord p a trail at before writes = IsKnown p a → writes ≡ true → CanWrite (read p a) trail at before
+
+-- the trail with the record of a place, where the walk writes
+abbrev pub withRecord : State → List ℕ → ℕ → Before → Bool → List ℕ
+withRecord a old at before writes = let bytes = recordHere a before at in cond writes (paste old at bytes (length bytes)) old
+
+-- what a place of the walk leaves in the trail, and tells the next one: the point that leaves only where the walk writes
 pub record Visits (p : Problem) (a : State) (old : List ℕ) (at : ℕ) (before : Before) (writes : Bool) (new : List ℕ) (r : Passed) : Type 0 where
   pub long : IsKnown p a → r .bytes ≡ length (recordHere (read p a) before at)
-  pub gone : IsKnown p a → r .gone ≡ goneOf (read p a)
-  pub written : IsKnown p a → new ≡ cond writes (paste old at (recordHere (read p a) before at) (length (recordHere (read p a) before at))) old
+  pub gone : IsKnown p a → writes ≡ true → r .gone ≡ goneOf (read p a)
+  pub written : IsKnown p a → new ≡ withRecord (read p a) old at before writes
   pub kept : writes ≡ false → new ≡ old

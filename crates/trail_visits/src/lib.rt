@@ -1,10 +1,9 @@
 // One place of a walk that writes a trail: the look-up, the record and the move. What is public here is for the writer, which shows
 // what it asks.
-ghost use mathlib.Core.Bool.{cond};
+ghost use mathlib.Core.Bool.{true};
 ghost use mathlib.Core.Path.{_≡_};
 ghost use Prim.Native.Nat.{_<_};
 ghost use lib.ListN.{length};
-ghost use lib.Seq.{paste};
 ghost use Rattle.finder.specs.Finish.{CanVisit, Gives};
 ghost use Rattle.marks.specs.Reading.{Readable, tableOf};
 ghost use Rattle.moves.specs.Held.{GivesAll, held, round, roundBack};
@@ -12,8 +11,8 @@ ghost use Rattle.records.specs.Records.{IsRecord};
 ghost use Rattle.rules.specs.Read.{read};
 ghost use Rattle.rules.specs.Ready.{SixteenEach};
 ghost use Rattle.rules.specs.Step.{State, step as stepOf};
-ghost use Rattle.trail_visits.specs.Visited.{CanLookUp, CanRecord, CanStore, CanTell, HasPositions};
-ghost use Rattle.trail_visits.specs.Visited.{LooksUp, Visits, goneOf, heldMarks, recordHere};
+ghost use Rattle.trail_visits.specs.Visited.{CanLookUp, CanRecord, CanTell, CanWrite, HasPositions};
+ghost use Rattle.trail_visits.specs.Visited.{LooksUp, Visits, goneOf, heldMarks, recordHere, withRecord};
 use finder::Visited;
 use finder::moved;
 use grid::Grid;
@@ -30,6 +29,7 @@ use positions::ENTRIES;
 use records::Record;
 use records::Sets;
 use records::first_record;
+use records::length_of;
 use records::put;
 use records::record_of;
 
@@ -137,15 +137,44 @@ fn gone(marks: &[u32; 16], s: Status) -> usize
     position_at(marks, s.count, i)
 }
 
-// The record stored, where the walk writes.
-fn store(trail: &mut [u8], at: usize, made: Record, writes: bool)
-    requires { ⌜ CanStore (length (now trail)) at made writes ⌝ }
-    ensures { λ _. ⌜ now (trail .exit) ≡ cond writes (paste (now (trail .entry)) at (made .bytes) (made .length))
-        (now (trail .entry)) ⌝ }
+// How many bytes the record of the place has; at the front of the trail that of {v}.
+fn length_here(s: Status, before: Before, at: usize) -> usize
+    ensures { λ r. ⌜ ((a : State) → a .T ≡ s .t → a .U ≡ s .u → r ≡ length (recordHere a before at)) ⌝ }
 {
-    if writes {
-        put(trail, at, made);
+    if at == 0 {
+        return 3;
     }
+    let from = Sets {
+        t: before.t,
+        u: before.u,
+    };
+    let to = Sets { t: s.t, u: s.u };
+    length_of(from, to)
+}
+
+// Where the walk writes, the record is stored, and the position of the point that leaves next is told. A walk that counts
+// needs neither.
+fn tell(
+    marks: &[u32; 16],
+    s: Status,
+    trail: &mut [u8],
+    at: usize,
+    before: Before,
+    writes: bool,
+) -> usize
+    ghost { State }
+    requires { λ a. ⌜ heldMarks marks s ≡ a ⌝ }
+    requires { λ a. ⌜ CanTell a s × (length (now marks) ≡ 16) ⌝ }
+    requires { λ a. ⌜ (writes ≡ true → CanWrite a (now trail) at before) ⌝ }
+    ensures { λ a r. ⌜ (writes ≡ true → r ≡ goneOf a) ⌝ }
+    ensures { λ a _. ⌜ now (trail .exit) ≡ withRecord a (now (trail .entry)) at before writes ⌝ }
+{
+    if !writes {
+        return 0;
+    }
+    let made = record_here(marks, s, before, at);
+    put(trail, at, made);
+    gone(marks, s)
 }
 
 // One place: the mark of the point that has just come in is read, the record is stored where the walk writes, and the
@@ -198,10 +227,8 @@ pub fn visit(
             bytes: 0,
         };
     }
-    let made = record_here(marks, s, before, at);
-    let bytes = made.length;
-    store(trail, at, made, writes);
-    let gone = gone(marks, s);
+    let bytes = length_here(s, before, at);
+    let gone = tell(marks, s, trail, at, before, writes);
     let outcome = step(previous, next, sizes, first, coefficients, order, marks, s);
     let seen = moved(outcome);
     Passed { seen, gone, bytes }

@@ -1,5 +1,5 @@
 -- The walk along the path and the trail of its places. In order: the points of a place and their marks; the record that is made at a place; the
--- position of the point that leaves; the trail so far. Assumes nothing.
+-- position of the point that leaves; the trail so far, whose length the sets T and U alone tell. Assumes nothing.
 use mathlib.Core.Bool.{Bool, true, false, cond}
 use mathlib.Core.List.{List, [], _∷_, _++_, map, append-nil}
 use mathlib.Core.Logic.{_⊎_, inl, inr, ⊎-elim}
@@ -35,6 +35,7 @@ use Rattle.place.specs.Ends.{End, Kind}
 use Rattle.place.specs.Path.{answer, ended, outcome, path, pathLength, spent}
 use Rattle.place.specs.Places.{Simplex, setT, setU}
 use Rattle.place.specs.Problem.{Problem, hasLabel, label}
+use Rattle.records.proofs.Differences.{length-alike}
 use Rattle.records.proofs.Kept.{Kept, grow-kept, kept-of, leave-kept}
 use Rattle.records.proofs.Told.{IsMask, told}
 use Rattle.records.specs.Records.{firstRecord, recordFrom}
@@ -80,13 +81,22 @@ module _ (g : GridStruct) (start table : List ℕ) where
   pub record Behind (before : Before) (h : ℕ) : Type 0 where
     pub T : IsMask (before .t) (setT (problemIn g start table) (placeAt (path (problemIn g start table) .visited) h))
     pub U : IsMask (before .u) (setU (problemIn g start table .grid) (placeAt (path (problemIn g start table) .visited) h))
-    pub gone : (z : Point) → outside samePoint (placeAt (path (problemIn g start table) .visited) (suc h)) (placeAt (path (problemIn g start table) .visited) h) ≡ z ∷ [] → before .gone ≡ position (problemIn g start table .grid) z
+
+  -- the point that has left it, if there is one
+  abbrev pub HasLeft : Before → ℕ → Type 0
+  HasLeft before h =
+      (z : Point) → outside samePoint (placeAt (path (problemIn g start table) .visited) (suc h)) (placeAt (path (problemIn g start table) .visited) h) ≡ z ∷ []
+      → before .gone ≡ position (problemIn g start table .grid) z
+
+  -- which a walk that writes keeps
+  pub record Left (before : Before) (k : ℕ) : Type 0 where
+    pub left : (h : ℕ) → suc h ≡ k → HasLeft before h
+    pub low : before .gone < 65536
 
   -- the trail up to the place before
   pub record SoFar (before : Before) (k at : ℕ) : Type 0 where
     pub long : at ≡ length (trailOf (problemIn g start table) (take k (path (problemIn g start table) .visited)))
     pub behind : (h : ℕ) → suc h ≡ k → Behind before h
-    pub low : before .gone < 65536
 
 module _ (g : GridStruct) (start table : List ℕ) (ok : Accepted (problemIn g start table)) where
   abbrev p : Problem
@@ -167,7 +177,7 @@ module _ (g : GridStruct) (start table : List ℕ) (ok : Accepted (problemIn g s
           (λ (r : 6 ≤ s .rule). rw (le-ltb (s .rule) 6 r) (marked (λ q. absurd (omega arith))))
           (before-or-not (s .rule) 6)
 
-      pub come-low : positionAt (read (tableOf g table) s) (s .active) < 65536
+      come-low : positionAt (read (tableOf g table) s) (s .active) < 65536
       come-low = omega (arith, known-position (s .active) active-low, position-low (s .active) active-low)
 
   -- what reading a mark leaves as it is
@@ -197,6 +207,16 @@ module _ (g : GridStruct) (start table : List ℕ) (ok : Accepted (problemIn g s
         ⊎-elim (λ (l : s .rule < 6). rw (lt-ltb (s .rule) 6 l) (length-set (s .marks) (s .active) _)) (λ (l : 6 ≤ s .rule). rw (le-ltb (s .rule) 6 l))
         (before-or-not (s .rule) 6)
 
+  -- so the position of the point that has come in fits 16 bits
+  pub come-fits : (s : State) (k : ℕ) (here : OnPath p s k) (known : IsKnown (tableOf g table) s)
+      → positionAt (read (tableOf g table) s) (read (tableOf g table) s .active) < 65536
+  come-fits s k here known = rw (same-active s) (come-low s k here known)
+
+  -- the position of the first of some points; 0 of none
+  unfoldable firstOf : List Point → ℕ
+  firstOf [] = 0
+  firstOf (z ∷ l) = position (p .grid) z
+
   some-bytes : (l : List Simplex) → 0 < length l → 0 < length (trailOf p l)
   unfolding trailOf startRecord
   some-bytes [] m = absurd (omega arith)
@@ -211,7 +231,8 @@ module _ (g : GridStruct) (start table : List ℕ) (ok : Accepted (problemIn g s
   first-trail x = sym (append-nil (startRecord p))
 
   -- the record that is made at a place is the trail's
-  module _ (s : State) (k : ℕ) (here : OnPath p s k) (known : IsKnown (tableOf g table) s) (before : Before) (at : ℕ) (F : SoFar g start table before k at) where
+  module _ (s : State) (k : ℕ) (here : OnPath p s k) (known : IsKnown (tableOf g table) s) (before : Before) (at : ℕ) (F : SoFar g start table before k at)
+      (left : (h : ℕ) → suc h ≡ k → HasLeft g start table before h) where
     abbrev come : ℕ
     come = positionAt (read (tableOf g table) s) (s .active)
 
@@ -256,7 +277,7 @@ module _ (g : GridStruct) (start table : List ℕ) (ok : Accepted (problemIn g s
       unfolding change
       goes-out x q =
           let w = mapped-one (position (p .grid)) (outside samePoint b a) x q in
-          F .behind h e .gone (w .0) (rw e (w .1)) ∙ w .3
+          left h e (w .0) (rw e (w .1)) ∙ w .3
 
       later-record : recordFrom (before .t) (before .u) (s .T) (s .U) come (before .gone) ≡ recordOf p a b
       later-record =
@@ -309,7 +330,7 @@ module _ (g : GridStruct) (start table : List ℕ) (ok : Accepted (problemIn g s
     leaving-inside : (i : ℕ) → Leaving full-marks i → i ≤ length (s .order)
     leaving-inside i L = rw (← same-order s) (leaving-ready full-marks i ready L .low)
 
-    pub gone-low : goneOf full-marks < 65536
+    gone-low : goneOf full-marks < 65536
     gone-low =
         ⊎-elim
         (λ w. let l = leaving-inside (w .0) (w .1) in
@@ -334,7 +355,7 @@ module _ (g : GridStruct) (start table : List ℕ) (ok : Accepted (problemIn g s
           let q : pointIn p e (K .to) ≡ pointIn p s j = same-point (on-grid e (suc k) next (K .to) (K .low)) (on-grid s k here j l) f in
           rw (← q) (point-in e (suc k) next (K .to) (K .low))
 
-      pub gone-is : (z : Point) → outside samePoint (placeAt visited (suc k)) (placeAt visited k) ≡ z ∷ [] → goneOf full-marks ≡ position (p .grid) z
+      gone-is : (z : Point) → outside samePoint (placeAt visited (suc k)) (placeAt visited k) ≡ z ∷ [] → goneOf full-marks ≡ position (p .grid) z
       gone-is z q =
           let w : (isIn samePoint z (placeAt visited k) ≡ true) × (isIn samePoint z (placeAt visited (suc k)) ≡ false) =
           outside-in onPoints z (placeAt visited k) (placeAt visited (suc k)) (rw q (in-here onPoints z [])) in
@@ -352,6 +373,13 @@ module _ (g : GridStruct) (start table : List ℕ) (ok : Accepted (problemIn g s
           (λ v. absurd (stay (kept-of (grow-kept full-marks (j .0) marked low (labelIn full-marks - 1))
           (label-joins full-marks (labelIn full-marks) (labelIn full-marks - 1) refl refl (v .0) (v .1) ∙ moved))))
           way-on
+
+      -- which a walk that writes keeps
+      pub next-left : (gone : ℕ) → gone ≡ goneOf full-marks → Left g start table (record { t = s .T; u = s .U; gone = gone }) (suc k)
+      next-left gone z = record {
+        left = λ h q. let i : k ≡ h = omega arith in rw (← i) (λ y o. z ∙ gone-is y o);
+        low = omega (arith, z, gone-low);
+      }
 
   -- the trail so far is no longer than the whole
   records-part : (a : Simplex) (l : List Simplex) (n : ℕ) → length (recordsFrom p a (take n l)) ≤ length (recordsFrom p a l)
@@ -371,8 +399,11 @@ module _ (g : GridStruct) (start table : List ℕ) (ok : Accepted (problemIn g s
   whole-fits = trail-fits ok visited (demand3-holds ok .follows)
 
   -- where a walk begins
-  pub so-far-none : (before : Before) → before .gone < 65536 → SoFar g start table before 0 0
-  so-far-none before l = record { long = ap length (sym no-trail); behind = λ h e. absurd (omega arith); low = l }
+  pub so-far-none : (before : Before) → SoFar g start table before 0 0
+  so-far-none before = record { long = ap length (sym no-trail); behind = λ h e. absurd (omega arith) }
+
+  pub left-none : (before : Before) → before .gone < 65536 → Left g start table before 0
+  left-none before l = record { left = λ h e. absurd (omega arith); low = l }
 
   pub trail-none : (writes : Bool) (old : List ℕ) → old ≡ cond writes (front (trailOf p (take 0 visited)) old) old
   trail-none true old = sym (ap (λ (l : List ℕ). front l old) no-trail ∙ front-none old)
@@ -383,34 +414,53 @@ module _ (g : GridStruct) (start table : List ℕ) (ok : Accepted (problemIn g s
     abbrev rec : List ℕ
     rec = recordHere (read (tableOf g table) s) before at
 
+    -- what would be kept with the point that has left, whatever is kept of it: the record is as long
+    abbrev rightly : Before
+    rightly = record { t = before .t; u = before .u; gone = firstOf (outside samePoint (placeAt visited k) (placeAt visited (pred k))) }
+
+    rightly-far : SoFar g start table rightly k at
+    rightly-far = record { long = F .long; behind = λ h e. record { T = F .behind h e .T; U = F .behind h e .U } }
+
+    rightly-left : (h : ℕ) → suc h ≡ k → HasLeft g start table rightly h
+    unfolding firstOf
+    rightly-left h e z q =
+        subst (λ (n : ℕ). firstOf (outside samePoint (placeAt visited n) (placeAt visited (pred n))) ≡ position (p .grid) z) e (ap firstOf q)
+
+    as-long : length rec ≡ length (recordHere (read (tableOf g table) s) rightly at)
+    as-long =
+        let r = read (tableOf g table) s in
+        ⊎-elim (λ (e : at ≡ 0). rw (eq-eqb at 0 e))
+        (λ n. rw (ne-eqb at 0 n) (length-alike (before .t) (before .u) (r .T) (r .U) (positionAt r (r .active)) (before .gone) (rightly .gone)))
+        (same-or at 0)
+
     pub next-long : at + length rec ≡ length (trailOf p (take (suc k) visited))
-    next-long = omega (arith, F .long, length-append (trailOf p (take k visited)) rec, ap length (here-trail s k here known before at F))
+    next-long =
+        omega (
+          arith,
+          F .long,
+          as-long,
+          length-append (trailOf p (take k visited)) (recordHere (read (tableOf g table) s) rightly at),
+          ap length (here-trail s k here known rightly at rightly-far rightly-left),
+        )
 
     pub next-short : at + length rec ≤ length (trailOf p visited)
     next-short = omega (arith, next-long, part-short visited (suc k))
 
     -- the trail after it
     pub next-trail : (writes : Bool) (old now : List ℕ) → (writes ≡ true → length (trailOf p visited) ≤ length old)
-        → now ≡ cond writes (front (trailOf p (take k visited)) old) old
+        → (writes ≡ true → Left g start table before k) → now ≡ cond writes (front (trailOf p (take k visited)) old) old
         → cond writes (paste now at rec (length rec)) now ≡ cond writes (front (trailOf p (take (suc k) visited)) old) old
-    next-trail true old now room e =
+    next-trail true old now room gone e =
         ap (λ (l : List ℕ). paste l at rec (length rec)) e
         ∙ front-paste (trailOf p (take k visited)) old rec at (F .long) (omega (arith, next-short, room refl))
-        ∙ ap (λ (l : List ℕ). front l old) (here-trail s k here known before at F)
-    next-trail false old now room e = e
+        ∙ ap (λ (l : List ℕ). front l old) (here-trail s k here known before at F (gone refl .left))
+    next-trail false old now room gone e = e
 
     -- and what is kept of it
-    pub next-so-far : Ready (read (tableOf g table) s) → (e : State) → step (read (tableOf g table) s) ≡ goes e → OnPath p e (suc k)
-        → (gone bytes : ℕ) → gone ≡ goneOf (read (tableOf g table) s) → bytes ≡ length rec
-        → SoFar g start table (record { t = s .T; u = s .U; gone = gone }) (suc k) (at + bytes)
-    next-so-far ready e moved next gone bytes z l = record {
+    pub next-so-far : (gone bytes : ℕ) → bytes ≡ length rec → SoFar g start table (record { t = s .T; u = s .U; gone = gone }) (suc k) (at + bytes)
+    next-so-far gone bytes l = record {
       long = ap (λ (n : ℕ). at + n) l ∙ next-long;
-      behind = λ h q. let i : k ≡ h = omega arith in rw (← i) (record {
-        T = mask-T s k here;
-        U = mask-U s k here;
-        gone = λ y o. z ∙ gone-is s k here known ready e moved next y o;
-      });
-      low = omega (arith, z, gone-low s k here known ready);
+      behind = λ h q. let i : k ≡ h = omega arith in rw (← i) (record { T = mask-T s k here; U = mask-U s k here });
     }
 
   -- at the path's end the trail is whole

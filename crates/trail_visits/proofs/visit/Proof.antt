@@ -1,11 +1,7 @@
--- `trail_visits::visit` meets its contract: the label is looked up, the record made and stored, and the move made. Assumes nothing.
-use mathlib.Core.Bool.{Bool, cond}
-use mathlib.Core.List.{List, []}
+-- `trail_visits::visit` meets its contract: the label is looked up, the record counted and, where the walk writes, stored, and the move made. Assumes nothing.
+use mathlib.Core.List.{[]}
 use mathlib.Core.Path.{_≡_, refl, sym, ap, _∙_, subst}
-use Prim.Native.Nat.{ℕ, suc, _≤_, _<_}
 use borrow.Author.Needs.{needs}
-use lib.ListN.{length, take}
-use lib.Seq.{paste}
 use native.Mathlib.Omega.{arith}
 use Rattle.combinatorics.proofs.EditsOfArrays.{counted}
 use Rattle.finder.specs.Finish.{IsKnown}
@@ -13,11 +9,10 @@ use Rattle.finder.proofs.Visits.{gives, marks-back, read-back}
 use Rattle.marks.specs.Reading.{tableOf}
 use Rattle.moves.specs.Held.{noRound, roundOf, stateOf}
 use Rattle.place.specs.Problem.{Problem}
-use Rattle.records.proofs.Told.{pasted}
-use Rattle.rules.specs.Read.{positionAt, read}
+use Rattle.rules.specs.Read.{read}
 use Rattle.rules.specs.Ready.{Ready, SixteenEach}
 use Rattle.rules.specs.Step.{State, step}
-use Rattle.trail_visits.specs.Visited.{CanTell, LooksUp, goneOf, recordHere}
+use Rattle.trail_visits.specs.Visited.{CanTell, CanWrite, LooksUp, goneOf, withRecord}
 use Rattle.trail_visits.proofs.Places.{can-tell, looked-whole}
 use Rattle.trail_visits.proofs.visit.Statement.{statement}
 use Rattle.trail_visits.proofs.visit.Tie as tie
@@ -42,7 +37,7 @@ returns c =
       record { reads = U .reads; zero = U .zero; at = U .at },
       record {
         long = λ k. absurd (omega (arith, k (U .reads), U .zero));
-        gone = λ k. absurd (omega (arith, k (U .reads), U .zero));
+        gone = λ k e. absurd (omega (arith, k (U .reads), U .zero));
         written = λ k. absurd (omega (arith, k (U .reads), U .zero));
         kept = λ e. refl;
       },
@@ -76,29 +71,22 @@ looked-up c =
     let ready : Ready (after c) = subst Ready (sym E) (c .before .before .before .before .before .before .before .before .before .pre .1 .0 .ready (L .0)) in
     (L .0, E, sixteen, can-tell (roundOf (a .previous .now) (a .next .now) (a .sizes .now)) (a .first .now) (a .coefficients .now) (a .order .now) (c .before .before .look-up .last .1 .1 .1 .1 .1 .1 .1 .1 .1 .0) (a .s) sixteen ready)
 
-record-here-requires : tie.Need-record-here-requires
-record-here-requires c κs =
-    let w = looked-up (c .before) in
-    let t = w .3 in
-    record { active = t .active; few = t .few; come = rw (ap (λ (x : State). positionAt x (c .before .before .before .before .before .before .before .before .before .before .args .s .active)) (w .1)) (c .before .before .before .before .before .before .before .before .before .before .pre .1 .1 .come (w .0)); gone = c .before .before .before .before .before .before .before .before .before .before .pre .1 .1 .gone }
+length-here-requires : tie.Need-length-here-requires
+length-here-requires c κs = search needs
 
-store-requires : tie.Need-store-requires
-store-requires c κs =
+tell-requires : tie.Need-tell-requires
+tell-requires c κs =
     let w = looked-up (c .before .before .before) in
-    let R = c .before .record-here .ensures in
-    record {
-      fits = λ e. omega (arith, R .long, ap (λ (x : State). length (recordHere x (c .before .before .before .before .before .before .before .before .before .before .before .before .args .before) (c .before .before .before .before .before .before .before .before .before .before .before .before .args .at))) (w .1), c .before .before .before .before .before .before .before .before .before .before .before .before .pre .1 .1 .room (w .0) e);
-      short = omega (arith, R .long, R .short);
-      eight = R .eight;
-    }
-
-gone-requires : tie.Need-gone-requires
-gone-requires c κs = let w = looked-up (c .before .before .before .before .before .before .before) in (w .3, w .2 .inMarks)
+    let a = c .before .before .before .before .before .before .before .before .before .before .before .before .args in (
+      (w .3, w .2 .inMarks),
+      λ e. let W = subst (λ (x : State). CanWrite x (a .trail .now) (a .at) (a .before)) (sym (w .1)) (c .before .before .before .before .before .before .before .before .before .before .before .before .pre .1 .1 (w .0) e) in
+          record { come = W .come; gone = W .gone; room = W .room },
+    )
 
 step-requires : tie.Need-step-requires
 step-requires c κs =
-    let w = looked-up (c .before .before .before .before .before .before .before .before .before .before .before .before) in
-    record { below = c .before .before .before .before .before .before .before .before .before .before .before .before .before .before .before .before .before .before .before .before .before .pre .1 .0 .below; each = w .2; ready = subst Ready (sym (w .1)) (c .before .before .before .before .before .before .before .before .before .before .before .before .before .before .before .before .before .before .before .before .before .pre .1 .0 .ready (w .0)) }
+    let w = looked-up (c .before .before .before .before .before .before .before .before .before .before) in
+    record { below = c .before .before .before .before .before .before .before .before .before .before .before .before .before .before .before .before .before .before .before .pre .1 .0 .below; each = w .2; ready = subst Ready (sym (w .1)) (c .before .before .before .before .before .before .before .before .before .before .before .before .before .before .before .before .before .before .before .pre .1 .0 .ready (w .0)) }
 
 moved-requires : tie.Need-moved-requires
 moved-requires c κs = search needs
@@ -109,16 +97,16 @@ same-length c = search needs
 returns-2 : tie.Need-returns-2
 unfolding goneOf
 returns-2 c =
-    let w = looked-up (c .before .before .before .before .before .before .before .before .before .before .before .before .before .before) in
+    let w = looked-up (c .before .before .before .before .before .before .before .before .before .before .before .before) in
+    let a = c .before .before .before .before .before .before .before .before .before .before .before .before .before .before .before .before .before .before .before .before .before .args in
     let made = c .before .step .ensures in
-    let R = c .before .before .before .before .before .before .before .before .before .before .before .before .record-here .ensures in (
+    let told = c .before .before .before .before .before .before .before .before .tell .ensures in (
       rw (c .moved .ensures) (gives _ _ _ (c .before .step .result) (w .0) (record { after = made .after ∙ ap step (w .1); each = made .each })),
       record {
-        long = λ k. R .long ∙ ap (λ (x : State). length (recordHere x (c .before .before .before .before .before .before .before .before .before .before .before .before .before .before .before .before .before .before .before .before .before .before .before .args .before) (c .before .before .before .before .before .before .before .before .before .before .before .before .before .before .before .before .before .before .before .before .before .before .before .args .at))) (w .1);
-        gone = λ k. c .before .before .before .before .before .before .gone .ensures ∙ ap goneOf (w .1);
-        written = λ k. c .before .before .before .before .before .before .before .before .before .before .store .ensures ∙ ap (λ (x : List ℕ). cond (c .before .before .before .before .before .before .before .before .before .before .before .before .before .before .before .before .before .before .before .before .before .before .before .args .writes) x (c .before .before .before .before .before .before .before .before .before .before .before .before .before .before .before .before .before .before .before .before .before .before .before .args .trail .now)) (pasted R (c .before .before .before .before .before .before .before .before .before .before .before .before .before .before .before .before .before .before .before .before .before .before .before .args .trail .now) (c .before .before .before .before .before .before .before .before .before .before .before .before .before .before .before .before .before .before .before .before .before .before .before .args .at))
-            ∙ ap (λ (x : State). cond (c .before .before .before .before .before .before .before .before .before .before .before .before .before .before .before .before .before .before .before .before .before .before .before .args .writes) (paste (c .before .before .before .before .before .before .before .before .before .before .before .before .before .before .before .before .before .before .before .before .before .before .before .args .trail .now) (c .before .before .before .before .before .before .before .before .before .before .before .before .before .before .before .before .before .before .before .before .before .before .before .args .at) (recordHere x (c .before .before .before .before .before .before .before .before .before .before .before .before .before .before .before .before .before .before .before .before .before .before .before .args .before) (c .before .before .before .before .before .before .before .before .before .before .before .before .before .before .before .before .before .before .before .before .before .before .before .args .at)) (length (recordHere x (c .before .before .before .before .before .before .before .before .before .before .before .before .before .before .before .before .before .before .before .before .before .before .before .args .before) (c .before .before .before .before .before .before .before .before .before .before .before .before .before .before .before .before .before .before .before .before .before .before .before .args .at)))) (c .before .before .before .before .before .before .before .before .before .before .before .before .before .before .before .before .before .before .before .before .before .before .before .args .trail .now)) (w .1);
-        kept = λ e. c .before .before .before .before .before .before .before .before .before .before .store .ensures ∙ (rw e);
+        long = λ k. c .before .before .before .before .before .before .before .before .before .before .before .length-here .ensures (read (table (c .before .before .before .before .before .before .before .before .before .before .before .before)) (whole (c .before .before .before .before .before .before .before .before .before .before .before .before))) (ap (λ (x : State). x .T) (sym (w .1))) (ap (λ (x : State). x .U) (sym (w .1)));
+        gone = λ k e. told .0 e ∙ ap goneOf (w .1);
+        written = λ k. told .1 ∙ ap (λ (x : State). withRecord x (a .trail .now) (a .at) (a .before) (a .writes)) (w .1);
+        kept = λ e. told .1 ∙ (rw e);
       },
     )
 
@@ -130,9 +118,8 @@ visit-spec =
     enum-known-looked
     returns
     enum-told
-    record-here-requires
-    store-requires
-    gone-requires
+    length-here-requires
+    tell-requires
     step-requires
     moved-requires
     same-length

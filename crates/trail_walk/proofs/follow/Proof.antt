@@ -1,6 +1,6 @@
 -- `trail_walk::follow` meets its contract. The loop's invariant: the state that the arrays and the status hold stands at the place whose number is what is
--- spent of the budget, the trail has the records of the places before it, and the labels read are counted. The measure is what is left of the budget. Assumes nothing.
-use mathlib.Core.Bool.{false, cond}
+-- spent of the budget, the trail has the records of the places before it, the labels read are counted, and a walk that writes knows the point that has left. The measure is what is left of the budget. Assumes nothing.
+use mathlib.Core.Bool.{true, false, cond}
 use mathlib.Core.List.{List}
 use mathlib.Core.Path.{_≡_, refl, sym, ap, _∙_}
 use Prim.Native.Nat.{ℕ, suc, _+_, _-_, _≤_}
@@ -15,7 +15,7 @@ use Rattle.moves.specs.Held.{roundOf, stateOf}
 use Rattle.place.specs.Path.{path}
 use Rattle.rules.specs.Ready.{SixteenEach}
 use Rattle.trail.specs.Record.{trailOf}
-use Rattle.trail_walk.proofs.OnTrail.{SoFar, come-low, ended-whole, next-long, next-short, next-so-far, next-trail, so-far-none, trail-none, whole-at, whole-fits}
+use Rattle.trail_walk.proofs.OnTrail.{Left, SoFar, come-fits, ended-whole, left-none, next-left, next-long, next-short, next-so-far, next-trail, so-far-none, trail-none, whole-at, whole-fits}
 use Rattle.trail_walk.proofs.follow.Statement.{statement}
 use Rattle.trail_walk.proofs.follow.Tie as tie
 
@@ -26,6 +26,7 @@ Inv-loop g binomials table previous next sizes first₀ order₀ trail₀ writes
     × SoFar g first₀ table before (budget - left) at × (trail ≡ cond writes (front (trailOf p (take (budget - left) (path p .visited))) trail₀) trail₀)
     × (length trail ≡ length trail₀)
     × HasRead p (stateOf (roundOf previous next sizes) first coefficients order marks s) (budget - left) read
+    × (writes ≡ true → Left g first₀ table before (budget - left))
 
 abbrev μ-loop : tie.MeasureT-loop
 μ-loop g binomials table previous next sizes first₀ order₀ trail₀ writes budget coefficients₀ marks₀ s₀ tails before₀ at₀ read₀ left₀ first order trail coefficients marks s before at read left = left
@@ -44,10 +45,11 @@ loop-holds c =
       rw z (begins (a .g) (w .readable .made) (a .first .now) (a .table .now) (w .accepted) (w .isRound) (w .firstLength) (a .order .now) (c .before .before .begin .result) (c .before .before .begin .ensures)),
       omega arith,
       record { inOrder = w .orderLength; inMarks = refl },
-      rw z (so-far-none (a .g) (a .first .now) (a .table .now) (w .accepted) _ (omega arith)),
+      rw z (so-far-none (a .g) (a .first .now) (a .table .now) (w .accepted) _),
       rw z (trail-none (a .g) (a .first .now) (a .table .now) (w .accepted) (a .writes) (a .trail .now)),
       refl,
       rw z (begins-reading (problemIn (a .g) (a .first .now) (a .table .now)) (stateOf (roundOf (a .previous .now) (a .next .now) (a .sizes .now)) (a .first .now) (replicate 16 0) (a .order .now) (replicate 16 0) (c .before .before .begin .result)) (c .before .before .begin .ensures .rule)),
+      λ f. rw z (left-none (a .g) (a .first .now) (a .table .now) (w .accepted) _ (omega arith)),
     )
 
 visit-requires : tie.Need-visit-requires Inv-loop μ-loop
@@ -63,10 +65,10 @@ visit-requires c κs =
       (w .readable, l .inv .2),
       (
         visits (a .g) (w .readable .made) start table (w .accepted) place k (l .inv .0) (w .below) (c .before .before .before .before .before .before .before .before .tails .result) (c .before .before .before .before .before .before .before .before .tails .ensures),
-        record {
-          come = λ known. come-low (a .g) start table (w .accepted) place k (l .inv .0) known;
-          gone = l .inv .3 .low;
-          room = λ known e. omega (arith, next-short (a .g) start table (w .accepted) place k (l .inv .0) known (l .before) (l .at) (l .inv .3), c .before .before .before .before .before .before .before .before .before .before .before .before .before .before .pre .1 e, l .inv .5);
+        λ known e. record {
+          come = come-fits (a .g) start table (w .accepted) place k (l .inv .0) known;
+          gone = l .inv .7 e .low;
+          room = omega (arith, next-short (a .g) start table (w .accepted) place k (l .inv .0) known (l .before) (l .at) (l .inv .3), c .before .before .before .before .before .before .before .before .before .before .before .before .before .before .pre .1 e, l .inv .5);
         },
       ),
     )
@@ -125,10 +127,11 @@ loop-again c =
       rw e next,
       omega (arith, l .inv .1),
       G .1 .each,
-      rw e (next-so-far (a .g) start table (w .accepted) place k (l .inv .0) (G .0) (l .before) (l .at) (l .inv .3) (can .ready (G .0)) _ (sym (G .1 .after)) next _ _ (Y .gone (G .0)) (Y .long (G .0))),
-      rw e (Y .written (G .0) ∙ next-trail (a .g) start table (w .accepted) place k (l .inv .0) (G .0) (l .before) (l .at) (l .inv .3) (a .writes) (a .trail .now) (l .trail) (c .before .before .before .before .before .before .before .before .before .before .before .before .before .before .before .before .before .before .before .before .before .before .pre .1) (l .inv .4)),
+      rw e (next-so-far (a .g) start table (w .accepted) place k (l .inv .0) (G .0) (l .before) (l .at) (l .inv .3) _ _ (Y .long (G .0))),
+      rw e (Y .written (G .0) ∙ next-trail (a .g) start table (w .accepted) place k (l .inv .0) (G .0) (l .before) (l .at) (l .inv .3) (a .writes) (a .trail .now) (l .trail) (c .before .before .before .before .before .before .before .before .before .before .before .before .before .before .before .before .before .before .before .before .before .before .pre .1) (l .inv .7) (l .inv .4)),
       omega (arith, l .inv .5),
       rw (e, c .before .before .before .before .labels-at .ensures) (reads-on (a .g) (w .readable .made) start table (w .accepted) place k (l .inv .0) (G .0) (l .labels-read) (l .inv .6) (leads (a .g) (w .readable .made) start table (w .accepted) place k (l .inv .0) (G .0) _ (G .1 .after))),
+      λ f. rw e (next-left (a .g) start table (w .accepted) place k (l .inv .0) (G .0) (can .ready (G .0)) _ (sym (G .1 .after)) next _ (Y .gone (G .0) f)),
     )
 
 enum-known-seen-2 : tie.Need-enum-known-seen-2 Inv-loop μ-loop
@@ -207,7 +210,7 @@ returns-2 c =
       (N, G .1 .each .inOrder),
       (
         ap (λ (n : ℕ). l .at + n) (Y .long (G .0)) ∙ next-long (a .g) start table (w .accepted) place k (l .inv .0) (G .0) (l .before) (l .at) (l .inv .3) ∙ ap length whole,
-        Y .written (G .0) ∙ next-trail (a .g) start table (w .accepted) place k (l .inv .0) (G .0) (l .before) (l .at) (l .inv .3) (a .writes) (a .trail .now) (l .trail) (c .before .before .before .before .before .before .before .before .before .before .before .before .before .before .before .before .before .before .before .before .before .before .pre .1) (l .inv .4)
+        Y .written (G .0) ∙ next-trail (a .g) start table (w .accepted) place k (l .inv .0) (G .0) (l .before) (l .at) (l .inv .3) (a .writes) (a .trail .now) (l .trail) (c .before .before .before .before .before .before .before .before .before .before .before .before .before .before .before .before .before .before .before .before .before .before .pre .1) (l .inv .7) (l .inv .4)
             ∙ ap (λ (x : List ℕ). cond (a .writes) (front x (a .trail .now)) (a .trail .now)) whole,
       ),
     )
@@ -252,7 +255,7 @@ returns-3 c =
       (N, G .1 .each .inOrder),
       (
         ap (λ (n : ℕ). l .at + n) (Y .long (G .0)) ∙ next-long (a .g) start table (w .accepted) place k (l .inv .0) (G .0) (l .before) (l .at) (l .inv .3) ∙ ap length whole,
-        Y .written (G .0) ∙ next-trail (a .g) start table (w .accepted) place k (l .inv .0) (G .0) (l .before) (l .at) (l .inv .3) (a .writes) (a .trail .now) (l .trail) (c .before .before .before .before .before .before .before .before .before .before .before .before .before .before .before .before .before .before .before .before .before .before .pre .1) (l .inv .4)
+        Y .written (G .0) ∙ next-trail (a .g) start table (w .accepted) place k (l .inv .0) (G .0) (l .before) (l .at) (l .inv .3) (a .writes) (a .trail .now) (l .trail) (c .before .before .before .before .before .before .before .before .before .before .before .before .before .before .before .before .before .before .before .before .before .before .pre .1) (l .inv .7) (l .inv .4)
             ∙ ap (λ (x : List ℕ). cond (a .writes) (front x (a .trail .now)) (a .trail .now)) whole,
       ),
     )
