@@ -3,7 +3,7 @@
 use mathlib.Core.Bool.{Bool·beq, cond}
 use mathlib.Core.List.{List, [], _∷_, _++_}
 use mathlib.Core.Path.{_≡_}
-use Prim.Native.Nat.{ℕ, zero, suc, _≤_}
+use Prim.Native.Nat.{ℕ, zero, suc, _≤_, _<_}
 use lib.Dec.{eqb}
 use lib.ListN.{length, replicate}
 use Rattle.combinatorics.specs.Front.{front}
@@ -45,9 +45,13 @@ recordFrom T U T' U' y z =
 abbrev pub firstRecord : ℕ → List ℕ
 firstRecord y = 1 ∷ bytes16 y
 
+-- a record has 3 bytes, or 5 to 7
+abbrev pub HasLength : ℕ → Type 0
+HasLength n = (3 ≤ n) × (n ≤ 7) × (n < 5 → n ≡ 3)
+
 -- the bytes of a record, in its array
 pub record IsRecord (bytes : List ℕ) (r : Record) : Type 0 where
   pub are : r .bytes ≡ front bytes (replicate 8 0)
   pub long : r .length ≡ length bytes
-  pub short : length bytes ≤ 8
+  pub sized : HasLength (length bytes)
   pub eight : length (r .bytes) ≡ 8

@@ -7,7 +7,7 @@ ghost use lib.ListN.{drop, length, take};
 ghost use lib.Seq.{paste};
 ghost use Rattle.trail.specs.Trail.{begins};
 ghost use Rattle.records.specs.Records.{differing, exchangedRecord, joinedRecord, leftRecord, recordFrom};
-ghost use Rattle.records.specs.Records.{firstRecord, IsRecord};
+ghost use Rattle.records.specs.Records.{firstRecord, HasLength, IsRecord};
 use moves::has;
 
 // T and U of a place, as masks.
@@ -76,13 +76,13 @@ fn exchanged(before: u16, after: u16, come: usize, gone: usize) -> Record
     let b = high_byte(come);
     let c = low_byte(gone);
     let d = high_byte(gone);
-    let h = difference(before, after);
-    if h == 16 {
+    if alike(before, after) {
         return Record {
             bytes: [67, a, b, c, d, 1, 0, 0],
             length: 6,
         };
     }
+    let h = difference(before, after);
     let i = from_one(h);
     if has(after, h) {
         return Record {
@@ -104,7 +104,7 @@ fn joined(before: u16, after: u16, h: usize, come: usize) -> Record
     let a = low_byte(come);
     let b = high_byte(come);
     let i = from_one(h);
-    if difference(before, after) == 16 {
+    if alike(before, after) {
         return Record {
             bytes: [69, a, b, i, 4, 0, 0, 0],
             length: 5,
@@ -124,7 +124,7 @@ fn left(before: u16, after: u16, h: usize, gone: usize) -> Record
     let a = low_byte(gone);
     let b = high_byte(gone);
     let i = from_one(h);
-    if difference(before, after) == 16 {
+    if alike(before, after) {
         return Record {
             bytes: [74, a, b, i, 7, 0, 0, 0],
             length: 5,
@@ -141,10 +141,10 @@ pub fn record_of(before: Sets, after: Sets, come: usize, gone: usize) -> Record
     requires { ⌜ (come < 65536) × (gone < 65536) ⌝ }
     ensures { λ r. ⌜ IsRecord (recordFrom (before .t) (before .u) (after .t) (after .u) come gone) r ⌝ }
 {
-    let h = difference(before.t, after.t);
-    if h == 16 {
+    if alike(before.t, after.t) {
         return exchanged(before.u, after.u, come, gone);
     }
+    let h = difference(before.t, after.t);
     if has(after.t, h) {
         return joined(before.u, after.u, h, come);
     }
@@ -181,24 +181,34 @@ pub fn first_record(come: usize) -> Record
     }
 }
 
-// The record's bytes, stored from a position of the trail on.
+// The record's bytes, stored from a position of the trail on: each by its number, so that the record needs no array.
 pub fn put(trail: &mut [u8], at: usize, made: Record)
-    requires { ⌜ (at + made .length ≤ length (now trail)) × (made .length ≤ 8) × (length (made .bytes) ≡ 8) ⌝ }
+    requires { ⌜ (at + made .length ≤ length (now trail)) × HasLength (made .length) × (length (made .bytes) ≡ 8) ⌝ }
     ensures { λ _. ⌜ now (trail .exit) ≡ paste (now (trail .entry)) at (made .bytes) (made .length) ⌝ }
 {
     let bytes = made.bytes;
     let n = made.length;
-    let mut k: usize = 0;
-    while k < n {
-        let x = bytes[k];
-        trail[at + k] = x;
-        k += 1;
+    trail[at] = bytes[0];
+    trail[at + 1] = bytes[1];
+    trail[at + 2] = bytes[2];
+    if n < 5 {
+        return;
     }
+    trail[at + 3] = bytes[3];
+    trail[at + 4] = bytes[4];
+    if n < 6 {
+        return;
+    }
+    trail[at + 5] = bytes[5];
+    if n < 7 {
+        return;
+    }
+    trail[at + 6] = bytes[6];
 }
 
-// The bytes of the trail from a position on begin with the record's.
+// The bytes of the trail from a position on begin with the record's: each by its number, as they are stored.
 pub fn stands(trail: &[u8], at: usize, made: Record) -> bool
-    requires { ⌜ (at ≤ length (now trail)) × (made .length ≤ 8) × (length (made .bytes) ≡ 8) ⌝ }
+    requires { ⌜ (at ≤ length (now trail)) × HasLength (made .length) × (length (made .bytes) ≡ 8) ⌝ }
     ensures { λ r. ⌜ r ≡ begins (take (made .length) (made .bytes)) (drop at (now (trail .entry))) ⌝ }
 {
     let bytes = made.bytes;
@@ -206,13 +216,32 @@ pub fn stands(trail: &[u8], at: usize, made: Record) -> bool
     if trail.len() - at < n {
         return false;
     }
-    let mut k: usize = 0;
-    while k < n {
-        let x = bytes[k];
-        if trail[at + k] != x {
-            return false;
-        }
-        k += 1;
+    if trail[at] != bytes[0] {
+        return false;
     }
-    true
+    if trail[at + 1] != bytes[1] {
+        return false;
+    }
+    if trail[at + 2] != bytes[2] {
+        return false;
+    }
+    if n < 5 {
+        return true;
+    }
+    if trail[at + 3] != bytes[3] {
+        return false;
+    }
+    if trail[at + 4] != bytes[4] {
+        return false;
+    }
+    if n < 6 {
+        return true;
+    }
+    if trail[at + 5] != bytes[5] {
+        return false;
+    }
+    if n < 7 {
+        return true;
+    }
+    trail[at + 6] == bytes[6]
 }

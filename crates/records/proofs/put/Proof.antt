@@ -1,73 +1,141 @@
--- `records::put` meets its contract. The invariant: the first k bytes are stored. The measure: the bytes left. Assumes nothing.
-use mathlib.Core.Path.{_≡_, refl}
-use Prim.Native.Nat.{_+_, _-_, _≤_}
-use lib.ListN.{length, length-set}
-use lib.Seq.{paste, paste-zero, paste-suc}
-use native.Mathlib.Numerals.{add-one}
+-- `records::put` meets its contract: the bytes are stored one by one. Assumes nothing.
+use mathlib.Core.Path.{_≡_}
+use borrow.Author.Needs.{needs}
+use lib.ListN.{length-set}
 use native.Mathlib.Omega.{arith}
+use Rattle.records.proofs.Stored.{stored-3, stored-5, stored-6, stored-7}
 use Rattle.records.proofs.put.Statement.{statement}
 use Rattle.records.proofs.put.Tie as tie
 
-abbrev Inv-loop : tie.InvT-loop
-Inv-loop trail₀ at bytes n k₀ trail k =
-    (trail ≡ paste trail₀ at bytes k) × (k ≤ n) × (length trail ≡ length trail₀) × (n ≤ 8) × (at + n ≤ length trail₀) × (length bytes ≡ 8)
+array-read-trail : tie.Need-array-read-trail
+array-read-trail c = search needs
 
-abbrev μ-loop : tie.MeasureT-loop
-μ-loop trail₀ at bytes n k₀ trail k = n - k
+slice-write-trail : tie.Need-slice-write-trail
+slice-write-trail c = search needs
 
-loop-holds : tie.Need-loop-holds Inv-loop μ-loop
-loop-holds c =
-    let a = c .before .args in
-    (paste-zero (a .trail .now) (a .at) (a .made .bytes), omega arith, refl, c .before .pre .1, c .before .pre .0, c .before .pre .2)
+array-read-trail-2 : tie.Need-array-read-trail-2
+array-read-trail-2 c = search needs
 
-array-read-x : tie.Need-array-read-x Inv-loop μ-loop
-array-read-x c = omega arith
+add-trail : tie.Need-add-trail
+add-trail c = search needs
 
-add-trail : tie.Need-add-trail Inv-loop μ-loop
-add-trail c = omega arith
+slice-write-trail-2 : tie.Need-slice-write-trail-2
+slice-write-trail-2 c = simp length-set (omega (arith, c .before .pre .0, c .before .pre .1))
 
-slice-write-trail : tie.Need-slice-write-trail Inv-loop μ-loop
-slice-write-trail c = omega arith
+array-read-trail-3 : tie.Need-array-read-trail-3
+array-read-trail-3 c = search needs
 
-add-k : tie.Need-add-k Inv-loop μ-loop
-add-k c = omega arith
+add-trail-2 : tie.Need-add-trail-2
+add-trail-2 c = search needs
 
-loop-less : tie.Need-loop-less Inv-loop μ-loop
-loop-less c = omega arith
+slice-write-trail-3 : tie.Need-slice-write-trail-3
+slice-write-trail-3 c = simp length-set (omega (arith, c .before .pre .0, c .before .pre .1))
 
-loop-again : tie.Need-loop-again Inv-loop μ-loop
-loop-again c =
-    let a = c .before .before .before .args in
-    let l = c .before .loop in (
-      rw (l .inv .0, add-one (l .k)) (paste-suc (a .trail .now) (a .at) (a .made .bytes) (l .k) 0 (omega arith) (omega arith)),
-      omega arith,
-      simp length-set (l .inv .2),
-      l .inv .3,
-      l .inv .4,
-      l .inv .5,
-    )
+same-length : tie.Need-same-length
+same-length c = simp length-set
 
-same-length : tie.Need-same-length Inv-loop μ-loop
-same-length c = omega arith
-
-returns : tie.Need-returns Inv-loop μ-loop
+returns : tie.Need-returns
 returns c =
-    let l = c .before .loop in
-    let all-n : c .before .before .before .args .made .length ≡ l .k = omega arith in
-    rw all-n (l .inv .0)
+    let a = c .before .before .args in
+    let w = c .before .before .pre in
+    let n : a .made .length ≡ 3 = w .1 .2 (c .if1 .taken) in
+    rw n (stored-3 (a .trail .now) (a .at) (a .made .bytes) (w .2) (omega (arith, w .0)))
+
+array-read-trail-4 : tie.Need-array-read-trail-4
+array-read-trail-4 c = search needs
+
+add-trail-3 : tie.Need-add-trail-3
+add-trail-3 c = search needs
+
+slice-write-trail-4 : tie.Need-slice-write-trail-4
+slice-write-trail-4 c = simp length-set (omega (arith, c .before .before .pre .0, c .before .before .pre .1))
+
+array-read-trail-5 : tie.Need-array-read-trail-5
+array-read-trail-5 c = search needs
+
+add-trail-4 : tie.Need-add-trail-4
+add-trail-4 c = search needs
+
+slice-write-trail-5 : tie.Need-slice-write-trail-5
+slice-write-trail-5 c = simp length-set (omega (arith, c .before .before .pre .0, c .before .before .pre .1))
+
+same-length-2 : tie.Need-same-length-2
+same-length-2 c = simp length-set
+
+returns-2 : tie.Need-returns-2
+returns-2 c =
+    let a = c .before .before .before .args in
+    let w = c .before .before .before .pre in
+    let n : a .made .length ≡ 5 = omega (arith, c .if2 .taken, c .before .if1 .left) in
+    rw n (stored-5 (a .trail .now) (a .at) (a .made .bytes) (w .2) (omega (arith, w .0)))
+
+array-read-trail-6 : tie.Need-array-read-trail-6
+array-read-trail-6 c = search needs
+
+add-trail-5 : tie.Need-add-trail-5
+add-trail-5 c = search needs
+
+slice-write-trail-6 : tie.Need-slice-write-trail-6
+slice-write-trail-6 c = simp length-set (omega (arith, c .before .before .before .pre .0, c .before .before .before .pre .1))
+
+same-length-3 : tie.Need-same-length-3
+same-length-3 c = simp length-set
+
+returns-3 : tie.Need-returns-3
+returns-3 c =
+    let a = c .before .before .before .before .args in
+    let w = c .before .before .before .before .pre in
+    let n : a .made .length ≡ 6 = omega (arith, c .if3 .taken, c .before .if2 .left) in
+    rw n (stored-6 (a .trail .now) (a .at) (a .made .bytes) (w .2) (omega (arith, w .0)))
+
+array-read-trail-7 : tie.Need-array-read-trail-7
+array-read-trail-7 c = search needs
+
+add-trail-6 : tie.Need-add-trail-6
+add-trail-6 c = search needs
+
+slice-write-trail-7 : tie.Need-slice-write-trail-7
+slice-write-trail-7 c = simp length-set (omega (arith, c .before .before .before .before .pre .0, c .before .before .before .before .pre .1))
+
+same-length-4 : tie.Need-same-length-4
+same-length-4 c = simp length-set
+
+returns-4 : tie.Need-returns-4
+returns-4 c =
+    let a = c .before .before .before .before .args in
+    let w = c .before .before .before .before .pre in
+    let n : a .made .length ≡ 7 = omega (arith, c .if3 .left, w .1 .1) in
+    rw n (stored-7 (a .trail .now) (a .at) (a .made .bytes) (w .2) (omega (arith, w .0)))
 
 pub put-spec : {M : Type 1} → statement M
 put-spec =
     tie.close
     (tie.spec
-    Inv-loop
-    μ-loop
-    loop-holds
-    array-read-x
-    add-trail
+    array-read-trail
     slice-write-trail
-    add-k
-    loop-less
-    loop-again
+    array-read-trail-2
+    add-trail
+    slice-write-trail-2
+    array-read-trail-3
+    add-trail-2
+    slice-write-trail-3
     same-length
-    returns)
+    returns
+    array-read-trail-4
+    add-trail-3
+    slice-write-trail-4
+    array-read-trail-5
+    add-trail-4
+    slice-write-trail-5
+    same-length-2
+    returns-2
+    array-read-trail-6
+    add-trail-5
+    slice-write-trail-6
+    same-length-3
+    returns-3
+    array-read-trail-7
+    add-trail-6
+    slice-write-trail-7
+    same-length-4
+    returns-4)

@@ -1,45 +1,63 @@
 -- `records::record_of` meets its contract: what T does tells which of three ways the record is made. Assumes nothing.
 use mathlib.Core.Path.{sym, _∙_}
-use borrow.Author.Tests.{eq-eqb, ne-eqb}
+use native.Mathlib.Omega.{arith}
+use Prim.Native.Nat.{_<_}
+use borrow.Author.Tests.{eqb-false}
 use Rattle.records.specs.Records.{recordFrom}
 use borrow.Author.Needs.{needs}
 use Rattle.records.proofs.record_of.Statement.{statement}
 use Rattle.records.proofs.record_of.Tie as tie
 
-difference-requires : tie.Need-difference-requires
-difference-requires c κs = search needs
+alike-requires : tie.Need-alike-requires
+alike-requires c κs = search needs
 
 exchanged-requires : tie.Need-exchanged-requires
 exchanged-requires c κs = search needs
 
 returns : tie.Need-returns
 unfolding recordFrom
-returns c = rw (← c .before .before .difference .ensures .0, eq-eqb (c .before .before .difference .result) 16 (c .before .if1 .taken)) (c .exchanged .ensures)
+returns c = rw (sym (c .before .before .alike .ensures) ∙ c .before .if1 .taken) (c .exchanged .ensures)
+
+difference-requires : tie.Need-difference-requires
+difference-requires c κs = search needs
+
+-- the sets differ at an index
+low : (c : tie.After-difference) → c .difference .result < 16
+low c =
+    let d = rw (← c .difference .ensures .0) at (sym (c .before .before .alike .ensures) ∙ c .before .if1 .left) in
+    omega (arith, c .difference .ensures .1, eqb-false (c .difference .result) 16 d)
 
 has-requires : tie.Need-has-requires
-has-requires c κs = search needs
+has-requires c κs = low c
 
 joined-requires : tie.Need-joined-requires
-joined-requires c κs = search needs
+joined-requires c κs = (low (c .before .before), c .before .before .before .before .before .pre .0)
 
 returns-2 : tie.Need-returns-2
 unfolding recordFrom
-returns-2 c = rw (← c .before .before .before .before .difference .ensures .0, ne-eqb (c .before .before .before .before .difference .result) 16 (c .before .before .before .if1 .left), sym (c .before .before .has .ensures) ∙ c .before .if2 .taken) (c .joined .ensures)
+returns-2 c =
+    let h = c .before .before .before .difference .ensures .0 in
+    let d = rw (← h) at (sym (c .before .before .before .before .before .alike .ensures) ∙ c .before .before .before .before .if1 .left) in
+    rw (← h, d, sym (c .before .before .has .ensures) ∙ c .before .if2 .taken) (c .joined .ensures)
 
 left-requires : tie.Need-left-requires
-left-requires c κs = search needs
+left-requires c κs = (low (c .before .before), c .before .before .before .before .before .pre .1)
 
 returns-3 : tie.Need-returns-3
 unfolding recordFrom
-returns-3 c = rw (← c .before .before .before .before .difference .ensures .0, ne-eqb (c .before .before .before .before .difference .result) 16 (c .before .before .before .if1 .left), sym (c .before .before .has .ensures) ∙ c .before .if2 .left) (c .left .ensures)
+returns-3 c =
+    let h = c .before .before .before .difference .ensures .0 in
+    let d = rw (← h) at (sym (c .before .before .before .before .before .alike .ensures) ∙ c .before .before .before .before .if1 .left) in
+    rw (← h, d, sym (c .before .before .has .ensures) ∙ c .before .if2 .left) (c .left .ensures)
 
 pub record-of-spec : {M : Type 1} → statement M
 record-of-spec =
     tie.close
     (tie.spec
-    difference-requires
+    alike-requires
     exchanged-requires
     returns
+    difference-requires
     has-requires
     joined-requires
     returns-2

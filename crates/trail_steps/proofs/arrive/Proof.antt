@@ -19,7 +19,7 @@ record-of-requires : tie.Need-record-of-requires
 record-of-requires c κs = (rw (c .come-in .ensures) (c .before .before .before .pre .1 .come), c .before .before .before .pre .1 .out)
 
 stands-requires : tie.Need-stands-requires
-stands-requires c κs = let R = c .record-of .ensures in (c .before .before .before .before .pre .1 .low, omega (arith, R .long, R .short), R .eight)
+stands-requires c κs = let R = c .record-of .ensures in (c .before .before .before .before .pre .1 .low, rw (R .long) (R .sized), R .eight)
 
 -- the record's bytes are compared
 compared : (c : tie.After-stands) → c .stands .result

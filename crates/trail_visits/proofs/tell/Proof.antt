@@ -22,7 +22,7 @@ put-requires : tie.Need-put-requires
 put-requires c κs =
     let w = c .before .before .before .before .pre .1 (not-false _ (c .before .before .if1 .left)) in
     let R = c .before .record-here .ensures in
-    (omega (arith, R .long, w .room), omega (arith, R .long, R .short), R .eight)
+    (omega (arith, R .long, w .room), rw (R .long) (R .sized), R .eight)
 
 gone-requires : tie.Need-gone-requires
 gone-requires c κs = c .before .before .before .before .before .before .before .pre .0

@@ -48,7 +48,7 @@ first-record-requires c κs =
     omega (arith, c .position-in .ensures, position-low (w .settled) _ (v-reads (a .g) made first (w .settled) (a .previous .now) (a .next .now) (a .sizes .now) (replicate 16 0) (w .isRound) (w .firstLength) (c .before .before .before .before .before .before .before .before .begin .result) (c .before .before .before .before .before .before .before .before .begin .ensures) (w .below) .onGrid))
 
 stands-requires : tie.Need-stands-requires
-stands-requires c κs = let R = c .first-record .ensures in (omega arith, omega (arith, R .long, R .short), R .eight)
+stands-requires c κs = let R = c .first-record .ensures in (omega arith, rw (R .long) (R .sized), R .eight)
 
 refused-requires : tie.Need-refused-requires
 refused-requires c κs = search needs
