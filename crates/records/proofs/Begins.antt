@@ -1,6 +1,7 @@
 -- Whether bytes begin with those of a record, byte by byte. Assumes nothing.
 use mathlib.Core.Bool.{Bool, true, false, _&&_}
 use mathlib.Core.List.{List, [], _∷_}
+use mathlib.Core.Logic.{⊎-elim}
 use mathlib.Core.Path.{_≡_, refl, sym, ap, _∙_}
 use Prim.Native.Nat.{ℕ, zero, suc, _+_, _-_, _≤_, _<_}
 use borrow.Author.Tests.{eq-eqb, ne-eqb}
@@ -8,6 +9,7 @@ use lib.Dec.{eqb}
 use lib.ListN.{drop, getD, length, length-drop, take}
 use lib.Seq.{getD-drop, getD-take, length-take-le}
 use native.Mathlib.Omega.{arith}
+use Rattle.combinatorics.proofs.Basics.{same-or}
 use Rattle.trail.specs.Trail.{begins}
 
 -- where there are too few
@@ -75,3 +77,11 @@ module _ (bytes trail : List ℕ) (at n : ℕ) (fits : at + n ≤ length trail) 
       → (3 < n → getD trail (at + 3) 0 ≡ getD bytes 3 0) → (4 < n → getD trail (at + 4) 0 ≡ getD bytes 4 0)
       → (5 < n → getD trail (at + 5) 0 ≡ getD bytes 5 0) → (6 < n → getD trail (at + 6) 0 ≡ getD bytes 6 0) → begins (take n bytes) (drop at trail) ≡ true
   all-same m a b c d e f g = together (each-below (λ (k : ℕ). getD trail (at + k) 0 ≡ getD bytes k 0) n m (first-at ∙ a) b c d e f g)
+
+  -- where one of two bytes is another
+  pub two-apart : (k : ℕ) → suc k < n → (getD trail (at + k) 0 ≡ getD bytes k 0 → getD trail (at + k + 1) 0 ≡ getD bytes (suc k) 0 → ⊥)
+      → begins (take n bytes) (drop at trail) ≡ false
+  two-apart k l ne =
+      let z : at + k + 1 ≡ at + suc k = omega arith in
+      ⊎-elim (λ e. apart (suc k) l (λ f. ne e (ap (λ (i : ℕ). getD trail i 0) z ∙ f))) (λ d. apart k (omega arith) d)
+      (same-or (getD trail (at + k) 0) (getD bytes k 0))

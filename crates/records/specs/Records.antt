@@ -1,9 +1,9 @@
 -- A record's bytes by masks: T and U at the place before and at the place. A mask tells which index its set gains or loses. The promises of the writer
 -- and the reader cite trail/specs; proofs/ shows that these bytes are theirs. Assumes nothing.
-use mathlib.Core.Bool.{Bool·beq, cond}
+use mathlib.Core.Bool.{Bool, true, false, Bool·beq, cond}
 use mathlib.Core.List.{List, [], _∷_, _++_}
 use mathlib.Core.Path.{_≡_}
-use Prim.Native.Nat.{ℕ, zero, suc, _≤_, _<_}
+use Prim.Native.Nat.{ℕ, zero, suc, _/_, _%_, _≤_, _<_}
 use lib.Dec.{eqb}
 use lib.ListN.{length, replicate}
 use Rattle.combinatorics.specs.Front.{front}
@@ -20,12 +20,16 @@ differingFrom a b (suc n) h = let later = differingFrom a b n (suc h) in cond (B
 abbrev pub differing : ℕ → ℕ → ℕ
 differing a b = differingFrom a b 16 0
 
+-- T and U are kept
+abbrev pub keptRecord : ℕ → ℕ → List ℕ
+keptRecord y z = 67 ∷ bytes16 y ++ bytes16 z ++ (1 ∷ [])
+
 -- T is kept: the point with position y comes in and that with position z goes out
 abbrev pub exchangedRecord : ℕ → ℕ → ℕ → ℕ → List ℕ
 exchangedRecord U U' y z =
     let h = differing U U' in
     cond (eqb h 16)
-    (67 ∷ bytes16 y ++ bytes16 z ++ (1 ∷ []))
+    (keptRecord y z)
     (cond (bit U' h) (83 ∷ bytes16 y ++ bytes16 z ++ (suc h ∷ 2 ∷ [])) (99 ∷ bytes16 y ++ bytes16 z ++ (suc h ∷ 3 ∷ [])))
 
 -- index h comes into T
@@ -55,3 +59,8 @@ pub record IsRecord (bytes : List ℕ) (r : Record) : Type 0 where
   pub long : r .length ≡ length bytes
   pub sized : HasLength (length bytes)
   pub eight : length (r .bytes) ≡ 8
+
+-- whether two bytes are those of a number, the low byte first
+abbrev pub WordStands : ℕ → ℕ → ℕ → Bool → Type 0
+WordStands low high n true = (low ≡ n % 256) × (high ≡ n / 256)
+WordStands low high n false = low ≡ n % 256 → high ≡ n / 256 → ⊥

@@ -3,11 +3,11 @@
 ghost use mathlib.Core.Path.{_≡_};
 ghost use Prim.Native.Nat.{ℕ, suc, _+_, _/_, _%_, _≤_, _<_};
 ghost use lib.Dec.{eqb};
-ghost use lib.ListN.{drop, length, take};
+ghost use lib.ListN.{drop, getD, length, take};
 ghost use lib.Seq.{paste};
 ghost use Rattle.trail.specs.Trail.{begins};
 ghost use Rattle.records.specs.Records.{differing, exchangedRecord, joinedRecord, leftRecord, recordFrom};
-ghost use Rattle.records.specs.Records.{firstRecord, HasLength, IsRecord};
+ghost use Rattle.records.specs.Records.{firstRecord, keptRecord, HasLength, IsRecord, WordStands};
 use moves::has;
 
 // T and U of a place, as masks.
@@ -244,4 +244,59 @@ pub fn stands(trail: &[u8], at: usize, made: Record) -> bool
         return true;
     }
     trail[at + 6] == bytes[6]
+}
+
+fn wide(x: u8) -> usize
+    ensures { λ r. ⌜ (r ≡ x) × (r ≤ 255) ⌝ }
+{
+    x as usize
+}
+
+// A number stands at a position of the trail, in 16 bits.
+fn word_stands(trail: &[u8], at: usize, n: usize) -> bool
+    requires { ⌜ at + 2 ≤ length (now trail) ⌝ }
+    ensures { λ r. ⌜ WordStands (getD (now (trail .entry)) at 0) (getD (now (trail .entry)) (at + 1) 0) n r ⌝ }
+{
+    wide(trail[at]) + 256 * wide(trail[at + 1]) == n
+}
+
+// The bytes of the trail from a position on begin with the record of rule 1, which most places of a long path have.
+fn exchange_stands(trail: &[u8], at: usize, come: usize, gone: usize) -> bool
+    requires { ⌜ at ≤ length (now trail) ⌝ }
+    ensures { λ r. ⌜ r ≡ begins (keptRecord come gone) (drop at (now (trail .entry))) ⌝ }
+{
+    if trail.len() - at < 6 {
+        return false;
+    }
+    if trail[at] != 67 {
+        return false;
+    }
+    if !word_stands(trail, at + 1, come) {
+        return false;
+    }
+    if !word_stands(trail, at + 3, gone) {
+        return false;
+    }
+    trail[at + 5] == 1
+}
+
+// The bytes of the trail from a position on begin with the record of a place behind the first.
+pub fn change_stands(
+    trail: &[u8],
+    at: usize,
+    before: Sets,
+    after: Sets,
+    come: usize,
+    gone: usize,
+) -> bool
+    requires { ⌜ (at ≤ length (now trail)) × (come < 65536) × (gone < 65536) ⌝ }
+    ensures { λ r. ⌜ r ≡ begins (recordFrom (before .t) (before .u) (after .t) (after .u) come gone)
+        (drop at (now (trail .entry))) ⌝ }
+{
+    if alike(before.t, after.t) {
+        if alike(before.u, after.u) {
+            return exchange_stands(trail, at, come, gone);
+        }
+    }
+    stands(trail, at, record_of(before, after, come, gone))
 }

@@ -5,12 +5,9 @@ use mathlib.Core.Path.{_≡_, refl, sym, ap, _∙_}
 use Prim.Native.Nat.{ℕ, suc, _+_, _-_, _*_, _/_, _%_, _≤_, _<_}
 use borrow.Author.Tests.{eq-eqb, le-leb, lt-leb, ne-eqb}
 use lib.Dec.{eqb, leb}
-use lib.ListN.{drop, getD, length, length-drop, replicate, take}
+use lib.ListN.{drop, getD, length, length-drop}
 use lib.Seq.{getD-drop}
 use native.Mathlib.Omega.{arith}
-use Rattle.combinatorics.proofs.Fronts.{front-taken}
-use Rattle.records.specs.Records.{IsRecord}
-use Rattle.records.specs.declared.Record.{Record}
 use Rattle.rules.specs.Step.{State}
 use Rattle.trail_steps.specs.Ways.{joining, leaving, wayOf}
 use Rattle.trail_steps.specs.declared.Way.{Way}
@@ -58,7 +55,3 @@ module _ (m n : ℕ) (s : State) (trail : List ℕ) (at : ℕ) where
       unfolding wayOf
       way-into l b e =
           rw (other, same-byte, ne-eqb (byte / 2 % 2) 1 into, le-leb 4 (length bytes) (omega (arith, long)), getD-drop at trail 3 0, ← e)
-
--- a record's bytes, as its array has them
-pub taken-record : {bytes : List ℕ} {r : Record} → IsRecord bytes r → take (r .length) (r .bytes) ≡ bytes
-taken-record {bytes} R = rw (R .are, R .long) (front-taken bytes (replicate 8 0))

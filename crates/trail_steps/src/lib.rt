@@ -21,8 +21,8 @@ use moves::leave;
 use moves::position_at;
 use positions::ENTRIES;
 use records::Sets;
-use records::record_of;
-use records::stands;
+use records::change_stands;
+use records::length_of;
 
 // What a record names: the point that leaves, by its number; or the index that joins T.
 pub enum Way {
@@ -248,11 +248,10 @@ fn arrive(
         s,
     );
     let after = Sets { t: s.t, u: s.u };
-    let made = record_of(before, after, come, gone);
-    let bytes = made.length;
-    if !stands(trail, at, made) {
+    if !change_stands(trail, at, before, after, come, gone) {
         return Next::Nowhere;
     }
+    let bytes = length_of(before, after);
     if s.rule < 6 {
         let i = s.active;
         marks[i] = come as u32 * 256;

@@ -1,33 +1,24 @@
--- `trail_steps::arrive` meets its contract: the record is made and compared, and the mark stored. Assumes nothing.
-use mathlib.Core.List.{List, []}
-use mathlib.Core.Path.{_≡_, refl, sym, ap, _∙_}
-use Prim.Native.Nat.{ℕ}
+-- `trail_steps::arrive` meets its contract: the record is compared, and the mark stored. Assumes nothing.
+use mathlib.Core.Path.{refl, sym, _∙_}
 use borrow.Author.Needs.{needs}
 use borrow.Author.Tests.{le-ltb, lt-ltb, not-false, not-true}
-use lib.ListN.{drop, length}
 use native.Mathlib.Omega.{arith}
-use Rattle.records.specs.Records.{recordFrom}
-use Rattle.trail.specs.Trail.{begins}
-use Rattle.trail_steps.proofs.Ways.{taken-record}
 use Rattle.trail_steps.proofs.arrive.Statement.{statement}
 use Rattle.trail_steps.proofs.arrive.Tie as tie
 
 come-in-requires : tie.Need-come-in-requires
 come-in-requires c κs = c .before .before .pre .0
 
-record-of-requires : tie.Need-record-of-requires
-record-of-requires c κs = (rw (c .come-in .ensures) (c .before .before .before .pre .1 .come), c .before .before .before .pre .1 .out)
-
-stands-requires : tie.Need-stands-requires
-stands-requires c κs = let R = c .record-of .ensures in (c .before .before .before .before .pre .1 .low, rw (R .long) (R .sized), R .eight)
-
--- the record's bytes are compared
-compared : (c : tie.After-stands) → c .stands .result
-    ≡ begins (recordFrom (c .before .before .before .before .before .args .before .t) (c .before .before .before .before .before .args .before .u) (c .before .before .before .before .before .args .s .t) (c .before .before .before .before .before .args .s .u) (c .before .before .come-in .result) (c .before .before .before .before .before .args .gone)) (drop (c .before .before .before .before .before .args .at) (c .before .before .before .before .before .args .trail .now))
-compared c = c .stands .ensures ∙ ap (λ (r : List ℕ). begins r (drop (c .before .before .before .before .before .args .at) (c .before .before .before .before .before .args .trail .now))) (taken-record (c .before .record-of .ensures))
+change-stands-requires : tie.Need-change-stands-requires
+change-stands-requires c κs =
+    let w = c .before .before .before .pre .1 in
+    (w .low, rw (c .come-in .ensures) (w .come), w .out)
 
 returns : tie.Need-returns
-returns c = (rw (← c .before .before .before .come-in .ensures) (sym (compared (c .before)) ∙ not-true _ (c .if1 .taken)), refl)
+returns c = (rw (← c .before .before .come-in .ensures) (sym (c .before .change-stands .ensures) ∙ not-true _ (c .if1 .taken)), refl)
+
+length-of-requires : tie.Need-length-of-requires
+length-of-requires c κs = search needs
 
 cast-marks : tie.Need-cast-marks
 cast-marks c = omega (arith, c .before .before .before .before .before .come-in .ensures, c .before .before .before .before .before .before .before .before .pre .1 .come)
@@ -44,27 +35,27 @@ element-write-marks c = let R = c .before .before .before .before .before .befor
 returns-2 : tie.Need-returns-2
 returns-2 c =
     let e = c .before .before .before .before .before .come-in .ensures in
-    let stand = sym (compared (c .before .before .before)) ∙ not-false _ (c .before .before .if1 .left) in
-    let R = c .before .before .before .before .record-of .ensures in
+    let stand = sym (c .before .before .before .before .change-stands .ensures) ∙ not-false _ (c .before .before .before .if1 .left) in
+    let long = c .before .before .length-of .ensures (c .before .before .before .before .before .come-in .result) (c .before .before .before .before .before .before .before .before .args .gone) in
     let l = lt-ltb (c .before .before .before .before .before .before .before .before .args .s .rule) 6 (c .if2 .taken) in
     let f = rw l at e in
-    (rw (← e) stand, refl, R .long ∙ (rw e), rw (l, f))
+    (rw (← e) stand, refl, long ∙ (rw e), rw (l, f))
 
 returns-3 : tie.Need-returns-3
 returns-3 c =
     let e = c .before .before .before .before .before .come-in .ensures in
-    let stand = sym (compared (c .before .before .before)) ∙ not-false _ (c .before .before .if1 .left) in
-    let R = c .before .before .before .before .record-of .ensures in
-    (rw (← e) stand, refl, R .long ∙ (rw e), rw (le-ltb (c .before .before .before .before .before .before .before .before .args .s .rule) 6 (c .if2 .left)))
+    let stand = sym (c .before .before .before .before .change-stands .ensures) ∙ not-false _ (c .before .before .before .if1 .left) in
+    let long = c .before .before .length-of .ensures (c .before .before .before .before .before .come-in .result) (c .before .before .before .before .before .before .before .before .args .gone) in
+    (rw (← e) stand, refl, long ∙ (rw e), rw (le-ltb (c .before .before .before .before .before .before .before .before .args .s .rule) 6 (c .if2 .left)))
 
 pub arrive-spec : {M : Type 1} → statement M
 arrive-spec =
     tie.close
     (tie.spec
     come-in-requires
-    record-of-requires
-    stands-requires
+    change-stands-requires
     returns
+    length-of-requires
     cast-marks
     mul-marks
     mul-marks-2

@@ -17,7 +17,7 @@ use Rattle.place.specs.Places.{Simplex}
 use Rattle.trail.specs.Record.{startRecord}
 use Rattle.trail.specs.Trail.{Reading as TrailReading, begins, placesFrom}
 use Rattle.trail_steps.proofs.Arrived.{position-low}
-use Rattle.trail_steps.proofs.Ways.{taken-record}
+use Rattle.records.proofs.Told.{taken-record}
 use Rattle.trail_steps.specs.Ways.{problemBy}
 use Rattle.trail_reader.specs.Reading.{caseOf, numbersOf}
 use Rattle.trail_reader.proofs.Begins.{v-marks, v-position, v-read, v-reads}
