@@ -43,7 +43,8 @@ module _ (table old : List ℕ) (n : ℕ) (C : CanRead table old n) where
       put-more x e = record {
         long = length-set new k x ∙ P .long;
         each = λ j m. ⊎-elim
-            (λ (q : j ≡ k). rw q (getD-set-same new k x 0 (omega (arith, P .long, C .few)) ∙ e ∙ ap (read table) (P .rest k (omega arith))))
+            (λ (q : j ≡ k). rw q (getD-set-same new k x 0 (omega (arith, P .long, C .few)) ∙ e ∙ ap (read table)
+            (P .rest k (omega arith))))
             (λ (q : j ≡ k → ⊥). getD-set-other new k j x 0 q ∙ P .each j (omega (arith, q))) (same-or j k);
         rest = λ j m. getD-set-other new k j x 0 (λ q. omega arith) ∙ P .rest j (omega arith);
       }

@@ -1,5 +1,5 @@
--- The pieces of the recogniser together: where each is passed the conditions of a place are met, its labels apart, and where one fails they are not. In order: a
--- failure; the masks; the sources of the steps; all passed. Assumes nothing.
+-- The pieces of the recogniser together: where each is passed the conditions of a place are met, its labels apart, and
+-- where one fails they are not. In order: a failure; the masks; the sources of the steps; all passed. Assumes nothing.
 use mathlib.Core.Bool.{Bool, true, false, not, _&&_}
 use mathlib.Core.List.{List, []}
 use mathlib.Core.Logic.{⊎-elim}
@@ -10,7 +10,8 @@ use lib.Dec.{eqb, leb, ltb}
 use lib.ListN.{length, take, getD, length-take}
 use lib.Seq.{getD-take}
 use native.Mathlib.Omega.{arith}
-use Rattle.combinatorics.proofs.Basics.{absurd-bool, and-both, and-left, and-right, both, false-of, not-is, true-or-false}
+use Rattle.combinatorics.proofs.Basics.{absurd-bool, and-both, and-left, and-right, both, false-of, not-is}
+use Rattle.combinatorics.proofs.Basics.{true-or-false}
 use Rattle.combinatorics.proofs.Lists.{all-in, in-all, onNumbers}
 use Rattle.combinatorics.proofs.Ranges.{in-upFrom, upFrom-in}
 use Rattle.combinatorics.specs.Lists.{all, isIn}
@@ -38,14 +39,16 @@ use Rattle.walks.proofs.Recognised.{of-conditions}
 use Rattle.walks.specs.Kept.{canStep, isKept, zeroOutside}
 use Rattle.recogniser.proofs.Following.{settled-on}
 use Rattle.recogniser.specs.Kept.{CanRecognise, Recognised, Seen}
-use Rattle.recogniser.specs.Pieces.{AllFree, AreSets, CanMark, FreeIn, Marked, NoSets, NotFree, bareMark, beyond, filled, inNeither, positive, startedOn, twice, zeroOn}
+use Rattle.recogniser.specs.Pieces.{AllFree, AreSets, CanMark, FreeIn, Marked, NoSets, NotFree, bareMark, beyond}
+use Rattle.recogniser.specs.Pieces.{filled, inNeither, positive, startedOn, twice, zeroOn}
 use Rattle.recogniser.specs.declared.Sets.{Sets}
 
 pub is-not : (b : Bool) → not b ≡ false → b ≡ true
 is-not true e = refl
 is-not false e = sym e
 
-pub not-recognised : {p : Problem} {marking : Point → ℕ} {y : Point} {o list marks : List ℕ} {r : Sets} → r .is ≡ false → isKept p y o ≡ false
+pub not-recognised : {p : Problem} {marking : Point → ℕ} {y : Point} {o list marks : List ℕ} {r : Sets} → r .is ≡ false
+    → isKept p y o ≡ false
     → Recognised p marking y o list marks r
 not-recognised e h = record { yes = λ t. absurd-bool (sym t ∙ e); no = λ _. h }
 
@@ -91,10 +94,12 @@ module _ (g : GridStruct) (binomials start previous sizes first order : List ℕ
 
   pub no-sets : NoSets order n (g .indices) → isKept p y o ≡ false
   no-sets (beyond j l b) = false-of _ (λ h.
-      let w = ltb-true (at o j) _ (all-in onNumbers (λ h. ltb h (numIndices (shape g))) o (conditions-of p y o h .below) (at o j) (at-in onNumbers 0 o j (omega (arith, long-o)))) in
+      let w = ltb-true (at o j) _ (all-in onNumbers (λ h. ltb h (numIndices (shape g))) o (conditions-of p y o h .below)
+      (at o j) (at-in onNumbers 0 o j (omega (arith, long-o)))) in
       omega (arith, w, at-o j l, m-is))
   no-sets (twice i j a l e) = false-of _ (λ h.
-      let w = same-at onNumbers 0 o (conditions-of p y o h .different) i j (omega (arith, long-o)) (omega (arith, long-o)) (at-o i (omega arith) ∙ e ∙ sym (at-o j l)) in
+      let w = same-at onNumbers 0 o (conditions-of p y o h .different) i j (omega (arith, long-o))
+      (omega (arith, long-o)) (at-o i (omega arith) ∙ e ∙ sym (at-o j l)) in
       omega (arith, w))
 
   pub cannot-step : canStep (shape g) u y o ≡ false → isKept p y o ≡ false
@@ -105,23 +110,29 @@ module _ (g : GridStruct) (binomials start previous sizes first order : List ℕ
       (Z : (k : ℕ) → k < 16 → bit zeros k ≡ (ltb k (g .indices) && eqb (at first k) 0)) where
     pub in-T : (k : ℕ) → k < 16 → bit t k ≡ isIn eqb k o
     in-T k l = both (bit t k) (isIn eqb k o)
-        (λ e. let w = S .only k l e in rw (at-o w.0 w.1 ∙ w .2) at (at-in onNumbers 0 o w.0 (omega (arith, w .1, long-o))))
-        (λ e. let w = in-at onNumbers 0 k o e in let jl : w .0 < n = omega (arith, w .1, long-o) in rw (sym (at-o w.0 jl) ∙ w .2) at (S .has w.0 jl))
+        (λ e. let w = S .only k l e in rw (at-o w.0 w.1 ∙ w .2) at
+        (at-in onNumbers 0 o w.0 (omega (arith, w .1, long-o))))
+        (λ e. let w = in-at onNumbers 0 k o e in let jl : w .0 < n = omega (arith, w .1, long-o) in
+        rw (sym (at-o w.0 jl) ∙ w .2) at (S .has w.0 jl))
 
     pub in-U : (k : ℕ) → k < 16 → bit v k ≡ isIn eqb k u
-    in-U k l = S .rest k l ∙ rw (Z k l, in-T k l) (both (ltb k (g .indices) && eqb (at first k) 0 && not (isIn eqb k o)) (isIn eqb k u)
+    in-U k l = S .rest k l ∙ rw (Z k l, in-T k l) (both (ltb k (g .indices) && eqb (at first k) 0 && not (isIn eqb k o))
+        (isIn eqb k u)
         (λ e. let a = ltb k (g .indices) in let b = eqb (at first k) 0 in let d = not (isIn eqb k o) in
         let ab = and-left (a && b) d e in
         let kl = ltb-true k (g .indices) (and-left a b ab) in
-        is-zero p o y k (omega (arith, kl, m-is)) (getD-take (g .indices) first k 0 kl ∙ eqb-true _ 0 (and-right a b ab)) (not-is _ (and-right (a && b) d e)))
+        is-zero p o y k (omega (arith, kl, m-is)) (getD-take (g .indices) first k 0 kl ∙ eqb-true _ 0
+        (and-right a b ab)) (not-is _ (and-right (a && b) d e)))
         (λ e. let w = zero-is p o y k e in
         let kl : k < g .indices = omega (arith, w .0, m-is) in
-        and-both _ _ (and-both _ _ (lt-ltb k (g .indices) kl) (eq-eqb (at first k) 0 (sym (getD-take (g .indices) first k 0 kl) ∙ w .1))) (rw w.2)))
+        and-both _ _ (and-both _ _ (lt-ltb k (g .indices) kl)
+        (eq-eqb (at first k) 0 (sym (getD-take (g .indices) first k 0 kl) ∙ w .1))) (rw w.2)))
 
     free-index : (k : ℕ) → k < g .indices → inNeither t v k → (isIn eqb k o ≡ false) × (isIn eqb k u ≡ false)
     free-index k l w = (sym (in-T k (omega (arith, few, m-is))) ∙ w .0, sym (in-U k (omega (arith, few, m-is))) ∙ w .1)
 
-    pub not-free : (list : List ℕ) → ((k : ℕ) → k < g .indices → at list k ≡ at (coefficients (startedOn g start) y) k) → NotFree g list t v → isKept p y o ≡ false
+    pub not-free : (list : List ℕ) → ((k : ℕ) → k < g .indices → at list k ≡ at (coefficients (startedOn g start) y) k)
+        → NotFree g list t v → isKept p y o ≡ false
     not-free list L (filled j l none) = false-of _ (λ h.
         let f = free-means p [] o u .0 (conditions-of p y o h .free) j (omega (arith, made-blocks g made)) in
         let r = upFrom-in (firstIndex (shape g) j) (size (shape g) j) f.0 f.1 in
@@ -150,21 +161,30 @@ module _ (g : GridStruct) (binomials start previous sizes first order : List ℕ
         size = C .blockSizes;
       }
 
-      source : (j : ℕ) → j < n → (firstOutside previous sizes v (at order j) ≡ firstBackOutside (shape g) u (at order j))
-          × (firstOutside previous sizes v (at order j) < g .indices) × (blockOf (shape g) (firstOutside previous sizes v (at order j)) ≡ blockOf (shape g) (at order j))
+      source : (j : ℕ) → j < n → (firstOutside previous sizes v (at order j) ≡ firstBackOutside (shape g) u
+          (at order j))
+          × (firstOutside previous sizes v (at order j) < g .indices) ×
+          (blockOf (shape g) (firstOutside previous sizes v (at order j)) ≡ blockOf (shape g) (at order j))
       source j l =
           let h = at order j in
           let hl : h < numIndices (shape g) = omega (arith, S .below j l, m-is) in
-          let f = F .each (blockOf (shape g) h) (omega (arith, block-spans (shape g .sizes) h hl .0, made-blocks g made)) in
+          let f = F .each (blockOf (shape g) h) (omega
+          (arith, block-spans (shape g .sizes) h hl .0, made-blocks g made)) in
           let fl : f .index < numIndices (shape g) = omega (arith, f .below, m-is) in
-          let same-block : blocksOf q .block f.index ≡ blocksOf q .block h = block-same q f.index fl ∙ f .block ∙ sym (block-same q h hl) in
+          let same-block : blocksOf q .block f.index ≡ blocksOf q .block h = block-same q f.index fl ∙ f .block ∙ sym
+          (block-same q h hl) in
           let other : (f .index ≡ h → ⊥) = λ e. absurd-bool (sym (S .has j l) ∙ (rw e at (f .free .0))) in
           let free = free-index f.index f.below f.free in
           let a = outside-before q u h f.index hl same-block other free.1 in
           let b = back-outside full is-round v in-U h f.index hl same-block free.1 in
-          let e : firstOutside previous sizes v h ≡ firstBackOutside (shape g) u h = b .3 ∙ ap (λ (i : ℕ). back (blocksOf q .previous) i h) (before-same b.2 a.1) ∙ sym a.2 in
-          let low : firstOutside previous sizes v h < numIndices (shape g) = rw b.3 (back-below q b.0 h hl) in
-          (e, omega (arith, low, m-is), sym (block-same q _ low) ∙ rw b.3 (block-back (blocksOf q) b.0 h) ∙ block-same q h hl)
+          let e : firstOutside previous sizes v h ≡ firstBackOutside (shape g) u h = b .3 ∙ ap
+          (λ (i : ℕ). back (blocksOf q .previous) i h) (before-same b.2 a.1) ∙ sym a.2 in
+          let low : firstOutside previous sizes v h < numIndices (shape g) = rw b.3 (back-below q b.0 h hl) in (
+            e,
+            omega (arith, low, m-is),
+            sym (block-same q _ low) ∙ rw b.3 (block-back (blocksOf q) b.0 h) ∙
+                block-same q h hl,
+          )
 
       pub can-mark : isGridPoint (shape g) y ≡ true → CanMark g (firstOutside previous sizes v) first order n marks
       can-mark on = record {
@@ -180,14 +200,17 @@ module _ (g : GridStruct) (binomials start previous sizes first order : List ℕ
       }
 
       -- all passed
-      pub all-seen : isGridPoint (shape g) y ≡ true → length list ≡ 16 → ((k : ℕ) → k < g .indices → at list k ≡ at (coefficients (startedOn g start) y) k)
+      pub all-seen : isGridPoint (shape g) y ≡ true → length list ≡ 16 →
+          ((k : ℕ) → k < g .indices → at list k ≡ at (coefficients (startedOn g start) y) k)
           → (new : List ℕ) → Marked g first order n new true → Seen p (bareMark (shape g)) y o list new t v
       all-seen on long L new M = record {
         kept = of-conditions p y o (record {
           onGrid = on;
-          below = in-all onNumbers _ o (λ k e. let w = in-at onNumbers 0 k o e in let jl : w .0 < n = omega (arith, w .1, long-o) in
+          below = in-all onNumbers _ o (λ k e. let w = in-at onNumbers 0 k o e in
+              let jl : w .0 < n = omega (arith, w .1, long-o) in
               lt-ltb k _ (omega (arith, S .below w.0 jl, at-o w.0 jl, w .2, m-is)));
-          different = at-distinct onNumbers 0 o (λ i j a b e. let il : i < n = omega (arith, long-o) in let jl : j < n = omega (arith, long-o) in
+          different = at-distinct onNumbers 0 o (λ i j a b e. let il : i < n = omega (arith, long-o) in
+              let jl : j < n = omega (arith, long-o) in
               S .once i j il jl (sym (at-o i il) ∙ e ∙ at-o j jl));
           free = free-means p [] o u .1 (λ j l. let f = F .each j (omega (arith, made-blocks g made)) in
               let w = block-spans (shape g .sizes) f.index (omega (arith, f .below, m-is)) in (
@@ -209,8 +232,10 @@ module _ (g : GridStruct) (binomials start previous sizes first order : List ℕ
       }
 
 -- whatever the label table
-pub with-table : (g : GridStruct) (start labels : List ℕ) {marking : Point → ℕ} {y : Point} {o list marks : List ℕ} {r : Sets}
-    → Recognised (startedOn g start) marking y o list marks r → Recognised (withLabels (startedOn g start) labels) marking y o list marks r
+pub with-table : (g : GridStruct) (start labels : List ℕ) {marking : Point → ℕ} {y : Point} {o list marks : List ℕ}
+    {r : Sets}
+    → Recognised (startedOn g start) marking y o list marks r → Recognised (withLabels (startedOn g start) labels)
+    marking y o list marks r
 unfolding isKept coefficients
 with-table g start labels R = record {
   yes = λ e. let S = R .yes e in record {

@@ -17,7 +17,8 @@ use Rattle.walks.specs.Kept.{isKept, keptPoints, zeroOutside}
 use Rattle.recogniser.specs.Pieces.{Located}
 use Rattle.recogniser.specs.declared.Sets.{Sets}
 
-pub record CanRecognise (g : GridStruct) (binomials start previous sizes first order : List ℕ) (n : ℕ) (marks : List ℕ) : Type 0 where
+pub record CanRecognise (g : GridStruct) (binomials start previous sizes first order : List ℕ) (n : ℕ) (marks : List ℕ)
+    : Type 0 where
   pub located : Located g binomials
   pub startOn : isGridPoint (shape g) start ≡ true
   -- the ways back round the blocks, and the size of each index's block
@@ -29,7 +30,8 @@ pub record CanRecognise (g : GridStruct) (binomials start previous sizes first o
   pub orderLong : length order ≡ 16
   pub marksLong : length marks ≡ 16
 
--- T and U are the masks' sets, the list has the first point's coefficients, and each point has its mark: `bareMark`, or `markOf` once its label is read
+-- T and U are the masks' sets, the list has the first point's coefficients, and each point has its mark: `bareMark`, or
+-- `markOf` once its label is read
 pub record Seen (p : Problem) (marking : Point → ℕ) (y : Point) (o list marks : List ℕ) (t u : ℕ) : Type 0 where
   pub kept : isKept p y o ≡ true
   pub inT : (k : ℕ) → k < 16 → bit t k ≡ isIn eqb k o

@@ -54,9 +54,11 @@ pub fn recognise(
     list: &mut [u16; 16],
     marks: &mut [u32; 16],
 ) -> Sets
-    requires { ⌜ CanRecognise g (now binomials) (now start) (now previous) (now sizes) (now first) (now order) n (now marks) ⌝ }
-    ensures { λ r. ⌜ Recognised (startedOn g (now (start .entry))) (bareMark (shape g)) (take (g .indices) (now (first .entry)))
-        (take n (now (order .entry))) (now (list .exit)) (now (marks .exit)) r ⌝ }
+    requires { ⌜ CanRecognise g (now binomials) (now start) (now previous) (now sizes) (now first) (now order) n
+        (now marks) ⌝ }
+    ensures { λ r. ⌜ Recognised (startedOn g (now (start .entry))) (bareMark (shape g))
+        (take (g .indices) (now (first .entry))) (take n (now (order .entry)))
+        (now (list .exit)) (now (marks .exit)) r ⌝ }
 {
     let m = g.indices;
     let y = *first;

@@ -9,7 +9,8 @@ use lib.Dec.{eqb, leb}
 use lib.ListN.{length, set, take, length-set}
 use lib.Seq.{getD-set-other, getD-set-same}
 use native.Mathlib.Omega.{arith}
-use Rattle.combinatorics.proofs.Basics.{absurd-bool, and-both, and-left, and-right, before-or-not, false-of, same-or, true-or-false}
+use Rattle.combinatorics.proofs.Basics.{absurd-bool, and-both, and-left, and-right, before-or-not, false-of, same-or}
+use Rattle.combinatorics.proofs.Basics.{true-or-false}
 use Rattle.grid.proofs.Fields.{made-indices}
 use Rattle.grid.specs.Grid.{at, bound, numIndices}
 use Rattle.grid.specs.Made.{IsMade, shape}
@@ -30,44 +31,64 @@ use Rattle.walk_ways.specs.Walks.{holdsNumbers, holdsPlace, keptAs, placeOf, sa
 use Rattle.walk_ways.specs.declared.Place.{Place}
 use Rattle.walk_ways.specs.declared.Walk.{Walk as WalkStruct}
 
-pub fill-no : (marks : List ℕ) (point : ℕ) (unknown : Bool) → unknown ≡ false → length marks ≡ 16 → FilledBy marks point unknown marks
+pub fill-no : (marks : List ℕ) (point : ℕ) (unknown : Bool) → unknown ≡ false → length marks ≡ 16 →
+    FilledBy marks point unknown marks
 fill-no marks point unknown e l = record { long = l; each = λ j. rw e (omega arith) }
 
-pub fill-yes : (marks : List ℕ) (point : ℕ) (unknown : Bool) → unknown ≡ true → length marks ≡ 16 → point < 16 → FilledBy marks point unknown (set marks point (at marks point + 1))
+pub fill-yes : (marks : List ℕ) (point : ℕ) (unknown : Bool) → unknown ≡ true → length marks ≡ 16 → point < 16 →
+    FilledBy marks point unknown (set marks point (at marks point + 1))
 fill-yes marks point unknown e l low = record {
   long = length-set marks point (at marks point + 1) ∙ l;
-  each = λ j. ⊎-elim (λ (q : j ≡ point). rw (e, q, eq-eqb point point refl) (getD-set-same marks point (at marks point + 1) 0 (omega arith)))
-      (λ (q : j ≡ point → ⊥). rw (e, ne-eqb j point q) (getD-set-other marks point j (at marks point + 1) 0 q ∙ omega arith)) (same-or j point);
+  each = λ j. ⊎-elim (λ (q : j ≡ point). rw (e, q, eq-eqb point point refl)
+      (getD-set-same marks point (at marks point + 1) 0 (omega arith)))
+      (λ (q : j ≡ point → ⊥). rw (e, ne-eqb j point q)
+      (getD-set-other marks point j (at marks point + 1) 0 q ∙ omega arith)) (same-or j point);
 }
 
-module _ (g : GridStruct) (w : WalkStruct) (labels : List ℕ) (made : IsMade g) (asked : firstNo (tableQuestions (tableOn g w labels)) ≡ 0) where
+module _ (g : GridStruct) (w : WalkStruct) (labels : List ℕ) (made : IsMade g)
+    (asked : firstNo (tableQuestions (tableOn g w labels)) ≡ 0) where
   ok : Accepted (tableOn g w labels)
   ok = accepted-of (tableOn g w labels) asked
 
-  bound-passed : (leb 1 (w .places) && leb (w .places) (bound (shape g))) ≡ false → nextOf (walkOn (shape g) w) labels ≡ refused 20
+  bound-passed : (leb 1 (w .places) && leb (w .places) (bound (shape g))) ≡ false → nextOf (walkOn (shape g) w) labels
+      ≡ refused 20
   bound-passed f = no-count (walkOn (shape g) w) labels ok
-      (⊎-elim (λ (l : w .places < 1). inl (omega arith)) (λ (l : 1 ≤ w .places). ⊎-elim (λ (m : bound (shape g) < w .places). inr m)
-      (λ (m : w .places ≤ bound (shape g)). absurd-bool (sym (and-both _ _ (le-leb 1 (w .places) l) (le-leb (w .places) (bound (shape g)) m)) ∙ f)) (before-or-not (bound (shape g)) (w .places)))
+      (⊎-elim (λ (l : w .places < 1). inl (omega arith))
+      (λ (l : 1 ≤ w .places). ⊎-elim (λ (m : bound (shape g) < w .places). inr m)
+      (λ (m : w .places ≤ bound (shape g)). absurd-bool
+      (sym (and-both _ _ (le-leb 1 (w .places) l) (le-leb (w .places) (bound (shape g)) m)) ∙ f))
+      (before-or-not (bound (shape g)) (w .places)))
       (before-or-not (w .places) 1))
 
-  read-passed : (leb 1 (w .«labels_read») && leb (w .«labels_read») (w .places)) ≡ false → nextOf (walkOn (shape g) w) labels ≡ refused 20
+  read-passed : (leb 1 (w .«labels_read») && leb (w .«labels_read») (w .places)) ≡ false → nextOf (walkOn (shape g) w)
+      labels ≡ refused 20
   read-passed f = no-read (walkOn (shape g) w) labels ok
-      (⊎-elim (λ (l : w .«labels_read» < 1). inl (omega arith)) (λ (l : 1 ≤ w .«labels_read»). ⊎-elim (λ (m : w .places < w .«labels_read»). inr m)
-      (λ (m : w .«labels_read» ≤ w .places). absurd-bool (sym (and-both _ _ (le-leb 1 (w .«labels_read») l) (le-leb (w .«labels_read») (w .places) m)) ∙ f)) (before-or-not (w .places) (w .«labels_read»)))
+      (⊎-elim (λ (l : w .«labels_read» < 1). inl (omega arith))
+      (λ (l : 1 ≤ w .«labels_read»). ⊎-elim (λ (m : w .places < w .«labels_read»). inr m)
+      (λ (m : w .«labels_read» ≤ w .places). absurd-bool
+      (sym (and-both _ _ (le-leb 1 (w .«labels_read») l) (le-leb (w .«labels_read») (w .places) m)) ∙ f))
+      (before-or-not (w .places) (w .«labels_read»)))
       (before-or-not (w .«labels_read») 1))
 
-  pub out-of-range : inRange (shape g) (w .places) (w .«labels_read») ≡ false → nextOf (walkOn (shape g) w) labels ≡ refused 20
-  out-of-range f = ⊎-elim (λ t. read-passed (rw t at f)) (λ n. bound-passed n) (true-or-false (leb 1 (w .places) && leb (w .places) (bound (shape g))))
+  pub out-of-range : inRange (shape g) (w .places) (w .«labels_read») ≡ false → nextOf (walkOn (shape g) w) labels
+      ≡ refused 20
+  out-of-range f = ⊎-elim (λ t. read-passed (rw t at f)) (λ n. bound-passed n)
+      (true-or-false (leb 1 (w .places) && leb (w .places) (bound (shape g))))
 
   pub not-kept-so : holdsPlace (shape g) (w .present) ≡ false → nextOf (walkOn (shape g) w) labels ≡ refused 20
-  not-kept-so f = no-place (walkOn (shape g) w) labels ok (false-of _ (λ h. no-empty (tableOn g w labels) ok.settled.someBlock (rw (not-held (shape g) (w .present) f) at h)))
+  not-kept-so f = no-place (walkOn (shape g) w) labels ok
+      (false-of _ (λ h. no-empty (tableOn g w labels) ok.settled.someBlock
+      (rw (not-held (shape g) (w .present) f) at h)))
 
-  pub kept-rightly : holdsNumbers (g .indices) (w .present) ≡ true → length (w .present .first) ≡ 16 → length (w .present .order) ≡ 16
-      → inRange (shape g) (w .places) (w .«labels_read») ≡ true → (n : ℕ) → n ≡ pred (w .present .count) → CanStand g w labels (w .present .first) (w .present .order) n
+  pub kept-rightly : holdsNumbers (g .indices) (w .present) ≡ true → length (w .present .first) ≡ 16 → length
+      (w .present .order) ≡ 16
+      → inRange (shape g) (w .places) (w .«labels_read») ≡ true → (n : ℕ) → n ≡ pred (w .present .count) →
+      CanStand g w labels (w .present .first) (w .present .order) n
   kept-rightly t fl ol range n is =
       let h : holdsPlace (shape g) (w .present) ≡ true = rw (← (made-indices g made)) t in
       let k = held-parts (shape g) (w .present) h in
-      let a = leb 1 (w .places) in let b = leb (w .places) (bound (shape g)) in let c = leb 1 (w .«labels_read») in let d = leb (w .«labels_read») (w .places) in
+      let a = leb 1 (w .places) in let b = leb (w .places) (bound (shape g)) in let c = leb 1 (w .«labels_read») in
+      let d = leb (w .«labels_read») (w .places) in
       let ab = and-left (a && b) (c && d) range in let cd = and-right (a && b) (c && d) range in
       record {
         made = made;
@@ -87,4 +108,6 @@ module _ (g : GridStruct) (w : WalkStruct) (labels : List ℕ) (made : IsMade g)
   kept-wrongly f = not-kept-so (rw (← (made-indices g made)) f)
 
 pub count-some : (m : ℕ) (b : Place) → holdsNumbers m b ≡ true → 1 ≤ b .count
-count-some m b e = leb-true 1 _ (and-left (leb 1 (b .count)) (leb (b .count) 16) (and-left (leb 1 (b .count) && leb (b .count) 16) (samePlace b (keptAs m (b .first) (b .order) (pred (b .count)))) e))
+count-some m b e = leb-true 1 _ (and-left (leb 1 (b .count)) (leb (b .count) 16)
+    (and-left (leb 1 (b .count) && leb (b .count) 16) (samePlace b (keptAs m (b .first) (b .order) (pred (b .count))))
+    e))

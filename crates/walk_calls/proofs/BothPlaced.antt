@@ -1,4 +1,5 @@
--- The two places of a move. In order: marks in an array; both places are kept; what is told of them; the labels carried from one to the other. Assumes nothing.
+-- The two places of a move. In order: marks in an array; both places are kept; what is told of them; the labels carried
+-- from one to the other. Assumes nothing.
 use mathlib.Core.Bool.{Bool, true, false, not, cond}
 use mathlib.Core.List.{List, [], _∷_, map}
 use mathlib.Core.Logic.{⊎-elim}
@@ -70,7 +71,8 @@ marks-are : (f : Point → ℕ) (s : Simplex) (n : ℕ) (marks : List ℕ) → l
     → ((j : ℕ) → j ≤ n → at marks j ≡ f (getD s j [])) → take (suc n) marks ≡ map f s
 marks-are f s n marks long room each =
     let l = length-take-le (suc n) marks room in
-    ext-getD 0 (take (suc n) marks) (map f s) (l ∙ sym (length-map s f ∙ long)) (λ j m. let k : j ≤ n = omega (arith, l) in
+    ext-getD 0 (take (suc n) marks) (map f s) (l ∙ sym (length-map s f ∙ long))
+    (λ j m. let k : j ≤ n = omega (arith, l) in
     getD-take (suc n) marks j 0 (omega arith) ∙ each j k ∙ sym (map-at f s j (omega arith)))
 
 pub bare-position : (g : Grid) (y : Point) → markPosition (bareMark g y) ≡ position g y
@@ -78,11 +80,14 @@ bare-position g y = position-of-mark (position g y) 0 (omega arith)
 
 module _ {p : Problem} (ok : Accepted p) where
   pub grid-asked : firstNo (gridQuestions p.grid) ≡ 0
-  grid-asked = both-yes (gridQuestions p.grid) (question5 p.grid p.start ∷ question6 p ∷ question7 p ∷ []) refl (accepted-is ok) .0
+  grid-asked = both-yes (gridQuestions p.grid) (question5 p.grid p.start ∷ question6 p ∷ question7 p ∷ []) refl
+      (accepted-is ok) .0
 
   -- positions tell points apart
-  pub bare-tells : (y z : Point) → isGridPoint p.grid y ≡ true → isGridPoint p.grid z ≡ true → bareMark p.grid y ≡ bareMark p.grid z → y ≡ z
-  bare-tells y z h i e = position-tells p.grid (accepted-grid p.grid grid-asked) y z h i (sym (bare-position p.grid y) ∙ ap markPosition e ∙ bare-position p.grid z)
+  pub bare-tells : (y z : Point) → isGridPoint p.grid y ≡ true → isGridPoint p.grid z ≡ true → bareMark p.grid y
+      ≡ bareMark p.grid z → y ≡ z
+  bare-tells y z h i e = position-tells p.grid (accepted-grid p.grid grid-asked) y z h i
+      (sym (bare-position p.grid y) ∙ ap markPosition e ∙ bare-position p.grid z)
 
   pub bare-in : (y : Point) (a : Simplex) → isGridPoint p.grid y ≡ true → all (isGridPoint p.grid) a ≡ true
       → isIn eqb (bareMark p.grid y) (map (bareMark p.grid) a) ≡ isIn samePoint y a
@@ -98,18 +103,25 @@ module _ {p : Problem} (ok : Accepted p) where
       go : (b : Simplex) → all (isGridPoint p.grid) b ≡ true
           → all (λ m. isIn eqb m (map (bareMark p.grid) a)) (map (bareMark p.grid) b) ≡ all (λ y. isIn samePoint y a) b
       go [] on = refl
-      go (y ∷ b) on = rw (bare-in y a (and-left (isGridPoint p.grid y) (all (isGridPoint p.grid) b) on) on-a, go b (and-right (isGridPoint p.grid y) (all (isGridPoint p.grid) b) on))
+      go (y ∷ b) on = rw (
+        bare-in y a (and-left (isGridPoint p.grid y) (all (isGridPoint p.grid) b) on) on-a,
+        go b
+            (and-right (isGridPoint p.grid y) (all (isGridPoint p.grid) b) on),
+      )
 
 -- a place that is recognised
-module _ {p : Problem} (ok : Accepted p) {marking : Point → ℕ} {y : Point} {o list marks : List ℕ} {r : Sets} (R : Recognised p marking y o list marks r)
+module _ {p : Problem} (ok : Accepted p) {marking : Point → ℕ} {y : Point} {o list marks : List ℕ} {r : Sets}
+    (R : Recognised p marking y o list marks r)
     (place : isPlace p (keptPoints p.grid y o) ≡ true) where
   sees : Seen p marking y o list marks (r .t) (r .u)
   sees =
       ⊎-elim (λ t. R .yes t)
-      (λ f. absurd-bool (sym (and-left (isKept p y o) (within o (labelSet p (keptPoints p.grid y o))) (sym (recognised ok.settled y o) ∙ place)) ∙ R .no f))
+      (λ f. absurd-bool (sym (and-left (isKept p y o) (within o (labelSet p (keptPoints p.grid y o)))
+      (sym (recognised ok.settled y o) ∙ place)) ∙ R .no f))
       (true-or-false (r .is))
 
-module _ {g : GridStruct} {w : WalkStruct} {labels : List ℕ} {next : Place} (made : IsMade g) (G : GoesTo (shape g) w labels next) where
+module _ {g : GridStruct} {w : WalkStruct} {labels : List ℕ} {next : Place} (made : IsMade g)
+    (G : GoesTo (shape g) w labels next) where
   abbrev W : Walk
   W = walkOn (shape g) w
 
@@ -141,10 +153,12 @@ module _ {g : GridStruct} {w : WalkStruct} {labels : List ℕ} {next : Place} (m
   holds : holdsPlace (shape g) (w .present) ≡ true
   holds =
       ⊎-elim (λ t. t)
-      (λ f. absurd (no-empty p ok.settled.someBlock (subst (λ (s : Simplex). isPlace p s ≡ true) (not-held (shape g) (w .present) f) here-place)))
+      (λ f. absurd (no-empty p ok.settled.someBlock
+      (subst (λ (s : Simplex). isPlace p s ≡ true) (not-held (shape g) (w .present) f) here-place)))
       (true-or-false (holdsPlace (shape g) (w .present)))
 
-  held-so : (1 ≤ w .present .count) × (w .present .count ≤ 16) × (w .present ≡ keptAs (numIndices (shape g)) (w .present .first) (w .present .order) (pred (w .present .count)))
+  held-so : (1 ≤ w .present .count) × (w .present .count ≤ 16) ×
+      (w .present ≡ keptAs (numIndices (shape g)) (w .present .first) (w .present .order) (pred (w .present .count)))
   held-so = held-parts (shape g) (w .present) holds
 
   pub some-present : 1 ≤ w .present .count
@@ -158,11 +172,14 @@ module _ {g : GridStruct} {w : WalkStruct} {labels : List ℕ} {next : Place} (m
     made = made;
     start = ok .settled .start;
     few = omega (arith, held-so .0, held-so .1);
-    firstLong = ap (λ (b : Place). length (b .first)) (held-so .2) ∙ padded-long _ (take-few (numIndices (shape g)) (w .present .first) (omega (arith, made-indices g made, m-few)));
-    orderLong = ap (λ (b : Place). length (b .order)) (held-so .2) ∙ padded-long _ (take-few (pred (w .present .count)) (w .present .order) (omega (arith, held-so .1)));
+    firstLong = ap (λ (b : Place). length (b .first)) (held-so .2) ∙ padded-long _
+        (take-few (numIndices (shape g)) (w .present .first) (omega (arith, made-indices g made, m-few)));
+    orderLong = ap (λ (b : Place). length (b .order)) (held-so .2) ∙ padded-long _
+        (take-few (pred (w .present .count)) (w .present .order) (omega (arith, held-so .1)));
   }
 
-  here-is : (n : ℕ) → n ≡ pred (w .present .count) → here ≡ keptPoints (shape g) (take (g .indices) (w .present .first)) (take n (w .present .order))
+  here-is : (n : ℕ) → n ≡ pred (w .present .count) → here ≡ keptPoints (shape g) (take (g .indices) (w .present .first))
+      (take n (w .present .order))
   here-is n e = held (shape g) (w .present) holds ∙ rw (e, made-indices g made)
 
   -- and so is the next
@@ -218,52 +235,74 @@ module _ {g : GridStruct} {w : WalkStruct} {labels : List ℕ} {next : Place} (m
   order-taken k e = ap (take k) next-order ∙ padded-taken k o (omega (arith, next-count))
 
   -- what is told of both
-  module _ (n k : ℕ) (is-n : n ≡ pred (w .present .count)) (is-k : k ≡ pred (next .count)) {list marks list2 marks2 : List ℕ} {a b : Sets}
-      (A : Recognised p (bareMark (shape g)) (take (g .indices) (w .present .first)) (take n (w .present .order)) list marks a)
-      (B : Recognised p (bareMark (shape g)) (take (g .indices) (next .first)) (take k (next .order)) list2 marks2 b) where
-    abbrev z : Point
-    z = take (g .indices) (w .present .first)
+  module _ (n k : ℕ) (is-n : n ≡ pred (w .present .count)) (is-k : k ≡ pred (next .count))
+      {list marks list2 marks2 : List ℕ} {a b : Sets}
+      (A : Recognised p (bareMark (shape g)) (take (g .indices) (w .present .first)) (take n (w .present .order))
+      list marks a)
+      (B : Recognised p (bareMark (shape g)) (take (g .indices) (next .first)) (take k (next .order)) list2 marks2 b)
+    where
+      abbrev z : Point
+      z = take (g .indices) (w .present .first)
 
-    abbrev r : List ℕ
-    r = take n (w .present .order)
+      abbrev r : List ℕ
+      r = take n (w .present .order)
 
-    here-kept : isPlace p (keptPoints (shape g) z r) ≡ true
-    here-kept = subst (λ (s : Simplex). isPlace p s ≡ true) (here-is n is-n) here-place
+      here-kept : isPlace p (keptPoints (shape g) z r) ≡ true
+      here-kept = subst (λ (s : Simplex). isPlace p s ≡ true) (here-is n is-n) here-place
 
-    S : Seen p (bareMark (shape g)) z r list marks (a .t) (a .u)
-    S = sees ok A here-kept
+      S : Seen p (bareMark (shape g)) z r list marks (a .t) (a .u)
+      S = sees ok A here-kept
 
-    R : Seen p (bareMark (shape g)) y o list2 marks2 (b .t) (b .u)
-    R = sees ok (subst (λ (x : List ℕ). Recognised p (bareMark (shape g)) y x list2 marks2 b) (order-taken k is-k)
-        (subst (λ (x : Point). Recognised p (bareMark (shape g)) x (take k (next .order)) list2 marks2 b) first-taken B)) there-kept
+      R : Seen p (bareMark (shape g)) y o list2 marks2 (b .t) (b .u)
+      R = sees ok (subst (λ (x : List ℕ). Recognised p (bareMark (shape g)) y x list2 marks2 b) (order-taken k is-k)
+          (subst (λ (x : Point). Recognised p (bareMark (shape g)) x (take k (next .order)) list2 marks2 b)
+          first-taken B)) there-kept
 
-    abbrev from : Simplex
-    from = keptPoints (shape g) z r
+      abbrev from : Simplex
+      from = keptPoints (shape g) z r
 
-    r-long : length r ≡ n
-    r-long = length-take n (w .present .order) ∙ omega (arith, place-present n is-n .orderLong, place-present n is-n .few)
+      r-long : length r ≡ n
+      r-long = length-take n (w .present .order) ∙ omega
+          (arith, place-present n is-n .orderLong, place-present n is-n .few)
 
-    from-long : length from ≡ suc n
-    from-long = place-long ok.settled from here-kept ∙ ap (λ (x : List ℕ). suc (length x)) (order-is p z r here-kept) ∙ ap suc r-long
+      from-long : length from ≡ suc n
+      from-long = place-long ok.settled from here-kept ∙ ap (λ (x : List ℕ). suc (length x)) (order-is p z r here-kept)
+          ∙
+          ap suc r-long
 
-    k-is : k ≡ length o
-    k-is = omega (arith, next-count)
+      k-is : k ≡ length o
+      k-is = omega (arith, next-count)
 
-    pub both-marked : BothMarked p here there (record { from = marks; n = n; t = a .t; u = a .u; onto = marks2; k = k; t2 = b .t; u2 = b .u })
-    both-marked = record {
-      few = place-present n is-n .few;
-      fromLong = S .marksLong;
-      from = marks-are (bareMark (shape g)) from n marks from-long (omega (arith, S .marksLong, place-present n is-n .few)) (λ j l. S .marked j (omega (arith, r-long)))
-          ∙ ap (map (bareMark (shape g))) (sym (here-is n is-n));
-      inT = λ k l. S .inT k l ∙ T-is p z r here-kept k ∙ ap (λ (s : Simplex). isIn eqb k (setT p s)) (sym (here-is n is-n));
-      inU = λ k l. S .inU k l ∙ U-is p z r here-kept k ∙ ap (λ (s : Simplex). isIn eqb k (setU (shape g) s)) (sym (here-is n is-n));
-      fewNext = place-next k is-k .few;
-      ontoLong = R .marksLong;
-      onto = marks-are (bareMark (shape g)) (keptPoints (shape g) y o) k marks2 (ap length there-is ∙ there-long ∙ ap suc (sym k-is)) (omega (arith, R .marksLong, k-is, o-few)) (λ j l. R .marked j (omega (arith, k-is)))
-          ∙ ap (map (bareMark (shape g))) there-is;
-      nextT = λ k l. R .inT k l ∙ T-is p y o there-kept k ∙ ap (λ (s : Simplex). isIn eqb k (setT p s)) there-is;
-      nextU = λ k l. R .inU k l ∙ U-is p y o there-kept k ∙ ap (λ (s : Simplex). isIn eqb k (setU (shape g) s)) there-is;
-    }
+      pub both-marked : BothMarked p here there (record {
+        from = marks;
+        n = n;
+        t = a .t;
+        u = a .u;
+        onto = marks2;
+        k = k;
+        t2 = b .t;
+        u2 = b .u;
+      })
+      both-marked = record {
+        few = place-present n is-n .few;
+        fromLong = S .marksLong;
+        from = marks-are (bareMark (shape g)) from n marks from-long
+            (omega (arith, S .marksLong, place-present n is-n .few)) (λ j l. S .marked j (omega (arith, r-long)))
+            ∙ ap (map (bareMark (shape g))) (sym (here-is n is-n));
+        inT = λ k l. S .inT k l ∙ T-is p z r here-kept k ∙ ap (λ (s : Simplex). isIn eqb k (setT p s))
+            (sym (here-is n is-n));
+        inU = λ k l. S .inU k l ∙ U-is p z r here-kept k ∙ ap (λ (s : Simplex). isIn eqb k (setU (shape g) s))
+            (sym (here-is n is-n));
+        fewNext = place-next k is-k .few;
+        ontoLong = R .marksLong;
+        onto = marks-are (bareMark (shape g)) (keptPoints (shape g) y o) k marks2
+            (ap length there-is ∙ there-long ∙ ap suc (sym k-is)) (omega (arith, R .marksLong, k-is, o-few))
+            (λ j l. R .marked j (omega (arith, k-is)))
+            ∙ ap (map (bareMark (shape g))) there-is;
+        nextT = λ k l. R .inT k l ∙ T-is p y o there-kept k ∙ ap (λ (s : Simplex). isIn eqb k (setT p s)) there-is;
+        nextU = λ k l. R .inU k l ∙ U-is p y o there-kept k ∙ ap (λ (s : Simplex). isIn eqb k (setU (shape g) s))
+            there-is;
+      }
 
   -- the labels carried from one to the other
   pub on-here : all (isGridPoint (shape g)) here ≡ true
@@ -281,37 +320,52 @@ module _ {g : GridStruct} {w : WalkStruct} {labels : List ℕ} {next : Place} (m
   unfolding carriedOf
   carried-at i l = go (passes .0 .stands .carries)
     where
-      go : cond (same eqb (w .carried) (padded 16 (take (w .present .count) (w .carried)))) (take (w .present .count) (w .carried)) [] ≡ labelsOf p here
+      go : cond (same eqb (w .carried) (padded 16 (take (w .present .count) (w .carried))))
+          (take (w .present .count) (w .carried)) [] ≡ labelsOf p here
           → at (w .carried) i ≡ label p (getD here i [])
       go e =
           ⊎-elim (λ t. let a : take (w .present .count) (w .carried) ≡ labelsOf p here = rw t at e in
-          let m : i < w .present .count = omega (arith, ap length a, length-map here (label p), length-take (w .present .count) (w .carried)) in
-          sym (getD-take (w .present .count) (w .carried) i 0 m) ∙ ap (λ (r : List ℕ). at r i) a ∙ map-at (label p) here i l)
-          (λ f. let a : [] ≡ labelsOf p here = rw f at e in absurd (omega (arith, ap length a, length-map here (label p))))
+          let m : i < w .present .count = omega (
+            arith,
+            ap length a,
+            length-map here (label p),
+            length-take
+                (w .present .count) (w .carried),
+          ) in
+          sym (getD-take (w .present .count) (w .carried) i 0 m) ∙ ap (λ (r : List ℕ). at r i) a ∙ map-at (label p)
+          here i l)
+          (λ f. let a : [] ≡ labelsOf p here = rw f at e in
+          absurd (omega (arith, ap length a, length-map here (label p))))
           (true-or-false (same eqb (w .carried) (padded 16 (take (w .present .count) (w .carried)))))
 
   module _ {b : Both} (M : BothMarked p here there b) where
     long-here : length here ≡ suc (b .n)
-    long-here = sym (length-map here (bareMark (shape g))) ∙ sym (ap length M.from) ∙ length-take-le (suc (b .n)) (b .from) (omega (arith, M .fromLong, M .few))
+    long-here = sym (length-map here (bareMark (shape g))) ∙ sym (ap length M.from) ∙ length-take-le (suc (b .n))
+        (b .from) (omega (arith, M .fromLong, M .few))
 
     long-there : length there ≡ suc (b .k)
-    long-there = sym (length-map there (bareMark (shape g))) ∙ sym (ap length M.onto) ∙ length-take-le (suc (b .k)) (b .onto) (omega (arith, M .ontoLong, M .fewNext))
+    long-there = sym (length-map there (bareMark (shape g))) ∙ sym (ap length M.onto) ∙ length-take-le (suc (b .k))
+        (b .onto) (omega (arith, M .ontoLong, M .fewNext))
 
     from-at : (i : ℕ) → i ≤ b .n → at (b .from) i ≡ bareMark (shape g) (getD here i [])
-    from-at i l = sym (getD-take (suc (b .n)) (b .from) i 0 (omega arith)) ∙ ap (λ (r : List ℕ). at r i) M.from ∙ map-at (bareMark (shape g)) here i (omega (arith, long-here))
+    from-at i l = sym (getD-take (suc (b .n)) (b .from) i 0 (omega arith)) ∙ ap (λ (r : List ℕ). at r i) M.from ∙ map-at
+        (bareMark (shape g)) here i (omega (arith, long-here))
 
     onto-at : (j : ℕ) → j ≤ b .k → at (b .onto) j ≡ bareMark (shape g) (getD there j [])
-    onto-at j l = sym (getD-take (suc (b .k)) (b .onto) j 0 (omega arith)) ∙ ap (λ (r : List ℕ). at r j) M.onto ∙ map-at (bareMark (shape g)) there j (omega (arith, long-there))
+    onto-at j l = sym (getD-take (suc (b .k)) (b .onto) j 0 (omega arith)) ∙ ap (λ (r : List ℕ). at r j) M.onto ∙ map-at
+        (bareMark (shape g)) there j (omega (arith, long-there))
 
     pub can-carry : CanCarry (b .from) (b .n) (w .carried) (b .onto) (b .k) labels
     can-carry = record {
       few = M .few;
       long = M .fromLong;
-      carries = λ i l. carried-at i (omega (arith, long-here)) ∙ sym (ap (labelIn labels) (from-at i l) ∙ label-bare (getD here i []));
+      carries = λ i l. carried-at i (omega (arith, long-here)) ∙ sym
+          (ap (labelIn labels) (from-at i l) ∙ label-bare (getD here i []));
       fewNext = M .fewNext;
       nextLong = M .ontoLong;
       within = λ j l. let y = getD there j [] in
-          let on = all-in onPoints (isGridPoint (shape g)) there on-there y (at-in onPoints [] there j (omega (arith, long-there))) in
+          let on = all-in onPoints (isGridPoint (shape g)) there on-there y
+          (at-in onPoints [] there j (omega (arith, long-there))) in
           omega (
             arith,
             ap markPosition (onto-at j l) ∙ bare-position (shape g) y,

@@ -1,4 +1,5 @@
--- The moving call by its parts. In order: a refusal by questions 1 to 7; what comes next; the grid of a walk. Assumes nothing.
+-- The moving call by its parts. In order: a refusal by questions 1 to 7; what comes next; the grid of a walk. Assumes
+-- nothing.
 use mathlib.Core.Bool.{Bool, true, false, _&&_, cond}
 use mathlib.Core.List.{List, [], _∷_, _++_, map}
 use mathlib.Core.Path.{_≡_, refl, sym, ap, _∙_, subst}
@@ -27,7 +28,8 @@ use Rattle.walk_calls.specs.Moving.{CarriesTo, callOn, movedTo, unmovedA
 use Rattle.walk_calls.specs.Placing.{GoesTo}
 use Rattle.walk_labels.specs.declared.Carried.{Carried}
 use Rattle.walk_ways.specs.Standing.{walkOn}
-use Rattle.walk_ways.specs.Walks.{answerOf, firstSix, gridOf, nextAs, numbersOf, padded, placeAfter, placeOf, stored, structOn, walkOf}
+use Rattle.walk_ways.specs.Walks.{answerOf, firstSix, gridOf, nextAs, numbersOf, padded, placeAfter, placeOf, stored}
+use Rattle.walk_ways.specs.Walks.{structOn, walkOf}
 use Rattle.walk_calls.specs.Calls.{callOf}
 use Rattle.walk_ways.specs.declared.Answer.{Answer}
 use Rattle.walk_ways.specs.declared.Answer.the-variants.{Ended, Moved, Refused}
@@ -49,9 +51,12 @@ module _ (g : Grid) (w : WalkStruct) (labels : List ℕ) where
   call-refused k z = rw z
 
   -- the first of questions 1 to 7 that is answered no
-  pub table-refused : (k : ℕ) → (k ≡ 0 → ⊥) → firstNo (tableQuestions (over walk labels)) ≡ k → unmovedAs w k ≡ callOn g w labels
+  pub table-refused : (k : ℕ) → (k ≡ 0 → ⊥) → firstNo (tableQuestions (over walk labels)) ≡ k → unmovedAs w k
+      ≡ callOn g w labels
   table-refused k ne e = call-refused k (next-refused walk labels k ne
-      (asked-no (tableQuestions (over walk labels)) (ask 20 (isWalk (over walk labels) walk) ∷ ask 16 (allLabelled (over walk labels) (walk .present)) ∷ []) k ne e))
+      (asked-no (tableQuestions (over walk labels))
+      (ask 20 (isWalk (over walk labels) walk) ∷ ask 16 (allLabelled (over walk labels) (walk .present)) ∷ [])
+      k ne e))
 
   -- what comes next
   module _ (next : Next) (is : next ≡ nextAs walk labels (nextOf walk labels)) where
@@ -60,34 +65,40 @@ module _ (g : Grid) (w : WalkStruct) (labels : List ℕ) where
     unfolding nextAs
     goes-to rule e = go (nextOf walk labels) refl is
       where
-        go : (n : Outcome Simplex) → nextOf walk labels ≡ n → next ≡ nextAs walk labels n → GoesTo g w labels (next .place)
+        go : (n : Outcome Simplex) → nextOf walk labels ≡ n → next ≡ nextAs walk labels n → GoesTo g w labels
+            (next .place)
         go (refused k) x q = absurd-bool (let z = ap (λ (x : Next). x .answer) q in cc)
         go (ended k b s) x q = absurd-bool (let z = ap (λ (x : Next). x .answer) q in cc)
         go (moved s) x q = record { to = s; moves = x; place = ap (λ (x : Next). x .place) q }
 
-    pub call-moved : (G : GoesTo g w labels (next .place)) (on : Carried) → CarriesTo (over walk labels) (placeOf g (w .present)) (G .to) on
+    pub call-moved : (G : GoesTo g w labels (next .place)) (on : Carried) → CarriesTo (over walk labels)
+        (placeOf g (w .present)) (G .to) on
         → madeCall (next .answer) (next .simplex) (movedTo w (next .place) on) ≡ callOn g w labels
     unfolding callOn nextAs
     call-moved G on C =
         let q : next ≡ nextAs walk labels (moved (G .to)) = is ∙ ap (nextAs walk labels) G.moves in
         rw (G .moves, q, C .labels, C .cameIn)
 
-    pub call-refuses : (k : ℕ) → next .answer ≡ Refused k → madeCall (next .answer) (next .simplex) w ≡ callOn g w labels
+    pub call-refuses : (k : ℕ) → next .answer ≡ Refused k → madeCall (next .answer) (next .simplex) w
+        ≡ callOn g w labels
     unfolding callOn nextAs
     call-refuses k e = go (nextOf walk labels) is
       where
         go : (n : Outcome Simplex) → next ≡ nextAs walk labels n → madeCall (next .answer) (next .simplex) w
-            ≡ madeCall (answerOf (ruleOf (over walk labels) (placeOf g (w .present))) n) (padded 256 (numbersOf n)) (structOn (over walk labels) w n)
+            ≡ madeCall (answerOf (ruleOf (over walk labels) (placeOf g (w .present))) n) (padded 256 (numbersOf n))
+            (structOn (over walk labels) w n)
         go (refused k) q = rw q
         go (ended k b s) q = rw q
         go (moved s) q = absurd-bool (let z = ap (λ (x : Next). x .answer) q in cc)
 
-    pub call-ended : (kind : Kind) (block vertices : ℕ) → next .answer ≡ Ended kind block vertices → madeCall (next .answer) (next .simplex) w ≡ callOn g w labels
+    pub call-ended : (kind : Kind) (block vertices : ℕ) → next .answer ≡ Ended kind block vertices → madeCall
+        (next .answer) (next .simplex) w ≡ callOn g w labels
     unfolding callOn nextAs
     call-ended kind block vertices e = go (nextOf walk labels) is
       where
         go : (n : Outcome Simplex) → next ≡ nextAs walk labels n → madeCall (next .answer) (next .simplex) w
-            ≡ madeCall (answerOf (ruleOf (over walk labels) (placeOf g (w .present))) n) (padded 256 (numbersOf n)) (structOn (over walk labels) w n)
+            ≡ madeCall (answerOf (ruleOf (over walk labels) (placeOf g (w .present))) n) (padded 256 (numbersOf n))
+            (structOn (over walk labels) w n)
         go (refused k) q = rw q
         go (ended k b s) q = rw q
         go (moved s) q = absurd-bool (let z = ap (λ (x : Next). x .answer) q in cc)
@@ -99,14 +110,16 @@ places-few g w labels G =
     let P = moved-passes (walkOn g w) labels (G .to) (G .moves) .0 in
     let ok = P .accepted .settled in
     let few : numPoints g * sum (map (falling (numIndices g)) (upFrom 0 (suc (dimension g)))) ≤ 60000 * 35951249665217 =
-    mul-le-mul (ok .points) (terms-few (numIndices g) (dimension g) (ok .sixteenIndices) (omega (arith, ok .sixteenIndices, ok .someBlock))) in
+    mul-le-mul (ok .points) (terms-few (numIndices g) (dimension g) (ok .sixteenIndices)
+    (omega (arith, ok .sixteenIndices, ok .someBlock))) in
     (omega (arith, P .stands .bounded, few), omega (arith, P .stands .bounded, P .stands .readFew, few))
 
 pub call-on-own : (w : WalkStruct) (labels : List ℕ) → callOf w labels ≡ callOn (gridOf w) w labels
 unfolding callOf callOn
 call-on-own w labels = refl
 
-pub six-blocks : (w : WalkStruct) → w .blocks ≤ 6 → gridOf w ≡ record { sizes = take (w .blocks) (w .sizes); divisions = take (w .blocks) (w .divisions) }
+pub six-blocks : (w : WalkStruct) → w .blocks ≤ 6 → gridOf w
+    ≡ record { sizes = take (w .blocks) (w .sizes); divisions = take (w .blocks) (w .divisions) }
 six-blocks w l = rw (le-leb (w .blocks) 6 l)
 
 and-no : (a : Bool) → (a && false) ≡ false
@@ -114,15 +127,19 @@ and-no true = refl
 and-no false = refl
 
 -- neither more than six blocks nor none are a grid's
-pub too-many-blocks : (w : WalkStruct) → 6 < w .blocks → firstNo (gridQuestions (gridOf w)) ≡ firstNo (gridQuestions (record { sizes = []; divisions = [] }))
+pub too-many-blocks : (w : WalkStruct) → 6 < w .blocks → firstNo (gridQuestions (gridOf w)) ≡ firstNo
+    (gridQuestions (record { sizes = []; divisions = [] }))
 unfolding firstNo
-too-many-blocks w l = rw (lt-leb (w .blocks) 6 l, length-replicate {A = ℕ} (w .blocks) 0) (rw (lt-leb (w .blocks) 6 l, and-no (leb 1 (w .blocks))))
+too-many-blocks w l = rw (lt-leb (w .blocks) 6 l, length-replicate {A = ℕ} (w .blocks) 0)
+    (rw (lt-leb (w .blocks) 6 l, and-no (leb 1 (w .blocks))))
 
 pub none-refused : (k : ℕ) → k ≡ firstNo (gridQuestions (record { sizes = []; divisions = [] })) → k ≡ 0 → ⊥
 unfolding firstNo
 none-refused k e z = omega (arith, e, z)
 
 -- a refusal by questions 1 to 4
-pub grid-refused : (w : WalkStruct) (labels : List ℕ) (k : ℕ) → (k ≡ 0 → ⊥) → firstNo (gridQuestions (gridOf w)) ≡ k → unmovedAs w k ≡ callOf w labels
-grid-refused w labels k ne e = table-refused (gridOf w) w labels k ne (asked-no (gridQuestions (gridOf w)) (question5 (gridOf w) (walkOf w .start) ∷ question6 (over (walkOf w) labels)
+pub grid-refused : (w : WalkStruct) (labels : List ℕ) (k : ℕ) → (k ≡ 0 → ⊥) → firstNo (gridQuestions (gridOf w)) ≡ k →
+    unmovedAs w k ≡ callOf w labels
+grid-refused w labels k ne e = table-refused (gridOf w) w labels k ne
+    (asked-no (gridQuestions (gridOf w)) (question5 (gridOf w) (walkOf w .start) ∷ question6 (over (walkOf w) labels)
     ∷ question7 (over (walkOf w) labels) ∷ []) k ne e) ∙ sym (call-on-own w labels)

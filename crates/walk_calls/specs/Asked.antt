@@ -15,7 +15,8 @@ abbrev pub problemOn : GridStruct → List ℕ → List ℕ → Problem
 problemOn g start labels = record { grid = shape g; start = start; labels = labels }
 
 abbrev pub laterQuestions : GridStruct → List ℕ → List ℕ → List Question
-laterQuestions g start labels = let p = problemOn g start labels in question5 (p .grid) (p .start) ∷ question6 p ∷ question7 p ∷ []
+laterQuestions g start labels = let p = problemOn g start labels in
+    question5 (p .grid) (p .start) ∷ question6 p ∷ question7 p ∷ []
 
 -- the places so far are "from 1 to the bound", the labels read "from 1 to its places"
 abbrev pub inRange : Grid → ℕ → ℕ → Bool

@@ -31,7 +31,8 @@ pub record GridIn (g : Grid) (r : Made) : Type 0 where
   pub code : r .code ≡ firstNo (gridQuestions g)
   pub is : r .code ≡ 0 → IsMade (r .grid) × (shape (r .grid) ≡ g)
 
--- the walk passes questions 1 to 7, its places so far and its labels read are in range, and its present place is kept rightly
+-- the walk passes questions 1 to 7, its places so far and its labels read are in range, and its present place is kept
+-- rightly
 pub record CanStand (g : GridStruct) (w : WalkStruct) (labels first order : List ℕ) (n : ℕ) : Type 0 where
   pub made : IsMade g
   pub asked : firstNo (tableQuestions (tableOn g w labels)) ≡ 0
@@ -55,11 +56,13 @@ pub record FilledBy (marks : List ℕ) (point : ℕ) (unknown : Bool) (own : Lis
   pub each : (j : ℕ) → at own j ≡ at marks j + cond (unknown && eqb j point) 1 0
 
 -- however the label of the point is filled
-pub record CanChoose (g : GridStruct) (w : WalkStruct) (labels first list order marks : List ℕ) (n t u point : ℕ) : Type 0 where
+pub record CanChoose (g : GridStruct) (w : WalkStruct) (labels first list order marks : List ℕ) (n t u point : ℕ)
+    : Type 0 where
   pub low : point < 16
   pub long : length marks ≡ 16
   pub room : at marks point < 4294967295
-  pub stands : (own : List ℕ) (unknown : Bool) → unknown ≡ eqb (labelAt marks point) 0 → FilledBy marks point unknown own
+  pub stands : (own : List ℕ) (unknown : Bool) → unknown ≡ eqb (labelAt marks point) 0 →
+      FilledBy marks point unknown own
       → Standing g w labels first list order own n t u point unknown
 
 -- the labels of the next place, with 0 behind, and whether one of its points came in

@@ -62,7 +62,8 @@ fn chosen(
     sets: Sets,
     point: usize,
 ) -> Next
-    requires { ⌜ CanChoose g w (now labels) (now first) (now list) (now order) (now marks) n (sets .t) (sets .u) point ⌝ }
+    requires { ⌜ CanChoose g w (now labels) (now first) (now list) (now order) (now marks) n
+        (sets .t) (sets .u) point ⌝ }
     requires { ⌜ IsRoundOf g (g .previous) (g .next) (now sizes) ⌝ }
     ensures { λ r. ⌜ r ≡ nextIn g w (now (labels .entry)) ⌝ }
 {
@@ -272,8 +273,8 @@ pub fn grid_in(w: Walk) -> Made
     Grid::new(&sizes[..blocks], &divisions[..blocks])
 }
 
-// Moves a walk on by one place: questions 1 to 7 on its own grid and start and the table lent, then 20 and 16. At an end,
-// and where it is refused, the walk is as it was.
+// Moves a walk on by one place: questions 1 to 7 on its own grid and start and the table lent, then 20 and 16. At an
+// end, and where it is refused, the walk is as it was.
 pub fn moved(w: Walk, labels: &[u8]) -> Call
     ensures { λ r. ⌜ r ≡ callOf w (now (labels .entry)) ⌝ }
 {

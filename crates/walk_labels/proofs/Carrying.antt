@@ -1,4 +1,5 @@
--- Labels carried one after the other. In order: labels in marks; a mark that is searched; one label more. Assumes nothing.
+-- Labels carried one after the other. In order: labels in marks; a mark that is searched; one label more. Assumes
+-- nothing.
 use mathlib.Core.Bool.{Bool, true, false, not, _&&_, cond}
 use mathlib.Core.List.{List, [], _∷_, _++_, map}
 use mathlib.Core.Logic.{⊎-elim}
@@ -30,14 +31,17 @@ module _ (marks : List ℕ) (n : ℕ) (few : n ≤ 15) (long : length marks ≡ 
   labels-long = length-map (take (suc n) marks) markLabel ∙ first-long
 
   pub front-long : length (labelsIn marks n) ≡ 16
-  front-long = let z = length-replicate {A = ℕ} 16 0 in front-length (map markLabel (take (suc n) marks)) (replicate 16 0) (omega (arith, labels-long, z)) ∙ z
+  front-long = let z = length-replicate {A = ℕ} 16 0 in
+      front-length (map markLabel (take (suc n) marks)) (replicate 16 0) (omega (arith, labels-long, z)) ∙ z
 
   pub label-front : (k : ℕ) → k ≤ n → markLabel (at marks k) ≡ at (labelsIn marks n) k
   label-front k l = sym (front-at (map markLabel (take (suc n) marks)) (replicate 16 0) k (omega (arith, labels-long))
-      ∙ labels-in (take (suc n) marks) k (omega (arith, first-long)) ∙ ap markLabel (getD-take (suc n) marks k 0 (omega arith)))
+      ∙ labels-in (take (suc n) marks) k (omega (arith, first-long)) ∙ ap markLabel
+      (getD-take (suc n) marks k 0 (omega arith)))
 
   pub label-behind : (k : ℕ) → n < k → k ≤ 15 → _≡_ {A = ℕ} 0 (at (labelsIn marks n) k)
-  label-behind k l m = sym (front-behind (map markLabel (take (suc n) marks)) (replicate 16 0) k (omega (arith, labels-long)) ∙ getD-replicate {A = ℕ} 16 k 0 0 (omega arith))
+  label-behind k l m = sym (front-behind (map markLabel (take (suc n) marks)) (replicate 16 0) k
+      (omega (arith, labels-long)) ∙ getD-replicate {A = ℕ} 16 k 0 0 (omega arith))
 
 -- a mark that is searched
 module _ (marks : List ℕ) (n mark : ℕ) (few : n ≤ 15) (long : length marks ≡ 16) where
@@ -81,34 +85,46 @@ pub record CarriedBelow (marks : List ℕ) (n : ℕ) (next table labels : List �
   pub put : labels ≡ front (map (labelIn table) (take j next)) (replicate 16 0)
   pub cameIn : came ≡ not (all (λ m. isIn eqb m (take (suc n) marks)) (take j next))
 
-module _ (marks : List ℕ) (n : ℕ) (carried next : List ℕ) (k : ℕ) (table : List ℕ) (C : CanCarry marks n carried next k table) where
+module _ (marks : List ℕ) (n : ℕ) (carried next : List ℕ) (k : ℕ) (table : List ℕ)
+    (C : CanCarry marks n carried next k table) where
   pub none-carried : CarriedBelow marks n next table (replicate 16 0) false 0
   none-carried = record { put = sym (front-none (replicate 16 0)); cameIn = refl }
 
   pub position-here : (j r : ℕ) → j ≤ k → r ≡ markPosition (at (take (suc k) next) j) → r ≡ markPosition (at next j)
   position-here j r l e = e ∙ ap markPosition (getD-take (suc k) next j 0 (omega arith))
 
-  module _ (labels : List ℕ) (came : Bool) (j : ℕ) (B : CarriedBelow marks n next table labels came j) (l : j ≤ k) (i : ℕ) (F : FoundIn marks n (at next j) i) where
+  module _ (labels : List ℕ) (came : Bool) (j : ℕ) (B : CarriedBelow marks n next table labels came j) (l : j ≤ k)
+      (i : ℕ) (F : FoundIn marks n (at next j) i) where
     next-more : take (j + 1) next ≡ take j next ++ (at next j ∷ [])
     next-more = rw (add-one j) (take-suc next j 0 (omega (arith, C .nextLong, C .fewNext)))
 
     -- the label is the table's, whether carried or read
     label-is : cond (leb i n) (at carried i) (labelIn table (at next j)) ≡ labelIn table (at next j)
-    label-is = ⊎-elim (λ (m : n < i). rw (lt-leb i n m)) (λ (m : i ≤ n). rw (le-leb i n m) (C .carries i m ∙ ap (labelIn table) (F .there m))) (before-or-not n i)
+    label-is = ⊎-elim (λ (m : n < i). rw (lt-leb i n m))
+        (λ (m : i ≤ n). rw (le-leb i n m) (C .carries i m ∙ ap (labelIn table) (F .there m))) (before-or-not n i)
 
     stored : (x : ℕ) → x ≡ cond (leb i n) (at carried i) (labelIn table (at next j))
         → set labels j x ≡ front (map (labelIn table) (take (j + 1) next)) (replicate 16 0)
     stored x e =
         let z : x ≡ labelIn table (at next j) = e ∙ label-is in
         let few : j < 16 = omega (arith, C .fewNext) in
-        let long : length (map (labelIn table) (take j next)) ≡ j = length-map (take j next) (labelIn table) ∙ length-take-le j next (omega (arith, C .nextLong, C .fewNext)) in
-        rw (z, B .put) (front-put (map (labelIn table) (take j next)) (replicate 16 0) j (labelIn table (at next j)) (sym long) few
-        ∙ ap (λ (r : List ℕ). front r (replicate 16 0)) (sym (ap (map (labelIn table)) next-more ∙ map-more (labelIn table) (take j next) (at next j))))
+        let long : length (map (labelIn table) (take j next)) ≡ j = length-map (take j next) (labelIn table) ∙
+        length-take-le j next (omega (arith, C .nextLong, C .fewNext)) in
+        rw (z, B .put) (front-put (map (labelIn table) (take j next)) (replicate 16 0) j (labelIn table (at next j))
+        (sym long) few
+        ∙ ap (λ (r : List ℕ). front r (replicate 16 0))
+        (sym (ap (map (labelIn table)) next-more ∙ map-more (labelIn table) (take j next) (at next j))))
 
-    pub carried-in : n < i → (x : ℕ) → x ≡ cond (leb i n) (at carried i) (labelIn table (at next j)) → CarriedBelow marks n next table (set labels j x) true (j + 1)
+    pub carried-in : n < i → (x : ℕ) → x ≡ cond (leb i n) (at carried i) (labelIn table (at next j)) →
+        CarriedBelow marks n next table (set labels j x) true (j + 1)
     carried-in m x e = record {
       put = stored x e;
-      cameIn = rw (next-more, all-more (λ m. isIn eqb m (take (suc n) marks)) (take j next) (at next j), F .among, lt-leb i n m)
+      cameIn = rw (
+        next-more,
+        all-more (λ m. isIn eqb m (take (suc n) marks)) (take j next) (at next j),
+        F .among,
+        lt-leb i n m,
+      )
           (sym (ap not (and-false (all (λ m. isIn eqb m (take (suc n) marks)) (take j next)))));
     }
       where
@@ -116,10 +132,16 @@ module _ (marks : List ℕ) (n : ℕ) (carried next : List ℕ) (k : ℕ) (table
         and-false true = refl
         and-false false = refl
 
-    pub carried-over : i ≤ n → (x : ℕ) → x ≡ cond (leb i n) (at carried i) (labelIn table (at next j)) → CarriedBelow marks n next table (set labels j x) came (j + 1)
+    pub carried-over : i ≤ n → (x : ℕ) → x ≡ cond (leb i n) (at carried i) (labelIn table (at next j)) →
+        CarriedBelow marks n next table (set labels j x) came (j + 1)
     carried-over m x e = record {
       put = stored x e;
-      cameIn = B .cameIn ∙ rw (next-more, all-more (λ m. isIn eqb m (take (suc n) marks)) (take j next) (at next j), F .among, le-leb i n m)
+      cameIn = B .cameIn ∙ rw (
+        next-more,
+        all-more (λ m. isIn eqb m (take (suc n) marks)) (take j next) (at next j),
+        F .among,
+        le-leb i n m,
+      )
           (sym (ap not (and-true (all (λ m. isIn eqb m (take (suc n) marks)) (take j next)))));
     }
       where

@@ -5,7 +5,8 @@ use Prim.Native.Nat.{ℕ, _≤_}
 use Rattle.grid.specs.Grid.{bound}
 use Rattle.walks.specs.Walk.{Walk, labelsOf, over}
 
--- its places so far are from 1 to the bound, it carries its place's labels, and its labels read are from 1 to its places
+-- its places so far are from 1 to the bound, it carries its place's labels, and its labels read are from 1 to its
+-- places
 pub record Counted (w : Walk) (labels : List ℕ) : Type 0 where
   pub some : 1 ≤ w .places
   pub most : w .places ≤ bound (w .grid)

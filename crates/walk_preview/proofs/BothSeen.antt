@@ -25,7 +25,8 @@ use Rattle.walk_ways.specs.Walks.{placeOf}
 use Rattle.walk_ways.specs.declared.Place.{Place}
 use Rattle.walk_ways.specs.declared.Walk.{Walk as WalkStruct}
 
-module _ {g : GridStruct} {w : WalkStruct} {labels : List ℕ} {next : Place} {rule : ℕ} (C : CanShow g w labels next rule) where
+module _ {g : GridStruct} {w : WalkStruct} {labels : List ℕ} {next : Place} {rule : ℕ}
+    (C : CanShow g w labels next rule) where
   abbrev W : Walk
   W = walkOn (shape g) w
 
@@ -50,7 +51,8 @@ module _ {g : GridStruct} {w : WalkStruct} {labels : List ℕ} {next : Place} {r
   by-rule : ByRule (change p here there) rule
   by-rule =
       subst (λ (q : ℕ). ByRule (change p here there) q) (sym (C .moves .byRule))
-      (subst (λ (s : Simplex). ByRule (change p here s) (ruleOf p here there)) stands (calls-hold W labels .rule (ruleOf p here there) answers))
+      (subst (λ (s : Simplex). ByRule (change p here s) (ruleOf p here there)) stands
+      (calls-hold W labels .rule (ruleOf p here there) answers))
 
   change-is : changeOn g w labels ≡ changedOf (change p here there)
   unfolding preview
@@ -59,19 +61,25 @@ module _ {g : GridStruct} {w : WalkStruct} {labels : List ℕ} {next : Place} {r
   few : numIndices (shape g) ≤ 16
   few = ok (C .made) (C .moves .goes) .settled .sixteenIndices
 
-  come : (x : ℕ) → change p here there .pointsIn ≡ x ∷ [] → otherIn (map (bareMark (shape g)) there) (map (bareMark (shape g)) here) ≡ x
+  come : (x : ℕ) → change p here there .pointsIn ≡ x ∷ [] → otherIn (map (bareMark (shape g)) there)
+      (map (bareMark (shape g)) here) ≡ x
   unfolding change
-  come x e = only-other (ok (C .made) (C .moves .goes)) here there (on-here (C .made) (C .moves .goes)) (on-there (C .made) (C .moves .goes)) x e
+  come x e = only-other (ok (C .made) (C .moves .goes)) here there (on-here (C .made) (C .moves .goes))
+      (on-there (C .made) (C .moves .goes)) x e
 
-  gone : (x : ℕ) → change p here there .pointsOut ≡ x ∷ [] → otherIn (map (bareMark (shape g)) here) (map (bareMark (shape g)) there) ≡ x
+  gone : (x : ℕ) → change p here there .pointsOut ≡ x ∷ [] → otherIn (map (bareMark (shape g)) here)
+      (map (bareMark (shape g)) there) ≡ x
   unfolding change
-  gone x e = only-other (ok (C .made) (C .moves .goes)) there here (on-there (C .made) (C .moves .goes)) (on-here (C .made) (C .moves .goes)) x e
+  gone x e = only-other (ok (C .made) (C .moves .goes)) there here (on-there (C .made) (C .moves .goes))
+      (on-here (C .made) (C .moves .goes)) x e
 
   pub shown : (b : Both) → BothMarked p here there b
-      → changeFor rule (otherIn (take (suc (b .k)) (b .onto)) (take (suc (b .n)) (b .from))) (otherIn (take (suc (b .n)) (b .from)) (take (suc (b .k)) (b .onto)))
+      → changeFor rule (otherIn (take (suc (b .k)) (b .onto)) (take (suc (b .n)) (b .from)))
+      (otherIn (take (suc (b .n)) (b .from)) (take (suc (b .k)) (b .onto)))
       (suc (indexFrom (b .t) (b .u) (b .t2) (b .u2)))
       ≡ changeOn g w labels
   shown b M =
       rw (M .from, M .onto)
-      (changed p here there (maskT p few here (b .t) M.inT) (maskT p few there (b .t2) M.nextT) (maskU p few here (b .u) M.inU) (maskU p few there (b .u2) M.nextU)
+      (changed p here there (maskT p few here (b .t) M.inT) (maskT p few there (b .t2) M.nextT)
+      (maskU p few here (b .u) M.inU) (maskU p few there (b .u2) M.nextU)
       come gone by-rule ∙ sym change-is)

@@ -26,7 +26,8 @@ use Rattle.walk_ways.specs.declared.Kind.{Kind}
 use Rattle.walk_ways.specs.declared.Place.{Place}
 use Rattle.walk_ways.specs.declared.Walk.{Walk as WalkStruct}
 
-pub grid-passes : {w : WalkStruct} {labels : List ℕ} {next : Place} {rule : ℕ} → Moves (gridOf w) w labels next rule → firstNo (gridQuestions (gridOf w)) ≡ 0
+pub grid-passes : {w : WalkStruct} {labels : List ℕ} {next : Place} {rule : ℕ} → Moves (gridOf w) w labels next rule →
+    firstNo (gridQuestions (gridOf w)) ≡ 0
 grid-passes {w} {labels} M = grid-asked (moved-passes (walkOf w) labels (M .goes .to) (M .goes .moves) .0 .accepted)
 
 abbrev pub shownWith : Answer → List ℕ → ChangeStruct → Shown
@@ -44,7 +45,8 @@ module _ (w : WalkStruct) (labels : List ℕ) where
   unfolding callOf
   call-is n e = rw e
 
-  preview-is : (n : Outcome Simplex) → nextOf (walkOf w) labels ≡ n → preview (walkOf w) labels ≡ onMove (moveTo (over (walkOf w) labels) (walkOf w .present)) n
+  preview-is : (n : Outcome Simplex) → nextOf (walkOf w) labels ≡ n → preview (walkOf w) labels ≡ onMove
+      (moveTo (over (walkOf w) labels) (walkOf w .present)) n
   unfolding preview
   preview-is n e = rw e
 
@@ -65,12 +67,14 @@ module _ (w : WalkStruct) (labels : List ℕ) where
     unfolding front
     shown-moved rule e change d = go (nextOf (walkOf w) labels) refl
       where
-        go : (n : Outcome Simplex) → nextOf (walkOf w) labels ≡ n → shownWith (c .answer) (c .simplex) change ≡ shownAs (preview (walkOf w) labels)
+        go : (n : Outcome Simplex) → nextOf (walkOf w) labels ≡ n → shownWith (c .answer) (c .simplex) change ≡ shownAs
+            (preview (walkOf w) labels)
         go (refused k) q = absurd-bool (let z = ap (λ (x : Call). x .answer) (is ∙ call-is (refused k) q) in cc)
         go (ended k b s) q = absurd-bool (let z = ap (λ (x : Call). x .answer) (is ∙ call-is (ended k b s) q) in cc)
         go (moved s) q = rw (is, call-is (moved s) q, d, preview-is (moved s) q)
 
-    still : (change : ChangeStruct) → change ≡ noChange → (n : Outcome Simplex) → nextOf (walkOf w) labels ≡ n → ((s : Simplex) → n ≡ moved s → ⊥)
+    still : (change : ChangeStruct) → change ≡ noChange → (n : Outcome Simplex) → nextOf (walkOf w) labels ≡ n →
+        ((s : Simplex) → n ≡ moved s → ⊥)
         → shownWith (c .answer) (c .simplex) change ≡ shownAs (preview (walkOf w) labels)
     unfolding front
     still change d (refused k) q f = rw (is, call-is (refused k) q, d, preview-is (refused k) q)
@@ -82,7 +86,8 @@ module _ (w : WalkStruct) (labels : List ℕ) where
     shown-refused number e change d = still change d (nextOf (walkOf w) labels) refl
         (λ s q. absurd-bool (let z = ap (λ (x : Call). x .answer) (is ∙ call-is (moved s) q) in cc))
 
-    pub shown-ended : (kind : Kind) (block vertices : ℕ) → c .answer ≡ Ended kind block vertices → (change : ChangeStruct) → change ≡ noChange
+    pub shown-ended : (kind : Kind) (block vertices : ℕ) → c .answer ≡ Ended kind block vertices →
+        (change : ChangeStruct) → change ≡ noChange
         → shownWith (c .answer) (c .simplex) change ≡ shownAs (preview (walkOf w) labels)
     shown-ended kind block vertices e change d = still change d (nextOf (walkOf w) labels) refl
         (λ s q. absurd-bool (let z = ap (λ (x : Call). x .answer) (is ∙ call-is (moved s) q) in cc))

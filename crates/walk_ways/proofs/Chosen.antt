@@ -1,4 +1,5 @@
--- What the two moves from a recognised place give is what comes next. In order: the state lent; a way as a struct; the way back; what is told. Assumes nothing.
+-- What the two moves from a recognised place give is what comes next. In order: the state lent; a way as a struct; the
+-- way back; what is told. Assumes nothing.
 use mathlib.Core.Bool.{Bool, true, false, _&&_, cond}
 use mathlib.Core.List.{List, [], _∷_, map}
 use mathlib.Core.Logic.{_⊎_, inl, inr, ⊎-elim}
@@ -102,16 +103,19 @@ module _ {g : GridStruct} {w : WalkStruct} {labels first list order marks : List
       go zero e = omega (arith, S .low)
       go (suc k) e = unknown-only ok y o S.place k (long-o ∙ e) point j (omega (arith, S .low)) (omega arith) S.spare z
 
-  filled-mark : (j : ℕ) → j ≤ n → markOf p (getD s j []) + cond (unknown && eqb j point) 1 0 ≡ markOf (filledTable p) (getD s j [])
+  filled-mark : (j : ℕ) → j ≤ n → markOf p (getD s j []) + cond (unknown && eqb j point) 1 0 ≡ markOf (filledTable p)
+      (getD s j [])
   unfolding label
   filled-mark j l =
       ⊎-elim (λ (z : label p (getD s j []) ≡ 0).
       let e = only-unknown j l z in
       let un : unknown ≡ true = S .unknownIs ∙ eq-eqb _ 0 (ap (λ (i : ℕ). label p (getD s i [])) (sym e) ∙ z) in
-      let f : label (filledTable p) (getD s j []) ≡ 1 = map-fill labels (position p.grid (getD s j [])) low-position ∙ ap fill z in
+      let f : label (filledTable p) (getD s j []) ≡ 1 = map-fill labels (position p.grid (getD s j [])) low-position ∙
+      ap fill z in
       rw (un, eq-eqb j point e) (omega (arith, f, z)))
       (λ (z : label p (getD s j []) ≡ 0 → ⊥).
-      let f : label (filledTable p) (getD s j []) ≡ label p (getD s j []) = filled-label ok (getD s j []) (omega (arith, z)) in
+      let f : label (filledTable p) (getD s j []) ≡ label p (getD s j []) = filled-label ok (getD s j [])
+      (omega (arith, z)) in
       let c : (unknown && eqb j point) ≡ false = false-of _ (λ q. z (
       let un = and-left unknown (eqb j point) q in let e = eqb-true j point (and-right unknown (eqb j point) q) in
       ap (λ (i : ℕ). label p (getD s i [])) e ∙ eqb-true _ 0 (sym S.unknownIs ∙ un))) in
@@ -122,8 +126,10 @@ module _ {g : GridStruct} {w : WalkStruct} {labels first list order marks : List
       low-position = omega (arith, ok .tableLength, position-low-of)
         where
           position-low-of : position p.grid (getD s j []) < numPoints p.grid
-          position-low-of = position-in (points p.grid) (getD s j []) (in-points p.grid (getD s j []) ok.settled.sameNumber
-              (all-in onPoints (isGridPoint p.grid) s (parts p s S.place .gridPoints) (getD s j []) (at-in onPoints [] s j (omega (arith, points-long ok y o S.place, long-o)))))
+          position-low-of = position-in (points p.grid) (getD s j [])
+              (in-points p.grid (getD s j []) ok.settled.sameNumber
+              (all-in onPoints (isGridPoint p.grid) s (parts p s S.place .gridPoints) (getD s j [])
+              (at-in onPoints [] s j (omega (arith, points-long ok y o S.place, long-o)))))
 
   -- the state of a move
   module _ {previous next sizes : List ℕ} (N : IsRoundOf g previous next sizes) where
@@ -144,7 +150,8 @@ module _ {g : GridStruct} {w : WalkStruct} {labels first list order marks : List
       inT = S .inT;
       inU = S .inU;
       marksLong = length-take (suc n) marks ∙ omega (arith, S .marksLong, S .few, long-o);
-      marked = λ j l. let jl : j ≤ n = omega (arith, long-o) in getD-take (suc n) marks j 0 (omega arith) ∙ S .marked j jl ∙ filled-mark j jl;
+      marked = λ j l. let jl : j ≤ n = omega (arith, long-o) in
+          getD-take (suc n) marks j 0 (omega arith) ∙ S .marked j jl ∙ filled-mark j jl;
     }
 
     abbrev pub q : Problem
@@ -170,14 +177,18 @@ module _ {g : GridStruct} {w : WalkStruct} {labels first list order marks : List
 
       pub tried-on : (rule : ℕ) → rule < 6 → Tried rule
       tried-on rule r = record {
-        ready = ready-a walk labels ok y o S.present S.place S.counted k (long-o ∙ e) point low-point S.spare (stateAs rule) (lent rule) refl r;
-        fits = fits-a walk labels ok y o S.present S.place S.counted k (long-o ∙ e) point low-point S.spare (stateAs rule) (lent rule) refl r;
+        ready = ready-a walk labels ok y o S.present S.place S.counted k (long-o ∙ e) point low-point S.spare
+            (stateAs rule) (lent rule) refl r;
+        fits = fits-a walk labels ok y o S.present S.place S.counted k (long-o ∙ e) point low-point S.spare
+            (stateAs rule) (lent rule) refl r;
       }
 
       pub tried-back : (rule : ℕ) → 6 ≤ rule → Tried rule
       tried-back rule r = record {
-        ready = ready-b walk labels ok y o S.present S.place S.counted k (long-o ∙ e) point low-point S.spare (stateAs rule) (lent rule) refl r;
-        fits = fits-b walk labels ok y o S.present S.place S.counted k (long-o ∙ e) point low-point S.spare (stateAs rule) (lent rule) refl r;
+        ready = ready-b walk labels ok y o S.present S.place S.counted k (long-o ∙ e) point low-point S.spare
+            (stateAs rule) (lent rule) refl r;
+        fits = fits-b walk labels ok y o S.present S.place S.counted k (long-o ∙ e) point low-point S.spare
+            (stateAs rule) (lent rule) refl r;
       }
 
     -- the way, as a struct
@@ -195,10 +206,12 @@ module _ {g : GridStruct} {w : WalkStruct} {labels first list order marks : List
       can-put from l = record {
         below = N .below .backward;
         firstLength = S .firstLong;
-        points = rw (ap length refl) (ready-point (full ok y o S.place) (describes ok y o S.place a (lent rule)) (length o) (omega arith));
+        points = rw (ap length refl) (ready-point (full ok y o S.place) (describes ok y o S.place a (lent rule))
+            (length o) (omega arith));
         short = omega (arith, m-is, ok .settled .sixteenIndices);
         low = omega (arith, long-o);
-        fits = product (suc (length o) - from) (g .indices) (omega (arith, long-o, S .few)) (omega (arith, m-is, ok .settled .sixteenIndices));
+        fits = product (suc (length o) - from) (g .indices) (omega (arith, long-o, S .few))
+            (omega (arith, m-is, ok .settled .sixteenIndices));
       }
         where
           product : (x m : ℕ) → x ≤ 16 → m ≤ 16 → x * m ≤ 256
@@ -210,15 +223,19 @@ module _ {g : GridStruct} {w : WalkStruct} {labels first list order marks : List
         facet = λ h z. go-facet (step a) refl h z;
       }
         where
-          go-place : (after : After) → step a ≡ after → (h : ℕ) → wayIn (g .indices) a after .leads ≡ PlaceEnd h → (h < g .indices) × CanPut told-state (g .indices) 0 256
+          go-place : (after : After) → step a ≡ after → (h : ℕ) → wayIn (g .indices) a after .leads ≡ PlaceEnd h →
+              (h < g .indices) × CanPut told-state (g .indices) 0 256
           go-place (goes e) x h z = absurd-bool (cc)
-          go-place (endsAtPlace d k) x h z = let r : k ≡ h = cc in (omega (arith, R .fits .place d k x .1, m-is, r), can-put 0 (omega arith))
+          go-place (endsAtPlace d k) x h z = let r : k ≡ h = cc in
+              (omega (arith, R .fits .place d k x .1, m-is, r), can-put 0 (omega arith))
           go-place (endsAtFacet d k) x h z = absurd-bool (cc)
 
-          go-facet : (after : After) → step a ≡ after → (h : ℕ) → wayIn (g .indices) a after .leads ≡ FacetEnd h → (h < g .indices) × CanPut told-state (g .indices) 1 256
+          go-facet : (after : After) → step a ≡ after → (h : ℕ) → wayIn (g .indices) a after .leads ≡ FacetEnd h →
+              (h < g .indices) × CanPut told-state (g .indices) 1 256
           go-facet (goes e) x h z = absurd-bool (cc)
           go-facet (endsAtPlace d k) x h z = absurd-bool (cc)
-          go-facet (endsAtFacet d k) x h z = let r : k ≡ h = cc in let f = R .fits .facet d k x in (omega (arith, f .1, m-is, r), can-put 1 (omega (arith, f .2, long-o)))
+          go-facet (endsAtFacet d k) x h z = let r : k ≡ h = cc in let f = R .fits .facet d k x in
+              (omega (arith, f .1, m-is, r), can-put 1 (omega (arith, f .2, long-o)))
 
       -- it leads to the place before
       pub leads-there : length (w .before .order) ≡ 16 → leadsBack (wayIn (g .indices) a (step a)) (w .before) ≡ true
@@ -229,20 +246,29 @@ module _ {g : GridStruct} {w : WalkStruct} {labels first list order marks : List
               → (b : Simplex) × (beforeOf (shape g) (w .before) ≡ some b) × (wayOf q after ≡ link b)
           go (goes e) x z =
               let f = R .fits .moves e x in
-              let same : w .before ≡ keptAs (g .indices) (e .first) (e .order) (length (e .order)) = sym (same-place _ (w .before) z) in
-              let t : take (length (e .order)) (e .order) ≡ e .order = take-whole (e .order) in
-              (keptBy q e, rw same (rw m-is (kept-before (shape g) (e .first) (e .order) (length (e .order)) (ok .settled .sixteenIndices) (f .0) (f .1) (omega arith))) ∙ ap (λ (r : List ℕ). some (keptPoints (shape g) (take (numIndices (shape g)) (e .first)) r)) t, refl)
+              let same : w .before ≡ keptAs (g .indices) (e .first) (e .order) (length (e .order)) = sym
+              (same-place _ (w .before) z) in
+              let t : take (length (e .order)) (e .order) ≡ e .order = take-whole (e .order) in (
+                keptBy q e,
+                rw same (rw m-is (kept-before (shape g) (e .first) (e .order) (length (e .order))
+                    (ok .settled .sixteenIndices) (f .0) (f .1) (omega arith))) ∙ ap
+                    (λ (r : List ℕ). some (keptPoints (shape g) (take (numIndices (shape g)) (e .first)) r)) t,
+                refl,
+              )
           go (endsAtPlace d k) x z = absurd-bool (sym z)
           go (endsAtFacet d k) x z = absurd-bool (sym z)
 
-      pub leads-elsewhere : length (w .before .order) ≡ 16 → leadsBack (wayIn (g .indices) a (step a)) (w .before) ≡ false → (b : Simplex)
+      pub leads-elsewhere : length (w .before .order) ≡ 16 → leadsBack (wayIn (g .indices) a (step a)) (w .before)
+          ≡ false → (b : Simplex)
           → beforeOf (shape g) (w .before) ≡ some b → wayOf q (step a) ≡ link b → ⊥
       leads-elsewhere long z b is = go (step a) refl z
         where
           held-b : placeOf (shape g) (w .before) ≡ b
-          held-b = ⊎-elim (λ t. absurd-bool (let c = rw t at is in cc)) (λ t. let c = rw t at is in cc) (true-or-false (samePlace (w .before) nowhere))
+          held-b = ⊎-elim (λ t. absurd-bool (let c = rw t at is in cc)) (λ t. let c = rw t at is in cc)
+              (true-or-false (samePlace (w .before) nowhere))
 
-          go : (after : After) → step a ≡ after → leadsBack (wayIn (g .indices) a after) (w .before) ≡ false → wayOf q after ≡ link b → ⊥
+          go : (after : After) → step a ≡ after → leadsBack (wayIn (g .indices) a after) (w .before) ≡ false →
+              wayOf q after ≡ link b → ⊥
           go (endsAtPlace d k) x z v = absurd-bool (cc)
           go (endsAtFacet d k) x z v = absurd-bool (cc)
           go (goes e) x z v =
@@ -250,60 +276,75 @@ module _ {g : GridStruct} {w : WalkStruct} {labels first list order marks : List
               let t : take (length (e .order)) (e .order) ≡ e .order = take-whole (e .order) in
               let k : keptBy q e ≡ b = cc in
               let c : w .before ≡ keptAs (numIndices (shape g)) (e .first) (e .order) (length (e .order)) =
-              held-once q (filled-full ok .settled) (w .before) long (e .first) (e .order) (length (e .order)) (ap length t) (rw t (f .2)) (rw t (held-b ∙ sym k)) in
-              absurd-bool (sym (place-same (keptAs (g .indices) (e .first) (e .order) (length (e .order))) (w .before) (rw m-is (sym c))) ∙ z)
+              held-once q (filled-full ok .settled) (w .before) long (e .first) (e .order) (length (e .order))
+              (ap length t) (rw t (f .2)) (rw t (held-b ∙ sym k)) in
+              absurd-bool (sym (place-same (keptAs (g .indices) (e .first) (e .order) (length (e .order))) (w .before)
+              (rw m-is (sym c))) ∙ z)
 
       -- what is told of it is what comes next
       points-here : pointsOf q (coefficientsOf q s) ≡ s
-      points-here = pointsOf-coefficientsOf (filled-full ok .settled) s (parts q s (place-filled ok y o S.place) .gridPoints)
+      points-here = pointsOf-coefficientsOf (filled-full ok .settled) s
+          (parts q s (place-filled ok y o S.place) .gridPoints)
 
-      masks : ((k : ℕ) → k < 16 → bit t k ≡ isIn eqb k (setT p s)) × ((k : ℕ) → k < 16 → bit u k ≡ isIn eqb k (setU (shape g) s))
+      masks : ((k : ℕ) → k < 16 → bit t k ≡ isIn eqb k (setT p s)) ×
+          ((k : ℕ) → k < 16 → bit u k ≡ isIn eqb k (setU (shape g) s))
       masks = let m = described-masks (full ok y o S.place) (describes ok y o S.place a (lent rule)) in (
-        λ k l. m .0 k l ∙ ap (λ (z : Simplex). isIn eqb k (setT q z)) points-here ∙ ap (λ (z : List ℕ). isIn eqb k z) (setT-same p (map fill labels) s),
+        λ k l. m .0 k l ∙ ap (λ (z : Simplex). isIn eqb k (setT q z)) points-here ∙ ap (λ (z : List ℕ). isIn eqb k z)
+            (setT-same p (map fill labels) s),
         λ k l. m .1 k l ∙ ap (λ (z : Simplex). isIn eqb k (setU (shape g) z)) points-here,
       )
 
-      rule-is : (e : State) → step a ≡ goes e → nextOf walk labels ≡ moved (keptBy q e) → ruleFrom t u (e .T) (e .U) ≡ ruleOf p (placeOf (shape g) (w .present)) (keptBy q e)
+      rule-is : (e : State) → step a ≡ goes e → nextOf walk labels ≡ moved (keptBy q e) → ruleFrom t u (e .T) (e .U)
+          ≡ ruleOf p (placeOf (shape g) (w .present)) (keptBy q e)
       unfolding moveAnswer moveWalk
       rule-is e x z =
           let f = R .fits .moves e x in
           let b = calls-hold walk labels .rule (ruleOf p (walk .present) (keptBy q e)) (rw z) in
           let c : ByRule (change p (walk .present) (keptBy q e)) (ruleOf p (walk .present) (keptBy q e)) = rw z at b in
           rule-told p (ok .settled .sixteenIndices) (walk .present) (keptBy q e) t u (e .T) (e .U)
-          (λ k l. rw S.present (masks .0 k l)) (λ k l. f .3 k l ∙ ap (λ (r : List ℕ). isIn eqb k r) (setT-same p (map fill labels) (keptBy q e)))
+          (λ k l. rw S.present (masks .0 k l)) (λ k l. f .3 k l ∙ ap (λ (r : List ℕ). isIn eqb k r)
+          (setT-same p (map fill labels) (keptBy q e)))
           (λ k l. rw S.present (masks .1 k l)) (f .4) c
 
       long-points : (f : ℕ → Point) (b k : ℕ) → length (map f (upFrom b k)) ≡ k
       long-points f b k = length-map (upFrom b k) f ∙ length-upFrom b k
 
-      moved-told : (e : State) → step a ≡ goes e → nextOf walk labels ≡ moved (keptBy q e) → toldAs g told-state (wayIn (g .indices) a (goes e)) ≡ nextIn g w labels
+      moved-told : (e : State) → step a ≡ goes e → nextOf walk labels ≡ moved (keptBy q e) → toldAs g told-state
+          (wayIn (g .indices) a (goes e)) ≡ nextIn g w labels
       unfolding nextAs front
       moved-told e x z =
           let f = R .fits .moves e x in
           let t : take (length (e .order)) (e .order) ≡ e .order = take-whole (e .order) in
           let c : stored (shape g) (keptBy q e) ≡ keptAs (g .indices) (e .first) (e .order) (length (e .order)) =
-          rw m-is (ap (λ (r : List ℕ). stored (shape g) (keptPoints (shape g) (take (numIndices (shape g)) (e .first)) r)) (sym t)
-          ∙ stored-kept q (filled-full ok .settled) (e .first) (e .order) (length (e .order)) (ap length t) (rw t (f .2))) in
+          rw m-is (ap (λ (r : List ℕ). stored (shape g)
+          (keptPoints (shape g) (take (numIndices (shape g)) (e .first)) r)) (sym t)
+          ∙ stored-kept q (filled-full ok .settled) (e .first) (e .order) (length (e .order)) (ap length t)
+          (rw t (f .2))) in
           rw (z, ← rule-is e x z, c)
 
-      place-told : (d : State) (k : ℕ) → d ≡ a → nextOf walk labels ≡ ended placeEnd (suc (blockOf (shape g) k)) (pointsFrom q d 0)
+      place-told : (d : State) (k : ℕ) → d ≡ a → nextOf walk labels ≡ ended placeEnd (suc (blockOf (shape g) k))
+          (pointsFrom q d 0)
           → endAs g told-state AtPlace k 0 ≡ nextIn g w labels
       unfolding nextAs front
       place-told d k e z = rw (z, e, m-is, long-points (pointIn q a) 0 (suc (length o) - 0))
 
-      facet-told : (d : State) (k : ℕ) → d ≡ a → nextOf walk labels ≡ ended facetEnd (suc (blockOf (shape g) k)) (pointsFrom q d 1)
+      facet-told : (d : State) (k : ℕ) → d ≡ a → nextOf walk labels ≡ ended facetEnd (suc (blockOf (shape g) k))
+          (pointsFrom q d 1)
           → endAs g told-state Facet k 1 ≡ nextIn g w labels
       unfolding nextAs front
       facet-told d k e z = rw (z, e, m-is, long-points (pointIn q a) 1 (suc (length o) - 1))
 
-      pub told-is : nextOf walk labels ≡ byWay (wayOf q (step a) ∷ []) → toldAs g told-state (wayIn (g .indices) a (step a)) ≡ nextIn g w labels
+      pub told-is : nextOf walk labels ≡ byWay (wayOf q (step a) ∷ []) → toldAs g told-state
+          (wayIn (g .indices) a (step a)) ≡ nextIn g w labels
       told-is z = go (step a) refl z
         where
-          go : (after : After) → step a ≡ after → nextOf walk labels ≡ byWay (wayOf q after ∷ []) → toldAs g told-state (wayIn (g .indices) a after) ≡ nextIn g w labels
+          go : (after : After) → step a ≡ after → nextOf walk labels ≡ byWay (wayOf q after ∷ []) → toldAs g told-state
+              (wayIn (g .indices) a after) ≡ nextIn g w labels
           go (goes e) x z = moved-told e x z
           go (endsAtPlace d k) x z = place-told d k (R .fits .place d k x .0) z
           go (endsAtFacet d k) x z = facet-told d k (R .fits .facet d k x .0) z
 
-pub refused-is : (g : GridStruct) (w : WalkStruct) (labels : List ℕ) (k : ℕ) → nextOf (walkOn (shape g) w) labels ≡ refused k → refusedAs k ≡ nextIn g w labels
+pub refused-is : (g : GridStruct) (w : WalkStruct) (labels : List ℕ) (k : ℕ) → nextOf (walkOn (shape g) w) labels
+    ≡ refused k → refusedAs k ≡ nextIn g w labels
 unfolding nextAs front
 refused-is g w labels k z = rw z

@@ -66,9 +66,11 @@ pub record IsRoundOf (g : GridStruct) (previous next sizes : List ℕ) : Type 0 
   pub round : IsRound (shape g) (record { previous = previous; next = next; sizes = sizes })
   pub below : RoundBelow (record { previous = previous; next = next; sizes = sizes })
 
--- The walk passes questions 1 to 7, its counts are in range, it carries its place's labels, and its present place is one. T and U are masks, `list` has the first point's coefficients, and
--- `marks` the marks of the points, with index 1 for the label that is not yet known, if any: that of the spare point.
-pub record Standing (g : GridStruct) (w : WalkStruct) (labels first list order marks : List ℕ) (n t u point : ℕ) (unknown : Bool) : Type 0 where
+-- The walk passes questions 1 to 7, its counts are in range, it carries its place's labels, and its present place is
+-- one. T and U are masks, `list` has the first point's coefficients, and `marks` the marks of the points, with index 1
+-- for the label that is not yet known, if any: that of the spare point.
+pub record Standing (g : GridStruct) (w : WalkStruct) (labels first list order marks : List ℕ) (n t u point : ℕ)
+    (unknown : Bool) : Type 0 where
   pub made : IsMade g
   pub asked : firstNo (tableQuestions (tableOn g w labels)) ≡ 0
   pub few : n ≤ 15
@@ -80,10 +82,12 @@ pub record Standing (g : GridStruct) (w : WalkStruct) (labels first list order m
   pub place : isPlace (tableOn g w labels) (pointsOn g first order n) ≡ true
   pub inT : (k : ℕ) → k < 16 → bit t k ≡ isIn eqb k (take n order)
   pub inU : (k : ℕ) → k < 16 → bit u k ≡ isIn eqb k (zeroOutside (shape g) (take n order) (take (g .indices) first))
-  pub listAt : (k : ℕ) → k < numIndices (shape g) → at list k ≡ at (coefficients (tableOn g w labels) (take (g .indices) first)) k
+  pub listAt : (k : ℕ) → k < numIndices (shape g) → at list k ≡ at
+      (coefficients (tableOn g w labels) (take (g .indices) first)) k
   pub low : point ≤ n
   pub spare : Spare (tableOn g w labels) (pointsOn g first order n) (take n order) point
   pub unknownIs : unknown ≡ eqb (label (tableOn g w labels) (getD (pointsOn g first order n) point [])) 0
   pub marked : (j : ℕ) → j ≤ n
-      → at marks j ≡ markOf (tableOn g w labels) (getD (pointsOn g first order n) j []) + cond (unknown && eqb j point) 1 0
+      → at marks j ≡ markOf (tableOn g w labels) (getD (pointsOn g first order n) j []) + cond (unknown && eqb j point)
+      1 0
   pub counted : Counted (walkOn (shape g) w) labels

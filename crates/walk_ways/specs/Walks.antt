@@ -38,15 +38,18 @@ nowhere = record { first = replicate 16 0; order = replicate 16 0; count = 0 }
 abbrev pub samePlace : Place → Place → Bool
 samePlace a b = eqb (a .count) (b .count) && (same eqb (a .first) (b .first) && same eqb (a .order) (b .order))
 
--- the place that a struct holds: of 1 to 16 points, with 0 behind the numbers of the first point and of the order. Anything else holds no points
+-- the place that a struct holds: of 1 to 16 points, with 0 behind the numbers of the first point and of the order.
+-- Anything else holds no points
 abbrev pub holdsNumbers : ℕ → Place → Bool
-holdsNumbers m b = (leb 1 (b .count) && leb (b .count) 16) && samePlace b (keptAs m (b .first) (b .order) (pred (b .count)))
+holdsNumbers m b = (leb 1 (b .count) && leb (b .count) 16) && samePlace b
+    (keptAs m (b .first) (b .order) (pred (b .count)))
 
 abbrev pub holdsPlace : Grid → Place → Bool
 holdsPlace g b = holdsNumbers (numIndices g) b
 
 unfoldable pub placeOf : Grid → Place → Simplex
-placeOf g b = cond (holdsPlace g b) (keptPoints g (take (numIndices g) (b .first)) (take (pred (b .count)) (b .order))) []
+placeOf g b = cond (holdsPlace g b) (keptPoints g (take (numIndices g) (b .first)) (take (pred (b .count)) (b .order)))
+    []
 
 abbrev pub beforeOf : Grid → Place → Option Simplex
 beforeOf g b = cond (samePlace b nowhere) none (some (placeOf g b))
@@ -58,12 +61,13 @@ firstSix n xs = cond (leb n 6) (take n xs) (replicate n 0)
 abbrev pub gridOf : WalkStruct → Grid
 gridOf w = record { sizes = firstSix (w .blocks) (w .sizes); divisions = firstSix (w .blocks) (w .divisions) }
 
--- "Runs and walks now carry their place's labels": one for each point of the present place, with 0 behind. With anything else behind it carries none,
--- which are no place's labels
+-- "Runs and walks now carry their place's labels": one for each point of the present place, with 0 behind. With
+-- anything else behind it carries none, which are no place's labels
 unfoldable pub carriedOf : WalkStruct → List ℕ
 carriedOf w = let own = take (w .present .count) (w .carried) in cond (same eqb (w .carried) (padded 16 own)) own []
 
--- "A walk holds the grid, the start, the present place, the one before it and the places so far", its place's labels and the labels read
+-- "A walk holds the grid, the start, the present place, the one before it and the places so far", its place's labels
+-- and the labels read
 abbrev pub walkOf : WalkStruct → Walk
 walkOf w = let g = gridOf w in record {
   grid = g;
@@ -107,8 +111,8 @@ nextAs w labels n = record {
   place = placeAfter (w .grid) n;
 }
 
--- "each call moves it on by one place": what was the present place is then the one before, it carries the labels of the next, over the table of p, and its
--- labels read are one more if a point came in; else the walk is as it was
+-- "each call moves it on by one place": what was the present place is then the one before, it carries the labels of the
+-- next, over the table of p, and its labels read are one more if a point came in; else the walk is as it was
 abbrev pub structOn : Problem → WalkStruct → Outcome Simplex → WalkStruct
 structOn p w (refused number) = w
 structOn p w (ended kind block simplex) = w

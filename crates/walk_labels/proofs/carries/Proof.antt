@@ -18,7 +18,8 @@ use Rattle.walk_labels.proofs.carries.Statement.{statement}
 use Rattle.walk_labels.proofs.carries.Tie as tie
 
 abbrev Inv-loop : tie.InvT-loop
-Inv-loop marks n carried k₀ k = (k ≤ 16) × ((j : ℕ) → j < k → at carried j ≡ at (labelsIn marks n) j) × (n ≤ 15) × (length marks ≡ 16) × (length carried ≡ 16)
+Inv-loop marks n carried k₀ k = (k ≤ 16) × ((j : ℕ) → j < k → at carried j ≡ at (labelsIn marks n) j) × (n ≤ 15) ×
+    (length marks ≡ 16) × (length carried ≡ 16)
 
 abbrev μ-loop : tie.MeasureT-loop
 μ-loop marks n carried k₀ k = 16 - k
@@ -33,12 +34,15 @@ wide-requires : tie.Need-wide-requires Inv-loop μ-loop
 wide-requires c κs = search needs
 
 label-at-requires : tie.Need-label-at-requires Inv-loop μ-loop
-label-at-requires c κs = let l = c .before .before .before .loop in (l .inv .2, omega (arith, c .before .before .loop-test .taken), l .inv .3)
+label-at-requires c κs = let l = c .before .before .before .loop in
+    (l .inv .2, omega (arith, c .before .before .loop-test .taken), l .inv .3)
 
 returns : tie.Need-returns Inv-loop μ-loop
-returns c = let a = c .before .before .before .before .before .before .args in let l = c .before .before .before .before .before .loop in
+returns c = let a = c .before .before .before .before .before .before .args in
+    let l = c .before .before .before .before .before .loop in
     sym (false-of _ (λ e.
-    let z = ap (λ (r : List ℕ). at r (l .k)) (same-sound eqb eqb-true (a .carried .now) (labelsIn (a .marks .now) (a .n)) e) in
+    let z = ap (λ (r : List ℕ). at r (l .k)) (same-sound eqb eqb-true (a .carried .now)
+    (labelsIn (a .marks .now) (a .n)) e) in
     omega (arith, c .if1 .taken, c .before .before .wide .ensures, z, c .before .label-at .ensures)))
 
 add-k : tie.Need-add-k Inv-loop μ-loop
@@ -50,7 +54,12 @@ loop-less c = omega arith
 loop-again : tie.Need-loop-again Inv-loop μ-loop
 loop-again c = let l = c .before .before .before .before .before .loop in (
   omega arith,
-  (λ j jl. ⊎-elim (λ (q : j ≡ l .k). rw q (omega (arith, c .before .before .wide .ensures, c .if1 .left, c .before .label-at .ensures)))
+  (λ j jl. ⊎-elim (λ (q : j ≡ l .k). rw q (omega (
+    arith,
+    c .before .before .wide .ensures,
+    c .if1 .left,
+    c .before .label-at .ensures,
+  )))
       (λ (q : j ≡ l .k → ⊥). l .inv .1 j (omega (arith, q))) (same-or j (l .k))),
   l .inv .2,
   l .inv .3,
@@ -59,7 +68,8 @@ loop-again c = let l = c .before .before .before .before .before .loop in (
 
 returns-2 : tie.Need-returns-2 Inv-loop μ-loop
 returns-2 c = let a = c .before .before .args in let l = c .before .loop in
-    sym (rw (ext-getD 0 (a .carried .now) (labelsIn (a .marks .now) (a .n)) (l .inv .4 ∙ sym (front-long (a .marks .now) (a .n) (l .inv .2) (l .inv .3)))
+    sym (rw (ext-getD 0 (a .carried .now) (labelsIn (a .marks .now) (a .n))
+    (l .inv .4 ∙ sym (front-long (a .marks .now) (a .n) (l .inv .2) (l .inv .3)))
     (λ j jl. l .inv .1 j (omega (arith, l .inv .4)))) (same-self eqb eqb-self (labelsIn (a .marks .now) (a .n))))
 
 pub carries-spec : {M : Type 1} → statement M

@@ -1,4 +1,5 @@
--- `found` meets its contract. The invariant: none of the first i marks is the one. The measure: the marks left. Assumes nothing.
+-- `found` meets its contract. The invariant: none of the first i marks is the one. The measure: the marks left. Assumes
+-- nothing.
 use mathlib.Core.Path.{_≡_}
 use Prim.Native.Nat.{ℕ, suc, _-_, _≤_, _<_}
 use borrow.Author.Count.{below-more}
@@ -26,7 +27,8 @@ element-copy-out-if1 c = omega arith
 
 returns : tie.Need-returns Inv-loop μ-loop
 returns c = let a = c .before .before .before .before .args in let l = c .before .before .before .loop in
-    found-at (a .marks .now) (a .n) (a .mark) (l .inv .2) (l .inv .3) (l .i) (c .before .before .loop-test .taken) (c .if1 .taken)
+    found-at (a .marks .now) (a .n) (a .mark) (l .inv .2) (l .inv .3) (l .i) (c .before .before .loop-test .taken)
+    (c .if1 .taken)
 
 add-i : tie.Need-add-i Inv-loop μ-loop
 add-i c = omega arith
@@ -35,8 +37,12 @@ loop-less : tie.Need-loop-less Inv-loop μ-loop
 loop-less c = omega arith
 
 loop-again : tie.Need-loop-again Inv-loop μ-loop
-loop-again c = let l = c .before .before .before .loop in
-    (omega (arith, c .before .before .loop-test .taken), below-more _ _ (l .inv .1) (c .if1 .left), l .inv .2, l .inv .3)
+loop-again c = let l = c .before .before .before .loop in (
+  omega (arith, c .before .before .loop-test .taken),
+  below-more _ _ (l .inv .1) (c .if1 .left),
+  l .inv .2,
+  l .inv .3,
+)
 
 returns-2 : tie.Need-returns-2 Inv-loop μ-loop
 returns-2 c = let a = c .before .before .args in let l = c .before .loop in

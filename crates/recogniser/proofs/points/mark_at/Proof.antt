@@ -12,11 +12,25 @@ position-requires c κs = let s = c in (s .pre .0 .made, s .pre .0 .filled, s .p
 
 cast-result : tie.Need-cast-result
 cast-result c = let s = c .before in let a = s .args in
-    omega (arith, c .position .ensures, position-low (a .g) (s .pre .0 .made) (pointWith (a .g) (a .first .now) (a .steps .now)) (s .pre .1 .point), made-accepted (a .g) (s .pre .0 .made) .fewPoints)
+    omega (
+      arith,
+      c .position .ensures,
+      position-low (a .g) (s .pre .0 .made)
+          (pointWith (a .g) (a .first .now) (a .steps .now)) (s .pre .1 .point),
+      made-accepted (a .g)
+          (s .pre .0 .made) .fewPoints,
+    )
 
 mul-result : tie.Need-mul-result
 mul-result c = let s = c .before in let a = s .args in
-    omega (arith, c .position .ensures, position-low (a .g) (s .pre .0 .made) (pointWith (a .g) (a .first .now) (a .steps .now)) (s .pre .1 .point), made-accepted (a .g) (s .pre .0 .made) .fewPoints)
+    omega (
+      arith,
+      c .position .ensures,
+      position-low (a .g) (s .pre .0 .made)
+          (pointWith (a .g) (a .first .now) (a .steps .now)) (s .pre .1 .point),
+      made-accepted (a .g)
+          (s .pre .0 .made) .fewPoints,
+    )
 
 returns : tie.Need-returns
 returns c = record { is = omega (arith, c .position .ensures) }

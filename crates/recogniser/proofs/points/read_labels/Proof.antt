@@ -1,4 +1,5 @@
--- `points::read_labels` meets its contract. The invariant: the first k marks have their labels. The measure: the marks left. Assumes nothing.
+-- `points::read_labels` meets its contract. The invariant: the first k marks have their labels. The measure: the marks
+-- left. Assumes nothing.
 use mathlib.Core.Path.{_≡_, refl, sym, ap, _∙_}
 use Prim.Native.Nat.{ℕ, suc, _+_, _-_, _≤_}
 use lib.ListN.{getD}
@@ -14,14 +15,17 @@ abbrev μ-loop : tie.MeasureT-loop
 μ-loop table n marks₀ k₀ marks k = suc n - k
 
 loop-holds : tie.Need-loop-holds Inv-loop μ-loop
-loop-holds c = let s = c .before in let a = s .args in (omega arith, s .pre .few, put-none (a .table .now) (a .marks .now) (a .n) (s .pre))
+loop-holds c = let s = c .before in let a = s .args in
+    (omega arith, s .pre .few, put-none (a .table .now) (a .marks .now) (a .n) (s .pre))
 
 position-at-requires : tie.Need-position-at-requires Inv-loop μ-loop
 position-at-requires c κs = (omega arith, c .before .before .before .before .pre .few)
 
 shared-slice-read-label : tie.Need-shared-slice-read-label Inv-loop μ-loop
-shared-slice-read-label c = let s = c .before .before .before .before .before .before in let a = s .args in let l = c .before .before .before .before .loop in
-    here-within (a .table .now) (a .marks .now) (a .n) (s .pre) (l .marks) (l .k) (l .inv .2) (omega arith) (c .before .position-at .result) (c .before .position-at .ensures .0)
+shared-slice-read-label c = let s = c .before .before .before .before .before .before in let a = s .args in
+    let l = c .before .before .before .before .loop in
+    here-within (a .table .now) (a .marks .now) (a .n) (s .pre) (l .marks) (l .k) (l .inv .2) (omega arith)
+    (c .before .position-at .result) (c .before .position-at .ensures .0)
 
 cast-label : tie.Need-cast-label Inv-loop μ-loop
 cast-label c = omega (arith, c .shared-slice-known2 .given (c .before .position-at .result))
@@ -33,7 +37,8 @@ element-copy-out-marks : tie.Need-element-copy-out-marks Inv-loop μ-loop
 element-copy-out-marks c = omega (arith, c .before .before .before .before .loop .inv .1)
 
 add-marks : tie.Need-add-marks Inv-loop μ-loop
-add-marks c = let s = c .before .before .before .before .before .before .before in let a = s .args in let l = c .before .before .before .before .before .loop in
+add-marks c = let s = c .before .before .before .before .before .before .before in let a = s .args in
+    let l = c .before .before .before .before .before .loop in
     omega (
       arith,
       here-room (a .table .now) (a .marks .now) (a .n) (s .pre) (l .marks) (l .k) (l .inv .2) (omega arith),
@@ -53,16 +58,19 @@ loop-less : tie.Need-loop-less Inv-loop μ-loop
 loop-less c = omega arith
 
 loop-again : tie.Need-loop-again Inv-loop μ-loop
-loop-again c = let s = c .before .before .before .before .before .before .before in let a = s .args in let l = c .before .before .before .before .before .loop in (
-  omega arith,
-  l .inv .1,
-  put-more (a .table .now) (a .marks .now) (a .n) (s .pre) (l .marks) (l .k) (l .inv .2) (omega arith) _
-      (ap (λ (i : ℕ). getD (l .marks) (l .k) 0 + getD (a .table .now) i 0)
-      (here-is (a .table .now) (a .marks .now) (a .n) (s .pre) (l .marks) (l .k) (l .inv .2) (omega arith) (c .before .before .position-at .result) (c .before .before .position-at .ensures .0))),
-)
+loop-again c = let s = c .before .before .before .before .before .before .before in let a = s .args in
+    let l = c .before .before .before .before .before .loop in (
+      omega arith,
+      l .inv .1,
+      put-more (a .table .now) (a .marks .now) (a .n) (s .pre) (l .marks) (l .k) (l .inv .2) (omega arith) _
+          (ap (λ (i : ℕ). getD (l .marks) (l .k) 0 + getD (a .table .now) i 0)
+          (here-is (a .table .now) (a .marks .now) (a .n) (s .pre) (l .marks) (l .k) (l .inv .2) (omega arith)
+          (c .before .before .position-at .result) (c .before .before .position-at .ensures .0))),
+    )
 
 returns : tie.Need-returns Inv-loop μ-loop
-returns c = let s = c .before .before .before in let a = s .args in let l = c .before .loop in put-all (a .table .now) (a .marks .now) (a .n) (s .pre) (l .marks) (l .k) (l .inv .2) (omega arith)
+returns c = let s = c .before .before .before in let a = s .args in let l = c .before .loop in
+    put-all (a .table .now) (a .marks .now) (a .n) (s .pre) (l .marks) (l .k) (l .inv .2) (omega arith)
 
 pub read-labels-spec : {M : Type 1} → statement M
 read-labels-spec =

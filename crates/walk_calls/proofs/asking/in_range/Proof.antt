@@ -20,11 +20,13 @@ and-yes false = refl
 
 returns : tie.Need-returns
 returns c = let a = c .before .args in
-    rw (lt-leb 1 (a .read) (omega (arith, c .if1 .taken))) (and-no (leb 1 (a .places) && leb (a .places) (bound (shape (a .g)))))
+    rw (lt-leb 1 (a .read) (omega (arith, c .if1 .taken)))
+    (and-no (leb 1 (a .places) && leb (a .places) (bound (shape (a .g)))))
 
 returns-2 : tie.Need-returns-2
 returns-2 c = let a = c .before .before .args in
-    rw (le-leb 1 (a .read) (omega (arith, c .before .if1 .left)), lt-leb (a .read) (a .places) (c .if2 .taken)) (and-no (leb 1 (a .places) && leb (a .places) (bound (shape (a .g)))))
+    rw (le-leb 1 (a .read) (omega (arith, c .before .if1 .left)), lt-leb (a .read) (a .places) (c .if2 .taken))
+    (and-no (leb 1 (a .places) && leb (a .places) (bound (shape (a .g)))))
 
 bound-requires : tie.Need-bound-requires
 bound-requires c κs = search needs

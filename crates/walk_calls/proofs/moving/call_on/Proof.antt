@@ -18,11 +18,15 @@ use Rattle.walk_calls.proofs.moving.call_on.Statement.{statement}
 use Rattle.walk_calls.proofs.moving.call_on.Tie as tie
 
 array-share-prefix-start : tie.Need-array-share-prefix-start
-array-share-prefix-start c = let h = c .before .before .good .1 .0 .1 .1 .1 .1 .1 .1 .0 in let z : length (c .before .before .args .w .start) ≡ 16 = length-unmapped _ (c .before .before .args .w .start) 16 (search (h, needs)) in
+array-share-prefix-start c = let h = c .before .before .good .1 .0 .1 .1 .1 .1 .1 .1 .0 in
+    let z : length (c .before .before .args .w .start) ≡ 16 = length-unmapped _ (c .before .before .args .w .start) 16
+    (search (h, needs)) in
     omega (arith, indices-few (c .before .before .args .g) (c .before .before .pre))
 
 slice-aggregate-first-no : tie.Need-slice-aggregate-first-no
-slice-aggregate-first-no c = let h = c .before .before .before .good .1 .0 .1 .1 .1 .1 .1 .1 .0 in let z : length (c .before .before .before .args .w .start) ≡ 16 = length-unmapped _ (c .before .before .before .args .w .start) 16 (search (h, needs)) in
+slice-aggregate-first-no c = let h = c .before .before .before .good .1 .0 .1 .1 .1 .1 .1 .1 .0 in
+    let z : length (c .before .before .before .args .w .start) ≡ 16 = length-unmapped _
+    (c .before .before .before .args .w .start) 16 (search (h, needs)) in
     simp length-take (omega (arith, indices-few (c .before .before .before .args .g) (c .before .before .before .pre)))
 
 first-no-requires : tie.Need-first-no-requires
@@ -33,13 +37,18 @@ unmoved-requires c κs = search needs
 
 returns : tie.Need-returns
 returns c = let s = c .before .before .before .before .before .before in let a = s .args in
-    c .unmoved .ensures ∙ table-refused (shape (a .g)) (a .w) (a .labels .now) (c .before .before .first-no .result) (c .before .if1 .taken)
-    (behind-four (a .g) (take (numIndices (shape (a .g))) (a .w .start)) (a .labels .now) (s .pre .accepted) ∙ ap (λ (m : ℕ). firstNo (laterQuestions (a .g) (take m (a .w .start)) (a .labels .now))) (sym (made-indices (a .g) (s .pre))) ∙ sym (c .before .before .first-no .ensures))
+    c .unmoved .ensures ∙ table-refused (shape (a .g)) (a .w) (a .labels .now) (c .before .before .first-no .result)
+    (c .before .if1 .taken)
+    (behind-four (a .g) (take (numIndices (shape (a .g))) (a .w .start)) (a .labels .now) (s .pre .accepted) ∙ ap
+    (λ (m : ℕ). firstNo (laterQuestions (a .g) (take m (a .w .start)) (a .labels .now)))
+    (sym (made-indices (a .g) (s .pre))) ∙ sym (c .before .before .first-no .ensures))
 
 next-on-requires : tie.Need-next-on-requires
 next-on-requires c κs = let s = c .before .before .before .before .before in let a = s .args in (
   s .pre,
-  behind-four (a .g) (take (numIndices (shape (a .g))) (a .w .start)) (a .labels .now) (s .pre .accepted) ∙ ap (λ (m : ℕ). firstNo (laterQuestions (a .g) (take m (a .w .start)) (a .labels .now))) (sym (made-indices (a .g) (s .pre)))
+  behind-four (a .g) (take (numIndices (shape (a .g))) (a .w .start)) (a .labels .now) (s .pre .accepted) ∙ ap
+      (λ (m : ℕ). firstNo (laterQuestions (a .g) (take m (a .w .start)) (a .labels .now)))
+      (sym (made-indices (a .g) (s .pre)))
       ∙ sym (c .before .first-no .ensures) ∙ c .if1 .left,
 )
 
@@ -47,12 +56,20 @@ enum-told : tie.Need-enum-told
 enum-told c = search needs
 
 carried-to-requires : tie.Need-carried-to-requires
-carried-to-requires c κs = let s = c .before .before .before .before .before .before .before .before .before .before in let a = s .args in
-    (s .pre, goes-to (shape (a .g)) (a .w) (a .labels .now) (c .before .before .before .before .next-on .result) (c .before .before .before .before .next-on .ensures) (c .enum-told .given .0 .0) (c .enum-told .given .1))
+carried-to-requires c κs = let s = c .before .before .before .before .before .before .before .before .before .before in
+    let a = s .args in (
+      s .pre,
+      goes-to (shape (a .g)) (a .w) (a .labels .now) (c .before .before .before .before .next-on .result)
+          (c .before .before .before .before .next-on .ensures) (c .enum-told .given .0 .0) (c .enum-told .given .1),
+    )
 
 moved-to-requires : tie.Need-moved-to-requires
-moved-to-requires c κs = let a = c .before .before .before .before .before .before .before .before .before .before .before .args in
-    places-few (shape (a .g)) (a .w) (a .labels .now) (goes-to (shape (a .g)) (a .w) (a .labels .now) (c .before .before .before .before .before .next-on .result) (c .before .before .before .before .before .next-on .ensures) (c .before .enum-told .given .0 .0) (c .before .enum-told .given .1))
+moved-to-requires c κs = let a =
+    c .before .before .before .before .before .before .before .before .before .before .before .args in
+    places-few (shape (a .g)) (a .w) (a .labels .now)
+    (goes-to (shape (a .g)) (a .w) (a .labels .now) (c .before .before .before .before .before .next-on .result)
+    (c .before .before .before .before .before .next-on .ensures) (c .before .enum-told .given .0 .0)
+    (c .before .enum-told .given .1))
 
 enum-told-2 : tie.Need-enum-told-2
 enum-told-2 c = search needs
@@ -61,15 +78,26 @@ enum-told-3 : tie.Need-enum-told-3
 enum-told-3 c = search needs
 
 returns-2 : tie.Need-returns-2
-returns-2 c = let a = c .before .before .before .before .before .before .before .before .before .before .before .before .args in
-    let G = goes-to (shape (a .g)) (a .w) (a .labels .now) (c .before .before .before .before .before .before .next-on .result) (c .before .before .before .before .before .before .next-on .ensures) (c .before .before .enum-told .given .0 .0) (c .before .before .enum-told .given .1) in
-    rw (c .moved-to .ensures) (call-moved (shape (a .g)) (a .w) (a .labels .now) (c .before .before .before .before .before .before .next-on .result) (c .before .before .before .before .before .before .next-on .ensures) G (c .before .carried-to .result) (c .before .carried-to .ensures G))
+returns-2 c = let a =
+    c .before .before .before .before .before .before .before .before .before .before .before .before .args in
+    let G = goes-to (shape (a .g)) (a .w) (a .labels .now)
+    (c .before .before .before .before .before .before .next-on .result)
+    (c .before .before .before .before .before .before .next-on .ensures)
+    (c .before .before .enum-told .given .0 .0) (c .before .before .enum-told .given .1) in
+    rw (c .moved-to .ensures) (call-moved (shape (a .g)) (a .w) (a .labels .now)
+    (c .before .before .before .before .before .before .next-on .result)
+    (c .before .before .before .before .before .before .next-on .ensures) G (c .before .carried-to .result)
+    (c .before .carried-to .ensures G))
 
 returns-3 : tie.Need-returns-3
-returns-3 c = let a = c .before .before .before .before .before .before .before .before .before .before .args in call-refuses (shape (a .g)) (a .w) (a .labels .now) (c .before .before .before .before .next-on .result) (c .before .before .before .before .next-on .ensures) (c .enum-told2 .given .0 .0) (c .enum-told2 .given .1)
+returns-3 c = let a = c .before .before .before .before .before .before .before .before .before .before .args in
+    call-refuses (shape (a .g)) (a .w) (a .labels .now) (c .before .before .before .before .next-on .result)
+    (c .before .before .before .before .next-on .ensures) (c .enum-told2 .given .0 .0) (c .enum-told2 .given .1)
 
 returns-4 : tie.Need-returns-4
-returns-4 c = let a = c .before .before .before .before .before .before .before .before .before .before .args in call-ended (shape (a .g)) (a .w) (a .labels .now) (c .before .before .before .before .next-on .result) (c .before .before .before .before .next-on .ensures) _ _ _ (c .enum-told3 .given .1)
+returns-4 c = let a = c .before .before .before .before .before .before .before .before .before .before .args in
+    call-ended (shape (a .g)) (a .w) (a .labels .now) (c .before .before .before .before .next-on .result)
+    (c .before .before .before .before .next-on .ensures) _ _ _ (c .enum-told3 .given .1)
 
 pub call-on-spec : {M : Type 1} → statement M
 call-on-spec =

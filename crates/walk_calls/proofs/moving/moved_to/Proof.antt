@@ -18,7 +18,8 @@ one-if-requires : tie.Need-one-if-requires
 one-if-requires c κs = search needs
 
 add-t11 : tie.Need-add-t11
-add-t11 c = let s = c .before .before .before .before .before .before .before .before in omega (arith, c .before .one-if .ensures, one-most (s .args .on .«came_in»), s .pre .1)
+add-t11 c = let s = c .before .before .before .before .before .before .before .before in
+    omega (arith, c .before .one-if .ensures, one-most (s .args .on .«came_in»), s .pre .1)
 
 returns : tie.Need-returns
 returns c = rw (c .before .one-if .ensures)

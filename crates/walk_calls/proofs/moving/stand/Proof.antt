@@ -5,7 +5,8 @@ use lib.ListN.{length}
 use Rattle.combinatorics.proofs.Basics.{not-is}
 use Rattle.recogniser.proofs.Together.{is-not}
 use Rattle.walk_ways.proofs.Chosen.{refused-is}
-use Rattle.walk_calls.proofs.Stood.{all-seen, can-choose, can-see, carries-others, carries-own, labels-low, no-place-there, not-all-place, not-kept-place, round-of}
+use Rattle.walk_calls.proofs.Stood.{all-seen, can-choose, can-see, carries-others, carries-own, labels-low}
+use Rattle.walk_calls.proofs.Stood.{no-place-there, not-all-place, not-kept-place, round-of}
 use Rattle.walk_calls.proofs.moving.stand.Statement.{statement}
 use Rattle.walk_calls.proofs.moving.stand.Tie as tie
 
@@ -17,37 +18,68 @@ refused-requires c κs = search needs
 
 returns : tie.Need-returns
 returns c = let s = c .before .before .before .before .before .before .before in let a = s .args in
-    c .refused .ensures ∙ refused-is (a .g) (a .w) (a .labels .now) 20 (no-place-there (s .pre) (not-kept-place (can-see (s .pre)) (c .before .before .before .seen .ensures .no (not-is _ (c .before .if1 .taken)))))
+    c .refused .ensures ∙ refused-is (a .g) (a .w) (a .labels .now) 20
+    (no-place-there (s .pre) (not-kept-place (can-see (s .pre))
+    (c .before .before .before .seen .ensures .no (not-is _ (c .before .if1 .taken)))))
 
 carries-requires : tie.Need-carries-requires
-carries-requires c κs = let s = c .before .before .before .before .before .before .before .before .before in let S = c .before .before .before .before .before .seen .ensures .yes (is-not _ (c .before .before .before .if1 .left)) in let h = s .good .1 .0 .1 .1 .1 .1 .1 .1 .1 .1 .1 .1 in
+carries-requires c κs = let s = c .before .before .before .before .before .before .before .before .before in
+    let S = c .before .before .before .before .before .seen .ensures .yes
+    (is-not _ (c .before .before .before .if1 .left)) in let h = s .good .1 .0 .1 .1 .1 .1 .1 .1 .1 .1 .1 .1 in
     (s .pre .few, S .marksLong, length-unmapped _ (s .args .w .carried) 16 (search (h, needs)))
 
 refused-requires-2 : tie.Need-refused-requires-2
 refused-requires-2 c κs = search needs
 
 returns-2 : tie.Need-returns-2
-returns-2 c = let s = c .before .before .before .before .before .before .before .before .before .before .before .before in let a = s .args in let S = c .before .before .before .before .before .before .before .before .seen .ensures .yes (is-not _ (c .before .before .before .before .before .before .if1 .left)) in
-    c .refused2 .ensures ∙ refused-is (a .g) (a .w) (a .labels .now) 20 (carries-others (s .pre) S (sym (c .before .before .carries .ensures) ∙ not-is _ (c .before .if2 .taken)))
+returns-2 c = let s =
+    c .before .before .before .before .before .before .before .before .before .before .before .before in
+    let a = s .args in let S = c .before .before .before .before .before .before .before .before .seen .ensures .yes
+    (is-not _ (c .before .before .before .before .before .before .if1 .left)) in
+    c .refused2 .ensures ∙ refused-is (a .g) (a .w) (a .labels .now) 20
+    (carries-others (s .pre) S (sym (c .before .before .carries .ensures) ∙ not-is _ (c .before .if2 .taken)))
 
 spare-requires : tie.Need-spare-requires
-spare-requires c κs = let s = c .before .before .before .before .before .before .before .before .before .before .before .before in let S = c .before .before .before .before .before .before .before .before .seen .ensures .yes (is-not _ (c .before .before .before .before .before .before .if1 .left)) in (s .pre .few, S .marksLong, labels-low (can-see (s .pre)) S)
+spare-requires c κs = let s =
+    c .before .before .before .before .before .before .before .before .before .before .before .before in
+    let S = c .before .before .before .before .before .before .before .before .seen .ensures .yes
+    (is-not _ (c .before .before .before .before .before .before .if1 .left)) in
+    (s .pre .few, S .marksLong, labels-low (can-see (s .pre)) S)
 
 refused-requires-3 : tie.Need-refused-requires-3
 refused-requires-3 c κs = search needs
 
 returns-3 : tie.Need-returns-3
-returns-3 c = let s = c .before .before .before .before .before .before .before .before .before .before .before .before .before .before .before .before .before in let a = s .args in let S = c .before .before .before .before .before .before .before .before .before .before .before .before .before .seen .ensures .yes (is-not _ (c .before .before .before .before .before .before .before .before .before .before .before .if1 .left)) in
-    c .refused3 .ensures ∙ refused-is (a .g) (a .w) (a .labels .now) 20 (no-place-there (s .pre) (not-all-place (can-see (s .pre)) S (c .before .before .before .before .spare .ensures) (search needs) (search needs) (c .before .if3 .taken)))
+returns-3 c = let s =
+    c .before .before .before .before .before .before .before .before .before .before .before .before .before .before
+    .before .before .before in let a = s .args in let S =
+    c .before .before .before .before .before .before .before .before .before .before .before .before .before .seen
+    .ensures .yes (is-not _
+    (c .before .before .before .before .before .before .before .before .before .before .before .if1 .left)) in
+    c .refused3 .ensures ∙ refused-is (a .g) (a .w) (a .labels .now) 20
+    (no-place-there (s .pre) (not-all-place (can-see (s .pre)) S (c .before .before .before .before .spare .ensures)
+    (search needs) (search needs) (c .before .if3 .taken)))
 
 block-sizes-requires : tie.Need-block-sizes-requires
-block-sizes-requires c κs = c .before .before .before .before .before .before .before .before .before .before .before .before .before .before .before .before .pre .made
+block-sizes-requires c κs =
+    c .before .before .before .before .before .before .before .before .before .before .before .before .before .before
+    .before .before .pre .made
 
 chosen-requires : tie.Need-chosen-requires
-chosen-requires c κs = let s = c .before .before .before .before .before .before .before .before .before .before .before .before .before .before .before .before .before .before .before .before in let a = s .args in let S = c .before .before .before .before .before .before .before .before .before .before .before .before .before .before .before .before .seen .ensures .yes (is-not _ (c .before .before .before .before .before .before .before .before .before .before .before .before .before .before .if1 .left)) in let P = c .before .before .before .before .before .before .before .spare .ensures in (
-  can-choose (can-see (s .pre)) S P (all-seen (can-see (s .pre)) S P (c .before .before .before .before .if3 .left)) (s .pre) (carries-own (s .pre) S (sym (c .before .before .before .before .before .before .before .before .before .before .carries .ensures) ∙ is-not _ (c .before .before .before .before .before .before .before .before .before .if2 .left))),
-  round-of (a .g) (s .pre .made) (c .before .before .before .block-sizes .result) (c .before .before .before .block-sizes .ensures),
-)
+chosen-requires c κs = let s =
+    c .before .before .before .before .before .before .before .before .before .before .before .before .before .before
+    .before .before .before .before .before .before in let a = s .args in
+    let S = c .before .before .before .before .before .before .before .before .before .before .before .before .before
+    .before .before .before .seen .ensures .yes (is-not _
+    (c .before .before .before .before .before .before .before .before .before .before .before .before .before .before
+    .if1 .left)) in let P = c .before .before .before .before .before .before .before .spare .ensures in (
+      can-choose (can-see (s .pre)) S P (all-seen (can-see (s .pre)) S P (c .before .before .before .before .if3 .left))
+          (s .pre) (carries-own (s .pre) S
+          (sym (c .before .before .before .before .before .before .before .before .before .before .carries .ensures) ∙
+          is-not _ (c .before .before .before .before .before .before .before .before .before .if2 .left))),
+      round-of (a .g) (s .pre .made) (c .before .before .before .block-sizes .result)
+          (c .before .before .before .block-sizes .ensures),
+    )
 
 returns-4 : tie.Need-returns-4
 returns-4 c = c .chosen .ensures

@@ -21,19 +21,41 @@ binomials-requires : tie.Need-binomials-requires
 binomials-requires c κs = (c .before .before .before .before .pre .0 .made, refl)
 
 array-share-prefix-start : tie.Need-array-share-prefix-start
-array-share-prefix-start c = let h = c .before .before .before .before .before .before .good .1 .0 .1 .1 .1 .1 .1 .1 .0 in let z : length (c .before .before .before .before .before .before .args .w .start) ≡ 16 = length-unmapped _ (c .before .before .before .before .before .before .args .w .start) 16 (search (h, needs)) in omega (arith, indices-few (c .before .before .before .before .before .before .args .g) (c .before .before .before .before .before .before .pre .0 .made))
+array-share-prefix-start c = let h =
+    c .before .before .before .before .before .before .good .1 .0 .1 .1 .1 .1 .1 .1 .0 in
+    let z : length (c .before .before .before .before .before .before .args .w .start) ≡ 16 = length-unmapped _
+    (c .before .before .before .before .before .before .args .w .start) 16 (search (h, needs)) in
+    omega (
+      arith,
+      indices-few (c .before .before .before .before .before .before .args .g)
+          (c .before .before .before .before .before .before .pre .0 .made),
+    )
 
 slice-aggregate-recognise : tie.Need-slice-aggregate-recognise
-slice-aggregate-recognise c = let h = c .before .before .before .before .before .before .before .good .1 .0 .1 .1 .1 .1 .1 .1 .0 in let z : length (c .before .before .before .before .before .before .before .args .w .start) ≡ 16 = length-unmapped _ (c .before .before .before .before .before .before .before .args .w .start) 16 (search (h, needs)) in simp length-take (omega (arith, indices-few (c .before .before .before .before .before .before .before .args .g) (c .before .before .before .before .before .before .before .pre .0 .made)))
+slice-aggregate-recognise c = let h =
+    c .before .before .before .before .before .before .before .good .1 .0 .1 .1 .1 .1 .1 .1 .0 in
+    let z : length (c .before .before .before .before .before .before .before .args .w .start) ≡ 16 = length-unmapped _
+    (c .before .before .before .before .before .before .before .args .w .start) 16 (search (h, needs)) in
+    simp length-take (omega (
+      arith,
+      indices-few (c .before .before .before .before .before .before .before .args .g)
+          (c .before .before .before .before .before .before .before .pre .0 .made),
+    ))
 
 recognise-requires : tie.Need-recognise-requires
-recognise-requires c κs = let s = c .before .before .before .before .before .before .before .before .before .before .before in let C = s .pre .0 in let g = s .args .g in
+recognise-requires c κs = let s =
+    c .before .before .before .before .before .before .before .before .before .before .before in let C = s .pre .0 in
+    let g = s .args .g in
     record {
-      located = record { made = C .made; filled = c .before .before .before .before .before .before .binomials2 .ensures };
+      located = record {
+        made = C .made;
+        filled = c .before .before .before .before .before .before .binomials2 .ensures;
+      };
       startOn = rw (made-indices g (C .made)) (C .start);
       below = λ h l. previous-low g (C .made) h;
       backward = λ h l. made-previous g (C .made) h (omega (arith, made-indices g (C .made)));
-      blockSizes = λ h l. c .before .before .before .before .before .before .before .before .before .block-sizes .ensures h (omega (arith, made-indices g (C .made)));
+      blockSizes = λ h l. c .before .before .before .before .before .before .before .before .before .block-sizes
+          .ensures h (omega (arith, made-indices g (C .made)));
       few = C .few;
       firstLong = C .firstLong;
       orderLong = C .orderLong;
@@ -41,10 +63,14 @@ recognise-requires c κs = let s = c .before .before .before .before .before .be
     }
 
 returns : tie.Need-returns
-returns c labels = let s = c .before .before .before .before .before .before .before .before .before .before .before .before in let a = s .args in
+returns c labels = let s =
+    c .before .before .before .before .before .before .before .before .before .before .before .before in
+    let a = s .args in
     with-table (a .g) (take (numIndices (shape (a .g))) (a .w .start)) labels
-    (subst (λ (m : ℕ). Recognised (startedOn (a .g) (take m (a .w .start))) (bareMark (shape (a .g))) (take (a .g .indices) (a .first .now)) (take (a .n) (a .order .now))
-    (c .recognise .last .1 .1 .1 .1 .1 .1 .1 .1 .0) (c .recognise .last .1 .1 .1 .1 .1 .1 .1 .1 .1 .0) (c .recognise .result)) (made-indices (a .g) (s .pre .0 .made)) (c .recognise .ensures))
+    (subst (λ (m : ℕ). Recognised (startedOn (a .g) (take m (a .w .start))) (bareMark (shape (a .g)))
+    (take (a .g .indices) (a .first .now)) (take (a .n) (a .order .now))
+    (c .recognise .last .1 .1 .1 .1 .1 .1 .1 .1 .0) (c .recognise .last .1 .1 .1 .1 .1 .1 .1 .1 .1 .0)
+    (c .recognise .result)) (made-indices (a .g) (s .pre .0 .made)) (c .recognise .ensures))
 
 pub placed-spec : {M : Type 1} → statement M
 placed-spec =

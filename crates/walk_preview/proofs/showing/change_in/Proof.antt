@@ -17,7 +17,8 @@ use Rattle.walk_ways.specs.declared.Walk.{Walk as WalkStruct}
 use Rattle.walk_preview.proofs.showing.change_in.Statement.{statement}
 use Rattle.walk_preview.proofs.showing.change_in.Tie as tie
 
-module _ (w : WalkStruct) (made : Made) (is : GridIn (gridOf w) made) (labels : List ℕ) (next : Place) (rule : ℕ) (M : MovesTo w labels next rule) where
+module _ (w : WalkStruct) (made : Made) (is : GridIn (gridOf w) made) (labels : List ℕ) (next : Place) (rule : ℕ)
+    (M : MovesTo w labels next rule) where
   same-grid : shape (made .grid) ≡ gridOf w
   same-grid = is .is (is .code ∙ grid-passes M) .1
 
@@ -31,13 +32,17 @@ grid-in-requires : tie.Need-grid-in-requires
 grid-in-requires c κs = search needs
 
 change-on-requires : tie.Need-change-on-requires
-change-on-requires c κs = let s = c .before .before in let a = s .args in
-    (s .pre .0, can-show (a .w) (c .before .grid-in .result) (c .before .grid-in .ensures) (s .pre .0) (a .next) (a .rule) (s .pre .1))
+change-on-requires c κs = let s = c .before .before in let a = s .args in (
+  s .pre .0,
+  can-show (a .w) (c .before .grid-in .result) (c .before .grid-in .ensures) (s .pre .0) (a .next)
+      (a .rule) (s .pre .1),
+)
 
 returns : tie.Need-returns
 returns c labels M = let a = c .before .before .before .args in let made = c .before .before .grid-in in
     c .change-on .ensures labels (can-show (a .w) (made .result) (made .ensures) labels (a .next) (a .rule) M)
-    ∙ ap (λ (g : Grid). changeShown (preview (walkOn g (a .w)) labels)) (same-grid (a .w) (made .result) (made .ensures) labels (a .next) (a .rule) M)
+    ∙ ap (λ (g : Grid). changeShown (preview (walkOn g (a .w)) labels))
+    (same-grid (a .w) (made .result) (made .ensures) labels (a .next) (a .rule) M)
 
 pub change-in-spec : {M : Type 1} → statement M
 change-in-spec = tie.close (tie.spec grid-in-requires change-on-requires returns)

@@ -9,10 +9,14 @@ both-placed-requires : tie.Need-both-placed-requires
 both-placed-requires c κs = (c .pre .1 .made, (c .pre .0, c .pre .1 .moves .goes))
 
 other-requires : tie.Need-other-requires
-other-requires c κs = let C = c .before .before .before .before .before .pre in let M = c .before .before .before .before .both-placed .ensures (C .0) (C .1 .moves .goes) in (M .fewNext, M .ontoLong, M .few, M .fromLong)
+other-requires c κs = let C = c .before .before .before .before .before .pre in
+    let M = c .before .before .before .before .both-placed .ensures (C .0) (C .1 .moves .goes) in
+    (M .fewNext, M .ontoLong, M .few, M .fromLong)
 
 other-requires-2 : tie.Need-other-requires-2
-other-requires-2 c κs = let C = c .before .before .before .before .before .before .before .before .pre in let M = c .before .before .before .before .before .before .before .both-placed .ensures (C .0) (C .1 .moves .goes) in (M .few, M .fromLong, M .fewNext, M .ontoLong)
+other-requires-2 c κs = let C = c .before .before .before .before .before .before .before .before .pre in
+    let M = c .before .before .before .before .before .before .before .both-placed .ensures (C .0)
+    (C .1 .moves .goes) in (M .few, M .fromLong, M .fewNext, M .ontoLong)
 
 index-of-requires : tie.Need-index-of-requires
 index-of-requires c κs = search needs
@@ -21,8 +25,14 @@ change-for-requires : tie.Need-change-for-requires
 change-for-requires c κs = search needs
 
 returns : tie.Need-returns
-returns c labels C = c .change-for .ensures ∙ rw (c .before .before .before .before .before .other .ensures, c .before .before .other2 .ensures, c .before .index-of .ensures)
-    (shown C (c .before .before .before .before .before .before .before .before .before .before .both-placed .result) (c .before .before .before .before .before .before .before .before .before .before .both-placed .ensures labels (C .moves .goes)))
+returns c labels C = c .change-for .ensures ∙ rw (
+  c .before .before .before .before .before .other .ensures,
+  c .before .before .other2 .ensures,
+  c .before .index-of .ensures,
+)
+    (shown C (c .before .before .before .before .before .before .before .before .before .before .both-placed .result)
+    (c .before .before .before .before .before .before .before .before .before .before .both-placed .ensures labels
+    (C .moves .goes)))
 
 pub change-on-spec : {M : Type 1} → statement M
 change-on-spec =

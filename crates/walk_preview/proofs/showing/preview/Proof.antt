@@ -13,8 +13,12 @@ enum-known-answer : tie.Need-enum-known-answer
 enum-known-answer c = search needs
 
 change-in-requires : tie.Need-change-in-requires
-change-in-requires c κs = let a = c .before .before .before .before .before .before .before .args in
-    (a .labels .now, moves-of (a .w) (a .labels .now) (c .before .before .before .before .before .moved .result) (c .before .before .before .before .before .moved .ensures) (c .before .answer .given .0 .0) (c .before .answer .given .1))
+change-in-requires c κs = let a = c .before .before .before .before .before .before .before .args in (
+  a .labels .now,
+  moves-of (a .w) (a .labels .now) (c .before .before .before .before .before .moved .result)
+      (c .before .before .before .before .before .moved .ensures) (c .before .answer .given .0 .0)
+      (c .before .answer .given .1),
+)
 
 enum-told : tie.Need-enum-told
 enum-told c = search needs
@@ -29,17 +33,25 @@ unchanged-requires-2 : tie.Need-unchanged-requires-2
 unchanged-requires-2 c κs = search needs
 
 returns : tie.Need-returns
-returns c = let m = c .before .before .before .before .before .before .moved in let a = c .before .before .before .before .before .before .before .before .args in let rule = c .before .before .answer .given .0 .0 in let e = c .before .before .answer .given .1 in
+returns c = let m = c .before .before .before .before .before .before .moved in
+    let a = c .before .before .before .before .before .before .before .before .args in
+    let rule = c .before .before .answer .given .0 .0 in let e = c .before .before .answer .given .1 in
     ap (λ (x : Answer). shownWith x (m .result .simplex) (c .change-in .result)) (sym e)
-    ∙ shown-moved (a .w) (a .labels .now) (m .result) (m .ensures) rule e (c .change-in .result) (c .change-in .ensures (a .labels .now) (moves-of (a .w) (a .labels .now) (m .result) (m .ensures) rule e))
+    ∙ shown-moved (a .w) (a .labels .now) (m .result) (m .ensures) rule e (c .change-in .result)
+    (c .change-in .ensures (a .labels .now) (moves-of (a .w) (a .labels .now) (m .result) (m .ensures) rule e))
 
 returns-2 : tie.Need-returns-2
 returns-2 c = let m = c .before .before .before .before .before .moved in
-    shown-refused (c .before .before .before .before .before .before .before .args .w) (c .before .before .before .before .before .before .before .args .labels .now) (m .result) (m .ensures) (c .before .enum-told .given .0 .0) (c .before .enum-told .given .1) (c .unchanged .result) (c .unchanged .ensures)
+    shown-refused (c .before .before .before .before .before .before .before .args .w)
+    (c .before .before .before .before .before .before .before .args .labels .now) (m .result) (m .ensures)
+    (c .before .enum-told .given .0 .0) (c .before .enum-told .given .1) (c .unchanged .result)
+    (c .unchanged .ensures)
 
 returns-3 : tie.Need-returns-3
 returns-3 c = let m = c .before .before .before .before .before .moved in
-    shown-ended (c .before .before .before .before .before .before .before .args .w) (c .before .before .before .before .before .before .before .args .labels .now) (m .result) (m .ensures) _ _ _ (c .before .enum-told2 .given .1) (c .unchanged2 .result) (c .unchanged2 .ensures)
+    shown-ended (c .before .before .before .before .before .before .before .args .w)
+    (c .before .before .before .before .before .before .before .args .labels .now) (m .result) (m .ensures) _ _ _
+    (c .before .enum-told2 .given .1) (c .unchanged2 .result) (c .unchanged2 .ensures)
 
 pub preview-spec : {M : Type 1} → statement M
 preview-spec =
