@@ -16,6 +16,7 @@ ghost use Rattle.checker.specs.Covered.{IsCovered, firstWhole, Labelled,
 use crate::Answer;
 use grid::Grid;
 use grid::wide;
+use label_table::read_at;
 use moves::add;
 use moves::has;
 use moves::padded;
@@ -42,7 +43,7 @@ fn label_at(g: Grid, binomials: &[u16; 1255], labels: &[u8], y: &[u16; 16]) -> u
 {
     let steps = [16u16; 16];
     let position = positions::position(g, binomials, y, &steps);
-    labels[position]
+    read_at(labels, position)
 }
 
 // The points are taken from the last to the first.

@@ -12,6 +12,7 @@ ghost use Rattle.rules.specs.Ready.{IndicesBelow};
 ghost use Rattle.rules.specs.Step.{State, firstOutside};
 ghost use Rattle.marks.specs.Reading.{tableOf, readingOf, isBetween, addUp, Readable, Measured, CanRead, HasMarks};
 use grid::Grid;
+use label_table::read_at;
 use moves::Status;
 use moves::advance;
 use moves::index_at;
@@ -174,7 +175,7 @@ pub fn mark_in(
         marks,
         s,
     );
-    let label = byte(table[at]);
+    let label = byte(read_at(table, at));
     if label == 0 {
         return Reading::Unknown(at);
     }

@@ -8,6 +8,7 @@ ghost use Rattle.rules.specs.Step.{firstOutside};
 ghost use Rattle.recogniser.specs.Pieces.{CanMark, CanRead, IsMark, LabelsPut, Located, Marked, OnGrid};
 use grid::Grid;
 use grid::wide16;
+use label_table::read_at;
 use moves::position_at;
 use moves::source;
 use moves::wide32;
@@ -64,7 +65,7 @@ pub fn read_labels(table: &[u8], n: usize, marks: &mut [u32; 16])
     let mut k: usize = 0;
     while k <= n {
         let at = position_at(marks, n, k);
-        let label = table[at] as u32;
+        let label = read_at(table, at) as u32;
         marks[k] = marks[k] + label;
         k += 1;
     }

@@ -9,6 +9,7 @@ ghost use Rattle.combinatorics.specs.Lists.{same};
 ghost use Rattle.grid.specs.Grid.{at};
 ghost use Rattle.walk_labels.specs.Carrying.{CanCarry, CarriedOn, FoundIn, labelsIn};
 use grid::wide;
+use label_table::read_at;
 use moves::label_in;
 use moves::position_at;
 use moves::wide32;
@@ -68,7 +69,7 @@ fn label_of(carried: &[u8; 16], n: usize, i: usize, table: &[u8], position: usiz
     if i <= n {
         return carried[i];
     }
-    table[position]
+    read_at(table, position)
 }
 
 // The labels of the k + 1 points of the next place. A point that stays keeps the label that is carried for it, and only

@@ -11,6 +11,7 @@ ghost use Rattle.walk_calls.specs.Asked.{laterQuestions};
 ghost use Rattle.walk_views.specs.Begun.{begunOf, begunOn, noWalk, startWalk, CanLookUp};
 use crate::Begun;
 use grid::Grid;
+use label_table::read_at;
 use positions::ENTRIES;
 use walk_calls::first_no;
 use walk_ways::Place;
@@ -59,7 +60,7 @@ fn label_of(g: Grid, y: &[u16; 16], labels: &[u8]) -> u8
     let mut binomials = [0u16; ENTRIES];
     positions::binomials(g, &mut binomials);
     let steps = [16u16; 16];
-    labels[positions::position(g, &binomials, y, &steps)]
+    read_at(labels, positions::position(g, &binomials, y, &steps))
 }
 
 // The walk at {v}, behind questions 1 to 7.

@@ -14,11 +14,11 @@ use Rattle.marks.proofs.mark_in.Tie as tie
 position-in-requires : tie.Need-position-in-requires
 position-in-requires c κs = search needs
 
-shared-slice-read-byte : tie.Need-shared-slice-read-byte
-shared-slice-read-byte c =
-    let s = c .before .before .before in
+read-at-requires : tie.Need-read-at-requires
+read-at-requires c κs =
+    let s = c .before .before in
     let a = s .args in
-    rw (c .before .position-in .ensures) (in-table (a .g) (a .binomials .now) (a .table .now) (s .pre .0 .0) _ (s .pre .0 .1 .onGrid))
+    rw (c .position-in .ensures) (in-table (a .g) (a .binomials .now) (a .table .now) (s .pre .0 .0) _ (s .pre .0 .1 .onGrid))
 
 byte-requires : tie.Need-byte-requires
 byte-requires c κs = search needs
@@ -29,26 +29,26 @@ returns c =
     let a = s .args in
     let e = c .before .before .before .position-in .ensures in
     ap (λ (at : ℕ). Unknown at) e
-    ∙ read-gap (a .g) (a .binomials .now) (a .table .now) (s .pre .0 .0) _ (rw e at (sym (c .before .byte .ensures .0) ∙ c .if1 .taken))
+    ∙ read-gap (a .g) (a .binomials .now) (a .table .now) (s .pre .0 .0) _ (rw e at (sym (c .before .byte .ensures .0 ∙ c .before .before .read-at .ensures) ∙ c .if1 .taken))
 
-cast-t17 : tie.Need-cast-t17
-cast-t17 c =
+cast-t16 : tie.Need-cast-t16
+cast-t16 c =
     let s = c .before .before .before .before .before in
     let a = made-accepted (s .args .g) (s .pre .0 .0 .made) in
     let at = c .before .before .before .position-in in
     let small : at .result < 60001 = rw (at .ensures) (omega (arith, position-below _ _ (a .sameNumber) (s .pre .0 .1 .onGrid), a .fewPoints)) in
     omega arith
 
-mul-t18 : tie.Need-mul-t18
-mul-t18 c =
+mul-t17 : tie.Need-mul-t17
+mul-t17 c =
     let s = c .before .before .before .before .before in
     let a = made-accepted (s .args .g) (s .pre .0 .0 .made) in
     let at = c .before .before .before .position-in in
     let small : at .result < 60001 = rw (at .ensures) (omega (arith, position-below _ _ (a .sameNumber) (s .pre .0 .1 .onGrid), a .fewPoints)) in
     omega arith
 
-add-t19 : tie.Need-add-t19
-add-t19 c =
+add-t18 : tie.Need-add-t18
+add-t18 c =
     let s = c .before .before .before .before .before in
     let a = made-accepted (s .args .g) (s .pre .0 .0 .made) in
     let at = c .before .before .before .position-in in
@@ -60,7 +60,7 @@ returns-2 c =
     let s = c .before .before .before .before .before in
     let a = s .args in
     let e = c .before .before .before .position-in .ensures in
-    let b = c .before .byte .ensures .0 in
+    let b = c .before .byte .ensures .0 ∙ c .before .before .read-at .ensures in
     ap (λ (at : ℕ). Marked (mark at (c .before .byte .result))) e
     ∙ rw (b, e) (read-mark (a .g) (a .binomials .now) (a .table .now) (s .pre .0 .0) _ (λ z. c .if1 .left (b ∙ rw e z)))
 
@@ -69,10 +69,10 @@ mark-in-spec =
     tie.close
     (tie.spec
     position-in-requires
-    shared-slice-read-byte
+    read-at-requires
     byte-requires
     returns
-    cast-t17
-    mul-t18
-    add-t19
+    cast-t16
+    mul-t17
+    add-t18
     returns-2)

@@ -9,14 +9,14 @@ element-copy-out-result : tie.Need-element-copy-out-result
 element-copy-out-result c = search needs
 
 returns : tie.Need-returns
-returns c = let a = c .before .before .args in rw (le-leb (a .i) (a .n) (c .before .if1 .taken))
+returns c = let a = c .before .before .before .args in rw (le-leb (a .i) (a .n) (c .before .if1 .taken))
 
-shared-slice-read-result : tie.Need-shared-slice-read-result
-shared-slice-read-result c = search needs
+read-at-requires : tie.Need-read-at-requires
+read-at-requires c κs = search needs
 
 returns-2 : tie.Need-returns-2
-returns-2 c = let a = c .before .before .args in rw (lt-leb (a .i) (a .n) (omega (arith, c .before .if1 .left)))
+returns-2 c = let a = c .before .before .before .args in rw (lt-leb (a .i) (a .n) (omega (arith, c .before .if1 .left))) (c .read-at .ensures)
 
 pub label-of-spec : {M : Type 1} → statement M
 label-of-spec =
-    tie.close (tie.spec element-copy-out-result returns shared-slice-read-result returns-2)
+    tie.close (tie.spec element-copy-out-result returns read-at-requires returns-2)

@@ -20,11 +20,11 @@ position-requires c κs = let b = c .before .before in
     let y = b .args .y .now in
     (b .pre .0, b .pre .2, can-stay s (b .pre .0) y (b .pre .3), stays-on-grid s (b .pre .0) y (b .pre .3))
 
-shared-slice-read-result : tie.Need-shared-slice-read-result
-shared-slice-read-result c = let b = c .before .before .before .before in
+read-at-requires : tie.Need-read-at-requires
+read-at-requires c κs = let b = c .before .before .before in
     let s = b .args .g in
     let y = b .args .y .now in
-    let is : c .before .position .result ≡ position (shape s) (take (s .indices) y) = same-position s (b .pre .0) y (b .pre .3) _ (c .before .position .ensures) in
+    let is : c .position .result ≡ position (shape s) (take (s .indices) y) = same-position s (b .pre .0) y (b .pre .3) _ (c .position .ensures) in
     omega (arith, label-inside s (b .pre .0) y (b .pre .3) (b .args .labels .now) (b .pre .1 .whole))
 
 returns : tie.Need-returns
@@ -36,7 +36,7 @@ returns c = let b = c .before .before .before .before in
     let is : c .before .position .result ≡ position (shape s) (take (s .indices) y) = same-position s (b .pre .0) y (b .pre .3) _ (c .before .position .ensures) in
     let low = label-inside s (b .pre .0) y (b .pre .3) labels (b .pre .1 .whole) in
     let most = leb-true (getD labels (position (shape s) (take (s .indices) y)) 0) (numIndices (shape s)) (at-all (λ l. leb l (numIndices (shape s))) labels (position (shape s) (take (s .indices) y)) (b .pre .1 .within) low) in
-    rw is (refl, omega (arith, most, made-accepted s (b .pre .0) .fewIndices))
+    rw (c .read-at .ensures, is) (refl, omega (arith, most, made-accepted s (b .pre .0) .fewIndices))
 
 pub label-at-spec : {M : Type 1} → statement M
-label-at-spec = tie.close (tie.spec position-requires shared-slice-read-result returns)
+label-at-spec = tie.close (tie.spec position-requires read-at-requires returns)
