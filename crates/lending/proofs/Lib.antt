@@ -1,0 +1,2 @@
+pub mod FourSlices
+pub mod OneSlice
