@@ -1,5 +1,5 @@
 /* The simplicial path finder and the shelf of sheets for programs in C. Document 01 and the customer's requests fix every result, and the numbers of
- * refusals are theirs; the promises below are proved (crates/exports).
+ * refusals are theirs; the promises below are proved (crates/exports and crates/.._exports).
  *
  * Each array is lent for the time of the call; its pointer is not null, even at length 0, and it overlaps no array that is written to. A call writes
  * only to what is lent without `const`, at the front; what stands behind stays. A refusal writes nothing, except that number 9 gives the places and

@@ -1,8 +1,8 @@
--- The facts of an answer, and of the levels of a refinement one behind the other. Assumes nothing.
+-- The facts of the levels of a refinement one behind the other. Assumes nothing.
 use mathlib.Core.List.{List, [], _∷_, _++_, append-assoc}
 use mathlib.Core.Path.{_≡_, refl, sym, ap, _∙_}
 use Prim.Native.Nat.{ℕ, zero, suc, _+_, _-_, _*_, _≤_, _<_}
-use lib.ListN.{length, getD, drop, length-append, length-drop, set, take}
+use lib.ListN.{length, getD, drop, length-append, length-drop, take}
 use lib.Seq.{drop-append-seam, drop-drop, take-append-seam, take-all}
 use native.Mathlib.Numerals.{add-one}
 use native.Mathlib.Omega.{arith}
@@ -12,17 +12,6 @@ use Rattle.combinatorics.specs.Lists.{concatMap}
 use Rattle.refinement.proofs.Solved.{put-back}
 use Rattle.refinement.specs.declared.Level.{Level}
 use Rattle.exports.specs.Refine.{levelFacts}
-
--- five facts, stored one behind the other
-pub five : (x y z u v : ℕ) (old : List ℕ) → 5 ≤ length old
-    → set (set (set (set (set old 0 x) 1 y) 2 z) 3 u) 4 v ≡ front (x ∷ y ∷ z ∷ u ∷ v ∷ []) old
-unfolding front
-five x y z u v (a ∷ b ∷ c ∷ d ∷ e ∷ old) h = refl
-five x y z u v [] h = absurd (omega arith)
-five x y z u v (a ∷ []) h = absurd (omega arith)
-five x y z u v (a ∷ b ∷ []) h = absurd (omega arith)
-five x y z u v (a ∷ b ∷ c ∷ []) h = absurd (omega arith)
-five x y z u v (a ∷ b ∷ c ∷ d ∷ []) h = absurd (omega arith)
 
 -- what is put behind a front makes a longer front
 front-more : (p row old : List ℕ)

@@ -5,7 +5,7 @@ use lib.ListN.{take}
 use Rattle.combinatorics.specs.Lists.{concatMap}
 use Rattle.refinement.specs.declared.Level.{Level}
 use Rattle.refinement.specs.declared.Refined.{Refined}
-use Rattle.exports.specs.Numbers.{kindNumber}
+use Rattle.run_facts.specs.Numbers.{kindNumber}
 
 -- "each level's places, kind of end, block and number of vertices", and request 10's labels read after the places
 abbrev pub levelFacts : Level → List ℕ

@@ -1,5 +1,5 @@
-// The calls for programs in C and Rust, under the names that the static library defines. Each only names a case of an
-// enum by a number.
+// The calls for programs in C and Rust, under the names that the static library defines: the run and what rests on it,
+// and the calls that walk no path. Each only names a case of an enum by a number.
 ghost use mathlib.Core.Path.{_≡_};
 ghost use Prim.Native.Nat.{_≤_};
 ghost use lib.ListN.{length};
@@ -8,61 +8,16 @@ ghost use Rattle.place.specs.Problem.{problemOf};
 ghost use Rattle.finder.specs.Run.{runAnswer, runBuffer};
 ghost use Rattle.games.specs.Labelling.{labelAnswer, labelBuffer};
 ghost use Rattle.printer.specs.Printed.{sheetOf};
-ghost use Rattle.exports.specs.Numbers.{kindNumber, runNumber, runFacts, labelNumber, labelCount};
+ghost use Rattle.run_facts.specs.Numbers.{runFacts, runNumber};
+ghost use Rattle.exports.specs.Numbers.{labelCount, labelNumber};
 
 mod boundary_calls;
 mod check_calls;
-mod lent_walks;
-mod near_calls;
 mod refine_calls;
 mod shelf_calls;
-mod trail_calls;
 
-use finder::Answer;
-use finder::Kind;
 use games::Labelled;
-
-fn kind_number(kind: Kind) -> u64
-    ensures { λ r. ⌜ r ≡ kindNumber kind ⌝ }
-{
-    match kind {
-        Kind::Place => 0,
-        Kind::Facet => 1,
-    }
-}
-
-// The facts to the front of their buffer, and the number.
-fn put_answer(answer: Answer, facts: &mut [u64]) -> u8
-    requires { ⌜ 5 ≤ length (now facts) ⌝ }
-    ensures { λ r. ⌜ (r ≡ runNumber answer) × (now (facts .exit) ≡ front (runFacts answer) (now (facts .entry))) ⌝ }
-{
-    match answer {
-        Answer::Refused(number) => number,
-        Answer::Spent(visited) => {
-            facts[0] = visited;
-            9
-        }
-        Answer::Unknown { places, position } => {
-            facts[0] = places;
-            facts[1] = position as u64;
-            16
-        }
-        Answer::End {
-            places,
-            labels_read,
-            kind,
-            block,
-            vertices,
-        } => {
-            facts[0] = places;
-            facts[1] = labels_read;
-            facts[2] = kind_number(kind);
-            facts[3] = block as u64;
-            facts[4] = vertices as u64;
-            0
-        }
-    }
-}
+use run_facts::put_answer;
 
 // The run on a label table: 0 at an end, else the refusal's number. The facts are the places, the labels read, the kind of
 // end (0 place, 1 facet), the block and the number of vertices; of the refusals 9 writes one, the places, and 16 two,

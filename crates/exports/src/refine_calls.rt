@@ -6,7 +6,7 @@ ghost use Rattle.combinatorics.specs.Front.{front};
 ghost use Rattle.grid.specs.Build.{lent};
 ghost use Rattle.refinement.specs.Answer.{answerLeft, labelsLeft, lentGame, refineAnswer};
 ghost use Rattle.exports.specs.Refine.{levelFacts, refinedFacts};
-use crate::kind_number;
+use run_facts::kind_number;
 use refinement::Level;
 use refinement::Refined;
 

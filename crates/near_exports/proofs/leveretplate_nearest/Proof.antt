@@ -1,0 +1,36 @@
+-- `leveretplate_nearest` meets its contract: it is the report's own, with the answer as numbers. Assumes nothing.
+use mathlib.Core.Path.{sym}
+use borrow.Author.Needs.{needs}
+use Rattle.near_exports.proofs.leveretplate_nearest.Statement.{statement}
+use Rattle.near_exports.proofs.leveretplate_nearest.Tie as tie
+
+run-requires : tie.Need-run-requires
+run-requires c κs = search needs
+
+put-nearest-requires : tie.Need-put-nearest-requires
+put-nearest-requires c κs = search needs
+
+put-answer-requires : tie.Need-put-answer-requires
+put-answer-requires c κs = search needs
+
+same-length : tie.Need-same-length
+same-length c = search needs
+
+same-length-2 : tie.Need-same-length-2
+same-length-2 c = search needs
+
+returns : tie.Need-returns
+returns c =
+    let found = c .before .before .before .before .before .before .before .before .run .ensures in
+    rw (sym (found .0)) (c .put-answer .ensures .0, (c .put-answer .ensures .1, (c .before .before .put-nearest .ensures, (found .1 .0, found .1 .1))))
+
+pub leveretplate-nearest-spec : {M : Type 1} → statement M
+leveretplate-nearest-spec =
+    tie.close
+    (tie.spec
+    run-requires
+    put-nearest-requires
+    put-answer-requires
+    same-length
+    same-length-2
+    returns)

@@ -1,0 +1,112 @@
+-- `put_answer` meets its contract: each case stores its facts one behind the other. Assumes nothing.
+use mathlib.Core.List.{List, [], _∷_}
+use mathlib.Core.Path.{_≡_, refl, sym}
+use Prim.Native.Nat.{ℕ, _≤_}
+use native.Mathlib.Omega.{arith}
+use lib.ListN.{length, set, length-set}
+use Rattle.combinatorics.proofs.Fronts.{front-none}
+use Rattle.combinatorics.specs.Front.{front}
+use borrow.Author.Needs.{needs}
+use Rattle.run_facts.proofs.Facts.{five}
+use Rattle.run_facts.proofs.put_answer.Statement.{statement}
+use Rattle.run_facts.proofs.put_answer.Tie as tie
+
+one : (x : ℕ) (old : List ℕ) → 5 ≤ length old → set old 0 x ≡ front (x ∷ []) old
+unfolding front
+one x [] h = absurd (omega arith)
+one x (o ∷ old) h = refl
+
+two : (x y : ℕ) (old : List ℕ) → 5 ≤ length old → set (set old 0 x) 1 y ≡ front (x ∷ y ∷ []) old
+unfolding front
+two x y (a ∷ b ∷ old) h = refl
+two x y [] h = absurd (omega arith)
+two x y (a ∷ []) h = absurd (omega arith)
+
+enum-known-answer : tie.Need-enum-known-answer
+enum-known-answer c = search needs
+
+enum-known-answer-2 : tie.Need-enum-known-answer-2
+enum-known-answer-2 c = search needs
+
+slice-write-facts : tie.Need-slice-write-facts
+slice-write-facts c = search needs
+
+enum-known-answer-3 : tie.Need-enum-known-answer-3
+enum-known-answer-3 c = search needs
+
+slice-write-facts-2 : tie.Need-slice-write-facts-2
+slice-write-facts-2 c = search needs
+
+slice-write-facts-3 : tie.Need-slice-write-facts-3
+slice-write-facts-3 c = simp length-set (omega arith)
+
+enum-known-answer-4 : tie.Need-enum-known-answer-4
+enum-known-answer-4 c = search needs
+
+slice-write-facts-4 : tie.Need-slice-write-facts-4
+slice-write-facts-4 c = search needs
+
+kind-number-requires : tie.Need-kind-number-requires
+kind-number-requires c κs = search needs
+
+slice-write-facts-5 : tie.Need-slice-write-facts-5
+slice-write-facts-5 c = simp length-set (omega arith)
+
+cast-facts : tie.Need-cast-facts
+cast-facts c = search needs
+
+slice-write-facts-6 : tie.Need-slice-write-facts-6
+slice-write-facts-6 c = simp length-set (omega arith)
+
+slice-write-facts-7 : tie.Need-slice-write-facts-7
+slice-write-facts-7 c = simp length-set (omega arith)
+
+slice-write-facts-8 : tie.Need-slice-write-facts-8
+slice-write-facts-8 c = simp length-set (omega arith)
+
+returns : tie.Need-returns
+returns c = rw (c .before .answer .given .1) (refl, sym (front-none _))
+
+same-length : tie.Need-same-length
+same-length c = search needs
+
+returns-2 : tie.Need-returns-2
+returns-2 c = rw (c .before .answer2 .given .1) (refl, one _ _ (omega arith))
+
+same-length-2 : tie.Need-same-length-2
+same-length-2 c = search needs
+
+returns-3 : tie.Need-returns-3
+returns-3 c = rw (c .before .answer3 .given .1) (refl, two _ _ _ (omega arith))
+
+same-length-3 : tie.Need-same-length-3
+same-length-3 c = search needs
+
+returns-4 : tie.Need-returns-4
+returns-4 c = rw (c .before .before .answer4 .given .1, c .kind-number .ensures) (refl, five _ _ _ _ _ _ (omega arith))
+
+pub put-answer-spec : {M : Type 1} → statement M
+put-answer-spec =
+    tie.close
+    (tie.spec
+    enum-known-answer
+    enum-known-answer-2
+    slice-write-facts
+    enum-known-answer-3
+    slice-write-facts-2
+    slice-write-facts-3
+    enum-known-answer-4
+    slice-write-facts-4
+    slice-write-facts-5
+    kind-number-requires
+    slice-write-facts-6
+    cast-facts
+    slice-write-facts-7
+    slice-write-facts-8
+    returns
+    same-length
+    returns-2
+    same-length-2
+    returns-3
+    same-length-3
+    returns-4)

@@ -1,0 +1,51 @@
+// The numbers and the facts by which the calls for C and Rust tell what a run answers.
+ghost use mathlib.Core.Path.{_≡_};
+ghost use Prim.Native.Nat.{_≤_};
+ghost use lib.ListN.{length};
+ghost use Rattle.combinatorics.specs.Front.{front};
+ghost use Rattle.run_facts.specs.Numbers.{kindNumber, runFacts, runNumber};
+use finder::Answer;
+use finder::Kind;
+
+// The kind of end.
+pub fn kind_number(kind: Kind) -> u64
+    ensures { λ r. ⌜ r ≡ kindNumber kind ⌝ }
+{
+    match kind {
+        Kind::Place => 0,
+        Kind::Facet => 1,
+    }
+}
+
+// The facts to the front of their buffer, and the number.
+pub fn put_answer(answer: Answer, facts: &mut [u64]) -> u8
+    requires { ⌜ 5 ≤ length (now facts) ⌝ }
+    ensures { λ r. ⌜ (r ≡ runNumber answer) × (now (facts .exit) ≡ front (runFacts answer) (now (facts .entry))) ⌝ }
+{
+    match answer {
+        Answer::Refused(number) => number,
+        Answer::Spent(visited) => {
+            facts[0] = visited;
+            9
+        }
+        Answer::Unknown { places, position } => {
+            facts[0] = places;
+            facts[1] = position as u64;
+            16
+        }
+        Answer::End {
+            places,
+            labels_read,
+            kind,
+            block,
+            vertices,
+        } => {
+            facts[0] = places;
+            facts[1] = labels_read;
+            facts[2] = kind_number(kind);
+            facts[3] = block as u64;
+            facts[4] = vertices as u64;
+            0
+        }
+    }
+}
