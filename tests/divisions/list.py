@@ -13,7 +13,7 @@ import sys
 ROOT = pathlib.Path(__file__).resolve().parents[2]
 
 # the crates that find a point's position, prepare for it and read what is kept of it
-WITHOUT = ["positions", "rules", "moves", "marks", "finder"]
+WITHOUT = ["positions", "rules", "arrays", "moves", "place_points", "marks", "finder"]
 
 REASONS = {
     "weighed_losses::lengths::rests": "which block and player a place stands for, 36 times a game",

@@ -8,10 +8,10 @@ ghost use Rattle.grid.specs.Grid.{isGridPoint};
 ghost use Rattle.grid.specs.Made.{IsMade, shape};
 ghost use Rattle.chains.specs.Follow.{FollowedFrom, FoundOnBlock, FoundOf};
 ghost use Rattle.chains.specs.Sets.{ClearFrom};
+use arrays::add;
 use grid::Grid;
 use grid::wide;
 use grid::wide16;
-use moves::add;
 
 // The set of the indices with 1, if there is nothing but 0s and 1s.
 pub enum Found {

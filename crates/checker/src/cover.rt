@@ -14,13 +14,13 @@ ghost use Rattle.positions.specs.Binomials.{HasBinomials};
 ghost use Rattle.checker.specs.Check.{caseOf};
 ghost use Rattle.checker.specs.Covered.{IsCovered, firstWhole, Labelled, withLabel};
 use crate::Answer;
+use arrays::add;
+use arrays::has;
+use arrays::padded;
+use arrays::zeros;
 use grid::Grid;
 use grid::wide;
 use label_table::read_at;
-use moves::add;
-use moves::has;
-use moves::padded;
-use moves::zeros;
 
 // The set with the index that a label names; 0 names none.
 fn with_label(set: u16, label: u8) -> u16

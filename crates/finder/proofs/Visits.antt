@@ -10,6 +10,7 @@ use lib.Dec.{eqb, ltb}
 use lib.ListN.{length, replicate, set, take}
 use lib.Seq.{getD-take, take-set-lt}
 use native.Mathlib.Omega.{arith}
+use Rattle.arrays.specs.Rounds.{roundOf}
 use Rattle.combinatorics.proofs.Basics.{before-or-not, same-or}
 use Rattle.combinatorics.proofs.EditsOfArrays.{first-few}
 use Rattle.combinatorics.proofs.Lists.{all-in, in-all, in-map, map-in, onNumbers}
@@ -32,7 +33,7 @@ use Rattle.place.specs.Path.{answer, path, pathLength, spent, unknown}
 use Rattle.place.specs.Places.{allLabelled}
 use Rattle.place.specs.Problem.{Problem, hasLabel, label}
 use Rattle.rules.proofs.Follow.{At, EndsAt, NextAt, nextPlace, placeEnds, facetEnds, at-begin, at-below, at-beside, at-exchanged, at-first, at-new, at-next, at-others, at-place, at-reads, at-ready, ends-answer}
-use Rattle.moves.specs.Held.{roundOf, stateOf}
+use Rattle.moves.specs.Held.{stateOf}
 use Rattle.rules.specs.Mask.{bit}
 use Rattle.rules.specs.Read.{markOf, pointIn, pointsFrom, read, CanCompute, Exchanged, FallsBeside, Falling}
 use Rattle.rules.specs.Ready.{IsRound, Ready, RoundBelow}

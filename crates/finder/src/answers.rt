@@ -13,11 +13,11 @@ ghost use Rattle.finder.specs.Finish.{CanRun, firstOf, laterQuestions};
 ghost use Rattle.finder.specs.Run.{caseOf, numbersOf, runAnswer, runBuffer};
 use crate::walk::Finish;
 use crate::walk::walk;
+use arrays::block_sizes;
+use arrays::padded;
 use grid::Grid;
 use label_table::all_at_most;
-use moves::block_sizes;
-use moves::padded;
-use moves::put_points;
+use place_points::put_points;
 use positions::ENTRIES;
 
 // The kind of end: a complete place, or what remains of a place less one point.

@@ -2,20 +2,21 @@
 // report where the path came nearest.
 ghost use mathlib.Core.Path.{_≡_};
 ghost use Prim.Native.Nat.{_≤_};
+ghost use Rattle.arrays.specs.Rounds.{round};
 ghost use Rattle.marks.specs.Reading.{Readable, tableOf};
-ghost use Rattle.moves.specs.Held.{GivesAll, held, round};
+ghost use Rattle.moves.specs.Held.{GivesAll, held};
 ghost use Rattle.rules.specs.Read.{read};
 ghost use Rattle.rules.specs.Ready.{SixteenEach};
 ghost use Rattle.rules.specs.Step.{Round, State, step as stepOf};
 ghost use Rattle.finder.specs.Finish.{CanVisit, CanWalk, Finished, Gives, IsBegun, labelsAt, problemIn, visitOf};
 use crate::answers::Kind;
+use arrays::zeros;
 use grid::Grid;
 use marks::Reading;
 use marks::mark_in;
 use moves::Outcome;
 use moves::Status;
 use moves::step;
-use moves::zeros;
 use positions::ENTRIES;
 
 // What a place of the walk leads to: what the move gives; or that the label of the point that has come in is not yet

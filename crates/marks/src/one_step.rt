@@ -5,16 +5,17 @@ ghost use mathlib.Core.Path.{_≡_};
 ghost use Prim.Native.Nat.{ℕ, _+_, _≤_, _<_};
 ghost use lib.Dec.{ltb};
 ghost use lib.ListN.{take};
+ghost use Rattle.arrays.specs.Rounds.{roundBack};
 ghost use Rattle.grid.specs.Made.{shape};
-ghost use Rattle.moves.specs.Held.{heldButFirst, roundBack};
+ghost use Rattle.moves.specs.Held.{heldButFirst};
 ghost use Rattle.rules.specs.Step.{State};
 ghost use Rattle.marks.specs.Reading.{Measured, HasOrder, CanFall, IsFound, CanWeigh, FallsBy};
+use arrays::index_at;
+use arrays::position_at;
+use arrays::source;
 use grid::Grid;
 use grid::wide16;
 use moves::Status;
-use moves::index_at;
-use moves::position_at;
-use moves::source;
 use positions::ENTRIES;
 
 // A position, or that one step does not lead to it.

@@ -9,13 +9,14 @@ use native.Mathlib.Omega.{arith}
 use borrow.Author.Tests.{eqb-true, eq-eqb, ne-eqb, lt-ltb, le-ltb}
 use lib.Dec.{eqb, ltb}
 use lib.ListN.{length, take}
+use Rattle.arrays.specs.Rounds.{roundOf}
 use Rattle.combinatorics.proofs.Basics.{true-or-false, false-of, and-left, and-right}
 use Rattle.combinatorics.specs.Edits.{removeAt, swapAt, rotateLeft, rotateRight, found}
 use Rattle.grid.specs.Grid.{at}
 use Rattle.combinatorics.proofs.EditsOfArrays.{counted}
 use Rattle.rules.proofs.FirstMet.{entry}
 use Rattle.rules.specs.Mask.{bit, withIndex, withoutIndex}
-use Rattle.moves.specs.Held.{stateOf, roundOf, answered}
+use Rattle.moves.specs.Held.{stateOf, answered}
 use Rattle.rules.specs.Ready.{testedBefore, SixteenEach, ReadyFirst, ReadyLast, ReadyLeave, ReadyGrow, labelIn, Ready}
 use Rattle.rules.specs.Step.{State, Round, After, goes, endsAtPlace, endsAtFacet, markLabel, firstOutside, sourceIn, firstOutsideOrZero, isFilled, shifted, changedBefore, shrink, joined, grow, leaveFirst, leaveMiddle, leaveLast, leave, step}
 use Rattle.moves.specs.declared.Outcome.{Outcome}

@@ -1,18 +1,13 @@
 -- The state that lent arrays hold before a call and after it: what the contracts of this crate say. Assumes nothing.
-use mathlib.Core.Bool.{true}
 use mathlib.Core.List.{List, []}
 use mathlib.Core.Path.{_≡_}
-use Prim.Native.Nat.{ℕ, suc, pred, _+_, _-_, _*_, _≤_, _<_}
-use lib.Dec.{ltb}
-use lib.ListN.{length, take}
-use denote.Ref.{RefT, now}
-use denote.Triple.Both.{Both}
-use Rattle.combinatorics.specs.Edits.{rotateLeft, rotateRight}
+use Prim.Native.Nat.{ℕ, suc, _-_, _≤_, _<_}
+use lib.ListN.{take}
+use denote.Ref.{now}
+use Rattle.arrays.specs.Rounds.{Lent, LentBoth}
 use Rattle.grid.specs.Grid.{at}
-use Rattle.rules.specs.Read.{CanCompute}
-use Rattle.rules.specs.Ready.{IndicesBelow, RoundBelow, testedBefore, SixteenEach, Ready, ReadyGrow}
-use Rattle.rules.specs.Step.{State, Round, After, goes, endsAtPlace, endsAtFacet}
-use Rattle.rules.specs.Step.{shifted, changedBefore, sourceIn, joined}
+use Rattle.rules.specs.Ready.{IndicesBelow, RoundBelow, SixteenEach, Ready, ReadyGrow}
+use Rattle.rules.specs.Step.{State, Round, After, goes, endsAtPlace, endsAtFacet, sourceIn, joined}
 use Rattle.moves.specs.declared.Outcome.{Outcome}
 use Rattle.moves.specs.declared.Outcome.the-variants.{Moved, PlaceEnd, FacetEnd}
 use Rattle.moves.specs.declared.Status.{Status}
@@ -30,30 +25,6 @@ stateOf round first coefficients order marks s = record {
   active = s .active;
   rule = s .rule;
 }
-
--- a lent array, as a `requires` sees it, and as an `ensures` does
-abbrev pub Lent : Type 0
-Lent = RefT (List ℕ)
-
-abbrev pub LentBoth : Type 0
-LentBoth = Both Lent Lent
-
--- the ways round the blocks, in three arrays
-abbrev pub roundOf : List ℕ → List ℕ → List ℕ → Round
-roundOf previous next sizes = record { previous = previous; next = next; sizes = sizes }
-
-abbrev pub round : Lent → Lent → Lent → Round
-round previous next sizes = roundOf (now previous) (now next) (now sizes)
-
-abbrev pub roundBack : Lent → Lent → Round
-roundBack previous sizes = roundOf (now previous) [] (now sizes)
-
-abbrev pub roundOn : Lent → Lent → Round
-roundOn next sizes = roundOf [] (now next) (now sizes)
-
--- no way round the blocks, where a call is lent none
-abbrev pub noRound : Round
-noRound = roundOf [] [] []
 
 -- the state as a call begins
 abbrev pub held : Round → Lent → Lent → Lent → Lent → Status → State
@@ -149,47 +120,3 @@ pub record IsLastStep (s : Status) (a : State) (h : ℕ) : Type 0 where
 pub record IsMiddle (s : Status) (i : ℕ) : Type 0 where
   pub behindFirst : 1 ≤ i
   pub beforeLast : i < s .count
-
--- n steps at the front of the order, with their marks, can move on by a step at h that takes from b
-pub record CanGo (previous order marks : Lent) (n h b : ℕ) : Type 0 where
-  pub some : 1 ≤ n
-  pub few : n ≤ 15
-  pub index : h < 16
-  pub source : b < 16
-  pub each : SixteenEach (now order) (now marks)
-  pub below : IndicesBelow (now previous)
-
--- the second point can be the first
-pub record CanGoForward (previous first coefficients : Lent) (h b : ℕ) : Type 0 where
-  pub fits : at (now first) h < 65535
-  pub positive : 1 ≤ at (now first) b
-  pub raised : testedBefore (λ x. ltb x 65535) suc (now previous) b 16 h (now coefficients) ≡ true
-
-pub record GoesForward (previous first coefficients order marks : LentBoth) (n h b : ℕ) : Type 0 where
-  pub point : now (first .exit) ≡ shifted (now (first .entry)) h b
-  pub list : now (coefficients .exit) ≡ changedBefore suc (now (previous .entry)) b 16 h (now (coefficients .entry))
-  pub steps : take n (now (order .exit)) ≡ rotateLeft (take n (now (order .entry)))
-  pub marked : take (suc n) (now (marks .exit)) ≡ rotateLeft (take (suc n) (now (marks .entry)))
-  pub each : SixteenEach (now (order .exit)) (now (marks .exit))
-
--- and back
-pub record CanGoBack (previous first coefficients : Lent) (h b : ℕ) : Type 0 where
-  pub fits : at (now first) b < 65535
-  pub positive : 1 ≤ at (now first) h
-  pub lowered : testedBefore (λ x. ltb 0 x) pred (now previous) b 16 h (now coefficients) ≡ true
-
-pub record GoesBack (previous first coefficients order marks : LentBoth) (n h b : ℕ) : Type 0 where
-  pub point : now (first .exit) ≡ shifted (now (first .entry)) b h
-  pub list : now (coefficients .exit) ≡ changedBefore pred (now (previous .entry)) b 16 h (now (coefficients .entry))
-  pub steps : take n (now (order .exit)) ≡ rotateRight (take n (now (order .entry)))
-  pub marked : take (suc n) (now (marks .exit)) ≡ rotateRight (take (suc n) (now (marks .entry)))
-  pub each : SixteenEach (now (order .exit)) (now (marks .exit))
-
--- the points of the place from number `from` on can be put into a buffer of `room` numbers, m each
-pub record CanPut (a : State) (m from room : ℕ) : Type 0 where
-  pub below : IndicesBelow (a .round .previous)
-  pub firstLength : length (a .first) ≡ 16
-  pub points : CanCompute a (length (a .order))
-  pub short : m ≤ 16
-  pub low : from ≤ length (a .order)
-  pub fits : (suc (length (a .order)) - from) * m ≤ room

@@ -1,17 +1,18 @@
 // A label joins T, or the place is an end. The first point and its coefficients have no part in this.
 ghost use mathlib.Core.List.{[]};
 ghost use mathlib.Core.Path.{_≡_};
-ghost use Rattle.moves.specs.Held.{roundOn, heldBy, Gives, CanJoin, Joins, CanGrow};
+ghost use Rattle.arrays.specs.Rounds.{roundOn};
+ghost use Rattle.moves.specs.Held.{heldBy, Gives, CanJoin, Joins, CanGrow};
 ghost use Rattle.rules.specs.Step.{State, grow as grown};
 use crate::Outcome;
 use crate::Status;
-use crate::lists::find;
-use crate::lists::insert;
-use crate::mask::add;
-use crate::mask::has;
-use crate::mask::without;
-use crate::walk::first_outside;
-use crate::walk::is_filled;
+use arrays::add;
+use arrays::find;
+use arrays::first_outside;
+use arrays::has;
+use arrays::insert;
+use arrays::is_filled;
+use arrays::without;
 
 // Index h joins T before entry i of the order, and the point behind that entry comes in.
 fn join(

@@ -8,30 +8,27 @@ ghost use mathlib.Core.Path.{_≡_};
 ghost use Prim.Native.Nat.{_-_, _<_};
 ghost use lib.Dec.{eqb};
 ghost use lib.ListN.{length};
+ghost use Rattle.arrays.specs.Rounds.{round, roundBack, noRound};
 ghost use Rattle.grid.specs.Grid.{at};
-ghost use Rattle.moves.specs.Held.{round, roundBack, noRound, held, heldBy, Gives, GivesAll, Sound, CanShrink};
-ghost use Rattle.moves.specs.Held.{CanGo, CanGoForward, GoesForward, CanGoBack, GoesBack};
+ghost use Rattle.moves.specs.Held.{held, heldBy, Gives, GivesAll, Sound, CanShrink};
 ghost use Rattle.moves.specs.Held.{IsFirstStep, IsLastStep, IsMiddle};
 ghost use Rattle.rules.specs.Mask.{bit};
 ghost use Rattle.rules.specs.Ready.{IndicesBelow, RoundBelow, ReadyFirst, ReadyLast, ReadyLeave};
 ghost use Rattle.rules.specs.Step.{State, goes, leaveFirst, leaveMiddle, leaveLast, shrink as shrunk, leave as left};
 use crate::Outcome;
 use crate::Status;
-use crate::lists::exchange;
-use crate::lists::find;
-use crate::lists::index_at;
-use crate::lists::remove;
-use crate::lists::rotate_left;
-use crate::lists::rotate_right;
-use crate::mask::add;
-use crate::mask::has;
-use crate::mask::without;
-use crate::shifts::lower;
-use crate::shifts::raise;
-use crate::shifts::shift;
-use crate::walk::first_outside_or_zero;
-use crate::walk::is_filled;
-use crate::walk::source;
+use arrays::add;
+use arrays::exchange;
+use arrays::find;
+use arrays::first_outside_or_zero;
+use arrays::go_back;
+use arrays::go_forward;
+use arrays::has;
+use arrays::index_at;
+use arrays::is_filled;
+use arrays::remove;
+use arrays::source;
+use arrays::without;
 
 // Point i and entry e of the order go. The index of that entry leaves T, and joins U where `joins`; the point labelled
 // by it leaves next.
@@ -71,49 +68,6 @@ fn shrink(
         u: s.u,
         active,
     }
-}
-
-// The second point becomes the first, h being the index of the step to it and b the index that this step takes from.
-fn go_forward(
-    previous: &[u8; 16],
-    first: &mut [u16; 16],
-    coefficients: &mut [u16; 16],
-    order: &mut [u32; 16],
-    marks: &mut [u32; 16],
-    n: usize,
-    h: usize,
-    b: usize,
-)
-    requires { ⌜ CanGo previous order marks n h b ⌝ }
-    requires { ⌜ CanGoForward previous first coefficients h b ⌝ }
-    ensures { λ _. ⌜ GoesForward previous first coefficients order marks n h b ⌝ }
-{
-    shift(first, h, b);
-    raise(coefficients, previous, h, b);
-    rotate_left(order, n);
-    rotate_left(marks, n + 1);
-}
-
-// A new first point comes in before the first, h being the index of the step from it and b the index that this step
-// takes from.
-fn go_back(
-    previous: &[u8; 16],
-    first: &mut [u16; 16],
-    coefficients: &mut [u16; 16],
-    order: &mut [u32; 16],
-    marks: &mut [u32; 16],
-    n: usize,
-    h: usize,
-    b: usize,
-)
-    requires { ⌜ CanGo previous order marks n h b ⌝ }
-    requires { ⌜ CanGoBack previous first coefficients h b ⌝ }
-    ensures { λ _. ⌜ GoesBack previous first coefficients order marks n h b ⌝ }
-{
-    shift(first, b, h);
-    lower(coefficients, previous, h, b);
-    rotate_right(order, n);
-    rotate_right(marks, n + 1);
 }
 
 // Without the first point every point is 0 at b: the first has 1 there, which its step takes, and no step adds to it.

@@ -2,31 +2,11 @@
 // of marks and the finder, which show what it asks.
 mod joining;
 mod leaving;
-mod lists;
-mod mask;
 mod moves;
-mod points;
-mod shifts;
-mod walk;
 
 pub use joining::grow;
 pub use leaving::leave;
-pub use lists::find;
-pub use lists::index_at;
-pub use lists::label_in;
-pub use lists::position_at;
-pub use lists::wide32;
-pub use mask::add;
-pub use mask::has;
-pub use mask::without;
 pub use moves::step;
-pub use points::advance;
-pub use points::block_sizes;
-pub use points::padded;
-pub use points::put_points;
-pub use points::zeros;
-pub use walk::in_neither;
-pub use walk::source;
 
 // What the next move looks at, beside the arrays. T and U are masks of 16 indices.
 pub struct Status {

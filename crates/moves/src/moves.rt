@@ -1,15 +1,16 @@
 // The move from a place to the next. The place is lent, and so are the ways round the blocks.
 ghost use mathlib.Core.Path.{_≡_};
-ghost use Rattle.moves.specs.Held.{round, held, GivesAll, CanStep};
+ghost use Rattle.arrays.specs.Rounds.{round};
+ghost use Rattle.moves.specs.Held.{held, GivesAll, CanStep};
 ghost use Rattle.rules.specs.Step.{State, step as stepped};
 use crate::Outcome;
 use crate::Status;
 use crate::joining::grow;
 use crate::leaving::leave;
-use crate::lists::find;
-use crate::lists::label_in;
-use crate::lists::wide32;
-use crate::mask::has;
+use arrays::find;
+use arrays::has;
+use arrays::label_in;
+use arrays::wide32;
 
 // The move from a place whose points all have their marks. After rules 6 and 7 the point named leaves. Otherwise the
 // label that came in joins T if it is not there, and if it is, the other point with that label leaves.

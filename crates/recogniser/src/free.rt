@@ -7,13 +7,13 @@ ghost use lib.ListN.{length};
 ghost use Rattle.grid.specs.Made.{IsMade};
 ghost use Rattle.recogniser.specs.Pieces.{SetsOf, IsFree};
 use crate::Sets;
+use arrays::add;
+use arrays::has;
+use arrays::in_neither;
+use arrays::wide32;
+use arrays::without;
 use grid::Grid;
 use grid::wide;
-use moves::add;
-use moves::has;
-use moves::in_neither;
-use moves::wide32;
-use moves::without;
 
 // T has the first n indices of the order, where these are below m and all different; U has what T leaves of the set
 // `zeros`.

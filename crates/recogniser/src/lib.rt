@@ -13,11 +13,11 @@ mod coefficients;
 mod free;
 mod points;
 
+use arrays::zeros;
 use coefficients::coefficients;
 use free::is_free;
 use free::sets_of;
 use grid::Grid;
-use moves::zeros;
 use points::mark_points;
 pub use points::read_labels;
 use positions::ENTRIES;

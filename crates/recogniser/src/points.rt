@@ -6,12 +6,12 @@ ghost use Rattle.grid.specs.Made.{shape};
 ghost use Rattle.rules.specs.Ready.{IndicesBelow};
 ghost use Rattle.rules.specs.Step.{firstOutside};
 ghost use Rattle.recogniser.specs.Pieces.{CanMark, CanRead, IsMark, LabelsPut, Located, Marked, OnGrid};
+use arrays::position_at;
+use arrays::source;
+use arrays::wide32;
 use grid::Grid;
 use grid::wide16;
 use label_table::read_at;
-use moves::position_at;
-use moves::source;
-use moves::wide32;
 use positions::ENTRIES;
 
 // The mark of the point with these counts of steps: its position, above the lowest 8 bits, where its label has room.

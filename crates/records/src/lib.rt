@@ -8,7 +8,7 @@ ghost use lib.Seq.{paste};
 ghost use Rattle.trail.specs.Trail.{begins};
 ghost use Rattle.records.specs.Records.{differing, exchangedRecord, joinedRecord, leftRecord, recordFrom};
 ghost use Rattle.records.specs.Records.{firstRecord, keptRecord, HasLength, IsRecord, WordStands};
-use moves::has;
+use arrays::has;
 
 // T and U of a place, as masks.
 pub struct Sets {

@@ -40,7 +40,7 @@ fn start_of(grid: Grid, level: usize, start: &[u16], factor: usize, answer: &[u1
 {
     let m = grid.indices;
     if level == 0 {
-        return moves::padded(start, m);
+        return arrays::padded(start, m);
     }
     let at = (level - 1) * room_of(grid);
     scaled(&answer[at..at + m], factor)

@@ -10,6 +10,7 @@ use lib.Dec.{eqb, leb}
 use lib.ListN.{length, length-map, length-set, length-take, take}
 use lib.Seq.{getD-take, take-all}
 use native.Mathlib.Omega.{arith}
+use Rattle.arrays.specs.Rounds.{roundOf}
 use Rattle.combinatorics.proofs.Basics.{absurd-bool, and-left, before-or-not, false-of, true-or-false}
 use Rattle.combinatorics.proofs.Lists.{all-in, in-map, map-in, onNumbers}
 use Rattle.combinatorics.proofs.Ranges.{in-upFrom, upFrom-in}
@@ -29,7 +30,7 @@ use Rattle.place.specs.Problem.{Problem, hasLabel, label}
 use Rattle.rules.proofs.Follow.{At as StandsAt, NextAt, placeEnds, facetEnds, at-others, at-place, at-reads}
 use Rattle.rules.specs.Read.{CanCompute, pointIn, pointsFrom, read}
 use Rattle.rules.specs.Step.{State, endsAtFacet, endsAtPlace}
-use Rattle.moves.specs.Held.{roundOf, stateOf}
+use Rattle.moves.specs.Held.{stateOf}
 use Rattle.moves.specs.declared.Status.{Status}
 use Rattle.marks.specs.Reading.{tableOf}
 use Rattle.finder.proofs.Visits.{OnPath, read-none, read-some}

@@ -8,6 +8,7 @@ use Prim.Native.Nat.{ℕ, _+_, _≤_, _<_}
 use lib.Dec.{eqb, ltb, leb}
 use lib.ListN.{length, set}
 use denote.Ref.{now}
+use Rattle.arrays.specs.Rounds.{LentBoth}
 use Rattle.combinatorics.specs.Front.{front}
 use Rattle.combinatorics.specs.Lists.{filter, isIn}
 use Rattle.grid.specs.Grid.{Grid, Point, at, isGridPoint, numPoints, position}
@@ -20,7 +21,6 @@ use Rattle.place.specs.Problem.{Problem}
 use Rattle.rules.specs.Read.{markOf, pointOn}
 use Rattle.rules.specs.Ready.{IsRound, RoundBelow}
 use Rattle.rules.specs.Step.{Round, State}
-use Rattle.moves.specs.Held.{LentBoth}
 use Rattle.marks.specs.Reading.{Readable, problemFrom}
 use Rattle.finder.specs.Finish.{problemIn}
 use Rattle.visited.specs.Distance.{distance}

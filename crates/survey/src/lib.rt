@@ -5,9 +5,10 @@ ghost use mathlib.Core.Path.{_≡_};
 ghost use Prim.Native.Nat.{_+_, _≤_, _<_};
 ghost use lib.Dec.{leb};
 ghost use lib.ListN.{length, set};
+ghost use Rattle.arrays.specs.Rounds.{round, roundBack};
 ghost use Rattle.grid.specs.Grid.{Grid as Shape};
 ghost use Rattle.grid.specs.Made.{shape};
-ghost use Rattle.moves.specs.Held.{held, round, roundBack, stateOf};
+ghost use Rattle.moves.specs.Held.{held, stateOf};
 ghost use Rattle.rules.specs.Read.{CanCompute};
 ghost use Rattle.rules.specs.Ready.{IndicesBelow, SixteenEach};
 ghost use Rattle.rules.specs.Step.{Round, State};
@@ -28,6 +29,9 @@ ghost use Rattle.survey.specs.Survey.{
   noted,
   pointCome,
 };
+use arrays::block_sizes;
+use arrays::padded;
+use arrays::position_at;
 use distances::distance_of;
 use distances::weights;
 use finder::begin;
@@ -36,11 +40,8 @@ use marks::Reading;
 use marks::mark_in;
 use moves::Outcome;
 use moves::Status;
-use moves::advance;
-use moves::block_sizes;
-use moves::padded;
-use moves::position_at;
 use moves::step;
+use place_points::advance;
 use positions::ENTRIES;
 
 // What is kept of the vertices met so far: the position of the nearest and its distance, before the first one a

@@ -2,7 +2,8 @@
 ghost use mathlib.Core.Path.{_≡_};
 ghost use Prim.Native.Nat.{_%_, _≤_, _<_};
 ghost use lib.ListN.{getD, length};
-ghost use Rattle.moves.specs.Held.{held, round, stateOf};
+ghost use Rattle.arrays.specs.Rounds.{round};
+ghost use Rattle.moves.specs.Held.{held, stateOf};
 ghost use Rattle.rules.specs.Step.{State};
 ghost use Rattle.trail_steps.specs.Ways.{CanGoOn};
 ghost use Rattle.trail_following.specs.Reached.{ReachesFrom};

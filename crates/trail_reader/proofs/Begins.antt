@@ -9,6 +9,7 @@ use lib.Dec.{eqb, ltb}
 use lib.ListN.{length, replicate, set, take}
 use lib.Seq.{getD-take}
 use native.Mathlib.Omega.{arith}
+use Rattle.arrays.specs.Rounds.{roundOf}
 use Rattle.combinatorics.proofs.Basics.{before-or-not}
 use Rattle.combinatorics.specs.Lists.{isIn, sum, upFrom}
 use Rattle.finder.proofs.Visits.{marks-back}
@@ -19,7 +20,7 @@ use Rattle.grid.specs.Grid.{Point, at, isGridPoint, numIndices, position}
 use Rattle.grid.specs.Made.{IsMade, shape}
 use Rattle.grid.specs.declared.Grid.{Grid as GridStruct}
 use Rattle.marks.specs.Reading.{CanRead, HasMarks}
-use Rattle.moves.specs.Held.{roundOf, stateOf}
+use Rattle.moves.specs.Held.{stateOf}
 use Rattle.moves.specs.declared.Status.{Status}
 use Rattle.place.proofs.LinkSymmetry.{parts, unlabelled-of}
 use Rattle.place.proofs.Start.{start-place}

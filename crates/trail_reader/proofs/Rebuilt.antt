@@ -11,6 +11,7 @@ use lib.ListN.{drop, length, length-append, length-replicate, length-take, repli
 use lib.Seq.{take-length}
 use native.Mathlib.Nat.{mul-le-mul}
 use native.Mathlib.Omega.{arith}
+use Rattle.arrays.specs.Rounds.{roundOf}
 use Rattle.combinatorics.proofs.Fronts.{front-length, front-none, front-taken}
 use Rattle.combinatorics.specs.Front.{front}
 use Rattle.combinatorics.specs.Lists.{concatMap}
@@ -20,7 +21,7 @@ use Rattle.grid.specs.Grid.{isGridPoint, numIndices, position}
 use Rattle.grid.specs.Made.{IsMade, shape}
 use Rattle.grid.specs.Questions.{gridQuestions, question5}
 use Rattle.grid.specs.declared.Grid.{Grid as GridStruct}
-use Rattle.moves.specs.Held.{roundOf, stateOf}
+use Rattle.moves.specs.Held.{stateOf}
 use Rattle.moves.specs.declared.Status.{Status}
 use Rattle.place.specs.Demand.{Settled}
 use Rattle.place.specs.LabelsRead.{cameIn, labelsRead}

@@ -10,6 +10,7 @@ use lib.Dec.{ltb}
 use lib.ListN.{drop, length, length-drop, length-set, set, take}
 use lib.Seq.{drop-drop, take-set-lt}
 use native.Mathlib.Omega.{arith}
+use Rattle.arrays.specs.Rounds.{noRound, roundOf}
 use Rattle.combinatorics.proofs.Basics.{before-or-not}
 use Rattle.combinatorics.proofs.EditsOfArrays.{counted}
 use Rattle.finder.proofs.Visits.{marks-back}
@@ -19,7 +20,7 @@ use Rattle.grid.specs.Grid.{at, numIndices, position}
 use Rattle.grid.specs.Made.{IsMade, shape}
 use Rattle.grid.specs.declared.Grid.{Grid as GridStruct}
 use Rattle.marks.specs.Reading.{CanRead, HasMarks}
-use Rattle.moves.specs.Held.{noRound, roundOf, stateOf}
+use Rattle.moves.specs.Held.{stateOf}
 use Rattle.moves.specs.declared.Status.{Status}
 use Rattle.place.specs.Places.{Simplex}
 use Rattle.place.specs.Problem.{Problem}

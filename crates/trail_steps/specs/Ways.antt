@@ -8,12 +8,13 @@ use Prim.Native.Nat.{ℕ, suc, _+_, _-_, _*_, _/_, _%_, _≤_, _<_}
 use lib.Dec.{eqb, leb, ltb}
 use lib.ListN.{drop, getD, length, set}
 use denote.Ref.{now}
+use Rattle.arrays.specs.Rounds.{Lent, noRound}
 use Rattle.combinatorics.specs.Edits.{found}
 use Rattle.grid.specs.Grid.{at, numIndices, position}
 use Rattle.grid.specs.Made.{shape}
 use Rattle.grid.specs.declared.Grid.{Grid as GridStruct}
 use Rattle.marks.specs.Reading.{CanRead, HasMarks, Measured, problemFrom}
-use Rattle.moves.specs.Held.{Lent, noRound, stateOf}
+use Rattle.moves.specs.Held.{stateOf}
 use Rattle.moves.specs.declared.Status.{Status}
 use Rattle.place.specs.Demand.{Settled}
 use Rattle.place.specs.Places.{Simplex}

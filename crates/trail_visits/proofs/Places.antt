@@ -8,12 +8,13 @@ use borrow.Author.Tests.{lt-ltb, le-ltb}
 use lib.ListN.{length, take, set}
 use lib.Seq.{take-set-lt}
 use native.Mathlib.Omega.{arith}
+use Rattle.arrays.specs.Rounds.{noRound, roundOf}
 use Rattle.combinatorics.proofs.Basics.{before-or-not, true-or-false}
 use Rattle.combinatorics.proofs.EditsOfArrays.{counted}
 use Rattle.combinatorics.specs.Edits.{found}
 use Rattle.marks.specs.Reading.{problemFrom}
 use Rattle.moves.proofs.Cases.{Leaving}
-use Rattle.moves.specs.Held.{noRound, roundOf, stateOf}
+use Rattle.moves.specs.Held.{stateOf}
 use Rattle.moves.specs.declared.Status.{Status}
 use Rattle.place.specs.Problem.{Problem}
 use Rattle.rules.specs.Mask.{bit}

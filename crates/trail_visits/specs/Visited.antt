@@ -7,11 +7,12 @@ use lib.Dec.{eqb, ltb}
 use lib.ListN.{length, take}
 use lib.Seq.{paste}
 use denote.Ref.{now}
+use Rattle.arrays.specs.Rounds.{Lent, noRound}
 use Rattle.combinatorics.specs.Edits.{found}
 use Rattle.finder.specs.Finish.{IsKnown, IsUnknown}
 use Rattle.grid.specs.declared.Grid.{Grid as GridStruct}
 use Rattle.marks.specs.Reading.{CanRead, HasMarks}
-use Rattle.moves.specs.Held.{Lent, noRound, stateOf}
+use Rattle.moves.specs.Held.{stateOf}
 use Rattle.moves.specs.declared.Status.{Status}
 use Rattle.place.specs.Problem.{Problem}
 use Rattle.records.specs.Records.{firstRecord, recordFrom}

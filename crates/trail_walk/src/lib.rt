@@ -2,8 +2,8 @@
 // What is public here is for the writer, which shows what it asks.
 ghost use mathlib.Core.Path.{_≡_};
 ghost use lib.ListN.{length};
+ghost use Rattle.arrays.specs.Rounds.{round};
 ghost use Rattle.finder.specs.Finish.{CanWalk, Finished, problemIn};
-ghost use Rattle.moves.specs.Held.{round};
 ghost use Rattle.rules.specs.Step.{Round};
 ghost use Rattle.trail_walk.specs.Walked.{HasRoom, Recorded};
 use finder::Finish;

@@ -12,9 +12,9 @@ ghost use Rattle.walk_calls.specs.Placing.{BothMarked, CanPlace, CanSee,
 ghost use Rattle.walk_ways.specs.Standing.{tableOn};
 ghost use Rattle.walk_ways.specs.Walks.{placeOf};
 use crate::Both;
+use arrays::block_sizes;
 use grid::Grid;
 use grid::wide;
-use moves::block_sizes;
 use positions::ENTRIES;
 use recogniser::Sets;
 use recogniser::read_labels;

@@ -8,11 +8,11 @@ ghost use lib.ListN.{length, getD};
 ghost use Rattle.combinatorics.specs.Lists.{same};
 ghost use Rattle.grid.specs.Grid.{at};
 ghost use Rattle.walk_labels.specs.Carrying.{CanCarry, CarriedOn, FoundIn, labelsIn};
+use arrays::label_in;
+use arrays::position_at;
+use arrays::wide32;
 use grid::wide;
 use label_table::read_at;
-use moves::label_in;
-use moves::position_at;
-use moves::wide32;
 
 // The labels of a place's points, with 0 behind, and whether one of the points was not in the place before.
 pub struct Carried {

@@ -7,7 +7,7 @@ ghost use lib.ListN.{length, take};
 ghost use Rattle.combinatorics.specs.Lists.{isIn};
 ghost use Rattle.walk_preview.specs.Changes.{changeFor, indexFrom, otherIn};
 use crate::Change;
-use moves::position_at;
+use arrays::position_at;
 use records::difference;
 
 // Whether a mark is among the first n + 1.

@@ -9,6 +9,7 @@ use lib.ListN.{length, replicate, take, getD, length-map, length-take}
 use lib.Seq.{getD-take, take-all}
 use native.Mathlib.Nat.{le-trans, mul-le-mul-left, mul-le-mul-right}
 use native.Mathlib.Omega.{arith}
+use Rattle.arrays.specs.Rounds.{roundOf}
 use Rattle.combinatorics.proofs.Basics.{false-of}
 use Rattle.combinatorics.specs.Front.{front}
 use Rattle.combinatorics.specs.Lists.{concatMap}
@@ -16,7 +17,8 @@ use Rattle.grid.proofs.Fields.{made-indices}
 use Rattle.grid.specs.Grid.{Grid, Point, at, blockOf, numIndices, size}
 use Rattle.grid.specs.Made.{IsMade, shape}
 use Rattle.grid.specs.declared.Grid.{Grid as GridStruct}
-use Rattle.moves.specs.Held.{CanPut, roundOf, stateOf}
+use Rattle.moves.specs.Held.{stateOf}
+use Rattle.place_points.specs.Room.{CanPut}
 use Rattle.moves.specs.declared.Status.{Status}
 use Rattle.place.proofs.Filled.{filledTable, filled-full}
 use Rattle.place.proofs.ToChain.{coefficientsOf, pointsOf, pointsOf-coefficientsOf}

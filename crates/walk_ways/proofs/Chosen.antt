@@ -12,6 +12,7 @@ use lib.ListN.{length, getD, take, length-map, length-take}
 use lib.Seq.{getD-take}
 use native.Mathlib.Nat.{le-trans, mul-le-mul-left, mul-le-mul-right}
 use native.Mathlib.Omega.{arith}
+use Rattle.arrays.specs.Rounds.{roundOf}
 use Rattle.combinatorics.proofs.Basics.{absurd-bool, and-both, and-left, and-right, false-of, same-or, true-or-false}
 use Rattle.combinatorics.proofs.Lists.{all-in}
 use Rattle.combinatorics.proofs.Ranges.{length-upFrom}
@@ -22,7 +23,8 @@ use Rattle.grid.proofs.Points.{in-points, onPoints, position-in}
 use Rattle.grid.specs.Grid.{Point, at, blockOf, isGridPoint, numIndices, numPoints, points, position}
 use Rattle.grid.specs.Made.{IsMade, shape}
 use Rattle.grid.specs.declared.Grid.{Grid as GridStruct}
-use Rattle.moves.specs.Held.{CanPut, roundOf, stateOf}
+use Rattle.moves.specs.Held.{stateOf}
+use Rattle.place_points.specs.Room.{CanPut}
 use Rattle.moves.specs.declared.Status.{Status}
 use Rattle.place.proofs.Accepted.{accepted-of}
 use Rattle.place.proofs.Filled.{fill, filledTable, filled-full, filled-label}

@@ -7,7 +7,7 @@ use Rattle.combinatorics.specs.Front.{front}
 use Rattle.grid.specs.Grid.{blockOf}
 use Rattle.grid.specs.Made.{shape}
 use Rattle.grid.specs.declared.Grid.{Grid as GridStruct}
-use Rattle.moves.specs.Held.{CanPut}
+use Rattle.place_points.specs.Room.{CanPut}
 use Rattle.rules.specs.Read.{numbersFrom}
 use Rattle.rules.specs.Step.{State}
 use Rattle.walk_ways.specs.Walks.{nowhere, padded}

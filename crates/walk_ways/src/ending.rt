@@ -3,8 +3,10 @@ ghost use mathlib.Core.List.{[]};
 ghost use mathlib.Core.Path.{_≡_};
 ghost use Prim.Native.Nat.{_≤_, _<_};
 ghost use lib.ListN.{length};
+ghost use Rattle.arrays.specs.Rounds.{roundBack};
 ghost use Rattle.grid.specs.Made.{IsMade, shape};
-ghost use Rattle.moves.specs.Held.{stateOf, roundBack, CanPut};
+ghost use Rattle.moves.specs.Held.{stateOf};
+ghost use Rattle.place_points.specs.Room.{CanPut};
 ghost use Rattle.rules.specs.Step.{State};
 ghost use Rattle.walk_ways.specs.Ends.{endAs, refusedAs, toldAs, CanTell};
 use crate::Answer;
@@ -15,7 +17,7 @@ use crate::Way;
 use crate::keeping::none;
 use grid::Grid;
 use moves::Status;
-use moves::put_points;
+use place_points::put_points;
 
 // An end with the points from number from on, complete for the block of index h.
 fn ended(

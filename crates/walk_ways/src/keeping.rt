@@ -5,8 +5,8 @@ ghost use lib.ListN.{length, take, replicate};
 ghost use Rattle.combinatorics.specs.Front.{front};
 ghost use Rattle.walk_ways.specs.Walks.{holdsNumbers, keptAs, nowhere, samePlace};
 use crate::Place;
+use arrays::padded;
 use grid::wide;
-use moves::padded;
 
 // The first n numbers of the order, 0 behind them.
 fn cut(order: &[u32; 16], n: usize) -> [u32; 16]

@@ -4,10 +4,10 @@ ghost use Prim.Native.Nat.{_≤_, _<_};
 ghost use lib.ListN.{length};
 ghost use Rattle.walk_ways.specs.Spares.{isNew, LabelsLow, SparesOf};
 use crate::Spared;
-use moves::add;
-use moves::has;
-use moves::label_in;
-use moves::wide32;
+use arrays::add;
+use arrays::has;
+use arrays::label_in;
+use arrays::wide32;
 
 // Whether a label is an index of T that is not yet among those seen.
 fn is_new(t: u16, seen: u16, label: u32) -> bool

@@ -1,7 +1,8 @@
 // One move from a place, which stays as it is.
 ghost use mathlib.Core.Path.{_≡_};
 ghost use Prim.Native.Nat.{_≤_};
-ghost use Rattle.moves.specs.Held.{held, round, CanStep};
+ghost use Rattle.arrays.specs.Rounds.{round};
+ghost use Rattle.moves.specs.Held.{held, CanStep};
 ghost use Rattle.rules.specs.Step.{State, step as stepped};
 ghost use Rattle.walk_ways.specs.Ways.{CanTry, ruleFrom, wayIn};
 use crate::Leads;

@@ -2,7 +2,7 @@
 -- nothing.
 use mathlib.Core.List.{[]}
 use mathlib.Core.Path.{_∙_}
-use Rattle.moves.specs.Held.{roundOf}
+use Rattle.arrays.specs.Rounds.{roundOf}
 use Rattle.marks.proofs.Readings.{can-step, point-at, steps-ready}
 use borrow.Author.Needs.{needs}
 use Rattle.marks.proofs.position_by_steps.Statement.{statement}

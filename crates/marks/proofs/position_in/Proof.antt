@@ -3,7 +3,8 @@ use mathlib.Core.List.{[]}
 use mathlib.Core.Path.{_≡_, sym, _∙_}
 use Prim.Native.Nat.{suc, _+_}
 use native.Mathlib.Omega.{arith}
-use Rattle.moves.specs.Held.{stateOf, roundOf}
+use Rattle.arrays.specs.Rounds.{roundOf}
+use Rattle.moves.specs.Held.{stateOf}
 use Rattle.marks.proofs.OneStep.{one-step-is}
 use Rattle.marks.proofs.Readings.{between-means, corner-indices, corners-add}
 use borrow.Author.Needs.{needs}

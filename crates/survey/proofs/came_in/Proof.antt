@@ -5,12 +5,13 @@ use Prim.Native.Nat.{ℕ}
 use borrow.Author.Tests.{le-ltb, lt-ltb}
 use lib.ListN.{set}
 use native.Mathlib.Omega.{arith}
+use Rattle.arrays.specs.Rounds.{roundOf}
 use Rattle.combinatorics.proofs.EditsOfArrays.{counted}
 use Rattle.grid.specs.Grid.{position}
 use Rattle.grid.specs.Made.{shape}
 use Rattle.marks.proofs.Readings.{label-is}
 use Rattle.marks.specs.Reading.{tableOf}
-use Rattle.moves.specs.Held.{roundOf, stateOf}
+use Rattle.moves.specs.Held.{stateOf}
 use Rattle.finder.proofs.Visits.{marked-known, unknown-zero}
 use Rattle.rules.specs.Read.{pointOn}
 use Rattle.survey.proofs.Keeping.{marks-hold}

@@ -5,13 +5,14 @@ use mathlib.Core.Path.{_≡_, refl, sym, ap, _∙_, subst}
 use Prim.Native.Nat.{ℕ, suc, _-_, _≤_}
 use lib.ListN.{length, replicate, take}
 use native.Mathlib.Omega.{arith}
+use Rattle.arrays.specs.Rounds.{roundOf}
 use Rattle.grid.proofs.Fields.{indices-few}
 use Rattle.grid.specs.Made.{shape}
 use Rattle.place.proofs.Theorem.{ended-path}
 use Rattle.place.specs.Path.{path as pathOf}
 use Rattle.rules.specs.Ready.{Ready, SixteenEach}
 use Rattle.rules.specs.Step.{step as stepOf}
-use Rattle.moves.specs.Held.{roundOf, stateOf}
+use Rattle.moves.specs.Held.{stateOf}
 use Rattle.marks.specs.Reading.{tableOf}
 use Rattle.finder.proofs.Visits.{OnPath, begins, goes-on, leads, marks-back, read-back, visits}
 use Rattle.finder.specs.Finish.{problemIn}

@@ -7,7 +7,8 @@ use borrow.Author.Needs.{needs}
 use lib.ListN.{drop, getD, length, take}
 use lib.Seq.{getD-drop}
 use native.Mathlib.Omega.{arith}
-use Rattle.moves.specs.Held.{roundOf, stateOf}
+use Rattle.arrays.specs.Rounds.{roundOf}
+use Rattle.moves.specs.Held.{stateOf}
 use Rattle.place.specs.Places.{Simplex}
 use Rattle.rules.specs.Ready.{SixteenEach}
 use Rattle.trail.specs.Trail.{rebuiltFrom}

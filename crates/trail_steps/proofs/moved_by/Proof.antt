@@ -2,8 +2,9 @@
 use mathlib.Core.List.{[]}
 use mathlib.Core.Path.{_≡_, refl, sym, ap, _∙_}
 use borrow.Author.Needs.{needs}
+use Rattle.arrays.specs.Rounds.{roundOf}
 use Rattle.moves.proofs.Cases.{answered-beside, besideAfter, grow-beside}
-use Rattle.moves.specs.Held.{roundOf, stateOf}
+use Rattle.moves.specs.Held.{stateOf}
 use Rattle.trail_steps.proofs.moved_by.Statement.{statement}
 use Rattle.trail_steps.proofs.moved_by.Tie as tie
 

@@ -5,10 +5,11 @@ use Prim.Native.Nat.{ℕ, suc, _≤_}
 use borrow.Author.Needs.{needs}
 use lib.ListN.{drop, length, take}
 use native.Mathlib.Omega.{arith}
+use Rattle.arrays.specs.Rounds.{noRound, roundOf}
 use Rattle.grid.proofs.Fields.{indices-few, made-indices}
 use Rattle.grid.specs.Grid.{numIndices}
 use Rattle.grid.specs.Made.{shape}
-use Rattle.moves.specs.Held.{answered, noRound, roundOf, stateOf}
+use Rattle.moves.specs.Held.{answered, stateOf}
 use Rattle.place.specs.Places.{Simplex}
 use Rattle.rules.specs.Step.{After, State, endsAtFacet, endsAtPlace, goes}
 use Rattle.trail_steps.specs.Ways.{HasRead, goneBy, wayAfter, wayOf}

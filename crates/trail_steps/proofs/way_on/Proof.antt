@@ -3,7 +3,8 @@ use mathlib.Core.List.{[]}
 use mathlib.Core.Path.{sym, _∙_}
 use borrow.Author.Needs.{needs}
 use native.Mathlib.Omega.{arith}
-use Rattle.moves.specs.Held.{noRound, stateOf}
+use Rattle.arrays.specs.Rounds.{noRound}
+use Rattle.moves.specs.Held.{stateOf}
 use Rattle.trail_steps.proofs.Ways.{nothing-left, short-into, short-out, way-into, way-out}
 use Rattle.trail_steps.proofs.way_on.Statement.{statement}
 use Rattle.trail_steps.proofs.way_on.Tie as tie

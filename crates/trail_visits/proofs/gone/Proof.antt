@@ -7,8 +7,9 @@ use borrow.Author.Needs.{needs}
 use borrow.Author.Tests.{not-true, not-false}
 use native.Mathlib.Numerals.{add-one}
 use native.Mathlib.Omega.{arith}
+use Rattle.arrays.specs.Rounds.{noRound}
 use Rattle.moves.proofs.Cases.{Leaving, other-leaving}
-use Rattle.moves.specs.Held.{noRound, stateOf}
+use Rattle.moves.specs.Held.{stateOf}
 use Rattle.rules.proofs.FirstMet.{entry}
 use Rattle.rules.specs.Ready.{labelIn}
 use Rattle.rules.specs.Step.{State, markLabel}

@@ -3,9 +3,9 @@ use mathlib.Core.List.{[]}
 use mathlib.Core.Path.{_≡_, sym, _∙_}
 use lib.ListN.{length-set}
 use native.Mathlib.Omega.{arith}
+use Rattle.arrays.specs.Rounds.{roundOf}
 use Rattle.finder.proofs.Visits.{marked-known, unknown-zero}
 use Rattle.marks.specs.Reading.{tableOf}
-use Rattle.moves.specs.Held.{roundOf}
 use Rattle.trail_visits.proofs.Places.{looked-none, looked-some}
 use borrow.Author.Needs.{needs}
 use Rattle.trail_visits.proofs.look_up.Statement.{statement}

@@ -3,11 +3,12 @@ use mathlib.Core.List.{[]}
 use mathlib.Core.Path.{_≡_, refl, sym, ap, _∙_, subst}
 use borrow.Author.Needs.{needs}
 use native.Mathlib.Omega.{arith}
+use Rattle.arrays.specs.Rounds.{noRound, roundOf}
 use Rattle.combinatorics.proofs.EditsOfArrays.{counted}
 use Rattle.finder.specs.Finish.{IsKnown}
 use Rattle.finder.proofs.Visits.{gives, marks-back, read-back}
 use Rattle.marks.specs.Reading.{tableOf}
-use Rattle.moves.specs.Held.{noRound, roundOf, stateOf}
+use Rattle.moves.specs.Held.{stateOf}
 use Rattle.place.specs.Problem.{Problem}
 use Rattle.rules.specs.Read.{read}
 use Rattle.rules.specs.Ready.{Ready, SixteenEach}

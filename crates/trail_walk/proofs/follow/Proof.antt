@@ -7,11 +7,12 @@ use Prim.Native.Nat.{ℕ, suc, _+_, _-_, _≤_}
 use borrow.Author.Needs.{needs}
 use lib.ListN.{length, replicate, take}
 use native.Mathlib.Omega.{arith}
+use Rattle.arrays.specs.Rounds.{roundOf}
 use Rattle.combinatorics.specs.Front.{front}
 use Rattle.finder.proofs.Visits.{HasRead, OnPath, announced-facet, announced-place, asked, begins, begins-reading, goes-on, leads, reads-few, reads-on, spends, visits}
 use Rattle.finder.specs.Finish.{problemIn}
 use Rattle.grid.proofs.Fields.{indices-few}
-use Rattle.moves.specs.Held.{roundOf, stateOf}
+use Rattle.moves.specs.Held.{stateOf}
 use Rattle.place.specs.Path.{path}
 use Rattle.rules.specs.Ready.{SixteenEach}
 use Rattle.trail.specs.Record.{trailOf}

@@ -3,11 +3,12 @@ use mathlib.Core.List.{List, []}
 use mathlib.Core.Path.{refl, sym, ap, _∙_, subst}
 use Prim.Native.Nat.{ℕ}
 use native.Mathlib.Omega.{arith}
+use Rattle.arrays.specs.Rounds.{roundOf}
 use Rattle.combinatorics.proofs.EditsOfArrays.{counted}
 use Rattle.combinatorics.proofs.Fronts.{front-none}
 use Rattle.combinatorics.specs.Front.{front}
 use Rattle.grid.proofs.Fields.{indices-few}
-use Rattle.moves.specs.Held.{roundOf, stateOf}
+use Rattle.moves.specs.Held.{stateOf}
 use Rattle.marks.specs.Reading.{problemFrom}
 use Rattle.finder.specs.Finish.{Finished}
 use Rattle.finder.proofs.Announcements.{accepted-in, finished-from, index, room, start-long, taken-long, told, written}

@@ -4,8 +4,9 @@ use mathlib.Core.Path.{_≡_, refl, ap, _∙_}
 use Prim.Native.Nat.{ℕ, suc, _+_, _-_, _≤_}
 use lib.ListN.{replicate}
 use native.Mathlib.Omega.{arith}
+use Rattle.arrays.specs.Rounds.{roundOf}
 use Rattle.grid.proofs.Fields.{indices-few}
-use Rattle.moves.specs.Held.{roundOf, stateOf}
+use Rattle.moves.specs.Held.{stateOf}
 use Rattle.rules.specs.Ready.{SixteenEach}
 use Rattle.finder.specs.Finish.{problemIn}
 use Rattle.finder.proofs.Visits.{HasRead, OnPath, announced-facet, announced-place, asked, begins, begins-reading, goes-on, leads, reads-few, reads-on, spends, visits}

@@ -6,8 +6,9 @@ use mathlib.Core.Path.{_≡_, _∙_}
 use Prim.Native.Nat.{suc, _+_, _-_, _≤_, _<_}
 use lib.ListN.{length, take}
 use native.Mathlib.Omega.{arith}
+use Rattle.arrays.specs.Rounds.{roundOf}
 use Rattle.grid.specs.Made.{shape}
-use Rattle.moves.specs.Held.{stateOf, roundOf}
+use Rattle.moves.specs.Held.{stateOf}
 use Rattle.rules.specs.Read.{sourceAt, stepAt}
 use Rattle.marks.proofs.OneStep.{can-weigh, lagBy, from-near, after-near, to-far, before-far, far-low, not-to, not-from, found-near, found-far, found-nothing}
 use borrow.Author.Needs.{needs}

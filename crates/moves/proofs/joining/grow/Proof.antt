@@ -6,9 +6,10 @@ use mathlib.Core.Path.{_≡_, sym, ap, _∙_}
 use Prim.Native.Nat.{ℕ}
 use lib.ListN.{take}
 use native.Mathlib.Omega.{arith}
+use Rattle.arrays.specs.Rounds.{roundOf}
 use Rattle.combinatorics.proofs.EditsOfArrays.{counted, found-low}
 use Rattle.combinatorics.specs.Edits.{found}
-use Rattle.moves.specs.Held.{stateOf, roundOf}
+use Rattle.moves.specs.Held.{stateOf}
 use Rattle.rules.specs.Mask.{bit}
 use Rattle.rules.specs.Step.{State, goes, isFilled}
 use Rattle.moves.proofs.Cases.{joins-from-U, place-end, joins-from-outside}

@@ -2,8 +2,9 @@
 use mathlib.Core.List.{[]}
 use mathlib.Core.Path.{ap, _∙_}
 use native.Mathlib.Omega.{arith}
+use Rattle.arrays.specs.Rounds.{roundOf}
 use Rattle.combinatorics.proofs.EditsOfArrays.{counted}
-use Rattle.moves.specs.Held.{stateOf, roundOf}
+use Rattle.moves.specs.Held.{stateOf}
 use Rattle.moves.proofs.Cases.{beside, besideAfter, onRoundAfter, middle-beside, last-beside, is-first, is-middle, is-last}
 use Rattle.rules.specs.Step.{State, goes}
 use borrow.Author.Needs.{needs}

@@ -2,7 +2,8 @@
 use mathlib.Core.Path.{refl, sym, ap, _∙_}
 use lib.Seq.{length-take-le}
 use native.Mathlib.Omega.{arith}
-use Rattle.moves.specs.Held.{stateOf, roundOf}
+use Rattle.arrays.specs.Rounds.{roundOf}
+use Rattle.moves.specs.Held.{stateOf}
 use Rattle.rules.specs.Step.{State, goes}
 use Rattle.moves.proofs.Cases.{same-state, first-ready, facet-end, U-gains, first-leaves}
 use borrow.Author.Needs.{needs}

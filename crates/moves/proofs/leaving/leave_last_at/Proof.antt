@@ -5,7 +5,8 @@ use mathlib.Core.Path.{refl, sym, ap, _∙_}
 use Prim.Native.Nat.{_-_}
 use lib.Seq.{length-take-le}
 use native.Mathlib.Omega.{arith}
-use Rattle.moves.specs.Held.{stateOf, roundOf, noRound}
+use Rattle.arrays.specs.Rounds.{roundOf, noRound}
+use Rattle.moves.specs.Held.{stateOf}
 use Rattle.rules.specs.Step.{State, goes}
 use Rattle.moves.proofs.Cases.{same-state, besideAfter, shrink-beside, last-ready, last-to-U, T-loses, U-loses, last-leaves}
 use borrow.Author.Needs.{needs}

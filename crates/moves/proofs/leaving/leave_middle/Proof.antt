@@ -6,10 +6,11 @@ use mathlib.Core.Path.{_≡_, refl, ap, _∙_}
 use Prim.Native.Nat.{_-_}
 use lib.ListN.{take}
 use native.Mathlib.Omega.{arith}
+use Rattle.arrays.specs.Rounds.{roundOf, noRound}
 use Rattle.combinatorics.proofs.EditsOfArrays.{take-swap}
 use Rattle.combinatorics.specs.Edits.{swapAt}
 use Rattle.grid.specs.Grid.{at}
-use Rattle.moves.specs.Held.{stateOf, roundOf, noRound}
+use Rattle.moves.specs.Held.{stateOf}
 use Rattle.rules.specs.Step.{State, goes}
 use Rattle.moves.proofs.Cases.{same-state, besideAfter, shrink-beside, middle-to-U, steps-exchanged}
 use borrow.Author.Needs.{needs}

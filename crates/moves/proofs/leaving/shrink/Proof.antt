@@ -2,7 +2,8 @@
 use mathlib.Core.Bool.{Bool, true, false}
 use mathlib.Core.List.{[]}
 use mathlib.Core.Path.{refl, sym, ap, _∙_}
-use Rattle.moves.specs.Held.{stateOf, noRound}
+use Rattle.arrays.specs.Rounds.{noRound}
+use Rattle.moves.specs.Held.{stateOf}
 use Rattle.rules.specs.Step.{State, goes, shrink}
 use Rattle.moves.proofs.Cases.{shrinks}
 use borrow.Author.Needs.{needs}

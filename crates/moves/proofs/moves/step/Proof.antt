@@ -6,8 +6,9 @@ use Prim.Native.Nat.{ℕ, _-_}
 use borrow.Author.Tests.{not-true, not-false}
 use native.Mathlib.Numerals.{add-one}
 use native.Mathlib.Omega.{arith}
+use Rattle.arrays.specs.Rounds.{roundOf}
 use Rattle.combinatorics.proofs.EditsOfArrays.{counted}
-use Rattle.moves.specs.Held.{stateOf, roundOf}
+use Rattle.moves.specs.Held.{stateOf}
 use Rattle.rules.specs.Step.{markLabel}
 use Rattle.moves.proofs.Cases.{besideAfter, answered-beside, grow-beside, leaving-ready, leaving-leaves, other-leaving, join-ready, label-joins, count-low, active-low, mark-held, label-low}
 use borrow.Author.Needs.{needs}

@@ -6,12 +6,13 @@ use borrow.Author.Needs.{needs}
 use borrow.Author.Tests.{not-false, not-true}
 use lib.ListN.{drop, length, length-set, replicate, set, take}
 use native.Mathlib.Omega.{arith}
+use Rattle.arrays.specs.Rounds.{roundOf}
 use Rattle.combinatorics.proofs.Fronts.{front-none}
 use Rattle.combinatorics.specs.Front.{front}
 use Rattle.grid.proofs.Fields.{indices-few, made-indices}
 use Rattle.grid.specs.Grid.{position}
 use Rattle.grid.specs.Made.{shape}
-use Rattle.moves.specs.Held.{roundOf, stateOf}
+use Rattle.moves.specs.Held.{stateOf}
 use Rattle.place.proofs.LabelsRead.{came-few}
 use Rattle.place.specs.Places.{Simplex}
 use Rattle.trail.specs.Record.{startRecord}

@@ -7,6 +7,7 @@ use Prim.Native.Nat.{ℕ}
 use borrow.Author.Needs.{needs}
 use lib.ListN.{length}
 use native.Mathlib.Omega.{arith}
+use Rattle.arrays.specs.Rounds.{roundOf}
 use Rattle.combinatorics.proofs.Basics.{absurd-bool}
 use Rattle.combinatorics.proofs.EditsOfArrays.{counted}
 use Rattle.combinatorics.proofs.Fronts.{front-none}
@@ -17,7 +18,7 @@ use Rattle.finder.specs.Finish.{Finished}
 use Rattle.finder.specs.Run.{numbersOf}
 use Rattle.grid.proofs.Fields.{indices-few}
 use Rattle.marks.specs.Reading.{problemFrom}
-use Rattle.moves.specs.Held.{roundOf, stateOf}
+use Rattle.moves.specs.Held.{stateOf}
 use Rattle.place.specs.Path.{answer}
 use Rattle.place.specs.Problem.{Problem}
 use Rattle.trail_walk.specs.Walked.{Recorded}

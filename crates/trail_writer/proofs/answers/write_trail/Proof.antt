@@ -3,11 +3,11 @@ use mathlib.Core.Bool.{true}
 use mathlib.Core.Path.{_≡_, refl, sym, ap, _∙_, subst}
 use borrow.Author.Needs.{needs}
 use native.Mathlib.Omega.{arith}
+use Rattle.arrays.specs.Rounds.{roundOf}
 use Rattle.finder.proofs.Announcements.{accepted-in, start-long, taken-long}
 use Rattle.finder.specs.Finish.{Finished}
 use Rattle.grid.proofs.Fields.{indices-few}
 use Rattle.marks.specs.Reading.{problemFrom}
-use Rattle.moves.specs.Held.{roundOf}
 use Rattle.place.specs.Problem.{Problem}
 use Rattle.trail_walk.specs.Walked.{Recorded}
 use Rattle.trail_writer.proofs.Endings.{ends-again, problem-from}

@@ -1,6 +1,7 @@
 -- `ways::way` meets its contract. Assumes nothing.
 use mathlib.Core.Path.{_≡_, refl, sym, ap, _∙_}
-use Rattle.moves.specs.Held.{roundOf, stateOf}
+use Rattle.arrays.specs.Rounds.{roundOf}
+use Rattle.moves.specs.Held.{stateOf}
 use Rattle.walk_ways.proofs.Tried.{few, way-facet, way-moved, way-place}
 use borrow.Author.Needs.{needs}
 use Rattle.walk_ways.proofs.ways.way.Statement.{statement}

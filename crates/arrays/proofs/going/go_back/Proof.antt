@@ -1,0 +1,47 @@
+-- `going::go_back` meets its contract. Assumes nothing.
+use mathlib.Core.Path.{_≡_}
+use Prim.Native.Nat.{suc}
+use lib.ListN.{take}
+use native.Mathlib.Numerals.{add-one}
+use Rattle.combinatorics.specs.Edits.{rotateRight}
+use borrow.Author.Needs.{needs}
+use Rattle.arrays.proofs.going.go_back.Statement.{statement}
+use Rattle.arrays.proofs.going.go_back.Tie as tie
+
+shift-requires : tie.Need-shift-requires
+shift-requires c κs = search needs
+
+lower-requires : tie.Need-lower-requires
+lower-requires c κs = search needs
+
+rotate-right-requires : tie.Need-rotate-right-requires
+rotate-right-requires c κs = search needs
+
+add-rotate-right : tie.Need-add-rotate-right
+add-rotate-right c = search needs
+
+rotate-right-requires-2 : tie.Need-rotate-right-requires-2
+rotate-right-requires-2 c κs = search needs
+
+returns : tie.Need-returns
+returns c =
+    let a = c .before .before .before .before .before .before .before .before .args in
+    let marks : take (suc (a .n)) (c .rotate-right2 .last .0) ≡ rotateRight (take (suc (a .n)) (a .marks .now)) = rw (← add-one (a .n)) (c .rotate-right2 .ensures .0) in
+    record {
+      point = c .before .before .before .before .before .before .shift .ensures;
+      list = c .before .before .before .before .lower .ensures;
+      steps = c .before .before .rotate-right .ensures .0;
+      marked = marks;
+      each = record { inOrder = c .before .before .rotate-right .ensures .1; inMarks = c .rotate-right2 .ensures .1 };
+    }
+
+pub go-back-spec : {M : Type 1} → statement M
+go-back-spec =
+    tie.close
+    (tie.spec
+    shift-requires
+    lower-requires
+    rotate-right-requires
+    add-rotate-right
+    rotate-right-requires-2
+    returns)

@@ -1,0 +1,47 @@
+-- `going::go_forward` meets its contract. Assumes nothing.
+use mathlib.Core.Path.{_≡_}
+use Prim.Native.Nat.{suc}
+use lib.ListN.{take}
+use native.Mathlib.Numerals.{add-one}
+use Rattle.combinatorics.specs.Edits.{rotateLeft}
+use borrow.Author.Needs.{needs}
+use Rattle.arrays.proofs.going.go_forward.Statement.{statement}
+use Rattle.arrays.proofs.going.go_forward.Tie as tie
+
+shift-requires : tie.Need-shift-requires
+shift-requires c κs = search needs
+
+raise-requires : tie.Need-raise-requires
+raise-requires c κs = search needs
+
+rotate-left-requires : tie.Need-rotate-left-requires
+rotate-left-requires c κs = search needs
+
+add-rotate-left : tie.Need-add-rotate-left
+add-rotate-left c = search needs
+
+rotate-left-requires-2 : tie.Need-rotate-left-requires-2
+rotate-left-requires-2 c κs = search needs
+
+returns : tie.Need-returns
+returns c =
+    let a = c .before .before .before .before .before .before .before .before .args in
+    let marks : take (suc (a .n)) (c .rotate-left2 .last .0) ≡ rotateLeft (take (suc (a .n)) (a .marks .now)) = rw (← add-one (a .n)) (c .rotate-left2 .ensures .0) in
+    record {
+      point = c .before .before .before .before .before .before .shift .ensures;
+      list = c .before .before .before .before .raise .ensures;
+      steps = c .before .before .rotate-left .ensures .0;
+      marked = marks;
+      each = record { inOrder = c .before .before .rotate-left .ensures .1; inMarks = c .rotate-left2 .ensures .1 };
+    }
+
+pub go-forward-spec : {M : Type 1} → statement M
+go-forward-spec =
+    tie.close
+    (tie.spec
+    shift-requires
+    raise-requires
+    rotate-left-requires
+    add-rotate-left
+    rotate-left-requires-2
+    returns)

@@ -1,0 +1,81 @@
+-- `lists::insert` meets its contract. The invariant: x stored at k would be x put before entry k. The measure: k. Assumes nothing.
+use mathlib.Core.Path.{_≡_}
+use Prim.Native.Nat.{suc, _≤_}
+use lib.ListN.{length, length-set, take, set}
+use lib.Seq.{length-take-le}
+use native.Mathlib.Numerals.{add-one}
+use native.Mathlib.Omega.{arith}
+use Rattle.combinatorics.proofs.EditsOfArrays.{insert-last, insert-back}
+use Rattle.combinatorics.specs.Edits.{insertAt}
+use Rattle.arrays.proofs.lists.insert.Statement.{statement}
+use Rattle.arrays.proofs.lists.insert.Tie as tie
+
+abbrev Inv-loop : tie.InvT-loop
+Inv-loop a₀ n at x k₀ a k = (at ≤ k) × (k ≤ n) × (n ≤ 15) × (length a ≡ 16) × (take (suc n) (set a k x) ≡ insertAt k x (take n a₀)) × (length a₀ ≡ 16)
+
+abbrev μ-loop : tie.MeasureT-loop
+μ-loop a₀ n at x k₀ a k = k
+
+loop-holds : tie.Need-loop-holds Inv-loop μ-loop
+loop-holds c = let a = c .args in (omega arith, omega arith, omega arith, omega arith, insert-last (a .n) (a .x) (a .a .now) (omega arith), omega arith)
+
+sub-a : tie.Need-sub-a Inv-loop μ-loop
+sub-a c = omega arith
+
+mul-a : tie.Need-mul-a Inv-loop μ-loop
+mul-a c = omega arith
+
+element-copy-out-a : tie.Need-element-copy-out-a Inv-loop μ-loop
+element-copy-out-a c = omega arith
+
+mul-a-2 : tie.Need-mul-a-2 Inv-loop μ-loop
+mul-a-2 c = omega arith
+
+element-write-a : tie.Need-element-write-a Inv-loop μ-loop
+element-write-a c = omega arith
+
+sub-k : tie.Need-sub-k Inv-loop μ-loop
+sub-k c = omega arith
+
+loop-less : tie.Need-loop-less Inv-loop μ-loop
+loop-less c = omega arith
+
+loop-again : tie.Need-loop-again Inv-loop μ-loop
+loop-again c =
+    let a = c .before .before .before .args in
+    let l = c .before .before .loop in
+    let m = take (a .n) (a .a .now) in
+    let long : a .n ≤ length m = rw (length-take-le (a .n) (a .a .now) (omega arith)) (omega arith) in
+    (omega arith, omega arith, omega arith, rw length-set (omega arith), insert-back (l .a) m (a .n) (l .k) (a .x) (omega arith) (omega arith) (omega arith) long (l .inv .4), omega arith)
+
+mul-a-3 : tie.Need-mul-a-3 Inv-loop μ-loop
+mul-a-3 c = omega arith
+
+element-write-a-2 : tie.Need-element-write-a-2 Inv-loop μ-loop
+element-write-a-2 c = omega arith
+
+returns : tie.Need-returns Inv-loop μ-loop
+returns c =
+    let a = c .before .before .args in
+    let l = c .before .loop in
+    let e : a .at ≡ l .k = omega arith in
+    (rw (add-one, e) (l .inv .4), rw length-set (omega arith))
+
+pub insert-spec : {M : Type 1} → statement M
+insert-spec =
+    tie.close
+    (tie.spec
+    Inv-loop
+    μ-loop
+    loop-holds
+    sub-a
+    mul-a
+    element-copy-out-a
+    mul-a-2
+    element-write-a
+    sub-k
+    loop-less
+    loop-again
+    mul-a-3
+    element-write-a-2
+    returns)

@@ -1,0 +1,26 @@
+-- `lists::position_at` meets its contract: the mark stands at the front of its array. Assumes nothing.
+use mathlib.Core.Path.{refl, ap, _∙_}
+use Prim.Native.Nat.{suc}
+use borrow.Author.Needs.{needs}
+use native.Mathlib.Omega.{arith}
+use Rattle.rules.specs.Step.{markPosition}
+use Rattle.rules.proofs.FirstMet.{entry}
+use Rattle.arrays.proofs.lists.position_at.Statement.{statement}
+use Rattle.arrays.proofs.lists.position_at.Tie as tie
+
+mul-position-in : tie.Need-mul-position-in
+mul-position-in c = search needs
+
+element-copy-out-position-in : tie.Need-element-copy-out-position-in
+element-copy-out-position-in c = search needs
+
+position-in-requires : tie.Need-position-in-requires
+position-in-requires c κs = search needs
+
+returns : tie.Need-returns
+returns c =
+    let a = c .before .before .args in
+    (c .position-in .ensures .0 ∙ ap markPosition (entry (a .marks .now) (suc (a .n)) (a .i) _ (omega arith) refl), c .position-in .ensures .1)
+
+pub position-at-spec : {M : Type 1} → statement M
+position-at-spec = tie.close (tie.spec mul-position-in element-copy-out-position-in position-in-requires returns)

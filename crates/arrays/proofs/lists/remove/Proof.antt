@@ -1,0 +1,75 @@
+-- `lists::remove` meets its contract. The invariant: the entries less entry k are the old ones less the entry asked for. The measure: the
+-- entries left. Assumes nothing.
+use mathlib.Core.Path.{_≡_, refl, sym, _∙_}
+use Prim.Native.Nat.{suc, _-_, _≤_, _<_}
+use lib.ListN.{length, length-set, take}
+use native.Mathlib.Omega.{arith}
+use Rattle.combinatorics.proofs.EditsOfArrays.{remove-forward, remove-last}
+use Rattle.combinatorics.specs.Edits.{removeAt}
+use Rattle.arrays.proofs.lists.remove.Statement.{statement}
+use Rattle.arrays.proofs.lists.remove.Tie as tie
+
+abbrev Inv-loop : tie.InvT-loop
+Inv-loop a₀ n at k₀ a k = (k < n) × (n ≤ 16) × (length a ≡ 16) × (removeAt k (take n a) ≡ removeAt at (take n a₀))
+
+abbrev μ-loop : tie.MeasureT-loop
+μ-loop a₀ n at k₀ a k = n - k
+
+loop-holds : tie.Need-loop-holds Inv-loop μ-loop
+loop-holds c = (omega arith, omega arith, omega arith, refl)
+
+add-loop : tie.Need-add-loop Inv-loop μ-loop
+add-loop c = omega arith
+
+add-a : tie.Need-add-a Inv-loop μ-loop
+add-a c = omega arith
+
+mul-a : tie.Need-mul-a Inv-loop μ-loop
+mul-a c = omega arith
+
+element-copy-out-a : tie.Need-element-copy-out-a Inv-loop μ-loop
+element-copy-out-a c = omega arith
+
+mul-a-2 : tie.Need-mul-a-2 Inv-loop μ-loop
+mul-a-2 c = omega arith
+
+element-write-a : tie.Need-element-write-a Inv-loop μ-loop
+element-write-a c = omega arith
+
+add-k : tie.Need-add-k Inv-loop μ-loop
+add-k c = omega arith
+
+loop-less : tie.Need-loop-less Inv-loop μ-loop
+loop-less c = omega arith
+
+loop-again : tie.Need-loop-again Inv-loop μ-loop
+loop-again c =
+    let a = c .before .before .before .args in
+    let l = c .before .before .loop in
+    (omega arith, omega arith, rw length-set (omega arith), remove-forward (l .a) (a .n) (l .k) (omega arith) (omega arith) ∙ l .inv .3)
+
+returns : tie.Need-returns Inv-loop μ-loop
+returns c =
+    let a = c .before .before .args in
+    let l = c .before .loop in
+    let e : a .n ≡ suc (l .k) = omega arith in
+    let z : a .n - 1 ≡ l .k = omega arith in
+    (rw z (sym (remove-last (l .k) (l .a)) ∙ rw (← e) (l .inv .3)), l .inv .2)
+
+pub remove-spec : {M : Type 1} → statement M
+remove-spec =
+    tie.close
+    (tie.spec
+    Inv-loop
+    μ-loop
+    loop-holds
+    add-loop
+    add-a
+    mul-a
+    element-copy-out-a
+    mul-a-2
+    element-write-a
+    add-k
+    loop-less
+    loop-again
+    returns)

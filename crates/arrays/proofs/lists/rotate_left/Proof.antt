@@ -1,0 +1,42 @@
+-- `lists::rotate_left` meets its contract: what was first stands behind the list less its first. Assumes nothing.
+use mathlib.Core.Path.{_≡_}
+use Prim.Native.Nat.{suc, _-_, _<_}
+use borrow.Author.Needs.{needs}
+use lib.ListN.{length, length-set, getD, take, set}
+use lib.Seq.{length-take-le, getD-take, take-suc-set}
+use native.Mathlib.Omega.{arith}
+use Rattle.combinatorics.proofs.EditsOfArrays.{rotate-left}
+use Rattle.combinatorics.specs.Edits.{rotateLeft}
+use Rattle.arrays.proofs.lists.rotate_left.Statement.{statement}
+use Rattle.arrays.proofs.lists.rotate_left.Tie as tie
+
+element-copy-out-x : tie.Need-element-copy-out-x
+element-copy-out-x c = search needs
+
+remove-requires : tie.Need-remove-requires
+remove-requires c κs = search needs
+
+sub-a : tie.Need-sub-a
+sub-a c = search needs
+
+mul-a : tie.Need-mul-a
+mul-a c = search needs
+
+element-write-a : tie.Need-element-write-a
+element-write-a c = search needs
+
+returns : tie.Need-returns
+returns c =
+    let a = c .before .before .before .args in
+    let l = take (a .n) (a .a .now) in
+    let n : suc (a .n - 1) ≡ a .n = omega arith in
+    let long : 0 < length l = rw (length-take-le (a .n) (a .a .now) (omega arith)) (omega arith) in
+    let x : getD l 0 0 ≡ getD (a .a .now) 0 0 = getD-take (a .n) (a .a .now) 0 0 (omega arith) in
+    let made : take (suc (a .n - 1)) (set (c .remove .last .0) (a .n - 1) (getD (a .a .now) 0 0)) ≡ rotateLeft l =
+    rw (take-suc-set (c .remove .last .0) (a .n - 1) (getD (a .a .now) 0 0) (omega arith), c .remove .ensures .0, ← x) (rotate-left l long)
+    in
+    (rw n at made, rw length-set (omega arith))
+
+pub rotate-left-spec : {M : Type 1} → statement M
+rotate-left-spec =
+    tie.close (tie.spec element-copy-out-x remove-requires sub-a mul-a element-write-a returns)

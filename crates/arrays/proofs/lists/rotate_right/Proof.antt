@@ -1,0 +1,38 @@
+-- `lists::rotate_right` meets its contract: the list less its last stands behind what was last. Assumes nothing.
+use mathlib.Core.Path.{_≡_, _∙_}
+use Prim.Native.Nat.{suc, _+_, _-_}
+use borrow.Author.Needs.{needs}
+use lib.ListN.{take}
+use native.Mathlib.Numerals.{add-one}
+use native.Mathlib.Omega.{arith}
+use Rattle.combinatorics.proofs.EditsOfArrays.{rotate-right}
+use Rattle.combinatorics.specs.Edits.{rotateRight}
+use Rattle.arrays.proofs.lists.rotate_right.Statement.{statement}
+use Rattle.arrays.proofs.lists.rotate_right.Tie as tie
+
+sub-x : tie.Need-sub-x
+sub-x c = search needs
+
+mul-x : tie.Need-mul-x
+mul-x c = search needs
+
+element-copy-out-x : tie.Need-element-copy-out-x
+element-copy-out-x c = search needs
+
+sub-insert : tie.Need-sub-insert
+sub-insert c = search needs
+
+insert-requires : tie.Need-insert-requires
+insert-requires c κs = search needs
+
+returns : tie.Need-returns
+returns c =
+    let a = c .before .before .before .args in
+    let n : suc (a .n - 1) ≡ a .n = omega arith in
+    let made : take (a .n - 1 + 1) (c .insert .last .0) ≡ rotateRight (take (suc (a .n - 1)) (a .a .now)) =
+    c .insert .ensures .0 ∙ rotate-right (a .n - 1) (a .a .now) (omega arith)
+    in
+    (rw (add-one, n) at made, c .insert .ensures .1)
+
+pub rotate-right-spec : {M : Type 1} → statement M
+rotate-right-spec = tie.close (tie.spec sub-x mul-x element-copy-out-x sub-insert insert-requires returns)
