@@ -2,9 +2,9 @@
 -- Assumes nothing.
 use mathlib.Core.Bool.{true, false, _&&_}
 use mathlib.Core.List.{List, [], map}
-use mathlib.Core.Logic.{⊎-elim}
+use mathlib.Core.Logic.{_⊎_, ⊎-elim}
 use mathlib.Core.Path.{_≡_, refl, sym, ap, _∙_, subst}
-use Prim.Native.Nat.{ℕ, suc, _+_, _-_, _≤_, _<_}
+use Prim.Native.Nat.{ℕ, suc, _+_, _-_, _^_, _≤_, _<_}
 use borrow.Author.Tests.{eq-eqb, lt-ltb, le-ltb, ne-eqb}
 use lib.Dec.{eqb, ltb}
 use lib.ListN.{length, replicate, set, take}
@@ -18,6 +18,7 @@ use Rattle.combinatorics.proofs.Ranges.{in-upFrom, upFrom-in}
 use Rattle.combinatorics.specs.Lists.{isIn, sum, upFrom}
 use Rattle.grid.proofs.Fields.{following-low, made-blocks, made-indices, made-next, made-previous, previous-low}
 use Rattle.grid.proofs.Points.{onPoints}
+use Rattle.grid.proofs.Terms.{bound-fits}
 use Rattle.grid.specs.Grid.{Point, at, blockOf, numIndices, position, samePoint, size}
 use Rattle.grid.specs.Made.{IsMade, shape}
 use Rattle.grid.specs.declared.Grid.{Grid as GridStruct}
@@ -132,9 +133,9 @@ module _ (g : GridStruct) (previous next sizes first coefficients order marks : 
 abbrev pub OnPath : Problem → State → ℕ → Type 0
 OnPath p s k = At (filledTable p) s k × (k < pathLength p)
 
--- the labels read before the one that place number k asks for, if it asks for one, are those of the moves up to it
-abbrev pub HasRead : Problem → State → ℕ → ℕ → Type 0
-HasRead p s k labels = labels + labelsAt (s .rule) ≡ suc (cameIn (path (filledTable p) .visited) k)
+-- the labels read at the places up to number k, from 0
+abbrev pub HasRead : Problem → ℕ → ℕ → Type 0
+HasRead p k labels = labels ≡ suc (cameIn (path (filledTable p) .visited) k)
 
 -- where a walk begins
 module _ (g : GridStruct) (made : IsMade g) (first table : List ℕ) (ok : Accepted (problemIn g first table)) where
@@ -157,12 +158,30 @@ module _ (g : GridStruct) (made : IsMade g) (first table : List ℕ) (ok : Accep
           (λ (x : g .indices ≤ k). B .zeros k l ∙ rw (le-ltb k (g .indices) x, le-ltb k (numIndices (shape g)) (omega (arith, m))))
           (before-or-not k (g .indices))
 
--- a walk begins with nothing read, and reads no more labels than the places it has come to
-pub begins-reading : (p : Problem) (s : State) → s .rule ≡ 1 → HasRead p s 0 0
-begins-reading p s e = rw (e, came-none (path (filledTable p) .visited)) refl
+-- at {v} one label is read
+pub begins-reading : (p : Problem) (labels rule : ℕ) → labels ≡ labelsAt rule → rule ≡ 1 → HasRead p 0 labels
+begins-reading p labels rule e r = rw (e, r, came-none (path (filledTable p) .visited)) refl
 
-pub reads-few : (p : Problem) (s : State) (k labels : ℕ) → HasRead p s k labels → labels + labelsAt (s .rule) ≤ suc k
-reads-few p s k labels R = omega (arith, R, came-few (path (filledTable p) .visited) k)
+-- at the places of the path no more labels are read than 64 bits can count
+pub reads-fit : (g : GridStruct) → IsMade g → (first table : List ℕ) → Accepted (problemIn g first table) → (k labels : ℕ)
+    → k < pathLength (problemIn g first table) → HasRead (problemIn g first table) k labels → labels < 2 ^ 64
+reads-fit g made first table ok k labels l R =
+    let p = problemIn g first table in
+    let fits = bound-fits (shape g) (made .accepted) in
+    omega (arith, R, came-few (path (filledTable p) .visited) k, demand3-holds ok .bounded, fits)
+
+-- a visit leads to one of four outcomes
+among : {x i j k : ℕ} → (x ≡ i → ⊥) → (x ≡ j → ⊥) → (x ≡ k → ⊥) → (x ≡ i) ⊎ ((x ≡ j) ⊎ (x ≡ k)) → ⊥
+among f g h = ⊎-elim f (⊎-elim g h)
+
+pub one-of-four : (x : ℕ) → (x ≡ 0) ⊎ ((x ≡ 1) ⊎ (x ≡ 2)) → (x ≡ 0) ⊎ ((x ≡ 2) ⊎ (x ≡ 3)) → (x ≡ 0) ⊎ ((x ≡ 1) ⊎ (x ≡ 3))
+    → (x ≡ 1) ⊎ ((x ≡ 2) ⊎ (x ≡ 3)) → ⊥
+one-of-four x a b c d =
+    among
+    (λ e. among (λ f. omega arith) (λ f. omega arith) (λ f. omega arith) d)
+    (λ e. among (λ f. omega arith) (λ f. omega arith) (λ f. omega arith) b)
+    (λ e. among (λ f. omega arith) (λ f. omega arith) (λ f. omega arith) c)
+    a
 
 -- one place of the walk: what it needs, and where it leads
 module _ (g : GridStruct) (made : IsMade g) (start table : List ℕ) (ok : Accepted (problemIn g start table)) (s : State) (k : ℕ)
@@ -233,8 +252,8 @@ module _ (g : GridStruct) (made : IsMade g) (start table : List ℕ) (ok : Accep
     pub goes-on : {e : State} → NextAt (filledTable p) k (goes e) → OnPath p e (suc k)
     goes-on (nextPlace B) = (B, further-on ok k (here .1) (own known) (at-below full B))
 
-    pub reads-on : (labels : ℕ) → HasRead p s k labels → {e : State} → NextAt (filledTable p) k (goes e)
-        → HasRead p e (suc k) (labels + labelsAt (s .rule))
+    pub reads-on : (labels : ℕ) → HasRead p k labels → {e : State} → NextAt (filledTable p) k (goes e)
+        → HasRead p (suc k) (labels + labelsAt (e .rule))
     reads-on labels R (nextPlace B) =
         let t = path (filledTable p) .visited in
         rw (came-next t k, at-new full B, R) (omega arith)

@@ -130,7 +130,8 @@ pub fn labels_at(s: Status) -> u64
     0
 }
 
-// From {v} to the path's end, or until the budget is spent: the number of places left counts down.
+// From {v} to the path's end, or until the budget is spent: the number of places left counts down. A place's label is
+// counted where the move to it is made, whose rule the compiler then knows.
 pub fn walk(
     g: Grid,
     binomials: &[u16; ENTRIES],
@@ -152,7 +153,7 @@ pub fn walk(
     let mut marks = [0u32; 16];
     let mut s = begin(first, g.indices);
     let tails = positions::tails(first, g.indices);
-    let mut labels_read = 0u64;
+    let mut labels_read = labels_at(s);
     let mut left = budget;
     while 0 < left {
         let seen = visit(
@@ -169,36 +170,34 @@ pub fn walk(
             &mut marks,
             s,
         );
-        labels_read += labels_at(s);
         left -= 1;
-        match seen {
-            Visited::Moved(status) => {
-                s = status;
-            }
-            Visited::Unknown(position) => {
-                return Finish::Unknown {
-                    places: budget - left - 1,
-                    position,
-                };
-            }
-            Visited::PlaceEnd(index) => {
-                return Finish::Ended {
-                    kind: Kind::Place,
-                    places: budget - left,
-                    index,
-                    status: s,
-                    labels_read,
-                };
-            }
-            Visited::FacetEnd(index) => {
-                return Finish::Ended {
-                    kind: Kind::Facet,
-                    places: budget - left,
-                    index,
-                    status: s,
-                    labels_read,
-                };
-            }
+        if let Visited::Unknown(position) = seen {
+            return Finish::Unknown {
+                places: budget - left - 1,
+                position,
+            };
+        }
+        if let Visited::PlaceEnd(index) = seen {
+            return Finish::Ended {
+                kind: Kind::Place,
+                places: budget - left,
+                index,
+                status: s,
+                labels_read,
+            };
+        }
+        if let Visited::FacetEnd(index) = seen {
+            return Finish::Ended {
+                kind: Kind::Facet,
+                places: budget - left,
+                index,
+                status: s,
+                labels_read,
+            };
+        }
+        if let Visited::Moved(status) = seen {
+            s = status;
+            labels_read += labels_at(s);
         }
     }
     Finish::Spent

@@ -56,7 +56,7 @@ pub fn follow(
         gone: 0,
     };
     let mut at: usize = 0;
-    let mut labels_read = 0u64;
+    let mut labels_read = labels_at(s);
     let mut left = budget;
     while 0 < left {
         let passed = visit(
@@ -77,7 +77,6 @@ pub fn follow(
             before,
             writes,
         );
-        labels_read += labels_at(s);
         left -= 1;
         let seen = passed.seen;
         match seen {
@@ -89,6 +88,7 @@ pub fn follow(
                 };
                 at += passed.bytes;
                 s = status;
+                labels_read += labels_at(s);
             }
             Visited::Unknown(position) => {
                 return Walked {
