@@ -2,8 +2,8 @@
 use mathlib.Core.Bool.{Bool, true, _&&_}
 use mathlib.Core.List.{List, [], _∷_, map}
 use mathlib.Core.Logic.{⊎-elim}
-use mathlib.Core.Path.{_≡_, refl, sym, ap, _∙_, subst}
-use Prim.Native.Nat.{ℕ, suc, _-_, _*_, _≤_, _<_}
+use mathlib.Core.Path.{_≡_, refl, sym, ap, _∙_}
+use Prim.Native.Nat.{ℕ, _-_, _*_, _≤_, _<_}
 use borrow.Author.Tests.{le-ltb, lt-ltb}
 use lib.Dec.{eqb, ltb}
 use lib.ListN.{length, replicate, set, take}
@@ -12,14 +12,11 @@ use native.Mathlib.Omega.{arith}
 use Rattle.arrays.specs.Rounds.{roundOf}
 use Rattle.combinatorics.proofs.Basics.{before-or-not}
 use Rattle.combinatorics.specs.Lists.{isIn, sum, upFrom}
-use Rattle.finder.proofs.Visits.{marks-back}
 use Rattle.finder.specs.Finish.{IsBegun}
-use Rattle.geometry.proofs.Points.{nth}
-use Rattle.grid.proofs.Fields.{made-blocks, made-indices}
-use Rattle.grid.specs.Grid.{Point, at, isGridPoint, numIndices, position}
+use Rattle.grid.proofs.Fields.{made-indices}
+use Rattle.grid.specs.Grid.{at, numIndices, position}
 use Rattle.grid.specs.Made.{IsMade, shape}
 use Rattle.grid.specs.declared.Grid.{Grid as GridStruct}
-use Rattle.marks.specs.Reading.{CanRead, HasMarks}
 use Rattle.moves.specs.Held.{stateOf}
 use Rattle.moves.specs.declared.Status.{Status}
 use Rattle.place.proofs.LinkSymmetry.{parts, unlabelled-of}
@@ -31,12 +28,10 @@ use Rattle.place.specs.Problem.{Problem, withLabels}
 use Rattle.positions.proofs.Positions.{map-front}
 use Rattle.positions.specs.Falls.{tailFrom}
 use Rattle.rules.proofs.Describes.{Describes}
-use Rattle.rules.proofs.Follow.{At, at-begin, at-beside, at-exchanged, at-reads, start-describes}
-use Rattle.rules.proofs.StatePoints.{point-is}
+use Rattle.rules.proofs.Follow.{start-describes}
 use Rattle.rules.specs.Mask.{bit}
-use Rattle.rules.specs.Read.{CanCompute, pointIn}
-use Rattle.rules.specs.Ready.{IsRound, RoundBelow}
-use Rattle.rules.specs.Step.{Round, State, begun}
+use Rattle.rules.specs.Ready.{IsRound}
+use Rattle.rules.specs.Step.{Round, begun}
 use Rattle.trail.proofs.Reading.{T-alike}
 use Rattle.trail.proofs.Tables.{Labelled, some-index, some-table}
 use Rattle.trail_places.specs.Shows.{Shows, bare}
@@ -52,9 +47,6 @@ module _ (g : GridStruct) (made : IsMade g) (first : List ℕ) (ok : Settled (pr
 
   abbrev round : Round
   round = roundOf previous next sizes
-
-  abbrev state : State
-  state = stateOf round first (replicate 16 0) order (replicate 16 0) s
 
   m : g .indices ≡ numIndices (shape g)
   m = made-indices g made
@@ -79,44 +71,27 @@ module _ (g : GridStruct) (made : IsMade g) (first : List ℕ) (ok : Settled (pr
     abbrev q : Problem
     q = withLabels p labels
 
-    stands : At q state 0
-    stands = rw (B .rule, B .none, B .empty, B .active) (at-begin (L .full) N first (s .u) size start-at zeros-at)
-
     described : Describes q (inT q v) 0 (at (orderOf (q .grid) v)) (coefficientsOf q v) (begun round first (s .u))
     described = start-describes (L .full) N first (s .u) size start-at zeros-at
 
     points-of : pointsOf q (coefficientsOf q v) ≡ v
     points-of = pointsOf-coefficientsOf (L .full .settled) v (parts q v (start-place (L .full .settled)) .gridPoints)
 
-    first-point : pointIn p state (s .active) ≡ p .start
-    first-point = rw (B .rule, B .none, B .empty, B .active) (point-is (L .full) described 0 (omega arith) ∙ ap (λ (c : Simplex). nth c 0) points-of)
-
-  pub v-reads : RoundBelow round → CanRead g (stateOf (roundOf previous [] sizes) first (replicate 16 0) order (replicate 16 0) s)
-  v-reads below =
-      let w = at-reads (table .1 .full) (stands (table .1)) in
-      record { below = below .backward; firstLength = size; point = w .0; onGrid = w .1 }
-
   module _ (tails : List ℕ) (are : (k : ℕ) → k < g .indices → at tails k ≡ sum (map (at first) (upFrom k (g .indices - k)))) where
     sums : (k : ℕ) → k < numIndices (shape g) → at tails k ≡ tailFrom (shape g) (p .start) k
     sums k l = rw (← m) (are k (omega (arith, m)) ∙ ap sum (sym (map-front first (g .indices) k (g .indices - k) (omega (arith, m)))))
 
-    pub v-marks : HasMarks g tails (stateOf (roundOf previous [] sizes) first (replicate 16 0) order (replicate 16 0) s)
-    v-marks =
-        let A = stands (table .1) in
-        marks-back g previous next sizes first (replicate 16 0) order (replicate 16 0) s tails (record {
-          square = at-exchanged (table .1 .full) A;
-          beside = λ one. at-beside (table .1 .full) A (omega (arith, B .rule)) (sym (made-blocks g made) ∙ one) tails sums;
-        })
-
     -- with its position in its mark, {v} is held
-    pub v-read : (c : ℕ) → c ≡ position (shape g) (pointIn p state (s .active)) → HasRead g (take (g .indices) first) tails v (stateOf round first (replicate 16 0) order (set (replicate 16 0) 0 (c * 256)) s)
+    pub v-read : (c : ℕ) → c ≡ position (shape g) (p .start)
+        → HasRead g (take (g .indices) first) tails v
+        (stateOf round first (replicate 16 0) order (set (replicate 16 0) 0 (c * 256)) s)
     v-read c e = record { settled = ok; shows = shown; sums = sums }
       where
         L : Labelled p v 0 0 (table .0)
         L = table .1
 
         mark-is : c * 256 ≡ bare p (p .start)
-        mark-is = omega (arith, e ∙ ap (position (shape g)) (first-point L))
+        mark-is = omega (arith, e)
 
         D : Describes (withLabels p (table .0)) (inT (withLabels p (table .0)) v) 0 (at (orderOf (shape g) v)) (coefficientsOf (withLabels p (table .0)) v) (begun round first (s .u))
         D = described L
@@ -143,6 +118,3 @@ module _ (g : GridStruct) (made : IsMade g) (first : List ℕ) (ok : Settled (pr
           bitsU = D .inU;
           marks = refl;
         })
-
-    pub v-position : position (shape g) (pointIn p state (s .active)) ≡ position (shape g) (p .start)
-    v-position = ap (position (shape g)) (first-point (table .1))

@@ -4,6 +4,7 @@ use mathlib.Core.Path.{_≡_}
 use Prim.Native.Nat.{ℕ, suc, _<_}
 use lib.ListN.{length, replicate, take}
 use Rattle.combinatorics.specs.Front.{front}
+use Rattle.grid.specs.Grid.{position}
 use Rattle.grid.specs.Made.{IsMade, shape}
 use Rattle.grid.specs.declared.Grid.{Grid as GridStruct}
 use Rattle.marks.specs.Reading.{Measured}
@@ -21,6 +22,15 @@ use Rattle.trail_reader.specs.declared.answers.Reading.{Reading}
 pub record CanRead (g : GridStruct) (start : List ℕ) : Type 0 where
   pub made : IsMade g
   pub settled : Settled (problemBy g start)
+
+-- the start in an array, and its position
+pub record CanLocate (g : GridStruct) (binomials first : List ℕ) : Type 0 where
+  pub measured : Measured g binomials
+  pub firstLength : length first ≡ 16
+  pub settled : Settled (problemBy g (take (g .indices) first))
+
+abbrev pub IsLocated : GridStruct → List ℕ → ℕ → Type 0
+IsLocated g first r = (r ≡ position (shape g) (take (g .indices) first)) × (r < 65536)
 
 -- what the reading asks with the start in an array
 pub record CanRebuild (g : GridStruct) (round : Round) (binomials first : List ℕ) : Type 0 where

@@ -8,13 +8,12 @@ ghost use Rattle.moves.specs.Held.{stateOf};
 ghost use Rattle.place_points.specs.Room.{CanPut};
 ghost use Rattle.place.specs.Problem.{problemOf};
 ghost use Rattle.rules.specs.Step.{Round, State};
-ghost use Rattle.trail_reader.specs.Begun.{CanRead, CanRebuild, IsPlace, Reads};
+ghost use Rattle.trail_reader.specs.Begun.{CanLocate, CanRead, CanRebuild, IsLocated, IsPlace, Reads};
 ghost use Rattle.trail_reader.specs.Reading.{readAnswer, readPoints};
 use arrays::block_sizes;
 use arrays::padded;
 use finder::begin;
 use grid::Grid;
-use marks::position_in;
 use moves::Status;
 use place_points::put_points;
 use positions::ENTRIES;
@@ -84,6 +83,15 @@ fn placed(
     Reading { answer, points }
 }
 
+// The position of the start, which is the first point that is lent.
+fn start_position(g: Grid, binomials: &[u16; ENTRIES], first: &[u16; 16]) -> usize
+    requires { ⌜ CanLocate g (now binomials) (now first) ⌝ }
+    ensures { λ r. ⌜ IsLocated g (now (first .entry)) r ⌝ }
+{
+    let steps = [16u16; 16];
+    positions::position(g, binomials, first, &steps)
+}
+
 // The place at a record, the start being the first point that is lent.
 fn rebuilt(
     g: Grid,
@@ -107,18 +115,7 @@ fn rebuilt(
     let mut marks = [0u32; 16];
     let s = begin(first, m);
     let tails = positions::tails(first, m);
-    let position = position_in(
-        g,
-        binomials,
-        &tails,
-        previous,
-        sizes,
-        first,
-        &coefficients,
-        &order,
-        &marks,
-        s,
-    );
+    let position = start_position(g, binomials, first);
     if !stands(trail, 0, first_record(position)) {
         return refused(17);
     }
