@@ -2,6 +2,8 @@
 // nearest to a point. How many there are stands first, in 16 bits. A call is its sizes, divisions, start, labels and w
 // as lists, the lengths of the answer buffer and of the list, of 16 bits each, and the budget and the distance, of 64.
 // Both buffers are lent full of 65,535.
+use answer_lines::print_end;
+use answer_lines::print_unknown;
 use case_reader::bytes;
 use case_reader::number;
 use case_reader::show;
@@ -11,37 +13,20 @@ use case_reader::within_words;
 use case_reader::word;
 use case_reader::words;
 use finder::Answer;
-use finder::Kind;
 use nearest::Nearest;
-
-fn print_kind(kind: Kind) {
-    match kind {
-        Kind::Place => show_text(b"end place\n"),
-        Kind::Facet => show_text(b"end facet\n"),
-    }
-}
 
 fn print_run(run: Answer) {
     match run {
         Answer::Refused(number) => show(b"refused ", number as u64),
         Answer::Spent(places) => show(b"refused 9\nplaces ", places),
-        Answer::Unknown { places, position } => {
-            show(b"refused 16\nplaces ", places);
-            show(b"position ", position as u64);
-        }
+        Answer::Unknown { places, position } => print_unknown(places, position as u64),
         Answer::End {
             places,
             labels_read,
             kind,
             block,
             vertices,
-        } => {
-            show(b"places ", places);
-            show(b"labels read ", labels_read);
-            print_kind(kind);
-            show(b"block ", block as u64);
-            show(b"vertices ", vertices as u64);
-        }
+        } => print_end(places, labels_read, kind, block as u64, vertices as u64),
     }
 }
 

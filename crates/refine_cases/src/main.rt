@@ -2,33 +2,27 @@
 // how many there are, in 16 bits, and then of each the sizes, divisions, start and losses as lists; k, the number of
 // levels, and how long the label buffer and the answer buffer are, in 16 bits each. The answer buffer is lent full of
 // 65,535, which is no coordinate.
+use answer_lines::print_end;
 use case_reader::bytes;
 use case_reader::show;
-use case_reader::show_text;
 use case_reader::show_words;
 use case_reader::within_bytes;
 use case_reader::within_words;
 use case_reader::word;
 use case_reader::words;
-use finder::Kind;
 use refinement::Level;
 use refinement::Refined;
 
-fn print_kind(kind: Kind) {
-    match kind {
-        Kind::Place => show_text(b"end place\n"),
-        Kind::Facet => show_text(b"end facet\n"),
-    }
-}
-
 fn print_level(number: usize, level: Level) {
     show(b"level ", number as u64);
-    show(b"places ", level.places);
-    show(b"labels read ", level.labels_read);
     let kind = level.kind;
-    print_kind(kind);
-    show(b"block ", level.block as u64);
-    show(b"vertices ", level.vertices as u64);
+    print_end(
+        level.places,
+        level.labels_read,
+        kind,
+        level.block as u64,
+        level.vertices as u64,
+    );
 }
 
 fn print_levels(found: Refined) {

@@ -3,29 +3,18 @@
 // bits, and its sizes, divisions and start as lists; then come of a run the labels as a list, the length of the answer
 // buffer, of 16 bits, and the length of the trail buffer and the budget, of 64; of a reading the trail as a list, and
 // the number of the record, of 64. The answer buffer is lent full of 65,535, and the trail buffer full of 255.
-ghost use Prim.Native.Nat.{_<_};
+use answer_lines::print_end;
+use answer_lines::print_trail;
+use answer_lines::print_unknown;
 use case_reader::bytes;
 use case_reader::number;
 use case_reader::show;
-use case_reader::show_bytes;
-use case_reader::show_text;
 use case_reader::show_words;
 use case_reader::within_bytes;
 use case_reader::within_words;
 use case_reader::word;
 use case_reader::words;
-use finder::Kind;
 use trail_writer::Answer;
-
-// What the weighed sum of a long trail is counted by.
-const COUNTED_BY: u64 = 1000000007;
-
-fn print_kind(kind: Kind) {
-    match kind {
-        Kind::Place => show_text(b"end place\n"),
-        Kind::Facet => show_text(b"end facet\n"),
-    }
-}
 
 // The answer's lines, and how many bytes of the trail it says are written.
 fn print_answer(found: Answer) -> usize {
@@ -39,8 +28,7 @@ fn print_answer(found: Answer) -> usize {
             0
         }
         Answer::Unknown { places, position } => {
-            show(b"refused 16\nplaces ", places);
-            show(b"position ", position as u64);
+            print_unknown(places, position as u64);
             0
         }
         Answer::End {
@@ -51,59 +39,11 @@ fn print_answer(found: Answer) -> usize {
             vertices,
             bytes,
         } => {
-            show(b"places ", places);
-            show(b"labels read ", labels_read);
-            print_kind(kind);
-            show(b"block ", block as u64);
-            show(b"vertices ", vertices as u64);
+            print_end(places, labels_read, kind, block as u64, vertices as u64);
             show(b"trail-bytes ", bytes as u64);
             bytes
         }
     }
-}
-
-fn wide(x: u8) -> u64
-    ensures { λ r. ⌜ r < 256 ⌝ }
-{
-    x as u64
-}
-
-// A sum without the number that it is counted by, once.
-fn counted(x: u64) -> u64
-    requires { ⌜ x < 2000000014 ⌝ }
-    ensures { λ r. ⌜ r < 1000000007 ⌝ }
-{
-    if x < COUNTED_BY { x } else { x - COUNTED_BY }
-}
-
-// Each byte times its place, counted from 1, added up: from the last byte on, every byte is in as many of the sums of
-// bytes as its place says.
-fn weighed(trail: &[u8]) -> u64 {
-    let mut i = trail.len();
-    let mut last: u64 = 0;
-    let mut sum: u64 = 0;
-    while 0 < i {
-        i -= 1;
-        last = counted(last + wide(trail[i]));
-        sum = counted(sum + last);
-    }
-    sum
-}
-
-// The trail buffer whole; of a trail of more than 2,000 bytes the first 40, the last 40 and the weighed sum, and what
-// stands behind it.
-fn print_trail(trail: &[u8], written: usize) {
-    let count = within_bytes(written, trail);
-    let front = within_bytes(40, trail);
-    if count <= 2000 {
-        show_bytes(b"trail", trail);
-        return;
-    }
-    let back = count - 40;
-    show_bytes(b"trail-front", &trail[..front]);
-    show_bytes(b"trail-back", &trail[back..count]);
-    show(b"trail-sum ", weighed(&trail[..count]));
-    show_bytes(b"behind", &trail[count..]);
 }
 
 fn print_run(
@@ -155,36 +95,46 @@ fn print_reading(sizes: &[u8], divisions: &[u16], start: &[u16], trail: &[u8]) {
     show_words(b"numbers", &numbers);
 }
 
+// A run, into buffers as long as the case says.
+fn make_run(sizes: &[u8], divisions: &[u16], start: &[u16], labels: &[u8]) {
+    let mut answer = [65535u16; 256];
+    let mut trail = [255u8; 100000];
+    let room = within_words(word() as usize, &answer);
+    let trail_room = within_bytes(number() as usize, &trail);
+    print_run(
+        sizes,
+        divisions,
+        start,
+        labels,
+        &mut answer[..room],
+        &mut trail[..trail_room],
+    );
+}
+
+fn print_call(kind: u16, sizes: &[u8], divisions: &[u16], start: &[u16], given: &[u8]) {
+    if kind == 1 {
+        print_reading(sizes, divisions, start, given);
+        return;
+    }
+    make_run(sizes, divisions, start, given);
+}
+
 fn print_next() {
     let kind = word();
     let mut sizes = [0u8; 64];
     let mut divisions = [0u16; 64];
     let mut start = [0u16; 64];
     let mut given = [0u8; 60000];
-    let mut answer = [65535u16; 256];
-    let mut trail = [255u8; 100000];
     let blocks = bytes(&mut sizes);
     let divided = words(&mut divisions);
     let from = words(&mut start);
     let count = bytes(&mut given);
-    if kind == 1 {
-        print_reading(
-            &sizes[..blocks],
-            &divisions[..divided],
-            &start[..from],
-            &given[..count],
-        );
-        return;
-    }
-    let room = within_words(word() as usize, &answer);
-    let trail_room = within_bytes(number() as usize, &trail);
-    print_run(
+    print_call(
+        kind,
         &sizes[..blocks],
         &divisions[..divided],
         &start[..from],
         &given[..count],
-        &mut answer[..room],
-        &mut trail[..trail_room],
     );
 }
 

@@ -1,10 +1,10 @@
--- `trail_cases::weighed` is safe and ends. The invariant: both sums are below the number that they are counted by.
+-- `trails::weighed` is safe and ends. The invariant: both sums are below the number that they are counted by.
 -- Assumes nothing.
 use Prim.Native.Nat.{_≤_, _<_}
 use lib.ListN.{length}
 use borrow.Author.Needs.{needs}
-use Rattle.trail_cases.proofs.weighed.Statement.{statement}
-use Rattle.trail_cases.proofs.weighed.Tie as tie
+use Rattle.answer_lines.proofs.trails.weighed.Statement.{statement}
+use Rattle.answer_lines.proofs.trails.weighed.Tie as tie
 
 abbrev Inv-loop : tie.InvT-loop
 Inv-loop trail i₀ last₀ sum₀ i last sum = (i ≤ length trail) × (last < 1000000007) × (sum < 1000000007)
