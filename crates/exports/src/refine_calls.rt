@@ -68,7 +68,14 @@ pub extern "C" fn leveretplate_refine(
         now (facts .exit) ≡ front (refinedFacts found) (now (facts .entry))) ⌝ }
 {
     let found = refinement::refine(
-        sizes, divisions, start, losses, factor, levels, labels, answer,
+        sizes,
+        divisions,
+        start,
+        losses,
+        factor,
+        levels,
+        labels,
+        answer,
     );
     put_levels(found, facts);
     found.code

@@ -17,11 +17,11 @@ ghost use Rattle.points_in_order.specs.Lent.{WithFirsts};
 use corners::label_point;
 use corners::weigh_corners;
 use grid::wide;
+use losses::num_profiles;
+use points_in_order::advance;
 use weighed_losses::load_losses;
 use weighed_losses::rests;
 use weighed_losses::weigh_levels;
-use losses::num_profiles;
-use points_in_order::advance;
 
 // The levels behind the first block that has changed and the differences at the corners of the point. They stand there
 // already if no block before the last has changed.
