@@ -5,19 +5,21 @@ ghost use lib.Dec.{leb};
 ghost use lib.ListN.{length, getD};
 ghost use Rattle.combinatorics.specs.Lists.{all};
 
-// Question 7: is every byte at most m? The loop has one way out, so that several bytes are compared at once.
+// Question 7: is every byte at most m? The largest is found by a loop with one way out, so that several bytes are
+// compared at once.
 pub fn all_at_most(labels: &[u8], m: u8) -> bool
     ensures { λ r. ⌜ r ≡ all (λ l. leb l m) (now (labels .entry)) ⌝ }
 {
-    let mut good = true;
+    let mut most: u8 = 0;
     let mut i: usize = 0;
     while i < labels.len() {
-        if m < labels[i] {
-            good = false;
+        let label = labels[i];
+        if most < label {
+            most = label;
         }
         i += 1;
     }
-    good
+    most <= m
 }
 
 // The label at a position. Runs and walks read a label by this function alone, where its point comes in; the checks of

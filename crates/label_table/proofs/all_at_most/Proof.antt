@@ -1,29 +1,42 @@
--- `all_at_most` meets its contract. The invariant: the answer for the bytes so far. Assumes nothing.
-use mathlib.Core.Bool.{and-true, and-false}
+-- `all_at_most` meets its contract. The invariant: the largest byte so far is at most m exactly if all so far are.
+-- Assumes nothing.
+use mathlib.Core.Bool.{_&&_, and-false}
 use mathlib.Core.Logic.{⊎-elim}
 use mathlib.Core.Path.{_≡_, refl, sym, _∙_}
-use Prim.Native.Nat.{_-_, _≤_}
+use Prim.Native.Nat.{ℕ, _-_, _≤_, _<_}
 use borrow.Author.Needs.{needs}
 use borrow.Author.Tests.{le-leb, lt-leb}
 use lib.Dec.{leb}
 use lib.ListN.{length, take}
 use native.Mathlib.Omega.{arith}
+use Rattle.combinatorics.proofs.Basics.{before-or-not}
 use Rattle.combinatorics.proofs.Turns.{all-next, whole}
 use Rattle.combinatorics.specs.Lists.{all}
 use Rattle.label_table.proofs.all_at_most.Statement.{statement}
 use Rattle.label_table.proofs.all_at_most.Tie as tie
 
 abbrev Inv-loop : tie.InvT-loop
-Inv-loop labels m good₀ i₀ good i = (good ≡ all (λ l. leb l m) (take i labels)) × (i ≤ length labels)
+Inv-loop labels m most₀ i₀ most i = (leb most m ≡ all (λ l. leb l m) (take i labels)) × (i ≤ length labels)
 
 abbrev μ-loop : tie.MeasureT-loop
-μ-loop labels m good₀ i₀ good i = length labels - i
+μ-loop labels m most₀ i₀ most i = length labels - i
+
+-- of two numbers the larger tells whether both are at most m
+second-larger : (x y m : ℕ) → x ≤ y → leb y m ≡ (leb x m && leb y m)
+second-larger x y m l =
+    ⊎-elim (λ (h : m < y). rw (lt-leb y m h) (sym (and-false (leb x m))))
+    (λ (h : y ≤ m). rw (le-leb y m h, le-leb x m (omega arith)) refl) (before-or-not m y)
+
+first-larger : (x y m : ℕ) → y ≤ x → leb x m ≡ (leb x m && leb y m)
+first-larger x y m l =
+    ⊎-elim (λ (h : m < x). rw (lt-leb x m h) refl)
+    (λ (h : x ≤ m). rw (le-leb x m h, le-leb y m (omega arith)) refl) (before-or-not m x)
 
 loop-holds : tie.Need-loop-holds Inv-loop μ-loop
-loop-holds c = (refl, search needs)
+loop-holds c = (le-leb 0 (c .args .m) (omega arith), search needs)
 
-shared-slice-read-if1 : tie.Need-shared-slice-read-if1 Inv-loop μ-loop
-shared-slice-read-if1 c = omega arith
+shared-slice-read-label : tie.Need-shared-slice-read-label Inv-loop μ-loop
+shared-slice-read-label c = omega arith
 
 add-i : tie.Need-add-i Inv-loop μ-loop
 add-i c = search needs
@@ -36,13 +49,14 @@ loop-again c =
     let a = c .before .before .before .before .args in
     let l = c .before .before .before .loop in (
       rw (all-next (λ x. leb x (a .m)) (a .labels .now) (l .i) (omega arith), ← (l .inv .0))
-          (⊎-elim (λ w. w .1 ∙ sym (rw (lt-leb _ _ (w .0 .taken)) (and-false (l .good))))
-          (λ w. w .1 ∙ sym (rw (le-leb _ _ (w .0 .left)) (and-true (l .good)))) (c .if1 .came)),
+          (⊎-elim (λ w. rw (w .1) (second-larger (l .most) _ (a .m) (omega (arith, w .0 .taken))))
+          (λ w. rw (w .1) (first-larger (l .most) _ (a .m) (w .0 .left))) (c .if1 .came)),
       omega arith,
     )
 
 returns : tie.Need-returns Inv-loop μ-loop
-returns c = c .before .loop .inv .0 ∙ rw (whole (c .before .before .args .labels .now) (c .before .loop .i) (omega arith))
+returns c =
+    c .before .loop .inv .0 ∙ rw (whole (c .before .before .args .labels .now) (c .before .loop .i) (omega arith))
 
 pub all-at-most-spec : {M : Type 1} → statement M
 all-at-most-spec =
@@ -51,7 +65,7 @@ all-at-most-spec =
     Inv-loop
     μ-loop
     loop-holds
-    shared-slice-read-if1
+    shared-slice-read-label
     add-i
     loop-less
     loop-again
