@@ -23,7 +23,8 @@ begins-short (x ∷ r) (y ∷ bytes) l = ends (eqb x y) (begins-short r bytes (o
     ends false e = refl
 
 -- where one byte is another
-begins-other : (r bytes : List ℕ) (k : ℕ) → k < length r → k < length bytes → (getD bytes k 0 ≡ getD r k 0 → ⊥) → begins r bytes ≡ false
+begins-other : (r bytes : List ℕ) (k : ℕ) → k < length r → k < length bytes → (getD bytes k 0 ≡ getD r k 0 → ⊥)
+    → begins r bytes ≡ false
 begins-other [] bytes k l m n = absurd (omega arith)
 begins-other (x ∷ r) [] k l m n = refl
 begins-other (x ∷ r) (y ∷ bytes) zero l m n = rw (ne-eqb x y (λ e. n (sym e)))
@@ -34,14 +35,16 @@ begins-other (x ∷ r) (y ∷ bytes) (suc k) l m n = ends (eqb x y) (begins-othe
     ends false e = refl
 
 -- where all are the same
-begins-same : (r bytes : List ℕ) → length r ≤ length bytes → ((k : ℕ) → k < length r → getD bytes k 0 ≡ getD r k 0) → begins r bytes ≡ true
+begins-same : (r bytes : List ℕ) → length r ≤ length bytes → ((k : ℕ) → k < length r → getD bytes k 0 ≡ getD r k 0)
+    → begins r bytes ≡ true
 begins-same [] bytes l e = refl
 begins-same (x ∷ r) [] l e = absurd (omega arith)
-begins-same (x ∷ r) (y ∷ bytes) l e = rw (eq-eqb x y (sym (e 0 (omega arith)))) (begins-same r bytes (omega arith) (λ k m. e (suc k) (omega arith)))
+begins-same (x ∷ r) (y ∷ bytes) l e =
+    rw (eq-eqb x y (sym (e 0 (omega arith)))) (begins-same r bytes (omega arith) (λ k m. e (suc k) (omega arith)))
 
 -- what holds of each number below 7, as far as there are n
-each-below : (P : ℕ → Type 0) (n : ℕ) → n ≤ 7 → P 0 → P 1 → P 2 → (3 < n → P 3) → (4 < n → P 4) → (5 < n → P 5) → (6 < n → P 6)
-    → (k : ℕ) → k < n → P k
+each-below : (P : ℕ → Type 0) (n : ℕ) → n ≤ 7 → P 0 → P 1 → P 2 → (3 < n → P 3) → (4 < n → P 4) → (5 < n → P 5)
+    → (6 < n → P 6) → (k : ℕ) → k < n → P k
 each-below P n m a b c d e f g zero l = a
 each-below P n m a b c d e f g (suc zero) l = b
 each-below P n m a b c d e f g (suc (suc zero)) l = c
@@ -56,7 +59,8 @@ module _ (bytes trail : List ℕ) (at n : ℕ) (fits : at + n ≤ length trail) 
   long : length (take n bytes) ≡ n
   long = length-take-le n bytes many
 
-  pub apart : (k : ℕ) → k < n → (getD trail (at + k) 0 ≡ getD bytes k 0 → ⊥) → begins (take n bytes) (drop at trail) ≡ false
+  pub apart : (k : ℕ) → k < n → (getD trail (at + k) 0 ≡ getD bytes k 0 → ⊥)
+      → begins (take n bytes) (drop at trail) ≡ false
   apart k l ne =
       begins-other (take n bytes) (drop at trail) k (omega (arith, long)) (omega (arith, length-drop at trail))
       (λ e. ne (sym (getD-drop at trail k 0) ∙ e ∙ getD-take n bytes k 0 l))
@@ -73,13 +77,17 @@ module _ (bytes trail : List ℕ) (at n : ℕ) (fits : at + n ≤ length trail) 
   first-apart l ne = apart 0 l (λ e. ne (sym first-at ∙ e))
 
   -- byte by byte
-  pub all-same : n ≤ 7 → getD trail at 0 ≡ getD bytes 0 0 → getD trail (at + 1) 0 ≡ getD bytes 1 0 → getD trail (at + 2) 0 ≡ getD bytes 2 0
-      → (3 < n → getD trail (at + 3) 0 ≡ getD bytes 3 0) → (4 < n → getD trail (at + 4) 0 ≡ getD bytes 4 0)
-      → (5 < n → getD trail (at + 5) 0 ≡ getD bytes 5 0) → (6 < n → getD trail (at + 6) 0 ≡ getD bytes 6 0) → begins (take n bytes) (drop at trail) ≡ true
-  all-same m a b c d e f g = together (each-below (λ (k : ℕ). getD trail (at + k) 0 ≡ getD bytes k 0) n m (first-at ∙ a) b c d e f g)
+  pub all-same : n ≤ 7 → getD trail at 0 ≡ getD bytes 0 0 → getD trail (at + 1) 0 ≡ getD bytes 1 0
+      → getD trail (at + 2) 0 ≡ getD bytes 2 0 → (3 < n → getD trail (at + 3) 0 ≡ getD bytes 3 0)
+      → (4 < n → getD trail (at + 4) 0 ≡ getD bytes 4 0) → (5 < n → getD trail (at + 5) 0 ≡ getD bytes 5 0)
+      → (6 < n → getD trail (at + 6) 0 ≡ getD bytes 6 0)
+      → begins (take n bytes) (drop at trail) ≡ true
+  all-same m a b c d e f g =
+      together (each-below (λ (k : ℕ). getD trail (at + k) 0 ≡ getD bytes k 0) n m (first-at ∙ a) b c d e f g)
 
   -- where one of two bytes is another
-  pub two-apart : (k : ℕ) → suc k < n → (getD trail (at + k) 0 ≡ getD bytes k 0 → getD trail (at + k + 1) 0 ≡ getD bytes (suc k) 0 → ⊥)
+  pub two-apart : (k : ℕ) → suc k < n
+      → (getD trail (at + k) 0 ≡ getD bytes k 0 → getD trail (at + k + 1) 0 ≡ getD bytes (suc k) 0 → ⊥)
       → begins (take n bytes) (drop at trail) ≡ false
   two-apart k l ne =
       let z : at + k + 1 ≡ at + suc k = omega arith in

@@ -1,4 +1,5 @@
--- The first index at which two masks differ: the only one, or none; and the length of a record, which the sets alone tell. Assumes nothing.
+-- The first index at which two masks differ: the only one, or none; and the length of a record, which the sets alone
+-- tell. Assumes nothing.
 use mathlib.Core.Bool.{Bool, true, false, Bool·beq, cond}
 use mathlib.Core.Logic.{⊎-elim}
 use mathlib.Core.Path.{_≡_, refl, sym, ap, _∙_}
@@ -41,25 +42,31 @@ module _ (a b : ℕ) where
   differs-here zero h d = refl
   differs-here (suc n) h d = rw d
 
-  pub differs-later : (n h : ℕ) → Bool·beq (bit a h) (bit b h) ≡ true → differingFrom a b (suc n) h ≡ differingFrom a b n (suc h)
+  pub differs-later : (n h : ℕ) → Bool·beq (bit a h) (bit b h) ≡ true
+      → differingFrom a b (suc n) h ≡ differingFrom a b n (suc h)
   unfolding differingFrom
   differs-later n h e = rw e
 
   -- where the masks differ at one index only, that is found
-  only-from : (n k h : ℕ) → k + n ≡ 16 → k ≤ h → h < 16 → (bit a h ≡ bit b h → ⊥) → ((i : ℕ) → i < 16 → (i ≡ h → ⊥) → bit a i ≡ bit b i)
+  only-from : (n k h : ℕ) → k + n ≡ 16 → k ≤ h → h < 16 → (bit a h ≡ bit b h → ⊥)
+      → ((i : ℕ) → i < 16 → (i ≡ h → ⊥) → bit a i ≡ bit b i)
       → differingFrom a b n k ≡ h
   only-from zero k h s l m d rest = absurd (omega arith)
-  only-from (suc n) k h s l m d rest =
-      ⊎-elim (λ (e : k ≡ h). differs-here (suc n) k (rw e (beq-unlike _ _ d)) ∙ e)
-      (λ ne. differs-later n k (beq-alike _ _ (rest k (omega arith) ne)) ∙ only-from n (suc k) h (omega arith) (omega (arith, ne)) m d rest) (same-or k h)
+  only-from (suc n) k h s l m d rest = ⊎-elim
+      (λ (e : k ≡ h). differs-here (suc n) k (rw e (beq-unlike _ _ d)) ∙ e)
+      (λ ne. differs-later n k (beq-alike _ _ (rest k (omega arith) ne))
+      ∙ only-from n (suc k) h (omega arith) (omega (arith, ne)) m d rest)
+      (same-or k h)
 
-  pub only-differs : (h : ℕ) → h < 16 → (bit a h ≡ bit b h → ⊥) → ((i : ℕ) → i < 16 → (i ≡ h → ⊥) → bit a i ≡ bit b i) → differing a b ≡ h
+  pub only-differs : (h : ℕ) → h < 16 → (bit a h ≡ bit b h → ⊥) → ((i : ℕ) → i < 16 → (i ≡ h → ⊥) → bit a i ≡ bit b i)
+      → differing a b ≡ h
   only-differs h m d rest = only-from 16 0 h (omega arith) (omega arith) m d rest
 
   -- where they are alike, none is
   none-from : (n k : ℕ) → k + n ≡ 16 → ((i : ℕ) → i < 16 → bit a i ≡ bit b i) → differingFrom a b n k ≡ 16
   none-from zero k s rest = differs-spent 0 k refl ∙ omega arith
-  none-from (suc n) k s rest = differs-later n k (beq-alike _ _ (rest k (omega arith))) ∙ none-from n (suc k) (omega arith) rest
+  none-from (suc n) k s rest =
+      differs-later n k (beq-alike _ _ (rest k (omega arith))) ∙ none-from n (suc k) (omega arith) rest
 
   pub none-differs : ((i : ℕ) → i < 16 → bit a i ≡ bit b i) → differing a b ≡ 16
   none-differs rest = none-from 16 0 (omega arith) rest
@@ -78,10 +85,11 @@ module _ (a b : ℕ) where
       (true-or-false (Bool·beq (bit a k) (bit b k)))
 
   pub alike-none : a < 65536 → b < 65536 → eqb a b ≡ eqb (differing a b) 16
-  alike-none la lb =
-      ⊎-elim (λ (e : a ≡ b). eq-eqb a b e ∙ sym (eq-eqb (differing a b) 16 (same-none e)))
+  alike-none la lb = ⊎-elim
+      (λ (e : a ≡ b). eq-eqb a b e ∙ sym (eq-eqb (differing a b) 16 (same-none e)))
       (λ n. ne-eqb a b n
-      ∙ sym (ne-eqb (differing a b) 16 (λ d. n (same-mask a b la lb (λ i l. alike-from 16 0 (omega arith) d i (omega arith) l)))))
+      ∙ sym (ne-eqb (differing a b) 16
+      (λ d. n (same-mask a b la lb (λ i l. alike-from 16 0 (omega arith) d i (omega arith) l)))))
       (same-or a b)
 
 -- a record's length, by what T and U do
@@ -92,12 +100,16 @@ record-length T U T' U' y z =
     let h = differing T T' in
     let i = differing U U' in
     ⊎-elim
-    (λ (t : eqb h 16 ≡ true). ⊎-elim (λ (u : eqb i 16 ≡ true). rw (t, u))
-    (λ (u : eqb i 16 ≡ false). ⊎-elim (λ (b : bit U' i ≡ true). rw (t, u, b)) (λ (b : bit U' i ≡ false). rw (t, u, b)) (true-or-false (bit U' i)))
+    (λ (t : eqb h 16 ≡ true). ⊎-elim
+    (λ (u : eqb i 16 ≡ true). rw (t, u))
+    (λ (u : eqb i 16 ≡ false).
+    ⊎-elim (λ (b : bit U' i ≡ true). rw (t, u, b)) (λ (b : bit U' i ≡ false). rw (t, u, b)) (true-or-false (bit U' i)))
     (true-or-false (eqb i 16)))
     (λ (t : eqb h 16 ≡ false). ⊎-elim
-    (λ (b : bit T' h ≡ true). ⊎-elim (λ (u : eqb i 16 ≡ true). rw (t, b, u)) (λ (u : eqb i 16 ≡ false). rw (t, b, u)) (true-or-false (eqb i 16)))
-    (λ (b : bit T' h ≡ false). ⊎-elim (λ (u : eqb i 16 ≡ true). rw (t, b, u)) (λ (u : eqb i 16 ≡ false). rw (t, b, u)) (true-or-false (eqb i 16)))
+    (λ (b : bit T' h ≡ true).
+    ⊎-elim (λ (u : eqb i 16 ≡ true). rw (t, b, u)) (λ (u : eqb i 16 ≡ false). rw (t, b, u)) (true-or-false (eqb i 16)))
+    (λ (b : bit T' h ≡ false).
+    ⊎-elim (λ (u : eqb i 16 ≡ true). rw (t, b, u)) (λ (u : eqb i 16 ≡ false). rw (t, b, u)) (true-or-false (eqb i 16)))
     (true-or-false (bit T' h)))
     (true-or-false (eqb h 16))
 

@@ -10,12 +10,14 @@ use native.Mathlib.Omega.{arith}
 use Rattle.combinatorics.proofs.Basics.{before-or-not, same-or, true-or-false}
 use Rattle.combinatorics.proofs.EditsInsert.{insertAt-before, insertAt-behind, length-insertAt}
 use Rattle.combinatorics.proofs.EditsOfArrays.{found-low}
-use Rattle.combinatorics.proofs.EditsRemove.{length-removeAt, length-rotateRight, length-swapAt, removeAt-before, removeAt-behind, rotateRight-later}
+use Rattle.combinatorics.proofs.EditsRemove.{length-removeAt, length-rotateRight, length-swapAt, removeAt-before}
+use Rattle.combinatorics.proofs.EditsRemove.{removeAt-behind, rotateRight-later}
 use Rattle.combinatorics.proofs.EditsRotate.{length-rotateLeft, rotateLeft-before}
 use Rattle.combinatorics.specs.Edits.{found, insertAt, removeAt, rotateLeft, rotateRight, swapAt}
 use Rattle.grid.specs.Grid.{at}
 use Rattle.rules.specs.Mask.{bit}
-use Rattle.rules.specs.Step.{State, After, goes, endsAtPlace, endsAtFacet, firstOutside, firstOutsideOrZero, grow, isFilled, joined, leave, leaveFirst, leaveLast, leaveMiddle, shrink, sourceIn}
+use Rattle.rules.specs.Step.{State, After, goes, endsAtPlace, endsAtFacet, firstOutside, firstOutsideOrZero, grow}
+use Rattle.rules.specs.Step.{isFilled, joined, leave, leaveFirst, leaveLast, leaveMiddle, shrink, sourceIn}
 
 -- mark j of s is a mark of e, and not that of a point which has come in
 pub record Kept (s e : State) (j : ℕ) : Type 0 where
@@ -34,7 +36,8 @@ kept-of {s} {e} {j} {after} K q = subst (KeptAfter s j) q K
 
 module _ (s : State) (j : ℕ) (marked : length (s .marks) ≡ suc (length (s .order))) (low : j ≤ length (s .order)) where
   -- point i and entry e go
-  shrink-kept : (i e : ℕ) (intoU : Bool) → i ≤ length (s .order) → e < length (s .order) → (j ≡ i → ⊥) → Kept s (shrink s i e intoU) j
+  shrink-kept : (i e : ℕ) (intoU : Bool) → i ≤ length (s .order) → e < length (s .order) → (j ≡ i → ⊥)
+      → Kept s (shrink s i e intoU) j
   unfolding shrink
   shrink-kept i e intoU il el n =
       ⊎-elim
@@ -78,7 +81,8 @@ module _ (s : State) (j : ℕ) (marked : length (s .marks) ≡ suc (length (s .o
       let b = sourceIn s (at (s .order) i) in
       ⊎-elim
       (λ e. rw e (shrink-kept i (i - 1) true (omega arith) (omega arith) n))
-      (λ e. rw e (record { to = j; low = omega (arith, length-swapAt (i - 1) (s .order)); other = λ r. n; same = refl }))
+      (λ e.
+      rw e (record { to = j; low = omega (arith, length-swapAt (i - 1) (s .order)); other = λ r. n; same = refl }))
       (true-or-false (eqb (at (s .order) (i - 1)) b && eqb (at (s .first) b) 0))
 
   last-kept : 1 ≤ length (s .order) → (j ≡ length (s .order) → ⊥) → Kept s (leaveLast s) j
@@ -133,6 +137,11 @@ module _ (s : State) (j : ℕ) (marked : length (s .marks) ≡ suc (length (s .o
   grow-kept h =
       let ahead = firstOutside (s .round .next) (s .round .sizes) (s .U) h in
       let i = cond (bit (s .U) h) (found ahead 16 (s .order)) (length (s .order)) in
-      let il : i ≤ length (s .order) = ⊎-elim (λ f. rw f (omega (arith, found-low 0 ahead 16 (s .order)))) (λ f. rw f (omega arith)) (true-or-false (bit (s .U) h)) in
-      ⊎-elim (λ e. rw e refl) (λ e. rw e (joined-kept i h (cond (bit (s .U) h) 5 4) il))
+      let il : i ≤ length (s .order) = ⊎-elim
+      (λ f. rw f (omega (arith, found-low 0 ahead 16 (s .order))))
+      (λ f. rw f (omega arith))
+      (true-or-false (bit (s .U) h)) in
+      ⊎-elim
+      (λ e. rw e refl)
+      (λ e. rw e (joined-kept i h (cond (bit (s .U) h) 5 4) il))
       (true-or-false (not (bit (s .U) h) && isFilled (s .round) (s .T) (s .U) h))

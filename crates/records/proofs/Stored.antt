@@ -21,11 +21,14 @@ with7 d at bytes = set (with6 d at bytes) (at + 6) (getD bytes 6 0)
 
 module _ (d : List ℕ) (at : ℕ) (bytes : List ℕ) (eight : length bytes ≡ 8) where
   -- one byte more
-  more : {l : List ℕ} (j : ℕ) → l ≡ paste d at bytes j → at + j < length d → j < 8 → set l (at + j) (getD bytes j 0) ≡ paste d at bytes (suc j)
+  more : {l : List ℕ} (j : ℕ) → l ≡ paste d at bytes j → at + j < length d → j < 8
+      → set l (at + j) (getD bytes j 0) ≡ paste d at bytes (suc j)
   more j e f g = ap (λ (x : List ℕ). set x (at + j) (getD bytes j 0)) e ∙ paste-suc d at bytes j 0 f (omega arith)
 
   one : at < length d → set d at (getD bytes 0 0) ≡ paste d at bytes 1
-  one f = let z : at ≡ at + 0 = omega arith in ap (λ (i : ℕ). set d i (getD bytes 0 0)) z ∙ more 0 (paste-zero d at bytes) (omega arith) (omega arith)
+  one f =
+      let z : at ≡ at + 0 = omega arith in
+      ap (λ (i : ℕ). set d i (getD bytes 0 0)) z ∙ more 0 (paste-zero d at bytes) (omega arith) (omega arith)
 
   pub stored-3 : at + 3 ≤ length d → with3 d at bytes ≡ paste d at bytes 3
   stored-3 f = more 2 (more 1 (one (omega arith)) (omega arith) (omega arith)) (omega arith) (omega arith)

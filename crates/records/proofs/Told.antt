@@ -1,5 +1,5 @@
--- The record of a place, as trail/specs has it, by the masks of T and U before and after and the positions of the points that come in and go out.
--- Assumes nothing.
+-- The record of a place, as trail/specs has it, by the masks of T and U before and after and the positions of the
+-- points that come in and go out. Assumes nothing.
 use mathlib.Core.Bool.{true, false}
 use mathlib.Core.List.{List, [], _∷_}
 use mathlib.Core.Logic.{⊎-elim}
@@ -21,7 +21,8 @@ use Rattle.rules.specs.Mask.{bit}
 use Rattle.trail.proofs.Rules.{recorded}
 use Rattle.trail.proofs.Outside.{in-outside}
 use Rattle.trail.proofs.Shapes.{less-of}
-use Rattle.trail.specs.Change.{Change, change, changeBy, outside, ByRule, rule1, rule2, rule3, rule4, rule5, rule6, rule7}
+use Rattle.trail.specs.Change.{Change, change, changeBy, outside, ByRule, rule1, rule2, rule3, rule4, rule5, rule6}
+use Rattle.trail.specs.Change.{rule7}
 use Rattle.trail.specs.Record.{recordOf, recordBy}
 use Rattle.records.specs.Records.{differing, recordFrom, IsRecord}
 use Rattle.records.specs.declared.Record.{Record}
@@ -38,15 +39,19 @@ within-other u v q k m =
 
 module _ {a b : ℕ} {u v : List ℕ} (A : IsMask a u) (B : IsMask b v) where
   pub kept : outside eqb u v ≡ [] → outside eqb v u ≡ [] → eqb (differing a b) 16 ≡ true
-  kept e f = eq-eqb (differing a b) 16 (none-differs a b (λ k l. A .bits k l ∙ both _ _ (within-other u v f k) (within-other v u e k) ∙ sym (B .bits k l)))
+  kept e f = eq-eqb (differing a b) 16
+      (none-differs a b
+      (λ k l. A .bits k l ∙ both _ _ (within-other u v f k) (within-other v u e k) ∙ sym (B .bits k l)))
 
-  differs : {h : ℕ} → h < 16 → (bit a h ≡ bit b h → ⊥) → ((k : ℕ) → (k ≡ h → ⊥) → isIn eqb k u ≡ isIn eqb k v) → (eqb h 16 ≡ false) × (differing a b ≡ h)
+  differs : {h : ℕ} → h < 16 → (bit a h ≡ bit b h → ⊥) → ((k : ℕ) → (k ≡ h → ⊥) → isIn eqb k u ≡ isIn eqb k v)
+      → (eqb h 16 ≡ false) × (differing a b ≡ h)
   differs {h} l d rest = (
     ne-eqb h 16 (λ e. omega arith),
     only-differs a b h l d (λ k m n. A .bits k m ∙ rest k n ∙ sym (B .bits k m)),
   )
 
-  pub gained : {h : ℕ} → outside eqb u v ≡ h ∷ [] → outside eqb v u ≡ [] → (eqb h 16 ≡ false) × (differing a b ≡ h) × (bit b h ≡ true)
+  pub gained : {h : ℕ} → outside eqb u v ≡ h ∷ [] → outside eqb v u ≡ []
+      → (eqb h 16 ≡ false) × (differing a b ≡ h) × (bit b h ≡ true)
   gained {h} e f =
       let L = less-of v u e f in
       let l = B .below h L.has in
@@ -54,7 +59,8 @@ module _ {a b : ℕ} {u v : List ℕ} (A : IsMask a u) (B : IsMask b v) where
       let w = differs l (λ q. absurd-bool (sym y ∙ sym q ∙ A .bits h l ∙ L .out)) (λ k n. L .rest k n) in
       (w .0, w .1, y)
 
-  pub lost : {h : ℕ} → outside eqb u v ≡ [] → outside eqb v u ≡ h ∷ [] → (eqb h 16 ≡ false) × (differing a b ≡ h) × (bit b h ≡ false)
+  pub lost : {h : ℕ} → outside eqb u v ≡ [] → outside eqb v u ≡ h ∷ []
+      → (eqb h 16 ≡ false) × (differing a b ≡ h) × (bit b h ≡ false)
   lost {h} e f =
       let L = less-of u v f e in
       let l = A .below h L.has in
@@ -67,18 +73,24 @@ pub taken-record : {bytes : List ℕ} {r : Record} → IsRecord bytes r → take
 taken-record {bytes} R = rw (R .are, R .long) (front-taken bytes (replicate 8 0))
 
 -- stored from its array, or by its bytes
-pub pasted : {bytes : List ℕ} {r : Record} → IsRecord bytes r → (d : List ℕ) (at : ℕ) → paste d at (r .bytes) (r .length) ≡ paste d at bytes (length bytes)
+pub pasted : {bytes : List ℕ} {r : Record} → IsRecord bytes r → (d : List ℕ) (at : ℕ)
+    → paste d at (r .bytes) (r .length) ≡ paste d at bytes (length bytes)
 pasted {bytes} {r} R d at = rw (R .are, R .long, front-taken bytes (replicate 8 0), take-length bytes)
 
 module _ (p : Problem) (a b : Simplex) {T U T' U' y z : ℕ} (t : IsMask T (setT p a)) (t' : IsMask T' (setT p b))
     (u : IsMask U (setU p.grid a)) (u' : IsMask U' (setU p.grid b))
-    (come : (x : ℕ) → change p a b .pointsIn ≡ x ∷ [] → y ≡ x) (gone : (x : ℕ) → change p a b .pointsOut ≡ x ∷ [] → z ≡ x) where
+    (come : (x : ℕ) → change p a b .pointsIn ≡ x ∷ [] → y ≡ x)
+    (gone : (x : ℕ) → change p a b .pointsOut ≡ x ∷ [] → z ≡ x) where
   pub into : {i o t t' u u' : List ℕ} → change p a b ≡ changeBy i o t t' u u'
       → (outside eqb (setT p a) (setT p b) ≡ t) × (outside eqb (setT p b) (setT p a) ≡ t')
       × (outside eqb (setU p.grid a) (setU p.grid b) ≡ u) × (outside eqb (setU p.grid b) (setU p.grid a) ≡ u')
   unfolding change
-  into e =
-      (ap (λ (c : Change). c .intoT) e, ap (λ (c : Change). c .outOfT) e, ap (λ (c : Change). c .intoU) e, ap (λ (c : Change). c .outOfU) e)
+  into e = (
+    ap (λ (c : Change). c .intoT) e,
+    ap (λ (c : Change). c .outOfT) e,
+    ap (λ (c : Change). c .intoU) e,
+    ap (λ (c : Change). c .outOfU) e,
+  )
 
   go : {r : ℕ} (m : ByRule (change p a b) r) → recordFrom T U T' U' y z ≡ recordBy m
   unfolding recordFrom
@@ -91,12 +103,26 @@ module _ (p : Problem) (a b : Simplex) {T U T' U' y z : ℕ} (t : IsMask T (setT
       let i = into e in
       let d = kept t t' (i .0) (i .1) in
       let f = gained u u' (i .2) (i .3) in
-      rw (d, f .1, f .0, f .2, come x (ap (λ (c : Change). c .pointsIn) e), gone w (ap (λ (c : Change). c .pointsOut) e))
+      rw (
+        d,
+        f .1,
+        f .0,
+        f .2,
+        come x (ap (λ (c : Change). c .pointsIn) e),
+        gone w (ap (λ (c : Change). c .pointsOut) e),
+      )
   go (rule3 x w h e) =
       let i = into e in
       let d = kept t t' (i .0) (i .1) in
       let f = lost u u' (i .2) (i .3) in
-      rw (d, f .1, f .0, f .2, come x (ap (λ (c : Change). c .pointsIn) e), gone w (ap (λ (c : Change). c .pointsOut) e))
+      rw (
+        d,
+        f .1,
+        f .0,
+        f .2,
+        come x (ap (λ (c : Change). c .pointsIn) e),
+        gone w (ap (λ (c : Change). c .pointsOut) e),
+      )
   go (rule4 x h e) =
       let i = into e in
       let d = gained t t' (i .0) (i .1) in

@@ -1,5 +1,6 @@
--- A record's bytes by masks: T and U at the place before and at the place. A mask tells which index its set gains or loses. The promises of the writer
--- and the reader cite trail/specs; proofs/ shows that these bytes are theirs. Assumes nothing.
+-- A record's bytes by masks: T and U at the place before and at the place. A mask tells which index its set gains or
+-- loses. The promises of the writer and the reader cite trail/specs; proofs/ shows that these bytes are theirs.
+-- Assumes nothing.
 use mathlib.Core.Bool.{Bool, true, false, Bool·beq, cond}
 use mathlib.Core.List.{List, [], _∷_, _++_}
 use mathlib.Core.Path.{_≡_}
@@ -28,17 +29,19 @@ keptRecord y z = 67 ∷ bytes16 y ++ bytes16 z ++ (1 ∷ [])
 abbrev pub exchangedRecord : ℕ → ℕ → ℕ → ℕ → List ℕ
 exchangedRecord U U' y z =
     let h = differing U U' in
-    cond (eqb h 16)
-    (keptRecord y z)
-    (cond (bit U' h) (83 ∷ bytes16 y ++ bytes16 z ++ (suc h ∷ 2 ∷ [])) (99 ∷ bytes16 y ++ bytes16 z ++ (suc h ∷ 3 ∷ [])))
+    cond (eqb h 16) (keptRecord y z)
+    (cond (bit U' h) (83 ∷ bytes16 y ++ bytes16 z ++ (suc h ∷ 2 ∷ []))
+    (99 ∷ bytes16 y ++ bytes16 z ++ (suc h ∷ 3 ∷ [])))
 
 -- index h comes into T
 abbrev pub joinedRecord : ℕ → ℕ → ℕ → ℕ → List ℕ
-joinedRecord U U' h y = cond (eqb (differing U U') 16) (69 ∷ bytes16 y ++ (suc h ∷ 4 ∷ [])) (101 ∷ bytes16 y ++ (suc h ∷ suc h ∷ 5 ∷ []))
+joinedRecord U U' h y =
+    cond (eqb (differing U U') 16) (69 ∷ bytes16 y ++ (suc h ∷ 4 ∷ [])) (101 ∷ bytes16 y ++ (suc h ∷ suc h ∷ 5 ∷ []))
 
 -- index h goes out of T
 abbrev pub leftRecord : ℕ → ℕ → ℕ → ℕ → List ℕ
-leftRecord U U' h z = cond (eqb (differing U U') 16) (74 ∷ bytes16 z ++ (suc h ∷ 7 ∷ [])) (90 ∷ bytes16 z ++ (suc h ∷ suc h ∷ 6 ∷ []))
+leftRecord U U' h z =
+    cond (eqb (differing U U') 16) (74 ∷ bytes16 z ++ (suc h ∷ 7 ∷ [])) (90 ∷ bytes16 z ++ (suc h ∷ suc h ∷ 6 ∷ []))
 
 unfoldable pub recordFrom : ℕ → ℕ → ℕ → ℕ → ℕ → ℕ → List ℕ
 recordFrom T U T' U' y z =

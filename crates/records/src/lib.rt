@@ -1,5 +1,7 @@
-// The record of a place, as bytes, by T and U at the place before it and at the place, and by the positions of the points
-// that come in and go out. What is public here is for the writer and the reader of a trail, which show what it asks.
+// The record of a place, as bytes, by T and U at the place before it and at the place, and by the positions of the
+// points that come in and go out. What is public here is for the writer and the reader of a trail, which show what it
+// asks.
+ghost use mathlib.Core.Bool.{cond};
 ghost use mathlib.Core.Path.{_≡_};
 ghost use Prim.Native.Nat.{ℕ, suc, _+_, _/_, _%_, _≤_, _<_};
 ghost use lib.Dec.{eqb};
@@ -153,7 +155,8 @@ pub fn record_of(before: Sets, after: Sets, come: usize, gone: usize) -> Record
 
 // How many bytes the record of a place behind the first has: the sets alone tell, whatever points come in and go out.
 pub fn length_of(before: Sets, after: Sets) -> usize
-    ensures { λ r. ⌜ ((come gone : ℕ) → r ≡ length (recordFrom (before .t) (before .u) (after .t) (after .u) come gone)) ⌝ }
+    ensures { λ r. ⌜ ((come gone : ℕ)
+        → r ≡ length (recordFrom (before .t) (before .u) (after .t) (after .u) come gone)) ⌝ }
 {
     let kept = alike(before.u, after.u);
     if alike(before.t, after.t) {
@@ -280,23 +283,31 @@ fn exchange_stands(trail: &[u8], at: usize, come: usize, gone: usize) -> bool
     trail[at + 5] == 1
 }
 
-// The bytes of the trail from a position on begin with the record of a place behind the first.
-pub fn change_stands(
+// How many bytes the record of a place behind the first has, where the bytes of the trail from a position on begin with
+// it; else 0. With T and U kept the number is known before the bytes are compared.
+pub fn standing_bytes(
     trail: &[u8],
     at: usize,
     before: Sets,
     after: Sets,
     come: usize,
     gone: usize,
-) -> bool
+) -> usize
     requires { ⌜ (at ≤ length (now trail)) × (come < 65536) × (gone < 65536) ⌝ }
-    ensures { λ r. ⌜ r ≡ begins (recordFrom (before .t) (before .u) (after .t) (after .u) come gone)
-        (drop at (now (trail .entry))) ⌝ }
+    ensures { λ r. let bytes = recordFrom (before .t) (before .u) (after .t) (after .u) come gone in
+        ⌜ r ≡ cond (begins bytes (drop at (now (trail .entry)))) (length bytes) 0 ⌝ }
 {
     if alike(before.t, after.t) {
         if alike(before.u, after.u) {
-            return exchange_stands(trail, at, come, gone);
+            if exchange_stands(trail, at, come, gone) {
+                return 6;
+            }
+            return 0;
         }
     }
-    stands(trail, at, record_of(before, after, come, gone))
+    let made = record_of(before, after, come, gone);
+    if stands(trail, at, made) {
+        return made.length;
+    }
+    0
 }

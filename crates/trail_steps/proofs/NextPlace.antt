@@ -33,9 +33,11 @@ use Rattle.trail.specs.Record.{recordOf}
 use Rattle.trail.specs.Trail.{begins, rebuiltFrom}
 use Rattle.trail_places.proofs.Reached.{Arrives, stored}
 use Rattle.trail_places.specs.Shows.{Shows, bare}
-use Rattle.trail_steps.proofs.Arrived.{OnlyPlace, WayLeads, goes-on, inside, leadsNowhere, leadsOn, not-there, position-low, record-is}
+use Rattle.trail_steps.proofs.Arrived.{OnlyPlace, WayLeads, goes-on, inside, leadsNowhere, leadsOn, not-there}
+use Rattle.trail_steps.proofs.Arrived.{position-low, record-is}
 use Rattle.trail_steps.proofs.Named.{shows-few}
-use Rattle.trail_steps.specs.Ways.{CanFind, GoesTo, HasRead, Leads, Stands, comeIn, goneBy, problemBy, recordMade, wayOf}
+use Rattle.trail_steps.specs.Ways.{CanFind, GoesTo, HasRead, Leads, Stands, comeIn, goneBy, problemBy, recordMade}
+use Rattle.trail_steps.specs.Ways.{wayOf}
 use Rattle.trail_steps.specs.declared.Next.{Next}
 use Rattle.trail_steps.specs.declared.Next.the-variants.{At, Nowhere}
 use Rattle.trail_steps.specs.declared.Way.{Way}
@@ -43,7 +45,8 @@ use Rattle.trail_steps.specs.declared.Way.the-variants.{Joins, Leaves, N
 
 -- what the marks and the status alone tell is what the state tells
 pub same-way : (m n : ℕ) (round : Round) (first coefficients order marks : List ℕ) (s : Status) (bytes : List ℕ)
-    → wayOf m n (stateOf noRound [] [] [] marks s) bytes ≡ wayOf m n (stateOf round first coefficients order marks s) bytes
+    → wayOf m n (stateOf noRound [] [] [] marks s) bytes
+    ≡ wayOf m n (stateOf round first coefficients order marks s) bytes
 unfolding wayOf
 same-way m n round first coefficients order marks s bytes = refl
 
@@ -54,21 +57,24 @@ same-gone round first coefficients order marks s (Joins h) = refl
 same-gone round first coefficients order marks s Nothing = refl
 
 -- the mark that is stored in its array
-stored-in : (round : Round) (first coefficients order marks : List ℕ) (s : Status) (c : ℕ) → (s .rule < 6 → s .active ≤ s .count)
-    → stateOf round first coefficients order (cond (ltb (s .rule) 6) (set marks (s .active) c) marks) s ≡ stored (stateOf round first coefficients order marks s) c
-stored-in round first coefficients order marks s c low =
-    ⊎-elim
-    (λ (r : s .rule < 6). rw (lt-ltb (s .rule) 6 r, take-set-lt (suc (s .count)) marks (s .active) c (omega (arith, low r))))
-    (λ (r : 6 ≤ s .rule). rw (le-ltb (s .rule) 6 r)) (before-or-not (s .rule) 6)
+stored-in : (round : Round) (first coefficients order marks : List ℕ) (s : Status) (c : ℕ)
+    → (s .rule < 6 → s .active ≤ s .count)
+    → stateOf round first coefficients order (cond (ltb (s .rule) 6) (set marks (s .active) c) marks) s
+    ≡ stored (stateOf round first coefficients order marks s) c
+stored-in round first coefficients order marks s c low = ⊎-elim
+    (λ (r : s .rule < 6).
+    rw (lt-ltb (s .rule) 6 r, take-set-lt (suc (s .count)) marks (s .active) c (omega (arith, low r))))
+    (λ (r : 6 ≤ s .rule). rw (le-ltb (s .rule) 6 r))
+    (before-or-not (s .rule) 6)
 
-module _ (g : GridStruct) (made : IsMade g) (start tails : List ℕ) {a : Simplex} {s : State} (H : HasRead g start tails a s) (trail : List ℕ) (at n : ℕ)
-    (count : n ≡ H .shows .t) where
+module _ (g : GridStruct) (made : IsMade g) (start tails : List ℕ) {a : Simplex} {s : State}
+    (H : HasRead g start tails a s) (trail : List ℕ) (at n : ℕ) (count : n ≡ H .shows .t) where
   abbrev p : Problem
   p = problemBy g start
 
   -- after the move, in its arrays
-  module _ (previous next sizes first coefficients order marks : List ℕ) (status : Status) (each : SixteenEach order marks)
-      (below : RoundBelow (roundOf previous next sizes)) (gone : ℕ) where
+  module _ (previous next sizes first coefficients order marks : List ℕ) (status : Status)
+      (each : SixteenEach order marks) (below : RoundBelow (roundOf previous next sizes)) (gone : ℕ) where
     abbrev after : State
     after = stateOf (roundOf previous next sizes) first coefficients order marks status
 
@@ -84,11 +90,17 @@ module _ (g : GridStruct) (made : IsMade g) (start tails : List ℕ) {a : Simple
       held = A .shows (comeIn g back * 256) (λ r. rw (come-is r) (omega arith))
 
       many : length (take (status .count) order) ≡ status .count
-      many = counted order (status .count) (each .inOrder) (omega (arith, held .orderLength, shows-few (H .settled) held))
+      many =
+          counted order (status .count) (each .inOrder) (omega (arith, held .orderLength, shows-few (H .settled) held))
 
       pub can-find : status .rule < 6 → CanFind g tails back status
       can-find r = record {
-        reads = record { below = below .backward; firstLength = held .firstLength; point = A .reads r; onGrid = A .onGrid r };
+        reads = record {
+          below = below .backward;
+          firstLength = held .firstLength;
+          point = A .reads r;
+          onGrid = A .onGrid r;
+        };
         marks = marks-back g previous next sizes first coefficients order marks status tails (record {
           square = A .square;
           beside = λ one. A .beside r (sym (made-blocks g made) ∙ one) tails (H .sums);
@@ -101,7 +113,8 @@ module _ (g : GridStruct) (made : IsMade g) (start tails : List ℕ) {a : Simple
           ⊎-elim (λ (r : status .rule < 6). rw (lt-ltb (status .rule) 6 r) (position-low (H .settled) _ (A .onGrid r)))
           (λ (r : 6 ≤ status .rule). rw (le-ltb (status .rule) 6 r) (omega arith)) (before-or-not (status .rule) 6)
 
-      made-is : ((x : ℕ) → change p a b .pointsOut ≡ x ∷ [] → gone ≡ x) → (before : Sets) → before .t ≡ s .T → before .u ≡ s .U
+      made-is : ((x : ℕ) → change p a b .pointsOut ≡ x ∷ [] → gone ≡ x) → (before : Sets) → before .t ≡ s .T
+          → before .u ≡ s .U
           → recordMade g back before gone ≡ recordOf p a b
       made-is out before t u = rw (t, u) (record-is (H .settled) (H .shows) A (comeIn g back) gone come-is out)
 
@@ -109,47 +122,58 @@ module _ (g : GridStruct) (made : IsMade g) (start tails : List ℕ) {a : Simple
       unfolding recordOf
       some-bytes = record-short (A .byRule .1) .0
 
-      module _ (O : OnlyPlace (H .settled) (H .shows) (drop at trail) n count b) (out : (x : ℕ) → change p a b .pointsOut ≡ x ∷ [] → gone ≡ x) (before : Sets)
-          (t : before .t ≡ s .T) (u : before .u ≡ s .U) (low : at ≤ length trail) where
+      module _ (O : OnlyPlace (H .settled) (H .shows) (drop at trail) n count b)
+          (out : (x : ℕ) → change p a b .pointsOut ≡ x ∷ [] → gone ≡ x) (before : Sets) (t : before .t ≡ s .T)
+          (u : before .u ≡ s .U) (low : at ≤ length trail) where
         pub to : (new : List ℕ) (r : Next) → Stands g back before gone (drop at trail) status marks new r
             → GoesTo g start trail a at order new (stateOf (roundOf previous next sizes) first coefficients order new) r
         to new (At status' bytes) W =
             let same = made-is out before t u in
-            let yes : begins (recordOf p a b) (drop at trail) ≡ true = subst (λ (r : List ℕ). begins r (drop at trail) ≡ true) same (W .0) in
+            let yes : begins (recordOf p a b) (drop at trail) ≡ true =
+            subst (λ (r : List ℕ). begins r (drop at trail) ≡ true) same (W .0) in
             let bytes-are : bytes ≡ length (recordOf p a b) = W .2 ∙ ap length same in
             let fits = inside (H .settled) (H .shows) (drop at trail) n count b yes in
-            let state : stateOf (roundOf previous next sizes) first coefficients order new status' ≡ stored after (comeIn g back * 256) =
+            let state : stateOf (roundOf previous next sizes) first coefficients order new status'
+            ≡ stored after (comeIn g back * 256) =
             ap (λ (x : Status). stateOf (roundOf previous next sizes) first coefficients order new x) (W .1)
             ∙ ap (λ (m : List ℕ). stateOf (roundOf previous next sizes) first coefficients order m status) (W .3)
-            ∙ stored-in (roundOf previous next sizes) first coefficients order marks status (comeIn g back * 256) (λ r. omega (arith, A .active r, many)) in
+            ∙ stored-in (roundOf previous next sizes) first coefficients order marks status (comeIn g back * 256)
+            (λ r. omega (arith, A .active r, many)) in
             record {
               next = b;
               shows = subst (Shows p b) (sym state) held;
               each = record { inOrder = each .inOrder; inMarks = ap length (W .3) ∙ sixteen };
-              many = ap (λ (x : Status). length (take (x .count) order)) (W .1) ∙ many ∙ ap (λ (x : Status). x .count) (sym (W .1));
+              many = ap (λ (x : Status). length (take (x .count) order)) (W .1)
+                  ∙ many
+                  ∙ ap (λ (x : Status). x .count) (sym (W .1));
               inside = omega (arith, fits, length-drop at trail, bytes-are, low);
               some = omega (arith, some-bytes, bytes-are);
               reads = λ k. goes-on (H .settled) (H .shows) (drop at trail) n count O yes k
-                  ∙ ap (rebuiltFrom p k b) (ap (λ (m : ℕ). drop m (drop at trail)) (sym bytes-are) ∙ drop-drop bytes at trail);
+                  ∙ ap (rebuiltFrom p k b)
+                  (ap (λ (m : ℕ). drop m (drop at trail)) (sym bytes-are) ∙ drop-drop bytes at trail);
             }
           where
             sixteen : length (cond (ltb (status .rule) 6) (set marks (status .active) (comeIn g back * 256)) marks) ≡ 16
-            sixteen =
-                ⊎-elim (λ (r : status .rule < 6). rw (lt-ltb (status .rule) 6 r) (length-set marks (status .active) _ ∙ each .inMarks))
-                (λ (r : 6 ≤ status .rule). rw (le-ltb (status .rule) 6 r) (each .inMarks)) (before-or-not (status .rule) 6)
+            sixteen = ⊎-elim
+                (λ (r : status .rule < 6).
+                rw (lt-ltb (status .rule) 6 r) (length-set marks (status .active) _ ∙ each .inMarks))
+                (λ (r : 6 ≤ status .rule). rw (le-ltb (status .rule) 6 r) (each .inMarks))
+                (before-or-not (status .rule) 6)
         to new Nowhere W =
             not-there (H .settled) (H .shows) (drop at trail) n count O
-            (subst (λ (r : List ℕ). begins r (drop at trail) ≡ false) (made-is out before t u) (W .0))
+            (subst (λ (r : List ℕ). begins r (drop at trail) ≡ false) (made-is out before t u) W)
 
 -- the cases of what a way leads to
-module _ {g : GridStruct} {start tails : List ℕ} {a : Simplex} {s : State} (H : HasRead g start tails a s) (bytes : List ℕ) (n : ℕ) (count : n ≡ H .shows .t) (gone : ℕ) where
+module _ {g : GridStruct} {start tails : List ℕ} {a : Simplex} {s : State} (H : HasRead g start tails a s)
+    (bytes : List ℕ) (n : ℕ) (count : n ≡ H .shows .t) (gone : ℕ) where
   pub on : {f : State} → WayLeads (H .settled) (H .shows) bytes n count gone (goes f)
       → (b : Simplex) × Arrives (problemBy g start) a b f × OnlyPlace (H .settled) (H .shows) bytes n count b
       × ((x : ℕ) → change (problemBy g start) a b .pointsOut ≡ x ∷ [] → gone ≡ x)
   on (leadsOn b A O out) = (b, A, O, out)
   on {f} (leadsNowhere h k) = absurd (h f refl)
 
-  pub nowhere : {after : After} → WayLeads (H .settled) (H .shows) bytes n count gone after → ((f : State) → after ≡ goes f → ⊥)
-      → (k : ℕ) → rebuiltFrom (problemBy g start) (suc k) a bytes ≡ none
+  pub nowhere : {after : After} → WayLeads (H .settled) (H .shows) bytes n count gone after
+      → ((f : State) → after ≡ goes f → ⊥) → (k : ℕ)
+      → rebuiltFrom (problemBy g start) (suc k) a bytes ≡ none
   nowhere (leadsOn {f} b A O out) h k = absurd (h f refl)
   nowhere (leadsNowhere h e) _ k = e k

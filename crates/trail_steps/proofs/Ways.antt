@@ -37,21 +37,39 @@ module _ (m n : ℕ) (s : State) (trail : List ℕ) (at : ℕ) where
 
       pub short-out : length trail - at < from + 2 → Nothing ≡ wayOf m n s (drop at trail)
       unfolding wayOf
-      short-out l = rw (other, same-byte, eq-eqb (byte / 2 % 2) 1 out, lt-leb (from + 2) (length bytes) (omega (arith, long)))
+      short-out l =
+          rw (other, same-byte, eq-eqb (byte / 2 % 2) 1 out, lt-leb (from + 2) (length bytes) (omega (arith, long)))
 
-      pub way-out : from + 2 ≤ length trail - at → (z : ℕ) → z ≡ getD trail (at + from) 0 + 256 * getD trail (suc (at + from)) 0
+      pub way-out : from + 2 ≤ length trail - at → (z : ℕ)
+          → z ≡ getD trail (at + from) 0 + 256 * getD trail (suc (at + from)) 0
           → leaving s n z ≡ wayOf m n s (drop at trail)
       unfolding wayOf
       way-out l z e =
           let f : at + suc from ≡ suc (at + from) = omega arith in
-          rw (other, same-byte, eq-eqb (byte / 2 % 2) 1 out, le-leb (from + 2) (length bytes) (omega (arith, long)), getD-drop at trail from 0, getD-drop at trail (suc from) 0, f, ← e)
+          rw (
+            other,
+            same-byte,
+            eq-eqb (byte / 2 % 2) 1 out,
+            le-leb (from + 2) (length bytes) (omega (arith, long)),
+            getD-drop at trail from 0,
+            getD-drop at trail (suc from) 0,
+            f,
+            ← e,
+          )
 
     module _ (into : byte / 2 % 2 ≡ 1 → ⊥) where
       pub short-into : length trail - at < 4 → Nothing ≡ wayOf m n s (drop at trail)
       unfolding wayOf
       short-into l = rw (other, same-byte, ne-eqb (byte / 2 % 2) 1 into, lt-leb 4 (length bytes) (omega (arith, long)))
 
-      pub way-into : 4 ≤ length trail - at → (b : ℕ) → b ≡ getD trail (at + 3) 0 → joining (s .T) m b ≡ wayOf m n s (drop at trail)
+      pub way-into : 4 ≤ length trail - at → (b : ℕ) → b ≡ getD trail (at + 3) 0
+          → joining (s .T) m b ≡ wayOf m n s (drop at trail)
       unfolding wayOf
-      way-into l b e =
-          rw (other, same-byte, ne-eqb (byte / 2 % 2) 1 into, le-leb 4 (length bytes) (omega (arith, long)), getD-drop at trail 3 0, ← e)
+      way-into l b e = rw (
+        other,
+        same-byte,
+        ne-eqb (byte / 2 % 2) 1 into,
+        le-leb 4 (length bytes) (omega (arith, long)),
+        getD-drop at trail 3 0,
+        ← e,
+      )

@@ -1,5 +1,5 @@
--- What a record at the front of bytes names, and what one record of a reading asks and gives. The reader's own promise does not cite it.
--- Assumes nothing.
+-- What a record at the front of bytes names, and what one record of a reading asks and gives. The reader's own promise
+-- does not cite it. Assumes nothing.
 use mathlib.Core.Bool.{true, false, _&&_, cond}
 use mathlib.Core.List.{List, [], map}
 use mathlib.Core.Option.{none}
@@ -45,8 +45,8 @@ leaving s n z = let i = found z 16 (map markPosition (s .marks)) in cond (leb i 
 abbrev pub joining : ℕ → ℕ → ℕ → Way
 joining T m b = cond (leb 1 b && leb b m) (cond (bit T (b - 1)) Nothing (Joins (b - 1))) Nothing
 
--- by the map byte at the front: bit 1 stands for a point that goes out, whose position stands behind that of a point that comes in, if bit 0 stands;
--- without it an index comes into T. m indices, n steps.
+-- by the map byte at the front: bit 1 stands for a point that goes out, whose position stands behind that of a point
+-- that comes in, if bit 0 stands; without it an index comes into T. m indices, n steps.
 unfoldable pub wayOf : ℕ → ℕ → State → List ℕ → Way
 wayOf m n s bytes =
     let byte = getD bytes 0 0 in
@@ -94,12 +94,12 @@ pub record CanStand (g : GridStruct) (a : State) (gone marks room at : ℕ) : Ty
   pub sixteen : marks ≡ 16
   pub low : at ≤ room
 
--- where the bytes begin with it, the mark of the point that has come in is stored
+-- the mark of the point that has come in is stored, and the bytes begin with the record; or they do not
 abbrev pub Stands : GridStruct → State → Sets → ℕ → List ℕ → Status → List ℕ → List ℕ → Next → Type 0
 Stands g a before gone bytes s old new (At status length') =
     (begins (recordMade g a before gone) bytes ≡ true) × (status ≡ s) × (length' ≡ length (recordMade g a before gone))
     × (new ≡ cond (ltb (a .rule) 6) (set old (a .active) (comeIn g a * 256)) old)
-Stands g a before gone bytes s old new Nowhere = (begins (recordMade g a before gone) bytes ≡ false) × (new ≡ old)
+Stands g a before gone bytes s old new Nowhere = begins (recordMade g a before gone) bytes ≡ false
 
 -- grid and start; the label table is not looked at
 abbrev pub problemBy : GridStruct → List ℕ → Problem
@@ -112,7 +112,8 @@ pub record HasRead (g : GridStruct) (start tails : List ℕ) (a : Simplex) (s : 
   pub sums : (k : ℕ) → k < numIndices (shape g) → at tails k ≡ tailFrom (shape g) start k
 
 -- what the next record asks
-pub record CanGoOn (g : GridStruct) (binomials tails order marks : List ℕ) (s : State) (count room at : ℕ) : Type 0 where
+pub record CanGoOn (g : GridStruct) (binomials tails order marks : List ℕ) (s : State) (count room at : ℕ)
+    : Type 0 where
   pub measured : Measured g binomials
   pub below : RoundBelow (s .round)
   pub each : SixteenEach order marks
@@ -121,19 +122,24 @@ pub record CanGoOn (g : GridStruct) (binomials tails order marks : List ℕ) (s 
   pub low : at ≤ room
 
 -- the record leads from the place a to the place b
-pub record Leads (g : GridStruct) (start trail : List ℕ) (a : Simplex) (at : ℕ) (order marks : List ℕ) (s : State) (count bytes : ℕ) : Type 0 where
+pub record Leads (g : GridStruct) (start trail : List ℕ) (a : Simplex) (at : ℕ) (order marks : List ℕ) (s : State)
+    (count bytes : ℕ) : Type 0 where
   pub next : Simplex
   pub shows : Shows (problemBy g start) next s
   pub each : SixteenEach order marks
   pub many : length (s .order) ≡ count
   pub inside : at + bytes ≤ length trail
   pub some : 1 ≤ bytes
-  pub reads : (n : ℕ) → rebuiltFrom (problemBy g start) (suc n) a (drop at trail) ≡ rebuiltFrom (problemBy g start) n next (drop (at + bytes) trail)
+  pub reads : (n : ℕ)
+      → rebuiltFrom (problemBy g start) (suc n) a (drop at trail)
+      ≡ rebuiltFrom (problemBy g start) n next (drop (at + bytes) trail)
 
 -- what a record leads to, by the state that the arrays hold with a status
 abbrev pub GoesTo : GridStruct → List ℕ → List ℕ → Simplex → ℕ → List ℕ → List ℕ → (Status → State) → Next → Type 0
-GoesTo g start trail a at order marks s (At status bytes) = Leads g start trail a at order marks (s status) (status .count) bytes
-GoesTo g start trail a at order marks s Nowhere = (n : ℕ) → rebuiltFrom (problemBy g start) (suc n) a (drop at trail) ≡ none
+GoesTo g start trail a at order marks s (At status bytes) =
+    Leads g start trail a at order marks (s status) (status .count) bytes
+GoesTo g start trail a at order marks s Nowhere =
+    (n : ℕ) → rebuiltFrom (problemBy g start) (suc n) a (drop at trail) ≡ none
 
 -- from whatever place the arrays held
 abbrev pub ReadsOn : GridStruct → List ℕ → List ℕ → ℕ → State → List ℕ → List ℕ → (Status → State) → Next → Type 0

@@ -1,5 +1,5 @@
-// One record of a reading: what it names, the move, and whether its bytes are those of the change. What is public here is
-// for the reader, which shows what it asks.
+// One record of a reading: what it names, the move, and whether its bytes are those of the change. What is public here
+// is for the reader, which shows what it asks.
 ghost use mathlib.Core.List.{map};
 ghost use mathlib.Core.Path.{_≡_};
 ghost use Prim.Native.Nat.{ℕ, suc, _+_, _*_, _≤_, _<_};
@@ -22,8 +22,7 @@ use moves::grow;
 use moves::leave;
 use positions::ENTRIES;
 use records::Sets;
-use records::change_stands;
-use records::length_of;
+use records::standing_bytes;
 
 // What a record names: the point that leaves, by its number; or the index that joins T.
 pub enum Way {
@@ -211,8 +210,8 @@ fn come_in(
     0
 }
 
-// The move has been made: where the bytes of the trail begin with the record of the change, the mark of the point that has
-// come in is stored, and its label left open.
+// The move has been made: the mark of the point that has come in is stored, its label left open, and the bytes of the
+// trail are compared with the record of the change.
 fn arrive(
     g: Grid,
     binomials: &[u16; ENTRIES],
@@ -248,14 +247,14 @@ fn arrive(
         marks,
         s,
     );
-    let after = Sets { t: s.t, u: s.u };
-    if !change_stands(trail, at, before, after, come, gone) {
-        return Next::Nowhere;
-    }
-    let bytes = length_of(before, after);
     if s.rule < 6 {
         let i = s.active;
         marks[i] = come as u32 * 256;
+    }
+    let after = Sets { t: s.t, u: s.u };
+    let bytes = standing_bytes(trail, at, before, after, come, gone);
+    if bytes == 0 {
+        return Next::Nowhere;
     }
     Next::At { status: s, bytes }
 }
@@ -281,7 +280,8 @@ pub fn next_place(
     requires { λ a. ⌜ CanGoOn g (now binomials) (now tails) (now order) (now marks) a (s .count)
         (length (now trail)) at ⌝ }
     ensures { λ a r. ⌜ ReadsOn g (now (tails .entry)) (now (trail .entry)) at a (now (order .exit)) (now (marks .exit))
-        (stateOf (a .round) (now (first .exit)) (now (coefficients .exit)) (now (order .exit)) (now (marks .exit))) r ⌝ }
+        (stateOf (a .round) (now (first .exit)) (now (coefficients .exit)) (now (order .exit))
+        (now (marks .exit))) r ⌝ }
 {
     let way = way_on(trail, at, marks, s, g.indices);
     let gone = gone_by(way, marks, s);

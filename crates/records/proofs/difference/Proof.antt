@@ -1,5 +1,5 @@
--- `records::difference` meets its contract. The invariant: the search from here finds what the whole search finds. The measure: the indices left.
--- Assumes nothing.
+-- `records::difference` meets its contract. The invariant: the search from here finds what the whole search finds. The
+-- measure: the indices left. Assumes nothing.
 use mathlib.Core.Bool.{true, false, Bool·beq}
 use mathlib.Core.Path.{_≡_, refl, sym, ap, _∙_}
 use Prim.Native.Nat.{ℕ, suc, _+_, _-_, _≤_}
@@ -40,8 +40,14 @@ loop-again : tie.Need-loop-again Inv-loop μ-loop
 loop-again c =
     let a = c .before .before .before .before .before .before .args in
     let l = c .before .before .before .before .loop in
-    let same : Bool·beq (bit (a .a) (l .h)) (bit (a .b) (l .h)) ≡ true = rw (← c .before .before .has .ensures, ← c .before .has2 .ensures) (not-false _ (c .if2 .left)) in
-    (rw (add-one (l .h)) (sym (differs-later (a .a) (a .b) (16 - suc (l .h)) (l .h) same) ∙ ap (λ (n : ℕ). differingFrom (a .a) (a .b) n (l .h)) (omega arith) ∙ l .inv .0), omega arith)
+    let same : Bool·beq (bit (a .a) (l .h)) (bit (a .b) (l .h)) ≡ true =
+    rw (← c .before .before .has .ensures, ← c .before .has2 .ensures) (not-false _ (c .if2 .left)) in (
+      rw (add-one (l .h))
+          (sym (differs-later (a .a) (a .b) (16 - suc (l .h)) (l .h) same)
+          ∙ ap (λ (n : ℕ). differingFrom (a .a) (a .b) n (l .h)) (omega arith)
+          ∙ l .inv .0),
+      omega arith,
+    )
 
 returns-2 : tie.Need-returns-2 Inv-loop μ-loop
 returns-2 c =
@@ -53,7 +59,8 @@ returns-3 : tie.Need-returns-3 Inv-loop μ-loop
 returns-3 c =
     let a = c .before .before .before .before .before .before .args in
     let l = c .before .before .before .before .loop in
-    let other : Bool·beq (bit (a .a) (l .h)) (bit (a .b) (l .h)) ≡ false = rw (← c .before .before .has .ensures, ← c .before .has2 .ensures) (not-true _ (c .if2 .taken)) in
+    let other : Bool·beq (bit (a .a) (l .h)) (bit (a .b) (l .h)) ≡ false =
+    rw (← c .before .before .has .ensures, ← c .before .has2 .ensures) (not-true _ (c .if2 .taken)) in
     (sym (differs-here (a .a) (a .b) (16 - l .h) (l .h) other) ∙ l .inv .0, omega arith)
 
 pub difference-spec : {M : Type 1} → statement M

@@ -18,7 +18,8 @@ sub-if1 c = search needs
 returns : tie.Need-returns
 returns c =
     let a = c .before .before .args in
-    sym (begins-short (keptRecord (a .come) (a .gone)) (drop (a .at) (a .trail .now)) (omega (arith, length-drop (a .at) (a .trail .now), c .if1 .taken)))
+    sym (begins-short (keptRecord (a .come) (a .gone)) (drop (a .at) (a .trail .now))
+    (omega (arith, length-drop (a .at) (a .trail .now), c .if1 .taken)))
 
 shared-slice-read-if2 : tie.Need-shared-slice-read-if2
 shared-slice-read-if2 c = search needs
@@ -27,7 +28,8 @@ returns-2 : tie.Need-returns-2
 returns-2 c =
     let a = c .before .before .before .before .args in
     let bytes = keptRecord (a .come) (a .gone) in
-    let fits : a .at + 6 ≤ length (a .trail .now) = omega (arith, c .before .before .before .before .pre, c .before .before .if1 .left) in
+    let fits : a .at + 6 ≤ length (a .trail .now) =
+    omega (arith, c .before .before .before .before .pre, c .before .before .if1 .left) in
     sym (first-apart bytes (a .trail .now) (a .at) 6 fits (omega arith) (omega arith) (c .if2 .taken))
 
 add-word-stands : tie.Need-add-word-stands
@@ -40,7 +42,11 @@ returns-3 : tie.Need-returns-3
 returns-3 c =
     let a = c .before .before .before .before .before .before .args in
     let bytes = keptRecord (a .come) (a .gone) in
-    let fits : a .at + 6 ≤ length (a .trail .now) = omega (arith, c .before .before .before .before .before .before .pre, c .before .before .before .before .if1 .left) in
+    let fits : a .at + 6 ≤ length (a .trail .now) = omega (
+      arith,
+      c .before .before .before .before .before .before .pre,
+      c .before .before .before .before .if1 .left,
+    ) in
     let no = rw (not-true (c .before .word-stands .result) (c .if3 .taken)) at (c .before .word-stands .ensures) in
     sym (two-apart bytes (a .trail .now) (a .at) 6 fits (omega arith) 1 (omega arith) no)
 
@@ -54,7 +60,11 @@ returns-4 : tie.Need-returns-4
 returns-4 c =
     let a = c .before .before .before .before .before .before .before .before .args in
     let bytes = keptRecord (a .come) (a .gone) in
-    let fits : a .at + 6 ≤ length (a .trail .now) = omega (arith, c .before .before .before .before .before .before .before .before .pre, c .before .before .before .before .before .before .if1 .left) in
+    let fits : a .at + 6 ≤ length (a .trail .now) = omega (
+      arith,
+      c .before .before .before .before .before .before .before .before .pre,
+      c .before .before .before .before .before .before .if1 .left,
+    ) in
     let no = rw (not-true (c .before .word-stands2 .result) (c .if4 .taken)) at (c .before .word-stands2 .ensures) in
     sym (two-apart bytes (a .trail .now) (a .at) 6 fits (omega arith) 3 (omega arith) no)
 
@@ -68,16 +78,27 @@ returns-5 : tie.Need-returns-5
 returns-5 c =
     let a = c .before .before .before .before .before .before .before .before .before .args in
     let bytes = keptRecord (a .come) (a .gone) in
-    let fits : a .at + 6 ≤ length (a .trail .now) = omega (arith, c .before .before .before .before .before .before .before .before .before .pre, c .before .before .before .before .before .before .before .if1 .left) in
-    let y = rw (not-false (c .before .before .before .before .word-stands .result) (c .before .before .before .if3 .left)) at (c .before .before .before .before .word-stands .ensures) in
-    let z = rw (not-false (c .before .before .word-stands2 .result) (c .before .if4 .left)) at (c .before .before .word-stands2 .ensures) in
+    let fits : a .at + 6 ≤ length (a .trail .now) = omega (
+      arith,
+      c .before .before .before .before .before .before .before .before .before .pre,
+      c .before .before .before .before .before .before .before .if1 .left,
+    ) in
+    let y = rw
+    (not-false (c .before .before .before .before .word-stands .result) (c .before .before .before .if3 .left))
+    at (c .before .before .before .before .word-stands .ensures) in
+    let z = rw (not-false (c .before .before .word-stands2 .result) (c .before .if4 .left))
+    at (c .before .before .word-stands2 .ensures) in
     let x = getD (a .trail .now) (a .at + 5) 0 in
     let two : a .at + 2 ≡ a .at + 1 + 1 = omega arith in
     let four : a .at + 4 ≡ a .at + 3 + 1 = omega arith in
     ⊎-elim
     (λ (e : x ≡ 1). eq-eqb x 1 e
-    ∙ sym (all-same bytes (a .trail .now) (a .at) 6 fits (omega arith) (omega arith) (c .before .before .before .before .before .if2 .left) (y .0) (ap (λ (i : ℕ). getD (a .trail .now) i 0) two ∙ y .1)
-    (λ l. z .0) (λ l. ap (λ (i : ℕ). getD (a .trail .now) i 0) four ∙ z .1) (λ l. e) (λ l. absurd (omega arith))))
+    ∙ sym (all-same bytes (a .trail .now) (a .at) 6 fits (omega arith) (omega arith)
+    (c .before .before .before .before .before .if2 .left) (y .0) (ap (λ (i : ℕ). getD (a .trail .now) i 0) two ∙ y .1)
+    (λ l. z .0)
+    (λ l. ap (λ (i : ℕ). getD (a .trail .now) i 0) four ∙ z .1)
+    (λ l. e)
+    (λ l. absurd (omega arith))))
     (λ d. ne-eqb x 1 d ∙ sym (apart bytes (a .trail .now) (a .at) 6 fits (omega arith) 5 (omega arith) d))
     (same-or x 1)
 

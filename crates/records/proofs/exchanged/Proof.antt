@@ -29,7 +29,13 @@ unfolding front
 returns c =
     let d = sym (c .before .alike .ensures) ∙ c .if1 .taken in
     record {
-      are = rw (d, c .before .before .before .before .before .low-byte .ensures, c .before .before .before .before .high-byte .ensures, c .before .before .before .low-byte2 .ensures, c .before .before .high-byte2 .ensures);
+      are = rw (
+        d,
+        c .before .before .before .before .before .low-byte .ensures,
+        c .before .before .before .before .high-byte .ensures,
+        c .before .before .before .low-byte2 .ensures,
+        c .before .before .high-byte2 .ensures,
+      );
       long = rw d;
       sized = rw d (omega arith);
       eight = refl;
@@ -54,10 +60,20 @@ returns-2 : tie.Need-returns-2
 unfolding front
 returns-2 c =
     let h = c .before .before .before .difference .ensures .0 in
-    let d = rw (← h) at (sym (c .before .before .before .before .before .alike .ensures) ∙ c .before .before .before .before .if1 .left) in
+    let d = rw (← h) at (sym (c .before .before .before .before .before .alike .ensures)
+    ∙ c .before .before .before .before .if1 .left) in
     let b = sym (c .before .has .ensures) ∙ c .if2 .taken in
     record {
-      are = rw (← h, d, b, c .before .before .before .before .before .before .before .before .before .low-byte .ensures, c .before .before .before .before .before .before .before .before .high-byte .ensures, c .before .before .before .before .before .before .before .low-byte2 .ensures, c .before .before .before .before .before .before .high-byte2 .ensures, c .before .before .from-one .ensures);
+      are = rw (
+        ← h,
+        d,
+        b,
+        c .before .before .before .before .before .before .before .before .before .low-byte .ensures,
+        c .before .before .before .before .before .before .before .before .high-byte .ensures,
+        c .before .before .before .before .before .before .before .low-byte2 .ensures,
+        c .before .before .before .before .before .before .high-byte2 .ensures,
+        c .before .before .from-one .ensures,
+      );
       long = rw (← h, d, b);
       sized = rw (← h, d, b) (omega arith);
       eight = refl;
@@ -67,10 +83,20 @@ returns-3 : tie.Need-returns-3
 unfolding front
 returns-3 c =
     let h = c .before .before .before .difference .ensures .0 in
-    let d = rw (← h) at (sym (c .before .before .before .before .before .alike .ensures) ∙ c .before .before .before .before .if1 .left) in
+    let d = rw (← h) at (sym (c .before .before .before .before .before .alike .ensures)
+    ∙ c .before .before .before .before .if1 .left) in
     let b = sym (c .before .has .ensures) ∙ c .if2 .left in
     record {
-      are = rw (← h, d, b, c .before .before .before .before .before .before .before .before .before .low-byte .ensures, c .before .before .before .before .before .before .before .before .high-byte .ensures, c .before .before .before .before .before .before .before .low-byte2 .ensures, c .before .before .before .before .before .before .high-byte2 .ensures, c .before .before .from-one .ensures);
+      are = rw (
+        ← h,
+        d,
+        b,
+        c .before .before .before .before .before .before .before .before .before .low-byte .ensures,
+        c .before .before .before .before .before .before .before .before .high-byte .ensures,
+        c .before .before .before .before .before .before .before .low-byte2 .ensures,
+        c .before .before .before .before .before .before .high-byte2 .ensures,
+        c .before .before .from-one .ensures,
+      );
       long = rw (← h, d, b);
       sized = rw (← h, d, b) (omega arith);
       eight = refl;

@@ -21,7 +21,12 @@ high-byte-requires c κs = search needs
 -- src/lib.rt:144:1
 returns : tie.Need-returns
 unfolding front
-returns c = record { are = rw (c .before .low-byte .ensures, c .high-byte .ensures); long = refl; sized = omega arith; eight = refl }
+returns c = record {
+  are = rw (c .before .low-byte .ensures, c .high-byte .ensures);
+  long = refl;
+  sized = omega arith;
+  eight = refl;
+}
 
 pub first-record-spec : {M : Type 1} → statement M
 first-record-spec = tie.close (tie.spec low-byte-requires high-byte-requires returns)

@@ -25,7 +25,12 @@ unfolding front
 returns c =
     let d = sym (c .before .alike .ensures) ∙ c .if1 .taken in
     record {
-      are = rw (d, c .before .before .before .before .low-byte .ensures, c .before .before .before .high-byte .ensures, c .before .before .from-one .ensures);
+      are = rw (
+        d,
+        c .before .before .before .before .low-byte .ensures,
+        c .before .before .before .high-byte .ensures,
+        c .before .before .from-one .ensures,
+      );
       long = rw d;
       sized = rw d (omega arith);
       eight = refl;
@@ -36,7 +41,12 @@ unfolding front
 returns-2 c =
     let d = sym (c .before .alike .ensures) ∙ c .if1 .left in
     record {
-      are = rw (d, c .before .before .before .before .low-byte .ensures, c .before .before .before .high-byte .ensures, c .before .before .from-one .ensures);
+      are = rw (
+        d,
+        c .before .before .before .before .low-byte .ensures,
+        c .before .before .before .high-byte .ensures,
+        c .before .before .from-one .ensures,
+      );
       long = rw d;
       sized = rw d (omega arith);
       eight = refl;

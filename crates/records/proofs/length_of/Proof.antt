@@ -14,22 +14,38 @@ alike-requires-2 c κs = search needs
 returns : tie.Need-returns
 returns c come gone =
     let a = c .before .before .before .before .args in
-    rw (record-length (a .before .t) (a .before .u) (a .after .t) (a .after .u) come gone, sym (c .before .before .alike2 .ensures) ∙ c .before .if1 .taken, sym (c .before .before .before .alike .ensures) ∙ c .if2 .taken)
+    rw (
+      record-length (a .before .t) (a .before .u) (a .after .t) (a .after .u) come gone,
+      sym (c .before .before .alike2 .ensures) ∙ c .before .if1 .taken,
+      sym (c .before .before .before .alike .ensures) ∙ c .if2 .taken,
+    )
 
 returns-2 : tie.Need-returns-2
 returns-2 c come gone =
     let a = c .before .before .before .before .args in
-    rw (record-length (a .before .t) (a .before .u) (a .after .t) (a .after .u) come gone, sym (c .before .before .alike2 .ensures) ∙ c .before .if1 .taken, sym (c .before .before .before .alike .ensures) ∙ c .if2 .left)
+    rw (
+      record-length (a .before .t) (a .before .u) (a .after .t) (a .after .u) come gone,
+      sym (c .before .before .alike2 .ensures) ∙ c .before .if1 .taken,
+      sym (c .before .before .before .alike .ensures) ∙ c .if2 .left,
+    )
 
 returns-3 : tie.Need-returns-3
 returns-3 c come gone =
     let a = c .before .before .before .before .args in
-    rw (record-length (a .before .t) (a .before .u) (a .after .t) (a .after .u) come gone, sym (c .before .before .alike2 .ensures) ∙ c .before .if1 .left, sym (c .before .before .before .alike .ensures) ∙ c .if3 .taken)
+    rw (
+      record-length (a .before .t) (a .before .u) (a .after .t) (a .after .u) come gone,
+      sym (c .before .before .alike2 .ensures) ∙ c .before .if1 .left,
+      sym (c .before .before .before .alike .ensures) ∙ c .if3 .taken,
+    )
 
 returns-4 : tie.Need-returns-4
 returns-4 c come gone =
     let a = c .before .before .before .before .args in
-    rw (record-length (a .before .t) (a .before .u) (a .after .t) (a .after .u) come gone, sym (c .before .before .alike2 .ensures) ∙ c .before .if1 .left, sym (c .before .before .before .alike .ensures) ∙ c .if3 .left)
+    rw (
+      record-length (a .before .t) (a .before .u) (a .after .t) (a .after .u) come gone,
+      sym (c .before .before .alike2 .ensures) ∙ c .before .if1 .left,
+      sym (c .before .before .before .alike .ensures) ∙ c .if3 .left,
+    )
 
 pub length-of-spec : {M : Type 1} → statement M
 length-of-spec = tie.close (tie.spec alike-requires alike-requires-2 returns returns-2 returns-3 returns-4)

@@ -76,7 +76,8 @@ add-trail-5 : tie.Need-add-trail-5
 add-trail-5 c = search needs
 
 slice-write-trail-6 : tie.Need-slice-write-trail-6
-slice-write-trail-6 c = simp length-set (omega (arith, c .before .before .before .pre .0, c .before .before .before .pre .1))
+slice-write-trail-6 c =
+    simp length-set (omega (arith, c .before .before .before .pre .0, c .before .before .before .pre .1))
 
 same-length-3 : tie.Need-same-length-3
 same-length-3 c = simp length-set
@@ -95,7 +96,8 @@ add-trail-6 : tie.Need-add-trail-6
 add-trail-6 c = search needs
 
 slice-write-trail-7 : tie.Need-slice-write-trail-7
-slice-write-trail-7 c = simp length-set (omega (arith, c .before .before .before .before .pre .0, c .before .before .before .before .pre .1))
+slice-write-trail-7 c = simp length-set
+    (omega (arith, c .before .before .before .before .pre .0, c .before .before .before .before .pre .1))
 
 same-length-4 : tie.Need-same-length-4
 same-length-4 c = simp length-set

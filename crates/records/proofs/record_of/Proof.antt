@@ -37,7 +37,8 @@ returns-2 : tie.Need-returns-2
 unfolding recordFrom
 returns-2 c =
     let h = c .before .before .before .difference .ensures .0 in
-    let d = rw (← h) at (sym (c .before .before .before .before .before .alike .ensures) ∙ c .before .before .before .before .if1 .left) in
+    let d = rw (← h) at (sym (c .before .before .before .before .before .alike .ensures)
+    ∙ c .before .before .before .before .if1 .left) in
     rw (← h, d, sym (c .before .before .has .ensures) ∙ c .before .if2 .taken) (c .joined .ensures)
 
 left-requires : tie.Need-left-requires
@@ -47,7 +48,8 @@ returns-3 : tie.Need-returns-3
 unfolding recordFrom
 returns-3 c =
     let h = c .before .before .before .difference .ensures .0 in
-    let d = rw (← h) at (sym (c .before .before .before .before .before .alike .ensures) ∙ c .before .before .before .before .if1 .left) in
+    let d = rw (← h) at (sym (c .before .before .before .before .before .alike .ensures)
+    ∙ c .before .before .before .before .if1 .left) in
     rw (← h, d, sym (c .before .before .has .ensures) ∙ c .before .if2 .left) (c .left .ensures)
 
 pub record-of-spec : {M : Type 1} → statement M

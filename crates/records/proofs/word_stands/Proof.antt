@@ -38,7 +38,8 @@ returns c =
     let low = c .before .before .wide .ensures in
     let high = c .wide2 .ensures in
     ⊎-elim
-    (λ (e : x + 256 * y ≡ n). rw (eq-eqb (x + 256 * y) n e) (omega (arith, low .0, low .1, high .0, high .1), omega (arith, low .0, low .1, high .0, high .1)))
+    (λ (e : x + 256 * y ≡ n). rw (eq-eqb (x + 256 * y) n e)
+    (omega (arith, low .0, low .1, high .0, high .1), omega (arith, low .0, low .1, high .0, high .1)))
     (λ d. rw (ne-eqb (x + 256 * y) n d) (λ e f. d (omega (arith, low .0, high .0))))
     (same-or (x + 256 * y) n)
 

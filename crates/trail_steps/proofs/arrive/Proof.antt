@@ -1,64 +1,81 @@
--- `trail_steps::arrive` meets its contract: the record is compared, and the mark stored. Assumes nothing.
-use mathlib.Core.Path.{refl, sym, _∙_}
+-- `trail_steps::arrive` meets its contract: the mark is stored, and the record compared. Assumes nothing.
+use mathlib.Core.Bool.{cond}
+use mathlib.Core.List.{List}
+use mathlib.Core.Logic.{⊎-elim}
+use mathlib.Core.Path.{_≡_, refl, sym, ap, _∙_}
+use Prim.Native.Nat.{ℕ, _*_}
 use borrow.Author.Needs.{needs}
-use borrow.Author.Tests.{le-ltb, lt-ltb, not-false, not-true}
+use borrow.Author.Tests.{le-ltb, lt-ltb}
+use lib.Dec.{ltb}
+use lib.ListN.{drop, set}
 use native.Mathlib.Omega.{arith}
+use Rattle.records.proofs.Standing.{not-standing, standing}
+use Rattle.records.specs.Records.{recordFrom}
+use Rattle.trail.specs.Trail.{begins}
 use Rattle.trail_steps.proofs.arrive.Statement.{statement}
 use Rattle.trail_steps.proofs.arrive.Tie as tie
 
 come-in-requires : tie.Need-come-in-requires
 come-in-requires c κs = c .before .before .pre .0
 
-change-stands-requires : tie.Need-change-stands-requires
-change-stands-requires c κs =
-    let w = c .before .before .before .pre .1 in
-    (w .low, rw (c .come-in .ensures) (w .come), w .out)
-
-returns : tie.Need-returns
-returns c = (rw (← c .before .before .come-in .ensures) (sym (c .before .change-stands .ensures) ∙ not-true _ (c .if1 .taken)), refl)
-
-length-of-requires : tie.Need-length-of-requires
-length-of-requires c κs = search needs
-
 cast-marks : tie.Need-cast-marks
-cast-marks c = omega (arith, c .before .before .before .before .before .come-in .ensures, c .before .before .before .before .before .before .before .before .pre .1 .come)
+cast-marks c =
+    omega (arith, c .before .before .come-in .ensures, c .before .before .before .before .before .pre .1 .come)
 
 mul-marks : tie.Need-mul-marks
-mul-marks c = omega (arith, c .before .before .before .before .before .come-in .ensures, c .before .before .before .before .before .before .before .before .pre .1 .come)
+mul-marks c =
+    omega (arith, c .before .before .come-in .ensures, c .before .before .before .before .before .pre .1 .come)
 
 mul-marks-2 : tie.Need-mul-marks-2
-mul-marks-2 c = let R = c .before .before .before .before .before .before .before .before .pre .0 .1 (c .if2 .taken) .reads .point in omega (arith, R .low, R .few)
+mul-marks-2 c =
+    let R = c .before .before .before .before .before .pre .0 .1 (c .if1 .taken) .reads .point in
+    omega (arith, R .low, R .few)
 
 element-write-marks : tie.Need-element-write-marks
-element-write-marks c = let R = c .before .before .before .before .before .before .before .before .pre .0 .1 (c .if2 .taken) .reads .point in omega (arith, R .low, R .few)
+element-write-marks c =
+    let R = c .before .before .before .before .before .pre .0 .1 (c .if1 .taken) .reads .point in
+    omega (arith, R .low, R .few)
+
+standing-bytes-requires : tie.Need-standing-bytes-requires
+standing-bytes-requires c κs =
+    let w = c .before .before .before .before .before .pre .1 in
+    (w .low, rw (c .before .before .come-in .ensures) (w .come), w .out)
+
+returns : tie.Need-returns
+returns c =
+    let a = c .before .before .before .before .before .before .before .args in
+    let come = c .before .before .before .before .come-in in
+    rw (← come .ensures)
+    (not-standing (a .before .t) (a .before .u) (a .s .t) (a .s .u) (come .result) (a .gone)
+    (c .before .standing-bytes .ensures) (c .if2 .taken))
+
+-- the marks that are stored
+stored : (c : tie.Joined1) →
+    let a = c .before .before .before .before .before .args in
+    let come = c .before .before .come-in .result in
+    c .if1 .marks ≡ cond (ltb (a .s .rule) 6) (set (a .marks .now) (a .s .active) (come * 256)) (a .marks .now)
+stored c =
+    let rule = c .before .before .before .before .before .args .s .rule in
+    ⊎-elim (λ w. w .1 ∙ sym (rw (lt-ltb rule 6 (w .0 .taken)))) (λ w. w .1 ∙ sym (rw (le-ltb rule 6 (w .0 .left))))
+    (c .if1 .came)
 
 returns-2 : tie.Need-returns-2
 returns-2 c =
-    let e = c .before .before .before .before .before .come-in .ensures in
-    let stand = sym (c .before .before .before .before .change-stands .ensures) ∙ not-false _ (c .before .before .before .if1 .left) in
-    let long = c .before .before .length-of .ensures (c .before .before .before .before .before .come-in .result) (c .before .before .before .before .before .before .before .before .args .gone) in
-    let l = lt-ltb (c .before .before .before .before .before .before .before .before .args .s .rule) 6 (c .if2 .taken) in
-    let f = rw l at e in
-    (rw (← e) stand, refl, long ∙ (rw e), rw (l, f))
-
-returns-3 : tie.Need-returns-3
-returns-3 c =
-    let e = c .before .before .before .before .before .come-in .ensures in
-    let stand = sym (c .before .before .before .before .change-stands .ensures) ∙ not-false _ (c .before .before .before .if1 .left) in
-    let long = c .before .before .length-of .ensures (c .before .before .before .before .before .come-in .result) (c .before .before .before .before .before .before .before .before .args .gone) in
-    (rw (← e) stand, refl, long ∙ (rw e), rw (le-ltb (c .before .before .before .before .before .before .before .before .args .s .rule) 6 (c .if2 .left)))
+    let a = c .before .before .before .before .before .before .before .args in
+    let come = c .before .before .before .before .come-in in
+    let W = standing (a .before .t) (a .before .u) (a .s .t) (a .s .u) (come .result) (a .gone)
+    (c .before .standing-bytes .ensures) (c .if2 .left) in
+    (rw (← come .ensures) (W .0), refl, rw (← come .ensures) (W .1), rw (← come .ensures) (stored (c .before .before)))
 
 pub arrive-spec : {M : Type 1} → statement M
 arrive-spec =
     tie.close
     (tie.spec
     come-in-requires
-    change-stands-requires
-    returns
-    length-of-requires
     cast-marks
     mul-marks
     mul-marks-2
     element-write-marks
-    returns-2
-    returns-3)
+    standing-bytes-requires
+    returns
+    returns-2)

@@ -7,7 +7,10 @@ enum-known-way : tie.Need-enum-known-way
 enum-known-way c = search needs
 
 position-at-requires : tie.Need-position-at-requires
-position-at-requires c κs = (c .before .before .before .pre .1 _ (c .before .way .given .1), c .before .before .before .pre .0)
+position-at-requires c κs = (
+  c .before .before .before .pre .1 _ (c .before .way .given .1),
+  c .before .before .before .pre .0,
+)
 
 enum-told : tie.Need-enum-told
 enum-told c = search needs

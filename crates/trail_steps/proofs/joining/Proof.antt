@@ -9,7 +9,10 @@ returns : tie.Need-returns
 returns c = rw (lt-leb 1 (c .before .args .byte) (omega arith))
 
 returns-2 : tie.Need-returns-2
-returns-2 c = rw (le-leb 1 (c .before .before .args .byte) (omega arith), lt-leb (c .before .before .args .byte) (c .before .before .args .m) (c .if2 .taken))
+returns-2 c = rw (
+  le-leb 1 (c .before .before .args .byte) (omega arith),
+  lt-leb (c .before .before .args .byte) (c .before .before .args .m) (c .if2 .taken),
+)
 
 sub-has : tie.Need-sub-has
 sub-has c = omega arith
@@ -18,13 +21,21 @@ has-requires : tie.Need-has-requires
 has-requires c κs = omega arith
 
 returns-3 : tie.Need-returns-3
-returns-3 c = rw (le-leb 1 (c .before .before .before .before .args .byte) (omega arith), le-leb (c .before .before .before .before .args .byte) (c .before .before .before .before .args .m) (omega arith), sym (c .before .has .ensures) ∙ c .if3 .taken)
+returns-3 c = rw (
+  le-leb 1 (c .before .before .before .before .args .byte) (omega arith),
+  le-leb (c .before .before .before .before .args .byte) (c .before .before .before .before .args .m) (omega arith),
+  sym (c .before .has .ensures) ∙ c .if3 .taken,
+)
 
 sub-t6 : tie.Need-sub-t6
 sub-t6 c = omega arith
 
 returns-4 : tie.Need-returns-4
-returns-4 c = rw (le-leb 1 (c .before .before .before .before .args .byte) (omega arith), le-leb (c .before .before .before .before .args .byte) (c .before .before .before .before .args .m) (omega arith), sym (c .before .has .ensures) ∙ c .if3 .left)
+returns-4 c = rw (
+  le-leb 1 (c .before .before .before .before .args .byte) (omega arith),
+  le-leb (c .before .before .before .before .args .byte) (c .before .before .before .before .args .m) (omega arith),
+  sym (c .before .has .ensures) ∙ c .if3 .left,
+)
 
 pub joining-spec : {M : Type 1} → statement M
 joining-spec =

@@ -12,7 +12,11 @@ enum-known-way : tie.Need-enum-known-way
 enum-known-way c = search needs
 
 leave-requires : tie.Need-leave-requires
-leave-requires c κs = (c .before .before .before .before .before .before .before .pre .0, c .before .before .before .before .before .before .before .pre .1 .leaves _ (c .before .before .before .before .before .way .given .1))
+leave-requires c κs = (
+  c .before .before .before .before .before .before .before .pre .0,
+  c .before .before .before .before .before .before .before .pre .1 .leaves _
+      (c .before .before .before .before .before .way .given .1),
+)
 
 enum-known-way-2 : tie.Need-enum-known-way-2
 enum-known-way-2 c = search needs
@@ -39,9 +43,12 @@ returns-2 c =
     let round = roundOf (a .previous .now) (a .next .now) (a .sizes .now) in
     let given = roundOf [] (a .next .now) (a .sizes .now) in
     rw (c .before .before .before .before .way2 .given .1) (record {
-      after = sym (answered-beside round given (a .first .now) (a .coefficients .now) (c .grow .last .1 .1 .0) (c .grow .last .1 .1 .1 .0) (a .s) (c .grow .result))
+      after =
+          sym (answered-beside round given (a .first .now) (a .coefficients .now) (c .grow .last .1 .1 .0)
+          (c .grow .last .1 .1 .1 .0) (a .s) (c .grow .result))
           ∙ ap (besideAfter round (a .first .now) (a .coefficients .now)) (c .grow .ensures .after)
-          ∙ grow-beside (stateOf given [] [] (a .order .now) (a .marks .now) (a .s)) (a .first .now) (a .coefficients .now) (a .previous .now) (c .before .before .before .before .way2 .given .0 .0);
+          ∙ grow-beside (stateOf given [] [] (a .order .now) (a .marks .now) (a .s)) (a .first .now)
+          (a .coefficients .now) (a .previous .now) (c .before .before .before .before .way2 .given .0 .0);
       each = c .grow .ensures .each;
     })
 

@@ -1,5 +1,5 @@
--- `trail_steps::point_with` meets its contract. The invariant: the search from point k on finds what the search from the first finds. The measure: the
--- points left. Assumes nothing.
+-- `trail_steps::point_with` meets its contract. The invariant: the search from point k on finds what the search from
+-- the first finds. The measure: the points left. Assumes nothing.
 use mathlib.Core.List.{List, [], _∷_, map}
 use mathlib.Core.Path.{_≡_, refl, sym, ap, _∙_}
 use Prim.Native.Nat.{ℕ, zero, suc, _-_, _≤_, _<_}
@@ -14,8 +14,9 @@ use Rattle.trail_steps.proofs.point_with.Statement.{statement}
 use Rattle.trail_steps.proofs.point_with.Tie as tie
 
 abbrev Inv-loop : tie.InvT-loop
-Inv-loop marks n position k₀ k =
-    (k ≤ suc n) × (n ≤ 15) × (foundFrom k position 16 (drop k (map markPosition (take (suc n) marks))) ≡ found position 16 (map markPosition (take (suc n) marks)))
+Inv-loop marks n position k₀ k = (k ≤ suc n) × (n ≤ 15)
+    × (foundFrom k position 16 (drop k (map markPosition (take (suc n) marks)))
+    ≡ found position 16 (map markPosition (take (suc n) marks)))
     × (length marks ≡ 16)
 
 abbrev μ-loop : tie.MeasureT-loop
@@ -25,7 +26,8 @@ loop-holds : tie.Need-loop-holds Inv-loop μ-loop
 loop-holds c = (omega arith, c .pre .0, refl, c .pre .1)
 
 -- the position of point k is among the positions
-positions-in : (marks : List ℕ) (j : ℕ) → j < length marks → getD (map markPosition marks) j 0 ≡ markPosition (getD marks j 0)
+positions-in : (marks : List ℕ) (j : ℕ) → j < length marks
+    → getD (map markPosition marks) j 0 ≡ markPosition (getD marks j 0)
 positions-in [] j l = absurd (omega arith)
 positions-in (m ∷ marks) zero l = refl
 positions-in (m ∷ marks) (suc j) l = positions-in marks j (omega arith)
@@ -44,13 +46,17 @@ loop-again c =
     let a = c .before .before .before .before .args in
     let l = c .before .before .before .loop in
     let few = take (suc (a .n)) (a .marks .now) in
-    let long : length few ≡ suc (a .n) = length-take-le (suc (a .n)) (a .marks .now) (omega (arith, l .inv .1, l .inv .3)) in
+    let long : length few ≡ suc (a .n) =
+    length-take-le (suc (a .n)) (a .marks .now) (omega (arith, l .inv .1, l .inv .3)) in
     let in-range : l .k < length (map markPosition few) = omega (arith, length-map few markPosition, long) in
     let e = positions-in few (l .k) (omega (arith, long)) in
     let at = c .before .position-at .ensures .0 in (
       omega arith,
       l .inv .1,
-      rw add-one (sym (found-later (a .position) 16 (l .k) (map markPosition few) in-range (λ q. absurd (c .if1 .left (at ∙ sym e ∙ q)))) ∙ l .inv .2),
+      rw add-one
+          (sym (found-later (a .position) 16 (l .k) (map markPosition few) in-range
+          (λ q. absurd (c .if1 .left (at ∙ sym e ∙ q))))
+          ∙ l .inv .2),
       l .inv .3,
     )
 
@@ -59,17 +65,22 @@ returns c =
     let a = c .before .before .args in
     let l = c .before .loop in
     let few = take (suc (a .n)) (a .marks .now) in
-    found-past (a .position) 16 (l .k) (map markPosition few) (rw (length-map few markPosition) (omega (arith, first-few (suc (a .n)) (a .marks .now)))) ∙ l .inv .2
+    found-past (a .position) 16 (l .k) (map markPosition few)
+    (rw (length-map few markPosition) (omega (arith, first-few (suc (a .n)) (a .marks .now))))
+    ∙ l .inv .2
 
 returns-2 : tie.Need-returns-2 Inv-loop μ-loop
 returns-2 c =
     let a = c .before .before .before .before .args in
     let l = c .before .before .before .loop in
     let few = take (suc (a .n)) (a .marks .now) in
-    let long : length few ≡ suc (a .n) = length-take-le (suc (a .n)) (a .marks .now) (omega (arith, l .inv .1, l .inv .3)) in
+    let long : length few ≡ suc (a .n) =
+    length-take-le (suc (a .n)) (a .marks .now) (omega (arith, l .inv .1, l .inv .3)) in
     let in-range : l .k < length (map markPosition few) = omega (arith, length-map few markPosition, long) in
     let e = positions-in few (l .k) (omega (arith, long)) in
-    sym (found-here (a .position) 16 (l .k) (map markPosition few) in-range (e ∙ sym (c .before .position-at .ensures .0) ∙ c .if1 .taken) (λ q. absurd (omega (arith, l .inv .1)))) ∙ l .inv .2
+    sym (found-here (a .position) 16 (l .k) (map markPosition few) in-range
+    (e ∙ sym (c .before .position-at .ensures .0) ∙ c .if1 .taken) (λ q. absurd (omega (arith, l .inv .1))))
+    ∙ l .inv .2
 
 pub point-with-spec : {M : Type 1} → statement M
 point-with-spec =

@@ -39,7 +39,8 @@ returns-2 c =
     let a = c .before .before .before .before .before .before .args in
     let s = stateOf noRound [] [] [] (a .marks .now) (a .s) in
     let t = a .trail .now in
-    short-out (a .m) (a .s .count) s t (a .at) (c .before .before .before .before .if1 .left) (c .before .before .wide .result) (c .before .before .wide .ensures .0) (c .before .if2 .taken) (c .if3 .taken)
+    short-out (a .m) (a .s .count) s t (a .at) (c .before .before .before .before .if1 .left)
+    (c .before .before .wide .result) (c .before .before .wide .ensures .0) (c .before .if2 .taken) (c .if3 .taken)
 
 add-word : tie.Need-add-word
 add-word c = omega (arith, c .if3 .left)
@@ -55,14 +56,19 @@ returns-3 c =
     let a = c .before .before .before .before .before .before .before .before .args in
     let s = stateOf noRound [] [] [] (a .marks .now) (a .s) in
     let t = a .trail .now in
-    c .leaving .ensures ∙ way-out (a .m) (a .s .count) s t (a .at) (c .before .before .before .before .before .before .if1 .left) (c .before .before .before .before .wide .result) (c .before .before .before .before .wide .ensures .0) (c .before .before .before .if2 .taken) (c .before .before .if3 .left) (c .before .word .result) (c .before .word .ensures .0)
+    c .leaving .ensures
+    ∙ way-out (a .m) (a .s .count) s t (a .at) (c .before .before .before .before .before .before .if1 .left)
+    (c .before .before .before .before .wide .result) (c .before .before .before .before .wide .ensures .0)
+    (c .before .before .before .if2 .taken) (c .before .before .if3 .left) (c .before .word .result)
+    (c .before .word .ensures .0)
 
 returns-4 : tie.Need-returns-4
 returns-4 c =
     let a = c .before .before .before .before .before .before .args in
     let s = stateOf noRound [] [] [] (a .marks .now) (a .s) in
     let t = a .trail .now in
-    short-into (a .m) (a .s .count) s t (a .at) (c .before .before .before .before .if1 .left) (c .before .before .wide .result) (c .before .before .wide .ensures .0) (c .before .if2 .left) (c .if4 .taken)
+    short-into (a .m) (a .s .count) s t (a .at) (c .before .before .before .before .if1 .left)
+    (c .before .before .wide .result) (c .before .before .wide .ensures .0) (c .before .if2 .left) (c .if4 .taken)
 
 add-wide : tie.Need-add-wide
 add-wide c = omega (arith, c .if4 .left)
@@ -81,7 +87,11 @@ returns-5 c =
     let a = c .before .before .before .before .before .before .before .before .before .args in
     let s = stateOf noRound [] [] [] (a .marks .now) (a .s) in
     let t = a .trail .now in
-    c .joining .ensures ∙ way-into (a .m) (a .s .count) s t (a .at) (c .before .before .before .before .before .before .before .if1 .left) (c .before .before .before .before .before .wide .result) (c .before .before .before .before .before .wide .ensures .0) (c .before .before .before .before .if2 .left) (c .before .before .before .if4 .left) (c .before .wide2 .result) (c .before .wide2 .ensures .0)
+    c .joining .ensures
+    ∙ way-into (a .m) (a .s .count) s t (a .at) (c .before .before .before .before .before .before .before .if1 .left)
+    (c .before .before .before .before .before .wide .result)
+    (c .before .before .before .before .before .wide .ensures .0) (c .before .before .before .before .if2 .left)
+    (c .before .before .before .if4 .left) (c .before .wide2 .result) (c .before .wide2 .ensures .0)
 
 pub way-on-spec : {M : Type 1} → statement M
 way-on-spec =

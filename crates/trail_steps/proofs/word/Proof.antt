@@ -32,7 +32,9 @@ add-result c = search needs
 returns : tie.Need-returns
 returns c =
     let t = c .before .before .before .before .before .args .trail .now in
-    let e : getD t (c .before .before .before .before .before .args .at + 1) 0 ≡ getD t (suc (c .before .before .before .before .before .args .at)) 0 = ap (λ (i : ℕ). getD t i 0) (add-one (c .before .before .before .before .before .args .at)) in
+    let e : getD t (c .before .before .before .before .before .args .at + 1) 0
+    ≡ getD t (suc (c .before .before .before .before .before .args .at)) 0 =
+    ap (λ (i : ℕ). getD t i 0) (add-one (c .before .before .before .before .before .args .at)) in
     (omega (arith, e, c .before .before .wide .ensures .0, c .wide2 .ensures .0), omega arith)
 
 pub word-spec : {M : Type 1} → statement M
