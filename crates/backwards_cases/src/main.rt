@@ -1,5 +1,6 @@
 // Walks the paths that standard input holds to their end by calls, and then back by calls to {v}, and prints the places
-// and the rules. How many there are stands first, in 16 bits. A path is its sizes, divisions, start and labels as lists.
+// and the rules. How many there are stands first, in 16 bits. A path is its sizes, divisions, start and labels as
+// lists.
 use case_reader::bytes;
 use case_reader::show;
 use case_reader::show_text;

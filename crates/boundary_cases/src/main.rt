@@ -1,6 +1,6 @@
 // Prints what the boundary rule answers to the tables that standard input holds, and the whole label buffer after each
-// call: how many tables there are, in 16 bits, and then of each the sizes, divisions and labels as lists, and the length
-// of the buffer, in 16 bits. The buffer is lent full of 255, which is no label.
+// call: how many tables there are, in 16 bits, and then of each the sizes, divisions and labels as lists, and the
+// length of the buffer, in 16 bits. The buffer is lent full of 255, which is no label.
 use case_reader::bytes;
 use case_reader::show;
 use case_reader::show_bytes;

@@ -1,4 +1,5 @@
--- The games that are built in: their tables have the lengths and the range that questions 10 and 11 ask. Assumes nothing.
+-- The games that are built in: their tables have the lengths and the range that questions 10 and 11 ask.
+-- Assumes nothing.
 use mathlib.Core.Bool.{Bool, true, false, cond, _&&_}
 use mathlib.Core.List.{List, [], _∷_}
 use mathlib.Core.Path.{_≡_, refl, sym, ap, _∙_}
@@ -15,14 +16,17 @@ use Rattle.combinatorics.specs.Lists.{all, same}
 use Rattle.grid.specs.Grid.{Grid}
 use Rattle.losses.specs.Game.{product}
 use Rattle.losses.specs.Table.{inRange, IsTable}
-use Rattle.built_in.specs.Tables.{sizes1, sizes2, sizes3, losses1, losses2, losses3, gameSizes, gameLosses, question15}
+use Rattle.built_in.specs.Tables.{sizes1, sizes2, sizes3, losses1, losses2, losses3, gameSizes, gameLosses}
+use Rattle.built_in.specs.Tables.{question15}
 
 -- one comparison a turn
 module _ (a b : List ℕ) where
-  pub same-turn : (i : ℕ) → i < length a → i < length b → getD a i 0 ≡ getD b i 0 → same eqb (drop i a) (drop i b) ≡ same eqb (drop (i + 1) a) (drop (i + 1) b)
+  pub same-turn : (i : ℕ) → i < length a → i < length b → getD a i 0 ≡ getD b i 0
+      → same eqb (drop i a) (drop i b) ≡ same eqb (drop (i + 1) a) (drop (i + 1) b)
   same-turn i h l e = rw (drop-cons a i 0 h, drop-cons b i 0 l, eq-eqb _ _ e, add-one)
 
-  pub same-broken : (i : ℕ) → i < length a → i < length b → (getD a i 0 ≡ getD b i 0 → ⊥) → same eqb (drop i a) (drop i b) ≡ false
+  pub same-broken : (i : ℕ) → i < length a → i < length b → (getD a i 0 ≡ getD b i 0 → ⊥)
+      → same eqb (drop i a) (drop i b) ≡ false
   same-broken i h l n = rw (drop-cons a i 0 h, drop-cons b i 0 l, ne-eqb _ _ n)
 
   pub same-end : (i : ℕ) → length a ≡ i → length b ≡ i → same eqb (drop i a) (drop i b) ≡ true
@@ -57,16 +61,16 @@ table-range game = tables (eqb game 1) (eqb game 2) .1
 -- the table of a game for which question 15 is answered yes
 pub game-table : (g : Grid) (game : ℕ) → question15 game (g .sizes) .answeredYes ≡ true → IsTable g (gameLosses game)
 game-table g game known =
-    let e : g .sizes ≡ gameSizes game =
-    same-sound eqb (onNumbers .sound) (g .sizes) (gameSizes game) (and-right (leb 1 game && leb game 3) (same eqb (g .sizes) (gameSizes game)) known)
-    in
+    let e : g .sizes ≡ gameSizes game = same-sound eqb (onNumbers .sound) (g .sizes) (gameSizes game)
+    (and-right (leb 1 game && leb game 3) (same eqb (g .sizes) (gameSizes game)) known) in
     record { whole = table-whole game ∙ sym (ap (λ (ss : List ℕ). length ss * product ss) e); range = table-range game }
 
 -- a game other than 1, 2 and 3
-pub no-game : (game : ℕ) (sizes : List ℕ) → (game ≡ 1 → ⊥) → (game ≡ 2 → ⊥) → (game ≡ 3 → ⊥) → question15 game sizes .answeredYes ≡ false
-no-game game sizes a b c =
-    false-of _ (λ y.
-    let r : (leb 1 game && leb game 3) ≡ true = and-left (leb 1 game && leb game 3) (same eqb sizes (gameSizes game)) y in
+pub no-game : (game : ℕ) (sizes : List ℕ) → (game ≡ 1 → ⊥) → (game ≡ 2 → ⊥) → (game ≡ 3 → ⊥)
+    → question15 game sizes .answeredYes ≡ false
+no-game game sizes a b c = false-of _ (λ y.
+    let r : (leb 1 game && leb game 3) ≡ true =
+    and-left (leb 1 game && leb game 3) (same eqb sizes (gameSizes game)) y in
     let low = leb-true 1 game (and-left (leb 1 game) (leb game 3) r) in
     let high = leb-true game 3 (and-right (leb 1 game) (leb game 3) r) in
     omega arith)

@@ -11,11 +11,13 @@ abbrev grid1 : Grid
 grid1 = record { sizes = sizes1; divisions = 1 ∷ 1 ∷ 1 ∷ [] }
 
 -- "the point 1 0 1 0 1 0 has differences 0, -7, 0, 2, 0, -4": negsuc n is -(n + 1)
-pub differences-worked : map (difference grid1 losses1 (1 ∷ 0 ∷ 1 ∷ 0 ∷ 1 ∷ 0 ∷ [])) (indices grid1) ≡ pos 0 ∷ negsuc 6 ∷ pos 0 ∷ pos 2 ∷ pos 0 ∷ negsuc 3 ∷ []
+pub differences-worked : map (difference grid1 losses1 (1 ∷ 0 ∷ 1 ∷ 0 ∷ 1 ∷ 0 ∷ [])) (indices grid1)
+    ≡ pos 0 ∷ negsuc 6 ∷ pos 0 ∷ pos 2 ∷ pos 0 ∷ negsuc 3 ∷ []
 unfolding expectedLoss replaced losses1
 differences-worked = refl
 
 -- "and label 4. The point 1 0 0 1 1 0 has label 2"
-pub labels-worked : map (label grid1 losses1) ((1 ∷ 0 ∷ 1 ∷ 0 ∷ 1 ∷ 0 ∷ []) ∷ (1 ∷ 0 ∷ 0 ∷ 1 ∷ 1 ∷ 0 ∷ []) ∷ []) ≡ 4 ∷ 2 ∷ []
+pub labels-worked : map (label grid1 losses1) ((1 ∷ 0 ∷ 1 ∷ 0 ∷ 1 ∷ 0 ∷ []) ∷ (1 ∷ 0 ∷ 0 ∷ 1 ∷ 1 ∷ 0 ∷ []) ∷ [])
+    ≡ 4 ∷ 2 ∷ []
 unfolding expectedLoss replaced label losses1
 labels-worked = refl

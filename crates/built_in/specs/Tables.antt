@@ -1,4 +1,5 @@
--- "Three loss tables are built in, copied from the appendix of document 000". A line for each row of the appendix. Assumes nothing.
+-- "Three loss tables are built in, copied from the appendix of document 000". A line for each row of the appendix.
+-- Assumes nothing.
 use mathlib.Core.List.{List, [], _∷_}
 use mathlib.Core.Bool.{_&&_, cond}
 use Prim.Native.Nat.{ℕ}

@@ -1,4 +1,5 @@
--- Following the coefficients of a block, one after another. In order: what is followed so far; a step; why it cannot go on; what is found. Assumes nothing.
+-- Following the coefficients of a block, one after another. In order: what is followed so far; a step; why it cannot go
+-- on; what is found. Assumes nothing.
 use mathlib.Core.Bool.{Bool, true, false, _||_, cond}
 use mathlib.Core.Logic.{_⊎_, inl, inr, ⊎-elim}
 use mathlib.Core.Path.{_≡_, refl, sym, ap, _∙_}
@@ -76,7 +77,8 @@ module _ {p z : Point} {first end c old : ℕ} where
   module _ {set one h : ℕ} (F : Following p z first end c old set one h) where
     -- the number at h is stored, and the next is known
     further : {new next : ℕ} → new < 65536 → h < 16 → h < end → next ≤ 1 → at z h + next ≡ at p h + one
-        → ((k : ℕ) → k < 16 → (k ≡ h → ⊥) → bit new k ≡ bit set k) → ones new h ≡ one → Following p z first end c old new next (h + 1)
+        → ((k : ℕ) → k < 16 → (k ≡ h → ⊥) → bit new k ≡ bit set k) → ones new h ≡ one
+        → Following p z first end c old new next (h + 1)
     further {new} {next} b lh le s r other here = record {
       low = omega (arith, F .low);
       high = omega arith;
@@ -86,18 +88,26 @@ module _ {p z : Point} {first end c old : ℕ} where
       clear = λ k l m. other k m (λ e. omega arith) ∙ F .clear k (omega arith) m;
       rule = λ k l m. ⊎-elim
           (λ (x : k < h). rw (as-before k (omega arith), as-before (suc k) (omega arith)) (F .rule k l x))
-          (λ (x : h ≤ k). let e : k ≡ h = omega arith in
-          rw e (omega (arith, as-before h (omega arith), reached-at set one h h (omega arith), reached-at new next (h + 1) (suc h) (omega arith), r)))
+          (λ (x : h ≤ k).
+          let e : k ≡ h = omega arith in
+          rw e (omega (
+            arith,
+            as-before h (omega arith),
+            reached-at set one h h (omega arith),
+            reached-at new next (h + 1) (suc h) (omega arith),
+            r,
+          )))
           (before-or-not k h);
       begins = as-before first (F .low) ∙ F .begins;
     }
       where
         as-before : (k : ℕ) → k ≤ h → reached new next (h + 1) k ≡ reached set one h k
-        as-before k l =
-            ⊎-elim
+        as-before k l = ⊎-elim
             (λ (x : k < h). reached-before new next (h + 1) k (omega arith)
-            ∙ ap (λ (b : Bool). cond b 1 0) (other k (omega arith) (λ e. omega arith)) ∙ sym (reached-before set one h k x))
-            (λ (x : h ≤ k). let e : k ≡ h = omega arith in
+            ∙ ap (λ (b : Bool). cond b 1 0) (other k (omega arith) (λ e. omega arith))
+            ∙ sym (reached-before set one h k x))
+            (λ (x : h ≤ k).
+            let e : k ≡ h = omega arith in
             rw e (reached-before new next (h + 1) h (omega arith) ∙ here ∙ sym (reached-at set one h h (omega arith))))
             (before-or-not k h)
 
@@ -105,8 +115,8 @@ module _ {p z : Point} {first end c old : ℕ} where
     pub further-one : {next : ℕ} → h < 16 → h < end → one ≡ 1 → next ≤ 1 → at z h + next ≡ at p h + one
         → Following p z first end c old (withIndex set h) next (h + 1)
     unfolding withIndex
-    further-one lh le e s r =
-        further (or-lt 16 set (1 * 2 ^ h % 65536) F.below (mod-lt _ (omega arith))) lh le s r (λ k l other. bit-with set h k lh l ∙ rw (ne-eqb k h other))
+    further-one lh le e s r = further (or-lt 16 set (1 * 2 ^ h % 65536) F.below (mod-lt _ (omega arith))) lh le s r
+        (λ k l other. bit-with set h k lh l ∙ rw (ne-eqb k h other))
         (rw (bit-with set h h lh lh, eq-eqb h h refl) (sym e))
 
     -- a 0 is not
@@ -118,12 +128,17 @@ module _ {p z : Point} {first end c old : ℕ} where
     -- a list that begins so has these numbers
     same-so-far : (f : ℕ → ℕ) → f first ≡ c → GoesRound p z first end f → f h ≡ one
     same-so-far f e G =
-        agrees p z first h f (reached set one h) (e ∙ sym F.begins) (λ k l m. G .rule k l (omega (arith, F .high))) F.rule h F.low (omega arith)
+        agrees p z first h f (reached set one h) (e ∙ sym F.begins)
+        (λ k l m. G .rule k l (omega (arith, F .high)))
+        F.rule h F.low (omega arith)
         ∙ reached-at set one h h (omega arith)
 
-    pub next-number : (f : ℕ → ℕ) → f first ≡ c → GoesRound p z first end f → h < end → (at z h + f (suc h) ≡ at p h + one) × (f (suc h) ≤ 1)
-    next-number f e G l =
-        (G .rule h F.low l ∙ ap (λ (n : ℕ). at p h + n) (same-so-far f e G), G .small (suc h) (omega (arith, F .low)) (omega arith))
+    pub next-number : (f : ℕ → ℕ) → f first ≡ c → GoesRound p z first end f → h < end
+        → (at z h + f (suc h) ≡ at p h + one) × (f (suc h) ≤ 1)
+    next-number f e G l = (
+      G .rule h F.low l ∙ ap (λ (n : ℕ). at p h + n) (same-so-far f e G),
+      G .small (suc h) (omega (arith, F .low)) (omega arith),
+    )
 
     -- at the end the first number stands again
     pub number-at-end : (f : ℕ → ℕ) → f first ≡ c → GoesRound p z first end f → h ≡ end → one ≡ c
@@ -147,10 +162,14 @@ module _ {p z : Point} {first end c old : ℕ} where
         )
       where
         reached-small : (k : ℕ) → reached set one h k ≤ 1
-        reached-small k = ⊎-elim (λ (x : k < h). rw (lt-ltb k h x) (ones-small set k)) (λ (x : h ≤ k). rw (le-ltb k h x) F.small) (before-or-not k h)
+        reached-small k = ⊎-elim
+            (λ (x : k < h). rw (lt-ltb k h x) (ones-small set k))
+            (λ (x : h ≤ k). rw (le-ltb k h x) F.small)
+            (before-or-not k h)
 
 -- a 0 among the numbers of a set, or none
-some-zero : (set first n : ℕ) → HasZero first (first + n) (ones set) ⊎ ((k : ℕ) → first ≤ k → k < first + n → ones set k ≡ 1)
+some-zero : (set first n : ℕ)
+    → HasZero first (first + n) (ones set) ⊎ ((k : ℕ) → first ≤ k → k < first + n → ones set k ≡ 1)
 some-zero set first zero = inr (λ k l m. absurd (omega arith))
 some-zero set first (suc n) =
     ⊎-elim (λ w. inl (w .0, w .1, omega (arith, w .2), w .3))
@@ -167,31 +186,42 @@ zero-beside : {p z : Point} {first end old set : ℕ} → first < end → Added 
     → ((f : ℕ → ℕ) → f first ≡ 0 → GoesRound p z first end f → ⊥) → HasZero first end (ones set)
 zero-beside {p} {z} {first} {end} {set = set} l A none =
     let e : first + (end - first) ≡ end = omega arith in
-    ⊎-elim (λ w. rw e at w)
+    ⊎-elim
+    (λ w. rw e at w)
     (λ w. absurd (none (λ k. 0) refl (record {
       small = λ k m n. omega arith;
-      rule = λ k m n. omega (arith, A .goes .rule k m n, one-there (rw e at w) k m (omega arith), one-there (rw e at w) (suc k) (omega arith) (omega arith));
+      rule = λ k m n. omega (
+        arith,
+        A .goes .rule k m n,
+        one-there (rw e at w) k m (omega arith),
+        one-there (rw e at w) (suc k) (omega arith) (omega arith),
+      );
       round = refl;
     })))
     (some-zero set first (end - first))
   where
-    one-there : ((k : ℕ) → first ≤ k → k < end → ones set k ≡ 1) → (k : ℕ) → first ≤ k → k ≤ end → closed first end (ones set) k ≡ 1
-    one-there all-one k m n =
-        ⊎-elim (λ (x : k < end). rw (lt-ltb k end x) (all-one k m x)) (λ (x : end ≤ k). rw (le-ltb k end x) (all-one first (omega arith) l))
+    one-there : ((k : ℕ) → first ≤ k → k < end → ones set k ≡ 1) → (k : ℕ) → first ≤ k → k ≤ end
+        → closed first end (ones set) k ≡ 1
+    one-there all-one k m n = ⊎-elim
+        (λ (x : k < end). rw (lt-ltb k end x) (all-one k m x))
+        (λ (x : end ≤ k). rw (le-ltb k end x) (all-one first (omega arith) l))
         (before-or-not k end)
 
 -- a list begins with 0 or with 1
 neither : {p z : Point} {first end : ℕ} → first < end → ((f : ℕ → ℕ) → f first ≡ 0 → GoesRound p z first end f → ⊥)
     → ((f : ℕ → ℕ) → f first ≡ 1 → GoesRound p z first end f → ⊥) → (f : ℕ → ℕ) → GoesRound p z first end f → ⊥
-neither {first = first} l zero-no one-no f G =
-    ⊎-elim (λ e. zero-no f e G) (λ n. one-no f (omega (arith, G .small first (omega arith) (omega arith), one-of (f first) n)) G) (same-or (f first) 0)
+neither {first = first} l zero-no one-no f G = ⊎-elim
+    (λ e. zero-no f e G)
+    (λ n. one-no f (omega (arith, G .small first (omega arith) (omega arith), one-of (f first) n)) G)
+    (same-or (f first) 0)
   where
     one-of : (n : ℕ) → (n ≡ 0 → ⊥) → 1 ≤ n
     one-of zero h = absurd (h refl)
     one-of (suc n) h = omega arith
 
 -- what the second search finds is what there is
-pub found-second : {p z : Point} {first end : ℕ} (old : ℕ) (r : Found) → first < end → ((f : ℕ → ℕ) → f first ≡ 0 → GoesRound p z first end f → ⊥)
-    → FollowedFrom p z first end 1 old r → FoundOnBlock p z first end old r
+pub found-second : {p z : Point} {first end : ℕ} (old : ℕ) (r : Found) → first < end
+    → ((f : ℕ → ℕ) → f first ≡ 0 → GoesRound p z first end f → ⊥) → FollowedFrom p z first end 1 old r
+    → FoundOnBlock p z first end old r
 found-second old (Set set) l none w = (w .0, zero-beside l w.0 none)
 found-second old NoSet l none w = neither l none w

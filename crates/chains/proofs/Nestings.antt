@@ -1,4 +1,5 @@
--- Sets that are nested, for lists that are. In order: a mask is known by its bits; one list below another; nested lists; any two of many. Assumes nothing.
+-- Sets that are nested, for lists that are. In order: a mask is known by its bits; one list below another; nested
+-- lists; any two of many. Assumes nothing.
 use mathlib.Core.Bool.{Bool, true, false, not, _&&_, _||_, cond}
 use mathlib.Core.List.{List, [], _∷_, map}
 use mathlib.Core.Logic.{⊎-elim}
@@ -40,9 +41,11 @@ mask-same : (n a b : ℕ) → a < 2 ^ n → b < 2 ^ n → ((k : ℕ) → k < n �
 unfolding bit
 mask-same zero a b l m h = omega arith
 mask-same (suc n) a b l m h =
-    let halves : a / 2 ≡ b / 2 = mask-same n (a / 2) (b / 2) (omega (arith, pow-succ' 2 n)) (omega (arith, pow-succ' 2 n))
+    let halves : a / 2 ≡ b / 2 = mask-same n (a / 2) (b / 2) (omega (arith, pow-succ' 2 n))
+    (omega (arith, pow-succ' 2 n))
     (λ k x. sym (bit-half a k) ∙ h (suc k) (omega arith) ∙ bit-half b k) in
-    let last : a % 2 ≡ b % 2 = last-same (a % 2) (b % 2) (omega arith) (omega arith) (last-bit a ∙ h 0 (omega arith) ∙ sym (last-bit b)) in
+    let last : a % 2 ≡ b % 2 =
+    last-same (a % 2) (b % 2) (omega arith) (omega arith) (last-bit a ∙ h 0 (omega arith) ∙ sym (last-bit b)) in
     omega arith
   where
     last-bit : (a : ℕ) → eqb (a % 2) 1 ≡ bit a 0
@@ -78,13 +81,19 @@ module _ (g : Grid) (few : numIndices g ≤ 16) where
   module _ {A B : List ℕ} {a b : ℕ} (p : IsSet (numIndices g) A a) (q : IsSet (numIndices g) B b) where
     inside-is : inside g A B ≡ eqb (bitAnd a b) a
     inside-is = both _ _
-        (λ h. eq-eqb _ _ (mask-same 16 (bitAnd a b) a (omega (arith, and-le-l a b, p .below)) (p .below) (λ k l.
-        bit-and a b k ∙ ⊎-elim
+        (λ h. eq-eqb _ _ (mask-same 16 (bitAnd a b) a (omega (arith, and-le-l a b, p .below)) (p .below)
+        (λ k l. bit-and a b k
+        ∙ ⊎-elim
         (λ (x : k < numIndices g). ones-below a b k
-        (let t = leb-true (at A k) (at B k) (at-index g (λ h. leb (at A h) (at B h)) h k x) in omega (arith, p .is k x, q .is k x)))
-        (λ (x : numIndices g ≤ k). rw (p .clear k x l)) (before-or-not k (numIndices g)))))
-        (λ h. index-at g (λ h. leb (at A h) (at B h)) (λ k x. le-leb (at A k) (at B k)
-        (let t = below-ones a b k (sym (bit-and a b k) ∙ ap (λ (n : ℕ). bit n k) (eqb-true _ _ h)) in omega (arith, p .is k x, q .is k x))))
+        (let t = leb-true (at A k) (at B k) (at-index g (λ h. leb (at A h) (at B h)) h k x) in
+        omega (arith, p .is k x, q .is k x)))
+        (λ (x : numIndices g ≤ k). rw (p .clear k x l))
+        (before-or-not k (numIndices g)))))
+        (λ h. index-at g
+        (λ h. leb (at A h) (at B h))
+        (λ k x. le-leb (at A k) (at B k)
+        (let t = below-ones a b k (sym (bit-and a b k) ∙ ap (λ (n : ℕ). bit n k) (eqb-true _ _ h)) in
+        omega (arith, p .is k x, q .is k x))))
 
     same-is : same eqb A B ≡ eqb a b
     same-is = both _ _
@@ -97,7 +106,8 @@ module _ (g : Grid) (few : numIndices g ≤ 16) where
         p .is k (omega (arith, p .long)) ∙ ap (λ (n : ℕ). ones n k) e ∙ sym (q .is k (omega (arith, p .long)))) in
         rw w (same-self eqb eqb-self B))
 
-  pub nested-is : {A B : List ℕ} {a b : ℕ} → IsSet (numIndices g) A a → IsSet (numIndices g) B b → nested g A B ≡ nestedSets a b
+  pub nested-is : {A B : List ℕ} {a b : ℕ} → IsSet (numIndices g) A a → IsSet (numIndices g) B b
+      → nested g A B ≡ nestedSets a b
   unfolding nestedSets
   nested-is {A} {B} {a} {b} p q =
       let other : inside g B A ≡ eqb (bitAnd a b) b = inside-is q p ∙ ap (λ (n : ℕ). eqb n b) (and-comm b a) in
@@ -105,14 +115,19 @@ module _ (g : Grid) (few : numIndices g ≤ 16) where
 
 -- any two of many
 pub pairwise-agree : {A B : Type 0} (r : A → A → Bool) (s : B → B → Bool) (f : ℕ → A) (e : ℕ → B) (k n : ℕ)
-    → ((i j : ℕ) → k ≤ i → i < k + n → k ≤ j → j < k + n → r (f i) (f j) ≡ s (e i) (e j)) → pairwise r (map f (upFrom k n)) ≡ pairwise s (map e (upFrom k n))
+    → ((i j : ℕ) → k ≤ i → i < k + n → k ≤ j → j < k + n → r (f i) (f j) ≡ s (e i) (e j))
+    → pairwise r (map f (upFrom k n)) ≡ pairwise s (map e (upFrom k n))
 pairwise-agree r s f e k zero h = refl
-pairwise-agree r s f e k (suc n) h =
-    rw (all-agree (suc k) n (λ j l m. h k j (omega arith) (omega arith) (omega arith) (omega arith)), pairwise-agree r s f e (suc k) n (λ i j a b c d. h i j (omega arith) (omega arith) (omega arith) (omega arith)))
+pairwise-agree r s f e k (suc n) h = rw (
+  all-agree (suc k) n (λ j l m. h k j (omega arith) (omega arith) (omega arith) (omega arith)),
+  pairwise-agree r s f e (suc k) n (λ i j a b c d. h i j (omega arith) (omega arith) (omega arith) (omega arith)),
+)
   where
-    all-agree : (b n : ℕ) → ((j : ℕ) → b ≤ j → j < b + n → r (f k) (f j) ≡ s (e k) (e j)) → all (r (f k)) (map f (upFrom b n)) ≡ all (s (e k)) (map e (upFrom b n))
+    all-agree : (b n : ℕ) → ((j : ℕ) → b ≤ j → j < b + n → r (f k) (f j) ≡ s (e k) (e j))
+        → all (r (f k)) (map f (upFrom b n)) ≡ all (s (e k)) (map e (upFrom b n))
     all-agree b zero h = refl
-    all-agree b (suc n) h = rw (h b (omega arith) (omega arith), all-agree (suc b) n (λ j l m. h j (omega arith) (omega arith)))
+    all-agree b (suc n) h =
+        rw (h b (omega arith) (omega arith), all-agree (suc b) n (λ j l m. h j (omega arith) (omega arith)))
 
 -- a range of numbers from k up to n
 pub range-none : (k n : ℕ) → n ≤ k → upFrom k (n - k) ≡ []
@@ -131,14 +146,16 @@ module _ {A : Type 0} (f : ℕ → A) (k n : ℕ) where
     pub one-more : map f (upFrom k (n - k)) ≡ f k ∷ map f (upFrom (k + 1) (n - (k + 1)))
     one-more = rw (range-more k n l)
 
-    pub all-stops : {whole : Bool} (q : A → Bool) → whole ≡ all q (map f (upFrom k (n - k))) → q (f k) ≡ false → false ≡ whole
+    pub all-stops : {whole : Bool} (q : A → Bool) → whole ≡ all q (map f (upFrom k (n - k))) → q (f k) ≡ false
+        → false ≡ whole
     all-stops q e h = sym (e ∙ rw (one-more, h))
 
     pub all-goes : {whole : Bool} (q : A → Bool) → whole ≡ all q (map f (upFrom k (n - k))) → q (f k) ≡ true
         → whole ≡ all q (map f (upFrom (k + 1) (n - (k + 1))))
     all-goes q e h = e ∙ rw (one-more, h)
 
-    pub any-stops : {whole : Bool} (q : A → Bool) → whole ≡ any q (map f (upFrom k (n - k))) → q (f k) ≡ true → true ≡ whole
+    pub any-stops : {whole : Bool} (q : A → Bool) → whole ≡ any q (map f (upFrom k (n - k))) → q (f k) ≡ true
+        → true ≡ whole
     any-stops q e h = sym (e ∙ rw (one-more, h))
 
     pub any-goes : {whole : Bool} (q : A → Bool) → whole ≡ any q (map f (upFrom k (n - k))) → q (f k) ≡ false
@@ -150,5 +167,6 @@ module _ {A : Type 0} (f : ℕ → A) (k n : ℕ) where
     pairs-stop r e h = sym (e ∙ rw (one-more, h))
 
     pub pairs-go : {whole : Bool} (r : A → A → Bool) → whole ≡ pairwise r (map f (upFrom k (n - k)))
-        → all (r (f k)) (map f (upFrom (k + 1) (n - (k + 1)))) ≡ true → whole ≡ pairwise r (map f (upFrom (k + 1) (n - (k + 1))))
+        → all (r (f k)) (map f (upFrom (k + 1) (n - (k + 1)))) ≡ true
+        → whole ≡ pairwise r (map f (upFrom (k + 1) (n - (k + 1))))
     pairs-go r e h = e ∙ rw (one-more, h)

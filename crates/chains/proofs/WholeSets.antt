@@ -1,4 +1,5 @@
--- The set of a whole coefficient list, block by block. In order: where blocks begin; the blocks so far; the whole list; a block without a set. Assumes nothing.
+-- The set of a whole coefficient list, block by block. In order: where blocks begin; the blocks so far; the whole list;
+-- a block without a set. Assumes nothing.
 use mathlib.Core.Bool.{Bool, true, false, cond}
 use mathlib.Core.List.{List, [], _∷_}
 use mathlib.Core.Logic.{⊎-elim}
@@ -49,7 +50,9 @@ firstOf ss j = sum (take j ss)
 abbrev pub endOf : List ℕ → ℕ → ℕ
 endOf ss j = firstOf ss j + getD ss j 0
 
-goes-same : {p z : Point} {first end : ℕ} {f e : ℕ → ℕ} → first ≤ end → ((k : ℕ) → first ≤ k → k ≤ end → f k ≡ e k) → GoesRound p z first end f → GoesRound p z first end e
+goes-same : {p z : Point} {first end : ℕ} {f e : ℕ → ℕ} → first ≤ end → ((k : ℕ) → first ≤ k → k ≤ end → f k ≡ e k)
+    → GoesRound p z first end f
+    → GoesRound p z first end e
 goes-same {first = first} {end} l same G = record {
   small = λ k m n. rw (← same k m n) (G .small k m n);
   rule = λ k m n. rw (← same k m (omega arith), ← same (suc k) (omega arith) (omega arith)) (G .rule k m n);
@@ -65,10 +68,16 @@ pub record AllAdded (ss : List ℕ) (p z : Point) (j set : ℕ) : Type 0 where
 
 module _ {ss : List ℕ} {p z : Point} where
   pub none-added : AllAdded ss p z 0 0
-  none-added = record { clear = λ k l m. bit-none k m; below = omega arith; goes = λ i l. absurd (omega arith); zeros = λ i l. absurd (omega arith) }
+  none-added = record {
+    clear = λ k l m. bit-none k m;
+    below = omega arith;
+    goes = λ i l. absurd (omega arith);
+    zeros = λ i l. absurd (omega arith);
+  }
 
-  pub one-added : {j old set : ℕ} → AllAdded ss p z j old → 0 < getD ss j 0 → Added p z (firstOf ss j) (endOf ss j) old set
-      → HasZero (firstOf ss j) (endOf ss j) (ones set) → AllAdded ss p z (j + 1) set
+  pub one-added : {j old set : ℕ} → AllAdded ss p z j old → 0 < getD ss j 0
+      → Added p z (firstOf ss j) (endOf ss j) old set → HasZero (firstOf ss j) (endOf ss j) (ones set)
+      → AllAdded ss p z (j + 1) set
   one-added {j} {old} {set} A positive B zero-here = record {
     clear = rw (add-one j, first-next ss j) (B .clear);
     below = B .below;
@@ -83,7 +92,8 @@ module _ {ss : List ℕ} {p z : Point} where
       agree : (k : ℕ) → k < firstOf ss j → ones old k ≡ ones set k
       agree k l = ap (λ (b : Bool). cond b 1 0) (sym (B .kept k l))
 
-      agree-closed : (i : ℕ) → i < j → (k : ℕ) → closed (firstOf ss i) (endOf ss i) (ones old) k ≡ closed (firstOf ss i) (endOf ss i) (ones set) k
+      agree-closed : (i : ℕ) → i < j → (k : ℕ)
+          → closed (firstOf ss i) (endOf ss i) (ones old) k ≡ closed (firstOf ss i) (endOf ss i) (ones set) k
       agree-closed i x k =
           let l = before-later ss i j x in
           ⊎-elim (λ (y : k < endOf ss i). rw (lt-ltb k (endOf ss i) y) (agree k (omega arith)))
@@ -118,7 +128,8 @@ module _ {g : Grid} (A : Accepted g) (p z : Point) (hp : isGridPoint g p ≡ tru
   -- all blocks have their sets
   pub whole-set : (set : ℕ) → AllAdded g.sizes p z (numBlocks g) set → IsSet (numIndices g) (coefficientsFrom g p z) set
   whole-set set all-added =
-      let list : coefficientsFrom g p z ≡ tabulate (numIndices g) (ones set) = coefficients-by A p z hp hz (ones set) (all-added .zeros) rule in
+      let list : coefficientsFrom g p z ≡ tabulate (numIndices g) (ones set) =
+      coefficients-by A p z hp hz (ones set) (all-added .zeros) rule in
       record {
         long = ap length list ∙ length-tabulate (numIndices g) (ones set);
         is = λ k l. ap (λ (c : List ℕ). at c k) list ∙ getD-tabulate 0 (numIndices g) (ones set) k l;
@@ -134,44 +145,58 @@ module _ {g : Grid} (A : Accepted g) (p z : Point) (hp : isGridPoint g p ≡ tru
         where
           go : Seat g k → at z k + ones set (next g k) ≡ at p k + ones set k
           go s =
-              let j = s .j in let i = s .i in
+              let j = s .j in
+              let i = s .i in
               let first = firstIndex g j in
               let r = all-added .goes j s.block .rule k (omega (arith, s .is)) (omega (arith, s .is, s .inside)) in
-              let here : closed first (endOf g.sizes j) (ones set) k ≡ ones set k = rw (lt-ltb k (endOf g.sizes j) (omega (arith, s .is, s .inside))) in
+              let here : closed first (endOf g.sizes j) (ones set) k ≡ ones set k =
+              rw (lt-ltb k (endOf g.sizes j) (omega (arith, s .is, s .inside))) in
               ⊎-elim
               (λ (x : suc i < size g j).
               let n : next g k ≡ suc k = rw s.is (next-at g j i x ∙ omega arith) in
-              let there : closed first (endOf g.sizes j) (ones set) (suc k) ≡ ones set (suc k) = rw (lt-ltb (suc k) (endOf g.sizes j) (omega (arith, s .is))) in
+              let there : closed first (endOf g.sizes j) (ones set) (suc k) ≡ ones set (suc k) =
+              rw (lt-ltb (suc k) (endOf g.sizes j) (omega (arith, s .is))) in
               rw n (omega arith))
               (λ (x : size g j ≤ suc i).
               let n : next g k ≡ first = rw s.is (next-round g j i (omega (arith, s .inside))) in
-              let there : closed first (endOf g.sizes j) (ones set) (suc k) ≡ ones set first = rw (le-ltb (suc k) (endOf g.sizes j) (omega (arith, s .is))) in
+              let there : closed first (endOf g.sizes j) (ones set) (suc k) ≡ ones set first =
+              rw (le-ltb (suc k) (endOf g.sizes j) (omega (arith, s .is))) in
               rw n (omega arith))
               (before-or-not (suc i) (size g j))
 
   -- a block without a set
-  pub no-set : (j : ℕ) → j < numBlocks g → ((f : ℕ → ℕ) → GoesRound p z (firstIndex g j) (endOf g.sizes j) f → ⊥) → zeroOrOne g (coefficientsFrom g p z) ≡ false
-  no-set j lj none = false-of _ (λ h. none (closed (firstIndex g j) (endOf g.sizes j) (at c)) (record {
-    small = λ k m n. ⊎-elim
-        (λ (x : k < endOf g.sizes j). rw (lt-ltb k (endOf g.sizes j) x) (small h k (omega (arith, block-fits g.sizes j))))
-        (λ (x : endOf g.sizes j ≤ k). rw (le-ltb k (endOf g.sizes j) x) (small h (firstIndex g j) (omega (arith, positive, block-fits g.sizes j))))
-        (before-or-not k (endOf g.sizes j));
-    rule = λ k m n.
-        let r = C .rule k (omega (arith, block-fits g.sizes j)) in
-        let here : closed (firstIndex g j) (endOf g.sizes j) (at c) k ≡ at c k = rw (lt-ltb k (endOf g.sizes j) n) in
-        let e : firstIndex g j + (k - firstIndex g j) ≡ k = omega arith in
-        ⊎-elim
-        (λ (x : suc k < endOf g.sizes j).
-        let q : next g k ≡ suc k = rw e at (next-at g j (k - firstIndex g j) (omega arith)) ∙ omega arith in
-        let there : closed (firstIndex g j) (endOf g.sizes j) (at c) (suc k) ≡ at c (suc k) = rw (lt-ltb (suc k) (endOf g.sizes j) x) in
-        rw (here, there) (rw q at r))
-        (λ (x : endOf g.sizes j ≤ suc k).
-        let q : next g k ≡ firstIndex g j = rw e at (next-round g j (k - firstIndex g j) (omega arith)) in
-        let there : closed (firstIndex g j) (endOf g.sizes j) (at c) (suc k) ≡ at c (firstIndex g j) = rw (le-ltb (suc k) (endOf g.sizes j) x) in
-        rw (here, there) (rw q at r))
-        (before-or-not (suc k) (endOf g.sizes j));
-    round = rw (le-ltb (endOf g.sizes j) (endOf g.sizes j) (omega arith), lt-ltb (firstIndex g j) (endOf g.sizes j) (omega (arith, positive)));
-  }))
+  pub no-set : (j : ℕ) → j < numBlocks g → ((f : ℕ → ℕ) → GoesRound p z (firstIndex g j) (endOf g.sizes j) f → ⊥)
+      → zeroOrOne g (coefficientsFrom g p z) ≡ false
+  no-set j lj none = false-of _
+      (λ h. none (closed (firstIndex g j) (endOf g.sizes j) (at c)) (record {
+        small = λ k m n. ⊎-elim
+            (λ (x : k < endOf g.sizes j).
+            rw (lt-ltb k (endOf g.sizes j) x) (small h k (omega (arith, block-fits g.sizes j))))
+            (λ (x : endOf g.sizes j ≤ k). rw (le-ltb k (endOf g.sizes j) x)
+            (small h (firstIndex g j) (omega (arith, positive, block-fits g.sizes j))))
+            (before-or-not k (endOf g.sizes j));
+        rule = λ k m n.
+            let r = C .rule k (omega (arith, block-fits g.sizes j)) in
+            let here : closed (firstIndex g j) (endOf g.sizes j) (at c) k ≡ at c k =
+            rw (lt-ltb k (endOf g.sizes j) n) in
+            let e : firstIndex g j + (k - firstIndex g j) ≡ k = omega arith in
+            ⊎-elim
+            (λ (x : suc k < endOf g.sizes j).
+            let q : next g k ≡ suc k = rw e at (next-at g j (k - firstIndex g j) (omega arith)) ∙ omega arith in
+            let there : closed (firstIndex g j) (endOf g.sizes j) (at c) (suc k) ≡ at c (suc k) =
+            rw (lt-ltb (suc k) (endOf g.sizes j) x) in
+            rw (here, there) (rw q at r))
+            (λ (x : endOf g.sizes j ≤ suc k).
+            let q : next g k ≡ firstIndex g j = rw e at (next-round g j (k - firstIndex g j) (omega arith)) in
+            let there : closed (firstIndex g j) (endOf g.sizes j) (at c) (suc k) ≡ at c (firstIndex g j) =
+            rw (le-ltb (suc k) (endOf g.sizes j) x) in
+            rw (here, there) (rw q at r))
+            (before-or-not (suc k) (endOf g.sizes j));
+        round = rw (
+          le-ltb (endOf g.sizes j) (endOf g.sizes j) (omega arith),
+          lt-ltb (firstIndex g j) (endOf g.sizes j) (omega (arith, positive)),
+        );
+      }))
     where
       c : List ℕ
       c = coefficientsFrom g p z
@@ -182,5 +207,6 @@ module _ {g : Grid} (A : Accepted g) (p z : Point) (hp : isGridPoint g p ≡ tru
       positive : 2 ≤ size g j
       positive = size-two g A j lj .0
 
-      small : zeroOrOne g (coefficientsFrom g p z) ≡ true → (k : ℕ) → k < numIndices g → at (coefficientsFrom g p z) k ≤ 1
+      small : zeroOrOne g (coefficientsFrom g p z) ≡ true → (k : ℕ) → k < numIndices g
+          → at (coefficientsFrom g p z) k ≤ 1
       small h k l = leb-true _ _ (at-index g (λ h. leb (at (coefficientsFrom g p z) h) 1) h k l)

@@ -10,7 +10,8 @@ use Rattle.chains.specs.Sets.{ones, ClearFrom, IsSet}
 use Rattle.chains.specs.declared.sets.Found.{Found}
 use Rattle.chains.specs.declared.sets.Found.the-variants.{Set, NoSet}
 
--- 0s and 1s at the indices from `first` up to `end`, a block, with "y_h = v_h + c_h - c_(h+1) for every h, h + 1 taken round the block": at `end` the first number stands again
+-- 0s and 1s at the indices from `first` up to `end`, a block, with "y_h = v_h + c_h - c_(h+1) for every h, h + 1 taken
+-- round the block": at `end` the first number stands again
 pub record GoesRound (p z : Point) (first end : ℕ) (f : ℕ → ℕ) : Type 0 where
   pub small : (k : ℕ) → first ≤ k → k ≤ end → f k ≤ 1
   pub rule : (k : ℕ) → first ≤ k → k < end → at z k + f (suc k) ≡ at p k + f k

@@ -32,10 +32,12 @@ pub record Listed (g : GridStruct) (count : ℕ) (numbers : List ℕ) : Type 0 w
 
 -- the sets of the first points, with p as the start
 abbrev pub AreSets : GridStruct → Point → List ℕ → ℕ → List ℕ → Type 0
-AreSets g p numbers count sets =
-    (k : ℕ) → k < count → IsSet (numIndices (shape g)) (coefficientsFrom (shape g) p (listedAt (g .indices) numbers k)) (at sets k)
+AreSets g p numbers count sets = (k : ℕ) → k < count
+    → IsSet (numIndices (shape g)) (coefficientsFrom (shape g) p (listedAt (g .indices) numbers k)) (at sets k)
 
 -- whether all points have sets, and these
-pub record Filled (g : GridStruct) (p : Point) (numbers : List ℕ) (count : ℕ) (good : Bool) (sets : List ℕ) : Type 0 where
-  pub goodIs : good ≡ all (λ z. zeroOrOne (shape g) (coefficientsFrom (shape g) p z)) (listed (g .indices) count numbers)
+pub record Filled (g : GridStruct) (p : Point) (numbers : List ℕ) (count : ℕ) (good : Bool) (sets : List ℕ)
+    : Type 0 where
+  pub goodIs : good
+      ≡ all (λ z. zeroOrOne (shape g) (coefficientsFrom (shape g) p z)) (listed (g .indices) count numbers)
   pub areSets : good ≡ true → AreSets g p numbers count sets

@@ -31,19 +31,23 @@ use Rattle.checker.specs.Covered.{IsCovered, Labelled, firstWhole}
 use Rattle.checker.specs.declared.Answer.the-variants.{Refused}
 
 -- the verdict, by the test and the covered indices
-module _ {s : GridStruct} {count : ℕ} {numbers : List ℕ} (L : Listed s count numbers) (some : 1 ≤ count) (labels : List ℕ) where
+module _ {s : GridStruct} {count : ℕ} {numbers : List ℕ} (L : Listed s count numbers) (some : 1 ≤ count)
+    (labels : List ℕ) where
   by-test : verdict (shape s) labels (listed (s .indices) count numbers)
-      ≡ cond (oneChain (shape s) (listed (s .indices) count numbers)) (firstOf (completeFor (labelledBy (shape s) labels) (listed (s .indices) count numbers))) none
+      ≡ cond (oneChain (shape s) (listed (s .indices) count numbers))
+      (firstOf (completeFor (labelledBy (shape s) labels) (listed (s .indices) count numbers))) none
   by-test = answer-by-test (made-accepted s L.has.made) (listed (s .indices) count numbers) L.onGrid
       (omega (arith, length-map (upFrom 0 count) (listedAt (s .indices) numbers), length-upFrom 0 count)) labels
 
-  pub verdict-no : oneChain (shape s) (listed (s .indices) count numbers) ≡ false → none ≡ verdict (shape s) labels (listed (s .indices) count numbers)
+  pub verdict-no : oneChain (shape s) (listed (s .indices) count numbers) ≡ false
+      → none ≡ verdict (shape s) labels (listed (s .indices) count numbers)
   verdict-no e = sym (by-test ∙ rw e)
 
   pub verdict-covered : (covered : ℕ) → oneChain (shape s) (listed (s .indices) count numbers) ≡ true
       → IsCovered (shape s) labels (listed (s .indices) count numbers) covered
       → firstWhole (shape s) covered ≡ verdict (shape s) labels (listed (s .indices) count numbers)
-  verdict-covered covered e C = sym (by-test ∙ rw (e, whole-is (shape s) labels (listed (s .indices) count numbers) covered C))
+  verdict-covered covered e C =
+      sym (by-test ∙ rw (e, whole-is (shape s) labels (listed (s .indices) count numbers) covered C))
 
 -- the answer on every input
 module _ (g : Grid) (labels numbers : List ℕ) where
@@ -54,22 +58,27 @@ module _ (g : Grid) (labels numbers : List ℕ) where
       rw (q, ne-eqb n 0 z)
 
   module _ (accepted : firstNo (gridQuestions g) ≡ 0) where
-    pub refused-list : (n : ℕ) → (n ≡ 0 → ⊥) → n ≡ firstNo (listQuestions g labels numbers) → Refused n ≡ checkAnswer g labels numbers
+    pub refused-list : (n : ℕ) → (n ≡ 0 → ⊥) → n ≡ firstNo (listQuestions g labels numbers)
+        → Refused n ≡ checkAnswer g labels numbers
     unfolding checkAnswer
     refused-list n z e =
         let q = asked-next (gridQuestions g) (listQuestions g labels numbers) refl accepted ∙ sym e in
         rw (q, ne-eqb n 0 z)
 
-    pub judged-is : firstNo (listQuestions g labels numbers) ≡ 0 → caseOf (verdict g labels (pointsOf g numbers)) ≡ checkAnswer g labels numbers
+    pub judged-is : firstNo (listQuestions g labels numbers) ≡ 0
+        → caseOf (verdict g labels (pointsOf g numbers)) ≡ checkAnswer g labels numbers
     unfolding checkAnswer
     judged-is e = let q = asked-next (gridQuestions g) (listQuestions g labels numbers) refl accepted ∙ e in rw q
 
 -- what holds where questions 6, 7 and 19 are answered yes
-module _ (s : GridStruct) (made : IsMade s) (labels numbers : List ℕ) (none-no : firstNo (listQuestions (shape s) labels numbers) ≡ 0) where
-  after-six : (question6 (labelledBy (shape s) labels) .answeredYes ≡ true) × (firstNo (question7 (labelledBy (shape s) labels) ∷ question19 (shape s) numbers ∷ []) ≡ 0)
+module _ (s : GridStruct) (made : IsMade s) (labels numbers : List ℕ)
+    (none-no : firstNo (listQuestions (shape s) labels numbers) ≡ 0) where
+  after-six : (question6 (labelledBy (shape s) labels) .answeredYes ≡ true)
+      × (firstNo (question7 (labelledBy (shape s) labels) ∷ question19 (shape s) numbers ∷ []) ≡ 0)
   after-six = first-yes (question6 (labelledBy (shape s) labels)) _ (omega arith) none-no
 
-  after-seven : (question7 (labelledBy (shape s) labels) .answeredYes ≡ true) × (firstNo (question19 (shape s) numbers ∷ []) ≡ 0)
+  after-seven : (question7 (labelledBy (shape s) labels) .answeredYes ≡ true)
+      × (firstNo (question19 (shape s) numbers ∷ []) ≡ 0)
   after-seven = first-yes (question7 (labelledBy (shape s) labels)) _ (omega arith) after-six.1
 
   yes : question19 (shape s) numbers .answeredYes ≡ true

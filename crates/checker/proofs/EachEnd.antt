@@ -1,5 +1,5 @@
--- Each end that a run announces gets yes with its block, also over a table with gaps. In order: points one after another; an end's questions; what a run announces.
--- Assumes nothing.
+-- Each end that a run announces gets yes with its block, also over a table with gaps. In order: points one after
+-- another; an end's questions; what a run announces. Assumes nothing.
 use mathlib.Core.Bool.{Bool, true, false, cond, _&&_}
 use mathlib.Core.List.{List, [], _∷_, _++_, map}
 use mathlib.Core.Option.{Option, none, some}
@@ -43,33 +43,42 @@ map-same : {A : Type 0} (f e : ℕ → A) (b n : ℕ) → ((k : ℕ) → f k ≡
 map-same f e b zero h = refl
 map-same f e b (suc n) h = rw (h b, map-same f e (suc b) n h)
 
-points-back : (m : ℕ) (ys : List Point) → all (λ y. eqb (length y) m) ys ≡ true → listed m (length ys) (concatMap (λ y. y) ys) ≡ ys
+points-back : (m : ℕ) (ys : List Point) → all (λ y. eqb (length y) m) ys ≡ true
+    → listed m (length ys) (concatMap (λ y. y) ys) ≡ ys
 points-back m [] a = refl
 points-back m (y ∷ ys) a =
     let rest = concatMap (λ y. y) ys in
     let long : length y ≡ m = eqb-true _ _ (and-left (eqb (length y) m) _ a) in
-    let first : take m (drop (0 * m) (y ++ rest)) ≡ y = rw (zero-mul m, ← long) (take-append-le (length y) y rest (omega arith) ∙ take-length y) in
+    let first : take m (drop (0 * m) (y ++ rest)) ≡ y =
+    rw (zero-mul m, ← long) (take-append-le (length y) y rest (omega arith) ∙ take-length y) in
     let later : map (listedAt m (y ++ rest)) (upFrom 1 (length ys)) ≡ ys =
     map-later (listedAt m (y ++ rest)) 0 (length ys)
-    ∙ map-same (λ k. listedAt m (y ++ rest) (suc k)) (listedAt m rest) 0 (length ys) (λ k.
+    ∙ map-same
+    (λ k. listedAt m (y ++ rest) (suc k))
+    (listedAt m rest) 0 (length ys)
+    (λ k.
     let e : suc k * m ≡ length y + k * m = omega (arith, suc-mul k m) in
     rw e (ap (take m) (drop-append-add y rest (k * m))))
-    ∙ points-back m ys (and-right (eqb (length y) m) _ a)
-    in
+    ∙ points-back m ys (and-right (eqb (length y) m) _ a) in
     rw (first, later)
 
-numbers-long : (m : ℕ) (ys : List Point) → all (λ y. eqb (length y) m) ys ≡ true → length (concatMap (λ y. y) ys) ≡ length ys * m
+numbers-long : (m : ℕ) (ys : List Point) → all (λ y. eqb (length y) m) ys ≡ true
+    → length (concatMap (λ y. y) ys) ≡ length ys * m
 numbers-long m [] a = omega (arith, zero-mul m)
 numbers-long m (y ∷ ys) a =
     let long : length y ≡ m = eqb-true _ _ (and-left (eqb (length y) m) _ a) in
     rw length-append (omega (arith, suc-mul (length ys) m, numbers-long m ys (and-right (eqb (length y) m) _ a)))
 
-all-long : (g : Grid) (ys : List Point) → all (isGridPoint g) ys ≡ true → all (λ y. eqb (length y) (numIndices g)) ys ≡ true
+all-long : (g : Grid) (ys : List Point) → all (isGridPoint g) ys ≡ true
+    → all (λ y. eqb (length y) (numIndices g)) ys ≡ true
 all-long g [] a = refl
-all-long g (y ∷ ys) a = rw (eq-eqb _ _ (point-long g y (and-left (isGridPoint g y) _ a))) (all-long g ys (and-right (isGridPoint g y) _ a))
+all-long g (y ∷ ys) a =
+    rw (eq-eqb _ _ (point-long g y (and-left (isGridPoint g y) _ a))) (all-long g ys (and-right (isGridPoint g y) _ a))
 
--- the points of a list that is 1 to n + 1 points of the grid one after another are these, and question 19 is answered yes
-module _ {g : Grid} (A : Accepted g) (ys : List Point) (some-point : 1 ≤ length ys) (few : length ys ≤ suc (dimension g)) (on : all (isGridPoint g) ys ≡ true) where
+-- the points of a list that is 1 to n + 1 points of the grid one after another are these, and question 19 is
+-- answered yes
+module _ {g : Grid} (A : Accepted g) (ys : List Point) (some-point : 1 ≤ length ys)
+    (few : length ys ≤ suc (dimension g)) (on : all (isGridPoint g) ys ≡ true) where
   some-index : 0 < numIndices g
   some-index = omega (arith, blocks-few g A, A .someBlock)
 
@@ -83,25 +92,32 @@ module _ {g : Grid} (A : Accepted g) (ys : List Point) (some-point : 1 ≤ lengt
   list-accepted =
       let long = numbers-long (numIndices g) ys (all-long g ys on) in
       let least : 1 * numIndices g ≤ length ys * numIndices g = mul-le-mul-right (numIndices g) some-point in
-      sym (list-points g (concatMap (λ y. y) ys) (omega (arith, some-index)) (rw as-many (sym long)) (rw as-many few)) ∙ rw same-points on
+      sym (list-points g (concatMap (λ y. y) ys) (omega (arith, some-index)) (rw as-many (sym long)) (rw as-many few))
+      ∙ rw same-points on
 
 -- what a run announces is the path's end
-announced-end : (p : Problem) (budget places read : ℕ) (kind : Kind) (block vertices : ℕ) (simplex : Simplex) → answer p budget ≡ ended places read kind block vertices simplex
+announced-end : (p : Problem) (budget places read : ℕ) (kind : Kind) (block vertices : ℕ) (simplex : Simplex)
+    → answer p budget ≡ ended places read kind block vertices simplex
     → (e : End) × (path p .end ≡ some e) × (block ≡ suc (e .block)) × (simplex ≡ e .simplex)
 unfolding answer
 announced-end p budget places read kind block vertices simplex h = go (path p .end) refl h
   where
-    go : (o : Option End) → path p .end ≡ o → cond (ltb budget (pathLength p)) (spent budget) (outcome p (path p .visited) o) ≡ ended places read kind block vertices simplex
+    go : (o : Option End) → path p .end ≡ o
+        → cond (ltb budget (pathLength p)) (spent budget) (outcome p (path p .visited) o)
+        ≡ ended places read kind block vertices simplex
         → (e : End) × (path p .end ≡ some e) × (block ≡ suc (e .block)) × (simplex ≡ e .simplex)
     go none q h = unended (ltb budget (pathLength p)) h
       where
-        unended : (b : Bool) → cond b (spent budget) (outcome p (path p .visited) none) ≡ ended places read kind block vertices simplex
+        unended : (b : Bool)
+            → cond b (spent budget) (outcome p (path p .visited) none) ≡ ended places read kind block vertices simplex
             → (e : End) × (path p .end ≡ some e) × (block ≡ suc (e .block)) × (simplex ≡ e .simplex)
         unended true h = absurd-bool (cc)
         unended false h = absurd-bool (cc)
     go (some e) q h = within (ltb budget (pathLength p)) h
       where
-        within : (b : Bool) → cond b (spent budget) (announcement (pathLength p) (labelsRead (path p .visited)) e) ≡ ended places read kind block vertices simplex
+        within : (b : Bool)
+            → cond b (spent budget) (announcement (pathLength p) (labelsRead (path p .visited)) e)
+            ≡ ended places read kind block vertices simplex
             → (e : End) × (path p .end ≡ some e) × (block ≡ suc (e .block)) × (simplex ≡ e .simplex)
         within true h = absurd-bool (cc)
         within false h = (e, q, (cc), (cc))
@@ -111,13 +127,17 @@ pub each-end : (p : Problem) → firstNo (tableQuestions p) ≡ 0 → EachEndGet
 each-end p questions = record {
   yes = λ budget places read kind block vertices simplex h.
       let e = announced-end p budget places read kind block vertices simplex h in
-      ap (λ (s : Simplex). checkAnswer p.grid p.labels (concatMap (λ y. y) s)) e.3 ∙ end-yes e.0 e.1 ∙ ap (λ (n : ℕ). Yes n) (sym e.2);
+      ap (λ (s : Simplex). checkAnswer p.grid p.labels (concatMap (λ y. y) s)) e.3
+      ∙ end-yes e.0 e.1
+      ∙ ap (λ (n : ℕ). Yes n) (sym e.2);
 }
   where
-    asked : (firstNo (gridQuestions p.grid) ≡ 0) × (firstNo (question5 p.grid p.start ∷ question6 p ∷ question7 p ∷ []) ≡ 0)
+    asked : (firstNo (gridQuestions p.grid) ≡ 0)
+        × (firstNo (question5 p.grid p.start ∷ question6 p ∷ question7 p ∷ []) ≡ 0)
     asked = both-yes (gridQuestions p.grid) (question5 p.grid p.start ∷ question6 p ∷ question7 p ∷ []) refl questions
 
-    end-yes : (e : End) → path p .end ≡ some e → checkAnswer p.grid p.labels (concatMap (λ y. y) (e .simplex)) ≡ Yes (suc (e .block))
+    end-yes : (e : End) → path p .end ≡ some e
+        → checkAnswer p.grid p.labels (concatMap (λ y. y) (e .simplex)) ≡ Yes (suc (e .block))
     end-yes e q =
         let start = first-yes (question5 p.grid p.start) _ (omega arith) asked.1 in
         let size = first-yes (question6 p) _ (omega arith) start.1 in
@@ -127,5 +147,7 @@ each-end p questions = record {
         let w = last-place ok e q in
         let s = stop-points ok w.0 e w.1 w.2 in
         let numbers = concatMap (λ y. y) (e .simplex) in
-        let list = none-no p.grid p.labels numbers (eqb-true _ _ size.0) labels.0 (list-accepted A e.simplex s.0 s.1 s.2) in
-        sym (judged-is p.grid p.labels numbers asked.0 (sym list)) ∙ rw (same-points A e.simplex s.0 s.1 s.2, stop-answer ok w.0 e w.1 w.2)
+        let list =
+        none-no p.grid p.labels numbers (eqb-true _ _ size.0) labels.0 (list-accepted A e.simplex s.0 s.1 s.2) in
+        sym (judged-is p.grid p.labels numbers asked.0 (sym list))
+        ∙ rw (same-points A e.simplex s.0 s.1 s.2, stop-answer ok w.0 e w.1 w.2)

@@ -1,4 +1,5 @@
--- The refusals of the checker: which of questions 6, 7 and 19 is the first that is answered no, and what holds where none is. Assumes nothing.
+-- The refusals of the checker: which of questions 6, 7 and 19 is the first that is answered no, and what holds where
+-- none is. Assumes nothing.
 use mathlib.Core.Bool.{true, false, _&&_}
 use mathlib.Core.List.{List, [], _∷_}
 use mathlib.Core.Path.{_≡_, refl, sym, ap, _∙_}
@@ -28,17 +29,26 @@ module _ (g : Grid) (numbers : List ℕ) where
   list-empty l = rw (lt-leb 1 (length numbers) l)
 
   module _ (some : 1 ≤ length numbers) where
-    pub list-parted : (wholePoints g numbers * numIndices g ≡ length numbers → ⊥) → false ≡ question19 g numbers .answeredYes
-    list-parted n = rw (le-leb 1 (length numbers) some, ne-eqb (wholePoints g numbers * numIndices g) (length numbers) n)
+    pub list-parted : (wholePoints g numbers * numIndices g ≡ length numbers → ⊥)
+        → false ≡ question19 g numbers .answeredYes
+    list-parted n =
+        rw (le-leb 1 (length numbers) some, ne-eqb (wholePoints g numbers * numIndices g) (length numbers) n)
 
     module _ (whole : wholePoints g numbers * numIndices g ≡ length numbers) where
       pub list-long : suc (dimension g) < wholePoints g numbers → false ≡ question19 g numbers .answeredYes
-      list-long l =
-          rw (le-leb 1 (length numbers) some, eq-eqb (wholePoints g numbers * numIndices g) (length numbers) whole, lt-leb (wholePoints g numbers) (suc (dimension g)) l)
+      list-long l = rw (
+        le-leb 1 (length numbers) some,
+        eq-eqb (wholePoints g numbers * numIndices g) (length numbers) whole,
+        lt-leb (wholePoints g numbers) (suc (dimension g)) l,
+      )
 
-      pub list-points : wholePoints g numbers ≤ suc (dimension g) → all (isGridPoint g) (pointsOf g numbers) ≡ question19 g numbers .answeredYes
-      list-points l =
-          rw (le-leb 1 (length numbers) some, eq-eqb (wholePoints g numbers * numIndices g) (length numbers) whole, le-leb (wholePoints g numbers) (suc (dimension g)) l)
+      pub list-points : wholePoints g numbers ≤ suc (dimension g)
+          → all (isGridPoint g) (pointsOf g numbers) ≡ question19 g numbers .answeredYes
+      list-points l = rw (
+        le-leb 1 (length numbers) some,
+        eq-eqb (wholePoints g numbers * numIndices g) (length numbers) whole,
+        le-leb (wholePoints g numbers) (suc (dimension g)) l,
+      )
 
 -- questions 6, 7 and 19 in order
 module _ (g : Grid) (labels numbers : List ℕ) where
@@ -63,7 +73,8 @@ module _ (g : Grid) (labels numbers : List ℕ) where
 -- the numbers of question 19 as the program works them out
 module _ (s : GridStruct) (made : IsMade s) where
   pub some-index : 0 < s .indices
-  some-index = omega (arith, blocks-few (shape s) (made-accepted s made), made-accepted s made .someBlock, made-indices s made)
+  some-index =
+      omega (arith, blocks-few (shape s) (made-accepted s made), made-accepted s made .someBlock, made-indices s made)
 
   pub fewer-blocks : s .blocks ≤ s .indices
   fewer-blocks = omega (arith, blocks-few (shape s) (made-accepted s made), made-blocks s made, made-indices s made)
@@ -72,5 +83,9 @@ module _ (s : GridStruct) (made : IsMade s) where
   most-is = omega (arith, made-blocks s made, made-indices s made)
 
   pub most-few : suc (dimension (shape s)) ≤ 16
-  most-few =
-      omega (arith, blocks-few (shape s) (made-accepted s made), made-accepted s made .someBlock, made-accepted s made .fewIndices)
+  most-few = omega (
+    arith,
+    blocks-few (shape s) (made-accepted s made),
+    made-accepted s made .someBlock,
+    made-accepted s made .fewIndices,
+  )

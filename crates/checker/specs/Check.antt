@@ -1,4 +1,5 @@
--- Request 07, "Checking sheets from other programs": the checker's questions, and its answer on every input. Assumes nothing.
+-- Request 07, "Checking sheets from other programs": the checker's questions, and its answer on every input.
+-- Assumes nothing.
 use mathlib.Core.Bool.{_&&_, cond}
 use mathlib.Core.List.{List, [], _∷_, _++_}
 use mathlib.Core.Option.{Option, none, some}
@@ -23,16 +24,17 @@ wholePoints g numbers = length numbers / numIndices g
 abbrev pub pointsOf : Grid → List ℕ → List Point
 pointsOf g numbers = listed (numIndices g) (wholePoints g numbers) numbers
 
--- "19 when the list is empty, is not whole points of m numbers, has more than n + 1 points, or has a point off the grid"
+-- "19 when the list is empty, is not whole points of m numbers, has more than n + 1 points, or has a point off
+-- the grid"
 abbrev pub question19 : Grid → List ℕ → Question
-question19 g numbers =
-    ask 19
-    (leb 1 (length numbers) && eqb (wholePoints g numbers * numIndices g) (length numbers) && leb (wholePoints g numbers) (suc (dimension g))
-    && all (isGridPoint g) (pointsOf g numbers))
+question19 g numbers = ask 19
+    (leb 1 (length numbers) && eqb (wholePoints g numbers * numIndices g) (length numbers)
+    && leb (wholePoints g numbers) (suc (dimension g)) && all (isGridPoint g) (pointsOf g numbers))
 
 -- those behind 1 to 4: "6 and 7", and 19 "put after 7"
 abbrev pub listQuestions : Grid → List ℕ → List ℕ → List Question
-listQuestions g labels numbers = question6 (labelledBy g labels) ∷ question7 (labelledBy g labels) ∷ question19 g numbers ∷ []
+listQuestions g labels numbers =
+    question6 (labelledBy g labels) ∷ question7 (labelledBy g labels) ∷ question19 g numbers ∷ []
 
 -- "It puts 1 to 4, 6 and 7"
 abbrev pub checkQuestions : Grid → List ℕ → List ℕ → List Question

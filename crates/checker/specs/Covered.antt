@@ -1,4 +1,5 @@
--- The indices that are labels of some points or belong to their U, as a mask, and the first block that has all of its own. Assumes nothing.
+-- The indices that are labels of some points or belong to their U, as a mask, and the first block that has all of its
+-- own. Assumes nothing.
 use mathlib.Core.Bool.{true, _||_, cond}
 use mathlib.Core.List.{List, map}
 use mathlib.Core.Option.{Option}
@@ -14,9 +15,11 @@ use Rattle.rules.specs.Mask.{bit, withIndex}
 use Rattle.place.specs.Problem.{label}
 use Rattle.simplices.specs.Simplices.{firstOf, labelledBy}
 
--- "each index of the block is a label of one of its points or belongs to its U": for each index whether it is one or the other
+-- "each index of the block is a label of one of its points or belongs to its U": for each index whether it is one or
+-- the other
 pub record IsCovered (g : Grid) (labels : List ℕ) (zs : List Point) (covered : ℕ) : Type 0 where
-  pub bits : (h : ℕ) → h < numIndices g → bit covered h ≡ (isIn eqb (suc h) (map (label (labelledBy g labels)) zs) || all (λ y. eqb (at y h) 0) zs)
+  pub bits : (h : ℕ) → h < numIndices g
+      → bit covered h ≡ (isIn eqb (suc h) (map (label (labelledBy g labels)) zs) || all (λ y. eqb (at y h) 0) zs)
 
 -- the first block whose indices all belong to the mask
 abbrev pub firstWhole : Grid → ℕ → Option ℕ

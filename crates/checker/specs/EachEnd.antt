@@ -1,4 +1,5 @@
--- "Each end we print gets yes": of what a run announces, given to the checker as it stands in the answer buffer. Assumes nothing.
+-- "Each end we print gets yes": of what a run announces, given to the checker as it stands in the answer buffer.
+-- Assumes nothing.
 use mathlib.Core.Path.{_≡_}
 use Prim.Native.Nat.{ℕ}
 use Rattle.combinatorics.specs.Lists.{concatMap}
@@ -11,5 +12,6 @@ use Rattle.checker.specs.declared.Answer.the-variants.{Yes}
 
 -- whatever the budget, an end that is announced gets yes with its block
 pub record EachEndGetsYes (p : Problem) : Type 0 where
-  pub yes : (budget places read : ℕ) (kind : Kind) (block vertices : ℕ) (simplex : Simplex) → answer p budget ≡ ended places read kind block vertices simplex
+  pub yes : (budget places read : ℕ) (kind : Kind) (block vertices : ℕ) (simplex : Simplex)
+      → answer p budget ≡ ended places read kind block vertices simplex
       → checkAnswer (p .grid) (p .labels) (concatMap (λ y. y) simplex) ≡ Yes block

@@ -49,7 +49,9 @@ choose-grows r r′ k k′ a b =
 
     columns : (s n : ℕ) → choose (s + k) k ≤ choose (s + (k + n)) (k + n)
     columns s zero = let z : k + 0 ≡ k = omega arith in rw z (omega arith)
-    columns s (suc n) = let z : k + suc n ≡ suc (k + n) = omega arith in rw z (omega (arith, columns s n, choose-right s (k + n)))
+    columns s (suc n) =
+        let z : k + suc n ≡ suc (k + n) = omega arith in
+        rw z (omega (arith, columns s n, choose-right s (k + n)))
 
 pub choose-positive : (r k : ℕ) → 1 ≤ choose (r + k) k
 choose-positive r k = omega (arith, choose-grows 0 r k k (omega arith) (omega arith), choose-none k)

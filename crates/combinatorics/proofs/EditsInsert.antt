@@ -12,7 +12,8 @@ length-insertAt zero x ys = refl
 length-insertAt (suc i) x [] = refl
 length-insertAt (suc i) x (y ∷ ys) = ap suc (length-insertAt i x ys)
 
-pub insertAt-before : {A : Type 0} (d : A) (i : ℕ) (x : A) (ys : List A) (j : ℕ) → i ≤ length ys → j < i → getD (insertAt i x ys) j d ≡ getD ys j d
+pub insertAt-before : {A : Type 0} (d : A) (i : ℕ) (x : A) (ys : List A) (j : ℕ) → i ≤ length ys → j < i
+    → getD (insertAt i x ys) j d ≡ getD ys j d
 insertAt-before d zero x ys j l m = absurd (omega arith)
 insertAt-before d (suc i) x [] j l m = absurd (omega arith)
 insertAt-before d (suc i) x (y ∷ ys) zero l m = refl
@@ -30,10 +31,12 @@ insertAt-behind d (suc i) x [] j l m = absurd (omega arith)
 insertAt-behind d (suc i) x (y ∷ ys) zero l m = absurd (omega arith)
 insertAt-behind d (suc i) x (y ∷ ys) (suc j) l m = insertAt-behind d i x ys j (omega arith) (omega arith)
 
-found-none-from : (k x but : ℕ) (ys : List ℕ) → ((j : ℕ) → j < length ys → getD ys j 0 ≡ x → ⊥) → foundFrom k x but ys ≡ k + length ys
+found-none-from : (k x but : ℕ) (ys : List ℕ) → ((j : ℕ) → j < length ys → getD ys j 0 ≡ x → ⊥)
+    → foundFrom k x but ys ≡ k + length ys
 found-none-from k x but [] n = omega arith
-found-none-from k x but (y ∷ ys) n =
-    rw (ne-eqb y x (n 0 (omega arith))) (found-none-from (suc k) x but ys (λ j l. n (suc j) (omega arith)) ∙ omega arith)
+found-none-from k x but (y ∷ ys) n = rw (ne-eqb y x (n 0 (omega arith)))
+    (found-none-from (suc k) x but ys (λ j l. n (suc j) (omega arith)) ∙ omega arith)
 
-pub found-none : (x but : ℕ) (ys : List ℕ) → ((j : ℕ) → j < length ys → getD ys j 0 ≡ x → ⊥) → found x but ys ≡ length ys
+pub found-none : (x but : ℕ) (ys : List ℕ) → ((j : ℕ) → j < length ys → getD ys j 0 ≡ x → ⊥)
+    → found x but ys ≡ length ys
 found-none x but ys n = found-none-from 0 x but ys n ∙ omega arith

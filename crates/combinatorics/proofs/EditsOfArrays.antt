@@ -9,7 +9,8 @@ use borrow.Author.Tests.{eqb-true, eq-eqb, ne-eqb}
 use lib.Dec.{eqb}
 use lib.ListN.{length, length-take, getD, take, drop, drop-of-length-le, set}
 use lib.Seq.{drop-cons, length-take-le, take-set-lt, getD-take}
-use Rattle.combinatorics.specs.Edits.{insertAt, removeAt, swapAt, rotateLeft, lastOr, butLast, rotateRight, foundFrom}
+use Rattle.combinatorics.specs.Edits.{insertAt, removeAt, swapAt, rotateLeft, lastOr, butLast, rotateRight}
+use Rattle.combinatorics.specs.Edits.{foundFrom}
 
 -- a list at the front of an array that is longer has the length that was taken
 pub counted : (l : List ℕ) (n : ℕ) → length l ≡ 16 → length (take n l) ≤ 15 → length (take n l) ≡ n
@@ -23,7 +24,8 @@ swap-set : (l : List ℕ) (k x : ℕ) → suc k < length l → set (set l (suc k
 swap-set [] k x h = absurd (omega arith)
 swap-set (y ∷ []) k x h = absurd (omega arith)
 swap-set (y ∷ z ∷ l) zero x h = refl
-swap-set (y ∷ z ∷ l) (suc k) x h = ap (λ (m : List ℕ). y ∷ m) (swap-set (z ∷ l) k x (omega arith)) ∙ swap-cons y k (z ∷ l) x
+swap-set (y ∷ z ∷ l) (suc k) x h =
+    ap (λ (m : List ℕ). y ∷ m) (swap-set (z ∷ l) k x (omega arith)) ∙ swap-cons y k (z ∷ l) x
   where
     swap-cons : (y k : ℕ) (l : List ℕ) (x : ℕ) → y ∷ swapAt k (set l (suc k) x) ≡ swapAt (suc k) (y ∷ set l (suc k) x)
     swap-cons y k [] x = refl
@@ -50,12 +52,14 @@ insert-last zero x (y ∷ l) h = refl
 insert-last (suc n) x (y ∷ l) h = ap (λ (m : List ℕ). y ∷ m) (insert-last n x l (omega arith))
 
 -- one turn of the loop that makes room: entry k - 1 is copied to k, and x would go to k - 1
-pub insert-back : (l m : List ℕ) (n k x : ℕ) → 0 < k → k ≤ n → n < length l → n ≤ length m → take (suc n) (set l k x) ≡ insertAt k x m
+pub insert-back : (l m : List ℕ) (n k x : ℕ) → 0 < k → k ≤ n → n < length l → n ≤ length m
+    → take (suc n) (set l k x) ≡ insertAt k x m
     → take (suc n) (set (set l k (getD l (k - 1) 0)) (k - 1) x) ≡ insertAt (k - 1) x m
 insert-back l m n zero x a b c d e = absurd (omega arith)
 insert-back l m n (suc k) x a b c d e =
     let z : suc k - 1 ≡ k = omega arith in
-    rw (z, swap-set l k x (omega arith), take-swap (suc n) k (set l (suc k) x) (omega arith), e) (swap-insert k x m (omega arith))
+    rw (z, swap-set l k x (omega arith), take-swap (suc n) k (set l (suc k) x) (omega arith), e)
+    (swap-insert k x m (omega arith))
 
 -- an element is lost to the one behind it
 remove-copy : (k : ℕ) (l : List ℕ) → suc k < length l → removeAt (suc k) (set l k (getD l (suc k) 0)) ≡ removeAt k l
@@ -65,11 +69,13 @@ remove-copy zero (x ∷ y ∷ l) h = refl
 remove-copy (suc k) (x ∷ l) h = ap (λ (m : List ℕ). x ∷ m) (remove-copy k l (omega arith))
 
 -- one turn of the loop that closes a gap: entry k + 1 is copied to k
-pub remove-forward : (l : List ℕ) (n k : ℕ) → k + 1 < n → n ≤ length l → removeAt (k + 1) (take n (set l k (getD l (k + 1) 0))) ≡ removeAt k (take n l)
+pub remove-forward : (l : List ℕ) (n k : ℕ) → k + 1 < n → n ≤ length l
+    → removeAt (k + 1) (take n (set l k (getD l (k + 1) 0))) ≡ removeAt k (take n l)
 remove-forward l n k h c =
     let low : suc k < n = omega arith in
     let fits : suc k < length (take n l) = rw (length-take-le n l c) low in
-    rw (add-one, take-set-lt n l k (getD l (suc k) 0) (omega arith), ← getD-take n l (suc k) 0 low) (remove-copy k (take n l) fits)
+    rw (add-one, take-set-lt n l k (getD l (suc k) 0) (omega arith), ← getD-take n l (suc k) 0 low)
+    (remove-copy k (take n l) fits)
 
 pub remove-last : (n : ℕ) (l : List ℕ) → removeAt n (take (suc n) l) ≡ take n l
 remove-last zero [] = refl
@@ -98,19 +104,22 @@ rotate-right n (x ∷ l) h = pair (last n x l (omega arith)) (but n x l (omega a
     but (suc n) x [] h = absurd (omega arith)
     but (suc n) x (y ∷ l) h = ap (λ (m : List ℕ). x ∷ m) (but n y l (omega arith))
 
-pub swap-two : (k : ℕ) (l : List ℕ) → suc k < length l → set (set l k (getD l (suc k) 0)) (suc k) (getD l k 0) ≡ swapAt k l
+pub swap-two : (k : ℕ) (l : List ℕ) → suc k < length l
+    → set (set l k (getD l (suc k) 0)) (suc k) (getD l k 0) ≡ swapAt k l
 swap-two k [] h = absurd (omega arith)
 swap-two k (x ∷ []) h = absurd (omega arith)
 swap-two zero (x ∷ y ∷ l) h = refl
 swap-two (suc k) (x ∷ y ∷ l) h = ap (λ (m : List ℕ). x ∷ m) (swap-two k (y ∷ l) (omega arith))
 
-pub found-here : (x but k : ℕ) (l : List ℕ) → k < length l → getD l k 0 ≡ x → (k ≡ but → ⊥) → foundFrom k x but (drop k l) ≡ k
+pub found-here : (x but k : ℕ) (l : List ℕ) → k < length l → getD l k 0 ≡ x → (k ≡ but → ⊥)
+    → foundFrom k x but (drop k l) ≡ k
 found-here x but k l h e n = rw (drop-cons l k 0 h, eq-eqb (getD l k 0) x e, ne-eqb k but n)
 
 pub found-past : (x but k : ℕ) (l : List ℕ) → length l ≤ k → k ≡ foundFrom k x but (drop k l)
 found-past x but k l e = rw (drop-of-length-le l e)
 
-pub found-later : (x but k : ℕ) (l : List ℕ) → k < length l → (getD l k 0 ≡ x → k ≡ but) → foundFrom k x but (drop k l) ≡ foundFrom (suc k) x but (drop (suc k) l)
+pub found-later : (x but k : ℕ) (l : List ℕ) → k < length l → (getD l k 0 ≡ x → k ≡ but)
+    → foundFrom k x but (drop k l) ≡ foundFrom (suc k) x but (drop (suc k) l)
 found-later x but k l h e = rw (drop-cons l k 0 h, passed (getD l k 0) x k but e)
   where
     passed : (y x k but : ℕ) → (y ≡ x → k ≡ but) → (eqb y x && not (eqb k but)) ≡ false
@@ -124,6 +133,7 @@ pub found-low : (k x but : ℕ) (l : List ℕ) → foundFrom k x but l ≤ k + l
 found-low k x but [] = omega arith
 found-low k x but (y ∷ l) = go (eqb y x && not (eqb k but)) (found-low (suc k) x but l)
   where
-    go : (b : Bool) → foundFrom (suc k) x but l ≤ suc k + length l → cond b k (foundFrom (suc k) x but l) ≤ k + suc (length l)
+    go : (b : Bool) → foundFrom (suc k) x but l ≤ suc k + length l
+        → cond b k (foundFrom (suc k) x but l) ≤ k + suc (length l)
     go true i = omega arith
     go false i = omega arith

@@ -1,5 +1,5 @@
--- Elements and length of a list less an element, with two neighbours exchanged, or with its last element put first; what a search in a list
--- finds. Assumes nothing.
+-- Elements and length of a list less an element, with two neighbours exchanged, or with its last element put first;
+-- what a search in a list finds. Assumes nothing.
 use mathlib.Core.Bool.{Bool, true, false, not, _&&_, cond}
 use mathlib.Core.List.{List, [], _∷_}
 use mathlib.Core.Logic.{⊎-elim}
@@ -96,24 +96,27 @@ pub record Found (x but : ℕ) (ys : List ℕ) (r : ℕ) : Type 0 where
 
 -- the same, counted from k
 abbrev FoundFrom : ℕ → ℕ → ℕ → List ℕ → ℕ → Type 0
-FoundFrom k x but ys found =
-    (r : ℕ) × (found ≡ k + r) × (r < length ys) × (getD ys r 0 ≡ x) × (k + r ≡ but → ⊥) × ((i : ℕ) → i < r → getD ys i 0 ≡ x → k + i ≡ but)
+FoundFrom k x but ys found = (r : ℕ) × (found ≡ k + r) × (r < length ys) × (getD ys r 0 ≡ x) × (k + r ≡ but → ⊥)
+    × ((i : ℕ) → i < r → getD ys i 0 ≡ x → k + i ≡ but)
 
 -- it is there where element j is x and not passed over
-found-from : (k x but : ℕ) (ys : List ℕ) (j : ℕ) → j < length ys → getD ys j 0 ≡ x → (k + j ≡ but → ⊥) → FoundFrom k x but ys (foundFrom k x but ys)
+found-from : (k x but : ℕ) (ys : List ℕ) (j : ℕ) → j < length ys → getD ys j 0 ≡ x → (k + j ≡ but → ⊥)
+    → FoundFrom k x but ys (foundFrom k x but ys)
 found-from k x but [] j l e n = absurd (omega arith)
 found-from k x but (y ∷ ys) j l e n = go (eqb y x && not (eqb k but)) refl j l e n (found-from (suc k) x but ys)
   where
     passed : (eqb y x && not (eqb k but)) ≡ false → y ≡ x → k ≡ but
     passed q e = ⊎-elim (λ z. z) (λ z. absurd-bool (rw (eq-eqb y x e, ne-eqb k but z) at q)) (same-or k but)
 
-    first : (eqb y x && not (eqb k but)) ≡ false → (r : ℕ) → ((i : ℕ) → i < r → getD ys i 0 ≡ x → suc k + i ≡ but) → (i : ℕ) → i < suc r
-        → getD (y ∷ ys) i 0 ≡ x → k + i ≡ but
+    first : (eqb y x && not (eqb k but)) ≡ false → (r : ℕ) → ((i : ℕ) → i < r → getD ys i 0 ≡ x → suc k + i ≡ but)
+        → (i : ℕ) → i < suc r → getD (y ∷ ys) i 0 ≡ x → k + i ≡ but
     first q r f zero m z = let v : k ≡ but = passed q z in omega arith
     first q r f (suc i) m z = omega (arith, f i (omega arith) z)
 
-    go : (b : Bool) → (eqb y x && not (eqb k but)) ≡ b → (j : ℕ) → j < suc (length ys) → getD (y ∷ ys) j 0 ≡ x → (k + j ≡ but → ⊥)
-        → ((j : ℕ) → j < length ys → getD ys j 0 ≡ x → (suc k + j ≡ but → ⊥) → FoundFrom (suc k) x but ys (foundFrom (suc k) x but ys))
+    go : (b : Bool) → (eqb y x && not (eqb k but)) ≡ b → (j : ℕ) → j < suc (length ys) → getD (y ∷ ys) j 0 ≡ x
+        → (k + j ≡ but → ⊥)
+        → ((j : ℕ) → j < length ys → getD ys j 0 ≡ x → (suc k + j ≡ but → ⊥)
+        → FoundFrom (suc k) x but ys (foundFrom (suc k) x but ys))
         → FoundFrom k x but (y ∷ ys) (cond b k (foundFrom (suc k) x but ys))
     go true q j l e n later = (
       0,
@@ -128,8 +131,10 @@ found-from k x but (y ∷ ys) j l e n = go (eqb y x && not (eqb k but)) refl j l
         let w = later j (omega arith) e (λ z. n (omega arith)) in
         (suc w.0, omega (arith, w .1), omega (arith, w .2), w .3, (λ z. w .4 (omega arith)), first q w.0 w.5)
 
-pub found-is : (x but : ℕ) (ys : List ℕ) (j : ℕ) → j < length ys → getD ys j 0 ≡ x → (j ≡ but → ⊥) → Found x but ys (found x but ys)
+pub found-is : (x but : ℕ) (ys : List ℕ) (j : ℕ) → j < length ys → getD ys j 0 ≡ x → (j ≡ but → ⊥)
+    → Found x but ys (found x but ys)
 found-is x but ys j l e n =
     let w = found-from 0 x but ys j l e (λ z. n (omega arith)) in
     let q : found x but ys ≡ w .0 = omega (arith, w .1) in
-    subst (Found x but ys) (sym q) (record { inside = w .2; is = w .3; other = λ z. w .4 (omega arith); first = λ i m z. omega (arith, w .5 i m z) })
+    subst (Found x but ys) (sym q)
+    (record { inside = w .2; is = w .3; other = λ z. w .4 (omega arith); first = λ i m z. omega (arith, w .5 i m z) })

@@ -5,7 +5,8 @@ use Prim.Native.Nat.{ℕ, _+_, _≤_, _<_, _-_}
 use native.Mathlib.Omega.{arith}
 use native.Mathlib.Numerals.{add-one}
 use lib.ListN.{length, take, drop, set, getD, length-append, length-drop, List·getD-append}
-use lib.Seq.{paste, take-append-seam, drop-append-add, drop-drop, drop-length, take-suc, take-length, length-take-le, getD-append-add, getD-drop}
+use lib.Seq.{paste, take-append-seam, drop-append-add, drop-drop, drop-length, take-suc, take-length, length-take-le}
+use lib.Seq.{getD-append-add, getD-drop}
 use Rattle.combinatorics.specs.Front.{front}
 
 pub front-none : (old : List ℕ) → front [] old ≡ old
@@ -16,7 +17,8 @@ pub front-length : (new old : List ℕ) → length new ≤ length old → length
 unfolding front
 front-length new old h = simp (length-append, length-drop) (omega arith)
 
-pub front-store : (new old : List ℕ) (x : ℕ) → length new < length old → set (front new old) (length new) x ≡ front (new ++ (x ∷ [])) old
+pub front-store : (new old : List ℕ) (x : ℕ) → length new < length old
+    → set (front new old) (length new) x ≡ front (new ++ (x ∷ [])) old
 unfolding front
 front-store [] [] x h = absurd (omega arith)
 front-store [] (y ∷ old) x h = refl
@@ -24,12 +26,15 @@ front-store (z ∷ new) [] x h = absurd (omega arith)
 front-store (z ∷ new) (y ∷ old) x h = ap (λ (l : List ℕ). z ∷ l) (front-store new old x (omega arith))
 
 -- a store at a place that is known to be the length
-pub front-put : (new old : List ℕ) (i x : ℕ) → i ≡ length new → i < length old → set (front new old) i x ≡ front (new ++ (x ∷ [])) old
+pub front-put : (new old : List ℕ) (i x : ℕ) → i ≡ length new → i < length old
+    → set (front new old) i x ≡ front (new ++ (x ∷ [])) old
 front-put new old i x e h = rw e (front-store new old x (omega arith))
 
 -- a copy, one element a turn
-pub front-copy : (s old : List ℕ) (i : ℕ) → i < length s → i < length old → set (front (take i s) old) i (getD s i 0) ≡ front (take (i + 1) s) old
-front-copy s old i h l = rw (add-one, take-suc s i 0) (front-put (take i s) old i (getD s i 0) (sym (length-take-le i s (omega arith))) l)
+pub front-copy : (s old : List ℕ) (i : ℕ) → i < length s → i < length old
+    → set (front (take i s) old) i (getD s i 0) ≡ front (take (i + 1) s) old
+front-copy s old i h l =
+    rw (add-one, take-suc s i 0) (front-put (take i s) old i (getD s i 0) (sym (length-take-le i s (omega arith))) l)
 
 pub front-whole : (s old : List ℕ) (i : ℕ) → i ≡ length s → front (take i s) old ≡ front s old
 front-whole s old i e = rw (e, take-length)
@@ -59,4 +64,5 @@ pub front-behind : (new old : List ℕ) (i : ℕ) → length new ≤ i → getD 
 unfolding front
 front-behind new old i h =
     let e : i ≡ length new + (i - length new) = omega arith in
-    rw e (getD-append-add new (drop (length new) old) (i - length new) 0 ∙ getD-drop (length new) old (i - length new) 0)
+    rw e
+    (getD-append-add new (drop (length new) old) (i - length new) 0 ∙ getD-drop (length new) old (i - length new) 0)

@@ -8,7 +8,8 @@ use borrow.Author.Tests.{eqb-true, eq-eqb}
 use lib.Dec.{eqb}
 use lib.ListN.{length, length-append, getD}
 use native.Mathlib.Omega.{arith}
-use Rattle.combinatorics.proofs.Basics.{absurd-bool, or-cases, or-right, or-left, and-left, and-right, and-both, not-is, false-of, true-or-false}
+use Rattle.combinatorics.proofs.Basics.{absurd-bool, or-cases, or-right, or-left, and-left, and-right, and-both}
+use Rattle.combinatorics.proofs.Basics.{not-is, false-of, true-or-false}
 use Rattle.combinatorics.specs.Lists.{filter, all, concatMap, same, isIn, distinct, any, occurrences}
 
 -- a test of equality for the elements of a list
@@ -17,7 +18,8 @@ pub record Equality (A : Type 0) : Type 0 where
   pub sound : (x y : A) → eq x y ≡ true → x ≡ y
   pub self : (x : A) → eq x x ≡ true
 
-pub same-sound : {A : Type 0} (eq : A → A → Bool) → ((x y : A) → eq x y ≡ true → x ≡ y) → (xs ys : List A) → same eq xs ys ≡ true → xs ≡ ys
+pub same-sound : {A : Type 0} (eq : A → A → Bool) → ((x y : A) → eq x y ≡ true → x ≡ y) → (xs ys : List A)
+    → same eq xs ys ≡ true → xs ≡ ys
 same-sound eq s [] [] e = refl
 same-sound eq s [] (y ∷ ys) e = absurd-bool (sym e)
 same-sound eq s (x ∷ xs) [] e = absurd-bool (sym e)
@@ -38,13 +40,17 @@ length-filter-le q (x ∷ xs) =
 
 pub filter-append : {A : Type 0} (q : A → Bool) (xs ys : List A) → filter q (xs ++ ys) ≡ filter q xs ++ filter q ys
 filter-append q [] ys = refl
-filter-append q (x ∷ xs) ys =
-    ⊎-elim (λ t. rw t (ap (λ l. x ∷ l) (filter-append q xs ys))) (λ f. rw f (filter-append q xs ys)) (true-or-false (q x))
+filter-append q (x ∷ xs) ys = ⊎-elim
+    (λ t. rw t (ap (λ l. x ∷ l) (filter-append q xs ys)))
+    (λ f. rw f (filter-append q xs ys))
+    (true-or-false (q x))
 
-pub distinct-tail : {A : Type 0} (eq : A → A → Bool) (x : A) (xs : List A) → distinct eq (x ∷ xs) ≡ true → distinct eq xs ≡ true
+pub distinct-tail : {A : Type 0} (eq : A → A → Bool) (x : A) (xs : List A) → distinct eq (x ∷ xs) ≡ true
+    → distinct eq xs ≡ true
 distinct-tail eq x xs d = and-right (not (isIn eq x xs)) (distinct eq xs) d
 
-pub distinct-out : {A : Type 0} (eq : A → A → Bool) (x : A) (xs : List A) → distinct eq (x ∷ xs) ≡ true → isIn eq x xs ≡ false
+pub distinct-out : {A : Type 0} (eq : A → A → Bool) (x : A) (xs : List A) → distinct eq (x ∷ xs) ≡ true
+    → isIn eq x xs ≡ false
 distinct-out eq x xs d = not-is (isIn eq x xs) (and-left (not (isIn eq x xs)) (distinct eq xs) d)
 
 abbrev drop1 : {A : Type 0} → (A → A → Bool) → A → List A → List A
@@ -74,15 +80,20 @@ module _ {A : Type 0} (E : Equality A) where
 
   pub any-in : (q : A → Bool) (xs : List A) → any q xs ≡ true → (x : A) × (isIn eq x xs ≡ true) × (q x ≡ true)
   any-in q [] e = absurd-bool (sym e)
-  any-in q (x ∷ xs) e =
-      ⊎-elim (λ h. (x, in-here x xs, h)) (λ h. let i = any-in q xs h in (i .0, in-later i.0 x xs i.1, i .2)) (or-cases (q x) (any q xs) e)
+  any-in q (x ∷ xs) e = ⊎-elim
+      (λ h. (x, in-here x xs, h))
+      (λ h. let i = any-in q xs h in (i .0, in-later i.0 x xs i.1, i .2))
+      (or-cases (q x) (any q xs) e)
 
   pub in-any : (q : A → Bool) (x : A) (xs : List A) → isIn eq x xs ≡ true → q x ≡ true → any q xs ≡ true
   in-any q x [] m h = absurd-bool (sym m)
-  in-any q x (y ∷ xs) m h =
-      ⊎-elim (λ e. or-left (q y) (any q xs) (rw (← e) h)) (λ n. or-right (q y) (any q xs) (in-any q x xs n h)) (in-cases x y xs m)
+  in-any q x (y ∷ xs) m h = ⊎-elim
+      (λ e. or-left (q y) (any q xs) (rw (← e) h))
+      (λ n. or-right (q y) (any q xs) (in-any q x xs n h))
+      (in-cases x y xs m)
 
-  pub filter-cong : {q r : A → Bool} (xs : List A) → ((x : A) → isIn eq x xs ≡ true → q x ≡ r x) → filter q xs ≡ filter r xs
+  pub filter-cong : {q r : A → Bool} (xs : List A) → ((x : A) → isIn eq x xs ≡ true → q x ≡ r x)
+      → filter q xs ≡ filter r xs
   filter-cong [] h = refl
   filter-cong {q} {r} (x ∷ xs) h = rw (h x (in-here x xs), filter-cong xs (λ z m. h z (in-later z x xs m)))
 
@@ -90,14 +101,19 @@ module _ {A : Type 0} (E : Equality A) where
   filter-all [] h = refl
   filter-all {q} (x ∷ xs) h = rw (h x (in-here x xs), filter-all xs (λ z m. h z (in-later z x xs m)))
 
-  pub in-filter : (q : A → Bool) (x : A) (xs : List A) → isIn eq x xs ≡ true → q x ≡ true → isIn eq x (filter q xs) ≡ true
+  pub in-filter : (q : A → Bool) (x : A) (xs : List A) → isIn eq x xs ≡ true → q x ≡ true
+      → isIn eq x (filter q xs) ≡ true
   in-filter q x [] m h = m
-  in-filter q x (y ∷ ys) m h =
-      ⊎-elim (λ e. rw (← e, h) (in-here x (filter q ys)))
-      (λ n. ⊎-elim (λ t. rw t (in-later x y (filter q ys) (in-filter q x ys n h))) (λ f. rw f (in-filter q x ys n h)) (true-or-false (q y)))
+  in-filter q x (y ∷ ys) m h = ⊎-elim
+      (λ e. rw (← e, h) (in-here x (filter q ys)))
+      (λ n. ⊎-elim
+      (λ t. rw t (in-later x y (filter q ys) (in-filter q x ys n h)))
+      (λ f. rw f (in-filter q x ys n h))
+      (true-or-false (q y)))
       (in-cases x y ys m)
 
-  pub filter-in : (q : A → Bool) (x : A) (xs : List A) → isIn eq x (filter q xs) ≡ true → (isIn eq x xs ≡ true) × (q x ≡ true)
+  pub filter-in : (q : A → Bool) (x : A) (xs : List A) → isIn eq x (filter q xs) ≡ true
+      → (isIn eq x xs ≡ true) × (q x ≡ true)
   filter-in q x [] m = absurd-bool (sym m)
   filter-in q x (y ∷ ys) m =
       ⊎-elim
@@ -110,13 +126,16 @@ module _ {A : Type 0} (E : Equality A) where
   distinct-filter q [] d = refl
   distinct-filter q (x ∷ xs) d =
       let i = distinct-filter q xs (distinct-tail eq x xs d) in
-      let out : isIn eq x (filter q xs) ≡ false = false-of _ (λ m. absurd-bool (sym (filter-in q x xs m .0) ∙ distinct-out eq x xs d)) in
+      let out : isIn eq x (filter q xs) ≡ false =
+      false-of _ (λ m. absurd-bool (sym (filter-in q x xs m .0) ∙ distinct-out eq x xs d)) in
       ⊎-elim (λ t. rw t (rw out i)) (λ f. rw f i) (true-or-false (q x))
 
   pub in-append-left : (x : A) (xs ys : List A) → isIn eq x xs ≡ true → isIn eq x (xs ++ ys) ≡ true
   in-append-left x [] ys m = absurd-bool (sym m)
-  in-append-left x (y ∷ xs) ys m =
-      ⊎-elim (λ e. rw e (in-here y (xs ++ ys))) (λ n. in-later x y (xs ++ ys) (in-append-left x xs ys n)) (in-cases x y xs m)
+  in-append-left x (y ∷ xs) ys m = ⊎-elim
+      (λ e. rw e (in-here y (xs ++ ys)))
+      (λ n. in-later x y (xs ++ ys) (in-append-left x xs ys n))
+      (in-cases x y xs m)
 
   pub in-append-right : (x : A) (xs ys : List A) → isIn eq x ys ≡ true → isIn eq x (xs ++ ys) ≡ true
   in-append-right x [] ys m = m
@@ -129,7 +148,8 @@ module _ {A : Type 0} (E : Equality A) where
       (λ n. ⊎-elim (λ a. inl (in-later x y xs a)) (λ b. inr b) (append-in x xs ys n))
       (in-cases x y (xs ++ ys) m)
 
-  pub distinct-append : (xs ys : List A) → distinct eq xs ≡ true → distinct eq ys ≡ true → ((z : A) → isIn eq z xs ≡ true → isIn eq z ys ≡ true → ⊥)
+  pub distinct-append : (xs ys : List A) → distinct eq xs ≡ true → distinct eq ys ≡ true
+      → ((z : A) → isIn eq z xs ≡ true → isIn eq z ys ≡ true → ⊥)
       → distinct eq (xs ++ ys) ≡ true
   distinct-append [] ys d e h = e
   distinct-append (x ∷ xs) ys d e h =
@@ -145,29 +165,34 @@ module _ {A : Type 0} (E : Equality A) where
 
   in-drop1 : (z x : A) (ys : List A) → eq z x ≡ false → isIn eq z ys ≡ true → isIn eq z (drop1 eq x ys) ≡ true
   in-drop1 z x [] n e = e
-  in-drop1 z x (y ∷ ys) n e =
-      ⊎-elim (λ t. let m : eq z y ≡ false = rw (← sound x y t) n in rw t (rw m at e))
-      (λ f. rw f (⊎-elim (λ s. rw s (in-here y (drop1 eq x ys))) (λ p. in-later z y (drop1 eq x ys) (in-drop1 z x ys n p)) (in-cases z y ys e)))
+  in-drop1 z x (y ∷ ys) n e = ⊎-elim
+      (λ t. let m : eq z y ≡ false = rw (← sound x y t) n in rw t (rw m at e))
+      (λ f. rw f (⊎-elim
+      (λ s. rw s (in-here y (drop1 eq x ys)))
+      (λ p. in-later z y (drop1 eq x ys) (in-drop1 z x ys n p))
+      (in-cases z y ys e)))
       (true-or-false (eq x y))
 
   -- a list without repeats whose elements all stand in another list is no longer than it
-  pub pigeon : (xs ys : List A) → distinct eq xs ≡ true → ((z : A) → isIn eq z xs ≡ true → isIn eq z ys ≡ true) → length xs ≤ length ys
+  pub pigeon : (xs ys : List A) → distinct eq xs ≡ true → ((z : A) → isIn eq z xs ≡ true → isIn eq z ys ≡ true)
+      → length xs ≤ length ys
   pigeon [] ys d s = omega arith
   pigeon (x ∷ xs) ys d s =
       let here : isIn eq x ys ≡ true = s x (in-here x xs) in
       let out : isIn eq x xs ≡ false = distinct-out eq x xs d in
-      let ih : length xs ≤ length (drop1 eq x ys) =
-      pigeon xs (drop1 eq x ys) (distinct-tail eq x xs d)
-      (λ z m. in-drop1 z x ys (false-of (eq z x) (λ q. absurd-bool (sym (subst (λ (w : A). isIn eq w xs ≡ true) (sound z x q) m) ∙ out)))
-      (s z (in-later z x xs m)))
-      in
+      let ih : length xs ≤ length (drop1 eq x ys) = pigeon xs (drop1 eq x ys) (distinct-tail eq x xs d)
+      (λ z m. in-drop1 z x ys
+      (false-of (eq z x) (λ q. absurd-bool (sym (subst (λ (w : A). isIn eq w xs ≡ true) (sound z x q) m) ∙ out)))
+      (s z (in-later z x xs m))) in
       omega (arith, len-drop1 x ys here)
 
   -- a list of at most one element has at most one member
   pub only-member : (x y : A) (xs : List A) → length xs ≤ 1 → isIn eq x xs ≡ true → isIn eq y xs ≡ true → x ≡ y
   only-member x y [] l m n = absurd-bool (sym m)
-  only-member x y (z ∷ []) l m n =
-      ⊎-elim (λ e. ⊎-elim (λ f. e ∙ sym f) (λ k. absurd-bool (sym k)) (in-cases y z [] n)) (λ k. absurd-bool (sym k)) (in-cases x z [] m)
+  only-member x y (z ∷ []) l m n = ⊎-elim
+      (λ e. ⊎-elim (λ f. e ∙ sym f) (λ k. absurd-bool (sym k)) (in-cases y z [] n))
+      (λ k. absurd-bool (sym k))
+      (in-cases x z [] m)
   only-member x y (z ∷ w ∷ zs) l m n = absurd (omega arith)
 
   -- and if it has one, it is that member alone
@@ -177,33 +202,42 @@ module _ {A : Type 0} (E : Equality A) where
   only-list x (z ∷ w ∷ zs) l m = absurd (omega arith)
 
   -- leaving out x, which stands in a list without repeats, makes it shorter by one
-  pub length-without : (x : A) (xs : List A) → distinct eq xs ≡ true → isIn eq x xs ≡ true → suc (length (filter (λ y. not (eq x y)) xs)) ≡ length xs
+  pub length-without : (x : A) (xs : List A) → distinct eq xs ≡ true → isIn eq x xs ≡ true
+      → suc (length (filter (λ y. not (eq x y)) xs)) ≡ length xs
   length-without x [] d m = absurd-bool (sym m)
   length-without x (y ∷ ys) d m =
       let out : isIn eq y ys ≡ false = distinct-out eq y ys d in
       ⊎-elim
       (λ t. rw t (ap (λ l. suc (length l))
-      (filter-all ys (λ z n. rw (false-of (eq x z) (λ k. absurd-bool (sym (rw (← sound x z k, sound x y t) at n) ∙ out)))))))
+      (filter-all ys
+      (λ z n. rw (false-of (eq x z) (λ k. absurd-bool (sym (rw (← sound x z k, sound x y t) at n) ∙ out)))))))
       (λ f. rw f (omega (arith, length-without x ys (distinct-tail eq y ys d) (rw f at m))))
       (true-or-false (eq x y))
 
   -- a list no longer than a list without repeats whose elements it all has, has no repeats either
-  pub distinct-within : (b a : List A) → distinct eq a ≡ true → ((z : A) → isIn eq z a ≡ true → isIn eq z b ≡ true) → length b ≤ length a
-      → distinct eq b ≡ true
+  pub distinct-within : (b a : List A) → distinct eq a ≡ true → ((z : A) → isIn eq z a ≡ true → isIn eq z b ≡ true)
+      → length b ≤ length a → distinct eq b ≡ true
   distinct-within [] a d h l = refl
   distinct-within (x ∷ b) a d h l =
       let not-in-b : ((z : A) → isIn eq z a ≡ true → isIn eq z b ≡ true) → ⊥ = λ k. omega (arith, pigeon a b d k) in
-      let out : isIn eq x b ≡ false = false-of _ (λ m. not-in-b (λ z n. ⊎-elim (λ e. rw e m) (λ k. k) (in-cases z x b (h z n)))) in
-      let here : isIn eq x a ≡ true =
-      ⊎-elim (λ t. t) (λ f. absurd (not-in-b (λ z n. ⊎-elim (λ e. absurd-bool (sym n ∙ (rw e f))) (λ k. k) (in-cases z x b (h z n)))))
+      let out : isIn eq x b ≡ false =
+      false-of _ (λ m. not-in-b (λ z n. ⊎-elim (λ e. rw e m) (λ k. k) (in-cases z x b (h z n)))) in
+      let here : isIn eq x a ≡ true = ⊎-elim
+      (λ t. t)
+      (λ f. absurd (not-in-b (λ z n. ⊎-elim (λ e. absurd-bool (sym n ∙ (rw e f))) (λ k. k) (in-cases z x b (h z n)))))
       (true-or-false (isIn eq x a)) in
       rw out (distinct-within b (filter (λ y. not (eq x y)) a) (distinct-filter (λ y. not (eq x y)) a d)
-      (λ z n. let w = filter-in (λ y. not (eq x y)) z a n in
-      ⊎-elim (λ (e : z ≡ x). absurd-bool (sym (self x) ∙ (rw e at (not-is (eq x z) w.1)))) (λ k. k) (in-cases z x b (h z w.0)))
+      (λ z n.
+      let w = filter-in (λ y. not (eq x y)) z a n in
+      ⊎-elim
+      (λ (e : z ≡ x). absurd-bool (sym (self x) ∙ (rw e at (not-is (eq x z) w.1))))
+      (λ k. k)
+      (in-cases z x b (h z w.0)))
       (omega (arith, length-without x a d here)))
 
 -- as many elements pass a test as do not fail it
-pub length-passing : {A : Type 0} (q : A → Bool) (xs : List A) → length (filter q xs) + length (filter (λ x. not (q x)) xs) ≡ length xs
+pub length-passing : {A : Type 0} (q : A → Bool) (xs : List A)
+    → length (filter q xs) + length (filter (λ x. not (q x)) xs) ≡ length xs
 length-passing q [] = omega arith
 length-passing q (x ∷ xs) =
     let i = length-passing q xs in ⊎-elim (λ t. rw t (omega arith)) (λ f. rw f (omega arith)) (true-or-false (q x))
@@ -214,24 +248,31 @@ module _ {A B : Type 0} (E : Equality A) (F : Equality B) where
 
   pub in-map : (f : A → B) (x : A) (xs : List A) → isIn eq x xs ≡ true → isIn eqB (f x) (map f xs) ≡ true
   in-map f x [] m = absurd-bool (sym m)
-  in-map f x (y ∷ ys) m =
-      ⊎-elim (λ e. rw e (in-here F (f y) (map f ys))) (λ n. in-later F (f x) (f y) (map f ys) (in-map f x ys n)) (in-cases E x y ys m)
+  in-map f x (y ∷ ys) m = ⊎-elim
+      (λ e. rw e (in-here F (f y) (map f ys)))
+      (λ n. in-later F (f x) (f y) (map f ys) (in-map f x ys n))
+      (in-cases E x y ys m)
 
-  pub map-in : (f : A → B) (b : B) (xs : List A) → isIn eqB b (map f xs) ≡ true → (x : A) × (isIn eq x xs ≡ true) × (b ≡ f x)
+  pub map-in : (f : A → B) (b : B) (xs : List A) → isIn eqB b (map f xs) ≡ true
+      → (x : A) × (isIn eq x xs ≡ true) × (b ≡ f x)
   map-in f b [] m = absurd-bool (sym m)
-  map-in f b (y ∷ ys) m =
-      ⊎-elim (λ e. (y, in-here E y ys, e)) (λ n. let i = map-in f b ys n in (i .0, in-later E i.0 y ys i.1, i .2)) (in-cases F b (f y) (map f ys) m)
+  map-in f b (y ∷ ys) m = ⊎-elim
+      (λ e. (y, in-here E y ys, e))
+      (λ n. let i = map-in f b ys n in (i .0, in-later E i.0 y ys i.1, i .2))
+      (in-cases F b (f y) (map f ys) m)
 
   -- a map that tells the elements of the list apart
-  pub distinct-map : (f : A → B) (xs : List A) → ((x y : A) → isIn eq x xs ≡ true → isIn eq y xs ≡ true → f x ≡ f y → x ≡ y) → distinct eq xs ≡ true
+  pub distinct-map : (f : A → B) (xs : List A)
+      → ((x y : A) → isIn eq x xs ≡ true → isIn eq y xs ≡ true → f x ≡ f y → x ≡ y) → distinct eq xs ≡ true
       → distinct eqB (map f xs) ≡ true
   distinct-map f [] h d = refl
   distinct-map f (x ∷ xs) h d =
       let out : isIn eq x xs ≡ false = distinct-out eq x xs d in
-      let n : isIn eqB (f x) (map f xs) ≡ false =
-      false-of _ (λ m. let i = map-in f (f x) xs m in
-      absurd-bool (sym (subst (λ (z : A). isIn eq z xs ≡ true) (sym (h x i.0 (in-here E x xs) (in-later E i.0 x xs i.1) i.2)) i.1) ∙ out))
-      in
+      let n : isIn eqB (f x) (map f xs) ≡ false = false-of _ (λ m.
+      let i = map-in f (f x) xs m in
+      absurd-bool
+      (sym (subst (λ (z : A). isIn eq z xs ≡ true) (sym (h x i.0 (in-here E x xs) (in-later E i.0 x xs i.1) i.2)) i.1)
+      ∙ out)) in
       rw n (distinct-map f xs (λ a b p q. h a b (in-later E a x xs p) (in-later E b x xs q)) (distinct-tail eq x xs d))
 
   pub in-concatMap : (f : A → List B) (x : A) (b : B) (xs : List A) → isIn eq x xs ≡ true → isIn eqB b (f x) ≡ true
@@ -250,8 +291,10 @@ module _ {A B : Type 0} (E : Equality A) (F : Equality B) where
       (append-in F b (f y) (concatMap f ys) m)
 
   -- groups without repeats that share nothing
-  pub distinct-concatMap : (f : A → List B) (xs : List A) → distinct eq xs ≡ true → ((x : A) → isIn eq x xs ≡ true → distinct eqB (f x) ≡ true)
-      → ((x y : A) (b : B) → isIn eq x xs ≡ true → isIn eq y xs ≡ true → isIn eqB b (f x) ≡ true → isIn eqB b (f y) ≡ true → x ≡ y)
+  pub distinct-concatMap : (f : A → List B) (xs : List A) → distinct eq xs ≡ true
+      → ((x : A) → isIn eq x xs ≡ true → distinct eqB (f x) ≡ true)
+      → ((x y : A) (b : B) → isIn eq x xs ≡ true → isIn eq y xs ≡ true → isIn eqB b (f x) ≡ true
+      → isIn eqB b (f y) ≡ true → x ≡ y)
       → distinct eqB (concatMap f xs) ≡ true
   distinct-concatMap f [] d e h = refl
   distinct-concatMap f (x ∷ xs) d e h =
@@ -260,8 +303,12 @@ module _ {A B : Type 0} (E : Equality A) (F : Equality B) where
       (distinct-concatMap f xs (distinct-tail eq x xs d)
       (λ z m. e z (in-later E z x xs m))
       (λ a b c p q. h a b c (in-later E a x xs p) (in-later E b x xs q)))
-      (λ z a b. let i = concatMap-in f z xs b in
-      absurd-bool (sym (subst (λ (w : A). isIn eq w xs ≡ true) (sym (h x i.0 z (in-here E x xs) (in-later E i.0 x xs i.1) a i.2)) i.1) ∙ out))
+      (λ z a b.
+      let i = concatMap-in f z xs b in
+      absurd-bool
+      (sym
+      (subst (λ (w : A). isIn eq w xs ≡ true) (sym (h x i.0 z (in-here E x xs) (in-later E i.0 x xs i.1) a i.2)) i.1)
+      ∙ out))
 
   pub length-concatMap : (k : ℕ) (f : A → List B) (xs : List A) → ((x : A) → isIn eq x xs ≡ true → length (f x) ≡ k)
       → length (concatMap f xs) ≡ length xs * k
@@ -293,7 +340,8 @@ once-distinct (x ∷ o) h =
   where
     positive : (x : ℕ) (o : List ℕ) → isIn eqb x o ≡ true → 0 < occurrences x o
     positive x [] m = absurd-bool (sym m)
-    positive x (y ∷ o) m = ⊎-elim (λ t. rw t (omega arith)) (λ f. rw f (positive x o (rw f at m))) (true-or-false (eqb x y))
+    positive x (y ∷ o) m =
+        ⊎-elim (λ t. rw t (omega arith)) (λ f. rw f (positive x o (rw f at m))) (true-or-false (eqb x y))
 
     fewer : (z x : ℕ) (o : List ℕ) → occurrences z o ≤ occurrences z (x ∷ o)
     fewer z x o = ⊎-elim (λ t. rw t (omega arith)) (λ f. rw f (omega arith)) (true-or-false (eqb z x))

@@ -13,9 +13,10 @@ use Rattle.combinatorics.specs.Lists.{all, isIn, distinct, upFrom}
 
 pub in-upFrom : (k n x : ℕ) → k ≤ x → x < k + n → isIn eqb x (upFrom k n) ≡ true
 in-upFrom k zero x a b = absurd (omega arith)
-in-upFrom k (suc n) x a b =
-    ⊎-elim (λ (e : x ≡ k). rw e (in-here onNumbers k (upFrom (suc k) n)))
-    (λ (e : x ≡ k → ⊥). in-later onNumbers x k (upFrom (suc k) n) (in-upFrom (suc k) n x (omega (arith, e)) (omega arith)))
+in-upFrom k (suc n) x a b = ⊎-elim
+    (λ (e : x ≡ k). rw e (in-here onNumbers k (upFrom (suc k) n)))
+    (λ (e : x ≡ k → ⊥).
+    in-later onNumbers x k (upFrom (suc k) n) (in-upFrom (suc k) n x (omega (arith, e)) (omega arith)))
     (same-or x k)
 
 pub upFrom-in : (k n x : ℕ) → isIn eqb x (upFrom k n) ≡ true → (k ≤ x) × (x < k + n)
@@ -28,7 +29,8 @@ upFrom-in k (suc n) x m =
 pub distinct-upFrom : (k n : ℕ) → distinct eqb (upFrom k n) ≡ true
 distinct-upFrom k zero = refl
 distinct-upFrom k (suc n) =
-    let o : isIn eqb k (upFrom (suc k) n) ≡ false = false-of _ (λ m. let i : suc k ≤ k = upFrom-in (suc k) n k m .0 in absurd (omega arith)) in
+    let o : isIn eqb k (upFrom (suc k) n) ≡ false =
+    false-of _ (λ m. let i : suc k ≤ k = upFrom-in (suc k) n k m .0 in absurd (omega arith)) in
     rw o (distinct-upFrom (suc k) n)
 
 pub length-upFrom : (k n : ℕ) → length (upFrom k n) ≡ n

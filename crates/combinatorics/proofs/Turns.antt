@@ -29,7 +29,8 @@ map-append f (x ∷ xs) ys = ap (λ l. f x ∷ l) (map-append f xs ys)
 pub sum-next : (xs : List ℕ) (i : ℕ) → i < length xs → sum (take (i + 1) xs) ≡ sum (take i xs) + getD xs i 0
 sum-next xs i h = rw (add-one, take-suc xs i 0, sum-append) (omega arith)
 
-pub all-next : (q : ℕ → Bool) (xs : List ℕ) (i : ℕ) → i < length xs → all q (take (i + 1) xs) ≡ (all q (take i xs) && q (getD xs i 0))
+pub all-next : (q : ℕ → Bool) (xs : List ℕ) (i : ℕ) → i < length xs
+    → all q (take (i + 1) xs) ≡ (all q (take i xs) && q (getD xs i 0))
 all-next q xs i h = rw (add-one, take-suc xs i 0, all-append, and-true)
 
 -- all elements, where the loop ends
@@ -54,7 +55,8 @@ pub all-counted : (q : ℕ → Bool) (i : ℕ) → all q (upFrom 0 (i + 1)) ≡ 
 all-counted q i = let z : 0 + i ≡ i = omega arith in rw (upFrom-next 0 i, all-append, and-true, z)
 
 -- an array that is filled with the values of f
-pub front-counted : (f : ℕ → ℕ) (old : List ℕ) (i : ℕ) → i < length old → set (front (map f (upFrom 0 i)) old) i (f i) ≡ front (map f (upFrom 0 (i + 1))) old
+pub front-counted : (f : ℕ → ℕ) (old : List ℕ) (i : ℕ) → i < length old
+    → set (front (map f (upFrom 0 i)) old) i (f i) ≡ front (map f (upFrom 0 (i + 1))) old
 front-counted f old i h =
     let z : 0 + i ≡ i = omega arith in
     let e : i ≡ length (map f (upFrom 0 i)) = sym (length-map (upFrom 0 i) f ∙ length-upFrom 0 i) in

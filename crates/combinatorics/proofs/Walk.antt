@@ -1,4 +1,5 @@
--- A walk by symmetric links, where each node has at most two links and the start at most one, never meets a node twice. Assumes nothing.
+-- A walk by symmetric links, where each node has at most two links and the start at most one, never meets a node twice.
+-- Assumes nothing.
 use mathlib.Core.Logic.{_⊎_, ⊎-elim}
 use mathlib.Core.Path.{_≡_, sym, subst}
 use Prim.Native.Nat.{ℕ, zero, suc, _≤_, _<_}
@@ -30,9 +31,14 @@ module _ {A : Type 0} (link : A → A → Type 0) (back : (a b : A) → link a b
       ⊎-elim (λ s. near 0 j (omega arith) s m e) (λ s. apart f 1 j (omega arith) s (omega arith) q) (before-or-not j 2)
   apart (suc f) (suc i) (suc j) b l m e =
       let here : link (w (suc i)) (w j) = rw e (back (w j) (w (suc j)) (k .linked j m)) in
-      ⊎-elim (λ q. k .onward i (omega arith) q)
-      (λ r. ⊎-elim (λ q. apart f i j (omega arith) (omega arith) (omega arith) q)
-      (λ q. ⊎-elim (λ s. near (suc i) j (omega arith) s m e)
+      ⊎-elim
+      (λ q. k .onward i (omega arith) q)
+      (λ r. ⊎-elim
+      (λ q. apart f i j (omega arith) (omega arith) (omega arith) q)
+      (λ q. ⊎-elim
+      (λ s. near (suc i) j (omega arith) s m e)
       (λ s. apart f (suc (suc i)) j (omega arith) s (omega arith) q)
-      (before-or-not j (suc (suc (suc i))))) r)
-      (two (w (suc i)) (w i) (w (suc (suc i))) (w j) (back (w i) (w (suc i)) (k .linked i (omega arith))) (k .linked (suc i) (omega arith)) here)
+      (before-or-not j (suc (suc (suc i)))))
+      r)
+      (two (w (suc i)) (w i) (w (suc (suc i))) (w j) (back (w i) (w (suc i)) (k .linked i (omega arith)))
+      (k .linked (suc i) (omega arith)) here)

@@ -44,7 +44,8 @@ abbrev pub rotateRight : {A : Type 0} → List A → List A
 rotateRight [] = []
 rotateRight (x ∷ xs) = lastOr x xs ∷ butLast (x ∷ xs)
 
--- the number of the first element that is x, element `but` passed over, counted from k; past the last where there is none
+-- the number of the first element that is x, element `but` passed over, counted from k; past the last where there
+-- is none
 abbrev pub foundFrom : ℕ → ℕ → ℕ → List ℕ → ℕ
 foundFrom k x but [] = k
 foundFrom k x but (y ∷ ys) = let later = foundFrom (suc k) x but ys in cond (eqb y x && not (eqb k but)) k later

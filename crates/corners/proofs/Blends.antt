@@ -18,21 +18,27 @@ use Rattle.losses.specs.Game.{dot}
 use Rattle.losses.specs.Weights.{weighed, weights}
 
 -- one integer more
-pub blendℤ-next : (z : List ℕ) (k : ℕ) (f : ℕ → ℤ) → k < length z → blendℤ (take (k + 1) z) f ≡ blendℤ (take k z) f +ℤ pos (getD z k 0) *ℤ f k
+pub blendℤ-next : (z : List ℕ) (k : ℕ) (f : ℕ → ℤ) → k < length z
+    → blendℤ (take (k + 1) z) f ≡ blendℤ (take k z) f +ℤ pos (getD z k 0) *ℤ f k
 blendℤ-next z k f h = rw (add-one k) (go z k f h)
   where
-    go : (z : List ℕ) (k : ℕ) (f : ℕ → ℤ) → k < length z → blendℤ (take (suc k) z) f ≡ blendℤ (take k z) f +ℤ pos (getD z k 0) *ℤ f k
+    go : (z : List ℕ) (k : ℕ) (f : ℕ → ℤ) → k < length z
+        → blendℤ (take (suc k) z) f ≡ blendℤ (take k z) f +ℤ pos (getD z k 0) *ℤ f k
     go [] k f h = absurd (omega arith)
     go (x ∷ z) zero f h = +ℤ-comm (pos x *ℤ f 0) (pos 0)
-    go (x ∷ z) (suc k) f h =
-        ap (λ (n : ℤ). pos x *ℤ f 0 +ℤ n) (go z k (λ i. f (suc i)) (omega arith)) ∙ sym (+ℤ-assoc (pos x *ℤ f 0) (blendℤ (take k z) (λ i. f (suc i))) (pos (getD z k 0) *ℤ f (suc k)))
+    go (x ∷ z) (suc k) f h = ap (λ (n : ℤ). pos x *ℤ f 0 +ℤ n) (go z k (λ i. f (suc i)) (omega arith))
+        ∙ sym (+ℤ-assoc (pos x *ℤ f 0) (blendℤ (take k z) (λ i. f (suc i))) (pos (getD z k 0) *ℤ f (suc k)))
 
 -- differences weighed are the difference of what is weighed
-pub blend-difference : (z : List ℕ) (f e : ℕ → ℕ) (d : ℕ → ℤ) → ((k : ℕ) → k < length z → d k ≡ pos (f k) -ℤ pos (e k)) → pos (blend z f) -ℤ pos (blend z e) ≡ blendℤ z d
+pub blend-difference : (z : List ℕ) (f e : ℕ → ℕ) (d : ℕ → ℤ) → ((k : ℕ) → k < length z → d k ≡ pos (f k) -ℤ pos (e k))
+    → pos (blend z f) -ℤ pos (blend z e) ≡ blendℤ z d
 blend-difference [] f e d h = refl
 blend-difference (x ∷ z) f e d h =
     sym (difference-weighed x (f 0) (e 0) (blend z (λ k. f (suc k))) (blend z (λ k. e (suc k))))
-    ∙ rw (h 0 (omega arith), ← blend-difference z (λ k. f (suc k)) (λ k. e (suc k)) (λ k. d (suc k)) (λ k l. h (suc k) (omega arith)))
+    ∙ rw (
+      h 0 (omega arith),
+      ← blend-difference z (λ k. f (suc k)) (λ k. e (suc k)) (λ k. d (suc k)) (λ k l. h (suc k) (omega arith)),
+    )
 
 pub unit-length : (s k : ℕ) → length (unit s k) ≡ s
 unit-length s k = length-set (replicate s 0) k 1 ∙ length-replicate s 0
@@ -60,23 +66,25 @@ blend-unit (suc s) zero f h = omega (arith, zeros s (λ i. f (suc i)))
 blend-unit (suc s) (suc k) f h = omega (arith, blend-unit s k (λ i. f (suc i)) (omega arith))
 
 -- rows weighed by weights that are a sum
-module _ (z w : List ℕ) (ws : ℕ → List ℕ) (long : (k : ℕ) → length (ws k) ≡ length w) (parts : (t : List ℕ) → dot w t ≡ blend z (λ k. dot (ws k) t)) where
+module _ (z w : List ℕ) (ws : ℕ → List ℕ) (long : (k : ℕ) → length (ws k) ≡ length w)
+    (parts : (t : List ℕ) → dot w t ≡ blend z (λ k. dot (ws k) t)) where
   weighed-blend : (x t : List ℕ) → dot x (weighed (length x) w t) ≡ blend z (λ k. dot x (weighed (length x) (ws k) t))
   weighed-blend [] t = sym (blend-same z 0 ∙ omega arith)
-  weighed-blend (a ∷ x) t =
-      ap (λ (n : ℕ). a * n + dot x (weighed (length x) w (drop (length w) t))) (parts t)
+  weighed-blend (a ∷ x) t = ap (λ (n : ℕ). a * n + dot x (weighed (length x) w (drop (length w) t))) (parts t)
       ∙ ap (λ (n : ℕ). a * blend z (λ k. dot (ws k) t) + n) (weighed-blend x (drop (length w) t))
-      ∙ ap (λ (n : ℕ). n + blend z (λ k. dot x (weighed (length x) (ws k) (drop (length w) t)))) (sym (blend-times a z (λ k. dot (ws k) t)))
+      ∙ ap
+      (λ (n : ℕ). n + blend z (λ k. dot x (weighed (length x) (ws k) (drop (length w) t))))
+      (sym (blend-times a z (λ k. dot (ws k) t)))
       ∙ sym (blend-add z (λ k. a * dot (ws k) t) (λ k. dot x (weighed (length x) (ws k) (drop (length w) t))))
       ∙ blend-agree z _ _ (λ k h. rw (long k))
 
 -- the products of the mixes are linear in each mix
 pub linear : (xs : List (List ℕ)) (z : List ℕ) (ys : List (List ℕ)) (t : List ℕ)
     → dot (weights (xs ++ z ∷ ys)) t ≡ blend z (λ k. dot (weights (xs ++ unit (length z) k ∷ ys)) t)
-linear [] z ys t =
-    dot-spread z (weights ys) t
+linear [] z ys t = dot-spread z (weights ys) t
     ∙ dot-blend z (weighed (length z) (weights ys) t)
-    ∙ blend-agree z _ _ (λ k h. sym (dot-spread (unit (length z) k) (weights ys) t ∙ rw (unit-length (length z) k) (dot-unit (length z) k _ h)))
+    ∙ blend-agree z _ _ (λ k h.
+    sym (dot-spread (unit (length z) k) (weights ys) t ∙ rw (unit-length (length z) k) (dot-unit (length z) k _ h)))
 linear (x ∷ xs) z ys t =
     dot-spread x (weights (xs ++ z ∷ ys)) t
     ∙ weighed-blend z (weights (xs ++ z ∷ ys)) (λ k. weights (xs ++ unit (length z) k ∷ ys)) long (linear xs z ys) x t

@@ -17,11 +17,15 @@ use Rattle.losses.specs.Game.{mix, difference, firstLargest, label}
 use Rattle.grid.specs.Build.{lent}
 use Rattle.points_in_order.specs.Lent.{PointWithFirsts}
 
-module _ (g : Grid) (firsts losses ones : List ℕ) (e : ones ≡ set (g .divisions) (lastPlayer g) 1) (y : Point) (d : PointWithFirsts g firsts y) where
+module _ (g : Grid) (firsts losses ones : List ℕ) (e : ones ≡ set (g .divisions) (lastPlayer g) 1) (y : Point)
+    (d : PointWithFirsts g firsts y) where
   pub corner-points : (k : ℕ) → k < size g (lastPlayer g) → PointWithFirsts (lent (g .sizes) ones) firsts (corner g y k)
-  corner-points = subst (λ (o : List ℕ). (k : ℕ) → k < size g (lastPlayer g) → PointWithFirsts (lent (g .sizes) o) firsts (corner g y k)) (sym e) (corner-point g firsts y d)
+  corner-points = subst
+      (λ (o : List ℕ). (k : ℕ) → k < size g (lastPlayer g) → PointWithFirsts (lent (g .sizes) o) firsts (corner g y k))
+      (sym e) (corner-point g firsts y d)
 
-  module _ (differences : List ℤ) (stand : Cornered (lent (g .sizes) ones) losses y (size g (lastPlayer g)) differences) (first : ℕ) (f : first ≡ firstIndex g (lastPlayer g)) where
+  module _ (differences : List ℤ) (stand : Cornered (lent (g .sizes) ones) losses y (size g (lastPlayer g)) differences)
+      (first : ℕ) (f : first ≡ firstIndex g (lastPlayer g)) where
     abbrev yes : Accepted g
     yes = accepted g (d .grid .accepted)
 
@@ -39,10 +43,17 @@ module _ (g : Grid) (firsts losses ones : List ℕ) (e : ones ≡ set (g .divisi
     lent-few = rw own (omega (arith, block-length g y (lastPlayer g), last-ends g (yes .someBlock), yes .fewIndices))
 
     pub lent-rows : length differences ≡ 256 → RowsToAdd lentMix differences (numIndices g)
-    lent-rows whole = record { fewRows = lent-few; few = yes .fewIndices; whole = whole; low = rw (own, block-length g y (lastPlayer g)) (stand .low) }
+    lent-rows whole = record {
+      fewRows = lent-few;
+      few = yes .fewIndices;
+      whole = whole;
+      low = rw (own, block-length g y (lastPlayer g)) (stand .low);
+    }
 
     pub lent-label : suc (firstLargest (column lentMix differences) (upFrom 0 (numIndices g))) ≡ label g losses y
     unfolding label
     lent-label =
         let corners : Cornered (cornerGrid g) losses y (size g (lastPlayer g)) differences = rw e at stand in
-        rw own (ap suc (largest-agree (column (mix g y (lastPlayer g)) differences) (difference g losses y) (numIndices g) (λ h b. sym (difference-column g firsts y d losses differences corners h b))))
+        rw own
+        (ap suc (largest-agree (column (mix g y (lastPlayer g)) differences) (difference g losses y) (numIndices g)
+        (λ h b. sym (difference-column g firsts y d losses differences corners h b))))

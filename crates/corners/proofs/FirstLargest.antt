@@ -55,7 +55,11 @@ module _ (value : ℕ → ℤ) where
         record {
           inside = omega arith;
           is = e;
-          none = λ k h. ⊎-elim (λ s. rw s (less-self (value i))) (λ n. less-once (value k) (value i) (less-after (value k) (value best) (value i) (l .none k (omega arith)) t′)) (same-or k i);
+          none = λ k h. ⊎-elim
+              (λ s. rw s (less-self (value i)))
+              (λ n.
+              less-once (value k) (value i) (less-after (value k) (value best) (value i) (l .none k (omega arith)) t′))
+              (same-or k i);
           first = λ k h. less-after (value k) (value best) (value i) (l .none k h) t′;
         }
 
@@ -67,20 +71,33 @@ module _ (value : ℕ → ℤ) where
       first = l .first;
     }
 
-  first-of : (q : ℕ → Bool) (from n best : ℕ) → from ≤ best → best < from + n → q best ≡ true → ((k : ℕ) → k < best → q k ≡ false) → firstOr 0 (filter q (upFrom from n)) ≡ best
+  first-of : (q : ℕ → Bool) (from n best : ℕ) → from ≤ best → best < from + n → q best ≡ true
+      → ((k : ℕ) → k < best → q k ≡ false)
+      → firstOr 0 (filter q (upFrom from n)) ≡ best
   first-of q from zero best a b t f = absurd (omega arith)
-  first-of q from (suc n) best a b t f =
-      ⊎-elim (λ e. let u : q from ≡ true = subst (λ (x : ℕ). q x ≡ true) (sym e) t in rw u e) (λ d. rw (f from (omega arith)) (first-of q (suc from) n best (omega arith) (omega arith) t f)) (same-or from best)
+  first-of q from (suc n) best a b t f = ⊎-elim
+      (λ e. let u : q from ≡ true = subst (λ (x : ℕ). q x ≡ true) (sym e) t in rw u e)
+      (λ d. rw (f from (omega arith)) (first-of q (suc from) n best (omega arith) (omega arith) t f))
+      (same-or from best)
 
   pub leads-end : (best : ℕ) (most : ℤ) (n : ℕ) → Leads value best most n → firstLargest value (upFrom 0 n) ≡ best
-  leads-end best most n l =
-      first-of (λ h. all (λ k. not (ltZ (value h) (value k))) (upFrom 0 n)) 0 n best (omega arith) (omega (arith, l .inside))
+  leads-end best most n l = first-of
+      (λ h. all (λ k. not (ltZ (value h) (value k))) (upFrom 0 n))
+      0 n best (omega arith) (omega (arith, l .inside))
       (in-all onNumbers _ (upFrom 0 n) (λ k m. ap not (l .none k (omega (arith, upFrom-in 0 n k m .1)))))
-      (λ k h. false-of _ (λ a. absurd-bool (sym (all-in onNumbers (λ j. not (ltZ (value k) (value j))) (upFrom 0 n) a best (in-upFrom 0 n best (omega arith) (omega (arith, l .inside)))) ∙ ap not (l .first k h))))
+      (λ k h. false-of _
+      (λ a. absurd-bool
+      (sym (all-in onNumbers (λ j. not (ltZ (value k) (value j))) (upFrom 0 n) a best
+      (in-upFrom 0 n best (omega arith) (omega (arith, l .inside))))
+      ∙ ap not (l .first k h))))
 
 -- values that agree have the same first largest
-pub largest-agree : (value other : ℕ → ℤ) (n : ℕ) → ((k : ℕ) → k < n → value k ≡ other k) → firstLargest value (upFrom 0 n) ≡ firstLargest other (upFrom 0 n)
-largest-agree value other n h =
-    ap (firstOr 0)
-    (filter-agree _ _ 0 n (λ k l. let z : 0 + k ≡ k = omega arith in
-    rw z (all-agree (λ i. not (ltZ (value k) (value i))) (λ i. not (ltZ (other k) (other i))) 0 n (λ i m. let y : 0 + i ≡ i = omega arith in rw (y, h k l, h i m)))))
+pub largest-agree : (value other : ℕ → ℤ) (n : ℕ) → ((k : ℕ) → k < n → value k ≡ other k)
+    → firstLargest value (upFrom 0 n) ≡ firstLargest other (upFrom 0 n)
+largest-agree value other n h = ap (firstOr 0) (filter-agree _ _ 0 n (λ k l.
+    let z : 0 + k ≡ k = omega arith in
+    rw z (all-agree
+    (λ i. not (ltZ (value k) (value i)))
+    (λ i. not (ltZ (other k) (other i)))
+    0 n
+    (λ i m. let y : 0 + i ≡ i = omega arith in rw (y, h k l, h i m)))))

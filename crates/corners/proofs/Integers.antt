@@ -9,9 +9,11 @@ use lib.Signed.{mag}
 use native.Mathlib.Omega.{arith}
 
 difference-add : (a b c d : ℤ) → (a -ℤ b) +ℤ (c -ℤ d) ≡ (a +ℤ c) -ℤ (b +ℤ d)
-difference-add a b c d =
-    +ℤ-assoc a (negℤ b) (c -ℤ d)
-    ∙ ap (λ (z : ℤ). a +ℤ z) (sym (+ℤ-assoc (negℤ b) c (negℤ d)) ∙ ap (λ (z : ℤ). z +ℤ negℤ d) (+ℤ-comm (negℤ b) c) ∙ +ℤ-assoc c (negℤ b) (negℤ d))
+difference-add a b c d = +ℤ-assoc a (negℤ b) (c -ℤ d)
+    ∙ ap (λ (z : ℤ). a +ℤ z)
+    (sym (+ℤ-assoc (negℤ b) c (negℤ d))
+    ∙ ap (λ (z : ℤ). z +ℤ negℤ d) (+ℤ-comm (negℤ b) c)
+    ∙ +ℤ-assoc c (negℤ b) (negℤ d))
     ∙ sym (+ℤ-assoc a c (negℤ b +ℤ negℤ d))
     ∙ ap (λ (z : ℤ). (a +ℤ c) +ℤ z) (sym (negℤ-+ℤ b d))
 
@@ -29,9 +31,10 @@ difference-times (suc x) p q =
     ∙ rw (a, b)
 
 -- a difference that is weighed, added to another
-pub difference-weighed : (x p q r s : ℕ) → pos x *ℤ (pos p -ℤ pos q) +ℤ (pos r -ℤ pos s) ≡ pos (x * p + r) -ℤ pos (x * q + s)
-difference-weighed x p q r s =
-    ap (λ (z : ℤ). z +ℤ (pos r -ℤ pos s)) (difference-times x p q) ∙ difference-add (pos (x * p)) (pos (x * q)) (pos r) (pos s)
+pub difference-weighed : (x p q r s : ℕ)
+    → pos x *ℤ (pos p -ℤ pos q) +ℤ (pos r -ℤ pos s) ≡ pos (x * p + r) -ℤ pos (x * q + s)
+difference-weighed x p q r s = ap (λ (z : ℤ). z +ℤ (pos r -ℤ pos s)) (difference-times x p q)
+    ∙ difference-add (pos (x * p)) (pos (x * q)) (pos r) (pos s)
 
 pub mag-low : (a : ℤ) → mag a ≤ natAbs a
 mag-low (pos n) = omega arith

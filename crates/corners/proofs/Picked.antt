@@ -12,7 +12,8 @@ use native.Mathlib.Omega.{arith}
 use Rattle.combinatorics.proofs.Basics.{same-or}
 use Rattle.grid.proofs.Round.{block-at, block-fits}
 use Rattle.grid.specs.Grid.{Grid, Point, at, numBlocks, numIndices, size, firstIndex, blockOf}
-use Rattle.weighed_losses.proofs.Levels.{behind-next, behind-none, levelled-own, levelled-other, levelled-kept, strategy-levelled}
+use Rattle.weighed_losses.proofs.Levels.{behind-next, behind-none, levelled-own, levelled-other, levelled-kept}
+use Rattle.weighed_losses.proofs.Levels.{strategy-levelled}
 use Rattle.weighed_losses.specs.Levels.{behind, levelled, place, Owners, StandTo}
 use Rattle.losses.specs.AtPoint.{StrategiesStand}
 use Rattle.losses.specs.Game.{lossesOf}
@@ -21,7 +22,9 @@ use Rattle.corners.proofs.Blends.{blend-unit}
 use Rattle.corners.proofs.CornerLosses.{outer-length, corner-last}
 use Rattle.corners.specs.Corners.{lastPlayer, numCorners, unit, corner, pickedAt}
 
-module _ (g : Grid) (some : 1 ≤ numBlocks g) (y : Point) (whole : length y ≡ numIndices g) (k : ℕ) (inside : k < numCorners g) (owners losses levels : List ℕ) (owned : Owners g owners) (stand : StandTo g losses y (lastPlayer g) levels) where
+module _ (g : Grid) (some : 1 ≤ numBlocks g) (y : Point) (whole : length y ≡ numIndices g) (k : ℕ)
+    (inside : k < numCorners g) (owners losses levels : List ℕ) (owned : Owners g owners)
+    (stand : StandTo g losses y (lastPlayer g) levels) where
   abbrev last : ℕ
   last = lastPlayer g
 
@@ -30,7 +33,8 @@ module _ (g : Grid) (some : 1 ≤ numBlocks g) (y : Point) (whole : length y ≡
 
   -- the corner has the mixes before the last player's
   same-before : take (firstIndex g last) z ≡ take (firstIndex g last) y
-  same-before = take-at (take (firstIndex g last) y) (unit (size g last) k) (firstIndex g last) (outer-length g some y whole)
+  same-before =
+      take-at (take (firstIndex g last) y) (unit (size g last) k) (firstIndex g last) (outer-length g some y whole)
 
   -- the table of strategy i of player j
   module _ (j i : ℕ) (b : j < numBlocks g) (c : i < size g j) where
@@ -53,13 +57,15 @@ module _ (g : Grid) (some : 1 ≤ numBlocks g) (y : Point) (whole : length y ≡
     own : j ≡ last → levelled g losses z h (suc last) 0 ≡ at levels (place last h + cond (eqb j last) 0 k)
     own s =
         let o : last ≡ blockOf g h = sym (owner ∙ s) in
-        let left : behind g (blockOf g h) last ≡ 1 = behind-next g (blockOf g h) last (omega arith) ∙ rw (eq-eqb last (blockOf g h) o, behind-last) (omega arith) in
+        let left : behind g (blockOf g h) last ≡ 1 =
+        behind-next g (blockOf g h) last (omega arith) ∙ rw (eq-eqb last (blockOf g h) o, behind-last) (omega arith) in
         rw (eq-eqb j last s) (levelled-own g losses h z last 0 (omega arith) o ∙ number 0 (omega arith))
 
     other : (j ≡ last → ⊥) → levelled g losses z h (suc last) 0 ≡ at levels (place last h + cond (eqb j last) 0 k)
     other n =
         let o : last ≡ blockOf g h → ⊥ = λ s. n (sym (s ∙ owner)) in
-        let left : behind g (blockOf g h) last ≡ size g last * 1 = behind-next g (blockOf g h) last (omega arith) ∙ rw (ne-eqb last (blockOf g h) o, behind-last) in
+        let left : behind g (blockOf g h) last ≡ size g last * 1 =
+        behind-next g (blockOf g h) last (omega arith) ∙ rw (ne-eqb last (blockOf g h) o, behind-last) in
         let e : k * behind g (blockOf g h) (suc last) + 0 ≡ k = rw behind-last (omega arith) in
         rw (ne-eqb j last n)
         (levelled-other g losses h z last 0 (omega arith) o
@@ -72,7 +78,11 @@ module _ (g : Grid) (some : 1 ≤ numBlocks g) (y : Point) (whole : length y ≡
         let n : suc last ≡ numBlocks g = omega arith in
         let o : at owners h ≡ j = owned h low ∙ owner in
         ap (λ (t : ℕ). at levels (place last h + cond (eqb t last) 0 k)) o
-        ∙ sym (strategy-levelled g losses z j i b c ∙ ap (λ (l : ℕ). levelled g losses z h l 0) (sym n) ∙ ⊎-elim own other (same-or j last))
+        ∙ sym
+        (strategy-levelled g losses z j i b c
+        ∙ ap (λ (l : ℕ). levelled g losses z h l 0) (sym n)
+        ∙ ⊎-elim own other (same-or j last))
 
-  pub picked-stand : (values : List ℕ) → ((h : ℕ) → h < numIndices g → at values h ≡ pickedAt owners levels last k h) → StrategiesStand g losses z values
+  pub picked-stand : (values : List ℕ) → ((h : ℕ) → h < numIndices g → at values h ≡ pickedAt owners levels last k h)
+      → StrategiesStand g losses z values
   picked-stand values v j i b c = v (firstIndex g j + i) (low j i b c) ∙ picked-loss j i b c

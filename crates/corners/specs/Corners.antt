@@ -1,5 +1,6 @@
--- The differences at a point out of those at its corners: the points with one strategy in place of the last player's mix. Losses are linear
--- in that mix, so they are weighed once for all points that differ only there. The promises of a labelling do not cite this. Assumes nothing.
+-- The differences at a point out of those at its corners: the points with one strategy in place of the last player's
+-- mix. Losses are linear in that mix, so they are weighed once for all points that differ only there. The promises of a
+-- labelling do not cite this. Assumes nothing.
 use mathlib.Core.Bool.{cond}
 use mathlib.Core.List.{List, [], _∷_, _++_}
 use mathlib.Core.Path.{_≡_}
@@ -55,7 +56,8 @@ pickedAt owners levels last k h = at levels (place last h + cond (eqb (at owners
 
 -- the differences at the first n corners: row k of the table has those at corner k
 pub record Cornered (g : Grid) (losses : List ℕ) (y : Point) (n : ℕ) (differences : List ℤ) : Type 0 where
-  pub differenceAt : (k h : ℕ) → k < n → h < numIndices g → entry differences (k * 16 + h) ≡ difference g losses (corner g y k) h
+  pub differenceAt : (k h : ℕ) → k < n → h < numIndices g
+      → entry differences (k * 16 + h) ≡ difference g losses (corner g y k) h
   pub low : Low n (numIndices g) differences
 
 -- a game with the corners of a point and its tables up to the last level

@@ -3,7 +3,8 @@ use Prim.Native.Nat.{ℕ, _*_}
 use Rattle.checker.specs.declared.Answer.{Answer}
 use Rattle.checker.specs.declared.Answer.the-variants.{Refused, Yes, No}
 
--- "A refusal returns its number"; "yes with the first block": 256 times the block, which is more than any refusal; "or no": 0
+-- "A refusal returns its number"; "yes with the first block": 256 times the block, which is more than any refusal; "or
+-- no": 0
 abbrev pub checkNumber : Answer → ℕ
 checkNumber (Refused number) = number
 checkNumber (Yes block) = 256 * block

@@ -1,4 +1,5 @@
--- What the labelling of a game answers and writes for C and Rust: the number and the count of each case. Assumes nothing.
+-- What the labelling of a game answers and writes for C and Rust: the number and the count of each case.
+-- Assumes nothing.
 use Prim.Native.Nat.{ℕ}
 use Rattle.games.specs.declared.Labelled.{Labelled}
 use Rattle.games.specs.declared.Labelled.the-variants.{Refused, Written}

@@ -1,4 +1,5 @@
--- What the shelf's calls for C and Rust answer and write: the number and the value of each case of an enum. Assumes nothing.
+-- What the shelf's calls for C and Rust answer and write: the number and the value of each case of an enum.
+-- Assumes nothing.
 use Prim.Native.Nat.{ℕ}
 use Rattle.shelf.specs.declared.answers.Current.{Current}
 use Rattle.shelf.specs.declared.answers.Current.the-variants.{Refused as NoSheet, Sheet}

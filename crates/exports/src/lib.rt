@@ -19,9 +19,9 @@ mod shelf_calls;
 use games::Labelled;
 use run_facts::put_answer;
 
-// The run on a label table: 0 at an end, else the refusal's number. The facts are the places, the labels read, the kind of
-// end (0 place, 1 facet), the block and the number of vertices; of the refusals 9 writes one, the places, and 16 two,
-// the places before and the position of the label that is not yet known.
+// The run on a label table: 0 at an end, else the refusal's number. The facts are the places, the labels read, the kind
+// of end (0 place, 1 facet), the block and the number of vertices; of the refusals 9 writes one, the places, and 16
+// two, the places before and the position of the label that is not yet known.
 #[no_mangle]
 pub extern "C" fn leveretplate_run(
     sizes: &[u8],

@@ -6,9 +6,9 @@ ghost use Rattle.combinatorics.specs.Front.{front};
 ghost use Rattle.grid.specs.Build.{lent};
 ghost use Rattle.refinement.specs.Answer.{answerLeft, labelsLeft, lentGame, refineAnswer};
 ghost use Rattle.exports.specs.Refine.{levelFacts, refinedFacts};
-use run_facts::kind_number;
 use refinement::Level;
 use refinement::Refined;
+use run_facts::kind_number;
 
 // The facts of a level to the front of their buffer.
 fn put_level(level: Level, facts: &mut [u64])

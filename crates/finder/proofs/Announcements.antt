@@ -1,4 +1,5 @@
--- From where a walk finished to a run's answer: the start in its array is the start, and the points of the last state are the answer's. Assumes nothing.
+-- From where a walk finished to a run's answer: the start in its array is the start, and the points of the last state
+-- are the answer's. Assumes nothing.
 use mathlib.Core.Bool.{true}
 use mathlib.Core.List.{List, []}
 use mathlib.Core.Path.{_≡_, refl, sym, ap, _∙_, subst}
@@ -44,20 +45,28 @@ module _ (g : GridStruct) (made : IsMade g) (start table : List ℕ) (ok : Accep
   pub same-problem : problemIn g (front (take (g .indices) start) (replicate 16 0)) table ≡ problemFrom g start table
   same-problem =
       let e : take (g .indices) start ≡ start = rw (← start-long) (take-length start) in
-      let f : take (g .indices) (front start (replicate 16 0)) ≡ start = rw (← start-long) (front-taken start (replicate 16 0)) in
+      let f : take (g .indices) (front start (replicate 16 0)) ≡ start =
+      rw (← start-long) (front-taken start (replicate 16 0)) in
       rw (e, f)
 
   pub taken-long : (taken : List ℕ) → taken ≡ front (take (g .indices) start) (replicate 16 0) → length taken ≡ 16
-  taken-long taken e =
-      rw e (front-length (take (g .indices) start) (replicate 16 0) (rw (length-replicate, length-take) (omega (arith, indices-few g made))) ∙ length-replicate {A = ℕ} 16 0)
+  taken-long taken e = rw e
+      (front-length (take (g .indices) start) (replicate 16 0)
+      (rw (length-replicate, length-take) (omega (arith, indices-few g made)))
+      ∙ length-replicate {A = ℕ} 16 0)
 
-  pub accepted-in : (taken : List ℕ) → taken ≡ front (take (g .indices) start) (replicate 16 0) → Accepted (problemIn g taken table)
+  pub accepted-in : (taken : List ℕ) → taken ≡ front (take (g .indices) start) (replicate 16 0)
+      → Accepted (problemIn g taken table)
   accepted-in taken e = rw (e, same-problem) ok
 
   -- where a walk from that array finished
-  pub finished-from : (taken : List ℕ) → taken ≡ front (take (g .indices) start) (replicate 16 0) → (budget : ℕ) (round : Round) (first order : List ℕ) (f : Finish)
-      → Finished (problemIn g taken table) budget round first order f → Finished (problemFrom g start table) budget round first order f
-  finished-from taken e budget round first order f F = subst (λ (p : Problem). Finished p budget round first order f) (ap (λ (t : List ℕ). problemIn g t table) e ∙ same-problem) F
+  pub finished-from : (taken : List ℕ) → taken ≡ front (take (g .indices) start) (replicate 16 0)
+      → (budget : ℕ) (round : Round) (first order : List ℕ) (f : Finish)
+      → Finished (problemIn g taken table) budget round first order f
+      → Finished (problemFrom g start table) budget round first order f
+  finished-from taken e budget round first order f F = subst
+      (λ (p : Problem). Finished p budget round first order f)
+      (ap (λ (t : List ℕ). problemIn g t table) e ∙ same-problem) F
 
 -- the kind, there and back
 kind-is : (kind : Kind) → kindOf (endOf kind) ≡ kind
@@ -65,27 +74,32 @@ kind-is Place = refl
 kind-is Facet = refl
 
 -- the answer at an end
-module _ (g : GridStruct) (made : IsMade g) (start table : List ℕ) (budget places : ℕ) (kind : Kind) (e : State) (h : ℕ) {read : ℕ}
-    (A : Announced (problemFrom g start table) budget (endOf kind) (firstOf kind) e h places read) where
+module _ (g : GridStruct) (made : IsMade g) (start table : List ℕ) (budget places : ℕ) (kind : Kind) (e : State) (h : ℕ)
+    {read : ℕ} (A : Announced (problemFrom g start table) budget (endOf kind) (firstOf kind) e h places read) where
   pub index : h < g .indices
   index = omega (arith, A .index, made-indices g made)
 
   -- its points have room
-  pub room : (n : ℕ) → suc (dimension (shape g)) * numIndices (shape g) ≤ n → (suc (length (e .order)) - firstOf kind) * g .indices ≤ n
+  pub room : (n : ℕ) → suc (dimension (shape g)) * numIndices (shape g) ≤ n
+      → (suc (length (e .order)) - firstOf kind) * g .indices ≤ n
   room n l =
       let a : suc (length (e .order)) - firstOf kind ≤ suc (dimension (shape g)) = omega (arith, A .few) in
-      let b : (suc (length (e .order)) - firstOf kind) * numIndices (shape g) ≤ suc (dimension (shape g)) * numIndices (shape g) = mul-le-mul-right (numIndices (shape g)) a in
+      let b : (suc (length (e .order)) - firstOf kind) * numIndices (shape g)
+      ≤ suc (dimension (shape g)) * numIndices (shape g) =
+      mul-le-mul-right (numIndices (shape g)) a in
       rw (made-indices g made) (omega arith)
 
   number : length (pointsFrom (problemFrom g start table) e (firstOf kind)) ≡ suc (length (e .order)) - firstOf kind
   number =
-      length-map (upFrom (firstOf kind) (suc (length (e .order)) - firstOf kind)) (pointIn (problemFrom g start table) e)
+      length-map (upFrom (firstOf kind) (suc (length (e .order)) - firstOf kind))
+      (pointIn (problemFrom g start table) e)
       ∙ length-upFrom (firstOf kind) (suc (length (e .order)) - firstOf kind)
 
   -- they are what is written, and the answer is told by their number and the block
   pub written : numbersFrom (g .indices) e (firstOf kind) ≡ numbersOf (answer (problemFrom g start table) budget)
   written = rw (A .is, made-indices g made)
 
-  pub told : (block vertices : ℕ) → block ≡ suc (blockOf (shape g) h) → vertices ≡ suc (length (e .order)) - firstOf kind
+  pub told : (block vertices : ℕ) → block ≡ suc (blockOf (shape g) h)
+      → vertices ≡ suc (length (e .order)) - firstOf kind
       → End places read kind block vertices ≡ caseOf (answer (problemFrom g start table) budget)
   told block vertices b q = rw (A .is, b, q, number, kind-is kind)

@@ -1,4 +1,5 @@
--- Demand 3 in one piece holds, and filling a gap changes no end: what a run answers and writes is told by the path's answer. Assumes nothing.
+-- Demand 3 in one piece holds, and filling a gap changes no end: what a run answers and writes is told by the path's
+-- answer. Assumes nothing.
 use mathlib.Core.List.{List, []}
 use mathlib.Core.Logic.{⊎-elim}
 use mathlib.Core.Path.{_≡_, refl, sym, ap, _∙_, subst}
@@ -37,15 +38,22 @@ case-unknown (unknown k j) n i e = let y : k ≡ n = cc in let z : j ≡ i = cc 
 -- a table that no question refuses is accepted
 pub unrefused : (p : Problem) (room : ℕ) → refusal p room ≡ 0 → Accepted p
 unrefused p room e =
-    let grid : firstNo (gridQuestions (p .grid)) ≡ 0 = ⊎-elim (λ q. q) (λ n. absurd (n (sym (by-grid p room n) ∙ e))) (same-or (firstNo (gridQuestions (p .grid))) 0) in
+    let grid : firstNo (gridQuestions (p .grid)) ≡ 0 =
+    ⊎-elim (λ q. q) (λ n. absurd (n (sym (by-grid p room n) ∙ e))) (same-or (firstNo (gridQuestions (p .grid))) 0) in
     accepted-with-room p room grid (sym (by-later p room grid) ∙ e) .0
 
 module _ (p : Problem) (room : ℕ) (none : refusal p room ≡ 0) where
   D : Demand3 p
   D = demand3-holds (unrefused p room none)
 
-  same : (budget : ℕ) (old : List ℕ) → length old ≡ room → (caseOf (answer p budget) ≡ runAnswer p room budget) × (front (numbersOf (answer p budget)) old ≡ runBuffer p budget old)
-  same budget old e = subst (λ (n : ℕ). refusal p n ≡ 0 → (caseOf (answer p budget) ≡ runAnswer p n budget) × (front (numbersOf (answer p budget)) old ≡ runBuffer p budget old)) e (answered p budget old) none
+  same : (budget : ℕ) (old : List ℕ) → length old ≡ room
+      → (caseOf (answer p budget) ≡ runAnswer p room budget)
+      × (front (numbersOf (answer p budget)) old ≡ runBuffer p budget old)
+  same budget old e = subst
+      (λ (n : ℕ). refusal p n ≡ 0
+      → (caseOf (answer p budget) ≡ runAnswer p n budget)
+      × (front (numbersOf (answer p budget)) old ≡ runBuffer p budget old))
+      e (answered p budget old) none
 
   told : (budget : ℕ) → caseOf (answer p budget) ≡ runAnswer p room budget
   told budget = same budget (replicate room 0) (length-replicate room 0) .0
@@ -59,7 +67,8 @@ module _ (p : Problem) (room : ℕ) (none : refusal p room ≡ 0) where
   unspent : (budget : ℕ) → (runAnswer p room budget ≡ Spent budget → ⊥) → answer p budget ≡ spent budget → ⊥
   unspent budget n q = n (sym (told budget) ∙ rw q)
 
-  unwritten : (budget : ℕ) (old : List ℕ) → length old ≡ room → numbersOf (answer p budget) ≡ [] → runBuffer p budget old ≡ old
+  unwritten : (budget : ℕ) (old : List ℕ) → length old ≡ room → numbersOf (answer p budget) ≡ []
+      → runBuffer p budget old ≡ old
   unwritten budget old e q = sym (same budget old e .1) ∙ rw q (front-none old)
 
   -- where no place has a gap
@@ -119,5 +128,6 @@ run-filling p labels room a b fills = record {
         → runAnswer q room budget ≡ runAnswer p room budget
     sames budget h = sym (told q room b budget) ∙ rw (filled .same budget (asked budget h)) (told p room a budget)
 
-    never : {places read block vertices n i : ℕ} {kind : Kind} (r : Answer) → r ≡ End places read kind block vertices → r ≡ Unknown n i → ⊥
+    never : {places read block vertices n i : ℕ} {kind : Kind} (r : Answer) → r ≡ End places read kind block vertices
+        → r ≡ Unknown n i → ⊥
     never r e f = let z : _≡_ {A = ℕ} 0 1 = cc in omega arith

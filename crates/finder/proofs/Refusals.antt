@@ -1,4 +1,5 @@
--- The refusals of a run: which of questions 1 to 8 is the first that is answered no, and what its answer and its buffer then are. Assumes nothing.
+-- The refusals of a run: which of questions 1 to 8 is the first that is answered no, and what its answer and its buffer
+-- then are. Assumes nothing.
 use mathlib.Core.Bool.{true, false, _&&_}
 use mathlib.Core.List.{List, [], _∷_}
 use mathlib.Core.Path.{_≡_, refl, sym, ap, _∙_}
@@ -39,10 +40,14 @@ module _ (p : Problem) (room : ℕ) where
   by-later e = asked-next (gridQuestions (p .grid)) (laterQuestions p room) refl e
 
   -- where none is answered no, the table is accepted and the answer has room
-  pub accepted-with-room : firstNo (gridQuestions (p .grid)) ≡ 0 → firstNo (laterQuestions p room) ≡ 0 → Accepted p × (suc (dimension (p .grid)) * numIndices (p .grid) ≤ room)
+  pub accepted-with-room : firstNo (gridQuestions (p .grid)) ≡ 0 → firstNo (laterQuestions p room) ≡ 0
+      → Accepted p × (suc (dimension (p .grid)) * numIndices (p .grid) ≤ room)
   accepted-with-room e f =
-      let w = both-yes (tableQuestions p) (question8 (p .grid) room ∷ []) refl (by-later e ∙ f) in
-      (accepted-of p (w .0), leb-true (suc (dimension (p .grid)) * numIndices (p .grid)) room (first-yes (question8 (p .grid) room) [] (omega arith) (w .1) .0))
+      let w = both-yes (tableQuestions p) (question8 (p .grid) room ∷ []) refl (by-later e ∙ f) in (
+        accepted-of p (w .0),
+        leb-true (suc (dimension (p .grid)) * numIndices (p .grid)) room
+            (first-yes (question8 (p .grid) room) [] (omega arith) (w .1) .0),
+      )
 
 -- questions 5 to 8
 module _ (p : Problem) (room : ℕ) where
@@ -50,7 +55,8 @@ module _ (p : Problem) (room : ℕ) where
   unfolding firstNo
   no-start e = rw e
 
-  pub no-length : isGridPoint (p .grid) (p .start) ≡ true → (length (p .labels) ≡ numPoints (p .grid) → ⊥) → 6 ≡ firstNo (laterQuestions p room)
+  pub no-length : isGridPoint (p .grid) (p .start) ≡ true → (length (p .labels) ≡ numPoints (p .grid) → ⊥)
+      → 6 ≡ firstNo (laterQuestions p room)
   unfolding firstNo
   no-length on n = rw (on, ne-eqb (length (p .labels)) (numPoints (p .grid)) n)
 
@@ -62,45 +68,71 @@ module _ (p : Problem) (room : ℕ) where
     module _ (labelled : all (λ l. leb l (numIndices (p .grid))) (p .labels) ≡ true) where
       pub no-room : room < suc (dimension (p .grid)) * numIndices (p .grid) → 8 ≡ firstNo (laterQuestions p room)
       unfolding firstNo
-      no-room l = rw (on, eq-eqb (length (p .labels)) (numPoints (p .grid)) whole, labelled, lt-leb (suc (dimension (p .grid)) * numIndices (p .grid)) room l)
+      no-room l = rw (
+        on,
+        eq-eqb (length (p .labels)) (numPoints (p .grid)) whole,
+        labelled,
+        lt-leb (suc (dimension (p .grid)) * numIndices (p .grid)) room l,
+      )
 
-      pub none-no : suc (dimension (p .grid)) * numIndices (p .grid) ≤ room → _≡_ {A = ℕ} 0 (firstNo (laterQuestions p room))
+      pub none-no : suc (dimension (p .grid)) * numIndices (p .grid) ≤ room
+          → _≡_ {A = ℕ} 0 (firstNo (laterQuestions p room))
       unfolding firstNo
-      none-no l = rw (on, eq-eqb (length (p .labels)) (numPoints (p .grid)) whole, labelled, le-leb (suc (dimension (p .grid)) * numIndices (p .grid)) room l)
+      none-no l = rw (
+        on,
+        eq-eqb (length (p .labels)) (numPoints (p .grid)) whole,
+        labelled,
+        le-leb (suc (dimension (p .grid)) * numIndices (p .grid)) room l,
+      )
 
 -- the numbers of question 8, as the program works them out
 module _ (g : GridStruct) (made : IsMade g) where
   blocks-at-most : (ss : List ℕ) → all (λ s. leb 2 s) ss ≡ true → length ss ≤ sum ss
   blocks-at-most [] e = omega arith
-  blocks-at-most (s ∷ ss) e =
-      omega (arith, leb-true 2 s (and-left (leb 2 s) (all (λ s. leb 2 s) ss) e), blocks-at-most ss (and-right (leb 2 s) (all (λ s. leb 2 s) ss) e))
+  blocks-at-most (s ∷ ss) e = omega (
+    arith,
+    leb-true 2 s (and-left (leb 2 s) (all (λ s. leb 2 s) ss) e),
+    blocks-at-most ss (and-right (leb 2 s) (all (λ s. leb 2 s) ss) e),
+  )
 
   pub fewer-blocks : g .blocks ≤ g .indices
-  fewer-blocks = omega (arith, blocks-at-most (shape g .sizes) (made-accepted g made .sizesTwo), made-blocks g made, made-indices g made)
+  fewer-blocks = omega (
+    arith,
+    blocks-at-most (shape g .sizes) (made-accepted g made .sizesTwo),
+    made-blocks g made,
+    made-indices g made,
+  )
 
   pub room-small : (g .indices - g .blocks + 1) * g .indices ≤ 17 * 16
   room-small =
       let m : g .indices ≤ 16 = indices-few g made in
-      let a : (g .indices - g .blocks + 1) * g .indices ≤ 17 * g .indices = mul-le-mul-right (g .indices) (omega arith) in
+      let a : (g .indices - g .blocks + 1) * g .indices ≤ 17 * g .indices =
+      mul-le-mul-right (g .indices) (omega arith) in
       omega arith
 
   pub room-is : (g .indices - g .blocks + 1) * g .indices ≡ suc (dimension (shape g)) * numIndices (shape g)
   room-is =
-      let e : g .indices - g .blocks + 1 ≡ suc (dimension (shape g)) = omega (arith, made-blocks g made, made-indices g made) in
+      let e : g .indices - g .blocks + 1 ≡ suc (dimension (shape g)) =
+      omega (arith, made-blocks g made, made-indices g made) in
       rw (e, made-indices g made)
 
 -- the problem of a grid that was made is the problem of its sizes and divisions
-pub same-problem : (G : Grid) (r : Made) (is : r ≡ madeOf G) → r .code ≡ 0 → (start labels : List ℕ) → problemFrom (r .grid) start labels ≡ problemOf (G .sizes) (G .divisions) start labels
-same-problem G r is z start labels = ap (λ (h : Grid). let p : Problem = record { grid = h; start = start; labels = labels } in p) (made-shape G r is z)
+pub same-problem : (G : Grid) (r : Made) (is : r ≡ madeOf G) → r .code ≡ 0 → (start labels : List ℕ)
+    → problemFrom (r .grid) start labels ≡ problemOf (G .sizes) (G .divisions) start labels
+same-problem G r is z start labels =
+    ap (λ (h : Grid). let p : Problem = record { grid = h; start = start; labels = labels } in p) (made-shape G r is z)
 
 -- what a run then answers, and what it leaves in its buffer
 module _ (p : Problem) (budget : ℕ) (old : List ℕ) where
-  pub refused : (n : ℕ) → (n ≡ 0 → ⊥) → refusal p (length old) ≡ n → (Refused n ≡ runAnswer p (length old) budget) × (old ≡ runBuffer p budget old)
+  pub refused : (n : ℕ) → (n ≡ 0 → ⊥) → refusal p (length old) ≡ n
+      → (Refused n ≡ runAnswer p (length old) budget) × (old ≡ runBuffer p budget old)
   unfolding runAnswer runBuffer
   refused n z e =
       let q : eqb (refusal p (length old)) 0 ≡ false = ne-eqb (refusal p (length old)) 0 (λ f. z (sym e ∙ f)) in
       (rw (q, e), rw (q, front-none old))
 
-  pub answered : refusal p (length old) ≡ 0 → (caseOf (answer p budget) ≡ runAnswer p (length old) budget) × (front (numbersOf (answer p budget)) old ≡ runBuffer p budget old)
+  pub answered : refusal p (length old) ≡ 0
+      → (caseOf (answer p budget) ≡ runAnswer p (length old) budget)
+      × (front (numbersOf (answer p budget)) old ≡ runBuffer p budget old)
   unfolding runAnswer runBuffer
   answered e = (rw e, rw e)

@@ -1,5 +1,5 @@
--- Demand 3 in one piece: the path of every accepted table joined with what a run on it answers and writes, in the order of the customer's sentences;
--- and what filling a gap changes. Assumes nothing.
+-- Demand 3 in one piece: the path of every accepted table joined with what a run on it answers and writes, in the order
+-- of the customer's sentences; and what filling a gap changes. Assumes nothing.
 use mathlib.Core.List.{List, [], _∷_}
 use mathlib.Core.Logic.{_↔_}
 use mathlib.Core.Path.{_≡_}
@@ -19,12 +19,14 @@ use Rattle.finder.specs.declared.answers.Answer.{Answer}
 use Rattle.finder.specs.declared.answers.Answer.the-variants.{End, Spent, Unknown}
 use Rattle.finder.specs.declared.answers.Kind.{Kind}
 
--- "the kind, block and complete simplex of the path's end, and the length as the count of simplices visited"; the block counts from 1. Request 10:
--- with the labels read on the path
+-- "the kind, block and complete simplex of the path's end, and the length as the count of simplices visited"; the block
+-- counts from 1. Request 10: with the labels read on the path
 abbrev pub announcementOf : Problem → EndOfPath → Answer
-announcementOf p e = End (pathLength p) (labelsRead (pathOf p .visited)) (kindOf (e .kind)) (suc (e .block)) (length (e .simplex))
+announcementOf p e =
+    End (pathLength p) (labelsRead (pathOf p .visited)) (kindOf (e .kind)) (suc (e .block)) (length (e .simplex))
 
--- "A table is accepted if, with its grid, start and answer buffer, a run's questions 1 to 8 are answered yes"; the buffer has `room` numbers
+-- "A table is accepted if, with its grid, start and answer buffer, a run's questions 1 to 8 are answered yes"; the
+-- buffer has `room` numbers
 abbrev pub AcceptedWith : Problem → ℕ → Type 0
 AcceptedWith p room = refusal p room ≡ 0
 
@@ -36,7 +38,8 @@ vertexNumbers e = concatMap (λ y. y) (e .simplex)
 pub record RunEnded (p : Problem) (room : ℕ) : Type 0 where
   -- "one path from the start, which ends", complete for the block named
   pub path : Ended p
-  -- "otherwise it announces the kind, block and complete simplex of the path's end, and the length"; its vertices stand in the answer buffer
+  -- "otherwise it announces the kind, block and complete simplex of the path's end, and the length"; its vertices stand
+  -- in the answer buffer
   pub announces : (budget : ℕ) → pathLength p ≤ budget → runAnswer p room budget ≡ announcementOf p (path .end)
   pub written : (budget : ℕ) (old : List ℕ) → length old ≡ room → pathLength p ≤ budget
       → runBuffer p budget old ≡ front (vertexNumbers (path .end)) old
@@ -44,22 +47,23 @@ pub record RunEnded (p : Problem) (room : ℕ) : Type 0 where
   pub reaches : runAnswer p room (bound (p .grid)) ≡ announcementOf p (path .end)
 
 pub record RunDemand3 (p : Problem) (room : ℕ) : Type 0 where
-  -- "has, whatever its labels, one path from the start .. and no simplex stands on it twice .. its length is at most the bound"; it stops at an
-  -- end or at its first place with a point that has no label
+  -- "has, whatever its labels, one path from the start .. and no simplex stands on it twice .. its length is at most
+  -- the bound"; it stops at an end or at its first place with a point that has no label
   pub path : Demand3 p
-  -- "A run on such a table calls its budget spent exactly when that is smaller than the length"; nothing is written then
+  -- "A run on such a table calls its budget spent exactly when that is smaller than the length"; nothing is
+  -- written then
   pub spends : (budget : ℕ) → (runAnswer p room budget ≡ Spent budget) ↔ (budget < pathLength p)
   pub unwritten : (budget : ℕ) (old : List ℕ) → length old ≡ room → budget < pathLength p → runBuffer p budget old ≡ old
   -- request 02: "demand 3 on those where no place on the path has a point with label 0"
   pub ended : NoGap p → RunEnded p room
-  -- request 02: "16 when a place within the budget needs a label that is 0 .. with the places visited before it and the point's position in the
-  -- table returned"; nothing is written then
+  -- request 02: "16 when a place within the budget needs a label that is 0 .. with the places visited before it and the
+  -- point's position in the table returned"; nothing is written then
   pub asks : (y : Point) → unlabelled p (lastPlace (pathOf p .visited)) ≡ y ∷ [] → (budget : ℕ) → pathLength p ≤ budget
       → runAnswer p room budget ≡ Unknown (pred (pathLength p)) (position (p .grid) y)
   pub unwrittenAsking : (budget n i : ℕ) (old : List ℕ) → length old ≡ room → runAnswer p room budget ≡ Unknown n i
       → runBuffer p budget old ≡ old
-  -- "and runs alike in grid, start and table that announce an end announce the same count, kind of end, block and vertices, whatever their budgets",
-  -- and whatever answer buffers they are lent; so do those that ask for a label
+  -- "and runs alike in grid, start and table that announce an end announce the same count, kind of end, block and
+  -- vertices, whatever their budgets", and whatever answer buffers they are lent; so do those that ask for a label
   pub alike : (b c : ℕ) (old other : List ℕ) → length old ≡ room → AcceptedWith p (length other)
       → (runAnswer p room b ≡ Spent b → ⊥) → (runAnswer p (length other) c ≡ Spent c → ⊥)
       → (runAnswer p room b ≡ runAnswer p (length other) c)
@@ -69,8 +73,9 @@ pub record RunDemand3 (p : Problem) (room : ℕ) : Type 0 where
 abbrev pub Demand3InOnePiece : Type 0
 Demand3InOnePiece = (p : Problem) (room : ℕ) → AcceptedWith p room → RunDemand3 p room
 
--- Request 02: "Filling a gap with any index never changes a sheet that was already printed with an end". Of two tables that agree wherever the
--- first has an index, the run on the second gives the same answer and buffer, unless the first asked for a label that the second has.
+-- Request 02: "Filling a gap with any index never changes a sheet that was already printed with an end". Of two tables
+-- that agree wherever the first has an index, the run on the second gives the same answer and buffer, unless the first
+-- asked for a label that the second has.
 pub record RunFilling (p : Problem) (labels : List ℕ) (room : ℕ) : Type 0 where
   pub same : (budget : ℕ) → ((n i : ℕ) → runAnswer p room budget ≡ Unknown n i → getD labels i 0 ≡ 0)
       → runAnswer (withLabels p labels) room budget ≡ runAnswer p room budget
@@ -78,9 +83,11 @@ pub record RunFilling (p : Problem) (labels : List ℕ) (room : ℕ) : Type 0 wh
       → ((n i : ℕ) → runAnswer p room budget ≡ Unknown n i → getD labels i 0 ≡ 0)
       → runBuffer (withLabels p labels) budget old ≡ runBuffer p budget old
   -- so an end stays, and the vertices with it
-  pub stays : (budget places read : ℕ) (kind : Kind) (block vertices : ℕ) → runAnswer p room budget ≡ End places read kind block vertices
+  pub stays : (budget places read : ℕ) (kind : Kind) (block vertices : ℕ)
+      → runAnswer p room budget ≡ End places read kind block vertices
       → runAnswer (withLabels p labels) room budget ≡ End places read kind block vertices
 
 abbrev pub FillingInOnePiece : Type 0
-FillingInOnePiece = (p : Problem) (labels : List ℕ) (room : ℕ) → AcceptedWith p room → AcceptedWith (withLabels p labels) room
-    → Fills p labels → RunFilling p labels room
+FillingInOnePiece = (p : Problem) (labels : List ℕ) (room : ℕ) → AcceptedWith p room
+    → AcceptedWith (withLabels p labels) room → Fills p labels
+    → RunFilling p labels room

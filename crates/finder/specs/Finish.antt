@@ -22,7 +22,8 @@ use Rattle.rules.specs.Ready.{IsRound, RoundBelow, Ready}
 use Rattle.rules.specs.Read.{pointIn, pointsFrom, read, CanCompute}
 use Rattle.rules.specs.Step.{Round, State}
 use Rattle.moves.specs.declared.Outcome.{Outcome}
-use Rattle.moves.specs.declared.Outcome.the-variants.{Moved as OutcomeMoved, PlaceEnd as OutcomePlaceEnd, FacetEnd as OutcomeFacetEnd}
+use Rattle.moves.specs.declared.Outcome.the-variants.{Moved as OutcomeMoved, PlaceEnd as OutcomePlaceEnd}
+use Rattle.moves.specs.declared.Outcome.the-variants.{FacetEnd as OutcomeFacetEnd}
 use Rattle.moves.specs.declared.Status.{Status}
 use Rattle.marks.specs.Reading.{problemFrom, tableOf, CanRead, HasMarks, Readable}
 use Rattle.finder.specs.declared.answers.Kind.{Kind}
@@ -83,7 +84,8 @@ visitOf (OutcomeMoved s) = Moved s
 visitOf (OutcomePlaceEnd h) = PlaceEnd h
 visitOf (OutcomeFacetEnd h) = FacetEnd h
 
--- the labels that are read at a place: that of the point which has come in; none after rules 6 and 7, by which none does
+-- the labels that are read at a place: that of the point which has come in; none after rules 6 and 7, by which
+-- none does
 abbrev pub labelsAt : ℕ → ℕ
 labelsAt rule = cond (ltb rule 6) 1 0
 
@@ -106,7 +108,8 @@ firstOf Facet = 1
 
 -- the state e stands at an end, which is the answer: `places` places, an end of the kind given for the block of h, and
 -- as simplex the points of e from number `from` on; `labels` labels were read
-pub record Announced (p : Problem) (budget : ℕ) (kind : KindOfEnd) (from : ℕ) (e : State) (h places labels : ℕ) : Type 0 where
+pub record Announced (p : Problem) (budget : ℕ) (kind : KindOfEnd) (from : ℕ) (e : State) (h places labels : ℕ)
+    : Type 0 where
   pub firstLength : length (e .first) ≡ 16
   pub index : h < numIndices (p .grid)
   pub few : length (e .order) ≤ dimension (p .grid)
@@ -118,6 +121,7 @@ pub record Announced (p : Problem) (budget : ℕ) (kind : KindOfEnd) (from : ℕ
 -- where a walk of at most `budget` places ends, with the first point and the order at the last place in its arrays
 abbrev pub Finished : Problem → ℕ → Round → List ℕ → List ℕ → Finish → Type 0
 Finished p budget round first order (Ended kind places h s labels) =
-    Announced p budget (endOf kind) (firstOf kind) (stateOf round first [] order [] s) h places labels × (length order ≡ 16)
+    Announced p budget (endOf kind) (firstOf kind) (stateOf round first [] order [] s) h places labels
+    × (length order ≡ 16)
 Finished p budget round first order (UnknownLabel places place) = answer p budget ≡ unknown places place
 Finished p budget round first order Spent = answer p budget ≡ spent budget

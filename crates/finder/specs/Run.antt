@@ -22,8 +22,8 @@ kindOf facetEnd = Facet
 
 -- "The answer has the places, the kind of end, the block, the number of vertices": the enum's case and values for each
 -- answer of an accepted table. "A budget is called spent by number 9", which "also returns the places visited". Request
--- 02: 16, "with the places visited before it and the point's position in the table returned". Request 10: the labels read
--- stand after the places, and "a refusal gives none".
+-- 02: 16, "with the places visited before it and the point's position in the table returned". Request 10: the labels
+-- read stand after the places, and "a refusal gives none".
 abbrev pub caseOf : PathAnswer → Answer
 caseOf (spent n) = Spent n
 caseOf (ended n read kind block vertices simplex) = End n read (kindOf kind) block vertices

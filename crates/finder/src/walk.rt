@@ -29,8 +29,8 @@ pub enum Visited {
 }
 
 // How a walk ended: at the path's end, after so many places, with an index of the block for which the simplex is
-// complete, the status at the last place and the labels read; at a place that needs a label not yet known, after so many
-// places before it, with the label's position; or with the budget spent.
+// complete, the status at the last place and the labels read; at a place that needs a label not yet known, after so
+// many places before it, with the label's position; or with the budget spent.
 pub enum Finish {
     Ended {
         kind: Kind,

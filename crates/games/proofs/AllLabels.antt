@@ -15,8 +15,9 @@ unfolding labels
 labels-length g losses = length-map (points g) (label g losses)
 
 module _ (g : Grid) (k : ℕ) where
-  pub label-written : (losses old : List ℕ) → k < numPoints g → length old ≡ numPoints g → (y : Point) → y ≡ getD (points g) k []
+  pub label-written : (losses old : List ℕ) → k < numPoints g → length old ≡ numPoints g → (y : Point)
+      → y ≡ getD (points g) k []
       → set (front (take k (labels g losses)) old) k (label g losses y) ≡ front (take (k + 1) (labels g losses)) old
   unfolding labels
-  label-written losses old h n y e =
-      rw (e, ← at-map (label g losses) (points g) k h) (front-copy (map (label g losses) (points g)) old k (rw length-map h) (omega arith))
+  label-written losses old h n y e = rw (e, ← at-map (label g losses) (points g) k h)
+      (front-copy (map (label g losses) (points g)) old k (rw length-map h) (omega arith))

@@ -17,10 +17,13 @@ sums-grow [] (suc i) l h = omega arith
 sums-grow (s ∷ ss) (suc i) zero h = absurd (omega arith)
 sums-grow (s ∷ ss) (suc i) (suc l) h = omega (arith, sums-grow ss i l (omega arith))
 
-pub levels-kept : (g : Grid) (losses : List ℕ) (y z : Point) (l n : ℕ) (levels : List ℕ) → l ≤ n → take (firstIndex g l) z ≡ take (firstIndex g l) y → StandTo g losses y n levels → StandTo g losses z l levels
+pub levels-kept : (g : Grid) (losses : List ℕ) (y z : Point) (l n : ℕ) (levels : List ℕ) → l ≤ n
+    → take (firstIndex g l) z ≡ take (firstIndex g l) y → StandTo g losses y n levels
+    → StandTo g losses z l levels
 levels-kept g losses y z l n levels b e stand i c h t d f =
     let low : firstIndex g i ≤ firstIndex g l = sums-grow (g .sizes) i l c in
     let same : take (firstIndex g i) y ≡ take (firstIndex g i) z =
-    sym (take-take (firstIndex g i) (firstIndex g l) y low) ∙ ap (take (firstIndex g i)) (sym e) ∙ take-take (firstIndex g i) (firstIndex g l) z low
-    in
+    sym (take-take (firstIndex g i) (firstIndex g l) y low)
+    ∙ ap (take (firstIndex g i)) (sym e)
+    ∙ take-take (firstIndex g i) (firstIndex g l) z low in
     stand i (omega arith) h t d f ∙ levelled-kept g losses h y z i t same

@@ -36,7 +36,8 @@ asked-next (q ∷ qs) rs a e = go (q .answeredYes) e (asked-next qs rs (and-righ
     some : 0 < q .number
     some = ltb-true 0 (q .number) (and-left (ltb 0 (q .number)) (numbered qs) a)
 
-    go : (b : Bool) → cond b (firstNo qs) (q .number) ≡ 0 → (firstNo qs ≡ 0 → firstNo (qs ++ rs) ≡ firstNo rs) → cond b (firstNo (qs ++ rs)) (q .number) ≡ firstNo rs
+    go : (b : Bool) → cond b (firstNo qs) (q .number) ≡ 0 → (firstNo qs ≡ 0 → firstNo (qs ++ rs) ≡ firstNo rs)
+        → cond b (firstNo (qs ++ rs)) (q .number) ≡ firstNo rs
     go true e i = i e
     go false e i = absurd (omega (arith, some))
 
@@ -46,22 +47,27 @@ unfolding firstNo
 asked-no [] rs n h e = absurd (h (sym e))
 asked-no (q ∷ qs) rs n h e = go (q .answeredYes) e (asked-no qs rs n h)
   where
-    go : (b : Bool) → cond b (firstNo qs) (q .number) ≡ n → (firstNo qs ≡ n → firstNo (qs ++ rs) ≡ n) → cond b (firstNo (qs ++ rs)) (q .number) ≡ n
+    go : (b : Bool) → cond b (firstNo qs) (q .number) ≡ n → (firstNo qs ≡ n → firstNo (qs ++ rs) ≡ n)
+        → cond b (firstNo (qs ++ rs)) (q .number) ≡ n
     go true e i = i e
     go false e i = e
 
 module _ (g : Grid) (questions : List Question) (losses buffer : List ℕ) where
-  pub refused : (n : ℕ) → (n ≡ 0 → ⊥) → firstNo questions ≡ n → (Refused n ≡ labelledOf g questions) × (buffer ≡ leftIn g questions losses buffer)
+  pub refused : (n : ℕ) → (n ≡ 0 → ⊥) → firstNo questions ≡ n
+      → (Refused n ≡ labelledOf g questions) × (buffer ≡ leftIn g questions losses buffer)
   unfolding labelledOf leftIn
   refused n h e = (rw (e, ne-eqb n 0 h), rw (e, ne-eqb n 0 h))
 
-  pub written : firstNo questions ≡ 0 → (Written (numPoints g) ≡ labelledOf g questions) × (front (labels g losses) buffer ≡ leftIn g questions losses buffer)
+  pub written : firstNo questions ≡ 0
+      → (Written (numPoints g) ≡ labelledOf g questions)
+      × (front (labels g losses) buffer ≡ leftIn g questions losses buffer)
   unfolding labelledOf leftIn
   written e = (rw e, rw e)
 
 -- questions 10 to 12, behind a grid that is accepted
 module _ (g : Grid) (losses buffer : List ℕ) (a : firstNo (gridQuestions g) ≡ 0) where
-  rest : firstNo (labelQuestions g losses buffer) ≡ firstNo (question10 g losses ∷ question11 losses ∷ question12 g buffer ∷ [])
+  rest : firstNo (labelQuestions g losses buffer)
+      ≡ firstNo (question10 g losses ∷ question11 losses ∷ question12 g buffer ∷ [])
   rest = asked-next (gridQuestions g) _ refl a
 
   pub asked10 : (length losses ≡ numBlocks g * product (g .sizes) → ⊥) → firstNo (labelQuestions g losses buffer) ≡ 10
@@ -73,18 +79,23 @@ module _ (g : Grid) (losses buffer : List ℕ) (a : firstNo (gridQuestions g) �
     unfolding firstNo
     asked11 h = rest ∙ rw (eq-eqb _ _ e, h)
 
-    pub asked12 : all inRange losses ≡ true → (length buffer ≡ numPoints g → ⊥) → firstNo (labelQuestions g losses buffer) ≡ 12
+    pub asked12 : all inRange losses ≡ true → (length buffer ≡ numPoints g → ⊥)
+        → firstNo (labelQuestions g losses buffer) ≡ 12
     unfolding firstNo
     asked12 h n = rest ∙ rw (eq-eqb _ _ e, h, ne-eqb _ _ n)
 
-    pub asked-all : all inRange losses ≡ true → length buffer ≡ numPoints g → firstNo (labelQuestions g losses buffer) ≡ 0
+    pub asked-all : all inRange losses ≡ true → length buffer ≡ numPoints g
+        → firstNo (labelQuestions g losses buffer) ≡ 0
     unfolding firstNo
     asked-all h n = rest ∙ rw (eq-eqb _ _ e, h, eq-eqb _ _ n)
 
 -- what a struct that the constructor has made holds
 module _ (s : GridStruct) (made : IsMade s) where
   pub made-firsts : WithFirsts (shape s) (s .firsts)
-  made-firsts = record { accepted = made .accepted; first = λ j h. made-first s made j (omega (arith, made-blocks s made)) }
+  made-firsts = record {
+    accepted = made .accepted;
+    first = λ j h. made-first s made j (omega (arith, made-blocks s made));
+  }
 
   -- the numbers of the blocks lie in their arrays
   pub blocks-room : (s .blocks ≤ length (s .sizes)) × (s .blocks ≤ length (s .divisions))
@@ -92,12 +103,15 @@ module _ (s : GridStruct) (made : IsMade s) where
   blocks-room =
       let a = made-accepted s made in
       let few : length (shape s .divisions) ≤ 6 = omega (arith, a .sameNumber, a .fewBlocks) in
-      let sizes = ap (λ z. length (z .sizes)) (made .made) ∙ front-length (shape s .sizes) (replicate 6 0) (a .fewBlocks) in
-      let divisions = ap (λ z. length (z .divisions)) (made .made) ∙ front-length (shape s .divisions) (replicate 6 0) few in
+      let sizes =
+      ap (λ z. length (z .sizes)) (made .made) ∙ front-length (shape s .sizes) (replicate 6 0) (a .fewBlocks) in
+      let divisions =
+      ap (λ z. length (z .divisions)) (made .made) ∙ front-length (shape s .divisions) (replicate 6 0) few in
       (omega (arith, sizes, blocks-range s made .1), omega (arith, divisions, blocks-range s made .1))
 
 -- and what it answers of sizes and divisions that are lent
-pub made-on : (g : Grid) (r : Made) → r ≡ madeOf g → r .code ≡ 0 → IsMade (r .grid) × (shape (r .grid) ≡ g) × (r .grid .points ≡ numPoints g)
+pub made-on : (g : Grid) (r : Made) → r ≡ madeOf g → r .code ≡ 0
+    → IsMade (r .grid) × (shape (r .grid) ≡ g) × (r .grid .points ≡ numPoints g)
 made-on g r is z =
     let m = made-is g r is z in
     let e = made-shape g r is z in

@@ -32,7 +32,11 @@ leftIn g questions losses buffer = cond (eqb (firstNo questions) 0) (front (labe
 
 -- the answer of a labelling and what it leaves in the buffer, by what is lent
 abbrev pub labelAnswer : List ℕ → List ℕ → List ℕ → List ℕ → Labelled
-labelAnswer sizes divisions losses buffer = let g = lent sizes divisions in labelledOf g (labelQuestions g losses buffer)
+labelAnswer sizes divisions losses buffer =
+    let g = lent sizes divisions in
+    labelledOf g (labelQuestions g losses buffer)
 
 abbrev pub labelBuffer : List ℕ → List ℕ → List ℕ → List ℕ → List ℕ
-labelBuffer sizes divisions losses buffer = let g = lent sizes divisions in leftIn g (labelQuestions g losses buffer) losses buffer
+labelBuffer sizes divisions losses buffer =
+    let g = lent sizes divisions in
+    leftIn g (labelQuestions g losses buffer) losses buffer

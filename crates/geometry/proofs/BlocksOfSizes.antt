@@ -1,5 +1,5 @@
--- Consecutive blocks of given sizes are blocks that go round: next and previous undo each other and keep the block, and going back reaches every
--- index of the block. Assumes nothing.
+-- Consecutive blocks of given sizes are blocks that go round: next and previous undo each other and keep the block, and
+-- going back reaches every index of the block. Assumes nothing.
 use mathlib.Core.Bool.{cond}
 use mathlib.Core.List.{List, [], _∷_}
 use mathlib.Core.Logic.{⊎-elim}
@@ -28,29 +28,47 @@ previous-wrap : (s : ℕ) (ss : List ℕ) → 0 < s → previousOf (s ∷ ss) 0 
 previous-wrap s ss l = rw (lt-ltb 0 s l)
 
 previous-inside : (s : ℕ) (ss : List ℕ) (k : ℕ) → suc k < s → previousOf (s ∷ ss) (suc k) ≡ k
-previous-inside s ss k l = let e : suc k - 1 ≡ k = omega arith in rw (lt-ltb (suc k) s l, ne-eqb (suc k) 0 (λ e. omega arith), e)
+previous-inside s ss k l =
+    let e : suc k - 1 ≡ k = omega arith in
+    rw (lt-ltb (suc k) s l, ne-eqb (suc k) 0 (λ e. omega arith), e)
 
 pub previous-outside : (s : ℕ) (ss : List ℕ) (k : ℕ) → s ≤ k → previousOf (s ∷ ss) k ≡ s + previousOf ss (k - s)
 previous-outside s ss k l = rw (le-ltb k s l)
 
 pub next-previous-of : (ss : List ℕ) (k : ℕ) → nextOf ss (previousOf ss k) ≡ k
 next-previous-of [] k = refl
-next-previous-of (s ∷ ss) k =
-    ⊎-elim
-    (λ (l : k < s). ⊎-elim (λ (e : k ≡ 0). rw (e, previous-wrap s ss (omega arith)) (next-wrap s ss (s - 1) (omega arith)))
-    (λ w. let e : suc w.0 < s = omega (arith, w .1) in rw (w .1, previous-inside s ss w.0 e) (next-inside s ss w.0 e)) (zero-or k))
-    (λ (l : s ≤ k). let e : s + previousOf ss (k - s) - s ≡ previousOf ss (k - s) = omega arith in
-    rw (previous-outside s ss k l, next-outside s ss (s + previousOf ss (k - s)) (omega arith), e, next-previous-of ss (k - s)) (omega arith))
+next-previous-of (s ∷ ss) k = ⊎-elim
+    (λ (l : k < s). ⊎-elim
+    (λ (e : k ≡ 0). rw (e, previous-wrap s ss (omega arith)) (next-wrap s ss (s - 1) (omega arith)))
+    (λ w. let e : suc w.0 < s = omega (arith, w .1) in rw (w .1, previous-inside s ss w.0 e) (next-inside s ss w.0 e))
+    (zero-or k))
+    (λ (l : s ≤ k).
+    let e : s + previousOf ss (k - s) - s ≡ previousOf ss (k - s) = omega arith in
+    rw (
+      previous-outside s ss k l,
+      next-outside s ss (s + previousOf ss (k - s)) (omega arith),
+      e,
+      next-previous-of ss (k - s),
+    ) (omega arith))
     (before-or-not k s)
 
 pub previous-next-of : (ss : List ℕ) (k : ℕ) → previousOf ss (nextOf ss k) ≡ k
 previous-next-of [] k = refl
-previous-next-of (s ∷ ss) k =
-    ⊎-elim
-    (λ (l : k < s). ⊎-elim (λ (e : suc k ≡ s). rw (next-wrap s ss k e, previous-wrap s ss (omega arith)) (omega arith))
-    (λ (n : suc k ≡ s → ⊥). let m : suc k < s = omega (arith, n) in rw (next-inside s ss k m) (previous-inside s ss k m)) (same-or (suc k) s))
-    (λ (l : s ≤ k). let e : s + nextOf ss (k - s) - s ≡ nextOf ss (k - s) = omega arith in
-    rw (next-outside s ss k l, previous-outside s ss (s + nextOf ss (k - s)) (omega arith), e, previous-next-of ss (k - s)) (omega arith))
+previous-next-of (s ∷ ss) k = ⊎-elim
+    (λ (l : k < s). ⊎-elim
+    (λ (e : suc k ≡ s). rw (next-wrap s ss k e, previous-wrap s ss (omega arith)) (omega arith))
+    (λ (n : suc k ≡ s → ⊥).
+    let m : suc k < s = omega (arith, n) in
+    rw (next-inside s ss k m) (previous-inside s ss k m))
+    (same-or (suc k) s))
+    (λ (l : s ≤ k).
+    let e : s + nextOf ss (k - s) - s ≡ nextOf ss (k - s) = omega arith in
+    rw (
+      next-outside s ss k l,
+      previous-outside s ss (s + nextOf ss (k - s)) (omega arith),
+      e,
+      previous-next-of ss (k - s),
+    ) (omega arith))
     (before-or-not k s)
 
 previous-below : (s : ℕ) (ss : List ℕ) (k : ℕ) → k < s → previousOf (s ∷ ss) k < s
@@ -59,10 +77,17 @@ previous-below s ss (suc k) l = omega (arith, previous-inside s ss k l)
 
 pub block-previous-of : (ss : List ℕ) (k : ℕ) → blockNumber ss (previousOf ss k) ≡ blockNumber ss k
 block-previous-of [] k = refl
-block-previous-of (s ∷ ss) k =
-    ⊎-elim (λ (l : k < s). rw (lt-ltb _ s (previous-below s ss k l), lt-ltb k s l))
-    (λ (l : s ≤ k). let e : s + previousOf ss (k - s) - s ≡ previousOf ss (k - s) = omega arith in
-    rw (previous-outside s ss k l, le-ltb (s + previousOf ss (k - s)) s (omega arith), le-ltb k s l, e, block-previous-of ss (k - s)))
+block-previous-of (s ∷ ss) k = ⊎-elim
+    (λ (l : k < s). rw (lt-ltb _ s (previous-below s ss k l), lt-ltb k s l))
+    (λ (l : s ≤ k).
+    let e : s + previousOf ss (k - s) - s ≡ previousOf ss (k - s) = omega arith in
+    rw (
+      previous-outside s ss k l,
+      le-ltb (s + previousOf ss (k - s)) s (omega arith),
+      le-ltb k s l,
+      e,
+      block-previous-of ss (k - s),
+    ))
     (before-or-not k s)
 
 -- n steps back
@@ -82,43 +107,58 @@ back-out s ss (suc n) h =
     let e : s + back (previousOf ss) n h - s ≡ back (previousOf ss) n h = omega arith in
     rw (back-out s ss n h) (rw (previous-outside s ss (s + back (previousOf ss) n h) (omega arith), e))
 
-back-first : (s : ℕ) (ss : List ℕ) (h k : ℕ) → h < s → k < s → back (previousOf (s ∷ ss)) (cond (leb k h) (h - k) (h + s - k)) h ≡ k
-back-first s ss h k a b =
-    ⊎-elim
+back-first : (s : ℕ) (ss : List ℕ) (h k : ℕ) → h < s → k < s
+    → back (previousOf (s ∷ ss)) (cond (leb k h) (h - k) (h + s - k)) h ≡ k
+back-first s ss h k a b = ⊎-elim
     (λ (l : h < k).
     let e : h + s - k ≡ (s - 1 - k) + (1 + h) = omega arith in
-    let z : back (previousOf (s ∷ ss)) h h ≡ 0 = let w : h + 0 ≡ h = omega arith in rw w at (back-in s ss h 0 (omega arith)) in
-    let y : back (previousOf (s ∷ ss)) (1 + h) h ≡ s - 1 = back-add _ 1 h h ∙ ap (previousOf (s ∷ ss)) z
-    ∙ previous-wrap s ss (omega arith) in
+    let z : back (previousOf (s ∷ ss)) h h ≡ 0 =
+    let w : h + 0 ≡ h = omega arith in
+    rw w at (back-in s ss h 0 (omega arith)) in
+    let y : back (previousOf (s ∷ ss)) (1 + h) h ≡ s - 1 =
+    back-add _ 1 h h ∙ ap (previousOf (s ∷ ss)) z ∙ previous-wrap s ss (omega arith) in
     let x : (s - 1 - k) + k ≡ s - 1 = omega arith in
     rw (lt-leb k h l, e)
-    (back-add _ (s - 1 - k) (1 + h) h ∙ ap (back (previousOf (s ∷ ss)) (s - 1 - k)) (y ∙ sym x)
+    (back-add _ (s - 1 - k) (1 + h) h
+    ∙ ap (back (previousOf (s ∷ ss)) (s - 1 - k)) (y ∙ sym x)
     ∙ back-in s ss (s - 1 - k) k (omega arith)))
-    (λ (l : k ≤ h). let w : (h - k) + k ≡ h = omega arith in
-    rw (le-leb k h l) (rw w at (back-in s ss (h - k) k (omega arith)))) (before-or-not h k)
+    (λ (l : k ≤ h).
+    let w : (h - k) + k ≡ h = omega arith in
+    rw (le-leb k h l) (rw w at (back-in s ss (h - k) k (omega arith))))
+    (before-or-not h k)
 
-pub reached-of : (ss : List ℕ) (h k : ℕ) → blockNumber ss h ≡ blockNumber ss k → back (previousOf ss) (distanceOf ss h k) h ≡ k
+pub reached-of : (ss : List ℕ) (h k : ℕ) → blockNumber ss h ≡ blockNumber ss k
+    → back (previousOf ss) (distanceOf ss h k) h ≡ k
 reached-of [] h k e = e
-reached-of (s ∷ ss) h k e =
-    ⊎-elim
-    (λ (a : h < s). ⊎-elim (λ (b : k < s). rw (lt-ltb h s a) (back-first s ss h k a b))
-    (λ (b : s ≤ k). absurd (omega (arith, rw (lt-ltb h s a, le-ltb k s b) at e))) (before-or-not k s))
-    (λ (a : s ≤ h). ⊎-elim (λ (b : k < s). absurd (omega (arith, rw (le-ltb h s a, lt-ltb k s b) at e)))
+reached-of (s ∷ ss) h k e = ⊎-elim
+    (λ (a : h < s). ⊎-elim
+    (λ (b : k < s). rw (lt-ltb h s a) (back-first s ss h k a b))
+    (λ (b : s ≤ k). absurd (omega (arith, rw (lt-ltb h s a, le-ltb k s b) at e)))
+    (before-or-not k s))
+    (λ (a : s ≤ h). ⊎-elim
+    (λ (b : k < s). absurd (omega (arith, rw (le-ltb h s a, lt-ltb k s b) at e)))
     (λ (b : s ≤ k).
     let x : s + (h - s) ≡ h = omega arith in
     let y : suc (blockNumber ss (h - s)) ≡ suc (blockNumber ss (k - s)) = rw (le-ltb h s a, le-ltb k s b) at e in
     let d : distanceOf (s ∷ ss) h k ≡ distanceOf ss (h - s) (k - s) = rw (le-ltb h s a) in
-    rw d (subst (λ (i : ℕ). back (previousOf (s ∷ ss)) (distanceOf ss (h - s) (k - s)) i ≡ k) x
-    (back-out s ss (distanceOf ss (h - s) (k - s)) (h - s) ∙ ap (λ (i : ℕ). s + i) (reached-of ss (h - s) (k - s) (omega arith)) ∙ omega arith)))
+    rw d (subst
+    (λ (i : ℕ). back (previousOf (s ∷ ss)) (distanceOf ss (h - s) (k - s)) i ≡ k)
+    x
+    (back-out s ss (distanceOf ss (h - s) (k - s)) (h - s)
+    ∙ ap (λ (i : ℕ). s + i) (reached-of ss (h - s) (k - s) (omega arith))
+    ∙ omega arith)))
     (before-or-not k s))
     (before-or-not h s)
 
 pub distance-below-of : (ss : List ℕ) (h k : ℕ) → distanceOf ss h k ≤ sum ss + sum ss
 distance-below-of [] h k = omega arith
-distance-below-of (s ∷ ss) h k =
-    ⊎-elim (λ (a : h < s). rw (lt-ltb h s a)
-    (⊎-elim (λ (b : h < k). rw (lt-leb k h b) (omega arith)) (λ (b : k ≤ h). rw (le-leb k h b) (omega arith)) (before-or-not h k)))
-    (λ (a : s ≤ h). rw (le-ltb h s a) (omega (arith, distance-below-of ss (h - s) (k - s)))) (before-or-not h s)
+distance-below-of (s ∷ ss) h k = ⊎-elim
+    (λ (a : h < s). rw (lt-ltb h s a) (⊎-elim
+    (λ (b : h < k). rw (lt-leb k h b) (omega arith))
+    (λ (b : k ≤ h). rw (le-leb k h b) (omega arith))
+    (before-or-not h k)))
+    (λ (a : s ≤ h). rw (le-ltb h s a) (omega (arith, distance-below-of ss (h - s) (k - s))))
+    (before-or-not h s)
 
 unfoldable pub blocksOfSizes : List ℕ → (ℕ → ℕ) → Blocks
 blocksOfSizes ss v = record {

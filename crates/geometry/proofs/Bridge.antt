@@ -1,5 +1,6 @@
--- A chain is a place of document 01, labels apart, and a place is a chain. In order: the steps of a chain move one unit; a chain is a place;
--- coefficients of a place rise on the run of a step alone; a place is a chain. Assumes nothing.
+-- A chain is a place of document 01, labels apart, and a place is a chain. In order: the steps of a chain move one
+-- unit; a chain is a place; coefficients of a place rise on the run of a step alone; a place is a chain.
+-- Assumes nothing.
 use mathlib.Core.Bool.{Bool, true, false, not, cond}
 use mathlib.Core.Logic.{_⊎_, inl, inr, ⊎-elim}
 use mathlib.Core.Path.{_≡_, refl, sym, ap, _∙_}
@@ -10,7 +11,8 @@ use native.Mathlib.Omega.{arith}
 use Rattle.geometry.proofs.Chains
 use Rattle.combinatorics.proofs.Basics.{true-or-false, absurd-bool, same-or, before-or-not}
 use Rattle.geometry.proofs.Search.{block-back}
-use Rattle.geometry.proofs.Definitions.{OnRun, back, Blocks, coord, Tight, Step, Chain, BackToPositive, Moved, one-at, Goes, Place, zeros}
+use Rattle.geometry.proofs.Definitions.{OnRun, back, Blocks, coord, Tight, Step, Chain, BackToPositive, Moved}
+use Rattle.geometry.proofs.Definitions.{one-at, Goes, Place, zeros}
 use Rattle.geometry.proofs.Grow.{zero-stays}
 use Rattle.geometry.proofs.Orders.{zero-or}
 use Rattle.geometry.proofs.Runs.{next-back, run-by, positive-stop, search-back, moved}
@@ -22,7 +24,8 @@ one-at-it b = rw (eq-eqb b b refl)
 one-elsewhere : (b k : ℕ) → (k ≡ b → ⊥) → one-at b k ≡ 0
 one-elsewhere b k n = rw (ne-eqb k b n)
 
-pub changes-of : {R : Blocks} {h b : ℕ} {c d : ℕ → ℕ} → Moved R h b c d → (k : ℕ) → coord R d k + one-at b k ≡ coord R c k + one-at h k
+pub changes-of : {R : Blocks} {h b : ℕ} {c d : ℕ → ℕ} → Moved R h b c d → (k : ℕ)
+    → coord R d k + one-at b k ≡ coord R c k + one-at h k
 changes-of {h} {b} m k =
     ⊎-elim (λ (x : k ≡ h). rw x (omega (arith, m .gains, one-at-it h, one-elsewhere b h (λ e. m .apart (sym e)))))
     (λ (x : k ≡ h → ⊥). ⊎-elim (λ (y : k ≡ b). rw y (omega (arith, m .gives, one-at-it b, one-elsewhere h b m.apart)))
@@ -100,10 +103,11 @@ module _ {R : Blocks} {T : ℕ → Bool} {t : ℕ} {p : ℕ → ℕ → ℕ} {o 
       len = record {
         some = w .1;
         skipped = skip;
-        stops = ⊎-elim (λ e. inl e)
+        stops = ⊎-elim
+            (λ e. inl e)
             (λ e. inr (let z : suc (n - 1) ≡ n = omega (arith, w .1) in
-            let x : R .next (back R.previous n h) ≡ back R.previous (n - 1) h = ap (λ (i : ℕ). R .next (back R.previous i h)) (sym z)
-            ∙ next-back R (n - 1) h in
+            let x : R .next (back R.previous n h) ≡ back R.previous (n - 1) h =
+            ap (λ (i : ℕ). R .next (back R.previous i h)) (sym z) ∙ next-back R (n - 1) h in
             omega (
               arith,
               zeros-no _ ends e,
@@ -113,11 +117,13 @@ module _ {R : Blocks} {T : ℕ → Bool} {t : ℕ} {p : ℕ → ℕ → ℕ} {o 
               ap (p 0) x,
               Chains.one-more-at-most K (suc j) l (back R.previous (n - 1) h),
               Chains.rise K 0 j (omega arith) (omega arith) (back R.previous (n - 1) h),
-            ))) (true-or-false (T (back R.previous n h)));
+            )))
+            (true-or-false (T (back R.previous n h)));
       }
 
       mv : Moved R h (back R.previous n h) (p j) (p (suc j))
-      mv = moved R (K .tight j (omega arith)) (K .tight (suc j) l) (K .hasZeros j (omega arith)) (K .hasZeros (suc j) l) (K .step j l) n w.1 run
+      mv = moved R (K .tight j (omega arith)) (K .tight (suc j) l) (K .hasZeros j (omega arith)) (K .hasZeros (suc j) l)
+          (K .step j l) n w.1 run
           (positive-stop R (K .tight j (omega arith)) (K .tight (suc j) l) (K .step j l) f.0 f.1 same n len)
           (K .grid j (omega arith)) (K .grid (suc j) l)
 
@@ -139,16 +145,23 @@ module _ {R : Blocks} {T : ℕ → Bool} {t : ℕ} {p : ℕ → ℕ → ℕ} {o 
 -- from a place to a chain
 module _ {R : Blocks} {T U : ℕ → Bool} {t : ℕ} {p : ℕ → ℕ → ℕ} {o : ℕ → ℕ} (P : Place R T U t p o) where
   place-tight : (j : ℕ) → j ≤ t → Tight R T (p j)
-  place-tight j l k e =
-      ⊎-elim (λ x. omega (arith, P .unused k x j l, P .grid j l k)) (λ x. omega (arith, P .unmoved k e x j l, P .grid j l k)) (true-or-false (U k))
+  place-tight j l k e = ⊎-elim
+      (λ x. omega (arith, P .unused k x j l, P .grid j l k))
+      (λ x. omega (arith, P .unmoved k e x j l, P .grid j l k))
+      (true-or-false (U k))
 
   -- the difference of two coefficients moves on as the coordinates do
   module _ (j : ℕ) (l : j < t) {n : ℕ} (g : Goes R U (o j) (p j) (p (suc j)) n) where
-    balance : (k : ℕ) → p (suc j) k + p j (R .next k) + one-at (back R.previous n (o j)) k ≡ p j k + p (suc j) (R .next k) + one-at (o j) k
+    balance : (k : ℕ)
+        → p (suc j) k + p j (R .next k) + one-at (back R.previous n (o j)) k
+        ≡ p j k + p (suc j) (R .next k) + one-at (o j) k
     balance k = omega (arith, g .changes k, P .grid j (omega arith) k, P .grid (suc j) l k)
 
     run-index : (i : ℕ) → i < n → U (back R.previous i (o j)) ≡ false → i ≡ 0
-    run-index i m e = ⊎-elim (λ (x : i ≡ 0). x) (λ x. absurd-bool (sym (g .skipped i (let y : (i ≡ 0 → ⊥) = x in omega arith) m) ∙ e)) (same-or i 0)
+    run-index i m e = ⊎-elim
+        (λ (x : i ≡ 0). x)
+        (λ x. absurd-bool (sym (g .skipped i (let y : (i ≡ 0 → ⊥) = x in omega arith) m) ∙ e))
+        (same-or i 0)
 
     own-used : U (o j) ≡ false
     own-used = P .moved (o j) (P .order .within j l) .0
@@ -237,14 +250,20 @@ module _ {R : Blocks} {T U : ℕ → Bool} {t : ℕ} {p : ℕ → ℕ → ℕ} {
         wrap : (k : ℕ) → k ≡ o j → OnRun R (o j) n (R .next k) → ⊥
         wrap k x r =
             let e : back R.previous (suc r.0) (o j) ≡ k = ap R.previous r.2 ∙ R .previous-next k in
-            ⊎-elim (λ (y : suc r.0 < n). omega (arith, run-index (suc r.0) y (ap U (e ∙ x) ∙ own-used)))
-            (λ (y : n ≤ suc r.0). let z : suc r.0 ≡ n = omega (arith, r .1) in end-apart (ap (λ (a : ℕ). back R.previous a (o j)) (sym z) ∙ e ∙ x))
+            ⊎-elim
+            (λ (y : suc r.0 < n). omega (arith, run-index (suc r.0) y (ap U (e ∙ x) ∙ own-used)))
+            (λ (y : n ≤ suc r.0).
+            let z : suc r.0 ≡ n = omega (arith, r .1) in
+            end-apart (ap (λ (a : ℕ). back R.previous a (o j)) (sym z) ∙ e ∙ x))
             (before-or-not (suc r.0) n)
 
         before : (k : ℕ) → k ≡ back R.previous n (o j) → OnRun R (o j) n (R .next k)
         before k y =
-            let z : suc (n - 1) ≡ n = omega (arith, g .some) in
-            (n - 1, omega (arith, g .some), sym (next-back R (n - 1) (o j)) ∙ ap (λ (a : ℕ). R .next (back R.previous a (o j))) z ∙ ap R.next (sym y))
+            let z : suc (n - 1) ≡ n = omega (arith, g .some) in (
+              n - 1,
+              omega (arith, g .some),
+              sym (next-back R (n - 1) (o j)) ∙ ap (λ (a : ℕ). R .next (back R.previous a (o j))) z ∙ ap R.next (sym y),
+            )
 
         off : (k : ℕ) → k ≡ back R.previous n (o j) → OnRun R (o j) n k → ⊥
         off k y r =
@@ -264,18 +283,25 @@ module _ {R : Blocks} {T U : ℕ → Bool} {t : ℕ} {p : ℕ → ℕ → ℕ} {
         up : (k : ℕ) → (k ≡ back R.previous n (o j) → ⊥) → OnRun R (o j) n (R .next k) → OnRun R (o j) n k
         up k y r =
             let e : back R.previous (suc r.0) (o j) ≡ k = ap R.previous r.2 ∙ R .previous-next k in
-            ⊎-elim (λ (x : suc r.0 < n). (suc r.0, x, e))
-            (λ (x : n ≤ suc r.0). let z : suc r.0 ≡ n = omega (arith, r .1) in absurd (y (sym e ∙ ap (λ (a : ℕ). back R.previous a (o j)) z)))
+            ⊎-elim
+            (λ (x : suc r.0 < n). (suc r.0, x, e))
+            (λ (x : n ≤ suc r.0).
+            let z : suc r.0 ≡ n = omega (arith, r .1) in
+            absurd (y (sym e ∙ ap (λ (a : ℕ). back R.previous a (o j)) z)))
             (before-or-not (suc r.0) n)
 
     in-block : (k : ℕ) → R .block k ≡ R .block (o j) → Either k
     in-block k e =
         let f = P .free (o j) in
         round R Either f.0
-        (inl (P .unmoved f.0 f.2 f.3 (suc j) l ∙ sym (P .unmoved f.0 f.2 f.3 j (omega arith)), λ r. free-not-on-run r.0 r.1 f.0 f.2 f.3 r.2))
+        (inl (
+          P .unmoved f.0 f.2 f.3 (suc j) l ∙ sym (P .unmoved f.0 f.2 f.3 j (omega arith)),
+          λ r. free-not-on-run r.0 r.1 f.0 f.2 f.3 r.2,
+        ))
         run-step k (f .1 ∙ sym e)
 
-    other-block : (k : ℕ) → (R .block k ≡ R .block (o j) → ⊥) → p (suc j) k + p j (R .next k) ≡ p j k + p (suc j) (R .next k)
+    other-block : (k : ℕ) → (R .block k ≡ R .block (o j) → ⊥)
+        → p (suc j) k + p j (R .next k) ≡ p j k + p (suc j) (R .next k)
     other-block k x = omega (
       arith,
       balance k,

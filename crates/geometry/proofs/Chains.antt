@@ -1,5 +1,5 @@
--- Along a chain each coefficient rises at most once, by 1: on T at its own step, elsewhere by 1 at most. The index after the one raised keeps its
--- coefficient. Assumes nothing.
+-- Along a chain each coefficient rises at most once, by 1: on T at its own step, elsewhere by 1 at most. The index
+-- after the one raised keeps its coefficient. Assumes nothing.
 use mathlib.Core.Bool.{Bool, true, false}
 use mathlib.Core.Logic.{⊎-elim}
 use mathlib.Core.Path.{_≡_, refl, _∙_}
@@ -15,7 +15,8 @@ module _ {R : Blocks} {T : ℕ → Bool} {t : ℕ} {p : ℕ → ℕ → ℕ} {o 
   changed j l k e n = ⊎-elim (λ q. q) (λ q. absurd (n (K .step j l .unchanged k e q))) (same-or k (o j))
 
   pub rises : (j : ℕ) → j < t → (k : ℕ) → p j k ≤ p (suc j) k
-  rises j l k = step-up R T (K .tight j (omega arith)) (K .tight (suc j) l) (K .hasZeros j (omega arith)) (K .step j l) k
+  rises j l k =
+      step-up R T (K .tight j (omega arith)) (K .tight (suc j) l) (K .hasZeros j (omega arith)) (K .step j l) k
 
   pub rise-by : (d i : ℕ) → i + d ≤ t → (k : ℕ) → p i k ≤ p (i + d) k
   rise-by zero i l k = let e : i + 0 ≡ i = omega arith in rw e (omega arith)
@@ -30,7 +31,8 @@ module _ {R : Blocks} {T : ℕ → Bool} {t : ℕ} {p : ℕ → ℕ → ℕ} {o 
   pub before-raise : (l j : ℕ) → l < t → j ≤ l → p j (o l) ≡ p 0 (o l)
   before-raise l zero a b = refl
   before-raise l (suc j) a b =
-      K .step j (omega arith) .unchanged (o l) (K .order .within l a) (λ q. omega (arith, K .order .once l j a (omega arith) q))
+      K .step j (omega arith) .unchanged (o l) (K .order .within l a)
+      (λ q. omega (arith, K .order .once l j a (omega arith) q))
       ∙ before-raise l j a (omega arith)
 
   pub after-raise : (l j : ℕ) → l < j → j ≤ t → p j (o l) ≡ suc (p 0 (o l))
@@ -52,7 +54,8 @@ module _ {R : Blocks} {T : ℕ → Bool} {t : ℕ} {p : ℕ → ℕ → ℕ} {o 
 
   -- no coefficient rises by more than 1 along the whole chain
   pub one-more-at-most : (j : ℕ) → j ≤ t → (k : ℕ) → p j k ≤ p 0 k + 1
-  one-more-at-most j l = bounded R T 1 (K .tight j l) (K .tight 0 (omega arith)) (one-more-at-most-on j l) (K .hasZeros j l)
+  one-more-at-most j l =
+      bounded R T 1 (K .tight j l) (K .tight 0 (omega arith)) (one-more-at-most-on j l) (K .hasZeros j l)
 
   -- a free index has coefficient 0 at all points
   pub free-zero : (f : ℕ) → T f ≡ false → p 0 (R .next f) < R .start f → (j : ℕ) → j ≤ t → p j f ≡ 0

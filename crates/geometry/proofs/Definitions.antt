@@ -1,6 +1,6 @@
--- Coefficients round blocks, as functions of an index. In order: blocks, tight lists and grid points; chains over a set T of indices; the chain
--- beyond a facet and the facet that is a chain; a larger chain; runs of indices going back; a place of document 01, labels apart; labels. Assumes
--- nothing.
+-- Coefficients round blocks, as functions of an index. In order: blocks, tight lists and grid points; chains over a set
+-- T of indices; the chain beyond a facet and the facet that is a chain; a larger chain; runs of indices going back; a
+-- place of document 01, labels apart; labels. Assumes nothing.
 use mathlib.Core.Bool.{Bool, true, false, cond}
 use mathlib.Core.Logic.{_⊎_}
 use mathlib.Core.Path.{_≡_}
@@ -12,7 +12,8 @@ abbrev pub back : (ℕ → ℕ) → ℕ → ℕ → ℕ
 back f zero h = h
 back f (suc n) h = f (back f n h)
 
--- blocks that go round, and the start: next and previous index, block number, start coordinate, how far it is back from h to k
+-- blocks that go round, and the start: next and previous index, block number, start coordinate, how far it is back from
+-- h to k
 pub record Blocks : Type 0 where
   pub next : ℕ → ℕ
   pub previous : ℕ → ℕ
@@ -56,7 +57,8 @@ pub record Order (T : ℕ → Bool) (t : ℕ) (o : ℕ → ℕ) : Type 0 where
   pub once : (i j : ℕ) → i < t → j < t → o i ≡ o j → i ≡ j
   pub all : (k : ℕ) → T k ≡ true → (j : ℕ) × (j < t) × (o j ≡ k)
 
--- p 0, .., p t are tight grid points with a zero in each block, each a step after the one before, by the order o; some index of each block is free
+-- p 0, .., p t are tight grid points with a zero in each block, each a step after the one before, by the order o; some
+-- index of each block is free
 pub record Chain (R : Blocks) (T : ℕ → Bool) (t : ℕ) (p : ℕ → ℕ → ℕ) (o : ℕ → ℕ) : Type 0 where
   pub tight : (j : ℕ) → j ≤ t → Tight R T (p j)
   pub grid : (j : ℕ) → j ≤ t → Grid R (p j)
@@ -109,7 +111,8 @@ unfoldable pub omit : {A : Type 0} → ℕ → (ℕ → A) → ℕ → A
 omit i p j = cond (ltb j i) (p j) (p (suc j))
 
 -- a chain over T with the points of p but point i, whose own other point, i', differs
-pub record Beside (R : Blocks) (T : ℕ → Bool) (s : ℕ) (p : ℕ → ℕ → ℕ) (i : ℕ) (p' : ℕ → ℕ → ℕ) (o' : ℕ → ℕ) (i' : ℕ) : Type 0 where
+pub record Beside (R : Blocks) (T : ℕ → Bool) (s : ℕ) (p : ℕ → ℕ → ℕ) (i : ℕ) (p' : ℕ → ℕ → ℕ) (o' : ℕ → ℕ) (i' : ℕ)
+    : Type 0 where
   pub chain : Chain R T (suc s) p' o'
   pub bound : i' ≤ suc s
   pub facet : ℕ → ℕ → ℕ
@@ -118,7 +121,8 @@ pub record Beside (R : Blocks) (T : ℕ → Bool) (s : ℕ) (p : ℕ → ℕ →
   pub new : p' i' ≡ p i → ⊥
 
 -- p less point i is a chain over T less b
-pub record Dropped (R : Blocks) (T : ℕ → Bool) (s : ℕ) (p : ℕ → ℕ → ℕ) (i : ℕ) (b : ℕ) (T' : ℕ → Bool) (u : ℕ → ℕ) : Type 0 where
+pub record Dropped (R : Blocks) (T : ℕ → Bool) (s : ℕ) (p : ℕ → ℕ → ℕ) (i : ℕ) (b : ℕ) (T' : ℕ → Bool) (u : ℕ → ℕ)
+    : Type 0 where
   pub small : Less T T' b
   pub facet : ℕ → ℕ → ℕ
   pub omitsHere : Omit (suc s) i p facet
@@ -126,7 +130,8 @@ pub record Dropped (R : Blocks) (T : ℕ → Bool) (s : ℕ) (p : ℕ → ℕ �
 
 -- every index of h's block is in T or has coordinate 0 at all points of p, of s + 2, but point i
 abbrev pub Filled : Blocks → (ℕ → Bool) → ℕ → (ℕ → ℕ → ℕ) → ℕ → ℕ → Type 0
-Filled R T s p i h = (k : ℕ) → R .block k ≡ R .block h → T k ≡ false → (j : ℕ) → j ≤ suc s → (j ≡ i → ⊥) → coord R (p j) k ≡ 0
+Filled R T s p i h =
+    (k : ℕ) → R .block k ≡ R .block h → T k ≡ false → (j : ℕ) → j ≤ suc s → (j ≡ i → ⊥) → coord R (p j) k ≡ 0
 
 -- the three ways through facet i of p
 abbrev pub Next : Blocks → (ℕ → Bool) → ℕ → (ℕ → ℕ → ℕ) → ℕ → Type 0
@@ -163,7 +168,8 @@ pub record BackToZero (R : Blocks) (T : ℕ → Bool) (c : ℕ → ℕ) (h n : �
   pub skipped : (j : ℕ) → 0 < j → j < n → (T (back R.previous j h) ≡ false) × (0 < c (back R.previous j h))
   pub stops : (T (back R.previous n h) ≡ true) ⊎ (c (back R.previous n h) ≡ 0)
 
--- d is c with 1 more on the n indices going back from h, and the same elsewhere; so d's point is c's with 1 more at h and 1 less at b
+-- d is c with 1 more on the n indices going back from h, and the same elsewhere; so d's point is c's with 1 more at h
+-- and 1 less at b
 pub record Moved (R : Blocks) (h b : ℕ) (c d : ℕ → ℕ) : Type 0 where
   pub apart : b ≡ h → ⊥
   pub gains : coord R d h ≡ suc (coord R c h)
@@ -221,7 +227,8 @@ pub record Extra (T : ℕ → Bool) (t : ℕ) (l : ℕ → ℕ) (a : ℕ) : Type
 
 -- each index of h's block is the label of a point or has coordinate 0 at all points
 abbrev pub Complete : Blocks → ((ℕ → ℕ) → ℕ) → ℕ → (ℕ → ℕ → ℕ) → ℕ → Type 0
-Complete R labelOf t p h = (k : ℕ) → R .block k ≡ R .block h → ((j : ℕ) × (j ≤ t) × (labelOf (p j) ≡ k)) ⊎ ((j : ℕ) → j ≤ t → coord R (p j) k ≡ 0)
+Complete R labelOf t p h = (k : ℕ) → R .block k ≡ R .block h
+    → ((j : ℕ) × (j ≤ t) × (labelOf (p j) ≡ k)) ⊎ ((j : ℕ) → j ≤ t → coord R (p j) k ≡ 0)
 
 -- every index of T is the label of a point
 abbrev pub Covers : ((ℕ → ℕ) → ℕ) → (ℕ → Bool) → ℕ → (ℕ → ℕ → ℕ) → Type 0

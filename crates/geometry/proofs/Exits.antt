@@ -1,12 +1,14 @@
--- The labels of a place determine its ways out. In order: facets that carry T; one label twice or one outside T; where all labels are in T no block
--- is complete; a label g outside T gives the larger chain or a complete block, and not both. Assumes nothing.
+-- The labels of a place determine its ways out. In order: facets that carry T; one label twice or one outside T; where
+-- all labels are in T no block is complete; a label g outside T gives the larger chain or a complete block, and not
+-- both. Assumes nothing.
 use mathlib.Core.Bool.{Bool, true}
 use mathlib.Core.Logic.{_⊎_, inl, inr, ⊎-elim}
 use mathlib.Core.Path.{_≡_, sym, ap, _∙_}
 use Prim.Native.Nat.{ℕ, suc, _≤_, _<_}
 use native.Mathlib.Omega.{arith}
 use Rattle.combinatorics.proofs.Basics.{true-or-false, absurd-bool, same-or}
-use Rattle.geometry.proofs.Definitions.{Blocks, Chain, Less, Omit, Filled, Grown, Carries, Twice, Extra, Complete, Covers, Inside}
+use Rattle.geometry.proofs.Definitions.{Blocks, Chain, Less, Omit, Filled, Grown, Carries, Twice, Extra}
+use Rattle.geometry.proofs.Definitions.{Complete, Covers, Inside}
 use Rattle.geometry.proofs.Grow.{room-or, grow, grown-not-filled}
 use Rattle.geometry.proofs.Labels.{from-omit, to-omit, labels}
 use Rattle.geometry.proofs.Orders.{less-back}
@@ -19,14 +21,16 @@ carry-facet labelOf {s} {i} {p} {q} b m c k e =
     let u = to-omit w.0 m b w.1 w.2 in
     (u .0, omega (arith, u .1), ap labelOf u.2 ∙ w .3)
 
-pub facet-carry : (labelOf : (ℕ → ℕ) → ℕ) {T : ℕ → Bool} {s i : ℕ} {p q : ℕ → ℕ → ℕ} → Omit (suc s) i p q → Covers labelOf T s q
+pub facet-carry : (labelOf : (ℕ → ℕ) → ℕ) {T : ℕ → Bool} {s i : ℕ} {p q : ℕ → ℕ → ℕ} → Omit (suc s) i p q
+    → Covers labelOf T s q
     → Carries T (suc s) (λ j. labelOf (p j)) i
 facet-carry labelOf {s} {i} {p} {q} m c k e =
     let w = c k e in
     let u = from-omit w.0 m (omega (arith, w .1)) in
     (u .0, omega (arith, u .2), u .3, ap labelOf (sym u.1) ∙ w .2)
 
-pub carries-cover : (labelOf : (ℕ → ℕ) → ℕ) {T : ℕ → Bool} (t i : ℕ) (p : ℕ → ℕ → ℕ) → Carries T t (λ j. labelOf (p j)) i → Covers labelOf T t p
+pub carries-cover : (labelOf : (ℕ → ℕ) → ℕ) {T : ℕ → Bool} (t i : ℕ) (p : ℕ → ℕ → ℕ)
+    → Carries T t (λ j. labelOf (p j)) i → Covers labelOf T t p
 carries-cover labelOf t i p c k e = let w = c k e in (w .0, w .1, w .3)
 
 module _ {R : Blocks} (labelOf : (ℕ → ℕ) → ℕ) {T : ℕ → Bool} {t : ℕ} {p : ℕ → ℕ → ℕ} {o : ℕ → ℕ} (K : Chain R T t p o)
@@ -36,7 +40,8 @@ module _ {R : Blocks} (labelOf : (ℕ → ℕ) → ℕ) {T : ℕ → Bool} {t : 
   kinds = labels K.order cover
 
   -- a facet that carries T has no other label
-  pub labels-in : (i : ℕ) → i ≤ t → Carries T t (λ j. labelOf (p j)) i → (j : ℕ) → j ≤ t → (j ≡ i → ⊥) → T (labelOf (p j)) ≡ true
+  pub labels-in : (i : ℕ) → i ≤ t → Carries T t (λ j. labelOf (p j)) i → (j : ℕ) → j ≤ t → (j ≡ i → ⊥)
+      → T (labelOf (p j)) ≡ true
   labels-in i l c j m n =
       ⊎-elim (λ w. w .2 .all j m)
       (λ w. w .1 .rest j m (λ e. n (e ∙ sym (w .1 .only i l c)))) kinds
@@ -81,26 +86,32 @@ module _ {R : Blocks} (labelOf : (ℕ → ℕ) → ℕ) {T : ℕ → Bool} {t : 
 
     -- and it is complete where no larger chain is
     module _ {T+ : ℕ → Bool} (L : Less T+ T (labelOf (p a))) where
-      pub up-or : ((p+ : ℕ → ℕ → ℕ) × (o+ : ℕ → ℕ) × (i : ℕ) × Grown R T+ t p p+ o+ i) ⊎ Complete R labelOf t p (labelOf (p a))
+      pub up-or : ((p+ : ℕ → ℕ → ℕ) × (o+ : ℕ → ℕ) × (i : ℕ) × Grown R T+ t p p+ o+ i)
+          ⊎ Complete R labelOf t p (labelOf (p a))
       up-or =
           ⊎-elim (λ f. inl (grow L K f))
           (λ n. inr (λ k b. ⊎-elim (λ e. inl (larger-covers L k e)) (λ e. inr (n k b e)) (true-or-false (T+ k))))
           (room-or L K)
 
-      pub up-not-complete : {p+ : ℕ → ℕ → ℕ} {o+ : ℕ → ℕ} {i : ℕ} → Grown R T+ t p p+ o+ i → (h : ℕ) → Complete R labelOf t p h → ⊥
+      pub up-not-complete : {p+ : ℕ → ℕ → ℕ} {o+ : ℕ → ℕ} {i : ℕ} → Grown R T+ t p p+ o+ i → (h : ℕ)
+          → Complete R labelOf t p h → ⊥
       up-not-complete {p+} {o+} {i} G h c =
           grown-not-filled L K G
           (λ k b e. ⊎-elim (λ w. absurd-bool (sym (larger-inside L w.0 w.1) ∙ ap T+ w.2 ∙ e))
           (λ w. w 0 (omega arith)) (c k (b ∙ sym (complete-at h c))))
 
 -- a facet end is a filled block
-module _ (R : Blocks) (labelOf : (ℕ → ℕ) → ℕ) (T : ℕ → Bool) {s : ℕ} {p : ℕ → ℕ → ℕ} {i : ℕ} (l : i ≤ suc s) {q : ℕ → ℕ → ℕ}
-    (m : Omit (suc s) i p q) where
+module _ (R : Blocks) (labelOf : (ℕ → ℕ) → ℕ) (T : ℕ → Bool) {s : ℕ} {p : ℕ → ℕ → ℕ} {i : ℕ} (l : i ≤ suc s)
+    {q : ℕ → ℕ → ℕ} (m : Omit (suc s) i p q) where
   pub fills-complete : Covers labelOf T s q → (h : ℕ) → Filled R T s p i h → Complete R labelOf s q h
-  fills-complete c h f k b =
-      ⊎-elim (λ e. inl (c k e))
-      (λ e. inr (λ j a. let y : j < suc s = omega arith in let w = from-omit j m y in let z : w .0 ≤ suc s = omega (arith, w .2) in
-      rw w.1 (f k b e w.0 z w.3))) (true-or-false (T k))
+  fills-complete c h f k b = ⊎-elim
+      (λ e. inl (c k e))
+      (λ e. inr (λ j a.
+      let y : j < suc s = omega arith in
+      let w = from-omit j m y in
+      let z : w .0 ≤ suc s = omega (arith, w .2) in
+      rw w.1 (f k b e w.0 z w.3)))
+      (true-or-false (T k))
 
   pub complete-fills : Inside labelOf T s q → (h : ℕ) → Complete R labelOf s q h → Filled R T s p i h
   complete-fills c h f k b e j a n =

@@ -1,4 +1,5 @@
--- Places and links on lists of points, a point being its coefficients: places, links and ends as records. Assumes nothing.
+-- Places and links on lists of points, a point being its coefficients: places, links and ends as records.
+-- Assumes nothing.
 use mathlib.Core.Bool.{Bool}
 use mathlib.Core.List.{List, [], _∷_}
 use mathlib.Core.Logic.{_⊎_}
@@ -11,13 +12,15 @@ abbrev pub listAt : List (ℕ → ℕ) → ℕ → ℕ → ℕ
 listAt cs j = getD cs j (λ k. 0)
 
 -- cs is a place, with the index set T
-pub record LabelledChain (R : Blocks) (labelOf : (ℕ → ℕ) → ℕ) (T : ℕ → Bool) (t : ℕ) (o : ℕ → ℕ) (cs : List (ℕ → ℕ)) : Type 0 where
+pub record LabelledChain (R : Blocks) (labelOf : (ℕ → ℕ) → ℕ) (T : ℕ → Bool) (t : ℕ) (o : ℕ → ℕ) (cs : List (ℕ → ℕ))
+    : Type 0 where
   pub size : length cs ≡ suc t
   pub chain : Chain R T t (listAt cs) o
   pub covers : Covers labelOf T t (listAt cs)
 
 -- the same T, all points but one of each, and what is shared carries T
-pub record Swapped (labelOf : (ℕ → ℕ) → ℕ) (T : ℕ → Bool) (t : ℕ) (a : List (ℕ → ℕ)) (T' : ℕ → Bool) (t' : ℕ) (b : List (ℕ → ℕ)) : Type 0 where
+pub record Swapped (labelOf : (ℕ → ℕ) → ℕ) (T : ℕ → Bool) (t : ℕ) (a : List (ℕ → ℕ)) (T' : ℕ → Bool) (t' : ℕ)
+    (b : List (ℕ → ℕ)) : Type 0 where
   pub sameT : T' ≡ T
   pub sizes : t' ≡ t
   pub i : ℕ
@@ -29,18 +32,21 @@ pub record Swapped (labelOf : (ℕ → ℕ) → ℕ) (T : ℕ → Bool) (t : ℕ
   pub carry : Carries T t (λ j. labelOf (listAt a j)) i
 
 -- b is a and one point more, and the labels of a are exactly b's index set
-pub record Extended (labelOf : (ℕ → ℕ) → ℕ) (T : ℕ → Bool) (t : ℕ) (a : List (ℕ → ℕ)) (T' : ℕ → Bool) (t' : ℕ) (b : List (ℕ → ℕ)) : Type 0 where
+pub record Extended (labelOf : (ℕ → ℕ) → ℕ) (T : ℕ → Bool) (t : ℕ) (a : List (ℕ → ℕ)) (T' : ℕ → Bool) (t' : ℕ)
+    (b : List (ℕ → ℕ)) : Type 0 where
   pub sizes : t' ≡ suc t
   pub part : (j : ℕ) → j ≤ t → (f : ℕ) × (f ≤ t') × (listAt b f ≡ listAt a j)
   pub covers : Covers labelOf T' t (listAt a)
   pub inside : Inside labelOf T' t (listAt a)
 
 abbrev pub Joined : ((ℕ → ℕ) → ℕ) → (ℕ → Bool) → ℕ → List (ℕ → ℕ) → (ℕ → Bool) → ℕ → List (ℕ → ℕ) → Type 0
-Joined labelOf T t a T' t' b = Swapped labelOf T t a T' t' b ⊎ (Extended labelOf T t a T' t' b ⊎ Extended labelOf T' t' b T t a)
+Joined labelOf T t a T' t' b =
+    Swapped labelOf T t a T' t' b ⊎ (Extended labelOf T t a T' t' b ⊎ Extended labelOf T' t' b T t a)
 
 -- from a place with T to b
 abbrev pub LinkTo : Blocks → ((ℕ → ℕ) → ℕ) → (ℕ → Bool) → ℕ → List (ℕ → ℕ) → List (ℕ → ℕ) → Type 0
-LinkTo R labelOf T t a b = (T' : ℕ → Bool) × (t' : ℕ) × (o' : ℕ → ℕ) × LabelledChain R labelOf T' t' o' b × Joined labelOf T t a T' t' b
+LinkTo R labelOf T t a b =
+    (T' : ℕ → Bool) × (t' : ℕ) × (o' : ℕ → ℕ) × LabelledChain R labelOf T' t' o' b × Joined labelOf T t a T' t' b
 
 pub record Link (R : Blocks) (labelOf : (ℕ → ℕ) → ℕ) (a b : List (ℕ → ℕ)) : Type 0 where
   pub T : ℕ → Bool
@@ -54,7 +60,8 @@ tabulate zero f = []
 tabulate (suc n) f = f 0 ∷ tabulate n (λ j. f (suc j))
 
 -- what remains of a place of s + 2 points without point i is complete for h's block, and its labels are exactly T
-pub record FacetEnd (R : Blocks) (labelOf : (ℕ → ℕ) → ℕ) (T : ℕ → Bool) (s : ℕ) (a : List (ℕ → ℕ)) (i h : ℕ) : Type 0 where
+pub record FacetEnd (R : Blocks) (labelOf : (ℕ → ℕ) → ℕ) (T : ℕ → Bool) (s : ℕ) (a : List (ℕ → ℕ)) (i h : ℕ)
+    : Type 0 where
   pub bound : i ≤ suc s
   pub covers : Covers labelOf T s (omit i (listAt a))
   pub inside : Inside labelOf T s (omit i (listAt a))

@@ -1,5 +1,5 @@
--- Theorem W on lists of points. In order: through a facet that carries T a link or a facet end; up by a label outside T a link or a place end;
--- never two of these; the start. Assumes nothing.
+-- Theorem W on lists of points. In order: through a facet that carries T a link or a facet end; up by a label outside T
+-- a link or a place end; never two of these; the start. Assumes nothing.
 use mathlib.Core.Bool.{Bool}
 use mathlib.Core.List.{List}
 use mathlib.Core.Logic.{_⊎_, inl, inr, ⊎-elim}
@@ -7,12 +7,16 @@ use mathlib.Core.Path.{_≡_, refl, sym, ap, _∙_}
 use Prim.Native.Nat.{ℕ, zero, suc, _≤_, _<_}
 use lib.ListN.{length, getD}
 use native.Mathlib.Omega.{arith}
-use Rattle.geometry.proofs.Exits.{kinds, facet-carry, carry-facet, carries-cover, labels-in, inside-not-complete, larger-is, larger-covers, larger-inside, complete-at, up-or, up-not-complete, fills-complete, complete-fills}
-use Rattle.geometry.proofs.Definitions.{Blocks, Chain, Less, Omit, Beside, Dropped, Grown, Filled, Carries, Covers, Twice, Extra, plus}
+use Rattle.geometry.proofs.Exits.{kinds, facet-carry, carry-facet, carries-cover, labels-in, inside-not-complete}
+use Rattle.geometry.proofs.Exits.{larger-is, larger-covers, larger-inside, complete-at, up-or, up-not-complete}
+use Rattle.geometry.proofs.Exits.{fills-complete, complete-fills}
+use Rattle.geometry.proofs.Definitions.{Blocks, Chain, Less, Omit, Beside, Dropped, Grown, Filled, Carries}
+use Rattle.geometry.proofs.Definitions.{Covers, Twice, Extra, plus}
 use Rattle.geometry.proofs.Graph.{Through, Above, larger, start-exit, from-same, drops-of}
 use Rattle.geometry.proofs.Grow.{plus-is}
 use Rattle.geometry.proofs.Labels.{from-omit, to-omit}
-use Rattle.geometry.proofs.LabelledChains.{listAt, LabelledChain, Swapped, Extended, Link, tabulate, FacetEnd, PlaceEnd}
+use Rattle.geometry.proofs.LabelledChains.{listAt, LabelledChain, Swapped, Extended, Link, tabulate, FacetEnd}
+use Rattle.geometry.proofs.LabelledChains.{PlaceEnd}
 use Rattle.geometry.proofs.Links.{chain-ext, facet-determines, beside-determines, fills-first, fills-block}
 use Rattle.geometry.proofs.Orders.{less-in}
 use Rattle.geometry.proofs.Sorted.{rising-chain}
@@ -31,24 +35,29 @@ getD-tabulate d (suc n) f (suc j) l = getD-tabulate d n _ j (omega arith)
 pub listAt-tabulate : (n : ℕ) (p : ℕ → ℕ → ℕ) (j : ℕ) → j < n → listAt (tabulate n p) j ≡ p j
 listAt-tabulate n p j l = getD-tabulate (λ k. 0) n p j l
 
-covers-ext : (labelOf : (ℕ → ℕ) → ℕ) {T : ℕ → Bool} (t : ℕ) {p p' : ℕ → ℕ → ℕ} → ((j : ℕ) → j ≤ t → p j ≡ p' j) → Covers labelOf T t p
+covers-ext : (labelOf : (ℕ → ℕ) → ℕ) {T : ℕ → Bool} (t : ℕ) {p p' : ℕ → ℕ → ℕ} → ((j : ℕ) → j ≤ t → p j ≡ p' j)
+    → Covers labelOf T t p
     → Covers labelOf T t p'
 covers-ext labelOf t e c k x = let w = c k x in (w .0, w .1, ap labelOf (sym (e w.0 w.1)) ∙ w .2)
 
 -- a chain that carries its set stands as the list of its points
-chain-tabulate : {R : Blocks} (labelOf : (ℕ → ℕ) → ℕ) {T : ℕ → Bool} {t : ℕ} {p : ℕ → ℕ → ℕ} {o : ℕ → ℕ} → Chain R T t p o → Covers labelOf T t p
+chain-tabulate : {R : Blocks} (labelOf : (ℕ → ℕ) → ℕ) {T : ℕ → Bool} {t : ℕ} {p : ℕ → ℕ → ℕ} {o : ℕ → ℕ}
+    → Chain R T t p o → Covers labelOf T t p
     → LabelledChain R labelOf T t o (tabulate (suc t) p)
 chain-tabulate {R} labelOf {T} {t} {p} {o} K c =
-    let e : (j : ℕ) → j ≤ t → p j ≡ listAt (tabulate (suc t) p) j = λ j l. sym (listAt-tabulate (suc t) p j (omega arith)) in
+    let e : (j : ℕ) → j ≤ t → p j ≡ listAt (tabulate (suc t) p) j = λ j l.
+    sym (listAt-tabulate (suc t) p j (omega arith)) in
     record { size = length-tabulate (suc t) p; chain = chain-ext e K; covers = covers-ext labelOf t e c }
 
 omit-tabulate : {n : ℕ} {i : ℕ} {p p' q : ℕ → ℕ → ℕ} → ((j : ℕ) → j < suc n → p j ≡ p' j) → Omit n i p q → Omit n i p' q
-omit-tabulate {n} {i} {p} {p'} {q} e m =
-    record { lower = λ j l x. m .lower j l x ∙ e j (omega arith); upper = λ j l x. m .upper j l x ∙ e (suc j) (omega arith) }
+omit-tabulate {n} {i} {p} {p'} {q} e m = record {
+  lower = λ j l x. m .lower j l x ∙ e j (omega arith);
+  upper = λ j l x. m .upper j l x ∙ e (suc j) (omega arith);
+}
 
 -- x lies beyond facet i of a: its facet i' is that facet
-pub record Beyond (R : Blocks) (labelOf : (ℕ → ℕ) → ℕ) (T : ℕ → Bool) (s : ℕ) (a : List (ℕ → ℕ)) (i : ℕ) (o' : ℕ → ℕ) (x : List (ℕ → ℕ))
-    (i' : ℕ) : Type 0 where
+pub record Beyond (R : Blocks) (labelOf : (ℕ → ℕ) → ℕ) (T : ℕ → Bool) (s : ℕ) (a : List (ℕ → ℕ)) (i : ℕ) (o' : ℕ → ℕ)
+    (x : List (ℕ → ℕ)) (i' : ℕ) : Type 0 where
   pub place : LabelledChain R labelOf T (suc s) o' x
   pub through : Through R T s a i x
   pub back : Through R T s x i' a
@@ -56,23 +65,24 @@ pub record Beyond (R : Blocks) (labelOf : (ℕ → ℕ) → ℕ) (T : ℕ → Bo
   pub link : Link R labelOf a x
 
 -- x is facet i of a, over T'
-pub record Beneath (R : Blocks) (labelOf : (ℕ → ℕ) → ℕ) (T : ℕ → Bool) (s : ℕ) (a : List (ℕ → ℕ)) (i : ℕ) (T' : ℕ → Bool) (u : ℕ → ℕ)
-    (x : List (ℕ → ℕ)) : Type 0 where
+pub record Beneath (R : Blocks) (labelOf : (ℕ → ℕ) → ℕ) (T : ℕ → Bool) (s : ℕ) (a : List (ℕ → ℕ)) (i : ℕ)
+    (T' : ℕ → Bool) (u : ℕ → ℕ) (x : List (ℕ → ℕ)) : Type 0 where
   pub place : LabelledChain R labelOf T' s u x
   pub through : Through R T s a i x
   pub extended : Extended labelOf T' s x T (suc s) a
   pub link : Link R labelOf a x
 
 -- x, over T+, is a and one point more, point i
-pub record Enlarged (R : Blocks) (labelOf : (ℕ → ℕ) → ℕ) (T : ℕ → Bool) (t : ℕ) (a : List (ℕ → ℕ)) (T+ : ℕ → Bool) (o+ : ℕ → ℕ) (x : List (ℕ → ℕ))
-    (i : ℕ) : Type 0 where
+pub record Enlarged (R : Blocks) (labelOf : (ℕ → ℕ) → ℕ) (T : ℕ → Bool) (t : ℕ) (a : List (ℕ → ℕ)) (T+ : ℕ → Bool)
+    (o+ : ℕ → ℕ) (x : List (ℕ → ℕ)) (i : ℕ) : Type 0 where
   pub place : LabelledChain R labelOf T+ (suc t) o+ x
   pub above : Above R labelOf T t a x
   pub back : Through R T+ t x i a
   pub carries : Carries T+ (suc t) (λ j. labelOf (listAt x j)) i
   pub link : Link R labelOf a x
 
-module _ {R : Blocks} {labelOf : (ℕ → ℕ) → ℕ} {T : ℕ → Bool} {s : ℕ} {o : ℕ → ℕ} {a : List (ℕ → ℕ)} (A : LabelledChain R labelOf T (suc s) o a) where
+module _ {R : Blocks} {labelOf : (ℕ → ℕ) → ℕ} {T : ℕ → Bool} {s : ℕ} {o : ℕ → ℕ} {a : List (ℕ → ℕ)}
+    (A : LabelledChain R labelOf T (suc s) o a) where
   abbrev labelAt : ℕ → ℕ
   labelAt j = labelOf (listAt a j)
 
@@ -83,11 +93,33 @@ module _ {R : Blocks} {labelOf : (ℕ → ℕ) → ℕ} {T : ℕ → Bool} {s : 
       place = S;
       through = inl (
         S .size,
-        (o', i', record { chain = S .chain; bound = B .bound; facet = B .facet; omitsHere = B .omitsHere; omitsThere = there; new = diff }),
+        (
+          o',
+          i',
+          record {
+            chain = S .chain;
+            bound = B .bound;
+            facet = B .facet;
+            omitsHere = B .omitsHere;
+            omitsThere = there;
+            new = diff;
+          },
+        ),
       );
       back = inl (
         A .size,
-        (o, i, record { chain = A .chain; bound = l; facet = B .facet; omitsHere = there; omitsThere = B .omitsHere; new = λ q. diff (sym q) }),
+        (
+          o,
+          i,
+          record {
+            chain = A .chain;
+            bound = l;
+            facet = B .facet;
+            omitsHere = there;
+            omitsThere = B .omitsHere;
+            new = λ q. diff (sym q);
+          },
+        ),
       );
       carries = facet-carry labelOf there (carry-facet labelOf l B.omitsHere c);
       link = record { T = T; t = suc s; o = o; place = A; onto = (T, suc s, o', S, inl W) };
@@ -100,7 +132,8 @@ module _ {R : Blocks} {labelOf : (ℕ → ℕ) → ℕ} {T : ℕ → Bool} {s : 
         e j m = sym (listAt-tabulate (suc (suc s)) p' j m)
 
         cov : Covers labelOf T (suc s) p'
-        cov = carries-cover labelOf (suc s) i' p' (facet-carry labelOf B.omitsThere (carry-facet labelOf l B.omitsHere c))
+        cov =
+            carries-cover labelOf (suc s) i' p' (facet-carry labelOf B.omitsThere (carry-facet labelOf l B.omitsHere c))
 
         S : LabelledChain R labelOf T (suc s) o' x
         S = chain-tabulate labelOf B.chain cov
@@ -152,18 +185,28 @@ module _ {R : Blocks} {labelOf : (ℕ → ℕ) → ℕ} {T : ℕ → Bool} {s : 
         e j b = sym (listAt-tabulate (suc s) q j b)
 
         m : Omit (suc s) i (listAt a) (listAt x)
-        m = record { lower = λ j b y. sym (e j b) ∙ D .omitsHere .lower j b y; upper = λ j b y. sym (e j b) ∙ D .omitsHere .upper j b y }
+        m = record {
+          lower = λ j b y. sym (e j b) ∙ D .omitsHere .lower j b y;
+          upper = λ j b y. sym (e j b) ∙ D .omitsHere .upper j b y;
+        }
 
         E : Extended labelOf T' s x T (suc s) a
         E = record {
           sizes = refl;
-          part = λ j b. let y : j < suc s = omega arith in let w = from-omit j m y in (w .0, omega (arith, w .2), sym w.1);
+          part = λ j b.
+              let y : j < suc s = omega arith in
+              let w = from-omit j m y in
+              (w .0, omega (arith, w .2), sym w.1);
           covers = covers-ext labelOf s (λ j b. e j (omega arith)) cov;
-          inside = λ j b. let y : j < suc s = omega arith in let w = from-omit j m y in let z : w .0 ≤ suc s = omega (arith, w .2) in
+          inside = λ j b.
+              let y : j < suc s = omega arith in
+              let w = from-omit j m y in
+              let z : w .0 ≤ suc s = omega (arith, w .2) in
               ap (λ (f : ℕ → ℕ). T (labelOf f)) w.1 ∙ labels-in labelOf A.chain A.covers i l c w.0 z w.3;
         }
 
-  pub fill-end : (i : ℕ) → i ≤ suc s → Carries T (suc s) labelAt i → (h : ℕ) → Filled R T s (listAt a) i h → FacetEnd R labelOf T s a i h
+  pub fill-end : (i : ℕ) → i ≤ suc s → Carries T (suc s) labelAt i → (h : ℕ) → Filled R T s (listAt a) i h
+      → FacetEnd R labelOf T s a i h
   fill-end i l c h f =
       let m = omit-is (suc s) i (listAt a) in
       let cov = carry-facet labelOf l m c in
@@ -171,7 +214,10 @@ module _ {R : Blocks} {labelOf : (ℕ → ℕ) → ℕ} {T : ℕ → Bool} {s : 
         bound = l;
         covers = cov;
         complete = fills-complete R labelOf T l m cov h f;
-        inside = λ j b. let y : j < suc s = omega arith in let w = from-omit j m y in let z : w .0 ≤ suc s = omega (arith, w .2) in
+        inside = λ j b.
+            let y : j < suc s = omega arith in
+            let w = from-omit j m y in
+            let z : w .0 ≤ suc s = omega (arith, w .2) in
             ap (λ (f : ℕ → ℕ). T (labelOf f)) w.1 ∙ labels-in labelOf A.chain A.covers i l c w.0 z w.3;
       }
 
@@ -190,12 +236,14 @@ module _ {R : Blocks} {labelOf : (ℕ → ℕ) → ℕ} {T : ℕ → Bool} {s : 
       (λ F. inr (F .0, fill-end i l c F.0 F.1)) W)
       (way A.chain i l)
 
-  through-not-filled : {i : ℕ} → i ≤ suc s → (x : List (ℕ → ℕ)) → Through R T s a i x → (h : ℕ) → Filled R T s (listAt a) i h → ⊥
+  through-not-filled : {i : ℕ} → i ≤ suc s → (x : List (ℕ → ℕ)) → Through R T s a i x → (h : ℕ)
+      → Filled R T s (listAt a) i h → ⊥
   through-not-filled {i} l x (inl X) h f = not-next-fills A.chain i l (listAt x, X .1 .0, X .1 .1, X .1 .2) (h, f)
   through-not-filled {i} l x (inr X) h f = not-drops-fills A.chain l (drops-of a A.chain x X.1.2 X.1.3) (h, f)
 
   -- different facets lead to different places
-  pub through-determines : {i j : ℕ} → i ≤ suc s → j ≤ suc s → (x : List (ℕ → ℕ)) → Through R T s a i x → Through R T s a j x → i ≡ j
+  pub through-determines : {i j : ℕ} → i ≤ suc s → j ≤ suc s → (x : List (ℕ → ℕ)) → Through R T s a i x
+      → Through R T s a j x → i ≡ j
   through-determines {i} {j} l m x (inl X) (inl Y) = beside-determines (rising-chain A.chain) l m X.1.2 Y.1.2
   through-determines l m x (inl X) (inr Y) = absurd (omega (arith, X .0, Y .0))
   through-determines l m x (inr X) (inl Y) = absurd (omega (arith, X .0, Y .0))
@@ -206,15 +254,16 @@ module _ {R : Blocks} {labelOf : (ℕ → ℕ) → ℕ} {T : ℕ → Bool} {s : 
   through-not-above (inr X) Y = omega (arith, X .0, Y .3 .size, Y .4 .sizes)
 
 -- up from any place with a label outside T
-module _ {R : Blocks} {labelOf : (ℕ → ℕ) → ℕ} {T : ℕ → Bool} {t : ℕ} {o : ℕ → ℕ} {a : List (ℕ → ℕ)} (A : LabelledChain R labelOf T t o a) {m : ℕ}
-    (X : Extra T t (λ j. labelOf (listAt a j)) m) where
+module _ {R : Blocks} {labelOf : (ℕ → ℕ) → ℕ} {T : ℕ → Bool} {t : ℕ} {o : ℕ → ℕ} {a : List (ℕ → ℕ)}
+    (A : LabelledChain R labelOf T t o a) {m : ℕ} (X : Extra T t (λ j. labelOf (listAt a j)) m) where
   abbrev T+ : ℕ → Bool
   T+ = plus T (labelOf (listAt a m))
 
   L : Less T+ T (labelOf (listAt a m))
   L = plus-is T _ X.out
 
-  pub up-link : {p+ : ℕ → ℕ → ℕ} {o+ : ℕ → ℕ} {i : ℕ} → Grown R T+ t (listAt a) p+ o+ i → Enlarged R labelOf T t a T+ o+ (tabulate (suc (suc t)) p+) i
+  pub up-link : {p+ : ℕ → ℕ → ℕ} {o+ : ℕ → ℕ} {i : ℕ} → Grown R T+ t (listAt a) p+ o+ i
+      → Enlarged R labelOf T t a T+ o+ (tabulate (suc (suc t)) p+) i
   up-link {p+} {o+} {i} G = record {
     place = S;
     above = (T+, suc t, o+, S, E);
@@ -238,12 +287,16 @@ module _ {R : Blocks} {labelOf : (ℕ → ℕ) → ℕ} {T : ℕ → Bool} {t : 
       E : Extended labelOf T t a T+ (suc t) x
       E = record {
         sizes = refl;
-        part = λ j b. let y : j < suc t = omega arith in let w = from-omit j cut y in (w .0, omega (arith, w .2), sym w.1);
+        part = λ j b.
+            let y : j < suc t = omega arith in
+            let w = from-omit j cut y in
+            (w .0, omega (arith, w .2), sym w.1);
         covers = cov;
         inside = larger-inside labelOf A.chain A.covers X L;
       }
 
-  pub up-way : ((x : List (ℕ → ℕ)) × Above R labelOf T t a x × Link R labelOf a x) ⊎ PlaceEnd R labelOf t a (labelOf (listAt a m))
+  pub up-way : ((x : List (ℕ → ℕ)) × Above R labelOf T t a x × Link R labelOf a x)
+      ⊎ PlaceEnd R labelOf t a (labelOf (listAt a m))
   up-way =
       ⊎-elim (λ G. let B = up-link G.3 in inl (tabulate (suc (suc t)) G.0, B .above, B .link))
       (λ c. inr c)
@@ -252,13 +305,15 @@ module _ {R : Blocks} {labelOf : (ℕ → ℕ) → ℕ} {T : ℕ → Bool} {t : 
   pub above-not-end : {x : List (ℕ → ℕ)} → Above R labelOf T t a x → (h : ℕ) → PlaceEnd R labelOf t a h → ⊥
   above-not-end {x} Y h c = go (larger A Y.3 Y.4)
     where
-      go : (length x ≡ suc (suc t)) × ((g : ℕ) × Less Y.0 T g × ((i : ℕ) × Grown R Y.0 t (listAt a) (listAt x) Y.2 i)) → ⊥
+      go : (length x ≡ suc (suc t)) × ((g : ℕ) × Less Y.0 T g × ((i : ℕ) × Grown R Y.0 t (listAt a) (listAt x) Y.2 i))
+          → ⊥
       go G =
           let e : G .1 .0 ≡ labelOf (listAt a m) = larger-is labelOf A.chain A.covers X G.1.1 Y.4.covers in
           up-not-complete labelOf A.chain A.covers X (rw e at G.1.1) G.1.2.1 h c
 
 -- a place of two or more points, reached from b
-module _ {R : Blocks} {labelOf : (ℕ → ℕ) → ℕ} {T : ℕ → Bool} {s : ℕ} {o : ℕ → ℕ} {a : List (ℕ → ℕ)} (A : LabelledChain R labelOf T (suc s) o a) where
+module _ {R : Blocks} {labelOf : (ℕ → ℕ) → ℕ} {T : ℕ → Bool} {s : ℕ} {o : ℕ → ℕ} {a : List (ℕ → ℕ)}
+    (A : LabelledChain R labelOf T (suc s) o a) where
   -- a place end stands only where a label is outside T
   pub end-extra : (h : ℕ) → PlaceEnd R labelOf (suc s) a h → (m : ℕ) × Extra T (suc s) (λ j. labelOf (listAt a j)) m
   end-extra h c =
@@ -270,12 +325,14 @@ module _ {R : Blocks} {labelOf : (ℕ → ℕ) → ℕ} {T : ℕ → Bool} {s : 
   end-not-through {i} {h} F x X = through-not-filled A F.bound x X h (end-fill A F)
 
   -- one end at most, by kind, block and points
-  pub one-place-end : (h h' : ℕ) → PlaceEnd R labelOf (suc s) a h → PlaceEnd R labelOf (suc s) a h' → R .block h ≡ R .block h'
+  pub one-place-end : (h h' : ℕ) → PlaceEnd R labelOf (suc s) a h → PlaceEnd R labelOf (suc s) a h'
+      → R .block h ≡ R .block h'
   one-place-end h h' c c' =
       let w = end-extra h c in
       complete-at labelOf A.chain A.covers w.1 h c ∙ sym (complete-at labelOf A.chain A.covers w.1 h' c')
 
-  pub one-facet-end : {i h i' h' : ℕ} → FacetEnd R labelOf T s a i h → FacetEnd R labelOf T s a i' h' → (i ≡ i') × (R .block h ≡ R .block h')
+  pub one-facet-end : {i h i' h' : ℕ} → FacetEnd R labelOf T s a i h → FacetEnd R labelOf T s a i' h'
+      → (i ≡ i') × (R .block h ≡ R .block h')
   one-facet-end {i} {h} {i'} {h'} F F' =
       let f = end-fill A F in
       let f' = end-fill A F' in
@@ -284,7 +341,8 @@ module _ {R : Blocks} {labelOf : (ℕ → ℕ) → ℕ} {T : ℕ → Bool} {s : 
       (e ∙ sym e', fills-block A.chain h (rw e at f) ∙ sym (fills-block A.chain h' (rw e' at f')))
 
 -- the place of one point: one link or one place end
-module _ {R : Blocks} {labelOf : (ℕ → ℕ) → ℕ} {T : ℕ → Bool} {o : ℕ → ℕ} {a : List (ℕ → ℕ)} (A : LabelledChain R labelOf T 0 o a) where
+module _ {R : Blocks} {labelOf : (ℕ → ℕ) → ℕ} {T : ℕ → Bool} {o : ℕ → ℕ} {a : List (ℕ → ℕ)}
+    (A : LabelledChain R labelOf T 0 o a) where
   pub start-extra : Extra T 0 (λ j. labelOf (listAt a j)) 0
   start-extra =
       ⊎-elim (λ w. let z = A .chain .order .all (labelOf (listAt a w.0))
@@ -302,4 +360,5 @@ module _ {R : Blocks} {labelOf : (ℕ → ℕ) → ℕ} {T : ℕ → Bool} {o : 
   start-not-both {x} L h c = above-not-end A start-extra (start-exit A (from-same R labelOf A L)) h c
 
   pub start-one-end : (h h' : ℕ) → PlaceEnd R labelOf 0 a h → PlaceEnd R labelOf 0 a h' → R .block h ≡ R .block h'
-  start-one-end h h' c c' = complete-at labelOf A.chain A.covers start-extra h c ∙ sym (complete-at labelOf A.chain A.covers start-extra h' c')
+  start-one-end h h' c c' = complete-at labelOf A.chain A.covers start-extra h c
+      ∙ sym (complete-at labelOf A.chain A.covers start-extra h' c')

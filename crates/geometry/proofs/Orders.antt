@@ -1,4 +1,5 @@
--- Orders of T: rotated, with two neighbours exchanged, less an index, with one index more, each an order again. Assumes nothing.
+-- Orders of T: rotated, with two neighbours exchanged, less an index, with one index more, each an order again.
+-- Assumes nothing.
 use mathlib.Core.Bool.{Bool, true, false}
 use mathlib.Core.Logic.{_⊎_, inl, inr, ⊎-elim}
 use mathlib.Core.Path.{_≡_, refl, sym, ap, _∙_}
@@ -15,8 +16,9 @@ zero-or zero = inl refl
 zero-or (suc j) = inr (j, refl)
 
 -- the entries of o in other places: entry j of q is entry f of o where P j f
-permuted : {T : ℕ → Bool} {t : ℕ} {o q : ℕ → ℕ} (P : ℕ → ℕ → Type 0) → Order T t o → ((j : ℕ) → j < t → (f : ℕ) × (f < t) × (q j ≡ o f) × P j f)
-    → ((i j f : ℕ) → P i f → P j f → i ≡ j) → ((f : ℕ) → f < t → (j : ℕ) × (j < t) × (q j ≡ o f)) → Order T t q
+permuted : {T : ℕ → Bool} {t : ℕ} {o q : ℕ → ℕ} (P : ℕ → ℕ → Type 0) → Order T t o
+    → ((j : ℕ) → j < t → (f : ℕ) × (f < t) × (q j ≡ o f) × P j f) → ((i j f : ℕ) → P i f → P j f → i ≡ j)
+    → ((f : ℕ) → f < t → (j : ℕ) × (j < t) × (q j ≡ o f)) → Order T t q
 permuted P O from apart onto = record {
   within = λ j l. let f = from j l in rw f.2 (O .within f.0 f.1);
   once = λ i j a b e. let f = from i a in let g = from j b in
@@ -27,39 +29,61 @@ permuted P O from apart onto = record {
 
 module _ {T : ℕ → Bool} {o q : ℕ → ℕ} where
   pub rotate-order : {s : ℕ} → Order T (suc s) o → Rotate s o q → Order T (suc s) q
-  rotate-order {s} O r =
-      permuted (λ j f. ((j < s) × (f ≡ suc j)) ⊎ ((j ≡ s) × (f ≡ 0))) O
-      (λ j l. ⊎-elim (λ (x : j < s). (suc j, omega arith, r .back j x, inl (x, refl)))
+  rotate-order {s} O r = permuted
+      (λ j f. ((j < s) × (f ≡ suc j)) ⊎ ((j ≡ s) × (f ≡ 0)))
+      O
+      (λ j l. ⊎-elim
+      (λ (x : j < s). (suc j, omega arith, r .back j x, inl (x, refl)))
       (λ (x : j ≡ s). (0, omega arith, ap q x ∙ r .last, inr (x, refl)))
       (lt-or j s l))
-      (λ i j f x y. ⊎-elim (λ u. ⊎-elim (λ v. omega arith) (λ v. omega arith) y) (λ u. ⊎-elim (λ v. omega arith) (λ v. omega arith) y) x)
-      (λ f l. ⊎-elim (λ (z : f ≡ 0). (s, omega arith, r .last ∙ ap o (sym z)))
+      (λ i j f x y. ⊎-elim
+      (λ u. ⊎-elim (λ v. omega arith) (λ v. omega arith) y)
+      (λ u. ⊎-elim (λ v. omega arith) (λ v. omega arith) y)
+      x)
+      (λ f l. ⊎-elim
+      (λ (z : f ≡ 0). (s, omega arith, r .last ∙ ap o (sym z)))
       (λ z. (z .0, omega (arith, z .1), r .back z.0 (omega (arith, z .1)) ∙ ap o (sym z.1)))
       (zero-or f))
 
   -- o is q rotated: the last of o is the first of q
   pub unrotate-order : {s : ℕ} → Order T (suc s) o → Rotate s q o → Order T (suc s) q
-  unrotate-order {s} O r =
-      permuted (λ j f. ((j ≡ 0) × (f ≡ s)) ⊎ ((f < s) × (j ≡ suc f))) O
-      (λ j l. ⊎-elim (λ (x : j ≡ 0). (s, omega arith, ap q x ∙ sym r.last, inl (x, refl)))
-      (λ x. (x .0, omega (arith, x .1), ap q x.1 ∙ sym (r .back x.0 (omega (arith, x .1))), inr (omega (arith, x .1), x .1)))
+  unrotate-order {s} O r = permuted
+      (λ j f. ((j ≡ 0) × (f ≡ s)) ⊎ ((f < s) × (j ≡ suc f)))
+      O
+      (λ j l. ⊎-elim
+      (λ (x : j ≡ 0). (s, omega arith, ap q x ∙ sym r.last, inl (x, refl)))
+      (λ x. (
+        x .0,
+        omega (arith, x .1),
+        ap q x.1 ∙ sym (r .back x.0 (omega (arith, x .1))),
+        inr (omega (arith, x .1), x .1),
+      ))
       (zero-or j))
-      (λ i j f x y. ⊎-elim (λ u. ⊎-elim (λ v. omega arith) (λ v. omega arith) y) (λ u. ⊎-elim (λ v. omega arith) (λ v. omega arith) y) x)
-      (λ f l. ⊎-elim (λ (x : f < s). (suc f, omega arith, sym (r .back f x)))
+      (λ i j f x y. ⊎-elim
+      (λ u. ⊎-elim (λ v. omega arith) (λ v. omega arith) y)
+      (λ u. ⊎-elim (λ v. omega arith) (λ v. omega arith) y)
+      x)
+      (λ f l. ⊎-elim
+      (λ (x : f < s). (suc f, omega arith, sym (r .back f x)))
       (λ (x : f ≡ s). (0, omega arith, sym r.last ∙ ap o (sym x)))
       (lt-or f s l))
 
   pub swap-order : {t i : ℕ} → suc i < t → Order T t o → Swap i o q → Order T t q
-  swap-order {t} {i} s O w =
-      permuted Exchanged O
-      (λ j l. ⊎-elim (λ (x : j ≡ i). (suc i, s, ap q x ∙ w .here, inl (x, refl)))
-      (λ x. ⊎-elim (λ (y : j ≡ suc i). (i, omega arith, ap q y ∙ w .next, inr (inl (y, refl))))
+  swap-order {t} {i} s O w = permuted Exchanged O
+      (λ j l. ⊎-elim
+      (λ (x : j ≡ i). (suc i, s, ap q x ∙ w .here, inl (x, refl)))
+      (λ x. ⊎-elim
+      (λ (y : j ≡ suc i). (i, omega arith, ap q y ∙ w .next, inr (inl (y, refl))))
       (λ y. (j, l, w .rest j x y, inr (inr (x, y, refl))))
       (same-or j (suc i)))
       (same-or j i))
       apart
-      (λ f l. ⊎-elim (λ (z : f ≡ i). (suc i, s, w .next ∙ ap o (sym z)))
-      (λ n. ⊎-elim (λ (z : f ≡ suc i). (i, omega arith, w .here ∙ ap o (sym z))) (λ z. (f, l, w .rest f n z)) (same-or f (suc i)))
+      (λ f l. ⊎-elim
+      (λ (z : f ≡ i). (suc i, s, w .next ∙ ap o (sym z)))
+      (λ n. ⊎-elim
+      (λ (z : f ≡ suc i). (i, omega arith, w .here ∙ ap o (sym z)))
+      (λ z. (f, l, w .rest f n z))
+      (same-or f (suc i)))
       (same-or f i))
     where
       Exchanged : ℕ → ℕ → Type 0
@@ -93,20 +117,27 @@ module _ {T T' : ℕ → Bool} {o q : ℕ → ℕ} where
   pub omit-order : {s i : ℕ} → i ≤ s → Order T (suc s) o → Less T T' (o i) → Omit s i o q → Order T' s q
   omit-order {s} {i} le O L m = record { within = within; once = once; all = all }
     where
-      from : (j : ℕ) → j < s → (f : ℕ) × (q j ≡ o f) × (f < suc s) × (f ≡ i → ⊥) × (((j < i) × (f ≡ j)) ⊎ ((i ≤ j) × (f ≡ suc j)))
+      from : (j : ℕ) → j < s
+          → (f : ℕ) × (q j ≡ o f) × (f < suc s) × (f ≡ i → ⊥) × (((j < i) × (f ≡ j)) ⊎ ((i ≤ j) × (f ≡ suc j)))
       from j l = ⊎-elim
           (λ x. (j, m .lower j l x, omega arith, (λ e. omega arith), inl (x, refl)))
           (λ x. (suc j, m .upper j l x, omega arith, (λ e. omega arith), inr (x, refl)))
           (before-or-not j i)
 
       within : (j : ℕ) → j < s → T' (q j) ≡ true
-      within j l = let f = from j l in rw f.1 (L .rest (o f.0) (λ e. f .3 (O .once f.0 i f.2 (omega arith) e)) ∙ O .within f.0 f.2)
+      within j l =
+          let f = from j l in
+          rw f.1 (L .rest (o f.0) (λ e. f .3 (O .once f.0 i f.2 (omega arith) e)) ∙ O .within f.0 f.2)
 
       once : (j k : ℕ) → j < s → k < s → q j ≡ q k → j ≡ k
       once j k x y e =
-          let f = from j x in let g = from k y in
+          let f = from j x in
+          let g = from k y in
           let w : f .0 ≡ g .0 = O .once f.0 g.0 f.2 g.2 (sym f.1 ∙ e ∙ g .1) in
-          ⊎-elim (λ z. ⊎-elim (λ u. omega arith) (λ u. omega arith) g.4) (λ z. ⊎-elim (λ u. omega arith) (λ u. omega arith) g.4) f.4
+          ⊎-elim
+          (λ z. ⊎-elim (λ u. omega arith) (λ u. omega arith) g.4)
+          (λ z. ⊎-elim (λ u. omega arith) (λ u. omega arith) g.4)
+          f.4
 
       all : (k : ℕ) → T' k ≡ true → (j : ℕ) × (j < s) × (q j ≡ k)
       all k e =
@@ -122,12 +153,21 @@ module _ {T T' : ℕ → Bool} {o q : ℕ → ℕ} where
   pub insert-order : {s i : ℕ} → i ≤ s → Order T' s q → Less T T' (o i) → Omit s i o q → Order T (suc s) o
   insert-order {s} {i} le O L m = record { within = within; once = once; all = all }
     where
-      from : (j : ℕ) → j < suc s → (j ≡ i) ⊎ ((f : ℕ) × (o j ≡ q f) × (f < s) × (((f < i) × (j ≡ f)) ⊎ ((i ≤ f) × (j ≡ suc f))))
-      from j l =
-          ⊎-elim (λ (x : j < i). inr (j, sym (m .lower j (omega arith) x), omega arith, inl (x, refl)))
-          (λ (x : i ≤ j). ⊎-elim (λ (e : j ≡ i). inl e)
-          (λ n. let w : suc (j - 1) ≡ j = omega arith in
-          inr (j - 1, ap o (sym w) ∙ sym (m .upper (j - 1) (omega arith) (omega arith)), omega arith, inr (omega arith, sym w))) (same-or j i))
+      from : (j : ℕ) → j < suc s
+          → (j ≡ i) ⊎ ((f : ℕ) × (o j ≡ q f) × (f < s) × (((f < i) × (j ≡ f)) ⊎ ((i ≤ f) × (j ≡ suc f))))
+      from j l = ⊎-elim
+          (λ (x : j < i). inr (j, sym (m .lower j (omega arith) x), omega arith, inl (x, refl)))
+          (λ (x : i ≤ j). ⊎-elim
+          (λ (e : j ≡ i). inl e)
+          (λ n.
+          let w : suc (j - 1) ≡ j = omega arith in
+          inr (
+            j - 1,
+            ap o (sym w) ∙ sym (m .upper (j - 1) (omega arith) (omega arith)),
+            omega arith,
+            inr (omega arith, sym w),
+          ))
+          (same-or j i))
           (before-or-not j i)
 
       within : (j : ℕ) → j < suc s → T (o j) ≡ true
@@ -137,12 +177,16 @@ module _ {T T' : ℕ → Bool} {o q : ℕ → ℕ} where
       clash j k f e l w d = less-in L (q f) (O .within f l) .1 (sym w ∙ sym d ∙ ap o e)
 
       once : (j k : ℕ) → j < suc s → k < suc s → o j ≡ o k → j ≡ k
-      once j k x y e =
-          ⊎-elim
+      once j k x y e = ⊎-elim
           (λ z. ⊎-elim (λ u. omega arith) (λ u. absurd (clash j k u.0 z u.2 u.1 e)) (from k y))
-          (λ z. ⊎-elim (λ u. absurd (clash k j z.0 u z.2 z.1 (sym e)))
-          (λ u. let w : z .0 ≡ u .0 = O .once z.0 u.0 z.2 u.2 (sym z.1 ∙ e ∙ u .1) in
-          ⊎-elim (λ b. ⊎-elim (λ d. omega arith) (λ d. omega arith) u.3) (λ b. ⊎-elim (λ d. omega arith) (λ d. omega arith) u.3) z.3)
+          (λ z. ⊎-elim
+          (λ u. absurd (clash k j z.0 u z.2 z.1 (sym e)))
+          (λ u.
+          let w : z .0 ≡ u .0 = O .once z.0 u.0 z.2 u.2 (sym z.1 ∙ e ∙ u .1) in
+          ⊎-elim
+          (λ b. ⊎-elim (λ d. omega arith) (λ d. omega arith) u.3)
+          (λ b. ⊎-elim (λ d. omega arith) (λ d. omega arith) u.3)
+          z.3)
           (from k y))
           (from j x)
 

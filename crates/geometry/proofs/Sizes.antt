@@ -1,5 +1,5 @@
--- Consecutive blocks of given sizes: next, previous, block number and distance of an index, and the sums of a block. Beyond the last block every
--- index is a block of its own, with start 1. Assumes nothing.
+-- Consecutive blocks of given sizes: next, previous, block number and distance of an index, and the sums of a block.
+-- Beyond the last block every index is a block of its own, with start 1. Assumes nothing.
 use mathlib.Core.Bool.{cond}
 use mathlib.Core.List.{List, [], _∷_}
 use mathlib.Core.Path.{_≡_}

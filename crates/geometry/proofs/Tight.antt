@@ -1,5 +1,5 @@
--- Tight lists. In order: induction round a block; a bound on T is a bound everywhere; T determines a tight list; a step raises by 1 at most; a list
--- of values on T that is near a tight list has a tight list of its own. Assumes nothing.
+-- Tight lists. In order: induction round a block; a bound on T is a bound everywhere; T determines a tight list; a step
+-- raises by 1 at most; a list of values on T that is near a tight list has a tight list of its own. Assumes nothing.
 use mathlib.Core.Bool.{Bool, true, false, cond}
 use mathlib.Core.Logic.{_⊎_, inl, inr, ⊎-elim}
 use mathlib.Core.Path.{_≡_, refl, sym, ap, _∙_}
@@ -9,12 +9,14 @@ use Rattle.combinatorics.proofs.Basics.{true-or-false, same-or}
 use Rattle.geometry.proofs.Definitions.{back, Blocks, Tight, Grid, HasZeros, Free, Step, lift, tightOf}
 
 -- what goes back from each index to the one before it goes round the block
-back-all : (R : Blocks) (P : ℕ → Type 0) (z : ℕ) → P z → ((k : ℕ) → P (R .next k) → P k) → (n : ℕ) → P (back R.previous n z)
+back-all : (R : Blocks) (P : ℕ → Type 0) (z : ℕ) → P z → ((k : ℕ) → P (R .next k) → P k) → (n : ℕ)
+    → P (back R.previous n z)
 back-all R P z s step zero = s
 back-all R P z s step (suc n) =
     step (R .previous (back R.previous n z)) (rw (R .next-previous (back R.previous n z)) (back-all R P z s step n))
 
-pub round : (R : Blocks) (P : ℕ → Type 0) (z : ℕ) → P z → ((k : ℕ) → P (R .next k) → P k) → (k : ℕ) → R .block z ≡ R .block k → P k
+pub round : (R : Blocks) (P : ℕ → Type 0) (z : ℕ) → P z → ((k : ℕ) → P (R .next k) → P k) → (k : ℕ)
+    → R .block z ≡ R .block k → P k
 round R P z s step k e = rw (R .reached z k e) at (back-all R P z s step (R .distance z k))
 
 pub block-next : (R : Blocks) (k : ℕ) → R .block (R .next k) ≡ R .block k
@@ -26,42 +28,59 @@ module _ (R : Blocks) (T : ℕ → Bool) where
   grid-all t g k = ⊎-elim (g k) (λ e. omega (arith, t k e)) (true-or-false (T k))
 
   -- a bound on T is a bound everywhere
-  pub bounded : (e : ℕ) {c d : ℕ → ℕ} → Tight R T c → Tight R T d → ((k : ℕ) → T k ≡ true → c k ≤ d k + e) → HasZeros R c → (k : ℕ) → c k ≤ d k + e
+  pub bounded : (e : ℕ) {c d : ℕ → ℕ} → Tight R T c → Tight R T d → ((k : ℕ) → T k ≡ true → c k ≤ d k + e)
+      → HasZeros R c → (k : ℕ) → c k ≤ d k + e
   bounded e {c} {d} tc td on n k =
       round R (λ k. c k ≤ d k + e) (n k .0) (omega (arith, n k .2))
       (λ k ih. ⊎-elim (on k) (λ f. omega (arith, tc k f, td k f)) (true-or-false (T k))) k (n k .1)
 
   -- T determines a tight list
-  pub decides : {c d : ℕ → ℕ} → Tight R T c → Tight R T d → HasZeros R c → HasZeros R d → ((k : ℕ) → T k ≡ true → c k ≡ d k) → (k : ℕ) → c k ≡ d k
-  decides {c} {d} tc td nc nd on k =
-      omega (arith, bounded 0 tc td (λ k e. omega (arith, on k e)) nc k, bounded 0 td tc (λ k e. omega (arith, on k e)) nd k)
+  pub decides : {c d : ℕ → ℕ} → Tight R T c → Tight R T d → HasZeros R c → HasZeros R d
+      → ((k : ℕ) → T k ≡ true → c k ≡ d k) → (k : ℕ) → c k ≡ d k
+  decides {c} {d} tc td nc nd on k = omega (
+    arith,
+    bounded 0 tc td (λ k e. omega (arith, on k e)) nc k,
+    bounded 0 td tc (λ k e. omega (arith, on k e)) nd k,
+  )
 
   -- where only h of T changes, the index after h keeps its coefficient
-  pub still : {h : ℕ} {c d : ℕ → ℕ} → Tight R T c → Tight R T d → Step T h c d → (z : ℕ) → R .block z ≡ R .block h → d z ≡ c z
+  pub still : {h : ℕ} {c d : ℕ → ℕ} → Tight R T c → Tight R T d → Step T h c d → (z : ℕ) → R .block z ≡ R .block h
+      → d z ≡ c z
       → d (R .next h) ≡ c (R .next h)
-  still {h} {c} {d} tc td s z b e =
-      ⊎-elim (λ q. absurd (omega (arith, s .raised))) (λ q. q)
-      (round R (λ k. (d k ≡ c k) ⊎ (d (R .next h) ≡ c (R .next h))) z (inl e)
-      (λ k ih. ⊎-elim (λ q. ⊎-elim (λ (w : k ≡ h). inr (rw w at q))
-      (λ n. inl (⊎-elim (λ t. s .unchanged k t n) (λ f. omega (arith, tc k f, td k f)) (true-or-false (T k)))) (same-or k h)) (λ q. inr q) ih)
+  still {h} {c} {d} tc td s z b e = ⊎-elim
+      (λ q. absurd (omega (arith, s .raised)))
+      (λ q. q)
+      (round R
+      (λ k. (d k ≡ c k) ⊎ (d (R .next h) ≡ c (R .next h)))
+      z (inl e)
+      (λ k ih. ⊎-elim
+      (λ q. ⊎-elim
+      (λ (w : k ≡ h). inr (rw w at q))
+      (λ n. inl (⊎-elim (λ t. s .unchanged k t n) (λ f. omega (arith, tc k f, td k f)) (true-or-false (T k))))
+      (same-or k h))
+      (λ q. inr q)
+      ih)
       h b)
 
   -- one more at h: nothing falls, and nothing rises by more than 1
   pub step-up : {h : ℕ} {c d : ℕ → ℕ} → Tight R T c → Tight R T d → HasZeros R c → Step T h c d → (k : ℕ) → c k ≤ d k
-  step-up {h} {c} {d} tc td n s k =
-      omega (
-        arith,
-        bounded 0 tc td
-            (λ k t. ⊎-elim (λ (q : k ≡ h). rw q (omega (arith, s .raised))) (λ q. omega (arith, s .unchanged k t q)) (same-or k h)) n k,
-      )
+  step-up {h} {c} {d} tc td n s k = omega (
+    arith,
+    bounded 0 tc td
+        (λ k t.
+        ⊎-elim (λ (q : k ≡ h). rw q (omega (arith, s .raised))) (λ q. omega (arith, s .unchanged k t q)) (same-or k h))
+        n k,
+  )
 
 -- what is at most 1 more than c on T lifts to a tight list
-module _ (R : Blocks) {T : ℕ → Bool} (a : ℕ → ℕ) {c : ℕ → ℕ} (tc : Tight R T c) (small : (k : ℕ) → T k ≡ true → a k ≤ c k + 1) where
+module _ (R : Blocks) {T : ℕ → Bool} (a : ℕ → ℕ) {c : ℕ → ℕ} (tc : Tight R T c)
+    (small : (k : ℕ) → T k ≡ true → a k ≤ c k + 1) where
   lift-le : (n k : ℕ) → lift R T a n k ≤ c k + 1
   lift-le zero k = omega arith
   lift-le (suc n) k = go (T k) refl (lift-le n (R .next k))
     where
-      go : (b : Bool) → T k ≡ b → lift R T a n (R .next k) ≤ c (R .next k) + 1 → cond b (a k) (lift R T a n (R .next k) - R .start k) ≤ c k + 1
+      go : (b : Bool) → T k ≡ b → lift R T a n (R .next k) ≤ c (R .next k) + 1
+          → cond b (a k) (lift R T a n (R .next k) - R .start k) ≤ c k + 1
       go true e ih = small k e
       go false e ih = omega (arith, tc k e)
 

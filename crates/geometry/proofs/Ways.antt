@@ -1,5 +1,5 @@
--- Through every facet there is a way: a chain beyond it, or the facet is a chain, or a block is filled. In order: the first point leaves, an inner
--- one, the last; a facet that drops an index; all facets. Assumes nothing.
+-- Through every facet there is a way: a chain beyond it, or the facet is a chain, or a block is filled. In order: the
+-- first point leaves, an inner one, the last; a facet that drops an index; all facets. Assumes nothing.
 use mathlib.Core.Bool.{Bool, true, cond}
 use mathlib.Core.Logic.{_⊎_, inl, inr, ⊎-elim}
 use mathlib.Core.Path.{_≡_, refl, sym, ap, _∙_}
@@ -9,8 +9,11 @@ use lib.Dec.{eqb, ltb}
 use native.Mathlib.Omega.{arith}
 use Rattle.geometry.proofs.Chains
 use Rattle.combinatorics.proofs.Basics.{same-or, before-or-not}
-use Rattle.geometry.proofs.Search.{free-or, other-block-le, raise-at, raise-elsewhere, lower-at, lower-elsewhere, raise-step, lower-step}
-use Rattle.geometry.proofs.Definitions.{back, Blocks, Tight, Grid, HasZeros, Free, Step, Chain, Less, Omit, Rotate, Swap, tightOf, raise, lower, less, omit, Beside, Dropped, Filled, Next, Drops, Fills}
+use Rattle.geometry.proofs.Search.{free-or, other-block-le, raise-at, raise-elsewhere, lower-at, lower-elsewhere}
+use Rattle.geometry.proofs.Search.{raise-step, lower-step}
+use Rattle.geometry.proofs.Definitions.{back, Blocks, Tight, Grid, HasZeros, Free, Step, Chain, Less, Omit}
+use Rattle.geometry.proofs.Definitions.{Rotate, Swap, tightOf, raise, lower, less, omit, Beside, Dropped, Filled}
+use Rattle.geometry.proofs.Definitions.{Next, Drops, Fills}
 use Rattle.geometry.proofs.Neighbours.{first-next, inner-next, last-next, second, drop}
 use Rattle.geometry.proofs.Orders.{lt-or}
 use Rattle.geometry.proofs.Tight.{block-next, step-up, lifted-on, lifted-tight, lifted-le, lifted-zeros}
@@ -26,27 +29,48 @@ omit-is n i p = record { lower = λ j l m. rw (lt-ltb j i m); upper = λ j l m. 
 module _ {R : Blocks} {T : ℕ → Bool} {s : ℕ} {p : ℕ → ℕ → ℕ} {o : ℕ → ℕ} (K : Chain R T (suc s) p o) where
   -- the first point leaves
   pub first-or : Free R T (p 1) ⊎ Filled R T s p 0 (o 0)
-  first-or =
-      ⊎-elim (λ w. inl (λ h. ⊎-elim (λ e. (w .0, w .1 ∙ sym e, w .2, w .3))
-      (λ n. let f = K .free h in (
+  first-or = ⊎-elim
+      (λ w. inl
+      (λ h. ⊎-elim
+      (λ e. (w .0, w .1 ∙ sym e, w .2, w .3))
+      (λ n.
+      let f = K .free h in (
         f .0,
         f .1,
         f .2,
         omega (
           arith,
           f .3,
-          other-block-le R (K .tight 0 (omega arith)) (K .tight 1 (omega arith)) (K .hasZeros 1 (omega arith)) (K .step 0 (omega arith)) (R .next f.0)
+          other-block-le R (K .tight 0 (omega arith)) (K .tight 1 (omega arith)) (K .hasZeros 1 (omega arith))
+              (K .step 0 (omega arith)) (R .next f.0)
               (λ e. n (sym f.1 ∙ sym (block-next R f.0) ∙ e)),
         ),
-      )) (same-or (R .block h) (R .block (o 0)))))
-      (λ n. inr (λ k b e j y x. omega (arith, n k b e, Chains.rise K 1 j (let w : (j ≡ 0 → ⊥) = x in omega arith) y (R .next k), K .tight j y k e)))
+      ))
+      (same-or (R .block h) (R .block (o 0)))))
+      (λ n. inr
+      (λ k b e j y x. omega (
+        arith,
+        n k b e,
+        Chains.rise K 1 j (let w : (j ≡ 0 → ⊥) = x in omega arith) y (R .next k),
+        K .tight j y k e,
+      )))
       (free-or R T (p 1) (o 0))
 
   first-small : (k : ℕ) → T k ≡ true → raise (o 0) (p (suc s)) k ≤ p 1 k + 1
-  first-small k e =
-      ⊎-elim (λ (q : k ≡ o 0). rw q
-      (omega (arith, raise-at (o 0) (p (suc s)), Chains.after-raise K 0 (suc s) (omega arith) (omega arith), K .step 0 (omega arith) .raised)))
-      (λ n. omega (arith, raise-elsewhere (o 0) (p (suc s)) k n, Chains.last-one-more K k e, K .step 0 (omega arith) .unchanged k e n)) (same-or k (o 0))
+  first-small k e = ⊎-elim
+      (λ (q : k ≡ o 0). rw q (omega (
+        arith,
+        raise-at (o 0) (p (suc s)),
+        Chains.after-raise K 0 (suc s) (omega arith) (omega arith),
+        K .step 0 (omega arith) .raised,
+      )))
+      (λ n. omega (
+        arith,
+        raise-elsewhere (o 0) (p (suc s)) k n,
+        Chains.last-one-more K k e,
+        K .step 0 (omega arith) .unchanged k e n,
+      ))
+      (same-or k (o 0))
 
   -- the new last point, its chain and its order
   pub first-z : ℕ → ℕ
@@ -73,21 +97,28 @@ module _ {R : Blocks} {T : ℕ → Bool} {s : ℕ} {p : ℕ → ℕ → ℕ} {o 
       let st : Step T (o 0) (p (suc s)) first-z = raise-step (o 0) (p (suc s)) (K .order .within 0 (omega arith)) on in
       let top : first-p (suc s) ≡ first-z = rw (le-ltb (suc s) (suc s) (omega arith)) in
       record {
-        chain = first-next K first-later first-rotate (rw top (lifted-tight R _ (K .tight 1 (omega arith)) first-small fr))
-            (rw top (lifted-zeros R _ (K .tight 1 (omega arith)) first-small fr))
-            (rw top st) fr;
+        chain = first-next K first-later first-rotate
+            (rw top (lifted-tight R _ (K .tight 1 (omega arith)) first-small fr))
+            (rw top (lifted-zeros R _ (K .tight 1 (omega arith)) first-small fr)) (rw top st) fr;
         bound = omega arith;
         facet = λ j. p (suc j);
         omitsHere = record { lower = λ j l m. absurd (omega arith); upper = λ j l m. refl };
         omitsThere = record { lower = λ j l m. sym (first-later j l); upper = λ j l m. absurd (omega arith) };
-        new = λ e. omega (arith, ap (λ (f : ℕ → ℕ). f (o 0)) (sym top ∙ e), st .raised, Chains.after-raise K 0 (suc s) (omega arith) (omega arith));
+        new = λ e. omega (
+          arith,
+          ap (λ (f : ℕ → ℕ). f (o 0)) (sym top ∙ e),
+          st .raised,
+          Chains.after-raise K 0 (suc s) (omega arith) (omega arith),
+        );
       }
 
   -- an inner point leaves
   inner-small : (i : ℕ) → i < s → (k : ℕ) → T k ≡ true → raise (o (suc i)) (p i) k ≤ p 0 k + 1
-  inner-small i l k e =
-      ⊎-elim (λ (q : k ≡ o (suc i)). rw q (omega (arith, raise-at (o (suc i)) (p i), Chains.before-raise K (suc i) i (omega arith) (omega arith))))
-      (λ n. omega (arith, raise-elsewhere (o (suc i)) (p i) k n, Chains.one-more-at-most K i (omega arith) k)) (same-or k (o (suc i)))
+  inner-small i l k e = ⊎-elim
+      (λ (q : k ≡ o (suc i)).
+      rw q (omega (arith, raise-at (o (suc i)) (p i), Chains.before-raise K (suc i) i (omega arith) (omega arith))))
+      (λ n. omega (arith, raise-elsewhere (o (suc i)) (p i) k n, Chains.one-more-at-most K i (omega arith) k))
+      (same-or k (o (suc i)))
 
   pub inner-z : ℕ → ℕ → ℕ
   inner-z i = tightOf R T (raise (o (suc i)) (p i))
@@ -132,10 +163,11 @@ module _ {R : Blocks} {T : ℕ → Bool} {s : ℕ} {p : ℕ → ℕ → ℕ} {o 
     rest = λ j a b. rw (ne-eqb j i a, ne-eqb j (suc i) b);
   }
 
-  pub inner-beside : (i : ℕ) → i < s → inner-z i (R .next (o i)) ≤ R .start (o i) + p i (o i) → Beside R T s p (suc i) (inner-p i) (inner-o i) (suc i)
+  pub inner-beside : (i : ℕ) → i < s → inner-z i (R .next (o i)) ≤ R .start (o i) + p i (o i)
+      → Beside R T s p (suc i) (inner-p i) (inner-o i) (suc i)
   inner-beside i l g = record {
-    chain = inner-next K (omega arith) (inner-same i) (inner-swap i)
-        (rw (inner-here i) (inner-tight i l)) (rw (inner-here i) (inner-zeros i l)) (rw (inner-here i) (inner-step i l)) (rw (inner-here i) g);
+    chain = inner-next K (omega arith) (inner-same i) (inner-swap i) (rw (inner-here i) (inner-tight i l))
+        (rw (inner-here i) (inner-zeros i l)) (rw (inner-here i) (inner-step i l)) (rw (inner-here i) g);
     bound = omega arith;
     facet = omit (suc i) p;
     omitsHere = omit-is (suc s) (suc i) p;
@@ -147,12 +179,14 @@ module _ {R : Blocks} {T : ℕ → Bool} {s : ℕ} {p : ℕ → ℕ → ℕ} {o 
       arith,
       ap (λ (f : ℕ → ℕ). f (o i)) (sym (inner-here i) ∙ e),
       K .step i (omega arith) .raised,
-      inner-step i l .unchanged (o i) (K .order .within i (omega arith)) (λ w. omega (arith, K .order .once i (suc i) (omega arith) (omega arith) w)),
+      inner-step i l .unchanged (o i) (K .order .within i (omega arith))
+          (λ w. omega (arith, K .order .once i (suc i) (omega arith) (omega arith) w)),
     );
   }
 
   -- or the facet is tight at the first of the two indices
-  pub inner-tight-at : (i : ℕ) → i < s → R .start (o i) + p i (o i) < inner-z i (R .next (o i)) → (j : ℕ) → j ≤ suc s → (j ≡ suc i → ⊥)
+  pub inner-tight-at : (i : ℕ) → i < s → R .start (o i) + p i (o i) < inner-z i (R .next (o i)) → (j : ℕ) → j ≤ suc s
+      → (j ≡ suc i → ⊥)
       → p j (o i) ≡ p j (R .next (o i)) - R .start (o i)
   inner-tight-at i l h j m n =
       ⊎-elim (λ (x : j < suc i). omega (
@@ -179,12 +213,20 @@ module _ {R : Blocks} {T : ℕ → Bool} {s : ℕ} {p : ℕ → ℕ → ℕ} {o 
       p-i = Chains.before-raise K i i (omega arith) (omega arith)
 
       up : inner-z i (R .next (o i)) ≤ p (suc (suc i)) (R .next (o i))
-      up = rw (inner-here i) at (step-up R T (rw (inner-here i) (inner-tight i l)) (K .tight (suc (suc i)) (omega arith))
+      up = rw (inner-here i)
+          at (step-up R T (rw (inner-here i) (inner-tight i l)) (K .tight (suc (suc i)) (omega arith))
           (rw (inner-here i) (inner-zeros i l))
           (second K (omega arith) (inner-same i) (inner-swap i) (rw (inner-here i) (inner-step i l))) (R .next (o i)))
 
       top : p (suc (suc i)) (R .next (o i)) ≡ R .start (o i) + suc (p 0 (o i))
-      top = omega (arith, up, h, p-i, K .grid (suc (suc i)) (omega arith) (o i), Chains.after-raise K i (suc (suc i)) (omega arith) (omega arith))
+      top = omega (
+        arith,
+        up,
+        h,
+        p-i,
+        K .grid (suc (suc i)) (omega arith) (o i),
+        Chains.after-raise K i (suc (suc i)) (omega arith) (omega arith),
+      )
 
       bot : R .start (o i) + p 0 (o i) ≤ p 0 (R .next (o i))
       bot = omega (arith, top, Chains.one-more-at-most K (suc (suc i)) (omega arith) (R .next (o i)))
@@ -214,8 +256,10 @@ module _ {R : Blocks} {T : ℕ → Bool} {s : ℕ} {p : ℕ → ℕ → ℕ} {o 
   last-rotate = record { back = λ j l. refl; last = refl }
 
   last-small : (k : ℕ) → T k ≡ true → lower (o s) (p 0) k ≤ p 0 k + 1
-  last-small k e =
-      ⊎-elim (λ (q : k ≡ o s). rw q (omega (arith, lower-at (o s) (p 0)))) (λ n. omega (arith, lower-elsewhere (o s) (p 0) k n)) (same-or k (o s))
+  last-small k e = ⊎-elim
+      (λ (q : k ≡ o s). rw q (omega (arith, lower-at (o s) (p 0))))
+      (λ n. omega (arith, lower-elsewhere (o s) (p 0) k n))
+      (same-or k (o s))
 
   pub last-tight : Tight R T last-z
   unfolding last-z
@@ -227,23 +271,29 @@ module _ {R : Blocks} {T : ℕ → Bool} {s : ℕ} {p : ℕ → ℕ → ℕ} {o 
 
   pub last-step : 0 < p 0 (o s) → Step T (o s) last-z (p 0)
   unfolding last-z
-  last-step a =
-      lower-step (o s) (p 0) (K .order .within s (omega arith)) a (lifted-on R _ (K .tight 0 (omega arith)) last-small K.free)
+  last-step a = lower-step (o s) (p 0) (K .order .within s (omega arith)) a
+      (lifted-on R _ (K .tight 0 (omega arith)) last-small K.free)
 
-  pub last-beside : 0 < p 0 (o s) → p 0 (R .next (o s)) < R .start (o s) + p 0 (o s) → Beside R T s p (suc s) last-p last-o 0
+  pub last-beside : 0 < p 0 (o s) → p 0 (R .next (o s)) < R .start (o s) + p 0 (o s)
+      → Beside R T s p (suc s) last-p last-o 0
   unfolding last-p last-o last-z
   last-beside a b =
       let st : Step T (o s) last-z (p 0) = lower-step (o s) (p 0) (K .order .within s (omega arith)) a
       (lifted-on R _ (K .tight 0 (omega arith)) last-small K.free) in
       record {
-        chain = last-next K last-p (λ j l. refl) last-rotate (lifted-tight R _ (K .tight 0 (omega arith)) last-small K.free)
-            (lifted-zeros R _ (K .tight 0 (omega arith)) last-small K.free)
-            st (omega (arith, st .raised));
+        chain = last-next K last-p (λ j l. refl) last-rotate
+            (lifted-tight R _ (K .tight 0 (omega arith)) last-small K.free)
+            (lifted-zeros R _ (K .tight 0 (omega arith)) last-small K.free) st (omega (arith, st .raised));
         bound = omega arith;
         facet = p;
         omitsHere = record { lower = λ j l m. refl; upper = λ j l m. absurd (omega arith) };
         omitsThere = record { lower = λ j l m. absurd (omega arith); upper = λ j l m. refl };
-        new = λ e. omega (arith, ap (λ (f : ℕ → ℕ). f (o s)) e, st .raised, Chains.after-raise K s (suc s) (omega arith) (omega arith));
+        new = λ e. omega (
+          arith,
+          ap (λ (f : ℕ → ℕ). f (o s)) e,
+          st .raised,
+          Chains.after-raise K s (suc s) (omega arith) (omega arith),
+        );
       }
 
   pub last-grid : 0 < p 0 (o s) → p 0 (R .next (o s)) < R .start (o s) + p 0 (o s) → Grid R last-z
@@ -259,15 +309,18 @@ module _ {R : Blocks} {T : ℕ → Bool} {s : ℕ} {p : ℕ → ℕ → ℕ} {o 
       (λ z. omega (arith, e, g, Chains.rise K 0 j (omega arith) (omega arith) (R .next (o s)))) w
 
   -- less the point after the step i, where all of it is tight at o i
-  pub dropped : (i : ℕ) → i ≤ s → ((j : ℕ) → j ≤ suc s → (j ≡ suc i → ⊥) → p j (o i) ≡ p j (R .next (o i)) - R .start (o i))
+  pub dropped : (i : ℕ) → i ≤ s
+      → ((j : ℕ) → j ≤ suc s → (j ≡ suc i → ⊥) → p j (o i) ≡ p j (R .next (o i)) - R .start (o i))
       → Dropped R T s p (suc i) (o i) (less T (o i)) (omit i o)
   dropped i l h = record {
     small = small;
     facet = omit (suc i) p;
     omitsHere = cut;
     chain = drop K (omega arith) cut (omit-is s i o) small
-        (λ j m. ⊎-elim (λ (x : j < suc i). rw (cut .lower j (omega arith) x) (h j (omega arith) (λ e. omega arith)))
-        (λ (x : suc i ≤ j). rw (cut .upper j (omega arith) x) (h (suc j) (omega arith) (λ e. omega arith))) (before-or-not j (suc i)));
+        (λ j m. ⊎-elim
+        (λ (x : j < suc i). rw (cut .lower j (omega arith) x) (h j (omega arith) (λ e. omega arith)))
+        (λ (x : suc i ≤ j). rw (cut .upper j (omega arith) x) (h (suc j) (omega arith) (λ e. omega arith)))
+        (before-or-not j (suc i)));
   }
     where
       small : Less T (less T (o i)) (o i)
@@ -286,10 +339,21 @@ module _ {R : Blocks} {T : ℕ → Bool} {s : ℕ} {p : ℕ → ℕ → ℕ} {o 
       (before-or-not (R .start (o i) + p i (o i)) (inner-z i (R .next (o i))))
 
   last-way : Next R T s p (suc s) ⊎ (Drops R T s p (suc s) ⊎ Fills R T s p (suc s))
-  last-way =
-      ⊎-elim (λ z. inr (inl (o s, less T (o s), omit s o, dropped s (omega arith) (λ j l n. last-tight-at (inl z) j (omega (arith, n))))))
-      (λ z. ⊎-elim (λ h. inl (last-p, last-o, 0, last-beside (omega (arith, z)) h))
-      (λ h. inr (inl (o s, less T (o s), omit s o, dropped s (omega arith) (λ j l n. last-tight-at (inr h) j (omega (arith, n))))))
+  last-way = ⊎-elim
+      (λ z. inr (inl (
+        o s,
+        less T (o s),
+        omit s o,
+        dropped s (omega arith) (λ j l n. last-tight-at (inl z) j (omega (arith, n))),
+      )))
+      (λ z. ⊎-elim
+      (λ h. inl (last-p, last-o, 0, last-beside (omega (arith, z)) h))
+      (λ h. inr (inl (
+        o s,
+        less T (o s),
+        omit s o,
+        dropped s (omega arith) (λ j l n. last-tight-at (inr h) j (omega (arith, n))),
+      )))
       (before-or-not (p 0 (R .next (o s))) (R .start (o s) + p 0 (o s))))
       (same-or (p 0 (o s)) 0)
 

@@ -38,8 +38,10 @@ accepted g e =
       someBlock = leb-true 1 (numBlocks g) (and-left (leb 1 (numBlocks g)) (leb (numBlocks g) 6) (a .0));
       fewBlocks = leb-true (numBlocks g) 6 (and-right (leb 1 (numBlocks g)) (leb (numBlocks g) 6) (a .0));
       sizesTwo = and-left (all (λ s. leb 2 s) (g .sizes)) (leb (numIndices g) 16) (b .0);
-      fewIndices = leb-true (numIndices g) 16 (and-right (all (λ s. leb 2 s) (g .sizes)) (leb (numIndices g) 16) (b .0));
-      sameNumber = eqb-true (length (g .divisions)) (numBlocks g) (and-left (eqb (length (g .divisions)) (numBlocks g)) (all (λ d. leb 1 d) (g .divisions)) (c .0));
+      fewIndices =
+          leb-true (numIndices g) 16 (and-right (all (λ s. leb 2 s) (g .sizes)) (leb (numIndices g) 16) (b .0));
+      sameNumber = eqb-true (length (g .divisions)) (numBlocks g)
+          (and-left (eqb (length (g .divisions)) (numBlocks g)) (all (λ d. leb 1 d) (g .divisions)) (c .0));
       divisionsOne = and-right (eqb (length (g .divisions)) (numBlocks g)) (all (λ d. leb 1 d) (g .divisions)) (c .0);
       fewPoints = leb-true (numPoints g) 60000 (d .0);
     }

@@ -31,13 +31,17 @@ capped-product (suc a) (suc b) =
     rw w (omega arith)) (before-or-not (suc a) 60001)
 
 -- what stands at i after a store at k
-pub at-set : (P : ℕ → Type 0) (l : List ℕ) (k v i : ℕ) → k < length l → (i ≡ k → P v) → ((i ≡ k → ⊥) → P (getD l i 0)) → P (getD (set l k v) i 0)
-at-set P l k v i h same other =
-    ⊎-elim (λ e. subst (λ (n : ℕ). P (getD (set l k v) n 0)) (sym e) (rw (getD-set-same l k v 0 h) (same e))) (λ n. rw (getD-set-other l k i v 0 n) (other n)) (same-or i k)
+pub at-set : (P : ℕ → Type 0) (l : List ℕ) (k v i : ℕ) → k < length l → (i ≡ k → P v) → ((i ≡ k → ⊥) → P (getD l i 0))
+    → P (getD (set l k v) i 0)
+at-set P l k v i h same other = ⊎-elim
+    (λ e. subst (λ (n : ℕ). P (getD (set l k v) n 0)) (sym e) (rw (getD-set-same l k v 0 h) (same e)))
+    (λ n. rw (getD-set-other l k i v 0 n) (other n))
+    (same-or i k)
 
 -- the row of r + 1 up to k, that of r from there on
 abbrev pub Raised : ℕ → ℕ → ℕ → List ℕ → Type 0
-Raised r last k row = (i : ℕ) → i ≤ last → (i < k → getD row i 0 ≡ capped (choose (suc r + i) i)) × (k ≤ i → getD row i 0 ≡ capped (choose (r + i) i))
+Raised r last k row = (i : ℕ) → i ≤ last
+    → (i < k → getD row i 0 ≡ capped (choose (suc r + i) i)) × (k ≤ i → getD row i 0 ≡ capped (choose (r + i) i))
 
 pub raised-start : (r last : ℕ) (row : List ℕ) → IsRow r last row → Raised r last 1 row
 raised-start r last row h zero l = ((λ p. h 0 l), (λ p. absurd (omega arith)))
@@ -46,18 +50,29 @@ raised-start r last row h (suc i) l = ((λ p. absurd (omega arith)), (λ p. h (s
 pub raised-end : (r last k : ℕ) (row : List ℕ) → last < k → Raised r last k row → IsRow (suc r) last row
 raised-end r last k row c h i l = h i l .0 (omega arith)
 
-pub raised-turn : (r last k : ℕ) (row : List ℕ) → k < length row → 1 ≤ k → k ≤ last → Raised r last k row → Raised r last (k + 1) (set row k (capped (getD row k 0 + getD row (k - 1) 0)))
+pub raised-turn : (r last k : ℕ) (row : List ℕ) → k < length row → 1 ≤ k → k ≤ last → Raised r last k row
+    → Raised r last (k + 1) (set row k (capped (getD row k 0 + getD row (k - 1) 0)))
 raised-turn r last zero row a b c h i l = absurd (omega arith)
 raised-turn r last (suc k) row a b c h i l =
     let v : ℕ = capped (getD row (suc k) 0 + getD row (suc k - 1) 0) in
     let z : suc k - 1 ≡ k = omega arith in
     let left : getD row (suc k - 1) 0 ≡ capped (choose (suc r + k) k) = rw z (h k (omega arith) .0 (omega arith)) in
     let here : getD row (suc k) 0 ≡ capped (choose (r + suc k) (suc k)) = h (suc k) c .1 (omega arith) in (
-      (λ p. at-set (λ x. x ≡ capped (choose (suc r + i) i)) row (suc k) v i a (λ e. rw e (omega (arith, choose-step r k))) (λ n. h i l .0 (omega arith))),
-      (λ p. at-set (λ x. x ≡ capped (choose (r + i) i)) row (suc k) v i a (λ e. absurd (omega arith)) (λ n. h i l .1 (omega arith))),
+      (λ p. at-set
+          (λ x. x ≡ capped (choose (suc r + i) i))
+          row (suc k) v i a
+          (λ e. rw e (omega (arith, choose-step r k)))
+          (λ n. h i l .0 (omega arith))),
+      (λ p. at-set
+          (λ x. x ≡ capped (choose (r + i) i))
+          row (suc k) v i a
+          (λ e. absurd (omega arith))
+          (λ n. h i l .1 (omega arith))),
     )
 
-pub small-turn : (last k v : ℕ) (row : List ℕ) → k < length row → v ≤ 60001 → ((i : ℕ) → i ≤ last → getD row i 0 ≤ 60001) → (i : ℕ) → i ≤ last → getD (set row k v) i 0 ≤ 60001
+pub small-turn : (last k v : ℕ) (row : List ℕ) → k < length row → v ≤ 60001
+    → ((i : ℕ) → i ≤ last → getD row i 0 ≤ 60001) → (i : ℕ) → i ≤ last
+    → getD (set row k v) i 0 ≤ 60001
 small-turn last k v row a b h i l = at-set (λ x. x ≤ 60001) row k v i a (λ e. b) (λ n. h i l)
 
 -- the row of 0

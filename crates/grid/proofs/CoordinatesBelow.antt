@@ -33,11 +33,13 @@ at-sum [] k = omega arith
 at-sum (x ∷ a) zero = omega arith
 at-sum (x ∷ a) (suc k) = omega (arith, at-sum a k)
 
-divisions-below : (ss ds : List ℕ) → all (λ s. leb 2 s) ss ≡ true → length ds ≡ length ss → (j : ℕ) → getD ds j 0 < binomialProduct ss ds
+divisions-below : (ss ds : List ℕ) → all (λ s. leb 2 s) ss ≡ true → length ds ≡ length ss → (j : ℕ)
+    → getD ds j 0 < binomialProduct ss ds
 divisions-below [] [] h e j = omega arith
 divisions-below [] (d ∷ ds) h e j = absurd (omega arith)
 divisions-below (s ∷ ss) [] h e j = absurd (omega arith)
-divisions-below (s ∷ ss) (d ∷ ds) h e j = go j (divisions-below ss ds (and-right (leb 2 s) (all (λ s. leb 2 s) ss) h) (omega arith))
+divisions-below (s ∷ ss) (d ∷ ds) h e j =
+    go j (divisions-below ss ds (and-right (leb 2 s) (all (λ s. leb 2 s) ss) h) (omega arith))
   where
     c : ℕ
     c = choose (d + pred s) (pred s)
@@ -49,19 +51,30 @@ divisions-below (s ∷ ss) (d ∷ ds) h e j = go j (divisions-below ss ds (and-r
         subst (λ (n : ℕ). d < choose (d + n) n) w (choose-many d (pred s - 1))
 
     go : (j : ℕ) → ((j : ℕ) → getD ds j 0 < binomialProduct ss ds) → getD (d ∷ ds) j 0 < c * binomialProduct ss ds
-    go zero rest = let l : c * 1 ≤ c * binomialProduct ss ds = mul-le-mul (omega arith) (omega (arith, rest 0)) in omega (arith, many)
-    go (suc j) rest = let l : 1 * binomialProduct ss ds ≤ c * binomialProduct ss ds = mul-le-mul (omega (arith, many)) (omega arith) in omega (arith, rest j)
+    go zero rest =
+        let l : c * 1 ≤ c * binomialProduct ss ds = mul-le-mul (omega arith) (omega (arith, rest 0)) in
+        omega (arith, many)
+    go (suc j) rest =
+        let l : 1 * binomialProduct ss ds ≤ c * binomialProduct ss ds =
+        mul-le-mul (omega (arith, many)) (omega arith) in
+        omega (arith, rest j)
 
-pub division-below : (g : Grid) → all (λ s. leb 2 s) (g .sizes) ≡ true → length (g .divisions) ≡ numBlocks g → (j : ℕ) → division g j < numPoints g
+pub division-below : (g : Grid) → all (λ s. leb 2 s) (g .sizes) ≡ true → length (g .divisions) ≡ numBlocks g → (j : ℕ)
+    → division g j < numPoints g
 division-below g h e j = rw (numPoints-is g h) (divisions-below (g .sizes) (g .divisions) h e j)
 
 in-division : {ss ds y : List ℕ} → Fits ss ds y → (k : ℕ) → (j : ℕ) × (at y k ≤ getD ds j 0)
 in-division none k = (0, omega arith)
-in-division (block a l p q f) k =
-    ⊎-elim (λ (x : k < length a). (0, omega (arith, List·getD-append a l 0 k x, at-sum a k)))
-    (λ (x : length a ≤ k). let e : length a + (k - length a) ≡ k = omega arith in
-    let w = in-division f (k - length a) in (suc (w .0), omega (arith, rw e at (getD-append-add a l (k - length a) 0), w .1)))
+in-division (block a l p q f) k = ⊎-elim
+    (λ (x : k < length a). (0, omega (arith, List·getD-append a l 0 k x, at-sum a k)))
+    (λ (x : length a ≤ k).
+    let e : length a + (k - length a) ≡ k = omega arith in
+    let w = in-division f (k - length a) in
+    (suc (w .0), omega (arith, rw e at (getD-append-add a l (k - length a) 0), w .1)))
     (before-or-not k (length a))
 
-pub coordinate-below : (g : Grid) → all (λ s. leb 2 s) (g .sizes) ≡ true → length (g .divisions) ≡ numBlocks g → (y : Point) → isGridPoint g y ≡ true → (k : ℕ) → at y k < numPoints g
-coordinate-below g h e y o k = let w = in-division (fits-of g y e o) k in omega (arith, w .1, division-below g h e (w .0))
+pub coordinate-below : (g : Grid) → all (λ s. leb 2 s) (g .sizes) ≡ true → length (g .divisions) ≡ numBlocks g
+    → (y : Point) → isGridPoint g y ≡ true → (k : ℕ) → at y k < numPoints g
+coordinate-below g h e y o k =
+    let w = in-division (fits-of g y e o) k in
+    omega (arith, w .1, division-below g h e (w .0))

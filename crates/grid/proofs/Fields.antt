@@ -1,4 +1,5 @@
--- A grid that the constructor made: its fields are what the definitions say of its sizes and divisions, and their ranges. Assumes nothing.
+-- A grid that the constructor made: its fields are what the definitions say of its sizes and divisions, and their
+-- ranges. Assumes nothing.
 use mathlib.Core.List.{map}
 use mathlib.Core.Path.{_≡_, refl, sym, ap, _∙_}
 use mathlib.Core.Logic.{⊎-elim}
@@ -20,7 +21,8 @@ use Rattle.grid.proofs.Accepted.{Accepted, accepted, count-few, size-tw
 use Rattle.grid.proofs.Round.{next-low, next-previous}
 use Rattle.grid.specs.declared.Grid.{Grid as GridStruct}
 use Rattle.grid.specs.declared.Made.{Made}
-use Rattle.grid.specs.Grid.{Grid, numBlocks, numIndices, numPoints, size, division, firstIndex, blockOf, next, previous}
+use Rattle.grid.specs.Grid.{Grid, numBlocks, numIndices, numPoints, size, division, firstIndex, blockOf, next}
+use Rattle.grid.specs.Grid.{previous}
 use Rattle.grid.specs.Made.{gridOf, madeOf, shape, IsMade, padded, blockCount}
 use Rattle.grid.specs.Questions.{gridQuestions}
 
@@ -31,7 +33,8 @@ padded-at f n m i h =
     front-at (map f (upFrom 0 m)) (replicate n 0) i (rw e h) ∙ map-at f 0 m i h ∙ rw z
 
 -- numbers of the indices that are indices are below 16, and so is 0 behind them
-padded-low : (f : ℕ → ℕ) (m : ℕ) → m ≤ 16 → ((i : ℕ) → i < m → f i < m) → (h : ℕ) → getD (padded 16 (map f (upFrom 0 m))) h 0 < 16
+padded-low : (f : ℕ → ℕ) (m : ℕ) → m ≤ 16 → ((i : ℕ) → i < m → f i < m) → (h : ℕ)
+    → getD (padded 16 (map f (upFrom 0 m))) h 0 < 16
 padded-low f m few low h =
     let e : length (map f (upFrom 0 m)) ≡ m = length-map (upFrom 0 m) f ∙ length-upFrom 0 m in
     ⊎-elim (λ (l : h < m). omega (arith, padded-at f 16 m h l, low h l))
@@ -48,7 +51,8 @@ pub shape-of : (g : Grid) → length (g .divisions) ≡ numBlocks g → shape (g
 unfolding gridOf
 shape-of g e =
     let s : take (numBlocks g) (padded 6 (g .sizes)) ≡ g .sizes = front-taken (g .sizes) (replicate 6 0) in
-    let d : take (numBlocks g) (padded 6 (g .divisions)) ≡ g .divisions = rw (← e) (front-taken (g .divisions) (replicate 6 0)) in
+    let d : take (numBlocks g) (padded 6 (g .divisions)) ≡ g .divisions =
+    rw (← e) (front-taken (g .divisions) (replicate 6 0)) in
     rw (s, d)
 
 pub is-made : (g : Grid) → firstNo (gridQuestions g) ≡ 0 → IsMade (gridOf g)
@@ -97,27 +101,34 @@ module _ (s : GridStruct) (m : IsMade s) where
 
   pub made-first : (j : ℕ) → j < s .blocks → getD (s .firsts) j 0 ≡ firstIndex (shape s) j
   unfolding gridOf
-  made-first j h = ap (λ z. getD (z .firsts) j 0) (m .made) ∙ padded-at (firstIndex (shape s)) 6 (numBlocks (shape s)) j (omega (arith, made-blocks))
+  made-first j h = ap (λ z. getD (z .firsts) j 0) (m .made)
+      ∙ padded-at (firstIndex (shape s)) 6 (numBlocks (shape s)) j (omega (arith, made-blocks))
 
   pub made-count : (j : ℕ) → j < s .blocks → getD (s .counts) j 0 ≡ blockCount (shape s) j
   unfolding gridOf
-  made-count j h = ap (λ z. getD (z .counts) j 0) (m .made) ∙ padded-at (blockCount (shape s)) 6 (numBlocks (shape s)) j (omega (arith, made-blocks))
+  made-count j h = ap (λ z. getD (z .counts) j 0) (m .made)
+      ∙ padded-at (blockCount (shape s)) 6 (numBlocks (shape s)) j (omega (arith, made-blocks))
 
   pub made-block : (h : ℕ) → h < s .indices → getD (s .block) h 0 ≡ blockOf (shape s) h
   unfolding gridOf
-  made-block h l = ap (λ z. getD (z .block) h 0) (m .made) ∙ padded-at (blockOf (shape s)) 16 (numIndices (shape s)) h (omega (arith, made-indices))
+  made-block h l = ap (λ z. getD (z .block) h 0) (m .made)
+      ∙ padded-at (blockOf (shape s)) 16 (numIndices (shape s)) h (omega (arith, made-indices))
 
   pub made-previous : (h : ℕ) → h < s .indices → getD (s .previous) h 0 ≡ previous (shape s) h
   unfolding gridOf
-  made-previous h l = ap (λ z. getD (z .previous) h 0) (m .made) ∙ padded-at (previous (shape s)) 16 (numIndices (shape s)) h (omega (arith, made-indices))
+  made-previous h l = ap (λ z. getD (z .previous) h 0) (m .made)
+      ∙ padded-at (previous (shape s)) 16 (numIndices (shape s)) h (omega (arith, made-indices))
 
   pub made-next : (h : ℕ) → h < s .indices → getD (s .next) h 0 ≡ next (shape s) h
   unfolding gridOf
-  made-next h l = ap (λ z. getD (z .next) h 0) (m .made) ∙ padded-at (next (shape s)) 16 (numIndices (shape s)) h (omega (arith, made-indices))
+  made-next h l = ap (λ z. getD (z .next) h 0) (m .made)
+      ∙ padded-at (next (shape s)) 16 (numIndices (shape s)) h (omega (arith, made-indices))
 
   -- their ranges
   pub blocks-range : (1 ≤ s .blocks) × (s .blocks ≤ 6)
-  blocks-range = let a = made-accepted in (omega (arith, made-blocks, a .someBlock), omega (arith, made-blocks, a .fewBlocks))
+  blocks-range =
+      let a = made-accepted in
+      (omega (arith, made-blocks, a .someBlock), omega (arith, made-blocks, a .fewBlocks))
 
   pub indices-few : s .indices ≤ 16
   indices-few = omega (arith, made-indices, made-accepted .fewIndices)
@@ -135,15 +146,21 @@ module _ (s : GridStruct) (m : IsMade s) where
   division-range j h =
       let d = division (shape s) j in
       let n = pred (size (shape s) j) in (
-        leb-true 1 d (at-all (λ d. leb 1 d) (shape s .divisions) j (made-accepted .divisionsOne) (omega (arith, made-blocks, made-accepted .sameNumber))),
-        omega (arith, choose-one d, choose-grows d d 1 n (omega arith) (omega (arith, size-range j h .0)), count-range j h),
+        leb-true 1 d (at-all (λ d. leb 1 d) (shape s .divisions) j (made-accepted .divisionsOne)
+            (omega (arith, made-blocks, made-accepted .sameNumber))),
+        omega (
+          arith,
+          choose-one d,
+          choose-grows d d 1 n (omega arith) (omega (arith, size-range j h .0)),
+          count-range j h,
+        ),
       )
 
   pub previous-low : (h : ℕ) → getD (s .previous) h 0 < 16
   unfolding gridOf
-  previous-low h =
-      rw (ap (λ z. getD (z .previous) h 0) (m .made))
-      (padded-low (previous (shape s)) (numIndices (shape s)) (made-accepted .fewIndices) (λ i l. next-previous (shape s) i l .1) h)
+  previous-low h = rw (ap (λ z. getD (z .previous) h 0) (m .made))
+      (padded-low (previous (shape s)) (numIndices (shape s)) (made-accepted .fewIndices)
+      (λ i l. next-previous (shape s) i l .1) h)
 
   pub following-low : (h : ℕ) → getD (s .next) h 0 < 16
   unfolding gridOf

@@ -1,4 +1,5 @@
--- Sizes and divisions of the blocks so far: the block that a loop finds, and the product that it makes. Assumes nothing.
+-- Sizes and divisions of the blocks so far: the block that a loop finds, and the product that it makes.
+-- Assumes nothing.
 use mathlib.Core.List.{List, [], _∷_}
 use mathlib.Core.Path.{_≡_, sym}
 use Prim.Native.Nat.{ℕ, zero, suc, _+_, _-_, _*_, pred, _≤_, _<_}
@@ -20,17 +21,20 @@ some-left (s ∷ ss) zero left h = omega arith
 some-left (s ∷ ss) (suc j) left h = omega (arith, some-left ss j left h)
 
 pub find-turn : (ss : List ℕ) (j left : ℕ) → left < sum (drop j ss) → getD ss j 0 ≤ left
-    → (left - getD ss j 0 < sum (drop (j + 1) ss)) × (j + 1 + blockIn (drop (j + 1) ss) (left - getD ss j 0) ≡ j + blockIn (drop j ss) left)
+    → (left - getD ss j 0 < sum (drop (j + 1) ss))
+    × (j + 1 + blockIn (drop (j + 1) ss) (left - getD ss j 0) ≡ j + blockIn (drop j ss) left)
 find-turn ss j left h l = rw (add-one j) (go ss j left h l)
   where
     go : (ss : List ℕ) (j left : ℕ) → left < sum (drop j ss) → getD ss j 0 ≤ left
-        → (left - getD ss j 0 < sum (drop (suc j) ss)) × (suc j + blockIn (drop (suc j) ss) (left - getD ss j 0) ≡ j + blockIn (drop j ss) left)
+        → (left - getD ss j 0 < sum (drop (suc j) ss))
+        × (suc j + blockIn (drop (suc j) ss) (left - getD ss j 0) ≡ j + blockIn (drop j ss) left)
     go [] zero left h l = absurd (omega arith)
     go [] (suc j) left h l = absurd (omega arith)
     go (s ∷ ss) zero left h l = (omega arith, rw (le-ltb left s l) (omega arith))
     go (s ∷ ss) (suc j) left h l = let i = go ss j left h l in (i .0, omega (arith, i .1))
 
-pub find-stop : (ss : List ℕ) (j left : ℕ) → left < sum (drop j ss) → left < getD ss j 0 → j ≡ j + blockIn (drop j ss) left
+pub find-stop : (ss : List ℕ) (j left : ℕ) → left < sum (drop j ss) → left < getD ss j 0
+    → j ≡ j + blockIn (drop j ss) left
 find-stop [] zero left h l = absurd (omega arith)
 find-stop [] (suc j) left h l = absurd (omega arith)
 find-stop (s ∷ ss) zero left h l = rw (lt-ltb left s l)
@@ -38,11 +42,13 @@ find-stop (s ∷ ss) (suc j) left h l = omega (arith, find-stop ss j left h l)
 
 -- the product of the binomials of the first j blocks
 pub product-next : (ss ds : List ℕ) (j : ℕ) → j < length ss → length ds ≡ length ss
-    → binomialProduct (take (j + 1) ss) (take (j + 1) ds) ≡ binomialProduct (take j ss) (take j ds) * choose (getD ds j 0 + pred (getD ss j 0)) (pred (getD ss j 0))
+    → binomialProduct (take (j + 1) ss) (take (j + 1) ds)
+    ≡ binomialProduct (take j ss) (take j ds) * choose (getD ds j 0 + pred (getD ss j 0)) (pred (getD ss j 0))
 product-next ss ds j h e = rw (add-one j) (go ss ds j h e)
   where
     go : (ss ds : List ℕ) (j : ℕ) → j < length ss → length ds ≡ length ss
-        → binomialProduct (take (suc j) ss) (take (suc j) ds) ≡ binomialProduct (take j ss) (take j ds) * choose (getD ds j 0 + pred (getD ss j 0)) (pred (getD ss j 0))
+        → binomialProduct (take (suc j) ss) (take (suc j) ds)
+        ≡ binomialProduct (take j ss) (take j ds) * choose (getD ds j 0 + pred (getD ss j 0)) (pred (getD ss j 0))
     go [] ds j h e = absurd (omega arith)
     go (s ∷ ss) [] j h e = absurd (omega arith)
     go (s ∷ ss) (d ∷ ds) zero h e = omega arith
@@ -54,7 +60,8 @@ product-positive (s ∷ ss) [] e = absurd (omega arith)
 product-positive (s ∷ ss) (d ∷ ds) e = one-le-mul (choose-positive d (pred s)) (product-positive ss ds (omega arith))
 
 -- the first blocks have no more points than all
-pub product-below : (ss ds : List ℕ) (j : ℕ) → length ds ≡ length ss → binomialProduct (take j ss) (take j ds) ≤ binomialProduct ss ds
+pub product-below : (ss ds : List ℕ) (j : ℕ) → length ds ≡ length ss
+    → binomialProduct (take j ss) (take j ds) ≤ binomialProduct ss ds
 product-below ss ds zero e = product-positive ss ds e
 product-below [] ds (suc j) e = omega arith
 product-below (s ∷ ss) [] (suc j) e = absurd (omega arith)
@@ -65,5 +72,6 @@ pub count-below : (ss ds : List ℕ) (j : ℕ) → j < length ss → length ds �
     → choose (getD ds j 0 + pred (getD ss j 0)) (pred (getD ss j 0)) ≤ binomialProduct ss ds
 count-below ss ds j h e =
     let n = choose (getD ds j 0 + pred (getD ss j 0)) (pred (getD ss j 0)) in
-    let p : 1 * n ≤ binomialProduct (take j ss) (take j ds) * n = mul-le-mul (product-positive (take j ss) (take j ds) (simp length-take (omega arith))) (omega arith) in
+    let p : 1 * n ≤ binomialProduct (take j ss) (take j ds) * n =
+    mul-le-mul (product-positive (take j ss) (take j ds) (simp length-take (omega arith))) (omega arith) in
     omega (arith, product-next ss ds j h e, product-below ss ds (j + 1) e)

@@ -18,7 +18,8 @@ use Rattle.grid.specs.Grid.{Grid, numBlocks, numIndices, firstIndex, siz
 abbrev pub sized : List ℕ → List ℕ → Grid
 sized ss ds = record { sizes = ss; divisions = ds }
 
-pub next-first : (s : ℕ) (ss ds : List ℕ) (h : ℕ) → h < s → next (sized (s ∷ ss) ds) h ≡ cond (eqb (suc h) (0 + s)) 0 (suc h)
+pub next-first : (s : ℕ) (ss ds : List ℕ) (h : ℕ) → h < s
+    → next (sized (s ∷ ss) ds) h ≡ cond (eqb (suc h) (0 + s)) 0 (suc h)
 unfolding next
 next-first s ss ds h c = rw (lt-ltb h s c)
 
@@ -28,9 +29,9 @@ next-later s ss ds es k =
     let z : s + k - s ≡ k = omega arith in
     let f : ℕ = sum (take (blockIn ss k) ss) in
     let n : ℕ = getD ss (blockIn ss k) 0 in
-    let t : eqb (suc (s + k)) (s + f + n) ≡ eqb (suc k) (f + n) =
-    both _ _ (λ e. eq-eqb (suc k) (f + n) (let w : suc (s + k) ≡ s + f + n = eqb-true _ _ e in omega arith)) (λ e. eq-eqb (suc (s + k)) (s + f + n) (let w : suc k ≡ f + n = eqb-true _ _ e in omega arith))
-    in
+    let t : eqb (suc (s + k)) (s + f + n) ≡ eqb (suc k) (f + n) = both _ _
+    (λ e. eq-eqb (suc k) (f + n) (let w : suc (s + k) ≡ s + f + n = eqb-true _ _ e in omega arith))
+    (λ e. eq-eqb (suc (s + k)) (s + f + n) (let w : suc k ≡ f + n = eqb-true _ _ e in omega arith)) in
     rw (le-ltb (s + k) s (omega arith), z, t) (go (eqb (suc k) (f + n)) f)
   where
     go : (b : Bool) (f : ℕ) → cond b (s + f) (suc (s + k)) ≡ s + cond b f (suc k)
@@ -38,10 +39,15 @@ next-later s ss ds es k =
     go false f = omega arith
 
 -- an index and its block
-pub find-block : (ss : List ℕ) (h : ℕ) → h < sum ss → (j : ℕ) × (i : ℕ) × (j < length ss) × (i < getD ss j 0) × (h ≡ sum (take j ss) + i)
+pub find-block : (ss : List ℕ) (h : ℕ) → h < sum ss
+    → (j : ℕ) × (i : ℕ) × (j < length ss) × (i < getD ss j 0) × (h ≡ sum (take j ss) + i)
 find-block [] h c = absurd (omega arith)
-find-block (s ∷ ss) h c =
-    ⊎-elim (λ l. (0, h, omega arith, l, omega arith)) (λ l. let r = find-block ss (h - s) (omega arith) in (suc (r .0), r .1, omega (arith, r .2), r .3, omega (arith, r .4))) (before-or-not h s)
+find-block (s ∷ ss) h c = ⊎-elim
+    (λ l. (0, h, omega arith, l, omega arith))
+    (λ l.
+    let r = find-block ss (h - s) (omega arith) in
+    (suc (r .0), r .1, omega (arith, r .2), r .3, omega (arith, r .4)))
+    (before-or-not h s)
 
 pub block-at : (ss : List ℕ) (j i : ℕ) → i < getD ss j 0 → blockIn ss (sum (take j ss) + i) ≡ j
 block-at [] j i c = absurd (omega arith)
@@ -66,7 +72,10 @@ next-at g j i c =
 module _ (g : Grid) where
   pub next-round : (j i : ℕ) → suc i ≡ size g j → next g (firstIndex g j + i) ≡ firstIndex g j
   unfolding next
-  next-round j i c = rw (block-at (g .sizes) j i (omega arith), eq-eqb (suc (firstIndex g j + i)) (firstIndex g j + size g j) (omega arith))
+  next-round j i c = rw (
+    block-at (g .sizes) j i (omega arith),
+    eq-eqb (suc (firstIndex g j + i)) (firstIndex g j + size g j) (omega arith),
+  )
 
   pub previous-at : (j i : ℕ) → suc i < size g j → previous g (firstIndex g j + suc i) ≡ firstIndex g j + i
   unfolding previous
@@ -96,8 +105,11 @@ module _ (g : Grid) where
   pub next-previous : (h : ℕ) → h < numIndices g → (next g (previous g h) ≡ h) × (previous g h < numIndices g)
   next-previous h c = go (seat h c)
     where
-      at-seat : (j i : ℕ) → i < size g j → (next g (previous g (firstIndex g j + i)) ≡ firstIndex g j + i) × (previous g (firstIndex g j + i) < numIndices g)
-      at-seat j zero l = rw (previous-round j l, next-round j (pred (size g j)) (omega arith)) (omega arith, omega (arith, block-fits (g .sizes) j))
+      at-seat : (j i : ℕ) → i < size g j
+          → (next g (previous g (firstIndex g j + i)) ≡ firstIndex g j + i)
+          × (previous g (firstIndex g j + i) < numIndices g)
+      at-seat j zero l = rw (previous-round j l, next-round j (pred (size g j)) (omega arith))
+          (omega arith, omega (arith, block-fits (g .sizes) j))
       at-seat j (suc i) l = rw (previous-at j i l, next-at g j i l) (refl, omega (arith, block-fits (g .sizes) j))
 
       go : Seat h → (next g (previous g h) ≡ h) × (previous g h < numIndices g)
@@ -107,20 +119,24 @@ module _ (g : Grid) where
   next-low h c = go (seat h c)
     where
       at-seat : (j i : ℕ) → i < size g j → next g (firstIndex g j + i) < numIndices g
-      at-seat j i l =
-          ⊎-elim (λ (m : suc i < size g j). rw (next-at g j i m) (omega (arith, block-fits (g .sizes) j)))
-          (λ (m : size g j ≤ suc i). rw (next-round j i (omega arith)) (omega (arith, block-fits (g .sizes) j))) (before-or-not (suc i) (size g j))
+      at-seat j i l = ⊎-elim
+          (λ (m : suc i < size g j). rw (next-at g j i m) (omega (arith, block-fits (g .sizes) j)))
+          (λ (m : size g j ≤ suc i). rw (next-round j i (omega arith)) (omega (arith, block-fits (g .sizes) j)))
+          (before-or-not (suc i) (size g j))
 
       go : Seat h → next g h < numIndices g
       go s = rw (s .is) (at-seat (s .j) (s .i) (s .inside))
 
 -- an index stands between the first of its block and the first of the next
-pub block-spans : (ss : List ℕ) (h : ℕ) → h < sum ss → (blockIn ss h < length ss) × (sum (take (blockIn ss h) ss) ≤ h) × (h < sum (take (blockIn ss h) ss) + getD ss (blockIn ss h) 0)
+pub block-spans : (ss : List ℕ) (h : ℕ) → h < sum ss
+    → (blockIn ss h < length ss) × (sum (take (blockIn ss h) ss) ≤ h)
+    × (h < sum (take (blockIn ss h) ss) + getD ss (blockIn ss h) 0)
 block-spans ss h c =
     let r = find-block ss h c in
     let e : blockIn ss h ≡ r .0 = ap (blockIn ss) (r .4) ∙ block-at ss (r .0) (r .1) (r .3) in
     rw e (r .2, omega (arith, r .4), omega (arith, r .3, r .4))
 
 -- a size of sizes that are each at least 2 and at most 16 in all
-pub size-range : (ss : List ℕ) (j : ℕ) → all (λ s. leb 2 s) ss ≡ true → sum ss ≤ 16 → j < length ss → (2 ≤ getD ss j 0) × (getD ss j 0 ≤ 16)
+pub size-range : (ss : List ℕ) (j : ℕ) → all (λ s. leb 2 s) ss ≡ true → sum ss ≤ 16 → j < length ss
+    → (2 ≤ getD ss j 0) × (getD ss j 0 ≤ 16)
 size-range ss j a b c = (leb-true 2 (getD ss j 0) (at-all (λ s. leb 2 s) ss j a c), omega (arith, block-fits ss j))

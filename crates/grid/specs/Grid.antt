@@ -70,7 +70,8 @@ at y h = getD y h 0
 
 -- "A grid point y has m whole numbers, none negative, and those of block j add up to d_j"
 unfoldable pub isGridPoint : Grid → Point → Bool
-isGridPoint g y = eqb (length y) (numIndices g) && all (λ j. eqb (sum (map (at y) (indicesOf g j))) (division g j)) (blocks g)
+isGridPoint g y =
+    eqb (length y) (numIndices g) && all (λ j. eqb (sum (map (at y) (indicesOf g j))) (division g j)) (blocks g)
 
 -- the lists of s numbers that add up to d, "in rising lexicographic order, first coordinate first"
 abbrev pub blockPoints : ℕ → ℕ → List Point

@@ -8,7 +8,8 @@ use lib.ListN.{take, replicate}
 use Rattle.combinatorics.specs.Counting.{choose}
 use Rattle.combinatorics.specs.Front.{front}
 use Rattle.questions.specs.Questions.{firstNo}
-use Rattle.grid.specs.Grid.{Grid, numBlocks, numIndices, numPoints, size, division, firstIndex, blocks, indices, blockOf, next, previous}
+use Rattle.grid.specs.Grid.{Grid, numBlocks, numIndices, numPoints, size, division, firstIndex, blocks, indices}
+use Rattle.grid.specs.Grid.{blockOf, next, previous}
 use Rattle.grid.specs.Questions.{gridQuestions}
 use Rattle.grid.specs.declared.Grid.{Grid as GridStruct}
 use Rattle.grid.specs.declared.Made.{Made}
@@ -52,7 +53,9 @@ noGrid = record {
 
 -- the constructor's answer: the number of the first of questions 1 to 4 that is answered no, or 0 and the grid
 unfoldable pub madeOf : Grid → Made
-madeOf g = let number = firstNo (gridQuestions g) in record { code = number; grid = cond (eqb number 0) (gridOf g) noGrid }
+madeOf g =
+    let number = firstNo (gridQuestions g) in
+    record { code = number; grid = cond (eqb number 0) (gridOf g) noGrid }
 
 -- the grid that a struct stands for
 abbrev pub shape : GridStruct → Grid

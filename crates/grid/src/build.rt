@@ -73,7 +73,8 @@ fn mark_blocks(
     requires { ⌜ firstNo (gridQuestions (lent (now sizes) (now divisions))) ≡ 0 ⌝ }
     requires { ⌜ BlocksUnmarked (now «own_sizes») (now «own_divisions») (now firsts) (now counts) ⌝ }
     ensures { λ _. let g = lent (now (sizes .entry)) (now (divisions .entry)) in
-        ⌜ BlocksMarked g (now («own_sizes» .exit)) (now («own_divisions» .exit)) (now (firsts .exit)) (now (counts .exit)) ⌝ }
+        ⌜ BlocksMarked g (now («own_sizes» .exit)) (now («own_divisions» .exit)) (now (firsts .exit))
+        (now (counts .exit)) ⌝ }
 {
     let mut j: usize = 0;
     while j < sizes.len() {

@@ -1,4 +1,5 @@
--- Document 01: "Numbers are decimal and multi-byte fields little-endian". A byte that is not there counts as 0. Assumes nothing.
+-- Document 01: "Numbers are decimal and multi-byte fields little-endian". A byte that is not there counts as 0.
+-- Assumes nothing.
 use mathlib.Core.List.{List, [], _∷_, map}
 use Prim.Native.Nat.{ℕ, zero, suc, _+_, _*_, _/_, _%_}
 use lib.ListN.{getD}

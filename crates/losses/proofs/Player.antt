@@ -1,4 +1,5 @@
--- What is written of a player at a point, out of the losses of the player's strategies, and of one player after the other. Assumes nothing.
+-- What is written of a player at a point, out of the losses of the player's strategies, and of one player after the
+-- other. Assumes nothing.
 use mathlib.Core.List.{List, _++_, map}
 use mathlib.Core.Path.{_≡_, sym, ap, _∙_}
 use Prim.Native.Nat.{ℕ, _+_, _-_, _*_, _≤_, _<_}
@@ -25,8 +26,9 @@ use Rattle.losses.specs.Table.{IsTable}
 use Rattle.points_in_order.specs.Lent.{PointWithFirsts}
 use Rattle.losses.specs.Weights.{strategyLosses}
 
-module _ (g : Grid) (firsts losses : List ℕ) (y : Point) (d : PointWithFirsts g firsts y) (j : ℕ) (h : j < numBlocks g) (values : List ℕ)
-    (room : numIndices g ≤ length values) (stand : StrategiesStand g losses y values) (first s : ℕ) (e : first ≡ firstIndex g j) (f : s ≡ size g j) where
+module _ (g : Grid) (firsts losses : List ℕ) (y : Point) (d : PointWithFirsts g firsts y) (j : ℕ) (h : j < numBlocks g)
+    (values : List ℕ) (room : numIndices g ≤ length values) (stand : StrategiesStand g losses y values) (first s : ℕ)
+    (e : first ≡ firstIndex g j) (f : s ≡ size g j) where
   -- the parts of the point and of the losses that are lent
   abbrev own : List ℕ
   own = take (first + s - first) (drop first y)
@@ -46,9 +48,9 @@ module _ (g : Grid) (firsts losses : List ℕ) (y : Point) (d : PointWithFirsts 
       rw z (length-take-le s (drop first values) (omega (arith, length-drop first values, block-fits (g .sizes) j)) ∙ f)
 
   part-is : part ≡ strategyLosses g y j (lossesOf g losses j)
-  part-is =
-      ext-getD 0 part (strategyLosses g y j (lossesOf g losses j)) (part-length ∙ sym (length-weighed (size g j) _ _)) (λ i b.
-      getD-take (first + s - first) (drop first values) i 0 (omega (arith, part-length))
+  part-is = ext-getD 0 part (strategyLosses g y j (lossesOf g losses j))
+      (part-length ∙ sym (length-weighed (size g j) _ _))
+      (λ i b. getD-take (first + s - first) (drop first values) i 0 (omega (arith, part-length))
       ∙ getD-drop first values i 0
       ∙ ap (λ (n : ℕ). getD values (n + i) 0) e
       ∙ stand j i h (omega (arith, part-length)))
@@ -69,15 +71,21 @@ module _ (g : Grid) (firsts losses : List ℕ) (y : Point) (d : PointWithFirsts 
   pub player-ends : first + length own ≤ numIndices g
   player-ends = omega (arith, lent-length, block-fits (g .sizes) j)
 
-  pub player-expected : (old : List ℕ) → paste old first (replicate (length own) (dot own part)) (length own) ≡ withBlock g j (playerLoss g losses y) old
+  pub player-expected : (old : List ℕ)
+      → paste old first (replicate (length own) (dot own part)) (length own) ≡ withBlock g j (playerLoss g losses y) old
   player-expected old = rw (part-is, lent-is, block-length g y j, e, block-expected g losses y j)
 
-  pub player-replaced : (old : List ℕ) → paste old first (map (λ v. division g j * v) (take (length own) part)) (length own) ≡ withBlock g j (replacedLoss g losses y) old
+  pub player-replaced : (old : List ℕ)
+      → paste old first (map (λ v. division g j * v) (take (length own) part)) (length own)
+      ≡ withBlock g j (replacedLoss g losses y) old
   player-replaced old = rw (whole-part, lent-length, e, block-replaced g losses y j)
 
--- the values of f at the indices of the blocks before block j stand at the front: those of block j are written behind them
+-- the values of f at the indices of the blocks before block j stand at the front: those of block j are written
+-- behind them
 pub filled-turn : (f : ℕ → ℕ) (ss old : List ℕ) (j : ℕ) → j < length ss → sum ss ≤ length old
-    → paste (front (map f (upFrom 0 (sum (take j ss)))) old) (sum (take j ss)) (map f (upFrom (sum (take j ss)) (getD ss j 0))) (getD ss j 0) ≡ front (map f (upFrom 0 (sum (take (j + 1) ss)))) old
+    → paste (front (map f (upFrom 0 (sum (take j ss)))) old) (sum (take j ss))
+    (map f (upFrom (sum (take j ss)) (getD ss j 0))) (getD ss j 0)
+    ≡ front (map f (upFrom 0 (sum (take (j + 1) ss)))) old
 filled-turn f ss old j h few =
     let b : ℕ = sum (take j ss) in
     let s : ℕ = getD ss j 0 in

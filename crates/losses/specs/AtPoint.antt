@@ -1,4 +1,5 @@
--- What is known where the losses at a point are worked out. The promises of a labelling do not cite it. Assumes nothing.
+-- What is known where the losses at a point are worked out. The promises of a labelling do not cite it.
+-- Assumes nothing.
 use mathlib.Core.Bool.{true}
 use mathlib.Core.List.{List, map}
 use mathlib.Core.Path.{_≡_}

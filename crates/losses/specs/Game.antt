@@ -1,5 +1,5 @@
--- Document 01, "Games". The players are the grid's blocks and their strategies the blocks' indices, which count from 0 here.
--- Losses are multiplied by the product of all divisions, so that they are whole numbers. Assumes nothing.
+-- Document 01, "Games". The players are the grid's blocks and their strategies the blocks' indices, which count from 0
+-- here. Losses are multiplied by the product of all divisions, so that they are whole numbers. Assumes nothing.
 use mathlib.Core.Bool.{not, cond}
 use mathlib.Core.List.{List, [], _∷_, map}
 use Prim.Native.Nat.{ℕ, suc, _+_, _*_}
@@ -47,9 +47,11 @@ chance [] ks = 1
 chance (x ∷ xs) [] = 1
 chance (x ∷ xs) (k ∷ ks) = at x k * chance xs ks
 
--- "p_j .. player j's expected loss": the sum over all profiles, in the order of the loss table, of the product of the mixes times the loss
+-- "p_j .. player j's expected loss": the sum over all profiles, in the order of the loss table, of the product of the
+-- mixes times the loss
 unfoldable pub expectedLoss : Grid → List ℕ → Point → ℕ → ℕ
-expectedLoss g losses y j = dot (map (chance (map (mix g y) (ownFirst g j))) (profiles (map (size g) (ownFirst g j)))) (lossesOf g losses j)
+expectedLoss g losses y j =
+    dot (map (chance (map (mix g y) (ownFirst g j))) (profiles (map (size g) (ownFirst g j)))) (lossesOf g losses j)
 
 -- "strategy h replaces the mix": the player of h has d_j at h and 0 at the other strategies
 unfoldable pub replaced : Grid → Point → ℕ → Point

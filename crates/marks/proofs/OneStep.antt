@@ -1,4 +1,5 @@
--- In a grid of one block: the position of the point that has come in, by the step to it and by the step from it. Assumes nothing.
+-- In a grid of one block: the position of the point that has come in, by the step to it and by the step from it.
+-- Assumes nothing.
 use mathlib.Core.Bool.{true, false, _||_, cond}
 use mathlib.Core.List.{List}
 use mathlib.Core.Logic.{⊎-elim}
@@ -22,9 +23,15 @@ use Rattle.marks.specs.Reading.{CanWeigh, FallsBy, fallsFrom, fallsTo, o
 use Rattle.marks.specs.declared.one_step.Found.the-variants.{At, Nothing}
 
 -- a step that lowers the position
-module _ (g : GridStruct) (made : IsMade g) (one : g .blocks ≡ 1) (tails : List ℕ) (a : State) (j lag : ℕ) (most : lag ≤ 1) (F : Falling (shape g) tails a j lag) where
-  falls : Falls (shape g) (pointOn (shape g) a j) (pointOn (shape g) a (suc j)) (stepAt a j) (sourceAt a j) (tailBy tails (a .coefficients) (stepAt a j) lag)
-  falls = let e : tailFrom (shape g) (pointOn (shape g) a j) (stepAt a j) ≡ tailBy tails (a .coefficients) (stepAt a j) lag = omega (arith, F .tail) in rw e at (F .falls)
+module _ (g : GridStruct) (made : IsMade g) (one : g .blocks ≡ 1) (tails : List ℕ) (a : State) (j lag : ℕ)
+    (most : lag ≤ 1) (F : Falling (shape g) tails a j lag) where
+  falls : Falls (shape g) (pointOn (shape g) a j) (pointOn (shape g) a (suc j)) (stepAt a j) (sourceAt a j)
+      (tailBy tails (a .coefficients) (stepAt a j) lag)
+  falls =
+      let e : tailFrom (shape g) (pointOn (shape g) a j) (stepAt a j)
+      ≡ tailBy tails (a .coefficients) (stepAt a j) lag =
+      omega (arith, F .tail) in
+      rw e at (F .falls)
 
   pub can-weigh : CanWeigh g tails (a .coefficients) (stepAt a j) (sourceAt a j) lag
   can-weigh = record {
@@ -41,7 +48,8 @@ module _ (g : GridStruct) (made : IsMade g) (one : g .blocks ≡ 1) (tails : Lis
   step-falls f law = law _ _ falls
 
 -- the point that has come in
-module _ (g : GridStruct) (made : IsMade g) (one : g .blocks ≡ 1) (tails : List ℕ) (a : State) (B : FallsBeside (shape g) tails a) where
+module _ (g : GridStruct) (made : IsMade g) (one : g .blocks ≡ 1) (tails : List ℕ) (a : State)
+    (B : FallsBeside (shape g) tails a) where
   -- how many steps before it have gone round the block, by the mark of point i beside it
   abbrev pub lagBy : ℕ → ℕ
   lagBy i = cond (ltb 0 (a .active)) (cond (ltb (positionAt a 0) (positionAt a i)) 1 0) 0
@@ -50,26 +58,34 @@ module _ (g : GridStruct) (made : IsMade g) (one : g .blocks ≡ 1) (tails : Lis
     pub from-near : Falling (shape g) tails a (a .active - 1) (lagBy (a .active - 1))
     from-near = rw (lt-ltb 0 (a .active) more) (B .fromNear more before)
 
-    pub after-near : lagBy (a .active - 1) ≤ 1 → (f : ℕ) → FallsBy g tails (a .coefficients) (stepAt a (a .active - 1)) (sourceAt a (a .active - 1)) (lagBy (a .active - 1)) f
+    pub after-near : lagBy (a .active - 1) ≤ 1 → (f : ℕ)
+        → FallsBy g tails (a .coefficients) (stepAt a (a .active - 1)) (sourceAt a (a .active - 1))
+        (lagBy (a .active - 1)) f
         → positionAt a (a .active - 1) ≡ position (shape g) (pointOn (shape g) a (a .active)) + f
     after-near most f h =
         let z : suc (a .active - 1) ≡ a .active = omega arith in
-        B .nearMark more ∙ (rw z at (step-falls g made one tails a (a .active - 1) (lagBy (a .active - 1)) most from-near f h))
+        B .nearMark more
+        ∙ (rw z at (step-falls g made one tails a (a .active - 1) (lagBy (a .active - 1)) most from-near f h))
 
   module _ (low : a .active < length (a .order)) (before : sourceAt a (a .active) < stepAt a (a .active)) where
     pub to-far : Falling (shape g) tails a (a .active) (lagBy (suc (a .active)))
     to-far = B .toFar low before
 
-    pub before-far : lagBy (suc (a .active)) ≤ 1 → (f : ℕ) → FallsBy g tails (a .coefficients) (stepAt a (a .active)) (sourceAt a (a .active)) (lagBy (suc (a .active))) f
+    pub before-far : lagBy (suc (a .active)) ≤ 1 → (f : ℕ)
+        → FallsBy g tails (a .coefficients) (stepAt a (a .active)) (sourceAt a (a .active)) (lagBy (suc (a .active))) f
         → position (shape g) (pointOn (shape g) a (a .active)) ≡ positionAt a (suc (a .active)) + f
-    before-far most f h = rw (B .farMark low) (step-falls g made one tails a (a .active) (lagBy (suc (a .active))) most to-far f h)
+    before-far most f h =
+        rw (B .farMark low) (step-falls g made one tails a (a .active) (lagBy (suc (a .active))) most to-far f h)
 
     pub far-low : position (shape g) (pointOn (shape g) a (a .active)) ≤ 60000
-    far-low = let w = made-accepted g made in omega (arith, position-below (shape g) _ (w .sameNumber) (to-far .falls .here), w .fewPoints)
+    far-low =
+        let w = made-accepted g made in
+        omega (arith, position-below (shape g) _ (w .sameNumber) (to-far .falls .here), w .fewPoints)
 
 -- the answer, where one of the two steps takes from an index before its own, and where neither does
 module _ (g : Grid) (a : State) where
-  pub found-near : (n : ℕ) → 0 < a .active → sourceAt a (a .active - 1) < stepAt a (a .active - 1) → n ≡ position g (pointOn g a (a .active)) → At n ≡ oneStep g a
+  pub found-near : (n : ℕ) → 0 < a .active → sourceAt a (a .active - 1) < stepAt a (a .active - 1)
+      → n ≡ position g (pointOn g a (a .active)) → At n ≡ oneStep g a
   unfolding oneStep
   found-near n l b e = rw (lt-ltb 0 (a .active) l, lt-ltb _ _ b, e)
 
@@ -78,16 +94,21 @@ module _ (g : Grid) (a : State) where
   NotTo = fallsTo a ≡ false
 
   pub not-to : (0 < a .active → stepAt a (a .active - 1) ≤ sourceAt a (a .active - 1)) → NotTo
-  not-to h =
-      ⊎-elim (λ (l : 0 < a .active). rw (lt-ltb 0 (a .active) l, le-ltb (sourceAt a (a .active - 1)) (stepAt a (a .active - 1)) (h l)))
-      (λ (l : a .active ≤ 0). rw (le-ltb 0 (a .active) l)) (before-or-not 0 (a .active))
+  not-to h = ⊎-elim
+      (λ (l : 0 < a .active).
+      rw (lt-ltb 0 (a .active) l, le-ltb (sourceAt a (a .active - 1)) (stepAt a (a .active - 1)) (h l)))
+      (λ (l : a .active ≤ 0). rw (le-ltb 0 (a .active) l))
+      (before-or-not 0 (a .active))
 
   pub not-from : (a .active < length (a .order) → stepAt a (a .active) ≤ sourceAt a (a .active)) → fallsFrom a ≡ false
-  not-from h =
-      ⊎-elim (λ (l : a .active < length (a .order)). rw (lt-ltb (a .active) (length (a .order)) l, le-ltb (sourceAt a (a .active)) (stepAt a (a .active)) (h l)))
-      (λ (l : length (a .order) ≤ a .active). rw (le-ltb (a .active) (length (a .order)) l)) (before-or-not (a .active) (length (a .order)))
+  not-from h = ⊎-elim
+      (λ (l : a .active < length (a .order)).
+      rw (lt-ltb (a .active) (length (a .order)) l, le-ltb (sourceAt a (a .active)) (stepAt a (a .active)) (h l)))
+      (λ (l : length (a .order) ≤ a .active). rw (le-ltb (a .active) (length (a .order)) l))
+      (before-or-not (a .active) (length (a .order)))
 
-  pub found-far : (n : ℕ) → NotTo → a .active < length (a .order) → sourceAt a (a .active) < stepAt a (a .active) → n ≡ position g (pointOn g a (a .active)) → At n ≡ oneStep g a
+  pub found-far : (n : ℕ) → NotTo → a .active < length (a .order) → sourceAt a (a .active) < stepAt a (a .active)
+      → n ≡ position g (pointOn g a (a .active)) → At n ≡ oneStep g a
   unfolding oneStep
   found-far n t l b e = rw (t, lt-ltb (a .active) (length (a .order)) l, lt-ltb _ _ b, e)
 
@@ -98,6 +119,12 @@ module _ (g : Grid) (a : State) where
   -- a position that was found is the point's
   pub one-step-is : (n : ℕ) → At n ≡ oneStep g a → n ≡ position g (pointOn g a (a .active))
   unfolding oneStep
-  one-step-is n e =
-      ⊎-elim (λ (t : (fallsTo a || fallsFrom a) ≡ true). let z : At n ≡ At (position g (pointOn g a (a .active))) = rw t at e in cc)
-      (λ (f : (fallsTo a || fallsFrom a) ≡ false). let z : At n ≡ Nothing = rw f at e in let y : _≡_ {A = ℕ} 0 1 = cc in absurd (omega arith)) (true-or-false (fallsTo a || fallsFrom a))
+  one-step-is n e = ⊎-elim
+      (λ (t : (fallsTo a || fallsFrom a) ≡ true).
+      let z : At n ≡ At (position g (pointOn g a (a .active))) = rw t at e in
+      cc)
+      (λ (f : (fallsTo a || fallsFrom a) ≡ false).
+      let z : At n ≡ Nothing = rw f at e in
+      let y : _≡_ {A = ℕ} 0 1 = cc in
+      absurd (omega arith))
+      (true-or-false (fallsTo a || fallsFrom a))

@@ -1,5 +1,5 @@
--- The reading of a mark: a label by its position in the table, the point by its steps, and its position by the other corners of a square.
--- Assumes nothing.
+-- The reading of a mark: a label by its position in the table, the point by its steps, and its position by the other
+-- corners of a square. Assumes nothing.
 use mathlib.Core.Bool.{Bool, true, false, not, _&&_, _||_}
 use mathlib.Core.List.{List, []}
 use mathlib.Core.Logic.{_⊎_, inl, inr, ⊎-elim}
@@ -49,20 +49,31 @@ module _ (g : GridStruct) (binomials table : List ℕ) (R : Readable g binomials
 -- the tests mean what they say
 pub between-means : (s : Status) → isBetween s ≡ true → (s .rule ≡ 1) × (0 < s .active) × (s .active < s .count)
 between-means s e =
-    let r = and-right (eqb (s .rule) 1) _ e in
-    (eqb-true (s .rule) 1 (and-left (eqb (s .rule) 1) _ e), ltb-true 0 (s .active) (and-left (ltb 0 (s .active)) _ r), ltb-true (s .active) (s .count) (and-right (ltb 0 (s .active)) _ r))
+    let r = and-right (eqb (s .rule) 1) _ e in (
+      eqb-true (s .rule) 1 (and-left (eqb (s .rule) 1) _ e),
+      ltb-true 0 (s .active) (and-left (ltb 0 (s .active)) _ r),
+      ltb-true (s .active) (s .count) (and-right (ltb 0 (s .active)) _ r),
+    )
 
 pub add-up-means : (g : Grid) (from : ℕ → ℕ) (h k : ℕ) → addUp g from h k ≡ true → Apart g h (from h) k (from k)
-add-up-means g from h k e = ⊎-elim (λ o. inl (eqb-false _ _ (not-true _ o))) (λ o. inr (together o)) (or-cases (not (eqb (blockOf g h) (blockOf g k))) _ e)
+add-up-means g from h k e = ⊎-elim
+    (λ o. inl (eqb-false _ _ (not-true _ o)))
+    (λ o. inr (together o))
+    (or-cases (not (eqb (blockOf g h) (blockOf g k))) _ e)
   where
-    together : (ltb (from h) h && (ltb (from k) k && (leb h (from k) || leb k (from h)))) ≡ true → (from h < h) × (from k < k) × ((h ≤ from k) ⊎ (k ≤ from h))
+    together : (ltb (from h) h && (ltb (from k) k && (leb h (from k) || leb k (from h)))) ≡ true
+        → (from h < h) × (from k < k) × ((h ≤ from k) ⊎ (k ≤ from h))
     together o =
         let r = and-right (ltb (from h) h) _ o in
-        let ends = or-cases (leb h (from k)) _ (and-right (ltb (from k) k) _ r) in
-        (ltb-true _ _ (and-left (ltb (from h) h) _ o), ltb-true _ _ (and-left (ltb (from k) k) _ r), ⊎-elim (λ l. inl (leb-true _ _ l)) (λ l. inr (leb-true _ _ l)) ends)
+        let ends = or-cases (leb h (from k)) _ (and-right (ltb (from k) k) _ r) in (
+          ltb-true _ _ (and-left (ltb (from h) h) _ o),
+          ltb-true _ _ (and-left (ltb (from k) k) _ r),
+          ⊎-elim (λ l. inl (leb-true _ _ l)) (λ l. inr (leb-true _ _ l)) ends,
+        )
 
 -- the point that has come in needs the steps before it only, and these are counted apart from the first point
-module _ (g : GridStruct) (made : IsMade g) (round : Round) (first order : List ℕ) (s : Status) (R : CanRead g (stateOf round first [] order [] s)) where
+module _ (g : GridStruct) (made : IsMade g) (round : Round) (first order : List ℕ) (s : Status)
+    (R : CanRead g (stateOf round first [] order [] s)) where
   abbrev from : ℕ → ℕ
   from = source round (s .u)
 
@@ -82,23 +93,35 @@ module _ (g : GridStruct) (made : IsMade g) (round : Round) (first order : List 
   point = pointAfter from (take (s .active) order) first (s .active)
 
   steps-add : (k : ℕ) → k < g .indices → at point k + 16 ≡ at first k + at steps k
-  steps-add k l = counts-add from (take (s .active) order) first (R .firstLength) (s .active) point-ready k (omega (arith, indices-few g made))
+  steps-add k l = counts-add from (take (s .active) order) first (R .firstLength) (s .active) point-ready k
+      (omega (arith, indices-few g made))
 
   pub can-step : CanStep (g .indices) first steps
   can-step k l = omega (arith, steps-add k l)
 
-  pub point-at : take (g .indices) (afterSteps first steps) ≡ pointOn (shape g) (stateOf round first [] order [] s) (s .active)
+  pub point-at : take (g .indices) (afterSteps first steps)
+      ≡ pointOn (shape g) (stateOf round first [] order [] s) (s .active)
   point-at =
-      after-is first steps point (g .indices) (indices-few g made) (omega (arith, length-after from (take (s .active) order) first (s .active), R .firstLength, indices-few g made)) steps-add
-      ∙ rw (← after-taken from order first (s .active) (s .active) (omega arith), ← after-taken from order first (s .count) (s .active) early, made-indices g made)
+      after-is first steps point (g .indices) (indices-few g made)
+      (omega (arith, length-after from (take (s .active) order) first (s .active), R .firstLength, indices-few g made))
+      steps-add
+      ∙ rw (
+        ← after-taken from order first (s .active) (s .active) (omega arith),
+        ← after-taken from order first (s .count) (s .active) early,
+        made-indices g made,
+      )
 
 -- the point that has come in between two steps that changed places is the fourth corner of their square
 module _ (g : GridStruct) (made : IsMade g) (a : State) (more : 0 < a .active) (X : Exchanged (shape g) a) where
   pub corner-indices : (stepAt a (a .active - 1) < g .indices) × (stepAt a (a .active) < g .indices)
-  corner-indices = (rw (made-indices g made) (X .indices (a .active - 1) (omega (arith, X .low)) .0), rw (made-indices g made) (X .indices (a .active) (X .low) .0))
+  corner-indices = (
+    rw (made-indices g made) (X .indices (a .active - 1) (omega (arith, X .low)) .0),
+    rw (made-indices g made) (X .indices (a .active) (X .low) .0),
+  )
 
   pub corners-add : addUp (shape g) (sourceIn a) (stepAt a (a .active - 1)) (stepAt a (a .active)) ≡ true
-      → position (shape g) (pointOn (shape g) a (a .active)) + positionAt a (a .active) ≡ positionAt a (a .active - 1) + positionAt a (suc (a .active))
+      → position (shape g) (pointOn (shape g) a (a .active)) + positionAt a (a .active)
+      ≡ positionAt a (a .active - 1) + positionAt a (suc (a .active))
   corners-add apart =
       let i = X .indices (a .active - 1) (omega (arith, X .low)) in
       let j = X .indices (a .active) (X .low) in

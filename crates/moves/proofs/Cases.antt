@@ -18,23 +18,53 @@ use Rattle.rules.proofs.FirstMet.{entry}
 use Rattle.rules.specs.Mask.{bit, withIndex, withoutIndex}
 use Rattle.moves.specs.Held.{stateOf, answered}
 use Rattle.rules.specs.Ready.{testedBefore, SixteenEach, ReadyFirst, ReadyLast, ReadyLeave, ReadyGrow, labelIn, Ready}
-use Rattle.rules.specs.Step.{State, Round, After, goes, endsAtPlace, endsAtFacet, markLabel, firstOutside, sourceIn, firstOutsideOrZero, isFilled, shifted, changedBefore, shrink, joined, grow, leaveFirst, leaveMiddle, leaveLast, leave, step}
+use Rattle.rules.specs.Step.{State, Round, After, goes, endsAtPlace, endsAtFacet, markLabel, firstOutside, sourceIn}
+use Rattle.rules.specs.Step.{firstOutsideOrZero, isFilled, shifted, changedBefore, shrink, joined, grow, leaveFirst}
+use Rattle.rules.specs.Step.{leaveMiddle, leaveLast, leave, step}
 use Rattle.moves.specs.declared.Outcome.{Outcome}
 use Rattle.moves.specs.declared.Outcome.the-variants.{Moved, PlaceEnd, FacetEnd}
 use Rattle.moves.specs.declared.Status.{Status}
 
 -- states that agree in what a move changes
-pub same-state : {first coefficients order marks first' coefficients' order' marks' : List ℕ} {T U active T' U' active' : ℕ} (round : Round) (rule : ℕ)
-    → first ≡ first' → coefficients ≡ coefficients' → order ≡ order' → marks ≡ marks' → T ≡ T' → U ≡ U' → active ≡ active'
-    → _≡_ {A = State} (record { round = round; first = first; coefficients = coefficients; order = order; marks = marks; T = T; U = U; active = active; rule = rule })
-    (record { round = round; first = first'; coefficients = coefficients'; order = order'; marks = marks'; T = T'; U = U'; active = active'; rule = rule })
+pub same-state : {first coefficients order marks first' coefficients' order' marks' : List ℕ}
+    {T U active T' U' active' : ℕ} (round : Round) (rule : ℕ)
+    → first ≡ first' → coefficients ≡ coefficients' → order ≡ order' → marks ≡ marks' → T ≡ T' → U ≡ U'
+    → active ≡ active'
+    → _≡_ {A = State}
+    (record {
+      round = round;
+      first = first;
+      coefficients = coefficients;
+      order = order;
+      marks = marks;
+      T = T;
+      U = U;
+      active = active;
+      rule = rule;
+    })
+    (record {
+      round = round;
+      first = first';
+      coefficients = coefficients';
+      order = order';
+      marks = marks';
+      T = T';
+      U = U';
+      active = active';
+      rule = rule;
+    })
 same-state round rule f c o l t u e = cc
 
 -- what the arrays and the status hold once point i and entry e are taken out
-pub shrinks : (round : Round) (first coefficients order marks order' marks' : List ℕ) (s : Status) (i e : ℕ) → e < s .count → {T U active : ℕ} (h : ℕ) (intoU : Bool) → h ≡ at (take (s .count) order) e
-    → take (s .count - 1) order' ≡ removeAt e (take (s .count) order) → take (s .count + 1 - 1) marks' ≡ removeAt i (take (s .count + 1) marks)
-    → active ≡ found (h + 1) 16 (map markLabel (take (s .count) marks')) → T ≡ withoutIndex (s .t) h → U ≡ cond intoU (withIndex (s .u) h) (s .u)
-    → stateOf round first coefficients order' marks' (record { rule = cond intoU 6 7; count = s .count - 1; t = T; u = U; active = active }) ≡ shrink (stateOf round first coefficients order marks s) i e intoU
+pub shrinks : (round : Round) (first coefficients order marks order' marks' : List ℕ) (s : Status) (i e : ℕ)
+    → e < s .count → {T U active : ℕ} (h : ℕ) (intoU : Bool) → h ≡ at (take (s .count) order) e
+    → take (s .count - 1) order' ≡ removeAt e (take (s .count) order)
+    → take (s .count + 1 - 1) marks' ≡ removeAt i (take (s .count + 1) marks)
+    → active ≡ found (h + 1) 16 (map markLabel (take (s .count) marks')) → T ≡ withoutIndex (s .t) h
+    → U ≡ cond intoU (withIndex (s .u) h) (s .u)
+    → stateOf round first coefficients order' marks'
+    (record { rule = cond intoU 6 7; count = s .count - 1; t = T; u = U; active = active })
+    ≡ shrink (stateOf round first coefficients order marks s) i e intoU
 unfolding shrink
 shrinks round first coefficients order marks order' marks' s i e low h intoU x o l f t u =
     let n = s .count in
@@ -47,7 +77,17 @@ shrinks round first coefficients order marks order' marks' s i e low h intoU x o
 
 -- the same state with other ways round the blocks and another first point, where a move looks at neither
 abbrev pub beside : Round → List ℕ → List ℕ → State → State
-beside round first coefficients s = record { round = round; first = first; coefficients = coefficients; order = s .order; marks = s .marks; T = s .T; U = s .U; active = s .active; rule = s .rule }
+beside round first coefficients s = record {
+  round = round;
+  first = first;
+  coefficients = coefficients;
+  order = s .order;
+  marks = s .marks;
+  T = s .T;
+  U = s .U;
+  active = s .active;
+  rule = s .rule;
+}
 
 abbrev pub onRound : Round → State → State
 onRound round s = beside round (s .first) (s .coefficients) s
@@ -63,13 +103,15 @@ onRoundAfter round (endsAtPlace s h) = endsAtPlace (onRound round s) h
 onRoundAfter round (endsAtFacet s h) = endsAtFacet (onRound round s) h
 
 pub answered-beside : (round round' : Round) (first coefficients order marks : List ℕ) (s : Status) (r : Outcome)
-    → besideAfter round first coefficients (answered round' [] [] order marks s r) ≡ answered round first coefficients order marks s r
+    → besideAfter round first coefficients (answered round' [] [] order marks s r)
+    ≡ answered round first coefficients order marks s r
 answered-beside round round' first coefficients order marks s (Moved r) = refl
 answered-beside round round' first coefficients order marks s (PlaceEnd h) = refl
 answered-beside round round' first coefficients order marks s (FacetEnd h) = refl
 
 module _ (s : State) (first coefficients : List ℕ) where
-  pub shrink-beside : (round : Round) (i e : ℕ) (intoU : Bool) → beside round first coefficients (shrink s i e intoU) ≡ shrink (beside round first coefficients s) i e intoU
+  pub shrink-beside : (round : Round) (i e : ℕ) (intoU : Bool)
+      → beside round first coefficients (shrink s i e intoU) ≡ shrink (beside round first coefficients s) i e intoU
   unfolding shrink
   shrink-beside round i e intoU = refl
 
@@ -78,14 +120,17 @@ module _ (s : State) (first coefficients : List ℕ) where
       → besideAfter (roundOf previous (s .round .next) (s .round .sizes)) first coefficients (grow s h)
       ≡ grow (beside (roundOf previous (s .round .next) (s .round .sizes)) first coefficients s) h
   unfolding grow
-  grow-beside previous h = ⊎-elim (λ e. rw e) (λ e. rw e) (true-or-false (not (bit (s .U) h) && isFilled (s .round) (s .T) (s .U) h))
+  grow-beside previous h =
+      ⊎-elim (λ e. rw e) (λ e. rw e) (true-or-false (not (bit (s .U) h) && isFilled (s .round) (s .T) (s .U) h))
 
 -- for a point to leave that is not the first, the way on is not looked at
 module _ (s : State) (next : List ℕ) where
   abbrev pub withNext : Round
   withNext = roundOf (s .round .previous) next (s .round .sizes)
 
-  pub middle-beside : (coefficients : List ℕ) (i : ℕ) → beside withNext (s .first) coefficients (leaveMiddle s i) ≡ leaveMiddle (beside withNext (s .first) coefficients s) i
+  pub middle-beside : (coefficients : List ℕ) (i : ℕ)
+      → beside withNext (s .first) coefficients (leaveMiddle s i)
+      ≡ leaveMiddle (beside withNext (s .first) coefficients s) i
   unfolding leaveMiddle shrink
   middle-beside coefficients i =
       let b = sourceIn s (at (s .order) i) in
@@ -95,13 +140,18 @@ module _ (s : State) (next : List ℕ) where
   unfolding leaveLast shrink
   last-beside =
       let h = at (s .order) (length (s .order) - 1) in
-      ⊎-elim (λ (e : eqb (at (s .first) h) 0 ≡ true). rw e)
-      (λ (e : eqb (at (s .first) h) 0 ≡ false).
-      ⊎-elim (λ (f : eqb (at (s .coefficients) h) 0 ≡ true). rw (e, f)) (λ (f : eqb (at (s .coefficients) h) 0 ≡ false). rw (e, f)) (true-or-false (eqb (at (s .coefficients) h) 0)))
+      ⊎-elim
+      (λ (e : eqb (at (s .first) h) 0 ≡ true). rw e)
+      (λ (e : eqb (at (s .first) h) 0 ≡ false). ⊎-elim
+      (λ (f : eqb (at (s .coefficients) h) 0 ≡ true). rw (e, f))
+      (λ (f : eqb (at (s .coefficients) h) 0 ≡ false). rw (e, f))
+      (true-or-false (eqb (at (s .coefficients) h) 0)))
       (true-or-false (eqb (at (s .first) h) 0))
 
 module _ (s : State) (h : ℕ) where
-  pub joins-from-U : (i : ℕ) → bit (s .U) h ≡ true → i ≡ found (firstOutside (s .round .next) (s .round .sizes) (s .U) h) 16 (s .order) → goes (joined s i h 5) ≡ grow s h
+  pub joins-from-U : (i : ℕ) → bit (s .U) h ≡ true
+      → i ≡ found (firstOutside (s .round .next) (s .round .sizes) (s .U) h) 16 (s .order)
+      → goes (joined s i h 5) ≡ grow s h
   unfolding grow
   joins-from-U i e f = rw (e, f)
 
@@ -109,13 +159,16 @@ module _ (s : State) (h : ℕ) where
   unfolding grow
   place-end e f = rw (e, f)
 
-  pub joins-from-outside : (i : ℕ) → bit (s .U) h ≡ false → isFilled (s .round) (s .T) (s .U) h ≡ false → i ≡ length (s .order) → goes (joined s i h 4) ≡ grow s h
+  pub joins-from-outside : (i : ℕ) → bit (s .U) h ≡ false → isFilled (s .round) (s .T) (s .U) h ≡ false
+      → i ≡ length (s .order)
+      → goes (joined s i h 4) ≡ grow s h
   unfolding grow
   joins-from-outside i e f g = rw (e, f, g)
 
 module _ (s : State) (h b : ℕ) (atH : h ≡ at (s .order) 0) (atB : b ≡ sourceIn s h) where
   pub first-ready : ReadyFirst s
-      → (at (s .first) h < 65535) × (1 ≤ at (s .first) b) × (testedBefore (λ x. ltb x 65535) suc (s .round .previous) b 16 h (s .coefficients) ≡ true)
+      → (at (s .first) h < 65535) × (1 ≤ at (s .first) b)
+      × (testedBefore (λ x. ltb x 65535) suc (s .round .previous) b 16 h (s .coefficients) ≡ true)
   first-ready r = rw (atB, atH) (r .fits, r .positive, r .raised)
 
   -- the second point is the new first
@@ -132,11 +185,13 @@ module _ (s : State) (h b : ℕ) (atH : h ≡ at (s .order) 0) (atB : b ≡ sour
     rule = rule;
   }
 
-  pub facet-end : (eqb (at (s .first) b) 1 && not (bit (s .T) b)) ≡ true → isFilled (s .round) (s .T) (s .U) b ≡ true → endsAtFacet s b ≡ leaveFirst s
+  pub facet-end : (eqb (at (s .first) b) 1 && not (bit (s .T) b)) ≡ true → isFilled (s .round) (s .T) (s .U) b ≡ true
+      → endsAtFacet s b ≡ leaveFirst s
   unfolding leaveFirst
   facet-end e f = rw (← atH, ← atB, e, f)
 
-  pub U-gains : (eqb (at (s .first) b) 1 && not (bit (s .T) b)) ≡ true → isFilled (s .round) (s .T) (s .U) b ≡ false → goes (forward (withIndex (s .U) b) 2) ≡ leaveFirst s
+  pub U-gains : (eqb (at (s .first) b) 1 && not (bit (s .T) b)) ≡ true → isFilled (s .round) (s .T) (s .U) b ≡ false
+      → goes (forward (withIndex (s .U) b) 2) ≡ leaveFirst s
   unfolding leaveFirst
   U-gains e f = rw (← atH, ← atB, e, f)
 
@@ -144,19 +199,30 @@ module _ (s : State) (h b : ℕ) (atH : h ≡ at (s .order) 0) (atB : b ≡ sour
   unfolding leaveFirst
   first-leaves e = rw (← atH, ← atB, e)
 
-module _ (s : State) (i h w b : ℕ) (atH : h ≡ at (s .order) i) (atW : w ≡ at (s .order) (i - 1)) (atB : b ≡ sourceIn s h) where
+module _ (s : State) (i h w b : ℕ) (atH : h ≡ at (s .order) i) (atW : w ≡ at (s .order) (i - 1))
+    (atB : b ≡ sourceIn s h) where
   pub middle-to-U : w ≡ b → at (s .first) b ≡ 0 → shrink s i (i - 1) true ≡ leaveMiddle s i
   unfolding leaveMiddle
   middle-to-U e f = rw (← atH, ← atB, ← atW, eq-eqb w b e, f)
 
   pub steps-exchanged : (w ≡ b → at (s .first) b ≡ 0 → ⊥)
-      → _≡_ {A = State} (record { round = s .round; first = s .first; coefficients = s .coefficients; order = swapAt (i - 1) (s .order); marks = s .marks; T = s .T; U = s .U; active = i; rule = 1 })
+      → _≡_ {A = State}
+      (record {
+        round = s .round;
+        first = s .first;
+        coefficients = s .coefficients;
+        order = swapAt (i - 1) (s .order);
+        marks = s .marks;
+        T = s .T;
+        U = s .U;
+        active = i;
+        rule = 1;
+      })
       (leaveMiddle s i)
   unfolding leaveMiddle
   steps-exchanged e =
-      let stays : (eqb w b && eqb (at (s .first) b) 0) ≡ false =
-      false-of _ (λ t. e (eqb-true w b (and-left (eqb w b) _ t)) (eqb-true (at (s .first) b) 0 (and-right (eqb w b) _ t)))
-      in
+      let stays : (eqb w b && eqb (at (s .first) b) 0) ≡ false = false-of _
+      (λ t. e (eqb-true w b (and-left (eqb w b) _ t)) (eqb-true (at (s .first) b) 0 (and-right (eqb w b) _ t))) in
       rw (← atH, ← atB, ← atW, stays)
 
 module _ (s : State) (n h : ℕ) (atN : n ≡ length (s .order)) (atH : h ≡ at (s .order) (n - 1)) where
@@ -170,7 +236,8 @@ module _ (s : State) (n h : ℕ) (atN : n ≡ length (s .order)) (atH : h ≡ at
 
   module _ (b : ℕ) (atB : b ≡ firstOutsideOrZero (s .round) (s .U) (s .coefficients) h) where
     pub last-ready : ReadyLast s h → (at (s .first) h ≡ 0 → ⊥) → (at (s .coefficients) h ≡ 0 → ⊥)
-        → (at (s .first) b < 65535) × (testedBefore (λ x. ltb 0 x) pred (s .round .previous) b 16 h (s .coefficients) ≡ true)
+        → (at (s .first) b < 65535)
+        × (testedBefore (λ x. ltb 0 x) pred (s .round .previous) b 16 h (s .coefficients) ≡ true)
     last-ready r e f =
         let p : 0 < at (s .first) h = omega arith in
         let q : 0 < at (s .coefficients) h = omega arith in
@@ -190,11 +257,13 @@ module _ (s : State) (n h : ℕ) (atN : n ≡ length (s .order)) (atH : h ≡ at
       rule = rule;
     }
 
-    pub U-loses : (at (s .first) h ≡ 0 → ⊥) → (at (s .coefficients) h ≡ 0 → ⊥) → bit (s .U) b ≡ true → backward 3 ≡ leaveLast s
+    pub U-loses : (at (s .first) h ≡ 0 → ⊥) → (at (s .coefficients) h ≡ 0 → ⊥) → bit (s .U) b ≡ true
+        → backward 3 ≡ leaveLast s
     unfolding leaveLast
     U-loses e f g = rw (← atN, ← atH, ne-eqb (at (s .first) h) 0 e, ne-eqb (at (s .coefficients) h) 0 f, ← atB, g)
 
-    pub last-leaves : (at (s .first) h ≡ 0 → ⊥) → (at (s .coefficients) h ≡ 0 → ⊥) → bit (s .U) b ≡ false → backward 1 ≡ leaveLast s
+    pub last-leaves : (at (s .first) h ≡ 0 → ⊥) → (at (s .coefficients) h ≡ 0 → ⊥) → bit (s .U) b ≡ false
+        → backward 1 ≡ leaveLast s
     unfolding leaveLast
     last-leaves e f g = rw (← atN, ← atH, ne-eqb (at (s .first) h) 0 e, ne-eqb (at (s .coefficients) h) 0 f, ← atB, g)
 
@@ -213,7 +282,9 @@ module _ (s : State) (i : ℕ) where
 
 -- i is the point that leaves: after rules 6 and 7 the one named, otherwise the other one with the label that came in
 abbrev pub Leaving : State → ℕ → Type 0
-Leaving s i = ((6 ≤ s .rule) × (i ≡ s .active)) ⊎ ((s .rule < 6) × (bit (s .T) (labelIn s - 1) ≡ true) × (i ≡ found (labelIn s) (s .active) (map markLabel (s .marks))))
+Leaving s i = ((6 ≤ s .rule) × (i ≡ s .active))
+    ⊎ ((s .rule < 6) × (bit (s .T) (labelIn s - 1) ≡ true)
+    × (i ≡ found (labelIn s) (s .active) (map markLabel (s .marks))))
 
 module _ (s : State) where
   pub leaving-ready : (i : ℕ) → Ready s → Leaving s i → ReadyLeave s i
@@ -221,10 +292,12 @@ module _ (s : State) where
 
   pub leaving-leaves : (i : ℕ) → Leaving s i → leave s i ≡ step s
   unfolding step
-  leaving-leaves i l = ⊎-elim (λ w. rw (w .1, le-ltb (s .rule) 6 (w .0))) (λ w. rw (w .2, lt-ltb (s .rule) 6 (w .0), w .1)) l
+  leaving-leaves i l =
+      ⊎-elim (λ w. rw (w .1, le-ltb (s .rule) 6 (w .0))) (λ w. rw (w .2, lt-ltb (s .rule) 6 (w .0), w .1)) l
 
   module _ (label h : ℕ) (atLabel : label ≡ labelIn s) (atH : h ≡ label - 1) (read : s .rule < 6) where
-    pub other-leaving : (i : ℕ) → bit (s .T) h ≡ true → i ≡ found label (s .active) (map markLabel (s .marks)) → Leaving s i
+    pub other-leaving : (i : ℕ) → bit (s .T) h ≡ true → i ≡ found label (s .active) (map markLabel (s .marks))
+        → Leaving s i
     other-leaving i e f = inr (read, rw (← atLabel, ← atH) e, rw (← atLabel) f)
 
     pub join-ready : bit (s .T) h ≡ false → Ready s → ReadyGrow s h
@@ -237,9 +310,13 @@ module _ (s : State) where
     label-joins e = rw (lt-ltb (s .rule) 6 read, ← atLabel, ← atH, e)
 
 -- the mark of the point that came in, in its array
-module _ (round : Round) (first coefficients order marks : List ℕ) (s : Status) (each : SixteenEach order marks) (r : Ready (stateOf round first coefficients order marks s)) (read : s .rule < 6) where
+module _ (round : Round) (first coefficients order marks : List ℕ) (s : Status) (each : SixteenEach order marks)
+    (r : Ready (stateOf round first coefficients order marks s)) (read : s .rule < 6) where
   few : length (take (s .count) order) ≤ 15
-  few = ⊎-elim (λ e. r .leaves read e .few) (λ e. r .grows read e .few) (true-or-false (bit (s .t) (markLabel (at (take (suc (s .count)) marks) (s .active)) - 1)))
+  few = ⊎-elim
+      (λ e. r .leaves read e .few)
+      (λ e. r .grows read e .few)
+      (true-or-false (bit (s .t) (markLabel (at (take (suc (s .count)) marks) (s .active)) - 1)))
 
   pub count-low : s .count ≤ 15
   count-low = omega (arith, few, counted order (s .count) (each .inOrder) few)

@@ -7,8 +7,8 @@ ghost use Rattle.place.specs.Problem.{problemOf};
 ghost use Rattle.nearest.specs.Report.{answerBuffer, listBuffer, reportOf};
 ghost use Rattle.near_exports.specs.Near.{nearFacts};
 ghost use Rattle.run_facts.specs.Numbers.{runFacts, runNumber};
-use run_facts::put_answer;
 use nearest::Nearest;
+use run_facts::put_answer;
 
 // The position and the count to the front of their buffer, where a vertex is reported.
 fn put_nearest(found: Nearest, near: &mut [u64])

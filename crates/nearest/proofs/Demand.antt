@@ -29,8 +29,10 @@ use Rattle.nearest.proofs.Refusals.{all-yes, answered, at-end, at-gap, 
 
 module _ (p : Problem) (w : Point) (room listRoom : ℕ) (none : nearRefusal p w room listRoom ≡ 0) where
   accepted-grid : firstNo (gridQuestions (p .grid)) ≡ 0
-  accepted-grid =
-      ⊎-elim (λ e. e) (λ n. absurd (n (sym (by-grid p w room listRoom n) ∙ none))) (same-or (firstNo (gridQuestions (p .grid))) 0)
+  accepted-grid = ⊎-elim
+      (λ e. e)
+      (λ n. absurd (n (sym (by-grid p w room listRoom n) ∙ none)))
+      (same-or (firstNo (gridQuestions (p .grid))) 0)
 
   yes : (isGridPoint (p .grid) w ≡ true) × (firstNo (laterQuestions p room) ≡ 0)
   yes = let y = all-yes p w room listRoom (sym (by-point p w room listRoom accepted-grid) ∙ none) in (y .0, y .1)
@@ -40,14 +42,17 @@ module _ (p : Problem) (w : Point) (room listRoom : ℕ) (none : nearRefusal p w
 
   -- what is answered and left in buffers of these lengths
   reported : (given budget : ℕ) (old list : List ℕ) → length old ≡ room → length list ≡ listRoom
-      → (record { run = caseOf (answer p budget); nearest = nearestIn p w given (answer p budget) } ≡ reportOf p w given room listRoom budget)
+      → (record { run = caseOf (answer p budget); nearest = nearestIn p w given (answer p budget) }
+      ≡ reportOf p w given room listRoom budget)
       × (front (numbersOf (answer p budget)) old ≡ answerBuffer p w listRoom budget old)
       × (front (listedIn p w given (answer p budget)) list ≡ listBuffer p w given room budget list)
   reported given budget old list e f = rw (← e, ← f) (answered p w given budget old list (rw (e, f) none))
 
   report-is : (given budget : ℕ)
-      → record { run = caseOf (answer p budget); nearest = nearestIn p w given (answer p budget) } ≡ reportOf p w given room listRoom budget
-  report-is given budget = reported given budget (replicate room 0) (replicate listRoom 0) (length-replicate room 0) (length-replicate listRoom 0) .0
+      → record { run = caseOf (answer p budget); nearest = nearestIn p w given (answer p budget) }
+      ≡ reportOf p w given room listRoom budget
+  report-is given budget = reported given budget (replicate room 0) (replicate listRoom 0) (length-replicate room 0)
+      (length-replicate listRoom 0) .0
 
   list-is : (given budget : ℕ) (old : List ℕ) → length old ≡ listRoom
       → front (listedIn p w given (answer p budget)) old ≡ listBuffer p w given room budget old
@@ -55,11 +60,13 @@ module _ (p : Problem) (w : Point) (room listRoom : ℕ) (none : nearRefusal p w
 
   -- a run without w
   run-is : (budget : ℕ) (old : List ℕ) → length old ≡ room
-      → (caseOf (answer p budget) ≡ runAnswer p room budget) × (front (numbersOf (answer p budget)) old ≡ runBuffer p budget old)
+      → (caseOf (answer p budget) ≡ runAnswer p room budget)
+      × (front (numbersOf (answer p budget)) old ≡ runBuffer p budget old)
   run-is budget old e = rw (← e) (run-answered p budget old (by-later p (length old) accepted-grid ∙ rw e (yes .1)))
 
   same-run : (given budget : ℕ) → reportOf p w given room listRoom budget .run ≡ runAnswer p room budget
-  same-run given budget = sym (ap (λ (r : Report). r .run) (report-is given budget)) ∙ run-is budget (replicate room 0) (length-replicate room 0) .0
+  same-run given budget = sym (ap (λ (r : Report). r .run) (report-is given budget))
+      ∙ run-is budget (replicate room 0) (length-replicate room 0) .0
 
   told : (given budget : ℕ) → reportOf p w given room listRoom budget .nearest ≡ nearestIn p w given (answer p budget)
   told given budget = sym (ap (λ (r : Report). r .nearest) (report-is given budget))
@@ -70,18 +77,23 @@ module _ (p : Problem) (w : Point) (room listRoom : ℕ) (none : nearRefusal p w
 pub near-demand : NearDemandHolds
 near-demand p w room listRoom none = record {
   run = same-run p w room listRoom none;
-  answer = λ budget old e. sym (reported p w room listRoom none 0 budget old (replicate listRoom 0) e (length-replicate listRoom 0) .1) ∙ run-is p w room listRoom none budget old e .1;
-  alike = λ other given next budget otherRoom n. same-run p w room listRoom none given budget ∙ sym (same-run p other room otherRoom n next budget);
+  answer = λ budget old e.
+      sym (reported p w room listRoom none 0 budget old (replicate listRoom 0) e (length-replicate listRoom 0) .1)
+      ∙ run-is p w room listRoom none budget old e .1;
+  alike = λ other given next budget otherRoom n.
+      same-run p w room listRoom none given budget ∙ sym (same-run p other room otherRoom n next budget);
   ended = λ given budget n read block vertices kind e. told p w room listRoom none given budget
       ∙ (let a = at-end p budget (case-is p w room listRoom none budget ∙ e) in rw (a .2));
-  spent = λ given budget old e l. let a = demand3-holds (ok p w room listRoom none) .spends budget .1 l in (
-    told p w room listRoom none given budget ∙ rw a,
-    sym (list-is p w room listRoom none given budget old e) ∙ rw a (front-none old),
-  );
-  unknown = λ given budget n i old e q. let a = at-gap p budget (case-is p w room listRoom none budget ∙ q) in (
-    told p w room listRoom none given budget ∙ rw a,
-    sym (list-is p w room listRoom none given budget old e) ∙ rw a (front-none old),
-  );
+  spent = λ given budget old e l.
+      let a = demand3-holds (ok p w room listRoom none) .spends budget .1 l in (
+        told p w room listRoom none given budget ∙ rw a,
+        sym (list-is p w room listRoom none given budget old e) ∙ rw a (front-none old),
+      );
+  unknown = λ given budget n i old e q.
+      let a = at-gap p budget (case-is p w room listRoom none budget ∙ q) in (
+        told p w room listRoom none given budget ∙ rw a,
+        sym (list-is p w room listRoom none given budget old e) ∙ rw a (front-none old),
+      );
   visits = visits (ok p w room listRoom none);
   distances = distances (p .grid) (grid-accepted (ok p w room listRoom none));
   nearest = is-nearest (ok p w room listRoom none) w;

@@ -1,5 +1,5 @@
--- Which question is the first that is answered no, and what the answer and the two buffers then are; and what an end in the answer tells of the
--- path. Assumes nothing.
+-- Which question is the first that is answered no, and what the answer and the two buffers then are; and what an end in
+-- the answer tells of the path. Assumes nothing.
 use mathlib.Core.Bool.{Bool, true, false, cond}
 use mathlib.Core.List.{List, [], _∷_, _++_}
 use mathlib.Core.Logic.{⊎-elim}
@@ -34,10 +34,12 @@ use Rattle.nearest.specs.Report.{answerBuffer, listBuffer, listedIn, nea
 use Rattle.nearest.specs.declared.Nearest.the-variants.{Nothing}
 
 module _ (p : Problem) (w : Point) (room listRoom : ℕ) where
-  pub by-grid : (firstNo (gridQuestions (p .grid)) ≡ 0 → ⊥) → nearRefusal p w room listRoom ≡ firstNo (gridQuestions (p .grid))
+  pub by-grid : (firstNo (gridQuestions (p .grid)) ≡ 0 → ⊥)
+      → nearRefusal p w room listRoom ≡ firstNo (gridQuestions (p .grid))
   by-grid n = asked-no (gridQuestions (p .grid)) (pointQuestions p w room listRoom) _ n refl
 
-  pub by-point : firstNo (gridQuestions (p .grid)) ≡ 0 → nearRefusal p w room listRoom ≡ firstNo (pointQuestions p w room listRoom)
+  pub by-point : firstNo (gridQuestions (p .grid)) ≡ 0
+      → nearRefusal p w room listRoom ≡ firstNo (pointQuestions p w room listRoom)
   by-point e = asked-next (gridQuestions (p .grid)) (pointQuestions p w room listRoom) refl e
 
   -- questions 5 to 8: the start's number is w's
@@ -45,16 +47,23 @@ module _ (p : Problem) (w : Point) (room listRoom : ℕ) where
   unfolding firstNo
   no-point e = go (isGridPoint (p .grid) (p .start)) (isGridPoint (p .grid) w) e
     where
-      go : (a b : Bool) → b ≡ false → 5 ≡ cond a (cond b (firstNo (question6 p ∷ question7 p ∷ question8 (p .grid) room ∷ question8List (p .grid) listRoom ∷ [])) 5) 5
+      go : (a b : Bool) → b ≡ false
+          → 5
+          ≡ cond a
+          (cond b
+          (firstNo (question6 p ∷ question7 p ∷ question8 (p .grid) room ∷ question8List (p .grid) listRoom ∷ [])) 5)
+          5
       go true b e = rw e
       go false b e = refl
 
   module _ (on : isGridPoint (p .grid) w ≡ true) where
-    behind : firstNo (pointQuestions p w room listRoom) ≡ firstNo (laterQuestions p room ++ (question8List (p .grid) listRoom ∷ []))
+    behind : firstNo (pointQuestions p w room listRoom)
+        ≡ firstNo (laterQuestions p room ++ (question8List (p .grid) listRoom ∷ []))
     unfolding firstNo
     behind = rw on
 
-    pub no-later : (n : ℕ) → (n ≡ 0 → ⊥) → n ≡ firstNo (laterQuestions p room) → n ≡ firstNo (pointQuestions p w room listRoom)
+    pub no-later : (n : ℕ) → (n ≡ 0 → ⊥) → n ≡ firstNo (laterQuestions p room)
+        → n ≡ firstNo (pointQuestions p w room listRoom)
     no-later n z e = sym (behind ∙ asked-no (laterQuestions p room) (question8List (p .grid) listRoom ∷ []) n z (sym e))
 
     module _ (later : firstNo (laterQuestions p room) ≡ 0) where
@@ -73,10 +82,19 @@ module _ (p : Problem) (w : Point) (room listRoom : ℕ) where
   pub all-yes : firstNo (pointQuestions p w room listRoom) ≡ 0
       → (isGridPoint (p .grid) w ≡ true) × (firstNo (laterQuestions p room) ≡ 0) × (numPoints (p .grid) ≤ listRoom)
   all-yes e =
-      let a = first-yes (question5 (p .grid) (p .start)) (question5 (p .grid) w ∷ question6 p ∷ question7 p ∷ question8 (p .grid) room ∷ question8List (p .grid) listRoom ∷ []) (omega arith) e in
-      let on = first-yes (question5 (p .grid) w) (question6 p ∷ question7 p ∷ question8 (p .grid) room ∷ question8List (p .grid) listRoom ∷ []) (omega arith) (a .1) .0 in
-      let b = both-yes (laterQuestions p room) (question8List (p .grid) listRoom ∷ []) refl (sym (behind on) ∙ e) in
-      (on, b .0, leb-true (numPoints (p .grid)) listRoom (first-yes (question8List (p .grid) listRoom) [] (omega arith) (b .1) .0))
+      let a = first-yes (question5 (p .grid) (p .start))
+      (question5 (p .grid) w ∷ question6 p ∷ question7 p ∷ question8 (p .grid) room ∷ question8List (p .grid) listRoom
+      ∷ [])
+      (omega arith) e in
+      let on = first-yes (question5 (p .grid) w)
+      (question6 p ∷ question7 p ∷ question8 (p .grid) room ∷ question8List (p .grid) listRoom ∷ []) (omega arith)
+      (a .1) .0 in
+      let b = both-yes (laterQuestions p room) (question8List (p .grid) listRoom ∷ []) refl (sym (behind on) ∙ e) in (
+        on,
+        b .0,
+        leb-true (numPoints (p .grid)) listRoom
+            (first-yes (question8List (p .grid) listRoom) [] (omega arith) (b .1) .0),
+      )
 
 -- the answer and the buffers
 module _ (p : Problem) (w : Point) (given budget : ℕ) (old list : List ℕ) where
@@ -85,11 +103,13 @@ module _ (p : Problem) (w : Point) (given budget : ℕ) (old list : List ℕ) wh
       × (old ≡ answerBuffer p w (length list) budget old) × (list ≡ listBuffer p w given (length old) budget list)
   unfolding reportOf answerBuffer listBuffer
   refused n z e =
-      let q : eqb (nearRefusal p w (length old) (length list)) 0 ≡ false = ne-eqb (nearRefusal p w (length old) (length list)) 0 (λ f. z (sym e ∙ f)) in
+      let q : eqb (nearRefusal p w (length old) (length list)) 0 ≡ false =
+      ne-eqb (nearRefusal p w (length old) (length list)) 0 (λ f. z (sym e ∙ f)) in
       (rw (q, e), rw (q, front-none old), rw (q, front-none list))
 
   pub answered : nearRefusal p w (length old) (length list) ≡ 0
-      → (record { run = caseOf (answer p budget); nearest = nearestIn p w given (answer p budget) } ≡ reportOf p w given (length old) (length list) budget)
+      → (record { run = caseOf (answer p budget); nearest = nearestIn p w given (answer p budget) }
+      ≡ reportOf p w given (length old) (length list) budget)
       × (front (numbersOf (answer p budget)) old ≡ answerBuffer p w (length list) budget old)
       × (front (listedIn p w given (answer p budget)) list ≡ listBuffer p w given (length old) budget list)
   unfolding reportOf answerBuffer listBuffer
@@ -101,7 +121,11 @@ case-ended : (a : PathAnswer) {n read block vertices : ℕ} {kind : Kind} → ca
 case-ended (spent m) e = absurd (let z : _≡_ {A = ℕ} 0 1 = cc in omega arith)
 case-ended (unknown m i) e = absurd (let z : _≡_ {A = ℕ} 0 1 = cc in omega arith)
 case-ended (ended m l k b v s) {n} {read} {block} {vertices} e =
-    let x : m ≡ n = cc in let w : l ≡ read = cc in let y : b ≡ block = cc in let z : v ≡ vertices = cc in (k, s, rw (x, w, y, z))
+    let x : m ≡ n = cc in
+    let w : l ≡ read = cc in
+    let y : b ≡ block = cc in
+    let z : v ≡ vertices = cc in
+    (k, s, rw (x, w, y, z))
 
 case-unknown : (a : PathAnswer) {n i : ℕ} → caseOf a ≡ Unknown n i → a ≡ unknown n i
 case-unknown (spent m) e = absurd (let z : _≡_ {A = ℕ} 0 1 = cc in omega arith)
@@ -112,18 +136,22 @@ module _ (p : Problem) (budget : ℕ) where
   pub at-gap : {n i : ℕ} → caseOf (answer p budget) ≡ Unknown n i → answer p budget ≡ unknown n i
   at-gap e = case-unknown (answer p budget) e
 
-  ended-outcome : {n read block vertices : ℕ} {kind : KindOfEnd} {s : Simplex} (places : List Simplex) (e : Option EndOfPath) → outcome p places e ≡ ended n read kind block vertices s
+  ended-outcome : {n read block vertices : ℕ} {kind : KindOfEnd} {s : Simplex} (places : List Simplex)
+      (e : Option EndOfPath)
+      → outcome p places e ≡ ended n read kind block vertices s
       → (f : EndOfPath) × (e ≡ some f) × (n ≡ length places)
   ended-outcome places none q = absurd (let z : _≡_ {A = ℕ} 0 1 = cc in omega arith)
   ended-outcome {n} places (some f) q = let x : length places ≡ n = cc in (f, refl, sym x)
 
-  pub ended-is : {n read block vertices : ℕ} {kind : KindOfEnd} {s : Simplex} → answer p budget ≡ ended n read kind block vertices s
+  pub ended-is : {n read block vertices : ℕ} {kind : KindOfEnd} {s : Simplex}
+      → answer p budget ≡ ended n read kind block vertices s
       → (e : EndOfPath) × (pathOf p .end ≡ some e) × (n ≡ pathLength p)
   unfolding answer
-  ended-is e =
-      ⊎-elim
-      (λ (l : budget < pathLength p). absurd (let f = rw (lt-ltb budget (pathLength p) l) at e in let z : _≡_ {A = ℕ} 0 1 = cc in omega arith))
-      (λ (l : pathLength p ≤ budget). ended-outcome (pathOf p .visited) (pathOf p .end) (rw (le-ltb budget (pathLength p) l) at e))
+  ended-is e = ⊎-elim
+      (λ (l : budget < pathLength p).
+      absurd (let f = rw (lt-ltb budget (pathLength p) l) at e in let z : _≡_ {A = ℕ} 0 1 = cc in omega arith))
+      (λ (l : pathLength p ≤ budget).
+      ended-outcome (pathOf p .visited) (pathOf p .end) (rw (le-ltb budget (pathLength p) l) at e))
       (before-or-not budget (pathLength p))
 
   pub at-end : {n read block vertices : ℕ} {kind : Kind} → caseOf (answer p budget) ≡ End n read kind block vertices
@@ -135,4 +163,5 @@ pub no-end : (p : Problem) (w : Point) (given : ℕ) (a : PathAnswer) → OneOf 
     → (nearestIn p w given a ≡ Nothing) × (listedIn p w given a ≡ [])
 no-end p w given (spent n) h = (refl, refl)
 no-end p w given (unknown n i) h = (refl, refl)
-no-end p w given (ended n read kind block vertices s) h = absurd (⊎-elim (λ e. omega arith) (λ r. ⊎-elim (λ e. omega arith) (λ e. omega arith) r) h)
+no-end p w given (ended n read kind block vertices s) h =
+    absurd (⊎-elim (λ e. omega arith) (λ r. ⊎-elim (λ e. omega arith) (λ e. omega arith) r) h)

@@ -24,7 +24,8 @@ pub record NearDemand (p : Problem) (w : Point) (room listRoom : ℕ) : Type 0 w
   pub alike : (other : Point) (given next budget otherRoom : ℕ) → nearRefusal p other room otherRoom ≡ 0
       → reportOf p w given room listRoom budget .run ≡ reportOf p other next room otherRoom budget .run
   -- after an end a vertex is reported, and the list has as many positions as are said
-  pub ended : (given budget n read block vertices : ℕ) (kind : Kind) → runAnswer p room budget ≡ End n read kind block vertices
+  pub ended : (given budget n read block vertices : ℕ) (kind : Kind)
+      → runAnswer p room budget ≡ End n read kind block vertices
       → reportOf p w given room listRoom budget .nearest
       ≡ Vertex (position (p .grid) (nearest p w)) (length (positionsWithin p w given))
   -- with 9 and 16 none is, and the list is as before

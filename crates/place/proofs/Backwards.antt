@@ -1,5 +1,6 @@
--- Request 14 of every path that reached an end. In order: a list reversed, by position; the links and ways of
--- the path's places; a list that goes back is the path reversed; the path reversed goes back; paths of accepted tables. Assumes nothing.
+-- Request 14 of every path that reached an end. In order: a list reversed, by position; the links and ways of the
+-- path's places; a list that goes back is the path reversed; the path reversed goes back; paths of accepted tables.
+-- Assumes nothing.
 use mathlib.Core.Bool.{true}
 use mathlib.Core.List.{List, [], _∷_, reverse, reverseAux}
 use mathlib.Core.Logic.{_⊎_, inl, inr, ⊎-elim}
@@ -37,7 +38,8 @@ opposite-aux (x ∷ l) r i (suc j) e = opposite-aux l (x ∷ r) i j (omega arith
 at-opposite : (l : List Simplex) (i j : ℕ) → i + suc j ≡ length l → placeAt (reverse l) i ≡ placeAt l j
 at-opposite l i j e = opposite-aux l [] i j e
 
--- the i-th place of t is the j-th of s, as far from the end as i from the beginning, and the place just left is the one after it
+-- the i-th place of t is the j-th of s, as far from the end as i from the beginning, and the place just left is the one
+-- after it
 record Meets (s t : List Simplex) (i j : ℕ) : Type 0 where
   across : i + suc j ≡ length s
   here : placeAt t i ≡ placeAt s j
@@ -46,7 +48,11 @@ record Meets (s t : List Simplex) (i j : ℕ) : Type 0 where
 module _ {p : Problem} (ok : Settled p) {s : List Simplex} {e : End} (k : IsPath p s e)
     (own : (i : ℕ) → i < length s → allLabelled p (placeAt s i) ≡ true) where
   next : (i : ℕ) → suc i < length s → Link p (placeAt s i) (placeAt s (suc i))
-  next i c = record { from = k .follows .places i (omega arith); to = k .follows .places (suc i) c; by = k .follows .links i c }
+  next i c = record {
+    from = k .follows .places i (omega arith);
+    to = k .follows .places (suc i) c;
+    by = k .follows .links i c;
+  }
 
   after-in : (i : ℕ) → suc i < length s → isIn sameSimplex (placeAt s (suc i)) (links p (placeAt s i)) ≡ true
   after-in i c = in-links ok (next i c)
@@ -72,13 +78,14 @@ module _ {p : Problem} (ok : Settled p) {s : List Simplex} {e : End} (k : IsPath
   not-one i c o =
       let n = length-ways p (placeAt s (suc i)) in
       let m : length (links p (placeAt s (suc i))) ≤ 1 = omega arith in
-      ⊎-elim (λ d. k .follows .onward i d (only-member onSimplices (placeAt s i) (placeAt s (suc (suc i))) (links p (placeAt s (suc i))) m
-      (before-in i c) (after-in (suc i) d)))
+      ⊎-elim
+      (λ d. k .follows .onward i d
+      (only-member onSimplices (placeAt s i) (placeAt s (suc (suc i))) (links p (placeAt s (suc i))) m (before-in i c)
+      (after-in (suc i) d)))
       (λ d. omega (
         arith,
         last-end (suc i) (omega arith),
-        ap length (only-list onSimplices (placeAt s i) (links p (placeAt s (suc i))) m
-            (before-in i c)),
+        ap length (only-list onSimplices (placeAt s i) (links p (placeAt s (suc i))) m (before-in i c)),
       ))
       (before-or-not (suc (suc i)) (length s))
 
@@ -94,33 +101,36 @@ module _ {p : Problem} (ok : Settled p) {s : List Simplex} {e : End} (k : IsPath
   beside zero x c l =
       let n = length-ways p (placeAt s 0) in
       let m : length (links p (placeAt s 0)) ≤ 1 = omega (arith, ways-first) in
-      ⊎-elim (λ d. inl (d, only-member onSimplices x (placeAt s 1) (links p (placeAt s 0)) m (in-links ok l) (after-in 0 d)))
+      ⊎-elim
+      (λ d. inl (d, only-member onSimplices x (placeAt s 1) (links p (placeAt s 0)) m (in-links ok l) (after-in 0 d)))
       (λ d. absurd (omega (
         arith,
         ways-first,
         last-end 0 (omega arith),
-        ap length (only-list onSimplices x (links p (placeAt s 0)) m
-            (in-links ok l)),
+        ap length (only-list onSimplices x (links p (placeAt s 0)) m (in-links ok l)),
       )))
       (before-or-not 1 (length s))
   beside (suc i) x c l =
       let n = length-ways p (placeAt s (suc i)) in
       let w = ways-later i c in
       ⊎-elim
-      (λ d. ⊎-elim (λ q. absurd (k .follows .onward i d q)) (λ q. ⊎-elim (λ q. inr (i, refl, sym q)) (λ q. inl (d, sym q)) q)
-      (among-two (placeAt s i) (placeAt s (suc (suc i))) x (links p (placeAt s (suc i))) (omega arith) (before-in i c) (after-in (suc i) d)
-      (in-links ok l)))
+      (λ d. ⊎-elim
+      (λ q. absurd (k .follows .onward i d q))
+      (λ q. ⊎-elim (λ q. inr (i, refl, sym q)) (λ q. inl (d, sym q)) q)
+      (among-two (placeAt s i) (placeAt s (suc (suc i))) x (links p (placeAt s (suc i))) (omega arith) (before-in i c)
+      (after-in (suc i) d) (in-links ok l)))
       (λ d. inr (
         i,
         refl,
-        only-member onSimplices x (placeAt s i) (links p (placeAt s (suc i))) (omega (arith, last-end (suc i) (omega arith)))
-            (in-links ok l) (before-in i c),
+        only-member onSimplices x (placeAt s i) (links p (placeAt s (suc i)))
+            (omega (arith, last-end (suc i) (omega arith))) (in-links ok l) (before-in i c),
       ))
       (before-or-not (suc (suc i)) (length s))
 
   -- a list that goes back meets the path's places in opposite order
   module _ {t : List Simplex} (m : MovesFrom p (lastPlace s) t) where
-    never-forth : (i j : ℕ) → suc i < length t → Meets s t i j → suc j < length s → placeAt t (suc i) ≡ placeAt s (suc j) → ⊥
+    never-forth : (i j : ℕ) → suc i < length t → Meets s t i j → suc j < length s
+        → placeAt t (suc i) ≡ placeAt s (suc j) → ⊥
     never-forth zero j c h d q = omega arith
     never-forth (suc i) j c h d q = m .onward i c (h .left i refl ∙ sym q)
 
@@ -139,8 +149,10 @@ module _ {p : Problem} (ok : Settled p) {s : List Simplex} {e : End} (k : IsPath
         )) (beside j (placeAt t (suc i)) (omega arith) l)
 
     meets : (i : ℕ) → i < length t → (j : ℕ) × Meets s t i j
-    meets zero c =
-        (pred (length s), record { across = omega (arith, k .follows .nonempty); here = m .begins; left = λ h z. absurd (omega arith) })
+    meets zero c = (
+      pred (length s),
+      record { across = omega (arith, k .follows .nonempty); here = m .begins; left = λ h z. absurd (omega arith) },
+    )
     meets (suc i) c = let h = meets i (omega arith) in step i h.0 c h.1
 
     -- and does not stop before {v}
@@ -174,14 +186,19 @@ module _ {p : Problem} (ok : Settled p) {s : List Simplex} {e : End} (k : IsPath
   opposite-moves = record {
     nonempty = rw len k.follows.nonempty;
     begins = at-opposite s 0 (pred (length s)) (omega (arith, k .follows .nonempty));
-    places = λ i c. let h = rest i (omega (arith, len)) in
+    places = λ i c.
+        let h = rest i (omega (arith, len)) in
         rw (at-opposite s (suc i) h.0 (omega (arith, h .1))) (k .follows .places h.0 (omega (arith, h .1)));
-    links = λ i c. let h = rest i (omega (arith, len)) in
+    links = λ i c.
+        let h = rest i (omega (arith, len)) in
         rw (at-opposite s (suc i) h.0 (omega (arith, h .1)), at-opposite s i (suc h.0) (omega (arith, h .1)))
         (back (placeAt s h.0) (placeAt s (suc h.0)) (next h.0 (omega (arith, h .1))) .by);
-    onward = λ i c q. let h = rest (suc i) (omega (arith, len)) in
+    onward = λ i c q.
+        let h = rest (suc i) (omega (arith, len)) in
         k .follows .onward h.0 (omega (arith, h .1))
-        (sym (at-opposite s (suc (suc i)) h.0 (omega (arith, h .1))) ∙ sym q ∙ at-opposite s i (suc (suc h.0)) (omega (arith, h .1)));
+        (sym (at-opposite s (suc (suc i)) h.0 (omega (arith, h .1)))
+        ∙ sym q
+        ∙ at-opposite s i (suc (suc h.0)) (omega (arith, h .1)));
     stops = λ x h l. stop x h l (pred (length (reverse s))) refl;
   }
     where
@@ -191,7 +208,8 @@ module _ {p : Problem} (ok : Settled p) {s : List Simplex} {e : End} (k : IsPath
       rest : (i : ℕ) → suc i < length s → (j : ℕ) × (suc i + suc j ≡ length s)
       rest i c = (length s - suc (suc i), omega arith)
 
-      stop : (x : Simplex) → isPlace p x ≡ true → linked p (lastPlace (reverse s)) x ≡ true → (n : ℕ) → pred (length (reverse s)) ≡ n
+      stop : (x : Simplex) → isPlace p x ≡ true → linked p (lastPlace (reverse s)) x ≡ true → (n : ℕ)
+          → pred (length (reverse s)) ≡ n
           → leftAt (reverse s) n ≡ some x
       stop x h l n q =
           let c = k .follows .nonempty in

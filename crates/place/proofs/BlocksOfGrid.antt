@@ -1,5 +1,5 @@
--- The blocks of a grid as blocks of the geometry. In order: next, previous, block and start agree; going back from an index; a point and its
--- coefficients as a function determine each other. Assumes nothing.
+-- The blocks of a grid as blocks of the geometry. In order: next, previous, block and start agree; going back from an
+-- index; a point and its coefficients as a function determine each other. Assumes nothing.
 use mathlib.Core.Bool.{Bool, true, false, not}
 use mathlib.Core.List.{List, [], _∷_, map}
 use mathlib.Core.Logic.{⊎-elim}
@@ -20,7 +20,8 @@ use Rattle.geometry.proofs.Points.{own-block, ring, point, next-beyond, point-o
 use Rattle.geometry.proofs.BlocksOfSizes.{blocksOfSizes, next-wrap, next-inside, next-outside as nx-later}
 use Rattle.geometry.proofs.Sizes.{nextOf, blockNumber, distanceOf, upto, shift, SameSums}
 use Rattle.grid.proofs.Round.{sized, next-first, next-later, block-at, block-fits, seat, next-previous}
-use Rattle.grid.specs.Grid.{Point, at, numBlocks, numIndices, firstIndex, size, division, blocks, indicesOf, blockIn, blockOf, next, previous, isGridPoint}
+use Rattle.grid.specs.Grid.{Point, at, numBlocks, numIndices, firstIndex, size, division, blocks, indicesOf, blockIn}
+use Rattle.grid.specs.Grid.{blockOf, next, previous, isGridPoint}
 use Rattle.place.proofs.Coefficients.{coefficients-are}
 use Rattle.place.specs.Coefficients.{IsCoefficients, coefficients}
 use Rattle.place.specs.Demand.{Settled}
@@ -29,33 +30,46 @@ use Rattle.place.specs.Problem.{Problem}
 
 next-is : (ss ds : List ℕ) (k : ℕ) → k < sum ss → nextOf ss k ≡ next (sized ss ds) k
 next-is [] ds k l = absurd (omega arith)
-next-is (s ∷ ss) ds k l =
-    ⊎-elim
-    (λ (a : k < s). ⊎-elim (λ (e : suc k ≡ s). next-wrap s ss k e ∙ sym (next-first s ss ds k a ∙ (rw (eq-eqb (suc k) (0 + s) (omega arith)))))
+next-is (s ∷ ss) ds k l = ⊎-elim
+    (λ (a : k < s). ⊎-elim
+    (λ (e : suc k ≡ s). next-wrap s ss k e ∙ sym (next-first s ss ds k a ∙ (rw (eq-eqb (suc k) (0 + s) (omega arith)))))
     (λ (n : suc k ≡ s → ⊥). next-inside s ss k (omega (arith, n))
-    ∙ sym (next-first s ss ds k a ∙ (rw (ne-eqb (suc k) (0 + s) (λ e. n (omega arith)))))) (same-or (suc k) s))
-    (λ (a : s ≤ k). let e : s + (k - s) ≡ k = omega arith in
-    nx-later s ss k a ∙ ap (λ (i : ℕ). s + i) (next-is ss ds (k - s) (omega arith)) ∙ sym (next-later s ss ds ds (k - s))
+    ∙ sym (next-first s ss ds k a ∙ (rw (ne-eqb (suc k) (0 + s) (λ e. n (omega arith))))))
+    (same-or (suc k) s))
+    (λ (a : s ≤ k).
+    let e : s + (k - s) ≡ k = omega arith in
+    nx-later s ss k a
+    ∙ ap (λ (i : ℕ). s + i) (next-is ss ds (k - s) (omega arith))
+    ∙ sym (next-later s ss ds ds (k - s))
     ∙ ap (next (sized (s ∷ ss) ds)) e)
     (before-or-not k s)
 
 block-is : (ss : List ℕ) (k : ℕ) → k < sum ss → blockNumber ss k ≡ blockIn ss k
 block-is [] k l = absurd (omega arith)
-block-is (s ∷ ss) k l =
-    ⊎-elim (λ (a : k < s). rw (lt-ltb k s a)) (λ (a : s ≤ k). rw (le-ltb k s a) (ap suc (block-is ss (k - s) (omega arith)))) (before-or-not k s)
+block-is (s ∷ ss) k l = ⊎-elim
+    (λ (a : k < s). rw (lt-ltb k s a))
+    (λ (a : s ≤ k). rw (le-ltb k s a) (ap suc (block-is ss (k - s) (omega arith))))
+    (before-or-not k s)
 
 -- how far it is back inside a block: less than its size
-distance-near : (ss : List ℕ) (h k : ℕ) → h < sum ss → blockNumber ss h ≡ blockNumber ss k → distanceOf ss h k < getD ss (blockNumber ss h) 0
+distance-near : (ss : List ℕ) (h k : ℕ) → h < sum ss → blockNumber ss h ≡ blockNumber ss k
+    → distanceOf ss h k < getD ss (blockNumber ss h) 0
 distance-near [] h k l e = absurd (omega arith)
-distance-near (s ∷ ss) h k l e =
-    ⊎-elim
+distance-near (s ∷ ss) h k l e = ⊎-elim
     (λ (a : h < s). ⊎-elim
-    (λ (b : k < s). rw (lt-ltb h s a)
-    (⊎-elim (λ (c : h < k). rw (lt-leb k h c) (omega arith)) (λ (c : k ≤ h). rw (le-leb k h c) (omega arith)) (before-or-not h k)))
-    (λ (b : s ≤ k). absurd (omega (arith, rw (lt-ltb h s a, le-ltb k s b) at e))) (before-or-not k s))
-    (λ (a : s ≤ h). ⊎-elim (λ (b : k < s). absurd (omega (arith, rw (le-ltb h s a, lt-ltb k s b) at e)))
-    (λ (b : s ≤ k). let x : suc (blockNumber ss (h - s)) ≡ suc (blockNumber ss (k - s)) = rw (le-ltb h s a, le-ltb k s b) at e in
-    rw (le-ltb h s a) (distance-near ss (h - s) (k - s) (omega arith) (omega arith))) (before-or-not k s)) (before-or-not h s)
+    (λ (b : k < s). rw (lt-ltb h s a) (⊎-elim
+    (λ (c : h < k). rw (lt-leb k h c) (omega arith))
+    (λ (c : k ≤ h). rw (le-leb k h c) (omega arith))
+    (before-or-not h k)))
+    (λ (b : s ≤ k). absurd (omega (arith, rw (lt-ltb h s a, le-ltb k s b) at e)))
+    (before-or-not k s))
+    (λ (a : s ≤ h). ⊎-elim
+    (λ (b : k < s). absurd (omega (arith, rw (le-ltb h s a, lt-ltb k s b) at e)))
+    (λ (b : s ≤ k).
+    let x : suc (blockNumber ss (h - s)) ≡ suc (blockNumber ss (k - s)) = rw (le-ltb h s a, le-ltb k s b) at e in
+    rw (le-ltb h s a) (distance-near ss (h - s) (k - s) (omega arith) (omega arith)))
+    (before-or-not k s))
+    (before-or-not h s)
 
 pub back-shift : (f : ℕ → ℕ) (n h : ℕ) → back f n (f h) ≡ f (back f n h)
 back-shift f zero h = refl
@@ -63,9 +77,10 @@ back-shift f (suc n) h = ap f (back-shift f n h)
 
 -- the first index going back that is not in U is one
 pub before-same : {R : Blocks} {U : ℕ → Bool} {h n m : ℕ} → BackOutside R U h n → BackOutside R U h m → n ≡ m
-before-same {n} {m} a b =
-    ⊎-elim (λ (l : n < m). absurd-bool (sym (b .skipped n a.some l) ∙ a .stops))
-    (λ (l : m ≤ n). ⊎-elim (λ (k : m < n). absurd-bool (sym (a .skipped m b.some k) ∙ b .stops)) (λ k. omega arith) (before-or-not m n))
+before-same {n} {m} a b = ⊎-elim
+    (λ (l : n < m). absurd-bool (sym (b .skipped n a.some l) ∙ a .stops))
+    (λ (l : m ≤ n).
+    ⊎-elim (λ (k : m < n). absurd-bool (sym (a .skipped m b.some k) ∙ b .stops)) (λ k. omega arith) (before-or-not m n))
     (before-or-not n m)
 
 upto-cong : {f g : ℕ → ℕ} → ((k : ℕ) → f k ≡ g k) → (n : ℕ) → upto f n ≡ upto g n
@@ -90,11 +105,13 @@ sum-upto f b (suc n) =
 sums-at : (ss : List ℕ) (v y : ℕ → ℕ) → SameSums ss v y → (j : ℕ)
     → upto (λ k. v (sum (take j ss) + k)) (getD ss j 0) ≡ upto (λ k. y (sum (take j ss) + k)) (getD ss j 0)
 sums-at [] v y e j = refl
-sums-at (s ∷ ss) v y e zero =
-    upto-cong (λ k. let w : 0 + k ≡ k = omega arith in ap v w) s ∙ e .0 ∙ upto-cong (λ k. let w : k ≡ 0 + k = omega arith in ap y w) s
+sums-at (s ∷ ss) v y e zero = upto-cong (λ k. let w : 0 + k ≡ k = omega arith in ap v w) s
+    ∙ e .0
+    ∙ upto-cong (λ k. let w : k ≡ 0 + k = omega arith in ap y w) s
 sums-at (s ∷ ss) v y e (suc j) =
     let x : ℕ = sum (take j ss) in
-    upto-cong (λ k. let w : s + x + k ≡ s + (x + k) = omega arith in ap v w) (getD ss j 0) ∙ sums-at ss (shift s v) (shift s y) e.1 j
+    upto-cong (λ k. let w : s + x + k ≡ s + (x + k) = omega arith in ap v w) (getD ss j 0)
+    ∙ sums-at ss (shift s v) (shift s y) e.1 j
     ∙ upto-cong (λ k. let w : s + (x + k) ≡ s + x + k = omega arith in ap y w) (getD ss j 0)
 
 -- the ring of a problem, and a point's coefficients as a function
@@ -156,10 +173,14 @@ module _ (p : Problem) where
       omega (arith, previous-agrees _ i, next-previous p.grid _ i .1)
 
   search-back : (u : List ℕ) (fuel n h : ℕ) → h < numIndices p.grid → n < fuel
-      → ((j : ℕ) → j < n → isIn eqb (back (blocksOf p .previous) (suc j) h) u ≡ true) → isIn eqb (back (blocksOf p .previous) (suc n) h) u ≡ false
+      → ((j : ℕ) → j < n → isIn eqb (back (blocksOf p .previous) (suc j) h) u ≡ true)
+      → isIn eqb (back (blocksOf p .previous) (suc n) h) u ≡ false
       → searchBack p.grid u fuel h ≡ back (blocksOf p .previous) (suc n) h
   search-back u zero n h l c s o = absurd (omega arith)
-  search-back u (suc fuel) zero h l c s o = let e = previous-agrees h l in let m : isIn eqb (previous p.grid h) u ≡ false = rw e at o in rw m (sym e)
+  search-back u (suc fuel) zero h l c s o =
+      let e = previous-agrees h l in
+      let m : isIn eqb (previous p.grid h) u ≡ false = rw e at o in
+      rw m (sym e)
   search-back u (suc fuel) (suc n) h l c s o =
       let e = previous-agrees h l in
       let m : isIn eqb (previous p.grid h) u ≡ true = rw e at (s 0 (omega arith)) in
@@ -176,8 +197,10 @@ module _ (p : Problem) where
   near-block h f l e = rw (block-is p.grid.sizes h l) at (distance-near p.grid.sizes h f l (sym e))
 
   -- document 01's b, where some other index of the block is not in u
-  pub outside-before : (u : List ℕ) (h f : ℕ) → h < numIndices p.grid → blocksOf p .block f ≡ blocksOf p .block h → (f ≡ h → ⊥) → isIn eqb f u ≡ false
-      → (n : ℕ) × BackOutside (blocksOf p) (λ k. isIn eqb k u) h n × (firstBackOutside p.grid u h ≡ back (blocksOf p .previous) n h)
+  pub outside-before : (u : List ℕ) (h f : ℕ) → h < numIndices p.grid → blocksOf p .block f ≡ blocksOf p .block h
+      → (f ≡ h → ⊥) → isIn eqb f u ≡ false
+      → (n : ℕ) × BackOutside (blocksOf p) (λ k. isIn eqb k u) h n
+      × (firstBackOutside p.grid u h ≡ back (blocksOf p .previous) n h)
   unfolding firstBackOutside
   outside-before u h f l e n o =
       let R = blocksOf p in
@@ -189,13 +212,18 @@ module _ (p : Problem) where
       ⊎-elim
       (λ i.
       let out : isIn eqb (back R.previous (suc i.0) h) u ≡ false = not-is _ i.2 in
-      let on : (j : ℕ) → j < i .0 → isIn eqb (back R.previous (suc j) h) u ≡ true = λ j m. yes (isIn eqb (back R.previous (suc j) h) u) (i .3 j m) in (
+      let on : (j : ℕ) → j < i .0 → isIn eqb (back R.previous (suc j) h) u ≡ true = λ j m.
+      yes (isIn eqb (back R.previous (suc j) h) u) (i .3 j m) in (
         suc i.0,
-        record { some = omega arith; skipped = λ j a b. let y : suc (j - 1) ≡ j = omega arith in rw y at (on (j - 1) (omega arith)); stops = out },
+        record {
+          some = omega arith;
+          skipped = λ j a b. let y : suc (j - 1) ≡ j = omega arith in rw y at (on (j - 1) (omega arith));
+          stops = out;
+        },
         search-back u (size p.grid (blockOf p.grid h)) i.0 h l (omega (arith, i .1)) on out,
       ))
-      (λ i.
-      absurd-bool (sym (yes (isIn eqb (back R.previous (suc (d - 1)) h) u) (i (d - 1) (omega (arith, d0))))
+      (λ i. absurd-bool
+      (sym (yes (isIn eqb (back R.previous (suc (d - 1)) h) u) (i (d - 1) (omega (arith, d0))))
       ∙ (rw x (ap (λ (k : ℕ). isIn eqb k u) w ∙ o))))
       (find (λ j. not (isIn eqb (back R.previous (suc j) h) u)) d)
     where
@@ -209,9 +237,10 @@ module _ (p : Problem) where
     beyond k l = List·getD-eq-default c 0 (omega (arith, hc .numbers))
 
     pub on-ring : OnRing (blocksOf p) (at c)
-    on-ring k =
-        ⊎-elim (λ (l : k < numIndices p.grid). omega (arith, hc .rule k l, ap (at c) (next-agrees k l), start-inside k l))
-        (λ (l : numIndices p.grid ≤ k). omega (arith, ap (at c) (next-outside k l))) (before-or-not k (numIndices p.grid))
+    on-ring k = ⊎-elim
+        (λ (l : k < numIndices p.grid). omega (arith, hc .rule k l, ap (at c) (next-agrees k l), start-inside k l))
+        (λ (l : numIndices p.grid ≤ k). omega (arith, ap (at c) (next-outside k l)))
+        (before-or-not k (numIndices p.grid))
 
     pub hasZeros : HasZeros (blocksOf p) (at c)
     hasZeros h =
@@ -253,13 +282,16 @@ module _ {p : Problem} (ok : Settled p) where
       ∙ sym (sum-upto (at p.start) _ (size G j)) ∙ s)))
 
   -- there and back
-  pub coefficientOf-point : {c : ℕ → ℕ} → OnRing (blocksOf p) c → HasZeros (blocksOf p) c → coefficientOf p (pointOf p c) ≡ c
+  pub coefficientOf-point : {c : ℕ → ℕ} → OnRing (blocksOf p) c → HasZeros (blocksOf p) c
+      → coefficientOf p (pointOf p c) ≡ c
   coefficientOf-point {c} g n =
       let y = pointOf p c in
       let hc = coefficientOf-is y (point-grid c g) in
       same-coefficients (blocksOf p) (on-ring p hc) g (hasZeros p hc) n
-      (λ k. ⊎-elim (λ (l : k < numIndices p.grid). coord-in p hc k l ∙ at-point p.grid.sizes p.start c k (omega arith))
-      (λ (l : numIndices p.grid ≤ k). coord-out p hc k l ∙ sym (omega (arith, ap c (next-outside p k l), start-outside p k l)))
+      (λ k. ⊎-elim
+      (λ (l : k < numIndices p.grid). coord-in p hc k l ∙ at-point p.grid.sizes p.start c k (omega arith))
+      (λ (l : numIndices p.grid ≤ k).
+      coord-out p hc k l ∙ sym (omega (arith, ap c (next-outside p k l), start-outside p k l)))
       (before-or-not k (numIndices p.grid)))
 
   pub point-coefficientOf : (y : Point) → isGridPoint p.grid y ≡ true → pointOf p (coefficientOf p y) ≡ y

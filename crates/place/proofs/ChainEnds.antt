@@ -1,4 +1,5 @@
--- Ends of places are ends of the geometry, both ways. In order: completeness; a place less one point; facet ends. Assumes nothing.
+-- Ends of places are ends of the geometry, both ways. In order: completeness; a place less one point; facet ends.
+-- Assumes nothing.
 use mathlib.Core.Bool.{Bool, true, _&&_}
 use mathlib.Core.List.{List, [], _∷_, map}
 use mathlib.Core.Logic.{inl, inr, ⊎-elim}
@@ -21,7 +22,8 @@ use Rattle.grid.proofs.Points.{onPoints}
 use Rattle.grid.proofs.Round.{block-fits}
 use Rattle.grid.specs.Grid.{Point, samePoint, at, numBlocks, numIndices, firstIndex, size, indices, isGridPoint}
 use Rattle.place.proofs.Meaning.{U-means, complete-means}
-use Rattle.place.proofs.ToChain.{inT-agrees, inT, coefficientsOf, labelOf, size-positive, in-labels, labels-in, labels-below, is-at}
+use Rattle.place.proofs.ToChain.{inT-agrees, inT, coefficientsOf, labelOf, size-positive, in-labels, labels-in}
+use Rattle.place.proofs.ToChain.{labels-below, is-at}
 use Rattle.place.proofs.LinkSymmetry.{parts}
 use Rattle.place.proofs.Positions.{set-of, at-in, in-at}
 use Rattle.place.proofs.BlocksOfGrid.{blocksOf, coefficientOf, block-agrees, block-inside, coord-in, coord-out}
@@ -30,23 +32,27 @@ use Rattle.place.specs.Ends.{isComplete}
 use Rattle.place.specs.Places.{Simplex, isPlace, setU, setT, labelSet, allLabelled}
 use Rattle.place.specs.Problem.{Problem, label}
 
-complete-ext : (R : Blocks) (l : (ℕ → ℕ) → ℕ) (t : ℕ) {q q' : ℕ → ℕ → ℕ} → ((j : ℕ) → j ≤ t → q j ≡ q' j) → (h : ℕ) → Complete R l t q h
-    → Complete R l t q' h
+complete-ext : (R : Blocks) (l : (ℕ → ℕ) → ℕ) (t : ℕ) {q q' : ℕ → ℕ → ℕ} → ((j : ℕ) → j ≤ t → q j ≡ q' j) → (h : ℕ)
+    → Complete R l t q h → Complete R l t q' h
 complete-ext R l t {q} e h c k b =
     ⊎-elim (λ w. inl (w .0, w .1, ap l (sym (e w.0 w.1)) ∙ w .2))
     (λ w. inr (λ j m. rw (e j m) at (w j m)))
     (c k b)
 
 -- a set of grid points
-module _ {p : Problem} (ok : Settled p) (s : Simplex) (on : all (isGridPoint p.grid) s ≡ true) (t : ℕ) (long : length s ≡ suc t) where
-  at-coord : (j : ℕ) → j ≤ t → (k : ℕ) → k < numIndices p.grid → coord (blocksOf p) (listAt (coefficientsOf p s) j) k ≡ at (nth s j) k
+module _ {p : Problem} (ok : Settled p) (s : Simplex) (on : all (isGridPoint p.grid) s ≡ true) (t : ℕ)
+    (long : length s ≡ suc t) where
+  at-coord : (j : ℕ) → j ≤ t → (k : ℕ) → k < numIndices p.grid
+      → coord (blocksOf p) (listAt (coefficientsOf p s) j) k ≡ at (nth s j) k
   at-coord j l k m =
       let jl : j < length s = omega arith in
       rw (listAt-map _ s j jl) (coord-in p (is-at ok s on j jl) k m)
 
   in-U : (k : ℕ) → k < numIndices p.grid → ((j : ℕ) → j ≤ t → at (nth s j) k ≡ 0) → isIn eqb k (setU p.grid s) ≡ true
-  in-U k l z =
-      U-means p.grid s k .1 (l, (λ y m. let j = in-at onPoints [] y s m in ap (λ (u : Point). at u k) (sym j.2) ∙ z j.0 (omega (arith, j .1))))
+  in-U k l z = U-means p.grid s k .1 (
+    l,
+    (λ y m. let j = in-at onPoints [] y s m in ap (λ (u : Point). at u k) (sym j.2) ∙ z j.0 (omega (arith, j .1))),
+  )
 
   U-in : (k : ℕ) → isIn eqb k (setU p.grid s) ≡ true → (j : ℕ) → j ≤ t → at (nth s j) k ≡ 0
   U-in k u j l = U-means p.grid s k .0 u .1 (nth s j) (at-in onPoints [] s j (omega arith))
@@ -61,7 +67,8 @@ module _ {p : Problem} (ok : Settled p) (s : Simplex) (on : all (isGridPoint p.g
       (λ x. inr (λ i l. at-coord i l k kl ∙ U-in k x i l))
       (complete-means p s j .0 c k (in-upFrom (firstIndex g j) (size g j) k r.0 r.1))
 
-  pub complete-of : (h j : ℕ) → j < numBlocks p.grid → blocksOf p .block h ≡ j → Complete (blocksOf p) (labelOf p) t (listAt (coefficientsOf p s)) h
+  pub complete-of : (h j : ℕ) → j < numBlocks p.grid → blocksOf p .block h ≡ j
+      → Complete (blocksOf p) (labelOf p) t (listAt (coefficientsOf p s)) h
       → isComplete p s j ≡ true
   complete-of h j lj e c =
       let g = p .grid in
@@ -69,43 +76,57 @@ module _ {p : Problem} (ok : Settled p) (s : Simplex) (on : all (isGridPoint p.g
       let r = upFrom-in (firstIndex g j) (size g j) k m in
       let kl : k < numIndices g = omega (arith, r .1, block-fits g.sizes j) in
       let q : k ≡ firstIndex g j + (k - firstIndex g j) = omega (arith, r .0) in
-      let b : blocksOf p .block k ≡ blocksOf p .block h = ap (blocksOf p .block) q
-      ∙ block-agrees p j (k - firstIndex g j) (omega (arith, r .0, r .1)) ∙ sym e in
-      ⊎-elim (λ w. let wl : w .0 < length s = omega (arith, w .1) in inl (rw (← w.2) (in-labels ok s on w.0 wl (omega (arith, w .2)))))
+      let b : blocksOf p .block k ≡ blocksOf p .block h =
+      ap (blocksOf p .block) q ∙ block-agrees p j (k - firstIndex g j) (omega (arith, r .0, r .1)) ∙ sym e in
+      ⊎-elim
+      (λ w.
+      let wl : w .0 < length s = omega (arith, w .1) in
+      inl (rw (← w.2) (in-labels ok s on w.0 wl (omega (arith, w .2)))))
       (λ w. inr (in-U k kl (λ i l. sym (at-coord i l k kl) ∙ w i l)))
       (c k b))
 
   -- what is complete is so for one of the blocks
-  pub complete-below : allLabelled p s ≡ true → (h : ℕ) → Complete (blocksOf p) (labelOf p) t (listAt (coefficientsOf p s)) h → h < numIndices p.grid
-  complete-below a h c =
-      ⊎-elim (λ l. l)
+  pub complete-below : allLabelled p s ≡ true → (h : ℕ)
+      → Complete (blocksOf p) (labelOf p) t (listAt (coefficientsOf p s)) h
+      → h < numIndices p.grid
+  complete-below a h c = ⊎-elim
+      (λ l. l)
       (λ (l : numIndices p.grid ≤ h). absurd (⊎-elim
-      (λ w. let wl : w .0 < length s = omega (arith, w .1) in
-      omega (arith, labels-below ok s on a w.0 wl, w .2))
+      (λ w. let wl : w .0 < length s = omega (arith, w .1) in omega (arith, labels-below ok s on a w.0 wl, w .2))
       (λ w.
       let l0 : 0 < length s = omega arith in
-      let z : coord (blocksOf p) (listAt (coefficientsOf p s) 0) h ≡ 1 = rw (listAt-map _ s 0 l0) (coord-out p (is-at ok s on 0 l0) h l) in
-      omega (arith, w 0 (omega arith))) (c h refl))) (before-or-not h (numIndices p.grid))
+      let z : coord (blocksOf p) (listAt (coefficientsOf p s) 0) h ≡ 1 =
+      rw (listAt-map _ s 0 l0) (coord-out p (is-at ok s on 0 l0) h l) in
+      omega (arith, w 0 (omega arith)))
+      (c h refl)))
+      (before-or-not h (numIndices p.grid))
 
   -- the labels are exactly a set of indices
   pub labels-are : (u : List ℕ) → u ≡ filter (λ k. isIn eqb k u) (indices p.grid)
       → Covers (labelOf p) (λ k. isIn eqb k u) t (listAt (coefficientsOf p s))
       → Inside (labelOf p) (λ k. isIn eqb k u) t (listAt (coefficientsOf p s)) → labelSet p s ≡ u
   unfolding labelSet
-  labels-are u e cov ins =
-      set-of (λ h. isIn eqb (suc h) (map (label p) s)) (indices p.grid) ∙ filter-cong onNumbers (indices p.grid) (λ k m. both _ _
+  labels-are u e cov ins = set-of (λ h. isIn eqb (suc h) (map (label p) s)) (indices p.grid)
+      ∙ filter-cong onNumbers (indices p.grid)
+      (λ k m. both _ _
       (λ x. let w = labels-in ok s on k x in rw w.2 at (ins w.0 (omega (arith, w .1))))
-      (λ x. let w = cov k x in
-      rw w.2 at (in-labels ok s on w.0 (omega (arith, w .1)) (omega (arith, w .2, upFrom-in 0 (numIndices p.grid) k m .1))))) ∙ sym e
+      (λ x.
+      let w = cov k x in
+      rw w.2
+      at (in-labels ok s on w.0 (omega (arith, w .1)) (omega (arith, w .2, upFrom-in 0 (numIndices p.grid) k m .1)))))
+      ∙ sym e
 
 -- a place less one point
 remove-in : (s : Simplex) (i : ℕ) (y : Point) → isIn samePoint y (removeAt i s) ≡ true → isIn samePoint y s ≡ true
 remove-in [] i y m = m
 remove-in (x ∷ s) zero y m = in-later onPoints y x s m
-remove-in (x ∷ s) (suc i) y m =
-    ⊎-elim (λ e. rw e (in-here onPoints x s)) (λ n. in-later onPoints y x s (remove-in s i y n)) (in-cases onPoints y x (removeAt i s) m)
+remove-in (x ∷ s) (suc i) y m = ⊎-elim
+    (λ e. rw e (in-here onPoints x s))
+    (λ n. in-later onPoints y x s (remove-in s i y n))
+    (in-cases onPoints y x (removeAt i s) m)
 
-module _ {p : Problem} (ok : Settled p) (s : Simplex) (h : isPlace p s ≡ true) (n : ℕ) (long : length s ≡ suc (suc n)) (i : ℕ) (il : i ≤ suc n) where
+module _ {p : Problem} (ok : Settled p) (s : Simplex) (h : isPlace p s ≡ true) (n : ℕ) (long : length s ≡ suc (suc n))
+    (i : ℕ) (il : i ≤ suc n) where
   pub facet-grid : all (isGridPoint p.grid) (removeAt i s) ≡ true
   facet-grid =
       in-all onPoints (isGridPoint p.grid) (removeAt i s)
@@ -130,12 +151,16 @@ module _ {p : Problem} (ok : Settled p) (s : Simplex) (h : isPlace p s ≡ true)
 
   -- facet ends
   pub facet-end : allLabelled p s ≡ true → (j : ℕ) → j < numBlocks p.grid → labelSet p (removeAt i s) ≡ setT p s
-      → isComplete p (removeAt i s) j ≡ true → FacetEnd (blocksOf p) (labelOf p) (inT p s) n (coefficientsOf p s) i (firstIndex p.grid j + 0)
+      → isComplete p (removeAt i s) j ≡ true
+      → FacetEnd (blocksOf p) (labelOf p) (inT p s) n (coefficientsOf p s) i (firstIndex p.grid j + 0)
   facet-end own j lj q c = record {
     bound = il;
-    covers = λ k t. let w = labels-in ok (removeAt i s) facet-grid k (rw q t) in let wl : w .0 ≤ n = omega (arith, w .1, facet-long) in
+    covers = λ k t.
+        let w = labels-in ok (removeAt i s) facet-grid k (rw q t) in
+        let wl : w .0 ≤ n = omega (arith, w .1, facet-long) in
         (w .0, wl, ap (labelOf p) (sym (facet-list w.0 wl)) ∙ w .2);
-    inside = λ a l. rw q at (rw (facet-list a l) at (in-labels ok (removeAt i s) facet-grid a (omega (arith, facet-long))
+    inside = λ a l. rw q at (rw (facet-list a l)
+        at (in-labels ok (removeAt i s) facet-grid a (omega (arith, facet-long))
         (labels-below ok (removeAt i s) facet-grid (facet-labelled own) a (omega (arith, facet-long)))));
     complete = complete-ext (blocksOf p) (labelOf p) n facet-list _ (complete-to ok _ facet-grid n facet-long j lj c);
   }

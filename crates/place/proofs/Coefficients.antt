@@ -1,5 +1,5 @@
--- Each grid point has one coefficient list, and `coefficients` gives it. In order: one block; the product of blocks; a list is at most its
--- division; the list is one; there is no other. Assumes nothing.
+-- Each grid point has one coefficient list, and `coefficients` gives it. In order: one block; the product of blocks; a
+-- list is at most its division; the list is one; there is no other. Assumes nothing.
 use mathlib.Core.Bool.{Bool, true, false, cond}
 use mathlib.Core.List.{List, [], _∷_, _++_, map}
 use mathlib.Core.Logic.{_⊎_, inl, inr, ⊎-elim}
@@ -15,7 +15,8 @@ use Rattle.combinatorics.specs.Lists.{all, sum}
 use Rattle.grid.proofs.Points.{Fits, none, block, fits-of}
 use Rattle.grid.proofs.Round.{sized, next-first, next-later, find-block, block-fits, next-at}
 use Rattle.grid.specs.Grid.{Grid, Point, at, numBlocks, numIndices, firstIndex, size, division, next, isGridPoint}
-use Rattle.place.specs.Coefficients.{IsCoefficients, runOn, least, blockCoefficients, productCoefficients, coefficients}
+use Rattle.place.specs.Coefficients.{IsCoefficients, runOn, least, blockCoefficients, productCoefficients}
+use Rattle.place.specs.Coefficients.{coefficients}
 use Rattle.place.specs.Problem.{Problem}
 
 -- one block
@@ -31,7 +32,8 @@ run-step e (v ∷ vs) [] q c i l = absurd (omega arith)
 run-step e (v ∷ []) (y ∷ ys) q c i l = absurd (omega arith)
 run-step e (v ∷ w ∷ vs) (y ∷ []) q c i l = absurd (omega arith)
 run-step e (v ∷ w ∷ vs) (y ∷ z ∷ ys) q c zero l = omega arith
-run-step e (v ∷ w ∷ vs) (y ∷ z ∷ ys) q c (suc i) l = run-step (e + v - y) (w ∷ vs) (z ∷ ys) (omega arith) (omega arith) i (omega arith)
+run-step e (v ∷ w ∷ vs) (y ∷ z ∷ ys) q c (suc i) l =
+    run-step (e + v - y) (w ∷ vs) (z ∷ ys) (omega arith) (omega arith) i (omega arith)
 
 run-last : (e : ℕ) (v y : List ℕ) → length v ≡ length y → sum y ≤ e → (i : ℕ) → suc i ≡ length v
     → at y i + (e + sum v - sum y) ≡ at v i + at (runOn e v y) i
@@ -43,8 +45,9 @@ run-last e (v ∷ []) (y ∷ []) q c (suc i) l = absurd (omega arith)
 run-last e (v ∷ w ∷ vs) (y ∷ []) q c i l = absurd (omega arith)
 run-last e (v ∷ w ∷ vs) (y ∷ z ∷ ys) q c zero l = absurd (omega arith)
 run-last e (v ∷ w ∷ vs) (y ∷ z ∷ ys) q c (suc i) l =
-    let r : at (z ∷ ys) i + ((e + v - y) + sum (w ∷ vs) - sum (z ∷ ys)) ≡ at (w ∷ vs) i + at (runOn (e + v - y) (w ∷ vs) (z ∷ ys)) i = run-last
-    (e + v - y) (w ∷ vs) (z ∷ ys) (omega arith) (omega arith) i (omega arith) in
+    let r : at (z ∷ ys) i + ((e + v - y) + sum (w ∷ vs) - sum (z ∷ ys))
+    ≡ at (w ∷ vs) i + at (runOn (e + v - y) (w ∷ vs) (z ∷ ys)) i =
+    run-last (e + v - y) (w ∷ vs) (z ∷ ys) (omega arith) (omega arith) i (omega arith) in
     omega arith
 
 -- how far the numbers of a block lie from the first, and from each other
@@ -53,10 +56,12 @@ run-near : (e : ℕ) (v y : List ℕ) → length v ≡ length y → sum y ≤ e 
 run-near e [] y q c i l = absurd (omega arith)
 run-near e (v ∷ vs) [] q c i l = absurd (omega arith)
 run-near e (v ∷ vs) (y ∷ ys) q c zero l = (omega arith, omega arith)
-run-near e (v ∷ vs) (y ∷ ys) q c (suc i) l = let r = run-near (e + v - y) vs ys (omega arith) (omega arith) i (omega arith) in
+run-near e (v ∷ vs) (y ∷ ys) q c (suc i) l =
+    let r = run-near (e + v - y) vs ys (omega arith) (omega arith) i (omega arith) in
     (omega (arith, r .0), omega (arith, r .1))
 
-run-gap : (d e : ℕ) (v y : List ℕ) → length v ≡ length y → sum y ≤ e → sum v ≤ d → sum y ≤ d → (i j : ℕ) → i < length v → j < length v
+run-gap : (d e : ℕ) (v y : List ℕ) → length v ≡ length y → sum y ≤ e → sum v ≤ d → sum y ≤ d → (i j : ℕ) → i < length v
+    → j < length v
     → at (runOn e v y) i ≤ at (runOn e v y) j + d
 run-gap d e [] y q c a b i j l m = absurd (omega arith)
 run-gap d e (v ∷ vs) [] q c a b i j l m = absurd (omega arith)
@@ -90,7 +95,8 @@ module _ (d : ℕ) (v y : List ℕ) (q : length v ≡ length y) (sv : sum v ≡ 
   block-length = length-map (runOn d v y) (λ x. x - least d (runOn d v y)) ∙ length-run d v y q
 
   block-rule : (h : ℕ) → h < length v
-      → at y h + at (blockCoefficients d v y) (cond (eqb (suc h) (0 + length v)) 0 (suc h)) ≡ at v h + at (blockCoefficients d v y) h
+      → at y h + at (blockCoefficients d v y) (cond (eqb (suc h) (0 + length v)) 0 (suc h))
+      ≡ at v h + at (blockCoefficients d v y) h
   block-rule h c = go (eqb (suc h) (0 + length v)) refl
     where
       r : List ℕ
@@ -107,7 +113,8 @@ module _ (d : ℕ) (v y : List ℕ) (q : length v ≡ length y) (sv : sum v ≡ 
       head (v ∷ vs) [] q c = absurd (omega arith)
       head (v ∷ vs) (y ∷ ys) q c = refl
 
-      go : (b : Bool) → eqb (suc h) (0 + length v) ≡ b → at y h + at (map (λ x. x - a) r) (cond b 0 (suc h)) ≡ at v h + at (map (λ x. x - a) r) h
+      go : (b : Bool) → eqb (suc h) (0 + length v) ≡ b
+          → at y h + at (map (λ x. x - a) r) (cond b 0 (suc h)) ≡ at v h + at (map (λ x. x - a) r) h
       go true e =
           let w : suc h ≡ 0 + length v = eqb-true _ _ e in
           omega (
@@ -121,7 +128,14 @@ module _ (d : ℕ) (v y : List ℕ) (q : length v ≡ length y) (sv : sum v ≡ 
           )
       go false e =
           let w : (suc h ≡ 0 + length v → ⊥) = eqb-false _ _ e in
-          omega (arith, at-map a r (suc h), at-map a r h, run-step d v y q (omega arith) h (omega arith), low h c, low (suc h) (omega arith))
+          omega (
+            arith,
+            at-map a r (suc h),
+            at-map a r h,
+            run-step d v y q (omega arith) h (omega arith),
+            low h c,
+            low (suc h) (omega arith),
+          )
 
   block-at-most : (i : ℕ) → i < length v → at (blockCoefficients d v y) i ≤ d
   block-at-most i l =
@@ -170,10 +184,13 @@ split : (s d : ℕ) (ss ds a l b m : List ℕ) → length a ≡ s → length b �
 split s d ss ds a l b m p q = rw (take-at a l s p, drop-at a l s p, take-at b m s q, drop-at b m s q)
 
 cut-split : {s d : ℕ} {ss ds v y : List ℕ} (a : Cut s d ss ds v) (b : Cut s d ss ds y)
-    → productCoefficients (s ∷ ss) (d ∷ ds) v y ≡ blockCoefficients d a.front b.front ++ productCoefficients ss ds a.rest b.rest
-cut-split {s} {d} {ss} {ds} a b = rw (a .joined, b .joined) (split s d ss ds a.front a.rest b.front b.rest a.long b.long)
+    → productCoefficients (s ∷ ss) (d ∷ ds) v y
+    ≡ blockCoefficients d a.front b.front ++ productCoefficients ss ds a.rest b.rest
+cut-split {s} {d} {ss} {ds} a b =
+    rw (a .joined, b .joined) (split s d ss ds a.front a.rest b.front b.rest a.long b.long)
 
-product-length : (ss ds : List ℕ) {v y : List ℕ} → Fits ss ds v → Fits ss ds y → length (productCoefficients ss ds v y) ≡ sum ss
+product-length : (ss ds : List ℕ) {v y : List ℕ} → Fits ss ds v → Fits ss ds y
+    → length (productCoefficients ss ds v y) ≡ sum ss
 product-length [] ds fv fy = refl
 product-length (s ∷ ss) [] fv fy = absurd (no-division fv)
 product-length (s ∷ ss) (d ∷ ds) fv fy =
@@ -226,8 +243,8 @@ product-rule (s ∷ ss) (d ∷ ds) {v} {y} es fv fy h c =
     here l =
         let n : ℕ = cond (eqb (suc h) (0 + s)) 0 (suc h) in
         let nl : n < s = go (eqb (suc h) (0 + s)) refl in
-        let r : at bv h + at cb (cond (eqb (suc h) (0 + length av)) 0 (suc h)) ≡ at av h + at cb h = block-rule d av bv e a.total b.total h
-        (omega (arith, a .long)) in
+        let r : at bv h + at cb (cond (eqb (suc h) (0 + length av)) 0 (suc h)) ≡ at av h + at cb h =
+        block-rule d av bv e a.total b.total h (omega (arith, a .long)) in
         rw (
           next-first s ss es h l,
           List·getD-append bv bl 0 h (omega (arith, b .long)),
@@ -245,23 +262,33 @@ product-rule (s ∷ ss) (d ∷ ds) {v} {y} es fv fy h c =
 
     later : (k : ℕ) → h ≡ s + k → at bl k + at cl (next (sized ss es) k) ≡ at al k + at cl k
         → at (bv ++ bl) h + at (cb ++ cl) (next (sized (s ∷ ss) es) h) ≡ at (av ++ al) h + at (cb ++ cl) h
-    later k q r =
-        rw (q, next-later s ss es es k, shift bv bl b.long k, shift av al a.long k, shift cb cl lc k, shift cb cl lc (next (sized ss es) k)) r
+    later k q r = rw (
+      q,
+      next-later s ss es es k,
+      shift bv bl b.long k,
+      shift av al a.long k,
+      shift cb cl lc k,
+      shift cb cl lc (next (sized ss es) k),
+    ) r
 
-product-zero : (ss ds : List ℕ) {v y : List ℕ} → all (λ s. leb 2 s) ss ≡ true → Fits ss ds v → Fits ss ds y → (j : ℕ) → j < length ss
+product-zero : (ss ds : List ℕ) {v y : List ℕ} → all (λ s. leb 2 s) ss ≡ true → Fits ss ds v → Fits ss ds y → (j : ℕ)
+    → j < length ss
     → (h : ℕ) × (sum (take j ss) ≤ h) × (h < sum (take j ss) + getD ss j 0) × (at (productCoefficients ss ds v y) h ≡ 0)
 product-zero [] ds w fv fy j c = absurd (omega arith)
 product-zero (s ∷ ss) [] w fv fy j c = absurd (no-division fv)
 product-zero (s ∷ ss) (d ∷ ds) {v} {y} w fv fy zero c =
-    let a = cut fv in let b = cut fy in
+    let a = cut fv in
+    let b = cut fy in
     let e : length a.front ≡ length b.front = a .long ∙ sym b.long in
     let two : 2 ≤ s = leb-true 2 s (and-left (leb 2 s) _ w) in
     let i = block-zero d a.front b.front e a.total b.total (omega (arith, a .long)) in
-    let lc : length (blockCoefficients d a.front b.front) ≡ s = block-length d a.front b.front e a.total b.total ∙ a .long in
-    let z : at (productCoefficients (s ∷ ss) (d ∷ ds) v y) i.0 ≡ 0 =
-    ap (λ (l : List ℕ). at l i.0) (cut-split a b)
-    ∙ List·getD-append (blockCoefficients d a.front b.front) (productCoefficients ss ds a.rest b.rest) 0 i.0 (omega (arith, i .1, lc, a .long)) ∙ i .2
-    in (i .0, omega arith, omega (arith, i .1, a .long), z)
+    let lc : length (blockCoefficients d a.front b.front) ≡ s =
+    block-length d a.front b.front e a.total b.total ∙ a .long in
+    let z : at (productCoefficients (s ∷ ss) (d ∷ ds) v y) i.0 ≡ 0 = ap (λ (l : List ℕ). at l i.0) (cut-split a b)
+    ∙ List·getD-append (blockCoefficients d a.front b.front) (productCoefficients ss ds a.rest b.rest) 0 i.0
+    (omega (arith, i .1, lc, a .long))
+    ∙ i .2 in
+    (i .0, omega arith, omega (arith, i .1, a .long), z)
 product-zero (s ∷ ss) (d ∷ ds) w fv fy (suc j) c =
     let a = cut fv in let b = cut fy in
     let e : length a.front ≡ length b.front = a .long ∙ sym b.long in
@@ -273,30 +300,42 @@ product-zero (s ∷ ss) (d ∷ ds) w fv fy (suc j) c =
     (s + i .0, omega (arith, i .1), omega (arith, i .2), ap (λ (l : List ℕ). at l (s + i .0)) (cut-split a b) ∙ z)
 
 -- a coefficient is at most the division of a block
-product-at-most : (ss ds : List ℕ) {v y : List ℕ} → Fits ss ds v → Fits ss ds y → (k : ℕ) → (j : ℕ) × (at (productCoefficients ss ds v y) k ≤ getD ds j 0)
+product-at-most : (ss ds : List ℕ) {v y : List ℕ} → Fits ss ds v → Fits ss ds y → (k : ℕ)
+    → (j : ℕ) × (at (productCoefficients ss ds v y) k ≤ getD ds j 0)
 product-at-most [] ds fv fy k = (0, omega arith)
 product-at-most (s ∷ ss) [] fv fy k = absurd (no-division fv)
 product-at-most (s ∷ ss) (d ∷ ds) {v} {y} fv fy k =
-    let a = cut fv in let b = cut fy in
+    let a = cut fv in
+    let b = cut fy in
     let e : length a.front ≡ length b.front = a .long ∙ sym b.long in
     let cb : List ℕ = blockCoefficients d a.front b.front in
     let cl : List ℕ = productCoefficients ss ds a.rest b.rest in
     let lc : length cb ≡ length a.front = block-length d a.front b.front e a.total b.total in
-    let w : at (productCoefficients (s ∷ ss) (d ∷ ds) v y) k ≡ at (cb ++ cl) k = ap (λ (l : List ℕ). at l k) (cut-split a b) in
-    ⊎-elim (λ (x : k < length cb). (0, omega (arith, w, List·getD-append cb cl 0 k x, block-at-most d a.front b.front e a.total b.total k (omega arith))))
-    (λ (x : length cb ≤ k). let z : length cb + (k - length cb) ≡ k = omega arith in
+    let w : at (productCoefficients (s ∷ ss) (d ∷ ds) v y) k ≡ at (cb ++ cl) k =
+    ap (λ (l : List ℕ). at l k) (cut-split a b) in
+    ⊎-elim
+    (λ (x : k < length cb). (
+      0,
+      omega (arith, w, List·getD-append cb cl 0 k x, block-at-most d a.front b.front e a.total b.total k (omega arith)),
+    ))
+    (λ (x : length cb ≤ k).
+    let z : length cb + (k - length cb) ≡ k = omega arith in
     let i = product-at-most ss ds a.fits b.fits (k - length cb) in
     (suc i.0, omega (arith, w, rw z at (getD-append-add cb cl (k - length cb) 0), i .1)))
     (before-or-not k (length cb))
 
-pub coefficients-at-most : (p : Problem) (y : Point) → length p.grid.divisions ≡ numBlocks p.grid → isGridPoint p.grid p.start ≡ true
-    → isGridPoint p.grid y ≡ true → (k : ℕ) → (j : ℕ) × (at (coefficients p y) k ≤ division p.grid j)
+pub coefficients-at-most : (p : Problem) (y : Point) → length p.grid.divisions ≡ numBlocks p.grid
+    → isGridPoint p.grid p.start ≡ true → isGridPoint p.grid y ≡ true → (k : ℕ)
+    → (j : ℕ) × (at (coefficients p y) k ≤ division p.grid j)
 unfolding coefficients
-coefficients-at-most p y e hv hy = let g = p .grid in product-at-most g.sizes g.divisions (fits-of g p.start e hv) (fits-of g y e hy)
+coefficients-at-most p y e hv hy =
+    let g = p .grid in
+    product-at-most g.sizes g.divisions (fits-of g p.start e hv) (fits-of g y e hy)
 
 -- the numbers that `coefficients` gives are a coefficient list
-pub coefficients-are : (p : Problem) (y : Point) → length p.grid.divisions ≡ numBlocks p.grid → all (λ s. leb 2 s) p.grid.sizes ≡ true
-    → isGridPoint p.grid p.start ≡ true → isGridPoint p.grid y ≡ true → IsCoefficients p y (coefficients p y)
+pub coefficients-are : (p : Problem) (y : Point) → length p.grid.divisions ≡ numBlocks p.grid
+    → all (λ s. leb 2 s) p.grid.sizes ≡ true → isGridPoint p.grid p.start ≡ true → isGridPoint p.grid y ≡ true
+    → IsCoefficients p y (coefficients p y)
 unfolding coefficients
 coefficients-are p y e w hv hy =
     let g = p .grid in
@@ -310,12 +349,14 @@ coefficients-are p y e w hv hy =
 
 -- and there is no other
 pub coefficients-only : {p : Problem} {y : Point} {c d : List ℕ} → IsCoefficients p y c → IsCoefficients p y d → c ≡ d
-coefficients-only {p} {y} {c} {d} hc hd = ext-getD 0 c d (hc .numbers ∙ sym hd.numbers) (λ h l. equal h (omega (arith, hc .numbers)))
+coefficients-only {p} {y} {c} {d} hc hd =
+    ext-getD 0 c d (hc .numbers ∙ sym hd.numbers) (λ h l. equal h (omega (arith, hc .numbers)))
   where
     g : Grid
     g = p .grid
 
-    along : (j i : ℕ) → i < size g j → at c (firstIndex g j + i) + at d (firstIndex g j) ≡ at d (firstIndex g j + i) + at c (firstIndex g j)
+    along : (j i : ℕ) → i < size g j
+        → at c (firstIndex g j + i) + at d (firstIndex g j) ≡ at d (firstIndex g j + i) + at c (firstIndex g j)
     along j zero l = let z : firstIndex g j + 0 ≡ firstIndex g j = omega arith in rw z (omega arith)
     along j (suc i) l =
         let f = firstIndex g j in
@@ -342,5 +383,6 @@ coefficients-only {p} {y} {c} {d} hc hd = ext-getD 0 c d (hc .numbers ∙ sym hd
     equal : (h : ℕ) → h < numIndices g → at c h ≡ at d h
     equal h l =
         let r = find-block g.sizes h l in
-        let e : at c (firstIndex g r.0 + r .1) ≡ at d (firstIndex g r.0 + r .1) = omega (arith, along r.0 r.1 r.3, firsts r.0 r.2) in
+        let e : at c (firstIndex g r.0 + r .1) ≡ at d (firstIndex g r.0 + r .1) =
+        omega (arith, along r.0 r.1 r.3, firsts r.0 r.2) in
         rw r.4 e

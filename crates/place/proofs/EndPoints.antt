@@ -37,7 +37,8 @@ pub record IsSimplex (p : Problem) (s : Simplex) : Type 0 where
 all-removeAt : {A : Type 0} (q : A → Bool) (i : ℕ) (xs : List A) → all q xs ≡ true → all q (removeAt i xs) ≡ true
 all-removeAt q i [] a = a
 all-removeAt q zero (x ∷ xs) a = and-right (q x) (all q xs) a
-all-removeAt q (suc i) (x ∷ xs) a = and-both _ _ (and-left (q x) (all q xs) a) (all-removeAt q i xs (and-right (q x) (all q xs) a))
+all-removeAt q (suc i) (x ∷ xs) a =
+    and-both _ _ (and-left (q x) (all q xs) a) (all-removeAt q i xs (and-right (q x) (all q xs) a))
 
 module _ (p : Problem) (ok : Settled p) where
   place-simplex : (s : Simplex) → isPlace p s ≡ true → IsSimplex p s

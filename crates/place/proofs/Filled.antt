@@ -1,5 +1,6 @@
--- The table with each gap filled, and the path beside its path. A table without gaps is what the moves are about; what a run that reads the
--- table with gaps needs is said here: its places are those of the filled table, as far as they go. Assumes nothing.
+-- The table with each gap filled, and the path beside its path. A table without gaps is what the moves are about; what
+-- a run that reads the table with gaps needs is said here: its places are those of the filled table, as far as they go.
+-- Assumes nothing.
 use mathlib.Core.Bool.{true, false, _&&_}
 use mathlib.Core.List.{List, [], _∷_, map}
 use mathlib.Core.Logic.{⊎-elim}
@@ -39,7 +40,11 @@ all-right m (l ∷ ls) a =
     (all-right m ls (and-right (leb 1 l && leb l m) (all (λ l. leb 1 l && leb l m) ls) a))
 
 pub full-accepted : {p : Problem} → FullyLabelled p → Accepted p
-full-accepted {p} ok = record { settled = ok .settled; tableLength = ok .tableLength; labels = all-right _ p.labels ok.labels }
+full-accepted {p} ok = record {
+  settled = ok .settled;
+  tableLength = ok .tableLength;
+  labels = all-right _ p.labels ok.labels;
+}
 
 module _ {p : Problem} (ok : FullyLabelled p) where
   pub full-label : (y : Point) → isGridPoint p.grid y ≡ true → hasLabel p y ≡ true
@@ -63,7 +68,8 @@ fill (suc l) = suc l
 abbrev pub filledTable : Problem → Problem
 filledTable p = withLabels p (map fill (p .labels))
 
-fill-in : (m : ℕ) (ls : List ℕ) → 1 ≤ m → all (λ l. leb l m) ls ≡ true → all (λ l. leb 1 l && leb l m) (map fill ls) ≡ true
+fill-in : (m : ℕ) (ls : List ℕ) → 1 ≤ m → all (λ l. leb l m) ls ≡ true
+    → all (λ l. leb 1 l && leb l m) (map fill ls) ≡ true
 fill-in m [] h a = refl
 fill-in m (zero ∷ ls) h a = and-both _ _ (le-leb 1 m h) (fill-in m ls h (and-right (leb 0 m) (all (λ l. leb l m) ls) a))
 fill-in m (suc l ∷ ls) h a =
@@ -114,24 +120,31 @@ module _ {p : Problem} (ok : Accepted p) where
   pub beside : (k : ℕ) → k < pathLength p → (k < pathLength (filledTable p))
       × (placeAt (path p .visited) k ≡ placeAt (path (filledTable p) .visited) k)
   beside k l =
-      let w = run-follows accepted-filled (path p .visited) (follows-filled p (map fill p.labels) fills (path p .visited) (demand3-holds ok .follows)) k l in
+      let w = run-follows accepted-filled (path p .visited)
+      (follows-filled p (map fill p.labels) fills (path p .visited) (demand3-holds ok .follows)) k l in
       (w .0, w .1)
 
   no-longer : pathLength p ≤ pathLength (filledTable p)
-  no-longer = let n = demand3-holds ok .follows .nonempty in omega (arith, beside (pred (pathLength p)) (omega arith) .0)
+  no-longer =
+      let n = demand3-holds ok .follows .nonempty in
+      omega (arith, beside (pred (pathLength p)) (omega arith) .0)
 
   -- before the last place each point has a label
   pub known-before : (k : ℕ) → suc k < pathLength p → allLabelled p (placeAt (path (filledTable p) .visited) k) ≡ true
   known-before k l = rw (← beside k (omega arith) .1) (demand3-holds ok .follows .known k l)
 
   -- where a point has none, its label is asked for
-  pub gap-answer : (k : ℕ) → k < pathLength p → (y : Point) → isIn samePoint y (placeAt (path (filledTable p) .visited) k) ≡ true
-      → hasLabel p y ≡ false → (b : ℕ) → k < b → answer p b ≡ unknown k (position p.grid y)
+  pub gap-answer : (k : ℕ) → k < pathLength p → (y : Point)
+      → isIn samePoint y (placeAt (path (filledTable p) .visited) k) ≡ true → hasLabel p y ≡ false → (b : ℕ) → k < b
+      → answer p b ≡ unknown k (position p.grid y)
   gap-answer k l y m f b c =
       let here : isIn samePoint y (placeAt (path p .visited) k) ≡ true = rw (beside k l .1) m in
       let last : pathLength p ≡ suc k = ⊎-elim
-      (λ d. absurd-bool (sym (all-in onPoints (hasLabel p) (placeAt (path p .visited) k) (demand3-holds ok .follows .known k d) y here) ∙ f))
-      (λ d. omega arith) (before-or-not (suc k) (pathLength p)) in
+      (λ d. absurd-bool
+      (sym (all-in onPoints (hasLabel p) (placeAt (path p .visited) k) (demand3-holds ok .follows .known k d) y here)
+      ∙ f))
+      (λ d. omega arith)
+      (before-or-not (suc k) (pathLength p)) in
       asks-path ok (demand3-holds ok .follows) k last y here f .1 b c
 
   module _ (k : ℕ) (l : k < pathLength p) (own : allLabelled p (placeAt (path (filledTable p) .visited) k) ≡ true) where
@@ -142,9 +155,11 @@ module _ {p : Problem} (ok : Accepted p) where
         last : lastPlace (path p .visited) ≡ placeAt (path p .visited) k
         last = let z : pred (pathLength p) ≡ k = omega arith in ap (placeAt (path p .visited)) z
 
-        go : (x : Option End) → path p .end ≡ x → Stop p (lastPlace (path p .visited)) x → (e : End) × (path p .end ≡ some e)
+        go : (x : Option End) → path p .end ≡ x → Stop p (lastPlace (path p .visited)) x
+            → (e : End) × (path p .end ≡ some e)
         go (some e) r s = (e, r)
-        go none r (atGap y g) = absurd (gap-not-all ok (twoWays ok.settled) (lastPlace (path p .visited)) g (rw (last, beside k l .1) own))
+        go none r (atGap y g) =
+            absurd (gap-not-all ok (twoWays ok.settled) (lastPlace (path p .visited)) g (rw (last, beside k l .1) own))
 
     -- and so the filled table's
     same-answers : pathLength p ≡ suc k → (b : ℕ) → answer (filledTable p) b ≡ answer p b
@@ -154,10 +169,12 @@ module _ {p : Problem} (ok : Accepted p) where
 
     -- where the filled table's path goes on, so does this
     pub further-on : suc k < pathLength (filledTable p) → suc k < pathLength p
-    further-on d = ⊎-elim (λ c. c)
+    further-on d = ⊎-elim
+        (λ c. c)
         (λ c.
         let q : pathLength p ≡ suc k = omega arith in
-        let s : answer p (suc k) ≡ spent (suc k) = sym (same-answers q (suc k)) ∙ demand3-holds accepted-filled .spends (suc k) .1 d in
+        let s : answer p (suc k) ≡ spent (suc k) =
+        sym (same-answers q (suc k)) ∙ demand3-holds accepted-filled .spends (suc k) .1 d in
         absurd (omega (arith, demand3-holds ok .spends (suc k) .0 s)))
         (before-or-not (suc k) (pathLength p))
 

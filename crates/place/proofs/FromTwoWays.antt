@@ -1,6 +1,6 @@
--- Demand 3 for every accepted table, from theorem W. In order: ends are complete; no place stands twice; one way on from each place
--- whose points have labels; the bound; the path stops at an end or at a gap; the answer; the path is the only list that is one; a run
--- follows it; what holds where the path ends; demand 3. Assumes nothing.
+-- Demand 3 for every accepted table, from theorem W. In order: ends are complete; no place stands twice; one way on
+-- from each place whose points have labels; the bound; the path stops at an end or at a gap; the answer; the path is
+-- the only list that is one; a run follows it; what holds where the path ends; demand 3. Assumes nothing.
 use mathlib.Core.Bool.{Bool, true, false, not}
 use mathlib.Core.List.{List, [], _∷_, _++_, map}
 use mathlib.Core.Logic.{_⊎_, inl, inr, ⊎-elim}
@@ -12,7 +12,8 @@ use lib.Dec.{eqb}
 use lib.ListN.{length, getD, length-append, length-map}
 use lib.Seq.{ext-getD}
 use native.Mathlib.Omega.{arith}
-use Rattle.combinatorics.proofs.Basics.{absurd-bool, and-both, and-left, and-right, before-or-not, false-of, not-is, same-or, true-or-false}
+use Rattle.combinatorics.proofs.Basics.{absurd-bool, and-both, and-left, and-right, before-or-not, false-of, not-is}
+use Rattle.combinatorics.proofs.Basics.{same-or, true-or-false}
 use Rattle.combinatorics.proofs.Lists.{all-in, in-filter, filter-in, in-cases, in-here}
 use Rattle.combinatorics.proofs.Lists.{distinct-filter, only-member, pigeon, length-without}
 use Rattle.combinatorics.proofs.Walk.{Walks, apart}
@@ -28,12 +29,14 @@ use Rattle.place.proofs.LinkSymmetry.{parts, place-same, linked-back, l
 use Rattle.place.proofs.Simplices.{simplex-sound, simplex-self, onSimplices}
 use Rattle.place.proofs.ListOfPlaces.{places-all, places-distinct}
 use Rattle.place.proofs.Start.{start-place}
-use Rattle.place.proofs.PathSteps.{linksOn, waysOn-split, Trail, stuck, stops, goes, trail, Link, first, step-links}
+use Rattle.place.proofs.PathSteps.{linksOn, waysOn-split, Trail, stuck, stops, goes, trail, Link, first}
+use Rattle.place.proofs.PathSteps.{step-links}
 use Rattle.place.proofs.PathSteps.{all-places, onward, passes, known, finish, leftFrom, unended, more-fuel}
 use Rattle.place.proofs.Ways.{IsWay, byPlace, byFacet, byLink, sameWay, onEnds, onWays, end-is, in-ways}
 use Rattle.place.specs.Demand.{Accepted, Settled, TwoWays, placeAt, lastPlace, leftAt, Follows, IsPath, Stop}
 use Rattle.place.specs.Demand.{atEnd, atGap, NoGap, Ended, Demand3}
-use Rattle.place.specs.Ends.{End, Way, stop, link, isComplete, completeFor, placeEnds, facetEnds, facets, ends, ways, placeEnd, facetEnd}
+use Rattle.place.specs.Ends.{End, Way, stop, link, isComplete, completeFor, placeEnds, facetEnds, facets, ends}
+use Rattle.place.specs.Ends.{ways, placeEnd, facetEnd}
 use Rattle.place.specs.Links.{linked, links}
 use Rattle.place.specs.Path.{isBack, waysOn, sameSimplex, pathFrom, path, pathLength}
 use Rattle.place.specs.LabelsRead.{labelsRead}
@@ -41,18 +44,22 @@ use Rattle.place.specs.Path.{Answer, spent, unknown, announcement, outco
 use Rattle.place.specs.Places.{Simplex, isPlace, places, setT, labelSet, allLabelled, unlabelled}
 use Rattle.place.specs.Problem.{Problem, hasLabel}
 
-pub in-placeAt : (l : List Simplex) (s : Simplex) → isIn sameSimplex s l ≡ true → (j : ℕ) × (j < length l) × (s ≡ placeAt l j)
+pub in-placeAt : (l : List Simplex) (s : Simplex) → isIn sameSimplex s l ≡ true
+    → (j : ℕ) × (j < length l) × (s ≡ placeAt l j)
 in-placeAt l s m = let j = in-at onSimplices [] s l m in (j .0, j .1, sym j.2)
 
 -- apart by position, and so without repeats
-distinct-apart : (l : List Simplex) → ((i j : ℕ) → i < j → j < length l → placeAt l i ≡ placeAt l j → ⊥) → distinct sameSimplex l ≡ true
+distinct-apart : (l : List Simplex) → ((i j : ℕ) → i < j → j < length l → placeAt l i ≡ placeAt l j → ⊥)
+    → distinct sameSimplex l ≡ true
 distinct-apart [] h = refl
 distinct-apart (x ∷ l) h =
-    let n : isIn sameSimplex x l ≡ false = false-of _ (λ m. let k = in-placeAt l x m in h 0 (suc k.0) (omega arith) (omega (arith, k .1)) k.2) in
+    let n : isIn sameSimplex x l ≡ false =
+    false-of _ (λ m. let k = in-placeAt l x m in h 0 (suc k.0) (omega arith) (omega (arith, k .1)) k.2) in
     rw n (distinct-apart l (λ i j a b e. h (suc i) (suc j) (omega arith) (omega arith) e))
 
 -- every end names a block for which its points are complete
-all-map : {A B : Type 0} (q : B → Bool) (f : A → B) (r : A → Bool) (xs : List A) → ((x : A) → r x ≡ true → q (f x) ≡ true)
+all-map : {A B : Type 0} (q : B → Bool) (f : A → B) (r : A → Bool) (xs : List A)
+    → ((x : A) → r x ≡ true → q (f x) ≡ true)
     → all q (map f (filter r xs)) ≡ true
 all-map q f r [] h = refl
 all-map q f r (x ∷ xs) h =
@@ -61,9 +68,11 @@ all-map q f r (x ∷ xs) h =
 
 all-join : {A : Type 0} (q : A → Bool) (xs ys : List A) → all q xs ≡ true → all q ys ≡ true → all q (xs ++ ys) ≡ true
 all-join q [] ys a b = b
-all-join q (x ∷ xs) ys a b = and-both _ _ (and-left (q x) (all q xs) a) (all-join q xs ys (and-right (q x) (all q xs) a) b)
+all-join q (x ∷ xs) ys a b =
+    and-both _ _ (and-left (q x) (all q xs) a) (all-join q xs ys (and-right (q x) (all q xs) a) b)
 
-all-concatMap : {A B : Type 0} (q : B → Bool) (f : A → List B) (xs : List A) → ((x : A) → all q (f x) ≡ true) → all q (concatMap f xs) ≡ true
+all-concatMap : {A B : Type 0} (q : B → Bool) (f : A → List B) (xs : List A) → ((x : A) → all q (f x) ≡ true)
+    → all q (concatMap f xs) ≡ true
 all-concatMap q f [] h = refl
 all-concatMap q f (x ∷ xs) h = all-join q (f x) _ (h x) (all-concatMap q f xs h)
 
@@ -89,7 +98,8 @@ pub length-ways : (p : Problem) (s : Simplex) → length (ways p s) ≡ length (
 unfolding ways
 length-ways p s = rw (length-append, length-map, length-map)
 
-length-waysOn : (p : Problem) (l : Option Simplex) (s : Simplex) → length (waysOn p l s) ≡ length (ends p s) + length (linksOn p l s)
+length-waysOn : (p : Problem) (l : Option Simplex) (s : Simplex)
+    → length (waysOn p l s) ≡ length (ends p s) + length (linksOn p l s)
 length-waysOn p l s = ap length (waysOn-split p l s) ∙ rw (length-append, length-map, length-map)
 
 -- a list stops where its last place has an end or a gap
@@ -104,16 +114,22 @@ unfolding links
 in-links {p} ok {a} {b} k = in-filter onSimplices (linked p a) b (places p) (places-all p ok.sameNumber b k.to) k.by
 
 -- of three members of a list of at most two, two are the same
-pub among-two : (x y z : Simplex) (l : List Simplex) → length l ≤ 2 → isIn sameSimplex x l ≡ true → isIn sameSimplex y l ≡ true
-    → isIn sameSimplex z l ≡ true → (x ≡ y) ⊎ ((x ≡ z) ⊎ (y ≡ z))
+pub among-two : (x y z : Simplex) (l : List Simplex) → length l ≤ 2 → isIn sameSimplex x l ≡ true
+    → isIn sameSimplex y l ≡ true → isIn sameSimplex z l ≡ true
+    → (x ≡ y) ⊎ ((x ≡ z) ⊎ (y ≡ z))
 among-two x y z l c mx my mz = go (sameSimplex x y) (sameSimplex x z) (sameSimplex y z) refl refl refl
   where
     inAll : (w : Simplex) → isIn sameSimplex w (x ∷ y ∷ z ∷ []) ≡ true → isIn sameSimplex w l ≡ true
-    inAll w m =
-        ⊎-elim (λ e. rw e mx) (λ m. ⊎-elim (λ e. rw e my) (λ m. ⊎-elim (λ e. rw e mz) (λ m. absurd-bool (sym m))
-        (in-cases onSimplices w z [] m)) (in-cases onSimplices w y (z ∷ []) m)) (in-cases onSimplices w x (y ∷ z ∷ []) m)
+    inAll w m = ⊎-elim
+        (λ e. rw e mx)
+        (λ m. ⊎-elim
+        (λ e. rw e my)
+        (λ m. ⊎-elim (λ e. rw e mz) (λ m. absurd-bool (sym m)) (in-cases onSimplices w z [] m))
+        (in-cases onSimplices w y (z ∷ []) m))
+        (in-cases onSimplices w x (y ∷ z ∷ []) m)
 
-    go : (b c d : Bool) → sameSimplex x y ≡ b → sameSimplex x z ≡ c → sameSimplex y z ≡ d → (x ≡ y) ⊎ ((x ≡ z) ⊎ (y ≡ z))
+    go : (b c d : Bool) → sameSimplex x y ≡ b → sameSimplex x z ≡ c → sameSimplex y z ≡ d
+        → (x ≡ y) ⊎ ((x ≡ z) ⊎ (y ≡ z))
     go true c d e f g = inl (simplex-sound x y e)
     go false true d e f g = inr (inl (simplex-sound x z f))
     go false false true e f g = inr (inr (simplex-sound y z g))
@@ -139,14 +155,14 @@ module _ {p : Problem} (ok : Accepted p) (W : TwoWays p) where
     pub ownTo : allLabelled p b ≡ true
 
   two : (a x y z : Simplex) → Known a x → Known a y → Known a z → (x ≡ y) ⊎ ((x ≡ z) ⊎ (y ≡ z))
-  two a x y z kx ky kz =
-      among-two x y z (links p a) (omega (arith, ways-le a kx.joins.from kx.ownFrom, length-ways p a)) (in-links ok.settled kx.joins)
+  two a x y z kx ky kz = among-two x y z (links p a)
+      (omega (arith, ways-le a kx.joins.from kx.ownFrom, length-ways p a)) (in-links ok.settled kx.joins)
       (in-links ok.settled ky.joins) (in-links ok.settled kz.joins)
 
   one-link : (x y : Simplex) → Known (p .start ∷ []) x → Known (p .start ∷ []) y → x ≡ y
-  one-link x y kx ky =
-      only-member onSimplices x y (links p (p .start ∷ [])) (omega (arith, W .start kx.ownFrom, length-ways p (p .start ∷ [])))
-      (in-links ok.settled kx.joins) (in-links ok.settled ky.joins)
+  one-link x y kx ky = only-member onSimplices x y (links p (p .start ∷ []))
+      (omega (arith, W .start kx.ownFrom, length-ways p (p .start ∷ []))) (in-links ok.settled kx.joins)
+      (in-links ok.settled ky.joins)
 
   walks : {n : ℕ} {s : List Simplex} {e : Option End} → Trail p n none (p .start ∷ []) s e → (k : ℕ) → k < length s
       → allLabelled p (placeAt s k) ≡ true → Walks Known (placeAt s) k
@@ -154,19 +170,24 @@ module _ {p : Problem} (ok : Accepted p) (W : TwoWays p) where
     linked = λ i h. record {
       joins = step-links p t (start-place ok.settled) i (omega arith);
       ownFrom = known p t i (omega arith);
-      ownTo = ⊎-elim (λ (e : suc i ≡ k). rw e own) (λ (n : suc i ≡ k → ⊥). known p t (suc i) (omega (arith, n))) (same-or (suc i) k);
+      ownTo = ⊎-elim
+          (λ (e : suc i ≡ k). rw e own)
+          (λ (n : suc i ≡ k → ⊥). known p t (suc i) (omega (arith, n)))
+          (same-or (suc i) k);
     };
     onward = λ i h q. onward p t i (omega arith) q;
   }
 
   -- no place stands twice: a place with a gap is not one before it, for these have none
-  pub never-twice : {n : ℕ} {s : List Simplex} {e : Option End} → Trail p n none (p .start ∷ []) s e → (i j : ℕ) → i < j → j < length s
-      → placeAt s i ≡ placeAt s j → ⊥
+  pub never-twice : {n : ℕ} {s : List Simplex} {e : Option End} → Trail p n none (p .start ∷ []) s e → (i j : ℕ) → i < j
+      → j < length s → placeAt s i ≡ placeAt s j → ⊥
   never-twice {s = s} t i j l c q =
       let z : placeAt s 0 ≡ p .start ∷ [] = first p t (omega arith) in
       let own : allLabelled p (placeAt s j) ≡ true = rw (← q) (known p t i (omega arith)) in
-      apart Known (λ a b k. record { joins = back a b k.joins; ownFrom = k .ownTo; ownTo = k .ownFrom })
-      (λ a k. linked-other p a k.joins.by) two (placeAt s) (rw z one-link) j (walks t j c own) j i j (omega arith) l (omega arith) q
+      apart Known
+      (λ a b k. record { joins = back a b k.joins; ownFrom = k .ownTo; ownTo = k .ownFrom })
+      (λ a k. linked-other p a k.joins.by)
+      two (placeAt s) (rw z one-link) j (walks t j c own) j i j (omega arith) l (omega arith) q
 
   -- exactly one way on from {v}, and from any other place that one comes to by a link, where its points have labels;
   pub one-from-start : allLabelled p (p .start ∷ []) ≡ true → length (waysOn p none (p .start ∷ [])) ≡ 1
@@ -174,22 +195,25 @@ module _ {p : Problem} (ok : Accepted p) (W : TwoWays p) where
       length-waysOn p none (p .start ∷ [])
       ∙ (rw (filter-true (links p (p .start ∷ []))) (sym (length-ways p (p .start ∷ [])) ∙ W .start own))
 
-  pub one-from : (a b : Simplex) → Link p a b → allLabelled p b ≡ true → (b ≡ p .start ∷ [] → ⊥) → length (waysOn p (some a) b) ≡ 1
+  pub one-from : (a b : Simplex) → Link p a b → allLabelled p b ≡ true → (b ≡ p .start ∷ [] → ⊥)
+      → length (waysOn p (some a) b) ≡ 1
   one-from a b k own ne =
       let m : suc (length (linksOn p (some a) b)) ≡ length (links p b) =
       length-without onSimplices a (links p b) (links-distinct p b) (in-links ok.settled (back a b k)) in
       omega (arith, length-waysOn p (some a) b, length-ways p b, W .other b k.to own ne)
 
   -- so on the path
-  pub one-way : {n : ℕ} {s : List Simplex} {e : Option End} → Trail p n none (p .start ∷ []) s e → (i : ℕ) → i < length s
-      → allLabelled p (placeAt s i) ≡ true → length (waysOn p (leftAt s i) (placeAt s i)) ≡ 1
+  pub one-way : {n : ℕ} {s : List Simplex} {e : Option End} → Trail p n none (p .start ∷ []) s e → (i : ℕ)
+      → i < length s → allLabelled p (placeAt s i) ≡ true
+      → length (waysOn p (leftAt s i) (placeAt s i)) ≡ 1
   one-way {s = s} t zero c own = rw (first p t c) (one-from-start (rw (first p t c) at own))
   one-way {s = s} t (suc i) c own =
       let z : placeAt s 0 ≡ p .start ∷ [] = first p t (omega arith) in
       one-from (placeAt s i) (placeAt s (suc i)) (step-links p t (start-place ok.settled) i c) own
       (λ q. never-twice t 0 (suc i) (omega arith) c (z ∙ sym q))
 
-  pub within-bound : {n : ℕ} {s : List Simplex} {e : Option End} → Trail p n none (p .start ∷ []) s e → length s ≤ bound p.grid
+  pub within-bound : {n : ℕ} {s : List Simplex} {e : Option End} → Trail p n none (p .start ∷ []) s e
+      → length s ≤ bound p.grid
   within-bound {s = s} t =
       count p ok.settled s (distinct-apart s (never-twice t))
       (λ x m. let k = in-placeAt s x m in rw k.2 (all-places p t (start-place ok.settled) k.0 k.1))
@@ -199,17 +223,20 @@ module _ {p : Problem} (ok : Accepted p) (W : TwoWays p) where
   left-same s (suc i) = refl
 
   -- with more fuel than the bound the path stops at an end or at a gap
-  stops-long : {n : ℕ} {s : List Simplex} {e : Option End} → Trail p n none (p .start ∷ []) s e → bound p.grid < n → Stop p (lastPlace s) e
-  stops-long {n} {s} {e = none} t c =
-      ⊎-elim (λ q. absurd (omega (arith, within-bound t)))
+  stops-long : {n : ℕ} {s : List Simplex} {e : Option End} → Trail p n none (p .start ∷ []) s e → bound p.grid < n
+      → Stop p (lastPlace s) e
+  stops-long {n} {s} {e = none} t c = ⊎-elim
+      (λ q. absurd (omega (arith, within-bound t)))
       (λ i.
       let k : pred (length s) ≡ i .0 = omega (arith, i .1) in
       let l : i .0 < length s = omega (arith, i .1) in
       let f : allLabelled p (placeAt s i.0) ≡ false = false-of _
-      (λ own. absurd (let z : length (waysOn p (leftAt s i.0) (placeAt s i.0)) ≡ 0 = ap length (rw (left-same s i.0) at (i .2 own)) in
+      (λ own. absurd
+      (let z : length (waysOn p (leftAt s i.0) (placeAt s i.0)) ≡ 0 = ap length (rw (left-same s i.0) at (i .2 own)) in
       omega (arith, one-way t i.0 l own))) in
       let g = one-gap ok.settled (placeAt s i.0) (all-places p t (start-place ok.settled) i.0 l) f in
-      rw k (atGap g.0 g.1)) (unended p t refl)
+      rw k (atGap g.0 g.1))
+      (unended p t refl)
   stops-long {e = some f} t c = let w = finish p t f refl in atEnd w.finishes.0 w.whole w.finishes.1
 
   -- the path is the same with more fuel
@@ -231,7 +258,8 @@ module _ {p : Problem} (ok : Accepted p) (W : TwoWays p) where
   unfolding answer
   answer-out b h = rw (le-ltb b _ h)
 
-  answer-ended : (e : End) → path p .end ≡ some e → (b : ℕ) → pathLength p ≤ b → answer p b ≡ announcement (pathLength p) (labelsRead (path p .visited)) e
+  answer-ended : (e : End) → path p .end ≡ some e → (b : ℕ) → pathLength p ≤ b
+      → answer p b ≡ announcement (pathLength p) (labelsRead (path p .visited)) e
   answer-ended e q b h = answer-out b h ∙ ap (λ (x : Option End). outcome p (path p .visited) x) q
 
   out-not-spent : (s : List Simplex) (e : Option End) (b : ℕ) → outcome p s e ≡ spent b → ⊥
@@ -247,15 +275,17 @@ module _ {p : Problem} (ok : Accepted p) (W : TwoWays p) where
   unspent b z = answer-out b (⊎-elim (λ h. absurd (z (answer-spent b h))) (λ h. h) (before-or-not b (pathLength p)))
 
   -- links on from a place with one way on are the same
-  next-same : (l : Option Simplex) (h x y : Simplex) → length (waysOn p l h) ≡ 1 → isIn sameSimplex x (linksOn p l h) ≡ true
-      → isIn sameSimplex y (linksOn p l h) ≡ true → x ≡ y
+  next-same : (l : Option Simplex) (h x y : Simplex) → length (waysOn p l h) ≡ 1
+      → isIn sameSimplex x (linksOn p l h) ≡ true → isIn sameSimplex y (linksOn p l h) ≡ true → x ≡ y
   next-same l h x y c m n = only-member onSimplices x y (linksOn p l h) (omega (arith, length-waysOn p l h)) m n
 
   path-next : {s : List Simplex} → Follows p s → (i : ℕ) → suc i < length s
       → isIn sameSimplex (placeAt s (suc i)) (linksOn p (leftAt s i) (placeAt s i)) ≡ true
-  path-next {s} k i c =
-      in-filter onSimplices (λ t. not (isBack (leftAt s i) (link t))) (placeAt s (suc i)) (links p (placeAt s i))
-      (in-links ok.settled (record { from = k .places i (omega arith); to = k .places (suc i) c; by = k .links i c })) (go i c)
+  path-next {s} k i c = in-filter onSimplices
+      (λ t. not (isBack (leftAt s i) (link t)))
+      (placeAt s (suc i)) (links p (placeAt s i))
+      (in-links ok.settled (record { from = k .places i (omega arith); to = k .places (suc i) c; by = k .links i c }))
+      (go i c)
     where
       go : (i : ℕ) → suc i < length s → not (isBack (leftAt s i) (link (placeAt s (suc i)))) ≡ true
       go zero c = refl
@@ -265,7 +295,8 @@ module _ {p : Problem} (ok : Accepted p) (W : TwoWays p) where
 
   -- a list that follows the path, beside one that stops and has one way on at each place without a gap
   module _ {t : List Simplex} (kt : Follows p t) (final : Final p t)
-      (o : (i : ℕ) → i < length t → allLabelled p (placeAt t i) ≡ true → length (waysOn p (leftAt t i) (placeAt t i)) ≡ 1) where
+      (o : (i : ℕ) → i < length t → allLabelled p (placeAt t i) ≡ true
+      → length (waysOn p (leftAt t i) (placeAt t i)) ≡ 1) where
     agree : (s : List Simplex) → Follows p s → (i : ℕ) → i < length s
         → (i < length t) × (placeAt s i ≡ placeAt t i) × (leftAt s i ≡ leftAt t i)
     agree s ks zero a = (kt .nonempty, ks .begins ∙ sym kt.begins, refl)
@@ -287,7 +318,8 @@ module _ {p : Problem} (ok : Accepted p) (W : TwoWays p) where
         )
 
     -- where it has no end and no gap it is not yet the whole path
-    agree-more : (s : List Simplex) → Follows p s → allLabelled p (lastPlace s) ≡ true → ends p (lastPlace s) ≡ [] → length s < length t
+    agree-more : (s : List Simplex) → Follows p s → allLabelled p (lastPlace s) ≡ true → ends p (lastPlace s) ≡ []
+        → length s < length t
     agree-more s ks own e =
         let c = ks .nonempty in
         let h = agree s ks (pred (length s)) (omega arith) in
@@ -301,11 +333,11 @@ module _ {p : Problem} (ok : Accepted p) (W : TwoWays p) where
     agree-all s ks halts =
         let c = ks .nonempty in
         let h = agree s ks (pred (length s)) (omega arith) in
-        let l : length s ≡ length t =
-        ⊎-elim
-        (λ d. absurd (halts (rw h.1 (kt .known (pred (length s)) (omega arith))) (rw h.1 (kt .passes (pred (length s)) (omega arith)))))
-        (λ d. omega (arith, h .0)) (before-or-not (length s) (length t))
-        in
+        let l : length s ≡ length t = ⊎-elim
+        (λ d. absurd (halts (rw h.1 (kt .known (pred (length s)) (omega arith)))
+        (rw h.1 (kt .passes (pred (length s)) (omega arith)))))
+        (λ d. omega (arith, h .0))
+        (before-or-not (length s) (length t)) in
         ext-getD [] s t l (λ i c. agree s ks i c .1)
 
   pub gap-not-all : (s : Simplex) {y : Point} → unlabelled p s ≡ y ∷ [] → allLabelled p s ≡ true → ⊥
@@ -351,7 +383,8 @@ module _ {p : Problem} (ok : Accepted p) (W : TwoWays p) where
       let q = whole-path s k.follows (λ own n. let f = k .finishes .1 in let z : _≡_ {A = ℕ} 0 1 = cc in omega arith) in
       (q, go path-stop (rw q at k.whole) (rw q at k.finishes.1))
     where
-      go : {l : Simplex} {d : Option End} → Stop p l d → allLabelled p l ≡ true → ends p l ≡ e ∷ k .finishes .0 → d ≡ some e
+      go : {l : Simplex} {d : Option End} → Stop p l d → allLabelled p l ≡ true → ends p l ≡ e ∷ k .finishes .0
+          → d ≡ some e
       go (atEnd {e = d} es own q) o n = let z : d ≡ e = cc in ap (λ (x : End). some x) z
       go {l} (atGap y g) o n = absurd (gap-not-all l g o)
 
@@ -376,7 +409,9 @@ module _ {p : Problem} (ok : Accepted p) (W : TwoWays p) where
   -- where the path has an end
   module _ (e : End) (ended : path p .end ≡ some e) where
     pub path-is : IsPath p (path p .visited) e
-    path-is = let w = finish p path-trail e ended in record { follows = path-follows; whole = w .whole; finishes = w .finishes }
+    path-is =
+        let w = finish p path-trail e ended in
+        record { follows = path-follows; whole = w .whole; finishes = w .finishes }
 
     pub no-gap : NoGap p
     no-gap i c =
@@ -418,12 +453,12 @@ module _ {p : Problem} (ok : Accepted p) (W : TwoWays p) where
         go : {w : Way} → IsWay p s w → w ≡ stop e → j ≡ e .block
         go (byPlace k lk ck) q =
             let r : record { kind = placeEnd; block = k; simplex = s } ≡ e = cc in
-            same-block (record { kind = placeEnd; block = j; simplex = s }) e (byPlace j l (rw (ap (λ (x : End). x .simplex) r) c))
-            (rw (← r) (byPlace k lk ck))
+            same-block (record { kind = placeEnd; block = j; simplex = s }) e
+            (byPlace j l (rw (ap (λ (x : End). x .simplex) r) c)) (rw (← r) (byPlace k lk ck))
         go (byFacet f k m t lk ck) q =
             let r : record { kind = facetEnd; block = k; simplex = f } ≡ e = cc in
-            same-block (record { kind = facetEnd; block = j; simplex = f }) e (byFacet f j m t l (rw (ap (λ (x : End). x .simplex) r) c))
-            (rw (← r) (byFacet f k m t lk ck))
+            same-block (record { kind = facetEnd; block = j; simplex = f }) e
+            (byFacet f j m t l (rw (ap (λ (x : End). x .simplex) r) c)) (rw (← r) (byFacet f k m t lk ck))
         go (byLink t ht k) q = absurd-bool (cc)
 
     whole-end : Ended p
@@ -480,9 +515,12 @@ module _ {p : Problem} (ok : Accepted p) (W : TwoWays p) where
       spent-not-asks : (x : Answer) (b n i : ℕ) → x ≡ spent b → x ≡ unknown n i → ⊥
       spent-not-asks x b n i q r = absurd-bool (cc)
 
-      asked : (b n i : ℕ) → answer p b ≡ unknown n i → (d : Option End) → path p .end ≡ d → Stop p (lastPlace (path p .visited)) d
+      asked : (b n i : ℕ) → answer p b ≡ unknown n i → (d : Option End) → path p .end ≡ d
+          → Stop p (lastPlace (path p .visited)) d
           → (suc n ≡ pathLength p) × (n < b) × (getD p.labels i 0 ≡ 0)
-      asked b n i q d r k = ⊎-elim (λ h. absurd (spent-not-asks (answer p b) b n i (answer-spent b h) q)) (λ h. go h d r k)
+      asked b n i q d r k = ⊎-elim
+          (λ h. absurd (spent-not-asks (answer p b) b n i (answer-spent b h) q))
+          (λ h. go h d r k)
           (before-or-not b (pathLength p))
         where
           go : pathLength p ≤ b → (d : Option End) → path p .end ≡ d → Stop p (lastPlace (path p .visited)) d
@@ -492,8 +530,10 @@ module _ {p : Problem} (ok : Accepted p) (W : TwoWays p) where
               let a = asks y g b h in
               let z : pred (pathLength p) ≡ n = cc in
               let w : position p.grid y ≡ i = cc in
-              let m = filter-in onPoints (λ y. not (hasLabel p y)) y (lastPlace (path p .visited)) (rw g (in-here onPoints y [])) in
+              let m = filter-in onPoints (λ y. not (hasLabel p y)) y (lastPlace (path p .visited))
+              (rw g (in-here onPoints y [])) in
               let c = path-nonempty in
               let l = all-places p path-trail (start-place ok.settled) (pred (pathLength p)) (omega arith) in
-              let o = zero-at ok y (all-in onPoints _ (lastPlace (path p .visited)) (parts p _ l .gridPoints) y m.0) (not-is _ m.1) in
+              let o = zero-at ok y (all-in onPoints _ (lastPlace (path p .visited)) (parts p _ l .gridPoints) y m.0)
+              (not-is _ m.1) in
               (omega arith, omega arith, rw (← w) o)

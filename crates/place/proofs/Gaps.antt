@@ -22,7 +22,8 @@ use Rattle.place.specs.Places.{Simplex, isPlace, order, setT, allLabelle
 use Rattle.place.specs.Problem.{Problem, label, hasLabel}
 
 -- a filter and what it leaves out
-both-parts : {A : Type 0} (q : A → Bool) (xs : List A) → length (filter q xs) + length (filter (λ x. not (q x)) xs) ≡ length xs
+both-parts : {A : Type 0} (q : A → Bool) (xs : List A)
+    → length (filter q xs) + length (filter (λ x. not (q x)) xs) ≡ length xs
 both-parts q [] = refl
 both-parts q (x ∷ xs) =
     let i = both-parts q xs in
@@ -30,8 +31,10 @@ both-parts q (x ∷ xs) =
 
 left-none : {A : Type 0} (q : A → Bool) (xs : List A) → filter (λ x. not (q x)) xs ≡ [] → all q xs ≡ true
 left-none q [] e = refl
-left-none q (x ∷ xs) e =
-    ⊎-elim (λ t. and-both _ _ t (left-none q xs (rw t at e))) (λ f. absurd-bool (let z = rw f at e in cc)) (true-or-false (q x))
+left-none q (x ∷ xs) e = ⊎-elim
+    (λ t. and-both _ _ t (left-none q xs (rw t at e)))
+    (λ f. absurd-bool (let z = rw f at e in cc))
+    (true-or-false (q x))
 
 -- a number that a point's label names is its label
 pub label-named : (p : Problem) (y : Point) (h : ℕ) → h < numIndices p.grid → label p y ≡ suc h → hasLabel p y ≡ true
@@ -39,7 +42,8 @@ label-named p y h l e = rw e (and-both _ _ (le-leb 1 (suc h) (omega arith)) (le-
 
 module _ {p : Problem} (ok : Settled p) (s : Simplex) (h : isPlace p s ≡ true) where
   -- each index of T is the label of a point with a label
-  carried : (x : ℕ) → isIn eqb x (order p.grid s) ≡ true → isIn eqb x (map (λ y. pred (label p y)) (filter (hasLabel p) s)) ≡ true
+  carried : (x : ℕ) → isIn eqb x (order p.grid s) ≡ true
+      → isIn eqb x (map (λ y. pred (label p y)) (filter (hasLabel p) s)) ≡ true
   carried x m =
       let w = labels-mean p s x .0 (all-in onNumbers _ (setT p s) (parts p s h .labelled) x (order-within p s h x m)) in
       let y = w .1 .0 in
@@ -48,14 +52,14 @@ module _ {p : Problem} (ok : Settled p) (s : Simplex) (h : isPlace p s ≡ true)
       (in-filter onPoints (hasLabel p) y s w.1.1 (label-named p y x w.0 w.1.2)))
 
   few : length (unlabelled p s) ≤ 1
-  few =
-      omega (
-        arith,
-        both-parts (hasLabel p) s,
-        place-long ok s h,
-        length-map (filter (hasLabel p) s) (λ y. pred (label p y)),
-        pigeon onNumbers (order p.grid s) (map (λ y. pred (label p y)) (filter (hasLabel p) s)) (order-distinct p s h) carried,
-      )
+  few = omega (
+    arith,
+    both-parts (hasLabel p) s,
+    place-long ok s h,
+    length-map (filter (hasLabel p) s) (λ y. pred (label p y)),
+    pigeon onNumbers (order p.grid s) (map (λ y. pred (label p y)) (filter (hasLabel p) s)) (order-distinct p s h)
+        carried,
+  )
 
   -- a point without a label is the only one
   pub the-gap : (y : Point) → isIn samePoint y s ≡ true → hasLabel p y ≡ false → unlabelled p s ≡ y ∷ []

@@ -40,16 +40,17 @@ module _ (p : Problem) (s : Simplex) (h : isPlace p s ≡ true) where
 
   pub T-distinct : distinct eqb (setT p s) ≡ true
   unfolding setT
-  T-distinct =
-      distinct-filter onNumbers (λ h. not (isIn eqb h (setU p.grid s)) && any (λ c. ltb 0 (at c h)) (map (coefficients p) s))
+  T-distinct = distinct-filter onNumbers
+      (λ h. not (isIn eqb h (setU p.grid s)) && any (λ c. ltb 0 (at c h)) (map (coefficients p) s))
       (indices p.grid) (distinct-upFrom 0 (numIndices p.grid))
 
 module _ (g : Grid) where
-  pub goes-at : (h b : ℕ) (y z : Point) → goesTo g h b y z ≡ true → (k : ℕ) → k < numIndices g → at z k + unit b k ≡ at y k + unit h k
+  pub goes-at : (h b : ℕ) (y z : Point) → goesTo g h b y z ≡ true → (k : ℕ) → k < numIndices g
+      → at z k + unit b k ≡ at y k + unit h k
   unfolding goesTo
-  goes-at h b y z e k c =
-      eqb-true _ _
-      (all-in onNumbers (λ k. eqb (at z k + unit b k) (at y k + unit h k)) (indices g) e k (in-upFrom 0 (numIndices g) k (omega arith) (omega arith)))
+  goes-at h b y z e k c = eqb-true _ _ (all-in onNumbers
+      (λ k. eqb (at z k + unit b k) (at y k + unit h k))
+      (indices g) e k (in-upFrom 0 (numIndices g) k (omega arith) (omega arith)))
 
 module _ (p : Problem) (some-block : 1 ≤ numBlocks p.grid) where
   -- the empty set is no place: all indices are in its U
@@ -58,4 +59,5 @@ module _ (p : Problem) (some-block : 1 ≤ numBlocks p.grid) where
       let g = p .grid in
       let w = free-means p [] (setT p []) (setU g []) .0 (parts p [] h .free) 0 some-block in
       let r = upFrom-in (firstIndex g 0) (size g 0) w.0 w.1 in
-      absurd-bool (sym (U-means g [] w.0 .1 (omega (arith, r .1, block-fits g.sizes 0), (λ y m. absurd-bool (sym m)))) ∙ w .3)
+      absurd-bool
+      (sym (U-means g [] w.0 .1 (omega (arith, r .1, block-fits g.sizes 0), (λ y m. absurd-bool (sym m)))) ∙ w .3)

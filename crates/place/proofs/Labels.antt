@@ -29,12 +29,15 @@ module _ {p : Problem} (ok : Accepted p) where
 
   -- a point has no label exactly if its label is 0
   pub label-zero : (y : Point) → isGridPoint p.grid y ≡ true → hasLabel p y ≡ false → label p y ≡ 0
-  label-zero y h f = ⊎-elim (λ l. absurd-bool (sym (label-ok y h l) ∙ f)) (λ l. omega arith) (before-or-not 0 (label p y))
+  label-zero y h f =
+      ⊎-elim (λ l. absurd-bool (sym (label-ok y h l) ∙ f)) (λ l. omega arith) (before-or-not 0 (label p y))
 
-  pub zero-at : (y : Point) → isGridPoint p.grid y ≡ true → hasLabel p y ≡ false → getD p.labels (position p.grid y) 0 ≡ 0
+  pub zero-at : (y : Point) → isGridPoint p.grid y ≡ true → hasLabel p y ≡ false
+      → getD p.labels (position p.grid y) 0 ≡ 0
   unfolding label
   zero-at y h f = label-zero y h f
 
   pub place-labelled : (s : Simplex) → isPlace p s ≡ true → ((y : Point) → isIn samePoint y s ≡ true → 0 < label p y)
       → allLabelled p s ≡ true
-  place-labelled s h l = in-all onPoints _ s (λ y m. label-ok y (all-in onPoints _ s (parts p s h .gridPoints) y m) (l y m))
+  place-labelled s h l =
+      in-all onPoints _ s (λ y m. label-ok y (all-in onPoints _ s (parts p s h .gridPoints) y m) (l y m))

@@ -23,7 +23,8 @@ use Rattle.place.specs.Places.{Simplex, setT, labelSet, within, isPlace}
 use Rattle.place.specs.Problem.{Problem}
 
 -- where all points of b are points of a there are no more of them
-no-more : (a b : Simplex) → distinct samePoint b ≡ true → all (λ y. isIn samePoint y a) b ≡ true → length b ≤ length (shared a b)
+no-more : (a b : Simplex) → distinct samePoint b ≡ true → all (λ y. isIn samePoint y a) b ≡ true
+    → length b ≤ length (shared a b)
 no-more a b d h = pigeon onPoints b (shared a b) d (λ y m. in-filter onPoints _ y a (all-in onPoints _ b h y m) m)
 
 came-by : (a b : Simplex) → distinct samePoint b ≡ true → length (shared a b) < length b → pointCameIn a b ≡ true
@@ -46,7 +47,8 @@ module _ (p : Problem) (a b : Simplex) where
   by-exchange : distinct samePoint b ≡ true → exchanged p a b ≡ true → pointCameIn a b ≡ leb (length a) (length b)
   unfolding exchanged
   by-exchange d e =
-      let f = and-left (few && many) sameT (and-left (few && many && sameT) (within (setT p a) (labelSet p (shared a b))) e) in
+      let f =
+      and-left (few && many) sameT (and-left (few && many && sameT) (within (setT p a) (labelSet p (shared a b))) e) in
       let x = eqb-true (length a) (suc (length (shared a b))) (and-left few many f) in
       let y = eqb-true (length b) (suc (length (shared a b))) (and-right few many f) in
       came-by a b d (omega (arith, y)) ∙ sym (le-leb (length a) (length b) (omega (arith, x, y)))
@@ -82,7 +84,8 @@ module _ (p : Problem) (a b : Simplex) where
       (or-cases (exchange || growth) (extended p b a) l)
 
 -- one move more
-pub came-next : (s : List Simplex) (k : ℕ) → cameIn s (suc k) ≡ cameIn s k + cond (pointCameIn (placeAt s k) (placeAt s (suc k))) 1 0
+pub came-next : (s : List Simplex) (k : ℕ)
+    → cameIn s (suc k) ≡ cameIn s k + cond (pointCameIn (placeAt s k) (placeAt s (suc k))) 1 0
 unfolding cameIn
 came-next s k =
     let q : ℕ → Bool = λ i. pointCameIn (placeAt s i) (placeAt s (suc i)) in
@@ -105,7 +108,8 @@ came-none s = refl
 
 pub came-few : (s : List Simplex) (k : ℕ) → cameIn s k ≤ k
 unfolding cameIn
-came-few s k = omega (arith, length-filter-le (λ i. pointCameIn (placeAt s i) (placeAt s (suc i))) (upFrom 0 k), length-upFrom 0 k)
+came-few s k =
+    omega (arith, length-filter-le (λ i. pointCameIn (placeAt s i) (placeAt s (suc i))) (upFrom 0 k), length-upFrom 0 k)
 
 -- at least 1 and at most the places
 pub labels-read-bounds : (s : List Simplex) → 0 < length s → (1 ≤ labelsRead s) × (labelsRead s ≤ length s)

@@ -1,5 +1,5 @@
--- The conditions of a place by name; two places with the same points are the same; links go both ways, and never from a place to itself. Assumes
--- nothing.
+-- The conditions of a place by name; two places with the same points are the same; links go both ways, and never from a
+-- place to itself. Assumes nothing.
 use mathlib.Core.Bool.{Bool, true, _&&_, _||_}
 use mathlib.Core.List.{List, [], _∷_, map}
 use mathlib.Core.Logic.{⊎-elim}
@@ -9,7 +9,8 @@ use borrow.Author.Tests.{eqb-true, eq-eqb}
 use lib.Dec.{eqb}
 use lib.ListN.{length}
 use native.Mathlib.Omega.{arith}
-use Rattle.combinatorics.proofs.Lists.{filter-all, in-filter, filter-in, pigeon, distinct-filter, in-map, map-in, same-sound, same-self, onNumbers}
+use Rattle.combinatorics.proofs.Lists.{filter-all, in-filter, filter-in, pigeon, distinct-filter, in-map, map-in}
+use Rattle.combinatorics.proofs.Lists.{same-sound, same-self, onNumbers}
 use Rattle.combinatorics.proofs.Basics.{or-left, or-right, or-cases, and-left, and-right, and-both}
 use Rattle.combinatorics.proofs.Rising.{rising-distinct, rising-same}
 use Rattle.combinatorics.specs.Lists.{all, isIn, same, distinct, rising}
@@ -17,7 +18,8 @@ use Rattle.grid.proofs.Points.{onPoints}
 use Rattle.grid.specs.Grid.{Point, samePoint, indices, isGridPoint}
 use Rattle.place.specs.Coefficients.{coefficientSum}
 use Rattle.place.specs.Links.{shared, exchanged, extended, linked}
-use Rattle.place.specs.Places.{Simplex, setT, setU, labelSet, within, isPlace, isUnlabelledPlace, eachGoesToNext, usesEachOnce, everyBlockFree, order}
+use Rattle.place.specs.Places.{Simplex, setT, setU, labelSet, within, isPlace, isUnlabelledPlace, eachGoesToNext}
+use Rattle.place.specs.Places.{usesEachOnce, everyBlockFree, order}
 use Rattle.place.specs.Problem.{Problem, label}
 
 -- the conditions of a place that do not look at labels, by name
@@ -79,7 +81,8 @@ module _ (p : Problem) where
   place-distinct s h = rising-distinct onPoints _ s (parts p s h .inOrder)
 
   -- two places with the same points are the same
-  pub place-same : (a b : Simplex) → isPlace p a ≡ true → isPlace p b ≡ true → ((y : Point) → isIn samePoint y a ≡ isIn samePoint y b) → a ≡ b
+  pub place-same : (a b : Simplex) → isPlace p a ≡ true → isPlace p b ≡ true
+      → ((y : Point) → isIn samePoint y a ≡ isIn samePoint y b) → a ≡ b
   place-same a b h k e = rising-same onPoints _ a b (parts p a h .inOrder) (parts p b k .inOrder) e
 
   shared-in : (a b : Simplex) (y : Point) → isIn samePoint y (shared a b) ≡ true → isIn samePoint y (shared b a) ≡ true
@@ -91,25 +94,29 @@ module _ (p : Problem) where
   shared-le a b h =
       pigeon onPoints (shared a b) (shared b a) (distinct-filter onPoints _ a (place-distinct a h)) (shared-in a b)
 
-  labels-in : (a b : Simplex) → ((y : Point) → isIn samePoint y a ≡ true → isIn samePoint y b ≡ true) → (l : ℕ) → isIn eqb l (map (label p) a) ≡ true
+  labels-in : (a b : Simplex) → ((y : Point) → isIn samePoint y a ≡ true → isIn samePoint y b ≡ true) → (l : ℕ)
+      → isIn eqb l (map (label p) a) ≡ true
       → isIn eqb l (map (label p) b) ≡ true
   labels-in a b h l m =
       let i = map-in onPoints onNumbers (label p) l a m in
       rw i.2 (in-map onPoints onNumbers (label p) i.0 b (h i.0 i.1))
 
-  pub labelSet-in : (a b : Simplex) → ((y : Point) → isIn samePoint y a ≡ true → isIn samePoint y b ≡ true) → (h : ℕ) → isIn eqb h (labelSet p a) ≡ true
+  pub labelSet-in : (a b : Simplex) → ((y : Point) → isIn samePoint y a ≡ true → isIn samePoint y b ≡ true) → (h : ℕ)
+      → isIn eqb h (labelSet p a) ≡ true
       → isIn eqb h (labelSet p b) ≡ true
   unfolding labelSet
   labelSet-in a b k h m =
       let i = filter-in onNumbers (λ h. isIn eqb (suc h) (map (label p) a)) h (indices p.grid) m in
       in-filter onNumbers (λ h. isIn eqb (suc h) (map (label p) b)) h (indices p.grid) i.0 (labels-in a b k (suc h) i.1)
 
-  pub within-mono : (t a b : List ℕ) → ((h : ℕ) → isIn eqb h a ≡ true → isIn eqb h b ≡ true) → within t a ≡ true → within t b ≡ true
+  pub within-mono : (t a b : List ℕ) → ((h : ℕ) → isIn eqb h a ≡ true → isIn eqb h b ≡ true) → within t a ≡ true
+      → within t b ≡ true
   within-mono [] a b k w = refl
-  within-mono (x ∷ t) a b k w =
-      and-both _ _ (k x (and-left (isIn eqb x a) (within t a) w)) (within-mono t a b k (and-right (isIn eqb x a) (within t a) w))
+  within-mono (x ∷ t) a b k w = and-both _ _ (k x (and-left (isIn eqb x a) (within t a) w))
+      (within-mono t a b k (and-right (isIn eqb x a) (within t a) w))
 
-  exchanged-back : (a b : Simplex) → isPlace p a ≡ true → isPlace p b ≡ true → exchanged p a b ≡ true → exchanged p b a ≡ true
+  exchanged-back : (a b : Simplex) → isPlace p a ≡ true → isPlace p b ≡ true → exchanged p a b ≡ true
+      → exchanged p b a ≡ true
   unfolding exchanged
   exchanged-back a b h k e =
       let s = shared a b in
@@ -124,17 +131,27 @@ module _ (p : Problem) where
       let la : length a ≡ suc (length s) = eqb-true _ _ (and-left e1 e2 f2) in
       let lb : length b ≡ suc (length s) = eqb-true _ _ (and-right e1 e2 f2) in
       let q : length (shared b a) ≡ length s = omega (arith, shared-le a b h, shared-le b a k) in
-      and-both _ _ (and-both _ _ (and-both _ _ (eq-eqb _ _ (lb ∙ ap suc (sym q))) (eq-eqb _ _ (la ∙ ap suc (sym q))))
+      and-both _ _
+      (and-both _ _ (and-both _ _ (eq-eqb _ _ (lb ∙ ap suc (sym q))) (eq-eqb _ _ (la ∙ ap suc (sym q))))
       (rw ts (same-self eqb (λ x. eq-eqb x x refl) (setT p b))))
-      (within-mono (setT p b) (labelSet p (shared a b)) (labelSet p (shared b a)) (labelSet-in (shared a b) (shared b a) (shared-in a b))
-      (rw (← ts) f4))
+      (within-mono (setT p b) (labelSet p (shared a b)) (labelSet p (shared b a))
+      (labelSet-in (shared a b) (shared b a) (shared-in a b)) (rw (← ts) f4))
 
-  pub linked-back : (a b : Simplex) → isPlace p a ≡ true → isPlace p b ≡ true → linked p a b ≡ true → linked p b a ≡ true
+  pub linked-back : (a b : Simplex) → isPlace p a ≡ true → isPlace p b ≡ true → linked p a b ≡ true
+      → linked p b a ≡ true
   unfolding linked
   linked-back a b h k e =
-      let x : Bool = exchanged p a b in let y : Bool = extended p a b in let z : Bool = extended p b a in let x′ : Bool = exchanged p b a in
-      ⊎-elim (λ m. ⊎-elim (λ n. or-left (x′ || z) y (or-left x′ z (exchanged-back a b h k n))) (λ n. or-right (x′ || z) y n) (or-cases x y m))
-      (λ n. or-left (x′ || z) y (or-right x′ z n)) (or-cases (x || y) z e)
+      let x : Bool = exchanged p a b in
+      let y : Bool = extended p a b in
+      let z : Bool = extended p b a in
+      let x′ : Bool = exchanged p b a in
+      ⊎-elim
+      (λ m. ⊎-elim
+      (λ n. or-left (x′ || z) y (or-left x′ z (exchanged-back a b h k n)))
+      (λ n. or-right (x′ || z) y n)
+      (or-cases x y m))
+      (λ n. or-left (x′ || z) y (or-right x′ z n))
+      (or-cases (x || y) z e)
 
   pub linked-other : (a : Simplex) → linked p a a ≡ true → ⊥
   unfolding linked exchanged extended
@@ -151,7 +168,8 @@ module _ (p : Problem) where
           let e1 : Bool = eqb (length a) (suc (length s)) in
           let e3 : Bool = same eqb (setT p a) (setT p a) in
           let e4 : Bool = within (setT p a) (labelSet p s) in
-          let q : length a ≡ suc (length s) = eqb-true _ _ (and-left e1 e1 (and-left (e1 && e1) e3 (and-left _ e4 m))) in
+          let q : length a ≡ suc (length s) =
+          eqb-true _ _ (and-left e1 e1 (and-left (e1 && e1) e3 (and-left _ e4 m))) in
           omega (arith, ap length shared-all)
 
       ext : extended p a a ≡ true → ⊥

@@ -1,5 +1,5 @@
--- The ways out of a place depend on the labels of its own points only: over a table that has the same labels there they are the same, whatever it has
--- elsewhere. In order: labels; links; ends; ways. Assumes nothing.
+-- The ways out of a place depend on the labels of its own points only: over a table that has the same labels there they
+-- are the same, whatever it has elsewhere. In order: labels; links; ends; ways. Assumes nothing.
 use mathlib.Core.Bool.{Bool, true, false, _&&_, _||_, cond}
 use mathlib.Core.List.{List, [], _∷_, _++_, map}
 use mathlib.Core.Logic.{⊎-elim}
@@ -18,14 +18,15 @@ use Rattle.place.proofs.Simplices.{onSimplices}
 use Rattle.place.specs.Coefficients.{coefficients}
 use Rattle.place.specs.Ends.{End, isComplete, completeFor, placeEnds, facetEnds, facets, ends, ways, facetEnd}
 use Rattle.place.specs.Links.{shared, exchanged, extended, linked, links}
-use Rattle.place.specs.Places.{Simplex, setU, setT, labelSet, within, isUnlabelledPlace, isPlace, allLabelled, places, insert, inOrder}
+use Rattle.place.specs.Places.{Simplex, setU, setT, labelSet, within, isUnlabelledPlace, isPlace, allLabelled}
+use Rattle.place.specs.Places.{places, insert, inOrder}
 use Rattle.place.specs.Problem.{Problem, label, withLabels}
 
 all-cons : {A : Type 0} (q : A → Bool) (x : A) (l : List (List A)) → q x ≡ true → all (all q) l ≡ true
     → all (all q) (map (λ k. x ∷ k) l) ≡ true
 all-cons q x [] h a = refl
-all-cons q x (k ∷ l) h a =
-    and-both _ _ (and-both _ _ h (and-left (all q k) (all (all q) l) a)) (all-cons q x l h (and-right (all q k) (all (all q) l) a))
+all-cons q x (k ∷ l) h a = and-both _ _ (and-both _ _ h (and-left (all q k) (all (all q) l) a))
+    (all-cons q x l h (and-right (all q k) (all (all q) l) a))
 
 all-oneLess : {A : Type 0} (q : A → Bool) (s : List A) → all q s ≡ true → all (all q) (oneLess s) ≡ true
 all-oneLess q [] a = refl
@@ -38,7 +39,8 @@ concatMap-same : {A B : Type 0} (F G : A → List B) (q r known : A → Bool) (x
 concatMap-same F G q r known [] a k = refl
 concatMap-same {A} F G q r known (x ∷ xs) a k =
     let h = k x (and-left (known x) (all known xs) a) in
-    pick (filter q xs) (filter r xs) h.0 (concatMap-same F G q r known xs (and-right (known x) (all known xs) a) k) (q x) (r x) h.1
+    pick (filter q xs) (filter r xs) h.0 (concatMap-same F G q r known xs (and-right (known x) (all known xs) a) k)
+    (q x) (r x) h.1
   where
     pick : (ys zs : List A) → F x ≡ G x → concatMap F ys ≡ concatMap G zs → (b c : Bool) → b ≡ c
         → concatMap F (cond b (x ∷ ys) ys) ≡ concatMap G (cond c (x ∷ zs) zs)
@@ -51,7 +53,10 @@ filter-twice : {A : Type 0} (q r : A → Bool) (xs : List A) → filter q (filte
 filter-twice q r [] = refl
 filter-twice q r (x ∷ xs) =
     let i = filter-twice q r xs in
-    ⊎-elim (λ t. rw t (⊎-elim (λ u. rw u (ap (λ l. x ∷ l) i)) (λ u. rw u i) (true-or-false (q x)))) (λ t. rw t i) (true-or-false (r x))
+    ⊎-elim
+    (λ t. rw t (⊎-elim (λ u. rw u (ap (λ l. x ∷ l) i)) (λ u. rw u i) (true-or-false (q x))))
+    (λ t. rw t i)
+    (true-or-false (r x))
 
 -- of three tests the third need agree only where the second holds
 where-holds : (c d e f : Bool) → (d ≡ true → e ≡ f) → (c && d && e) ≡ (c && d && f)
@@ -111,10 +116,9 @@ module _ (p : Problem) (labels : List ℕ) where
 
   smaller-same : (a b : Simplex) → Agree p labels a → extended other b a ≡ extended p b a
   unfolding extended
-  smaller-same a b k =
-      rw (setT-same a)
-      (where-holds (eqb (length a) (suc (length b))) (all (λ y. isIn samePoint y a) b) (same eqb (labelSet other b) (setT p a))
-      (same eqb (labelSet p b) (setT p a))
+  smaller-same a b k = rw (setT-same a)
+      (where-holds (eqb (length a) (suc (length b))) (all (λ y. isIn samePoint y a) b)
+      (same eqb (labelSet other b) (setT p a)) (same eqb (labelSet p b) (setT p a))
       (λ i. ap (λ (l : List ℕ). same eqb l (setT p a)) (labelSet-same b (agree-smaller a b k i))))
 
   pub linked-local : (a b : Simplex) → Agree p labels a → linked other a b ≡ linked p a b
@@ -122,18 +126,21 @@ module _ (p : Problem) (labels : List ℕ) where
   linked-local a b k = rw (exchanged-same a b k, larger-same a b k, smaller-same a b k)
 
   -- a place linked to one with the same labels is a place
-  pub linked-stays : (a b : Simplex) → Agree p labels a → linked p a b ≡ true → isPlace p b ≡ true → isPlace other b ≡ true
+  pub linked-stays : (a b : Simplex) → Agree p labels a → linked p a b ≡ true → isPlace p b ≡ true
+      → isPlace other b ≡ true
   unfolding linked exchanged extended isPlace
   linked-stays a b k l h =
-      let x : Bool = isUnlabelledPlace p b in let t : Bool = within (setT p b) (labelSet p b) in
+      let x : Bool = isUnlabelledPlace p b in
+      let t : Bool = within (setT p b) (labelSet p b) in
       and-both _ _ (unlabelled-same b ∙ and-left x t h)
-      (rw (setT-same b) (⊎-elim (λ m. ⊎-elim exchange larger (or-cases (exchanged p a b) (extended p a b) m)) (smaller (and-right x t h))
-      (or-cases (exchanged p a b || extended p a b) (extended p b a) l)))
+      (rw (setT-same b) (⊎-elim
+      (λ m. ⊎-elim exchange larger (or-cases (exchanged p a b) (extended p a b) m))
+      (smaller (and-right x t h)) (or-cases (exchanged p a b || extended p a b) (extended p b a) l)))
     where
       carried : (c : Simplex) → ((y : Point) → isIn samePoint y c ≡ true → isIn samePoint y b ≡ true) → Agree p labels c
           → within (setT p b) (labelSet p c) ≡ true → within (setT p b) (labelSet other b) ≡ true
-      carried c i k w =
-          within-mono other (setT p b) (labelSet other c) (labelSet other b) (labelSet-in other c b i) (rw (labelSet-same c k) w)
+      carried c i k w = within-mono other (setT p b) (labelSet other c) (labelSet other b) (labelSet-in other c b i)
+          (rw (labelSet-same c k) w)
 
       exchange : exchanged p a b ≡ true → within (setT p b) (labelSet other b) ≡ true
       exchange e =
@@ -142,7 +149,9 @@ module _ (p : Problem) (labels : List ℕ) where
           let d : Bool = same eqb (setT p a) (setT p b) in
           let f : Bool = within (setT p a) (labelSet p s) in
           let q = same-sound eqb eqb-true (setT p a) (setT p b) (and-right c d (and-left (c && d) f e)) in
-          carried s (λ y m. filter-in onPoints (λ y. isIn samePoint y b) y a m .1) (agree-shared a b k) (rw (← q) (and-right (c && d) f e))
+          carried s
+          (λ y m. filter-in onPoints (λ y. isIn samePoint y b) y a m .1)
+          (agree-shared a b k) (rw (← q) (and-right (c && d) f e))
 
       larger : extended p a b ≡ true → within (setT p b) (labelSet other b) ≡ true
       larger e =
@@ -153,7 +162,8 @@ module _ (p : Problem) (labels : List ℕ) where
           carried a (all-in onPoints (λ y. isIn samePoint y b) a (and-right c d (and-left (c && d) f e))) k
           (rw q (in-all onNumbers (λ h. isIn eqb h (setT p b)) (setT p b) (λ h m. m)))
 
-      smaller : within (setT p b) (labelSet p b) ≡ true → extended p b a ≡ true → within (setT p b) (labelSet other b) ≡ true
+      smaller : within (setT p b) (labelSet p b) ≡ true → extended p b a ≡ true
+          → within (setT p b) (labelSet other b) ≡ true
       smaller w e =
           let c : Bool = eqb (length a) (suc (length b)) in
           let d : Bool = all (λ y. isIn samePoint y a) b in
@@ -163,8 +173,9 @@ module _ (p : Problem) (labels : List ℕ) where
   -- ends
   completeFor-same : (s : Simplex) → Agree p labels s → completeFor other s ≡ completeFor p s
   unfolding completeFor isComplete
-  completeFor-same s k =
-      ap (λ (l : List ℕ). filter (λ j. all (λ h. isIn eqb h l || isIn eqb h (setU p.grid s)) (indicesOf p.grid j)) (blocks p.grid))
+  completeFor-same s k = ap
+      (λ (l : List ℕ).
+      filter (λ j. all (λ h. isIn eqb h l || isIn eqb h (setU p.grid s)) (indicesOf p.grid j)) (blocks p.grid))
       (labelSet-same s k)
 
   -- what remains of a place has its points
@@ -177,18 +188,23 @@ module _ (p : Problem) (labels : List ℕ) where
 
   pub ends-local : (s : Simplex) → Agree p labels s → ends other s ≡ ends p s
   unfolding ends placeEnds facetEnds
-  ends-local s k =
-      rw (completeFor-same s k, setT-same s) (ap (λ (l : List End). placeEnds p s ++ l)
+  ends-local s k = rw (completeFor-same s k, setT-same s)
+      (ap (λ (l : List End). placeEnds p s ++ l)
       (concatMap-same (asEnds other) (asEnds p)
-      (λ f. same eqb (labelSet other f) (setT p s)) (λ f. same eqb (labelSet p f) (setT p s)) (all (λ y. isIn samePoint y s))
-      (facets s) (facets-within s)
-      (λ f i. let own = agree-smaller s f k i in (
-        ap (λ (l : List ℕ). map (λ j. let e : End = record { kind = facetEnd; block = j; simplex = f } in e) l) (completeFor-same f own),
+      (λ f. same eqb (labelSet other f) (setT p s))
+      (λ f. same eqb (labelSet p f) (setT p s))
+      (all (λ y. isIn samePoint y s)) (facets s) (facets-within s)
+      (λ f i.
+      let own = agree-smaller s f k i in (
+        ap
+            (λ (l : List ℕ). map (λ j. let e : End = record { kind = facetEnd; block = j; simplex = f } in e) l)
+            (completeFor-same f own),
         ap (λ (l : List ℕ). same eqb l (setT p s)) (labelSet-same f own),
       ))))
 
 -- the order of points does not depend on labels
-insert-same : (p : Problem) (labels : List ℕ) (y : Point) (s : Simplex) → insert (withLabels p labels) y s ≡ insert p y s
+insert-same : (p : Problem) (labels : List ℕ) (y : Point) (s : Simplex)
+    → insert (withLabels p labels) y s ≡ insert p y s
 unfolding coefficients
 insert-same p labels y [] = refl
 insert-same p labels y (z ∷ s) = rw (insert-same p labels y s)
@@ -204,12 +220,17 @@ module _ (p : Problem) (labels : List ℕ) (s : Simplex) (k : Agree p labels s) 
   links-local =
       let q = withLabels p labels in
       let xs = sublists (inOrder p (points p.grid)) in
-      rw (inOrder-same p labels (points p.grid)) (filter-twice (linked q s) (isPlace q) xs
-      ∙ filter-cong onSimplices xs (λ t m. both (isPlace q t && linked q s t) (isPlace p t && linked p s t)
-      (λ h. let l = linked-local p labels s t k in
+      rw (inOrder-same p labels (points p.grid))
+      (filter-twice (linked q s) (isPlace q) xs
+      ∙ filter-cong onSimplices xs
+      (λ t m. both (isPlace q t && linked q s t) (isPlace p t && linked p s t)
+      (λ h.
+      let l = linked-local p labels s t k in
       let b = and-right (isPlace q t) (linked q s t) h in
-      and-both _ _ (linked-stays q p.labels s t (λ y m. sym (k y m)) b (and-left (isPlace q t) (linked q s t) h)) (sym l ∙ b))
-      (λ h. let l = linked-local p labels s t k in
+      and-both _ _ (linked-stays q p.labels s t (λ y m. sym (k y m)) b (and-left (isPlace q t) (linked q s t) h))
+      (sym l ∙ b))
+      (λ h.
+      let l = linked-local p labels s t k in
       let b = and-right (isPlace p t) (linked p s t) h in
       and-both _ _ (linked-stays p labels s t k b (and-left (isPlace p t) (linked p s t) h)) (l ∙ b)))
       ∙ sym (filter-twice (linked p s) (isPlace p) xs))

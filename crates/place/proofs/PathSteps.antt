@@ -1,5 +1,5 @@
--- What holds of the places of pathFrom, whatever the labels. In order: the ways on from a place; the course of a path; its places and
--- links; fuel beyond the last place changes nothing. Assumes nothing.
+-- What holds of the places of pathFrom, whatever the labels. In order: the ways on from a place; the course of a path;
+-- its places and links; fuel beyond the last place changes nothing. Assumes nothing.
 use mathlib.Core.Bool.{Bool, true, false, not, cond}
 use mathlib.Core.List.{List, [], _∷_, _++_, map}
 use mathlib.Core.Logic.{_⊎_, inl, inr, ⊎-elim}
@@ -47,13 +47,17 @@ waysOn-split p left here =
 -- the course of the path from a place on
 pub data Trail (p : Problem) : ℕ → Option Simplex → Simplex → List Simplex → Option End → Type 0 where
   out : {l : Option Simplex} {h : Simplex} → Trail p zero l h [] none
-  stuck : {n : ℕ} {l : Option Simplex} {h : Simplex} → (allLabelled p h ≡ true → waysOn p l h ≡ []) → Trail p (suc n) l h (h ∷ []) none
-  stops : {n : ℕ} {l : Option Simplex} {h : Simplex} {e : End} (es : List End) → allLabelled p h ≡ true → ends p h ≡ e ∷ es
+  stuck : {n : ℕ} {l : Option Simplex} {h : Simplex} → (allLabelled p h ≡ true → waysOn p l h ≡ [])
+      → Trail p (suc n) l h (h ∷ []) none
+  stops : {n : ℕ} {l : Option Simplex} {h : Simplex} {e : End} (es : List End) → allLabelled p h ≡ true
+      → ends p h ≡ e ∷ es
       → Trail p (suc n) l h (h ∷ []) (some e)
-  goes : {n : ℕ} {l : Option Simplex} {h : Simplex} {s : List Simplex} {e : Option End} (t : Simplex) → allLabelled p h ≡ true
-      → ends p h ≡ [] → isIn sameSimplex t (linksOn p l h) ≡ true → Trail p n (some h) t s e → Trail p (suc n) l h (h ∷ s) e
+  goes : {n : ℕ} {l : Option Simplex} {h : Simplex} {s : List Simplex} {e : Option End} (t : Simplex)
+      → allLabelled p h ≡ true → ends p h ≡ [] → isIn sameSimplex t (linksOn p l h) ≡ true → Trail p n (some h) t s e
+      → Trail p (suc n) l h (h ∷ s) e
 
-pub trail : (p : Problem) (n : ℕ) (l : Option Simplex) (h : Simplex) → Trail p n l h (pathFrom p n l h .visited) (pathFrom p n l h .end)
+pub trail : (p : Problem) (n : ℕ) (l : Option Simplex) (h : Simplex)
+    → Trail p n l h (pathFrom p n l h .visited) (pathFrom p n l h .end)
 trail p zero l h = out
 trail p (suc n) l h = pick (allLabelled p h) refl (λ t. trail p n (some h) t)
   where
@@ -89,18 +93,23 @@ module _ (p : Problem) where
 
   pub links-are : (s t : Simplex) → isPlace p s ≡ true → isIn sameSimplex t (links p s) ≡ true → Link p s t
   unfolding links
-  links-are s t h m = let i = filter-in onSimplices (linked p s) t (places p) m in record { from = h; to = places-are t i.0; by = i .1 }
+  links-are s t h m =
+      let i = filter-in onSimplices (linked p s) t (places p) m in
+      record { from = h; to = places-are t i.0; by = i .1 }
 
-  linksOn-are : (l : Option Simplex) (s t : Simplex) → isPlace p s ≡ true → isIn sameSimplex t (linksOn p l s) ≡ true → Link p s t
+  linksOn-are : (l : Option Simplex) (s t : Simplex) → isPlace p s ≡ true → isIn sameSimplex t (linksOn p l s) ≡ true
+      → Link p s t
   linksOn-are l s t h m = links-are s t h (filter-in onSimplices _ t (links p s) m .0)
 
-  pub first : {n : ℕ} {l : Option Simplex} {h : Simplex} {s : List Simplex} {e : Option End} → Trail p n l h s e → 0 < length s → placeAt s 0 ≡ h
+  pub first : {n : ℕ} {l : Option Simplex} {h : Simplex} {s : List Simplex} {e : Option End} → Trail p n l h s e
+      → 0 < length s → placeAt s 0 ≡ h
   first out c = absurd (omega arith)
   first (stuck q) c = refl
   first (stops es own q) c = refl
   first (goes t own q m k) c = refl
 
-  second : {n : ℕ} {l : Option Simplex} {h : Simplex} {s : List Simplex} {e : Option End} → Trail p n l h s e → 1 < length s
+  second : {n : ℕ} {l : Option Simplex} {h : Simplex} {s : List Simplex} {e : Option End} → Trail p n l h s e
+      → 1 < length s
       → isBack l (link (placeAt s 1)) ≡ false
   second out c = absurd (omega arith)
   second (stuck q) c = absurd (omega arith)
@@ -108,28 +117,32 @@ module _ (p : Problem) where
   second (goes {l = l} {h = h} t own q m k) c =
       rw (first k (omega arith)) (not-is _ (filter-in onSimplices _ t (links p h) m .1))
 
-  pub step-links : {n : ℕ} {l : Option Simplex} {h : Simplex} {s : List Simplex} {e : Option End} → Trail p n l h s e → isPlace p h ≡ true → (i : ℕ)
-      → suc i < length s → Link p (placeAt s i) (placeAt s (suc i))
+  pub step-links : {n : ℕ} {l : Option Simplex} {h : Simplex} {s : List Simplex} {e : Option End} → Trail p n l h s e
+      → isPlace p h ≡ true → (i : ℕ) → suc i < length s
+      → Link p (placeAt s i) (placeAt s (suc i))
   step-links out a i c = absurd (omega arith)
   step-links (stuck q) a i c = absurd (omega arith)
   step-links (stops es own q) a i c = absurd (omega arith)
   step-links (goes {l = l} {h = h} t own q m k) a zero c = rw (first k (omega arith)) (linksOn-are l h t a m)
   step-links (goes {l = l} {h = h} t own q m k) a (suc i) c = step-links k (linksOn-are l h t a m .to) i (omega arith)
 
-  pub all-places : {n : ℕ} {l : Option Simplex} {h : Simplex} {s : List Simplex} {e : Option End} → Trail p n l h s e → isPlace p h ≡ true → (i : ℕ)
-      → i < length s → isPlace p (placeAt s i) ≡ true
+  pub all-places : {n : ℕ} {l : Option Simplex} {h : Simplex} {s : List Simplex} {e : Option End} → Trail p n l h s e
+      → isPlace p h ≡ true → (i : ℕ) → i < length s
+      → isPlace p (placeAt s i) ≡ true
   all-places k a zero c = rw (first k c) a
   all-places k a (suc i) c = step-links k a i c .to
 
-  pub onward : {n : ℕ} {l : Option Simplex} {h : Simplex} {s : List Simplex} {e : Option End} → Trail p n l h s e → (i : ℕ) → suc (suc i) < length s
-      → placeAt s i ≡ placeAt s (suc (suc i)) → ⊥
+  pub onward : {n : ℕ} {l : Option Simplex} {h : Simplex} {s : List Simplex} {e : Option End} → Trail p n l h s e
+      → (i : ℕ) → suc (suc i) < length s → placeAt s i ≡ placeAt s (suc (suc i)) → ⊥
   onward out i c r = omega arith
   onward (stuck q) i c r = omega arith
   onward (stops es own q) i c r = omega arith
-  onward (goes {h = h} t own q m k) zero c r = absurd-bool (sym (simplex-self h) ∙ (rw (← r) at (second k (omega arith))))
+  onward (goes {h = h} t own q m k) zero c r =
+      absurd-bool (sym (simplex-self h) ∙ (rw (← r) at (second k (omega arith))))
   onward (goes t own q m k) (suc i) c r = onward k i (omega arith) r
 
-  pub passes : {n : ℕ} {l : Option Simplex} {h : Simplex} {s : List Simplex} {e : Option End} → Trail p n l h s e → (i : ℕ) → suc i < length s
+  pub passes : {n : ℕ} {l : Option Simplex} {h : Simplex} {s : List Simplex} {e : Option End} → Trail p n l h s e
+      → (i : ℕ) → suc i < length s
       → ends p (placeAt s i) ≡ []
   passes out i c = absurd (omega arith)
   passes (stuck q) i c = absurd (omega arith)
@@ -137,8 +150,9 @@ module _ (p : Problem) where
   passes (goes t own q m k) zero c = q
   passes (goes t own q m k) (suc i) c = passes k i (omega arith)
 
-  pub known : {n : ℕ} {l : Option Simplex} {h : Simplex} {s : List Simplex} {e : Option End} → Trail p n l h s e → (i : ℕ)
-      → suc i < length s → allLabelled p (placeAt s i) ≡ true
+  pub known : {n : ℕ} {l : Option Simplex} {h : Simplex} {s : List Simplex} {e : Option End} → Trail p n l h s e
+      → (i : ℕ) → suc i < length s
+      → allLabelled p (placeAt s i) ≡ true
   known out i c = absurd (omega arith)
   known (stuck q) i c = absurd (omega arith)
   known (stops es own q) i c = absurd (omega arith)
@@ -151,8 +165,8 @@ module _ (p : Problem) where
     pub whole : allLabelled p (lastPlace s) ≡ true
     pub finishes : (es : List End) × (ends p (lastPlace s) ≡ f ∷ es)
 
-  pub finish : {n : ℕ} {l : Option Simplex} {h : Simplex} {s : List Simplex} {e : Option End} → Trail p n l h s e → (f : End)
-      → e ≡ some f → Finish s f
+  pub finish : {n : ℕ} {l : Option Simplex} {h : Simplex} {s : List Simplex} {e : Option End} → Trail p n l h s e
+      → (f : End) → e ≡ some f → Finish s f
   finish out f r = absurd-bool (cc)
   finish (stuck q) f r = absurd-bool (cc)
   finish (stops {e = e} es own q) f r =
@@ -169,16 +183,19 @@ module _ (p : Problem) where
   leftFrom l s (suc i) = some (placeAt s i)
 
   -- a path with no end has used up its fuel, or its last place has a gap or no way on
-  pub unended : {n : ℕ} {l : Option Simplex} {h : Simplex} {s : List Simplex} {e : Option End} → Trail p n l h s e → e ≡ none
+  pub unended : {n : ℕ} {l : Option Simplex} {h : Simplex} {s : List Simplex} {e : Option End} → Trail p n l h s e
+      → e ≡ none
       → (length s ≡ n)
-      ⊎ ((i : ℕ) × (suc i ≡ length s) × (allLabelled p (placeAt s i) ≡ true → waysOn p (leftFrom l s i) (placeAt s i) ≡ []))
+      ⊎ ((i : ℕ) × (suc i ≡ length s)
+      × (allLabelled p (placeAt s i) ≡ true → waysOn p (leftFrom l s i) (placeAt s i) ≡ []))
   unended out r = inl refl
   unended (stuck q) r = inr (0, refl, q)
   unended (stops es own q) r = absurd-bool (cc)
   unended (goes {l = l} {h = h} {s = s} t own q m k) r =
       ⊎-elim (λ z. inl (ap suc z)) (λ i. inr (suc i.0, ap suc i.1, (λ own. next i.0 (i .2 own)))) (unended k r)
     where
-      next : (i : ℕ) → waysOn p (leftFrom (some h) s i) (placeAt s i) ≡ [] → waysOn p (some (placeAt (h ∷ s) i)) (placeAt s i) ≡ []
+      next : (i : ℕ) → waysOn p (leftFrom (some h) s i) (placeAt s i) ≡ []
+          → waysOn p (some (placeAt (h ∷ s) i)) (placeAt s i) ≡ []
       next zero z = z
       next (suc i) z = z
 
@@ -194,9 +211,11 @@ more-fuel p zero l h c = absurd (go (cond (allLabelled p h) (waysOn p l h) []) c
 more-fuel p (suc n) l h c = go (cond (allLabelled p h) (waysOn p l h) []) c (λ t. more-fuel p n (some h) t)
   where
     go : (ws : List Way) → length (follow (λ t. pathFrom p (suc n) (some h) t) h ws .visited) ≤ suc n
-        → ((t : Simplex) → length (pathFrom p (suc n) (some h) t .visited) ≤ n → pathFrom p n (some h) t ≡ pathFrom p (suc n) (some h) t)
+        → ((t : Simplex) → length (pathFrom p (suc n) (some h) t .visited) ≤ n
+        → pathFrom p n (some h) t ≡ pathFrom p (suc n) (some h) t)
         → follow (λ t. pathFrom p n (some h) t) h ws ≡ follow (λ t. pathFrom p (suc n) (some h) t) h ws
     go [] c i = refl
     go (stop f ∷ ws) c i = refl
-    go (link t ∷ ws) c i =
-        ap (λ (r : SimplicialPath). let k : SimplicialPath = record { visited = h ∷ r .visited; end = r .end } in k) (i t (omega arith))
+    go (link t ∷ ws) c i = ap
+        (λ (r : SimplicialPath). let k : SimplicialPath = record { visited = h ∷ r .visited; end = r .end } in k)
+        (i t (omega arith))

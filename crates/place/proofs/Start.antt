@@ -11,7 +11,8 @@ use Rattle.combinatorics.proofs.Basics.{and-left, and-right, or-left, or-right,
 use Rattle.combinatorics.proofs.Lists.{filter-in, all-in, in-all, onNumbers, at-all}
 use Rattle.combinatorics.proofs.Ranges.{upFrom-in}
 use Rattle.combinatorics.specs.Lists.{filter, all, any, isIn, sum}
-use Rattle.grid.specs.Grid.{at, numBlocks, numIndices, firstIndex, size, division, indices, indicesOf, blocks, isGridPoint}
+use Rattle.grid.specs.Grid.{at, numBlocks, numIndices, firstIndex, size, division, indices, indicesOf, blocks}
+use Rattle.grid.specs.Grid.{isGridPoint}
 use Rattle.place.proofs.Coefficients.{coefficients-are, coefficients-only}
 use Rattle.place.specs.Coefficients.{coefficients}
 use Rattle.place.specs.Demand.{Settled}
@@ -27,7 +28,8 @@ filter-none : {q : ℕ → Bool} (xs : List ℕ) → ((x : ℕ) → q x ≡ fals
 filter-none [] h = refl
 filter-none {q} (x ∷ xs) h = rw (h x) (filter-none xs h)
 
-positive-sum : (f : ℕ → ℕ) {r : ℕ → Bool} (xs : List ℕ) → ((x : ℕ) → 0 < f x → r x ≡ true) → 0 < sum (map f xs) → any r xs ≡ true
+positive-sum : (f : ℕ → ℕ) {r : ℕ → Bool} (xs : List ℕ) → ((x : ℕ) → 0 < f x → r x ≡ true) → 0 < sum (map f xs)
+    → any r xs ≡ true
 positive-sum f [] h c = absurd (omega arith)
 positive-sum f {r} (x ∷ xs) h c = go (f x) refl (positive-sum f xs h)
   where
@@ -53,7 +55,8 @@ module _ {p : Problem} (ok : Settled p) where
 
   start-T : setT p (p .start ∷ []) ≡ []
   unfolding setT
-  start-T = filter-none (indices p.grid) (λ h. rw (zero-coefficients, at-zeros (numIndices p.grid) h) (go (isIn eqb h (setU p.grid (p .start ∷ [])))))
+  start-T = filter-none (indices p.grid)
+      (λ h. rw (zero-coefficients, at-zeros (numIndices p.grid) h) (go (isIn eqb h (setU p.grid (p .start ∷ [])))))
     where
       go : (b : Bool) → (not b && false) ≡ false
       go true = refl
@@ -65,20 +68,27 @@ module _ {p : Problem} (ok : Settled p) where
       let g = p .grid in
       let u = setU g (p .start ∷ []) in
       let v = p .start in
-      in-all onNumbers (λ j. any (λ h. not (isIn eqb h []) && not (isIn eqb h u)) (indicesOf g j)) (blocks g)
+      in-all onNumbers
+      (λ j. any (λ h. not (isIn eqb h []) && not (isIn eqb h u)) (indicesOf g j))
+      (blocks g)
       (λ j m.
       let c : j < 0 + numBlocks g = upFrom-in 0 (numBlocks g) j m .1 in
-      let s : sum (map (at v) (indicesOf g j)) ≡ division g j = eqb-true _ _
-      (all-in onNumbers
+      let s : sum (map (at v) (indicesOf g j)) ≡ division g j = eqb-true _ _ (all-in onNumbers
       (λ j. eqb (sum (map (at v) (indicesOf g j))) (division g j))
-      (blocks g) (and-right (eqb (length v) (numIndices g))
-      (all (λ j. eqb (sum (map (at v) (indicesOf g j))) (division g j)) (blocks g)) ok.start) j m) in
-      let d : 1 ≤ division g j = leb-true 1 (division g j) (at-all (λ d. leb 1 d) g.divisions j ok.divisions (omega (arith, ok .sameNumber))) in
+      (blocks g)
+      (and-right (eqb (length v) (numIndices g))
+      (all (λ j. eqb (sum (map (at v) (indicesOf g j))) (division g j)) (blocks g)) ok.start)
+      j m) in
+      let d : 1 ≤ division g j =
+      leb-true 1 (division g j) (at-all (λ d. leb 1 d) g.divisions j ok.divisions (omega (arith, ok .sameNumber))) in
       positive-sum (at v) (indicesOf g j)
-      (λ h w. let o : isIn eqb h u ≡ false = false-of _
-      (λ k. absurd (let z : at v h ≡ 0 = eqb-true _ _
-      (and-left (eqb (at v h) 0) true (filter-in onNumbers (λ h. all (λ y. eqb (at y h) 0) (p .start ∷ [])) h (indices g) k .1)) in omega arith)) in
-      rw o) (omega arith))
+      (λ h w.
+      let o : isIn eqb h u ≡ false = false-of _
+      (λ k. absurd (let z : at v h ≡ 0 = eqb-true _ _ (and-left (eqb (at v h) 0) true
+      (filter-in onNumbers (λ h. all (λ y. eqb (at y h) 0) (p .start ∷ [])) h (indices g) k .1)) in
+      omega arith)) in
+      rw o)
+      (omega arith))
 
   pub start-place : isPlace p (p .start ∷ []) ≡ true
   unfolding isPlace isUnlabelledPlace

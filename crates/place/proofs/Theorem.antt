@@ -1,5 +1,5 @@
--- Theorem W: {v} has exactly one way out, every other place exactly two. In order: a place of two or more points; the start, and that no other
--- place has one point; theorem W; demand 3, and what a run needs. Assumes nothing.
+-- Theorem W: {v} has exactly one way out, every other place exactly two. In order: a place of two or more points; the
+-- start, and that no other place has one point; theorem W; demand 3, and what a run needs. Assumes nothing.
 use mathlib.Core.Bool.{true}
 use mathlib.Core.List.{List, [], _∷_}
 use mathlib.Core.Logic.{_↔_, _⊎_, inl, inr, ⊎-elim}
@@ -16,20 +16,26 @@ use Rattle.geometry.proofs.Exits.{kinds, inside-not-complete, inside-not-larger
 use Rattle.geometry.proofs.Definitions.{Carries, Twice, Extra}
 use Rattle.geometry.proofs.Graph.{Through, Above, exit, through-one, above-one, larger, from-same, one}
 use Rattle.geometry.proofs.LabelledChains.{listAt, LabelledChain, Link, FacetEnd, PlaceEnd}
-use Rattle.geometry.proofs.Onward.{facet-way, up-way, above-not-end, through-determines, through-not-above, end-not-through, end-carries, one-place-end, one-facet-end, start-onward, start-not-both, start-one-end}
+use Rattle.geometry.proofs.Onward.{facet-way, up-way, above-not-end, through-determines, through-not-above}
+use Rattle.geometry.proofs.Onward.{end-not-through, end-carries, one-place-end, one-facet-end, start-onward}
+use Rattle.geometry.proofs.Onward.{start-not-both, start-one-end}
 use Rattle.geometry.proofs.Places.{start-only}
 use Rattle.grid.proofs.Round.{seat}
 use Rattle.grid.specs.Grid.{Point, at, numBlocks, numIndices, firstIndex, isGridPoint}
-use Rattle.place.proofs.ToChain.{inT, coefficientsOf, pointsOf, labelOf, size-positive, place-long, labelledChain-of, pointsOf-coefficientsOf}
+use Rattle.place.proofs.ToChain.{inT, coefficientsOf, pointsOf, labelOf, size-positive, place-long}
+use Rattle.place.proofs.ToChain.{labelledChain-of, pointsOf-coefficientsOf}
 use Rattle.place.proofs.Facets.{oneLess-at, at-oneLess}
 use Rattle.place.proofs.ChainLinks.{link-of, of-link}
 use Rattle.place.proofs.LinkSymmetry.{parts}
-use Rattle.place.proofs.FromTwoWays.{Final, demand3, path-is, ends-known, no-gap, follows-path, follows-more, whole-path}
+use Rattle.place.proofs.FromTwoWays.{Final, demand3, path-is, ends-known, no-gap, follows-path, follows-more}
+use Rattle.place.proofs.FromTwoWays.{whole-path}
 use Rattle.place.proofs.BlocksOfGrid.{blocksOf, pointOf, coefficientOf, block-agrees, point-coefficientOf}
 use Rattle.place.proofs.Start.{start-place}
-use Rattle.place.proofs.ChainEnds.{complete-to, complete-of, complete-below, facet-end, end-below, end-complete, end-labels}
+use Rattle.place.proofs.ChainEnds.{complete-to, complete-of, complete-below, facet-end, end-below, end-complete}
+use Rattle.place.proofs.ChainEnds.{end-labels}
 use Rattle.place.proofs.Ways.{IsWay, byPlace, byFacet, byLink, exactly-one, exactly-two}
-use Rattle.place.specs.Demand.{Accepted, Settled, TwoWays, NoGap, Demand3, IsPath, Follows, placeAt, lastPlace, leftAt}
+use Rattle.place.specs.Demand.{Accepted, Settled, TwoWays, NoGap, Demand3, IsPath, Follows, placeAt, lastPlace}
+use Rattle.place.specs.Demand.{leftAt}
 use Rattle.place.specs.Ends.{Kind, placeEnd, facetEnd, End, Way, stop, link, ways, facets, ends}
 use Rattle.place.specs.Links.{linked}
 use Rattle.place.specs.Path.{sameSimplex, path, pathLength}
@@ -53,15 +59,18 @@ block-of p h l =
     let e : blocksOf p .block h ≡ s .j = ap (blocksOf p .block) s.is ∙ block-agrees p s.j s.i s.inside in
     omega (arith, s .block)
 
-facets-many : (s : Simplex) → 1 < length s → (f : Simplex) → isIn sameSimplex f (facets s) ≡ true → (i : ℕ) × (i < length s) × (f ≡ removeAt i s)
+facets-many : (s : Simplex) → 1 < length s → (f : Simplex) → isIn sameSimplex f (facets s) ≡ true
+    → (i : ℕ) × (i < length s) × (f ≡ removeAt i s)
 facets-many s l f m = oneLess-at s f (rw (lt-ltb 1 (length s) l) at m)
 
-pub in-facets : (s : Simplex) → 1 < length s → (i : ℕ) → i < length s → isIn sameSimplex (removeAt i s) (facets s) ≡ true
+pub in-facets : (s : Simplex) → 1 < length s → (i : ℕ) → i < length s
+    → isIn sameSimplex (removeAt i s) (facets s) ≡ true
 in-facets s l i m = rw (lt-ltb 1 (length s) l) (at-oneLess s i m)
 
 -- a place of two or more points
-module _ {p : Problem} (ok : Settled p) (s : Simplex) (h : isPlace p s ≡ true) (own : allLabelled p s ≡ true) {n : ℕ} {o : ℕ → ℕ}
-    (long : length s ≡ suc (suc n)) (A : LabelledChain (blocksOf p) (labelOf p) (inT p s) (suc n) o (coefficientsOf p s)) where
+module _ {p : Problem} (ok : Settled p) (s : Simplex) (h : isPlace p s ≡ true) (own : allLabelled p s ≡ true) {n : ℕ}
+    {o : ℕ → ℕ} (long : length s ≡ suc (suc n))
+    (A : LabelledChain (blocksOf p) (labelOf p) (inT p s) (suc n) o (coefficientsOf p s)) where
   abbrev labelAt : ℕ → ℕ
   labelAt j = labelOf p (listAt (coefficientsOf p s) j)
 
@@ -73,23 +82,25 @@ module _ {p : Problem} (ok : Settled p) (s : Simplex) (h : isPlace p s ≡ true)
 
   -- the way w goes through facet i
   data By (i : ℕ) (w : Way) : Type 0 where
-    toPlace : (x : List (ℕ → ℕ)) → Through (blocksOf p) (inT p s) n (coefficientsOf p s) i x → coefficientsOf p (pointsOf p x) ≡ x
-        → w ≡ link (pointsOf p x) → By i w
-    toFacet : (b : ℕ) → FacetEnd (blocksOf p) (labelOf p) (inT p s) n (coefficientsOf p s) i b → w ≡ atFacet (removeAt i s) (blocksOf p .block b)
-        → By i w
+    toPlace : (x : List (ℕ → ℕ)) → Through (blocksOf p) (inT p s) n (coefficientsOf p s) i x
+        → coefficientsOf p (pointsOf p x) ≡ x → w ≡ link (pointsOf p x) → By i w
+    toFacet : (b : ℕ) → FacetEnd (blocksOf p) (labelOf p) (inT p s) n (coefficientsOf p s) i b
+        → w ≡ atFacet (removeAt i s) (blocksOf p .block b) → By i w
 
   -- or by a label outside T
   data Up (w : Way) : Type 0 where
-    toLarger : (x : List (ℕ → ℕ)) → Above (blocksOf p) (labelOf p) (inT p s) (suc n) (coefficientsOf p s) x → coefficientsOf p (pointsOf p x) ≡ x
-        → w ≡ link (pointsOf p x) → Up w
-    toEnd : (b : ℕ) → PlaceEnd (blocksOf p) (labelOf p) (suc n) (coefficientsOf p s) b → w ≡ atPlace s (blocksOf p .block b) → Up w
+    toLarger : (x : List (ℕ → ℕ)) → Above (blocksOf p) (labelOf p) (inT p s) (suc n) (coefficientsOf p s) x
+        → coefficientsOf p (pointsOf p x) ≡ x → w ≡ link (pointsOf p x) → Up w
+    toEnd : (b : ℕ) → PlaceEnd (blocksOf p) (labelOf p) (suc n) (coefficientsOf p s) b
+        → w ≡ atPlace s (blocksOf p .block b) → Up w
 
   by-one : {i : ℕ} → i ≤ suc n → {w w' : Way} → By i w → By i w' → w ≡ w'
   by-one l (toPlace x X c q) (toPlace x' X' c' q') =
       q ∙ ap (λ (z : List (ℕ → ℕ)). link (pointsOf p z)) (through-one (coefficientsOf p s) A.chain l x x' X X') ∙ sym q'
   by-one l (toPlace x X c q) (toFacet b F q') = absurd (end-not-through A F x X)
   by-one l (toFacet b F q) (toPlace x X c q') = absurd (end-not-through A F x X)
-  by-one {i} l (toFacet b F q) (toFacet b' F' q') = q ∙ ap (λ (j : ℕ). atFacet (removeAt i s) j) (one-facet-end A F F' .1) ∙ sym q'
+  by-one {i} l (toFacet b F q) (toFacet b' F' q') =
+      q ∙ ap (λ (j : ℕ). atFacet (removeAt i s) j) (one-facet-end A F F' .1) ∙ sym q'
 
   by-determines : {i i' : ℕ} → i ≤ suc n → i' ≤ suc n → {w : Way} → By i w → By i' w → i ≡ i'
   by-determines {i'} l l' (toPlace x X c q) (toPlace x' X' c' q') =
@@ -107,10 +118,13 @@ module _ {p : Problem} (ok : Settled p) (s : Simplex) (h : isPlace p s ≡ true)
       through-not-above A X (rw f at X')
   by-not-up (toPlace x X c q) (toEnd b F q') = absurd-bool (cc)
   by-not-up (toFacet b F q) (toLarger x X c q') = absurd-bool (cc)
-  by-not-up (toFacet b F q) (toEnd b' F' q') = let k : facetEnd ≡ placeEnd = sym (ap kindOf q) ∙ ap kindOf q' in absurd-bool (cc)
+  by-not-up (toFacet b F q) (toEnd b' F' q') =
+      let k : facetEnd ≡ placeEnd = sym (ap kindOf q) ∙ ap kindOf q' in
+      absurd-bool (cc)
 
   up-one : {m : ℕ} → Extra (inT p s) (suc n) labelAt m → {w w' : Way} → Up w → Up w' → w ≡ w'
-  up-one X (toLarger x Y c q) (toLarger x' Y' c' q') = q ∙ ap (λ (z : List (ℕ → ℕ)). link (pointsOf p z)) (above-one A Y Y') ∙ sym q'
+  up-one X (toLarger x Y c q) (toLarger x' Y' c' q') =
+      q ∙ ap (λ (z : List (ℕ → ℕ)). link (pointsOf p z)) (above-one A Y Y') ∙ sym q'
   up-one X (toLarger x Y c q) (toEnd b F q') = absurd (above-not-end A X Y b F)
   up-one X (toEnd b F q) (toLarger x Y c q') = absurd (above-not-end A X Y b F)
   up-one X (toEnd b F q) (toEnd b' F' q') = q ∙ ap (λ (j : ℕ). atPlace s j) (one-place-end A b b' F F') ∙ sym q'
@@ -130,7 +144,12 @@ module _ {p : Problem} (ok : Settled p) (s : Simplex) (h : isPlace p s ≡ true)
       let i = facets-many s (omega arith) f m in
       let il : i .0 ≤ suc n = omega (arith, i .1) in
       let F = facet-end ok s h n long i.0 il own j l (rw i.2 at q) (rw i.2 at c) in
-      inl (i .0, il, end-carries A F, toFacet (firstIndex p.grid j + 0) F (let e = i .2 in let k = block-agrees p j 0 (size-positive ok j l) in cc))
+      inl (
+        i .0,
+        il,
+        end-carries A F,
+        toFacet (firstIndex p.grid j + 0) F (let e = i .2 in let k = block-agrees p j 0 (size-positive ok j l) in cc),
+      )
   cover (byLink t ht l) =
       let e : pointsOf p (coefficientsOf p t) ≡ t = pointsOf-coefficientsOf ok t (parts p t ht .gridPoints) in
       let f : link t ≡ link (pointsOf p (coefficientsOf p t)) = ap (λ (z : Simplex). link z) (sym e) in
@@ -181,11 +200,16 @@ module _ {p : Problem} (ok : Settled p) (s : Simplex) (h : isPlace p s ≡ true)
 
       extra : (a : ℕ) × Extra (inT p s) (suc n) labelAt a → length (ways p s) ≡ 2
       extra W =
-          let a = W .0 in let X = W .1 in
+          let a = W .0 in
+          let X = W .1 in
           let U = through a X.first X.less-first in
           let Z = upward X in
-          exactly-two p s h ok.sameNumber U.1 Z.1 (λ e. by-not-up U.2 (rw e Z.2))
-          (λ w k. ⊎-elim (λ Y. inl (by-one X.first (rw (X .only Y.0 Y.1 Y.2) at Y.3) U.2)) (λ Y. inr (up-one X Y Z.2)) (cover k))
+          exactly-two p s h ok.sameNumber U.1 Z.1
+          (λ e. by-not-up U.2 (rw e Z.2))
+          (λ w k. ⊎-elim
+          (λ Y. inl (by-one X.first (rw (X .only Y.0 Y.1 Y.2) at Y.3) U.2))
+          (λ Y. inr (up-one X Y Z.2))
+          (cover k))
 
 module _ {p : Problem} (ok : Settled p) where
   abbrev v : Simplex
@@ -204,30 +228,35 @@ module _ {p : Problem} (ok : Settled p) where
       byL : (x : List (ℕ → ℕ)) × Link (blocksOf p) (labelOf p) (coefficientsOf p v) x → length (ways p v) ≡ 1
       byL X = go (of-link ok v h X.1)
         where
-          go : (isPlace p (pointsOf p X.0) ≡ true) × (linked p v (pointsOf p X.0) ≡ true) × (coefficientsOf p (pointsOf p X.0) ≡ X .0)
+          go : (isPlace p (pointsOf p X.0) ≡ true) × (linked p v (pointsOf p X.0) ≡ true)
+              × (coefficientsOf p (pointsOf p X.0) ≡ X .0)
               → length (ways p v) ≡ 1
           go r = exactly-one p v h ok.sameNumber (byLink (pointsOf p X.0) r.0 r.1) (λ w k. all w k)
             where
               all : (w : Way) → IsWay p v w → w ≡ link (pointsOf p X.0)
-              all w (byPlace j l c) =
-                  absurd (start-not-both A X.1 (firstIndex p.grid j + 0) (complete-to ok v (parts p v h .gridPoints) 0 refl j l c))
+              all w (byPlace j l c) = absurd (start-not-both A X.1 (firstIndex p.grid j + 0)
+                  (complete-to ok v (parts p v h .gridPoints) 0 refl j l c))
               all w (byFacet f j m q l c) = absurd-bool (sym m)
               all w (byLink t ht l) =
-                  let e : coefficientsOf p t ≡ X .0 = one (blocksOf p) (labelOf p) refl (link-of ok v h own t ht l) X.1 in
-                  ap (λ (z : Simplex). link z) (sym (pointsOf-coefficientsOf ok t (parts p t ht .gridPoints)) ∙ ap (pointsOf p) e)
+                  let e : coefficientsOf p t ≡ X .0 =
+                  one (blocksOf p) (labelOf p) refl (link-of ok v h own t ht l) X.1 in
+                  ap (λ (z : Simplex). link z)
+                  (sym (pointsOf-coefficientsOf ok t (parts p t ht .gridPoints)) ∙ ap (pointsOf p) e)
 
       byE : (b : ℕ) × PlaceEnd (blocksOf p) (labelOf p) 0 (coefficientsOf p v) b → length (ways p v) ≡ 1
       byE X =
           let b = X .0 in
           let lb = block-of p b (complete-below ok v (parts p v h .gridPoints) 0 refl own b X.1) in
           exactly-one p v h ok.sameNumber
-          (byPlace (blocksOf p .block b) lb (complete-of ok v (parts p v h .gridPoints) 0 refl b (blocksOf p .block b) lb refl X.1)) (λ w k. all w k)
+          (byPlace (blocksOf p .block b) lb
+          (complete-of ok v (parts p v h .gridPoints) 0 refl b (blocksOf p .block b) lb refl X.1))
+          (λ w k. all w k)
         where
           all : (w : Way) → IsWay p v w → w ≡ atPlace v (blocksOf p .block X.0)
-          all w (byPlace j l c) =
-              ap (λ (k : ℕ). atPlace v k)
+          all w (byPlace j l c) = ap (λ (k : ℕ). atPlace v k)
               (sym (block-agrees p j 0 (size-positive ok j l))
-              ∙ start-one-end A (firstIndex p.grid j + 0) X.0 (complete-to ok v (parts p v h .gridPoints) 0 refl j l c) X.1)
+              ∙ start-one-end A (firstIndex p.grid j + 0) X.0 (complete-to ok v (parts p v h .gridPoints) 0 refl j l c)
+              X.1)
           all w (byFacet f j m q l c) = absurd-bool (sym m)
           all w (byLink t ht l) = absurd (start-not-both A (link-of ok v h own t ht l) X.0 X.1)
 
@@ -236,7 +265,10 @@ module _ {p : Problem} (ok : Settled p) where
   zeroes y h =
       let A = labelledChain-of ok (y ∷ []) h in
       fun-ext (start-only (blocksOf p)
-      (λ k. ⊎-elim (λ e. absurd (let w = A .chain .order .all k e in omega (arith, w .1))) (λ e. e) (true-or-false (inT p (y ∷ []) k)))
+      (λ k. ⊎-elim
+      (λ e. absurd (let w = A .chain .order .all k e in omega (arith, w .1)))
+      (λ e. e)
+      (true-or-false (inT p (y ∷ []) k)))
       (at (order p.grid (y ∷ []))) A.chain)
 
   only-start : (y : Point) → isPlace p (y ∷ []) ≡ true → y ≡ p .start
@@ -252,7 +284,8 @@ module _ {p : Problem} (ok : Settled p) where
   pub twoWays : TwoWays p
   twoWays = record { start = start-one; other = λ s h own ne. go s h own ne (length (order p.grid s)) refl }
     where
-      go : (s : Simplex) → isPlace p s ≡ true → allLabelled p s ≡ true → (s ≡ p .start ∷ [] → ⊥) → (t : ℕ) → length (order p.grid s) ≡ t
+      go : (s : Simplex) → isPlace p s ≡ true → allLabelled p s ≡ true → (s ≡ p .start ∷ [] → ⊥) → (t : ℕ)
+          → length (order p.grid s) ≡ t
           → length (ways p s) ≡ 2
       go s h own ne zero e = absurd (ne (single s h (place-long ok s h ∙ ap suc e)))
       go s h own ne (suc n) e = two-ways ok s h own (place-long ok s h ∙ ap suc e) (rw e at (labelledChain-of ok s h))

@@ -1,5 +1,5 @@
--- The nine marked ends, and the three rows with a label not yet known, hold of the definitions: each row's table is accepted and has the answer
--- that stands there. Assumes nothing.
+-- The nine marked ends, and the three rows with a label not yet known, hold of the definitions: each row's table is
+-- accepted and has the answer that stands there. Assumes nothing.
 use mathlib.Core.List.{map}
 use mathlib.Core.Path.{_≡_, refl}
 use Rattle.grid.specs.Grid.{next, previous, isGridPoint, points, bound}
@@ -9,10 +9,13 @@ use Rattle.place.specs.Ends.{isComplete, completeFor, placeEnds, facetEn
 use Rattle.place.specs.LabelsRead.{cameIn, labelsRead}
 use Rattle.place.specs.Links.{exchanged, extended, linked, links}
 use Rattle.place.specs.Path.{waysOn, path, answer}
-use Rattle.place.specs.Places.{setU, setT, labelSet, firstBackOutside, goesTo, grownAt, everyBlockFree, isUnlabelledPlace, isPlace, places}
+use Rattle.place.specs.Places.{setU, setT, labelSet, firstBackOutside, goesTo, grownAt, everyBlockFree}
+use Rattle.place.specs.Places.{isUnlabelledPlace, isPlace, places}
 use Rattle.place.specs.Problem.{label}
 use Rattle.place.specs.Worked.{given, table}
 
 worked : map given table ≡ map (λ r. (0, r .result)) table
-unfolding next previous isGridPoint points label coefficients setU setT labelSet firstBackOutside goesTo grownAt everyBlockFree isUnlabelledPlace isPlace places exchanged extended linked links isComplete completeFor placeEnds facetEnds ends ways waysOn bound path answer cameIn labelsRead firstNo
+unfolding next previous isGridPoint points label coefficients setU setT labelSet firstBackOutside goesTo grownAt
+    everyBlockFree isUnlabelledPlace isPlace places exchanged extended linked links isComplete completeFor placeEnds
+    facetEnds ends ways waysOn bound path answer cameIn labelsRead firstNo
 worked = refl

@@ -1,4 +1,5 @@
--- Request 14, "Backwards", of paths that reach an end: the way back from the last place, and the ways out of each place. Assumes nothing.
+-- Request 14, "Backwards", of paths that reach an end: the way back from the last place, and the ways out of each
+-- place. Assumes nothing.
 use mathlib.Core.Bool.{true}
 use mathlib.Core.List.{List, [], _∷_, reverse}
 use mathlib.Core.Option.{some}
@@ -11,8 +12,8 @@ use Rattle.place.specs.Links.{linked, links}
 use Rattle.place.specs.Places.{Simplex, isPlace}
 use Rattle.place.specs.Problem.{Problem}
 
--- A list that begins with a given place, goes on "moving by links and never to the place just left", and cannot be continued so: whatever
--- place is linked to its last one is the place just left. Ends are not looked at.
+-- A list that begins with a given place, goes on "moving by links and never to the place just left", and cannot be
+-- continued so: whatever place is linked to its last one is the place just left. Ends are not looked at.
 pub record MovesFrom (p : Problem) (first : Simplex) (s : List Simplex) : Type 0 where
   pub nonempty : 0 < length s
   pub begins : placeAt s 0 ≡ first

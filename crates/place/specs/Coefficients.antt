@@ -11,7 +11,8 @@ use Rattle.place.specs.Problem.{Problem}
 -- with y_h = v_h + c_h - c_(h+1) for every h, h + 1 taken round the block"
 pub record IsCoefficients (p : Problem) (y : Point) (c : List ℕ) : Type 0 where
   pub numbers : length c ≡ numIndices (p .grid)
-  pub zero : (j : ℕ) → j < numBlocks (p .grid) → (h : ℕ) × (firstIndex (p .grid) j ≤ h) × (h < firstIndex (p .grid) j + size (p .grid) j) × (at c h ≡ 0)
+  pub zero : (j : ℕ) → j < numBlocks (p .grid)
+      → (h : ℕ) × (firstIndex (p .grid) j ≤ h) × (h < firstIndex (p .grid) j + size (p .grid) j) × (at c h ≡ 0)
   pub rule : (h : ℕ) → h < numIndices (p .grid) → at y h + at c (next (p .grid) h) ≡ at (p .start) h + at c h
 
 -- In a block, c_(h+1) = c_h + v_h - y_h: the numbers that follow so from e,
@@ -31,7 +32,8 @@ blockCoefficients d v y = let e = runOn d v y in let a = least d e in map (λ x.
 abbrev pub productCoefficients : List ℕ → List ℕ → List ℕ → List ℕ → List ℕ
 productCoefficients [] ds v y = []
 productCoefficients (s ∷ ss) [] v y = []
-productCoefficients (s ∷ ss) (d ∷ ds) v y = blockCoefficients d (take s v) (take s y) ++ productCoefficients ss ds (drop s v) (drop s y)
+productCoefficients (s ∷ ss) (d ∷ ds) v y =
+    blockCoefficients d (take s v) (take s y) ++ productCoefficients ss ds (drop s v) (drop s y)
 
 -- "Each grid point y has one coefficient list": IsCoefficients holds of it and of no other
 unfoldable pub coefficients : Problem → Point → List ℕ

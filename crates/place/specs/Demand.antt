@@ -1,4 +1,5 @@
--- Demand 3, in the order of the customer's sentences, on tables where some labels may not be known yet (request 02). Assumes nothing.
+-- Demand 3, in the order of the customer's sentences, on tables where some labels may not be known yet (request 02).
+-- Assumes nothing.
 use mathlib.Core.Bool.{true}
 use mathlib.Core.List.{List, [], _∷_, map}
 use mathlib.Core.Logic.{_↔_}
@@ -28,17 +29,19 @@ pub record Settled (p : Problem) : Type 0 where
   pub points : numPoints (p .grid) ≤ 60000
   pub start : isGridPoint (p .grid) (p .start) ≡ true
 
--- "A table is accepted if .. a run's questions 1 to 8 are answered yes"; 8 is about the answer buffer only and is not needed here
+-- "A table is accepted if .. a run's questions 1 to 8 are answered yes"; 8 is about the answer buffer only and is not
+-- needed here
 pub record Accepted (p : Problem) : Type 0 where
   pub settled : Settled p
   pub tableLength : length (p .labels) ≡ numPoints (p .grid)
   pub labels : all (λ l. leb l (numIndices (p .grid))) (p .labels) ≡ true
 
--- W: {v} has exactly one way out, every other place exactly two, on a path or not. It holds of each place whose own points have labels, also
--- where other points of the table have none.
+-- W: {v} has exactly one way out, every other place exactly two, on a path or not. It holds of each place whose own
+-- points have labels, also where other points of the table have none.
 pub record TwoWays (p : Problem) : Type 0 where
   pub start : allLabelled p (p .start ∷ []) ≡ true → length (ways p (p .start ∷ [])) ≡ 1
-  pub other : (s : Simplex) → isPlace p s ≡ true → allLabelled p s ≡ true → (s ≡ p .start ∷ [] → ⊥) → length (ways p s) ≡ 2
+  pub other : (s : Simplex) → isPlace p s ≡ true → allLabelled p s ≡ true → (s ≡ p .start ∷ [] → ⊥)
+      → length (ways p s) ≡ 2
 
 -- two sets with the same points
 abbrev pub SamePoints : Simplex → Simplex → Type 0
@@ -52,7 +55,8 @@ abbrev pub leftAt : List Simplex → ℕ → Option Simplex
 leftAt s zero = none
 leftAt s (suc i) = some (placeAt s i)
 
--- "The path begins at the place {v} and goes on by links, never back to the place just left", here past no end and past no gap
+-- "The path begins at the place {v} and goes on by links, never back to the place just left", here past no end and past
+-- no gap
 pub record Follows (p : Problem) (s : List Simplex) : Type 0 where
   pub nonempty : 0 < length s
   pub begins : placeAt s 0 ≡ p .start ∷ []
@@ -86,8 +90,10 @@ pub record Ended (p : Problem) : Type 0 where
   pub end : End
   pub isPath : IsPath p (path p .visited) end
   pub ends : path p .end ≡ some end
-  -- "otherwise it announces the kind, block and complete simplex of the path's end, and the length", and the labels read
-  pub announces : (budget : ℕ) → pathLength p ≤ budget → answer p budget ≡ announcement (pathLength p) (labelsRead (path p .visited)) end
+  -- "otherwise it announces the kind, block and complete simplex of the path's end, and the length", and the
+  -- labels read
+  pub announces : (budget : ℕ) → pathLength p ≤ budget
+      → answer p budget ≡ announcement (pathLength p) (labelsRead (path p .visited)) end
   pub complete : isComplete p (end .simplex) (end .block) ≡ true
   pub completeOnly : (j : ℕ) → j < numBlocks (p .grid) → isComplete p (end .simplex) j ≡ true → j ≡ end .block
   -- "the vertices in rising coefficient sum"
@@ -99,7 +105,8 @@ pub record Demand3 (p : Problem) : Type 0 where
   -- the path goes by links and passes no end and no gap; it stops at the one or the other
   pub follows : Follows p (path p .visited)
   pub stops : Stop p (lastPlace (path p .visited)) (path p .end)
-  -- "one path from the start, which ends": request 02, "demand 3 on those where no place on the path has a point with label 0";
+  -- "one path from the start, which ends": request 02, "demand 3 on those where no place on the path has a point with
+  -- label 0";
   pub ended : NoGap p → Ended p
   -- there is no other path that ends,
   pub only : (s : List Simplex) (e : End) → IsPath p s e → (s ≡ path p .visited) × (path p .end ≡ some e)
@@ -107,9 +114,10 @@ pub record Demand3 (p : Problem) : Type 0 where
   pub one : (i : ℕ) → i < pathLength p → allLabelled p (placeAt (path p .visited) i) ≡ true
       → length (waysOn p (leftAt (path p .visited) i) (placeAt (path p .visited) i)) ≡ 1
   -- "no simplex stands on it twice", "up to its first place with such a point", that place included
-  pub once : (i j : ℕ) → i < j → j < pathLength p → SamePoints (placeAt (path p .visited) i) (placeAt (path p .visited) j) → ⊥
-  -- "its length is at most the bound": `path` follows at most so many places, so this has its content from `follows` and `stops`, by which the
-  -- path is whole, and from `only`, by which every path that ends is this one
+  pub once : (i j : ℕ) → i < j → j < pathLength p
+      → SamePoints (placeAt (path p .visited) i) (placeAt (path p .visited) j) → ⊥
+  -- "its length is at most the bound": `path` follows at most so many places, so this has its content from `follows`
+  -- and `stops`, by which the path is whole, and from `only`, by which every path that ends is this one
   pub bounded : pathLength p ≤ bound (p .grid)
   -- "calls its budget spent exactly when that is smaller than the length"; so never a budget of the bound's size
   pub spends : (budget : ℕ) → (answer p budget ≡ spent budget) ↔ (budget < pathLength p)
@@ -118,12 +126,15 @@ pub record Demand3 (p : Problem) : Type 0 where
   pub asks : (y : Point) → unlabelled p (lastPlace (path p .visited)) ≡ y ∷ [] → (budget : ℕ) → pathLength p ≤ budget
       → answer p budget ≡ unknown (pred (pathLength p)) (position (p .grid) y)
   -- and only so is a label asked for, which is 0
-  pub asked : (budget n i : ℕ) → answer p budget ≡ unknown n i → (suc n ≡ pathLength p) × (n < budget) × (getD (p .labels) i 0 ≡ 0)
-  -- "runs alike .. that announce an end announce the same .. whatever their budgets", and so do those that ask for a label
+  pub asked : (budget n i : ℕ) → answer p budget ≡ unknown n i
+      → (suc n ≡ pathLength p) × (n < budget) × (getD (p .labels) i 0 ≡ 0)
+  -- "runs alike .. that announce an end announce the same .. whatever their budgets", and so do those that ask for
+  -- a label
   pub alike : (b c : ℕ) → (answer p b ≡ spent b → ⊥) → (answer p c ≡ spent c → ⊥) → answer p b ≡ answer p c
 
--- Request 02, "Filling a gap with any index never changes a sheet .. printed with an end": a table that agrees with the problem's
--- wherever that has an index gives the same answer, unless the answer asks for a label that the table has. So an end never changes.
+-- Request 02, "Filling a gap with any index never changes a sheet .. printed with an end": a table that agrees with the
+-- problem's wherever that has an index gives the same answer, unless the answer asks for a label that the table has. So
+-- an end never changes.
 abbrev pub Fills : Problem → List ℕ → Type 0
 Fills p labels = (i : ℕ) → 0 < getD (p .labels) i 0 → getD labels i 0 ≡ getD (p .labels) i 0
 

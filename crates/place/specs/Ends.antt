@@ -10,9 +10,13 @@ use Rattle.place.specs.Links.{links}
 use Rattle.place.specs.Places.{Simplex, setU, setT, labelSet}
 use Rattle.place.specs.Problem.{Problem}
 
--- "complete for block j if each index of the block is a label of one of its points or belongs to its U (Definition 2.2)"
+-- "complete for block j if each index of the block is a label of one of its points or belongs to its U
+-- (Definition 2.2)"
 unfoldable pub isComplete : Problem → Simplex → ℕ → Bool
-isComplete p s j = let ls = labelSet p s in let u = setU (p .grid) s in all (λ h. isIn eqb h ls || isIn eqb h u) (indicesOf (p .grid) j)
+isComplete p s j =
+    let ls = labelSet p s in
+    let u = setU (p .grid) s in
+    all (λ h. isIn eqb h ls || isIn eqb h u) (indicesOf (p .grid) j)
 
 -- the blocks for which a set of points is complete
 unfoldable pub completeFor : Problem → Simplex → List ℕ

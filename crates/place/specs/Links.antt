@@ -17,7 +17,8 @@ shared a b = filter (λ y. isIn samePoint y b) a
 unfoldable pub exchanged : Problem → Simplex → Simplex → Bool
 exchanged p a b =
     let s = shared a b in
-    eqb (length a) (suc (length s)) && eqb (length b) (suc (length s)) && same eqb (setT p a) (setT p b) && within (setT p a) (labelSet p s)
+    eqb (length a) (suc (length s)) && eqb (length b) (suc (length s)) && same eqb (setT p a) (setT p b)
+    && within (setT p a) (labelSet p s)
 
 -- "one is the other plus one point, and the labels of the smaller are exactly the T of the larger"
 unfoldable pub extended : Problem → Simplex → Simplex → Bool

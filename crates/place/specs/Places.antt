@@ -1,4 +1,5 @@
--- Document 01, "Places". A set of points is kept as the list of its points in rising order of coefficient sum. Assumes nothing.
+-- Document 01, "Places". A set of points is kept as the list of its points in rising order of coefficient sum.
+-- Assumes nothing.
 use mathlib.Core.Bool.{Bool, true, not, _&&_, cond}
 use mathlib.Core.List.{List, [], _∷_, map}
 use Prim.Native.Nat.{ℕ, zero, suc, _+_}
@@ -87,7 +88,8 @@ isUnlabelledPlace p s =
     let g = p .grid in
     let u = setU g s in
     let t = setT p s in
-    all (isGridPoint g) s && rising (map (coefficientSum p) s) && eachGoesToNext g u s && usesEachOnce t (order g s) && everyBlockFree g t u
+    all (isGridPoint g) s && rising (map (coefficientSum p) s) && eachGoesToNext g u s && usesEachOnce t (order g s)
+    && everyBlockFree g t u
 
 -- and "every index of T is the label of one of the points"
 unfoldable pub isPlace : Problem → Simplex → Bool
@@ -95,7 +97,9 @@ isPlace p s = isUnlabelledPlace p s && within (setT p s) (labelSet p s)
 
 abbrev pub insert : Problem → Point → Simplex → Simplex
 insert p y [] = y ∷ []
-insert p y (z ∷ s) = let later = z ∷ insert p y s in cond (leb (coefficientSum p y) (coefficientSum p z)) (y ∷ z ∷ s) later
+insert p y (z ∷ s) =
+    let later = z ∷ insert p y s in
+    cond (leb (coefficientSum p y) (coefficientSum p z)) (y ∷ z ∷ s) later
 
 -- points "put in rising order of coefficient sum"
 abbrev pub inOrder : Problem → List Point → List Point

@@ -13,13 +13,18 @@ pub record Problem : Type 0 where
   pub labels : List ℕ
 
 abbrev pub problemOf : List ℕ → List ℕ → Point → List ℕ → Problem
-problemOf sizes divisions start labels = record { grid = record { sizes = sizes; divisions = divisions }; start = start; labels = labels }
+problemOf sizes divisions start labels = record {
+  grid = record { sizes = sizes; divisions = divisions };
+  start = start;
+  labels = labels;
+}
 
 -- "The label table has one byte per point in that order"; 0 where there is none
 unfoldable pub label : Problem → Point → ℕ
 label p y = getD (p .labels) (position (p .grid) y) 0
 
--- Request 02, "Label 0 now means not yet known": the label of a point is an index, counted from 1, or the point has none
+-- Request 02, "Label 0 now means not yet known": the label of a point is an index, counted from 1, or the point
+-- has none
 abbrev pub hasLabel : Problem → Point → Bool
 hasLabel p y = leb 1 (label p y) && leb (label p y) (numIndices (p .grid))
 

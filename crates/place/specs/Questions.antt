@@ -1,4 +1,5 @@
--- Document 01, "Questions in order": the questions about a label table and an answer buffer, and those of a run. Assumes nothing.
+-- Document 01, "Questions in order": the questions about a label table and an answer buffer, and those of a run.
+-- Assumes nothing.
 use mathlib.Core.List.{List, [], _∷_, _++_}
 use Prim.Native.Nat.{ℕ, suc, _*_}
 use lib.Dec.{eqb, leb}

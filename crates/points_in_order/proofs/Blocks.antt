@@ -16,12 +16,14 @@ use Rattle.combinatorics.specs.Counting.{choose}
 use Rattle.combinatorics.specs.Lists.{sum, upFrom}
 use Rattle.grid.proofs.Accepted.{Accepted, count-few, size-two}
 use Rattle.grid.proofs.Round.{block-fits}
-use Rattle.grid.specs.Grid.{Grid, Point, at, numBlocks, numIndices, division, size, firstIndex, blocks, indicesOf, isGridPoint}
+use Rattle.grid.specs.Grid.{Grid, Point, at, numBlocks, numIndices, division, size, firstIndex, blocks, indicesOf}
+use Rattle.grid.specs.Grid.{isGridPoint}
 
 -- the coordinates at some indices that follow one another
 pub at-part : (y : List ℕ) (b n : ℕ) → b + n ≤ length y → map (at y) (upFrom b n) ≡ take n (drop b y)
 at-part y b zero h = refl
-at-part y b (suc n) h = rw (drop-cons y b 0 (omega arith)) (ap (λ (l : List ℕ). getD y b 0 ∷ l) (at-part y (suc b) n (omega arith)))
+at-part y b (suc n) h =
+    rw (drop-cons y b 0 (omega arith)) (ap (λ (l : List ℕ). getD y b 0 ∷ l) (at-part y (suc b) n (omega arith)))
 
 -- a block has more points than its division
 pub division-below : (s d : ℕ) → 2 ≤ s → d ≤ choose (d + pred s) (pred s)

@@ -31,7 +31,8 @@ module _ (g : Grid) (firsts : List ℕ) (l : WithFirsts g firsts) (k : ℕ) wher
   pub point-at : k < numPoints g → (y : Point) → y ≡ getD (points g) k [] → PointWithFirsts g firsts y
   point-at h y e = rw e (record { grid = l; isPoint = points-in g (getD (points g) k []) (at-in (points g) k h) })
 
-  pub next-point : k + 1 < numPoints g → (y : Point) → y ≡ getD (points g) k [] → afterAll (g .sizes) y .list ≡ getD (points g) (k + 1) []
+  pub next-point : k + 1 < numPoints g → (y : Point) → y ≡ getD (points g) k []
+      → afterAll (g .sizes) y .list ≡ getD (points g) (k + 1) []
   next-point h y e =
       let a = accepted g (l .accepted) in
       rw (e, add-one) (ap (λ (t : Step). t .list) (point-after g (a .sizesTwo) (a .sameNumber) k (omega arith)))

@@ -24,12 +24,17 @@ module _ (y steps : List ℕ) where
   length-after = refl
 
   -- a list that differs from y by the steps, as far as its first m numbers
-  pub after-is : (z : List ℕ) (m : ℕ) → m ≤ 16 → m ≤ length z → ((k : ℕ) → k < m → at z k + 16 ≡ at y k + at steps k) → take m (afterSteps y steps) ≡ take m z
+  pub after-is : (z : List ℕ) (m : ℕ) → m ≤ 16 → m ≤ length z → ((k : ℕ) → k < m → at z k + 16 ≡ at y k + at steps k)
+      → take m (afterSteps y steps) ≡ take m z
   after-is z m few long h =
-      let e : length (take m (afterSteps y steps)) ≡ m = length-take-le m (afterSteps y steps) (omega (arith, length-after)) in
-      ext-getD 0 (take m (afterSteps y steps)) (take m z) (e ∙ sym (length-take-le m z long))
-      (λ k l. let s : k < m = omega arith in
-      getD-take m (afterSteps y steps) k 0 s ∙ after-at k (omega arith) ∙ omega (arith, h k s) ∙ sym (getD-take m z k 0 s))
+      let e : length (take m (afterSteps y steps)) ≡ m =
+      length-take-le m (afterSteps y steps) (omega (arith, length-after)) in
+      ext-getD 0 (take m (afterSteps y steps)) (take m z) (e ∙ sym (length-take-le m z long)) (λ k l.
+      let s : k < m = omega arith in
+      getD-take m (afterSteps y steps) k 0 s
+      ∙ after-at k (omega arith)
+      ∙ omega (arith, h k s)
+      ∙ sym (getD-take m z k 0 s))
 
 -- no steps leave the point as it is
 module _ (y : List ℕ) (m : ℕ) (few : m ≤ 16) where

@@ -1,4 +1,5 @@
--- Stores into the table of binomials, how far its rows are needed, and the lists that its entries count. Assumes nothing.
+-- Stores into the table of binomials, how far its rows are needed, and the lists that its entries count.
+-- Assumes nothing.
 use mathlib.Core.List.{List}
 use mathlib.Core.Path.{_≡_, refl, _∙_}
 use Prim.Native.Nat.{ℕ, zero, suc, _+_, _-_, _*_, pred, _≤_, _<_}
@@ -25,9 +26,16 @@ module _ (k r : ℕ) (i : InTable k r) where
   place-below = ⊎-elim (λ (l : k < 3). omega arith) (λ (l : 3 ≤ k). omega (arith, i .3 l)) (before-or-not k 3)
 
   place-tells : (k′ r′ : ℕ) → InTable k′ r′ → (15 - k′) * 70 + r′ ≡ (15 - k) * 70 + r → (k′ ≡ k) × (r′ ≡ r)
-  place-tells k′ r′ j e =
-      ⊎-elim (λ (l : k < 3). ⊎-elim (λ (m : k′ < 3). (omega arith, omega arith)) (λ (m : 3 ≤ k′). absurd (omega (arith, j .3 m))) (before-or-not k′ 3))
-      (λ (l : 3 ≤ k). ⊎-elim (λ (m : k′ < 3). absurd (omega (arith, i .3 l))) (λ (m : 3 ≤ k′). same (i .3 l) (j .3 m)) (before-or-not k′ 3)) (before-or-not k 3)
+  place-tells k′ r′ j e = ⊎-elim
+      (λ (l : k < 3). ⊎-elim
+      (λ (m : k′ < 3). (omega arith, omega arith))
+      (λ (m : 3 ≤ k′). absurd (omega (arith, j .3 m)))
+      (before-or-not k′ 3))
+      (λ (l : 3 ≤ k). ⊎-elim
+      (λ (m : k′ < 3). absurd (omega (arith, i .3 l)))
+      (λ (m : 3 ≤ k′). same (i .3 l) (j .3 m))
+      (before-or-not k′ 3))
+      (before-or-not k 3)
     where
       same : r ≤ 69 → r′ ≤ 69 → (k′ ≡ k) × (r′ ≡ r)
       same a b = (omega arith, omega arith)
@@ -53,14 +61,21 @@ module _ (t : List ℕ) (k r v : ℕ) (long : length t ≡ 1255) (i : InTable k 
 
 -- a division is small where the block has no more than 60,000 lists
 small : (top k d n : ℕ) → k ≤ n → 60000 < choose (top + 1 + k) k → choose (d + n) n ≤ 60000 → d ≤ top
-small top k d n l big few = ⊎-elim (λ m. omega arith) (λ m. absurd (omega (arith, choose-grows (top + 1) d k n m l))) (before-or-not d (top + 1))
+small top k d n l big few = ⊎-elim
+    (λ m. omega arith)
+    (λ m. absurd (omega (arith, choose-grows (top + 1) d k n m l)))
+    (before-or-not d (top + 1))
 
 -- the table has room for the rows of a block of n + 1 indices
 pub in-table : (k d n : ℕ) → 2 ≤ k → k ≤ n → n ≤ 15 → choose (d + n) n ≤ 60000 → InTable k d
 in-table k d n a b c few =
     let two : choose (344 + 1 + 2) 2 ≡ 60031 = refl in
-    let three : choose (69 + 1 + 3) 3 ≡ 62196 = refl in
-    (a, omega arith, small 344 2 d n (omega arith) (omega arith) few, λ h. small 69 3 d n (omega arith) (omega arith) few)
+    let three : choose (69 + 1 + 3) 3 ≡ 62196 = refl in (
+      a,
+      omega arith,
+      small 344 2 d n (omega arith) (omega arith) few,
+      λ h. small 69 3 d n (omega arith) (omega arith) few,
+    )
 
 -- the next entry of a row
 pub row-next : (r k : ℕ) → 1 ≤ k → choose (r + 1 + k) k ≡ choose (r + k) k + choose (r + 1 + (k - 1)) (k - 1)
@@ -68,12 +83,17 @@ row-next r zero h = absurd (omega arith)
 row-next r (suc k) h = let z : suc k - 1 ≡ k = omega arith in rw (add-one r, z) (choose-step r k)
 
 -- a row more
-pub rows-next : (k d : ℕ) (t u : List ℕ) → InTable k d → HasRows k d t → Keeps t u → ((r : ℕ) → r ≤ d → IsBinomial u k r) → HasRows (k + 1) d u
-rows-next k d t u i h f row k′ r two l c =
-    ⊎-elim (λ p. f .right k′ r (in-smaller k d i k′ r two (omega arith) c) (h k′ r two p c)) (λ p. let e : k′ ≡ k = omega arith in rw e (row r c)) (before-or-not k′ k)
+pub rows-next : (k d : ℕ) (t u : List ℕ) → InTable k d → HasRows k d t → Keeps t u
+    → ((r : ℕ) → r ≤ d → IsBinomial u k r) → HasRows (k + 1) d u
+rows-next k d t u i h f row k′ r two l c = ⊎-elim
+    (λ p. f .right k′ r (in-smaller k d i k′ r two (omega arith) c) (h k′ r two p c))
+    (λ p. let e : k′ ≡ k = omega arith in rw e (row r c))
+    (before-or-not k′ k)
 
-pub rows-kept : (s d : ℕ) (t u : List ℕ) → s ≤ 16 → choose (d + pred s) (pred s) ≤ 60000 → HasRows s d t → Keeps t u → HasRows s d u
-rows-kept s d t u a b h f k r two l c = f .right k r (in-smaller k d (in-table k d (pred s) two (omega arith) (omega arith) b) k r two (omega arith) c) (h k r two l c)
+pub rows-kept : (s d : ℕ) (t u : List ℕ) → s ≤ 16 → choose (d + pred s) (pred s) ≤ 60000 → HasRows s d t → Keeps t u
+    → HasRows s d u
+rows-kept s d t u a b h f k r two l c = f .right k r
+    (in-smaller k d (in-table k d (pred s) two (omega arith) (omega arith) b) k r two (omega arith) c) (h k r two l c)
 
 -- the lists of k numbers are a binomial, where there are any
 pub lists-row : (k x : ℕ) → 1 ≤ k → lists k x ≡ choose (x + (k - 1)) (k - 1)

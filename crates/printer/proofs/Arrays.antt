@@ -21,7 +21,8 @@ use Rattle.printer.specs.Printed.{indexDivisions}
 use Rattle.printer.specs.Run.{Prints}
 
 -- what a call has printed, by an equal sheet
-pub same-sheet : {sheet printed new : List ℕ} {n : ℕ} (old : List ℕ) → sheet ≡ printed → Prints sheet old n new → Prints printed old n new
+pub same-sheet : {sheet printed new : List ℕ} {n : ℕ} (old : List ℕ) → sheet ≡ printed → Prints sheet old n new
+    → Prints printed old n new
 same-sheet {new = new} {n = n} old e = subst (λ (s : List ℕ). Prints s old n new) e
 
 -- as the sheet's functions say it
@@ -39,42 +40,56 @@ zeros-room n k h = omega (arith, length-replicate {A = ℕ} n 0)
 
 module _ (g : GridStruct) (made : IsMade g) where
   length-indexDivisions : length (indexDivisions (shape g)) ≡ g .indices
-  length-indexDivisions =
-      length-map (indices (shape g)) (λ h. division (shape g) (blockOf (shape g) h)) ∙ length-upFrom 0 (numIndices (shape g)) ∙ sym (made-indices g made)
+  length-indexDivisions = length-map (indices (shape g)) (λ h. division (shape g) (blockOf (shape g) h))
+      ∙ length-upFrom 0 (numIndices (shape g))
+      ∙ sym (made-indices g made)
 
   positive : (h : ℕ) → h < g .indices → 1 ≤ getD (indexDivisions (shape g)) h 0
   positive h l =
       let b = block-spans (shape g .sizes) h (omega (arith, made-indices g made)) .0 in
       let z : 0 + h ≡ h = omega arith in
-      rw (map-at (λ h. division (shape g) (blockOf (shape g) h)) 0 (numIndices (shape g)) h (omega (arith, made-indices g made)), z)
-      (division-range g made (blockOf (shape g) h) (omega (arith, b, made-blocks g made)) .0)
+      rw (
+        map-at
+            (λ h. division (shape g) (blockOf (shape g) h))
+            0 (numIndices (shape g)) h (omega (arith, made-indices g made)),
+        z,
+      ) (division-range g made (blockOf (shape g) h) (omega (arith, b, made-blocks g made)) .0)
 
   -- those of the indices in theirs
   module _ (array : List ℕ) (is : array ≡ padded 16 (indexDivisions (shape g))) where
     pub divisions-room : g .indices ≤ length array
     divisions-room =
         let few = indices-few g made in
-        rw is (omega (arith, few, front-length (indexDivisions (shape g)) (replicate 16 0) (omega (arith, few, length-indexDivisions))))
+        rw is (omega (
+          arith,
+          few,
+          front-length (indexDivisions (shape g)) (replicate 16 0) (omega (arith, few, length-indexDivisions)),
+        ))
 
     pub divisions-taken : take (g .indices) array ≡ indexDivisions (shape g)
     divisions-taken = rw (is, ← length-indexDivisions) (front-taken (indexDivisions (shape g)) (replicate 16 0))
 
     -- an answer that fits can be printed, and what is printed is its sheet
     module _ (vertices : ℕ) (buffer : List ℕ) where
-      pub printable : (1 ≤ vertices) × (vertices ≤ 16) × (vertices * numIndices (shape g) ≤ length buffer) → Printable vertices buffer (take (g .indices) array)
+      pub printable : (1 ≤ vertices) × (vertices ≤ 16) × (vertices * numIndices (shape g) ≤ length buffer)
+          → Printable vertices buffer (take (g .indices) array)
       printable f =
           let n = length-indexDivisions in
           let m = made-indices g made in
           rw divisions-taken (record {
             some-vertex = f .0;
             vertices = f .1;
-            some-index = omega (arith, n, m, blocks-few (shape g) (made-accepted g made), made-accepted g made .someBlock);
+            some-index =
+                omega (arith, n, m, blocks-few (shape g) (made-accepted g made), made-accepted g made .someBlock);
             indices = omega (arith, n, indices-few g made);
             positive = λ h l. positive h (omega (arith, n));
             whole = rw (n, m) (f .2);
           })
 
       pub end-printed : (places read b block : ℕ) (k kind : Kind) → b ≡ bound (shape g) → k ≡ kind
-          → endSheet places read b k block (rows vertices (length (take (g .indices) array)) buffer) (take (g .indices) array)
-          ≡ endSheet places read (bound (shape g)) kind block (rows vertices (numIndices (shape g)) buffer) (indexDivisions (shape g))
-      end-printed places read b block k kind e f = rw (e, f, divisions-taken, length-indexDivisions, made-indices g made)
+          → endSheet places read b k block (rows vertices (length (take (g .indices) array)) buffer)
+          (take (g .indices) array)
+          ≡ endSheet places read (bound (shape g)) kind block (rows vertices (numIndices (shape g)) buffer)
+          (indexDivisions (shape g))
+      end-printed places read b block k kind e f =
+          rw (e, f, divisions-taken, length-indexDivisions, made-indices g made)

@@ -68,7 +68,13 @@ module _ (before labels filling : List ℕ) (F : FilledSlip before labels fillin
   head = omega (arith, at-first old, at-next old 0, at-next old 1, F .seam)
 
   many : length labels ≡ numPoints (slipGrid old)
-  many = omega (arith, whole old read, labels-last old (answers old read .0) (F .brings), F .seam, length-append before labels)
+  many = omega (
+    arith,
+    whole old read,
+    labels-last old (answers old read .0) (F .brings),
+    F .seam,
+    length-append before labels,
+  )
 
   same-length : length old ≡ length new
   same-length = omega (arith, length-append before labels, length-append before filling, F .asMany)
@@ -78,8 +84,8 @@ module _ (before labels filling : List ℕ) (F : FilledSlip before labels fillin
   agree i h = List·getD-append before labels 0 i h ∙ sym (List·getD-append before filling 0 i h)
 
   sizes-by : (last : List ℕ) (n : ℕ) → 2 + n ≤ length before → take n (drop 2 (before ++ last)) ≡ take n (drop 2 before)
-  sizes-by last n h =
-      rw (drop-append-le 2 before last (omega arith)) (take-append-le n (drop 2 before) last (omega (arith, length-drop 2 before)))
+  sizes-by last n h = rw (drop-append-le 2 before last (omega arith))
+      (take-append-le n (drop 2 before) last (omega (arith, length-drop 2 before)))
 
   same-blocks : numBlocksOf old ≡ numBlocksOf new
   same-blocks = agree 1 (omega (arith, head))
@@ -127,14 +133,15 @@ module _ (before labels filling : List ℕ) (F : FilledSlip before labels fillin
 
   same-budget : slipBudget old ≡ slipBudget new
   unfolding slipBudget
-  same-budget =
-      ⊎-elim
+  same-budget = ⊎-elim
       (λ (t : stands old 1 ≡ true).
       let fits : fieldAt old 1 + 8 ≤ length before = omega (arith, at-next old 1, length-there old 1 t, F .seam) in
       let w = number-same 8 old new (fieldAt old 1) (length before) fits (λ i l h. agree i h) in
       let u : stands new 1 ≡ true = sym (same-stands 1) ∙ t in
       rw (t, u) (w ∙ ap (λ (n : ℕ). number 8 new n) (same-at 1)))
-      (λ (t : stands old 1 ≡ false). let u : stands new 1 ≡ false = sym (same-stands 1) ∙ t in rw (t, u) (ap bound same-grid))
+      (λ (t : stands old 1 ≡ false).
+      let u : stands new 1 ≡ false = sym (same-stands 1) ∙ t in
+      rw (t, u) (ap bound same-grid))
       (true-or-false (stands old 1))
 
   -- each runs on its own labels
@@ -143,7 +150,8 @@ module _ (before labels filling : List ℕ) (F : FilledSlip before labels fillin
 
   labels-old : slipLabels old ≡ labels
   unfolding slipLabels labelField
-  labels-old = rw (F .brings, F .seam) (labels-by labels (fieldLength old 2) (omega (arith, many, length-there old 2 (F .brings))))
+  labels-old = rw (F .brings, F .seam)
+      (labels-by labels (fieldLength old 2) (omega (arith, many, length-there old 2 (F .brings))))
 
   labels-new : slipLabels new ≡ filling
   unfolding slipLabels labelField
@@ -168,7 +176,8 @@ module _ (before labels filling : List ℕ) (F : FilledSlip before labels fillin
   yes =
       let rest = question11 old ∷ question5 (slipGrid old) (slipStart old) ∷ question7 p ∷ [] in
       let late = both-yes (readQuestions old) rest refl (F .accepted) .1 in
-      let a = first-yes (question11 old) (question5 (slipGrid old) (slipStart old) ∷ question7 p ∷ []) (omega arith) late in
+      let a =
+      first-yes (question11 old) (question5 (slipGrid old) (slipStart old) ∷ question7 p ∷ []) (omega arith) late in
       (a .0, first-yes (question5 (slipGrid old) (slipStart old)) (question7 p ∷ []) (omega arith) (a .1) .0)
 
   yes13 : question13 new .answeredYes ≡ true
@@ -198,10 +207,12 @@ module _ (before labels filling : List ℕ) (F : FilledSlip before labels fillin
       all-asked _ _ _ _ _ _ (slipGrid new) yes13 grid yes14 yes15 yes11 yes5 yes7
 
   -- a run with room for its answer asks nothing more
-  accepted-by : (slip : List ℕ) → slipRefusal slip ≡ 0 → question11 slip .answeredYes ≡ true → Accepted (slipProblem slip)
+  accepted-by : (slip : List ℕ) → slipRefusal slip ≡ 0 → question11 slip .answeredYes ≡ true
+      → Accepted (slipProblem slip)
   accepted-by slip e range =
       let room = suc (dimension (slipGrid slip)) * numIndices (slipGrid slip) in
-      unrefused (slipProblem slip) room (then-runs slip (read-by slip e) .runs range room (le-leb room room (omega arith)) ∙ e)
+      unrefused (slipProblem slip) room
+      (then-runs slip (read-by slip e) .runs range room (le-leb room room (omega arith)) ∙ e)
 
   filled : Filling p filling
   filled =

@@ -1,4 +1,5 @@
--- A game that is named and the same table brought print the same sheet: the two slips are asked alike, and run on the same. Assumes nothing.
+-- A game that is named and the same table brought print the same sheet: the two slips are asked alike, and run on the
+-- same. Assumes nothing.
 use mathlib.Core.Bool.{Bool, true, false, cond}
 use mathlib.Core.List.{List, [], _∷_, _++_, append-assoc}
 use mathlib.Core.Logic.{⊎-elim}
@@ -28,8 +29,10 @@ use Rattle.place.specs.Questions.{question7}
 use Rattle.sheet.specs.Sheet.{refusedSheet}
 use Rattle.slip.proofs.Laws.{at-first, at-next, length-there, game-last, losses-last, exact}
 use Rattle.slip.proofs.Readings.{refused-grid, refused-14}
-use Rattle.slip.specs.Slip.{bit, isMap, stands, sizesOf, slipGrid, headLength, fieldLengths, fieldLength, fieldAt, fieldsEnd, defaultStart}
-use Rattle.slip.specs.Slip.{slipStart, slipBudget, slipGame, slipLosses, slipLabels, slipProblem, question11, question13, question14, question15, slipQuestions}
+use Rattle.slip.specs.Slip.{bit, isMap, stands, sizesOf, slipGrid, headLength, fieldLengths, fieldLength, fieldAt}
+use Rattle.slip.specs.Slip.{fieldsEnd, defaultStart}
+use Rattle.slip.specs.Slip.{slipStart, slipBudget, slipGame, slipLosses, slipLabels, slipProblem, question11}
+use Rattle.slip.specs.Slip.{question13, question14, question15, slipQuestions}
 use Rattle.printer.proofs.Slips.{refused-by}
 use Rattle.printer.specs.OwnGame.{slipOn, OwnGame}
 use Rattle.printer.specs.Printed.{answerSheet, sheetOf}
@@ -61,15 +64,21 @@ same-self (x ∷ xs) = and-both _ _ (eqb-self x) (same-self xs)
 
 -- a sheet by what it is made of
 sheetBy : List Question → Grid → Problem → ℕ → List ℕ
-sheetBy questions g p budget = cond (eqb (firstNo questions) 0) (answerSheet g (answer p budget)) (refusedSheet (firstNo questions))
+sheetBy questions g p budget =
+    cond (eqb (firstNo questions) 0) (answerSheet g (answer p budget)) (refusedSheet (firstNo questions))
 
-sheet-by : (a b : List ℕ) → slipQuestions a ≡ slipQuestions b → slipGrid a ≡ slipGrid b → slipProblem a ≡ slipProblem b → slipBudget a ≡ slipBudget b → sheetOf a ≡ sheetOf b
+sheet-by : (a b : List ℕ) → slipQuestions a ≡ slipQuestions b → slipGrid a ≡ slipGrid b → slipProblem a ≡ slipProblem b
+    → slipBudget a ≡ slipBudget b
+    → sheetOf a ≡ sheetOf b
 unfolding sheetOf sheetBy
 sheet-by a b q g p n =
-    let e : sheetBy (slipQuestions a) (slipGrid a) (slipProblem a) (slipBudget a) ≡ sheetBy (slipQuestions b) (slipGrid b) (slipProblem b) (slipBudget b) = cc in
+    let e : sheetBy (slipQuestions a) (slipGrid a) (slipProblem a) (slipBudget a)
+    ≡ sheetBy (slipQuestions b) (slipGrid b) (slipProblem b) (slipBudget b) =
+    cc in
     e
 
-module _ (game others : ℕ) (low : 1 ≤ game) (high : game ≤ 3) (few : others < 4) (divisions between : List ℕ) (each : length divisions ≡ length (gameSizes game)) where
+module _ (game others : ℕ) (low : 1 ≤ game) (high : game ≤ 3) (few : others < 4) (divisions between : List ℕ)
+    (each : length divisions ≡ length (gameSizes game)) where
   abbrev sizes : List ℕ
   sizes = gameSizes game
 
@@ -96,22 +105,30 @@ module _ (game others : ℕ) (low : 1 ≤ game) (high : game ≤ 3) (few : other
   agree : (i : ℕ) → 1 ≤ i → i < 2 + length common → getD named i 0 ≡ getD brought i 0
   agree zero l h = absurd (omega arith)
   agree (suc zero) l h = refl
-  agree (suc (suc i)) l h = List·getD-append common (game ∷ []) 0 i (omega arith) ∙ sym (List·getD-append common (bytesOf (gameLosses game)) 0 i (omega arith))
+  agree (suc (suc i)) l h = List·getD-append common (game ∷ []) 0 i (omega arith)
+      ∙ sym (List·getD-append common (bytesOf (gameLosses game)) 0 i (omega arith))
 
   sizes-are : (map : ℕ) (last : List ℕ) → sizesOf (slipOn game map divisions between last) ≡ sizes
-  sizes-are map last = rw (append-assoc sizes (bytesOf divisions ++ between) last) (take-append-seam sizes ((bytesOf divisions ++ between) ++ last))
+  sizes-are map last = rw (append-assoc sizes (bytesOf divisions ++ between) last)
+      (take-append-seam sizes ((bytesOf divisions ++ between) ++ last))
 
   same-grid : slipGrid named ≡ slipGrid brought
   same-grid =
       let s = sizes-are (others + 8) (game ∷ []) ∙ sym (sizes-are (others + 16) (bytesOf (gameLosses game))) in
-      let d = words-same N named brought (2 + N) (2 + length common) (omega (arith, common-length)) (λ i l h. agree i (omega arith) h) in
+      let d = words-same N named brought (2 + N) (2 + length common) (omega (arith, common-length))
+      (λ i l h. agree i (omega arith) h) in
       rw (s, d)
 
   head-named : question13 named .answeredYes ≡ true
-  head-named = and-both _ _ (le-leb (headLength named) (length named) (omega (arith, common-length, length-append common (game ∷ [])))) (b .map)
+  head-named = and-both _ _
+      (le-leb (headLength named) (length named) (omega (arith, common-length, length-append common (game ∷ []))))
+      (b .map)
 
   head-brought : question13 brought .answeredYes ≡ true
-  head-brought = and-both _ _ (le-leb (headLength brought) (length brought) (omega (arith, common-length, length-append common (bytesOf (gameLosses game))))) (b .map')
+  head-brought = and-both _ _
+      (le-leb (headLength brought) (length brought)
+      (omega (arith, common-length, length-append common (bytesOf (gameLosses game)))))
+      (b .map')
 
   -- the fields before the last begin alike
   same-stands : (k : ℕ) → bit (others + 8) k ≡ bit (others + 16) k → stands named k ≡ stands brought k
@@ -125,26 +142,32 @@ module _ (game others : ℕ) (low : 1 ≤ game) (high : game ≤ 3) (few : other
       ∙ ap (λ (g : Grid). cond (stands brought k) (getD (fieldLengths g) k 0) 0) same-grid
 
   at-budget : fieldAt named 1 ≡ fieldAt brought 1
-  at-budget = omega (arith, at-first named, at-first brought, at-next named 0, at-next brought 0, same-length 0 (b .start))
+  at-budget =
+      omega (arith, at-first named, at-first brought, at-next named 0, at-next brought 0, same-length 0 (b .start))
 
   at-last : fieldAt named 2 ≡ fieldAt brought 2
   at-last = omega (arith, at-budget, at-next named 1, at-next brought 1, same-length 1 (b .budget))
 
   -- the last field is a game, or losses
-  bit-of : (map k : ℕ) (last : List ℕ) (t : Bool) → bit map k ≡ t → stands (slipOn game map divisions between last) k ≡ t
+  bit-of : (map k : ℕ) (last : List ℕ) (t : Bool) → bit map k ≡ t
+      → stands (slipOn game map divisions between last) k ≡ t
   unfolding stands
   bit-of map k last t e = e
 
   game-there : (fieldAt named 3 ≡ fieldAt named 2) × (fieldsEnd named ≡ fieldAt named 2 + 1)
-  game-there = game-last named head-named (bit-of (others + 8) 2 (game ∷ []) false (b .noLabels)) (bit-of (others + 8) 3 (game ∷ []) true (b .game))
+  game-there = game-last named head-named (bit-of (others + 8) 2 (game ∷ []) false (b .noLabels))
+      (bit-of (others + 8) 3 (game ∷ []) true (b .game))
 
-  losses-there : (fieldAt brought 4 ≡ fieldAt brought 2) × (fieldsEnd brought ≡ fieldAt brought 2 + 2 * numLosses (slipGrid brought))
+  losses-there : (fieldAt brought 4 ≡ fieldAt brought 2)
+      × (fieldsEnd brought ≡ fieldAt brought 2 + 2 * numLosses (slipGrid brought))
   losses-there =
       let last = bytesOf (gameLosses game) in
-      losses-last brought head-brought (bit-of (others + 16) 2 last false (b .noLabels')) (bit-of (others + 16) 3 last false (b .noGame))
+      losses-last brought head-brought (bit-of (others + 16) 2 last false (b .noLabels'))
+      (bit-of (others + 16) 3 last false (b .noGame))
 
   count-is : numLosses (slipGrid brought) ≡ length (gameLosses game)
-  count-is = ap (λ (ss : List ℕ). length ss * product ss) (sizes-are (others + 16) (bytesOf (gameLosses game))) ∙ sym (table-whole game)
+  count-is = ap (λ (ss : List ℕ). length ss * product ss) (sizes-are (others + 16) (bytesOf (gameLosses game)))
+      ∙ sym (table-whole game)
 
   long-named : length named ≡ 2 + length common + 1
   long-named = omega (arith, length-append common (game ∷ []))
@@ -157,13 +180,17 @@ module _ (game others : ℕ) (low : 1 ≤ game) (high : game ≤ 3) (few : other
   inexact h =
       let g = slipGrid named in
       let n : ℕ = firstNo (gridQuestions g) in
-      let other : firstNo (gridQuestions (slipGrid brought)) ≡ n = ap (λ (x : Grid). firstNo (gridQuestions x)) (sym same-grid) in
+      let other : firstNo (gridQuestions (slipGrid brought)) ≡ n =
+      ap (λ (x : Grid). firstNo (gridQuestions x)) (sym same-grid) in
       ⊎-elim
       (λ (e : n ≡ 0).
       let x = ne-eqb (length named) (fieldsEnd named) (λ f. h (omega (arith, f, long-named, game-there .1))) in
-      let y = ne-eqb (length brought) (fieldsEnd brought) (λ f. h (omega (arith, f, long-brought, losses-there .1, count-is, at-last))) in
-      refused-by named 14 (λ z. omega arith) (refused-14 named head-named e x) ∙ sym (refused-by brought 14 (λ z. omega arith) (refused-14 brought head-brought (other ∙ e) y)))
-      (λ (e : n ≡ 0 → ⊥). refused-by named n e (refused-grid named n head-named refl e) ∙ sym (refused-by brought n e (refused-grid brought n head-brought other e)))
+      let y = ne-eqb (length brought) (fieldsEnd brought)
+      (λ f. h (omega (arith, f, long-brought, losses-there .1, count-is, at-last))) in
+      refused-by named 14 (λ z. omega arith) (refused-14 named head-named e x)
+      ∙ sym (refused-by brought 14 (λ z. omega arith) (refused-14 brought head-brought (other ∙ e) y)))
+      (λ (e : n ≡ 0 → ⊥). refused-by named n e (refused-grid named n head-named refl e)
+      ∙ sym (refused-by brought n e (refused-grid brought n head-brought other e)))
       (same-or n 0)
 
   -- where they are, the two slips are asked alike and run on the same
@@ -189,7 +216,8 @@ module _ (game others : ℕ) (low : 1 ≤ game) (high : game ≤ 3) (few : other
     losses-brought =
         let last = bytesOf (gameLosses game) in
         let at : fieldAt brought 4 ≡ suc (suc (length common)) = omega (arith, fits, losses-there .0, at-last) in
-        rw (bit-of (others + 16) 4 last true (b .losses), at, count-is) (words-read ((others + 16) ∷ N ∷ common) (gameLosses game))
+        rw (bit-of (others + 16) 4 last true (b .losses), at, count-is)
+        (words-read ((others + 16) ∷ N ∷ common) (gameLosses game))
 
     known : question15 named .answeredYes ≡ true
     known =
@@ -200,40 +228,57 @@ module _ (game others : ℕ) (low : 1 ≤ game) (high : game ≤ 3) (few : other
     unfolding slipStart
     same-start =
         let m = numIndices (slipGrid named) in
-        let read : stands named 0 ≡ true → words m named (fieldAt named 0) ≡ words m brought (fieldAt named 0) =
-        λ t. words-same m named brought (fieldAt named 0) (2 + length common) (omega (arith, fits, at-next named 0, at-next named 1, length-there named 0 t)) (λ i l h. agree i (omega (arith, at-first named)) h)
-        in
+        let read : stands named 0 ≡ true → words m named (fieldAt named 0) ≡ words m brought (fieldAt named 0) = λ t.
+        words-same m named brought (fieldAt named 0) (2 + length common)
+        (omega (arith, fits, at-next named 0, at-next named 1, length-there named 0 t))
+        (λ i l h. agree i (omega (arith, at-first named)) h) in
         ⊎-elim
-        (λ (t : stands named 0 ≡ true). let u : stands brought 0 ≡ true = sym (same-stands 0 (b .start)) ∙ t in rw (t, u, read t) (again m))
-        (λ (t : stands named 0 ≡ false). let u : stands brought 0 ≡ false = sym (same-stands 0 (b .start)) ∙ t in rw (t, u) (ap defaultStart same-grid))
+        (λ (t : stands named 0 ≡ true).
+        let u : stands brought 0 ≡ true = sym (same-stands 0 (b .start)) ∙ t in
+        rw (t, u, read t) (again m))
+        (λ (t : stands named 0 ≡ false).
+        let u : stands brought 0 ≡ false = sym (same-stands 0 (b .start)) ∙ t in
+        rw (t, u) (ap defaultStart same-grid))
         (true-or-false (stands named 0))
       where
-        again : (m : ℕ) → words (numIndices (slipGrid named)) brought (fieldAt named 0) ≡ words (numIndices (slipGrid brought)) brought (fieldAt brought 0)
+        again : (m : ℕ)
+            → words (numIndices (slipGrid named)) brought (fieldAt named 0)
+            ≡ words (numIndices (slipGrid brought)) brought (fieldAt brought 0)
         again m =
             let at : fieldAt named 0 ≡ fieldAt brought 0 = omega (arith, at-first named, at-first brought) in
-            ap (λ (g : Grid). words (numIndices g) brought (fieldAt named 0)) same-grid ∙ ap (λ (n : ℕ). words (numIndices (slipGrid brought)) brought n) at
+            ap (λ (g : Grid). words (numIndices g) brought (fieldAt named 0)) same-grid
+            ∙ ap (λ (n : ℕ). words (numIndices (slipGrid brought)) brought n) at
 
     same-budget : slipBudget named ≡ slipBudget brought
     unfolding slipBudget
-    same-budget =
-        ⊎-elim
+    same-budget = ⊎-elim
         (λ (t : stands named 1 ≡ true).
         let u : stands brought 1 ≡ true = sym (same-stands 1 (b .budget)) ∙ t in
-        let read = number-same 8 named brought (fieldAt named 1) (2 + length common) (omega (arith, fits, at-next named 1, length-there named 1 t)) (λ i l h. agree i (omega (arith, at-first named, at-next named 0)) h) in
+        let read = number-same 8 named brought (fieldAt named 1) (2 + length common)
+        (omega (arith, fits, at-next named 1, length-there named 1 t))
+        (λ i l h. agree i (omega (arith, at-first named, at-next named 0)) h) in
         rw (t, u) (read ∙ ap (λ (n : ℕ). number 8 brought n) at-budget))
-        (λ (t : stands named 1 ≡ false). let u : stands brought 1 ≡ false = sym (same-stands 1 (b .budget)) ∙ t in rw (t, u) (ap bound same-grid))
+        (λ (t : stands named 1 ≡ false).
+        let u : stands brought 1 ≡ false = sym (same-stands 1 (b .budget)) ∙ t in
+        rw (t, u) (ap bound same-grid))
         (true-or-false (stands named 1))
 
     same-labels : slipLabels named ≡ slipLabels brought
     unfolding slipLabels
-    same-labels =
-        rw (bit-of (others + 8) 2 (game ∷ []) false (b .noLabels), bit-of (others + 16) 2 (bytesOf (gameLosses game)) false (b .noLabels'), losses-named, losses-brought)
-        (ap (λ (g : Grid). labels g (gameLosses game)) same-grid)
+    same-labels = rw (
+      bit-of (others + 8) 2 (game ∷ []) false (b .noLabels),
+      bit-of (others + 16) 2 (bytesOf (gameLosses game)) false (b .noLabels'),
+      losses-named,
+      losses-brought,
+    ) (ap (λ (g : Grid). labels g (gameLosses game)) same-grid)
 
     same-problem : slipProblem named ≡ slipProblem brought
-    same-problem = problem (slipGrid named) (slipGrid brought) (slipStart named) (slipStart brought) (slipLabels named) (slipLabels brought) same-grid same-start same-labels
+    same-problem = problem (slipGrid named) (slipGrid brought) (slipStart named) (slipStart brought) (slipLabels named)
+        (slipLabels brought) same-grid same-start same-labels
       where
-        problem : (g h : Grid) (x y k l : List ℕ) → g ≡ h → x ≡ y → k ≡ l → _≡_ {A = Problem} (record { grid = g; start = x; labels = k }) (record { grid = h; start = y; labels = l })
+        problem : (g h : Grid) (x y k l : List ℕ) → g ≡ h → x ≡ y → k ≡ l
+            → _≡_ {A = Problem} (record { grid = g; start = x; labels = k })
+            (record { grid = h; start = y; labels = l })
         problem g h x y k l e f i = rw (e, f, i)
 
     yes15 : question15 brought .answeredYes ≡ true
@@ -246,13 +291,17 @@ module _ (game others : ℕ) (low : 1 ≤ game) (high : game ≤ 3) (few : other
     range = rw (bit-of (others + 16) 4 (bytesOf (gameLosses game)) true (b .losses), losses-brought) (table-range game)
 
     same-questions : slipQuestions named ≡ slipQuestions brought
-    same-questions =
-        asked _ _ _ _ _ _ _ _ (head-named ∙ sym head-brought) (whole-named ∙ sym whole-brought) (known ∙ sym yes15) (yes11 ∙ sym range) (slipGrid named) (slipGrid brought) same-grid (slipProblem named) (slipProblem brought) same-problem
+    same-questions = asked _ _ _ _ _ _ _ _ (head-named ∙ sym head-brought) (whole-named ∙ sym whole-brought)
+        (known ∙ sym yes15) (yes11 ∙ sym range) (slipGrid named) (slipGrid brought) same-grid (slipProblem named)
+        (slipProblem brought) same-problem
       where
-        asked : (a a' c c' d d' e e' : Bool) → a ≡ a' → c ≡ c' → d ≡ d' → e ≡ e' → (g h : Grid) → g ≡ h → (p q : Problem) → p ≡ q
+        asked : (a a' c c' d d' e e' : Bool) → a ≡ a' → c ≡ c' → d ≡ d' → e ≡ e' → (g h : Grid) → g ≡ h
+            → (p q : Problem) → p ≡ q
             → _≡_ {A = List Question}
-            ((ask 13 a ∷ (gridQuestions g ++ (ask 14 c ∷ ask 15 d ∷ []))) ++ (ask 11 e ∷ question5 (p .grid) (p .start) ∷ question7 p ∷ []))
-            ((ask 13 a' ∷ (gridQuestions h ++ (ask 14 c' ∷ ask 15 d' ∷ []))) ++ (ask 11 e' ∷ question5 (q .grid) (q .start) ∷ question7 q ∷ []))
+            ((ask 13 a ∷ (gridQuestions g ++ (ask 14 c ∷ ask 15 d ∷ [])))
+            ++ (ask 11 e ∷ question5 (p .grid) (p .start) ∷ question7 p ∷ []))
+            ((ask 13 a' ∷ (gridQuestions h ++ (ask 14 c' ∷ ask 15 d' ∷ [])))
+            ++ (ask 11 e' ∷ question5 (q .grid) (q .start) ∷ question7 q ∷ []))
         asked a a' c c' d d' e e' x y z w g h i p q j = rw (x, y, z, w, i, j)
 
     pub alike : sheetOf named ≡ sheetOf brought
@@ -261,9 +310,8 @@ module _ (game others : ℕ) (low : 1 ≤ game) (high : game ≤ 3) (few : other
 -- one proof over the three games
 pub own-game : (game : ℕ) → 1 ≤ game → game ≤ 3 → OwnGame game
 own-game game low high = record {
-  same = λ others few divisions between each.
-      ⊎-elim
-      (alike game others low high few divisions between each)
+  same = λ others few divisions between each. ⊎-elim (alike game others low high few divisions between each)
       (inexact game others low high few divisions between each)
-      (same-or (2 + length (gameSizes game ++ (bytesOf divisions ++ between))) (fieldAt (slipOn game (others + 8) divisions between (game ∷ [])) 2));
+      (same-or (2 + length (gameSizes game ++ (bytesOf divisions ++ between)))
+      (fieldAt (slipOn game (others + 8) divisions between (game ∷ [])) 2));
 }

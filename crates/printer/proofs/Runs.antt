@@ -15,7 +15,8 @@ use Rattle.combinatorics.proofs.Fronts.{front-length}
 use Rattle.combinatorics.specs.Front.{front}
 use Rattle.combinatorics.specs.Lists.{all, concatMap}
 use Rattle.questions.specs.Questions.{firstNo}
-use Rattle.finder.proofs.Refusals.{by-grid, by-later, accepted-with-room, answered as run-answered, refused as run-refused}
+use Rattle.finder.proofs.Refusals.{by-grid, by-later, accepted-with-room, answered as run-answered}
+use Rattle.finder.proofs.Refusals.{refused as run-refused}
 use Rattle.finder.specs.Run.{kindOf as kindAnswered, caseOf, numbersOf, refusal, runAnswer, runBuffer}
 use Rattle.finder.specs.declared.answers.Answer.{Answer}
 use Rattle.finder.specs.declared.answers.Answer.the-variants.{Refused, Spent, Unknown, End}
@@ -38,10 +39,12 @@ kind-same placeEnd = refl
 kind-same facetEnd = refl
 
 -- the points of a simplex have m numbers each
-m-numbers : (g : Grid) (s : List Point) → all (isGridPoint g) s ≡ true → all (λ y. eqb (length y) (numIndices g)) s ≡ true
+m-numbers : (g : Grid) (s : List Point) → all (isGridPoint g) s ≡ true
+    → all (λ y. eqb (length y) (numIndices g)) s ≡ true
 unfolding isGridPoint
 m-numbers g [] a = refl
-m-numbers g (y ∷ s) a = and-both _ _ (and-left (eqb (length y) (numIndices g)) _ (and-left (isGridPoint g y) _ a)) (m-numbers g s (and-right (isGridPoint g y) (all (isGridPoint g) s) a))
+m-numbers g (y ∷ s) a = and-both _ _ (and-left (eqb (length y) (numIndices g)) _ (and-left (isGridPoint g y) _ a))
+    (m-numbers g s (and-right (isGridPoint g y) (all (isGridPoint g) s) a))
 
 module _ (p : Problem) (budget : ℕ) (old : List ℕ) (large : length old ≡ room) where
   -- what is to be shown of an answer and its buffer
@@ -50,36 +53,58 @@ module _ (p : Problem) (budget : ℕ) (old : List ℕ) (large : length old ≡ r
 
   refused : (buffer : List ℕ) (n : ℕ) → Prints (Refused n) buffer (refusedSheet n)
   unfolding printed
-  refused buffer n = (refl, record { end = λ places read kind block vertices e. absurd (let z : _≡_ {A = ℕ} 0 1 = cc in omega arith) })
+  refused buffer n = (
+    refl,
+    record { end = λ places read kind block vertices e. absurd (let z : _≡_ {A = ℕ} 0 1 = cc in omega arith) },
+  )
 
   spends : (buffer : List ℕ) (n : ℕ) → Prints (Spent n) buffer (spentSheet n)
   unfolding printed
-  spends buffer n = (refl, record { end = λ places read kind block vertices e. absurd (let z : _≡_ {A = ℕ} 0 1 = cc in omega arith) })
+  spends buffer n = (
+    refl,
+    record { end = λ places read kind block vertices e. absurd (let z : _≡_ {A = ℕ} 0 1 = cc in omega arith) },
+  )
 
   unknowns : (buffer : List ℕ) (n i : ℕ) → Prints (Unknown n i) buffer (unknownSheet n i)
   unfolding printed
-  unknowns buffer n i = (refl, record { end = λ places read kind block vertices e. absurd (let z : _≡_ {A = ℕ} 0 1 = cc in omega arith) })
+  unknowns buffer n i = (
+    refl,
+    record { end = λ places read kind block vertices e. absurd (let z : _≡_ {A = ℕ} 0 1 = cc in omega arith) },
+  )
 
   -- an end with a simplex of the grid
-  ends : (places read : ℕ) (kind : KindOfEnd) (block : ℕ) (s : Simplex) → suc (dimension (p .grid)) ≤ 16 → suc (dimension (p .grid)) * numIndices (p .grid) ≤ room → IsSimplex p s
-      → Prints (End places read (kindAnswered kind) block (length s)) (front (concatMap (λ y. y) s) old) (answerSheet (p .grid) (ended places read kind block (length s) s))
+  ends : (places read : ℕ) (kind : KindOfEnd) (block : ℕ) (s : Simplex) → suc (dimension (p .grid)) ≤ 16
+      → suc (dimension (p .grid)) * numIndices (p .grid) ≤ room → IsSimplex p s
+      → Prints (End places read (kindAnswered kind) block (length s)) (front (concatMap (λ y. y) s) old)
+      (answerSheet (p .grid) (ended places read kind block (length s) s))
   unfolding printed front
   ends places read kind block s few small i =
       let m = numIndices (p .grid) in
       let a = m-numbers (p .grid) s (i .onGrid) in
       let l = rows-length m s a in
       let le : length s * m ≤ room = omega (arith, mul-le-mul-right m (i .few)) in
-      let w : length (front (concatMap (λ y. y) s) old) ≡ room = front-length (concatMap (λ y. y) s) old (omega (arith, l, large)) ∙ large in
-      (rw (kind-same kind, rows-of m s (drop (length (concatMap (λ y. y) s)) old) a), record { end = λ places read kind block vertices e. let v : vertices ≡ length s = cc in rw v (i .some, omega (arith, i .few), omega (arith, w)) })
+      let w : length (front (concatMap (λ y. y) s) old) ≡ room =
+      front-length (concatMap (λ y. y) s) old (omega (arith, l, large)) ∙ large in (
+        rw (kind-same kind, rows-of m s (drop (length (concatMap (λ y. y) s)) old) a),
+        record {
+          end = λ places read kind block vertices e.
+              let v : vertices ≡ length s = cc in
+              rw v (i .some, omega (arith, i .few), omega (arith, w));
+        },
+      )
 
   module _ (unrefused : refusal p room ≡ 0) where
     grid-yes : firstNo (gridQuestions (p .grid)) ≡ 0
-    grid-yes = ⊎-elim (λ e. e) (λ n. absurd (n (sym (by-grid p room n) ∙ unrefused))) (same-or (firstNo (gridQuestions (p .grid))) 0)
+    grid-yes = ⊎-elim
+        (λ e. e)
+        (λ n. absurd (n (sym (by-grid p room n) ∙ unrefused)))
+        (same-or (firstNo (gridQuestions (p .grid))) 0)
 
     accepted : Accepted p × (suc (dimension (p .grid)) * numIndices (p .grid) ≤ room)
     accepted = accepted-with-room p room grid-yes (sym (by-later p room grid-yes) ∙ unrefused)
 
-    answered : Prints (caseOf (answer p budget)) (front (numbersOf (answer p budget)) old) (answerSheet (p .grid) (answer p budget))
+    answered : Prints (caseOf (answer p budget)) (front (numbersOf (answer p budget)) old)
+        (answerSheet (p .grid) (answer p budget))
     answered =
         let ok = accepted .0 in
         let d = demand3-holds ok in
@@ -90,12 +115,15 @@ module _ (p : Problem) (budget : ℕ) (old : List ℕ) (large : length old ≡ r
         (before-or-not budget (pathLength p))
       where
         -- the path stops at an end, or at a label that is not known
-        stopped : pathLength p ≤ budget → suc (dimension (p .grid)) ≤ 16 → (e : Option EndOfPath) → path p .end ≡ e → Stop p (lastPlace (path p .visited)) e
-            → Prints (caseOf (answer p budget)) (front (numbersOf (answer p budget)) old) (answerSheet (p .grid) (answer p budget))
+        stopped : pathLength p ≤ budget → suc (dimension (p .grid)) ≤ 16 → (e : Option EndOfPath) → path p .end ≡ e
+            → Stop p (lastPlace (path p .visited)) e
+            → Prints (caseOf (answer p budget)) (front (numbersOf (answer p budget)) old)
+            (answerSheet (p .grid) (answer p budget))
         stopped l few (some e) q s =
             let E = demand3-holds (accepted .0) .ended (gapless (accepted .0) .1 (e, q)) in
             rw (E .announces budget l)
-            (ends (pathLength p) _ (E .end .kind) (suc (E .end .block)) (E .end .simplex) few (accepted .1) (end-simplex p (accepted .0 .settled) (E .isPath)))
+            (ends (pathLength p) _ (E .end .kind) (suc (E .end .block)) (E .end .simplex) few (accepted .1)
+            (end-simplex p (accepted .0 .settled) (E .isPath)))
         stopped l few none q (atGap y g) = rw (demand3-holds (accepted .0) .asks y g budget l) (unknowns _ _ _)
 
   pub run-prints : Prints (runAnswer p (length old) budget) (runBuffer p budget old) (runSheet p budget)

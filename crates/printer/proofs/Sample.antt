@@ -43,5 +43,9 @@ use Rattle.printer.specs.Printed.{sheetOf}
 use Rattle.printer.specs.Sample.{sampleSlip, sampleSheet}
 
 sample : sheetOf sampleSlip ≡ sampleSheet
-unfolding flatMap firstNo next previous isGridPoint points bound coefficients isComplete completeFor placeEnds facetEnds ends ways exchanged extended linked links waysOn path cameIn labelsRead answer setU setT labelSet firstBackOutside goesTo grownAt everyBlockFree isUnlabelledPlace isPlace places label number words isMap stands fieldLength fieldAt defaultCoordinate slipStart slipBudget labelField slipGame slipLosses slipLabels isNearest rounded centre digits decimal spaced vertexLine centreLine endSheet sheetOf
+unfolding flatMap firstNo next previous isGridPoint points bound coefficients isComplete completeFor placeEnds facetEnds
+    ends ways exchanged extended linked links waysOn path cameIn labelsRead answer setU setT labelSet firstBackOutside
+    goesTo grownAt everyBlockFree isUnlabelledPlace isPlace places label number words isMap stands fieldLength fieldAt
+    defaultCoordinate slipStart slipBudget labelField slipGame slipLosses slipLabels isNearest rounded centre digits
+    decimal spaced vertexLine centreLine endSheet sheetOf
 sample = refl

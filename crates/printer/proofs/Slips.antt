@@ -26,16 +26,20 @@ use Rattle.sheet.specs.Sheet.{refusedSheet}
 use Rattle.slip.proofs.Laws.{labels-only}
 use Rattle.slip.proofs.Runs.{answers, reading-accepted, refused-as-read, then-runs}
 use Rattle.slip.specs.Reading.{refusal, readingOf, labelsIn}
-use Rattle.slip.specs.Slip.{stands, fieldAt, defaultCoordinate, slipGrid, slipStart, slipLosses, slipLabels, slipProblem, question11}
+use Rattle.slip.specs.Slip.{stands, fieldAt, defaultCoordinate, slipGrid, slipStart, slipLosses, slipLabels}
+use Rattle.slip.specs.Slip.{slipProblem, question11}
 use Rattle.printer.specs.Printed.{sheetOf}
 use Rattle.printer.specs.Run.{room, HasGrid, problemWith, lossProblem, runSheet}
 
-pub refusal-printed : (slip : List ℕ) → (readingOf slip .code ≡ 0 → ⊥) → sheetOf slip ≡ refusedSheet (readingOf slip .code)
+pub refusal-printed : (slip : List ℕ) → (readingOf slip .code ≡ 0 → ⊥)
+    → sheetOf slip ≡ refusedSheet (readingOf slip .code)
 unfolding sheetOf
 refusal-printed slip h = rw (refused-as-read slip .refused h, ne-eqb (readingOf slip .code) 0 h)
 
-pub refused-by : (slip : List ℕ) (number : ℕ) → (number ≡ 0 → ⊥) → refusal number ≡ readingOf slip → sheetOf slip ≡ refusedSheet number
-refused-by slip number h e = refusal-printed slip (λ z. h (ap (λ r. r .code) e ∙ z)) ∙ ap (λ r. refusedSheet (r .code)) (sym e)
+pub refused-by : (slip : List ℕ) (number : ℕ) → (number ≡ 0 → ⊥) → refusal number ≡ readingOf slip
+    → sheetOf slip ≡ refusedSheet number
+refused-by slip number h e =
+    refusal-printed slip (λ z. h (ap (λ r. r .code) e ∙ z)) ∙ ap (λ r. refusedSheet (r .code)) (sym e)
 
 -- a slip that is read
 module _ (slip : List ℕ) (zero : readingOf slip .code ≡ 0) where
@@ -49,45 +53,61 @@ module _ (slip : List ℕ) (zero : readingOf slip .code ≡ 0) where
       (true-or-false (stands slip 0))
 
   grid-is : shape (readingOf slip .grid) ≡ slipGrid slip
-  grid-is = ap (λ r. shape (r .grid)) (reading-accepted slip zero) ∙ shape-of (slipGrid slip) (grid-accepted (slipGrid slip) (answers slip zero .1) .sameNumber)
+  grid-is = ap (λ r. shape (r .grid)) (reading-accepted slip zero)
+      ∙ shape-of (slipGrid slip) (grid-accepted (slipGrid slip) (answers slip zero .1) .sameNumber)
 
   pub has-grid : HasGrid (readingOf slip)
   has-grid =
       let few = grid-accepted (slipGrid slip) (answers slip zero .1) .fewIndices in
-      rw (reading-accepted slip zero) (record { made = is-made (slipGrid slip) (answers slip zero .1); whole = front-length (slipStart slip) (replicate 16 0) (omega (arith, few, start-length)) })
+      rw (reading-accepted slip zero) (record {
+        made = is-made (slipGrid slip) (answers slip zero .1);
+        whole = front-length (slipStart slip) (replicate 16 0) (omega (arith, few, start-length));
+      })
 
   problem-is : (labels : List ℕ) → labels ≡ slipLabels slip → problemWith (readingOf slip) labels ≡ slipProblem slip
   unfolding gridOf
   problem-is labels e =
-      let start : take (readingOf slip .grid .indices) (readingOf slip .start) ≡ slipStart slip = rw (reading-accepted slip zero, ← start-length) (front-taken (slipStart slip) (replicate 16 0)) in
+      let start : take (readingOf slip .grid .indices) (readingOf slip .start) ≡ slipStart slip =
+      rw (reading-accepted slip zero, ← start-length) (front-taken (slipStart slip) (replicate 16 0)) in
       rw (grid-is, start, e)
 
   enough : question8 (slipGrid slip) room .answeredYes ≡ true
   enough =
       let a = grid-accepted (slipGrid slip) (answers slip zero .1) in
       let m = numIndices (slipGrid slip) in
-      le-leb (suc (dimension (slipGrid slip)) * m) room (omega (arith, a .fewIndices, mul-le-mul-right m (let l : suc (dimension (slipGrid slip)) ≤ 16 = omega (arith, a .someBlock, a .fewIndices) in l)))
+      le-leb (suc (dimension (slipGrid slip)) * m) room (omega (
+        arith,
+        a .fewIndices,
+        mul-le-mul-right m
+            (let l : suc (dimension (slipGrid slip)) ≤ 16 = omega (arith, a .someBlock, a .fewIndices) in l),
+      ))
 
   pub out-of-range-printed : question11 slip .answeredYes ≡ false → sheetOf slip ≡ refusedSheet 11
   unfolding sheetOf
   out-of-range-printed e = rw (then-runs slip zero .outOfRange e)
 
   -- with the slip's labels the run prints the slip's sheet
-  prints : question11 slip .answeredYes ≡ true → (labels : List ℕ) → labels ≡ slipLabels slip → runSheet (problemWith (readingOf slip) labels) (readingOf slip .budget) ≡ sheetOf slip
+  prints : question11 slip .answeredYes ≡ true → (labels : List ℕ) → labels ≡ slipLabels slip
+      → runSheet (problemWith (readingOf slip) labels) (readingOf slip .budget) ≡ sheetOf slip
   unfolding runSheet sheetOf
   prints range labels e =
       ap (λ (p : Problem). runSheet p (readingOf slip .budget)) (problem-is labels e)
       ∙ ap (λ r. runSheet (slipProblem slip) (r .budget)) (reading-accepted slip zero)
       ∙ rw (then-runs slip zero .runs range room enough)
 
-  pub table-printed : stands slip 2 ≡ true → runSheet (problemWith (readingOf slip) (labelsIn slip (readingOf slip .table))) (readingOf slip .budget) ≡ sheetOf slip
+  pub table-printed : stands slip 2 ≡ true
+      → runSheet (problemWith (readingOf slip) (labelsIn slip (readingOf slip .table))) (readingOf slip .budget)
+      ≡ sheetOf slip
   table-printed two =
       let four = labels-only slip (answers slip zero .0) two .1 in
-      prints (rw four) (labelsIn slip (readingOf slip .table)) (then-runs slip zero .handed ∙ sym (then-runs slip zero .table two))
+      prints (rw four) (labelsIn slip (readingOf slip .table))
+      (then-runs slip zero .handed ∙ sym (then-runs slip zero .table two))
 
   module _ (two : stands slip 2 ≡ false) (range : question11 slip .answeredYes ≡ true) where
-    pub losses-printed : runSheet (lossProblem (readingOf slip) (slipLosses slip)) (readingOf slip .budget) ≡ sheetOf slip
-    losses-printed = prints range _ (ap (λ (g : Grid). labels g (slipLosses slip)) grid-is ∙ sym (then-runs slip zero .game two))
+    pub losses-printed : runSheet (lossProblem (readingOf slip) (slipLosses slip)) (readingOf slip .budget)
+        ≡ sheetOf slip
+    losses-printed =
+        prints range _ (ap (λ (g : Grid). labels g (slipLosses slip)) grid-is ∙ sym (then-runs slip zero .game two))
 
     pub is-table : IsTable (shape (readingOf slip .grid)) (slipLosses slip)
     is-table = rw grid-is (then-runs slip zero .losses two range)
@@ -97,5 +117,6 @@ module _ (slip : List ℕ) (zero : readingOf slip .code ≡ 0) where
     losses-few =
         let a = grid-accepted (slipGrid slip) (answers slip zero .1) in
         let t = then-runs slip zero .losses two range in
-        let most = mul-le-mul {n₁ = numBlocks (slipGrid slip)} {m₁ = product (slipGrid slip .sizes)} {n₂ = 6} {m₂ = 324} (a .fewBlocks) (product-few (slipGrid slip .sizes) (a .fewIndices)) in
+        let most = mul-le-mul {n₁ = numBlocks (slipGrid slip)} {m₁ = product (slipGrid slip .sizes)} {n₂ = 6} {m₂ = 324}
+        (a .fewBlocks) (product-few (slipGrid slip .sizes) (a .fewIndices)) in
         omega (arith, t .whole, most)

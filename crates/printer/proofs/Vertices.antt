@@ -17,20 +17,27 @@ rows-last k m buffer = rw map-append
 
 -- the first row, and those behind it
 rows-first : (k m : ℕ) (y rest : List ℕ) → length y ≡ m → rows (suc k) m (y ++ rest) ≡ y ∷ rows k m rest
-rows-first zero m y rest e = let z : 0 * m ≡ 0 = omega arith in rw (z, ← e) (ap (λ (l : List ℕ). l ∷ []) (take-append-seam y rest))
+rows-first zero m y rest e =
+    let z : 0 * m ≡ 0 = omega arith in
+    rw (z, ← e) (ap (λ (l : List ℕ). l ∷ []) (take-append-seam y rest))
 rows-first (suc k) m y rest e =
     let n : suc k * m ≡ length y + k * m = omega (arith, e) in
     let d : drop (suc k * m) (y ++ rest) ≡ drop (k * m) rest = rw n (drop-append-add y rest (k * m)) in
-    rows-last (suc k) m (y ++ rest) ∙ rw (rows-first k m y rest e, d) (ap (λ (l : List (List ℕ)). y ∷ l) (sym (rows-last k m rest)))
+    rows-last (suc k) m (y ++ rest)
+    ∙ rw (rows-first k m y rest e, d) (ap (λ (l : List (List ℕ)). y ∷ l) (sym (rows-last k m rest)))
 
 -- a list of rows of m numbers each, one behind the other
-pub rows-of : (m : ℕ) (ys : List (List ℕ)) (rest : List ℕ) → all (λ y. eqb (length y) m) ys ≡ true → rows (length ys) m (concatMap (λ y. y) ys ++ rest) ≡ ys
+pub rows-of : (m : ℕ) (ys : List (List ℕ)) (rest : List ℕ) → all (λ y. eqb (length y) m) ys ≡ true
+    → rows (length ys) m (concatMap (λ y. y) ys ++ rest) ≡ ys
 rows-of m [] rest a = refl
 rows-of m (y ∷ ys) rest a =
     let e = eqb-true (length y) m (and-left (eqb (length y) m) _ a) in
-    rw (append-assoc y (concatMap (λ y. y) ys) rest) (rows-first (length ys) m y (concatMap (λ y. y) ys ++ rest) e ∙ ap (λ (l : List (List ℕ)). y ∷ l) (rows-of m ys rest (and-right (eqb (length y) m) _ a)))
+    rw (append-assoc y (concatMap (λ y. y) ys) rest)
+    (rows-first (length ys) m y (concatMap (λ y. y) ys ++ rest) e
+    ∙ ap (λ (l : List (List ℕ)). y ∷ l) (rows-of m ys rest (and-right (eqb (length y) m) _ a)))
 
-pub rows-length : (m : ℕ) (ys : List (List ℕ)) → all (λ y. eqb (length y) m) ys ≡ true → length (concatMap (λ y. y) ys) ≡ length ys * m
+pub rows-length : (m : ℕ) (ys : List (List ℕ)) → all (λ y. eqb (length y) m) ys ≡ true
+    → length (concatMap (λ y. y) ys) ≡ length ys * m
 rows-length m [] a = omega arith
 rows-length m (y ∷ ys) a =
     let e = eqb-true (length y) m (and-left (eqb (length y) m) _ a) in

@@ -20,8 +20,9 @@ abbrev pub kindOf : KindOfEnd → Kind
 kindOf placeEnd = Place
 kindOf facetEnd = Facet
 
--- "The answer has the places, the kind of end, the block, the number of vertices, and the vertices"; of a budget that is spent, "9 adds a "places"
--- line"; request 02: of a label that is not yet known, "its sheet adds a "places" and a "position" line"
+-- "The answer has the places, the kind of end, the block, the number of vertices, and the vertices"; of a budget that
+-- is spent, "9 adds a "places" line"; request 02: of a label that is not yet known, "its sheet adds a "places" and a
+-- "position" line"
 abbrev pub answerSheet : Grid → Answer → List ℕ
 answerSheet g (spent places) = spentSheet places
 answerSheet g (unknown places place) = unknownSheet places place
@@ -31,5 +32,5 @@ answerSheet g (ended places read kind block vertices simplex) =
 -- "The kiosk program reads a slip from standard input. For the bytes .. it prints": a slip asks 13, 1 to 4, 14,
 -- 15, 11, 5, 7, and then runs, and "A refusal prints one line"
 unfoldable pub sheetOf : List ℕ → List ℕ
-sheetOf slip =
-    cond (eqb (slipRefusal slip) 0) (answerSheet (slipGrid slip) (answer (slipProblem slip) (slipBudget slip))) (refusedSheet (slipRefusal slip))
+sheetOf slip = cond (eqb (slipRefusal slip) 0)
+    (answerSheet (slipGrid slip) (answer (slipProblem slip) (slipBudget slip))) (refusedSheet (slipRefusal slip))

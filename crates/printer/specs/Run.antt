@@ -72,4 +72,5 @@ lossProblem r losses = problemWith r (labels (shape (r .grid)) losses)
 
 -- what the run on a problem prints
 unfoldable pub runSheet : Problem → ℕ → List ℕ
-runSheet p budget = cond (eqb (refusal p room) 0) (answerSheet (p .grid) (answer p budget)) (refusedSheet (refusal p room))
+runSheet p budget =
+    cond (eqb (refusal p room) 0) (answerSheet (p .grid) (answer p budget)) (refusedSheet (refusal p room))

@@ -16,7 +16,8 @@ abbrev pub numbered : List Question → Bool
 numbered qs = all (λ q. ltb 0 (q .number)) qs
 
 -- where the list answers 0, its first question is answered yes
-pub first-yes : (q : Question) (qs : List Question) → 0 < q .number → firstNo (q ∷ qs) ≡ 0 → (q .answeredYes ≡ true) × (firstNo qs ≡ 0)
+pub first-yes : (q : Question) (qs : List Question) → 0 < q .number → firstNo (q ∷ qs) ≡ 0
+    → (q .answeredYes ≡ true) × (firstNo qs ≡ 0)
 unfolding firstNo
 first-yes q qs h e = go (q .answeredYes) e
   where
@@ -38,12 +39,14 @@ unfolding firstNo
 asked-no [] rs n h e = absurd (h (sym e))
 asked-no (q ∷ qs) rs n h e = go (q .answeredYes) e (asked-no qs rs n h)
   where
-    go : (b : Bool) → cond b (firstNo qs) (q .number) ≡ n → (firstNo qs ≡ n → firstNo (qs ++ rs) ≡ n) → cond b (firstNo (qs ++ rs)) (q .number) ≡ n
+    go : (b : Bool) → cond b (firstNo qs) (q .number) ≡ n → (firstNo qs ≡ n → firstNo (qs ++ rs) ≡ n)
+        → cond b (firstNo (qs ++ rs)) (q .number) ≡ n
     go true e i = i e
     go false e i = e
 
 -- questions are asked until one is answered no
-pub first-append : (qs rs : List Question) → numbered qs ≡ true → firstNo (qs ++ rs) ≡ cond (eqb (firstNo qs) 0) (firstNo rs) (firstNo qs)
+pub first-append : (qs rs : List Question) → numbered qs ≡ true
+    → firstNo (qs ++ rs) ≡ cond (eqb (firstNo qs) 0) (firstNo rs) (firstNo qs)
 first-append qs rs a =
     ⊎-elim
     (λ z. rw z (asked-next qs rs a z))
@@ -51,7 +54,8 @@ first-append qs rs a =
     (same-or (firstNo qs) 0)
 
 -- where the list answers 0, so does each part
-pub both-yes : (qs rs : List Question) → numbered qs ≡ true → firstNo (qs ++ rs) ≡ 0 → (firstNo qs ≡ 0) × (firstNo rs ≡ 0)
+pub both-yes : (qs rs : List Question) → numbered qs ≡ true → firstNo (qs ++ rs) ≡ 0
+    → (firstNo qs ≡ 0) × (firstNo rs ≡ 0)
 both-yes qs rs a e =
     ⊎-elim
     (λ z. (z, sym (asked-next qs rs a z) ∙ e))

@@ -1,4 +1,5 @@
--- The form of a list of questions, as document 01's "Questions in order" has it and each later request. Assumes nothing.
+-- The form of a list of questions, as document 01's "Questions in order" has it and each later request.
+-- Assumes nothing.
 use mathlib.Core.Bool.{Bool, cond}
 use mathlib.Core.List.{List, [], _∷_}
 use Prim.Native.Nat.{ℕ}

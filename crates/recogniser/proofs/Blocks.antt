@@ -20,7 +20,10 @@ use Rattle.rules.specs.Mask.{bit}
 use Rattle.recogniser.specs.Pieces.{inNeither, FreeIn, NotFree, filled, AllFree, IsFree}
 
 pub neither : (t u h : ℕ) → (not (bit t h) && not (bit u h)) ≡ true → inNeither t u h
-neither t u h e = (not-is (bit t h) (and-left (not (bit t h)) (not (bit u h)) e), not-is (bit u h) (and-right (not (bit t h)) (not (bit u h)) e))
+neither t u h e = (
+  not-is (bit t h) (and-left (not (bit t h)) (not (bit u h)) e),
+  not-is (bit u h) (and-right (not (bit t h)) (not (bit u h)) e),
+)
 
 not-neither : (t u h : ℕ) → (not (bit t h) && not (bit u h)) ≡ false → inNeither t u h → ⊥
 not-neither t u h e w = let z : (not (bit t h) && not (bit u h)) ≡ true = rw (w .0, w .1) in absurd-bool (sym z ∙ e)
@@ -34,7 +37,8 @@ next-sum [] j = omega (arith, take-none (j + 1), take-none j)
 next-sum (s ∷ ss) zero = omega arith
 next-sum (s ∷ ss) (suc j) = rw (add-one (suc j)) (omega (arith, rw (add-one j) at (next-sum ss j)))
 
--- among the indices below h: the first `met` blocks have an index in neither, the next has none, and all such have coefficient 0
+-- among the indices below h: the first `met` blocks have an index in neither, the next has none, and all such have
+-- coefficient 0
 pub record Met (g : GridStruct) (c : List ℕ) (t u h met : ℕ) : Type 0 where
   pub each : (j : ℕ) → j < met → FreeIn g t u j
   pub next : (k : ℕ) → k < h → inNeither t u k → blockOf (shape g) k ≡ met → ⊥
@@ -51,34 +55,49 @@ module _ (g : GridStruct) (made : IsMade g) (c : List ℕ) (t u : ℕ) where
   }
 
   block-low : (h : ℕ) → h < g .indices → blockOf (shape g) h < g .blocks
-  block-low h l = omega (arith, block-spans (shape g .sizes) h (omega (arith, made-indices g made)) .0, made-blocks g made)
+  block-low h l =
+      omega (arith, block-spans (shape g .sizes) h (omega (arith, made-indices g made)) .0, made-blocks g made)
 
   module _ (h met : ℕ) (low : h < g .indices) (w : Met g c t u h met) where
     pub met-other : (not (bit t h) && not (bit u h)) ≡ false → Met g c t u (h + 1) met
     met-other n = record {
       each = w .each;
-      next = λ k l f e. ⊎-elim (λ (q : k ≡ h). not-neither t u h n (rw q at f)) (λ (q : k ≡ h → ⊥). w .next k (omega (arith, q)) f e) (same-or k h);
-      zero = λ k l f. ⊎-elim (λ (q : k ≡ h). absurd (not-neither t u h n (rw q at f))) (λ (q : k ≡ h → ⊥). w .zero k (omega (arith, q)) f) (same-or k h);
+      next = λ k l f e. ⊎-elim
+          (λ (q : k ≡ h). not-neither t u h n (rw q at f))
+          (λ (q : k ≡ h → ⊥). w .next k (omega (arith, q)) f e)
+          (same-or k h);
+      zero = λ k l f. ⊎-elim
+          (λ (q : k ≡ h). absurd (not-neither t u h n (rw q at f)))
+          (λ (q : k ≡ h → ⊥). w .zero k (omega (arith, q)) f)
+          (same-or k h);
       few = w .few;
     }
 
     pub met-more : (not (bit t h) && not (bit u h)) ≡ true → at c h ≡ 0 → (b : ℕ) → b ≡ blockOf (shape g) h
         → Met g c t u (h + 1) (cond (eqb b met) (met + 1) met)
-    met-more n z b is =
-        ⊎-elim (λ (q : b ≡ met). rw (eq-eqb b met q) (record {
-          each = λ j l. ⊎-elim (λ (p : j ≡ met). record { index = h; below = low; block = sym is ∙ q ∙ sym p; free = neither t u h n })
-              (λ (p : j ≡ met → ⊥). w .each j (omega (arith, p))) (same-or j met);
-          next = λ k l f e. ⊎-elim (λ (p : k ≡ h). absurd (omega (arith, ap (blockOf (shape g)) p, e)))
-              (λ (p : k ≡ h → ⊥). later q k (omega (arith, p)) e) (same-or k h);
+    met-more n z b is = ⊎-elim
+        (λ (q : b ≡ met). rw (eq-eqb b met q) (record {
+          each = λ j l. ⊎-elim
+              (λ (p : j ≡ met). record { index = h; below = low; block = sym is ∙ q ∙ sym p; free = neither t u h n })
+              (λ (p : j ≡ met → ⊥). w .each j (omega (arith, p)))
+              (same-or j met);
+          next = λ k l f e. ⊎-elim
+              (λ (p : k ≡ h). absurd (omega (arith, ap (blockOf (shape g)) p, e)))
+              (λ (p : k ≡ h → ⊥). later q k (omega (arith, p)) e)
+              (same-or k h);
           zero = zero;
           few = omega (arith, block-low h low);
         }))
         (λ (q : b ≡ met → ⊥). rw (ne-eqb b met q) (record {
           each = w .each;
-          next = λ k l f e. ⊎-elim (λ (p : k ≡ h). q (is ∙ ap (blockOf (shape g)) (sym p) ∙ e)) (λ (p : k ≡ h → ⊥). w .next k (omega (arith, p)) f e) (same-or k h);
+          next = λ k l f e. ⊎-elim
+              (λ (p : k ≡ h). q (is ∙ ap (blockOf (shape g)) (sym p) ∙ e))
+              (λ (p : k ≡ h → ⊥). w .next k (omega (arith, p)) f e)
+              (same-or k h);
           zero = zero;
           few = w .few;
-        })) (same-or b met)
+        }))
+        (same-or b met)
       where
         zero : (k : ℕ) → k < h + 1 → inNeither t u k → at c k ≡ 0
         zero k l f = ⊎-elim (λ (q : k ≡ h). rw q z) (λ (q : k ≡ h → ⊥). w .zero k (omega (arith, q)) f) (same-or k h)
@@ -99,7 +118,8 @@ module _ (g : GridStruct) (made : IsMade g) (c : List ℕ) (t u : ℕ) where
       each = λ j l. w .each j (omega (arith, eqb-is met (g .blocks) q));
       zero = λ k l f. w .zero k (omega arith) f;
     };
-    no = λ q. filled met (omega (arith, w .few, ne-is met (g .blocks) q)) (λ f. w .next (f .index) (omega (arith, f .below)) f.free f.block);
+    no = λ q. filled met (omega (arith, w .few, ne-is met (g .blocks) q))
+        (λ f. w .next (f .index) (omega (arith, f .below)) f.free f.block);
   }
     where
       eqb-is : (a b : ℕ) → eqb a b ≡ true → a ≡ b

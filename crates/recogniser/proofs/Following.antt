@@ -1,4 +1,5 @@
--- The coefficients of a block, each from the one before. In order: from 65,535 on; from the first on; what a coefficient list gives. Assumes nothing.
+-- The coefficients of a block, each from the one before. In order: from 65,535 on; from the first on; what a
+-- coefficient list gives. Assumes nothing.
 use mathlib.Core.Bool.{true, cond}
 use mathlib.Core.List.{List, [], _∷_}
 use mathlib.Core.Logic.{⊎-elim}
@@ -52,13 +53,27 @@ module _ (c v y : List ℕ) (first end : ℕ) (B : InBlock c v y first end) wher
 
   module _ (h x least : ℕ) (a : first ≤ h) (l : h < end) (F : Follows c first end h x least) where
     pub follow-fits : at y h ≤ x + at v h
-    follow-fits = omega (arith, F .here, wrap-inside first end h l, ap (at c) (wrap-inside first end h l), B .rule h a l, B .small first)
+    follow-fits = omega (
+      arith,
+      F .here,
+      wrap-inside first end h l,
+      ap (at c) (wrap-inside first end h l),
+      B .rule h a l,
+      B .small first,
+    )
 
     pub follow-small : x ≤ 131070
     follow-small = omega (arith, F .here, ap (at c) (wrap-inside first end h l), B .small h)
 
     on : x + at v h - at y h + at c first ≡ 65535 + at c (wrap first end (h + 1))
-    on = omega (arith, F .here, ap (at c) (wrap-inside first end h l), B .rule h a l, B .small first, ap (at c) (wrap-next first end h))
+    on = omega (
+      arith,
+      F .here,
+      ap (at c) (wrap-inside first end h l),
+      B .rule h a l,
+      B .small first,
+      ap (at c) (wrap-next first end h),
+    )
 
     pub follow-less : x < least → Follows c first end (h + 1) (x + at v h - at y h) x
     follow-less m = record {
@@ -90,7 +105,10 @@ module _ (c v y : List ℕ) (first end : ℕ) (B : InBlock c v y first end) wher
 
   module _ (h x : ℕ) (a : first ≤ h) (l : h < end) (F : x ≡ at c (wrap first end h)) where
     pub put-fits : (at y h ≤ x + at v h) × (x ≤ 65535)
-    put-fits = (omega (arith, ap (at c) (wrap-inside first end h l), B .rule h a l), omega (arith, B .small h, ap (at c) (wrap-inside first end h l)))
+    put-fits = (
+      omega (arith, ap (at c) (wrap-inside first end h l), B .rule h a l),
+      omega (arith, B .small h, ap (at c) (wrap-inside first end h l)),
+    )
 
     pub put-on : x + at v h - at y h ≡ at c (wrap first end (h + 1))
     put-on = omega (arith, ap (at c) (wrap-inside first end h l), B .rule h a l, ap (at c) (wrap-next first end h))
@@ -99,14 +117,17 @@ module _ (c v y : List ℕ) (first end : ℕ) (B : InBlock c v y first end) wher
     put-more old new P = record {
       long = length-set new h x ∙ P .long;
       inside = λ k d e. ⊎-elim
-          (λ (q : k ≡ h). rw q (getD-set-same new h x 0 (omega (arith, P .long, B .few)) ∙ F ∙ ap (at c) (wrap-inside first end h l)))
-          (λ (q : k ≡ h → ⊥). getD-set-other new h k x 0 q ∙ P .inside k d (omega (arith, q))) (same-or k h);
+          (λ (q : k ≡ h).
+          rw q (getD-set-same new h x 0 (omega (arith, P .long, B .few)) ∙ F ∙ ap (at c) (wrap-inside first end h l)))
+          (λ (q : k ≡ h → ⊥). getD-set-other new h k x 0 q ∙ P .inside k d (omega (arith, q)))
+          (same-or k h);
       outside = λ k d. getD-set-other new h k x 0 (λ q. omega arith) ∙ P .outside k d;
       behind = λ k d. getD-set-other new h k x 0 (λ q. omega arith) ∙ P .behind k (omega arith);
     }
 
 -- a grid that was made, with a start, is one that questions 1 to 5 let pass
-pub settled-on : (g : GridStruct) → IsMade g → (p : Problem) → p .grid ≡ shape g → isGridPoint (p .grid) (p .start) ≡ true → Settled p
+pub settled-on : (g : GridStruct) → IsMade g → (p : Problem) → p .grid ≡ shape g
+    → isGridPoint (p .grid) (p .start) ≡ true → Settled p
 settled-on g made p e s =
     let A = made-accepted g made in
     record {
@@ -147,14 +168,17 @@ module _ (g : GridStruct) (made : IsMade g) (v y : List ℕ) (start : isGridPoin
       let e : blockOf (shape g) h ≡ j = ap (blockOf (shape g)) z ∙ block-at (shape g .sizes) j i (omega arith) in
       rw e
 
-  rw-rule : (j h : ℕ) → firstIndex (shape g) j ≤ h → h < firstIndex (shape g) j + size (shape g) j → h < numIndices (shape g)
-      → at y h + at list (nextIn (firstIndex (shape g) j) (firstIndex (shape g) j + size (shape g) j) h) ≡ at v h + at list h
+  rw-rule : (j h : ℕ) → firstIndex (shape g) j ≤ h → h < firstIndex (shape g) j + size (shape g) j
+      → h < numIndices (shape g)
+      → at y h + at list (nextIn (firstIndex (shape g) j) (firstIndex (shape g) j + size (shape g) j) h)
+      ≡ at v h + at list h
   rw-rule j h a b m =
       let r = is .rule h m in
       let t : at (take (g .indices) y) h ≡ at y h = getD-take (g .indices) y h 0 (omega (arith, made-indices g made)) in
       omega (arith, r, t, ap (at list) (next-is j h a b))
 
-  pub block-of : (j : ℕ) → j < g .blocks → InBlock list v y (firstIndex (shape g) j) (firstIndex (shape g) j + size (shape g) j)
+  pub block-of : (j : ℕ) → j < g .blocks
+      → InBlock list v y (firstIndex (shape g) j) (firstIndex (shape g) j + size (shape g) j)
   block-of j l =
       let G = shape g in
       let fits = block-fits (G .sizes) j in
@@ -174,14 +198,21 @@ module _ (g : GridStruct) (made : IsMade g) (v y : List ℕ) (start : isGridPoin
   abbrev pub Stored : List ℕ → ℕ → Type 0
   Stored l j = (k : ℕ) → k < firstIndex (shape g) j → at l k ≡ at list k
 
-  pub stored-more : (j : ℕ) (old new : List ℕ) → PutIn list (firstIndex (shape g) j) (firstIndex (shape g) j + size (shape g) j) old new → Stored old j
+  pub stored-more : (j : ℕ) (old new : List ℕ)
+      → PutIn list (firstIndex (shape g) j) (firstIndex (shape g) j + size (shape g) j) old new → Stored old j
       → Stored new (j + 1)
-  stored-more j old new P S k l =
-      ⊎-elim (λ (a : k < firstIndex (shape g) j). P .outside k a ∙ S k a) (λ (a : firstIndex (shape g) j ≤ k). P .inside k a (omega (arith, next-sum (shape g .sizes) j)))
+  stored-more j old new P S k l = ⊎-elim
+      (λ (a : k < firstIndex (shape g) j). P .outside k a ∙ S k a)
+      (λ (a : firstIndex (shape g) j ≤ k). P .inside k a (omega (arith, next-sum (shape g .sizes) j)))
       (before-or-not k (firstIndex (shape g) j))
 
   pub stored-all : (l : List ℕ) (j : ℕ) → j ≡ g .blocks → Stored l j → (k : ℕ) → k < g .indices → at l k ≡ at list k
-  stored-all l j e S k m = S k (omega (arith, ap (firstIndex (shape g)) (e ∙ made-blocks g made), take-all (shape g .sizes), made-indices g made))
+  stored-all l j e S k m = S k (omega (
+    arith,
+    ap (firstIndex (shape g)) (e ∙ made-blocks g made),
+    take-all (shape g .sizes),
+    made-indices g made,
+  ))
     where
       take-all : (ss : List ℕ) → sum (take (length ss) ss) ≡ sum ss
       take-all [] = refl

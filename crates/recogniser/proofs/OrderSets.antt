@@ -31,7 +31,8 @@ sets-none order m zeros = record {
   rest = λ k l. rw (bit-none k l) (and-true (bit zeros k));
 }
 
-module _ (order : List ℕ) (k m zeros t u h : ℕ) (s : AreSets order k m zeros t u) (is : h ≡ at order k) (low : h < m) (few : m ≤ 16) where
+module _ (order : List ℕ) (k m zeros t u h : ℕ) (s : AreSets order k m zeros t u) (is : h ≡ at order k) (low : h < m)
+    (few : m ≤ 16) where
   -- where T has the index, it stands twice
   pub stands-twice : bit t h ≡ true → (i : ℕ) × (i < k) × (at order i ≡ at order k)
   stands-twice e = let w = s .only h (omega arith) e in (w .0, w .1, w .2 ∙ is)
@@ -42,18 +43,31 @@ module _ (order : List ℕ) (k m zeros t u h : ℕ) (s : AreSets order k m zeros
 
     pub sets-more : AreSets order (k + 1) m zeros (withIndex t h) (withoutIndex u h)
     sets-more = record {
-      below = λ j l. ⊎-elim (λ (e : j ≡ k). rw (e, ← is) low) (λ (n : j ≡ k → ⊥). s .below j (omega (arith, n))) (same-or j k);
+      below = λ j l.
+          ⊎-elim (λ (e : j ≡ k). rw (e, ← is) low) (λ (n : j ≡ k → ⊥). s .below j (omega (arith, n))) (same-or j k);
       once = λ i j l r e. ⊎-elim
-          (λ (p : i ≡ k). ⊎-elim (λ (q : j ≡ k). p ∙ sym q) (λ (n : j ≡ k → ⊥). absurd (apart j (omega (arith, n)) (sym e ∙ ap (at order) p))) (same-or j k))
-          (λ (n : i ≡ k → ⊥). ⊎-elim (λ (q : j ≡ k). absurd (apart i (omega (arith, n)) (e ∙ ap (at order) q)))
-          (λ (q : j ≡ k → ⊥). s .once i j (omega (arith, n)) (omega (arith, q)) e) (same-or j k)) (same-or i k);
+          (λ (p : i ≡ k). ⊎-elim
+          (λ (q : j ≡ k). p ∙ sym q)
+          (λ (n : j ≡ k → ⊥). absurd (apart j (omega (arith, n)) (sym e ∙ ap (at order) p)))
+          (same-or j k))
+          (λ (n : i ≡ k → ⊥). ⊎-elim
+          (λ (q : j ≡ k). absurd (apart i (omega (arith, n)) (e ∙ ap (at order) q)))
+          (λ (q : j ≡ k → ⊥). s .once i j (omega (arith, n)) (omega (arith, q)) e)
+          (same-or j k))
+          (same-or i k);
       has = λ j l. ⊎-elim
           (λ (e : j ≡ k). rw (e, ← is, bit-with t h h (omega arith) (omega arith), eq-eqb h h refl))
-          (λ (n : j ≡ k → ⊥). let w = s .below j (omega (arith, n)) in
-          bit-with t h (at order j) (omega arith) (omega arith) ∙ (rw (s .has j (omega (arith, n))) (or-true (eqb (at order j) h)))) (same-or j k);
-      only = λ i l e. ⊎-elim (λ a. (k, omega arith, sym is ∙ sym (eqb-true i h a))) (λ a. let w = s .only i l a in (w .0, omega (arith, w .1), w .2))
+          (λ (n : j ≡ k → ⊥).
+          let w = s .below j (omega (arith, n)) in
+          bit-with t h (at order j) (omega arith) (omega arith)
+          ∙ (rw (s .has j (omega (arith, n))) (or-true (eqb (at order j) h))))
+          (same-or j k);
+      only = λ i l e. ⊎-elim
+          (λ a. (k, omega arith, sym is ∙ sym (eqb-true i h a)))
+          (λ a. let w = s .only i l a in (w .0, omega (arith, w .1), w .2))
           (or-cases (eqb i h) (bit t i) (sym (bit-with t h i (omega arith) l) ∙ e));
-      rest = λ i l. bit-without u h i (omega arith) l ∙ rw (s .rest i l, bit-with t h i (omega arith) l) (less (eqb i h) (bit zeros i) (bit t i));
+      rest = λ i l. bit-without u h i (omega arith) l
+          ∙ rw (s .rest i l, bit-with t h i (omega arith) l) (less (eqb i h) (bit zeros i) (bit t i));
     }
       where
         or-true : (a : Bool) → (a || true) ≡ true

@@ -33,7 +33,8 @@ fn first_of(v: &[u16], y: &[u16; 16], first: usize, end: usize) -> usize
 
 // The coefficients of a block, from that of its first index on.
 fn put_block(list: &mut [u16; 16], v: &[u16], y: &[u16; 16], first: usize, end: usize, from: usize)
-    requires { ⌜ ((c : List ℕ) × InBlock c (now v) (now y) first end × (from ≡ at c first)) × (length (now list) ≡ 16) ⌝ }
+    requires { ⌜ ((c : List ℕ) × InBlock c (now v) (now y) first end × (from ≡ at c first))
+        × (length (now list) ≡ 16) ⌝ }
     ensures { λ _. ⌜ ((c : List ℕ) → InBlock c (now (v .entry)) (now (y .entry)) first end → from ≡ at c first
         → PutIn c first end (now (list .entry)) (now (list .exit))) ⌝ }
 {
@@ -48,7 +49,8 @@ fn put_block(list: &mut [u16; 16], v: &[u16], y: &[u16; 16], first: usize, end: 
 
 // The coefficient list of the first m numbers of y, with v as the start.
 pub fn coefficients(g: Grid, v: &[u16], y: &[u16; 16]) -> [u16; 16]
-    requires { ⌜ IsMade g × (isGridPoint (shape g) (now v) ≡ true) × (isGridPoint (shape g) (take (g .indices) (now y)) ≡ true) ⌝ }
+    requires { ⌜ IsMade g × (isGridPoint (shape g) (now v) ≡ true)
+        × (isGridPoint (shape g) (take (g .indices) (now y)) ≡ true) ⌝ }
     ensures { λ r. ⌜ (length r ≡ 16) × ((k : ℕ) → k < g .indices
         → at r k ≡ at (coefficientsOf (startedOn g (now (v .entry))) (take (g .indices) (now (y .entry)))) k) ⌝ }
 {

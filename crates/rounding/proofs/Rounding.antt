@@ -1,4 +1,5 @@
--- Exactly one whole number is nearest to a over b, for every a and every b above 0, and `rounded` is that number. A centre is at most 10,000. Assumes nothing.
+-- Exactly one whole number is nearest to a over b, for every a and every b above 0, and `rounded` is that number. A
+-- centre is at most 10,000. Assumes nothing.
 use mathlib.Core.Path.{_≡_, refl, sym, _∙_}
 use mathlib.Core.Bool.{Bool, true, false, cond}
 use mathlib.Core.Logic.{⊎-elim}
@@ -7,7 +8,8 @@ use native.Mathlib.Omega.{arith, by-contra}
 use native.Mathlib.Nat.{add-mul, div-add-mod', mod-lt, mul-le-mul-right}
 use lib.Dec.{eqb, ltb}
 use borrow.Author.Tests.{eq-eqb, eqb-true, lt-ltb, ltb-true}
-use Rattle.combinatorics.proofs.Basics.{absurd-bool, and-both, and-left, and-right, before-or-not, or-cases, or-left, or-right}
+use Rattle.combinatorics.proofs.Basics.{absurd-bool, and-both, and-left, and-right, before-or-not, or-cases, or-left}
+use Rattle.combinatorics.proofs.Basics.{or-right}
 use Rattle.rounding.specs.Centre.{distance, isNearest, rounded, centre}
 
 -- the statement as one comparison: an even q is at most half away, an odd one less
@@ -23,8 +25,12 @@ nearest-within : (a b q : ℕ) → isNearest a b q ≡ true → 2 * distance a (
 unfolding isNearest
 nearest-within a b q e =
     let twice = 2 * distance a (q * b) in
-    ⊎-elim (λ less. let below = ltb-true twice b less in omega arith)
-    (λ half. let same = eqb-true twice b (and-left _ _ half) in let even = eqb-true (q % 2) 0 (and-right (eqb twice b) _ half) in omega arith)
+    ⊎-elim
+    (λ less. let below = ltb-true twice b less in omega arith)
+    (λ half.
+    let same = eqb-true twice b (and-left _ _ half) in
+    let even = eqb-true (q % 2) 0 (and-right (eqb twice b) _ half) in
+    omega arith)
     (or-cases _ _ e)
 
 module _ (a b q r : ℕ) (whole : q * b + r ≡ a) where
@@ -56,14 +62,21 @@ module _ (a b : ℕ) (positive : 0 < b) where
     where
       go : (t : Bool) → isNearest a b (a / b) ≡ t → isNearest a b (cond t (a / b) (a / b + 1)) ≡ true
       go true e = e
-      go false e = nearest-above a b (a / b) (a % b) (div-add-mod' a b) (mod-lt a positive) (by-contra _ _ (λ most. absurd-bool (sym (nearest-below a b (a / b) (a % b) (div-add-mod' a b) (omega arith)) ∙ e)))
+      go false e = nearest-above a b (a / b) (a % b) (div-add-mod' a b) (mod-lt a positive)
+          (by-contra _ _
+          (λ most. absurd-bool (sym (nearest-below a b (a / b) (a % b) (div-add-mod' a b) (omega arith)) ∙ e)))
 
   -- and no other number is nearest
   pub nearest-only : (q : ℕ) → isNearest a b q ≡ true → q ≡ rounded a b
-  nearest-only q nearest = omega (arith, not-above q (rounded a b) nearest rounded-nearest, not-above (rounded a b) q rounded-nearest nearest)
+  nearest-only q nearest = omega (
+    arith,
+    not-above q (rounded a b) nearest rounded-nearest,
+    not-above (rounded a b) q rounded-nearest nearest,
+  )
 
 -- a centre of points on the grid is at most 10,000
-pub centre-most : (total vertices division : ℕ) → 0 < vertices * division → total ≤ vertices * division → centre total vertices division ≤ 10000
+pub centre-most : (total vertices division : ℕ) → 0 < vertices * division → total ≤ vertices * division
+    → centre total vertices division ≤ 10000
 unfolding centre
 centre-most total vertices division positive within = by-contra _ _ beyond
   where

@@ -7,7 +7,8 @@ use lib.Dec.{eqb, ltb}
 abbrev pub distance : ℕ → ℕ → ℕ
 distance m n = (m - n) + (n - m)
 
--- "nearest, and at exactly half on the even neighbour": q stands less than half away from a over b, or exactly half away and is even
+-- "nearest, and at exactly half on the even neighbour": q stands less than half away from a over b, or exactly half
+-- away and is even
 unfoldable pub isNearest : ℕ → ℕ → ℕ → Bool
 isNearest a b q =
     let twice = 2 * distance a (q * b) in

@@ -30,7 +30,8 @@ module _ (f : ℕ → ℕ) (way : List ℕ) (b : ℕ) where
   changed-all zero h c e = refl
   changed-all (suc n) h c e = rw (eq-eqb h b e)
 
-  pub changed-onward : (n h : ℕ) (c : List ℕ) → 0 < n → (h ≡ b → ⊥) → changedBefore f way b (n - 1) (at way h) (set c h (f (at c h))) ≡ changedBefore f way b n h c
+  pub changed-onward : (n h : ℕ) (c : List ℕ) → 0 < n → (h ≡ b → ⊥)
+      → changedBefore f way b (n - 1) (at way h) (set c h (f (at c h))) ≡ changedBefore f way b n h c
   unfolding changedBefore
   changed-onward zero h c l e = absurd (omega arith)
   changed-onward (suc n) h c l e = let z : suc n - 1 ≡ n = omega arith in rw (z, ne-eqb h b e)
@@ -42,7 +43,8 @@ module _ (f : ℕ → ℕ) (way : List ℕ) (b : ℕ) where
     tested zero h c l e t = absurd (omega arith)
     tested (suc n) h c l e t = let z : suc n - 1 ≡ n = omega arith in rw z (rw (ne-eqb h b e) at t)
 
-    pub tested-here : (n h : ℕ) (c : List ℕ) → 0 < n → (h ≡ b → ⊥) → testedBefore q f way b n h c ≡ true → q (at c h) ≡ true
+    pub tested-here : (n h : ℕ) (c : List ℕ) → 0 < n → (h ≡ b → ⊥) → testedBefore q f way b n h c ≡ true
+        → q (at c h) ≡ true
     tested-here n h c l e t = and-left _ _ (tested n h c l e t)
 
     pub tested-onward : (n h : ℕ) (c : List ℕ) → 0 < n → (h ≡ b → ⊥) → testedBefore q f way b n h c ≡ true

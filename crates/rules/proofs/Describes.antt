@@ -1,5 +1,5 @@
--- What it means that a state describes a place and the way the path came to it, and what one move from it has to give. A place is here a
--- labelled chain x of coefficient lists, whose points are `pointsOf p x`. Assumes nothing.
+-- What it means that a state describes a place and the way the path came to it, and what one move from it has to give.
+-- A place is here a labelled chain x of coefficient lists, whose points are `pointsOf p x`. Assumes nothing.
 use mathlib.Core.Bool.{Bool, true, false}
 use mathlib.Core.List.{List}
 use mathlib.Core.Option.{Option, none, some}
@@ -59,10 +59,13 @@ Crossed p t s = s .rule ≡ 1 → 0 < s .active → s .active < t
 -- or from a larger place l, and the point whose label is outside T leaves next
 pub data Came (p : Problem) (T : ℕ → Bool) (t : ℕ) (x : List (ℕ → ℕ)) (s : State) : Option (List (ℕ → ℕ)) → Type 0 where
   begins : t ≡ 0 → s .active ≡ 0 → s .rule < 6 → Came p T t x s none
-  through : (n : ℕ) (l : List (ℕ → ℕ)) → t ≡ suc n → s .active ≤ t → 0 < s .rule → s .rule < 6 → MarksBut p t x s s.active
-      → Carries T t (labelsOf p x) s.active → Through (blocksOf p) T n x s.active l → Crossed p t s → Came p T t x s (some l)
-  fromLarger : (l : List (ℕ → ℕ)) → s .active ≤ t → 6 ≤ s .rule → s .rule < 8 → AllMarks p t x s → T (labelsOf p x s.active) ≡ false
-      → Above (blocksOf p) (labelOf p) T t x l → Came p T t x s (some l)
+  through : (n : ℕ) (l : List (ℕ → ℕ)) → t ≡ suc n → s .active ≤ t → 0 < s .rule → s .rule < 6
+      → MarksBut p t x s s.active → Carries T t (labelsOf p x) s.active → Through (blocksOf p) T n x s.active l
+      → Crossed p t s
+      → Came p T t x s (some l)
+  fromLarger : (l : List (ℕ → ℕ)) → s .active ≤ t → 6 ≤ s .rule → s .rule < 8 → AllMarks p t x s
+      → T (labelsOf p x s.active) ≡ false → Above (blocksOf p) (labelOf p) T t x l
+      → Came p T t x s (some l)
 
 -- the state describes a chain to which the path came from x, by a link
 pub record Reached (p : Problem) (x : List (ℕ → ℕ)) (s : State) (y : List (ℕ → ℕ)) : Type 0 where
@@ -92,7 +95,8 @@ Leaves p =
 -- the label of a point has joined T: the place is an end, or the state after goes on to the larger place
 pub data Joined (p : Problem) (T : ℕ → Bool) (t : ℕ) (x : List (ℕ → ℕ)) (s : State) : After → Type 0 where
   placeEnds : (h : ℕ) → PlaceEnd (blocksOf p) (labelOf p) t x h → Joined p T t x s (endsAtPlace s h)
-  joinedOn : {after : State} (y : List (ℕ → ℕ)) → Above (blocksOf p) (labelOf p) T t x y → Reached p x after y → Joined p T t x s (goes after)
+  joinedOn : {after : State} (y : List (ℕ → ℕ)) → Above (blocksOf p) (labelOf p) T t x y → Reached p x after y
+      → Joined p T t x s (goes after)
 
 -- the label of point i, outside T, can join T
 abbrev pub Grows : Problem → Type 0

@@ -1,6 +1,6 @@
--- From single moves to the path of document 01: a state that stands at a place of the path goes on to the next place or to the path's end.
--- The run's proof cites of it `At`, `EndsAt`, `NextAt` and their laws: at-begin, at-below, at-spent, at-T, at-U, at-reads, at-ready, at-next and ends-answer.
--- Assumes nothing.
+-- From single moves to the path of document 01: a state that stands at a place of the path goes on to the next place or
+-- to the path's end. The run's proof cites of it `At`, `EndsAt`, `NextAt` and their laws: at-begin, at-below, at-spent,
+-- at-T, at-U, at-reads, at-ready, at-next and ends-answer. Assumes nothing.
 use mathlib.Core.Bool.{Bool, true, false, _&&_, cond}
 use mathlib.Core.List.{List, [], _∷_, _++_}
 use mathlib.Core.Logic.{inl, inr, ⊎-elim}
@@ -22,7 +22,8 @@ use Rattle.geometry.proofs.LabelledChains.{listAt, LabelledChain, FacetEnd, Pla
 use Rattle.grid.proofs.Points.{onPoints}
 use Rattle.grid.specs.Grid.{at, numBlocks, numIndices, dimension, blockOf, isGridPoint, position, samePoint}
 use Rattle.positions.specs.Falls.{tailFrom}
-use Rattle.place.proofs.BlocksOfGrid.{blocksOf, back-below, pointOf, coefficientOf, coord-in, coord-out, coefficientOf-is}
+use Rattle.place.proofs.BlocksOfGrid.{blocksOf, back-below, pointOf, coefficientOf, coord-in, coord-out}
+use Rattle.place.proofs.BlocksOfGrid.{coefficientOf-is}
 use Rattle.place.proofs.Bound.{order-short}
 use Rattle.place.proofs.ChainEnds.{complete-of, complete-below, end-below, end-complete, end-labels}
 use Rattle.place.proofs.ChainLinks.{of-link}
@@ -33,7 +34,8 @@ use Rattle.place.proofs.Positions.{at-in}
 use Rattle.place.proofs.Run.{below-length, not-start, ends-path, goes-on}
 use Rattle.place.proofs.Start.{start-place}
 use Rattle.place.proofs.Theorem.{demand3-holds, run-follows, zeroes, single, block-of, in-facets}
-use Rattle.place.proofs.ToChain.{inT, coefficientsOf, pointsOf, labelOf, place-long, labelledChain-of, pointsOf-coefficientsOf}
+use Rattle.place.proofs.ToChain.{inT, coefficientsOf, pointsOf, labelOf, place-long, labelledChain-of}
+use Rattle.place.proofs.ToChain.{pointsOf-coefficientsOf}
 use Rattle.place.proofs.Ways.{IsWay, byPlace, byFacet}
 use Rattle.place.specs.Coefficients.{IsCoefficients, coefficients}
 use Rattle.place.specs.Demand.{Follows, placeAt, leftAt}
@@ -45,7 +47,8 @@ use Rattle.place.specs.Path.{path, pathLength, answer, spent, ended}
 use Rattle.place.specs.Places.{Simplex, order, setT, setU, allLabelled}
 use Rattle.place.specs.Problem.{Problem}
 use Rattle.rules.specs.Mask.{bit}
-use Rattle.rules.specs.Read.{arrayOf, pointGone, pointIn, pointsFrom, read, stepAt, sourceAt, positionAt, above, MovedAt, Exchanged, FallsBeside, CanCompute}
+use Rattle.rules.specs.Read.{arrayOf, pointGone, pointIn, pointsFrom, read, stepAt, sourceAt, positionAt, above}
+use Rattle.rules.specs.Read.{MovedAt, Exchanged, FallsBeside, CanCompute}
 use Rattle.rules.specs.Ready.{IsRound, Ready}
 use Rattle.rules.specs.Step.{State, Round, After, goes, endsAtPlace, endsAtFacet, markPosition, step, begun}
 use Rattle.rules.proofs.Describes.{Describes, markAt, MarksBut, Came, begins, through, fromLarger, Reached}
@@ -55,7 +58,8 @@ use Rattle.rules.proofs.Marks.{mark-position}
 use Rattle.rules.proofs.OneBlock.{lag-is, first-same, falling}
 use Rattle.rules.proofs.Range.{nth-pointsOf, point-on}
 use Rattle.rules.proofs.Shifted.{shifted-moved}
-use Rattle.rules.proofs.StatePoints.{order-below, after-is, ready-point, point-is, moved-on, all-points, later-points}
+use Rattle.rules.proofs.StatePoints.{order-below, after-is, ready-point, point-is, moved-on, all-points}
+use Rattle.rules.proofs.StatePoints.{later-points}
 use Rattle.rules.proofs.Walks.{block-same, source-from}
 
 -- the place just left is that of the chain, if any
@@ -82,8 +86,8 @@ pub record At (p : Problem) (s : State) (k : ℕ) : Type 0 where
   here : placeAt places k ≡ pointsOf p stands.x
   before : LeftIs p stands.left (leftAt places k)
 
--- the state e stands at the path's end, after k + 1 places: an end of the kind given, for the block of h, whose points are those of e from
--- number `from` on
+-- the state e stands at the path's end, after k + 1 places: an end of the kind given, for the block of h, whose points
+-- are those of e from number `from` on
 pub record EndsAt (p : Problem) (kind : Kind) (from : ℕ) (e : State) (h k : ℕ) : Type 0 where
   pub firstLength : length e.first ≡ 16
   pub index : h < numIndices p.grid
@@ -100,14 +104,17 @@ pub data NextAt (p : Problem) (k : ℕ) : After → Type 0 where
   facetEnds : {e : State} {h : ℕ} → EndsAt p facetEnd 1 e h k → NextAt p k (endsAtFacet e h)
 
 -- and so it is the answer, within the budget
-pub ends-answer : {p : Problem} {kind : Kind} {from : ℕ} {e : State} {h k : ℕ} → EndsAt p kind from e h k → (budget : ℕ) → k < budget
-    → answer p budget ≡ ended (suc k) (suc (cameIn (path p .visited) k)) kind (suc (blockOf p.grid h)) (length (pointsFrom p e from)) (pointsFrom p e from)
+pub ends-answer : {p : Problem} {kind : Kind} {from : ℕ} {e : State} {h k : ℕ} → EndsAt p kind from e h k → (budget : ℕ)
+    → k < budget
+    → answer p budget
+    ≡ ended (suc k) (suc (cameIn (path p .visited) k)) kind (suc (blockOf p.grid h)) (length (pointsFrom p e from))
+    (pointsFrom p e from)
 unfolding answer labelsRead
 ends-answer {p} E budget l = rw (E .end, le-ltb budget (pathLength p) (omega (arith, E .places)), E .places)
 
 -- a place end, and a facet end without the first point, are ways out of the place
-module _ {p : Problem} (ok : FullyLabelled p) {T : ℕ → Bool} {t : ℕ} {o : ℕ → ℕ} {x : List (ℕ → ℕ)} (S : LabelledChain (blocksOf p) (labelOf p) T t o x)
-    (h : ℕ) where
+module _ {p : Problem} (ok : FullyLabelled p) {T : ℕ → Bool} {t : ℕ} {o : ℕ → ℕ} {x : List (ℕ → ℕ)}
+    (S : LabelledChain (blocksOf p) (labelOf p) T t o x) (h : ℕ) where
   abbrev a : Simplex
   a = pointsOf p x
 
@@ -123,11 +130,13 @@ module _ {p : Problem} (ok : FullyLabelled p) {T : ℕ → Bool} {t : ℕ} {o : 
         l,
         rw (← (block-same p h l))
             (byPlace (blocksOf p .block h) j
-            (complete-of ok.settled a (pointsOf-grid ok.settled S) t (long ok.settled S) h (blocksOf p .block h) j refl d)),
+            (complete-of ok.settled a (pointsOf-grid ok.settled S) t (long ok.settled S) h (blocksOf p .block h) j refl
+            d)),
       )
 
   pub facet-way : {n : ℕ} → t ≡ suc n → FacetEnd (blocksOf p) (labelOf p) T n x 0 h
-      → (h < numIndices p.grid) × IsWay p a (stop (record { kind = facetEnd; block = blockOf p.grid h; simplex = removeAt 0 a }))
+      → (h < numIndices p.grid)
+      × IsWay p a (stop (record { kind = facetEnd; block = blockOf p.grid h; simplex = removeAt 0 a }))
   facet-way {n} e F =
       let q = place-of ok.settled S in
       let many : length a ≡ suc (suc n) = long ok.settled S ∙ ap suc e in
@@ -144,13 +153,14 @@ module _ {p : Problem} (ok : FullyLabelled p) {T : ℕ → Bool} {t : ℕ} {o : 
       )
 
 -- the place just left, as a list of points and as a chain
-left-of : (p : Problem) (left : Option (List (ℕ → ℕ))) (q : Option Simplex) → LeftIs p left q → (l : List (ℕ → ℕ)) → left ≡ some l
+left-of : (p : Problem) (left : Option (List (ℕ → ℕ))) (q : Option Simplex) → LeftIs p left q → (l : List (ℕ → ℕ))
+    → left ≡ some l
     → q ≡ some (pointsOf p l)
 left-of p none q b l e = absurd-bool (cc)
 left-of p (some d) q b l e = let z : d ≡ l = cc in b .0 ∙ ap (λ (x : List (ℕ → ℕ)). some (pointsOf p x)) z
 
-left-determines : (p : Problem) (left : Option (List (ℕ → ℕ))) (q : Option Simplex) → LeftIs p left q → (y : List (ℕ → ℕ))
-    → coefficientsOf p (pointsOf p y) ≡ y → q ≡ some (pointsOf p y) → left ≡ some y
+left-determines : (p : Problem) (left : Option (List (ℕ → ℕ))) (q : Option Simplex) → LeftIs p left q
+    → (y : List (ℕ → ℕ)) → coefficientsOf p (pointsOf p y) ≡ y → q ≡ some (pointsOf p y) → left ≡ some y
 left-determines p none q b y c e = absurd-bool (cc)
 left-determines p (some l) q b y c e =
     let d = b .0 in
@@ -158,15 +168,17 @@ left-determines p (some l) q b y c e =
     ap (λ (x : List (ℕ → ℕ)). some x) (sym b.1 ∙ ap (coefficientsOf p) z ∙ c)
 
 -- a list less one element has the others, and they stand in the list
-kept : {A : Type 0} {n i : ℕ} {p q : ℕ → A} → Omit n i p q → i ≤ n → (j : ℕ) → j ≤ n → (j ≡ i → ⊥) → (f : ℕ) × (f < n) × (q f ≡ p j)
+kept : {A : Type 0} {n i : ℕ} {p q : ℕ → A} → Omit n i p q → i ≤ n → (j : ℕ) → j ≤ n → (j ≡ i → ⊥)
+    → (f : ℕ) × (f < n) × (q f ≡ p j)
 kept {n} {i} {p} m c j l ne =
     ⊎-elim (λ (d : j < i). (j, omega arith, m .lower j (omega arith) d))
     (λ (d : i ≤ j). let z : suc (pred j) ≡ j = omega (arith, ne) in
     (pred j, omega (arith, ne), m .upper (pred j) (omega (arith, ne)) (omega (arith, ne)) ∙ ap p z)) (before-or-not j i)
 
 stands : {A : Type 0} {n i : ℕ} {p q : ℕ → A} → Omit n i p q → (f : ℕ) → f < n → (g : ℕ) × (g ≤ n) × (p g ≡ q f)
-stands {n} {i} m f l =
-    ⊎-elim (λ (d : f < i). (f, omega arith, sym (m .lower f l d))) (λ (d : i ≤ f). (suc f, omega arith, sym (m .upper f l d)))
+stands {n} {i} m f l = ⊎-elim
+    (λ (d : f < i). (f, omega arith, sym (m .lower f l d)))
+    (λ (d : i ≤ f). (suc f, omega arith, sym (m .upper f l d)))
     (before-or-not f i)
 
 module _ (p : Problem) (T : ℕ → Bool) (t : ℕ) (x : List (ℕ → ℕ)) (s : State) where
@@ -203,9 +215,13 @@ module _ {p : Problem} (ok : FullyLabelled p) where
   start-coefficients = coefficientOf-is ok.settled p.start ok.settled.start
 
   start-T : (k : ℕ) → inT p v k ≡ false
-  start-T k = ⊎-elim (λ e. let w = start-chain .chain .order .all k e in absurd (omega (arith, w .1))) (λ e. e) (true-or-false (inT p v k))
+  start-T k = ⊎-elim
+      (λ e. let w = start-chain .chain .order .all k e in absurd (omega (arith, w .1)))
+      (λ e. e)
+      (true-or-false (inT p v k))
 
-  start-U : (k : ℕ) → zeros (blocksOf p) (inT p v) (coefficientOf p p.start) k ≡ (ltb k (numIndices p.grid) && eqb (at p.start k) 0)
+  start-U : (k : ℕ)
+      → zeros (blocksOf p) (inT p v) (coefficientOf p p.start) k ≡ (ltb k (numIndices p.grid) && eqb (at p.start k) 0)
   unfolding zeros
   start-U k =
       ⊎-elim (λ (l : k < numIndices p.grid). rw (start-T k, lt-ltb k _ l, coord-in p start-coefficients k l))
@@ -272,8 +288,17 @@ module _ {p : Problem} (ok : FullyLabelled p) where
   at-spent {s} {k} A budget l = demand3-holds (full-accepted ok) .spends budget .1 (omega (arith, at-below A))
 
 -- a place to which a link has led is one at which a state stands
-abbrev pub reached-stands : {p : Problem} {x : List (ℕ → ℕ)} {s : State} {y : List (ℕ → ℕ)} → Reached p x s y → Stands p s
-reached-stands {p} {x} {s} {y} R = record { T = R .T; t = R .t; o = R .o; x = y; describes = R .describes; left = some x; came = R .came }
+abbrev pub reached-stands : {p : Problem} {x : List (ℕ → ℕ)} {s : State} {y : List (ℕ → ℕ)} → Reached p x s y
+    → Stands p s
+reached-stands {p} {x} {s} {y} R = record {
+  T = R .T;
+  t = R .t;
+  o = R .o;
+  x = y;
+  describes = R .describes;
+  left = some x;
+  came = R .came;
+}
 
 module _ {p : Problem} (ok : FullyLabelled p) {s : State} (A : Stands p s) where
   -- the point whose label is to be read can be computed, and is a grid point
@@ -299,26 +324,32 @@ module _ {p : Problem} (ok : FullyLabelled p) {s : State} (A : Stands p s) where
       le-leb (length l) (length A.x) (omega (arith, ap length w, X .0, D .chain .size)) ∙ sym (lt-ltb s.rule 6 r)
   no-fewer (fromLarger d low r m b e X) l q =
       let w : d ≡ l = cc in
-      lt-leb (length l) (length A.x) (omega (arith, ap length w, X .3 .size, X .4 .sizes, D .chain .size)) ∙ sym (le-ltb s.rule 6 r)
+      lt-leb (length l) (length A.x) (omega (arith, ap length w, X .3 .size, X .4 .sizes, D .chain .size))
+      ∙ sym (le-ltb s.rule 6 r)
 
   -- where two steps have changed places, the marks of the others stand, and that of the point that left
   crossing : Came p A.T A.t A.x s A.left → s .rule ≡ 1 → 0 < s .active → s .active < A .t
       → MarksBut p A.t A.x s s.active × (1 ≤ at (arrayOf s (s .active - 1)) (sourceAt s s.active))
-      × (isGridPoint p.grid (pointGone p.grid s) ≡ true) × (positionAt s s.active ≡ position p.grid (pointGone p.grid s))
+      × (isGridPoint p.grid (pointGone p.grid s) ≡ true)
+      × (positionAt s s.active ≡ position p.grid (pointGone p.grid s))
   crossing C one more low = go A.left C
     where
       go : (left : Option (List (ℕ → ℕ))) → Came p A.T A.t A.x s left
           → MarksBut p A.t A.x s s.active × (1 ≤ at (arrayOf s (s .active - 1)) (sourceAt s s.active))
-          × (isGridPoint p.grid (pointGone p.grid s) ≡ true) × (positionAt s s.active ≡ position p.grid (pointGone p.grid s))
+          × (isGridPoint p.grid (pointGone p.grid s) ≡ true)
+          × (positionAt s s.active ≡ position p.grid (pointGone p.grid s))
       go _ (begins e u r) = absurd (omega arith)
       go _ (through n l e w q r b carry X C) = let d = C one more low in (b, d .0, d .1, d .2)
       go _ (fromLarger l w r q b e X) = absurd (omega arith)
 
-  own-position : (i : ℕ) → i ≤ A .t → at s.marks i ≡ markAt p (listAt A.x i) → positionAt s i ≡ position p.grid (pointIn p s i)
-  own-position i l e =
-      ap markPosition e ∙ mark-position ok D.chain i l ∙ ap (position p.grid) (sym (point-is ok D i l ∙ nth-pointsOf p A.x i (omega (arith, D .chain .size))))
+  own-position : (i : ℕ) → i ≤ A .t → at s.marks i ≡ markAt p (listAt A.x i)
+      → positionAt s i ≡ position p.grid (pointIn p s i)
+  own-position i l e = ap markPosition e
+      ∙ mark-position ok D.chain i l
+      ∙ ap (position p.grid) (sym (point-is ok D i l ∙ nth-pointsOf p A.x i (omega (arith, D .chain .size))))
 
-  marked-position : MarksBut p A.t A.x s s.active → (i : ℕ) → i ≤ A .t → (i ≡ s .active → ⊥) → positionAt s i ≡ position p.grid (pointIn p s i)
+  marked-position : MarksBut p A.t A.x s s.active → (i : ℕ) → i ≤ A .t → (i ≡ s .active → ⊥)
+      → positionAt s i ≡ position p.grid (pointIn p s i)
   marked-position b i l n = own-position i l (b i l n)
 
   -- there is a mark for each point,
@@ -326,7 +357,8 @@ module _ {p : Problem} (ok : FullyLabelled p) {s : State} (A : Stands p s) where
   stands-long = D .marksLength ∙ ap suc (sym D.orderLength)
 
   -- and each point but the one that has come in has its position in its mark
-  pub stands-marks : (i : ℕ) → i ≤ length s.order → (s .rule < 6 → i ≡ s .active → ⊥) → positionAt s i ≡ position p.grid (pointIn p s i)
+  pub stands-marks : (i : ℕ) → i ≤ length s.order → (s .rule < 6 → i ≡ s .active → ⊥)
+      → positionAt s i ≡ position p.grid (pointIn p s i)
   stands-marks i c ne = go A.left A.came
     where
       low : i ≤ A .t
@@ -343,7 +375,8 @@ module _ {p : Problem} (ok : FullyLabelled p) {s : State} (A : Stands p s) where
       let c = crossing A.came one more low in
       let z : suc (s .active - 1) ≡ s .active = omega arith in
       let y = after-is ok D (s .active - 1) (omega arith) in
-      let on : (i : ℕ) → i ≤ A .t → isGridPoint p.grid (pointIn p s i) ≡ true = λ i l. rw (point-is ok D i l) (point-on ok D.chain i l) in
+      let on : (i : ℕ) → i ≤ A .t → isGridPoint p.grid (pointIn p s i) ≡ true = λ i l.
+      rw (point-is ok D i l) (point-on ok D.chain i l) in
       let mark = marked-position c.0 in
       record {
         low = few;
@@ -351,20 +384,30 @@ module _ {p : Problem} (ok : FullyLabelled p) {s : State} (A : Stands p s) where
         here = on s.active (omega arith);
         gone = c .2;
         far = on (suc s.active) (omega arith);
-        toHere = subst (λ (i : ℕ). MovedAt p.grid s (s .active - 1) (pointIn p s (s .active - 1)) (pointIn p s i)) z (moved-on ok D (s .active - 1) (omega arith));
-        toGone = shifted-moved (arrayOf s (s .active - 1)) (stepAt s s.active) (sourceAt s s.active) (numIndices p.grid) c.1 (omega (arith, y .0, ok .settled .sixteenIndices));
+        toHere = subst
+            (λ (i : ℕ). MovedAt p.grid s (s .active - 1) (pointIn p s (s .active - 1)) (pointIn p s i))
+            z (moved-on ok D (s .active - 1) (omega arith));
+        toGone = shifted-moved (arrayOf s (s .active - 1)) (stepAt s s.active) (sourceAt s s.active) (numIndices p.grid)
+            c.1 (omega (arith, y .0, ok .settled .sixteenIndices));
         toFar = moved-on ok D s.active low;
-        indices = λ j l. let jl : j < A .t = omega (arith, D .orderLength) in
+        indices = λ j l.
+            let jl : j < A .t = omega (arith, D .orderLength) in
             let h : at s.order j < numIndices p.grid = rw (D .orderAt j jl) (order-below ok D j jl) in
-            let w = source-from ok D (at s.order j) h in
-            (h, rw (w .3) (sym (block-same p _ (back-below p w.0 (at s.order j) h)) ∙ block-back (blocksOf p) w.0 (at s.order j) ∙ block-same p (at s.order j) h));
+            let w = source-from ok D (at s.order j) h in (
+              h,
+              rw (w .3)
+                  (sym (block-same p _ (back-below p w.0 (at s.order j) h))
+                  ∙ block-back (blocksOf p) w.0 (at s.order j)
+                  ∙ block-same p (at s.order j) h),
+            );
         nearMark = mark (s .active - 1) (omega arith) (λ q. omega arith);
         goneMark = c .3;
         farMark = mark (suc s.active) (omega arith) (λ q. omega arith);
       }
 
   -- in a grid of one block: the steps to and from the point whose label is to be read
-  pub stands-beside : s .rule < 6 → numBlocks p.grid ≡ 1 → (tails : List ℕ) → ((k : ℕ) → k < numIndices p.grid → at tails k ≡ tailFrom p.grid p.start k)
+  pub stands-beside : s .rule < 6 → numBlocks p.grid ≡ 1 → (tails : List ℕ)
+      → ((k : ℕ) → k < numIndices p.grid → at tails k ≡ tailFrom p.grid p.start k)
       → FallsBeside p.grid tails s
   stands-beside r one tails are = go A.left A.came
     where
@@ -377,16 +420,23 @@ module _ {p : Problem} (ok : FullyLabelled p) {s : State} (A : Stands p s) where
       }
       go _ (through n l e w q m b carry X C) =
           let mark = marked-position b in
-          let lag : (i : ℕ) → i ≤ A .t → (i ≡ s .active → ⊥) → 0 < s .active → listAt A.x i 0 ≡ listAt A.x 0 0 + above s i = λ i a u v.
+          let lag : (i : ℕ) → i ≤ A .t → (i ≡ s .active → ⊥) → 0 < s .active
+          → listAt A.x i 0 ≡ listAt A.x 0 0 + above s i = λ i a u v.
           rw (mark i a u, mark 0 (omega arith) (λ z. omega arith)) (lag-is ok one D i a) in
           record {
             nearMark = λ a. mark (s .active - 1) (omega arith) (λ z. omega arith);
             farMark = λ a. mark (suc s.active) (omega (arith, D .orderLength)) (λ z. omega arith);
-            fromNear = λ a c. falling ok one D (s .active - 1) (omega arith) c tails are _ (lag (s .active - 1) (omega arith) (λ z. omega arith) a);
-            toFar = λ a c. let f : s .active < A .t = omega (arith, D .orderLength) in
-                falling ok one D s.active f c tails are (cond (ltb 0 s.active) (above s (suc s.active)) 0)
-                (⊎-elim (λ (z : 0 < s .active). rw (lt-ltb 0 s.active z) (sym (first-same ok one D s.active f c) ∙ lag (suc s.active) f (λ u. omega arith) z))
-                (λ (z : s .active ≤ 0). let y : s .active ≡ 0 = omega arith in rw (le-ltb 0 s.active z, y) (omega arith)) (before-or-not 0 s.active));
+            fromNear = λ a c. falling ok one D (s .active - 1) (omega arith) c tails are _
+                (lag (s .active - 1) (omega arith) (λ z. omega arith) a);
+            toFar = λ a c.
+                let f : s .active < A .t = omega (arith, D .orderLength) in
+                falling ok one D s.active f c tails are (cond (ltb 0 s.active) (above s (suc s.active)) 0) (⊎-elim
+                (λ (z : 0 < s .active). rw (lt-ltb 0 s.active z)
+                (sym (first-same ok one D s.active f c) ∙ lag (suc s.active) f (λ u. omega arith) z))
+                (λ (z : s .active ≤ 0).
+                let y : s .active ≡ 0 = omega arith in
+                rw (le-ltb 0 s.active z, y) (omega arith))
+                (before-or-not 0 s.active));
           }
       go _ (fromLarger l w q m b e X) = absurd (omega arith)
 
@@ -397,13 +447,15 @@ module _ {p : Problem} (ok : FullyLabelled p) {s : State} {k : ℕ} (A : At p s 
   pub at-long : length s.marks ≡ suc (length s.order)
   at-long = stands-long ok A.stands
 
-  pub at-marks : (i : ℕ) → i ≤ length s.order → (s .rule < 6 → i ≡ s .active → ⊥) → positionAt s i ≡ position p.grid (pointIn p s i)
+  pub at-marks : (i : ℕ) → i ≤ length s.order → (s .rule < 6 → i ≡ s .active → ⊥)
+      → positionAt s i ≡ position p.grid (pointIn p s i)
   at-marks = stands-marks ok A.stands
 
   pub at-exchanged : s .rule ≡ 1 → 0 < s .active → s .active < length s.order → Exchanged p.grid s
   at-exchanged = stands-exchanged ok A.stands
 
-  pub at-beside : s .rule < 6 → numBlocks p.grid ≡ 1 → (tails : List ℕ) → ((k : ℕ) → k < numIndices p.grid → at tails k ≡ tailFrom p.grid p.start k)
+  pub at-beside : s .rule < 6 → numBlocks p.grid ≡ 1 → (tails : List ℕ)
+      → ((k : ℕ) → k < numIndices p.grid → at tails k ≡ tailFrom p.grid p.start k)
       → FallsBeside p.grid tails s
   at-beside = stands-beside ok A.stands
 
@@ -412,7 +464,8 @@ module _ {p : Problem} (ok : FullyLabelled p) {s : State} {k : ℕ} (A : At p s 
   on-path = sym (run-follows (full-accepted ok) A.places A.follows k (omega (arith, A .many)) .1) ∙ A .here
 
   pub at-T : (h : ℕ) → h < 16 → bit s.T h ≡ isIn eqb h (setT p (placeAt (path p .visited) k))
-  at-T h l = rw on-path (A .stands .describes .inT h l ∙ sym (ap (λ (t : ℕ → Bool). t h) (T-is ok.settled A.stands.describes.chain)))
+  at-T h l = rw on-path
+      (A .stands .describes .inT h l ∙ sym (ap (λ (t : ℕ → Bool). t h) (T-is ok.settled A.stands.describes.chain)))
 
   pub at-U : (h : ℕ) → h < 16 → bit s.U h ≡ isIn eqb h (setU p.grid (placeAt (path p .visited) k))
   at-U h l = rw on-path (A .stands .describes .inU h l ∙ sym (in-U ok.settled A.stands.describes.chain h))
@@ -420,8 +473,12 @@ module _ {p : Problem} (ok : FullyLabelled p) {s : State} {k : ℕ} (A : At p s 
   abbrev described : Describes p A.stands.T A.stands.t A.stands.o A.stands.x s
   described = A .stands .describes
 
-  here-place : (length (pointsOf p A.stands.x) ≡ suc A.stands.t) × (length (pointsOf p A.stands.x) ≡ suc (length (order p.grid (pointsOf p A.stands.x))))
-  here-place = (long ok.settled A.stands.describes.chain, place-long ok.settled _ (place-of ok.settled A.stands.describes.chain))
+  here-place : (length (pointsOf p A.stands.x) ≡ suc A.stands.t)
+      × (length (pointsOf p A.stands.x) ≡ suc (length (order p.grid (pointsOf p A.stands.x))))
+  here-place = (
+    long ok.settled A.stands.describes.chain,
+    place-long ok.settled _ (place-of ok.settled A.stands.describes.chain),
+  )
 
   here-labelled : allLabelled p (placeAt A.places k) ≡ true
   here-labelled = full-place ok _ (A .follows .places k (omega (arith, A .many)))
@@ -433,8 +490,9 @@ module _ {p : Problem} (ok : FullyLabelled p) {s : State} {k : ℕ} (A : At p s 
 
   -- the path's place is that of the state
   pub at-place : placeAt (path p .visited) k ≡ pointsFrom p s 0
-  at-place =
-      sym (run-follows (full-accepted ok) A.places A.follows k (omega (arith, A .many)) .1) ∙ A .here ∙ sym (all-points ok described)
+  at-place = sym (run-follows (full-accepted ok) A.places A.follows k (omega (arith, A .many)) .1)
+      ∙ A .here
+      ∙ sym (all-points ok described)
 
   -- its points but the one that has come in are points of the path's place before
   pub at-others : (j : ℕ) → j ≤ length s.order → (s .rule < 6 → j ≡ s .active → ⊥)
@@ -444,7 +502,8 @@ module _ {p : Problem} (ok : FullyLabelled p) {s : State} {k : ℕ} (A : At p s 
       low : j ≤ A .stands .t
       low = omega (arith, described .orderLength)
 
-      w : (l : List (ℕ → ℕ)) × (A .stands .left ≡ some l) × (g : ℕ) × (g < length l) × (listAt l g ≡ listAt A.stands.x j)
+      w : (l : List (ℕ → ℕ)) × (A .stands .left ≡ some l) × (g : ℕ) × (g < length l)
+          × (listAt l g ≡ listAt A.stands.x j)
       w = others p A.stands.T A.stands.t A.stands.x s A.stands.came j low ne
 
       go : (i : ℕ) → k ≡ i → leftAt A.places i ≡ some (pointsOf p w.0)
@@ -453,9 +512,14 @@ module _ {p : Problem} (ok : FullyLabelled p) {s : State} {k : ℕ} (A : At p s 
       go (suc h) q e =
           let z : placeAt A.places h ≡ pointsOf p w.0 = cc in
           let f = run-follows (full-accepted ok) A.places A.follows h (omega (arith, A .many)) .1 in
-          let y : pointIn p s j ≡ nth (pointsOf p w.0) w.2 = point-is ok described j low ∙ nth-pointsOf p A.stands.x j (omega (arith, described .chain .size))
-          ∙ ap (pointOf p) (sym w.4) ∙ sym (nth-pointsOf p w.0 w.2 w.3) in
-          (h, sym q, rw (← f, z, y) (at-in onPoints [] (pointsOf p w.0) w.2 (omega (arith, w .3, length-map w.0 (pointOf p)))))
+          let y : pointIn p s j ≡ nth (pointsOf p w.0) w.2 = point-is ok described j low
+          ∙ nth-pointsOf p A.stands.x j (omega (arith, described .chain .size))
+          ∙ ap (pointOf p) (sym w.4)
+          ∙ sym (nth-pointsOf p w.0 w.2 w.3) in (
+            h,
+            sym q,
+            rw (← f, z, y) (at-in onPoints [] (pointsOf p w.0) w.2 (omega (arith, w .3, length-map w.0 (pointOf p)))),
+          )
 
   -- the move keeps within its arrays and widths
   pub at-ready : Ready (read p s)
@@ -470,23 +534,37 @@ module _ {p : Problem} (ok : FullyLabelled p) {s : State} {k : ℕ} (A : At p s 
       record {
         places = A .places ++ (pointsOf p y ∷ []);
         many = length-append A.places (pointsOf p y ∷ []) ∙ omega (arith, A .many);
-        follows = goes-on (full-accepted ok) A.follows k A.many here-labelled (pointsOf p y) L.0 joined (λ q. new (left-determines p A.stands.left _ A.before y L.2 q));
+        follows = goes-on (full-accepted ok) A.follows k A.many here-labelled (pointsOf p y) L.0 joined
+            (λ q. new (left-determines p A.stands.left _ A.before y L.2 q));
         stands = reached-stands R;
         here = getD-at A.places (pointsOf p y) [] [] (suc k) A.many;
-        before = (ap (λ (z : Simplex). some z) (List·getD-append A.places (pointsOf p y ∷ []) [] k (omega (arith, A .many)) ∙ A .here), back);
+        before = (
+          ap (λ (z : Simplex). some z)
+              (List·getD-append A.places (pointsOf p y ∷ []) [] k (omega (arith, A .many)) ∙ A .here),
+          back,
+        );
       }
 
   -- at an end, that is the path's
-  ends-at : (kind : Kind) (from : ℕ) (points : Simplex) (h : ℕ) → from ≤ A .stands .t → pointsFrom p (read p s) from ≡ points
-      → (h < numIndices p.grid) × IsWay p (pointsOf p A.stands.x) (stop (record { kind = kind; block = blockOf p.grid h; simplex = points }))
+  ends-at : (kind : Kind) (from : ℕ) (points : Simplex) (h : ℕ) → from ≤ A .stands .t
+      → pointsFrom p (read p s) from ≡ points
+      → (h < numIndices p.grid)
+      × IsWay p (pointsOf p A.stands.x) (stop (record { kind = kind; block = blockOf p.grid h; simplex = points }))
       → EndsAt p kind from (read p s) h k
   ends-at kind from points h b c w =
       let D = move .describes in
-      let r = ends-path (full-accepted ok) A.follows k A.many here-labelled (record { kind = kind; block = blockOf p.grid h; simplex = points }) (rw A.here w.1) in
+      let r = ends-path (full-accepted ok) A.follows k A.many here-labelled
+      (record { kind = kind; block = blockOf p.grid h; simplex = points }) (rw A.here w.1) in
       record {
         firstLength = D .firstLength;
         index = w .0;
-        few = omega (arith, D .orderLength, here-place .0, here-place .1, order-short p _ (place-of ok.settled A.stands.describes.chain));
+        few = omega (
+          arith,
+          D .orderLength,
+          here-place .0,
+          here-place .1,
+          order-short p _ (place-of ok.settled A.stands.describes.chain),
+        );
         low = omega (arith, D .orderLength);
         points = ready-point ok D _ (omega (arith, D .orderLength));
         end = rw c r.0;
@@ -497,8 +575,10 @@ module _ {p : Problem} (ok : FullyLabelled p) {s : State} {k : ℕ} (A : At p s 
   at-next = go move.outcome
     where
       go : {e : After} → Outcome p A.stands.T A.stands.t A.stands.x A.stands.left (read p s) e → NextAt p k e
-      go (atPlaceEnd h c) = placeEnds (ends-at placeEnd 0 _ h (omega arith) (all-points ok move.describes) (place-way ok A.stands.describes.chain h c))
-      go (atFacetEnd h n z c) = facetEnds (ends-at facetEnd 1 _ h (omega arith) (later-points ok move.describes) (facet-way ok A.stands.describes.chain h z c))
+      go (atPlaceEnd h c) = placeEnds (ends-at placeEnd 0 _ h (omega arith) (all-points ok move.describes)
+          (place-way ok A.stands.describes.chain h c))
+      go (atFacetEnd h n z c) = facetEnds (ends-at facetEnd 1 _ h (omega arith) (later-points ok move.describes)
+          (facet-way ok A.stands.describes.chain h z c))
       go (goesOn y new R) = nextPlace (onto new R)
 
 -- request 10: at a place behind the first a point has come in exactly where a mark is to be read

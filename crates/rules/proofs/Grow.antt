@@ -1,4 +1,5 @@
--- The label of a point, outside T, joins T: the place is an end, or the state that `grow` makes describes the larger place. Assumes nothing.
+-- The label of a point, outside T, joins T: the place is an end, or the state that `grow` makes describes the larger
+-- place. Assumes nothing.
 use mathlib.Core.Bool.{Bool, true, false, not, _&&_}
 use mathlib.Core.List.{List}
 use mathlib.Core.Logic.{_⊎_, inl, inr, ⊎-elim}
@@ -9,11 +10,13 @@ use borrow.Author.Tests.{eq-eqb, ne-eqb, not-true, not-false}
 use lib.ListN.{length}
 use native.Mathlib.Omega.{arith}
 use Rattle.combinatorics.proofs.Basics.{true-or-false, absurd-bool, same-or, before-or-not}
-use Rattle.combinatorics.proofs.EditsInsert.{length-insertAt, insertAt-before, insertAt-here, insertAt-behind, found-none}
+use Rattle.combinatorics.proofs.EditsInsert.{length-insertAt, insertAt-before, insertAt-here, insertAt-behind}
+use Rattle.combinatorics.proofs.EditsInsert.{found-none}
 use Rattle.combinatorics.proofs.EditsRemove.{Found, found-is}
 use Rattle.combinatorics.specs.Edits.{insertAt, found}
 use Rattle.geometry.proofs.Bridge.{zeros-yes, zeros-out}
-use Rattle.geometry.proofs.Definitions.{Blocks, back, coord, Chain, Free, Less, Extra, plus, insert, raise, tightOf, zeros}
+use Rattle.geometry.proofs.Definitions.{Blocks, back, coord, Chain, Free, Less, Extra, plus, insert, raise, tightOf}
+use Rattle.geometry.proofs.Definitions.{zeros}
 use Rattle.geometry.proofs.Graph.{Above}
 use Rattle.geometry.proofs.Grow.{plus-is, insert-is, insert-here, zero-stays, grow-at, grow as larger}
 use Rattle.geometry.proofs.Joins.{room, room-in-U, rises-with, stays-with}
@@ -28,7 +31,8 @@ use Rattle.place.specs.Problem.{Problem}
 use Rattle.rules.specs.Mask.{bit, withIndex, withoutIndex}
 use Rattle.rules.specs.Ready.{IsRound, ReadyGrow}
 use Rattle.rules.specs.Step.{State, goes, endsAtPlace, firstOutside, isFilled, joined, grow}
-use Rattle.rules.proofs.Describes.{Describes, markAt, AllMarks, labelsOf, through, Reached, Joined, placeEnds, joinedOn, Grows}
+use Rattle.rules.proofs.Describes.{Describes, markAt, AllMarks, labelsOf, through, Reached, Joined, placeEnds}
+use Rattle.rules.proofs.Describes.{joinedOn, Grows}
 use Rattle.rules.proofs.Masks.{bit-with, bit-without}
 use Rattle.rules.proofs.Range.{few, label-below}
 use Rattle.rules.proofs.Walks.{FirstAt, forward-outside, filled-yes, filled-no}
@@ -42,7 +46,8 @@ module _ (s : State) (h : ℕ) where
   unfolding grow
   grow-in-U e = rw e
 
-  grow-outside : bit s.U h ≡ false → isFilled s.round s.T s.U h ≡ false → grow s h ≡ goes (joined s (length s.order) h 4)
+  grow-outside : bit s.U h ≡ false → isFilled s.round s.T s.U h ≡ false
+      → grow s h ≡ goes (joined s (length s.order) h 4)
   unfolding grow
   grow-outside e f = rw (e, f)
 
@@ -64,8 +69,8 @@ module _ (R : Blocks) (T : ℕ → Bool) (g : ℕ) (l : g < 16) (mask : ℕ) (k 
       ⊎-elim (λ (q : k ≡ g). rw (eq-eqb k g q) (rw (eq-eqb k g q) at (bit-without mask g k l m)))
       (λ n. rw (ne-eqb k g n) (rw (ne-eqb k g n) at (bit-without mask g k l m) ∙ e)) (same-or k g)
 
-module _ {p : Problem} (ok : FullyLabelled p) {T : ℕ → Bool} {t : ℕ} {o : ℕ → ℕ} {x : List (ℕ → ℕ)} {s : State} (D : Describes p T t o x s)
-    (L : AllMarks p t x s) {i : ℕ} (E : Extra T t (labelsOf p x) i) where
+module _ {p : Problem} (ok : FullyLabelled p) {T : ℕ → Bool} {t : ℕ} {o : ℕ → ℕ} {x : List (ℕ → ℕ)} {s : State}
+    (D : Describes p T t o x s) (L : AllMarks p t x s) {i : ℕ} (E : Extra T t (labelsOf p x) i) where
   abbrev g : ℕ
   g = labelsOf p x i
 
@@ -79,7 +84,8 @@ module _ {p : Problem} (ok : FullyLabelled p) {T : ℕ → Bool} {t : ℕ} {o : 
   joining-below = label-below ok D.chain i E.first
 
   -- its coefficient rises after point a
-  module _ (free : Free (blocksOf p) T+ (listAt x 0)) (a : ℕ) (le : a ≤ t) (below : (j : ℕ) → j ≤ a → listAt x j g ≡ listAt x 0 g)
+  module _ (free : Free (blocksOf p) T+ (listAt x 0)) (a : ℕ) (le : a ≤ t)
+      (below : (j : ℕ) → j ≤ a → listAt x j g ≡ listAt x 0 g)
       (above : (j : ℕ) → a < j → j ≤ t → listAt x j g ≡ suc (listAt x 0 g)) where
     points : ℕ → ℕ → ℕ
     points = insert (suc a) (tightOf (blocksOf p) T+ (raise g (listAt x a))) (listAt x)
@@ -106,10 +112,18 @@ module _ {p : Problem} (ok : FullyLabelled p) {T : ℕ → Bool} {t : ℕ} {o : 
     order-at : (j : ℕ) → j < suc t → at (insertAt a g s.order) j ≡ insert a g o j
     order-at j m =
         let f : a ≤ length s.order = omega (arith, D .orderLength) in
-        ⊎-elim (λ (q : j < a). insertAt-before 0 a g s.order j f q ∙ D .orderAt j (omega arith) ∙ insert-is t a g o .lower j (omega arith) q)
-        (λ (q : a ≤ j). ⊎-elim (λ (e : j ≡ a). rw e (insertAt-here 0 a g s.order f ∙ sym (insert-here a g o)))
-        (λ (n : j ≡ a → ⊥). let w : suc (j - 1) ≡ j = omega (arith, n) in let v : a ≤ j - 1 = omega (arith, n) in
-        rw (← w) (insertAt-behind 0 a g s.order (j - 1) f v ∙ D .orderAt (j - 1) (omega arith) ∙ insert-is t a g o .upper (j - 1) (omega arith) v))
+        ⊎-elim
+        (λ (q : j < a).
+        insertAt-before 0 a g s.order j f q ∙ D .orderAt j (omega arith) ∙ insert-is t a g o .lower j (omega arith) q)
+        (λ (q : a ≤ j). ⊎-elim
+        (λ (e : j ≡ a). rw e (insertAt-here 0 a g s.order f ∙ sym (insert-here a g o)))
+        (λ (n : j ≡ a → ⊥).
+        let w : suc (j - 1) ≡ j = omega (arith, n) in
+        let v : a ≤ j - 1 = omega (arith, n) in
+        rw (← w)
+        (insertAt-behind 0 a g s.order (j - 1) f v
+        ∙ D .orderAt (j - 1) (omega arith)
+        ∙ insert-is t a g o .upper (j - 1) (omega arith) v))
         (same-or j a))
         (before-or-not j a)
 
@@ -133,9 +147,11 @@ module _ {p : Problem} (ok : FullyLabelled p) {T : ℕ → Bool} {t : ℕ} {o : 
       firstAt = λ k m. D .firstAt k m ∙ ap (λ (c : ℕ → ℕ). coord (blocksOf p) c k) (sym (point-before 0 (omega arith)));
       coefficientsLength = D .coefficientsLength;
       coefficientsAt = λ k m. D .coefficientsAt k m ∙ ap (λ (c : ℕ → ℕ). c k) (sym (point-before 0 (omega arith)));
-      inT = λ k m. with-plus (blocksOf p) T g (omega (arith, joining-below, ok .settled .sixteenIndices)) s.T k m (D .inT k m);
+      inT = λ k m.
+          with-plus (blocksOf p) T g (omega (arith, joining-below, ok .settled .sixteenIndices)) s.T k m (D .inT k m);
       inU = λ k m. rw (point-before 0 (omega arith))
-          (zeros-plus (blocksOf p) T g (omega (arith, joining-below, ok .settled .sixteenIndices)) s.U k m (listAt x 0) (D .inU k m));
+          (zeros-plus (blocksOf p) T g (omega (arith, joining-below, ok .settled .sixteenIndices)) s.U k m (listAt x 0)
+          (D .inU k m));
       marksLength = length-insertAt (suc a) 0 s.marks ∙ ap suc D.marksLength;
     }
 
@@ -145,7 +161,8 @@ module _ {p : Problem} (ok : FullyLabelled p) {T : ℕ → Bool} {t : ℕ} {o : 
       t = suc t;
       o = insert a g o;
       describes = describes rule;
-      came = through t x refl (omega arith) (omega arith) c marks-at enlarged.carries enlarged.back (λ q _ _. absurd (omega arith));
+      came = through t x refl (omega arith) (omega arith) c marks-at enlarged.carries enlarged.back
+          (λ q _ _. absurd (omega arith));
       link = enlarged .link;
     })
 
@@ -177,7 +194,8 @@ module _ {p : Problem} (ok : FullyLabelled p) {T : ℕ → Bool} {t : ℕ} {o : 
       (λ e. let u = filled-yes ok N s.T s.U D.inT D.inU g joining-below f k b n e in
       inr (zero-stays D.chain.chain k e (zeros-yes D.chain.chain k u .1))) (true-or-false (T k))) (same-or k g)
 
-  -- g is in U: it goes before the first index forward from it that is not in U, if that is in T, and behind the last otherwise
+  -- g is in U: it goes before the first index forward from it that is not in U, if that is in T, and behind the
+  -- last otherwise
   joins-in-U : bit s.U g ≡ true → Joined p T t x s (goes (joined s (place s g) g 5))
   joins-in-U u = ⊎-elim inT notT (true-or-false (T b))
     where
@@ -201,25 +219,28 @@ module _ {p : Problem} (ok : FullyLabelled p) {T : ℕ → Bool} {t : ℕ} {o : 
       inT e =
           let w = K .order .all b e in
           let f : ℕ = found (firstOutside s.round.next s.round.sizes s.U g) 16 s.order in
-          let F : Found (firstOutside s.round.next s.round.sizes s.U g) 16 s.order f =
-          found-is _ 16 s.order w.0 (omega (arith, w .1, D .orderLength)) (D .orderAt w.0 w.1 ∙ w .2 ∙ sym out.3)
+          let F : Found (firstOutside s.round.next s.round.sizes s.U g) 16 s.order f = found-is _ 16 s.order w.0
+          (omega (arith, w .1, D .orderLength)) (D .orderAt w.0 w.1 ∙ w .2 ∙ sym out.3)
           (λ q. omega (arith, w .1, few ok D.chain, ok .settled .sixteenIndices)) in
           let l : f < t = omega (arith, F .inside, D .orderLength) in
-          let r = rises-here K g f l (rises-with K g E.out z out.0 skipped out.2.some f l (sym (D .orderAt f l) ∙ F .is ∙ out .3)) in
+          let r = rises-here K g f l
+          (rises-with K g E.out z out.0 skipped out.2.some f l (sym (D .orderAt f l) ∙ F .is ∙ out .3)) in
           joins (room-of (inl u)) f (omega arith) r.0 r.1 5 (omega arith) (omega arith)
 
       notT : T b ≡ false → Joined p T t x s (goes (joined s (place s g) g 5))
       notT e =
           let q : found (firstOutside s.round.next s.round.sizes s.U g) 16 s.order ≡ t =
-          found-none _ 16 s.order
-          (λ j l m. let jl : j < t = omega (arith, D .orderLength) in
-          absurd-bool (sym (K .order .within j jl) ∙ ap T (sym (D .orderAt j jl) ∙ m ∙ out .3) ∙ e)) ∙ D .orderLength in
-          rw q (joins (room-of (inl u)) t (omega arith) (stays-with K g E.out z out.0 skipped e (not-true _ out.2.stops))
-          (λ j a c. absurd (omega arith)) 5
-          (omega arith) (omega arith))
+          found-none _ 16 s.order (λ j l m.
+          let jl : j < t = omega (arith, D .orderLength) in
+          absurd-bool (sym (K .order .within j jl) ∙ ap T (sym (D .orderAt j jl) ∙ m ∙ out .3) ∙ e))
+          ∙ D .orderLength in
+          rw q
+          (joins (room-of (inl u)) t (omega arith) (stays-with K g E.out z out.0 skipped e (not-true _ out.2.stops))
+          (λ j a c. absurd (omega arith)) 5 (omega arith) (omega arith))
 
   -- it is not: behind the last
-  joins-last : bit s.U g ≡ false → isFilled s.round s.T s.U g ≡ false → Joined p T t x s (goes (joined s (length s.order) g 4))
+  joins-last : bit s.U g ≡ false → isFilled s.round s.T s.U g ≡ false
+      → Joined p T t x s (goes (joined s (length s.order) g 4))
   joins-last u f =
       rw D.orderLength
       (joins (room-of (inr f)) t (omega arith) (never-rises D.chain.chain g E.out (sym in-U ∙ u))
@@ -227,8 +248,10 @@ module _ {p : Problem} (ok : FullyLabelled p) {T : ℕ → Bool} {t : ℕ} {o : 
       (omega arith) (omega arith))
 
 pub grows : {p : Problem} → FullyLabelled p → Grows p
-grows {p} ok T t o x s i D L E =
-    ⊎-elim (λ u. rw (grow-in-U s _ u) (joins-in-U ok D L E u))
-    (λ u. ⊎-elim (λ f. rw (grow-ends s _ u f) (placeEnds _ (complete ok D L E f)))
-    (λ f. rw (grow-outside s _ u f) (joins-last ok D L E u f)) (true-or-false (isFilled s.round s.T s.U (labelsOf p x i))))
+grows {p} ok T t o x s i D L E = ⊎-elim
+    (λ u. rw (grow-in-U s _ u) (joins-in-U ok D L E u))
+    (λ u. ⊎-elim
+    (λ f. rw (grow-ends s _ u f) (placeEnds _ (complete ok D L E f)))
+    (λ f. rw (grow-outside s _ u f) (joins-last ok D L E u f))
+    (true-or-false (isFilled s.round s.T s.U (labelsOf p x i))))
     (true-or-false (bit s.U (labelsOf p x i)))

@@ -1,4 +1,5 @@
--- The first point leaves: the state that `leave` makes describes the place beyond its facet, or the facet is an end. Assumes nothing.
+-- The first point leaves: the state that `leave` makes describes the place beyond its facet, or the facet is an end.
+-- Assumes nothing.
 use mathlib.Core.Bool.{Bool, true, false, not, _&&_, _||_, cond}
 use mathlib.Core.List.{List}
 use mathlib.Core.Logic.{⊎-elim}
@@ -26,12 +27,15 @@ use Rattle.place.proofs.Filled.{FullyLabelled}
 use Rattle.place.specs.Problem.{Problem}
 use Rattle.rules.specs.Mask.{bit, withIndex}
 use Rattle.rules.specs.Ready.{IsRound, ReadyFirst}
-use Rattle.rules.specs.Step.{State, goes, endsAtFacet, sourceIn, isFilled, shifted, changedBefore, leaveFirst, leave}
-use Rattle.rules.proofs.Describes.{Describes, markAt, AllMarks, labelsOf, Came, through, Reached, Left, facetEnds, leftOn}
+use Rattle.rules.specs.Step.{State, goes, endsAtFacet, sourceIn, isFilled, shifted, changedBefore, leaveFirst}
+use Rattle.rules.specs.Step.{leave}
+use Rattle.rules.proofs.Describes.{Describes, markAt, AllMarks, labelsOf, Came, through, Reached, Left}
+use Rattle.rules.proofs.Describes.{facetEnds, leftOn}
 use Rattle.rules.proofs.Masks.{bit-with}
 use Rattle.rules.proofs.Range.{index-below, coord-below, coefficient-below}
 use Rattle.rules.proofs.Shifted.{length-shifted, shifted-at}
-use Rattle.rules.proofs.Walks.{ChangedOn, before-outside, changed, tested, backward, previous-below, filled-yes, filled-no, source-from}
+use Rattle.rules.proofs.Walks.{ChangedOn, before-outside, changed, tested, backward, previous-below, filled-yes}
+use Rattle.rules.proofs.Walks.{filled-no, source-from}
 
 -- an index joins a set or not
 or-into : (a z : Bool) → (a || z) ≡ (a && true || z)
@@ -42,7 +46,8 @@ or-not : (a z : Bool) → z ≡ (a && false || z)
 or-not true z = refl
 or-not false z = refl
 
-module _ {p : Problem} (ok : FullyLabelled p) {T : ℕ → Bool} {n : ℕ} {o : ℕ → ℕ} {x : List (ℕ → ℕ)} {s : State} (D : Describes p T (suc n) o x s) where
+module _ {p : Problem} (ok : FullyLabelled p) {T : ℕ → Bool} {n : ℕ} {o : ℕ → ℕ} {x : List (ℕ → ℕ)} {s : State}
+    (D : Describes p T (suc n) o x s) where
   abbrev R : Blocks
   R = blocksOf p
 
@@ -89,19 +94,30 @@ module _ {p : Problem} (ok : FullyLabelled p) {T : ℕ → Bool} {n : ℕ} {o : 
 
   leave-is : leave s 0 ≡ cond (joins && isFilled s.round s.T s.U b) (endsAtFacet s b) (goes (onward joins))
   unfolding leave leaveFirst
-  leave-is = rw (D .orderAt 0 (omega arith), run .3, D .firstAt b end-below, D .inT b (omega (arith, end-below, ok .settled .sixteenIndices)))
+  leave-is = rw (
+    D .orderAt 0 (omega arith),
+    run .3,
+    D .firstAt b end-below,
+    D .inT b (omega (arith, end-below, ok .settled .sixteenIndices)),
+  )
 
   pub ready-first : ReadyFirst s
   ready-first = record {
     some = omega (arith, D .orderLength);
     positive = rw (D .orderAt 0 (omega arith), run .3) (omega (arith, D .firstAt b end-below, moves .gives));
-    fits = rw (D .orderAt 0 (omega arith)) (omega (arith, D .firstAt (o 0) first-below, coord-below ok D.chain 0 (omega arith) (o 0) first-below));
+    fits = rw (D .orderAt 0 (omega arith))
+        (omega (arith, D .firstAt (o 0) first-below, coord-below ok D.chain 0 (omega arith) (o 0) first-below));
     raised = rw (D .orderAt 0 (omega arith), run .3)
-        (tested s.round.previous (numIndices p.grid) (backward ok N) (previous-below ok N) (λ c. ltb c 65535) suc 16 run.0 s.coefficients first-below
-        run.1 (before-outside run.2 moves.apart)
-        (λ j l. let k = back R.previous j (o 0) in
-        lt-ltb (at s.coefficients k) 65535
-        (omega (arith, D .coefficientsAt k (back-below p j (o 0) first-below), coefficient-below ok D.chain 0 (omega arith) k))));
+        (tested s.round.previous (numIndices p.grid) (backward ok N) (previous-below ok N)
+        (λ c. ltb c 65535)
+        suc 16 run.0 s.coefficients first-below run.1 (before-outside run.2 moves.apart)
+        (λ j l.
+        let k = back R.previous j (o 0) in
+        lt-ltb (at s.coefficients k) 65535 (omega (
+          arith,
+          D .coefficientsAt k (back-below p j (o 0) first-below),
+          coefficient-below ok D.chain 0 (omega arith) k,
+        ))));
   }
 
   module _ (L : AllMarks p (suc n) x s) (c : Carries T (suc n) (labelsOf p x) 0) where
@@ -119,40 +135,47 @@ module _ {p : Problem} (ok : FullyLabelled p) {T : ℕ → Bool} {n : ℕ} {o : 
       points j l = listAt-tabulate (suc (suc n)) (first-p K) j (omega arith) ∙ first-later K j l
 
       order-at : (j : ℕ) → j < suc n → at (rotateLeft s.order) j ≡ first-o K j
-      order-at j l =
-          ⊎-elim (λ (m : j < n). rotateLeft-before 0 s.order j (omega (arith, D .orderLength)) ∙ D .orderAt (suc j) (omega arith)
+      order-at j l = ⊎-elim
+          (λ (m : j < n). rotateLeft-before 0 s.order j (omega (arith, D .orderLength))
+          ∙ D .orderAt (suc j) (omega arith)
           ∙ sym (first-rotate K .back j m))
-          (λ (m : n ≤ j). let e : j ≡ n = omega arith in
+          (λ (m : n ≤ j).
+          let e : j ≡ n = omega arith in
           rw e (rotateLeft-last 0 s.order n D.orderLength ∙ D .orderAt 0 (omega arith) ∙ sym (first-rotate K .last)))
           (before-or-not j n)
 
       first-at : (k : ℕ) → k < numIndices p.grid → at (shifted s.first (o 0) b) k ≡ coord R (listAt y 0) k
-      first-at k l =
-          rw (points 0 (omega arith))
-          (omega (
-            arith,
-            shifted-at s.first (o 0) b (omega (arith, D .firstAt b end-below, moves .gives)) k (omega (arith, D .firstLength, ok .settled .sixteenIndices)),
-            changes-of moves k,
-            D .firstAt k l,
-          ))
+      first-at k l = rw (points 0 (omega arith)) (omega (
+        arith,
+        shifted-at s.first (o 0) b (omega (arith, D .firstAt b end-below, moves .gives)) k
+            (omega (arith, D .firstLength, ok .settled .sixteenIndices)),
+        changes-of moves k,
+        D .firstAt k l,
+      ))
 
-      raised : ChangedOn R.previous suc (o 0) run.0 s.coefficients (changedBefore suc s.round.previous b 16 (o 0) s.coefficients)
+      raised : ChangedOn R.previous suc (o 0) run.0 s.coefficients
+          (changedBefore suc s.round.previous b 16 (o 0) s.coefficients)
       raised = changed s.round.previous _ (backward ok N) (previous-below ok N) suc 16 run.0 s.coefficients first-below
           (omega (arith, D .coefficientsLength, ok .settled .sixteenIndices)) run.1 (before-outside run.2 moves.apart)
 
-      coefficients-at : (k : ℕ) → k < numIndices p.grid → at (changedBefore suc s.round.previous b 16 (o 0) s.coefficients) k ≡ listAt y 0 k
-      coefficients-at k l =
-          rw (points 0 (omega arith))
-          (⊎-elim (λ (e : P 1 k ≡ P 0 k). raised .off k
-          (λ j m q. omega (arith, e, next-run K 0 (omega arith) run.2 k (j, m, q))) ∙ D .coefficientsAt k l ∙ sym e)
-          (λ r. (rw r.2 at (raised .on r.0 r.1)) ∙ ap suc (D .coefficientsAt k l) ∙ sym (next-run K 0 (omega arith) run.2 k r))
+      coefficients-at : (k : ℕ) → k < numIndices p.grid
+          → at (changedBefore suc s.round.previous b 16 (o 0) s.coefficients) k ≡ listAt y 0 k
+      coefficients-at k l = rw (points 0 (omega arith)) (⊎-elim
+          (λ (e : P 1 k ≡ P 0 k).
+          raised .off k (λ j m q. omega (arith, e, next-run K 0 (omega arith) run.2 k (j, m, q)))
+          ∙ D .coefficientsAt k l
+          ∙ sym e)
+          (λ r. (rw r.2 at (raised .on r.0 r.1))
+          ∙ ap suc (D .coefficientsAt k l)
+          ∙ sym (next-run K 0 (omega arith) run.2 k r))
           (next-else K 0 (omega arith) run.2 k))
 
       zeros-at : (k : ℕ) → k < 16 → bit (cond joins (withIndex s.U b) s.U) k ≡ zeros R T (listAt y 0) k
       zeros-at k l = rw (points 0 (omega arith)) (go joins ∙ sym (zeros-next K run.2 k))
         where
           go : (g : Bool) → bit (cond g (withIndex s.U b) s.U) k ≡ (eqb k b && g || zeros R T (P 0) k)
-          go true = bit-with s.U b k (omega (arith, end-below, ok .settled .sixteenIndices)) l ∙ rw (D .inU k l) (or-into (eqb k b) _)
+          go true = bit-with s.U b k (omega (arith, end-below, ok .settled .sixteenIndices)) l
+              ∙ rw (D .inU k l) (or-into (eqb k b) _)
           go false = D .inU k l ∙ or-not (eqb k b) _
 
       describes : Describes p T (suc n) (first-o K) y (onward joins)
@@ -172,7 +195,8 @@ module _ {p : Problem} (ok : FullyLabelled p) {T : ℕ → Bool} {n : ℕ} {o : 
 
       came : Came p T (suc n) y (onward joins) (some x)
       came = through n x refl (omega (arith, D .orderLength)) (rule-is joins .0) (rule-is joins .1) marks
-          (rw D.orderLength beyond.carries) (rw D.orderLength beyond.back) (λ _ _ l. absurd (omega (arith, D .orderLength)))
+          (rw D.orderLength beyond.carries) (rw D.orderLength beyond.back)
+          (λ _ _ l. absurd (omega (arith, D .orderLength)))
         where
           rule-is : (t : Bool) → (0 < cond t 2 1) × (cond t 2 1 < 6)
           rule-is true = (omega arith, omega arith)
@@ -188,7 +212,8 @@ module _ {p : Problem} (ok : FullyLabelled p) {T : ℕ → Bool} {n : ℕ} {o : 
       reached = record { T = T; t = suc n; o = first-o K; describes = describes; came = came; link = beyond .link }
 
     -- the facet is an end exactly where b joins U and fills its block
-    end-or : (e : Bool) → (joins && isFilled s.round s.T s.U b) ≡ e → Left p T n x s 0 (cond e (endsAtFacet s b) (goes (onward joins)))
+    end-or : (e : Bool) → (joins && isFilled s.round s.T s.U b) ≡ e
+        → Left p T n x s 0 (cond e (endsAtFacet s b) (goes (onward joins)))
     end-or true e =
         facetEnds b refl (fill-end D.chain 0 (omega arith) c b
         (filled K run.2 (and-left joins _ e) (filled-yes ok N s.T s.U D.inT D.inU b end-below (and-right joins _ e))))

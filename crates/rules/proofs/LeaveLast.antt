@@ -1,5 +1,5 @@
--- The last point leaves: the state goes on through its facet, to the place that a new first point makes or to the facet itself; and the move
--- keeps within its arrays and the width of its numbers. Assumes nothing.
+-- The last point leaves: the state goes on through its facet, to the place that a new first point makes or to the facet
+-- itself; and the move keeps within its arrays and the width of its numbers. Assumes nothing.
 use mathlib.Core.Bool.{Bool, true, false, cond}
 use mathlib.Core.List.{List}
 use mathlib.Core.Logic.{inl, inr, _⊎_, ⊎-elim}
@@ -17,7 +17,8 @@ use Rattle.geometry.proofs.Definitions.{back, Blocks, Chain, coord, zeros, Carr
 use Rattle.geometry.proofs.LabelledChains.{listAt, tabulate}
 use Rattle.geometry.proofs.Moves.{last-run, last-else, last-moved}
 use Rattle.geometry.proofs.Onward.{Beyond, next-link, listAt-tabulate}
-use Rattle.geometry.proofs.Ways.{last-z, last-p, last-o, last-first, last-later, last-rotate, last-beside, last-tight-at, dropped}
+use Rattle.geometry.proofs.Ways.{last-z, last-p, last-o, last-first, last-later, last-rotate, last-beside}
+use Rattle.geometry.proofs.Ways.{last-tight-at, dropped}
 use Rattle.grid.specs.Grid.{at, numIndices}
 use Rattle.place.proofs.BlocksOfGrid.{blocksOf, back-below}
 use Rattle.place.proofs.ToChain.{labelOf}
@@ -26,12 +27,14 @@ use Rattle.place.specs.Problem.{Problem}
 use Rattle.rules.specs.Mask.{bit, withoutIndex}
 use Rattle.rules.specs.Ready.{IsRound, ReadyLast}
 use Rattle.rules.specs.Step.{State, goes, shrink, shifted, firstOutsideOrZero, changedBefore, leave, leaveLast}
-use Rattle.rules.proofs.Describes.{Describes, markAt, AllMarks, MarksBut, labelsOf, through, GoesOn, Left, leftOn}
+use Rattle.rules.proofs.Describes.{Describes, markAt, AllMarks, MarksBut, labelsOf, through, GoesOn, Left}
+use Rattle.rules.proofs.Describes.{leftOn}
 use Rattle.rules.proofs.Masks.{bit-without}
 use Rattle.rules.proofs.Range.{index-below, coord-below}
 use Rattle.rules.proofs.Shifted.{length-shifted, shifted-at}
 use Rattle.rules.proofs.Shrink.{shrunk}
-use Rattle.rules.proofs.Walks.{Before, ChangedOn, before-zero, changed, tested, backward, previous-below, chain-to-zero}
+use Rattle.rules.proofs.Walks.{Before, ChangedOn, before-zero, changed, tested, backward, previous-below}
+use Rattle.rules.proofs.Walks.{chain-to-zero}
 
 -- a new first point, with 1 more at b and 1 less at h
 abbrev newFirst : State → ℕ → ℕ → State
@@ -62,7 +65,8 @@ module _ {p : Problem} (ok : FullyLabelled p) {T : ℕ → Bool} {n : ℕ} {o : 
   last-below = index-below ok D.chain (o n) (K .order .within n (omega arith))
 
   -- the run from the last index
-  run : (m : ℕ) × (m ≤ 16) × BackToZero R T (listAt x 0) (o n) m × (firstOutsideOrZero s.round s.U s.coefficients (o n) ≡ back R.previous m (o n))
+  run : (m : ℕ) × (m ≤ 16) × BackToZero R T (listAt x 0) (o n) m
+      × (firstOutsideOrZero s.round s.U s.coefficients (o n) ≡ back R.previous m (o n))
   run = chain-to-zero ok N K s.U D.inU s.coefficients D.coefficientsAt (o n) last-below
 
   b : ℕ
@@ -94,26 +98,33 @@ module _ {p : Problem} (ok : FullyLabelled p) {T : ℕ → Bool} {n : ℕ} {o : 
     falls : (j : ℕ) → j < run .0 → listAt x 0 (back R.previous j (o n)) ≡ suc (z (back R.previous j (o n)))
     falls = last-run K some inside run.2
 
-    lowered : ChangedOn R.previous pred (o n) run.0 s.coefficients (changedBefore pred s.round.previous b 16 (o n) s.coefficients)
+    lowered : ChangedOn R.previous pred (o n) run.0 s.coefficients
+        (changedBefore pred s.round.previous b 16 (o n) s.coefficients)
     lowered =
         changed s.round.previous _ (backward ok N) (previous-below ok N) pred 16 run.0 s.coefficients last-below
         (omega (arith, D .coefficientsLength, ok .settled .sixteenIndices)) run.1 before
 
-    coefficients-at : (k : ℕ) → k < numIndices p.grid → at (changedBefore pred s.round.previous b 16 (o n) s.coefficients) k ≡ z k
-    coefficients-at k m =
-        ⊎-elim (λ (q : listAt x 0 k ≡ z k). lowered .off k (λ j l e. omega (arith, falls j l, ap (listAt x 0) e, ap z e)) ∙ D .coefficientsAt k m ∙ q)
-        (λ (r : OnRun R (o n) run.0 k). rw (← r.2)
-        (omega (arith, lowered .on r.0 r.1, D .coefficientsAt (back R.previous r.0 (o n)) (back-below p r.0 (o n) last-below), falls r.0 r.1)))
+    coefficients-at : (k : ℕ) → k < numIndices p.grid
+        → at (changedBefore pred s.round.previous b 16 (o n) s.coefficients) k ≡ z k
+    coefficients-at k m = ⊎-elim
+        (λ (q : listAt x 0 k ≡ z k).
+        lowered .off k (λ j l e. omega (arith, falls j l, ap (listAt x 0) e, ap z e)) ∙ D .coefficientsAt k m ∙ q)
+        (λ (r : OnRun R (o n) run.0 k). rw (← r.2) (omega (
+          arith,
+          lowered .on r.0 r.1,
+          D .coefficientsAt (back R.previous r.0 (o n)) (back-below p r.0 (o n) last-below),
+          falls r.0 r.1,
+        )))
         (last-else K some inside run.2 k)
 
     first-at : (k : ℕ) → k < numIndices p.grid → at (shifted s.first b (o n)) k ≡ coord R z k
-    first-at k m =
-        omega (
-          arith,
-          shifted-at s.first b (o n) (omega (arith, D .firstAt (o n) last-below)) k (omega (arith, D .firstLength, ok .settled .sixteenIndices)),
-          changes-of moves k,
-          D .firstAt k m,
-        )
+    first-at k m = omega (
+      arith,
+      shifted-at s.first b (o n) (omega (arith, D .firstAt (o n) last-below)) k
+          (omega (arith, D .firstLength, ok .settled .sixteenIndices)),
+      changes-of moves k,
+      D .firstAt k m,
+    )
 
     -- of the zeros outside T, b alone goes
     zeros-end : zeros R T z b ≡ false
@@ -156,8 +167,9 @@ module _ {p : Problem} (ok : FullyLabelled p) {T : ℕ → Bool} {n : ℕ} {o : 
 
       order-at : (j : ℕ) → j < suc n → at (rotateRight s.order) j ≡ last-o K j
       order-at zero m = rotateRight-first 0 s.order ∙ last-index ∙ last-rotate K .last
-      order-at (suc j) m =
-          rotateRight-later 0 s.order j (omega (arith, D .orderLength)) ∙ D .orderAt j (omega arith) ∙ last-rotate K .back j (omega arith)
+      order-at (suc j) m = rotateRight-later 0 s.order j (omega (arith, D .orderLength))
+          ∙ D .orderAt j (omega arith)
+          ∙ last-rotate K .back j (omega arith)
 
       marks-but : MarksBut p (suc n) y (newFirst s (o n) b) 0
       marks-but zero m q = absurd (q refl)
@@ -186,7 +198,8 @@ module _ {p : Problem} (ok : FullyLabelled p) {T : ℕ → Bool} {n : ℕ} {o : 
             inU = λ k m. in-U k m ∙ ap (λ (f : ℕ → ℕ). zeros R T f k) (sym first);
             marksLength = length-rotateRight s.marks ∙ D .marksLength;
           };
-          came = through n x refl (omega arith) (rule-is (bit s.U b) .0) (rule-is (bit s.U b) .1) marks-but beyond.carries beyond.back (λ _ l _. absurd (omega arith));
+          came = through n x refl (omega arith) (rule-is (bit s.U b) .0) (rule-is (bit s.U b) .1) marks-but
+              beyond.carries beyond.back (λ _ l _. absurd (omega arith));
           link = beyond .link;
         },
       )
@@ -218,26 +231,31 @@ module _ {p : Problem} (ok : FullyLabelled p) {T : ℕ → Bool} {n : ℕ} {o : 
         D .coefficientsAt (o n) last-below,
       ) refl
 
-  pub leave-last : AllMarks p (suc n) x s → Carries T (suc n) (labelsOf p x) (suc n) → Left p T n x s (suc n) (leave s (suc n))
+  pub leave-last : AllMarks p (suc n) x s → Carries T (suc n) (labelsOf p x) (suc n)
+      → Left p T n x s (suc n) (leave s (suc n))
   leave-last L c = rw move (leftOn (go (eqb (coord R (listAt x 0) (o n)) 0) refl (eqb (listAt x 0 (o n)) 0) refl))
     where
       go : (t : Bool) → eqb (coord R (listAt x 0) (o n)) 0 ≡ t → (u : Bool) → eqb (listAt x 0 (o n)) 0 ≡ u
-          → GoesOn p T n x (suc n) (cond t (shrink s (suc n) n true) (cond u (shrink s (suc n) n false) (newFirst s (o n) b)))
+          → GoesOn p T n x (suc n)
+          (cond t (shrink s (suc n) n true) (cond u (shrink s (suc n) n false) (newFirst s (o n) b)))
       go true e u f = drops L c (inr (omega (arith, eqb-true (coord R (listAt x 0) (o n)) 0 e))) true e
       go false e true f = drops L c (inl (eqb-true _ 0 f)) false e
-      go false e false f = enters (omega (arith, eqb-false (coord R (listAt x 0) (o n)) 0 e)) (omega (arith, eqb-false (listAt x 0 (o n)) 0 f)) L c
+      go false e false f = enters (omega (arith, eqb-false (coord R (listAt x 0) (o n)) 0 e))
+          (omega (arith, eqb-false (listAt x 0 (o n)) 0 f)) L c
 
   pub ready-last : ReadyLast s (at s.order (length s.order - 1))
   unfolding b
   ready-last = rw last-index (record {
     some = omega (arith, D .orderLength);
     fits = λ g h. rw run.3 (omega (arith, D .firstAt b end-below, coord-below ok D.chain 0 (omega arith) b end-below));
-    lowered = λ g h. rw run.3
-        (let g' : 0 < coord R (listAt x 0) (o n) = omega (arith, D .firstAt (o n) last-below) in
+    lowered = λ g h. rw run.3 (let g' : 0 < coord R (listAt x 0) (o n) = omega (arith, D .firstAt (o n) last-below) in
         let h' : 0 < listAt x 0 (o n) = omega (arith, D .coefficientsAt (o n) last-below) in
         tested s.round.previous (numIndices p.grid) (backward ok N) (previous-below ok N)
-        (λ c. ltb 0 c) pred 16 run.0 s.coefficients last-below run.1
-        (before g' h')
-        (λ j m. lt-ltb 0 (at s.coefficients (back R.previous j (o n)))
-        (omega (arith, falls g' h' j m, D .coefficientsAt (back R.previous j (o n)) (back-below p j (o n) last-below)))));
+        (λ c. ltb 0 c)
+        pred 16 run.0 s.coefficients last-below run.1 (before g' h')
+        (λ j m. lt-ltb 0 (at s.coefficients (back R.previous j (o n))) (omega (
+          arith,
+          falls g' h' j m,
+          D .coefficientsAt (back R.previous j (o n)) (back-below p j (o n) last-below),
+        ))));
   })

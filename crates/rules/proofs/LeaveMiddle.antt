@@ -1,5 +1,5 @@
--- Point e + 1, neither the first nor the last, leaves: the state goes on through its facet, to the place where the two steps have changed
--- places or to the facet itself. Assumes nothing.
+-- Point e + 1, neither the first nor the last, leaves: the state goes on through its facet, to the place where the two
+-- steps have changed places or to the facet itself. Assumes nothing.
 use mathlib.Core.Bool.{Bool, true, false, _&&_, cond}
 use mathlib.Core.List.{List}
 use mathlib.Core.Logic.{⊎-elim}
@@ -47,7 +47,8 @@ exchanged s e = record {
 }
 
 module _ {p : Problem} (ok : FullyLabelled p) {T : ℕ → Bool} {n : ℕ} {o : ℕ → ℕ} {x : List (ℕ → ℕ)} {s : State}
-    (D : Describes p T (suc n) o x s) (L : AllMarks p (suc n) x s) (e : ℕ) (l : e < n) (c : Carries T (suc n) (labelsOf p x) (suc e)) where
+    (D : Describes p T (suc n) o x s) (L : AllMarks p (suc n) x s) (e : ℕ) (l : e < n)
+    (c : Carries T (suc n) (labelsOf p x) (suc e)) where
   abbrev R : Blocks
   R = blocksOf p
 
@@ -79,7 +80,8 @@ module _ {p : Problem} (ok : FullyLabelled p) {T : ℕ → Bool} {n : ℕ} {o : 
         D .orderAt e (omega arith),
         D .orderAt (suc e) (omega arith),
         run .3,
-        D .firstAt (back R.previous run.0 (o (suc e))) (back-below p run.0 (o (suc e)) (indices-below (suc e) (omega arith))),
+        D .firstAt (back R.previous run.0 (o (suc e)))
+            (back-below p run.0 (o (suc e)) (indices-below (suc e) (omega arith))),
       ) refl
 
   -- off the grid: the facet is a place
@@ -128,9 +130,11 @@ module _ {p : Problem} (ok : FullyLabelled p) {T : ℕ → Bool} {n : ℕ} {o : 
         let f : suc e < length s.order = omega (arith, D .orderLength) in
         let z : suc e - 1 ≡ e = omega arith in
         let i = point-is ok D (suc e) (omega arith) in (
-          rw (z, swapAt-next 0 e s.order f, after-swapped (sourceIn s) s.order s.first e e (omega arith)) (ready-point ok D (suc e) (omega arith) .positive e (omega arith)),
+          rw (z, swapAt-next 0 e s.order f, after-swapped (sourceIn s) s.order s.first e e (omega arith))
+              (ready-point ok D (suc e) (omega arith) .positive e (omega arith)),
           rw (gone-is, i) (point-on ok D.chain (suc e) (omega arith)),
-          ap markPosition (L (suc e) (omega arith)) ∙ mark-position ok D.chain (suc e) (omega arith)
+          ap markPosition (L (suc e) (omega arith))
+              ∙ mark-position ok D.chain (suc e) (omega arith)
               ∙ ap (position p.grid) (sym (gone-is ∙ i ∙ nth-pointsOf p x (suc e) (omega (arith, D .chain .size)))),
         )
 

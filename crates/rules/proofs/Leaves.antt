@@ -1,4 +1,5 @@
--- Whatever point leaves, the state goes on through its facet or the facet is an end, and the move keeps within its arrays. Assumes nothing.
+-- Whatever point leaves, the state goes on through its facet or the facet is an end, and the move keeps within its
+-- arrays. Assumes nothing.
 use mathlib.Core.Bool.{Bool}
 use mathlib.Core.List.{List}
 use mathlib.Core.Logic.{⊎-elim}
@@ -18,11 +19,14 @@ use Rattle.rules.proofs.Range.{few}
 
 pub leaves : {p : Problem} → FullyLabelled p → Leaves p
 leaves ok T n o x s zero D L l c = leave-first ok D L c
-leaves ok T n o x s (suc e) D L l c =
-    ⊎-elim (λ (m : e < n). leave-middle ok D L e m c) (λ (m : e ≡ n). rw m (leave-last ok D L (rw m at c))) (lt-or e n l)
+leaves ok T n o x s (suc e) D L l c = ⊎-elim
+    (λ (m : e < n). leave-middle ok D L e m c)
+    (λ (m : e ≡ n). rw m (leave-last ok D L (rw m at c)))
+    (lt-or e n l)
 
-pub leave-ready : {p : Problem} → FullyLabelled p → {T : ℕ → Bool} {n : ℕ} {o : ℕ → ℕ} {x : List (ℕ → ℕ)} {s : State} (i : ℕ)
-    → Describes p T (suc n) o x s → i ≤ suc n → ReadyLeave s i
+pub leave-ready : {p : Problem} → FullyLabelled p
+    → {T : ℕ → Bool} {n : ℕ} {o : ℕ → ℕ} {x : List (ℕ → ℕ)} {s : State} (i : ℕ) → Describes p T (suc n) o x s
+    → i ≤ suc n → ReadyLeave s i
 leave-ready ok i D l = record {
   low = omega (arith, D .orderLength);
   few = omega (arith, D .orderLength, few ok D.chain, ok .settled .sixteenIndices);

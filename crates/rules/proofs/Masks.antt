@@ -50,12 +50,13 @@ beq-true false false e = refl
 beq-true true false e = absurd-bool (sym e)
 beq-true false true e = absurd-bool (sym e)
 
-pairs : (f g : ℕ → ℕ → Bool) → all (λ h. all (λ k. Bool·beq (f h k) (g h k)) (upFrom 0 16)) (upFrom 0 16) ≡ true → (h k : ℕ) → h < 16 → k < 16
-    → f h k ≡ g h k
-pairs f g t h k a b =
-    beq-true (f h k) (g h k)
+pairs : (f g : ℕ → ℕ → Bool) → all (λ h. all (λ k. Bool·beq (f h k) (g h k)) (upFrom 0 16)) (upFrom 0 16) ≡ true
+    → (h k : ℕ) → h < 16 → k < 16 → f h k ≡ g h k
+pairs f g t h k a b = beq-true (f h k) (g h k)
     (all-in onNumbers (λ k. Bool·beq (f h k) (g h k)) (upFrom 0 16)
-    (all-in onNumbers (λ h. all (λ k. Bool·beq (f h k) (g h k)) (upFrom 0 16)) (upFrom 0 16) t h (in-upFrom 0 16 h (omega arith) (omega arith)))
+    (all-in onNumbers
+    (λ h. all (λ k. Bool·beq (f h k) (g h k)) (upFrom 0 16))
+    (upFrom 0 16) t h (in-upFrom 0 16 h (omega arith) (omega arith)))
     k (in-upFrom 0 16 k (omega arith) (omega arith)))
 
 bit-one : (h k : ℕ) → h < 16 → k < 16 → bit (1 * 2 ^ h % 65536) k ≡ eqb k h

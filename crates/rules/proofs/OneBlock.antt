@@ -1,5 +1,5 @@
--- A grid of one block: the indices met going back, the sum of a point's coordinates from an index on by its coefficients, and a point's position beside that of the first point. Assumes
--- nothing.
+-- A grid of one block: the indices met going back, the sum of a point's coordinates from an index on by its
+-- coefficients, and a point's position beside that of the first point. Assumes nothing.
 use mathlib.Core.Bool.{Bool, true, cond}
 use mathlib.Core.List.{List, map}
 use mathlib.Core.Logic.{⊎-elim}
@@ -47,21 +47,28 @@ module _ (p : Problem) (ok : Settled p) (one : numBlocks p.grid ≡ 1) where
   next-up : (k : ℕ) → suc k < numIndices p.grid → blocksOf p .next k ≡ suc k
   next-up k l =
       let z : firstIndex p.grid 0 + k ≡ k = omega arith in
-      next-agrees p k (omega arith) ∙ (rw z at (next-at p.grid 0 k (omega (arith, all-indices p.grid (grid-accepted p ok) one)))) ∙ omega arith
+      next-agrees p k (omega arith)
+      ∙ (rw z at (next-at p.grid 0 k (omega (arith, all-indices p.grid (grid-accepted p ok) one))))
+      ∙ omega arith
 
   next-first : (k : ℕ) → suc k ≡ numIndices p.grid → blocksOf p .next k ≡ 0
   next-first k l =
       let z : firstIndex p.grid 0 + k ≡ k = omega arith in
-      next-agrees p k (omega arith) ∙ (rw z at (next-round p.grid 0 k (omega (arith, all-indices p.grid (grid-accepted p ok) one)))) ∙ omega arith
+      next-agrees p k (omega arith)
+      ∙ (rw z at (next-round p.grid 0 k (omega (arith, all-indices p.grid (grid-accepted p ok) one))))
+      ∙ omega arith
 
   back-down : (n h : ℕ) → n ≤ h → h < numIndices p.grid → back (blocksOf p .previous) n h ≡ h - n
   back-down zero h l m = omega arith
   back-down (suc n) h l m =
       let e : suc (h - suc n) ≡ h - n = omega arith in
-      ap (blocksOf p .previous) (back-down n h (omega arith) m ∙ sym e ∙ sym (next-up (h - suc n) (omega arith))) ∙ blocksOf p .previous-next (h - suc n)
+      ap (blocksOf p .previous) (back-down n h (omega arith) m ∙ sym e ∙ sym (next-up (h - suc n) (omega arith)))
+      ∙ blocksOf p .previous-next (h - suc n)
 
-  -- a step that takes from an index before its own does not go round: it passes over the indices between, which are in U
-  module _ {U : ℕ → Bool} {h n : ℕ} (low : h < numIndices p.grid) (B : BackOutside (blocksOf p) U h n) (before : back (blocksOf p .previous) n h < h) where
+  -- a step that takes from an index before its own does not go round: it passes over the indices between, which are
+  -- in U
+  module _ {U : ℕ → Bool} {h n : ℕ} (low : h < numIndices p.grid) (B : BackOutside (blocksOf p) U h n)
+      (before : back (blocksOf p .previous) n h < h) where
     abbrev b : ℕ
     b = back (blocksOf p .previous) n h
 
@@ -69,61 +76,94 @@ module _ (p : Problem) (ok : Settled p) (one : numBlocks p.grid ≡ 1) where
     met k l = back-down (h - k) h (omega arith) low ∙ omega arith
 
     run-short : n ≤ h - b
-    run-short = ⊎-elim (λ (q : h - b < n). absurd-bool (sym (B .skipped (h - b) (omega arith) q) ∙ ap U (met b (omega arith)) ∙ B .stops)) (λ q. q) (before-or-not (h - b) n)
+    run-short = ⊎-elim
+        (λ (q : h - b < n).
+        absurd-bool (sym (B .skipped (h - b) (omega arith) q) ∙ ap U (met b (omega arith)) ∙ B .stops))
+        (λ q. q)
+        (before-or-not (h - b) n)
 
     passed-over : (k : ℕ) → b < k → k < h → U k ≡ true
-    passed-over k l m = sym (ap U (met k (omega arith))) ∙ B .skipped (h - k) (omega arith) (omega (arith, back-down n h (omega (arith, run-short)) low))
+    passed-over k l m = sym (ap U (met k (omega arith)))
+        ∙ B .skipped (h - k) (omega arith) (omega (arith, back-down n h (omega (arith, run-short)) low))
 
     first-kept : OnRun (blocksOf p) h n 0 → ⊥
     first-kept r = omega (arith, r .1, r .2, back-down (r .0) h (omega (arith, r .1, run-short)) low, run-short)
 
   -- the coordinates from an index on add up to what those of the start do, but for two coefficients
-  tail-by : (y : Point) (c : ℕ → ℕ) → OnRing (blocksOf p) c → ((k : ℕ) → k < numIndices p.grid → at y k ≡ coord (blocksOf p) c k) → (n i : ℕ) → i + suc n ≡ numIndices p.grid
+  tail-by : (y : Point) (c : ℕ → ℕ) → OnRing (blocksOf p) c
+      → ((k : ℕ) → k < numIndices p.grid → at y k ≡ coord (blocksOf p) c k) → (n i : ℕ) → i + suc n ≡ numIndices p.grid
       → sum (map (at y) (upFrom i (suc n))) + c 0 ≡ sum (map (at p.start) (upFrom i (suc n))) + c i
-  tail-by y c grid are zero i e = omega (arith, grid i, are i (omega arith), start-inside p i (omega arith), ap c (next-first i (omega arith)))
-  tail-by y c grid are (suc n) i e =
-      omega (arith, grid i, are i (omega arith), start-inside p i (omega arith), ap c (next-up i (omega arith)), tail-by y c grid are n (suc i) (omega arith))
+  tail-by y c grid are zero i e =
+      omega (arith, grid i, are i (omega arith), start-inside p i (omega arith), ap c (next-first i (omega arith)))
+  tail-by y c grid are (suc n) i e = omega (
+    arith,
+    grid i,
+    are i (omega arith),
+    start-inside p i (omega arith),
+    ap c (next-up i (omega arith)),
+    tail-by y c grid are n (suc i) (omega arith),
+  )
 
-  tail-is : (y : Point) (c : ℕ → ℕ) → OnRing (blocksOf p) c → ((k : ℕ) → k < numIndices p.grid → at y k ≡ coord (blocksOf p) c k) → (k : ℕ) → k < numIndices p.grid
+  tail-is : (y : Point) (c : ℕ → ℕ) → OnRing (blocksOf p) c
+      → ((k : ℕ) → k < numIndices p.grid → at y k ≡ coord (blocksOf p) c k) → (k : ℕ) → k < numIndices p.grid
       → tailFrom p.grid y k + c 0 ≡ tailFrom p.grid p.start k + c k
   tail-is y c grid are k l =
       let e : suc (numIndices p.grid - suc k) ≡ numIndices p.grid - k = omega arith in
-      subst (λ (n : ℕ). sum (map (at y) (upFrom k n)) + c 0 ≡ sum (map (at p.start) (upFrom k n)) + c k) e (tail-by y c grid are (numIndices p.grid - suc k) k (omega arith))
+      subst
+      (λ (n : ℕ). sum (map (at y) (upFrom k n)) + c 0 ≡ sum (map (at p.start) (upFrom k n)) + c k)
+      e (tail-by y c grid are (numIndices p.grid - suc k) k (omega arith))
 
 module _ {p : Problem} (ok : FullyLabelled p) (one : numBlocks p.grid ≡ 1)
     {T : ℕ → Bool} {t : ℕ} {o : ℕ → ℕ} {x : List (ℕ → ℕ)} {s : State} (D : Describes p T t o x s) where
   on-grid : (i : ℕ) → i ≤ t → isGridPoint p.grid (pointIn p s i) ≡ true
   on-grid i l = rw (point-is ok D i l) (point-on ok D.chain i l)
 
-  coordinate-is : (i : ℕ) → i ≤ t → (k : ℕ) → k < numIndices p.grid → at (pointIn p s i) k ≡ coord (blocksOf p) (listAt x i) k
+  coordinate-is : (i : ℕ) → i ≤ t → (k : ℕ) → k < numIndices p.grid
+      → at (pointIn p s i) k ≡ coord (blocksOf p) (listAt x i) k
   coordinate-is i l k m = getD-take (numIndices p.grid) _ k 0 m ∙ after-is ok D i l .1 k m
 
-  tail-at : (i : ℕ) → i ≤ t → (k : ℕ) → k < numIndices p.grid → tailFrom p.grid (pointIn p s i) k + listAt x i 0 ≡ tailFrom p.grid p.start k + listAt x i k
-  tail-at i l k m = tail-is p ok.settled one (pointIn p s i) (listAt x i) (D .chain .chain .grid i l) (coordinate-is i l) k m
+  tail-at : (i : ℕ) → i ≤ t → (k : ℕ) → k < numIndices p.grid
+      → tailFrom p.grid (pointIn p s i) k + listAt x i 0 ≡ tailFrom p.grid p.start k + listAt x i k
+  tail-at i l k m =
+      tail-is p ok.settled one (pointIn p s i) (listAt x i) (D .chain .chain .grid i l) (coordinate-is i l) k m
 
-  -- the first index's coefficient is 1 more than at the first point where the position is above the first's, and the same elsewhere
-  pub lag-is : (i : ℕ) → i ≤ t → listAt x i 0 ≡ listAt x 0 0 + cond (ltb (position p.grid (pointIn p s 0)) (position p.grid (pointIn p s i))) 1 0
+  -- the first index's coefficient is 1 more than at the first point where the position is above the first's, and the
+  -- same elsewhere
+  pub lag-is : (i : ℕ) → i ≤ t
+      → listAt x i 0 ≡ listAt x 0 0 + cond (ltb (position p.grid (pointIn p s 0)) (position p.grid (pointIn p s i))) 1 0
   lag-is i l =
       let K = D .chain .chain in
       let up = rise K 0 i (omega arith) l in
       let most = one-more-at-most K i l in
       ⊎-elim
       (λ (q : listAt x 0 0 < listAt x i 0).
-      let low = tails-order p.grid (grid-accepted p ok.settled) one (pointIn p s i) (pointIn p s 0) (on-grid i l) (on-grid 0 (omega arith))
+      let low = tails-order p.grid (grid-accepted p ok.settled) one (pointIn p s i) (pointIn p s 0) (on-grid i l)
+      (on-grid 0 (omega arith))
       (λ k m. omega (arith, tail-at i l k m, tail-at 0 (omega arith) k m, most k, most 0)) in
-      rw (lt-ltb (position p.grid (pointIn p s 0)) (position p.grid (pointIn p s i)) (omega (arith, low, apart q))) (omega (arith, most 0)))
+      rw (lt-ltb (position p.grid (pointIn p s 0)) (position p.grid (pointIn p s i)) (omega (arith, low, apart q)))
+      (omega (arith, most 0)))
       (λ (q : listAt x i 0 ≤ listAt x 0 0).
-      let low = tails-order p.grid (grid-accepted p ok.settled) one (pointIn p s 0) (pointIn p s i) (on-grid 0 (omega arith)) (on-grid i l)
+      let low = tails-order p.grid (grid-accepted p ok.settled) one (pointIn p s 0) (pointIn p s i)
+      (on-grid 0 (omega arith)) (on-grid i l)
       (λ k m. omega (arith, tail-at i l k m, tail-at 0 (omega arith) k m, up k, up 0)) in
-      rw (le-ltb (position p.grid (pointIn p s 0)) (position p.grid (pointIn p s i)) low) (omega (arith, up 0))) (before-or-not (listAt x 0 0) (listAt x i 0))
+      rw (le-ltb (position p.grid (pointIn p s 0)) (position p.grid (pointIn p s i)) low) (omega (arith, up 0)))
+      (before-or-not (listAt x 0 0) (listAt x i 0))
     where
       apart : listAt x 0 0 < listAt x i 0 → position p.grid (pointIn p s 0) ≡ position p.grid (pointIn p s i) → ⊥
       apart q e =
           let K = D .chain .chain in
           let f = K .free 0 in
           let low : f .0 < numIndices p.grid = in-block ok D.round 0 f.0 (omega (arith, few ok D.chain)) f.1 in
-          let same = position-tells p.grid (grid-accepted p ok.settled) (pointIn p s 0) (pointIn p s i) (on-grid 0 (omega arith)) (on-grid i l) e in
-          omega (arith, tail-at i l f.0 low, tail-at 0 (omega arith) f.0 low, ap (λ y. tailFrom p.grid y f.0) same, free-zero K f.0 f.2 f.3 i l, free-zero K f.0 f.2 f.3 0 (omega arith))
+          let same = position-tells p.grid (grid-accepted p ok.settled) (pointIn p s 0) (pointIn p s i)
+          (on-grid 0 (omega arith)) (on-grid i l) e in
+          omega (
+            arith,
+            tail-at i l f.0 low,
+            tail-at 0 (omega arith) f.0 low,
+            ap (λ y. tailFrom p.grid y f.0) same,
+            free-zero K f.0 f.2 f.3 i l,
+            free-zero K f.0 f.2 f.3 0 (omega arith),
+          )
 
   module _ (j : ℕ) (l : j < t) (before : sourceAt s j < stepAt s j) where
     order-at : at s.order j ≡ o j
@@ -133,7 +173,8 @@ module _ {p : Problem} (ok : FullyLabelled p) (one : numBlocks p.grid ≡ 1)
     low = order-below ok D j l
 
     -- how far back the index is that the step takes from
-    source : (n : ℕ) × (n ≤ 16) × BackOutside (blocksOf p) (zeros (blocksOf p) T (listAt x 0)) (o j) n × (sourceIn s (o j) ≡ back (blocksOf p .previous) n (o j))
+    source : (n : ℕ) × (n ≤ 16) × BackOutside (blocksOf p) (zeros (blocksOf p) T (listAt x 0)) (o j) n
+        × (sourceIn s (o j) ≡ back (blocksOf p .previous) n (o j))
     source = source-from ok D (o j) low
 
     not-round : back (blocksOf p .previous) (source .0) (o j) < o j
@@ -141,9 +182,13 @@ module _ {p : Problem} (ok : FullyLabelled p) (one : numBlocks p.grid ≡ 1)
 
     -- the first index keeps its coefficient
     pub first-same : listAt x (suc j) 0 ≡ listAt x j 0
-    first-same = ⊎-elim (λ e. e) (λ r. absurd (first-kept p ok.settled one low (source .2) not-round r)) (next-else (D .chain .chain) j l (source .2) 0)
+    first-same = ⊎-elim
+        (λ e. e)
+        (λ r. absurd (first-kept p ok.settled one low (source .2) not-round r))
+        (next-else (D .chain .chain) j l (source .2) 0)
 
-    falls-at : Falls p.grid (pointIn p s j) (pointIn p s (suc j)) (stepAt s j) (sourceAt s j) (tailFrom p.grid (pointIn p s j) (at s.order j))
+    falls-at : Falls p.grid (pointIn p s j) (pointIn p s (suc j)) (stepAt s j) (sourceAt s j)
+        (tailFrom p.grid (pointIn p s j) (at s.order j))
     falls-at = record {
       one = one;
       here = on-grid j (omega arith);
@@ -152,11 +197,15 @@ module _ {p : Problem} (ok : FullyLabelled p) (one : numBlocks p.grid ≡ 1)
       low = rw order-at low;
       before = before;
       between = λ k u w. coordinate-is j (omega arith) k (omega (arith, low, order-at))
-          ∙ chain-place (D .chain .chain) .unused k (passed-over p ok.settled one low (source .2) not-round k (omega (arith, source .3, ap (sourceIn s) order-at)) (omega (arith, order-at))) j (omega arith);
+          ∙ chain-place (D .chain .chain) .unused k
+          (passed-over p ok.settled one low (source .2) not-round k (omega (arith, source .3, ap (sourceIn s) order-at))
+          (omega (arith, order-at)))
+          j (omega arith);
       tail = refl;
     }
 
-    pub falling : (tails : List ℕ) → ((k : ℕ) → k < numIndices p.grid → at tails k ≡ tailFrom p.grid p.start k) → (lag : ℕ) → listAt x j 0 ≡ listAt x 0 0 + lag
+    pub falling : (tails : List ℕ) → ((k : ℕ) → k < numIndices p.grid → at tails k ≡ tailFrom p.grid p.start k)
+        → (lag : ℕ) → listAt x j 0 ≡ listAt x 0 0 + lag
         → Falling p.grid tails s j lag
     falling tails are lag e = record {
       falls = falls-at;

@@ -1,4 +1,5 @@
--- The points of a place, one step after another, the steps counted from 16 on, and the numbers of the points in a row. Assumes nothing.
+-- The points of a place, one step after another, the steps counted from 16 on, and the numbers of the points in a row.
+-- Assumes nothing.
 use mathlib.Core.List.{List, _++_, map, append-nil, append-assoc}
 use mathlib.Core.Logic.{⊎-elim}
 use mathlib.Core.Path.{_≡_, refl, sym, ap, _∙_}
@@ -36,8 +37,9 @@ module _ (from : ℕ → ℕ) (order first : List ℕ) where
   after-taken n zero l = refl
   after-taken n (suc i) l = rw (after-taken n i (omega arith), getD-take n order i 0 (omega arith))
 
-  pub step-ready : (n i k h b : ℕ) (y : List ℕ) → k < i → i ≤ n → ReadyPoint from (take n order) first i → y ≡ pointAfter from order first k → h ≡ at order k
-      → b ≡ from h → (at y h < 65535) × (1 ≤ at y b)
+  pub step-ready : (n i k h b : ℕ) (y : List ℕ) → k < i → i ≤ n → ReadyPoint from (take n order) first i
+      → y ≡ pointAfter from order first k → h ≡ at order k → b ≡ from h
+      → (at y h < 65535) × (1 ≤ at y b)
   step-ready n i k h b y l m r e f g =
       let atH : h ≡ at (take n order) k = entry order n k h (omega arith) f in
       let point : y ≡ pointAfter from (take n order) first k = e ∙ after-taken n k (omega arith) in
@@ -63,17 +65,25 @@ module _ (from : ℕ → ℕ) (order first : List ℕ) where
   pub length-after : (i : ℕ) → length (pointAfter from order first i) ≡ length first
   unfolding pointAfter
   length-after zero = refl
-  length-after (suc i) = length-shifted (pointAfter from order first i) (at order i) (from (at order i)) ∙ length-after i
+  length-after (suc i) =
+      length-shifted (pointAfter from order first i) (at order i) (from (at order i)) ∙ length-after i
 
   pub earlier-ready : (i j : ℕ) → i ≤ j → ReadyPoint from order first j → ReadyPoint from order first i
-  earlier-ready i j l r =
-      record { low = omega (arith, r .low); few = r .few; indices = r .indices; positive = λ k m. r .positive k (omega arith); fits = λ k m. r .fits k (omega arith) }
+  earlier-ready i j l r = record {
+    low = omega (arith, r .low);
+    few = r .few;
+    indices = r .indices;
+    positive = λ k m. r .positive k (omega arith);
+    fits = λ k m. r .fits k (omega arith);
+  }
 
 -- an exchange of two steps leaves the points before them
-pub after-swapped : (from : ℕ → ℕ) (order first : List ℕ) (e i : ℕ) → i ≤ e → pointAfter from (swapAt e order) first i ≡ pointAfter from order first i
+pub after-swapped : (from : ℕ → ℕ) (order first : List ℕ) (e i : ℕ) → i ≤ e
+    → pointAfter from (swapAt e order) first i ≡ pointAfter from order first i
 unfolding pointAfter
 after-swapped from order first e zero l = refl
-after-swapped from order first e (suc i) l = rw (swapAt-else 0 e order i (λ q. omega arith) (λ q. omega arith), after-swapped from order first e i (omega arith))
+after-swapped from order first e (suc i) l =
+    rw (swapAt-else 0 e order i (λ q. omega arith) (λ q. omega arith), after-swapped from order first e i (omega arith))
 
 -- the same steps from two points, and from 16 everywhere
 module _ (source : ℕ → ℕ) (order : List ℕ) where
@@ -88,16 +98,19 @@ module _ (source : ℕ → ℕ) (order : List ℕ) where
   from j = source (at order j)
 
   -- both points change alike
-  after-alike : (y z : List ℕ) (i : ℕ) → ReadyAfter y i → ReadyAfter z i → (k : ℕ) → k < length y → k < length z → at (after y i) k + at z k ≡ at y k + at (after z i) k
+  after-alike : (y z : List ℕ) (i : ℕ) → ReadyAfter y i → ReadyAfter z i → (k : ℕ) → k < length y → k < length z
+      → at (after y i) k + at z k ≡ at y k + at (after z i) k
   unfolding pointAfter
   after-alike y z zero r q k l m = omega arith
-  after-alike y z (suc i) r q k l m =
-      omega (
-        arith,
-        shifted-at (after y i) (at order i) (from i) (r .positive i (omega arith)) k (omega (arith, length-after source order y i)),
-        shifted-at (after z i) (at order i) (from i) (q .positive i (omega arith)) k (omega (arith, length-after source order z i)),
-        after-alike y z i (earlier-ready source order y i (suc i) (omega arith) r) (earlier-ready source order z i (suc i) (omega arith) q) k l m,
-      )
+  after-alike y z (suc i) r q k l m = omega (
+    arith,
+    shifted-at (after y i) (at order i) (from i) (r .positive i (omega arith)) k
+        (omega (arith, length-after source order y i)),
+    shifted-at (after z i) (at order i) (from i) (q .positive i (omega arith)) k
+        (omega (arith, length-after source order z i)),
+    after-alike y z i (earlier-ready source order y i (suc i) (omega arith) r)
+        (earlier-ready source order z i (suc i) (omega arith) q) k l m,
+  )
 
   module _ (first : List ℕ) (long : length first ≡ 16) where
     -- the steps counted from 16 on
@@ -106,19 +119,26 @@ module _ (source : ℕ → ℕ) (order : List ℕ) where
 
     -- where a point has 1 to take, it has a number
     from-below : (i j : ℕ) → j < i → ReadyAfter first i → from j < 16
-    from-below i j l r =
-        ⊎-elim (λ (m : from j < 16). m)
-        (λ m. absurd (omega (arith, r .positive j l, List·getD-eq-default (after first j) 0 {n = from j} (omega (arith, length-after source order first j)))))
+    from-below i j l r = ⊎-elim
+        (λ (m : from j < 16). m)
+        (λ m. absurd (omega (
+          arith,
+          r .positive j l,
+          List·getD-eq-default (after first j) 0 {n = from j} (omega (arith, length-after source order first j)),
+        )))
         (before-or-not (from j) 16)
 
     -- each step changes a count by at most 1
-    counts-near : (i : ℕ) → ReadyAfter first i → (k : ℕ) → k < 16 → (16 ≤ at (counts i) k + i) × (at (counts i) k ≤ 16 + i)
+    counts-near : (i : ℕ) → ReadyAfter first i → (k : ℕ) → k < 16
+        → (16 ≤ at (counts i) k + i) × (at (counts i) k ≤ 16 + i)
     unfolding pointAfter
     counts-near zero r k l = let e = getD-replicate {A = ℕ} 16 k 16 0 l in (omega arith, omega arith)
     counts-near (suc i) r k l =
         let near = counts-near i (earlier-ready source order first i (suc i) (omega arith) r) in
-        let some : 0 < at (counts i) (from i) = omega (arith, near (from i) (from-below (suc i) i (omega arith) r), r .low, r .few) in
-        let changed = shifted-at (counts i) (at order i) (from i) some k (omega (arith, length-after source order (replicate 16 16) i)) in
+        let some : 0 < at (counts i) (from i) =
+        omega (arith, near (from i) (from-below (suc i) i (omega arith) r), r .low, r .few) in
+        let changed = shifted-at (counts i) (at order i) (from i) some k
+        (omega (arith, length-after source order (replicate 16 16) i)) in
         let n = near k l in
         (omega (arith, at-most-one (from i) k), omega (arith, at-most-one (at order i) k))
 
@@ -137,8 +157,13 @@ module _ (source : ℕ → ℕ) (order : List ℕ) where
         near j l = counts-near j (earlier-ready source order first j i (omega arith) r)
 
     -- the first point and the counts make the point after the steps
-    pub counts-add : (i : ℕ) → ReadyAfter first i → (k : ℕ) → k < 16 → at (after first i) k + 16 ≡ at first k + at (counts i) k
-    counts-add i r k l = omega (arith, after-alike first (replicate 16 16) i r (counts-ready i r) k (omega arith) l, getD-replicate {A = ℕ} 16 k 16 0 l)
+    pub counts-add : (i : ℕ) → ReadyAfter first i → (k : ℕ) → k < 16
+        → at (after first i) k + 16 ≡ at first k + at (counts i) k
+    counts-add i r k l = omega (
+      arith,
+      after-alike first (replicate 16 16) i r (counts-ready i r) k (omega arith) l,
+      getD-replicate {A = ℕ} 16 k 16 0 l,
+    )
 
 -- the numbers of k points, from number b on
 module _ (f : ℕ → List ℕ) where
@@ -149,7 +174,8 @@ module _ (f : ℕ → List ℕ) where
   one-more-row b zero = let z : b + 0 ≡ b = omega arith in rw z (sym (append-nil (f b)))
   one-more-row b (suc k) =
       let z : b + suc k ≡ suc b + k = omega arith in
-      rw z (append-assoc (f b) (inRow (suc b) k) (f (suc b + k)) ∙ ap (λ (l : List ℕ). f b ++ l) (one-more-row (suc b) k))
+      rw z
+      (append-assoc (f b) (inRow (suc b) k) (f (suc b + k)) ∙ ap (λ (l : List ℕ). f b ++ l) (one-more-row (suc b) k))
 
   length-inRow : (m b k : ℕ) → ((i : ℕ) → length (f i) ≡ m) → length (inRow b k) ≡ k * m
   length-inRow m b zero h = omega arith
@@ -161,7 +187,8 @@ same-rows f g b zero h = refl
 same-rows f g b (suc k) h = rw (h b (omega arith), same-rows f g (suc b) k (λ j l. h j (omega arith)))
 
 -- the first m numbers of a longer list, as a list of their own
-paste-taken : (old row : List ℕ) (i m : ℕ) → m ≤ length row → paste old i row m ≡ paste old i (take m row) (length (take m row))
+paste-taken : (old row : List ℕ) (i m : ℕ) → m ≤ length row
+    → paste old i row m ≡ paste old i (take m row) (length (take m row))
 paste-taken old row i m l = rw (take-length, length-take-le m row l)
 
 pub room : (k n m long : ℕ) → k < n → n * m ≤ long → k * m + m ≤ long
@@ -172,7 +199,8 @@ next-position i b m position l e = let k : i + 1 - b ≡ suc (i - b) = omega ari
 
 -- the points from number b on at the front of a buffer, and one more stored behind them
 module _ (f : ℕ → List ℕ) (m b : ℕ) (long : (i : ℕ) → length (f i) ≡ m) where
-  pub row-put : (i position : ℕ) (new old y : List ℕ) → b ≤ i → new ≡ front (inRow f b (i - b)) old → position ≡ (i - b) * m → (i - b) * m + m ≤ length old → m ≤ length y → take m y ≡ f i
+  pub row-put : (i position : ℕ) (new old y : List ℕ) → b ≤ i → new ≡ front (inRow f b (i - b)) old
+      → position ≡ (i - b) * m → (i - b) * m + m ≤ length old → m ≤ length y → take m y ≡ f i
       → paste new position y m ≡ front (inRow f b (i + 1 - b)) old
   row-put i position new old y l n e fits short row =
       let k : i + 1 - b ≡ suc (i - b) = omega arith in
@@ -180,4 +208,6 @@ module _ (f : ℕ → List ℕ) (m b : ℕ) (long : (i : ℕ) → length (f i) �
       let behind : position ≡ length (inRow f b (i - b)) = e ∙ sym (length-inRow f m b (i - b) long) in
       let enough : position + length (f i) ≤ length old = rw (long i, e) fits in
       let more = rw here at (one-more-row f b (i - b)) in
-      paste-taken new y position m short ∙ rw (row, n, k) (front-paste (inRow f b (i - b)) old (f i) position behind enough ∙ ap (λ (l : List ℕ). front l old) more)
+      paste-taken new y position m short
+      ∙ rw (row, n, k)
+      (front-paste (inRow f b (i - b)) old (f i) position behind enough ∙ ap (λ (l : List ℕ). front l old) more)

@@ -19,7 +19,8 @@ use Rattle.place.proofs.Filled.{FullyLabelled, full-label}
 use Rattle.place.specs.Problem.{Problem, label}
 use Rattle.rules.proofs.Describes.{labelsOf}
 
-pub nth-pointsOf : (p : Problem) (x : List (ℕ → ℕ)) (j : ℕ) → j < length x → nth (pointsOf p x) j ≡ pointOf p (listAt x j)
+pub nth-pointsOf : (p : Problem) (x : List (ℕ → ℕ)) (j : ℕ) → j < length x
+    → nth (pointsOf p x) j ≡ pointOf p (listAt x j)
 nth-pointsOf p [] j l = absurd (omega arith)
 nth-pointsOf p (c ∷ x) zero l = refl
 nth-pointsOf p (c ∷ x) (suc j) l = nth-pointsOf p x j (omega arith)
@@ -33,10 +34,18 @@ module _ {p : Problem} (ok : FullyLabelled p) {T : ℕ → Bool} {t : ℕ} {o : 
   pub few : t < numIndices p.grid
   few =
       let h = place-of ok.settled S in
-      omega (arith, order-short p (pointsOf p x) h, place-long ok.settled (pointsOf p x) h, long ok.settled S, ok .settled .someBlock, index-some)
+      omega (
+        arith,
+        order-short p (pointsOf p x) h,
+        place-long ok.settled (pointsOf p x) h,
+        long ok.settled S,
+        ok .settled .someBlock,
+        index-some,
+      )
     where
       index-some : 0 < numIndices p.grid
-      index-some = omega (arith, index-is (numIndices p.grid) (label p p.start) (full-label ok p.start ok.settled.start) .1)
+      index-some =
+          omega (arith, index-is (numIndices p.grid) (label p p.start) (full-label ok p.start ok.settled.start) .1)
 
   pub point-on : (j : ℕ) → j ≤ t → isGridPoint p.grid (nth (pointsOf p x) j) ≡ true
   point-on j l = grid-at ok.settled (pointsOf p x) (pointsOf-grid ok.settled S) j (omega (arith, long ok.settled S))
@@ -62,9 +71,11 @@ module _ {p : Problem} (ok : FullyLabelled p) {T : ℕ → Bool} {t : ℕ} {o : 
       )
 
   index-of : (j : ℕ) → j ≤ t → labelsOf p x j ≡ indexOf (numIndices p.grid) (label p (nth (pointsOf p x) j))
-  index-of j l = ap (λ (y : Point). indexOf (numIndices p.grid) (label p y)) (sym (nth-pointsOf p x j (omega (arith, S .size))))
+  index-of j l =
+      ap (λ (y : Point). indexOf (numIndices p.grid) (label p y)) (sym (nth-pointsOf p x j (omega (arith, S .size))))
 
-  named : (j : ℕ) → j ≤ t → (suc (indexOf (numIndices p.grid) (label p (nth (pointsOf p x) j))) ≡ label p (nth (pointsOf p x) j))
+  named : (j : ℕ) → j ≤ t
+      → (suc (indexOf (numIndices p.grid) (label p (nth (pointsOf p x) j))) ≡ label p (nth (pointsOf p x) j))
       × (indexOf (numIndices p.grid) (label p (nth (pointsOf p x) j)) < numIndices p.grid)
   named j l = index-is _ _ (full-label ok _ (point-on j l))
 

@@ -12,19 +12,23 @@ use Rattle.rules.specs.Mask.{bit}
 
 bit-half : (a k : ℕ) → bit (a / 2) k ≡ bit a (suc k)
 unfolding bit
-bit-half a k = ap (λ (x : ℕ). eqb (x % 2) 1) (div-div-eq-div-mul a 2 (2 ^ k) ∙ ap (λ (x : ℕ). a / x) (sym (pow-succ' 2 k)))
+bit-half a k =
+    ap (λ (x : ℕ). eqb (x % 2) 1) (div-div-eq-div-mul a 2 (2 ^ k) ∙ ap (λ (x : ℕ). a / x) (sym (pow-succ' 2 k)))
 
 last-bit : (a b : ℕ) → bit a 0 ≡ bit b 0 → a % 2 ≡ b % 2
 unfolding bit
-last-bit a b e =
-    ⊎-elim (λ (t : eqb (b / 2 ^ 0 % 2) 1 ≡ true). omega (arith, eqb-true (b / 2 ^ 0 % 2) 1 t, eqb-true (a / 2 ^ 0 % 2) 1 (e ∙ t)))
-    (λ (f : eqb (b / 2 ^ 0 % 2) 1 ≡ false). omega (arith, eqb-false (b / 2 ^ 0 % 2) 1 f, eqb-false (a / 2 ^ 0 % 2) 1 (e ∙ f)))
+last-bit a b e = ⊎-elim
+    (λ (t : eqb (b / 2 ^ 0 % 2) 1 ≡ true).
+    omega (arith, eqb-true (b / 2 ^ 0 % 2) 1 t, eqb-true (a / 2 ^ 0 % 2) 1 (e ∙ t)))
+    (λ (f : eqb (b / 2 ^ 0 % 2) 1 ≡ false).
+    omega (arith, eqb-false (b / 2 ^ 0 % 2) 1 f, eqb-false (a / 2 ^ 0 % 2) 1 (e ∙ f)))
     (true-or-false (eqb (b / 2 ^ 0 % 2) 1))
 
 same-from : (n a b : ℕ) → a < 2 ^ n → b < 2 ^ n → ((k : ℕ) → k < n → bit a k ≡ bit b k) → a ≡ b
 same-from zero a b la lb e = omega arith
 same-from (suc n) a b la lb e =
-    let q : a / 2 ≡ b / 2 = same-from n (a / 2) (b / 2) (omega arith) (omega arith) (λ k l. bit-half a k ∙ e (suc k) (omega arith) ∙ sym (bit-half b k)) in
+    let q : a / 2 ≡ b / 2 = same-from n (a / 2) (b / 2) (omega arith) (omega arith)
+    (λ k l. bit-half a k ∙ e (suc k) (omega arith) ∙ sym (bit-half b k)) in
     let r : a % 2 ≡ b % 2 = last-bit a b (e 0 (omega arith)) in
     omega arith
 

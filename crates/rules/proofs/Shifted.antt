@@ -13,7 +13,10 @@ use Rattle.grid.specs.Grid.{at}
 use Rattle.rules.specs.Step.{shifted}
 
 pub at-most-one : (b k : ℕ) → one-at b k ≤ 1
-at-most-one b k = ⊎-elim (λ (e : k ≡ b). rw (eq-eqb k b e) (omega arith)) (λ (n : k ≡ b → ⊥). rw (ne-eqb k b n) (omega arith)) (same-or k b)
+at-most-one b k = ⊎-elim
+    (λ (e : k ≡ b). rw (eq-eqb k b e) (omega arith))
+    (λ (n : k ≡ b → ⊥). rw (ne-eqb k b n) (omega arith))
+    (same-or k b)
 
 module _ (y : List ℕ) (h b : ℕ) where
   pub length-shifted : length (shifted y h b) ≡ length y
@@ -30,11 +33,14 @@ module _ (y : List ℕ) (h b : ℕ) where
       z = set y h (at y h + 1)
 
       raised : (k : ℕ) → k < length y → at z k ≡ at y k + one-at h k
-      raised k l =
-          ⊎-elim (λ (e : k ≡ h). let m : h < length y = omega arith in rw (e, eq-eqb h h refl) (getD-set-same y h (at y h + 1) 0 m))
+      raised k l = ⊎-elim
+          (λ (e : k ≡ h).
+          let m : h < length y = omega arith in
+          rw (e, eq-eqb h h refl) (getD-set-same y h (at y h + 1) 0 m))
           (λ (n : k ≡ h → ⊥). rw (ne-eqb k h n) (omega (arith, getD-set-other y h k (at y h + 1) 0 n)))
           (same-or k h)
 
   -- the first m numbers
-  pub shifted-moved : (m : ℕ) → 0 < at y b → m ≤ length y → (k : ℕ) → k < m → at (take m (shifted y h b)) k + one-at b k ≡ at (take m y) k + one-at h k
+  pub shifted-moved : (m : ℕ) → 0 < at y b → m ≤ length y → (k : ℕ) → k < m
+      → at (take m (shifted y h b)) k + one-at b k ≡ at (take m y) k + one-at h k
   shifted-moved m g l k i = rw (getD-take m (shifted y h b) k 0 i, getD-take m y k 0 i) (shifted-at g k (omega arith))

@@ -1,5 +1,5 @@
--- Point e + 1 leaves, and index e of the order goes with it: the state that `shrink` makes describes the facet, a place over T less that index,
--- and the point that carries the index as its label leaves next. Assumes nothing.
+-- Point e + 1 leaves, and index e of the order goes with it: the state that `shrink` makes describes the facet, a place
+-- over T less that index, and the point that carries the index as its label leaves next. Assumes nothing.
 use mathlib.Core.Bool.{Bool, true, false, cond}
 use mathlib.Core.List.{List, map}
 use mathlib.Core.Logic.{⊎-elim}
@@ -52,12 +52,17 @@ module _ (R : Blocks) {T T' : ℕ → Bool} {b : ℕ} (small : Less T T' b) (l :
       else true q = rw (ne-eqb k b q) at (bit-with mask b k l m)
       else false q = refl
 
-module _ {p : Problem} (ok : FullyLabelled p) {T : ℕ → Bool} {n : ℕ} {o : ℕ → ℕ} {x : List (ℕ → ℕ)} {s : State} (D : Describes p T (suc n) o x s)
-    (L : AllMarks p (suc n) x s) {e : ℕ} (l : e ≤ n)
-    (c : Carries T (suc n) (labelsOf p x) (suc e)) {T' : ℕ → Bool} (F : Dropped (blocksOf p) T n (listAt x) (suc e) (o e) T' (omit e o))
-    (intoU : Bool) (into : eqb (coord (blocksOf p) (listAt x 0) (o e)) 0 ≡ intoU) where
+module _ {p : Problem} (ok : FullyLabelled p) {T : ℕ → Bool} {n : ℕ} {o : ℕ → ℕ} {x : List (ℕ → ℕ)} {s : State}
+    (D : Describes p T (suc n) o x s) (L : AllMarks p (suc n) x s) {e : ℕ} (l : e ≤ n)
+    (c : Carries T (suc n) (labelsOf p x) (suc e)) {T' : ℕ → Bool}
+    (F : Dropped (blocksOf p) T n (listAt x) (suc e) (o e) T' (omit e o)) (intoU : Bool)
+    (into : eqb (coord (blocksOf p) (listAt x 0) (o e)) 0 ≡ intoU) where
   leaving-below : o e < 16
-  leaving-below = omega (arith, index-below ok D.chain (o e) (D .chain .chain .order .within e (omega arith)), ok .settled .sixteenIndices)
+  leaving-below = omega (
+    arith,
+    index-below ok D.chain (o e) (D .chain .chain .order .within e (omega arith)),
+    ok .settled .sixteenIndices,
+  )
 
   y : List (ℕ → ℕ)
   y = tabulate (suc n) F.facet
@@ -77,9 +82,11 @@ module _ {p : Problem} (ok : FullyLabelled p) {T : ℕ → Bool} {n : ℕ} {o : 
   first = points 0 (omega arith) ∙ F .omitsHere .lower 0 (omega arith) (omega arith)
 
   order-at : (j : ℕ) → j < n → at (removeAt e s.order) j ≡ omit e o j
-  order-at j m =
-      ⊎-elim (λ (q : j < e). removeAt-before 0 e s.order j q ∙ D .orderAt j (omega arith) ∙ sym (omit-is n e o .lower j m q))
-      (λ (q : e ≤ j). removeAt-behind 0 e s.order j q ∙ D .orderAt (suc j) (omega arith) ∙ sym (omit-is n e o .upper j m q)) (before-or-not j e)
+  order-at j m = ⊎-elim
+      (λ (q : j < e). removeAt-before 0 e s.order j q ∙ D .orderAt j (omega arith) ∙ sym (omit-is n e o .lower j m q))
+      (λ (q : e ≤ j).
+      removeAt-behind 0 e s.order j q ∙ D .orderAt (suc j) (omega arith) ∙ sym (omit-is n e o .upper j m q))
+      (before-or-not j e)
 
   marks-at : (j : ℕ) → j ≤ n → at (removeAt (suc e) s.marks) j ≡ markAt p (listAt y j)
   marks-at j m =
@@ -105,7 +112,8 @@ module _ {p : Problem} (ok : FullyLabelled p) {T : ℕ → Bool} {n : ℕ} {o : 
     coefficientsLength = D .coefficientsLength;
     coefficientsAt = λ k m. D .coefficientsAt k m ∙ ap (λ (z : ℕ → ℕ). z k) (sym first);
     inT = λ k m. rw index (without-less (blocksOf p) F.small leaving-below s.T k m (D .inT k m));
-    inU = λ k m. rw (index, first) (zeros-less (blocksOf p) F.small leaving-below s.U k m (listAt x 0) intoU into (D .inU k m));
+    inU = λ k m.
+        rw (index, first) (zeros-less (blocksOf p) F.small leaving-below s.U k m (listAt x 0) intoU into (D .inU k m));
     marksLength = marks-long;
   }
 
@@ -119,7 +127,9 @@ module _ {p : Problem} (ok : FullyLabelled p) {T : ℕ → Bool} {n : ℕ} {o : 
 
   label-at : (j : ℕ) → j ≤ n → at labels j ≡ suc (labelsOf p y j)
   unfolding labels
-  label-at j m = labels-in (removeAt (suc e) s.marks) j (omega (arith, marks-long)) ∙ ap markLabel (marks-at j m) ∙ mark-label ok beneath.place j m
+  label-at j m = labels-in (removeAt (suc e) s.marks) j (omega (arith, marks-long))
+      ∙ ap markLabel (marks-at j m)
+      ∙ mark-label ok beneath.place j m
 
   lost : Found (suc (o e)) 16 labels (found (suc (o e)) 16 labels)
   lost =
@@ -128,7 +138,8 @@ module _ {p : Problem} (ok : FullyLabelled p) {T : ℕ → Bool} {n : ℕ} {o : 
       (λ q. omega (arith, w .1, few ok D.chain, ok .settled .sixteenIndices))
 
   lost-label : labelsOf p y (found (suc (o e)) 16 labels) ≡ o e
-  lost-label = omega (arith, label-at (found (suc (o e)) 16 labels) (omega (arith, lost .inside, labels-long)), lost .is)
+  lost-label =
+      omega (arith, label-at (found (suc (o e)) 16 labels) (omega (arith, lost .inside, labels-long)), lost .is)
 
   came : Came p T' n y (shrink s (suc e) e intoU) (some x)
   unfolding shrink labels
@@ -146,4 +157,8 @@ module _ {p : Problem} (ok : FullyLabelled p) {T : ℕ → Bool} {n : ℕ} {o : 
       eight false = omega arith
 
   pub shrunk : GoesOn p T n x (suc e) (shrink s (suc e) e intoU)
-  shrunk = (y, beneath .through, record { T = T'; t = n; o = omit e o; describes = describes; came = came; link = beneath .link })
+  shrunk = (
+    y,
+    beneath .through,
+    record { T = T'; t = n; o = omit e o; describes = describes; came = came; link = beneath .link },
+  )

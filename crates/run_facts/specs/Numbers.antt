@@ -10,15 +10,17 @@ abbrev pub kindNumber : Kind → ℕ
 kindNumber Place = 0
 kindNumber Facet = 1
 
--- "A refusal returns its number"; "A budget is called spent by number 9"; 16 where a label is not yet known; 0 at an end
+-- "A refusal returns its number"; "A budget is called spent by number 9"; 16 where a label is not yet known; 0 at
+-- an end
 abbrev pub runNumber : Answer → ℕ
 runNumber (Refused number) = number
 runNumber (Spent places) = 9
 runNumber (Unknown places position) = 16
 runNumber (End places read kind block vertices) = 0
 
--- "The answer has the places, the kind of end, the block, the number of vertices"; "Number 9 also returns the places visited"; 16 "the places
--- visited before it and the point's position in the table"; a refusal "no count". Request 10: the labels read stand after the places.
+-- "The answer has the places, the kind of end, the block, the number of vertices"; "Number 9 also returns the places
+-- visited"; 16 "the places visited before it and the point's position in the table"; a refusal "no count". Request 10:
+-- the labels read stand after the places.
 abbrev pub runFacts : Answer → List ℕ
 runFacts (Refused number) = []
 runFacts (Spent places) = places ∷ []

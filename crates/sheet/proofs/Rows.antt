@@ -28,10 +28,12 @@ length-below (suc n) = rw (length-append, length-below n) (omega arith)
 pub length-rows : (count m : ℕ) (buffer : List ℕ) → length (rows count m buffer) ≡ count
 length-rows count m buffer = length-map (below count) _ ∙ length-below count
 
-pub rows-more : (k m : ℕ) (buffer : List ℕ) → rows (k + 1) m buffer ≡ rows k m buffer ++ (take m (drop (k * m) buffer) ∷ [])
+pub rows-more : (k m : ℕ) (buffer : List ℕ)
+    → rows (k + 1) m buffer ≡ rows k m buffer ++ (take m (drop (k * m) buffer) ∷ [])
 rows-more k m buffer = rw (add-one, map-append)
 
-pub flatMap-more : {A : Type 0} (f : A → List ℕ) (xs : List A) (x : A) → flatMap f (xs ++ (x ∷ [])) ≡ flatMap f xs ++ f x
+pub flatMap-more : {A : Type 0} (f : A → List ℕ) (xs : List A) (x : A)
+    → flatMap f (xs ++ (x ∷ [])) ≡ flatMap f xs ++ f x
 unfolding flatMap
 flatMap-more f [] x = append-nil (f x)
 flatMap-more f (y ∷ xs) x = rw (flatMap-more f xs x) (sym (append-assoc (f y) (flatMap f xs) (f x)))

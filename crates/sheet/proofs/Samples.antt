@@ -7,7 +7,8 @@ use Rattle.text.specs.Line.{spaced}
 use Rattle.sheet.specs.Sheet.{vertexLine, centreLine, endSheet, refusedSheet, spentSheet, unknownSheet}
 use Rattle.sheet.specs.declared.Kind.the-variants.{Facet}
 
--- "For the bytes 4 2 2 2 1 0 1 0 2 2 2 4 it prints", with request 10's "labels read" after "places", 4 there: each line of the sheet on a line of its own, the last on two
+-- "For the bytes 4 2 2 2 1 0 1 0 2 2 2 4 it prints", with request 10's "labels read" after "places", 4 there: each line
+-- of the sheet on a line of its own, the last on two
 pub printed
     : endSheet 5 4 68 Facet 1 ((0 ∷ 1 ∷ 1 ∷ 0 ∷ []) ∷ []) (1 ∷ 1 ∷ 1 ∷ 1 ∷ [])
     ≡ 112 ∷ 108 ∷ 97 ∷ 99 ∷ 101 ∷ 115 ∷ 32 ∷ 53 ∷ 10 ∷

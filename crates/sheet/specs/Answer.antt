@@ -4,11 +4,13 @@ use Prim.Native.Nat.{ℕ, _*_, _≤_, _<_}
 use lib.ListN.{length, getD, take, drop}
 use Rattle.sheet.specs.Lists.{below}
 
--- "the vertices in rising coefficient sum, m 16-bit numbers each, at the front of the answer buffer": vertex k, counted from 0, begins at k times m
+-- "the vertices in rising coefficient sum, m 16-bit numbers each, at the front of the answer buffer": vertex k, counted
+-- from 0, begins at k times m
 abbrev pub rows : ℕ → ℕ → List ℕ → List (List ℕ)
 rows count m buffer = map (λ k. take m (drop (k * m) buffer)) (below count)
 
--- An answer that the sheet has room for: 1 to 16 vertices, 1 to 16 indices, a division of at least 1 for each index, and all vertices in the buffer.
+-- An answer that the sheet has room for: 1 to 16 vertices, 1 to 16 indices, a division of at least 1 for each index,
+-- and all vertices in the buffer.
 pub record Printable (count : ℕ) (buffer divisions : List ℕ) : Type 0 where
   pub some-vertex : 1 ≤ count
   pub vertices : count ≤ 16

@@ -37,7 +37,8 @@ vertexLine (x ∷ xs) = decimal x ++ flatMap spaced xs ++ newline
 abbrev pub total : List (List ℕ) → ℕ → ℕ
 total vertices h = sum (map (λ y. getD y h 0) vertices)
 
--- "The centre is the mean of the vertices in ten-thousandths": its number at the index h, where `divisions` has the division of each index's block
+-- "The centre is the mean of the vertices in ten-thousandths": its number at the index h, where `divisions` has the
+-- division of each index's block
 abbrev pub centreAt : List (List ℕ) → List ℕ → ℕ → ℕ
 centreAt vertices divisions h = centre (total vertices h) (length vertices) (getD divisions h 0)
 
@@ -46,7 +47,8 @@ unfoldable pub centreLine : List (List ℕ) → List ℕ → List ℕ
 centreLine vertices divisions =
     centreWord ++ flatMap (λ h. spaced (centreAt vertices divisions h)) (below (length divisions)) ++ newline
 
--- "it prints": the sheet of an end. Request 10: "the sheet gain[s] 'labels read' after 'places'"; the sheets of refusals, below, do not.
+-- "it prints": the sheet of an end. Request 10: "the sheet gain[s] 'labels read' after 'places'"; the sheets of
+-- refusals, below, do not.
 unfoldable pub endSheet : ℕ → ℕ → ℕ → Kind → ℕ → List (List ℕ) → List ℕ → List ℕ
 endSheet places read bound kind block vertices divisions =
     line placesWord places

@@ -48,7 +48,8 @@ pub fn vertex_lines(
     m: usize,
 ) -> usize
     requires { ⌜ (at ≤ 1500) × (count ≤ 16) × (1 ≤ m) × (m ≤ 16) × (count * m ≤ length (now vertices)) ⌝ }
-    ensures { λ r. ⌜ Part (flatMap vertexLine (rows count m (now (vertices .entry)))) (now (out .entry)) (now (out .exit)) at r
+    ensures { λ r. ⌜ Part (flatMap vertexLine (rows count m (now (vertices .entry))))
+        (now (out .entry)) (now (out .exit)) at r
         × (r ≤ at + 117 * count) ⌝ }
 {
     let mut next = at;

@@ -41,16 +41,21 @@ module _ (list : List ℕ) (count named : ℕ) where
         unreplaced = not-is _ (and-right (leb named count) _ d);
       }
 
-  accepted : {new : ℕ} → filing list count named ≡ FiledAs new → (filingRefusal list count named ≡ 0) × (new ≡ suc count)
+  accepted : {new : ℕ} → filing list count named ≡ FiledAs new
+      → (filingRefusal list count named ≡ 0) × (new ≡ suc count)
   unfolding filing
   accepted {new} e =
       let number = filingRefusal list count named in
-      ⊎-elim (λ (t : eqb number 0 ≡ true). let g : FiledAs (suc count) ≡ FiledAs new = rw t at e in (eqb-true number 0 t, cc))
+      ⊎-elim
+      (λ (t : eqb number 0 ≡ true). let g : FiledAs (suc count) ≡ FiledAs new = rw t at e in (eqb-true number 0 t, cc))
       (λ (t : eqb number 0 ≡ false).
-      let g : NotFiled number ≡ FiledAs new = rw t at e in let z : _≡_ {A = ℕ} 0 1 = cc in absurd (omega arith))
+      let g : NotFiled number ≡ FiledAs new = rw t at e in
+      let z : _≡_ {A = ℕ} 0 1 = cc in
+      absurd (omega arith))
       (true-or-false (eqb number 0))
 
-  -- where filing answers with a count, the sheet may be filed, the count is one more, and the entry behind those filed is written
+  -- where filing answers with a count, the sheet may be filed, the count is one more, and the entry behind those filed
+  -- is written
   pub filed-may : {new : ℕ} → filing list count named ≡ FiledAs new → MayFile list count named
   filed-may e = may-file (accepted e .0)
 
@@ -107,7 +112,8 @@ module _ (list : List ℕ) (count named : ℕ) where
       no-refusal l u = rw (passes, below, place, le-leb named count l, u)
 
 module _ (list : List ℕ) (count sheet : ℕ) where
-  pub asked-on : Shelf list count → 1 ≤ sheet → sheet ≤ count → asking list count sheet ≡ Sheet (current list count sheet)
+  pub asked-on : Shelf list count → 1 ≤ sheet → sheet ≤ count
+      → asking list count sheet ≡ Sheet (current list count sheet)
   unfolding asking firstNo
   asked-on f l h = rw (is-shelf list f, le-leb 1 sheet l, le-leb sheet count h)
 

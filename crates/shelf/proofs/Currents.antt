@@ -1,5 +1,5 @@
--- The current one: on every shelf that question 21 lets pass it exists, is one, is named by none and is reached. Two sheets have the same current
--- one exactly if one of them is reached from the other. Assumes nothing.
+-- The current one: on every shelf that question 21 lets pass it exists, is one, is named by none and is reached. Two
+-- sheets have the same current one exactly if one of them is reached from the other. Assumes nothing.
 use mathlib.Core.Bool.{true, false, cond}
 use mathlib.Core.List.{List}
 use mathlib.Core.Logic.{_⊎_, inl, inr, ⊎-elim}
@@ -10,7 +10,8 @@ use lib.Dec.{eqb}
 use native.Mathlib.Omega.{arith}
 use Rattle.combinatorics.proofs.Basics.{absurd-bool, same-or, true-or-false}
 use Rattle.shelf.proofs.Sheets.{Shelf, filed-later, last-names, later, none-named, none-names, one-replaces}
-use Rattle.shelf.specs.Shelf.{IsCurrent, Reached, Replaces, current, entry, goOn, here, isReplaced, names, onward, replacement}
+use Rattle.shelf.specs.Shelf.{IsCurrent, Reached, Replaces, current, entry, goOn, here, isReplaced, names, onward}
+use Rattle.shelf.specs.Shelf.{replacement}
 
 module _ (list : List ℕ) where
   replacement-none : (count s : ℕ) → isReplaced list count s ≡ false → replacement list count s ≡ s
@@ -38,16 +39,18 @@ module _ (list : List ℕ) where
     goes : (n s : ℕ) → Reached list count s (goOn n list count s)
     unfolding goOn
     goes zero s = here
-    goes (suc n) s =
-        ⊎-elim (λ (t : isReplaced list count s ≡ true). onward (replacement list count s) (replacement-is count s t) (goes n (replacement list count s)))
+    goes (suc n) s = ⊎-elim
+        (λ (t : isReplaced list count s ≡ true).
+        onward (replacement list count s) (replacement-is count s t) (goes n (replacement list count s)))
         (λ (t : isReplaced list count s ≡ false). rw (replacement-none count s t) (goes n s))
         (true-or-false (isReplaced list count s))
 
     ends : Shelf list count → (n s : ℕ) → count ≤ s + n → isReplaced list count (goOn n list count s) ≡ false
     unfolding goOn
     ends f zero s h = none-named list (λ k r. absurd (omega (arith, later list f r, r .filed)))
-    ends f (suc n) s h =
-        ⊎-elim (λ (t : isReplaced list count s ≡ true). ends f n (replacement list count s) (omega (arith, later list f (replacement-is count s t))))
+    ends f (suc n) s h = ⊎-elim
+        (λ (t : isReplaced list count s ≡ true).
+        ends f n (replacement list count s) (omega (arith, later list f (replacement-is count s t))))
         (λ (t : isReplaced list count s ≡ false). rw (replacement-none count s t, goes-nowhere n s t) t)
         (true-or-false (isReplaced list count s))
 
@@ -65,7 +68,8 @@ module _ (list : List ℕ) where
     reached-filed h here = h
     reached-filed h (onward k r g) = reached-filed (r .filed) g
 
-    only-one : {s t u : ℕ} → Reached list count s t → isReplaced list count t ≡ false → Reached list count s u → isReplaced list count u ≡ false → t ≡ u
+    only-one : {s t u : ℕ} → Reached list count s t → isReplaced list count t ≡ false → Reached list count s u
+        → isReplaced list count u ≡ false → t ≡ u
     only-one here a here b = refl
     only-one here a (onward k r g) b = absurd (none-names list a r)
     only-one (onward k r g) a here b = absurd (none-names list b r)
@@ -91,7 +95,8 @@ module _ (list : List ℕ) where
         (λ h. inr (onward k r h))
         (way-back g)
 
-    one-line : {s t u : ℕ} → Reached list count s u → Reached list count t u → Reached list count s t ⊎ Reached list count t s
+    one-line : {s t u : ℕ} → Reached list count s u → Reached list count t u
+        → Reached list count s t ⊎ Reached list count t s
     one-line here g = inr g
     one-line {s} {t} {u} (onward k r h) g =
         ⊎-elim (λ w. inl (onward k r w))
@@ -101,14 +106,15 @@ module _ (list : List ℕ) where
         (way-back w))
         (one-line h g)
 
-    pub same-reached : {s t : ℕ} → current list count s ≡ current list count t → Reached list count s t ⊎ Reached list count t s
+    pub same-reached : {s t : ℕ} → current list count s ≡ current list count t
+        → Reached list count s t ⊎ Reached list count t s
     same-reached {s} {t} e =
         one-line (is-current s .reached) (subst (λ i. Reached list count t i) (sym e) (is-current t .reached))
 
     -- a sheet that was filed last is its own current one
     pub last-is-current : current list count count ≡ count
-    last-is-current =
-        only-current (record { reached = here; unnamed = none-named list (λ k r. absurd (omega (arith, later list f r, r .filed))) })
+    last-is-current = only-current
+        (record { reached = here; unnamed = none-named list (λ k r. absurd (omega (arith, later list f r, r .filed))) })
 
 -- the first sheets of two lists have the same entries
 abbrev Same : List ℕ → List ℕ → ℕ → Type 0
@@ -118,36 +124,44 @@ module _ {list after : List ℕ} {count more : ℕ} (same : Same list after coun
   -- what is reached stays reached while sheets are filed behind
   pub reached-still : {s t : ℕ} → Reached list count s t → Reached after more s t
   reached-still here = here
-  reached-still (onward k r g) =
-      onward k
-      (record { numbered = r .numbered; filed = omega (arith, r .filed); aSheet = r .aSheet; named = sym (same k (r .numbered) (r .filed)) ∙ r .named })
+  reached-still (onward k r g) = onward k
+      (record {
+        numbered = r .numbered;
+        filed = omega (arith, r .filed);
+        aSheet = r .aSheet;
+        named = sym (same k (r .numbered) (r .filed)) ∙ r .named;
+      })
       (reached-still g)
 
-module _ {list after : List ℕ} {count : ℕ} (f : Shelf list count) (f′ : Shelf after (suc count)) (same : Same list after count) where
+module _ {list after : List ℕ} {count : ℕ} (f : Shelf list count) (f′ : Shelf after (suc count))
+    (same : Same list after count) where
   -- one sheet more: it is the current one of those whose current one it names, and the others keep theirs
   pub current-next : {s : ℕ} → 1 ≤ s → s ≤ count
-      → current after (suc count) s ≡ cond (eqb (entry after (suc count)) (current list count s)) (suc count) (current list count s)
+      → current after (suc count) s
+      ≡ cond (eqb (entry after (suc count)) (current list count s)) (suc count) (current list count s)
   current-next {s} p h =
       let t = current list count s in
       let d = is-current list f s in
       let g : Reached after (suc count) s t = reached-still same (omega arith) (d .reached) in
       ⊎-elim
       (λ (e : eqb (entry after (suc count)) t ≡ true).
-      let r : Replaces after (suc count) (suc count) t =
-      record { numbered = omega arith; filed = omega arith; aSheet = omega (arith, reached-later list f (d .reached)); named = eqb-true _ _ e } in
-      rw e
-      (only-current after f′
-      (record {
+      let r : Replaces after (suc count) (suc count) t = record {
+        numbered = omega arith;
+        filed = omega arith;
+        aSheet = omega (arith, reached-later list f (d .reached));
+        named = eqb-true _ _ e;
+      } in
+      rw e (only-current after f′ (record {
         reached = reached-through after f′ g (onward (suc count) r here);
         unnamed = none-named after (λ k q. absurd (omega (arith, later after f′ q, q .filed)));
       })))
       (λ (e : eqb (entry after (suc count)) t ≡ false).
-      let kept : (k : ℕ) → Replaces after (suc count) k t → ⊥ =
-      (λ k q.
-      ⊎-elim (λ (l : k ≡ suc count). eqb-false _ _ e (ap (entry after) (sym l) ∙ q .named))
+      let kept : (k : ℕ) → Replaces after (suc count) k t → ⊥ = (λ k q. ⊎-elim
+      (λ (l : k ≡ suc count). eqb-false _ _ e (ap (entry after) (sym l) ∙ q .named))
       (λ (l : k ≡ suc count → ⊥).
       let m : k ≤ count = omega (arith, l, q .filed) in
-      none-names list (d .unnamed) (record { numbered = q .numbered; filed = m; aSheet = q .aSheet; named = same k (q .numbered) m ∙ q .named }))
+      none-names list (d .unnamed)
+      (record { numbered = q .numbered; filed = m; aSheet = q .aSheet; named = same k (q .numbered) m ∙ q .named }))
       (same-or k (suc count))) in
       rw e (only-current after f′ (record { reached = g; unnamed = none-named after kept })))
       (true-or-false (eqb (entry after (suc count)) t))

@@ -1,5 +1,5 @@
--- The list with one entry more: it keeps the shelf one that question 21 lets pass, and changes the current one only of the new sheet and of those
--- whose current one it names. Assumes nothing.
+-- The list with one entry more: it keeps the shelf one that question 21 lets pass, and changes the current one only of
+-- the new sheet and of those whose current one it names. Assumes nothing.
 use mathlib.Core.Bool.{true, false, _||_, cond}
 use mathlib.Core.List.{List}
 use mathlib.Core.Logic.{⊎-elim}
@@ -33,19 +33,20 @@ module _ (list : List ℕ) (count named : ℕ) (m : MayFile list count named) wh
       record {
         few = omega (arith, m .below);
         room = omega (arith, m .place, length-set list count named);
-        earlier = λ k l h.
-            ⊎-elim (λ (e : k ≡ suc count). omega (arith, ap (entry after) e, new-entry, m .onShelf))
+        earlier = λ k l h. ⊎-elim
+            (λ (e : k ≡ suc count). omega (arith, ap (entry after) e, new-entry, m .onShelf))
             (λ (n : k ≡ suc count → ⊥).
-            let g : k ≤ count = omega (arith, n) in omega (arith, old-entry list count named k l g, f .earlier k l g))
+            let g : k ≤ count = omega (arith, n) in
+            omega (arith, old-entry list count named k l g, f .earlier k l g))
             (same-or k (suc count));
-        once = λ j k l i h s.
-            ⊎-elim
+        once = λ j k l i h s. ⊎-elim
             (λ (e : k ≡ suc count).
             let g : j ≤ count = omega arith in
             let t : entry list j ≡ named = old-entry list count named j l g ∙ (s ∙ (ap (entry after) e ∙ new-entry)) in
-            ⊎-elim (λ (z : named ≡ 0). ap (entry after) e ∙ (new-entry ∙ z))
-            (λ (n : named ≡ 0 → ⊥).
-            absurd (none-names list (m .unreplaced) (record { numbered = l; filed = g; aSheet = omega (arith, n); named = t })))
+            ⊎-elim
+            (λ (z : named ≡ 0). ap (entry after) e ∙ (new-entry ∙ z))
+            (λ (n : named ≡ 0 → ⊥). absurd (none-names list (m .unreplaced)
+            (record { numbered = l; filed = g; aSheet = omega (arith, n); named = t })))
             (same-or named 0))
             (λ (n : k ≡ suc count → ⊥).
             let g : k ≤ count = omega (arith, n) in
@@ -60,21 +61,23 @@ module _ (list : List ℕ) (count named : ℕ) (m : MayFile list count named) wh
   new-current s l h =
       let after = set list count named in
       ⊎-elim
-      (λ (e : s ≡ suc count). rw (eq-eqb s (suc count) e) (ap (current after (suc count)) e ∙ last-is-current after new-shelf))
-      (λ (n : s ≡ suc count → ⊥).
-      rw (ne-eqb s (suc count) n)
+      (λ (e : s ≡ suc count).
+      rw (eq-eqb s (suc count) e) (ap (current after (suc count)) e ∙ last-is-current after new-shelf))
+      (λ (n : s ≡ suc count → ⊥). rw (ne-eqb s (suc count) n)
       (current-next (m .shelf) new-shelf (old-entry list count named) l (omega (arith, n))
       ∙ ap (λ x. cond (eqb x (current list count s)) (suc count) (current list count s)) new-entry))
       (same-or s (suc count))
 
   off : (s : ℕ) → (s ≡ suc count → ⊥) → (1 ≤ s → s ≤ count → ⊥)
-      → asking (set list count named) (suc count) s ≡ cond (gives (asking list count s) named) (Sheet (suc count)) (asking list count s)
+      → asking (set list count named) (suc count) s
+      ≡ cond (gives (asking list count s) named) (Sheet (suc count)) (asking list count s)
   off s n o =
       rw (asked-off list count s (m .shelf) o)
       (asked-off (set list count named) (suc count) s new-shelf (λ l h. o l (omega (arith, n))))
 
   on : (s : ℕ) → 1 ≤ s → s ≤ count
-      → asking (set list count named) (suc count) s ≡ cond (gives (asking list count s) named) (Sheet (suc count)) (asking list count s)
+      → asking (set list count named) (suc count) s
+      ≡ cond (gives (asking list count s) named) (Sheet (suc count)) (asking list count s)
   on s l h =
       let last = current list count s in
       rw (asked-on list count s (m .shelf) l h)
@@ -90,14 +93,12 @@ module _ (list : List ℕ) (count named : ℕ) (m : MayFile list count named) wh
   new-answer s =
       let after = set list count named in
       ⊎-elim
-      (λ (e : s ≡ suc count).
-      rw (eq-eqb s (suc count) e)
+      (λ (e : s ≡ suc count). rw (eq-eqb s (suc count) e)
       (asked-on after (suc count) s new-shelf (omega arith) (omega arith)
       ∙ ap Sheet (ap (current after (suc count)) e ∙ last-is-current after new-shelf)))
-      (λ (n : s ≡ suc count → ⊥).
-      rw (ne-eqb s (suc count) n)
-      (⊎-elim
+      (λ (n : s ≡ suc count → ⊥). rw (ne-eqb s (suc count) n) (⊎-elim
       (λ (h : s < 1). off s n (λ l i. omega arith))
-      (λ (l : 1 ≤ s). ⊎-elim (λ (h : count < s). off s n (λ k i. omega arith)) (λ (h : s ≤ count). on s l h) (before-or-not count s))
+      (λ (l : 1 ≤ s).
+      ⊎-elim (λ (h : count < s). off s n (λ k i. omega arith)) (λ (h : s ≤ count). on s l h) (before-or-not count s))
       (before-or-not s 1)))
       (same-or s (suc count))

@@ -1,5 +1,5 @@
--- What question 21 and "already replaced" say, sheet by sheet. On a shelf that 21 lets pass, a sheet is named by at most one, and that one is later.
--- Assumes nothing.
+-- What question 21 and "already replaced" say, sheet by sheet. On a shelf that 21 lets pass, a sheet is named by at
+-- most one, and that one is later. Assumes nothing.
 use mathlib.Core.Bool.{Bool, true, false, not, _&&_}
 use mathlib.Core.List.{List}
 use mathlib.Core.Logic.{⊎-elim}
@@ -9,7 +9,8 @@ use borrow.Author.Tests.{eqb-true, eq-eqb, leb-true, le-leb, ltb-true, lt-ltb}
 use lib.Dec.{leb, ltb}
 use lib.ListN.{length}
 use native.Mathlib.Omega.{arith}
-use Rattle.combinatorics.proofs.Basics.{absurd-bool, and-both, and-left, and-right, before-or-not, false-of, not-is, or-cases, or-left, or-right, same-or}
+use Rattle.combinatorics.proofs.Basics.{absurd-bool, and-both, and-left, and-right, before-or-not, false-of, not-is}
+use Rattle.combinatorics.proofs.Basics.{or-cases, or-left, or-right, same-or}
 use Rattle.combinatorics.specs.Lists.{all}
 use Rattle.shelf.specs.Shelf.{Replaces, entry, isReplaced, isShelf, names, namesRightly, sheets}
 
@@ -22,8 +23,8 @@ all-sheets q (suc c) a k l h =
 
 pub sheets-all : (q : ℕ → Bool) (count : ℕ) → ((k : ℕ) → 1 ≤ k → k ≤ count → q k ≡ true) → all q (sheets count) ≡ true
 sheets-all q zero f = refl
-sheets-all q (suc c) f =
-    and-both (q (suc c)) (all q (sheets c)) (f (suc c) (omega arith) (omega arith)) (sheets-all q c (λ k l h. f k l (omega arith)))
+sheets-all q (suc c) f = and-both (q (suc c)) (all q (sheets c)) (f (suc c) (omega arith) (omega arith))
+    (sheets-all q c (λ k l h. f k l (omega arith)))
 
 module _ (list : List ℕ) where
   names-is : (k s : ℕ) → names list k s ≡ true → (1 ≤ s) × (entry list k ≡ s)
@@ -36,10 +37,16 @@ module _ (list : List ℕ) where
 
   pub last-names : (c s : ℕ) → names list (suc c) s ≡ true → Replaces list (suc c) (suc c) s
   last-names c s e =
-      let n = names-is (suc c) s e in record { numbered = omega arith; filed = omega arith; aSheet = n .0; named = n .1 }
+      let n = names-is (suc c) s e in
+      record { numbered = omega arith; filed = omega arith; aSheet = n .0; named = n .1 }
 
   pub filed-later : {c k s : ℕ} → Replaces list c k s → Replaces list (suc c) k s
-  filed-later r = record { numbered = r .numbered; filed = omega (arith, r .filed); aSheet = r .aSheet; named = r .named }
+  filed-later r = record {
+    numbered = r .numbered;
+    filed = omega (arith, r .filed);
+    aSheet = r .aSheet;
+    named = r .named;
+  }
 
   pub replacer : (count s : ℕ) → isReplaced list count s ≡ true → (k : ℕ) × Replaces list count k s
   unfolding isReplaced
@@ -52,11 +59,12 @@ module _ (list : List ℕ) where
   pub replaced : (count s : ℕ) {k : ℕ} → Replaces list count k s → isReplaced list count s ≡ true
   unfolding isReplaced
   replaced zero s r = absurd (omega arith)
-  replaced (suc c) s {k} r =
-      ⊎-elim (λ (e : k ≡ suc c). or-left (names list (suc c) s) (isReplaced list c s) (is-named (suc c) s (r .aSheet) (ap (entry list) (sym e) ∙ r .named)))
-      (λ (n : k ≡ suc c → ⊥).
-      or-right (names list (suc c) s) (isReplaced list c s)
-      (replaced c s {k = k} (record { numbered = r .numbered; filed = omega (arith, n, r .filed); aSheet = r .aSheet; named = r .named })))
+  replaced (suc c) s {k} r = ⊎-elim
+      (λ (e : k ≡ suc c). or-left (names list (suc c) s) (isReplaced list c s)
+      (is-named (suc c) s (r .aSheet) (ap (entry list) (sym e) ∙ r .named)))
+      (λ (n : k ≡ suc c → ⊥). or-right (names list (suc c) s) (isReplaced list c s)
+      (replaced c s {k = k}
+      (record { numbered = r .numbered; filed = omega (arith, n, r .filed); aSheet = r .aSheet; named = r .named })))
       (same-or k (suc c))
 
   pub none-names : {count s k : ℕ} → isReplaced list count s ≡ false → Replaces list count k s → ⊥
@@ -88,12 +96,14 @@ module _ (list : List ℕ) where
   rightly-once j (suc b) e l h s =
       let named = entry list (suc b) in
       let unnamed : isReplaced list b named ≡ false = not-is _ (and-right (ltb named (suc b)) _ e) in
-      ⊎-elim (λ (z : named ≡ 0). z)
-      (λ (n : named ≡ 0 → ⊥).
-      absurd (none-names list {k = j} unnamed (record { numbered = l; filed = omega arith; aSheet = omega (arith, n); named = s })))
+      ⊎-elim
+      (λ (z : named ≡ 0). z)
+      (λ (n : named ≡ 0 → ⊥). absurd (none-names list {k = j} unnamed
+      (record { numbered = l; filed = omega arith; aSheet = omega (arith, n); named = s })))
       (same-or named 0)
 
-  pub rightly : (b : ℕ) → entry list (suc b) < suc b → isReplaced list b (entry list (suc b)) ≡ false → namesRightly list (suc b) ≡ true
+  pub rightly : (b : ℕ) → entry list (suc b) < suc b → isReplaced list b (entry list (suc b)) ≡ false
+      → namesRightly list (suc b) ≡ true
   unfolding namesRightly
   rightly b h u = and-both _ _ (lt-ltb (entry list (suc b)) (suc b) h) (ap not u)
 
@@ -112,16 +122,16 @@ module _ (list : List ℕ) where
 
   right-sheet : {count : ℕ} → Shelf list count → (k : ℕ) → 1 ≤ k → k ≤ count → namesRightly list k ≡ true
   right-sheet f zero l h = absurd (omega arith)
-  right-sheet f (suc b) l h =
-      rightly b (f .earlier (suc b) l h)
-      (none-named list
-      (λ j r. let z = f .once j (suc b) (r .numbered) (omega (arith, r .filed)) h (r .named) in omega (arith, z, r .aSheet)))
+  right-sheet f (suc b) l h = rightly b (f .earlier (suc b) l h)
+      (none-named list (λ j r.
+      let z = f .once j (suc b) (r .numbered) (omega (arith, r .filed)) h (r .named) in
+      omega (arith, z, r .aSheet)))
 
   pub is-shelf : {count : ℕ} → Shelf list count → isShelf list count ≡ true
   unfolding isShelf
-  is-shelf {count} f =
-      and-both (leb count 1000) _ (le-leb count 1000 (f .few))
-      (and-both (leb count (length list)) _ (le-leb count (length list) (f .room)) (sheets-all (namesRightly list) count (right-sheet f)))
+  is-shelf {count} f = and-both (leb count 1000) _ (le-leb count 1000 (f .few))
+      (and-both (leb count (length list)) _ (le-leb count (length list) (f .room))
+      (sheets-all (namesRightly list) count (right-sheet f)))
 
   -- the sheets filed first are a shelf
   pub shelf-before : {count : ℕ} → Shelf list count → (c : ℕ) → c ≤ count → Shelf list c
@@ -139,12 +149,12 @@ module _ (list : List ℕ) where
 
     -- a sheet is replaced by one at most
     pub one-replaces : {s j k : ℕ} → Replaces list count j s → Replaces list count k s → j ≡ k
-    one-replaces {s} {j} {k} r q =
-        ⊎-elim
-        (λ (h : j < k). absurd (let z = f .once j k (r .numbered) h (q .filed) (r .named ∙ sym (q .named)) in omega (arith, z, q .named, q .aSheet)))
-        (λ (h : k ≤ j).
-        ⊎-elim
-        (λ (g : k < j). absurd (let z = f .once k j (q .numbered) g (r .filed) (q .named ∙ sym (r .named)) in omega (arith, z, r .named, r .aSheet)))
+    one-replaces {s} {j} {k} r q = ⊎-elim
+        (λ (h : j < k). absurd (let z = f .once j k (r .numbered) h (q .filed) (r .named ∙ sym (q .named)) in
+        omega (arith, z, q .named, q .aSheet)))
+        (λ (h : k ≤ j). ⊎-elim
+        (λ (g : k < j). absurd (let z = f .once k j (q .numbered) g (r .filed) (q .named ∙ sym (r .named)) in
+        omega (arith, z, r .named, r .aSheet)))
         (λ (g : j ≤ k). omega arith)
         (before-or-not k j))
         (before-or-not j k)

@@ -7,7 +7,8 @@ use Prim.Native.Nat.{ℕ}
 use native.Mathlib.Omega.{arith}
 use Rattle.questions.specs.Questions.{firstNo}
 use Rattle.shelf.proofs.Calls.{asked-on, filed-count, filed-list, filed-may}
-use Rattle.shelf.proofs.Currents.{is-current, only-current, reached-filed, reached-later, reached-same, same-reached}
+use Rattle.shelf.proofs.Currents.{is-current, only-current, reached-filed, reached-later, reached-same}
+use Rattle.shelf.proofs.Currents.{same-reached}
 use Rattle.shelf.proofs.Filing.{new-answer, new-current, new-shelf}
 use Rattle.shelf.proofs.Sheets.{is-shelf, later, one-replaces, shelf-of}
 use Rattle.shelf.specs.Calls.{OnlyFiledOn, begun, filedOn, filing}
@@ -32,10 +33,14 @@ has-current list count sheet on =
         filed = reached-filed list f (on .filed) (c .reached);
       };
       notBefore = reached-later list f (c .reached);
-      line = λ other o. (same-reached list f, λ r. ⊎-elim (λ g. reached-same list f g) (λ g. sym (reached-same list f g)) r);
+      line = λ other o. (
+        same-reached list f,
+        λ r. ⊎-elim (λ g. reached-same list f g) (λ g. sym (reached-same list f g)) r,
+      );
     }
 
-pub after-filing : (list : List ℕ) (count named new : ℕ) → filing list count named ≡ FiledAs new → AfterFiling list count named new
+pub after-filing : (list : List ℕ) (count named new : ℕ) → filing list count named ≡ FiledAs new
+    → AfterFiling list count named new
 after-filing list count named new filed =
     let may = filed-may list count named filed in
     let is-new = filed-count list count named filed in
@@ -69,6 +74,7 @@ never-21 list count o =
     let e = only-filed-on o in
     record {
       passes = e;
-      files = λ named n. later-number (question22 list count .answeredYes) (question23OfFiling list count named .answeredYes) (rw e at n);
+      files = λ named n. later-number (question22 list count .answeredYes)
+          (question23OfFiling list count named .answeredYes) (rw e at n);
       asks = λ sheet n. later-number true (question23OfAsking count sheet .answeredYes) (rw e at n);
     }

@@ -33,7 +33,8 @@ askingRefusal list count sheet = firstNo (askingQuestions list count sheet)
 -- "Asked for a sheet, the shelf gives the current one"
 unfoldable pub asking : List ℕ → ℕ → ℕ → Current
 asking list count sheet =
-    let number = askingRefusal list count sheet in cond (eqb number 0) (Sheet (current list count sheet)) (NoSheet number)
+    let number = askingRefusal list count sheet in
+    cond (eqb number 0) (Sheet (current list count sheet)) (NoSheet number)
 
 -- "sheets whose current one was just replaced": whether the shelf's answer is the sheet named
 abbrev pub gives : Current → ℕ → Bool

@@ -7,8 +7,8 @@ use lib.ListN.{length}
 use Rattle.questions.specs.Questions.{Question, ask}
 use Rattle.shelf.specs.Shelf.{isShelf, isReplaced}
 
--- "21 when a shelf handed in has more than 1,000 sheets or more than its list has entries, or a sheet naming itself, a later one, or one named
--- before, put first"
+-- "21 when a shelf handed in has more than 1,000 sheets or more than its list has entries, or a sheet naming itself, a
+-- later one, or one named before, put first"
 abbrev pub question21 : List ℕ → ℕ → Question
 question21 list count = ask 21 (isShelf list count)
 
@@ -25,7 +25,8 @@ abbrev pub question23OfAsking : ℕ → ℕ → Question
 question23OfAsking count sheet = ask 23 (leb 1 sheet && leb sheet count)
 
 abbrev pub filingQuestions : List ℕ → ℕ → ℕ → List Question
-filingQuestions list count named = question21 list count ∷ question22 list count ∷ question23OfFiling list count named ∷ []
+filingQuestions list count named =
+    question21 list count ∷ question22 list count ∷ question23OfFiling list count named ∷ []
 
 abbrev pub askingQuestions : List ℕ → ℕ → ℕ → List Question
 askingQuestions list count sheet = question21 list count ∷ question23OfAsking count sheet ∷ []

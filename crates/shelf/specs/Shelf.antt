@@ -1,5 +1,6 @@
--- Request 13, "Sheets that replace sheets": a shelf, the sheet that replaces a sheet, and the current one. A shelf is "a lent list of 16-bit
--- numbers, one for each sheet, lent with the count of sheets filed"; what stands in the list behind the count is no sheet. Assumes nothing.
+-- Request 13, "Sheets that replace sheets": a shelf, the sheet that replaces a sheet, and the current one. A shelf is
+-- "a lent list of 16-bit numbers, one for each sheet, lent with the count of sheets filed"; what stands in the list
+-- behind the count is no sheet. Assumes nothing.
 use mathlib.Core.Bool.{Bool, true, false, not, _&&_}
 use mathlib.Core.List.{List, [], _∷_}
 use mathlib.Core.Path.{_≡_}
@@ -32,7 +33,8 @@ namesRightly list zero = false
 namesRightly list (suc before) =
     let named = entry list (suc before) in ltb named (suc before) && not (isReplaced list before named)
 
--- not "more than 1,000 sheets or more than its list has entries, or a sheet naming itself, a later one, or one named before"
+-- not "more than 1,000 sheets or more than its list has entries, or a sheet naming itself, a later one, or one
+-- named before"
 unfoldable pub isShelf : List ℕ → ℕ → Bool
 isShelf list count = leb count 1000 && (leb count (length list) && all (namesRightly list) (sheets count))
 
@@ -65,7 +67,8 @@ pub record Replaces (list : List ℕ) (count later sheet : ℕ) : Type 0 where
 -- what is "reached by going from each to its replacement", without counting the times
 pub data Reached (list : List ℕ) (count : ℕ) : ℕ → ℕ → Type 0 where
   here : {sheet : ℕ} → Reached list count sheet sheet
-  onward : {sheet last : ℕ} (later : ℕ) → Replaces list count later sheet → Reached list count later last → Reached list count sheet last
+  onward : {sheet last : ℕ} (later : ℕ) → Replaces list count later sheet → Reached list count later last
+      → Reached list count sheet last
 
 -- what is reached from a sheet and named by none
 pub record IsCurrent (list : List ℕ) (count sheet last : ℕ) : Type 0 where

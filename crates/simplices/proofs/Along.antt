@@ -1,6 +1,6 @@
--- Points of one simplex: from the listed point that stands first in it, the points have coefficients 0 and 1, any two lists of them nested.
--- In order: the indices passed on the way to a point; the conditions of a simplex by name; the coefficients of its points; the listed point
--- that stands first. Assumes nothing.
+-- Points of one simplex: from the listed point that stands first in it, the points have coefficients 0 and 1, any two
+-- lists of them nested. In order: the indices passed on the way to a point; the conditions of a simplex by name; the
+-- coefficients of its points; the listed point that stands first. Assumes nothing.
 use mathlib.Core.Bool.{Bool, true, false, not, _&&_, cond}
 use mathlib.Core.List.{List, [], _∷_}
 use mathlib.Core.Logic.{_⊎_, inl, inr, ⊎-elim}
@@ -10,7 +10,8 @@ use borrow.Author.Tests.{eqb-true, eq-eqb}
 use lib.Dec.{eqb}
 use lib.ListN.{length, take}
 use native.Mathlib.Omega.{arith}
-use Rattle.combinatorics.proofs.Basics.{absurd-bool, true-or-false, before-or-not, both, and-left, and-right, not-is, false-of}
+use Rattle.combinatorics.proofs.Basics.{absurd-bool, true-or-false, before-or-not, both, and-left, and-right, not-is}
+use Rattle.combinatorics.proofs.Basics.{false-of}
 use Rattle.combinatorics.proofs.Lists.{all-in, in-here, in-later, in-cases, filter-in, distinct-tail, onNumbers}
 use Rattle.combinatorics.proofs.Ranges.{in-upFrom, upFrom-in}
 use Rattle.combinatorics.specs.Lists.{filter, all, isIn, distinct, occurrences}
@@ -19,7 +20,8 @@ use Rattle.geometry.proofs.Points.{nth}
 use Rattle.grid.proofs.Accepted.{Accepted}
 use Rattle.grid.proofs.Points.{onPoints}
 use Rattle.grid.proofs.Round.{next-previous}
-use Rattle.grid.specs.Grid.{Grid, Point, at, numBlocks, numIndices, firstIndex, size, blocks, indices, indicesOf, next, previous}
+use Rattle.grid.specs.Grid.{Grid, Point, at, numBlocks, numIndices, firstIndex, size, blocks, indices, indicesOf, next}
+use Rattle.grid.specs.Grid.{previous}
 use Rattle.grid.specs.Grid.{isGridPoint, samePoint}
 use Rattle.place.proofs.BlocksOfGrid.{blocksOf, next-agrees, previous-agrees}
 use Rattle.place.proofs.IndexSets.{goes-at}
@@ -59,7 +61,8 @@ pub record Walk (g : Grid) (o : List ℕ) (s : List Point) : Type 0 where
   pub onGrid : all (isGridPoint g) s ≡ true
   pub once : distinct eqb o ≡ true
   pub below : (h : ℕ) → isIn eqb h o ≡ true → h < numIndices g
-  pub leaves : (j : ℕ) → j < numBlocks g → (f : ℕ) × (firstIndex g j ≤ f) × (f < firstIndex g j + size g j) × (isIn eqb f o ≡ false)
+  pub leaves : (j : ℕ) → j < numBlocks g
+      → (f : ℕ) × (firstIndex g j ≤ f) × (f < firstIndex g j + size g j) × (isIn eqb f o ≡ false)
 
 module _ (g : Grid) where
   pub walk-of : (o : List ℕ) (s : List Point) → isSimplex g o s ≡ true → Walk g o s
@@ -93,17 +96,20 @@ module _ (g : Grid) where
 
   -- the index before
   pub around : (h k : ℕ) → h < numIndices g → k < numIndices g → unit h (next g k) ≡ unit (previous g h) k
-  around h k lh lk =
-      ap (λ (b : Bool). cond b 1 0)
+  around h k lh lk = ap (λ (b : Bool). cond b 1 0)
       (both (eqb (next g k) h) (eqb k (previous g h))
-      (λ e. let R = blocksOf (startingAt g []) in
-      eq-eqb k (previous g h) (sym (R .previous-next k) ∙ ap R.previous (next-agrees (startingAt g []) k lk ∙ eqb-true (next g k) h e)
+      (λ e.
+      let R = blocksOf (startingAt g []) in
+      eq-eqb k (previous g h)
+      (sym (R .previous-next k)
+      ∙ ap R.previous (next-agrees (startingAt g []) k lk ∙ eqb-true (next g k) h e)
       ∙ previous-agrees (startingAt g []) h lh))
       (λ e. eq-eqb (next g k) h (ap (next g) (eqb-true k (previous g h) e) ∙ next-previous g h lh .0)))
 
   -- from the first point to the i-th go the first i indices
-  pub walk-rule : (o : List ℕ) (s : List Point) → eachStepped g o s ≡ true → ((h : ℕ) → isIn eqb h o ≡ true → h < numIndices g) → (i : ℕ)
-      → i < length s → (k : ℕ) → k < numIndices g → at (nth s i) k + passed o i (next g k) ≡ at (nth s 0) k + passed o i k
+  pub walk-rule : (o : List ℕ) (s : List Point) → eachStepped g o s ≡ true
+      → ((h : ℕ) → isIn eqb h o ≡ true → h < numIndices g) → (i : ℕ) → i < length s → (k : ℕ) → k < numIndices g
+      → at (nth s i) k + passed o i (next g k) ≡ at (nth s 0) k + passed o i k
   walk-rule [] [] e b i l k x = absurd (omega arith)
   walk-rule [] (y ∷ []) e b zero l k x = refl
   walk-rule [] (y ∷ []) e b (suc i) l k x = absurd (omega arith)
@@ -127,20 +133,27 @@ module _ {g : Grid} (A : Accepted g) {o : List ℕ} {s : List Point} (w : Walk g
   on-walk i l = all-in onPoints (isGridPoint g) s (w .onGrid) (nth s i) (at-in onPoints [] s i l)
 
   -- so these are its coefficients, with the first point as the start
-  pub walk-coefficients : (i : ℕ) → i < length s → coefficientsFrom g (nth s 0) (nth s i) ≡ tabulate (numIndices g) (passed o i)
+  pub walk-coefficients : (i : ℕ) → i < length s
+      → coefficientsFrom g (nth s 0) (nth s i) ≡ tabulate (numIndices g) (passed o i)
   walk-coefficients i l =
       coefficients-by A (nth s 0) (nth s i) (on-walk 0 some) (on-walk i l) (passed o i)
       (λ j x. let f = w .leaves j x in (f .0, f .1, f .2, omega (arith, passed-at-most o i f.0, never f.0 o f.3)))
       (walk-rule g o s w.steps w.below i l)
 
   -- of points of the simplex any two are nested: the first indices of one order
-  pub walk-nested : (zs : List Point) → ((z : Point) → isIn samePoint z zs ≡ true → isIn samePoint z s ≡ true) → Nested g zs (nth s 0)
-  walk-nested zs has =
-      nested-by zs (nth s 0) (λ i l. passed o (seat i l .0))
+  pub walk-nested : (zs : List Point) → ((z : Point) → isIn samePoint z zs ≡ true → isIn samePoint z s ≡ true)
+      → Nested g zs (nth s 0)
+  walk-nested zs has = nested-by zs (nth s 0)
+      (λ i l. passed o (seat i l .0))
       (λ i l. let a = seat i l in rw a.2 at (walk-coefficients a.0 a.1))
       (λ i l k. omega (arith, passed-at-most o (seat i l .0) k, occurs-one o w.once k))
-      (λ i j l m. let a = seat i l .0 in let b = seat j m .0 in
-      ⊎-elim (λ (x : a < b). inl (passed-rises o a b (omega arith))) (λ (x : b ≤ a). inr (passed-rises o b a x)) (before-or-not a b))
+      (λ i j l m.
+      let a = seat i l .0 in
+      let b = seat j m .0 in
+      ⊎-elim
+      (λ (x : a < b). inl (passed-rises o a b (omega arith)))
+      (λ (x : b ≤ a). inr (passed-rises o b a x))
+      (before-or-not a b))
     where
       seat : (i : ℕ) → i < length zs → (a : ℕ) × (a < length s) × (nth s a ≡ nth zs i)
       seat i l = in-at onPoints [] (nth zs i) s (has (nth zs i) (at-in onPoints [] zs i l))
@@ -155,8 +168,8 @@ pub record FromFirst (g : Grid) (zs : List Point) : Type 0 where
   pub has : (z : Point) → isIn samePoint z zs ≡ true → isIn samePoint z points ≡ true
 
 module _ (g : Grid) (zs : List Point) (z0 : Point) (m0 : isIn samePoint z0 zs ≡ true) where
-  pub from-first : (o : List ℕ) (s : List Point) → Walk g o s → ((z : Point) → isIn samePoint z zs ≡ true → isIn samePoint z s ≡ true)
-      → FromFirst g zs
+  pub from-first : (o : List ℕ) (s : List Point) → Walk g o s
+      → ((z : Point) → isIn samePoint z zs ≡ true → isIn samePoint z s ≡ true) → FromFirst g zs
   from-first o [] w h = absurd-bool (sym (h z0 m0))
   from-first [] (y ∷ []) w h = record {
     order = [];
@@ -181,6 +194,8 @@ module _ (g : Grid) (zs : List Point) (z0 : Point) (m0 : isIn samePoint z0 zs �
       }
 
       go : (isIn samePoint y zs ≡ true) ⊎ (isIn samePoint y zs ≡ false)
-          → (((z' : Point) → isIn samePoint z' zs ≡ true → isIn samePoint z' (z ∷ s) ≡ true) → FromFirst g zs) → FromFirst g zs
+          → (((z' : Point) → isIn samePoint z' zs ≡ true → isIn samePoint z' (z ∷ s) ≡ true) → FromFirst g zs)
+          → FromFirst g zs
       go (inl t) r = record { order = a ∷ o; points = y ∷ z ∷ s; walk = w; some = omega arith; first = t; has = h }
-      go (inr f) r = r (λ x m. ⊎-elim (λ e. absurd-bool (sym m ∙ (rw e f))) (λ n. n) (in-cases onPoints x y (z ∷ s) (h x m)))
+      go (inr f) r =
+          r (λ x m. ⊎-elim (λ e. absurd-bool (sym m ∙ (rw e f))) (λ n. n) (in-cases onPoints x y (z ∷ s) (h x m)))

@@ -1,5 +1,5 @@
--- The answer to a sheet. In order: the test by coefficient lists gives it; every part of a place passes the test; the answer does not
--- depend on the order of the points; each end of a run gets yes, with its block. Assumes nothing.
+-- The answer to a sheet. In order: the test by coefficient lists gives it; every part of a place passes the test; the
+-- answer does not depend on the order of the points; each end of a run gets yes, with its block. Assumes nothing.
 use mathlib.Core.Bool.{Bool, true, false, not, _&&_, cond}
 use mathlib.Core.List.{List, [], _∷_}
 use mathlib.Core.Logic.{inl, inr, ⊎-elim}
@@ -10,7 +10,8 @@ use borrow.Author.Tests.{ltb-true}
 use lib.Dec.{eqb, ltb}
 use lib.ListN.{length}
 use native.Mathlib.Omega.{arith}
-use Rattle.combinatorics.proofs.Basics.{absurd-bool, true-or-false, both, and-both, and-left, and-right, not-is, false-of}
+use Rattle.combinatorics.proofs.Basics.{absurd-bool, true-or-false, both, and-both, and-left, and-right, not-is}
+use Rattle.combinatorics.proofs.Basics.{false-of}
 use Rattle.combinatorics.proofs.Lists.{in-here, in-later, in-cases, in-filter, filter-in, filter-cong}
 use Rattle.combinatorics.proofs.Lists.{distinct-out, distinct-tail, distinct-within, onNumbers}
 use Rattle.combinatorics.proofs.Ranges.{in-upFrom, upFrom-in}
@@ -40,7 +41,8 @@ use Rattle.simplices.specs.Chains.{oneChain}
 use Rattle.simplices.specs.Simplices.{InOneSimplex, inOneSimplex, labelledBy, firstOf, verdict}
 
 -- the test gives the answer
-module _ {g : Grid} (A : Accepted g) (zs : List Point) (on : all (isGridPoint g) zs ≡ true) (some-point : 0 < length zs) where
+module _ {g : Grid} (A : Accepted g) (zs : List Point) (on : all (isGridPoint g) zs ≡ true)
+    (some-point : 0 < length zs) where
   -- distinct and in one simplex, exactly if the test says so
   pub one-simplex-test : (distinct samePoint zs && inOneSimplex g zs) ≡ oneChain g zs
   one-simplex-test = both _ _
@@ -48,13 +50,16 @@ module _ {g : Grid} (A : Accepted g) (zs : List Point) (on : all (isGridPoint g)
       (and-left _ (inOneSimplex g zs) h, search-finds g A zs .1 (and-right (distinct samePoint zs) _ h)))
       (λ h. let w = one-simplex A zs on some-point .0 h in and-both _ _ w.0 (search-finds g A zs .0 w.1))
 
-  pub answer-by-test : (labels : List ℕ) → verdict g labels zs ≡ cond (oneChain g zs) (firstOf (completeFor (labelledBy g labels) zs)) none
+  pub answer-by-test : (labels : List ℕ)
+      → verdict g labels zs ≡ cond (oneChain g zs) (firstOf (completeFor (labelledBy g labels) zs)) none
   unfolding verdict
   answer-by-test labels = rw one-simplex-test
 
 -- every part of a place, labels apart, passes the test
-pub part-of-place : {p : Problem} → Settled p → (s : Simplex) → isUnlabelledPlace p s ≡ true → (ys : List Point) → 0 < length ys
-    → distinct samePoint ys ≡ true → ((y : Point) → isIn samePoint y ys ≡ true → isIn samePoint y s ≡ true) → oneChain p.grid ys ≡ true
+pub part-of-place : {p : Problem} → Settled p → (s : Simplex) → isUnlabelledPlace p s ≡ true → (ys : List Point)
+    → 0 < length ys → distinct samePoint ys ≡ true
+    → ((y : Point) → isIn samePoint y ys ≡ true → isIn samePoint y s ≡ true)
+    → oneChain p.grid ys ≡ true
 part-of-place ok s h ys some-point d within =
     let I = part-in ys within (unlabelled-in-simplex ok s h) in
     one-simplex (accepted-grid ok) ys (part-on-grid I) some-point .1 (d, I)
@@ -62,9 +67,11 @@ part-of-place ok s h ys some-point d within =
 -- the order of the points does not matter
 module _ (p : Problem) (a b : Simplex) (ab : SamePoints a b) where
   complete-same : (j : ℕ) → isComplete p a j ≡ true → isComplete p b j ≡ true
-  complete-same j h = complete-means p b j .1 (λ k m.
-      ⊎-elim
-      (λ e. let w = labels-mean p a k .0 e in inl (labels-mean p b k .1 (w .0, (w .1 .0, sym (ab w.1.0) ∙ w .1 .1, w .1 .2))))
+  complete-same j h = complete-means p b j .1
+      (λ k m. ⊎-elim
+      (λ e.
+      let w = labels-mean p a k .0 e in
+      inl (labels-mean p b k .1 (w .0, (w .1 .0, sym (ab w.1.0) ∙ w .1 .1, w .1 .2))))
       (λ e. let w = U-means p.grid a k .0 e in inr (U-means p.grid b k .1 (w .0, (λ y n. w .1 y (ab y ∙ n)))))
       (complete-means p a j .0 h k m))
 
@@ -79,15 +86,18 @@ order-free {g} A labels a b ab l =
     let i : inOneSimplex g a ≡ inOneSimplex g b = both _ _
     (λ h. search-finds g A b .0 (part-in b (λ z m. ab z ∙ m) (search-finds g A a .1 h)))
     (λ h. search-finds g A a .0 (part-in a (λ z m. sym (ab z) ∙ m) (search-finds g A b .1 h))) in
-    let c : filter (isComplete (labelledBy g labels) a) (blocks g) ≡ filter (isComplete (labelledBy g labels) b) (blocks g) =
+    let c : filter (isComplete (labelledBy g labels) a) (blocks g)
+    ≡ filter (isComplete (labelledBy g labels) b) (blocks g) =
     filter-cong onNumbers (blocks g)
     (λ j m. both _ _ (complete-same (labelledBy g labels) a b ab j) (complete-same (labelledBy g labels) b a ba j)) in
     rw (d, i, c)
 
 -- each end of a run
-first-is : (q : ℕ → Bool) (xs : List ℕ) (j : ℕ) → isIn eqb j xs ≡ true → q j ≡ true → ((k : ℕ) → isIn eqb k xs ≡ true → q k ≡ true → k ≡ j)
+first-is : (q : ℕ → Bool) (xs : List ℕ) (j : ℕ) → isIn eqb j xs ≡ true → q j ≡ true
+    → ((k : ℕ) → isIn eqb k xs ≡ true → q k ≡ true → k ≡ j)
     → firstOf (filter q xs) ≡ some j
-first-is q xs j m e only = go (filter q xs) (in-filter onNumbers q j xs m e) (λ k n. let i = filter-in onNumbers q k xs n in only k i.0 i.1)
+first-is q xs j m e only =
+    go (filter q xs) (in-filter onNumbers q j xs m e) (λ k n. let i = filter-in onNumbers q k xs n in only k i.0 i.1)
   where
     go : (l : List ℕ) → isIn eqb j l ≡ true → ((k : ℕ) → isIn eqb k l ≡ true → k ≡ j) → firstOf l ≡ some j
     go [] m o = absurd-bool (sym m)
@@ -96,8 +106,10 @@ first-is q xs j m e only = go (filter q xs) (in-filter onNumbers q j xs m e) (λ
 removed-in : (i : ℕ) (s : Simplex) (y : Point) → isIn samePoint y (removeAt i s) ≡ true → isIn samePoint y s ≡ true
 removed-in i [] y m = m
 removed-in zero (x ∷ s) y m = in-later onPoints y x s m
-removed-in (suc i) (x ∷ s) y m =
-    ⊎-elim (λ e. rw e (in-here onPoints x s)) (λ n. in-later onPoints y x s (removed-in i s y n)) (in-cases onPoints y x (removeAt i s) m)
+removed-in (suc i) (x ∷ s) y m = ⊎-elim
+    (λ e. rw e (in-here onPoints x s))
+    (λ n. in-later onPoints y x s (removed-in i s y n))
+    (in-cases onPoints y x (removeAt i s) m)
 
 removed-distinct : (i : ℕ) (s : Simplex) → distinct samePoint s ≡ true → distinct samePoint (removeAt i s) ≡ true
 removed-distinct i [] d = d
@@ -117,7 +129,13 @@ module _ {p : Problem} (ok : Settled p) where
     complete : isComplete p e.simplex e.block ≡ true
 
   shown : (s : Simplex) (e : End) → isPlace p s ≡ true → IsWay p s (stop e) → Shown e
-  shown s e h (byPlace j l c) = record { nonempty = omega (arith, place-long ok s h); apart = place-distinct p s h; one = place-in-simplex ok s h; block = l; complete = c }
+  shown s e h (byPlace j l c) = record {
+    nonempty = omega (arith, place-long ok s h);
+    apart = place-distinct p s h;
+    one = place-in-simplex ok s h;
+    block = l;
+    complete = c;
+  }
   shown s e h (byFacet f j m q l c) =
       ⊎-elim
       (λ t. let i = oneLess-at s f (rw t at m) in
@@ -133,11 +151,15 @@ module _ {p : Problem} (ok : Settled p) where
 
   -- an end has 1 to n + 1 points, all on the grid
   pub stop-points : (s : Simplex) (e : End) → isPlace p s ≡ true → IsWay p s (stop e)
-      → (1 ≤ length e.simplex) × (length e.simplex ≤ suc (dimension p.grid)) × (all (isGridPoint p.grid) e.simplex ≡ true)
-  stop-points s e h way = let S = shown s e h way in (S .nonempty, few-in-simplex e.simplex S.apart S.one, part-on-grid S.one)
+      → (1 ≤ length e.simplex) × (length e.simplex ≤ suc (dimension p.grid))
+      × (all (isGridPoint p.grid) e.simplex ≡ true)
+  stop-points s e h way =
+      let S = shown s e h way in
+      (S .nonempty, few-in-simplex e.simplex S.apart S.one, part-on-grid S.one)
 
   -- an end of a place gets yes, with its block
-  pub stop-answer : (s : Simplex) (e : End) → isPlace p s ≡ true → IsWay p s (stop e) → verdict p.grid p.labels e.simplex ≡ some e.block
+  pub stop-answer : (s : Simplex) (e : End) → isPlace p s ≡ true → IsWay p s (stop e)
+      → verdict p.grid p.labels e.simplex ≡ some e.block
   unfolding verdict completeFor isComplete labelSet setU label
   stop-answer s e h way =
       let S = shown s e h way in
@@ -153,8 +175,11 @@ module _ {p : Problem} (ok : Settled p) where
       let t = trail p (bound p.grid) none (p .start ∷ []) in
       let f = finish p t e q in
       let n = pred (pathLength p) in
-      let s = placeAt (path p .visited) n in
-      (s, all-places p t (start-place ok) n (omega (arith, f .nonempty)), end-is p s e (rw f.finishes.1 (in-here onEnds e f.finishes.0)))
+      let s = placeAt (path p .visited) n in (
+        s,
+        all-places p t (start-place ok) n (omega (arith, f .nonempty)),
+        end-is p s e (rw f.finishes.1 (in-here onEnds e f.finishes.0)),
+      )
 
   -- "Each end we print gets yes", with its block, whatever labels other points have, or none
   pub end-answer : (e : End) → path p .end ≡ some e → verdict p.grid p.labels e.simplex ≡ some e.block

@@ -1,6 +1,6 @@
--- Points whose coefficients, with one of them as the start, are 0s and 1s, any two lists nested, lie in one simplex. In order: sums of a
--- set; one index more steps to the next point; sets grown index by index through all the points' sets up to all indices but one of each
--- block; the simplex. Assumes nothing.
+-- Points whose coefficients, with one of them as the start, are 0s and 1s, any two lists nested, lie in one simplex. In
+-- order: sums of a set; one index more steps to the next point; sets grown index by index through all the points' sets
+-- up to all indices but one of each block; the simplex. Assumes nothing.
 use mathlib.Core.Bool.{true, false, not}
 use mathlib.Core.List.{List, [], _∷_}
 use mathlib.Core.Logic.{_⊎_, inl, inr, ⊎-elim, _↔_}
@@ -20,9 +20,11 @@ use Rattle.geometry.proofs.Search.{raise-at, raise-elsewhere}
 use Rattle.geometry.proofs.Sizes.{upto}
 use Rattle.grid.proofs.Accepted.{Accepted, size-two}
 use Rattle.grid.proofs.Points.{onPoints}
-use Rattle.grid.specs.Grid.{Grid, Point, at, numBlocks, numIndices, firstIndex, size, blocks, indices, indicesOf, next, previous}
+use Rattle.grid.specs.Grid.{Grid, Point, at, numBlocks, numIndices, firstIndex, size, blocks, indices, indicesOf, next}
+use Rattle.grid.specs.Grid.{previous}
 use Rattle.grid.specs.Grid.{isGridPoint, samePoint}
-use Rattle.place.proofs.BlocksOfGrid.{blocksOf, pointOf, next-agrees, block-own, block-agrees, block-inside, on-ring, hasZeros, point-grid}
+use Rattle.place.proofs.BlocksOfGrid.{blocksOf, pointOf, next-agrees, block-own, block-agrees, block-inside, on-ring}
+use Rattle.place.proofs.BlocksOfGrid.{hasZeros, point-grid}
 use Rattle.place.proofs.BlocksOfGrid.{point-coefficientOf}
 use Rattle.place.proofs.Meaning.{index-means}
 use Rattle.place.proofs.Positions.{in-at, occurs-once}
@@ -55,7 +57,8 @@ raise-unit h a k = ⊎-elim (λ t. rw t (omega arith)) (λ f. rw f (omega arith)
 
 count-one : (x : ℕ) (xs : List ℕ) → length (filter (λ k. eqb x k) xs) ≡ occurrences x xs
 count-one x [] = refl
-count-one x (y ∷ xs) = ⊎-elim (λ t. rw t (ap suc (count-one x xs))) (λ f. rw f (count-one x xs)) (true-or-false (eqb x y))
+count-one x (y ∷ xs) =
+    ⊎-elim (λ t. rw t (ap suc (count-one x xs))) (λ f. rw f (count-one x xs)) (true-or-false (eqb x y))
 
 module _ {g : Grid} (A : Accepted g) (p : Point) (hp : isGridPoint g p ≡ true) where
   abbrev R : Blocks
@@ -113,7 +116,9 @@ module _ {g : Grid} (A : Accepted g) (p : Point) (hp : isGridPoint g p ≡ true)
       onGrid = and-both _ _ (point-grid ok c C.grid) refl;
       once = refl;
       members = λ k. ((λ m. absurd-bool (sym m)), (λ l. absurd (omega (arith, b k))));
-      has = λ i l d. let e : q i ≡ c = fun-ext (λ k. omega (arith, d k, b k, above i l k)) in rw e (in-here onPoints (pointAt c) []);
+      has = λ i l d.
+          let e : q i ≡ c = fun-ext (λ k. omega (arith, d k, b k, above i l k)) in
+          rw e (in-here onPoints (pointAt c) []);
     }
 
     module _ (fuel : ℕ) (go-on : From fuel) (c : ℕ → ℕ) (C : Closed R c) (B : Smallest R n q c w n)
@@ -133,21 +138,28 @@ module _ {g : Grid} (A : Accepted g) (p : Point) (hp : isGridPoint g p ≡ true)
           (λ n. omega (arith, raise-elsewhere h c k n, B .above k)) (same-or k h)
 
       inside : h < numIndices g
-      inside = ⊎-elim (λ l. l) (λ (l : numIndices g ≤ h). absurd (omega (arith, zero-from R (numIndices g) own B.closed h l, more .new)))
+      inside = ⊎-elim
+          (λ l. l)
+          (λ (l : numIndices g ≤ h). absurd (omega (arith, zero-from R (numIndices g) own B.closed h l, more .new)))
           (before-or-not h (numIndices g))
 
       later : Grown n q w d
       later = go-on d
-          (record { grid = more .closed; zeros = λ a. let z = B .closed .zeros a in (z .0, z .1, omega (arith, small z.0, z .2)) })
+          (record {
+            grid = more .closed;
+            zeros = λ a. let z = B .closed .zeros a in (z .0, z .1, omega (arith, small z.0, z .2));
+          })
           (λ k. omega (arith, small k, B .within k))
-          (λ i l. ⊎-elim (λ b. inl (λ k. omega (arith, raise-above h c k, b k))) (λ b. inr (λ k. omega (arith, small k, b k)))
+          (λ i l. ⊎-elim
+          (λ b. inl (λ k. omega (arith, raise-above h c k, b k)))
+          (λ b. inr (λ k. omega (arith, small k, b k)))
           (B .splits i l))
           (omega (arith, upto-lt (raise-above h c) (numIndices g) h inside (omega (arith, raise-at h c))))
 
       step : Grown n q w c
       step =
-          let out : isIn eqb h later.order ≡ false = false-of _
-          (λ x. absurd (omega (arith, later .members h .0 x, raise-at h c, ones h))) in
+          let out : isIn eqb h later.order ≡ false =
+          false-of _ (λ x. absurd (omega (arith, later .members h .0 x, raise-at h c, ones h))) in
           record {
             order = h ∷ later .order;
             rest = pointAt d ∷ later .rest;
@@ -155,24 +167,32 @@ module _ {g : Grid} (A : Accepted g) (p : Point) (hp : isGridPoint g p ≡ true)
             onGrid = and-both _ _ (point-grid ok c C.grid) later.onGrid;
             once = rw out later.once;
             members = λ k. (
-              (λ x. ⊎-elim (λ (e : k ≡ h). omega (arith, ap c e, ap w e, more .old, more .new, B .within h))
-                  (λ y. omega (arith, later .members k .0 y, raise-above h c k)) (in-cases onNumbers k h later.order x)),
-              (λ x. ⊎-elim (λ (e : k ≡ h). rw e (in-here onNumbers h later.order))
-                  (λ y. in-later onNumbers k h later.order (later .members k .1 (omega (arith, raise-elsewhere h c k y)))) (same-or k h)),
+              (λ x. ⊎-elim
+                  (λ (e : k ≡ h). omega (arith, ap c e, ap w e, more .old, more .new, B .within h))
+                  (λ y. omega (arith, later .members k .0 y, raise-above h c k))
+                  (in-cases onNumbers k h later.order x)),
+              (λ x. ⊎-elim
+                  (λ (e : k ≡ h). rw e (in-here onNumbers h later.order))
+                  (λ y.
+                  in-later onNumbers k h later.order (later .members k .1 (omega (arith, raise-elsewhere h c k y))))
+                  (same-or k h)),
             );
             has = λ i l b. ⊎-elim
-                (λ a. let e : q i ≡ c = fun-ext (λ k. omega (arith, a k, b k)) in rw e
-                (in-here onPoints (pointAt c) (pointAt d ∷ later .rest)))
+                (λ a.
+                let e : q i ≡ c = fun-ext (λ k. omega (arith, a k, b k)) in
+                rw e (in-here onPoints (pointAt c) (pointAt d ∷ later .rest)))
                 (λ a. in-later onPoints (pointAt (q i)) (pointAt c) (pointAt d ∷ later .rest)
                 (later .has i l (λ k. omega (arith, small k, a k))))
                 (B .splits i l);
           }
 
     grow : (fuel : ℕ) → From fuel
-    grow zero c C inW splits enough =
-        ⊎-elim (λ k. absurd (omega (arith, upto-lt inW (numIndices g) k.0 k.1 k.2))) (done c C) (more-or R (numIndices g) own c W)
-    grow (suc fuel) c C inW splits enough =
-        ⊎-elim (λ k. step fuel (grow fuel) c C (smallest R (numIndices g) own S W ones above inW splits k.0 k.2 n (omega arith)) enough)
+    grow zero c C inW splits enough = ⊎-elim
+        (λ k. absurd (omega (arith, upto-lt inW (numIndices g) k.0 k.1 k.2)))
+        (done c C) (more-or R (numIndices g) own c W)
+    grow (suc fuel) c C inW splits enough = ⊎-elim
+        (λ k. step fuel (grow fuel) c C
+        (smallest R (numIndices g) own S W ones above inW splits k.0 k.2 n (omega arith)) enough)
         (done c C) (more-or R (numIndices g) own c W)
 
   -- the simplex
@@ -180,17 +200,21 @@ module _ {g : Grid} (A : Accepted g) (p : Point) (hp : isGridPoint g p ≡ true)
   positive h = let f = place-chain ok (p ∷ []) (start-place ok) .free h in (f .0, f .1, omega (arith, f .3))
 
   -- the indices where a set is not 0, one of each block left out, are an order
-  order-of : {c : ℕ → ℕ} (W : Whole R c) (o : List ℕ) → distinct eqb o ≡ true → ((k : ℕ) → (isIn eqb k o ≡ true) ↔ (0 < W .set k))
-      → isOrder g o ≡ true
+  order-of : {c : ℕ → ℕ} (W : Whole R c) (o : List ℕ) → distinct eqb o ≡ true
+      → ((k : ℕ) → (isIn eqb k o ≡ true) ↔ (0 < W .set k)) → isOrder g o ≡ true
   unfolding isOrder
-  order-of W o once members =
-      and-both _ _ (and-both _ _ (in-all onNumbers (λ h. isIn eqb h (indices g)) o (λ h x. index-means g h .1 (inside h x))) once)
-      (in-all onNumbers (λ j. eqb (length (filter (λ h. not (isIn eqb h o)) (indicesOf g j))) 1) (blocks g)
+  order-of W o once members = and-both _ _
+      (and-both _ _ (in-all onNumbers (λ h. isIn eqb h (indices g)) o (λ h x. index-means g h .1 (inside h x))) once)
+      (in-all onNumbers
+      (λ j. eqb (length (filter (λ h. not (isIn eqb h o)) (indicesOf g j))) 1)
+      (blocks g)
       (λ j x. one j (omega (arith, upFrom-in 0 (numBlocks g) j x .1))))
     where
       inside : (h : ℕ) → isIn eqb h o ≡ true → h < numIndices g
-      inside h x = ⊎-elim (λ l. l)
-          (λ (l : numIndices g ≤ h). absurd (omega (arith, zero-from R (numIndices g) own W.closed h l, members h .0 x)))
+      inside h x = ⊎-elim
+          (λ l. l)
+          (λ (l : numIndices g ≤ h).
+          absurd (omega (arith, zero-from R (numIndices g) own W.closed h l, members h .0 x)))
           (before-or-not h (numIndices g))
 
       one : (j : ℕ) → j < numBlocks g → eqb (length (filter (λ h. not (isIn eqb h o)) (indicesOf g j))) 1 ≡ true
@@ -205,19 +229,28 @@ module _ {g : Grid} (A : Accepted g) (p : Point) (hp : isGridPoint g p ≡ true)
           filter-cong onNumbers (indicesOf g j) (λ k x.
           let s = upFrom-in (firstIndex g j) (size g j) k x in
           let is : firstIndex g j + (k - firstIndex g j) ≡ k = omega (arith, s .0) in
-          let bk : R .block k ≡ j = rw is at (block-agrees (startingAt g p) j (k - firstIndex g j) (omega (arith, s .1))) in
-          ⊎-elim (λ (i : isIn eqb k o ≡ true). rw (i, ne-eqb e.0 k (λ q. omega (arith, members k .0 i, ap W.set q, e .2))))
+          let bk : R .block k ≡ j =
+          rw is at (block-agrees (startingAt g p) j (k - firstIndex g j) (omega (arith, s .1))) in
+          ⊎-elim
+          (λ (i : isIn eqb k o ≡ true). rw (i, ne-eqb e.0 k (λ q. omega (arith, members k .0 i, ap W.set q, e .2))))
           (λ (i : isIn eqb k o ≡ false).
-          let z : W .set k ≡ 0 = ⊎-elim (λ (y : 0 < W .set k). absurd-bool (sym (members k .1 y) ∙ i)) (λ y. omega arith)
+          let z : W .set k ≡ 0 = ⊎-elim
+          (λ (y : 0 < W .set k). absurd-bool (sym (members k .1 y) ∙ i))
+          (λ y. omega arith)
           (before-or-not 0 (W .set k)) in
-          rw (i, eq-eqb e.0 k (sym (e .3 k (bk ∙ sym bh) z)))) (true-or-false (isIn eqb k o))) in
-          eq-eqb _ 1 (ap length same ∙ count-one e.0 (indicesOf g j)
+          rw (i, eq-eqb e.0 k (sym (e .3 k (bk ∙ sym bh) z))))
+          (true-or-false (isIn eqb k o))) in
+          eq-eqb _ 1
+          (ap length same
+          ∙ count-one e.0 (indicesOf g j)
           ∙ occurs-once e.0 (indicesOf g j) (distinct-upFrom (firstIndex g j) (size g j)) here)
 
   module _ (zs : List Point) (on : all (isGridPoint g) zs ≡ true) (some : 0 < length zs) (N : Nested g zs p) where
     sets : Sets R (length zs) (setAt g zs p)
     sets = record {
-      closed = λ i l. let c = is-list A zs on p hp i l in record { grid = on-ring (startingAt g p) c; zeros = hasZeros (startingAt g p) c };
+      closed = λ i l.
+          let c = is-list A zs on p hp i l in
+          record { grid = on-ring (startingAt g p) c; zeros = hasZeros (startingAt g p) c };
       ones = N .ones;
       pairs = N .pairs;
     }
@@ -229,22 +262,29 @@ module _ {g : Grid} (A : Accepted g) (p : Point) (hp : isGridPoint g p ≡ true)
     whole = whole-of R positive (sets .closed big.0 big.1) (N .ones big.0 big.1)
 
     grown : Grown (length zs) (setAt g zs p) whole.set (λ k. 0)
-    grown = grow sets whole.closed whole.ones (λ i l k. omega (arith, big .2 i (omega arith) k, whole .above k))
-        (upto whole.set (numIndices g)) (λ k. 0)
-        (record { grid = λ k. omega arith; zeros = λ h. (h, refl, refl) }) (λ k. omega arith) (λ i l. inr (λ k. omega arith)) (omega arith)
+    grown = grow sets whole.closed whole.ones
+        (λ i l k. omega (arith, big .2 i (omega arith) k, whole .above k))
+        (upto whole.set (numIndices g))
+        (λ k. 0)
+        (record { grid = λ k. omega arith; zeros = λ h. (h, refl, refl) })
+        (λ k. omega arith)
+        (λ i l. inr (λ k. omega arith))
+        (omega arith)
 
     points : List Point
     points = pointAt (λ k. 0) ∷ grown .rest
 
     is-simplex : isSimplex g grown.order points ≡ true
     unfolding isSimplex points
-    is-simplex = and-both _ _ (and-both _ _ (order-of whole grown.order grown.once grown.members) grown.steps) grown.onGrid
+    is-simplex =
+        and-both _ _ (and-both _ _ (order-of whole grown.order grown.once grown.members) grown.steps) grown.onGrid
 
     has-all : (z : Point) → isIn samePoint z zs ≡ true → isIn samePoint z points ≡ true
     unfolding points
     has-all z x =
         let i = in-at onPoints [] z zs x in
-        let e : pointAt (setAt g zs p i.0) ≡ z = point-coefficientOf ok (nth zs i.0) (on-at A zs on p hp i.0 i.1) ∙ i .2 in
+        let e : pointAt (setAt g zs p i.0) ≡ z =
+        point-coefficientOf ok (nth zs i.0) (on-at A zs on p hp i.0 i.1) ∙ i .2 in
         rw e at (grown .has i.0 i.1 (λ k. omega arith))
 
     pub in-simplex : InOneSimplex g zs

@@ -1,6 +1,6 @@
--- "one simplex of the paper's Q triangulation for some start": the simplices of the request are the places of document 01, labels apart, of
--- n + 1 points for the start that is their first point; so points lie in one simplex exactly if they are part of a place, labels apart, for
--- some start. Assumes nothing.
+-- "one simplex of the paper's Q triangulation for some start": the simplices of the request are the places of document
+-- 01, labels apart, of n + 1 points for the start that is their first point; so points lie in one simplex exactly if
+-- they are part of a place, labels apart, for some start. Assumes nothing.
 use mathlib.Core.Bool.{Bool, true, false, not}
 use mathlib.Core.List.{List, [], _∷_}
 use mathlib.Core.Logic.{_↔_, ⊎-elim}
@@ -22,8 +22,10 @@ use Rattle.geometry.proofs.Points.{nth, listAt-map}
 use Rattle.grid.proofs.Accepted.{Accepted, size-two}
 use Rattle.grid.proofs.Points.{onPoints}
 use Rattle.grid.proofs.Round.{seat, next-at, next-round, block-fits}
-use Rattle.grid.specs.Grid.{Grid, Point, at, numBlocks, numIndices, firstIndex, size, indicesOf, next, isGridPoint, samePoint}
-use Rattle.place.proofs.BlocksOfGrid.{blocksOf, coefficientOf, start-inside, start-outside, block-agrees, beyond, on-ring, hasZeros}
+use Rattle.grid.specs.Grid.{Grid, Point, at, numBlocks, numIndices, firstIndex, size, indicesOf, next, isGridPoint}
+use Rattle.grid.specs.Grid.{samePoint}
+use Rattle.place.proofs.BlocksOfGrid.{blocksOf, coefficientOf, start-inside, start-outside, block-agrees, beyond}
+use Rattle.place.proofs.BlocksOfGrid.{on-ring, hasZeros}
 use Rattle.place.proofs.BlocksOfGrid.{coefficientOf-is, point-coefficientOf}
 use Rattle.place.proofs.FromChain.{place-of}
 use Rattle.place.proofs.Positions.{at-in, in-at, same-at, at-distinct, never, occurs-once}
@@ -32,7 +34,8 @@ use Rattle.place.specs.Coefficients.{coefficients}
 use Rattle.place.specs.Demand.{Settled}
 use Rattle.place.specs.Places.{isPlace, isUnlabelledPlace, setT, unit}
 use Rattle.place.specs.Problem.{Problem, label}
-use Rattle.simplices.proofs.Along.{passed, passed-rises, passed-at-most, Walk, walk-of, walk-rule, on-walk, walk-coefficients}
+use Rattle.simplices.proofs.Along.{passed, passed-rises, passed-at-most, Walk, walk-of, walk-rule, on-walk}
+use Rattle.simplices.proofs.Along.{walk-coefficients}
 use Rattle.simplices.proofs.Places.{unlabelled-in-simplex}
 use Rattle.simplices.proofs.Relabelled.{relabelled, label-at}
 use Rattle.simplices.proofs.Search.{left-one, steps-long}
@@ -73,13 +76,15 @@ module _ {g : Grid} (A : Accepted g) (o : List ℕ) (s : List Point) (h : isSimp
   ok = settled g A (nth s 0) (on-walk A w some 0 some)
 
   c-is : (j : ℕ) → j < length s → (k : ℕ) → k < numIndices g → c j k ≡ passed o j k
-  c-is j l k x = ap (λ (l : List ℕ). at l k) (walk-coefficients A w some j l) ∙ getD-tabulate 0 (numIndices g) (passed o j) k x
+  c-is j l k x =
+      ap (λ (l : List ℕ). at l k) (walk-coefficients A w some j l) ∙ getD-tabulate 0 (numIndices g) (passed o j) k x
 
   -- outside the order every coefficient is 0
   c-out : (j : ℕ) → j < length s → (k : ℕ) → isIn eqb k o ≡ false → c j k ≡ 0
-  c-out j l k f =
-      ⊎-elim (λ (x : k < numIndices g). omega (arith, c-is j l k x, passed-at-most o j k, never k o f))
-      (λ (x : numIndices g ≤ k). beyond Q (coefficientOf-is ok (nth s j) (on-walk A w some j l)) k x) (before-or-not k (numIndices g))
+  c-out j l k f = ⊎-elim
+      (λ (x : k < numIndices g). omega (arith, c-is j l k x, passed-at-most o j k, never k o f))
+      (λ (x : numIndices g ≤ k). beyond Q (coefficientOf-is ok (nth s j) (on-walk A w some j l)) k x)
+      (before-or-not k (numIndices g))
 
   c-next : (j : ℕ) → suc j < length s → (k : ℕ) → k < numIndices g → c (suc j) k ≡ c j k + unit (at o j) k
   c-next j l k x = omega (arith, c-is (suc j) l k x, c-is j (omega arith) k x, passed-next o j k (omega (arith, long)))
@@ -93,9 +98,11 @@ module _ {g : Grid} (A : Accepted g) (o : List ℕ) (s : List Point) (h : isSimp
       omega (arith, c-next j (omega (arith, long)) (at o j) (below-at j l))
 
   points-distinct : distinct samePoint s ≡ true
-  points-distinct = at-distinct onPoints [] s (λ i j l m e.
-      ⊎-elim (λ (x : i < j). absurd (differ i j x m e))
-      (λ (x : j ≤ i). ⊎-elim (λ (y : j < i). absurd (differ j i y l (sym e))) (λ y. omega arith) (before-or-not j i)) (before-or-not i j))
+  points-distinct = at-distinct onPoints [] s
+      (λ i j l m e. ⊎-elim
+      (λ (x : i < j). absurd (differ i j x m e))
+      (λ (x : j ≤ i). ⊎-elim (λ (y : j < i). absurd (differ j i y l (sym e))) (λ y. omega arith) (before-or-not j i))
+      (before-or-not i j))
     where
       differ : (i j : ℕ) → i < j → j < length s → nth s i ≡ nth s j → ⊥
       differ i j x m e =
@@ -128,17 +135,19 @@ module _ {g : Grid} (A : Accepted g) (o : List ℕ) (s : List Point) (h : isSimp
       let f : ℕ = firstIndex g j + i in
       let q : ℕ → Bool = λ k. not (isIn eqb k o) in
       let z = next-seat j i l in
-      ⊎-elim (λ t. t)
+      ⊎-elim
+      (λ t. t)
       (λ (n : isIn eqb (next g f) o ≡ false).
       let here : isIn eqb f (filter q (indicesOf g j)) ≡ true = in-filter onNumbers q f (indicesOf g j)
       (in-upFrom (firstIndex g j) (size g j) f (omega arith) (omega arith)) (rw e) in
-      let there : isIn eqb (next g f) (filter q (indicesOf g j)) ≡ true = in-filter onNumbers q (next g f) (indicesOf g j)
-      (in-upFrom (firstIndex g j) (size g j) (next g f) z.0 z.1) (rw n) in
+      let there : isIn eqb (next g f) (filter q (indicesOf g j)) ≡ true = in-filter onNumbers q (next g f)
+      (indicesOf g j) (in-upFrom (firstIndex g j) (size g j) (next g f) z.0 z.1) (rw n) in
       absurd (z .2 (size-two g A j b .0)
       (only-member onNumbers f (next g f) (filter q (indicesOf g j)) (omega (arith, left-one g o s h j b)) here there)))
       (true-or-false (isIn eqb (next g f) o))
 
-  -- an index left out has a positive coordinate at the first point: it gives 1 at the step of the next index, and never gets any
+  -- an index left out has a positive coordinate at the first point: it gives 1 at the step of the next index, and never
+  -- gets any
   left-positive : (f : ℕ) → f < numIndices g → isIn eqb f o ≡ false → 0 < at (nth s 0) f
   left-positive f x e =
       let b = seat g f x in
@@ -154,20 +163,25 @@ module _ {g : Grid} (A : Accepted g) (o : List ℕ) (s : List Point) (h : isSimp
       )
 
   c-first : (k : ℕ) → c 0 k ≡ 0
-  c-first k = ⊎-elim (λ (x : k < numIndices g). c-is 0 some k x)
-      (λ (x : numIndices g ≤ k). beyond Q (coefficientOf-is ok (nth s 0) (on-walk A w some 0 some)) k x) (before-or-not k (numIndices g))
+  c-first k = ⊎-elim
+      (λ (x : k < numIndices g). c-is 0 some k x)
+      (λ (x : numIndices g ≤ k). beyond Q (coefficientOf-is ok (nth s 0) (on-walk A w some 0 some)) k x)
+      (before-or-not k (numIndices g))
 
   chain : Chain (blocksOf Q) (λ k. isIn eqb k o) (length o) c (at o)
   chain =
       let R = blocksOf Q in
       let is : (j : ℕ) → j < length s → _ = λ j l. coefficientOf-is ok (nth s j) (on-walk A w some j l) in
       record {
-        tight = λ j l k f. let m : j < length s = omega (arith, long) in omega (arith, c-out j m k f, on-ring Q (is j m) k);
+        tight = λ j l k f.
+            let m : j < length s = omega (arith, long) in
+            omega (arith, c-out j m k f, on-ring Q (is j m) k);
         grid = λ j l. on-ring Q (is j (omega (arith, long)));
         hasZeros = λ j l. hasZeros Q (is j (omega (arith, long)));
         step = λ j l. record {
           raised = raised j l;
-          unchanged = λ k t n. let u : unit (at o j) k ≡ 0 = rw (ne-eqb k (at o j) n) in
+          unchanged = λ k t n.
+              let u : unit (at o j) k ≡ 0 = rw (ne-eqb k (at o j) n) in
               omega (arith, c-next j (omega (arith, long)) k (w .below k t));
         };
         order = record {
@@ -176,11 +190,14 @@ module _ {g : Grid} (A : Accepted g) (o : List ℕ) (s : List Point) (h : isSimp
           all = λ k t. in-at onNumbers 0 k o t;
         };
         free = λ a. ⊎-elim
-            (λ (x : a < numIndices g). let b = seat g a x in let f = w .leaves b.j b.block in
+            (λ (x : a < numIndices g).
+            let b = seat g a x in
+            let f = w .leaves b.j b.block in
             let fx : f .0 < numIndices g = omega (arith, f .2, block-fits g.sizes b.j) in
             let e : f .0 ≡ firstIndex g b.j + (f .0 - firstIndex g b.j) = omega (arith, f .1) in (
               f .0,
-              ap R.block e ∙ block-agrees Q b.j (f .0 - firstIndex g b.j) (omega (arith, f .1, f .2))
+              ap R.block e
+                  ∙ block-agrees Q b.j (f .0 - firstIndex g b.j) (omega (arith, f .1, f .2))
                   ∙ sym (ap R.block b.is ∙ block-agrees Q b.j b.i b.inside),
               f .3,
               omega (arith, c-first (R .next f.0), start-inside Q f.0 fx, left-positive f.0 fx f.3),
@@ -192,9 +209,8 @@ module _ {g : Grid} (A : Accepted g) (o : List ℕ) (s : List Point) (h : isSimp
       }
 
   -- with labels that say the order it is a place
-  labelled : LabelledChain (blocksOf (relabelled g (nth s 0) o s)) (labelOf (relabelled g (nth s 0) o s)) (λ k. isIn eqb k o) (length o)
-      (at o)
-      (coefficientsOf Q s)
+  labelled : LabelledChain (blocksOf (relabelled g (nth s 0) o s)) (labelOf (relabelled g (nth s 0) o s))
+      (λ k. isIn eqb k o) (length o) (at o) (coefficientsOf Q s)
   labelled = record {
     size = length-map s (coefficientOf Q) ∙ long;
     chain = chain-ext (λ j l. sym (listAt-map (coefficientOf Q) s j (omega (arith, long)))) chain;
@@ -204,13 +220,14 @@ module _ {g : Grid} (A : Accepted g) (o : List ℕ) (s : List Point) (h : isSimp
         let i = in-at onNumbers 0 k o t in
         let l : i .0 < length s = omega (arith, i .1, long) in
         let x : at o i.0 < m = below-at i.0 i.1 in
-        let n : suc (indexOf m (suc (at o i.0))) ≡ suc (at o i.0) =
-        index-is m (suc (at o i.0)) (and-both _ _ (le-leb 1 (suc (at o i.0)) (omega arith)) (le-leb (suc (at o i.0)) m x)) .0 in (
+        let n : suc (indexOf m (suc (at o i.0))) ≡ suc (at o i.0) = index-is m (suc (at o i.0))
+        (and-both _ _ (le-leb 1 (suc (at o i.0)) (omega arith)) (le-leb (suc (at o i.0)) m x)) .0 in (
           i .0,
           omega (arith, i .1),
           ap (labelOf P) (listAt-map (coefficientOf Q) s i.0 l)
               ∙ ap (λ (y : Point). indexOf m (label P y)) (point-coefficientOf ok (nth s i.0) (on-walk A w some i.0 l))
-              ∙ ap (indexOf m) (label-at A (nth s 0) o s w.onGrid points-distinct i.0 l) ∙ omega (arith, n, i .2),
+              ∙ ap (indexOf m) (label-at A (nth s 0) o s w.onGrid points-distinct i.0 l)
+              ∙ omega (arith, n, i .2),
         );
   }
 
@@ -229,9 +246,11 @@ for-some-start {g} A zs = (
   (λ I. (
     nth I.points 0,
     I .points,
-    on-walk A (walk-of g I.order I.points I.simplex) (some A I.order I.points I.simplex) 0 (some A I.order I.points I.simplex),
+    on-walk A (walk-of g I.order I.points I.simplex) (some A I.order I.points I.simplex) 0
+        (some A I.order I.points I.simplex),
     simplex-place A I.order I.points I.simplex,
     I .has,
   )),
-  (λ f. part-in zs (all-in onPoints (λ z. isIn samePoint z f.1) zs f.4) (unlabelled-in-simplex (settled g A f.0 f.2) f.1 f.3)),
+  (λ f. part-in zs (all-in onPoints (λ z. isIn samePoint z f.1) zs f.4)
+      (unlabelled-in-simplex (settled g A f.0 f.2) f.1 f.3)),
 )

@@ -1,4 +1,5 @@
--- Request 07: distinct grid points lie in one simplex exactly if the test by coefficient lists says so. Assumes nothing.
+-- Request 07: distinct grid points lie in one simplex exactly if the test by coefficient lists says so.
+-- Assumes nothing.
 use mathlib.Core.Bool.{true}
 use mathlib.Core.List.{List, []}
 use mathlib.Core.Logic.{_↔_}
@@ -19,13 +20,16 @@ use Rattle.simplices.specs.Chains.{chainFrom, oneChain}
 use Rattle.simplices.specs.Simplices.{InOneSimplex}
 
 -- every part of what lies in one simplex does
-pub part-in : {g : Grid} {zs : List Point} (ys : List Point) → ((y : Point) → isIn samePoint y ys ≡ true → isIn samePoint y zs ≡ true)
-    → InOneSimplex g zs → InOneSimplex g ys
+pub part-in : {g : Grid} {zs : List Point} (ys : List Point)
+    → ((y : Point) → isIn samePoint y ys ≡ true → isIn samePoint y zs ≡ true) → InOneSimplex g zs → InOneSimplex g ys
 part-in {g} {zs} ys h I = record {
   order = I .order;
   points = I .points;
   simplex = I .simplex;
-  has = in-all onPoints (λ z. isIn samePoint z I.points) ys (λ y m. all-in onPoints (λ z. isIn samePoint z I.points) zs I.has y (h y m));
+  has = in-all onPoints
+      (λ z. isIn samePoint z I.points)
+      ys
+      (λ y m. all-in onPoints (λ z. isIn samePoint z I.points) zs I.has y (h y m));
 }
 
 -- and lies on the grid
@@ -41,8 +45,8 @@ module _ {g : Grid} (A : Accepted g) (zs : List Point) (on : all (isGridPoint g)
   only-if : distinct samePoint zs ≡ true → InOneSimplex g zs → oneChain g zs ≡ true
   unfolding oneChain
   only-if d I =
-      let F = from-first g zs (nth zs 0) (at-in onPoints [] zs 0 some) I.order I.points (walk-of g I.order I.points I.simplex)
-      (all-in onPoints (λ z. isIn samePoint z I.points) zs I.has) in
+      let F = from-first g zs (nth zs 0) (at-in onPoints [] zs 0 some) I.order I.points
+      (walk-of g I.order I.points I.simplex) (all-in onPoints (λ z. isIn samePoint z I.points) zs I.has) in
       in-any onPoints (chainFrom g zs) (nth F.points 0) zs F.first
       (chain-of A zs on (nth F.points 0) (listed _ F.first) (walk-nested A F.walk F.some zs F.has) d)
 

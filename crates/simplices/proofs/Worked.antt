@@ -1,4 +1,5 @@
--- The worked sheets have their answers by the definitions, and the test by coefficient lists gives the same. Assumes nothing.
+-- The worked sheets have their answers by the definitions, and the test by coefficient lists gives the same.
+-- Assumes nothing.
 use mathlib.Core.Bool.{cond}
 use mathlib.Core.List.{map}
 use mathlib.Core.Option.{none}
@@ -13,10 +14,13 @@ use Rattle.simplices.specs.Simplices.{isOrder, isSimplex, inOneSimplex, 
 use Rattle.simplices.specs.Worked.{table}
 
 worked : map (λ r. verdict r.grid r.labels r.points) table ≡ map (λ r. r .answer) table
-unfolding previous isGridPoint points label setU labelSet isComplete completeFor goesTo isOrder isSimplex inOneSimplex verdict
+unfolding previous isGridPoint points label setU labelSet isComplete completeFor goesTo isOrder isSimplex inOneSimplex
+    verdict
 worked = refl
 
-tested : map (λ r. cond (oneChain r.grid r.points) (firstOf (completeFor (labelledBy r.grid r.labels) r.points)) none) table ≡ map
-    (λ r. r .answer) table
+tested : map
+    (λ r. cond (oneChain r.grid r.points) (firstOf (completeFor (labelledBy r.grid r.labels) r.points)) none)
+    table
+    ≡ map (λ r. r .answer) table
 unfolding points label coefficients setU labelSet isComplete completeFor oneChain
 tested = refl

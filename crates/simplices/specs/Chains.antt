@@ -1,4 +1,5 @@
--- The test by which points are found to lie in one simplex: with one of them as the start, the coefficient lists are 0s and 1s, and any two are nested. Assumes nothing.
+-- The test by which points are found to lie in one simplex: with one of them as the start, the coefficient lists are 0s
+-- and 1s, and any two are nested. Assumes nothing.
 use mathlib.Core.Bool.{Bool, true, not, _&&_, _||_}
 use mathlib.Core.List.{List, [], _∷_}
 use Prim.Native.Nat.{ℕ}
@@ -35,8 +36,8 @@ pairwise r (x ∷ xs) = all (r x) xs && pairwise r xs
 
 -- with p as the start every point has 0s and 1s, any two nested
 abbrev pub chainFrom : Grid → List Point → Point → Bool
-chainFrom g zs p =
-    all (λ z. zeroOrOne g (coefficientsFrom g p z)) zs && pairwise (λ y z. nested g (coefficientsFrom g p y) (coefficientsFrom g p z)) zs
+chainFrom g zs p = all (λ z. zeroOrOne g (coefficientsFrom g p z)) zs
+    && pairwise (λ y z. nested g (coefficientsFrom g p y) (coefficientsFrom g p z)) zs
 
 -- so it is for one of the points
 unfoldable pub oneChain : Grid → List Point → Bool

@@ -1,4 +1,5 @@
--- Request 07, "Checking sheets from other programs": the simplices of the Q triangulation, points that lie in one, and the verdict. Assumes nothing.
+-- Request 07, "Checking sheets from other programs": the simplices of the Q triangulation, points that lie in one, and
+-- the verdict. Assumes nothing.
 use mathlib.Core.Bool.{Bool, true, false, not, _&&_, cond}
 use mathlib.Core.List.{List, [], _∷_, map}
 use mathlib.Core.Option.{Option, none, some}
@@ -7,7 +8,8 @@ use Prim.Native.Nat.{ℕ, _+_, _-_}
 use lib.Dec.{eqb}
 use lib.ListN.{length}
 use Rattle.combinatorics.specs.Lists.{filter, all, any, isIn, distinct, selections}
-use Rattle.grid.specs.Grid.{Grid, Point, at, numIndices, blocks, indices, indicesOf, previous, isGridPoint, samePoint, points}
+use Rattle.grid.specs.Grid.{Grid, Point, at, numIndices, blocks, indices, indicesOf, previous, isGridPoint, samePoint}
+use Rattle.grid.specs.Grid.{points}
 use Rattle.place.specs.Ends.{completeFor}
 use Rattle.place.specs.Places.{within, goesTo, unit}
 use Rattle.place.specs.Problem.{Problem}
@@ -18,8 +20,8 @@ stepped g h y z = goesTo g h (previous g h) y z
 
 -- "an order of all indices but one in each block"
 unfoldable pub isOrder : Grid → List ℕ → Bool
-isOrder g o =
-    within o (indices g) && distinct eqb o && all (λ j. eqb (length (filter (λ h. not (isIn eqb h o)) (indicesOf g j))) 1) (blocks g)
+isOrder g o = within o (indices g) && distinct eqb o
+    && all (λ j. eqb (length (filter (λ h. not (isIn eqb h o)) (indicesOf g j))) 1) (blocks g)
 
 -- from "a first point" on, each point stepped to the next by the next index of the order
 abbrev pub eachStepped : Grid → List ℕ → List Point → Bool
@@ -66,7 +68,8 @@ abbrev pub firstOf : List ℕ → Option ℕ
 firstOf [] = none
 firstOf (j ∷ js) = some j
 
--- "says yes with the first block for which they are complete, or no"; blocks count from 0 here. "Yes holds if the points are distinct,
--- belong to one simplex .., and Definition 2.2 is met, and in no other case"
+-- "says yes with the first block for which they are complete, or no"; blocks count from 0 here. "Yes holds if the
+-- points are distinct, belong to one simplex .., and Definition 2.2 is met, and in no other case"
 unfoldable pub verdict : Grid → List ℕ → List Point → Option ℕ
-verdict g labels zs = cond (distinct samePoint zs && inOneSimplex g zs) (firstOf (completeFor (labelledBy g labels) zs)) none
+verdict g labels zs =
+    cond (distinct samePoint zs && inOneSimplex g zs) (firstOf (completeFor (labelledBy g labels) zs)) none

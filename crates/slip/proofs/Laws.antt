@@ -20,7 +20,8 @@ use Rattle.grid.specs.Build.{lent}
 use Rattle.grid.specs.Grid.{Grid, numIndices, numPoints, division, firstIndex, blockOf}
 use Rattle.grid.specs.Made.{padded}
 use Rattle.losses.specs.Table.{numLosses}
-use Rattle.slip.specs.Slip.{bit, numBlocksOf, slipGrid, isMap, stands, headLength, fieldLengths, fieldLength, fieldAt, fieldsEnd, defaultCoordinate, slipStart, question13, question14}
+use Rattle.slip.specs.Slip.{bit, numBlocksOf, slipGrid, isMap, stands, headLength, fieldLengths, fieldLength}
+use Rattle.slip.specs.Slip.{fieldAt, fieldsEnd, defaultCoordinate, slipStart, question13, question14}
 
 beq-true : (a b : Bool) → Bool·beq a b ≡ true → a ≡ b
 beq-true true true e = refl
@@ -35,17 +36,24 @@ passes b = cond (ltb b 4) false (cond (ltb b 12) true (cond (ltb b 16) false (lt
 -- by a test of all bytes
 pub map-passes : (b : ℕ) → b < 256 → isMap b ≡ passes b
 unfolding isMap
-map-passes b h = beq-true (isMap b) (passes b) (all-in onNumbers (λ x. Bool·beq (isMap x) (passes x)) (upFrom 0 256) refl b (in-upFrom 0 256 b (omega arith) (omega arith)))
+map-passes b h = beq-true (isMap b) (passes b)
+    (all-in onNumbers (λ x. Bool·beq (isMap x) (passes x)) (upFrom 0 256) refl b
+    (in-upFrom 0 256 b (omega arith) (omega arith)))
 
 -- "each block has d_j at its first index", and 0 elsewhere
 module _ (g : Grid) (h j : ℕ) (in-block : j ≡ blockOf g h) where
   pub default-first : h ≡ firstIndex g j → division g j ≡ defaultCoordinate g h
   unfolding defaultCoordinate
-  default-first e = ap (division g) in-block ∙ sym (ap (λ b. cond b (division g (blockOf g h)) 0) (eq-eqb h (firstIndex g (blockOf g h)) (e ∙ ap (firstIndex g) in-block)))
+  default-first e = ap (division g) in-block
+      ∙ sym (ap
+      (λ b. cond b (division g (blockOf g h)) 0)
+      (eq-eqb h (firstIndex g (blockOf g h)) (e ∙ ap (firstIndex g) in-block)))
 
   pub default-other : (h ≡ firstIndex g j → ⊥) → 0 ≡ defaultCoordinate g h
   unfolding defaultCoordinate
-  default-other n = sym (ap (λ b. cond b (division g (blockOf g h)) 0) (ne-eqb h (firstIndex g (blockOf g h)) (λ e. n (e ∙ sym (ap (firstIndex g) in-block)))))
+  default-other n = sym (ap
+      (λ b. cond b (division g (blockOf g h)) 0)
+      (ne-eqb h (firstIndex g (blockOf g h)) (λ e. n (e ∙ sym (ap (firstIndex g) in-block)))))
 
 -- the fields of a slip
 module _ (slip : List ℕ) where
@@ -72,15 +80,19 @@ module _ (slip : List ℕ) where
 
   at-grows : (k d : ℕ) → fieldAt slip k ≤ fieldAt slip (d + k)
   at-grows k zero = let z : 0 + k ≡ k = omega arith in rw z (omega arith)
-  at-grows k (suc d) = let z : suc d + k ≡ suc (d + k) = omega arith in rw z (omega (arith, at-next (d + k), at-grows k d))
+  at-grows k (suc d) =
+      let z : suc d + k ≡ suc (d + k) = omega arith in
+      rw z (omega (arith, at-next (d + k), at-grows k d))
 
   -- the sizes are a part of the slip
-  pub grid-from : (n : ℕ) (divisions : List ℕ) → n ≡ numBlocksOf slip → divisions ≡ words n slip (2 + n) → lent (take (2 + n - 2) (drop 2 slip)) divisions ≡ slipGrid slip
+  pub grid-from : (n : ℕ) (divisions : List ℕ) → n ≡ numBlocksOf slip → divisions ≡ words n slip (2 + n)
+      → lent (take (2 + n - 2) (drop 2 slip)) divisions ≡ slipGrid slip
   grid-from n divisions e d =
       let z : 2 + n - 2 ≡ n = omega arith in
       rw (d, z, e)
 
-  pub start-there : (n at : ℕ) → stands slip 0 ≡ true → n ≡ numIndices (slipGrid slip) → at ≡ fieldAt slip 0 → words n slip at ++ drop n (replicate 16 0) ≡ padded 16 (slipStart slip)
+  pub start-there : (n at : ℕ) → stands slip 0 ≡ true → n ≡ numIndices (slipGrid slip) → at ≡ fieldAt slip 0
+      → words n slip at ++ drop n (replicate 16 0) ≡ padded 16 (slipStart slip)
   unfolding slipStart front
   start-there n at t e f = rw (t, e, f, length-words)
 
@@ -100,7 +112,8 @@ module _ (slip : List ℕ) where
 
     one-bit : eqb (length (filter (stands slip) (2 ∷ 3 ∷ 4 ∷ []))) 1 ≡ true
     unfolding isMap stands
-    one-bit = and-right (all (λ k. not (bit (getD slip 0 0) k)) (upFrom 5 3)) _ (and-right (leb (headLength slip) (length slip)) (isMap (getD slip 0 0)) head)
+    one-bit = and-right (all (λ k. not (bit (getD slip 0 0) k)) (upFrom 5 3)) _
+        (and-right (leb (headLength slip) (length slip)) (isMap (getD slip 0 0)) head)
 
     -- labels: neither game nor losses
     pub labels-only : stands slip 2 ≡ true → (stands slip 3 ≡ false) × (stands slip 4 ≡ false)
@@ -115,25 +128,53 @@ module _ (slip : List ℕ) where
     module _ (two : stands slip 2 ≡ false) where
       -- a game: no losses
       pub game-only : stands slip 3 ≡ true → stands slip 4 ≡ false
-      game-only three = ⊎-elim (λ (y : stands slip 4 ≡ true). absurd-bool (sym (rw (two, three, y) at one-bit))) (λ n. n) (true-or-false (stands slip 4))
+      game-only three = ⊎-elim
+          (λ (y : stands slip 4 ≡ true). absurd-bool (sym (rw (two, three, y) at one-bit)))
+          (λ n. n)
+          (true-or-false (stands slip 4))
 
       -- neither labels nor a game: losses
       pub losses-only : stands slip 3 ≡ false → stands slip 4 ≡ true
-      losses-only three = ⊎-elim (λ y. y) (λ (n : stands slip 4 ≡ false). absurd-bool (sym (rw (two, three, n) at one-bit))) (true-or-false (stands slip 4))
+      losses-only three = ⊎-elim
+          (λ y. y)
+          (λ (n : stands slip 4 ≡ false). absurd-bool (sym (rw (two, three, n) at one-bit)))
+          (true-or-false (stands slip 4))
 
     -- the one field of the three is the last of the slip
     pub labels-last : stands slip 2 ≡ true → fieldsEnd slip ≡ fieldAt slip 2 + numPoints (slipGrid slip)
     labels-last two =
         let none = labels-only two in
-        omega (arith, at-next 2, at-next 3, at-next 4, length-there 2 two, length-absent 3 (none .0), length-absent 4 (none .1))
+        omega (
+          arith,
+          at-next 2,
+          at-next 3,
+          at-next 4,
+          length-there 2 two,
+          length-absent 3 (none .0),
+          length-absent 4 (none .1),
+        )
 
-    pub game-last : stands slip 2 ≡ false → stands slip 3 ≡ true → (fieldAt slip 3 ≡ fieldAt slip 2) × (fieldsEnd slip ≡ fieldAt slip 2 + 1)
+    pub game-last : stands slip 2 ≡ false → stands slip 3 ≡ true
+        → (fieldAt slip 3 ≡ fieldAt slip 2) × (fieldsEnd slip ≡ fieldAt slip 2 + 1)
     game-last two three =
-        let none = length-absent 2 two in
-        (omega (arith, at-next 2, none), omega (arith, at-next 2, at-next 3, at-next 4, none, length-there 3 three, length-absent 4 (game-only two three)))
+        let none = length-absent 2 two in (
+          omega (arith, at-next 2, none),
+          omega (
+            arith,
+            at-next 2,
+            at-next 3,
+            at-next 4,
+            none,
+            length-there 3 three,
+            length-absent 4 (game-only two three),
+          ),
+        )
 
-    pub losses-last : stands slip 2 ≡ false → stands slip 3 ≡ false → (fieldAt slip 4 ≡ fieldAt slip 2) × (fieldsEnd slip ≡ fieldAt slip 2 + 2 * numLosses (slipGrid slip))
+    pub losses-last : stands slip 2 ≡ false → stands slip 3 ≡ false
+        → (fieldAt slip 4 ≡ fieldAt slip 2) × (fieldsEnd slip ≡ fieldAt slip 2 + 2 * numLosses (slipGrid slip))
     losses-last two three =
         let none = length-absent 2 two in
-        let some = length-there 4 (losses-only two three) in
-        (omega (arith, at-next 2, at-next 3, none, length-absent 3 three), omega (arith, at-next 2, at-next 3, at-next 4, none, length-absent 3 three, some))
+        let some = length-there 4 (losses-only two three) in (
+          omega (arith, at-next 2, at-next 3, none, length-absent 3 three),
+          omega (arith, at-next 2, at-next 3, at-next 4, none, length-absent 3 three, some),
+        )

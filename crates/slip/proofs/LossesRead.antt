@@ -54,14 +54,16 @@ pub record Brought (slip : List ℕ) (begin : ℕ) : Type 0 where
   pub ends : length slip ≡ begin + 2 * numLosses (slipGrid slip)
   pub few : numLosses (slipGrid slip) ≤ 1944
 
-pub brought : (slip : List ℕ) (r : Reading) (room : List ℕ) → WithLosses slip r room → (begin : ℕ) → r .table ≡ LossesFrom begin → Brought slip begin
+pub brought : (slip : List ℕ) (r : Reading) (room : List ℕ) → WithLosses slip r room → (begin : ℕ)
+    → r .table ≡ LossesFrom begin → Brought slip begin
 brought slip r room w begin e =
     let zero = code slip r room w in
     let head = answers slip zero .0 in
     let l = are-losses slip head begin (sym (table-named slip r room w) ∙ e) in
     let last = losses-last slip head (l .0) (l .1) in
     let g = grid-accepted (slipGrid slip) (answers slip zero .1) in
-    let most = mul-le-mul {n₁ = numBlocks (slipGrid slip)} {m₁ = product (slipGrid slip .sizes)} {n₂ = 6} {m₂ = 324} (g .fewBlocks) (product-few (slipGrid slip .sizes) (g .fewIndices)) in
+    let most = mul-le-mul {n₁ = numBlocks (slipGrid slip)} {m₁ = product (slipGrid slip .sizes)} {n₂ = 6} {m₂ = 324}
+    (g .fewBlocks) (product-few (slipGrid slip .sizes) (g .fewIndices)) in
     record {
       there = losses-only slip head (l .0) (l .1);
       begins = l .2;
@@ -78,18 +80,22 @@ module _ (slip : List ℕ) (begin : ℕ) (b : Brought slip begin) where
   count-is = ap length losses-are ∙ length-words (numLosses (slipGrid slip)) slip begin
 
   -- the numbers that are read stand at the front of the room
-  pub words-put : (count : ℕ) (read room : List ℕ) → count ≡ numLosses (slipGrid slip) → read ≡ words count slip begin → read ++ drop count room ≡ front (slipLosses slip) room
+  pub words-put : (count : ℕ) (read room : List ℕ) → count ≡ numLosses (slipGrid slip) → read ≡ words count slip begin
+      → read ++ drop count room ≡ front (slipLosses slip) room
   unfolding front
   words-put count read room e f = rw (losses-are, length-words, f, e)
 
   -- and are read back from there
-  pub read-back : (count : ℕ) (now room : List ℕ) → count ≡ numLosses (slipGrid slip) → now ≡ front (slipLosses slip) room → take count now ≡ slipLosses slip
+  pub read-back : (count : ℕ) (now room : List ℕ) → count ≡ numLosses (slipGrid slip)
+      → now ≡ front (slipLosses slip) room
+      → take count now ≡ slipLosses slip
   read-back count now room e f = rw (f, e, ← count-is) (front-taken (slipLosses slip) room)
 
   pub room-left : (now room : List ℕ) → length room ≡ 1944 → now ≡ front (slipLosses slip) room → length now ≡ 1944
   room-left now room e f = ap length f ∙ front-length (slipLosses slip) room (omega (arith, count-is, b .few)) ∙ e
 
-  pub in-range : (count : ℕ) → all inRange (slipLosses slip) ≡ true → count ≡ numLosses (slipGrid slip) → Count count ≡ lossesOf slip
+  pub in-range : (count : ℕ) → all inRange (slipLosses slip) ≡ true → count ≡ numLosses (slipGrid slip)
+      → Count count ≡ lossesOf slip
   unfolding lossesOf
   in-range count e f = rw (b .there, e, count-is, f)
 
@@ -107,7 +113,8 @@ module _ (slip : List ℕ) where
   uncounted true n e = absurd (let z : _≡_ {A = ℕ} 0 1 = cc in omega arith)
   uncounted false n e = refl
 
-  pub losses-count : (n : ℕ) → lossesOf slip ≡ Count n → (question11 slip .answeredYes ≡ true) × (n ≡ length (slipLosses slip))
+  pub losses-count : (n : ℕ) → lossesOf slip ≡ Count n
+      → (question11 slip .answeredYes ≡ true) × (n ≡ length (slipLosses slip))
   unfolding lossesOf
   losses-count n e = counted (question11 slip .answeredYes) (length (slipLosses slip)) n e
 

@@ -23,16 +23,21 @@ use Rattle.slip.specs.declared.Field.the-variants.{EndsAt, Missing}
 use Rattle.slip.specs.declared.Reading.{Reading}
 use Rattle.slip.specs.declared.Table.{Table}
 use Rattle.slip.specs.declared.Table.the-variants.{LabelsFrom, Game, LossesFrom, Missing as NoTable}
-use Rattle.slip.specs.Reading.{refusal, accepted, readingOf, headOf, startOf, budgetOf, tableOf, tableNamed, Asked}
-use Rattle.slip.specs.Slip.{stands, slipGrid, slipStart, slipBudget, slipGame, headLength, fieldAt, question13, question14, question15, readQuestions}
+use Rattle.slip.specs.Reading.{refusal, accepted, readingOf, headOf, startOf, budgetOf, tableOf, tableNamed}
+use Rattle.slip.specs.Reading.{Asked}
+use Rattle.slip.specs.Slip.{stands, slipGrid, slipStart, slipBudget, slipGame, headLength, fieldAt, question13}
+use Rattle.slip.specs.Slip.{question14, question15, readQuestions}
 
--- one question more in front: with `early` the first no of some questions, `later` that of more, and `rest` that of those behind
-in-front : (yes : Bool) (n early later rest : ℕ) → 1 ≤ n → later ≡ cond (eqb early 0) rest early → cond yes later n ≡ cond (eqb (cond yes early n) 0) rest (cond yes early n)
+-- one question more in front: with `early` the first no of some questions, `later` that of more, and `rest` that of
+-- those behind
+in-front : (yes : Bool) (n early later rest : ℕ) → 1 ≤ n → later ≡ cond (eqb early 0) rest early
+    → cond yes later n ≡ cond (eqb (cond yes early n) 0) rest (cond yes early n)
 in-front true n early later rest h e = e
 in-front false n early later rest h e = rw (ne-eqb n 0 (λ z. omega arith))
 
 -- questions are asked until one is answered no
-pub first-append : (qs rs : List Question) → all (λ q. leb 1 (q .number)) qs ≡ true → firstNo (qs ++ rs) ≡ cond (eqb (firstNo qs) 0) (firstNo rs) (firstNo qs)
+pub first-append : (qs rs : List Question) → all (λ q. leb 1 (q .number)) qs ≡ true
+    → firstNo (qs ++ rs) ≡ cond (eqb (firstNo qs) 0) (firstNo rs) (firstNo qs)
 unfolding firstNo
 first-append [] rs a = refl
 first-append (q ∷ qs) rs a =
@@ -52,36 +57,50 @@ untold false x e = refl
 
 module _ (slip : List ℕ) where
   pub number-is : firstNo (readQuestions slip)
-      ≡ cond (question13 slip .answeredYes) (cond (eqb (firstNo (gridQuestions (slipGrid slip))) 0) (firstNo (question14 slip ∷ question15 slip ∷ [])) (firstNo (gridQuestions (slipGrid slip)))) 13
+      ≡ cond (question13 slip .answeredYes)
+      (cond (eqb (firstNo (gridQuestions (slipGrid slip))) 0) (firstNo (question14 slip ∷ question15 slip ∷ []))
+      (firstNo (gridQuestions (slipGrid slip))))
+      13
   unfolding firstNo
-  number-is = ap (λ n. cond (question13 slip .answeredYes) n 13) (first-append (gridQuestions (slipGrid slip)) (question14 slip ∷ question15 slip ∷ []) refl)
+  number-is = ap
+      (λ n. cond (question13 slip .answeredYes) n 13)
+      (first-append (gridQuestions (slipGrid slip)) (question14 slip ∷ question15 slip ∷ []) refl)
 
   pub refused-13 : question13 slip .answeredYes ≡ false → refusal 13 ≡ readingOf slip
   unfolding readingOf
   refused-13 e = rw (number-is, e)
 
-  pub refused-grid : (n : ℕ) → question13 slip .answeredYes ≡ true → firstNo (gridQuestions (slipGrid slip)) ≡ n → (n ≡ 0 → ⊥) → refusal n ≡ readingOf slip
+  pub refused-grid : (n : ℕ) → question13 slip .answeredYes ≡ true → firstNo (gridQuestions (slipGrid slip)) ≡ n
+      → (n ≡ 0 → ⊥)
+      → refusal n ≡ readingOf slip
   unfolding readingOf
   refused-grid n e f h = rw (number-is, e, f, ne-eqb n 0 h, ne-eqb n 0 h)
 
-  fields-number : (a b : Bool) (x : Reading) → cond (eqb (cond a (cond b 0 15) 14) 0) x (refusal (cond a (cond b 0 15) 14)) ≡ cond a (cond b x (refusal 15)) (refusal 14)
+  fields-number : (a b : Bool) (x : Reading)
+      → cond (eqb (cond a (cond b 0 15) 14) 0) x (refusal (cond a (cond b 0 15) 14))
+      ≡ cond a (cond b x (refusal 15)) (refusal 14)
   fields-number true true x = refl
   fields-number true false x = refl
   fields-number false b x = refl
 
   -- behind questions 13 and 1 to 4
   module _ (head : question13 slip .answeredYes ≡ true) (accepts : firstNo (gridQuestions (slipGrid slip)) ≡ 0) where
-    reading-is : readingOf slip ≡ cond (question14 slip .answeredYes) (cond (question15 slip .answeredYes) (accepted slip) (refusal 15)) (refusal 14)
+    reading-is : readingOf slip
+        ≡ cond (question14 slip .answeredYes) (cond (question15 slip .answeredYes) (accepted slip) (refusal 15))
+        (refusal 14)
     unfolding readingOf firstNo
-    reading-is = rw (number-is, head, accepts) (fields-number (question14 slip .answeredYes) (question15 slip .answeredYes) (accepted slip))
+    reading-is = rw (number-is, head, accepts)
+        (fields-number (question14 slip .answeredYes) (question15 slip .answeredYes) (accepted slip))
 
     pub refused-14 : question14 slip .answeredYes ≡ false → refusal 14 ≡ readingOf slip
     refused-14 e = sym (reading-is ∙ rw e)
 
-    pub refused-15 : question14 slip .answeredYes ≡ true → question15 slip .answeredYes ≡ false → refusal 15 ≡ readingOf slip
+    pub refused-15 : question14 slip .answeredYes ≡ true → question15 slip .answeredYes ≡ false
+        → refusal 15 ≡ readingOf slip
     refused-15 e f = sym (reading-is ∙ rw (e, f))
 
-    pub all-yes : question14 slip .answeredYes ≡ true → question15 slip .answeredYes ≡ true → accepted slip ≡ readingOf slip
+    pub all-yes : question14 slip .answeredYes ≡ true → question15 slip .answeredYes ≡ true
+        → accepted slip ≡ readingOf slip
     all-yes e f = rw (reading-is, e, f)
 
   pub head-there : (at : ℕ) → headOf slip ≡ EndsAt at → (question13 slip .answeredYes ≡ true) × (at ≡ headLength slip)
@@ -93,7 +112,8 @@ module _ (slip : List ℕ) where
   head-missing e = untold (question13 slip .answeredYes) (headLength slip) e
 
   -- the start's bytes are there, or not
-  pub start-is : fieldAt slip 1 ≤ length slip → startOf slip ≡ record { field = EndsAt (fieldAt slip 1); start = padded 16 (slipStart slip) }
+  pub start-is : fieldAt slip 1 ≤ length slip
+      → startOf slip ≡ record { field = EndsAt (fieldAt slip 1); start = padded 16 (slipStart slip) }
   unfolding startOf
   start-is h = rw (le-leb (fieldAt slip 1) (length slip) h)
 
@@ -101,7 +121,8 @@ module _ (slip : List ℕ) where
   unfolding startOf
   no-start h = rw (lt-leb (fieldAt slip 1) (length slip) h)
 
-  pub start-there : (end : ℕ) → startOf slip .field ≡ EndsAt end → (end ≡ fieldAt slip 1) × (end ≤ length slip) × (startOf slip .start ≡ padded 16 (slipStart slip))
+  pub start-there : (end : ℕ) → startOf slip .field ≡ EndsAt end
+      → (end ≡ fieldAt slip 1) × (end ≤ length slip) × (startOf slip .start ≡ padded 16 (slipStart slip))
   unfolding startOf
   start-there end e =
       let t = told (leb (fieldAt slip 1) (length slip)) (fieldAt slip 1) end e in
@@ -109,7 +130,8 @@ module _ (slip : List ℕ) where
 
   pub start-missing : startOf slip .field ≡ Missing → question14 slip .answeredYes ≡ false
   unfolding startOf
-  start-missing e = inexact slip 1 4 (omega arith) (leb-false (fieldAt slip 1) (length slip) (untold (leb (fieldAt slip 1) (length slip)) (fieldAt slip 1) e))
+  start-missing e = inexact slip 1 4 (omega arith)
+      (leb-false (fieldAt slip 1) (length slip) (untold (leb (fieldAt slip 1) (length slip)) (fieldAt slip 1) e))
 
   -- and so of the budget
   pub budget-is : fieldAt slip 2 ≤ length slip → budgetOf slip ≡ Is (slipBudget slip) (fieldAt slip 2)
@@ -120,7 +142,8 @@ module _ (slip : List ℕ) where
   unfolding budgetOf
   no-budget h = rw (lt-leb (fieldAt slip 2) (length slip) h)
 
-  budget-told : (b : Bool) (places end x y : ℕ) → cond b (Is x y) NoBudget ≡ Is places end → (b ≡ true) × (places ≡ x) × (end ≡ y)
+  budget-told : (b : Bool) (places end x y : ℕ) → cond b (Is x y) NoBudget ≡ Is places end
+      → (b ≡ true) × (places ≡ x) × (end ≡ y)
   budget-told true places end x y e = (refl, cc, cc)
   budget-told false places end x y e = absurd (let z : _≡_ {A = ℕ} 0 1 = cc in omega arith)
 
@@ -128,7 +151,8 @@ module _ (slip : List ℕ) where
   budget-untold true x y e = absurd (let z : _≡_ {A = ℕ} 0 1 = cc in omega arith)
   budget-untold false x y e = refl
 
-  pub budget-there : (places end : ℕ) → budgetOf slip ≡ Is places end → (places ≡ slipBudget slip) × (end ≡ fieldAt slip 2) × (end ≤ length slip)
+  pub budget-there : (places end : ℕ) → budgetOf slip ≡ Is places end
+      → (places ≡ slipBudget slip) × (end ≡ fieldAt slip 2) × (end ≤ length slip)
   unfolding budgetOf
   budget-there places end e =
       let t = budget-told (leb (fieldAt slip 2) (length slip)) places end (slipBudget slip) (fieldAt slip 2) e in
@@ -136,7 +160,9 @@ module _ (slip : List ℕ) where
 
   pub budget-missing : budgetOf slip ≡ NoBudget → question14 slip .answeredYes ≡ false
   unfolding budgetOf
-  budget-missing e = inexact slip 2 3 (omega arith) (leb-false (fieldAt slip 2) (length slip) (budget-untold (leb (fieldAt slip 2) (length slip)) (slipBudget slip) (fieldAt slip 2) e))
+  budget-missing e = inexact slip 2 3 (omega arith)
+      (leb-false (fieldAt slip 2) (length slip)
+      (budget-untold (leb (fieldAt slip 2) (length slip)) (slipBudget slip) (fieldAt slip 2) e))
 
   -- labels, game or losses
   pub table-is : question14 slip .answeredYes ≡ true → tableOf slip ≡ tableNamed slip
@@ -158,7 +184,8 @@ module _ (slip : List ℕ) where
 
   pub table-missing : tableOf slip ≡ NoTable → question14 slip .answeredYes ≡ false
   unfolding tableOf
-  table-missing e = table-told (question14 slip .answeredYes) (tableNamed slip) (named (stands slip 2) (stands slip 3) (fieldAt slip 2) (slipGame slip) (fieldAt slip 4)) e
+  table-missing e = table-told (question14 slip .answeredYes) (tableNamed slip)
+      (named (stands slip 2) (stands slip 3) (fieldAt slip 2) (slipGame slip) (fieldAt slip 4)) e
 
   table-some : (b : Bool) (t : Table) → (cond b t NoTable ≡ NoTable → ⊥) → b ≡ true
   table-some true t n = refl
@@ -174,7 +201,10 @@ module _ (slip : List ℕ) where
     is-accepted = grid-accepted (slipGrid slip) (a .accepts)
 
     pub asked-made : IsMade grid × (shape grid ≡ slipGrid slip)
-    asked-made = (rw (a .isGrid) (is-made (slipGrid slip) (a .accepts)), ap shape (a .isGrid) ∙ shape-of (slipGrid slip) (is-accepted .sameNumber))
+    asked-made = (
+      rw (a .isGrid) (is-made (slipGrid slip) (a .accepts)),
+      ap shape (a .isGrid) ∙ shape-of (slipGrid slip) (is-accepted .sameNumber),
+    )
 
     pub asked-indices : (grid .indices ≡ numIndices (slipGrid slip)) × (grid .indices ≤ 16)
     unfolding gridOf
@@ -191,4 +221,9 @@ module _ (slip : List ℕ) where
     sizes-room =
         let few = is-accepted .fewBlocks in
         let b : grid .blocks ≡ numBlocks (slipGrid slip) = ap (λ z. z .blocks) (a .isGrid) in
-        omega (arith, b, few, ap (λ z. length (z .sizes)) (a .isGrid) ∙ front-length (slipGrid slip .sizes) (replicate 6 0) few)
+        omega (
+          arith,
+          b,
+          few,
+          ap (λ z. length (z .sizes)) (a .isGrid) ∙ front-length (slipGrid slip .sizes) (replicate 6 0) few,
+        )

@@ -18,7 +18,8 @@ use Rattle.slip.specs.Slip.{stands, slipGame, fieldAt, question13, quest
 -- what is not one of the variants named
 pub not-labels : (slip : List ℕ) (t : Table) → OneOf (1 ∷ 2 ∷ 3 ∷ []) (tagOf the-type t) → labelsIn slip t ≡ []
 unfolding labelsIn
-not-labels slip (LabelsFrom begin) h = absurd (⊎-elim (λ e. omega arith) (λ r. ⊎-elim (λ e. omega arith) (λ e. omega arith) r) h)
+not-labels slip (LabelsFrom begin) h =
+    absurd (⊎-elim (λ e. omega arith) (λ r. ⊎-elim (λ e. omega arith) (λ e. omega arith) r) h)
 not-labels slip (Game number) h = refl
 not-labels slip (LossesFrom begin) h = refl
 not-labels slip Missing h = refl
@@ -38,8 +39,10 @@ are-labels slip begin e = go (stands slip 2) (stands slip 3) (fieldAt slip 2) (s
     go false true x y z e = absurd (let z : _≡_ {A = ℕ} 0 1 = cc in omega arith)
     go false false x y z e = absurd (let z : _≡_ {A = ℕ} 0 1 = cc in omega arith)
 
-pub no-labels : (slip : List ℕ) (t : Table) → OneOf (1 ∷ 2 ∷ 3 ∷ []) (tagOf the-type t) → t ≡ tableNamed slip → stands slip 2 ≡ false
-no-labels slip t h e = ⊎-elim (λ (two : stands slip 2 ≡ true). absurd (never t h (e ∙ rw two))) (λ n. n) (true-or-false (stands slip 2))
+pub no-labels : (slip : List ℕ) (t : Table) → OneOf (1 ∷ 2 ∷ 3 ∷ []) (tagOf the-type t) → t ≡ tableNamed slip
+    → stands slip 2 ≡ false
+no-labels slip t h e =
+    ⊎-elim (λ (two : stands slip 2 ≡ true). absurd (never t h (e ∙ rw two))) (λ n. n) (true-or-false (stands slip 2))
   where
     never : (t : Table) → OneOf (1 ∷ 2 ∷ 3 ∷ []) (tagOf the-type t) → t ≡ LabelsFrom (fieldAt slip 2) → ⊥
     never (LabelsFrom begin) h e = ⊎-elim (λ e. omega arith) (λ r. ⊎-elim (λ e. omega arith) (λ e. omega arith) r) h
@@ -49,31 +52,37 @@ no-labels slip t h e = ⊎-elim (λ (two : stands slip 2 ≡ true). absurd (neve
 
 -- which bit stands, by the table that the map names
 module _ (slip : List ℕ) (head : question13 slip .answeredYes ≡ true) where
-  pub is-game : (number : ℕ) → tableNamed slip ≡ Game number → (stands slip 2 ≡ false) × (stands slip 3 ≡ true) × (number ≡ slipGame slip)
+  pub is-game : (number : ℕ) → tableNamed slip ≡ Game number
+      → (stands slip 2 ≡ false) × (stands slip 3 ≡ true) × (number ≡ slipGame slip)
   is-game number e = go (stands slip 2) (stands slip 3) (fieldAt slip 2) (slipGame slip) (fieldAt slip 4) e
     where
-      go : (a b : Bool) (x y z : ℕ) → cond a (LabelsFrom x) (cond b (Game y) (LossesFrom z)) ≡ Game number → (a ≡ false) × (b ≡ true) × (number ≡ y)
+      go : (a b : Bool) (x y z : ℕ) → cond a (LabelsFrom x) (cond b (Game y) (LossesFrom z)) ≡ Game number
+          → (a ≡ false) × (b ≡ true) × (number ≡ y)
       go true b x y z e = absurd (let z : _≡_ {A = ℕ} 0 1 = cc in omega arith)
       go false true x y z e = (refl, refl, cc)
       go false false x y z e = absurd (let z : _≡_ {A = ℕ} 0 1 = cc in omega arith)
 
-  pub are-losses : (begin : ℕ) → tableNamed slip ≡ LossesFrom begin → (stands slip 2 ≡ false) × (stands slip 3 ≡ false) × (begin ≡ fieldAt slip 4)
+  pub are-losses : (begin : ℕ) → tableNamed slip ≡ LossesFrom begin
+      → (stands slip 2 ≡ false) × (stands slip 3 ≡ false) × (begin ≡ fieldAt slip 4)
   are-losses begin e = go (stands slip 2) (stands slip 3) (fieldAt slip 2) (slipGame slip) (fieldAt slip 4) e
     where
-      go : (a b : Bool) (x y z : ℕ) → cond a (LabelsFrom x) (cond b (Game y) (LossesFrom z)) ≡ LossesFrom begin → (a ≡ false) × (b ≡ false) × (begin ≡ z)
+      go : (a b : Bool) (x y z : ℕ) → cond a (LabelsFrom x) (cond b (Game y) (LossesFrom z)) ≡ LossesFrom begin
+          → (a ≡ false) × (b ≡ false) × (begin ≡ z)
       go true b x y z e = absurd (let z : _≡_ {A = ℕ} 0 1 = cc in omega arith)
       go false true x y z e = absurd (let z : _≡_ {A = ℕ} 0 1 = cc in omega arith)
       go false false x y z e = (refl, refl, cc)
 
   -- without a game question 15 is answered yes
-  pub no-game : (t : Table) → OneOf (0 ∷ 2 ∷ 3 ∷ []) (tagOf the-type t) → t ≡ tableNamed slip → question15 slip .answeredYes ≡ true
+  pub no-game : (t : Table) → OneOf (0 ∷ 2 ∷ 3 ∷ []) (tagOf the-type t) → t ≡ tableNamed slip
+      → question15 slip .answeredYes ≡ true
   no-game t h e =
-      let three : stands slip 3 ≡ false =
-      ⊎-elim
+      let three : stands slip 3 ≡ false = ⊎-elim
       (λ two. labels-only slip head two .0)
-      (λ (two : stands slip 2 ≡ false). ⊎-elim (λ (three : stands slip 3 ≡ true). absurd (never t h (e ∙ rw (two, three)))) (λ n. n) (true-or-false (stands slip 3)))
-      (true-or-false (stands slip 2))
-      in
+      (λ (two : stands slip 2 ≡ false). ⊎-elim
+      (λ (three : stands slip 3 ≡ true). absurd (never t h (e ∙ rw (two, three))))
+      (λ n. n)
+      (true-or-false (stands slip 3)))
+      (true-or-false (stands slip 2)) in
       rw three
     where
       never : (t : Table) → OneOf (0 ∷ 2 ∷ 3 ∷ []) (tagOf the-type t) → t ≡ Game (slipGame slip) → ⊥
@@ -86,7 +95,8 @@ module _ (slip : List ℕ) (head : question13 slip .answeredYes ≡ true) where
   pub has-losses : (t : Table) → OneOf (0 ∷ 3 ∷ []) (tagOf the-type t) → t ≡ tableNamed slip → stands slip 2 ≡ false → ⊥
   has-losses t h e two = go (stands slip 3) (slipGame slip) (fieldAt slip 4) t h (e ∙ rw two)
     where
-      go : (b : Bool) (y z : ℕ) (t : Table) → OneOf (0 ∷ 3 ∷ []) (tagOf the-type t) → t ≡ cond b (Game y) (LossesFrom z) → ⊥
+      go : (b : Bool) (y z : ℕ) (t : Table) → OneOf (0 ∷ 3 ∷ []) (tagOf the-type t) → t ≡ cond b (Game y) (LossesFrom z)
+          → ⊥
       go b y z (Game number) h e = ⊎-elim (λ e. omega arith) (λ e. omega arith) h
       go b y z (LossesFrom begin) h e = ⊎-elim (λ e. omega arith) (λ e. omega arith) h
       go true y z (LabelsFrom begin) h e = let z : _≡_ {A = ℕ} 0 1 = cc in omega arith

@@ -9,7 +9,8 @@ use Rattle.grid.specs.declared.Grid.{Grid as GridStruct}
 use Rattle.grid.specs.Made.{gridOf, noGrid, padded}
 use Rattle.questions.specs.Questions.{firstNo}
 use Rattle.grid.specs.Questions.{gridQuestions}
-use Rattle.slip.specs.Slip.{stands, slipGrid, slipStart, slipBudget, slipGame, slipLosses, fieldAt, readQuestions, headLength}
+use Rattle.slip.specs.Slip.{stands, slipGrid, slipStart, slipBudget, slipGame, slipLosses, fieldAt, readQuestions}
+use Rattle.slip.specs.Slip.{headLength}
 use Rattle.slip.specs.Slip.{question11, question13, question14}
 use Rattle.slip.specs.declared.Budget.{Budget}
 use Rattle.slip.specs.declared.Budget.the-variants.{Is, Missing as NoBudget}
@@ -30,7 +31,10 @@ headOf slip = cond (question13 slip .answeredYes) (EndsAt (headLength slip)) Mis
 unfoldable pub startOf : List ℕ → Start
 startOf slip =
     let fits = leb (fieldAt slip 1) (length slip) in
-    record { field = cond fits (EndsAt (fieldAt slip 1)) Missing; start = cond fits (padded 16 (slipStart slip)) (replicate 16 0) }
+    record {
+      field = cond fits (EndsAt (fieldAt slip 1)) Missing;
+      start = cond fits (padded 16 (slipStart slip)) (replicate 16 0);
+    }
 
 -- the budget where its bytes are there, and the position behind them
 unfoldable pub budgetOf : List ℕ → Budget
@@ -38,14 +42,21 @@ budgetOf slip = cond (leb (fieldAt slip 2) (length slip)) (Is (slipBudget slip) 
 
 -- the one of labels, game and losses that the map names
 abbrev pub tableNamed : List ℕ → Table
-tableNamed slip = cond (stands slip 2) (LabelsFrom (fieldAt slip 2)) (cond (stands slip 3) (Game (slipGame slip)) (LossesFrom (fieldAt slip 4)))
+tableNamed slip = cond (stands slip 2) (LabelsFrom (fieldAt slip 2))
+    (cond (stands slip 3) (Game (slipGame slip)) (LossesFrom (fieldAt slip 4)))
 
 -- unless question 14 is answered no
 unfoldable pub tableOf : List ℕ → Table
 tableOf slip = cond (question14 slip .answeredYes) (tableNamed slip) NoTable
 
 abbrev pub reading : ℕ → GridStruct → List ℕ → ℕ → Table → Reading
-reading code grid start budget table = record { code = code; grid = grid; start = start; budget = budget; table = table }
+reading code grid start budget table = record {
+  code = code;
+  grid = grid;
+  start = start;
+  budget = budget;
+  table = table;
+}
 
 -- "A refusal returns its number", and nothing else
 abbrev pub refusal : ℕ → Reading

@@ -1,5 +1,5 @@
--- Document 01, "The slip" and the questions that a slip asks, with request 01. A slip is the list of its bytes, and a byte that is not there
--- counts as 0. Assumes nothing.
+-- Document 01, "The slip" and the questions that a slip asks, with request 01. A slip is the list of its bytes, and a
+-- byte that is not there counts as 0. Assumes nothing.
 use mathlib.Core.Bool.{Bool, not, _&&_, _||_, cond}
 use mathlib.Core.List.{List, [], _∷_, _++_, map}
 use Prim.Native.Nat.{ℕ, _+_, _*_, _/_, _%_, _^_}
@@ -47,8 +47,8 @@ slipGrid slip = record { sizes = sizesOf slip; divisions = divisionsOf slip }
 abbrev pub headLength : List ℕ → ℕ
 headLength slip = 2 + 3 * numBlocksOf slip
 
--- "0 start, m 16-bit numbers; 1 budget, 64 bits; 2 labels, P bytes; 3 game, a byte", and "Bit 4 of the map now announces a loss table of 16-bit
--- losses .. behind the other fields": the bytes of each field
+-- "0 start, m 16-bit numbers; 1 budget, 64 bits; 2 labels, P bytes; 3 game, a byte", and "Bit 4 of the map now
+-- announces a loss table of 16-bit losses .. behind the other fields": the bytes of each field
 abbrev pub fieldLengths : Grid → List ℕ
 fieldLengths g = 2 * numIndices g ∷ 8 ∷ numPoints g ∷ 1 ∷ 2 * numLosses g ∷ []
 
@@ -72,7 +72,8 @@ abbrev pub defaultStart : Grid → Point
 defaultStart g = map (defaultCoordinate g) (indices g)
 
 unfoldable pub slipStart : List ℕ → Point
-slipStart slip = cond (stands slip 0) (words (numIndices (slipGrid slip)) slip (fieldAt slip 0)) (defaultStart (slipGrid slip))
+slipStart slip =
+    cond (stands slip 0) (words (numIndices (slipGrid slip)) slip (fieldAt slip 0)) (defaultStart (slipGrid slip))
 
 -- "Without a budget, the bound is the budget"
 unfoldable pub slipBudget : List ℕ → ℕ
@@ -88,7 +89,8 @@ slipGame slip = getD slip (fieldAt slip 3) 0
 
 -- the losses that are brought, or those of the game that is named
 unfoldable pub slipLosses : List ℕ → List ℕ
-slipLosses slip = cond (stands slip 4) (words (numLosses (slipGrid slip)) slip (fieldAt slip 4)) (gameLosses (slipGame slip))
+slipLosses slip =
+    cond (stands slip 4) (words (numLosses (slipGrid slip)) slip (fieldAt slip 4)) (gameLosses (slipGame slip))
 
 -- the labels that are brought, or else: "the program fills P bytes of its own with the game's labels and runs on them"
 unfoldable pub slipLabels : List ℕ → List ℕ
@@ -98,7 +100,8 @@ slipLabels slip = cond (stands slip 2) (labelField slip) (labels (slipGrid slip)
 abbrev pub slipProblem : List ℕ → Problem
 slipProblem slip = record { grid = slipGrid slip; start = slipStart slip; labels = slipLabels slip }
 
--- "Are map, N, sizes and divisions there .. ? 13", which "now wants exactly one of bits 2, 3 and 4, with bits 5 to 7 clear"
+-- "Are map, N, sizes and divisions there .. ? 13", which "now wants exactly one of bits 2, 3 and 4, with bits 5 to
+-- 7 clear"
 abbrev pub question13 : List ℕ → Question
 question13 slip = ask 13 (leb (headLength slip) (length slip) && isMap (getD slip 0 0))
 
@@ -120,7 +123,8 @@ readQuestions slip = question13 slip ∷ (gridQuestions (slipGrid slip) ++ (ques
 
 -- "A slip asks 13, 1 to 4, 14, 15, 5, 7, and then runs", and "The slip puts 11 after 15"
 abbrev pub slipQuestions : List ℕ → List Question
-slipQuestions slip = readQuestions slip ++ (question11 slip ∷ question5 (slipGrid slip) (slipStart slip) ∷ question7 (slipProblem slip) ∷ [])
+slipQuestions slip = readQuestions slip
+    ++ (question11 slip ∷ question5 (slipGrid slip) (slipStart slip) ∷ question7 (slipProblem slip) ∷ [])
 
 -- "the number when the answer is no", or 0
 abbrev pub slipRefusal : List ℕ → ℕ

@@ -1,5 +1,5 @@
--- One place of the second pass: every label is known, the point that has come in is the only one that may be new, and so what is kept of the
--- vertices up to a place becomes what is kept of those up to the next. Assumes nothing.
+-- One place of the second pass: every label is known, the point that has come in is the only one that may be new, and
+-- so what is kept of the vertices up to a place becomes what is kept of those up to the next. Assumes nothing.
 use mathlib.Core.Bool.{Bool, true, false, cond}
 use mathlib.Core.List.{List, [], _∷_, _++_, append-nil}
 use mathlib.Core.Logic.{⊎-elim}
@@ -53,18 +53,21 @@ pub marked-read : (p : Problem) (previous next sizes first coefficients order ma
     → stateOf (roundOf previous next sizes) first coefficients order
     (markedIn p (stateOf (roundOf previous [] sizes) first coefficients order marks s) marks) s
     ≡ read p (stateOf (roundOf previous next sizes) first coefficients order marks s)
-marked-read p previous next sizes first coefficients order marks s R =
-    ⊎-elim
-    (λ (r : s .rule < 6). rw (lt-ltb (s .rule) 6 r) (read-some p (roundOf previous next sizes) first coefficients order marks s _ r R refl))
-    (λ (r : 6 ≤ s .rule). rw (le-ltb (s .rule) 6 r) (sym (read-none p (stateOf (roundOf previous next sizes) first coefficients order marks s) r)))
+marked-read p previous next sizes first coefficients order marks s R = ⊎-elim
+    (λ (r : s .rule < 6).
+    rw (lt-ltb (s .rule) 6 r) (read-some p (roundOf previous next sizes) first coefficients order marks s _ r R refl))
+    (λ (r : 6 ≤ s .rule). rw (le-ltb (s .rule) 6 r)
+    (sym (read-none p (stateOf (roundOf previous next sizes) first coefficients order marks s) r)))
     (before-or-not (s .rule) 6)
 
 pub marked-long : (p : Problem) (a : State) (marks : List ℕ) → length marks ≡ 16 → length (markedIn p a marks) ≡ 16
-marked-long p a marks e =
-    ⊎-elim (λ (r : a .rule < 6). rw (lt-ltb (a .rule) 6 r) (length-set marks (a .active) _ ∙ e)) (λ (r : 6 ≤ a .rule). rw (le-ltb (a .rule) 6 r) e)
+marked-long p a marks e = ⊎-elim
+    (λ (r : a .rule < 6). rw (lt-ltb (a .rule) 6 r) (length-set marks (a .active) _ ∙ e))
+    (λ (r : 6 ≤ a .rule). rw (le-ltb (a .rule) 6 r) e)
     (before-or-not (a .rule) 6)
 
-pub list-long : (given : ℕ) (t : Tally) (away : ℕ) (seen list : List ℕ) (came : Came) → length (listAfter given t away seen list came) ≡ length list
+pub list-long : (given : ℕ) (t : Tally) (away : ℕ) (seen list : List ℕ) (came : Came)
+    → length (listAfter given t away seen list came) ≡ length list
 list-long given t away seen list Nothing = refl
 list-long given t away seen list (At q) =
     ⊎-elim
@@ -81,24 +84,29 @@ module _ (g : GridStruct) (first table : List ℕ) (ok : Accepted (problemIn g f
   full : FullyLabelled (filledTable p)
   full = filled-full ok
 
-  on-so-far : (k : ℕ) (y : Point) → isIn samePoint y (verticesOf (take k walked)) ≡ true → isGridPoint (shape g) y ≡ true
+  on-so-far : (k : ℕ) (y : Point) → isIn samePoint y (verticesOf (take k walked)) ≡ true
+      → isGridPoint (shape g) y ≡ true
   on-so-far k y m =
       let i = place-in y (take k walked) (firsts-in onPoints y (pointsOfPlaces (take k walked)) m) in
       let l : i .0 < length walked = omega (arith, i .1, length-take k walked) in
       let h : i .0 < k = omega (arith, i .1, length-take k walked) in
-      all-in onPoints (isGridPoint (shape g)) (placeAt walked (i .0)) (parts p (placeAt walked (i .0)) (demand3-holds ok .follows .places (i .0) l) .gridPoints) y
+      all-in onPoints (isGridPoint (shape g)) (placeAt walked (i .0))
+      (parts p (placeAt walked (i .0)) (demand3-holds ok .follows .places (i .0) l) .gridPoints) y
       (rw (getD-take k walked (i .0) [] h) at (i .2))
 
   -- at the end the path has no place more
   no-more : (k : ℕ) → k < pathLength p → pathLength (filledTable p) ≡ suc k → pathLength p ≡ suc k
-  no-more k l e =
-      ⊎-elim (λ (c : suc k < pathLength p). absurd (omega (arith, beside ok (suc k) c .0))) (λ (c : pathLength p ≤ suc k). omega arith)
+  no-more k l e = ⊎-elim
+      (λ (c : suc k < pathLength p). absurd (omega (arith, beside ok (suc k) c .0)))
+      (λ (c : pathLength p ≤ suc k). omega arith)
       (before-or-not (suc k) (pathLength p))
 
-  pub last-place : (k h : ℕ) (last : State) → k < pathLength p → NextAt (filledTable p) k (endsAtPlace last h) → pathLength p ≡ suc k
+  pub last-place : (k h : ℕ) (last : State) → k < pathLength p → NextAt (filledTable p) k (endsAtPlace last h)
+      → pathLength p ≡ suc k
   last-place k h last l (placeEnds E) = no-more k l (E .places)
 
-  pub last-facet : (k h : ℕ) (last : State) → k < pathLength p → NextAt (filledTable p) k (endsAtFacet last h) → pathLength p ≡ suc k
+  pub last-facet : (k h : ℕ) (last : State) → k < pathLength p → NextAt (filledTable p) k (endsAtFacet last h)
+      → pathLength p ≡ suc k
   last-facet k h last l (facetEnds E) = no-more k l (E .places)
 
   module _ (s : State) (k : ℕ) (here : OnPath p s k) where
@@ -128,79 +136,103 @@ module _ (g : GridStruct) (first table : List ℕ) (ok : Accepted (problemIn g f
     pub knows : NoGap p → IsKnown (tableOf g table) s
     unfolding label
     knows none r =
-        let h : hasLabel p (pointCome (shape g) s) ≡ true = all-in onPoints (hasLabel p) (placeAt walked k) (none k (here .1)) (pointCome (shape g) s) come-here in
-        omega (arith, leb-true 1 (label p (pointCome (shape g) s)) (and-left (leb 1 (label p (pointCome (shape g) s))) _ h))
+        let h : hasLabel p (pointCome (shape g) s) ≡ true =
+        all-in onPoints (hasLabel p) (placeAt walked k) (none k (here .1)) (pointCome (shape g) s) come-here in
+        omega (
+          arith,
+          leb-true 1 (label p (pointCome (shape g) s)) (and-left (leb 1 (label p (pointCome (shape g) s))) _ h),
+        )
 
     -- the other points were met before
-    met-before : (z : Point) → isIn samePoint z (placeAt walked k) ≡ true → (s .rule < 6 → z ≡ pointCome (shape g) s → ⊥)
+    met-before : (z : Point) → isIn samePoint z (placeAt walked k) ≡ true
+        → (s .rule < 6 → z ≡ pointCome (shape g) s → ⊥)
         → isIn samePoint z (pointsOfPlaces (take k walked)) ≡ true
     met-before z m ne =
         let i = map-in onNumbers onPoints (pointIn p s) z (upFrom 0 (suc (length (s .order)) - 0)) (rw at-k at m) in
         let c : i .0 ≤ length (s .order) = omega (arith, upFrom-in 0 (suc (length (s .order)) - 0) (i .0) (i .1) .1) in
         let w = at-others full A (i .0) c (λ r e. ne r (i .2 ∙ ap (pointIn p s) e)) in
         let l : w .0 < pathLength p = omega (arith, w .1, here .1) in
-        in-before z walked k (w .0) (omega (arith, w .1)) l
-        (subst (λ (x : Simplex). isIn samePoint z x ≡ true) (sym (beside ok (w .0) l .1))
-        (subst (λ (x : Point). isIn samePoint x (placeAt (pathOf (filledTable p) .visited) (w .0)) ≡ true) (sym (i .2)) (w .2)))
+        in-before z walked k (w .0) (omega (arith, w .1)) l (subst
+        (λ (x : Simplex). isIn samePoint z x ≡ true)
+        (sym (beside ok (w .0) l .1))
+        (subst
+        (λ (x : Point). isIn samePoint x (placeAt (pathOf (filledTable p) .visited) (w .0)) ≡ true)
+        (sym (i .2)) (w .2)))
 
     vertices-same : 6 ≤ s .rule → verticesOf (take (suc k) walked) ≡ verticesOf (take k walked)
     vertices-same r =
         rw (next-place walked k (here .1)) (none-more onPoints (pointsOfPlaces (take k walked)) (placeAt walked k)
         (λ z m. met-before z m (λ c. absurd (omega arith))))
 
-    vertices-next : s .rule < 6 → verticesOf (take (suc k) walked) ≡ verticesOf (take k walked) ++ cond (isIn samePoint y (pointsOfPlaces (take k walked))) [] (y ∷ [])
-    vertices-next r =
-        rw (next-place walked k (here .1)) (one-more onPoints (pointsOfPlaces (take k walked)) (placeAt walked k) y come-here
+    vertices-next : s .rule < 6
+        → verticesOf (take (suc k) walked)
+        ≡ verticesOf (take k walked) ++ cond (isIn samePoint y (pointsOfPlaces (take k walked))) [] (y ∷ [])
+    vertices-next r = rw (next-place walked k (here .1))
+        (one-more onPoints (pointsOfPlaces (take k walked)) (placeAt walked k) y come-here
         (λ z m ne. met-before z m (λ c. ne)))
 
-    vertices-old : s .rule < 6 → isIn samePoint y (pointsOfPlaces (take k walked)) ≡ true → verticesOf (take (suc k) walked) ≡ verticesOf (take k walked)
-    vertices-old r m =
-        vertices-next r ∙ ap (λ (b : Bool). verticesOf (take k walked) ++ cond b [] (y ∷ [])) m ∙ append-nil (verticesOf (take k walked))
+    vertices-old : s .rule < 6 → isIn samePoint y (pointsOfPlaces (take k walked)) ≡ true
+        → verticesOf (take (suc k) walked) ≡ verticesOf (take k walked)
+    vertices-old r m = vertices-next r
+        ∙ ap (λ (b : Bool). verticesOf (take k walked) ++ cond b [] (y ∷ [])) m
+        ∙ append-nil (verticesOf (take k walked))
 
-    vertices-new : s .rule < 6 → isIn samePoint y (pointsOfPlaces (take k walked)) ≡ false → verticesOf (take (suc k) walked) ≡ verticesOf (take k walked) ++ (y ∷ [])
+    vertices-new : s .rule < 6 → isIn samePoint y (pointsOfPlaces (take k walked)) ≡ false
+        → verticesOf (take (suc k) walked) ≡ verticesOf (take k walked) ++ (y ∷ [])
     vertices-new r n = vertices-next r ∙ ap (λ (b : Bool). verticesOf (take k walked) ++ cond b [] (y ∷ [])) n
 
-    module _ (w : Point) (onW : isGridPoint (shape g) w ≡ true) (given : ℕ) (old : List ℕ) (room : numPoints (shape g) ≤ length old)
-        {seen list : List ℕ} {t : Tally} (K : Kept (shape g) w given old (verticesOf (take k walked)) seen list t) where
+    module _ (w : Point) (onW : isGridPoint (shape g) w ≡ true) (given : ℕ) (old : List ℕ)
+        (room : numPoints (shape g) ≤ length old) {seen list : List ℕ} {t : Tally}
+        (K : Kept (shape g) w given old (verticesOf (take k walked)) seen list t) where
       abbrev away : ℕ
       away = distance (shape g) w (pointCome (shape g) s)
 
-      first-new : isIn samePoint y (pointsOfPlaces (take k walked)) ≡ false → isIn samePoint y (verticesOf (take k walked)) ≡ false
+      first-new : isIn samePoint y (pointsOfPlaces (take k walked)) ≡ false
+          → isIn samePoint y (verticesOf (take k walked)) ≡ false
       first-new n = false-of _ (λ m. absurd-bool (sym (firsts-in onPoints y (pointsOfPlaces (take k walked)) m) ∙ n))
 
       new-seen : isIn samePoint y (pointsOfPlaces (take k walked)) ≡ false → at seen (position (shape g) y) ≡ 0
       new-seen n = seen-new (shape g) (grid-accepted ok) w onW given old room K (on-so-far k) y on-grid (first-new n)
 
       old-seen : isIn samePoint y (pointsOfPlaces (take k walked)) ≡ true → at seen (position (shape g) y) ≡ 1
-      old-seen m = seen-old (shape g) (grid-accepted ok) w onW given old room K (on-so-far k) y on-grid (in-firsts onPoints y (pointsOfPlaces (take k walked)) m)
+      old-seen m = seen-old (shape g) (grid-accepted ok) w onW given old room K (on-so-far k) y on-grid
+          (in-firsts onPoints y (pointsOfPlaces (take k walked)) m)
 
       -- there is room for it
       pub room-next : HasRoom given t away seen list (comeIn (shape g) s)
-      room-next =
-          ⊎-elim
+      room-next = ⊎-elim
           (λ (r : s .rule < 6). rw (lt-ltb (s .rule) 6 r) (
             low (shape g) (grid-accepted ok) w onW given old room K (on-so-far k) y on-grid,
-            (λ z c. ⊎-elim (λ m. absurd (omega (arith, old-seen m)))
-                (λ n. room-for (shape g) (grid-accepted ok) w onW given old room K (on-so-far k) y on-grid (first-new n) (firsts-distinct onPoints (pointsOfPlaces (take k walked))) c)
+            (λ z c. ⊎-elim
+                (λ m. absurd (omega (arith, old-seen m)))
+                (λ n. room-for (shape g) (grid-accepted ok) w onW given old room K (on-so-far k) y on-grid (first-new n)
+                (firsts-distinct onPoints (pointsOfPlaces (take k walked))) c)
                 (true-or-false (isIn samePoint y (pointsOfPlaces (take k walked))))),
           ))
-          (λ (r : 6 ≤ s .rule). rw (le-ltb (s .rule) 6 r) refl) (before-or-not (s .rule) 6)
+          (λ (r : 6 ≤ s .rule). rw (le-ltb (s .rule) 6 r) refl)
+          (before-or-not (s .rule) 6)
 
       -- what is kept up to the next place
-      pub kept-next : Kept (shape g) w given old (verticesOf (take (suc k) walked)) (seenAfter seen (comeIn (shape g) s))
-          (listAfter given t away seen list (comeIn (shape g) s)) (tallyAfter given t away seen (comeIn (shape g) s))
-      kept-next =
-          ⊎-elim
-          (λ (r : s .rule < 6).
-          ⊎-elim
-          (λ m. rw (vertices-old r m, lt-ltb (s .rule) 6 r, ne-eqb (at seen (position (shape g) y)) 0 (λ z. omega (arith, old-seen m))) K)
+      pub kept-next : Kept (shape g) w given old (verticesOf (take (suc k) walked))
+          (seenAfter seen (comeIn (shape g) s)) (listAfter given t away seen list (comeIn (shape g) s))
+          (tallyAfter given t away seen (comeIn (shape g) s))
+      kept-next = ⊎-elim
+          (λ (r : s .rule < 6). ⊎-elim
+          (λ m. rw (
+            vertices-old r m,
+            lt-ltb (s .rule) 6 r,
+            ne-eqb (at seen (position (shape g) y)) 0 (λ z. omega (arith, old-seen m)),
+          ) K)
           (λ n. rw (vertices-new r n, lt-ltb (s .rule) 6 r, eq-eqb (at seen (position (shape g) y)) 0 (new-seen n))
-          (kept-more (shape g) (grid-accepted ok) w onW given old room K (on-so-far k) y on-grid (first-new n) (firsts-distinct onPoints (pointsOfPlaces (take k walked)))))
+          (kept-more (shape g) (grid-accepted ok) w onW given old room K (on-so-far k) y on-grid (first-new n)
+          (firsts-distinct onPoints (pointsOfPlaces (take k walked)))))
           (true-or-false (isIn samePoint y (pointsOfPlaces (take k walked)))))
-          (λ (r : 6 ≤ s .rule). rw (vertices-same r, le-ltb (s .rule) 6 r) K) (before-or-not (s .rule) 6)
+          (λ (r : 6 ≤ s .rule). rw (vertices-same r, le-ltb (s .rule) 6 r) K)
+          (before-or-not (s .rule) 6)
 
-      pub kept-met : {came : Came} {r : Tally} {seen' list' : List ℕ} → came ≡ comeIn (shape g) s → r ≡ tallyAfter given t away seen came
-          → seen' ≡ seenAfter seen came → list' ≡ listAfter given t away seen list came
+      pub kept-met : {came : Came} {r : Tally} {seen' list' : List ℕ} → came ≡ comeIn (shape g) s
+          → r ≡ tallyAfter given t away seen came → seen' ≡ seenAfter seen came
+          → list' ≡ listAfter given t away seen list came
           → Kept (shape g) w given old (verticesOf (take (suc k) walked)) seen' list' r
       kept-met c e f h = rw (e, f, h, c) kept-next
 
@@ -209,7 +241,9 @@ module _ (g : GridStruct) (first table : List ℕ) (ok : Accepted (problemIn g f
       (K : Kept (shape g) w given old (verticesOf (take (suc k) walked)) seen list t) where
     all-met : Kept (shape g) w given old (visitedVertices p) seen list t
     unfolding visitedVertices
-    all-met = subst (λ (x : List Simplex). Kept (shape g) w given old (verticesOf x) seen list t) (take-all (suc k) walked (omega arith)) K
+    all-met = subst
+        (λ (x : List Simplex). Kept (shape g) w given old (verticesOf x) seen list t)
+        (take-all (suc k) walked (omega arith)) K
 
     pub met-nearest : t .nearest ≡ position (shape g) (nearest p w)
     met-nearest = all-met .nearest (some-visited ok)

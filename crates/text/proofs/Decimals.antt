@@ -1,5 +1,5 @@
--- Laws of decimal numbers: how one digit more is written, how many there are at most, that they stand for the number, and that the first is not 0.
--- Assumes nothing.
+-- Laws of decimal numbers: how one digit more is written, how many there are at most, that they stand for the number,
+-- and that the first is not 0. Assumes nothing.
 use mathlib.Core.Path.{_≡_, refl, _∙_}
 use mathlib.Core.Bool.{Bool, true, false, cond}
 use mathlib.Core.List.{List, [], _∷_, _++_}

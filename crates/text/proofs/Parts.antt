@@ -8,7 +8,8 @@ use lib.Seq.{sets, sets-eq}
 use Rattle.combinatorics.specs.Front.{front}
 use Rattle.text.specs.Part.{Part}
 
-sets-behind : (xs ys old : List ℕ) (at next : ℕ) → next ≡ at + length xs → sets (sets old at xs) next ys ≡ sets old at (xs ++ ys)
+sets-behind : (xs ys old : List ℕ) (at next : ℕ) → next ≡ at + length xs
+    → sets (sets old at xs) next ys ≡ sets old at (xs ++ ys)
 sets-behind [] ys old at next e = let start : next ≡ at = omega arith in rw start
 sets-behind (x ∷ xs) ys old at next e = sets-behind xs ys (set old at x) (suc at) next (omega arith)
 

@@ -8,7 +8,8 @@ use lib.Dec.{ltb}
 abbrev pub digit : ℕ → ℕ
 digit n = 48 + n % 10
 
--- The digits of n by at most `left` divisions by ten. `others` is bound first because a call's arguments are computed even where they are not used.
+-- The digits of n by at most `left` divisions by ten. `others` is bound first because a call's arguments are computed
+-- even where they are not used.
 unfoldable pub digits : ℕ → ℕ → List ℕ
 digits zero n = digit n ∷ []
 digits (suc left) n =

@@ -1,5 +1,5 @@
--- Which records a reader accepts: exactly those of a rule that leads to an unlabelled place. So each of the customer's reasons refuses. Assumes
--- nothing.
+-- Which records a reader accepts: exactly those of a rule that leads to an unlabelled place. So each of the customer's
+-- reasons refuses. Assumes nothing.
 use mathlib.Core.Bool.{true, false}
 use mathlib.Core.List.{List, [], _∷_, _++_, map}
 use mathlib.Core.Logic.{_⊎_, ⊎-elim, _↔_}
@@ -38,14 +38,21 @@ module _ {p : Problem} (ok : Settled p) (a : Simplex) (ha : isUnlabelledPlace p 
   unfolding recordOf
   by-rule b m = recorded m
 
-  pub accepts : (bytes : List ℕ) (n : ℕ) (c : Simplex) → (rebuiltFrom p (suc n) a bytes ≡ some c) ↔ Accepts p a bytes n c
-  accepts bytes n c = (to (readOn p a bytes) (λ b k. found p ok.sameNumber a (unlabelled-parts p a ha .gridPoints) bytes b k), of)
+  pub accepts : (bytes : List ℕ) (n : ℕ) (c : Simplex)
+      → (rebuiltFrom p (suc n) a bytes ≡ some c) ↔ Accepts p a bytes n c
+  accepts bytes n c = (
+    to (readOn p a bytes) (λ b k. found p ok.sameNumber a (unlabelled-parts p a ha .gridPoints) bytes b k),
+    of,
+  )
     where
       rest : Simplex → Option Simplex
       rest b = rebuiltFrom p n b (drop (length (recordOf p a b)) bytes)
 
-      to : (l : List Simplex) → ((b : Simplex) → isIn sameSimplex b l ≡ true → (isMove p a b ≡ true) × (begins (recordOf p a b) bytes ≡ true))
-          → goOn rest l ≡ some c → Accepts p a bytes n c
+      to : (l : List Simplex)
+          → ((b : Simplex) → isIn sameSimplex b l ≡ true
+          → (isMove p a b ≡ true) × (begins (recordOf p a b) bytes ≡ true))
+          → goOn rest l ≡ some c
+          → Accepts p a bytes n c
       to [] all e = absurd-bool (cc)
       to (b ∷ l) all e =
           let w = all b (in-here onSimplices b l) in
@@ -56,27 +63,32 @@ module _ {p : Problem} (ok : Settled p) (a : Simplex) (ha : isUnlabelledPlace p 
             rule = m .0;
             byRule = m .1;
             behind = drop (length (recordOf p a b)) bytes;
-            stands = begins-with (recordOf p a b) bytes w.1 ∙ ap (λ (r : List ℕ). r ++ drop (length (recordOf p a b)) bytes) (by-rule b m.1);
+            stands = begins-with (recordOf p a b) bytes w.1
+                ∙ ap (λ (r : List ℕ). r ++ drop (length (recordOf p a b)) bytes) (by-rule b m.1);
             goesOn = e;
           }
 
       of : Accepts p a bytes n c → rebuiltFrom p (suc n) a bytes ≡ some c
       of A =
           let b = A .next in
-          let e : bytes ≡ recordOf p a b ++ A .behind = A .stands ∙ ap (λ (r : List ℕ). r ++ A .behind) (sym (by-rule b A.byRule)) in
+          let e : bytes ≡ recordOf p a b ++ A .behind =
+          A .stands ∙ ap (λ (r : List ℕ). r ++ A .behind) (sym (by-rule b A.byRule)) in
           ap (rebuiltFrom p (suc n) a) e
-          ∙ reads-on p ok.sameNumber a (unlabelled-parts p a ha .gridPoints) (recordOf p a b ++ A .behind) b (move-of p a b A.place A.byRule)
-          (begins-self (recordOf p a b) A.behind) n
-          ∙ ap (rebuiltFrom p n b) (drop-append-seam (recordOf p a b) A.behind) ∙ A .goesOn
+          ∙ reads-on p ok.sameNumber a (unlabelled-parts p a ha .gridPoints) (recordOf p a b ++ A .behind) b
+          (move-of p a b A.place A.byRule) (begins-self (recordOf p a b) A.behind) n
+          ∙ ap (rebuiltFrom p n b) (drop-append-seam (recordOf p a b) A.behind)
+          ∙ A .goesOn
 
 none-of : (x : Option Simplex) → ((c : Simplex) → x ≡ some c → ⊥) → x ≡ none
 none-of none h = refl
 none-of (some c) h = absurd (h c refl)
 
 word : (low high y : ℕ) → low ≡ y % 256 → high ≡ y / 256 → low + 256 * high ≡ y
-word low high y e f = ap (λ (l : ℕ). l + 256 * high) e ∙ ap (λ (h : ℕ). y % 256 + 256 * h) f ∙ omega (arith, div-add-mod y 256)
+word low high y e f =
+    ap (λ (l : ℕ). l + 256 * high) e ∙ ap (λ (h : ℕ). y % 256 + 256 * h) f ∙ omega (arith, div-add-mod y 256)
 
-one-mapped : (f : Point → ℕ) (l : List Point) (x : ℕ) → map f l ≡ x ∷ [] → (y : Point) × (isIn samePoint y l ≡ true) × (f y ≡ x)
+one-mapped : (f : Point → ℕ) (l : List Point) (x : ℕ) → map f l ≡ x ∷ []
+    → (y : Point) × (isIn samePoint y l ≡ true) × (f y ≡ x)
 one-mapped f [] x e = absurd (omega (arith, ap length e))
 one-mapped f (y ∷ l) x e = (y, in-here onPoints y l, cc)
 
@@ -128,7 +140,8 @@ module _ {c : Change} where
   seven-bits (rule7 z h e) = omega arith
 
   -- the point that comes in, and the one that goes out
-  comes-in : {r : ℕ} (k : ByRule c r) (m low high : ℕ) (rest behind : List ℕ) → m ∷ low ∷ high ∷ rest ≡ recordBy k ++ behind → mapBy k % 2 ≡ 1
+  comes-in : {r : ℕ} (k : ByRule c r) (m low high : ℕ) (rest behind : List ℕ)
+      → m ∷ low ∷ high ∷ rest ≡ recordBy k ++ behind → mapBy k % 2 ≡ 1
       → c .pointsIn ≡ (low + 256 * high) ∷ []
   comes-in (rule1 y z e) m low high rest behind q o = rw (e, word low high y (cc) (cc))
   comes-in (rule2 y z h e) m low high rest behind q o = rw (e, word low high y (cc) (cc))
@@ -138,7 +151,8 @@ module _ {c : Change} where
   comes-in (rule6 z h e) m low high rest behind q o = absurd (omega arith)
   comes-in (rule7 z h e) m low high rest behind q o = absurd (omega arith)
 
-  goes-out : {r : ℕ} (k : ByRule c r) (m low high : ℕ) (rest behind : List ℕ) → m ∷ low ∷ high ∷ rest ≡ recordBy k ++ behind → mapBy k % 4 ≡ 2
+  goes-out : {r : ℕ} (k : ByRule c r) (m low high : ℕ) (rest behind : List ℕ)
+      → m ∷ low ∷ high ∷ rest ≡ recordBy k ++ behind → mapBy k % 4 ≡ 2
       → c .pointsOut ≡ (low + 256 * high) ∷ []
   goes-out (rule1 y z e) m low high rest behind q o = absurd (omega arith)
   goes-out (rule2 y z h e) m low high rest behind q o = absurd (omega arith)
@@ -148,8 +162,9 @@ module _ {c : Change} where
   goes-out (rule6 z h e) m low high rest behind q o = rw (e, word low high z (cc) (cc))
   goes-out (rule7 z h e) m low high rest behind q o = rw (e, word low high z (cc) (cc))
 
-  goes-behind : {r : ℕ} (k : ByRule c r) (m x y low high : ℕ) (rest behind : List ℕ) → m ∷ x ∷ y ∷ low ∷ high ∷ rest ≡ recordBy k ++ behind
-      → mapBy k % 4 ≡ 3 → c .pointsOut ≡ (low + 256 * high) ∷ []
+  goes-behind : {r : ℕ} (k : ByRule c r) (m x y low high : ℕ) (rest behind : List ℕ)
+      → m ∷ x ∷ y ∷ low ∷ high ∷ rest ≡ recordBy k ++ behind → mapBy k % 4 ≡ 3
+      → c .pointsOut ≡ (low + 256 * high) ∷ []
   goes-behind (rule1 v z e) m x y low high rest behind q o = rw (e, word low high z (cc) (cc))
   goes-behind (rule2 v z h e) m x y low high rest behind q o = rw (e, word low high z (cc) (cc))
   goes-behind (rule3 v z h e) m x y low high rest behind q o = rw (e, word low high z (cc) (cc))
@@ -171,7 +186,8 @@ module _ {p : Problem} (ok : Settled p) (a : Simplex) (ha : isUnlabelledPlace p 
       let v = outside-in onPoints w.0 b a w.1 in
       (w .0, all-in onPoints (isGridPoint p.grid) b (unlabelled-parts p b hb .gridPoints) w.0 v.0, v .1, w .2)
 
-  out-from : (b : Simplex) (x : ℕ) → change p a b .pointsOut ≡ x ∷ [] → (y : Point) × (isIn samePoint y a ≡ true) × (position p.grid y ≡ x)
+  out-from : (b : Simplex) (x : ℕ) → change p a b .pointsOut ≡ x ∷ []
+      → (y : Point) × (isIn samePoint y a ≡ true) × (position p.grid y ≡ x)
   unfolding change
   out-from b x e =
       let w = one-mapped (position p.grid) (outside samePoint b a) x e in
@@ -180,11 +196,12 @@ module _ {p : Problem} (ok : Settled p) (a : Simplex) (ha : isUnlabelledPlace p 
   pub refuses : Refuses p a
   refuses = record {
     noRecord = λ n. refuse [] n (λ c A. empty A.byRule A.behind A.stands);
-    noPoint = λ n m rest o. refuse (m ∷ rest) n (λ c A. some-point A.byRule (ap (λ (k : ℕ). k % 4) (sym (map-is A.byRule m rest A.behind A.stands)) ∙ o));
+    noPoint = λ n m rest o. refuse (m ∷ rest) n
+        (λ c A. some-point A.byRule (ap (λ (k : ℕ). k % 4) (sym (map-is A.byRule m rest A.behind A.stands)) ∙ o));
     alreadyThere = λ n m low high rest y o i e. refuse (m ∷ low ∷ high ∷ rest) n (λ c A.
         let w = come A o in
-        let same : y ≡ w .0 = at-one
-        (position-same y w.0 (all-in onPoints (isGridPoint p.grid) a (unlabelled-parts p a ha .gridPoints) y i) w.1 (e ∙ sym w.3)) in
+        let same : y ≡ w .0 = at-one (position-same y w.0
+        (all-in onPoints (isGridPoint p.grid) a (unlabelled-parts p a ha .gridPoints) y i) w.1 (e ∙ sym w.3)) in
         absurd-bool (sym i ∙ ap (λ (z : Point). isIn samePoint z a) same ∙ w .2));
     offTheTable = λ n m low high rest o l. refuse (m ∷ low ∷ high ∷ rest) n (λ c A.
         let w = come A o in
@@ -193,12 +210,16 @@ module _ {p : Problem} (ok : Settled p) (a : Simplex) (ha : isUnlabelledPlace p 
         let w = out-from A.next (low + 256 * high) (goes-out A.byRule m low high rest A.behind A.stands (four A o)) in
         h w.0 w.1 w.2);
     notThereBehind = λ n m x y low high rest o h. refuse (m ∷ x ∷ y ∷ low ∷ high ∷ rest) n (λ c A.
-        let w = out-from A.next (low + 256 * high) (goes-behind A.byRule m x y low high rest A.behind A.stands (four A o)) in
+        let w =
+        out-from A.next (low + 256 * high) (goes-behind A.byRule m x y low high rest A.behind A.stands (four A o)) in
         h w.0 w.1 w.2);
-    otherwise = λ n m rest o. refuse (m ∷ rest) n (λ c A.
-        absurd-bool (sym (one-of-seven A.byRule)
-        ∙ ap (λ (k : ℕ). isIn eqb k mapBytes) (sym (map-is A.byRule m rest A.behind A.stands)) ∙ o));
-    bitSeven = λ n m rest l. refuse (m ∷ rest) n (λ c A. omega (arith, l, map-is A.byRule m rest A.behind A.stands, seven-bits A.byRule));
+    otherwise = λ n m rest o. refuse (m ∷ rest) n
+        (λ c A. absurd-bool
+        (sym (one-of-seven A.byRule)
+        ∙ ap (λ (k : ℕ). isIn eqb k mapBytes) (sym (map-is A.byRule m rest A.behind A.stands))
+        ∙ o));
+    bitSeven = λ n m rest l.
+        refuse (m ∷ rest) n (λ c A. omega (arith, l, map-is A.byRule m rest A.behind A.stands, seven-bits A.byRule));
   }
     where
       empty : {c : Change} {r : ℕ} (k : ByRule c r) (behind : List ℕ) → [] ≡ recordBy k ++ behind → ⊥
@@ -210,35 +231,43 @@ module _ {p : Problem} (ok : Settled p) (a : Simplex) (ha : isUnlabelledPlace p 
       empty (rule6 z h e) behind q = omega (arith, ap length q)
       empty (rule7 z h e) behind q = omega (arith, ap length q)
 
-      four : {m : ℕ} {rest : List ℕ} {n d : ℕ} {c : Simplex} (A : Accepts p a (m ∷ rest) n c) → m % 4 ≡ d → mapBy A.byRule % 4 ≡ d
+      four : {m : ℕ} {rest : List ℕ} {n d : ℕ} {c : Simplex} (A : Accepts p a (m ∷ rest) n c) → m % 4 ≡ d
+          → mapBy A.byRule % 4 ≡ d
       four {m} {rest} A o = ap (λ (k : ℕ). k % 4) (sym (map-is A.byRule m rest A.behind A.stands)) ∙ o
 
       come : {m low high n : ℕ} {rest : List ℕ} {c : Simplex} → Accepts p a (m ∷ low ∷ high ∷ rest) n c → m % 2 ≡ 1
-          → (y : Point) × (isGridPoint p.grid y ≡ true) × (isIn samePoint y a ≡ false) × (position p.grid y ≡ low + 256 * high)
+          → (y : Point) × (isGridPoint p.grid y ≡ true) × (isIn samePoint y a ≡ false)
+          × (position p.grid y ≡ low + 256 * high)
       come {m} {low} {high} {n} {rest} A o =
           in-from A.next (low + 256 * high) A.place
           (comes-in A.byRule m low high rest A.behind A.stands
           (ap (λ (k : ℕ). k % 2) (sym (map-is A.byRule m (low ∷ high ∷ rest) A.behind A.stands)) ∙ o))
 
-      position-same : (y z : Point) → isGridPoint p.grid y ≡ true → isGridPoint p.grid z ≡ true → position p.grid y ≡ position p.grid z
+      position-same : (y z : Point) → isGridPoint p.grid y ≡ true → isGridPoint p.grid z ≡ true
+          → position p.grid y ≡ position p.grid z
           → _≡_ {A = List Point} (y ∷ []) (z ∷ [])
-      position-same y z hy hz e = positions-tell p.grid ok.sameNumber (y ∷ []) (z ∷ []) (rw hy) (rw hz) (ap (λ (i : ℕ). i ∷ []) e)
+      position-same y z hy hz e =
+          positions-tell p.grid ok.sameNumber (y ∷ []) (z ∷ []) (rw hy) (rw hz) (ap (λ (i : ℕ). i ∷ []) e)
 
       at-one : {y z : Point} → _≡_ {A = List Point} (y ∷ []) (z ∷ []) → y ≡ z
       at-one e = cc
 
 -- what is rebuilt is an unlabelled place
 module _ {p : Problem} (ok : Settled p) where
-  from-place : (n : ℕ) (a : Simplex) → isUnlabelledPlace p a ≡ true → (bytes : List ℕ) (c : Simplex) → rebuiltFrom p n a bytes ≡ some c
+  from-place : (n : ℕ) (a : Simplex) → isUnlabelledPlace p a ≡ true → (bytes : List ℕ) (c : Simplex)
+      → rebuiltFrom p n a bytes ≡ some c
       → isUnlabelledPlace p c ≡ true
   from-place zero a ha bytes c e = let q : a ≡ c = cc in rw (← q) ha
-  from-place (suc n) a ha bytes c e = let A = accepts ok a ha bytes n c .0 e in from-place n A.next A.place A.behind c A.goesOn
+  from-place (suc n) a ha bytes c e =
+      let A = accepts ok a ha bytes n c .0 e in
+      from-place n A.next A.place A.behind c A.goesOn
 
-  pub rebuilt-place : (bytes : List ℕ) (number : ℕ) (c : Simplex) → rebuilt p bytes number ≡ some c → isUnlabelledPlace p c ≡ true
+  pub rebuilt-place : (bytes : List ℕ) (number : ℕ) (c : Simplex) → rebuilt p bytes number ≡ some c
+      → isUnlabelledPlace p c ≡ true
   unfolding rebuilt
   rebuilt-place bytes zero c e = absurd-bool (cc)
-  rebuilt-place bytes (suc n) c e =
-      ⊎-elim
-      (λ t. from-place n (p .start ∷ []) (unlabelled-of p (p .start ∷ []) (start-place ok)) (drop (length (startRecord p)) bytes) c (rw t at e))
+  rebuilt-place bytes (suc n) c e = ⊎-elim
+      (λ t. from-place n (p .start ∷ []) (unlabelled-of p (p .start ∷ []) (start-place ok))
+      (drop (length (startRecord p)) bytes) c (rw t at e))
       (λ f. let z : none ≡ some c = rw f at e in absurd-bool (cc))
       (true-or-false (begins (startRecord p) bytes))

@@ -1,5 +1,5 @@
--- Request 10, on a trail: the map byte of a record tells whether a point came in, and the labels read of the places that are rebuilt are counted record
--- by record. Assumes nothing.
+-- Request 10, on a trail: the map byte of a record tells whether a point came in, and the labels read of the places
+-- that are rebuilt are counted record by record. Assumes nothing.
 use mathlib.Core.Bool.{Bool, true, false, not, cond, _&&_}
 use mathlib.Core.List.{List, [], _∷_, _++_, map}
 use mathlib.Core.Logic.{⊎-elim}
@@ -22,17 +22,21 @@ use Rattle.place.specs.Places.{Simplex}
 use Rattle.place.specs.Problem.{Problem}
 use Rattle.trail.specs.Change.{change, outside}
 use Rattle.trail.specs.Record.{bytes16, fields, bitMap, recordOf, startRecord}
-use Rattle.trail.specs.Trail.{isMove, begins, unlabelledPlaces, readOn, goOn, rebuiltFrom, rebuilt, placeIn, placesFrom, rebuiltPlaces}
+use Rattle.trail.specs.Trail.{isMove, begins, unlabelledPlaces, readOn, goOn, rebuiltFrom, rebuilt, placeIn}
+use Rattle.trail.specs.Trail.{placesFrom, rebuiltPlaces}
 
 -- what a record at the front of the bytes leads to has that record
-pub leads-begins : (p : Problem) (a b : Simplex) (bytes : List ℕ) → rebuiltFrom p 1 a bytes ≡ some b → begins (recordOf p a b) bytes ≡ true
+pub leads-begins : (p : Problem) (a b : Simplex) (bytes : List ℕ) → rebuiltFrom p 1 a bytes ≡ some b
+    → begins (recordOf p a b) bytes ≡ true
 unfolding readOn
-leads-begins p a b bytes e = go (readOn p a bytes) (λ c m. and-right (isMove p a c) _ (filter-in onSimplices fits c (unlabelledPlaces p) m .1)) e
+leads-begins p a b bytes e =
+    go (readOn p a bytes) (λ c m. and-right (isMove p a c) _ (filter-in onSimplices fits c (unlabelledPlaces p) m .1)) e
   where
     fits : Simplex → Bool
     fits c = isMove p a c && begins (recordOf p a c) bytes
 
-    go : (l : List Simplex) → ((c : Simplex) → isIn (onSimplices .eq) c l ≡ true → begins (recordOf p a c) bytes ≡ true) → goOn (λ c. some c) l ≡ some b
+    go : (l : List Simplex) → ((c : Simplex) → isIn (onSimplices .eq) c l ≡ true → begins (recordOf p a c) bytes ≡ true)
+        → goOn (λ c. some c) l ≡ some b
         → begins (recordOf p a b) bytes ≡ true
     go [] h q = absurd-bool (cc)
     go (c ∷ l) h q = let z : c ≡ b = cc in rw (← z) (h c (in-here onSimplices c l))
@@ -52,7 +56,8 @@ words-some g (x ∷ xs) = refl
 
 some-outside : (q : Point → Bool) (xs : List Point) → some? (filter (λ x. not (q x)) xs) ≡ not (all q xs)
 some-outside q [] = refl
-some-outside q (x ∷ xs) = ⊎-elim (λ (t : q x ≡ true). rw t (some-outside q xs)) (λ (f : q x ≡ false). rw f refl) (true-or-false (q x))
+some-outside q (x ∷ xs) =
+    ⊎-elim (λ (t : q x ≡ true). rw t (some-outside q xs)) (λ (f : q x ≡ false). rw f refl) (true-or-false (q x))
 
 first-byte : (x : ℕ) (r bytes : List ℕ) → begins (x ∷ r) bytes ≡ true → getD bytes 0 0 ≡ x
 first-byte x r [] e = absurd-bool (sym e)
@@ -72,13 +77,15 @@ came-byte p a b bytes e =
 -- the labels read of places that are alike as far as they are looked at
 pub came-same : (s t : List Simplex) (k : ℕ) → ((i : ℕ) → i ≤ k → getD s i [] ≡ getD t i []) → cameIn s k ≡ cameIn t k
 came-same s t zero h = came-none s ∙ sym (came-none t)
-came-same s t (suc k) h =
-    came-next s k ∙ rw (came-same s t k (λ i l. h i (omega arith)), h k (omega arith), h (suc k) (omega arith)) (sym (came-next t k))
+came-same s t (suc k) h = came-next s k
+    ∙ rw (came-same s t k (λ i l. h i (omega arith)), h k (omega arith), h (suc k) (omega arith)) (sym (came-next t k))
 
 nth-from-up : (f : ℕ → Simplex) (b n i : ℕ) → i < n → getD (map f (upFrom b n)) i [] ≡ f (b + i)
 nth-from-up f b zero i l = absurd (omega arith)
 nth-from-up f b (suc n) zero l = ap f (omega arith)
-nth-from-up f b (suc n) (suc i) l = let z : suc b + i ≡ b + suc i = omega arith in nth-from-up f (suc b) n i (omega arith) ∙ ap f z
+nth-from-up f b (suc n) (suc i) l =
+    let z : suc b + i ≡ b + suc i = omega arith in
+    nth-from-up f (suc b) n i (omega arith) ∙ ap f z
 
 nth-map-up : (f : ℕ → Simplex) (n i : ℕ) → i < n → getD (map f (upFrom 0 n)) i [] ≡ f i
 nth-map-up f n i l = let z : 0 + i ≡ i = omega arith in nth-from-up f 0 n i l ∙ ap f z
@@ -88,11 +95,13 @@ unfolding rebuiltPlaces
 long-rebuilt p bytes n = length-map (upFrom 0 n) (λ i. placeIn (rebuilt p bytes (suc i))) ∙ length-upFrom 0 n
 
 -- the i-th place that is rebuilt
-pub nth-from : (p : Problem) (n : ℕ) (a : Simplex) (bytes : List ℕ) (i : ℕ) → i ≤ n → getD (placesFrom p n a bytes) i [] ≡ placeIn (rebuiltFrom p i a bytes)
+pub nth-from : (p : Problem) (n : ℕ) (a : Simplex) (bytes : List ℕ) (i : ℕ) → i ≤ n
+    → getD (placesFrom p n a bytes) i [] ≡ placeIn (rebuiltFrom p i a bytes)
 unfolding placesFrom
 nth-from p n a bytes i l = nth-map-up (λ i. placeIn (rebuiltFrom p i a bytes)) (suc n) i (omega arith)
 
-pub nth-rebuilt : (p : Problem) (bytes : List ℕ) (n i : ℕ) → i < n → getD (rebuiltPlaces p bytes n) i [] ≡ placeIn (rebuilt p bytes (suc i))
+pub nth-rebuilt : (p : Problem) (bytes : List ℕ) (n i : ℕ) → i < n
+    → getD (rebuiltPlaces p bytes n) i [] ≡ placeIn (rebuilt p bytes (suc i))
 unfolding rebuiltPlaces
 nth-rebuilt p bytes n i l = nth-map-up (λ i. placeIn (rebuilt p bytes (suc i))) n i l
 
@@ -103,7 +112,13 @@ pub came-on : (p : Problem) (n : ℕ) (a : Simplex) (bytes : List ℕ) (k : ℕ)
 came-on p n a bytes k b c rest l here there step =
     let s = placesFrom p n a bytes in
     came-next s k
-    ∙ rw (nth-from p n a bytes k (omega arith), here, nth-from p n a bytes (suc k) l, there, came-byte p b c rest (leads-begins p b c rest step)) refl
+    ∙ rw (
+      nth-from p n a bytes k (omega arith),
+      here,
+      nth-from p n a bytes (suc k) l,
+      there,
+      came-byte p b c rest (leads-begins p b c rest step),
+    ) refl
 
 -- the labels read up to a record behind the first
 pub read-from : (p : Problem) (bytes : List ℕ) (n : ℕ) → begins (startRecord p) bytes ≡ true
@@ -114,15 +129,20 @@ read-from p bytes n e =
     let s = rebuiltPlaces p bytes (suc n) in
     let t = placesFrom p n (p .start ∷ []) (drop (length (startRecord p)) bytes) in
     let long : pred (length s) ≡ n = ap pred (long-rebuilt p bytes (suc n)) in
-    rw long (ap suc (came-same s t n (λ i l. nth-rebuilt p bytes (suc n) i (omega arith) ∙ ap placeIn (from-start i) ∙ sym (nth-from p n (p .start ∷ []) (drop (length (startRecord p)) bytes) i l))))
+    rw long (ap suc (came-same s t n
+    (λ i l. nth-rebuilt p bytes (suc n) i (omega arith)
+    ∙ ap placeIn (from-start i)
+    ∙ sym (nth-from p n (p .start ∷ []) (drop (length (startRecord p)) bytes) i l))))
   where
-    from-start : (i : ℕ) → rebuilt p bytes (suc i) ≡ rebuiltFrom p i (p .start ∷ []) (drop (length (startRecord p)) bytes)
+    from-start : (i : ℕ)
+        → rebuilt p bytes (suc i) ≡ rebuiltFrom p i (p .start ∷ []) (drop (length (startRecord p)) bytes)
     from-start i = rw e refl
 
 -- over the records of places that are read back, those of the places
-pub read-back : (p : Problem) (bytes : List ℕ) (s : List Simplex) (i : ℕ) → ((k : ℕ) → k ≤ i → rebuilt p bytes (suc k) ≡ some (getD s k []))
+pub read-back : (p : Problem) (bytes : List ℕ) (s : List Simplex) (i : ℕ)
+    → ((k : ℕ) → k ≤ i → rebuilt p bytes (suc k) ≡ some (getD s k []))
     → labelsRead (rebuiltPlaces p bytes (suc i)) ≡ suc (cameIn s i)
 unfolding labelsRead
-read-back p bytes s i h =
-    rw (long-rebuilt p bytes (suc i))
-    (ap suc (came-same (rebuiltPlaces p bytes (suc i)) s i (λ k l. nth-rebuilt p bytes (suc i) k (omega arith) ∙ ap placeIn (h k l))))
+read-back p bytes s i h = rw (long-rebuilt p bytes (suc i))
+    (ap suc (came-same (rebuiltPlaces p bytes (suc i)) s i
+    (λ k l. nth-rebuilt p bytes (suc i) k (omega arith) ∙ ap placeIn (h k l))))

@@ -11,10 +11,13 @@ use Rattle.combinatorics.proofs.Lists.{Equality, in-here, in-filter, filter-in,
 use Rattle.combinatorics.specs.Lists.{filter, isIn, distinct}
 use Rattle.trail.specs.Change.{outside}
 
-pub filter-split : {A : Type 0} (q : A → Bool) (xs : List A) → length (filter q xs) + length (filter (λ x. not (q x)) xs) ≡ length xs
+pub filter-split : {A : Type 0} (q : A → Bool) (xs : List A)
+    → length (filter q xs) + length (filter (λ x. not (q x)) xs) ≡ length xs
 filter-split q [] = omega arith
-filter-split q (x ∷ xs) =
-    ⊎-elim (λ t. rw t (omega (arith, filter-split q xs))) (λ f. rw f (omega (arith, filter-split q xs))) (true-or-false (q x))
+filter-split q (x ∷ xs) = ⊎-elim
+    (λ t. rw t (omega (arith, filter-split q xs)))
+    (λ f. rw f (omega (arith, filter-split q xs)))
+    (true-or-false (q x))
 
 pub one-of : {A : Type 0} (xs : List A) → length xs ≡ 1 → (x : A) × (xs ≡ x ∷ [])
 one-of [] e = absurd (omega arith)
@@ -26,17 +29,19 @@ none-of [] e = refl
 none-of (x ∷ xs) e = absurd (omega arith)
 
 module _ {A : Type 0} (E : Equality A) where
-  pub in-outside : (x : A) (a b : List A) → isIn E.eq x a ≡ true → isIn E.eq x b ≡ false → isIn E.eq x (outside E.eq b a) ≡ true
+  pub in-outside : (x : A) (a b : List A) → isIn E.eq x a ≡ true → isIn E.eq x b ≡ false
+      → isIn E.eq x (outside E.eq b a) ≡ true
   in-outside x a b m n = in-filter E (λ z. not (isIn E.eq z b)) x a m (rw n)
 
-  pub outside-in : (x : A) (a b : List A) → isIn E.eq x (outside E.eq b a) ≡ true → (isIn E.eq x a ≡ true) × (isIn E.eq x b ≡ false)
+  pub outside-in : (x : A) (a b : List A) → isIn E.eq x (outside E.eq b a) ≡ true
+      → (isIn E.eq x a ≡ true) × (isIn E.eq x b ≡ false)
   outside-in x a b m = let w = filter-in E (λ z. not (isIn E.eq z b)) x a m in (w .0, not-is _ w.1)
 
   -- the elements of a within b are counted alike from both sides
   shared-le : (a b : List A) → distinct E.eq a ≡ true
       → length (filter (λ x. isIn E.eq x b) a) ≤ length (filter (λ x. isIn E.eq x a) b)
-  shared-le a b d =
-      pigeon E (filter (λ x. isIn E.eq x b) a) (filter (λ x. isIn E.eq x a) b) (distinct-filter E (λ x. isIn E.eq x b) a d)
+  shared-le a b d = pigeon E (filter (λ x. isIn E.eq x b) a) (filter (λ x. isIn E.eq x a) b)
+      (distinct-filter E (λ x. isIn E.eq x b) a d)
       (λ x m. let w = filter-in E (λ x. isIn E.eq x b) x a m in in-filter E (λ x. isIn E.eq x a) x b w.1 w.0)
 
   pub shared-same : (a b : List A) → distinct E.eq a ≡ true → distinct E.eq b ≡ true
@@ -55,7 +60,8 @@ module _ {A : Type 0} (E : Equality A) where
 
   -- all elements are in the other list
   pub outside-none : (a b : List A) → ((x : A) → isIn E.eq x a ≡ true → isIn E.eq x b ≡ true) → outside E.eq b a ≡ []
-  outside-none a b h = empty-of (outside E.eq b a) (λ x m. let w = outside-in x a b m in absurd-bool (sym (h x w.0) ∙ w .1))
+  outside-none a b h =
+      empty-of (outside E.eq b a) (λ x m. let w = outside-in x a b m in absurd-bool (sym (h x w.0) ∙ w .1))
 
   -- all but one
   pub outside-one : (a b : List A) → distinct E.eq a ≡ true → (g : A) → isIn E.eq g a ≡ true → isIn E.eq g b ≡ false

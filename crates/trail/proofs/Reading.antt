@@ -1,5 +1,5 @@
--- What a reader rebuilds. In order: the record at the front of the bytes leads to its place, or to none; the table is not looked at; over a run's
--- trail the places are the path. Assumes nothing.
+-- What a reader rebuilds. In order: the record at the front of the bytes leads to its place, or to none; the table is
+-- not looked at; over a run's trail the places are the path. Assumes nothing.
 use mathlib.Core.Bool.{Bool, true, _&&_, not}
 use mathlib.Core.List.{List, [], _∷_, _++_}
 use mathlib.Core.Option.{Option, none, some}
@@ -30,12 +30,15 @@ begins-self [] x = refl
 begins-self (y ∷ r) x = and-both _ _ (eqb-self y) (begins-self r x)
 
 -- a place reached by a rule is reached by a move
-pub move-of : (p : Problem) (a b : Simplex) → isUnlabelledPlace p b ≡ true → {r : ℕ} → ByRule (change p a b) r → isMove p a b ≡ true
+pub move-of : (p : Problem) (a b : Simplex) → isUnlabelledPlace p b ≡ true → {r : ℕ} → ByRule (change p a b) r
+    → isMove p a b ≡ true
 unfolding isMove
-move-of p a b h {r} m =
-    and-both _ _ (and-both _ _ (and-both _ _ (and-both _ _ h (le-leb _ 1 (few m .0))) (le-leb _ 1 (few m .1))) (some m)) (rw (rules-are m))
+move-of p a b h {r} m = and-both _ _
+    (and-both _ _ (and-both _ _ (and-both _ _ h (le-leb _ 1 (few m .0))) (le-leb _ 1 (few m .1))) (some m))
+    (rw (rules-are m))
   where
-    few : {r : ℕ} → ByRule (change p a b) r → (length (change p a b .pointsIn) ≤ 1) × (length (change p a b .pointsOut) ≤ 1)
+    few : {r : ℕ} → ByRule (change p a b) r
+        → (length (change p a b .pointsIn) ≤ 1) × (length (change p a b .pointsOut) ≤ 1)
     few (rule1 y z e) = rw e (omega arith, omega arith)
     few (rule2 y z h e) = rw e (omega arith, omega arith)
     few (rule3 y z h e) = rw e (omega arith, omega arith)
@@ -44,7 +47,8 @@ move-of p a b h {r} m =
     few (rule6 z h e) = rw e (omega arith, omega arith)
     few (rule7 z h e) = rw e (omega arith, omega arith)
 
-    some : {r : ℕ} → ByRule (change p a b) r → not (empty (change p a b .pointsIn) && empty (change p a b .pointsOut)) ≡ true
+    some : {r : ℕ} → ByRule (change p a b) r
+        → not (empty (change p a b .pointsIn) && empty (change p a b .pointsOut)) ≡ true
     some (rule1 y z e) = rw e
     some (rule2 y z h e) = rw e
     some (rule3 y z h e) = rw e
@@ -53,25 +57,29 @@ move-of p a b h {r} m =
     some (rule6 z h e) = rw e
     some (rule7 z h e) = rw e
 
-module _ (p : Problem) (even : length p.grid.divisions ≡ numBlocks p.grid) (a : Simplex) (on : all (isGridPoint p.grid) a ≡ true) (bytes : List ℕ) where
+module _ (p : Problem) (even : length p.grid.divisions ≡ numBlocks p.grid) (a : Simplex)
+    (on : all (isGridPoint p.grid) a ≡ true) (bytes : List ℕ) where
   abbrev fits : Simplex → Bool
   fits b = isMove p a b && begins (recordOf p a b) bytes
 
   -- what is found is a place whose record stands there
-  pub found : (b : Simplex) → isIn sameSimplex b (readOn p a bytes) ≡ true → (isMove p a b ≡ true) × (begins (recordOf p a b) bytes ≡ true)
+  pub found : (b : Simplex) → isIn sameSimplex b (readOn p a bytes) ≡ true
+      → (isMove p a b ≡ true) × (begins (recordOf p a b) bytes ≡ true)
   unfolding readOn
   found b m =
       let w = filter-in onSimplices fits b (unlabelledPlaces p) m .1 in
       (and-left _ _ w, and-right (isMove p a b) _ w)
 
   -- and each such place is found
-  finds : (b : Simplex) → isMove p a b ≡ true → begins (recordOf p a b) bytes ≡ true → isIn sameSimplex b (readOn p a bytes) ≡ true
+  finds : (b : Simplex) → isMove p a b ≡ true → begins (recordOf p a b) bytes ≡ true
+      → isIn sameSimplex b (readOn p a bytes) ≡ true
   unfolding readOn unlabelledPlaces
   finds b m e =
       let h = moves-of p a b m .place in
       let k = unlabelled-parts p b h in
       in-filter onSimplices fits b (unlabelledPlaces p)
-      (in-filter onSimplices (isUnlabelledPlace p) b (sublists (inOrder p (points p.grid))) (sets-all p even b k.gridPoints k.inOrder) h)
+      (in-filter onSimplices (isUnlabelledPlace p) b (sublists (inOrder p (points p.grid)))
+      (sets-all p even b k.gridPoints k.inOrder) h)
       (and-both _ _ m e)
 
   -- the record leads to its place,
@@ -83,17 +91,22 @@ module _ (p : Problem) (even : length p.grid.divisions ≡ numBlocks p.grid) (a 
       rest c = rebuiltFrom p n c (drop (length (recordOf p a c)) bytes)
 
       go : (l : List Simplex) → isIn sameSimplex b l ≡ true
-          → ((c : Simplex) → isIn sameSimplex c l ≡ true → (isMove p a c ≡ true) × (begins (recordOf p a c) bytes ≡ true)) → goOn rest l ≡ rest b
+          → ((c : Simplex) → isIn sameSimplex c l ≡ true
+          → (isMove p a c ≡ true) × (begins (recordOf p a c) bytes ≡ true))
+          → goOn rest l ≡ rest b
       go [] k all = absurd-bool (sym k)
       go (c ∷ l) k all =
           let w = all c (in-here onSimplices c l) in
           ap rest (record-tells even on (moves-of p a c w.0) (moves-of p a b m) bytes w.1 e)
 
   -- and where there is no such place, to none
-  pub reads-none : ((b : Simplex) → isMove p a b ≡ true → begins (recordOf p a b) bytes ≡ true → ⊥) → (n : ℕ) → rebuiltFrom p (suc n) a bytes ≡ none
+  pub reads-none : ((b : Simplex) → isMove p a b ≡ true → begins (recordOf p a b) bytes ≡ true → ⊥) → (n : ℕ)
+      → rebuiltFrom p (suc n) a bytes ≡ none
   reads-none h n = go (readOn p a bytes) (λ c k. found c k)
     where
-      go : (l : List Simplex) → ((c : Simplex) → isIn sameSimplex c l ≡ true → (isMove p a c ≡ true) × (begins (recordOf p a c) bytes ≡ true))
+      go : (l : List Simplex)
+          → ((c : Simplex) → isIn sameSimplex c l ≡ true
+          → (isMove p a c ≡ true) × (begins (recordOf p a c) bytes ≡ true))
           → goOn (λ c. rebuiltFrom p n c (drop (length (recordOf p a c)) bytes)) l ≡ none
       go [] all = refl
       go (c ∷ l) all = let w = all c (in-here onSimplices c l) in absurd (h c w.0 w.1)
@@ -141,18 +154,23 @@ module _ (p : Problem) (labels : List ℕ) where
       filter-cong onSimplices (unlabelledPlaces (withLabels p labels)) (λ b m. rw (move-alike a b, record-alike a b))
       ∙ ap (filter (λ b. isMove p a b && begins (recordOf p a b) bytes)) places-alike
 
-  from-alike : (n : ℕ) (a : Simplex) (bytes : List ℕ) → rebuiltFrom (withLabels p labels) n a bytes ≡ rebuiltFrom p n a bytes
+  from-alike : (n : ℕ) (a : Simplex) (bytes : List ℕ)
+      → rebuiltFrom (withLabels p labels) n a bytes ≡ rebuiltFrom p n a bytes
   from-alike zero a bytes = refl
   from-alike (suc n) a bytes = ap (goOn _) (read-alike a bytes) ∙ go (readOn p a bytes) (λ b x. from-alike n b x)
     where
-      go : (l : List Simplex) → ((b : Simplex) (x : List ℕ) → rebuiltFrom (withLabels p labels) n b x ≡ rebuiltFrom p n b x)
-          → goOn (λ b. rebuiltFrom (withLabels p labels) n b (drop (length (recordOf (withLabels p labels) a b)) bytes)) l
+      go : (l : List Simplex)
+          → ((b : Simplex) (x : List ℕ) → rebuiltFrom (withLabels p labels) n b x ≡ rebuiltFrom p n b x)
+          → goOn
+          (λ b. rebuiltFrom (withLabels p labels) n b (drop (length (recordOf (withLabels p labels) a b)) bytes))
+          l
           ≡ goOn (λ b. rebuiltFrom p n b (drop (length (recordOf p a b)) bytes)) l
       go [] k = refl
       go (b ∷ l) k = k b (drop (length (recordOf (withLabels p labels) a b)) bytes)
           ∙ ap (λ (r : List ℕ). rebuiltFrom p n b (drop (length r) bytes)) (record-alike a b)
 
-  pub without-labels : (bytes : List ℕ) (number : ℕ) → rebuilt (withLabels p labels) bytes number ≡ rebuilt p bytes number
+  pub without-labels : (bytes : List ℕ) (number : ℕ)
+      → rebuilt (withLabels p labels) bytes number ≡ rebuilt p bytes number
   unfolding rebuilt startRecord
   without-labels bytes zero = refl
   without-labels bytes (suc n) = rw (from-alike n (p .start ∷ []) (drop (length (startRecord p)) bytes))

@@ -57,7 +57,8 @@ module _ {c : Change} where
       go (rule7 z h e) = (omega arith, omega arith)
 
   -- the change back is by the inverse rule
-  pub back : {r : ℕ} → ByRule c r → ByRule (changeBy c.pointsOut c.pointsIn c.outOfT c.intoT c.outOfU c.intoU) (inverse r)
+  pub back : {r : ℕ} → ByRule c r
+      → ByRule (changeBy c.pointsOut c.pointsIn c.outOfT c.intoT c.outOfU c.intoU) (inverse r)
   back (rule1 y z e) = rule1 z y (rw e)
   back (rule2 y z h e) = rule3 z y h (rw e)
   back (rule3 y z h e) = rule2 z y h (rw e)

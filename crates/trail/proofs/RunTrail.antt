@@ -1,5 +1,5 @@
--- Over a run's trail the places that a reader rebuilds are the path. In order: the records behind a place; the whole trail; every list of places
--- that follows the path. Assumes nothing.
+-- Over a run's trail the places that a reader rebuilds are the path. In order: the records behind a place; the whole
+-- trail; every list of places that follows the path. Assumes nothing.
 use mathlib.Core.Bool.{true}
 use mathlib.Core.List.{List, [], _∷_, _++_, append-assoc, append-nil}
 use mathlib.Core.Option.{none, some}
@@ -48,23 +48,30 @@ module _ (p : Problem) (even : length p.grid.divisions ≡ numBlocks p.grid) whe
   records-read a s R rest zero l = refl
   records-read a [] R rest (suc i) l = absurd (omega arith)
   records-read a (b ∷ s) R rest (suc i) l =
-      ap (rebuiltFrom p (suc i) a) (append-assoc (recordOf p a b) (recordsFrom p b s) rest) ∙ one-read R (recordsFrom p b s ++ rest) i
+      ap (rebuiltFrom p (suc i) a) (append-assoc (recordOf p a b) (recordsFrom p b s) rest)
+      ∙ one-read R (recordsFrom p b s ++ rest) i
       ∙ records-read b s (later R) rest i (omega arith)
 
   no-record : (a b : Simplex) → begins (recordOf p a b) [] ≡ true → ⊥
   unfolding recordOf
   no-record a b e = absurd-bool (sym e)
 
-  no-more : (a : Simplex) (s : List Simplex) → ByRules p (a ∷ s) → (n : ℕ) → length s < n → rebuiltFrom p n a (recordsFrom p a s) ≡ none
+  no-more : (a : Simplex) (s : List Simplex) → ByRules p (a ∷ s) → (n : ℕ) → length s < n
+      → rebuiltFrom p n a (recordsFrom p a s) ≡ none
   no-more a s R zero l = absurd (omega arith)
-  no-more a [] R (suc n) l = reads-none p even a (unlabelled-parts p a (R .places 0 (omega arith)) .gridPoints) [] (λ b m e. no-record a b e) n
+  no-more a [] R (suc n) l =
+      reads-none p even a (unlabelled-parts p a (R .places 0 (omega arith)) .gridPoints) [] (λ b m e. no-record a b e) n
   no-more a (b ∷ s) R (suc n) l = one-read R (recordsFrom p b s) n ∙ no-more b s (later R) n (omega arith)
 
   records-short : (a : Simplex) (s : List Simplex) → ByRules p (a ∷ s) → length (recordsFrom p a s) ≤ 7 * length s
   unfolding recordOf
   records-short a [] R = omega arith
-  records-short a (b ∷ s) R =
-      omega (arith, length-append (recordOf p a b) (recordsFrom p b s), record-short (R .byRule 0 (omega arith) .1) .1, records-short b s (later R))
+  records-short a (b ∷ s) R = omega (
+    arith,
+    length-append (recordOf p a b) (recordsFrom p b s),
+    record-short (R .byRule 0 (omega arith) .1) .1,
+    records-short b s (later R),
+  )
 
   -- behind v's record
   start-read : (x : List ℕ) (n : ℕ) → rebuilt p (startRecord p ++ x) (suc n) ≡ rebuiltFrom p n (p .start ∷ []) x
@@ -85,13 +92,15 @@ module _ (p : Problem) (even : length p.grid.divisions ≡ numBlocks p.grid) whe
     long = omega (arith, length-append (startRecord p) (recordsFrom p a s), start-long);
     short = omega (arith, length-append (startRecord p) (recordsFrom p a s), start-long, records-short a s R);
     reads = back;
-    labelsSoFar = λ labels rest i c. read-back (withLabels p labels) _ (a ∷ s) i (λ k l. back labels rest k (omega arith));
+    labelsSoFar = λ labels rest i c.
+        read-back (withLabels p labels) _ (a ∷ s) i (λ k l. back labels rest k (omega arith));
     noMore = more;
     notZero = λ labels bytes. refl;
   }
     where
       back : (labels rest : List ℕ) (i : ℕ) → i < suc (length s)
-          → rebuilt (withLabels p labels) ((startRecord p ++ recordsFrom p a s) ++ rest) (suc i) ≡ some (placeAt (a ∷ s) i)
+          → rebuilt (withLabels p labels) ((startRecord p ++ recordsFrom p a s) ++ rest) (suc i)
+          ≡ some (placeAt (a ∷ s) i)
       back labels rest i c =
           without-labels p labels _ (suc i)
           ∙ ap (λ (x : List ℕ). rebuilt p x (suc i)) (append-assoc (startRecord p) (recordsFrom p a s) rest)
@@ -99,28 +108,33 @@ module _ (p : Problem) (even : length p.grid.divisions ≡ numBlocks p.grid) whe
           ∙ ap (λ (b : Simplex). rebuiltFrom p i b (recordsFrom p a s ++ rest)) (sym e)
           ∙ records-read a s R rest i (omega arith)
 
-      more : (labels : List ℕ) (i : ℕ) → suc (length s) < i → rebuilt (withLabels p labels) (startRecord p ++ recordsFrom p a s) i ≡ none
+      more : (labels : List ℕ) (i : ℕ) → suc (length s) < i
+          → rebuilt (withLabels p labels) (startRecord p ++ recordsFrom p a s) i ≡ none
       more labels zero c = refl
       more labels (suc i) c = without-labels p labels _ (suc i) ∙ start-read (recordsFrom p a s) i
           ∙ ap (λ (b : Simplex). rebuiltFrom p i b (recordsFrom p a s)) (sym e) ∙ no-more a s R i (omega arith)
 
 -- one place more is one record more
-pub one-more : (p : Problem) (s : List Simplex) (b : Simplex) → 0 < length s → trailOf p (s ++ (b ∷ [])) ≡ trailOf p s ++ recordOf p (lastPlace s) b
+pub one-more : (p : Problem) (s : List Simplex) (b : Simplex) → 0 < length s
+    → trailOf p (s ++ (b ∷ [])) ≡ trailOf p s ++ recordOf p (lastPlace s) b
 unfolding trailOf
 one-more p [] b l = absurd (omega arith)
-one-more p (a ∷ s) b l = ap (λ (x : List ℕ). startRecord p ++ x) (go a s) ∙ sym (append-assoc (startRecord p) (recordsFrom p a s) _)
+one-more p (a ∷ s) b l =
+    ap (λ (x : List ℕ). startRecord p ++ x) (go a s) ∙ sym (append-assoc (startRecord p) (recordsFrom p a s) _)
   where
-    go : (a : Simplex) (s : List Simplex) → recordsFrom p a (s ++ (b ∷ [])) ≡ recordsFrom p a s ++ recordOf p (lastPlace (a ∷ s)) b
+    go : (a : Simplex) (s : List Simplex)
+        → recordsFrom p a (s ++ (b ∷ [])) ≡ recordsFrom p a s ++ recordOf p (lastPlace (a ∷ s)) b
     go a [] = append-nil (recordOf p a b)
-    go a (c ∷ s) = ap (λ (x : List ℕ). recordOf p a c ++ x) (go c s) ∙ sym (append-assoc (recordOf p a c) (recordsFrom p c s) _)
+    go a (c ∷ s) =
+        ap (λ (x : List ℕ). recordOf p a c ++ x) (go c s) ∙ sym (append-assoc (recordOf p a c) (recordsFrom p c s) _)
 
 -- every list of places that follows the path: it may end, or stop at a gap or where a budget is spent
 pub run-trail : {p : Problem} → Settled p → (s : List Simplex) → Follows p s → Trails p s
-run-trail {p} ok s F =
-    trails p ok.sameNumber s F.nonempty F.begins (record {
-      places = λ i l. unlabelled-of p (placeAt s i) (F .places i l);
-      byRule = λ i l. rule-of-link ok (placeAt s i) (placeAt s (suc i)) (F .places i (omega arith)) (F .places (suc i) l) (F .known i l) (F .links i l);
-    })
+run-trail {p} ok s F = trails p ok.sameNumber s F.nonempty F.begins (record {
+  places = λ i l. unlabelled-of p (placeAt s i) (F .places i l);
+  byRule = λ i l. rule-of-link ok (placeAt s i) (placeAt s (suc i)) (F .places i (omega arith)) (F .places (suc i) l)
+      (F .known i l) (F .links i l);
+})
 
 -- so the path itself
 pub path-trail : {p : Problem} → Accepted p → Trails p (path p .visited)

@@ -1,4 +1,5 @@
--- What a move does, by its points and T: an exchange keeps T, a point more is an index more in T, a point less an index less. Assumes nothing.
+-- What a move does, by its points and T: an exchange keeps T, a point more is an index more in T, a point less an index
+-- less. Assumes nothing.
 use mathlib.Core.Bool.{true, false}
 use mathlib.Core.List.{List, [], _∷_}
 use mathlib.Core.Logic.{_⊎_, inl, inr, ⊎-elim}
@@ -32,30 +33,44 @@ use Rattle.trail.proofs.Tells.{Moves}
 use Rattle.trail.specs.Change.{Change, change, rules, outside, keeps, gains, loses}
 
 -- two lists that differ by an index
-pub less-of : (u v : List ℕ) {g : ℕ} → outside eqb v u ≡ g ∷ [] → outside eqb u v ≡ [] → Less (λ k. isIn eqb k u) (λ k. isIn eqb k v) g
+pub less-of : (u v : List ℕ) {g : ℕ} → outside eqb v u ≡ g ∷ [] → outside eqb u v ≡ []
+    → Less (λ k. isIn eqb k u) (λ k. isIn eqb k v) g
 less-of u v {g} e f =
     let w = outside-in onNumbers g u v (rw e (in-here onNumbers g [])) in
     record {
       has = w .0;
       out = w .1;
       rest = λ k n. both _ _
-          (λ m. ⊎-elim (λ t. t) (λ z. absurd-bool (sym (rw f at (in-outside onNumbers k v u m z)))) (true-or-false (isIn eqb k u)))
-          (λ m. ⊎-elim (λ t. t)
-          (λ z. ⊎-elim (λ q. absurd (n q)) (λ q. absurd-bool (sym q)) (in-cases onNumbers k g [] (rw e at (in-outside onNumbers k u v m z))))
+          (λ m. ⊎-elim
+          (λ t. t)
+          (λ z. absurd-bool (sym (rw f at (in-outside onNumbers k v u m z))))
+          (true-or-false (isIn eqb k u)))
+          (λ m. ⊎-elim
+          (λ t. t)
+          (λ z. ⊎-elim
+          (λ q. absurd (n q))
+          (λ q. absurd-bool (sym q))
+          (in-cases onNumbers k g [] (rw e at (in-outside onNumbers k u v m z))))
           (true-or-false (isIn eqb k v)));
     }
 
 -- two sets T without a difference
-T-same : (p : Problem) (a b : Simplex) → outside eqb (setT p a) (setT p b) ≡ [] → outside eqb (setT p b) (setT p a) ≡ [] → setT p a ≡ setT p b
+T-same : (p : Problem) (a b : Simplex) → outside eqb (setT p a) (setT p b) ≡ [] → outside eqb (setT p b) (setT p a) ≡ []
+    → setT p a ≡ setT p b
 unfolding setT
-T-same p a b e f = listed a ∙ filter-cong onNumbers (indices p.grid) (λ k m. both _ _ (within-other a b f k) (within-other b a e k)) ∙ sym (listed b)
+T-same p a b e f = listed a
+    ∙ filter-cong onNumbers (indices p.grid) (λ k m. both _ _ (within-other a b f k) (within-other b a e k))
+    ∙ sym (listed b)
   where
     listed : (s : Simplex) → setT p s ≡ filter (λ k. isIn eqb k (setT p s)) (indices p.grid)
     listed s = set-of _ (indices p.grid)
 
-    within-other : (s t : Simplex) → outside eqb (setT p t) (setT p s) ≡ [] → (k : ℕ) → isIn eqb k (setT p s) ≡ true → isIn eqb k (setT p t) ≡ true
-    within-other s t q k m =
-        ⊎-elim (λ y. y) (λ z. absurd-bool (sym (rw q at (in-outside onNumbers k (setT p s) (setT p t) m z)))) (true-or-false (isIn eqb k (setT p t)))
+    within-other : (s t : Simplex) → outside eqb (setT p t) (setT p s) ≡ [] → (k : ℕ) → isIn eqb k (setT p s) ≡ true
+        → isIn eqb k (setT p t) ≡ true
+    within-other s t q k m = ⊎-elim
+        (λ y. y)
+        (λ z. absurd-bool (sym (rw q at (in-outside onNumbers k (setT p s) (setT p t) m z))))
+        (true-or-false (isIn eqb k (setT p t)))
 
 -- by one rule T is kept, gains an index or loses one
 T-changes : (c : Change) (r : ℕ) → rules c ≡ r ∷ []
@@ -71,9 +86,12 @@ T-changes c r e =
     (true-or-false (keeps c.intoT c.outOfT))
 
 pub data Shape (p : Problem) (a b : Simplex) : Type 0 where
-  exchange : (y z : Point) → outside samePoint a b ≡ y ∷ [] → outside samePoint b a ≡ z ∷ [] → setT p a ≡ setT p b → Shape p a b
-  joins : (y : Point) (g : ℕ) → outside samePoint a b ≡ y ∷ [] → outside samePoint b a ≡ [] → Less (inT p b) (inT p a) g → Shape p a b
-  leaves : (z : Point) (g : ℕ) → outside samePoint a b ≡ [] → outside samePoint b a ≡ z ∷ [] → Less (inT p a) (inT p b) g → Shape p a b
+  exchange : (y z : Point) → outside samePoint a b ≡ y ∷ [] → outside samePoint b a ≡ z ∷ [] → setT p a ≡ setT p b
+      → Shape p a b
+  joins : (y : Point) (g : ℕ) → outside samePoint a b ≡ y ∷ [] → outside samePoint b a ≡ [] → Less (inT p b) (inT p a) g
+      → Shape p a b
+  leaves : (z : Point) (g : ℕ) → outside samePoint a b ≡ [] → outside samePoint b a ≡ z ∷ []
+      → Less (inT p a) (inT p b) g → Shape p a b
 
 pub points-distinct : (p : Problem) (s : Simplex) → isUnlabelledPlace p s ≡ true → distinct samePoint s ≡ true
 points-distinct p s h = rising-distinct onPoints (coefficientSum p) s (unlabelled-parts p s h .inOrder)
@@ -84,7 +102,10 @@ module _ {p : Problem} (ok : Settled p) where
   not-empty [] h = absurd (no-empty p ok.someBlock place)
     where
       place : isPlace p [] ≡ true
-      place = and-both _ _ h (in-all onNumbers (λ k. isIn eqb k (labelSet p [])) (setT p []) (λ k m. absurd-bool (sym (T-means p [] k .0 m .2 .1))))
+      place = and-both _ _ h (in-all onNumbers
+          (λ k. isIn eqb k (labelSet p []))
+          (setT p [])
+          (λ k m. absurd-bool (sym (T-means p [] k .0 m .2 .1))))
   not-empty (y ∷ s) h = omega arith
 
   -- T has one index less than the place has points
@@ -109,17 +130,20 @@ module _ {p : Problem} (ok : Settled p) where
 
   pub shape-of : (a b : Simplex) → isUnlabelledPlace p a ≡ true → Moves p a b → Shape p a b
   unfolding change
-  shape-of a b ha M =
-      ⊎-elim
-      (λ k. let x = one-of (outside samePoint a b) (omega (arith, few, same k, counted, pointed)) in
+  shape-of a b ha M = ⊎-elim
+      (λ k.
+      let x = one-of (outside samePoint a b) (omega (arith, few, same k, counted, pointed)) in
       let y = one-of (outside samePoint b a) (omega (arith, few, same k, counted, pointed)) in
-      exchange x.0 y.0 x.1 y.1 (T-same p a b (none-of into (omega (arith, same k))) (none-of outOf (omega (arith, same k)))))
+      exchange x.0 y.0 x.1 y.1
+      (T-same p a b (none-of into (omega (arith, same k))) (none-of outOf (omega (arith, same k)))))
       (λ w. ⊎-elim
-      (λ g. let x = one-of (outside samePoint a b) (omega (arith, few, one-more g, counted, pointed)) in
+      (λ g.
+      let x = one-of (outside samePoint a b) (omega (arith, few, one-more g, counted, pointed)) in
       let t = one-of into (omega (arith, one-more g)) in
       joins x.0 t.0 x.1 (none-of (outside samePoint b a) (omega (arith, few, one-more g, counted, pointed)))
       (less-of (setT p b) (setT p a) t.1 (none-of outOf (omega (arith, one-more g)))))
-      (λ l. let y = one-of (outside samePoint b a) (omega (arith, few, one-less l, counted, pointed)) in
+      (λ l.
+      let y = one-of (outside samePoint b a) (omega (arith, few, one-less l, counted, pointed)) in
       let t = one-of outOf (omega (arith, one-less l)) in
       leaves y.0 t.0 (none-of (outside samePoint a b) (omega (arith, few, one-less l, counted, pointed))) y.1
       (less-of (setT p a) (setT p b) t.1 (none-of into (omega (arith, one-less l)))))
@@ -154,7 +178,8 @@ module _ {p : Problem} (ok : Settled p) where
       long : (length a ≡ suc (length (setT p a))) × (length b ≡ suc (length (setT p b)))
       long = (T-long a ha, T-long b M.place)
 
-      pointed : (length (outside samePoint a b) + length (setT p a)) ≡ (length (outside samePoint b a) + length (setT p b))
+      pointed : (length (outside samePoint a b) + length (setT p a))
+          ≡ (length (outside samePoint b a) + length (setT p b))
       pointed = omega (
         arith,
         long,

@@ -1,6 +1,6 @@
--- The reader's checks leave exactly the links over some table. In order: sets of labels; over a table where the points of a place but one carry T, a
--- move that takes that point out is a link, and so is one by which that point's label joins T; each move is a link over some table, and each
--- link is a move. Assumes nothing.
+-- The reader's checks leave exactly the links over some table. In order: sets of labels; over a table where the points
+-- of a place but one carry T, a move that takes that point out is a link, and so is one by which that point's label
+-- joins T; each move is a link over some table, and each link is a move. Assumes nothing.
 use mathlib.Core.Bool.{true, _||_}
 use mathlib.Core.List.{List, [], _∷_}
 use mathlib.Core.Logic.{⊎-elim}
@@ -11,7 +11,8 @@ use lib.Dec.{eqb}
 use lib.ListN.{length}
 use native.Mathlib.Omega.{arith}
 use Rattle.combinatorics.proofs.Basics.{absurd-bool, true-or-false, same-or, and-both, or-left, or-right, both}
-use Rattle.combinatorics.proofs.Lists.{in-here, in-cases, in-all, in-filter, filter-cong, same-self, eqb-self, onNumbers}
+use Rattle.combinatorics.proofs.Lists.{in-here, in-cases, in-all, in-filter, filter-cong, same-self, eqb-self}
+use Rattle.combinatorics.proofs.Lists.{onNumbers}
 use Rattle.combinatorics.specs.Lists.{all, isIn, same}
 use Rattle.geometry.proofs.Definitions.{Less}
 use Rattle.geometry.proofs.Points.{nth}
@@ -38,19 +39,28 @@ use Rattle.trail.specs.Trail.{isMove}
 labels-T : (p : Problem) (s t : Simplex) → ((k : ℕ) → isIn eqb k (labelSet p s) ≡ true → isIn eqb k (setT p t) ≡ true)
     → ((k : ℕ) → isIn eqb k (setT p t) ≡ true → isIn eqb k (labelSet p s) ≡ true) → labelSet p s ≡ setT p t
 unfolding labelSet setT
-labels-T p s t f g = set-of _ (indices p.grid) ∙ filter-cong onNumbers (indices p.grid) (λ k m. both _ _ (f k) (g k)) ∙ sym (set-of _ (indices p.grid))
+labels-T p s t f g = set-of _ (indices p.grid)
+    ∙ filter-cong onNumbers (indices p.grid) (λ k m. both _ _ (f k) (g k))
+    ∙ sym (set-of _ (indices p.grid))
 
 -- what is not left out is in the other set
-pub stays-in : (a b : Simplex) {z : Point} → outside samePoint b a ≡ z ∷ [] → (y : Point) → isIn samePoint y a ≡ true → (y ≡ z → ⊥)
+pub stays-in : (a b : Simplex) {z : Point} → outside samePoint b a ≡ z ∷ [] → (y : Point) → isIn samePoint y a ≡ true
+    → (y ≡ z → ⊥)
     → isIn samePoint y b ≡ true
-stays-in a b {z} e y m n =
-    ⊎-elim (λ t. t)
-    (λ f. ⊎-elim (λ q. absurd (n q)) (λ q. absurd-bool (sym q)) (in-cases onPoints y z [] (rw e at (in-outside onPoints y a b m f))))
+stays-in a b {z} e y m n = ⊎-elim
+    (λ t. t)
+    (λ f. ⊎-elim
+    (λ q. absurd (n q))
+    (λ q. absurd-bool (sym q))
+    (in-cases onPoints y z [] (rw e at (in-outside onPoints y a b m f))))
     (true-or-false (isIn samePoint y b))
 
-all-stay : (a b : Simplex) → outside samePoint b a ≡ [] → (y : Point) → isIn samePoint y a ≡ true → isIn samePoint y b ≡ true
-all-stay a b e y m =
-    ⊎-elim (λ t. t) (λ f. absurd-bool (sym (rw e at (in-outside onPoints y a b m f)))) (true-or-false (isIn samePoint y b))
+all-stay : (a b : Simplex) → outside samePoint b a ≡ [] → (y : Point) → isIn samePoint y a ≡ true
+    → isIn samePoint y b ≡ true
+all-stay a b e y m = ⊎-elim
+    (λ t. t)
+    (λ f. absurd-bool (sym (rw e at (in-outside onPoints y a b m f))))
+    (true-or-false (isIn samePoint y b))
 
 -- a link over a table
 pub record LinkOver (p : Problem) (a b : Simplex) (labels : List ℕ) : Type 0 where
@@ -58,10 +68,11 @@ pub record LinkOver (p : Problem) (a b : Simplex) (labels : List ℕ) : Type 0 w
   pub to : isPlace (withLabels p labels) b ≡ true
   pub by : linked (withLabels p labels) a b ≡ true
 
-module _ {p : Problem} (a b : Simplex) (ha : isUnlabelledPlace p a ≡ true) (hb : isUnlabelledPlace p b ≡ true) {i x : ℕ} (il : i < length a)
-    {labels : List ℕ} (L : Labelled p a i x labels) where
+module _ {p : Problem} (a b : Simplex) (ha : isUnlabelledPlace p a ≡ true) (hb : isUnlabelledPlace p b ≡ true) {i x : ℕ}
+    (il : i < length a) {labels : List ℕ} (L : Labelled p a i x labels) where
   -- a set of points has a label that one of its points has
-  has-label : (s : Simplex) (y : Point) (k : ℕ) → isIn samePoint y s ≡ true → k < numIndices p.grid → label (withLabels p labels) y ≡ suc k
+  has-label : (s : Simplex) (y : Point) (k : ℕ) → isIn samePoint y s ≡ true → k < numIndices p.grid
+      → label (withLabels p labels) y ≡ suc k
       → isIn eqb k (labelSet (withLabels p labels) s) ≡ true
   has-label s y k m l e = labels-mean (withLabels p labels) s k .1 (l, (y, m, e))
 
@@ -69,7 +80,8 @@ module _ {p : Problem} (a b : Simplex) (ha : isUnlabelledPlace p a ≡ true) (hb
   counted = outside-count onPoints a b (points-distinct p a ha) (points-distinct p b hb)
 
   -- a place over the table, where its T is carried
-  place-b : ((k : ℕ) → isIn eqb k (setT p b) ≡ true → isIn eqb k (labelSet (withLabels p labels) b) ≡ true) → isPlace (withLabels p labels) b ≡ true
+  place-b : ((k : ℕ) → isIn eqb k (setT p b) ≡ true → isIn eqb k (labelSet (withLabels p labels) b) ≡ true)
+      → isPlace (withLabels p labels) b ≡ true
   unfolding isPlace
   place-b h = and-both _ _ (place-alike p labels b ∙ hb)
       (in-all onNumbers (λ k. isIn eqb k (labelSet (withLabels p labels) b)) (setT (withLabels p labels) b)
@@ -93,13 +105,19 @@ module _ {p : Problem} (a b : Simplex) (ha : isUnlabelledPlace p a ≡ true) (hb
     exchange-links {y} come e = record {
       from = L .place;
       to = place-b (λ k m. carried k (rw e m));
-      by = or-left _ _ (or-left _ _ (and-both _ _ (and-both _ _ (and-both _ _ (eq-eqb (length a) _ la) (eq-eqb (length b) _ lb))
+      by = or-left _ _ (or-left _ _ (and-both _ _
+          (and-both _ _ (and-both _ _ (eq-eqb (length a) _ la) (eq-eqb (length b) _ lb))
           (rw (T-alike p labels a, T-alike p labels b, e) (same-self eqb eqb-self (setT p b))))
-          (in-all onNumbers (λ k. isIn eqb k (labelSet (withLabels p labels) (shared a b))) (setT (withLabels p labels) a) (λ k m.
+          (in-all onNumbers
+          (λ k. isIn eqb k (labelSet (withLabels p labels) (shared a b)))
+          (setT (withLabels p labels) a)
+          (λ k m.
           let t = rw (T-alike p labels a) at m in
           let c = L .carries k t in
           has-label (shared a b) (nth a c.0) k
-          (in-filter onPoints (λ y. isIn samePoint y b) (nth a c.0) a (at-in onPoints [] a c.0 c.1) (others c.0 c.1 c.2)) (below k t) c.3))));
+          (in-filter onPoints (λ y. isIn samePoint y b) (nth a c.0) a (at-in onPoints [] a c.0 c.1)
+          (others c.0 c.1 c.2))
+          (below k t) c.3))));
     }
       where
         la : length a ≡ suc (length (shared a b))
@@ -121,7 +139,10 @@ module _ {p : Problem} (a b : Simplex) (ha : isUnlabelledPlace p a ≡ true) (hb
     }
       where
         more : (k : ℕ) → isIn eqb k (setT p b) ≡ true → isIn eqb k (setT p a) ≡ true
-        more k m = ⊎-elim (λ (e : k ≡ g). absurd-bool (sym m ∙ ap (inT p b) e ∙ T .out)) (λ n. sym (T .rest k n) ∙ m) (same-or k g)
+        more k m = ⊎-elim
+            (λ (e : k ≡ g). absurd-bool (sym m ∙ ap (inT p b) e ∙ T .out))
+            (λ n. sym (T .rest k n) ∙ m)
+            (same-or k g)
 
         -- the labels that stay are those of T
         sets : labelSet (withLabels p labels) b ≡ setT (withLabels p labels) a
@@ -129,7 +150,10 @@ module _ {p : Problem} (a b : Simplex) (ha : isUnlabelledPlace p a ≡ true) (hb
             (λ k m.
             let w = labels-mean (withLabels p labels) b k .0 m .1 in
             let j = in-at onPoints [] w.0 a (all-stay b a come w.0 w.1) in
-            let c = L .inside j.0 j.1 (λ e. absurd-bool (sym w.1 ∙ ap (λ (y : Point). isIn samePoint y b) (sym j.2 ∙ ap (nth a) e ∙ at-z)
+            let c = L .inside j.0 j.1
+            (λ e. absurd-bool
+            (sym w.1
+            ∙ ap (λ (y : Point). isIn samePoint y b) (sym j.2 ∙ ap (nth a) e ∙ at-z)
             ∙ outside-in onPoints z a b (rw out (in-here onPoints z [])) .1)) in
             let n : suc k ≡ suc c.0 = sym w.2 ∙ ap (label (withLabels p labels)) (sym j.2) ∙ c .2 in
             let e : k ≡ c .0 = omega arith in
@@ -137,7 +161,9 @@ module _ {p : Problem} (a b : Simplex) (ha : isUnlabelledPlace p a ≡ true) (hb
             (λ k m. carried k (rw (T-alike p labels a) at m))
 
   -- its label joins T
-  pub join-links : {y : Point} → outside samePoint a b ≡ y ∷ [] → outside samePoint b a ≡ [] → Less (inT p b) (inT p a) x → LinkOver p a b labels
+  pub join-links : {y : Point} → outside samePoint a b ≡ y ∷ [] → outside samePoint b a ≡ []
+      → Less (inT p b) (inT p a) x
+      → LinkOver p a b labels
   unfolding linked extended
   join-links {y} come out T = record {
     from = L .place;
@@ -156,27 +182,35 @@ module _ {p : Problem} (a b : Simplex) (ha : isUnlabelledPlace p a ≡ true) (hb
           let j = in-at onPoints [] w.0 a w.1 in
           let e : label (withLabels p labels) (nth a j.0) ≡ suc k = ap (label (withLabels p labels)) j.2 ∙ w .2 in
           rw (T-alike p labels b) (⊎-elim
-          (λ (n : j .0 ≡ i). let s : suc k ≡ suc x = sym e ∙ ap (λ (j : ℕ). label (withLabels p labels) (nth a j)) n ∙ L .here in
-          let t : k ≡ x = omega arith in rw t T.has)
-          (λ n. let c = L .inside j.0 j.1 n in
+          (λ (n : j .0 ≡ i).
+          let s : suc k ≡ suc x = sym e ∙ ap (λ (j : ℕ). label (withLabels p labels) (nth a j)) n ∙ L .here in
+          let t : k ≡ x = omega arith in
+          rw t T.has)
+          (λ n.
+          let c = L .inside j.0 j.1 n in
           let s : suc k ≡ suc c.0 = sym e ∙ c .2 in
           let t : k ≡ c .0 = omega arith in
           rw t (⊎-elim (λ (r : c .0 ≡ x). rw r T.has) (λ r. sym (T .rest c.0 r) ∙ c .1) (same-or c.0 x)))
           (same-or j.0 i)))
           (λ k m.
           let t : isIn eqb k (setT p b) ≡ true = rw (T-alike p labels b) at m in
-          ⊎-elim (λ (e : k ≡ x). has-label a (nth a i) k (at-in onPoints [] a i il) (T-means p b k .0 t .0) (rw e L.here))
-          (λ n. let c = L .carries k (T .rest k n ∙ t) in has-label a (nth a c.0) k (at-in onPoints [] a c.0 c.1) (T-means p b k .0 t .0) c.3)
+          ⊎-elim
+          (λ (e : k ≡ x). has-label a (nth a i) k (at-in onPoints [] a i il) (T-means p b k .0 t .0) (rw e L.here))
+          (λ n.
+          let c = L .carries k (T .rest k n ∙ t) in
+          has-label a (nth a c.0) k (at-in onPoints [] a c.0 c.1) (T-means p b k .0 t .0) c.3)
           (same-or k x))
 
 module _ {p : Problem} (ok : Settled p) where
   -- the number of a point of a place
-  pub number-of : (a b : Simplex) {z : Point} → outside samePoint b a ≡ z ∷ [] → (i : ℕ) × (i < length a) × (nth a i ≡ z)
+  pub number-of : (a b : Simplex) {z : Point} → outside samePoint b a ≡ z ∷ []
+      → (i : ℕ) × (i < length a) × (nth a i ≡ z)
   number-of a b {z} e = in-at onPoints [] z a (outside-in onPoints z a b (rw e (in-here onPoints z [])) .0)
 
   -- each move is a link over some table, without a gap,
   pub move-links : (a b : Simplex) → isUnlabelledPlace p a ≡ true → isMove p a b ≡ true
-      → (labels : List ℕ) × LinkOver p a b labels × Accepted (withLabels p labels) × (allLabelled (withLabels p labels) a ≡ true)
+      → (labels : List ℕ) × LinkOver p a b labels × Accepted (withLabels p labels)
+      × (allLabelled (withLabels p labels) a ≡ true)
   move-links a b ha m = go (shape-of ok a b ha M)
     where
       M : Moves p a b
@@ -185,7 +219,9 @@ module _ {p : Problem} (ok : Settled p) where
       on : all (isGridPoint p.grid) a ≡ true
       on = unlabelled-parts p a ha .gridPoints
 
-      go : Shape p a b → (labels : List ℕ) × LinkOver p a b labels × Accepted (withLabels p labels) × (allLabelled (withLabels p labels) a ≡ true)
+      go : Shape p a b
+          → (labels : List ℕ) × LinkOver p a b labels × Accepted (withLabels p labels)
+          × (allLabelled (withLabels p labels) a ≡ true)
       go (exchange y z come out e) =
           let i = number-of a b out in
           let t = some-table ok a ha i.0 0 i.1 (some-index ok) in
@@ -199,7 +235,8 @@ module _ {p : Problem} (ok : Settled p) where
           (t .0, leave-links a b ha M.place i.1 t.1 out i.2 come T, t .1 .accepted, t .1 .known a on)
 
   -- and each link from a place whose points have labels is a move
-  pub link-moves : (labels : List ℕ) (a b : Simplex) → LinkOver p a b labels → allLabelled (withLabels p labels) a ≡ true
+  pub link-moves : (labels : List ℕ) (a b : Simplex) → LinkOver p a b labels
+      → allLabelled (withLabels p labels) a ≡ true
       → (isMove p a b ≡ true) × ((r : ℕ) × ByRule (change p a b) r)
   link-moves labels a b L own =
       let w = rule-of-link (settled-with ok labels) a b L.from L.to own L.by in
@@ -207,5 +244,6 @@ module _ {p : Problem} (ok : Settled p) where
       (move-of p a b (sym (place-alike p labels b) ∙ unlabelled-of (withLabels p labels) b L.to) m, (w .0, m))
 
   -- so each move is by one rule
-  pub move-rule : (a b : Simplex) → isUnlabelledPlace p a ≡ true → isMove p a b ≡ true → (r : ℕ) × ByRule (change p a b) r
+  pub move-rule : (a b : Simplex) → isUnlabelledPlace p a ≡ true → isMove p a b ≡ true
+      → (r : ℕ) × ByRule (change p a b) r
   move-rule a b ha m = let w = move-links a b ha m in link-moves w.0 a b w.1 w.3 .1

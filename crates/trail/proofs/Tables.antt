@@ -1,5 +1,5 @@
--- A label table that gives the points of a set the labels of a list. So an unlabelled place is a place over some table, with all of T carried by its
--- points but one, and any index as that one's label. Assumes nothing.
+-- A label table that gives the points of a set the labels of a list. So an unlabelled place is a place over some table,
+-- with all of T carried by its points but one, and any index as that one's label. Assumes nothing.
 use mathlib.Core.Bool.{true, false, _&&_, cond}
 use mathlib.Core.List.{List, [], _∷_, map}
 use mathlib.Core.Logic.{_⊎_, inl, inr, ⊎-elim}
@@ -9,9 +9,11 @@ use borrow.Author.Tests.{eqb-true, le-leb}
 use lib.Dec.{eqb, leb}
 use lib.ListN.{length, getD, length-map}
 use native.Mathlib.Omega.{arith}
-use Rattle.combinatorics.proofs.Basics.{absurd-bool, true-or-false, and-left, and-right, and-both, false-of, before-or-not}
+use Rattle.combinatorics.proofs.Basics.{absurd-bool, true-or-false, and-left, and-right, and-both, false-of}
+use Rattle.combinatorics.proofs.Basics.{before-or-not}
 use Rattle.combinatorics.proofs.EditsInsert.{length-insertAt, insertAt-before, insertAt-here, insertAt-behind}
-use Rattle.combinatorics.proofs.Lists.{all-in, in-all, in-here, in-later, in-cases, map-in, distinct-out, distinct-tail, onNumbers}
+use Rattle.combinatorics.proofs.Lists.{all-in, in-all, in-here, in-later, in-cases, map-in, distinct-out, distinct-tail}
+use Rattle.combinatorics.proofs.Lists.{onNumbers}
 use Rattle.combinatorics.proofs.Rising.{rising-distinct}
 use Rattle.combinatorics.specs.Edits.{insertAt}
 use Rattle.combinatorics.specs.Lists.{all, isIn, distinct, occurrences}
@@ -50,7 +52,8 @@ table g s ls = map (given s ls) (points g)
 abbrev pub Names : ℕ → List ℕ → Type 0
 Names m ls = (l : ℕ) → isIn eqb l ls ≡ true → (1 ≤ l) × (l ≤ m)
 
-given-names : (m : ℕ) → 1 ≤ m → (s : Simplex) (ls : List ℕ) → Names m ls → (y : Point) → (1 ≤ given s ls y) × (given s ls y ≤ m)
+given-names : (m : ℕ) → 1 ≤ m → (s : Simplex) (ls : List ℕ) → Names m ls → (y : Point)
+    → (1 ≤ given s ls y) × (given s ls y ≤ m)
 given-names m c [] ls h y = (omega arith, c)
 given-names m c (x ∷ s) [] h y = (omega arith, c)
 given-names m c (x ∷ s) (l ∷ ls) h y =
@@ -62,15 +65,17 @@ given-all : (s : Simplex) → distinct samePoint s ≡ true → (ls : List ℕ) 
 given-all [] d [] e = refl
 given-all [] d (l ∷ ls) e = absurd (omega arith)
 given-all (x ∷ s) d [] e = absurd (omega arith)
-given-all (x ∷ s) d (l ∷ ls) e =
-    rw (point-self x) (ap (λ (k : List ℕ). l ∷ k) (later s (λ y m. m) ∙ given-all s (distinct-tail samePoint x s d) ls (omega arith)))
+given-all (x ∷ s) d (l ∷ ls) e = rw (point-self x)
+    (ap (λ (k : List ℕ). l ∷ k) (later s (λ y m. m) ∙ given-all s (distinct-tail samePoint x s d) ls (omega arith)))
   where
     other : (y : Point) → isIn samePoint y s ≡ true → samePoint x y ≡ false
     other y m = false-of _ (λ q. absurd-bool (sym m ∙ (rw (point-sound x y q) at (distinct-out samePoint x s d))))
 
-    later : (r : Simplex) → ((y : Point) → isIn samePoint y r ≡ true → isIn samePoint y s ≡ true) → map (given (x ∷ s) (l ∷ ls)) r ≡ map (given s ls) r
+    later : (r : Simplex) → ((y : Point) → isIn samePoint y r ≡ true → isIn samePoint y s ≡ true)
+        → map (given (x ∷ s) (l ∷ ls)) r ≡ map (given s ls) r
     later [] h = refl
-    later (y ∷ r) h = rw (other y (h y (in-here onPoints y r))) (ap (λ (k : List ℕ). given s ls y ∷ k) (later r (λ z m. h z (in-later onPoints z y r m))))
+    later (y ∷ r) h = rw (other y (h y (in-here onPoints y r)))
+        (ap (λ (k : List ℕ). given s ls y ∷ k) (later r (λ z m. h z (in-later onPoints z y r m))))
 
 -- grid and start are the same with another table
 pub settled-with : {p : Problem} → Settled p → (labels : List ℕ) → Settled (withLabels p labels)
@@ -88,12 +93,14 @@ settled-with ok labels = record {
 pub some-index : {p : Problem} → Settled p → 0 < numIndices p.grid
 some-index {p} ok = omega (arith, size-positive ok 0 ok.someBlock, block-fits p.grid.sizes 0)
 
-module _ {p : Problem} (ok : Settled p) (s : Simplex) (on : all (isGridPoint p.grid) s ≡ true) (d : distinct samePoint s ≡ true) (ls : List ℕ)
-    (long : length ls ≡ length s) (names : Names (numIndices p.grid) ls) where
+module _ {p : Problem} (ok : Settled p) (s : Simplex) (on : all (isGridPoint p.grid) s ≡ true)
+    (d : distinct samePoint s ≡ true) (ls : List ℕ) (long : length ls ≡ length s)
+    (names : Names (numIndices p.grid) ls) where
   label-given : (y : Point) → isGridPoint p.grid y ≡ true → label (withLabels p (table p.grid s ls)) y ≡ given s ls y
   unfolding label table
   label-given y h =
-      mapped-at (given s ls) (points p.grid) (position p.grid y) (position-in (points p.grid) y (in-points p.grid y ok.sameNumber h))
+      mapped-at (given s ls) (points p.grid) (position p.grid y)
+      (position-in (points p.grid) y (in-points p.grid y ok.sameNumber h))
       ∙ ap (given s ls) (at-position p.grid ok.sameNumber y h)
 
   given-in : (y : Point) → (1 ≤ given s ls y) × (given s ls y ≤ numIndices p.grid)
@@ -121,7 +128,8 @@ module _ {p : Problem} (ok : Settled p) (s : Simplex) (on : all (isGridPoint p.g
         rw w.2 (and-both _ _ (le-leb 1 (given s ls w.0) v.0) (le-leb (given s ls w.0) (numIndices p.grid) v.1)));
   }
 
-  pub table-labelled : (r : Simplex) → all (isGridPoint p.grid) r ≡ true → allLabelled (withLabels p (table p.grid s ls)) r ≡ true
+  pub table-labelled : (r : Simplex) → all (isGridPoint p.grid) r ≡ true
+      → allLabelled (withLabels p (table p.grid s ls)) r ≡ true
   table-labelled r h = in-all onPoints (hasLabel (withLabels p (table p.grid s ls))) r (λ y m.
       let e = label-given y (all-in onPoints (isGridPoint p.grid) r h y m) in
       let w = given-in y in
@@ -131,7 +139,8 @@ module _ {p : Problem} (ok : Settled p) (s : Simplex) (on : all (isGridPoint p.g
   pub table-labels : map (label (withLabels p (table p.grid s ls))) s ≡ ls
   table-labels = go s on ∙ given-all s d ls long
     where
-      go : (r : Simplex) → all (isGridPoint p.grid) r ≡ true → map (label (withLabels p (table p.grid s ls))) r ≡ map (given s ls) r
+      go : (r : Simplex) → all (isGridPoint p.grid) r ≡ true
+          → map (label (withLabels p (table p.grid s ls))) r ≡ map (given s ls) r
       go [] h = refl
       go (y ∷ r) h =
           let e = label-given y (and-left _ _ h) in
@@ -147,12 +156,15 @@ insertAt-in (suc i) x l (y ∷ ys) m =
     (in-cases onNumbers l y (insertAt i x ys) m)
 
 -- each index of T is in the order
-pub in-order : (p : Problem) (s : Simplex) → isUnlabelledPlace p s ≡ true → (k : ℕ) → isIn eqb k (setT p s) ≡ true → isIn eqb k (order p.grid s) ≡ true
-in-order p s h k m =
-    occurs-in k (order p.grid s) (eqb-true _ _ (all-in onNumbers (λ h. eqb (occurrences h (order p.grid s)) 1) (setT p s)
-    (and-right (within (order p.grid s) (setT p s)) _ (unlabelled-parts p s h .once)) k m))
+pub in-order : (p : Problem) (s : Simplex) → isUnlabelledPlace p s ≡ true → (k : ℕ) → isIn eqb k (setT p s) ≡ true
+    → isIn eqb k (order p.grid s) ≡ true
+in-order p s h k m = occurs-in k (order p.grid s)
+    (eqb-true _ _ (all-in onNumbers
+    (λ h. eqb (occurrences h (order p.grid s)) 1)
+    (setT p s) (and-right (within (order p.grid s) (setT p s)) _ (unlabelled-parts p s h .once)) k m))
 
--- A table over which s is a place, its points but point i carry T, and point i has label x: over it point i may leave, and x, if not in T, joins.
+-- A table over which s is a place, its points but point i carry T, and point i has label x: over it point i may leave,
+-- and x, if not in T, joins.
 pub record Labelled (p : Problem) (s : Simplex) (i x : ℕ) (labels : List ℕ) : Type 0 where
   pub accepted : Accepted (withLabels p labels)
   pub full : FullyLabelled (withLabels p labels)
@@ -160,10 +172,13 @@ pub record Labelled (p : Problem) (s : Simplex) (i x : ℕ) (labels : List ℕ) 
   pub place : isPlace (withLabels p labels) s ≡ true
   pub inOrder : map (label (withLabels p labels)) s ≡ insertAt i (suc x) (map suc (order p.grid s))
   pub here : label (withLabels p labels) (nth s i) ≡ suc x
-  pub carries : (k : ℕ) → isIn eqb k (setT p s) ≡ true → (j : ℕ) × (j < length s) × (j ≡ i → ⊥) × (label (withLabels p labels) (nth s j) ≡ suc k)
-  pub inside : (j : ℕ) → j < length s → (j ≡ i → ⊥) → (k : ℕ) × (isIn eqb k (setT p s) ≡ true) × (label (withLabels p labels) (nth s j) ≡ suc k)
+  pub carries : (k : ℕ) → isIn eqb k (setT p s) ≡ true
+      → (j : ℕ) × (j < length s) × (j ≡ i → ⊥) × (label (withLabels p labels) (nth s j) ≡ suc k)
+  pub inside : (j : ℕ) → j < length s → (j ≡ i → ⊥)
+      → (k : ℕ) × (isIn eqb k (setT p s) ≡ true) × (label (withLabels p labels) (nth s j) ≡ suc k)
 
-module _ {p : Problem} (ok : Settled p) (s : Simplex) (h : isUnlabelledPlace p s ≡ true) (i x : ℕ) (il : i < length s) (xl : x < numIndices p.grid) where
+module _ {p : Problem} (ok : Settled p) (s : Simplex) (h : isUnlabelledPlace p s ≡ true) (i x : ℕ) (il : i < length s)
+    (xl : x < numIndices p.grid) where
   o : List ℕ
   o = order p.grid s
 
@@ -186,9 +201,12 @@ module _ {p : Problem} (ok : Settled p) (s : Simplex) (h : isUnlabelledPlace p s
 
   names : Names (numIndices p.grid) ls
   unfolding ls
-  names l m =
-      ⊎-elim (λ (e : l ≡ suc x). (omega arith, omega arith))
-      (λ n. let w = map-in onNumbers onNumbers suc l o n in let b = T-means p s w.0 .0 (o-in-T w.0 w.1) .0 in (omega (arith, w .2), omega (arith, w .2)))
+  names l m = ⊎-elim
+      (λ (e : l ≡ suc x). (omega arith, omega arith))
+      (λ n.
+      let w = map-in onNumbers onNumbers suc l o n in
+      let b = T-means p s w.0 .0 (o-in-T w.0 w.1) .0 in
+      (omega (arith, w .2), omega (arith, w .2)))
       (insertAt-in i (suc x) l (map suc o) m)
 
   ls-long : length ls ≡ length s
@@ -219,28 +237,47 @@ module _ {p : Problem} (ok : Settled p) (s : Simplex) (h : isUnlabelledPlace p s
   suc-at (y ∷ o) zero l = refl
   suc-at (y ∷ o) (suc j) l = suc-at o j (omega arith)
 
-  carried : (k : ℕ) → isIn eqb k (setT p s) ≡ true → (j : ℕ) × (j < length s) × (j ≡ i → ⊥) × (label q (nth s j) ≡ suc k)
+  carried : (k : ℕ) → isIn eqb k (setT p s) ≡ true
+      → (j : ℕ) × (j < length s) × (j ≡ i → ⊥) × (label q (nth s j) ≡ suc k)
   unfolding ls o
   carried k m =
       let w = in-at onNumbers 0 k o (in-order p s h k m) in
       let e : getD (map suc o) w.0 0 ≡ suc k = suc-at o w.0 w.1 ∙ ap suc w.2 in
       ⊎-elim
-      (λ (l : w .0 < i). let b : w .0 < length s = omega arith in
-      (w .0, b, (λ (z : w .0 ≡ i). omega arith), at-point w.0 b ∙ insertAt-before 0 i (suc x) (map suc o) w.0 short l ∙ e))
-      (λ (l : i ≤ w .0). let b : suc w.0 < length s = omega (arith, w .1, long) in
-      (suc w.0, b, (λ (z : suc w.0 ≡ i). omega arith), at-point (suc w.0) b ∙ insertAt-behind 0 i (suc x) (map suc o) w.0 short l ∙ e))
+      (λ (l : w .0 < i).
+      let b : w .0 < length s = omega arith in (
+        w .0,
+        b,
+        (λ (z : w .0 ≡ i). omega arith),
+        at-point w.0 b ∙ insertAt-before 0 i (suc x) (map suc o) w.0 short l ∙ e,
+      ))
+      (λ (l : i ≤ w .0).
+      let b : suc w.0 < length s = omega (arith, w .1, long) in (
+        suc w.0,
+        b,
+        (λ (z : suc w.0 ≡ i). omega arith),
+        at-point (suc w.0) b ∙ insertAt-behind 0 i (suc x) (map suc o) w.0 short l ∙ e,
+      ))
       (before-or-not w.0 i)
 
   inside : (j : ℕ) → j < length s → (j ≡ i → ⊥) → (k : ℕ) × (isIn eqb k (setT p s) ≡ true) × (label q (nth s j) ≡ suc k)
   unfolding ls
-  inside j l n =
-      ⊎-elim
-      (λ (b : j < i). let c : j < length o = omega (arith, long) in
-      (getD o j 0, o-in-T _ (at-in onNumbers 0 o j c), at-point j l ∙ insertAt-before 0 i (suc x) (map suc o) j short b ∙ suc-at o j c))
-      (λ (b : i ≤ j). let e : suc (j - 1) ≡ j = omega (arith, n) in let c : j - 1 < length o = omega (arith, long, n) in (
+  inside j l n = ⊎-elim
+      (λ (b : j < i).
+      let c : j < length o = omega (arith, long) in (
+        getD o j 0,
+        o-in-T _ (at-in onNumbers 0 o j c),
+        at-point j l ∙ insertAt-before 0 i (suc x) (map suc o) j short b ∙ suc-at o j c,
+      ))
+      (λ (b : i ≤ j).
+      let e : suc (j - 1) ≡ j = omega (arith, n) in
+      let c : j - 1 < length o = omega (arith, long, n) in (
         getD o (j - 1) 0,
         o-in-T _ (at-in onNumbers 0 o (j - 1) c),
-        at-point j l ∙ ap (λ (m : ℕ). getD ls m 0) (sym e) ∙ insertAt-behind 0 i (suc x) (map suc o) (j - 1) short (omega (arith, n)) ∙ suc-at o (j - 1) c,
+        at-point j l
+            ∙ ap (λ (m : ℕ). getD ls m 0) (sym e)
+            ∙ insertAt-behind 0 i (suc x) (map suc o) (j - 1) short (omega (arith, n))
+            ∙ suc-at o (j - 1) c,
       ))
       (before-or-not j i)
 
@@ -252,7 +289,11 @@ module _ {p : Problem} (ok : Settled p) (s : Simplex) (h : isUnlabelledPlace p s
       accepted = table-accepted ok s on d ls ls-long names;
       full = table-full ok s on d ls ls-long names;
       known = table-labelled ok s on d ls ls-long names;
-      place = and-both _ _ (place-alike p (table p.grid s ls) s ∙ h) (in-all onNumbers (λ k. isIn eqb k (labelSet q s)) (setT q s) (λ k m.
+      place = and-both _ _ (place-alike p (table p.grid s ls) s ∙ h)
+          (in-all onNumbers
+          (λ k. isIn eqb k (labelSet q s))
+          (setT q s)
+          (λ k m.
           let t = T-alike p (table p.grid s ls) s in
           let c = carried k (rw t at m) in
           labels-mean q s k .1 (T-means q s k .0 m .0, (nth s c.0, at-in onPoints [] s c.0 c.1, c .3))));

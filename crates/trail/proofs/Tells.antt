@@ -9,7 +9,8 @@ use lib.Dec.{eqb, leb}
 use lib.ListN.{length, drop, getD}
 use native.Mathlib.Nat.{div-add-mod'}
 use native.Mathlib.Omega.{arith}
-use Rattle.combinatorics.proofs.Basics.{absurd-bool, and-left, and-right, and-both, not-is, both, true-or-false, before-or-not}
+use Rattle.combinatorics.proofs.Basics.{absurd-bool, and-left, and-right, and-both, not-is, both, true-or-false}
+use Rattle.combinatorics.proofs.Basics.{before-or-not}
 use Rattle.combinatorics.proofs.Lists.{all-in, in-all}
 use Rattle.combinatorics.proofs.Rising.{rising-same}
 use Rattle.combinatorics.specs.Lists.{all, concatMap, isIn}
@@ -35,7 +36,10 @@ begins-with (x ∷ r) (y ∷ bytes) e =
     ap (λ (z : ℕ). z ∷ bytes) (sym q) ∙ ap (λ (l : List ℕ). x ∷ l) k
 
 halves : (m n : ℕ) → m % 256 ≡ n % 256 → m / 256 ≡ n / 256 → m ≡ n
-halves m n e f = sym (div-add-mod' m 256) ∙ ap (λ (k : ℕ). k * 256 + m % 256) f ∙ ap (λ (k : ℕ). n / 256 * 256 + k) e ∙ div-add-mod' n 256
+halves m n e f = sym (div-add-mod' m 256)
+    ∙ ap (λ (k : ℕ). k * 256 + m % 256) f
+    ∙ ap (λ (k : ℕ). n / 256 * 256 + k) e
+    ∙ div-add-mod' n 256
 
 -- two fields with at most one position each, at the front of two records whose bytes are the same as far as both go
 module _ (fs gs : List (List ℕ)) where
@@ -53,8 +57,9 @@ module _ (fs gs : List (List ℕ)) where
   same-field (m ∷ m' ∷ a) b la lb x y e q = absurd (omega arith)
 
 -- so the bytes tell which points come in and go out
-fields-tell : (c d : Change) → length c.pointsIn ≤ 1 → length d.pointsIn ≤ 1 → length c.pointsOut ≤ 1 → length d.pointsOut ≤ 1 → (x y : List ℕ)
-    → encoded (fields c) ++ x ≡ encoded (fields d) ++ y → (c .pointsIn ≡ d .pointsIn) × (c .pointsOut ≡ d .pointsOut)
+fields-tell : (c d : Change) → length c.pointsIn ≤ 1 → length d.pointsIn ≤ 1 → length c.pointsOut ≤ 1
+    → length d.pointsOut ≤ 1 → (x y : List ℕ) → encoded (fields c) ++ x ≡ encoded (fields d) ++ y
+    → (c .pointsIn ≡ d .pointsIn) × (c .pointsOut ≡ d .pointsOut)
 fields-tell c d li mi lo mo x y e =
     let fs = map suc c.intoT ∷ map suc c.outOfT ∷ map suc c.intoU ∷ map suc c.outOfU ∷ rules c ∷ [] in
     let gs = map suc d.intoT ∷ map suc d.outOfT ∷ map suc d.intoU ∷ map suc d.outOfU ∷ rules d ∷ [] in
@@ -85,25 +90,30 @@ module _ (g : Grid) (even : length (g .divisions) ≡ numBlocks g) where
   pub at-position : (y : Point) → isGridPoint g y ≡ true → getD (points g) (position g y) [] ≡ y
   at-position y h = at-positionIn (points g) y (in-points g y even h)
 
-  pub positions-tell : (a b : List Point) → all (isGridPoint g) a ≡ true → all (isGridPoint g) b ≡ true → map (position g) a ≡ map (position g) b → a ≡ b
+  pub positions-tell : (a b : List Point) → all (isGridPoint g) a ≡ true → all (isGridPoint g) b ≡ true
+      → map (position g) a ≡ map (position g) b → a ≡ b
   positions-tell [] [] ha hb e = refl
   positions-tell [] (y ∷ b) ha hb e = absurd (omega (arith, ap length e))
   positions-tell (x ∷ a) [] ha hb e = absurd (omega (arith, ap length e))
   positions-tell (x ∷ a) (y ∷ b) ha hb e =
       let q : position g x ≡ position g y = cc in
       let r : map (position g) a ≡ map (position g) b = cc in
-      let w : x ≡ y = sym (at-position x (and-left _ _ ha)) ∙ ap (λ (i : ℕ). getD (points g) i []) q ∙ at-position y (and-left _ _ hb) in
-      let v : a ≡ b = positions-tell a b
-      (and-right (isGridPoint g x) (all (isGridPoint g) a) ha) (and-right (isGridPoint g y) (all (isGridPoint g) b) hb) r in
+      let w : x ≡ y = sym (at-position x (and-left _ _ ha))
+      ∙ ap (λ (i : ℕ). getD (points g) i []) q
+      ∙ at-position y (and-left _ _ hb) in
+      let v : a ≡ b = positions-tell a b (and-right (isGridPoint g x) (all (isGridPoint g) a) ha)
+      (and-right (isGridPoint g y) (all (isGridPoint g) b) hb) r in
       cc
 
 -- what comes in and what goes out tell the set of points
-same-set : (a b c : List Point) → outside samePoint a b ≡ outside samePoint a c → outside samePoint b a ≡ outside samePoint c a
-    → (y : Point) → isIn samePoint y b ≡ true → isIn samePoint y c ≡ true
-same-set a b c e f y m =
-    ⊎-elim
-    (λ (t : isIn samePoint y a ≡ true). ⊎-elim (λ u. u)
-    (λ (u : isIn samePoint y c ≡ false). absurd-bool (sym m ∙ outside-in onPoints y a b (rw f (in-outside onPoints y a c t u)) .1))
+same-set : (a b c : List Point) → outside samePoint a b ≡ outside samePoint a c
+    → outside samePoint b a ≡ outside samePoint c a → (y : Point) → isIn samePoint y b ≡ true
+    → isIn samePoint y c ≡ true
+same-set a b c e f y m = ⊎-elim
+    (λ (t : isIn samePoint y a ≡ true). ⊎-elim
+    (λ u. u)
+    (λ (u : isIn samePoint y c ≡ false).
+    absurd-bool (sym m ∙ outside-in onPoints y a b (rw f (in-outside onPoints y a c t u)) .1))
     (true-or-false (isIn samePoint y c)))
     (λ (t : isIn samePoint y a ≡ false). outside-in onPoints y c a (rw e at (in-outside onPoints y b a m t)) .0)
     (true-or-false (isIn samePoint y a))
@@ -133,24 +143,28 @@ moves-of p a b h =
       place = and-left x y k3;
       fewIn = leb-true _ 1 (and-right x y k3);
       fewOut = leb-true _ 1 (and-right (x && y) z k2);
-      some = ⊎-elim (λ l. l)
-          (λ (l : length c.pointsIn + length c.pointsOut ≤ 0).
-          absurd-bool (sym (and-both _ _ (eq-eqb (length c.pointsIn) 0 (omega arith)) (eq-eqb (length c.pointsOut) 0 (omega arith))) ∙ n))
+      some = ⊎-elim
+          (λ l. l)
+          (λ (l : length c.pointsIn + length c.pointsOut ≤ 0). absurd-bool
+          (sym (and-both _ _ (eq-eqb (length c.pointsIn) 0 (omega arith)) (eq-eqb (length c.pointsOut) 0 (omega arith)))
+          ∙ n))
           (before-or-not 0 (length c.pointsIn + length c.pointsOut));
       rule = one-of (rules c) (eqb-true _ 1 (and-right (x && y && z && not u) w h));
     }
 
-module _ {p : Problem} (even : length p.grid.divisions ≡ numBlocks p.grid) {a b c : Simplex} (on : all (isGridPoint p.grid) a ≡ true)
-    (B : Moves p a b) (C : Moves p a c) where
-  grid-outside : (s t : Simplex) → all (isGridPoint p.grid) s ≡ true → all (isGridPoint p.grid) (outside samePoint t s) ≡ true
+module _ {p : Problem} (even : length p.grid.divisions ≡ numBlocks p.grid) {a b c : Simplex}
+    (on : all (isGridPoint p.grid) a ≡ true) (B : Moves p a b) (C : Moves p a c) where
+  grid-outside : (s t : Simplex) → all (isGridPoint p.grid) s ≡ true
+      → all (isGridPoint p.grid) (outside samePoint t s) ≡ true
   grid-outside s t h = in-all onPoints (isGridPoint p.grid) (outside samePoint t s)
       (λ y m. all-in onPoints (isGridPoint p.grid) s h y (outside-in onPoints y s t m .0))
 
   -- "record-tells"
-  pub record-tells : (bytes : List ℕ) → begins (recordOf p a b) bytes ≡ true → begins (recordOf p a c) bytes ≡ true → b ≡ c
+  pub record-tells : (bytes : List ℕ) → begins (recordOf p a b) bytes ≡ true → begins (recordOf p a c) bytes ≡ true
+      → b ≡ c
   unfolding recordOf change
-  record-tells bytes hb hc =
-      rising-same onPoints (coefficientSum p) b c (unlabelled-parts p b B.place .inOrder) (unlabelled-parts p c C.place .inOrder)
+  record-tells bytes hb hc = rising-same onPoints (coefficientSum p) b c (unlabelled-parts p b B.place .inOrder)
+      (unlabelled-parts p c C.place .inOrder)
       (λ y. both _ _ (same-set a b c came.0 came.1 y) (same-set a c b (sym came.0) (sym came.1) y))
     where
       came : (outside samePoint a b ≡ outside samePoint a c) × (outside samePoint b a ≡ outside samePoint c a)

@@ -51,8 +51,9 @@ gains into outOf = single into && empty outOf
 abbrev pub loses : List ℕ → List ℕ → Bool
 loses into outOf = empty into && single outOf
 
--- the seven rules as tests, in order: "Rule 1 keeps T and U; 2 keeps T and U gains; 3 keeps T and U loses; 4 takes an index into T from outside U;
--- 5 takes it from U; 6 moves an index from T to U; 7 only drops it from T". Where U is kept an index that comes into T was outside it.
+-- the seven rules as tests, in order: "Rule 1 keeps T and U; 2 keeps T and U gains; 3 keeps T and U loses; 4 takes an
+-- index into T from outside U; 5 takes it from U; 6 moves an index from T to U; 7 only drops it from T". Where U is
+-- kept an index that comes into T was outside it.
 abbrev pub ruleTests : Change → List Bool
 ruleTests c =
     (keeps (c .intoT) (c .outOfT) && keeps (c .intoU) (c .outOfU))
@@ -84,7 +85,8 @@ changeBy pointsIn pointsOut intoT outOfT intoU outOfU = record {
   outOfU = outOfU;
 }
 
--- A change by one rule alone, with the point y that comes in and the point z that goes out, by their positions, and the index h that the rule is about
+-- A change by one rule alone, with the point y that comes in and the point z that goes out, by their positions, and the
+-- index h that the rule is about
 pub data ByRule (c : Change) : ℕ → Type 0 where
   rule1 : (y z : ℕ) → c ≡ changeBy (y ∷ []) (z ∷ []) [] [] [] [] → ByRule c 1
   rule2 : (y z h : ℕ) → c ≡ changeBy (y ∷ []) (z ∷ []) [] [] (h ∷ []) [] → ByRule c 2

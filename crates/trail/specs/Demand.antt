@@ -1,5 +1,5 @@
--- Request 03: what holds over a run's trail, of every list of places that follows the path, whether it ends or not; which records a reader accepts,
--- and the customer's reasons for 17. Assumes nothing.
+-- Request 03: what holds over a run's trail, of every list of places that follows the path, whether it ends or not;
+-- which records a reader accepts, and the customer's reasons for 17. Assumes nothing.
 use mathlib.Core.Bool.{true, false}
 use mathlib.Core.List.{List, [], _∷_, _++_}
 use mathlib.Core.Option.{none, some}
@@ -26,8 +26,10 @@ pub record Trails (p : Problem) (s : List Simplex) : Type 0 where
   pub first : (length (startRecord p) ≡ 3) × (take 3 (trailOf p s) ≡ startRecord p)
   pub long : 3 ≤ length (trailOf p s)
   pub short : length (trailOf p s) ≤ 3 + 7 * pred (length s)
-  -- "over a run's trail these places are the path": for any label table, since the reader is given none, and whatever stands behind the trail
-  pub reads : (labels rest : List ℕ) (i : ℕ) → i < length s → rebuilt (withLabels p labels) (trailOf p s ++ rest) (suc i) ≡ some (placeAt s i)
+  -- "over a run's trail these places are the path": for any label table, since the reader is given none, and whatever
+  -- stands behind the trail
+  pub reads : (labels rest : List ℕ) (i : ℕ) → i < length s
+      → rebuilt (withLabels p labels) (trailOf p s ++ rest) (suc i) ≡ some (placeAt s i)
   -- Request 10: "a rebuilt trail of the same path" has the labels read of the path's places up to the record
   pub labelsSoFar : (labels rest : List ℕ) (i : ℕ) → i < length s
       → labelsRead (rebuiltPlaces (withLabels p labels) (trailOf p s ++ rest) (suc i)) ≡ suc (cameIn s i)
@@ -35,8 +37,8 @@ pub record Trails (p : Problem) (s : List Simplex) : Type 0 where
   pub noMore : (labels : List ℕ) (i : ℕ) → length s < i → rebuilt (withLabels p labels) (trailOf p s) i ≡ none
   pub notZero : (labels bytes : List ℕ) → rebuilt (withLabels p labels) bytes 0 ≡ none
 
--- The n + 1 records at the front of the bytes lead from a to c: the first is that of one rule, byte by byte, and the others lead on from the place
--- that it makes
+-- The n + 1 records at the front of the bytes lead from a to c: the first is that of one rule, byte by byte, and the
+-- others lead on from the place that it makes
 pub record Accepts (p : Problem) (a : Simplex) (bytes : List ℕ) (n : ℕ) (c : Simplex) : Type 0 where
   pub next : Simplex
   pub place : isUnlabelledPlace p next ≡ true
@@ -57,7 +59,8 @@ pub record Refuses (p : Problem) (a : Simplex) : Type 0 where
   -- "change no point"
   pub noPoint : (n m : ℕ) (rest : List ℕ) → m % 4 ≡ 0 → rebuiltFrom p (suc n) a (m ∷ rest) ≡ none
   -- "bring in one already there"
-  pub alreadyThere : (n m low high : ℕ) (rest : List ℕ) (y : Point) → m % 2 ≡ 1 → isIn samePoint y a ≡ true → position (p .grid) y ≡ low + 256 * high
+  pub alreadyThere : (n m low high : ℕ) (rest : List ℕ) (y : Point) → m % 2 ≡ 1 → isIn samePoint y a ≡ true
+      → position (p .grid) y ≡ low + 256 * high
       → rebuiltFrom p (suc n) a (m ∷ low ∷ high ∷ rest) ≡ none
   -- "or off the table"
   pub offTheTable : (n m low high : ℕ) (rest : List ℕ) → m % 2 ≡ 1 → numPoints (p .grid) ≤ low + 256 * high
@@ -69,7 +72,8 @@ pub record Refuses (p : Problem) (a : Simplex) : Type 0 where
   pub notThereBehind : (n m x y low high : ℕ) (rest : List ℕ) → m % 4 ≡ 3
       → ((y : Point) → isIn samePoint y a ≡ true → position (p .grid) y ≡ low + 256 * high → ⊥)
       → rebuiltFrom p (suc n) a (m ∷ x ∷ y ∷ low ∷ high ∷ rest) ≡ none
-  -- "change T and U otherwise than one of the seven rules alone does", or "fields other than the change just made and its rule": a map of no rule
+  -- "change T and U otherwise than one of the seven rules alone does", or "fields other than the change just made and
+  -- its rule": a map of no rule
   pub otherwise : (n m : ℕ) (rest : List ℕ) → isIn eqb m mapBytes ≡ false → rebuiltFrom p (suc n) a (m ∷ rest) ≡ none
   -- "have bit 7 set"
   pub bitSeven : (n m : ℕ) (rest : List ℕ) → 128 ≤ m → rebuiltFrom p (suc n) a (m ∷ rest) ≡ none

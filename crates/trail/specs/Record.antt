@@ -11,8 +11,9 @@ use Rattle.trail.specs.Change.{Change, change, rules, ByRule, rule1, rul
 abbrev pub bytes16 : ℕ → List ℕ
 bytes16 n = n % 256 ∷ n / 256 ∷ []
 
--- "0 point come in, 1 point gone out (table positions, 16 bits), 2 index into T, 3 out of T, 4 into U, 5 out of U, 6 rule (a byte each)": the bytes
--- of each field, in bit order; a field whose bit does not stand has none. Indices count from 1.
+-- "0 point come in, 1 point gone out (table positions, 16 bits), 2 index into T, 3 out of T, 4 into U, 5 out of U, 6
+-- rule (a byte each)": the bytes of each field, in bit order; a field whose bit does not stand has none. Indices count
+-- from 1.
 abbrev pub fields : Change → List (List ℕ)
 fields c =
     concatMap bytes16 (c .pointsIn)

@@ -13,13 +13,14 @@ use Rattle.place.specs.Problem.{Problem}
 use Rattle.trail.specs.Change.{change, rules, empty, single}
 use Rattle.trail.specs.Record.{recordOf, startRecord}
 
--- One point comes in, one goes out, or both: a record has room for one of each, and must not "change no point". The record does not "break the first
--- two conditions of a place", nor "change T and U otherwise than one of the seven rules alone does".
+-- One point comes in, one goes out, or both: a record has room for one of each, and must not "change no point". The
+-- record does not "break the first two conditions of a place", nor "change T and U otherwise than one of the seven
+-- rules alone does".
 unfoldable pub isMove : Problem → Simplex → Simplex → Bool
 isMove p a b =
     let c = change p a b in
-    isUnlabelledPlace p b
-    && leb (length (c .pointsIn)) 1 && leb (length (c .pointsOut)) 1 && not (empty (c .pointsIn) && empty (c .pointsOut)) && single (rules c)
+    isUnlabelledPlace p b && leb (length (c .pointsIn)) 1 && leb (length (c .pointsOut)) 1
+    && not (empty (c .pointsIn) && empty (c .pointsOut)) && single (rules c)
 
 -- the bytes begin with those of a record
 abbrev pub begins : List ℕ → List ℕ → Bool
@@ -31,9 +32,9 @@ begins (x ∷ r) (y ∷ bytes) = eqb x y && begins r bytes
 unfoldable pub unlabelledPlaces : Problem → List Simplex
 unlabelledPlaces p = filter (isUnlabelledPlace p) (sublists (inOrder p (points (p .grid))))
 
--- The places that the record at the front of the bytes leads to. Its bytes are those of the change, so a point that it brings in is on the table and
--- not "already there", one that it takes out is there, it has not "bit 7 set or fields other than the change just made and its rule", and
--- it is not cut short.
+-- The places that the record at the front of the bytes leads to. Its bytes are those of the change, so a point that it
+-- brings in is on the table and not "already there", one that it takes out is there, it has not "bit 7 set or fields
+-- other than the change just made and its rule", and it is not cut short.
 unfoldable pub readOn : Problem → Simplex → List ℕ → List Simplex
 readOn p a bytes = filter (λ b. isMove p a b && begins (recordOf p a b) bytes) (unlabelledPlaces p)
 
@@ -46,8 +47,9 @@ abbrev pub rebuiltFrom : Problem → ℕ → Simplex → List ℕ → Option Sim
 rebuiltFrom p zero a bytes = some a
 rebuiltFrom p (suc n) a bytes = goOn (λ b. rebuiltFrom p n b (drop (length (recordOf p a b)) bytes)) (readOn p a bytes)
 
--- "A reader given grid, start, trail and a record's number, counted from 1, .. rebuilds the place at that record", unless "there is no such record, or
--- .. the records up to it do not begin with v's". The table of the problem is not looked at.
+-- "A reader given grid, start, trail and a record's number, counted from 1, .. rebuilds the place at that record",
+-- unless "there is no such record, or .. the records up to it do not begin with v's". The table of the problem is not
+-- looked at.
 unfoldable pub rebuilt : Problem → List ℕ → ℕ → Option Simplex
 rebuilt p bytes zero = none
 rebuilt p bytes (suc n) =
@@ -58,14 +60,16 @@ abbrev pub placeIn : Option Simplex → Simplex
 placeIn none = []
 placeIn (some s) = s
 
--- the places that records lead to from a place, that place first and n behind it; and those of "a rebuilt trail" up to a record's number
+-- the places that records lead to from a place, that place first and n behind it; and those of "a rebuilt trail" up to
+-- a record's number
 unfoldable pub placesFrom : Problem → ℕ → Simplex → List ℕ → List Simplex
 placesFrom p n a bytes = map (λ i. placeIn (rebuiltFrom p i a bytes)) (upFrom 0 (suc n))
 
 unfoldable pub rebuiltPlaces : Problem → List ℕ → ℕ → List Simplex
 rebuiltPlaces p bytes number = map (λ i. placeIn (rebuilt p bytes (suc i))) (upFrom 0 number)
 
--- the reader's answer behind questions 1 to 5: the labels read up to the record, the place's points in rising coefficient sum, T and U; or 17
+-- the reader's answer behind questions 1 to 5: the labels read up to the record, the place's points in rising
+-- coefficient sum, T and U; or 17
 pub data Reading : Type 0 where
   noRecord : Reading
   placed : (read : ℕ) (points : Simplex) (T U : List ℕ) → Reading

@@ -16,7 +16,8 @@ use Rattle.trail_following.specs.declared.Reached.{Reached}
 use Rattle.trail_following.specs.declared.Reached.the-variants.{At, Nowhere}
 
 -- the place that the records lead to, in a state, and how many of them bring a point in
-pub record Rebuilds (g : GridStruct) (start bytes : List ℕ) (a : Simplex) (number : ℕ) (order : List ℕ) (s : State) (count came : ℕ) : Type 0 where
+pub record Rebuilds (g : GridStruct) (start bytes : List ℕ) (a : Simplex) (number : ℕ) (order : List ℕ) (s : State)
+    (count came : ℕ) : Type 0 where
   pub place : Simplex
   pub shows : Shows (problemBy g start) place s
   pub sixteen : length order ≡ 16
@@ -25,10 +26,11 @@ pub record Rebuilds (g : GridStruct) (start bytes : List ℕ) (a : Simplex) (num
   pub brought : came ≡ cameIn (placesFrom (problemBy g start) number a bytes) number
 
 abbrev pub Reaches : GridStruct → List ℕ → List ℕ → Simplex → ℕ → List ℕ → (Status → State) → Reached → Type 0
-Reaches g start bytes a number order s (At status came) = Rebuilds g start bytes a number order (s status) (status .count) came
+Reaches g start bytes a number order s (At status came) =
+    Rebuilds g start bytes a number order (s status) (status .count) came
 Reaches g start bytes a number order s Nowhere = rebuiltFrom (problemBy g start) number a bytes ≡ none
 
 -- from whatever place the arrays held
 abbrev pub ReachesFrom : GridStruct → List ℕ → List ℕ → ℕ → State → ℕ → List ℕ → (Status → State) → Reached → Type 0
-ReachesFrom g tails trail from s number order after r =
-    (start : List ℕ) (a : Simplex) → HasRead g start tails a s → Reaches g start (drop from trail) a number order after r
+ReachesFrom g tails trail from s number order after r = (start : List ℕ) (a : Simplex) → HasRead g start tails a s
+    → Reaches g start (drop from trail) a number order after r

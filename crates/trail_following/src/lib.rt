@@ -1,4 +1,5 @@
-// The records of a trail behind the first, one after another. What is public here is for the reader, which shows what it asks.
+// The records of a trail behind the first, one after another. What is public here is for the reader, which shows what
+// it asks.
 ghost use mathlib.Core.Path.{_≡_};
 ghost use Prim.Native.Nat.{_%_, _≤_, _<_};
 ghost use lib.ListN.{getD, length};
@@ -50,7 +51,8 @@ pub fn follow(
     requires { λ a. ⌜ CanGoOn g (now binomials) (now tails) (now order) (now marks) a (begun .count)
         (length (now trail)) from ⌝ }
     ensures { λ a r. ⌜ ReachesFrom g (now (tails .entry)) (now (trail .entry)) from a number (now (order .exit))
-        (stateOf (a .round) (now (first .exit)) (now (coefficients .exit)) (now (order .exit)) (now (marks .exit))) r ⌝ }
+        (stateOf (a .round) (now (first .exit)) (now (coefficients .exit)) (now (order .exit))
+        (now (marks .exit))) r ⌝ }
 {
     let mut s = begun;
     let mut at = from;

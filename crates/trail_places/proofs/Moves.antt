@@ -1,5 +1,5 @@
--- The two moves of a state that holds an unlabelled place: a point leaves, or an index joins T. Each gives the only place that a record could lead to,
--- or there is none. Assumes nothing.
+-- The two moves of a state that holds an unlabelled place: a point leaves, or an index joins T. Each gives the only
+-- place that a record could lead to, or there is none. Assumes nothing.
 use mathlib.Core.Bool.{Bool, true, false}
 use mathlib.Core.List.{List, [], _∷_, map}
 use mathlib.Core.Logic.{⊎-elim}
@@ -30,7 +30,8 @@ use Rattle.place.specs.Demand.{Settled}
 use Rattle.place.specs.Ends.{isComplete}
 use Rattle.place.specs.Places.{Simplex, labelSet, setT}
 use Rattle.place.specs.Problem.{Problem, withLabels}
-use Rattle.rules.proofs.Describes.{AllMarks, Describes, Joined, Left, Reached, facetEnds, joinedOn, labelsOf, leftOn, placeEnds}
+use Rattle.rules.proofs.Describes.{AllMarks, Describes, Joined, Left, Reached, facetEnds, joinedOn, labelsOf, leftOn}
+use Rattle.rules.proofs.Describes.{placeEnds}
 use Rattle.rules.proofs.Grow.{grow-ready, grows}
 use Rattle.rules.proofs.Leaves.{leave-ready, leaves}
 use Rattle.rules.proofs.Range.{nth-pointsOf}
@@ -46,7 +47,8 @@ use Rattle.trail.specs.Change.{ByRule, Change, change, outside, rule1, rule2, r
 use Rattle.trail.specs.Trail.{isMove}
 use Rattle.trail_places.proofs.Reached.{Arrives, arrives, bare-state}
 use Rattle.trail_places.specs.Shows.{Shows}
-use Rattle.trail_places.proofs.Shows.{all-marked, carries, chain-over, describes, here-label, labelled, shows-at, shows-long}
+use Rattle.trail_places.proofs.Shows.{all-marked, carries, chain-over, describes, here-label, labelled, shows-at}
+use Rattle.trail_places.proofs.Shows.{shows-long}
 use Rattle.trail_places.proofs.Stripped.{Likewise, LikewiseAfter, grow-like, leave-like, stripped}
 
 -- a move by which point i leaves
@@ -58,7 +60,8 @@ abbrev pub BringsIn : Problem → Simplex → ℕ → Simplex → Type 0
 BringsIn p a h b = (isMove p a b ≡ true) × (outside samePoint b a ≡ []) × (outside eqb (setT p a) (setT p b) ≡ h ∷ [])
 
 -- over a table where the points of the place but point i carry T
-module _ {p : Problem} (ok : Settled p) {a : Simplex} {s : State} (S : Shows p a s) {i h : ℕ} {labels : List ℕ} (L : Labelled p a i h labels) where
+module _ {p : Problem} (ok : Settled p) {a : Simplex} {s : State} (S : Shows p a s) {i h : ℕ} {labels : List ℕ}
+    (L : Labelled p a i h labels) where
   abbrev q : Problem
   q = withLabels p labels
 
@@ -78,7 +81,9 @@ module _ {p : Problem} (ok : Settled p) {a : Simplex} {s : State} (S : Shows p a
         record {
           low = R .low;
           few = R .few;
-          first = λ z. let F = R .first z in record { some = F .some; positive = F .positive; fits = F .fits; raised = F .raised };
+          first = λ z.
+              let F = R .first z in
+              record { some = F .some; positive = F .positive; fits = F .fits; raised = F .raised };
           last = λ z. let F = R .last z in record { some = F .some; fits = F .fits; lowered = F .lowered };
         }
 
@@ -86,7 +91,8 @@ module _ {p : Problem} (ok : Settled p) {a : Simplex} {s : State} (S : Shows p a
     left-over = leaves L.full S.T n S.o S.x (labelled S L) i sized all-sized (omega arith) carried
 
     -- the facet is an end over the table, so no move goes through it
-    facet-none : {k : ℕ} → i ≡ 0 → FacetEnd (blocksOf q) (labelOf q) S.T n S.x 0 k → (b : Simplex) → TakesOut p a i b → ⊥
+    facet-none : {k : ℕ} → i ≡ 0 → FacetEnd (blocksOf q) (labelOf q) S.T n S.x 0 k → (b : Simplex) → TakesOut p a i b
+        → ⊥
     facet-none {k} z F b m =
         let C = chain-over S L in
         let ok' = L .full .settled in
@@ -94,33 +100,43 @@ module _ {p : Problem} (ok : Settled p) {a : Simplex} {s : State} (S : Shows p a
         let c : Simplex = pointsOf q S.x in
         let hc = place-of ok' C in
         let many : length c ≡ suc (suc n) = long ok' C ∙ ap suc e in
-        let G : FacetEnd (blocksOf q) (labelOf q) (inT q c) n (coefficientsOf q c) 0 k = rw (back-again ok' C) (rw (T-is ok' C) F) in
+        let G : FacetEnd (blocksOf q) (labelOf q) (inT q c) n (coefficientsOf q c) 0 k =
+        rw (back-again ok' C) (rw (T-is ok' C) F) in
         let own = full-place L.full c hc in
         let kl = end-below ok' c hc n many 0 (omega arith) G own in
         let j = block-of q k kl in
         let labels-are : labelSet q (removeAt 0 c) ≡ setT q c = end-labels ok' c hc n many 0 (omega arith) G in
-        let done : isComplete q (removeAt 0 c) (blocksOf q .block k) ≡ true = end-complete ok' c hc n many 0 (omega arith) G (blocksOf q .block k) j refl in
-        out-none ok a S.place (omega (arith, il, shows-long S)) L (blocksOf q .block k) j
-        (rw (z, ← here) labels-are) (rw (z, ← here) done) b (m .0) (m .1)
+        let done : isComplete q (removeAt 0 c) (blocksOf q .block k) ≡ true =
+        end-complete ok' c hc n many 0 (omega arith) G (blocksOf q .block k) j refl in
+        out-none ok a S.place (omega (arith, il, shows-long S)) L (blocksOf q .block k) j (rw (z, ← here) labels-are)
+        (rw (z, ← here) done) b (m .0) (m .1)
 
     -- the point that leaves is not at the next place
-    out-point : (y : List (ℕ → ℕ)) → Through (blocksOf q) S.T n S.x i y → (b : Simplex) → pointsOf p y ≡ b → ((j : ℕ) → j < length y → coefficientOf q (nth b j) ≡ listAt y j)
+    out-point : (y : List (ℕ → ℕ)) → Through (blocksOf q) S.T n S.x i y → (b : Simplex) → pointsOf p y ≡ b
+        → ((j : ℕ) → j < length y → coefficientOf q (nth b j) ≡ listAt y j)
         → isIn samePoint (nth a i) b ≡ false
     out-point y X b w back = false-of _ (λ m.
         let v = in-at onPoints [] (nth a i) b m in
         let vl : v .0 < length y = omega (arith, v .1, ap length w, length-map y (pointOf p)) in
         let C = chain-over S L in
-        let u : coefficientOf q (nth a i) ≡ listAt S.x i = subst (λ (c : Simplex). coefficientOf q (nth c i) ≡ listAt S.x i) S.here
-        (coefficient-at L.full.settled C i (omega (arith, il, S .size))) in
-        not-there S.x (subst (λ (t : ℕ). Chain (blocksOf q) S.T t (listAt S.x) S.o) e S.chain) (omega arith) y X v.0 vl (sym (back v.0 vl) ∙ ap (coefficientOf q) v.2 ∙ u))
+        let u : coefficientOf q (nth a i) ≡ listAt S.x i = subst
+        (λ (c : Simplex). coefficientOf q (nth c i) ≡ listAt S.x i)
+        S.here (coefficient-at L.full.settled C i (omega (arith, il, S .size))) in
+        not-there S.x (subst (λ (t : ℕ). Chain (blocksOf q) S.T t (listAt S.x) S.o) e S.chain) (omega arith) y X v.0 vl
+        (sym (back v.0 vl) ∙ ap (coefficientOf q) v.2 ∙ u))
 
   like : LikewiseAfter (leave (labelled S L) i) (leave s i)
-  like = subst (λ (g : State). LikewiseAfter (leave (labelled S L) i) (leave g i)) (bare-state ok S L) (leave-like (labelled S L) i)
+  like = subst
+      (λ (g : State). LikewiseAfter (leave (labelled S L) i) (leave g i))
+      (bare-state ok S L) (leave-like (labelled S L) i)
 
   like-grow : (k : ℕ) → LikewiseAfter (grow (labelled S L) k) (grow s k)
-  like-grow k = subst (λ (g : State). LikewiseAfter (grow (labelled S L) k) (grow g k)) (bare-state ok S L) (grow-like (labelled S L) k)
+  like-grow k = subst
+      (λ (g : State). LikewiseAfter (grow (labelled S L) k) (grow g k))
+      (bare-state ok S L) (grow-like (labelled S L) k)
 
-  back-at : {e : State} {y : List (ℕ → ℕ)} → Reached q S.x e y → (j : ℕ) → j < length y → coefficientOf q (nth (pointsOf p y) j) ≡ listAt y j
+  back-at : {e : State} {y : List (ℕ → ℕ)} → Reached q S.x e y → (j : ℕ) → j < length y
+      → coefficientOf q (nth (pointsOf p y) j) ≡ listAt y j
   back-at R j l = coefficient-at L.full.settled R.describes.chain j l
 
 -- what a point that leaves leads to: a place, or none where the facet is an end
@@ -136,7 +152,8 @@ module _ {p : Problem} (ok : Settled p) {a : Simplex} {s : State} (S : Shows p a
   unfolding change
   few-out b M = omega (arith, M .fewOut, length-map (outside samePoint b a) (position p.grid))
 
-  one-out : (b : Simplex) → isMove p a b ≡ true → isIn samePoint (nth a i) b ≡ false → outside samePoint b a ≡ nth a i ∷ []
+  one-out : (b : Simplex) → isMove p a b ≡ true → isIn samePoint (nth a i) b ≡ false
+      → outside samePoint b a ≡ nth a i ∷ []
   one-out b m n =
       only-list onPoints (nth a i) (outside samePoint b a) (few-out b (moves-of p a b m))
       (in-outside onPoints (nth a i) a b (at-in onPoints [] a i (omega (arith, il, shows-long S))) n)
@@ -154,13 +171,19 @@ module _ {p : Problem} (ok : Settled p) {a : Simplex} {s : State} (S : Shows p a
       L : Labelled p a i 0 (some-labels .0)
       L = some-labels .1
 
-      to : (n : ℕ) → S .t ≡ suc n → {after rest : After} → Left (withLabels p (some-labels .0)) S.T n S.x (labelled S L) i after → LikewiseAfter after rest → LeavesTo p a i rest
+      to : (n : ℕ) → S .t ≡ suc n → {after rest : After}
+          → Left (withLabels p (some-labels .0)) S.T n S.x (labelled S L) i after → LikewiseAfter after rest
+          → LeavesTo p a i rest
       to n e {rest = goes f} (facetEnds k z F) K = absurd K
       to n e {rest = endsAtPlace f k} (facetEnds h z F) K = absurd K
       to n e {rest = endsAtFacet f k} (facetEnds h z F) K = leavesNone (facet-none ok S L il n e z F)
       to n e {rest = goes f} (leftOn w) K =
           let A = arrives ok S L w.2 K in
-          leavesOn (pointsOf p w.0) A (A .move, one-out (pointsOf p w.0) A.move (out-point ok S L il n e w.0 w.1 (pointsOf p w.0) refl (back-at ok S L w.2)))
+          leavesOn (pointsOf p w.0) A (
+            A .move,
+            one-out (pointsOf p w.0) A.move
+                (out-point ok S L il n e w.0 w.1 (pointsOf p w.0) refl (back-at ok S L w.2)),
+          )
       to n e {rest = endsAtPlace f k} (leftOn w) K = absurd K
       to n e {rest = endsAtFacet f k} (leftOn w) K = absurd K
 
@@ -175,7 +198,8 @@ module _ {p : Problem} (ok : Settled p) {a : Simplex} {s : State} (S : Shows p a
       let B = over-out ok a S.place (omega (arith, il, shows-long S)) t.1 b (m .0) (m .1) in
       let some = not-empty ok b (moves-of p a b (m .0) .place) in
       let one : length b ≡ 1 = omega (arith, B .1, shows-long S, some) in
-      let z : a ≡ b = single (settled-with ok t.0) a (B .0 .from) (omega (arith, shows-long S)) ∙ sym (single (settled-with ok t.0) b (B .0 .to) one) in
+      let z : a ≡ b = single (settled-with ok t.0) a (B .0 .from) (omega (arith, shows-long S))
+      ∙ sym (single (settled-with ok t.0) b (B .0 .to) one) in
       let w = outside-in onPoints (nth a i) a b (rw (m .1) (in-here onPoints (nth a i) [])) in
       absurd-bool (sym w.0 ∙ ap (λ (c : Simplex). isIn samePoint (nth a i) c) z ∙ w .1)
 
@@ -184,7 +208,8 @@ pub data JoinsTo (p : Problem) (a : Simplex) (h : ℕ) : After → Type 0 where
   joinsOn : {f : State} (b : Simplex) → Arrives p a b f → BringsIn p a h b → JoinsTo p a h (goes f)
   joinsNone : {f : State} {k : ℕ} → ((b : Simplex) → BringsIn p a h b → ⊥) → JoinsTo p a h (endsAtPlace f k)
 
-module _ {p : Problem} (ok : Settled p) {a : Simplex} {s : State} (S : Shows p a s) (h : ℕ) (hl : h < numIndices p.grid) (out : S .T h ≡ false) where
+module _ {p : Problem} (ok : Settled p) {a : Simplex} {s : State} (S : Shows p a s) (h : ℕ) (hl : h < numIndices p.grid)
+    (out : S .T h ≡ false) where
   joining-labels : (labels : List ℕ) × Labelled p a 0 h labels
   joining-labels = some-table ok a S.place 0 h (omega (arith, shows-long S)) hl
 
@@ -200,8 +225,11 @@ module _ {p : Problem} (ok : Settled p) {a : Simplex} {s : State} (S : Shows p a
     extra =
         let C = chain-over S L in
         let e : S .T (labelsOf over S.x 0) ≡ false = ap S.T label-is ∙ out in
-        ⊎-elim (λ w. absurd-bool (sym (w .2 .all 0 (omega arith)) ∙ e))
-        (λ w. ⊎-elim (λ (z : 0 ≡ w .0). subst (Extra S.T S.t (labelsOf over S.x)) (sym z) w.1) (λ n. absurd-bool (sym (w .1 .rest 0 (omega arith) n) ∙ e))
+        ⊎-elim
+        (λ w. absurd-bool (sym (w .2 .all 0 (omega arith)) ∙ e))
+        (λ w. ⊎-elim
+        (λ (z : 0 ≡ w .0). subst (Extra S.T S.t (labelsOf over S.x)) (sym z) w.1)
+        (λ n. absurd-bool (sym (w .1 .rest 0 (omega arith) n) ∙ e))
         (same-or 0 w.0))
         (kinds (labelOf over) C.chain C.covers)
 
@@ -227,8 +255,10 @@ module _ {p : Problem} (ok : Settled p) {a : Simplex} {s : State} (S : Shows p a
         let d : PlaceEnd (blocksOf over) (labelOf over) S.t (coefficientsOf over v) k = rw (back-again ok' C) c in
         let kl = complete-below ok' v (pointsOf-grid ok' C) S.t (long ok' C) own k d in
         let j = block-of over k kl in
-        let done : isComplete over v (blocksOf over .block k) ≡ true = complete-of ok' v (pointsOf-grid ok' C) S.t (long ok' C) k (blocksOf over .block k) j refl d in
-        into-none ok a S.place (omega (arith, shows-long S)) L (blocksOf over .block k) j (rw (← here) done) b (m .0) (m .1) (m .2)
+        let done : isComplete over v (blocksOf over .block k) ≡ true =
+        complete-of ok' v (pointsOf-grid ok' C) S.t (long ok' C) k (blocksOf over .block k) j refl d in
+        into-none ok a S.place (omega (arith, shows-long S)) L (blocksOf over .block k) j (rw (← here) done) b (m .0)
+        (m .1) (m .2)
 
     module _ {y : List (ℕ → ℕ)} (X : Above (blocksOf over) (labelOf over) S.T S.t S.x y) where
       abbrev next : Simplex
@@ -248,7 +278,8 @@ module _ {p : Problem} (ok : Settled p) {a : Simplex} {s : State} (S : Shows p a
       has-index : isIn eqb h (setT p next) ≡ true
       has-index =
           let e : X .0 h ≡ true = ap X.0 (sym label-is) ∙ X .4 .inside 0 (omega arith) in
-          subst (λ (u : List ℕ). isIn eqb h u ≡ true) (T-alike p labels next) (ap (λ (T : ℕ → Bool). T h) (T-is L.full.settled X.3) ∙ e)
+          subst (λ (u : List ℕ). isIn eqb h u ≡ true) (T-alike p labels next)
+          (ap (λ (T : ℕ → Bool). T h) (T-is L.full.settled X.3) ∙ e)
 
       not-before : isIn eqb h (setT p a) ≡ false
       not-before = ap (λ (T : ℕ → Bool). T h) S.isT ∙ out
@@ -256,7 +287,8 @@ module _ {p : Problem} (ok : Settled p) {a : Simplex} {s : State} (S : Shows p a
       -- so it is what comes into T
       nothing-out : (z : ℕ) → change p a next .pointsOut ≡ z ∷ [] → ⊥
       unfolding change
-      nothing-out z e = omega (arith, ap length e, length-map (outside samePoint next a) (position p.grid), ap length none-out)
+      nothing-out z e =
+          omega (arith, ap length e, length-map (outside samePoint next a) (position p.grid), ap length none-out)
 
       single-of : (k : ℕ) → change p a next .intoT ≡ k ∷ [] → outside eqb (setT p a) (setT p next) ≡ h ∷ []
       unfolding change
@@ -282,7 +314,8 @@ module _ {p : Problem} (ok : Settled p) {a : Simplex} {s : State} (S : Shows p a
       L : Labelled p a 0 h (joining-labels .0)
       L = joining-labels .1
 
-      to : {after rest : After} → Joined (withLabels p (joining-labels .0)) S.T S.t S.x (labelled S L) after → LikewiseAfter after rest → JoinsTo p a h rest
+      to : {after rest : After} → Joined (withLabels p (joining-labels .0)) S.T S.t S.x (labelled S L) after
+          → LikewiseAfter after rest → JoinsTo p a h rest
       to {rest = goes f} (placeEnds k c) K = absurd K
       to {rest = endsAtPlace f j} (placeEnds k c) K = joinsNone (place-none L k c)
       to {rest = endsAtFacet f j} (placeEnds k c) K = absurd K

@@ -1,4 +1,5 @@
--- From a place that a state holds to the next: over a table, the move without labels goes to a place that a link leads to. Assumes nothing.
+-- From a place that a state holds to the next: over a table, the move without labels goes to a place that a link leads
+-- to. Assumes nothing.
 use mathlib.Core.Bool.{Bool, true, false, _&&_, cond}
 use mathlib.Core.List.{List, [], _∷_, map}
 use mathlib.Core.Logic.{⊎-elim}
@@ -65,12 +66,14 @@ pub record Arrives (p : Problem) (a b : Simplex) (e : State) : Type 0 where
   pub onGrid : e .rule < 6 → isGridPoint p.grid (pointIn p e e.active) ≡ true
   pub point : e .rule < 6 → pointIn p e e.active ≡ nth b e.active
   pub square : e .rule ≡ 1 → 0 < e .active → e .active < length e.order → Exchanged p.grid e
-  pub beside : e .rule < 6 → numBlocks p.grid ≡ 1 → (tails : List ℕ) → ((k : ℕ) → k < numIndices p.grid → at tails k ≡ tailFrom p.grid p.start k)
+  pub beside : e .rule < 6 → numBlocks p.grid ≡ 1 → (tails : List ℕ)
+      → ((k : ℕ) → k < numIndices p.grid → at tails k ≡ tailFrom p.grid p.start k)
       → FallsBeside p.grid tails e
   -- with its mark the state holds b
   pub shows : (come : ℕ) → (e .rule < 6 → come ≡ bare p (nth b e.active)) → Shows p b (stored e come)
 
-stripped-mark : (p : Problem) (labels : List ℕ) → numIndices p.grid ≤ 16 → (c : ℕ → ℕ) → strip (markAt (withLabels p labels) c) ≡ bare p (pointOf p c)
+stripped-mark : (p : Problem) (labels : List ℕ) → numIndices p.grid ≤ 16 → (c : ℕ → ℕ)
+    → strip (markAt (withLabels p labels) c) ≡ bare p (pointOf p c)
 stripped-mark p labels few c =
     let l = labelOf (withLabels p labels) c in
     let low : l ≤ numIndices p.grid = go (label (withLabels p labels) (pointOf p c)) in
@@ -79,7 +82,10 @@ stripped-mark p labels few c =
     ap (λ (n : ℕ). mark n 0) w
   where
     go : (l : ℕ) → indexOf (numIndices p.grid) l ≤ numIndices p.grid
-    go l = ⊎-elim (λ t. omega (arith, index-is (numIndices p.grid) l t .1)) (λ f. rw f (omega arith)) (true-or-false (leb 1 l && leb l (numIndices p.grid)))
+    go l = ⊎-elim
+        (λ t. omega (arith, index-is (numIndices p.grid) l t .1))
+        (λ f. rw f (omega arith))
+        (true-or-false (leb 1 l && leb l (numIndices p.grid)))
 
 mapped-at : (f : ℕ → ℕ) (l : List ℕ) (j : ℕ) → j < length l → at (map f l) j ≡ f (at l j)
 mapped-at f [] j l = absurd (omega arith)
@@ -92,14 +98,17 @@ bare-at f (x ∷ xs) zero l = refl
 bare-at f (x ∷ xs) (suc j) l = bare-at f xs j (omega arith)
 
 -- by how a place was reached: the marks, and which point is new
-module _ {q : Problem} {T : ℕ → Bool} {t : ℕ} {o : ℕ → ℕ} {y : List (ℕ → ℕ)} {e : State} (D : Describes q T t o y e) where
+module _ {q : Problem} {T : ℕ → Bool} {t : ℕ} {o : ℕ → ℕ} {y : List (ℕ → ℕ)} {e : State}
+    (D : Describes q T t o y e) where
   came-active : {left : Option (List (ℕ → ℕ))} → Came q T t y e left → e .active ≤ t
   came-active (begins z u r) = omega arith
   came-active (through n l z w v r b carry X C) = w
   came-active (fromLarger l w r v A z X) = w
 
-module _ {q : Problem} {T : ℕ → Bool} {t : ℕ} {o : ℕ → ℕ} {x y : List (ℕ → ℕ)} {e : State} (D : Describes q T t o y e) where
-  came-marks : {left : Option (List (ℕ → ℕ))} → Came q T t y e left → left ≡ some x → (j : ℕ) → j ≤ t → (e .rule < 6 → j ≡ e .active → ⊥)
+module _ {q : Problem} {T : ℕ → Bool} {t : ℕ} {o : ℕ → ℕ} {x y : List (ℕ → ℕ)} {e : State}
+    (D : Describes q T t o y e) where
+  came-marks : {left : Option (List (ℕ → ℕ))} → Came q T t y e left → left ≡ some x → (j : ℕ) → j ≤ t
+      → (e .rule < 6 → j ≡ e .active → ⊥)
       → at e.marks j ≡ markAt q (listAt y j)
   came-marks (begins z u r) k j l n = absurd-bool (cc)
   came-marks (through n l z w v r b carry X C) k j m ne = b j m (ne r)
@@ -122,7 +131,8 @@ module _ {q : Problem} {T : ℕ → Bool} {t : ℕ} {o : ℕ → ℕ} {x y : Lis
       let v = X .4 .part j m in
       (v .0, omega (arith, v .1, X .3 .size, ap length i), ap (λ (c : List (ℕ → ℕ)). listAt c v.0) (sym i) ∙ v .2)
 
-module _ {p : Problem} (ok : Settled p) {a : Simplex} {s : State} (S : Shows p a s) {i h : ℕ} {labels : List ℕ} (L : Labelled p a i h labels) where
+module _ {p : Problem} (ok : Settled p) {a : Simplex} {s : State} (S : Shows p a s) {i h : ℕ} {labels : List ℕ}
+    (L : Labelled p a i h labels) where
   abbrev q : Problem
   q = withLabels p labels
 
@@ -185,15 +195,20 @@ module _ {p : Problem} (ok : Settled p) {a : Simplex} {s : State} (S : Shows p a
           let w = in-at onPoints [] (nth b f.active) a m in
           let C = chain-over S L in
           let wl : w .0 < length S.x = omega (arith, w .1, shows-long S, S .size) in
-          let u : coefficientOf q (nth a w.0) ≡ listAt S.x w.0 = subst (λ (c : Simplex). coefficientOf q (nth c w.0) ≡ listAt S.x w.0) S.here (coefficient-at L.full.settled C w.0 wl) in
-          let v : coefficientOf q (nth b f.active) ≡ listAt y f.active = coefficient-at L.full.settled D.chain f.active (omega (arith, active-low, D .chain .size)) in
+          let u : coefficientOf q (nth a w.0) ≡ listAt S.x w.0 = subst
+          (λ (c : Simplex). coefficientOf q (nth c w.0) ≡ listAt S.x w.0)
+          S.here (coefficient-at L.full.settled C w.0 wl) in
+          let v : coefficientOf q (nth b f.active) ≡ listAt y f.active =
+          coefficient-at L.full.settled D.chain f.active (omega (arith, active-low, D .chain .size)) in
           came-new D R.came refl in-rule w.0 wl (sym u ∙ ap (coefficientOf q) w.2 ∙ v ∙ ap (listAt y) same-active))
 
       computes : CanCompute f f.active
       computes = subst (λ (g : State). CanCompute g g.active) (sym same) (stands-reads L.full (reached-stands R) .0)
 
       grid-point : isGridPoint p.grid (pointIn p f f.active) ≡ true
-      grid-point = subst (λ (g : State). isGridPoint p.grid (pointIn p g g.active) ≡ true) (sym same) (stands-reads L.full (reached-stands R) .1)
+      grid-point = subst
+          (λ (g : State). isGridPoint p.grid (pointIn p g g.active) ≡ true)
+          (sym same) (stands-reads L.full (reached-stands R) .1)
 
     -- positions are not changed
     kept-position : (j : ℕ) → j < length e.marks → positionAt (stripped e) j ≡ positionAt e j
@@ -209,7 +224,8 @@ module _ {p : Problem} (ok : Settled p) {a : Simplex} {s : State} (S : Shows p a
     square-in one more low =
         let r : f .rule < 6 = omega arith in
         let z = same r in
-        let X = stands-exchanged L.full (reached-stands R) (ap (λ (g : State). g .rule) (sym z) ∙ one) (rw z at more) (rw z at low) in
+        let X = stands-exchanged L.full (reached-stands R) (ap (λ (g : State). g .rule) (sym z) ∙ one) (rw z at more)
+        (rw z at low) in
         subst (Exchanged p.grid) (sym z) (record {
           low = X .low;
           near = X .near;
@@ -231,7 +247,8 @@ module _ {p : Problem} (ok : Settled p) {a : Simplex} {s : State} (S : Shows p a
     above-in : (i : ℕ) → i < length e.marks → above (stripped e) i ≡ above e i
     above-in i l = rw (kept-position i l, kept-position 0 (omega arith))
 
-    beside-in : f .rule < 6 → numBlocks p.grid ≡ 1 → (tails : List ℕ) → ((k : ℕ) → k < numIndices p.grid → at tails k ≡ tailFrom p.grid p.start k)
+    beside-in : f .rule < 6 → numBlocks p.grid ≡ 1 → (tails : List ℕ)
+        → ((k : ℕ) → k < numIndices p.grid → at tails k ≡ tailFrom p.grid p.start k)
         → FallsBeside p.grid tails f
     beside-in r one tails are =
         let z = same r in
@@ -240,8 +257,10 @@ module _ {p : Problem} (ok : Settled p) {a : Simplex} {s : State} (S : Shows p a
         subst (FallsBeside p.grid tails) (sym z) (record {
           nearMark = λ m. kept-position (e .active - 1) (omega (arith, marks-long, low)) ∙ B .nearMark m;
           farMark = λ m. kept-position (suc e.active) (omega (arith, marks-long, D .orderLength)) ∙ B .farMark m;
-          fromNear = λ m l. rw (above-in (e .active - 1) (omega (arith, marks-long, low))) (falling-in tails _ _ (B .fromNear m l));
-          toFar = λ m l. rw (above-in (suc e.active) (omega (arith, marks-long, D .orderLength))) (falling-in tails _ _ (B .toFar m l));
+          fromNear = λ m l.
+              rw (above-in (e .active - 1) (omega (arith, marks-long, low))) (falling-in tails _ _ (B .fromNear m l));
+          toFar = λ m l. rw (above-in (suc e.active) (omega (arith, marks-long, D .orderLength)))
+              (falling-in tails _ _ (B .toFar m l));
         })
 
     no-new : 6 ≤ f .rule → outside samePoint a b ≡ []
@@ -256,18 +275,24 @@ module _ {p : Problem} (ok : Settled p) {a : Simplex} {s : State} (S : Shows p a
         rw (← y) (at-in onPoints [] a v.0 (omega (arith, k, shows-long S))))
 
     -- the marks of the points
-    bare-marks : (come : ℕ) → (f .rule < 6 → come ≡ bare p (nth b f.active)) → cond (ltb f.rule 6) (set f.marks f.active come) f.marks ≡ map (bare p) b
-    bare-marks come c =
-        ⊎-elim
+    bare-marks : (come : ℕ) → (f .rule < 6 → come ≡ bare p (nth b f.active))
+        → cond (ltb f.rule 6) (set f.marks f.active come) f.marks ≡ map (bare p) b
+    bare-marks come c = ⊎-elim
         (λ (r : f .rule < 6). rw (lt-ltb f.rule 6 r)
-        (ext-getD 0 (set f.marks f.active come) (map (bare p) b) (length-set f.marks f.active come ∙ long-f ∙ sym (length-map b (bare p) ∙ long-b))
-        (λ j l. let jl : j ≤ R .t = omega (arith, l, length-set f.marks f.active come, long-f) in
-        ⊎-elim (λ (z : j ≡ f .active). rw z (getD-set-same f.marks f.active come 0 (omega (arith, active-low r, long-f)) ∙ c r
+        (ext-getD 0 (set f.marks f.active come) (map (bare p) b)
+        (length-set f.marks f.active come ∙ long-f ∙ sym (length-map b (bare p) ∙ long-b))
+        (λ j l.
+        let jl : j ≤ R .t = omega (arith, l, length-set f.marks f.active come, long-f) in
+        ⊎-elim
+        (λ (z : j ≡ f .active). rw z
+        (getD-set-same f.marks f.active come 0 (omega (arith, active-low r, long-f))
+        ∙ c r
         ∙ sym (bare-at (bare p) b f.active (omega (arith, active-low r, long-b)))))
-        (λ n. getD-set-other f.marks f.active j come 0 n ∙ other j jl (λ m z. n (z ∙ sym (same-active r)))) (same-or j f.active))))
+        (λ n. getD-set-other f.marks f.active j come 0 n ∙ other j jl (λ m z. n (z ∙ sym (same-active r))))
+        (same-or j f.active))))
         (λ (r : 6 ≤ f .rule). rw (le-ltb f.rule 6 r)
-        (ext-getD 0 f.marks (map (bare p) b) (long-f ∙ sym (length-map b (bare p) ∙ long-b))
-        (λ j l. other j (omega (arith, l, long-f)) (λ m z. absurd (omega (arith, r, m, ap (λ (g : State). g .rule) K.rest))))))
+        (ext-getD 0 f.marks (map (bare p) b) (long-f ∙ sym (length-map b (bare p) ∙ long-b)) (λ j l.
+        other j (omega (arith, l, long-f)) (λ m z. absurd (omega (arith, r, m, ap (λ (g : State). g .rule) K.rest))))))
         (before-or-not f.rule 6)
       where
         marks-f : f .marks ≡ map strip e.marks
@@ -277,11 +302,15 @@ module _ {p : Problem} (ok : Settled p) {a : Simplex} {s : State} (S : Shows p a
         long-f = ap length marks-f ∙ length-map e.marks strip ∙ marks-long
 
         other : (j : ℕ) → j ≤ R .t → (e .rule < 6 → j ≡ e .active → ⊥) → at f.marks j ≡ at (map (bare p) b) j
-        other j jl n =
-            ap (λ (l : List ℕ). at l j) marks-f ∙ mapped-at strip e.marks j (omega (arith, marks-long)) ∙ ap strip (came-marks D R.came refl j jl n)
-            ∙ stripped-mark p labels ok.sixteenIndices (listAt y j) ∙ ap (bare p) (sym (point-b j jl)) ∙ sym (bare-at (bare p) b j (omega (arith, jl, long-b)))
+        other j jl n = ap (λ (l : List ℕ). at l j) marks-f
+            ∙ mapped-at strip e.marks j (omega (arith, marks-long))
+            ∙ ap strip (came-marks D R.came refl j jl n)
+            ∙ stripped-mark p labels ok.sixteenIndices (listAt y j)
+            ∙ ap (bare p) (sym (point-b j jl))
+            ∙ sym (bare-at (bare p) b j (omega (arith, jl, long-b)))
 
-    shows-with : (k : ℕ) (marks : List ℕ) → marks ≡ map (bare p) b → Shows p b (withMarks (withActive (stripped e) k) marks)
+    shows-with : (k : ℕ) (marks : List ℕ) → marks ≡ map (bare p) b
+        → Shows p b (withMarks (withActive (stripped e) k) marks)
     shows-with k marks m = record {
       T = R .T;
       t = R .t;
@@ -291,7 +320,9 @@ module _ {p : Problem} (ok : Settled p) {a : Simplex} {s : State} (S : Shows p a
       size = D .chain .size;
       here = refl;
       place = place-b;
-      isT = let f : List ℕ → ℕ → Bool = λ u k. isIn eqb k u in ap f (sym (T-alike p labels b)) ∙ T-is L.full.settled D.chain;
+      isT =
+          let f : List ℕ → ℕ → Bool = λ u k. isIn eqb k u in
+          ap f (sym (T-alike p labels b)) ∙ T-is L.full.settled D.chain;
       round = D .round;
       orderLength = D .orderLength;
       orderAt = D .orderAt;
@@ -317,6 +348,7 @@ module _ {p : Problem} (ok : Settled p) {a : Simplex} {s : State} (S : Shows p a
       point = here-is;
       square = square-in;
       beside = beside-in;
-      shows = λ come c. subst (λ (g : State). Shows p b (withMarks g (cond (ltb f.rule 6) (set f.marks f.active come) f.marks))) (sym K.rest)
-          (shows-with f.active _ (bare-marks come c));
+      shows = λ come c. subst
+          (λ (g : State). Shows p b (withMarks g (cond (ltb f.rule 6) (set f.marks f.active come) f.marks)))
+          (sym K.rest) (shows-with f.active _ (bare-marks come c));
     }

@@ -1,4 +1,5 @@
--- What a state that holds an unlabelled place describes over a table where the points of the place but one carry T. Assumes nothing.
+-- What a state that holds an unlabelled place describes over a table where the points of the place but one carry T.
+-- Assumes nothing.
 use mathlib.Core.Bool.{Bool, true, false, _&&_}
 use mathlib.Core.List.{List, [], _∷_, map}
 use mathlib.Core.Path.{_≡_, refl, sym, ap, _∙_}
@@ -56,8 +57,9 @@ module _ {p : Problem} {a : Simplex} {s : State} (S : Shows p a s) where
     labelled = withMarks s (map (markAt q) S.x)
 
     named : (j k : ℕ) → j ≤ S .t → k < numIndices p.grid → label q (nth a j) ≡ suc k → labelsOf q S.x j ≡ k
-    named j k l m e =
-        ap (λ (y : Point). indexOf (numIndices p.grid) (label q y)) (sym (shows-at j l)) ∙ ap (indexOf (numIndices p.grid)) e ∙ names (numIndices p.grid) k m
+    named j k l m e = ap (λ (y : Point). indexOf (numIndices p.grid) (label q y)) (sym (shows-at j l))
+        ∙ ap (indexOf (numIndices p.grid)) e
+        ∙ names (numIndices p.grid) k m
 
     -- all but point i carry T
     pub carries : Carries S.T S.t (labelsOf q S.x) i

@@ -1,4 +1,5 @@
--- A state without labels moves as one with labels: no move looks at a label, but for the point that leaves next after rules 6 and 7. Assumes nothing.
+-- A state without labels moves as one with labels: no move looks at a label, but for the point that leaves next after
+-- rules 6 and 7. Assumes nothing.
 use mathlib.Core.Bool.{Bool, true, false, not, _&&_, cond}
 use mathlib.Core.List.{List, [], _∷_, _++_, map}
 use mathlib.Core.Logic.{⊎-elim}
@@ -12,7 +13,9 @@ use Rattle.combinatorics.proofs.Basics.{before-or-not, same-or, true-or-false}
 use Rattle.combinatorics.specs.Edits.{butLast, found, insertAt, lastOr, removeAt, rotateLeft, rotateRight}
 use Rattle.grid.specs.Grid.{at}
 use Rattle.rules.specs.Mask.{bit, withIndex, withoutIndex}
-use Rattle.rules.specs.Step.{State, After, goes, endsAtPlace, endsAtFacet, firstOutside, firstOutsideOrZero, grow, isFilled, joined, leave, leaveFirst, leaveLast, leaveMiddle, mark, markPosition, shrink, sourceIn}
+use Rattle.rules.specs.Step.{State, After, goes, endsAtPlace, endsAtFacet, firstOutside, firstOutsideOrZero, grow}
+use Rattle.rules.specs.Step.{isFilled, joined, leave, leaveFirst, leaveLast, leaveMiddle, mark, markPosition, shrink}
+use Rattle.rules.specs.Step.{sourceIn}
 use Rattle.trail_places.proofs.Shows.{withMarks}
 
 -- a mark without its label
@@ -113,8 +116,11 @@ module _ (s : State) where
   last-like =
       let t = length s.order in
       let h = at s.order (t - 1) in
-      ⊎-elim (λ e. rw e (shrink-like t (t - 1) true))
-      (λ e. rw e (⊎-elim (λ f. rw f (shrink-like t (t - 1) false)) (λ f. rw f (record { rest = rw (map-right strip s.marks); active = λ r. refl }))
+      ⊎-elim
+      (λ e. rw e (shrink-like t (t - 1) true))
+      (λ e. rw e (⊎-elim
+      (λ f. rw f (shrink-like t (t - 1) false))
+      (λ f. rw f (record { rest = rw (map-right strip s.marks); active = λ r. refl }))
       (true-or-false (eqb (at s.coefficients h) 0))))
       (true-or-false (eqb (at s.first h) 0))
 
@@ -132,5 +138,7 @@ module _ (s : State) where
   grow-like h =
       let ahead = firstOutside s.round.next s.round.sizes s.U h in
       let i = cond (bit s.U h) (found ahead 16 s.order) (length s.order) in
-      ⊎-elim (λ e. rw e refl) (λ e. rw e (record { rest = rw (map-insert strip (suc i) 0 s.marks); active = λ r. refl }))
+      ⊎-elim
+      (λ e. rw e refl)
+      (λ e. rw e (record { rest = rw (map-insert strip (suc i) 0 s.marks); active = λ r. refl }))
       (true-or-false (not (bit s.U h) && isFilled s.round s.T s.U h))

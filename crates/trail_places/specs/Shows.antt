@@ -1,5 +1,5 @@
--- A state that holds an unlabelled place: what a reader keeps of the place it has come to. A place is here a chain x of coefficient lists, whose points
--- are `pointsOf p x`. The reader's own promise does not cite it. Assumes nothing.
+-- A state that holds an unlabelled place: what a reader keeps of the place it has come to. A place is here a chain x of
+-- coefficient lists, whose points are `pointsOf p x`. The reader's own promise does not cite it. Assumes nothing.
 use mathlib.Core.Bool.{Bool, true}
 use mathlib.Core.List.{List, map}
 use mathlib.Core.Path.{_≡_}

@@ -37,8 +37,9 @@ use Rattle.trail.proofs.Tables.{Labelled, some-index, some-table}
 use Rattle.trail_places.specs.Shows.{Shows, bare}
 use Rattle.trail_steps.specs.Ways.{HasRead, problemBy}
 
-module _ (g : GridStruct) (made : IsMade g) (first : List ℕ) (ok : Settled (problemBy g (take (g .indices) first))) (previous next sizes order : List ℕ)
-    (N : IsRound (shape g) (roundOf previous next sizes)) (size : length first ≡ 16) (s : Status) (B : IsBegun first (g .indices) s) where
+module _ (g : GridStruct) (made : IsMade g) (first : List ℕ) (ok : Settled (problemBy g (take (g .indices) first)))
+    (previous next sizes order : List ℕ) (N : IsRound (shape g) (roundOf previous next sizes))
+    (size : length first ≡ 16) (s : Status) (B : IsBegun first (g .indices) s) where
   abbrev p : Problem
   p = problemBy g (take (g .indices) first)
 
@@ -61,9 +62,11 @@ module _ (g : GridStruct) (made : IsMade g) (first : List ℕ) (ok : Settled (pr
   start-at k l = sym (getD-take (g .indices) first k 0 (omega (arith, m)))
 
   zeros-at : (k : ℕ) → k < 16 → bit (s .u) k ≡ (ltb k (numIndices (shape g)) && eqb (at (p .start) k) 0)
-  zeros-at k l =
-      ⊎-elim (λ (x : k < g .indices). B .zeros k l ∙ rw (lt-ltb k (g .indices) x, lt-ltb k (numIndices (shape g)) (omega (arith, m)), start-at k (omega (arith, m))))
-      (λ (x : g .indices ≤ k). B .zeros k l ∙ rw (le-ltb k (g .indices) x, le-ltb k (numIndices (shape g)) (omega (arith, m))))
+  zeros-at k l = ⊎-elim
+      (λ (x : k < g .indices). B .zeros k l
+      ∙ rw (lt-ltb k (g .indices) x, lt-ltb k (numIndices (shape g)) (omega (arith, m)), start-at k (omega (arith, m))))
+      (λ (x : g .indices ≤ k).
+      B .zeros k l ∙ rw (le-ltb k (g .indices) x, le-ltb k (numIndices (shape g)) (omega (arith, m))))
       (before-or-not k (g .indices))
 
   -- over a table
@@ -77,9 +80,11 @@ module _ (g : GridStruct) (made : IsMade g) (first : List ℕ) (ok : Settled (pr
     points-of : pointsOf q (coefficientsOf q v) ≡ v
     points-of = pointsOf-coefficientsOf (L .full .settled) v (parts q v (start-place (L .full .settled)) .gridPoints)
 
-  module _ (tails : List ℕ) (are : (k : ℕ) → k < g .indices → at tails k ≡ sum (map (at first) (upFrom k (g .indices - k)))) where
+  module _ (tails : List ℕ)
+      (are : (k : ℕ) → k < g .indices → at tails k ≡ sum (map (at first) (upFrom k (g .indices - k)))) where
     sums : (k : ℕ) → k < numIndices (shape g) → at tails k ≡ tailFrom (shape g) (p .start) k
-    sums k l = rw (← m) (are k (omega (arith, m)) ∙ ap sum (sym (map-front first (g .indices) k (g .indices - k) (omega (arith, m)))))
+    sums k l = rw (← m)
+        (are k (omega (arith, m)) ∙ ap sum (sym (map-front first (g .indices) k (g .indices - k) (omega (arith, m)))))
 
     -- with its position in its mark, {v} is held
     pub v-read : (c : ℕ) → c ≡ position (shape g) (p .start)
@@ -93,7 +98,8 @@ module _ (g : GridStruct) (made : IsMade g) (first : List ℕ) (ok : Settled (pr
         mark-is : c * 256 ≡ bare p (p .start)
         mark-is = omega (arith, e)
 
-        D : Describes (withLabels p (table .0)) (inT (withLabels p (table .0)) v) 0 (at (orderOf (shape g) v)) (coefficientsOf (withLabels p (table .0)) v) (begun round first (s .u))
+        D : Describes (withLabels p (table .0)) (inT (withLabels p (table .0)) v) 0 (at (orderOf (shape g) v))
+            (coefficientsOf (withLabels p (table .0)) v) (begun round first (s .u))
         D = described L
 
         shown : Shows p v (stateOf round first (replicate 16 0) order (set (replicate 16 0) 0 (c * 256)) s)

@@ -16,22 +16,26 @@ use Rattle.trail_reader.specs.Reading.{maskFrom, maskOf}
 
 bit-half : (a k : ℕ) → bit (a / 2) k ≡ bit a (suc k)
 unfolding bit
-bit-half a k = ap (λ (x : ℕ). eqb (x % 2) 1) (div-div-eq-div-mul a 2 (2 ^ k) ∙ ap (λ (x : ℕ). a / x) (sym (pow-succ' 2 k)))
+bit-half a k =
+    ap (λ (x : ℕ). eqb (x % 2) 1) (div-div-eq-div-mul a 2 (2 ^ k) ∙ ap (λ (x : ℕ). a / x) (sym (pow-succ' 2 k)))
 
 last-bit : (a : ℕ) (b : Bool) → bit a 0 ≡ b → a % 2 ≡ cond b 1 0
 unfolding bit
 last-bit a true e = omega (arith, eqb-true (a / 2 ^ 0 % 2) 1 e)
 last-bit a false e = omega (arith, eqb-false (a / 2 ^ 0 % 2) 1 e)
 
-mask-from : (set : List ℕ) (n h a : ℕ) → a < 2 ^ n → ((k : ℕ) → k < n → bit a k ≡ isIn eqb (h + k) set) → a ≡ maskFrom set h n
+mask-from : (set : List ℕ) (n h a : ℕ) → a < 2 ^ n → ((k : ℕ) → k < n → bit a k ≡ isIn eqb (h + k) set)
+    → a ≡ maskFrom set h n
 mask-from set zero h a l e = omega arith
 mask-from set (suc n) h a l e =
-    let q : a / 2 ≡ maskFrom set (suc h) n = mask-from set n (suc h) (a / 2) (omega arith)
-    (λ k m. let z : suc h + k ≡ h + suc k = omega arith in bit-half a k ∙ e (suc k) (omega arith) ∙ ap (λ (i : ℕ). isIn eqb i set) (sym z)) in
+    let q : a / 2 ≡ maskFrom set (suc h) n = mask-from set n (suc h) (a / 2) (omega arith) (λ k m.
+    let z : suc h + k ≡ h + suc k = omega arith in
+    bit-half a k ∙ e (suc k) (omega arith) ∙ ap (λ (i : ℕ). isIn eqb i set) (sym z)) in
     let z : h + 0 ≡ h = omega arith in
-    let r : a % 2 ≡ cond (isIn eqb h set) 1 0 = last-bit a (isIn eqb h set) (e 0 (omega arith) ∙ ap (λ (i : ℕ). isIn eqb i set) z) in
+    let r : a % 2 ≡ cond (isIn eqb h set) 1 0 =
+    last-bit a (isIn eqb h set) (e 0 (omega arith) ∙ ap (λ (i : ℕ). isIn eqb i set) z) in
     omega arith
 
 pub mask-is : {mask : ℕ} {set : List ℕ} → IsMask mask set → mask < 65536 → mask ≡ maskOf set
-mask-is {mask} {set} M l =
-    mask-from set 16 0 mask l (λ k m. let z : 0 + k ≡ k = omega arith in M .bits k m ∙ ap (λ (i : ℕ). isIn eqb i set) (sym z))
+mask-is {mask} {set} M l = mask-from set 16 0 mask l
+    (λ k m. let z : 0 + k ≡ k = omega arith in M .bits k m ∙ ap (λ (i : ℕ). isIn eqb i set) (sym z))

@@ -1,5 +1,5 @@
--- From where the records lead to the reader's answer. In order: what is rebuilt behind v's record; the place that a state holds; the refusals.
--- Assumes nothing.
+-- From where the records lead to the reader's answer. In order: what is rebuilt behind v's record; the place that a
+-- state holds; the refusals. Assumes nothing.
 use mathlib.Core.Bool.{Bool, true, false, cond}
 use mathlib.Core.List.{List, [], _∷_, _++_, map}
 use mathlib.Core.Option.{Option, none, some}
@@ -37,14 +37,16 @@ use Rattle.trail.proofs.Tables.{some-index, some-table}
 use Rattle.trail.proofs.Tells.{begins-with}
 use Rattle.trail.specs.Record.{startRecord}
 use Rattle.trail.proofs.LabelsRead.{read-from}
-use Rattle.trail.specs.Trail.{Reading as TrailReading, begins, noRecord, placed, placesFrom, reading, rebuilt, rebuiltFrom, rebuiltPlaces}
+use Rattle.trail.specs.Trail.{Reading as TrailReading, begins, noRecord, placed, placesFrom, reading, rebuilt}
+use Rattle.trail.specs.Trail.{rebuiltFrom, rebuiltPlaces}
 use Rattle.trail_places.proofs.Shows.{describes, shows-long}
 use Rattle.trail_places.specs.Shows.{Shows}
 use Rattle.trail_steps.proofs.Arrived.{mask-T, mask-U}
 use Rattle.trail_steps.proofs.Named.{shows-few}
 use Rattle.trail_steps.specs.Ways.{problemBy}
 use Rattle.trail_reader.proofs.Masks.{mask-is}
-use Rattle.trail_reader.specs.Reading.{caseOf, isPlaced, maskOf, numbersOf, question17, readAnswer, readPoints, readQuestions, startQuestions}
+use Rattle.trail_reader.specs.Reading.{caseOf, isPlaced, maskOf, numbersOf, question17, readAnswer, readPoints}
+use Rattle.trail_reader.specs.Reading.{readQuestions, startQuestions}
 use Rattle.trail_reader.specs.Begun.{IsPlace, Reads}
 use Rattle.trail_reader.specs.declared.answers.Answer.the-variants.{Place, Refused}
 use Rattle.trail_reader.specs.declared.answers.Reading.{Reading}
@@ -80,7 +82,8 @@ module _ (p : Problem) (bytes : List ℕ) where
       reads-none e = rw (behind ∙ e)
 
       pub reads-place : (b : Simplex) → rebuiltFrom p before (p .start ∷ []) (drop 3 bytes) ≡ some b → (came : ℕ)
-          → came ≡ cameIn (placesFrom p before (p .start ∷ []) (drop 3 bytes)) before → reading p bytes number ≡ placed (came + 1) b (setT p b) (setU (p .grid) b)
+          → came ≡ cameIn (placesFrom p before (p .start ∷ []) (drop 3 bytes)) before
+          → reading p bytes number ≡ placed (came + 1) b (setT p b) (setU (p .grid) b)
       unfolding reading startRecord
       reads-place b e came f =
           let read = ap (λ (n : ℕ). labelsRead (rebuiltPlaces p bytes n)) one-more ∙ read-from p bytes before starts in
@@ -111,34 +114,43 @@ module _ {p : Problem} (ok : Settled p) {b : Simplex} {s : State} (S : Shows p b
       let n : suc (length (s .order)) ≡ length b = omega (arith, S .orderLength, shows-long S) in
       rw (n, ← mask-is (mask-T ok S) t, ← mask-is (mask-U ok S) u)
 
-  pub numbers-are : (read m : ℕ) → m ≡ numIndices (p .grid) → numbersFrom m s 0 ≡ numbersOf (placed read b (setT p b) (setU (p .grid) b))
+  pub numbers-are : (read m : ℕ) → m ≡ numIndices (p .grid)
+      → numbersFrom m s 0 ≡ numbersOf (placed read b (setT p b) (setU (p .grid) b))
   numbers-are read m e = rw e (ap (concatMap (λ y. y)) points-are)
 
 pub minus-none : (n : ℕ) → n - 0 ≡ n
 minus-none n = omega arith
 
 -- so the reader's answer is that of the place
-pub reads-by : (g : GridStruct) → IsMade g → (start trail : List ℕ) (number : ℕ) → Settled (problemBy g start) → (b : Simplex)
-    (previous next sizes first coefficients order marks : List ℕ) (status : Status) (labels : ℕ)
-    → Shows (problemBy g start) b (stateOf (roundOf previous next sizes) first coefficients order marks status) → (r : Reading)
+pub reads-by : (g : GridStruct) → IsMade g → (start trail : List ℕ) (number : ℕ) → Settled (problemBy g start)
+    → (b : Simplex) (previous next sizes first coefficients order marks : List ℕ) (status : Status) (labels : ℕ)
+    → Shows (problemBy g start) b (stateOf (roundOf previous next sizes) first coefficients order marks status)
+    → (r : Reading)
     → IsPlace (stateOf (roundOf previous [] sizes) first [] order [] status) (g .indices) status labels r
-    → reading (problemBy g start) trail number ≡ placed labels b (setT (problemBy g start) b) (setU (shape g) b) → Reads g start trail number r
-reads-by g made start trail number ok b previous next sizes first coefficients order marks status labels S r I e = record {
-  answer = I .answer ∙ case-is ok S labels (I .lowT) (I .lowU) ∙ ap caseOf (sym e);
-  points = I .points ∙ ap (λ (l : List ℕ). front l (replicate 256 0)) (numbers-are ok S labels (g .indices) (made-indices g made))
+    → reading (problemBy g start) trail number ≡ placed labels b (setT (problemBy g start) b) (setU (shape g) b)
+    → Reads g start trail number r
+reads-by g made start trail number ok b previous next sizes first coefficients order marks status labels S r I e =
+    record {
+      answer = I .answer ∙ case-is ok S labels (I .lowT) (I .lowU) ∙ ap caseOf (sym e);
+      points = I .points
+          ∙ ap (λ (l : List ℕ). front l (replicate 256 0)) (numbers-are ok S labels (g .indices) (made-indices g made))
+          ∙ ap (λ (x : TrailReading). front (numbersOf x) (replicate 256 0)) (sym e);
+    }
+
+-- and of no record, where there is none
+pub reads-17 : (g : GridStruct) (start trail : List ℕ) (number : ℕ) (r : Reading)
+    → (r .answer ≡ Refused 17) × (r .points ≡ replicate 256 0) → reading (problemBy g start) trail number ≡ noRecord
+    → Reads g start trail number r
+reads-17 g start trail number r R e = record {
+  answer = R .0 ∙ ap caseOf (sym e);
+  points = R .1
+      ∙ sym (front-none (replicate 256 0))
       ∙ ap (λ (x : TrailReading). front (numbersOf x) (replicate 256 0)) (sym e);
 }
 
--- and of no record, where there is none
-pub reads-17 : (g : GridStruct) (start trail : List ℕ) (number : ℕ) (r : Reading) → (r .answer ≡ Refused 17) × (r .points ≡ replicate 256 0)
-    → reading (problemBy g start) trail number ≡ noRecord → Reads g start trail number r
-reads-17 g start trail number r R e = record {
-  answer = R .0 ∙ ap caseOf (sym e);
-  points = R .1 ∙ sym (front-none (replicate 256 0)) ∙ ap (λ (x : TrailReading). front (numbersOf x) (replicate 256 0)) (sym e);
-}
-
 -- a grid that was made, with a start that is a grid point
-pub settled-by : (g : GridStruct) → IsMade g → (start : List ℕ) → isGridPoint (shape g) start ≡ true → Settled (problemBy g start)
+pub settled-by : (g : GridStruct) → IsMade g → (start : List ℕ) → isGridPoint (shape g) start ≡ true
+    → Settled (problemBy g start)
 settled-by g made start on =
     let a = made-accepted g made in
     record {
@@ -165,10 +177,13 @@ module _ (p : Problem) (bytes : List ℕ) (number : ℕ) where
       (rw (q, e), rw (q, front-none (replicate 256 0)))
 
   pub by-grid : (firstNo (gridQuestions (p .grid)) ≡ 0 → ⊥) → refusal ≡ firstNo (gridQuestions (p .grid))
-  by-grid n = asked-no (gridQuestions (p .grid)) (question5 (p .grid) (p .start) ∷ question17 p bytes number ∷ []) _ n refl
+  by-grid n =
+      asked-no (gridQuestions (p .grid)) (question5 (p .grid) (p .start) ∷ question17 p bytes number ∷ []) _ n refl
 
-  later : firstNo (gridQuestions (p .grid)) ≡ 0 → refusal ≡ firstNo (question5 (p .grid) (p .start) ∷ question17 p bytes number ∷ [])
-  later e = asked-next (gridQuestions (p .grid)) (question5 (p .grid) (p .start) ∷ question17 p bytes number ∷ []) refl e
+  later : firstNo (gridQuestions (p .grid)) ≡ 0
+      → refusal ≡ firstNo (question5 (p .grid) (p .start) ∷ question17 p bytes number ∷ [])
+  later e =
+      asked-next (gridQuestions (p .grid)) (question5 (p .grid) (p .start) ∷ question17 p bytes number ∷ []) refl e
 
   pub by-start : firstNo (gridQuestions (p .grid)) ≡ 0 → isGridPoint (p .grid) (p .start) ≡ false → refusal ≡ 5
   unfolding firstNo
@@ -185,7 +200,8 @@ module _ (p : Problem) (bytes : List ℕ) (number : ℕ) where
     a-place e = later grid ∙ (rw (on, e))
 
     answered : refusal ≡ 0
-        → (caseOf (reading p bytes number) ≡ readAnswer p bytes number) × (front (numbersOf (reading p bytes number)) (replicate 256 0) ≡ readPoints p bytes number)
+        → (caseOf (reading p bytes number) ≡ readAnswer p bytes number)
+        × (front (numbersOf (reading p bytes number)) (replicate 256 0) ≡ readPoints p bytes number)
     unfolding readAnswer readPoints
     answered e = (rw (eq-eqb refusal 0 e), rw (eq-eqb refusal 0 e))
 
@@ -197,8 +213,10 @@ module _ (p : Problem) (bytes : List ℕ) (number : ℕ) where
             → (caseOf (reading p bytes number) ≡ readAnswer p bytes number)
             × (front (numbersOf (reading p bytes number)) (replicate 256 0) ≡ readPoints p bytes number)
         go noRecord q =
-            let w = by-number 17 (λ z. omega arith) (no-place (ap isPlaced q)) in
-            (ap caseOf q ∙ w .0, ap (λ (r : TrailReading). front (numbersOf r) (replicate 256 0)) q ∙ front-none (replicate 256 0) ∙ w .1)
+            let w = by-number 17 (λ z. omega arith) (no-place (ap isPlaced q)) in (
+              ap caseOf q ∙ w .0,
+              ap (λ (r : TrailReading). front (numbersOf r) (replicate 256 0)) q ∙ front-none (replicate 256 0) ∙ w .1,
+            )
         go (placed read b T U) q = answered (a-place (ap isPlaced q))
 
 -- bytes that begin with a record are no fewer
@@ -222,5 +240,7 @@ module _ (g : GridStruct) (made : IsMade g) (start : List ℕ) (ok : Settled (pr
     start-taken = rw (e, all-taken, ← start-long) (front-taken start (replicate 16 0))
 
     pub first-long : length first ≡ 16
-    first-long =
-        rw e (front-length (take (g .indices) start) (replicate 16 0) (rw (length-replicate, length-take) (omega (arith, indices-few g made))) ∙ length-replicate {A = ℕ} 16 0)
+    first-long = rw e
+        (front-length (take (g .indices) start) (replicate 16 0)
+        (rw (length-replicate, length-take) (omega (arith, indices-few g made)))
+        ∙ length-replicate {A = ℕ} 16 0)

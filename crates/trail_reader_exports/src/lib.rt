@@ -8,7 +8,8 @@ ghost use Rattle.place.specs.Problem.{problemOf};
 ghost use Rattle.trail_reader.specs.Reading.{readAnswer, readPoints};
 ghost use Rattle.trail_reader_exports.specs.Read.{placeFacts, pointsLeft, readNumber};
 
-// The number of points, T, U and the labels read to the front of their buffer, and the points to theirs, where a place is rebuilt.
+// The number of points, T, U and the labels read to the front of their buffer, and the points to theirs, where a place
+// is rebuilt.
 fn put_place(
     found: trail_reader::Answer,
     from: [u16; 256],
@@ -39,7 +40,8 @@ fn put_place(
 }
 
 // The place at a record of a trail: 0 where it is rebuilt, else the refusal's number. `place` has the number of points,
-// T and U as masks, bit h for index h + 1, and the labels read up to the place; `points` has the points' numbers, and 0 behind them.
+// T and U as masks, bit h for index h + 1, and the labels read up to the place; `points` has the points' numbers, and 0
+// behind them.
 #[no_mangle]
 pub extern "C" fn leveretplate_read_trail(
     sizes: &[u8],

@@ -1,4 +1,5 @@
--- One place of the walk that writes a trail: the marks after the look-up, and the position of the point that leaves. Assumes nothing.
+-- One place of the walk that writes a trail: the marks after the look-up, and the position of the point that leaves.
+-- Assumes nothing.
 use mathlib.Core.Bool.{true, false}
 use mathlib.Core.List.{List, [], map}
 use mathlib.Core.Logic.{⊎-elim}
@@ -34,8 +35,10 @@ module _ (a : State) where
   unfolding goneOf
   gone-none r e = rw (lt-ltb (a .rule) 6 r, e)
 
-  pub leaving-low : (s : Status) → CanTell a s → a .rule ≡ s .rule → a .active ≡ s .active → (i : ℕ) → Leaving a i → i ≤ s .count
-  leaving-low s C r e i l = ⊎-elim (λ w. omega (arith, C .active, w .1)) (λ w. rw (w .2) (C .other (omega (arith, w .0)) (w .1))) l
+  pub leaving-low : (s : Status) → CanTell a s → a .rule ≡ s .rule → a .active ≡ s .active → (i : ℕ) → Leaving a i
+      → i ≤ s .count
+  leaving-low s C r e i l =
+      ⊎-elim (λ w. omega (arith, C .active, w .1)) (λ w. rw (w .2) (C .other (omega (arith, w .0)) (w .1))) l
 
 -- after rules 6 and 7 nothing is read, and else the mark is stored
 module _ (p : Problem) (round : Round) (first coefficients order marks : List ℕ) (s : Status) where
@@ -49,7 +52,11 @@ module _ (p : Problem) (round : Round) (first coefficients order marks : List �
   pub looked-some : (m : ℕ) → s .rule < 6 → s .active ≤ s .count → m ≡ markOf p (pointIn p here (s .active))
       → take (suc (s .count)) (set marks (s .active) m) ≡ read p here .marks
   unfolding read withMark
-  looked-some m r low e = rw (e, lt-ltb (s .rule) 6 r, take-set-lt (suc (s .count)) marks (s .active) (markOf p (pointIn p here (s .active))) (omega arith))
+  looked-some m r low e = rw (
+    e,
+    lt-ltb (s .rule) 6 r,
+    take-set-lt (suc (s .count)) marks (s .active) (markOf p (pointIn p here (s .active))) (omega arith),
+  )
 
 -- the state with these marks, whichever way on the blocks have
 module _ (p : Problem) (previous next sizes first coefficients order marks : List ℕ) (s : Status) where
@@ -62,9 +69,10 @@ module _ (p : Problem) (previous next sizes first coefficients order marks : Lis
   pub looked-whole : (marks' : List ℕ) → take (suc (s .count)) marks' ≡ read p back .marks
       → stateOf (roundOf previous next sizes) first coefficients order marks' s ≡ read p whole
   unfolding read withMark
-  looked-whole marks' e =
-      ⊎-elim (λ (r : s .rule < 6). let f = rw (lt-ltb (s .rule) 6 r) at e in rw (lt-ltb (s .rule) 6 r, f))
-      (λ (r : 6 ≤ s .rule). let f = rw (le-ltb (s .rule) 6 r) at e in rw (le-ltb (s .rule) 6 r, f)) (before-or-not (s .rule) 6)
+  looked-whole marks' e = ⊎-elim
+      (λ (r : s .rule < 6). let f = rw (lt-ltb (s .rule) 6 r) at e in rw (lt-ltb (s .rule) 6 r, f))
+      (λ (r : 6 ≤ s .rule). let f = rw (le-ltb (s .rule) 6 r) at e in rw (le-ltb (s .rule) 6 r, f))
+      (before-or-not (s .rule) 6)
 
 -- what a state that is ready for its move has: few points, and a point that leaves
 module _ (round : Round) (first coefficients order marks : List ℕ) (s : Status) (each : SixteenEach order marks)

@@ -1,4 +1,5 @@
--- What one place of a walk that writes a trail asks and gives. The writer's own promise does not cite it. Assumes nothing.
+-- What one place of a walk that writes a trail asks and gives. The writer's own promise does not cite it.
+-- Assumes nothing.
 use mathlib.Core.Bool.{Bool, true, false, cond}
 use mathlib.Core.List.{List, [], map}
 use mathlib.Core.Path.{_≡_}
@@ -52,7 +53,8 @@ pub record HasPositions (a : State) (s : Status) (before : Before) : Type 0 wher
   pub come : positionAt a (a .active) < 65536
   pub gone : before .gone < 65536
 
--- the position of the point that leaves next: after rules 6 and 7 the one named, else the other point with the label that came in, if T has that
+-- the position of the point that leaves next: after rules 6 and 7 the one named, else the other point with the label
+-- that came in, if T has that
 unfoldable pub goneOf : State → ℕ
 goneOf a =
     let other = positionAt a (found (labelIn a) (a .active) (map markLabel (a .marks))) in
@@ -62,7 +64,8 @@ pub record CanTell (a : State) (s : Status) : Type 0 where
   pub active : s .active ≤ s .count
   pub few : s .count ≤ 15
   pub label : s .rule < 6 → (1 ≤ labelIn a) × (labelIn a ≤ 16)
-  pub other : s .rule < 6 → bit (a .T) (labelIn a - 1) ≡ true → found (labelIn a) (a .active) (map markLabel (a .marks)) ≤ s .count
+  pub other : s .rule < 6 → bit (a .T) (labelIn a - 1) ≡ true
+      → found (labelIn a) (a .active) (map markLabel (a .marks)) ≤ s .count
 
 -- the record of a place can be made, and stored
 pub record CanWrite (a : State) (trail : List ℕ) (at : ℕ) (before : Before) : Type 0 where
@@ -76,10 +79,14 @@ CanRecord p a trail at before writes = IsKnown p a → writes ≡ true → CanWr
 
 -- the trail with the record of a place, where the walk writes
 abbrev pub withRecord : State → List ℕ → ℕ → Before → Bool → List ℕ
-withRecord a old at before writes = let bytes = recordHere a before at in cond writes (paste old at bytes (length bytes)) old
+withRecord a old at before writes =
+    let bytes = recordHere a before at in
+    cond writes (paste old at bytes (length bytes)) old
 
--- what a place of the walk leaves in the trail, and tells the next one: the point that leaves only where the walk writes
-pub record Visits (p : Problem) (a : State) (old : List ℕ) (at : ℕ) (before : Before) (writes : Bool) (new : List ℕ) (r : Passed) : Type 0 where
+-- what a place of the walk leaves in the trail, and tells the next one: the point that leaves only where the
+-- walk writes
+pub record Visits (p : Problem) (a : State) (old : List ℕ) (at : ℕ) (before : Before) (writes : Bool) (new : List ℕ)
+    (r : Passed) : Type 0 where
   pub long : IsKnown p a → r .bytes ≡ length (recordHere (read p a) before at)
   pub gone : IsKnown p a → writes ≡ true → r .gone ≡ goneOf (read p a)
   pub written : IsKnown p a → new ≡ withRecord (read p a) old at before writes

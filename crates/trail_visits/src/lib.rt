@@ -1,5 +1,5 @@
-// One place of a walk that writes a trail: the look-up, the record and the move. What is public here is for the writer, which shows
-// what it asks.
+// One place of a walk that writes a trail: the look-up, the record and the move. What is public here is for the writer,
+// which shows what it asks.
 ghost use mathlib.Core.Bool.{true};
 ghost use mathlib.Core.Path.{_≡_};
 ghost use Prim.Native.Nat.{_<_};
@@ -153,8 +153,8 @@ fn length_here(s: Status, before: Before, at: usize) -> usize
     length_of(from, to)
 }
 
-// Where the walk writes, the record is stored, and the position of the point that leaves next is told. A walk that counts
-// needs neither.
+// Where the walk writes, the record is stored, and the position of the point that leaves next is told. A walk that
+// counts needs neither.
 fn tell(
     marks: &[u32; 16],
     s: Status,

@@ -1,5 +1,6 @@
--- The walk along the path and the trail of its places. In order: the points of a place and their marks; the record that is made at a place; the
--- position of the point that leaves; the trail so far, whose length the sets T and U alone tell. Assumes nothing.
+-- The walk along the path and the trail of its places. In order: the points of a place and their marks; the record that
+-- is made at a place; the position of the point that leaves; the trail so far, whose length the sets T and U alone
+-- tell. Assumes nothing.
 use mathlib.Core.Bool.{Bool, true, false, cond}
 use mathlib.Core.List.{List, [], _∷_, _++_, map, append-nil}
 use mathlib.Core.Logic.{_⊎_, inl, inr, ⊎-elim}
@@ -56,8 +57,8 @@ use Rattle.trail_visits.specs.Visited.{goneOf, recordHere}
 use Rattle.trail_visits.specs.declared.Before.{Before}
 
 -- a run that has ended has visited the whole path
-pub ended-whole : (p : Problem) (budget : ℕ) {n read : ℕ} {kind : Kind} {block vertices : ℕ} {simplex : Simplex} → answer p budget ≡ ended n read kind block vertices simplex
-    → n ≡ pathLength p
+pub ended-whole : (p : Problem) (budget : ℕ) {n read : ℕ} {kind : Kind} {block vertices : ℕ} {simplex : Simplex}
+    → answer p budget ≡ ended n read kind block vertices simplex → n ≡ pathLength p
 unfolding answer
 ended-whole p budget {n} {read} {kind} {block} {vertices} {simplex} e =
     ⊎-elim (λ t. let f : spent budget ≡ ended n read kind block vertices simplex = rw t at e in absurd (never f))
@@ -66,9 +67,14 @@ ended-whole p budget {n} {read} {kind} {block} {vertices} {simplex} e =
     never : spent budget ≡ ended n read kind block vertices simplex → ⊥
     never f = let z : _≡_ {A = ℕ} 0 1 = cc in omega arith
 
-    go : (x : Option End) → path p .end ≡ x → outcome p (path p .visited) (path p .end) ≡ ended n read kind block vertices simplex → n ≡ pathLength p
-    go none w f = let h : outcome p (path p .visited) none ≡ ended n read kind block vertices simplex = rw w at f in absurd (let z : _≡_ {A = ℕ} 0 1 = cc in omega arith)
-    go (some x) w f = let h : outcome p (path p .visited) (some x) ≡ ended n read kind block vertices simplex = rw w at f in cc
+    go : (x : Option End) → path p .end ≡ x
+        → outcome p (path p .visited) (path p .end) ≡ ended n read kind block vertices simplex → n ≡ pathLength p
+    go none w f =
+        let h : outcome p (path p .visited) none ≡ ended n read kind block vertices simplex = rw w at f in
+        absurd (let z : _≡_ {A = ℕ} 0 1 = cc in omega arith)
+    go (some x) w f =
+        let h : outcome p (path p .visited) (some x) ≡ ended n read kind block vertices simplex = rw w at f in
+        cc
 
 mapped-one : (f : Point → ℕ) (l : List Point) (x : ℕ) → map f l ≡ x ∷ []
     → (y : Point) × (l ≡ y ∷ []) × (isIn samePoint y l ≡ true) × (f y ≡ x)
@@ -80,12 +86,15 @@ module _ (g : GridStruct) (start table : List ℕ) where
   -- what is kept of the place before
   pub record Behind (before : Before) (h : ℕ) : Type 0 where
     pub T : IsMask (before .t) (setT (problemIn g start table) (placeAt (path (problemIn g start table) .visited) h))
-    pub U : IsMask (before .u) (setU (problemIn g start table .grid) (placeAt (path (problemIn g start table) .visited) h))
+    pub U : IsMask (before .u)
+        (setU (problemIn g start table .grid) (placeAt (path (problemIn g start table) .visited) h))
 
   -- the point that has left it, if there is one
   abbrev pub HasLeft : Before → ℕ → Type 0
-  HasLeft before h =
-      (z : Point) → outside samePoint (placeAt (path (problemIn g start table) .visited) (suc h)) (placeAt (path (problemIn g start table) .visited) h) ≡ z ∷ []
+  HasLeft before h = (z : Point)
+      → outside samePoint (placeAt (path (problemIn g start table) .visited) (suc h))
+      (placeAt (path (problemIn g start table) .visited) h)
+      ≡ z ∷ []
       → before .gone ≡ position (problemIn g start table .grid) z
 
   -- which a walk that writes keeps
@@ -106,9 +115,11 @@ module _ (g : GridStruct) (start table : List ℕ) (ok : Accepted (problemIn g s
   visited = path p .visited
 
   -- a position tells its point
-  same-point : {y z : Point} → isGridPoint (p .grid) y ≡ true → isGridPoint (p .grid) z ≡ true → position (p .grid) y ≡ position (p .grid) z → y ≡ z
-  same-point {y} {z} hy hz e =
-      sym (at-position (p .grid) (ok .settled .sameNumber) y hy) ∙ ap (λ (i : ℕ). getD (points (p .grid)) i []) e ∙ at-position (p .grid) (ok .settled .sameNumber) z hz
+  same-point : {y z : Point} → isGridPoint (p .grid) y ≡ true → isGridPoint (p .grid) z ≡ true
+      → position (p .grid) y ≡ position (p .grid) z → y ≡ z
+  same-point {y} {z} hy hz e = sym (at-position (p .grid) (ok .settled .sameNumber) y hy)
+      ∙ ap (λ (i : ℕ). getD (points (p .grid)) i []) e
+      ∙ at-position (p .grid) (ok .settled .sameNumber) z hz
 
   -- a place of the path, in a state that stands there
   module _ (s : State) (k : ℕ) (here : OnPath p s k) where
@@ -116,34 +127,41 @@ module _ (g : GridStruct) (start table : List ℕ) (ok : Accepted (problemIn g s
     place-is = beside ok k (here .1) .1 ∙ at-place (filled-full ok) (here .0)
 
     point-in : (j : ℕ) → j ≤ length (s .order) → isIn samePoint (pointIn p s j) (placeAt visited k) ≡ true
-    point-in j l = rw place-is
-        (in-map onNumbers onPoints (pointIn p s) j (upFrom 0 (suc (length (s .order)) - 0)) (in-upFrom 0 (suc (length (s .order)) - 0) j (omega arith) (omega arith)))
+    point-in j l = rw place-is (in-map onNumbers onPoints (pointIn p s) j (upFrom 0 (suc (length (s .order)) - 0))
+        (in-upFrom 0 (suc (length (s .order)) - 0) j (omega arith) (omega arith)))
 
-    in-point : (y : Point) → isIn samePoint y (placeAt visited k) ≡ true → (j : ℕ) × (j ≤ length (s .order)) × (y ≡ pointIn p s j)
+    in-point : (y : Point) → isIn samePoint y (placeAt visited k) ≡ true
+        → (j : ℕ) × (j ≤ length (s .order)) × (y ≡ pointIn p s j)
     in-point y m =
         let w = map-in onNumbers onPoints (pointIn p s) y (upFrom 0 (suc (length (s .order)) - 0)) (rw place-is at m) in
         (w .0, omega (arith, upFrom-in 0 (suc (length (s .order)) - 0) (w .0) (w .1) .1), w .2)
 
     on-grid : (j : ℕ) → j ≤ length (s .order) → isGridPoint (p .grid) (pointIn p s j) ≡ true
-    on-grid j l =
-        all-in onPoints (isGridPoint (p .grid)) (placeAt visited k) (parts p (placeAt visited k) (demand3-holds ok .follows .places k (here .1)) .gridPoints)
-        (pointIn p s j) (point-in j l)
+    on-grid j l = all-in onPoints (isGridPoint (p .grid)) (placeAt visited k)
+        (parts p (placeAt visited k) (demand3-holds ok .follows .places k (here .1)) .gridPoints) (pointIn p s j)
+        (point-in j l)
 
     position-low : (j : ℕ) → j ≤ length (s .order) → position (p .grid) (pointIn p s j) < 65536
-    position-low j l =
-        omega (arith, position-in (points (p .grid)) (pointIn p s j) (in-points (p .grid) (pointIn p s j) (ok .settled .sameNumber) (on-grid j l)), ok .settled .points)
+    position-low j l = omega (
+      arith,
+      position-in (points (p .grid)) (pointIn p s j)
+          (in-points (p .grid) (pointIn p s j) (ok .settled .sameNumber) (on-grid j l)),
+      ok .settled .points,
+    )
 
     -- T and U, by their masks
     mask-T : IsMask (s .T) (setT p (placeAt visited k))
     mask-T = record {
       bits = λ h m. at-T (filled-full ok) (here .0) h m
-          ∙ ap (isIn eqb h) (T-alike p _ (placeAt (path (filledTable p) .visited) k) ∙ ap (setT p) (sym (beside ok k (here .1) .1)));
+          ∙ ap (isIn eqb h)
+          (T-alike p _ (placeAt (path (filledTable p) .visited) k) ∙ ap (setT p) (sym (beside ok k (here .1) .1)));
       below = λ h m. omega (arith, T-means p (placeAt visited k) h .0 m .0, ok .settled .sixteenIndices);
     }
 
     mask-U : IsMask (s .U) (setU (p .grid) (placeAt visited k))
     mask-U = record {
-      bits = λ h m. at-U (filled-full ok) (here .0) h m ∙ ap (λ (x : Simplex). isIn eqb h (setU (p .grid) x)) (sym (beside ok k (here .1) .1));
+      bits = λ h m. at-U (filled-full ok) (here .0) h m
+          ∙ ap (λ (x : Simplex). isIn eqb h (setU (p .grid) x)) (sym (beside ok k (here .1) .1));
       below = λ h m. omega (arith, U-means (p .grid) (placeAt visited k) h .0 m .0, ok .settled .sixteenIndices);
     }
 
@@ -157,9 +175,14 @@ module _ (g : GridStruct) (start table : List ℕ) (ok : Accepted (problemIn g s
       label-small r =
           let y = pointIn p s (s .active) in
           let h : hasLabel p y ≡ true = label-ok ok y (on-grid (s .active) active-low) (known r) in
-          omega (arith, leb-true (label p y) (numIndices (p .grid)) (and-right (leb 1 (label p y)) _ h), ok .settled .sixteenIndices)
+          omega (
+            arith,
+            leb-true (label p y) (numIndices (p .grid)) (and-right (leb 1 (label p y)) _ h),
+            ok .settled .sixteenIndices,
+          )
 
-      pub known-position : (j : ℕ) → j ≤ length (s .order) → positionAt (read (tableOf g table) s) j ≡ position (p .grid) (pointIn p s j)
+      pub known-position : (j : ℕ) → j ≤ length (s .order)
+          → positionAt (read (tableOf g table) s) j ≡ position (p .grid) (pointIn p s j)
       unfolding read withMark
       known-position j l =
           let y = pointIn p s (s .active) in
@@ -187,24 +210,37 @@ module _ (g : GridStruct) (start table : List ℕ) (ok : Accepted (problemIn g s
 
     same-T : r .T ≡ s .T
     unfolding read withMark
-    same-T = ⊎-elim (λ (l : s .rule < 6). rw (lt-ltb (s .rule) 6 l)) (λ (l : 6 ≤ s .rule). rw (le-ltb (s .rule) 6 l)) (before-or-not (s .rule) 6)
+    same-T = ⊎-elim
+        (λ (l : s .rule < 6). rw (lt-ltb (s .rule) 6 l))
+        (λ (l : 6 ≤ s .rule). rw (le-ltb (s .rule) 6 l))
+        (before-or-not (s .rule) 6)
 
     same-U : r .U ≡ s .U
     unfolding read withMark
-    same-U = ⊎-elim (λ (l : s .rule < 6). rw (lt-ltb (s .rule) 6 l)) (λ (l : 6 ≤ s .rule). rw (le-ltb (s .rule) 6 l)) (before-or-not (s .rule) 6)
+    same-U = ⊎-elim
+        (λ (l : s .rule < 6). rw (lt-ltb (s .rule) 6 l))
+        (λ (l : 6 ≤ s .rule). rw (le-ltb (s .rule) 6 l))
+        (before-or-not (s .rule) 6)
 
     same-active : r .active ≡ s .active
     unfolding read withMark
-    same-active = ⊎-elim (λ (l : s .rule < 6). rw (lt-ltb (s .rule) 6 l)) (λ (l : 6 ≤ s .rule). rw (le-ltb (s .rule) 6 l)) (before-or-not (s .rule) 6)
+    same-active = ⊎-elim
+        (λ (l : s .rule < 6). rw (lt-ltb (s .rule) 6 l))
+        (λ (l : 6 ≤ s .rule). rw (le-ltb (s .rule) 6 l))
+        (before-or-not (s .rule) 6)
 
     same-order : r .order ≡ s .order
     unfolding read withMark
-    same-order = ⊎-elim (λ (l : s .rule < 6). rw (lt-ltb (s .rule) 6 l)) (λ (l : 6 ≤ s .rule). rw (le-ltb (s .rule) 6 l)) (before-or-not (s .rule) 6)
+    same-order = ⊎-elim
+        (λ (l : s .rule < 6). rw (lt-ltb (s .rule) 6 l))
+        (λ (l : 6 ≤ s .rule). rw (le-ltb (s .rule) 6 l))
+        (before-or-not (s .rule) 6)
 
     same-long : length (r .marks) ≡ length (s .marks)
     unfolding read withMark
-    same-long =
-        ⊎-elim (λ (l : s .rule < 6). rw (lt-ltb (s .rule) 6 l) (length-set (s .marks) (s .active) _)) (λ (l : 6 ≤ s .rule). rw (le-ltb (s .rule) 6 l))
+    same-long = ⊎-elim
+        (λ (l : s .rule < 6). rw (lt-ltb (s .rule) 6 l) (length-set (s .marks) (s .active) _))
+        (λ (l : 6 ≤ s .rule). rw (le-ltb (s .rule) 6 l))
         (before-or-not (s .rule) 6)
 
   -- so the position of the point that has come in fits 16 bits
@@ -231,8 +267,8 @@ module _ (g : GridStruct) (start table : List ℕ) (ok : Accepted (problemIn g s
   first-trail x = sym (append-nil (startRecord p))
 
   -- the record that is made at a place is the trail's
-  module _ (s : State) (k : ℕ) (here : OnPath p s k) (known : IsKnown (tableOf g table) s) (before : Before) (at : ℕ) (F : SoFar g start table before k at)
-      (left : (h : ℕ) → suc h ≡ k → HasLeft g start table before h) where
+  module _ (s : State) (k : ℕ) (here : OnPath p s k) (known : IsKnown (tableOf g table) s) (before : Before) (at : ℕ)
+      (F : SoFar g start table before k at) (left : (h : ℕ) → suc h ≡ k → HasLeft g start table before h) where
     abbrev come : ℕ
     come = positionAt (read (tableOf g table) s) (s .active)
 
@@ -243,10 +279,12 @@ module _ (g : GridStruct) (start table : List ℕ) (ok : Accepted (problemIn g s
     begins-trail : k ≡ 0 → firstRecord come ≡ startRecord p
     unfolding startRecord
     begins-trail e =
-        let m : isIn samePoint (pointIn p s (s .active)) (p .start ∷ []) ≡ true =
-        subst (λ (x : Simplex). isIn samePoint (pointIn p s (s .active)) x ≡ true) (ap (placeAt visited) e ∙ demand3-holds ok .follows .begins)
+        let m : isIn samePoint (pointIn p s (s .active)) (p .start ∷ []) ≡ true = subst
+        (λ (x : Simplex). isIn samePoint (pointIn p s (s .active)) x ≡ true)
+        (ap (placeAt visited) e ∙ demand3-holds ok .follows .begins)
         (point-in s k here (s .active) (active-low s k here)) in
-        let q : pointIn p s (s .active) ≡ p .start = ⊎-elim (λ z. z) (λ z. absurd-bool (sym z)) (in-cases onPoints (pointIn p s (s .active)) (p .start) [] m) in
+        let q : pointIn p s (s .active) ≡ p .start =
+        ⊎-elim (λ z. z) (λ z. absurd-bool (sym z)) (in-cases onPoints (pointIn p s (s .active)) (p .start) [] m) in
         rw (come-is, q)
 
     -- behind it
@@ -258,7 +296,8 @@ module _ (g : GridStruct) (start table : List ℕ) (ok : Accepted (problemIn g s
       b = placeAt visited k
 
       -- the other points were at the place before
-      was-there : (j : ℕ) → j ≤ length (s .order) → (s .rule < 6 → j ≡ s .active → ⊥) → isIn samePoint (pointIn p s j) a ≡ true
+      was-there : (j : ℕ) → j ≤ length (s .order) → (s .rule < 6 → j ≡ s .active → ⊥)
+          → isIn samePoint (pointIn p s j) a ≡ true
       was-there j l n =
           let o = at-others (filled-full ok) (here .0) j l n in
           let z : o .0 ≡ h = omega (arith, o .1, e) in
@@ -270,8 +309,14 @@ module _ (g : GridStruct) (start table : List ℕ) (ok : Accepted (problemIn g s
           let w = mapped-one (position (p .grid)) (outside samePoint a b) x q in
           let v = outside-in onPoints (w .0) b a (w .2) in
           let j = in-point s k here (w .0) (v .0) in
-          ⊎-elim (λ (c : j .0 ≡ s .active). come-is ∙ ap (λ (i : ℕ). position (p .grid) (pointIn p s i)) (sym c) ∙ ap (position (p .grid)) (sym (j .2)) ∙ w .3)
-          (λ n. absurd-bool (sym (was-there (j .0) (j .1) (λ r. n)) ∙ ap (λ (y : Point). isIn samePoint y a) (sym (j .2)) ∙ v .1)) (same-or (j .0) (s .active))
+          ⊎-elim
+          (λ (c : j .0 ≡ s .active). come-is
+          ∙ ap (λ (i : ℕ). position (p .grid) (pointIn p s i)) (sym c)
+          ∙ ap (position (p .grid)) (sym (j .2))
+          ∙ w .3)
+          (λ n. absurd-bool
+          (sym (was-there (j .0) (j .1) (λ r. n)) ∙ ap (λ (y : Point). isIn samePoint y a) (sym (j .2)) ∙ v .1))
+          (same-or (j .0) (s .active))
 
       goes-out : (x : ℕ) → change p a b .pointsOut ≡ x ∷ [] → before .gone ≡ x
       unfolding change
@@ -291,39 +336,54 @@ module _ (g : GridStruct) (start table : List ℕ) (ok : Accepted (problemIn g s
     made-first : at ≡ 0 → recordHere (read (tableOf g table) s) before at ≡ firstRecord come
     made-first e = rw (eq-eqb at 0 e, same-active s)
 
-    made-later : (at ≡ 0 → ⊥) → recordHere (read (tableOf g table) s) before at ≡ recordFrom (before .t) (before .u) (s .T) (s .U) come (before .gone)
+    made-later : (at ≡ 0 → ⊥)
+        → recordHere (read (tableOf g table) s) before at
+        ≡ recordFrom (before .t) (before .u) (s .T) (s .U) come (before .gone)
     made-later n = rw (ne-eqb at 0 n, same-T s, same-U s, same-active s)
 
-    pub here-trail : trailOf p (take k visited) ++ recordHere (read (tableOf g table) s) before at ≡ trailOf p (take (suc k) visited)
+    pub here-trail : trailOf p (take k visited) ++ recordHere (read (tableOf g table) s) before at
+        ≡ trailOf p (take (suc k) visited)
     here-trail = go k refl
       where
-        go : (n : ℕ) → k ≡ n → trailOf p (take k visited) ++ recordHere (read (tableOf g table) s) before at ≡ trailOf p (take (suc k) visited)
+        go : (n : ℕ) → k ≡ n
+            → trailOf p (take k visited) ++ recordHere (read (tableOf g table) s) before at
+            ≡ trailOf p (take (suc k) visited)
         go zero e =
             let none : trailOf p (take k visited) ≡ [] = ap (λ (n : ℕ). trailOf p (take n visited)) e ∙ no-trail in
             let z : at ≡ 0 = F .long ∙ ap length none in
-            let one : take (suc k) visited ≡ placeAt visited k ∷ [] = one-place ∙ ap (λ (n : ℕ). take n visited ++ (placeAt visited k ∷ [])) e in
-            ap (λ (l : List ℕ). l ++ recordHere (read (tableOf g table) s) before at) none ∙ made-first z ∙ begins-trail e ∙ first-trail (placeAt visited k)
+            let one : take (suc k) visited ≡ placeAt visited k ∷ [] =
+            one-place ∙ ap (λ (n : ℕ). take n visited ++ (placeAt visited k ∷ [])) e in
+            ap (λ (l : List ℕ). l ++ recordHere (read (tableOf g table) s) before at) none
+            ∙ made-first z
+            ∙ begins-trail e
+            ∙ first-trail (placeAt visited k)
             ∙ ap (trailOf p) (sym one)
         go (suc h) e =
             let long : length (take k visited) ≡ k = length-take-le k visited (omega (arith, here .1)) in
             let n : at ≡ 0 → ⊥ = λ z. omega (arith, some-bytes (take k visited) (omega (arith, long, e)), F .long) in
             let last : lastPlace (take k visited) ≡ placeAt visited h =
             ap (λ (n : ℕ). placeAt (take k visited) (pred n)) (long ∙ e) ∙ getD-take k visited h [] (omega arith) in
-            ap (λ (l : List ℕ). trailOf p (take k visited) ++ l)
+            ap
+            (λ (l : List ℕ). trailOf p (take k visited) ++ l)
             (made-later n ∙ later-record h (sym e) ∙ ap (λ (x : Simplex). recordOf p x (placeAt visited k)) (sym last))
-            ∙ sym (one-more p (take k visited) (placeAt visited k) (omega (arith, long, e))) ∙ ap (trailOf p) (sym one-place)
+            ∙ sym (one-more p (take k visited) (placeAt visited k) (omega (arith, long, e)))
+            ∙ ap (trailOf p) (sym one-place)
 
   -- the point that leaves
-  module _ (s : State) (k : ℕ) (here : OnPath p s k) (known : IsKnown (tableOf g table) s) (ready : Ready (read (tableOf g table) s)) where
+  module _ (s : State) (k : ℕ) (here : OnPath p s k) (known : IsKnown (tableOf g table) s)
+      (ready : Ready (read (tableOf g table) s)) where
     abbrev full-marks : State
     full-marks = read (tableOf g table) s
 
     -- it leaves, or the label joins T
-    way-on : ((i : ℕ) × Leaving full-marks i) ⊎ ((full-marks .rule < 6) × (bit (full-marks .T) (labelIn full-marks - 1) ≡ false))
-    way-on =
-        ⊎-elim
-        (λ (l : full-marks .rule < 6). ⊎-elim (λ e. inl (found (labelIn full-marks) (full-marks .active) (map markLabel (full-marks .marks)), inr (l, e, refl)))
-        (λ e. inr (l, e)) (true-or-false (bit (full-marks .T) (labelIn full-marks - 1))))
+    way-on : ((i : ℕ) × Leaving full-marks i)
+        ⊎ ((full-marks .rule < 6) × (bit (full-marks .T) (labelIn full-marks - 1) ≡ false))
+    way-on = ⊎-elim
+        (λ (l : full-marks .rule < 6). ⊎-elim
+        (λ e.
+        inl (found (labelIn full-marks) (full-marks .active) (map markLabel (full-marks .marks)), inr (l, e, refl)))
+        (λ e. inr (l, e))
+        (true-or-false (bit (full-marks .T) (labelIn full-marks - 1))))
         (λ (l : 6 ≤ full-marks .rule). inl (full-marks .active, inl (l, refl)))
         (before-or-not (full-marks .rule) 6)
 
@@ -331,43 +391,63 @@ module _ (g : GridStruct) (start table : List ℕ) (ok : Accepted (problemIn g s
     leaving-inside i L = rw (← same-order s) (leaving-ready full-marks i ready L .low)
 
     gone-low : goneOf full-marks < 65536
-    gone-low =
-        ⊎-elim
-        (λ w. let l = leaving-inside (w .0) (w .1) in
-        omega (arith, gone-leaving full-marks (w .0) (w .1), known-position s k here known (w .0) l, position-low s k here (w .0) l))
-        (λ w. omega (arith, gone-none full-marks (w .0) (w .1))) way-on
+    gone-low = ⊎-elim
+        (λ w.
+        let l = leaving-inside (w .0) (w .1) in
+        omega (
+          arith,
+          gone-leaving full-marks (w .0) (w .1),
+          known-position s k here known (w .0) l,
+          position-low s k here (w .0) l,
+        ))
+        (λ w. omega (arith, gone-none full-marks (w .0) (w .1)))
+        way-on
 
     some-step : (i : ℕ) → Leaving full-marks i → 1 ≤ length (full-marks .order)
     some-step i L =
         let R = leaving-ready full-marks i ready L in
-        ⊎-elim (λ (l : 0 < length (full-marks .order)). l)
-        (λ (l : length (full-marks .order) ≤ 0). R .first (omega (arith, R .low)) .some) (before-or-not 0 (length (full-marks .order)))
+        ⊎-elim
+        (λ (l : 0 < length (full-marks .order)). l)
+        (λ (l : length (full-marks .order) ≤ 0). R .first (omega (arith, R .low)) .some)
+        (before-or-not 0 (length (full-marks .order)))
 
     module _ (e : State) (moved : step full-marks ≡ goes e) (next : OnPath p e (suc k)) where
       marked : length (full-marks .marks) ≡ suc (length (full-marks .order))
-      marked = same-long s ∙ at-long (filled-full ok) (here .0) ∙ ap (λ (l : List ℕ). suc (length l)) (sym (same-order s))
+      marked =
+          same-long s ∙ at-long (filled-full ok) (here .0) ∙ ap (λ (l : List ℕ). suc (length l)) (sym (same-order s))
 
       -- a point whose mark is kept stays
-      stays : (j : ℕ) → j ≤ length (s .order) → Kept full-marks e j → isIn samePoint (pointIn p s j) (placeAt visited (suc k)) ≡ true
+      stays : (j : ℕ) → j ≤ length (s .order) → Kept full-marks e j
+          → isIn samePoint (pointIn p s j) (placeAt visited (suc k)) ≡ true
       stays j l K =
           let f : position (p .grid) (pointIn p e (K .to)) ≡ position (p .grid) (pointIn p s j) =
-          sym (at-marks (filled-full ok) (next .0) (K .to) (K .low) (K .other)) ∙ ap markPosition (K .same) ∙ known-position s k here known j l in
-          let q : pointIn p e (K .to) ≡ pointIn p s j = same-point (on-grid e (suc k) next (K .to) (K .low)) (on-grid s k here j l) f in
+          sym (at-marks (filled-full ok) (next .0) (K .to) (K .low) (K .other))
+          ∙ ap markPosition (K .same)
+          ∙ known-position s k here known j l in
+          let q : pointIn p e (K .to) ≡ pointIn p s j =
+          same-point (on-grid e (suc k) next (K .to) (K .low)) (on-grid s k here j l) f in
           rw (← q) (point-in e (suc k) next (K .to) (K .low))
 
-      gone-is : (z : Point) → outside samePoint (placeAt visited (suc k)) (placeAt visited k) ≡ z ∷ [] → goneOf full-marks ≡ position (p .grid) z
+      gone-is : (z : Point) → outside samePoint (placeAt visited (suc k)) (placeAt visited k) ≡ z ∷ []
+          → goneOf full-marks ≡ position (p .grid) z
       gone-is z q =
           let w : (isIn samePoint z (placeAt visited k) ≡ true) × (isIn samePoint z (placeAt visited (suc k)) ≡ false) =
           outside-in onPoints z (placeAt visited k) (placeAt visited (suc k)) (rw q (in-here onPoints z [])) in
           let j = in-point s k here z (w .0) in
-          let stay : Kept full-marks e (j .0) → ⊥ = λ K.
-          absurd-bool (sym (stays (j .0) (j .1) K) ∙ ap (λ (y : Point). isIn samePoint y (placeAt visited (suc k))) (sym (j .2)) ∙ w .1) in
+          let stay : Kept full-marks e (j .0) → ⊥ = λ K. absurd-bool
+          (sym (stays (j .0) (j .1) K)
+          ∙ ap (λ (y : Point). isIn samePoint y (placeAt visited (suc k))) (sym (j .2))
+          ∙ w .1) in
           let low : j .0 ≤ length (full-marks .order) = rw (same-order s) (j .1) in
           ⊎-elim
           (λ v. ⊎-elim
-          (λ (c : j .0 ≡ v .0). sym (gone-leaving full-marks (v .0) (v .1)) ∙ ap (positionAt full-marks) (sym c)
-          ∙ known-position s k here known (j .0) (j .1) ∙ ap (position (p .grid)) (sym (j .2)))
-          (λ n. absurd (stay (kept-of (leave-kept full-marks (j .0) marked low (v .0) (some-step (v .0) (v .1)) (leaving-ready full-marks (v .0) ready (v .1) .low) n)
+          (λ (c : j .0 ≡ v .0). sym (gone-leaving full-marks (v .0) (v .1))
+          ∙ ap (positionAt full-marks) (sym c)
+          ∙ known-position s k here known (j .0) (j .1)
+          ∙ ap (position (p .grid)) (sym (j .2)))
+          (λ n. absurd (stay (kept-of
+          (leave-kept full-marks (j .0) marked low (v .0) (some-step (v .0) (v .1))
+          (leaving-ready full-marks (v .0) ready (v .1) .low) n)
           (leaving-leaves full-marks (v .0) (v .1) ∙ moved))))
           (same-or (j .0) (v .0)))
           (λ v. absurd (stay (kept-of (grow-kept full-marks (j .0) marked low (labelIn full-marks - 1))
@@ -375,25 +455,35 @@ module _ (g : GridStruct) (start table : List ℕ) (ok : Accepted (problemIn g s
           way-on
 
       -- which a walk that writes keeps
-      pub next-left : (gone : ℕ) → gone ≡ goneOf full-marks → Left g start table (record { t = s .T; u = s .U; gone = gone }) (suc k)
+      pub next-left : (gone : ℕ) → gone ≡ goneOf full-marks
+          → Left g start table (record { t = s .T; u = s .U; gone = gone }) (suc k)
       next-left gone z = record {
         left = λ h q. let i : k ≡ h = omega arith in rw (← i) (λ y o. z ∙ gone-is y o);
         low = omega (arith, z, gone-low);
       }
 
   -- the trail so far is no longer than the whole
-  records-part : (a : Simplex) (l : List Simplex) (n : ℕ) → length (recordsFrom p a (take n l)) ≤ length (recordsFrom p a l)
+  records-part : (a : Simplex) (l : List Simplex) (n : ℕ)
+      → length (recordsFrom p a (take n l)) ≤ length (recordsFrom p a l)
   records-part a l zero = omega arith
   records-part a [] (suc n) = omega arith
-  records-part a (b ∷ l) (suc n) =
-      omega (arith, length-append (recordOf p a b) (recordsFrom p b (take n l)), length-append (recordOf p a b) (recordsFrom p b l), records-part b l n)
+  records-part a (b ∷ l) (suc n) = omega (
+    arith,
+    length-append (recordOf p a b) (recordsFrom p b (take n l)),
+    length-append (recordOf p a b) (recordsFrom p b l),
+    records-part b l n,
+  )
 
   part-short : (l : List Simplex) (n : ℕ) → length (trailOf p (take n l)) ≤ length (trailOf p l)
   unfolding trailOf
   part-short l zero = omega arith
   part-short [] (suc n) = omega arith
-  part-short (a ∷ l) (suc n) =
-      omega (arith, length-append (startRecord p) (recordsFrom p a (take n l)), length-append (startRecord p) (recordsFrom p a l), records-part a l n)
+  part-short (a ∷ l) (suc n) = omega (
+    arith,
+    length-append (startRecord p) (recordsFrom p a (take n l)),
+    length-append (startRecord p) (recordsFrom p a l),
+    records-part a l n,
+  )
 
   pub whole-fits : length (trailOf p visited) < 2 ^ 64
   whole-fits = trail-fits ok visited (demand3-holds ok .follows)
@@ -410,27 +500,35 @@ module _ (g : GridStruct) (start table : List ℕ) (ok : Accepted (problemIn g s
   trail-none false old = refl
 
   -- one place of the walk
-  module _ (s : State) (k : ℕ) (here : OnPath p s k) (known : IsKnown (tableOf g table) s) (before : Before) (at : ℕ) (F : SoFar g start table before k at) where
+  module _ (s : State) (k : ℕ) (here : OnPath p s k) (known : IsKnown (tableOf g table) s) (before : Before) (at : ℕ)
+      (F : SoFar g start table before k at) where
     abbrev rec : List ℕ
     rec = recordHere (read (tableOf g table) s) before at
 
     -- what would be kept with the point that has left, whatever is kept of it: the record is as long
     abbrev rightly : Before
-    rightly = record { t = before .t; u = before .u; gone = firstOf (outside samePoint (placeAt visited k) (placeAt visited (pred k))) }
+    rightly = record {
+      t = before .t;
+      u = before .u;
+      gone = firstOf (outside samePoint (placeAt visited k) (placeAt visited (pred k)));
+    }
 
     rightly-far : SoFar g start table rightly k at
     rightly-far = record { long = F .long; behind = λ h e. record { T = F .behind h e .T; U = F .behind h e .U } }
 
     rightly-left : (h : ℕ) → suc h ≡ k → HasLeft g start table rightly h
     unfolding firstOf
-    rightly-left h e z q =
-        subst (λ (n : ℕ). firstOf (outside samePoint (placeAt visited n) (placeAt visited (pred n))) ≡ position (p .grid) z) e (ap firstOf q)
+    rightly-left h e z q = subst
+        (λ (n : ℕ). firstOf (outside samePoint (placeAt visited n) (placeAt visited (pred n))) ≡ position (p .grid) z)
+        e (ap firstOf q)
 
     as-long : length rec ≡ length (recordHere (read (tableOf g table) s) rightly at)
     as-long =
         let r = read (tableOf g table) s in
-        ⊎-elim (λ (e : at ≡ 0). rw (eq-eqb at 0 e))
-        (λ n. rw (ne-eqb at 0 n) (length-alike (before .t) (before .u) (r .T) (r .U) (positionAt r (r .active)) (before .gone) (rightly .gone)))
+        ⊎-elim
+        (λ (e : at ≡ 0). rw (eq-eqb at 0 e))
+        (λ n. rw (ne-eqb at 0 n)
+        (length-alike (before .t) (before .u) (r .T) (r .U) (positionAt r (r .active)) (before .gone) (rightly .gone)))
         (same-or at 0)
 
     pub next-long : at + length rec ≡ length (trailOf p (take (suc k) visited))
@@ -449,7 +547,8 @@ module _ (g : GridStruct) (start table : List ℕ) (ok : Accepted (problemIn g s
     -- the trail after it
     pub next-trail : (writes : Bool) (old now : List ℕ) → (writes ≡ true → length (trailOf p visited) ≤ length old)
         → (writes ≡ true → Left g start table before k) → now ≡ cond writes (front (trailOf p (take k visited)) old) old
-        → cond writes (paste now at rec (length rec)) now ≡ cond writes (front (trailOf p (take (suc k) visited)) old) old
+        → cond writes (paste now at rec (length rec)) now
+        ≡ cond writes (front (trailOf p (take (suc k) visited)) old) old
     next-trail true old now room gone e =
         ap (λ (l : List ℕ). paste l at rec (length rec)) e
         ∙ front-paste (trailOf p (take k visited)) old rec at (F .long) (omega (arith, next-short, room refl))
@@ -457,7 +556,8 @@ module _ (g : GridStruct) (start table : List ℕ) (ok : Accepted (problemIn g s
     next-trail false old now room gone e = e
 
     -- and what is kept of it
-    pub next-so-far : (gone bytes : ℕ) → bytes ≡ length rec → SoFar g start table (record { t = s .T; u = s .U; gone = gone }) (suc k) (at + bytes)
+    pub next-so-far : (gone bytes : ℕ) → bytes ≡ length rec
+        → SoFar g start table (record { t = s .T; u = s .U; gone = gone }) (suc k) (at + bytes)
     next-so-far gone bytes l = record {
       long = ap (λ (n : ℕ). at + n) l ∙ next-long;
       behind = λ h q. let i : k ≡ h = omega arith in rw (← i) (record { T = mask-T s k here; U = mask-U s k here });

@@ -1,5 +1,5 @@
--- From where a walk finished to the answer of a run that writes a trail. In order: the start in its array is the start; the second walk ends as the
--- first; question 17; the refusals. Assumes nothing.
+-- From where a walk finished to the answer of a run that writes a trail. In order: the start in its array is the start;
+-- the second walk ends as the first; question 17; the refusals. Assumes nothing.
 use mathlib.Core.Bool.{Bool, true, false, cond}
 use mathlib.Core.List.{List, [], _∷_}
 use mathlib.Core.Path.{_≡_, refl, sym, ap, _∙_, subst}
@@ -28,46 +28,59 @@ use Rattle.place.specs.Problem.{Problem}
 use Rattle.questions.specs.Questions.{firstNo}
 use Rattle.rules.specs.Step.{Round}
 use Rattle.trail_walk.specs.Walked.{Recorded}
-use Rattle.trail_writer.specs.Writing.{announces, answerBuffer, question17, trailAnswer, trailBuffer, trailCase, wholeTrail}
+use Rattle.trail_writer.specs.Writing.{announces, answerBuffer, question17, trailAnswer, trailBuffer, trailCase}
+use Rattle.trail_writer.specs.Writing.{wholeTrail}
 use Rattle.trail_writer.specs.declared.answers.Answer.{Answer}
 use Rattle.trail_writer.specs.declared.answers.Answer.the-variants.{End, Refused, Spent, Unknown}
 
-pub problem-from : (g : GridStruct) → IsMade g → (start table : List ℕ) → Accepted (problemFrom g start table) → (taken : List ℕ)
-    → taken ≡ front (take (g .indices) start) (replicate 16 0) → problemIn g taken table ≡ problemFrom g start table
-problem-from g made start table ok taken e = ap (λ (t : List ℕ). problemIn g t table) e ∙ same-problem g made start table ok
+pub problem-from : (g : GridStruct) → IsMade g → (start table : List ℕ) → Accepted (problemFrom g start table)
+    → (taken : List ℕ) → taken ≡ front (take (g .indices) start) (replicate 16 0)
+    → problemIn g taken table ≡ problemFrom g start table
+problem-from g made start table ok taken e =
+    ap (λ (t : List ℕ). problemIn g t table) e ∙ same-problem g made start table ok
 
 -- a walk whose path has an end has it too
-pub ends-again : (p : Problem) (budget : ℕ) (round : Round) (first order old new : List ℕ) (bytes : ℕ) (f : Finish) {n read : ℕ} {kind : KindOfEnd}
-    {block vertices : ℕ} {simplex : Simplex} → answer p budget ≡ ended n read kind block vertices simplex → Finished p budget round first order f
-    → Recorded p true old new bytes f → new ≡ front (wholeTrail p) old
+pub ends-again : (p : Problem) (budget : ℕ) (round : Round) (first order old new : List ℕ) (bytes : ℕ) (f : Finish)
+    {n read : ℕ} {kind : KindOfEnd} {block vertices : ℕ} {simplex : Simplex}
+    → answer p budget ≡ ended n read kind block vertices simplex → Finished p budget round first order f
+    → Recorded p true old new bytes f
+    → new ≡ front (wholeTrail p) old
 ends-again p budget round first order old new bytes (Ended kind places h s labels) e F R = R .1
-ends-again p budget round first order old new bytes (FinishUnknown places place) e F R = absurd (let z : _≡_ {A = ℕ} 0 1 = cc in omega arith)
-ends-again p budget round first order old new bytes FinishSpent e F R = absurd (let z : _≡_ {A = ℕ} 0 1 = cc in omega arith)
+ends-again p budget round first order old new bytes (FinishUnknown places place) e F R =
+    absurd (let z : _≡_ {A = ℕ} 0 1 = cc in omega arith)
+ends-again p budget round first order old new bytes FinishSpent e F R =
+    absurd (let z : _≡_ {A = ℕ} 0 1 = cc in omega arith)
 
 module _ (p : Problem) (room : ℕ) where
-  pub too-short : room < length (wholeTrail p) → (a : PathAnswer) {n read : ℕ} {kind : KindOfEnd} {block vertices : ℕ} {simplex : Simplex}
-      → a ≡ ended n read kind block vertices simplex → Refused 17 ≡ trailCase p room a
+  pub too-short : room < length (wholeTrail p)
+      → (a : PathAnswer) {n read : ℕ} {kind : KindOfEnd} {block vertices : ℕ} {simplex : Simplex}
+      → a ≡ ended n read kind block vertices simplex
+      → Refused 17 ≡ trailCase p room a
   unfolding firstNo
   too-short l a e = rw (e, lt-leb (length (wholeTrail p)) room l)
 
   pub has-room : length (wholeTrail p) ≤ room → (n read : ℕ) (kind : KindOfEnd) (block vertices : ℕ) (simplex : Simplex)
-      → End n read (kindOf kind) block vertices (length (wholeTrail p)) ≡ trailCase p room (ended n read kind block vertices simplex)
+      → End n read (kindOf kind) block vertices (length (wholeTrail p))
+      ≡ trailCase p room (ended n read kind block vertices simplex)
   unfolding firstNo
   has-room l n read kind block vertices simplex = rw (le-leb (length (wholeTrail p)) room l)
 
-  pub end-with-room : length (wholeTrail p) ≤ room → (a : PathAnswer) (n read : ℕ) (kind : Kind) (block vertices : ℕ) → RunEnd n read kind block vertices ≡ caseOf a
+  pub end-with-room : length (wholeTrail p) ≤ room → (a : PathAnswer) (n read : ℕ) (kind : Kind) (block vertices : ℕ)
+      → RunEnd n read kind block vertices ≡ caseOf a
       → End n read kind block vertices (length (wholeTrail p)) ≡ trailCase p room a
   end-with-room l (spent m) n read kind block vertices e = absurd (let z : _≡_ {A = ℕ} 0 1 = cc in omega arith)
-  end-with-room l (unknown m position) n read kind block vertices e = absurd (let z : _≡_ {A = ℕ} 0 1 = cc in omega arith)
+  end-with-room l (unknown m position) n read kind block vertices e =
+      absurd (let z : _≡_ {A = ℕ} 0 1 = cc in omega arith)
   end-with-room l (ended m r k b v s) n read kind block vertices e =
-      let z : End n read kind block vertices (length (wholeTrail p)) ≡ End m r (kindOf k) b v (length (wholeTrail p)) = cc in
+      let z : End n read kind block vertices (length (wholeTrail p)) ≡ End m r (kindOf k) b v (length (wholeTrail p)) =
+      cc in
       z ∙ has-room l m r k b v s
 
 -- what a run that writes a trail then answers, and what it leaves in its buffers
 module _ (p : Problem) (budget : ℕ) (old oldTrail : List ℕ) where
   pub refused : (n : ℕ) → (n ≡ 0 → ⊥) → refusal p (length old) ≡ n
-      → (Refused n ≡ trailAnswer p (length old) (length oldTrail) budget) × (old ≡ answerBuffer p (length oldTrail) budget old)
-      × (oldTrail ≡ trailBuffer p (length old) budget oldTrail)
+      → (Refused n ≡ trailAnswer p (length old) (length oldTrail) budget)
+      × (old ≡ answerBuffer p (length oldTrail) budget old) × (oldTrail ≡ trailBuffer p (length old) budget oldTrail)
   unfolding trailAnswer answerBuffer trailBuffer
   refused n z e =
       let q : eqb (refusal p (length old)) 0 ≡ false = ne-eqb (refusal p (length old)) 0 (λ f. z (sym e ∙ f)) in
@@ -75,7 +88,9 @@ module _ (p : Problem) (budget : ℕ) (old oldTrail : List ℕ) where
 
   pub answered : refusal p (length old) ≡ 0
       → (trailCase p (length oldTrail) (answer p budget) ≡ trailAnswer p (length old) (length oldTrail) budget)
-      × (front (cond (announces (trailCase p (length oldTrail) (answer p budget))) (numbersOf (answer p budget)) []) old ≡ answerBuffer p (length oldTrail) budget old)
-      × (front (cond (announces (trailCase p (length oldTrail) (answer p budget))) (wholeTrail p) []) oldTrail ≡ trailBuffer p (length old) budget oldTrail)
+      × (front (cond (announces (trailCase p (length oldTrail) (answer p budget))) (numbersOf (answer p budget)) []) old
+      ≡ answerBuffer p (length oldTrail) budget old)
+      × (front (cond (announces (trailCase p (length oldTrail) (answer p budget))) (wholeTrail p) []) oldTrail
+      ≡ trailBuffer p (length old) budget oldTrail)
   unfolding trailAnswer answerBuffer trailBuffer
   answered e = (rw e, rw e, rw e)

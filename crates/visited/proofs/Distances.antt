@@ -19,7 +19,8 @@ use Rattle.combinatorics.proofs.Turns.{map-append, sum-append, sum-next, upFrom
 use Rattle.combinatorics.specs.Lists.{filter, sum, upFrom}
 use Rattle.grid.proofs.Accepted.{Accepted}
 use Rattle.grid.proofs.Round.{block-at, block-spans}
-use Rattle.grid.specs.Grid.{Grid, Point, at, blockOf, blocks, division, firstIndex, indicesOf, isGridPoint, numBlocks, numIndices, size}
+use Rattle.grid.specs.Grid.{Grid, Point, at, blockOf, blocks, division, firstIndex, indicesOf, isGridPoint, numBlocks}
+use Rattle.grid.specs.Grid.{numIndices, size}
 use Rattle.losses.proofs.Players.{divisions-few, product-append, product-own}
 use Rattle.losses.specs.Game.{product}
 use Rattle.positions.proofs.Positions.{adds-up}
@@ -58,7 +59,8 @@ module _ (ds : List ℕ) (j n : ℕ) where
   part-next =
       let z : 0 + n ≡ n = omega arith in
       rw (upFrom-next 0 n, filter-append, map-append, z)
-      (product-append (map (at ds) (filter (λ i. not (eqb i j)) (upFrom 0 n))) (map (at ds) (filter (λ i. not (eqb i j)) (n ∷ []))))
+      (product-append (map (at ds) (filter (λ i. not (eqb i j)) (upFrom 0 n)))
+      (map (at ds) (filter (λ i. not (eqb i j)) (n ∷ []))))
 
   pub part-other : (n ≡ j → ⊥) → partOthers ds j (n + 1) ≡ partOthers ds j n * at ds n
   part-other d = part-next ∙ rw (ne-eqb n j d) (ap (λ (x : ℕ). partOthers ds j n * x) (mul-one (at ds n)))
@@ -68,28 +70,35 @@ module _ (ds : List ℕ) (j n : ℕ) where
 
 module _ (g : Grid) (a : Accepted g) where
   one : (i : ℕ) → i < numBlocks g → 1 ≤ division g i
-  one i l = leb-true 1 (division g i) (at-all (λ d. leb 1 d) (g .divisions) i (a .divisionsOne) (omega (arith, a .sameNumber)))
+  one i l = leb-true 1 (division g i)
+      (at-all (λ d. leb 1 d) (g .divisions) i (a .divisionsOne) (omega (arith, a .sameNumber)))
 
   some : (j b n : ℕ) → b + n ≤ numBlocks g → 1 ≤ product (map (division g) (filter (λ i. not (eqb i j)) (upFrom b n)))
   some j b zero l = omega arith
-  some j b (suc n) l =
-      ⊎-elim (λ t. rw t (let m : 1 * 1 ≤ division g b * product (map (division g) (filter (λ i. not (eqb i j)) (upFrom (suc b) n))) =
-      mul-le-mul (one b (omega arith)) (some j (suc b) n (omega arith)) in omega arith))
-      (λ f. rw f (some j (suc b) n (omega arith))) (true-or-false (not (eqb b j)))
+  some j b (suc n) l = ⊎-elim
+      (λ t. rw t
+      (let m : 1 * 1 ≤ division g b * product (map (division g) (filter (λ i. not (eqb i j)) (upFrom (suc b) n))) =
+      mul-le-mul (one b (omega arith)) (some j (suc b) n (omega arith)) in
+      omega arith))
+      (λ f. rw f (some j (suc b) n (omega arith)))
+      (true-or-false (not (eqb b j)))
 
   others-split : (j n k : ℕ) → n + k ≡ numBlocks g
-      → otherDivisions g j ≡ partOthers (g .divisions) j n * product (map (division g) (filter (λ i. not (eqb i j)) (upFrom n k)))
+      → otherDivisions g j
+      ≡ partOthers (g .divisions) j n * product (map (division g) (filter (λ i. not (eqb i j)) (upFrom n k)))
   unfolding otherDivisions
   others-split j n k e =
       let z : 0 + n ≡ n = omega arith in
       rw (← e, upFrom-add 0 n k, filter-append, map-append, z)
-      (product-append (map (division g) (filter (λ i. not (eqb i j)) (upFrom 0 n))) (map (division g) (filter (λ i. not (eqb i j)) (upFrom n k))))
+      (product-append (map (division g) (filter (λ i. not (eqb i j)) (upFrom 0 n)))
+      (map (division g) (filter (λ i. not (eqb i j)) (upFrom n k))))
 
   pub part-most : (j n : ℕ) → n ≤ numBlocks g → partOthers (g .divisions) j n ≤ otherDivisions g j
   part-most j n l =
       let k : ℕ = numBlocks g - n in
       let rest : ℕ = product (map (division g) (filter (λ i. not (eqb i j)) (upFrom n k))) in
-      let m : partOthers (g .divisions) j n * 1 ≤ partOthers (g .divisions) j n * rest = mul-le-mul-left (partOthers (g .divisions) j n) (some j n k (omega arith)) in
+      let m : partOthers (g .divisions) j n * 1 ≤ partOthers (g .divisions) j n * rest =
+      mul-le-mul-left (partOthers (g .divisions) j n) (some j n k (omega arith)) in
       omega (arith, others-split j n k (omega arith))
 
   pub part-whole : (j : ℕ) → partOthers (g .divisions) j (numBlocks g) ≡ otherDivisions g j
@@ -109,7 +118,8 @@ module _ (g : Grid) (a : Accepted g) where
 
   pub others-few : (j : ℕ) → j < numBlocks g → otherDivisions g j ≤ 60000
   others-few j l =
-      let m : otherDivisions g j * 1 ≤ otherDivisions g j * division g j = mul-le-mul-left (otherDivisions g j) (one j l) in
+      let m : otherDivisions g j * 1 ≤ otherDivisions g j * division g j =
+      mul-le-mul-left (otherDivisions g j) (one j l) in
       omega (arith, whole-at j l, divisions-few g a)
 
   whole : (h : ℕ) → h < numIndices g → otherDivisions g (blockOf g h) * division g (blockOf g h) ≡ allDivisions g
@@ -117,53 +127,74 @@ module _ (g : Grid) (a : Accepted g) where
 
   module _ (w y : Point) (onW : isGridPoint g w ≡ true) (onY : isGridPoint g y ≡ true) where
     -- the indices of a block
-    weighed : (c b n : ℕ) → sum (map (λ h. apart (at y h) (at w h) * c) (upFrom b n)) ≤ (sum (map (at y) (upFrom b n)) + sum (map (at w) (upFrom b n))) * c
+    weighed : (c b n : ℕ)
+        → sum (map (λ h. apart (at y h) (at w h) * c) (upFrom b n))
+        ≤ (sum (map (at y) (upFrom b n)) + sum (map (at w) (upFrom b n))) * c
     weighed c b zero = omega arith
     weighed c b (suc n) =
         let ys : ℕ = sum (map (at y) (upFrom (suc b) n)) in
         let ws : ℕ = sum (map (at w) (upFrom (suc b) n)) in
-        let m : apart (at y b) (at w b) * c ≤ (at y b + at w b) * c = mul-le-mul-right c (apart-most (at y b) (at w b)) in
+        let m : apart (at y b) (at w b) * c ≤ (at y b + at w b) * c =
+        mul-le-mul-right c (apart-most (at y b) (at w b)) in
         let d : (at y b + ys + (at w b + ws)) * c ≡ (at y b + at w b) * c + (ys + ws) * c =
-        ap (λ (n : ℕ). n * c) (let z : at y b + ys + (at w b + ws) ≡ at y b + at w b + (ys + ws) = omega arith in z) ∙ add-mul (at y b + at w b) (ys + ws) c in
+        ap (λ (n : ℕ). n * c) (let z : at y b + ys + (at w b + ws) ≡ at y b + at w b + (ys + ws) = omega arith in z)
+        ∙ add-mul (at y b + at w b) (ys + ws) c in
         omega (arith, weighed c (suc b) n)
 
     block-most : (j : ℕ) → j < numBlocks g → sum (map (term g w y) (indicesOf g j)) ≤ 2 * allDivisions g
     block-most j l =
         let c : ℕ = otherDivisions g j in
         let d : ℕ = division g j in
-        let e : map (term g w y) (indicesOf g j) ≡ map (λ h. apart (at y h) (at w h) * c) (indicesOf g j) =
-        map-range (term g w y) (λ h. apart (at y h) (at w h) * c) (firstIndex g j) (size g j)
-        (λ k m. ap (λ (i : ℕ). apart (at y (firstIndex g j + k)) (at w (firstIndex g j + k)) * otherDivisions g i) (block-at (g .sizes) j k m)) in
+        let e : map (term g w y) (indicesOf g j) ≡ map (λ h. apart (at y h) (at w h) * c) (indicesOf g j) = map-range
+        (term g w y)
+        (λ h. apart (at y h) (at w h) * c)
+        (firstIndex g j) (size g j)
+        (λ k m. ap
+        (λ (i : ℕ). apart (at y (firstIndex g j + k)) (at w (firstIndex g j + k)) * otherDivisions g i)
+        (block-at (g .sizes) j k m)) in
         let f : (d + d) * c ≡ d * c + d * c = add-mul d d c in
-        rw e (omega (arith, rw (adds-up g y a onY j l, adds-up g w a onW j l) at (weighed c (firstIndex g j) (size g j)), mul-comm d c, whole-at j l))
+        rw e (omega (
+          arith,
+          rw (adds-up g y a onY j l, adds-up g w a onW j l) at (weighed c (firstIndex g j) (size g j)),
+          mul-comm d c,
+          whole-at j l,
+        ))
 
-    blocks-most : (j : ℕ) → j ≤ numBlocks g → sum (map (term g w y) (upFrom 0 (firstIndex g j))) ≤ j * (2 * allDivisions g)
+    blocks-most : (j : ℕ) → j ≤ numBlocks g
+        → sum (map (term g w y) (upFrom 0 (firstIndex g j))) ≤ j * (2 * allDivisions g)
     blocks-most zero l = omega arith
     blocks-most (suc j) l =
         let z : 0 + firstIndex g j ≡ firstIndex g j = omega arith in
         let e : firstIndex g (suc j) ≡ firstIndex g j + size g j = rw (← add-one j) (sum-next (g .sizes) j l) in
-        let m : suc j * (2 * allDivisions g) ≡ j * (2 * allDivisions g) + 2 * allDivisions g = suc-mul j (2 * allDivisions g) in
-        rw (e, upFrom-add 0 (firstIndex g j) (size g j), map-append, sum-append, z) (omega (arith, blocks-most j (omega arith), block-most j l))
+        let m : suc j * (2 * allDivisions g) ≡ j * (2 * allDivisions g) + 2 * allDivisions g =
+        suc-mul j (2 * allDivisions g) in
+        rw (e, upFrom-add 0 (firstIndex g j) (size g j), map-append, sum-append, z)
+        (omega (arith, blocks-most j (omega arith), block-most j l))
 
     most : distance g w y ≤ 2 * numBlocks g * allDivisions g
     most =
         let e : firstIndex g (numBlocks g) ≡ numIndices g = ap sum (take-all (numBlocks g) (g .sizes) (omega arith)) in
         let m : numBlocks g * (2 * allDivisions g) ≡ 2 * numBlocks g * allDivisions g =
-        sym (mul-assoc (numBlocks g) 2 (allDivisions g)) ∙ ap (λ (n : ℕ). n * allDivisions g) (mul-comm (numBlocks g) 2) in
+        sym (mul-assoc (numBlocks g) 2 (allDivisions g))
+        ∙ ap (λ (n : ℕ). n * allDivisions g) (mul-comm (numBlocks g) 2) in
         omega (arith, distance-is g w y, rw e at (blocks-most (numBlocks g) (omega arith)))
 
     -- at distance 0 all coordinates agree
     term-zero : (b n : ℕ) → sum (map (term g w y) (upFrom b n)) ≡ 0 → (k : ℕ) → k < n → term g w y (b + k) ≡ 0
     term-zero b zero e k l = absurd (omega arith)
     term-zero b (suc n) e zero l = let z : b + 0 ≡ b = omega arith in rw z (omega arith)
-    term-zero b (suc n) e (suc k) l = let z : b + suc k ≡ suc b + k = omega arith in rw z (term-zero (suc b) n (omega arith) k (omega arith))
+    term-zero b (suc n) e (suc k) l =
+        let z : b + suc k ≡ suc b + k = omega arith in
+        rw z (term-zero (suc b) n (omega arith) k (omega arith))
 
     same-at : distance g w y ≡ 0 → (h : ℕ) → h < numIndices g → at y h ≡ at w h
     same-at e h l =
         let c : ℕ = otherDivisions g (blockOf g h) in
         let z : 0 + h ≡ h = omega arith in
-        let t : apart (at y h) (at w h) * c ≡ 0 = rw z at (term-zero 0 (numIndices g) (sym (distance-is g w y) ∙ e) h l) in
-        let m : apart (at y h) (at w h) * 1 ≤ apart (at y h) (at w h) * c = mul-le-mul-left (apart (at y h) (at w h)) (others-positive (blockOf g h)) in
+        let t : apart (at y h) (at w h) * c ≡ 0 =
+        rw z at (term-zero 0 (numIndices g) (sym (distance-is g w y) ∙ e) h l) in
+        let m : apart (at y h) (at w h) * 1 ≤ apart (at y h) (at w h) * c =
+        mul-le-mul-left (apart (at y h) (at w h)) (others-positive (blockOf g h)) in
         omega arith
 
     long : (z : Point) → isGridPoint g z ≡ true → length z ≡ numIndices g
@@ -177,7 +208,8 @@ module _ (g : Grid) (a : Accepted g) where
   no-terms w b zero = refl
   no-terms w b (suc n) =
       let z : apart (at w b) (at w b) ≡ 0 = omega arith in
-      let t : apart (at w b) (at w b) * otherDivisions g (blockOf g b) ≡ 0 * otherDivisions g (blockOf g b) = ap (λ (x : ℕ). x * otherDivisions g (blockOf g b)) z in
+      let t : apart (at w b) (at w b) * otherDivisions g (blockOf g b) ≡ 0 * otherDivisions g (blockOf g b) =
+      ap (λ (x : ℕ). x * otherDivisions g (blockOf g b)) z in
       omega (arith, no-terms w (suc b) n)
 
   pub distances : Distances g

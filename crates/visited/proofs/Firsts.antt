@@ -4,7 +4,8 @@ use mathlib.Core.List.{List, [], _∷_, _++_, append-nil}
 use mathlib.Core.Logic.{_⊎_, ⊎-elim}
 use mathlib.Core.Path.{_≡_, refl, sym, ap, _∙_}
 use Rattle.combinatorics.proofs.Basics.{absurd-bool, both, false-of, not-is, true-or-false}
-use Rattle.combinatorics.proofs.Lists.{Equality, distinct-filter, filter-all, filter-append, filter-cong, filter-in, in-cases, in-filter, in-here, in-later}
+use Rattle.combinatorics.proofs.Lists.{Equality, distinct-filter, filter-all, filter-append, filter-cong, filter-in}
+use Rattle.combinatorics.proofs.Lists.{in-cases, in-filter, in-here, in-later}
 use Rattle.combinatorics.specs.Lists.{distinct, filter, isIn}
 use Rattle.trail.proofs.Outside.{outside-none, outside-one}
 use Rattle.trail.specs.Change.{outside}
@@ -12,10 +13,13 @@ use Rattle.visited.specs.Visited.{firsts}
 
 filter-filter : {A : Type 0} (q r : A → Bool) (xs : List A) → filter q (filter r xs) ≡ filter (λ x. r x && q x) xs
 filter-filter q r [] = refl
-filter-filter q r (x ∷ xs) =
-    ⊎-elim
-    (λ t. rw t (⊎-elim (λ u. rw u (ap (λ l. x ∷ l) (filter-filter q r xs))) (λ u. rw u (filter-filter q r xs)) (true-or-false (q x))))
-    (λ f. rw f (filter-filter q r xs)) (true-or-false (r x))
+filter-filter q r (x ∷ xs) = ⊎-elim
+    (λ t. rw t (⊎-elim
+    (λ u. rw u (ap (λ l. x ∷ l) (filter-filter q r xs)))
+    (λ u. rw u (filter-filter q r xs))
+    (true-or-false (q x))))
+    (λ f. rw f (filter-filter q r xs))
+    (true-or-false (r x))
 
 neither : (a b : Bool) → (not a && not b) ≡ not (b || a)
 neither true true = refl
@@ -63,19 +67,31 @@ module _ {A : Type 0} (E : Equality A) where
       (filter-filter (λ z. not (eq x z)) (λ z. not (isIn eq z xs)) (firsts eq ys)
       ∙ filter-cong E (firsts eq ys) (λ z m. rw (turned x z) (neither (isIn eq z xs) (eq z x)))))
 
-  pub none-more : (xs ys : List A) → ((z : A) → isIn eq z ys ≡ true → isIn eq z xs ≡ true) → firsts eq (xs ++ ys) ≡ firsts eq xs
+  pub none-more : (xs ys : List A) → ((z : A) → isIn eq z ys ≡ true → isIn eq z xs ≡ true)
+      → firsts eq (xs ++ ys) ≡ firsts eq xs
   none-more xs ys h =
       firsts-append xs ys
       ∙ ap (λ (l : List A). firsts eq xs ++ l) (outside-none E (firsts eq ys) xs (λ z m. h z (firsts-in z ys m)))
       ∙ append-nil (firsts eq xs)
 
   -- at most one that the first list lacks
-  pub one-more : (xs ys : List A) (y : A) → isIn eq y ys ≡ true → ((z : A) → isIn eq z ys ≡ true → (z ≡ y → ⊥) → isIn eq z xs ≡ true)
+  pub one-more : (xs ys : List A) (y : A) → isIn eq y ys ≡ true
+      → ((z : A) → isIn eq z ys ≡ true → (z ≡ y → ⊥) → isIn eq z xs ≡ true)
       → firsts eq (xs ++ ys) ≡ firsts eq xs ++ cond (isIn eq y xs) [] (y ∷ [])
-  one-more xs ys y m h =
-      ⊎-elim
-      (λ t. rw t (none-more xs ys (λ z n. ⊎-elim (λ q. rw (sound z y q) t) (λ q. h z n (λ e. absurd-bool (sym (rw e (self y)) ∙ q))) (true-or-false (eq z y))) ∙ sym (append-nil (firsts eq xs))))
-      (λ f. rw f (firsts-append xs ys ∙ ap (λ (l : List A). firsts eq xs ++ l)
+  one-more xs ys y m h = ⊎-elim
+      (λ t. rw t
+      (none-more xs ys
+      (λ z n. ⊎-elim
+      (λ q. rw (sound z y q) t)
+      (λ q. h z n (λ e. absurd-bool (sym (rw e (self y)) ∙ q)))
+      (true-or-false (eq z y)))
+      ∙ sym (append-nil (firsts eq xs))))
+      (λ f. rw f
+      (firsts-append xs ys
+      ∙ ap (λ (l : List A). firsts eq xs ++ l)
       (outside-one E (firsts eq ys) xs (firsts-distinct ys) y (in-firsts y ys m) f
-      (λ z n o. ⊎-elim (λ q. sound z y q) (λ q. absurd-bool (sym (h z (firsts-in z ys n) (λ e. absurd-bool (sym (rw e (self y)) ∙ q))) ∙ o)) (true-or-false (eq z y))))))
+      (λ z n o. ⊎-elim
+      (λ q. sound z y q)
+      (λ q. absurd-bool (sym (h z (firsts-in z ys n) (λ e. absurd-bool (sym (rw e (self y)) ∙ q))) ∙ o))
+      (true-or-false (eq z y))))))
       (true-or-false (isIn eq y xs))

@@ -10,7 +10,9 @@ use lib.ListN.{length, getD, take}
 use lib.Seq.{take-suc, take-all}
 use native.Mathlib.Omega.{arith}
 use Rattle.combinatorics.proofs.Basics.{absurd-bool, and-both, and-left, and-right, false-of, or-cases, true-or-false}
-use Rattle.combinatorics.proofs.Lists.{Equality, all-in, append-in, distinct-filter, distinct-out, filter-in, in-append-left, in-append-right, in-cases, in-here, in-later, only-member, pigeon}
+use Rattle.combinatorics.proofs.Lists.{Equality, all-in, append-in, distinct-filter, distinct-out, filter-in}
+use Rattle.combinatorics.proofs.Lists.{in-append-left, in-append-right, in-cases, in-here, in-later, only-member}
+use Rattle.combinatorics.proofs.Lists.{pigeon}
 use Rattle.combinatorics.proofs.Rising.{rising-below, rising-tail}
 use Rattle.combinatorics.specs.Lists.{all, distinct, filter, isIn, rising, same}
 use Rattle.grid.proofs.Points.{in-points, onPoints}
@@ -32,45 +34,57 @@ use Rattle.visited.proofs.Firsts.{firsts-append, firsts-distinct, first
 module _ {A : Type 0} (E : Equality A) where
   open Equality E using (eq)
 
-  alike-one : (xs : List A) → distinct eq xs ≡ true → ((x y : A) → isIn eq x xs ≡ true → isIn eq y xs ≡ true → x ≡ y) → length xs ≤ 1
+  alike-one : (xs : List A) → distinct eq xs ≡ true → ((x y : A) → isIn eq x xs ≡ true → isIn eq y xs ≡ true → x ≡ y)
+      → length xs ≤ 1
   alike-one [] d h = omega arith
   alike-one (x ∷ []) d h = omega arith
   alike-one (x ∷ y ∷ ys) d h =
       let e : y ≡ x = h y x (in-later E y x (y ∷ ys) (in-here E y ys)) (in-here E x (y ∷ ys)) in
-      absurd-bool (sym (in-here E y ys) ∙ subst (λ (z : A). isIn eq z (y ∷ ys) ≡ false) (sym e) (distinct-out eq x (y ∷ ys) d))
+      absurd-bool
+      (sym (in-here E y ys) ∙ subst (λ (z : A). isIn eq z (y ∷ ys) ≡ false) (sym e) (distinct-out eq x (y ∷ ys) d))
 
 -- lists that rise
 module _ {A : Type 0} (E : Equality A) (f : A → ℕ) where
   open Equality E using (eq)
 
-  rising-front : (x : A) (xs : List A) → ((z : A) → isIn eq z xs ≡ true → f x < f z) → rising (map f xs) ≡ true → rising (map f (x ∷ xs)) ≡ true
+  rising-front : (x : A) (xs : List A) → ((z : A) → isIn eq z xs ≡ true → f x < f z) → rising (map f xs) ≡ true
+      → rising (map f (x ∷ xs)) ≡ true
   rising-front x [] h r = refl
   rising-front x (y ∷ ys) h r = and-both _ _ (lt-ltb (f x) (f y) (h y (in-here E y ys))) r
 
-  rising-behind : (xs : List A) (y : A) → rising (map f xs) ≡ true → ((z : A) → isIn eq z xs ≡ true → f z < f y) → rising (map f (xs ++ (y ∷ []))) ≡ true
+  rising-behind : (xs : List A) (y : A) → rising (map f xs) ≡ true → ((z : A) → isIn eq z xs ≡ true → f z < f y)
+      → rising (map f (xs ++ (y ∷ []))) ≡ true
   rising-behind [] y r h = refl
-  rising-behind (x ∷ xs) y r h =
-      rising-front x (xs ++ (y ∷ []))
-      (λ z m. ⊎-elim (λ n. rising-below E f x xs r z n)
-      (λ n. ⊎-elim (λ e. rw e (h x (in-here E x xs))) (λ k. absurd-bool (sym k)) (in-cases E z y [] n)) (append-in E z xs (y ∷ []) m))
+  rising-behind (x ∷ xs) y r h = rising-front x (xs ++ (y ∷ []))
+      (λ z m. ⊎-elim
+      (λ n. rising-below E f x xs r z n)
+      (λ n. ⊎-elim (λ e. rw e (h x (in-here E x xs))) (λ k. absurd-bool (sym k)) (in-cases E z y [] n))
+      (append-in E z xs (y ∷ []) m))
       (rising-behind xs y (rising-tail E f x xs r) (λ z m. h z (in-later E z x xs m)))
 
   pub rising-filter : (q : A → Bool) (xs : List A) → rising (map f xs) ≡ true → rising (map f (filter q xs)) ≡ true
   rising-filter q [] r = refl
   rising-filter q (x ∷ xs) r =
       let i = rising-filter q xs (rising-tail E f x xs r) in
-      ⊎-elim (λ t. rw t (rising-front x (filter q xs) (λ z m. rising-below E f x xs r z (filter-in E q z xs m .0)) i)) (λ n. rw n i) (true-or-false (q x))
+      ⊎-elim
+      (λ t. rw t (rising-front x (filter q xs) (λ z m. rising-below E f x xs r z (filter-in E q z xs m .0)) i))
+      (λ n. rw n i)
+      (true-or-false (q x))
 
 -- the points of places
 concat-append : (a b : List Simplex) → pointsOfPlaces (a ++ b) ≡ pointsOfPlaces a ++ pointsOfPlaces b
 concat-append [] b = refl
-concat-append (s ∷ a) b = ap (λ (l : List Point). s ++ l) (concat-append a b) ∙ sym (append-assoc s (pointsOfPlaces a) (pointsOfPlaces b))
+concat-append (s ∷ a) b =
+    ap (λ (l : List Point). s ++ l) (concat-append a b) ∙ sym (append-assoc s (pointsOfPlaces a) (pointsOfPlaces b))
 
-pub next-place : (s : List Simplex) (k : ℕ) → k < length s → pointsOfPlaces (take (suc k) s) ≡ pointsOfPlaces (take k s) ++ placeAt s k
-next-place s k l =
-    rw (take-suc s k [] l) (concat-append (take k s) (placeAt s k ∷ []) ∙ ap (λ (x : List Point). pointsOfPlaces (take k s) ++ x) (append-nil (placeAt s k)))
+pub next-place : (s : List Simplex) (k : ℕ) → k < length s
+    → pointsOfPlaces (take (suc k) s) ≡ pointsOfPlaces (take k s) ++ placeAt s k
+next-place s k l = rw (take-suc s k [] l)
+    (concat-append (take k s) (placeAt s k ∷ [])
+    ∙ ap (λ (x : List Point). pointsOfPlaces (take k s) ++ x) (append-nil (placeAt s k)))
 
-pub in-place : (y : Point) (s : List Simplex) (k : ℕ) → k < length s → isIn samePoint y (placeAt s k) ≡ true → isIn samePoint y (pointsOfPlaces s) ≡ true
+pub in-place : (y : Point) (s : List Simplex) (k : ℕ) → k < length s → isIn samePoint y (placeAt s k) ≡ true
+    → isIn samePoint y (pointsOfPlaces s) ≡ true
 in-place y [] k l m = absurd (omega arith)
 in-place y (x ∷ s) zero l m = in-append-left onPoints y x (pointsOfPlaces s) m
 in-place y (x ∷ s) (suc k) l m = in-append-right onPoints y x (pointsOfPlaces s) (in-place y s k (omega arith) m)
@@ -78,8 +92,10 @@ in-place y (x ∷ s) (suc k) l m = in-append-right onPoints y x (pointsOfPlaces 
 pub place-in : (y : Point) (s : List Simplex) → isIn samePoint y (pointsOfPlaces s) ≡ true
     → (k : ℕ) × (k < length s) × (isIn samePoint y (placeAt s k) ≡ true)
 place-in y [] m = absurd-bool (sym m)
-place-in y (x ∷ s) m =
-    ⊎-elim (λ n. (0, omega arith, n)) (λ n. let w = place-in y s n in (suc (w .0), omega (arith, w .1), w .2)) (append-in onPoints y x (pointsOfPlaces s) m)
+place-in y (x ∷ s) m = ⊎-elim
+    (λ n. (0, omega arith, n))
+    (λ n. let w = place-in y s n in (suc (w .0), omega (arith, w .1), w .2))
+    (append-in onPoints y x (pointsOfPlaces s) m)
 
 -- of the first n places
 pub in-before : (y : Point) (s : List Simplex) (n k : ℕ) → k < n → k < length s → isIn samePoint y (placeAt s k) ≡ true
@@ -87,24 +103,32 @@ pub in-before : (y : Point) (s : List Simplex) (n k : ℕ) → k < n → k < len
 in-before y [] n k c l m = absurd (omega arith)
 in-before y (x ∷ s) zero k c l m = absurd (omega arith)
 in-before y (x ∷ s) (suc n) zero c l m = in-append-left onPoints y x (pointsOfPlaces (take n s)) m
-in-before y (x ∷ s) (suc n) (suc k) c l m = in-append-right onPoints y x (pointsOfPlaces (take n s)) (in-before y s n k (omega arith) (omega arith) m)
+in-before y (x ∷ s) (suc n) (suc k) c l m =
+    in-append-right onPoints y x (pointsOfPlaces (take n s)) (in-before y s n k (omega arith) (omega arith) m)
 
 -- the first place with a point
-first-below : (y : Point) (s : List Simplex) (n : ℕ) → isIn samePoint y (pointsOfPlaces (take n s)) ≡ true → firstWith s y < n
+first-below : (y : Point) (s : List Simplex) (n : ℕ) → isIn samePoint y (pointsOfPlaces (take n s)) ≡ true
+    → firstWith s y < n
 first-below y [] zero m = absurd-bool (sym m)
 first-below y [] (suc n) m = absurd-bool (sym m)
 first-below y (x ∷ s) zero m = absurd-bool (sym m)
-first-below y (x ∷ s) (suc n) m =
-    ⊎-elim (λ t. rw t (omega arith))
-    (λ f. ⊎-elim (λ t. absurd-bool (sym t ∙ f)) (λ t. rw f (omega (arith, first-below y s n t))) (append-in onPoints y x (pointsOfPlaces (take n s)) m))
+first-below y (x ∷ s) (suc n) m = ⊎-elim
+    (λ t. rw t (omega arith))
+    (λ f. ⊎-elim
+    (λ t. absurd-bool (sym t ∙ f))
+    (λ t. rw f (omega (arith, first-below y s n t)))
+    (append-in onPoints y x (pointsOfPlaces (take n s)) m))
     (true-or-false (isIn samePoint y x))
 
-first-from : (y : Point) (s : List Simplex) (n : ℕ) → n ≤ length s → isIn samePoint y (pointsOfPlaces (take n s)) ≡ false → n ≤ firstWith s y
+first-from : (y : Point) (s : List Simplex) (n : ℕ) → n ≤ length s
+    → isIn samePoint y (pointsOfPlaces (take n s)) ≡ false → n ≤ firstWith s y
 first-from y s zero l m = omega arith
 first-from y [] (suc n) l m = absurd (omega arith)
 first-from y (x ∷ s) (suc n) l m =
-    let f : isIn samePoint y x ≡ false = false-of _ (λ t. absurd-bool (sym (in-append-left onPoints y x (pointsOfPlaces (take n s)) t) ∙ m)) in
-    let g : isIn samePoint y (pointsOfPlaces (take n s)) ≡ false = false-of _ (λ t. absurd-bool (sym (in-append-right onPoints y x (pointsOfPlaces (take n s)) t) ∙ m)) in
+    let f : isIn samePoint y x ≡ false =
+    false-of _ (λ t. absurd-bool (sym (in-append-left onPoints y x (pointsOfPlaces (take n s)) t) ∙ m)) in
+    let g : isIn samePoint y (pointsOfPlaces (take n s)) ≡ false =
+    false-of _ (λ t. absurd-bool (sym (in-append-right onPoints y x (pointsOfPlaces (take n s)) t) ∙ m)) in
     rw f (omega (arith, first-from y s n (omega arith) g))
 
 -- places of which each has at most one point that the one before lacks
@@ -123,25 +147,30 @@ module _ (s : List Simplex) (O : OneByOne s) where
       let w = outside-in onPoints y (firsts samePoint (placeAt s n)) (pointsOfPlaces (take n s)) m in
       (firsts-in onPoints y (placeAt s n) (w .0), w .1)
 
-  same-new : (n : ℕ) → n < length s → (x y : Point) → isIn samePoint x (new n) ≡ true → isIn samePoint y (new n) ≡ true → x ≡ y
-  same-new zero l x y m n =
-      only-member onPoints x y (O .start ∷ []) (omega arith) (rw (O .begins) at (new-in 0 x m .0)) (rw (O .begins) at (new-in 0 y n .0))
-  same-new (suc k) l x y m n = only-member onPoints x y (outside samePoint (placeAt s k) (placeAt s (suc k))) (O .next k l) (both x m) (both y n)
+  same-new : (n : ℕ) → n < length s → (x y : Point) → isIn samePoint x (new n) ≡ true → isIn samePoint y (new n) ≡ true
+      → x ≡ y
+  same-new zero l x y m n = only-member onPoints x y (O .start ∷ []) (omega arith) (rw (O .begins) at (new-in 0 x m .0))
+      (rw (O .begins) at (new-in 0 y n .0))
+  same-new (suc k) l x y m n =
+      only-member onPoints x y (outside samePoint (placeAt s k) (placeAt s (suc k))) (O .next k l) (both x m) (both y n)
     where
-      both : (z : Point) → isIn samePoint z (new (suc k)) ≡ true → isIn samePoint z (outside samePoint (placeAt s k) (placeAt s (suc k))) ≡ true
+      both : (z : Point) → isIn samePoint z (new (suc k)) ≡ true
+          → isIn samePoint z (outside samePoint (placeAt s k) (placeAt s (suc k))) ≡ true
       both z j =
           let w = new-in (suc k) z j in
           in-outside onPoints z (placeAt s (suc k)) (placeAt s k) (w .0)
           (false-of _ (λ t. absurd-bool (sym (in-before z s (suc k) k (omega arith) (omega arith) t) ∙ w .1)))
 
   few-new : (n : ℕ) → n < length s → length (new n) ≤ 1
-  few-new n l =
-      alike-one onPoints (new n)
-      (distinct-filter onPoints (λ x. not (isIn samePoint x (pointsOfPlaces (take n s)))) (firsts samePoint (placeAt s n)) (firsts-distinct onPoints (placeAt s n)))
+  few-new n l = alike-one onPoints (new n)
+      (distinct-filter onPoints
+      (λ x. not (isIn samePoint x (pointsOfPlaces (take n s))))
+      (firsts samePoint (placeAt s n)) (firsts-distinct onPoints (placeAt s n)))
       (same-new n l)
 
   one-place-more : (n : ℕ) (add : List Point) → n < length s → new n ≡ add → length add ≤ 1
-      → rising (map (firstWith s) (verticesOf (take n s))) ≡ true → rising (map (firstWith s) (verticesOf (take n s) ++ add)) ≡ true
+      → rising (map (firstWith s) (verticesOf (take n s))) ≡ true
+      → rising (map (firstWith s) (verticesOf (take n s) ++ add)) ≡ true
   one-place-more n [] l e c r = rw (append-nil (verticesOf (take n s))) r
   one-place-more n (y ∷ z ∷ zs) l e c r = absurd (omega arith)
   one-place-more n (y ∷ []) l e c r =
@@ -187,7 +216,8 @@ module _ (p : Problem) (a b : Simplex) (pa : isPlace p a ≡ true) (pb : isPlace
       let e3 : Bool = same eqb (labelSet p a) (setT p b) in
       let f : (e1 && e2) ≡ true = and-left (e1 && e2) e3 e in
       let l : length b ≡ suc (length a) = eqb-true _ _ (and-left e1 e2 f) in
-      let n : outside samePoint b a ≡ [] = outside-none onPoints a b (all-in onPoints (λ y. isIn samePoint y b) a (and-right e1 e2 f)) in
+      let n : outside samePoint b a ≡ [] =
+      outside-none onPoints a b (all-in onPoints (λ y. isIn samePoint y b) a (and-right e1 e2 f)) in
       omega (arith, counts, ap length n)
 
   by-less : extended p b a ≡ true → length (outside samePoint a b) ≤ 1
@@ -196,8 +226,8 @@ module _ (p : Problem) (a b : Simplex) (pa : isPlace p a ≡ true) (pb : isPlace
       let e1 : Bool = eqb (length a) (suc (length b)) in
       let e2 : Bool = all (λ y. isIn samePoint y a) b in
       let e3 : Bool = same eqb (labelSet p b) (setT p a) in
-      let n : outside samePoint a b ≡ [] =
-      outside-none onPoints b a (all-in onPoints (λ y. isIn samePoint y a) b (and-right e1 e2 (and-left (e1 && e2) e3 e))) in
+      let n : outside samePoint a b ≡ [] = outside-none onPoints b a
+      (all-in onPoints (λ y. isIn samePoint y a) b (and-right e1 e2 (and-left (e1 && e2) e3 e))) in
       omega (arith, ap length n)
 
   one-in : linked p a b ≡ true → length (outside samePoint a b) ≤ 1
@@ -217,14 +247,16 @@ module _ {p : Problem} (ok : Accepted p) where
   one-by-one = record {
     start = p .start;
     begins = follows .begins;
-    next = λ k l. one-in p (placeAt walked k) (placeAt walked (suc k)) (follows .places k (omega arith)) (follows .places (suc k) l) (follows .links k l);
+    next = λ k l. one-in p (placeAt walked k) (placeAt walked (suc k)) (follows .places k (omega arith))
+        (follows .places (suc k) l) (follows .links k l);
   }
 
   on-grid : (y : Point) → isIn samePoint y (visitedVertices p) ≡ true → isGridPoint (p .grid) y ≡ true
   unfolding visitedVertices
   on-grid y m =
       let w = place-in y walked (firsts-in onPoints y (pointsOfPlaces walked) m) in
-      all-in onPoints (isGridPoint (p .grid)) (placeAt walked (w .0)) (parts p (placeAt walked (w .0)) (follows .places (w .0) (w .1)) .gridPoints) y (w .2)
+      all-in onPoints (isGridPoint (p .grid)) (placeAt walked (w .0))
+      (parts p (placeAt walked (w .0)) (follows .places (w .0) (w .1)) .gridPoints) y (w .2)
 
   pub visits : Visits p
   unfolding visitedVertices

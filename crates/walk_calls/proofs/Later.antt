@@ -28,13 +28,16 @@ module _ (g : GridStruct) (start labels : List ℕ) where
     no-length n = rw (on, ne-eqb (length labels) (numPoints (shape g)) n)
 
     module _ (long : length labels ≡ numPoints (shape g)) where
-      pub no-label : all (λ l. leb l (numIndices (shape g))) labels ≡ false → 7 ≡ firstNo (laterQuestions g start labels)
+      pub no-label : all (λ l. leb l (numIndices (shape g))) labels ≡ false
+          → 7 ≡ firstNo (laterQuestions g start labels)
       unfolding firstNo
       no-label f = rw (on, eq-eqb (length labels) (numPoints (shape g)) long, f)
 
-      pub no-question : all (λ l. leb l (numIndices (shape g))) labels ≡ true → _≡_ {A = ℕ} 0 (firstNo (laterQuestions g start labels))
+      pub no-question : all (λ l. leb l (numIndices (shape g))) labels ≡ true
+          → _≡_ {A = ℕ} 0 (firstNo (laterQuestions g start labels))
       unfolding firstNo
       no-question f = rw (on, eq-eqb (length labels) (numPoints (shape g)) long, f)
 
-  pub behind-four : firstNo (gridQuestions (shape g)) ≡ 0 → firstNo (tableQuestions (problemOn g start labels)) ≡ firstNo (laterQuestions g start labels)
+  pub behind-four : firstNo (gridQuestions (shape g)) ≡ 0
+      → firstNo (tableQuestions (problemOn g start labels)) ≡ firstNo (laterQuestions g start labels)
   behind-four e = asked-next (gridQuestions (shape g)) (laterQuestions g start labels) refl e

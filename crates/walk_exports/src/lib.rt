@@ -1,5 +1,5 @@
-// The calls on a walk, for programs in C and Rust: each takes the struct by reference, calls the by-value step and stores
-// what it gives.
+// The calls on a walk, for programs in C and Rust: each takes the struct by reference, calls the by-value step and
+// stores what it gives.
 ghost use mathlib.Core.Path.{_≡_};
 ghost use Rattle.walk_steps.specs.Steps.{begunStep, movedStep, pointedStep, shownStep};
 use walk_steps::Step;

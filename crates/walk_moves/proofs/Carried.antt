@@ -29,7 +29,8 @@ use Rattle.walks.specs.Kept.{keptPoints}
 use Rattle.walk_moves.proofs.Kept.{T-same, chain, full, order-same, place-filled}
 use Rattle.walk_moves.specs.Spare.{Spare, again, outside, unknown}
 
-module _ {p : Problem} (ok : Accepted p) (y : Point) (o : List ℕ) (place : isPlace p (keptPoints p.grid y o) ≡ true) where
+module _ {p : Problem} (ok : Accepted p) (y : Point) (o : List ℕ)
+    (place : isPlace p (keptPoints p.grid y o) ≡ true) where
   abbrev q : Problem
   q = filledTable p
 
@@ -37,14 +38,16 @@ module _ {p : Problem} (ok : Accepted p) (y : Point) (o : List ℕ) (place : isP
   s = keptPoints p.grid y o
 
   pub points-long : length s ≡ suc (length o)
-  points-long = place-long (full ok y o place .settled) s (place-filled ok y o place) ∙ ap (λ (r : List ℕ). suc (length r)) (order-same ok y o place)
+  points-long = place-long (full ok y o place .settled) s (place-filled ok y o place)
+      ∙ ap (λ (r : List ℕ). suc (length r)) (order-same ok y o place)
 
   -- a label of the table, as an index
   pub label-index : (j k : ℕ) → j ≤ length o → label p (nth s j) ≡ suc k → labelsOf q (coefficientsOf q s) j ≡ k
   label-index j k l e =
       let c = chain ok y o place in
       let w = label-is (full ok y o place) c j l in
-      let z = ap (λ (r : Simplex). label q (nth r j)) (pointsOf-coefficientsOf (full ok y o place .settled) s (parts q s (place-filled ok y o place) .gridPoints)) in
+      let z = ap (λ (r : Simplex). label q (nth r j))
+      (pointsOf-coefficientsOf (full ok y o place .settled) s (parts q s (place-filled ok y o place) .gridPoints)) in
       omega (arith, w, z, filled-label ok (nth s j) (omega (arith, e)), e)
 
   -- each index of T is the label of a point
@@ -58,7 +61,10 @@ module _ {p : Problem} (ok : Accepted p) (y : Point) (o : List ℕ) (place : isP
   carried i S k t =
       let m = sym (T-same ok y o place k) ∙ t in
       let w = covering k m in
-      ⊎-elim (λ (e : w .0 ≡ i). other k m (rw e at w.2) S) (λ n. (w .0, w .1, n, label-index w.0 k w.1 w.2)) (same-or w.0 i)
+      ⊎-elim
+      (λ (e : w .0 ≡ i). other k m (rw e at w.2) S)
+      (λ n. (w .0, w .1, n, label-index w.0 k w.1 w.2))
+      (same-or w.0 i)
     where
       other : (k : ℕ) → isIn eqb k o ≡ true → label p (nth s i) ≡ suc k → Spare p s o i
           → (j : ℕ) × (j ≤ length o) × (j ≡ i → ⊥) × (labelsOf q (coefficientsOf q s) j ≡ k)

@@ -34,7 +34,8 @@ module _ {p : Problem} (ok : Accepted p) (s : Simplex) (h : isPlace p s ≡ true
   way-on l w k b = in-filter onWays (λ w. not (isBack l w)) w (ways p s) (in-ways p s ok.settled.sameNumber k) (rw b)
 
   pub from-start : (w : Way) → s ≡ p .start ∷ [] → IsWay p s w → waysOn p none s ≡ w ∷ []
-  from-start w e k = only-one (waysOn p none s) w (rw e (one-from-start ok (twoWays ok.settled) (rw e at own))) (way-on none w k refl)
+  from-start w e k =
+      only-one (waysOn p none s) w (rw e (one-from-start ok (twoWays ok.settled) (rw e at own))) (way-on none w k refl)
 
   module _ (ne : s ≡ p .start ∷ [] → ⊥) where
     link-in : (b : Simplex) {w : Way} → IsWay p s w → w ≡ link b → Link p b s
@@ -47,22 +48,34 @@ module _ {p : Problem} (ok : Accepted p) (s : Simplex) (h : isPlace p s ≡ true
     not-back b (link t) n = false-of _ (λ q. n (ap link (sym (simplex-sound b t q))))
 
     -- where one way leads to the place before, the other leads on
-    pub other-on : (b : Simplex) (v w : Way) → IsWay p s v → IsWay p s w → (v ≡ w → ⊥) → v ≡ link b → waysOn p (some b) s ≡ w ∷ []
-    other-on b v w kv kw n e =
-        only-one (waysOn p (some b) s) w (one-from ok (twoWays ok.settled) b s (link-in b kv e) own ne) (way-on (some b) w kw (not-back b w (λ q. n (e ∙ sym q))))
+    pub other-on : (b : Simplex) (v w : Way) → IsWay p s v → IsWay p s w → (v ≡ w → ⊥) → v ≡ link b
+        → waysOn p (some b) s ≡ w ∷ []
+    other-on b v w kv kw n e = only-one (waysOn p (some b) s) w
+        (one-from ok (twoWays ok.settled) b s (link-in b kv e) own ne)
+        (way-on (some b) w kw (not-back b w (λ q. n (e ∙ sym q))))
 
     pub came-by : (b : Simplex) (v : Way) → IsWay p s v → v ≡ link b → (isPlace p b && linked p b s) ≡ true
     came-by b v kv e = let L = link-in b kv e in and-both _ _ L.from L.by
 
     -- and where neither does, the place before is not linked
-    pub not-linked : (b : Simplex) (v w : Way) → IsWay p s v → IsWay p s w → (v ≡ w → ⊥) → (v ≡ link b → ⊥) → (w ≡ link b → ⊥)
+    pub not-linked : (b : Simplex) (v w : Way) → IsWay p s v → IsWay p s w → (v ≡ w → ⊥) → (v ≡ link b → ⊥)
+        → (w ≡ link b → ⊥)
         → (isPlace p b && linked p b s) ≡ false
     not-linked b v w kv kw n nv nw = false-of _ (λ e.
-        let L = back b s (record { from = and-left (isPlace p b) (linked p b s) e; to = h; by = and-right (isPlace p b) (linked p b s) e }) in
+        let L = back b s (record {
+          from = and-left (isPlace p b) (linked p b s) e;
+          to = h;
+          by = and-right (isPlace p b) (linked p b s) e;
+        }) in
         let k : IsWay p s (link b) = byLink b L.to L.by in
         let f : (x y : Way) → (x ≡ y → ⊥) → sameWay x y ≡ false = λ x y q. false-of _ (λ z. q (way-sound x y z)) in
         let d : distinct sameWay (v ∷ w ∷ link b ∷ []) ≡ true = rw (f v w n, f v (link b) nv, f w (link b) nw) in
-        let d = pigeon onWays (v ∷ w ∷ link b ∷ []) (ways p s) d (λ x m. in-ways p s ok.settled.sameNumber {w = x}
-        (⊎-elim (λ q. rw q kv) (λ m. ⊎-elim (λ q. rw q kw) (λ m. ⊎-elim (λ q. rw q k) (λ m. absurd-bool (sym m)) (in-cases onWays x (link b) [] m))
-        (in-cases onWays x w (link b ∷ []) m)) (in-cases onWays x v (w ∷ link b ∷ []) m))) in
+        let d = pigeon onWays (v ∷ w ∷ link b ∷ []) (ways p s) d
+        (λ x m. in-ways p s ok.settled.sameNumber {w = x} (⊎-elim
+        (λ q. rw q kv)
+        (λ m. ⊎-elim
+        (λ q. rw q kw)
+        (λ m. ⊎-elim (λ q. rw q k) (λ m. absurd-bool (sym m)) (in-cases onWays x (link b) [] m))
+        (in-cases onWays x w (link b ∷ []) m))
+        (in-cases onWays x v (w ∷ link b ∷ []) m))) in
         omega (arith, d, twoWays ok.settled .other s h own ne))

@@ -1,5 +1,5 @@
--- A lent state describes its place over the table with each gap filled. In order: the place over that table; the state; the place that a state keeps. Assumes
--- nothing.
+-- A lent state describes its place over the table with each gap filled. In order: the place over that table; the state;
+-- the place that a state keeps. Assumes nothing.
 use mathlib.Core.Bool.{Bool, true, false, _&&_}
 use mathlib.Core.List.{List, [], _∷_}
 use mathlib.Core.Logic.{⊎-elim}
@@ -10,7 +10,8 @@ use lib.Dec.{eqb}
 use lib.ListN.{length, getD, take}
 use lib.Seq.{ext-getD}
 use native.Mathlib.Omega.{arith}
-use Rattle.combinatorics.proofs.Basics.{absurd-bool, and-both, and-left, and-right, before-or-not, both, same-or, true-or-false}
+use Rattle.combinatorics.proofs.Basics.{absurd-bool, and-both, and-left, and-right, before-or-not, both, same-or}
+use Rattle.combinatorics.proofs.Basics.{true-or-false}
 use Rattle.combinatorics.proofs.Lists.{all-in, in-all, onNumbers}
 use Rattle.combinatorics.specs.Lists.{firstOr, isIn}
 use Rattle.geometry.proofs.Definitions.{Chain, Step, coord, zeros}
@@ -24,7 +25,8 @@ use Rattle.place.proofs.FromChain.{T-is, back-again, long, place-of}
 use Rattle.place.proofs.Meaning.{labels-mean}
 use Rattle.place.proofs.LinkSymmetry.{parts}
 use Rattle.place.proofs.Positions.{at-in, in-at}
-use Rattle.place.proofs.ToChain.{coefficientsOf, inT, labelOf, labelledChain-of, place-long, pointsOf, pointsOf-coefficientsOf}
+use Rattle.place.proofs.ToChain.{coefficientsOf, inT, labelOf, labelledChain-of, place-long, pointsOf}
+use Rattle.place.proofs.ToChain.{pointsOf-coefficientsOf}
 use Rattle.place.specs.Coefficients.{IsCoefficients, coefficients}
 use Rattle.place.specs.Demand.{Accepted, Settled}
 use Rattle.place.specs.Places.{Simplex, isPlace, labelSet, order, within}
@@ -40,7 +42,8 @@ use Rattle.walks.proofs.Recognised.{kept-every, recognised}
 use Rattle.walks.specs.Kept.{isKept, keptPoints, zeroOutside}
 use Rattle.walk_moves.specs.Lent.{Lent, keptBy}
 
-module _ {p : Problem} (ok : Accepted p) (y : Point) (o : List ℕ) (place : isPlace p (keptPoints p.grid y o) ≡ true) where
+module _ {p : Problem} (ok : Accepted p) (y : Point) (o : List ℕ)
+    (place : isPlace p (keptPoints p.grid y o) ≡ true) where
   abbrev q : Problem
   q = filledTable p
 
@@ -66,8 +69,9 @@ module _ {p : Problem} (ok : Accepted p) (y : Point) (o : List ℕ) (place : isP
   order-same = order-is p y o place
 
   pub chain : LabelledChain (blocksOf q) (labelOf q) (inT q s) (length o) (at o) (coefficientsOf q s)
-  chain = subst (λ (r : List ℕ). LabelledChain (blocksOf q) (labelOf q) (inT q s) (length r) (at r) (coefficientsOf q s)) order-same
-      (labelledChain-of full.settled s place-filled)
+  chain = subst
+      (λ (r : List ℕ). LabelledChain (blocksOf q) (labelOf q) (inT q s) (length r) (at r) (coefficientsOf q s))
+      order-same (labelledChain-of full.settled s place-filled)
 
   first-is : nth s 0 ≡ y
   first-is = go o
@@ -83,7 +87,8 @@ module _ {p : Problem} (ok : Accepted p) (y : Point) (o : List ℕ) (place : isP
   first-list = listAt-map (coefficientOf q) s 0 some-points ∙ ap (coefficientOf q) first-is
 
   on-grid : isGridPoint q.grid y ≡ true
-  on-grid = rw (← first-is) (all-in onPoints (isGridPoint q.grid) s (parts q s place-filled .gridPoints) (nth s 0) (at-in onPoints [] s 0 some-points))
+  on-grid = rw (← first-is) (all-in onPoints (isGridPoint q.grid) s (parts q s place-filled .gridPoints) (nth s 0)
+      (at-in onPoints [] s 0 some-points))
 
   is : IsCoefficients q y (coefficients q y)
   is = coefficientOf-is full.settled y on-grid
@@ -97,13 +102,18 @@ module _ {p : Problem} (ok : Accepted p) (y : Point) (o : List ℕ) (place : isP
   unfolding zeros
   U-first k = both (isIn eqb k (zeroOutside p.grid o y)) (zeros (blocksOf q) (inT q s) (coefficientOf q y) k)
       (λ e. let w = zero-is p o y k e in rw (T-same k ∙ w .2) (eq-eqb _ 0 (coord-in q is k w.0 ∙ w .1)))
-      (λ e. ⊎-elim (λ t. absurd-bool (sym (rw t at e)))
-      (λ f. let z : coord (blocksOf q) (coefficientOf q y) k ≡ 0 = eqb-true _ 0 (rw f at e) in
-      ⊎-elim (λ (m : k < numIndices p.grid). is-zero p o y k m (sym (coord-in q is k m) ∙ z) (sym (T-same k) ∙ f))
-      (λ (m : numIndices p.grid ≤ k). absurd (omega (arith, z, coord-out q is k m))) (before-or-not k (numIndices p.grid)))
+      (λ e. ⊎-elim
+      (λ t. absurd-bool (sym (rw t at e)))
+      (λ f.
+      let z : coord (blocksOf q) (coefficientOf q y) k ≡ 0 = eqb-true _ 0 (rw f at e) in
+      ⊎-elim
+      (λ (m : k < numIndices p.grid). is-zero p o y k m (sym (coord-in q is k m) ∙ z) (sym (T-same k) ∙ f))
+      (λ (m : numIndices p.grid ≤ k). absurd (omega (arith, z, coord-out q is k m)))
+      (before-or-not k (numIndices p.grid)))
       (true-or-false (inT q s k)))
 
-  U-same : (k : ℕ) → isIn eqb k (zeroOutside p.grid o y) ≡ zeros (blocksOf q) (inT q s) (listAt (coefficientsOf q s) 0) k
+  U-same : (k : ℕ)
+      → isIn eqb k (zeroOutside p.grid o y) ≡ zeros (blocksOf q) (inT q s) (listAt (coefficientsOf q s) 0) k
   U-same k = U-first k ∙ ap (λ (c : ℕ → ℕ). zeros (blocksOf q) (inT q s) c k) (sym first-list)
 
   module _ (S : State) (L : Lent p q y o S) where
@@ -127,14 +137,21 @@ module _ {p : Problem} (ok : Accepted p) (y : Point) (o : List ℕ) (place : isP
         coordAt c k = coord (blocksOf q) c k
 
     pub marks : AllMarks q (length o) (coefficientsOf q s) S
-    marks j l = L .marked j l ∙ ap (λ (z : Simplex). markOf q (nth z j)) (sym (pointsOf-coefficientsOf full.settled s (parts q s place-filled .gridPoints))) ∙ sym (mark-is full chain j l)
+    marks j l = L .marked j l
+        ∙ ap (λ (z : Simplex). markOf q (nth z j))
+        (sym (pointsOf-coefficientsOf full.settled s (parts q s place-filled .gridPoints)))
+        ∙ sym (mark-is full chain j l)
 
 -- a step of a chain is at one index
 same-step : {T : ℕ → Bool} {h k : ℕ} {c d : ℕ → ℕ} → Step T h c d → Step T k c d → T k ≡ true → h ≡ k
-same-step {T} {h} {k} A B t = ⊎-elim (λ (e : h ≡ k). e) (λ (n : h ≡ k → ⊥). absurd (omega (arith, A .unchanged k t (λ e. n (sym e)), B .raised))) (same-or h k)
+same-step {T} {h} {k} A B t = ⊎-elim
+    (λ (e : h ≡ k). e)
+    (λ (n : h ≡ k → ⊥). absurd (omega (arith, A .unchanged k t (λ e. n (sym e)), B .raised)))
+    (same-or h k)
 
 -- the place that a state describes is the one that it keeps
-module _ {q : Problem} (full : FullyLabelled q) {T : ℕ → Bool} {t : ℕ} {o : ℕ → ℕ} {x : List (ℕ → ℕ)} {S : State} (D : Describes q T t o x S) where
+module _ {q : Problem} (full : FullyLabelled q) {T : ℕ → Bool} {t : ℕ} {o : ℕ → ℕ} {x : List (ℕ → ℕ)} {S : State}
+    (D : Describes q T t o x S) where
   abbrev points : Simplex
   points = pointsOf q x
 
@@ -145,14 +162,17 @@ module _ {q : Problem} (full : FullyLabelled q) {T : ℕ → Bool} {t : ℕ} {o 
   long-order = omega (arith, place-long full.settled points described-place, long full.settled D.chain)
 
   own-chain : Chain (blocksOf q) T t (listAt x) (at (order q.grid points))
-  own-chain = subst (λ (n : ℕ). Chain (blocksOf q) T n (listAt x) (at (order q.grid points))) long-order
-      (rw (back-again full.settled D.chain) at (rw (T-is full.settled D.chain) at (labelledChain-of full.settled points described-place .chain)))
+  own-chain = subst
+      (λ (n : ℕ). Chain (blocksOf q) T n (listAt x) (at (order q.grid points)))
+      long-order
+      (rw (back-again full.settled D.chain)
+      at (rw (T-is full.settled D.chain) at (labelledChain-of full.settled points described-place .chain)))
 
   pub order-described : order q.grid points ≡ S .order
-  order-described =
-      ext-getD 0 (order q.grid points) S.order (long-order ∙ sym D.orderLength)
-      (λ j l. let jl : j < t = omega (arith, long-order) in
-      same-step (own-chain .step j jl) (D .chain .chain .step j jl) (D .chain .chain .order .within j jl) ∙ sym (D .orderAt j jl))
+  order-described = ext-getD 0 (order q.grid points) S.order (long-order ∙ sym D.orderLength) (λ j l.
+      let jl : j < t = omega (arith, long-order) in
+      same-step (own-chain .step j jl) (D .chain .chain .step j jl) (D .chain .chain .order .within j jl)
+      ∙ sym (D .orderAt j jl))
 
   first-of : (l : Simplex) → nth l 0 ≡ firstOr [] l
   first-of [] = refl

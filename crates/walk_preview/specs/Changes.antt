@@ -11,12 +11,14 @@ use Rattle.trail.specs.Change.{Change, outside}
 use Rattle.trail.specs.Record.{bitMap}
 use Rattle.walk_preview.specs.declared.Change.{Change as ChangeStruct}
 
--- "0 point come in, 1 point gone out (table positions ..), 2 index into T, 3 out of T, 4 into U, 5 out of U", the indices from 1: a field that is not
--- there is empty
+-- "0 point come in, 1 point gone out (table positions ..), 2 index into T, 3 out of T, 4 into U, 5 out of U", the
+-- indices from 1: a field that is not there is empty
 abbrev pub sixFields : Change → List (List ℕ)
-sixFields c = c .pointsIn ∷ c .pointsOut ∷ map suc (c .intoT) ∷ map suc (c .outOfT) ∷ map suc (c .intoU) ∷ map suc (c .outOfU) ∷ []
+sixFields c = c .pointsIn ∷ c .pointsOut ∷ map suc (c .intoT) ∷ map suc (c .outOfT) ∷ map suc (c .intoU)
+    ∷ map suc (c .outOfU) ∷ []
 
--- each "there or absent": a bit of the map for each field, as the record has it, and the field's number, 0 where it is absent
+-- each "there or absent": a bit of the map for each field, as the record has it, and the field's number, 0 where it
+-- is absent
 abbrev pub changedOf : Change → ChangeStruct
 changedOf c = record { map = bitMap (sixFields c); fields = map (firstOr 0) (sixFields c) }
 

@@ -55,7 +55,8 @@ fn change_in(w: Walk, next: Place, rule: u8) -> Change
     change_on(g, w, next, rule)
 }
 
-// Shows the move before it is made: the moving call's refusals and ends, and what a move would change. Nothing is moved.
+// Shows the move before it is made: the moving call's refusals and ends, and what a move would change. Nothing is
+// moved.
 pub fn preview(w: Walk, labels: &[u8]) -> Shown
     ensures { λ r. ⌜ r ≡ shownAs (previewOf (walkOf w) (now (labels .entry))) ⌝ }
 {

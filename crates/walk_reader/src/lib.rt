@@ -1,8 +1,8 @@
 // What the programs of the stored walks read from standard input, and the lines that they print. Numbers are
 // little-endian, of 16 bits if nothing else is said. Of each walk come 6 sizes, a byte each, the number of blocks, 6
-// divisions and 16 numbers of the start, the present place and the one before it, each as its first point, its order and
-// its count, the places so far and the labels read, of 64 bits each, and 16 labels that it carries, a byte each. Labels
-// are runs of equal labels, a run being a count of 16 bits and the label. A run of no labels ends them.
+// divisions and 16 numbers of the start, the present place and the one before it, each as its first point, its order
+// and its count, the places so far and the labels read, of 64 bits each, and 16 labels that it carries, a byte each.
+// Labels are runs of equal labels, a run being a count of 16 bits and the label. A run of no labels ends them.
 ghost use mathlib.Core.Path.{_≡_};
 ghost use Prim.Native.Nat.{_≤_};
 ghost use lib.ListN.{length};

@@ -71,7 +71,9 @@ movedStep s labels = let c = callOf (s .walk) labels in stepOf (c .walk) (c .ans
 
 -- the preview, which "changes nothing": the walk as it was
 unfoldable pub shownStep : Step → List ℕ → Step
-shownStep s labels = let p = shownAs (preview (walkOf (s .walk)) labels) in stepOf (s .walk) (p .answer) (p .simplex) (p .change)
+shownStep s labels =
+    let p = shownAs (preview (walkOf (s .walk)) labels) in
+    stepOf (s .walk) (p .answer) (p .simplex) (p .change)
 
 -- the points of the present place
 unfoldable pub pointedStep : Step → List ℕ → Step

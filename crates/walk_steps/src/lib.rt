@@ -1,5 +1,5 @@
-// The calls on a walk as programs in C make them: a walk, and behind it what the last call on it has answered. Each call
-// is by value here; the exported functions take the struct by reference and call these.
+// The calls on a walk as programs in C make them: a walk, and behind it what the last call on it has answered. Each
+// call is by value here; the exported functions take the struct by reference and call these.
 ghost use mathlib.Core.Path.{_≡_};
 ghost use Rattle.walk_ways.specs.Walks.{walkOf};
 ghost use Rattle.walk_preview.specs.Changes.{noChange};
@@ -15,8 +15,8 @@ use walk_ways::Kind;
 use walk_ways::Walk;
 
 // The walk; the number of the refusal or 0; of an end the kind, 0 place and 1 facet, the block from 1 and the number of
-// vertices; of a move the rule, or else 0, and, where it is shown, the map and the fields; the numbers of the vertices or
-// points, with 0 behind.
+// vertices; of a move the rule, or else 0, and, where it is shown, the map and the fields; the numbers of the vertices
+// or points, with 0 behind.
 #[repr(C)]
 pub struct Step {
     pub walk: Walk,

@@ -82,7 +82,8 @@ module _ (g : Grid) (v : Point) (labels : List ℕ) (asked : firstNo (tableQuest
       let a = accepted-grid g (parts .0) in
       let six : length (g .sizes) ≤ 6 = a .fewBlocks in
       let s : take (length (g .sizes)) (padded 6 (g .sizes)) ≡ g .sizes = front-taken (g .sizes) (replicate 6 0) in
-      let d : take (length (g .sizes)) (padded 6 (g .divisions)) ≡ g .divisions = rw (← (a .sameNumber)) (front-taken (g .divisions) (replicate 6 0)) in
+      let d : take (length (g .sizes)) (padded 6 (g .divisions)) ≡ g .divisions =
+      rw (← (a .sameNumber)) (front-taken (g .divisions) (replicate 6 0)) in
       rw (le-leb (length (g .sizes)) 6 six, s, d)
 
   few : numIndices g ≤ 16
@@ -95,8 +96,11 @@ module _ (g : Grid) (v : Point) (labels : List ℕ) (asked : firstNo (tableQuest
   present-is =
       let z = length-replicate {A = ℕ} 16 0 in
       let l : length (padded 16 v) ≡ 16 = front-length v (replicate 16 0) (omega (arith, z, long, few)) ∙ z in
-      let e : w .present ≡ keptAs (numIndices g) (padded 16 v) (replicate 16 0) 0 = rw (taken, front-none (replicate 16 0)) in
-      ap (placeOf g) e ∙ kept-held g (padded 16 v) (replicate 16 0) 0 few (omega arith) l (omega arith) ∙ ap (λ (y : Point). y ∷ []) taken
+      let e : w .present ≡ keptAs (numIndices g) (padded 16 v) (replicate 16 0) 0 =
+      rw (taken, front-none (replicate 16 0)) in
+      ap (placeOf g) e
+      ∙ kept-held g (padded 16 v) (replicate 16 0) 0 few (omega arith) l (omega arith)
+      ∙ ap (λ (y : Point). y ∷ []) taken
 
   carried-is : carriedOf w ≡ label (p g v labels) v ∷ []
   unfolding carriedOf
@@ -132,16 +136,27 @@ module _ (g : GridStruct) (made : IsMade g) (v labels : List ℕ) (asked : first
 
   pub start-made : (y : List ℕ) → y ≡ padded 16 v → (b : Place) → b ≡ nowhere → (c : List ℕ) (l : ℕ)
       → l ≡ label (begunOn (shape g) (take (g .indices) y) labels) (take (g .indices) y) → c ≡ padded 16 (l ∷ [])
-      → walkWith y b (g .divisions) (g .sizes) (g .blocks) c ≡ startWalk (shape g) v (label (begunOn (shape g) v labels) v)
+      → walkWith y b (g .divisions) (g .sizes) (g .blocks) c
+      ≡ startWalk (shape g) v (label (begunOn (shape g) v labels) v)
   unfolding structOf
   start-made y e b f c l is put =
       let s : g .sizes ≡ padded 6 (shape g .sizes) = ap (λ (z : GridStruct). z .sizes) (made .made) in
       let d : g .divisions ≡ padded 6 (shape g .divisions) = ap (λ (z : GridStruct). z .divisions) (made .made) in
       let n : g .blocks ≡ length (shape g .sizes) = made-blocks g made in
-      let k : l ≡ label (begunOn (shape g) v labels) v = is ∙ ap (λ (z : Point). label (begunOn (shape g) z labels) z) (taken-start y e) in
-      ap (λ (x : List ℕ). walkWith y b x (g .sizes) (g .blocks) c) d ∙ ap (λ (x : List ℕ). walkWith y b (padded 6 (shape g .divisions)) x (g .blocks) c) s
+      let k : l ≡ label (begunOn (shape g) v labels) v =
+      is ∙ ap (λ (z : Point). label (begunOn (shape g) z labels) z) (taken-start y e) in
+      ap (λ (x : List ℕ). walkWith y b x (g .sizes) (g .blocks) c) d
+      ∙ ap (λ (x : List ℕ). walkWith y b (padded 6 (shape g .divisions)) x (g .blocks) c) s
       ∙ ap (λ (x : ℕ). walkWith y b (padded 6 (shape g .divisions)) (padded 6 (shape g .sizes)) x c) n
-      ∙ ap (λ (x : List ℕ). walkWith x b (padded 6 (shape g .divisions)) (padded 6 (shape g .sizes)) (length (shape g .sizes)) c) e
-      ∙ ap (λ (x : Place). walkWith (padded 16 v) x (padded 6 (shape g .divisions)) (padded 6 (shape g .sizes)) (length (shape g .sizes)) c) f
-      ∙ ap (λ (x : List ℕ). walkWith (padded 16 v) nowhere (padded 6 (shape g .divisions)) (padded 6 (shape g .sizes)) (length (shape g .sizes)) x)
+      ∙ ap
+      (λ (x : List ℕ).
+      walkWith x b (padded 6 (shape g .divisions)) (padded 6 (shape g .sizes)) (length (shape g .sizes)) c)
+      e
+      ∙ ap
+      (λ (x : Place).
+      walkWith (padded 16 v) x (padded 6 (shape g .divisions)) (padded 6 (shape g .sizes)) (length (shape g .sizes)) c)
+      f
+      ∙ ap
+      (λ (x : List ℕ). walkWith (padded 16 v) nowhere (padded 6 (shape g .divisions)) (padded 6 (shape g .sizes))
+      (length (shape g .sizes)) x)
       (put ∙ ap (λ (x : ℕ). padded 16 (x ∷ [])) k)

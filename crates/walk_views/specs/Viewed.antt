@@ -32,7 +32,9 @@ noPoints number = record { code = number; count = 0; numbers = replicate 256 0 }
 
 -- "a place's points for the viewer", m numbers each in rising coefficient sum
 unfoldable pub pointsAt : Grid → WalkStruct → PlacePoints
-pointsAt g w = let s = placeOf g (w .present) in record { code = 0; count = length s; numbers = padded 256 (concatMap (λ y. y) s) }
+pointsAt g w =
+    let s = placeOf g (w .present) in
+    record { code = 0; count = length s; numbers = padded 256 (concatMap (λ y. y) s) }
 
 abbrev pub pointsOn : Grid → WalkStruct → List ℕ → PlacePoints
 pointsOn g w labels =
@@ -49,4 +51,5 @@ pub record CanPoint (g : GridStruct) (w : WalkStruct) (labels first order : List
   pub place : isPlace (tableOn g w labels) (pointsBy g first order n) ≡ true
   pub list : List ℕ
   pub marks : List ℕ
-  pub seen : Seen (tableOn g w labels) (markOf (tableOn g w labels)) (take (g .indices) first) (take n order) list marks (sets .t) (sets .u)
+  pub seen : Seen (tableOn g w labels) (markOf (tableOn g w labels)) (take (g .indices) first) (take n order) list marks
+      (sets .t) (sets .u)

@@ -16,8 +16,8 @@ pub struct Begun {
     pub walk: Walk,
 }
 
-// The number of the first of questions 1 to 7 and 20 that is answered no, or 0, how many points the place has, and their
-// numbers, m for each point in rising order of coefficient sum, with 0 behind.
+// The number of the first of questions 1 to 7 and 20 that is answered no, or 0, how many points the place has, and
+// their numbers, m for each point in rising order of coefficient sum, with 0 behind.
 pub struct PlacePoints {
     pub code: u8,
     pub count: usize,

@@ -1,4 +1,5 @@
--- The place that a struct holds. In order: what is kept is held; a place that is held is kept so; what is stored. Assumes nothing.
+-- The place that a struct holds. In order: what is kept is held; a place that is held is kept so; what is stored.
+-- Assumes nothing.
 use mathlib.Core.Bool.{Bool, true, false, _&&_, cond}
 use mathlib.Core.List.{List, [], _∷_}
 use mathlib.Core.Logic.{⊎-elim}
@@ -36,23 +37,36 @@ take-some n l h = length-take n l ∙ omega arith
 abbrev made : List ℕ → List ℕ → ℕ → Place
 made first order count = record { first = first; order = order; count = count }
 
-module _ (g : Grid) (first order : List ℕ) (n : ℕ) (few : numIndices g ≤ 16) (low : n ≤ 15) (long : length first ≡ 16) (enough : n ≤ length order) where
+module _ (g : Grid) (first order : List ℕ) (n : ℕ) (few : numIndices g ≤ 16) (low : n ≤ 15) (long : length first ≡ 16)
+    (enough : n ≤ length order) where
   kept : Place
   kept = keptAs (numIndices g) first order n
 
   -- what is kept is held
-  again : keptAs (numIndices g) (padded 16 (take (numIndices g) first)) (padded 16 (take n order)) n ≡ keptAs (numIndices g) first order n
-  again = rw (padded-taken (numIndices g) (take (numIndices g) first) (take-some (numIndices g) first (omega arith)), padded-taken n (take n order) (take-some n order enough))
+  again : keptAs (numIndices g) (padded 16 (take (numIndices g) first)) (padded 16 (take n order)) n
+      ≡ keptAs (numIndices g) first order n
+  again = rw (
+    padded-taken (numIndices g) (take (numIndices g) first) (take-some (numIndices g) first (omega arith)),
+    padded-taken n (take n order) (take-some n order enough),
+  )
 
-  pub kept-held : placeOf g (keptAs (numIndices g) first order n) ≡ keptPoints g (take (numIndices g) first) (take n order)
+  pub kept-held : placeOf g (keptAs (numIndices g) first order n)
+      ≡ keptPoints g (take (numIndices g) first) (take n order)
   unfolding placeOf
   kept-held =
       let k : Place = keptAs (numIndices g) first order n in
       let c : pred (n + 1) ≡ n = omega arith in
-      let h : holdsPlace g k ≡ true = rw c (and-both _ _ (and-both _ _ (le-leb 1 (n + 1) (omega arith)) (le-leb (n + 1) 16 (omega arith))) (place-same k _ (sym again))) in
-      rw (h, c, padded-taken (numIndices g) (take (numIndices g) first) (take-some (numIndices g) first (omega arith)), padded-taken n (take n order) (take-some n order enough))
+      let h : holdsPlace g k ≡ true = rw c (and-both _ _
+      (and-both _ _ (le-leb 1 (n + 1) (omega arith)) (le-leb (n + 1) 16 (omega arith))) (place-same k _ (sym again))) in
+      rw (
+        h,
+        c,
+        padded-taken (numIndices g) (take (numIndices g) first) (take-some (numIndices g) first (omega arith)),
+        padded-taken n (take n order) (take-some n order enough),
+      )
 
-  pub kept-before : beforeOf g (keptAs (numIndices g) first order n) ≡ some (keptPoints g (take (numIndices g) first) (take n order))
+  pub kept-before : beforeOf g (keptAs (numIndices g) first order n)
+      ≡ some (keptPoints g (take (numIndices g) first) (take n order))
   kept-before = rw (ne-eqb (n + 1) 0 (λ e. absurd (omega arith))) (ap (λ (s : Simplex). some s) kept-held)
 
 -- a place that is held is kept so
@@ -61,41 +75,53 @@ module _ (g : Grid) (b : Place) where
   unfolding placeOf
   not-held e = rw e
 
-  pub held : holdsPlace g b ≡ true → placeOf g b ≡ keptPoints g (take (numIndices g) (b .first)) (take (pred (b .count)) (b .order))
+  pub held : holdsPlace g b ≡ true
+      → placeOf g b ≡ keptPoints g (take (numIndices g) (b .first)) (take (pred (b .count)) (b .order))
   unfolding placeOf
   held e = rw e
 
-  pub held-parts : holdsPlace g b ≡ true → (1 ≤ b .count) × (b .count ≤ 16) × (b ≡ keptAs (numIndices g) (b .first) (b .order) (pred (b .count)))
+  pub held-parts : holdsPlace g b ≡ true
+      → (1 ≤ b .count) × (b .count ≤ 16) × (b ≡ keptAs (numIndices g) (b .first) (b .order) (pred (b .count)))
   held-parts e =
-      let x = leb 1 (b .count) in let y = leb (b .count) 16 in let z = samePlace b (keptAs (numIndices g) (b .first) (b .order) (pred (b .count))) in
+      let x = leb 1 (b .count) in
+      let y = leb (b .count) 16 in
+      let z = samePlace b (keptAs (numIndices g) (b .first) (b .order) (pred (b .count))) in
       let xy = and-left (x && y) z e in
       (leb-true 1 _ (and-left x y xy), leb-true _ 16 (and-right x y xy), same-place b _ (and-right (x && y) z e))
 
 -- the struct is told by the place
-module _ (p : Problem) (ok : Settled p) (b : Place) (long-b : length (b .order) ≡ 16) (first order : List ℕ) (n : ℕ) (long : length (take n order) ≡ n)
+module _ (p : Problem) (ok : Settled p) (b : Place) (long-b : length (b .order) ≡ 16) (first order : List ℕ) (n : ℕ)
+    (long : length (take n order) ≡ n)
     (place : isPlace p (keptPoints p.grid (take (numIndices p.grid) first) (take n order)) ≡ true)
     (is : placeOf p.grid b ≡ keptPoints p.grid (take (numIndices p.grid) first) (take n order)) where
   pub held-once : b ≡ keptAs (numIndices p.grid) first order n
-  held-once =
-      ⊎-elim (λ h.
+  held-once = ⊎-elim
+      (λ h.
       let w = held-parts p.grid b h in
-      let k = kept-once p (take (numIndices p.grid) first) (take (numIndices p.grid) (b .first)) (take n order) (take (pred (b .count)) (b .order)) place (sym is ∙ held p.grid b h) in
-      let e : pred (b .count) ≡ n = omega (arith, long, ap length k.1, length-take (pred (b .count)) (b .order), w .0, w .1) in
+      let k = kept-once p (take (numIndices p.grid) first) (take (numIndices p.grid) (b .first)) (take n order)
+      (take (pred (b .count)) (b .order)) place (sym is ∙ held p.grid b h) in
+      let e : pred (b .count) ≡ n =
+      omega (arith, long, ap length k.1, length-take (pred (b .count)) (b .order), w .0, w .1) in
       w .2 ∙ (rw (← k.0, ← k.1, e)))
-      (λ f. absurd (no-empty p ok.someBlock (subst (λ (s : Simplex). isPlace p s ≡ true) (sym is ∙ not-held p.grid b f) place)))
+      (λ f. absurd
+      (no-empty p ok.someBlock (subst (λ (s : Simplex). isPlace p s ≡ true) (sym is ∙ not-held p.grid b f) place)))
       (true-or-false (holdsPlace p.grid b))
 
 -- a place that is stored
 pub stored-kept : (p : Problem) → Settled p → (first order : List ℕ) (n : ℕ) → length (take n order) ≡ n
     → isPlace p (keptPoints p.grid (take (numIndices p.grid) first) (take n order)) ≡ true
-    → stored p.grid (keptPoints p.grid (take (numIndices p.grid) first) (take n order)) ≡ keptAs (numIndices p.grid) first order n
+    → stored p.grid (keptPoints p.grid (take (numIndices p.grid) first) (take n order))
+    ≡ keptAs (numIndices p.grid) first order n
 unfolding stored
 stored-kept p ok first order n long place =
-    let y = take (numIndices p.grid) first in let o = take n order in
+    let y = take (numIndices p.grid) first in
+    let o = take n order in
     let q = order-is p y o place in
-    let c : length (keptPoints p.grid y o) ≡ n + 1 = omega (arith, place-long ok (keptPoints p.grid y o) place, ap length q, long) in
+    let c : length (keptPoints p.grid y o) ≡ n + 1 =
+    omega (arith, place-long ok (keptPoints p.grid y o) place, ap length q, long) in
     rw (first-of o, q, c)
   where
-    first-of : (r : List ℕ) → firstOr [] (keptPoints p.grid (take (numIndices p.grid) first) r) ≡ take (numIndices p.grid) first
+    first-of : (r : List ℕ)
+        → firstOr [] (keptPoints p.grid (take (numIndices p.grid) first) r) ≡ take (numIndices p.grid) first
     first-of [] = refl
     first-of (h ∷ r) = refl

@@ -30,11 +30,15 @@ is-beq false true e = absurd-bool (sym e)
 
 pub alike-of : (a b : ℕ) → ((k : ℕ) → k < 16 → bit a k ≡ bit b k) → alike a b ≡ true
 unfolding alike
-alike-of a b h = in-all onNumbers (λ k. Bool·beq (bit a k) (bit b k)) (upFrom 0 16) (λ k m. is-beq _ _ (h k (omega (arith, upFrom-in 0 16 k m .1))))
+alike-of a b h = in-all onNumbers
+    (λ k. Bool·beq (bit a k) (bit b k))
+    (upFrom 0 16)
+    (λ k m. is-beq _ _ (h k (omega (arith, upFrom-in 0 16 k m .1))))
 
 pub of-alike : (a b : ℕ) → alike a b ≡ true → (k : ℕ) → k < 16 → bit a k ≡ bit b k
 unfolding alike
-of-alike a b e k l = beq-is _ _ (all-in onNumbers (λ k. Bool·beq (bit a k) (bit b k)) (upFrom 0 16) e k (in-upFrom 0 16 k (omega arith) (omega arith)))
+of-alike a b e k l = beq-is _ _ (all-in onNumbers (λ k. Bool·beq (bit a k) (bit b k)) (upFrom 0 16) e k
+    (in-upFrom 0 16 k (omega arith) (omega arith)))
 
 or-is : (a b : Bool) → (not a || b) ≡ true → a ≡ (a && b)
 or-is true true e = refl
@@ -47,14 +51,20 @@ is-or false b h = refl
 
 pub within-of : (a b : ℕ) → ((k : ℕ) → k < 16 → bit a k ≡ true → bit b k ≡ true) → within a b ≡ true
 unfolding within
-within-of a b h = in-all onNumbers (λ k. not (bit a k) || bit b k) (upFrom 0 16) (λ k m. is-or _ _ (h k (omega (arith, upFrom-in 0 16 k m .1))))
+within-of a b h = in-all onNumbers
+    (λ k. not (bit a k) || bit b k)
+    (upFrom 0 16)
+    (λ k m. is-or _ _ (h k (omega (arith, upFrom-in 0 16 k m .1))))
 
 pub of-within : (a b : ℕ) → within a b ≡ true → (k : ℕ) → k < 16 → bit a k ≡ (bit a k && bit b k)
 unfolding within
-of-within a b e k l = or-is _ _ (all-in onNumbers (λ k. not (bit a k) || bit b k) (upFrom 0 16) e k (in-upFrom 0 16 k (omega arith) (omega arith)))
+of-within a b e k l = or-is _ _
+    (all-in onNumbers (λ k. not (bit a k) || bit b k) (upFrom 0 16) e k (in-upFrom 0 16 k (omega arith) (omega arith)))
 
 pub same-alike : (a b : ℕ) → a < 65536 → b < 65536 → eqb a b ≡ alike a b
-same-alike a b la lb = both (eqb a b) (alike a b) (λ e. alike-of a b (λ k l. ap (λ (x : ℕ). bit x k) (eqb-true a b e))) (λ e. eq-eqb a b (same-mask a b la lb (of-alike a b e)))
+same-alike a b la lb = both (eqb a b) (alike a b)
+    (λ e. alike-of a b (λ k l. ap (λ (x : ℕ). bit x k) (eqb-true a b e)))
+    (λ e. eq-eqb a b (same-mask a b la lb (of-alike a b e)))
 
 and-true : (a b : Bool) → a ≡ (a && b) → a ≡ true → b ≡ true
 and-true true b e q = sym e
@@ -62,5 +72,7 @@ and-true false b e q = absurd-bool (sym q)
 
 pub and-within : (a b : ℕ) → a < 65536 → eqb (bitAnd a b) a ≡ within a b
 and-within a b la = both (eqb (bitAnd a b) a) (within a b)
-    (λ e. within-of a b (λ k l t. and-true (bit a k) (bit b k) (ap (λ (x : ℕ). bit x k) (sym (eqb-true (bitAnd a b) a e)) ∙ bit-and a b k) t))
-    (λ e. eq-eqb (bitAnd a b) a (same-mask (bitAnd a b) a (omega (arith, and-le-l a b)) la (λ k l. bit-and a b k ∙ sym (of-within a b e k l))))
+    (λ e. within-of a b (λ k l t.
+    and-true (bit a k) (bit b k) (ap (λ (x : ℕ). bit x k) (sym (eqb-true (bitAnd a b) a e)) ∙ bit-and a b k) t))
+    (λ e. eq-eqb (bitAnd a b) a
+    (same-mask (bitAnd a b) a (omega (arith, and-le-l a b)) la (λ k l. bit-and a b k ∙ sym (of-within a b e k l))))

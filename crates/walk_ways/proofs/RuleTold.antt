@@ -14,7 +14,8 @@ use Rattle.place.specs.Places.{Simplex, setT, setU}
 use Rattle.place.specs.Problem.{Problem}
 use Rattle.grid.specs.Grid.{numIndices}
 use Rattle.rules.specs.Mask.{bit}
-use Rattle.trail.specs.Change.{ByRule, Change, change, changeBy, outside, rule1, rule2, rule3, rule4, rule5, rule6, rule7}
+use Rattle.trail.specs.Change.{ByRule, Change, change, changeBy, outside, rule1, rule2, rule3, rule4, rule5, rule6}
+use Rattle.trail.specs.Change.{rule7}
 use Rattle.walk_ways.proofs.MaskTests.{alike-of, of-alike, of-within, within-of}
 use Rattle.walk_ways.specs.Ways.{alike, ruleFrom, within}
 
@@ -24,15 +25,22 @@ pub record MaskOf (a : ℕ) (u : List ℕ) : Type 0 where
   pub below : (k : ℕ) → isIn eqb k u ≡ true → k < 16
 
 within-other : (u v : List ℕ) → outside eqb v u ≡ [] → (k : ℕ) → isIn eqb k u ≡ true → isIn eqb k v ≡ true
-within-other u v q k m =
-    ⊎-elim (λ y. y) (λ z. absurd-bool (sym (rw q at (in-filter onNumbers (λ x. not (isIn eqb x v)) k u m (rw z))))) (true-or-false (isIn eqb k v))
+within-other u v q k m = ⊎-elim
+    (λ y. y)
+    (λ z. absurd-bool (sym (rw q at (in-filter onNumbers (λ x. not (isIn eqb x v)) k u m (rw z)))))
+    (true-or-false (isIn eqb k v))
 
 one-outside : (u v : List ℕ) (h : ℕ) → outside eqb v u ≡ h ∷ [] → (isIn eqb h u ≡ true) × (isIn eqb h v ≡ false)
-one-outside u v h e = let w = filter-in onNumbers (λ x. not (isIn eqb x v)) h u (rw e (in-here onNumbers h [])) in (w .0, not-is _ w.1)
+one-outside u v h e =
+    let w = filter-in onNumbers (λ x. not (isIn eqb x v)) h u (rw e (in-here onNumbers h [])) in
+    (w .0, not-is _ w.1)
 
 module _ {a b : ℕ} {u v : List ℕ} (A : MaskOf a u) (B : MaskOf b v) where
   kept : outside eqb u v ≡ [] → outside eqb v u ≡ [] → alike a b ≡ true
-  kept e f = alike-of a b (λ k l. A .bits k l ∙ both (isIn eqb k u) (isIn eqb k v) (within-other u v f k) (within-other v u e k) ∙ sym (B .bits k l))
+  kept e f = alike-of a b
+      (λ k l. A .bits k l
+      ∙ both (isIn eqb k u) (isIn eqb k v) (within-other u v f k) (within-other v u e k)
+      ∙ sym (B .bits k l))
 
   gained : (h : ℕ) → outside eqb u v ≡ h ∷ [] → outside eqb v u ≡ [] → (alike a b ≡ false) × (within a b ≡ true)
   gained h e f =
@@ -49,8 +57,9 @@ module _ {a b : ℕ} {u v : List ℕ} (A : MaskOf a u) (B : MaskOf b v) where
         false-of _ (λ q. absurd-bool (sym x ∙ of-within a b q h l ∙ (rw (x, y)))),
       )
 
-module _ (p : Problem) (few : numIndices p.grid ≤ 16) (a b : Simplex) (T U T' U' : ℕ) (t : (k : ℕ) → k < 16 → bit T k ≡ isIn eqb k (setT p a))
-    (t' : (k : ℕ) → k < 16 → bit T' k ≡ isIn eqb k (setT p b)) (u : (k : ℕ) → k < 16 → bit U k ≡ isIn eqb k (setU p.grid a))
+module _ (p : Problem) (few : numIndices p.grid ≤ 16) (a b : Simplex) (T U T' U' : ℕ)
+    (t : (k : ℕ) → k < 16 → bit T k ≡ isIn eqb k (setT p a)) (t' : (k : ℕ) → k < 16 → bit T' k ≡ isIn eqb k (setT p b))
+    (u : (k : ℕ) → k < 16 → bit U k ≡ isIn eqb k (setU p.grid a))
     (u' : (k : ℕ) → k < 16 → bit U' k ≡ isIn eqb k (setU p.grid b)) where
   maskT : (s : Simplex) (m : ℕ) → ((k : ℕ) → k < 16 → bit m k ≡ isIn eqb k (setT p s)) → MaskOf m (setT p s)
   maskT s m h = record { bits = h; below = λ k e. omega (arith, T-means p s k .0 e .0) }
@@ -62,14 +71,39 @@ module _ (p : Problem) (few : numIndices p.grid ≤ 16) (a b : Simplex) (T U T' 
       → (outside eqb (setT p a) (setT p b) ≡ tt) × (outside eqb (setT p b) (setT p a) ≡ to)
       × (outside eqb (setU p.grid a) (setU p.grid b) ≡ ui) × (outside eqb (setU p.grid b) (setU p.grid a) ≡ uo)
   unfolding change
-  into e = (ap (λ (c : Change). c .intoT) e, ap (λ (c : Change). c .outOfT) e, ap (λ (c : Change). c .intoU) e, ap (λ (c : Change). c .outOfU) e)
+  into e = (
+    ap (λ (c : Change). c .intoT) e,
+    ap (λ (c : Change). c .outOfT) e,
+    ap (λ (c : Change). c .intoU) e,
+    ap (λ (c : Change). c .outOfU) e,
+  )
 
   pub rule-told : {r : ℕ} → ByRule (change p a b) r → ruleFrom T U T' U' ≡ r
   unfolding ruleFrom
-  rule-told (rule1 y z e) = let i = into e in rw (kept (maskT a T t) (maskT b T' t') i.0 i.1, kept (maskU a U u) (maskU b U' u') i.2 i.3)
-  rule-told (rule2 y z h e) = let i = into e in let f = gained (maskU a U u) (maskU b U' u') h i.2 i.3 in rw (kept (maskT a T t) (maskT b T' t') i.0 i.1, f .0, f .1)
-  rule-told (rule3 y z h e) = let i = into e in let f = lost (maskU a U u) (maskU b U' u') h i.2 i.3 in rw (kept (maskT a T t) (maskT b T' t') i.0 i.1, f .0, f .1)
-  rule-told (rule4 y h e) = let i = into e in let d = gained (maskT a T t) (maskT b T' t') h i.0 i.1 in rw (d .0, d .1, kept (maskU a U u) (maskU b U' u') i.2 i.3)
-  rule-told (rule5 y h e) = let i = into e in let d = gained (maskT a T t) (maskT b T' t') h i.0 i.1 in rw (d .0, d .1, lost (maskU a U u) (maskU b U' u') h i.2 i.3 .0)
-  rule-told (rule6 z h e) = let i = into e in let d = lost (maskT a T t) (maskT b T' t') h i.0 i.1 in rw (d .0, d .1, gained (maskU a U u) (maskU b U' u') h i.2 i.3 .0)
-  rule-told (rule7 z h e) = let i = into e in let d = lost (maskT a T t) (maskT b T' t') h i.0 i.1 in rw (d .0, d .1, kept (maskU a U u) (maskU b U' u') i.2 i.3)
+  rule-told (rule1 y z e) =
+      let i = into e in
+      rw (kept (maskT a T t) (maskT b T' t') i.0 i.1, kept (maskU a U u) (maskU b U' u') i.2 i.3)
+  rule-told (rule2 y z h e) =
+      let i = into e in
+      let f = gained (maskU a U u) (maskU b U' u') h i.2 i.3 in
+      rw (kept (maskT a T t) (maskT b T' t') i.0 i.1, f .0, f .1)
+  rule-told (rule3 y z h e) =
+      let i = into e in
+      let f = lost (maskU a U u) (maskU b U' u') h i.2 i.3 in
+      rw (kept (maskT a T t) (maskT b T' t') i.0 i.1, f .0, f .1)
+  rule-told (rule4 y h e) =
+      let i = into e in
+      let d = gained (maskT a T t) (maskT b T' t') h i.0 i.1 in
+      rw (d .0, d .1, kept (maskU a U u) (maskU b U' u') i.2 i.3)
+  rule-told (rule5 y h e) =
+      let i = into e in
+      let d = gained (maskT a T t) (maskT b T' t') h i.0 i.1 in
+      rw (d .0, d .1, lost (maskU a U u) (maskU b U' u') h i.2 i.3 .0)
+  rule-told (rule6 z h e) =
+      let i = into e in
+      let d = lost (maskT a T t) (maskT b T' t') h i.0 i.1 in
+      rw (d .0, d .1, gained (maskU a U u) (maskU b U' u') h i.2 i.3 .0)
+  rule-told (rule7 z h e) =
+      let i = into e in
+      let d = lost (maskT a T t) (maskT b T' t') h i.0 i.1 in
+      rw (d .0, d .1, kept (maskU a U u) (maskU b U' u') i.2 i.3)

@@ -19,19 +19,25 @@ use Rattle.walk_ways.specs.declared.Way.{Way}
 abbrev made : Leads → Place → Way
 made leads place = record { leads = leads; place = place }
 
-module _ (m : ℕ) (a : State) (round : Round) (first list order marks : List ℕ) (s : Status) (o : Outcome) (H : Holds round first list order marks s o (step a)) (C : CanTry a) where
+module _ (m : ℕ) (a : State) (round : Round) (first list order marks : List ℕ) (s : Status) (o : Outcome)
+    (H : Holds round first list order marks s o (step a)) (C : CanTry a) where
   module _ (r : Status) (is : o ≡ Moved r) where
     after : goes (stateOf round first list order marks r) ≡ step a
     after = rw is at H.after
 
     pub few : (r .count ≤ 15) × (length first ≡ 16)
-    few = let w = C .short (stateOf round first list order marks r) (sym after) in (omega (arith, w .0, length-take (r .count) order, H .each .inOrder), w .1)
+    few =
+        let w = C .short (stateOf round first list order marks r) (sym after) in
+        (omega (arith, w .0, length-take (r .count) order, H .each .inOrder), w .1)
 
     long : length (take (r .count) order) ≡ r .count
     long = length-take (r .count) order ∙ omega (arith, few .0, H .each .inOrder)
 
-    pub way-moved : made (Onto (ruleFrom (a .T) (a .U) (r .t) (r .u))) (keptAs m first order (r .count)) ≡ wayIn m a (step a)
-    way-moved = rw (← after, long) (ap (λ (l : List ℕ). made (Onto (ruleFrom (a .T) (a .U) (r .t) (r .u))) (keptWith l)) (sym (take-again (r .count) order)))
+    pub way-moved : made (Onto (ruleFrom (a .T) (a .U) (r .t) (r .u))) (keptAs m first order (r .count))
+        ≡ wayIn m a (step a)
+    way-moved = rw (← after, long) (ap
+        (λ (l : List ℕ). made (Onto (ruleFrom (a .T) (a .U) (r .t) (r .u))) (keptWith l))
+        (sym (take-again (r .count) order)))
       where
         keptWith : List ℕ → Place
         keptWith l = record { first = padded 16 (take m first); order = padded 16 l; count = r .count + 1 }

@@ -31,6 +31,9 @@ pub record CanTry (a : State) : Type 0 where
   pub firstLong : length (a .first) ≡ 16
 
 abbrev pub wayIn : ℕ → State → After → Way
-wayIn m a (goes e) = record { leads = Onto (ruleFrom (a .T) (a .U) (e .T) (e .U)); place = keptAs m (e .first) (e .order) (length (e .order)) }
+wayIn m a (goes e) = record {
+  leads = Onto (ruleFrom (a .T) (a .U) (e .T) (e .U));
+  place = keptAs m (e .first) (e .order) (length (e .order));
+}
 wayIn m a (endsAtPlace s h) = record { leads = PlaceEnd h; place = nowhere }
 wayIn m a (endsAtFacet s h) = record { leads = FacetEnd h; place = nowhere }

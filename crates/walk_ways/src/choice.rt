@@ -82,8 +82,8 @@ pub fn from_start(
     told(g, previous, sizes, first, order, s, on)
 }
 
-// From any other place: the point leaves, or its label joins T or the other point with that label leaves. One of the two
-// must lead back.
+// From any other place: the point leaves, or its label joins T or the other point with that label leaves. One of the
+// two must lead back.
 pub fn from_other(
     g: Grid,
     previous: &[u8; 16],
@@ -101,7 +101,8 @@ pub fn from_other(
     point: usize,
     unknown: bool,
 ) -> Next
-    requires { ⌜ Standing g w (now labels) (now first) (now list) (now order) (now marks) n t u point unknown × (1 ≤ n) ⌝ }
+    requires { ⌜ Standing g w (now labels) (now first) (now list) (now order) (now marks) n t u point unknown
+        × (1 ≤ n) ⌝ }
     requires { ⌜ IsRoundOf g (now previous) (now next) (now sizes) ⌝ }
     ensures { λ r. ⌜ r ≡ nextIn g w (now (labels .entry)) ⌝ }
 {

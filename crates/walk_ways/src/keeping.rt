@@ -47,7 +47,8 @@ pub fn none() -> Place
     }
 }
 
-// Whether two places are kept alike. The order of each has 16 numbers, which a caller that holds it within a struct learns here.
+// Whether two places are kept alike. The order of each has 16 numbers, which a caller that holds it within a struct
+// learns here.
 pub fn same_place(a: Place, b: Place) -> bool
     ensures { λ r. ⌜ (r ≡ samePlace a b) × (length (b .order) ≡ 16) ⌝ }
 {

@@ -12,9 +12,9 @@ pub use keeping::is_kept;
 pub use keeping::none;
 pub use spares::spare;
 
-// A place as it is kept: its first point, the indices of T from 0 in the order in which each point goes to the next, and
-// how many points it has. What stands behind is 0, so that places are the same exactly if their structs are; 0 points
-// and nothing but 0 are no place.
+// A place as it is kept: its first point, the indices of T from 0 in the order in which each point goes to the next,
+// and how many points it has. What stands behind is 0, so that places are the same exactly if their structs are; 0
+// points and nothing but 0 are no place.
 #[repr(C)]
 pub struct Place {
     pub first: [u16; 16],

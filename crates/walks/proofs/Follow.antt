@@ -19,7 +19,8 @@ use Rattle.place.proofs.Ways.{byLink, onWays, in-ways}
 use Rattle.place.specs.Demand.{Accepted, Demand3, Stop, atEnd, atGap, placeAt, leftAt}
 use Rattle.place.specs.Ends.{Kind, End, link, ends, ways}
 use Rattle.place.specs.LabelsRead.{cameIn, labelsRead, pointCameIn}
-use Rattle.place.specs.Path.{isBack, waysOn, sameSimplex, path, pathLength, spent, unknown, ended as runEnded, outcome, answer}
+use Rattle.place.specs.Path.{isBack, waysOn, sameSimplex, path, pathLength, spent, unknown, ended as runEnded, outcome}
+use Rattle.place.specs.Path.{answer}
 use Rattle.place.specs.Places.{Simplex, allLabelled, unlabelled}
 use Rattle.place.specs.Problem.{Problem, hasLabel}
 use Rattle.walks.proofs.Meaning.{Came, begins, came, Stands, Passes, of-passes, meets-16, one-way-on}
@@ -43,7 +44,11 @@ module _ {p : Problem} (ok : Accepted p) where
   follows = demand3-holds ok
 
   link-at : (i : ℕ) → suc i < pathLength p → Link p (here i) (here (suc i))
-  link-at i c = record { from = follows .follows .places i (omega arith); to = follows .follows .places (suc i) c; by = follows .follows .links i c }
+  link-at i c = record {
+    from = follows .follows .places i (omega arith);
+    to = follows .follows .places (suc i) c;
+    by = follows .follows .links i c;
+  }
 
   not-start : (i : ℕ) → suc i < pathLength p → here (suc i) ≡ p .start ∷ [] → ⊥
   not-start i c q = follows .once 0 (suc i) (omega arith) c (λ y. rw (follows .follows .begins, q))
@@ -73,23 +78,25 @@ module _ {p : Problem} (ok : Accepted p) where
   -- before the last place the one way on is the link to the next
   ways-at : (i : ℕ) → suc i < pathLength p → waysOn p (leftAt visited i) (here i) ≡ link (here (suc i)) ∷ []
   unfolding waysOn
-  ways-at i c =
-      only-list onWays (link (here (suc i))) (waysOn p (leftAt visited i) (here i))
+  ways-at i c = only-list onWays (link (here (suc i))) (waysOn p (leftAt visited i) (here i))
       (omega (arith, follows .one i (omega arith) (follows .follows .known i c)))
       (in-filter onWays (λ w. not (isBack (leftAt visited i) w)) (link (here (suc i))) (ways p (here i))
-      (in-ways p (here i) ok.settled.sameNumber (byLink (here (suc i)) (follows .follows .places (suc i) c) (follows .follows .links i c)))
+      (in-ways p (here i) ok.settled.sameNumber
+      (byLink (here (suc i)) (follows .follows .places (suc i) c) (follows .follows .links i c)))
       (rw (onward-at i c)))
 
   next-at : (i : ℕ) → suc i < pathLength p → nextOf (walkAt p i) p.labels ≡ moved (here (suc i))
   next-at i c =
-      next-onward (walkAt p i) p.labels (of-passes (walkAt p i) p.labels (passes-at i (omega arith) (follows .follows .known i c)))
+      next-onward (walkAt p i) p.labels
+      (of-passes (walkAt p i) p.labels (passes-at i (omega arith) (follows .follows .known i c)))
       ∙ ap byWay (ways-at i c)
 
   stands : (i : ℕ) → i < pathLength p → called p i ≡ walkAt p i
   unfolding moveWalk
   stands zero c = rw (follows .follows .begins, came-none visited)
   stands (suc i) c =
-      let z : suc (cameIn visited i) + cond (pointCameIn (here i) (here (suc i))) 1 0 ≡ suc (cameIn visited (suc i)) = omega (arith, came-next visited i) in
+      let z : suc (cameIn visited i) + cond (pointCameIn (here i) (here (suc i))) 1 0 ≡ suc (cameIn visited (suc i)) =
+      omega (arith, came-next visited i) in
       ap (λ (w : Walk). moveWalk w p.labels) (stands i (omega arith)) ∙ rw (next-at i c, z)
 
   moves : (i : ℕ) → suc i < pathLength p → moveAnswer (called p i) p.labels ≡ moved (ruleOf p (here i) (here (suc i)))
@@ -122,9 +129,11 @@ module _ {p : Problem} (ok : Accepted p) where
   gap-at : (y : Point) → unlabelled p (here last) ≡ y ∷ [] → moveAnswer (called p last) p.labels ≡ refused 16
   gap-at y g =
       let m = filter-in onPoints (λ y. not (hasLabel p y)) y (here last) (rw g (in-here onPoints y [])) in
-      let f : allLabelled p (here last) ≡ false = false-of _ (λ own. absurd-bool (sym (all-in onPoints (hasLabel p) (here last) own y m.0) ∙ not-is _ m.1)) in
+      let f : allLabelled p (here last) ≡ false =
+      false-of _ (λ own. absurd-bool (sym (all-in onPoints (hasLabel p) (here last) own y m.0) ∙ not-is _ m.1)) in
       rw (stands last last-below)
-      (answer-refused (walkAt p last) p.labels 16 (λ z. absurd (omega arith)) (meets-16 (walkAt p last) p.labels ok (stands-at last last-below) f))
+      (answer-refused (walkAt p last) p.labels 16 (λ z. absurd (omega arith))
+      (meets-16 (walkAt p last) p.labels ok (stands-at last last-below) f))
 
   places-at : (n : ℕ) → n ≡ pathLength p → called p (pred n) .places ≡ n
   places-at n e =
@@ -143,7 +152,8 @@ module _ {p : Problem} (ok : Accepted p) where
   unfolding answer
   run-ended b n read k j v s q = go (ltb b (pathLength p)) (path p .end) follows.stops q
     where
-      go : (c : Bool) (d : Option End) → Stop p (here last) d → cond c (spent b) (outcome p visited d) ≡ runEnded n read k j v s
+      go : (c : Bool) (d : Option End) → Stop p (here last) d
+          → cond c (spent b) (outcome p visited d) ≡ runEnded n read k j v s
           → (n ≡ pathLength p) × (read ≡ labelsRead visited) × (moveAnswer (called p last) p.labels ≡ ended k j s)
       go true d t q = absurd-bool (cc)
       go false none t q = absurd-bool (cc)
@@ -155,7 +165,8 @@ module _ {p : Problem} (ok : Accepted p) where
           let h : e .simplex ≡ s = cc in
           (sym a, sym r, rw (← f, ← g, ← h) (ends-at e es own w))
 
-  run-asks : (b n i : ℕ) → answer p b ≡ unknown n i → (suc n ≡ pathLength p) × (moveAnswer (called p last) p.labels ≡ refused 16)
+  run-asks : (b n i : ℕ) → answer p b ≡ unknown n i
+      → (suc n ≡ pathLength p) × (moveAnswer (called p last) p.labels ≡ refused 16)
   unfolding answer
   run-asks b n i q = (follows .asked b n i q .0, go (ltb b (pathLength p)) (path p .end) follows.stops q)
     where
@@ -166,7 +177,8 @@ module _ {p : Problem} (ok : Accepted p) where
       go false none (atGap y g) q = gap-at y g
 
   -- facing back, between {v} and the last place
-  module _ (i n read : ℕ) (c : suc (suc i) < pathLength p) (few : n ≤ bound p.grid) (some-read : 1 ≤ read) (read-few : read ≤ n) where
+  module _ (i n read : ℕ) (c : suc (suc i) < pathLength p) (few : n ≤ bound p.grid) (some-read : 1 ≤ read)
+      (read-few : read ≤ n) where
     behind : Link p (here i) (here (suc i))
     behind = link-at i (omega arith)
 
@@ -189,23 +201,31 @@ module _ {p : Problem} (ok : Accepted p) where
     unfolding waysOn
     ways-back =
         let l = back (here i) (here (suc i)) behind in
-        let away : sameSimplex (here (suc (suc i))) (here i) ≡ false = false-of _ (λ q. follows .follows .onward i c (sym (simplex-sound _ _ q))) in
+        let away : sameSimplex (here (suc (suc i))) (here i) ≡ false =
+        false-of _ (λ q. follows .follows .onward i c (sym (simplex-sound _ _ q))) in
         only-list onWays (link (here i)) (waysOn p (some (here (suc (suc i)))) (here (suc i)))
         (omega (arith, one-way-on (facingBack p (suc i) n read) p.labels passes-back))
-        (in-filter onWays (λ w. not (isBack (some (here (suc (suc i)))) w)) (link (here i)) (ways p (here (suc i)))
+        (in-filter onWays
+        (λ w. not (isBack (some (here (suc (suc i)))) w))
+        (link (here i)) (ways p (here (suc i)))
         (in-ways p (here (suc i)) ok.settled.sameNumber (byLink (here i) l.to l.by)) (rw away))
 
-    moves-back : moveWalk (facingBack p (suc i) n read) p.labels ≡ facingBack p i (suc n) (read + cond (pointCameIn (here (suc i)) (here i)) 1 0)
+    moves-back : moveWalk (facingBack p (suc i) n read) p.labels
+        ≡ facingBack p i (suc n) (read + cond (pointCameIn (here (suc i)) (here i)) 1 0)
     unfolding moveWalk
-    moves-back =
-        rw (next-onward (facingBack p (suc i) n read) p.labels (of-passes (facingBack p (suc i) n read) p.labels passes-back) ∙ ap byWay ways-back)
+    moves-back = rw
+        (next-onward (facingBack p (suc i) n read) p.labels
+        (of-passes (facingBack p (suc i) n read) p.labels passes-back)
+        ∙ ap byWay ways-back)
 
   pub calls-follow : CallsFollow p
   calls-follow = record {
     stands = stands;
     moves = moves;
     shows = shows;
-    ends = λ b n read k j v s q. let r = run-ended b n read k j v s q in (places-at n r.0, read-at n r.0 ∙ sym (r .1), rw (r .0) (r .2));
+    ends = λ b n read k j v s q.
+        let r = run-ended b n read k j v s q in
+        (places-at n r.0, read-at n r.0 ∙ sym (r .1), rw (r .0) (r .2));
     gap = λ b n i q. let r = run-asks b n i q in let z : n ≡ last = ap pred r.0 in (places-at (suc n) r.0, rw z (r .1));
     back = moves-back;
   }

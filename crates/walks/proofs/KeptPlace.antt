@@ -1,5 +1,5 @@
--- A first point and an order that meet the conditions, with labels for T, are a place. In order: U and a step; the chain that the steps make; the place.
--- Assumes nothing.
+-- A first point and an order that meet the conditions, with labels for T, are a place. In order: U and a step; the
+-- chain that the steps make; the place. Assumes nothing.
 use mathlib.Core.Bool.{Bool, true, false, not, _&&_, _||_}
 use mathlib.Core.List.{List, [], _∷_}
 use mathlib.Core.Logic.{_⊎_, inr, ⊎-elim}
@@ -10,13 +10,16 @@ use lib.Dec.{eqb, ltb}
 use lib.ListN.{length, length-map}
 use lib.Seq.{ext-getD}
 use native.Mathlib.Omega.{arith}
-use Rattle.combinatorics.proofs.Basics.{absurd-bool, and-both, and-left, and-right, before-or-not, false-of, not-is, or-cases, same-or, true-or-false}
-use Rattle.combinatorics.proofs.Lists.{all-in, distinct-out, distinct-tail, filter-in, in-filter, in-here, in-later, onNumbers}
+use Rattle.combinatorics.proofs.Basics.{absurd-bool, and-both, and-left, and-right, before-or-not, false-of, not-is}
+use Rattle.combinatorics.proofs.Basics.{or-cases, same-or, true-or-false}
+use Rattle.combinatorics.proofs.Lists.{all-in, distinct-out, distinct-tail, filter-in, in-filter, in-here, in-later}
+use Rattle.combinatorics.proofs.Lists.{onNumbers}
 use Rattle.combinatorics.proofs.Ranges.{length-upFrom}
 use Rattle.combinatorics.proofs.Turns.{map-at}
 use Rattle.combinatorics.specs.Lists.{all, distinct, isIn}
 use Rattle.geometry.proofs.Bridge.{changes-of}
-use Rattle.geometry.proofs.Definitions.{back, Blocks, BackOutside, BackToPositive, Chain, coord, Free, Grid as OnRing, HasZeros, Moved, raise, Step, Tight, tightOf}
+use Rattle.geometry.proofs.Definitions.{back, Blocks, BackOutside, BackToPositive, Chain, coord, Free, Grid as OnRing}
+use Rattle.geometry.proofs.Definitions.{HasZeros, Moved, raise, Step, Tight, tightOf}
 use Rattle.geometry.proofs.LabelledChains.{listAt, LabelledChain}
 use Rattle.geometry.proofs.Links.{chain-ext}
 use Rattle.geometry.proofs.Points.{at-point, listAt-map, nth, point-on}
@@ -26,7 +29,9 @@ use Rattle.geometry.proofs.Tight.{bounded, lifted-le, lifted-on, lifted-tight, 
 use Rattle.geometry.proofs.Sorted.{rising-chain}
 use Rattle.grid.proofs.Points.{onPoints}
 use Rattle.grid.specs.Grid.{Point, at, indices, isGridPoint, numIndices, samePoint}
-use Rattle.place.proofs.BlocksOfGrid.{back-below, beyond, blocksOf, coefficientOf, coefficientOf-is, coefficientOf-point, coord-in, hasZeros, next-outside, on-ring, outside-before, point-grid, pointOf, start-outside}
+use Rattle.place.proofs.BlocksOfGrid.{back-below, beyond, blocksOf, coefficientOf, coefficientOf-is}
+use Rattle.place.proofs.BlocksOfGrid.{coefficientOf-point, coord-in, hasZeros, next-outside, on-ring, outside-before}
+use Rattle.place.proofs.BlocksOfGrid.{point-grid, pointOf, start-outside}
 use Rattle.place.proofs.FromChain.{place-of}
 use Rattle.place.proofs.Meaning.{index-means}
 use Rattle.place.proofs.Positions.{at-distinct, at-in, in-at, same-at}
@@ -44,13 +49,18 @@ module _ (p : Problem) where
   unfolding zeroOutside
   zero-is o y k m =
       let i = filter-in onNumbers (λ h. eqb (at y h) 0 && not (isIn eqb h o)) k (indices p.grid) m in
-      let a : Bool = eqb (at y k) 0 in
-      (index-means p.grid k .0 i.0, eqb-true _ _ (and-left a (not (isIn eqb k o)) i.1), not-is _ (and-right a (not (isIn eqb k o)) i.1))
+      let a : Bool = eqb (at y k) 0 in (
+        index-means p.grid k .0 i.0,
+        eqb-true _ _ (and-left a (not (isIn eqb k o)) i.1),
+        not-is _ (and-right a (not (isIn eqb k o)) i.1),
+      )
 
   pub is-zero : (o : List ℕ) (y : Point) (k : ℕ) → k < numIndices p.grid → at y k ≡ 0 → isIn eqb k o ≡ false
       → isIn eqb k (zeroOutside p.grid o y) ≡ true
   unfolding zeroOutside
-  is-zero o y k l z n = in-filter onNumbers (λ h. eqb (at y h) 0 && not (isIn eqb h o)) k (indices p.grid) (index-means p.grid k .1 l) (rw (z, n))
+  is-zero o y k l z n = in-filter onNumbers
+      (λ h. eqb (at y h) 0 && not (isIn eqb h o))
+      k (indices p.grid) (index-means p.grid k .1 l) (rw (z, n))
 
   -- a step
   pub at-stepped : (u : List ℕ) (h : ℕ) (y : Point) (k : ℕ) → k < numIndices p.grid
@@ -62,10 +72,12 @@ module _ (p : Problem) where
 
   pub length-stepped : (u : List ℕ) (h : ℕ) (y : Point) → length (stepped p.grid u h y) ≡ numIndices p.grid
   unfolding stepped
-  length-stepped u h y = length-map (indices p.grid) (λ k. at y k + unit h k - unit (firstBackOutside p.grid u h) k) ∙ length-upFrom 0 (numIndices p.grid)
+  length-stepped u h y = length-map (indices p.grid) (λ k. at y k + unit h k - unit (firstBackOutside p.grid u h) k)
+      ∙ length-upFrom 0 (numIndices p.grid)
 
   -- what is 0 outside T stays 0
-  pub zero-stays : (u : List ℕ) (h : ℕ) (y : Point) (k : ℕ) → k < numIndices p.grid → at y k ≡ 0 → (k ≡ h → ⊥) → at (stepped p.grid u h y) k ≡ 0
+  pub zero-stays : (u : List ℕ) (h : ℕ) (y : Point) (k : ℕ) → k < numIndices p.grid → at y k ≡ 0 → (k ≡ h → ⊥)
+      → at (stepped p.grid u h y) k ≡ 0
   zero-stays u h y k l z n = let w : unit h k ≡ 0 = rw (ne-eqb k h n) in omega (arith, at-stepped u h y k l)
 
 -- the steps from the first point on
@@ -91,8 +103,9 @@ module _ {p : Problem} (ok : Settled p) (y : Point) (o : List ℕ) (grid-y : isG
       fresh : (k : ℕ) → isIn eqb k r ≡ true → coefficientOf p z k ≡ first k
       zeros : (k : ℕ) → isIn eqb k u ≡ true → at z k ≡ 0
 
-    module _ (z : Point) (h : ℕ) (r : List ℕ) (s : Stands z (h ∷ r)) (part : (k : ℕ) → isIn eqb k (h ∷ r) ≡ true → T k ≡ true)
-        (below : h < numIndices p.grid) (new : distinct eqb (h ∷ r) ≡ true) (gives : 0 < at z (firstBackOutside p.grid u h)) where
+    module _ (z : Point) (h : ℕ) (r : List ℕ) (s : Stands z (h ∷ r))
+        (part : (k : ℕ) → isIn eqb k (h ∷ r) ≡ true → T k ≡ true) (below : h < numIndices p.grid)
+        (new : distinct eqb (h ∷ r) ≡ true) (gives : 0 < at z (firstBackOutside p.grid u h)) where
       abbrev c : ℕ → ℕ
       c = coefficientOf p z
 
@@ -152,8 +165,11 @@ module _ {p : Problem} (ok : Settled p) (y : Point) (o : List ℕ) (grid-y : isG
       run : BackToPositive R T c h n
       run = record {
         some = search .1 .some;
-        skipped = λ i x y. let w = search .1 .skipped i x y in
-            (zero-is p o _ (back R.previous i h) w .2, coord-in p is (back R.previous i h) (back-below p i h below) ∙ s .zeros (back R.previous i h) w);
+        skipped = λ i x y.
+            let w = search .1 .skipped i x y in (
+              zero-is p o _ (back R.previous i h) w .2,
+              coord-in p is (back R.previous i h) (back-below p i h below) ∙ s .zeros (back R.previous i h) w,
+            );
         stops = inr positive;
       }
 
@@ -170,10 +186,12 @@ module _ {p : Problem} (ok : Settled p) (y : Point) (o : List ℕ) (grid-y : isG
       moves = moved R s.tight tight-d (hasZeros p is) zeros-d step n run.some rises ends (on-ring p is) grid-d
 
       next-is : stepped p.grid u h z ≡ pointOf p d
-      next-is =
-          ext-getD 0 (stepped p.grid u h z) (pointOf p d) (length-stepped p u h z ∙ sym (point-on p.grid.sizes p.start d grid-d .size))
-          (λ k l. let m : k < numIndices p.grid = omega (arith, length-stepped p u h z) in
-          at-stepped p u h z k m ∙ (rw search.2 (omega (arith, changes-of moves k, coord-in p is k m, at-point p.grid.sizes p.start d k m))))
+      next-is = ext-getD 0 (stepped p.grid u h z) (pointOf p d)
+          (length-stepped p u h z ∙ sym (point-on p.grid.sizes p.start d grid-d .size))
+          (λ k l.
+          let m : k < numIndices p.grid = omega (arith, length-stepped p u h z) in
+          at-stepped p u h z k m
+          ∙ (rw search.2 (omega (arith, changes-of moves k, coord-in p is k m, at-point p.grid.sizes p.start d k m))))
 
       next-coefficients : coefficientOf p (stepped p.grid u h z) ≡ d
       next-coefficients = ap (coefficientOf p) next-is ∙ coefficientOf-point ok grid-d zeros-d
@@ -186,9 +204,13 @@ module _ {p : Problem} (ok : Settled p) (y : Point) (o : List ℕ) (grid-y : isG
         onGrid = rw next-is (point-grid ok d grid-d);
         tight = subst (λ (e : ℕ → ℕ). Tight R T e) (sym next-coefficients) tight-d;
         small = λ k t. omega (arith, at-next k, lifted-le R (raise h c) tight-y raised-small free k);
-        fresh = λ k m. at-next k ∙ step .unchanged k (part k (in-later onNumbers k h r m))
-            (λ e. absurd-bool (sym (rw e at m) ∙ distinct-out eqb h r new)) ∙ s .fresh k (in-later onNumbers k h r m);
-        zeros = λ k m. let w = zero-is p o y k m in zero-stays p u h z k w.0 (s .zeros k m) (λ e. absurd-bool (sym own ∙ ap T (sym e) ∙ w .2));
+        fresh = λ k m. at-next k
+            ∙ step .unchanged k (part k (in-later onNumbers k h r m))
+            (λ e. absurd-bool (sym (rw e at m) ∙ distinct-out eqb h r new))
+            ∙ s .fresh k (in-later onNumbers k h r m);
+        zeros = λ k m.
+            let w = zero-is p o y k m in
+            zero-stays p u h z k w.0 (s .zeros k m) (λ e. absurd-bool (sym own ∙ ap T (sym e) ∙ w .2));
       }
 
       step-next : Step T h c (coefficientOf p (stepped p.grid u h z))
@@ -200,14 +222,16 @@ module _ {p : Problem} (ok : Settled p) (y : Point) (o : List ℕ) (grid-y : isG
       onGrid : all (isGridPoint p.grid) (pointsBy p.grid u z r) ≡ true
       tight : (j : ℕ) → j ≤ length r → Tight R T (coefficientOf p (nth (pointsBy p.grid u z r) j))
       step : (j : ℕ) → j < length r
-          → Step T (at r j) (coefficientOf p (nth (pointsBy p.grid u z r) j)) (coefficientOf p (nth (pointsBy p.grid u z r) (suc j)))
+          → Step T (at r j) (coefficientOf p (nth (pointsBy p.grid u z r) j))
+          (coefficientOf p (nth (pointsBy p.grid u z r) (suc j)))
 
     begins-with : (z : Point) (r : List ℕ) → nth (pointsBy p.grid u z r) 0 ≡ z
     begins-with z [] = refl
     begins-with z (h ∷ r) = refl
 
     chained : (z : Point) (r : List ℕ) → Stands z r → ((k : ℕ) → isIn eqb k r ≡ true → T k ≡ true)
-        → all (λ h. ltb h (numIndices p.grid)) r ≡ true → distinct eqb r ≡ true → canStep p.grid u z r ≡ true → Chained z r
+        → all (λ h. ltb h (numIndices p.grid)) r ≡ true → distinct eqb r ≡ true → canStep p.grid u z r ≡ true
+        → Chained z r
     chained z [] s part below new can = record {
       long = refl;
       onGrid = rw s.onGrid;
@@ -220,7 +244,8 @@ module _ {p : Problem} (ok : Settled p) (y : Point) (o : List ℕ) (grid-y : isG
         let rest = canStep p.grid u (stepped p.grid u h z) r in
         let give = ltb 0 (at z (firstBackOutside p.grid u h)) in
         let g = ltb-true 0 _ (and-left give rest can) in
-        let k = chained (stepped p.grid u h z) r (stands-next z h r s part hb new g) (λ k m. part k (in-later onNumbers k h r m))
+        let k = chained (stepped p.grid u h z) r (stands-next z h r s part hb new g)
+        (λ k m. part k (in-later onNumbers k h r m))
         (and-right (ltb h m) (all (λ h. ltb h m) r) below) (distinct-tail eqb h r new) (and-right give rest can) in
         record {
           long = ap suc k.long;
@@ -229,11 +254,13 @@ module _ {p : Problem} (ok : Settled p) (y : Point) (o : List ℕ) (grid-y : isG
           step = step-at k (step-next z h r s part hb new g);
         }
       where
-        tight-at : Chained (stepped p.grid u h z) r → (j : ℕ) → j ≤ length (h ∷ r) → Tight R T (coefficientOf p (nth (pointsBy p.grid u z (h ∷ r)) j))
+        tight-at : Chained (stepped p.grid u h z) r → (j : ℕ) → j ≤ length (h ∷ r)
+            → Tight R T (coefficientOf p (nth (pointsBy p.grid u z (h ∷ r)) j))
         tight-at k zero l = s .tight
         tight-at k (suc j) l = k .tight j (omega arith)
 
-        step-at : Chained (stepped p.grid u h z) r → Step T h (coefficientOf p z) (coefficientOf p (stepped p.grid u h z)) → (j : ℕ) → j < length (h ∷ r)
+        step-at : Chained (stepped p.grid u h z) r
+            → Step T h (coefficientOf p z) (coefficientOf p (stepped p.grid u h z)) → (j : ℕ) → j < length (h ∷ r)
             → Step T (at (h ∷ r) j) (coefficientOf p (nth (pointsBy p.grid u z (h ∷ r)) j))
             (coefficientOf p (nth (pointsBy p.grid u z (h ∷ r)) (suc j)))
         step-at k e zero l = rw (begins-with (stepped p.grid u h z) r) e
@@ -245,7 +272,8 @@ pub record Conditions (p : Problem) (y : Point) (o : List ℕ) : Type 0 where
   pub below : all (λ h. ltb h (numIndices p.grid)) o ≡ true
   pub different : distinct eqb o ≡ true
   pub free : everyBlockFree p.grid o (zeroOutside p.grid o y) ≡ true
-  pub zero : (k : ℕ) → k < numIndices p.grid → isIn eqb k o ≡ false → isIn eqb k (zeroOutside p.grid o y) ≡ false → coefficientOf p y k ≡ 0
+  pub zero : (k : ℕ) → k < numIndices p.grid → isIn eqb k o ≡ false → isIn eqb k (zeroOutside p.grid o y) ≡ false
+      → coefficientOf p y k ≡ 0
   pub can : canStep p.grid (zeroOutside p.grid o y) y o ≡ true
 
 pub conditions-of : (p : Problem) (y : Point) (o : List ℕ) → isKept p y o ≡ true → Conditions p y o
@@ -268,7 +296,11 @@ conditions-of p y o h =
       below = and-left b c (and-right a (b && c) h3);
       different = and-right b c (and-right a (b && c) h3);
       free = and-right (a && (b && c)) d h2;
-      zero = λ k l n m. ⊎-elim (λ w. ⊎-elim (λ w. absurd-bool (sym w ∙ n)) (λ w. absurd-bool (sym w ∙ m)) (or-cases (isIn eqb k o) (isIn eqb k u) w))
+      zero = λ k l n m. ⊎-elim
+          (λ w. ⊎-elim
+          (λ w. absurd-bool (sym w ∙ n))
+          (λ w. absurd-bool (sym w ∙ m))
+          (or-cases (isIn eqb k o) (isIn eqb k u) w))
           (λ w. eqb-true _ _ w)
           (or-cases (isIn eqb k o || isIn eqb k u) (eqb (coefficientOf p y k) 0)
           (all-in onNumbers q (indices g) (and-right (a && (b && c) && d) e h1) k (index-means g k .1 l)));
@@ -340,20 +372,26 @@ module _ {p : Problem} (ok : Settled p) (y : Point) (o : List ℕ) (k : Conditio
   points-long = K .long
 
   pub distinct-points : distinct samePoint points ≡ true
-  distinct-points = at-distinct onPoints [] points (λ i j l m e.
-      ⊎-elim (λ b. absurd (apart i j b m e)) (λ b. ⊎-elim (λ c. absurd (apart j i c l (sym e))) (λ c. omega arith) (before-or-not j i)) (before-or-not i j))
+  distinct-points = at-distinct onPoints [] points
+      (λ i j l m e. ⊎-elim
+      (λ b. absurd (apart i j b m e))
+      (λ b. ⊎-elim (λ c. absurd (apart j i c l (sym e))) (λ c. omega arith) (before-or-not j i))
+      (before-or-not i j))
     where
       apart : (i j : ℕ) → i < j → j < length points → nth points i ≡ nth points j → ⊥
-      apart i j l m e =
-          rising-chain chain .new i j l (omega (arith, K .long))
-          (listAt-map (coefficientOf p) points i (omega arith) ∙ ap (coefficientOf p) e ∙ sym (listAt-map (coefficientOf p) points j m))
+      apart i j l m e = rising-chain chain .new i j l (omega (arith, K .long))
+          (listAt-map (coefficientOf p) points i (omega arith)
+          ∙ ap (coefficientOf p) e
+          ∙ sym (listAt-map (coefficientOf p) points j m))
 
   pub kept-place : within o (labelSet p points) ≡ true → isPlace p points ≡ true
   kept-place w =
-      let S : LabelledChain (blocksOf p) (labelOf p) (λ h. isIn eqb h o) (length o) (at o) (coefficientsOf p points) = record {
+      let S : LabelledChain (blocksOf p) (labelOf p) (λ h. isIn eqb h o) (length o) (at o) (coefficientsOf p points) =
+      record {
         size = length-map points (coefficientOf p) ∙ K .long;
         chain = chain;
-        covers = λ h m. let i = labels-in ok points K.onGrid h (all-in onNumbers (λ h. isIn eqb h (labelSet p points)) o w h m) in
+        covers = λ h m.
+            let i = labels-in ok points K.onGrid h (all-in onNumbers (λ h. isIn eqb h (labelSet p points)) o w h m) in
             (i .0, omega (arith, i .1, K .long), i .2);
       } in
       rw (pointsOf-coefficientsOf ok points K.onGrid) at (place-of ok S)

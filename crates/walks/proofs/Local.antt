@@ -41,16 +41,17 @@ module _ (p : Problem) (labels : List ℕ) where
 module _ (w : Walk) (labels others : List ℕ) (ok : Accepted (over w labels)) (okOthers : Accepted (over w others))
     (k : Agree (over w labels) others w.present) where
   walk-local : isWalk (over w others) w ≡ isWalk (over w labels) w
-  walk-local =
-      both (isWalk (over w others) w) (isWalk (over w labels) w)
-      (λ h. of-stands (over w labels) w (stands-stays (over w others) labels w (λ y m. sym (k y m)) (stands-of (over w others) w h)))
+  walk-local = both (isWalk (over w others) w) (isWalk (over w labels) w)
+      (λ h. of-stands (over w labels) w
+      (stands-stays (over w others) labels w (λ y m. sym (k y m)) (stands-of (over w others) w h)))
       (λ h. of-stands (over w others) w (stands-stays (over w labels) others w k (stands-of (over w labels) w h)))
 
   questions-local : firstNo (walkQuestions w others) ≡ firstNo (walkQuestions w labels)
-  questions-local =
-      behind-seven w others okOthers
+  questions-local = behind-seven w others okOthers
       ∙ ap (λ (b : Bool). firstNo (ask 20 b ∷ ask 16 (allLabelled (over w others) w.present) ∷ [])) walk-local
-      ∙ ap (λ (b : Bool). firstNo (ask 20 (isWalk (over w labels) w) ∷ ask 16 b ∷ [])) (known-local (over w labels) others w.present k)
+      ∙ ap
+      (λ (b : Bool). firstNo (ask 20 (isWalk (over w labels) w) ∷ ask 16 b ∷ []))
+      (known-local (over w labels) others w.present k)
       ∙ sym (behind-seven w labels ok)
 
   ways-on-local : waysOn (over w others) w.before w.present ≡ waysOn (over w labels) w.before w.present

@@ -1,4 +1,5 @@
--- What the questions of a call ask, in parts: a walk that is not refused, where it came from, and that it has exactly one way on. Assumes nothing.
+-- What the questions of a call ask, in parts: a walk that is not refused, where it came from, and that it has exactly
+-- one way on. Assumes nothing.
 use mathlib.Core.Bool.{Bool, true, false, _&&_}
 use mathlib.Core.List.{List, [], _∷_}
 use mathlib.Core.Option.{Option, none, some}
@@ -25,7 +26,8 @@ use Rattle.place.specs.Problem.{Problem}
 use Rattle.place.specs.Questions.{tableQuestions}
 use Rattle.questions.proofs.Answers.{both-yes, first-yes, asked-next}
 use Rattle.questions.specs.Questions.{firstNo, ask}
-use Rattle.walks.specs.Walk.{Walk, labelsOf, over, cameByLink, isStart, hasNone, bothOrNeither, isWalk, walkQuestions}
+use Rattle.walks.specs.Walk.{Walk, labelsOf, over, cameByLink, isStart, hasNone, bothOrNeither, isWalk}
+use Rattle.walks.specs.Walk.{walkQuestions}
 
 -- a walk stands at {v} with none before it, or elsewhere with one before it
 pub data Came (p : Problem) : Option Simplex → Simplex → Type 0 where
@@ -57,8 +59,8 @@ module _ (p : Problem) where
   came-of : (l : Option Simplex) (s : Simplex) → isPlace p s ≡ true → cameByLink p l s ≡ true
       → bothOrNeither (isStart p s) (hasNone l) ≡ true → Came p l s
   came-of none s h c e = rw (simplex-sound s (p .start ∷ []) (with-none (isStart p s) e)) begins
-  came-of (some a) s h c e =
-      came (record { from = and-left (isPlace p a) (linked p a s) c; to = h; by = and-right (isPlace p a) (linked p a s) c })
+  came-of (some a) s h c e = came
+      (record { from = and-left (isPlace p a) (linked p a s) c; to = h; by = and-right (isPlace p a) (linked p a s) c })
       (start-is p s (with-one (isStart p s) e))
 
   of-came : {l : Option Simplex} {s : Simplex} → Came p l s
@@ -99,7 +101,8 @@ module _ (p : Problem) where
       let c = of-came k.came in
       let places = and-both _ _ (le-leb 1 _ k.some) (le-leb _ _ k.bounded) in
       let read = and-both _ _ (le-leb 1 _ k.read) (le-leb _ _ k.readFew) in
-      let carried : same eqb w.carried (labelsOf p w.present) ≡ true = rw (k .carries) (same-self eqb eqb-self (labelsOf p w.present)) in
+      let carried : same eqb w.carried (labelsOf p w.present) ≡ true =
+      rw (k .carries) (same-self eqb eqb-self (labelsOf p w.present)) in
       and-both _ _ (and-both _ _ (and-both _ _ (and-both _ _ (and-both _ _ k.place c.0) c.1) places) carried) read
 
 -- a walk that is not refused
@@ -120,8 +123,10 @@ module _ (w : Walk) (labels : List ℕ) where
       record { accepted = accepted-of p parts.0; stands = stands-of p w q20.0; known = q16 .0 }
 
   -- behind questions 1 to 7
-  pub behind-seven : Accepted p → firstNo (walkQuestions w labels) ≡ firstNo (ask 20 (isWalk p w) ∷ ask 16 (allLabelled p w.present) ∷ [])
-  behind-seven ok = asked-next (tableQuestions p) (ask 20 (isWalk p w) ∷ ask 16 (allLabelled p w.present) ∷ []) refl (accepted-is ok)
+  pub behind-seven : Accepted p
+      → firstNo (walkQuestions w labels) ≡ firstNo (ask 20 (isWalk p w) ∷ ask 16 (allLabelled p w.present) ∷ [])
+  behind-seven ok =
+      asked-next (tableQuestions p) (ask 20 (isWalk p w) ∷ ask 16 (allLabelled p w.present) ∷ []) refl (accepted-is ok)
 
   pub of-passes : Passes w labels → firstNo (walkQuestions w labels) ≡ 0
   unfolding firstNo

@@ -1,4 +1,5 @@
--- What holds of every walk and table. In order: what a call that moves tells; a walk that has been moved; where it came from. Assumes nothing.
+-- What holds of every walk and table. In order: what a call that moves tells; a walk that has been moved; where it came
+-- from. Assumes nothing.
 use mathlib.Core.Bool.{Bool, true, false, not, cond}
 use mathlib.Core.List.{List, [], _∷_}
 use mathlib.Core.Logic.{_↔_, _⊎_, inl, inr, ⊎-elim}
@@ -30,9 +31,11 @@ use Rattle.trail.proofs.Rules.{rules-are}
 use Rattle.trail.specs.Change.{change, ByRule}
 use Rattle.trail.specs.Record.{fields, encoded, recordOf}
 use Rattle.walks.proofs.Local.{next-local}
-use Rattle.walks.proofs.Meaning.{Came, begins, came, Stands, stands-of, Passes, passes-of, meets-20, meets-16, of-passes, one-way-on}
+use Rattle.walks.proofs.Meaning.{Came, begins, came, Stands, stands-of, Passes, passes-of, meets-20, meets-16}
+use Rattle.walks.proofs.Meaning.{of-passes, one-way-on}
 use Rattle.walks.specs.Claims.{Calls}
-use Rattle.walks.specs.Next.{Outcome, refused, ended, moved, onMove, byWay, nextOf, ruleOf, moveAnswer, movedTo, walkAfter, moveWalk, afterCalls}
+use Rattle.walks.specs.Next.{Outcome, refused, ended, moved, onMove, byWay, nextOf, ruleOf, moveAnswer, movedTo}
+use Rattle.walks.specs.Next.{walkAfter, moveWalk, afterCalls}
 use Rattle.walks.specs.Preview.{Move, moveTo, preview, seen}
 use Rattle.walks.specs.Walk.{Walk, SameBefore, sameBefore, SameWalk, labelsOf, over, walkQuestions}
 
@@ -41,13 +44,14 @@ pub record Onward (p : Problem) (l : Option Simplex) (here s : Simplex) : Type 0
   pub joins : Link p here s
   pub away : isBack l (link s) ≡ false
 
-way-link : {p : Problem} {here s : Simplex} → isPlace p here ≡ true → {w : Way} → IsWay p here w → w ≡ link s → Link p here s
+way-link : {p : Problem} {here s : Simplex} → isPlace p here ≡ true → {w : Way} → IsWay p here w → w ≡ link s
+    → Link p here s
 way-link h (byPlace j l c) q = absurd-bool (cc)
 way-link h (byFacet f j m t l c) q = absurd-bool (cc)
 way-link {p} {here} {s} h (byLink t k l) q = let z : t ≡ s = cc in rw (← z) (record { from = h; to = k; by = l })
 
-onward-of : {p : Problem} {l : Option Simplex} {here s : Simplex} {ws : List Way} → isPlace p here ≡ true → waysOn p l here ≡ link s ∷ ws
-    → Onward p l here s
+onward-of : {p : Problem} {l : Option Simplex} {here s : Simplex} {ws : List Way} → isPlace p here ≡ true
+    → waysOn p l here ≡ link s ∷ ws → Onward p l here s
 unfolding waysOn
 onward-of {p} {l} {here} {s} {ws} h q =
     let m = filter-in onWays (λ w. not (isBack l w)) (link s) (ways p here) (rw q (in-here onWays (link s) ws)) in
@@ -84,7 +88,8 @@ module _ (w : Walk) (labels : List ℕ) where
   unfolding moveAnswer
   moved-next r e = go (nextOf w labels) refl e
     where
-      go : (o : Outcome Simplex) → nextOf w labels ≡ o → onMove (ruleOf p w.present) o ≡ moved r → (s : Simplex) × (nextOf w labels ≡ moved s)
+      go : (o : Outcome Simplex) → nextOf w labels ≡ o → onMove (ruleOf p w.present) o ≡ moved r
+          → (s : Simplex) × (nextOf w labels ≡ moved s)
       go (refused n) q e = absurd-bool (cc)
       go (ended k b s) q e = absurd-bool (cc)
       go (moved s) q e = (s, q)
@@ -129,9 +134,12 @@ module _ (w : Walk) (labels : List ℕ) where
 
   refuses : (n : ℕ) → (moveAnswer w labels ≡ refused n) ↔ ((firstNo (walkQuestions w labels) ≡ n) × (0 < n))
   refuses n = (
-    (λ e. ⊎-elim (λ z. absurd (passes-answers (passes-of w labels z) n e))
-        (λ (ne : firstNo (walkQuestions w labels) ≡ 0 → ⊥). let q = answer-refused (firstNo (walkQuestions w labels)) ne refl in
-        let z : firstNo (walkQuestions w labels) ≡ n = cc in (z, omega (arith, ne)))
+    (λ e. ⊎-elim
+        (λ z. absurd (passes-answers (passes-of w labels z) n e))
+        (λ (ne : firstNo (walkQuestions w labels) ≡ 0 → ⊥).
+        let q = answer-refused (firstNo (walkQuestions w labels)) ne refl in
+        let z : firstNo (walkQuestions w labels) ≡ n = cc in
+        (z, omega (arith, ne)))
         (same-or (firstNo (walkQuestions w labels)) 0)),
     (λ k. answer-refused n (λ z. absurd (omega (arith, k .1))) k.0),
   )
@@ -145,7 +153,8 @@ module _ (w : Walk) (labels : List ℕ) where
       (true-or-false (allLabelled p w.present))
 
   pub not-20 : Accepted p → (Stands p w → ⊥) → moveAnswer w labels ≡ refused 20
-  not-20 ok n = answer-refused 20 (λ z. absurd (omega arith)) (meets-20 w labels ok (false-of _ (λ h. n (stands-of p w h))))
+  not-20 ok n =
+      answer-refused 20 (λ z. absurd (omega arith)) (meets-20 w labels ok (false-of _ (λ h. n (stands-of p w h))))
 
   -- a call that does not move leaves the walk as it is, however often it is made
   unmoved : ((r : ℕ) → moveAnswer w labels ≡ moved r → ⊥) → moveWalk w labels ≡ w
@@ -166,23 +175,27 @@ module _ (w : Walk) (labels : List ℕ) where
   unfolding preview moveAnswer moveWalk
   shown = go (nextOf w labels)
     where
-      go : (o : Outcome Simplex) → onMove (moveTo p w.present) o ≡ seen w labels (onMove (ruleOf p w.present) o) (walkAfter p w o)
+      go : (o : Outcome Simplex)
+          → onMove (moveTo p w.present) o ≡ seen w labels (onMove (ruleOf p w.present) o) (walkAfter p w o)
       go (refused n) = refl
       go (ended l c t) = refl
       go (moved t) = refl
 
   named : (m : Move) → preview w labels ≡ moved m
-      → ByRule (m .change) (m .rule) × (encoded (fields (m .change)) ≡ recordOf p w.present (moveWalk w labels .present))
+      → ByRule (m .change) (m .rule)
+      × (encoded (fields (m .change)) ≡ recordOf p w.present (moveWalk w labels .present))
   unfolding preview recordOf
   named m e = go (nextOf w labels) refl e
     where
       go : (o : Outcome Simplex) → nextOf w labels ≡ o → onMove (moveTo p w.present) o ≡ moved m
-          → ByRule (m .change) (m .rule) × (encoded (fields (m .change)) ≡ encoded (fields (change p w.present (moveWalk w labels .present))))
+          → ByRule (m .change) (m .rule)
+          × (encoded (fields (m .change)) ≡ encoded (fields (change p w.present (moveWalk w labels .present))))
       go (refused n) q e = absurd-bool (cc)
       go (ended l c t) q e = absurd-bool (cc)
       go (moved t) q e =
           let z : moveTo p w.present t ≡ m = cc in
-          rw (← z) (by-rule t q, ap (λ (x : Walk). encoded (fields (change p w.present x.present))) (sym (walk-next t q)))
+          rw (← z)
+          (by-rule t q, ap (λ (x : Walk). encoded (fields (change p w.present x.present))) (sym (walk-next t q)))
 
 -- what has one before it is not {v}
 never-start : {p : Problem} {a s : Simplex} → Came p (some a) s → s ≡ p .start ∷ [] → ⊥
@@ -193,8 +206,10 @@ one-at-most true = omega arith
 one-at-most false = omega arith
 
 -- a walk that has been moved on: the conditions of question 20 are down to two
-module _ (w : Walk) (labels : List ℕ) {s : Simplex} (k : Passes w labels × Onward (over w labels) w.before w.present s) where
-  stands-next : (s ≡ w .start ∷ [] → ⊥) → suc w.places ≤ bound w.grid → Stands (over w labels) (movedTo (over w labels) w s)
+module _ (w : Walk) (labels : List ℕ) {s : Simplex}
+    (k : Passes w labels × Onward (over w labels) w.before w.present s) where
+  stands-next : (s ≡ w .start ∷ [] → ⊥) → suc w.places ≤ bound w.grid
+      → Stands (over w labels) (movedTo (over w labels) w s)
   stands-next ne b = record {
     place = k .1 .joins .to;
     came = came k.1.joins ne;
@@ -205,10 +220,12 @@ module _ (w : Walk) (labels : List ℕ) {s : Simplex} (k : Passes w labels × On
     readFew = omega (arith, k .0 .stands .readFew, one-at-most (pointCameIn w.present s));
   }
 
-  next-20 : (moveAnswer (movedTo (over w labels) w s) labels ≡ refused 20) ↔ ((s ≡ w .start ∷ []) ⊎ (bound w.grid < suc w.places))
+  next-20 : (moveAnswer (movedTo (over w labels) w s) labels ≡ refused 20)
+      ↔ ((s ≡ w .start ∷ []) ⊎ (bound w.grid < suc w.places))
   next-20 = (forth, back-20)
     where
-      forth : moveAnswer (movedTo (over w labels) w s) labels ≡ refused 20 → (s ≡ w .start ∷ []) ⊎ (bound w.grid < suc w.places)
+      forth : moveAnswer (movedTo (over w labels) w s) labels ≡ refused 20
+          → (s ≡ w .start ∷ []) ⊎ (bound w.grid < suc w.places)
       forth e =
           ⊎-elim (λ q. inl (simplex-sound s (w .start ∷ []) q))
           (λ q. ⊎-elim (λ b. inr b)
@@ -217,19 +234,21 @@ module _ (w : Walk) (labels : List ℕ) {s : Simplex} (k : Passes w labels × On
           (before-or-not (bound w.grid) (suc w.places)))
           (true-or-false (sameSimplex s (w .start ∷ [])))
 
-      back-20 : (s ≡ w .start ∷ []) ⊎ (bound w.grid < suc w.places) → moveAnswer (movedTo (over w labels) w s) labels ≡ refused 20
+      back-20 : (s ≡ w .start ∷ []) ⊎ (bound w.grid < suc w.places)
+          → moveAnswer (movedTo (over w labels) w s) labels ≡ refused 20
       back-20 c =
           not-20 (movedTo (over w labels) w s) labels k.0.accepted
           (λ j. ⊎-elim (λ q. never-start j.came q) (λ b. omega (arith, j .bounded)) c)
 
 -- two walks that stand at one place and go on to one place came from one place, or both from none
-one-origin : {p : Problem} → Accepted p → {l m : Option Simplex} {here s : Simplex} → Came p l here → Came p m here → allLabelled p here ≡ true
-    → Onward p l here s → Onward p m here s → l ≡ m
+one-origin : {p : Problem} → Accepted p → {l m : Option Simplex} {here s : Simplex} → Came p l here → Came p m here
+    → allLabelled p here ≡ true → Onward p l here s → Onward p m here s → l ≡ m
 one-origin ok begins begins own a b = refl
 one-origin ok begins (came k ne) own a b = absurd (ne refl)
 one-origin ok (came k ne) begins own a b = absurd (ne refl)
-one-origin {p} ok {s = s} (came {a = x} {s = here} k ne) (came {a = y} j _) own a b =
-    ⊎-elim (λ e. ap (λ (z : Simplex). some z) e) (λ e. ⊎-elim (λ e. absurd (apart x e a.away)) (λ e. absurd (apart y e b.away)) e)
+one-origin {p} ok {s = s} (came {a = x} {s = here} k ne) (came {a = y} j _) own a b = ⊎-elim
+    (λ e. ap (λ (z : Simplex). some z) e)
+    (λ e. ⊎-elim (λ e. absurd (apart x e a.away)) (λ e. absurd (apart y e b.away)) e)
     (among-two x y s (links p here) (omega (arith, length-ways p here, twoWays ok.settled .other here k.to own ne))
     (in-links ok.settled (back x here k)) (in-links ok.settled (back y here j)) (in-links ok.settled a.joins))
   where
@@ -244,17 +263,29 @@ module _ (labels : List ℕ) (w x : Walk) {s t : Simplex} (e : nextOf w labels �
   moved-from : w ≡ x
   moved-from =
       let a = moved-passes w labels s e in
-      let b = subst (λ (p : Problem). (Accepted p) × (Came p x.before x.present) × (isPlace p x.present ≡ true) × Onward p x.before x.present t
-      × (x .carried ≡ labelsOf p x.present))
-      same-problem (let b = moved-passes x labels t f in (b .0 .accepted, b .0 .stands .came, b .0 .stands .place, b .1, b .0 .stands .carries)) in
-      let h : w .present ≡ x .present = place-same (over w labels) w.present x.present a.0.stands.place b.2 (points same.before) in
+      let b = subst
+      (λ (p : Problem). (Accepted p) × (Came p x.before x.present) × (isPlace p x.present ≡ true)
+      × Onward p x.before x.present t × (x .carried ≡ labelsOf p x.present))
+      same-problem
+      (let b = moved-passes x labels t f in
+      (b .0 .accepted, b .0 .stands .came, b .0 .stands .place, b .1, b .0 .stands .carries)) in
+      let h : w .present ≡ x .present =
+      place-same (over w labels) w.present x.present a.0.stands.place b.2 (points same.before) in
       let q : s ≡ t = place-same (over w labels) s t a.1.joins.to b.3.joins.to same.present in
       let o : w .before ≡ x .before =
       one-origin a.0.accepted a.0.stands.came (rw (← h) at b.1) a.0.known a.1 (rw (← q) at (rw (← h) at b.3)) in
       let n : w .places ≡ x .places = (let z = same .places in omega arith) in
       let l : w .carried ≡ x .carried = a .0 .stands .carries ∙ ap (labelsOf (over w labels)) h ∙ sym (b .4) in
       let m : w .read ≡ x .read = (let z = rw (← h, ← q) at same.read in omega (arith, z)) in
-      λ i. record { grid = same .grid i; start = same .start i; present = h i; before = o i; places = n i; carried = l i; read = m i }
+      λ i. record {
+        grid = same .grid i;
+        start = same .start i;
+        present = h i;
+        before = o i;
+        places = n i;
+        carried = l i;
+        read = m i;
+      }
     where
       points : SameBefore (some w.present) (some x.present) → SamePoints w.present x.present
       points (sameBefore k) = k
@@ -265,8 +296,11 @@ calls-hold w labels = record {
   refuses = refuses w labels;
   one = λ e. one-way-on w labels (passes-of w labels e);
   rule = moved-rule w labels;
-  next = λ r e. let m = moved-next w labels r e in rw (walk-next w labels m.0 m.1) (next-20 w labels (moved-passes w labels m.0 m.1));
-  back = λ r e q others ok. let m = moved-next w labels r e in
+  next = λ r e.
+      let m = moved-next w labels r e in
+      rw (walk-next w labels m.0 m.1) (next-20 w labels (moved-passes w labels m.0 m.1));
+  back = λ r e q others ok.
+      let m = moved-next w labels r e in
       let z = walk-next w labels m.0 m.1 in
       rw z (not-20 (movedTo (over w labels) w m.0) others ok (λ j. never-start j.came (rw z at q)));
   local = λ others ok okOthers k. next-local w labels others ok okOthers k;
@@ -274,6 +308,8 @@ calls-hold w labels = record {
   named = named w labels;
   still = λ k b s e. stays w labels (λ r f. absurd-bool (cc));
   unchanged = λ n e. stays w labels (λ r f. absurd-bool (cc));
-  once = λ x r q e f same. let m = moved-next w labels r e in let n = moved-next x labels q f in
+  once = λ x r q e f same.
+      let m = moved-next w labels r e in
+      let n = moved-next x labels q f in
       moved-from labels w x m.1 n.1 (rw (walk-next w labels m.0 m.1, walk-next x labels n.0 n.1) at same);
 }

@@ -55,48 +55,62 @@ pub record CallsFollow (p : Problem) : Type 0 where
   pub stands : (i : ℕ) → i < pathLength p → called p i ≡ walkAt p i
   -- "each call moves it on by one place and reports the rule",
   pub moves : (i : ℕ) → suc i < pathLength p
-      → moveAnswer (called p i) (p .labels) ≡ moved (ruleOf p (placeAt (path p .visited) i) (placeAt (path p .visited) (suc i)))
+      → moveAnswer (called p i) (p .labels)
+      ≡ moved (ruleOf p (placeAt (path p .visited) i) (placeAt (path p .visited) (suc i)))
   -- which the preview shows before: the record of the move
-  pub shows : (i : ℕ) → suc i < pathLength p → let a = placeAt (path p .visited) i in let b = placeAt (path p .visited) (suc i) in
+  pub shows : (i : ℕ) → suc i < pathLength p
+      → let a = placeAt (path p .visited) i in
+      let b = placeAt (path p .visited) (suc i) in
       preview (called p i) (p .labels) ≡ moved (moveTo p a b)
-  -- "at an end the call gives its kind, block and simplex", those of the run, and its places and labels read are the run's,
+  -- "at an end the call gives its kind, block and simplex", those of the run, and its places and labels read are
+  -- the run's,
   pub ends : (budget n read : ℕ) (kind : Kind) (block vertices : ℕ) (simplex : Simplex)
       → answer p budget ≡ runEnded n read kind block vertices simplex
-      → (called p (pred n) .places ≡ n) × (called p (pred n) .read ≡ read) × (moveAnswer (called p (pred n)) (p .labels) ≡ ended kind block simplex)
+      → (called p (pred n) .places ≡ n) × (called p (pred n) .read ≡ read)
+      × (moveAnswer (called p (pred n)) (p .labels) ≡ ended kind block simplex)
   -- and where the run meets 16 the walk does, with one place more than those visited before
   pub gap : (budget n position : ℕ) → answer p budget ≡ unknown n position
       → (called p n .places ≡ suc n) × (moveAnswer (called p n) (p .labels) ≡ refused 16)
-  -- request 14, "moving by links and never to the place just left", by calls: between {v} and the last place a walk that faces back is moved to the
-  -- place before, and faces back there
-  pub back : (i n read : ℕ) → suc (suc i) < pathLength p → n ≤ bound (p .grid) → 1 ≤ read → read ≤ n → let s = path p .visited in
+  -- request 14, "moving by links and never to the place just left", by calls: between {v} and the last place a walk
+  -- that faces back is moved to the place before, and faces back there
+  pub back : (i n read : ℕ) → suc (suc i) < pathLength p → n ≤ bound (p .grid) → 1 ≤ read → read ≤ n
+      → let s = path p .visited in
       moveWalk (facingBack p (suc i) n read) (p .labels)
       ≡ facingBack p i (suc n) (read + cond (pointCameIn (placeAt s (suc i)) (placeAt s i)) 1 0)
 
 -- of every walk and table: wherever the walk stands, and whichever way it faces
 pub record Calls (w : Walk) (labels : List ℕ) : Type 0 where
   -- a call is refused exactly by the first of questions 1 to 7, 20 and 16 that is answered no,
-  pub refuses : (number : ℕ) → (moveAnswer w labels ≡ refused number) ↔ ((firstNo (walkQuestions w labels) ≡ number) × (0 < number))
+  pub refuses : (number : ℕ)
+      → (moveAnswer w labels ≡ refused number) ↔ ((firstNo (walkQuestions w labels) ≡ number) × (0 < number))
   -- and where none is, exactly one way leads on
   pub one : firstNo (walkQuestions w labels) ≡ 0 → length (waysOn (over w labels) (w .before) (w .present)) ≡ 1
   -- "reports the rule": that of the seven by which the place has changed
-  pub rule : (r : ℕ) → moveAnswer w labels ≡ moved r → ByRule (change (over w labels) (w .present) (moveWalk w labels .present)) r
-  -- A walk that has been moved meets 20 at the next call over the table exactly if it is back on {v} or its places so far are above the bound,
+  pub rule : (r : ℕ) → moveAnswer w labels ≡ moved r
+      → ByRule (change (over w labels) (w .present) (moveWalk w labels .present)) r
+  -- A walk that has been moved meets 20 at the next call over the table exactly if it is back on {v} or its places so
+  -- far are above the bound,
   pub next : (r : ℕ) → moveAnswer w labels ≡ moved r → let x = moveWalk w labels in
       (moveAnswer x labels ≡ refused 20) ↔ ((x .present ≡ x .start ∷ []) ⊎ (bound (x .grid) < x .places))
   -- "A walk moved back onto {v} meets 20 at the next call", whichever table is lent with it
   pub back : (r : ℕ) → moveAnswer w labels ≡ moved r → moveWalk w labels .present ≡ w .start ∷ [] → (others : List ℕ)
       → Accepted (over w others) → moveAnswer (moveWalk w labels) others ≡ refused 20
-  -- a call looks at the labels of the present place's points alone, but for questions 6 and 7: over a table with the same labels there the same comes next
+  -- a call looks at the labels of the present place's points alone, but for questions 6 and 7: over a table with the
+  -- same labels there the same comes next
   pub local : (others : List ℕ) → Accepted (over w labels) → Accepted (over w others)
       → ((y : Point) → isIn samePoint y (w .present) ≡ true → label (over w others) y ≡ label (over w labels) y)
       → nextOf w others ≡ nextOf w labels
   -- the preview "equals what the moving call does to a copy of the walk, refusals and the end included"
   pub shown : preview w labels ≡ seen w labels (moveAnswer w labels) (moveWalk w labels)
-  -- it "names all that the trail's record of that move would hold": the fields of its rule and no others, in bytes the record
+  -- it "names all that the trail's record of that move would hold": the fields of its rule and no others, in bytes
+  -- the record
   pub named : (m : Move) → preview w labels ≡ moved m
-      → ByRule (m .change) (m .rule) × (encoded (fields (m .change)) ≡ recordOf (over w labels) (w .present) (moveWalk w labels .present))
-  -- "at an end .. the walk is unchanged", request 14, "calls at an end move nothing"; nor do refusals, however often it is called
-  pub still : (kind : Kind) (block : ℕ) (simplex : Simplex) → moveAnswer w labels ≡ ended kind block simplex → (n : ℕ) → afterCalls n w labels ≡ w
+      → ByRule (m .change) (m .rule)
+      × (encoded (fields (m .change)) ≡ recordOf (over w labels) (w .present) (moveWalk w labels .present))
+  -- "at an end .. the walk is unchanged", request 14, "calls at an end move nothing"; nor do refusals, however often it
+  -- is called
+  pub still : (kind : Kind) (block : ℕ) (simplex : Simplex) → moveAnswer w labels ≡ ended kind block simplex → (n : ℕ)
+      → afterCalls n w labels ≡ w
   pub unchanged : (number : ℕ) → moveAnswer w labels ≡ refused number → (n : ℕ) → afterCalls n w labels ≡ w
   -- "Over one label table, two different walks that a call moves on are never moved to the same walk"
   pub once : (x : Walk) (r q : ℕ) → moveAnswer w labels ≡ moved r → moveAnswer x labels ≡ moved q

@@ -1,4 +1,5 @@
--- A place as it is kept: its first point and the order in which it uses the indices of T. Its other points follow from these. Assumes nothing.
+-- A place as it is kept: its first point and the order in which it uses the indices of T. Its other points follow from
+-- these. Assumes nothing.
 use mathlib.Core.Bool.{Bool, true, not, _&&_, _||_}
 use mathlib.Core.List.{List, [], _∷_, map}
 use Prim.Native.Nat.{ℕ, _+_, _-_}
@@ -30,8 +31,9 @@ abbrev pub canStep : Grid → List ℕ → Point → List ℕ → Bool
 canStep g u y [] = true
 canStep g u y (h ∷ o) = ltb 0 (at y (firstBackOutside g u h)) && canStep g u (stepped g u h y) o
 
--- What a first point and an order must meet to be a place, but for labels: a grid point; different indices; in every block an index in neither T
--- nor U; no other index with a positive coefficient at the first point; and at every step 1 to take. No sum of coefficients is asked for.
+-- What a first point and an order must meet to be a place, but for labels: a grid point; different indices; in every
+-- block an index in neither T nor U; no other index with a positive coefficient at the first point; and at every step 1
+-- to take. No sum of coefficients is asked for.
 unfoldable pub isKept : Problem → Point → List ℕ → Bool
 isKept p y o =
     let g = p .grid in

@@ -14,7 +14,8 @@ use Rattle.questions.specs.Questions.{firstNo}
 use Rattle.trail.specs.Change.{change, rules}
 use Rattle.walks.specs.Walk.{Walk, labelsOf, over, walkQuestions}
 
--- What a call gives: a refusal's number; or an end's "kind, block and simplex", the block counted from 1; or what it says of a move.
+-- What a call gives: a refusal's number; or an end's "kind, block and simplex", the block counted from 1; or what it
+-- says of a move.
 pub data Outcome (A : Type 0) : Type 0 where
   refused : (number : ℕ) → Outcome A
   ended : (kind : Kind) (block : ℕ) (simplex : Simplex) → Outcome A
@@ -46,8 +47,8 @@ ruleOf p a s = firstOr 0 (rules (change p a s))
 unfoldable pub moveAnswer : Walk → List ℕ → Outcome ℕ
 moveAnswer w labels = onMove (ruleOf (over w labels) (w .present)) (nextOf w labels)
 
--- the walk moved on to a place: what was the present place is then the one before. Request 10: it carries the place's labels, and the labels read are
--- "1 plus the moves by which a point came in"
+-- the walk moved on to a place: what was the present place is then the one before. Request 10: it carries the place's
+-- labels, and the labels read are "1 plus the moves by which a point came in"
 abbrev pub movedTo : Problem → Walk → Simplex → Walk
 movedTo p w s = record {
   grid = w .grid;
@@ -59,7 +60,8 @@ movedTo p w s = record {
   read = w .read + cond (pointCameIn (w .present) s) 1 0;
 }
 
--- "at an end .. the walk is unchanged"; 20 and 16 "return only their number and leave the walk unchanged", and so do 1 to 7
+-- "at an end .. the walk is unchanged"; 20 and 16 "return only their number and leave the walk unchanged", and so do 1
+-- to 7
 abbrev pub walkAfter : Problem → Walk → Outcome Simplex → Walk
 walkAfter p w (refused number) = w
 walkAfter p w (ended kind block simplex) = w

@@ -15,9 +15,10 @@ use Rattle.place.specs.Problem.{Problem, label}
 use Rattle.place.specs.Questions.{tableQuestions}
 use Rattle.questions.specs.Questions.{Question, ask}
 
--- "A walk holds the grid, the start, the present place, the one before it and the places so far". As document 01's sets are, both places are lists
--- of points in rising order of coefficient sum. Request 10: "Runs and walks now carry their place's labels", here one for each point of the present
--- place in its order, and the walk has its labels read. Any walk may be lent, so nothing is known of its parts.
+-- "A walk holds the grid, the start, the present place, the one before it and the places so far". As document 01's sets
+-- are, both places are lists of points in rising order of coefficient sum. Request 10: "Runs and walks now carry their
+-- place's labels", here one for each point of the present place in its order, and the walk has its labels read. Any
+-- walk may be lent, so nothing is known of its parts.
 pub record Walk : Type 0 where
   pub grid : Grid
   pub start : Point
@@ -77,9 +78,9 @@ hasNone (some a) = false
 abbrev pub bothOrNeither : Bool → Bool → Bool
 bothOrNeither a b = cond a b (not b)
 
--- "20 when the present place is not a place, or the one before it not linked to it, or only one of "it is {v}" and "it has none before it" holds,
--- or the places so far are not from 1 to the bound": the four together. Request 10: "A lent walk whose carried labels are not the table's, or whose
--- labels read are not from 1 to its places, meets 20".
+-- "20 when the present place is not a place, or the one before it not linked to it, or only one of "it is {v}" and "it
+-- has none before it" holds, or the places so far are not from 1 to the bound": the four together. Request 10: "A lent
+-- walk whose carried labels are not the table's, or whose labels read are not from 1 to its places, meets 20".
 unfoldable pub isWalk : Problem → Walk → Bool
 isWalk p w =
     isPlace p (w .present)
@@ -91,4 +92,6 @@ isWalk p w =
 
 -- "questions 1 to 7 are put again", 20 is "put after 7; then 16 when a point of the present place has label 0"
 abbrev pub walkQuestions : Walk → List ℕ → List Question
-walkQuestions w labels = let p = over w labels in tableQuestions p ++ (ask 20 (isWalk p w) ∷ ask 16 (allLabelled p (w .present)) ∷ [])
+walkQuestions w labels =
+    let p = over w labels in
+    tableQuestions p ++ (ask 20 (isWalk p w) ∷ ask 16 (allLabelled p (w .present)) ∷ [])

@@ -1,4 +1,5 @@
--- Walks over document 01's sheet, "2 2; 1 1; 1 0 1 0; 2 2 2 4", as the customer's stored cases have them. Assumes nothing.
+-- Walks over document 01's sheet, "2 2; 1 1; 1 0 1 0; 2 2 2 4", as the customer's stored cases have them.
+-- Assumes nothing.
 use mathlib.Core.List.{List, [], _∷_}
 use mathlib.Core.Option.{Option, none, some}
 use Prim.Native.Nat.{ℕ, zero, suc}
@@ -37,8 +38,8 @@ carrying carried present before places read = record {
 }
 
 abbrev pub on : List ℕ → Simplex → Option Simplex → ℕ → ℕ → Walk
-on labels present before places read =
-    carrying (labelsOf (problemOf (2 ∷ 2 ∷ []) (1 ∷ 1 ∷ []) (1 ∷ 0 ∷ 1 ∷ 0 ∷ []) labels) present) present before places read
+on labels present before places read = carrying
+    (labelsOf (problemOf (2 ∷ 2 ∷ []) (1 ∷ 1 ∷ []) (1 ∷ 0 ∷ 1 ∷ 0 ∷ []) labels) present) present before places read
 
 abbrev pub row : Walk → List ℕ → List (Outcome ℕ) → Walk → Row
 row w labels answers after = record { walk = w; labels = labels; answers = answers; after = after }
@@ -92,8 +93,10 @@ abbrev pub table : List Row
 table =
     -- to the end, and once more; back from the last place but one onto {v}, and once more
     row (on sheet place1 none 1 1) sheet
-    (moved 5 ∷ moved 5 ∷ moved 1 ∷ moved 6 ∷ ended facetEnd 1 (point1 ∷ []) ∷ ended facetEnd 1 (point1 ∷ []) ∷ []) (on sheet place5 (some place4) 5 4)
-    ∷ row (on sheet place4 (some place5) 5 2) sheet (moved 1 ∷ moved 6 ∷ moved 6 ∷ refused 20 ∷ []) (on sheet place1 (some place2) 8 3)
+    (moved 5 ∷ moved 5 ∷ moved 1 ∷ moved 6 ∷ ended facetEnd 1 (point1 ∷ []) ∷ ended facetEnd 1 (point1 ∷ []) ∷ [])
+    (on sheet place5 (some place4) 5 4)
+    ∷ row (on sheet place4 (some place5) 5 2) sheet (moved 1 ∷ moved 6 ∷ moved 6 ∷ refused 20 ∷ [])
+    (on sheet place1 (some place2) 8 3)
     -- the count is asked to be from 1 to the bound, 68, and no more; the labels read from 1 to the count, and no more
     ∷ row (on sheet place1 none 7 7) sheet (moved 5 ∷ []) (on sheet place2 (some place1) 8 8)
     ∷ row (on sheet place4 (some place3) 68 1) sheet (moved 6 ∷ refused 20 ∷ []) (on sheet place5 (some place4) 69 1)
@@ -120,5 +123,6 @@ table =
     ∷ rowRefused (on unknownNext place2 (some place3) 2 1) unknownNext 20
     ∷ rowRefused (carrying (4 ∷ 2 ∷ []) place2 (some place1) 2 2) unknownNext 20
     ∷ rowRefused (on sheet (point3 ∷ point0 ∷ []) none 0 1) (5 ∷ 2 ∷ 2 ∷ 4 ∷ []) 7
-    ∷ row (on unknownNext place1 none 1 1) unknownNext (moved 5 ∷ refused 16 ∷ []) (on unknownNext place2 (some place1) 2 2)
+    ∷ row (on unknownNext place1 none 1 1) unknownNext (moved 5 ∷ refused 16 ∷ [])
+    (on unknownNext place2 (some place1) 2 2)
     ∷ []

@@ -17,23 +17,35 @@ use Rattle.losses.specs.Game.{product}
 use Rattle.losses.specs.Table.{IsTable}
 use Rattle.weighed_losses.proofs.Blends.{blend-agree}
 use Rattle.weighed_losses.proofs.Levels.{own-behind, behind-few, begin-is, levelled-start}
-use Rattle.weighed_losses.specs.Levels.{blend, behind, lossesBegin, levelled, place, weighedAt, Stand, Apart, TableToWeigh, Written}
+use Rattle.weighed_losses.specs.Levels.{blend, behind, lossesBegin, levelled, place, weighedAt, Stand, Apart}
+use Rattle.weighed_losses.specs.Levels.{TableToWeigh, Written}
 
 pub written-start : (old : List ℕ) (to : ℕ) (f : ℕ → ℕ) → Written old to 0 f old
 written-start old to f = record { done = λ e h. absurd (omega arith); kept = λ i h. refl }
 
-pub written-turn : (old new : List ℕ) (to e : ℕ) (f : ℕ → ℕ) (v : ℕ) → to + e < length new → v ≡ f e → Written old to e f new → Written old to (e + 1) f (set new (to + e) v)
+pub written-turn : (old new : List ℕ) (to e : ℕ) (f : ℕ → ℕ) (v : ℕ) → to + e < length new → v ≡ f e
+    → Written old to e f new
+    → Written old to (e + 1) f (set new (to + e) v)
 written-turn old new to e f v inside is w = record {
-  done = λ i h. ⊎-elim (λ s. rw s (getD-set-same new (to + e) v 0 inside ∙ is)) (λ n. getD-set-other new (to + e) (to + i) v 0 (λ s. n (omega arith)) ∙ w .done i (omega arith)) (same-or i e);
+  done = λ i h. ⊎-elim
+      (λ s. rw s (getD-set-same new (to + e) v 0 inside ∙ is))
+      (λ n. getD-set-other new (to + e) (to + i) v 0 (λ s. n (omega arith)) ∙ w .done i (omega arith))
+      (same-or i e);
   kept = λ i h. getD-set-other new (to + e) i v 0 (λ s. omega arith) ∙ w .kept i h;
 }
 
 -- one entry more, from the first on
-pub entries-turn : (f : ℕ → ℕ) (l : List ℕ) (h v : ℕ) → h < length l → v ≡ f h → ((i : ℕ) → i < h → at l i ≡ f i) → (i : ℕ) → i < h + 1 → at (set l h v) i ≡ f i
-entries-turn f l h v inside is before i b = ⊎-elim (λ s. rw s (getD-set-same l h v 0 inside ∙ is)) (λ n. getD-set-other l h i v 0 n ∙ before i (omega arith)) (same-or i h)
+pub entries-turn : (f : ℕ → ℕ) (l : List ℕ) (h v : ℕ) → h < length l → v ≡ f h → ((i : ℕ) → i < h → at l i ≡ f i)
+    → (i : ℕ) → i < h + 1
+    → at (set l h v) i ≡ f i
+entries-turn f l h v inside is before i b = ⊎-elim
+    (λ s. rw s (getD-set-same l h v 0 inside ∙ is))
+    (λ n. getD-set-other l h i v 0 n ∙ before i (omega arith))
+    (same-or i h)
 
 -- a table that is weighed in its own array: what is written so far lies behind it
-module _ (mix old : List ℕ) (from to rest : ℕ) (t : TableToWeigh mix old from to rest) (levels : List ℕ) (e : ℕ) (h : e < rest) (f : ℕ → ℕ) (w : Written old to e f levels) (long : length levels ≡ length old) where
+module _ (mix old : List ℕ) (from to rest : ℕ) (t : TableToWeigh mix old from to rest) (levels : List ℕ) (e : ℕ)
+    (h : e < rest) (f : ℕ → ℕ) (w : Written old to e f levels) (long : length levels ≡ length old) where
   -- the part of the array that is lent
   abbrev lentPart : List ℕ
   lentPart = take (length levels - (from + e)) (drop (from + e) levels)
@@ -58,19 +70,32 @@ module _ (mix old : List ℕ) (from to rest : ℕ) (t : TableToWeigh mix old fro
   }
 
 -- the losses of an index lie in the table
-pub begin-inside : (g : Grid) (losses : List ℕ) → IsTable g losses → (h : ℕ) → h < numIndices g → lossesBegin g h + behind g (blockOf g h) 0 ≤ length losses
+pub begin-inside : (g : Grid) (losses : List ℕ) → IsTable g losses → (h : ℕ) → h < numIndices g
+    → lossesBegin g h + behind g (blockOf g h) 0 ≤ length losses
 begin-inside g losses t h b =
     let s = block-spans (g .sizes) h b in
     let rest = behind g (blockOf g h) 0 in
-    rw (begin-is g h) (omega (arith, own-behind g (blockOf g h) (s .0), mul-le-mul-right rest (row s), mul-le-mul-right (product (g .sizes)) (s .0), t .whole))
+    rw (begin-is g h) (omega (
+      arith,
+      own-behind g (blockOf g h) (s .0),
+      mul-le-mul-right rest (row s),
+      mul-le-mul-right (product (g .sizes)) (s .0),
+      t .whole,
+    ))
   where
-    row : (s : (blockIn (g .sizes) h < length (g .sizes)) × (sum (take (blockIn (g .sizes) h) (g .sizes)) ≤ h) × (h < sum (take (blockIn (g .sizes) h) (g .sizes)) + getD (g .sizes) (blockIn (g .sizes) h) 0)) → suc (h - firstIndex g (blockOf g h)) ≤ size g (blockOf g h)
+    row : (s : (blockIn (g .sizes) h < length (g .sizes)) × (sum (take (blockIn (g .sizes) h) (g .sizes)) ≤ h)
+        × (h < sum (take (blockIn (g .sizes) h) (g .sizes)) + getD (g .sizes) (blockIn (g .sizes) h) 0))
+        → suc (h - firstIndex g (blockOf g h)) ≤ size g (blockOf g h)
     row s = omega arith
 
 -- one index more is loaded
-pub load-turn : (g : Grid) (a : Accepted g) (losses : List ℕ) (y : Point) (h : ℕ) → h < numIndices g → (levels new part : List ℕ) (rest : ℕ) → rest ≡ behind g (blockOf g h) 0
-    → ((e : ℕ) → e < rest → at part e ≡ at losses (lossesBegin g h + e)) → Written levels (h * 162) rest (at part) new → Stand g losses y 0 h levels → Stand g losses y 0 (h + 1) new
-load-turn g a losses y h inside levels new part rest r p w before i e b c = ⊎-elim here (λ n. earlier (omega arith)) (same-or i h)
+pub load-turn : (g : Grid) (a : Accepted g) (losses : List ℕ) (y : Point) (h : ℕ) → h < numIndices g
+    → (levels new part : List ℕ) (rest : ℕ) → rest ≡ behind g (blockOf g h) 0
+    → ((e : ℕ) → e < rest → at part e ≡ at losses (lossesBegin g h + e)) → Written levels (h * 162) rest (at part) new
+    → Stand g losses y 0 h levels
+    → Stand g losses y 0 (h + 1) new
+load-turn g a losses y h inside levels new part rest r p w before i e b c =
+    ⊎-elim here (λ n. earlier (omega arith)) (same-or i h)
   where
     here : i ≡ h → at new (place 0 i + e) ≡ levelled g losses y i 0 e
     here s =
@@ -84,9 +109,12 @@ load-turn g a losses y h inside levels new part rest r p w before i e b c = ⊎-
         w .kept (place 0 i + e) (omega arith) ∙ before i e l c
 
 -- where an index is read from
-module _ (g : Grid) (losses : List ℕ) (t : IsTable g losses) (h : ℕ) (b : h < numIndices g) (owner count : ℕ) (o : owner ≡ blockOf g h) (c : count ≡ product (g .sizes)) where
+module _ (g : Grid) (losses : List ℕ) (t : IsTable g losses) (h : ℕ) (b : h < numIndices g) (owner count : ℕ)
+    (o : owner ≡ blockOf g h) (c : count ≡ product (g .sizes)) where
   pub load-player : owner * count ≤ length losses
-  load-player = rw (o, c) (omega (arith, mul-le-mul-right (product (g .sizes)) (block-spans (g .sizes) h b .0), t .whole))
+  load-player =
+      rw (o, c) (omega (arith, mul-le-mul-right (product (g .sizes)) (block-spans (g .sizes) h b .0), t .whole))
 
-  pub load-from : (first rest : ℕ) → first ≡ firstIndex g (blockOf g h) → rest ≡ behind g (blockOf g h) 0 → owner * count + (h - first) * rest ≡ lossesBegin g h
+  pub load-from : (first rest : ℕ) → first ≡ firstIndex g (blockOf g h) → rest ≡ behind g (blockOf g h) 0
+      → owner * count + (h - first) * rest ≡ lossesBegin g h
   load-from first rest f r = rw (o, c, f, r) (sym (begin-is g h))

@@ -1,6 +1,6 @@
--- The losses of a strategy weighed by the mixes of the blocks before one: tables that a labelling keeps, level by level,
--- so that a new point costs only the levels behind the first block that it changes. The promises of a labelling do not
--- cite this. Assumes nothing.
+-- The losses of a strategy weighed by the mixes of the blocks before one: tables that a labelling keeps, level by
+-- level, so that a new point costs only the levels behind the first block that it changes. The promises of a labelling
+-- do not cite this. Assumes nothing.
 use mathlib.Core.Bool.{true, cond}
 use mathlib.Core.List.{List, [], _∷_, map}
 use mathlib.Core.Path.{_≡_}

@@ -33,7 +33,9 @@ returns-3 : tie.Need-returns-3
 returns-3 c = rw (c .before .before .if3 .taken) (c .same-sizes3 .ensures)
 
 returns-4 : tie.Need-returns-4
-returns-4 c = let a = c .before .before .before .before .args in sym (no-game (a .game) (a .sizes .now) (c .before .before .if1 .left) (c .before .if2 .left) (c .if3 .left))
+returns-4 c =
+    let a = c .before .before .before .before .args in
+    sym (no-game (a .game) (a .sizes .now) (c .before .before .if1 .left) (c .before .if2 .left) (c .if3 .left))
 
 pub is-game-spec : {M : Type 1} → statement M
 is-game-spec =

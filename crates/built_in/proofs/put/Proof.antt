@@ -9,7 +9,8 @@ use Rattle.built_in.proofs.put.Statement.{statement}
 use Rattle.built_in.proofs.put.Tie as tie
 
 abbrev Inv-loop : tie.InvT-loop
-Inv-loop losses room₀ i₀ room i = (room ≡ front (take i losses) room₀) × (i ≤ length losses) × (length room ≡ length room₀)
+Inv-loop losses room₀ i₀ room i =
+    (room ≡ front (take i losses) room₀) × (i ≤ length losses) × (length room ≡ length room₀)
 
 abbrev μ-loop : tie.MeasureT-loop
 μ-loop losses room₀ i₀ room i = length losses - i
@@ -38,8 +39,11 @@ loop-less c = omega arith
 loop-again : tie.Need-loop-again Inv-loop μ-loop
 loop-again c =
     let l = c .before .before .loop in
-    let a = c .before .before .before .args in
-    (rw (l .inv .0) (front-copy (a .losses .now) (a .room .now) (l .i) (omega arith) (omega arith)), omega arith, simp length-set (l .inv .2))
+    let a = c .before .before .before .args in (
+      rw (l .inv .0) (front-copy (a .losses .now) (a .room .now) (l .i) (omega arith) (omega arith)),
+      omega arith,
+      simp length-set (l .inv .2),
+    )
 
 same-length : tie.Need-same-length Inv-loop μ-loop
 same-length c = omega arith

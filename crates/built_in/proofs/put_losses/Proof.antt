@@ -16,7 +16,10 @@ same-length c = search needs
 
 returns : tie.Need-returns
 unfolding losses1
-returns c = rw (losses-of-1 (c .before .before .before .before .before .before .before .args .game) (c .before .before .before .before .before .if1 .taken)) (c .before .before .put .ensures)
+returns c = rw
+    (losses-of-1 (c .before .before .before .before .before .before .before .args .game)
+    (c .before .before .before .before .before .if1 .taken))
+    (c .before .before .put .ensures)
 
 slice-aggregate-put-2 : tie.Need-slice-aggregate-put-2
 slice-aggregate-put-2 c = search needs
@@ -29,7 +32,10 @@ same-length-2 c = search needs
 
 returns-2 : tie.Need-returns-2
 unfolding losses2
-returns-2 c = rw (losses-of-2 (c .before .before .before .before .before .before .before .before .args .game) (c .before .before .before .before .before .if2 .taken)) (c .before .before .put2 .ensures)
+returns-2 c = rw
+    (losses-of-2 (c .before .before .before .before .before .before .before .before .args .game)
+    (c .before .before .before .before .before .if2 .taken))
+    (c .before .before .put2 .ensures)
 
 slice-aggregate-put-3 : tie.Need-slice-aggregate-put-3
 slice-aggregate-put-3 c = search needs
@@ -42,7 +48,11 @@ same-length-3 c = search needs
 
 returns-3 : tie.Need-returns-3
 unfolding losses3
-returns-3 c = rw (losses-of-3 (c .before .before .before .before .before .before .before .before .args .game) (c .before .before .before .before .before .before .if1 .left) (c .before .before .before .before .before .if2 .left)) (c .before .before .put3 .ensures)
+returns-3 c = rw
+    (losses-of-3 (c .before .before .before .before .before .before .before .before .args .game)
+    (c .before .before .before .before .before .before .if1 .left)
+    (c .before .before .before .before .before .if2 .left))
+    (c .before .before .put3 .ensures)
 
 pub put-losses-spec : {M : Type 1} → statement M
 put-losses-spec =

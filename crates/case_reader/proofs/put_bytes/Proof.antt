@@ -10,7 +10,8 @@ use Rattle.case_reader.proofs.put_bytes.Statement.{statement}
 use Rattle.case_reader.proofs.put_bytes.Tie as tie
 
 abbrev Inv-loop : tie.InvT-loop
-Inv-loop numbers bytes₀ count i₀ bytes i = (length bytes ≡ length bytes₀) × (count ≤ length numbers) × (count ≤ length bytes₀)
+Inv-loop numbers bytes₀ count i₀ bytes i =
+    (length bytes ≡ length bytes₀) × (count ≤ length numbers) × (count ≤ length bytes₀)
 
 abbrev μ-loop : tie.MeasureT-loop
 μ-loop numbers bytes₀ count i₀ bytes i = count - i

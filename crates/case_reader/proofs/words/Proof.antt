@@ -1,4 +1,5 @@
--- `case_reader::words` meets its contract. The invariant: the runs so far lie in the list, which keeps its length. Assumes nothing.
+-- `case_reader::words` meets its contract. The invariant: the runs so far lie in the list, which keeps its length.
+-- Assumes nothing.
 use mathlib.Core.Path.{_≡_, refl}
 use Prim.Native.Nat.{_≤_}
 use lib.ListN.{length}

@@ -19,10 +19,12 @@ new-requires : tie.Need-new-requires
 new-requires c κs = search needs
 
 returns : tie.Need-returns
-returns c = let b = c .before .before .before .before .before .before .before in
+returns c =
+    let b = c .before .before .before .before .before .before .before in
     let G : Grid = record { sizes = b .args .sizes .now; divisions = b .args .divisions .now } in
     let r = c .before .before .new .result in
-    refused-grid G (b .args .labels .now) (b .args .numbers .now) (r .code) (c .if1 .taken) (made-code G r (c .before .before .new .ensures))
+    refused-grid G (b .args .labels .now) (b .args .numbers .now) (r .code) (c .if1 .taken)
+    (made-code G r (c .before .before .new .ensures))
 
 first-no-requires : tie.Need-first-no-requires
 first-no-requires c κs = let b = c .before .before .before .before .before .before .before in
@@ -30,12 +32,17 @@ first-no-requires c κs = let b = c .before .before .before .before .before .bef
     made-is G (c .before .before .new .result) (c .before .before .new .ensures) (c .if1 .left)
 
 returns-2 : tie.Need-returns-2
-returns-2 c = let b = c .before .before .before .before .before .before .before .before .before in
+returns-2 c =
+    let b = c .before .before .before .before .before .before .before .before .before in
     let G : Grid = record { sizes = b .args .sizes .now; divisions = b .args .divisions .now } in
     let n = c .before .before .before .before .new in
     let zero = c .before .before .if1 .left in
-    refused-list G (b .args .labels .now) (b .args .numbers .now) (sym (made-code G (n .result) (n .ensures)) ∙ zero) (c .before .first-no .result) (c .if2 .taken)
-    (c .before .first-no .ensures ∙ ap (λ (h : Grid). firstNo (listQuestions h (b .args .labels .now) (b .args .numbers .now))) (made-shape G (n .result) (n .ensures) zero))
+    refused-list G (b .args .labels .now) (b .args .numbers .now) (sym (made-code G (n .result) (n .ensures)) ∙ zero)
+    (c .before .first-no .result) (c .if2 .taken)
+    (c .before .first-no .ensures
+    ∙ ap
+    (λ (h : Grid). firstNo (listQuestions h (b .args .labels .now) (b .args .numbers .now)))
+    (made-shape G (n .result) (n .ensures) zero))
 
 div-judged : tie.Need-div-judged
 div-judged c = let b = c .before .before .before .before .before .before .before .before .before in
@@ -54,7 +61,8 @@ judged-requires c κs = let b = c .before .before .before .before .before .befor
     (w .0, passed-labels s made (b .args .labels .now) (b .args .numbers .now) none, w .1)
 
 returns-3 : tie.Need-returns-3
-returns-3 c = let b = c .before .before .before .before .before .before .before .before .before .before in
+returns-3 c =
+    let b = c .before .before .before .before .before .before .before .before .before .before in
     let G : Grid = record { sizes = b .args .sizes .now; divisions = b .args .divisions .now } in
     let n = c .before .before .before .before .before .new in
     let zero = c .before .before .before .if1 .left in
@@ -63,7 +71,9 @@ returns-3 c = let b = c .before .before .before .before .before .before .before 
     let labels = b .args .labels .now in
     let numbers = b .args .numbers .now in
     let same = made-shape G (n .result) (n .ensures) zero in
-    let none = ap (λ (h : Grid). firstNo (listQuestions h labels numbers)) (sym same) ∙ sym (c .before .before .first-no .ensures) ∙ c .before .if2 .left in
+    let none = ap (λ (h : Grid). firstNo (listQuestions h labels numbers)) (sym same)
+    ∙ sym (c .before .before .first-no .ensures)
+    ∙ c .before .if2 .left in
     c .judged .ensures
     ∙ ap (λ (m : ℕ). caseOf (verdict (shape s) labels (listed m (length numbers / m) numbers))) (made-indices s made)
     ∙ ap (λ (h : Grid). caseOf (verdict h labels (pointsOf h numbers))) same

@@ -11,8 +11,10 @@ one-chain-requires : tie.Need-one-chain-requires
 one-chain-requires c κs = search needs
 
 returns : tie.Need-returns
-returns c = let b = c .before .before .before .before in
-    ap caseOf (verdict-no (b .pre .0) (b .pre .2) (b .args .labels .now) (sym (c .before .one-chain .ensures) ∙ not-true _ (c .if1 .taken)))
+returns c =
+    let b = c .before .before .before .before in
+    ap caseOf (verdict-no (b .pre .0) (b .pre .2) (b .args .labels .now)
+    (sym (c .before .one-chain .ensures) ∙ not-true _ (c .if1 .taken)))
 
 binomials-requires : tie.Need-binomials-requires
 binomials-requires c κs = search needs
@@ -24,10 +26,13 @@ first-whole-requires : tie.Need-first-whole-requires
 first-whole-requires c κs = search needs
 
 returns-2 : tie.Need-returns-2
-returns-2 c = let b = c .before .before .before .before .before .before .before .before .before in
+returns-2 c =
+    let b = c .before .before .before .before .before .before .before .before .before in
     c .first-whole .ensures
     ∙ ap caseOf (verdict-covered (b .pre .0) (b .pre .2) (b .args .labels .now) (c .before .covered .result)
-    (sym (c .before .before .before .before .before .before .one-chain .ensures) ∙ not-false _ (c .before .before .before .before .before .if1 .left)) (c .before .covered .ensures))
+    (sym (c .before .before .before .before .before .before .one-chain .ensures)
+    ∙ not-false _ (c .before .before .before .before .before .if1 .left))
+    (c .before .covered .ensures))
 
 pub judged-spec : {M : Type 1} → statement M
 judged-spec =

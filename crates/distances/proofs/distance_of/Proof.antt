@@ -1,5 +1,5 @@
--- `distances::distance_of` meets its contract. The invariant: the sum over the indices passed, whichever grid the weights are of, and that each
--- term is small. Assumes nothing.
+-- `distances::distance_of` meets its contract. The invariant: the sum over the indices passed, whichever grid the
+-- weights are of, and that each term is small. Assumes nothing.
 use mathlib.Core.List.{map}
 use mathlib.Core.Path.{_≡_, refl, _∙_}
 use Prim.Native.Nat.{_-_, _*_, _≤_}
@@ -14,7 +14,9 @@ use Rattle.distances.proofs.distance_of.Statement.{statement}
 use Rattle.distances.proofs.distance_of.Tie as tie
 
 abbrev Inv-loop : tie.InvT-loop
-Inv-loop weights w y m total₀ h₀ total h = ((g : Grid) → CanMeasure g weights w m → total ≡ sum (map (term g w y) (upFrom 0 h))) × (h ≤ m) × (total ≤ h * 3932100000)
+Inv-loop weights w y m total₀ h₀ total h =
+    ((g : Grid) → CanMeasure g weights w m → total ≡ sum (map (term g w y) (upFrom 0 h))) × (h ≤ m)
+    × (total ≤ h * 3932100000)
 
 abbrev μ-loop : tie.MeasureT-loop
 μ-loop weights w y m total₀ h₀ total h = m - h
@@ -48,7 +50,9 @@ mul-total-2 c =
     let s = c .before .before .before .before .before .before .before in
     let h = c .before .before .before .before .before .loop .h in
     let C = s .pre .1 in
-    let m : c .before .apart .result * at (s .args .weights .now) h ≤ 65535 * 60000 = mul-le-mul (c .before .apart .ensures .1) (C .each .few h (omega (arith, C .indices, c .before .before .before .before .loop-test .taken))) in
+    let m : c .before .apart .result * at (s .args .weights .now) h ≤ 65535 * 60000 = mul-le-mul
+    (c .before .apart .ensures .1)
+    (C .each .few h (omega (arith, C .indices, c .before .before .before .before .loop-test .taken))) in
     omega arith
 
 add-total : tie.Need-add-total Inv-loop μ-loop
@@ -56,7 +60,9 @@ add-total c =
     let s = c .before .before .before .before .before .before .before in
     let l = c .before .before .before .before .before .loop in
     let C = s .pre .1 in
-    let m : c .before .apart .result * at (s .args .weights .now) (l .h) ≤ 65535 * 60000 = mul-le-mul (c .before .apart .ensures .1) (C .each .few (l .h) (omega (arith, C .indices, c .before .before .before .before .loop-test .taken))) in
+    let m : c .before .apart .result * at (s .args .weights .now) (l .h) ≤ 65535 * 60000 = mul-le-mul
+    (c .before .apart .ensures .1)
+    (C .each .few (l .h) (omega (arith, C .indices, c .before .before .before .before .loop-test .taken))) in
     omega (arith, l .inv .2, c .before .before .before .before .loop-test .taken, C .sixteen)
 
 add-h : tie.Need-add-h Inv-loop μ-loop
@@ -72,8 +78,17 @@ loop-again c =
     let l = c .before .before .before .before .before .loop in
     let C = s .pre .1 in
     let t = c .before .before .before .before .loop-test .taken in
-    let m : c .before .apart .result * at (a .weights .now) (l .h) ≤ 65535 * 60000 = mul-le-mul (c .before .apart .ensures .1) (C .each .few (l .h) (omega (arith, C .indices, t))) in
-    ((λ g D. rw (distance-turn g (a .w .now) (a .y .now) (l .h), l .inv .0 g D, c .before .apart .ensures .0, D .each .are (l .h) (omega (arith, D .indices, t)))), omega arith, omega (arith, l .inv .2))
+    let m : c .before .apart .result * at (a .weights .now) (l .h) ≤ 65535 * 60000 =
+    mul-le-mul (c .before .apart .ensures .1) (C .each .few (l .h) (omega (arith, C .indices, t))) in (
+      (λ g D. rw (
+        distance-turn g (a .w .now) (a .y .now) (l .h),
+        l .inv .0 g D,
+        c .before .apart .ensures .0,
+        D .each .are (l .h) (omega (arith, D .indices, t)),
+      )),
+      omega arith,
+      omega (arith, l .inv .2),
+    )
 
 returns : tie.Need-returns Inv-loop μ-loop
 returns c g C =

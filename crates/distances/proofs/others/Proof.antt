@@ -15,20 +15,28 @@ use Rattle.distances.proofs.others.Statement.{statement}
 use Rattle.distances.proofs.others.Tie as tie
 
 module _ (g : GridStruct) (j i : ℕ) (l : i < g .blocks) (d : i ≡ j → ⊥) where
-  other : partOthers (take (g .blocks) (g .divisions)) j (i + 1) ≡ partOthers (take (g .blocks) (g .divisions)) j i * getD (g .divisions) i 0
-  other =
-      part-other (take (g .blocks) (g .divisions)) j i d
-      ∙ ap (λ (x : ℕ). partOthers (take (g .blocks) (g .divisions)) j i * x) (getD-take (g .blocks) (g .divisions) i 0 l)
+  other : partOthers (take (g .blocks) (g .divisions)) j (i + 1)
+      ≡ partOthers (take (g .blocks) (g .divisions)) j i * getD (g .divisions) i 0
+  other = part-other (take (g .blocks) (g .divisions)) j i d
+      ∙ ap
+      (λ (x : ℕ). partOthers (take (g .blocks) (g .divisions)) j i * x)
+      (getD-take (g .blocks) (g .divisions) i 0 l)
 
 -- no product is past D
 few : (g : GridStruct) → IsMade g → (j : ℕ) → j < g .blocks → (i : ℕ) → i < g .blocks → (i ≡ j → ⊥)
     → partOthers (take (g .blocks) (g .divisions)) j i * getD (g .divisions) i 0 ≤ 60000
 few g made j h i l d =
     let A = made-accepted g made in
-    omega (arith, other g j i l d, part-most (shape g) A j (i + 1) (omega (arith, made-blocks g made)), others-few (shape g) A j (omega (arith, made-blocks g made)))
+    omega (
+      arith,
+      other g j i l d,
+      part-most (shape g) A j (i + 1) (omega (arith, made-blocks g made)),
+      others-few (shape g) A j (omega (arith, made-blocks g made)),
+    )
 
 abbrev Inv-loop : tie.InvT-loop
-Inv-loop j blocks divisions product₀ i₀ product i = (product ≡ partOthers (take blocks divisions) j i) × (i ≤ blocks) × (blocks ≤ 6)
+Inv-loop j blocks divisions product₀ i₀ product i =
+    (product ≡ partOthers (take blocks divisions) j i) × (i ≤ blocks) × (blocks ≤ 6)
 
 abbrev μ-loop : tie.MeasureT-loop
 μ-loop j blocks divisions product₀ i₀ product i = blocks - i
@@ -49,7 +57,11 @@ mul-product : tie.Need-mul-product Inv-loop μ-loop
 mul-product c =
     let s = c .before .before .before .before .before in
     let l = c .before .before .before .loop in
-    rw (l .inv .0, c .wide16 .ensures .0) (omega (arith, few (s .args .g) (s .pre .0) (s .args .j) (s .pre .1) (l .i) (c .before .before .loop-test .taken) (c .before .if1 .taken)))
+    rw (l .inv .0, c .wide16 .ensures .0) (omega (
+      arith,
+      few (s .args .g) (s .pre .0) (s .args .j) (s .pre .1) (l .i) (c .before .before .loop-test .taken)
+          (c .before .if1 .taken),
+    ))
 
 add-i : tie.Need-add-i Inv-loop μ-loop
 add-i c = search needs
@@ -63,7 +75,8 @@ loop-again c =
     let l = c .before .before .loop in
     let ds = take (s .args .g .blocks) (s .args .g .divisions) in (
       ⊎-elim
-          (λ w. rw (w .2, l .inv .0, w .1 .ensures .0) (sym (other (s .args .g) (s .args .j) (l .i) (c .before .loop-test .taken) (w .0 .taken))))
+          (λ w. rw (w .2, l .inv .0, w .1 .ensures .0)
+          (sym (other (s .args .g) (s .args .j) (l .i) (c .before .loop-test .taken) (w .0 .taken))))
           (λ w. rw (w .1, l .inv .0) (sym (part-own ds (s .args .j) (l .i) (w .0 .left))))
           (c .if1 .came),
       omega (arith, c .before .loop-test .taken),
@@ -77,7 +90,9 @@ returns c =
     let g = s .args .g in
     let A = made-accepted g (s .pre .0) in
     let n : l .i ≡ g .blocks = omega (arith, l .inv .1, c .loop-test .left) in
-    let e : l .product ≡ otherDivisions (shape g) (s .args .j) = l .inv .0 ∙ ap (partOthers (take (g .blocks) (g .divisions)) (s .args .j)) (n ∙ made-blocks g (s .pre .0)) ∙ part-whole (shape g) A (s .args .j) in
+    let e : l .product ≡ otherDivisions (shape g) (s .args .j) = l .inv .0
+    ∙ ap (partOthers (take (g .blocks) (g .divisions)) (s .args .j)) (n ∙ made-blocks g (s .pre .0))
+    ∙ part-whole (shape g) A (s .args .j) in
     (e, rw e (others-few (shape g) A (s .args .j) (omega (arith, s .pre .1, made-blocks g (s .pre .0)))))
 
 pub others-spec : {M : Type 1} → statement M

@@ -14,7 +14,9 @@ use Rattle.distances.proofs.weights.Statement.{statement}
 use Rattle.distances.proofs.weights.Tie as tie
 
 abbrev Inv-loop : tie.InvT-loop
-Inv-loop g m a₀ h₀ a h = ((k : ℕ) → k < h → (at a k ≡ otherDivisions (shape g) (blockOf (shape g) k)) × (at a k ≤ 60000)) × (h ≤ m) × (length a ≡ 16)
+Inv-loop g m a₀ h₀ a h =
+    ((k : ℕ) → k < h → (at a k ≡ otherDivisions (shape g) (blockOf (shape g) k)) × (at a k ≤ 60000)) × (h ≤ m)
+    × (length a ≡ 16)
 
 abbrev μ-loop : tie.MeasureT-loop
 μ-loop g m a₀ h₀ a h = m - h
@@ -28,14 +30,29 @@ block-of-requires c κs = (c .before .before .pre, c .loop-test .taken)
 others-requires : tie.Need-others-requires Inv-loop μ-loop
 others-requires c κs =
     let s = c .before .before .before in
-    let g = s .args .g in
-    (s .pre, rw (c .block-of .ensures) (omega (arith, made-blocks g (s .pre), block-spans (shape g .sizes) (c .before .before .loop .h) (omega (arith, made-indices g (s .pre), c .before .loop-test .taken)) .0)))
+    let g = s .args .g in (
+      s .pre,
+      rw (c .block-of .ensures) (omega (
+        arith,
+        made-blocks g (s .pre),
+        block-spans (shape g .sizes) (c .before .before .loop .h)
+            (omega (arith, made-indices g (s .pre), c .before .loop-test .taken)) .0,
+      )),
+    )
 
 mul-a : tie.Need-mul-a Inv-loop μ-loop
-mul-a c = omega (arith, indices-few (c .before .before .before .before .args .g) (c .before .before .before .before .pre), c .before .before .loop-test .taken)
+mul-a c = omega (
+  arith,
+  indices-few (c .before .before .before .before .args .g) (c .before .before .before .before .pre),
+  c .before .before .loop-test .taken,
+)
 
 array-write-a : tie.Need-array-write-a Inv-loop μ-loop
-array-write-a c = omega (arith, indices-few (c .before .before .before .before .args .g) (c .before .before .before .before .pre), c .before .before .loop-test .taken)
+array-write-a c = omega (
+  arith,
+  indices-few (c .before .before .before .before .args .g) (c .before .before .before .before .pre),
+  c .before .before .loop-test .taken,
+)
 
 add-h : tie.Need-add-h Inv-loop μ-loop
 add-h c = search needs
@@ -51,8 +68,11 @@ loop-again c =
     let t = c .before .before .loop-test .taken in
     let few = indices-few g (s .pre) in
     let r = c .others in (
-      (λ k d. at-set (λ (x : ℕ). (x ≡ otherDivisions (shape g) (blockOf (shape g) k)) × (x ≤ 60000)) (l .a) (l .h) (r .result) k (omega (arith, l .inv .2))
-          (λ e. rw e (r .ensures .0 ∙ ap (otherDivisions (shape g)) (c .before .block-of .ensures), r .ensures .1)) (λ n. l .inv .0 k (omega (arith, n)))),
+      (λ k d. at-set
+          (λ (x : ℕ). (x ≡ otherDivisions (shape g) (blockOf (shape g) k)) × (x ≤ 60000))
+          (l .a) (l .h) (r .result) k (omega (arith, l .inv .2))
+          (λ e. rw e (r .ensures .0 ∙ ap (otherDivisions (shape g)) (c .before .block-of .ensures), r .ensures .1))
+          (λ n. l .inv .0 k (omega (arith, n)))),
       omega arith,
       length-set (l .a) (l .h) (r .result) ∙ l .inv .2,
     )
@@ -62,7 +82,10 @@ returns c =
     let s = c .before .before in
     let l = c .before .loop in
     let m = made-indices (s .args .g) (s .pre) in
-    record { are = λ h d. l .inv .0 h (omega (arith, c .loop-test .left)) .0; few = λ h d. l .inv .0 h (omega (arith, c .loop-test .left)) .1 }
+    record {
+      are = λ h d. l .inv .0 h (omega (arith, c .loop-test .left)) .0;
+      few = λ h d. l .inv .0 h (omega (arith, c .loop-test .left)) .1;
+    }
 
 pub weights-spec : {M : Type 1} → statement M
 weights-spec =

@@ -13,13 +13,16 @@ use Rattle.games.proofs.label_on.Statement.{statement}
 use Rattle.games.proofs.label_on.Tie as tie
 
 array-share-prefix-sizes : tie.Need-array-share-prefix-sizes
-array-share-prefix-sizes c = blocks-room (c .before .before .before .before .before .before .before .args .grid) (c .before .before .before .before .before .before .before .pre .0) .0
+array-share-prefix-sizes c = blocks-room (c .before .before .before .before .before .before .before .args .grid)
+    (c .before .before .before .before .before .before .before .pre .0) .0
 
 slice-aggregate-write-labels : tie.Need-slice-aggregate-write-labels
 slice-aggregate-write-labels c = sym (length-take-le _ _ (array-share-prefix-sizes (c .before)))
 
 array-share-prefix-divisions : tie.Need-array-share-prefix-divisions
-array-share-prefix-divisions c = blocks-room (c .before .before .before .before .before .before .before .before .args .grid) (c .before .before .before .before .before .before .before .before .pre .0) .1
+array-share-prefix-divisions c = blocks-room
+    (c .before .before .before .before .before .before .before .before .args .grid)
+    (c .before .before .before .before .before .before .before .before .pre .0) .1
 
 slice-aggregate-write-labels-2 : tie.Need-slice-aggregate-write-labels-2
 slice-aggregate-write-labels-2 c = sym (length-take-le _ _ (array-share-prefix-divisions (c .before)))
@@ -29,15 +32,23 @@ write-labels-requires c κs =
     let s = c .before .before .before .before .before .before .before .before .before .before .before .before in
     let g = s .args .grid in
     let made = s .pre .0 in
-    let n = length-take-le (g .blocks) (g .sizes) (blocks-room g made .0) in
-    ((made-firsts g made, (λ h b. made-block g made h (omega (arith, made-indices g made))), s .pre .1, s .pre .2 ∙ made-points g made), (made-indices g made, rw n))
+    let n = length-take-le (g .blocks) (g .sizes) (blocks-room g made .0) in (
+      (
+        made-firsts g made,
+        (λ h b. made-block g made h (omega (arith, made-indices g made))),
+        s .pre .1,
+        s .pre .2 ∙ made-points g made,
+      ),
+      (made-indices g made, rw n),
+    )
 
 same-length : tie.Need-same-length
 same-length c = search needs
 
 returns : tie.Need-returns
 returns c =
-    let s = c .before .before .before .before .before .before .before .before .before .before .before .before .before .before .before in
+    let s = c .before .before .before .before .before .before .before
+    .before .before .before .before .before .before .before .before in
     let g = shape (s .args .grid) in
     let full = labels-length g (s .args .losses .now) ∙ sym (s .pre .2 ∙ made-points (s .args .grid) (s .pre .0)) in
     c .before .before .write-labels .ensures ∙ front-full (labels g (s .args .losses .now)) (s .args .buffer .now) full

@@ -29,7 +29,8 @@ slice-aggregate-write-3 : tie.Need-slice-aggregate-write-3
 slice-aggregate-write-3 c = search needs
 
 bound-requires : tie.Need-bound-requires
-bound-requires c κs = made-is _ _ (c .before .before .before .before .before .new .ensures) (c .before .before .before .before .if1 .left)
+bound-requires c κs =
+    made-is _ _ (c .before .before .before .before .before .new .ensures) (c .before .before .before .before .if1 .left)
 
 write-requires-3 : tie.Need-write-requires-3
 write-requires-3 c κs = search needs

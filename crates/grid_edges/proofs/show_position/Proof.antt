@@ -1,4 +1,5 @@
--- `grid_edges::show_position` meets its contract: the position is asked of a grid point of a made grid. Assumes nothing.
+-- `grid_edges::show_position` meets its contract: the position is asked of a grid point of a made grid.
+-- Assumes nothing.
 use mathlib.Core.Path.{_≡_, refl, sym, _∙_}
 use Prim.Native.Nat.{_≤_}
 use lib.ListN.{length}
@@ -40,7 +41,8 @@ array-share-prefix-y : tie.Need-array-share-prefix-y
 array-share-prefix-y c = fits (c .before)
 
 slice-aggregate-is-grid-point : tie.Need-slice-aggregate-is-grid-point
-slice-aggregate-is-grid-point c = sym (length-take-le _ (c .before .before .before .before .before .before .args .t3) (fits (c .before .before)))
+slice-aggregate-is-grid-point c =
+    sym (length-take-le _ (c .before .before .before .before .before .before .args .t3) (fits (c .before .before)))
 
 is-grid-point-requires : tie.Need-is-grid-point-requires
 is-grid-point-requires c κs = made (c .before .before)
@@ -68,7 +70,9 @@ position-requires c κs =
       made e,
       c .before .before .before .before .binomials .ensures,
       none-can y _ few,
-      rw (none-after y _ few (fits e)) (sym (c .before .before .before .before .before .before .before .is-grid-point .ensures) ∙ not-false _ (c .before .before .before .before .before .before .if2 .left)),
+      rw (none-after y _ few (fits e))
+          (sym (c .before .before .before .before .before .before .before .is-grid-point .ensures)
+          ∙ not-false _ (c .before .before .before .before .before .before .if2 .left)),
     )
 
 write-requires-3 : tie.Need-write-requires-3

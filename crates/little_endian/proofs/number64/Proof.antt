@@ -1,4 +1,5 @@
--- `little_endian::number64` meets its contract. A number is split after its lowest 16 bits, three times. Assumes nothing.
+-- `little_endian::number64` meets its contract. A number is split after its lowest 16 bits, three times.
+-- Assumes nothing.
 use Prim.Native.Nat.{_+_}
 use borrow.Author.Needs.{needs}
 use native.Mathlib.Omega.{arith}

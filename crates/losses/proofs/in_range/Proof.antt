@@ -33,13 +33,17 @@ returns : tie.Need-returns Inv-loop μ-loop
 returns c =
     let l = c .before .before .before .loop in
     let xs = c .before .before .before .before .args .losses .now in
-    sym (range-broken xs (l .i) (omega arith) (λ a. let b = leb-true 1 (getD xs (l .i) 0) (and-left (leb 1 (getD xs (l .i) 0)) (leb (getD xs (l .i) 0) 1000) a) in omega arith))
+    sym (range-broken xs (l .i) (omega arith) (λ a.
+    let b = leb-true 1 (getD xs (l .i) 0) (and-left (leb 1 (getD xs (l .i) 0)) (leb (getD xs (l .i) 0) 1000) a) in
+    omega arith))
 
 returns-2 : tie.Need-returns-2 Inv-loop μ-loop
 returns-2 c =
     let l = c .before .before .before .before .loop in
     let xs = c .before .before .before .before .before .args .losses .now in
-    sym (range-broken xs (l .i) (omega arith) (λ a. let b = leb-true (getD xs (l .i) 0) 1000 (and-right (leb 1 (getD xs (l .i) 0)) (leb (getD xs (l .i) 0) 1000) a) in omega arith))
+    sym (range-broken xs (l .i) (omega arith) (λ a.
+    let b = leb-true (getD xs (l .i) 0) 1000 (and-right (leb 1 (getD xs (l .i) 0)) (leb (getD xs (l .i) 0) 1000) a) in
+    omega arith))
 
 add-i : tie.Need-add-i Inv-loop μ-loop
 add-i c = omega arith

@@ -32,7 +32,10 @@ mul-count : tie.Need-mul-count Inv-loop μ-loop
 mul-count c =
     let s = c .before .before .before .before .before in
     let l = c .before .before .before .loop in
-    record { fits = rw (c .wide .ensures, l .inv .0, product-turn (s .args .sizes .now) (l .j) (omega arith) (omega arith)) (omega (arith, part-few (s .args .sizes .now) (l .j - 1) (s .pre))) }
+    record {
+      fits = rw (c .wide .ensures, l .inv .0, product-turn (s .args .sizes .now) (l .j) (omega arith) (omega arith))
+          (omega (arith, part-few (s .args .sizes .now) (l .j - 1) (s .pre)));
+    }
 
 loop-less : tie.Need-loop-less Inv-loop μ-loop
 loop-less c = omega arith
@@ -40,8 +43,10 @@ loop-less c = omega arith
 loop-again : tie.Need-loop-again Inv-loop μ-loop
 loop-again c =
     let s = c .before .before .before .before .before in
-    let l = c .before .before .before .loop in
-    (rw (c .wide .ensures, l .inv .0) (product-turn (s .args .sizes .now) (l .j) (omega arith) (omega arith)), omega arith)
+    let l = c .before .before .before .loop in (
+      rw (c .wide .ensures, l .inv .0) (product-turn (s .args .sizes .now) (l .j) (omega arith) (omega arith)),
+      omega arith,
+    )
 
 returns : tie.Need-returns Inv-loop μ-loop
 returns c =

@@ -16,33 +16,66 @@ block-of-requires-2 : tie.Need-block-of-requires-2
 block-of-requires-2 c κs = search needs
 
 returns : tie.Need-returns
-returns c = rw (ne-eqb _ _ (λ e. c .if1 .taken (c .before .before .block-of .ensures ∙ e ∙ sym (c .before .block-of2 .ensures))))
+returns c = rw
+    (ne-eqb _ _ (λ e. c .if1 .taken (c .before .before .block-of .ensures ∙ e ∙ sym (c .before .block-of2 .ensures))))
 
 source-requires : tie.Need-source-requires
-source-requires c κs = let s = c .before .before .before in (omega (arith, s .pre .1 .0, indices-few (s .args .g) (s .pre .0 .0)), s .pre .0 .1)
+source-requires c κs =
+    let s = c .before .before .before in
+    (omega (arith, s .pre .1 .0, indices-few (s .args .g) (s .pre .0 .0)), s .pre .0 .1)
 
 returns-2 : tie.Need-returns-2
 returns-2 c =
-    let same = sym (c .before .before .before .before .block-of .ensures) ∙ c .before .before .if1 .left ∙ c .before .before .before .block-of2 .ensures in
+    let same = sym (c .before .before .before .before .block-of .ensures)
+    ∙ c .before .before .if1 .left
+    ∙ c .before .before .before .block-of2 .ensures in
     rw (eq-eqb _ _ same, ← c .before .source .ensures .0, le-ltb _ _ (c .if2 .taken))
 
 source-requires-2 : tie.Need-source-requires-2
-source-requires-2 c κs = let s = c .before .before .before .before .before in (omega (arith, s .pre .1 .1, indices-few (s .args .g) (s .pre .0 .0)), s .pre .0 .1)
+source-requires-2 c κs =
+    let s = c .before .before .before .before .before in
+    (omega (arith, s .pre .1 .1, indices-few (s .args .g) (s .pre .0 .0)), s .pre .0 .1)
 
 returns-3 : tie.Need-returns-3
 returns-3 c =
-    let same = sym (c .before .before .before .before .before .before .block-of .ensures) ∙ c .before .before .before .before .if1 .left ∙ c .before .before .before .before .before .block-of2 .ensures in
-    rw (eq-eqb _ _ same, ← c .before .before .before .source .ensures .0, ← c .before .source2 .ensures .0, lt-ltb _ _ (c .before .before .if2 .left), le-ltb _ _ (c .if3 .taken))
+    let same = sym (c .before .before .before .before .before .before .block-of .ensures)
+    ∙ c .before .before .before .before .if1 .left
+    ∙ c .before .before .before .before .before .block-of2 .ensures in
+    rw (
+      eq-eqb _ _ same,
+      ← c .before .before .before .source .ensures .0,
+      ← c .before .source2 .ensures .0,
+      lt-ltb _ _ (c .before .before .if2 .left),
+      le-ltb _ _ (c .if3 .taken),
+    )
 
 returns-4 : tie.Need-returns-4
 returns-4 c =
-    let same = sym (c .before .before .before .before .before .before .before .block-of .ensures) ∙ c .before .before .before .before .before .if1 .left ∙ c .before .before .before .before .before .before .block-of2 .ensures in
-    rw (eq-eqb _ _ same, ← c .before .before .before .before .source .ensures .0, ← c .before .before .source2 .ensures .0, lt-ltb _ _ (c .before .before .before .if2 .left), lt-ltb _ _ (c .before .if3 .left), le-leb _ _ (c .if4 .taken))
+    let same = sym (c .before .before .before .before .before .before .before .block-of .ensures)
+    ∙ c .before .before .before .before .before .if1 .left
+    ∙ c .before .before .before .before .before .before .block-of2 .ensures in
+    rw (
+      eq-eqb _ _ same,
+      ← c .before .before .before .before .source .ensures .0,
+      ← c .before .before .source2 .ensures .0,
+      lt-ltb _ _ (c .before .before .before .if2 .left),
+      lt-ltb _ _ (c .before .if3 .left),
+      le-leb _ _ (c .if4 .taken),
+    )
 
 returns-5 : tie.Need-returns-5
 returns-5 c =
-    let same = sym (c .before .before .before .before .before .before .before .block-of .ensures) ∙ c .before .before .before .before .before .if1 .left ∙ c .before .before .before .before .before .before .block-of2 .ensures in
-    rw (eq-eqb _ _ same, ← c .before .before .before .before .source .ensures .0, ← c .before .before .source2 .ensures .0, lt-ltb _ _ (c .before .before .before .if2 .left), lt-ltb _ _ (c .before .if3 .left), lt-leb _ _ (c .if4 .left))
+    let same = sym (c .before .before .before .before .before .before .before .block-of .ensures)
+    ∙ c .before .before .before .before .before .if1 .left
+    ∙ c .before .before .before .before .before .before .block-of2 .ensures in
+    rw (
+      eq-eqb _ _ same,
+      ← c .before .before .before .before .source .ensures .0,
+      ← c .before .before .source2 .ensures .0,
+      lt-ltb _ _ (c .before .before .before .if2 .left),
+      lt-ltb _ _ (c .before .if3 .left),
+      lt-leb _ _ (c .if4 .left),
+    )
 
 pub add-up-spec : {M : Type 1} → statement M
 add-up-spec =

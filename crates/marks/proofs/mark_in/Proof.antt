@@ -18,7 +18,8 @@ read-at-requires : tie.Need-read-at-requires
 read-at-requires c κs =
     let s = c .before .before in
     let a = s .args in
-    rw (c .position-in .ensures) (in-table (a .g) (a .binomials .now) (a .table .now) (s .pre .0 .0) _ (s .pre .0 .1 .onGrid))
+    rw (c .position-in .ensures)
+    (in-table (a .g) (a .binomials .now) (a .table .now) (s .pre .0 .0) _ (s .pre .0 .1 .onGrid))
 
 byte-requires : tie.Need-byte-requires
 byte-requires c κs = search needs
@@ -29,14 +30,16 @@ returns c =
     let a = s .args in
     let e = c .before .before .before .position-in .ensures in
     ap (λ (at : ℕ). Unknown at) e
-    ∙ read-gap (a .g) (a .binomials .now) (a .table .now) (s .pre .0 .0) _ (rw e at (sym (c .before .byte .ensures .0 ∙ c .before .before .read-at .ensures) ∙ c .if1 .taken))
+    ∙ read-gap (a .g) (a .binomials .now) (a .table .now) (s .pre .0 .0) _
+    (rw e at (sym (c .before .byte .ensures .0 ∙ c .before .before .read-at .ensures) ∙ c .if1 .taken))
 
 cast-t16 : tie.Need-cast-t16
 cast-t16 c =
     let s = c .before .before .before .before .before in
     let a = made-accepted (s .args .g) (s .pre .0 .0 .made) in
     let at = c .before .before .before .position-in in
-    let small : at .result < 60001 = rw (at .ensures) (omega (arith, position-below _ _ (a .sameNumber) (s .pre .0 .1 .onGrid), a .fewPoints)) in
+    let small : at .result < 60001 =
+    rw (at .ensures) (omega (arith, position-below _ _ (a .sameNumber) (s .pre .0 .1 .onGrid), a .fewPoints)) in
     omega arith
 
 mul-t17 : tie.Need-mul-t17
@@ -44,7 +47,8 @@ mul-t17 c =
     let s = c .before .before .before .before .before in
     let a = made-accepted (s .args .g) (s .pre .0 .0 .made) in
     let at = c .before .before .before .position-in in
-    let small : at .result < 60001 = rw (at .ensures) (omega (arith, position-below _ _ (a .sameNumber) (s .pre .0 .1 .onGrid), a .fewPoints)) in
+    let small : at .result < 60001 =
+    rw (at .ensures) (omega (arith, position-below _ _ (a .sameNumber) (s .pre .0 .1 .onGrid), a .fewPoints)) in
     omega arith
 
 add-t18 : tie.Need-add-t18
@@ -52,7 +56,8 @@ add-t18 c =
     let s = c .before .before .before .before .before in
     let a = made-accepted (s .args .g) (s .pre .0 .0 .made) in
     let at = c .before .before .before .position-in in
-    let small : at .result < 60001 = rw (at .ensures) (omega (arith, position-below _ _ (a .sameNumber) (s .pre .0 .1 .onGrid), a .fewPoints)) in
+    let small : at .result < 60001 =
+    rw (at .ensures) (omega (arith, position-below _ _ (a .sameNumber) (s .pre .0 .1 .onGrid), a .fewPoints)) in
     omega (arith, c .before .byte .ensures .1)
 
 returns-2 : tie.Need-returns-2

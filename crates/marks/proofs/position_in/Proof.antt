@@ -47,11 +47,15 @@ add-up-requires c κs =
     let a = s .args in
     let R = s .pre .0 .1 in
     let many = s .pre .1 .1 in
-    let b = between-means (a .s) (sym (c .before .before .before .is-between .ensures) ∙ c .before .before .if1 .taken) in
-    let place = stateOf (roundOf (a .previous .now) [] (a .sizes .now)) (a .first .now) (a .coefficients .now) (a .order .now) (a .marks .now) (a .s) in
+    let b =
+    between-means (a .s) (sym (c .before .before .before .is-between .ensures) ∙ c .before .before .if1 .taken) in
+    let place = stateOf (roundOf (a .previous .now) [] (a .sizes .now)) (a .first .now) (a .coefficients .now)
+    (a .order .now) (a .marks .now) (a .s) in
     let X = s .pre .1 .0 .square (b .0) (b .1) (rw many (b .2)) in
-    let i = corner-indices (a .g) (s .pre .0 .0 .made) place (b .1) X in
-    ((s .pre .0 .0 .made, R .below), (rw (c .before .index-at .ensures .is) (i .0), rw (c .index-at2 .ensures .is) (i .1)))
+    let i = corner-indices (a .g) (s .pre .0 .0 .made) place (b .1) X in (
+      (s .pre .0 .0 .made, R .below),
+      (rw (c .before .index-at .ensures .is) (i .0), rw (c .index-at2 .ensures .is) (i .1)),
+    )
 
 sub-position-at : tie.Need-sub-position-at
 sub-position-at c =
@@ -59,7 +63,9 @@ sub-position-at c =
     let a = s .args in
     let R = s .pre .0 .1 in
     let many = s .pre .1 .1 in
-    let b = between-means (a .s) (sym (c .before .before .before .before .before .is-between .ensures) ∙ c .before .before .before .before .if1 .taken) in
+    let b = between-means (a .s)
+    (sym (c .before .before .before .before .before .is-between .ensures)
+    ∙ c .before .before .before .before .if1 .taken) in
     omega (arith, b)
 
 position-at-requires : tie.Need-position-at-requires
@@ -68,7 +74,9 @@ position-at-requires c κs =
     let a = s .args in
     let R = s .pre .0 .1 in
     let many = s .pre .1 .1 in
-    let b = between-means (a .s) (sym (c .before .before .before .before .before .is-between .ensures) ∙ c .before .before .before .before .if1 .taken) in
+    let b = between-means (a .s)
+    (sym (c .before .before .before .before .before .is-between .ensures)
+    ∙ c .before .before .before .before .if1 .taken) in
     (omega (arith, b), omega (arith, R .point .few))
 
 add-position-at : tie.Need-add-position-at
@@ -85,7 +93,9 @@ position-at-requires-2 c κs =
     let a = s .args in
     let R = s .pre .0 .1 in
     let many = s .pre .1 .1 in
-    let b = between-means (a .s) (sym (c .before .before .before .before .before .before .is-between .ensures) ∙ c .before .before .before .before .before .if1 .taken) in
+    let b = between-means (a .s)
+    (sym (c .before .before .before .before .before .before .is-between .ensures)
+    ∙ c .before .before .before .before .before .if1 .taken) in
     (omega (arith, b), omega (arith, R .point .few))
 
 add-result : tie.Need-add-result
@@ -97,7 +107,9 @@ position-at-requires-3 c κs =
     let a = s .args in
     let R = s .pre .0 .1 in
     let many = s .pre .1 .1 in
-    let b = between-means (a .s) (sym (c .before .before .before .before .before .before .before .is-between .ensures) ∙ c .before .before .before .before .before .before .if1 .taken) in
+    let b = between-means (a .s)
+    (sym (c .before .before .before .before .before .before .before .is-between .ensures)
+    ∙ c .before .before .before .before .before .before .if1 .taken) in
     (omega (arith, b), omega (arith, R .point .few))
 
 sub-result : tie.Need-sub-result
@@ -106,12 +118,16 @@ sub-result c =
     let a = s .args in
     let R = s .pre .0 .1 in
     let many = s .pre .1 .1 in
-    let b = between-means (a .s) (sym (c .before .before .before .before .before .before .before .before .is-between .ensures) ∙ c .before .before .before .before .before .before .before .if1 .taken) in
-    let place = stateOf (roundOf (a .previous .now) [] (a .sizes .now)) (a .first .now) (a .coefficients .now) (a .order .now) (a .marks .now) (a .s) in
+    let b = between-means (a .s)
+    (sym (c .before .before .before .before .before .before .before .before .is-between .ensures)
+    ∙ c .before .before .before .before .before .before .before .if1 .taken) in
+    let place = stateOf (roundOf (a .previous .now) [] (a .sizes .now)) (a .first .now) (a .coefficients .now)
+    (a .order .now) (a .marks .now) (a .s) in
     let X = s .pre .1 .0 .square (b .0) (b .1) (rw many (b .2)) in
     let h = c .before .before .before .before .before .before .index-at in
     let k = c .before .before .before .before .before .index-at2 in
-    let apart = rw (h .ensures .is, k .ensures .is) at (sym (c .before .before .before .before .add-up .ensures) ∙ c .before .before .before .if2 .taken) in
+    let apart = rw (h .ensures .is, k .ensures .is)
+    at (sym (c .before .before .before .before .add-up .ensures) ∙ c .before .before .before .if2 .taken) in
     let up : a .s .active + 1 ≡ suc (a .s .active) = omega arith in
     let sum = corners-add (a .g) (s .pre .0 .0 .made) place (b .1) X apart in
     let far = rw up at (c .before .position-at2 .ensures .0) in
@@ -123,12 +139,16 @@ returns c =
     let a = s .args in
     let R = s .pre .0 .1 in
     let many = s .pre .1 .1 in
-    let b = between-means (a .s) (sym (c .before .before .before .before .before .before .before .before .is-between .ensures) ∙ c .before .before .before .before .before .before .before .if1 .taken) in
-    let place = stateOf (roundOf (a .previous .now) [] (a .sizes .now)) (a .first .now) (a .coefficients .now) (a .order .now) (a .marks .now) (a .s) in
+    let b = between-means (a .s)
+    (sym (c .before .before .before .before .before .before .before .before .is-between .ensures)
+    ∙ c .before .before .before .before .before .before .before .if1 .taken) in
+    let place = stateOf (roundOf (a .previous .now) [] (a .sizes .now)) (a .first .now) (a .coefficients .now)
+    (a .order .now) (a .marks .now) (a .s) in
     let X = s .pre .1 .0 .square (b .0) (b .1) (rw many (b .2)) in
     let h = c .before .before .before .before .before .before .index-at in
     let k = c .before .before .before .before .before .index-at2 in
-    let apart = rw (h .ensures .is, k .ensures .is) at (sym (c .before .before .before .before .add-up .ensures) ∙ c .before .before .before .if2 .taken) in
+    let apart = rw (h .ensures .is, k .ensures .is)
+    at (sym (c .before .before .before .before .add-up .ensures) ∙ c .before .before .before .if2 .taken) in
     let up : a .s .active + 1 ≡ suc (a .s .active) = omega arith in
     let sum = corners-add (a .g) (s .pre .0 .0 .made) place (b .1) X apart in
     let far = rw up at (c .before .position-at2 .ensures .0) in
@@ -141,7 +161,16 @@ position-by-one-step-requires c κs =
     let R = s .pre .0 .1 in
     let many = s .pre .1 .1 in (
       (s .pre .0 .0, c .if3 .taken),
-      (record { below = R .below; orderBelow = R .point .indices; active = omega (arith, R .point .low); few = omega (arith, R .point .few); many = many }, (a .first .now, s .pre .1 .0 .beside (c .if3 .taken))),
+      (
+        record {
+          below = R .below;
+          orderBelow = R .point .indices;
+          active = omega (arith, R .point .low);
+          few = omega (arith, R .point .few);
+          many = many;
+        },
+        (a .first .now, s .pre .1 .0 .beside (c .if3 .taken)),
+      ),
     )
 
 enum-known-found : tie.Need-enum-known-found
@@ -153,7 +182,13 @@ returns-2 c =
     let a = s .args in
     let R = s .pre .0 .1 in
     let many = s .pre .1 .1 in
-    one-step-is _ (stateOf (roundOf (a .previous .now) [] (a .sizes .now)) (a .first .now) (a .coefficients .now) (a .order .now) (a .marks .now) (a .s)) _ (sym (c .before .found .given .1) ∙ c .before .before .before .position-by-one-step .ensures (a .first .now) (s .pre .1 .0 .beside (c .before .before .before .before .if3 .taken)))
+    one-step-is _
+    (stateOf (roundOf (a .previous .now) [] (a .sizes .now)) (a .first .now) (a .coefficients .now) (a .order .now)
+    (a .marks .now) (a .s))
+    _
+    (sym (c .before .found .given .1)
+    ∙ c .before .before .before .position-by-one-step .ensures (a .first .now)
+    (s .pre .1 .0 .beside (c .before .before .before .before .if3 .taken)))
 
 enum-told : tie.Need-enum-told
 enum-told c = search needs

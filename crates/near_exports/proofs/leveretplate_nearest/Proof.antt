@@ -22,7 +22,10 @@ same-length-2 c = search needs
 returns : tie.Need-returns
 returns c =
     let found = c .before .before .before .before .before .before .before .before .run .ensures in
-    rw (sym (found .0)) (c .put-answer .ensures .0, (c .put-answer .ensures .1, (c .before .before .put-nearest .ensures, (found .1 .0, found .1 .1))))
+    rw (sym (found .0)) (
+      c .put-answer .ensures .0,
+      (c .put-answer .ensures .1, (c .before .before .put-nearest .ensures, (found .1 .0, found .1 .1))),
+    )
 
 pub leveretplate-nearest-spec : {M : Type 1} → statement M
 leveretplate-nearest-spec =

@@ -32,7 +32,9 @@ same-length : tie.Need-same-length
 same-length c = search needs
 
 returns : tie.Need-returns
-returns c = rw (c .before .found .given .1) (two (c .before .found .given .0 .0) (c .before .found .given .0 .1 .0) (c .before .before .before .args .near .now) (c .before .before .before .pre))
+returns c = rw (c .before .found .given .1)
+    (two (c .before .found .given .0 .0) (c .before .found .given .0 .1 .0) (c .before .before .before .args .near .now)
+    (c .before .before .before .pre))
 
 returns-2 : tie.Need-returns-2
 returns-2 c = rw (c .enum-told .given .1) (sym (front-none (c .before .before .args .near .now)))

@@ -27,21 +27,31 @@ returns-2 c =
     let s = c .before .before .before .before .before .before .before in
     let a = s .args in
     let p = problemFrom (a .g) (a .start .now) (a .labels .now) in
-    no-later p (a .w .now) (a .room) (a .entries) (sym (c .before .before .before .is-grid-point .ensures) ∙ not-false _ (c .before .before .if1 .left)) (c .before .first-no .result) (c .if2 .taken) (c .before .first-no .ensures)
+    no-later p (a .w .now) (a .room) (a .entries)
+    (sym (c .before .before .before .is-grid-point .ensures) ∙ not-false _ (c .before .before .if1 .left))
+    (c .before .first-no .result) (c .if2 .taken) (c .before .first-no .ensures)
 
 returns-3 : tie.Need-returns-3
 returns-3 c =
     let s = c .before .before .before .before .before .before .before .before .before in
     let a = s .args in
     let p = problemFrom (a .g) (a .start .now) (a .labels .now) in
-    no-list p (a .w .now) (a .room) (a .entries) (sym (c .before .before .before .before .before .is-grid-point .ensures) ∙ not-false _ (c .before .before .before .before .if1 .left)) (sym (c .before .before .before .first-no .ensures) ∙ c .before .before .if2 .left) (omega (arith, c .if3 .taken, made-points (a .g) (s .pre)))
+    no-list p (a .w .now) (a .room) (a .entries)
+    (sym (c .before .before .before .before .before .is-grid-point .ensures)
+    ∙ not-false _ (c .before .before .before .before .if1 .left))
+    (sym (c .before .before .before .first-no .ensures) ∙ c .before .before .if2 .left)
+    (omega (arith, c .if3 .taken, made-points (a .g) (s .pre)))
 
 returns-4 : tie.Need-returns-4
 returns-4 c =
     let s = c .before .before .before .before .before .before .before .before .before in
     let a = s .args in
     let p = problemFrom (a .g) (a .start .now) (a .labels .now) in
-    none-no p (a .w .now) (a .room) (a .entries) (sym (c .before .before .before .before .before .is-grid-point .ensures) ∙ not-false _ (c .before .before .before .before .if1 .left)) (sym (c .before .before .before .first-no .ensures) ∙ c .before .before .if2 .left) (omega (arith, c .if3 .left, made-points (a .g) (s .pre)))
+    none-no p (a .w .now) (a .room) (a .entries)
+    (sym (c .before .before .before .before .before .is-grid-point .ensures)
+    ∙ not-false _ (c .before .before .before .before .if1 .left))
+    (sym (c .before .before .before .first-no .ensures) ∙ c .before .before .if2 .left)
+    (omega (arith, c .if3 .left, made-points (a .g) (s .pre)))
 
 pub first-no-spec : {M : Type 1} → statement M
 first-no-spec =

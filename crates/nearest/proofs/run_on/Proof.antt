@@ -21,7 +21,10 @@ returns c =
     let s = c .before .before .before .before .before .before .before in
     let a = s .args in
     let p = problemFrom (a .g) (a .start .now) (a .labels .now) in
-    let w = refused p (a .w .now) (a .given) (a .budget) (a .answer .now) (a .list .now) (c .before .first-no .result) (c .if1 .taken) (by-point p (a .w .now) (length (a .answer .now)) (length (a .list .now)) (s .pre .accepted) ∙ sym (c .before .first-no .ensures)) in
+    let w = refused p (a .w .now) (a .given) (a .budget) (a .answer .now) (a .list .now) (c .before .first-no .result)
+    (c .if1 .taken)
+    (by-point p (a .w .now) (length (a .answer .now)) (length (a .list .now)) (s .pre .accepted)
+    ∙ sym (c .before .first-no .ensures)) in
     (w .0, (w .1, w .2))
 
 binomials-requires : tie.Need-binomials-requires
@@ -32,9 +35,15 @@ announced-requires c κs =
     let s = c .before .before .before .before .before .before .before .before .before .before .before in
     let a = s .args in
     let p = problemFrom (a .g) (a .start .now) (a .labels .now) in
-    let yes = all-yes p (a .w .now) (length (a .answer .now)) (length (a .list .now)) (sym (c .before .before .before .before .before .first-no .ensures) ∙ c .before .before .before .before .if1 .left) in
+    let yes = all-yes p (a .w .now) (length (a .answer .now)) (length (a .list .now))
+    (sym (c .before .before .before .before .before .first-no .ensures)
+    ∙ c .before .before .before .before .if1 .left) in
     let ok = accepted-with-room p (length (a .answer .now)) (s .pre .accepted) (yes .1) in
-    record { readable = record { made = s .pre; filled = c .before .before .binomials2 .ensures; whole = ok .0 .tableLength }; accepted = ok .0; room = ok .1 }
+    record {
+      readable = record { made = s .pre; filled = c .before .before .binomials2 .ensures; whole = ok .0 .tableLength };
+      accepted = ok .0;
+      room = ok .1;
+    }
 
 enum-known-run : tie.Need-enum-known-run
 enum-known-run c = search needs
@@ -44,25 +53,40 @@ same-length c = search needs
 
 returns-2 : tie.Need-returns-2
 returns-2 c =
-    let s = c .before .before .before .before .before .before .before .before .before .before .before .before .before .before .before in
+    let s = c .before .before .before .before .before .before .before
+    .before .before .before .before .before .before .before .before in
     let a = s .args in
     let p = problemFrom (a .g) (a .start .now) (a .labels .now) in
     let q = c .before .before .before .announced .ensures in
-    let w = answered p (a .w .now) (a .given) (a .budget) (a .answer .now) (a .list .now) (by-point p (a .w .now) (length (a .answer .now)) (length (a .list .now)) (s .pre .accepted) ∙ sym (c .before .before .before .before .before .before .before .before .before .first-no .ensures) ∙ c .before .before .before .before .before .before .before .before .if1 .left) in
+    let w = answered p (a .w .now) (a .given) (a .budget) (a .answer .now) (a .list .now)
+    (by-point p (a .w .now) (length (a .answer .now)) (length (a .list .now)) (s .pre .accepted)
+    ∙ sym (c .before .before .before .before .before .before .before .before .before .first-no .ensures)
+    ∙ c .before .before .before .before .before .before .before .before .if1 .left) in
     let none = no-end p (a .w .now) (a .given) (answer p (a .budget)) (rw (q .0) at (c .match .keys2)) in
     (rw (q .0, ← none .0) (w .0), (q .1 ∙ w .1, sym (rw (none .1) at (sym (w .2)) ∙ front-none (a .list .now))))
 
 survey-requires : tie.Need-survey-requires
 survey-requires c κs =
-    let s = c .before .before .before .before .before .before .before .before .before .before .before .before .before .before .before .before .before .before .before in
+    let s = c .before .before .before .before .before .before .before .before .before
+    .before .before .before .before .before .before .before .before .before .before in
     let a = s .args in
     let p = problemFrom (a .g) (a .start .now) (a .labels .now) in
-    let yes = all-yes p (a .w .now) (length (a .answer .now)) (length (a .list .now)) (sym (c .before .before .before .before .before .before .before .before .before .before .before .before .before .first-no .ensures) ∙ c .before .before .before .before .before .before .before .before .before .before .before .before .if1 .left) in
+    let yes = all-yes p (a .w .now) (length (a .answer .now)) (length (a .list .now))
+    (sym
+    (c .before .before .before .before .before .before .before
+    .before .before .before .before .before .before .first-no .ensures)
+    ∙ c .before .before .before .before .before .before .before .before .before .before .before .before .if1 .left) in
     let ok = accepted-with-room p (length (a .answer .now)) (s .pre .accepted) (yes .1) in
-    let e = at-end p (a .budget) (sym (c .before .before .before .before .before .before .before .announced .ensures .0) ∙ c .before .before .before .run .given .1) in
+    let e = at-end p (a .budget)
+    (sym (c .before .before .before .before .before .before .before .announced .ensures .0)
+    ∙ c .before .before .before .run .given .1) in
     let f = ended-is p (a .budget) (e .2) in
     record {
-      readable = record { made = s .pre; filled = c .before .before .before .before .before .before .before .before .before .before .binomials2 .ensures; whole = ok .0 .tableLength };
+      readable = record {
+        made = s .pre;
+        filled = c .before .before .before .before .before .before .before .before .before .before .binomials2 .ensures;
+        whole = ok .0 .tableLength;
+      };
       accepted = ok .0;
       onGrid = yes .0;
       room = yes .2;
@@ -79,15 +103,25 @@ same-length-3 c = search needs
 
 returns-3 : tie.Need-returns-3
 returns-3 c =
-    let s = c .before .before .before .before .before .before .before .before .before .before .before .before .before .before .before .before .before .before .before .before .before .before in
+    let s = c .before .before .before .before .before .before .before .before .before .before .before
+    .before .before .before .before .before .before .before .before .before .before .before in
     let a = s .args in
     let p = problemFrom (a .g) (a .start .now) (a .labels .now) in
     let q = c .before .before .before .before .before .before .before .before .before .before .announced .ensures in
-    let w = answered p (a .w .now) (a .given) (a .budget) (a .answer .now) (a .list .now) (by-point p (a .w .now) (length (a .answer .now)) (length (a .list .now)) (s .pre .accepted) ∙ sym (c .before .before .before .before .before .before .before .before .before .before .before .before .before .before .before .before .first-no .ensures) ∙ c .before .before .before .before .before .before .before .before .before .before .before .before .before .before .before .if1 .left) in
+    let w = answered p (a .w .now) (a .given) (a .budget) (a .answer .now) (a .list .now)
+    (by-point p (a .w .now) (length (a .answer .now)) (length (a .list .now)) (s .pre .accepted)
+    ∙ sym
+    (c .before .before .before .before .before .before .before .before .before
+    .before .before .before .before .before .before .before .first-no .ensures)
+    ∙ c .before .before .before .before .before .before .before .before
+    .before .before .before .before .before .before .before .if1 .left) in
     let e = at-end p (a .budget) (sym (q .0) ∙ c .before .before .before .before .before .before .run .given .1) in
     let v = c .before .before .survey .ensures in
-    let run : _ ≡ caseOf (answer p (a .budget)) = sym (c .before .before .before .before .before .before .run .given .1) ∙ q .0 in
-    let near : Vertex (c .before .before .survey .result .nearest) (c .before .before .survey .result .listed) ≡ nearestIn p (a .w .now) (a .given) (answer p (a .budget)) = rw (e .2, v .nearest, v .listed) in
+    let run : _ ≡ caseOf (answer p (a .budget)) =
+    sym (c .before .before .before .before .before .before .run .given .1) ∙ q .0 in
+    let near : Vertex (c .before .before .survey .result .nearest) (c .before .before .survey .result .listed)
+    ≡ nearestIn p (a .w .now) (a .given) (answer p (a .budget)) =
+    rw (e .2, v .nearest, v .listed) in
     (rw (run, near) (w .0), (q .1 ∙ w .1, v .written ∙ (rw (e .2) at (w .2))))
 
 pub run-on-spec : {M : Type 1} → statement M

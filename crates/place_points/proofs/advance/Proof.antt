@@ -18,7 +18,9 @@ abbrev μ-loop : tie.MeasureT-loop
 μ-loop y₀ previous sizes u order i k₀ y k = i - k
 
 loop-holds : tie.Need-loop-holds Inv-loop μ-loop
-loop-holds c = let a = c .args in (after-none (firstOutside (a .previous .now) (a .sizes .now) (a .u)) (a .order .now) (a .y .now), omega arith)
+loop-holds c =
+    let a = c .args in
+    (after-none (firstOutside (a .previous .now) (a .sizes .now) (a .u)) (a .order .now) (a .y .now), omega arith)
 
 mul-wide32 : tie.Need-mul-wide32 Inv-loop μ-loop
 mul-wide32 c = omega arith
@@ -32,8 +34,11 @@ wide32-requires c κs = search needs
 source-requires : tie.Need-source-requires Inv-loop μ-loop
 source-requires c κs =
     let s = c .before .before .before .before in
-    let a = s .args in
-    (rw (c .wide32 .ensures) (entry-below (a .order .now) (a .i) (c .before .before .before .loop .k) (omega arith) (s .pre .1 .indices)), s .pre .0)
+    let a = s .args in (
+      rw (c .wide32 .ensures)
+          (entry-below (a .order .now) (a .i) (c .before .before .before .loop .k) (omega arith) (s .pre .1 .indices)),
+      s .pre .0,
+    )
 
 shift-requires : tie.Need-shift-requires Inv-loop μ-loop
 shift-requires c κs =
@@ -42,11 +47,14 @@ shift-requires c κs =
     let l = c .before .before .before .before .before .loop in
     let h = c .before .before .wide32 in
     let b = c .before .source in
-    let ready =
-    step-ready (firstOutside (a .previous .now) (a .sizes .now) (a .u)) (a .order .now) (a .y .now) (a .i) (a .i) (l .k) (h .result) (b .result) (l .y)
-    (c .before .before .before .before .loop-test .taken) (omega arith) (s .pre .1) (l .inv .0) (h .ensures) (b .ensures .0)
-    in
-    (rw (h .ensures) (entry-below (a .order .now) (a .i) (l .k) (omega arith) (s .pre .1 .indices)), b .ensures .1, ready .0, ready .1)
+    let ready = step-ready (firstOutside (a .previous .now) (a .sizes .now) (a .u)) (a .order .now) (a .y .now) (a .i)
+    (a .i) (l .k) (h .result) (b .result) (l .y) (c .before .before .before .before .loop-test .taken) (omega arith)
+    (s .pre .1) (l .inv .0) (h .ensures) (b .ensures .0) in (
+      rw (h .ensures) (entry-below (a .order .now) (a .i) (l .k) (omega arith) (s .pre .1 .indices)),
+      b .ensures .1,
+      ready .0,
+      ready .1,
+    )
 
 add-k : tie.Need-add-k Inv-loop μ-loop
 add-k c = omega arith
@@ -60,7 +68,8 @@ loop-again c =
     let l = c .before .before .before .before .before .before .loop in
     let h = c .before .before .before .wide32 in
     let b = c .before .before .source in
-    let on = after-one-more (firstOutside (a .previous .now) (a .sizes .now) (a .u)) (a .order .now) (a .y .now) (l .k) (h .result) (b .result) (h .ensures) (b .ensures .0) in
+    let on = after-one-more (firstOutside (a .previous .now) (a .sizes .now) (a .u)) (a .order .now) (a .y .now) (l .k)
+    (h .result) (b .result) (h .ensures) (b .ensures .0) in
     (c .shift .ensures ∙ rw (l .inv .0) on, omega arith)
 
 returns : tie.Need-returns Inv-loop μ-loop
@@ -68,7 +77,9 @@ returns c =
     let a = c .before .before .args in
     let l = c .before .loop in
     let all-i : l .k ≡ a .i = omega arith in
-    l .inv .0 ∙ rw all-i (after-taken (firstOutside (a .previous .now) (a .sizes .now) (a .u)) (a .order .now) (a .y .now) (a .i) (a .i) (omega arith))
+    l .inv .0
+    ∙ rw all-i (after-taken (firstOutside (a .previous .now) (a .sizes .now) (a .u)) (a .order .now) (a .y .now) (a .i)
+    (a .i) (omega arith))
 
 pub advance-spec : {M : Type 1} → statement M
 advance-spec =

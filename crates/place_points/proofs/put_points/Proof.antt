@@ -10,7 +10,8 @@ use Rattle.combinatorics.proofs.Fronts.{front-none}
 use Rattle.combinatorics.specs.Front.{front}
 use Rattle.rules.specs.Read.{pointAfter, ReadyPoint}
 use Rattle.rules.specs.Step.{firstOutside}
-use Rattle.rules.proofs.PointsAfter.{after-taken, few-ready, length-after, earlier-ready, inRow, same-rows, room, next-position, row-put}
+use Rattle.rules.proofs.PointsAfter.{after-taken, few-ready, length-after, earlier-ready, inRow, same-rows, room}
+use Rattle.rules.proofs.PointsAfter.{next-position, row-put}
 use Rattle.place_points.proofs.put_points.Statement.{statement}
 use Rattle.place_points.proofs.put_points.Tie as tie
 
@@ -20,7 +21,8 @@ row from first order m j = take m (pointAfter from order first j)
 
 abbrev Inv-loop : tie.InvT-loop
 Inv-loop buf₀ previous sizes first order s m from end position₀ i₀ buf position i =
-    (buf ≡ front (inRow (row (firstOutside previous sizes (s .u)) first order m) from (i - from)) buf₀) × (position ≡ (i - from) * m) × (from ≤ i) × (i ≤ end) × (length buf ≡ length buf₀)
+    (buf ≡ front (inRow (row (firstOutside previous sizes (s .u)) first order m) from (i - from)) buf₀)
+    × (position ≡ (i - from) * m) × (from ≤ i) × (i ≤ end) × (length buf ≡ length buf₀)
 
 abbrev μ-loop : tie.MeasureT-loop
 μ-loop buf₀ previous sizes first order s m from end position₀ i₀ buf position i = end - i
@@ -32,8 +34,13 @@ loop-holds : tie.Need-loop-holds Inv-loop μ-loop
 loop-holds c =
     let s = c .before .before in
     let a = s .args in
-    let none : a .from - a .from ≡ 0 = omega arith in
-    (rw none (sym (front-none (a .buf .now))), rw none (omega arith), omega arith, omega (arith, s .pre .0 .low, s .pre .1), refl)
+    let none : a .from - a .from ≡ 0 = omega arith in (
+      rw none (sym (front-none (a .buf .now))),
+      rw none (omega arith),
+      omega arith,
+      omega (arith, s .pre .0 .low, s .pre .1),
+      refl,
+    )
 
 advance-requires : tie.Need-advance-requires Inv-loop μ-loop
 advance-requires c κs =
@@ -42,7 +49,8 @@ advance-requires c κs =
     let l = c .before .before .before .loop in
     let from = firstOutside (a .previous .now) (a .sizes .now) (a .s .u) in
     let low : l .i ≤ a .s .count = omega (arith, c .before .before .loop-test .taken) in
-    let all : ReadyPoint from (take (a .s .count) (a .order .now)) (a .first .now) (a .s .count) = rw (s .pre .1) at (s .pre .0 .points) in
+    let all : ReadyPoint from (take (a .s .count) (a .order .now)) (a .first .now) (a .s .count) =
+    rw (s .pre .1) at (s .pre .0 .points) in
     let ready = earlier-ready from (take (a .s .count) (a .order .now)) (a .first .now) (l .i) (a .s .count) low all in
     (s .pre .0 .below, few-ready from (a .order .now) (a .first .now) (a .s .count) (l .i) low ready)
 
@@ -53,8 +61,12 @@ put-row-requires c κs =
     let l = c .before .before .before .before .before .before .loop in
     let from = firstOutside (a .previous .now) (a .sizes .now) (a .s .u) in
     let all : (suc (a .s .count) - a .from) * a .m ≤ length (a .buf .now) = rw (s .pre .1) at (s .pre .0 .fits) in
-    let fits = room (l .i - a .from) (suc (a .s .count) - a .from) (a .m) (length (a .buf .now)) (omega arith) all in
-    (omega arith, s .pre .0 .short, rw (c .before .before .advance .ensures) (length-after from (take (l .i) (a .order .now)) (a .first .now) (l .i) ∙ s .pre .0 .firstLength))
+    let fits = room (l .i - a .from) (suc (a .s .count) - a .from) (a .m) (length (a .buf .now)) (omega arith) all in (
+      omega arith,
+      s .pre .0 .short,
+      rw (c .before .before .advance .ensures)
+          (length-after from (take (l .i) (a .order .now)) (a .first .now) (l .i) ∙ s .pre .0 .firstLength),
+    )
 
 add-position : tie.Need-add-position Inv-loop μ-loop
 add-position c =
@@ -81,13 +93,20 @@ loop-again c =
     let long = length-after from (a .order .now) (a .first .now) in
     let all : (suc (a .s .count) - a .from) * a .m ≤ length (a .buf .now) = rw (s .pre .1) at (s .pre .0 .fits) in
     let fits = room (l .i - a .from) (suc (a .s .count) - a .from) (a .m) (length (a .buf .now)) (omega arith) all in
-    let short : (j : ℕ) → a .m ≤ length (points j) = λ j. rw (long j) (omega (arith, s .pre .0 .short, s .pre .0 .firstLength)) in
-    let point = c .before .before .before .before .before .advance .ensures ∙ sym (after-taken from (a .order .now) (a .first .now) (l .i) (l .i) (omega arith)) in
-    let put =
-    row-put (row from (a .first .now) (a .order .now) (a .m)) (a .m) (a .from) (λ j. length-take-le (a .m) (points j) (short j)) (l .i) (l .position)
-    (l .buf) (a .buf .now) (points (l .i)) (omega arith) (l .inv .0) (l .inv .1) fits (short (l .i)) refl
-    in
-    (c .before .before .put-row .ensures ∙ rw point put, next-position (l .i) (a .from) (a .m) (l .position) (omega arith) (l .inv .1), omega arith, omega arith, c .before .before .put-row .kept .0 ∙ l .inv .4)
+    let short : (j : ℕ) → a .m ≤ length (points j) = λ j.
+    rw (long j) (omega (arith, s .pre .0 .short, s .pre .0 .firstLength)) in
+    let point = c .before .before .before .before .before .advance .ensures
+    ∙ sym (after-taken from (a .order .now) (a .first .now) (l .i) (l .i) (omega arith)) in
+    let put = row-put (row from (a .first .now) (a .order .now) (a .m)) (a .m) (a .from)
+    (λ j. length-take-le (a .m) (points j) (short j))
+    (l .i) (l .position) (l .buf) (a .buf .now) (points (l .i)) (omega arith) (l .inv .0) (l .inv .1) fits
+    (short (l .i)) refl in (
+      c .before .before .put-row .ensures ∙ rw point put,
+      next-position (l .i) (a .from) (a .m) (l .position) (omega arith) (l .inv .1),
+      omega arith,
+      omega arith,
+      c .before .before .put-row .kept .0 ∙ l .inv .4,
+    )
 
 sub-result : tie.Need-sub-result Inv-loop μ-loop
 sub-result c = omega arith
@@ -104,9 +123,14 @@ returns c =
     let steps = take (a .s .count) (a .order .now) in
     let n : length steps ≡ a .s .count = s .pre .1 in
     let k : l .i - a .from ≡ suc (length steps) - a .from = omega arith in
-    let rows = same-rows (row from (a .first .now) (a .order .now) (a .m)) (row from (a .first .now) steps (a .m)) (a .from) (l .i - a .from)
-    (λ j m. ap (take (a .m)) (after-taken from (a .order .now) (a .first .now) (a .s .count) j (omega arith))) in
-    (omega arith, l .inv .0 ∙ ap (λ (x : List ℕ). front x (a .buf .now)) rows ∙ ap (λ (k : ℕ). front (inRow (row from (a .first .now) steps (a .m)) (a .from) k) (a .buf .now)) k)
+    let rows = same-rows (row from (a .first .now) (a .order .now) (a .m)) (row from (a .first .now) steps (a .m))
+    (a .from) (l .i - a .from)
+    (λ j m. ap (take (a .m)) (after-taken from (a .order .now) (a .first .now) (a .s .count) j (omega arith))) in (
+      omega arith,
+      l .inv .0
+          ∙ ap (λ (x : List ℕ). front x (a .buf .now)) rows
+          ∙ ap (λ (k : ℕ). front (inRow (row from (a .first .now) steps (a .m)) (a .from) k) (a .buf .now)) k,
+    )
 
 pub put-points-spec : {M : Type 1} → statement M
 put-points-spec =

@@ -10,13 +10,16 @@ use Rattle.place_points.proofs.put_row.Statement.{statement}
 use Rattle.place_points.proofs.put_row.Tie as tie
 
 abbrev Inv-loop : tie.InvT-loop
-Inv-loop buf₀ position y m h₀ buf h = (buf ≡ paste buf₀ position y h) × (h ≤ m) × (length buf ≡ length buf₀) × (m ≤ 16) × (position + m ≤ length buf₀)
+Inv-loop buf₀ position y m h₀ buf h =
+    (buf ≡ paste buf₀ position y h) × (h ≤ m) × (length buf ≡ length buf₀) × (m ≤ 16) × (position + m ≤ length buf₀)
 
 abbrev μ-loop : tie.MeasureT-loop
 μ-loop buf₀ position y m h₀ buf h = m - h
 
 loop-holds : tie.Need-loop-holds Inv-loop μ-loop
-loop-holds c = let a = c .args in (paste-zero (a .buf .now) (a .position) (a .y .now), omega arith, refl, omega arith, omega arith)
+loop-holds c =
+    let a = c .args in
+    (paste-zero (a .buf .now) (a .position) (a .y .now), omega arith, refl, omega arith, omega arith)
 
 mul-x : tie.Need-mul-x Inv-loop μ-loop
 mul-x c = omega arith
@@ -42,8 +45,14 @@ loop-less c = omega arith
 loop-again : tie.Need-loop-again Inv-loop μ-loop
 loop-again c =
     let a = c .before .before .before .args in
-    let l = c .before .before .loop in
-    (rw (l .inv .0, add-one (l .h)) (paste-suc (a .buf .now) (a .position) (a .y .now) (l .h) 0 (omega arith) (omega arith)), omega arith, simp length-set (l .inv .2), omega arith, omega arith)
+    let l = c .before .before .loop in (
+      rw (l .inv .0, add-one (l .h))
+          (paste-suc (a .buf .now) (a .position) (a .y .now) (l .h) 0 (omega arith) (omega arith)),
+      omega arith,
+      simp length-set (l .inv .2),
+      omega arith,
+      omega arith,
+    )
 
 same-length : tie.Need-same-length Inv-loop μ-loop
 same-length c = omega arith

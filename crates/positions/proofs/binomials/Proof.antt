@@ -25,7 +25,12 @@ abbrev μ-loop : tie.MeasureT-loop
 μ-loop t₀ sizes divisions blocks j₀ t j = blocks - j
 
 loop-holds : tie.Need-loop-holds Inv-loop μ-loop
-loop-holds c = (omega arith, c .before .before .pre .1, (λ i h. absurd (omega arith)), blocks-range _ (c .before .before .pre .0) .1)
+loop-holds c = (
+  omega arith,
+  c .before .before .pre .1,
+  (λ i h. absurd (omega arith)),
+  blocks-range _ (c .before .before .pre .0) .1,
+)
 
 array-read-wide : tie.Need-array-read-wide Inv-loop μ-loop
 array-read-wide c = search needs
@@ -48,7 +53,12 @@ fill-block-requires c κs =
     let s = c .before .before .before .before .before .before .before .args .g in
     let m = c .before .before .before .before .before .before .before .pre .0 in
     let r = size-range s m (l .j) (omega arith) in
-    rw (c .before .wide .ensures, c .wide16 .ensures .0, made-size s m (l .j) (omega arith), made-division s m (l .j) (omega arith)) (r .0, r .1, count-range s m (l .j) (omega arith), l .inv .1)
+    rw (
+      c .before .wide .ensures,
+      c .wide16 .ensures .0,
+      made-size s m (l .j) (omega arith),
+      made-division s m (l .j) (omega arith),
+    ) (r .0, r .1, count-range s m (l .j) (omega arith), l .inv .1)
 
 add-j : tie.Need-add-j Inv-loop μ-loop
 add-j c = search needs
@@ -65,8 +75,18 @@ loop-again c =
       omega arith,
       e .0,
       (λ i h. ⊎-elim
-          (λ b. rows-kept (size (shape s) i) (division (shape s) i) (l .t) (c .fill-block .last .0) (size-range s m i (omega arith) .1) (count-range s m i (omega arith)) (l .inv .2 i b) (e .1))
-          (λ b. let q : i ≡ l .j = omega arith in rw (q, ← made-size s m (l .j) (omega arith), ← made-division s m (l .j) (omega arith), ← (c .before .before .wide .ensures), ← (c .before .wide16 .ensures .0)) (e .2)) (before-or-not i (l .j))),
+          (λ b. rows-kept (size (shape s) i) (division (shape s) i) (l .t) (c .fill-block .last .0)
+          (size-range s m i (omega arith) .1) (count-range s m i (omega arith)) (l .inv .2 i b) (e .1))
+          (λ b.
+          let q : i ≡ l .j = omega arith in
+          rw (
+            q,
+            ← made-size s m (l .j) (omega arith),
+            ← made-division s m (l .j) (omega arith),
+            ← (c .before .before .wide .ensures),
+            ← (c .before .wide16 .ensures .0),
+          ) (e .2))
+          (before-or-not i (l .j))),
       l .inv .3,
     )
 

@@ -1,4 +1,5 @@
--- `printer::divisions_of` meets its contract. The invariant: the divisions of the indices so far stand at the front. Assumes nothing.
+-- `printer::divisions_of` meets its contract. The invariant: the divisions of the indices so far stand at the front.
+-- Assumes nothing.
 use mathlib.Core.List.{map}
 use mathlib.Core.Path.{_≡_, sym, _∙_}
 use Prim.Native.Nat.{_≤_, _<_, _-_}
@@ -16,7 +17,8 @@ use Rattle.printer.proofs.divisions_of.Tie as tie
 
 abbrev Inv-loop : tie.InvT-loop
 Inv-loop grid indices block-divisions divisions₀ h₀ divisions h =
-    (divisions ≡ padded 16 (map (λ h. division (shape grid) (blockOf (shape grid) h)) (upFrom 0 h))) × (h ≤ indices) × (indices ≤ 16)
+    (divisions ≡ padded 16 (map (λ h. division (shape grid) (blockOf (shape grid) h)) (upFrom 0 h))) × (h ≤ indices)
+    × (indices ≤ 16)
 
 abbrev μ-loop : tie.MeasureT-loop
 μ-loop grid indices block-divisions divisions₀ h₀ divisions h = indices - h
@@ -28,12 +30,14 @@ block-of-requires : tie.Need-block-of-requires Inv-loop μ-loop
 block-of-requires c κs = (c .before .before .before .pre, omega arith)
 
 -- the block of the index is one of the grid's
-inside : (c : tie.After-block-of Inv-loop μ-loop) → (c .block-of .result < c .before .before .before .before .args .grid .blocks) × (c .block-of .result < 6)
+inside : (c : tie.After-block-of Inv-loop μ-loop)
+    → (c .block-of .result < c .before .before .before .before .args .grid .blocks) × (c .block-of .result < 6)
 inside c =
     let s = c .before .before .before .before in
     let g = s .args .grid in
     let b = block-spans (shape g .sizes) (c .before .before .loop .h) (omega (arith, made-indices g (s .pre))) .0 in
-    rw (c .block-of .ensures) (omega (arith, b, made-blocks g (s .pre)), omega (arith, b, made-blocks g (s .pre), blocks-range g (s .pre) .1))
+    rw (c .block-of .ensures)
+    (omega (arith, b, made-blocks g (s .pre)), omega (arith, b, made-blocks g (s .pre), blocks-range g (s .pre) .1))
 
 mul-divisions : tie.Need-mul-divisions Inv-loop μ-loop
 mul-divisions c = omega (arith, inside c .1)
@@ -58,8 +62,12 @@ loop-again c =
     let l = c .before .before .loop in
     let s = c .before .before .before .before in
     let g = shape (s .args .grid) in
-    let d = made-division (s .args .grid) (s .pre) (c .block-of .result) (inside c .0) in
-    (rw (l .inv .0, d, c .block-of .ensures) (front-counted (λ h. division g (blockOf g h)) (replicate 16 0) (l .h) (omega arith)), omega arith, l .inv .2)
+    let d = made-division (s .args .grid) (s .pre) (c .block-of .result) (inside c .0) in (
+      rw (l .inv .0, d, c .block-of .ensures)
+          (front-counted (λ h. division g (blockOf g h)) (replicate 16 0) (l .h) (omega arith)),
+      omega arith,
+      l .inv .2,
+    )
 
 returns : tie.Need-returns Inv-loop μ-loop
 returns c =

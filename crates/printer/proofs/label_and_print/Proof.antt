@@ -20,7 +20,11 @@ same-length c = search needs
 returns : tie.Need-returns
 returns c =
     let r = c .before .before .before .before .before .before .before .before .before .args .reading in
-    same-sheet (c .before .before .before .before .before .before .before .before .before .args .sheet .now) (ap (λ (ls : List ℕ). runSheet (problemWith r ls) (r .budget)) (c .before .before .before .before .before .label-on .ensures)) (c .print-run .ensures)
+    same-sheet (c .before .before .before .before .before .before .before .before .before .args .sheet .now)
+    (ap
+    (λ (ls : List ℕ). runSheet (problemWith r ls) (r .budget))
+    (c .before .before .before .before .before .label-on .ensures))
+    (c .print-run .ensures)
 
 pub label-and-print-spec : {M : Type 1} → statement M
 label-and-print-spec =

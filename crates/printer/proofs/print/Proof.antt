@@ -21,7 +21,8 @@ returns : tie.Need-returns
 returns c =
     let slip = c .before .before .before .before .before .before .args .slip .now in
     let is = c .before .before .before .before .read .ensures in
-    rw (refusal-printed slip (λ z. c .before .before .if1 .taken (ap (λ r. r .code) is ∙ z)), ← is) (c .refused .ensures)
+    rw (refusal-printed slip (λ z. c .before .before .if1 .taken (ap (λ r. r .code) is ∙ z)), ← is)
+    (c .refused .ensures)
 
 enum-told : tie.Need-enum-told
 enum-told c = search needs
@@ -32,13 +33,16 @@ labels-of-requires c κs = search needs
 print-run-requires : tie.Need-print-run-requires
 print-run-requires c κs =
     let is = c .before .before .before .before .before .before .read .ensures in
-    rw is (has-grid (c .before .before .before .before .before .before .before .before .args .slip .now) (zero (c .before .before .before .before)))
+    rw is (has-grid (c .before .before .before .before .before .before .before .before .args .slip .now)
+    (zero (c .before .before .before .before)))
 
 returns-2 : tie.Need-returns-2
 returns-2 c =
     let slip = c .before .before .before .before .before .before .before .before .before .args .slip .now in
     let is = c .before .before .before .before .before .before .before .read .ensures in
-    let named = ap (λ r. r .table) (sym (reading-accepted slip (zero (c .before .before .before .before .before)))) ∙ ap (λ r. r .table) (sym is) ∙ c .before .before .before .enum-told .given .1 in
+    let named = ap (λ r. r .table) (sym (reading-accepted slip (zero (c .before .before .before .before .before))))
+    ∙ ap (λ r. r .table) (sym is)
+    ∙ c .before .before .before .enum-told .given .1 in
     let two = are-labels slip (c .before .before .before .enum-told .given .0 .0) named in
     let p = rw (c .before .before .labels-of .ensures) at (c .print-run .ensures) in
     rw (← table-printed slip (zero (c .before .before .before .before .before)) two, ← is) (p .counted, p .stands)
@@ -49,7 +53,12 @@ print-game-requires c κs =
     let slip = s .args .slip .now in
     let is = c .before .before .before .before .read .ensures in
     let named = ap (λ r. r .table) is ∙ ap (λ r. r .table) (reading-accepted slip (zero (c .before .before))) in
-    record { isReading = is; read = c .before .before .if1 .left; noLabels = no-labels slip (c .before .before .before .before .read .result .table) (c .before .match .keys2) named }
+    record {
+      isReading = is;
+      read = c .before .before .if1 .left;
+      noLabels =
+          no-labels slip (c .before .before .before .before .read .result .table) (c .before .match .keys2) named;
+    }
 
 returns-3 : tie.Need-returns-3
 returns-3 c = (c .print-game .ensures .counted, c .print-game .ensures .stands)

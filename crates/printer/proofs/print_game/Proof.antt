@@ -1,4 +1,5 @@
--- `printer::print_game` meets its contract: question 11 refuses, or the run is on the labels of the slip's losses. Assumes nothing.
+-- `printer::print_game` meets its contract: question 11 refuses, or the run is on the labels of the slip's losses.
+-- Assumes nothing.
 use native.Mathlib.Omega.{arith}
 use mathlib.Core.Bool.{true}
 use mathlib.Core.List.{List}
@@ -21,23 +22,33 @@ zero : (s : tie.Start) → readingOf (s .args .slip .now) .code ≡ 0
 zero s = sym (ap (λ x. x .code) (s .pre .isReading)) ∙ s .pre .read
 
 -- the losses stand at the front of the array
-counted : (c : tie.After-known-told) → let slip = c .before .before .before .before .before .before .before .args .slip .now in
+counted : (c : tie.After-known-told)
+    → let slip = c .before .before .before .before .before .before .before .args .slip .now in
     let array = c .before .before .before .before .losses-of .last .1 .1 .0 in
     let count = c .before .count .given .0 .0 in
     (question11 slip .answeredYes ≡ true) × (take count array ≡ slipLosses slip) × (count ≤ length array)
 counted c =
     let s = c .before .before .before .before .before .before .before in
     let slip = s .args .slip .now in
-    let k = losses-count slip (c .before .count .given .0 .0) (sym (c .before .before .before .before .losses-of .ensures .0) ∙ c .before .count .given .1) in
+    let k = losses-count slip (c .before .count .given .0 .0)
+    (sym (c .before .before .before .before .losses-of .ensures .0) ∙ c .before .count .given .1) in
     let few = losses-few slip (zero s) (s .pre .noLabels) (k .0) in
-    rw (k .1, c .before .before .before .before .losses-of .ensures .1)
-    (k .0, front-taken (slipLosses slip) (replicate 1944 0), omega (arith, few, front-length (slipLosses slip) (replicate 1944 0) few))
+    rw (k .1, c .before .before .before .before .losses-of .ensures .1) (
+      k .0,
+      front-taken (slipLosses slip) (replicate 1944 0),
+      omega (arith, few, front-length (slipLosses slip) (replicate 1944 0) few),
+    )
 
 slice-aggregate-losses-of : tie.Need-slice-aggregate-losses-of
 slice-aggregate-losses-of c = search needs
 
 losses-of-requires : tie.Need-losses-of-requires
-losses-of-requires c κs = record { isReading = c .before .before .pre .isReading; read = c .before .before .pre .read; noLabels = c .before .before .pre .noLabels; whole = refl }
+losses-of-requires c κs = record {
+  isReading = c .before .before .pre .isReading;
+  read = c .before .before .pre .read;
+  noLabels = c .before .before .pre .noLabels;
+  whole = refl;
+}
 
 enum-known-count : tie.Need-enum-known-count
 enum-known-count c = search needs
@@ -52,7 +63,8 @@ returns : tie.Need-returns
 returns c =
     let s = c .before .before .before .before .before .before .before .before in
     let slip = s .args .slip .now in
-    let out = losses-refused slip (sym (c .before .before .before .before .before .losses-of .ensures .0) ∙ c .before .before .enum-told .given .1) in
+    let out = losses-refused slip
+    (sym (c .before .before .before .before .before .losses-of .ensures .0) ∙ c .before .before .enum-told .given .1) in
     same-sheet (s .args .sheet .now) (sym (out-of-range-printed slip (zero s) out)) (as-prints (c .refused .ensures))
 
 array-share-prefix-losses : tie.Need-array-share-prefix-losses
@@ -75,7 +87,8 @@ returns-2 c =
     let r = s .args .reading in
     let k = counted (c .before .before .before) in
     let brought = ap (λ (ls : List ℕ). runSheet (lossProblem r ls) (r .budget)) (k .1) in
-    let whole = ap (λ x. runSheet (lossProblem x (slipLosses slip)) (x .budget)) (s .pre .isReading) ∙ losses-printed slip (zero s) (s .pre .noLabels) (k .0) in
+    let whole = ap (λ x. runSheet (lossProblem x (slipLosses slip)) (x .budget)) (s .pre .isReading)
+    ∙ losses-printed slip (zero s) (s .pre .noLabels) (k .0) in
     same-sheet (s .args .sheet .now) (brought ∙ whole) (c .print-labelled .ensures)
 
 pub print-game-spec : {M : Type 1} → statement M

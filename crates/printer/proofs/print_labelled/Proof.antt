@@ -10,13 +10,19 @@ use Rattle.printer.proofs.print_labelled.Statement.{statement}
 use Rattle.printer.proofs.print_labelled.Tie as tie
 
 array-borrow-prefix-labels : tie.Need-array-borrow-prefix-labels
-array-borrow-prefix-labels c = zeros-room 60000 (c .before .args .reading .grid .points) (points-few (c .before .args .reading .grid) (c .before .pre .0 .made))
+array-borrow-prefix-labels c = zeros-room 60000 (c .before .args .reading .grid .points)
+    (points-few (c .before .args .reading .grid) (c .before .pre .0 .made))
 
 slice-aggregate-label-and-print : tie.Need-slice-aggregate-label-and-print
-slice-aggregate-label-and-print c = sym (length-take-le {A = ℕ} (c .before .before .args .reading .grid .points) (replicate 60000 0) (array-borrow-prefix-labels (c .before)))
+slice-aggregate-label-and-print c = sym (length-take-le {A = ℕ} (c .before .before .args .reading .grid .points)
+    (replicate 60000 0) (array-borrow-prefix-labels (c .before)))
 
 label-and-print-requires : tie.Need-label-and-print-requires
-label-and-print-requires c κs = (c .before .before .before .pre .0, c .before .before .before .pre .1, sym (slice-aggregate-label-and-print (c .before)))
+label-and-print-requires c κs = (
+  c .before .before .before .pre .0,
+  c .before .before .before .pre .1,
+  sym (slice-aggregate-label-and-print (c .before)),
+)
 
 returns : tie.Need-returns
 returns c = search needs

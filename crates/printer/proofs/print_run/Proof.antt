@@ -30,14 +30,18 @@ slice-aggregate-print-answer : tie.Need-slice-aggregate-print-answer
 slice-aggregate-print-answer c = search needs
 
 -- what is printed is the sheet of the run
-printed-run : (c : tie.After-run-on) → let s = c .before .before .before .before .before .before in
+printed-run : (c : tie.After-run-on)
+    → let s = c .before .before .before .before .before .before in
     let answer = c .run-on .result in
     let buffer = c .run-on .last .1 .1 .1 .0 in
-    (printed (shape (s .args .reading .grid)) answer buffer ≡ runSheet (problemWith (s .args .reading) (s .args .labels .now)) (s .args .reading .budget))
+    (printed (shape (s .args .reading .grid)) answer buffer
+    ≡ runSheet (problemWith (s .args .reading) (s .args .labels .now)) (s .args .reading .budget))
     × Fits (shape (s .args .reading .grid)) answer buffer
 printed-run c =
     let s = c .before .before .before .before .before .before in
-    rw (c .run-on .ensures .0, c .run-on .ensures .1) (run-prints (problemWith (s .args .reading) (s .args .labels .now)) (s .args .reading .budget) (replicate 256 0) refl)
+    rw (c .run-on .ensures .0, c .run-on .ensures .1)
+    (run-prints (problemWith (s .args .reading) (s .args .labels .now)) (s .args .reading .budget) (replicate 256 0)
+    refl)
 
 print-answer-requires : tie.Need-print-answer-requires
 print-answer-requires c κs =

@@ -1,4 +1,5 @@
--- `centre` meets its contract: its products fit, its divisor is not 0, and the quotient or one more is nearest, as no other number is. Assumes nothing.
+-- `centre` meets its contract: its products fit, its divisor is not 0, and the quotient or one more is nearest, as no
+-- other number is. Assumes nothing.
 use mathlib.Core.Path.{_≡_, sym}
 use Prim.Native.Nat.{ℕ, _+_, _-_, _*_, _/_, _≤_, _<_}
 use native.Mathlib.Nat.{add-le-add, div-add-mod', div-le-self, div-mul-le-self, le-refl, mod-lt, mul-le-mul, mul-pos}
@@ -48,7 +49,8 @@ returns c =
     let positive : 0 < b = mul-pos {m = a .count} {n = a .division} (omega arith) (omega arith) in
     let whole = div-add-mod' parts b in
     let below = mod-lt parts positive in
-    nearest-only parts b positive _ (nearest-above parts b (parts / b) (parts - parts / b * b) (omega arith) (omega arith) (omega arith))
+    nearest-only parts b positive _
+    (nearest-above parts b (parts / b) (parts - parts / b * b) (omega arith) (omega arith) (omega arith))
 
 returns-2 : tie.Need-returns-2
 unfolding centreOf
@@ -58,7 +60,8 @@ returns-2 c =
     let parts = 10000 * a .total in
     let positive : 0 < b = mul-pos {m = a .count} {n = a .division} (omega arith) (omega arith) in
     let whole = div-add-mod' parts b in
-    nearest-only parts b positive _ (nearest-below parts b (parts / b) (parts - parts / b * b) (omega arith) (omega arith))
+    nearest-only parts b positive _
+    (nearest-below parts b (parts / b) (parts - parts / b * b) (omega arith) (omega arith))
 
 pub centre-spec : {M : Type 1} → statement M
 centre-spec =

@@ -23,10 +23,12 @@ text-requires-2 : tie.Need-text-requires-2
 text-requires-2 c κs = search needs
 
 returns : tie.Need-returns
-returns c = rw (c .before .before .before .enum-told .given .1) (c .text .ensures, omega (arith, c .text .ensures .behind))
+returns c =
+    rw (c .before .before .before .enum-told .given .1) (c .text .ensures, omega (arith, c .text .ensures .behind))
 
 returns-2 : tie.Need-returns-2
-returns-2 c = rw (c .before .before .before .enum-told2 .given .1) (c .text2 .ensures, omega (arith, c .text2 .ensures .behind))
+returns-2 c =
+    rw (c .before .before .before .enum-told2 .given .1) (c .text2 .ensures, omega (arith, c .text2 .ensures .behind))
 
 pub end-line-spec : {M : Type 1} → statement M
 end-line-spec =

@@ -66,7 +66,8 @@ returns c =
     let bounds = part-join read (at-bound .labelled3 .ensures .0) in
     let head = part-join bounds (at-end .end-line .ensures .0) in
     let counts = part-join (part-join head (at-block .labelled4 .ensures .0)) (at-vertices .labelled5 .ensures .0) in
-    let written = part-join (part-join counts (at-vertex-lines .vertex-lines .ensures .0)) (c .centre-line .ensures .0) in
+    let written =
+    part-join (part-join counts (at-vertex-lines .vertex-lines .ensures .0)) (c .centre-line .ensures .0) in
     rw (length-rows (a .count) (length (a .divisions .now)) (a .vertices .now))
     (part-front written (omega (arith, at-places .labelled .ensures .2)))
 

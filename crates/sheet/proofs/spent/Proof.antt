@@ -20,7 +20,8 @@ labelled-requires-2 c κs = search needs
 
 returns : tie.Need-returns
 unfolding refusedSheet spentSheet
-returns c = part-front (part-join (c .before .before .before .labelled .ensures .0) (c .labelled2 .ensures .0)) (omega arith)
+returns c =
+    part-front (part-join (c .before .before .before .labelled .ensures .0) (c .labelled2 .ensures .0)) (omega arith)
 
 pub spent-spec : {M : Type 1} → statement M
 spent-spec =

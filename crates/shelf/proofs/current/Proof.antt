@@ -17,7 +17,8 @@ is-shelf-requires : tie.Need-is-shelf-requires
 is-shelf-requires c κs = search needs
 
 -- behind question 21
-passes : (c : tie.Else1) → isShelf (c .before .before .before .args .list .now) (c .before .before .before .args .count) ≡ true
+passes : (c : tie.Else1)
+    → isShelf (c .before .before .before .args .list .now) (c .before .before .before .args .count) ≡ true
 passes c = sym (c .before .is-shelf .ensures) ∙ not-false _ (c .if1 .left)
 
 shelf : (c : tie.Else1) → Shelf (c .before .before .before .args .list .now) (c .before .before .before .args .count)
@@ -27,7 +28,8 @@ returns : tie.Need-returns
 unfolding asking firstNo
 returns c =
     let a = c .before .before .before .args in
-    let e : isShelf (a .list .now) (a .count) ≡ false = sym (c .before .is-shelf .ensures) ∙ not-true _ (c .if1 .taken) in
+    let e : isShelf (a .list .now) (a .count) ≡ false =
+    sym (c .before .is-shelf .ensures) ∙ not-true _ (c .if1 .taken) in
     rw e
 
 returns-2 : tie.Need-returns-2
@@ -48,7 +50,8 @@ returns-4 : tie.Need-returns-4
 returns-4 c =
     let o = c .before .before .before in
     let a = o .before .before .before .args in
-    let asked = asked-on (a .list .now) (a .count) (a .sheet) (shelf o) (omega (arith, c .before .before .if2 .left)) (omega arith) in
+    let asked = asked-on (a .list .now) (a .count) (a .sheet) (shelf o) (omega (arith, c .before .before .if2 .left))
+    (omega arith) in
     ap Sheet (c .last-reached .ensures) ∙ sym asked
 
 pub current-spec : {M : Type 1} → statement M

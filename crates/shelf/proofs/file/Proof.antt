@@ -15,7 +15,8 @@ same-length c = search needs
 returns : tie.Need-returns
 returns c =
     let a = c .before .before .before .before .args in
-    refuses (a .list .now) (a .count) (a .named) (c .before .first-no .result) (omega (arith, c .if1 .taken)) (sym (c .before .first-no .ensures))
+    refuses (a .list .now) (a .count) (a .named) (c .before .first-no .result) (omega (arith, c .if1 .taken))
+    (sym (c .before .first-no .ensures))
 
 -- behind the questions
 may : (c : tie.Else1) → let a = c .before .before .before .before .args in MayFile (a .list .now) (a .count) (a .named)

@@ -16,13 +16,15 @@ is-shelf-requires : tie.Need-is-shelf-requires
 is-shelf-requires c κs = search needs
 
 -- behind question 21
-passes : (c : tie.Else1) → isShelf (c .before .before .before .args .list .now) (c .before .before .before .args .count) ≡ true
+passes : (c : tie.Else1)
+    → isShelf (c .before .before .before .args .list .now) (c .before .before .before .args .count) ≡ true
 passes c = sym (c .before .is-shelf .ensures) ∙ not-false _ (c .if1 .left)
 
 returns : tie.Need-returns
 returns c =
     let a = c .before .before .before .args in
-    sym (refusal-21 (a .list .now) (a .count) (a .named) (sym (c .before .is-shelf .ensures) ∙ not-true _ (c .if1 .taken)))
+    sym
+    (refusal-21 (a .list .now) (a .count) (a .named) (sym (c .before .is-shelf .ensures) ∙ not-true _ (c .if1 .taken)))
 
 returns-2 : tie.Need-returns-2
 returns-2 c =
@@ -38,32 +40,39 @@ returns-4 : tie.Need-returns-4
 returns-4 c =
     let p = c .before in
     let a = p .before .before .before .before .before .args in
-    sym (refusal-23 (a .list .now) (a .count) (a .named) (passes (p .before .before)) (p .before .if2 .left) (p .if3 .left) (λ l u. omega arith))
+    sym (refusal-23 (a .list .now) (a .count) (a .named) (passes (p .before .before)) (p .before .if2 .left)
+    (p .if3 .left) (λ l u. omega arith))
 
 returns-5 : tie.Need-returns-5
 returns-5 c =
     let p = c .before .before in
     let a = p .before .before .before .before .before .args in
-    let none : isReplaced (a .list .now) (a .count) (a .named) ≡ false = rw (c .if5 .taken) (none-replaces-0 (a .list .now) (a .count)) in
-    sym (no-refusal (a .list .now) (a .count) (a .named) (passes (p .before .before)) (p .before .if2 .left) (p .if3 .left) (omega arith) none)
+    let none : isReplaced (a .list .now) (a .count) (a .named) ≡ false =
+    rw (c .if5 .taken) (none-replaces-0 (a .list .now) (a .count)) in
+    sym (no-refusal (a .list .now) (a .count) (a .named) (passes (p .before .before)) (p .before .if2 .left)
+    (p .if3 .left) (omega arith) none)
 
 is-replaced-requires : tie.Need-is-replaced-requires
-is-replaced-requires c κs =
-    record { passes = passes (c .before .before .before .before); numbered = omega (arith, c .if5 .left); filed = omega arith }
+is-replaced-requires c κs = record {
+  passes = passes (c .before .before .before .before);
+  numbered = omega (arith, c .if5 .left);
+  filed = omega arith;
+}
 
 returns-6 : tie.Need-returns-6
 returns-6 c =
     let p = c .before .before .before .before in
     let a = p .before .before .before .before .before .args in
-    sym (refusal-23 (a .list .now) (a .count) (a .named) (passes (p .before .before)) (p .before .if2 .left) (p .if3 .left)
+    sym
+    (refusal-23 (a .list .now) (a .count) (a .named) (passes (p .before .before)) (p .before .if2 .left) (p .if3 .left)
     (λ l u. absurd-bool (sym (sym (c .before .is-replaced .ensures) ∙ c .if6 .taken) ∙ u)))
 
 returns-7 : tie.Need-returns-7
 returns-7 c =
     let p = c .before .before .before .before in
     let a = p .before .before .before .before .before .args in
-    sym (no-refusal (a .list .now) (a .count) (a .named) (passes (p .before .before)) (p .before .if2 .left) (p .if3 .left)
-    (omega arith) (sym (c .before .is-replaced .ensures) ∙ c .if6 .left))
+    sym (no-refusal (a .list .now) (a .count) (a .named) (passes (p .before .before)) (p .before .if2 .left)
+    (p .if3 .left) (omega arith) (sym (c .before .is-replaced .ensures) ∙ c .if6 .left))
 
 pub first-no-spec : {M : Type 1} → statement M
 first-no-spec =

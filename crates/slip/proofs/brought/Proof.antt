@@ -31,11 +31,16 @@ module _ (s : tie.Start) where
   count-fits = omega (arith, s .pre .0 .whole, half, facts .few)
 
 -- stand at the front of the room
-put : (c : tie.After-words) → c .words .last .1 .1 .0 ++ drop (count (c .before .before .before .before)) (c .before .before .before .before .args .room .now) ≡ front (slipLosses (c .before .before .before .before .args .slip .now)) (c .before .before .before .before .args .room .now)
+put : (c : tie.After-words)
+    → c .words .last .1 .1 .0
+    ++ drop (count (c .before .before .before .before)) (c .before .before .before .before .args .room .now)
+    ≡ front (slipLosses (c .before .before .before .before .args .slip .now))
+    (c .before .before .before .before .args .room .now)
 put c =
     let s = c .before .before .before .before in
     let slip = s .args .slip .now in
-    let read = c .words .ensures ∙ ap (λ (n : ℕ). words n slip (s .args .begin)) (length-take-le (count s) (s .args .room .now) (count-fits s)) in
+    let read = c .words .ensures
+    ∙ ap (λ (n : ℕ). words n slip (s .args .begin)) (length-take-le (count s) (s .args .room .now) (count-fits s)) in
     words-put slip (s .args .begin) (facts s) (count s) _ (s .args .room .now) (half s) read
 
 sub-count : tie.Need-sub-count
@@ -45,7 +50,9 @@ slice-relend-prefix-words : tie.Need-slice-relend-prefix-words
 slice-relend-prefix-words c = count-fits (c .before .before)
 
 slice-aggregate-words : tie.Need-slice-aggregate-words
-slice-aggregate-words c = let s = c .before .before .before in sym (length-take-le (count s) (s .args .room .now) (count-fits s))
+slice-aggregate-words c =
+    let s = c .before .before .before in
+    sym (length-take-le (count s) (s .args .room .now) (count-fits s))
 
 words-requires : tie.Need-words-requires
 words-requires c κs =
@@ -55,13 +62,15 @@ words-requires c κs =
 slice-reshare-prefix-in-range : tie.Need-slice-reshare-prefix-in-range
 slice-reshare-prefix-in-range c =
     let s = c .before .before .before .before .before .before in
-    let left = room-left (s .args .slip .now) (s .args .begin) (facts s) _ (s .args .room .now) (s .pre .0 .whole) (put (c .before .before)) in
+    let left = room-left (s .args .slip .now) (s .args .begin) (facts s) _ (s .args .room .now) (s .pre .0 .whole)
+    (put (c .before .before)) in
     omega (arith, left, half s, facts s .few)
 
 slice-aggregate-in-range : tie.Need-slice-aggregate-in-range
 slice-aggregate-in-range c =
     let s = c .before .before .before .before .before .before .before in
-    let left = room-left (s .args .slip .now) (s .args .begin) (facts s) _ (s .args .room .now) (s .pre .0 .whole) (put (c .before .before .before)) in
+    let left = room-left (s .args .slip .now) (s .args .begin) (facts s) _ (s .args .room .now) (s .pre .0 .whole)
+    (put (c .before .before .before)) in
     sym (length-take-le (count s) _ (omega (arith, left, half s, facts s .few)))
 
 in-range-requires : tie.Need-in-range-requires
@@ -74,7 +83,8 @@ returns : tie.Need-returns
 returns c =
     let s = c .before .before .before .before .before .before .before .before .before in
     let slip = s .args .slip .now in
-    let read = read-back slip (s .args .begin) (facts s) (count s) _ (s .args .room .now) (half s) (put (c .before .before .before .before .before)) in
+    let read = read-back slip (s .args .begin) (facts s) (count s) _ (s .args .room .now) (half s)
+    (put (c .before .before .before .before .before)) in
     let out = ap (all inRange) (sym read) ∙ sym (c .before .in-range .ensures) ∙ not-true _ (c .if1 .taken) in
     (out-of-range slip (s .args .begin) (facts s) out, put (c .before .before .before .before .before))
 
@@ -85,9 +95,12 @@ returns-2 : tie.Need-returns-2
 returns-2 c =
     let s = c .before .before .before .before .before .before .before .before .before in
     let slip = s .args .slip .now in
-    let read = read-back slip (s .args .begin) (facts s) (count s) _ (s .args .room .now) (half s) (put (c .before .before .before .before .before)) in
-    let inside = ap (all inRange) (sym read) ∙ sym (c .before .in-range .ensures) ∙ not-false _ (c .if1 .left) in
-    (in-range slip (s .args .begin) (facts s) (count s) inside (half s), put (c .before .before .before .before .before))
+    let read = read-back slip (s .args .begin) (facts s) (count s) _ (s .args .room .now) (half s)
+    (put (c .before .before .before .before .before)) in
+    let inside = ap (all inRange) (sym read) ∙ sym (c .before .in-range .ensures) ∙ not-false _ (c .if1 .left) in (
+      in-range slip (s .args .begin) (facts s) (count s) inside (half s),
+      put (c .before .before .before .before .before),
+    )
 
 pub brought-spec : {M : Type 1} → statement M
 brought-spec =

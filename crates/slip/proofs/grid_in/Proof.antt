@@ -1,4 +1,5 @@
--- `slip::grid_in` meets its contract. The sizes are a part of the slip, and the divisions are read from it. Assumes nothing.
+-- `slip::grid_in` meets its contract. The sizes are a part of the slip, and the divisions are read from it.
+-- Assumes nothing.
 use mathlib.Core.Path.{ap, _∙_}
 use borrow.Author.Needs.{needs}
 use lib.ListN.{length}
@@ -31,7 +32,9 @@ same-length c = search needs
 returns : tie.Need-returns
 returns c =
     let s = c .before .before .before .before .before .before .before .before .before in
-    c .new .ensures ∙ ap madeOf (grid-from (s .args .slip .now) (length (s .args .divisions .now)) _ (s .pre .1) (c .before .before .before .before .before .words .ensures))
+    c .new .ensures
+    ∙ ap madeOf (grid-from (s .args .slip .now) (length (s .args .divisions .now)) _ (s .pre .1)
+    (c .before .before .before .before .before .words .ensures))
 
 pub grid-in-spec : {M : Type 1} → statement M
 grid-in-spec =

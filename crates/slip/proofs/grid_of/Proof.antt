@@ -18,10 +18,16 @@ array-borrow-prefix-divisions : tie.Need-array-borrow-prefix-divisions
 array-borrow-prefix-divisions c = omega (arith, c .before .shared-slice-known2 .given 1)
 
 slice-aggregate-grid-in : tie.Need-slice-aggregate-grid-in
-slice-aggregate-grid-in c = sym (length-take-le {A = ℕ} (c .before .wide .result) (replicate 255 0) (omega (arith, c .before .before .shared-slice-known2 .given 1)))
+slice-aggregate-grid-in c = sym (length-take-le {A = ℕ} (c .before .wide .result) (replicate 255 0)
+    (omega (arith, c .before .before .shared-slice-known2 .given 1)))
 
 grid-in-requires : tie.Need-grid-in-requires
-grid-in-requires c κs = (c .before .before .before .before .pre, length-take-le {A = ℕ} (c .before .wide .result) (replicate 255 0) (omega (arith, c .before .before .shared-slice-known2 .given 1)) ∙ c .before .wide .ensures)
+grid-in-requires c κs = (
+  c .before .before .before .before .pre,
+  length-take-le {A = ℕ} (c .before .wide .result) (replicate 255 0)
+      (omega (arith, c .before .before .shared-slice-known2 .given 1))
+      ∙ c .before .wide .ensures,
+)
 
 returns : tie.Need-returns
 returns c = search needs

@@ -15,16 +15,24 @@ enum-known-table : tie.Need-enum-known-table
 enum-known-table c = search needs
 
 returns : tie.Need-returns
-returns c = sym (no-game (c .before .before .args .slip .now) (c .before .before .pre .0) (c .before .before .args .table) (c .match .keys2) (c .before .before .pre .1))
+returns c = sym (no-game (c .before .before .args .slip .now) (c .before .before .pre .0)
+    (c .before .before .args .table) (c .match .keys2) (c .before .before .pre .1))
 
 shared-slice-read-wide : tie.Need-shared-slice-read-wide
-shared-slice-read-wide c = omega (arith, head-fits (c .before .before .before .before .before .args .slip .now) (c .before .before .before .before .before .pre .0))
+shared-slice-read-wide c = omega (
+  arith,
+  head-fits (c .before .before .before .before .before .args .slip .now)
+      (c .before .before .before .before .before .pre .0),
+)
 
 wide-requires : tie.Need-wide-requires
 wide-requires c κs = search needs
 
 add-end : tie.Need-add-end
-add-end c = let h = head-fits (c .before .before .before .before .before .before .args .slip .now) (c .before .before .before .before .before .before .pre .0) in search needs
+add-end c =
+    let h = head-fits (c .before .before .before .before .before .before .args .slip .now)
+    (c .before .before .before .before .before .before .pre .0) in
+    search needs
 
 sub-is-game : tie.Need-sub-is-game
 sub-is-game c = search needs
@@ -33,7 +41,10 @@ part-is-game-start : tie.Need-part-is-game-start
 part-is-game-start c = search needs
 
 part-is-game-end : tie.Need-part-is-game-end
-part-is-game-end c = let h = head-fits (c .before .before .before .before .before .before .args .slip .now) (c .before .before .before .before .before .before .pre .0) in search needs
+part-is-game-end c =
+    let h = head-fits (c .before .before .before .before .before .before .args .slip .now)
+    (c .before .before .before .before .before .before .pre .0) in
+    search needs
 
 is-game-requires : tie.Need-is-game-requires
 is-game-requires c κs = search needs
@@ -42,9 +53,16 @@ returns-2 : tie.Need-returns-2
 returns-2 c =
     let s = c .before .before .before .before .before .before .before .before in
     let slip = s .args .slip .now in
-    let g = is-game slip (s .pre .0) (c .before .before .before .before .before .table .given .0 .0) (sym (s .pre .1) ∙ c .before .before .before .before .before .table .given .1) in
+    let g = is-game slip (s .pre .0) (c .before .before .before .before .before .table .given .0 .0)
+    (sym (s .pre .1) ∙ c .before .before .before .before .before .table .given .1) in
     let n : 2 + c .before .before .wide .result - 2 ≡ numBlocksOf slip = omega arith in
-    rw (g .1) (c .is-game .ensures ∙ (ap (λ k. gameQuestion (c .before .before .before .before .before .table .given .0 .0) (take k (drop 2 slip)) .answeredYes) n ∙ ap (λ k. gameQuestion k (sizesOf slip) .answeredYes) (g .2)))
+    rw (g .1)
+    (c .is-game .ensures
+    ∙ (ap
+    (λ k.
+    gameQuestion (c .before .before .before .before .before .table .given .0 .0) (take k (drop 2 slip)) .answeredYes)
+    n
+    ∙ ap (λ k. gameQuestion k (sizesOf slip) .answeredYes) (g .2)))
 
 pub is-known-spec : {M : Type 1} → statement M
 is-known-spec =

@@ -23,7 +23,8 @@ part-result-end : tie.Need-part-result-end
 part-result-end c = search needs
 
 returns : tie.Need-returns
-returns c = sym (not-labels (c .before .before .args .slip .now) (c .before .before .args .reading .table) (c .before .match .keys2))
+returns c = sym (not-labels (c .before .before .args .slip .now) (c .before .before .args .reading .table)
+    (c .before .match .keys2))
 
 sub-result-2 : tie.Need-sub-result-2
 sub-result-2 c = search needs
@@ -36,7 +37,9 @@ part-result-end-2 c = search needs
 
 returns-2 : tie.Need-returns-2
 unfolding labelsIn
-returns-2 c = rw (c .before .before .before .table .given .1) (sym (drop-of-length-le (c .before .before .before .before .before .args .slip .now) {i = c .before .before .before .table .given .0 .0} (omega arith)))
+returns-2 c = rw (c .before .before .before .table .given .1)
+    (sym (drop-of-length-le (c .before .before .before .before .before .args .slip .now)
+    {i = c .before .before .before .table .given .0 .0} (omega arith)))
 
 sub-result-3 : tie.Need-sub-result-3
 sub-result-3 c = search needs
@@ -49,7 +52,15 @@ part-result-end-3 c = search needs
 
 returns-3 : tie.Need-returns-3
 unfolding labelsIn
-returns-3 c = rw (c .before .before .before .table .given .1) (take-all (length (c .before .before .before .before .before .args .slip .now) - c .before .before .before .table .given .0 .0) (drop (c .before .before .before .table .given .0 .0) (c .before .before .before .before .before .args .slip .now)) (omega (arith, length-drop (c .before .before .before .table .given .0 .0) (c .before .before .before .before .before .args .slip .now))))
+returns-3 c = rw (c .before .before .before .table .given .1) (take-all
+    (length (c .before .before .before .before .before .args .slip .now)
+    - c .before .before .before .table .given .0 .0)
+    (drop (c .before .before .before .table .given .0 .0) (c .before .before .before .before .before .args .slip .now))
+    (omega (
+      arith,
+      length-drop (c .before .before .before .table .given .0 .0)
+          (c .before .before .before .before .before .args .slip .now),
+    )))
 
 pub labels-of-spec : {M : Type 1} → statement M
 labels-of-spec =

@@ -13,8 +13,11 @@ advance-requires : tie.Need-advance-requires
 advance-requires c κs =
     let s = c .before .before .before in
     let a = s .args in
-    let from = firstOutside (a .previous .now) (a .sizes .now) (a .s .u) in
-    (s .pre .0 .0, few-ready from (a .order .now) (a .first .now) (a .s .count) (a .s .active) (omega (arith, s .pre .0 .1 .low, first-few (a .s .count) (a .order .now))) (s .pre .0 .1))
+    let from = firstOutside (a .previous .now) (a .sizes .now) (a .s .u) in (
+      s .pre .0 .0,
+      few-ready from (a .order .now) (a .first .now) (a .s .count) (a .s .active)
+          (omega (arith, s .pre .0 .1 .low, first-few (a .s .count) (a .order .now))) (s .pre .0 .1),
+    )
 
 distance-of-requires : tie.Need-distance-of-requires
 distance-of-requires c κs = c .before .before .before .before .before .pre .1
@@ -24,9 +27,11 @@ returns c g C =
     let s = c .before .before .before .before .before .before in
     let a = s .args in
     let from = firstOutside (a .previous .now) (a .sizes .now) (a .s .u) in
-    let same : pointAfter from (take (a .s .active) (a .order .now)) (a .first .now) (a .s .active) ≡ pointAfter from (take (a .s .count) (a .order .now)) (a .first .now) (a .s .active) =
+    let same : pointAfter from (take (a .s .active) (a .order .now)) (a .first .now) (a .s .active)
+    ≡ pointAfter from (take (a .s .count) (a .order .now)) (a .first .now) (a .s .active) =
     sym (after-taken from (a .order .now) (a .first .now) (a .s .active) (a .s .active) (omega arith))
-    ∙ after-taken from (a .order .now) (a .first .now) (a .s .count) (a .s .active) (omega (arith, s .pre .0 .1 .low, first-few (a .s .count) (a .order .now))) in
+    ∙ after-taken from (a .order .now) (a .first .now) (a .s .count) (a .s .active)
+    (omega (arith, s .pre .0 .1 .low, first-few (a .s .count) (a .order .now))) in
     c .distance-of .ensures g C ∙ rw (c .before .before .advance .ensures, same, C .indices)
 
 pub away-spec : {M : Type 1} → statement M

@@ -1,4 +1,5 @@
--- `survey::came_in` meets its contract: a label that is known is read with its mark, which holds the position. Assumes nothing.
+-- `survey::came_in` meets its contract: a label that is known is read with its mark, which holds the position.
+-- Assumes nothing.
 use mathlib.Core.List.{[]}
 use mathlib.Core.Path.{refl, sym, ap, _∙_}
 use Prim.Native.Nat.{ℕ}
@@ -27,8 +28,13 @@ mark-in-requires : tie.Need-mark-in-requires
 mark-in-requires c κs =
     let s = c .before .before .before .before in
     let a = s .args in
-    let R = s .pre .1 .0 .0 (c .before .if1 .left) in
-    ((s .pre .0 .0, R), (s .pre .1 .0 .1 (c .before .if1 .left), counted (a .order .now) (a .s .count) (s .pre .0 .1 .inOrder) (R .point .few)))
+    let R = s .pre .1 .0 .0 (c .before .if1 .left) in (
+      (s .pre .0 .0, R),
+      (
+        s .pre .1 .0 .1 (c .before .if1 .left),
+        counted (a .order .now) (a .s .count) (s .pre .0 .1 .inOrder) (R .point .few),
+      ),
+    )
 
 enum-known-reading : tie.Need-enum-known-reading
 enum-known-reading c = search needs
@@ -44,15 +50,24 @@ returns-2 c =
     let read = c .before .before .before .before .if1 .left in
     let R = s .pre .1 .0 .0 read in
     let p = tableOf g (a .table .now) in
-    let y = pointOn (shape g) (stateOf (roundOf (a .previous .now) [] (a .sizes .now)) (a .first .now) (a .coefficients .now) (a .order .now) (a .marks .now) (a .s)) (a .s .active) in
+    let y = pointOn (shape g)
+    (stateOf (roundOf (a .previous .now) [] (a .sizes .now)) (a .first .now) (a .coefficients .now) (a .order .now)
+    (a .marks .now) (a .s))
+    (a .s .active) in
     let u = unknown-zero p y (sym (c .before .before .mark-in .ensures) ∙ c .enum-told .given .1) in
     absurd (omega (arith, u .0, s .pre .1 .1 read))
 
 mul-marks : tie.Need-mul-marks
-mul-marks c = let r = c .before .before .before .before .before .before .before .before .pre .1 .0 .0 (c .before .before .before .before .before .if1 .left) .point in omega (arith, r .low, r .few)
+mul-marks c =
+    let r = c .before .before .before .before .before .before .before .before .pre .1 .0 .0
+    (c .before .before .before .before .before .if1 .left) .point in
+    omega (arith, r .low, r .few)
 
 element-write-marks : tie.Need-element-write-marks
-element-write-marks c = let r = c .before .before .before .before .before .before .before .before .pre .1 .0 .0 (c .before .before .before .before .before .if1 .left) .point in omega (arith, r .low, r .few)
+element-write-marks c =
+    let r = c .before .before .before .before .before .before .before .before .pre .1 .0 .0
+    (c .before .before .before .before .before .if1 .left) .point in
+    omega (arith, r .low, r .few)
 
 position-at-requires : tie.Need-position-at-requires
 position-at-requires c κs =
@@ -69,11 +84,24 @@ returns-3 c =
     let read = c .before .before .before .before .before .before .before .if1 .left in
     let R = s .pre .1 .0 .0 read in
     let p = tableOf g (a .table .now) in
-    let y = pointOn (shape g) (stateOf (roundOf (a .previous .now) [] (a .sizes .now)) (a .first .now) (a .coefficients .now) (a .order .now) (a .marks .now) (a .s)) (a .s .active) in
+    let y = pointOn (shape g)
+    (stateOf (roundOf (a .previous .now) [] (a .sizes .now)) (a .first .now) (a .coefficients .now) (a .order .now)
+    (a .marks .now) (a .s))
+    (a .s .active) in
     let n = counted (a .order .now) (a .s .count) (s .pre .0 .1 .inOrder) (R .point .few) in
-    let k = marked-known p y (sym (c .before .before .before .before .before .mark-in .ensures) ∙ c .before .before .before .reading .given .1) in
+    let k = marked-known p y
+    (sym (c .before .before .before .before .before .mark-in .ensures)
+    ∙ c .before .before .before .reading .given .1) in
     let m = c .before .before .before .reading .given .0 .0 in
-    let e = c .position-at .ensures .0 ∙ marks-hold p y (a .marks .now) (a .s .count) (a .s .active) m (omega (arith, R .point .low, n)) (omega (arith, R .point .few, n, s .pre .0 .1 .inMarks)) (rw (label-is g (a .binomials .now) (a .table .now) (s .pre .0 .0) y) (omega (arith, c .before .before .before .before .before .before .before .before .before .shared-slice-known .given (position (shape g) y)))) (k .1) in
+    let e = c .position-at .ensures .0
+    ∙ marks-hold p y (a .marks .now) (a .s .count) (a .s .active) m (omega (arith, R .point .low, n))
+    (omega (arith, R .point .few, n, s .pre .0 .1 .inMarks))
+    (rw (label-is g (a .binomials .now) (a .table .now) (s .pre .0 .0) y) (omega (
+      arith,
+      c .before .before .before .before .before .before .before .before .before .shared-slice-known .given
+          (position (shape g) y),
+    )))
+    (k .1) in
     rw (lt-ltb _ _ read) (ap (λ (x : ℕ). At x) e, ap (set (a .marks .now) (a .s .active)) (k .1))
 
 pub came-in-spec : {M : Type 1} → statement M

@@ -26,12 +26,25 @@ returns-2 c g C =
     rw (c .before .before .before .came .given .1) record { tally = rw n; marks = rw n; written = rw n }
 
 away-requires : tie.Need-away-requires
-away-requires c κs = (c .before .before .before .before .before .before .before .pre .0, (c .before .before .before .before .before .before .before .pre .1 .0, c .before .before .before .before .before .before .before .pre .1 .1))
+away-requires c κs = (
+  c .before .before .before .before .before .before .before .pre .0,
+  (
+    c .before .before .before .before .before .before .before .pre .1 .0,
+    c .before .before .before .before .before .before .before .pre .1 .1,
+  ),
+)
 
 note-requires : tie.Need-note-requires
 note-requires c κs =
-    let room = rw (c .before .before .before .before .before .before .came .given .1) at (c .before .before .before .before .before .before .before .before .before .before .pre .1 .2) in
-    (room .0, (λ l. room .1 (c .before .before .before .if1 .left) (rw (c .before .before .away .ensures (c .before .before .before .before .before .before .before .before .before .before .pre .1 .0) (c .before .before .before .before .before .before .before .before .before .before .pre .1 .1)) at l)))
+    let room = rw (c .before .before .before .before .before .before .came .given .1)
+    at (c .before .before .before .before .before .before .before .before .before .before .pre .1 .2) in (
+      room .0,
+      (λ l. room .1 (c .before .before .before .if1 .left) (rw
+          (c .before .before .away .ensures
+          (c .before .before .before .before .before .before .before .before .before .before .pre .1 .0)
+          (c .before .before .before .before .before .before .before .before .before .before .pre .1 .1))
+          at l)),
+    )
 
 same-length : tie.Need-same-length
 same-length c = search needs
@@ -40,7 +53,11 @@ returns-3 : tie.Need-returns-3
 returns-3 c g C =
     let z = eq-eqb _ _ (c .before .before .before .before .before .before .if1 .left) in
     let e = c .before .before .before .before .before .away .ensures g C in
-    rw (c .before .before .before .before .before .before .before .before .before .came .given .1) record { tally = rw (z, ← e) (c .before .before .note .ensures .0); marks = rw z (c .before .before .note .ensures .1 .0); written = rw (z, ← e) (c .before .before .note .ensures .1 .1) }
+    rw (c .before .before .before .before .before .before .before .before .before .came .given .1) record {
+      tally = rw (z, ← e) (c .before .before .note .ensures .0);
+      marks = rw z (c .before .before .note .ensures .1 .0);
+      written = rw (z, ← e) (c .before .before .note .ensures .1 .1);
+    }
 
 pub meet-spec : {M : Type 1} → statement M
 meet-spec =

@@ -15,13 +15,19 @@ same-length : tie.Need-same-length
 same-length c = search needs
 
 returns : tie.Need-returns
-returns c = rw (lt-ltb _ _ (c .if1 .taken)) (rw (c .before .before .before .before .enlist .ensures .0), (refl, c .before .before .before .before .enlist .ensures .1))
+returns c = rw (lt-ltb _ _ (c .if1 .taken)) (
+  rw (c .before .before .before .before .enlist .ensures .0),
+  (refl, c .before .before .before .before .enlist .ensures .1),
+)
 
 same-length-2 : tie.Need-same-length-2
 same-length-2 c = search needs
 
 returns-2 : tie.Need-returns-2
-returns-2 c = rw (le-ltb _ _ (c .if1 .left)) (rw (c .before .before .before .before .enlist .ensures .0), (refl, c .before .before .before .before .enlist .ensures .1))
+returns-2 c = rw (le-ltb _ _ (c .if1 .left)) (
+  rw (c .before .before .before .before .enlist .ensures .0),
+  (refl, c .before .before .before .before .enlist .ensures .1),
+)
 
 pub note-spec : {M : Type 1} → statement M
 note-spec =

@@ -33,16 +33,21 @@ padded-requires c κs =
 
 pass-requires : tie.Need-pass-requires
 pass-requires c κs =
-    let s = c .before .before .before .before .before .before .before .before .before .before .before .before .before .before .before in
+    let s = c .before .before .before .before .before .before .before
+    .before .before .before .before .before .before .before .before in
     let a = s .args in
     let x = s .pre in
     let made = x .readable .made in
     let t = c .before .before .before .before .before .before .padded in
-    let same = ap (λ (z : List ℕ). problemIn (a .g) z (a .labels .now)) (t .ensures) ∙ same-problem (a .g) made (a .start .now) (a .labels .now) (x .accepted) in
+    let same = ap (λ (z : List ℕ). problemIn (a .g) z (a .labels .now)) (t .ensures)
+    ∙ same-problem (a .g) made (a .start .now) (a .labels .now) (x .accepted) in
     record {
       readable = x .readable;
-      isRound = is-round (a .g) made (c .before .before .before .before .before .before .before .before .block-sizes .result) (c .before .before .before .before .before .before .before .before .block-sizes .ensures);
-      below = round-below (a .g) made (c .before .before .before .before .before .before .before .before .block-sizes .result);
+      isRound = is-round (a .g) made
+          (c .before .before .before .before .before .before .before .before .block-sizes .result)
+          (c .before .before .before .before .before .before .before .before .block-sizes .ensures);
+      below = round-below (a .g) made
+          (c .before .before .before .before .before .before .before .before .block-sizes .result);
       accepted = accepted-in (a .g) made (a .start .now) (a .labels .now) (x .accepted) (t .result) (t .ensures);
       firstLength = taken-long (a .g) made (a .start .now) (a .labels .now) (x .accepted) (t .result) (t .ensures);
       measure = record {
@@ -63,12 +68,14 @@ same-length c = search needs
 
 returns : tie.Need-returns
 returns c =
-    let s = c .before .before .before .before .before .before .before .before .before .before .before .before .before .before .before .before .before .before in
+    let s = c .before .before .before .before .before .before .before .before .before
+    .before .before .before .before .before .before .before .before .before in
     let a = s .args in
     let x = s .pre in
     let made = x .readable .made in
     let t = c .before .before .before .before .before .before .before .before .before .padded in
-    let same = ap (λ (z : List ℕ). problemIn (a .g) z (a .labels .now)) (t .ensures) ∙ same-problem (a .g) made (a .start .now) (a .labels .now) (x .accepted) in
+    let same = ap (λ (z : List ℕ). problemIn (a .g) z (a .labels .now)) (t .ensures)
+    ∙ same-problem (a .g) made (a .start .now) (a .labels .now) (x .accepted) in
     let q = c .before .before .pass .ensures in
     record {
       nearest = q .nearest ∙ ap (λ (z : Problem). position (z .grid) (nearest z (a .w .now))) same;

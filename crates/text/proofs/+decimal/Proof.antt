@@ -20,8 +20,12 @@ abbrev decimal-at : ℕ → In 1 decimal-kinds.ps
 decimal-at t = and 1 decimal-kinds.ps (is 1 decimal-kinds.ps μ-decimal t) decimal.Pre
 
 abbrev claims : ℕ → decimal-lts.Claims
-claims t =
-    (byte-reads.Asked, byte-reads.Learnt, and 1 decimal-kinds.ps (falls 1 decimal-kinds.ps _<_ μ-decimal t) decimal.Pre, decimal.Post)
+claims t = (
+  byte-reads.Asked,
+  byte-reads.Learnt,
+  and 1 decimal-kinds.ps (falls 1 decimal-kinds.ps _<_ μ-decimal t) decimal.Pre,
+  decimal.Post,
+)
 
 decimal-cast-digit : (t : ℕ) → decimal-lts.Need-cast-digit (claims t) (decimal-at t) decimal.Post
 decimal-cast-digit t c = omega arith
@@ -46,7 +50,8 @@ decimal-returns t c =
 decimal-returns-2 : (t : ℕ) → decimal-lts.Need-returns-2 (claims t) (decimal-at t) decimal.Post
 decimal-returns-2 t c =
     let n = c .before .before .before .before .before .args .n in
-    let written = rw (← decimal-more n (omega arith)) at (part-join (c .before .before .decimal .ensures .0) (c .byte2 .ensures)) in
+    let written =
+    rw (← decimal-more n (omega arith)) at (part-join (c .before .before .decimal .ensures .0) (c .byte2 .ensures)) in
     (written, omega (arith, decimal-length 19 n (omega arith), written .behind))
 
 pub +decimal-spec : {M : Type 1} → statement M

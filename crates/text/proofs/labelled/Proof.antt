@@ -16,8 +16,11 @@ byte-requires c κs = search needs
 
 returns : tie.Need-returns
 returns c =
-    let first = c .before .before .before .before .text .ensures in
-    (part-join (part-join first (c .before .before .spaced .ensures .0)) (c .byte .ensures), omega (arith, first .behind, c .byte .ensures .behind), search needs)
+    let first = c .before .before .before .before .text .ensures in (
+      part-join (part-join first (c .before .before .spaced .ensures .0)) (c .byte .ensures),
+      omega (arith, first .behind, c .byte .ensures .behind),
+      search needs,
+    )
 
 pub labelled-spec : {M : Type 1} → statement M
 labelled-spec = tie.close (tie.spec text-requires spaced-requires byte-requires returns)

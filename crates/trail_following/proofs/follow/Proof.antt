@@ -1,5 +1,5 @@
--- `trail_following::follow` meets its contract. The loop's invariant: the arrays hold a place, from which the records that are left lead where all lead from
--- the first. The measure: the records left. Assumes nothing.
+-- `trail_following::follow` meets its contract. The loop's invariant: the arrays hold a place, from which the records
+-- that are left lead where all lead from the first. The measure: the records left. Assumes nothing.
 use mathlib.Core.List.{List}
 use mathlib.Core.Path.{_≡_, refl, sym, ap, _∙_}
 use Prim.Native.Nat.{ℕ, suc, _+_, _-_, _%_, _≤_, _<_}
@@ -18,7 +18,8 @@ use Rattle.trail_following.proofs.follow.Statement.{statement}
 use Rattle.trail_following.proofs.follow.Tie as tie
 
 abbrev Inv-loop : tie.InvT-loop
-Inv-loop g binomials tails previous next sizes first₀ coefficients₀ order₀ marks₀ trail from number s₀ at₀ came₀ left₀ first coefficients order marks s at came left =
+Inv-loop g binomials tails previous next sizes first₀ coefficients₀ order₀ marks₀ trail from number s₀ at₀ came₀ left₀
+    first coefficients order marks s at came left =
     let round = roundOf previous next sizes in
     SixteenEach order marks × (length (take (s .count) order) ≡ s .count) × (at ≤ length trail)
     × ((start : List ℕ) (a : Simplex) → HasRead g start tails a (stateOf round first₀ coefficients₀ order₀ marks₀ s₀)
@@ -27,13 +28,21 @@ Inv-loop g binomials tails previous next sizes first₀ coefficients₀ order₀
     × (length trail < 18446744073709551616) × (left ≤ number)
 
 abbrev μ-loop : tie.MeasureT-loop
-μ-loop g binomials tails previous next sizes first₀ coefficients₀ order₀ marks₀ trail from number s₀ at₀ came₀ left₀ first coefficients order marks s at came left = left
+μ-loop g binomials tails previous next sizes first₀ coefficients₀ order₀ marks₀ trail from number s₀ at₀ came₀ left₀
+    first coefficients order marks s at came left =
+    left
 
 loop-holds : tie.Need-loop-holds Inv-loop μ-loop
 loop-holds c =
     let number = c .before .args .number in
-    let z : number - number ≡ 0 = omega arith in
-    (c .before .pre .each, c .before .pre .many, c .before .pre .low, (λ start a H. (a, H, rw z (led-none (problemBy (c .before .args .g) start) a _ number))), omega arith, omega arith)
+    let z : number - number ≡ 0 = omega arith in (
+      c .before .pre .each,
+      c .before .pre .many,
+      c .before .pre .low,
+      (λ start a H. (a, H, rw z (led-none (problemBy (c .before .args .g) start) a _ number))),
+      omega arith,
+      omega arith,
+    )
 
 next-place-requires : tie.Need-next-place-requires Inv-loop μ-loop
 next-place-requires c κs =
@@ -41,7 +50,14 @@ next-place-requires c κs =
     let w = s .pre .place in
     let i = c .before .before .before .before .before .loop .inv in
     let v = i .3 (w .0) (w .1) (w .2) in
-    record { measured = s .pre .measured; below = s .pre .below; each = i .0; many = i .1; place = (w .0, v .0, v .1); low = i .2 }
+    record {
+      measured = s .pre .measured;
+      below = s .pre .below;
+      each = i .0;
+      many = i .1;
+      place = (w .0, v .0, v .1);
+      low = i .2;
+    }
 
 enum-known-step : tie.Need-enum-known-step Inv-loop μ-loop
 enum-known-step c = search needs
@@ -64,7 +80,14 @@ add-came c =
     let l = c .before .before .before .before .before .before .before .before .before .before .loop in
     let v = l .inv .3 (w .0) (w .1) (w .2) in
     let few = led-few (problemBy (s .args .g) (w .0)) (w .1) _ (s .args .number) (v .2) in
-    omega (arith, few, c .low-bit .ensures .1, c .before .before .before .before .before .before .before .before .before .loop-test .taken, l .inv .5, s .fits .number .fits)
+    omega (
+      arith,
+      few,
+      c .low-bit .ensures .1,
+      c .before .before .before .before .before .before .before .before .before .loop-test .taken,
+      l .inv .5,
+      s .fits .number .fits,
+    )
 
 add-at : tie.Need-add-at Inv-loop μ-loop
 add-at c =
@@ -72,7 +95,8 @@ add-at c =
     let w = s .pre .place in
     let l = c .before .before .before .before .before .before .before .before .before .before .loop in
     let v = l .inv .3 (w .0) (w .1) (w .2) in
-    let N = (rw (c .before .before .step .given .1) at (c .before .before .before .before .next-place .ensures)) (w .0) (v .0) (v .1) in
+    let N = (rw (c .before .before .step .given .1) at (c .before .before .before .before .next-place .ensures)) (w .0)
+    (v .0) (v .1) in
     let inside : l .at + c .before .before .step .given .0 .1 .0 ≤ length (s .args .trail .now) = N .inside in
     omega (arith, inside, l .inv .4)
 
@@ -85,10 +109,12 @@ returns c start a H =
     let l = c .before .before .before .before .before .before .before .before .loop in
     let v = l .inv .3 start a H in
     let N = (rw (c .enum-told .given .1) at (c .before .before .next-place .ensures)) start (v .0) (v .1) in
-    let e : l .left ≡ suc (l .left - 1) = omega (arith, c .before .before .before .before .before .before .before .loop-test .taken) in
+    let e : l .left ≡ suc (l .left - 1) =
+    omega (arith, c .before .before .before .before .before .before .before .loop-test .taken) in
     let p = problemBy (s .args .g) start in
     led-all p a _ (s .args .number) (v .2) (l .left) (omega (arith, l .inv .5))
-    ∙ ap (λ (n : ℕ). rebuiltFrom p n (v .0) (drop (l .at) (s .args .trail .now))) e ∙ N (l .left - 1)
+    ∙ ap (λ (n : ℕ). rebuiltFrom p n (v .0) (drop (l .at) (s .args .trail .now))) e
+    ∙ N (l .left - 1)
 
 sub-left : tie.Need-sub-left Inv-loop μ-loop
 sub-left c = omega (arith, c .before .before .before .before .before .before .before .before .before .loop-test .taken)
@@ -112,11 +138,13 @@ loop-again c =
       M .each,
       M .many,
       M .inside,
-      λ start a H. let v = l .inv .3 start a H in
+      λ start a H.
+          let v = l .inv .3 start a H in
           let N = E start (v .0) (v .1) in (
             N .next,
             record { settled = v .1 .settled; shows = N .shows; sums = v .1 .sums },
-            led-on (problemBy (s .args .g) start) a _ (s .args .number) (v .2) (omega (arith, test, l .inv .5)) (N .next) _ (N .reads) e (c .low-bit .ensures .0 ∙ ap (λ (x : ℕ). x % 2) (sym byte)) refl,
+            led-on (problemBy (s .args .g) start) a _ (s .args .number) (v .2) (omega (arith, test, l .inv .5))
+                (N .next) _ (N .reads) e (c .low-bit .ensures .0 ∙ ap (λ (x : ℕ). x % 2) (sym byte)) refl,
           ),
       l .inv .4,
       omega (arith, l .inv .5),

@@ -10,7 +10,8 @@ use borrow.Author.Needs.{needs}
 use Rattle.trail_reader_exports.proofs.put_place.Statement.{statement}
 use Rattle.trail_reader_exports.proofs.put_place.Tie as tie
 
-four : (x y z u : ℕ) (old : List ℕ) → 4 ≤ length old → set (set (set (set old 0 x) 1 y) 2 z) 3 u ≡ front (x ∷ y ∷ z ∷ u ∷ []) old
+four : (x y z u : ℕ) (old : List ℕ) → 4 ≤ length old
+    → set (set (set (set old 0 x) 1 y) 2 z) 3 u ≡ front (x ∷ y ∷ z ∷ u ∷ []) old
 unfolding front
 four x y z u (a ∷ b ∷ c ∷ d ∷ old) h = refl
 four x y z u [] h = absurd (omega arith)

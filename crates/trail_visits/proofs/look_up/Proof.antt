@@ -1,4 +1,5 @@
--- `trail_visits::look_up` meets its contract: after rules 6 and 7 nothing is read, and else the mark that is looked up is stored. Assumes nothing.
+-- `trail_visits::look_up` meets its contract: after rules 6 and 7 nothing is read, and else the mark that is looked up
+-- is stored. Assumes nothing.
 use mathlib.Core.List.{[]}
 use mathlib.Core.Path.{_≡_, sym, _∙_}
 use lib.ListN.{length-set}
@@ -29,31 +30,38 @@ enum-known-reading-2 c = search needs
 
 mul-marks : tie.Need-mul-marks
 mul-marks c =
-    let can = c .before .before .before .before .before .before .before .before .pre .1 (c .before .before .before .before .before .if1 .taken) in
+    let can = c .before .before .before .before .before .before .before .before .pre .1
+    (c .before .before .before .before .before .if1 .taken) in
     omega (arith, can .reads .point .low, can .reads .point .few)
 
 element-write-marks : tie.Need-element-write-marks
 element-write-marks c =
-    let can = c .before .before .before .before .before .before .before .before .pre .1 (c .before .before .before .before .before .if1 .taken) in
+    let can = c .before .before .before .before .before .before .before .before .pre .1
+    (c .before .before .before .before .before .if1 .taken) in
     omega (arith, can .reads .point .low, can .reads .point .few)
 
 returns-2 : tie.Need-returns-2
 returns-2 c =
     let a = c .before .before .before .before .before .before .before .before .args in
-    let can = c .before .before .before .before .before .before .before .before .pre .1 (c .before .before .before .before .before .if1 .taken) in
+    let can = c .before .before .before .before .before .before .before .before .pre .1
+    (c .before .before .before .before .before .if1 .taken) in
     let m = c .before .reading2 .given in
     let e = marked-known _ _ (sym (c .before .before .before .mark-in .ensures) ∙ m .1) in (
       (λ _. e .0),
-      looked-some (tableOf (a .g) (a .table .now)) (roundOf (a .previous .now) [] (a .sizes .now)) (a .first .now) (a .coefficients .now) (a .order .now) (a .marks .now) (a .s) (m .0 .0) (c .before .before .before .before .before .if1 .taken)
-          (omega (arith, can .reads .point .low, can .many)) (e .1),
-      length-set (a .marks .now) (a .s .active) (m .0 .0) ∙ c .before .before .before .before .before .before .before .before .pre .0 .1,
+      looked-some (tableOf (a .g) (a .table .now)) (roundOf (a .previous .now) [] (a .sizes .now)) (a .first .now)
+          (a .coefficients .now) (a .order .now) (a .marks .now) (a .s) (m .0 .0)
+          (c .before .before .before .before .before .if1 .taken) (omega (arith, can .reads .point .low, can .many))
+          (e .1),
+      length-set (a .marks .now) (a .s .active) (m .0 .0)
+          ∙ c .before .before .before .before .before .before .before .before .pre .0 .1,
     )
 
 returns-3 : tie.Need-returns-3
 returns-3 c =
     let a = c .before .before .before .args in (
       (λ r. absurd (omega (arith, c .if1 .left))),
-      looked-none (tableOf (a .g) (a .table .now)) (roundOf (a .previous .now) [] (a .sizes .now)) (a .first .now) (a .coefficients .now) (a .order .now) (a .marks .now) (a .s) (c .if1 .left),
+      looked-none (tableOf (a .g) (a .table .now)) (roundOf (a .previous .now) [] (a .sizes .now)) (a .first .now)
+          (a .coefficients .now) (a .order .now) (a .marks .now) (a .s) (c .if1 .left),
       c .before .before .before .pre .0 .1,
     )
 

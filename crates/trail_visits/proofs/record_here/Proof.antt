@@ -11,13 +11,19 @@ first-record-requires : tie.Need-first-record-requires
 first-record-requires c κs = search needs
 
 returns : tie.Need-returns
-returns c = rw (eq-eqb (c .before .before .before .args .at) 0 (c .before .if1 .taken), ← c .before .before .position-at .ensures .0) (c .first-record .ensures)
+returns c = rw (
+  eq-eqb (c .before .before .before .args .at) 0 (c .before .if1 .taken),
+  ← c .before .before .position-at .ensures .0,
+) (c .first-record .ensures)
 
 record-of-requires : tie.Need-record-of-requires
 record-of-requires c κs = search needs
 
 returns-2 : tie.Need-returns-2
-returns-2 c = rw (ne-eqb (c .before .before .before .args .at) 0 (c .before .if1 .left), ← c .before .before .position-at .ensures .0) (c .record-of .ensures)
+returns-2 c = rw (
+  ne-eqb (c .before .before .before .args .at) 0 (c .before .if1 .left),
+  ← c .before .before .position-at .ensures .0,
+) (c .record-of .ensures)
 
 pub record-here-spec : {M : Type 1} → statement M
 record-here-spec =

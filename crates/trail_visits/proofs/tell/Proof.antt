@@ -10,7 +10,9 @@ use Rattle.trail_visits.proofs.tell.Statement.{statement}
 use Rattle.trail_visits.proofs.tell.Tie as tie
 
 returns : tie.Need-returns
-returns c = let n : c .before .before .args .writes ≡ false = not-true (c .before .before .args .writes) (c .if1 .taken) in ((λ e. absurd-bool (sym e ∙ n)), rw n)
+returns c =
+    let n : c .before .before .args .writes ≡ false = not-true (c .before .before .args .writes) (c .if1 .taken) in
+    ((λ e. absurd-bool (sym e ∙ n)), rw n)
 
 record-here-requires : tie.Need-record-here-requires
 record-here-requires c κs =
@@ -35,7 +37,9 @@ returns-2 c =
     let a = c .before .before .before .before .before .before .before .before .args in
     let w : a .writes ≡ true = not-false (a .writes) (c .before .before .before .before .before .before .if1 .left) in (
       (λ e. c .gone .ensures),
-      rw w (c .before .before .before .put .ensures ∙ pasted (c .before .before .before .before .before .record-here .ensures) (a .trail .now) (a .at)),
+      rw w
+          (c .before .before .before .put .ensures
+          ∙ pasted (c .before .before .before .before .before .record-here .ensures) (a .trail .now) (a .at)),
     )
 
 pub tell-spec : {M : Type 1} → statement M

@@ -15,7 +15,9 @@ read-at-requires : tie.Need-read-at-requires
 read-at-requires c κs = search needs
 
 returns-2 : tie.Need-returns-2
-returns-2 c = let a = c .before .before .before .args in rw (lt-leb (a .i) (a .n) (omega (arith, c .before .if1 .left))) (c .read-at .ensures)
+returns-2 c =
+    let a = c .before .before .before .args in
+    rw (lt-leb (a .i) (a .n) (omega (arith, c .before .if1 .left))) (c .read-at .ensures)
 
 pub label-of-spec : {M : Type 1} → statement M
 label-of-spec =

@@ -26,7 +26,8 @@ rotate-right-requires-2 c κs = search needs
 returns : tie.Need-returns
 returns c =
     let a = c .before .before .before .before .before .before .before .before .args in
-    let marks : take (suc (a .n)) (c .rotate-right2 .last .0) ≡ rotateRight (take (suc (a .n)) (a .marks .now)) = rw (← add-one (a .n)) (c .rotate-right2 .ensures .0) in
+    let marks : take (suc (a .n)) (c .rotate-right2 .last .0) ≡ rotateRight (take (suc (a .n)) (a .marks .now)) =
+    rw (← add-one (a .n)) (c .rotate-right2 .ensures .0) in
     record {
       point = c .before .before .before .before .before .before .shift .ensures;
       list = c .before .before .before .before .lower .ensures;

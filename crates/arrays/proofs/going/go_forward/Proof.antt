@@ -26,7 +26,8 @@ rotate-left-requires-2 c κs = search needs
 returns : tie.Need-returns
 returns c =
     let a = c .before .before .before .before .before .before .before .before .args in
-    let marks : take (suc (a .n)) (c .rotate-left2 .last .0) ≡ rotateLeft (take (suc (a .n)) (a .marks .now)) = rw (← add-one (a .n)) (c .rotate-left2 .ensures .0) in
+    let marks : take (suc (a .n)) (c .rotate-left2 .last .0) ≡ rotateLeft (take (suc (a .n)) (a .marks .now)) =
+    rw (← add-one (a .n)) (c .rotate-left2 .ensures .0) in
     record {
       point = c .before .before .before .before .before .before .shift .ensures;
       list = c .before .before .before .before .raise .ensures;

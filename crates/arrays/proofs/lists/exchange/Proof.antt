@@ -38,7 +38,9 @@ element-write-a-2 : tie.Need-element-write-a-2
 element-write-a-2 c = search needs
 
 returns : tie.Need-returns
-returns c = let a = c .before .before .args in (rw add-one (swap-two (a .i) (a .a .now) (omega arith)), simp length-set (omega arith))
+returns c =
+    let a = c .before .before .args in
+    (rw add-one (swap-two (a .i) (a .a .now) (omega arith)), simp length-set (omega arith))
 
 pub exchange-spec : {M : Type 1} → statement M
 exchange-spec =

@@ -1,4 +1,5 @@
--- `lists::insert` meets its contract. The invariant: x stored at k would be x put before entry k. The measure: k. Assumes nothing.
+-- `lists::insert` meets its contract. The invariant: x stored at k would be x put before entry k. The measure: k.
+-- Assumes nothing.
 use mathlib.Core.Path.{_≡_}
 use Prim.Native.Nat.{suc, _≤_}
 use lib.ListN.{length, length-set, take, set}
@@ -11,13 +12,22 @@ use Rattle.arrays.proofs.lists.insert.Statement.{statement}
 use Rattle.arrays.proofs.lists.insert.Tie as tie
 
 abbrev Inv-loop : tie.InvT-loop
-Inv-loop a₀ n at x k₀ a k = (at ≤ k) × (k ≤ n) × (n ≤ 15) × (length a ≡ 16) × (take (suc n) (set a k x) ≡ insertAt k x (take n a₀)) × (length a₀ ≡ 16)
+Inv-loop a₀ n at x k₀ a k = (at ≤ k) × (k ≤ n) × (n ≤ 15) × (length a ≡ 16)
+    × (take (suc n) (set a k x) ≡ insertAt k x (take n a₀)) × (length a₀ ≡ 16)
 
 abbrev μ-loop : tie.MeasureT-loop
 μ-loop a₀ n at x k₀ a k = k
 
 loop-holds : tie.Need-loop-holds Inv-loop μ-loop
-loop-holds c = let a = c .args in (omega arith, omega arith, omega arith, omega arith, insert-last (a .n) (a .x) (a .a .now) (omega arith), omega arith)
+loop-holds c =
+    let a = c .args in (
+      omega arith,
+      omega arith,
+      omega arith,
+      omega arith,
+      insert-last (a .n) (a .x) (a .a .now) (omega arith),
+      omega arith,
+    )
 
 sub-a : tie.Need-sub-a Inv-loop μ-loop
 sub-a c = omega arith
@@ -45,8 +55,14 @@ loop-again c =
     let a = c .before .before .before .args in
     let l = c .before .before .loop in
     let m = take (a .n) (a .a .now) in
-    let long : a .n ≤ length m = rw (length-take-le (a .n) (a .a .now) (omega arith)) (omega arith) in
-    (omega arith, omega arith, omega arith, rw length-set (omega arith), insert-back (l .a) m (a .n) (l .k) (a .x) (omega arith) (omega arith) (omega arith) long (l .inv .4), omega arith)
+    let long : a .n ≤ length m = rw (length-take-le (a .n) (a .a .now) (omega arith)) (omega arith) in (
+      omega arith,
+      omega arith,
+      omega arith,
+      rw length-set (omega arith),
+      insert-back (l .a) m (a .n) (l .k) (a .x) (omega arith) (omega arith) (omega arith) long (l .inv .4),
+      omega arith,
+    )
 
 mul-a-3 : tie.Need-mul-a-3 Inv-loop μ-loop
 mul-a-3 c = omega arith

@@ -19,8 +19,10 @@ position-in-requires c κs = search needs
 
 returns : tie.Need-returns
 returns c =
-    let a = c .before .before .args in
-    (c .position-in .ensures .0 ∙ ap markPosition (entry (a .marks .now) (suc (a .n)) (a .i) _ (omega arith) refl), c .position-in .ensures .1)
+    let a = c .before .before .args in (
+      c .position-in .ensures .0 ∙ ap markPosition (entry (a .marks .now) (suc (a .n)) (a .i) _ (omega arith) refl),
+      c .position-in .ensures .1,
+    )
 
 pub position-at-spec : {M : Type 1} → statement M
 position-at-spec = tie.close (tie.spec mul-position-in element-copy-out-position-in position-in-requires returns)

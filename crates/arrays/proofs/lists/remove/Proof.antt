@@ -1,5 +1,5 @@
--- `lists::remove` meets its contract. The invariant: the entries less entry k are the old ones less the entry asked for. The measure: the
--- entries left. Assumes nothing.
+-- `lists::remove` meets its contract. The invariant: the entries less entry k are the old ones less the entry asked
+-- for. The measure: the entries left. Assumes nothing.
 use mathlib.Core.Path.{_≡_, refl, sym, _∙_}
 use Prim.Native.Nat.{suc, _-_, _≤_, _<_}
 use lib.ListN.{length, length-set, take}
@@ -45,8 +45,12 @@ loop-less c = omega arith
 loop-again : tie.Need-loop-again Inv-loop μ-loop
 loop-again c =
     let a = c .before .before .before .args in
-    let l = c .before .before .loop in
-    (omega arith, omega arith, rw length-set (omega arith), remove-forward (l .a) (a .n) (l .k) (omega arith) (omega arith) ∙ l .inv .3)
+    let l = c .before .before .loop in (
+      omega arith,
+      omega arith,
+      rw length-set (omega arith),
+      remove-forward (l .a) (a .n) (l .k) (omega arith) (omega arith) ∙ l .inv .3,
+    )
 
 returns : tie.Need-returns Inv-loop μ-loop
 returns c =

@@ -32,9 +32,11 @@ returns c =
     let n : suc (a .n - 1) ≡ a .n = omega arith in
     let long : 0 < length l = rw (length-take-le (a .n) (a .a .now) (omega arith)) (omega arith) in
     let x : getD l 0 0 ≡ getD (a .a .now) 0 0 = getD-take (a .n) (a .a .now) 0 0 (omega arith) in
-    let made : take (suc (a .n - 1)) (set (c .remove .last .0) (a .n - 1) (getD (a .a .now) 0 0)) ≡ rotateLeft l =
-    rw (take-suc-set (c .remove .last .0) (a .n - 1) (getD (a .a .now) 0 0) (omega arith), c .remove .ensures .0, ← x) (rotate-left l long)
-    in
+    let made : take (suc (a .n - 1)) (set (c .remove .last .0) (a .n - 1) (getD (a .a .now) 0 0)) ≡ rotateLeft l = rw (
+      take-suc-set (c .remove .last .0) (a .n - 1) (getD (a .a .now) 0 0) (omega arith),
+      c .remove .ensures .0,
+      ← x,
+    ) (rotate-left l long) in
     (rw n at made, rw length-set (omega arith))
 
 pub rotate-left-spec : {M : Type 1} → statement M

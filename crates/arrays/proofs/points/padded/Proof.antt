@@ -1,4 +1,5 @@
--- `points::padded` meets its contract. The invariant: the first h numbers stand at the front. The measure: the numbers left. Assumes nothing.
+-- `points::padded` meets its contract. The invariant: the first h numbers stand at the front. The measure: the numbers
+-- left. Assumes nothing.
 use mathlib.Core.Path.{_≡_, sym}
 use Prim.Native.Nat.{_-_, _≤_}
 use lib.ListN.{length, take, replicate}
@@ -37,8 +38,13 @@ loop-less c = omega arith
 
 loop-again : tie.Need-loop-again Inv-loop μ-loop
 loop-again c =
-    let l = c .before .before .loop in
-    (rw (l .inv .0) (front-copy (c .before .before .before .args .y .now) (replicate 16 0) (l .h) (omega arith) (omega arith)), omega arith, omega arith, omega arith)
+    let l = c .before .before .loop in (
+      rw (l .inv .0)
+          (front-copy (c .before .before .before .args .y .now) (replicate 16 0) (l .h) (omega arith) (omega arith)),
+      omega arith,
+      omega arith,
+      omega arith,
+    )
 
 returns : tie.Need-returns Inv-loop μ-loop
 returns c =

@@ -1,4 +1,5 @@
--- `points::zeros` meets its contract. The invariant: the mask has the indices below h at which the point is 0. The measure: the indices left. Assumes nothing.
+-- `points::zeros` meets its contract. The invariant: the mask has the indices below h at which the point is 0. The
+-- measure: the indices left. Assumes nothing.
 use mathlib.Core.Logic.{⊎-elim}
 use mathlib.Core.Path.{_≡_, _∙_}
 use Prim.Native.Nat.{_-_, _≤_}
@@ -38,7 +39,10 @@ loop-again c =
     let l = c .before .before .before .loop in (
       omega arith,
       omega arith,
-      ⊎-elim (λ w. rw (w .2 ∙ w .1 .ensures) (zero-more y (l .h) (l .u) (omega arith) (l .inv .2) (w .0 .taken))) (λ w. rw (w .1) (none-more y (l .h) (l .u) (l .inv .2) (w .0 .left))) (c .if1 .came),
+      ⊎-elim
+          (λ w. rw (w .2 ∙ w .1 .ensures) (zero-more y (l .h) (l .u) (omega arith) (l .inv .2) (w .0 .taken)))
+          (λ w. rw (w .1) (none-more y (l .h) (l .u) (l .inv .2) (w .0 .left)))
+          (c .if1 .came),
     )
 
 returns : tie.Need-returns Inv-loop μ-loop

@@ -1,5 +1,6 @@
--- `shifts::lower` meets its contract. The invariant: what is left of the walk makes of the present coefficients what the whole walk makes of
--- the old ones, and none is 0 before it is lowered. The measure: the steps left. Assumes nothing.
+-- `shifts::lower` meets its contract. The invariant: what is left of the walk makes of the present coefficients what
+-- the whole walk makes of the old ones, and none is 0 before it is lowered. The measure: the steps left.
+-- Assumes nothing.
 use mathlib.Core.Bool.{true}
 use mathlib.Core.Path.{_≡_, refl, _∙_}
 use Prim.Native.Nat.{pred, _≤_, _<_}
@@ -18,7 +19,8 @@ use Rattle.arrays.proofs.shifts.lower.Tie as tie
 
 abbrev Inv-loop : tie.InvT-loop
 Inv-loop c₀ previous h b at₀ left₀ c at left =
-    (changedBefore pred previous b left at c ≡ changedBefore pred previous b 16 h c₀) × (testedBefore (λ x. ltb 0 x) pred previous b left at c ≡ true) × (at < 16) × (left ≤ 16)
+    (changedBefore pred previous b left at c ≡ changedBefore pred previous b 16 h c₀)
+    × (testedBefore (λ x. ltb 0 x) pred previous b left at c ≡ true) × (at < 16) × (left ≤ 16)
 
 abbrev μ-loop : tie.MeasureT-loop
 μ-loop c₀ previous h b at₀ left₀ c at left = left
@@ -36,7 +38,8 @@ sub-c : tie.Need-sub-c Inv-loop μ-loop
 sub-c c =
     let a = c .before .before .before .before .args in
     let l = c .before .before .before .loop in
-    let here = tested-here pred (a .previous .now) (a .b) (λ x. ltb 0 x) (l .left) (l .at) (l .c) (omega arith) (c .before .if1 .left) (l .inv .1) in
+    let here = tested-here pred (a .previous .now) (a .b) (λ x. ltb 0 x) (l .left) (l .at) (l .c) (omega arith)
+    (c .before .if1 .left) (l .inv .1) in
     omega (arith, ltb-true 0 (at (l .c) (l .at)) here)
 
 mul-c-2 : tie.Need-mul-c-2 Inv-loop μ-loop
@@ -63,8 +66,10 @@ loop-again c =
     let l = c .before .before .before .before .before .loop in
     let way = s .args .previous .now in
     let other = c .before .before .before .if1 .left in (
-      rw (sub-one (at (l .c) (l .at)), c .wide .ensures) (changed-onward pred way (s .args .b) (l .left) (l .at) (l .c) (omega arith) other ∙ l .inv .0),
-      rw (sub-one (at (l .c) (l .at)), c .wide .ensures) (tested-onward pred way (s .args .b) (λ x. ltb 0 x) (l .left) (l .at) (l .c) (omega arith) other (l .inv .1)),
+      rw (sub-one (at (l .c) (l .at)), c .wide .ensures)
+          (changed-onward pred way (s .args .b) (l .left) (l .at) (l .c) (omega arith) other ∙ l .inv .0),
+      rw (sub-one (at (l .c) (l .at)), c .wide .ensures)
+          (tested-onward pred way (s .args .b) (λ x. ltb 0 x) (l .left) (l .at) (l .c) (omega arith) other (l .inv .1)),
       rw (c .wide .ensures) (below way (s .pre .0 .1) (l .at)),
       omega arith,
     )

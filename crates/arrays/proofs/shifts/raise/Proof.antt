@@ -1,5 +1,5 @@
--- `shifts::raise` meets its contract. The invariant: what is left of the walk makes of the present coefficients what the whole walk makes of
--- the old ones, and within the width. The measure: the steps left. Assumes nothing.
+-- `shifts::raise` meets its contract. The invariant: what is left of the walk makes of the present coefficients what
+-- the whole walk makes of the old ones, and within the width. The measure: the steps left. Assumes nothing.
 use mathlib.Core.Bool.{true}
 use mathlib.Core.Path.{_≡_, refl, _∙_}
 use Prim.Native.Nat.{suc, _≤_, _<_}
@@ -18,7 +18,8 @@ use Rattle.arrays.proofs.shifts.raise.Tie as tie
 
 abbrev Inv-loop : tie.InvT-loop
 Inv-loop c₀ previous h b at₀ left₀ c at left =
-    (changedBefore suc previous b left at c ≡ changedBefore suc previous b 16 h c₀) × (testedBefore (λ x. ltb x 65535) suc previous b left at c ≡ true) × (at < 16) × (left ≤ 16)
+    (changedBefore suc previous b left at c ≡ changedBefore suc previous b 16 h c₀)
+    × (testedBefore (λ x. ltb x 65535) suc previous b left at c ≡ true) × (at < 16) × (left ≤ 16)
 
 abbrev μ-loop : tie.MeasureT-loop
 μ-loop c₀ previous h b at₀ left₀ c at left = left
@@ -36,7 +37,8 @@ add-c : tie.Need-add-c Inv-loop μ-loop
 add-c c =
     let a = c .before .before .before .before .args in
     let l = c .before .before .before .loop in
-    let here = tested-here suc (a .previous .now) (a .b) (λ x. ltb x 65535) (l .left) (l .at) (l .c) (omega arith) (c .before .if1 .left) (l .inv .1) in
+    let here = tested-here suc (a .previous .now) (a .b) (λ x. ltb x 65535) (l .left) (l .at) (l .c) (omega arith)
+    (c .before .if1 .left) (l .inv .1) in
     omega (arith, ltb-true (at (l .c) (l .at)) 65535 here)
 
 mul-c-2 : tie.Need-mul-c-2 Inv-loop μ-loop
@@ -63,8 +65,11 @@ loop-again c =
     let l = c .before .before .before .before .before .loop in
     let way = s .args .previous .now in
     let other = c .before .before .before .if1 .left in (
-      rw (add-one, c .wide .ensures) (changed-onward suc way (s .args .b) (l .left) (l .at) (l .c) (omega arith) other ∙ l .inv .0),
-      rw (add-one, c .wide .ensures) (tested-onward suc way (s .args .b) (λ x. ltb x 65535) (l .left) (l .at) (l .c) (omega arith) other (l .inv .1)),
+      rw (add-one, c .wide .ensures)
+          (changed-onward suc way (s .args .b) (l .left) (l .at) (l .c) (omega arith) other ∙ l .inv .0),
+      rw (add-one, c .wide .ensures)
+          (tested-onward suc way (s .args .b) (λ x. ltb x 65535) (l .left) (l .at) (l .c) (omega arith) other
+          (l .inv .1)),
       rw (c .wide .ensures) (below way (s .pre .0 .1) (l .at)),
       omega arith,
     )

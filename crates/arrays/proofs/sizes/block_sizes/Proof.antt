@@ -24,7 +24,12 @@ abbrev μ-loop : tie.MeasureT-loop
 
 -- the block of an index is one of the grid's
 in-blocks : (g : GridStruct) → IsMade g → (h : ℕ) → h < g .indices → at (g .block) h < g .blocks
-in-blocks g made h l = omega (arith, made-block g made h l, made-blocks g made, block-spans (shape g .sizes) h (omega (arith, made-indices g made)) .0)
+in-blocks g made h l = omega (
+  arith,
+  made-block g made h l,
+  made-blocks g made,
+  block-spans (shape g .sizes) h (omega (arith, made-indices g made)) .0,
+)
 
 loop-holds : tie.Need-loop-holds Inv-loop μ-loop
 loop-holds c = (omega arith, search needs, λ k l. absurd (omega arith))
@@ -38,7 +43,12 @@ wide-requires c κs = search needs
 array-read-a : tie.Need-array-read-a Inv-loop μ-loop
 array-read-a c =
     let s = c .before .before .before .before .before in
-    omega (arith, c .wide .ensures, in-blocks (s .args .g) (s .pre) (c .before .before .loop .h) (c .before .loop-test .taken), blocks-range (s .args .g) (s .pre) .1)
+    omega (
+      arith,
+      c .wide .ensures,
+      in-blocks (s .args .g) (s .pre) (c .before .before .loop .h) (c .before .loop-test .taken),
+      blocks-range (s .args .g) (s .pre) .1,
+    )
 
 array-write-a : tie.Need-array-write-a Inv-loop μ-loop
 array-write-a c = let s = c .before .before .before .before .before in omega (arith, indices-few (s .args .g) (s .pre))
@@ -57,15 +67,21 @@ loop-again c =
     let x = at (g .sizes) (c .wide .result) in (
       omega arith,
       length-set (l .a) (l .h) x ∙ l .inv .1,
-      λ k m. ⊎-elim (λ (e : k ≡ l .h). rw e (getD-set-same (l .a) (l .h) x 0 (omega (arith, l .inv .1, indices-few g (s .pre))) ∙ ap (at (g .sizes)) (c .wide .ensures)))
-          (λ n. getD-set-other (l .a) (l .h) k x 0 n ∙ l .inv .2 k (omega (arith, n))) (same-or k (l .h)),
+      λ k m. ⊎-elim
+          (λ (e : k ≡ l .h). rw e
+          (getD-set-same (l .a) (l .h) x 0 (omega (arith, l .inv .1, indices-few g (s .pre)))
+          ∙ ap (at (g .sizes)) (c .wide .ensures)))
+          (λ n. getD-set-other (l .a) (l .h) k x 0 n ∙ l .inv .2 k (omega (arith, n)))
+          (same-or k (l .h)),
     )
 
 returns : tie.Need-returns Inv-loop μ-loop
 returns c =
     let s = c .before .before .before .before in
     let g = s .args .g in
-    λ h l. c .before .loop .inv .2 h (omega arith) ∙ made-size g (s .pre) (at (g .block) h) (in-blocks g (s .pre) h l) ∙ rw (made-block g (s .pre) h l)
+    λ h l. c .before .loop .inv .2 h (omega arith)
+    ∙ made-size g (s .pre) (at (g .block) h) (in-blocks g (s .pre) h l)
+    ∙ rw (made-block g (s .pre) h l)
 
 pub block-sizes-spec : {M : Type 1} → statement M
 block-sizes-spec =

@@ -1,5 +1,5 @@
--- `walk::first_outside` meets its contract. The invariant: the walk from here with the steps left meets what the whole walk meets. The
--- measure: the steps left. Assumes nothing.
+-- `walk::first_outside` meets its contract. The invariant: the walk from here with the steps left meets what the whole
+-- walk meets. The measure: the steps left. Assumes nothing.
 use mathlib.Core.Bool.{false, true, not}
 use mathlib.Core.Path.{_≡_, sym, ap, _∙_}
 use Prim.Native.Nat.{_<_}
@@ -12,7 +12,8 @@ use Rattle.arrays.proofs.walk.first_outside.Statement.{statement}
 use Rattle.arrays.proofs.walk.first_outside.Tie as tie
 
 abbrev Inv-loop : tie.InvT-loop
-Inv-loop way sizes mask h at₀ left₀ at left = (firstMet way (outside mask) left at ≡ firstOutside way sizes mask h) × (at < 16)
+Inv-loop way sizes mask h at₀ left₀ at left =
+    (firstMet way (outside mask) left at ≡ firstOutside way sizes mask h) × (at < 16)
 
 abbrev μ-loop : tie.MeasureT-loop
 μ-loop way sizes mask h at₀ left₀ at left = left
@@ -30,7 +31,11 @@ wide-requires-2 : tie.Need-wide-requires-2 Inv-loop μ-loop
 wide-requires-2 c κs = search needs
 
 loop-holds : tie.Need-loop-holds Inv-loop μ-loop
-loop-holds c = let s = c .before .before .before .before in (rw (c .before .before .wide .ensures, c .wide2 .ensures), rw (c .before .before .wide .ensures) (below (s .args .way .now) (s .pre .1) (s .args .h)))
+loop-holds c =
+    let s = c .before .before .before .before in (
+      rw (c .before .before .wide .ensures, c .wide2 .ensures),
+      rw (c .before .before .wide .ensures) (below (s .args .way .now) (s .pre .1) (s .args .h)),
+    )
 
 has-requires : tie.Need-has-requires Inv-loop μ-loop
 has-requires c κs = search needs
@@ -51,8 +56,12 @@ loop-again : tie.Need-loop-again Inv-loop μ-loop
 loop-again c =
     let s = c .before .before .before .before .before .before .before .before .before .before in
     let l = c .before .before .before .before .before .loop in
-    let on : outside (s .args .mask) (l .at) ≡ false = ap not (sym (c .before .before .before .has .ensures)) ∙ c .before .before .if2 .left in (
-      rw (c .wide3 .ensures) (met-onward (s .args .way .now) (outside (s .args .mask)) (l .left) (l .at) (c .before .before .before .before .if1 .left) on ∙ l .inv .0),
+    let on : outside (s .args .mask) (l .at) ≡ false =
+    ap not (sym (c .before .before .before .has .ensures)) ∙ c .before .before .if2 .left in (
+      rw (c .wide3 .ensures)
+          (met-onward (s .args .way .now) (outside (s .args .mask)) (l .left) (l .at)
+          (c .before .before .before .before .if1 .left) on
+          ∙ l .inv .0),
       rw (c .wide3 .ensures) (below (s .args .way .now) (s .pre .1) (l .at)),
     )
 

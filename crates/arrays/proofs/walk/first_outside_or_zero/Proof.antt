@@ -1,5 +1,5 @@
--- `walk::first_outside_or_zero` meets its contract. The invariant: the walk from here with the steps left meets what the whole walk meets.
--- The measure: the steps left. Assumes nothing.
+-- `walk::first_outside_or_zero` meets its contract. The invariant: the walk from here with the steps left meets what
+-- the whole walk meets. The measure: the steps left. Assumes nothing.
 use mathlib.Core.Bool.{false, true, not}
 use mathlib.Core.List.{[]}
 use mathlib.Core.Path.{_≡_, sym, ap, _∙_}
@@ -18,7 +18,8 @@ use Rattle.arrays.proofs.walk.first_outside_or_zero.Statement.{statemen
 use Rattle.arrays.proofs.walk.first_outside_or_zero.Tie as tie
 
 abbrev Inv-loop : tie.InvT-loop
-Inv-loop way sizes mask c h at₀ left₀ at left = (firstMet way (outsideOrZero mask c) left at ≡ firstOutsideOrZero (roundOf way [] sizes) mask c h) × (at < 16)
+Inv-loop way sizes mask c h at₀ left₀ at left =
+    (firstMet way (outsideOrZero mask c) left at ≡ firstOutsideOrZero (roundOf way [] sizes) mask c h) × (at < 16)
 
 abbrev μ-loop : tie.MeasureT-loop
 μ-loop way sizes mask c h at₀ left₀ at left = left
@@ -36,7 +37,11 @@ wide-requires-2 : tie.Need-wide-requires-2 Inv-loop μ-loop
 wide-requires-2 c κs = search needs
 
 loop-holds : tie.Need-loop-holds Inv-loop μ-loop
-loop-holds c = let s = c .before .before .before .before in (rw (c .before .before .wide .ensures, c .wide2 .ensures), rw (c .before .before .wide .ensures) (below (s .args .previous .now) (s .pre .1) (s .args .h)))
+loop-holds c =
+    let s = c .before .before .before .before in (
+      rw (c .before .before .wide .ensures, c .wide2 .ensures),
+      rw (c .before .before .wide .ensures) (below (s .args .previous .now) (s .pre .1) (s .args .h)),
+    )
 
 has-requires : tie.Need-has-requires Inv-loop μ-loop
 has-requires c κs = search needs
@@ -64,31 +69,43 @@ loop-again c =
     let s = c .before .before .before .before .before .before .before .before .before .before .before .before in
     let l = c .before .before .before .before .before .before .before .loop in
     let q = outsideOrZero (s .args .u) (s .args .c .now) in
-    let isIn : bit (s .args .u) (l .at) ≡ true = sym (c .before .before .before .before .before .has .ensures) ∙ not-false _ (c .before .before .before .before .if2 .left) in
+    let isIn : bit (s .args .u) (l .at) ≡ true = sym (c .before .before .before .before .before .has .ensures)
+    ∙ not-false _ (c .before .before .before .before .if2 .left) in
     let on : q (l .at) ≡ false = rw (isIn, ne-eqb (at (s .args .c .now) (l .at)) 0 (c .before .before .if3 .left)) in (
-      rw (c .wide3 .ensures) (met-onward (s .args .previous .now) q (l .left) (l .at) (c .before .before .before .before .before .before .if1 .left) on ∙ l .inv .0),
+      rw (c .wide3 .ensures)
+          (met-onward (s .args .previous .now) q (l .left) (l .at)
+          (c .before .before .before .before .before .before .if1 .left) on
+          ∙ l .inv .0),
       rw (c .wide3 .ensures) (below (s .args .previous .now) (s .pre .1) (l .at)),
     )
 
 returns : tie.Need-returns Inv-loop μ-loop
 returns c =
     let a = c .before .before .before .before .before .before .args in
-    let l = c .before .loop in
-    (met-spent (a .previous .now) (outsideOrZero (a .u) (a .c .now)) (l .left) (l .at) (c .if1 .taken) ∙ l .inv .0, l .inv .1)
+    let l = c .before .loop in (
+      met-spent (a .previous .now) (outsideOrZero (a .u) (a .c .now)) (l .left) (l .at) (c .if1 .taken) ∙ l .inv .0,
+      l .inv .1,
+    )
 
 returns-2 : tie.Need-returns-2 Inv-loop μ-loop
 returns-2 c =
     let a = c .before .before .before .before .before .before .before .before .args in
     let l = c .before .before .before .loop in
-    let out : not (bit (a .u) (l .at)) ≡ true = ap not (sym (c .before .has .ensures)) ∙ c .if2 .taken in
-    (met-here (a .previous .now) (outsideOrZero (a .u) (a .c .now)) (l .left) (l .at) (or-left _ _ out) ∙ l .inv .0, l .inv .1)
+    let out : not (bit (a .u) (l .at)) ≡ true = ap not (sym (c .before .has .ensures)) ∙ c .if2 .taken in (
+      met-here (a .previous .now) (outsideOrZero (a .u) (a .c .now)) (l .left) (l .at) (or-left _ _ out) ∙ l .inv .0,
+      l .inv .1,
+    )
 
 returns-3 : tie.Need-returns-3 Inv-loop μ-loop
 returns-3 c =
     let a = c .before .before .before .before .before .before .before .before .before .before .args in
     let l = c .before .before .before .before .before .loop in
-    let null : eqb (at (a .c .now) (l .at)) 0 ≡ true = eq-eqb _ _ (c .if3 .taken) in
-    (met-here (a .previous .now) (outsideOrZero (a .u) (a .c .now)) (l .left) (l .at) (or-right (not (bit (a .u) (l .at))) _ null) ∙ l .inv .0, l .inv .1)
+    let null : eqb (at (a .c .now) (l .at)) 0 ≡ true = eq-eqb _ _ (c .if3 .taken) in (
+      met-here (a .previous .now) (outsideOrZero (a .u) (a .c .now)) (l .left) (l .at)
+          (or-right (not (bit (a .u) (l .at))) _ null)
+          ∙ l .inv .0,
+      l .inv .1,
+    )
 
 pub first-outside-or-zero-spec : {M : Type 1} → statement M
 first-outside-or-zero-spec =

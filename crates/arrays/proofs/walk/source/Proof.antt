@@ -14,7 +14,8 @@ wide-requires : tie.Need-wide-requires
 wide-requires c κs = search needs
 
 has-requires : tie.Need-has-requires
-has-requires c κs = rw (c .wide .ensures) (below (c .before .before .args .previous .now) (c .before .before .pre .1) (c .before .before .args .h))
+has-requires c κs = rw (c .wide .ensures)
+    (below (c .before .before .args .previous .now) (c .before .before .pre .1) (c .before .before .args .h))
 
 first-outside-requires : tie.Need-first-outside-requires
 first-outside-requires c κs = search needs
@@ -25,8 +26,14 @@ returns c = search needs
 returns-2 : tie.Need-returns-2
 returns-2 c =
     let a = c .before .before .before .before .args in
-    let off : outside (a .u) (at (a .previous .now) (a .h)) ≡ true = ap not (rw (c .before .before .wide .ensures) at (sym (c .before .has .ensures) ∙ c .if1 .left)) in
-    (c .before .before .wide .ensures ∙ met-here (a .previous .now) (outside (a .u)) (at (a .sizes .now) (a .h)) (at (a .previous .now) (a .h)) off, rw (c .before .before .wide .ensures) (below (c .before .before .before .before .args .previous .now) (c .before .before .before .before .pre .1) (c .before .before .before .before .args .h)))
+    let off : outside (a .u) (at (a .previous .now) (a .h)) ≡ true =
+    ap not (rw (c .before .before .wide .ensures) at (sym (c .before .has .ensures) ∙ c .if1 .left)) in (
+      c .before .before .wide .ensures
+          ∙ met-here (a .previous .now) (outside (a .u)) (at (a .sizes .now) (a .h)) (at (a .previous .now) (a .h)) off,
+      rw (c .before .before .wide .ensures)
+          (below (c .before .before .before .before .args .previous .now) (c .before .before .before .before .pre .1)
+          (c .before .before .before .before .args .h)),
+    )
 
 pub source-spec : {M : Type 1} → statement M
 source-spec =

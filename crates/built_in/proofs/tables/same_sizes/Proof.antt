@@ -42,8 +42,11 @@ loop-less c = omega arith
 loop-again : tie.Need-loop-again Inv-loop μ-loop
 loop-again c =
     let a = c .before .before .before .before .before .before .args in
-    let l = c .before .before .before .before .loop in
-    (l .inv .0 ∙ same-turn (a .a .now) (a .b .now) (l .i) (omega arith) (omega arith) (c .if2 .left), omega arith, l .inv .2)
+    let l = c .before .before .before .before .loop in (
+      l .inv .0 ∙ same-turn (a .a .now) (a .b .now) (l .i) (omega arith) (omega arith) (c .if2 .left),
+      omega arith,
+      l .inv .2,
+    )
 
 returns-3 : tie.Need-returns-3 Inv-loop μ-loop
 returns-3 c =

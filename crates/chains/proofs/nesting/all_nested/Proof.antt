@@ -1,4 +1,5 @@
--- `nesting::all_nested` meets its contract. The invariant: what is asked of the sets from i on. The measure: the sets left. Assumes nothing.
+-- `nesting::all_nested` meets its contract. The invariant: what is asked of the sets from i on. The measure: the sets
+-- left. Assumes nothing.
 use mathlib.Core.List.{map}
 use mathlib.Core.Path.{_≡_, refl, sym, _∙_}
 use Prim.Native.Nat.{_-_, _≤_}
@@ -14,8 +15,9 @@ use Rattle.chains.proofs.nesting.all_nested.Statement.{statement}
 use Rattle.chains.proofs.nesting.all_nested.Tie as tie
 
 abbrev Inv-loop : tie.InvT-loop
-Inv-loop sets count i₀ i =
-    (i ≤ count) × (count ≤ 16) × (pairwise nestedSets (map (at sets) (upFrom 0 count)) ≡ pairwise nestedSets (map (at sets) (upFrom i (count - i))))
+Inv-loop sets count i₀ i = (i ≤ count) × (count ≤ 16)
+    × (pairwise nestedSets (map (at sets) (upFrom 0 count))
+    ≡ pairwise nestedSets (map (at sets) (upFrom i (count - i))))
 
 abbrev μ-loop : tie.MeasureT-loop
 μ-loop sets count i₀ i = count - i
@@ -27,9 +29,11 @@ nested-with-later-requires : tie.Need-nested-with-later-requires Inv-loop μ-loo
 nested-with-later-requires c κs = (omega arith, omega arith)
 
 returns : tie.Need-returns Inv-loop μ-loop
-returns c = let l = c .before .before .before .loop in
+returns c =
+    let l = c .before .before .before .loop in
     let a = c .before .before .before .before .args in
-    pairs-stop (at (a .sets .now)) (l .i) (a .count) (omega arith) nestedSets (l .inv .2) (sym (c .before .nested-with-later .ensures) ∙ not-true _ (c .if1 .taken))
+    pairs-stop (at (a .sets .now)) (l .i) (a .count) (omega arith) nestedSets (l .inv .2)
+    (sym (c .before .nested-with-later .ensures) ∙ not-true _ (c .if1 .taken))
 
 add-i : tie.Need-add-i Inv-loop μ-loop
 add-i c = search needs
@@ -38,11 +42,13 @@ loop-less : tie.Need-loop-less Inv-loop μ-loop
 loop-less c = omega arith
 
 loop-again : tie.Need-loop-again Inv-loop μ-loop
-loop-again c = let l = c .before .before .before .loop in
+loop-again c =
+    let l = c .before .before .before .loop in
     let a = c .before .before .before .before .args in (
       omega arith,
       omega arith,
-      pairs-go (at (a .sets .now)) (l .i) (a .count) (omega arith) nestedSets (l .inv .2) (sym (c .before .nested-with-later .ensures) ∙ not-false _ (c .if1 .left)),
+      pairs-go (at (a .sets .now)) (l .i) (a .count) (omega arith) nestedSets (l .inv .2)
+          (sym (c .before .nested-with-later .ensures) ∙ not-false _ (c .if1 .left)),
     )
 
 returns-2 : tie.Need-returns-2 Inv-loop μ-loop

@@ -16,8 +16,10 @@ all-nested-requires : tie.Need-all-nested-requires
 all-nested-requires c κs = search needs
 
 returns-2 : tie.Need-returns-2
-returns-2 c = let b = c .before .before .before .before .before .before .before in
-    served (b .pre .0) (b .args .p .now) (c .before .before .before .fill-sets .ensures) (not-false _ (c .before .before .if1 .left)) (c .all-nested .ensures)
+returns-2 c =
+    let b = c .before .before .before .before .before .before .before in
+    served (b .pre .0) (b .args .p .now) (c .before .before .before .fill-sets .ensures)
+    (not-false _ (c .before .before .if1 .left)) (c .all-nested .ensures)
 
 pub chain-from-spec : {M : Type 1} → statement M
 chain-from-spec = tie.close (tie.spec fill-sets-requires returns all-nested-requires returns-2)

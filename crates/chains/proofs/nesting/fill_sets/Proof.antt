@@ -1,4 +1,5 @@
--- `nesting::fill_sets` meets its contract. The invariant: the points so far have their sets. The measure: the points left. Assumes nothing.
+-- `nesting::fill_sets` meets its contract. The invariant: the points so far have their sets. The measure: the points
+-- left. Assumes nothing.
 use mathlib.Core.Bool.{Bool, true}
 use mathlib.Core.List.{map}
 use mathlib.Core.Path.{_≡_, refl, sym, _∙_}
@@ -21,9 +22,9 @@ abbrev zeroOrOneFrom : GridStruct → Point → Point → Bool
 zeroOrOneFrom g p z = zeroOrOne (shape g) (coefficientsFrom (shape g) p z)
 
 abbrev Inv-loop : tie.InvT-loop
-Inv-loop g p numbers count sets₀ m k₀ sets k =
-    (k ≤ count) × (length sets ≡ 16) × AreSets g p numbers k sets
-    × (all (zeroOrOneFrom g p) (listed (g .indices) count numbers) ≡ all (zeroOrOneFrom g p) (map (listedAt (g .indices) numbers) (upFrom k (count - k))))
+Inv-loop g p numbers count sets₀ m k₀ sets k = (k ≤ count) × (length sets ≡ 16) × AreSets g p numbers k sets
+    × (all (zeroOrOneFrom g p) (listed (g .indices) count numbers)
+    ≡ all (zeroOrOneFrom g p) (map (listedAt (g .indices) numbers) (upFrom k (count - k))))
 
 abbrev μ-loop : tie.MeasureT-loop
 μ-loop g p numbers count sets₀ m k₀ sets k = count - k
@@ -66,10 +67,12 @@ enum-told : tie.Need-enum-told Inv-loop μ-loop
 enum-told c = search needs
 
 returns : tie.Need-returns Inv-loop μ-loop
-returns c = let b = c .before .before .before .before .before .before .before .before in
+returns c =
+    let b = c .before .before .before .before .before .before .before .before in
     let l = c .before .before .before .before .before .loop in
     let i = is-listed (b .pre .0 .has) (l .k) (omega arith) in
-    filled-no (b .pre .0) (b .args .p .now) (l .sets) (l .k) (omega arith) (l .inv .3) (rw (i .part) at (rw (c .enum-told .given .1) at (c .before .before .set-from .ensures)))
+    filled-no (b .pre .0) (b .args .p .now) (l .sets) (l .k) (omega arith) (l .inv .3)
+    (rw (i .part) at (rw (c .enum-told .given .1) at (c .before .before .set-from .ensures)))
 
 mul-sets : tie.Need-mul-sets Inv-loop μ-loop
 mul-sets c = omega arith

@@ -12,7 +12,8 @@ returns : tie.Need-returns
 unfolding nestedSets
 returns c =
     let a = c .before .args in
-    sym (rw (eq-eqb (a .a) (a .b) (c .if1 .taken)) (and-false (eqb (bitAnd (a .a) (a .b)) (a .a) || eqb (bitAnd (a .a) (a .b)) (a .b))))
+    sym (rw (eq-eqb (a .a) (a .b) (c .if1 .taken))
+    (and-false (eqb (bitAnd (a .a) (a .b)) (a .a) || eqb (bitAnd (a .a) (a .b)) (a .b))))
 
 returns-2 : tie.Need-returns-2
 unfolding nestedSets

@@ -1,4 +1,5 @@
--- `nesting::nested_with_later` meets its contract. The invariant: what is asked of the sets from k on. The measure: the sets left. Assumes nothing.
+-- `nesting::nested_with_later` meets its contract. The invariant: what is asked of the sets from k on. The measure: the
+-- sets left. Assumes nothing.
 use mathlib.Core.List.{map}
 use mathlib.Core.Path.{_≡_, refl, sym, _∙_}
 use Prim.Native.Nat.{_+_, _-_, _≤_, _<_}
@@ -13,8 +14,9 @@ use Rattle.chains.proofs.nesting.nested_with_later.Statement.{statement
 use Rattle.chains.proofs.nesting.nested_with_later.Tie as tie
 
 abbrev Inv-loop : tie.InvT-loop
-Inv-loop sets i count k₀ k =
-    (i < k) × (k ≤ count) × (count ≤ 16) × (all (nestedSets (at sets i)) (map (at sets) (upFrom (i + 1) (count - (i + 1)))) ≡ all (nestedSets (at sets i)) (map (at sets) (upFrom k (count - k))))
+Inv-loop sets i count k₀ k = (i < k) × (k ≤ count) × (count ≤ 16)
+    × (all (nestedSets (at sets i)) (map (at sets) (upFrom (i + 1) (count - (i + 1))))
+    ≡ all (nestedSets (at sets i)) (map (at sets) (upFrom k (count - k))))
 
 abbrev μ-loop : tie.MeasureT-loop
 μ-loop sets i count k₀ k = count - k
@@ -41,9 +43,11 @@ is-nested-requires : tie.Need-is-nested-requires Inv-loop μ-loop
 is-nested-requires c κs = search needs
 
 returns : tie.Need-returns Inv-loop μ-loop
-returns c = let l = c .before .before .before .before .before .loop in
+returns c =
+    let l = c .before .before .before .before .before .loop in
     let a = c .before .before .before .before .before .before .args in
-    all-stops (at (a .sets .now)) (l .k) (a .count) (omega arith) (nestedSets (at (a .sets .now) (a .i))) (l .inv .3) (sym (c .before .is-nested .ensures) ∙ not-true _ (c .if1 .taken))
+    all-stops (at (a .sets .now)) (l .k) (a .count) (omega arith) (nestedSets (at (a .sets .now) (a .i))) (l .inv .3)
+    (sym (c .before .is-nested .ensures) ∙ not-true _ (c .if1 .taken))
 
 add-k-2 : tie.Need-add-k-2 Inv-loop μ-loop
 add-k-2 c = search needs
@@ -52,12 +56,14 @@ loop-less : tie.Need-loop-less Inv-loop μ-loop
 loop-less c = omega arith
 
 loop-again : tie.Need-loop-again Inv-loop μ-loop
-loop-again c = let l = c .before .before .before .before .before .loop in
+loop-again c =
+    let l = c .before .before .before .before .before .loop in
     let a = c .before .before .before .before .before .before .args in (
       omega arith,
       omega arith,
       omega arith,
-      all-goes (at (a .sets .now)) (l .k) (a .count) (omega arith) (nestedSets (at (a .sets .now) (a .i))) (l .inv .3) (sym (c .before .is-nested .ensures) ∙ not-false _ (c .if1 .left)),
+      all-goes (at (a .sets .now)) (l .k) (a .count) (omega arith) (nestedSets (at (a .sets .now) (a .i))) (l .inv .3)
+          (sym (c .before .is-nested .ensures) ∙ not-false _ (c .if1 .left)),
     )
 
 returns-2 : tie.Need-returns-2 Inv-loop μ-loop

@@ -1,4 +1,5 @@
--- `nesting::one_chain` meets its contract. The invariant: what is asked of the points from k on. The measure: the points left. Assumes nothing.
+-- `nesting::one_chain` meets its contract. The invariant: what is asked of the points from k on. The measure: the
+-- points left. Assumes nothing.
 use mathlib.Core.List.{map}
 use mathlib.Core.Path.{_≡_, refl, sym, _∙_}
 use Prim.Native.Nat.{_-_, _≤_}
@@ -15,8 +16,10 @@ use Rattle.chains.proofs.nesting.one_chain.Statement.{statement}
 use Rattle.chains.proofs.nesting.one_chain.Tie as tie
 
 abbrev Inv-loop : tie.InvT-loop
-Inv-loop g numbers count m k₀ k =
-    (k ≤ count) × (oneChain (shape g) (listed (g .indices) count numbers) ≡ any (chainFrom (shape g) (listed (g .indices) count numbers)) (map (listedAt (g .indices) numbers) (upFrom k (count - k))))
+Inv-loop g numbers count m k₀ k = (k ≤ count)
+    × (oneChain (shape g) (listed (g .indices) count numbers)
+    ≡ any (chainFrom (shape g) (listed (g .indices) count numbers))
+    (map (listedAt (g .indices) numbers) (upFrom k (count - k))))
 
 abbrev μ-loop : tie.MeasureT-loop
 μ-loop g numbers count m k₀ k = count - k
@@ -29,10 +32,12 @@ mul-at : tie.Need-mul-at Inv-loop μ-loop
 mul-at c = omega (arith, is-listed (c .before .before .before .pre .has) (c .before .loop .k) (omega arith) .small)
 
 add-chain-from : tie.Need-add-chain-from Inv-loop μ-loop
-add-chain-from c = omega (arith, is-listed (c .before .before .before .pre .has) (c .before .loop .k) (omega arith) .small)
+add-chain-from c =
+    omega (arith, is-listed (c .before .before .before .pre .has) (c .before .loop .k) (omega arith) .small)
 
 mul-chain-from : tie.Need-mul-chain-from Inv-loop μ-loop
-mul-chain-from c = omega (arith, is-listed (c .before .before .before .pre .has) (c .before .loop .k) (omega arith) .small)
+mul-chain-from c =
+    omega (arith, is-listed (c .before .before .before .pre .has) (c .before .loop .k) (omega arith) .small)
 
 sub-chain-from : tie.Need-sub-chain-from Inv-loop μ-loop
 sub-chain-from c = omega arith
@@ -49,11 +54,13 @@ chain-from-requires c κs = let b = c .before .before .before .before in
     (b .pre, rw (i .part) (on-grid (b .pre) (c .before .before .loop .k) (omega arith)))
 
 returns : tie.Need-returns Inv-loop μ-loop
-returns c = let b = c .before .before .before .before .before .before in
+returns c =
+    let b = c .before .before .before .before .before .before in
     let a = b .args in
     let l = c .before .before .before .before .loop in
     let i = is-listed (b .pre .has) (l .k) (omega arith) in
-    any-stops (listedAt (a .g .indices) (a .numbers .now)) (l .k) (a .count) (omega arith) (chainFrom (shape (a .g)) (listed (a .g .indices) (a .count) (a .numbers .now))) (l .inv .1)
+    any-stops (listedAt (a .g .indices) (a .numbers .now)) (l .k) (a .count) (omega arith)
+    (chainFrom (shape (a .g)) (listed (a .g .indices) (a .count) (a .numbers .now))) (l .inv .1)
     (sym (rw (i .part) at (c .before .chain-from .ensures)) ∙ c .if1 .taken)
 
 add-k : tie.Need-add-k Inv-loop μ-loop
@@ -63,12 +70,14 @@ loop-less : tie.Need-loop-less Inv-loop μ-loop
 loop-less c = omega arith
 
 loop-again : tie.Need-loop-again Inv-loop μ-loop
-loop-again c = let b = c .before .before .before .before .before .before in
+loop-again c =
+    let b = c .before .before .before .before .before .before in
     let a = b .args in
     let l = c .before .before .before .before .loop in
     let i = is-listed (b .pre .has) (l .k) (omega arith) in (
       omega arith,
-      any-goes (listedAt (a .g .indices) (a .numbers .now)) (l .k) (a .count) (omega arith) (chainFrom (shape (a .g)) (listed (a .g .indices) (a .count) (a .numbers .now))) (l .inv .1)
+      any-goes (listedAt (a .g .indices) (a .numbers .now)) (l .k) (a .count) (omega arith)
+          (chainFrom (shape (a .g)) (listed (a .g .indices) (a .count) (a .numbers .now))) (l .inv .1)
           (sym (rw (i .part) at (c .before .chain-from .ensures)) ∙ c .if1 .left),
     )
 

@@ -1,11 +1,13 @@
--- `sets::follow_from` meets its contract. The invariant: the coefficients so far. The measure: the indices left. Assumes nothing.
+-- `sets::follow_from` meets its contract. The invariant: the coefficients so far. The measure: the indices left.
+-- Assumes nothing.
 use mathlib.Core.Logic.{⊎-elim}
 use mathlib.Core.Path.{_≡_, refl, _∙_}
 use Prim.Native.Nat.{ℕ, zero, suc, _-_, _<_, _≤_}
 use lib.ListN.{length}
 use native.Mathlib.Omega.{arith}
 use borrow.Author.Needs.{needs}
-use Rattle.chains.proofs.Following.{Following, begin, further-one, further-zero, next-number, number-at-end, all-followed}
+use Rattle.chains.proofs.Following.{Following, begin, further-one, further-zero, next-number, number-at-end}
+use Rattle.chains.proofs.Following.{all-followed}
 use Rattle.chains.proofs.sets.follow_from.Statement.{statement}
 use Rattle.chains.proofs.sets.follow_from.Tie as tie
 
@@ -17,7 +19,13 @@ abbrev μ-loop : tie.MeasureT-loop
 μ-loop p z first end c old set₀ one₀ h₀ set one h = end - h
 
 loop-holds : tie.Need-loop-holds Inv-loop μ-loop
-loop-holds c = (begin (omega arith) (omega arith) (c .before .before .pre .5) (omega arith), omega arith, omega arith, omega arith, omega arith)
+loop-holds c = (
+  begin (omega arith) (omega arith) (c .before .before .pre .5) (omega arith),
+  omega arith,
+  omega arith,
+  omega arith,
+  omega arith,
+)
 
 add-requires : tie.Need-add-requires Inv-loop μ-loop
 add-requires c κs = omega arith
@@ -53,7 +61,13 @@ returns-2 : tie.Need-returns-2 Inv-loop μ-loop
 returns-2 c = λ f e G.
     let l = c .before .before .before .before .before .before .before .before .loop in
     let n = next-number (l .inv .0) f e G (omega arith) in
-    omega (arith, n .0, n .1, c .before .before .wide162 .ensures .0, c .before .before .before .before .wide16 .ensures .0)
+    omega (
+      arith,
+      n .0,
+      n .1,
+      c .before .before .wide162 .ensures .0,
+      c .before .before .before .before .wide16 .ensures .0,
+    )
 
 add-h : tie.Need-add-h Inv-loop μ-loop
 add-h c = omega arith
@@ -67,13 +81,18 @@ zero-of zero h l = refl
 zero-of (suc n) h l = absurd (h (omega arith))
 
 loop-again : tie.Need-loop-again Inv-loop μ-loop
-loop-again c = let l = c .before .before .before .before .before .before .before .before .loop in
+loop-again c =
+    let l = c .before .before .before .before .before .before .before .before .loop in
     let F = l .inv .0 in
     let p-at = c .before .before .before .before .wide16 .ensures .0 in
     let z-at = c .before .before .wide162 .ensures .0 in
     let came = c .before .before .before .before .before .before .if1 .came in (
-      ⊎-elim (λ w. rw (w .2 ∙ w .1 .ensures) (further-one F (omega arith) (omega arith) (w .0 .taken) (omega arith) (omega arith)))
-          (λ w. rw (w .1) (further-zero F (omega arith) (omega arith) (omega (arith, F .small, zero-of (l .one) (w .0 .left) (F .small))) (omega arith) (omega arith))) came,
+      ⊎-elim
+          (λ w. rw (w .2 ∙ w .1 .ensures)
+          (further-one F (omega arith) (omega arith) (w .0 .taken) (omega arith) (omega arith)))
+          (λ w. rw (w .1) (further-zero F (omega arith) (omega arith)
+          (omega (arith, F .small, zero-of (l .one) (w .0 .left) (F .small))) (omega arith) (omega arith)))
+          came,
       omega arith,
       omega arith,
       omega arith,

@@ -22,7 +22,9 @@ returns c = let w = rw (c .before .from-zero .given .1) at (c .before .before .b
     (w .0, (c .before .before .before .before .before .before .args .first, omega arith, omega arith, w .1))
 
 returns-2 : tie.Need-returns-2
-returns-2 c = found-second _ (c .follow-from2 .result) (omega arith) (rw (c .before .enum-told .given .1) at (c .before .before .before .follow-from .ensures)) (c .follow-from2 .ensures)
+returns-2 c = found-second _ (c .follow-from2 .result) (omega arith)
+    (rw (c .before .enum-told .given .1) at (c .before .before .before .follow-from .ensures))
+    (c .follow-from2 .ensures)
 
 pub on-block-spec : {M : Type 1} → statement M
 on-block-spec =

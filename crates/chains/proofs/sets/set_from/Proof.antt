@@ -1,4 +1,5 @@
--- `sets::set_from` meets its contract. The invariant: the blocks so far have their sets. The measure: the blocks left. Assumes nothing.
+-- `sets::set_from` meets its contract. The invariant: the blocks so far have their sets. The measure: the blocks left.
+-- Assumes nothing.
 use mathlib.Core.Path.{_≡_, refl, sym, _∙_}
 use Prim.Native.Nat.{_-_, _≤_}
 use lib.ListN.{take}
@@ -59,14 +60,16 @@ enum-told : tie.Need-enum-told Inv-loop μ-loop
 enum-told c = search needs
 
 returns : tie.Need-returns Inv-loop μ-loop
-returns c = let start = c .before .before .before .before .before .before .before .before .before .before .before in
+returns c =
+    let start = c .before .before .before .before .before .before .before .before .before .before .before in
     let s = start .args .g in
     let l = c .before .before .before .before .before .before .loop in
     let b = is-block s (start .pre .0) (l .j) (omega arith) in
     let first = c .before .before .before .before .wide .ensures ∙ b .firstIs in
     let size = c .before .before .before .wide2 .ensures ∙ b .sizeIs in
     let none = rw (c .enum-told .given .1) at (c .before .before .on-block .ensures) in
-    no-set (made-accepted s (start .pre .0)) (start .args .p .now) (start .args .z .now) (start .pre .1) (start .pre .2) (l .j) (omega (arith, made-blocks s (start .pre .0))) (rw (first, size) at none)
+    no-set (made-accepted s (start .pre .0)) (start .args .p .now) (start .args .z .now) (start .pre .1) (start .pre .2)
+    (l .j) (omega (arith, made-blocks s (start .pre .0))) (rw (first, size) at none)
 
 add-j : tie.Need-add-j Inv-loop μ-loop
 add-j c = search needs
@@ -75,7 +78,8 @@ loop-less : tie.Need-loop-less Inv-loop μ-loop
 loop-less c = omega arith
 
 loop-again : tie.Need-loop-again Inv-loop μ-loop
-loop-again c = let start = c .before .before .before .before .before .before .before .before .before .before .before .before in
+loop-again c =
+    let start = c .before .before .before .before .before .before .before .before .before .before .before .before in
     let s = start .args .g in
     let l = c .before .before .before .before .before .before .before .loop in
     let b = is-block s (start .pre .0) (l .j) (omega arith) in
@@ -86,11 +90,13 @@ loop-again c = let start = c .before .before .before .before .before .before .be
     (one-added (l .inv .0) (omega (arith, b .two)) (here .0) (here .1), omega arith, l .inv .2)
 
 returns-2 : tie.Need-returns-2 Inv-loop μ-loop
-returns-2 c = let start = c .before .before .before .before .before .before in
+returns-2 c =
+    let start = c .before .before .before .before .before .before in
     let s = start .args .g in
     let l = c .before .loop in
     let all-blocks : l .j ≡ numBlocks (shape s) = omega (arith, made-blocks s (start .pre .0)) in
-    whole-set (made-accepted s (start .pre .0)) (start .args .p .now) (start .args .z .now) (start .pre .1) (start .pre .2) (l .set) (rw all-blocks at (l .inv .0))
+    whole-set (made-accepted s (start .pre .0)) (start .args .p .now) (start .args .z .now) (start .pre .1)
+    (start .pre .2) (l .set) (rw all-blocks at (l .inv .0))
 
 pub set-from-spec : {M : Type 1} → statement M
 set-from-spec =

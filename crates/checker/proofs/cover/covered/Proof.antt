@@ -1,4 +1,5 @@
--- `cover::covered` meets its contract. The invariant: the labels and the zeros of the points from k on. The measure: the points left. Assumes nothing.
+-- `cover::covered` meets its contract. The invariant: the labels and the zeros of the points from k on. The measure:
+-- the points left. Assumes nothing.
 use mathlib.Core.Bool.{true}
 use mathlib.Core.List.{map}
 use mathlib.Core.Path.{_≡_, refl, sym, ap, _∙_}
@@ -16,7 +17,8 @@ use Rattle.chains.proofs.ListedPoints.{is-listed, on-grid}
 use Rattle.chains.proofs.Nestings.{left-none, one-more}
 use Rattle.chains.proofs.WholeSets.{point-long}
 use Rattle.chains.specs.Listed.{listedAt}
-use Rattle.checker.proofs.Covering.{Covering, copied, copied-point, none-covered, more-covered, all-covered, zeros-at}
+use Rattle.checker.proofs.Covering.{Covering, copied, copied-point, none-covered, more-covered, all-covered}
+use Rattle.checker.proofs.Covering.{zeros-at}
 use Rattle.checker.proofs.cover.covered.Statement.{statement}
 use Rattle.checker.proofs.cover.covered.Tie as tie
 
@@ -28,20 +30,32 @@ abbrev μ-loop : tie.MeasureT-loop
 μ-loop g binomials labels numbers count m labelled₀ zero₀ k₀ labelled zero k = k
 
 loop-holds : tie.Need-loop-holds Inv-loop μ-loop
-loop-holds c = let b = c .before .before in
-    (omega arith, rw (left-none (listedAt (b .args .g .indices) (b .args .numbers .now)) (b .args .count) (b .args .count) (omega arith)) (none-covered (made-accepted (b .args .g) (b .pre .0 .has .made) .fewIndices)))
+loop-holds c =
+    let b = c .before .before in (
+      omega arith,
+      rw
+          (left-none (listedAt (b .args .g .indices) (b .args .numbers .now)) (b .args .count) (b .args .count)
+          (omega arith))
+          (none-covered (made-accepted (b .args .g) (b .pre .0 .has .made) .fewIndices)),
+    )
 
 sub-k : tie.Need-sub-k Inv-loop μ-loop
 sub-k c = omega arith
 
 mul-at : tie.Need-mul-at Inv-loop μ-loop
-mul-at c = let b = c .before .before .before .before in omega (arith, is-listed (b .pre .0 .has) (c .before .loop .k - 1) (omega arith) .small)
+mul-at c =
+    let b = c .before .before .before .before in
+    omega (arith, is-listed (b .pre .0 .has) (c .before .loop .k - 1) (omega arith) .small)
 
 add-padded : tie.Need-add-padded Inv-loop μ-loop
-add-padded c = let b = c .before .before .before .before in omega (arith, is-listed (b .pre .0 .has) (c .before .loop .k - 1) (omega arith) .small)
+add-padded c =
+    let b = c .before .before .before .before in
+    omega (arith, is-listed (b .pre .0 .has) (c .before .loop .k - 1) (omega arith) .small)
 
 mul-padded : tie.Need-mul-padded Inv-loop μ-loop
-mul-padded c = let b = c .before .before .before .before in omega (arith, is-listed (b .pre .0 .has) (c .before .loop .k - 1) (omega arith) .small)
+mul-padded c =
+    let b = c .before .before .before .before in
+    omega (arith, is-listed (b .pre .0 .has) (c .before .loop .k - 1) (omega arith) .small)
 
 sub-padded : tie.Need-sub-padded Inv-loop μ-loop
 sub-padded c = omega arith
@@ -50,35 +64,46 @@ part-padded-start : tie.Need-part-padded-start Inv-loop μ-loop
 part-padded-start c = search needs
 
 part-padded-end : tie.Need-part-padded-end Inv-loop μ-loop
-part-padded-end c = let b = c .before .before .before .before in is-listed (b .pre .0 .has) (c .before .loop .k - 1) (omega arith) .room
+part-padded-end c =
+    let b = c .before .before .before .before in
+    is-listed (b .pre .0 .has) (c .before .loop .k - 1) (omega arith) .room
 
 padded-requires : tie.Need-padded-requires Inv-loop μ-loop
-padded-requires c κs = let b = c .before .before .before .before .before in
+padded-requires c κs =
+    let b = c .before .before .before .before .before in
     let k = c .before .before .loop .k - 1 in
     let z = listedAt (b .args .g .indices) (b .args .numbers .now) k in
-    let on = on-grid (b .pre .0) k (omega arith) in
-    (rw (is-listed (b .pre .0 .has) k (omega arith) .part) (omega (arith, point-long (shape (b .args .g)) z on, made-indices (b .args .g) (b .pre .0 .has .made))), indices-few (b .args .g) (b .pre .0 .has .made))
+    let on = on-grid (b .pre .0) k (omega arith) in (
+      rw (is-listed (b .pre .0 .has) k (omega arith) .part)
+          (omega (arith, point-long (shape (b .args .g)) z on, made-indices (b .args .g) (b .pre .0 .has .made))),
+      indices-few (b .args .g) (b .pre .0 .has .made),
+    )
 
 label-at-requires : tie.Need-label-at-requires Inv-loop μ-loop
-label-at-requires c κs = let b = c .before .before .before .before .before .before .before in
+label-at-requires c κs =
+    let b = c .before .before .before .before .before .before .before in
     let made = b .pre .0 .has .made in
     let k = c .before .before .before .before .loop .k - 1 in
     let z = listedAt (b .args .g .indices) (b .args .numbers .now) k in
     let on = on-grid (b .pre .0) k (omega arith) in
-    let is = copied (b .args .g) made z on _ (rw (is-listed (b .pre .0 .has) k (omega arith) .part) at (c .before .padded .ensures)) in
+    let is = copied (b .args .g) made z on _
+    (rw (is-listed (b .pre .0 .has) k (omega arith) .part) at (c .before .padded .ensures)) in
     (made, b .pre .1, b .pre .2, rw (copied-point (b .args .g) made z on _ is) on)
 
 with-label-requires : tie.Need-with-label-requires Inv-loop μ-loop
 with-label-requires c κs = c .label-at .ensures .1
 
 zeros-requires : tie.Need-zeros-requires Inv-loop μ-loop
-zeros-requires c κs = let b = c .before .before .before .before .before .before .before .before .before .before in indices-few (b .args .g) (b .pre .0 .has .made)
+zeros-requires c κs =
+    let b = c .before .before .before .before .before .before .before .before .before .before in
+    indices-few (b .args .g) (b .pre .0 .has .made)
 
 loop-less : tie.Need-loop-less Inv-loop μ-loop
 loop-less c = omega arith
 
 loop-again : tie.Need-loop-again Inv-loop μ-loop
-loop-again c = let b = c .before .before .before .before .before .before .before .before .before .before .before in
+loop-again c =
+    let b = c .before .before .before .before .before .before .before .before .before .before .before in
     let s = b .args .g in
     let numbers = b .args .numbers .now in
     let made = b .pre .0 .has .made in
@@ -87,12 +112,23 @@ loop-again c = let b = c .before .before .before .before .before .before .before
     let k = l .k - 1 in
     let z = listedAt (s .indices) numbers k in
     let on = on-grid (b .pre .0) k (omega arith) in
-    let is = copied s made z on _ (rw (is-listed (b .pre .0 .has) k (omega arith) .part) at (c .before .before .before .before .before .padded .ensures)) in
+    let is = copied s made z on _
+    (rw (is-listed (b .pre .0 .has) k (omega arith) .part)
+    at (c .before .before .before .before .before .padded .ensures)) in
     let next : k + 1 ≡ l .k = omega arith in
     let labelled = c .before .before .before .label-at .ensures in
     let name = rw (copied-point s made z on _ is) at (labelled .0) in
-    let zeros = zeros-at (s .indices) z _ (c .zeros .result) (indices-few s made) (point-long (shape s) z on ∙ sym (made-indices s made)) is (c .zeros .ensures) in
-    (omega arith, rw (one-more (listedAt (s .indices) numbers) k (b .args .count) (omega arith), next, c .before .before .with-label .ensures) (more-covered few z (c .zeros .result) (l .inv .1) name (labelled .1) (λ h x. zeros h (omega (arith, made-indices s made)))))
+    let zeros = zeros-at (s .indices) z _ (c .zeros .result) (indices-few s made)
+    (point-long (shape s) z on ∙ sym (made-indices s made)) is (c .zeros .ensures) in (
+      omega arith,
+      rw (
+        one-more (listedAt (s .indices) numbers) k (b .args .count) (omega arith),
+        next,
+        c .before .before .with-label .ensures,
+      )
+          (more-covered few z (c .zeros .result) (l .inv .1) name (labelled .1)
+          (λ h x. zeros h (omega (arith, made-indices s made)))),
+    )
 
 returns : tie.Need-returns Inv-loop μ-loop
 returns c = let b = c .before .before .before .before in

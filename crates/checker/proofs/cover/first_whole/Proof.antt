@@ -1,4 +1,5 @@
--- `cover::first_whole` meets its contract. The invariant: no block before j is whole. The measure: the blocks left. Assumes nothing.
+-- `cover::first_whole` meets its contract. The invariant: no block before j is whole. The measure: the blocks left.
+-- Assumes nothing.
 use mathlib.Core.Path.{_≡_, refl, sym, ap, _∙_}
 use Prim.Native.Nat.{_+_, _-_, _≤_}
 use borrow.Author.Needs.{needs}
@@ -11,14 +12,16 @@ use Rattle.grid.specs.Grid.{size}
 use Rattle.grid.specs.Made.{shape}
 use Rattle.simplices.specs.Simplices.{firstOf}
 use Rattle.chains.proofs.WholeSets.{is-block}
-use Rattle.checker.proofs.Covering.{whole-block, block-whole, first-of-blocks, first-stops, first-goes, first-ends}
+use Rattle.checker.proofs.Covering.{whole-block, block-whole, first-of-blocks, first-stops, first-goes}
+use Rattle.checker.proofs.Covering.{first-ends}
 use Rattle.checker.specs.Check.{caseOf}
 use Rattle.checker.proofs.cover.first_whole.Statement.{statement}
 use Rattle.checker.proofs.cover.first_whole.Tie as tie
 
 abbrev Inv-loop : tie.InvT-loop
-Inv-loop set firsts sizes blocks j₀ j =
-    (j ≤ blocks) × (blocks ≤ 6) × (firstOf (filter (whole-block (take blocks sizes) set) (upFrom 0 blocks)) ≡ firstOf (filter (whole-block (take blocks sizes) set) (upFrom j (blocks - j))))
+Inv-loop set firsts sizes blocks j₀ j = (j ≤ blocks) × (blocks ≤ 6)
+    × (firstOf (filter (whole-block (take blocks sizes) set) (upFrom 0 blocks))
+    ≡ firstOf (filter (whole-block (take blocks sizes) set) (upFrom j (blocks - j))))
 
 abbrev μ-loop : tie.MeasureT-loop
 μ-loop set firsts sizes blocks j₀ j = blocks - j
@@ -57,12 +60,17 @@ add-t18 : tie.Need-add-t18 Inv-loop μ-loop
 add-t18 c = omega arith
 
 returns : tie.Need-returns Inv-loop μ-loop
-returns c = let b = c .before .before .before .before .before .before .before .before in
+returns c =
+    let b = c .before .before .before .before .before .before .before .before in
     let s = b .args .g in
     let l = c .before .before .before .before .before .loop in
     let i = is-block s (b .pre) (l .j) (omega arith) in
-    let found = block-whole (shape s .sizes) (b .args .set) (l .j) _ _ (c .before .before .before .wide .ensures ∙ i .firstIs) (ap (λ n. c .before .before .before .wide .result + n) (c .before .before .wide2 .ensures ∙ i .sizeIs)) (c .before .has-all .ensures) in
-    let first = first-stops (whole-block (shape s .sizes) (b .args .set)) (l .j) (s .blocks) (omega arith) (l .inv .2) (sym found ∙ c .if1 .taken) in
+    let found = block-whole (shape s .sizes) (b .args .set) (l .j) _ _
+    (c .before .before .before .wide .ensures ∙ i .firstIs)
+    (ap (λ n. c .before .before .before .wide .result + n) (c .before .before .wide2 .ensures ∙ i .sizeIs))
+    (c .before .has-all .ensures) in
+    let first = first-stops (whole-block (shape s .sizes) (b .args .set)) (l .j) (s .blocks) (omega arith) (l .inv .2)
+    (sym found ∙ c .if1 .taken) in
     rw (add-one (l .j)) (ap caseOf (first-of-blocks s (b .pre) (b .args .set) first))
 
 add-j : tie.Need-add-j Inv-loop μ-loop
@@ -72,18 +80,28 @@ loop-less : tie.Need-loop-less Inv-loop μ-loop
 loop-less c = omega arith
 
 loop-again : tie.Need-loop-again Inv-loop μ-loop
-loop-again c = let b = c .before .before .before .before .before .before .before .before in
+loop-again c =
+    let b = c .before .before .before .before .before .before .before .before in
     let s = b .args .g in
     let l = c .before .before .before .before .before .loop in
     let i = is-block s (b .pre) (l .j) (omega arith) in
-    let found = block-whole (shape s .sizes) (b .args .set) (l .j) _ _ (c .before .before .before .wide .ensures ∙ i .firstIs) (ap (λ n. c .before .before .before .wide .result + n) (c .before .before .wide2 .ensures ∙ i .sizeIs)) (c .before .has-all .ensures) in
-    (omega arith, omega arith, first-goes (whole-block (shape s .sizes) (b .args .set)) (l .j) (s .blocks) (omega arith) (l .inv .2) (sym found ∙ c .if1 .left))
+    let found = block-whole (shape s .sizes) (b .args .set) (l .j) _ _
+    (c .before .before .before .wide .ensures ∙ i .firstIs)
+    (ap (λ n. c .before .before .before .wide .result + n) (c .before .before .wide2 .ensures ∙ i .sizeIs))
+    (c .before .has-all .ensures) in (
+      omega arith,
+      omega arith,
+      first-goes (whole-block (shape s .sizes) (b .args .set)) (l .j) (s .blocks) (omega arith) (l .inv .2)
+          (sym found ∙ c .if1 .left),
+    )
 
 returns-2 : tie.Need-returns-2 Inv-loop μ-loop
-returns-2 c = let b = c .before .before .before .before in
+returns-2 c =
+    let b = c .before .before .before .before in
     let l = c .before .loop in
     let s = b .args .g in
-    ap caseOf (first-of-blocks s (b .pre) (b .args .set) (first-ends (whole-block (shape s .sizes) (b .args .set)) (l .j) (s .blocks) (omega arith) (l .inv .2)))
+    ap caseOf (first-of-blocks s (b .pre) (b .args .set)
+    (first-ends (whole-block (shape s .sizes) (b .args .set)) (l .j) (s .blocks) (omega arith) (l .inv .2)))
 
 pub first-whole-spec : {M : Type 1} → statement M
 first-whole-spec =

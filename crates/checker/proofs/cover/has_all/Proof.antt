@@ -1,4 +1,5 @@
--- `cover::has_all` meets its contract. The invariant: what is asked of the indices from h on. The measure: the indices left. Assumes nothing.
+-- `cover::has_all` meets its contract. The invariant: what is asked of the indices from h on. The measure: the indices
+-- left. Assumes nothing.
 use mathlib.Core.Path.{_≡_, refl, sym, _∙_}
 use Prim.Native.Nat.{_-_, _≤_}
 use borrow.Author.Needs.{needs}
@@ -12,7 +13,8 @@ use Rattle.checker.proofs.cover.has_all.Statement.{statement}
 use Rattle.checker.proofs.cover.has_all.Tie as tie
 
 abbrev Inv-loop : tie.InvT-loop
-Inv-loop set first end h₀ h = (first ≤ h) × (end ≤ 16) × (all (bit set) (upFrom first (end - first)) ≡ all (bit set) (upFrom h (end - h)))
+Inv-loop set first end h₀ h =
+    (first ≤ h) × (end ≤ 16) × (all (bit set) (upFrom first (end - first)) ≡ all (bit set) (upFrom h (end - h)))
 
 abbrev μ-loop : tie.MeasureT-loop
 μ-loop set first end h₀ h = end - h
@@ -24,8 +26,11 @@ has-requires : tie.Need-has-requires Inv-loop μ-loop
 has-requires c κs = omega arith
 
 returns : tie.Need-returns Inv-loop μ-loop
-returns c = let l = c .before .before .before .loop in
-    range-stops (bit (c .before .before .before .before .args .set)) (l .h) (c .before .before .before .before .args .end) (omega arith) (l .inv .2) (sym (c .before .has .ensures) ∙ not-true _ (c .if1 .taken))
+returns c =
+    let l = c .before .before .before .loop in
+    range-stops (bit (c .before .before .before .before .args .set)) (l .h)
+    (c .before .before .before .before .args .end) (omega arith) (l .inv .2)
+    (sym (c .before .has .ensures) ∙ not-true _ (c .if1 .taken))
 
 add-h : tie.Need-add-h Inv-loop μ-loop
 add-h c = omega arith
@@ -34,14 +39,18 @@ loop-less : tie.Need-loop-less Inv-loop μ-loop
 loop-less c = omega arith
 
 loop-again : tie.Need-loop-again Inv-loop μ-loop
-loop-again c = let l = c .before .before .before .loop in (
-  omega arith,
-  omega arith,
-  range-goes (bit (c .before .before .before .before .args .set)) (l .h) (c .before .before .before .before .args .end) (omega arith) (l .inv .2) (sym (c .before .has .ensures) ∙ not-false _ (c .if1 .left)),
-)
+loop-again c =
+    let l = c .before .before .before .loop in (
+      omega arith,
+      omega arith,
+      range-goes (bit (c .before .before .before .before .args .set)) (l .h)
+          (c .before .before .before .before .args .end) (omega arith) (l .inv .2)
+          (sym (c .before .has .ensures) ∙ not-false _ (c .if1 .left)),
+    )
 
 returns-2 : tie.Need-returns-2 Inv-loop μ-loop
-returns-2 c = sym (c .before .loop .inv .2 ∙ rw (range-none (c .before .loop .h) (c .before .before .args .end) (omega arith)))
+returns-2 c =
+    sym (c .before .loop .inv .2 ∙ rw (range-none (c .before .loop .h) (c .before .before .args .end) (omega arith)))
 
 pub has-all-spec : {M : Type 1} → statement M
 has-all-spec =

@@ -1,4 +1,5 @@
--- `cover::label_at` meets its contract: no steps lead from the point to itself, and its position is below the table's length. Assumes nothing.
+-- `cover::label_at` meets its contract: no steps lead from the point to itself, and its position is below the table's
+-- length. Assumes nothing.
 use mathlib.Core.Path.{_≡_, refl, sym, ap, _∙_}
 use Prim.Native.Nat.{ℕ, _≤_}
 use borrow.Author.Tests.{leb-true}
@@ -21,21 +22,27 @@ position-requires c κs = let b = c .before .before in
     (b .pre .0, b .pre .2, can-stay s (b .pre .0) y (b .pre .3), stays-on-grid s (b .pre .0) y (b .pre .3))
 
 read-at-requires : tie.Need-read-at-requires
-read-at-requires c κs = let b = c .before .before .before in
+read-at-requires c κs =
+    let b = c .before .before .before in
     let s = b .args .g in
     let y = b .args .y .now in
-    let is : c .position .result ≡ position (shape s) (take (s .indices) y) = same-position s (b .pre .0) y (b .pre .3) _ (c .position .ensures) in
+    let is : c .position .result ≡ position (shape s) (take (s .indices) y) =
+    same-position s (b .pre .0) y (b .pre .3) _ (c .position .ensures) in
     omega (arith, label-inside s (b .pre .0) y (b .pre .3) (b .args .labels .now) (b .pre .1 .whole))
 
 returns : tie.Need-returns
 unfolding label
-returns c = let b = c .before .before .before .before in
+returns c =
+    let b = c .before .before .before .before in
     let s = b .args .g in
     let y = b .args .y .now in
     let labels = b .args .labels .now in
-    let is : c .before .position .result ≡ position (shape s) (take (s .indices) y) = same-position s (b .pre .0) y (b .pre .3) _ (c .before .position .ensures) in
+    let is : c .before .position .result ≡ position (shape s) (take (s .indices) y) =
+    same-position s (b .pre .0) y (b .pre .3) _ (c .before .position .ensures) in
     let low = label-inside s (b .pre .0) y (b .pre .3) labels (b .pre .1 .whole) in
-    let most = leb-true (getD labels (position (shape s) (take (s .indices) y)) 0) (numIndices (shape s)) (at-all (λ l. leb l (numIndices (shape s))) labels (position (shape s) (take (s .indices) y)) (b .pre .1 .within) low) in
+    let most = leb-true (getD labels (position (shape s) (take (s .indices) y)) 0) (numIndices (shape s))
+    (at-all (λ l. leb l (numIndices (shape s))) labels (position (shape s) (take (s .indices) y)) (b .pre .1 .within)
+    low) in
     rw (c .read-at .ensures, is) (refl, omega (arith, most, made-accepted s (b .pre .0) .fewIndices))
 
 pub label-at-spec : {M : Type 1} → statement M

@@ -1,4 +1,5 @@
--- `refusals::all_on_grid` meets its contract. The invariant: what is asked of the points from k on. The measure: the points left. Assumes nothing.
+-- `refusals::all_on_grid` meets its contract. The invariant: what is asked of the points from k on. The measure: the
+-- points left. Assumes nothing.
 use mathlib.Core.List.{List, map}
 use mathlib.Core.Path.{_≡_, sym, _∙_}
 use Prim.Native.Nat.{_-_, _≤_}
@@ -15,8 +16,9 @@ use Rattle.checker.proofs.refusals.all_on_grid.Statement.{statement}
 use Rattle.checker.proofs.refusals.all_on_grid.Tie as tie
 
 abbrev Inv-loop : tie.InvT-loop
-Inv-loop g numbers count m k₀ k =
-    (k ≤ count) × (all (isGridPoint (shape g)) (listed (g .indices) count numbers) ≡ all (isGridPoint (shape g)) (map (listedAt (g .indices) numbers) (upFrom k (count - k))))
+Inv-loop g numbers count m k₀ k = (k ≤ count)
+    × (all (isGridPoint (shape g)) (listed (g .indices) count numbers)
+    ≡ all (isGridPoint (shape g)) (map (listedAt (g .indices) numbers) (upFrom k (count - k))))
 
 abbrev μ-loop : tie.MeasureT-loop
 μ-loop g numbers count m k₀ k = count - k
@@ -28,10 +30,12 @@ mul-at : tie.Need-mul-at Inv-loop μ-loop
 mul-at c = omega (arith, is-listed (c .before .before .before .pre) (c .before .loop .k) (omega arith) .small)
 
 add-is-grid-point : tie.Need-add-is-grid-point Inv-loop μ-loop
-add-is-grid-point c = omega (arith, is-listed (c .before .before .before .pre) (c .before .loop .k) (omega arith) .small)
+add-is-grid-point c =
+    omega (arith, is-listed (c .before .before .before .pre) (c .before .loop .k) (omega arith) .small)
 
 mul-is-grid-point : tie.Need-mul-is-grid-point Inv-loop μ-loop
-mul-is-grid-point c = omega (arith, is-listed (c .before .before .before .pre) (c .before .loop .k) (omega arith) .small)
+mul-is-grid-point c =
+    omega (arith, is-listed (c .before .before .before .pre) (c .before .loop .k) (omega arith) .small)
 
 sub-is-grid-point : tie.Need-sub-is-grid-point Inv-loop μ-loop
 sub-is-grid-point c = omega arith
@@ -46,12 +50,13 @@ is-grid-point-requires : tie.Need-is-grid-point-requires Inv-loop μ-loop
 is-grid-point-requires c κs = c .before .before .before .before .pre .made
 
 returns : tie.Need-returns Inv-loop μ-loop
-returns c = let b = c .before .before .before .before .before .before in
+returns c =
+    let b = c .before .before .before .before .before .before in
     let a = b .args in
     let l = c .before .before .before .before .loop in
     let i = is-listed (b .pre) (l .k) (omega arith) in
-    all-stops (listedAt (a .g .indices) (a .numbers .now)) (l .k) (a .count) (omega arith) (isGridPoint (shape (a .g))) (l .inv .1)
-    (sym (rw (i .part) at (c .before .is-grid-point .ensures)) ∙ not-true _ (c .if1 .taken))
+    all-stops (listedAt (a .g .indices) (a .numbers .now)) (l .k) (a .count) (omega arith) (isGridPoint (shape (a .g)))
+    (l .inv .1) (sym (rw (i .part) at (c .before .is-grid-point .ensures)) ∙ not-true _ (c .if1 .taken))
 
 add-k : tie.Need-add-k Inv-loop μ-loop
 add-k c = omega arith
@@ -60,13 +65,14 @@ loop-less : tie.Need-loop-less Inv-loop μ-loop
 loop-less c = omega arith
 
 loop-again : tie.Need-loop-again Inv-loop μ-loop
-loop-again c = let b = c .before .before .before .before .before .before in
+loop-again c =
+    let b = c .before .before .before .before .before .before in
     let a = b .args in
     let l = c .before .before .before .before .loop in
     let i = is-listed (b .pre) (l .k) (omega arith) in (
       omega arith,
-      all-goes (listedAt (a .g .indices) (a .numbers .now)) (l .k) (a .count) (omega arith) (isGridPoint (shape (a .g))) (l .inv .1)
-          (sym (rw (i .part) at (c .before .is-grid-point .ensures)) ∙ not-false _ (c .if1 .left)),
+      all-goes (listedAt (a .g .indices) (a .numbers .now)) (l .k) (a .count) (omega arith) (isGridPoint (shape (a .g)))
+          (l .inv .1) (sym (rw (i .part) at (c .before .is-grid-point .ensures)) ∙ not-false _ (c .if1 .left)),
     )
 
 returns-2 : tie.Need-returns-2 Inv-loop μ-loop

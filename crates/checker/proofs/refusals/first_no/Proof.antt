@@ -10,8 +10,10 @@ use Rattle.checker.proofs.refusals.first_no.Statement.{statement}
 use Rattle.checker.proofs.refusals.first_no.Tie as tie
 
 returns : tie.Need-returns
-returns c = let b = c .before .before .before .before in
-    no-length (shape (b .args .g)) (b .args .labels .now) (b .args .numbers .now) (λ e. c .if1 .taken (e ∙ sym (made-points (b .args .g) (b .pre))))
+returns c =
+    let b = c .before .before .before .before in
+    no-length (shape (b .args .g)) (b .args .labels .now) (b .args .numbers .now)
+    (λ e. c .if1 .taken (e ∙ sym (made-points (b .args .g) (b .pre))))
 
 cast-all-at-most : tie.Need-cast-all-at-most
 cast-all-at-most c = let b = c .before .before .before .before in omega (arith, indices-few (b .args .g) (b .pre))
@@ -20,23 +22,31 @@ all-at-most-requires : tie.Need-all-at-most-requires
 all-at-most-requires c κs = search needs
 
 returns-2 : tie.Need-returns-2
-returns-2 c = let b = c .before .before .before .before .before .before in
-    no-label (shape (b .args .g)) (b .args .labels .now) (b .args .numbers .now) (c .before .before .if1 .left ∙ made-points (b .args .g) (b .pre))
+returns-2 c =
+    let b = c .before .before .before .before .before .before in
+    no-label (shape (b .args .g)) (b .args .labels .now) (b .args .numbers .now)
+    (c .before .before .if1 .left ∙ made-points (b .args .g) (b .pre))
     (rw (← made-indices (b .args .g) (b .pre)) (sym (c .before .all-at-most .ensures) ∙ not-true _ (c .if2 .taken)))
 
 is-list-requires : tie.Need-is-list-requires
 is-list-requires c κs = search needs
 
 returns-3 : tie.Need-returns-3
-returns-3 c = let b = c .before .before .before .before .before .before .before .before in
-    no-list (shape (b .args .g)) (b .args .labels .now) (b .args .numbers .now) (c .before .before .before .before .if1 .left ∙ made-points (b .args .g) (b .pre))
-    (rw (← made-indices (b .args .g) (b .pre)) (sym (c .before .before .before .all-at-most .ensures) ∙ not-false _ (c .before .before .if2 .left)))
+returns-3 c =
+    let b = c .before .before .before .before .before .before .before .before in
+    no-list (shape (b .args .g)) (b .args .labels .now) (b .args .numbers .now)
+    (c .before .before .before .before .if1 .left ∙ made-points (b .args .g) (b .pre))
+    (rw (← made-indices (b .args .g) (b .pre))
+    (sym (c .before .before .before .all-at-most .ensures) ∙ not-false _ (c .before .before .if2 .left)))
     (sym (c .before .is-list .ensures) ∙ not-true _ (c .if3 .taken))
 
 returns-4 : tie.Need-returns-4
-returns-4 c = let b = c .before .before .before .before .before .before .before .before in
-    none-no (shape (b .args .g)) (b .args .labels .now) (b .args .numbers .now) (c .before .before .before .before .if1 .left ∙ made-points (b .args .g) (b .pre))
-    (rw (← made-indices (b .args .g) (b .pre)) (sym (c .before .before .before .all-at-most .ensures) ∙ not-false _ (c .before .before .if2 .left)))
+returns-4 c =
+    let b = c .before .before .before .before .before .before .before .before in
+    none-no (shape (b .args .g)) (b .args .labels .now) (b .args .numbers .now)
+    (c .before .before .before .before .if1 .left ∙ made-points (b .args .g) (b .pre))
+    (rw (← made-indices (b .args .g) (b .pre))
+    (sym (c .before .before .before .all-at-most .ensures) ∙ not-false _ (c .before .before .if2 .left)))
     (sym (c .before .is-list .ensures) ∙ not-false _ (c .if3 .left))
 
 pub first-no-spec : {M : Type 1} → statement M

@@ -8,7 +8,8 @@ use native.Mathlib.Omega.{arith}
 use Rattle.grid.proofs.Fields.{made-indices}
 use Rattle.grid.specs.Grid.{numIndices}
 use Rattle.grid.specs.Made.{shape}
-use Rattle.checker.proofs.ListRefusals.{list-empty, list-parted, list-long, list-points, some-index, fewer-blocks, most-is, most-few}
+use Rattle.checker.proofs.ListRefusals.{list-empty, list-parted, list-long, list-points, some-index}
+use Rattle.checker.proofs.ListRefusals.{fewer-blocks, most-is, most-few}
 use Rattle.checker.specs.Check.{wholePoints}
 use Rattle.checker.proofs.refusals.is_list.Statement.{statement}
 use Rattle.checker.proofs.refusals.is_list.Tie as tie
@@ -24,8 +25,10 @@ mul-if2 : tie.Need-mul-if2
 mul-if2 c = fits-le (div-mul-le-self _ _) (omega arith)
 
 returns-2 : tie.Need-returns-2
-returns-2 c = let b = c .before .before .before in
-    list-parted (shape (b .args .g)) (b .args .numbers .now) (omega arith) (rw (← made-indices (b .args .g) (b .pre)) (c .if2 .taken))
+returns-2 c =
+    let b = c .before .before .before in
+    list-parted (shape (b .args .g)) (b .args .numbers .now) (omega arith)
+    (rw (← made-indices (b .args .g) (b .pre)) (c .if2 .taken))
 
 sub-if3 : tie.Need-sub-if3
 sub-if3 c = fewer-blocks (c .before .before .before .before .args .g) (c .before .before .before .before .pre)
@@ -35,8 +38,10 @@ add-if3 c = let b = c .before .before .before .before in
     omega (arith, most-is (b .args .g) (b .pre), most-few (b .args .g) (b .pre))
 
 returns-3 : tie.Need-returns-3
-returns-3 c = let b = c .before .before .before .before .before in
-    list-long (shape (b .args .g)) (b .args .numbers .now) (omega arith) (rw (← made-indices (b .args .g) (b .pre)) (c .before .before .if2 .left))
+returns-3 c =
+    let b = c .before .before .before .before .before in
+    list-long (shape (b .args .g)) (b .args .numbers .now) (omega arith)
+    (rw (← made-indices (b .args .g) (b .pre)) (c .before .before .if2 .left))
     (rw (← most-is (b .args .g) (b .pre), ← made-indices (b .args .g) (b .pre)) (c .if3 .taken))
 
 all-on-grid-requires : tie.Need-all-on-grid-requires
@@ -48,9 +53,11 @@ all-on-grid-requires c κs = let b = c .before .before .before .before .before i
     }
 
 returns-4 : tie.Need-returns-4
-returns-4 c = let b = c .before .before .before .before .before .before in
+returns-4 c =
+    let b = c .before .before .before .before .before .before in
     rw (made-indices (b .args .g) (b .pre)) at (c .all-on-grid .ensures)
-    ∙ list-points (shape (b .args .g)) (b .args .numbers .now) (omega arith) (rw (← made-indices (b .args .g) (b .pre)) (c .before .before .before .if2 .left))
+    ∙ list-points (shape (b .args .g)) (b .args .numbers .now) (omega arith)
+    (rw (← made-indices (b .args .g) (b .pre)) (c .before .before .before .if2 .left))
     (rw (← most-is (b .args .g) (b .pre), ← made-indices (b .args .g) (b .pre)) (c .before .if3 .left))
 
 pub is-list-spec : {M : Type 1} → statement M

@@ -17,7 +17,10 @@ use Rattle.corners.proofs.labels.add_rows.Statement.{statement}
 use Rattle.corners.proofs.labels.add_rows.Tie as tie
 
 abbrev Inv-loop : tie.InvT-loop
-Inv-loop totals₀ mix rows count k₀ totals k = ((h : ℕ) → h < count → (entry totals h ≡ column (take k mix) rows h) × (natAbs (entry totals h) ≤ k * 281474976710656)) × (k ≤ length mix) × (length totals ≡ 16)
+Inv-loop totals₀ mix rows count k₀ totals k =
+    ((h : ℕ) → h < count
+    → (entry totals h ≡ column (take k mix) rows h) × (natAbs (entry totals h) ≤ k * 281474976710656))
+    × (k ≤ length mix) × (length totals ≡ 16)
 
 abbrev μ-loop : tie.MeasureT-loop
 μ-loop totals₀ mix rows count k₀ totals k = length mix - k
@@ -50,15 +53,25 @@ module _ (c : tie.After-shared-slice-known2 Inv-loop μ-loop) where
   row = take (length rows - k * 16) (drop (k * 16) rows)
 
   number : (h : ℕ) → entry row h ≡ entry rows (k * 16 + h)
-  number h = rw (take-all (length rows - k * 16) (drop (k * 16) rows) (omega (arith, length-drop (k * 16) rows))) (getD-drop (k * 16) rows h (pos 0))
+  number h = rw (take-all (length rows - k * 16) (drop (k * 16) rows) (omega (arith, length-drop (k * 16) rows)))
+      (getD-drop (k * 16) rows h (pos 0))
 
-  low : (h : ℕ) → h < s .args .count → natAbs (entry totals h) + natAbs (toZ w64 x) * natAbs (entry row h) ≤ (k + 1) * 281474976710656
-  low h b = rw (number h, x-is) (total-low (natAbs (entry totals h)) x (natAbs (entry rows (k * 16 + h))) k (c .before .before .before .loop .inv .0 h b .1) x-low (s .pre .1 .low k h (omega arith) b))
+  low : (h : ℕ) → h < s .args .count
+      → natAbs (entry totals h) + natAbs (toZ w64 x) * natAbs (entry row h) ≤ (k + 1) * 281474976710656
+  low h b = rw (number h, x-is)
+      (total-low (natAbs (entry totals h)) x (natAbs (entry rows (k * 16 + h))) k
+      (c .before .before .before .loop .inv .0 h b .1) x-low (s .pre .1 .low k h (omega arith) b))
 
 loop-holds : tie.Need-loop-holds Inv-loop μ-loop
 loop-holds c =
-    let p = c .before .pre in
-    ((λ h b. let e : entry (c .before .args .totals .now) h ≡ pos 0 = rw (p .0) (getD-replicate 16 h (pos 0) (pos 0) (omega (arith, p .1 .few))) in (e, rw e (omega arith))), omega arith, ap length (p .0))
+    let p = c .before .pre in (
+      (λ h b.
+          let e : entry (c .before .args .totals .now) h ≡ pos 0 =
+          rw (p .0) (getD-replicate 16 h (pos 0) (pos 0) (omega (arith, p .1 .few))) in
+          (e, rw e (omega arith))),
+      omega arith,
+      ap length (p .0),
+    )
 
 mul-add-times : tie.Need-mul-add-times Inv-loop μ-loop
 mul-add-times c = omega arith
@@ -106,7 +119,12 @@ loop-again c =
     let w = c .before .before in
     let l = w .before .before .before .loop in
     let e = c .add-times .ensures .1 in (
-      (λ h b. (e h b ∙ rw (number w h, x-is w, l .inv .0 h b .0) (sym (column-next (s w .args .mix .now) (rows w) (k w) h (omega arith))), rw (e h b) (omega (arith, low w h b, weighed-low (entry (totals w) h) (toZ w64 (x w)) (entry (row w) h))))),
+      (λ h b. (
+        e h b
+            ∙ rw (number w h, x-is w, l .inv .0 h b .0)
+            (sym (column-next (s w .args .mix .now) (rows w) (k w) h (omega arith))),
+        rw (e h b) (omega (arith, low w h b, weighed-low (entry (totals w) h) (toZ w64 (x w)) (entry (row w) h))),
+      )),
       omega arith,
       c .add-times .ensures .0,
     )

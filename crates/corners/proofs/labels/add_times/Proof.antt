@@ -91,7 +91,16 @@ loop-again : tie.Need-loop-again Inv-loop μ-loop
 loop-again c =
     let l = c .before .before .before .loop in
     let a = s c .args in (
-      added-turn (a .totals .now) (a .row .now) _ (l .h) (l .totals) _ (omega arith) (rw (x-is c, number-is c, total-is c, toZ-ofZ {w = w64} (product-fits c), toZ-ofZ {w = w64} (sum-fits c), l .inv .0 .left (l .h) (omega arith))) (l .inv .0),
+      added-turn (a .totals .now) (a .row .now) _ (l .h) (l .totals) _ (omega arith)
+          (rw (
+            x-is c,
+            number-is c,
+            total-is c,
+            toZ-ofZ {w = w64} (product-fits c),
+            toZ-ofZ {w = w64} (sum-fits c),
+            l .inv .0 .left (l .h) (omega arith),
+          ))
+          (l .inv .0),
       omega arith,
       simp length-set (l .inv .2),
     )

@@ -24,7 +24,10 @@ returns : tie.Need-returns
 returns c =
     let a = c .before .before .before .before .before .args in
     let t = c .before .before .add-rows in
-    add-one (c .first-largest .result) ∙ ap suc (c .first-largest .ensures .0 ∙ largest-agree (entry (t .last .0)) (column (a .mix .now) (a .differences .now)) (a .count) (t .ensures))
+    add-one (c .first-largest .result)
+    ∙ ap suc
+    (c .first-largest .ensures .0
+    ∙ largest-agree (entry (t .last .0)) (column (a .mix .now) (a .differences .now)) (a .count) (t .ensures))
 
 pub label-point-spec : {M : Type 1} → statement M
 label-point-spec =

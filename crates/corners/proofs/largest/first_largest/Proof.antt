@@ -12,7 +12,8 @@ use Rattle.corners.proofs.largest.first_largest.Statement.{statement}
 use Rattle.corners.proofs.largest.first_largest.Tie as tie
 
 abbrev Inv-loop : tie.InvT-loop
-Inv-loop differences count best₀ most₀ h₀ best most h = Leads (entry differences) best (toZ w64 most) h × (1 ≤ h) × (h ≤ count)
+Inv-loop differences count best₀ most₀ h₀ best most h =
+    Leads (entry differences) best (toZ w64 most) h × (1 ≤ h) × (h ≤ count)
 
 abbrev μ-loop : tie.MeasureT-loop
 μ-loop differences count best₀ most₀ h₀ best most h = count - h
@@ -21,7 +22,11 @@ element-copy-out-most : tie.Need-element-copy-out-most Inv-loop μ-loop
 element-copy-out-most c = omega arith
 
 loop-holds : tie.Need-loop-holds Inv-loop μ-loop
-loop-holds c = (leads-start (entry (c .before .args .differences .now)) _ (toZ-ofZ {w = w64} (record { sfits = c .most .given })), omega arith, omega arith)
+loop-holds c = (
+  leads-start (entry (c .before .args .differences .now)) _ (toZ-ofZ {w = w64} (record { sfits = c .most .given })),
+  omega arith,
+  omega arith,
+)
 
 mul-d : tie.Need-mul-d Inv-loop μ-loop
 mul-d c = omega arith
@@ -52,8 +57,10 @@ returns : tie.Need-returns Inv-loop μ-loop
 returns c =
     let l = c .before .loop in
     let a = c .before .before .before .args in
-    let e : l .h ≡ a .count = omega arith in
-    (sym (leads-end (entry (a .differences .now)) (l .best) _ (a .count) (rw e at (l .inv .0))), omega (arith, l .inv .0 .inside))
+    let e : l .h ≡ a .count = omega arith in (
+      sym (leads-end (entry (a .differences .now)) (l .best) _ (a .count) (rw e at (l .inv .0))),
+      omega (arith, l .inv .0 .inside),
+    )
 
 pub first-largest-spec : {M : Type 1} → statement M
 first-largest-spec =

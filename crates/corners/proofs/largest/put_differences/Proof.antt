@@ -19,7 +19,8 @@ abbrev IsDifference : List ℕ → List ℕ → ℕ → ℤ → Type 0
 IsDifference expected replaced i z = (z ≡ pos (at expected i) -ℤ pos (at replaced i)) × (natAbs z < 4294967296)
 
 abbrev Inv-loop : tie.InvT-loop
-Inv-loop differences₀ expected replaced h₀ differences h = ((i : ℕ) → i < h → IsDifference expected replaced i (entry differences i)) × (h ≤ 16) × (length differences ≡ 16)
+Inv-loop differences₀ expected replaced h₀ differences h =
+    ((i : ℕ) → i < h → IsDifference expected replaced i (entry differences i)) × (h ≤ 16) × (length differences ≡ 16)
 
 abbrev μ-loop : tie.MeasureT-loop
 μ-loop differences₀ expected replaced h₀ differences h = 16 - h
@@ -59,8 +60,12 @@ loop-again c =
     let l = c .before .before .before .before .loop in
     let a = c .before .before .before .before .before .args in
     let d = c .difference in
-    let z : toZ w64 (ofZ w64 (d .result)) ≡ d .result = toZ-ofZ {w = w64} (record { sfits = d .ok }) in
-    (entry-next (IsDifference (a .expected .now) (a .replaced .now)) (l .differences) (l .h) _ (omega arith) (l .inv .0) (rw z (d .ensures)), omega arith, simp length-set (l .inv .2))
+    let z : toZ w64 (ofZ w64 (d .result)) ≡ d .result = toZ-ofZ {w = w64} (record { sfits = d .ok }) in (
+      entry-next (IsDifference (a .expected .now) (a .replaced .now)) (l .differences) (l .h) _ (omega arith)
+          (l .inv .0) (rw z (d .ensures)),
+      omega arith,
+      simp length-set (l .inv .2),
+    )
 
 same-length : tie.Need-same-length Inv-loop μ-loop
 same-length c = omega arith

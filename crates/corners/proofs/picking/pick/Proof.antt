@@ -28,7 +28,10 @@ low : (c : tie.After-strategy Inv-loop μ-loop) → c .strategy .result < 162
 low c =
     let a = c .before .before .before .before .before .before .args in
     let e = c .strategy .ensures in
-    ⊎-elim (λ s. omega (arith, rw (eq-eqb (c .before .wide .result) (a .last) s) at e)) (λ n. omega (arith, rw (ne-eqb (c .before .wide .result) (a .last) n) at e)) (same-or (c .before .wide .result) (a .last))
+    ⊎-elim
+    (λ s. omega (arith, rw (eq-eqb (c .before .wide .result) (a .last) s) at e))
+    (λ n. omega (arith, rw (ne-eqb (c .before .wide .result) (a .last) n) at e))
+    (same-or (c .before .wide .result) (a .last))
 
 loop-holds : tie.Need-loop-holds Inv-loop μ-loop
 loop-holds c = ((λ i b. absurd (omega arith)), omega arith, omega arith)
@@ -76,8 +79,15 @@ loop-again : tie.Need-loop-again Inv-loop μ-loop
 loop-again c =
     let l = c .before .before .before .before .before .loop in
     let a = c .before .before .before .before .before .before .before .args in
-    let e : (a .last * 16 + l .h) * 162 + c .before .strategy .result ≡ place (a .last) (l .h) + cond (eqb (at (a .owners .now) (l .h)) (a .last)) 0 (a .k) = ap (λ (n : ℕ). place (a .last) (l .h) + n) (c .before .strategy .ensures ∙ rw (c .before .before .wide .ensures)) in
-    (entries-turn (pickedAt (a .owners .now) (a .levels .now) (a .last) (a .k)) (l .values) (l .h) _ (omega arith) (ap (at (a .levels .now)) e) (l .inv .0), omega arith, simp length-set (l .inv .2))
+    let e : (a .last * 16 + l .h) * 162 + c .before .strategy .result
+    ≡ place (a .last) (l .h) + cond (eqb (at (a .owners .now) (l .h)) (a .last)) 0 (a .k) =
+    ap (λ (n : ℕ). place (a .last) (l .h) + n)
+    (c .before .strategy .ensures ∙ rw (c .before .before .wide .ensures)) in (
+      entries-turn (pickedAt (a .owners .now) (a .levels .now) (a .last) (a .k)) (l .values) (l .h) _ (omega arith)
+          (ap (at (a .levels .now)) e) (l .inv .0),
+      omega arith,
+      simp length-set (l .inv .2),
+    )
 
 returns : tie.Need-returns Inv-loop μ-loop
 returns c =

@@ -37,8 +37,11 @@ loop-less c = omega arith
 
 loop-again : tie.Need-loop-again Inv-loop μ-loop
 loop-again c =
-    let l = c .before .before .loop in
-    (rw (l .inv .0) (front-copy (c .before .before .before .args .point .now) (replicate 16 0) (l .i) (omega arith) (omega arith)), omega arith)
+    let l = c .before .before .loop in (
+      rw (l .inv .0) (front-copy (c .before .before .before .args .point .now) (replicate 16 0) (l .i) (omega arith)
+          (omega arith)),
+      omega arith,
+    )
 
 mul-corner-3 : tie.Need-mul-corner-3 Inv-loop μ-loop
 mul-corner-3 c = omega arith

@@ -14,7 +14,8 @@ use Rattle.corners.proofs.weighing.weigh_corners.Tie as tie
 
 abbrev Inv-loop : tie.InvT-loop
 Inv-loop sizes ones firsts owners point levels differences₀ size k₀ differences k =
-    ((t : List ℕ) → StandTo (lent sizes ones) t point (lastPlayer (lent sizes ones)) levels → Cornered (lent sizes ones) t point k differences)
+    ((t : List ℕ) → StandTo (lent sizes ones) t point (lastPlayer (lent sizes ones)) levels
+    → Cornered (lent sizes ones) t point k differences)
     × (k ≤ size) × (length differences ≡ 256) × (size ≡ at sizes (length sizes - 1))
 
 abbrev μ-loop : tie.MeasureT-loop
@@ -30,7 +31,12 @@ wide-requires : tie.Need-wide-requires Inv-loop μ-loop
 wide-requires c κs = search needs
 
 loop-holds : tie.Need-loop-holds Inv-loop μ-loop
-loop-holds c = ((λ t s. record { differenceAt = λ k h b. absurd (omega arith); low = λ k h b. absurd (omega arith) }), omega arith, c .before .before .before .before .before .before .pre .1 .rows, c .wide .ensures)
+loop-holds c = (
+  (λ t s. record { differenceAt = λ k h b. absurd (omega arith); low = λ k h b. absurd (omega arith) }),
+  omega arith,
+  c .before .before .before .before .before .before .pre .1 .rows,
+  c .wide .ensures,
+)
 
 weigh-corner-requires : tie.Need-weigh-corner-requires Inv-loop μ-loop
 weigh-corner-requires c κs =

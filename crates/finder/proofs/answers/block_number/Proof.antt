@@ -14,13 +14,25 @@ cast-result : tie.Need-cast-result
 cast-result c =
     let e = c .before in
     let g = e .args .g in
-    omega (arith, c .block-of .ensures, block-spans (shape g .sizes) (e .args .h) (omega (arith, e .pre .1, made-indices g (e .pre .0))) .0, blocks-range g (e .pre .0) .1, made-blocks g (e .pre .0))
+    omega (
+      arith,
+      c .block-of .ensures,
+      block-spans (shape g .sizes) (e .args .h) (omega (arith, e .pre .1, made-indices g (e .pre .0))) .0,
+      blocks-range g (e .pre .0) .1,
+      made-blocks g (e .pre .0),
+    )
 
 add-result : tie.Need-add-result
 add-result c =
     let e = c .before in
     let g = e .args .g in
-    omega (arith, c .block-of .ensures, block-spans (shape g .sizes) (e .args .h) (omega (arith, e .pre .1, made-indices g (e .pre .0))) .0, blocks-range g (e .pre .0) .1, made-blocks g (e .pre .0))
+    omega (
+      arith,
+      c .block-of .ensures,
+      block-spans (shape g .sizes) (e .args .h) (omega (arith, e .pre .1, made-indices g (e .pre .0))) .0,
+      blocks-range g (e .pre .0) .1,
+      made-blocks g (e .pre .0),
+    )
 
 returns : tie.Need-returns
 returns c = omega (arith, c .block-of .ensures)

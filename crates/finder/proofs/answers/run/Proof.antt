@@ -1,4 +1,5 @@
--- `finder::answers::run` meets its contract: questions 1 to 4, and then the run on the grid that they let through. Assumes nothing.
+-- `finder::answers::run` meets its contract: questions 1 to 4, and then the run on the grid that they let through.
+-- Assumes nothing.
 use mathlib.Core.Path.{_≡_, sym, _∙_, subst}
 use borrow.Author.Needs.{needs}
 use lib.ListN.{length}
@@ -42,8 +43,12 @@ returns-2 c =
     let old = a .answer .now in
     let G : Grid = record { sizes = a .sizes .now; divisions = a .divisions .now } in
     let w = c .before .before .run-on in
-    subst (λ (p : Problem). (w .result ≡ runAnswer p (length old) (a .budget)) × (w .last .1 .1 .1 .0 ≡ runBuffer p (a .budget) old))
-    (same-problem G (k .new .result) (k .new .ensures) (c .before .before .before .before .if1 .left) (a .start .now) (a .labels .now)) (w .ensures)
+    subst
+    (λ (p : Problem).
+    (w .result ≡ runAnswer p (length old) (a .budget)) × (w .last .1 .1 .1 .0 ≡ runBuffer p (a .budget) old))
+    (same-problem G (k .new .result) (k .new .ensures) (c .before .before .before .before .if1 .left) (a .start .now)
+    (a .labels .now))
+    (w .ensures)
 
 pub run-spec : {M : Type 1} → statement M
 run-spec = tie.close (tie.spec new-requires returns run-on-requires same-length returns-2)

@@ -1,4 +1,5 @@
--- `finder::answers::run_on` meets its contract: the questions in their order, and then the answer of the path. Assumes nothing.
+-- `finder::answers::run_on` meets its contract: the questions in their order, and then the answer of the path.
+-- Assumes nothing.
 use mathlib.Core.Path.{sym, _∙_}
 use borrow.Author.Needs.{needs}
 use lib.ListN.{length}
@@ -16,7 +17,8 @@ returns c =
     let a = e .args in
     let old = a .answer .now in
     let p = problemFrom (a .g) (a .start .now) (a .labels .now) in
-    refused p (a .budget) old (c .before .first-no .result) (c .if1 .taken) (by-later p (length old) (e .pre .accepted) ∙ sym (c .before .first-no .ensures))
+    refused p (a .budget) old (c .before .first-no .result) (c .if1 .taken)
+    (by-later p (length old) (e .pre .accepted) ∙ sym (c .before .first-no .ensures))
 
 binomials-requires : tie.Need-binomials-requires
 binomials-requires c κs = search needs
@@ -26,8 +28,14 @@ announced-requires c κs =
     let e = c .before .before .before .before .before .before .before .before .before in
     let a = e .args in
     let p = problemFrom (a .g) (a .start .now) (a .labels .now) in
-    let w = accepted-with-room p (length (a .answer .now)) (e .pre .accepted) (sym (c .before .before .before .before .before .first-no .ensures) ∙ c .before .before .before .before .if1 .left) in
-    record { readable = record { made = e .pre; filled = c .before .before .binomials2 .ensures; whole = w .0 .tableLength }; accepted = w .0; room = w .1 }
+    let w = accepted-with-room p (length (a .answer .now)) (e .pre .accepted)
+    (sym (c .before .before .before .before .before .first-no .ensures)
+    ∙ c .before .before .before .before .if1 .left) in
+    record {
+      readable = record { made = e .pre; filled = c .before .before .binomials2 .ensures; whole = w .0 .tableLength };
+      accepted = w .0;
+      room = w .1;
+    }
 
 same-length : tie.Need-same-length
 same-length c = search needs
@@ -39,7 +47,10 @@ returns-2 c =
     let old = a .answer .now in
     let p = problemFrom (a .g) (a .start .now) (a .labels .now) in
     let q = c .before .before .announced .ensures in
-    let w = answered p (a .budget) old (by-later p (length old) (e .pre .accepted) ∙ sym (c .before .before .before .before .before .before .before .before .first-no .ensures) ∙ c .before .before .before .before .before .before .before .if1 .left) in
+    let w = answered p (a .budget) old
+    (by-later p (length old) (e .pre .accepted)
+    ∙ sym (c .before .before .before .before .before .before .before .before .first-no .ensures)
+    ∙ c .before .before .before .before .before .before .before .if1 .left) in
     (q .0 ∙ w .0, q .1 ∙ w .1)
 
 pub run-on-spec : {M : Type 1} → statement M

@@ -1,5 +1,6 @@
--- `label_points` meets its contract: the labels of the points passed stand at the front of the buffer, the tables of the point up to the first block
--- that has changed, and the differences at its corners unless a block before the last has changed. Assumes nothing.
+-- `label_points` meets its contract: the labels of the points passed stand at the front of the buffer, the tables of
+-- the point up to the first block that has changed, and the differences at its corners unless a block before the last
+-- has changed. Assumes nothing.
 use mathlib.Core.Bool.{false}
 use mathlib.Core.List.{List, []}
 use mathlib.Core.Path.{_≡_, refl, sym, _∙_}
@@ -31,14 +32,20 @@ use Rattle.games.proofs.game.label_points.Statement.{statement}
 use Rattle.games.proofs.game.label_points.Tie as tie
 
 abbrev Inv-loop : tie.InvT-loop
-Inv-loop sizes divisions ones firsts owners losses point₀ levels₀ differences₀ buffer₀ last from indices rests count first₀ changed₀ k₀ point levels differences buffer first changed k =
+Inv-loop sizes divisions ones firsts owners losses point₀ levels₀ differences₀ buffer₀ last from indices rests count
+    first₀ changed₀ k₀ point levels differences buffer first changed k =
     let g = lent sizes divisions in
-    (buffer ≡ front (take k (labels g losses)) buffer₀) × (k < numPoints g → point ≡ getD (points g) k []) × (k ≤ length buffer₀) × (length buffer ≡ length buffer₀) × (length levels ≡ 15552) × (length point ≡ length point₀) × (length differences ≡ 256)
-    × StandTo (lent sizes []) losses point first levels × (changed ≡ false → Cornered (lent sizes ones) losses point (size g (lastPlayer g)) differences) × (from ≡ firstIndex g (lastPlayer g)) × (indices ≡ length point₀)
-    × (first < length sizes) × (changed ≡ false → first ≡ lastPlayer g) × Rests (lent sizes []) rests × (last ≡ length sizes - 1)
+    (buffer ≡ front (take k (labels g losses)) buffer₀) × (k < numPoints g → point ≡ getD (points g) k [])
+    × (k ≤ length buffer₀) × (length buffer ≡ length buffer₀) × (length levels ≡ 15552) × (length point ≡ length point₀)
+    × (length differences ≡ 256) × StandTo (lent sizes []) losses point first levels
+    × (changed ≡ false → Cornered (lent sizes ones) losses point (size g (lastPlayer g)) differences)
+    × (from ≡ firstIndex g (lastPlayer g)) × (indices ≡ length point₀) × (first < length sizes)
+    × (changed ≡ false → first ≡ lastPlayer g) × Rests (lent sizes []) rests × (last ≡ length sizes - 1)
 
 abbrev μ-loop : tie.MeasureT-loop
-μ-loop sizes divisions ones firsts owners losses point₀ levels₀ differences₀ buffer₀ last from indices rests count first₀ changed₀ k₀ point levels differences buffer first changed k = length buffer₀ - k
+μ-loop sizes divisions ones firsts owners losses point₀ levels₀ differences₀ buffer₀ last from indices rests count
+    first₀ changed₀ k₀ point levels differences buffer first changed k =
+    length buffer₀ - k
 
 module _ (s : tie.Start Inv-loop μ-loop) where
   abbrev g : Grid
@@ -51,12 +58,14 @@ module _ (s : tie.Start Inv-loop μ-loop) where
   some = omega (arith, division-below g (yes .sizesTwo) (yes .sameNumber) 0)
 
   s-long : numIndices g ≡ length (s .args .point .now)
-  s-long = sym (point-length g yes (s .args .point .now) (point-at g (s .args .firsts .now) (s .pre .grid) 0 some (s .args .point .now) (s .pre .first) .isPoint))
+  s-long = sym (point-length g yes (s .args .point .now)
+      (point-at g (s .args .firsts .now) (s .pre .grid) 0 some (s .args .point .now) (s .pre .first) .isPoint))
 
 -- what is known in a turn
 module _ (c : tie.In-loop Inv-loop μ-loop) where
   abbrev start : tie.Start Inv-loop μ-loop
-  start = c .before .before .before .before .before .before .before .before .before .before .before .before .before .before .before .before .before .before
+  start = c .before .before .before .before .before .before .before .before .before
+      .before .before .before .before .before .before .before .before .before
 
   abbrev firsts : List ℕ
   firsts = start .args .firsts .now
@@ -77,7 +86,12 @@ module _ (c : tie.In-loop Inv-loop μ-loop) where
   here = point-at (g start) firsts (start .pre .grid) k inside y (c .before .loop .inv .1 inside)
 
   first-inside : from ≤ length y
-  first-inside = omega (arith, c .before .loop .inv .9, last-ends (g start) (yes start .someBlock), point-length (g start) (yes start) y (here .isPoint))
+  first-inside = omega (
+    arith,
+    c .before .loop .inv .9,
+    last-ends (g start) (yes start .someBlock),
+    point-length (g start) (yes start) y (here .isPoint),
+  )
 
   long : length (start .args .point .now) ≡ numIndices (g start)
   long = sym (c .before .loop .inv .5) ∙ point-length (g start) (yes start) y (here .isPoint)
@@ -86,16 +100,24 @@ sub-last : tie.Need-sub-last Inv-loop μ-loop
 sub-last c = omega (arith, yes (c .before .before .before .before .before .before .before) .someBlock)
 
 element-copy-out-wide : tie.Need-element-copy-out-wide Inv-loop μ-loop
-element-copy-out-wide c = omega (arith, yes (c .before .before .before .before .before .before .before) .fewBlocks, yes (c .before .before .before .before .before .before .before) .someBlock)
+element-copy-out-wide c = omega (
+  arith,
+  yes (c .before .before .before .before .before .before .before) .fewBlocks,
+  yes (c .before .before .before .before .before .before .before) .someBlock,
+)
 
 wide-requires : tie.Need-wide-requires Inv-loop μ-loop
 wide-requires c κs = search needs
 
 rests-requires : tie.Need-rests-requires Inv-loop μ-loop
-rests-requires c κs = (yes (c .before .before .before .before .before .before .before .before .before) .sizesTwo, yes (c .before .before .before .before .before .before .before .before .before) .fewIndices)
+rests-requires c κs = (
+  yes (c .before .before .before .before .before .before .before .before .before) .sizesTwo,
+  yes (c .before .before .before .before .before .before .before .before .before) .fewIndices,
+)
 
 num-profiles-requires : tie.Need-num-profiles-requires Inv-loop μ-loop
-num-profiles-requires c κs = yes (c .before .before .before .before .before .before .before .before .before .before) .fewIndices
+num-profiles-requires c κs =
+    yes (c .before .before .before .before .before .before .before .before .before .before) .fewIndices
 
 load-losses-requires : tie.Need-load-losses-requires Inv-loop μ-loop
 load-losses-requires c κs =
@@ -117,7 +139,8 @@ load-losses-requires c κs =
 
 loop-holds : tie.Need-loop-holds Inv-loop μ-loop
 loop-holds c =
-    let s = c .before .before .before .before .before .before .before .before .before .before .before .before .before .before .before .before in (
+    let s = c .before .before .before .before .before .before .before .before
+    .before .before .before .before .before .before .before .before in (
       sym (front-none (s .args .buffer .now)),
       (λ h. s .pre .first),
       omega arith,
@@ -127,7 +150,8 @@ loop-holds c =
       s .pre .rows,
       c .before .before .load-losses .ensures (s .args .point .now),
       (λ f. absurd-bool f),
-      c .before .before .before .before .before .before .before .wide .ensures ∙ s .pre .grid .first (lastPlayer (g s)) (omega (arith, yes s .someBlock)),
+      c .before .before .before .before .before .before .before .wide .ensures
+          ∙ s .pre .grid .first (lastPlayer (g s)) (omega (arith, yes s .someBlock)),
       refl,
       omega (arith, yes s .someBlock),
       (λ f. absurd-bool f),
@@ -153,7 +177,8 @@ weigh-changed-requires c κs =
           rested = λ l j a b. i .13 l j a b ∙ behind-alike ss [] ds j l;
           range = s .pre .table .range;
           whole = i .4;
-          stand = stand-to-alike ss [] ds (s .args .losses .now) (y t) (t .before .loop .first) (t .before .loop .levels) (i .7);
+          stand = stand-to-alike ss [] ds (s .args .losses .now) (y t) (t .before .loop .first)
+              (t .before .loop .levels) (i .7);
         };
         inside = i .11;
         kept = i .12;
@@ -162,7 +187,15 @@ weigh-changed-requires c κs =
     )
 
 mul-label-point : tie.Need-mul-label-point Inv-loop μ-loop
-mul-label-point c = omega (arith, first-inside (c .before .before .before .before .before .before .before .before), point-length (g (start (c .before .before .before .before .before .before .before .before))) (yes (start (c .before .before .before .before .before .before .before .before))) (y (c .before .before .before .before .before .before .before .before)) (here (c .before .before .before .before .before .before .before .before) .isPoint), yes (start (c .before .before .before .before .before .before .before .before)) .fewIndices)
+mul-label-point c = omega (
+  arith,
+  first-inside (c .before .before .before .before .before .before .before .before),
+  point-length (g (start (c .before .before .before .before .before .before .before .before)))
+      (yes (start (c .before .before .before .before .before .before .before .before)))
+      (y (c .before .before .before .before .before .before .before .before))
+      (here (c .before .before .before .before .before .before .before .before) .isPoint),
+  yes (start (c .before .before .before .before .before .before .before .before)) .fewIndices,
+)
 
 sub-label-point : tie.Need-sub-label-point Inv-loop μ-loop
 sub-label-point c = first-inside (c .before .before .before .before .before .before .before .before)
@@ -178,25 +211,33 @@ label-point-requires c κs =
     let t = c .before .before .before .before .before .before .before .before .before .before .before in
     let s = start t in
     let i = t .before .loop .inv in
-    let stand = c .before .before .before .before .before .before .weigh-changed .ensures .1 (s .args .losses .now) (i .7) (i .8) in
-    let rows = lent-rows (g s) (firsts t) (s .args .losses .now) (s .args .ones .now) (s .pre .onesAre) (y t) (here t) _ stand (from t) (i .9) (omega arith) in
+    let stand =
+    c .before .before .before .before .before .before .weigh-changed .ensures .1 (s .args .losses .now) (i .7) (i .8) in
+    let rows = lent-rows (g s) (firsts t) (s .args .losses .now) (s .args .ones .now) (s .pre .onesAre) (y t) (here t) _
+    stand (from t) (i .9) (omega arith) in
     (omega (arith, long t, blocks-few (g s) (yes s), yes s .someBlock), rw (long t) rows)
 
 slice-write-buffer : tie.Need-slice-write-buffer Inv-loop μ-loop
 slice-write-buffer c = omega arith
 
 advance-requires : tie.Need-advance-requires Inv-loop μ-loop
-advance-requires c κs = let t = c .before .before .before .before .before .before .before .before .before .before .before .before .before in (start t .args .divisions .now, here t)
+advance-requires c κs =
+    let t = c .before .before .before .before .before .before .before .before .before .before .before .before .before in
+    (start t .args .divisions .now, here t)
 
 add-k : tie.Need-add-k Inv-loop μ-loop
-add-k c = let t = c .before .before .before .before .before .before .before .before .before .before .before .before .before .before .before .before in omega (arith, inside t, yes (start t) .fewPoints)
+add-k c =
+    let t = c .before .before .before .before .before .before .before .before
+    .before .before .before .before .before .before .before .before in
+    omega (arith, inside t, yes (start t) .fewPoints)
 
 loop-less : tie.Need-loop-less Inv-loop μ-loop
 loop-less c = omega arith
 
 loop-again : tie.Need-loop-again Inv-loop μ-loop
 loop-again c =
-    let t = c .before .before .before .before .before .before .before .before .before .before .before .before .before .before .before .before in
+    let t = c .before .before .before .before .before .before .before .before
+    .before .before .before .before .before .before .before .before in
     let s = start t in
     let i = t .before .loop .inv in
     let losses = s .args .losses .now in
@@ -208,18 +249,23 @@ loop-again c =
     let a = c .before .before .advance in
     let z : Point = a .last .1 .1 .0 in
     let is : c .before .before .before .before .label-point .result ≡ label (g s) losses (y t) =
-    c .before .before .before .before .label-point .ensures ∙ rw (long t) (lent-label (g s) (firsts t) losses (s .args .ones .now) (s .pre .onesAre) (y t) (here t) _ stand (from t) (i .9))
-    in
-    let ended : ltb (a .result) (length ss - 1) ≡ false → a .result ≡ lastPlayer (g s) = λ f. omega (arith, ltb-false (a .result) (length ss - 1) f, a .ensures .1 .0) in (
-      rw (i .0, is) (label-written (g s) (k t) losses (s .args .buffer .now) (inside t) (s .pre .whole) (y t) (i .1 (inside t))),
+    c .before .before .before .before .label-point .ensures
+    ∙ rw (long t) (lent-label (g s) (firsts t) losses (s .args .ones .now) (s .pre .onesAre) (y t) (here t) _ stand
+    (from t) (i .9)) in
+    let ended : ltb (a .result) (length ss - 1) ≡ false → a .result ≡ lastPlayer (g s) = λ f.
+    omega (arith, ltb-false (a .result) (length ss - 1) f, a .ensures .1 .0) in (
+      rw (i .0, is)
+          (label-written (g s) (k t) losses (s .args .buffer .now) (inside t) (s .pre .whole) (y t) (i .1 (inside t))),
       (λ h. a .ensures .0 ∙ next-point (g s) (firsts t) (s .pre .grid) (k t) h (y t) (i .1 (inside t))),
       omega arith,
       simp length-set (i .3),
       omega arith,
       omega arith,
       omega arith,
-      levels-kept (lent ss []) losses (y t) z (a .result) (length ss - 1) (w .last .1 .1 .1 .1 .1 .1 .1 .1 .0) (omega (arith, a .ensures .1 .0)) (a .ensures .1 .1) (w .ensures .0 losses (i .7)),
-      (λ f. cornered-kept (lent ss (s .args .ones .now)) losses (y t) z (size (g s) (lastPlayer (g s))) _ (rw (ended f) at (a .ensures .1 .1)) stand),
+      levels-kept (lent ss []) losses (y t) z (a .result) (length ss - 1) (w .last .1 .1 .1 .1 .1 .1 .1 .1 .0)
+          (omega (arith, a .ensures .1 .0)) (a .ensures .1 .1) (w .ensures .0 losses (i .7)),
+      (λ f. cornered-kept (lent ss (s .args .ones .now)) losses (y t) z (size (g s) (lastPlayer (g s))) _
+          (rw (ended f) at (a .ensures .1 .1)) stand),
       i .9,
       i .10,
       a .ensures .1 .0,
@@ -242,9 +288,12 @@ same-length-4 c = omega arith
 
 returns : tie.Need-returns Inv-loop μ-loop
 returns c =
-    let s = c .before .before .before .before .before .before .before .before .before .before .before .before .before .before .before .before .before .before in
+    let s = c .before .before .before .before .before .before .before .before .before
+    .before .before .before .before .before .before .before .before .before in
     let l = c .before .loop in
-    l .inv .0 ∙ front-whole (labels (g s) (s .args .losses .now)) (s .args .buffer .now) (l .k) (omega (arith, labels-length (g s) (s .args .losses .now), s .pre .whole))
+    l .inv .0
+    ∙ front-whole (labels (g s) (s .args .losses .now)) (s .args .buffer .now) (l .k)
+    (omega (arith, labels-length (g s) (s .args .losses .now), s .pre .whole))
 
 pub label-points-spec : {M : Type 1} → statement M
 label-points-spec =

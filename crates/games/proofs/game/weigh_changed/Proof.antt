@@ -1,4 +1,5 @@
--- `weigh_changed` meets its contract: where a block before the last has changed, the levels behind it are weighed and then the corners. Assumes nothing.
+-- `weigh_changed` meets its contract: where a block before the last has changed, the levels behind it are weighed and
+-- then the corners. Assumes nothing.
 use mathlib.Core.List.{[]}
 use Prim.Native.Nat.{_-_}
 use native.Mathlib.Omega.{arith}
@@ -42,7 +43,8 @@ weigh-corners-requires c κs =
         some = yes .someBlock;
         table = record { whole = x .table .whole; range = x .table .range };
         owned = x .levelsAt .owned;
-        stand = stand-to-alike ss [] (a .ones .now) t y (length ss - 1) new (w .weigh-levels .ensures t (stand-to-alike ss ds [] t y (a .first) (a .levels .now) (x .levelsAt .stand)));
+        stand = stand-to-alike ss [] (a .ones .now) t y (length ss - 1) new
+            (w .weigh-levels .ensures t (stand-to-alike ss ds [] t y (a .first) (a .levels .now) (x .levelsAt .stand)));
         points = corner-points g (a .firsts .now) t (a .ones .now) (x .onesAre) y (x .levelsAt .point);
         whole = point-length g yes y (x .levelsAt .point .isPoint);
         numbers = omega (arith, x .levelsAt .whole);
@@ -62,8 +64,11 @@ returns-2 c =
     let s = c .before .before .before .before .before .before .before .before .before .before .before .before .before in
     let a = s .args in
     let ss = a .sizes .now in
-    let new = w .last .1 .1 .1 .1 .1 .1 .0 in
-    (w .ensures, λ t stand old. c .before .weigh-corners .ensures t (stand-to-alike ss [] (a .ones .now) t (a .point .now) (length ss - 1) new (w .ensures t stand)))
+    let new = w .last .1 .1 .1 .1 .1 .1 .0 in (
+      w .ensures,
+      λ t stand old. c .before .weigh-corners .ensures t
+          (stand-to-alike ss [] (a .ones .now) t (a .point .now) (length ss - 1) new (w .ensures t stand)),
+    )
 
 pub weigh-changed-spec : {M : Type 1} → statement M
 weigh-changed-spec =

@@ -8,7 +8,8 @@ use borrow.Author.Tests.{eq-eqb, ne-eqb}
 use lib.ListN.{length, take}
 use Rattle.combinatorics.proofs.Turns.{all-counted}
 use Rattle.combinatorics.specs.Lists.{all, sum, upFrom}
-use Rattle.grid.proofs.Fields.{made-first, made-size, made-division, made-indices, made-blocks, blocks-range, size-range}
+use Rattle.grid.proofs.Fields.{made-first, made-size, made-division, made-indices, made-blocks, blocks-range}
+use Rattle.grid.proofs.Fields.{size-range}
 use Rattle.grid.proofs.Points.{blockSum}
 use Rattle.grid.proofs.Round.{block-fits}
 use Rattle.grid.specs.Grid.{isGridPoint, at, indicesOf, division, numIndices, numBlocks}
@@ -29,7 +30,8 @@ returns : tie.Need-returns Inv-loop μ-loop
 unfolding isGridPoint
 returns c =
     let a = c .before .before .args in
-    rw (ne-eqb (length (a .y .now)) (numIndices (shape (a .self))) (λ e. c .if1 .taken (e ∙ sym (made-indices _ (c .before .before .pre)))))
+    rw (ne-eqb (length (a .y .now)) (numIndices (shape (a .self)))
+    (λ e. c .if1 .taken (e ∙ sym (made-indices _ (c .before .before .pre)))))
 
 loop-holds : tie.Need-loop-holds Inv-loop μ-loop
 loop-holds c = (refl, omega arith, blocks-range _ (c .before .before .before .before .before .pre) .1)
@@ -53,7 +55,14 @@ total-requires c κs =
     let j = c .before .before .before .loop .j in
     let f = made-first s m j (omega arith) in
     let n = made-size s m j (omega arith) in (
-      omega (arith, f, n, block-fits (shape s .sizes) j, made-indices s m, c .before .before .before .before .before .before .before .if1 .left),
+      omega (
+        arith,
+        f,
+        n,
+        block-fits (shape s .sizes) j,
+        made-indices s m,
+        c .before .before .before .before .before .before .before .if1 .left,
+      ),
       omega (arith, n, size-range s m j (omega arith) .1),
     )
 
@@ -74,16 +83,26 @@ loop-less c = search needs
 
 loop-again : tie.Need-loop-again Inv-loop μ-loop
 loop-again c =
-    let s = c .before .before .before .before .before .before .before .before .before .before .before .before .args .self in
-    let y = c .before .before .before .before .before .before .before .before .before .before .before .before .args .y .now in
+    let s =
+    c .before .before .before .before .before .before .before .before .before .before .before .before .args .self in
+    let y =
+    c .before .before .before .before .before .before .before .before .before .before .before .before .args .y .now in
     let m = c .before .before .before .before .before .before .before .before .before .before .before .before .pre in
     let l = c .before .before .before .before .before .before .loop in
     let t : c .before .before .total .result ≡ sum (map (at y) (indicesOf (shape s) (l .j))) =
-    c .before .before .total .ensures ∙ rw (c .before .before .before .before .wide .ensures, c .before .before .before .wide2 .ensures, made-first s m (l .j) (omega arith), made-size s m (l .j) (omega arith))
-    in
-    let d : c .before .wide16 .result ≡ division (shape s) (l .j) = c .before .wide16 .ensures .0 ∙ made-division s m (l .j) (omega arith) in (
-      rw (all-counted (blockSum (shape s .sizes) (shape s .divisions) y) (l .j), ← (l .inv .0), ← t, ← d)
-          (⊎-elim (λ w. w .1 ∙ sym (rw (ne-eqb _ _ (w .0 .taken)) (and-false (l .good)))) (λ w. w .1 ∙ sym (rw (eq-eqb _ _ (w .0 .left)) (and-true (l .good)))) (c .if2 .came)),
+    c .before .before .total .ensures
+    ∙ rw (
+      c .before .before .before .before .wide .ensures,
+      c .before .before .before .wide2 .ensures,
+      made-first s m (l .j) (omega arith),
+      made-size s m (l .j) (omega arith),
+    ) in
+    let d : c .before .wide16 .result ≡ division (shape s) (l .j) =
+    c .before .wide16 .ensures .0 ∙ made-division s m (l .j) (omega arith) in (
+      rw (all-counted (blockSum (shape s .sizes) (shape s .divisions) y) (l .j), ← (l .inv .0), ← t, ← d) (⊎-elim
+          (λ w. w .1 ∙ sym (rw (ne-eqb _ _ (w .0 .taken)) (and-false (l .good))))
+          (λ w. w .1 ∙ sym (rw (eq-eqb _ _ (w .0 .left)) (and-true (l .good))))
+          (c .if2 .came)),
       omega arith,
       l .inv .2,
     )
@@ -95,7 +114,10 @@ returns-2 c =
     let m = c .before .before .before .before .before .before .before .pre in
     let l = c .before .loop in
     let e : l .j ≡ numBlocks (shape s) = omega (arith, made-blocks s m) in
-    rw (eq-eqb (length (c .before .before .before .before .before .before .before .args .y .now)) (numIndices (shape s)) (c .before .before .before .before .before .if1 .left ∙ made-indices s m)) (l .inv .0 ∙ rw e)
+    rw
+    (eq-eqb (length (c .before .before .before .before .before .before .before .args .y .now)) (numIndices (shape s))
+    (c .before .before .before .before .before .if1 .left ∙ made-indices s m))
+    (l .inv .0 ∙ rw e)
 
 pub is-grid-point-spec : {M : Type 1} → statement M
 is-grid-point-spec =

@@ -1,4 +1,5 @@
--- `grid::bounds::terms` meets its contract. The invariant: the product has k factors, and the sum the terms up to it. Assumes nothing.
+-- `grid::bounds::terms` meets its contract. The invariant: the product has k factors, and the sum the terms up to it.
+-- Assumes nothing.
 use mathlib.Core.List.{map}
 use mathlib.Core.Path.{_≡_, refl, sym, _∙_}
 use Prim.Native.Nat.{_+_, _*_, _-_, _≤_}
@@ -14,15 +15,21 @@ use Rattle.grid.proofs.bounds.terms.Statement.{statement}
 use Rattle.grid.proofs.bounds.terms.Tie as tie
 
 abbrev Inv-loop : tie.InvT-loop
-Inv-loop m n product₀ sum₀ k₀ product sum k =
-    (product ≡ falling m k) × (sum ≡ total (map (falling m) (upFrom 0 (k + 1)))) × (k ≤ n) × (m ≤ 16) × (n ≤ m) × (n ≤ 15)
+Inv-loop m n product₀ sum₀ k₀ product sum k = (product ≡ falling m k)
+    × (sum ≡ total (map (falling m) (upFrom 0 (k + 1)))) × (k ≤ n) × (m ≤ 16) × (n ≤ m) × (n ≤ 15)
 
 abbrev μ-loop : tie.MeasureT-loop
 μ-loop m n product₀ sum₀ k₀ product sum k = n - k
 
 -- the product of a turn, and its range
-factor : (c : tie.In-loop Inv-loop μ-loop) → (c .before .loop .product * (c .before .before .args .m - c .before .loop .k) ≡ falling (c .before .before .args .m) (c .before .loop .k + 1)) × (falling (c .before .before .args .m) (c .before .loop .k + 1) ≤ 35951249665217)
-factor c = let l = c .before .loop in let m = c .before .before .args .m in (rw (l .inv .0) (sym (falling-next m (l .k))), term-few m (l .k + 1) (omega arith) (omega arith))
+factor : (c : tie.In-loop Inv-loop μ-loop)
+    → (c .before .loop .product * (c .before .before .args .m - c .before .loop .k)
+    ≡ falling (c .before .before .args .m) (c .before .loop .k + 1))
+    × (falling (c .before .before .args .m) (c .before .loop .k + 1) ≤ 35951249665217)
+factor c =
+    let l = c .before .loop in
+    let m = c .before .before .args .m in
+    (rw (l .inv .0) (sym (falling-next m (l .k))), term-few m (l .k + 1) (omega arith) (omega arith))
 
 loop-holds : tie.Need-loop-holds Inv-loop μ-loop
 loop-holds c = (refl, refl, omega arith, omega arith, omega arith, omega arith)
@@ -37,7 +44,8 @@ add-sum : tie.Need-add-sum Inv-loop μ-loop
 add-sum c =
     let l = c .before .loop in
     let m = c .before .before .args .m in
-    let few : total (map (falling m) (upFrom 0 (l .k + 1))) ≤ 35951249665217 = rw (add-one (l .k)) (terms-few m (l .k) (omega arith) (omega arith)) in
+    let few : total (map (falling m) (upFrom 0 (l .k + 1))) ≤ 35951249665217 =
+    rw (add-one (l .k)) (terms-few m (l .k) (omega arith) (omega arith)) in
     omega (arith, factor c .0, factor c .1, few, l .inv .1)
 
 add-k : tie.Need-add-k Inv-loop μ-loop

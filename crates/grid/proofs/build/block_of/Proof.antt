@@ -1,4 +1,5 @@
--- `grid::build::block_of` meets its contract. The invariant: the block is found from block j on with what is left of the index. Assumes nothing.
+-- `grid::build::block_of` meets its contract. The invariant: the block is found from block j on with what is left of
+-- the index. Assumes nothing.
 use mathlib.Core.Path.{_≡_, _∙_}
 use Prim.Native.Nat.{_+_, _-_, _<_}
 use lib.ListN.{length, drop}
@@ -21,13 +22,16 @@ loop-holds : tie.Need-loop-holds Inv-loop μ-loop
 loop-holds c = (c .before .pre, omega arith)
 
 shared-slice-read-wide : tie.Need-shared-slice-read-wide Inv-loop μ-loop
-shared-slice-read-wide c = some-left (c .before .before .before .args .sizes .now) (c .before .loop .j) (c .before .loop .left) (c .before .loop .inv .0)
+shared-slice-read-wide c = some-left (c .before .before .before .args .sizes .now) (c .before .loop .j)
+    (c .before .loop .left) (c .before .loop .inv .0)
 
 wide-requires : tie.Need-wide-requires Inv-loop μ-loop
 wide-requires c κs = search needs
 
 shared-slice-read-wide-2 : tie.Need-shared-slice-read-wide-2 Inv-loop μ-loop
-shared-slice-read-wide-2 c = let l = c .before .before .before .before .loop in some-left (c .before .before .before .before .before .before .args .sizes .now) (l .j) (l .left) (l .inv .0)
+shared-slice-read-wide-2 c =
+    let l = c .before .before .before .before .loop in
+    some-left (c .before .before .before .before .before .before .args .sizes .now) (l .j) (l .left) (l .inv .0)
 
 wide-requires-2 : tie.Need-wide-requires-2 Inv-loop μ-loop
 wide-requires-2 c κs = search needs
@@ -38,12 +42,20 @@ sub-left c = search needs
 add-j : tie.Need-add-j Inv-loop μ-loop
 add-j c =
     let l = c .before .before .before .before .before .loop in
-    omega (arith, some-left (c .before .before .before .before .before .before .before .args .sizes .now) (l .j) (l .left) (l .inv .0))
+    omega (
+      arith,
+      some-left (c .before .before .before .before .before .before .before .args .sizes .now) (l .j) (l .left)
+          (l .inv .0),
+    )
 
 loop-less : tie.Need-loop-less Inv-loop μ-loop
 loop-less c =
     let l = c .before .before .before .before .before .loop in
-    omega (arith, some-left (c .before .before .before .before .before .before .before .args .sizes .now) (l .j) (l .left) (l .inv .0))
+    omega (
+      arith,
+      some-left (c .before .before .before .before .before .before .before .args .sizes .now) (l .j) (l .left)
+          (l .inv .0),
+    )
 
 loop-again : tie.Need-loop-again Inv-loop μ-loop
 loop-again c =
@@ -55,7 +67,8 @@ loop-again c =
 returns : tie.Need-returns Inv-loop μ-loop
 returns c =
     let l = c .before .before .before .loop in
-    find-stop (c .before .before .before .before .before .args .sizes .now) (l .j) (l .left) (l .inv .0) (omega arith) ∙ l .inv .1
+    find-stop (c .before .before .before .before .before .args .sizes .now) (l .j) (l .left) (l .inv .0) (omega arith)
+    ∙ l .inv .1
 
 pub block-of-spec : {M : Type 1} → statement M
 block-of-spec =

@@ -16,14 +16,23 @@ use Rattle.grid.proofs.build.built.Tie as tie
 yes : (c : tie.Start) → Accepted (lent (c .args .sizes .now) (c .args .divisions .now))
 yes c = accepted _ (c .pre)
 
-total : (c : tie.After-first-index) → c .first-index .result ≡ sum (c .before .before .before .before .before .before .before .before .args .sizes .now)
-total c = let ss = c .before .before .before .before .before .before .before .before .args .sizes .now in c .first-index .ensures ∙ rw (whole ss (length ss) (omega arith))
+total : (c : tie.After-first-index)
+    → c .first-index .result ≡ sum (c .before .before .before .before .before .before .before .before .args .sizes .now)
+total c =
+    let ss = c .before .before .before .before .before .before .before .before .args .sizes .now in
+    c .first-index .ensures ∙ rw (whole ss (length ss) (omega arith))
 
 -- the counts that are multiplied
 counted : (c : tie.After-mark-blocks)
-    → let s = c .before .before .before .before .before .before .before in BlocksCounted (lent (s .args .sizes .now) (s .args .divisions .now)) (c .mark-blocks .last .1 .1 .1 .1 .1 .0) (length (s .args .sizes .now))
+    → let s = c .before .before .before .before .before .before .before in
+    BlocksCounted (lent (s .args .sizes .now) (s .args .divisions .now)) (c .mark-blocks .last .1 .1 .1 .1 .1 .0)
+    (length (s .args .sizes .now))
 unfolding gridOf
-counted c = record { accepted = c .before .before .before .before .before .before .before .pre; countsAre = c .mark-blocks .ensures .countsAre; numberIs = refl }
+counted c = record {
+  accepted = c .before .before .before .before .before .before .before .pre;
+  countsAre = c .mark-blocks .ensures .countsAre;
+  numberIs = refl;
+}
 
 mark-blocks-requires : tie.Need-mark-blocks-requires
 mark-blocks-requires c κs = search needs
@@ -45,7 +54,17 @@ unfolding gridOf before after
 returns c =
     let b = c .before .before .before .before .before .before .before .mark-blocks .ensures in
     let i = c .before .before .mark-indices .ensures in
-    rw (b .sizesAre, b .divisionsAre, b .firstsAre, i .blockIs, i .previousIs, i .nextIs, total (c .before .before .before .before .before .before), c .product .ensures _ (counted (c .before .before .before .before .before .before .before)), b .countsAre)
+    rw (
+      b .sizesAre,
+      b .divisionsAre,
+      b .firstsAre,
+      i .blockIs,
+      i .previousIs,
+      i .nextIs,
+      total (c .before .before .before .before .before .before),
+      c .product .ensures _ (counted (c .before .before .before .before .before .before .before)),
+      b .countsAre,
+    )
 
 pub built-spec : {M : Type 1} → statement M
 built-spec =

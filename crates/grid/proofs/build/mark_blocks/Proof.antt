@@ -1,4 +1,5 @@
--- `grid::build::mark_blocks` meets its contract. The invariant: the entries of the blocks so far stand at the front. Assumes nothing.
+-- `grid::build::mark_blocks` meets its contract. The invariant: the entries of the blocks so far stand at the front.
+-- Assumes nothing.
 use mathlib.Core.List.{map}
 use mathlib.Core.Path.{_≡_, sym, _∙_}
 use Prim.Native.Nat.{_≤_, _-_}
@@ -26,14 +27,21 @@ Inv-loop sizes divisions own-sizes₀ own-divisions₀ firsts₀ counts₀ j₀ 
     × Accepted (lent sizes divisions)
 
 abbrev μ-loop : tie.MeasureT-loop
-μ-loop sizes divisions own-sizes₀ own-divisions₀ firsts₀ counts₀ j₀ own-sizes own-divisions firsts counts j = length sizes - j
+μ-loop sizes divisions own-sizes₀ own-divisions₀ firsts₀ counts₀ j₀ own-sizes own-divisions firsts counts j =
+    length sizes - j
 
 loop-holds : tie.Need-loop-holds Inv-loop μ-loop
 loop-holds c =
     let p = c .before .before .pre in
     let none = sym (front-none (replicate 6 0)) in
-    let z = p .1 in
-    (z .sizesZero ∙ none, z .divisionsZero ∙ none, z .firstsZero ∙ none, z .countsZero ∙ none, omega arith, accepted _ (p .0))
+    let z = p .1 in (
+      z .sizesZero ∙ none,
+      z .divisionsZero ∙ none,
+      z .firstsZero ∙ none,
+      z .countsZero ∙ none,
+      omega arith,
+      accepted _ (p .0),
+    )
 
 shared-slice-read-own-sizes : tie.Need-shared-slice-read-own-sizes Inv-loop μ-loop
 shared-slice-read-own-sizes c = search needs
@@ -57,7 +65,11 @@ first-index-requires : tie.Need-first-index-requires Inv-loop μ-loop
 first-index-requires c κs = search needs
 
 cast-firsts : tie.Need-cast-firsts Inv-loop μ-loop
-cast-firsts c = omega (arith, block-fits (c .before .before .before .before .before .before .before .args .sizes .now) (c .before .before .before .before .loop .j))
+cast-firsts c = omega (
+  arith,
+  block-fits (c .before .before .before .before .before .before .before .args .sizes .now)
+      (c .before .before .before .before .loop .j),
+)
 
 element-write-firsts : tie.Need-element-write-firsts Inv-loop μ-loop
 element-write-firsts c = search needs
@@ -105,12 +117,15 @@ loop-again c =
     let ss = a .sizes .now in
     let ds = a .divisions .now in
     let g = lent ss ds in
-    let n : c .block-count .result ≡ blockCount g (l .j) =
-    rw (c .block-count .ensures, c .before .before .before .wide .ensures, c .before .wide16 .ensures .0) (omega (arith, count-few g (l .inv .5) (l .j) (omega arith)))
-    in (
+    let n : c .block-count .result ≡ blockCount g (l .j) = rw (
+      c .block-count .ensures,
+      c .before .before .before .wide .ensures,
+      c .before .wide16 .ensures .0,
+    ) (omega (arith, count-few g (l .inv .5) (l .j) (omega arith))) in (
       rw (l .inv .0) (front-copy ss (replicate 6 0) (l .j) (omega arith) (omega arith)),
       rw (l .inv .1) (front-copy ds (replicate 6 0) (l .j) (omega arith) (omega arith)),
-      rw (l .inv .2, c .before .before .before .before .before .first-index .ensures) (front-counted (firstIndex g) (replicate 6 0) (l .j) (omega arith)),
+      rw (l .inv .2, c .before .before .before .before .before .first-index .ensures)
+          (front-counted (firstIndex g) (replicate 6 0) (l .j) (omega arith)),
       rw (l .inv .3, n) (front-counted (blockCount g) (replicate 6 0) (l .j) (omega arith)),
       omega arith,
       l .inv .5,

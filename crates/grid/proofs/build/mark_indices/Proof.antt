@@ -1,4 +1,5 @@
--- `grid::build::mark_indices` meets its contract. The invariant: the entries of the indices so far stand at the front. Assumes nothing.
+-- `grid::build::mark_indices` meets its contract. The invariant: the entries of the indices so far stand at the front.
+-- Assumes nothing.
 use mathlib.Core.List.{[], map}
 use mathlib.Core.Path.{_≡_, sym, _∙_}
 use Prim.Native.Nat.{_+_, _≤_, _<_, _-_}
@@ -31,9 +32,14 @@ abbrev μ-loop : tie.MeasureT-loop
 -- where the index stands in its block
 spans : (c : tie.After-block-of Inv-loop μ-loop)
     → (c .block-of .result < length (c .before .before .before .before .args .sizes .now))
-    × (sum (take (c .block-of .result) (c .before .before .before .before .args .sizes .now)) ≤ c .before .before .loop .h)
-    × (c .before .before .loop .h < sum (take (c .block-of .result) (c .before .before .before .before .args .sizes .now)) + getD (c .before .before .before .before .args .sizes .now) (c .block-of .result) 0)
-    × (sum (take (c .block-of .result) (c .before .before .before .before .args .sizes .now)) + getD (c .before .before .before .before .args .sizes .now) (c .block-of .result) 0 ≤ 16)
+    × (sum (take (c .block-of .result) (c .before .before .before .before .args .sizes .now))
+    ≤ c .before .before .loop .h)
+    × (c .before .before .loop .h
+    < sum (take (c .block-of .result) (c .before .before .before .before .args .sizes .now))
+    + getD (c .before .before .before .before .args .sizes .now) (c .block-of .result) 0)
+    × (sum (take (c .block-of .result) (c .before .before .before .before .args .sizes .now))
+    + getD (c .before .before .before .before .args .sizes .now) (c .block-of .result) 0
+    ≤ 16)
 spans c =
     let ss = c .before .before .before .before .args .sizes .now in
     let s = block-spans ss (c .before .before .loop .h) (omega arith) in
@@ -92,8 +98,18 @@ loop-again c =
     let b = c .before .before .before .before .before in
     let l = b .before .before .loop in
     let ss = b .before .before .before .before .args .sizes .now in
-    let p : c .before .index-before .result ≡ before (lent ss []) (l .h) = c .before .index-before .ensures ∙ rw (c .before .before .before .before .first-index .ensures, c .before .before .wide .ensures, b .block-of .ensures) in
-    let n : c .index-after .result ≡ after (lent ss []) (l .h) = c .index-after .ensures ∙ rw (c .before .before .before .before .first-index .ensures, c .before .before .wide .ensures, b .block-of .ensures) in (
+    let p : c .before .index-before .result ≡ before (lent ss []) (l .h) = c .before .index-before .ensures
+    ∙ rw (
+      c .before .before .before .before .first-index .ensures,
+      c .before .before .wide .ensures,
+      b .block-of .ensures,
+    ) in
+    let n : c .index-after .result ≡ after (lent ss []) (l .h) = c .index-after .ensures
+    ∙ rw (
+      c .before .before .before .before .first-index .ensures,
+      c .before .before .wide .ensures,
+      b .block-of .ensures,
+    ) in (
       rw (l .inv .0, b .block-of .ensures) (front-counted (blockIn ss) (replicate 16 0) (l .h) (omega arith)),
       rw (l .inv .1, p) (front-counted (before (lent ss [])) (replicate 16 0) (l .h) (omega arith)),
       rw (l .inv .2, n) (front-counted (after (lent ss [])) (replicate 16 0) (l .h) (omega arith)),

@@ -1,4 +1,5 @@
--- `grid::build::product` meets its contract. The invariant: the product of the counts so far, whichever grid they are of. Assumes nothing.
+-- `grid::build::product` meets its contract. The invariant: the product of the counts so far, whichever grid they are
+-- of. Assumes nothing.
 use mathlib.Core.List.{List}
 use mathlib.Core.Path.{_≡_, refl, sym, _∙_}
 use Prim.Native.Nat.{ℕ, _+_, _*_, _≤_, _<_, _-_}
@@ -24,7 +25,8 @@ module _ {g : Grid} {counts : List ℕ} {blocks : ℕ} (b : BlocksCounted g coun
   unfolding gridOf
   turn =
       let n = b .numberIs in
-      let c : getD counts j 0 ≡ blockCount g j = rw (b .countsAre) (padded-at (blockCount g) 6 (numBlocks g) j (omega arith)) in
+      let c : getD counts j 0 ≡ blockCount g j =
+      rw (b .countsAre) (padded-at (blockCount g) 6 (numBlocks g) j (omega arith)) in
       rw c (product-next (g .sizes) (g .divisions) j (omega arith) (accepted g (b .accepted) .sameNumber))
 
   -- no product is past P
@@ -34,7 +36,8 @@ module _ {g : Grid} {counts : List ℕ} {blocks : ℕ} (b : BlocksCounted g coun
       omega (arith, turn, product-below (g .sizes) (g .divisions) (j + 1) (a .sameNumber), points-are g a, a .fewPoints)
 
 abbrev Inv-loop : tie.InvT-loop
-Inv-loop counts blocks product₀ j₀ product j = ((g : Grid) → BlocksCounted g counts blocks → product ≡ soFar g j) × (j ≤ blocks) × (blocks ≤ 6)
+Inv-loop counts blocks product₀ j₀ product j =
+    ((g : Grid) → BlocksCounted g counts blocks → product ≡ soFar g j) × (j ≤ blocks) × (blocks ≤ 6)
 
 abbrev μ-loop : tie.MeasureT-loop
 μ-loop counts blocks product₀ j₀ product j = blocks - j
@@ -75,7 +78,9 @@ returns c g b =
     let l = c .before .loop in
     let a = accepted g (b .accepted) in
     let n = b .numberIs in
-    l .inv .0 g b ∙ rw (whole (g .sizes) (l .j) (omega arith), whole (g .divisions) (l .j) (omega (arith, a .sameNumber))) (sym (points-are g a))
+    l .inv .0 g b
+    ∙ rw (whole (g .sizes) (l .j) (omega arith), whole (g .divisions) (l .j) (omega (arith, a .sameNumber)))
+    (sym (points-are g a))
 
 pub product-spec : {M : Type 1} → statement M
 product-spec =

@@ -1,4 +1,5 @@
--- `grid::coordinates::total` meets its contract. The invariant: the sum of the first i coordinates of the block. Assumes nothing.
+-- `grid::coordinates::total` meets its contract. The invariant: the sum of the first i coordinates of the block.
+-- Assumes nothing.
 use mathlib.Core.List.{map}
 use mathlib.Core.Path.{_≡_, refl, sym, _∙_}
 use Prim.Native.Nat.{_+_, _*_, _-_, _≤_}
@@ -12,8 +13,8 @@ use Rattle.grid.proofs.coordinates.total.Statement.{statement}
 use Rattle.grid.proofs.coordinates.total.Tie as tie
 
 abbrev Inv-loop : tie.InvT-loop
-Inv-loop y first size total₀ i₀ total i =
-    (total ≡ sum (map (at y) (upFrom first i))) × (total ≤ 65535 * i) × (i ≤ size) × (first + size ≤ length y) × (size ≤ 16)
+Inv-loop y first size total₀ i₀ total i = (total ≡ sum (map (at y) (upFrom first i))) × (total ≤ 65535 * i) × (i ≤ size)
+    × (first + size ≤ length y) × (size ≤ 16)
 
 abbrev μ-loop : tie.MeasureT-loop
 μ-loop y first size total₀ i₀ total i = size - i
@@ -45,8 +46,13 @@ loop-less c = search needs
 loop-again : tie.Need-loop-again Inv-loop μ-loop
 loop-again c =
     let l = c .before .before .before .loop in
-    let a = c .before .before .before .before .before .args in
-    (rw (c .wide16 .ensures .0, l .inv .0) (sym (sum-counted (at (a .y .now)) (a .first) (l .i))), omega arith, omega arith, l .inv .3, l .inv .4)
+    let a = c .before .before .before .before .before .args in (
+      rw (c .wide16 .ensures .0, l .inv .0) (sym (sum-counted (at (a .y .now)) (a .first) (l .i))),
+      omega arith,
+      omega arith,
+      l .inv .3,
+      l .inv .4,
+    )
 
 returns : tie.Need-returns Inv-loop μ-loop
 returns c =

@@ -1,4 +1,5 @@
--- `grid::counts::block_count` meets its contract. The invariant: the row holds the binomials of r, capped. Assumes nothing.
+-- `grid::counts::block_count` meets its contract. The invariant: the row holds the binomials of r, capped.
+-- Assumes nothing.
 use mathlib.Core.Path.{_≡_, refl, sym, ap, _∙_}
 use Prim.Native.Nat.{_≤_, _<_, _-_, pred}
 use lib.ListN.{length}
@@ -34,7 +35,13 @@ sub-last : tie.Need-sub-last Inv-loop μ-loop
 sub-last c = search needs
 
 loop-holds : tie.Need-loop-holds Inv-loop μ-loop
-loop-holds c = (first-row (c .before .args .size - 1) (omega arith), omega arith, refl, sub-one (c .before .args .size), omega arith)
+loop-holds c = (
+  first-row (c .before .args .size - 1) (omega arith),
+  omega arith,
+  refl,
+  sub-one (c .before .args .size),
+  omega arith,
+)
 
 mul-if2 : tie.Need-mul-if2 Inv-loop μ-loop
 mul-if2 c = search needs
@@ -49,10 +56,13 @@ returns-2 : tie.Need-returns-2 Inv-loop μ-loop
 returns-2 c =
     let l = c .before .before .loop in
     let a = c .before .before .before .before .args in
-    rw (← sub-one (a .size)) (past (l .r) (a .division) (a .size - 1) (omega arith) (omega (arith, l .inv .0 (a .size - 1) (omega arith))))
+    rw (← sub-one (a .size))
+    (past (l .r) (a .division) (a .size - 1) (omega arith) (omega (arith, l .inv .0 (a .size - 1) (omega arith))))
 
 raise-requires : tie.Need-raise-requires Inv-loop μ-loop
-raise-requires c κs = let l = c .before .before .before .loop in (l .inv .4, l .inv .2, λ k h. omega (arith, l .inv .0 k h))
+raise-requires c κs =
+    let l = c .before .before .before .loop in
+    (l .inv .4, l .inv .2, λ k h. omega (arith, l .inv .0 k h))
 
 add-r : tie.Need-add-r Inv-loop μ-loop
 add-r c = search needs

@@ -50,7 +50,8 @@ wide16-requires c κs = search needs
 block-count-requires : tie.Need-block-count-requires Inv-loop μ-loop
 block-count-requires c κs =
     let l = c .before .before .before .before .before .loop in
-    let s = size-range (c .before .before .before .before .before .before .before .before .args .sizes .now) (l .j) (l .inv .2) (l .inv .3) (omega arith) in
+    let s = size-range (c .before .before .before .before .before .before .before .before .args .sizes .now) (l .j)
+    (l .inv .2) (l .inv .3) (omega arith) in
     (omega (arith, s .0), omega (arith, s .1), omega arith)
 
 mul-cap : tie.Need-mul-cap Inv-loop μ-loop
@@ -78,8 +79,15 @@ loop-again c =
     let ds = a .divisions .now in
     let j = l .j in (
       c .cap .ensures
-          ∙ rw (l .inv .0, c .before .block-count .ensures, c .before .before .before .before .wide .ensures, c .before .before .wide16 .ensures .0, product-next ss ds j (omega arith) (l .inv .4))
-          (capped-product (binomialProduct (take j ss) (take j ds)) (choose (getD ds j 0 + pred (getD ss j 0)) (pred (getD ss j 0)))),
+          ∙ rw (
+            l .inv .0,
+            c .before .block-count .ensures,
+            c .before .before .before .before .wide .ensures,
+            c .before .before .wide16 .ensures .0,
+            product-next ss ds j (omega arith) (l .inv .4),
+          )
+          (capped-product (binomialProduct (take j ss) (take j ds))
+          (choose (getD ds j 0 + pred (getD ss j 0)) (pred (getD ss j 0)))),
       omega arith,
       l .inv .2,
       l .inv .3,

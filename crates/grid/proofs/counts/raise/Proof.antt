@@ -1,4 +1,5 @@
--- `grid::counts::raise` meets its contract. The invariant: before k stand the binomials of the next row, from k on those of the old one. Assumes nothing.
+-- `grid::counts::raise` meets its contract. The invariant: before k stand the binomials of the next row, from k on
+-- those of the old one. Assumes nothing.
 use mathlib.Core.Path.{_≡_}
 use Prim.Native.Nat.{ℕ, suc, _≤_, _<_, _-_}
 use lib.ListN.{length, length-set, getD}
@@ -10,14 +11,16 @@ use Rattle.grid.proofs.counts.raise.Statement.{statement}
 use Rattle.grid.proofs.counts.raise.Tie as tie
 
 abbrev Inv-loop : tie.InvT-loop
-Inv-loop row₀ last k₀ row k =
-    (1 ≤ k) × (k ≤ suc last) × (last < 16) × (length row ≡ 16) × ((i : ℕ) → i ≤ last → getD row i 0 ≤ 60001) × ((r : ℕ) → IsRow r last row₀ → Raised r last k row)
+Inv-loop row₀ last k₀ row k = (1 ≤ k) × (k ≤ suc last) × (last < 16) × (length row ≡ 16)
+    × ((i : ℕ) → i ≤ last → getD row i 0 ≤ 60001) × ((r : ℕ) → IsRow r last row₀ → Raised r last k row)
 
 abbrev μ-loop : tie.MeasureT-loop
 μ-loop row₀ last k₀ row k = suc last - k
 
 loop-holds : tie.Need-loop-holds Inv-loop μ-loop
-loop-holds c = let a = c .args in (omega arith, omega arith, omega arith, c .pre .1, c .pre .2, (λ r h. raised-start r (a .last) (a .row .now) h))
+loop-holds c =
+    let a = c .args in
+    (omega arith, omega arith, omega arith, c .pre .1, c .pre .2, (λ r h. raised-start r (a .last) (a .row .now) h))
 
 mul-cap : tie.Need-mul-cap Inv-loop μ-loop
 mul-cap c = search needs
@@ -63,11 +66,14 @@ loop-again c =
       omega arith,
       simp length-set (l .inv .3),
       small-turn last (l .k) (c .cap .result) (l .row) (omega arith) (omega arith) (l .inv .4),
-      (λ r h. rw (c .cap .ensures) (raised-turn r last (l .k) (l .row) (omega arith) (omega arith) (omega arith) (l .inv .5 r h))),
+      (λ r h. rw (c .cap .ensures)
+          (raised-turn r last (l .k) (l .row) (omega arith) (omega arith) (omega arith) (l .inv .5 r h))),
     )
 
 returns : tie.Need-returns Inv-loop μ-loop
-returns c = let l = c .before .loop in (l .inv .3, λ r h. raised-end r (c .before .before .args .last) (l .k) (l .row) (omega arith) (l .inv .5 r h))
+returns c =
+    let l = c .before .loop in
+    (l .inv .3, λ r h. raised-end r (c .before .before .args .last) (l .k) (l .row) (omega arith) (l .inv .5 r h))
 
 pub raise-spec : {M : Type 1} → statement M
 raise-spec =

@@ -36,13 +36,16 @@ loop-again : tie.Need-loop-again Inv-loop μ-loop
 loop-again c =
     let l = c .before .before .before .loop in
     let xs = c .before .before .before .before .args .sizes .now in (
-      rw (all-next (λ x. leb 2 x) xs (l .j) (omega arith), ← (l .inv .0))
-          (⊎-elim (λ w. w .1 ∙ sym (rw (lt-leb 2 (getD xs (l .j) 0) (w .0 .taken)) (and-false (l .good)))) (λ w. w .1 ∙ sym (rw (le-leb 2 (getD xs (l .j) 0) (w .0 .left)) (and-true (l .good)))) (c .if1 .came)),
+      rw (all-next (λ x. leb 2 x) xs (l .j) (omega arith), ← (l .inv .0)) (⊎-elim
+          (λ w. w .1 ∙ sym (rw (lt-leb 2 (getD xs (l .j) 0) (w .0 .taken)) (and-false (l .good))))
+          (λ w. w .1 ∙ sym (rw (le-leb 2 (getD xs (l .j) 0) (w .0 .left)) (and-true (l .good))))
+          (c .if1 .came)),
       search needs,
     )
 
 returns : tie.Need-returns Inv-loop μ-loop
-returns c = c .before .loop .inv .0 ∙ rw (whole (c .before .before .args .sizes .now) (c .before .loop .j) (omega arith))
+returns c =
+    c .before .loop .inv .0 ∙ rw (whole (c .before .before .args .sizes .now) (c .before .loop .j) (omega arith))
 
 pub each-two-spec : {M : Type 1} → statement M
 each-two-spec =

@@ -37,11 +37,18 @@ loop-less c = search needs
 loop-again : tie.Need-loop-again Inv-loop μ-loop
 loop-again c =
     let l = c .before .before .before .loop in
-    let xs = c .before .before .before .before .before .args .sizes .now in
-    (omega (arith, sum-next xs (l .i) (omega arith)), omega arith, omega (arith, c .before .shared-slice-known2 .given (l .i)), omega arith, omega arith)
+    let xs = c .before .before .before .before .before .args .sizes .now in (
+      omega (arith, sum-next xs (l .i) (omega arith)),
+      omega arith,
+      omega (arith, c .before .shared-slice-known2 .given (l .i)),
+      omega arith,
+      omega arith,
+    )
 
 returns : tie.Need-returns Inv-loop μ-loop
-returns c = let e : c .before .loop .i ≡ c .before .before .before .args .j = omega arith in c .before .loop .inv .0 ∙ rw e
+returns c =
+    let e : c .before .loop .i ≡ c .before .before .before .args .j = omega arith in
+    c .before .loop .inv .0 ∙ rw e
 
 pub first-index-spec : {M : Type 1} → statement M
 first-index-spec =

@@ -1,4 +1,5 @@
--- `grid::questions::first_no` meets its contract: each return follows from the questions answered yes before it. Assumes nothing.
+-- `grid::questions::first_no` meets its contract: each return follows from the questions answered yes before it.
+-- Assumes nothing.
 use mathlib.Core.Bool.{true}
 use mathlib.Core.Path.{_≡_, sym, _∙_}
 use Prim.Native.Nat.{_≤_, _<_}
@@ -24,23 +25,39 @@ grid c = lent (c .args .sizes .now) (c .args .divisions .now)
 
 yes1 : (c : tie.Else2) → question1 (grid (c .before .before .before .before)) .answeredYes ≡ true
 unfolding grid
-yes1 c = let n = length (c .before .before .before .before .args .sizes .now) in and-both _ _ (le-leb 1 n (omega arith)) (le-leb n 6 (omega arith))
+yes1 c =
+    let n = length (c .before .before .before .before .args .sizes .now) in
+    and-both _ _ (le-leb 1 n (omega arith)) (le-leb n 6 (omega arith))
 
 twos : (c : tie.Else3) → all (λ s. leb 2 s) (c .before .before .before .before .before .before .args .sizes .now) ≡ true
 twos c = sym (c .before .each-two .ensures) ∙ not-false _ (c .if3 .left)
 
-total : (c : tie.After-first-index) → c .first-index .result ≡ sum (c .before .before .before .before .before .before .before .args .sizes .now)
-total c = let ss = c .before .before .before .before .before .before .before .args .sizes .now in c .first-index .ensures ∙ rw (whole ss (length ss) (omega arith))
+total : (c : tie.After-first-index)
+    → c .first-index .result ≡ sum (c .before .before .before .before .before .before .before .args .sizes .now)
+total c =
+    let ss = c .before .before .before .before .before .before .before .args .sizes .now in
+    c .first-index .ensures ∙ rw (whole ss (length ss) (omega arith))
 
-yes2 : (c : tie.Else4) → question2 (grid (c .before .before .before .before .before .before .before .before)) .answeredYes ≡ true
+yes2 : (c : tie.Else4)
+    → question2 (grid (c .before .before .before .before .before .before .before .before)) .answeredYes ≡ true
 unfolding grid
-yes2 c = and-both _ _ (twos (c .before .before)) (le-leb (sum (c .before .before .before .before .before .before .before .before .args .sizes .now)) 16 (omega (arith, total (c .before))))
+yes2 c = and-both _ _ (twos (c .before .before))
+    (le-leb (sum (c .before .before .before .before .before .before .before .before .args .sizes .now)) 16
+    (omega (arith, total (c .before))))
 
-yes3 : (c : tie.Else6) → question3 (grid (c .before .before .before .before .before .before .before .before .before .before .before)) .answeredYes ≡ true
+yes3 : (c : tie.Else6)
+    → question3
+    (grid (c .before .before .before .before .before .before .before .before .before .before .before)) .answeredYes
+    ≡ true
 unfolding grid
-yes3 c = and-both _ _ (eq-eqb _ _ (c .before .before .if5 .left)) (sym (c .before .each-one .ensures) ∙ not-false _ (c .if6 .left))
+yes3 c = and-both _ _ (eq-eqb _ _ (c .before .before .if5 .left))
+    (sym (c .before .each-one .ensures) ∙ not-false _ (c .if6 .left))
 
-points-are : (c : tie.Else6) → numPoints (grid (c .before .before .before .before .before .before .before .before .before .before .before)) ≡ binomialProduct (c .before .before .before .before .before .before .before .before .before .before .before .args .sizes .now) (c .before .before .before .before .before .before .before .before .before .before .before .args .divisions .now)
+points-are : (c : tie.Else6)
+    → numPoints (grid (c .before .before .before .before .before .before .before .before .before .before .before))
+    ≡ binomialProduct
+    (c .before .before .before .before .before .before .before .before .before .before .before .args .sizes .now)
+    (c .before .before .before .before .before .before .before .before .before .before .before .args .divisions .now)
 unfolding grid
 points-are c = numPoints-is _ (twos (c .before .before .before .before .before))
 
@@ -50,7 +67,9 @@ returns c = rw (lt-leb 1 (length (c .before .before .before .args .sizes .now)) 
 
 returns-2 : tie.Need-returns-2
 unfolding firstNo grid
-returns-2 c = let n = length (c .before .before .before .before .args .sizes .now) in rw (le-leb 1 n (omega arith), lt-leb n 6 (omega arith))
+returns-2 c =
+    let n = length (c .before .before .before .before .args .sizes .now) in
+    rw (le-leb 1 n (omega arith), lt-leb n 6 (omega arith))
 
 each-two-requires : tie.Need-each-two-requires
 each-two-requires c κs = search needs
@@ -64,7 +83,12 @@ first-index-requires c κs = search needs
 
 returns-4 : tie.Need-returns-4
 unfolding firstNo grid
-returns-4 c = rw (yes1 (c .before .before .before .before), twos (c .before .before), lt-leb (sum (c .before .before .before .before .before .before .before .before .args .sizes .now)) 16 (omega (arith, total (c .before))))
+returns-4 c = rw (
+  yes1 (c .before .before .before .before),
+  twos (c .before .before),
+  lt-leb (sum (c .before .before .before .before .before .before .before .before .args .sizes .now)) 16
+      (omega (arith, total (c .before))),
+)
 
 returns-5 : tie.Need-returns-5
 unfolding firstNo grid
@@ -75,22 +99,53 @@ each-one-requires c κs = search needs
 
 returns-6 : tie.Need-returns-6
 unfolding firstNo grid
-returns-6 c = rw (yes1 (c .before .before .before .before .before .before .before), yes2 (c .before .before .before), eq-eqb _ _ (c .before .before .if5 .left), sym (c .before .each-one .ensures) ∙ not-true _ (c .if6 .taken))
+returns-6 c = rw (
+  yes1 (c .before .before .before .before .before .before .before),
+  yes2 (c .before .before .before),
+  eq-eqb _ _ (c .before .before .if5 .left),
+  sym (c .before .each-one .ensures) ∙ not-true _ (c .if6 .taken),
+)
 
 points-requires : tie.Need-points-requires
-points-requires c κs = (twos (c .before .before .before .before .before), omega (arith, total (c .before .before .before .before)), c .before .before .if5 .left)
+points-requires c κs = (
+  twos (c .before .before .before .before .before),
+  omega (arith, total (c .before .before .before .before)),
+  c .before .before .if5 .left,
+)
 
 returns-7 : tie.Need-returns-7
 unfolding firstNo grid
 returns-7 c =
-    let big : 60000 < numPoints (grid (c .before .before .before .before .before .before .before .before .before .before .before .before .before)) = omega (arith, points-are (c .before .before), c .before .points .ensures) in
-    rw (yes1 (c .before .before .before .before .before .before .before .before .before), yes2 (c .before .before .before .before .before), yes3 (c .before .before), lt-leb (numPoints (grid (c .before .before .before .before .before .before .before .before .before .before .before .before .before))) 60000 big)
+    let big : 60000
+    < numPoints
+    (grid (c .before .before .before .before .before .before .before .before .before .before .before .before .before)) =
+    omega (arith, points-are (c .before .before), c .before .points .ensures) in
+    rw (
+      yes1 (c .before .before .before .before .before .before .before .before .before),
+      yes2 (c .before .before .before .before .before),
+      yes3 (c .before .before),
+      lt-leb
+          (numPoints (grid
+          (c .before .before .before .before .before .before .before .before .before .before .before .before .before)))
+          60000 big,
+    )
 
 returns-8 : tie.Need-returns-8
 unfolding firstNo grid
 returns-8 c =
-    let small : numPoints (grid (c .before .before .before .before .before .before .before .before .before .before .before .before .before)) ≤ 60000 = omega (arith, points-are (c .before .before), c .before .points .ensures) in
-    rw (yes1 (c .before .before .before .before .before .before .before .before .before), yes2 (c .before .before .before .before .before), yes3 (c .before .before), le-leb (numPoints (grid (c .before .before .before .before .before .before .before .before .before .before .before .before .before))) 60000 small)
+    let small : numPoints
+    (grid (c .before .before .before .before .before .before .before .before .before .before .before .before .before))
+    ≤ 60000 =
+    omega (arith, points-are (c .before .before), c .before .points .ensures) in
+    rw (
+      yes1 (c .before .before .before .before .before .before .before .before .before),
+      yes2 (c .before .before .before .before .before),
+      yes3 (c .before .before),
+      le-leb
+          (numPoints (grid
+          (c .before .before .before .before .before .before .before .before .before .before .before .before .before)))
+          60000 small,
+    )
 
 pub first-no-spec : {M : Type 1} → statement M
 first-no-spec =

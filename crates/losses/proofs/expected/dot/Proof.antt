@@ -37,13 +37,19 @@ mul-total-2 : tie.Need-mul-total-2 Inv-loop μ-loop
 mul-total-2 c =
     let l = c .before .before .before .before .loop in
     let a = c .before .before .before .before .before .before .before .args in
-    record { fits = rw (c .before .long .ensures) (omega (arith, dot-turn (a .mix .now) (a .values .now) (l .i) (omega arith) (omega arith))) }
+    record {
+      fits = rw (c .before .long .ensures)
+          (omega (arith, dot-turn (a .mix .now) (a .values .now) (l .i) (omega arith) (omega arith)));
+    }
 
 add-total : tie.Need-add-total Inv-loop μ-loop
 add-total c =
     let l = c .before .before .before .before .loop in
     let a = c .before .before .before .before .before .before .before .args in
-    record { fits = rw (c .before .long .ensures) (omega (arith, dot-turn (a .mix .now) (a .values .now) (l .i) (omega arith) (omega arith))) }
+    record {
+      fits = rw (c .before .long .ensures)
+          (omega (arith, dot-turn (a .mix .now) (a .values .now) (l .i) (omega arith) (omega arith)));
+    }
 
 add-i : tie.Need-add-i Inv-loop μ-loop
 add-i c = omega arith
@@ -54,8 +60,11 @@ loop-less c = omega arith
 loop-again : tie.Need-loop-again Inv-loop μ-loop
 loop-again c =
     let l = c .before .before .before .before .loop in
-    let a = c .before .before .before .before .before .before .before .args in
-    (rw (c .before .long .ensures) (omega (arith, dot-turn (a .mix .now) (a .values .now) (l .i) (omega arith) (omega arith))), omega arith)
+    let a = c .before .before .before .before .before .before .before .args in (
+      rw (c .before .long .ensures)
+          (omega (arith, dot-turn (a .mix .now) (a .values .now) (l .i) (omega arith) (omega arith))),
+      omega arith,
+    )
 
 returns : tie.Need-returns Inv-loop μ-loop
 returns c =

@@ -25,20 +25,31 @@ module _ (c : tie.After-wide2) where
   abbrev g : Grid
   g = lent (start .args .sizes .now) (start .args .divisions .now)
 
-  abbrev game : GameAtPoint g (start .args .firsts .now) (start .pre .0 .0) (start .args .point .now) (start .args .values .now)
+  abbrev game : GameAtPoint g (start .args .firsts .now) (start .pre .0 .0) (start .args .point .now)
+      (start .args .values .now)
   game = start .pre .0 .1
 
   first-is : c .before .before .wide .result ≡ firstIndex g (start .args .player)
   first-is = c .before .before .wide .ensures ∙ game .point .grid .first (start .args .player) (start .pre .1)
 
   inside : firstIndex g (start .args .player) + c .wide2 .result ≤ length (start .args .point .now)
-  inside = omega (arith, c .wide2 .ensures, block-fits (start .args .sizes .now) (start .args .player), point-length g (yes start) (start .args .point .now) (game .point .isPoint))
+  inside = omega (
+    arith,
+    c .wide2 .ensures,
+    block-fits (start .args .sizes .now) (start .args .player),
+    point-length g (yes start) (start .args .point .now) (game .point .isPoint),
+  )
 
   inside-values : firstIndex g (start .args .player) + c .wide2 .result ≤ length (start .args .values .now)
-  inside-values = omega (arith, c .wide2 .ensures, block-fits (start .args .sizes .now) (start .args .player), game .room)
+  inside-values =
+      omega (arith, c .wide2 .ensures, block-fits (start .args .sizes .now) (start .args .player), game .room)
 
 element-copy-out-wide : tie.Need-element-copy-out-wide
-element-copy-out-wide c = omega (arith, yes (c .before .before .before .before .before .before) .fewBlocks, c .before .before .before .before .before .before .pre .1)
+element-copy-out-wide c = omega (
+  arith,
+  yes (c .before .before .before .before .before .before) .fewBlocks,
+  c .before .before .before .before .before .before .pre .1,
+)
 
 wide-requires : tie.Need-wide-requires
 wide-requires c κs = search needs
@@ -80,7 +91,12 @@ mul-put-losses-3 : tie.Need-mul-put-losses-3
 mul-put-losses-3 c = search needs
 
 shared-slice-read-put-losses : tie.Need-shared-slice-read-put-losses
-shared-slice-read-put-losses c = omega (arith, yes (c .before .before .before .before .before .before .before .before .before .before .before .before .before) .sameNumber, c .before .before .before .before .before .before .before .before .before .before .before .before .before .pre .1)
+shared-slice-read-put-losses c = omega (
+  arith,
+  yes (c .before .before .before .before .before .before
+      .before .before .before .before .before .before .before) .sameNumber,
+  c .before .before .before .before .before .before .before .before .before .before .before .before .before .pre .1,
+)
 
 put-losses-requires : tie.Need-put-losses-requires
 put-losses-requires c κs =
@@ -88,8 +104,12 @@ put-losses-requires c κs =
     let s = start w in
     let t = s .pre .0 .0 in
     let stand = game w .stand in
-    let fits = player-fits (g w) (start w .args .firsts .now) t (start w .args .point .now) (game w .point) (start w .args .player) (start w .pre .1) (start w .args .values .now) (game w .room) stand (w .before .before .wide .result) (w .wide2 .result) (first-is w) (w .wide2 .ensures) (game w .table) in
-    let ends = player-ends (g w) (start w .args .firsts .now) t (start w .args .point .now) (game w .point) (start w .args .player) (start w .pre .1) (start w .args .values .now) (game w .room) stand (w .before .before .wide .result) (w .wide2 .result) (first-is w) (w .wide2 .ensures) in
+    let fits = player-fits (g w) (start w .args .firsts .now) t (start w .args .point .now) (game w .point)
+    (start w .args .player) (start w .pre .1) (start w .args .values .now) (game w .room) stand
+    (w .before .before .wide .result) (w .wide2 .result) (first-is w) (w .wide2 .ensures) (game w .table) in
+    let ends = player-ends (g w) (start w .args .firsts .now) t (start w .args .point .now) (game w .point)
+    (start w .args .player) (start w .pre .1) (start w .args .values .now) (game w .room) stand
+    (w .before .before .wide .result) (w .wide2 .result) (first-is w) (w .wide2 .ensures) in
     (fits, omega (arith, ends, s .pre .2 .ofExpected), omega (arith, ends, s .pre .2 .ofReplaced))
 
 same-length : tie.Need-same-length
@@ -101,8 +121,18 @@ same-length-2 c = search needs
 returns : tie.Need-returns
 returns c =
     let w = c .before .before .before .before .before .before .before .before .before .before in
-    let p = c .before .before .before .before .put-losses .ensures in
-    ((λ t stand. p .0 ∙ player-expected (g w) (start w .args .firsts .now) t (start w .args .point .now) (game w .point) (start w .args .player) (start w .pre .1) (start w .args .values .now) (game w .room) stand (w .before .before .wide .result) (w .wide2 .result) (first-is w) (w .wide2 .ensures) (start w .args .expected .now)), λ t stand. p .1 ∙ player-replaced (g w) (start w .args .firsts .now) t (start w .args .point .now) (game w .point) (start w .args .player) (start w .pre .1) (start w .args .values .now) (game w .room) stand (w .before .before .wide .result) (w .wide2 .result) (first-is w) (w .wide2 .ensures) (start w .args .replaced .now))
+    let p = c .before .before .before .before .put-losses .ensures in (
+      (λ t stand. p .0
+          ∙ player-expected (g w) (start w .args .firsts .now) t (start w .args .point .now) (game w .point)
+          (start w .args .player) (start w .pre .1) (start w .args .values .now) (game w .room) stand
+          (w .before .before .wide .result) (w .wide2 .result) (first-is w) (w .wide2 .ensures)
+          (start w .args .expected .now)),
+      λ t stand. p .1
+          ∙ player-replaced (g w) (start w .args .firsts .now) t (start w .args .point .now) (game w .point)
+          (start w .args .player) (start w .pre .1) (start w .args .values .now) (game w .room) stand
+          (w .before .before .wide .result) (w .wide2 .result) (first-is w) (w .wide2 .ensures)
+          (start w .args .replaced .now),
+    )
 
 pub weigh-player-spec : {M : Type 1} → statement M
 weigh-player-spec =

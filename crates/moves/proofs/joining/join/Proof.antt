@@ -40,12 +40,17 @@ returns : tie.Need-returns
 returns c =
     let a = c .before .before .before .before .before .before .args in
     let n = a .s .count in
-    let marks : take (suc (n + 1)) (c .before .before .insert2 .last .0) ≡ insertAt (suc (a .i)) 0 (take (suc n) (a .marks .now)) =
-    rw (← add-one (n + 1), ← add-one (a .i), ← add-one n) (c .before .before .insert2 .ensures .0)
-    in
+    let marks : take (suc (n + 1)) (c .before .before .insert2 .last .0)
+    ≡ insertAt (suc (a .i)) 0 (take (suc n) (a .marks .now)) =
+    rw (← add-one (n + 1), ← add-one (a .i), ← add-one n) (c .before .before .insert2 .ensures .0) in
     record {
-      state = λ round first coefficients. same-state round (a .rule) refl refl (c .before .before .before .before .insert .ensures .0) marks (c .before .add .ensures) (c .without .ensures) (add-one (a .i));
-      each = record { inOrder = c .before .before .before .before .insert .ensures .1; inMarks = c .before .before .insert2 .ensures .1 };
+      state = λ round first coefficients. same-state round (a .rule) refl refl
+          (c .before .before .before .before .insert .ensures .0) marks (c .before .add .ensures) (c .without .ensures)
+          (add-one (a .i));
+      each = record {
+        inOrder = c .before .before .before .before .insert .ensures .1;
+        inMarks = c .before .before .insert2 .ensures .1;
+      };
     }
 
 pub join-spec : {M : Type 1} → statement M

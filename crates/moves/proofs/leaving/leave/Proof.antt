@@ -5,25 +5,40 @@ use native.Mathlib.Omega.{arith}
 use Rattle.arrays.specs.Rounds.{roundOf}
 use Rattle.combinatorics.proofs.EditsOfArrays.{counted}
 use Rattle.moves.specs.Held.{stateOf}
-use Rattle.moves.proofs.Cases.{beside, besideAfter, onRoundAfter, middle-beside, last-beside, is-first, is-middle, is-last}
+use Rattle.moves.proofs.Cases.{beside, besideAfter, onRoundAfter, middle-beside, last-beside, is-first}
+use Rattle.moves.proofs.Cases.{is-middle, is-last}
 use Rattle.rules.specs.Step.{State, goes}
 use borrow.Author.Needs.{needs}
 use Rattle.moves.proofs.leaving.leave.Statement.{statement}
 use Rattle.moves.proofs.leaving.leave.Tie as tie
 
 leave-first-requires : tie.Need-leave-first-requires
-leave-first-requires c κs = let s = c .before .before .before .before .before in (s .pre .0, s .pre .1 .first (c .before .before .before .before .if1 .taken))
+leave-first-requires c κs =
+    let s = c .before .before .before .before .before in
+    (s .pre .0, s .pre .1 .first (c .before .before .before .before .if1 .taken))
 
 returns : tie.Need-returns
 returns c =
     let s = c .before .before .before .before .before .before in
     let a = s .args in
-    record { after = c .leave-first .ensures .after ∙ is-first (stateOf (roundOf (a .previous .now) (a .next .now) (a .sizes .now)) (a .first .now) (a .coefficients .now) (a .order .now) (a .marks .now) (a .s)) (a .i) (c .before .before .before .before .before .if1 .taken); each = c .leave-first .ensures .each }
+    record {
+      after = c .leave-first .ensures .after
+          ∙ is-first
+          (stateOf (roundOf (a .previous .now) (a .next .now) (a .sizes .now)) (a .first .now) (a .coefficients .now)
+          (a .order .now) (a .marks .now) (a .s))
+          (a .i) (c .before .before .before .before .before .if1 .taken);
+      each = c .leave-first .ensures .each;
+    }
 
 leave-middle-requires : tie.Need-leave-middle-requires
 leave-middle-requires c κs =
-    let s = c .before .before .before .before .before .before in
-    ((s .pre .0 .0 .backward, s .pre .0 .1), record { behindFirst = omega (arith, c .before .before .before .before .before .if1 .left); beforeLast = c .before .before .before .if2 .taken })
+    let s = c .before .before .before .before .before .before in (
+      (s .pre .0 .0 .backward, s .pre .0 .1),
+      record {
+        behindFirst = omega (arith, c .before .before .before .before .before .if1 .left);
+        beforeLast = c .before .before .before .if2 .taken;
+      },
+    )
 
 returns-2 : tie.Need-returns-2
 returns-2 c =
@@ -31,11 +46,16 @@ returns-2 c =
     let a = s .args in
     let n = counted (a .order .now) (a .s .count) (s .pre .0 .1 .each .inOrder) (s .pre .1 .few) in
     let round = roundOf (a .previous .now) (a .next .now) (a .sizes .now) in
-    let given = stateOf (roundOf (a .previous .now) [] (a .sizes .now)) (a .first .now) [] (a .order .now) (a .marks .now) (a .s) in
+    let given =
+    stateOf (roundOf (a .previous .now) [] (a .sizes .now)) (a .first .now) [] (a .order .now) (a .marks .now) (a .s) in
     record {
       after = ap (besideAfter round (a .first .now) (a .coefficients .now)) (c .leave-middle .ensures .after)
           ∙ ap (λ (x : State). goes x) (middle-beside given (a .next .now) (a .coefficients .now) (a .i))
-          ∙ is-middle (stateOf (roundOf (a .previous .now) (a .next .now) (a .sizes .now)) (a .first .now) (a .coefficients .now) (a .order .now) (a .marks .now) (a .s)) (a .i) (c .before .before .before .before .before .before .if1 .left) (rw n (c .before .before .before .before .if2 .taken));
+          ∙ is-middle
+          (stateOf (roundOf (a .previous .now) (a .next .now) (a .sizes .now)) (a .first .now) (a .coefficients .now)
+          (a .order .now) (a .marks .now) (a .s))
+          (a .i) (c .before .before .before .before .before .before .if1 .left)
+          (rw n (c .before .before .before .before .if2 .taken));
       each = c .leave-middle .ensures .each;
     }
 
@@ -53,10 +73,16 @@ returns-3 c =
     let a = s .args in
     let n = counted (a .order .now) (a .s .count) (s .pre .0 .1 .each .inOrder) (s .pre .1 .few) in
     let round = roundOf (a .previous .now) (a .next .now) (a .sizes .now) in
-    let given = stateOf (roundOf (a .previous .now) [] (a .sizes .now)) (a .first .now) (a .coefficients .now) (a .order .now) (a .marks .now) (a .s) in
+    let given = stateOf (roundOf (a .previous .now) [] (a .sizes .now)) (a .first .now) (a .coefficients .now)
+    (a .order .now) (a .marks .now) (a .s) in
     record {
-      after = ap (onRoundAfter round) (c .leave-last .ensures .after) ∙ ap (λ (x : State). goes x) (last-beside given (a .next .now))
-          ∙ is-last (stateOf (roundOf (a .previous .now) (a .next .now) (a .sizes .now)) (a .first .now) (a .coefficients .now) (a .order .now) (a .marks .now) (a .s)) (a .i) (c .before .before .before .before .before .before .before .if1 .left) (rw n (c .before .before .before .before .before .if2 .left));
+      after = ap (onRoundAfter round) (c .leave-last .ensures .after)
+          ∙ ap (λ (x : State). goes x) (last-beside given (a .next .now))
+          ∙ is-last
+          (stateOf (roundOf (a .previous .now) (a .next .now) (a .sizes .now)) (a .first .now) (a .coefficients .now)
+          (a .order .now) (a .marks .now) (a .s))
+          (a .i) (c .before .before .before .before .before .before .before .if1 .left)
+          (rw n (c .before .before .before .before .before .if2 .left));
       each = c .leave-last .ensures .each;
     }
 

@@ -22,7 +22,12 @@ returns c =
     let a = s .args in
     let f = s .pre .1 .0 in
     record {
-      after = facet-end (stateOf (roundOf (a .previous .now) (a .next .now) (a .sizes .now)) (a .first .now) (a .coefficients .now) (a .order .now) (a .marks .now) (a .s)) (a .h) (a .b) (f .atH) (f .atB) (sym (c .before .before .before .vanishes .ensures) ∙ c .before .before .if1 .taken) (sym (c .before .is-filled .ensures) ∙ c .if2 .taken);
+      after = facet-end
+          (stateOf (roundOf (a .previous .now) (a .next .now) (a .sizes .now)) (a .first .now) (a .coefficients .now)
+          (a .order .now) (a .marks .now) (a .s))
+          (a .h) (a .b) (f .atH) (f .atB)
+          (sym (c .before .before .before .vanishes .ensures) ∙ c .before .before .if1 .taken)
+          (sym (c .before .is-filled .ensures) ∙ c .if2 .taken);
       each = s .pre .0 .1 .each;
     }
 
@@ -32,8 +37,20 @@ go-forward-requires c κs =
     let a = s .args in
     let long = length-take-le (a .s .count) (a .order .now) (omega arith) in
     let f = s .pre .1 .0 in
-    let r = first-ready (stateOf (roundOf (a .previous .now) (a .next .now) (a .sizes .now)) (a .first .now) (a .coefficients .now) (a .order .now) (a .marks .now) (a .s)) (a .h) (a .b) (f .atH) (f .atB) (s .pre .1 .1) in
-    (record { some = omega (arith, s .pre .1 .1 .some); few = s .pre .0 .1 .few; index = f .index; source = f .source; each = s .pre .0 .1 .each; below = s .pre .0 .0 .backward }, record { fits = r .0; positive = r .1; raised = r .2 })
+    let r = first-ready
+    (stateOf (roundOf (a .previous .now) (a .next .now) (a .sizes .now)) (a .first .now) (a .coefficients .now)
+    (a .order .now) (a .marks .now) (a .s))
+    (a .h) (a .b) (f .atH) (f .atB) (s .pre .1 .1) in (
+      record {
+        some = omega (arith, s .pre .1 .1 .some);
+        few = s .pre .0 .1 .few;
+        index = f .index;
+        source = f .source;
+        each = s .pre .0 .1 .each;
+        below = s .pre .0 .0 .backward;
+      },
+      record { fits = r .0; positive = r .1; raised = r .2 },
+    )
 
 add-requires : tie.Need-add-requires
 add-requires c κs = search needs
@@ -46,8 +63,17 @@ returns-2 c =
     let f = s .pre .1 .0 in
     let g = c .before .go-forward .ensures in
     record {
-      after = ap (λ (x : State). goes x) (same-state _ 2 (g .point) (g .list) (g .steps) (g .marked) refl (c .add .ensures) (sym long))
-          ∙ U-gains (stateOf (roundOf (a .previous .now) (a .next .now) (a .sizes .now)) (a .first .now) (a .coefficients .now) (a .order .now) (a .marks .now) (a .s)) (a .h) (a .b) (f .atH) (f .atB) (sym (c .before .before .before .before .before .before .before .before .before .vanishes .ensures) ∙ c .before .before .before .before .before .before .before .before .if1 .taken) (sym (c .before .before .before .before .before .before .before .is-filled .ensures) ∙ c .before .before .before .before .before .before .if2 .left);
+      after =
+          ap (λ (x : State). goes x)
+          (same-state _ 2 (g .point) (g .list) (g .steps) (g .marked) refl (c .add .ensures) (sym long))
+          ∙ U-gains
+          (stateOf (roundOf (a .previous .now) (a .next .now) (a .sizes .now)) (a .first .now) (a .coefficients .now)
+          (a .order .now) (a .marks .now) (a .s))
+          (a .h) (a .b) (f .atH) (f .atB)
+          (sym (c .before .before .before .before .before .before .before .before .before .vanishes .ensures)
+          ∙ c .before .before .before .before .before .before .before .before .if1 .taken)
+          (sym (c .before .before .before .before .before .before .before .is-filled .ensures)
+          ∙ c .before .before .before .before .before .before .if2 .left);
       each = g .each;
     }
 
@@ -57,8 +83,20 @@ go-forward-requires-2 c κs =
     let a = s .args in
     let long = length-take-le (a .s .count) (a .order .now) (omega arith) in
     let f = s .pre .1 .0 in
-    let r = first-ready (stateOf (roundOf (a .previous .now) (a .next .now) (a .sizes .now)) (a .first .now) (a .coefficients .now) (a .order .now) (a .marks .now) (a .s)) (a .h) (a .b) (f .atH) (f .atB) (s .pre .1 .1) in
-    (record { some = omega (arith, s .pre .1 .1 .some); few = s .pre .0 .1 .few; index = f .index; source = f .source; each = s .pre .0 .1 .each; below = s .pre .0 .0 .backward }, record { fits = r .0; positive = r .1; raised = r .2 })
+    let r = first-ready
+    (stateOf (roundOf (a .previous .now) (a .next .now) (a .sizes .now)) (a .first .now) (a .coefficients .now)
+    (a .order .now) (a .marks .now) (a .s))
+    (a .h) (a .b) (f .atH) (f .atB) (s .pre .1 .1) in (
+      record {
+        some = omega (arith, s .pre .1 .1 .some);
+        few = s .pre .0 .1 .few;
+        index = f .index;
+        source = f .source;
+        each = s .pre .0 .1 .each;
+        below = s .pre .0 .0 .backward;
+      },
+      record { fits = r .0; positive = r .1; raised = r .2 },
+    )
 
 returns-3 : tie.Need-returns-3
 returns-3 c =
@@ -68,8 +106,14 @@ returns-3 c =
     let f = s .pre .1 .0 in
     let g = c .go-forward2 .ensures in
     record {
-      after = ap (λ (x : State). goes x) (same-state _ 1 (g .point) (g .list) (g .steps) (g .marked) refl refl (sym long))
-          ∙ first-leaves (stateOf (roundOf (a .previous .now) (a .next .now) (a .sizes .now)) (a .first .now) (a .coefficients .now) (a .order .now) (a .marks .now) (a .s)) (a .h) (a .b) (f .atH) (f .atB) (sym (c .before .before .before .before .before .before .vanishes .ensures) ∙ c .before .before .before .before .before .if1 .left);
+      after =
+          ap (λ (x : State). goes x) (same-state _ 1 (g .point) (g .list) (g .steps) (g .marked) refl refl (sym long))
+          ∙ first-leaves
+          (stateOf (roundOf (a .previous .now) (a .next .now) (a .sizes .now)) (a .first .now) (a .coefficients .now)
+          (a .order .now) (a .marks .now) (a .s))
+          (a .h) (a .b) (f .atH) (f .atB)
+          (sym (c .before .before .before .before .before .before .vanishes .ensures)
+          ∙ c .before .before .before .before .before .if1 .left);
       each = g .each;
     }
 

@@ -29,8 +29,14 @@ leave-last-at-requires c κs =
     let a = s .args in
     let h = c .before .before .before .before .index-at in
     let long = length-take-le (a .s .count) (a .order .now) (omega arith) in
-    let atLast : h .result ≡ at (take (a .s .count) (a .order .now)) (length (take (a .s .count) (a .order .now)) - 1) = rw long (h .ensures .is) in
-    (s .pre .0, (record { some = omega (arith, s .pre .1 .some); index = h .ensures .index; atH = h .ensures .is }, rw atLast (s .pre .1)))
+    let atLast : h .result ≡ at (take (a .s .count) (a .order .now)) (length (take (a .s .count) (a .order .now)) - 1) =
+    rw long (h .ensures .is) in (
+      s .pre .0,
+      (
+        record { some = omega (arith, s .pre .1 .some); index = h .ensures .index; atH = h .ensures .is },
+        rw atLast (s .pre .1),
+      ),
+    )
 
 returns : tie.Need-returns
 returns c = c .leave-last-at .ensures

@@ -54,8 +54,12 @@ returns c =
     let round = roundOf (a .previous .now) [] (a .sizes .now) in
     record {
       after = ap (besideAfter round (a .first .now) []) (c .shrink .ensures .after)
-          ∙ ap (λ (x : State). goes x) (shrink-beside (stateOf noRound [] [] (a .order .now) (a .marks .now) (a .s)) (a .first .now) [] round (a .i) (a .i - 1) true
-          ∙ middle-to-U (stateOf round (a .first .now) [] (a .order .now) (a .marks .now) (a .s)) (a .i) (h .result) (w .result) (b .result) (h .ensures .is) (w .ensures .is) (b .ensures .0) (c .before .before .before .before .before .if1 .taken) (c .before .before .before .if2 .taken));
+          ∙ ap (λ (x : State). goes x)
+          (shrink-beside (stateOf noRound [] [] (a .order .now) (a .marks .now) (a .s)) (a .first .now) [] round (a .i)
+          (a .i - 1) true
+          ∙ middle-to-U (stateOf round (a .first .now) [] (a .order .now) (a .marks .now) (a .s)) (a .i) (h .result)
+          (w .result) (b .result) (h .ensures .is) (w .ensures .is) (b .ensures .0)
+          (c .before .before .before .before .before .if1 .taken) (c .before .before .before .if2 .taken));
       each = c .shrink .ensures .each;
     }
 
@@ -73,13 +77,15 @@ returns-2 c =
     let w = c .before .before .before .before .index-at2 in
     let b = c .before .before .before .source in
     let round = roundOf (a .previous .now) [] (a .sizes .now) in
-    let stays : (w .result ≡ b .result → at (a .first .now) (b .result) ≡ 0 → ⊥) = ⊎-elim (λ t _. t .2 .left) (λ t e _. t .left e) (c .before .before .if1 .came) in
+    let stays : (w .result ≡ b .result → at (a .first .now) (b .result) ≡ 0 → ⊥) =
+    ⊎-elim (λ t _. t .2 .left) (λ t e _. t .left e) (c .before .before .if1 .came) in
     let order : take (a .s .count) (c .exchange .last .0) ≡ swapAt (a .i - 1) (take (a .s .count) (a .order .now)) =
-    rw (c .exchange .ensures .0) (take-swap (a .s .count) (a .i - 1) (a .order .now) (omega arith))
-    in
+    rw (c .exchange .ensures .0) (take-swap (a .s .count) (a .i - 1) (a .order .now) (omega arith)) in
     record {
-      after = ap (λ (x : State). goes x) (same-state _ 1 refl refl order refl refl refl refl
-          ∙ steps-exchanged (stateOf round (a .first .now) [] (a .order .now) (a .marks .now) (a .s)) (a .i) (h .result) (w .result) (b .result) (h .ensures .is) (w .ensures .is) (b .ensures .0) stays);
+      after = ap (λ (x : State). goes x)
+          (same-state _ 1 refl refl order refl refl refl refl
+          ∙ steps-exchanged (stateOf round (a .first .now) [] (a .order .now) (a .marks .now) (a .s)) (a .i) (h .result)
+          (w .result) (b .result) (h .ensures .is) (w .ensures .is) (b .ensures .0) stays);
       each = record { inOrder = c .exchange .ensures .1; inMarks = s .pre .0 .1 .each .inMarks };
     }
 

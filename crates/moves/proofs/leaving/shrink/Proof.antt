@@ -46,10 +46,20 @@ returns c =
     let a = s .args in
     let h = c .before .before .before .before .before .before .before .before .before .index-at in
     record {
-      after = ap (λ (x : State). goes x) (shrinks noRound [] [] (a .order .now) (a .marks .now) (c .before .before .before .before .before .before .before .remove .last .0) (c .before .before .before .before .before .remove2 .last .0) (a .s) (a .i) (a .e) (s .pre .1 .entry) (h .result) true
-          (h .ensures .is) (c .before .before .before .before .before .before .before .remove .ensures .0) (c .before .before .before .before .before .remove2 .ensures .0) (c .before .before .before .find .ensures) (c .before .before .without .ensures) (c .add .ensures)
-          ∙ ap (shrink (stateOf noRound [] [] (a .order .now) (a .marks .now) (a .s)) (a .i) (a .e)) (sym (c .before .if1 .taken)));
-      each = record { inOrder = c .before .before .before .before .before .before .before .remove .ensures .1; inMarks = c .before .before .before .before .before .remove2 .ensures .1 };
+      after = ap (λ (x : State). goes x)
+          (shrinks noRound [] [] (a .order .now) (a .marks .now)
+          (c .before .before .before .before .before .before .before .remove .last .0)
+          (c .before .before .before .before .before .remove2 .last .0) (a .s) (a .i) (a .e) (s .pre .1 .entry)
+          (h .result) true (h .ensures .is)
+          (c .before .before .before .before .before .before .before .remove .ensures .0)
+          (c .before .before .before .before .before .remove2 .ensures .0) (c .before .before .before .find .ensures)
+          (c .before .before .without .ensures) (c .add .ensures)
+          ∙ ap (shrink (stateOf noRound [] [] (a .order .now) (a .marks .now) (a .s)) (a .i) (a .e))
+          (sym (c .before .if1 .taken)));
+      each = record {
+        inOrder = c .before .before .before .before .before .before .before .remove .ensures .1;
+        inMarks = c .before .before .before .before .before .remove2 .ensures .1;
+      };
     }
 
 sub-t15 : tie.Need-sub-t15
@@ -61,10 +71,19 @@ returns-2 c =
     let a = s .args in
     let h = c .before .before .before .before .before .before .before .before .index-at in
     record {
-      after = ap (λ (x : State). goes x) (shrinks noRound [] [] (a .order .now) (a .marks .now) (c .before .before .before .before .before .before .remove .last .0) (c .before .before .before .before .remove2 .last .0) (a .s) (a .i) (a .e) (s .pre .1 .entry) (h .result) false
-          (h .ensures .is) (c .before .before .before .before .before .before .remove .ensures .0) (c .before .before .before .before .remove2 .ensures .0) (c .before .before .find .ensures) (c .before .without .ensures) refl
-          ∙ ap (shrink (stateOf noRound [] [] (a .order .now) (a .marks .now) (a .s)) (a .i) (a .e)) (sym (c .if1 .left)));
-      each = record { inOrder = c .before .before .before .before .before .before .remove .ensures .1; inMarks = c .before .before .before .before .remove2 .ensures .1 };
+      after = ap (λ (x : State). goes x)
+          (shrinks noRound [] [] (a .order .now) (a .marks .now)
+          (c .before .before .before .before .before .before .remove .last .0)
+          (c .before .before .before .before .remove2 .last .0) (a .s) (a .i) (a .e) (s .pre .1 .entry) (h .result)
+          false (h .ensures .is) (c .before .before .before .before .before .before .remove .ensures .0)
+          (c .before .before .before .before .remove2 .ensures .0) (c .before .before .find .ensures)
+          (c .before .without .ensures) refl
+          ∙ ap (shrink (stateOf noRound [] [] (a .order .now) (a .marks .now) (a .s)) (a .i) (a .e))
+          (sym (c .if1 .left)));
+      each = record {
+        inOrder = c .before .before .before .before .before .before .remove .ensures .1;
+        inMarks = c .before .before .before .before .remove2 .ensures .1;
+      };
     }
 
 pub shrink-spec : {M : Type 1} → statement M

@@ -15,7 +15,9 @@ has-requires : tie.Need-has-requires
 has-requires c κs = search needs
 
 returns : tie.Need-returns
-returns c = let a = c .before .before .before .args in rw (eq-eqb (at (a .first .now) (a .b)) 1 (c .before .if1 .taken), c .has .ensures)
+returns c =
+    let a = c .before .before .before .args in
+    rw (eq-eqb (at (a .first .now) (a .b)) 1 (c .before .if1 .taken), c .has .ensures)
 
 returns-2 : tie.Need-returns-2
 returns-2 c = let a = c .before .before .args in rw (ne-eqb (at (a .first .now) (a .b)) 1 (c .if1 .left))

@@ -34,7 +34,8 @@ returns : tie.Need-returns
 returns c =
     let a = c .before .before .before .args in
     let e : 16 - a .k ≡ 15 - (a .k - 1) = omega arith in
-    c .wide16 .ensures .0 ∙ rw (e, lists-row (a .k) (a .x) (omega arith)) (c .before .before .before .pre .1 (omega arith) .1)
+    c .wide16 .ensures .0
+    ∙ rw (e, lists-row (a .k) (a .x) (omega arith)) (c .before .before .before .pre .1 (omega arith) .1)
 
 add-result : tie.Need-add-result
 add-result c = search needs

@@ -20,19 +20,34 @@ indices c =
     made-indices s m ∙ all-indices (shape s) (made-accepted s m) (omega (arith, made-blocks s m, c .pre .2))
 
 -- what both entries ask
-asked : (c : tie.Start) (k : ℕ) → k < c .args .g .indices → (c .args .r + 1 ≤ 60000) × (2 < k → InTable (k - 1) (c .args .r + 1) × IsBinomial (c .args .t .now) (k - 1) (c .args .r + 1))
+asked : (c : tie.Start) (k : ℕ) → k < c .args .g .indices
+    → (c .args .r + 1 ≤ 60000)
+    × (2 < k → InTable (k - 1) (c .args .r + 1) × IsBinomial (c .args .t .now) (k - 1) (c .args .r + 1))
 asked c k l =
     let s = c .args .g in
     let m = c .pre .0 in
     let one = c .pre .2 in (
       omega (arith, division-range s m 0 (omega arith) .1, c .pre .5),
-      λ h. (in-smaller (k - 1) (division (shape s) 0) (in-table (k - 1) (division (shape s) 0) (pred (size (shape s) 0)) (omega arith) (omega (arith, indices c)) (omega (arith, indices c, indices-few s m)) (count-range s m 0 (omega arith))) (k - 1) (c .args .r + 1) (omega arith) (omega arith) (omega (arith, c .pre .5)), c .pre .1 .rows 0 (omega (arith, made-blocks s m)) (k - 1) (c .args .r + 1) (omega arith) (omega (arith, indices c)) (omega (arith, c .pre .5))),
+      λ h. (
+        in-smaller (k - 1) (division (shape s) 0)
+            (in-table (k - 1) (division (shape s) 0) (pred (size (shape s) 0)) (omega arith) (omega (arith, indices c))
+            (omega (arith, indices c, indices-few s m)) (count-range s m 0 (omega arith)))
+            (k - 1) (c .args .r + 1) (omega arith) (omega arith) (omega (arith, c .pre .5)),
+        c .pre .1 .rows 0 (omega (arith, made-blocks s m)) (k - 1) (c .args .r + 1) (omega arith)
+            (omega (arith, indices c)) (omega (arith, c .pre .5)),
+      ),
     )
 
 fewer : (c : tie.After-entry2) → c .entry2 .result ≤ c .before .entry .result
 fewer c =
     let a = c .before .before .args in
-    omega (arith, c .entry2 .ensures, c .before .entry .ensures, lists-grow (a .g .indices - 1 - a .h) (a .g .indices - 1 - a .b) (a .r + 1) (omega (arith, c .before .before .pre .4)))
+    omega (
+      arith,
+      c .entry2 .ensures,
+      c .before .entry .ensures,
+      lists-grow (a .g .indices - 1 - a .h) (a .g .indices - 1 - a .b) (a .r + 1)
+          (omega (arith, c .before .before .pre .4)),
+    )
 
 sub-entry : tie.Need-sub-entry
 sub-entry c = search needs
@@ -65,7 +80,13 @@ returns : tie.Need-returns
 returns c y z f =
     let s = c .before .before .args .g in
     let m = c .before .before .pre .0 in
-    omega (arith, rw (← made-indices s m) at (falls-by (shape s) (made-accepted s m) f), fewer c, c .entry2 .ensures, c .before .entry .ensures)
+    omega (
+      arith,
+      rw (← made-indices s m) at (falls-by (shape s) (made-accepted s m) f),
+      fewer c,
+      c .entry2 .ensures,
+      c .before .entry .ensures,
+    )
 
 pub fall-spec : {M : Type 1} → statement M
 fall-spec =

@@ -1,4 +1,5 @@
--- `falls::tails` meets its contract. The invariant: the tails from k on stand in the array, and the last is that of k. Assumes nothing.
+-- `falls::tails` meets its contract. The invariant: the tails from k on stand in the array, and the last is that of k.
+-- Assumes nothing.
 use mathlib.Core.Path.{_≡_, refl}
 use Prim.Native.Nat.{ℕ, suc, _+_, _-_, _*_, _≤_, _<_}
 use lib.ListN.{length, length-set}
@@ -11,8 +12,8 @@ use Rattle.positions.proofs.falls.tails.Statement.{statement}
 use Rattle.positions.proofs.falls.tails.Tie as tie
 
 abbrev Inv-loop : tie.InvT-loop
-Inv-loop y m sums₀ last₀ k₀ sums last k =
-    (k ≤ m) × (last ≤ 65535 * (m - k)) × (last ≡ tail y k (m - k)) × (length sums ≡ 16) × ((i : ℕ) → k ≤ i → i < m → at sums i ≡ tail y i (m - i))
+Inv-loop y m sums₀ last₀ k₀ sums last k = (k ≤ m) × (last ≤ 65535 * (m - k)) × (last ≡ tail y k (m - k))
+    × (length sums ≡ 16) × ((i : ℕ) → k ≤ i → i < m → at sums i ≡ tail y i (m - i))
 
 abbrev μ-loop : tie.MeasureT-loop
 μ-loop y m sums₀ last₀ k₀ sums last k = k
@@ -24,7 +25,9 @@ next-tail y m k l h =
     let b : suc (k - 1) ≡ k = omega arith in
     rw (a, b)
 
-summed : (c : tie.After-wide16 Inv-loop μ-loop) → let l = c .before .before .before .loop in let a = c .before .before .before .before .args in
+summed : (c : tie.After-wide16 Inv-loop μ-loop)
+    → let l = c .before .before .before .loop in
+    let a = c .before .before .before .before .args in
     l .last + c .wide16 .result ≡ tail (a .y .now) (l .k - 1) (a .m - (l .k - 1))
 summed c =
     let l = c .before .before .before .loop in
@@ -71,7 +74,11 @@ loop-again c =
       omega arith,
       summed c,
       simp length-set (l .inv .3),
-      (λ i h m. at-set (λ x. x ≡ tail (a .y .now) i (a .m - i)) (l .sums) (l .k - 1) (l .last + c .wide16 .result) i (omega (arith, l .inv .3)) (λ same. rw same (summed c)) (λ other. l .inv .4 i (omega (arith, other)) m)),
+      (λ i h m. at-set
+          (λ x. x ≡ tail (a .y .now) i (a .m - i))
+          (l .sums) (l .k - 1) (l .last + c .wide16 .result) i (omega (arith, l .inv .3))
+          (λ same. rw same (summed c))
+          (λ other. l .inv .4 i (omega (arith, other)) m)),
     )
 
 returns : tie.Need-returns Inv-loop μ-loop

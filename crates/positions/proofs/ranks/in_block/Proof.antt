@@ -1,4 +1,5 @@
--- `ranks::in_block` meets its contract. The invariant: the rank and the position of the k + 1 coordinates to come make the position of all. Assumes nothing.
+-- `ranks::in_block` meets its contract. The invariant: the rank and the position of the k + 1 coordinates to come make
+-- the position of all. Assumes nothing.
 use mathlib.Core.List.{List, map}
 use mathlib.Core.Path.{_≡_, sym, ap, _∙_, subst}
 use Prim.Native.Nat.{ℕ, _+_, _-_, _≤_, _<_, pred}
@@ -32,26 +33,40 @@ stepped c = afterSteps (c .args .y .now) (c .args .steps .now)
 
 -- the position of all is small
 few : (c : tie.Start Inv-loop μ-loop) → rankOf (stepped c) (c .args .first) (c .args .size) (c .args .division) < 60000
-few c = let a = c .args in omega (arith, rank-below (stepped c) (a .first) (a .size) (a .division) (omega arith) (c .pre .3), c .pre .2)
+few c =
+    let a = c .args in
+    omega (arith, rank-below (stepped c) (a .first) (a .size) (a .division) (omega arith) (c .pre .3), c .pre .2)
 
 -- a coordinate after the steps, of an array's number and its count
-coordinate : (c : tie.Start Inv-loop μ-loop) (i y steps : ℕ) → i < c .args .first + c .args .size → y ≡ at (c .args .y .now) i → steps ≡ at (c .args .steps .now) i → (16 ≤ y + steps) × (y + steps - 16 ≡ at (stepped c) i)
+coordinate : (c : tie.Start Inv-loop μ-loop) (i y steps : ℕ) → i < c .args .first + c .args .size
+    → y ≡ at (c .args .y .now) i → steps ≡ at (c .args .steps .now) i
+    → (16 ≤ y + steps) × (y + steps - 16 ≡ at (stepped c) i)
 coordinate c i y steps l e f =
     let a = c .args in
     (omega (arith, c .pre .5 i l), omega (arith, after-at (a .y .now) (a .steps .now) i (omega (arith, c .pre .1))))
 
 -- the coordinate that a turn takes
-turn : (c : tie.After-wide162 Inv-loop μ-loop) → let x = c .before .before .wide16 .result + c .wide162 .result in (16 ≤ x) × (x - 16 ≡ at (stepped (c .before .before .before .before .before .before)) (c .before .before .before .before .before .loop .i))
-turn c = coordinate (c .before .before .before .before .before .before) _ _ _ (omega arith) (c .before .before .wide16 .ensures .0) (c .wide162 .ensures .0)
+turn : (c : tie.After-wide162 Inv-loop μ-loop)
+    → let x = c .before .before .wide16 .result + c .wide162 .result in
+    (16 ≤ x)
+    × (x - 16
+    ≡ at (stepped (c .before .before .before .before .before .before))
+    (c .before .before .before .before .before .loop .i))
+turn c = coordinate (c .before .before .before .before .before .before) _ _ _ (omega arith)
+    (c .before .before .wide16 .ensures .0) (c .wide162 .ensures .0)
 
 -- what it counts
-taken : (c : tie.After-wide162 Inv-loop μ-loop) → let z = stepped (c .before .before .before .before .before .before) in
+taken : (c : tie.After-wide162 Inv-loop μ-loop)
+    → let z = stepped (c .before .before .before .before .before .before) in
     let l = c .before .before .before .before .before .loop in
     let x = c .before .before .wide16 .result + c .wide162 .result - 16 in
-    (x ≤ l .left)
-    × (sum (map (at z) (upFrom (l .i + 1) (l .k - 1 + 1))) ≡ l .left - x)
-    × (rankOf z (l .i) (l .k + 1) (l .left) + choose (l .left - x + l .k) (l .k) ≡ choose (l .left + l .k) (l .k) + rankOf z (l .i + 1) (l .k - 1 + 1) (l .left - x))
-taken c = let l = c .before .before .before .before .before .loop in rw (turn c .1) (rank-turn (stepped (c .before .before .before .before .before .before)) (l .i) (l .k) (l .left) (omega arith) (l .inv .4))
+    (x ≤ l .left) × (sum (map (at z) (upFrom (l .i + 1) (l .k - 1 + 1))) ≡ l .left - x)
+    × (rankOf z (l .i) (l .k + 1) (l .left) + choose (l .left - x + l .k) (l .k)
+    ≡ choose (l .left + l .k) (l .k) + rankOf z (l .i + 1) (l .k - 1 + 1) (l .left - x))
+taken c =
+    let l = c .before .before .before .before .before .loop in
+    rw (turn c .1) (rank-turn (stepped (c .before .before .before .before .before .before)) (l .i) (l .k) (l .left)
+    (omega arith) (l .inv .4))
 
 sub-k : tie.Need-sub-k Inv-loop μ-loop
 sub-k c = search needs
@@ -91,13 +106,24 @@ lists-before-requires c κs =
     let l = c .before .before .before .before .before .loop in
     let s = c .before .before .before .before .before .before in
     let t = taken c in
-    let room = in-table (l .k) (s .args .division) (pred (s .args .size)) (omega arith) (omega arith) (omega (arith, s .pre .1)) (s .pre .2) in
-    (in-smaller (l .k) (s .args .division) room (l .k) (l .left) (omega arith) (omega arith) (l .inv .3), omega (arith, t .0), s .pre .4 (l .k) (l .left) (omega arith) (l .inv .1) (l .inv .3), s .pre .4 (l .k) _ (omega arith) (l .inv .1) (omega arith))
+    let room = in-table (l .k) (s .args .division) (pred (s .args .size)) (omega arith) (omega arith)
+    (omega (arith, s .pre .1)) (s .pre .2) in (
+      in-smaller (l .k) (s .args .division) room (l .k) (l .left) (omega arith) (omega arith) (l .inv .3),
+      omega (arith, t .0),
+      s .pre .4 (l .k) (l .left) (omega arith) (l .inv .1) (l .inv .3),
+      s .pre .4 (l .k) _ (omega arith) (l .inv .1) (omega arith),
+    )
 
 add-rank : tie.Need-add-rank Inv-loop μ-loop
 add-rank c =
     let l = c .before .before .before .before .before .before .loop in
-    omega (arith, l .inv .5, taken (c .before) .2, c .lists-before .ensures, few (c .before .before .before .before .before .before .before))
+    omega (
+      arith,
+      l .inv .5,
+      taken (c .before) .2,
+      c .lists-before .ensures,
+      few (c .before .before .before .before .before .before .before),
+    )
 
 sub-left : tie.Need-sub-left Inv-loop μ-loop
 sub-left c = taken (c .before) .0
@@ -136,8 +162,14 @@ wide16-requires-4 : tie.Need-wide16-requires-4 Inv-loop μ-loop
 wide16-requires-4 c κs = search needs
 
 -- the one it ends with
-last : (c : tie.After-wide164 Inv-loop μ-loop) → let x = c .before .before .wide163 .result + c .wide164 .result in (16 ≤ x) × (x - 16 ≡ at (stepped (c .before .before .before .before .before .before)) (c .before .before .before .before .before .loop .i))
-last c = coordinate (c .before .before .before .before .before .before) _ _ _ (omega arith) (c .before .before .wide163 .ensures .0) (c .wide164 .ensures .0)
+last : (c : tie.After-wide164 Inv-loop μ-loop)
+    → let x = c .before .before .wide163 .result + c .wide164 .result in
+    (16 ≤ x)
+    × (x - 16
+    ≡ at (stepped (c .before .before .before .before .before .before))
+    (c .before .before .before .before .before .loop .i))
+last c = coordinate (c .before .before .before .before .before .before) _ _ _ (omega arith)
+    (c .before .before .wide163 .ensures .0) (c .wide164 .ensures .0)
 
 add-result : tie.Need-add-result Inv-loop μ-loop
 add-result c = search needs
@@ -157,8 +189,11 @@ returns c =
     let a = c .before .before .before .before .before .before .args in
     let z = stepped (c .before .before .before .before .before .before) in
     let e : l .k + 1 ≡ 2 = omega arith in
-    let s : sum (map (at z) (upFrom (l .i) 2)) ≡ l .left = subst (λ (n : ℕ). sum (map (at z) (upFrom (l .i) n)) ≡ l .left) e (l .inv .4) in
-    let p : l .rank + rankOf z (l .i) 2 (l .left) ≡ rankOf z (a .first) (a .size) (a .division) = subst (λ (n : ℕ). l .rank + rankOf z (l .i) n (l .left) ≡ rankOf z (a .first) (a .size) (a .division)) e (l .inv .5) in
+    let s : sum (map (at z) (upFrom (l .i) 2)) ≡ l .left =
+    subst (λ (n : ℕ). sum (map (at z) (upFrom (l .i) n)) ≡ l .left) e (l .inv .4) in
+    let p : l .rank + rankOf z (l .i) 2 (l .left) ≡ rankOf z (a .first) (a .size) (a .division) = subst
+    (λ (n : ℕ). l .rank + rankOf z (l .i) n (l .left) ≡ rankOf z (a .first) (a .size) (a .division))
+    e (l .inv .5) in
     ap (λ x. l .rank + x) (last c .1 ∙ sym (rank-end z (l .i) (l .left) s)) ∙ p
 
 pub in-block-spec : {M : Type 1} → statement M

@@ -11,7 +11,14 @@ fewer : (c : tie.After-wide162) → c .wide162 .result ≤ c .before .before .wi
 fewer c =
     let a = c .before .before .before .before .args in
     let p = c .before .before .before .before .pre in
-    omega (arith, c .wide162 .ensures .0, c .before .before .wide16 .ensures .0, p .2, p .3, choose-grows (a .left - a .x) (a .left) (a .k) (a .k) (omega arith) (omega arith))
+    omega (
+      arith,
+      c .wide162 .ensures .0,
+      c .before .before .wide16 .ensures .0,
+      p .2,
+      p .3,
+      choose-grows (a .left - a .x) (a .left) (a .k) (a .k) (omega arith) (omega arith),
+    )
 
 sub-row : tie.Need-sub-row
 sub-row c = search needs
@@ -44,7 +51,8 @@ element-copy-out-wide16-2 : tie.Need-element-copy-out-wide16-2
 element-copy-out-wide16-2 c =
     let a = c .before .before .args in
     let i = c .before .before .pre .0 in
-    place-below (a .k) (a .left - a .x) (in-smaller (a .k) (a .left) i (a .k) (a .left - a .x) (i .0) (omega arith) (omega arith))
+    place-below (a .k) (a .left - a .x)
+    (in-smaller (a .k) (a .left) i (a .k) (a .left - a .x) (i .0) (omega arith) (omega arith))
 
 wide16-requires-2 : tie.Need-wide16-requires-2
 wide16-requires-2 c κs = search needs

@@ -37,7 +37,8 @@ element-copy-out-result c =
     let a = c .before .args in
     let i = c .before .pre .0 in
     let e : 16 - a .k ≡ 15 - (a .k - 1) = omega arith in
-    rw e (place-below (a .k - 1) (a .r) (in-smaller (a .k) (a .r) i (a .k - 1) (a .r) (omega arith) (omega arith) (omega arith)))
+    rw e (place-below (a .k - 1) (a .r)
+    (in-smaller (a .k) (a .r) i (a .k - 1) (a .r) (omega arith) (omega arith) (omega arith)))
 
 returns-2 : tie.Need-returns-2
 returns-2 c =

@@ -1,4 +1,5 @@
--- `tables::fill_block` meets its contract. The invariant: the rows before k are right, and no entry was spoilt. Assumes nothing.
+-- `tables::fill_block` meets its contract. The invariant: the rows before k are right, and no entry was spoilt.
+-- Assumes nothing.
 use mathlib.Core.Path.{_≡_}
 use Prim.Native.Nat.{_-_, _≤_, pred}
 use lib.ListN.{length}
@@ -21,7 +22,8 @@ abbrev μ-loop : tie.MeasureT-loop
 room : (c : tie.In-loop Inv-loop μ-loop) → InTable (c .before .loop .k) (c .before .before .args .division)
 room c =
     let a = c .before .before .args in
-    in-table (c .before .loop .k) (a .division) (pred (a .size)) (omega arith) (omega arith) (omega (arith, c .before .before .pre .1)) (c .before .before .pre .2)
+    in-table (c .before .loop .k) (a .division) (pred (a .size)) (omega arith) (omega arith)
+    (omega (arith, c .before .before .pre .1)) (c .before .before .pre .2)
 
 loop-holds : tie.Need-loop-holds Inv-loop μ-loop
 loop-holds c = let p = c .pre in (omega arith, p .0, p .3, keeps-self, (λ k r two l h. absurd (omega arith)))
@@ -51,7 +53,8 @@ loop-again c =
       omega arith,
       e .0,
       keeps-both (l .inv .3) (e .1),
-      rows-next (l .k) (c .before .before .before .before .args .division) (l .t) (c .fill-row .last .0) (room (c .before .before)) (l .inv .4) (e .1) (e .2),
+      rows-next (l .k) (c .before .before .before .before .args .division) (l .t) (c .fill-row .last .0)
+          (room (c .before .before)) (l .inv .4) (e .1) (e .2),
     )
 
 returns : tie.Need-returns Inv-loop μ-loop

@@ -1,4 +1,5 @@
--- `tables::fill_row` meets its contract. The invariant: the row is right as far as r, whose entry is last, and no entry was spoilt. Assumes nothing.
+-- `tables::fill_row` meets its contract. The invariant: the row is right as far as r, whose entry is last, and no entry
+-- was spoilt. Assumes nothing.
 use mathlib.Core.Logic.{⊎-elim}
 use mathlib.Core.Path.{_≡_, sym, subst}
 use Prim.Native.Nat.{ℕ, _+_, _-_, _*_, _≤_}
@@ -21,7 +22,9 @@ abbrev μ-loop : tie.MeasureT-loop
 μ-loop t₀ k most at last₀ r₀ t last r = most - r
 
 -- the row's first entry
-started : (c : tie.Start Inv-loop μ-loop) → Keeps (c .args .t .now) (set (c .args .t .now) ((15 - c .args .k) * 70) 1) × IsBinomial (set (c .args .t .now) ((15 - c .args .k) * 70) 1) (c .args .k) 0
+started : (c : tie.Start Inv-loop μ-loop)
+    → Keeps (c .args .t .now) (set (c .args .t .now) ((15 - c .args .k) * 70) 1)
+    × IsBinomial (set (c .args .t .now) ((15 - c .args .k) * 70) 1) (c .args .k) 0
 started c =
     let a = c .args in
     let p = c .pre in
@@ -34,8 +37,14 @@ started c =
     )
 
 -- the next entry
-next : (c : tie.After-entry-before Inv-loop μ-loop) → c .before .before .before .loop .last + c .entry-before .result ≡ choose (c .before .before .before .loop .r + 1 + c .before .before .before .before .args .k) (c .before .before .before .before .args .k)
-next c = let l = c .before .before .before .loop in rw (l .inv .1, c .entry-before .ensures) (sym (row-next (l .r) (c .before .before .before .before .args .k) (omega arith)))
+next : (c : tie.After-entry-before Inv-loop μ-loop)
+    → c .before .before .before .loop .last + c .entry-before .result
+    ≡ choose (c .before .before .before .loop .r + 1 + c .before .before .before .before .args .k)
+    (c .before .before .before .before .args .k)
+next c =
+    let l = c .before .before .before .loop in
+    rw (l .inv .1, c .entry-before .ensures)
+    (sym (row-next (l .r) (c .before .before .before .before .args .k) (omega arith)))
 
 sub-at : tie.Need-sub-at Inv-loop μ-loop
 sub-at c = search needs
@@ -68,15 +77,22 @@ entry-before-requires c κs =
     let s = c .before .before .before in
     let in-row = in-smaller (s .args .k) (s .args .most) (s .pre .0) in (
       in-row (s .args .k) (l .r + 1) (s .pre .0 .0) (omega arith) (omega arith),
-      (λ h. let i = in-row (s .args .k - 1) (l .r + 1) (omega arith) (omega arith) (omega arith) in
-          l .inv .3 .right (s .args .k - 1) (l .r + 1) i (started s .0 .right (s .args .k - 1) (l .r + 1) i (s .pre .3 (l .r + 1) h (omega arith)))),
+      (λ h.
+          let i = in-row (s .args .k - 1) (l .r + 1) (omega arith) (omega arith) (omega arith) in
+          l .inv .3 .right (s .args .k - 1) (l .r + 1) i
+          (started s .0 .right (s .args .k - 1) (l .r + 1) i (s .pre .3 (l .r + 1) h (omega arith)))),
     )
 
 add-last : tie.Need-add-last Inv-loop μ-loop
 add-last c =
     let l = c .before .before .before .loop in
     let a = c .before .before .before .before .args in
-    omega (arith, next c, choose-grows (l .r + 1) (a .most) (a .k) (a .k) (omega arith) (omega arith), c .before .before .before .before .pre .1)
+    omega (
+      arith,
+      next c,
+      choose-grows (l .r + 1) (a .most) (a .k) (a .k) (omega arith) (omega arith),
+      c .before .before .before .before .pre .1,
+    )
 
 add-t : tie.Need-add-t Inv-loop μ-loop
 add-t c = search needs
@@ -103,8 +119,12 @@ loop-again c =
       next c,
       simp length-set (l .inv .2),
       keeps-both (l .inv .3) keeps,
-      (λ i h. ⊎-elim (λ b. keeps .right (a .k) i (in-row i (p .0 .0) (omega arith) (omega arith)) (l .inv .4 i (omega arith)))
-          (λ b. let e : i ≡ l .r + 1 = omega arith in rw e (stored-is (l .t) (a .k) (l .r + 1) v (l .inv .2) here (next c))) (before-or-not i (l .r + 1))),
+      (λ i h. ⊎-elim
+          (λ b. keeps .right (a .k) i (in-row i (p .0 .0) (omega arith) (omega arith)) (l .inv .4 i (omega arith)))
+          (λ b.
+          let e : i ≡ l .r + 1 = omega arith in
+          rw e (stored-is (l .t) (a .k) (l .r + 1) v (l .inv .2) here (next c)))
+          (before-or-not i (l .r + 1))),
     )
 
 returns : tie.Need-returns Inv-loop μ-loop

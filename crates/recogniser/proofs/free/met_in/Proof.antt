@@ -12,10 +12,12 @@ add-result : tie.Need-add-result
 add-result c = search needs
 
 returns : tie.Need-returns
-returns c = rw (eq-eqb (c .before .before .args .b) (c .before .before .args .met) (sym (c .before .wide .ensures) ∙ c .if1 .taken))
+returns c = rw (eq-eqb (c .before .before .args .b) (c .before .before .args .met)
+    (sym (c .before .wide .ensures) ∙ c .if1 .taken))
 
 returns-2 : tie.Need-returns-2
-returns-2 c = rw (ne-eqb (c .before .before .args .b) (c .before .before .args .met) (λ e. c .if1 .left (c .before .wide .ensures ∙ e)))
+returns-2 c = rw (ne-eqb (c .before .before .args .b) (c .before .before .args .met)
+    (λ e. c .if1 .left (c .before .wide .ensures ∙ e)))
 
 pub met-in-spec : {M : Type 1} → statement M
 met-in-spec = tie.close (tie.spec wide-requires add-result returns returns-2)

@@ -1,4 +1,5 @@
--- `free::sets_of` meets its contract. The invariant: the masks are those of the first k indices. The measure: the indices left. Assumes nothing.
+-- `free::sets_of` meets its contract. The invariant: the masks are those of the first k indices. The measure: the
+-- indices left. Assumes nothing.
 use mathlib.Core.Bool.{false, true}
 use mathlib.Core.Path.{_≡_, refl, sym, ap, _∙_}
 use Prim.Native.Nat.{_-_, _≤_}
@@ -12,13 +13,16 @@ use Rattle.recogniser.proofs.free.sets_of.Statement.{statement}
 use Rattle.recogniser.proofs.free.sets_of.Tie as tie
 
 abbrev Inv-loop : tie.InvT-loop
-Inv-loop order n m zeros t₀ u₀ k₀ t u k = (k ≤ n) × (n ≤ 16) × (m ≤ 16) × (length order ≡ 16) × AreSets order k m zeros t u
+Inv-loop order n m zeros t₀ u₀ k₀ t u k =
+    (k ≤ n) × (n ≤ 16) × (m ≤ 16) × (length order ≡ 16) × AreSets order k m zeros t u
 
 abbrev μ-loop : tie.MeasureT-loop
 μ-loop order n m zeros t₀ u₀ k₀ t u k = n - k
 
 loop-holds : tie.Need-loop-holds Inv-loop μ-loop
-loop-holds c = let a = c .args in (omega arith, c .pre .0, c .pre .1, c .pre .2, sets-none (a .order .now) (a .m) (a .zeros))
+loop-holds c =
+    let a = c .args in
+    (omega arith, c .pre .0, c .pre .1, c .pre .2, sets-none (a .order .now) (a .m) (a .zeros))
 
 mul-wide32 : tie.Need-mul-wide32 Inv-loop μ-loop
 mul-wide32 c = omega arith
@@ -40,9 +44,12 @@ has-requires : tie.Need-has-requires Inv-loop μ-loop
 has-requires c κs = search needs
 
 returns-2 : tie.Need-returns-2 Inv-loop μ-loop
-returns-2 c = let a = c .before .before .before .before .before .before .before .args in let l = c .before .before .before .before .before .before .loop in
-    let w = stands-twice (a .order .now) (l .k) (a .m) (a .zeros) (l .t) (l .u) (c .before .before .before .wide32 .result) (l .inv .4) (c .before .before .before .wide32 .ensures) (c .before .before .if1 .left) (l .inv .2)
-    (sym (c .before .has .ensures) ∙ c .if2 .taken) in
+returns-2 c =
+    let a = c .before .before .before .before .before .before .before .args in
+    let l = c .before .before .before .before .before .before .loop in
+    let w = stands-twice (a .order .now) (l .k) (a .m) (a .zeros) (l .t) (l .u)
+    (c .before .before .before .wide32 .result) (l .inv .4) (c .before .before .before .wide32 .ensures)
+    (c .before .before .if1 .left) (l .inv .2) (sym (c .before .has .ensures) ∙ c .if2 .taken) in
     record { yes = λ e. absurd-bool (sym e); no = λ e. twice (w .0) (l .k) (w .1) (omega arith) (w .2) }
 
 add-requires : tie.Need-add-requires Inv-loop μ-loop
@@ -58,15 +65,19 @@ loop-less : tie.Need-loop-less Inv-loop μ-loop
 loop-less c = omega arith
 
 loop-again : tie.Need-loop-again Inv-loop μ-loop
-loop-again c = let a = c .before .before .before .before .before .before .before .before .before .args in let l = c .before .before .before .before .before .before .before .before .loop in (
-  omega arith,
-  l .inv .1,
-  l .inv .2,
-  l .inv .3,
-  rw (c .without .ensures, c .before .add .ensures)
-      (sets-more (a .order .now) (l .k) (a .m) (a .zeros) (l .t) (l .u) (c .before .before .before .before .before .wide32 .result) (l .inv .4) (c .before .before .before .before .before .wide32 .ensures) (c .before .before .before .before .if1 .left) (l .inv .2)
-      (sym (c .before .before .before .has .ensures) ∙ c .before .before .if2 .left)),
-)
+loop-again c =
+    let a = c .before .before .before .before .before .before .before .before .before .args in
+    let l = c .before .before .before .before .before .before .before .before .loop in (
+      omega arith,
+      l .inv .1,
+      l .inv .2,
+      l .inv .3,
+      rw (c .without .ensures, c .before .add .ensures)
+          (sets-more (a .order .now) (l .k) (a .m) (a .zeros) (l .t) (l .u)
+          (c .before .before .before .before .before .wide32 .result) (l .inv .4)
+          (c .before .before .before .before .before .wide32 .ensures) (c .before .before .before .before .if1 .left)
+          (l .inv .2) (sym (c .before .before .before .has .ensures) ∙ c .before .before .if2 .left)),
+    )
 
 returns-3 : tie.Need-returns-3 Inv-loop μ-loop
 returns-3 c = let a = c .before .before .args in let l = c .before .loop in

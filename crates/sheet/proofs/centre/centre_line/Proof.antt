@@ -1,4 +1,5 @@
--- `centre::centre_line` meets its contract: after h turns the centre's first h numbers are written, in at most 21 bytes each. Assumes nothing.
+-- `centre::centre_line` meets its contract: after h turns the centre's first h numbers are written, in at most 21 bytes
+-- each. Assumes nothing.
 use mathlib.Core.Path.{_≡_, refl, _∙_}
 use mathlib.Core.List.{flatMap}
 use Prim.Native.Nat.{_+_, _-_, _*_, _≤_}
@@ -67,9 +68,11 @@ loop-again c =
     let vertices = rows (a .count) m (a .vertices .now) in
     let coordinates = c .before .before .before .before .total .ensures .0 in
     let number : c .before .centre .result ≡ centreAt vertices (a .divisions .now) (l .h) =
-    c .before .centre .ensures ∙ rw (coordinates, length-rows (a .count) m (a .vertices .now))
-    in
-    (rw (add-one (l .h), flatMap-more) (part-join (l .inv .0) (rw number at (c .spaced .ensures .0))), omega arith, omega arith)
+    c .before .centre .ensures ∙ rw (coordinates, length-rows (a .count) m (a .vertices .now)) in (
+      rw (add-one (l .h), flatMap-more) (part-join (l .inv .0) (rw number at (c .spaced .ensures .0))),
+      omega arith,
+      omega arith,
+    )
 
 byte-requires : tie.Need-byte-requires Inv-loop μ-loop
 byte-requires c κs = omega (arith, c .before .before .before .text .ensures .behind)
@@ -79,8 +82,12 @@ unfolding centreLine
 returns c =
     let l = c .before .before .before .loop in
     let first = c .before .before .before .before .text .ensures in
-    let all : l .h ≡ length (c .before .before .before .before .before .before .before .before .before .args .divisions .now) = omega arith in
-    (part-join (part-join first (rw all at (l .inv .0))) (c .byte .ensures), omega (arith, first .behind, c .byte .ensures .behind))
+    let all : l .h
+    ≡ length (c .before .before .before .before .before .before .before .before .before .args .divisions .now) =
+    omega arith in (
+      part-join (part-join first (rw all at (l .inv .0))) (c .byte .ensures),
+      omega (arith, first .behind, c .byte .ensures .behind),
+    )
 
 pub centre-line-spec : {M : Type 1} → statement M
 centre-line-spec =

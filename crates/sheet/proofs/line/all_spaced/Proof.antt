@@ -1,4 +1,5 @@
--- `line::all_spaced` meets its contract: after i turns the first i numbers are written, in at most 6 bytes each. Assumes nothing.
+-- `line::all_spaced` meets its contract: after i turns the first i numbers are written, in at most 6 bytes each.
+-- Assumes nothing.
 use mathlib.Core.Path.{_≡_}
 use mathlib.Core.List.{flatMap}
 use Prim.Native.Nat.{_+_, _-_, _*_, _≤_}

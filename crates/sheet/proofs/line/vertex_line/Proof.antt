@@ -1,4 +1,5 @@
--- `line::vertex_line` meets its contract: the first number, the numbers behind it and the newline are one part. Assumes nothing.
+-- `line::vertex_line` meets its contract: the first number, the numbers behind it and the newline are one part.
+-- Assumes nothing.
 use native.Mathlib.Omega.{arith}
 use lib.ListN.{length-take, length-drop}
 use borrow.Author.Needs.{needs}
@@ -35,8 +36,11 @@ returns : tie.Need-returns
 returns c =
     let a = c .before .before .before .before .before .before .before .before .before .before .args in
     let first = c .before .before .before .before .before in
-    let written = part-join (part-join (first .decimal .ensures .0) (c .before .before .all-spaced .ensures .0)) (c .byte .ensures) in
-    (rw (vertex-parts (a .row .now) (omega arith), ← first .before .wide .ensures .0) written, omega (arith, c .byte .ensures .behind))
+    let written = part-join (part-join (first .decimal .ensures .0) (c .before .before .all-spaced .ensures .0))
+    (c .byte .ensures) in (
+      rw (vertex-parts (a .row .now) (omega arith), ← first .before .wide .ensures .0) written,
+      omega (arith, c .byte .ensures .behind),
+    )
 
 pub vertex-line-spec : {M : Type 1} → statement M
 vertex-line-spec =

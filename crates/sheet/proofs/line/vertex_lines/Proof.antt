@@ -1,4 +1,5 @@
--- `line::vertex_lines` meets its contract: after k turns the lines of the first k vertices are written, in at most 117 bytes each. Assumes nothing.
+-- `line::vertex_lines` meets its contract: after k turns the lines of the first k vertices are written, in at most 117
+-- bytes each. Assumes nothing.
 use mathlib.Core.Path.{_≡_}
 use mathlib.Core.List.{flatMap}
 use Prim.Native.Nat.{_+_, _-_, _*_, _≤_}

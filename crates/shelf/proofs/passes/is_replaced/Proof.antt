@@ -1,4 +1,5 @@
--- `shelf::passes::is_replaced` meets its contract. The invariant: none of the sheets passed names the sheet. Assumes nothing.
+-- `shelf::passes::is_replaced` meets its contract. The invariant: none of the sheets passed names the sheet.
+-- Assumes nothing.
 use mathlib.Core.Bool.{false}
 use mathlib.Core.Path.{_≡_, refl, sym, _∙_}
 use Prim.Native.Nat.{_≤_, _-_}
@@ -19,7 +20,12 @@ abbrev μ-loop : tie.MeasureT-loop
 
 loop-holds : tie.Need-loop-holds Inv-loop μ-loop
 unfolding isReplaced
-loop-holds c = (refl, c .before .pre .numbered, omega arith, shelf-of (c .before .args .list .now) (c .before .pre .passes) .room)
+loop-holds c = (
+  refl,
+  c .before .pre .numbered,
+  omega arith,
+  shelf-of (c .before .args .list .now) (c .before .pre .passes) .room,
+)
 
 mul-wide : tie.Need-mul-wide Inv-loop μ-loop
 mul-wide c = omega arith
@@ -34,7 +40,8 @@ returns : tie.Need-returns Inv-loop μ-loop
 returns c =
     let a = c .before .before .before .before .before .before .args in
     let e = sym (c .before .wide .ensures .0) ∙ c .if1 .taken in
-    sym (found (a .list .now) (a .count) (c .before .before .before .before .loop .k) (a .sheet) (omega arith) (omega arith) e)
+    sym (found (a .list .now) (a .count) (c .before .before .before .before .loop .k) (a .sheet) (omega arith)
+    (omega arith) e)
 
 add-k : tie.Need-add-k Inv-loop μ-loop
 add-k c = omega arith

@@ -1,4 +1,5 @@
--- `shelf::passes::last_reached` meets its contract. The invariant: what is reached is the current one among the sheets passed. Assumes nothing.
+-- `shelf::passes::last_reached` meets its contract. The invariant: what is reached is the current one among the sheets
+-- passed. Assumes nothing.
 use mathlib.Core.Logic.{⊎-elim}
 use mathlib.Core.Path.{_≡_, sym, _∙_}
 use Prim.Native.Nat.{_≤_, _-_}
@@ -23,8 +24,13 @@ loop-holds : tie.Need-loop-holds Inv-loop μ-loop
 loop-holds c =
     let a = c .before .args in
     let p = c .before .pre in
-    let f = shelf-of (a .list .now) (p .passes) in
-    (sym (last-is-current (a .list .now) (shelf-before (a .list .now) f (a .sheet) (p .filed))), p, omega arith, p .filed, f .room)
+    let f = shelf-of (a .list .now) (p .passes) in (
+      sym (last-is-current (a .list .now) (shelf-before (a .list .now) f (a .sheet) (p .filed))),
+      p,
+      omega arith,
+      p .filed,
+      f .room,
+    )
 
 mul-wide : tie.Need-mul-wide Inv-loop μ-loop
 mul-wide c = omega arith
@@ -51,12 +57,13 @@ loop-again c =
     let f = shelf-of (a .list .now) (l .inv .1 .passes) in
     let e = c .before .wide .ensures .0 in (
       ⊎-elim
-          (λ w.
-          w .1 ∙ sym (goes-on (a .list .now) f (l .k) (a .sheet) (l .inv .1 .numbered) (omega arith) (omega arith) (sym e ∙ (w .0 .taken ∙ l .inv .0))))
-          (λ w.
-          w .1
+          (λ w. w .1
+          ∙ sym (goes-on (a .list .now) f (l .k) (a .sheet) (l .inv .1 .numbered) (omega arith) (omega arith)
+          (sym e ∙ (w .0 .taken ∙ l .inv .0))))
+          (λ w. w .1
           ∙ (l .inv .0
-          ∙ sym (stays (a .list .now) f (l .k) (a .sheet) (l .inv .1 .numbered) (omega arith) (omega arith) (λ n. w .0 .left (e ∙ (n ∙ sym (l .inv .0)))))))
+          ∙ sym (stays (a .list .now) f (l .k) (a .sheet) (l .inv .1 .numbered) (omega arith) (omega arith)
+          (λ n. w .0 .left (e ∙ (n ∙ sym (l .inv .0)))))))
           (c .if1 .came),
       l .inv .1,
       omega arith,

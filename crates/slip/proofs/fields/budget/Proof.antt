@@ -1,4 +1,5 @@
--- `slip::fields::budget` meets its contract: the field is there or missing, or the bound stands for it. Assumes nothing.
+-- `slip::fields::budget` meets its contract: the field is there or missing, or the bound stands for it.
+-- Assumes nothing.
 use native.Mathlib.Omega.{arith}
 use mathlib.Core.Bool.{true, false}
 use mathlib.Core.Path.{_≡_, sym, ap, _∙_}
@@ -16,16 +17,19 @@ stands-requires : tie.Need-stands-requires
 stands-requires c κs = (omega (arith, head-fits (c .before .args .slip .now) (c .before .pre .0 .head)), omega arith)
 
 bound-requires : tie.Need-bound-requires
-bound-requires c κs = asked-made (c .before .before .before .args .slip .now) (c .before .before .before .args .grid) (c .before .before .before .pre .0) .0
+bound-requires c κs = asked-made (c .before .before .before .args .slip .now) (c .before .before .before .args .grid)
+    (c .before .before .before .pre .0) .0
 
 returns : tie.Need-returns
 unfolding slipBudget
 returns c =
     let s = c .before .before .before .before in
     let slip = s .args .slip .now in
-    let absent : stands slip 1 ≡ false = sym (c .before .before .stands .ensures) ∙ not-true _ (c .before .if1 .taken) in
+    let absent : stands slip 1 ≡ false =
+    sym (c .before .before .stands .ensures) ∙ not-true _ (c .before .if1 .taken) in
     let end : s .args .at ≡ fieldAt slip 2 = omega (arith, s .pre .1, at-next slip 1, length-absent slip 1 absent) in
-    let is : c .bound .result ≡ slipBudget slip = c .bound .ensures ∙ ap bound (asked-made slip (s .args .grid) (s .pre .0) .1) ∙ rw absent in
+    let is : c .bound .result ≡ slipBudget slip =
+    c .bound .ensures ∙ ap bound (asked-made slip (s .args .grid) (s .pre .0) .1) ∙ rw absent in
     rw (is, end) (sym (budget-is slip (omega (arith, end, s .pre .2))))
 
 sub-if2 : tie.Need-sub-if2
@@ -49,7 +53,8 @@ unfolding slipBudget
 returns-3 c =
     let s = c .before .before .before .before .before in
     let slip = s .args .slip .now in
-    let there : stands slip 1 ≡ true = sym (c .before .before .before .stands .ensures) ∙ not-false _ (c .before .before .if1 .left) in
+    let there : stands slip 1 ≡ true =
+    sym (c .before .before .before .stands .ensures) ∙ not-false _ (c .before .before .if1 .left) in
     let end : s .args .at + 8 ≡ fieldAt slip 2 = omega (arith, s .pre .1, at-next slip 1, length-there slip 1 there) in
     let is : c .number64 .result ≡ slipBudget slip = c .number64 .ensures ∙ rw (there, s .pre .1) in
     rw (is, end) (sym (budget-is slip (omega (arith, end, s .pre .2))))

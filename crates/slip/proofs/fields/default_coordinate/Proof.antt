@@ -11,13 +11,15 @@ use Rattle.slip.proofs.fields.default_coordinate.Statement.{statement}
 use Rattle.slip.proofs.fields.default_coordinate.Tie as tie
 
 -- the block of the index is one of the grid's
-inside : (c : tie.After-block-of) → (c .block-of .result < c .before .before .before .args .grid .blocks) × (c .block-of .result < 6)
+inside : (c : tie.After-block-of)
+    → (c .block-of .result < c .before .before .before .args .grid .blocks) × (c .block-of .result < 6)
 inside c =
     let s = c .before .before .before in
     let g = s .args .grid in
     let m = s .pre .0 in
     let b = block-spans (shape g .sizes) (s .args .h) (omega (arith, made-indices g m)) .0 in
-    rw (c .block-of .ensures) (omega (arith, b, made-blocks g m), omega (arith, b, made-blocks g m, blocks-range g m .1))
+    rw (c .block-of .ensures)
+    (omega (arith, b, made-blocks g m), omega (arith, b, made-blocks g m, blocks-range g m .1))
 
 block-of-requires : tie.Need-block-of-requires
 block-of-requires c κs = search needs
@@ -41,7 +43,8 @@ returns c =
     let b = c .before .before .block-of in
     let i = inside (c .before .before) .0 in
     let f = made-first g (s .pre .0) (b .result) i in
-    made-division g (s .pre .0) (b .result) i ∙ default-first (shape g) (s .args .h) (b .result) (b .ensures) (omega (arith, f))
+    made-division g (s .pre .0) (b .result) i
+    ∙ default-first (shape g) (s .args .h) (b .result) (b .ensures) (omega (arith, f))
 
 returns-2 : tie.Need-returns-2
 returns-2 c =

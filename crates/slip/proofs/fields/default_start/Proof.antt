@@ -1,4 +1,5 @@
--- `slip::fields::default_start` meets its contract. The invariant: the coordinates of the indices so far stand at the front. Assumes nothing.
+-- `slip::fields::default_start` meets its contract. The invariant: the coordinates of the indices so far stand at the
+-- front. Assumes nothing.
 use mathlib.Core.List.{map}
 use mathlib.Core.Path.{_≡_, sym, _∙_}
 use Prim.Native.Nat.{_≤_, _-_}
@@ -15,7 +16,8 @@ use Rattle.slip.proofs.fields.default_start.Statement.{statement}
 use Rattle.slip.proofs.fields.default_start.Tie as tie
 
 abbrev Inv-loop : tie.InvT-loop
-Inv-loop grid indices start₀ h₀ start h = (start ≡ padded 16 (map (defaultCoordinate (shape grid)) (upFrom 0 h))) × (h ≤ indices) × (indices ≤ 16)
+Inv-loop grid indices start₀ h₀ start h =
+    (start ≡ padded 16 (map (defaultCoordinate (shape grid)) (upFrom 0 h))) × (h ≤ indices) × (indices ≤ 16)
 
 abbrev μ-loop : tie.MeasureT-loop
 μ-loop grid indices start₀ h₀ start h = indices - h
@@ -41,8 +43,12 @@ loop-less c = omega arith
 loop-again : tie.Need-loop-again Inv-loop μ-loop
 loop-again c =
     let l = c .before .before .loop in
-    let g = shape (c .before .before .before .args .grid) in
-    (rw (l .inv .0, c .default-coordinate .ensures) (front-counted (defaultCoordinate g) (replicate 16 0) (l .h) (omega arith)), omega arith, l .inv .2)
+    let g = shape (c .before .before .before .args .grid) in (
+      rw (l .inv .0, c .default-coordinate .ensures)
+          (front-counted (defaultCoordinate g) (replicate 16 0) (l .h) (omega arith)),
+      omega arith,
+      l .inv .2,
+    )
 
 returns : tie.Need-returns Inv-loop μ-loop
 returns c =

@@ -43,13 +43,20 @@ returns-3 : tie.Need-returns-3
 unfolding headOf
 returns-3 c =
     let slip = c .before .before .before .before .before .before .before .before .args .slip .now in
-    rw (le-leb (headLength slip) (length slip) (omega arith), sym (c .before .is-map .ensures) ∙ not-true _ (c .if3 .taken))
+    rw (
+      le-leb (headLength slip) (length slip) (omega arith),
+      sym (c .before .is-map .ensures) ∙ not-true _ (c .if3 .taken),
+    )
 
 returns-4 : tie.Need-returns-4
 unfolding headOf
 returns-4 c =
     let slip = c .before .before .before .before .before .before .before .before .args .slip .now in
-    rw (le-leb (headLength slip) (length slip) (omega arith), sym (c .before .is-map .ensures) ∙ not-false _ (c .if3 .left), c .before .before .before .before .wide .ensures)
+    rw (
+      le-leb (headLength slip) (length slip) (omega arith),
+      sym (c .before .is-map .ensures) ∙ not-false _ (c .if3 .left),
+      c .before .before .before .before .wide .ensures,
+    )
 
 pub head-spec : {M : Type 1} → statement M
 head-spec =

@@ -1,4 +1,5 @@
--- `answers::read_on` meets its contract: 0 is no number, and else the place is rebuilt from the start in an array. Assumes nothing.
+-- `answers::read_on` meets its contract: 0 is no number, and else the place is rebuilt from the start in an array.
+-- Assumes nothing.
 use mathlib.Core.Path.{_≡_, refl, sym, ap, _∙_, subst}
 use mathlib.Core.List.{List}
 use Prim.Native.Nat.{ℕ}
@@ -23,8 +24,13 @@ refused-requires c κs = search needs
 
 returns : tie.Need-returns
 returns c =
-    let none = no-zero (problemBy (c .before .before .before .before .args .g) (c .before .before .before .before .args .start .now)) (c .before .before .before .before .args .trail .now) (c .before .before .before .before .args .number) (c .before .if1 .taken) in
-    reads-17 (c .before .before .before .before .args .g) (c .before .before .before .before .args .start .now) (c .before .before .before .before .args .trail .now) (c .before .before .before .before .args .number) (c .refused .result) (c .refused .ensures) none
+    let none = no-zero
+    (problemBy (c .before .before .before .before .args .g) (c .before .before .before .before .args .start .now))
+    (c .before .before .before .before .args .trail .now) (c .before .before .before .before .args .number)
+    (c .before .if1 .taken) in
+    reads-17 (c .before .before .before .before .args .g) (c .before .before .before .before .args .start .now)
+    (c .before .before .before .before .args .trail .now) (c .before .before .before .before .args .number)
+    (c .refused .result) (c .refused .ensures) none
 
 block-sizes-requires : tie.Need-block-sizes-requires
 block-sizes-requires c κs = c .before .before .before .before .before .pre .made
@@ -33,29 +39,71 @@ binomials-requires : tie.Need-binomials-requires
 binomials-requires c κs = (c .before .before .before .before .before .before .before .pre .made, refl)
 
 padded-requires : tie.Need-padded-requires
-padded-requires c κs =
-    (omega (arith, start-long (c .before .before .before .before .before .before .before .before .args .g) (c .before .before .before .before .before .before .before .before .pre .made) (c .before .before .before .before .before .before .before .before .args .start .now) (c .before .before .before .before .before .before .before .before .pre .settled)), indices-few (c .before .before .before .before .before .before .before .before .args .g) (c .before .before .before .before .before .before .before .before .pre .made))
+padded-requires c κs = (
+  omega (
+    arith,
+    start-long (c .before .before .before .before .before .before .before .before .args .g)
+        (c .before .before .before .before .before .before .before .before .pre .made)
+        (c .before .before .before .before .before .before .before .before .args .start .now)
+        (c .before .before .before .before .before .before .before .before .pre .settled),
+  ),
+  indices-few (c .before .before .before .before .before .before .before .before .args .g)
+      (c .before .before .before .before .before .before .before .before .pre .made),
+)
 
 rebuilt-requires : tie.Need-rebuilt-requires
 rebuilt-requires c κs =
-    let a = c .before .before .before .before .before .before .before .before .before .before .before .before .before .before .args in
-    let made = c .before .before .before .before .before .before .before .before .before .before .before .before .before .before .pre .made in
-    let taken = start-taken (a .g) made (a .start .now) (c .before .before .before .before .before .before .before .before .before .before .before .before .before .before .pre .settled) (c .before .before .before .before .before .padded .result) (c .before .before .before .before .before .padded .ensures) in (
+    let a = c .before .before .before .before .before .before .before
+    .before .before .before .before .before .before .before .args in
+    let made = c .before .before .before .before .before .before .before .before
+    .before .before .before .before .before .before .pre .made in
+    let taken = start-taken (a .g) made (a .start .now)
+    (c .before .before .before .before .before .before .before .before
+    .before .before .before .before .before .before .pre .settled)
+    (c .before .before .before .before .before .padded .result)
+    (c .before .before .before .before .before .padded .ensures) in (
       record {
-        measured = record { made = made; filled = c .before .before .before .before .before .before .binomials2 .ensures };
-        isRound = is-round (a .g) made (c .before .before .before .before .before .before .before .before .block-sizes .result) (c .before .before .before .before .before .before .before .before .block-sizes .ensures);
-        below = round-below (a .g) made (c .before .before .before .before .before .before .before .before .block-sizes .result);
-        firstLength = first-long (a .g) made (a .start .now) (c .before .before .before .before .before .before .before .before .before .before .before .before .before .before .pre .settled) (c .before .before .before .before .before .padded .result) (c .before .before .before .before .before .padded .ensures);
-        settled = subst (λ (s : List ℕ). Settled (problemBy (a .g) s)) (sym taken) (c .before .before .before .before .before .before .before .before .before .before .before .before .before .before .pre .settled);
+        measured = record {
+          made = made;
+          filled = c .before .before .before .before .before .before .binomials2 .ensures;
+        };
+        isRound = is-round (a .g) made
+            (c .before .before .before .before .before .before .before .before .block-sizes .result)
+            (c .before .before .before .before .before .before .before .before .block-sizes .ensures);
+        below = round-below (a .g) made
+            (c .before .before .before .before .before .before .before .before .block-sizes .result);
+        firstLength = first-long (a .g) made (a .start .now)
+            (c .before .before .before .before .before .before .before .before
+            .before .before .before .before .before .before .pre .settled)
+            (c .before .before .before .before .before .padded .result)
+            (c .before .before .before .before .before .padded .ensures);
+        settled = subst
+            (λ (s : List ℕ). Settled (problemBy (a .g) s))
+            (sym taken)
+            (c .before .before .before .before .before .before .before .before
+            .before .before .before .before .before .before .pre .settled);
       },
-      omega (arith, c .before .before .before .before .before .before .before .before .before .before .before .if1 .left),
+      omega (
+        arith,
+        c .before .before .before .before .before .before .before .before .before .before .before .if1 .left,
+      ),
     )
 
 returns-2 : tie.Need-returns-2
 returns-2 c =
-    let a = c .before .before .before .before .before .before .before .before .before .before .before .before .before .before .before .args in
-    subst (λ (s : List ℕ). Reads (a .g) s (a .trail .now) (a .number) (c .rebuilt .result))
-    (start-taken (a .g) (c .before .before .before .before .before .before .before .before .before .before .before .before .before .before .before .pre .made) (a .start .now) (c .before .before .before .before .before .before .before .before .before .before .before .before .before .before .before .pre .settled) (c .before .before .before .before .before .before .padded .result) (c .before .before .before .before .before .before .padded .ensures)) (c .rebuilt .ensures)
+    let a = c .before .before .before .before .before .before .before .before
+    .before .before .before .before .before .before .before .args in
+    subst
+    (λ (s : List ℕ). Reads (a .g) s (a .trail .now) (a .number) (c .rebuilt .result))
+    (start-taken (a .g)
+    (c .before .before .before .before .before .before .before .before
+    .before .before .before .before .before .before .before .pre .made)
+    (a .start .now)
+    (c .before .before .before .before .before .before .before .before
+    .before .before .before .before .before .before .before .pre .settled)
+    (c .before .before .before .before .before .before .padded .result)
+    (c .before .before .before .before .before .before .padded .ensures))
+    (c .rebuilt .ensures)
 
 pub read-on-spec : {M : Type 1} → statement M
 read-on-spec =

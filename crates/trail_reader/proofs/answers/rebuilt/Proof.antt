@@ -43,26 +43,31 @@ abbrev Compared : Type 0
 Compared = tie.After-stands
 
 abbrev start : Compared → List ℕ
-start c = let a = c .before .before .before .before .before .before .before .before .before .args in take (a .g .indices) (a .first .now)
+start c =
+    let a = c .before .before .before .before .before .before .before .before .before .args in
+    take (a .g .indices) (a .first .now)
 
 abbrev problem : Compared → Problem
 problem c = problemBy (c .before .before .before .before .before .before .before .before .before .args .g) (start c)
 
-told : (c : Compared) → c .stands .result ≡ begins (startRecord (problem c)) (c .before .before .before .before .before .before .before .before .before .args .trail .now)
+told : (c : Compared)
+    → c .stands .result
+    ≡ begins (startRecord (problem c))
+    (c .before .before .before .before .before .before .before .before .before .args .trail .now)
 told c =
     let trail = c .before .before .before .before .before .before .before .before .before .args .trail .now in
     let position = c .before .before .start-position in
     let is = taken-record (c .before .first-record .ensures)
-        ∙ first-is (problem c) trail (position .result) (position .ensures .0) in
+    ∙ first-is (problem c) trail (position .result) (position .ensures .0) in
     c .stands .ensures ∙ ap (λ (r : List ℕ). begins r trail) is
 
 -- with v's position in its mark the arrays hold {v}
-held : (c : Compared) →
-    let a = c .before .before .before .before .before .before .before .before .before .args in
+held : (c : Compared)
+    → let a = c .before .before .before .before .before .before .before .before .before .args in
     let marks = set (replicate 16 0) 0 (c .before .before .start-position .result * 256) in
     HasRead (a .g) (start c) (c .before .before .before .before .tails .result) (start c ∷ [])
-    (stateOf (roundOf (a .previous .now) (a .next .now) (a .sizes .now)) (a .first .now) (replicate 16 0) (replicate 16 0) marks
-    (c .before .before .before .before .before .before .begin .result))
+    (stateOf (roundOf (a .previous .now) (a .next .now) (a .sizes .now)) (a .first .now) (replicate 16 0)
+    (replicate 16 0) marks (c .before .before .before .before .before .before .begin .result))
 held c =
     let a = c .before .before .before .before .before .before .before .before .before .args in
     let w = c .before .before .before .before .before .before .before .before .before .pre .0 in
@@ -95,19 +100,26 @@ array-write-marks : tie.Need-array-write-marks
 array-write-marks c = search needs
 
 sub-follow : tie.Need-sub-follow
-sub-follow c = omega (arith, c .before .before .before .before .before .before .before .before .before .before .before .before .before .before .before .pre .1)
+sub-follow c = omega (
+  arith,
+  c .before .before .before .before .before .before .before .before
+      .before .before .before .before .before .before .before .pre .1,
+)
 
 follow-requires : tie.Need-follow-requires
 follow-requires c κs =
     let v = c .before .before .before .before .before .before in
-    let s = c .before .before .before .before .before .before .before .before .before .before .before .before .before .before .before in
+    let s = c .before .before .before .before .before .before .before
+    .before .before .before .before .before .before .before .before in
     let w = s .pre .0 in
     let yes = sym (told v) ∙ not-false _ (c .before .before .before .before .before .if1 .left) in
     record {
       measured = w .measured;
       below = w .below;
       each = record { inOrder = refl; inMarks = refl };
-      many = rw (c .before .before .before .before .before .before .before .before .before .before .before .before .begin .ensures .none);
+      many = rw
+          (c .before .before .before .before .before .before .before
+          .before .before .before .before .before .begin .ensures .none);
       place = (start v, start v ∷ [], held v);
       low = begins-three (problem v) (s .args .trail .now) yes;
     }
@@ -118,20 +130,26 @@ enum-known-reached c = search needs
 add-placed : tie.Need-add-placed
 add-placed c =
     let v = c .before .before .before .before .before .before .before .before .before .before .before .before in
-    let s = c .before .before .before .before .before .before .before .before .before .before .before .before .before .before .before .before .before .before .before .before .before in
+    let s = c .before .before .before .before .before .before .before .before .before .before
+    .before .before .before .before .before .before .before .before .before .before .before in
     let n = s .args .number - 1 in
-    let R = (rw (c .before .before .before .reached .given .1) at (c .before .before .before .before .before .follow .ensures)) (start v) (start v ∷ []) (held v) in
+    let R = (rw (c .before .before .before .reached .given .1)
+    at (c .before .before .before .before .before .follow .ensures))
+    (start v) (start v ∷ []) (held v) in
     let few = came-few (placesFrom (problem v) n (start v ∷ []) (drop 3 (s .args .trail .now))) n in
     omega (arith, R .brought, few, s .pre .1, s .fits .number .fits)
 
 placed-requires : tie.Need-placed-requires
 placed-requires c κs =
     let v = c .before .before .before .before .before .before .before .before .before .before .before .before in
-    let s = c .before .before .before .before .before .before .before .before .before .before .before .before .before .before .before .before .before .before .before .before .before in
+    let s = c .before .before .before .before .before .before .before .before .before .before
+    .before .before .before .before .before .before .before .before .before .before .before in
     let a = s .args in
     let w = s .pre .0 in
     let few = indices-few (a .g) (w .measured .made) in
-    let R = (rw (c .before .before .before .reached .given .1) at (c .before .before .before .before .before .follow .ensures)) (start v) (start v ∷ []) (held v) in
+    let R = (rw (c .before .before .before .reached .given .1)
+    at (c .before .before .before .before .before .follow .ensures))
+    (start v) (start v ∷ []) (held v) in
     let C = computes (w .settled) (R .shows) in (
       record {
         below = w .below .backward;
@@ -153,26 +171,34 @@ refused-requires-2 c κs = search needs
 returns-2 : tie.Need-returns-2
 returns-2 c =
     let v = c .before .before .before .before .before .before .before .before .before .before .before .before .before in
-    let s = c .before .before .before .before .before .before .before .before .before .before .before .before .before .before .before .before .before .before .before .before .before .before in
+    let s = c .before .before .before .before .before .before .before .before .before .before .before
+    .before .before .before .before .before .before .before .before .before .before .before in
     let a = s .args in
     let w = s .pre .0 in
     let trail = a .trail .now in
     let followed = c .before .before .before .before .before .before .follow in
     let last = followed .last .1 .1 .1 .1 .1 .1 in
-    let yes = sym (told v) ∙ not-false _ (c .before .before .before .before .before .before .before .before .before .before .before .before .if1 .left) in
-    let R = (rw (c .before .before .before .before .reached .given .1) at (followed .ensures)) (start v) (start v ∷ []) (held v) in
+    let yes = sym (told v)
+    ∙ not-false _
+    (c .before .before .before .before .before .before .before .before .before .before .before .before .if1 .left) in
+    let R = (rw (c .before .before .before .before .reached .given .1) at (followed .ensures)) (start v) (start v ∷ [])
+    (held v) in
     let there = reads-place (problem v) trail (a .number) (s .pre .1) yes (R .place) (R .is) _ (R .brought) in
-    reads-by (a .g) (w .measured .made) (start v) trail (a .number) (w .settled) (R .place) (a .previous .now) (a .next .now)
-    (a .sizes .now) (last .0) (last .1 .0) (last .1 .1 .0) (last .1 .1 .1 .0) (c .before .before .before .before .reached .given .0 .0) _
-    (R .shows) (c .placed .result) (c .placed .ensures) there
+    reads-by (a .g) (w .measured .made) (start v) trail (a .number) (w .settled) (R .place) (a .previous .now)
+    (a .next .now) (a .sizes .now) (last .0) (last .1 .0) (last .1 .1 .0) (last .1 .1 .1 .0)
+    (c .before .before .before .before .reached .given .0 .0) _ (R .shows) (c .placed .result) (c .placed .ensures)
+    there
 
 returns-3 : tie.Need-returns-3
 returns-3 c =
     let v = c .before .before .before .before .before .before .before .before .before .before in
-    let s = c .before .before .before .before .before .before .before .before .before .before .before .before .before .before .before .before .before .before .before in
+    let s = c .before .before .before .before .before .before .before .before .before
+    .before .before .before .before .before .before .before .before .before .before in
     let a = s .args in
-    let yes = sym (told v) ∙ not-false _ (c .before .before .before .before .before .before .before .before .before .if1 .left) in
-    let R = (rw (c .before .enum-told .given .1) at (c .before .before .before .follow .ensures)) (start v) (start v ∷ []) (held v) in
+    let yes =
+    sym (told v) ∙ not-false _ (c .before .before .before .before .before .before .before .before .before .if1 .left) in
+    let R = (rw (c .before .enum-told .given .1) at (c .before .before .before .follow .ensures)) (start v)
+    (start v ∷ []) (held v) in
     reads-17 (a .g) (start v) (a .trail .now) (a .number) (c .refused2 .result) (c .refused2 .ensures)
     (reads-none (problem v) (a .trail .now) (a .number) (s .pre .1) yes R)
 

@@ -1,5 +1,5 @@
--- `answers::announced` meets its contract: the walk that counts, question 17, the walk that writes, and the end written to the answer buffer.
--- Assumes nothing.
+-- `answers::announced` meets its contract: the walk that counts, question 17, the walk that writes, and the end written
+-- to the answer buffer. Assumes nothing.
 use mathlib.Core.Bool.{false, cond}
 use mathlib.Core.List.{List, []}
 use mathlib.Core.Path.{_≡_, refl, sym, ap, _∙_, subst}
@@ -34,19 +34,29 @@ block-sizes-requires c κs = c .before .before .before .before .before .before .
 padded-requires : tie.Need-padded-requires
 padded-requires c κs =
     let a = c .before .before .before .before .before .before .before .args in
-    let made = c .before .before .before .before .before .before .before .pre .readable .made in
-    (omega (arith, start-long (a .g) made (a .start .now) (a .labels .now) (c .before .before .before .before .before .before .before .pre .accepted)), indices-few (a .g) made)
+    let made = c .before .before .before .before .before .before .before .pre .readable .made in (
+      omega (
+        arith,
+        start-long (a .g) made (a .start .now) (a .labels .now)
+            (c .before .before .before .before .before .before .before .pre .accepted),
+      ),
+      indices-few (a .g) made,
+    )
 
 follow-requires : tie.Need-follow-requires
 follow-requires c κs =
-    let a = c .before .before .before .before .before .before .before .before .before .before .before .before .before .before .args in
-    let w = c .before .before .before .before .before .before .before .before .before .before .before .before .before .before .pre in
+    let a = c .before .before .before .before .before .before .before
+    .before .before .before .before .before .before .before .args in
+    let w = c .before .before .before .before .before .before .before
+    .before .before .before .before .before .before .before .pre in
     let made = w .readable .made in
     let t = c .before .before .before .before .before .before .padded in (
       record {
         readable = w .readable;
-        isRound = is-round (a .g) made (c .before .before .before .before .before .before .before .block-sizes .result) (c .before .before .before .before .before .before .before .block-sizes .ensures);
-        below = round-below (a .g) made (c .before .before .before .before .before .before .before .block-sizes .result);
+        isRound = is-round (a .g) made (c .before .before .before .before .before .before .before .block-sizes .result)
+            (c .before .before .before .before .before .before .before .block-sizes .ensures);
+        below =
+            round-below (a .g) made (c .before .before .before .before .before .before .before .block-sizes .result);
         accepted = accepted-in (a .g) made (a .start .now) (a .labels .now) (w .accepted) (t .result) (t .ensures);
         firstLength = taken-long (a .g) made (a .start .now) (a .labels .now) (w .accepted) (t .result) (t .ensures);
         orderLength = refl;
@@ -68,49 +78,110 @@ same-length c = search needs
 
 returns : tie.Need-returns
 returns c =
-    let a = c .before .before .before .before .before .before .before .before .before .before .before .before .before .before .before .before .before .before .before .before .before .args in
-    let w = c .before .before .before .before .before .before .before .before .before .before .before .before .before .before .before .before .before .before .before .before .before .pre in
+    let a = c .before .before .before .before .before .before .before .before .before .before .before
+    .before .before .before .before .before .before .before .before .before .before .args in
+    let w = c .before .before .before .before .before .before .before .before .before .before .before
+    .before .before .before .before .before .before .before .before .before .before .pre in
     let made = w .readable .made in
-    let t = c .before .before .before .before .before .before .before .before .before .before .before .before .before .padded in
+    let t =
+    c .before .before .before .before .before .before .before .before .before .before .before .before .before .padded in
     let f = c .before .before .before .before .before .before .follow in
     let p = problemFrom (a .g) (a .start .now) (a .labels .now) in
-    let round = roundOf (a .g .previous) (a .g .next) (c .before .before .before .before .before .before .before .before .before .before .before .before .before .before .block-sizes .result) in
+    let round = roundOf (a .g .previous) (a .g .next)
+    (c .before .before .before .before .before .before .before .before
+    .before .before .before .before .before .before .block-sizes .result) in
     let same = problem-from (a .g) made (a .start .now) (a .labels .now) (w .accepted) (t .result) (t .ensures) in
-    let F = subst (Finished p (a .budget) round (c .before .before .before .before .before .before .follow .last .1 .1 .1 .1 .1 .1 .0) (c .before .before .before .before .before .before .follow .last .1 .1 .1 .1 .1 .1 .1 .0)) (c .before .before .finish2 .given .1)
-    (subst (λ (p : Problem). Finished p (a .budget) round (c .before .before .before .before .before .before .follow .last .1 .1 .1 .1 .1 .1 .0) (c .before .before .before .before .before .before .follow .last .1 .1 .1 .1 .1 .1 .1 .0) (f .result .finish)) same (f .ensures .0)) in
-    let R = subst (Recorded p false (a .trail .now) (c .before .before .before .before .before .before .follow .last .1 .1 .1 .1 .1 .1 .1 .1 .0) (f .result .bytes)) (c .before .before .finish2 .given .1)
-    (subst (λ (p : Problem). Recorded p false (a .trail .now) (c .before .before .before .before .before .before .follow .last .1 .1 .1 .1 .1 .1 .1 .1 .0) (f .result .bytes) (f .result .finish)) same (f .ensures .1)) in
+    let F = subst
+    (Finished p (a .budget) round (c .before .before .before .before .before .before .follow .last .1 .1 .1 .1 .1 .1 .0)
+    (c .before .before .before .before .before .before .follow .last .1 .1 .1 .1 .1 .1 .1 .0))
+    (c .before .before .finish2 .given .1)
+    (subst
+    (λ (p : Problem). Finished p (a .budget) round
+    (c .before .before .before .before .before .before .follow .last .1 .1 .1 .1 .1 .1 .0)
+    (c .before .before .before .before .before .before .follow .last .1 .1 .1 .1 .1 .1 .1 .0) (f .result .finish))
+    same (f .ensures .0)) in
+    let R = subst
+    (Recorded p false (a .trail .now)
+    (c .before .before .before .before .before .before .follow .last .1 .1 .1 .1 .1 .1 .1 .1 .0) (f .result .bytes))
+    (c .before .before .finish2 .given .1)
+    (subst
+    (λ (p : Problem). Recorded p false (a .trail .now)
+    (c .before .before .before .before .before .before .follow .last .1 .1 .1 .1 .1 .1 .1 .1 .0) (f .result .bytes)
+    (f .result .finish))
+    same (f .ensures .1)) in
     let kind = c .before .before .finish2 .given .0 .0 in
     let places = c .before .before .finish2 .given .0 .1 .0 in
     let index = c .before .before .finish2 .given .0 .1 .1 .0 in
     let status = c .before .before .finish2 .given .0 .1 .1 .1 .0 in
-    let e = stateOf round (c .before .before .before .before .before .before .follow .last .1 .1 .1 .1 .1 .1 .0) [] (c .before .before .before .before .before .before .follow .last .1 .1 .1 .1 .1 .1 .1 .0) [] status in
-    let short = too-short p (length (a .trail .now)) (omega (arith, R .0, ap length (R .1), c .if1 .taken)) (answer p (a .budget)) (F .0 .is) in
+    let e = stateOf round (c .before .before .before .before .before .before .follow .last .1 .1 .1 .1 .1 .1 .0) []
+    (c .before .before .before .before .before .before .follow .last .1 .1 .1 .1 .1 .1 .1 .0) [] status in
+    let short = too-short p (length (a .trail .now)) (omega (arith, R .0, ap length (R .1), c .if1 .taken))
+    (answer p (a .budget)) (F .0 .is) in
     (short, (sym (front-none (a .answer .now)), R .1 ∙ sym (front-none (a .trail .now))))
 
 write-trail-requires : tie.Need-write-trail-requires
 write-trail-requires c κs =
-    let a = c .before .before .before .before .before .before .before .before .before .before .before .before .before .before .before .before .before .before .before .before .before .before .before .before .before .args in
-    let w = c .before .before .before .before .before .before .before .before .before .before .before .before .before .before .before .before .before .before .before .before .before .before .before .before .before .pre in
+    let a = c .before .before .before .before .before .before .before .before .before .before .before .before .before
+    .before .before .before .before .before .before .before .before .before .before .before .before .args in
+    let w = c .before .before .before .before .before .before .before .before .before .before .before .before .before
+    .before .before .before .before .before .before .before .before .before .before .before .before .pre in
     let made = w .readable .made in
-    let t = c .before .before .before .before .before .before .before .before .before .before .before .before .before .before .before .before .before .padded in
+    let t = c .before .before .before .before .before .before .before .before .before
+    .before .before .before .before .before .before .before .before .padded in
     let f = c .before .before .before .before .before .before .before .before .before .before .follow in
     let p = problemFrom (a .g) (a .start .now) (a .labels .now) in
-    let round = roundOf (a .g .previous) (a .g .next) (c .before .before .before .before .before .before .before .before .before .before .before .before .before .before .before .before .before .before .block-sizes .result) in
+    let round = roundOf (a .g .previous) (a .g .next)
+    (c .before .before .before .before .before .before .before .before .before .before
+    .before .before .before .before .before .before .before .before .block-sizes .result) in
     let same = problem-from (a .g) made (a .start .now) (a .labels .now) (w .accepted) (t .result) (t .ensures) in
-    let F = subst (Finished p (a .budget) round (c .before .before .before .before .before .before .before .before .before .before .follow .last .1 .1 .1 .1 .1 .1 .0) (c .before .before .before .before .before .before .before .before .before .before .follow .last .1 .1 .1 .1 .1 .1 .1 .0)) (c .before .before .before .before .before .before .finish2 .given .1)
-    (subst (λ (p : Problem). Finished p (a .budget) round (c .before .before .before .before .before .before .before .before .before .before .follow .last .1 .1 .1 .1 .1 .1 .0) (c .before .before .before .before .before .before .before .before .before .before .follow .last .1 .1 .1 .1 .1 .1 .1 .0) (f .result .finish)) same (f .ensures .0)) in
-    let R = subst (Recorded p false (a .trail .now) (c .before .before .before .before .before .before .before .before .before .before .follow .last .1 .1 .1 .1 .1 .1 .1 .1 .0) (f .result .bytes)) (c .before .before .before .before .before .before .finish2 .given .1)
-    (subst (λ (p : Problem). Recorded p false (a .trail .now) (c .before .before .before .before .before .before .before .before .before .before .follow .last .1 .1 .1 .1 .1 .1 .1 .1 .0) (f .result .bytes) (f .result .finish)) same (f .ensures .1)) in
+    let F = subst
+    (Finished p (a .budget) round
+    (c .before .before .before .before .before .before .before .before .before
+    .before .follow .last .1 .1 .1 .1 .1 .1 .0)
+    (c .before .before .before .before .before .before .before .before .before .before
+    .follow .last .1 .1 .1 .1 .1 .1 .1 .0))
+    (c .before .before .before .before .before .before .finish2 .given .1)
+    (subst
+    (λ (p : Problem). Finished p (a .budget) round
+    (c .before .before .before .before .before .before .before .before .before
+    .before .follow .last .1 .1 .1 .1 .1 .1 .0)
+    (c .before .before .before .before .before .before .before .before .before .before
+    .follow .last .1 .1 .1 .1 .1 .1 .1 .0)
+    (f .result .finish))
+    same (f .ensures .0)) in
+    let R = subst
+    (Recorded p false (a .trail .now)
+    (c .before .before .before .before .before .before .before .before .before .before
+    .follow .last .1 .1 .1 .1 .1 .1 .1 .1 .0)
+    (f .result .bytes))
+    (c .before .before .before .before .before .before .finish2 .given .1)
+    (subst
+    (λ (p : Problem). Recorded p false (a .trail .now)
+    (c .before .before .before .before .before .before .before .before .before .before
+    .follow .last .1 .1 .1 .1 .1 .1 .1 .1 .0)
+    (f .result .bytes) (f .result .finish))
+    same (f .ensures .1)) in
     let kind = c .before .before .before .before .before .before .finish2 .given .0 .0 in
     let places = c .before .before .before .before .before .before .finish2 .given .0 .1 .0 in
     let index = c .before .before .before .before .before .before .finish2 .given .0 .1 .1 .0 in
     let status = c .before .before .before .before .before .before .finish2 .given .0 .1 .1 .1 .0 in
-    let e = stateOf round (c .before .before .before .before .before .before .before .before .before .before .follow .last .1 .1 .1 .1 .1 .1 .0) [] (c .before .before .before .before .before .before .before .before .before .before .follow .last .1 .1 .1 .1 .1 .1 .1 .0) [] status in
+    let e = stateOf round
+    (c .before .before .before .before .before .before .before .before .before
+    .before .follow .last .1 .1 .1 .1 .1 .1 .0)
+    []
+    (c .before .before .before .before .before .before .before .before .before .before
+    .follow .last .1 .1 .1 .1 .1 .1 .1 .0)
+    [] status in
     record {
       readable = w .readable;
-      isRound = is-round (a .g) made (c .before .before .before .before .before .before .before .before .before .before .before .before .before .before .before .before .before .before .block-sizes .result) (c .before .before .before .before .before .before .before .before .before .before .before .before .before .before .before .before .before .before .block-sizes .ensures);
-      below = round-below (a .g) made (c .before .before .before .before .before .before .before .before .before .before .before .before .before .before .before .before .before .before .block-sizes .result);
+      isRound = is-round (a .g) made
+          (c .before .before .before .before .before .before .before .before .before .before
+          .before .before .before .before .before .before .before .before .block-sizes .result)
+          (c .before .before .before .before .before .before .before .before .before .before
+          .before .before .before .before .before .before .before .before .block-sizes .ensures);
+      below = round-below (a .g) made
+          (c .before .before .before .before .before .before .before .before .before .before
+          .before .before .before .before .before .before .before .before .block-sizes .result);
       accepted = w .accepted;
       ends = (_, _, _, _, _, _, F .0 .is);
       fits = omega (arith, R .0, ap length (R .1), c .before .before .before .before .if1 .left);
@@ -118,23 +189,61 @@ write-trail-requires c κs =
 
 block-number-requires : tie.Need-block-number-requires
 block-number-requires c κs =
-    let a = c .before .before .before .before .before .before .before .before .before .before .before .before .before .before .before .before .before .before .before .before .before .before .before .before .before .before .before .before .args in
-    let w = c .before .before .before .before .before .before .before .before .before .before .before .before .before .before .before .before .before .before .before .before .before .before .before .before .before .before .before .before .pre in
+    let a = c .before .before .before .before .before .before .before .before .before
+    .before .before .before .before .before .before .before .before .before .before
+    .before .before .before .before .before .before .before .before .before .args in
+    let w = c .before .before .before .before .before .before .before .before .before
+    .before .before .before .before .before .before .before .before .before .before
+    .before .before .before .before .before .before .before .before .before .pre in
     let made = w .readable .made in
-    let t = c .before .before .before .before .before .before .before .before .before .before .before .before .before .before .before .before .before .before .before .before .padded in
-    let f = c .before .before .before .before .before .before .before .before .before .before .before .before .before .follow in
+    let t = c .before .before .before .before .before .before .before .before .before .before
+    .before .before .before .before .before .before .before .before .before .before .padded in
+    let f =
+    c .before .before .before .before .before .before .before .before .before .before .before .before .before .follow in
     let p = problemFrom (a .g) (a .start .now) (a .labels .now) in
-    let round = roundOf (a .g .previous) (a .g .next) (c .before .before .before .before .before .before .before .before .before .before .before .before .before .before .before .before .before .before .before .before .before .block-sizes .result) in
+    let round = roundOf (a .g .previous) (a .g .next)
+    (c .before .before .before .before .before .before .before .before .before .before .before
+    .before .before .before .before .before .before .before .before .before .before .block-sizes .result) in
     let same = problem-from (a .g) made (a .start .now) (a .labels .now) (w .accepted) (t .result) (t .ensures) in
-    let F = subst (Finished p (a .budget) round (c .before .before .before .before .before .before .before .before .before .before .before .before .before .follow .last .1 .1 .1 .1 .1 .1 .0) (c .before .before .before .before .before .before .before .before .before .before .before .before .before .follow .last .1 .1 .1 .1 .1 .1 .1 .0)) (c .before .before .before .before .before .before .before .before .before .finish2 .given .1)
-    (subst (λ (p : Problem). Finished p (a .budget) round (c .before .before .before .before .before .before .before .before .before .before .before .before .before .follow .last .1 .1 .1 .1 .1 .1 .0) (c .before .before .before .before .before .before .before .before .before .before .before .before .before .follow .last .1 .1 .1 .1 .1 .1 .1 .0) (f .result .finish)) same (f .ensures .0)) in
-    let R = subst (Recorded p false (a .trail .now) (c .before .before .before .before .before .before .before .before .before .before .before .before .before .follow .last .1 .1 .1 .1 .1 .1 .1 .1 .0) (f .result .bytes)) (c .before .before .before .before .before .before .before .before .before .finish2 .given .1)
-    (subst (λ (p : Problem). Recorded p false (a .trail .now) (c .before .before .before .before .before .before .before .before .before .before .before .before .before .follow .last .1 .1 .1 .1 .1 .1 .1 .1 .0) (f .result .bytes) (f .result .finish)) same (f .ensures .1)) in
+    let F = subst
+    (Finished p (a .budget) round
+    (c .before .before .before .before .before .before .before .before .before .before .before
+    .before .before .follow .last .1 .1 .1 .1 .1 .1 .0)
+    (c .before .before .before .before .before .before .before .before .before .before .before
+    .before .before .follow .last .1 .1 .1 .1 .1 .1 .1 .0))
+    (c .before .before .before .before .before .before .before .before .before .finish2 .given .1)
+    (subst
+    (λ (p : Problem). Finished p (a .budget) round
+    (c .before .before .before .before .before .before .before .before .before .before .before
+    .before .before .follow .last .1 .1 .1 .1 .1 .1 .0)
+    (c .before .before .before .before .before .before .before .before .before .before .before
+    .before .before .follow .last .1 .1 .1 .1 .1 .1 .1 .0)
+    (f .result .finish))
+    same (f .ensures .0)) in
+    let R = subst
+    (Recorded p false (a .trail .now)
+    (c .before .before .before .before .before .before .before .before .before .before .before .before
+    .before .follow .last .1 .1 .1 .1 .1 .1 .1 .1 .0)
+    (f .result .bytes))
+    (c .before .before .before .before .before .before .before .before .before .finish2 .given .1)
+    (subst
+    (λ (p : Problem). Recorded p false (a .trail .now)
+    (c .before .before .before .before .before .before .before .before .before .before .before .before
+    .before .follow .last .1 .1 .1 .1 .1 .1 .1 .1 .0)
+    (f .result .bytes) (f .result .finish))
+    same (f .ensures .1)) in
     let kind = c .before .before .before .before .before .before .before .before .before .finish2 .given .0 .0 in
     let places = c .before .before .before .before .before .before .before .before .before .finish2 .given .0 .1 .0 in
     let index = c .before .before .before .before .before .before .before .before .before .finish2 .given .0 .1 .1 .0 in
-    let status = c .before .before .before .before .before .before .before .before .before .finish2 .given .0 .1 .1 .1 .0 in
-    let e = stateOf round (c .before .before .before .before .before .before .before .before .before .before .before .before .before .follow .last .1 .1 .1 .1 .1 .1 .0) [] (c .before .before .before .before .before .before .before .before .before .before .before .before .before .follow .last .1 .1 .1 .1 .1 .1 .1 .0) [] status in
+    let status =
+    c .before .before .before .before .before .before .before .before .before .finish2 .given .0 .1 .1 .1 .0 in
+    let e = stateOf round
+    (c .before .before .before .before .before .before .before .before .before .before .before
+    .before .before .follow .last .1 .1 .1 .1 .1 .1 .0)
+    []
+    (c .before .before .before .before .before .before .before .before .before .before .before
+    .before .before .follow .last .1 .1 .1 .1 .1 .1 .1 .0)
+    [] status in
     (made, index-low (a .g) made (a .start .now) (a .labels .now) (a .budget) places kind e index (F .0))
 
 first-vertex-requires : tie.Need-first-vertex-requires
@@ -142,32 +251,84 @@ first-vertex-requires c κs = search needs
 
 put-points-requires : tie.Need-put-points-requires
 put-points-requires c κs =
-    let a = c .before .before .before .before .before .before .before .before .before .before .before .before .before .before .before .before .before .before .before .before .before .before .before .before .before .before .before .before .before .before .before .before .before .before .before .args in
-    let w = c .before .before .before .before .before .before .before .before .before .before .before .before .before .before .before .before .before .before .before .before .before .before .before .before .before .before .before .before .before .before .before .before .before .before .before .pre in
+    let a = c .before .before .before .before .before .before .before .before .before .before .before .before
+    .before .before .before .before .before .before .before .before .before .before .before .before .before
+    .before .before .before .before .before .before .before .before .before .before .args in
+    let w = c .before .before .before .before .before .before .before .before .before .before .before .before
+    .before .before .before .before .before .before .before .before .before .before .before .before .before
+    .before .before .before .before .before .before .before .before .before .before .pre in
     let made = w .readable .made in
-    let t = c .before .before .before .before .before .before .before .before .before .before .before .before .before .before .before .before .before .before .before .before .before .before .before .before .before .before .before .padded in
-    let f = c .before .before .before .before .before .before .before .before .before .before .before .before .before .before .before .before .before .before .before .before .follow in
+    let t = c .before .before .before .before .before .before .before .before .before
+    .before .before .before .before .before .before .before .before .before .before
+    .before .before .before .before .before .before .before .before .padded in
+    let f = c .before .before .before .before .before .before .before .before .before .before
+    .before .before .before .before .before .before .before .before .before .before .follow in
     let p = problemFrom (a .g) (a .start .now) (a .labels .now) in
-    let round = roundOf (a .g .previous) (a .g .next) (c .before .before .before .before .before .before .before .before .before .before .before .before .before .before .before .before .before .before .before .before .before .before .before .before .before .before .before .before .block-sizes .result) in
+    let round = roundOf (a .g .previous) (a .g .next)
+    (c .before .before .before .before .before .before .before .before .before .before
+    .before .before .before .before .before .before .before .before .before .before .before
+    .before .before .before .before .before .before .before .block-sizes .result) in
     let same = problem-from (a .g) made (a .start .now) (a .labels .now) (w .accepted) (t .result) (t .ensures) in
-    let F = subst (Finished p (a .budget) round (c .before .before .before .before .before .before .before .before .before .before .before .before .before .before .before .before .before .before .before .before .follow .last .1 .1 .1 .1 .1 .1 .0) (c .before .before .before .before .before .before .before .before .before .before .before .before .before .before .before .before .before .before .before .before .follow .last .1 .1 .1 .1 .1 .1 .1 .0)) (c .before .before .before .before .before .before .before .before .before .before .before .before .before .before .before .before .finish2 .given .1)
-    (subst (λ (p : Problem). Finished p (a .budget) round (c .before .before .before .before .before .before .before .before .before .before .before .before .before .before .before .before .before .before .before .before .follow .last .1 .1 .1 .1 .1 .1 .0) (c .before .before .before .before .before .before .before .before .before .before .before .before .before .before .before .before .before .before .before .before .follow .last .1 .1 .1 .1 .1 .1 .1 .0) (f .result .finish)) same (f .ensures .0)) in
-    let R = subst (Recorded p false (a .trail .now) (c .before .before .before .before .before .before .before .before .before .before .before .before .before .before .before .before .before .before .before .before .follow .last .1 .1 .1 .1 .1 .1 .1 .1 .0) (f .result .bytes)) (c .before .before .before .before .before .before .before .before .before .before .before .before .before .before .before .before .finish2 .given .1)
-    (subst (λ (p : Problem). Recorded p false (a .trail .now) (c .before .before .before .before .before .before .before .before .before .before .before .before .before .before .before .before .before .before .before .before .follow .last .1 .1 .1 .1 .1 .1 .1 .1 .0) (f .result .bytes) (f .result .finish)) same (f .ensures .1)) in
-    let kind = c .before .before .before .before .before .before .before .before .before .before .before .before .before .before .before .before .finish2 .given .0 .0 in
-    let places = c .before .before .before .before .before .before .before .before .before .before .before .before .before .before .before .before .finish2 .given .0 .1 .0 in
-    let index = c .before .before .before .before .before .before .before .before .before .before .before .before .before .before .before .before .finish2 .given .0 .1 .1 .0 in
-    let status = c .before .before .before .before .before .before .before .before .before .before .before .before .before .before .before .before .finish2 .given .0 .1 .1 .1 .0 in
-    let e = stateOf round (c .before .before .before .before .before .before .before .before .before .before .before .before .before .before .before .before .before .before .before .before .follow .last .1 .1 .1 .1 .1 .1 .0) [] (c .before .before .before .before .before .before .before .before .before .before .before .before .before .before .before .before .before .before .before .before .follow .last .1 .1 .1 .1 .1 .1 .1 .0) [] status in (
+    let F = subst
+    (Finished p (a .budget) round
+    (c .before .before .before .before .before .before .before .before .before .before .before .before .before .before
+    .before .before .before .before .before .before .follow .last .1 .1 .1 .1 .1 .1 .0)
+    (c .before .before .before .before .before .before .before .before .before .before .before .before .before .before
+    .before .before .before .before .before .before .follow .last .1 .1 .1 .1 .1 .1 .1 .0))
+    (c .before .before .before .before .before .before .before .before .before
+    .before .before .before .before .before .before .before .finish2 .given .1)
+    (subst
+    (λ (p : Problem). Finished p (a .budget) round
+    (c .before .before .before .before .before .before .before .before .before .before .before .before .before .before
+    .before .before .before .before .before .before .follow .last .1 .1 .1 .1 .1 .1 .0)
+    (c .before .before .before .before .before .before .before .before .before .before .before .before .before .before
+    .before .before .before .before .before .before .follow .last .1 .1 .1 .1 .1 .1 .1 .0)
+    (f .result .finish))
+    same (f .ensures .0)) in
+    let R = subst
+    (Recorded p false (a .trail .now)
+    (c .before .before .before .before .before .before .before .before .before .before .before .before .before .before
+    .before .before .before .before .before .before .follow .last .1 .1 .1 .1 .1 .1 .1 .1 .0)
+    (f .result .bytes))
+    (c .before .before .before .before .before .before .before .before .before
+    .before .before .before .before .before .before .before .finish2 .given .1)
+    (subst
+    (λ (p : Problem). Recorded p false (a .trail .now)
+    (c .before .before .before .before .before .before .before .before .before .before .before .before .before .before
+    .before .before .before .before .before .before .follow .last .1 .1 .1 .1 .1 .1 .1 .1 .0)
+    (f .result .bytes) (f .result .finish))
+    same (f .ensures .1)) in
+    let kind = c .before .before .before .before .before .before .before .before .before .before
+    .before .before .before .before .before .before .finish2 .given .0 .0 in
+    let places = c .before .before .before .before .before .before .before .before .before .before
+    .before .before .before .before .before .before .finish2 .given .0 .1 .0 in
+    let index = c .before .before .before .before .before .before .before .before .before .before .before
+    .before .before .before .before .before .finish2 .given .0 .1 .1 .0 in
+    let status = c .before .before .before .before .before .before .before .before .before .before .before
+    .before .before .before .before .before .finish2 .given .0 .1 .1 .1 .0 in
+    let e = stateOf round
+    (c .before .before .before .before .before .before .before .before .before .before .before .before .before .before
+    .before .before .before .before .before .before .follow .last .1 .1 .1 .1 .1 .1 .0)
+    []
+    (c .before .before .before .before .before .before .before .before .before .before .before .before .before .before
+    .before .before .before .before .before .before .follow .last .1 .1 .1 .1 .1 .1 .1 .0)
+    [] status in (
       record {
-        below = round-below (a .g) made (c .before .before .before .before .before .before .before .before .before .before .before .before .before .before .before .before .before .before .before .before .before .before .before .before .before .before .before .before .block-sizes .result) .backward;
+        below = round-below (a .g) made
+            (c .before .before .before .before .before .before .before .before .before .before
+            .before .before .before .before .before .before .before .before .before .before .before
+            .before .before .before .before .before .before .before .block-sizes .result) .backward;
         firstLength = F .0 .firstLength;
         points = F .0 .points;
         short = indices-few (a .g) made;
         low = rw (c .before .before .before .before .before .first-vertex .ensures) (F .0 .low);
-        fits = rw (c .before .before .before .before .before .first-vertex .ensures) (room (a .g) made (a .start .now) (a .labels .now) (a .budget) places kind e index (F .0) _ (w .room));
+        fits = rw (c .before .before .before .before .before .first-vertex .ensures)
+            (room (a .g) made (a .start .now) (a .labels .now) (a .budget) places kind e index (F .0) _ (w .room));
       },
-      counted (c .before .before .before .before .before .before .before .before .before .before .before .before .before .before .before .before .before .before .before .before .follow .last .1 .1 .1 .1 .1 .1 .1 .0) (status .count) (F .1) (F .0 .points .few),
+      counted
+          (c .before .before .before .before .before .before .before .before .before .before .before .before .before
+          .before .before .before .before .before .before .before .follow .last .1 .1 .1 .1 .1 .1 .1 .0)
+          (status .count) (F .1) (F .0 .points .few),
     )
 
 same-length-2 : tie.Need-same-length-2
@@ -175,18 +336,35 @@ same-length-2 c = search needs
 
 returns-2 : tie.Need-returns-2
 returns-2 c =
-    let a = c .before .before .before .before .before .before .before .before .before .before .before .before .before .before .before .before .before .before .before .args in
-    let w = c .before .before .before .before .before .before .before .before .before .before .before .before .before .before .before .before .before .before .before .pre in
+    let a = c .before .before .before .before .before .before .before .before .before .before
+    .before .before .before .before .before .before .before .before .before .args in
+    let w = c .before .before .before .before .before .before .before .before .before .before
+    .before .before .before .before .before .before .before .before .before .pre in
     let made = w .readable .made in
     let t = c .before .before .before .before .before .before .before .before .before .before .before .padded in
     let f = c .before .before .before .before .follow in
     let p = problemFrom (a .g) (a .start .now) (a .labels .now) in
-    let round = roundOf (a .g .previous) (a .g .next) (c .before .before .before .before .before .before .before .before .before .before .before .before .block-sizes .result) in
+    let round = roundOf (a .g .previous) (a .g .next)
+    (c .before .before .before .before .before .before .before
+    .before .before .before .before .before .block-sizes .result) in
     let same = problem-from (a .g) made (a .start .now) (a .labels .now) (w .accepted) (t .result) (t .ensures) in
-    let F = subst (Finished p (a .budget) round (c .before .before .before .before .follow .last .1 .1 .1 .1 .1 .1 .0) (c .before .before .before .before .follow .last .1 .1 .1 .1 .1 .1 .1 .0)) (c .enum-told .given .1)
-    (subst (λ (p : Problem). Finished p (a .budget) round (c .before .before .before .before .follow .last .1 .1 .1 .1 .1 .1 .0) (c .before .before .before .before .follow .last .1 .1 .1 .1 .1 .1 .1 .0) (f .result .finish)) same (f .ensures .0)) in
-    let R = subst (Recorded p false (a .trail .now) (c .before .before .before .before .follow .last .1 .1 .1 .1 .1 .1 .1 .1 .0) (f .result .bytes)) (c .enum-told .given .1)
-    (subst (λ (p : Problem). Recorded p false (a .trail .now) (c .before .before .before .before .follow .last .1 .1 .1 .1 .1 .1 .1 .1 .0) (f .result .bytes) (f .result .finish)) same (f .ensures .1)) in
+    let F = subst
+    (Finished p (a .budget) round (c .before .before .before .before .follow .last .1 .1 .1 .1 .1 .1 .0)
+    (c .before .before .before .before .follow .last .1 .1 .1 .1 .1 .1 .1 .0))
+    (c .enum-told .given .1)
+    (subst
+    (λ (p : Problem). Finished p (a .budget) round
+    (c .before .before .before .before .follow .last .1 .1 .1 .1 .1 .1 .0)
+    (c .before .before .before .before .follow .last .1 .1 .1 .1 .1 .1 .1 .0) (f .result .finish))
+    same (f .ensures .0)) in
+    let R = subst
+    (Recorded p false (a .trail .now) (c .before .before .before .before .follow .last .1 .1 .1 .1 .1 .1 .1 .1 .0)
+    (f .result .bytes))
+    (c .enum-told .given .1)
+    (subst
+    (λ (p : Problem). Recorded p false (a .trail .now)
+    (c .before .before .before .before .follow .last .1 .1 .1 .1 .1 .1 .1 .1 .0) (f .result .bytes) (f .result .finish))
+    same (f .ensures .1)) in
     (rw F, (sym (front-none (a .answer .now)), R refl ∙ sym (front-none (a .trail .now))))
 
 same-length-3 : tie.Need-same-length-3
@@ -194,18 +372,36 @@ same-length-3 c = search needs
 
 returns-3 : tie.Need-returns-3
 returns-3 c =
-    let a = c .before .before .before .before .before .before .before .before .before .before .before .before .before .before .before .before .before .before .before .before .args in
-    let w = c .before .before .before .before .before .before .before .before .before .before .before .before .before .before .before .before .before .before .before .before .pre in
+    let a = c .before .before .before .before .before .before .before .before .before .before
+    .before .before .before .before .before .before .before .before .before .before .args in
+    let w = c .before .before .before .before .before .before .before .before .before .before
+    .before .before .before .before .before .before .before .before .before .before .pre in
     let made = w .readable .made in
     let t = c .before .before .before .before .before .before .before .before .before .before .before .before .padded in
     let f = c .before .before .before .before .before .follow in
     let p = problemFrom (a .g) (a .start .now) (a .labels .now) in
-    let round = roundOf (a .g .previous) (a .g .next) (c .before .before .before .before .before .before .before .before .before .before .before .before .before .block-sizes .result) in
+    let round = roundOf (a .g .previous) (a .g .next)
+    (c .before .before .before .before .before .before .before
+    .before .before .before .before .before .before .block-sizes .result) in
     let same = problem-from (a .g) made (a .start .now) (a .labels .now) (w .accepted) (t .result) (t .ensures) in
-    let F = subst (Finished p (a .budget) round (c .before .before .before .before .before .follow .last .1 .1 .1 .1 .1 .1 .0) (c .before .before .before .before .before .follow .last .1 .1 .1 .1 .1 .1 .1 .0)) (c .before .finish .given .1)
-    (subst (λ (p : Problem). Finished p (a .budget) round (c .before .before .before .before .before .follow .last .1 .1 .1 .1 .1 .1 .0) (c .before .before .before .before .before .follow .last .1 .1 .1 .1 .1 .1 .1 .0) (f .result .finish)) same (f .ensures .0)) in
-    let R = subst (Recorded p false (a .trail .now) (c .before .before .before .before .before .follow .last .1 .1 .1 .1 .1 .1 .1 .1 .0) (f .result .bytes)) (c .before .finish .given .1)
-    (subst (λ (p : Problem). Recorded p false (a .trail .now) (c .before .before .before .before .before .follow .last .1 .1 .1 .1 .1 .1 .1 .1 .0) (f .result .bytes) (f .result .finish)) same (f .ensures .1)) in
+    let F = subst
+    (Finished p (a .budget) round (c .before .before .before .before .before .follow .last .1 .1 .1 .1 .1 .1 .0)
+    (c .before .before .before .before .before .follow .last .1 .1 .1 .1 .1 .1 .1 .0))
+    (c .before .finish .given .1)
+    (subst
+    (λ (p : Problem). Finished p (a .budget) round
+    (c .before .before .before .before .before .follow .last .1 .1 .1 .1 .1 .1 .0)
+    (c .before .before .before .before .before .follow .last .1 .1 .1 .1 .1 .1 .1 .0) (f .result .finish))
+    same (f .ensures .0)) in
+    let R = subst
+    (Recorded p false (a .trail .now)
+    (c .before .before .before .before .before .follow .last .1 .1 .1 .1 .1 .1 .1 .1 .0) (f .result .bytes))
+    (c .before .finish .given .1)
+    (subst
+    (λ (p : Problem). Recorded p false (a .trail .now)
+    (c .before .before .before .before .before .follow .last .1 .1 .1 .1 .1 .1 .1 .1 .0) (f .result .bytes)
+    (f .result .finish))
+    same (f .ensures .1)) in
     (rw F, (sym (front-none (a .answer .now)), R refl ∙ sym (front-none (a .trail .now))))
 
 same-length-4 : tie.Need-same-length-4
@@ -216,30 +412,94 @@ same-length-5 c = search needs
 
 returns-4 : tie.Need-returns-4
 returns-4 c =
-    let a = c .before .before .before .before .before .before .before .before .before .before .before .before .before .before .before .before .before .before .before .before .before .before .before .before .before .before .before .before .before .before .before .before .before .before .before .before .before .before .args in
-    let w = c .before .before .before .before .before .before .before .before .before .before .before .before .before .before .before .before .before .before .before .before .before .before .before .before .before .before .before .before .before .before .before .before .before .before .before .before .before .before .pre in
+    let a = c .before .before .before .before .before .before .before .before .before .before .before .before .before
+    .before .before .before .before .before .before .before .before .before .before .before .before .before .before
+    .before .before .before .before .before .before .before .before .before .before .before .args in
+    let w = c .before .before .before .before .before .before .before .before .before .before .before .before .before
+    .before .before .before .before .before .before .before .before .before .before .before .before .before .before
+    .before .before .before .before .before .before .before .before .before .before .before .pre in
     let made = w .readable .made in
-    let t = c .before .before .before .before .before .before .before .before .before .before .before .before .before .before .before .before .before .before .before .before .before .before .before .before .before .before .before .before .before .before .padded in
-    let f = c .before .before .before .before .before .before .before .before .before .before .before .before .before .before .before .before .before .before .before .before .before .before .before .follow in
+    let t = c .before .before .before .before .before .before .before .before .before .before
+    .before .before .before .before .before .before .before .before .before .before .before
+    .before .before .before .before .before .before .before .before .before .padded in
+    let f = c .before .before .before .before .before .before .before .before .before .before .before .before
+    .before .before .before .before .before .before .before .before .before .before .before .follow in
     let p = problemFrom (a .g) (a .start .now) (a .labels .now) in
-    let round = roundOf (a .g .previous) (a .g .next) (c .before .before .before .before .before .before .before .before .before .before .before .before .before .before .before .before .before .before .before .before .before .before .before .before .before .before .before .before .before .before .before .block-sizes .result) in
+    let round = roundOf (a .g .previous) (a .g .next)
+    (c .before .before .before .before .before .before .before .before .before .before .before
+    .before .before .before .before .before .before .before .before .before .before .before .before
+    .before .before .before .before .before .before .before .before .block-sizes .result) in
     let same = problem-from (a .g) made (a .start .now) (a .labels .now) (w .accepted) (t .result) (t .ensures) in
-    let F = subst (Finished p (a .budget) round (c .before .before .before .before .before .before .before .before .before .before .before .before .before .before .before .before .before .before .before .before .before .before .before .follow .last .1 .1 .1 .1 .1 .1 .0) (c .before .before .before .before .before .before .before .before .before .before .before .before .before .before .before .before .before .before .before .before .before .before .before .follow .last .1 .1 .1 .1 .1 .1 .1 .0)) (c .before .before .before .before .before .before .before .before .before .before .before .before .before .before .before .before .before .before .before .finish2 .given .1)
-    (subst (λ (p : Problem). Finished p (a .budget) round (c .before .before .before .before .before .before .before .before .before .before .before .before .before .before .before .before .before .before .before .before .before .before .before .follow .last .1 .1 .1 .1 .1 .1 .0) (c .before .before .before .before .before .before .before .before .before .before .before .before .before .before .before .before .before .before .before .before .before .before .before .follow .last .1 .1 .1 .1 .1 .1 .1 .0) (f .result .finish)) same (f .ensures .0)) in
-    let R = subst (Recorded p false (a .trail .now) (c .before .before .before .before .before .before .before .before .before .before .before .before .before .before .before .before .before .before .before .before .before .before .before .follow .last .1 .1 .1 .1 .1 .1 .1 .1 .0) (f .result .bytes)) (c .before .before .before .before .before .before .before .before .before .before .before .before .before .before .before .before .before .before .before .finish2 .given .1)
-    (subst (λ (p : Problem). Recorded p false (a .trail .now) (c .before .before .before .before .before .before .before .before .before .before .before .before .before .before .before .before .before .before .before .before .before .before .before .follow .last .1 .1 .1 .1 .1 .1 .1 .1 .0) (f .result .bytes) (f .result .finish)) same (f .ensures .1)) in
-    let kind = c .before .before .before .before .before .before .before .before .before .before .before .before .before .before .before .before .before .before .before .finish2 .given .0 .0 in
-    let places = c .before .before .before .before .before .before .before .before .before .before .before .before .before .before .before .before .before .before .before .finish2 .given .0 .1 .0 in
-    let index = c .before .before .before .before .before .before .before .before .before .before .before .before .before .before .before .before .before .before .before .finish2 .given .0 .1 .1 .0 in
-    let status = c .before .before .before .before .before .before .before .before .before .before .before .before .before .before .before .before .before .before .before .finish2 .given .0 .1 .1 .1 .0 in
-    let e = stateOf round (c .before .before .before .before .before .before .before .before .before .before .before .before .before .before .before .before .before .before .before .before .before .before .before .follow .last .1 .1 .1 .1 .1 .1 .0) [] (c .before .before .before .before .before .before .before .before .before .before .before .before .before .before .before .before .before .before .before .before .before .before .before .follow .last .1 .1 .1 .1 .1 .1 .1 .0) [] status in
+    let F = subst
+    (Finished p (a .budget) round
+    (c .before .before .before .before .before .before .before .before .before .before .before .before .before .before
+    .before .before .before .before .before .before .before .before .before .follow .last .1 .1 .1 .1 .1 .1 .0)
+    (c .before .before .before .before .before .before .before .before .before .before .before .before .before .before
+    .before .before .before .before .before .before .before .before .before .follow .last .1 .1 .1 .1 .1 .1 .1 .0))
+    (c .before .before .before .before .before .before .before .before .before .before .before
+    .before .before .before .before .before .before .before .before .finish2 .given .1)
+    (subst
+    (λ (p : Problem). Finished p (a .budget) round
+    (c .before .before .before .before .before .before .before .before .before .before .before .before .before .before
+    .before .before .before .before .before .before .before .before .before .follow .last .1 .1 .1 .1 .1 .1 .0)
+    (c .before .before .before .before .before .before .before .before .before .before .before .before .before .before
+    .before .before .before .before .before .before .before .before .before .follow .last .1 .1 .1 .1 .1 .1 .1 .0)
+    (f .result .finish))
+    same (f .ensures .0)) in
+    let R = subst
+    (Recorded p false (a .trail .now)
+    (c .before .before .before .before .before .before .before .before .before .before .before .before .before .before
+    .before .before .before .before .before .before .before .before .before .follow .last .1 .1 .1 .1 .1 .1 .1 .1 .0)
+    (f .result .bytes))
+    (c .before .before .before .before .before .before .before .before .before .before .before
+    .before .before .before .before .before .before .before .before .finish2 .given .1)
+    (subst
+    (λ (p : Problem). Recorded p false (a .trail .now)
+    (c .before .before .before .before .before .before .before .before .before .before .before .before .before .before
+    .before .before .before .before .before .before .before .before .before .follow .last .1 .1 .1 .1 .1 .1 .1 .1 .0)
+    (f .result .bytes) (f .result .finish))
+    same (f .ensures .1)) in
+    let kind = c .before .before .before .before .before .before .before .before .before .before .before
+    .before .before .before .before .before .before .before .before .finish2 .given .0 .0 in
+    let places = c .before .before .before .before .before .before .before .before .before .before .before .before
+    .before .before .before .before .before .before .before .finish2 .given .0 .1 .0 in
+    let index = c .before .before .before .before .before .before .before .before .before .before .before .before
+    .before .before .before .before .before .before .before .finish2 .given .0 .1 .1 .0 in
+    let status = c .before .before .before .before .before .before .before .before .before .before .before .before
+    .before .before .before .before .before .before .before .finish2 .given .0 .1 .1 .1 .0 in
+    let e = stateOf round
+    (c .before .before .before .before .before .before .before .before .before .before .before .before .before .before
+    .before .before .before .before .before .before .before .before .before .follow .last .1 .1 .1 .1 .1 .1 .0)
+    []
+    (c .before .before .before .before .before .before .before .before .before .before .before .before .before .before
+    .before .before .before .before .before .before .before .before .before .follow .last .1 .1 .1 .1 .1 .1 .1 .0)
+    [] status in
     let v = c .before .before .put-points .ensures in
     let from = c .before .before .before .before .before .before .before .before .first-vertex .ensures in
-    let said = told (a .g) made (a .start .now) (a .labels .now) (a .budget) places kind e index (F .0) (c .before .before .before .before .before .before .before .before .before .block-number .result) (c .before .before .put-points .result) (c .before .before .before .before .before .before .before .before .before .block-number .ensures) (rw from at (v .0)) in
+    let said = told (a .g) made (a .start .now) (a .labels .now) (a .budget) places kind e index (F .0)
+    (c .before .before .before .before .before .before .before .before .before .block-number .result)
+    (c .before .before .put-points .result)
+    (c .before .before .before .before .before .before .before .before .before .block-number .ensures)
+    (rw from at (v .0)) in
     let put = written (a .g) made (a .start .now) (a .labels .now) (a .budget) places kind e index (F .0) in
-    let end = end-with-room p (length (a .trail .now)) (omega (arith, R .0, ap length (R .1), c .before .before .before .before .before .before .before .before .before .before .before .before .before .before .before .before .before .if1 .left)) (answer p (a .budget)) places _ kind (c .before .before .before .before .before .before .before .before .before .block-number .result) (c .before .before .put-points .result) said in (
+    let end = end-with-room p (length (a .trail .now))
+    (omega (
+      arith,
+      R .0,
+      ap length (R .1),
+      c .before .before .before .before .before .before .before .before .before
+          .before .before .before .before .before .before .before .before .if1 .left,
+    ))
+    (answer p (a .budget)) places _ kind
+    (c .before .before .before .before .before .before .before .before .before .block-number .result)
+    (c .before .before .put-points .result) said in (
       (rw (R .0) end),
-      ((rw from at (v .1)) ∙ ap (λ (x : List ℕ). front x (a .answer .now)) put, c .before .before .before .before .before .before .before .before .before .before .before .before .write-trail .ensures ∙ ap (front (wholeTrail p)) (R .1)),
+      (
+        (rw from at (v .1)) ∙ ap (λ (x : List ℕ). front x (a .answer .now)) put,
+        c .before .before .before .before .before .before .before
+            .before .before .before .before .before .write-trail .ensures
+            ∙ ap (front (wholeTrail p)) (R .1),
+      ),
     )
 
 pub announced-spec : {M : Type 1} → statement M

@@ -17,8 +17,10 @@ use Rattle.trail_writer.proofs.answers.write_trail.Tie as tie
 padded-requires : tie.Need-padded-requires
 padded-requires c κs =
     let a = c .before .before .before .args in
-    let made = c .before .before .before .pre .readable .made in
-    (omega (arith, start-long (a .g) made (a .start .now) (a .labels .now) (c .before .before .before .pre .accepted)), indices-few (a .g) made)
+    let made = c .before .before .before .pre .readable .made in (
+      omega (arith, start-long (a .g) made (a .start .now) (a .labels .now) (c .before .before .before .pre .accepted)),
+      indices-few (a .g) made,
+    )
 
 follow-requires : tie.Need-follow-requires
 follow-requires c κs =
@@ -48,11 +50,20 @@ returns c =
     let t = c .before .before .before .before .before .before .padded in
     let f = c .before .before .follow in
     let round = roundOf (a .previous .now) (a .next .now) (a .sizes .now) in
-    let same = problem-from (a .g) (w .readable .made) (a .start .now) (a .labels .now) (w .accepted) (t .result) (t .ensures) in
-    ends-again (problemFrom (a .g) (a .start .now) (a .labels .now)) (a .budget) round (c .before .before .follow .last .1 .1 .1 .1 .1 .1 .0) (c .before .before .follow .last .1 .1 .1 .1 .1 .1 .1 .0) (a .trail .now) (c .before .before .follow .last .1 .1 .1 .1 .1 .1 .1 .1 .0) (f .result .bytes)
-    (f .result .finish) (w .ends .6)
-    (subst (λ (p : Problem). Finished p (a .budget) round (c .before .before .follow .last .1 .1 .1 .1 .1 .1 .0) (c .before .before .follow .last .1 .1 .1 .1 .1 .1 .1 .0) (f .result .finish)) same (f .ensures .0))
-    (subst (λ (p : Problem). Recorded p true (a .trail .now) (c .before .before .follow .last .1 .1 .1 .1 .1 .1 .1 .1 .0) (f .result .bytes) (f .result .finish)) same (f .ensures .1))
+    let same =
+    problem-from (a .g) (w .readable .made) (a .start .now) (a .labels .now) (w .accepted) (t .result) (t .ensures) in
+    ends-again (problemFrom (a .g) (a .start .now) (a .labels .now)) (a .budget) round
+    (c .before .before .follow .last .1 .1 .1 .1 .1 .1 .0) (c .before .before .follow .last .1 .1 .1 .1 .1 .1 .1 .0)
+    (a .trail .now) (c .before .before .follow .last .1 .1 .1 .1 .1 .1 .1 .1 .0) (f .result .bytes) (f .result .finish)
+    (w .ends .6)
+    (subst
+    (λ (p : Problem). Finished p (a .budget) round (c .before .before .follow .last .1 .1 .1 .1 .1 .1 .0)
+    (c .before .before .follow .last .1 .1 .1 .1 .1 .1 .1 .0) (f .result .finish))
+    same (f .ensures .0))
+    (subst
+    (λ (p : Problem). Recorded p true (a .trail .now) (c .before .before .follow .last .1 .1 .1 .1 .1 .1 .1 .1 .0)
+    (f .result .bytes) (f .result .finish))
+    same (f .ensures .1))
 
 pub write-trail-spec : {M : Type 1} → statement M
 write-trail-spec = tie.close (tie.spec padded-requires follow-requires same-length returns)

@@ -13,26 +13,47 @@ is-grid-point-requires : tie.Need-is-grid-point-requires
 is-grid-point-requires c κs = search needs
 
 returns : tie.Need-returns
-returns c = let a = c .before .before .before .before .args in no-start (a .g) (a .start .now) (a .labels .now) (sym (c .before .is-grid-point .ensures) ∙ not-is _ (c .if1 .taken))
+returns c =
+    let a = c .before .before .before .before .args in
+    no-start (a .g) (a .start .now) (a .labels .now)
+    (sym (c .before .is-grid-point .ensures) ∙ not-is _ (c .if1 .taken))
 
 returns-2 : tie.Need-returns-2
-returns-2 c = let e = c .before .before .before .before .before .before in let a = e .args in
-    no-length (a .g) (a .start .now) (a .labels .now) (sym (c .before .before .before .is-grid-point .ensures) ∙ is-not _ (c .before .before .if1 .left)) (λ q. c .if2 .taken (q ∙ sym (made-points (a .g) (e .pre))))
+returns-2 c =
+    let e = c .before .before .before .before .before .before in
+    let a = e .args in
+    no-length (a .g) (a .start .now) (a .labels .now)
+    (sym (c .before .before .before .is-grid-point .ensures) ∙ is-not _ (c .before .before .if1 .left))
+    (λ q. c .if2 .taken (q ∙ sym (made-points (a .g) (e .pre))))
 
 cast-all-at-most : tie.Need-cast-all-at-most
-cast-all-at-most c = omega (arith, indices-few (c .before .before .before .before .before .before .args .g) (c .before .before .before .before .before .before .pre))
+cast-all-at-most c = omega (
+  arith,
+  indices-few (c .before .before .before .before .before .before .args .g)
+      (c .before .before .before .before .before .before .pre),
+)
 
 all-at-most-requires : tie.Need-all-at-most-requires
 all-at-most-requires c κs = search needs
 
 returns-3 : tie.Need-returns-3
-returns-3 c = let e = c .before .before .before .before .before .before .before .before in let a = e .args in
-    no-label (a .g) (a .start .now) (a .labels .now) (sym (c .before .before .before .before .before .is-grid-point .ensures) ∙ is-not _ (c .before .before .before .before .if1 .left)) (c .before .before .if2 .left ∙ made-points (a .g) (e .pre))
+returns-3 c =
+    let e = c .before .before .before .before .before .before .before .before in
+    let a = e .args in
+    no-label (a .g) (a .start .now) (a .labels .now)
+    (sym (c .before .before .before .before .before .is-grid-point .ensures)
+    ∙ is-not _ (c .before .before .before .before .if1 .left))
+    (c .before .before .if2 .left ∙ made-points (a .g) (e .pre))
     (rw (← (made-indices (a .g) (e .pre))) (sym (c .before .all-at-most .ensures) ∙ not-is _ (c .if3 .taken)))
 
 returns-4 : tie.Need-returns-4
-returns-4 c = let e = c .before .before .before .before .before .before .before .before in let a = e .args in
-    no-question (a .g) (a .start .now) (a .labels .now) (sym (c .before .before .before .before .before .is-grid-point .ensures) ∙ is-not _ (c .before .before .before .before .if1 .left)) (c .before .before .if2 .left ∙ made-points (a .g) (e .pre))
+returns-4 c =
+    let e = c .before .before .before .before .before .before .before .before in
+    let a = e .args in
+    no-question (a .g) (a .start .now) (a .labels .now)
+    (sym (c .before .before .before .before .before .is-grid-point .ensures)
+    ∙ is-not _ (c .before .before .before .before .if1 .left))
+    (c .before .before .if2 .left ∙ made-points (a .g) (e .pre))
     (rw (← (made-indices (a .g) (e .pre))) (sym (c .before .all-at-most .ensures) ∙ is-not _ (c .if3 .left)))
 
 pub first-no-spec : {M : Type 1} → statement M

@@ -18,14 +18,28 @@ label-in-requires : tie.Need-label-in-requires
 label-in-requires c κs = search needs
 
 filled-requires : tie.Need-filled-requires
-filled-requires c κs = let C = c .before .before .before .before .before .pre .0 in record { low = C .low; long = C .long; room = λ e. C .room }
+filled-requires c κs =
+    let C = c .before .before .before .before .before .pre .0 in
+    record { low = C .low; long = C .long; room = λ e. C .room }
 
 from-start-requires : tie.Need-from-start-requires
-from-start-requires c κs = let s = c .before .before .before .before .before .before .before .before .before .before in let a = s .args in
-    let S = s .pre .0 .stands (c .before .before .before .before .filled .result) (eqb (c .before .before .before .before .before .label-in .result) 0) (ap (λ (x : ℕ). eqb x 0) (c .before .before .before .before .before .label-in .ensures)) (c .before .before .before .before .filled .ensures) in
+from-start-requires c κs =
+    let s = c .before .before .before .before .before .before .before .before .before .before in
+    let a = s .args in
+    let S = s .pre .0 .stands (c .before .before .before .before .filled .result)
+    (eqb (c .before .before .before .before .before .label-in .result) 0)
+    (ap (λ (x : ℕ). eqb x 0) (c .before .before .before .before .before .label-in .ensures))
+    (c .before .before .before .before .filled .ensures) in
     let z : a .point ≡ 0 = omega (arith, S .low, c .before .before .before .if1 .taken) in (
-      subst (λ (i : ℕ). Standing (a .g) (a .w) (a .labels .now) (a .first .now) (a .list .now) (a .order .now) (c .before .before .before .before .filled .result) 0 (a .sets .t) (a .sets .u) i (eqb (c .before .before .before .before .before .label-in .result) 0)) z
-          (subst (λ (i : ℕ). Standing (a .g) (a .w) (a .labels .now) (a .first .now) (a .list .now) (a .order .now) (c .before .before .before .before .filled .result) i (a .sets .t) (a .sets .u) (a .point) (eqb (c .before .before .before .before .before .label-in .result) 0))
+      subst
+          (λ (i : ℕ). Standing (a .g) (a .w) (a .labels .now) (a .first .now) (a .list .now) (a .order .now)
+          (c .before .before .before .before .filled .result) 0 (a .sets .t) (a .sets .u) i
+          (eqb (c .before .before .before .before .before .label-in .result) 0))
+          z
+          (subst
+          (λ (i : ℕ). Standing (a .g) (a .w) (a .labels .now) (a .first .now) (a .list .now) (a .order .now)
+          (c .before .before .before .before .filled .result) i (a .sets .t) (a .sets .u) (a .point)
+          (eqb (c .before .before .before .before .before .label-in .result) 0))
           (c .before .before .before .if1 .taken) S),
       s .pre .1,
     )
@@ -34,8 +48,13 @@ returns : tie.Need-returns
 returns c = c .from-start .ensures
 
 from-other-requires : tie.Need-from-other-requires
-from-other-requires c κs = let s = c .before .before .before .before .before .before .before .before .before .before in let a = s .args in
-    let S = s .pre .0 .stands (c .before .before .before .before .filled .result) (eqb (c .before .before .before .before .before .label-in .result) 0) (ap (λ (x : ℕ). eqb x 0) (c .before .before .before .before .before .label-in .ensures)) (c .before .before .before .before .filled .ensures) in
+from-other-requires c κs =
+    let s = c .before .before .before .before .before .before .before .before .before .before in
+    let a = s .args in
+    let S = s .pre .0 .stands (c .before .before .before .before .filled .result)
+    (eqb (c .before .before .before .before .before .label-in .result) 0)
+    (ap (λ (x : ℕ). eqb x 0) (c .before .before .before .before .before .label-in .ensures))
+    (c .before .before .before .before .filled .ensures) in
     ((S, omega (arith, c .before .before .before .if1 .left)), s .pre .1)
 
 returns-2 : tie.Need-returns-2

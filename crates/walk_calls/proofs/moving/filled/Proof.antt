@@ -22,10 +22,12 @@ array-write-own : tie.Need-array-write-own
 array-write-own c = omega (arith, c .before .before .pre .low)
 
 returns : tie.Need-returns
-returns c = fill-yes (c .before .before .args .marks .now) (c .before .before .args .point) (c .before .before .args .unknown) (c .if1 .taken) (c .before .before .pre .long) (c .before .before .pre .low)
+returns c = fill-yes (c .before .before .args .marks .now) (c .before .before .args .point)
+    (c .before .before .args .unknown) (c .if1 .taken) (c .before .before .pre .long) (c .before .before .pre .low)
 
 returns-2 : tie.Need-returns-2
-returns-2 c = fill-no (c .before .before .args .marks .now) (c .before .before .args .point) (c .before .before .args .unknown) (c .if1 .left) (c .before .before .pre .long)
+returns-2 c = fill-no (c .before .before .args .marks .now) (c .before .before .args .point)
+    (c .before .before .args .unknown) (c .if1 .left) (c .before .before .pre .long)
 
 pub filled-spec : {M : Type 1} → statement M
 filled-spec =

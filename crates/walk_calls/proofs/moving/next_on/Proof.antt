@@ -18,29 +18,56 @@ refused-requires : tie.Need-refused-requires
 refused-requires c κs = search needs
 
 returns : tie.Need-returns
-returns c = let s = c .before .before .before .before in let a = s .args in
-    c .refused .ensures ∙ refused-is (a .g) (a .w) (a .labels .now) 20 (out-of-range (a .g) (a .w) (a .labels .now) (s .pre .0) (s .pre .1) (sym (c .before .before .in-range .ensures) ∙ not-is _ (c .before .if1 .taken)))
+returns c =
+    let s = c .before .before .before .before in
+    let a = s .args in
+    c .refused .ensures
+    ∙ refused-is (a .g) (a .w) (a .labels .now) 20
+    (out-of-range (a .g) (a .w) (a .labels .now) (s .pre .0) (s .pre .1)
+    (sym (c .before .before .in-range .ensures) ∙ not-is _ (c .before .if1 .taken)))
 
 is-kept-requires : tie.Need-is-kept-requires
-is-kept-requires c κs = indices-few (c .before .before .before .before .args .g) (c .before .before .before .before .pre .0)
+is-kept-requires c κs =
+    indices-few (c .before .before .before .before .args .g) (c .before .before .before .before .pre .0)
 
 refused-requires-2 : tie.Need-refused-requires-2
 refused-requires-2 c κs = search needs
 
 returns-2 : tie.Need-returns-2
-returns-2 c = let s = c .before .before .before .before .before .before .before in let a = s .args in
-    c .refused2 .ensures ∙ refused-is (a .g) (a .w) (a .labels .now) 20 (kept-wrongly (a .g) (a .w) (a .labels .now) (s .pre .0) (s .pre .1) (sym (c .before .before .is-kept .ensures .0) ∙ not-is _ (c .before .if2 .taken)))
+returns-2 c =
+    let s = c .before .before .before .before .before .before .before in
+    let a = s .args in
+    c .refused2 .ensures
+    ∙ refused-is (a .g) (a .w) (a .labels .now) 20
+    (kept-wrongly (a .g) (a .w) (a .labels .now) (s .pre .0) (s .pre .1)
+    (sym (c .before .before .is-kept .ensures .0) ∙ not-is _ (c .before .if2 .taken)))
 
 wide-requires : tie.Need-wide-requires
 wide-requires c κs = search needs
 
 sub-n : tie.Need-sub-n
-sub-n c = let a = c .before .before .before .before .before .before .before .before .before .args in omega (arith, c .wide .ensures, count-some (a .g .indices) (a .w .present) (sym (c .before .before .before .before .is-kept .ensures .0) ∙ is-not _ (c .before .before .before .if2 .left)))
+sub-n c =
+    let a = c .before .before .before .before .before .before .before .before .before .args in
+    omega (
+      arith,
+      c .wide .ensures,
+      count-some (a .g .indices) (a .w .present)
+          (sym (c .before .before .before .before .is-kept .ensures .0)
+          ∙ is-not _ (c .before .before .before .if2 .left)),
+    )
 
 stand-requires : tie.Need-stand-requires
-stand-requires c κs = let s = c .before .before .before .before .before .before .before .before .before .before .before in let a = s .args in
-    kept-rightly (a .g) (a .w) (a .labels .now) (s .pre .0) (s .pre .1) (sym (c .before .before .before .before .before .before .is-kept .ensures .0) ∙ is-not _ (c .before .before .before .before .before .if2 .left)) (c .before .before .before .before .before .before .is-kept .ensures .1) (c .before .before .before .before .before .before .is-kept .ensures .2)
-    (sym (c .before .before .before .before .before .before .before .before .before .in-range .ensures) ∙ is-not _ (c .before .before .before .before .before .before .before .before .if1 .left)) (c .before .before .wide .result - 1) (omega (arith, c .before .before .wide .ensures))
+stand-requires c κs =
+    let s = c .before .before .before .before .before .before .before .before .before .before .before in
+    let a = s .args in
+    kept-rightly (a .g) (a .w) (a .labels .now) (s .pre .0) (s .pre .1)
+    (sym (c .before .before .before .before .before .before .is-kept .ensures .0)
+    ∙ is-not _ (c .before .before .before .before .before .if2 .left))
+    (c .before .before .before .before .before .before .is-kept .ensures .1)
+    (c .before .before .before .before .before .before .is-kept .ensures .2)
+    (sym (c .before .before .before .before .before .before .before .before .before .in-range .ensures)
+    ∙ is-not _ (c .before .before .before .before .before .before .before .before .if1 .left))
+    (c .before .before .wide .result - 1) (omega (arith, c .before .before .wide .ensures))
 
 returns-3 : tie.Need-returns-3
 returns-3 c = c .stand .ensures

@@ -27,12 +27,14 @@ returns c =
     let G = lent (a .sizes .now) (a .divisions .now) in
     let made = c .before .before .before .new in
     ap (begunBy (made .result .code)) (c .no-walk .ensures)
-    ∙ no-grid G (a .start .now) (a .labels .now) (made .result .code) (c .before .if1 .taken) (made-code G (made .result) (made .ensures))
+    ∙ no-grid G (a .start .now) (a .labels .now) (made .result .code) (c .before .if1 .taken)
+    (made-code G (made .result) (made .ensures))
 
 first-no-requires : tie.Need-first-no-requires
 first-no-requires c κs =
     let a = c .before .before .before .before .before .before .before .args in
-    made-is (lent (a .sizes .now) (a .divisions .now)) (c .before .before .new .result) (c .before .before .new .ensures) (c .if1 .left)
+    made-is (lent (a .sizes .now) (a .divisions .now)) (c .before .before .new .result)
+    (c .before .before .new .ensures) (c .if1 .left)
 
 no-walk-requires-2 : tie.Need-no-walk-requires-2
 no-walk-requires-2 c κs = search needs
@@ -48,14 +50,18 @@ returns-2 c =
     let same = made-shape G (made .result) (made .ensures) z in
     let asked : firstNo (tableQuestions (begunOn G (a .start .now) (a .labels .now))) ≡ first .result =
     ap (λ (g : Grid). firstNo (tableQuestions (begunOn g (a .start .now) (a .labels .now)))) (sym same)
-    ∙ behind-four (made .result .grid) (a .start .now) (a .labels .now) (is .accepted) ∙ sym (first .ensures) in
-    ap (begunBy (first .result)) (c .no-walk2 .ensures) ∙ refuses G (a .start .now) (a .labels .now) (first .result) (c .before .if2 .taken) asked
+    ∙ behind-four (made .result .grid) (a .start .now) (a .labels .now) (is .accepted)
+    ∙ sym (first .ensures) in
+    ap (begunBy (first .result)) (c .no-walk2 .ensures)
+    ∙ refuses G (a .start .now) (a .labels .now) (first .result) (c .before .if2 .taken) asked
 
 start-on-requires : tie.Need-start-on-requires
 start-on-requires c κs =
     let a = c .before .before .before .before .before .before .before .before .before .args in
-    let made = c .before .before .before .before .new in
-    (made-is (lent (a .sizes .now) (a .divisions .now)) (made .result) (made .ensures) (c .before .before .if1 .left), sym (c .before .first-no .ensures) ∙ c .if2 .left)
+    let made = c .before .before .before .before .new in (
+      made-is (lent (a .sizes .now) (a .divisions .now)) (made .result) (made .ensures) (c .before .before .if1 .left),
+      sym (c .before .first-no .ensures) ∙ c .if2 .left,
+    )
 
 returns-3 : tie.Need-returns-3
 returns-3 c =
@@ -67,8 +73,14 @@ returns-3 c =
     let same = made-shape G (made .result) (made .ensures) z in
     let asked : firstNo (tableQuestions (begunOn G (a .start .now) (a .labels .now))) ≡ 0 =
     ap (λ (g : Grid). firstNo (tableQuestions (begunOn g (a .start .now) (a .labels .now)))) (sym same)
-    ∙ behind-four (made .result .grid) (a .start .now) (a .labels .now) (is .accepted) ∙ sym (c .before .before .first-no .ensures) ∙ c .before .if2 .left in
-    ap (begunBy 0) (c .start-on .ensures ∙ ap (λ (g : Grid). startWalk g (a .start .now) (label (begunOn g (a .start .now) (a .labels .now)) (a .start .now))) same)
+    ∙ behind-four (made .result .grid) (a .start .now) (a .labels .now) (is .accepted)
+    ∙ sym (c .before .before .first-no .ensures)
+    ∙ c .before .if2 .left in
+    ap (begunBy 0)
+    (c .start-on .ensures
+    ∙ ap
+    (λ (g : Grid). startWalk g (a .start .now) (label (begunOn g (a .start .now) (a .labels .now)) (a .start .now)))
+    same)
     ∙ begins G (a .start .now) (a .labels .now) asked
 
 pub at-start-spec : {M : Type 1} → statement M

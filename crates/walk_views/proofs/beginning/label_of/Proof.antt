@@ -29,16 +29,25 @@ read-at-requires : tie.Need-read-at-requires
 read-at-requires c κs =
     let s = c .before .before .before .before .before .before in
     let a = s .args in
-    let at = c .position .ensures ∙ ap (position (shape (a .g))) (with-none (a .g) (s .pre .made) (a .y .now) (s .pre .long)) in
-    omega (arith, at, position-low (a .g) (s .pre .made) (take (a .g .indices) (a .y .now)) (s .pre .onGrid), s .pre .whole, made-points (a .g) (s .pre .made))
+    let at =
+    c .position .ensures ∙ ap (position (shape (a .g))) (with-none (a .g) (s .pre .made) (a .y .now) (s .pre .long)) in
+    omega (
+      arith,
+      at,
+      position-low (a .g) (s .pre .made) (take (a .g .indices) (a .y .now)) (s .pre .onGrid),
+      s .pre .whole,
+      made-points (a .g) (s .pre .made),
+    )
 
 returns : tie.Need-returns
 unfolding label
 returns c =
     let s = c .before .before .before .before .before .before .before in
     let a = s .args in
-    c .read-at .ensures ∙ ap (λ (i : ℕ). getD (a .labels .now) i 0)
-    (c .before .position .ensures ∙ ap (position (shape (a .g))) (with-none (a .g) (s .pre .made) (a .y .now) (s .pre .long)))
+    c .read-at .ensures
+    ∙ ap (λ (i : ℕ). getD (a .labels .now) i 0)
+    (c .before .position .ensures
+    ∙ ap (position (shape (a .g))) (with-none (a .g) (s .pre .made) (a .y .now) (s .pre .long)))
 
 pub label-of-spec : {M : Type 1} → statement M
 label-of-spec = tie.close (tie.spec binomials-requires position-requires read-at-requires returns)

@@ -22,27 +22,64 @@ refused-requires : tie.Need-refused-requires
 refused-requires c κs = search needs
 
 returns : tie.Need-returns
-returns c = let s = c .before .before .before .before .before .before in
-    c .refused .ensures ∙ refused-is (s .args .g) (s .args .w) (s .args .labels .now) 20 (start-20 (s .pre .0) refl (ap (samePlace (c .before .before .before .before .before .before .args .w .before)) (sym (c .before .before .before .none .ensures)) ∙ sym (c .before .before .same-place .ensures .0) ∙ not-is _ (c .before .if1 .taken)))
+returns c =
+    let s = c .before .before .before .before .before .before in
+    c .refused .ensures
+    ∙ refused-is (s .args .g) (s .args .w) (s .args .labels .now) 20
+    (start-20 (s .pre .0) refl
+    (ap (samePlace (c .before .before .before .before .before .before .args .w .before))
+    (sym (c .before .before .before .none .ensures))
+    ∙ sym (c .before .before .same-place .ensures .0)
+    ∙ not-is _ (c .before .if1 .taken)))
 
 refused-requires-2 : tie.Need-refused-requires-2
 refused-requires-2 c κs = search needs
 
 returns-2 : tie.Need-returns-2
-returns-2 c = let s = c .before .before .before .before .before .before .before in
-    c .refused2 .ensures ∙ refused-is (s .args .g) (s .args .w) (s .args .labels .now) 16 (start-16 (s .pre .0) refl (ap (samePlace (c .before .before .before .before .before .before .before .args .w .before)) (sym (c .before .before .before .before .none .ensures)) ∙ sym (c .before .before .before .same-place .ensures .0) ∙ is-not _ (c .before .before .if1 .left)) (c .before .if2 .taken))
+returns-2 c =
+    let s = c .before .before .before .before .before .before .before in
+    c .refused2 .ensures
+    ∙ refused-is (s .args .g) (s .args .w) (s .args .labels .now) 16
+    (start-16 (s .pre .0) refl
+    (ap (samePlace (c .before .before .before .before .before .before .before .args .w .before))
+    (sym (c .before .before .before .before .none .ensures))
+    ∙ sym (c .before .before .before .same-place .ensures .0)
+    ∙ is-not _ (c .before .before .if1 .left))
+    (c .before .if2 .taken))
 
 way-requires : tie.Need-way-requires
-way-requires c κs = let s = c .before .before .before .before .before .before in let S = s .pre .0 in let N = s .pre .1 in let R = tried-start S N refl refl 1 (omega arith) in
-    (record { below = N .below; each = record { inOrder = S .orderLong; inMarks = S .marksLong }; ready = R .ready }, can-try S N 1 R, omega (arith, m-is S, ok S .settled .sixteenIndices))
+way-requires c κs =
+    let s = c .before .before .before .before .before .before in
+    let S = s .pre .0 in
+    let N = s .pre .1 in
+    let R = tried-start S N refl refl 1 (omega arith) in (
+      record { below = N .below; each = record { inOrder = S .orderLong; inMarks = S .marksLong }; ready = R .ready },
+      can-try S N 1 R,
+      omega (arith, m-is S, ok S .settled .sixteenIndices),
+    )
 
 told-requires : tie.Need-told-requires
-told-requires c κs = let s = c .before .before .before .before .before .before .before in let S = s .pre .0 in let N = s .pre .1 in let R = tried-start S N refl refl 1 (omega arith) in
+told-requires c κs =
+    let s = c .before .before .before .before .before .before .before in
+    let S = s .pre .0 in
+    let N = s .pre .1 in
+    let R = tried-start S N refl refl 1 (omega arith) in
     (S .made, rw (c .way .ensures) (can-tell S N 1 R), refl)
 
 returns-3 : tie.Need-returns-3
-returns-3 c = let s = c .before .before .before .before .before .before .before .before in let S = s .pre .0 in let N = s .pre .1 in let R = tried-start S N refl refl 1 (omega arith) in
-    c .told .ensures ∙ rw (c .before .way .ensures) (told-is S N 1 R (start-on S refl N (ap (samePlace (c .before .before .before .before .before .before .before .before .args .w .before)) (sym (c .before .before .before .before .before .none .ensures)) ∙ sym (c .before .before .before .before .same-place .ensures .0) ∙ is-not _ (c .before .before .before .if1 .left)) (c .before .before .if2 .left)))
+returns-3 c =
+    let s = c .before .before .before .before .before .before .before .before in
+    let S = s .pre .0 in
+    let N = s .pre .1 in
+    let R = tried-start S N refl refl 1 (omega arith) in
+    c .told .ensures
+    ∙ rw (c .before .way .ensures)
+    (told-is S N 1 R (start-on S refl N
+    (ap (samePlace (c .before .before .before .before .before .before .before .before .args .w .before))
+    (sym (c .before .before .before .before .before .none .ensures))
+    ∙ sym (c .before .before .before .before .same-place .ensures .0)
+    ∙ is-not _ (c .before .before .before .if1 .left))
+    (c .before .before .if2 .left)))
 
 pub from-start-spec : {M : Type 1} → statement M
 from-start-spec =

@@ -17,7 +17,10 @@ enum-told-3 : tie.Need-enum-told-3
 enum-told-3 c = search needs
 
 returns : tie.Need-returns
-returns c = (rw (c .enum-told .given .1, c .before .before .same-place .ensures .0), c .before .before .same-place .ensures .1)
+returns c = (
+  rw (c .enum-told .given .1, c .before .before .same-place .ensures .0),
+  c .before .before .same-place .ensures .1,
+)
 
 returns-2 : tie.Need-returns-2
 returns-2 c = (rw (c .enum-told2 .given .1), c .before .before .same-place .ensures .1)

@@ -19,18 +19,40 @@ block-of-requires : tie.Need-block-of-requires
 block-of-requires c κs = search needs
 
 cast-block : tie.Need-cast-block
-cast-block c = let s = c .before .before .before .before in let g = s .args .g in
-    omega (arith, c .block-of .ensures, block-spans (shape g .sizes) (s .args .h) (omega (arith, s .pre .1, made-indices g (s .pre .0))) .0, made-blocks g (s .pre .0), blocks-range g (s .pre .0))
+cast-block c =
+    let s = c .before .before .before .before in
+    let g = s .args .g in
+    omega (
+      arith,
+      c .block-of .ensures,
+      block-spans (shape g .sizes) (s .args .h) (omega (arith, s .pre .1, made-indices g (s .pre .0))) .0,
+      made-blocks g (s .pre .0),
+      blocks-range g (s .pre .0),
+    )
 
 add-block : tie.Need-add-block
-add-block c = let s = c .before .before .before .before in let g = s .args .g in
-    omega (arith, c .block-of .ensures, block-spans (shape g .sizes) (s .args .h) (omega (arith, s .pre .1, made-indices g (s .pre .0))) .0, made-blocks g (s .pre .0), blocks-range g (s .pre .0))
+add-block c =
+    let s = c .before .before .before .before in
+    let g = s .args .g in
+    omega (
+      arith,
+      c .block-of .ensures,
+      block-spans (shape g .sizes) (s .args .h) (omega (arith, s .pre .1, made-indices g (s .pre .0))) .0,
+      made-blocks g (s .pre .0),
+      blocks-range g (s .pre .0),
+    )
 
 none-requires : tie.Need-none-requires
 none-requires c κs = search needs
 
 returns : tie.Need-returns
-returns c = rw (c .none .ensures, c .before .block-of .ensures, add-one, c .before .before .before .put-points .ensures .0, c .before .before .before .put-points .ensures .1)
+returns c = rw (
+  c .none .ensures,
+  c .before .block-of .ensures,
+  add-one,
+  c .before .before .before .put-points .ensures .0,
+  c .before .before .before .put-points .ensures .1,
+)
 
 pub ended-spec : {M : Type 1} → statement M
 ended-spec =

@@ -1,4 +1,5 @@
--- `keeping::cut` meets its contract. The invariant: the first k numbers stand at the front. The measure: the numbers left. Assumes nothing.
+-- `keeping::cut` meets its contract. The invariant: the first k numbers stand at the front. The measure: the numbers
+-- left. Assumes nothing.
 use mathlib.Core.Path.{_≡_, refl, sym, ap, _∙_}
 use Prim.Native.Nat.{_-_, _≤_}
 use lib.ListN.{length, take, replicate}
@@ -36,8 +37,14 @@ loop-less : tie.Need-loop-less Inv-loop μ-loop
 loop-less c = omega arith
 
 loop-again : tie.Need-loop-again Inv-loop μ-loop
-loop-again c = let l = c .before .before .loop in
-    (rw (l .inv .0) (front-copy (c .before .before .before .args .order .now) (replicate 16 0) (l .k) (omega arith) (omega arith)), omega arith, l .inv .2, l .inv .3)
+loop-again c =
+    let l = c .before .before .loop in (
+      rw (l .inv .0) (front-copy (c .before .before .before .args .order .now) (replicate 16 0) (l .k) (omega arith)
+          (omega arith)),
+      omega arith,
+      l .inv .2,
+      l .inv .3,
+    )
 
 returns : tie.Need-returns Inv-loop μ-loop
 returns c = let l = c .before .loop in

@@ -1,4 +1,5 @@
--- `keeping::same_place` meets its contract. The invariant: the first k numbers agree. The measure: the numbers left. Assumes nothing.
+-- `keeping::same_place` meets its contract. The invariant: the first k numbers agree. The measure: the numbers left.
+-- Assumes nothing.
 use mathlib.Core.Bool.{Bool, true, false, _&&_}
 use mathlib.Core.Logic.{⊎-elim}
 use mathlib.Core.Path.{_≡_, refl, sym, ap, _∙_}
@@ -26,7 +27,9 @@ abbrev μ-loop : tie.MeasureT-loop
 μ-loop x y o r k₀ k = 16 - k
 
 returns : tie.Need-returns Inv-loop μ-loop
-returns c = let a = c .before .before .before .args in (rw (ne-eqb (a .a .count) (a .b .count) (c .if1 .taken)), search needs)
+returns c =
+    let a = c .before .before .before .args in
+    (rw (ne-eqb (a .a .count) (a .b .count) (c .if1 .taken)), search needs)
 
 loop-holds : tie.Need-loop-holds Inv-loop μ-loop
 loop-holds c = (omega arith, (λ j l. absurd (omega arith)), (λ j l. absurd (omega arith)))
@@ -44,7 +47,12 @@ array-read-if2-2 : tie.Need-array-read-if2-2 Inv-loop μ-loop
 array-read-if2-2 c = omega arith
 
 returns-2 : tie.Need-returns-2 Inv-loop μ-loop
-returns-2 c = let a = c .before .before .before .before .before .before .before .before .before .before .args in (rw (lists-differ (a .a .first) (a .b .first) (c .before .before .loop .k) (c .if2 .taken)) (and-no (eqb (a .a .count) (a .b .count))), search needs)
+returns-2 c =
+    let a = c .before .before .before .before .before .before .before .before .before .before .args in (
+      rw (lists-differ (a .a .first) (a .b .first) (c .before .before .loop .k) (c .if2 .taken))
+          (and-no (eqb (a .a .count) (a .b .count))),
+      search needs,
+    )
 
 mul-if3 : tie.Need-mul-if3 Inv-loop μ-loop
 mul-if3 c = omega arith
@@ -59,11 +67,14 @@ array-read-if3-2 : tie.Need-array-read-if3-2 Inv-loop μ-loop
 array-read-if3-2 c = omega arith
 
 returns-3 : tie.Need-returns-3 Inv-loop μ-loop
-returns-3 c = let a = c .before .before .before .before .before .before .before .before .before .before .before .args in (
-  rw (lists-differ (a .a .order) (a .b .order) (c .before .before .before .loop .k) (c .if3 .taken), ← and-no (same eqb (a .a .first) (a .b .first)))
-      (and-no (eqb (a .a .count) (a .b .count))),
-  search needs,
-)
+returns-3 c =
+    let a = c .before .before .before .before .before .before .before .before .before .before .before .args in (
+      rw (
+        lists-differ (a .a .order) (a .b .order) (c .before .before .before .loop .k) (c .if3 .taken),
+        ← and-no (same eqb (a .a .first) (a .b .first)),
+      ) (and-no (eqb (a .a .count) (a .b .count))),
+      search needs,
+    )
 
 add-k : tie.Need-add-k Inv-loop μ-loop
 add-k c = omega arith
@@ -72,14 +83,23 @@ loop-less : tie.Need-loop-less Inv-loop μ-loop
 loop-less c = omega arith
 
 loop-again : tie.Need-loop-again Inv-loop μ-loop
-loop-again c = let l = c .before .before .before .loop in (
-  omega arith,
-  (λ j jl. ⊎-elim (λ (q : j ≡ l .k). rw q (c .before .if2 .left)) (λ (q : j ≡ l .k → ⊥). l .inv .1 j (omega (arith, q))) (same-or j (l .k))),
-  (λ j jl. ⊎-elim (λ (q : j ≡ l .k). rw q (c .if3 .left)) (λ (q : j ≡ l .k → ⊥). l .inv .2 j (omega (arith, q))) (same-or j (l .k))),
-)
+loop-again c =
+    let l = c .before .before .before .loop in (
+      omega arith,
+      (λ j jl. ⊎-elim
+          (λ (q : j ≡ l .k). rw q (c .before .if2 .left))
+          (λ (q : j ≡ l .k → ⊥). l .inv .1 j (omega (arith, q)))
+          (same-or j (l .k))),
+      (λ j jl. ⊎-elim
+          (λ (q : j ≡ l .k). rw q (c .if3 .left))
+          (λ (q : j ≡ l .k → ⊥). l .inv .2 j (omega (arith, q)))
+          (same-or j (l .k))),
+    )
 
 returns-4 : tie.Need-returns-4 Inv-loop μ-loop
-returns-4 c = let a = c .before .before .before .before .before .before .before .before .before .args in let l = c .before .loop in
+returns-4 c =
+    let a = c .before .before .before .before .before .before .before .before .before .args in
+    let l = c .before .loop in
     let z : l .k ≡ 16 = omega arith in (
       rw (
         eq-eqb (a .a .count) (a .b .count) (c .before .before .before .before .before .before .if1 .left),

@@ -1,4 +1,5 @@
--- `spares::spare` meets its contract. The invariant: what the points before k have. The measure: the points left. Assumes nothing.
+-- `spares::spare` meets its contract. The invariant: what the points before k have. The measure: the points left.
+-- Assumes nothing.
 use mathlib.Core.Logic.{⊎-elim}
 use mathlib.Core.Path.{_≡_, refl, sym, ap, _∙_}
 use Prim.Native.Nat.{_-_, _+_, _≤_, suc}
@@ -12,7 +13,8 @@ use Rattle.walk_ways.proofs.spares.spare.Statement.{statement}
 use Rattle.walk_ways.proofs.spares.spare.Tie as tie
 
 abbrev Inv-loop : tie.InvT-loop
-Inv-loop marks n t seen₀ point₀ k₀ seen point k = (k ≤ n + 1) × (n ≤ 15) × (length marks ≡ 16) × LabelsLow marks n × SparesBelow marks k t seen point
+Inv-loop marks n t seen₀ point₀ k₀ seen point k =
+    (k ≤ n + 1) × (n ≤ 15) × (length marks ≡ 16) × LabelsLow marks n × SparesBelow marks k t seen point
 
 abbrev μ-loop : tie.MeasureT-loop
 μ-loop marks n t seen₀ point₀ k₀ seen point k = n + 1 - k
@@ -30,22 +32,41 @@ label-in-requires : tie.Need-label-in-requires Inv-loop μ-loop
 label-in-requires c κs = search needs
 
 is-new-requires : tie.Need-is-new-requires Inv-loop μ-loop
-is-new-requires c κs = omega (arith, c .label-in .ensures, c .before .before .before .loop .inv .3 (c .before .before .before .loop .k) (c .before .before .loop-test .taken))
+is-new-requires c κs = omega (
+  arith,
+  c .label-in .ensures,
+  c .before .before .before .loop .inv .3 (c .before .before .before .loop .k) (c .before .before .loop-test .taken),
+)
 
 wide32-requires : tie.Need-wide32-requires Inv-loop μ-loop
 wide32-requires c κs = search needs
 
 sub-add : tie.Need-sub-add Inv-loop μ-loop
-sub-add c = let a = c .before .before .before .before .before .before .before .args in let l = c .before .before .before .before .before .before .loop in
+sub-add c =
+    let a = c .before .before .before .before .before .before .before .args in
+    let l = c .before .before .before .before .before .before .loop in
     omega (
       arith,
       c .wide32 .ensures,
-      new-parts (a .marks .now) (l .k) (a .t) (l .seen) (l .point) (c .before .before .before .label-in .result) (l .inv .4) (c .before .before .before .label-in .ensures)
-          (omega (arith, c .before .before .before .label-in .ensures, l .inv .3 (l .k) (c .before .before .before .before .before .loop-test .taken))) (sym (c .before .before .is-new .ensures) ∙ c .before .if1 .taken) .0,
+      new-parts (a .marks .now) (l .k) (a .t) (l .seen) (l .point) (c .before .before .before .label-in .result)
+          (l .inv .4) (c .before .before .before .label-in .ensures)
+          (omega (
+            arith,
+            c .before .before .before .label-in .ensures,
+            l .inv .3 (l .k) (c .before .before .before .before .before .loop-test .taken),
+          ))
+          (sym (c .before .before .is-new .ensures) ∙ c .before .if1 .taken) .0,
     )
 
 add-requires : tie.Need-add-requires Inv-loop μ-loop
-add-requires c κs = let l = c .before .before .before .before .before .before .loop in omega (arith, c .wide32 .ensures, c .before .before .before .label-in .ensures, l .inv .3 (l .k) (c .before .before .before .before .before .loop-test .taken))
+add-requires c κs =
+    let l = c .before .before .before .before .before .before .loop in
+    omega (
+      arith,
+      c .wide32 .ensures,
+      c .before .before .before .label-in .ensures,
+      l .inv .3 (l .k) (c .before .before .before .before .before .loop-test .taken),
+    )
 
 add-k : tie.Need-add-k Inv-loop μ-loop
 add-k c = omega arith
@@ -54,15 +75,23 @@ loop-less : tie.Need-loop-less Inv-loop μ-loop
 loop-less c = omega arith
 
 loop-again : tie.Need-loop-again Inv-loop μ-loop
-loop-again c = let a = c .before .before .before .before .before .before .args in let l = c .before .before .before .before .before .loop in
-    let low : c .before .before .label-in .result ≤ 16 = omega (arith, c .before .before .label-in .ensures, l .inv .3 (l .k) (c .before .before .before .before .loop-test .taken)) in
-    ⊎-elim (λ w. (
+loop-again c =
+    let a = c .before .before .before .before .before .before .args in
+    let l = c .before .before .before .before .before .loop in
+    let low : c .before .before .label-in .result ≤ 16 = omega (
+      arith,
+      c .before .before .label-in .ensures,
+      l .inv .3 (l .k) (c .before .before .before .before .loop-test .taken),
+    ) in
+    ⊎-elim
+    (λ w. (
       omega (arith, c .before .before .before .before .loop-test .taken),
       l .inv .1,
       l .inv .2,
       l .inv .3,
       rw (w .3, w .4, w .2 .ensures, w .1 .ensures)
-          (spares-new (a .marks .now) (l .k) (a .t) (l .seen) (l .point) (c .before .before .label-in .result) (l .inv .4) (c .before .before .label-in .ensures) low (sym (c .before .is-new .ensures) ∙ w .0 .taken)),
+          (spares-new (a .marks .now) (l .k) (a .t) (l .seen) (l .point) (c .before .before .label-in .result)
+          (l .inv .4) (c .before .before .label-in .ensures) low (sym (c .before .is-new .ensures) ∙ w .0 .taken)),
     ))
     (λ w. (
       omega (arith, c .before .before .before .before .loop-test .taken),
@@ -70,7 +99,8 @@ loop-again c = let a = c .before .before .before .before .before .before .args i
       l .inv .2,
       l .inv .3,
       rw (w .1, w .2)
-          (spares-old (a .marks .now) (l .k) (a .t) (l .seen) (l .point) (c .before .before .label-in .result) (l .inv .4) (c .before .before .label-in .ensures) low (sym (c .before .is-new .ensures) ∙ w .0 .left)),
+          (spares-old (a .marks .now) (l .k) (a .t) (l .seen) (l .point) (c .before .before .label-in .result)
+          (l .inv .4) (c .before .before .label-in .ensures) low (sym (c .before .is-new .ensures) ∙ w .0 .left)),
     ))
     (c .if1 .came)
 

@@ -36,7 +36,13 @@ mul-count c =
     let l = c .before .before .before .before .loop in
     let s = c .before .before .before .before .before .before in
     let g = lent (s .args .sizes .now) [] in
-    record { fits = rw (c .wide .ensures, l .inv .0) (omega (arith, behind-turn g (s .args .player) (l .j) (omega arith) (omega arith) (c .before .before .if1 .taken), behind-low g (s .args .player) (s .pre .0) (s .pre .1) (l .j - 1))) }
+    record {
+      fits = rw (c .wide .ensures, l .inv .0) (omega (
+        arith,
+        behind-turn g (s .args .player) (l .j) (omega arith) (omega arith) (c .before .before .if1 .taken),
+        behind-low g (s .args .player) (s .pre .0) (s .pre .1) (l .j - 1),
+      ));
+    }
 
 loop-less : tie.Need-loop-less Inv-loop μ-loop
 loop-less c = omega arith
@@ -44,8 +50,13 @@ loop-less c = omega arith
 loop-again : tie.Need-loop-again Inv-loop μ-loop
 loop-again c =
     let l = c .before .before .before .before .loop in
-    let s = c .before .before .before .before .before .before in
-    (rw (c .wide .ensures, l .inv .0) (behind-turn (lent (s .args .sizes .now) []) (s .args .player) (l .j) (omega arith) (omega arith) (c .before .before .if1 .taken)), omega arith, inr (omega arith))
+    let s = c .before .before .before .before .before .before in (
+      rw (c .wide .ensures, l .inv .0)
+          (behind-turn (lent (s .args .sizes .now) []) (s .args .player) (l .j) (omega arith) (omega arith)
+          (c .before .before .if1 .taken)),
+      omega arith,
+      inr (omega arith),
+    )
 
 loop-less-2 : tie.Need-loop-less-2 Inv-loop μ-loop
 loop-less-2 c = omega arith
@@ -53,15 +64,23 @@ loop-less-2 c = omega arith
 loop-again-2 : tie.Need-loop-again-2 Inv-loop μ-loop
 loop-again-2 c =
     let l = c .before .before .loop in
-    let s = c .before .before .before .before in
-    (l .inv .0 ∙ behind-skip (lent (s .args .sizes .now) []) (s .args .player) (l .j) (omega arith) (omega arith) (c .if1 .left), omega arith, inr (omega arith))
+    let s = c .before .before .before .before in (
+      l .inv .0
+          ∙ behind-skip (lent (s .args .sizes .now) []) (s .args .player) (l .j) (omega arith) (omega arith)
+          (c .if1 .left),
+      omega arith,
+      inr (omega arith),
+    )
 
 returns : tie.Need-returns Inv-loop μ-loop
 returns c =
     let l = c .before .loop in
     let s = c .before .before .before in
     let g = lent (s .args .sizes .now) [] in
-    ⊎-elim (λ e. l .inv .0 ∙ rw e (behind-none g _ _ (omega arith) ∙ sym (behind-none g _ _ (omega arith)))) (λ (h : s .args .first ≤ l .j). let e : l .j ≡ s .args .first = omega arith in rw e at (l .inv .0)) (l .inv .2)
+    ⊎-elim
+    (λ e. l .inv .0 ∙ rw e (behind-none g _ _ (omega arith) ∙ sym (behind-none g _ _ (omega arith))))
+    (λ (h : s .args .first ≤ l .j). let e : l .j ≡ s .args .first = omega arith in rw e at (l .inv .0))
+    (l .inv .2)
 
 pub profiles-behind-spec : {M : Type 1} → statement M
 profiles-behind-spec =

@@ -40,8 +40,13 @@ loop-less c = omega arith
 loop-again : tie.Need-loop-again Inv-loop μ-loop
 loop-again c =
     let l = c .before .before .loop in
-    let s = c .before .before .before .before in
-    (entries-turn (λ n. behind (lent (s .args .sizes .now) []) (n % 6) (n / 6)) (l .rests) (l .i) _ (omega arith) (c .profiles-behind .ensures) (l .inv .0), omega arith, simp length-set (l .inv .2))
+    let s = c .before .before .before .before in (
+      entries-turn
+          (λ n. behind (lent (s .args .sizes .now) []) (n % 6) (n / 6))
+          (l .rests) (l .i) _ (omega arith) (c .profiles-behind .ensures) (l .inv .0),
+      omega arith,
+      simp length-set (l .inv .2),
+    )
 
 returns : tie.Need-returns Inv-loop μ-loop
 returns c =

@@ -55,7 +55,8 @@ module _ (c : tie.After-wide Inv-loop μ-loop) where
   owner-low = omega (arith, owner-is, below, yes start .fewBlocks)
 
   counted : c .wide .result * start .args .count ≤ length (start .args .losses .now)
-  counted = load-player (g start) (start .args .losses .now) (start .pre .1 .1 .table) h inside (c .wide .result) (start .args .count) owner-is (start .pre .1 .1 .isCount)
+  counted = load-player (g start) (start .args .losses .now) (start .pre .1 .1 .table) h inside (c .wide .result)
+      (start .args .count) owner-is (start .pre .1 .1 .isCount)
 
 -- and the first index
 module _ (c : tie.After-wide2 Inv-loop μ-loop) where
@@ -72,10 +73,15 @@ module _ (c : tie.After-wide2 Inv-loop μ-loop) where
   rest = at (begun .args .rests .now) (owned .wide .result)
 
   rest-is : rest ≡ behind (g begun) owner 0
-  rest-is = let z : 0 * 6 + owner ≡ owner = omega arith in ap (at (begun .args .rests .now)) (owner-is owned) ∙ (rw z at (begun .pre .1 .1 .rested 0 owner (omega arith) (omega (arith, below owned, yes begun .fewBlocks))))
+  rest-is =
+      let z : 0 * 6 + owner ≡ owner = omega arith in
+      ap (at (begun .args .rests .now)) (owner-is owned)
+      ∙ (rw z at (begun .pre .1 .1 .rested 0 owner (omega arith) (omega (arith, below owned, yes begun .fewBlocks))))
 
   first-is : c .wide2 .result ≡ firstIndex (g begun) owner
-  first-is = c .wide2 .ensures ∙ ap (at (begun .args .firsts .now)) (owner-is owned) ∙ begun .pre .1 .1 .grid .first owner (below owned)
+  first-is = c .wide2 .ensures
+      ∙ ap (at (begun .args .firsts .now)) (owner-is owned)
+      ∙ begun .pre .1 .1 .grid .first owner (below owned)
 
   spans : c .wide2 .result ≤ h owned
   spans = omega (arith, first-is, block-spans (begun .args .sizes .now) (h owned) (inside owned) .1)
@@ -84,10 +90,17 @@ module _ (c : tie.After-wide2 Inv-loop μ-loop) where
   from = owned .wide .result * begun .args .count + (h owned - c .wide2 .result) * rest
 
   from-is : from ≡ lossesBegin (g begun) (h owned)
-  from-is = load-from (g begun) (begun .args .losses .now) (begun .pre .1 .1 .table) (h owned) (inside owned) (owned .wide .result) (begun .args .count) (owner-is owned) (begun .pre .1 .1 .isCount) (c .wide2 .result) rest first-is rest-is
+  from-is = load-from (g begun) (begun .args .losses .now) (begun .pre .1 .1 .table) (h owned) (inside owned)
+      (owned .wide .result) (begun .args .count) (owner-is owned) (begun .pre .1 .1 .isCount) (c .wide2 .result) rest
+      first-is rest-is
 
   within : from + rest ≤ length (begun .args .losses .now)
-  within = omega (arith, from-is, rest-is, begin-inside (g begun) (begun .args .losses .now) (begun .pre .1 .1 .table) (h owned) (inside owned))
+  within = omega (
+    arith,
+    from-is,
+    rest-is,
+    begin-inside (g begun) (begun .args .losses .now) (begun .pre .1 .1 .table) (h owned) (inside owned),
+  )
 
   few-indices : h owned < 16
   few-indices = omega (arith, inside owned, yes begun .fewIndices)
@@ -99,17 +112,26 @@ module _ (c : tie.After-wide2 Inv-loop μ-loop) where
   part-long : length part ≡ behind (g begun) owner 0
   part-long =
       let z : from + rest - from ≡ rest = omega arith in
-      rw z (length-take-le rest (drop from (begun .args .losses .now)) (omega (arith, length-drop from (begun .args .losses .now), within)) ∙ rest-is)
+      rw z
+      (length-take-le rest (drop from (begun .args .losses .now))
+      (omega (arith, length-drop from (begun .args .losses .now), within))
+      ∙ rest-is)
 
   part-at : (e : ℕ) → e < length part → at part e ≡ at (begun .args .losses .now) (lossesBegin (g begun) (h owned) + e)
   part-at e b =
-      getD-take (from + rest - from) (drop from (begun .args .losses .now)) e 0 (omega (arith, part-long, rest-is)) ∙ getD-drop from (begun .args .losses .now) e 0 ∙ ap (λ (n : ℕ). at (begun .args .losses .now) (n + e)) from-is
+      getD-take (from + rest - from) (drop from (begun .args .losses .now)) e 0 (omega (arith, part-long, rest-is))
+      ∙ getD-drop from (begun .args .losses .now) e 0
+      ∙ ap (λ (n : ℕ). at (begun .args .losses .now) (n + e)) from-is
 
 loop-holds : tie.Need-loop-holds Inv-loop μ-loop
 loop-holds c = ((λ y h e b. absurd (omega arith)), omega arith, refl)
 
 element-copy-out-wide : tie.Need-element-copy-out-wide Inv-loop μ-loop
-element-copy-out-wide c = omega (arith, yes (c .before .before .before .before .before) .fewIndices, c .before .before .before .before .before .pre .0)
+element-copy-out-wide c = omega (
+  arith,
+  yes (c .before .before .before .before .before) .fewIndices,
+  c .before .before .before .before .before .pre .0,
+)
 
 wide-requires : tie.Need-wide-requires Inv-loop μ-loop
 wide-requires c κs = search needs
@@ -159,7 +181,12 @@ part-load-table-end c = let w = within (c .before) in search needs
 load-table-requires : tie.Need-load-table-requires Inv-loop μ-loop
 load-table-requires c κs =
     let w = c .before .before in
-    rw (part-long w) (omega (arith, few-indices w, behind-few (g (begun w)) (owner w) (yes (begun w)) (below (c .before .before .before .before .before)) 0, begun w .pre .1 .1 .whole))
+    rw (part-long w) (omega (
+      arith,
+      few-indices w,
+      behind-few (g (begun w)) (owner w) (yes (begun w)) (below (c .before .before .before .before .before)) 0,
+      begun w .pre .1 .1 .whole,
+    ))
 
 add-h : tie.Need-add-h Inv-loop μ-loop
 add-h c = omega arith
@@ -173,8 +200,14 @@ loop-again c =
     let s = begun w in
     let l = c .before .before .before .before .before .before .before .before .before .before .before .loop in
     let ss = s .args .sizes .now in
-    let ds = s .pre .1 .0 in
-    ((λ y. stand-alike ss ds [] (s .args .losses .now) y 0 (l .h + 1) (c .before .before .load-table .last .0) (load-turn (g s) (yes s) (s .args .losses .now) y (l .h) (inside (w .before .before .before)) (l .levels) _ (part w) (length (part w)) (part-long w) (part-at w) (c .before .before .load-table .ensures) (stand-alike ss [] ds (s .args .losses .now) y 0 (l .h) (l .levels) (l .inv .0 y)))), omega arith, omega arith)
+    let ds = s .pre .1 .0 in (
+      (λ y. stand-alike ss ds [] (s .args .losses .now) y 0 (l .h + 1) (c .before .before .load-table .last .0)
+          (load-turn (g s) (yes s) (s .args .losses .now) y (l .h) (inside (w .before .before .before)) (l .levels) _
+          (part w) (length (part w)) (part-long w) (part-at w) (c .before .before .load-table .ensures)
+          (stand-alike ss [] ds (s .args .losses .now) y 0 (l .h) (l .levels) (l .inv .0 y)))),
+      omega arith,
+      omega arith,
+    )
 
 same-length : tie.Need-same-length Inv-loop μ-loop
 same-length c = omega arith

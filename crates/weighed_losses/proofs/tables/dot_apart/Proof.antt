@@ -12,13 +12,17 @@ use Rattle.weighed_losses.proofs.tables.dot_apart.Tie as tie
 
 abbrev Inv-loop : tie.InvT-loop
 Inv-loop mix values step total₀ at₀ k₀ total at k =
-    (total + blend (drop k mix) (λ i. number values ((k + i) * step)) ≡ blend mix (λ i. number values (i * step))) × (at + step ≡ k * step) × (2 ≤ k) × (k ≤ length mix)
+    (total + blend (drop k mix) (λ i. number values ((k + i) * step)) ≡ blend mix (λ i. number values (i * step)))
+    × (at + step ≡ k * step) × (2 ≤ k) × (k ≤ length mix)
 
 abbrev μ-loop : tie.MeasureT-loop
 μ-loop mix values step total₀ at₀ k₀ total at k = length mix - k
 
 first : (s : tie.Start Inv-loop μ-loop)
-    → blend (s .args .mix .now) (λ i. number (s .args .values .now) (i * s .args .step)) ≡ number (s .args .mix .now) 0 * number (s .args .values .now) 0 + number (s .args .mix .now) 1 * number (s .args .values .now) (s .args .step) + blend (drop 2 (s .args .mix .now)) (λ i. number (s .args .values .now) ((2 + i) * s .args .step))
+    → blend (s .args .mix .now) (λ i. number (s .args .values .now) (i * s .args .step))
+    ≡ number (s .args .mix .now) 0 * number (s .args .values .now) 0
+    + number (s .args .mix .now) 1 * number (s .args .values .now) (s .args .step)
+    + blend (drop 2 (s .args .mix .now)) (λ i. number (s .args .values .now) ((2 + i) * s .args .step))
 first s = apart-first (s .args .mix .now) (s .args .values .now) (s .args .step) (s .pre .two)
 
 -- what is left at a turn
@@ -29,7 +33,9 @@ module _ (c : tie.After-shared-slice-known8 Inv-loop μ-loop) where
   abbrev k : ℕ
   k = c .before .before .before .before .loop .k
 
-  next : blend (drop k (s .args .mix .now)) (λ i. number (s .args .values .now) ((k + i) * s .args .step)) ≡ number (s .args .mix .now) k * number (s .args .values .now) (k * s .args .step) + blend (drop (k + 1) (s .args .mix .now)) (λ i. number (s .args .values .now) ((k + 1 + i) * s .args .step))
+  next : blend (drop k (s .args .mix .now)) (λ i. number (s .args .values .now) ((k + i) * s .args .step))
+      ≡ number (s .args .mix .now) k * number (s .args .values .now) (k * s .args .step)
+      + blend (drop (k + 1) (s .args .mix .now)) (λ i. number (s .args .values .now) ((k + 1 + i) * s .args .step))
   next = apart-next (s .args .mix .now) (s .args .values .now) (s .args .step) k (omega arith)
 
 shared-slice-read-long : tie.Need-shared-slice-read-long Inv-loop μ-loop
@@ -39,10 +45,20 @@ long-requires : tie.Need-long-requires Inv-loop μ-loop
 long-requires c κs = search needs
 
 shared-slice-read-total : tie.Need-shared-slice-read-total Inv-loop μ-loop
-shared-slice-read-total c = omega (arith, c .before .before .before .before .before .pre .inside 0 (omega (arith, c .before .before .before .before .before .pre .two)))
+shared-slice-read-total c = omega (
+  arith,
+  c .before .before .before .before .before .pre .inside 0
+      (omega (arith, c .before .before .before .before .before .pre .two)),
+)
 
 mul-total : tie.Need-mul-total Inv-loop μ-loop
-mul-total c = record { fits = rw (c .before .long .ensures) (omega (arith, first (c .before .before .before .before .before), c .before .before .before .before .before .pre .fits)) }
+mul-total c = record {
+  fits = rw (c .before .long .ensures) (omega (
+    arith,
+    first (c .before .before .before .before .before),
+    c .before .before .before .before .before .pre .fits,
+  ));
+}
 
 shared-slice-read-long-2 : tie.Need-shared-slice-read-long-2 Inv-loop μ-loop
 shared-slice-read-long-2 c = omega arith
@@ -51,22 +67,52 @@ long-requires-2 : tie.Need-long-requires-2 Inv-loop μ-loop
 long-requires-2 c κs = search needs
 
 mul-total-2 : tie.Need-mul-total-2 Inv-loop μ-loop
-mul-total-2 c = omega (arith, c .before .before .before .before .before .before .before .pre .inside 1 (omega (arith, c .before .before .before .before .before .before .before .pre .two)))
+mul-total-2 c = omega (
+  arith,
+  c .before .before .before .before .before .before .before .pre .inside 1
+      (omega (arith, c .before .before .before .before .before .before .before .pre .two)),
+)
 
 shared-slice-read-total-2 : tie.Need-shared-slice-read-total-2 Inv-loop μ-loop
-shared-slice-read-total-2 c = omega (arith, c .before .before .before .before .before .before .before .before .pre .inside 1 (omega (arith, c .before .before .before .before .before .before .before .before .pre .two)))
+shared-slice-read-total-2 c = omega (
+  arith,
+  c .before .before .before .before .before .before .before .before .pre .inside 1
+      (omega (arith, c .before .before .before .before .before .before .before .before .pre .two)),
+)
 
 mul-total-3 : tie.Need-mul-total-3 Inv-loop μ-loop
-mul-total-3 c = record { fits = rw (c .before .long2 .ensures) (omega (arith, first (c .before .before .before .before .before .before .before .before), c .before .before .before .before .before .before .before .before .pre .fits)) }
+mul-total-3 c = record {
+  fits = rw (c .before .long2 .ensures) (omega (
+    arith,
+    first (c .before .before .before .before .before .before .before .before),
+    c .before .before .before .before .before .before .before .before .pre .fits,
+  ));
+}
 
 add-total : tie.Need-add-total Inv-loop μ-loop
-add-total c = record { fits = rw (c .before .before .before .before .long .ensures, c .before .long2 .ensures) (omega (arith, first (c .before .before .before .before .before .before .before .before), c .before .before .before .before .before .before .before .before .pre .fits)) }
+add-total c = record {
+  fits = rw (c .before .before .before .before .long .ensures, c .before .long2 .ensures) (omega (
+    arith,
+    first (c .before .before .before .before .before .before .before .before),
+    c .before .before .before .before .before .before .before .before .pre .fits,
+  ));
+}
 
 loop-holds : tie.Need-loop-holds Inv-loop μ-loop
-loop-holds c = (rw (c .before .before .before .before .long .ensures, c .before .long2 .ensures) (omega (arith, first (c .before .before .before .before .before .before .before .before))), omega arith, omega arith, omega (arith, c .before .before .before .before .before .before .before .before .pre .two))
+loop-holds c = (
+  rw (c .before .before .before .before .long .ensures, c .before .long2 .ensures)
+      (omega (arith, first (c .before .before .before .before .before .before .before .before))),
+  omega arith,
+  omega arith,
+  omega (arith, c .before .before .before .before .before .before .before .before .pre .two),
+)
 
 add-at : tie.Need-add-at Inv-loop μ-loop
-add-at c = omega (arith, c .before .before .before .before .before .before .before .before .before .before .pre .inside (c .before .loop .k) (omega arith))
+add-at c = omega (
+  arith,
+  c .before .before .before .before .before .before .before .before .before .before .pre .inside (c .before .loop .k)
+      (omega arith),
+)
 
 mul-long : tie.Need-mul-long Inv-loop μ-loop
 mul-long c = omega arith
@@ -78,16 +124,38 @@ long-requires-3 : tie.Need-long-requires-3 Inv-loop μ-loop
 long-requires-3 c κs = search needs
 
 mul-total-4 : tie.Need-mul-total-4 Inv-loop μ-loop
-mul-total-4 c = omega (arith, c .before .before .before .before .before .before .before .before .before .before .before .before .pre .inside (c .before .before .before .loop .k) (omega arith))
+mul-total-4 c = omega (
+  arith,
+  c .before .before .before .before .before .before .before .before .before .before .before .before .pre .inside
+      (c .before .before .before .loop .k) (omega arith),
+)
 
 shared-slice-read-total-3 : tie.Need-shared-slice-read-total-3 Inv-loop μ-loop
-shared-slice-read-total-3 c = omega (arith, c .before .before .before .before .before .before .before .before .before .before .before .before .before .pre .inside (c .before .before .before .before .loop .k) (omega arith))
+shared-slice-read-total-3 c = omega (
+  arith,
+  c .before .before .before .before .before .before .before .before .before .before .before .before .before .pre .inside
+      (c .before .before .before .before .loop .k) (omega arith),
+)
 
 mul-total-5 : tie.Need-mul-total-5 Inv-loop μ-loop
-mul-total-5 c = record { fits = rw (c .before .long3 .ensures, c .before .before .before .before .loop .inv .1) (omega (arith, next c, c .before .before .before .before .before .before .before .before .before .before .before .before .before .pre .fits)) }
+mul-total-5 c = record {
+  fits = rw (c .before .long3 .ensures, c .before .before .before .before .loop .inv .1) (omega (
+    arith,
+    next c,
+    c .before .before .before .before .before .before .before
+        .before .before .before .before .before .before .pre .fits,
+  ));
+}
 
 add-total-2 : tie.Need-add-total-2 Inv-loop μ-loop
-add-total-2 c = record { fits = rw (c .before .long3 .ensures, c .before .before .before .before .loop .inv .1) (omega (arith, next c, c .before .before .before .before .before .before .before .before .before .before .before .before .before .pre .fits)) }
+add-total-2 c = record {
+  fits = rw (c .before .long3 .ensures, c .before .before .before .before .loop .inv .1) (omega (
+    arith,
+    next c,
+    c .before .before .before .before .before .before .before
+        .before .before .before .before .before .before .pre .fits,
+  ));
+}
 
 add-k : tie.Need-add-k Inv-loop μ-loop
 add-k c = omega arith
@@ -96,10 +164,21 @@ loop-less : tie.Need-loop-less Inv-loop μ-loop
 loop-less c = omega arith
 
 loop-again : tie.Need-loop-again Inv-loop μ-loop
-loop-again c = (rw (c .before .long3 .ensures, c .before .before .before .before .loop .inv .1) (omega (arith, next c)), omega arith, omega arith, omega arith)
+loop-again c = (
+  rw (c .before .long3 .ensures, c .before .before .before .before .loop .inv .1) (omega (arith, next c)),
+  omega arith,
+  omega arith,
+  omega arith,
+)
 
 returns : tie.Need-returns Inv-loop μ-loop
-returns c = omega (arith, apart-done (c .before .before .before .before .before .before .before .before .before .before .args .mix .now) (c .before .before .before .before .before .before .before .before .before .before .args .values .now) (c .before .before .before .before .before .before .before .before .before .before .args .step) (c .before .loop .k) (omega arith))
+returns c = omega (
+  arith,
+  apart-done (c .before .before .before .before .before .before .before .before .before .before .args .mix .now)
+      (c .before .before .before .before .before .before .before .before .before .before .args .values .now)
+      (c .before .before .before .before .before .before .before .before .before .before .args .step)
+      (c .before .loop .k) (omega arith),
+)
 
 pub dot-apart-spec : {M : Type 1} → statement M
 dot-apart-spec =

@@ -17,11 +17,17 @@ abbrev μ-loop : tie.MeasureT-loop
 μ-loop levels₀ from to rest mix e₀ levels e = rest - e
 
 -- the number that a turn writes stands behind those that it reads
-before : (c : tie.In-loop Inv-loop μ-loop) → c .before .before .before .before .args .from + c .before .loop .e < length (c .before .loop .levels)
+before : (c : tie.In-loop Inv-loop μ-loop)
+    → c .before .before .before .before .args .from + c .before .loop .e < length (c .before .loop .levels)
 before c =
     let s = c .before .before .before .before in
     let l = c .before .loop in
-    omega (arith, number-before (s .args .mix .now) (s .args .levels .now) (s .args .from) (s .args .to) (s .args .rest) (s .pre) (l .levels) (l .e) (omega arith) _ (l .inv .0) (l .inv .2) 0 (omega (arith, s .pre .two)), s .pre .inside)
+    omega (
+      arith,
+      number-before (s .args .mix .now) (s .args .levels .now) (s .args .from) (s .args .to) (s .args .rest) (s .pre)
+          (l .levels) (l .e) (omega arith) _ (l .inv .0) (l .inv .2) 0 (omega (arith, s .pre .two)),
+      s .pre .inside,
+    )
 
 loop-holds : tie.Need-loop-holds Inv-loop μ-loop
 loop-holds c = (written-start (c .before .before .args .levels .now) (c .before .before .args .to) _, omega arith, refl)
@@ -45,7 +51,8 @@ dot-apart-requires : tie.Need-dot-apart-requires Inv-loop μ-loop
 dot-apart-requires c κs =
     let s = c .before .before .before .before .before .before in
     let l = c .before .before .before .loop in
-    lent-apart (s .args .mix .now) (s .args .levels .now) (s .args .from) (s .args .to) (s .args .rest) (s .pre) (l .levels) (l .e) (omega arith) _ (l .inv .0) (l .inv .2)
+    lent-apart (s .args .mix .now) (s .args .levels .now) (s .args .from) (s .args .to) (s .args .rest) (s .pre)
+    (l .levels) (l .e) (omega arith) _ (l .inv .0) (l .inv .2)
 
 add-levels : tie.Need-add-levels Inv-loop μ-loop
 add-levels c = omega (arith, c .before .before .before .before .before .before .before .pre .inside)
@@ -67,8 +74,13 @@ loop-again c =
     let s = c .before .before .before .before .before .before .before in
     let l = c .before .before .before .before .loop in
     let a = s .args in
-    let is = c .dot-apart .ensures ∙ lent-sum (a .mix .now) (a .levels .now) (a .from) (a .to) (a .rest) (s .pre) (l .levels) (l .e) (omega arith) _ (l .inv .0) (l .inv .2) in
-    (written-turn (a .levels .now) (l .levels) (a .to) (l .e) _ _ (omega (arith, s .pre .inside)) is (l .inv .0), omega arith, simp length-set (l .inv .2))
+    let is = c .dot-apart .ensures
+    ∙ lent-sum (a .mix .now) (a .levels .now) (a .from) (a .to) (a .rest) (s .pre) (l .levels) (l .e) (omega arith) _
+    (l .inv .0) (l .inv .2) in (
+      written-turn (a .levels .now) (l .levels) (a .to) (l .e) _ _ (omega (arith, s .pre .inside)) is (l .inv .0),
+      omega arith,
+      simp length-set (l .inv .2),
+    )
 
 same-length : tie.Need-same-length Inv-loop μ-loop
 same-length c = omega arith

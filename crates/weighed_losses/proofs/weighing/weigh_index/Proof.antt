@@ -42,7 +42,9 @@ returns : tie.Need-returns
 returns c =
     let a = c .before .before .before .before .before .before .before .args in
     let z : (a .level * 16 + a .h) * 162 + 2592 ≡ place (a .level + 1) (a .h) = omega arith in
-    written-as _ _ _ _ (a .rest) _ _ z (λ e h. rw (eq-eqb (a .owner) (a .level) (c .before .before .before .before .if1 .taken))) (c .before .before .copy-table .ensures)
+    written-as _ _ _ _ (a .rest) _ _ z
+    (λ e h. rw (eq-eqb (a .owner) (a .level) (c .before .before .before .before .if1 .taken)))
+    (c .before .before .copy-table .ensures)
 
 same-length-2 : tie.Need-same-length-2
 same-length-2 c = search needs
@@ -51,7 +53,9 @@ returns-2 : tie.Need-returns-2
 returns-2 c =
     let a = c .before .before .before .before .before .before .before .args in
     let z : (a .level * 16 + a .h) * 162 + 2592 ≡ place (a .level + 1) (a .h) = omega arith in
-    written-as _ _ _ _ (a .rest) _ _ z (λ e h. rw (ne-eqb (a .owner) (a .level) (c .before .before .before .before .if1 .left))) (c .before .before .weigh-table .ensures)
+    written-as _ _ _ _ (a .rest) _ _ z
+    (λ e h. rw (ne-eqb (a .owner) (a .level) (c .before .before .before .before .if1 .left)))
+    (c .before .before .weigh-table .ensures)
 
 pub weigh-index-spec : {M : Type 1} → statement M
 weigh-index-spec =

@@ -25,7 +25,9 @@ module _ (c : tie.After-wide Inv-loop μ-loop) where
   abbrev h : ℕ
   h = c .before .before .before .loop .h
 
-  ready : (at (s .args .owners .now) h < 6) × IndexToWeigh (at (s .args .owners .now) h) (s .args .mix .now) (s .args .levels .now) (s .args .level) h (restAt (s .args .owners .now) (s .args .rests .now) (s .args .level) h)
+  ready : (at (s .args .owners .now) h < 6)
+      × IndexToWeigh (at (s .args .owners .now) h) (s .args .mix .now) (s .args .levels .now) (s .args .level) h
+      (restAt (s .args .owners .now) (s .args .rests .now) (s .args .level) h)
   ready = s .pre .2 h (omega arith)
 
   owner-low : c .wide .result < 6
@@ -61,8 +63,12 @@ weigh-index-requires c κs =
     let s = c .before .before .before .before .before .before .before .before in
     let l = c .before .before .before .before .before .loop in
     let a = s .args in
-    subst (λ (o : ℕ). IndexToWeigh o (a .mix .now) (l .levels) (a .level) (l .h) (at (a .rests .now) ((a .level + 1) * 6 + o))) (sym (w .wide .ensures))
-    (index-kept (at (a .owners .now) (l .h)) (a .mix .now) (a .levels .now) (a .level) (l .h) (restAt (a .owners .now) (a .rests .now) (a .level) (l .h)) (ready w .1) (l .levels) (l .inv .0 .kept) (l .inv .2))
+    subst
+    (λ (o : ℕ).
+    IndexToWeigh o (a .mix .now) (l .levels) (a .level) (l .h) (at (a .rests .now) ((a .level + 1) * 6 + o)))
+    (sym (w .wide .ensures))
+    (index-kept (at (a .owners .now) (l .h)) (a .mix .now) (a .levels .now) (a .level) (l .h)
+    (restAt (a .owners .now) (a .rests .now) (a .level) (l .h)) (ready w .1) (l .levels) (l .inv .0 .kept) (l .inv .2))
 
 add-h : tie.Need-add-h Inv-loop μ-loop
 add-h c = omega arith
@@ -76,8 +82,16 @@ loop-again c =
     let s = c .before .before .before .before .before .before .before .before .before .before .before in
     let l = c .before .before .before .before .before .before .before .before .loop in
     let a = s .args in
-    let done = subst (λ (o : ℕ). Written (l .levels) (place (a .level + 1) (l .h)) (at (a .rests .now) ((a .level + 1) * 6 + o)) (nextAt o (a .mix .now) (l .levels) (a .level) (l .h) (at (a .rests .now) ((a .level + 1) * 6 + o))) (c .before .before .weigh-index .last .1 .1 .0)) (w .wide .ensures) (c .before .before .weigh-index .ensures) in
-    (level-turn (a .owners .now) (a .rests .now) (a .mix .now) (a .levels .now) (a .level) (a .indices) (s .pre) (l .h) (omega arith) (l .levels) _ (l .inv .0) done, omega arith, omega arith)
+    let done = subst
+    (λ (o : ℕ). Written (l .levels) (place (a .level + 1) (l .h)) (at (a .rests .now) ((a .level + 1) * 6 + o))
+    (nextAt o (a .mix .now) (l .levels) (a .level) (l .h) (at (a .rests .now) ((a .level + 1) * 6 + o)))
+    (c .before .before .weigh-index .last .1 .1 .0))
+    (w .wide .ensures) (c .before .before .weigh-index .ensures) in (
+      level-turn (a .owners .now) (a .rests .now) (a .mix .now) (a .levels .now) (a .level) (a .indices) (s .pre) (l .h)
+          (omega arith) (l .levels) _ (l .inv .0) done,
+      omega arith,
+      omega arith,
+    )
 
 same-length : tie.Need-same-length Inv-loop μ-loop
 same-length c = omega arith

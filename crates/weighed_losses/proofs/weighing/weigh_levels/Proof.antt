@@ -1,4 +1,5 @@
--- `weigh_levels` meets its contract: the levels up to the one reached stand in the array, for whatever losses. Assumes nothing.
+-- `weigh_levels` meets its contract: the levels up to the one reached stand in the array, for whatever losses.
+-- Assumes nothing.
 use mathlib.Core.List.{List, []}
 use mathlib.Core.Path.{_≡_, refl, sym, _∙_, subst}
 use Prim.Native.Nat.{ℕ, _+_, _-_, _≤_}
@@ -20,7 +21,8 @@ use Rattle.weighed_losses.proofs.weighing.weigh_levels.Tie as tie
 
 abbrev Inv-loop : tie.InvT-loop
 Inv-loop sizes firsts owners rests point first levels₀ indices last level₀ levels level =
-    ((t : List ℕ) → StandTo (lent sizes []) t point first levels₀ → StandTo (lent sizes []) t point level levels) × (level ≤ last) × (length levels ≡ length levels₀) × (last ≡ length sizes - 1) × (indices ≡ length point)
+    ((t : List ℕ) → StandTo (lent sizes []) t point first levels₀ → StandTo (lent sizes []) t point level levels)
+    × (level ≤ last) × (length levels ≡ length levels₀) × (last ≡ length sizes - 1) × (indices ≡ length point)
 
 abbrev μ-loop : tie.MeasureT-loop
 μ-loop sizes firsts owners rests point first levels₀ indices last level₀ levels level = last - level
@@ -44,13 +46,17 @@ module _ (c : tie.After-wide2 Inv-loop μ-loop) where
   k = c .before .before .before .before .before .loop .level
 
   first-is : c .before .before .wide .result ≡ firstIndex (g start) k
-  first-is = c .before .before .wide .ensures ∙ start .pre .1 .2 .point .grid .first k (omega (arith, c .before .before .before .before .before .loop .inv .3))
+  first-is = c .before .before .wide .ensures
+      ∙ start .pre .1 .2 .point .grid .first k (omega (arith, c .before .before .before .before .before .loop .inv .3))
 
   inside : firstIndex (g start) k + c .wide2 .result ≤ length (start .args .point .now)
   inside = omega (arith, c .wide2 .ensures, long start, block-fits (start .args .sizes .now) k)
 
-  lent-is : take (c .before .before .wide .result + c .wide2 .result - c .before .before .wide .result) (drop (c .before .before .wide .result) (start .args .point .now)) ≡ mix (g start) (start .args .point .now) k
-  lent-is = lent-mix (start .args .sizes .now) (start .args .point .now) k (c .before .before .wide .result) (c .wide2 .result) first-is (c .wide2 .ensures) (sym (long start))
+  lent-is : take (c .before .before .wide .result + c .wide2 .result - c .before .before .wide .result)
+      (drop (c .before .before .wide .result) (start .args .point .now))
+      ≡ mix (g start) (start .args .point .now) k
+  lent-is = lent-mix (start .args .sizes .now) (start .args .point .now) k (c .before .before .wide .result)
+      (c .wide2 .result) first-is (c .wide2 .ensures) (sym (long start))
 
 sub-last : tie.Need-sub-last Inv-loop μ-loop
 sub-last c = omega arith
@@ -59,7 +65,8 @@ loop-holds : tie.Need-loop-holds Inv-loop μ-loop
 loop-holds c = ((λ t s. s), omega arith, refl, refl, refl)
 
 element-copy-out-wide : tie.Need-element-copy-out-wide Inv-loop μ-loop
-element-copy-out-wide c = omega (arith, yes (c .before .before .before .before .before) .fewBlocks, c .before .loop .inv .3)
+element-copy-out-wide c =
+    omega (arith, yes (c .before .before .before .before .before) .fewBlocks, c .before .loop .inv .3)
 
 wide-requires : tie.Need-wide-requires Inv-loop μ-loop
 wide-requires c κs = search needs
@@ -95,9 +102,14 @@ weigh-level-requires c κs =
     let ss = a .sizes .now in
     let ds = s .pre .1 .0 in
     let t = s .pre .1 .1 in
-    let stand = stand-to-alike ss [] ds t (a .point .now) (l .level) (l .levels) (l .inv .0 t (stand-to-alike ss ds [] t (a .point .now) (a .first) (a .levels .now) (x .stand))) in
-    let ready = level-ready (g s) (a .firsts .now) (a .owners .now) (a .rests .now) t (a .point .now) (l .level) (a .first) (l .levels) (a .levels .now) x (l .inv .2) (omega (arith, l .inv .3)) stand in
-    rw (lent-is w) (subst (λ (n : ℕ). LevelToWeigh (a .owners .now) (a .rests .now) (mix (g s) (a .point .now) (l .level)) (l .level) n (l .levels)) (sym (long s)) ready)
+    let stand = stand-to-alike ss [] ds t (a .point .now) (l .level) (l .levels)
+    (l .inv .0 t (stand-to-alike ss ds [] t (a .point .now) (a .first) (a .levels .now) (x .stand))) in
+    let ready = level-ready (g s) (a .firsts .now) (a .owners .now) (a .rests .now) t (a .point .now) (l .level)
+    (a .first) (l .levels) (a .levels .now) x (l .inv .2) (omega (arith, l .inv .3)) stand in
+    rw (lent-is w) (subst
+    (λ (n : ℕ).
+    LevelToWeigh (a .owners .now) (a .rests .now) (mix (g s) (a .point .now) (l .level)) (l .level) n (l .levels))
+    (sym (long s)) ready)
 
 add-level : tie.Need-add-level Inv-loop μ-loop
 add-level c = omega arith
@@ -108,7 +120,8 @@ loop-less c = omega arith
 loop-again : tie.Need-loop-again Inv-loop μ-loop
 loop-again c =
     let w = c .before .before .before .before .before in
-    let s = c .before .before .before .before .before .before .before .before .before .before .before .before .before .before in
+    let s =
+    c .before .before .before .before .before .before .before .before .before .before .before .before .before .before in
     let l = c .before .before .before .before .before .before .before .before .before .before .loop in
     let a = s .args in
     let x = s .pre .1 .2 in
@@ -116,9 +129,14 @@ loop-again c =
     let ds = s .pre .1 .0 in
     let new = c .before .before .weigh-level .last .1 .1 .1 .1 .1 .0 in
     let done = rw (lent-is w) at (c .before .before .weigh-level .ensures) in
-    let weighed = subst (λ (n : ℕ). LevelWeighed (a .owners .now) (a .rests .now) (mix (g s) (a .point .now) (l .level)) (l .level) n (l .levels) new) (long s) done in (
+    let weighed = subst
+    (λ (n : ℕ).
+    LevelWeighed (a .owners .now) (a .rests .now) (mix (g s) (a .point .now) (l .level)) (l .level) n (l .levels) new)
+    (long s) done in (
       (λ t b. stand-to-alike ss ds [] t (a .point .now) (l .level + 1) new
-          (level-stands (g s) (a .firsts .now) (a .owners .now) (a .rests .now) (s .pre .1 .1) (a .point .now) (l .level) (a .first) (l .levels) (a .levels .now) x (l .inv .2) (omega (arith, l .inv .3)) t _ (stand-to-alike ss [] ds t (a .point .now) (l .level) (l .levels) (l .inv .0 t b)) weighed)),
+          (level-stands (g s) (a .firsts .now) (a .owners .now) (a .rests .now) (s .pre .1 .1) (a .point .now)
+          (l .level) (a .first) (l .levels) (a .levels .now) x (l .inv .2) (omega (arith, l .inv .3)) t _
+          (stand-to-alike ss [] ds t (a .point .now) (l .level) (l .levels) (l .inv .0 t b)) weighed)),
       omega arith,
       omega arith,
       l .inv .3,
@@ -131,7 +149,8 @@ same-length c = omega arith
 returns : tie.Need-returns Inv-loop μ-loop
 returns c =
     let l = c .before .loop in
-    let e : l .level ≡ length (c .before .before .before .before .before .args .sizes .now) - 1 = omega (arith, l .inv .3) in
+    let e : l .level ≡ length (c .before .before .before .before .before .args .sizes .now) - 1 =
+    omega (arith, l .inv .3) in
     λ t b. rw e at (l .inv .0 t b)
 
 pub weigh-levels-spec : {M : Type 1} → statement M
