@@ -22,7 +22,7 @@ pub map-map : {A B C : Type 0} (f : B → C) (e : A → B) (l : List A) → map 
 map-map f e [] = refl
 map-map f e (x ∷ l) = ap (λ r. f (e x) ∷ r) (map-map f e l)
 
-pub map-drop : (f : ℕ → ℕ) (k : ℕ) (l : List ℕ) → map f (drop k l) ≡ drop k (map f l)
+map-drop : (f : ℕ → ℕ) (k : ℕ) (l : List ℕ) → map f (drop k l) ≡ drop k (map f l)
 map-drop f zero l = refl
 map-drop f (suc k) [] = refl
 map-drop f (suc k) (x ∷ l) = map-drop f k l

@@ -17,7 +17,7 @@ pub front-length : (new old : List ℕ) → length new ≤ length old → length
 unfolding front
 front-length new old h = simp (length-append, length-drop) (omega arith)
 
-pub front-store : (new old : List ℕ) (x : ℕ) → length new < length old
+front-store : (new old : List ℕ) (x : ℕ) → length new < length old
     → set (front new old) (length new) x ≡ front (new ++ (x ∷ [])) old
 unfolding front
 front-store [] [] x h = absurd (omega arith)

@@ -17,7 +17,7 @@ pub sum-append : (xs ys : List ℕ) → sum (xs ++ ys) ≡ sum xs + sum ys
 sum-append [] ys = omega arith
 sum-append (x ∷ xs) ys = rw (sum-append xs ys) (sym (add-assoc x (sum xs) (sum ys)))
 
-pub all-append : (q : ℕ → Bool) (xs ys : List ℕ) → all q (xs ++ ys) ≡ (all q xs && all q ys)
+all-append : (q : ℕ → Bool) (xs ys : List ℕ) → all q (xs ++ ys) ≡ (all q xs && all q ys)
 all-append q [] ys = refl
 all-append q (x ∷ xs) ys = ap (λ b. q x && b) (all-append q xs ys) ∙ sym (and-assoc (q x) (all q xs) (all q ys))
 
@@ -45,7 +45,7 @@ upFrom-next b i = rw (add-one i) (go b i)
     go b zero = let z : b + 0 ≡ b = omega arith in rw z
     go b (suc i) = let z : b + suc i ≡ suc b + i = omega arith in rw z (ap (λ l. b ∷ l) (go (suc b) i))
 
-pub map-next : (f : ℕ → ℕ) (b i : ℕ) → map f (upFrom b (i + 1)) ≡ map f (upFrom b i) ++ (f (b + i) ∷ [])
+map-next : (f : ℕ → ℕ) (b i : ℕ) → map f (upFrom b (i + 1)) ≡ map f (upFrom b i) ++ (f (b + i) ∷ [])
 map-next f b i = rw (upFrom-next b i, map-append)
 
 pub sum-counted : (f : ℕ → ℕ) (b i : ℕ) → sum (map f (upFrom b (i + 1))) ≡ sum (map f (upFrom b i)) + f (b + i)

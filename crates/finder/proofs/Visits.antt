@@ -82,10 +82,6 @@ read-some p round first coefficients order marks s m r R e = rw (
       (omega (arith, R .low, first-few (s .count) order)),
 )
 
-pub ready-none : (g : GridStruct) (tails table : List ℕ) (a : State) → CanVisit g tails table a → 6 ≤ a .rule → Ready a
-ready-none g tails table a can l =
-    subst Ready (read-none (tableOf g table) a l) (can .ready (λ r. absurd (omega arith)))
-
 -- a mark is that of a label that is known, and else the label is 0
 module _ (p : Problem) (y : Point) where
   pub marked-known : {m : ℕ} → readingOf p y ≡ Marked m → (0 < label p y) × (m ≡ markOf p y)

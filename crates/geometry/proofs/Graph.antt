@@ -22,7 +22,7 @@ use Rattle.geometry.proofs.Unique.{one-next, not-next-drops, facet-agai
 use Rattle.geometry.proofs.Ways.{omit-is}
 
 -- lists by their points
-pub list-ext : (n : ℕ) (a b : List (ℕ → ℕ)) → length a ≡ n → length b ≡ n → ((j : ℕ) → j < n → listAt a j ≡ listAt b j)
+list-ext : (n : ℕ) (a b : List (ℕ → ℕ)) → length a ≡ n → length b ≡ n → ((j : ℕ) → j < n → listAt a j ≡ listAt b j)
     → a ≡ b
 list-ext n a b x y h = ext-getD (λ k. 0) a b (x ∙ sym y) (λ j l. h j (omega arith))
 

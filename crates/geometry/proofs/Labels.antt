@@ -36,10 +36,10 @@ apart-omit i j k f g (inl a) (inr b) e = omega arith
 apart-omit i j k f g (inr a) (inl b) e = omega arith
 apart-omit i j k f g (inr a) (inr b) e = omega arith
 
-abbrev pub Inj : ℕ → (ℕ → ℕ) → Type 0
+abbrev Inj : ℕ → (ℕ → ℕ) → Type 0
 Inj t f = (i j : ℕ) → i < t → j < t → f i ≡ f j → i ≡ j
 
-pub inj-omit : {t x : ℕ} {f g : ℕ → ℕ} → Omit t x f g → Inj (suc t) f → Inj t g
+inj-omit : {t x : ℕ} {f g : ℕ → ℕ} → Omit t x f g → Inj (suc t) f → Inj t g
 inj-omit {t} {x} {f} {g} o inj i j a b e = go (from-omit i o a) (from-omit j o b)
   where
     go : (u : ℕ) × (g i ≡ f u) × (u < suc t) × (u ≡ x → ⊥) × (((i < x) × (u ≡ i)) ⊎ ((x ≤ i) × (u ≡ suc i)))

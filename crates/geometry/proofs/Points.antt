@@ -66,7 +66,7 @@ telescope s ss v c y h zero l = omega arith
 telescope s ss v c y h (suc n) l =
     omega (arith, telescope s ss v c y h n (omega arith), h n (omega arith), ap c (next-inside s ss n l))
 
-pub sums-of : (ss : List ℕ) (v c y : ℕ → ℕ) → ((k : ℕ) → k < sum ss → y k + c (nextOf ss k) ≡ v k + c k)
+sums-of : (ss : List ℕ) (v c y : ℕ → ℕ) → ((k : ℕ) → k < sum ss → y k + c (nextOf ss k) ≡ v k + c k)
     → SameSums ss v y
 sums-of [] v c y h = tt
 sums-of (s ∷ ss) v c y h = (

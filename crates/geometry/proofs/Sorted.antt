@@ -42,7 +42,7 @@ module _ {n : ℕ} {q r : ℕ → ℕ → ℕ} (rq : Rising n q) (rr : Rising n 
   pub side-by-side : (j : ℕ) → j < n → r j ≡ q j
   side-by-side j l = ap r (sym (fixed n f f-low f-mono j l)) ∙ f-is j l
 
-pub rising-omit : {n i : ℕ} {p q : ℕ → ℕ → ℕ} → Omit n i p q → Rising (suc n) p → Rising n q
+rising-omit : {n i : ℕ} {p q : ℕ → ℕ → ℕ} → Omit n i p q → Rising (suc n) p → Rising n q
 rising-omit {n} {i} {p} {q} m r = record {
   up = λ a b l h k. let u = from-omit a m (omega arith) in let w = from-omit b m h in
       let z = place a b l u.0 w.0 u.4 w.4 in

@@ -18,7 +18,7 @@ use Rattle.geometry.proofs.Neighbours.{first-next, inner-next, last-nex
 use Rattle.geometry.proofs.Orders.{lt-or}
 use Rattle.geometry.proofs.Tight.{block-next, step-up, lifted-on, lifted-tight, lifted-le, lifted-zeros}
 
-pub less-is : (T : ℕ → Bool) (b : ℕ) → T b ≡ true → Less T (less T b) b
+less-is : (T : ℕ → Bool) (b : ℕ) → T b ≡ true → Less T (less T b) b
 unfolding less
 less-is T b e = record { has = e; out = rw (eq-eqb b b refl); rest = λ k n. rw (ne-eqb k b n) }
 

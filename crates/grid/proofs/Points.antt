@@ -175,7 +175,7 @@ fits-of g y e h = sums-fit (g .sizes) (g .divisions) y e
     (eqb-true _ _ (and-left (eqb (length y) (numIndices g)) (all (blockSum (g .sizes) (g .divisions) y) (blocks g)) h))
     (and-right (eqb (length y) (numIndices g)) (all (blockSum (g .sizes) (g .divisions) y) (blocks g)) h)
 
-pub fits-is : (g : Grid) (y : Point) → Fits (g .sizes) (g .divisions) y → isGridPoint g y ≡ true
+fits-is : (g : Grid) (y : Point) → Fits (g .sizes) (g .divisions) y → isGridPoint g y ≡ true
 unfolding isGridPoint
 fits-is g y f = let i = fits-sums f in and-both _ _ (eq-eqb _ _ (i .0)) (i .1)
 

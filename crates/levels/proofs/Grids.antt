@@ -27,11 +27,11 @@ use Rattle.levels.specs.Levels.{finer, gridAt, times}
 use Rattle.levels.specs.Questions.{levelQuestions}
 
 -- numbers times k
-pub times-one : (xs : List ℕ) → times 1 xs ≡ xs
+times-one : (xs : List ℕ) → times 1 xs ≡ xs
 times-one [] = refl
 times-one (x ∷ xs) = let e : 1 * x ≡ x = omega arith in rw (e, times-one xs)
 
-pub times-twice : (k l : ℕ) (xs : List ℕ) → times k (times l xs) ≡ times (k * l) xs
+times-twice : (k l : ℕ) (xs : List ℕ) → times k (times l xs) ≡ times (k * l) xs
 times-twice k l [] = refl
 times-twice k l (x ∷ xs) = rw (times-twice k l xs, mul-assoc k l x)
 

@@ -55,7 +55,7 @@ between-means s e =
       ltb-true (s .active) (s .count) (and-right (ltb 0 (s .active)) _ r),
     )
 
-pub add-up-means : (g : Grid) (from : ℕ → ℕ) (h k : ℕ) → addUp g from h k ≡ true → Apart g h (from h) k (from k)
+add-up-means : (g : Grid) (from : ℕ → ℕ) (h k : ℕ) → addUp g from h k ≡ true → Apart g h (from h) k (from k)
 add-up-means g from h k e = ⊎-elim
     (λ o. inl (eqb-false _ _ (not-true _ o)))
     (λ o. inr (together o))

@@ -89,7 +89,7 @@ beside round first coefficients s = record {
   rule = s .rule;
 }
 
-abbrev pub onRound : Round → State → State
+abbrev onRound : Round → State → State
 onRound round s = beside round (s .first) (s .coefficients) s
 
 abbrev pub besideAfter : Round → List ℕ → List ℕ → After → After

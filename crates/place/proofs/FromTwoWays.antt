@@ -44,7 +44,7 @@ use Rattle.place.specs.Path.{Answer, spent, unknown, announcement, outco
 use Rattle.place.specs.Places.{Simplex, isPlace, places, setT, labelSet, allLabelled, unlabelled}
 use Rattle.place.specs.Problem.{Problem, hasLabel}
 
-pub in-placeAt : (l : List Simplex) (s : Simplex) → isIn sameSimplex s l ≡ true
+in-placeAt : (l : List Simplex) (s : Simplex) → isIn sameSimplex s l ≡ true
     → (j : ℕ) × (j < length l) × (s ≡ placeAt l j)
 in-placeAt l s m = let j = in-at onSimplices [] s l m in (j .0, j .1, sym j.2)
 
@@ -76,7 +76,7 @@ all-concatMap : {A B : Type 0} (q : B → Bool) (f : A → List B) (xs : List A)
 all-concatMap q f [] h = refl
 all-concatMap q f (x ∷ xs) h = all-join q (f x) _ (h x) (all-concatMap q f xs h)
 
-pub ends-complete : (p : Problem) (s : Simplex) → all (λ e. isComplete p e.simplex e.block) (ends p s) ≡ true
+ends-complete : (p : Problem) (s : Simplex) → all (λ e. isComplete p e.simplex e.block) (ends p s) ≡ true
 unfolding ends placeEnds facetEnds completeFor
 ends-complete p s =
     all-join (λ e. isComplete p e.simplex e.block) (placeEnds p s) (facetEnds p s)
@@ -317,17 +317,6 @@ module _ {p : Problem} (ok : Accepted p) (W : TwoWays p) where
           ap (λ (x : Simplex). some x) h.1,
         )
 
-    -- where it has no end and no gap it is not yet the whole path
-    agree-more : (s : List Simplex) → Follows p s → allLabelled p (lastPlace s) ≡ true → ends p (lastPlace s) ≡ []
-        → length s < length t
-    agree-more s ks own e =
-        let c = ks .nonempty in
-        let h = agree s ks (pred (length s)) (omega arith) in
-        ⊎-elim (λ l. l) (λ l. absurd (
-        let q : pred (length t) ≡ pred (length s) = omega (arith, h .0) in
-        final (rw (q, ← h .1) own) (rw (q, ← h .1) e)))
-        (before-or-not (length s) (length t))
-
     -- and where it stops it is
     agree-all : (s : List Simplex) → Follows p s → Final p s → s ≡ t
     agree-all s ks halts =
@@ -392,11 +381,6 @@ module _ {p : Problem} (ok : Accepted p) (W : TwoWays p) where
   pub follows-path : (s : List Simplex) → Follows p s → (i : ℕ) → i < length s
       → (i < pathLength p) × (placeAt s i ≡ placeAt (path p .visited) i) × (leftAt s i ≡ leftAt (path p .visited) i)
   follows-path = agree path-follows path-final (one-way path-trail)
-
-  -- and there is more of the path where there is no end and no gap
-  pub follows-more : (s : List Simplex) → Follows p s → allLabelled p (lastPlace s) ≡ true → ends p (lastPlace s) ≡ []
-      → length s < pathLength p
-  follows-more = agree-more path-follows path-final (one-way path-trail)
 
   -- a path without a gap has an end
   pub ends-known : NoGap p → (e : End) × (path p .end ≡ some e)

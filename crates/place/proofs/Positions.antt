@@ -65,7 +65,7 @@ occurs-once x (y ∷ o) d m =
     (true-or-false (eqb x y))
 
 -- sums
-pub sum-le : (c d : List ℕ) → length c ≡ length d → ((k : ℕ) → k < length c → at c k ≤ at d k) → sum c ≤ sum d
+sum-le : (c d : List ℕ) → length c ≡ length d → ((k : ℕ) → k < length c → at c k ≤ at d k) → sum c ≤ sum d
 sum-le [] [] e h = omega arith
 sum-le [] (y ∷ d) e h = omega arith
 sum-le (x ∷ c) [] e h = absurd (omega arith)

@@ -27,8 +27,7 @@ use Rattle.place.proofs.ToChain.{labelledChain-of, pointsOf-coefficient
 use Rattle.place.proofs.Facets.{oneLess-at, at-oneLess}
 use Rattle.place.proofs.ChainLinks.{link-of, of-link}
 use Rattle.place.proofs.LinkSymmetry.{parts}
-use Rattle.place.proofs.FromTwoWays.{Final, demand3, path-is, ends-known, no-gap, follows-path, follows-more}
-use Rattle.place.proofs.FromTwoWays.{whole-path}
+use Rattle.place.proofs.FromTwoWays.{Final, demand3, path-is, ends-known, no-gap, follows-path, whole-path}
 use Rattle.place.proofs.BlocksOfGrid.{blocksOf, pointOf, coefficientOf, block-agrees, point-coefficientOf}
 use Rattle.place.proofs.Start.{start-place}
 use Rattle.place.proofs.ChainEnds.{complete-to, complete-of, complete-below, facet-end, end-below, end-complete}
@@ -307,11 +306,6 @@ pub run-follows : {p : Problem} → Accepted p → (s : List Simplex) → Follow
     → (i < pathLength p) × (placeAt s i ≡ placeAt (path p .visited) i) × (leftAt s i ≡ leftAt (path p .visited) i)
 run-follows {p} ok = follows-path ok (twoWays ok.settled)
 
--- there is more of the path where there is no end and no gap,
-pub run-more : {p : Problem} → Accepted p → (s : List Simplex) → Follows p s → allLabelled p (lastPlace s) ≡ true
-    → ends p (lastPlace s) ≡ [] → length s < pathLength p
-run-more {p} ok = follows-more ok (twoWays ok.settled)
-
--- and no more where there is one
+-- and where they have come to an end or a gap, they are all of them
 pub run-whole : {p : Problem} → Accepted p → (s : List Simplex) → Follows p s → Final p s → s ≡ path p .visited
 run-whole {p} ok = whole-path ok (twoWays ok.settled)

@@ -29,7 +29,7 @@ use Rattle.place.specs.Path.{sameSimplex}
 use Rattle.place.specs.Places.{Simplex, isPlace, places, setT, labelSet}
 use Rattle.place.specs.Problem.{Problem}
 
-abbrev pub sameKind : Kind → Kind → Bool
+abbrev sameKind : Kind → Kind → Bool
 sameKind placeEnd placeEnd = true
 sameKind placeEnd facetEnd = false
 sameKind facetEnd placeEnd = false
@@ -46,7 +46,7 @@ kind-self placeEnd = refl
 kind-self facetEnd = refl
 
 -- "ends are told apart by kind, block and set of points"
-abbrev pub sameEnd : End → End → Bool
+abbrev sameEnd : End → End → Bool
 sameEnd d e = sameKind d.kind e.kind && eqb d.block e.block && sameSimplex d.simplex e.simplex
 
 pub end-sound : (d e : End) → sameEnd d e ≡ true → d ≡ e

@@ -27,7 +27,7 @@ use Rattle.points_in_order.specs.PointAfter.{Step, step, after, afterAll
 abbrev zeros : ℕ → List ℕ
 zeros n = replicate n 0
 
-pub after-last : (n v : ℕ) → after (v ∷ zeros n) ≡ step false (zeros n ++ (v ∷ []))
+after-last : (n v : ℕ) → after (v ∷ zeros n) ≡ step false (zeros n ++ (v ∷ []))
 after-last zero v = refl
 after-last (suc n) v = rw (after-last n 0, length-replicate {A = ℕ} n 0)
 
@@ -126,7 +126,7 @@ set-last : (n v : ℕ) → set (zeros (suc n)) n v ≡ zeros n ++ (v ∷ [])
 set-last zero v = refl
 set-last (suc n) v = ap (λ (l : List ℕ). 0 ∷ l) (set-last n v)
 
-pub wraps : (last : ℕ) (b : List ℕ) → suc last ≡ length b → drop 1 b ≡ zeros last
+wraps : (last : ℕ) (b : List ℕ) → suc last ≡ length b → drop 1 b ≡ zeros last
     → after b ≡ step false (set (set b 0 0) last (getD b 0 0))
 wraps last [] e z = absurd (omega arith)
 wraps last (v ∷ l) e z = subst⁻¹

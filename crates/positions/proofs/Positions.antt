@@ -125,7 +125,7 @@ block-step k left x r h e f =
     omega arith
 
 -- two numbers: the first is the position
-pub block-end : (left x : ℕ) (r : Point) → x ≤ left → length r ≡ 1 → sum r ≡ left - x
+block-end : (left x : ℕ) (r : Point) → x ≤ left → length r ≡ 1 → sum r ≡ left - x
     → positionIn (blockPoints 2 left) (x ∷ r) ≡ x
 block-end left x r h e f =
     let one : positionIn (blockPoints 1 (left - x)) r < length (blockPoints 1 (left - x)) =
@@ -219,7 +219,7 @@ length-blocks s d ss ds = length-concatMap onPoints onPoints (length (productPoi
 front-dropped : (a l : Point) (s : ℕ) → length a ≡ s → (n : ℕ) → drop (s + n) (a ++ l) ≡ drop n l
 front-dropped a l s p n = rw (← p) (drop-append-add a l n)
 
-pub block-horner : {ss ds y : List ℕ} (j : ℕ) → Fits ss ds y → j < length ss
+block-horner : {ss ds y : List ℕ} (j : ℕ) → Fits ss ds y → j < length ss
     → (rest ss ds y j
     ≡ positionIn (blockPoints (getD ss j 0) (getD ds j 0)) (map (at y) (upFrom (sum (take j ss)) (getD ss j 0)))
     * later ss ds (suc j)
@@ -243,7 +243,7 @@ block-horner (suc j) (block {s = s} {d = d} {ss = ss} {ds = ds} a l p q f) h =
     (rw (front-dropped a l s p (sum (take j ss)), front-dropped a l s p (sum (take (suc j) ss)), shift) (i .0), i .1)
 
 -- Horner's rule, one block
-pub horner-turn : {ss ds y : List ℕ} (j n : ℕ) → Fits ss ds y → j < length ss
+horner-turn : {ss ds y : List ℕ} (j n : ℕ) → Fits ss ds y → j < length ss
     → n * later ss ds j + rest ss ds y j
     ≡ (n * length (blockPoints (getD ss j 0) (getD ds j 0))
     + positionIn (blockPoints (getD ss j 0) (getD ds j 0)) (map (at y) (upFrom (sum (take j ss)) (getD ss j 0))))
@@ -257,13 +257,13 @@ horner-turn {ss} {ds} {y} j n f h =
     rw (i .0, i .1, add-mul (n * c) q (later ss ds (suc j)), mul-assoc n c (later ss ds (suc j)))
     (sym (add-assoc _ _ _))
 
-pub horner-end : {ss ds y : List ℕ} → Fits ss ds y → (rest ss ds y (length ss) ≡ 0) × (later ss ds (length ss) ≡ 1)
+horner-end : {ss ds y : List ℕ} → Fits ss ds y → (rest ss ds y (length ss) ≡ 0) × (later ss ds (length ss) ≡ 1)
 horner-end none = (refl, refl)
 horner-end (block {s = s} {ss = ss} a l p q f) =
     let i = horner-end f in
     (rw (front-dropped a l s p (sum (take (length ss) ss))) (i .0), i .1)
 
-pub rest-below : {ss ds y : List ℕ} (j : ℕ) → Fits ss ds y → j ≤ length ss → rest ss ds y j < later ss ds j
+rest-below : {ss ds y : List ℕ} (j : ℕ) → Fits ss ds y → j ≤ length ss → rest ss ds y j < later ss ds j
 rest-below {ss} {ds} {y} zero f h = position-in (productPoints ss ds) y (in-product f)
 rest-below (suc j) none h = absurd (omega arith)
 rest-below (suc j) (block {s = s} {ss = ss} a l p q f) h =

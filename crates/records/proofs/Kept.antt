@@ -26,7 +26,7 @@ pub record Kept (s e : State) (j : ℕ) : Type 0 where
   pub other : e .rule < 6 → to ≡ e .active → ⊥
   pub same : at (e .marks) to ≡ at (s .marks) j
 
-abbrev pub KeptAfter : State → ℕ → After → Type 0
+abbrev KeptAfter : State → ℕ → After → Type 0
 KeptAfter s j (goes e) = Kept s e j
 KeptAfter s j (endsAtPlace e h) = _≡_ {A = ℕ} 0 0
 KeptAfter s j (endsAtFacet e h) = _≡_ {A = ℕ} 0 0

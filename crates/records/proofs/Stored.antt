@@ -7,16 +7,16 @@ use lib.Seq.{paste, paste-zero, paste-suc}
 use native.Mathlib.Omega.{arith}
 
 -- the first bytes stored, as many as a record has
-abbrev pub with3 : List ℕ → ℕ → List ℕ → List ℕ
+abbrev with3 : List ℕ → ℕ → List ℕ → List ℕ
 with3 d at bytes = set (set (set d at (getD bytes 0 0)) (at + 1) (getD bytes 1 0)) (at + 2) (getD bytes 2 0)
 
-abbrev pub with5 : List ℕ → ℕ → List ℕ → List ℕ
+abbrev with5 : List ℕ → ℕ → List ℕ → List ℕ
 with5 d at bytes = set (set (with3 d at bytes) (at + 3) (getD bytes 3 0)) (at + 4) (getD bytes 4 0)
 
-abbrev pub with6 : List ℕ → ℕ → List ℕ → List ℕ
+abbrev with6 : List ℕ → ℕ → List ℕ → List ℕ
 with6 d at bytes = set (with5 d at bytes) (at + 5) (getD bytes 5 0)
 
-abbrev pub with7 : List ℕ → ℕ → List ℕ → List ℕ
+abbrev with7 : List ℕ → ℕ → List ℕ → List ℕ
 with7 d at bytes = set (with6 d at bytes) (at + 6) (getD bytes 6 0)
 
 module _ (d : List ℕ) (at : ℕ) (bytes : List ℕ) (eight : length bytes ≡ 8) where

@@ -139,7 +139,7 @@ module _ (way : List ℕ) {g : ℕ → ℕ} (m : ℕ) (agrees : (h : ℕ) → h 
       ) (t (suc j) (omega arith))))
 
 -- a walk that is at h again after n steps meets no index but those of the n steps
-pub round-again : (g : ℕ → ℕ) (h n : ℕ) → 0 < n → back g n h ≡ h → (d : ℕ)
+round-again : (g : ℕ → ℕ) (h n : ℕ) → 0 < n → back g n h ≡ h → (d : ℕ)
     → (back g d h ≡ h) ⊎ ((j : ℕ) × (0 < j) × (j < n) × (back g j h ≡ back g d h))
 round-again g h n l e zero = inl refl
 round-again g h n l e (suc d) =
@@ -156,12 +156,12 @@ neither : (a b : Bool) → (a || b) ≡ false → (a ≡ false) × (b ≡ false)
 neither true b e = absurd-bool e
 neither false b e = (refl, e)
 
-pub forward-back : (R : Blocks) (n k : ℕ) → back R.next n (back R.previous n k) ≡ k
+forward-back : (R : Blocks) (n k : ℕ) → back R.next n (back R.previous n k) ≡ k
 forward-back R zero k = refl
 forward-back R (suc n) k =
     sym (back-shift R.next n _) ∙ ap (back R.next n) (R .next-previous (back R.previous n k)) ∙ forward-back R n k
 
-pub block-forward : (R : Blocks) (n h : ℕ) → R .block (back R.next n h) ≡ R .block h
+block-forward : (R : Blocks) (n h : ℕ) → R .block (back R.next n h) ≡ R .block h
 block-forward R zero h = refl
 block-forward R (suc n) h = block-next R _ ∙ block-forward R n h
 

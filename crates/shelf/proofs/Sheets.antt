@@ -14,14 +14,14 @@ use Rattle.combinatorics.proofs.Basics.{or-cases, or-left, or-right, same-or}
 use Rattle.combinatorics.specs.Lists.{all}
 use Rattle.shelf.specs.Shelf.{Replaces, entry, isReplaced, isShelf, names, namesRightly, sheets}
 
-pub all-sheets : (q : ℕ → Bool) (count : ℕ) → all q (sheets count) ≡ true → (k : ℕ) → 1 ≤ k → k ≤ count → q k ≡ true
+all-sheets : (q : ℕ → Bool) (count : ℕ) → all q (sheets count) ≡ true → (k : ℕ) → 1 ≤ k → k ≤ count → q k ≡ true
 all-sheets q zero a k l h = absurd (omega arith)
 all-sheets q (suc c) a k l h =
     ⊎-elim (λ (e : k ≡ suc c). rw e (and-left (q (suc c)) (all q (sheets c)) a))
     (λ (n : k ≡ suc c → ⊥). all-sheets q c (and-right (q (suc c)) (all q (sheets c)) a) k l (omega (arith, n)))
     (same-or k (suc c))
 
-pub sheets-all : (q : ℕ → Bool) (count : ℕ) → ((k : ℕ) → 1 ≤ k → k ≤ count → q k ≡ true) → all q (sheets count) ≡ true
+sheets-all : (q : ℕ → Bool) (count : ℕ) → ((k : ℕ) → 1 ≤ k → k ≤ count → q k ≡ true) → all q (sheets count) ≡ true
 sheets-all q zero f = refl
 sheets-all q (suc c) f = and-both (q (suc c)) (all q (sheets c)) (f (suc c) (omega arith) (omega arith))
     (sheets-all q c (λ k l h. f k l (omega arith)))

@@ -39,7 +39,7 @@ has-current list count sheet on =
       );
     }
 
-pub after-filing : (list : List ℕ) (count named new : ℕ) → filing list count named ≡ FiledAs new
+after-filing : (list : List ℕ) (count named new : ℕ) → filing list count named ≡ FiledAs new
     → AfterFiling list count named new
 after-filing list count named new filed =
     let may = filed-may list count named filed in

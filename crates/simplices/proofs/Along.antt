@@ -51,7 +51,7 @@ passed-at-most o zero k = omega arith
 passed-at-most [] (suc i) k = omega arith
 passed-at-most (h ∷ o) (suc i) k = omega (arith, occurs-more k h (take i o), occurs-more k h o, passed-at-most o i k)
 
-pub occurs-one : (o : List ℕ) → distinct eqb o ≡ true → (k : ℕ) → occurrences k o ≤ 1
+occurs-one : (o : List ℕ) → distinct eqb o ≡ true → (k : ℕ) → occurrences k o ≤ 1
 occurs-one o d k =
     ⊎-elim (λ t. omega (arith, occurs-once k o d t)) (λ f. omega (arith, never k o f)) (true-or-false (isIn eqb k o))
 

@@ -21,7 +21,7 @@ enough (suc f) zero n a b = rw (lt-ltb n 10 (omega arith))
 enough (suc f) (suc g) n a b = rw (enough f g (n / 10) (omega arith) (omega arith))
 
 -- the digits before the last are those of a tenth
-pub decimal-step : (n : ℕ) → decimal n ≡ cond (ltb n 10) [] (decimal (n / 10)) ++ (digit n ∷ [])
+decimal-step : (n : ℕ) → decimal n ≡ cond (ltb n 10) [] (decimal (n / 10)) ++ (digit n ∷ [])
 unfolding decimal digits
 decimal-step zero = refl
 decimal-step (suc n) = rw (enough n (suc n / 10) (suc n / 10) (omega arith) (omega arith))

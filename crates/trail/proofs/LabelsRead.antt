@@ -26,7 +26,7 @@ use Rattle.trail.specs.Trail.{isMove, begins, unlabelledPlaces, readOn, 
 use Rattle.trail.specs.Trail.{placesFrom, rebuiltPlaces}
 
 -- what a record at the front of the bytes leads to has that record
-pub leads-begins : (p : Problem) (a b : Simplex) (bytes : List ℕ) → rebuiltFrom p 1 a bytes ≡ some b
+leads-begins : (p : Problem) (a b : Simplex) (bytes : List ℕ) → rebuiltFrom p 1 a bytes ≡ some b
     → begins (recordOf p a b) bytes ≡ true
 unfolding readOn
 leads-begins p a b bytes e =
@@ -64,7 +64,7 @@ first-byte x r [] e = absurd-bool (sym e)
 first-byte x r (y ∷ bytes) e = sym (eqb-true x y (and-left (eqb x y) (begins r bytes) e))
 
 -- a point has come in exactly where bit 0 of the record stands
-pub came-byte : (p : Problem) (a b : Simplex) (bytes : List ℕ) → begins (recordOf p a b) bytes ≡ true
+came-byte : (p : Problem) (a b : Simplex) (bytes : List ℕ) → begins (recordOf p a b) bytes ≡ true
     → cond (pointCameIn a b) 1 0 ≡ getD bytes 0 0 % 2
 unfolding recordOf change
 came-byte p a b bytes e =
@@ -75,7 +75,7 @@ came-byte p a b bytes e =
     rw (byte, low-bit (concatMap bytes16 (map (position (p .grid)) (outside samePoint a b))), bit) refl
 
 -- the labels read of places that are alike as far as they are looked at
-pub came-same : (s t : List Simplex) (k : ℕ) → ((i : ℕ) → i ≤ k → getD s i [] ≡ getD t i []) → cameIn s k ≡ cameIn t k
+came-same : (s t : List Simplex) (k : ℕ) → ((i : ℕ) → i ≤ k → getD s i [] ≡ getD t i []) → cameIn s k ≡ cameIn t k
 came-same s t zero h = came-none s ∙ sym (came-none t)
 came-same s t (suc k) h = came-next s k
     ∙ rw (came-same s t k (λ i l. h i (omega arith)), h k (omega arith), h (suc k) (omega arith)) (sym (came-next t k))
@@ -95,12 +95,12 @@ unfolding rebuiltPlaces
 long-rebuilt p bytes n = length-map (upFrom 0 n) (λ i. placeIn (rebuilt p bytes (suc i))) ∙ length-upFrom 0 n
 
 -- the i-th place that is rebuilt
-pub nth-from : (p : Problem) (n : ℕ) (a : Simplex) (bytes : List ℕ) (i : ℕ) → i ≤ n
+nth-from : (p : Problem) (n : ℕ) (a : Simplex) (bytes : List ℕ) (i : ℕ) → i ≤ n
     → getD (placesFrom p n a bytes) i [] ≡ placeIn (rebuiltFrom p i a bytes)
 unfolding placesFrom
 nth-from p n a bytes i l = nth-map-up (λ i. placeIn (rebuiltFrom p i a bytes)) (suc n) i (omega arith)
 
-pub nth-rebuilt : (p : Problem) (bytes : List ℕ) (n i : ℕ) → i < n
+nth-rebuilt : (p : Problem) (bytes : List ℕ) (n i : ℕ) → i < n
     → getD (rebuiltPlaces p bytes n) i [] ≡ placeIn (rebuilt p bytes (suc i))
 unfolding rebuiltPlaces
 nth-rebuilt p bytes n i l = nth-map-up (λ i. placeIn (rebuilt p bytes (suc i))) n i l

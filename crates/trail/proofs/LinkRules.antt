@@ -53,7 +53,7 @@ module _ (u v : List ℕ) where
         (λ k m. ⊎-elim (λ (e : k ≡ g). rw e L.has) (λ ne. sym (L .rest k ne) ∙ m) (same-or k g)),
   )
 
-pub U-distinct : (p : Problem) (s : Simplex) → distinct eqb (setU p.grid s) ≡ true
+U-distinct : (p : Problem) (s : Simplex) → distinct eqb (setU p.grid s) ≡ true
 unfolding setU
 U-distinct p s = distinct-filter onNumbers (λ h. all (λ y. eqb (at y h) 0) s) (indices p.grid)
     (distinct-upFrom 0 (numIndices p.grid))
@@ -67,7 +67,7 @@ unfolding change
 change-is p a b ei eo et et' eu eu' = rw (ei, eo, et, et', eu, eu')
 
 -- the link back is the inverse rule
-pub rule-back : (p : Problem) (a b : Simplex) {r : ℕ} → ByRule (change p a b) r → ByRule (change p b a) (inverse r)
+rule-back : (p : Problem) (a b : Simplex) {r : ℕ} → ByRule (change p a b) r → ByRule (change p b a) (inverse r)
 unfolding change
 rule-back p a b m = back m
 

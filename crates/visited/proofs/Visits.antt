@@ -83,7 +83,7 @@ next-place s k l = rw (take-suc s k [] l)
     (concat-append (take k s) (placeAt s k ∷ [])
     ∙ ap (λ (x : List Point). pointsOfPlaces (take k s) ++ x) (append-nil (placeAt s k)))
 
-pub in-place : (y : Point) (s : List Simplex) (k : ℕ) → k < length s → isIn samePoint y (placeAt s k) ≡ true
+in-place : (y : Point) (s : List Simplex) (k : ℕ) → k < length s → isIn samePoint y (placeAt s k) ≡ true
     → isIn samePoint y (pointsOfPlaces s) ≡ true
 in-place y [] k l m = absurd (omega arith)
 in-place y (x ∷ s) zero l m = in-append-left onPoints y x (pointsOfPlaces s) m

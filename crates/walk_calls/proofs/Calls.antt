@@ -39,7 +39,7 @@ use Rattle.walk_ways.specs.declared.Next.{Next}
 use Rattle.walk_ways.specs.declared.Place.{Place}
 use Rattle.walk_ways.specs.declared.Walk.{Walk as WalkStruct}
 
-abbrev pub madeCall : Answer → List ℕ → WalkStruct → Call
+abbrev madeCall : Answer → List ℕ → WalkStruct → Call
 madeCall answer simplex walk = record { answer = answer; simplex = simplex; walk = walk }
 
 module _ (g : Grid) (w : WalkStruct) (labels : List ℕ) where

@@ -41,7 +41,7 @@ pub blend-bound : (z : List ℕ) (f : ℕ → ℕ) (b : ℕ) → ((k : ℕ) → 
 blend-bound [] f b h = omega arith
 blend-bound (x ∷ z) f b h = omega (arith, mul-le-mul-left x (h 0), blend-bound z (λ k. f (suc k)) b (λ k. h (suc k)))
 
-pub blend-append : (u v : List ℕ) (f : ℕ → ℕ) → blend (u ++ v) f ≡ blend u f + blend v (λ k. f (length u + k))
+blend-append : (u v : List ℕ) (f : ℕ → ℕ) → blend (u ++ v) f ≡ blend u f + blend v (λ k. f (length u + k))
 blend-append [] v f = blend-agree v f _ (λ k h. let z : 0 + k ≡ k = omega arith in sym (ap f z)) ∙ omega arith
 blend-append (x ∷ u) v f =
     let later = blend-agree v

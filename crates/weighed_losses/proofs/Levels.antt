@@ -43,7 +43,7 @@ block-before (s ∷ ss) zero (suc n) h = omega arith
 block-before (s ∷ ss) (suc i) (suc n) h = omega (arith, block-before ss i n (omega arith))
 
 -- points that agree before block l have the same mixes there
-pub mix-kept : (g : Grid) (y z : Point) (l : ℕ) → take (firstIndex g l) y ≡ take (firstIndex g l) z → (i : ℕ) → i < l
+mix-kept : (g : Grid) (y z : Point) (l : ℕ) → take (firstIndex g l) y ≡ take (firstIndex g l) z → (i : ℕ) → i < l
     → mix g y i ≡ mix g z i
 mix-kept g y z l e i h = map-range _ _ (firstIndex g i) (size g i) (λ t m.
     let low : firstIndex g i + t < firstIndex g l = omega (arith, block-before (g .sizes) i l h) in
