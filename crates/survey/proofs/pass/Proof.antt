@@ -9,14 +9,18 @@ use native.Mathlib.Omega.{arith}
 use Rattle.arrays.specs.Rounds.{roundOf}
 use Rattle.grid.proofs.Fields.{indices-few}
 use Rattle.grid.specs.Made.{shape}
+use Rattle.place.proofs.Filled.{filledTable}
 use Rattle.place.proofs.Theorem.{ended-path}
 use Rattle.place.specs.Path.{path as pathOf}
+use Rattle.place.specs.Problem.{Problem}
+use Rattle.rules.proofs.Follow.{NextAt}
+use Rattle.rules.specs.Read.{read}
 use Rattle.rules.specs.Ready.{Ready, SixteenEach}
-use Rattle.rules.specs.Step.{step as stepOf}
+use Rattle.rules.specs.Step.{After, Round, State, step as stepOf}
 use Rattle.moves.specs.Held.{stateOf}
 use Rattle.marks.specs.Reading.{tableOf}
 use Rattle.finder.proofs.Visits.{OnPath, begins, goes-on, leads, marks-back, read-back, visits}
-use Rattle.finder.specs.Finish.{problemIn}
+use Rattle.finder.specs.Finish.{IsKnown, problemIn}
 use Rattle.visited.proofs.Nearest.{grid-accepted}
 use Rattle.visited.specs.Distance.{distance}
 use Rattle.visited.specs.Visited.{verticesOf}
@@ -114,32 +118,154 @@ meet-requires c κs =
       ),
     )
 
-step-requires : tie.Need-step-requires Inv-loop μ-loop
-step-requires c κs =
-    let s = c .before .before .before .before .before .before .before .before .before .before .before .before .before
-    .before .before .before .before .before .before .before .before .before .before .before .before .before in
-    let a = s .args in
-    let x = s .pre in
+-- a place whose vertex has been met: the problem, the ways round the blocks, the state there, and its number
+abbrev Met : Type 0
+Met = tie.After-marks2 Inv-loop μ-loop
+
+abbrev problem : Met → Problem
+problem c =
+    let a = c .before .before .before .before .before .before .before .before .before .before .before .before .before
+    .before .before .before .before .before .before .before .before .before .before .before .before .before .args in
+    problemIn (a .g) (a .first .now) (a .table .now)
+
+abbrev round : Met → Round
+round c =
+    let a = c .before .before .before .before .before .before .before .before .before .before .before .before .before
+    .before .before .before .before .before .before .before .before .before .before .before .before .before .args in
+    roundOf (a .previous .now) (a .next .now) (a .sizes .now)
+
+abbrev place : Met → State
+place c =
     let l = c .before .before .before .before .before .before .before .before .before
     .before .before .before .before .before .before .before .before .before .loop in
-    let round = roundOf (a .previous .now) (a .next .now) (a .sizes .now) in
-    let place = stateOf round (l .first) (l .coefficients) (l .order) (l .marks) (l .s) in
-    let k = a .places - l .left in
-    let can = visits (a .g) (x .readable .made) (a .first .now) (a .table .now) (x .accepted) place k (l .inv .0)
-    (x .below)
+    stateOf (round c) (l .first) (l .coefficients) (l .order) (l .marks) (l .s)
+
+abbrev number : Met → ℕ
+number c =
+    c .before .before .before .before .before .before .before .before .before .before .before .before .before .before
+    .before .before .before .before .before .before .before .before .before .before .before .before .args .places
+    - c .before .before .before .before .before .before .before .before .before .before
+    .before .before .before .before .before .before .before .before .loop .left
+
+-- the state with the mark of the point that has come in
+abbrev marked : Met → State
+marked c =
+    let l = c .before .before .before .before .before .before .before .before .before
+    .before .before .before .before .before .before .before .before .before .loop in
+    stateOf (round c) (l .first) (l .coefficients) (l .order)
+    (c .before .before .before .before .before .before .before .before .before .before .before
+    .came-in .last .1 .1 .1 .1 .1 .1 .1 .1 .1 .0)
+    (l .s)
+
+-- its label is known, the path having an end
+known : (c : Met)
+    → let a = c .before .before .before .before .before .before .before .before .before .before .before .before .before
+    .before .before .before .before .before .before .before .before .before .before .before .before .before .args in
+    IsKnown (tableOf (a .g) (a .table .now)) (place c)
+known c =
+    let a = c .before .before .before .before .before .before .before .before .before .before .before .before .before
+    .before .before .before .before .before .before .before .before .before .before .before .before .before .args in
+    let x = c .before .before .before .before .before .before .before .before .before .before .before .before .before
+    .before .before .before .before .before .before .before .before .before .before .before .before .before .pre in
+    knows (a .g) (a .first .now) (a .table .now) (x .accepted) (place c) (number c)
+    (c .before .before .before .before .before .before .before .before .before .before
+    .before .before .before .before .before .before .before .before .loop .inv .0)
+    (ended-path (x .accepted) (x .ended) .1)
+
+read-is : (c : Met)
+    → let a = c .before .before .before .before .before .before .before .before .before .before .before .before .before
+    .before .before .before .before .before .before .before .before .before .before .before .before .before .args in
+    marked c ≡ read (tableOf (a .g) (a .table .now)) (place c)
+read-is c =
+    let a = c .before .before .before .before .before .before .before .before .before .before .before .before .before
+    .before .before .before .before .before .before .before .before .before .before .before .before .before .args in
+    let l = c .before .before .before .before .before .before .before .before .before
+    .before .before .before .before .before .before .before .before .before .loop in
+    ap
+    (λ (z : List ℕ). stateOf (round c) (l .first) (l .coefficients) (l .order) z (l .s))
+    (c .before .before .before .before .before .before .before .before .before .before .before .came-in .ensures .1)
+    ∙ marked-read (tableOf (a .g) (a .table .now)) (a .previous .now) (a .next .now) (a .sizes .now) (l .first)
+    (l .coefficients) (l .order) (l .marks) (l .s)
+    (computed (a .g) (a .first .now) (a .table .now)
+    (c .before .before .before .before .before .before .before .before .before .before .before .before .before .before
+    .before .before .before .before .before .before .before .before .before .before .before .before .pre .accepted)
+    (place c) (number c) (l .inv .0))
+
+-- where the move from there leads
+next : (c : Met) (after : After) → after ≡ stepOf (marked c) → NextAt (filledTable (problem c)) (number c) after
+next c after e =
+    let a = c .before .before .before .before .before .before .before .before .before .before .before .before .before
+    .before .before .before .before .before .before .before .before .before .before .before .before .before .args in
+    let x = c .before .before .before .before .before .before .before .before .before .before .before .before .before
+    .before .before .before .before .before .before .before .before .before .before .before .before .before .pre in
+    leads (a .g) (x .readable .made) (a .first .now) (a .table .now) (x .accepted) (place c) (number c)
+    (c .before .before .before .before .before .before .before .before .before .before
+    .before .before .before .before .before .before .before .before .loop .inv .0)
+    (known c) after (e ∙ ap stepOf (read-is c))
+
+-- what is kept with its vertex
+abbrev seenThen : Met → List ℕ
+seenThen c = c .before .before .before .before .before .before .meet .last .1 .1 .1 .1 .1 .1 .1 .1 .1 .1 .0
+
+abbrev listThen : Met → List ℕ
+listThen c = c .before .before .before .before .before .before .meet .last .1 .1 .1 .1 .1 .1 .1 .1 .1 .1 .1 .0
+
+met : (c : Met)
+    → let a = c .before .before .before .before .before .before .before .before .before .before .before .before .before
+    .before .before .before .before .before .before .before .before .before .before .before .before .before .args in
+    Kept (shape (a .g)) (a .w .now) (a .given) (a .list .now)
+    (verticesOf (take (suc (number c)) (pathOf (problem c) .visited))) (seenThen c) (listThen c)
+    (c .before .before .before .before .before .before .meet .result)
+met c =
+    let a = c .before .before .before .before .before .before .before .before .before .before .before .before .before
+    .before .before .before .before .before .before .before .before .before .before .before .before .before .args in
+    let x = c .before .before .before .before .before .before .before .before .before .before .before .before .before
+    .before .before .before .before .before .before .before .before .before .before .before .before .before .pre in
+    let H = c .before .before .before .before .before .before .meet .ensures (shape (a .g)) (x .measure) in
+    kept-met (a .g) (a .first .now) (a .table .now) (x .accepted) (place c) (number c)
+    (c .before .before .before .before .before .before .before .before .before .before
+    .before .before .before .before .before .before .before .before .loop .inv .0)
+    (a .w .now) (x .onGrid) (a .given) (a .list .now) (x .room)
+    (c .before .before .before .before .before .before .before .before .before .before
+    .before .before .before .before .before .before .before .before .loop .inv .3)
+    (c .before .before .before .before .before .before .before .before .before .before .before .came-in .ensures .0)
+    (H .tally) (H .marks) (H .written)
+
+list-stays : (c : Met)
+    → length (listThen c)
+    ≡ length
+    (c .before .before .before .before .before .before .before .before .before .before .before .before .before .before
+    .before .before .before .before .before .before .before .before .before .before .before .before .args .list .now)
+list-stays c =
+    let a = c .before .before .before .before .before .before .before .before .before .before .before .before .before
+    .before .before .before .before .before .before .before .before .before .before .before .before .before .args in
+    let l = c .before .before .before .before .before .before .before .before .before
+    .before .before .before .before .before .before .before .before .before .loop in
+    let H = c .before .before .before .before .before .before .meet .ensures (shape (a .g))
+    (c .before .before .before .before .before .before .before .before .before .before .before .before .before .before
+    .before .before .before .before .before .before .before .before .before .before .before .before .pre .measure) in
+    ap length (H .written)
+    ∙ list-long (a .given) (l .t) (distance (shape (a .g)) (a .w .now) (pointCome (shape (a .g)) (place c))) (l .seen)
+    (l .list)
+    (c .before .before .before .before .before .before .before .before .before .before .before .came-in .result)
+    ∙ l .inv .4
+
+step-requires : tie.Need-step-requires Inv-loop μ-loop
+step-requires c κs =
+    let a = c .before .before .before .before .before .before .before .before .before .before .before .before .before
+    .before .before .before .before .before .before .before .before .before .before .before .before .before .args in
+    let x = c .before .before .before .before .before .before .before .before .before .before .before .before .before
+    .before .before .before .before .before .before .before .before .before .before .before .before .before .pre in
+    let l = c .before .before .before .before .before .before .before .before .before
+    .before .before .before .before .before .before .before .before .before .loop in
+    let can = visits (a .g) (x .readable .made) (a .first .now) (a .table .now) (x .accepted) (place c) (number c)
+    (l .inv .0) (x .below)
     (c .before .before .before .before .before .before .before .before .before .before
     .before .before .before .before .before .before .before .before .before .tails .result)
     (c .before .before .before .before .before .before .before .before .before .before
     .before .before .before .before .before .before .before .before .before .tails .ensures) in
-    let known = knows (a .g) (a .first .now) (a .table .now) (x .accepted) place k (l .inv .0)
-    (ended-path (x .accepted) (x .ended) .1) in
-    let read-is =
-    ap
-    (λ (z : List ℕ). stateOf round (l .first) (l .coefficients) (l .order) z (l .s))
-    (c .before .before .before .before .before .before .before .before .before .before .before .came-in .ensures .1)
-    ∙ marked-read (tableOf (a .g) (a .table .now)) (a .previous .now) (a .next .now) (a .sizes .now) (l .first)
-    (l .coefficients) (l .order) (l .marks) (l .s)
-    (computed (a .g) (a .first .now) (a .table .now) (x .accepted) place k (l .inv .0)) in
+    let back =
+    stateOf (roundOf (a .previous .now) [] (a .sizes .now)) (l .first) (l .coefficients) (l .order) (l .marks) (l .s) in
     record {
       below = x .below;
       each = record {
@@ -148,12 +274,9 @@ step-requires c κs =
             ap length
             (c .before .before .before .before .before .before .before
             .before .before .before .before .came-in .ensures .1)
-            ∙ marked-long (tableOf (a .g) (a .table .now))
-            (stateOf (roundOf (a .previous .now) [] (a .sizes .now)) (l .first) (l .coefficients) (l .order) (l .marks)
-            (l .s))
-            (l .marks) (l .inv .2 .inMarks);
+            ∙ marked-long (tableOf (a .g) (a .table .now)) back (l .marks) (l .inv .2 .inMarks);
       };
-      ready = subst Ready (sym read-is) (can .ready known);
+      ready = subst Ready (sym (read-is c)) (can .ready (known c));
     }
 
 enum-known-status : tie.Need-enum-known-status Inv-loop μ-loop
@@ -163,144 +286,56 @@ enum-told : tie.Need-enum-told Inv-loop μ-loop
 enum-told c = search needs
 
 same-length : tie.Need-same-length Inv-loop μ-loop
-same-length c =
-    let s = c .before .before .before .before .before .before .before .before .before
-    .before .before .before .before .before .before .before .before .before .before
-    .before .before .before .before .before .before .before .before .before .before in
-    let a = s .args in
-    let x = s .pre in
-    let l = c .before .before .before .before .before .before .before .before .before .before .before
-    .before .before .before .before .before .before .before .before .before .before .loop in
-    let round = roundOf (a .previous .now) (a .next .now) (a .sizes .now) in
-    let place = stateOf round (l .first) (l .coefficients) (l .order) (l .marks) (l .s) in
-    let k = a .places - l .left in
-    let H = c .before .before .before .before .before .before .before .before .before .meet .ensures (shape (a .g))
-    (x .measure) in
-    ap length (H .written)
-    ∙ list-long (a .given) (l .t) (distance (shape (a .g)) (a .w .now) (pointCome (shape (a .g)) place)) (l .seen)
-    (l .list)
-    (c .before .before .before .before .before .before .before .before
-    .before .before .before .before .before .before .came-in .result)
-    ∙ l .inv .4
+same-length c = list-stays (c .before .before .before)
 
 returns : tie.Need-returns Inv-loop μ-loop
 returns c =
+    let m = c .before .before .before in
     let s = c .before .before .before .before .before .before .before .before .before
     .before .before .before .before .before .before .before .before .before .before
     .before .before .before .before .before .before .before .before .before .before in
     let a = s .args in
-    let x = s .pre in
-    let l = c .before .before .before .before .before .before .before .before .before .before .before
-    .before .before .before .before .before .before .before .before .before .before .loop in
-    let round = roundOf (a .previous .now) (a .next .now) (a .sizes .now) in
-    let place = stateOf round (l .first) (l .coefficients) (l .order) (l .marks) (l .s) in
-    let k = a .places - l .left in
-    let can = visits (a .g) (x .readable .made) (a .first .now) (a .table .now) (x .accepted) place k (l .inv .0)
-    (x .below)
-    (c .before .before .before .before .before .before .before .before .before .before .before .before
-    .before .before .before .before .before .before .before .before .before .before .tails .result)
-    (c .before .before .before .before .before .before .before .before .before .before .before .before
-    .before .before .before .before .before .before .before .before .before .before .tails .ensures) in
-    let known = knows (a .g) (a .first .now) (a .table .now) (x .accepted) place k (l .inv .0)
-    (ended-path (x .accepted) (x .ended) .1) in
-    let read-is =
-    ap
-    (λ (z : List ℕ). stateOf round (l .first) (l .coefficients) (l .order) z (l .s))
-    (c .before .before .before .before .before .before .before .before
-    .before .before .before .before .before .before .came-in .ensures .1)
-    ∙ marked-read (tableOf (a .g) (a .table .now)) (a .previous .now) (a .next .now) (a .sizes .now) (l .first)
-    (l .coefficients) (l .order) (l .marks) (l .s)
-    (computed (a .g) (a .first .now) (a .table .now) (x .accepted) place k (l .inv .0)) in
-    let H = c .before .before .before .before .before .before .before .before .before .meet .ensures (shape (a .g))
-    (x .measure) in
-    let K = kept-met (a .g) (a .first .now) (a .table .now) (x .accepted) place k (l .inv .0) (a .w .now) (x .onGrid)
-    (a .given) (a .list .now) (x .room) (l .inv .3)
-    (c .before .before .before .before .before .before .before .before
-    .before .before .before .before .before .before .came-in .ensures .0)
-    (H .tally) (H .marks) (H .written) in
+    let ok = s .pre .accepted in
     let G = rw (c .enum-told .given .1) at (c .before .before .step .ensures) in
-    let whole = last-place (a .g) (a .first .now) (a .table .now) (x .accepted) k _ _ (l .inv .0 .1)
-    (leads (a .g) (x .readable .made) (a .first .now) (a .table .now) (x .accepted) place k (l .inv .0) known _
-    (G .after ∙ ap stepOf read-is)) in
+    let whole = last-place (a .g) (a .first .now) (a .table .now) ok (number m) _ _
+    (c .before .before .before .before .before .before .before .before .before .before .before .before
+    .before .before .before .before .before .before .before .before .before .loop .inv .0 .1)
+    (next m _ (G .after)) in
     record {
-      nearest = met-nearest (a .g) (a .first .now) (a .table .now) (x .accepted) k whole (a .w .now) (a .given)
-          (a .list .now) K;
-      listed = met-listed (a .g) (a .first .now) (a .table .now) (x .accepted) k whole (a .w .now) (a .given)
-          (a .list .now) K;
-      written = met-written (a .g) (a .first .now) (a .table .now) (x .accepted) k whole (a .w .now) (a .given)
-          (a .list .now) K;
+      nearest = met-nearest (a .g) (a .first .now) (a .table .now) ok (number m) whole (a .w .now) (a .given)
+          (a .list .now) (met m);
+      listed = met-listed (a .g) (a .first .now) (a .table .now) ok (number m) whole (a .w .now) (a .given)
+          (a .list .now) (met m);
+      written = met-written (a .g) (a .first .now) (a .table .now) ok (number m) whole (a .w .now) (a .given)
+          (a .list .now) (met m);
     }
 
 enum-told-2 : tie.Need-enum-told-2 Inv-loop μ-loop
 enum-told-2 c = search needs
 
 same-length-2 : tie.Need-same-length-2 Inv-loop μ-loop
-same-length-2 c =
-    let s = c .before .before .before .before .before .before .before .before .before
-    .before .before .before .before .before .before .before .before .before .before
-    .before .before .before .before .before .before .before .before .before .before in
-    let a = s .args in
-    let x = s .pre in
-    let l = c .before .before .before .before .before .before .before .before .before .before .before
-    .before .before .before .before .before .before .before .before .before .before .loop in
-    let round = roundOf (a .previous .now) (a .next .now) (a .sizes .now) in
-    let place = stateOf round (l .first) (l .coefficients) (l .order) (l .marks) (l .s) in
-    let k = a .places - l .left in
-    let H = c .before .before .before .before .before .before .before .before .before .meet .ensures (shape (a .g))
-    (x .measure) in
-    ap length (H .written)
-    ∙ list-long (a .given) (l .t) (distance (shape (a .g)) (a .w .now) (pointCome (shape (a .g)) place)) (l .seen)
-    (l .list)
-    (c .before .before .before .before .before .before .before .before
-    .before .before .before .before .before .before .came-in .result)
-    ∙ l .inv .4
+same-length-2 c = list-stays (c .before .before .before)
 
 returns-2 : tie.Need-returns-2 Inv-loop μ-loop
 returns-2 c =
+    let m = c .before .before .before in
     let s = c .before .before .before .before .before .before .before .before .before
     .before .before .before .before .before .before .before .before .before .before
     .before .before .before .before .before .before .before .before .before .before in
     let a = s .args in
-    let x = s .pre in
-    let l = c .before .before .before .before .before .before .before .before .before .before .before
-    .before .before .before .before .before .before .before .before .before .before .loop in
-    let round = roundOf (a .previous .now) (a .next .now) (a .sizes .now) in
-    let place = stateOf round (l .first) (l .coefficients) (l .order) (l .marks) (l .s) in
-    let k = a .places - l .left in
-    let can = visits (a .g) (x .readable .made) (a .first .now) (a .table .now) (x .accepted) place k (l .inv .0)
-    (x .below)
-    (c .before .before .before .before .before .before .before .before .before .before .before .before
-    .before .before .before .before .before .before .before .before .before .before .tails .result)
-    (c .before .before .before .before .before .before .before .before .before .before .before .before
-    .before .before .before .before .before .before .before .before .before .before .tails .ensures) in
-    let known = knows (a .g) (a .first .now) (a .table .now) (x .accepted) place k (l .inv .0)
-    (ended-path (x .accepted) (x .ended) .1) in
-    let read-is =
-    ap
-    (λ (z : List ℕ). stateOf round (l .first) (l .coefficients) (l .order) z (l .s))
-    (c .before .before .before .before .before .before .before .before
-    .before .before .before .before .before .before .came-in .ensures .1)
-    ∙ marked-read (tableOf (a .g) (a .table .now)) (a .previous .now) (a .next .now) (a .sizes .now) (l .first)
-    (l .coefficients) (l .order) (l .marks) (l .s)
-    (computed (a .g) (a .first .now) (a .table .now) (x .accepted) place k (l .inv .0)) in
-    let H = c .before .before .before .before .before .before .before .before .before .meet .ensures (shape (a .g))
-    (x .measure) in
-    let K = kept-met (a .g) (a .first .now) (a .table .now) (x .accepted) place k (l .inv .0) (a .w .now) (x .onGrid)
-    (a .given) (a .list .now) (x .room) (l .inv .3)
-    (c .before .before .before .before .before .before .before .before
-    .before .before .before .before .before .before .came-in .ensures .0)
-    (H .tally) (H .marks) (H .written) in
+    let ok = s .pre .accepted in
     let G = rw (c .enum-told2 .given .1) at (c .before .before .step .ensures) in
-    let whole = last-facet (a .g) (a .first .now) (a .table .now) (x .accepted) k _ _ (l .inv .0 .1)
-    (leads (a .g) (x .readable .made) (a .first .now) (a .table .now) (x .accepted) place k (l .inv .0) known _
-    (G .after ∙ ap stepOf read-is)) in
+    let whole = last-facet (a .g) (a .first .now) (a .table .now) ok (number m) _ _
+    (c .before .before .before .before .before .before .before .before .before .before .before .before
+    .before .before .before .before .before .before .before .before .before .loop .inv .0 .1)
+    (next m _ (G .after)) in
     record {
-      nearest = met-nearest (a .g) (a .first .now) (a .table .now) (x .accepted) k whole (a .w .now) (a .given)
-          (a .list .now) K;
-      listed = met-listed (a .g) (a .first .now) (a .table .now) (x .accepted) k whole (a .w .now) (a .given)
-          (a .list .now) K;
-      written = met-written (a .g) (a .first .now) (a .table .now) (x .accepted) k whole (a .w .now) (a .given)
-          (a .list .now) K;
+      nearest = met-nearest (a .g) (a .first .now) (a .table .now) ok (number m) whole (a .w .now) (a .given)
+          (a .list .now) (met m);
+      listed = met-listed (a .g) (a .first .now) (a .table .now) ok (number m) whole (a .w .now) (a .given)
+          (a .list .now) (met m);
+      written = met-written (a .g) (a .first .now) (a .table .now) ok (number m) whole (a .w .now) (a .given)
+          (a .list .now) (met m);
     }
 
 sub-left : tie.Need-sub-left Inv-loop μ-loop
@@ -319,6 +354,7 @@ loop-less c = omega (
 
 loop-again : tie.Need-loop-again Inv-loop μ-loop
 loop-again c =
+    let m = c .before .before .before .before in
     let s = c .before .before .before .before .before .before .before .before .before .before
     .before .before .before .before .before .before .before .before .before .before .before
     .before .before .before .before .before .before .before .before .before in
@@ -326,50 +362,19 @@ loop-again c =
     let x = s .pre in
     let l = c .before .before .before .before .before .before .before .before .before .before .before
     .before .before .before .before .before .before .before .before .before .before .before .loop in
-    let round = roundOf (a .previous .now) (a .next .now) (a .sizes .now) in
-    let place = stateOf round (l .first) (l .coefficients) (l .order) (l .marks) (l .s) in
-    let k = a .places - l .left in
-    let can = visits (a .g) (x .readable .made) (a .first .now) (a .table .now) (x .accepted) place k (l .inv .0)
-    (x .below)
-    (c .before .before .before .before .before .before .before .before .before .before .before .before
-    .before .before .before .before .before .before .before .before .before .before .before .tails .result)
-    (c .before .before .before .before .before .before .before .before .before .before .before .before
-    .before .before .before .before .before .before .before .before .before .before .before .tails .ensures) in
-    let known = knows (a .g) (a .first .now) (a .table .now) (x .accepted) place k (l .inv .0)
-    (ended-path (x .accepted) (x .ended) .1) in
-    let read-is =
-    ap
-    (λ (z : List ℕ). stateOf round (l .first) (l .coefficients) (l .order) z (l .s))
-    (c .before .before .before .before .before .before .before .before .before
-    .before .before .before .before .before .before .came-in .ensures .1)
-    ∙ marked-read (tableOf (a .g) (a .table .now)) (a .previous .now) (a .next .now) (a .sizes .now) (l .first)
-    (l .coefficients) (l .order) (l .marks) (l .s)
-    (computed (a .g) (a .first .now) (a .table .now) (x .accepted) place k (l .inv .0)) in
-    let H = c .before .before .before .before .before .before .before .before .before .before .meet .ensures
-    (shape (a .g)) (x .measure) in
-    let K = kept-met (a .g) (a .first .now) (a .table .now) (x .accepted) place k (l .inv .0) (a .w .now) (x .onGrid)
-    (a .given) (a .list .now) (x .room) (l .inv .3)
-    (c .before .before .before .before .before .before .before .before .before
-    .before .before .before .before .before .before .came-in .ensures .0)
-    (H .tally) (H .marks) (H .written) in
-    let test = c .before .before .before .before .before .before .before .before .before .before .before
-    .before .before .before .before .before .before .before .before .before .before .loop-test .taken in
     let G = rw (c .before .status .given .1) at (c .before .before .before .step .ensures) in
-    let e : a .places - (l .left - 1) ≡ suc k = omega (arith, l .inv .1, test) in
-    let H = c .before .before .before .before .before .before .before .before .before .before .meet .ensures
-    (shape (a .g)) (x .measure) in (
-      rw e (goes-on (a .g) (x .readable .made) (a .first .now) (a .table .now) (x .accepted) place k (l .inv .0) known
-          (leads (a .g) (x .readable .made) (a .first .now) (a .table .now) (x .accepted) place k (l .inv .0) known _
-          (G .after ∙ ap stepOf read-is))),
+    let e : a .places - (l .left - 1) ≡ suc (number m) = omega (
+      arith,
+      l .inv .1,
+      c .before .before .before .before .before .before .before .before .before .before .before
+          .before .before .before .before .before .before .before .before .before .before .loop-test .taken,
+    ) in (
+      rw e (goes-on (a .g) (x .readable .made) (a .first .now) (a .table .now) (x .accepted) (place m) (number m)
+          (l .inv .0) (known m) (next m _ (G .after))),
       omega (arith, l .inv .1),
       G .each,
-      rw e K,
-      ap length (H .written)
-          ∙ list-long (a .given) (l .t) (distance (shape (a .g)) (a .w .now) (pointCome (shape (a .g)) place)) (l .seen)
-          (l .list)
-          (c .before .before .before .before .before .before .before .before
-          .before .before .before .before .before .before .before .came-in .result)
-          ∙ l .inv .4,
+      rw e (met m),
+      list-stays m,
     )
 
 same-length-3 : tie.Need-same-length-3 Inv-loop μ-loop
