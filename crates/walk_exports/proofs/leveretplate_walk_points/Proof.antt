@@ -4,7 +4,7 @@ use mathlib.Core.Path.{refl}
 use contract.Running.{givenOf, tables, tablesOf}
 use denote.Triple.Spec.{tripleOf}
 use denote.Triple.Table.{entered, cited}
-use Rattle.lending.proofs.OneSlice.{Stepped, lends}
+use Rattle.lent_structs.proofs.OneSlice.{Stepped, lends}
 use Rattle.walk_steps.specs.Steps.{pointedStep}
 use Rattle.walk_steps.proofs.Step as T
 use Rattle.walk_steps.proofs.Step.Laws as T′
