@@ -133,7 +133,7 @@ impl Benchmark {
         self.print(&name, "place", places, &mut calls);
     }
 
-    /// The call that reports where the path came nearest, beside the run alone: the most that it may take is 3 times as long.
+    /// The call that reports where the path came nearest, beside the run alone: at most 3 times as long was aimed at.
     fn near(&self, name: &str, call: &NearCall) {
         if !name.contains(&self.text) {
             return;
