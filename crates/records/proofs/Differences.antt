@@ -11,7 +11,7 @@ use native.Mathlib.Omega.{arith}
 use Rattle.combinatorics.proofs.Basics.{absurd-bool, same-or, true-or-false}
 use Rattle.rules.specs.Mask.{bit}
 use Rattle.rules.proofs.SameMasks.{same-mask}
-use Rattle.records.specs.Records.{differingFrom, differing, recordFrom}
+use Rattle.records.specs.Records.{SameSets, differingFrom, differing, keptRecord, recordFrom}
 
 beq-unlike : (x y : Bool) → (x ≡ y → ⊥) → Bool·beq x y ≡ false
 beq-unlike true true n = absurd (n refl)
@@ -114,5 +114,11 @@ record-length T U T' U' y z =
     (true-or-false (eqb h 16))
 
 -- so it is the same, whatever points come in and go out
-pub length-alike : (T U T' U' y z z' : ℕ) → length (recordFrom T U T' U' y z) ≡ length (recordFrom T U T' U' y z')
-length-alike T U T' U' y z z' = record-length T U T' U' y z ∙ sym (record-length T U T' U' y z')
+pub length-alike : (T U T' U' y z y' z' : ℕ)
+    → length (recordFrom T U T' U' y z) ≡ length (recordFrom T U T' U' y' z')
+length-alike T U T' U' y z y' z' = record-length T U T' U' y z ∙ sym (record-length T U T' U' y' z')
+
+-- where both are kept, it is the record of rule 1
+pub same-record : (T U T' U' y z : ℕ) → SameSets T U T' U' → recordFrom T U T' U' y z ≡ keptRecord y z
+unfolding recordFrom
+same-record T U T' U' y z S = rw (S .inT, S .inU)

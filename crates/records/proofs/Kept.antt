@@ -2,9 +2,9 @@
 use mathlib.Core.Bool.{Bool, true, false, not, _&&_, cond}
 use mathlib.Core.Logic.{⊎-elim}
 use mathlib.Core.Path.{_≡_, refl, sym, _∙_, subst}
-use Prim.Native.Nat.{ℕ, zero, suc, _-_, _≤_, _<_}
+use Prim.Native.Nat.{ℕ, suc, _-_, _≤_, _<_}
 use borrow.Author.Tests.{eq-eqb, ne-eqb, lt-ltb, le-ltb}
-use lib.Dec.{eqb, ltb}
+use lib.Dec.{eqb}
 use lib.ListN.{length}
 use native.Mathlib.Omega.{arith}
 use Rattle.combinatorics.proofs.Basics.{before-or-not, same-or, true-or-false}
@@ -13,10 +13,10 @@ use Rattle.combinatorics.proofs.EditsOfArrays.{found-low}
 use Rattle.combinatorics.proofs.EditsRemove.{length-removeAt, length-rotateRight, length-swapAt, removeAt-before}
 use Rattle.combinatorics.proofs.EditsRemove.{removeAt-behind, rotateRight-later}
 use Rattle.combinatorics.proofs.EditsRotate.{length-rotateLeft, rotateLeft-before}
-use Rattle.combinatorics.specs.Edits.{found, insertAt, removeAt, rotateLeft, rotateRight, swapAt}
+use Rattle.combinatorics.specs.Edits.{found}
 use Rattle.grid.specs.Grid.{at}
 use Rattle.rules.specs.Mask.{bit}
-use Rattle.rules.specs.Step.{State, After, goes, endsAtPlace, endsAtFacet, firstOutside, firstOutsideOrZero, grow}
+use Rattle.rules.specs.Step.{State, After, goes, endsAtPlace, endsAtFacet, firstOutside, grow}
 use Rattle.rules.specs.Step.{isFilled, joined, leave, leaveFirst, leaveLast, leaveMiddle, shrink, sourceIn}
 
 -- mark j of s is a mark of e, and not that of a point which has come in

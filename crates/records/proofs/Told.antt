@@ -14,7 +14,6 @@ use Rattle.combinatorics.proofs.Basics.{absurd-bool, both, true-or-false}
 use Rattle.combinatorics.proofs.Fronts.{front-taken}
 use Rattle.combinatorics.proofs.Lists.{onNumbers}
 use Rattle.combinatorics.specs.Lists.{isIn}
-use Rattle.geometry.proofs.Definitions.{Less}
 use Rattle.place.specs.Places.{Simplex, setT, setU}
 use Rattle.place.specs.Problem.{Problem}
 use Rattle.rules.specs.Mask.{bit}

@@ -21,7 +21,11 @@ differingFrom a b (suc n) h = let later = differingFrom a b n (suc h) in cond (B
 abbrev pub differing : ℕ → ℕ → ℕ
 differing a b = differingFrom a b 16 0
 
--- T and U are kept
+-- T and U are kept: their masks are alike
+pub record SameSets (T U T' U' : ℕ) : Type 0 where
+  pub inT : differing T T' ≡ 16
+  pub inU : differing U U' ≡ 16
+
 abbrev pub keptRecord : ℕ → ℕ → List ℕ
 keptRecord y z = 67 ∷ bytes16 y ++ bytes16 z ++ (1 ∷ [])
 

@@ -69,21 +69,33 @@ fn alike(a: u16, b: u16) -> bool
     a == b
 }
 
-// T is kept: rules 1 to 3, by what U does.
-fn exchanged(before: u16, after: u16, come: usize, gone: usize) -> Record
+// T and U are kept: rule 1, by which most places of a long path are reached.
+pub fn kept_record(come: usize, gone: usize) -> Record
     requires { ⌜ (come < 65536) × (gone < 65536) ⌝ }
-    ensures { λ r. ⌜ IsRecord (exchangedRecord before after come gone) r ⌝ }
+    ensures { λ r. ⌜ IsRecord (keptRecord come gone) r ⌝ }
 {
     let a = low_byte(come);
     let b = high_byte(come);
     let c = low_byte(gone);
     let d = high_byte(gone);
-    if alike(before, after) {
-        return Record {
-            bytes: [67, a, b, c, d, 1, 0, 0],
-            length: 6,
-        };
+    Record {
+        bytes: [67, a, b, c, d, 1, 0, 0],
+        length: 6,
     }
+}
+
+// T is kept: rules 1 to 3, by what U does.
+fn exchanged(before: u16, after: u16, come: usize, gone: usize) -> Record
+    requires { ⌜ (come < 65536) × (gone < 65536) ⌝ }
+    ensures { λ r. ⌜ IsRecord (exchangedRecord before after come gone) r ⌝ }
+{
+    if alike(before, after) {
+        return kept_record(come, gone);
+    }
+    let a = low_byte(come);
+    let b = high_byte(come);
+    let c = low_byte(gone);
+    let d = high_byte(gone);
     let h = difference(before, after);
     let i = from_one(h);
     if has(after, h) {

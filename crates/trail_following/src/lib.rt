@@ -6,13 +6,17 @@ ghost use lib.ListN.{getD, length};
 ghost use Rattle.arrays.specs.Rounds.{round};
 ghost use Rattle.moves.specs.Held.{held, stateOf};
 ghost use Rattle.rules.specs.Step.{State};
-ghost use Rattle.trail_steps.specs.Ways.{CanGoOn};
+ghost use Rattle.trail_steps.specs.Reading.{CanGoOn};
 ghost use Rattle.trail_following.specs.Reached.{ReachesFrom};
 use grid::Grid;
+use moves::Outcome;
 use moves::Status;
 use positions::ENTRIES;
-use trail_steps::Next;
-use trail_steps::next_place;
+use records::Sets;
+use trail_steps::arrive;
+use trail_steps::way_on;
+use ways::gone_by;
+use ways::moved_by;
 
 // Where the records lead: to a place, with the number of them that bring a point in; or nowhere.
 pub enum Reached {
@@ -59,10 +63,10 @@ pub fn follow(
     let mut came = 0u64;
     let mut left = number;
     while 0 < left {
-        let step = next_place(
-            g,
-            binomials,
-            tails,
+        let way = way_on(trail, at, marks, s, g.indices);
+        let gone = gone_by(way, marks, s);
+        let before = Sets { t: s.t, u: s.u };
+        let outcome = moved_by(
             previous,
             next,
             sizes,
@@ -71,20 +75,39 @@ pub fn follow(
             order,
             marks,
             s,
-            trail,
-            at,
+            way,
         );
-        match step {
-            Next::At { status, bytes } => {
-                s = status;
-                came += low_bit(trail, at);
-                at += bytes;
-            }
-            Next::Nowhere => {
+        left -= 1;
+        if let Outcome::PlaceEnd(_) = outcome {
+            return Reached::Nowhere;
+        }
+        if let Outcome::FacetEnd(_) = outcome {
+            return Reached::Nowhere;
+        }
+        if let Outcome::Moved(status) = outcome {
+            let bytes = arrive(
+                g,
+                binomials,
+                tails,
+                previous,
+                sizes,
+                first,
+                coefficients,
+                order,
+                marks,
+                before,
+                status,
+                gone,
+                trail,
+                at,
+            );
+            if bytes == 0 {
                 return Reached::Nowhere;
             }
+            s = status;
+            came += low_bit(trail, at);
+            at += bytes;
         }
-        left -= 1;
     }
     Reached::At { status: s, came }
 }

@@ -35,7 +35,7 @@ use Rattle.rules.specs.Step.{Round, begun}
 use Rattle.trail.proofs.Reading.{T-alike}
 use Rattle.trail.proofs.Tables.{Labelled, some-index, some-table}
 use Rattle.trail_places.specs.Shows.{Shows, bare}
-use Rattle.trail_steps.specs.Ways.{HasRead, problemBy}
+use Rattle.trail_steps.specs.Reading.{HasRead, problemBy}
 
 module _ (g : GridStruct) (made : IsMade g) (first : List ℕ) (ok : Settled (problemBy g (take (g .indices) first)))
     (previous next sizes order : List ℕ) (N : IsRound (shape g) (roundOf previous next sizes))

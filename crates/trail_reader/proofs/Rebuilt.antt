@@ -43,7 +43,7 @@ use Rattle.trail_places.proofs.Shows.{describes, shows-long}
 use Rattle.trail_places.specs.Shows.{Shows}
 use Rattle.trail_steps.proofs.Arrived.{mask-T, mask-U}
 use Rattle.trail_steps.proofs.Named.{shows-few}
-use Rattle.trail_steps.specs.Ways.{problemBy}
+use Rattle.trail_steps.specs.Reading.{problemBy}
 use Rattle.trail_reader.proofs.Masks.{mask-is}
 use Rattle.trail_reader.specs.Reading.{caseOf, isPlaced, maskOf, numbersOf, question17, readAnswer, readPoints}
 use Rattle.trail_reader.specs.Reading.{readQuestions, startQuestions}

@@ -14,7 +14,7 @@ use Rattle.rules.specs.Read.{numbersFrom}
 use Rattle.rules.specs.Ready.{IsRound, RoundBelow}
 use Rattle.rules.specs.Step.{Round, State}
 use Rattle.trail.specs.Trail.{reading}
-use Rattle.trail_steps.specs.Ways.{problemBy}
+use Rattle.trail_steps.specs.Reading.{problemBy}
 use Rattle.trail_reader.specs.Reading.{caseOf, numbersOf}
 use Rattle.trail_reader.specs.declared.answers.Answer.the-variants.{Place}
 use Rattle.trail_reader.specs.declared.answers.Reading.{Reading}

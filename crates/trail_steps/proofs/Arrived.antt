@@ -1,17 +1,17 @@
 -- One record of a reading. In order: the record that the state before and after tells is that of the place; where it
 -- stands, the reading goes on, and else there is no record. Assumes nothing.
-use mathlib.Core.Bool.{Bool, true, false, _&&_, cond}
+use mathlib.Core.Bool.{Bool, true, false, _&&_}
 use mathlib.Core.List.{List, [], _∷_, map}
 use mathlib.Core.Logic.{⊎-elim}
 use mathlib.Core.Option.{none}
-use mathlib.Core.Path.{_≡_, refl, sym, ap, _∙_, subst}
+use mathlib.Core.Path.{_≡_, sym, ap, _∙_, subst}
 use Prim.Native.Nat.{ℕ, suc, _+_, _-_, _*_, _/_, _%_, _≤_, _<_}
-use borrow.Author.Tests.{le-ltb, leb-true, lt-ltb, ltb-true}
+use borrow.Author.Tests.{leb-true, ltb-true}
 use lib.Dec.{eqb, leb, ltb}
-use lib.ListN.{drop, getD, length, length-append, length-drop, length-map}
+use lib.ListN.{drop, getD, length, length-append, length-map}
 use native.Mathlib.Omega.{arith}
 use Rattle.combinatorics.proofs.Basics.{absurd-bool, and-left, and-right, before-or-not, true-or-false}
-use Rattle.combinatorics.proofs.Lists.{all-in, in-cases, in-here}
+use Rattle.combinatorics.proofs.Lists.{all-in, in-cases}
 use Rattle.combinatorics.specs.Edits.{found}
 use Rattle.combinatorics.specs.Lists.{isIn}
 use Rattle.geometry.proofs.Points.{nth}
@@ -27,10 +27,10 @@ use Rattle.place.specs.Problem.{Problem}
 use Rattle.records.proofs.Told.{IsMask, told}
 use Rattle.records.specs.Records.{recordFrom}
 use Rattle.rules.specs.Mask.{bit}
-use Rattle.rules.specs.Read.{pointIn, positionAt}
+use Rattle.rules.specs.Read.{positionAt}
 use Rattle.rules.specs.Step.{After, State, endsAtFacet, endsAtPlace, goes, markPosition}
 use Rattle.trail.proofs.OneNext.{into-tells, out-tells}
-use Rattle.trail.proofs.Outside.{in-outside, outside-in}
+use Rattle.trail.proofs.Outside.{in-outside}
 use Rattle.trail.proofs.Reading.{reads-none, reads-on}
 use Rattle.trail.proofs.Tables.{some-index, some-table}
 use Rattle.trail.proofs.Tells.{begins-with}
@@ -41,11 +41,12 @@ use Rattle.trail_places.proofs.Moves.{BringsIn, JoinsTo, LeavesTo, TakesOut, gr
 use Rattle.trail_places.proofs.Moves.{leave-leads, leavesNone, leavesOn, ready-grow, ready-leave}
 use Rattle.trail_places.proofs.Reached.{Arrives, stored}
 use Rattle.trail_places.proofs.Shows.{chain-over, shows-long}
-use Rattle.trail_places.specs.Shows.{Shows, bare}
+use Rattle.trail_places.specs.Shows.{Shows}
 use Rattle.trail_steps.proofs.Named.{Names, brings, mapped-one, names, position-at, takes}
-use Rattle.trail_steps.specs.Ways.{CanMove, goneBy, joining, leaving, wayAfter, wayOf}
-use Rattle.trail_steps.specs.declared.Way.{Way}
-use Rattle.trail_steps.specs.declared.Way.the-variants.{Joins, Leaves, Nothing}
+use Rattle.trail_steps.specs.Reading.{joining, leaving, wayOf}
+use Rattle.ways.specs.Ways.{CanMove, goneBy, wayAfter}
+use Rattle.ways.specs.declared.Way.{Way}
+use Rattle.ways.specs.declared.Way.the-variants.{Joins, Leaves, Nothing}
 
 pub position-low : {p : Problem} → Settled p → (y : Point) → isGridPoint (p .grid) y ≡ true
     → position (p .grid) y < 65536

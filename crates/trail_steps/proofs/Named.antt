@@ -1,15 +1,15 @@
 -- The way that bytes name is that of the record which they begin with, if any. Assumes nothing.
-use mathlib.Core.Bool.{Bool, true, false, _&&_, cond}
+use mathlib.Core.Bool.{Bool, true, false}
 use mathlib.Core.List.{List, [], _∷_, _++_, map}
 use mathlib.Core.Logic.{⊎-elim}
 use mathlib.Core.Path.{_≡_, refl, sym, ap, _∙_, subst}
 use Prim.Native.Nat.{ℕ, zero, suc, _+_, _-_, _*_, _/_, _%_, _≤_, _<_}
 use borrow.Author.Tests.{eq-eqb, le-leb, lt-ltb, ne-eqb}
-use lib.Dec.{eqb, leb, ltb}
-use lib.ListN.{drop, getD, length, length-append, length-map}
+use lib.Dec.{eqb}
+use lib.ListN.{drop, getD, length, length-map}
 use native.Mathlib.Omega.{arith}
-use Rattle.combinatorics.proofs.Basics.{absurd-bool, before-or-not}
-use Rattle.combinatorics.proofs.EditsRemove.{Found, found-is}
+use Rattle.combinatorics.proofs.Basics.{before-or-not}
+use Rattle.combinatorics.proofs.EditsRemove.{found-is}
 use Rattle.combinatorics.proofs.Lists.{all-in, in-here, onNumbers}
 use Rattle.combinatorics.specs.Edits.{found}
 use Rattle.combinatorics.specs.Lists.{isIn}
@@ -22,7 +22,6 @@ use Rattle.place.proofs.Positions.{at-in, in-at}
 use Rattle.place.specs.Demand.{Settled}
 use Rattle.place.specs.Places.{Simplex, setT}
 use Rattle.place.specs.Problem.{Problem}
-use Rattle.rules.specs.Mask.{bit}
 use Rattle.rules.specs.Ready.{IndicesBelow}
 use Rattle.rules.specs.Step.{State, mark, markPosition}
 use Rattle.trail.proofs.Outside.{none-of, outside-in}
@@ -35,9 +34,9 @@ use Rattle.trail.specs.Trail.{begins, isMove}
 use Rattle.trail_places.proofs.Moves.{BringsIn, TakesOut, alone, ready-leave}
 use Rattle.trail_places.proofs.Shows.{shows-long}
 use Rattle.trail_places.specs.Shows.{Shows, bare}
-use Rattle.trail_steps.specs.Ways.{joining, leaving, wayOf}
-use Rattle.trail_steps.specs.declared.Way.{Way}
-use Rattle.trail_steps.specs.declared.Way.the-variants.{Joins, Leaves, Nothing}
+use Rattle.trail_steps.specs.Reading.{joining, leaving, wayOf}
+use Rattle.ways.specs.declared.Way.{Way}
+use Rattle.ways.specs.declared.Way.the-variants.{Joins, Leaves}
 
 -- a way is that of a move to b
 pub data Names (p : Problem) (a b : Simplex) (t : ℕ) (T : ℕ → Bool) : Way → Type 0 where

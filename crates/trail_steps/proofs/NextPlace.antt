@@ -4,7 +4,7 @@ use mathlib.Core.List.{List, [], _∷_}
 use mathlib.Core.Logic.{⊎-elim}
 use mathlib.Core.Option.{none}
 use mathlib.Core.Path.{_≡_, refl, sym, ap, _∙_, subst}
-use Prim.Native.Nat.{ℕ, suc, _+_, _-_, _*_, _≤_, _<_}
+use Prim.Native.Nat.{ℕ, suc, _-_, _*_, _≤_, _<_}
 use borrow.Author.Tests.{le-ltb, lt-ltb}
 use lib.Dec.{ltb}
 use lib.ListN.{drop, length, length-drop, length-set, set, take}
@@ -15,11 +15,10 @@ use Rattle.combinatorics.proofs.Basics.{before-or-not}
 use Rattle.combinatorics.proofs.EditsOfArrays.{counted}
 use Rattle.finder.proofs.Visits.{marks-back}
 use Rattle.geometry.proofs.Points.{nth}
-use Rattle.grid.proofs.Fields.{made-blocks, made-indices}
-use Rattle.grid.specs.Grid.{at, numIndices, position}
-use Rattle.grid.specs.Made.{IsMade, shape}
+use Rattle.grid.proofs.Fields.{made-blocks}
+use Rattle.grid.specs.Grid.{at, position}
+use Rattle.grid.specs.Made.{IsMade}
 use Rattle.grid.specs.declared.Grid.{Grid as GridStruct}
-use Rattle.marks.specs.Reading.{CanRead, HasMarks}
 use Rattle.moves.specs.Held.{stateOf}
 use Rattle.moves.specs.declared.Status.{Status}
 use Rattle.place.specs.Places.{Simplex}
@@ -32,16 +31,12 @@ use Rattle.trail.specs.Change.{change}
 use Rattle.trail.specs.Record.{recordOf}
 use Rattle.trail.specs.Trail.{begins, rebuiltFrom}
 use Rattle.trail_places.proofs.Reached.{Arrives, stored}
-use Rattle.trail_places.specs.Shows.{Shows, bare}
+use Rattle.trail_places.specs.Shows.{Shows}
 use Rattle.trail_steps.proofs.Arrived.{OnlyPlace, WayLeads, goes-on, inside, leadsNowhere, leadsOn, not-there}
 use Rattle.trail_steps.proofs.Arrived.{position-low, record-is}
 use Rattle.trail_steps.proofs.Named.{shows-few}
-use Rattle.trail_steps.specs.Ways.{CanFind, GoesTo, HasRead, Leads, Stands, comeIn, goneBy, problemBy, recordMade}
-use Rattle.trail_steps.specs.Ways.{wayOf}
-use Rattle.trail_steps.specs.declared.Next.{Next}
-use Rattle.trail_steps.specs.declared.Next.the-variants.{At, Nowhere}
-use Rattle.trail_steps.specs.declared.Way.{Way}
-use Rattle.trail_steps.specs.declared.Way.the-variants.{Joins, Leaves, Nothing}
+use Rattle.trail_steps.specs.Reading.{CanFind, HasRead, Leads, comeIn, marksWith, problemBy, recordMade}
+use Rattle.trail_steps.specs.Reading.{wayOf}
 
 -- what the marks and the status alone tell is what the state tells
 pub same-way : (m n : ℕ) (round : Round) (first coefficients order marks : List ℕ) (s : Status) (bytes : List ℕ)
@@ -49,12 +44,6 @@ pub same-way : (m n : ℕ) (round : Round) (first coefficients order marks : Lis
     ≡ wayOf m n (stateOf round first coefficients order marks s) bytes
 unfolding wayOf
 same-way m n round first coefficients order marks s bytes = refl
-
-pub same-gone : (round : Round) (first coefficients order marks : List ℕ) (s : Status) (w : Way)
-    → goneBy (stateOf noRound [] [] [] marks s) w ≡ goneBy (stateOf round first coefficients order marks s) w
-same-gone round first coefficients order marks s (Leaves i) = refl
-same-gone round first coefficients order marks s (Joins h) = refl
-same-gone round first coefficients order marks s Nothing = refl
 
 -- the mark that is stored in its array
 stored-in : (round : Round) (first coefficients order marks : List ℕ) (s : Status) (c : ℕ)
@@ -125,27 +114,28 @@ module _ (g : GridStruct) (made : IsMade g) (start tails : List ℕ) {a : Simple
       module _ (O : OnlyPlace (H .settled) (H .shows) (drop at trail) n count b)
           (out : (x : ℕ) → change p a b .pointsOut ≡ x ∷ [] → gone ≡ x) (before : Sets) (t : before .t ≡ s .T)
           (u : before .u ≡ s .U) (low : at ≤ length trail) where
-        pub to : (new : List ℕ) (r : Next) → Stands g back before gone (drop at trail) status marks new r
-            → GoesTo g start trail a at order new (stateOf (roundOf previous next sizes) first coefficients order new) r
-        to new (At status' bytes) W =
+        -- the bytes begin with the record, and it leads to the place
+        pub to-next : (new : List ℕ) → new ≡ marksWith g back marks
+            → begins (recordMade g back before gone) (drop at trail) ≡ true
+            → (bytes : ℕ) → bytes ≡ length (recordMade g back before gone)
+            → Leads g start trail a at order new (stateOf (roundOf previous next sizes) first coefficients order new status)
+            (status .count) bytes
+        to-next new m stands bytes e =
             let same = made-is out before t u in
             let yes : begins (recordOf p a b) (drop at trail) ≡ true =
-            subst (λ (r : List ℕ). begins r (drop at trail) ≡ true) same (W .0) in
-            let bytes-are : bytes ≡ length (recordOf p a b) = W .2 ∙ ap length same in
+            subst (λ (r : List ℕ). begins r (drop at trail) ≡ true) same stands in
+            let bytes-are : bytes ≡ length (recordOf p a b) = e ∙ ap length same in
             let fits = inside (H .settled) (H .shows) (drop at trail) n count b yes in
-            let state : stateOf (roundOf previous next sizes) first coefficients order new status'
+            let state : stateOf (roundOf previous next sizes) first coefficients order new status
             ≡ stored after (comeIn g back * 256) =
-            ap (λ (x : Status). stateOf (roundOf previous next sizes) first coefficients order new x) (W .1)
-            ∙ ap (λ (m : List ℕ). stateOf (roundOf previous next sizes) first coefficients order m status) (W .3)
+            ap (λ (m : List ℕ). stateOf (roundOf previous next sizes) first coefficients order m status) m
             ∙ stored-in (roundOf previous next sizes) first coefficients order marks status (comeIn g back * 256)
             (λ r. omega (arith, A .active r, many)) in
             record {
               next = b;
               shows = subst (Shows p b) (sym state) held;
-              each = record { inOrder = each .inOrder; inMarks = ap length (W .3) ∙ sixteen };
-              many = ap (λ (x : Status). length (take (x .count) order)) (W .1)
-                  ∙ many
-                  ∙ ap (λ (x : Status). x .count) (sym (W .1));
+              each = record { inOrder = each .inOrder; inMarks = ap length m ∙ sixteen };
+              many = many;
               inside = omega (arith, fits, length-drop at trail, bytes-are, low);
               some = omega (arith, some-bytes, bytes-are);
               reads = λ k. goes-on (H .settled) (H .shows) (drop at trail) n count O yes k
@@ -153,15 +143,19 @@ module _ (g : GridStruct) (made : IsMade g) (start tails : List ℕ) {a : Simple
                   (ap (λ (m : ℕ). drop m (drop at trail)) (sym bytes-are) ∙ drop-drop bytes at trail);
             }
           where
-            sixteen : length (cond (ltb (status .rule) 6) (set marks (status .active) (comeIn g back * 256)) marks) ≡ 16
+            sixteen : length (marksWith g back marks) ≡ 16
             sixteen = ⊎-elim
                 (λ (r : status .rule < 6).
                 rw (lt-ltb (status .rule) 6 r) (length-set marks (status .active) _ ∙ each .inMarks))
                 (λ (r : 6 ≤ status .rule). rw (le-ltb (status .rule) 6 r) (each .inMarks))
                 (before-or-not (status .rule) 6)
-        to new Nowhere W =
+
+        -- they do not, and it leads nowhere
+        pub to-none : begins (recordMade g back before gone) (drop at trail) ≡ false → (k : ℕ)
+            → rebuiltFrom p (suc k) a (drop at trail) ≡ none
+        to-none differs =
             not-there (H .settled) (H .shows) (drop at trail) n count O
-            (subst (λ (r : List ℕ). begins r (drop at trail) ≡ false) (made-is out before t u) W)
+            (subst (λ (r : List ℕ). begins r (drop at trail) ≡ false) (made-is out before t u) differs)
 
 -- the cases of what a way leads to
 module _ {g : GridStruct} {start tails : List ℕ} {a : Simplex} {s : State} (H : HasRead g start tails a s)

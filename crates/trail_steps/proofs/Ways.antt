@@ -1,17 +1,16 @@
 -- What the bytes of a trail from a position on name, by the tests on them; a record's bytes. Assumes nothing.
-use mathlib.Core.Bool.{true, false, _&&_}
+use mathlib.Core.Bool.{false}
 use mathlib.Core.List.{List}
-use mathlib.Core.Path.{_≡_, refl, sym, ap, _∙_}
+use mathlib.Core.Path.{_≡_, sym, ap, _∙_}
 use Prim.Native.Nat.{ℕ, suc, _+_, _-_, _*_, _/_, _%_, _≤_, _<_}
 use borrow.Author.Tests.{eq-eqb, le-leb, lt-leb, ne-eqb}
-use lib.Dec.{eqb, leb}
+use lib.Dec.{eqb}
 use lib.ListN.{drop, getD, length, length-drop}
 use lib.Seq.{getD-drop}
 use native.Mathlib.Omega.{arith}
 use Rattle.rules.specs.Step.{State}
-use Rattle.trail_steps.specs.Ways.{joining, leaving, wayOf}
-use Rattle.trail_steps.specs.declared.Way.{Way}
-use Rattle.trail_steps.specs.declared.Way.the-variants.{Nothing}
+use Rattle.trail_steps.specs.Reading.{joining, leaving, wayOf}
+use Rattle.ways.specs.declared.Way.the-variants.{Nothing}
 
 module _ (m n : ℕ) (s : State) (trail : List ℕ) (at : ℕ) where
   abbrev bytes : List ℕ

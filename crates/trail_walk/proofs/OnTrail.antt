@@ -3,23 +3,22 @@
 -- tell. Assumes nothing.
 use mathlib.Core.Bool.{Bool, true, false, cond}
 use mathlib.Core.List.{List, [], _∷_, _++_, map, append-nil}
-use mathlib.Core.Logic.{_⊎_, inl, inr, ⊎-elim}
+use mathlib.Core.Logic.{_⊎_, ⊎-elim}
 use mathlib.Core.Option.{Option, none, some}
 use mathlib.Core.Path.{_≡_, refl, sym, ap, _∙_, subst}
 use Prim.Native.Nat.{ℕ, zero, suc, pred, _+_, _-_, _^_, _≤_, _<_}
 use borrow.Author.Tests.{eq-eqb, le-ltb, leb-true, lt-ltb, ne-eqb}
 use lib.Dec.{eqb, leb, ltb}
-use lib.ListN.{getD, length, length-append, length-set, length-take, take}
+use lib.ListN.{getD, length, length-append, length-set, take}
 use lib.Seq.{getD-set-other, getD-set-same, getD-take, length-take-le, paste, take-all, take-suc}
 use native.Mathlib.Omega.{arith}
 use Rattle.combinatorics.proofs.Basics.{absurd-bool, and-right, before-or-not, same-or, true-or-false}
 use Rattle.combinatorics.proofs.Fronts.{front-none, front-paste}
 use Rattle.combinatorics.proofs.Lists.{all-in, in-cases, in-here, in-map, map-in, onNumbers}
 use Rattle.combinatorics.proofs.Ranges.{in-upFrom, upFrom-in}
-use Rattle.combinatorics.specs.Edits.{found}
 use Rattle.combinatorics.specs.Front.{front}
 use Rattle.combinatorics.specs.Lists.{isIn, upFrom}
-use Rattle.finder.proofs.Visits.{OnPath}
+use Rattle.finder.proofs.Visits.{HasRead, OnPath}
 use Rattle.finder.specs.Finish.{IsKnown, problemIn}
 use Rattle.grid.proofs.Points.{in-points, onPoints, position-in}
 use Rattle.grid.specs.Grid.{Point, isGridPoint, numIndices, points, position, samePoint}
@@ -39,22 +38,22 @@ use Rattle.place.specs.Problem.{Problem, hasLabel, label}
 use Rattle.records.proofs.Differences.{length-alike}
 use Rattle.records.proofs.Kept.{Kept, grow-kept, kept-of, leave-kept}
 use Rattle.records.proofs.Told.{IsMask, told}
-use Rattle.records.specs.Records.{firstRecord, recordFrom}
-use Rattle.rules.proofs.Follow.{At, at-long, at-marks, at-others, at-place, at-reads, at-T, at-U}
+use Rattle.records.specs.Records.{SameSets, firstRecord, recordFrom}
+use Rattle.rules.proofs.Follow.{at-long, at-marks, at-others, at-place, at-reads, at-T, at-U}
 use Rattle.rules.proofs.Marks.{position-in as mark-position}
-use Rattle.rules.specs.Mask.{bit}
 use Rattle.rules.specs.Read.{markOf, pointIn, pointsFrom, positionAt, read}
-use Rattle.rules.specs.Ready.{labelIn, Ready}
-use Rattle.rules.specs.Step.{State, goes, markLabel, markPosition, step, withMark}
+use Rattle.rules.specs.Ready.{labelIn, Ready, SixteenEach}
+use Rattle.rules.specs.Step.{State, goes, markPosition, step, withMark}
 use Rattle.trail.proofs.Outside.{outside-in}
 use Rattle.trail.proofs.Reading.{T-alike}
-use Rattle.trail.proofs.RunTrail.{one-more, path-trail, run-trail, trail-fits}
+use Rattle.trail.proofs.RunTrail.{one-more, path-trail, trail-fits}
 use Rattle.trail.proofs.Tells.{at-position}
 use Rattle.trail.specs.Change.{change, outside}
 use Rattle.trail.specs.Record.{recordOf, recordsFrom, startRecord, trailOf}
-use Rattle.trail_visits.proofs.Places.{gone-leaving, gone-none}
-use Rattle.trail_visits.specs.Visited.{goneOf, recordHere}
+use Rattle.trail_visits.specs.Visited.{recordHere}
 use Rattle.trail_visits.specs.declared.Before.{Before}
+use Rattle.ways.proofs.Here.{Joining, gone-joining, gone-leaving, leaves-or-joins}
+use Rattle.ways.specs.Ways.{goneBy, wayHere}
 
 -- a run that has ended has visited the whole path
 pub ended-whole : (p : Problem) (budget : ℕ) {n read : ℕ} {kind : Kind} {block vertices : ℕ} {simplex : Simplex}
@@ -106,6 +105,23 @@ module _ (g : GridStruct) (start table : List ℕ) where
   pub record SoFar (before : Before) (k at : ℕ) : Type 0 where
     pub long : at ≡ length (trailOf (problemIn g start table) (take k (path (problemIn g start table) .visited)))
     pub behind : (h : ℕ) → suc h ≡ k → Behind before h
+
+  -- The walk stands at place number k, from 0. The trail has the records of the places before it, and the record of
+  -- the place ends at byte `end`. Where rule 1 led to the place, T and U are those of the place before. The labels read
+  -- are those up to the place, and a walk that writes knows the point that has left.
+  pub record Walking (writes : Bool) (old : List ℕ) (k : ℕ) (a : State) (order marks trail : List ℕ) (before : Before)
+      (at end labels : ℕ) : Type 0 where
+    pub here : OnPath (problemIn g start table) a k
+    pub each : SixteenEach order marks
+    pub soFar : SoFar before k at
+    pub counted : end ≡ length (trailOf (problemIn g start table)
+        (take (suc k) (path (problemIn g start table) .visited)))
+    pub kept : a .rule ≡ 1 → 0 < at → SameSets (before .t) (before .u) (a .T) (a .U)
+    pub written : trail ≡ cond writes
+        (front (trailOf (problemIn g start table) (take k (path (problemIn g start table) .visited))) old) old
+    pub long : length trail ≡ length old
+    pub read : HasRead (problemIn g start table) k labels
+    pub left : writes ≡ true → Left before k
 
 module _ (g : GridStruct) (start table : List ℕ) (ok : Accepted (problemIn g start table)) where
   abbrev p : Problem
@@ -266,6 +282,54 @@ module _ (g : GridStruct) (start table : List ℕ) (ok : Accepted (problemIn g s
   unfolding trailOf
   first-trail x = sym (append-nil (startRecord p))
 
+  pub first-bytes : 3 ≡ length (trailOf p (take 1 visited))
+  unfolding trailOf startRecord
+  first-bytes = sym (ap (λ (l : List Simplex). length (trailOf p l))
+      (take-suc visited 0 [] (demand3-holds ok .follows .nonempty)))
+
+  -- behind {v} it grows by the record of each place
+  trail-next : (k : ℕ) → suc k < pathLength p
+      → trailOf p (take (suc (suc k)) visited)
+      ≡ trailOf p (take (suc k) visited) ++ recordOf p (placeAt visited k) (placeAt visited (suc k))
+  trail-next k l =
+      let long : length (take (suc k) visited) ≡ suc k = length-take-le (suc k) visited (omega arith) in
+      let last : lastPlace (take (suc k) visited) ≡ placeAt visited k =
+      ap (λ (n : ℕ). placeAt (take (suc k) visited) (pred n)) long ∙ getD-take (suc k) visited k [] (omega arith) in
+      ap (trailOf p) (take-suc visited (suc k) [] l)
+      ∙ one-more p (take (suc k) visited) (placeAt visited (suc k)) (omega (arith, long))
+      ∙ ap (λ (x : Simplex). trailOf p (take (suc k) visited) ++ recordOf p x (placeAt visited (suc k))) last
+
+  -- which is as long as the masks tell, whatever points come in and go out
+  module _ (s : State) (k : ℕ) (here : OnPath p s (suc k)) (before : Before) (B : Behind g start table before k) where
+    only : (l : List Point) (x : ℕ) → map (position (p .grid)) l ≡ x ∷ [] → firstOf l ≡ x
+    unfolding firstOf
+    only l x e = let w = mapped-one (position (p .grid)) l x e in ap firstOf (w .1) ∙ w .3
+
+    record-bytes : (y z : ℕ)
+        → length (recordFrom (before .t) (before .u) (s .T) (s .U) y z)
+        ≡ length (recordOf p (placeAt visited k) (placeAt visited (suc k)))
+    unfolding change
+    record-bytes y z =
+        let a = placeAt visited k in
+        let b = placeAt visited (suc k) in
+        length-alike (before .t) (before .u) (s .T) (s .U) y z (firstOf (outside samePoint a b))
+        (firstOf (outside samePoint b a))
+        ∙ ap length (told p a b (B .T) (mask-T s (suc k) here) (B .U) (mask-U s (suc k) here)
+        (only (outside samePoint a b)) (only (outside samePoint b a))
+        (path-trail ok .byRule k (here .1) .1))
+
+    pub next-end : (end bytes : ℕ) → end ≡ length (trailOf p (take (suc k) visited))
+        → ((y z : ℕ) → bytes ≡ length (recordFrom (before .t) (before .u) (s .T) (s .U) y z))
+        → end + bytes ≡ length (trailOf p (take (suc (suc k)) visited))
+    next-end end bytes e l = omega (
+      arith,
+      e,
+      l 0 0,
+      record-bytes 0 0,
+      length-append (trailOf p (take (suc k) visited)) (recordOf p (placeAt visited k) (placeAt visited (suc k))),
+      ap length (trail-next k (here .1)),
+    )
+
   -- the record that is made at a place is the trail's
   module _ (s : State) (k : ℕ) (here : OnPath p s k) (known : IsKnown (tableOf g table) s) (before : Before) (at : ℕ)
       (F : SoFar g start table before k at) (left : (h : ℕ) → suc h ≡ k → HasLeft g start table before h) where
@@ -359,15 +423,13 @@ module _ (g : GridStruct) (start table : List ℕ) (ok : Accepted (problemIn g s
             ∙ first-trail (placeAt visited k)
             ∙ ap (trailOf p) (sym one)
         go (suc h) e =
-            let long : length (take k visited) ≡ k = length-take-le k visited (omega (arith, here .1)) in
-            let n : at ≡ 0 → ⊥ = λ z. omega (arith, some-bytes (take k visited) (omega (arith, long, e)), F .long) in
-            let last : lastPlace (take k visited) ≡ placeAt visited h =
-            ap (λ (n : ℕ). placeAt (take k visited) (pred n)) (long ∙ e) ∙ getD-take k visited h [] (omega arith) in
-            ap
-            (λ (l : List ℕ). trailOf p (take k visited) ++ l)
-            (made-later n ∙ later-record h (sym e) ∙ ap (λ (x : Simplex). recordOf p x (placeAt visited k)) (sym last))
-            ∙ sym (one-more p (take k visited) (placeAt visited k) (omega (arith, long, e)))
-            ∙ ap (trailOf p) (sym one-place)
+            let n : at ≡ 0 → ⊥ = λ z. omega (
+              arith,
+              some-bytes (take k visited) (omega (arith, length-take-le k visited (omega (arith, here .1)), e)),
+              F .long,
+            ) in
+            ap (λ (l : List ℕ). trailOf p (take k visited) ++ l) (made-later n ∙ later-record h (sym e))
+            ∙ rw e (sym (trail-next h (omega (arith, here .1, e))))
 
   -- the point that leaves
   module _ (s : State) (k : ℕ) (here : OnPath p s k) (known : IsKnown (tableOf g table) s)
@@ -375,24 +437,16 @@ module _ (g : GridStruct) (start table : List ℕ) (ok : Accepted (problemIn g s
     abbrev full-marks : State
     full-marks = read (tableOf g table) s
 
-    -- it leaves, or the label joins T
-    way-on : ((i : ℕ) × Leaving full-marks i)
-        ⊎ ((full-marks .rule < 6) × (bit (full-marks .T) (labelIn full-marks - 1) ≡ false))
-    way-on = ⊎-elim
-        (λ (l : full-marks .rule < 6). ⊎-elim
-        (λ e.
-        inl (found (labelIn full-marks) (full-marks .active) (map markLabel (full-marks .marks)), inr (l, e, refl)))
-        (λ e. inr (l, e))
-        (true-or-false (bit (full-marks .T) (labelIn full-marks - 1))))
-        (λ (l : 6 ≤ full-marks .rule). inl (full-marks .active, inl (l, refl)))
-        (before-or-not (full-marks .rule) 6)
+    -- its position, if one leaves
+    abbrev gone-here : ℕ
+    gone-here = goneBy full-marks (wayHere full-marks)
 
     leaving-inside : (i : ℕ) → Leaving full-marks i → i ≤ length (s .order)
     leaving-inside i L = rw (← same-order s) (leaving-ready full-marks i ready L .low)
 
-    gone-low : goneOf full-marks < 65536
+    gone-low : gone-here < 65536
     gone-low = ⊎-elim
-        (λ w.
+        (λ (w : (i : ℕ) × Leaving full-marks i).
         let l = leaving-inside (w .0) (w .1) in
         omega (
           arith,
@@ -400,8 +454,8 @@ module _ (g : GridStruct) (start table : List ℕ) (ok : Accepted (problemIn g s
           known-position s k here known (w .0) l,
           position-low s k here (w .0) l,
         ))
-        (λ w. omega (arith, gone-none full-marks (w .0) (w .1)))
-        way-on
+        (λ (w : (h : ℕ) × Joining full-marks h). omega (arith, gone-joining full-marks (w .0) (w .1)))
+        (leaves-or-joins full-marks)
 
     some-step : (i : ℕ) → Leaving full-marks i → 1 ≤ length (full-marks .order)
     some-step i L =
@@ -429,7 +483,7 @@ module _ (g : GridStruct) (start table : List ℕ) (ok : Accepted (problemIn g s
           rw (← q) (point-in e (suc k) next (K .to) (K .low))
 
       gone-is : (z : Point) → outside samePoint (placeAt visited (suc k)) (placeAt visited k) ≡ z ∷ []
-          → goneOf full-marks ≡ position (p .grid) z
+          → gone-here ≡ position (p .grid) z
       gone-is z q =
           let w : (isIn samePoint z (placeAt visited k) ≡ true) × (isIn samePoint z (placeAt visited (suc k)) ≡ false) =
           outside-in onPoints z (placeAt visited k) (placeAt visited (suc k)) (rw q (in-here onPoints z [])) in
@@ -440,7 +494,7 @@ module _ (g : GridStruct) (start table : List ℕ) (ok : Accepted (problemIn g s
           ∙ w .1) in
           let low : j .0 ≤ length (full-marks .order) = rw (same-order s) (j .1) in
           ⊎-elim
-          (λ v. ⊎-elim
+          (λ (v : (i : ℕ) × Leaving full-marks i). ⊎-elim
           (λ (c : j .0 ≡ v .0). sym (gone-leaving full-marks (v .0) (v .1))
           ∙ ap (positionAt full-marks) (sym c)
           ∙ known-position s k here known (j .0) (j .1)
@@ -450,12 +504,14 @@ module _ (g : GridStruct) (start table : List ℕ) (ok : Accepted (problemIn g s
           (leaving-ready full-marks (v .0) ready (v .1) .low) n)
           (leaving-leaves full-marks (v .0) (v .1) ∙ moved))))
           (same-or (j .0) (v .0)))
-          (λ v. absurd (stay (kept-of (grow-kept full-marks (j .0) marked low (labelIn full-marks - 1))
-          (label-joins full-marks (labelIn full-marks) (labelIn full-marks - 1) refl refl (v .0) (v .1) ∙ moved))))
-          way-on
+          (λ (v : (h : ℕ) × Joining full-marks h).
+          absurd (stay (kept-of (grow-kept full-marks (j .0) marked low (labelIn full-marks - 1))
+          (label-joins full-marks (labelIn full-marks) (labelIn full-marks - 1) refl refl (v .1 .0) (v .1 .1)
+          ∙ moved))))
+          (leaves-or-joins full-marks)
 
       -- which a walk that writes keeps
-      pub next-left : (gone : ℕ) → gone ≡ goneOf full-marks
+      pub next-left : (gone : ℕ) → gone ≡ gone-here
           → Left g start table (record { t = s .T; u = s .U; gone = gone }) (suc k)
       next-left gone z = record {
         left = λ h q. let i : k ≡ h = omega arith in rw (← i) (λ y o. z ∙ gone-is y o);
@@ -485,8 +541,8 @@ module _ (g : GridStruct) (start table : List ℕ) (ok : Accepted (problemIn g s
     records-part a l n,
   )
 
-  pub whole-fits : length (trailOf p visited) < 2 ^ 64
-  whole-fits = trail-fits ok visited (demand3-holds ok .follows)
+  pub part-fits : (n : ℕ) → length (trailOf p (take n visited)) < 2 ^ 64
+  part-fits n = omega (arith, part-short visited n, trail-fits ok visited (demand3-holds ok .follows))
 
   -- where a walk begins
   pub so-far-none : (before : Before) → SoFar g start table before 0 0
@@ -505,41 +561,26 @@ module _ (g : GridStruct) (start table : List ℕ) (ok : Accepted (problemIn g s
     abbrev rec : List ℕ
     rec = recordHere (read (tableOf g table) s) before at
 
-    -- what would be kept with the point that has left, whatever is kept of it: the record is as long
-    abbrev rightly : Before
-    rightly = record {
-      t = before .t;
-      u = before .u;
-      gone = firstOf (outside samePoint (placeAt visited k) (placeAt visited (pred k)));
-    }
-
-    rightly-far : SoFar g start table rightly k at
-    rightly-far = record { long = F .long; behind = λ h e. record { T = F .behind h e .T; U = F .behind h e .U } }
-
-    rightly-left : (h : ℕ) → suc h ≡ k → HasLeft g start table rightly h
-    unfolding firstOf
-    rightly-left h e z q = subst
-        (λ (n : ℕ). firstOf (outside samePoint (placeAt visited n) (placeAt visited (pred n))) ≡ position (p .grid) z)
-        e (ap firstOf q)
-
-    as-long : length rec ≡ length (recordHere (read (tableOf g table) s) rightly at)
-    as-long =
-        let r = read (tableOf g table) s in
-        ⊎-elim
-        (λ (e : at ≡ 0). rw (eq-eqb at 0 e))
-        (λ n. rw (ne-eqb at 0 n)
-        (length-alike (before .t) (before .u) (r .T) (r .U) (positionAt r (r .active)) (before .gone) (rightly .gone)))
-        (same-or at 0)
-
-    pub next-long : at + length rec ≡ length (trailOf p (take (suc k) visited))
-    next-long =
-        omega (
-          arith,
-          F .long,
-          as-long,
-          length-append (trailOf p (take k visited)) (recordHere (read (tableOf g table) s) rightly at),
-          ap length (here-trail s k here known rightly at rightly-far rightly-left),
-        )
+    next-long : at + length rec ≡ length (trailOf p (take (suc k) visited))
+    next-long = go k refl
+      where
+        go : (n : ℕ) → k ≡ n → at + length rec ≡ length (trailOf p (take (suc k) visited))
+        go zero e =
+            let z : at ≡ 0 = F .long ∙ ap (λ (n : ℕ). length (trailOf p (take n visited))) e ∙ ap length no-trail in
+            let first : take 1 visited ≡ take (suc k) visited = ap (λ (n : ℕ). take (suc n) visited) (sym e) in
+            rw z (first-bytes ∙ ap (λ (l : List Simplex). length (trailOf p l)) first)
+        go (suc h) e =
+            let n : at ≡ 0 → ⊥ = λ z. omega (
+              arith,
+              some-bytes (take k visited) (omega (arith, length-take-le k visited (omega (arith, here .1)), e)),
+              F .long,
+            ) in
+            let on : OnPath p s (suc h) = rw e at here in
+            let so : at ≡ length (trailOf p (take (suc h) visited)) =
+            F .long ∙ ap (λ (n : ℕ). length (trailOf p (take n visited))) e in
+            rw (ne-eqb at 0 n, same-T s, same-U s, e)
+            (next-end s h on before (F .behind h (sym e)) at _ so
+            (λ y z. length-alike (before .t) (before .u) (s .T) (s .U) _ (before .gone) y z))
 
     pub next-short : at + length rec ≤ length (trailOf p visited)
     next-short = omega (arith, next-long, part-short visited (suc k))
@@ -556,10 +597,10 @@ module _ (g : GridStruct) (start table : List ℕ) (ok : Accepted (problemIn g s
     next-trail false old now room gone e = e
 
     -- and what is kept of it
-    pub next-so-far : (gone bytes : ℕ) → bytes ≡ length rec
-        → SoFar g start table (record { t = s .T; u = s .U; gone = gone }) (suc k) (at + bytes)
-    next-so-far gone bytes l = record {
-      long = ap (λ (n : ℕ). at + n) l ∙ next-long;
+    pub next-so-far : (gone end : ℕ) → end ≡ length (trailOf p (take (suc k) visited))
+        → SoFar g start table (record { t = s .T; u = s .U; gone = gone }) (suc k) end
+    next-so-far gone end e = record {
+      long = e;
       behind = λ h q. let i : k ≡ h = omega arith in rw (← i) (record { T = mask-T s k here; U = mask-U s k here });
     }
 

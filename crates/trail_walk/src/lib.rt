@@ -8,13 +8,18 @@ ghost use Rattle.rules.specs.Step.{Round};
 ghost use Rattle.trail_walk.specs.Walked.{HasRoom, Recorded};
 use finder::Finish;
 use finder::Kind;
-use finder::Visited;
 use finder::begin;
 use finder::labels_at;
 use grid::Grid;
+use label_reading::Looked;
+use label_reading::look_up;
+use moves::Outcome;
 use positions::ENTRIES;
 use trail_visits::Before;
-use trail_visits::visit;
+use trail_visits::bytes_to;
+use trail_visits::tell;
+use ways::moved_by;
+use ways::way_here;
 
 // How a walk ended, and the bytes of its records.
 pub struct Walked {
@@ -22,8 +27,9 @@ pub struct Walked {
     pub bytes: usize,
 }
 
-// From {v} to the path's end, or until the budget is spent: the number of places left counts down. The records are
-// counted, and stored where the walk writes.
+// From {v} to the path's end, or until the budget is spent: the number of places left counts down. The record of a place
+// goes from byte `at` to byte `end`. It is counted where the move to the place is made, whose rule the compiler then
+// knows, and stored where the walk writes.
 pub fn follow(
     g: Grid,
     binomials: &[u16; ENTRIES],
@@ -56,14 +62,36 @@ pub fn follow(
         gone: 0,
     };
     let mut at: usize = 0;
+    let mut end: usize = 3;
     let mut labels_read = labels_at(s);
     let mut left = budget;
     while 0 < left {
-        let passed = visit(
+        let looked = look_up(
             g,
             binomials,
             &tails,
             table,
+            previous,
+            sizes,
+            first,
+            &coefficients,
+            order,
+            &mut marks,
+            s,
+        );
+        left -= 1;
+        if let Looked::Unknown(position) = looked {
+            return Walked {
+                finish: Finish::Unknown {
+                    places: budget - left - 1,
+                    position,
+                },
+                bytes: at,
+            };
+        }
+        let way = way_here(&marks, s);
+        let gone = tell(&marks, s, way, trail, at, before, writes);
+        let outcome = moved_by(
             previous,
             next,
             sizes,
@@ -72,57 +100,42 @@ pub fn follow(
             order,
             &mut marks,
             s,
-            trail,
-            at,
-            before,
-            writes,
+            way,
         );
-        left -= 1;
-        let seen = passed.seen;
-        match seen {
-            Visited::Moved(status) => {
-                before = Before {
-                    t: s.t,
-                    u: s.u,
-                    gone: passed.gone,
-                };
-                at += passed.bytes;
-                s = status;
-                labels_read += labels_at(s);
-            }
-            Visited::Unknown(position) => {
-                return Walked {
-                    finish: Finish::Unknown {
-                        places: budget - left - 1,
-                        position,
-                    },
-                    bytes: at,
-                };
-            }
-            Visited::PlaceEnd(index) => {
-                return Walked {
-                    finish: Finish::Ended {
-                        kind: Kind::Place,
-                        places: budget - left,
-                        index,
-                        status: s,
-                        labels_read,
-                    },
-                    bytes: at + passed.bytes,
-                };
-            }
-            Visited::FacetEnd(index) => {
-                return Walked {
-                    finish: Finish::Ended {
-                        kind: Kind::Facet,
-                        places: budget - left,
-                        index,
-                        status: s,
-                        labels_read,
-                    },
-                    bytes: at + passed.bytes,
-                };
-            }
+        if let Outcome::PlaceEnd(index) = outcome {
+            return Walked {
+                finish: Finish::Ended {
+                    kind: Kind::Place,
+                    places: budget - left,
+                    index,
+                    status: s,
+                    labels_read,
+                },
+                bytes: end,
+            };
+        }
+        if let Outcome::FacetEnd(index) = outcome {
+            return Walked {
+                finish: Finish::Ended {
+                    kind: Kind::Facet,
+                    places: budget - left,
+                    index,
+                    status: s,
+                    labels_read,
+                },
+                bytes: end,
+            };
+        }
+        if let Outcome::Moved(status) = outcome {
+            before = Before {
+                t: s.t,
+                u: s.u,
+                gone,
+            };
+            at = end;
+            end += bytes_to(s, status);
+            s = status;
+            labels_read += labels_at(s);
         }
     }
     Walked {

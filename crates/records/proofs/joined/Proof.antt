@@ -1,9 +1,7 @@
 -- `records::joined` meets its contract, by computation. Assumes nothing.
-use mathlib.Core.Path.{refl, sym, ap, _∙_}
-use Prim.Native.Nat.{ℕ}
+use mathlib.Core.Path.{refl, sym, _∙_}
 use native.Mathlib.Omega.{arith}
 use Rattle.combinatorics.specs.Front.{front}
-use Rattle.records.specs.Records.{differing}
 use borrow.Author.Needs.{needs}
 use Rattle.records.proofs.joined.Statement.{statement}
 use Rattle.records.proofs.joined.Tie as tie

@@ -1,11 +1,9 @@
 -- `records::standing_bytes` meets its contract: where T and U are kept the record is compared as it is, else it is made
 -- first. Assumes nothing.
-use mathlib.Core.Bool.{Bool, cond}
 use mathlib.Core.List.{List}
-use mathlib.Core.Path.{_≡_, refl, sym, ap, _∙_}
+use mathlib.Core.Path.{_≡_, sym, ap, _∙_}
 use Prim.Native.Nat.{ℕ}
 use borrow.Author.Needs.{needs}
-use borrow.Author.Tests.{not-false, not-true}
 use lib.ListN.{drop}
 use Rattle.trail.specs.Trail.{begins}
 use Rattle.records.specs.Records.{recordFrom}

@@ -1,17 +1,12 @@
 -- `trail_steps::arrive` meets its contract: the mark is stored, and the record compared. Assumes nothing.
 use mathlib.Core.Bool.{cond}
-use mathlib.Core.List.{List}
 use mathlib.Core.Logic.{⊎-elim}
-use mathlib.Core.Path.{_≡_, refl, sym, ap, _∙_}
-use Prim.Native.Nat.{ℕ, _*_}
-use borrow.Author.Needs.{needs}
+use mathlib.Core.Path.{_≡_, sym, _∙_}
+use Prim.Native.Nat.{_*_}
 use borrow.Author.Tests.{le-ltb, lt-ltb}
 use lib.Dec.{ltb}
-use lib.ListN.{drop, set}
+use lib.ListN.{set}
 use native.Mathlib.Omega.{arith}
-use Rattle.records.proofs.Standing.{not-standing, standing}
-use Rattle.records.specs.Records.{recordFrom}
-use Rattle.trail.specs.Trail.{begins}
 use Rattle.trail_steps.proofs.arrive.Statement.{statement}
 use Rattle.trail_steps.proofs.arrive.Tie as tie
 
@@ -41,14 +36,6 @@ standing-bytes-requires c κs =
     let w = c .before .before .before .before .before .pre .1 in
     (w .low, rw (c .before .before .come-in .ensures) (w .come), w .out)
 
-returns : tie.Need-returns
-returns c =
-    let a = c .before .before .before .before .before .before .before .args in
-    let come = c .before .before .before .before .come-in in
-    rw (← come .ensures)
-    (not-standing (a .before .t) (a .before .u) (a .s .t) (a .s .u) (come .result) (a .gone)
-    (c .before .standing-bytes .ensures) (c .if2 .taken))
-
 -- the marks that are stored
 stored : (c : tie.Joined1) →
     let a = c .before .before .before .before .before .args in
@@ -59,13 +46,8 @@ stored c =
     ⊎-elim (λ w. w .1 ∙ sym (rw (lt-ltb rule 6 (w .0 .taken)))) (λ w. w .1 ∙ sym (rw (le-ltb rule 6 (w .0 .left))))
     (c .if1 .came)
 
-returns-2 : tie.Need-returns-2
-returns-2 c =
-    let a = c .before .before .before .before .before .before .before .args in
-    let come = c .before .before .before .before .come-in in
-    let W = standing (a .before .t) (a .before .u) (a .s .t) (a .s .u) (come .result) (a .gone)
-    (c .before .standing-bytes .ensures) (c .if2 .left) in
-    (rw (← come .ensures) (W .0), refl, rw (← come .ensures) (W .1), rw (← come .ensures) (stored (c .before .before)))
+returns : tie.Need-returns
+returns c = rw (← c .before .before .before .come-in .ensures) (stored (c .before), c .standing-bytes .ensures)
 
 pub arrive-spec : {M : Type 1} → statement M
 arrive-spec =
@@ -77,5 +59,4 @@ arrive-spec =
     mul-marks-2
     element-write-marks
     standing-bytes-requires
-    returns
-    returns-2)
+    returns)

@@ -1,5 +1,4 @@
 -- `trail_steps::come_in` meets its contract. Assumes nothing.
-use mathlib.Core.Path.{sym, _∙_}
 use borrow.Author.Tests.{le-ltb, lt-ltb}
 use Rattle.trail_steps.proofs.come_in.Statement.{statement}
 use Rattle.trail_steps.proofs.come_in.Tie as tie

@@ -1,7 +1,5 @@
 -- `trail_steps::leaving` meets its contract. Assumes nothing.
-use mathlib.Core.Path.{sym, _∙_}
 use borrow.Author.Tests.{le-leb, le-ltb, lt-leb, lt-ltb}
-use native.Mathlib.Omega.{arith}
 use Rattle.trail_steps.proofs.leaving.Statement.{statement}
 use Rattle.trail_steps.proofs.leaving.Tie as tie
 

@@ -1,6 +1,6 @@
 -- `trail_steps::way_on` meets its contract, by the map byte. Assumes nothing.
 use mathlib.Core.List.{[]}
-use mathlib.Core.Path.{sym, _∙_}
+use mathlib.Core.Path.{_∙_}
 use borrow.Author.Needs.{needs}
 use native.Mathlib.Omega.{arith}
 use Rattle.arrays.specs.Rounds.{noRound}

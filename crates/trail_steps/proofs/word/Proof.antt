@@ -1,6 +1,6 @@
 -- `trail_steps::word` meets its contract. Assumes nothing.
-use mathlib.Core.Path.{_≡_, ap, _∙_}
-use Prim.Native.Nat.{ℕ, suc, _+_, _*_}
+use mathlib.Core.Path.{_≡_, ap}
+use Prim.Native.Nat.{ℕ, suc, _+_}
 use borrow.Author.Needs.{needs}
 use lib.ListN.{getD}
 use native.Mathlib.Numerals.{add-one}

@@ -10,7 +10,7 @@ use Rattle.finder.proofs.Refusals.{same-problem}
 use Rattle.grid.proofs.Fields.{made-code, made-is}
 use Rattle.grid.specs.Grid.{Grid}
 use Rattle.place.specs.Problem.{Problem, problemOf}
-use Rattle.trail_steps.specs.Ways.{problemBy}
+use Rattle.trail_steps.specs.Reading.{problemBy}
 use Rattle.trail_reader.specs.Reading.{readAnswer, readPoints}
 use Rattle.trail_reader.specs.declared.answers.Answer.the-variants.{Refused}
 use Rattle.trail_reader.proofs.Rebuilt.{by-grid, by-number, by-start, read-so, settled-by}

@@ -11,7 +11,7 @@ use Rattle.combinatorics.specs.Front.{front}
 use Rattle.finder.proofs.Visits.{is-round, round-below}
 use Rattle.grid.proofs.Fields.{indices-few}
 use Rattle.trail.specs.Trail.{Reading as TrailReading}
-use Rattle.trail_steps.specs.Ways.{problemBy}
+use Rattle.trail_steps.specs.Reading.{problemBy}
 use Rattle.trail_reader.specs.Begun.{Reads}
 use Rattle.trail_reader.specs.Reading.{caseOf, numbersOf}
 use Rattle.trail_reader.proofs.Rebuilt.{first-long, no-zero, reads-17, start-long, start-taken}

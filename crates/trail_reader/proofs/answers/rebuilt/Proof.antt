@@ -14,7 +14,7 @@ use Rattle.place.specs.Problem.{Problem}
 use Rattle.records.proofs.Told.{taken-record}
 use Rattle.trail.specs.Record.{startRecord}
 use Rattle.trail.specs.Trail.{begins, placesFrom}
-use Rattle.trail_steps.specs.Ways.{HasRead, problemBy}
+use Rattle.trail_steps.specs.Reading.{HasRead, problemBy}
 use Rattle.trail_reader.proofs.Begins.{v-read}
 use Rattle.trail_reader.proofs.Rebuilt.{begins-three, computes, few-numbers, first-is, minus-none, not-first}
 use Rattle.trail_reader.proofs.Rebuilt.{reads-17, reads-by, reads-none, reads-place}

@@ -1,16 +1,16 @@
--- `trail_visits::look_up` meets its contract: after rules 6 and 7 nothing is read, and else the mark that is looked up
+-- `label_reading::look_up` meets its contract: after rules 6 and 7 nothing is read, and else the mark that is looked up
 -- is stored. Assumes nothing.
 use mathlib.Core.List.{[]}
-use mathlib.Core.Path.{_≡_, sym, _∙_}
+use mathlib.Core.Path.{sym, _∙_}
 use lib.ListN.{length-set}
 use native.Mathlib.Omega.{arith}
 use Rattle.arrays.specs.Rounds.{roundOf}
 use Rattle.finder.proofs.Visits.{marked-known, unknown-zero}
 use Rattle.marks.specs.Reading.{tableOf}
-use Rattle.trail_visits.proofs.Places.{looked-none, looked-some}
+use Rattle.label_reading.proofs.Places.{looked-none, looked-some}
 use borrow.Author.Needs.{needs}
-use Rattle.trail_visits.proofs.look_up.Statement.{statement}
-use Rattle.trail_visits.proofs.look_up.Tie as tie
+use Rattle.label_reading.proofs.look_up.Statement.{statement}
+use Rattle.label_reading.proofs.look_up.Tie as tie
 
 mark-in-requires : tie.Need-mark-in-requires
 mark-in-requires c κs =

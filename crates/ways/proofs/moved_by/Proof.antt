@@ -1,12 +1,12 @@
--- `trail_steps::moved_by` meets its contract: a point leaves, or an index joins T. Assumes nothing.
+-- `ways::moved_by` meets its contract: a point leaves, or an index joins T. Assumes nothing.
 use mathlib.Core.List.{[]}
-use mathlib.Core.Path.{_≡_, refl, sym, ap, _∙_}
+use mathlib.Core.Path.{refl, sym, ap, _∙_}
 use borrow.Author.Needs.{needs}
 use Rattle.arrays.specs.Rounds.{roundOf}
 use Rattle.moves.proofs.Cases.{answered-beside, besideAfter, grow-beside}
 use Rattle.moves.specs.Held.{stateOf}
-use Rattle.trail_steps.proofs.moved_by.Statement.{statement}
-use Rattle.trail_steps.proofs.moved_by.Tie as tie
+use Rattle.ways.proofs.moved_by.Statement.{statement}
+use Rattle.ways.proofs.moved_by.Tie as tie
 
 enum-known-way : tie.Need-enum-known-way
 enum-known-way c = search needs

@@ -1,7 +1,7 @@
--- `trail_steps::gone_by` meets its contract. Assumes nothing.
+-- `ways::gone_by` meets its contract. Assumes nothing.
 use borrow.Author.Needs.{needs}
-use Rattle.trail_steps.proofs.gone_by.Statement.{statement}
-use Rattle.trail_steps.proofs.gone_by.Tie as tie
+use Rattle.ways.proofs.gone_by.Statement.{statement}
+use Rattle.ways.proofs.gone_by.Tie as tie
 
 enum-known-way : tie.Need-enum-known-way
 enum-known-way c = search needs

@@ -1,0 +1,3 @@
+pub mod Here
+pub mod Outcomes
+pub mod RuleOne
