@@ -6,7 +6,8 @@ ghost use Rattle.rounding.specs.Centre.{centre as centreOf};
 // The centre's number for the sum of `count` coordinates: of the quotient and the next number the nearest, and the even
 // one where both are equally near.
 pub fn centre(total: u64, count: usize, division: u16) -> u64
-    requires { ⌜ (total ≤ 1048560) × (1 ≤ count) × (count ≤ 16) × (1 ≤ division) ⌝ }
+    requires { ⌜ total ≤ 1048560 ⌝ }
+    requires { ⌜ (1 ≤ count) × (count ≤ 16) × (1 ≤ division) ⌝ }
     ensures { λ r. ⌜ r ≡ centreOf total count division ⌝ }
 {
     let parts = 10000 * total;

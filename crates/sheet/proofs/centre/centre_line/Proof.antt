@@ -49,7 +49,7 @@ centre-requires : tie.Need-centre-requires Inv-loop μ-loop
 centre-requires c κs =
     let start = c .before .before .before .before .before .before .before .before .before .before in
     let l = c .before .before .before .before .loop in
-    (omega arith, omega arith, omega arith, start .pre .1 .positive (l .h) (omega arith))
+    (omega arith, (omega arith, omega arith, start .pre .1 .positive (l .h) (omega arith)))
 
 spaced-requires : tie.Need-spaced-requires Inv-loop μ-loop
 spaced-requires c κs = omega (arith, c .before .before .before .before .before .before .text .ensures .behind)
