@@ -13,7 +13,8 @@ ghost use Rattle.sheet.specs.Sheet.{centreLine, total as totalOf};
 
 // The coordinate sum of the vertices at the index h.
 fn total(count: usize, vertices: &[u16], m: usize, h: usize) -> u64
-    requires { ⌜ (count ≤ 16) × (m ≤ 16) × (h < m) × (count * m ≤ length (now vertices)) ⌝ }
+    requires { ⌜ (h < m) × (m ≤ 16) ⌝ }
+    requires { ⌜ (count ≤ 16) × (count * m ≤ length (now vertices)) ⌝ }
     ensures { λ r. ⌜ (r ≡ totalOf (rows count m (now (vertices .entry))) h) × (r ≤ 65535 * count) ⌝ }
 {
     let mut sum: u64 = 0;

@@ -47,7 +47,8 @@ pub fn vertex_lines(
     vertices: &[u16],
     m: usize,
 ) -> usize
-    requires { ⌜ (at ≤ 1500) × (count ≤ 16) × (1 ≤ m) × (m ≤ 16) × (count * m ≤ length (now vertices)) ⌝ }
+    requires { ⌜ (at ≤ 1500) × (1 ≤ m) × (m ≤ 16) ⌝ }
+    requires { ⌜ (count ≤ 16) × (count * m ≤ length (now vertices)) ⌝ }
     ensures { λ r. ⌜ Part (flatMap vertexLine (rows count m (now (vertices .entry))))
         (now (out .entry)) (now (out .exit)) at r
         × (r ≤ at + 117 * count) ⌝ }
