@@ -24,8 +24,8 @@ pub fn pick(
     indices: usize,
     values: &mut [u32; 16],
 )
-    requires { ⌜ (last < 6) × (k < 162) × (indices ≤ 16) × (length (now levels) ≡ 15552)
-        × (length (now values) ≡ 16) ⌝ }
+    requires { ⌜ (last < 6) × (k < 162) × (indices ≤ 16) ⌝ }
+    requires { ⌜ (length (now levels) ≡ 15552) × (length (now values) ≡ 16) ⌝ }
     ensures { λ _. ⌜ (length (now (values .exit)) ≡ 16) × ((h : ℕ) → h < indices
         → at (now (values .exit)) h ≡ pickedAt (now (owners .entry)) (now (levels .entry)) last k h) ⌝ }
 {

@@ -123,11 +123,8 @@ pick-requires : tie.Need-pick-requires
 pick-requires c κs =
     let s = c .before .before .before .before .before .before .before .before in
     let e = ends s in (
-      omega (arith, yes s .fewBlocks, game s .some),
-      omega (arith, e .2),
-      omega (arith, game s .whole, e .1),
-      game s .numbers,
-      refl,
+      (omega (arith, yes s .fewBlocks, game s .some), omega (arith, e .2), omega (arith, game s .whole, e .1)),
+      (game s .numbers, refl),
     )
 
 array-share-prefix-corner : tie.Need-array-share-prefix-corner
