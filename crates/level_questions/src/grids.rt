@@ -66,7 +66,8 @@ fn next_grid(grid: Grid, factor: usize) -> Made
 
 // Questions 1 to 4 of each level in turn, whose grids are made.
 pub fn made_levels(sizes: &[u8], divisions: &[u16], factor: usize, levels: usize) -> Grids
-    requires { ⌜ (1 ≤ factor) × (factor ≤ 10) × (1 ≤ levels) × (levels ≤ 8) ⌝ }
+    requires { ⌜ (1 ≤ factor) × (factor ≤ 10) ⌝ }
+    requires { ⌜ (1 ≤ levels) × (levels ≤ 8) ⌝ }
     ensures { λ r. ⌜ AreMade (lent (now (sizes .entry)) (now (divisions .entry))) factor levels r ⌝ }
 {
     let none = Grid::none();

@@ -50,7 +50,7 @@ returns c =
     (sym (c .before .before .in-range .ensures) ∙ not-true _ (c .before .if1 .taken)) (c .refused .ensures)
 
 made-levels-requires : tie.Need-made-levels-requires
-made-levels-requires c κs = let w = ranges c in (omega (arith, w .0 .0), w .0 .1, w .1 .0, w .1 .1)
+made-levels-requires c κs = let w = ranges c in ((omega (arith, w .0 .0), w .0 .1), w .1)
 
 refused-requires-2 : tie.Need-refused-requires-2
 refused-requires-2 c κs = search needs

@@ -28,7 +28,7 @@ returns c =
     let s = c .before .before .before .before .before .before .before in
     let n = c .before .before .before .new in
     first-refused (lent (s .args .sizes .now) (s .args .divisions .now)) (s .args .factor) (s .args .levels) (n .result)
-    _ (s .pre .2) (n .ensures) (c .if1 .taken)
+    _ (s .pre .1 .0) (n .ensures) (c .if1 .taken)
 
 array-set-from-grids : tie.Need-array-set-from-grids Inv-loop μ-loop
 array-set-from-grids c = search needs
@@ -39,7 +39,7 @@ loop-holds c =
     let n = c .before .before .before .new in (
       first-made (lent (s .args .sizes .now) (s .args .divisions .now)) (s .args .factor) (n .result) _ refl
           (n .ensures) (c .if1 .left),
-      s .pre .2,
+      s .pre .1 .0,
     )
 
 next-grid-requires : tie.Need-next-grid-requires Inv-loop μ-loop
@@ -48,8 +48,8 @@ next-grid-requires c κs =
     let l = c .before .loop in (
       last-made (lent (s .args .sizes .now) (s .args .divisions .now)) (s .args .factor) (l .i) (l .grids) (l .made)
           (l .inv .0),
-      s .pre .0,
-      s .pre .1,
+      s .pre .0 .0,
+      s .pre .0 .1,
     )
 
 returns-2 : tie.Need-returns-2 Inv-loop μ-loop
@@ -78,7 +78,7 @@ loop-again c =
     let l = c .before .before .before .before .before .loop in
     let n = c .before .before .before .next-grid in (
       next-goes (lent (s .args .sizes .now) (s .args .divisions .now)) (s .args .factor) (l .i) (l .grids) (l .made)
-          (l .inv .0) (n .result) (n .ensures) (c .before .if2 .left) (omega (arith, s .pre .3)),
+          (l .inv .0) (n .result) (n .ensures) (c .before .if2 .left) (omega (arith, s .pre .1 .1)),
       omega arith,
     )
 
