@@ -85,8 +85,8 @@ fn more_alike(point: &[u16], left: usize) -> usize
 
 // The point so many behind this one, where only the last two numbers change.
 fn shift(point: &mut [u16], by: usize)
-    requires { ⌜ (2 ≤ length (now point)) × (length (now point) ≤ 16) × (by ≤ lastOne (now point))
-        × (lastButOne (now point) + by < 65536) ⌝ }
+    requires { ⌜ (2 ≤ length (now point)) × (length (now point) ≤ 16) ⌝ }
+    requires { ⌜ (by ≤ lastOne (now point)) × (lastButOne (now point) + by < 65536) ⌝ }
     ensures { λ _. ⌜ now (point .exit) ≡ shifted (now (point .entry)) by ⌝ }
 {
     if by == 0 {

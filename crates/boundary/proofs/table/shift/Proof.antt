@@ -11,7 +11,8 @@ use Rattle.boundary.proofs.table.shift.Tie as tie
 returns : tie.Need-returns
 returns c =
     let s = c .before in
-    let none : shifted (s .args .point .now) 0 ≡ s .args .point .now = shifted-none (s .args .point .now) (s .pre .0) in
+    let y = s .args .point .now in
+    let none : shifted y 0 ≡ y = shifted-none y (s .pre .0 .0) in
     rw (c .if1 .taken) (sym none)
 
 sub-before : tie.Need-sub-before
@@ -66,7 +67,7 @@ same-length : tie.Need-same-length
 same-length c = search needs
 
 returns-2 : tie.Need-returns-2
-returns-2 c = let s = c .before .before .before in shifted-stores (s .args .point .now) (s .pre .0) (s .args .by)
+returns-2 c = let s = c .before .before .before in shifted-stores (s .args .point .now) (s .pre .0 .0) (s .args .by)
 
 pub shift-spec : {M : Type 1} → statement M
 shift-spec =

@@ -156,7 +156,9 @@ fill-requires c κs =
     (omega arith, omega (arith, fits m, s .pre .oldWhole), rw length-set room)
 
 shift-requires : tie.Need-shift-requires Inv-loop μ-loop
-shift-requires c κs = let m = c .before .before .before .before .before in (two (t m), short (t m), lowered m, raised m)
+shift-requires c κs =
+    let m = c .before .before .before .before .before in
+    ((two (t m), short (t m)), (lowered m, raised m))
 
 advance-requires : tie.Need-advance-requires Inv-loop μ-loop
 advance-requires c κs =
