@@ -27,7 +27,8 @@ fn among(marks: &[u32; 16], n: usize, mark: u32) -> bool
 
 // The position in the first of n + 1 marks that is not among the k + 1 others; 0 where there is none.
 pub fn other(marks: &[u32; 16], n: usize, others: &[u32; 16], k: usize) -> u32
-    requires { ⌜ (n ≤ 15) × (length (now marks) ≡ 16) × (k ≤ 15) × (length (now others) ≡ 16) ⌝ }
+    requires { ⌜ (n ≤ 15) × (length (now marks) ≡ 16) ⌝ }
+    requires { ⌜ (k ≤ 15) × (length (now others) ≡ 16) ⌝ }
     ensures { λ r. ⌜ r ≡ otherIn (take (suc n) (now (marks .entry))) (take (suc k) (now (others .entry))) ⌝ }
 {
     let mut j: usize = 0;

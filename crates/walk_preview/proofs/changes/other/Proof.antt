@@ -6,7 +6,7 @@ use mathlib.Core.List.{List}
 use mathlib.Core.Path.{_≡_, refl, sym, ap, _∙_}
 use Prim.Native.Nat.{ℕ, suc, _+_, _-_, _≤_}
 use lib.Dec.{eqb}
-use lib.ListN.{drop, getD, length, take}
+use lib.ListN.{drop, getD, take}
 use lib.Seq.{getD-take, length-take-le}
 use native.Mathlib.Numerals.{add-one}
 use native.Mathlib.Omega.{arith}
@@ -22,14 +22,13 @@ use Rattle.walk_preview.proofs.changes.other.Tie as tie
 abbrev Inv-loop : tie.InvT-loop
 Inv-loop marks n others k j₀ j =
     (outside eqb (take (suc k) others) (drop j (take (suc n) marks)) ≡ outside eqb (take (suc k) others) (take
-    (suc n) marks)) × (j ≤ n + 1) × (n ≤ 15)
-    × (length marks ≡ 16) × (k ≤ 15) × (length others ≡ 16)
+    (suc n) marks)) × (j ≤ n + 1)
 
 abbrev μ-loop : tie.MeasureT-loop
 μ-loop marks n others k j₀ j = n + 1 - j
 
 loop-holds : tie.Need-loop-holds Inv-loop μ-loop
-loop-holds c = (refl, omega arith, c .pre .0, c .pre .1, c .pre .2, c .pre .3)
+loop-holds c = (refl, omega arith)
 
 mul-among : tie.Need-mul-among Inv-loop μ-loop
 mul-among c = omega arith
@@ -38,12 +37,12 @@ element-copy-out-among : tie.Need-element-copy-out-among Inv-loop μ-loop
 element-copy-out-among c = omega arith
 
 among-requires : tie.Need-among-requires Inv-loop μ-loop
-among-requires c κs = (c .before .before .loop .inv .4, c .before .before .loop .inv .5)
+among-requires c κs = c .before .before .before .pre .1
 
 position-at-requires : tie.Need-position-at-requires Inv-loop μ-loop
 position-at-requires c κs = (
   c .before .before .before .loop-test .taken,
-  c .before .before .before .before .loop .inv .2,
+  c .before .before .before .before .before .pre .0 .0,
 )
 
 cast-result : tie.Need-cast-result Inv-loop μ-loop
@@ -52,7 +51,7 @@ cast-result c = omega arith
 returns : tie.Need-returns Inv-loop μ-loop
 returns c = let a = c .before .before .before .before .before .before .args in
     let l = c .before .before .before .before .before .loop in
-    let long = length-take-le (suc (a .n)) (a .marks .now) (omega (arith, l .inv .2, l .inv .3)) in
+    let long = length-take-le (suc (a .n)) (a .marks .now) (omega arith) in
     let g = getD-take (suc (a .n)) (a .marks .now) (l .j) 0 (omega (
       arith,
       c .before .before .before .before .loop-test .taken,
@@ -70,7 +69,7 @@ loop-less c = omega arith
 loop-again : tie.Need-loop-again Inv-loop μ-loop
 loop-again c = let a = c .before .before .before .before .before .args in
     let l = c .before .before .before .before .loop in
-    let long = length-take-le (suc (a .n)) (a .marks .now) (omega (arith, l .inv .2, l .inv .3)) in
+    let long = length-take-le (suc (a .n)) (a .marks .now) (omega arith) in
     let g = getD-take (suc (a .n)) (a .marks .now) (l .j) 0 (omega (
       arith,
       c .before .before .before .loop-test .taken,
@@ -83,15 +82,11 @@ loop-again c = let a = c .before .before .before .before .before .args in
     (rw g (sym (c .before .among .ensures) ∙ is-not _ (c .if1 .left))) in (
       rw (add-one (l .j)) (z ∙ l .inv .0),
       omega (arith, c .before .before .before .loop-test .taken),
-      l .inv .2,
-      l .inv .3,
-      l .inv .4,
-      l .inv .5,
     )
 
 returns-2 : tie.Need-returns-2 Inv-loop μ-loop
 returns-2 c = let a = c .before .before .args in let l = c .before .loop in
-    let long = length-take-le (suc (a .n)) (a .marks .now) (omega (arith, l .inv .2, l .inv .3)) in
+    let long = length-take-le (suc (a .n)) (a .marks .now) (omega arith) in
     ap (λ (r : List ℕ). markPosition (firstOr 0 r)) (sym (outside-done (take (suc (a .n)) (a .marks .now)) (take (suc
     (a .k)) (a .others .now)) (l .j) (omega (arith, long))) ∙ l .inv .0)
 

@@ -11,12 +11,12 @@ both-placed-requires c κs = (c .pre .1 .made, (c .pre .0, c .pre .1 .moves .goe
 other-requires : tie.Need-other-requires
 other-requires c κs = let C = c .before .before .before .before .before .pre in
     let M = c .before .before .before .before .both-placed .ensures (C .0) (C .1 .moves .goes) in
-    (M .fewNext, M .ontoLong, M .few, M .fromLong)
+    ((M .fewNext, M .ontoLong), (M .few, M .fromLong))
 
 other-requires-2 : tie.Need-other-requires-2
 other-requires-2 c κs = let C = c .before .before .before .before .before .before .before .before .pre in
     let M = c .before .before .before .before .before .before .before .both-placed .ensures (C .0)
-    (C .1 .moves .goes) in (M .few, M .fromLong, M .fewNext, M .ontoLong)
+    (C .1 .moves .goes) in ((M .few, M .fromLong), (M .fewNext, M .ontoLong))
 
 index-of-requires : tie.Need-index-of-requires
 index-of-requires c κs = search needs
