@@ -3,6 +3,7 @@ use mathlib.Core.Bool.{false, cond}
 use mathlib.Core.Path.{_≡_}
 use Prim.Native.Nat.{ℕ, suc, _+_, _≤_, _<_}
 use lib.Dec.{ltb}
+use lib.ListN.{length}
 use Rattle.grid.specs.Grid.{Grid, Point, at, numIndices}
 use Rattle.rules.specs.Mask.{bit}
 use Rattle.simplices.specs.Chains.{coefficientsFrom, zeroOrOne}
@@ -24,6 +25,14 @@ HasZero first end f = (k : ℕ) × (first ≤ k) × (k < end) × (f k ≡ 0)
 -- numbers on a block, and the first once more at the end
 abbrev pub closed : ℕ → ℕ → (ℕ → ℕ) → ℕ → ℕ
 closed first end f k = cond (ltb k end) (f k) (f first)
+
+-- the coefficients can be followed over a block of indices of both points, and the set so far has indices before it
+pub record CanFollow (p z : Point) (first end old : ℕ) : Type 0 where
+  pub some : first < end
+  pub few : end ≤ 16
+  pub ofStart : end ≤ length p
+  pub ofPoint : end ≤ length z
+  pub clear : ClearFrom first old
 
 -- the set on a block, added to a set of indices before it
 pub record Added (p z : Point) (first end old set : ℕ) : Type 0 where

@@ -2,12 +2,10 @@
 // round the block.
 ghost use mathlib.Core.Bool.{true};
 ghost use mathlib.Core.Path.{_≡_};
-ghost use Prim.Native.Nat.{_≤_, _<_};
-ghost use lib.ListN.{length};
+ghost use Prim.Native.Nat.{_≤_};
 ghost use Rattle.grid.specs.Grid.{isGridPoint};
 ghost use Rattle.grid.specs.Made.{IsMade, shape};
-ghost use Rattle.chains.specs.Follow.{FollowedFrom, FoundOnBlock, FoundOf};
-ghost use Rattle.chains.specs.Sets.{ClearFrom};
+ghost use Rattle.chains.specs.Follow.{CanFollow, FollowedFrom, FoundOnBlock, FoundOf};
 use arrays::add;
 use grid::Grid;
 use grid::wide;
@@ -21,8 +19,7 @@ pub enum Found {
 
 // On the block of the indices from first up to end, beginning with c.
 fn follow_from(p: &[u16], z: &[u16], first: usize, end: usize, c: usize, old: u16) -> Found
-    requires { ⌜ (first < end) × (end ≤ 16) × (end ≤ length (now p)) × (end ≤ length (now z))
-        × (c ≤ 1) × ClearFrom first old ⌝ }
+    requires { ⌜ CanFollow (now p) (now z) first end old × (c ≤ 1) ⌝ }
     ensures { λ r. ⌜ FollowedFrom (now (p .entry)) (now (z .entry)) first end c old r ⌝ }
 {
     let mut set = old;
@@ -52,7 +49,7 @@ fn follow_from(p: &[u16], z: &[u16], first: usize, end: usize, c: usize, old: u1
 
 // On a block: the first coefficient is 0 or 1.
 fn on_block(p: &[u16], z: &[u16], first: usize, end: usize, old: u16) -> Found
-    requires { ⌜ (first < end) × (end ≤ 16) × (end ≤ length (now p)) × (end ≤ length (now z)) × ClearFrom first old ⌝ }
+    requires { ⌜ CanFollow (now p) (now z) first end old ⌝ }
     ensures { λ r. ⌜ FoundOnBlock (now (p .entry)) (now (z .entry)) first end old r ⌝ }
 {
     let from_zero = follow_from(p, z, first, end, 0, old);

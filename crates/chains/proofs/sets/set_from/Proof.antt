@@ -45,13 +45,14 @@ on-block-requires c κs = let start = c .before .before .before .before .before 
     let l = c .before .before .before .loop in
     let b = is-block s (start .pre .0) (l .j) (omega arith) in
     let first : c .before .wide .result ≡ firstIndex (shape s) (l .j) = c .before .wide .ensures ∙ b .firstIs in
-    let size : c .wide2 .result ≡ size (shape s) (l .j) = c .wide2 .ensures ∙ b .sizeIs in (
-      omega (arith, b .two),
-      omega (arith, b .inside, b .few),
-      omega (arith, b .inside, point-long (shape s) (start .args .p .now) (start .pre .1)),
-      omega (arith, b .inside, point-long (shape s) (start .args .z .now) (start .pre .2)),
-      rw first (l .inv .0 .clear),
-    )
+    let size : c .wide2 .result ≡ size (shape s) (l .j) = c .wide2 .ensures ∙ b .sizeIs in
+    record {
+      some = omega (arith, b .two);
+      few = omega (arith, b .inside, b .few);
+      ofStart = omega (arith, b .inside, point-long (shape s) (start .args .p .now) (start .pre .1));
+      ofPoint = omega (arith, b .inside, point-long (shape s) (start .args .z .now) (start .pre .2));
+      clear = rw first (l .inv .0 .clear);
+    }
 
 enum-known-found : tie.Need-enum-known-found Inv-loop μ-loop
 enum-known-found c = search needs
