@@ -36,8 +36,8 @@ fn with_label(set: u16, label: u8) -> u16
 
 // The label of a grid point, which stands at the front; its position is the one to which no steps lead.
 fn label_at(g: Grid, binomials: &[u16; 1255], labels: &[u8], y: &[u16; 16]) -> u8
-    requires { ⌜ IsMade g × Labelled g (now labels) × HasBinomials (shape g) (now binomials)
-        × (isGridPoint (shape g) (take (g .indices) (now y)) ≡ true) ⌝ }
+    requires { ⌜ IsMade g × HasBinomials (shape g) (now binomials) ⌝ }
+    requires { ⌜ Labelled g (now labels) × (isGridPoint (shape g) (take (g .indices) (now y)) ≡ true) ⌝ }
     ensures { λ r. ⌜ (r ≡ label (labelledBy (shape g) (now (labels .entry))) (take (g .indices) (now (y .entry))))
         × (r ≤ 16) ⌝ }
 {

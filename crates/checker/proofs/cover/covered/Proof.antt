@@ -88,7 +88,7 @@ label-at-requires c κs =
     let on = on-grid (b .pre .0) k (omega arith) in
     let is = copied (b .args .g) made z on _
     (rw (is-listed (b .pre .0 .has) k (omega arith) .part) at (c .before .padded .ensures)) in
-    (made, b .pre .1, b .pre .2, rw (copied-point (b .args .g) made z on _ is) on)
+    ((made, b .pre .2), (b .pre .1, rw (copied-point (b .args .g) made z on _ is) on))
 
 with-label-requires : tie.Need-with-label-requires Inv-loop μ-loop
 with-label-requires c κs = c .label-at .ensures .1

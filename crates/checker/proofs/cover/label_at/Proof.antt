@@ -19,16 +19,20 @@ position-requires : tie.Need-position-requires
 position-requires c κs = let b = c .before .before in
     let s = b .args .g in
     let y = b .args .y .now in
-    (b .pre .0, b .pre .2, can-stay s (b .pre .0) y (b .pre .3), stays-on-grid s (b .pre .0) y (b .pre .3))
+    let made = b .pre .0 .0 in
+    let on = b .pre .1 .1 in
+    (made, b .pre .0 .1, can-stay s made y on, stays-on-grid s made y on)
 
 read-at-requires : tie.Need-read-at-requires
 read-at-requires c κs =
     let b = c .before .before .before in
     let s = b .args .g in
     let y = b .args .y .now in
+    let made = b .pre .0 .0 in
+    let on = b .pre .1 .1 in
     let is : c .position .result ≡ position (shape s) (take (s .indices) y) =
-    same-position s (b .pre .0) y (b .pre .3) _ (c .position .ensures) in
-    omega (arith, label-inside s (b .pre .0) y (b .pre .3) (b .args .labels .now) (b .pre .1 .whole))
+    same-position s made y on _ (c .position .ensures) in
+    omega (arith, label-inside s made y on (b .args .labels .now) (b .pre .1 .0 .whole))
 
 returns : tie.Need-returns
 unfolding label
@@ -36,14 +40,16 @@ returns c =
     let b = c .before .before .before .before in
     let s = b .args .g in
     let y = b .args .y .now in
+    let made = b .pre .0 .0 in
+    let on = b .pre .1 .1 in
     let labels = b .args .labels .now in
     let is : c .before .position .result ≡ position (shape s) (take (s .indices) y) =
-    same-position s (b .pre .0) y (b .pre .3) _ (c .before .position .ensures) in
-    let low = label-inside s (b .pre .0) y (b .pre .3) labels (b .pre .1 .whole) in
+    same-position s made y on _ (c .before .position .ensures) in
+    let low = label-inside s made y on labels (b .pre .1 .0 .whole) in
     let most = leb-true (getD labels (position (shape s) (take (s .indices) y)) 0) (numIndices (shape s))
-    (at-all (λ l. leb l (numIndices (shape s))) labels (position (shape s) (take (s .indices) y)) (b .pre .1 .within)
+    (at-all (λ l. leb l (numIndices (shape s))) labels (position (shape s) (take (s .indices) y)) (b .pre .1 .0 .within)
     low) in
-    rw (c .read-at .ensures, is) (refl, omega (arith, most, made-accepted s (b .pre .0) .fewIndices))
+    rw (c .read-at .ensures, is) (refl, omega (arith, most, made-accepted s made .fewIndices))
 
 pub label-at-spec : {M : Type 1} → statement M
 label-at-spec = tie.close (tie.spec position-requires read-at-requires returns)
