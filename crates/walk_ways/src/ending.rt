@@ -33,7 +33,8 @@ fn ended(
 ) -> Next
     ghost { State }
     requires { λ a. ⌜ stateOf (roundBack previous sizes) (now first) [] (now order) [] s ≡ a ⌝ }
-    requires { λ a. ⌜ IsMade g × (h < g .indices) × CanPut a (g .indices) from 256 × (length (a .order) ≡ s .count) ⌝ }
+    requires { λ a. ⌜ CanPut a (g .indices) from 256 × (length (a .order) ≡ s .count) ⌝ }
+    requires { λ _. ⌜ IsMade g × (h < g .indices) ⌝ }
     ensures { λ a r. ⌜ r ≡ endAs g a kind h from ⌝ }
 {
     let m = g.indices;

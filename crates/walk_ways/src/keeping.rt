@@ -24,7 +24,8 @@ fn cut(order: &[u32; 16], n: usize) -> [u32; 16]
 
 // The place with the first m numbers of the first point, and the first n indices of the order.
 pub fn kept_as(first: &[u16; 16], m: usize, order: &[u32; 16], n: usize) -> Place
-    requires { ⌜ (m ≤ 16) × (n ≤ 15) × (length (now first) ≡ 16) × (length (now order) ≡ 16) ⌝ }
+    requires { ⌜ (m ≤ 16) × (length (now first) ≡ 16) ⌝ }
+    requires { ⌜ (n ≤ 15) × (length (now order) ≡ 16) ⌝ }
     ensures { λ r. ⌜ r ≡ keptAs m (now (first .entry)) (now (order .entry)) n ⌝ }
 {
     let y = padded(first, m);

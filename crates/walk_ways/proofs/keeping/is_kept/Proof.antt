@@ -34,11 +34,13 @@ sub-kept-as c = omega (arith, c .wide .ensures, c .before .before .before .befor
 
 kept-as-requires : tie.Need-kept-as-requires
 kept-as-requires c κs =
-    let a = c .before .before .before .before .before .before .before .args in (
-      c .before .before .before .before .before .before .before .pre,
-      omega (arith, c .wide .ensures, c .before .before .before .before .before .if2 .left),
-      length-unmapped _ (a .p .first) 16 (search needs),
-      length-unmapped _ (a .p .order) 16 (search needs),
+    let s = c .before .before .before .before .before .before .before in
+    let a = s .args in (
+      (s .pre, length-unmapped _ (a .p .first) 16 (search needs)),
+      (
+        omega (arith, c .wide .ensures, c .before .before .before .before .before .if2 .left),
+        length-unmapped _ (a .p .order) 16 (search needs),
+      ),
     )
 
 same-place-requires : tie.Need-same-place-requires

@@ -8,7 +8,7 @@ padded-requires : tie.Need-padded-requires
 padded-requires c κs = omega (arith, c .before .pre)
 
 cut-requires : tie.Need-cut-requires
-cut-requires c κs = (omega (arith, c .before .before .pre), c .before .before .pre .3)
+cut-requires c κs = (omega (arith, c .before .before .pre), c .before .before .pre .1 .1)
 
 cast-t9 : tie.Need-cast-t9
 cast-t9 c = omega (arith, c .before .before .before .pre)

@@ -35,11 +35,12 @@ kept-as-requires c κs =
     (c .before .before .before .before .before .before .before .before
     .before .before .before .before .before .before .pre .1)
     (c .before .before .before .outcome .given .0 .0) (c .before .before .before .outcome .given .1) in (
-      c .before .before .before .before .before .before .before .before
-          .before .before .before .before .before .before .pre .2,
-      w .0,
-      w .1,
-      c .before .before .before .before .before .step .ensures .each .inOrder,
+      (
+        c .before .before .before .before .before .before .before .before
+            .before .before .before .before .before .before .pre .2,
+        w .1,
+      ),
+      (w .0, c .before .before .before .before .before .step .ensures .each .inOrder),
     )
 
 rule-of-requires : tie.Need-rule-of-requires
