@@ -10,7 +10,8 @@ use grid::wide;
 
 // 1 more at h, 1 less at b.
 pub fn shift(y: &mut [u16; 16], h: usize, b: usize)
-    requires { ⌜ (h < 16) × (b < 16) × (at (now y) h < 65535) × (1 ≤ at (now y) b) ⌝ }
+    requires { ⌜ (h < 16) × (b < 16) ⌝ }
+    requires { ⌜ (at (now y) h < 65535) × (1 ≤ at (now y) b) ⌝ }
     ensures { λ _. ⌜ now (y .exit) ≡ shifted (now (y .entry)) h b ⌝ }
 {
     y[h] = y[h] + 1;

@@ -49,12 +49,9 @@ shift-requires c κs =
     let b = c .before .source in
     let ready = step-ready (firstOutside (a .previous .now) (a .sizes .now) (a .u)) (a .order .now) (a .y .now) (a .i)
     (a .i) (l .k) (h .result) (b .result) (l .y) (c .before .before .before .before .loop-test .taken) (omega arith)
-    (s .pre .1) (l .inv .0) (h .ensures) (b .ensures .0) in (
-      rw (h .ensures) (entry-below (a .order .now) (a .i) (l .k) (omega arith) (s .pre .1 .indices)),
-      b .ensures .1,
-      ready .0,
-      ready .1,
-    )
+    (s .pre .1) (l .inv .0) (h .ensures) (b .ensures .0) in
+    let below = entry-below (a .order .now) (a .i) (l .k) (omega arith) (s .pre .1 .indices) in
+    ((rw (h .ensures) below, b .ensures .1), ready)
 
 add-k : tie.Need-add-k Inv-loop μ-loop
 add-k c = omega arith

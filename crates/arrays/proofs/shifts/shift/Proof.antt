@@ -26,7 +26,7 @@ element-copy-out-y-2 : tie.Need-element-copy-out-y-2
 element-copy-out-y-2 c = search needs
 
 sub-y : tie.Need-sub-y
-sub-y c = let a = c .before .before .args in raised-positive (a .y .now) (a .h) (a .b) (c .before .before .pre .3)
+sub-y c = let a = c .before .before .args in raised-positive (a .y .now) (a .h) (a .b) (c .before .before .pre .1 .1)
 
 mul-y-4 : tie.Need-mul-y-4
 mul-y-4 c = search needs
