@@ -30,8 +30,8 @@ fn entry(t: &[u16; ENTRIES], k: usize, x: usize) -> usize
 // By how much a step in a grid of one block lowers the position. It takes from b, an index before its own, h; between
 // them the point is 0, and its coordinates from h on add up to r.
 pub fn fall(g: Grid, t: &[u16; ENTRIES], h: usize, b: usize, r: usize) -> usize
-    requires { ⌜ IsMade g × HasBinomials (shape g) (now t) × (g .blocks ≡ 1) × (h < g .indices) × (b < h)
-        × (r < division (shape g) 0) ⌝ }
+    requires { ⌜ IsMade g × HasBinomials (shape g) (now t) × (g .blocks ≡ 1) ⌝ }
+    requires { ⌜ (h < g .indices) × (b < h) × (r < division (shape g) 0) ⌝ }
     ensures { λ f. ⌜ ((y z : Point) → Falls (shape g) y z h b r → position (shape g) y ≡ position (shape g) z + f) ⌝ }
 {
     let m = g.indices;

@@ -41,7 +41,8 @@ pub fn binomials(g: Grid, t: &mut [u16; ENTRIES])
 // The position of the grid point to which the steps lead from y. It stands at the front of the coordinates after the
 // steps.
 pub fn position(g: Grid, t: &[u16; ENTRIES], y: &[u16; 16], steps: &[u16; 16]) -> usize
-    requires { ⌜ IsMade g × HasBinomials (shape g) (now t) × CanStep (g .indices) (now y) (now steps)
+    requires { ⌜ IsMade g × HasBinomials (shape g) (now t) ⌝ }
+    requires { ⌜ CanStep (g .indices) (now y) (now steps)
         × (isGridPoint (shape g) (take (g .indices) (afterSteps (now y) (now steps))) ≡ true) ⌝ }
     ensures { λ r. ⌜ r ≡ positionOf (shape g) (take (g .indices) (afterSteps (now (y .entry)) (now (steps .entry)))) ⌝ }
 {

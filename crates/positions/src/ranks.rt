@@ -13,7 +13,8 @@ use grid::wide16;
 
 // With k + 1 numbers to come that add up to left: how many lists have a first number below x.
 fn lists_before(t: &[u16; ENTRIES], k: usize, left: usize, x: usize) -> usize
-    requires { ⌜ InTable k left × (x ≤ left) × IsBinomial (now t) k left × IsBinomial (now t) k (left - x) ⌝ }
+    requires { ⌜ InTable k left × (x ≤ left) ⌝ }
+    requires { ⌜ IsBinomial (now t) k left × IsBinomial (now t) k (left - x) ⌝ }
     ensures { λ r. ⌜ r + choose (left - x + k) k ≡ choose (left + k) k ⌝ }
 {
     let row = (15 - k) * ROW;
@@ -29,9 +30,9 @@ pub fn in_block(
     size: usize,
     division: usize,
 ) -> usize
-    requires { ⌜ (2 ≤ size) × (first + size ≤ 16) × (choose (division + pred size) (pred size) ≤ 60000)
-        × (sum (map (at (afterSteps (now y) (now steps))) (upFrom first size)) ≡ division)
-        × HasRows size division (now t) × CanStep (first + size) (now y) (now steps) ⌝ }
+    requires { ⌜ (2 ≤ size) × (first + size ≤ 16) × (choose (division + pred size) (pred size) ≤ 60000) ⌝ }
+    requires { ⌜ HasRows size division (now t) × CanStep (first + size) (now y) (now steps)
+        × (sum (map (at (afterSteps (now y) (now steps))) (upFrom first size)) ≡ division) ⌝ }
     ensures { λ r. ⌜ (let after = afterSteps (now (y .entry)) (now (steps .entry)) in
         r ≡ positionIn (blockPoints size division) (map (at after) (upFrom first size))) ⌝ }
 {

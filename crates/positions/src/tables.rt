@@ -21,8 +21,8 @@ fn entry_before(t: &[u16; ENTRIES], k: usize, r: usize) -> u16
 
 // Row k as far as r = most.
 fn fill_row(t: &mut [u16; ENTRIES], k: usize, most: usize)
-    requires { ⌜ InTable k most × (choose (most + k) k ≤ 60000) × (length (now t) ≡ 1255)
-        × ((r : ℕ) → 3 ≤ k → r ≤ most → IsBinomial (now t) (k - 1) r) ⌝ }
+    requires { ⌜ InTable k most × (choose (most + k) k ≤ 60000) ⌝ }
+    requires { ⌜ (length (now t) ≡ 1255) × ((r : ℕ) → 3 ≤ k → r ≤ most → IsBinomial (now t) (k - 1) r) ⌝ }
     ensures { λ _. ⌜ (length (now (t .exit)) ≡ 1255) × Keeps (now (t .entry)) (now (t .exit))
         × ((r : ℕ) → r ≤ most → IsBinomial (now (t .exit)) k r) ⌝ }
 {
@@ -39,8 +39,8 @@ fn fill_row(t: &mut [u16; ENTRIES], k: usize, most: usize)
 
 // The rows that a block needs.
 pub fn fill_block(t: &mut [u16; ENTRIES], size: usize, division: usize)
-    requires { ⌜ (2 ≤ size) × (size ≤ 16) × (choose (division + pred size) (pred size) ≤ 60000) × (length (now t)
-        ≡ 1255) ⌝ }
+    requires { ⌜ (2 ≤ size) × (size ≤ 16) × (choose (division + pred size) (pred size) ≤ 60000) ⌝ }
+    requires { ⌜ length (now t) ≡ 1255 ⌝ }
     ensures { λ _. ⌜ (length (now (t .exit)) ≡ 1255) × Keeps (now (t .entry)) (now (t .exit))
         × HasRows size division (now (t .exit)) ⌝ }
 {

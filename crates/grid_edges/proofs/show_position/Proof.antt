@@ -67,12 +67,13 @@ position-requires c κs =
     let e = c .before .before .before .before .before .before .before .before .before .before in
     let y = e .before .before .before .before .args .t3 in
     let few = indices-few _ (made e) in (
-      made e,
-      c .before .before .before .before .binomials .ensures,
-      none-can y _ few,
-      rw (none-after y _ few (fits e))
-          (sym (c .before .before .before .before .before .before .before .is-grid-point .ensures)
-          ∙ not-false _ (c .before .before .before .before .before .before .if2 .left)),
+      (made e, c .before .before .before .before .binomials .ensures),
+      (
+        none-can y _ few,
+        rw (none-after y _ few (fits e))
+            (sym (c .before .before .before .before .before .before .before .is-grid-point .ensures)
+            ∙ not-false _ (c .before .before .before .before .before .before .if2 .left)),
+      ),
     )
 
 write-requires-3 : tie.Need-write-requires-3

@@ -23,11 +23,12 @@ position-requires c κs =
     let a = s .args in
     let round = roundOf (a .previous .now) [] (a .sizes .now) in
     rw (c .before .advance .ensures) (
-      s .pre .0 .made,
-      s .pre .0 .filled,
-      can-step (a .g) (s .pre .0 .made) round (a .first .now) (a .order .now) (a .s) (s .pre .1),
-      rw (point-at (a .g) (s .pre .0 .made) round (a .first .now) (a .order .now) (a .s) (s .pre .1))
-          (s .pre .1 .onGrid),
+      (s .pre .0 .made, s .pre .0 .filled),
+      (
+        can-step (a .g) (s .pre .0 .made) round (a .first .now) (a .order .now) (a .s) (s .pre .1),
+        rw (point-at (a .g) (s .pre .0 .made) round (a .first .now) (a .order .now) (a .s) (s .pre .1))
+            (s .pre .1 .onGrid),
+      ),
     )
 
 returns : tie.Need-returns

@@ -58,7 +58,7 @@ fill-block-requires c κs =
       c .wide16 .ensures .0,
       made-size s m (l .j) (omega arith),
       made-division s m (l .j) (omega arith),
-    ) (r .0, r .1, count-range s m (l .j) (omega arith), l .inv .1)
+    ) ((r .0, r .1, count-range s m (l .j) (omega arith)), l .inv .1)
 
 add-j : tie.Need-add-j Inv-loop μ-loop
 add-j c = search needs

@@ -37,7 +37,7 @@ point : (c : tie.Start Inv-loop μ-loop)
     → isGridPoint (shape (c .args .g)) (take (numIndices (shape (c .args .g))) (stepped c)) ≡ true
 point c = subst
     (λ (m : ℕ). isGridPoint (shape (c .args .g)) (take m (stepped c)) ≡ true)
-    (made-indices (c .args .g) (c .pre .0)) (c .pre .3)
+    (made-indices (c .args .g) (c .pre .0 .0)) (c .pre .1 .1)
 
 -- the coordinates of a block stand in the array as in the point
 same : (c : tie.Start Inv-loop μ-loop) (j : ℕ)
@@ -61,7 +61,7 @@ next : (c : tie.After-wide162 Inv-loop μ-loop)
 next c =
     let b = c .before .before .before .before .before .before .before .before .before .before .before in
     let s = b .args .g in
-    let m = b .pre .0 in
+    let m = b .pre .0 .0 in
     let l = c .before .before .before .before .before .before .loop in
     let isFirst = made-first s m (l .j) (omega arith) in
     let isSize = made-size s m (l .j) (omega arith) in
@@ -88,14 +88,14 @@ few : (c : tie.After-wide162 Inv-loop μ-loop)
 few c =
     let b = c .before .before .before .before .before .before .before .before .before .before .before in
     let s = b .args .g in
-    let m = b .pre .0 in
+    let m = b .pre .0 .0 in
     horner-few (shape s) _ (made-accepted s m) (point b)
     (c .before .before .before .before .before .before .loop .j + 1) _ (omega (arith, made-blocks s m)) (next c)
 
 loop-holds : tie.Need-loop-holds Inv-loop μ-loop
 loop-holds c =
     let s = c .before .before .before .before .args .g in
-    let m = c .before .before .before .before .pre .0 in (
+    let m = c .before .before .before .before .pre .0 .0 in (
       horner-start (shape s) _ (made-accepted s m) (point (c .before .before .before .before)),
       omega arith,
       blocks-range s m .1,
@@ -126,7 +126,7 @@ in-block-requires : tie.Need-in-block-requires Inv-loop μ-loop
 in-block-requires c κs =
     let b = c .before .before .before .before .before .before .before .before .before in
     let s = b .args .g in
-    let m = b .pre .0 in
+    let m = b .pre .0 .0 in
     let j = c .before .before .before .before .loop .j in
     let isFirst = made-first s m j (omega arith) in
     let isSize = made-size s m j (omega arith) in
@@ -140,12 +140,16 @@ in-block-requires c κs =
       isSize,
       isDivision,
     ) (
-      size-range s m j (omega arith) .0,
-      omega (arith, block-fits (shape s .sizes) j, indices-few s m, made-indices s m),
-      count-range s m j (omega arith),
-      rw (same b j) at (adds-up (shape s) _ (made-accepted s m) (point b) j n),
-      b .pre .1 .rows j n,
-      λ k l. b .pre .2 k (omega (arith, block-fits (shape s .sizes) j, made-indices s m)),
+      (
+        size-range s m j (omega arith) .0,
+        omega (arith, block-fits (shape s .sizes) j, indices-few s m, made-indices s m),
+        count-range s m j (omega arith),
+      ),
+      (
+        b .pre .0 .1 .rows j n,
+        λ k l. b .pre .1 .0 k (omega (arith, block-fits (shape s .sizes) j, made-indices s m)),
+        rw (same b j) at (adds-up (shape s) _ (made-accepted s m) (point b) j n),
+      ),
     )
 
 mul-wide16-2 : tie.Need-mul-wide16-2 Inv-loop μ-loop
@@ -176,7 +180,7 @@ returns : tie.Need-returns Inv-loop μ-loop
 returns c =
     let b = c .before .before .before .before .before .before in
     let s = b .args .g in
-    let m = b .pre .0 in
+    let m = b .pre .0 .0 in
     let l = c .before .loop in
     let n : l .j ≡ numBlocks (shape s) = omega (arith, made-blocks s m) in
     horner-done (shape s) _ (made-accepted s m) (point b) (l .at) (rw (← n) (l .inv .0))

@@ -21,7 +21,7 @@ position-requires c κs = let b = c .before .before in
     let y = b .args .y .now in
     let made = b .pre .0 .0 in
     let on = b .pre .1 .1 in
-    (made, b .pre .0 .1, can-stay s made y on, stays-on-grid s made y on)
+    (b .pre .0, (can-stay s made y on, stays-on-grid s made y on))
 
 read-at-requires : tie.Need-read-at-requires
 read-at-requires c κs =

@@ -44,12 +44,8 @@ fall-requires c κs =
     let s = c .before .before .before .before .before in
     let m = s .pre .0 in
     let w = s .pre .1 in (
-      m .made,
-      m .filled,
-      w .one,
-      w .index,
-      w .before,
-      rw (c .before .before .sum .ensures, c .wide16 .ensures .0) (w .room),
+      (m .made, m .filled, w .one),
+      (w .index, w .before, rw (c .before .before .sum .ensures, c .wide16 .ensures .0) (w .room)),
     )
 
 returns : tie.Need-returns

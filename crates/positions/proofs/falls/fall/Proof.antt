@@ -16,8 +16,8 @@ use Rattle.positions.proofs.falls.fall.Tie as tie
 indices : (c : tie.Start) → c .args .g .indices ≡ size (shape (c .args .g)) 0
 indices c =
     let s = c .args .g in
-    let m = c .pre .0 in
-    made-indices s m ∙ all-indices (shape s) (made-accepted s m) (omega (arith, made-blocks s m, c .pre .2))
+    let m = c .pre .0 .0 in
+    made-indices s m ∙ all-indices (shape s) (made-accepted s m) (omega (arith, made-blocks s m, c .pre .0 .2))
 
 -- what both entries ask
 asked : (c : tie.Start) (k : ℕ) → k < c .args .g .indices
@@ -25,16 +25,16 @@ asked : (c : tie.Start) (k : ℕ) → k < c .args .g .indices
     × (2 < k → InTable (k - 1) (c .args .r + 1) × IsBinomial (c .args .t .now) (k - 1) (c .args .r + 1))
 asked c k l =
     let s = c .args .g in
-    let m = c .pre .0 in
-    let one = c .pre .2 in (
-      omega (arith, division-range s m 0 (omega arith) .1, c .pre .5),
+    let m = c .pre .0 .0 in
+    let one = c .pre .0 .2 in (
+      omega (arith, division-range s m 0 (omega arith) .1, c .pre .1 .2),
       λ h. (
         in-smaller (k - 1) (division (shape s) 0)
             (in-table (k - 1) (division (shape s) 0) (pred (size (shape s) 0)) (omega arith) (omega (arith, indices c))
             (omega (arith, indices c, indices-few s m)) (count-range s m 0 (omega arith)))
-            (k - 1) (c .args .r + 1) (omega arith) (omega arith) (omega (arith, c .pre .5)),
-        c .pre .1 .rows 0 (omega (arith, made-blocks s m)) (k - 1) (c .args .r + 1) (omega arith)
-            (omega (arith, indices c)) (omega (arith, c .pre .5)),
+            (k - 1) (c .args .r + 1) (omega arith) (omega arith) (omega (arith, c .pre .1 .2)),
+        c .pre .0 .1 .rows 0 (omega (arith, made-blocks s m)) (k - 1) (c .args .r + 1) (omega arith)
+            (omega (arith, indices c)) (omega (arith, c .pre .1 .2)),
       ),
     )
 
@@ -46,7 +46,7 @@ fewer c =
       c .entry2 .ensures,
       c .before .entry .ensures,
       lists-grow (a .g .indices - 1 - a .h) (a .g .indices - 1 - a .b) (a .r + 1)
-          (omega (arith, c .before .before .pre .4)),
+          (omega (arith, c .before .before .pre .1 .1)),
     )
 
 sub-entry : tie.Need-sub-entry
@@ -56,10 +56,10 @@ sub-entry-2 : tie.Need-sub-entry-2
 sub-entry-2 c = search needs
 
 add-entry : tie.Need-add-entry
-add-entry c = omega (arith, asked c 0 (omega (arith, c .pre .3)) .0)
+add-entry c = omega (arith, asked c 0 (omega (arith, c .pre .1 .0)) .0)
 
 entry-requires : tie.Need-entry-requires
-entry-requires c κs = asked c _ (omega (arith, c .pre .3))
+entry-requires c κs = asked c _ (omega (arith, c .pre .1 .0))
 
 sub-entry-3 : tie.Need-sub-entry-3
 sub-entry-3 c = search needs
@@ -68,10 +68,10 @@ sub-entry-4 : tie.Need-sub-entry-4
 sub-entry-4 c = search needs
 
 add-entry-2 : tie.Need-add-entry-2
-add-entry-2 c = omega (arith, asked (c .before) 0 (omega (arith, c .before .pre .3)) .0)
+add-entry-2 c = omega (arith, asked (c .before) 0 (omega (arith, c .before .pre .1 .0)) .0)
 
 entry-requires-2 : tie.Need-entry-requires-2
-entry-requires-2 c κs = asked (c .before) _ (omega (arith, c .before .pre .3))
+entry-requires-2 c κs = asked (c .before) _ (omega (arith, c .before .pre .1 .0))
 
 sub-result : tie.Need-sub-result
 sub-result c = fewer c
@@ -79,7 +79,7 @@ sub-result c = fewer c
 returns : tie.Need-returns
 returns c y z f =
     let s = c .before .before .args .g in
-    let m = c .before .before .pre .0 in
+    let m = c .before .before .pre .0 .0 in
     omega (
       arith,
       rw (← made-indices s m) at (falls-by (shape s) (made-accepted s m) f),

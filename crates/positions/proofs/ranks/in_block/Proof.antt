@@ -35,7 +35,7 @@ stepped c = afterSteps (c .args .y .now) (c .args .steps .now)
 few : (c : tie.Start Inv-loop μ-loop) → rankOf (stepped c) (c .args .first) (c .args .size) (c .args .division) < 60000
 few c =
     let a = c .args in
-    omega (arith, rank-below (stepped c) (a .first) (a .size) (a .division) (omega arith) (c .pre .3), c .pre .2)
+    omega (arith, rank-below (stepped c) (a .first) (a .size) (a .division) (omega arith) (c .pre .1 .2), c .pre .0 .2)
 
 -- a coordinate after the steps, of an array's number and its count
 coordinate : (c : tie.Start Inv-loop μ-loop) (i y steps : ℕ) → i < c .args .first + c .args .size
@@ -43,7 +43,8 @@ coordinate : (c : tie.Start Inv-loop μ-loop) (i y steps : ℕ) → i < c .args 
     → (16 ≤ y + steps) × (y + steps - 16 ≡ at (stepped c) i)
 coordinate c i y steps l e f =
     let a = c .args in
-    (omega (arith, c .pre .5 i l), omega (arith, after-at (a .y .now) (a .steps .now) i (omega (arith, c .pre .1))))
+    let after = after-at (a .y .now) (a .steps .now) i (omega (arith, c .pre .0 .1)) in
+    (omega (arith, c .pre .1 .1 i l), omega (arith, after))
 
 -- the coordinate that a turn takes
 turn : (c : tie.After-wide162 Inv-loop μ-loop)
@@ -75,7 +76,7 @@ loop-holds : tie.Need-loop-holds Inv-loop μ-loop
 loop-holds c =
     let a = c .args in
     let z : a .size - 1 + 1 ≡ a .size = omega arith in
-    (omega arith, omega arith, omega arith, omega arith, rw z (c .pre .3), rw z (omega arith))
+    (omega arith, omega arith, omega arith, omega arith, rw z (c .pre .1 .2), rw z (omega arith))
 
 mul-wide16 : tie.Need-mul-wide16 Inv-loop μ-loop
 mul-wide16 c = search needs
@@ -107,11 +108,15 @@ lists-before-requires c κs =
     let s = c .before .before .before .before .before .before in
     let t = taken c in
     let room = in-table (l .k) (s .args .division) (pred (s .args .size)) (omega arith) (omega arith)
-    (omega (arith, s .pre .1)) (s .pre .2) in (
-      in-smaller (l .k) (s .args .division) room (l .k) (l .left) (omega arith) (omega arith) (l .inv .3),
-      omega (arith, t .0),
-      s .pre .4 (l .k) (l .left) (omega arith) (l .inv .1) (l .inv .3),
-      s .pre .4 (l .k) _ (omega arith) (l .inv .1) (omega arith),
+    (omega (arith, s .pre .0 .1)) (s .pre .0 .2) in (
+      (
+        in-smaller (l .k) (s .args .division) room (l .k) (l .left) (omega arith) (omega arith) (l .inv .3),
+        omega (arith, t .0),
+      ),
+      (
+        s .pre .1 .0 (l .k) (l .left) (omega arith) (l .inv .1) (l .inv .3),
+        s .pre .1 .0 (l .k) _ (omega arith) (l .inv .1) (omega arith),
+      ),
     )
 
 add-rank : tie.Need-add-rank Inv-loop μ-loop

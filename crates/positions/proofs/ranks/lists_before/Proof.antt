@@ -15,8 +15,8 @@ fewer c =
       arith,
       c .wide162 .ensures .0,
       c .before .before .wide16 .ensures .0,
-      p .2,
-      p .3,
+      p .1 .0,
+      p .1 .1,
       choose-grows (a .left - a .x) (a .left) (a .k) (a .k) (omega arith) (omega arith),
     )
 
@@ -33,7 +33,7 @@ mul-wide16 : tie.Need-mul-wide16
 mul-wide16 c = search needs
 
 element-copy-out-wide16 : tie.Need-element-copy-out-wide16
-element-copy-out-wide16 c = place-below (c .args .k) (c .args .left) (c .pre .0)
+element-copy-out-wide16 c = place-below (c .args .k) (c .args .left) (c .pre .0 .0)
 
 wide16-requires : tie.Need-wide16-requires
 wide16-requires c κs = search needs
@@ -50,7 +50,7 @@ mul-wide16-2 c = search needs
 element-copy-out-wide16-2 : tie.Need-element-copy-out-wide16-2
 element-copy-out-wide16-2 c =
     let a = c .before .before .args in
-    let i = c .before .before .pre .0 in
+    let i = c .before .before .pre .0 .0 in
     place-below (a .k) (a .left - a .x)
     (in-smaller (a .k) (a .left) i (a .k) (a .left - a .x) (i .0) (omega arith) (omega arith))
 
@@ -63,7 +63,7 @@ sub-result c = fewer c
 returns : tie.Need-returns
 returns c =
     let p = c .before .before .before .before .pre in
-    omega (arith, fewer c, c .wide162 .ensures .0, c .before .before .wide16 .ensures .0, p .2, p .3)
+    omega (arith, fewer c, c .wide162 .ensures .0, c .before .before .wide16 .ensures .0, p .1 .0, p .1 .1)
 
 pub lists-before-spec : {M : Type 1} → statement M
 lists-before-spec =

@@ -23,20 +23,19 @@ room : (c : tie.In-loop Inv-loop μ-loop) → InTable (c .before .loop .k) (c .b
 room c =
     let a = c .before .before .args in
     in-table (c .before .loop .k) (a .division) (pred (a .size)) (omega arith) (omega arith)
-    (omega (arith, c .before .before .pre .1)) (c .before .before .pre .2)
+    (omega (arith, c .before .before .pre .0 .1)) (c .before .before .pre .0 .2)
 
 loop-holds : tie.Need-loop-holds Inv-loop μ-loop
-loop-holds c = let p = c .pre in (omega arith, p .0, p .3, keeps-self, (λ k r two l h. absurd (omega arith)))
+loop-holds c = let p = c .pre in (omega arith, p .0 .0, p .1, keeps-self, (λ k r two l h. absurd (omega arith)))
 
 fill-row-requires : tie.Need-fill-row-requires Inv-loop μ-loop
 fill-row-requires c κs =
     let l = c .before .before .loop in
     let a = c .before .before .before .args in
-    let p = c .before .before .before .pre in (
-      room (c .before),
-      omega (arith, choose-grows (a .division) (a .division) (l .k) (pred (a .size)) (omega arith) (omega arith), p .2),
-      l .inv .2,
-      (λ r h m. l .inv .4 (l .k - 1) r (omega arith) (omega arith) m),
+    let p = c .before .before .before .pre in
+    let grows = choose-grows (a .division) (a .division) (l .k) (pred (a .size)) (omega arith) (omega arith) in (
+      (room (c .before), omega (arith, grows, p .0 .2)),
+      (l .inv .2, λ r h m. l .inv .4 (l .k - 1) r (omega arith) (omega arith) m),
     )
 
 add-k : tie.Need-add-k Inv-loop μ-loop

@@ -31,9 +31,9 @@ started c =
     let t = a .t .now in
     let z : (15 - a .k) * 70 + 0 ≡ (15 - a .k) * 70 = omega arith in
     let one = sym (choose-none (a .k)) in
-    let i = in-smaller (a .k) (a .most) (p .0) (a .k) 0 (p .0 .0) (omega arith) (omega arith) in (
-      subst (λ (n : ℕ). Keeps t (set t n 1)) z (stored-keeps t (a .k) 0 1 (p .2) i one),
-      subst (λ (n : ℕ). IsBinomial (set t n 1) (a .k) 0) z (stored-is t (a .k) 0 1 (p .2) i one),
+    let i = in-smaller (a .k) (a .most) (p .0 .0) (a .k) 0 (p .0 .0 .0) (omega arith) (omega arith) in (
+      subst (λ (n : ℕ). Keeps t (set t n 1)) z (stored-keeps t (a .k) 0 1 (p .1 .0) i one),
+      subst (λ (n : ℕ). IsBinomial (set t n 1) (a .k) 0) z (stored-is t (a .k) 0 1 (p .1 .0) i one),
     )
 
 -- the next entry
@@ -63,7 +63,7 @@ loop-holds c =
     let s = started c in (
       omega arith,
       sym (choose-none (c .args .k)),
-      simp length-set (c .pre .2),
+      simp length-set (c .pre .1 .0),
       keeps-self,
       (λ i h. let e : i ≡ 0 = omega arith in rw e (s .1)),
     )
@@ -75,12 +75,12 @@ entry-before-requires : tie.Need-entry-before-requires Inv-loop μ-loop
 entry-before-requires c κs =
     let l = c .before .before .loop in
     let s = c .before .before .before in
-    let in-row = in-smaller (s .args .k) (s .args .most) (s .pre .0) in (
-      in-row (s .args .k) (l .r + 1) (s .pre .0 .0) (omega arith) (omega arith),
+    let in-row = in-smaller (s .args .k) (s .args .most) (s .pre .0 .0) in (
+      in-row (s .args .k) (l .r + 1) (s .pre .0 .0 .0) (omega arith) (omega arith),
       (λ h.
           let i = in-row (s .args .k - 1) (l .r + 1) (omega arith) (omega arith) (omega arith) in
           l .inv .3 .right (s .args .k - 1) (l .r + 1) i
-          (started s .0 .right (s .args .k - 1) (l .r + 1) i (s .pre .3 (l .r + 1) h (omega arith)))),
+          (started s .0 .right (s .args .k - 1) (l .r + 1) i (s .pre .1 .1 (l .r + 1) h (omega arith)))),
     )
 
 add-last : tie.Need-add-last Inv-loop μ-loop
@@ -91,7 +91,7 @@ add-last c =
       arith,
       next c,
       choose-grows (l .r + 1) (a .most) (a .k) (a .k) (omega arith) (omega arith),
-      c .before .before .before .before .pre .1,
+      c .before .before .before .before .pre .0 .1,
     )
 
 add-t : tie.Need-add-t Inv-loop μ-loop
@@ -112,15 +112,15 @@ loop-again c =
     let a = c .before .before .before .before .args in
     let p = c .before .before .before .before .pre in
     let v = l .last + c .entry-before .result in
-    let in-row = in-smaller (a .k) (a .most) (p .0) (a .k) in
-    let here = in-row (l .r + 1) (p .0 .0) (omega arith) (omega arith) in
+    let in-row = in-smaller (a .k) (a .most) (p .0 .0) (a .k) in
+    let here = in-row (l .r + 1) (p .0 .0 .0) (omega arith) (omega arith) in
     let keeps = stored-keeps (l .t) (a .k) (l .r + 1) v (l .inv .2) here (next c) in (
       omega arith,
       next c,
       simp length-set (l .inv .2),
       keeps-both (l .inv .3) keeps,
       (λ i h. ⊎-elim
-          (λ b. keeps .right (a .k) i (in-row i (p .0 .0) (omega arith) (omega arith)) (l .inv .4 i (omega arith)))
+          (λ b. keeps .right (a .k) i (in-row i (p .0 .0 .0) (omega arith) (omega arith)) (l .inv .4 i (omega arith)))
           (λ b.
           let e : i ≡ l .r + 1 = omega arith in
           rw e (stored-is (l .t) (a .k) (l .r + 1) v (l .inv .2) here (next c)))

@@ -8,7 +8,7 @@ use Rattle.recogniser.proofs.points.mark_at.Statement.{statement}
 use Rattle.recogniser.proofs.points.mark_at.Tie as tie
 
 position-requires : tie.Need-position-requires
-position-requires c κs = let s = c in (s .pre .0 .made, s .pre .0 .filled, s .pre .1 .can, s .pre .1 .point)
+position-requires c κs = ((c .pre .0 .made, c .pre .0 .filled), (c .pre .1 .can, c .pre .1 .point))
 
 cast-result : tie.Need-cast-result
 cast-result c = let s = c .before in let a = s .args in

@@ -17,10 +17,8 @@ position-requires c κs =
     let w = c .before .pre in
     let few = indices-few (a .g) (w .measured .made) in
     let stays = none-after (a .first .now) (a .g .indices) few (omega (arith, few, w .firstLength)) in (
-      w .measured .made,
-      w .measured .filled,
-      none-can (a .first .now) (a .g .indices) few,
-      ap (isGridPoint (shape (a .g))) stays ∙ w .settled .start,
+      (w .measured .made, w .measured .filled),
+      (none-can (a .first .now) (a .g .indices) few, ap (isGridPoint (shape (a .g))) stays ∙ w .settled .start),
     )
 
 returns : tie.Need-returns

@@ -19,10 +19,11 @@ position-requires : tie.Need-position-requires
 position-requires c κs =
     let s = c .before .before .before .before .before in
     let a = s .args in (
-      s .pre .made,
-      c .before .before .binomials2 .ensures,
-      (λ k l. omega (arith, getD-replicate {A = ℕ} 16 k 16 0 (omega (arith, indices-few (a .g) (s .pre .made))))),
-      rw (with-none (a .g) (s .pre .made) (a .y .now) (s .pre .long)) (s .pre .onGrid),
+      (s .pre .made, c .before .before .binomials2 .ensures),
+      (
+        λ k l. omega (arith, getD-replicate {A = ℕ} 16 k 16 0 (omega (arith, indices-few (a .g) (s .pre .made)))),
+        rw (with-none (a .g) (s .pre .made) (a .y .now) (s .pre .long)) (s .pre .onGrid),
+      ),
     )
 
 read-at-requires : tie.Need-read-at-requires
