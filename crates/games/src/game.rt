@@ -124,9 +124,9 @@ pub fn write_labels(
     buffer: &mut [u8],
 )
     requires { ⌜ (let g = lent (now sizes) (now divisions) in
-        (WithFirsts g (now firsts) × Owners g (now owners) × IsTable g (now losses)
-        × (length (now buffer) ≡ numPoints g))) ⌝ }
-    requires { ⌜ (indices ≡ sum (now sizes)) × (take (length (now sizes)) padded ≡ now divisions) ⌝ }
+        (WithFirsts g (now firsts) × Owners g (now owners) × IsTable g (now losses))) ⌝ }
+    requires { ⌜ (indices ≡ sum (now sizes)) × (take (length (now sizes)) padded ≡ now divisions)
+        × (length (now buffer) ≡ numPoints (lent (now sizes) (now divisions))) ⌝ }
     ensures { λ _. ⌜ (let g = lent (now (sizes .entry)) (now (divisions .entry)) in
         now (buffer .exit) ≡ front (labels g (now (losses .entry))) (now (buffer .entry))) ⌝ }
 {

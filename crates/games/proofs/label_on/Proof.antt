@@ -37,9 +37,8 @@ write-labels-requires c κs =
         made-firsts g made,
         (λ h b. made-block g made h (omega (arith, made-indices g made))),
         s .pre .1,
-        s .pre .2 ∙ made-points g made,
       ),
-      (made-indices g made, rw n),
+      (made-indices g made, rw n, s .pre .2 ∙ made-points g made),
     )
 
 same-length : tie.Need-same-length

@@ -86,7 +86,7 @@ label-points-requires c κs =
           (first-array (s .args .sizes .now) (s .args .divisions .now) a .1);
       numbers = length-replicate {A = ℕ} 15552 0;
       rows = refl;
-      whole = s .pre .0 .3;
+      whole = s .pre .1 .2;
     }
 
 same-length : tie.Need-same-length
