@@ -2,36 +2,32 @@
 -- the answer tells of the path. Assumes nothing.
 use mathlib.Core.Bool.{Bool, true, false, cond}
 use mathlib.Core.List.{List, [], _∷_, _++_}
-use mathlib.Core.Logic.{⊎-elim}
-use mathlib.Core.Option.{Option, none, some}
 use mathlib.Core.Path.{_≡_, refl, sym, _∙_}
 use Prim.Native.Nat.{ℕ, _≤_, _<_}
-use denote.Enum.Declared.{tagOf}
-use types.Run.{OneOf}
-use borrow.Author.Tests.{le-leb, le-ltb, leb-true, lt-leb, lt-ltb, ne-eqb}
+use borrow.Author.Tests.{le-leb, leb-true, lt-leb, ne-eqb}
 use lib.Dec.{eqb}
 use lib.ListN.{length}
 use native.Mathlib.Omega.{arith}
-use Rattle.combinatorics.proofs.Basics.{before-or-not}
 use Rattle.combinatorics.proofs.Fronts.{front-none}
 use Rattle.combinatorics.specs.Front.{front}
 use Rattle.questions.proofs.Answers.{asked-next, asked-no, both-yes, first-yes}
 use Rattle.questions.specs.Questions.{firstNo}
 use Rattle.grid.specs.Grid.{Point, isGridPoint, numPoints}
 use Rattle.grid.specs.Questions.{gridQuestions, question5}
-use Rattle.place.specs.Ends.{End as EndOfPath, Kind as KindOfEnd}
-use Rattle.place.specs.Path.{Answer as PathAnswer, answer, ended, outcome, path as pathOf, pathLength, spent, unknown}
+use Rattle.place.specs.Demand.{Accepted}
+use Rattle.place.specs.Ends.{Kind as KindOfEnd}
+use Rattle.place.specs.Path.{Answer as PathAnswer, answer, ended, spent, unknown}
 use Rattle.place.specs.Places.{Simplex}
 use Rattle.place.specs.Problem.{Problem}
 use Rattle.place.specs.Questions.{question6, question7, question8}
-use Rattle.finder.proofs.answers.Answer.{the-type}
 use Rattle.finder.specs.Finish.{laterQuestions}
 use Rattle.finder.specs.Run.{caseOf, numbersOf}
 use Rattle.finder.specs.declared.answers.Answer.the-variants.{End, Refused, Unknown}
 use Rattle.finder.specs.declared.answers.Kind.{Kind}
+use Rattle.visited.proofs.Nearest.{is-list}
 use Rattle.visited.specs.Questions.{pointQuestions, question8List}
 use Rattle.nearest.specs.Report.{answerBuffer, listBuffer, listedIn, nearRefusal, nearestIn, reportOf}
-use Rattle.nearest.specs.declared.Nearest.the-variants.{Nothing}
+use Rattle.nearest.specs.declared.Nearest.the-variants.{Nothing, Vertex}
 
 module _ (p : Problem) (w : Point) (room listRoom : ℕ) where
   pub by-grid : (firstNo (gridQuestions (p .grid)) ≡ 0 → ⊥)
@@ -136,32 +132,26 @@ module _ (p : Problem) (budget : ℕ) where
   pub at-gap : {n i : ℕ} → caseOf (answer p budget) ≡ Unknown n i → answer p budget ≡ unknown n i
   at-gap e = case-unknown (answer p budget) e
 
-  ended-outcome : {n read block vertices : ℕ} {kind : KindOfEnd} {s : Simplex} (places : List Simplex)
-      (e : Option EndOfPath)
-      → outcome p places e ≡ ended n read kind block vertices s
-      → (f : EndOfPath) × (e ≡ some f) × (n ≡ length places)
-  ended-outcome places none q = absurd (let z : _≡_ {A = ℕ} 0 1 = cc in omega arith)
-  ended-outcome {n} places (some f) q = let x : length places ≡ n = cc in (f, refl, sym x)
-
-  pub ended-is : {n read block vertices : ℕ} {kind : KindOfEnd} {s : Simplex}
-      → answer p budget ≡ ended n read kind block vertices s
-      → (e : EndOfPath) × (pathOf p .end ≡ some e) × (n ≡ pathLength p)
-  unfolding answer
-  ended-is e = ⊎-elim
-      (λ (l : budget < pathLength p).
-      absurd (let f = rw (lt-ltb budget (pathLength p) l) at e in let z : _≡_ {A = ℕ} 0 1 = cc in omega arith))
-      (λ (l : pathLength p ≤ budget).
-      ended-outcome (pathOf p .visited) (pathOf p .end) (rw (le-ltb budget (pathLength p) l) at e))
-      (before-or-not budget (pathLength p))
-
   pub at-end : {n read block vertices : ℕ} {kind : Kind} → caseOf (answer p budget) ≡ End n read kind block vertices
       → (k : KindOfEnd) × (s : Simplex) × (answer p budget ≡ ended n read k block vertices s)
   at-end e = case-ended (answer p budget) e
 
--- where it is none, nothing is reported and listed
-pub no-end : (p : Problem) (w : Point) (given : ℕ) (a : PathAnswer) → OneOf (0 ∷ 1 ∷ 2 ∷ []) (tagOf the-type (caseOf a))
-    → (nearestIn p w given a ≡ Nothing) × (listedIn p w given a ≡ [])
-no-end p w given (spent n) h = (refl, refl)
-no-end p w given (unknown n i) h = (refl, refl)
-no-end p w given (ended n read kind block vertices s) h =
-    absurd (⊎-elim (λ e. omega arith) (λ r. ⊎-elim (λ e. omega arith) (λ e. omega arith) r) h)
+-- what is reported tells what is listed: nothing; or as many positions as it says, which are no more than the points
+pub none-of : (p : Problem) (w : Point) (given : ℕ) (a : PathAnswer) → nearestIn p w given a ≡ Nothing
+    → listedIn p w given a ≡ []
+none-of p w given (spent n) e = refl
+none-of p w given (unknown n i) e = refl
+none-of p w given (ended n read kind block vertices s) e = absurd (let z : _≡_ {A = ℕ} 0 1 = cc in omega arith)
+
+pub list-of : (p : Problem) (w : Point) (given : ℕ) (a : PathAnswer) {q n : ℕ} → nearestIn p w given a ≡ Vertex q n
+    → n ≡ length (listedIn p w given a)
+list-of p w given (spent n) e = absurd (let z : _≡_ {A = ℕ} 0 1 = cc in omega arith)
+list-of p w given (unknown n i) e = absurd (let z : _≡_ {A = ℕ} 0 1 = cc in omega arith)
+list-of p w given (ended n read kind block vertices s) e = cc
+
+pub listed-few : {p : Problem} → Accepted p → (w : Point) → isGridPoint (p .grid) w ≡ true → (given : ℕ)
+    (a : PathAnswer)
+    → length (listedIn p w given a) ≤ numPoints (p .grid)
+listed-few ok w on given (spent n) = omega arith
+listed-few ok w on given (unknown n i) = omega arith
+listed-few ok w on given (ended n read kind block vertices s) = is-list ok w on given .few

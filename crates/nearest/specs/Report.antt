@@ -36,12 +36,16 @@ listedIn p w given (ended n read kind block vertices simplex) = positionsWithin 
 listedIn p w given (spent n) = []
 listedIn p w given (unknown n i) = []
 
--- the answer: that of a run, and what is reported besides
+-- behind the questions: what a run answers, and what is reported besides
+abbrev pub reported : Problem → Point → ℕ → PathAnswer → Report
+reported p w given a = record { run = caseOf a; nearest = nearestIn p w given a }
+
+-- the answer to every call
 unfoldable pub reportOf : Problem → Point → ℕ → ℕ → ℕ → ℕ → Report
 reportOf p w given room listRoom budget =
     let number = nearRefusal p w room listRoom in
     cond (eqb number 0)
-    (record { run = caseOf (answer p budget); nearest = nearestIn p w given (answer p budget) })
+    (reported p w given (answer p budget))
     (record { run = Refused number; nearest = Nothing })
 
 -- "A refusal .. changes no buffer. What a call does write stands at the front of its buffer, old contents behind": the

@@ -1,17 +1,30 @@
 // The customer's call: a run that reports where the path came nearest to a grid point.
+ghost use mathlib.Core.Bool.{true};
 ghost use mathlib.Core.Path.{_≡_};
-ghost use lib.ListN.{length};
+ghost use Prim.Native.Nat.{_≤_};
+ghost use lib.ListN.{length, take};
+ghost use Rattle.combinatorics.specs.Front.{front};
+ghost use Rattle.finder.specs.Finish.{CanRun};
+ghost use Rattle.finder.specs.Run.{numbersOf};
+ghost use Rattle.grid.specs.Grid.{isGridPoint, numPoints};
 ghost use Rattle.questions.specs.Questions.{firstNo};
-ghost use Rattle.grid.specs.Made.{IsMade};
+ghost use Rattle.grid.specs.Made.{IsMade, shape};
+ghost use Rattle.place.specs.Path.{Answer as PathAnswer, answer as answerOf};
 ghost use Rattle.place.specs.Problem.{problemOf};
 ghost use Rattle.marks.specs.Reading.{problemFrom};
 ghost use Rattle.visited.specs.Questions.{pointQuestions};
-ghost use Rattle.nearest.specs.Report.{answerBuffer, listBuffer, reportOf};
+ghost use Rattle.nearest.specs.Report.{answerBuffer, listBuffer, listedIn, reportOf, reported};
+use arrays::block_sizes;
+use arrays::padded;
+use distances::weights;
 use finder::Answer;
-use finder::announced;
+use finder::Finish;
+use finder::block_number;
+use finder::first_vertex;
 use grid::Grid;
+use place_points::put_points;
 use positions::ENTRIES;
-use survey::survey;
+use survey::pass;
 
 // The nearest visited vertex, by its position, and how many positions are listed; nothing where the run reached no end.
 pub enum Nearest {
@@ -45,7 +58,101 @@ fn first_no(g: Grid, start: &[u16], labels: &[u8], room: usize, w: &[u16], entri
     0
 }
 
-// Behind questions 1 to 4: the others, the run, and after its end the second pass.
+// The walk along the path of an accepted table: the run's answer, and what is reported besides. The list that the walk
+// finds is lent, and at an end its front is what the call lists.
+fn announced(
+    g: Grid,
+    binomials: &[u16; ENTRIES],
+    start: &[u16],
+    labels: &[u8],
+    answer: &mut [u16],
+    budget: u64,
+    w: &[u16],
+    given: u64,
+    found: &mut [u16],
+) -> Report
+    ghost { PathAnswer }
+    requires { λ p. ⌜ answerOf (problemFrom g (now start) (now labels)) budget ≡ p ⌝ }
+    requires { λ _. ⌜ CanRun g (now binomials) (now start) (now labels) (now answer) ⌝ }
+    requires { λ _. ⌜ (isGridPoint (shape g) (now w) ≡ true) × (numPoints (shape g) ≤ length (now found)) ⌝ }
+    ensures { λ p r. ⌜ r ≡ reported (problemFrom g (now (start .entry)) (now (labels .entry))) (now (w .entry)) given p ⌝ }
+    ensures { λ p _. ⌜ now (answer .exit) ≡ front (numbersOf p) (now (answer .entry)) ⌝ }
+    ensures { λ p _. let l = listedIn (problemFrom g (now (start .entry)) (now (labels .entry))) (now (w .entry)) given p in
+        ⌜ take (length l) (now (found .exit)) ≡ l ⌝ }
+{
+    let m = g.indices;
+    let previous = g.previous;
+    let next = g.next;
+    let sizes = block_sizes(g);
+    let weights = weights(g);
+    let mut first = padded(start, m);
+    let mut order = [0u32; 16];
+    let passed = pass(
+        g,
+        binomials,
+        labels,
+        &previous,
+        &next,
+        &sizes,
+        &mut first,
+        &mut order,
+        &weights,
+        w,
+        given,
+        found,
+        budget,
+    );
+    let tally = passed.tally;
+    let finish = passed.finish;
+    match finish {
+        Finish::Spent => Report {
+            run: Answer::Spent(budget),
+            nearest: Nearest::Nothing,
+        },
+        Finish::Unknown { places, position } => Report {
+            run: Answer::Unknown { places, position },
+            nearest: Nearest::Nothing,
+        },
+        Finish::Ended {
+            kind,
+            places,
+            index,
+            status,
+            labels_read,
+        } => {
+            let block = block_number(g, index);
+            let from = first_vertex(kind);
+            let vertices = put_points(answer, &previous, &sizes, &first, &order, status, m, from);
+            Report {
+                run: Answer::End {
+                    places,
+                    labels_read,
+                    kind,
+                    block,
+                    vertices,
+                },
+                nearest: Nearest::Vertex {
+                    position: tally.nearest,
+                    listed: tally.listed,
+                },
+            }
+        }
+    }
+}
+
+// The first n positions that were found, at the front of the list.
+fn put_list(list: &mut [u16], found: &[u16], n: usize)
+    requires { ⌜ (n ≤ length (now list)) × (n ≤ length (now found)) ⌝ }
+    ensures { λ _. ⌜ now (list .exit) ≡ front (take n (now (found .entry))) (now (list .entry)) ⌝ }
+{
+    let mut k: usize = 0;
+    while k < n {
+        list[k] = found[k];
+        k += 1;
+    }
+}
+
+// Behind questions 1 to 4: the others, the walk, and after its end the list.
 fn run_on(
     g: Grid,
     start: &[u16],
@@ -76,28 +183,26 @@ fn run_on(
     }
     let mut binomials = [0u16; ENTRIES];
     positions::binomials(g, &mut binomials);
-    let run = announced(g, &binomials, start, labels, answer, budget);
-    let Answer::End {
-        places,
-        labels_read: _,
-        kind: _,
-        block: _,
-        vertices: _,
-    } = run
-    else {
-        return Report {
-            run,
-            nearest: Nearest::Nothing,
-        };
-    };
-    let t = survey(g, &binomials, start, labels, w, given, list, places);
-    Report {
-        run,
-        nearest: Nearest::Vertex {
-            position: t.nearest,
-            listed: t.listed,
-        },
+    let mut found = [0u16; 60000];
+    let report = announced(
+        g,
+        &binomials,
+        start,
+        labels,
+        answer,
+        budget,
+        w,
+        given,
+        &mut found,
+    );
+    let near = report.nearest;
+    if let Nearest::Vertex {
+        position: _,
+        listed,
+    } = near {
+        put_list(list, &found, listed);
     }
+    report
 }
 
 // Questions 1 to 8 in the papers' order, 5 and 8 put twice, and then the run, on every input. After an end the vertices

@@ -3,11 +3,11 @@ use mathlib.Core.Bool.{Bool, true, false, cond}
 use mathlib.Core.List.{List, [], _∷_, _++_, append-nil, map}
 use mathlib.Core.Logic.{⊎-elim}
 use mathlib.Core.Path.{_≡_, refl, sym, ap, _∙_, subst}
-use Prim.Native.Nat.{ℕ, suc, _+_, _*_, _<_, _≤_}
+use Prim.Native.Nat.{ℕ, _+_, _*_, _<_, _≤_}
 use borrow.Author.Tests.{le-leb, le-ltb, leb-true, lt-ltb}
 use lib.Dec.{eqb, leb, ltb}
-use lib.ListN.{getD-replicate, length, length-append, length-map, length-replicate, length-set, replicate, set, take}
-use lib.Seq.{getD-set-other, getD-set-same, getD-take}
+use lib.ListN.{getD-replicate, length, length-append, length-map, length-replicate, length-set, replicate, set}
+use lib.Seq.{getD-set-other, getD-set-same}
 use native.Mathlib.Nat.{mul-le-mul}
 use native.Mathlib.Omega.{arith}
 use Rattle.combinatorics.proofs.Basics.{absurd-bool, before-or-not, both, false-of, same-or, true-or-false}
@@ -22,26 +22,14 @@ use Rattle.grid.proofs.Accepted.{Accepted}
 use Rattle.grid.proofs.Points.{in-points, onPoints}
 use Rattle.grid.specs.Grid.{Grid, Point, at, isGridPoint, numBlocks, numPoints, points, position, samePoint}
 use Rattle.losses.proofs.Players.{divisions-few}
-use Rattle.place.specs.Problem.{Problem, label}
 use Rattle.positions.proofs.ByTails.{position-tells}
 use Rattle.positions.proofs.Positions.{position-below}
-use Rattle.rules.proofs.Marks.{position-in}
-use Rattle.rules.specs.Read.{markOf}
-use Rattle.rules.specs.Step.{markPosition}
 use Rattle.visited.proofs.Distances.{distances}
 use Rattle.visited.proofs.Nearest.{first-least, has-least, less-behind, more-behind, only-least}
 use Rattle.visited.specs.Distance.{allDivisions, distance}
 use Rattle.visited.specs.Nearest.{firstLeast}
 use Rattle.survey.specs.Survey.{Kept, listedIn, noted}
 use Rattle.survey.specs.declared.Tally.{Tally}
-
--- the mark that was stored holds the position
-pub marks-hold : (p : Problem) (y : Point) (marks : List ℕ) (n i m : ℕ) → i ≤ n → n < length marks → label p y < 256
-    → m ≡ markOf p y
-    → markPosition (at (take (suc n) (set marks i m)) i) ≡ position (p .grid) y
-marks-hold p y marks n i m l c b e =
-    ap markPosition (getD-take (suc n) (set marks i m) i 0 (omega arith) ∙ getD-set-same marks i m 0 (omega arith) ∙ e)
-    ∙ position-in (position (p .grid) y) (label p y) b
 
 module _ (g : Grid) (a : Accepted g) (w : Point) (onW : isGridPoint g w ≡ true) (given : ℕ) (old : List ℕ)
     (room : numPoints g ≤ length old) where

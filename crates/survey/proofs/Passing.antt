@@ -1,5 +1,5 @@
--- One place of the second pass: every label is known, the point that has come in is the only one that may be new, and
--- so what is kept of the vertices up to a place becomes what is kept of those up to the next. Assumes nothing.
+-- One place of the walk: the point that has come in is the only one that may be new, and so what is kept of the vertices
+-- up to a place becomes what is kept of those up to the next. Assumes nothing.
 use mathlib.Core.Bool.{Bool, true, false, cond}
 use mathlib.Core.List.{List, [], _∷_, _++_, append-nil}
 use mathlib.Core.Logic.{⊎-elim}
@@ -8,32 +8,32 @@ use Prim.Native.Nat.{ℕ, suc, _-_, _<_, _≤_}
 use borrow.Author.Tests.{eq-eqb, le-ltb, leb-true, lt-ltb, ne-eqb}
 use lib.Dec.{eqb, leb}
 use lib.ListN.{length, length-map, length-set, length-take, take}
-use lib.Seq.{getD-take, take-all}
+use lib.Seq.{getD-set-same, getD-take, take-all}
 use native.Mathlib.Omega.{arith}
-use Rattle.arrays.specs.Rounds.{roundOf}
-use Rattle.combinatorics.proofs.Basics.{absurd-bool, and-left, before-or-not, false-of, true-or-false}
+use Rattle.combinatorics.proofs.Basics.{absurd-bool, and-right, before-or-not, false-of, true-or-false}
 use Rattle.combinatorics.proofs.Lists.{all-in, in-map, map-in, onNumbers}
 use Rattle.combinatorics.proofs.Ranges.{in-upFrom, upFrom-in}
 use Rattle.combinatorics.specs.Front.{front}
 use Rattle.combinatorics.specs.Lists.{isIn, upFrom}
 use Rattle.grid.proofs.Points.{onPoints}
-use Rattle.grid.specs.Grid.{Point, at, isGridPoint, numPoints, position, samePoint}
+use Rattle.grid.specs.Grid.{Point, at, isGridPoint, numIndices, numPoints, position, samePoint}
 use Rattle.grid.specs.Made.{shape}
 use Rattle.grid.specs.declared.Grid.{Grid as GridStruct}
 use Rattle.place.proofs.Filled.{FullyLabelled, beside, filled-full, filledTable}
+use Rattle.place.proofs.Labels.{label-ok}
 use Rattle.place.proofs.LinkSymmetry.{parts}
 use Rattle.place.proofs.Theorem.{demand3-holds}
-use Rattle.place.specs.Demand.{Accepted, NoGap, placeAt}
+use Rattle.place.specs.Demand.{Accepted, placeAt}
 use Rattle.place.specs.Path.{path as pathOf, pathLength}
 use Rattle.place.specs.Places.{Simplex}
-use Rattle.place.specs.Problem.{Problem, hasLabel, label}
-use Rattle.rules.proofs.Follow.{At as StandsAt, NextAt, placeEnds, facetEnds, at-others, at-place, at-reads}
-use Rattle.rules.specs.Read.{CanCompute, pointIn, pointsFrom, read}
-use Rattle.rules.specs.Step.{State, endsAtFacet, endsAtPlace}
-use Rattle.moves.specs.Held.{stateOf}
-use Rattle.moves.specs.declared.Status.{Status}
+use Rattle.place.specs.Problem.{Problem, label}
+use Rattle.rules.proofs.Follow.{At as StandsAt, NextAt, placeEnds, facetEnds, at-long, at-others, at-place, at-reads}
+use Rattle.rules.proofs.Marks.{position-in}
+use Rattle.rules.specs.Read.{CanCompute, pointIn, pointsFrom, positionAt, read}
+use Rattle.rules.specs.Ready.{SixteenEach}
+use Rattle.rules.specs.Step.{State, endsAtFacet, endsAtPlace, markPosition, withMark}
 use Rattle.marks.specs.Reading.{tableOf}
-use Rattle.finder.proofs.Visits.{OnPath, read-none, read-some}
+use Rattle.finder.proofs.Visits.{HasRead, OnPath}
 use Rattle.finder.specs.Finish.{IsKnown, problemIn}
 use Rattle.visited.proofs.Firsts.{firsts-distinct, firsts-in, in-firsts, none-more, one-more}
 use Rattle.visited.proofs.Nearest.{grid-accepted, some-visited}
@@ -41,30 +41,11 @@ use Rattle.visited.proofs.Visits.{in-before, next-place, place-in}
 use Rattle.visited.specs.Distance.{distance}
 use Rattle.visited.specs.Nearest.{nearest, positionsWithin, verticesWithin}
 use Rattle.visited.specs.Visited.{pointsOfPlaces, verticesOf, visitedVertices}
-use Rattle.survey.specs.Survey.{HasRoom, Kept, comeIn, listAfter, markedIn, pointCome, seenAfter, tallyAfter}
+use Rattle.survey.specs.Survey.{HasRoom, Kept, comeBy, comeIn, listAfter, pointCome, seenAfter, tallyAfter}
 use Rattle.survey.specs.declared.Came.{Came}
 use Rattle.survey.specs.declared.Came.the-variants.{At, Nothing}
 use Rattle.survey.specs.declared.Tally.{Tally}
 use Rattle.survey.proofs.Keeping.{kept-more, low, room-for, seen-new, seen-old}
-
--- with its mark, the state is the one that has read
-pub marked-read : (p : Problem) (previous next sizes first coefficients order marks : List ℕ) (s : Status)
-    → CanCompute (stateOf (roundOf previous next sizes) first coefficients order marks s) (s .active)
-    → stateOf (roundOf previous next sizes) first coefficients order
-    (markedIn p (stateOf (roundOf previous [] sizes) first coefficients order marks s) marks) s
-    ≡ read p (stateOf (roundOf previous next sizes) first coefficients order marks s)
-marked-read p previous next sizes first coefficients order marks s R = ⊎-elim
-    (λ (r : s .rule < 6).
-    rw (lt-ltb (s .rule) 6 r) (read-some p (roundOf previous next sizes) first coefficients order marks s _ r R refl))
-    (λ (r : 6 ≤ s .rule). rw (le-ltb (s .rule) 6 r)
-    (sym (read-none p (stateOf (roundOf previous next sizes) first coefficients order marks s) r)))
-    (before-or-not (s .rule) 6)
-
-pub marked-long : (p : Problem) (a : State) (marks : List ℕ) → length marks ≡ 16 → length (markedIn p a marks) ≡ 16
-marked-long p a marks e = ⊎-elim
-    (λ (r : a .rule < 6). rw (lt-ltb (a .rule) 6 r) (length-set marks (a .active) _ ∙ e))
-    (λ (r : 6 ≤ a .rule). rw (le-ltb (a .rule) 6 r) e)
-    (before-or-not (a .rule) 6)
 
 pub list-long : (given : ℕ) (t : Tally) (away : ℕ) (seen list : List ℕ) (came : Came)
     → length (listAfter given t away seen list came) ≡ length list
@@ -73,6 +54,16 @@ list-long given t away seen list (At q) =
     ⊎-elim
     (λ n. rw n (⊎-elim (λ c. rw c (length-set list (t .listed) q)) (λ c. rw c) (true-or-false (leb away given))))
     (λ n. rw n) (true-or-false (eqb (at seen q) 0))
+
+-- The walk stands at place number k, from 0: what is kept is that of the vertices before it, in a list that had the
+-- contents `old`, and the labels read are those up to it.
+pub record Walking (g : GridStruct) (first table : List ℕ) (w : Point) (given : ℕ) (old : List ℕ) (k : ℕ) (a : State)
+    (order marks seen list : List ℕ) (t : Tally) (labels : ℕ) : Type 0 where
+  pub here : OnPath (problemIn g first table) a k
+  pub each : SixteenEach order marks
+  pub kept : Kept (shape g) w given old (verticesOf (take k (pathOf (problemIn g first table) .visited))) seen list t
+  pub long : length list ≡ length old
+  pub read : HasRead (problemIn g first table) k labels
 
 module _ (g : GridStruct) (first table : List ℕ) (ok : Accepted (problemIn g first table)) where
   abbrev p : Problem
@@ -132,16 +123,31 @@ module _ (g : GridStruct) (first table : List ℕ) (ok : Accepted (problemIn g f
         (in-map onNumbers onPoints (pointIn p s) (s .active) (upFrom 0 (suc (length (s .order)) - 0))
         (in-upFrom 0 (suc (length (s .order)) - 0) (s .active) (omega arith) (omega arith)))
 
-    -- on a path that ends, every label is known
-    pub knows : NoGap p → IsKnown (tableOf g table) s
+    -- its mark, once read, has its position
+    label-small : IsKnown (tableOf g table) s → s .rule < 6 → label (tableOf g table) y < 256
     unfolding label
-    knows none r =
-        let h : hasLabel p (pointCome (shape g) s) ≡ true =
-        all-in onPoints (hasLabel p) (placeAt walked k) (none k (here .1)) (pointCome (shape g) s) come-here in
-        omega (
-          arith,
-          leb-true 1 (label p (pointCome (shape g) s)) (and-left (leb 1 (label p (pointCome (shape g) s))) _ h),
-        )
+    label-small known r = omega (
+      arith,
+      leb-true (label p y) (numIndices (p .grid))
+          (and-right (leb 1 (label p y)) _ (label-ok ok y on-grid (known r))),
+      ok .settled .sixteenIndices,
+    )
+
+    come-position : IsKnown (tableOf g table) s → s .rule < 6
+        → positionAt (read (tableOf g table) s) (read (tableOf g table) s .active) ≡ position (shape g) y
+    unfolding read withMark
+    come-position known r =
+        rw (lt-ltb (s .rule) 6 r)
+        (ap markPosition (getD-set-same (s .marks) (s .active) _ 0 (omega (arith, at-long full A, computed .low)))
+        ∙ position-in (position (shape g) y) (label (tableOf g table) y) (label-small known r))
+
+    pub come-is : IsKnown (tableOf g table) s → (q : ℕ)
+        → q ≡ positionAt (read (tableOf g table) s) (read (tableOf g table) s .active)
+        → comeBy (s .rule) q ≡ comeIn (shape g) s
+    come-is known q e = ⊎-elim
+        (λ (r : s .rule < 6). rw (lt-ltb (s .rule) 6 r) (ap At (e ∙ come-position known r)))
+        (λ (r : 6 ≤ s .rule). rw (le-ltb (s .rule) 6 r))
+        (before-or-not (s .rule) 6)
 
     -- the other points were met before
     met-before : (z : Point) → isIn samePoint z (placeAt walked k) ≡ true

@@ -1,8 +1,7 @@
--- What the second pass over the path notes of the vertices that it meets, and what it gives. The call's own promise
--- does not cite it. Assumes nothing.
+-- What the walk notes of the vertices that it meets, and what it gives. The call's own promise does not cite it. Assumes
+-- nothing.
 use mathlib.Core.Bool.{true, cond}
 use mathlib.Core.List.{List, map}
-use mathlib.Core.Option.{some}
 use mathlib.Core.Path.{_≡_}
 use Prim.Native.Nat.{ℕ, _+_, _≤_, _<_}
 use lib.Dec.{eqb, ltb, leb}
@@ -14,31 +13,27 @@ use Rattle.combinatorics.specs.Lists.{filter, isIn}
 use Rattle.grid.specs.Grid.{Grid, Point, at, isGridPoint, numPoints, position}
 use Rattle.grid.specs.Made.{shape}
 use Rattle.grid.specs.declared.Grid.{Grid as GridStruct}
-use Rattle.place.specs.Demand.{Accepted}
-use Rattle.place.specs.Ends.{End}
-use Rattle.place.specs.Path.{path as pathOf, pathLength}
 use Rattle.place.specs.Problem.{Problem}
-use Rattle.rules.specs.Read.{markOf, pointOn}
-use Rattle.rules.specs.Ready.{IsRound, RoundBelow}
-use Rattle.rules.specs.Step.{Round, State}
-use Rattle.marks.specs.Reading.{Readable, problemFrom}
-use Rattle.finder.specs.Finish.{problemIn}
+use Rattle.rules.specs.Read.{pointOn}
+use Rattle.rules.specs.Step.{State}
 use Rattle.visited.specs.Distance.{distance}
 use Rattle.visited.specs.Nearest.{firstLeast, nearest, positionsWithin}
 use Rattle.distances.specs.Measure.{CanMeasure}
+use Rattle.finder.specs.declared.walk.Finish.{Finish}
+use Rattle.finder.specs.declared.walk.Finish.the-variants.{Ended, Spent, Unknown as UnknownLabel}
 use Rattle.survey.specs.declared.Came.{Came}
 use Rattle.survey.specs.declared.Came.the-variants.{At, Nothing}
 use Rattle.survey.specs.declared.Tally.{Tally}
 
--- the point that has come in, if one has; its position; and the marks with its mark
+-- the point that has come in, if one has, and its position
 abbrev pub pointCome : Grid → State → Point
 pointCome g a = pointOn g a (a .active)
 
-abbrev pub comeIn : Grid → State → Came
-comeIn g a = cond (ltb (a .rule) 6) (At (position g (pointCome g a))) Nothing
+abbrev pub comeBy : ℕ → ℕ → Came
+comeBy rule position = cond (ltb rule 6) (At position) Nothing
 
-abbrev pub markedIn : Problem → State → List ℕ → List ℕ
-markedIn p a marks = cond (ltb (a .rule) 6) (set marks (a .active) (markOf p (pointCome (p .grid) a))) marks
+abbrev pub comeIn : Grid → State → Came
+comeIn g a = comeBy (a .rule) (position g (pointCome g a))
 
 -- a vertex at a position and a distance is met for the first time: the list where it is within the given distance, and
 -- what is kept
@@ -90,33 +85,19 @@ pub record Kept (g : Grid) (w : Point) (given : ℕ) (old : List ℕ) (l : List 
   pub nearest : 0 < length l → t .nearest ≡ position g (firstLeast (distance g w) l)
   pub least : 0 < length l → t .least ≡ distance g w (firstLeast (distance g w) l)
 
--- what the second pass asks: a run has reached the path's end
-pub record CanPass (g : GridStruct) (round : Round) (binomials first table weights w list : List ℕ)
-    (places : ℕ) : Type 0 where
-  pub readable : Readable g binomials table
-  pub isRound : IsRound (shape g) round
-  pub below : RoundBelow round
-  pub accepted : Accepted (problemIn g first table)
-  pub firstLength : length first ≡ 16
+-- what the walk asks besides what a run's asks
+pub record CanNote (g : GridStruct) (weights w list : List ℕ) : Type 0 where
   pub measure : CanMeasure (shape g) weights w (g .indices)
   pub onGrid : isGridPoint (shape g) w ≡ true
   pub room : numPoints (shape g) ≤ length list
-  pub end : End
-  pub ended : pathOf (problemIn g first table) .end ≡ some end
-  pub all : places ≡ pathLength (problemIn g first table)
 
--- the same of the slices that the call was lent
-pub record CanSurvey (g : GridStruct) (binomials start labels w list : List ℕ) (places : ℕ) : Type 0 where
-  pub readable : Readable g binomials labels
-  pub accepted : Accepted (problemFrom g start labels)
-  pub onGrid : isGridPoint (shape g) w ≡ true
-  pub room : numPoints (shape g) ≤ length list
-  pub end : End
-  pub ended : pathOf (problemFrom g start labels) .end ≡ some end
-  pub all : places ≡ pathLength (problemFrom g start labels)
-
--- and what it gives
-pub record Surveyed (p : Problem) (w : Point) (given : ℕ) (list : LentBoth) (r : Tally) : Type 0 where
+-- and what it gives, at the path's end
+pub record Surveyed (p : Problem) (w : Point) (given : ℕ) (old new : List ℕ) (r : Tally) : Type 0 where
   pub nearest : r .nearest ≡ position (p .grid) (nearest p w)
   pub listed : r .listed ≡ length (positionsWithin p w given)
-  pub written : now (list .exit) ≡ front (positionsWithin p w given) (now (list .entry))
+  pub written : new ≡ front (positionsWithin p w given) old
+
+abbrev pub Surveys : Problem → Point → ℕ → List ℕ → List ℕ → Tally → Finish → Type 0
+Surveys p w given old new t (Ended kind places h s labels) = Surveyed p w given old new t
+Surveys p w given old new t (UnknownLabel places place) = _≡_ {A = ℕ} 0 0
+Surveys p w given old new t Spent = _≡_ {A = ℕ} 0 0

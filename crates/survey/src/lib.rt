@@ -1,43 +1,29 @@
-// The second pass over the path of a run that has reached its end: each vertex is noted where it comes in for the first
-// time. One byte for each point tells whether it was met, so that no pass over the list is made for a vertex.
+// The walk of a run that notes the vertices of its places, each where it comes in for the first time. One byte for each
+// point tells whether it was met, so that no pass over the list is made for a vertex.
 ghost use mathlib.Core.List.{[]};
 ghost use mathlib.Core.Path.{_≡_};
-ghost use Prim.Native.Nat.{_+_, _≤_, _<_};
-ghost use lib.Dec.{leb};
-ghost use lib.ListN.{length, set};
+ghost use Prim.Native.Nat.{suc, _≤_, _<_};
+ghost use lib.ListN.{length, set, take};
 ghost use Rattle.arrays.specs.Rounds.{round, roundBack};
-ghost use Rattle.grid.specs.Grid.{Grid as Shape};
-ghost use Rattle.grid.specs.Made.{shape};
-ghost use Rattle.moves.specs.Held.{held, stateOf};
+ghost use Rattle.grid.specs.Grid.{Grid as Shape, at};
+ghost use Rattle.moves.specs.Held.{stateOf};
 ghost use Rattle.rules.specs.Read.{CanCompute};
-ghost use Rattle.rules.specs.Ready.{IndicesBelow, SixteenEach};
-ghost use Rattle.rules.specs.Step.{Round, State};
-ghost use Rattle.marks.specs.Reading.{CanRead, HasMarks, Readable, problemFrom, tableOf};
-ghost use Rattle.finder.specs.Finish.{IsKnown, problemIn};
+ghost use Rattle.rules.specs.Ready.{IndicesBelow};
+ghost use Rattle.rules.specs.Step.{Round, State, markPosition};
+ghost use Rattle.finder.specs.Finish.{CanWalk, Finished, problemIn};
 ghost use Rattle.visited.specs.Distance.{distance};
 ghost use Rattle.distances.specs.Measure.{CanMeasure};
-ghost use Rattle.survey.specs.Survey.{
-  CanPass,
-  CanSurvey,
-  HasMet,
-  HasRoom,
-  Surveyed,
-  comeIn,
-  listedAfter,
-  listedIn,
-  markedIn,
-  noted,
-  pointCome,
-};
-use arrays::block_sizes;
-use arrays::padded;
+ghost use Rattle.survey.specs.Survey.{CanNote, HasMet, HasRoom, Surveys, comeBy, listedAfter, listedIn, noted};
+ghost use Rattle.survey.specs.Survey.{pointCome};
 use arrays::position_at;
 use distances::distance_of;
-use distances::weights;
+use finder::Finish;
+use finder::Kind;
 use finder::begin;
+use finder::labels_at;
 use grid::Grid;
-use marks::Reading;
-use marks::mark_in;
+use label_reading::Looked;
+use label_reading::look_up;
 use moves::Outcome;
 use moves::Status;
 use moves::step;
@@ -58,50 +44,21 @@ pub enum Came {
     Nothing,
 }
 
-// The mark of the point that has come in is read and stored. On a path that has ended every label is known.
-fn came_in(
-    g: Grid,
-    binomials: &[u16; ENTRIES],
-    tails: &[u32; 16],
-    table: &[u8],
-    previous: &[u8; 16],
-    sizes: &[u8; 16],
-    first: &[u16; 16],
-    coefficients: &[u16; 16],
-    order: &[u32; 16],
-    marks: &mut [u32; 16],
-    s: Status,
-) -> Came
-    ghost { State }
-    requires { λ a. ⌜ held (roundBack previous sizes) first coefficients order marks s ≡ a ⌝ }
-    requires { λ _. ⌜ Readable g (now binomials) (now table) × SixteenEach (now order) (now marks) ⌝ }
-    requires { λ a. ⌜ (a .rule < 6 → CanRead g a) × (a .rule < 6 → HasMarks g (now tails) a) ⌝ }
-    requires { λ a. ⌜ IsKnown (tableOf g (now table)) a ⌝ }
-    ensures { λ a r. ⌜ r ≡ comeIn (shape g) a ⌝ }
-    ensures { λ a _. ⌜ now (marks .exit) ≡ markedIn (tableOf g (now (table .entry))) a (now (marks .entry)) ⌝ }
+// How a walk ended, and what is kept of the vertices that it has met.
+pub struct Passed {
+    pub finish: Finish,
+    pub tally: Tally,
+}
+
+// The position of the point that has come in, whose mark is stored, if one has.
+fn came_in(marks: &[u32; 16], s: Status) -> Came
+    requires { ⌜ (s .active ≤ s .count) × (s .count ≤ 15) ⌝ }
+    ensures { λ r. ⌜ r ≡ comeBy (s .rule) (markPosition (at (take (suc (s .count)) (now (marks .entry))) (s .active))) ⌝ }
 {
-    if 6 <= s.rule {
-        return Came::Nothing;
+    if s.rule < 6 {
+        return Came::At(position_at(marks, s.count, s.active));
     }
-    let reading = mark_in(
-        g,
-        binomials,
-        tails,
-        table,
-        previous,
-        sizes,
-        first,
-        coefficients,
-        order,
-        marks,
-        s,
-    );
-    let Reading::Marked(mark) = reading else {
-        return Came::Nothing;
-    };
-    let i = s.active;
-    marks[i] = mark;
-    Came::At(position_at(marks, s.count, i))
+    Came::Nothing
 }
 
 // The distance from w of the point that has come in.
@@ -204,7 +161,8 @@ fn meet(
     note(seen, list, given, t, position, far as u64)
 }
 
-// The vertices of all places, from {v} to the path's last. The walk is that of the run.
+// From {v} to the path's end, or until the budget is spent, as a run walks: each vertex is noted where it comes in for
+// the first time. The list is the walk's own, since a run that reaches no end writes none.
 pub fn pass(
     g: Grid,
     binomials: &[u16; ENTRIES],
@@ -213,21 +171,24 @@ pub fn pass(
     next: &[u8; 16],
     sizes: &[u8; 16],
     first: &mut [u16; 16],
+    order: &mut [u32; 16],
     weights: &[usize; 16],
     w: &[u16],
     given: u64,
     list: &mut [u16],
-    places: u64,
-) -> Tally
+    budget: u64,
+) -> Passed
     ghost { Round }
     requires { λ x. ⌜ round previous next sizes ≡ x ⌝ }
-    requires { λ x. ⌜ CanPass g x (now binomials) (now first) (now table) (now weights) (now w) (now list) places ⌝ }
-    ensures { λ _ r. ⌜ Surveyed (problemIn g (now (first .entry)) (now (table .entry)))
-        (now (w .entry)) given list r ⌝ }
+    requires { λ x. ⌜ CanWalk g x (now binomials) (now first) (now order) (now table) ⌝ }
+    requires { λ _. ⌜ CanNote g (now weights) (now w) (now list) ⌝ }
+    ensures { λ x r. ⌜ Finished (problemIn g (now (first .entry)) (now (table .entry))) budget x
+        (now (first .exit)) (now (order .exit)) (r .finish) ⌝ }
+    ensures { λ _ r. ⌜ Surveys (problemIn g (now (first .entry)) (now (table .entry)))
+        (now (w .entry)) given (now (list .entry)) (now (list .exit)) (r .tally) (r .finish) ⌝ }
 {
     let m = g.indices;
     let mut coefficients = [0u16; 16];
-    let mut order = [0u32; 16];
     let mut marks = [0u32; 16];
     let mut seen = [0u8; 60000];
     let mut s = begin(first, m);
@@ -237,9 +198,10 @@ pub fn pass(
         least: 18446744073709551615,
         listed: 0,
     };
-    let mut left = places;
+    let mut labels_read = labels_at(s);
+    let mut left = budget;
     while 0 < left {
-        let came = came_in(
+        let looked = look_up(
             g,
             binomials,
             &tails,
@@ -248,15 +210,26 @@ pub fn pass(
             sizes,
             first,
             &coefficients,
-            &order,
+            order,
             &mut marks,
             s,
         );
+        left -= 1;
+        if let Looked::Unknown(position) = looked {
+            return Passed {
+                finish: Finish::Unknown {
+                    places: budget - left - 1,
+                    position,
+                },
+                tally: t,
+            };
+        }
+        let came = came_in(&marks, s);
         t = meet(
             previous,
             sizes,
             first,
-            &order,
+            order,
             s,
             weights,
             w,
@@ -267,64 +240,47 @@ pub fn pass(
             list,
             t,
         );
-        match step(
+        let outcome = step(
             previous,
             next,
             sizes,
             first,
             &mut coefficients,
-            &mut order,
+            order,
             &mut marks,
             s,
-        ) {
-            Outcome::Moved(status) => {
-                s = status;
-            }
-            Outcome::PlaceEnd(_) => {
-                return t;
-            }
-            Outcome::FacetEnd(_) => {
-                return t;
-            }
+        );
+        if let Outcome::PlaceEnd(index) = outcome {
+            return Passed {
+                finish: Finish::Ended {
+                    kind: Kind::Place,
+                    places: budget - left,
+                    index,
+                    status: s,
+                    labels_read,
+                },
+                tally: t,
+            };
         }
-        left -= 1;
+        if let Outcome::FacetEnd(index) = outcome {
+            return Passed {
+                finish: Finish::Ended {
+                    kind: Kind::Facet,
+                    places: budget - left,
+                    index,
+                    status: s,
+                    labels_read,
+                },
+                tally: t,
+            };
+        }
+        if let Outcome::Moved(status) = outcome {
+            s = status;
+            labels_read += labels_at(s);
+        }
     }
-    t
-}
-
-// The second pass behind a run that has reached its end after so many places.
-pub fn survey(
-    g: Grid,
-    binomials: &[u16; ENTRIES],
-    start: &[u16],
-    labels: &[u8],
-    w: &[u16],
-    given: u64,
-    list: &mut [u16],
-    places: u64,
-) -> Tally
-    requires { ⌜ CanSurvey g (now binomials) (now start) (now labels) (now w) (now list) places ⌝ }
-    ensures { λ r. ⌜ Surveyed (problemFrom g (now (start .entry)) (now (labels .entry)))
-        (now (w .entry)) given list r ⌝ }
-{
-    let m = g.indices;
-    let previous = g.previous;
-    let next = g.next;
-    let sizes = block_sizes(g);
-    let weights = weights(g);
-    let mut first = padded(start, m);
-    pass(
-        g,
-        binomials,
-        labels,
-        &previous,
-        &next,
-        &sizes,
-        &mut first,
-        &weights,
-        w,
-        given,
-        list,
-        places,
-    )
+    Passed {
+        finish: Finish::Spent,
+        tally: t,
+    }
 }

@@ -1,17 +1,28 @@
--- `nearest::run_on` meets its contract: the questions, the run, and after an end the second pass. Assumes nothing.
-use mathlib.Core.Path.{_≡_, sym, _∙_}
-use lib.ListN.{length}
-use Rattle.combinatorics.proofs.Fronts.{front-none}
-use Rattle.place.specs.Path.{answer}
-use Rattle.marks.specs.Reading.{problemFrom}
-use Rattle.finder.proofs.Refusals.{accepted-with-room}
-use Rattle.finder.specs.Run.{caseOf}
-use Rattle.nearest.proofs.Refusals.{all-yes, answered, at-end, by-point, ended-is, no-end, refused}
-use Rattle.nearest.specs.Report.{nearestIn}
-use Rattle.nearest.specs.declared.Nearest.the-variants.{Vertex}
+-- `nearest::run_on` meets its contract: the questions, the walk, and after its end the list. Assumes nothing.
+use mathlib.Core.Bool.{true}
+use mathlib.Core.List.{List}
+use mathlib.Core.Path.{_≡_, sym, ap, _∙_}
+use Prim.Native.Nat.{ℕ, _≤_}
 use borrow.Author.Needs.{needs}
+use lib.ListN.{length, take}
+use native.Mathlib.Omega.{arith}
+use Rattle.combinatorics.proofs.Fronts.{front-none}
+use Rattle.combinatorics.specs.Front.{front}
+use Rattle.finder.proofs.Refusals.{accepted-with-room}
+use Rattle.finder.specs.Run.{numbersOf}
+use Rattle.grid.specs.Grid.{isGridPoint, numPoints}
+use Rattle.marks.specs.Reading.{problemFrom}
+use Rattle.place.specs.Demand.{Accepted}
+use Rattle.place.specs.Path.{answer}
+use Rattle.place.specs.Problem.{Problem}
+use Rattle.nearest.proofs.Refusals.{all-yes, answered, by-point, list-of, listed-few, none-of, refused}
+use Rattle.nearest.specs.Report.{answerBuffer, listBuffer, listedIn, nearestIn, reportOf}
+use Rattle.nearest.specs.declared.Nearest.the-variants.{Vertex}
+use Rattle.nearest.specs.declared.Report.{Report}
 use Rattle.nearest.proofs.run_on.Statement.{statement}
 use Rattle.nearest.proofs.run_on.Tie as tie
+use Rattle.questions.specs.Questions.{firstNo}
+use Rattle.visited.specs.Questions.{pointQuestions}
 
 first-no-requires : tie.Need-first-no-requires
 first-no-requires c κs = search needs
@@ -30,99 +41,147 @@ returns c =
 binomials-requires : tie.Need-binomials-requires
 binomials-requires c κs = search needs
 
+slice-aggregate-announced : tie.Need-slice-aggregate-announced
+slice-aggregate-announced c = search needs
+
+-- behind the questions: where the call began, and what they tell
+abbrev Asked : Type 0
+Asked = tie.After-found
+
+abbrev begun : Asked → tie.Start
+begun c =
+    c .before .before .before .before .before .before .before .before .before .before .before .before
+
+abbrev problem : Asked → Problem
+problem c =
+    let a = begun c .args in
+    problemFrom (a .g) (a .start .now) (a .labels .now)
+
+none-no : (c : Asked)
+    → let a = begun c .args in
+    firstNo (pointQuestions (problem c) (a .w .now) (length (a .answer .now)) (length (a .list .now))) ≡ 0
+none-no c = sym (c .before .before .before .before .before .before .first-no .ensures)
+    ∙ c .before .before .before .before .before .if1 .left
+
+yes : (c : Asked)
+    → let a = begun c .args in
+    (isGridPoint (problem c .grid) (a .w .now) ≡ true) × Accepted (problem c)
+    × (numPoints (problem c .grid) ≤ length (a .list .now))
+yes c =
+    let a = begun c .args in
+    let y = all-yes (problem c) (a .w .now) (length (a .answer .now)) (length (a .list .now)) (none-no c) in
+    (y .0, accepted-with-room (problem c) (length (a .answer .now)) (begun c .pre .accepted) (y .1) .0, y .2)
+
 announced-requires : tie.Need-announced-requires
 announced-requires c κs =
-    let s = c .before .before .before .before .before .before .before .before .before .before .before in
-    let a = s .args in
-    let p = problemFrom (a .g) (a .start .now) (a .labels .now) in
-    let yes = all-yes p (a .w .now) (length (a .answer .now)) (length (a .list .now))
-    (sym (c .before .before .before .before .before .first-no .ensures)
-    ∙ c .before .before .before .before .if1 .left) in
-    let ok = accepted-with-room p (length (a .answer .now)) (s .pre .accepted) (yes .1) in
-    record {
-      readable = record { made = s .pre; filled = c .before .before .binomials2 .ensures; whole = ok .0 .tableLength };
-      accepted = ok .0;
-      room = ok .1;
-    }
+    let a = begun c .args in
+    let y = all-yes (problem c) (a .w .now) (length (a .answer .now)) (length (a .list .now)) (none-no c) in
+    let ok = accepted-with-room (problem c) (length (a .answer .now)) (begun c .pre .accepted) (y .1) in (
+      record {
+        readable = record {
+          made = begun c .pre;
+          filled = c .before .before .before .binomials2 .ensures;
+          whole = ok .0 .tableLength;
+        };
+        accepted = ok .0;
+        room = ok .1;
+      },
+      (y .0, ok .0 .settled .points),
+    )
 
-enum-known-run : tie.Need-enum-known-run
-enum-known-run c = search needs
+-- what the walk reported
+abbrev Reported : Type 0
+Reported = tie.After-announced
+
+given : (c : Reported)
+    → let a = begun (c .before) .args in
+    let p = problem (c .before) in
+    (c .announced .result ≡ reportOf p (a .w .now) (a .given) (length (a .answer .now)) (length (a .list .now)) (a .budget))
+    × (front (numbersOf (answer p (a .budget))) (a .answer .now)
+    ≡ answerBuffer p (a .w .now) (length (a .list .now)) (a .budget) (a .answer .now))
+    × (front (listedIn p (a .w .now) (a .given) (answer p (a .budget))) (a .list .now)
+    ≡ listBuffer p (a .w .now) (a .given) (length (a .answer .now)) (a .budget) (a .list .now))
+given c =
+    let a = begun (c .before) .args in
+    let p = problem (c .before) in
+    let w = answered p (a .w .now) (a .given) (a .budget) (a .answer .now) (a .list .now)
+    (by-point p (a .w .now) (length (a .answer .now)) (length (a .list .now)) (begun (c .before) .pre .accepted)
+    ∙ none-no (c .before)) in
+    (c .announced .ensures .0 ∙ w .0, w .1, w .2)
+
+nearest-is : (c : Reported)
+    → let a = begun (c .before) .args in
+    let p = problem (c .before) in
+    nearestIn p (a .w .now) (a .given) (answer p (a .budget)) ≡ c .announced .result .nearest
+nearest-is c = ap (λ (r : Report). r .nearest) (sym (c .announced .ensures .0))
+
+enum-known-near : tie.Need-enum-known-near
+enum-known-near c = search needs
+
+slice-aggregate-put-list : tie.Need-slice-aggregate-put-list
+slice-aggregate-put-list c = search needs
+
+-- as many positions are listed as were found
+listed : (c : Reported) {q n : ℕ} → c .announced .result .nearest ≡ Vertex q n
+    → let a = begun (c .before) .args in
+    let p = problem (c .before) in
+    n ≡ length (listedIn p (a .w .now) (a .given) (answer p (a .budget)))
+listed c e =
+    let a = begun (c .before) .args in
+    let p = problem (c .before) in
+    list-of p (a .w .now) (a .given) (answer p (a .budget)) (nearest-is c ∙ e)
+
+put-list-requires : tie.Need-put-list-requires
+put-list-requires c κs =
+    let r = c .before .before .before .before .before .before .before .before in
+    let a = begun (r .before) .args in
+    let p = problem (r .before) in
+    let y = yes (r .before) in
+    let n = listed r (c .before .before .before .near .given .1) in
+    let few = listed-few (y .1) (a .w .now) (y .0) (a .given) (answer p (a .budget)) in
+    (omega (arith, n, few, y .2), omega (arith, n, few, y .1 .settled .points))
+
+enum-told : tie.Need-enum-told
+enum-told c = search needs
 
 same-length : tie.Need-same-length
 same-length c = search needs
 
-returns-2 : tie.Need-returns-2
-returns-2 c =
-    let s = c .before .before .before .before .before .before .before
-    .before .before .before .before .before .before .before .before in
-    let a = s .args in
-    let p = problemFrom (a .g) (a .start .now) (a .labels .now) in
-    let q = c .before .before .before .announced .ensures in
-    let w = answered p (a .w .now) (a .given) (a .budget) (a .answer .now) (a .list .now)
-    (by-point p (a .w .now) (length (a .answer .now)) (length (a .list .now)) (s .pre .accepted)
-    ∙ sym (c .before .before .before .before .before .before .before .before .before .first-no .ensures)
-    ∙ c .before .before .before .before .before .before .before .before .if1 .left) in
-    let none = no-end p (a .w .now) (a .given) (answer p (a .budget)) (rw (q .0) at (c .match .keys2)) in
-    (rw (q .0, ← none .0) (w .0), (q .1 ∙ w .1, sym (rw (none .1) at (sym (w .2)) ∙ front-none (a .list .now))))
-
-survey-requires : tie.Need-survey-requires
-survey-requires c κs =
-    let s = c .before .before .before .before .before .before .before .before .before
-    .before .before .before .before .before .before .before .before .before .before in
-    let a = s .args in
-    let p = problemFrom (a .g) (a .start .now) (a .labels .now) in
-    let yes = all-yes p (a .w .now) (length (a .answer .now)) (length (a .list .now))
-    (sym
-    (c .before .before .before .before .before .before .before
-    .before .before .before .before .before .before .first-no .ensures)
-    ∙ c .before .before .before .before .before .before .before .before .before .before .before .before .if1 .left) in
-    let ok = accepted-with-room p (length (a .answer .now)) (s .pre .accepted) (yes .1) in
-    let e = at-end p (a .budget)
-    (sym (c .before .before .before .before .before .before .before .announced .ensures .0)
-    ∙ c .before .before .before .run .given .1) in
-    let f = ended-is p (a .budget) (e .2) in
-    record {
-      readable = record {
-        made = s .pre;
-        filled = c .before .before .before .before .before .before .before .before .before .before .binomials2 .ensures;
-        whole = ok .0 .tableLength;
-      };
-      accepted = ok .0;
-      onGrid = yes .0;
-      room = yes .2;
-      end = f .0;
-      ended = f .1;
-      all = f .2;
-    }
-
 same-length-2 : tie.Need-same-length-2
 same-length-2 c = search needs
+
+returns-2 : tie.Need-returns-2
+returns-2 c =
+    let r = c .before .before .before .before .before .before .before .before .before .before .before in
+    let a = begun (r .before) .args in
+    let G = given r in
+    let n = listed r (c .before .before .before .before .before .before .near .given .1) in (
+      G .0,
+      (
+        r .announced .ensures .1 .0 ∙ G .1,
+        c .before .before .put-list .ensures
+            ∙ ap (λ (k : ℕ). front (take k (r .announced .last .1 .1 .1 .1 .1 .1 .1 .1 .0)) (a .list .now)) n
+            ∙ ap (λ (l : List ℕ). front l (a .list .now)) (r .announced .ensures .1 .1)
+            ∙ G .2,
+      ),
+    )
 
 same-length-3 : tie.Need-same-length-3
 same-length-3 c = search needs
 
 returns-3 : tie.Need-returns-3
 returns-3 c =
-    let s = c .before .before .before .before .before .before .before .before .before .before .before
-    .before .before .before .before .before .before .before .before .before .before .before in
-    let a = s .args in
-    let p = problemFrom (a .g) (a .start .now) (a .labels .now) in
-    let q = c .before .before .before .before .before .before .before .before .before .before .announced .ensures in
-    let w = answered p (a .w .now) (a .given) (a .budget) (a .answer .now) (a .list .now)
-    (by-point p (a .w .now) (length (a .answer .now)) (length (a .list .now)) (s .pre .accepted)
-    ∙ sym
-    (c .before .before .before .before .before .before .before .before .before
-    .before .before .before .before .before .before .before .first-no .ensures)
-    ∙ c .before .before .before .before .before .before .before .before
-    .before .before .before .before .before .before .before .if1 .left) in
-    let e = at-end p (a .budget) (sym (q .0) ∙ c .before .before .before .before .before .before .run .given .1) in
-    let v = c .before .before .survey .ensures in
-    let run : _ ≡ caseOf (answer p (a .budget)) =
-    sym (c .before .before .before .before .before .before .run .given .1) ∙ q .0 in
-    let near : Vertex (c .before .before .survey .result .nearest) (c .before .before .survey .result .listed)
-    ≡ nearestIn p (a .w .now) (a .given) (answer p (a .budget)) =
-    rw (e .2, v .nearest, v .listed) in
-    (rw (run, near) (w .0), (q .1 ∙ w .1, v .written ∙ (rw (e .2) at (w .2))))
+    let r = c .before .before .before .before .before in
+    let a = begun (r .before) .args in
+    let p = problem (r .before) in
+    let G = given r in
+    let z = none-of p (a .w .now) (a .given) (answer p (a .budget)) (nearest-is r ∙ c .enum-told .given .1) in (
+      G .0,
+      (
+        r .announced .ensures .1 .0 ∙ G .1,
+        sym (front-none (a .list .now)) ∙ ap (λ (l : List ℕ). front l (a .list .now)) (sym z) ∙ G .2,
+      ),
+    )
 
 pub run-on-spec : {M : Type 1} → statement M
 run-on-spec =
@@ -131,11 +190,14 @@ run-on-spec =
     first-no-requires
     returns
     binomials-requires
+    slice-aggregate-announced
     announced-requires
-    enum-known-run
+    enum-known-near
+    slice-aggregate-put-list
+    put-list-requires
+    enum-told
     same-length
-    returns-2
-    survey-requires
     same-length-2
+    returns-2
     same-length-3
     returns-3)
