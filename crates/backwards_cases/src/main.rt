@@ -8,12 +8,12 @@ use case_reader::show_words;
 use case_reader::word;
 use case_reader::words;
 use walk_calls::moved;
+use walk_places::Walk;
 use walk_views::at_start;
 use walk_views::points;
 use walk_views::turned;
 use walk_ways::Answer;
 use walk_ways::Kind;
-use walk_ways::Walk;
 
 // A walk, and the walk one call before.
 struct Both {

@@ -23,13 +23,12 @@ use Rattle.place.specs.Questions.{tableQuestions}
 use Rattle.questions.specs.Questions.{firstNo}
 use Rattle.walks.specs.Next.{nextOf, refused}
 use Rattle.walk_moves.proofs.Next.{no-count, no-place, no-read}
-use Rattle.walk_ways.proofs.Held.{held, held-parts, not-held}
+use Rattle.walk_places.proofs.Held.{held, held-parts, not-held}
 use Rattle.walk_calls.specs.Asked.{inRange}
 use Rattle.walk_calls.specs.Moving.{CanStand, FilledBy}
-use Rattle.walk_ways.specs.Standing.{pointsOn, tableOn, walkOn}
-use Rattle.walk_ways.specs.Walks.{holdsNumbers, holdsPlace, keptAs, placeOf, samePlace}
-use Rattle.walk_ways.specs.declared.Place.{Place}
-use Rattle.walk_ways.specs.declared.Walk.{Walk as WalkStruct}
+use Rattle.walk_places.specs.Walks.{holdsNumbers, holdsPlace, keptAs, samePlace, tableOn, walkOn}
+use Rattle.walk_places.specs.declared.Place.{Place}
+use Rattle.walk_places.specs.declared.Walk.{Walk as WalkStruct}
 
 pub fill-no : (marks : List ℕ) (point : ℕ) (unknown : Bool) → unknown ≡ false → length marks ≡ 16 →
     FilledBy marks point unknown marks

@@ -25,19 +25,18 @@ use Rattle.walks.proofs.Moved.{moved-passes, next-refused}
 use Rattle.walks.specs.Next.{Outcome, ended, moved, nextOf, refused, ruleOf}
 use Rattle.walks.specs.Walk.{Walk, isWalk, over, walkQuestions}
 use Rattle.walk_calls.specs.Moving.{CarriesTo, callOn, movedTo, unmovedAs}
-use Rattle.walk_calls.specs.Placing.{GoesTo}
+use Rattle.walk_places.specs.Placing.{GoesTo}
 use Rattle.walk_labels.specs.declared.Carried.{Carried}
-use Rattle.walk_ways.specs.Standing.{walkOn}
-use Rattle.walk_ways.specs.Walks.{answerOf, firstSix, gridOf, nextAs, numbersOf, padded, placeAfter, placeOf, stored}
-use Rattle.walk_ways.specs.Walks.{structOn, walkOf}
+use Rattle.walk_places.specs.Walks.{gridOf, padded, placeOf, walkOf, walkOn}
+use Rattle.walk_ways.specs.Answers.{answerOf, nextAs, numbersOf, structOn}
 use Rattle.walk_calls.specs.Calls.{callOf}
 use Rattle.walk_ways.specs.declared.Answer.{Answer}
 use Rattle.walk_ways.specs.declared.Answer.the-variants.{Ended, Moved, Refused}
 use Rattle.walk_calls.specs.declared.Call.{Call}
 use Rattle.walk_ways.specs.declared.Kind.{Kind}
 use Rattle.walk_ways.specs.declared.Next.{Next}
-use Rattle.walk_ways.specs.declared.Place.{Place}
-use Rattle.walk_ways.specs.declared.Walk.{Walk as WalkStruct}
+use Rattle.walk_places.specs.declared.Place.{Place}
+use Rattle.walk_places.specs.declared.Walk.{Walk as WalkStruct}
 
 abbrev madeCall : Answer → List ℕ → WalkStruct → Call
 madeCall answer simplex walk = record { answer = answer; simplex = simplex; walk = walk }

@@ -18,8 +18,8 @@ use Rattle.grid.specs.declared.Made.{Made}
 use Rattle.questions.specs.Questions.{firstNo}
 use Rattle.walk_calls.specs.Moving.{GridIn}
 use Rattle.walk_calls.proofs.Calls.{none-refused, six-blocks, too-many-blocks}
-use Rattle.walk_ways.specs.Walks.{gridOf}
-use Rattle.walk_ways.specs.declared.Walk.{Walk as WalkStruct}
+use Rattle.walk_places.specs.Walks.{gridOf}
+use Rattle.walk_places.specs.declared.Walk.{Walk as WalkStruct}
 
 pub few-blocks : (b n : ℕ) → n ≡ cond (leb b 6) b 0 → n ≤ 6
 few-blocks b n e = ⊎-elim (λ t. let z : n ≡ b = e ∙ (rw t) in

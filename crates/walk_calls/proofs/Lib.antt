@@ -1,5 +1,4 @@
-pub mod Placed
-pub mod BothPlaced
+pub mod CarriedTo
 pub mod Stood
 pub mod Later
 pub mod Begins

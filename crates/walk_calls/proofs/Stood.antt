@@ -43,16 +43,16 @@ use Rattle.walk_labels.specs.Carrying.{labelsIn}
 use Rattle.walk_moves.specs.Spare.{Spare, again, outside, unknown}
 use Rattle.recogniser.specs.Kept.{Recognised, Seen}
 use Rattle.recogniser.specs.declared.Sets.{Sets}
-use Rattle.walk_calls.proofs.Placed.{kept-on-grid, kept-position}
-use Rattle.walk_calls.specs.Moving.{CanChoose, CanStand, FilledBy}
-use Rattle.walk_calls.specs.Placing.{CanSee}
-use Rattle.walk_ways.proofs.Held.{padded-taken}
+use Rattle.walk_places.proofs.Placed.{kept-on-grid, kept-position}
+use Rattle.walk_calls.specs.Moving.{CanChoose, CanStand}
+use Rattle.walk_places.specs.Placing.{CanSee}
+use Rattle.walk_places.proofs.Held.{padded-taken}
 use Rattle.walk_ways.specs.Spares.{LabelsLow, NotNew, SparesOf, again as seenAgain, labelAt, outside as seenOutside}
 use Rattle.walk_ways.specs.Spares.{unknown as unseen}
-use Rattle.walk_ways.specs.Standing.{IsRoundOf, Standing, pointsOn, tableOn, walkOn}
-use Rattle.walk_ways.specs.Walks.{carriedOf, padded, placeOf}
+use Rattle.walk_ways.specs.Standing.{IsRoundOf, pointsOn}
+use Rattle.walk_places.specs.Walks.{carriedOf, padded, placeOf, tableOn, walkOn}
 use Rattle.walk_ways.specs.declared.Spared.{Spared}
-use Rattle.walk_ways.specs.declared.Walk.{Walk as WalkStruct}
+use Rattle.walk_places.specs.declared.Walk.{Walk as WalkStruct}
 
 -- the ways round the blocks
 pub round-of : (g : GridStruct) → IsMade g → (sizes : List ℕ) →

@@ -3,8 +3,9 @@ use mathlib.Core.List.{List}
 use Prim.Native.Nat.{ℕ}
 use Rattle.walks.specs.Next.{nextOf, ruleOf}
 use Rattle.walks.specs.Walk.{over}
-use Rattle.walk_ways.specs.Walks.{answerOf, numbersOf, padded, structOn, walkOf}
-use Rattle.walk_ways.specs.declared.Walk.{Walk as WalkStruct}
+use Rattle.walk_ways.specs.Answers.{answerOf, numbersOf, structOn}
+use Rattle.walk_places.specs.Walks.{padded, walkOf}
+use Rattle.walk_places.specs.declared.Walk.{Walk as WalkStruct}
 use Rattle.walk_calls.specs.declared.Call.{Call}
 use Rattle.walk_calls.specs.declared.Told.{Told}
 

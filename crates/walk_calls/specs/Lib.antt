@@ -1,4 +1,3 @@
 pub mod Asked
 pub mod Calls
-pub mod Placing
 pub mod Moving

@@ -19,12 +19,13 @@ use Rattle.walks.specs.Next.{nextOf, ruleOf}
 use Rattle.walks.specs.Walk.{labelsOf, over}
 use Rattle.walk_labels.specs.declared.Carried.{Carried}
 use Rattle.walk_ways.specs.Spares.{labelAt}
-use Rattle.walk_ways.specs.Standing.{Standing, pointsOn, tableOn, walkOn}
-use Rattle.walk_ways.specs.Walks.{answerOf, numbersOf, padded, placeOf, structOn}
+use Rattle.walk_ways.specs.Standing.{Standing, pointsOn}
+use Rattle.walk_places.specs.Walks.{padded, placeOf, tableOn, walkOn}
+use Rattle.walk_ways.specs.Answers.{answerOf, numbersOf, structOn}
 use Rattle.walk_ways.specs.declared.Answer.the-variants.{Refused}
 use Rattle.walk_calls.specs.declared.Call.{Call}
-use Rattle.walk_ways.specs.declared.Place.{Place}
-use Rattle.walk_ways.specs.declared.Walk.{Walk as WalkStruct}
+use Rattle.walk_places.specs.declared.Place.{Place}
+use Rattle.walk_places.specs.declared.Walk.{Walk as WalkStruct}
 
 -- what `Grid::new` gives of a walk's grid
 pub record GridIn (g : Grid) (r : Made) : Type 0 where

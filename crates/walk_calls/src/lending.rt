@@ -4,7 +4,7 @@ ghost use Rattle.walk_calls.specs.Calls.{callOf, toldIn};
 use crate::Call;
 use crate::Told;
 use crate::moving::moved;
-use walk_ways::Walk;
+use walk_places::Walk;
 
 // The walk after a call.
 fn walk_in(c: Call) -> Walk

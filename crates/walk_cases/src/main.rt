@@ -1,6 +1,7 @@
 // Moves on the walks that standard input holds, and prints each answer and the walk after it. There are as many as the
 // first 16 bits say. A walk is followed by the number of calls, and before each call come its labels.
 use walk_calls::Call;
+use walk_places::Walk;
 use walk_reader::number;
 use walk_reader::print_answer;
 use walk_reader::print_labels;
@@ -8,7 +9,6 @@ use walk_reader::print_numbers;
 use walk_reader::print_place;
 use walk_reader::read_list;
 use walk_reader::read_walk;
-use walk_ways::Walk;
 
 fn print_walk(w: Walk) {
     let carried = w.carried;

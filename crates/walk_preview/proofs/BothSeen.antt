@@ -14,16 +14,15 @@ use Rattle.walks.proofs.Moved.{calls-hold}
 use Rattle.walks.specs.Next.{moveAnswer, moveWalk, moved, ruleOf}
 use Rattle.walks.specs.Preview.{preview}
 use Rattle.walks.specs.Walk.{Walk}
-use Rattle.walk_calls.proofs.BothPlaced.{ok, on-here, on-there}
-use Rattle.walk_calls.specs.Placing.{BothMarked}
-use Rattle.walk_calls.specs.declared.Both.{Both}
+use Rattle.walk_places.proofs.BothPlaced.{ok, on-here, on-there}
+use Rattle.walk_places.specs.Placing.{BothMarked}
+use Rattle.walk_places.specs.declared.Both.{Both}
 use Rattle.walk_preview.proofs.Changed.{changed, maskT, maskU, only-other}
 use Rattle.walk_preview.specs.Changes.{changeFor, changedOf, indexFrom, otherIn}
 use Rattle.walk_preview.specs.Previews.{CanShow, changeOn}
-use Rattle.walk_ways.specs.Standing.{tableOn, walkOn}
-use Rattle.walk_ways.specs.Walks.{placeOf}
-use Rattle.walk_ways.specs.declared.Place.{Place}
-use Rattle.walk_ways.specs.declared.Walk.{Walk as WalkStruct}
+use Rattle.walk_places.specs.Walks.{placeOf, tableOn, walkOn}
+use Rattle.walk_places.specs.declared.Place.{Place}
+use Rattle.walk_places.specs.declared.Walk.{Walk as WalkStruct}
 
 module _ {g : GridStruct} {w : WalkStruct} {labels : List ℕ} {next : Place} {rule : ℕ}
     (C : CanShow g w labels next rule) where

@@ -14,17 +14,18 @@ use Rattle.walks.specs.Preview.{moveTo, preview}
 use Rattle.walks.specs.Walk.{over}
 use Rattle.walk_calls.specs.Calls.{callOf}
 use Rattle.walk_calls.specs.declared.Call.{Call}
-use Rattle.walk_calls.proofs.BothPlaced.{grid-asked}
+use Rattle.walk_places.proofs.BothPlaced.{grid-asked}
 use Rattle.walk_preview.specs.Changes.{noChange}
 use Rattle.walk_preview.specs.Previews.{Moves, changeIn, shownAs}
 use Rattle.walk_preview.specs.declared.Change.{Change as ChangeStruct}
 use Rattle.walk_preview.specs.declared.Shown.{Shown}
-use Rattle.walk_ways.specs.Walks.{answerOf, gridOf, numbersOf, padded, structOn, walkOf}
+use Rattle.walk_ways.specs.Answers.{answerOf, numbersOf, structOn}
+use Rattle.walk_places.specs.Walks.{gridOf, padded, walkOf}
 use Rattle.walk_ways.specs.declared.Answer.{Answer}
 use Rattle.walk_ways.specs.declared.Answer.the-variants.{Ended, Moved, Refused}
 use Rattle.walk_ways.specs.declared.Kind.{Kind}
-use Rattle.walk_ways.specs.declared.Place.{Place}
-use Rattle.walk_ways.specs.declared.Walk.{Walk as WalkStruct}
+use Rattle.walk_places.specs.declared.Place.{Place}
+use Rattle.walk_places.specs.declared.Walk.{Walk as WalkStruct}
 
 pub grid-passes : {w : WalkStruct} {labels : List ℕ} {next : Place} {rule : ℕ} → Moves (gridOf w) w labels next rule →
     firstNo (gridQuestions (gridOf w)) ≡ 0

@@ -22,7 +22,7 @@ use Rattle.rules.specs.Mask.{bit}
 use Rattle.rules.specs.Step.{markPosition}
 use Rattle.trail.specs.Change.{ByRule, Change, change, changeBy, outside, rule1, rule2, rule3, rule4, rule5, rule6}
 use Rattle.trail.specs.Change.{rule7}
-use Rattle.walk_calls.proofs.BothPlaced.{bare-position, bare-tells}
+use Rattle.walk_places.proofs.BothPlaced.{bare-position, bare-tells}
 use Rattle.walk_preview.specs.Changes.{changeFor, changedOf, indexFrom, otherIn}
 
 -- numbers that tell elements apart carry what is outside

@@ -10,12 +10,12 @@ use Rattle.grid.specs.declared.Grid.{Grid as GridStruct}
 use Rattle.walks.specs.Next.{Outcome, ended, moved, refused, ruleOf}
 use Rattle.walks.specs.Preview.{Move, preview}
 use Rattle.walks.specs.Walk.{Walk, over}
-use Rattle.walk_calls.specs.Placing.{GoesTo}
-use Rattle.walk_ways.specs.Standing.{walkOn}
-use Rattle.walk_ways.specs.Walks.{gridOf, kindOf, padded, walkOf}
+use Rattle.walk_places.specs.Placing.{GoesTo}
+use Rattle.walk_places.specs.Walks.{gridOf, padded, walkOf, walkOn}
+use Rattle.walk_ways.specs.Answers.{kindOf}
 use Rattle.walk_ways.specs.declared.Answer.the-variants.{Ended, Moved, Refused}
-use Rattle.walk_ways.specs.declared.Place.{Place}
-use Rattle.walk_ways.specs.declared.Walk.{Walk as WalkStruct}
+use Rattle.walk_places.specs.declared.Place.{Place}
+use Rattle.walk_places.specs.declared.Walk.{Walk as WalkStruct}
 use Rattle.walk_preview.specs.Changes.{changedOf, noChange}
 use Rattle.walk_preview.specs.declared.Change.{Change as ChangeStruct}
 use Rattle.walk_preview.specs.declared.Shown.{Shown}

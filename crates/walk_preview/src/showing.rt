@@ -3,7 +3,7 @@ ghost use mathlib.Core.List.{List};
 ghost use mathlib.Core.Path.{_≡_};
 ghost use Prim.Native.Nat.{ℕ};
 ghost use Rattle.walks.specs.Preview.{preview as previewOf};
-ghost use Rattle.walk_ways.specs.Walks.{walkOf};
+ghost use Rattle.walk_places.specs.Walks.{walkOf};
 ghost use Rattle.walk_preview.specs.Changes.{noChange};
 ghost use Rattle.walk_preview.specs.Previews.{CanShow, MovesTo, changeIn, changeOn, shownAs};
 use crate::Change;
@@ -12,12 +12,12 @@ use crate::changes::change_for;
 use crate::changes::index_of;
 use crate::changes::other;
 use grid::Grid;
-use walk_calls::both_placed;
 use walk_calls::grid_in;
 use walk_calls::moved;
+use walk_places::Place;
+use walk_places::Walk;
+use walk_places::both_placed;
 use walk_ways::Answer;
-use walk_ways::Place;
-use walk_ways::Walk;
 
 // No move: nothing changes.
 fn unchanged() -> Change

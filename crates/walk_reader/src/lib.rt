@@ -6,10 +6,10 @@
 ghost use mathlib.Core.Path.{_≡_};
 ghost use Prim.Native.Nat.{_≤_};
 ghost use lib.ListN.{length};
+use walk_places::Place;
+use walk_places::Walk;
 use walk_ways::Answer;
 use walk_ways::Kind;
-use walk_ways::Place;
-use walk_ways::Walk;
 
 fn wide(x: u8) -> u16
     ensures { λ r. ⌜ r ≤ 255 ⌝ }

@@ -12,12 +12,12 @@ use Rattle.walk_preview.specs.Previews.{shownAs}
 use Rattle.walk_preview.specs.declared.Change.{Change}
 use Rattle.walk_views.specs.Begun.{begunOf}
 use Rattle.walk_views.specs.Viewed.{pointsOf}
-use Rattle.walk_ways.specs.Walks.{walkOf}
+use Rattle.walk_places.specs.Walks.{walkOf}
 use Rattle.walk_ways.specs.declared.Answer.{Answer}
 use Rattle.walk_ways.specs.declared.Answer.the-variants.{Ended, Moved, Refused}
 use Rattle.walk_ways.specs.declared.Kind.{Kind}
 use Rattle.walk_ways.specs.declared.Kind.the-variants.{Facet, Place}
-use Rattle.walk_ways.specs.declared.Walk.{Walk as WalkStruct}
+use Rattle.walk_places.specs.declared.Walk.{Walk as WalkStruct}
 use Rattle.walk_steps.specs.declared.Step.{Step}
 
 -- a refusal's number or 0, with points

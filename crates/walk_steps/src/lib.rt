@@ -1,18 +1,17 @@
 // The calls on a walk as programs in C make them: a walk, and behind it what the last call on it has answered. Each
 // call is by value here; the exported functions take the struct by reference and call these.
 ghost use mathlib.Core.Path.{_≡_};
-ghost use Rattle.walk_ways.specs.Walks.{walkOf};
 ghost use Rattle.walk_preview.specs.Changes.{noChange};
 ghost use Rattle.walk_steps.specs.Steps.{begunStep, kindNumber, movedStep, pointedStep};
 ghost use Rattle.walk_steps.specs.Steps.{shownStep, stepOf, unansweredStep};
 use walk_calls::moved;
+use walk_places::Walk;
 use walk_preview::Change;
 use walk_preview::preview;
 use walk_views::at_start;
 use walk_views::points;
 use walk_ways::Answer;
 use walk_ways::Kind;
-use walk_ways::Walk;
 
 // The walk; the number of the refusal or 0; of an end the kind, 0 place and 1 facet, the block from 1 and the number of
 // vertices; of a move the rule, or else 0, and, where it is shown, the map and the fields; the numbers of the vertices

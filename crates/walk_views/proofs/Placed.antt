@@ -37,16 +37,16 @@ use Rattle.rules.specs.Step.{State}
 use Rattle.walks.specs.Kept.{keptPoints}
 use Rattle.walks.specs.Walk.{over}
 use Rattle.walk_calls.proofs.Stood.{ok, round-of}
-use Rattle.walk_calls.specs.Placing.{CanSee}
+use Rattle.walk_places.specs.Placing.{CanSee}
 use Rattle.walk_moves.proofs.Carried.{points-long}
 use Rattle.walk_moves.proofs.Kept.{describes, full, place-filled}
 use Rattle.walk_moves.specs.Lent.{Lent}
 use Rattle.walk_views.specs.Viewed.{CanPoint, noPoints, placeQuestions, pointsAt, pointsOn}
 use Rattle.walk_views.specs.declared.PlacePoints.{PlacePoints}
-use Rattle.walk_ways.specs.Standing.{IsRoundOf, tableOn, walkOn}
-use Rattle.walk_ways.proofs.Held.{held, held-parts, not-held}
-use Rattle.walk_ways.specs.Walks.{gridOf, holdsNumbers, holdsPlace, padded, placeOf}
-use Rattle.walk_ways.specs.declared.Walk.{Walk as WalkStruct}
+use Rattle.walk_ways.specs.Standing.{IsRoundOf}
+use Rattle.walk_places.specs.Walks.{holdsNumbers, holdsPlace, padded, placeOf, tableOn, walkOn}
+use Rattle.walk_places.proofs.Held.{held, held-parts, not-held}
+use Rattle.walk_places.specs.declared.Walk.{Walk as WalkStruct}
 
 abbrev pub pointsBy : ℕ → List ℕ → PlacePoints
 pointsBy count numbers = record { code = 0; count = count; numbers = numbers }

@@ -28,11 +28,10 @@ use Rattle.walk_calls.specs.Asked.{laterQuestions}
 use Rattle.walks.specs.Walk.{Walk, walkAtStart}
 use Rattle.walk_views.specs.Begun.{begunOf, begunOn, noWalk, startWalk, CanLookUp}
 use Rattle.walk_views.specs.declared.Begun.{Begun}
-use Rattle.walk_ways.proofs.Held.{kept-held, padded-taken}
-use Rattle.walk_ways.specs.Standing.{walkOn}
-use Rattle.walk_ways.specs.Walks.{beforeOf, carriedOf, firstSix, gridOf, keptAs, nowhere, padded, placeOf, walkOf}
-use Rattle.walk_ways.specs.declared.Place.{Place}
-use Rattle.walk_ways.specs.declared.Walk.{Walk as WalkStruct}
+use Rattle.walk_places.proofs.Held.{kept-held, padded-taken}
+use Rattle.walk_places.specs.Walks.{carriedOf, gridOf, keptAs, nowhere, padded, placeOf, walkOf, walkOn}
+use Rattle.walk_places.specs.declared.Place.{Place}
+use Rattle.walk_places.specs.declared.Walk.{Walk as WalkStruct}
 
 abbrev walkWith : List ℕ → Place → List ℕ → List ℕ → ℕ → List ℕ → WalkStruct
 walkWith y before divisions sizes blocks carried = record {

@@ -11,8 +11,8 @@ use Rattle.grid.specs.declared.Grid.{Grid as GridStruct}
 use Rattle.place.specs.Problem.{Problem, label}
 use Rattle.place.specs.Questions.{tableQuestions}
 use Rattle.questions.specs.Questions.{firstNo}
-use Rattle.walk_ways.specs.Walks.{nowhere, padded}
-use Rattle.walk_ways.specs.declared.Walk.{Walk as WalkStruct}
+use Rattle.walk_places.specs.Walks.{nowhere, padded}
+use Rattle.walk_places.specs.declared.Walk.{Walk as WalkStruct}
 use Rattle.walk_views.specs.declared.Begun.{Begun}
 
 -- the grid and start with the table lent

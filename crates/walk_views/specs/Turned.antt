@@ -1,6 +1,6 @@
 -- A walk that faces the other way. Assumes nothing.
-use Rattle.walk_ways.specs.declared.Place.{Place}
-use Rattle.walk_ways.specs.declared.Walk.{Walk as WalkStruct}
+use Rattle.walk_places.specs.declared.Place.{Place}
+use Rattle.walk_places.specs.declared.Walk.{Walk as WalkStruct}
 
 -- the walk with another place before it
 abbrev pub turnedAs : WalkStruct → Place → WalkStruct

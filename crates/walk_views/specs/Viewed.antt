@@ -17,10 +17,10 @@ use Rattle.recogniser.specs.Kept.{Seen}
 use Rattle.recogniser.specs.declared.Sets.{Sets}
 use Rattle.rules.specs.Read.{markOf}
 use Rattle.walks.specs.Walk.{over}
-use Rattle.walk_calls.specs.Placing.{CanSee}
-use Rattle.walk_ways.specs.Standing.{pointsOn as pointsBy, tableOn, walkOn}
-use Rattle.walk_ways.specs.Walks.{gridOf, padded, placeOf}
-use Rattle.walk_ways.specs.declared.Walk.{Walk as WalkStruct}
+use Rattle.walk_places.specs.Placing.{CanSee}
+use Rattle.walk_ways.specs.Standing.{pointsOn as pointsBy}
+use Rattle.walk_places.specs.Walks.{gridOf, padded, placeOf, tableOn, walkOn}
+use Rattle.walk_places.specs.declared.Walk.{Walk as WalkStruct}
 use Rattle.walk_views.specs.declared.PlacePoints.{PlacePoints}
 
 -- questions 1 to 7, and 20 "when the present place is not a place"

@@ -14,9 +14,9 @@ use grid::Grid;
 use label_table::read_at;
 use positions::ENTRIES;
 use walk_calls::first_no;
-use walk_ways::Place;
-use walk_ways::Walk;
-use walk_ways::none;
+use walk_places::Place;
+use walk_places::Walk;
+use walk_places::none;
 
 // Numbers at the front of an array, 0 behind.
 fn copied(numbers: &[u16]) -> [u16; 16]

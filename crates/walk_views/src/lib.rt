@@ -7,8 +7,8 @@ mod pointing;
 
 pub use beginning::at_start;
 pub use pointing::points;
-use walk_ways::Place;
-use walk_ways::Walk;
+use walk_places::Place;
+use walk_places::Walk;
 
 // The number of the first of questions 1 to 7 that is answered no, or 0 and the walk at {v}.
 pub struct Begun {

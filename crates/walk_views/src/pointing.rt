@@ -3,7 +3,7 @@ ghost use mathlib.Core.Path.{_≡_};
 ghost use Rattle.questions.specs.Questions.{firstNo};
 ghost use Rattle.grid.specs.Made.{IsMade, shape};
 ghost use Rattle.place.specs.Questions.{tableQuestions};
-ghost use Rattle.walk_ways.specs.Standing.{tableOn};
+ghost use Rattle.walk_places.specs.Walks.{tableOn};
 ghost use Rattle.walk_views.specs.Viewed.{CanPoint, noPoints, pointsAt, pointsOf, pointsOn};
 use crate::PlacePoints;
 use arrays::block_sizes;
@@ -14,9 +14,9 @@ use place_points::put_points;
 use recogniser::Sets;
 use walk_calls::first_no;
 use walk_calls::grid_in;
-use walk_calls::seen;
-use walk_ways::Walk;
-use walk_ways::is_kept;
+use walk_places::Walk;
+use walk_places::is_kept;
+use walk_places::seen;
 use walk_ways::spare;
 
 // A refusal.

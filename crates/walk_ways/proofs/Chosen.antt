@@ -54,16 +54,17 @@ use Rattle.walk_moves.proofs.Next.{fits-a, fits-b, fits-v, ready-a, ready-b, re
 use Rattle.walk_moves.proofs.Unknown.{unknown-only}
 use Rattle.walk_moves.proofs.Ways.{Fits, described-masks}
 use Rattle.walk_moves.specs.Lent.{Lent, keptBy, wayOf}
-use Rattle.walk_ways.proofs.Alike.{place-same, same-place}
-use Rattle.walk_ways.proofs.Held.{held-once, kept-before, stored-kept}
+use Rattle.walk_places.proofs.Alike.{place-same, same-place}
+use Rattle.walk_places.proofs.Held.{held-once, kept-before, stored-kept}
 use Rattle.walk_ways.proofs.RuleTold.{rule-told}
 use Rattle.walk_ways.specs.Ends.{CanTell, endAs, refusedAs, toldAs}
-use Rattle.walk_ways.specs.Standing.{leadsBack, nextIn, IsRoundOf, Standing, pointsOn, tableOn, walkOn}
-use Rattle.walk_ways.specs.Walks.{beforeOf, keptAs, nextAs, nowhere, placeOf, samePlace, stored}
+use Rattle.walk_ways.specs.Standing.{leadsBack, nextIn, IsRoundOf, Standing}
+use Rattle.walk_places.specs.Walks.{beforeOf, keptAs, nowhere, placeOf, samePlace, stored, tableOn, walkOn}
+use Rattle.walk_ways.specs.Answers.{nextAs}
 use Rattle.walk_ways.specs.Ways.{CanTry, ruleFrom, wayIn}
 use Rattle.walk_ways.specs.declared.Kind.the-variants.{Facet, Place as AtPlace}
-use Rattle.walk_ways.specs.declared.Leads.the-variants.{FacetEnd, Onto, PlaceEnd}
-use Rattle.walk_ways.specs.declared.Walk.{Walk as WalkStruct}
+use Rattle.walk_ways.specs.declared.Leads.the-variants.{FacetEnd, PlaceEnd}
+use Rattle.walk_places.specs.declared.Walk.{Walk as WalkStruct}
 
 take-whole : (l : List ℕ) → take (length l) l ≡ l
 take-whole [] = refl

@@ -29,12 +29,12 @@ use Rattle.walk_moves.proofs.Carried.{points-long}
 use Rattle.walk_moves.proofs.Next.{back-unknown, from-v, neither, not-back-unknown, onward-a, onward-b, start-with-one}
 use Rattle.walk_moves.proofs.Next.{unknown-v, without-one}
 use Rattle.walk_moves.specs.Lent.{wayOf}
-use Rattle.walk_ways.proofs.Chosen.{Tried, leads-elsewhere, leads-there, lent, long-o, o, ok, only-unknown, p, q}
+use Rattle.walk_ways.proofs.Chosen.{leads-elsewhere, leads-there, lent, long-o, o, ok, only-unknown, p, q}
 use Rattle.walk_ways.proofs.Chosen.{stateAs, tried-back, tried-on, y}
-use Rattle.walk_ways.specs.Standing.{IsRoundOf, Standing, leadsBack, walkOn}
-use Rattle.walk_ways.specs.Walks.{beforeOf, nowhere, placeOf, samePlace}
+use Rattle.walk_ways.specs.Standing.{IsRoundOf, Standing, leadsBack}
+use Rattle.walk_places.specs.Walks.{beforeOf, nowhere, placeOf, samePlace, walkOn}
 use Rattle.walk_ways.specs.Ways.{wayIn}
-use Rattle.walk_ways.specs.declared.Walk.{Walk as WalkStruct}
+use Rattle.walk_places.specs.declared.Walk.{Walk as WalkStruct}
 
 module _ {g : GridStruct} {w : WalkStruct} {labels first list order marks : List ℕ} {n t u point : ℕ} {unknown : Bool}
     (S : Standing g w labels first list order marks n t u point unknown) where

@@ -1,7 +1,5 @@
-pub mod Alike
 pub mod Labels
 pub mod Tried
-pub mod Held
 pub mod MaskTests
 pub mod RuleTold
 pub mod Chosen

@@ -9,11 +9,11 @@ use Rattle.moves.specs.declared.Outcome.{Outcome}
 use Rattle.moves.specs.declared.Outcome.the-variants.{FacetEnd, Moved, PlaceEnd}
 use Rattle.moves.specs.declared.Status.{Status}
 use Rattle.rules.specs.Step.{Round, State, goes, step}
-use Rattle.walk_ways.specs.Walks.{keptAs, nowhere, padded}
+use Rattle.walk_places.specs.Walks.{keptAs, nowhere, padded}
 use Rattle.walk_ways.specs.Ways.{CanTry, ruleFrom, wayIn}
 use Rattle.walk_ways.specs.declared.Leads.{Leads}
 use Rattle.walk_ways.specs.declared.Leads.the-variants.{FacetEnd as ToFacet, Onto, PlaceEnd as ToPlace}
-use Rattle.walk_ways.specs.declared.Place.{Place}
+use Rattle.walk_places.specs.declared.Place.{Place}
 use Rattle.walk_ways.specs.declared.Way.{Way}
 
 abbrev made : Leads → Place → Way

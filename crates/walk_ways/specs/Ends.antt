@@ -10,14 +10,14 @@ use Rattle.grid.specs.declared.Grid.{Grid as GridStruct}
 use Rattle.place_points.specs.Room.{CanPut}
 use Rattle.rules.specs.Read.{numbersFrom}
 use Rattle.rules.specs.Step.{State}
-use Rattle.walk_ways.specs.Walks.{nowhere, padded}
+use Rattle.walk_places.specs.Walks.{nowhere, padded}
 use Rattle.walk_ways.specs.declared.Answer.the-variants.{Ended, Moved, Refused}
 use Rattle.walk_ways.specs.declared.Kind.{Kind}
 use Rattle.walk_ways.specs.declared.Kind.the-variants.{Facet, Place as AtPlace}
 use Rattle.walk_ways.specs.declared.Leads.{Leads}
 use Rattle.walk_ways.specs.declared.Leads.the-variants.{FacetEnd, Onto, PlaceEnd}
 use Rattle.walk_ways.specs.declared.Next.{Next}
-use Rattle.walk_ways.specs.declared.Place.{Place}
+use Rattle.walk_places.specs.declared.Place.{Place}
 use Rattle.walk_ways.specs.declared.Way.{Way}
 
 abbrev pub refusedAs : ℕ → Next

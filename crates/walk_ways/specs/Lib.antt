@@ -1,4 +1,4 @@
-pub mod Walks
+pub mod Answers
 pub mod Spares
 pub mod Ways
 pub mod Ends

@@ -6,49 +6,33 @@ use Prim.Native.Nat.{ℕ, _+_, _≤_, _<_}
 use lib.Dec.{eqb}
 use lib.ListN.{length, take, getD}
 use Rattle.combinatorics.specs.Lists.{isIn}
-use Rattle.grid.specs.Grid.{Grid, at, numIndices}
+use Rattle.grid.specs.Grid.{at, numIndices}
 use Rattle.grid.specs.Made.{IsMade, shape}
 use Rattle.grid.specs.declared.Grid.{Grid as GridStruct}
 use Rattle.place.specs.Coefficients.{coefficients}
 use Rattle.place.specs.Places.{Simplex, isPlace}
-use Rattle.place.specs.Problem.{Problem, label}
+use Rattle.place.specs.Problem.{label}
 use Rattle.place.specs.Questions.{tableQuestions}
 use Rattle.questions.specs.Questions.{firstNo}
 use Rattle.rules.specs.Mask.{bit}
 use Rattle.rules.specs.Read.{markOf}
 use Rattle.rules.specs.Ready.{IsRound, RoundBelow}
-use Rattle.rules.specs.Step.{Round}
 use Rattle.walks.specs.Kept.{keptPoints, zeroOutside}
 use Rattle.walks.specs.Next.{nextOf}
-use Rattle.walks.specs.Walk.{Walk, over}
 use Rattle.walk_moves.specs.Counted.{Counted}
 use Rattle.walk_moves.specs.Spare.{Spare}
-use Rattle.walk_ways.specs.Walks.{beforeOf, carriedOf, nextAs, placeOf, samePlace}
+use Rattle.walk_places.specs.Walks.{placeOf, samePlace, tableOn, walkOn}
+use Rattle.walk_ways.specs.Answers.{nextAs}
 use Rattle.walk_ways.specs.declared.Leads.{Leads}
 use Rattle.walk_ways.specs.declared.Leads.the-variants.{FacetEnd, Onto, PlaceEnd}
 use Rattle.walk_ways.specs.declared.Next.{Next}
-use Rattle.walk_ways.specs.declared.Place.{Place}
-use Rattle.walk_ways.specs.declared.Walk.{Walk as WalkStruct}
+use Rattle.walk_places.specs.declared.Place.{Place}
+use Rattle.walk_places.specs.declared.Walk.{Walk as WalkStruct}
 use Rattle.walk_ways.specs.declared.Way.{Way}
 
--- the walk that a struct holds on a grid
-abbrev pub walkOn : Grid → WalkStruct → Walk
-walkOn g w = record {
-  grid = g;
-  start = take (numIndices g) (w .start);
-  present = placeOf g (w .present);
-  before = beforeOf g (w .before);
-  places = w .places;
-  carried = carriedOf w;
-  read = w .«labels_read»;
-}
-
+-- what comes next on the walk, on its grid
 abbrev pub nextIn : GridStruct → WalkStruct → List ℕ → Next
 nextIn g w labels = nextAs (walkOn (shape g) w) labels (nextOf (walkOn (shape g) w) labels)
-
--- the walk's grid and start with the table
-abbrev pub tableOn : GridStruct → WalkStruct → List ℕ → Problem
-tableOn g w labels = over (walkOn (shape g) w) labels
 
 -- the points that a first point and an order keep
 abbrev pub pointsOn : GridStruct → List ℕ → List ℕ → ℕ → Simplex

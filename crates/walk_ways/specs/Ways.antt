@@ -7,8 +7,7 @@ use lib.ListN.{length}
 use Rattle.combinatorics.specs.Lists.{all, upFrom}
 use Rattle.rules.specs.Mask.{bit}
 use Rattle.rules.specs.Step.{After, State, endsAtFacet, endsAtPlace, goes, step}
-use Rattle.walk_ways.specs.Walks.{keptAs, nowhere}
-use Rattle.walk_ways.specs.declared.Leads.{Leads}
+use Rattle.walk_places.specs.Walks.{keptAs, nowhere}
 use Rattle.walk_ways.specs.declared.Leads.the-variants.{FacetEnd, Onto, PlaceEnd}
 use Rattle.walk_ways.specs.declared.Way.{Way}
 

@@ -8,16 +8,16 @@ ghost use Rattle.grid.specs.Made.{IsMade};
 ghost use Rattle.walk_ways.specs.Standing.{IsRoundOf, leadsBack, nextIn, Standing};
 use crate::Leads;
 use crate::Next;
-use crate::Place;
-use crate::Walk;
 use crate::Way;
 use crate::ending::refused;
 use crate::ending::told;
-use crate::keeping::none;
-use crate::keeping::same_place;
 use crate::ways::way;
 use grid::Grid;
 use moves::Status;
+use walk_places::Place;
+use walk_places::Walk;
+use walk_places::none;
+use walk_places::same_place;
 
 // Whether a way leads to the place before.
 fn leads_back(way: Way, before: Place) -> bool

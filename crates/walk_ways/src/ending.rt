@@ -14,10 +14,10 @@ use crate::Kind;
 use crate::Leads;
 use crate::Next;
 use crate::Way;
-use crate::keeping::none;
 use grid::Grid;
 use moves::Status;
 use place_points::put_points;
+use walk_places::none;
 
 // An end with the points from number from on, complete for the block of index h.
 fn ended(
@@ -33,8 +33,8 @@ fn ended(
 ) -> Next
     ghost { State }
     requires { λ a. ⌜ stateOf (roundBack previous sizes) (now first) [] (now order) [] s ≡ a ⌝ }
+    requires { λ a. ⌜ IsMade g × (h < g .indices) ⌝ }
     requires { λ a. ⌜ CanPut a (g .indices) from 256 × (length (a .order) ≡ s .count) ⌝ }
-    requires { λ _. ⌜ IsMade g × (h < g .indices) ⌝ }
     ensures { λ a r. ⌜ r ≡ endAs g a kind h from ⌝ }
 {
     let m = g.indices;

@@ -7,11 +7,11 @@ ghost use Rattle.rules.specs.Step.{State, step as stepped};
 ghost use Rattle.walk_ways.specs.Ways.{CanTry, ruleFrom, wayIn};
 use crate::Leads;
 use crate::Way;
-use crate::keeping::kept_as;
-use crate::keeping::none;
 use moves::Outcome;
 use moves::Status;
 use moves::step;
+use walk_places::kept_as;
+use walk_places::none;
 
 // Which of the seven rules leads from T and U of a place to those of the next.
 fn rule_of(t: u16, u: u16, t2: u16, u2: u16) -> u8

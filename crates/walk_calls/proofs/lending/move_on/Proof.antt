@@ -46,13 +46,13 @@ use denote.Triple.Clauses.{ensured, lasts}
 use Rattle.walk_calls.specs.Calls.{callOf, toldIn}
 use Rattle.walk_calls.specs.declared.Call.{Call}
 use Rattle.walk_calls.specs.declared.Told.{Told}
-use Rattle.walk_ways.specs.declared.Walk.{Walk}
+use Rattle.walk_places.specs.declared.Walk.{Walk}
 use Rattle.walk_calls.proofs.Call as TC
 use Rattle.walk_calls.proofs.Call.Laws as TC′
 use Rattle.walk_calls.proofs.Told as TT
 use Rattle.walk_calls.proofs.Told.Laws as TT′
-use Rattle.walk_ways.proofs.Walk as T
-use Rattle.walk_ways.proofs.Walk.Laws as T′
+use Rattle.walk_places.proofs.Walk as T
+use Rattle.walk_places.proofs.Walk.Laws as T′
 use Rattle.walk_calls.proofs.moving.moved as moved
 use Rattle.walk_calls.proofs.moving.moved.Symbol as moved-def
 use Rattle.walk_calls.proofs.moving.moved.Symbol.{name as #moved}

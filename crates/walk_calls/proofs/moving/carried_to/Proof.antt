@@ -1,5 +1,5 @@
 -- `moving::carried_to` meets its contract. Assumes nothing.
-use Rattle.walk_calls.proofs.BothPlaced.{can-carry, carries-to}
+use Rattle.walk_calls.proofs.CarriedTo.{can-carry, carries-to}
 use Rattle.walk_calls.proofs.moving.carried_to.Statement.{statement}
 use Rattle.walk_calls.proofs.moving.carried_to.Tie as tie
 

@@ -10,10 +10,9 @@ use Rattle.walks.specs.Preview.{preview}
 use Rattle.walk_calls.specs.Moving.{GridIn}
 use Rattle.walk_preview.proofs.Calls.{grid-passes}
 use Rattle.walk_preview.specs.Previews.{CanShow, Moves, MovesTo, changeShown}
-use Rattle.walk_ways.specs.Standing.{walkOn}
-use Rattle.walk_ways.specs.Walks.{gridOf}
-use Rattle.walk_ways.specs.declared.Place.{Place}
-use Rattle.walk_ways.specs.declared.Walk.{Walk as WalkStruct}
+use Rattle.walk_places.specs.Walks.{gridOf, walkOn}
+use Rattle.walk_places.specs.declared.Place.{Place}
+use Rattle.walk_places.specs.declared.Walk.{Walk as WalkStruct}
 use Rattle.walk_preview.proofs.showing.change_in.Statement.{statement}
 use Rattle.walk_preview.proofs.showing.change_in.Tie as tie
 

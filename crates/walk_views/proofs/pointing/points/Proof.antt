@@ -18,7 +18,7 @@ use Rattle.walk_calls.proofs.Later.{behind-four}
 use Rattle.walk_calls.specs.Asked.{laterQuestions}
 use Rattle.walk_views.proofs.Placed.{points-refused}
 use Rattle.walk_views.specs.Viewed.{pointsOn}
-use Rattle.walk_ways.specs.Walks.{gridOf, walkOf}
+use Rattle.walk_places.specs.Walks.{gridOf, walkOf}
 use Rattle.walk_views.proofs.pointing.points.Statement.{statement}
 use Rattle.walk_views.proofs.pointing.points.Tie as tie
 

@@ -4,9 +4,9 @@ use mathlib.Core.Path.{_≡_, refl, sym, ap, _∙_}
 use Prim.Native.Nat.{suc}
 use Rattle.combinatorics.proofs.Basics.{not-is}
 use Rattle.recogniser.proofs.Together.{is-not}
-use Rattle.walk_ways.proofs.Chosen.{can-tell, can-try, long-o, m-is, ok, refused-is, told-is, tried-start}
+use Rattle.walk_ways.proofs.Chosen.{can-tell, can-try, m-is, ok, refused-is, told-is, tried-start}
 use Rattle.walk_ways.proofs.Decided.{start-16, start-20, start-on}
-use Rattle.walk_ways.specs.Walks.{nowhere, samePlace}
+use Rattle.walk_places.specs.Walks.{samePlace}
 use borrow.Author.Needs.{needs}
 use native.Mathlib.Omega.{arith}
 use Rattle.walk_ways.proofs.choice.from_start.Statement.{statement}

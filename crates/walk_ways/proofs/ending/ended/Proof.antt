@@ -25,9 +25,9 @@ cast-block c =
     omega (
       arith,
       c .block-of .ensures,
-      block-spans (shape g .sizes) (s .args .h) (omega (arith, s .pre .1 .1, made-indices g (s .pre .1 .0))) .0,
-      made-blocks g (s .pre .1 .0),
-      blocks-range g (s .pre .1 .0),
+      block-spans (shape g .sizes) (s .args .h) (omega (arith, s .pre .0 .1, made-indices g (s .pre .0 .0))) .0,
+      made-blocks g (s .pre .0 .0),
+      blocks-range g (s .pre .0 .0),
     )
 
 add-block : tie.Need-add-block
@@ -37,9 +37,9 @@ add-block c =
     omega (
       arith,
       c .block-of .ensures,
-      block-spans (shape g .sizes) (s .args .h) (omega (arith, s .pre .1 .1, made-indices g (s .pre .1 .0))) .0,
-      made-blocks g (s .pre .1 .0),
-      blocks-range g (s .pre .1 .0),
+      block-spans (shape g .sizes) (s .args .h) (omega (arith, s .pre .0 .1, made-indices g (s .pre .0 .0))) .0,
+      made-blocks g (s .pre .0 .0),
+      blocks-range g (s .pre .0 .0),
     )
 
 none-requires : tie.Need-none-requires

@@ -14,7 +14,7 @@ ended-requires : tie.Need-ended-requires
 ended-requires c κs =
     let s = c .before .before .before .before in
     let w = s .pre .1 .place (c .before .leads2 .given .0 .0) (c .before .leads2 .given .1) in
-    ((w .1, s .pre .2), (s .pre .0, w .0))
+    ((s .pre .0, w .0), (w .1, s .pre .2))
 
 enum-known-leads-3 : tie.Need-enum-known-leads-3
 enum-known-leads-3 c = search needs
@@ -23,7 +23,7 @@ ended-requires-2 : tie.Need-ended-requires-2
 ended-requires-2 c κs =
     let s = c .before .before .before .before in
     let w = s .pre .1 .facet (c .before .leads3 .given .0 .0) (c .before .leads3 .given .1) in
-    ((w .1, s .pre .2), (s .pre .0, w .0))
+    ((s .pre .0, w .0), (w .1, s .pre .2))
 
 returns : tie.Need-returns
 returns c = rw (c .before .leads .given .1)

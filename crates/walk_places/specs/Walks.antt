@@ -1,27 +1,21 @@
--- The walk that a struct holds, and what a call gives. Assumes nothing.
-use mathlib.Core.Bool.{Bool, true, false, _&&_, cond}
-use mathlib.Core.List.{List, [], _∷_}
+-- The walk that a struct holds, with its places. Assumes nothing.
+use mathlib.Core.Bool.{Bool, _&&_, cond}
+use mathlib.Core.List.{List, []}
 use mathlib.Core.Option.{Option, none, some}
-use Prim.Native.Nat.{ℕ, zero, suc, pred, _+_}
+use Prim.Native.Nat.{ℕ, pred, _+_}
 use lib.Dec.{eqb, leb}
 use lib.ListN.{length, take, replicate}
 use Rattle.combinatorics.specs.Front.{front}
-use Rattle.combinatorics.specs.Lists.{concatMap, firstOr, same}
-use Rattle.grid.specs.Grid.{Grid, Point, numIndices}
-use Rattle.place.specs.Ends.{Kind, facetEnd, placeEnd}
-use Rattle.place.specs.LabelsRead.{pointCameIn}
+use Rattle.combinatorics.specs.Lists.{firstOr, same}
+use Rattle.grid.specs.Grid.{Grid, numIndices}
+use Rattle.grid.specs.Made.{shape}
+use Rattle.grid.specs.declared.Grid.{Grid as GridStruct}
 use Rattle.place.specs.Places.{Simplex, order}
 use Rattle.place.specs.Problem.{Problem}
 use Rattle.walks.specs.Kept.{keptPoints}
-use Rattle.walks.specs.Next.{Outcome, ended, moved, refused, ruleOf}
-use Rattle.walks.specs.Walk.{Walk, labelsOf, over}
-use Rattle.walk_ways.specs.declared.Answer.{Answer}
-use Rattle.walk_ways.specs.declared.Answer.the-variants.{Ended, Moved, Refused}
-use Rattle.walk_ways.specs.declared.Kind.{Kind as KindStruct}
-use Rattle.walk_ways.specs.declared.Kind.the-variants.{Facet, Place as AtPlace}
-use Rattle.walk_ways.specs.declared.Next.{Next}
-use Rattle.walk_ways.specs.declared.Place.{Place}
-use Rattle.walk_ways.specs.declared.Walk.{Walk as WalkStruct}
+use Rattle.walks.specs.Walk.{Walk, over}
+use Rattle.walk_places.specs.declared.Place.{Place}
+use Rattle.walk_places.specs.declared.Walk.{Walk as WalkStruct}
 
 -- numbers at the front of an array of n, 0 behind
 abbrev pub padded : ℕ → List ℕ → List ℕ
@@ -67,9 +61,9 @@ unfoldable pub carriedOf : WalkStruct → List ℕ
 carriedOf w = let own = take (w .present .count) (w .carried) in cond (same eqb (w .carried) (padded 16 own)) own []
 
 -- "A walk holds the grid, the start, the present place, the one before it and the places so far", its place's labels
--- and the labels read
-abbrev pub walkOf : WalkStruct → Walk
-walkOf w = let g = gridOf w in record {
+-- and the labels read: the walk that a struct holds, on a grid,
+abbrev pub walkOn : Grid → WalkStruct → Walk
+walkOn g w = record {
   grid = g;
   start = take (numIndices g) (w .start);
   present = placeOf g (w .present);
@@ -79,51 +73,14 @@ walkOf w = let g = gridOf w in record {
   read = w .«labels_read»;
 }
 
+-- and on its own
+abbrev pub walkOf : WalkStruct → Walk
+walkOf w = walkOn (gridOf w) w
+
+-- the walk's grid and start with the table
+abbrev pub tableOn : GridStruct → WalkStruct → List ℕ → Problem
+tableOn g w labels = over (walkOn (shape g) w) labels
+
 -- a place, kept
 unfoldable pub stored : Grid → Simplex → Place
 stored g s = record { first = padded 16 (firstOr [] s); order = padded 16 (order g s); count = length s }
-
-abbrev pub kindOf : Kind → KindStruct
-kindOf placeEnd = AtPlace
-kindOf facetEnd = Facet
-
--- each case's number and values
-abbrev pub answerOf : (Simplex → ℕ) → Outcome Simplex → Answer
-answerOf rule (refused number) = Refused number
-answerOf rule (ended kind block simplex) = Ended (kindOf kind) block (length simplex)
-answerOf rule (moved s) = Moved (rule s)
-
-abbrev pub numbersOf : Outcome Simplex → List ℕ
-numbersOf (refused number) = []
-numbersOf (ended kind block simplex) = concatMap (λ y. y) simplex
-numbersOf (moved s) = []
-
-abbrev pub placeAfter : Grid → Outcome Simplex → Place
-placeAfter g (refused number) = nowhere
-placeAfter g (ended kind block simplex) = nowhere
-placeAfter g (moved s) = stored g s
-
--- what comes next, as a struct
-unfoldable pub nextAs : Walk → List ℕ → Outcome Simplex → Next
-nextAs w labels n = record {
-  answer = answerOf (ruleOf (over w labels) (w .present)) n;
-  simplex = padded 256 (numbersOf n);
-  place = placeAfter (w .grid) n;
-}
-
--- "each call moves it on by one place": what was the present place is then the one before, it carries the labels of the
--- next, over the table of p, and its labels read are one more if a point came in; else the walk is as it was
-abbrev pub structOn : Problem → WalkStruct → Outcome Simplex → WalkStruct
-structOn p w (refused number) = w
-structOn p w (ended kind block simplex) = w
-structOn p w (moved s) = let g = p .grid in record {
-  places = w .places + 1;
-  «labels_read» = w .«labels_read» + cond (pointCameIn (placeOf g (w .present)) s) 1 0;
-  present = stored g s;
-  before = w .present;
-  start = w .start;
-  divisions = w .divisions;
-  sizes = w .sizes;
-  blocks = w .blocks;
-  carried = padded 16 (labelsOf p s);
-}

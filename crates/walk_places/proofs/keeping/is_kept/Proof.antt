@@ -4,11 +4,10 @@ use Prim.Native.Nat.{_-_, pred}
 use borrow.Author.Needs.{needs, length-unmapped}
 use borrow.Author.Tests.{le-leb, lt-leb}
 use lib.ListN.{length}
-use Rattle.walk_ways.specs.Walks.{keptAs, samePlace}
 use borrow.Author.Needs.{needs}
 use native.Mathlib.Omega.{arith}
-use Rattle.walk_ways.proofs.keeping.is_kept.Statement.{statement}
-use Rattle.walk_ways.proofs.keeping.is_kept.Tie as tie
+use Rattle.walk_places.proofs.keeping.is_kept.Statement.{statement}
+use Rattle.walk_places.proofs.keeping.is_kept.Tie as tie
 
 returns : tie.Need-returns
 returns c =
@@ -34,9 +33,8 @@ sub-kept-as c = omega (arith, c .wide .ensures, c .before .before .before .befor
 
 kept-as-requires : tie.Need-kept-as-requires
 kept-as-requires c κs =
-    let s = c .before .before .before .before .before .before .before in
-    let a = s .args in (
-      (s .pre, length-unmapped _ (a .p .first) 16 (search needs)),
+    let a = c .before .before .before .before .before .before .before .args in (
+      (c .before .before .before .before .before .before .before .pre, length-unmapped _ (a .p .first) 16 (search needs)),
       (
         omega (arith, c .wide .ensures, c .before .before .before .before .before .if2 .left),
         length-unmapped _ (a .p .order) 16 (search needs),

@@ -3,9 +3,9 @@ use mathlib.Core.Path.{_≡_, refl}
 use Prim.Native.Nat.{_-_}
 use borrow.Author.Needs.{needs}
 use native.Mathlib.Omega.{arith}
-use Rattle.walk_calls.proofs.BothPlaced.{both-marked, place-next, place-present, some-next, some-present}
-use Rattle.walk_calls.proofs.placing.both_placed.Statement.{statement}
-use Rattle.walk_calls.proofs.placing.both_placed.Tie as tie
+use Rattle.walk_places.proofs.BothPlaced.{both-marked, place-next, place-present, some-next, some-present}
+use Rattle.walk_places.proofs.placing.both_placed.Statement.{statement}
+use Rattle.walk_places.proofs.placing.both_placed.Tie as tie
 
 wide-requires : tie.Need-wide-requires
 wide-requires c κs = search needs

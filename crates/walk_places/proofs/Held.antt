@@ -24,9 +24,9 @@ use Rattle.place.specs.Problem.{Problem}
 use Rattle.walks.proofs.KeptForm.{order-is}
 use Rattle.walks.proofs.Recognised.{kept-once}
 use Rattle.walks.specs.Kept.{keptPoints}
-use Rattle.walk_ways.proofs.Alike.{place-same, same-place}
-use Rattle.walk_ways.specs.Walks.{beforeOf, holdsPlace, keptAs, nowhere, padded, placeOf, samePlace, stored}
-use Rattle.walk_ways.specs.declared.Place.{Place}
+use Rattle.walk_places.proofs.Alike.{place-same, same-place}
+use Rattle.walk_places.specs.Walks.{beforeOf, holdsPlace, keptAs, padded, placeOf, samePlace, stored}
+use Rattle.walk_places.specs.declared.Place.{Place}
 
 pub padded-taken : (n : ℕ) (xs : List ℕ) → length xs ≡ n → take n (padded 16 xs) ≡ xs
 padded-taken n xs e = rw (← e) (front-taken xs (replicate 16 0))

@@ -12,8 +12,8 @@ use Rattle.combinatorics.proofs.Basics.{absurd-bool, and-both, and-left, and-ri
 use Rattle.combinatorics.proofs.Lists.{eqb-self, same-self, same-sound}
 use Rattle.combinatorics.specs.Lists.{same}
 use Rattle.grid.specs.Grid.{at}
-use Rattle.walk_ways.specs.Walks.{samePlace}
-use Rattle.walk_ways.specs.declared.Place.{Place}
+use Rattle.walk_places.specs.Walks.{samePlace}
+use Rattle.walk_places.specs.declared.Place.{Place}
 
 pub lists-alike : (x y : List ℕ) → length x ≡ 16 → length y ≡ 16 → ((j : ℕ) → j < 16 → at x j ≡ at y j)
     → same eqb x y ≡ true

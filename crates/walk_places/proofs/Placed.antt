@@ -23,9 +23,9 @@ use Rattle.rules.specs.Read.{markOf}
 use Rattle.rules.specs.Step.{markPosition}
 use Rattle.walks.proofs.KeptPlace.{conditions-of, points-long, points-on}
 use Rattle.walks.specs.Kept.{isKept, keptPoints}
-use Rattle.walk_calls.specs.Placing.{CanPlace, CanSee}
-use Rattle.walk_ways.specs.Standing.{tableOn}
-use Rattle.walk_ways.specs.declared.Walk.{Walk as WalkStruct}
+use Rattle.walk_places.specs.Placing.{CanPlace, CanSee}
+use Rattle.walk_places.specs.Walks.{tableOn}
+use Rattle.walk_places.specs.declared.Walk.{Walk as WalkStruct}
 
 module _ {g : GridStruct} {w : WalkStruct} {labels first order : List ℕ} {n : ℕ} (C : CanSee g w labels first order n)
   where

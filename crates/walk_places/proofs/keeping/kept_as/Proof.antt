@@ -1,20 +1,20 @@
 -- `keeping::kept_as` meets its contract. Assumes nothing.
 use mathlib.Core.Path.{_≡_, refl, sym, ap, _∙_}
 use native.Mathlib.Omega.{arith}
-use Rattle.walk_ways.proofs.keeping.kept_as.Statement.{statement}
-use Rattle.walk_ways.proofs.keeping.kept_as.Tie as tie
+use Rattle.walk_places.proofs.keeping.kept_as.Statement.{statement}
+use Rattle.walk_places.proofs.keeping.kept_as.Tie as tie
 
 padded-requires : tie.Need-padded-requires
-padded-requires c κs = omega (arith, c .before .pre)
+padded-requires c κs = omega (arith, c .before .pre .0)
 
 cut-requires : tie.Need-cut-requires
-cut-requires c κs = (omega (arith, c .before .before .pre), c .before .before .pre .1 .1)
+cut-requires c κs = (omega (arith, c .before .before .pre .1), c .before .before .pre .1 .1)
 
 cast-t9 : tie.Need-cast-t9
-cast-t9 c = omega (arith, c .before .before .before .pre)
+cast-t9 c = omega (arith, c .before .before .before .pre .1)
 
 add-t10 : tie.Need-add-t10
-add-t10 c = omega (arith, c .before .before .before .pre)
+add-t10 c = omega (arith, c .before .before .before .pre .1)
 
 returns : tie.Need-returns
 returns c = rw (c .before .padded .ensures, c .cut .ensures)

@@ -8,10 +8,11 @@ ghost use Rattle.grid.specs.Made.{IsMade, shape};
 ghost use Rattle.recogniser.specs.Kept.{Recognised};
 ghost use Rattle.recogniser.specs.Pieces.{bareMark};
 ghost use Rattle.rules.specs.Read.{markOf};
-ghost use Rattle.walk_calls.specs.Placing.{BothMarked, CanPlace, CanSee, GoesTo};
-ghost use Rattle.walk_ways.specs.Standing.{tableOn};
-ghost use Rattle.walk_ways.specs.Walks.{placeOf};
+ghost use Rattle.walk_places.specs.Placing.{BothMarked, CanPlace, CanSee, GoesTo};
+ghost use Rattle.walk_places.specs.Walks.{placeOf, tableOn};
 use crate::Both;
+use crate::Place;
+use crate::Walk;
 use arrays::block_sizes;
 use grid::Grid;
 use grid::wide;
@@ -19,8 +20,6 @@ use positions::ENTRIES;
 use recogniser::Sets;
 use recogniser::read_labels;
 use recogniser::recognise;
-use walk_ways::Place;
-use walk_ways::Walk;
 
 // T and U of the place with this first point and order, if it is one but for its labels; the coefficients and the
 // positions of the points, in marks without labels, into their arrays.

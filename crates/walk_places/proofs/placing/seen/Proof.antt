@@ -2,9 +2,9 @@
 use mathlib.Core.Path.{_≡_, refl, sym, ap, _∙_}
 use Rattle.combinatorics.proofs.Basics.{absurd-bool, not-is}
 use Rattle.recogniser.proofs.Together.{is-not, not-recognised}
-use Rattle.walk_calls.proofs.Placed.{can-place, can-read, seen-labels}
-use Rattle.walk_calls.proofs.placing.seen.Statement.{statement}
-use Rattle.walk_calls.proofs.placing.seen.Tie as tie
+use Rattle.walk_places.proofs.Placed.{can-place, can-read, seen-labels}
+use Rattle.walk_places.proofs.placing.seen.Statement.{statement}
+use Rattle.walk_places.proofs.placing.seen.Tie as tie
 
 placed-requires : tie.Need-placed-requires
 placed-requires c κs = (can-place (c .before .before .before .pre .0), c .before .before .before .pre .1)

@@ -3,7 +3,7 @@ ghost use mathlib.Core.Path.{_≡_};
 ghost use Prim.Native.Nat.{_≤_};
 ghost use lib.ListN.{length, take, replicate};
 ghost use Rattle.combinatorics.specs.Front.{front};
-ghost use Rattle.walk_ways.specs.Walks.{holdsNumbers, keptAs, nowhere, samePlace};
+ghost use Rattle.walk_places.specs.Walks.{holdsNumbers, keptAs, nowhere, samePlace};
 use crate::Place;
 use arrays::padded;
 use grid::wide;

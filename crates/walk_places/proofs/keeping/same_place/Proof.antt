@@ -10,11 +10,11 @@ use lib.ListN.{length}
 use Rattle.combinatorics.proofs.Basics.{same-or}
 use Rattle.combinatorics.specs.Lists.{same}
 use Rattle.grid.specs.Grid.{at}
-use Rattle.walk_ways.proofs.Alike.{lists-alike, lists-differ}
+use Rattle.walk_places.proofs.Alike.{lists-alike, lists-differ}
 use borrow.Author.Needs.{needs}
 use native.Mathlib.Omega.{arith}
-use Rattle.walk_ways.proofs.keeping.same_place.Statement.{statement}
-use Rattle.walk_ways.proofs.keeping.same_place.Tie as tie
+use Rattle.walk_places.proofs.keeping.same_place.Statement.{statement}
+use Rattle.walk_places.proofs.keeping.same_place.Tie as tie
 
 and-no : (a : Bool) → false ≡ (a && false)
 and-no true = refl

@@ -6,8 +6,8 @@ use lib.ListN.{length, take, replicate}
 use Rattle.combinatorics.proofs.Fronts.{front-none, front-copy}
 use Rattle.combinatorics.specs.Front.{front}
 use native.Mathlib.Omega.{arith}
-use Rattle.walk_ways.proofs.keeping.cut.Statement.{statement}
-use Rattle.walk_ways.proofs.keeping.cut.Tie as tie
+use Rattle.walk_places.proofs.keeping.cut.Statement.{statement}
+use Rattle.walk_places.proofs.keeping.cut.Tie as tie
 
 abbrev Inv-loop : tie.InvT-loop
 Inv-loop order n a₀ k₀ a k = (a ≡ front (take k order) (replicate 16 0)) × (k ≤ n) × (n ≤ 16) × (length order ≡ 16)

@@ -11,8 +11,8 @@ use Rattle.recogniser.specs.Pieces.{bareMark, startedOn}
 use Prim.Native.Nat.{ℕ}
 use borrow.Author.Needs.{needs, length-unmapped}
 use native.Mathlib.Omega.{arith}
-use Rattle.walk_calls.proofs.placing.placed.Statement.{statement}
-use Rattle.walk_calls.proofs.placing.placed.Tie as tie
+use Rattle.walk_places.proofs.placing.placed.Statement.{statement}
+use Rattle.walk_places.proofs.placing.placed.Tie as tie
 
 block-sizes-requires : tie.Need-block-sizes-requires
 block-sizes-requires c κs = c .before .pre .0 .made

@@ -16,11 +16,10 @@ use Rattle.questions.specs.Questions.{firstNo}
 use Rattle.recogniser.specs.Pieces.{bareMark}
 use Rattle.rules.specs.Mask.{bit}
 use Rattle.walks.specs.Next.{moved, nextOf}
-use Rattle.walk_calls.specs.declared.Both.{Both}
-use Rattle.walk_ways.specs.Standing.{tableOn, walkOn}
-use Rattle.walk_ways.specs.Walks.{stored}
-use Rattle.walk_ways.specs.declared.Place.{Place}
-use Rattle.walk_ways.specs.declared.Walk.{Walk as WalkStruct}
+use Rattle.walk_places.specs.declared.Both.{Both}
+use Rattle.walk_places.specs.Walks.{stored, tableOn, walkOn}
+use Rattle.walk_places.specs.declared.Place.{Place}
+use Rattle.walk_places.specs.declared.Walk.{Walk as WalkStruct}
 
 -- the walk's start is on the grid, and there are 16 numbers each
 pub record CanPlace (g : GridStruct) (w : WalkStruct) (first order : List ℕ) (n : ℕ) : Type 0 where

@@ -1,24 +1,21 @@
--- The two places of a move. In order: marks in an array; both places are kept; what is told of them; the labels carried
--- from one to the other. Assumes nothing.
-use mathlib.Core.Bool.{Bool, true, false, not, cond}
+-- The two places of a move. In order: marks in an array; both places are kept; what is told of them. Assumes nothing.
+use mathlib.Core.Bool.{true}
 use mathlib.Core.List.{List, [], _∷_, map}
 use mathlib.Core.Logic.{⊎-elim}
 use mathlib.Core.Path.{_≡_, refl, sym, ap, _∙_, subst}
 use Prim.Native.Nat.{ℕ, zero, suc, pred, _≤_, _<_}
-use borrow.Author.Tests.{eqb-true}
 use lib.Dec.{eqb}
 use lib.ListN.{length, getD, take, replicate, length-map, length-replicate, length-take}
 use lib.Seq.{ext-getD, getD-take, length-take-le}
 use native.Mathlib.Omega.{arith}
-use Rattle.combinatorics.proofs.Basics.{absurd-bool, and-left, and-right, both, true-or-false}
+use Rattle.combinatorics.proofs.Basics.{absurd-bool, and-left, both, true-or-false}
 use Rattle.combinatorics.proofs.Fronts.{front-length}
-use Rattle.combinatorics.proofs.Lists.{all-in, in-map, map-in, onNumbers, same-sound}
-use Rattle.combinatorics.specs.Front.{front}
-use Rattle.combinatorics.specs.Lists.{all, firstOr, isIn, same}
+use Rattle.combinatorics.proofs.Lists.{all-in, in-map, map-in, onNumbers}
+use Rattle.combinatorics.specs.Lists.{all, firstOr, isIn}
 use Rattle.grid.proofs.Accepted.{accepted as accepted-grid}
 use Rattle.grid.proofs.Fields.{indices-few, made-indices}
-use Rattle.grid.proofs.Points.{in-points, onPoints, position-in}
-use Rattle.grid.specs.Grid.{Grid, Point, at, isGridPoint, numIndices, numPoints, points, position, samePoint}
+use Rattle.grid.proofs.Points.{onPoints}
+use Rattle.grid.specs.Grid.{Grid, Point, at, isGridPoint, numIndices, position, samePoint}
 use Rattle.grid.specs.Made.{IsMade, shape}
 use Rattle.grid.specs.Questions.{gridQuestions, question5}
 use Rattle.grid.specs.declared.Grid.{Grid as GridStruct}
@@ -26,12 +23,10 @@ use Rattle.place.proofs.Accepted.{accepted-is}
 use Rattle.place.proofs.Bound.{order-short}
 use Rattle.place.proofs.IndexSets.{no-empty}
 use Rattle.place.proofs.LinkSymmetry.{parts}
-use Rattle.place.proofs.Positions.{at-in}
 use Rattle.place.proofs.ToChain.{place-long}
 use Rattle.place.specs.Demand.{Accepted}
-use Rattle.place.specs.LabelsRead.{pointCameIn}
 use Rattle.place.specs.Places.{Simplex, isPlace, labelSet, order, setT, setU, within}
-use Rattle.place.specs.Problem.{Problem, label}
+use Rattle.place.specs.Problem.{Problem}
 use Rattle.place.specs.Questions.{question6, question7}
 use Rattle.positions.proofs.ByTails.{position-tells}
 use Rattle.questions.proofs.Answers.{both-yes}
@@ -46,22 +41,17 @@ use Rattle.walks.proofs.Meaning.{Passes}
 use Rattle.walks.proofs.Moved.{Onward, moved-passes}
 use Rattle.walks.proofs.Recognised.{kept-every, recognised}
 use Rattle.walks.specs.Kept.{isKept, keptPoints}
-use Rattle.walks.specs.Walk.{Walk, labelsOf}
-use Rattle.walk_calls.specs.Moving.{CarriesTo}
-use Rattle.walk_calls.specs.Placing.{BothMarked, CanPlace, GoesTo}
-use Rattle.walk_calls.specs.declared.Both.{Both}
-use Rattle.walk_labels.specs.Carrying.{CanCarry, CarriedOn, labelIn}
-use Rattle.walk_labels.specs.declared.Carried.{Carried}
-use Rattle.walk_ways.proofs.Held.{held, held-parts, not-held, padded-taken}
-use Rattle.walk_ways.specs.Standing.{tableOn, walkOn}
-use Rattle.walk_ways.specs.Walks.{carriedOf, holdsPlace, keptAs, padded, placeOf, stored}
-use Rattle.walk_ways.specs.declared.Place.{Place}
-use Rattle.walk_ways.specs.declared.Walk.{Walk as WalkStruct}
+use Rattle.walks.specs.Walk.{Walk}
+use Rattle.walk_places.specs.Placing.{BothMarked, CanPlace, GoesTo}
+use Rattle.walk_places.proofs.Held.{held, held-parts, not-held, padded-taken}
+use Rattle.walk_places.specs.Walks.{holdsPlace, keptAs, padded, placeOf, stored, tableOn, walkOn}
+use Rattle.walk_places.specs.declared.Place.{Place}
+use Rattle.walk_places.specs.declared.Walk.{Walk as WalkStruct}
 
 padded-long : (xs : List ℕ) → length xs ≤ 16 → length (padded 16 xs) ≡ 16
 padded-long xs l = let z = length-replicate {A = ℕ} 16 0 in front-length xs (replicate 16 0) (omega (arith, z)) ∙ z
 
-map-at : (f : Point → ℕ) (r : Simplex) (j : ℕ) → j < length r → getD (map f r) j 0 ≡ f (getD r j [])
+pub map-at : (f : Point → ℕ) (r : Simplex) (j : ℕ) → j < length r → getD (map f r) j 0 ≡ f (getD r j [])
 map-at f [] j m = absurd (omega arith)
 map-at f (y ∷ r) zero m = refl
 map-at f (y ∷ r) (suc j) m = map-at f r j (omega arith)
@@ -95,19 +85,6 @@ module _ {p : Problem} (ok : Accepted p) where
       (λ m. let w = map-in onPoints onNumbers (bareMark p.grid) (bareMark p.grid y) a m in
       rw (bare-tells y w.0 h (all-in onPoints (isGridPoint p.grid) a on w.0 w.1) w.2) (w .1))
       (λ m. in-map onPoints onNumbers (bareMark p.grid) y a m)
-
-  came-in : (a b : Simplex) → all (isGridPoint p.grid) a ≡ true → all (isGridPoint p.grid) b ≡ true
-      → not (all (λ m. isIn eqb m (map (bareMark p.grid) a)) (map (bareMark p.grid) b)) ≡ pointCameIn a b
-  came-in a b on-a on-b = ap not (go b on-b)
-    where
-      go : (b : Simplex) → all (isGridPoint p.grid) b ≡ true
-          → all (λ m. isIn eqb m (map (bareMark p.grid) a)) (map (bareMark p.grid) b) ≡ all (λ y. isIn samePoint y a) b
-      go [] on = refl
-      go (y ∷ b) on = rw (
-        bare-in y a (and-left (isGridPoint p.grid y) (all (isGridPoint p.grid) b) on) on-a,
-        go b
-            (and-right (isGridPoint p.grid y) (all (isGridPoint p.grid) b) on),
-      )
 
 -- a place that is recognised
 module _ {p : Problem} (ok : Accepted p) {marking : Point → ℕ} {y : Point} {o list marks : List ℕ} {r : Sets}
@@ -304,82 +281,9 @@ module _ {g : GridStruct} {w : WalkStruct} {labels : List ℕ} {next : Place} (m
             there-is;
       }
 
-  -- the labels carried from one to the other
+  -- the points of both are on the grid
   pub on-here : all (isGridPoint (shape g)) here ≡ true
   on-here = parts p here here-place .gridPoints
 
   pub on-there : all (isGridPoint (shape g)) there ≡ true
   on-there = parts p there there-place .gridPoints
-
-  label-bare : (y : Point) → labelIn labels (bareMark (shape g) y) ≡ label p y
-  unfolding label
-  label-bare y = ap (λ (i : ℕ). getD labels i 0) (bare-position (shape g) y)
-
-  -- the labels that the walk carries
-  carried-at : (i : ℕ) → i < length here → at (w .carried) i ≡ label p (getD here i [])
-  unfolding carriedOf
-  carried-at i l = go (passes .0 .stands .carries)
-    where
-      go : cond (same eqb (w .carried) (padded 16 (take (w .present .count) (w .carried))))
-          (take (w .present .count) (w .carried)) [] ≡ labelsOf p here
-          → at (w .carried) i ≡ label p (getD here i [])
-      go e =
-          ⊎-elim (λ t. let a : take (w .present .count) (w .carried) ≡ labelsOf p here = rw t at e in
-          let m : i < w .present .count = omega (
-            arith,
-            ap length a,
-            length-map here (label p),
-            length-take
-                (w .present .count) (w .carried),
-          ) in
-          sym (getD-take (w .present .count) (w .carried) i 0 m) ∙ ap (λ (r : List ℕ). at r i) a ∙ map-at (label p)
-          here i l)
-          (λ f. let a : [] ≡ labelsOf p here = rw f at e in
-          absurd (omega (arith, ap length a, length-map here (label p))))
-          (true-or-false (same eqb (w .carried) (padded 16 (take (w .present .count) (w .carried)))))
-
-  module _ {b : Both} (M : BothMarked p here there b) where
-    long-here : length here ≡ suc (b .n)
-    long-here = sym (length-map here (bareMark (shape g))) ∙ sym (ap length M.from) ∙ length-take-le (suc (b .n))
-        (b .from) (omega (arith, M .fromLong, M .few))
-
-    long-there : length there ≡ suc (b .k)
-    long-there = sym (length-map there (bareMark (shape g))) ∙ sym (ap length M.onto) ∙ length-take-le (suc (b .k))
-        (b .onto) (omega (arith, M .ontoLong, M .fewNext))
-
-    from-at : (i : ℕ) → i ≤ b .n → at (b .from) i ≡ bareMark (shape g) (getD here i [])
-    from-at i l = sym (getD-take (suc (b .n)) (b .from) i 0 (omega arith)) ∙ ap (λ (r : List ℕ). at r i) M.from ∙ map-at
-        (bareMark (shape g)) here i (omega (arith, long-here))
-
-    onto-at : (j : ℕ) → j ≤ b .k → at (b .onto) j ≡ bareMark (shape g) (getD there j [])
-    onto-at j l = sym (getD-take (suc (b .k)) (b .onto) j 0 (omega arith)) ∙ ap (λ (r : List ℕ). at r j) M.onto ∙ map-at
-        (bareMark (shape g)) there j (omega (arith, long-there))
-
-    pub can-carry : CanCarry (b .from) (b .n) (w .carried) (b .onto) (b .k) labels
-    can-carry = record {
-      few = M .few;
-      long = M .fromLong;
-      carries = λ i l. carried-at i (omega (arith, long-here)) ∙ sym
-          (ap (labelIn labels) (from-at i l) ∙ label-bare (getD here i []));
-      fewNext = M .fewNext;
-      nextLong = M .ontoLong;
-      within = λ j l. let y = getD there j [] in
-          let on = all-in onPoints (isGridPoint (shape g)) there on-there y
-          (at-in onPoints [] there j (omega (arith, long-there))) in
-          omega (
-            arith,
-            ap markPosition (onto-at j l) ∙ bare-position (shape g) y,
-            position-in (points (shape g)) y (in-points (shape g) y ok.settled.sameNumber on),
-            ok .tableLength,
-          );
-    }
-
-    pub carries-to : (r : Carried) → CarriedOn (b .from) (b .n) (b .onto) (b .k) labels r → CarriesTo p here there r
-    carries-to r C = record {
-      labels = C .labels ∙ ap (padded 16) (rw (M .onto) (go there));
-      cameIn = C .cameIn ∙ rw (M .from, M .onto) (came-in ok here there on-here on-there);
-    }
-      where
-        go : (s : Simplex) → map (labelIn labels) (map (bareMark (shape g)) s) ≡ labelsOf p s
-        go [] = refl
-        go (x ∷ s) = rw (label-bare x, go s)

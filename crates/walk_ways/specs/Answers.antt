@@ -1,0 +1,67 @@
+-- What a call gives: the answer, the simplex of an end, the place to which the walk is moved, and the walk after it.
+-- Assumes nothing.
+use mathlib.Core.Bool.{cond}
+use mathlib.Core.List.{List, []}
+use Prim.Native.Nat.{ℕ, _+_}
+use lib.ListN.{length}
+use Rattle.combinatorics.specs.Lists.{concatMap}
+use Rattle.grid.specs.Grid.{Grid}
+use Rattle.place.specs.Ends.{Kind, facetEnd, placeEnd}
+use Rattle.place.specs.LabelsRead.{pointCameIn}
+use Rattle.place.specs.Places.{Simplex}
+use Rattle.place.specs.Problem.{Problem}
+use Rattle.walks.specs.Next.{Outcome, ended, moved, refused, ruleOf}
+use Rattle.walks.specs.Walk.{Walk, labelsOf, over}
+use Rattle.walk_places.specs.Walks.{nowhere, padded, placeOf, stored}
+use Rattle.walk_places.specs.declared.Place.{Place}
+use Rattle.walk_places.specs.declared.Walk.{Walk as WalkStruct}
+use Rattle.walk_ways.specs.declared.Answer.{Answer}
+use Rattle.walk_ways.specs.declared.Answer.the-variants.{Ended, Moved, Refused}
+use Rattle.walk_ways.specs.declared.Kind.{Kind as KindStruct}
+use Rattle.walk_ways.specs.declared.Kind.the-variants.{Facet, Place as AtPlace}
+use Rattle.walk_ways.specs.declared.Next.{Next}
+
+abbrev pub kindOf : Kind → KindStruct
+kindOf placeEnd = AtPlace
+kindOf facetEnd = Facet
+
+-- each case's number and values
+abbrev pub answerOf : (Simplex → ℕ) → Outcome Simplex → Answer
+answerOf rule (refused number) = Refused number
+answerOf rule (ended kind block simplex) = Ended (kindOf kind) block (length simplex)
+answerOf rule (moved s) = Moved (rule s)
+
+abbrev pub numbersOf : Outcome Simplex → List ℕ
+numbersOf (refused number) = []
+numbersOf (ended kind block simplex) = concatMap (λ y. y) simplex
+numbersOf (moved s) = []
+
+abbrev pub placeAfter : Grid → Outcome Simplex → Place
+placeAfter g (refused number) = nowhere
+placeAfter g (ended kind block simplex) = nowhere
+placeAfter g (moved s) = stored g s
+
+-- what comes next, as a struct
+unfoldable pub nextAs : Walk → List ℕ → Outcome Simplex → Next
+nextAs w labels n = record {
+  answer = answerOf (ruleOf (over w labels) (w .present)) n;
+  simplex = padded 256 (numbersOf n);
+  place = placeAfter (w .grid) n;
+}
+
+-- "each call moves it on by one place": what was the present place is then the one before, it carries the labels of the
+-- next, over the table of p, and its labels read are one more if a point came in; else the walk is as it was
+abbrev pub structOn : Problem → WalkStruct → Outcome Simplex → WalkStruct
+structOn p w (refused number) = w
+structOn p w (ended kind block simplex) = w
+structOn p w (moved s) = let g = p .grid in record {
+  places = w .places + 1;
+  «labels_read» = w .«labels_read» + cond (pointCameIn (placeOf g (w .present)) s) 1 0;
+  present = stored g s;
+  before = w .present;
+  start = w .start;
+  divisions = w .divisions;
+  sizes = w .sizes;
+  blocks = w .blocks;
+  carried = padded 16 (labelsOf p s);
+}
