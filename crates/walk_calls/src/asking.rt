@@ -1,8 +1,8 @@
-// Questions 5, 6 and 7, and whether the places so far and the labels read are in range.
+// Questions 5, 6 and 7.
 ghost use mathlib.Core.Path.{_≡_};
 ghost use Rattle.questions.specs.Questions.{firstNo};
-ghost use Rattle.grid.specs.Made.{IsMade, shape};
-ghost use Rattle.walk_calls.specs.Asked.{inRange, laterQuestions};
+ghost use Rattle.grid.specs.Made.{IsMade};
+ghost use Rattle.walk_calls.specs.Asked.{laterQuestions};
 use grid::Grid;
 use label_table::all_at_most;
 
@@ -22,18 +22,4 @@ pub fn first_no(g: Grid, start: &[u16], labels: &[u8]) -> u8
         return 7;
     }
     0
-}
-
-// Whether the places so far are from 1 to the bound, and the labels read from 1 to the places.
-pub fn in_range(g: Grid, places: u64, read: u64) -> bool
-    requires { ⌜ IsMade g ⌝ }
-    ensures { λ r. ⌜ r ≡ inRange (shape g) places read ⌝ }
-{
-    if read == 0 {
-        return false;
-    }
-    if places < read {
-        return false;
-    }
-    places <= g.bound()
 }

@@ -1,169 +1,25 @@
 // The moving call by value.
 ghost use mathlib.Core.Bool.{cond};
 ghost use mathlib.Core.Path.{_≡_};
-ghost use Prim.Native.Nat.{_≤_, _<_};
+ghost use Prim.Native.Nat.{_<_};
 ghost use lib.Dec.{leb};
-ghost use Rattle.questions.specs.Questions.{firstNo};
 ghost use Rattle.grid.specs.Made.{IsMade, shape};
-ghost use Rattle.place.specs.Questions.{tableQuestions};
-ghost use Rattle.walk_calls.specs.Moving.{CanChoose, CanFill, CanStand, FilledBy, GridIn};
-ghost use Rattle.walk_calls.specs.Moving.{CarriesTo, callOn, movedTo, unmovedAs};
+ghost use Rattle.walk_calls.specs.Moving.{CarriesTo, GridIn, callOn, movedTo, unmovedAs};
 ghost use Rattle.walk_places.specs.Placing.{GoesTo};
-ghost use Rattle.walk_ways.specs.Standing.{IsRoundOf, nextIn};
 ghost use Rattle.walk_places.specs.Walks.{gridOf, placeOf, tableOn};
 ghost use Rattle.walk_calls.specs.Calls.{callOf};
 use crate::Call;
 use crate::asking::first_no;
-use crate::asking::in_range;
-use arrays::block_sizes;
-use arrays::label_in;
 use grid::Grid;
 use grid::Made;
 use grid::wide;
-use recogniser::Sets;
 use walk_labels::Carried;
-use walk_labels::carries;
 use walk_labels::carry;
+use walk_next::next_on;
 use walk_places::Place;
 use walk_places::Walk;
 use walk_places::both_placed;
-use walk_places::is_kept;
-use walk_places::seen;
 use walk_ways::Answer;
-use walk_ways::Next;
-use walk_ways::from_other;
-use walk_ways::from_start;
-use walk_ways::refused;
-use walk_ways::spare;
-
-// The marks, with index 1 for the label of this point where it is not yet known.
-fn filled(marks: &[u32; 16], point: usize, unknown: bool) -> [u32; 16]
-    requires { ⌜ CanFill (now marks) point unknown ⌝ }
-    ensures { λ r. ⌜ FilledBy (now (marks .entry)) point unknown r ⌝ }
-{
-    let mut own = *marks;
-    if unknown {
-        own[point] = own[point] + 1;
-    }
-    own
-}
-
-// What comes next from a place, by the point whose label the others do not need.
-fn chosen(
-    g: Grid,
-    sizes: &[u8; 16],
-    first: &[u16; 16],
-    list: &[u16; 16],
-    order: &[u32; 16],
-    marks: &[u32; 16],
-    labels: &[u8],
-    w: Walk,
-    n: usize,
-    sets: Sets,
-    point: usize,
-) -> Next
-    requires { ⌜ CanChoose g w (now labels) (now first) (now list) (now order) (now marks) n
-        (sets .t) (sets .u) point ⌝ }
-    requires { ⌜ IsRoundOf g (g .previous) (g .next) (now sizes) ⌝ }
-    ensures { λ r. ⌜ r ≡ nextIn g w (now (labels .entry)) ⌝ }
-{
-    let previous = g.previous;
-    let next = g.next;
-    let t = sets.t;
-    let u = sets.u;
-    let unknown = label_in(marks[point]) == 0;
-    let own = filled(marks, point, unknown);
-    if n == 0 {
-        return from_start(
-            g,
-            &previous,
-            &next,
-            sizes,
-            first,
-            list,
-            order,
-            &own,
-            labels,
-            w,
-            t,
-            u,
-            unknown,
-        );
-    }
-    from_other(
-        g,
-        &previous,
-        &next,
-        sizes,
-        first,
-        list,
-        order,
-        &own,
-        labels,
-        w,
-        n,
-        t,
-        u,
-        point,
-        unknown,
-    )
-}
-
-// What comes next from a place that is kept rightly: it is recognised, its labels must be those carried and have all of
-// T, and one of the two moves from it must lead back.
-fn stand(g: Grid, w: Walk, labels: &[u8], first: &[u16; 16], order: &[u32; 16], n: usize) -> Next
-    requires { ⌜ CanStand g w (now labels) (now first) (now order) n ⌝ }
-    ensures { λ r. ⌜ r ≡ nextIn g w (now (labels .entry)) ⌝ }
-{
-    let mut list = [0u16; 16];
-    let mut marks = [0u32; 16];
-    let sets = seen(g, w, labels, first, order, n, &mut list, &mut marks);
-    if !sets.is {
-        return refused(20);
-    }
-    let carried = w.carried;
-    if !carries(&marks, n, &carried) {
-        return refused(20);
-    }
-    let spared = spare(&marks, n, sets.t);
-    if spared.seen != sets.t {
-        return refused(20);
-    }
-    let sizes = block_sizes(g);
-    chosen(
-        g,
-        &sizes,
-        first,
-        &list,
-        order,
-        &marks,
-        labels,
-        w,
-        n,
-        sets,
-        spared.point,
-    )
-}
-
-// What comes next on a walk whose grid is made, and which passes questions 1 to 7: 20 and 16 are asked, and the two
-// moves from its present place are made.
-fn next_on(g: Grid, w: Walk, labels: &[u8]) -> Next
-    requires { ⌜ IsMade g × (firstNo (tableQuestions (tableOn g w (now labels))) ≡ 0) ⌝ }
-    ensures { λ r. ⌜ r ≡ nextIn g w (now (labels .entry)) ⌝ }
-{
-    let m = g.indices;
-    if !in_range(g, w.places, w.labels_read) {
-        return refused(20);
-    }
-    let present = w.present;
-    if !is_kept(present, m) {
-        return refused(20);
-    }
-    let first = present.first;
-    let order = present.order;
-    let n = wide(present.count) - 1;
-    stand(g, w, labels, &first, &order, n)
-}
 
 // The labels of the place to which the walk is moved: those that it carries, and the table's of a point that comes in.
 fn carried_to(g: Grid, w: Walk, labels: &[u8], next: Place) -> Carried

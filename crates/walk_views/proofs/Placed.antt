@@ -36,7 +36,7 @@ use Rattle.rules.specs.Read.{markOf, numbersFrom, pointsFrom}
 use Rattle.rules.specs.Step.{State}
 use Rattle.walks.specs.Kept.{keptPoints}
 use Rattle.walks.specs.Walk.{over}
-use Rattle.walk_calls.proofs.Stood.{ok, round-of}
+use Rattle.walk_next.proofs.Stood.{ok, round-of}
 use Rattle.walk_places.specs.Placing.{CanSee}
 use Rattle.walk_moves.proofs.Carried.{points-long}
 use Rattle.walk_moves.proofs.Kept.{describes, full, place-filled}

@@ -14,10 +14,10 @@ use place_points::put_points;
 use recogniser::Sets;
 use walk_calls::first_no;
 use walk_calls::grid_in;
+use walk_next::spare;
 use walk_places::Walk;
 use walk_places::is_kept;
 use walk_places::seen;
-use walk_ways::spare;
 
 // A refusal.
 fn no_points(code: u8) -> PlacePoints

@@ -1,4 +1,3 @@
-pub mod Labels
 pub mod Tried
 pub mod MaskTests
 pub mod RuleTold

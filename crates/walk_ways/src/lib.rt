@@ -1,13 +1,11 @@
 // What comes next from the present place of a walk.
 mod choice;
 mod ending;
-mod spares;
 mod ways;
 
 pub use choice::from_other;
 pub use choice::from_start;
 pub use ending::refused;
-pub use spares::spare;
 use walk_places::Place;
 
 // The kind of end: a complete place, or what remains of a place less one point.
@@ -35,12 +33,6 @@ pub struct Next {
     pub answer: Answer,
     pub simplex: [u16; 256],
     pub place: Place,
-}
-
-// The indices of T that are labels, and a point whose label the others do not need.
-pub struct Spared {
-    pub seen: u16,
-    pub point: usize,
 }
 
 // Where a move leads: to a place, by a rule; or to an end, with an index of the block for which the simplex is

@@ -7,8 +7,8 @@ use Rattle.combinatorics.proofs.Basics.{not-is}
 use Rattle.grid.proofs.Fields.{indices-few}
 use Rattle.grid.specs.Made.{shape}
 use Rattle.recogniser.proofs.Together.{is-not}
-use Rattle.walk_calls.proofs.Begins.{count-some}
-use Rattle.walk_calls.proofs.Stood.{all-seen, labels-low, not-all-place, not-kept-place}
+use Rattle.walk_next.proofs.Begins.{count-some}
+use Rattle.walk_next.proofs.Stood.{all-seen, labels-low, not-all-place, not-kept-place}
 use Rattle.walk_views.proofs.Placed.{no-place-held, points-none, points-there, present-is, view}
 use Rattle.walk_views.proofs.pointing.points_on.Statement.{statement}
 use Rattle.walk_views.proofs.pointing.points_on.Tie as tie

@@ -1,10 +1,10 @@
--- `moving::filled` meets its contract. Assumes nothing.
+-- `choosing::filled` meets its contract. Assumes nothing.
 use mathlib.Core.Bool.{true, false}
 use mathlib.Core.Path.{_≡_, refl, sym, ap, _∙_}
-use Rattle.walk_calls.proofs.Begins.{fill-no, fill-yes}
+use Rattle.walk_next.proofs.Begins.{fill-no, fill-yes}
 use native.Mathlib.Omega.{arith}
-use Rattle.walk_calls.proofs.moving.filled.Statement.{statement}
-use Rattle.walk_calls.proofs.moving.filled.Tie as tie
+use Rattle.walk_next.proofs.choosing.filled.Statement.{statement}
+use Rattle.walk_next.proofs.choosing.filled.Tie as tie
 
 mul-own : tie.Need-mul-own
 mul-own c = omega (arith, c .before .before .pre .low)

@@ -8,8 +8,8 @@ use Rattle.recogniser.proofs.Together.{is-not}
 use Rattle.rules.specs.Mask.{bit}
 use borrow.Author.Needs.{needs}
 use native.Mathlib.Omega.{arith}
-use Rattle.walk_ways.proofs.spares.is_new.Statement.{statement}
-use Rattle.walk_ways.proofs.spares.is_new.Tie as tie
+use Rattle.walk_next.proofs.spares.is_new.Statement.{statement}
+use Rattle.walk_next.proofs.spares.is_new.Tie as tie
 
 returns : tie.Need-returns
 returns c = rw (eq-eqb (c .before .args .label) 0 (c .if1 .taken))

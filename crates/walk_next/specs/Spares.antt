@@ -7,7 +7,7 @@ use lib.Dec.{eqb}
 use Rattle.grid.specs.Grid.{at}
 use Rattle.rules.specs.Mask.{bit}
 use Rattle.rules.specs.Step.{markLabel}
-use Rattle.walk_ways.specs.declared.Spared.{Spared}
+use Rattle.walk_next.specs.declared.Spared.{Spared}
 
 -- an index of T that is not yet seen
 abbrev pub isNew : ℕ → ℕ → ℕ → Bool

@@ -1,12 +1,12 @@
--- `moving::chosen` meets its contract. Assumes nothing.
+-- `choosing::chosen` meets its contract. Assumes nothing.
 use mathlib.Core.Path.{_≡_, refl, sym, ap, _∙_, subst}
 use Prim.Native.Nat.{ℕ}
 use lib.Dec.{eqb}
 use Rattle.walk_ways.specs.Standing.{Standing}
 use borrow.Author.Needs.{needs}
 use native.Mathlib.Omega.{arith}
-use Rattle.walk_calls.proofs.moving.chosen.Statement.{statement}
-use Rattle.walk_calls.proofs.moving.chosen.Tie as tie
+use Rattle.walk_next.proofs.choosing.chosen.Statement.{statement}
+use Rattle.walk_next.proofs.choosing.chosen.Tie as tie
 
 mul-label-in : tie.Need-mul-label-in
 mul-label-in c = omega (arith, c .before .before .before .pre .0 .low)

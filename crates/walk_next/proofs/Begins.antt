@@ -24,8 +24,8 @@ use Rattle.questions.specs.Questions.{firstNo}
 use Rattle.walks.specs.Next.{nextOf, refused}
 use Rattle.walk_moves.proofs.Next.{no-count, no-place, no-read}
 use Rattle.walk_places.proofs.Held.{held, held-parts, not-held}
-use Rattle.walk_calls.specs.Asked.{inRange}
-use Rattle.walk_calls.specs.Moving.{CanStand, FilledBy}
+use Rattle.walk_next.specs.Standing.{inRange, CanStand}
+use Rattle.walk_next.specs.Choosing.{FilledBy}
 use Rattle.walk_places.specs.Walks.{holdsNumbers, holdsPlace, keptAs, samePlace, tableOn, walkOn}
 use Rattle.walk_places.specs.declared.Place.{Place}
 use Rattle.walk_places.specs.declared.Walk.{Walk as WalkStruct}

@@ -1,4 +1,4 @@
--- `asking::in_range` meets its contract. Assumes nothing.
+-- `standing::in_range` meets its contract. Assumes nothing.
 use mathlib.Core.Bool.{Bool, true, false, _&&_}
 use mathlib.Core.Path.{_≡_, refl, sym, ap, _∙_}
 use borrow.Author.Tests.{le-leb, lt-leb}
@@ -7,8 +7,8 @@ use lib.Dec.{leb}
 use native.Mathlib.Omega.{arith}
 use Rattle.grid.specs.Grid.{bound}
 use Rattle.grid.specs.Made.{shape}
-use Rattle.walk_calls.proofs.asking.in_range.Statement.{statement}
-use Rattle.walk_calls.proofs.asking.in_range.Tie as tie
+use Rattle.walk_next.proofs.standing.in_range.Statement.{statement}
+use Rattle.walk_next.proofs.standing.in_range.Tie as tie
 
 and-no : (a : Bool) → false ≡ (a && false)
 and-no true = refl

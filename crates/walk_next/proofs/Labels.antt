@@ -11,7 +11,7 @@ use Rattle.combinatorics.proofs.Basics.{absurd-bool, and-left, and-right, not-i
 use Rattle.grid.specs.Grid.{at}
 use Rattle.rules.proofs.Masks.{bit-none, bit-with}
 use Rattle.rules.specs.Mask.{bit, withIndex}
-use Rattle.walk_ways.specs.Spares.{NotNew, SparesBelow, again, isNew, labelAt, outside, unknown}
+use Rattle.walk_next.specs.Spares.{NotNew, SparesBelow, again, isNew, labelAt, outside, unknown}
 
 pub spares-none : (marks : List ℕ) (t : ℕ) → SparesBelow marks 0 t 0 0
 spares-none marks t = record {

@@ -1,15 +1,15 @@
--- `moving::next_on` meets its contract. Assumes nothing.
+-- `standing::next_on` meets its contract. Assumes nothing.
 use mathlib.Core.Path.{_≡_, refl, sym, ap, _∙_}
 use Prim.Native.Nat.{_+_, _-_}
 use Rattle.combinatorics.proofs.Basics.{not-is}
 use Rattle.grid.proofs.Fields.{indices-few}
 use Rattle.recogniser.proofs.Together.{is-not}
-use Rattle.walk_calls.proofs.Begins.{count-some, kept-rightly, kept-wrongly, out-of-range}
+use Rattle.walk_next.proofs.Begins.{count-some, kept-rightly, kept-wrongly, out-of-range}
 use Rattle.walk_ways.proofs.Chosen.{refused-is}
 use borrow.Author.Needs.{needs}
 use native.Mathlib.Omega.{arith}
-use Rattle.walk_calls.proofs.moving.next_on.Statement.{statement}
-use Rattle.walk_calls.proofs.moving.next_on.Tie as tie
+use Rattle.walk_next.proofs.standing.next_on.Statement.{statement}
+use Rattle.walk_next.proofs.standing.next_on.Tie as tie
 
 in-range-requires : tie.Need-in-range-requires
 in-range-requires c κs = c .before .pre .0

@@ -44,14 +44,15 @@ use Rattle.walk_moves.specs.Spare.{Spare, again, outside, unknown}
 use Rattle.recogniser.specs.Kept.{Recognised, Seen}
 use Rattle.recogniser.specs.declared.Sets.{Sets}
 use Rattle.walk_places.proofs.Placed.{kept-on-grid, kept-position}
-use Rattle.walk_calls.specs.Moving.{CanChoose, CanStand}
+use Rattle.walk_next.specs.Choosing.{CanChoose}
+use Rattle.walk_next.specs.Standing.{CanStand}
 use Rattle.walk_places.specs.Placing.{CanSee}
 use Rattle.walk_places.proofs.Held.{padded-taken}
-use Rattle.walk_ways.specs.Spares.{LabelsLow, NotNew, SparesOf, again as seenAgain, labelAt, outside as seenOutside}
-use Rattle.walk_ways.specs.Spares.{unknown as unseen}
+use Rattle.walk_next.specs.Spares.{LabelsLow, NotNew, SparesOf, again as seenAgain, labelAt}
+use Rattle.walk_next.specs.Spares.{outside as seenOutside, unknown as unseen}
 use Rattle.walk_ways.specs.Standing.{IsRoundOf, pointsOn}
 use Rattle.walk_places.specs.Walks.{carriedOf, padded, placeOf, tableOn, walkOn}
-use Rattle.walk_ways.specs.declared.Spared.{Spared}
+use Rattle.walk_next.specs.declared.Spared.{Spared}
 use Rattle.walk_places.specs.declared.Walk.{Walk as WalkStruct}
 
 -- the ways round the blocks

@@ -5,12 +5,12 @@ use mathlib.Core.Path.{_≡_, refl, sym, ap, _∙_}
 use Prim.Native.Nat.{_-_, _+_, _≤_, suc}
 use lib.ListN.{length}
 use native.Mathlib.Numerals.{add-one}
-use Rattle.walk_ways.proofs.Labels.{spares-none, spares-new, spares-old, new-parts}
-use Rattle.walk_ways.specs.Spares.{LabelsLow, SparesBelow}
+use Rattle.walk_next.proofs.Labels.{spares-none, spares-new, spares-old, new-parts}
+use Rattle.walk_next.specs.Spares.{LabelsLow, SparesBelow}
 use borrow.Author.Needs.{needs}
 use native.Mathlib.Omega.{arith}
-use Rattle.walk_ways.proofs.spares.spare.Statement.{statement}
-use Rattle.walk_ways.proofs.spares.spare.Tie as tie
+use Rattle.walk_next.proofs.spares.spare.Statement.{statement}
+use Rattle.walk_next.proofs.spares.spare.Tie as tie
 
 abbrev Inv-loop : tie.InvT-loop
 Inv-loop marks n t seen₀ point₀ k₀ seen point k =

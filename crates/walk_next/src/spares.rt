@@ -2,7 +2,7 @@
 ghost use mathlib.Core.Path.{_≡_};
 ghost use Prim.Native.Nat.{_≤_, _<_};
 ghost use lib.ListN.{length};
-ghost use Rattle.walk_ways.specs.Spares.{isNew, LabelsLow, SparesOf};
+ghost use Rattle.walk_next.specs.Spares.{isNew, LabelsLow, SparesOf};
 use crate::Spared;
 use arrays::add;
 use arrays::has;

@@ -1,14 +1,14 @@
--- `moving::stand` meets its contract. Assumes nothing.
+-- `standing::stand` meets its contract. Assumes nothing.
 use mathlib.Core.Path.{_≡_, refl, sym, ap, _∙_}
 use borrow.Author.Needs.{needs, length-unmapped}
 use lib.ListN.{length}
 use Rattle.combinatorics.proofs.Basics.{not-is}
 use Rattle.recogniser.proofs.Together.{is-not}
 use Rattle.walk_ways.proofs.Chosen.{refused-is}
-use Rattle.walk_calls.proofs.Stood.{all-seen, can-choose, can-see, carries-others, carries-own, labels-low}
-use Rattle.walk_calls.proofs.Stood.{no-place-there, not-all-place, not-kept-place, round-of}
-use Rattle.walk_calls.proofs.moving.stand.Statement.{statement}
-use Rattle.walk_calls.proofs.moving.stand.Tie as tie
+use Rattle.walk_next.proofs.Stood.{all-seen, can-choose, can-see, carries-others, carries-own, labels-low}
+use Rattle.walk_next.proofs.Stood.{no-place-there, not-all-place, not-kept-place, round-of}
+use Rattle.walk_next.proofs.standing.stand.Statement.{statement}
+use Rattle.walk_next.proofs.standing.stand.Tie as tie
 
 seen-requires : tie.Need-seen-requires
 seen-requires c κs = (can-see (c .before .before .before .pre), refl)
