@@ -34,7 +34,10 @@ sub-kept-as c = omega (arith, c .wide .ensures, c .before .before .before .befor
 kept-as-requires : tie.Need-kept-as-requires
 kept-as-requires c κs =
     let a = c .before .before .before .before .before .before .before .args in (
-      (c .before .before .before .before .before .before .before .pre, length-unmapped _ (a .p .first) 16 (search needs)),
+      (
+        c .before .before .before .before .before .before .before .pre,
+        length-unmapped _ (a .p .first) 16 (search needs),
+      ),
       (
         omega (arith, c .wide .ensures, c .before .before .before .before .before .if2 .left),
         length-unmapped _ (a .p .order) 16 (search needs),
