@@ -10,6 +10,7 @@ pub mod EditsRemove
 pub mod EditsRotate
 pub mod Turns
 pub mod Binomials
+pub mod Terms
 pub mod EditsOfArrays
 pub mod Runs
 pub mod Agreement

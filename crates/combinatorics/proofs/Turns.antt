@@ -1,13 +1,15 @@
 -- What a loop that goes through a list, or counts, has after one turn more. Assumes nothing.
 use mathlib.Core.Bool.{Bool, _&&_, and-true, and-assoc}
 use mathlib.Core.List.{List, [], _∷_, _++_, map}
-use mathlib.Core.Path.{_≡_, refl, sym, ap, _∙_}
+use mathlib.Core.Logic.{⊎-elim}
+use mathlib.Core.Path.{_≡_, refl, sym, ap, _∙_, subst}
 use Prim.Native.Nat.{ℕ, zero, suc, _+_, _≤_, _<_}
 use lib.ListN.{length, length-map, getD, take, set}
-use lib.Seq.{take-suc, take-all}
+use lib.Seq.{getD-set-same, getD-set-other, take-suc, take-all}
 use native.Mathlib.Nat.{add-assoc}
 use native.Mathlib.Numerals.{add-one}
 use native.Mathlib.Omega.{arith}
+use Rattle.combinatorics.proofs.Basics.{same-or}
 use Rattle.combinatorics.proofs.Fronts.{front-put}
 use Rattle.combinatorics.proofs.Ranges.{length-upFrom}
 use Rattle.combinatorics.specs.Front.{front}
@@ -67,3 +69,11 @@ pub map-at : (f : ℕ → ℕ) (b n i : ℕ) → i < n → getD (map f (upFrom b
 map-at f b zero i h = absurd (omega arith)
 map-at f b (suc n) zero h = let z : b + 0 ≡ b = omega arith in rw z
 map-at f b (suc n) (suc i) h = let z : b + suc i ≡ suc b + i = omega arith in rw z (map-at f (suc b) n i (omega arith))
+
+-- what stands at i after a store at k
+pub at-set : (P : ℕ → Type 0) (l : List ℕ) (k v i : ℕ) → k < length l → (i ≡ k → P v) → ((i ≡ k → ⊥) → P (getD l i 0))
+    → P (getD (set l k v) i 0)
+at-set P l k v i h same other = ⊎-elim
+    (λ e. subst (λ (n : ℕ). P (getD (set l k v) n 0)) (sym e) (rw (getD-set-same l k v 0 h) (same e)))
+    (λ n. rw (getD-set-other l k i v 0 n) (other n))
+    (same-or i k)

@@ -1,5 +1,6 @@
--- Binomials, and products of falling factors. Assumes nothing.
-use Prim.Native.Nat.{ℕ, zero, suc, _+_, _-_, _*_}
+-- Binomials, products of falling factors, and products of binomials. Assumes nothing.
+use mathlib.Core.List.{List, [], _∷_}
+use Prim.Native.Nat.{ℕ, zero, suc, pred, _+_, _-_, _*_}
 
 abbrev pub choose : ℕ → ℕ → ℕ
 choose n zero = 1
@@ -10,3 +11,9 @@ choose (suc n) (suc k) = choose n k + choose n (suc k)
 abbrev pub falling : ℕ → ℕ → ℕ
 falling m zero = 1
 falling m (suc k) = m * falling (m - 1) k
+
+-- of sizes s_j and divisions d_j "the product over j of the binomials d_j + n_j choose n_j", n_j = s_j - 1
+abbrev pub binomialProduct : List ℕ → List ℕ → ℕ
+binomialProduct [] ds = 1
+binomialProduct (s ∷ ss) [] = 0
+binomialProduct (s ∷ ss) (d ∷ ds) = choose (d + pred s) (pred s) * binomialProduct ss ds

@@ -20,14 +20,14 @@ use Rattle.combinatorics.proofs.Fronts.{front-at, front-length}
 use Rattle.combinatorics.proofs.Lists.{in-all, filter-in, filter-append, eqb-self, onNumbers}
 use Rattle.combinatorics.proofs.Ranges.{length-upFrom, upFrom-in, upFrom-add}
 use Rattle.combinatorics.proofs.Turns.{map-append, map-at, sum-next}
-use Rattle.combinatorics.specs.Counting.{choose}
+use Rattle.combinatorics.specs.Counting.{binomialProduct, choose}
 use Rattle.combinatorics.specs.Front.{front}
 use Rattle.combinatorics.specs.Lists.{all, filter, sum, upFrom}
 use Rattle.questions.specs.Questions.{firstNo}
 use Rattle.grid.proofs.Accepted.{Accepted, accepted, points-are}
 use Rattle.grid.proofs.Listing.{numPoints-is}
 use Rattle.grid.proofs.Round.{Seat, seat, block-spans}
-use Rattle.grid.specs.Grid.{Grid, Point, at, blockOf, numBlocks, numIndices, numPoints, binomialProduct, size, division}
+use Rattle.grid.specs.Grid.{Grid, Point, at, blockOf, numBlocks, numIndices, numPoints, size, division}
 use Rattle.grid.specs.Grid.{firstIndex, blocks, isGridPoint}
 use Rattle.grid.specs.Questions.{gridQuestions}
 use Rattle.weighed_losses.proofs.Blends.{blend-agree, blend-times, blend-same}

@@ -12,9 +12,10 @@ use Rattle.combinatorics.specs.Lists.{all, sum}
 use Rattle.questions.proofs.Answers.{first-yes}
 use Rattle.questions.specs.Questions.{firstNo}
 use Rattle.grid.proofs.Listing.{numPoints-is}
-use Rattle.grid.proofs.Prefix.{count-below}
-use Rattle.grid.proofs.Round.{size-range}
-use Rattle.grid.specs.Grid.{Grid, numBlocks, numIndices, numPoints, size, binomialProduct}
+use Rattle.grid_counts.proofs.Products.{count-below}
+use Rattle.grid_counts.proofs.SizeRange.{size-range}
+use Rattle.grid.specs.Grid.{Grid, numBlocks, numIndices, numPoints, size}
+use Rattle.combinatorics.specs.Counting.{binomialProduct}
 use Rattle.grid.specs.Made.{blockCount}
 use Rattle.grid.specs.Questions.{gridQuestions, question1, question2, question3, question4}
 

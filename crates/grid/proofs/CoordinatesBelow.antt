@@ -11,11 +11,12 @@ use lib.Seq.{getD-append-add}
 use native.Mathlib.Nat.{mul-le-mul}
 use native.Mathlib.Omega.{arith}
 use Rattle.combinatorics.proofs.Basics.{before-or-not, and-left, and-right}
-use Rattle.combinatorics.specs.Counting.{choose}
-use Rattle.combinatorics.specs.Lists.{all, sum}
+use Rattle.combinatorics.specs.Counting.{choose, binomialProduct}
+use Rattle.combinatorics.specs.Lists.{all}
+use Rattle.grid_counts.proofs.SizeRange.{at-sum}
 use Rattle.grid.proofs.Listing.{numPoints-is}
 use Rattle.grid.proofs.Points.{Fits, none, block, fits-of}
-use Rattle.grid.specs.Grid.{Grid, Point, at, numBlocks, numPoints, division, binomialProduct, isGridPoint}
+use Rattle.grid.specs.Grid.{Grid, Point, at, numBlocks, numPoints, division, isGridPoint}
 
 choose-some : (d n : ℕ) → 1 ≤ choose (d + n) n
 choose-some d zero = omega arith
@@ -27,11 +28,6 @@ choose-many (suc d) n =
     let w : suc d + suc n ≡ suc (d + suc n) = omega arith in
     let v : suc d + n ≡ d + suc n = omega arith in
     rw w (omega (arith, choose-many d n, rw v at (choose-some (suc d) n)))
-
-at-sum : (a : List ℕ) (k : ℕ) → at a k ≤ sum a
-at-sum [] k = omega arith
-at-sum (x ∷ a) zero = omega arith
-at-sum (x ∷ a) (suc k) = omega (arith, at-sum a k)
 
 divisions-below : (ss ds : List ℕ) → all (λ s. leb 2 s) ss ≡ true → length ds ≡ length ss → (j : ℕ)
     → getD ds j 0 < binomialProduct ss ds

@@ -2,7 +2,6 @@ pub mod Round
 pub mod Points
 pub mod Listing
 pub mod CoordinatesBelow
-pub mod Capped
 pub mod Prefix
 pub mod Accepted
 pub mod Fields

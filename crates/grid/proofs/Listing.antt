@@ -14,11 +14,10 @@ use Rattle.combinatorics.proofs.Basics.{absurd-bool, and-both, and-left, and-ri
 use Rattle.combinatorics.proofs.Lists.{in-here, in-later, map-in, concatMap-in, append-in, length-concatMap, eqb-self}
 use Rattle.combinatorics.proofs.Lists.{onNumbers}
 use Rattle.combinatorics.proofs.Ranges.{upFrom-in}
-use Rattle.combinatorics.specs.Counting.{choose}
+use Rattle.combinatorics.specs.Counting.{binomialProduct, choose}
 use Rattle.combinatorics.specs.Lists.{all, isIn, concatMap, upFrom}
 use Rattle.grid.proofs.Points.{onPoints, block-in}
-use Rattle.grid.specs.Grid.{Grid, Point, samePoint, points, blockPoints, productPoints, numPoints}
-use Rattle.grid.specs.Grid.{binomialProduct, lexBefore}
+use Rattle.grid.specs.Grid.{Grid, Point, blockPoints, lexBefore, numPoints, points, productPoints, samePoint}
 
 abbrev pub group : ℕ → ℕ → ℕ → List Point
 group s d k = map (λ l. k ∷ l) (blockPoints s (d - k))

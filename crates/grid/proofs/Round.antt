@@ -5,12 +5,11 @@ use mathlib.Core.Logic.{⊎-elim}
 use mathlib.Core.Path.{_≡_, refl, ap, _∙_}
 use Prim.Native.Nat.{ℕ, zero, suc, _+_, _-_, _≤_, _<_, pred}
 use borrow.Author.Tests.{eqb-true, eq-eqb, ne-eqb, lt-ltb, le-ltb, leb-true}
-use lib.Dec.{eqb, leb}
+use lib.Dec.{eqb}
 use lib.ListN.{length, getD, take}
 use native.Mathlib.Omega.{arith}
 use Rattle.combinatorics.proofs.Basics.{before-or-not, both}
-use Rattle.combinatorics.proofs.Lists.{at-all}
-use Rattle.combinatorics.specs.Lists.{all, sum}
+use Rattle.combinatorics.specs.Lists.{sum}
 use Rattle.grid.proofs.Points.{block}
 use Rattle.grid.specs.Grid.{Grid, numBlocks, numIndices, firstIndex, size, blockIn, next, previous}
 
@@ -135,8 +134,3 @@ block-spans ss h c =
     let r = find-block ss h c in
     let e : blockIn ss h ≡ r .0 = ap (blockIn ss) (r .4) ∙ block-at ss (r .0) (r .1) (r .3) in
     rw e (r .2, omega (arith, r .4), omega (arith, r .3, r .4))
-
--- a size of sizes that are each at least 2 and at most 16 in all
-pub size-range : (ss : List ℕ) (j : ℕ) → all (λ s. leb 2 s) ss ≡ true → sum ss ≤ 16 → j < length ss
-    → (2 ≤ getD ss j 0) × (getD ss j 0 ≤ 16)
-size-range ss j a b c = (leb-true 2 (getD ss j 0) (at-all (λ s. leb 2 s) ss j a c), omega (arith, block-fits ss j))

@@ -5,7 +5,7 @@ use mathlib.Core.Path.{_≡_}
 use Prim.Native.Nat.{ℕ, zero, suc, _+_, _-_, _*_, _<_, pred}
 use lib.Dec.{eqb, ltb}
 use lib.ListN.{length, getD, take}
-use Rattle.combinatorics.specs.Counting.{choose, falling}
+use Rattle.combinatorics.specs.Counting.{falling}
 use Rattle.combinatorics.specs.Lists.{all, concatMap, sum, upFrom, same}
 
 -- "N blocks. Block j has s_j indices .. and a division d_j"
@@ -91,12 +91,6 @@ points g = productPoints (g .sizes) (g .divisions)
 -- "P is the number of grid points"
 abbrev pub numPoints : Grid → ℕ
 numPoints g = length (points g)
-
--- "the product over j of the binomials d_j + n_j choose n_j", n_j = s_j - 1
-abbrev pub binomialProduct : List ℕ → List ℕ → ℕ
-binomialProduct [] ds = 1
-binomialProduct (s ∷ ss) [] = 0
-binomialProduct (s ∷ ss) (d ∷ ds) = choose (d + pred s) (pred s) * binomialProduct ss ds
 
 -- "lexicographic order, first coordinate first"
 abbrev pub lexBefore : Point → Point → Bool

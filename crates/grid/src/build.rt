@@ -1,9 +1,7 @@
 // The grid that accepted sizes and divisions make.
-ghost use mathlib.Core.Bool.{cond};
 ghost use mathlib.Core.List.{[]};
 ghost use mathlib.Core.Path.{_≡_};
-ghost use Prim.Native.Nat.{suc, _+_, _≤_, _<_, pred};
-ghost use lib.Dec.{eqb};
+ghost use Prim.Native.Nat.{_≤_, _<_};
 ghost use lib.ListN.{length};
 ghost use Rattle.combinatorics.specs.Lists.{sum};
 ghost use Rattle.questions.specs.Questions.{firstNo};
@@ -19,10 +17,12 @@ ghost use Rattle.grid.specs.Grid.{Grid as Shape, blockIn, numPoints};
 ghost use Rattle.grid.specs.Made.{gridOf};
 ghost use Rattle.grid.specs.Questions.{gridQuestions};
 use crate::Grid;
-use crate::counts;
-use crate::grid_questions;
-use crate::wide;
-use crate::wide16;
+use grid_counts::block_count;
+use grid_counts::first_index;
+use grid_counts::index_after;
+use grid_counts::index_before;
+use grid_counts::wide;
+use grid_counts::wide16;
 
 // The block of index h.
 fn block_of(sizes: &[u8], h: usize) -> usize
@@ -36,29 +36,6 @@ fn block_of(sizes: &[u8], h: usize) -> usize
         j += 1;
     }
     j
-}
-
-// The index after h in a block with size indices from first on.
-fn index_after(h: usize, first: usize, size: usize) -> u8
-    requires { ⌜ (h < 16) × (first + size ≤ 16) ⌝ }
-    ensures { λ r. ⌜ r ≡ cond (eqb (suc h) (first + size)) first (suc h) ⌝ }
-{
-    if h + 1 == first + size {
-        first as u8
-    } else {
-        (h + 1) as u8
-    }
-}
-
-fn index_before(h: usize, first: usize, size: usize) -> u8
-    requires { ⌜ (first ≤ h) × (h < first + size) × (first + size ≤ 16) ⌝ }
-    ensures { λ r. ⌜ r ≡ cond (eqb h first) (pred (first + size)) (pred h) ⌝ }
-{
-    if h == first {
-        (first + size - 1) as u8
-    } else {
-        (h - 1) as u8
-    }
 }
 
 // What is known of each block: the sizes and divisions themselves, first indices and counts.
@@ -80,8 +57,8 @@ fn mark_blocks(
     while j < sizes.len() {
         own_sizes[j] = sizes[j];
         own_divisions[j] = divisions[j];
-        firsts[j] = grid_questions::first_index(sizes, j) as u8;
-        counts[j] = counts::block_count(wide(sizes[j]), wide16(divisions[j])) as u16;
+        firsts[j] = first_index(sizes, j) as u8;
+        counts[j] = block_count(wide(sizes[j]), wide16(divisions[j])) as u16;
         j += 1;
     }
 }
@@ -116,7 +93,7 @@ fn mark_indices(
     let mut h: usize = 0;
     while h < indices {
         let j = block_of(sizes, h);
-        let first = grid_questions::first_index(sizes, j);
+        let first = first_index(sizes, j);
         let size = wide(sizes[j]);
         block[h] = j as u8;
         previous[h] = index_before(h, first, size);
@@ -142,7 +119,7 @@ pub fn built(sizes: &[u8], divisions: &[u16]) -> Grid
         &mut counts,
     );
     let blocks = sizes.len();
-    let indices = grid_questions::first_index(sizes, blocks);
+    let indices = first_index(sizes, blocks);
     let mut block = [0u8; 16];
     let mut previous = [0u8; 16];
     let mut next = [0u8; 16];

@@ -6,11 +6,11 @@ ghost use Rattle.grid.specs.Build.{lent};
 ghost use Rattle.grid.specs.Grid.{bound, isGridPoint, blockOf};
 ghost use Rattle.grid.specs.Made.{madeOf, noGrid, shape, IsMade};
 
-mod bounds;
 mod build;
-mod coordinates;
-mod counts;
 mod grid_questions;
+
+pub use grid_counts::wide;
+pub use grid_counts::wide16;
 
 // A grid with what is looked up at every move. At the front of each array stand the numbers of the
 // blocks or of the indices, 0 behind.
@@ -42,8 +42,6 @@ impl Grid {
     pub const MAX_BLOCKS: usize = 6;
 
     pub const MAX_INDICES: usize = 16;
-
-    pub const MAX_POINTS: usize = 60000;
 
     // What stands beside a refusal.
     pub fn none() -> Grid
@@ -85,7 +83,7 @@ impl Grid {
         let indices = self.indices;
         let blocks = self.blocks;
         let points = self.points;
-        points as u64 * bounds::terms(indices as u64, (indices - blocks) as u64)
+        points as u64 * grid_counts::terms(indices as u64, (indices - blocks) as u64)
     }
 
     // Question 5: has y m numbers, each block adding up to its division?
@@ -104,7 +102,7 @@ impl Grid {
         let mut good = true;
         let mut j: usize = 0;
         while j < blocks {
-            let total = coordinates::total(y, wide(firsts[j]), wide(sizes[j]));
+            let total = grid_counts::total(y, wide(firsts[j]), wide(sizes[j]));
             if total != wide16(divisions[j]) {
                 good = false;
             }
@@ -121,17 +119,4 @@ impl Grid {
         let block = self.block;
         wide(block[h])
     }
-}
-
-// A byte is a number, with nothing to show at the cast.
-pub fn wide(x: u8) -> usize
-    ensures { λ r. ⌜ r ≡ x ⌝ }
-{
-    x as usize
-}
-
-pub fn wide16(x: u16) -> usize
-    ensures { λ r. ⌜ (r ≡ x) × (r ≤ 65535) ⌝ }
-{
-    x as usize
 }

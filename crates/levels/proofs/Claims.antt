@@ -15,7 +15,7 @@ use Rattle.finder.proofs.Demand.{run-demand3}
 use Rattle.finder.proofs.Refusals.{answered}
 use Rattle.finder.specs.Run.{caseOf, numbersOf, refusal, runAnswer, runBuffer}
 use Rattle.grid.proofs.Accepted.{accepted}
-use Rattle.grid.proofs.Terms.{terms-few}
+use Rattle.combinatorics.proofs.Terms.{terms-few}
 use Rattle.grid.specs.Grid.{bound, dimension, isGridPoint, numIndices}
 use Rattle.grid.specs.Questions.{gridQuestions, question5}
 use Rattle.place.proofs.Accepted.{accepted-is}

@@ -18,7 +18,8 @@ use Rattle.combinatorics.specs.Lists.{all, concatMap, upFrom}
 use Rattle.grid.proofs.Accepted.{Accepted, accepted}
 use Rattle.grid.proofs.CoordinatesBelow.{division-below}
 use Rattle.grid.proofs.Listing.{numPoints-is}
-use Rattle.grid.specs.Grid.{Grid, binomialProduct, division, numBlocks, numIndices, numPoints}
+use Rattle.grid.specs.Grid.{Grid, division, numBlocks, numIndices, numPoints}
+use Rattle.combinatorics.specs.Counting.{binomialProduct}
 use Rattle.grid.specs.Questions.{gridQuestions, question1, question2, question3, question4}
 use Rattle.questions.proofs.Answers.{asked-next, asked-no, both-yes, numbered}
 use Rattle.questions.specs.Questions.{Question, firstNo}

@@ -11,7 +11,7 @@ use Rattle.combinatorics.proofs.Basics.{before-or-not}
 use mathlib.Core.Logic.{⊎-elim}
 use Rattle.combinatorics.proofs.Binomials.{choose-grows, choose-step}
 use Rattle.combinatorics.specs.Counting.{choose}
-use Rattle.grid.proofs.Capped.{at-set}
+use Rattle.combinatorics.proofs.Turns.{at-set}
 use Rattle.positions.specs.Binomials.{InTable, IsBinomial, HasRows, Keeps, lists}
 
 pub keeps-self : {t : List ℕ} → Keeps t t

@@ -10,7 +10,7 @@ use lib.Seq.{drop-append-seam, take-append-seam}
 use native.Mathlib.Nat.{mul-le-mul}
 use native.Mathlib.Omega.{arith}
 use Rattle.combinatorics.proofs.Basics.{absurd-bool}
-use Rattle.grid.proofs.Terms.{terms-few}
+use Rattle.combinatorics.proofs.Terms.{terms-few}
 use Rattle.grid.specs.Grid.{numBlocks, numIndices, dimension, bound}
 use Rattle.place.proofs.LinkSymmetry.{unlabelled-of, unlabelled-parts}
 use Rattle.place.proofs.Theorem.{demand3-holds, run-follows}

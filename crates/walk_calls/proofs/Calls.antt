@@ -13,7 +13,7 @@ use Rattle.combinatorics.proofs.Basics.{absurd-bool}
 use Rattle.combinatorics.specs.Front.{front}
 use Rattle.combinatorics.specs.Counting.{falling}
 use Rattle.combinatorics.specs.Lists.{sum, upFrom}
-use Rattle.grid.proofs.Terms.{terms-few}
+use Rattle.combinatorics.proofs.Terms.{terms-few}
 use Rattle.grid.specs.Grid.{Grid, bound, dimension, numIndices, numPoints}
 use Rattle.grid.specs.Questions.{gridQuestions, question5}
 use Rattle.place.specs.Demand.{Accepted}

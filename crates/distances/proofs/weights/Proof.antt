@@ -3,7 +3,7 @@ use mathlib.Core.Path.{_≡_, refl, ap, _∙_}
 use Prim.Native.Nat.{ℕ, _-_, _≤_, _<_}
 use lib.ListN.{length, length-set}
 use native.Mathlib.Omega.{arith}
-use Rattle.grid.proofs.Capped.{at-set}
+use Rattle.combinatorics.proofs.Turns.{at-set}
 use Rattle.grid.proofs.Fields.{indices-few, made-blocks, made-indices}
 use Rattle.grid.proofs.Round.{block-spans}
 use Rattle.grid.specs.Grid.{at, blockOf}

@@ -7,9 +7,10 @@ use lib.ListN.{getD, take}
 use Rattle.combinatorics.proofs.Turns.{whole}
 use Rattle.grid.proofs.Accepted.{accepted, points-are}
 use Rattle.grid.proofs.Fields.{padded-at}
-use Rattle.grid.proofs.Prefix.{product-next, product-below}
+use Rattle.grid_counts.proofs.Products.{product-next, product-below}
 use Rattle.grid.specs.Build.{BlocksCounted}
-use Rattle.grid.specs.Grid.{Grid, numBlocks, binomialProduct}
+use Rattle.grid.specs.Grid.{Grid, numBlocks}
+use Rattle.combinatorics.specs.Counting.{binomialProduct}
 use Rattle.grid.specs.Made.{blockCount, gridOf}
 use borrow.Author.Needs.{needs}
 use native.Mathlib.Omega.{arith}

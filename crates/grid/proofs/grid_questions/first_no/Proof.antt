@@ -12,7 +12,8 @@ use Rattle.combinatorics.specs.Lists.{all, sum}
 use Rattle.questions.specs.Questions.{firstNo}
 use Rattle.grid.proofs.Listing.{numPoints-is}
 use Rattle.grid.specs.Build.{lent}
-use Rattle.grid.specs.Grid.{Grid, numPoints, binomialProduct}
+use Rattle.grid.specs.Grid.{Grid, numPoints}
+use Rattle.combinatorics.specs.Counting.{binomialProduct}
 use Rattle.grid.specs.Questions.{question1, question2, question3}
 use borrow.Author.Needs.{needs}
 use native.Mathlib.Omega.{arith}

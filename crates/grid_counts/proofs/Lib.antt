@@ -1,0 +1,3 @@
+pub mod SizeRange
+pub mod Capped
+pub mod Products

@@ -1,0 +1,65 @@
+-- `sizes::each_one` meets its contract. The invariant: the answer for the divisions so far. Assumes nothing.
+use mathlib.Core.Bool.{and-true, and-false}
+use mathlib.Core.Logic.{⊎-elim}
+use mathlib.Core.Path.{_≡_, refl, sym, _∙_}
+use Prim.Native.Nat.{_≤_, _-_}
+use borrow.Author.Tests.{le-leb, lt-leb}
+use lib.Dec.{leb}
+use lib.ListN.{length, getD, take}
+use Rattle.combinatorics.proofs.Turns.{all-next, whole}
+use Rattle.combinatorics.specs.Lists.{all}
+use borrow.Author.Needs.{needs}
+use native.Mathlib.Omega.{arith}
+use Rattle.grid_counts.proofs.sizes.each_one.Statement.{statement}
+use Rattle.grid_counts.proofs.sizes.each_one.Tie as tie
+
+abbrev Inv-loop : tie.InvT-loop
+Inv-loop divisions good₀ j₀ good j =
+    (good ≡ all (λ x. leb 1 x) (take j divisions)) × (j ≤ length divisions)
+
+abbrev μ-loop : tie.MeasureT-loop
+μ-loop divisions good₀ j₀ good j = length divisions - j
+
+loop-holds : tie.Need-loop-holds Inv-loop μ-loop
+loop-holds c = (refl, search needs)
+
+mul-if1 : tie.Need-mul-if1 Inv-loop μ-loop
+mul-if1 c = search needs
+
+shared-slice-read-if1 : tie.Need-shared-slice-read-if1 Inv-loop μ-loop
+shared-slice-read-if1 c = search needs
+
+add-j : tie.Need-add-j Inv-loop μ-loop
+add-j c = search needs
+
+loop-less : tie.Need-loop-less Inv-loop μ-loop
+loop-less c = search needs
+
+loop-again : tie.Need-loop-again Inv-loop μ-loop
+loop-again c =
+    let l = c .before .before .before .loop in
+    let xs = c .before .before .before .before .args .divisions .now in (
+      rw (all-next (λ x. leb 1 x) xs (l .j) (omega arith), ← (l .inv .0)) (⊎-elim
+          (λ w. w .1 ∙ sym (rw (lt-leb 1 (getD xs (l .j) 0) (w .0 .taken)) (and-false (l .good))))
+          (λ w. w .1 ∙ sym (rw (le-leb 1 (getD xs (l .j) 0) (w .0 .left)) (and-true (l .good))))
+          (c .if1 .came)),
+      search needs,
+    )
+
+returns : tie.Need-returns Inv-loop μ-loop
+returns c =
+    c .before .loop .inv .0 ∙ rw (whole (c .before .before .args .divisions .now) (c .before .loop .j) (omega arith))
+
+pub each-one-spec : {M : Type 1} → statement M
+each-one-spec =
+    tie.close
+    (tie.spec
+    Inv-loop
+    μ-loop
+    loop-holds
+    mul-if1
+    shared-slice-read-if1
+    add-j
+    loop-less
+    loop-again
+    returns)

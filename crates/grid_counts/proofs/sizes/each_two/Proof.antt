@@ -1,0 +1,53 @@
+-- `sizes::each_two` meets its contract. The invariant: the answer for the sizes so far. Assumes nothing.
+use mathlib.Core.Bool.{and-true, and-false}
+use mathlib.Core.Logic.{⊎-elim}
+use mathlib.Core.Path.{_≡_, refl, sym, _∙_}
+use Prim.Native.Nat.{_≤_, _-_}
+use borrow.Author.Tests.{le-leb, lt-leb}
+use lib.Dec.{leb}
+use lib.ListN.{length, getD, take}
+use Rattle.combinatorics.proofs.Turns.{all-next, whole}
+use Rattle.combinatorics.specs.Lists.{all}
+use borrow.Author.Needs.{needs}
+use native.Mathlib.Omega.{arith}
+use Rattle.grid_counts.proofs.sizes.each_two.Statement.{statement}
+use Rattle.grid_counts.proofs.sizes.each_two.Tie as tie
+
+abbrev Inv-loop : tie.InvT-loop
+Inv-loop sizes good₀ j₀ good j =
+    (good ≡ all (λ x. leb 2 x) (take j sizes)) × (j ≤ length sizes)
+
+abbrev μ-loop : tie.MeasureT-loop
+μ-loop sizes good₀ j₀ good j = length sizes - j
+
+loop-holds : tie.Need-loop-holds Inv-loop μ-loop
+loop-holds c = (refl, search needs)
+
+shared-slice-read-if1 : tie.Need-shared-slice-read-if1 Inv-loop μ-loop
+shared-slice-read-if1 c = search needs
+
+add-j : tie.Need-add-j Inv-loop μ-loop
+add-j c = search needs
+
+loop-less : tie.Need-loop-less Inv-loop μ-loop
+loop-less c = search needs
+
+loop-again : tie.Need-loop-again Inv-loop μ-loop
+loop-again c =
+    let l = c .before .before .before .loop in
+    let xs = c .before .before .before .before .args .sizes .now in (
+      rw (all-next (λ x. leb 2 x) xs (l .j) (omega arith), ← (l .inv .0)) (⊎-elim
+          (λ w. w .1 ∙ sym (rw (lt-leb 2 (getD xs (l .j) 0) (w .0 .taken)) (and-false (l .good))))
+          (λ w. w .1 ∙ sym (rw (le-leb 2 (getD xs (l .j) 0) (w .0 .left)) (and-true (l .good))))
+          (c .if1 .came)),
+      search needs,
+    )
+
+returns : tie.Need-returns Inv-loop μ-loop
+returns c =
+    c .before .loop .inv .0 ∙ rw (whole (c .before .before .args .sizes .now) (c .before .loop .j) (omega arith))
+
+pub each-two-spec : {M : Type 1} → statement M
+each-two-spec =
+    tie.close
+    (tie.spec Inv-loop μ-loop loop-holds shared-slice-read-if1 add-j loop-less loop-again returns)
