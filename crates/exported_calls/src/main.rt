@@ -5,6 +5,8 @@
 //   kind 2, a labelling of a game that is built in: the game's number, the length of the label buffer.
 // Lengths and a game's number have 16 bits, the budget 64. How many calls there are stands first, in 16 bits. The
 // buffers are lent full of 65535 or 255, and printed whole.
+use answer_lines::print_count;
+use answer_lines::print_facts;
 use case_reader::bytes;
 use case_reader::number;
 use case_reader::show;
@@ -14,25 +16,6 @@ use case_reader::within_bytes;
 use case_reader::within_words;
 use case_reader::word;
 use case_reader::words;
-
-// The run's answer, in the numbers of the exported call.
-fn show_facts(number: u8, facts: &[u64; 5]) {
-    if number != 0 {
-        show(b"refused ", number as u64);
-        if number == 9 || number == 16 {
-            show(b"places ", facts[0]);
-        }
-        if number == 16 {
-            show(b"position ", facts[1]);
-        }
-        return;
-    }
-    show(b"places ", facts[0]);
-    show(b"labels read ", facts[1]);
-    show(b"kind ", facts[2]);
-    show(b"block ", facts[3]);
-    show(b"vertices ", facts[4]);
-}
 
 // A run: its answer, and the whole answer buffer.
 fn run(sizes: &[u8], divisions: &[u16], start: &[u16], labels: &[u8], answer: &mut [u16]) {
@@ -47,7 +30,7 @@ fn run(sizes: &[u8], divisions: &[u16], start: &[u16], labels: &[u8], answer: &m
         budget,
         &mut facts,
     );
-    show_facts(answered, &facts);
+    print_facts(answered, &facts);
     show_words(b"answer", answer);
 }
 
@@ -71,11 +54,7 @@ fn make_run(sizes: &[u8], divisions: &[u16]) {
 fn label(sizes: &[u8], divisions: &[u16], losses: &[u16], labels: &mut [u8]) {
     let mut count: u64 = 0;
     let answered = exports::leveretplate_label(sizes, divisions, losses, labels, &mut count);
-    if answered == 0 {
-        show(b"count ", count);
-    } else {
-        show(b"refused ", answered as u64);
-    }
+    print_count(answered, count);
     show_bytes(b"labels", labels);
 }
 

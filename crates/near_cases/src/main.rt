@@ -3,6 +3,8 @@
 // as lists, the lengths of the answer buffer and of the list, of 16 bits each, and the budget and the distance, of 64.
 // Both buffers are lent full of 65,535.
 use answer_lines::print_end;
+use answer_lines::print_refused;
+use answer_lines::print_spent;
 use answer_lines::print_unknown;
 use case_reader::bytes;
 use case_reader::number;
@@ -17,8 +19,8 @@ use nearest::Nearest;
 
 fn print_run(run: Answer) {
     match run {
-        Answer::Refused(number) => show(b"refused ", number as u64),
-        Answer::Spent(places) => show(b"refused 9\nplaces ", places),
+        Answer::Refused(number) => print_refused(number),
+        Answer::Spent(places) => print_spent(places),
         Answer::Unknown { places, position } => print_unknown(places, position as u64),
         Answer::End {
             places,

@@ -3,6 +3,7 @@
 // levels, and how long the label buffer and the answer buffer are, in 16 bits each. The answer buffer is lent full of
 // 65,535, which is no coordinate.
 use answer_lines::print_end;
+use answer_lines::print_refused;
 use case_reader::bytes;
 use case_reader::show;
 use case_reader::show_words;
@@ -69,7 +70,7 @@ fn checksum(labels: &[u8]) -> u32 {
 // The refusal or the levels, and both buffers.
 fn print(found: Refined, labels: &[u8], answer: &[u16]) {
     if found.code != 0 {
-        show(b"refused ", found.code as u64);
+        print_refused(found.code);
     }
     print_levels(found);
     show_words(b"answer-after", answer);

@@ -4,6 +4,9 @@
 // buffer, of 16 bits, and the length of the trail buffer and the budget, of 64; of a reading the trail as a list, and
 // the number of the record, of 64. The answer buffer is lent full of 65,535, and the trail buffer full of 255.
 use answer_lines::print_end;
+use answer_lines::print_place;
+use answer_lines::print_refused;
+use answer_lines::print_spent;
 use answer_lines::print_trail;
 use answer_lines::print_unknown;
 use case_reader::bytes;
@@ -20,11 +23,11 @@ use trail_writer::Answer;
 fn print_answer(found: Answer) -> usize {
     match found {
         Answer::Refused(number) => {
-            show(b"refused ", number as u64);
+            print_refused(number);
             0
         }
         Answer::Spent(places) => {
-            show(b"refused 9\nplaces ", places);
+            print_spent(places);
             0
         }
         Answer::Unknown { places, position } => {
@@ -69,20 +72,15 @@ fn print_run(
     print_trail(trail, written);
 }
 
-fn print_place(found: trail_reader::Answer) {
+fn print_found(found: trail_reader::Answer) {
     match found {
-        trail_reader::Answer::Refused(number) => show(b"refused ", number as u64),
+        trail_reader::Answer::Refused(number) => print_refused(number),
         trail_reader::Answer::Place {
             points,
             t,
             u,
             labels_read,
-        } => {
-            show(b"points ", points as u64);
-            show(b"T ", t as u64);
-            show(b"U ", u as u64);
-            show(b"labels read ", labels_read);
-        }
+        } => print_place(points as u64, t as u64, u as u64, labels_read),
     }
 }
 
@@ -91,7 +89,7 @@ fn print_reading(sizes: &[u8], divisions: &[u16], start: &[u16], trail: &[u8]) {
     let reading = trail_reader::read(sizes, divisions, start, trail, record);
     let found = reading.answer;
     let numbers = reading.points;
-    print_place(found);
+    print_found(found);
     show_words(b"numbers", &numbers);
 }
 
