@@ -19,6 +19,9 @@ use std::time::Duration;
 const REPETITIONS: usize = 101;
 const REPETITION: Duration = Duration::from_millis(2);
 
+/// How many tables of a grid are run in turn where a call is timed beside the run alone.
+const TABLES: u64 = 8;
+
 /// Room for the trails of the benchmark's paths.
 const MOST_TRAIL: usize = 500_000;
 
@@ -133,54 +136,80 @@ impl Benchmark {
         self.print(&name, "place", places, &mut calls);
     }
 
-    /// The call that reports where the path came nearest, beside the run alone: at most 3 times as long was aimed at.
-    fn near(&self, name: &str, call: &NearCall) {
+    /// Tables of a grid whose runs follow each other, where a call is timed beside another: over one table alone the processor learns the
+    /// path by heart, and the call that is longer, only in part.
+    fn tables(&self, name: &str, sizes: &[u8], divisions: &[u16], from: From, seed: u64, rounds: usize) -> Vec<RunCall> {
+        if !name.contains(&self.text) {
+            return Vec::new();
+        }
+        (0..TABLES).map(|k| long_run(sizes, divisions, from, seed + 1000 * k, rounds)).collect()
+    }
+
+    /// The call that reports where the path came nearest, beside the run alone, over all these tables: at most 3 times as long was aimed at.
+    fn near(&self, name: &str, calls: &[NearCall]) {
         if !name.contains(&self.text) {
             return;
         }
         for implementation in &self.implementations {
-            let (mut alone, mut answer, mut list) = (vec![0; call.run.answer], vec![0; call.run.answer], vec![0; call.list]);
+            let room = calls[0].run.answer;
+            let (mut alone, mut answer, mut list) = (vec![0; room], vec![0; room], vec![0; calls[0].list]);
             let timings = time(&mut [
                 Box::new(|| {
-                    black_box(implementation.run(black_box(&call.run), &mut alone));
+                    for call in calls {
+                        black_box(implementation.run(black_box(&call.run), &mut alone));
+                    }
                 }),
                 Box::new(|| {
-                    black_box(implementation.near(black_box(call), &mut answer, &mut list));
+                    for call in calls {
+                        black_box(implementation.near(black_box(call), &mut answer, &mut list));
+                    }
                 }),
             ]);
             let [run, near] = [&timings[0], &timings[1]];
-            print!("{name:44} {:8} {:9.2} us (least {:.2})", implementation.name(), near.median / 1e3, near.least / 1e3);
+            let each = calls.len() as f64 * 1e3;
+            print!("{name:44} {:8} {:9.2} us (least {:.2})", implementation.name(), near.median / each, near.least / each);
             println!("  {:.2} times the run (of the least {:.2})", near.median / run.median, near.least / run.least);
         }
     }
 
-    /// The run that writes a trail, and the reading of that trail's last record, beside the run alone: the most that they may take is 2.5
-    /// times as long and as long.
-    fn trail(&self, name: &str, run: &RunCall) {
+    /// The run that writes a trail, and the reading of that trail's last record, beside the run alone, over all these tables: the most that
+    /// they may take is 2.5 times as long and as long.
+    fn trail(&self, name: &str, runs: &[RunCall]) {
         if !name.contains(&self.text) {
             return;
         }
         for implementation in &self.implementations {
-            let (mut alone, mut answer, mut trail) = (vec![0; run.answer], vec![0; run.answer], vec![0; MOST_TRAIL]);
-            let call = TrailCall { run: run.clone(), room: trail.len() };
-            let written = implementation.write(&call, &mut answer, &mut trail);
-            let (Outcome::Ended(end), Some(bytes)) = (written.run, written.bytes) else { unreachable!("an end and its trail") };
-            let read = read_of(run, trail[..bytes].to_vec(), end.places);
+            let room = runs[0].answer;
+            let (mut alone, mut answer, mut trail) = (vec![0; room], vec![0; room], vec![0; MOST_TRAIL]);
+            let writes: Vec<TrailCall> = runs.iter().map(|run| TrailCall { run: run.clone(), room: MOST_TRAIL }).collect();
+            let mut reads = Vec::new();
+            for call in &writes {
+                let written = implementation.write(call, &mut answer, &mut trail);
+                let (Outcome::Ended(end), Some(bytes)) = (written.run, written.bytes) else { unreachable!("an end and its trail") };
+                reads.push(read_of(&call.run, trail[..bytes].to_vec(), end.places));
+            }
             let timings = time(&mut [
                 Box::new(|| {
-                    black_box(implementation.run(black_box(run), &mut alone));
+                    for run in runs {
+                        black_box(implementation.run(black_box(run), &mut alone));
+                    }
                 }),
                 Box::new(|| {
-                    black_box(implementation.write(black_box(&call), &mut answer, &mut trail));
+                    for call in &writes {
+                        black_box(implementation.write(black_box(call), &mut answer, &mut trail));
+                    }
                 }),
                 Box::new(|| {
-                    black_box(implementation.read(black_box(&read))).expect("a place");
+                    for read in &reads {
+                        black_box(implementation.read(black_box(read))).expect("a place");
+                    }
                 }),
             ]);
             let [run, write, read] = [&timings[0], &timings[1], &timings[2]];
-            print!("{name:44} {:8} {:9.2} us (least {:.2})", implementation.name(), write.median / 1e3, write.least / 1e3);
+            let each = runs.len() as f64 * 1e3;
+            print!("{name:44} {:8} {:9.2} us (least {:.2})", implementation.name(), write.median / each, write.least / each);
             print!("  {:.2} times the run (of the least {:.2})", write.median / run.median, write.least / run.least);
-            print!("  record {} read {:.2} us (least {:.2})", end.places, read.median / 1e3, read.least / 1e3);
+            print!("  last record read {:.2} us (least {:.2})", read.median / each, read.least / each);
             println!("  {:.2} times the run (of the least {:.2})", read.median / run.median, read.least / run.least);
         }
     }
@@ -365,16 +394,17 @@ fn main() {
     benchmark.run("2;59999, 60,000 labels", &RunCall { budget: 0, ..straight.clone() });
     benchmark.run("3 3 3;7 7 8, 58,320 labels", &RunCall { budget: 0, ..game_run(1) });
     println!("\nruns near the last corner, every visited vertex listed");
-    benchmark.near("near, 2;59999, one label", &near_run(straight.clone()));
+    benchmark.near("near, 2;59999, one label", &[near_run(straight.clone())]);
     for (sizes, divisions, from, seed, rounds) in LONG_RUNS {
-        let run = long_run(sizes, divisions, from, seed, rounds);
-        benchmark.near(&format!("near, {}", grid_name(sizes, divisions)), &near_run(run));
+        let name = format!("near, {}", grid_name(sizes, divisions));
+        let calls = benchmark.tables(&name, sizes, divisions, from, seed, rounds).into_iter().map(near_run).collect::<Vec<_>>();
+        benchmark.near(&name, &calls);
     }
     println!("\nruns that write a trail, and the reading of its last record");
-    benchmark.trail("trail, 2;59999, one label", &straight);
+    benchmark.trail("trail, 2;59999, one label", &[straight.clone()]);
     for (sizes, divisions, from, seed, rounds) in LONG_RUNS {
-        let run = long_run(sizes, divisions, from, seed, rounds);
-        benchmark.trail(&format!("trail, {}", grid_name(sizes, divisions)), &run);
+        let name = format!("trail, {}", grid_name(sizes, divisions));
+        benchmark.trail(&name, &benchmark.tables(&name, sizes, divisions, from, seed, rounds));
     }
     println!("\nthe third record of a trail, on grids with few and many points");
     for division in [3, 300, 59_999] {
