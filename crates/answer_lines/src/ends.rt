@@ -1,7 +1,7 @@
 // What a run has come to: a refusal, a budget that is spent, a place whose label is not known, or an end.
 use case_reader::show;
 use case_reader::show_text;
-use finder::Kind;
+use path_walk::Kind;
 
 fn print_kind(kind: Kind) {
     match kind {

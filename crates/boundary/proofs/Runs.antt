@@ -23,8 +23,8 @@ use Rattle.simplices.proofs.Tests.{settled-with}
 use Rattle.finder.specs.Run.{caseOf, kindOf, refusal, runAnswer}
 use Rattle.finder.specs.declared.answers.Answer.{Answer}
 use Rattle.finder.specs.declared.answers.Answer.the-variants.{End, Refused, Unknown}
-use Rattle.finder.specs.declared.answers.Kind.{Kind}
-use Rattle.finder.specs.declared.answers.Kind.the-variants.{Place}
+use Rattle.path_walk.specs.declared.Kind.{Kind}
+use Rattle.path_walk.specs.declared.Kind.the-variants.{Place}
 use Rattle.games.specs.declared.Labelled.the-variants.{Written}
 use Rattle.boundary_labels.proofs.Ends.{accepted-again, over-new-table}
 use Rattle.boundary_labels.specs.Boundary.{isInterior}

@@ -11,8 +11,8 @@ use Rattle.place.specs.Problem.{Problem, problemOf}
 use Rattle.place.specs.Questions.{question8}
 use Rattle.finder.specs.Run.{refusal, runAnswer}
 use Rattle.finder.specs.declared.answers.Answer.the-variants.{End, Unknown}
-use Rattle.finder.specs.declared.answers.Kind.{Kind}
-use Rattle.finder.specs.declared.answers.Kind.the-variants.{Place}
+use Rattle.path_walk.specs.declared.Kind.{Kind}
+use Rattle.path_walk.specs.declared.Kind.the-variants.{Place}
 use Rattle.games.specs.declared.Labelled.the-variants.{Written}
 use Rattle.boundary_labels.specs.Boundary.{isInterior}
 use Rattle.boundary.specs.Call.{boundaryAnswer, boundaryBuffer}

@@ -1,15 +1,15 @@
 -- Following the coefficients of a block, one after another. In order: what is followed so far; a step; why it cannot go
 -- on; what is found. Assumes nothing.
-use mathlib.Core.Bool.{Bool, true, false, _||_, cond}
+use mathlib.Core.Bool.{Bool, true, false, cond}
 use mathlib.Core.Logic.{_⊎_, inl, inr, ⊎-elim}
 use mathlib.Core.Path.{_≡_, refl, sym, ap, _∙_}
 use Prim.Native.Nat.{ℕ, zero, suc, _+_, _-_, _*_, _%_, _^_, _≤_, _<_}
 use borrow.Author.Tests.{lt-ltb, le-ltb, eq-eqb, ne-eqb}
 use lib.Bits.{or-lt}
-use lib.Dec.{eqb, ltb}
+use lib.Dec.{ltb}
 use native.Mathlib.Nat.{mod-lt}
 use native.Mathlib.Omega.{arith}
-use Rattle.combinatorics.proofs.Basics.{absurd-bool, before-or-not, same-or, true-or-false}
+use Rattle.combinatorics.proofs.Basics.{before-or-not, same-or, true-or-false}
 use Rattle.grid.specs.Grid.{Point, at}
 use Rattle.rules.proofs.Masks.{bit-with}
 use Rattle.rules.specs.Mask.{bit, withIndex}

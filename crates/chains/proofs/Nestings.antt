@@ -1,22 +1,21 @@
 -- Sets that are nested, for lists that are. In order: a mask is known by its bits; one list below another; nested
 -- lists; any two of many. Assumes nothing.
-use mathlib.Core.Bool.{Bool, true, false, not, _&&_, _||_, cond}
+use mathlib.Core.Bool.{Bool, true, false, _&&_, cond}
 use mathlib.Core.List.{List, [], _∷_, map}
 use mathlib.Core.Logic.{⊎-elim}
 use mathlib.Core.Path.{_≡_, refl, sym, ap, _∙_}
-use Prim.Native.Nat.{ℕ, zero, suc, _+_, _-_, _*_, _/_, _%_, _^_, _≤_, _<_}
+use Prim.Native.Nat.{ℕ, zero, suc, _+_, _-_, _/_, _%_, _^_, _≤_, _<_}
 use borrow.Author.Tests.{eq-eqb, eqb-true, leb-true, le-leb}
 use lib.Bits.{bitAnd, and-comm, and-le-l}
 use lib.Dec.{eqb, leb}
-use lib.ListN.{length}
 use lib.Seq.{ext-getD}
 use native.Mathlib.Nat.{div-div-eq-div-mul, pow-succ'}
 use native.Mathlib.Numerals.{add-one}
 use native.Mathlib.Omega.{arith}
-use Rattle.combinatorics.proofs.Basics.{absurd-bool, and-left, and-right, before-or-not, both, true-or-false}
-use Rattle.combinatorics.proofs.Lists.{eqb-self, onNumbers, same-self, same-sound}
+use Rattle.combinatorics.proofs.Basics.{absurd-bool, before-or-not, both}
+use Rattle.combinatorics.proofs.Lists.{eqb-self, same-self, same-sound}
 use Rattle.combinatorics.specs.Lists.{all, any, same, upFrom}
-use Rattle.grid.specs.Grid.{Grid, at, numIndices, indices}
+use Rattle.grid.specs.Grid.{Grid, at, numIndices}
 use Rattle.rules.proofs.Masks.{bit-and}
 use Rattle.rules.specs.Mask.{bit}
 use Rattle.simplices.proofs.Tests.{at-index, index-at}

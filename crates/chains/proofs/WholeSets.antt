@@ -3,7 +3,7 @@
 use mathlib.Core.Bool.{Bool, true, false, cond}
 use mathlib.Core.List.{List, [], _∷_}
 use mathlib.Core.Logic.{⊎-elim}
-use mathlib.Core.Path.{_≡_, refl, sym, ap, _∙_}
+use mathlib.Core.Path.{_≡_, sym, ap, _∙_}
 use Prim.Native.Nat.{ℕ, zero, suc, _+_, _-_, _≤_, _<_}
 use borrow.Author.Tests.{eqb-true, leb-true, lt-ltb, le-ltb}
 use lib.Dec.{leb}
@@ -22,7 +22,6 @@ use Rattle.grid.specs.Grid.{Grid, Point, at, numBlocks, numIndices, firstIndex,
 use Rattle.grid.specs.Made.{shape, IsMade}
 use Rattle.grid.specs.declared.Grid.{Grid as GridStruct}
 use Rattle.rules.proofs.Masks.{bit-none}
-use Rattle.rules.specs.Mask.{bit}
 use Rattle.place.proofs.BlocksOfGrid.{coefficientOf-is}
 use Rattle.place.specs.Coefficients.{IsCoefficients}
 use Rattle.simplices.proofs.Tests.{at-index, coefficients-by, settled}

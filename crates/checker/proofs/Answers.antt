@@ -1,9 +1,9 @@
 -- The checker's answer, by its parts: a refusal of the grid, a refusal of table or list, the verdict. Assumes nothing.
 use mathlib.Core.Bool.{true, false, cond, _&&_}
-use mathlib.Core.List.{List, [], _∷_, map}
+use mathlib.Core.List.{List, [], _∷_}
 use mathlib.Core.Option.{none}
-use mathlib.Core.Path.{_≡_, refl, sym, ap, _∙_}
-use Prim.Native.Nat.{ℕ, zero, suc, _+_, _-_, _*_, _/_, _≤_, _<_}
+use mathlib.Core.Path.{_≡_, refl, sym, _∙_}
+use Prim.Native.Nat.{ℕ, zero, suc, _-_, _*_, _/_, _≤_}
 use borrow.Author.Tests.{eqb-true, leb-true, ne-eqb}
 use lib.Dec.{eqb, leb}
 use lib.ListN.{length, length-map}
@@ -23,7 +23,7 @@ use Rattle.simplices.proofs.Answers.{answer-by-test}
 use Rattle.simplices.specs.Chains.{oneChain}
 use Rattle.place.specs.Ends.{completeFor}
 use Rattle.simplices.specs.Simplices.{firstOf, labelledBy, verdict}
-use Rattle.chains.specs.Listed.{listed, listedAt, HasPoints, Listed}
+use Rattle.chains.specs.Listed.{listed, listedAt, Listed}
 use Rattle.checker.proofs.Covering.{whole-is}
 use Rattle.checker.proofs.ListRefusals.{most-few}
 use Rattle.checker.specs.Check.{question19, wholePoints, pointsOf, listQuestions, caseOf, checkAnswer}

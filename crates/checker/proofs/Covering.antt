@@ -1,34 +1,33 @@
 -- Which indices are covered, and the first block whose indices all are. In order: a range of indices; a point's label;
 -- one more point; the first block; what is complete. Assumes nothing.
-use mathlib.Core.Bool.{Bool, true, false, _&&_, _||_, cond}
+use mathlib.Core.Bool.{Bool, true, false, _&&_, _||_}
 use mathlib.Core.List.{List, [], _∷_, map}
-use mathlib.Core.Logic.{⊎-elim}
 use mathlib.Core.Option.{Option, none, some}
 use mathlib.Core.Path.{_≡_, refl, sym, ap, _∙_}
 use Prim.Native.Nat.{ℕ, zero, suc, _+_, _-_, _≤_, _<_}
-use borrow.Author.Tests.{leb-true, lt-ltb}
+use borrow.Author.Tests.{lt-ltb}
 use lib.Bits.{bitAnd, bitOr}
-use lib.Dec.{eqb, leb, ltb, eqb·suc-suc, eqb·suc-zero}
+use lib.Dec.{eqb, ltb, eqb·suc-suc, eqb·suc-zero}
 use lib.ListN.{length, getD, take, replicate, length-map, length-take}
 use lib.Seq.{ext-getD, getD-take, take-all}
 use native.Mathlib.Omega.{arith}
 use Rattle.combinatorics.proofs.Agreement.{all-agree}
 use Rattle.combinatorics.proofs.Basics.{both}
 use Rattle.combinatorics.proofs.Fronts.{front-at, front-taken}
-use Rattle.combinatorics.proofs.Lists.{at-all, filter-cong, filter-in, in-filter, onNumbers}
-use Rattle.combinatorics.proofs.Ranges.{length-upFrom, upFrom-in}
+use Rattle.combinatorics.proofs.Lists.{filter-cong, filter-in, in-filter, onNumbers}
+use Rattle.combinatorics.proofs.Ranges.{length-upFrom}
 use Rattle.combinatorics.proofs.Turns.{map-at}
 use Rattle.combinatorics.specs.Front.{front}
 use Rattle.combinatorics.specs.Lists.{all, filter, isIn, sum, upFrom}
 use Rattle.grid.proofs.Fields.{made-accepted, made-blocks, made-indices}
 use Rattle.grid.proofs.Points.{in-points, position-in}
 use Rattle.grid.proofs.Round.{block-fits}
-use Rattle.grid.specs.Grid.{Grid, Point, at, blocks, firstIndex, indices, indicesOf, isGridPoint, numBlocks, numIndices}
+use Rattle.grid.specs.Grid.{Grid, Point, at, blocks, firstIndex, indices, indicesOf, isGridPoint, numIndices}
 use Rattle.grid.specs.Grid.{numPoints, points, position, size}
 use Rattle.grid.specs.Made.{IsMade, shape}
 use Rattle.grid.specs.declared.Grid.{Grid as GridStruct}
 use Rattle.rules.proofs.Masks.{bit-and, bit-none, bit-or, bit-with}
-use Rattle.rules.specs.Mask.{bit, withIndex}
+use Rattle.rules.specs.Mask.{bit}
 use Rattle.place.proofs.Meaning.{index-means}
 use Rattle.place.specs.Ends.{isComplete, completeFor}
 use Rattle.place.specs.Places.{labelSet, setU}
@@ -38,7 +37,7 @@ use Rattle.simplices.specs.Simplices.{firstOf, labelledBy}
 use Rattle.chains.proofs.ListedPoints.{all-at}
 use Rattle.chains.proofs.Nestings.{range-none, range-more}
 use Rattle.chains.proofs.WholeSets.{point-long}
-use Rattle.checker.specs.Covered.{IsCovered, Labelled, firstWhole, withLabel}
+use Rattle.checker.specs.Covered.{IsCovered, firstWhole, withLabel}
 
 -- a search through numbers from k up to n
 module _ (q : ℕ → Bool) (k n : ℕ) (l : k < n) where

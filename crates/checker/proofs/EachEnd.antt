@@ -1,19 +1,19 @@
 -- Each end that a run announces gets yes with its block, also over a table with gaps. In order: points one after
 -- another; an end's questions; what a run announces. Assumes nothing.
-use mathlib.Core.Bool.{Bool, true, false, cond, _&&_}
+use mathlib.Core.Bool.{Bool, true, false, cond}
 use mathlib.Core.List.{List, [], _∷_, _++_, map}
 use mathlib.Core.Option.{Option, none, some}
 use mathlib.Core.Path.{_≡_, refl, sym, ap, _∙_}
-use Prim.Native.Nat.{ℕ, zero, suc, _+_, _-_, _*_, _/_, _≤_, _<_}
-use borrow.Author.Tests.{eq-eqb, eqb-true, le-leb}
-use lib.Dec.{eqb, leb, ltb}
+use Prim.Native.Nat.{ℕ, zero, suc, _+_, _-_, _*_, _≤_, _<_}
+use borrow.Author.Tests.{eq-eqb, eqb-true}
+use lib.Dec.{eqb, ltb}
 use lib.ListN.{length, take, drop, length-append}
 use lib.Seq.{drop-append-add, take-append-le, take-length}
 use native.Mathlib.Nat.{mul-div-cancel, mul-le-mul-right, suc-mul, zero-mul}
 use native.Mathlib.Omega.{arith}
-use Rattle.combinatorics.proofs.Basics.{absurd-bool, and-both, and-left, and-right}
+use Rattle.combinatorics.proofs.Basics.{absurd-bool, and-left, and-right}
 use Rattle.combinatorics.specs.Lists.{all, concatMap, upFrom}
-use Rattle.questions.proofs.Answers.{asked-next, both-yes, first-yes}
+use Rattle.questions.proofs.Answers.{both-yes, first-yes}
 use Rattle.questions.specs.Questions.{firstNo}
 use Rattle.grid.proofs.Accepted.{Accepted, accepted, blocks-few}
 use Rattle.grid.specs.Grid.{Grid, Point, dimension, isGridPoint, numIndices}

@@ -1,27 +1,21 @@
 -- The refusals of the checker: which of questions 6, 7 and 19 is the first that is answered no, and what holds where
 -- none is. Assumes nothing.
-use mathlib.Core.Bool.{true, false, _&&_}
-use mathlib.Core.List.{List, [], _∷_}
-use mathlib.Core.Path.{_≡_, refl, sym, ap, _∙_}
-use Prim.Native.Nat.{ℕ, suc, _+_, _-_, _*_, _/_, _≤_, _<_}
-use borrow.Author.Tests.{eq-eqb, eqb-true, le-leb, leb-true, lt-leb, ne-eqb}
-use lib.Dec.{eqb, leb}
+use mathlib.Core.Bool.{true, false}
+use mathlib.Core.List.{List}
+use mathlib.Core.Path.{_≡_}
+use Prim.Native.Nat.{ℕ, suc, _+_, _-_, _*_, _≤_, _<_}
+use borrow.Author.Tests.{eq-eqb, le-leb, lt-leb, ne-eqb}
+use lib.Dec.{leb}
 use lib.ListN.{length}
 use native.Mathlib.Omega.{arith}
-use Rattle.combinatorics.proofs.Basics.{and-left, and-right}
 use Rattle.combinatorics.specs.Lists.{all}
-use Rattle.questions.proofs.Answers.{first-yes}
 use Rattle.questions.specs.Questions.{firstNo}
 use Rattle.grid.proofs.Accepted.{blocks-few}
 use Rattle.grid.proofs.Fields.{made-accepted, made-blocks, made-indices}
 use Rattle.grid.specs.Grid.{Grid, dimension, isGridPoint, numIndices, numPoints}
 use Rattle.grid.specs.Made.{IsMade, shape}
 use Rattle.grid.specs.declared.Grid.{Grid as GridStruct}
-use Rattle.simplices.specs.Simplices.{labelledBy}
-use Rattle.place.specs.Questions.{question6, question7}
-use Rattle.chains.specs.Listed.{HasPoints, Listed}
 use Rattle.checker.specs.Check.{question19, wholePoints, pointsOf, listQuestions}
-use Rattle.checker.specs.Covered.{Labelled}
 
 -- question 19
 module _ (g : Grid) (numbers : List ℕ) where

@@ -1,6 +1,6 @@
 // Questions 6, 7 and 19.
 ghost use mathlib.Core.Path.{_≡_};
-ghost use Prim.Native.Nat.{_*_, _≤_};
+ghost use Prim.Native.Nat.{_*_};
 ghost use lib.ListN.{length};
 ghost use Rattle.combinatorics.specs.Lists.{all};
 ghost use Rattle.questions.specs.Questions.{firstNo};

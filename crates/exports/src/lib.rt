@@ -1,7 +1,6 @@
 // The calls for programs in C and Rust, under the names that the static library defines: the run and what rests on it,
 // and the calls that walk no path. Each only names a case of an enum by a number.
 ghost use mathlib.Core.Path.{_≡_};
-ghost use Prim.Native.Nat.{_≤_};
 ghost use lib.ListN.{length};
 ghost use Rattle.combinatorics.specs.Front.{front};
 ghost use Rattle.place.specs.Problem.{problemOf};

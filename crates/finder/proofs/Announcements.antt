@@ -1,7 +1,7 @@
 -- From where a walk finished to a run's answer: the start in its array is the start, and the points of the last state
 -- are the answer's. Assumes nothing.
 use mathlib.Core.Bool.{true}
-use mathlib.Core.List.{List, []}
+use mathlib.Core.List.{List}
 use mathlib.Core.Path.{_≡_, refl, sym, ap, _∙_, subst}
 use Prim.Native.Nat.{ℕ, suc, _-_, _*_, _≤_, _<_}
 use borrow.Author.Tests.{eqb-true}
@@ -25,12 +25,12 @@ use Rattle.place.specs.Demand.{Accepted}
 use Rattle.place.specs.Path.{answer}
 use Rattle.place.specs.Problem.{Problem}
 use Rattle.marks.specs.Reading.{problemFrom}
-use Rattle.finder.specs.Finish.{Announced, Finished, endOf, firstOf, problemIn}
+use Rattle.path_walk.specs.Finish.{Announced, Finished, endOf, firstOf, problemIn}
 use Rattle.finder.specs.Run.{caseOf, kindOf, numbersOf}
 use Rattle.finder.specs.declared.answers.Answer.the-variants.{End}
-use Rattle.finder.specs.declared.answers.Kind.{Kind}
-use Rattle.finder.specs.declared.answers.Kind.the-variants.{Place, Facet}
-use Rattle.finder.specs.declared.walk.Finish.{Finish}
+use Rattle.path_walk.specs.declared.Kind.{Kind}
+use Rattle.path_walk.specs.declared.Kind.the-variants.{Place, Facet}
+use Rattle.path_walk.specs.declared.Finish.{Finish}
 
 -- a grid point has m numbers
 pub point-long : (g : Grid) (y : Point) → isGridPoint g y ≡ true → length y ≡ numIndices g

@@ -21,7 +21,7 @@ use Rattle.finder.specs.Demand.{Demand3InOnePiece, FillingInOnePiece, Ru
 use Rattle.finder.specs.Run.{caseOf, numbersOf, refusal, runAnswer, runBuffer}
 use Rattle.finder.specs.declared.answers.Answer.{Answer}
 use Rattle.finder.specs.declared.answers.Answer.the-variants.{End, Spent, Unknown}
-use Rattle.finder.specs.declared.answers.Kind.{Kind}
+use Rattle.path_walk.specs.declared.Kind.{Kind}
 use Rattle.finder.proofs.Refusals.{accepted-with-room, answered, by-grid, by-later}
 
 -- an answer is told by its case

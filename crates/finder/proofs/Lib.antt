@@ -1,4 +1,3 @@
-pub mod Visits
 pub mod Announcements
 pub mod Refusals
 pub mod Demand

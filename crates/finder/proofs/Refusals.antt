@@ -1,6 +1,6 @@
 -- The refusals of a run: which of questions 1 to 8 is the first that is answered no, and what its answer and its buffer
 -- then are. Assumes nothing.
-use mathlib.Core.Bool.{true, false, _&&_}
+use mathlib.Core.Bool.{true, false}
 use mathlib.Core.List.{List, [], _∷_}
 use mathlib.Core.Path.{_≡_, refl, sym, ap, _∙_}
 use Prim.Native.Nat.{ℕ, suc, _+_, _-_, _*_, _≤_, _<_}
@@ -27,7 +27,7 @@ use Rattle.place.specs.Path.{answer}
 use Rattle.place.specs.Problem.{Problem, problemOf}
 use Rattle.place.specs.Questions.{question8, tableQuestions}
 use Rattle.marks.specs.Reading.{problemFrom}
-use Rattle.finder.specs.Finish.{laterQuestions}
+use Rattle.finder.specs.Asked.{laterQuestions}
 use Rattle.finder.specs.Run.{caseOf, numbersOf, refusal, runAnswer, runBuffer}
 use Rattle.finder.specs.declared.answers.Answer.the-variants.{Refused}
 

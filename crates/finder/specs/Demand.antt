@@ -17,7 +17,7 @@ use Rattle.place.specs.Problem.{Problem, withLabels}
 use Rattle.finder.specs.Run.{kindOf, refusal, runAnswer, runBuffer}
 use Rattle.finder.specs.declared.answers.Answer.{Answer}
 use Rattle.finder.specs.declared.answers.Answer.the-variants.{End, Spent, Unknown}
-use Rattle.finder.specs.declared.answers.Kind.{Kind}
+use Rattle.path_walk.specs.declared.Kind.{Kind}
 
 -- "the kind, block and complete simplex of the path's end, and the length as the count of simplices visited"; the block
 -- counts from 1. Request 10: with the labels read on the path

@@ -1,3 +1,3 @@
 pub mod Run
-pub mod Finish
+pub mod Asked
 pub mod Demand

@@ -13,8 +13,8 @@ use Rattle.place.specs.Problem.{Problem}
 use Rattle.place.specs.Questions.{runQuestions}
 use Rattle.finder.specs.declared.answers.Answer.{Answer}
 use Rattle.finder.specs.declared.answers.Answer.the-variants.{Refused, Spent, Unknown, End}
-use Rattle.finder.specs.declared.answers.Kind.{Kind}
-use Rattle.finder.specs.declared.answers.Kind.the-variants.{Place, Facet}
+use Rattle.path_walk.specs.declared.Kind.{Kind}
+use Rattle.path_walk.specs.declared.Kind.the-variants.{Place, Facet}
 
 abbrev pub kindOf : KindOfEnd → Kind
 kindOf placeEnd = Place

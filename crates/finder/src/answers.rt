@@ -9,22 +9,18 @@ ghost use Rattle.grid.specs.Made.{IsMade, shape};
 ghost use Rattle.place.specs.Path.{Answer as PathAnswer, answer as answerOf};
 ghost use Rattle.place.specs.Problem.{problemOf};
 ghost use Rattle.marks.specs.Reading.{problemFrom};
-ghost use Rattle.finder.specs.Finish.{CanRun, firstOf, laterQuestions};
+ghost use Rattle.finder.specs.Asked.{CanRun, laterQuestions};
+ghost use Rattle.path_walk.specs.Finish.{firstOf};
 ghost use Rattle.finder.specs.Run.{caseOf, numbersOf, runAnswer, runBuffer};
-use crate::walk::Finish;
-use crate::walk::walk;
 use arrays::block_sizes;
 use arrays::padded;
 use grid::Grid;
 use label_table::all_at_most;
+use path_walk::Finish;
+use path_walk::Kind;
+use path_walk::walk;
 use place_points::put_points;
 use positions::ENTRIES;
-
-// The kind of end: a complete place, or what remains of a place less one point.
-pub enum Kind {
-    Place,
-    Facet,
-}
 
 // What a run answers. The block counts from 1. The vertices, m numbers each, stand at the front of the answer buffer.
 pub enum Answer {

@@ -10,7 +10,7 @@ use lib.Seq.{take-set-lt}
 use native.Mathlib.Omega.{arith}
 use Rattle.arrays.specs.Rounds.{roundOf}
 use Rattle.combinatorics.proofs.Basics.{before-or-not}
-use Rattle.finder.specs.Finish.{IsKnown}
+use Rattle.path_walk.specs.Finish.{IsKnown}
 use Rattle.moves.specs.Held.{stateOf}
 use Rattle.moves.specs.declared.Status.{Status}
 use Rattle.place.specs.Problem.{Problem}

@@ -4,7 +4,7 @@ use mathlib.Core.List.{List}
 use mathlib.Core.Path.{_≡_}
 use Prim.Native.Nat.{ℕ, suc}
 use lib.ListN.{length, take}
-use Rattle.finder.specs.Finish.{IsKnown, IsUnknown}
+use Rattle.path_walk.specs.Finish.{IsKnown, IsUnknown}
 use Rattle.grid.specs.declared.Grid.{Grid as GridStruct}
 use Rattle.marks.specs.Reading.{CanRead, HasMarks}
 use Rattle.moves.specs.declared.Status.{Status}

@@ -1,11 +1,11 @@
 -- The reading of a mark: a label by its position in the table, the point by its steps, and its position by the other
 -- corners of a square. Assumes nothing.
-use mathlib.Core.Bool.{Bool, true, false, not, _&&_, _||_}
+use mathlib.Core.Bool.{true, not, _&&_, _||_}
 use mathlib.Core.List.{List, []}
 use mathlib.Core.Logic.{_⊎_, inl, inr, ⊎-elim}
-use mathlib.Core.Path.{_≡_, refl, sym, _∙_}
+use mathlib.Core.Path.{_≡_, refl, _∙_}
 use Prim.Native.Nat.{ℕ, suc, _+_, _-_, _≤_, _<_}
-use borrow.Author.Tests.{eqb-true, eqb-false, eq-eqb, ltb-true, leb-true, ne-eqb, not-true}
+use borrow.Author.Tests.{eqb-true, eqb-false, ltb-true, leb-true, ne-eqb, not-true}
 use lib.Dec.{eqb, ltb, leb}
 use lib.ListN.{length, replicate, take}
 use native.Mathlib.Omega.{arith}

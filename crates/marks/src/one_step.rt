@@ -6,7 +6,6 @@ ghost use Prim.Native.Nat.{ℕ, _+_, _≤_, _<_};
 ghost use lib.Dec.{ltb};
 ghost use lib.ListN.{take};
 ghost use Rattle.arrays.specs.Rounds.{roundBack};
-ghost use Rattle.grid.specs.Made.{shape};
 ghost use Rattle.moves.specs.Held.{heldButFirst};
 ghost use Rattle.rules.specs.Step.{State};
 ghost use Rattle.marks.specs.Reading.{Measured, HasOrder, CanFall, IsFound, CanWeigh, FallsBy};

@@ -1,5 +1,5 @@
 -- The state that lent arrays hold before a call and after it: what the contracts of this crate say. Assumes nothing.
-use mathlib.Core.List.{List, []}
+use mathlib.Core.List.{List}
 use mathlib.Core.Path.{_≡_}
 use Prim.Native.Nat.{ℕ, suc, _-_, _≤_, _<_}
 use lib.ListN.{take}

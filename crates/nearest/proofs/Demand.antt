@@ -16,7 +16,7 @@ use Rattle.place.specs.Demand.{Accepted}
 use Rattle.place.specs.Path.{answer, spent, unknown}
 use Rattle.place.specs.Problem.{Problem}
 use Rattle.finder.proofs.Refusals.{accepted-with-room, answered as run-answered, by-later}
-use Rattle.finder.specs.Finish.{laterQuestions}
+use Rattle.finder.specs.Asked.{laterQuestions}
 use Rattle.finder.specs.Run.{caseOf, numbersOf, runAnswer, runBuffer}
 use Rattle.visited.proofs.Distances.{distances}
 use Rattle.visited.proofs.Nearest.{grid-accepted, is-list, is-nearest}

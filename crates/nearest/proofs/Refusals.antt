@@ -20,10 +20,10 @@ use Rattle.place.specs.Path.{Answer as PathAnswer, answer, ended, spent, unknow
 use Rattle.place.specs.Places.{Simplex}
 use Rattle.place.specs.Problem.{Problem}
 use Rattle.place.specs.Questions.{question6, question7, question8}
-use Rattle.finder.specs.Finish.{laterQuestions}
+use Rattle.finder.specs.Asked.{laterQuestions}
 use Rattle.finder.specs.Run.{caseOf, numbersOf}
 use Rattle.finder.specs.declared.answers.Answer.the-variants.{End, Refused, Unknown}
-use Rattle.finder.specs.declared.answers.Kind.{Kind}
+use Rattle.path_walk.specs.declared.Kind.{Kind}
 use Rattle.visited.proofs.Nearest.{is-list}
 use Rattle.visited.specs.Questions.{pointQuestions, question8List}
 use Rattle.nearest.specs.Report.{answerBuffer, listBuffer, listedIn, nearRefusal, nearestIn, reportOf}

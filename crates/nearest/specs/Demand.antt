@@ -9,7 +9,7 @@ use Rattle.place.specs.Path.{pathLength}
 use Rattle.place.specs.Problem.{Problem}
 use Rattle.finder.specs.Run.{runAnswer, runBuffer}
 use Rattle.finder.specs.declared.answers.Answer.the-variants.{End, Unknown}
-use Rattle.finder.specs.declared.answers.Kind.{Kind}
+use Rattle.path_walk.specs.declared.Kind.{Kind}
 use Rattle.visited.specs.Demand.{Distances, IsList, IsNearest, Visits}
 use Rattle.visited.specs.Nearest.{nearest, positionsWithin}
 use Rattle.nearest.specs.Report.{answerBuffer, listBuffer, nearRefusal, reportOf}

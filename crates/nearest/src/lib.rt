@@ -4,7 +4,7 @@ ghost use mathlib.Core.Path.{_≡_};
 ghost use Prim.Native.Nat.{_≤_};
 ghost use lib.ListN.{length, take};
 ghost use Rattle.combinatorics.specs.Front.{front};
-ghost use Rattle.finder.specs.Finish.{CanRun};
+ghost use Rattle.finder.specs.Asked.{CanRun};
 ghost use Rattle.finder.specs.Run.{numbersOf};
 ghost use Rattle.grid.specs.Grid.{isGridPoint, numPoints};
 ghost use Rattle.questions.specs.Questions.{firstNo};
@@ -18,10 +18,10 @@ use arrays::block_sizes;
 use arrays::padded;
 use distances::weights;
 use finder::Answer;
-use finder::Finish;
 use finder::block_number;
 use finder::first_vertex;
 use grid::Grid;
+use path_walk::Finish;
 use place_points::put_points;
 use positions::ENTRIES;
 use survey::pass;
@@ -75,9 +75,11 @@ fn announced(
     requires { λ p. ⌜ answerOf (problemFrom g (now start) (now labels)) budget ≡ p ⌝ }
     requires { λ _. ⌜ CanRun g (now binomials) (now start) (now labels) (now answer) ⌝ }
     requires { λ _. ⌜ (isGridPoint (shape g) (now w) ≡ true) × (numPoints (shape g) ≤ length (now found)) ⌝ }
-    ensures { λ p r. ⌜ r ≡ reported (problemFrom g (now (start .entry)) (now (labels .entry))) (now (w .entry)) given p ⌝ }
+    ensures { λ p r. ⌜ r
+        ≡ reported (problemFrom g (now (start .entry)) (now (labels .entry))) (now (w .entry)) given p ⌝ }
     ensures { λ p _. ⌜ now (answer .exit) ≡ front (numbersOf p) (now (answer .entry)) ⌝ }
-    ensures { λ p _. let l = listedIn (problemFrom g (now (start .entry)) (now (labels .entry))) (now (w .entry)) given p in
+    ensures { λ p _.
+        let l = listedIn (problemFrom g (now (start .entry)) (now (labels .entry))) (now (w .entry)) given p in
         ⌜ take (length l) (now (found .exit)) ≡ l ⌝ }
 {
     let m = g.indices;

@@ -33,9 +33,9 @@ use Rattle.place.proofs.Start.{start-place}
 use Rattle.place.proofs.ChainEnds.{complete-to, complete-of, complete-below, facet-end, end-below, end-complete}
 use Rattle.place.proofs.ChainEnds.{end-labels}
 use Rattle.place.proofs.Ways.{IsWay, byPlace, byFacet, byLink, exactly-one, exactly-two}
-use Rattle.place.specs.Demand.{Accepted, Settled, TwoWays, NoGap, Demand3, IsPath, Follows, placeAt, lastPlace}
+use Rattle.place.specs.Demand.{Accepted, Settled, TwoWays, NoGap, Demand3, IsPath, Follows, placeAt}
 use Rattle.place.specs.Demand.{leftAt}
-use Rattle.place.specs.Ends.{Kind, placeEnd, facetEnd, End, Way, stop, link, ways, facets, ends}
+use Rattle.place.specs.Ends.{Kind, placeEnd, facetEnd, End, Way, stop, link, ways, facets}
 use Rattle.place.specs.Links.{linked}
 use Rattle.place.specs.Path.{sameSimplex, path, pathLength}
 use Rattle.place.specs.Places.{Simplex, isPlace, order, allLabelled}

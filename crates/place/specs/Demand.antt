@@ -11,7 +11,7 @@ use lib.ListN.{length, getD}
 use Rattle.combinatorics.specs.Lists.{all, isIn, rising}
 use Rattle.grid.specs.Grid.{Point, numBlocks, numIndices, numPoints, position, isGridPoint, samePoint, bound}
 use Rattle.place.specs.Coefficients.{coefficientSum}
-use Rattle.place.specs.Ends.{End, link, isComplete, ends, ways}
+use Rattle.place.specs.Ends.{End, isComplete, ends, ways}
 use Rattle.place.specs.Links.{linked, links}
 use Rattle.place.specs.LabelsRead.{labelsRead}
 use Rattle.place.specs.Path.{waysOn, path, pathLength, spent, unknown, answer, announcement}

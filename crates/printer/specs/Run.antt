@@ -9,8 +9,8 @@ use Rattle.combinatorics.specs.Front.{front}
 use Rattle.finder.specs.Run.{refusal}
 use Rattle.finder.specs.declared.answers.Answer.{Answer}
 use Rattle.finder.specs.declared.answers.Answer.the-variants.{Refused, Spent, Unknown, End}
-use Rattle.finder.specs.declared.answers.Kind.{Kind}
-use Rattle.finder.specs.declared.answers.Kind.the-variants.{Place, Facet}
+use Rattle.path_walk.specs.declared.Kind.{Kind}
+use Rattle.path_walk.specs.declared.Kind.the-variants.{Place, Facet}
 use Rattle.losses.specs.Game.{labels}
 use Rattle.grid.specs.Grid.{Grid, numIndices, bound}
 use Rattle.grid.specs.Made.{IsMade, shape}

@@ -14,12 +14,12 @@ use slip::Reading;
 use slip::Table;
 
 // The kind of end, as the sheet names it.
-fn on_sheet(kind: finder::Kind) -> sheet::Kind
+fn on_sheet(kind: path_walk::Kind) -> sheet::Kind
     ensures { λ r. ⌜ r ≡ onSheet kind ⌝ }
 {
     match kind {
-        finder::Kind::Place => sheet::Kind::Place,
-        finder::Kind::Facet => sheet::Kind::Facet,
+        path_walk::Kind::Place => sheet::Kind::Place,
+        path_walk::Kind::Facet => sheet::Kind::Facet,
     }
 }
 

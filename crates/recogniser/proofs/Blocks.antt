@@ -1,5 +1,5 @@
 -- The blocks that have an index in neither of two masks, met in order. Assumes nothing.
-use mathlib.Core.Bool.{Bool, true, false, not, _&&_, cond}
+use mathlib.Core.Bool.{true, false, not, _&&_, cond}
 use mathlib.Core.List.{List, [], _∷_}
 use mathlib.Core.Logic.{⊎-elim}
 use mathlib.Core.Path.{_≡_, refl, sym, ap, _∙_}
@@ -11,13 +11,13 @@ use native.Mathlib.Numerals.{add-one}
 use native.Mathlib.Omega.{arith}
 use Rattle.combinatorics.proofs.Basics.{absurd-bool, and-left, and-right, not-is, same-or}
 use Rattle.combinatorics.specs.Lists.{sum}
-use Rattle.grid.proofs.Fields.{made-accepted, made-blocks, made-indices, made-block}
+use Rattle.grid.proofs.Fields.{made-blocks, made-indices}
 use Rattle.grid.proofs.Round.{block-spans}
 use Rattle.grid.specs.Grid.{at, blockOf}
 use Rattle.grid.specs.Made.{IsMade, shape}
 use Rattle.grid.specs.declared.Grid.{Grid as GridStruct}
 use Rattle.rules.specs.Mask.{bit}
-use Rattle.recogniser.specs.Pieces.{inNeither, FreeIn, NotFree, filled, AllFree, IsFree}
+use Rattle.recogniser.specs.Pieces.{inNeither, FreeIn, filled, IsFree}
 
 pub neither : (t u h : ℕ) → (not (bit t h) && not (bit u h)) ≡ true → inNeither t u h
 neither t u h e = (

@@ -1,6 +1,6 @@
 -- The points of a first point and an order by counts of steps, from 16 on. In order: a point with counts; a step keeps
 -- to the grid; one point after another. Assumes nothing.
-use mathlib.Core.Bool.{Bool, true, false, _&&_, cond}
+use mathlib.Core.Bool.{true, false, _&&_}
 use mathlib.Core.List.{List, [], _∷_, map}
 use mathlib.Core.Logic.{_⊎_, ⊎-elim, inl, inr}
 use mathlib.Core.Path.{_≡_, refl, sym, ap, _∙_}
@@ -11,7 +11,7 @@ use lib.ListN.{length, take, drop, getD, set, replicate, length-map, length-set,
 use lib.Seq.{drop-cons, ext-getD, getD-take, getD-set-same, getD-set-other}
 use native.Mathlib.Numerals.{add-one}
 use native.Mathlib.Omega.{arith}
-use Rattle.combinatorics.proofs.Basics.{absurd-bool, and-both, and-left, and-right, before-or-not, same-or}
+use Rattle.combinatorics.proofs.Basics.{absurd-bool, and-both, and-right, before-or-not, same-or}
 use Rattle.combinatorics.proofs.Lists.{all-in, in-all, onNumbers}
 use Rattle.combinatorics.proofs.Ranges.{length-upFrom, upFrom-in}
 use Rattle.combinatorics.proofs.Turns.{map-at}
@@ -23,7 +23,7 @@ use Rattle.grid.specs.Grid.{Grid, Point, MovedBy, at, blockOf, blocks, division
 use Rattle.grid.specs.Grid.{numBlocks, numIndices, numPoints, points as gridPoints, position, size}
 use Rattle.grid.specs.Made.{IsMade, shape}
 use Rattle.grid.specs.declared.Grid.{Grid as GridStruct}
-use Rattle.place.specs.Places.{Simplex, firstBackOutside, unit}
+use Rattle.place.specs.Places.{Simplex, firstBackOutside}
 use Rattle.positions.proofs.ByTails.{hits, hits-in, hits-out, tail-moved}
 use Rattle.positions.specs.Steps.{afterSteps}
 use Rattle.geometry.proofs.Definitions.{one-at}

@@ -2,24 +2,22 @@
 -- where one fails they are not. In order: a failure; the masks; the sources of the steps; all passed. Assumes nothing.
 use mathlib.Core.Bool.{Bool, true, false, not, _&&_}
 use mathlib.Core.List.{List, []}
-use mathlib.Core.Logic.{⊎-elim}
 use mathlib.Core.Path.{_≡_, refl, sym, ap, _∙_}
-use Prim.Native.Nat.{ℕ, suc, _+_, _-_, _≤_, _<_}
+use Prim.Native.Nat.{ℕ, _+_, _-_, _≤_, _<_}
 use borrow.Author.Tests.{eqb-true, eq-eqb, ltb-true, lt-ltb}
-use lib.Dec.{eqb, leb, ltb}
-use lib.ListN.{length, take, getD, length-take}
+use lib.Dec.{eqb, ltb}
+use lib.ListN.{length, take, length-take}
 use lib.Seq.{getD-take}
 use native.Mathlib.Omega.{arith}
 use Rattle.combinatorics.proofs.Basics.{absurd-bool, and-both, and-left, and-right, both, false-of, not-is}
-use Rattle.combinatorics.proofs.Basics.{true-or-false}
 use Rattle.combinatorics.proofs.Lists.{all-in, in-all, onNumbers}
 use Rattle.combinatorics.proofs.Ranges.{in-upFrom, upFrom-in}
-use Rattle.combinatorics.specs.Lists.{all, isIn}
+use Rattle.combinatorics.specs.Lists.{isIn}
 use Rattle.geometry.proofs.Definitions.{back}
 use Rattle.geometry.proofs.Search.{block-back}
-use Rattle.grid.proofs.Fields.{made-accepted, made-block, made-blocks, made-indices, made-next}
+use Rattle.grid.proofs.Fields.{made-accepted, made-blocks, made-indices, made-next}
 use Rattle.grid.proofs.Round.{block-at, block-fits, block-spans}
-use Rattle.grid.specs.Grid.{Point, at, blockOf, firstIndex, indicesOf, isGridPoint, numBlocks, numIndices, size}
+use Rattle.grid.specs.Grid.{Point, at, blockOf, firstIndex, isGridPoint, numIndices, size}
 use Rattle.grid.specs.Made.{IsMade, shape}
 use Rattle.grid.specs.declared.Grid.{Grid as GridStruct}
 use Rattle.place.proofs.BlocksOfGrid.{back-below, before-same, blocksOf, outside-before}
@@ -34,13 +32,13 @@ use Rattle.rules.specs.Mask.{bit}
 use Rattle.rules.specs.Ready.{IsRound}
 use Rattle.rules.specs.Step.{Round, firstOutside}
 use Rattle.trail.proofs.Tables.{table, table-full}
-use Rattle.walks.proofs.KeptPlace.{Conditions, conditions-of, is-zero, zero-is}
+use Rattle.walks.proofs.KeptPlace.{conditions-of, is-zero, zero-is}
 use Rattle.walks.proofs.Recognised.{of-conditions}
 use Rattle.walks.specs.Kept.{canStep, isKept, zeroOutside}
 use Rattle.recogniser.proofs.Following.{settled-on}
 use Rattle.recogniser.specs.Kept.{CanRecognise, Recognised, Seen}
-use Rattle.recogniser.specs.Pieces.{AllFree, AreSets, CanMark, FreeIn, Marked, NoSets, NotFree, bareMark, beyond}
-use Rattle.recogniser.specs.Pieces.{filled, inNeither, positive, startedOn, twice, zeroOn}
+use Rattle.recogniser.specs.Pieces.{AllFree, AreSets, CanMark, Marked, NoSets, NotFree, bareMark, beyond}
+use Rattle.recogniser.specs.Pieces.{filled, inNeither, positive, startedOn, twice}
 use Rattle.recogniser.specs.declared.Sets.{Sets}
 
 pub is-not : (b : Bool) → not b ≡ false → b ≡ true

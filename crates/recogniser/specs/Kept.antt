@@ -4,7 +4,7 @@ use mathlib.Core.List.{List, []}
 use mathlib.Core.Path.{_≡_}
 use Prim.Native.Nat.{ℕ, _≤_, _<_}
 use lib.Dec.{eqb}
-use lib.ListN.{length, take, getD}
+use lib.ListN.{length, getD}
 use Rattle.combinatorics.specs.Lists.{isIn}
 use Rattle.grid.specs.Grid.{Point, at, blockOf, isGridPoint, numIndices, previous as indexBefore, size}
 use Rattle.grid.specs.Made.{shape}

@@ -1,11 +1,11 @@
 -- What the functions of the recogniser ask and give, on lists. Assumes nothing.
 use mathlib.Core.Bool.{Bool, true, false, not, _&&_, cond}
-use mathlib.Core.List.{List, [], _∷_}
+use mathlib.Core.List.{List, []}
 use mathlib.Core.Path.{_≡_}
 use Prim.Native.Nat.{ℕ, suc, _+_, _≤_, _<_}
 use lib.Dec.{eqb}
 use lib.ListN.{length, take, getD}
-use Rattle.grid.specs.Grid.{Grid, Point, at, blockOf, isGridPoint, numBlocks, numIndices, position}
+use Rattle.grid.specs.Grid.{Grid, Point, at, blockOf, isGridPoint, position}
 use Rattle.grid.specs.Made.{IsMade, shape}
 use Rattle.grid.specs.declared.Grid.{Grid as GridStruct}
 use Rattle.place.specs.Places.{firstBackOutside}

@@ -3,8 +3,7 @@
 // asks.
 ghost use mathlib.Core.Bool.{false};
 ghost use mathlib.Core.Path.{_≡_};
-ghost use Prim.Native.Nat.{_≤_};
-ghost use lib.ListN.{length, take};
+ghost use lib.ListN.{take};
 ghost use Rattle.grid.specs.Made.{shape};
 ghost use Rattle.recogniser.specs.Kept.{CanRecognise, Recognised};
 ghost use Rattle.recogniser.specs.Pieces.{bareMark, startedOn};

@@ -1,8 +1,5 @@
 // The points of a first point and an order, their positions, and their labels, which are read in one function.
-ghost use mathlib.Core.Path.{_≡_};
-ghost use Prim.Native.Nat.{ℕ, _≤_, _<_};
-ghost use Rattle.positions.specs.Steps.{afterSteps};
-ghost use Rattle.grid.specs.Made.{shape};
+ghost use Prim.Native.Nat.{_<_};
 ghost use Rattle.rules.specs.Ready.{IndicesBelow};
 ghost use Rattle.rules.specs.Step.{firstOutside};
 ghost use Rattle.recogniser.specs.Pieces.{CanMark, CanRead, IsMark, LabelsPut, Located, Marked, OnGrid};

@@ -9,7 +9,7 @@ use lib.ListN.{length}
 use native.Mathlib.Omega.{arith}
 use Rattle.combinatorics.specs.Front.{front}
 use Rattle.finder.proofs.answers.Answer.{the-type}
-use Rattle.finder.specs.Finish.{CanRun as CanAnnounce}
+use Rattle.finder.specs.Asked.{CanRun as CanAnnounce}
 use Rattle.finder.specs.Run.{caseOf, numbersOf}
 use Rattle.finder.specs.declared.answers.Answer.{Answer}
 use Rattle.finder.specs.declared.answers.Answer.the-variants.{Refused, Spent, Unknown, End}

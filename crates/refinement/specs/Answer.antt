@@ -8,7 +8,7 @@ use Rattle.combinatorics.specs.Lists.{upFrom}
 use Rattle.finder.specs.Run.{caseOf}
 use Rattle.finder.specs.declared.answers.Answer.{Answer}
 use Rattle.finder.specs.declared.answers.Answer.the-variants.{Refused as RunRefused, Spent, Unknown, End}
-use Rattle.finder.specs.declared.answers.Kind.the-variants.{Place}
+use Rattle.path_walk.specs.declared.Kind.the-variants.{Place}
 use Rattle.grid.specs.Grid.{Grid, Point}
 use Rattle.levels.specs.Buffers.{numbersAfter}
 use Rattle.levels.specs.Levels.{Refinement, levelEnd}

@@ -1,11 +1,10 @@
 -- The label of a point, outside T, joins T: the place is an end, or the state that `grow` makes describes the larger
 -- place. Assumes nothing.
-use mathlib.Core.Bool.{Bool, true, false, not, _&&_}
+use mathlib.Core.Bool.{Bool, true, false, not}
 use mathlib.Core.List.{List}
 use mathlib.Core.Logic.{_⊎_, inl, inr, ⊎-elim}
 use mathlib.Core.Path.{_≡_, refl, sym, ap, _∙_}
 use Prim.Native.Nat.{ℕ, suc, _-_, _≤_, _<_}
-use lib.Dec.{eqb}
 use borrow.Author.Tests.{eq-eqb, ne-eqb, not-true, not-false}
 use lib.ListN.{length}
 use native.Mathlib.Omega.{arith}
@@ -17,7 +16,6 @@ use Rattle.combinatorics.specs.Edits.{insertAt, found}
 use Rattle.geometry.proofs.Bridge.{zeros-yes, zeros-out}
 use Rattle.geometry.proofs.Definitions.{Blocks, back, coord, Chain, Free, Less, Extra, plus, insert, raise, tightOf}
 use Rattle.geometry.proofs.Definitions.{zeros}
-use Rattle.geometry.proofs.Graph.{Above}
 use Rattle.geometry.proofs.Grow.{plus-is, insert-is, insert-here, zero-stays, grow-at, grow as larger}
 use Rattle.geometry.proofs.Joins.{room, room-in-U, rises-with, stays-with}
 use Rattle.geometry.proofs.LabelledChains.{listAt, tabulate, PlaceEnd}
@@ -31,7 +29,7 @@ use Rattle.place.specs.Problem.{Problem}
 use Rattle.rules.specs.Mask.{bit, withIndex, withoutIndex}
 use Rattle.rules.specs.Ready.{IsRound, ReadyGrow}
 use Rattle.rules.specs.Step.{State, goes, endsAtPlace, firstOutside, isFilled, joined, grow}
-use Rattle.rules.proofs.Describes.{Describes, markAt, AllMarks, labelsOf, through, Reached, Joined, placeEnds}
+use Rattle.rules.proofs.Describes.{Describes, markAt, AllMarks, labelsOf, through, Joined, placeEnds}
 use Rattle.rules.proofs.Describes.{joinedOn, Grows}
 use Rattle.rules.proofs.Masks.{bit-with, bit-without}
 use Rattle.rules.proofs.Range.{few, label-below}

@@ -3,8 +3,8 @@ use mathlib.Core.List.{List, [], _∷_}
 use Prim.Native.Nat.{ℕ}
 use Rattle.finder.specs.declared.answers.Answer.{Answer}
 use Rattle.finder.specs.declared.answers.Answer.the-variants.{Refused, Spent, Unknown, End}
-use Rattle.finder.specs.declared.answers.Kind.{Kind}
-use Rattle.finder.specs.declared.answers.Kind.the-variants.{Place, Facet}
+use Rattle.path_walk.specs.declared.Kind.{Kind}
+use Rattle.path_walk.specs.declared.Kind.the-variants.{Place, Facet}
 
 abbrev pub kindNumber : Kind → ℕ
 kindNumber Place = 0

@@ -5,7 +5,7 @@ ghost use lib.ListN.{length};
 ghost use Rattle.combinatorics.specs.Front.{front};
 ghost use Rattle.run_facts.specs.Numbers.{kindNumber, runFacts, runNumber};
 use finder::Answer;
-use finder::Kind;
+use path_walk::Kind;
 
 // The kind of end.
 pub fn kind_number(kind: Kind) -> u64

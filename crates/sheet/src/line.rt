@@ -5,7 +5,6 @@ use text::byte;
 use text::decimal;
 use text::spaced;
 use text::wide;
-ghost use mathlib.Core.Path.{_≡_};
 ghost use mathlib.Core.List.{flatMap};
 ghost use Prim.Native.Nat.{_+_, _*_, _≤_, _<_};
 ghost use lib.ListN.{length};

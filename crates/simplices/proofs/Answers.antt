@@ -1,16 +1,16 @@
 -- The answer to a sheet. In order: the test by coefficient lists gives it; every part of a place passes the test; the
 -- answer does not depend on the order of the points; each end of a run gets yes, with its block. Assumes nothing.
-use mathlib.Core.Bool.{Bool, true, false, not, _&&_, cond}
+use mathlib.Core.Bool.{Bool, true, false, _&&_, cond}
 use mathlib.Core.List.{List, [], _∷_}
 use mathlib.Core.Logic.{inl, inr, ⊎-elim}
 use mathlib.Core.Option.{none, some}
-use mathlib.Core.Path.{_≡_, refl, sym, ap, _∙_}
+use mathlib.Core.Path.{_≡_, sym, ap, _∙_}
 use Prim.Native.Nat.{ℕ, zero, suc, pred, _≤_, _<_}
 use borrow.Author.Tests.{ltb-true}
 use lib.Dec.{eqb, ltb}
 use lib.ListN.{length}
 use native.Mathlib.Omega.{arith}
-use Rattle.combinatorics.proofs.Basics.{absurd-bool, true-or-false, both, and-both, and-left, and-right, not-is}
+use Rattle.combinatorics.proofs.Basics.{absurd-bool, true-or-false, both, and-both, and-left, and-right}
 use Rattle.combinatorics.proofs.Basics.{false-of}
 use Rattle.combinatorics.proofs.Lists.{in-here, in-later, in-cases, in-filter, filter-in, filter-cong}
 use Rattle.combinatorics.proofs.Lists.{distinct-out, distinct-tail, distinct-within, onNumbers}

@@ -1,9 +1,9 @@
 -- An end of a place is complete for one block alone, whatever labels other points of the table have, or none. In order:
 -- the labels of a place outside its T are at most one; an index outside T whose coordinate vanishes with one point is
 -- the one from which the first step takes; ends. Assumes nothing.
-use mathlib.Core.Bool.{Bool, true, false}
+use mathlib.Core.Bool.{true, false}
 use mathlib.Core.List.{List, [], _∷_, map}
-use mathlib.Core.Logic.{inl, inr, ⊎-elim}
+use mathlib.Core.Logic.{⊎-elim}
 use mathlib.Core.Path.{_≡_, refl, sym, ap, _∙_}
 use Prim.Native.Nat.{ℕ, zero, suc, pred, _+_, _-_, _≤_, _<_}
 use borrow.Author.Tests.{ltb-true, ne-eqb, eqb-true}
@@ -15,7 +15,7 @@ use Rattle.combinatorics.proofs.EditsRemove.{length-removeAt, removeAt-before, 
 use Rattle.combinatorics.proofs.Lists.{in-cases, in-map, pigeon, onNumbers, all-in}
 use Rattle.combinatorics.proofs.Ranges.{upFrom-in}
 use Rattle.combinatorics.specs.Edits.{removeAt}
-use Rattle.combinatorics.specs.Lists.{isIn, distinct, all}
+use Rattle.combinatorics.specs.Lists.{isIn, distinct}
 use Rattle.geometry.proofs.Points.{nth}
 use Rattle.grid.proofs.Points.{onPoints}
 use Rattle.grid.proofs.Round.{block-fits}
@@ -29,8 +29,7 @@ use Rattle.place.proofs.Positions.{at-in, in-at, each-at}
 use Rattle.place.proofs.ToChain.{place-long}
 use Rattle.place.proofs.Ways.{IsWay, byPlace, byFacet}
 use Rattle.place.specs.Demand.{Settled}
-use Rattle.place.specs.Ends.{End, stop, isComplete, facets}
-use Rattle.place.specs.Path.{sameSimplex}
+use Rattle.place.specs.Ends.{End, stop, isComplete}
 use Rattle.place.specs.Places.{Simplex, isPlace, setU, setT, labelSet, order, firstBackOutside, unit}
 use Rattle.place.specs.Problem.{Problem, label}
 

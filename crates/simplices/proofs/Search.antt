@@ -2,16 +2,16 @@
 -- points. In order: the points of a simplex follow from the first and the order; the search; the length of an order.
 -- Assumes nothing.
 use mathlib.Core.Bool.{Bool, true, not, _&&_}
-use mathlib.Core.List.{List, [], _∷_, map}
-use mathlib.Core.Logic.{_↔_, ⊎-elim}
+use mathlib.Core.List.{List, [], _∷_}
+use mathlib.Core.Logic.{_↔_}
 use mathlib.Core.Path.{_≡_, refl, sym, ap, _∙_}
-use Prim.Native.Nat.{ℕ, zero, suc, _+_, _-_, _≤_, _<_}
+use Prim.Native.Nat.{ℕ, suc, _+_, _-_, _≤_, _<_}
 use borrow.Author.Tests.{eqb-true}
 use lib.Dec.{eqb}
 use lib.ListN.{length, getD, take, length-map, length-append}
 use lib.Seq.{ext-getD}
 use native.Mathlib.Omega.{arith}
-use Rattle.combinatorics.proofs.Basics.{absurd-bool, and-both, and-left, and-right, true-or-false}
+use Rattle.combinatorics.proofs.Basics.{absurd-bool, and-both, and-left, and-right}
 use Rattle.combinatorics.proofs.Lists.{all-in, any-in, in-any, in-filter, filter-in, filter-append, length-passing}
 use Rattle.combinatorics.proofs.Lists.{pigeon, distinct-filter, onNumbers}
 use Rattle.combinatorics.proofs.Ranges.{length-upFrom, upFrom-add, distinct-upFrom, in-upFrom}

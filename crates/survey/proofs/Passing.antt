@@ -1,5 +1,5 @@
--- One place of the walk: the point that has come in is the only one that may be new, and so what is kept of the vertices
--- up to a place becomes what is kept of those up to the next. Assumes nothing.
+-- One place of the walk: the point that has come in is the only one that may be new, and so what is kept of the
+-- vertices up to a place becomes what is kept of those up to the next. Assumes nothing.
 use mathlib.Core.Bool.{Bool, true, false, cond}
 use mathlib.Core.List.{List, [], _∷_, _++_, append-nil}
 use mathlib.Core.Logic.{⊎-elim}
@@ -33,19 +33,19 @@ use Rattle.rules.specs.Read.{CanCompute, pointIn, pointsFrom, positionAt, read}
 use Rattle.rules.specs.Ready.{SixteenEach}
 use Rattle.rules.specs.Step.{State, endsAtFacet, endsAtPlace, markPosition, withMark}
 use Rattle.marks.specs.Reading.{tableOf}
-use Rattle.finder.proofs.Visits.{HasRead, OnPath}
-use Rattle.finder.specs.Finish.{IsKnown, problemIn}
+use Rattle.path_walk.proofs.Visits.{HasRead, OnPath}
+use Rattle.path_walk.specs.Finish.{IsKnown, problemIn}
 use Rattle.visited.proofs.Firsts.{firsts-distinct, firsts-in, in-firsts, none-more, one-more}
 use Rattle.visited.proofs.Nearest.{grid-accepted, some-visited}
 use Rattle.visited.proofs.Visits.{in-before, next-place, place-in}
 use Rattle.visited.specs.Distance.{distance}
 use Rattle.visited.specs.Nearest.{nearest, positionsWithin, verticesWithin}
 use Rattle.visited.specs.Visited.{pointsOfPlaces, verticesOf, visitedVertices}
-use Rattle.survey.specs.Survey.{HasRoom, Kept, comeBy, comeIn, listAfter, pointCome, seenAfter, tallyAfter}
-use Rattle.survey.specs.declared.Came.{Came}
-use Rattle.survey.specs.declared.Came.the-variants.{At, Nothing}
-use Rattle.survey.specs.declared.Tally.{Tally}
-use Rattle.survey.proofs.Keeping.{kept-more, low, room-for, seen-new, seen-old}
+use Rattle.vertices_met.specs.Meeting.{HasRoom, Kept, comeBy, comeIn, listAfter, pointCome, seenAfter, tallyAfter}
+use Rattle.vertices_met.specs.declared.Came.{Came}
+use Rattle.vertices_met.specs.declared.Came.the-variants.{At, Nothing}
+use Rattle.vertices_met.specs.declared.Tally.{Tally}
+use Rattle.vertices_met.proofs.Keeping.{kept-more, low, room-for, seen-new, seen-old}
 
 pub list-long : (given : ℕ) (t : Tally) (away : ℕ) (seen list : List ℕ) (came : Came)
     → length (listAfter given t away seen list came) ≡ length list

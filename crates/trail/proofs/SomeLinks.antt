@@ -13,7 +13,7 @@ use native.Mathlib.Omega.{arith}
 use Rattle.combinatorics.proofs.Basics.{absurd-bool, true-or-false, same-or, and-both, or-left, or-right, both}
 use Rattle.combinatorics.proofs.Lists.{in-here, in-cases, in-all, in-filter, filter-cong, same-self, eqb-self}
 use Rattle.combinatorics.proofs.Lists.{onNumbers}
-use Rattle.combinatorics.specs.Lists.{all, isIn, same}
+use Rattle.combinatorics.specs.Lists.{all, isIn}
 use Rattle.geometry.proofs.Definitions.{Less}
 use Rattle.geometry.proofs.Points.{nth}
 use Rattle.grid.proofs.Points.{onPoints}

@@ -1,7 +1,7 @@
 -- The two moves of a state that holds an unlabelled place: a point leaves, or an index joins T. Each gives the only
 -- place that a record could lead to, or there is none. Assumes nothing.
 use mathlib.Core.Bool.{Bool, true, false}
-use mathlib.Core.List.{List, [], _∷_, map}
+use mathlib.Core.List.{List, [], _∷_}
 use mathlib.Core.Logic.{⊎-elim}
 use mathlib.Core.Path.{_≡_, refl, sym, ap, _∙_, subst}
 use Prim.Native.Nat.{ℕ, zero, suc, _≤_, _<_}
@@ -18,7 +18,7 @@ use Rattle.geometry.proofs.Graph.{Above, Through}
 use Rattle.geometry.proofs.LabelledChains.{FacetEnd, PlaceEnd, listAt}
 use Rattle.geometry.proofs.Points.{nth}
 use Rattle.grid.proofs.Points.{onPoints}
-use Rattle.grid.specs.Grid.{Point, numIndices, position, samePoint}
+use Rattle.grid.specs.Grid.{numIndices, position, samePoint}
 use Rattle.place.proofs.BlocksOfGrid.{blocksOf, coefficientOf, pointOf}
 use Rattle.place.proofs.ChainEnds.{complete-below, complete-of, end-below, end-complete, end-labels}
 use Rattle.place.proofs.Filled.{full-place}
@@ -37,7 +37,7 @@ use Rattle.rules.proofs.Leaves.{leave-ready, leaves}
 use Rattle.rules.proofs.Range.{nth-pointsOf}
 use Rattle.rules.specs.Ready.{ReadyGrow, ReadyLeave}
 use Rattle.rules.specs.Step.{After, State, endsAtFacet, endsAtPlace, goes, grow, leave}
-use Rattle.trail.proofs.OneNext.{into-none, into-tells, not-there, out-none, out-tells, over-out}
+use Rattle.trail.proofs.OneNext.{into-none, not-there, out-none, over-out}
 use Rattle.trail.proofs.Outside.{in-outside, outside-in, outside-none}
 use Rattle.trail.proofs.Reading.{T-alike}
 use Rattle.trail.proofs.Shapes.{not-empty}
@@ -49,7 +49,7 @@ use Rattle.trail_places.proofs.Reached.{Arrives, arrives, bare-state}
 use Rattle.trail_places.specs.Shows.{Shows}
 use Rattle.trail_places.proofs.Shows.{all-marked, carries, chain-over, describes, here-label, labelled, shows-at}
 use Rattle.trail_places.proofs.Shows.{shows-long}
-use Rattle.trail_places.proofs.Stripped.{Likewise, LikewiseAfter, grow-like, leave-like, stripped}
+use Rattle.trail_places.proofs.Stripped.{LikewiseAfter, grow-like, leave-like}
 
 -- a move by which point i leaves
 abbrev pub TakesOut : Problem → Simplex → ℕ → Simplex → Type 0

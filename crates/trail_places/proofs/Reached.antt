@@ -12,27 +12,25 @@ use lib.ListN.{length, length-map, length-set, set}
 use lib.Seq.{ext-getD, getD-set-other, getD-set-same}
 use native.Mathlib.Omega.{arith}
 use Rattle.combinatorics.proofs.Basics.{absurd-bool, before-or-not, false-of, same-or, true-or-false}
-use Rattle.combinatorics.proofs.Lists.{in-here}
 use Rattle.combinatorics.specs.Lists.{isIn}
-use Rattle.geometry.proofs.Graph.{Through}
-use Rattle.geometry.proofs.LabelledChains.{LabelledChain, listAt}
+use Rattle.geometry.proofs.LabelledChains.{listAt}
 use Rattle.geometry.proofs.Points.{nth}
 use Rattle.grid.proofs.Points.{onPoints}
 use Rattle.grid.specs.Grid.{Point, at, isGridPoint, numBlocks, numIndices, position, samePoint}
-use Rattle.place.proofs.BlocksOfGrid.{blocksOf, coefficientOf, pointOf}
+use Rattle.place.proofs.BlocksOfGrid.{coefficientOf, pointOf}
 use Rattle.place.proofs.ChainLinks.{of-link}
-use Rattle.place.proofs.Filled.{FullyLabelled, full-place}
+use Rattle.place.proofs.Filled.{full-place}
 use Rattle.place.proofs.FromChain.{T-is, back-again, coefficient-at, place-of}
 use Rattle.place.proofs.LinkSymmetry.{unlabelled-of}
 use Rattle.place.proofs.Positions.{at-in, in-at}
 use Rattle.place.proofs.ToChain.{index-is, indexOf, inT, labelOf, pointsOf}
 use Rattle.place.specs.Demand.{Settled}
 use Rattle.place.specs.Links.{linked}
-use Rattle.place.specs.Places.{Simplex, isPlace, isUnlabelledPlace, setT}
+use Rattle.place.specs.Places.{Simplex, isPlace, isUnlabelledPlace}
 use Rattle.place.specs.Problem.{Problem, label, withLabels}
 use Rattle.positions.specs.Falls.{tailFrom}
-use Rattle.rules.proofs.Describes.{AllMarks, Came, Describes, MarksBut, Reached, begins, fromLarger, markAt, through}
-use Rattle.rules.proofs.Follow.{Stands, reached-stands, stands-beside, stands-exchanged, stands-reads}
+use Rattle.rules.proofs.Describes.{Came, Describes, Reached, begins, fromLarger, markAt, through}
+use Rattle.rules.proofs.Follow.{reached-stands, stands-beside, stands-exchanged, stands-reads}
 use Rattle.rules.proofs.Range.{nth-pointsOf}
 use Rattle.rules.proofs.StatePoints.{point-is}
 use Rattle.rules.specs.Read.{CanCompute, Exchanged, Falling, FallsBeside, above, pointIn, positionAt}

@@ -1,11 +1,11 @@
 -- What a state that holds an unlabelled place describes over a table where the points of the place but one carry T.
 -- Assumes nothing.
-use mathlib.Core.Bool.{Bool, true, false, _&&_}
+use mathlib.Core.Bool.{Bool, true}
 use mathlib.Core.List.{List, [], _∷_, map}
 use mathlib.Core.Path.{_≡_, refl, sym, ap, _∙_}
 use Prim.Native.Nat.{ℕ, zero, suc, _≤_, _<_}
 use borrow.Author.Tests.{le-leb}
-use lib.Dec.{eqb, leb}
+use lib.Dec.{eqb}
 use lib.ListN.{length, length-map}
 use native.Mathlib.Omega.{arith}
 use Rattle.combinatorics.specs.Lists.{isIn}

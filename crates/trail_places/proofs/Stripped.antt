@@ -3,8 +3,8 @@
 use mathlib.Core.Bool.{Bool, true, false, not, _&&_, cond}
 use mathlib.Core.List.{List, [], _∷_, _++_, map}
 use mathlib.Core.Logic.{⊎-elim}
-use mathlib.Core.Path.{_≡_, refl, sym, ap, _∙_}
-use Prim.Native.Nat.{ℕ, zero, suc, _-_, _/_, _*_, _+_, _<_, _≤_}
+use mathlib.Core.Path.{_≡_, refl, sym, ap}
+use Prim.Native.Nat.{ℕ, zero, suc, _-_, _+_, _<_, _≤_}
 use borrow.Author.Tests.{eq-eqb, le-ltb, lt-ltb, ne-eqb}
 use lib.Dec.{eqb}
 use lib.ListN.{length}
@@ -12,9 +12,9 @@ use native.Mathlib.Omega.{arith}
 use Rattle.combinatorics.proofs.Basics.{before-or-not, same-or, true-or-false}
 use Rattle.combinatorics.specs.Edits.{butLast, found, insertAt, lastOr, removeAt, rotateLeft, rotateRight}
 use Rattle.grid.specs.Grid.{at}
-use Rattle.rules.specs.Mask.{bit, withIndex, withoutIndex}
-use Rattle.rules.specs.Step.{State, After, goes, endsAtPlace, endsAtFacet, firstOutside, firstOutsideOrZero, grow}
-use Rattle.rules.specs.Step.{isFilled, joined, leave, leaveFirst, leaveLast, leaveMiddle, mark, markPosition, shrink}
+use Rattle.rules.specs.Mask.{bit}
+use Rattle.rules.specs.Step.{State, After, goes, endsAtPlace, endsAtFacet, firstOutside, grow}
+use Rattle.rules.specs.Step.{isFilled, leave, leaveFirst, leaveLast, leaveMiddle, mark, markPosition, shrink}
 use Rattle.rules.specs.Step.{sourceIn}
 use Rattle.trail_places.proofs.Shows.{withMarks}
 

@@ -12,7 +12,7 @@ use native.Mathlib.Omega.{arith}
 use Rattle.arrays.specs.Rounds.{roundOf}
 use Rattle.combinatorics.proofs.Basics.{before-or-not}
 use Rattle.combinatorics.specs.Lists.{isIn, sum, upFrom}
-use Rattle.finder.specs.Finish.{IsBegun}
+use Rattle.path_walk.specs.Finish.{IsBegun}
 use Rattle.grid.proofs.Fields.{made-indices}
 use Rattle.grid.specs.Grid.{at, numIndices, position}
 use Rattle.grid.specs.Made.{IsMade, shape}

@@ -1,14 +1,12 @@
 -- The mask of a set as a number. Assumes nothing.
 use mathlib.Core.Bool.{Bool, true, false, cond}
 use mathlib.Core.List.{List}
-use mathlib.Core.Logic.{⊎-elim}
 use mathlib.Core.Path.{_≡_, sym, ap, _∙_}
-use Prim.Native.Nat.{ℕ, zero, suc, _+_, _*_, _/_, _%_, _^_, _<_}
+use Prim.Native.Nat.{ℕ, zero, suc, _+_, _/_, _%_, _^_, _<_}
 use borrow.Author.Tests.{eqb-false, eqb-true}
 use lib.Dec.{eqb}
 use native.Mathlib.Nat.{div-div-eq-div-mul, pow-succ'}
 use native.Mathlib.Omega.{arith}
-use Rattle.combinatorics.proofs.Basics.{true-or-false}
 use Rattle.combinatorics.specs.Lists.{isIn}
 use Rattle.records.proofs.Told.{IsMask}
 use Rattle.rules.specs.Mask.{bit}

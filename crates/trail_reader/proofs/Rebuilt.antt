@@ -1,10 +1,10 @@
 -- From where the records lead to the reader's answer. In order: what is rebuilt behind v's record; the place that a
 -- state holds; the refusals. Assumes nothing.
-use mathlib.Core.Bool.{Bool, true, false, cond}
-use mathlib.Core.List.{List, [], _∷_, _++_, map}
-use mathlib.Core.Option.{Option, none, some}
+use mathlib.Core.Bool.{true, false}
+use mathlib.Core.List.{List, [], _∷_}
+use mathlib.Core.Option.{none, some}
 use mathlib.Core.Path.{_≡_, refl, sym, ap, _∙_}
-use Prim.Native.Nat.{ℕ, zero, suc, _+_, _-_, _*_, _≤_, _<_}
+use Prim.Native.Nat.{ℕ, suc, _+_, _-_, _*_, _≤_, _<_}
 use borrow.Author.Tests.{eq-eqb, ne-eqb}
 use lib.Dec.{eqb}
 use lib.ListN.{drop, length, length-append, length-replicate, length-take, replicate, take}
@@ -26,7 +26,7 @@ use Rattle.moves.specs.declared.Status.{Status}
 use Rattle.place.specs.Demand.{Settled}
 use Rattle.place.specs.LabelsRead.{cameIn, labelsRead}
 use Rattle.place.specs.Places.{Simplex, setT, setU}
-use Rattle.place.specs.Problem.{Problem, withLabels}
+use Rattle.place.specs.Problem.{Problem}
 use Rattle.questions.proofs.Answers.{asked-next, asked-no}
 use Rattle.questions.specs.Questions.{firstNo}
 use Rattle.records.specs.Records.{firstRecord}
@@ -45,8 +45,8 @@ use Rattle.trail_steps.proofs.Arrived.{mask-T, mask-U}
 use Rattle.trail_steps.proofs.Named.{shows-few}
 use Rattle.trail_steps.specs.Reading.{problemBy}
 use Rattle.trail_reader.proofs.Masks.{mask-is}
-use Rattle.trail_reader.specs.Reading.{caseOf, isPlaced, maskOf, numbersOf, question17, readAnswer, readPoints}
-use Rattle.trail_reader.specs.Reading.{readQuestions, startQuestions}
+use Rattle.trail_reader.specs.Reading.{caseOf, isPlaced, numbersOf, question17, readAnswer, readPoints}
+use Rattle.trail_reader.specs.Reading.{readQuestions}
 use Rattle.trail_reader.specs.Begun.{IsPlace, Reads}
 use Rattle.trail_reader.specs.declared.answers.Answer.the-variants.{Place, Refused}
 use Rattle.trail_reader.specs.declared.answers.Reading.{Reading}

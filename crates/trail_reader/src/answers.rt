@@ -12,9 +12,9 @@ ghost use Rattle.trail_reader.specs.Begun.{CanLocate, CanRead, CanRebuil
 ghost use Rattle.trail_reader.specs.Reading.{readAnswer, readPoints};
 use arrays::block_sizes;
 use arrays::padded;
-use finder::begin;
 use grid::Grid;
 use moves::Status;
+use path_walk::begin;
 use place_points::put_points;
 use positions::ENTRIES;
 use records::first_record;

@@ -13,7 +13,7 @@ use native.Mathlib.Omega.{arith}
 use Rattle.arrays.specs.Rounds.{noRound, roundOf}
 use Rattle.combinatorics.proofs.Basics.{before-or-not}
 use Rattle.combinatorics.proofs.EditsOfArrays.{counted}
-use Rattle.finder.proofs.Visits.{marks-back}
+use Rattle.path_walk.proofs.Visits.{marks-back}
 use Rattle.geometry.proofs.Points.{nth}
 use Rattle.grid.proofs.Fields.{made-blocks}
 use Rattle.grid.specs.Grid.{at, position}
@@ -118,7 +118,8 @@ module _ (g : GridStruct) (made : IsMade g) (start tails : List ℕ) {a : Simple
         pub to-next : (new : List ℕ) → new ≡ marksWith g back marks
             → begins (recordMade g back before gone) (drop at trail) ≡ true
             → (bytes : ℕ) → bytes ≡ length (recordMade g back before gone)
-            → Leads g start trail a at order new (stateOf (roundOf previous next sizes) first coefficients order new status)
+            → Leads g start trail a at order new
+            (stateOf (roundOf previous next sizes) first coefficients order new status)
             (status .count) bytes
         to-next new m stands bytes e =
             let same = made-is out before t u in

@@ -1,5 +1,5 @@
-// One place of a walk that writes a trail: the record that is stored, and the bytes of the next one. What is public here
-// is for the writer, which shows what it asks.
+// One place of a walk that writes a trail: the record that is stored, and the bytes of the next one. What is public
+// here is for the writer, which shows what it asks.
 ghost use mathlib.Core.Bool.{true};
 ghost use mathlib.Core.Path.{_≡_};
 ghost use Prim.Native.Nat.{ℕ, _≤_};

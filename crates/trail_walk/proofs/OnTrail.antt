@@ -18,8 +18,8 @@ use Rattle.combinatorics.proofs.Lists.{all-in, in-cases, in-here, in-map, map-i
 use Rattle.combinatorics.proofs.Ranges.{in-upFrom, upFrom-in}
 use Rattle.combinatorics.specs.Front.{front}
 use Rattle.combinatorics.specs.Lists.{isIn, upFrom}
-use Rattle.finder.proofs.Visits.{HasRead, OnPath}
-use Rattle.finder.specs.Finish.{IsKnown, problemIn}
+use Rattle.path_walk.proofs.Visits.{HasRead, OnPath}
+use Rattle.path_walk.specs.Finish.{IsKnown, problemIn}
 use Rattle.grid.proofs.Points.{in-points, onPoints, position-in}
 use Rattle.grid.specs.Grid.{Point, isGridPoint, numIndices, points, position, samePoint}
 use Rattle.grid.specs.declared.Grid.{Grid as GridStruct}

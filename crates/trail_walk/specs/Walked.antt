@@ -5,8 +5,8 @@ use mathlib.Core.Path.{_≡_}
 use Prim.Native.Nat.{ℕ, _≤_}
 use lib.ListN.{length}
 use Rattle.combinatorics.specs.Front.{front}
-use Rattle.finder.specs.declared.walk.Finish.{Finish}
-use Rattle.finder.specs.declared.walk.Finish.the-variants.{Ended, Spent, Unknown as UnknownLabel}
+use Rattle.path_walk.specs.declared.Finish.{Finish}
+use Rattle.path_walk.specs.declared.Finish.the-variants.{Ended, Spent, Unknown as UnknownLabel}
 use Rattle.place.specs.Path.{path}
 use Rattle.place.specs.Problem.{Problem}
 use Rattle.trail.specs.Record.{trailOf}

@@ -3,17 +3,17 @@
 ghost use mathlib.Core.Path.{_≡_};
 ghost use lib.ListN.{length};
 ghost use Rattle.arrays.specs.Rounds.{round};
-ghost use Rattle.finder.specs.Finish.{CanWalk, Finished, problemIn};
+ghost use Rattle.path_walk.specs.Finish.{CanWalk, Finished, problemIn};
 ghost use Rattle.rules.specs.Step.{Round};
 ghost use Rattle.trail_walk.specs.Walked.{HasRoom, Recorded};
-use finder::Finish;
-use finder::Kind;
-use finder::begin;
-use finder::labels_at;
 use grid::Grid;
 use label_reading::Looked;
 use label_reading::look_up;
 use moves::Outcome;
+use path_walk::Finish;
+use path_walk::Kind;
+use path_walk::begin;
+use path_walk::labels_at;
 use positions::ENTRIES;
 use trail_visits::Before;
 use trail_visits::bytes_to;
@@ -27,9 +27,9 @@ pub struct Walked {
     pub bytes: usize,
 }
 
-// From {v} to the path's end, or until the budget is spent: the number of places left counts down. The record of a place
-// goes from byte `at` to byte `end`. It is counted where the move to the place is made, whose rule the compiler then
-// knows, and stored where the walk writes.
+// From {v} to the path's end, or until the budget is spent: the number of places left counts down. The record of a
+// place goes from byte `at` to byte `end`. It is counted where the move to the place is made, whose rule the compiler
+// then knows, and stored where the walk writes.
 pub fn follow(
     g: Grid,
     binomials: &[u16; ENTRIES],

@@ -1,13 +1,13 @@
 -- Request 03's claims about runs that write a trail. In order: where there is room; where there is none; what a run has
 -- written reads back. Assumes nothing.
-use mathlib.Core.Bool.{true, false, cond}
+use mathlib.Core.Bool.{true, cond}
 use mathlib.Core.List.{List, [], _∷_, _++_}
 use mathlib.Core.Logic.{⊎-elim}
 use mathlib.Core.Option.{none, some}
-use mathlib.Core.Path.{_≡_, refl, sym, ap, _∙_, subst}
+use mathlib.Core.Path.{_≡_, refl, sym, _∙_}
 use Prim.Native.Nat.{ℕ, suc, pred, _+_, _*_, _≤_, _<_}
-use borrow.Author.Tests.{eq-eqb, le-leb, leb-true, ne-eqb}
-use lib.Dec.{eqb, leb}
+use borrow.Author.Tests.{eq-eqb, leb-true, ne-eqb}
+use lib.Dec.{leb}
 use lib.ListN.{drop, length, take}
 use native.Mathlib.Omega.{arith}
 use Rattle.combinatorics.proofs.Basics.{and-left, and-right, before-or-not, same-or, true-or-false}
@@ -15,10 +15,9 @@ use Rattle.combinatorics.proofs.Fronts.{front-none, front-taken}
 use Rattle.combinatorics.specs.Front.{front}
 use Rattle.combinatorics.specs.Lists.{all}
 use Rattle.finder.proofs.Demand.{unrefused}
-use Rattle.finder.specs.Demand.{AcceptedWith}
 use Rattle.finder.specs.Run.{caseOf, kindOf, numbersOf, refusal, runAnswer, runBuffer}
 use Rattle.finder.specs.declared.answers.Answer.the-variants.{Refused as RunRefused, End as RunEnd}
-use Rattle.finder.specs.declared.answers.Kind.{Kind}
+use Rattle.path_walk.specs.declared.Kind.{Kind}
 use Rattle.place.specs.Demand.{Accepted, placeAt}
 use Rattle.place.specs.Path.{Answer as PathAnswer, answer, ended, path, pathLength, spent, unknown}
 use Rattle.place.specs.Problem.{Problem, withLabels}
@@ -28,8 +27,7 @@ use Rattle.trail.proofs.RunTrail.{path-trail}
 use Rattle.trail.specs.Trail.{rebuilt}
 use Rattle.trail_writer.specs.Claims.{ReadsBack, TrailsOfRuns, Writes, withoutBytes}
 use Rattle.trail_writer.specs.Writing.{announces, answerBuffer, trailAnswer, trailBuffer, trailCase, wholeTrail}
-use Rattle.trail_writer.specs.declared.answers.Answer.{Answer}
-use Rattle.trail_writer.specs.declared.answers.Answer.the-variants.{End, Refused, Spent, Unknown}
+use Rattle.trail_writer.specs.declared.answers.Answer.the-variants.{End, Refused}
 use Rattle.trail_writer.proofs.Endings.{has-room, too-short}
 use Rattle.trail_walk.proofs.OnTrail.{ended-whole}
 

@@ -1,37 +1,36 @@
 -- From where a walk finished to the answer of a run that writes a trail. In order: the start in its array is the start;
 -- the second walk ends as the first; question 17; the refusals. Assumes nothing.
-use mathlib.Core.Bool.{Bool, true, false, cond}
-use mathlib.Core.List.{List, [], _∷_}
-use mathlib.Core.Path.{_≡_, refl, sym, ap, _∙_, subst}
+use mathlib.Core.Bool.{true, false, cond}
+use mathlib.Core.List.{List, []}
+use mathlib.Core.Path.{_≡_, sym, ap, _∙_}
 use Prim.Native.Nat.{ℕ, _≤_, _<_}
-use borrow.Author.Tests.{eq-eqb, le-leb, lt-leb, ne-eqb}
-use lib.Dec.{eqb, leb}
+use borrow.Author.Tests.{le-leb, lt-leb, ne-eqb}
+use lib.Dec.{eqb}
 use lib.ListN.{length, replicate, take}
 use native.Mathlib.Omega.{arith}
 use Rattle.combinatorics.proofs.Fronts.{front-none}
 use Rattle.combinatorics.specs.Front.{front}
 use Rattle.finder.proofs.Announcements.{same-problem}
-use Rattle.finder.specs.Finish.{Finished, problemIn}
+use Rattle.path_walk.specs.Finish.{Finished, problemIn}
 use Rattle.finder.specs.Run.{caseOf, kindOf, numbersOf, refusal}
 use Rattle.finder.specs.declared.answers.Answer.the-variants.{End as RunEnd}
-use Rattle.finder.specs.declared.answers.Kind.{Kind}
-use Rattle.finder.specs.declared.walk.Finish.{Finish}
-use Rattle.finder.specs.declared.walk.Finish.the-variants.{Ended, Spent as FinishSpent, Unknown as FinishUnknown}
+use Rattle.path_walk.specs.declared.Kind.{Kind}
+use Rattle.path_walk.specs.declared.Finish.{Finish}
+use Rattle.path_walk.specs.declared.Finish.the-variants.{Ended, Spent as FinishSpent, Unknown as FinishUnknown}
 use Rattle.grid.specs.Made.{IsMade}
 use Rattle.grid.specs.declared.Grid.{Grid as GridStruct}
 use Rattle.marks.specs.Reading.{problemFrom}
 use Rattle.place.specs.Demand.{Accepted}
 use Rattle.place.specs.Ends.{Kind as KindOfEnd}
-use Rattle.place.specs.Path.{Answer as PathAnswer, answer, ended, path, spent, unknown}
+use Rattle.place.specs.Path.{Answer as PathAnswer, answer, ended, spent, unknown}
 use Rattle.place.specs.Places.{Simplex}
 use Rattle.place.specs.Problem.{Problem}
 use Rattle.questions.specs.Questions.{firstNo}
 use Rattle.rules.specs.Step.{Round}
 use Rattle.trail_walk.specs.Walked.{Recorded}
-use Rattle.trail_writer.specs.Writing.{announces, answerBuffer, question17, trailAnswer, trailBuffer, trailCase}
+use Rattle.trail_writer.specs.Writing.{announces, answerBuffer, trailAnswer, trailBuffer, trailCase}
 use Rattle.trail_writer.specs.Writing.{wholeTrail}
-use Rattle.trail_writer.specs.declared.answers.Answer.{Answer}
-use Rattle.trail_writer.specs.declared.answers.Answer.the-variants.{End, Refused, Spent, Unknown}
+use Rattle.trail_writer.specs.declared.answers.Answer.the-variants.{End, Refused}
 
 pub problem-from : (g : GridStruct) → IsMade g → (start table : List ℕ) → Accepted (problemFrom g start table)
     → (taken : List ℕ) → taken ≡ front (take (g .indices) start) (replicate 16 0)

@@ -2,11 +2,10 @@
 ghost use mathlib.Core.Bool.{cond, true};
 ghost use mathlib.Core.List.{[]};
 ghost use mathlib.Core.Path.{_≡_};
-ghost use Prim.Native.Nat.{_≤_};
 ghost use lib.ListN.{length};
 ghost use Rattle.arrays.specs.Rounds.{round};
 ghost use Rattle.combinatorics.specs.Front.{front};
-ghost use Rattle.finder.specs.Finish.{CanRun};
+ghost use Rattle.finder.specs.Asked.{CanRun};
 ghost use Rattle.finder.specs.Run.{numbersOf};
 ghost use Rattle.marks.specs.Reading.{problemFrom};
 ghost use Rattle.place.specs.Path.{Answer as PathAnswer, answer as answerOf};
@@ -17,12 +16,12 @@ ghost use Rattle.trail_writer.specs.Writing.{announces, answerBuffer, tr
 ghost use Rattle.trail_writer.specs.Writing.{trailCase, wholeTrail};
 use arrays::block_sizes;
 use arrays::padded;
-use finder::Finish;
-use finder::Kind;
 use finder::block_number;
 use finder::first_no;
 use finder::first_vertex;
 use grid::Grid;
+use path_walk::Finish;
+use path_walk::Kind;
 use place_points::put_points;
 use positions::ENTRIES;
 use trail_walk::follow;

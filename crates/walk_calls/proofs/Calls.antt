@@ -1,12 +1,12 @@
 -- The moving call by its parts. In order: a refusal by questions 1 to 7; what comes next; the grid of a walk. Assumes
 -- nothing.
-use mathlib.Core.Bool.{Bool, true, false, _&&_, cond}
-use mathlib.Core.List.{List, [], _∷_, _++_, map}
-use mathlib.Core.Path.{_≡_, refl, sym, ap, _∙_, subst}
-use Prim.Native.Nat.{ℕ, suc, _+_, _*_, _≤_, _<_}
+use mathlib.Core.Bool.{Bool, true, false, _&&_}
+use mathlib.Core.List.{List, [], _∷_, map}
+use mathlib.Core.Path.{_≡_, refl, sym, ap, _∙_}
+use Prim.Native.Nat.{ℕ, suc, _*_, _≤_, _<_}
 use borrow.Author.Tests.{le-leb, lt-leb}
-use lib.Dec.{eqb, leb}
-use lib.ListN.{length, take, replicate, length-replicate}
+use lib.Dec.{leb}
+use lib.ListN.{take, length-replicate}
 use native.Mathlib.Nat.{mul-le-mul}
 use native.Mathlib.Omega.{arith}
 use Rattle.combinatorics.proofs.Basics.{absurd-bool}
@@ -16,14 +16,13 @@ use Rattle.combinatorics.specs.Lists.{sum, upFrom}
 use Rattle.combinatorics.proofs.Terms.{terms-few}
 use Rattle.grid.specs.Grid.{Grid, bound, dimension, numIndices, numPoints}
 use Rattle.grid.specs.Questions.{gridQuestions, question5}
-use Rattle.place.specs.Demand.{Accepted}
 use Rattle.place.specs.Places.{Simplex, allLabelled}
 use Rattle.place.specs.Questions.{question6, question7, tableQuestions}
-use Rattle.questions.proofs.Answers.{asked-next, asked-no}
+use Rattle.questions.proofs.Answers.{asked-no}
 use Rattle.questions.specs.Questions.{ask, firstNo}
 use Rattle.walks.proofs.Moved.{moved-passes, next-refused}
 use Rattle.walks.specs.Next.{Outcome, ended, moved, nextOf, refused, ruleOf}
-use Rattle.walks.specs.Walk.{Walk, isWalk, over, walkQuestions}
+use Rattle.walks.specs.Walk.{Walk, isWalk, over}
 use Rattle.walk_calls.specs.Moving.{CarriesTo, callOn, movedTo, unmovedAs}
 use Rattle.walk_places.specs.Placing.{GoesTo}
 use Rattle.walk_labels.specs.declared.Carried.{Carried}

@@ -7,7 +7,7 @@ use mathlib.Core.Path.{_≡_, refl, sym, ap, _∙_}
 use Prim.Native.Nat.{ℕ, suc, _+_, _≤_, _<_}
 use borrow.Author.Tests.{le-leb, lt-leb}
 use lib.Dec.{eqb, leb}
-use lib.ListN.{length, getD, replicate, set, take, length-map, length-replicate, getD-replicate}
+use lib.ListN.{length, replicate, set, take, length-map, length-replicate, getD-replicate}
 use lib.Seq.{getD-take, length-take-le, take-suc}
 use native.Mathlib.Numerals.{add-one}
 use native.Mathlib.Omega.{arith}

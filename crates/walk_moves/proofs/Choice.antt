@@ -1,18 +1,17 @@
 -- Of two ways out of a place one leads back and the other on. Assumes nothing.
-use mathlib.Core.Bool.{Bool, true, false, not, _&&_}
+use mathlib.Core.Bool.{true, false, not, _&&_}
 use mathlib.Core.List.{List, [], _∷_}
-use mathlib.Core.Logic.{_⊎_, inl, inr, ⊎-elim}
+use mathlib.Core.Logic.{_⊎_, ⊎-elim}
 use mathlib.Core.Option.{Option, none, some}
 use mathlib.Core.Path.{_≡_, refl, sym, ap, _∙_}
-use Prim.Native.Nat.{ℕ, suc, _≤_, _<_}
 use lib.ListN.{length}
 use native.Mathlib.Omega.{arith}
-use Rattle.combinatorics.proofs.Basics.{absurd-bool, and-both, and-left, and-right, false-of, not-is}
-use Rattle.combinatorics.proofs.Lists.{in-cases, in-filter, in-here, in-later, pigeon}
+use Rattle.combinatorics.proofs.Basics.{absurd-bool, and-both, and-left, and-right, false-of}
+use Rattle.combinatorics.proofs.Lists.{in-cases, in-filter, pigeon}
 use Rattle.combinatorics.specs.Lists.{distinct, isIn}
 use Rattle.place.proofs.FromTwoWays.{back, one-from, one-from-start}
 use Rattle.place.proofs.PathSteps.{Link}
-use Rattle.place.proofs.Simplices.{simplex-self, simplex-sound}
+use Rattle.place.proofs.Simplices.{simplex-sound}
 use Rattle.place.proofs.Theorem.{twoWays}
 use Rattle.place.proofs.Ways.{IsWay, byFacet, byLink, byPlace, in-ways, onWays, sameWay, way-sound}
 use Rattle.place.specs.Demand.{Accepted}

@@ -4,19 +4,19 @@ use mathlib.Core.Bool.{Bool, true, false, _&&_, _||_}
 use mathlib.Core.List.{List, [], _∷_, map}
 use mathlib.Core.Logic.{_⊎_, inl, inr, ⊎-elim}
 use mathlib.Core.Path.{_≡_, refl, sym, ap, _∙_, subst}
-use Prim.Native.Nat.{ℕ, zero, suc, pred, _≤_, _<_}
+use Prim.Native.Nat.{ℕ, suc, pred, _≤_, _<_}
 use borrow.Author.Tests.{eqb-true}
 use lib.Dec.{eqb}
-use lib.ListN.{length, getD, length-map}
+use lib.ListN.{length, length-map}
 use native.Mathlib.Omega.{arith}
-use Rattle.combinatorics.proofs.Basics.{absurd-bool, and-both, and-left, and-right, false-of, or-cases, same-or}
+use Rattle.combinatorics.proofs.Basics.{absurd-bool, and-left, and-right, false-of, or-cases, same-or}
 use Rattle.combinatorics.proofs.Basics.{true-or-false}
-use Rattle.combinatorics.proofs.Lists.{all-in, in-filter, in-map, length-filter-le, onNumbers, pigeon, same-sound}
+use Rattle.combinatorics.proofs.Lists.{in-filter, in-map, length-filter-le, onNumbers, pigeon, same-sound}
 use Rattle.combinatorics.specs.Lists.{all, distinct, filter, isIn, same}
 use Rattle.geometry.proofs.Definitions.{Blocks, Carries, Extra}
 use Rattle.geometry.proofs.Exits.{kinds, larger-is}
 use Rattle.geometry.proofs.Graph.{Above, Through, exit, larger, through-one}
-use Rattle.geometry.proofs.LabelledChains.{Joined, LabelledChain, Link, LinkTo, listAt}
+use Rattle.geometry.proofs.LabelledChains.{LabelledChain, LinkTo, listAt}
 use Rattle.geometry.proofs.Onward.{end-not-through, facet-way}
 use Rattle.geometry.proofs.Points.{listAt-map, nth}
 use Rattle.grid.proofs.Points.{onPoints}
@@ -25,21 +25,18 @@ use Rattle.place.proofs.BlocksOfGrid.{blocksOf, coefficientOf, point-coefficien
 use Rattle.place.proofs.ChainLinks.{exchanged-swapped, extended-to, of-link}
 use Rattle.place.proofs.Filled.{FullyLabelled}
 use Rattle.place.proofs.FromChain.{T-range}
-use Rattle.place.proofs.FromTwoWays.{back}
 use Rattle.place.proofs.Gaps.{label-named}
 use Rattle.place.proofs.IndexSets.{order-distinct, order-within}
 use Rattle.place.proofs.LinkSymmetry.{parts}
 use Rattle.place.proofs.Meaning.{labels-mean}
-use Rattle.place.proofs.PathSteps.{Link as PlaceLink}
-use Rattle.place.proofs.Positions.{at-in}
 use Rattle.place.proofs.ToChain.{coefficientsOf, grid-at, inT, indexOf, labelOf, labelledChain-of, place-long, pointsOf}
 use Rattle.place.proofs.ToChain.{pointsOf-coefficientsOf}
-use Rattle.place.specs.Demand.{Accepted, Settled}
+use Rattle.place.specs.Demand.{Settled}
 use Rattle.place.specs.Ends.{link}
 use Rattle.place.specs.Links.{exchanged, extended, linked}
 use Rattle.place.specs.Places.{Simplex, allLabelled, isPlace, labelSet, order, setT}
 use Rattle.place.specs.Problem.{Problem, hasLabel, label}
-use Rattle.rules.proofs.Describes.{Left, facetEnds, labelsOf, leftOn}
+use Rattle.rules.proofs.Describes.{Left, facetEnds, leftOn}
 use Rattle.rules.specs.Step.{After, State}
 use Rattle.walk_moves.proofs.Kept.{kept-described}
 use Rattle.walk_moves.specs.Lent.{keptBy, wayOf}

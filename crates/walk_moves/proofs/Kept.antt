@@ -1,13 +1,13 @@
 -- A lent state describes its place over the table with each gap filled. In order: the place over that table; the state;
 -- the place that a state keeps. Assumes nothing.
-use mathlib.Core.Bool.{Bool, true, false, _&&_}
+use mathlib.Core.Bool.{Bool, true}
 use mathlib.Core.List.{List, [], _∷_}
 use mathlib.Core.Logic.{⊎-elim}
-use mathlib.Core.Path.{_≡_, refl, sym, ap, _∙_, subst, fun-ext}
-use Prim.Native.Nat.{ℕ, suc, _≤_, _<_}
+use mathlib.Core.Path.{_≡_, refl, sym, ap, _∙_, subst}
+use Prim.Native.Nat.{ℕ, _≤_, _<_}
 use borrow.Author.Tests.{eqb-true, eq-eqb}
 use lib.Dec.{eqb}
-use lib.ListN.{length, getD, take}
+use lib.ListN.{length, take}
 use lib.Seq.{ext-getD}
 use native.Mathlib.Omega.{arith}
 use Rattle.combinatorics.proofs.Basics.{absurd-bool, and-both, and-left, and-right, before-or-not, both, same-or}
@@ -28,9 +28,9 @@ use Rattle.place.proofs.Positions.{at-in, in-at}
 use Rattle.place.proofs.ToChain.{coefficientsOf, inT, labelOf, labelledChain-of, place-long, pointsOf}
 use Rattle.place.proofs.ToChain.{pointsOf-coefficientsOf}
 use Rattle.place.specs.Coefficients.{IsCoefficients, coefficients}
-use Rattle.place.specs.Demand.{Accepted, Settled}
+use Rattle.place.specs.Demand.{Accepted}
 use Rattle.place.specs.Places.{Simplex, isPlace, labelSet, order, within}
-use Rattle.place.specs.Problem.{Problem, label}
+use Rattle.place.specs.Problem.{Problem}
 use Rattle.rules.proofs.Describes.{AllMarks, Describes}
 use Rattle.rules.proofs.Marks.{mark-is}
 use Rattle.rules.proofs.StatePoints.{point-is}

@@ -1,30 +1,26 @@
 -- What comes next on a walk, by the two moves from its present place. In order: refusals; the table with each gap
 -- filled; {v}; any other place; a place with a gap. Assumes nothing.
-use mathlib.Core.Bool.{Bool, true, false, not, _&&_}
+use mathlib.Core.Bool.{true, false, _&&_}
 use mathlib.Core.List.{List, [], _∷_, map}
-use mathlib.Core.Logic.{_⊎_, inl, inr, ⊎-elim}
+use mathlib.Core.Logic.{_⊎_, ⊎-elim}
 use mathlib.Core.Option.{Option, none, some}
 use mathlib.Core.Path.{_≡_, refl, sym, ap, _∙_, subst}
-use Prim.Native.Nat.{ℕ, zero, suc, _≤_, _<_}
+use Prim.Native.Nat.{ℕ, suc, _≤_, _<_}
 use borrow.Author.Tests.{leb-true}
-use lib.Dec.{eqb}
-use lib.ListN.{length, getD}
+use lib.ListN.{length}
 use native.Mathlib.Omega.{arith}
-use Rattle.combinatorics.proofs.Basics.{absurd-bool, and-both, and-left, and-right, false-of, true-or-false}
+use Rattle.combinatorics.proofs.Basics.{absurd-bool, and-both, and-left, and-right, false-of}
 use Rattle.combinatorics.proofs.Lists.{all-in}
-use Rattle.combinatorics.specs.Lists.{isIn}
 use Rattle.geometry.proofs.Definitions.{Carries}
 use Rattle.geometry.proofs.LabelledChains.{LabelledChain}
 use Rattle.geometry.proofs.Points.{nth}
 use Rattle.grid.proofs.Points.{onPoints}
-use Rattle.grid.specs.Grid.{Point, at, bound, samePoint}
+use Rattle.grid.specs.Grid.{Point, at, bound}
 use Rattle.place.proofs.BlocksOfGrid.{blocksOf}
-use Rattle.place.proofs.Filled.{FullyLabelled, fill, filledTable, filled-full, filled-label, full-accepted}
+use Rattle.place.proofs.Filled.{fill, filledTable, filled-full, filled-label, full-accepted}
 use Rattle.place.proofs.FromTwoWays.{back}
-use Rattle.place.proofs.Labels.{label-ok}
 use Rattle.place.proofs.LinkSymmetry.{parts}
 use Rattle.place.proofs.Local.{Agree, known-local, map-same}
-use Rattle.place.proofs.PathSteps.{Link}
 use Rattle.place.proofs.Positions.{at-in}
 use Rattle.place.proofs.Theorem.{single}
 use Rattle.place.proofs.ToChain.{coefficientsOf, inT, labelOf, pointsOf, pointsOf-coefficientsOf}
@@ -38,13 +34,13 @@ use Rattle.place.specs.Places.{Simplex, allLabelled, isPlace, order, setT}
 use Rattle.place.specs.Problem.{Problem, hasLabel, label}
 use Rattle.rules.proofs.Describes.{AllMarks, Describes, Left, labelsOf}
 use Rattle.rules.specs.Ready.{Ready}
-use Rattle.rules.specs.Step.{After, State, step}
+use Rattle.rules.specs.Step.{State, step}
 use Rattle.walks.proofs.Local.{next-local}
-use Rattle.walks.proofs.Meaning.{Came, Stands, begins, came, meets-16, meets-20, of-passes, of-stands, stands-of}
+use Rattle.walks.proofs.Meaning.{Came, Stands, begins, came, meets-16, meets-20, of-passes, stands-of}
 use Rattle.walks.proofs.Moved.{next-onward, next-refused}
 use Rattle.walks.specs.Kept.{keptPoints}
 use Rattle.walks.specs.Next.{byWay, nextOf, refused}
-use Rattle.walks.specs.Walk.{Walk, isWalk, labelsOf as labelsAt, over}
+use Rattle.walks.specs.Walk.{Walk, labelsOf as labelsAt, over}
 use Rattle.walk_moves.proofs.Carried.{carried, points-long}
 use Rattle.walk_moves.proofs.Choice.{came-by, from-start, not-linked, other-on}
 use Rattle.walk_moves.proofs.Gap.{gap-back, gap-way}

@@ -1,16 +1,16 @@
 -- A point without a label is the one whose label the others do not need. Assumes nothing.
-use mathlib.Core.Bool.{true, false, _&&_, cond}
-use mathlib.Core.List.{List, []}
+use mathlib.Core.Bool.{true, false}
+use mathlib.Core.List.{List}
 use mathlib.Core.Logic.{_⊎_, inl, inr, ⊎-elim}
 use mathlib.Core.Path.{_≡_, refl, sym, ap, _∙_, subst}
-use Prim.Native.Nat.{ℕ, zero, suc, pred, _≤_, _<_}
+use Prim.Native.Nat.{ℕ, zero, suc, _≤_, _<_}
 use borrow.Author.Tests.{le-leb}
-use lib.Dec.{eqb, leb}
+use lib.Dec.{eqb}
 use lib.ListN.{length}
 use native.Mathlib.Omega.{arith}
 use Rattle.combinatorics.proofs.Basics.{absurd-bool, before-or-not, false-of, same-or}
 use Rattle.combinatorics.specs.Lists.{isIn}
-use Rattle.geometry.proofs.Definitions.{Carries, Twice}
+use Rattle.geometry.proofs.Definitions.{Twice}
 use Rattle.geometry.proofs.Exits.{kinds}
 use Rattle.geometry.proofs.LabelledChains.{LabelledChain, listAt}
 use Rattle.geometry.proofs.Points.{listAt-map, nth}
@@ -21,7 +21,7 @@ use Rattle.place.proofs.Meaning.{T-means}
 use Rattle.place.proofs.ToChain.{coefficientsOf, grid-at, inT, index-suc, indexOf, labelOf, labelledChain-of}
 use Rattle.place.specs.Coefficients.{coefficients}
 use Rattle.place.specs.Demand.{Accepted}
-use Rattle.place.specs.Places.{Simplex, isPlace, order, setT}
+use Rattle.place.specs.Places.{Simplex, isPlace, setT}
 use Rattle.place.specs.Problem.{Problem, label}
 use Rattle.walks.specs.Kept.{keptPoints}
 use Rattle.walk_moves.proofs.Carried.{covering, points-long}

@@ -1,19 +1,18 @@
 -- Each of the two moves from a lent place makes a way out of it, and they make different ones. In order: one move; two
 -- moves; the moves of a run. Assumes nothing.
 use mathlib.Core.Bool.{Bool, true, false}
-use mathlib.Core.List.{List, [], _∷_, map}
-use mathlib.Core.Logic.{_⊎_, inl, inr, ⊎-elim}
-use mathlib.Core.Path.{_≡_, refl, sym, ap, _∙_, subst}
-use Prim.Native.Nat.{ℕ, zero, suc, pred, _-_, _≤_, _<_}
+use mathlib.Core.List.{List}
+use mathlib.Core.Logic.{_⊎_, ⊎-elim}
+use mathlib.Core.Path.{_≡_, refl, sym, ap, _∙_}
+use Prim.Native.Nat.{ℕ, suc, _-_, _≤_, _<_}
 use borrow.Author.Tests.{le-ltb, lt-ltb}
 use lib.Dec.{eqb}
 use lib.ListN.{length}
 use native.Mathlib.Omega.{arith}
 use Rattle.combinatorics.proofs.Basics.{absurd-bool, true-or-false}
-use Rattle.combinatorics.specs.Edits.{found, removeAt}
 use Rattle.combinatorics.specs.Lists.{isIn}
-use Rattle.geometry.proofs.Definitions.{Carries, Extra}
-use Rattle.geometry.proofs.LabelledChains.{LabelledChain, Link, listAt}
+use Rattle.geometry.proofs.Definitions.{Carries}
+use Rattle.geometry.proofs.LabelledChains.{LabelledChain}
 use Rattle.geometry.proofs.Onward.{through-determines, through-not-above, start-extra}
 use Rattle.grid.specs.Grid.{at, numIndices}
 use Rattle.place.proofs.BlocksOfGrid.{blocksOf}
@@ -35,8 +34,8 @@ use Rattle.rules.proofs.Move.{ready-of}
 use Rattle.rules.proofs.Range.{few}
 use Rattle.rules.proofs.StatePoints.{all-points, later-points}
 use Rattle.rules.specs.Mask.{bit}
-use Rattle.rules.specs.Ready.{Ready, labelIn}
-use Rattle.rules.specs.Step.{After, State, endsAtFacet, endsAtPlace, goes, grow, leave, markLabel, step}
+use Rattle.rules.specs.Ready.{Ready}
+use Rattle.rules.specs.Step.{After, State, endsAtFacet, endsAtPlace, goes, step}
 use Rattle.walk_moves.proofs.Kept.{kept-described}
 use Rattle.walk_moves.specs.Lent.{keptBy, wayOf}
 

@@ -1,5 +1,5 @@
 -- A state that stands at a kept place, with the labels of the table in which each gap is filled. Assumes nothing.
-use mathlib.Core.List.{List, [], map}
+use mathlib.Core.List.{List, []}
 use mathlib.Core.Path.{_≡_}
 use Prim.Native.Nat.{ℕ, suc, _≤_, _<_}
 use lib.Dec.{eqb}

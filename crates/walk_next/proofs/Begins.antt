@@ -1,24 +1,23 @@
 -- The first tests of a call: the places so far, and how the present place is kept. Assumes nothing.
-use mathlib.Core.Bool.{Bool, true, false, _&&_, cond}
-use mathlib.Core.List.{List, []}
+use mathlib.Core.Bool.{Bool, true, false, _&&_}
+use mathlib.Core.List.{List}
 use mathlib.Core.Logic.{_⊎_, inl, inr, ⊎-elim}
-use mathlib.Core.Path.{_≡_, refl, sym, ap, _∙_, subst}
-use Prim.Native.Nat.{ℕ, suc, pred, _+_, _-_, _≤_, _<_}
-use borrow.Author.Tests.{eq-eqb, le-leb, leb-true, lt-leb, ne-eqb}
-use lib.Dec.{eqb, leb}
-use lib.ListN.{length, set, take, length-set}
+use mathlib.Core.Path.{_≡_, refl, sym, _∙_}
+use Prim.Native.Nat.{ℕ, pred, _+_, _-_, _≤_, _<_}
+use borrow.Author.Tests.{eq-eqb, le-leb, leb-true, ne-eqb}
+use lib.Dec.{leb}
+use lib.ListN.{length, set, length-set}
 use lib.Seq.{getD-set-other, getD-set-same}
 use native.Mathlib.Omega.{arith}
 use Rattle.combinatorics.proofs.Basics.{absurd-bool, and-both, and-left, and-right, before-or-not, false-of, same-or}
 use Rattle.combinatorics.proofs.Basics.{true-or-false}
 use Rattle.grid.proofs.Fields.{made-indices}
-use Rattle.grid.specs.Grid.{at, bound, numIndices}
+use Rattle.grid.specs.Grid.{at, bound}
 use Rattle.grid.specs.Made.{IsMade, shape}
 use Rattle.grid.specs.declared.Grid.{Grid as GridStruct}
 use Rattle.place.proofs.Accepted.{accepted-of}
 use Rattle.place.proofs.IndexSets.{no-empty}
 use Rattle.place.specs.Demand.{Accepted}
-use Rattle.place.specs.Places.{isPlace}
 use Rattle.place.specs.Questions.{tableQuestions}
 use Rattle.questions.specs.Questions.{firstNo}
 use Rattle.walks.specs.Next.{nextOf, refused}

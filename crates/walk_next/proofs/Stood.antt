@@ -1,27 +1,26 @@
 -- From a place that is kept rightly to one that is recognised, with its spare point. In order: what is asked; labels; T
 -- among the labels; the spare point. Assumes nothing.
-use mathlib.Core.Bool.{Bool, true, false, _&&_, cond}
+use mathlib.Core.Bool.{true, false, _&&_, cond}
 use mathlib.Core.List.{List, [], _∷_, map}
-use mathlib.Core.Logic.{_⊎_, inl, inr, ⊎-elim}
-use mathlib.Core.Path.{_≡_, refl, sym, ap, _∙_, subst}
-use Prim.Native.Nat.{ℕ, zero, suc, pred, _+_, _*_, _≤_, _<_}
+use mathlib.Core.Logic.{_⊎_, ⊎-elim}
+use mathlib.Core.Path.{_≡_, refl, sym, ap, _∙_}
+use Prim.Native.Nat.{ℕ, zero, suc, _+_, _≤_, _<_}
 use borrow.Author.Tests.{eqb-true, ltb-true}
 use lib.Dec.{eqb, ltb}
 use lib.ListN.{length, getD, take, length-map, length-take}
 use lib.Seq.{ext-getD, getD-take, length-take-le}
 use native.Mathlib.Omega.{arith}
-use Rattle.combinatorics.proofs.Basics.{absurd-bool, and-both, and-left, and-right, before-or-not, both, false-of}
+use Rattle.combinatorics.proofs.Basics.{absurd-bool, and-both, and-right, before-or-not, both, false-of}
 use Rattle.combinatorics.proofs.Basics.{true-or-false}
 use Rattle.combinatorics.proofs.Lists.{all-in, eqb-self, in-all, onNumbers, same-self, same-sound}
 use Rattle.combinatorics.specs.Lists.{isIn, same}
 use Rattle.grid.proofs.Fields.{following-low, made-accepted, made-indices, made-next, made-previous, previous-low}
-use Rattle.grid.proofs.Points.{in-points, onPoints, position-in}
-use Rattle.grid.specs.Grid.{Point, at, blockOf, isGridPoint, numIndices, numPoints, points, position, size}
+use Rattle.grid.proofs.Points.{onPoints}
+use Rattle.grid.specs.Grid.{Point, at, blockOf, isGridPoint, numIndices, position, size}
 use Rattle.grid.specs.Made.{IsMade, shape}
 use Rattle.grid.specs.declared.Grid.{Grid as GridStruct}
 use Rattle.place.proofs.Accepted.{accepted-of}
 use Rattle.place.proofs.Labels.{label-within}
-use Rattle.place.proofs.LinkSymmetry.{parts}
 use Rattle.place.proofs.Meaning.{labels-mean}
 use Rattle.place.proofs.Positions.{at-in, in-at}
 use Rattle.place.specs.Demand.{Accepted}
@@ -32,7 +31,7 @@ use Rattle.rules.proofs.Marks.{label-in, labels-in}
 use Rattle.rules.specs.Mask.{bit}
 use Rattle.rules.specs.Read.{markOf}
 use Rattle.rules.specs.Step.{markLabel}
-use Rattle.walks.proofs.KeptPlace.{Conditions, conditions-of, points-long, points-on}
+use Rattle.walks.proofs.KeptPlace.{conditions-of, points-long}
 use Rattle.walks.proofs.Recognised.{recognised}
 use Rattle.walks.specs.Kept.{isKept, keptPoints}
 use Rattle.walks.specs.Next.{nextOf, refused}
@@ -41,8 +40,7 @@ use Rattle.walk_moves.proofs.Next.{no-place, not-carried}
 use Rattle.walk_moves.proofs.Unknown.{some-spare}
 use Rattle.walk_labels.specs.Carrying.{labelsIn}
 use Rattle.walk_moves.specs.Spare.{Spare, again, outside, unknown}
-use Rattle.recogniser.specs.Kept.{Recognised, Seen}
-use Rattle.recogniser.specs.declared.Sets.{Sets}
+use Rattle.recogniser.specs.Kept.{Seen}
 use Rattle.walk_places.proofs.Placed.{kept-on-grid, kept-position}
 use Rattle.walk_next.specs.Choosing.{CanChoose}
 use Rattle.walk_next.specs.Standing.{CanStand}

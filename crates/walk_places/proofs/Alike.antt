@@ -1,14 +1,14 @@
 -- When two places are kept alike: exactly if their structs are the same. Assumes nothing.
-use mathlib.Core.Bool.{Bool, true, false, _&&_}
+use mathlib.Core.Bool.{true, false, _&&_}
 use mathlib.Core.List.{List}
-use mathlib.Core.Path.{_≡_, refl, sym, ap, _∙_}
-use Prim.Native.Nat.{ℕ, _≤_, _<_}
-use borrow.Author.Tests.{eqb-true, eq-eqb, ne-eqb}
+use mathlib.Core.Path.{_≡_, sym, ap, _∙_}
+use Prim.Native.Nat.{ℕ, _<_}
+use borrow.Author.Tests.{eqb-true}
 use lib.Dec.{eqb}
 use lib.ListN.{length}
 use lib.Seq.{ext-getD}
 use native.Mathlib.Omega.{arith}
-use Rattle.combinatorics.proofs.Basics.{absurd-bool, and-both, and-left, and-right, false-of}
+use Rattle.combinatorics.proofs.Basics.{and-both, and-left, and-right, false-of}
 use Rattle.combinatorics.proofs.Lists.{eqb-self, same-self, same-sound}
 use Rattle.combinatorics.specs.Lists.{same}
 use Rattle.grid.specs.Grid.{at}

@@ -1,20 +1,18 @@
 -- The place that a struct holds. In order: what is kept is held; a place that is held is kept so; what is stored.
 -- Assumes nothing.
-use mathlib.Core.Bool.{Bool, true, false, _&&_, cond}
+use mathlib.Core.Bool.{true, false, _&&_}
 use mathlib.Core.List.{List, [], _∷_}
 use mathlib.Core.Logic.{⊎-elim}
-use mathlib.Core.Option.{Option, none, some}
+use mathlib.Core.Option.{some}
 use mathlib.Core.Path.{_≡_, refl, sym, ap, _∙_, subst}
-use Prim.Native.Nat.{ℕ, suc, pred, _+_, _≤_, _<_}
-use borrow.Author.Tests.{eqb-true, le-leb, leb-true, ne-eqb}
-use lib.Dec.{eqb, leb}
+use Prim.Native.Nat.{ℕ, pred, _+_, _≤_}
+use borrow.Author.Tests.{le-leb, leb-true, ne-eqb}
+use lib.Dec.{leb}
 use lib.ListN.{length, take, replicate, length-take}
-use native.Mathlib.Numerals.{add-one}
 use native.Mathlib.Omega.{arith}
-use Rattle.combinatorics.proofs.Basics.{absurd-bool, and-both, and-left, and-right, false-of, true-or-false}
+use Rattle.combinatorics.proofs.Basics.{and-both, and-left, and-right, true-or-false}
 use Rattle.combinatorics.proofs.Fronts.{front-taken}
-use Rattle.combinatorics.specs.Front.{front}
-use Rattle.combinatorics.specs.Lists.{firstOr, same}
+use Rattle.combinatorics.specs.Lists.{firstOr}
 use Rattle.grid.specs.Grid.{Grid, numIndices}
 use Rattle.place.proofs.IndexSets.{no-empty}
 use Rattle.place.proofs.ToChain.{place-long}

@@ -1,6 +1,6 @@
 -- What is shown of a walk that a call moves, by its two places. Assumes nothing.
 use mathlib.Core.List.{List, [], _∷_, map}
-use mathlib.Core.Path.{_≡_, refl, sym, ap, _∙_, subst}
+use mathlib.Core.Path.{_≡_, sym, _∙_, subst}
 use Prim.Native.Nat.{ℕ, suc, _≤_}
 use lib.ListN.{take}
 use Rattle.grid.specs.Grid.{numIndices}

@@ -1,8 +1,7 @@
 -- The preview by the moving call. Assumes nothing.
-use mathlib.Core.List.{List, []}
-use mathlib.Core.Path.{_≡_, refl, sym, ap, _∙_}
+use mathlib.Core.List.{List}
+use mathlib.Core.Path.{_≡_, refl, ap, _∙_}
 use Prim.Native.Nat.{ℕ}
-use lib.ListN.{replicate}
 use Rattle.combinatorics.proofs.Basics.{absurd-bool}
 use Rattle.combinatorics.specs.Front.{front}
 use Rattle.grid.specs.Questions.{gridQuestions}

@@ -1,23 +1,22 @@
 -- What changes from a place to the next, by their marks and masks. Assumes nothing.
-use mathlib.Core.Bool.{Bool, true, false, not}
+use mathlib.Core.Bool.{true, false}
 use mathlib.Core.List.{List, [], _∷_, map}
 use mathlib.Core.Logic.{⊎-elim}
 use mathlib.Core.Path.{_≡_, refl, sym, ap, _∙_}
-use Prim.Native.Nat.{ℕ, zero, suc, _≤_, _<_}
+use Prim.Native.Nat.{ℕ, suc, _≤_, _<_}
 use lib.Dec.{eqb}
 use native.Mathlib.Omega.{arith}
 use Rattle.combinatorics.proofs.Basics.{absurd-bool, both, true-or-false}
 use Rattle.combinatorics.proofs.Lists.{all-in, in-here, in-later, in-map, map-in, onNumbers}
 use Rattle.combinatorics.specs.Lists.{all, firstOr, isIn}
 use Rattle.grid.proofs.Points.{onPoints}
-use Rattle.grid.specs.Grid.{Point, at, isGridPoint, numIndices, position, samePoint}
+use Rattle.grid.specs.Grid.{Point, isGridPoint, numIndices, position, samePoint}
 use Rattle.place.proofs.Meaning.{T-means, U-means}
 use Rattle.place.specs.Demand.{Accepted}
 use Rattle.place.specs.Places.{Simplex, setT, setU}
 use Rattle.place.specs.Problem.{Problem}
 use Rattle.recogniser.specs.Pieces.{bareMark}
 use Rattle.records.proofs.Told.{IsMask, gained, into, kept, lost}
-use Rattle.records.specs.Records.{differing}
 use Rattle.rules.specs.Mask.{bit}
 use Rattle.rules.specs.Step.{markPosition}
 use Rattle.trail.specs.Change.{ByRule, Change, change, changeBy, outside, rule1, rule2, rule3, rule4, rule5, rule6}

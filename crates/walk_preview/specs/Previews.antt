@@ -9,7 +9,7 @@ use Rattle.grid.specs.Made.{IsMade, shape}
 use Rattle.grid.specs.declared.Grid.{Grid as GridStruct}
 use Rattle.walks.specs.Next.{Outcome, ended, moved, refused, ruleOf}
 use Rattle.walks.specs.Preview.{Move, preview}
-use Rattle.walks.specs.Walk.{Walk, over}
+use Rattle.walks.specs.Walk.{over}
 use Rattle.walk_places.specs.Placing.{GoesTo}
 use Rattle.walk_places.specs.Walks.{gridOf, padded, walkOf, walkOn}
 use Rattle.walk_ways.specs.Answers.{kindOf}

@@ -1,5 +1,4 @@
 // What changes from a place to the next, by the marks of their points and the masks of T and U.
-ghost use mathlib.Core.List.{List};
 ghost use mathlib.Core.Path.{_≡_};
 ghost use Prim.Native.Nat.{suc, _≤_, _<_};
 ghost use lib.Dec.{eqb};

@@ -1,12 +1,11 @@
 -- The points of a place that is recognised, and the refusals before. Assumes nothing.
-use mathlib.Core.Bool.{Bool, true, false, cond}
+use mathlib.Core.Bool.{true, false}
 use mathlib.Core.List.{List, [], _∷_, map}
 use mathlib.Core.Path.{_≡_, refl, sym, ap, _∙_, subst}
 use Prim.Native.Nat.{ℕ, zero, suc, pred, _-_, _*_, _≤_, _<_}
 use borrow.Author.Tests.{ne-eqb}
-use lib.Dec.{eqb}
 use lib.ListN.{length, replicate, take, getD, length-map, length-take}
-use lib.Seq.{getD-take, take-all}
+use lib.Seq.{getD-take}
 use native.Mathlib.Nat.{le-trans, mul-le-mul-left, mul-le-mul-right}
 use native.Mathlib.Omega.{arith}
 use Rattle.arrays.specs.Rounds.{roundOf}
@@ -21,7 +20,7 @@ use Rattle.moves.specs.Held.{stateOf}
 use Rattle.place_points.specs.Room.{CanPut}
 use Rattle.moves.specs.declared.Status.{Status}
 use Rattle.place.proofs.Filled.{filledTable, filled-full}
-use Rattle.place.proofs.ToChain.{coefficientsOf, pointsOf, pointsOf-coefficientsOf}
+use Rattle.place.proofs.ToChain.{pointsOf-coefficientsOf}
 use Rattle.place.proofs.Accepted.{accepted-of}
 use Rattle.place.proofs.IndexSets.{no-empty}
 use Rattle.place.proofs.LinkSymmetry.{parts}

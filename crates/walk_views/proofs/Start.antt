@@ -1,17 +1,16 @@
 -- The walk at {v}: what the struct holds is the walk of the definitions, and how it is made. Assumes nothing.
-use mathlib.Core.Bool.{Bool, true, false, _&&_, cond}
+use mathlib.Core.Bool.{true}
 use mathlib.Core.List.{List, [], _∷_}
-use mathlib.Core.Option.{none}
 use mathlib.Core.Path.{_≡_, refl, sym, ap, _∙_}
-use Prim.Native.Nat.{ℕ, suc, pred, _≤_}
-use borrow.Author.Tests.{eq-eqb, le-leb, ne-eqb}
-use lib.Dec.{eqb, leb}
+use Prim.Native.Nat.{ℕ, _≤_}
+use borrow.Author.Tests.{le-leb, ne-eqb}
+use lib.Dec.{eqb}
 use lib.ListN.{length, replicate, take, length-replicate}
 use native.Mathlib.Omega.{arith}
 use Rattle.combinatorics.proofs.Lists.{eqb-self, same-self}
 use Rattle.combinatorics.proofs.Fronts.{front-length, front-none, front-taken}
 use Rattle.grid.proofs.Accepted.{accepted as accepted-grid}
-use Rattle.grid.specs.Grid.{Grid, Point, isGridPoint, numBlocks, numIndices}
+use Rattle.grid.specs.Grid.{Grid, Point, isGridPoint, numIndices}
 use Rattle.grid.proofs.Fields.{made-blocks, made-indices, made-points}
 use Rattle.grid.specs.Made.{IsMade, gridOf as structOf, shape}
 use Rattle.grid.specs.Questions.{gridQuestions}
@@ -22,10 +21,9 @@ use Rattle.place.specs.Questions.{tableQuestions}
 use Rattle.questions.proofs.Answers.{asked-no, both-yes}
 use Rattle.questions.specs.Questions.{firstNo}
 use Rattle.walks.proofs.KeptForm.{grid-long}
-use Rattle.walks.specs.Kept.{keptPoints}
 use Rattle.walk_calls.proofs.Later.{behind-four}
 use Rattle.walk_calls.specs.Asked.{laterQuestions}
-use Rattle.walks.specs.Walk.{Walk, walkAtStart}
+use Rattle.walks.specs.Walk.{walkAtStart}
 use Rattle.walk_views.specs.Begun.{begunOf, begunOn, noWalk, startWalk, CanLookUp}
 use Rattle.walk_views.specs.declared.Begun.{Begun}
 use Rattle.walk_places.proofs.Held.{kept-held, padded-taken}

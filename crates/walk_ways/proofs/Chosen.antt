@@ -2,52 +2,50 @@
 -- way back; what is told. Assumes nothing.
 use mathlib.Core.Bool.{Bool, true, false, _&&_, cond}
 use mathlib.Core.List.{List, [], _∷_, map}
-use mathlib.Core.Logic.{_⊎_, inl, inr, ⊎-elim}
-use mathlib.Core.Option.{Option, none, some}
-use mathlib.Core.Path.{_≡_, refl, sym, ap, _∙_, subst}
-use Prim.Native.Nat.{ℕ, zero, suc, pred, _+_, _-_, _*_, _≤_, _<_}
-use borrow.Author.Tests.{eqb-true, eq-eqb, ne-eqb}
+use mathlib.Core.Logic.{_⊎_, ⊎-elim}
+use mathlib.Core.Option.{some}
+use mathlib.Core.Path.{_≡_, refl, sym, ap, _∙_}
+use Prim.Native.Nat.{ℕ, zero, suc, _+_, _-_, _*_, _≤_, _<_}
+use borrow.Author.Tests.{eqb-true, eq-eqb}
 use lib.Dec.{eqb}
 use lib.ListN.{length, getD, take, length-map, length-take}
 use lib.Seq.{getD-take}
 use native.Mathlib.Nat.{le-trans, mul-le-mul-left, mul-le-mul-right}
 use native.Mathlib.Omega.{arith}
 use Rattle.arrays.specs.Rounds.{roundOf}
-use Rattle.combinatorics.proofs.Basics.{absurd-bool, and-both, and-left, and-right, false-of, same-or, true-or-false}
+use Rattle.combinatorics.proofs.Basics.{absurd-bool, and-left, and-right, false-of, same-or, true-or-false}
 use Rattle.combinatorics.proofs.Lists.{all-in}
 use Rattle.combinatorics.proofs.Ranges.{length-upFrom}
 use Rattle.combinatorics.specs.Front.{front}
 use Rattle.combinatorics.specs.Lists.{isIn, upFrom}
-use Rattle.grid.proofs.Fields.{made-accepted, made-indices}
+use Rattle.grid.proofs.Fields.{made-indices}
 use Rattle.grid.proofs.Points.{in-points, onPoints, position-in}
 use Rattle.grid.specs.Grid.{Point, at, blockOf, isGridPoint, numIndices, numPoints, points, position}
-use Rattle.grid.specs.Made.{IsMade, shape}
+use Rattle.grid.specs.Made.{shape}
 use Rattle.grid.specs.declared.Grid.{Grid as GridStruct}
 use Rattle.moves.specs.Held.{stateOf}
 use Rattle.place_points.specs.Room.{CanPut}
 use Rattle.moves.specs.declared.Status.{Status}
 use Rattle.place.proofs.Accepted.{accepted-of}
 use Rattle.place.proofs.Filled.{fill, filledTable, filled-full, filled-label}
-use Rattle.place.proofs.Labels.{label-within}
 use Rattle.place.proofs.LinkSymmetry.{parts}
 use Rattle.place.proofs.Local.{setT-same}
 use Rattle.place.proofs.ToChain.{coefficientsOf, pointsOf, pointsOf-coefficientsOf}
 use Rattle.place.proofs.Positions.{at-in}
-use Rattle.place.specs.Coefficients.{coefficients}
 use Rattle.place.specs.Demand.{Accepted}
-use Rattle.place.specs.Ends.{Way, facetEnd, link, placeEnd}
-use Rattle.place.specs.Places.{Simplex, isPlace, setT, setU}
+use Rattle.place.specs.Ends.{facetEnd, link, placeEnd}
+use Rattle.place.specs.Places.{Simplex, setT, setU}
 use Rattle.place.specs.Problem.{Problem, label}
 use Rattle.rules.proofs.StatePoints.{ready-point}
 use Rattle.rules.specs.Mask.{bit}
 use Rattle.rules.specs.Read.{markOf, pointIn, pointsFrom}
 use Rattle.rules.specs.Ready.{Ready}
-use Rattle.rules.specs.Step.{After, State, endsAtFacet, endsAtPlace, goes, mark, step}
+use Rattle.rules.specs.Step.{After, State, endsAtFacet, endsAtPlace, goes, step}
 use Rattle.trail.specs.Change.{ByRule, change}
 use Rattle.walks.proofs.Moved.{calls-hold}
 use Rattle.walks.specs.Kept.{keptPoints}
 use Rattle.walks.specs.Next.{byWay, ended, moveAnswer, moveWalk, moved, nextOf, refused, ruleOf}
-use Rattle.walks.specs.Walk.{Walk, over}
+use Rattle.walks.specs.Walk.{Walk}
 use Rattle.walk_moves.proofs.Carried.{points-long}
 use Rattle.walk_moves.proofs.Kept.{describes, full, place-filled}
 use Rattle.walk_moves.proofs.Next.{fits-a, fits-b, fits-v, ready-a, ready-b, ready-v}

@@ -5,22 +5,21 @@ use mathlib.Core.List.{List, [], _∷_}
 use mathlib.Core.Logic.{⊎-elim}
 use mathlib.Core.Option.{Option, none, some}
 use mathlib.Core.Path.{_≡_, refl, sym, ap, _∙_}
-use Prim.Native.Nat.{ℕ, zero, suc, _≤_, _<_}
+use Prim.Native.Nat.{ℕ, suc, _≤_}
 use borrow.Author.Tests.{eqb-true, eq-eqb}
-use lib.Dec.{eqb}
-use lib.ListN.{length, getD, take}
+use lib.ListN.{length, getD}
 use native.Mathlib.Omega.{arith}
-use Rattle.combinatorics.proofs.Basics.{absurd-bool, same-or, true-or-false}
+use Rattle.combinatorics.proofs.Basics.{absurd-bool, same-or}
 use Rattle.combinatorics.proofs.Lists.{all-in, in-all}
 use Rattle.grid.proofs.Points.{onPoints}
-use Rattle.grid.specs.Grid.{Point, isGridPoint, samePoint}
+use Rattle.grid.specs.Grid.{isGridPoint}
 use Rattle.grid.specs.Made.{shape}
 use Rattle.grid.specs.declared.Grid.{Grid as GridStruct}
 use Rattle.place.proofs.Labels.{label-ok}
 use Rattle.place.proofs.LinkSymmetry.{parts}
 use Rattle.place.proofs.Positions.{in-at}
-use Rattle.place.specs.Places.{Simplex, allLabelled, isPlace}
-use Rattle.place.specs.Problem.{Problem, hasLabel, label}
+use Rattle.place.specs.Places.{Simplex, allLabelled}
+use Rattle.place.specs.Problem.{hasLabel, label}
 use Rattle.rules.specs.Step.{State, step}
 use Rattle.walks.specs.Kept.{keptPoints}
 use Rattle.walks.specs.Next.{byWay, nextOf, refused}

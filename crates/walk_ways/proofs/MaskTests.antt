@@ -1,8 +1,7 @@
 -- Tests of masks as numbers, and as sets of indices. Assumes nothing.
 use mathlib.Core.Bool.{Bool, Bool·beq, true, false, not, _&&_, _||_}
-use mathlib.Core.List.{List}
 use mathlib.Core.Path.{_≡_, refl, sym, ap, _∙_}
-use Prim.Native.Nat.{ℕ, _<_, _≤_}
+use Prim.Native.Nat.{ℕ, _<_}
 use borrow.Author.Tests.{eqb-true, eq-eqb}
 use lib.Bits.{and-le-l, bitAnd}
 use lib.Dec.{eqb}
@@ -10,7 +9,7 @@ use native.Mathlib.Omega.{arith}
 use Rattle.combinatorics.proofs.Basics.{absurd-bool, both}
 use Rattle.combinatorics.proofs.Lists.{all-in, in-all, onNumbers}
 use Rattle.combinatorics.proofs.Ranges.{in-upFrom, upFrom-in}
-use Rattle.combinatorics.specs.Lists.{all, upFrom}
+use Rattle.combinatorics.specs.Lists.{upFrom}
 use Rattle.rules.proofs.SameMasks.{same-mask}
 use Rattle.rules.proofs.Masks.{bit-and}
 use Rattle.rules.specs.Mask.{bit}

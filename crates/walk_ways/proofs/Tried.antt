@@ -1,10 +1,10 @@
 -- What a move leaves in its arrays is the way that it makes. Assumes nothing.
 use mathlib.Core.List.{List, [], _∷_}
-use mathlib.Core.Path.{_≡_, refl, sym, ap, _∙_, subst}
+use mathlib.Core.Path.{_≡_, refl, sym, ap, _∙_}
 use Prim.Native.Nat.{ℕ, zero, suc, _+_, _≤_}
 use lib.ListN.{length, take, length-take}
 use native.Mathlib.Omega.{arith}
-use Rattle.moves.specs.Held.{Holds, answered, stateOf}
+use Rattle.moves.specs.Held.{Holds, stateOf}
 use Rattle.moves.specs.declared.Outcome.{Outcome}
 use Rattle.moves.specs.declared.Outcome.the-variants.{FacetEnd, Moved, PlaceEnd}
 use Rattle.moves.specs.declared.Status.{Status}

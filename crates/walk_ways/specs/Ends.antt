@@ -1,9 +1,7 @@
 -- What comes next, by a way, as a struct. Assumes nothing.
-use mathlib.Core.List.{List, []}
 use mathlib.Core.Path.{_≡_}
 use Prim.Native.Nat.{ℕ, suc, _-_, _<_}
 use lib.ListN.{length, replicate}
-use Rattle.combinatorics.specs.Front.{front}
 use Rattle.grid.specs.Grid.{blockOf}
 use Rattle.grid.specs.Made.{shape}
 use Rattle.grid.specs.declared.Grid.{Grid as GridStruct}

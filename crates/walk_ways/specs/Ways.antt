@@ -1,6 +1,5 @@
 -- What one move from a place gives, as a struct. Assumes nothing.
 use mathlib.Core.Bool.{Bool, Bool·beq, not, _||_, cond}
-use mathlib.Core.List.{List}
 use mathlib.Core.Path.{_≡_}
 use Prim.Native.Nat.{ℕ, _≤_}
 use lib.ListN.{length}

@@ -1,10 +1,7 @@
 // Which of the two moves from a place leads back to the one before it, and which on.
-ghost use mathlib.Core.Bool.{Bool};
-ghost use mathlib.Core.List.{List};
 ghost use mathlib.Core.Path.{_≡_};
-ghost use Prim.Native.Nat.{ℕ, suc, _≤_};
+ghost use Prim.Native.Nat.{_≤_};
 ghost use lib.ListN.{length};
-ghost use Rattle.grid.specs.Made.{IsMade};
 ghost use Rattle.walk_ways.specs.Standing.{IsRoundOf, leadsBack, nextIn, Standing};
 use crate::Leads;
 use crate::Next;

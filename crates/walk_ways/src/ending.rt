@@ -1,10 +1,10 @@
 // The answer at an end, and what a way tells.
 ghost use mathlib.Core.List.{[]};
 ghost use mathlib.Core.Path.{_≡_};
-ghost use Prim.Native.Nat.{_≤_, _<_};
+ghost use Prim.Native.Nat.{_<_};
 ghost use lib.ListN.{length};
 ghost use Rattle.arrays.specs.Rounds.{roundBack};
-ghost use Rattle.grid.specs.Made.{IsMade, shape};
+ghost use Rattle.grid.specs.Made.{IsMade};
 ghost use Rattle.moves.specs.Held.{stateOf};
 ghost use Rattle.place_points.specs.Room.{CanPut};
 ghost use Rattle.rules.specs.Step.{State};

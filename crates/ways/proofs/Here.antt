@@ -49,7 +49,8 @@ module _ (a : State) where
 
   pub here-steps : wayAfter a (wayHere a) ≡ step a
   here-steps = ⊎-elim
-      (λ (w : (i : ℕ) × Leaving a i). ap (wayAfter a) (sym (here-leaves (w .0) (w .1))) ∙ leaving-leaves a (w .0) (w .1))
+      (λ (w : (i : ℕ) × Leaving a i). ap (wayAfter a) (sym (here-leaves (w .0) (w .1))) ∙ leaving-leaves a (w .0)
+      (w .1))
       (λ (w : (h : ℕ) × Joining h). ap (wayAfter a) (sym (here-joins (w .0) (w .1)))
       ∙ label-joins a (labelIn a) (w .0) refl (w .1 .2) (w .1 .0) (rw (w .1 .2) (w .1 .1)))
       leaves-or-joins
@@ -70,8 +71,10 @@ module _ (a : State) where
   pub here-low : (s : Status) → CanTell a s → a .rule ≡ s .rule → a .active ≡ s .active → (i : ℕ)
       → wayHere a ≡ Leaves i → i ≤ s .count
   here-low s C r e i q = ⊎-elim
-      (λ (w : (i : ℕ) × Leaving a i). let z : w .0 ≡ i = let f = here-leaves (w .0) (w .1) in cc in rw (← z) (low (w .0) (w .1)))
-      (λ (w : (h : ℕ) × Joining h). absurd (let f = here-joins (w .0) (w .1) in let z : _≡_ {A = ℕ} 0 1 = cc in omega arith))
+      (λ (w : (i : ℕ) × Leaving a i). let z : w .0 ≡ i = let f = here-leaves (w .0) (w .1) in cc in rw (← z)
+      (low (w .0) (w .1)))
+      (λ (w : (h : ℕ) × Joining h). absurd
+      (let f = here-joins (w .0) (w .1) in let z : _≡_ {A = ℕ} 0 1 = cc in omega arith))
       leaves-or-joins
     where
       low : (i : ℕ) → Leaving a i → i ≤ s .count

@@ -41,7 +41,10 @@ met-below way q I (suc n) h l = ⊎-elim
 -- to take out an index that is not there changes nothing
 without-none : (m h k : ℕ) → h < 16 → k < 16 → bit m h ≡ false → bit m k ≡ bit (withoutIndex m h) k
 without-none m h k hl kl e =
-    ⊎-elim (λ (q : k ≡ h). rw (q, e) (sym (bit-without m h h hl hl ∙ rw (eq-eqb h h refl)))) (λ n. sym (bit-without m h k hl kl ∙ rw (ne-eqb k h n))) (same-or k h)
+    ⊎-elim
+    (λ (q : k ≡ h). rw (q, e) (sym (bit-without m h h hl hl ∙ rw (eq-eqb h h refl))))
+    (λ n. sym (bit-without m h k hl kl ∙ rw (ne-eqb k h n)))
+    (same-or k h)
 
 module _ (s : State) (I : IndicesBelow (s .round .previous)) where
   shrunk-else : (i e : ℕ) (intoU : Bool) → shrink s i e intoU .rule ≡ 1 → ⊥

@@ -1,6 +1,6 @@
-// What a move does, told before it is made: a point leaves, or an index joins T. The writer of a trail takes it from the
-// labels, the reader from a record, and both make the same move. What is public here is for the two, which show what it
-// asks.
+// What a move does, told before it is made: a point leaves, or an index joins T. The writer of a trail takes it from
+// the labels, the reader from a record, and both make the same move. What is public here is for the two, which show
+// what it asks.
 ghost use mathlib.Core.Path.{_≡_};
 ghost use Prim.Native.Nat.{ℕ, _≤_};
 ghost use lib.ListN.{length};

@@ -1,6 +1,6 @@
 -- `case_reader::put_bytes` meets its contract. The invariant: no more bytes are put than there is room for. Assumes
 -- nothing.
-use mathlib.Core.Path.{_≡_, refl}
+use mathlib.Core.Path.{_≡_}
 use Prim.Native.Nat.{_≤_, _-_}
 use lib.ListN.{length}
 use native.Mathlib.Omega.{arith}

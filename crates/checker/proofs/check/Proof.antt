@@ -1,5 +1,5 @@
 -- `check` meets its contract: questions 1 to 4, then 6, 7 and 19, and then the verdict. Assumes nothing.
-use mathlib.Core.Path.{_≡_, sym, ap, _∙_}
+use mathlib.Core.Path.{sym, ap, _∙_}
 use Prim.Native.Nat.{ℕ, _/_}
 use lib.ListN.{length}
 use Rattle.questions.specs.Questions.{firstNo}

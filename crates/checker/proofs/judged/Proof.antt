@@ -1,5 +1,5 @@
 -- `judged` meets its contract: the test, and then the first block that is covered. Assumes nothing.
-use mathlib.Core.Path.{_≡_, sym, ap, _∙_}
+use mathlib.Core.Path.{sym, ap, _∙_}
 use borrow.Author.Tests.{not-true, not-false}
 use Rattle.checker.proofs.Answers.{verdict-no, verdict-covered}
 use Rattle.checker.specs.Check.{caseOf}

@@ -5,7 +5,7 @@ use mathlib.Core.Path.{sym, _∙_}
 use lib.ListN.{length-set}
 use native.Mathlib.Omega.{arith}
 use Rattle.arrays.specs.Rounds.{roundOf}
-use Rattle.finder.proofs.Visits.{marked-known, unknown-zero}
+use Rattle.path_walk.proofs.Visits.{marked-known, unknown-zero}
 use Rattle.marks.specs.Reading.{tableOf}
 use Rattle.label_reading.proofs.Places.{looked-none, looked-some}
 use borrow.Author.Needs.{needs}

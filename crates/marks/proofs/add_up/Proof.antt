@@ -1,10 +1,8 @@
 -- `marks::add_up` meets its contract: each way out of it tells the case. Assumes nothing.
-use mathlib.Core.Path.{_≡_, sym, _∙_}
+use mathlib.Core.Path.{sym, _∙_}
 use borrow.Author.Tests.{eq-eqb, ne-eqb, lt-ltb, le-ltb, le-leb, lt-leb}
 use native.Mathlib.Omega.{arith}
 use Rattle.grid.proofs.Fields.{indices-few}
-use Rattle.grid.specs.Grid.{blockOf}
-use Rattle.grid.specs.Made.{shape}
 use borrow.Author.Needs.{needs}
 use Rattle.marks.proofs.add_up.Statement.{statement}
 use Rattle.marks.proofs.add_up.Tie as tie

@@ -1,8 +1,6 @@
 -- `marks::is_between` meets its contract. Assumes nothing.
-use mathlib.Core.Path.{refl}
 use borrow.Author.Tests.{eq-eqb, ne-eqb, lt-ltb, le-ltb}
 use native.Mathlib.Omega.{arith}
-use borrow.Author.Needs.{needs}
 use Rattle.marks.proofs.is_between.Statement.{statement}
 use Rattle.marks.proofs.is_between.Tie as tie
 

@@ -4,7 +4,6 @@ use mathlib.Core.List.{[]}
 use mathlib.Core.Path.{_∙_}
 use Rattle.arrays.specs.Rounds.{roundOf}
 use Rattle.marks.proofs.Readings.{can-step, point-at, steps-ready}
-use borrow.Author.Needs.{needs}
 use Rattle.marks.proofs.position_by_steps.Statement.{statement}
 use Rattle.marks.proofs.position_by_steps.Tie as tie
 

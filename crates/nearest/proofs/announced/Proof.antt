@@ -12,10 +12,10 @@ use Rattle.combinatorics.proofs.Fronts.{front-none, front-taken}
 use Rattle.combinatorics.specs.Front.{front}
 use Rattle.finder.proofs.Announcements.{accepted-in, finished-from, index, point-long, room, same-problem, start-long}
 use Rattle.finder.proofs.Announcements.{taken-long, told, written}
-use Rattle.finder.proofs.Visits.{is-round, round-below}
-use Rattle.finder.specs.Finish.{Finished, problemIn}
+use Rattle.path_walk.proofs.Visits.{is-round, round-below}
+use Rattle.path_walk.specs.Finish.{Finished, problemIn}
 use Rattle.finder.specs.declared.answers.Answer.{Answer}
-use Rattle.finder.specs.declared.walk.Finish.{Finish}
+use Rattle.path_walk.specs.declared.Finish.{Finish}
 use Rattle.grid.proofs.Fields.{indices-few, made-indices}
 use Rattle.grid.specs.Grid.{position}
 use Rattle.grid.specs.Made.{shape}

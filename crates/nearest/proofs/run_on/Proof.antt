@@ -96,7 +96,8 @@ Reported = tie.After-announced
 given : (c : Reported)
     → let a = begun (c .before) .args in
     let p = problem (c .before) in
-    (c .announced .result ≡ reportOf p (a .w .now) (a .given) (length (a .answer .now)) (length (a .list .now)) (a .budget))
+    (c .announced .result ≡ reportOf p (a .w .now) (a .given) (length (a .answer .now)) (length (a .list .now))
+    (a .budget))
     × (front (numbersOf (answer p (a .budget))) (a .answer .now)
     ≡ answerBuffer p (a .w .now) (length (a .list .now)) (a .budget) (a .answer .now))
     × (front (listedIn p (a .w .now) (a .given) (answer p (a .budget))) (a .list .now)

@@ -1,8 +1,8 @@
 -- `recognise` meets its contract: where a piece fails the conditions are not met, and where all are passed they are.
 -- Assumes nothing.
-use mathlib.Core.Bool.{Bool, true, false, not}
-use mathlib.Core.Path.{_≡_, refl, sym, ap, _∙_, subst}
-use lib.ListN.{length, take, length-take}
+use mathlib.Core.Bool.{Bool}
+use mathlib.Core.Path.{sym, _∙_, subst}
+use lib.ListN.{length-take}
 use Rattle.combinatorics.proofs.Basics.{absurd-bool, not-is}
 use Rattle.grid.proofs.Fields.{indices-few}
 use Rattle.recogniser.proofs.Together.{is-not, not-recognised, off-grid, no-sets, not-free, cannot-step}

@@ -1,4 +1,5 @@
--- `records::exchanged` meets its contract: where U is kept too the record is that of rule 1, else by computation. Assumes nothing.
+-- `records::exchanged` meets its contract: where U is kept too the record is that of rule 1, else by computation.
+-- Assumes nothing.
 use mathlib.Core.Bool.{false}
 use mathlib.Core.Path.{_≡_, refl, sym, _∙_}
 use Prim.Native.Nat.{_<_}

@@ -1,7 +1,6 @@
 -- `centre` meets its contract: its products fit, its divisor is not 0, and the quotient or one more is nearest, as no
 -- other number is. Assumes nothing.
-use mathlib.Core.Path.{_≡_, sym}
-use Prim.Native.Nat.{ℕ, _+_, _-_, _*_, _/_, _≤_, _<_}
+use Prim.Native.Nat.{ℕ, _-_, _*_, _/_, _≤_, _<_}
 use native.Mathlib.Nat.{add-le-add, div-add-mod', div-le-self, div-mul-le-self, le-refl, mod-lt, mul-le-mul, mul-pos}
 use native.Mathlib.Omega.{arith}
 use mir.Facts.{fits-le}

@@ -1,5 +1,5 @@
 -- `shelf_cases::make_calls` is safe and ends. The invariant: the list keeps its length. Assumes nothing.
-use mathlib.Core.Path.{_≡_, refl}
+use mathlib.Core.Path.{_≡_}
 use lib.ListN.{length}
 use borrow.Author.Needs.{needs}
 use Rattle.shelf_cases.proofs.make_calls.Statement.{statement}

@@ -1,5 +1,5 @@
--- `survey::pass` meets its contract. The loop's invariant: the walk stands at the place whose number is what is spent of
--- the budget (`Walking`). The measure is what is left of the budget. Assumes nothing.
+-- `survey::pass` meets its contract. The loop's invariant: the walk stands at the place whose number is what is spent
+-- of the budget (`Walking`). The measure is what is left of the budget. Assumes nothing.
 use mathlib.Core.List.{List, []}
 use mathlib.Core.Path.{_≡_, refl, sym, ap, _∙_, subst}
 use Prim.Native.Nat.{ℕ, suc, _+_, _-_, _≤_, _<_}
@@ -9,9 +9,9 @@ use native.Mathlib.Omega.{arith}
 use Rattle.arrays.specs.Rounds.{roundOf}
 use Rattle.combinatorics.proofs.EditsOfArrays.{counted}
 use Rattle.combinatorics.specs.Front.{front}
-use Rattle.finder.proofs.Visits.{HasRead, OnPath, announced-facet, announced-place, asked, begins, begins-reading}
-use Rattle.finder.proofs.Visits.{goes-on, leads, marks-back, read-back, reads-fit, reads-on, spends, visits}
-use Rattle.finder.specs.Finish.{CanVisit, problemIn}
+use Rattle.path_walk.proofs.Visits.{HasRead, OnPath, announced-facet, announced-place, asked, begins, begins-reading}
+use Rattle.path_walk.proofs.Visits.{goes-on, leads, marks-back, read-back, reads-fit, reads-on, spends, visits}
+use Rattle.path_walk.specs.Finish.{CanVisit, problemIn}
 use Rattle.grid.proofs.Fields.{indices-few}
 use Rattle.grid.specs.Grid.{at as gridAt, position}
 use Rattle.grid.specs.Made.{shape}
@@ -27,10 +27,10 @@ use Rattle.place.specs.Problem.{Problem}
 use Rattle.rules.proofs.Follow.{NextAt}
 use Rattle.rules.specs.Read.{positionAt, read}
 use Rattle.rules.specs.Step.{After, Round, State, goes, markPosition, step as stepOf}
-use Rattle.survey.proofs.Keeping.{kept-none}
+use Rattle.vertices_met.proofs.Keeping.{kept-none}
 use Rattle.survey.proofs.Passing.{Walking, come-is, computed, kept-met, last-facet, last-place}
 use Rattle.survey.proofs.Passing.{met-listed, met-nearest, met-written, room-next}
-use Rattle.survey.specs.Survey.{Kept, comeIn}
+use Rattle.vertices_met.specs.Meeting.{Kept, comeIn}
 use Rattle.survey.proofs.pass.Statement.{statement}
 use Rattle.survey.proofs.pass.Tie as tie
 use Rattle.visited.proofs.Nearest.{grid-accepted}
@@ -167,7 +167,8 @@ enum-known-looked : tie.Need-enum-known-looked Inv-loop μ-loop
 enum-known-looked c = search needs
 
 sub-t39 : tie.Need-sub-t39 Inv-loop μ-loop
-sub-t39 c = omega (arith, c .before .before .before .before .before .before .before .before .before .before .loop .inv .1)
+sub-t39 c =
+    omega (arith, c .before .before .before .before .before .before .before .before .before .before .loop .inv .1)
 
 sub-t40 : tie.Need-sub-t40 Inv-loop μ-loop
 sub-t40 c = let at = c .before .before .before .before in omega (arith, spent at)
@@ -217,7 +218,8 @@ told c =
     (l .marks) (l .s) in
     looked-up (table (at c)) (a .previous .now) (a .next .now) (a .sizes .now) (l .first) (l .coefficients) (l .order)
     (l .marks) (l .s) (marksRead c)
-    (subst (LooksUp (table (at c)) back (l .s) (marksRead c)) (c .enum-told .given .1) (c .before .before .look-up .ensures))
+    (subst (LooksUp (table (at c)) back (l .s) (marksRead c)) (c .enum-told .given .1)
+    (c .before .before .look-up .ensures))
     (l .inv .0 .each .inOrder) (visited (at c) .ready)
 
 -- the state with its mark, and the position of its point
@@ -433,7 +435,8 @@ onward c =
     let last = made c .step .last .1 .1 .1 in
     stateOf (round (at (known (made c)))) (last .0) (last .1 .0) (last .1 .1 .0) (last .1 .1 .1 .0) (status c)
 
-leads-on : (c : Gone) → NextAt (filledTable (problem (at (known (made c))))) (number (at (known (made c)))) (goes (onward c))
+leads-on : (c : Gone) → NextAt (filledTable (problem (at (known (made c))))) (number (at (known (made c))))
+    (goes (onward c))
 leads-on c = next (made c) _ (steps (made c) _ (c .before .outcome3 .given .1))
 
 stands-on : (c : Gone) → OnPath (problem (at (known (made c)))) (onward c) (suc (number (at (known (made c)))))
@@ -497,7 +500,8 @@ loop-less-2 c =
     omega (arith, at (known (c .before .before .before)) .before .before .before .before .before .loop-test .taken)
 
 loop-again-2 : tie.Need-loop-again-2 Inv-loop μ-loop
-loop-again-2 c = absurd (one-of-three _ (c .before .before .match2 .keys2) (c .before .match3 .keys2) (c .match4 .keys2))
+loop-again-2 c =
+    absurd (one-of-three _ (c .before .before .match2 .keys2) (c .before .match3 .keys2) (c .match4 .keys2))
 
 same-length-4 : tie.Need-same-length-4 Inv-loop μ-loop
 same-length-4 c = omega (arith, c .before .loop .inv .0 .long)

@@ -174,7 +174,8 @@ given c o =
 
 -- what the way leads to
 leads : (c : Made) (o : Outcome) → c .moved-by .result ≡ o → {start : List ℕ} {a : Simplex} (H : Holds (at c) start a)
-    → WayLeads (H .settled) (H .shows) (bytesOn (at c)) (at c .before .before .loop .s .count) (counted (at c) H) (gone c)
+    → WayLeads (H .settled) (H .shows) (bytesOn (at c)) (at c .before .before .loop .s .count) (counted (at c) H)
+    (gone c)
     (given c o)
 leads c o e H =
     let l = at c .before .before .loop in
@@ -298,7 +299,8 @@ back c =
     stateOf (roundOf (a .previous .now) [] (a .sizes .now)) (last .0) (last .1 .0) (last .1 .1 .0) (last .1 .1 .1 .0)
     (status (c .before))
 
-differs : (c : Compared) → c .arrive .result ≡ 0 → {start : List ℕ} {a : Simplex} → Holds (at (made (c .before))) start a
+differs : (c : Compared) → c .arrive .result ≡ 0 → {start : List ℕ} {a : Simplex}
+    → Holds (at (made (c .before))) start a
     → (k : ℕ)
     → rebuiltFrom (problemBy (begun (at (made (c .before))) .args .g) start) (suc k) a (bytesOn (at (made (c .before))))
     ≡ none
@@ -320,7 +322,8 @@ next : (c : Compared) → (c .arrive .result ≡ 0 → ⊥) → {start : List �
     → let m = made (c .before) in
     let last = m .moved-by .last .1 .1 .1 in
     let marks = c .arrive .last .1 .1 .1 .1 .1 .1 .1 .1 .0 in
-    Leads (begun (at m) .args .g) start (begun (at m) .args .trail .now) a (at m .before .before .loop .at) (last .1 .1 .0)
+    Leads (begun (at m) .args .g) start (begun (at m) .args .trail .now) a (at m .before .before .loop .at)
+    (last .1 .1 .0)
     marks (stateOf (round (at m)) (last .0) (last .1 .0) (last .1 .1 .0) marks (status (c .before)))
     (status (c .before) .count) (c .arrive .result)
 next c z H =

@@ -10,9 +10,9 @@ use native.Mathlib.Omega.{arith}
 use Rattle.arrays.specs.Rounds.{noRound, roundOf}
 use Rattle.combinatorics.proofs.EditsOfArrays.{counted}
 use Rattle.combinatorics.specs.Front.{front}
-use Rattle.finder.proofs.Visits.{HasRead, OnPath, announced-facet, announced-place, asked, begins, begins-reading}
-use Rattle.finder.proofs.Visits.{goes-on, leads, marks-back, read-back, reads-fit, reads-on, spends, visits}
-use Rattle.finder.specs.Finish.{CanVisit, problemIn}
+use Rattle.path_walk.proofs.Visits.{HasRead, OnPath, announced-facet, announced-place, asked, begins, begins-reading}
+use Rattle.path_walk.proofs.Visits.{goes-on, leads, marks-back, read-back, reads-fit, reads-on, spends, visits}
+use Rattle.path_walk.specs.Finish.{CanVisit, problemIn}
 use Rattle.grid.proofs.Fields.{indices-few}
 use Rattle.label_reading.proofs.Places.{IsRead, looked-up}
 use Rattle.label_reading.specs.Looking.{LooksUp}
@@ -93,7 +93,9 @@ abbrev At : Type 0
 At = tie.After-marks Inv-loop μ-loop
 
 abbrev begun : At → tie.Start Inv-loop μ-loop
-begun c = c .before .before .before .before .before .before .before .before .before .before .before .before .before .before
+begun c =
+    c .before .before .before .before .before .before .before
+    .before .before .before .before .before .before .before
 
 abbrev round : At → Round
 round c =
@@ -168,7 +170,8 @@ enum-known-looked : tie.Need-enum-known-looked Inv-loop μ-loop
 enum-known-looked c = search needs
 
 sub-t38 : tie.Need-sub-t38 Inv-loop μ-loop
-sub-t38 c = omega (arith, c .before .before .before .before .before .before .before .before .before .before .loop .inv .1)
+sub-t38 c =
+    omega (arith, c .before .before .before .before .before .before .before .before .before .before .loop .inv .1)
 
 sub-t39 : tie.Need-sub-t39 Inv-loop μ-loop
 sub-t39 c = let at = c .before .before .before .before in omega (arith, spent at)
@@ -218,7 +221,8 @@ told c =
     (l .marks) (l .s) in
     looked-up (table (at c)) (a .previous .now) (a .next .now) (a .sizes .now) (l .first) (l .coefficients) (l .order)
     (l .marks) (l .s) (marksRead c)
-    (subst (LooksUp (table (at c)) back (l .s) (marksRead c)) (c .enum-told .given .1) (c .before .before .look-up .ensures))
+    (subst (LooksUp (table (at c)) back (l .s) (marksRead c)) (c .enum-told .given .1)
+    (c .before .before .look-up .ensures))
     (l .inv .0 .each .inOrder) (visited (at c) .ready)
 
 tells : (c : Known)
@@ -253,7 +257,8 @@ tell-requires c κs =
               (walk .here) (R .known));
           gone = walk .left e .low;
         };
-        room = subst (λ (x : State). l .at + length (recordHere x (l .before) (l .at)) ≤ length (l .trail)) (sym (R .is))
+        room = subst (λ (x : State). l .at + length (recordHere x (l .before) (l .at)) ≤ length (l .trail))
+            (sym (R .is))
             (omega (
               arith,
               next-short (a .g) (a .first .now) (a .table .now) (w .accepted) (place (at k)) (number (at k))
@@ -332,7 +337,8 @@ put : (c : Made)
     let a = begun (at k) .args in
     let p = problem (at k) in
     trailAfter c
-    ≡ cond (a .writes) (front (trailOf p (take (suc (number (at k))) (path p .visited))) (a .trail .now)) (a .trail .now)
+    ≡ cond (a .writes) (front (trailOf p (take (suc (number (at k))) (path p .visited))) (a .trail .now))
+    (a .trail .now)
 put c =
     let k = known c in
     let a = begun (at k) .args in
@@ -439,7 +445,8 @@ onward c =
     let last = made c .moved-by .last .1 .1 .1 in
     stateOf (round (at (known (made c)))) (last .0) (last .1 .0) (last .1 .1 .0) (last .1 .1 .1 .0) (status c)
 
-leads-on : (c : Gone) → NextAt (filledTable (problem (at (known (made c))))) (number (at (known (made c)))) (goes (onward c))
+leads-on : (c : Gone) → NextAt (filledTable (problem (at (known (made c))))) (number (at (known (made c))))
+    (goes (onward c))
 leads-on c = next (made c) _ (steps (made c) _ (c .before .outcome3 .given .1))
 
 stands-on : (c : Gone) → OnPath (problem (at (known (made c)))) (onward c) (suc (number (at (known (made c)))))
@@ -457,7 +464,8 @@ keeps : (c : Gone)
 keeps c r =
     let k = known (made c) in
     let s = at k .before .before .before .before .before .before .loop .s in
-    let way = made c .before .before .before .before .before .before .before .before .before .before .way-here .result in
+    let way = made c .before .before .before .before .before .before .before .before .before .before .way-here .result
+    in
     let K : KeepsBoth (marked k) (onward c) = rule-one (marked k) (begun (at k) .pre .0 .below .backward) way (onward c)
     (sym (moves (made c) (Moved (status c)) (c .before .outcome3 .given .1))) r in
     record {
@@ -496,7 +504,8 @@ longer c =
     let k = known (made (c .before)) in
     let a = begun (at k) .args in
     let l = at k .before .before .before .before .before .before .loop in
-    next-end (a .g) (a .first .now) (a .table .now) (begun (at k) .pre .0 .accepted) (onward (c .before)) (number (at k))
+    next-end (a .g) (a .first .now) (a .table .now) (begun (at k) .pre .0 .accepted) (onward (c .before))
+    (number (at k))
     (stands-on (c .before)) _ (so-far (c .before) .behind (number (at k)) refl) (l .end) (c .bytes-to .result)
     (l .inv .0 .counted) (c .bytes-to .ensures)
 
@@ -506,7 +515,8 @@ add-end c =
     let a = begun (at k) .args in
     record {
       fits = rw (longer c)
-          (part-fits (a .g) (a .first .now) (a .table .now) (begun (at k) .pre .0 .accepted) (suc (suc (number (at k)))));
+          (part-fits (a .g) (a .first .now) (a .table .now) (begun (at k) .pre .0 .accepted)
+          (suc (suc (number (at k)))));
     }
 
 labels-at-requires-2 : tie.Need-labels-at-requires-2 Inv-loop μ-loop
@@ -577,7 +587,8 @@ loop-less-2 c =
     omega (arith, at (known (c .before .before .before)) .before .before .before .before .before .loop-test .taken)
 
 loop-again-2 : tie.Need-loop-again-2 Inv-loop μ-loop
-loop-again-2 c = absurd (one-of-three _ (c .before .before .match2 .keys2) (c .before .match3 .keys2) (c .match4 .keys2))
+loop-again-2 c =
+    absurd (one-of-three _ (c .before .before .match2 .keys2) (c .before .match3 .keys2) (c .match4 .keys2))
 
 same-length-4 : tie.Need-same-length-4 Inv-loop μ-loop
 same-length-4 c = omega (arith, c .before .loop .inv .0 .long)

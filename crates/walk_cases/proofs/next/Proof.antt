@@ -1,7 +1,6 @@
 -- `next` is safe: the labels lie in their array. Assumes nothing.
 use mathlib.Core.Path.{sym}
 use lib.Seq.{length-take-le}
-use native.Mathlib.Omega.{arith}
 use borrow.Author.Needs.{needs}
 use borrow.Author.Needs.{needs}
 use Rattle.walk_cases.proofs.next.Statement.{statement}

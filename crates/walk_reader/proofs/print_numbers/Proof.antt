@@ -1,5 +1,4 @@
 -- `print_numbers` is safe and ends. Assumes nothing.
-use mathlib.Core.Path.{_≡_, refl, sym}
 use Prim.Native.Nat.{_≤_, _-_}
 use lib.ListN.{length}
 use native.Mathlib.Omega.{arith}

@@ -1,6 +1,6 @@
 -- `walk_cases::read_list` meets its contract. The invariant: the runs so far lie in the list, which keeps its length.
 -- Assumes nothing.
-use mathlib.Core.Path.{_≡_, refl, _∙_}
+use mathlib.Core.Path.{_≡_, refl}
 use Prim.Native.Nat.{_≤_}
 use lib.ListN.{length}
 use native.Mathlib.Omega.{arith}

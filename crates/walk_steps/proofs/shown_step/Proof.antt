@@ -1,6 +1,6 @@
 -- `shown_step` meets its contract. Assumes nothing.
 use borrow.Author.Needs.{needs}
-use mathlib.Core.Path.{_≡_, refl, ap, _∙_}
+use mathlib.Core.Path.{_∙_}
 use Rattle.walk_steps.specs.Steps.{shownStep}
 use Rattle.walk_steps.proofs.shown_step.Statement.{statement}
 use Rattle.walk_steps.proofs.shown_step.Tie as tie

@@ -1,6 +1,6 @@
 -- `step_of` meets its contract. Assumes nothing.
 use borrow.Author.Needs.{needs}
-use mathlib.Core.Path.{_≡_, sym, ap, _∙_}
+use mathlib.Core.Path.{sym, ap, _∙_}
 use Rattle.walk_steps.specs.Steps.{stepOf}
 use Rattle.walk_ways.specs.declared.Answer.{Answer}
 use Rattle.walk_steps.proofs.step_of.Statement.{statement}

@@ -1,7 +1,7 @@
 -- `nesting::all_nested` meets its contract. The invariant: what is asked of the sets from i on. The measure: the sets
 -- left. Assumes nothing.
 use mathlib.Core.List.{map}
-use mathlib.Core.Path.{_≡_, refl, sym, _∙_}
+use mathlib.Core.Path.{_≡_, sym, _∙_}
 use Prim.Native.Nat.{_-_, _≤_}
 use borrow.Author.Needs.{needs}
 use borrow.Author.Tests.{not-true, not-false}

@@ -1,10 +1,9 @@
 -- `nesting::one_chain` meets its contract. The invariant: what is asked of the points from k on. The measure: the
 -- points left. Assumes nothing.
 use mathlib.Core.List.{map}
-use mathlib.Core.Path.{_≡_, refl, sym, _∙_}
+use mathlib.Core.Path.{_≡_, sym, _∙_}
 use Prim.Native.Nat.{_-_, _≤_}
 use borrow.Author.Needs.{needs}
-use borrow.Author.Tests.{not-true, not-false}
 use native.Mathlib.Omega.{arith}
 use Rattle.combinatorics.specs.Lists.{any, upFrom}
 use Rattle.grid.specs.Made.{shape}

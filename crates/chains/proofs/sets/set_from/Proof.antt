@@ -1,6 +1,6 @@
 -- `sets::set_from` meets its contract. The invariant: the blocks so far have their sets. The measure: the blocks left.
 -- Assumes nothing.
-use mathlib.Core.Path.{_≡_, refl, sym, _∙_}
+use mathlib.Core.Path.{_≡_, _∙_}
 use Prim.Native.Nat.{_-_, _≤_}
 use lib.ListN.{take}
 use native.Mathlib.Omega.{arith}

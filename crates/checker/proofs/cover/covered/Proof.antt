@@ -1,17 +1,12 @@
 -- `cover::covered` meets its contract. The invariant: the labels and the zeros of the points from k on. The measure:
 -- the points left. Assumes nothing.
-use mathlib.Core.Bool.{true}
 use mathlib.Core.List.{map}
-use mathlib.Core.Path.{_≡_, refl, sym, ap, _∙_}
-use Prim.Native.Nat.{ℕ, _+_, _-_, _*_, _≤_, _<_}
+use mathlib.Core.Path.{_≡_, sym, _∙_}
+use Prim.Native.Nat.{_+_, _-_, _≤_}
 use borrow.Author.Needs.{needs}
-use lib.ListN.{length, replicate, take}
 use native.Mathlib.Omega.{arith}
-use Rattle.combinatorics.proofs.Fronts.{front-taken}
-use Rattle.combinatorics.specs.Front.{front}
 use Rattle.combinatorics.specs.Lists.{upFrom}
 use Rattle.grid.proofs.Fields.{indices-few, made-accepted, made-indices}
-use Rattle.grid.specs.Grid.{isGridPoint}
 use Rattle.grid.specs.Made.{shape}
 use Rattle.chains.proofs.ListedPoints.{is-listed, on-grid}
 use Rattle.chains.proofs.Nestings.{left-none, one-more}

@@ -1,6 +1,6 @@
 -- `cover::first_whole` meets its contract. The invariant: no block before j is whole. The measure: the blocks left.
 -- Assumes nothing.
-use mathlib.Core.Path.{_≡_, refl, sym, ap, _∙_}
+use mathlib.Core.Path.{_≡_, sym, ap, _∙_}
 use Prim.Native.Nat.{_+_, _-_, _≤_}
 use borrow.Author.Needs.{needs}
 use lib.ListN.{take}
@@ -8,7 +8,6 @@ use native.Mathlib.Numerals.{add-one}
 use native.Mathlib.Omega.{arith}
 use Rattle.combinatorics.specs.Lists.{filter, upFrom}
 use Rattle.grid.proofs.Fields.{blocks-range}
-use Rattle.grid.specs.Grid.{size}
 use Rattle.grid.specs.Made.{shape}
 use Rattle.simplices.specs.Simplices.{firstOf}
 use Rattle.chains.proofs.WholeSets.{is-block}

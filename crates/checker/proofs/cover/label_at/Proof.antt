@@ -1,7 +1,6 @@
 -- `cover::label_at` meets its contract: no steps lead from the point to itself, and its position is below the table's
 -- length. Assumes nothing.
-use mathlib.Core.Path.{_≡_, refl, sym, ap, _∙_}
-use Prim.Native.Nat.{ℕ, _≤_}
+use mathlib.Core.Path.{_≡_, refl}
 use borrow.Author.Tests.{leb-true}
 use lib.Dec.{leb}
 use lib.ListN.{getD, take}

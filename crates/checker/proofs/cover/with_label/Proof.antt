@@ -1,7 +1,5 @@
 -- `cover::with_label` meets its contract. Assumes nothing.
-use mathlib.Core.Path.{sym, ap, _∙_}
 use borrow.Author.Tests.{eq-eqb, ne-eqb}
-use native.Mathlib.Omega.{arith}
 use borrow.Author.Needs.{needs}
 use Rattle.checker.proofs.cover.with_label.Statement.{statement}
 use Rattle.checker.proofs.cover.with_label.Tie as tie

@@ -1,6 +1,6 @@
 -- `refusals::all_on_grid` meets its contract. The invariant: what is asked of the points from k on. The measure: the
 -- points left. Assumes nothing.
-use mathlib.Core.List.{List, map}
+use mathlib.Core.List.{map}
 use mathlib.Core.Path.{_≡_, sym, _∙_}
 use Prim.Native.Nat.{_-_, _≤_}
 use borrow.Author.Needs.{needs}
@@ -11,7 +11,7 @@ use Rattle.grid.specs.Grid.{isGridPoint}
 use Rattle.grid.specs.Made.{shape}
 use Rattle.chains.proofs.ListedPoints.{is-listed}
 use Rattle.chains.proofs.Nestings.{left-none, all-stops, all-goes}
-use Rattle.chains.specs.Listed.{listed, listedAt, HasPoints}
+use Rattle.chains.specs.Listed.{listed, listedAt}
 use Rattle.checker.proofs.refusals.all_on_grid.Statement.{statement}
 use Rattle.checker.proofs.refusals.all_on_grid.Tie as tie
 

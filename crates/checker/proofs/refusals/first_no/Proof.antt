@@ -1,5 +1,5 @@
 -- `refusals::first_no` meets its contract: each exit is the first question that is answered no. Assumes nothing.
-use mathlib.Core.Path.{_≡_, sym, _∙_}
+use mathlib.Core.Path.{sym, _∙_}
 use borrow.Author.Tests.{not-true, not-false}
 use native.Mathlib.Omega.{arith}
 use Rattle.grid.proofs.Fields.{indices-few, made-indices, made-points}

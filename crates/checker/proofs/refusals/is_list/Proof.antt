@@ -1,16 +1,12 @@
 -- `refusals::is_list` meets its contract: its tests are those of question 19. Assumes nothing.
-use mathlib.Core.Path.{_≡_, sym, _∙_}
-use Prim.Native.Nat.{_*_, _/_, _≤_}
-use lib.ListN.{length}
+use mathlib.Core.Path.{_∙_}
 use mir.Facts.{fits-le}
 use native.Mathlib.Nat.{div-mul-le-self}
 use native.Mathlib.Omega.{arith}
 use Rattle.grid.proofs.Fields.{made-indices}
-use Rattle.grid.specs.Grid.{numIndices}
 use Rattle.grid.specs.Made.{shape}
 use Rattle.checker.proofs.ListRefusals.{list-empty, list-parted, list-long, list-points, some-index}
 use Rattle.checker.proofs.ListRefusals.{fewer-blocks, most-is, most-few}
-use Rattle.checker.specs.Check.{wholePoints}
 use Rattle.checker.proofs.refusals.is_list.Statement.{statement}
 use Rattle.checker.proofs.refusals.is_list.Tie as tie
 

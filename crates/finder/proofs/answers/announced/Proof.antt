@@ -11,10 +11,10 @@ use Rattle.combinatorics.specs.Front.{front}
 use Rattle.grid.proofs.Fields.{indices-few}
 use Rattle.moves.specs.Held.{stateOf}
 use Rattle.marks.specs.Reading.{problemFrom}
-use Rattle.finder.specs.Finish.{Finished}
+use Rattle.path_walk.specs.Finish.{Finished}
 use Rattle.finder.proofs.Announcements.{accepted-in, finished-from, index, room, start-long, taken-long, told}
 use Rattle.finder.proofs.Announcements.{written}
-use Rattle.finder.proofs.Visits.{is-round, round-below}
+use Rattle.path_walk.proofs.Visits.{is-round, round-below}
 use borrow.Author.Needs.{needs}
 use Rattle.finder.proofs.answers.announced.Statement.{statement}
 use Rattle.finder.proofs.answers.announced.Tie as tie

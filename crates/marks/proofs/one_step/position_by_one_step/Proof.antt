@@ -1,6 +1,6 @@
 -- `one_step::position_by_one_step` meets its contract: the step to the point, or the step from it, lowers the position
 -- by what `fall_at` gives. Assumes nothing.
-use mathlib.Core.List.{List, []}
+use mathlib.Core.List.{[]}
 use mathlib.Core.Logic.{⊎-elim}
 use mathlib.Core.Path.{_≡_, _∙_}
 use Prim.Native.Nat.{suc, _+_, _-_, _≤_, _<_}

@@ -5,10 +5,9 @@ use native.Mathlib.Omega.{arith}
 use Rattle.arrays.specs.Rounds.{roundOf}
 use Rattle.combinatorics.proofs.EditsOfArrays.{counted}
 use Rattle.moves.specs.Held.{stateOf}
-use Rattle.moves.proofs.Cases.{beside, besideAfter, onRoundAfter, middle-beside, last-beside, is-first}
+use Rattle.moves.proofs.Cases.{besideAfter, onRoundAfter, middle-beside, last-beside, is-first}
 use Rattle.moves.proofs.Cases.{is-middle, is-last}
 use Rattle.rules.specs.Step.{State, goes}
-use borrow.Author.Needs.{needs}
 use Rattle.moves.proofs.leaving.leave.Statement.{statement}
 use Rattle.moves.proofs.leaving.leave.Tie as tie
 

@@ -1,7 +1,6 @@
 -- `leaving::leave_first` meets its contract: the first entry of the array is the first of the order. Assumes nothing.
 use lib.Seq.{length-take-le}
 use native.Mathlib.Omega.{arith}
-use borrow.Author.Needs.{needs}
 use Rattle.moves.proofs.leaving.leave_first.Statement.{statement}
 use Rattle.moves.proofs.leaving.leave_first.Tie as tie
 

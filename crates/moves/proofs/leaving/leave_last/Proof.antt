@@ -5,7 +5,6 @@ use lib.ListN.{length, take}
 use lib.Seq.{length-take-le}
 use native.Mathlib.Omega.{arith}
 use Rattle.grid.specs.Grid.{at}
-use borrow.Author.Needs.{needs}
 use Rattle.moves.proofs.leaving.leave_last.Statement.{statement}
 use Rattle.moves.proofs.leaving.leave_last.Tie as tie
 

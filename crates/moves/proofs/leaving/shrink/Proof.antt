@@ -1,5 +1,5 @@
 -- `leaving::shrink` meets its contract, by rule 6 and by rule 7. Assumes nothing.
-use mathlib.Core.Bool.{Bool, true, false}
+use mathlib.Core.Bool.{true, false}
 use mathlib.Core.List.{[]}
 use mathlib.Core.Path.{refl, sym, ap, _∙_}
 use Rattle.arrays.specs.Rounds.{noRound}

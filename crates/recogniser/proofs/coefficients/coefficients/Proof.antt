@@ -1,7 +1,6 @@
 -- `coefficients::coefficients` meets its contract. The invariant: the coefficients of the first j blocks are stored.
 -- The measure: the blocks left. Assumes nothing.
-use mathlib.Core.List.{List}
-use mathlib.Core.Path.{_≡_, refl, sym, ap, _∙_, subst}
+use mathlib.Core.Path.{_≡_, refl, _∙_}
 use Prim.Native.Nat.{ℕ, _-_, _+_, _≤_, _<_}
 use lib.ListN.{length, take}
 use Rattle.grid.proofs.Fields.{made-first, made-size, blocks-range, indices-few, made-indices}

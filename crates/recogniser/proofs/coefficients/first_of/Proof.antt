@@ -2,8 +2,8 @@
 -- so far. The measure: the indices left. Assumes nothing.
 use mathlib.Core.List.{List}
 use mathlib.Core.Logic.{⊎-elim}
-use mathlib.Core.Path.{_≡_, refl, sym, ap, _∙_}
-use Prim.Native.Nat.{ℕ, _-_, _+_, _≤_}
+use mathlib.Core.Path.{_≡_}
+use Prim.Native.Nat.{ℕ, _-_, _≤_}
 use lib.ListN.{length}
 use Rattle.grid.specs.Grid.{at}
 use Rattle.recogniser.proofs.Following.{Follows, follow-none, follow-fits, follow-small, follow-less, follow-not}

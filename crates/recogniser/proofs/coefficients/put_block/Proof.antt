@@ -1,8 +1,8 @@
 -- `coefficients::put_block` meets its contract. The invariant: the coefficients before h are stored, and x is that at
 -- h. The measure: the indices left. Assumes nothing.
 use mathlib.Core.List.{List}
-use mathlib.Core.Path.{_≡_, refl, sym, ap, _∙_}
-use Prim.Native.Nat.{ℕ, _-_, _+_, _≤_}
+use mathlib.Core.Path.{_≡_, _∙_}
+use Prim.Native.Nat.{ℕ, _-_, _≤_}
 use borrow.Author.Tests.{ne-eqb}
 use lib.ListN.{length, length-set}
 use Rattle.grid.specs.Grid.{at}

@@ -1,8 +1,7 @@
 -- `free::is_free` meets its contract. The invariant: what is met below h. The measure: the indices left.
 -- Assumes nothing.
-use mathlib.Core.Bool.{false, true}
 use mathlib.Core.Logic.{⊎-elim}
-use mathlib.Core.Path.{_≡_, refl, sym, ap, _∙_}
+use mathlib.Core.Path.{_≡_, refl, sym, _∙_}
 use Prim.Native.Nat.{_-_, _≤_}
 use Rattle.combinatorics.proofs.Basics.{absurd-bool}
 use Rattle.grid.proofs.Fields.{made-block, indices-few, blocks-range}

@@ -1,7 +1,6 @@
 -- `free::sets_of` meets its contract. The invariant: the masks are those of the first k indices. The measure: the
 -- indices left. Assumes nothing.
-use mathlib.Core.Bool.{false, true}
-use mathlib.Core.Path.{_≡_, refl, sym, ap, _∙_}
+use mathlib.Core.Path.{_≡_, sym, _∙_}
 use Prim.Native.Nat.{_-_, _≤_}
 use lib.ListN.{length}
 use Rattle.combinatorics.proofs.Basics.{absurd-bool}

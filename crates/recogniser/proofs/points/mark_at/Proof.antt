@@ -1,5 +1,4 @@
 -- `points::mark_at` meets its contract. Assumes nothing.
-use mathlib.Core.Path.{_≡_, refl, sym, ap, _∙_}
 use Rattle.grid.proofs.Fields.{made-accepted}
 use Rattle.recogniser.proofs.Steps.{position-low}
 use Rattle.recogniser.specs.Pieces.{pointWith}

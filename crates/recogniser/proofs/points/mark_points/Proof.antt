@@ -1,16 +1,14 @@
 -- `points::mark_points` meets its contract. The invariant: k steps are made, and the points before have their marks.
 -- The measure: the steps left. Assumes nothing.
-use mathlib.Core.Bool.{true, false}
-use mathlib.Core.Path.{_≡_, refl, sym, ap, _∙_, subst}
+use mathlib.Core.Path.{_≡_, sym, _∙_, subst}
 use Prim.Native.Nat.{ℕ, _-_, _≤_}
 use lib.ListN.{length-set}
 use Rattle.combinatorics.proofs.Basics.{absurd-bool}
 use Rattle.grid.proofs.Fields.{indices-few}
 use Rattle.rules.proofs.ChangedBefore.{raised-positive}
 use Rattle.rules.specs.Step.{firstOutside}
-use Rattle.recogniser.proofs.Steps.{Reached, reached-none, reached-more, cannot, low-h, low-b, count-b, can-all}
+use Rattle.recogniser.proofs.Steps.{Reached, reached-none, reached-more, cannot, low-h, count-b, can-all}
 use Rattle.recogniser.proofs.Steps.{marked-all}
-use Rattle.recogniser.specs.Pieces.{CanMark}
 use borrow.Author.Needs.{needs}
 use native.Mathlib.Omega.{arith}
 use Rattle.recogniser.proofs.points.mark_points.Statement.{statement}

@@ -1,6 +1,6 @@
 -- `points::read_labels` meets its contract. The invariant: the first k marks have their labels. The measure: the marks
 -- left. Assumes nothing.
-use mathlib.Core.Path.{_≡_, refl, sym, ap, _∙_}
+use mathlib.Core.Path.{ap, _∙_}
 use Prim.Native.Nat.{ℕ, suc, _+_, _-_, _≤_}
 use lib.ListN.{getD}
 use native.Mathlib.Omega.{arith}

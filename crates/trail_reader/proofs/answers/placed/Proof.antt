@@ -1,5 +1,4 @@
 -- `answers::placed` meets its contract. Assumes nothing.
-use mathlib.Core.Path.{refl, _∙_}
 use borrow.Author.Needs.{needs}
 use native.Mathlib.Omega.{arith}
 use Rattle.trail_reader.proofs.Rebuilt.{minus-none}

@@ -4,7 +4,6 @@ use mathlib.Core.List.{[]}
 use mathlib.Core.Path.{_≡_, sym, _∙_, subst}
 use borrow.Author.Needs.{needs}
 use borrow.Author.Tests.{not-false, not-true}
-use lib.ListN.{replicate}
 use native.Mathlib.Omega.{arith}
 use Rattle.finder.proofs.Refusals.{same-problem}
 use Rattle.grid.proofs.Fields.{made-code, made-is}
@@ -12,7 +11,6 @@ use Rattle.grid.specs.Grid.{Grid}
 use Rattle.place.specs.Problem.{Problem, problemOf}
 use Rattle.trail_steps.specs.Reading.{problemBy}
 use Rattle.trail_reader.specs.Reading.{readAnswer, readPoints}
-use Rattle.trail_reader.specs.declared.answers.Answer.the-variants.{Refused}
 use Rattle.trail_reader.proofs.Rebuilt.{by-grid, by-number, by-start, read-so, settled-by}
 use Rattle.trail_reader.proofs.answers.read.Statement.{statement}
 use Rattle.trail_reader.proofs.answers.read.Tie as tie

@@ -1,19 +1,14 @@
 -- `answers::read_on` meets its contract: 0 is no number, and else the place is rebuilt from the start in an array.
 -- Assumes nothing.
-use mathlib.Core.Path.{_≡_, refl, sym, ap, _∙_, subst}
+use mathlib.Core.Path.{refl, sym, subst}
 use mathlib.Core.List.{List}
 use Prim.Native.Nat.{ℕ}
 use borrow.Author.Needs.{needs}
-use lib.ListN.{length, replicate, take}
 use native.Mathlib.Omega.{arith}
-use Rattle.combinatorics.proofs.Fronts.{front-none}
-use Rattle.combinatorics.specs.Front.{front}
-use Rattle.finder.proofs.Visits.{is-round, round-below}
+use Rattle.path_walk.proofs.Visits.{is-round, round-below}
 use Rattle.grid.proofs.Fields.{indices-few}
-use Rattle.trail.specs.Trail.{Reading as TrailReading}
 use Rattle.trail_steps.specs.Reading.{problemBy}
 use Rattle.trail_reader.specs.Begun.{Reads}
-use Rattle.trail_reader.specs.Reading.{caseOf, numbersOf}
 use Rattle.trail_reader.proofs.Rebuilt.{first-long, no-zero, reads-17, start-long, start-taken}
 use Rattle.place.specs.Demand.{Settled}
 use Rattle.trail_reader.proofs.answers.read_on.Statement.{statement}

@@ -1,7 +1,5 @@
 -- `answers::start_position` meets its contract: no steps leave the start as it is. Assumes nothing.
-use mathlib.Core.List.{List}
-use mathlib.Core.Path.{_≡_, sym, ap, _∙_}
-use Prim.Native.Nat.{ℕ}
+use mathlib.Core.Path.{ap, _∙_}
 use native.Mathlib.Omega.{arith}
 use Rattle.grid.proofs.Fields.{indices-few}
 use Rattle.grid.specs.Grid.{isGridPoint, position}

@@ -1,8 +1,8 @@
 -- `answers::announced` meets its contract: the walk that counts, question 17, the walk that writes, and the end written
 -- to the answer buffer. Assumes nothing.
-use mathlib.Core.Bool.{false, cond}
+use mathlib.Core.Bool.{false}
 use mathlib.Core.List.{List, []}
-use mathlib.Core.Path.{_≡_, refl, sym, ap, _∙_, subst}
+use mathlib.Core.Path.{refl, sym, ap, _∙_, subst}
 use Prim.Native.Nat.{ℕ}
 use borrow.Author.Needs.{needs}
 use lib.ListN.{length}
@@ -13,17 +13,15 @@ use Rattle.combinatorics.proofs.EditsOfArrays.{counted}
 use Rattle.combinatorics.proofs.Fronts.{front-none}
 use Rattle.combinatorics.specs.Front.{front}
 use Rattle.finder.proofs.Announcements.{accepted-in, index as index-low, room, start-long, taken-long, told, written}
-use Rattle.finder.proofs.Visits.{is-round, round-below}
-use Rattle.finder.specs.Finish.{Finished}
-use Rattle.finder.specs.Run.{numbersOf}
+use Rattle.path_walk.proofs.Visits.{is-round, round-below}
+use Rattle.path_walk.specs.Finish.{Finished}
 use Rattle.grid.proofs.Fields.{indices-few}
 use Rattle.marks.specs.Reading.{problemFrom}
 use Rattle.moves.specs.Held.{stateOf}
 use Rattle.place.specs.Path.{answer}
 use Rattle.place.specs.Problem.{Problem}
 use Rattle.trail_walk.specs.Walked.{Recorded}
-use Rattle.trail_writer.specs.Writing.{announces, wholeTrail}
-use Rattle.trail_writer.specs.declared.answers.Answer.{Answer}
+use Rattle.trail_writer.specs.Writing.{wholeTrail}
 use Rattle.trail_writer.proofs.Endings.{end-with-room, problem-from, too-short}
 use Rattle.trail_writer.proofs.answers.announced.Statement.{statement}
 use Rattle.trail_writer.proofs.answers.announced.Tie as tie

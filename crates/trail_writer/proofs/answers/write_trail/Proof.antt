@@ -1,11 +1,11 @@
 -- `answers::write_trail` meets its contract: the path has an end, so the walk stores all records. Assumes nothing.
 use mathlib.Core.Bool.{true}
-use mathlib.Core.Path.{_≡_, refl, sym, ap, _∙_, subst}
+use mathlib.Core.Path.{refl, subst}
 use borrow.Author.Needs.{needs}
 use native.Mathlib.Omega.{arith}
 use Rattle.arrays.specs.Rounds.{roundOf}
 use Rattle.finder.proofs.Announcements.{accepted-in, start-long, taken-long}
-use Rattle.finder.specs.Finish.{Finished}
+use Rattle.path_walk.specs.Finish.{Finished}
 use Rattle.grid.proofs.Fields.{indices-few}
 use Rattle.marks.specs.Reading.{problemFrom}
 use Rattle.place.specs.Problem.{Problem}

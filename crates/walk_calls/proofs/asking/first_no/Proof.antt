@@ -1,5 +1,5 @@
 -- `asking::first_no` meets its contract: each exit is the first question that is answered no. Assumes nothing.
-use mathlib.Core.Path.{_≡_, refl, sym, ap, _∙_}
+use mathlib.Core.Path.{sym, _∙_}
 use Rattle.combinatorics.proofs.Basics.{not-is}
 use Rattle.grid.proofs.Fields.{indices-few, made-indices, made-points}
 use Rattle.recogniser.proofs.Together.{is-not}

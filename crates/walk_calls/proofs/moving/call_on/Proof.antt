@@ -1,13 +1,11 @@
 -- `moving::call_on` meets its contract. Assumes nothing.
-use mathlib.Core.List.{List}
-use mathlib.Core.Path.{_≡_, refl, sym, ap, _∙_, subst}
+use mathlib.Core.Path.{_≡_, sym, ap, _∙_}
 use Prim.Native.Nat.{ℕ}
 use borrow.Author.Needs.{needs, length-unmapped}
 use lib.ListN.{length, take, length-take}
 use Rattle.grid.proofs.Fields.{indices-few, made-indices}
 use Rattle.grid.specs.Grid.{numIndices}
 use Rattle.grid.specs.Made.{shape}
-use Rattle.place.specs.Questions.{tableQuestions}
 use Rattle.questions.specs.Questions.{firstNo}
 use Rattle.walk_calls.proofs.Calls.{call-ended, call-moved, call-refuses, goes-to, places-few, table-refused}
 use Rattle.walk_calls.proofs.Later.{behind-four}

@@ -1,12 +1,7 @@
 -- `moving::grid_in` meets its contract. Assumes nothing.
-use mathlib.Core.Bool.{true, false, cond}
-use mathlib.Core.List.{List}
-use mathlib.Core.Logic.{⊎-elim}
-use mathlib.Core.Path.{_≡_, refl, sym, ap, _∙_, subst}
-use Prim.Native.Nat.{ℕ, _≤_, _<_}
+use mathlib.Core.Path.{_≡_}
 use borrow.Author.Needs.{needs, length-unmapped}
-use lib.Dec.{leb}
-use lib.ListN.{length, take, length-take}
+use lib.ListN.{length, length-take}
 use native.Mathlib.Omega.{arith}
 use Rattle.walk_calls.proofs.GridIn.{few-blocks, grid-in}
 use Rattle.walk_calls.proofs.moving.grid_in.Statement.{statement}

@@ -1,6 +1,6 @@
 -- `moving::moved` meets its contract: questions 1 to 4 on the walk's own grid, and then the call on that grid. Assumes
 -- nothing.
-use mathlib.Core.Path.{_≡_, sym, ap, _∙_}
+use mathlib.Core.Path.{sym, ap, _∙_}
 use Rattle.grid.specs.Grid.{Grid}
 use Rattle.walk_calls.proofs.Calls.{call-on-own, grid-refused}
 use Rattle.walk_calls.specs.Moving.{callOn}

@@ -1,6 +1,4 @@
 -- `choosing::filled` meets its contract. Assumes nothing.
-use mathlib.Core.Bool.{true, false}
-use mathlib.Core.Path.{_≡_, refl, sym, ap, _∙_}
 use Rattle.walk_next.proofs.Begins.{fill-no, fill-yes}
 use native.Mathlib.Omega.{arith}
 use Rattle.walk_next.proofs.choosing.filled.Statement.{statement}

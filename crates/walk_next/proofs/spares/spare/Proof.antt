@@ -1,10 +1,9 @@
 -- `spares::spare` meets its contract. The invariant: what the points before k have. The measure: the points left.
 -- Assumes nothing.
 use mathlib.Core.Logic.{⊎-elim}
-use mathlib.Core.Path.{_≡_, refl, sym, ap, _∙_}
+use mathlib.Core.Path.{_≡_, sym, _∙_}
 use Prim.Native.Nat.{_-_, _+_, _≤_, suc}
 use lib.ListN.{length}
-use native.Mathlib.Numerals.{add-one}
 use Rattle.walk_next.proofs.Labels.{spares-none, spares-new, spares-old, new-parts}
 use Rattle.walk_next.specs.Spares.{LabelsLow, SparesBelow}
 use borrow.Author.Needs.{needs}

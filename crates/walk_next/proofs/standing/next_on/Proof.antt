@@ -1,6 +1,6 @@
 -- `standing::next_on` meets its contract. Assumes nothing.
-use mathlib.Core.Path.{_≡_, refl, sym, ap, _∙_}
-use Prim.Native.Nat.{_+_, _-_}
+use mathlib.Core.Path.{sym, _∙_}
+use Prim.Native.Nat.{_-_}
 use Rattle.combinatorics.proofs.Basics.{not-is}
 use Rattle.grid.proofs.Fields.{indices-few}
 use Rattle.recogniser.proofs.Together.{is-not}

@@ -1,9 +1,8 @@
 -- `keeping::is_kept` meets its contract. Assumes nothing.
-use mathlib.Core.Path.{_≡_, refl, sym, ap, _∙_}
+use mathlib.Core.Path.{_≡_, _∙_}
 use Prim.Native.Nat.{_-_, pred}
 use borrow.Author.Needs.{needs, length-unmapped}
 use borrow.Author.Tests.{le-leb, lt-leb}
-use lib.ListN.{length}
 use borrow.Author.Needs.{needs}
 use native.Mathlib.Omega.{arith}
 use Rattle.walk_places.proofs.keeping.is_kept.Statement.{statement}

@@ -1,5 +1,4 @@
 -- `keeping::kept_as` meets its contract. Assumes nothing.
-use mathlib.Core.Path.{_≡_, refl, sym, ap, _∙_}
 use native.Mathlib.Omega.{arith}
 use Rattle.walk_places.proofs.keeping.kept_as.Statement.{statement}
 use Rattle.walk_places.proofs.keeping.kept_as.Tie as tie

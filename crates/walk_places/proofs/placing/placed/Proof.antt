@@ -1,6 +1,5 @@
 -- `placing::placed` meets its contract. Assumes nothing.
-use mathlib.Core.List.{List}
-use mathlib.Core.Path.{_≡_, refl, sym, ap, _∙_, subst}
+use mathlib.Core.Path.{_≡_, refl, subst}
 use lib.ListN.{length, take, length-take}
 use Rattle.grid.proofs.Fields.{indices-few, made-indices, made-previous, previous-low}
 use Rattle.grid.specs.Grid.{numIndices}

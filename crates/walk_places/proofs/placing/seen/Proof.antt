@@ -1,5 +1,5 @@
 -- `placing::seen` meets its contract. Assumes nothing.
-use mathlib.Core.Path.{_≡_, refl, sym, ap, _∙_}
+use mathlib.Core.Path.{sym, _∙_}
 use Rattle.combinatorics.proofs.Basics.{absurd-bool, not-is}
 use Rattle.recogniser.proofs.Together.{is-not, not-recognised}
 use Rattle.walk_places.proofs.Placed.{can-place, can-read, seen-labels}

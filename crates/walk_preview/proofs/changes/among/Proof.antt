@@ -2,9 +2,9 @@
 -- measure: the marks left.
 -- Assumes nothing.
 use mathlib.Core.Path.{_≡_, refl, sym, _∙_}
-use Prim.Native.Nat.{ℕ, suc, _+_, _-_, _≤_}
+use Prim.Native.Nat.{suc, _+_, _-_, _≤_}
 use lib.Dec.{eqb}
-use lib.ListN.{drop, getD, length, take}
+use lib.ListN.{drop, length, take}
 use lib.Seq.{getD-take, length-take-le}
 use native.Mathlib.Numerals.{add-one}
 use native.Mathlib.Omega.{arith}

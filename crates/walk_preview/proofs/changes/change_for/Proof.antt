@@ -1,5 +1,4 @@
 -- `changes::change_for` meets its contract. Assumes nothing.
-use mathlib.Core.Path.{_≡_}
 use borrow.Author.Tests.{ne-eqb}
 use Rattle.walk_preview.proofs.changes.change_for.Statement.{statement}
 use Rattle.walk_preview.proofs.changes.change_for.Tie as tie

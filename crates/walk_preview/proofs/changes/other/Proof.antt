@@ -1,17 +1,16 @@
 -- `changes::other` meets its contract. The invariant: the first mark that is not among the others stands from j on. The
 -- measure: the marks left.
 -- Assumes nothing.
-use mathlib.Core.Bool.{true, false}
 use mathlib.Core.List.{List}
 use mathlib.Core.Path.{_≡_, refl, sym, ap, _∙_}
 use Prim.Native.Nat.{ℕ, suc, _+_, _-_, _≤_}
 use lib.Dec.{eqb}
-use lib.ListN.{drop, getD, take}
+use lib.ListN.{drop, take}
 use lib.Seq.{getD-take, length-take-le}
 use native.Mathlib.Numerals.{add-one}
 use native.Mathlib.Omega.{arith}
 use Rattle.combinatorics.proofs.Basics.{not-is}
-use Rattle.combinatorics.specs.Lists.{firstOr, isIn}
+use Rattle.combinatorics.specs.Lists.{firstOr}
 use Rattle.recogniser.proofs.Together.{is-not}
 use Rattle.rules.specs.Step.{markPosition}
 use Rattle.trail.specs.Change.{outside}

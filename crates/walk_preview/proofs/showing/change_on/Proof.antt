@@ -1,5 +1,5 @@
 -- `showing::change_on` meets its contract. Assumes nothing.
-use mathlib.Core.Path.{_≡_, _∙_}
+use mathlib.Core.Path.{_∙_}
 use borrow.Author.Needs.{needs}
 use Rattle.walk_preview.proofs.BothSeen.{shown}
 use Rattle.walk_preview.proofs.showing.change_on.Statement.{statement}

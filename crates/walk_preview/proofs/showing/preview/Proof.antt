@@ -1,5 +1,5 @@
 -- `showing::preview` meets its contract. Assumes nothing.
-use mathlib.Core.Path.{_≡_, sym, ap, _∙_}
+use mathlib.Core.Path.{sym, ap, _∙_}
 use borrow.Author.Needs.{needs}
 use Rattle.walk_preview.proofs.Calls.{moves-of, shown-ended, shown-moved, shown-refused, shownWith}
 use Rattle.walk_ways.specs.declared.Answer.{Answer}

@@ -1,7 +1,5 @@
 -- `beginning::at_start` meets its contract. Assumes nothing.
-use mathlib.Core.List.{List}
 use mathlib.Core.Path.{_≡_, sym, ap, _∙_}
-use Prim.Native.Nat.{ℕ}
 use borrow.Author.Needs.{needs}
 use Rattle.grid.proofs.Fields.{made-code, made-is, made-shape}
 use Rattle.grid.specs.Build.{lent}

@@ -1,11 +1,11 @@
 -- `beginning::label_of` meets its contract: no step leads from the start to itself. Assumes nothing.
-use mathlib.Core.Path.{_≡_, sym, ap, _∙_}
+use mathlib.Core.Path.{ap, _∙_}
 use Prim.Native.Nat.{ℕ}
 use borrow.Author.Needs.{needs}
 use lib.ListN.{getD, getD-replicate, take}
 use native.Mathlib.Omega.{arith}
 use Rattle.grid.proofs.Fields.{indices-few, made-points}
-use Rattle.grid.specs.Grid.{Point, position}
+use Rattle.grid.specs.Grid.{position}
 use Rattle.grid.specs.Made.{shape}
 use Rattle.place.specs.Problem.{label}
 use Rattle.recogniser.proofs.Steps.{position-low, with-none}

@@ -1,6 +1,6 @@
 -- `pointing::points_on` meets its contract. Assumes nothing.
 use borrow.Author.Needs.{needs}
-use mathlib.Core.Path.{_≡_, refl, sym, ap, _∙_}
+use mathlib.Core.Path.{_≡_, refl, sym, _∙_}
 use Prim.Native.Nat.{pred, _-_}
 use native.Mathlib.Omega.{arith}
 use Rattle.combinatorics.proofs.Basics.{not-is}

@@ -1,5 +1,4 @@
 -- `pointing::put` meets its contract. Assumes nothing.
-use mathlib.Core.Path.{_≡_, refl}
 use borrow.Author.Needs.{needs}
 use Rattle.walk_views.proofs.Placed.{can-put, put-so, told-long}
 use Rattle.walk_views.proofs.pointing.put.Statement.{statement}

@@ -1,9 +1,7 @@
 -- `choice::from_other` meets its contract. Assumes nothing.
-use mathlib.Core.Bool.{true, false}
-use mathlib.Core.Path.{_≡_, refl, sym, ap, _∙_}
-use Prim.Native.Nat.{ℕ, suc, _-_}
+use mathlib.Core.Path.{_≡_, sym, ap, _∙_}
+use Prim.Native.Nat.{suc, _-_}
 use lib.ListN.{length}
-use Rattle.combinatorics.proofs.Basics.{not-is}
 use Rattle.walk_ways.proofs.Chosen.{can-tell, can-try, long-o, m-is, ok, refused-is, told-is, tried-back}
 use Rattle.walk_ways.proofs.Chosen.{tried-on}
 use Rattle.walk_ways.proofs.Decided.{other-16, other-20, other-20-unknown, other-back, other-on}

@@ -1,7 +1,5 @@
 -- `choice::from_start` meets its contract. Assumes nothing.
-use mathlib.Core.Bool.{true, false}
-use mathlib.Core.Path.{_≡_, refl, sym, ap, _∙_}
-use Prim.Native.Nat.{suc}
+use mathlib.Core.Path.{refl, sym, ap, _∙_}
 use Rattle.combinatorics.proofs.Basics.{not-is}
 use Rattle.recogniser.proofs.Together.{is-not}
 use Rattle.walk_ways.proofs.Chosen.{can-tell, can-try, m-is, ok, refused-is, told-is, tried-start}

@@ -1,5 +1,4 @@
 -- `choice::leads_back` meets its contract. Assumes nothing.
-use mathlib.Core.Path.{_≡_, refl, sym, ap, _∙_}
 use borrow.Author.Needs.{needs}
 use Rattle.walk_ways.proofs.choice.leads_back.Statement.{statement}
 use Rattle.walk_ways.proofs.choice.leads_back.Tie as tie

@@ -1,5 +1,4 @@
 -- `ending::ended` meets its contract. Assumes nothing.
-use mathlib.Core.Path.{_≡_, refl, sym, ap, _∙_}
 use native.Mathlib.Numerals.{add-one}
 use Rattle.grid.proofs.Fields.{blocks-range, made-blocks, made-indices}
 use Rattle.grid.proofs.Round.{block-spans}

@@ -1,5 +1,4 @@
 -- `ending::told` meets its contract. Assumes nothing.
-use mathlib.Core.Path.{_≡_, refl, sym, ap, _∙_}
 use borrow.Author.Needs.{needs}
 use Rattle.walk_ways.proofs.ending.told.Statement.{statement}
 use Rattle.walk_ways.proofs.ending.told.Tie as tie

@@ -1,5 +1,5 @@
 -- `ways::rule_of` meets its contract. Assumes nothing.
-use mathlib.Core.Path.{_≡_, refl, sym, ap, _∙_}
+use mathlib.Core.Path.{sym, _∙_}
 use borrow.Author.Tests.{eq-eqb, ne-eqb}
 use lib.Bits.{bitAnd}
 use Rattle.walk_ways.proofs.MaskTests.{and-within, same-alike}

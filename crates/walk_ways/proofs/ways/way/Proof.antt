@@ -1,5 +1,4 @@
 -- `ways::way` meets its contract. Assumes nothing.
-use mathlib.Core.Path.{_≡_, refl, sym, ap, _∙_}
 use Rattle.arrays.specs.Rounds.{roundOf}
 use Rattle.moves.specs.Held.{stateOf}
 use Rattle.walk_ways.proofs.Tried.{few, way-facet, way-moved, way-place}
