@@ -1,5 +1,5 @@
--- What is noted of a vertex that is met, and what is kept of those met so far. No promise of a customer's call cites it.
--- Assumes nothing.
+-- What is noted of a vertex that is met, and what is kept of those met so far. No promise of a customer's call cites
+-- it. Assumes nothing.
 use mathlib.Core.Bool.{cond}
 use mathlib.Core.List.{List, map}
 use mathlib.Core.Path.{_≡_}

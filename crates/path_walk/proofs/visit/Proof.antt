@@ -13,7 +13,8 @@ use Rattle.rules.specs.Step.{State, step}
 use Rattle.marks.specs.Reading.{tableOf}
 use Rattle.place.specs.Problem.{Problem}
 use Rattle.path_walk.specs.Finish.{IsKnown}
-use Rattle.path_walk.proofs.Visits.{gives, marked-known, marks-back, read-back, read-none, read-some, unknown-zero}
+use Rattle.path_walk.proofs.Visits.{gives, marked-known, marks-back, read-back, read-none, read-some}
+use Rattle.path_walk.proofs.Visits.{unknown-zero}
 use borrow.Author.Needs.{needs}
 use Rattle.path_walk.proofs.visit.Statement.{statement}
 use Rattle.path_walk.proofs.visit.Tie as tie
