@@ -116,25 +116,28 @@ def little(values, size):
 
 def as_bytes(place):
     first, order, count = place
-    return little(first, 2) + little(order, 2) + bytes([count])
+    return little([*first, *order, count], 2)
 
 
-def as_runs(table):
-    data = b"".join(little([len(list(group))], 2) + bytes([label]) for label, group in itertools.groupby(table))
-    return data + b"\0\0\0"
+def runs(values):
+    return " ".join(f"{len(list(group))}x{value}" for value, group in itertools.groupby(values))
+
+
+def listed_runs(values):
+    data = b"".join(little([len(list(group)), value], 2) for value, group in itertools.groupby(values))
+    return data + b"\0\0\0\0"
 
 
 def as_text(name, place):
     first, order, count = place
-    row = lambda word, values: " ".join([f" {word}", *map(str, values)]) + "\n"
-    return f"{name}\n" + row("first", first) + row("order", order) + row("count", [count])
+    return f"{name}\n first {runs(first)}\n" + row(" order", order) + f" count {count}\n"
 
 
 def of_walk(fields, present, before, table, answers):
     """The bytes of a walk, its labels read and the labels that it carries."""
     sizes, read = list(numbers(fields["sizes"])), int(fields.get("labels-read", 1))
     carried = padded(carried_at_first(fields, table, present, answers), 16)
-    data = bytes(padded(sizes, 6)) + bytes([len(sizes)]) + little(padded(numbers(fields["d"]), 6), 2)
+    data = bytes(padded(sizes, 6)) + little([len(sizes), *padded(numbers(fields["d"]), 6)], 2)
     data += little(padded(numbers(fields["start"]), 16), 2) + as_bytes(present) + as_bytes(before)
     return data + little([int(fields["places"]), read], 8) + bytes(carried), read, carried
 
@@ -163,7 +166,7 @@ def write_moves():
         data += lent + little([len(answers)], 2)
         text += f"walk {number}\n"
         for k, answer in enumerate(answers):
-            data += as_runs(tables[min(k, len(tables) - 1)])
+            data += listed_runs(tables[min(k, len(tables) - 1)])
             simplex = []
             if answer.startswith("rule"):
                 moved = dict(line.partition(" ")[::2] for line in answer.splitlines())
@@ -176,9 +179,9 @@ def write_moves():
                 assert read == int(moved.get("labels-read", read)), fields
             elif answer.startswith("end"):
                 answer, simplex = ended(answer)
-            text += answer + row("simplex", padded(simplex, 256))
+            text += answer + f"simplex {runs(padded(simplex, 256))}\n"
             text += as_text("present", present) + as_text("before", before) + f"places {count}\nlabels read {read}\n"
-            text += row("carried", carried)
+            text += f"carried {runs(carried)}\n"
     store("walk_cases", chosen, data, text)
 
 
@@ -194,7 +197,7 @@ def write_previews():
             continue
         chosen.append(fields)
         table = list(numbers(fields["labels"]))
-        data += of_walk(fields, *places, table, [expect])[0] + as_runs(table)
+        data += of_walk(fields, *places, table, [expect])[0] + listed_runs(table)
         simplex, shown = [], ["-"] * 6
         if expect.startswith("end"):
             expect, simplex = ended(expect)
@@ -202,7 +205,7 @@ def write_previews():
             record = dict(line.partition(" ")[::2] for line in expect.splitlines())
             expect, shown = f"rule {record['rule']}\n", [record[name] for name in FIELDS]
         there = sum(1 << bit for bit, field in enumerate(shown) if field != "-")
-        text += f"walk {len(chosen)}\n" + expect + row("simplex", padded(simplex, 256))
+        text += f"walk {len(chosen)}\n" + expect + f"simplex {runs(padded(simplex, 256))}\n"
         text += f"map {there}\n" + row("fields", [0 if field == "-" else field for field in shown])
     store("preview_cases", chosen, data, text)
 
@@ -248,15 +251,6 @@ class Table:
                             return f"end {kind}\nblock {block}\nvertices {len(rest)}\n"
 
 
-def runs(values):
-    return " ".join(f"{len(list(group))}x{value}" for value, group in itertools.groupby(values))
-
-
-def listed(values):
-    data = b"".join(little([len(list(group)), value], 2) for value, group in itertools.groupby(values))
-    return data + b"\0\0\0\0"
-
-
 OPPOSITE = {1: 1, 2: 3, 3: 2, 4: 7, 5: 6, 6: 5, 7: 4}
 
 
@@ -267,7 +261,7 @@ def write_backwards():
         if fields["call"] != "backwards" or not expect.startswith("places"):
             continue
         chosen.append(fields)
-        data += b"".join(listed(numbers(fields[name])) for name in ("sizes", "d", "start", "labels"))
+        data += b"".join(listed_runs(numbers(fields[name])) for name in ("sizes", "d", "start", "labels"))
         table = Table(fields)
         path = [points(line.partition(" at ")[2]) for line in expect.splitlines()[1:]][::-1]
         rules = [table.rule(a, b) for a, b in itertools.pairwise(path)]

@@ -1,14 +1,7 @@
 // What a run has come to: a refusal, a budget that is spent, a place whose label is not known, or an end.
 use case_reader::show;
-use case_reader::show_text;
-use path_walk::Kind;
-
-fn print_kind(kind: Kind) {
-    match kind {
-        Kind::Place => show_text(b"end place\n"),
-        Kind::Facet => show_text(b"end facet\n"),
-    }
-}
+use case_reader::show_kind;
+use end_kinds::Kind;
 
 pub fn print_refused(number: u8) {
     show(b"refused ", number as u64);
@@ -21,7 +14,7 @@ pub fn print_spent(places: u64) {
 pub fn print_end(places: u64, labels_read: u64, kind: Kind, block: u64, vertices: u64) {
     show(b"places ", places);
     show(b"labels read ", labels_read);
-    print_kind(kind);
+    show_kind(kind);
     show(b"block ", block);
     show(b"vertices ", vertices);
 }

@@ -3,6 +3,7 @@
 // lists.
 use case_reader::bytes;
 use case_reader::show;
+use case_reader::show_kind;
 use case_reader::show_text;
 use case_reader::show_words;
 use case_reader::word;
@@ -13,7 +14,6 @@ use walk_views::at_start;
 use walk_views::points;
 use walk_views::turned;
 use walk_ways::Answer;
-use walk_ways::Kind;
 
 // A walk, and the walk one call before.
 struct Both {
@@ -28,13 +28,6 @@ fn print_points(w: Walk, labels: &[u8]) {
     show_words(b"numbers", &numbers);
 }
 
-fn print_kind(kind: Kind) {
-    match kind {
-        Kind::Place => show_text(b"end place\n"),
-        Kind::Facet => show_text(b"end facet\n"),
-    }
-}
-
 // What a call has answered, and whether it has moved the walk.
 fn print_answer(answer: Answer) -> bool {
     match answer {
@@ -47,7 +40,7 @@ fn print_answer(answer: Answer) -> bool {
             block,
             vertices,
         } => {
-            print_kind(kind);
+            show_kind(kind);
             show(b"block ", block as u64);
             show(b"vertices ", vertices as u64);
             false

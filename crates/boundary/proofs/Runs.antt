@@ -7,6 +7,8 @@ use borrow.Author.Tests.{eqb-true}
 use lib.Dec.{eqb}
 use lib.ListN.{getD}
 use Rattle.combinatorics.proofs.Basics.{absurd-bool}
+use Rattle.end_kinds.specs.declared.Kind.{Kind}
+use Rattle.end_kinds.specs.declared.Kind.the-variants.{Place as placeEnd}
 use Rattle.questions.proofs.Answers.{asked-next, both-yes}
 use Rattle.questions.specs.Questions.{firstNo}
 use Rattle.grid.proofs.Accepted.{accepted}
@@ -14,17 +16,14 @@ use Rattle.grid.specs.Build.{lent}
 use Rattle.grid.specs.Grid.{Point, points}
 use Rattle.grid.specs.Questions.{question5}
 use Rattle.place.proofs.Accepted.{accepted-of}
-use Rattle.place.specs.Ends.{Kind as KindOfEnd}
 use Rattle.place.specs.Path.{Answer as PathAnswer, answer, ended, spent, unknown}
 use Rattle.place.specs.Places.{Simplex}
 use Rattle.place.specs.Problem.{Problem, problemOf}
 use Rattle.place.specs.Questions.{question8, tableQuestions}
 use Rattle.simplices.proofs.Tests.{settled-with}
-use Rattle.finder.specs.Run.{caseOf, kindOf, refusal, runAnswer}
+use Rattle.finder.specs.Run.{caseOf, refusal, runAnswer}
 use Rattle.finder.specs.declared.answers.Answer.{Answer}
 use Rattle.finder.specs.declared.answers.Answer.the-variants.{End, Refused, Unknown}
-use Rattle.path_walk.specs.declared.Kind.{Kind}
-use Rattle.path_walk.specs.declared.Kind.the-variants.{Place}
 use Rattle.games.specs.declared.Labelled.the-variants.{Written}
 use Rattle.boundary_labels.proofs.Ends.{accepted-again, over-new-table}
 use Rattle.boundary_labels.specs.Boundary.{isInterior}
@@ -48,7 +47,7 @@ module _ (p : Problem) (room budget : ℕ) where
 -- the path's answer, by the run's
 ended-case : (places read : ℕ) (kind : Kind) (block vertices : ℕ) (o : PathAnswer)
     → caseOf o ≡ End places read kind block vertices
-    → (k : KindOfEnd) × (s : Simplex) × (o ≡ ended places read k block vertices s) × (kindOf k ≡ kind)
+    → (k : Kind) × (s : Simplex) × (o ≡ ended places read k block vertices s) × (k ≡ kind)
 ended-case places read kind block vertices (spent n) e = absurd-bool (cc)
 ended-case places read kind block vertices (unknown n i) e = absurd-bool (cc)
 ended-case places read kind block vertices (ended n l k b v s) e = (k, s, (cc), (cc))
@@ -72,11 +71,11 @@ module _ (sizes divisions old buffer : List ℕ) (count : ℕ)
       (over-new-table ok old (wrote .table), accepted-again ok old (wrote .table) (wrote .long) (wrote .range))
 
   place-ends : (budget places read : ℕ) (kind : Kind) (block vertices : ℕ)
-      → runAnswer p room budget ≡ End places read kind block vertices → kind ≡ Place
+      → runAnswer p room budget ≡ End places read kind block vertices → kind ≡ placeEnd
   place-ends budget places read kind block vertices r =
       let u = unrefused p room budget (End places read kind block vertices) (λ n q. absurd-bool (cc)) r in
       let c = ended-case places read kind block vertices (answer p budget) (u .1) in
-      sym (c .3) ∙ ap kindOf (over (u .0) .0 .announced budget places read (c .0) block vertices (c .1) (c .2))
+      sym (c .3) ∙ (over (u .0) .0 .announced budget places read (c .0) block vertices (c .1) (c .2))
 
   asks-inside : (budget places position : ℕ) → runAnswer p room budget ≡ Unknown places position
       → isInterior (getD (points (p .grid)) position []) ≡ true

@@ -5,14 +5,14 @@ use mathlib.Core.List.{List, []}
 use mathlib.Core.Path.{_≡_}
 use Prim.Native.Nat.{ℕ}
 use lib.ListN.{getD}
+use Rattle.end_kinds.specs.declared.Kind.{Kind}
+use Rattle.end_kinds.specs.declared.Kind.the-variants.{Place as placeEnd}
 use Rattle.grid.specs.Grid.{Point, points}
 use Rattle.grid.specs.Questions.{question5}
 use Rattle.place.specs.Problem.{Problem, problemOf}
 use Rattle.place.specs.Questions.{question8}
 use Rattle.finder.specs.Run.{refusal, runAnswer}
 use Rattle.finder.specs.declared.answers.Answer.the-variants.{End, Unknown}
-use Rattle.path_walk.specs.declared.Kind.{Kind}
-use Rattle.path_walk.specs.declared.Kind.the-variants.{Place}
 use Rattle.games.specs.declared.Labelled.the-variants.{Written}
 use Rattle.boundary_labels.specs.Boundary.{isInterior}
 use Rattle.boundary.specs.Call.{boundaryAnswer, boundaryBuffer}
@@ -20,7 +20,7 @@ use Rattle.boundary.specs.Call.{boundaryAnswer, boundaryBuffer}
 pub record RunsOver (p : Problem) (room : ℕ) : Type 0 where
   -- "every end that a run announces is a place end"
   pub kinds : (budget places read : ℕ) (kind : Kind) (block vertices : ℕ)
-      → runAnswer p room budget ≡ End places read kind block vertices → kind ≡ Place
+      → runAnswer p room budget ≡ End places read kind block vertices → kind ≡ placeEnd
   -- a label that a run asks for is that of an interior point: the boundary has no gap
   pub asks : (budget places position : ℕ) → runAnswer p room budget ≡ Unknown places position
       → isInterior (getD (points (p .grid)) position []) ≡ true

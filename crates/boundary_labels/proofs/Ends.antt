@@ -15,6 +15,8 @@ use Rattle.combinatorics.proofs.Basics.{absurd-bool, before-or-not, true-or-fal
 use Rattle.combinatorics.proofs.Lists.{all-in, concatMap-in, filter-in, in-all, in-here, map-in, onNumbers, same-sound}
 use Rattle.combinatorics.proofs.Ranges.{upFrom-in}
 use Rattle.combinatorics.specs.Lists.{all, filter, isIn, same}
+use Rattle.end_kinds.specs.declared.Kind.{Kind}
+use Rattle.end_kinds.specs.declared.Kind.the-variants.{Facet as facetEnd, Place as placeEnd}
 use Rattle.grid.proofs.Points.{onPoints, points-in}
 use Rattle.grid.specs.Grid.{Point, blocks, isGridPoint, numBlocks, numIndices, numPoints, points}
 use Rattle.place.proofs.Accepted.{accepted-is}
@@ -25,7 +27,7 @@ use Rattle.place.proofs.Simplices.{onSimplices}
 use Rattle.place.proofs.Theorem.{demand3-holds}
 use Rattle.place.proofs.Ways.{IsWay, byFacet, byPlace, onEnds}
 use Rattle.place.specs.Demand.{Accepted, NoGap, Settled, placeAt}
-use Rattle.place.specs.Ends.{End, Kind, completeFor, facetEnd, facetEnds, facets, isComplete, placeEnd, stop}
+use Rattle.place.specs.Ends.{End, completeFor, facetEnds, facets, isComplete, stop}
 use Rattle.place.specs.Path.{answer, ended, outcome, path, pathLength, sameSimplex, spent, unknown}
 use Rattle.place.specs.Places.{Simplex, isPlace, labelSet, setT, setU}
 use Rattle.place.specs.Problem.{Problem, label}

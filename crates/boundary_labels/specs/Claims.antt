@@ -7,10 +7,12 @@ use Prim.Native.Nat.{ℕ, _≤_, _<_}
 use lib.Dec.{eqb, leb}
 use lib.ListN.{length, getD}
 use Rattle.combinatorics.specs.Lists.{all, isIn}
+use Rattle.end_kinds.specs.declared.Kind.{Kind}
+use Rattle.end_kinds.specs.declared.Kind.the-variants.{Place as placeEnd}
 use Rattle.questions.specs.Questions.{firstNo}
 use Rattle.grid.specs.Grid.{Grid, Point, at, indicesOf, isGridPoint, numBlocks, numIndices, numPoints, points, previous}
 use Rattle.place.specs.Demand.{Ended, NoGap}
-use Rattle.place.specs.Ends.{End, Kind, facetEnds, isComplete, placeEnd}
+use Rattle.place.specs.Ends.{End, facetEnds, isComplete}
 use Rattle.place.specs.Path.{answer, ended, path, unknown}
 use Rattle.place.specs.Places.{Simplex, isPlace, labelSet, setU}
 use Rattle.place.specs.Problem.{Problem}

@@ -5,6 +5,7 @@ ghost use mathlib.Core.Path.{_≡_};
 ghost use Prim.Native.Nat.{_+_, _≤_, _<_};
 ghost use lib.ListN.{length};
 ghost use Rattle.io.specs.Counts.{Counts};
+use end_kinds::Kind;
 use libc::STDIN_FILENO;
 use libc::STDOUT_FILENO;
 
@@ -116,6 +117,14 @@ pub fn show(text: &[u8], number: u64) {
     show_text(text);
     io::print_decimal(STDOUT_FILENO, number);
     show_text(b"\n");
+}
+
+// The line of an end's kind.
+pub fn show_kind(kind: Kind) {
+    match kind {
+        Kind::Place => show_text(b"end place\n"),
+        Kind::Facet => show_text(b"end facet\n"),
+    }
 }
 
 fn show_run(count: usize, number: u64) {

@@ -3,7 +3,7 @@
 use mathlib.Core.Path.{_≡_}
 use Prim.Native.Nat.{ℕ}
 use Rattle.combinatorics.specs.Lists.{concatMap}
-use Rattle.place.specs.Ends.{Kind}
+use Rattle.end_kinds.specs.declared.Kind.{Kind}
 use Rattle.place.specs.Path.{answer, ended}
 use Rattle.place.specs.Places.{Simplex}
 use Rattle.place.specs.Problem.{Problem}

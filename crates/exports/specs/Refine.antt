@@ -3,9 +3,9 @@ use mathlib.Core.List.{List, [], _∷_}
 use Prim.Native.Nat.{ℕ}
 use lib.ListN.{take}
 use Rattle.combinatorics.specs.Lists.{concatMap}
+use Rattle.end_kinds.specs.Numbers.{kindNumber}
 use Rattle.refinement.specs.declared.Level.{Level}
 use Rattle.refinement.specs.declared.Refined.{Refined}
-use Rattle.run_facts.specs.Numbers.{kindNumber}
 
 -- "each level's places, kind of end, block and number of vertices", and request 10's labels read after the places
 abbrev pub levelFacts : Level → List ℕ

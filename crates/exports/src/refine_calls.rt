@@ -6,9 +6,9 @@ ghost use Rattle.combinatorics.specs.Front.{front};
 ghost use Rattle.grid.specs.Build.{lent};
 ghost use Rattle.refinement.specs.Answer.{answerLeft, labelsLeft, lentGame, refineAnswer};
 ghost use Rattle.exports.specs.Refine.{levelFacts, refinedFacts};
+use end_kinds::kind_number;
 use refinement::Level;
 use refinement::Refined;
-use run_facts::kind_number;
 
 // The facts of a level to the front of their buffer.
 fn put_level(level: Level, facts: &mut [u64])
@@ -18,7 +18,7 @@ fn put_level(level: Level, facts: &mut [u64])
     let kind = level.kind;
     facts[0] = level.places;
     facts[1] = level.labels_read;
-    facts[2] = kind_number(kind);
+    facts[2] = kind_number(kind) as u64;
     facts[3] = level.block as u64;
     facts[4] = level.vertices as u64;
 }

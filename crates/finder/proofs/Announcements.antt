@@ -15,6 +15,7 @@ use Rattle.combinatorics.proofs.Fronts.{front-length, front-taken}
 use Rattle.combinatorics.proofs.Ranges.{length-upFrom}
 use Rattle.combinatorics.specs.Front.{front}
 use Rattle.combinatorics.specs.Lists.{upFrom}
+use Rattle.end_kinds.specs.declared.Kind.{Kind}
 use Rattle.grid.proofs.Fields.{indices-few, made-indices}
 use Rattle.grid.specs.Grid.{Grid, Point, blockOf, dimension, isGridPoint, numIndices}
 use Rattle.grid.specs.Made.{IsMade, shape}
@@ -25,11 +26,9 @@ use Rattle.place.specs.Demand.{Accepted}
 use Rattle.place.specs.Path.{answer}
 use Rattle.place.specs.Problem.{Problem}
 use Rattle.marks.specs.Reading.{problemFrom}
-use Rattle.path_walk.specs.Finish.{Announced, Finished, endOf, firstOf, problemIn}
-use Rattle.finder.specs.Run.{caseOf, kindOf, numbersOf}
+use Rattle.path_walk.specs.Finish.{Announced, Finished, firstOf, problemIn}
+use Rattle.finder.specs.Run.{caseOf, numbersOf}
 use Rattle.finder.specs.declared.answers.Answer.the-variants.{End}
-use Rattle.path_walk.specs.declared.Kind.{Kind}
-use Rattle.path_walk.specs.declared.Kind.the-variants.{Place, Facet}
 use Rattle.path_walk.specs.declared.Finish.{Finish}
 
 -- a grid point has m numbers
@@ -68,14 +67,9 @@ module _ (g : GridStruct) (made : IsMade g) (start table : List ℕ) (ok : Accep
       (λ (p : Problem). Finished p budget round first order f)
       (ap (λ (t : List ℕ). problemIn g t table) e ∙ same-problem) F
 
--- the kind, there and back
-kind-is : (kind : Kind) → kindOf (endOf kind) ≡ kind
-kind-is Place = refl
-kind-is Facet = refl
-
 -- the answer at an end
 module _ (g : GridStruct) (made : IsMade g) (start table : List ℕ) (budget places : ℕ) (kind : Kind) (e : State) (h : ℕ)
-    {read : ℕ} (A : Announced (problemFrom g start table) budget (endOf kind) (firstOf kind) e h places read) where
+    {read : ℕ} (A : Announced (problemFrom g start table) budget kind (firstOf kind) e h places read) where
   pub index : h < g .indices
   index = omega (arith, A .index, made-indices g made)
 
@@ -102,4 +96,4 @@ module _ (g : GridStruct) (made : IsMade g) (start table : List ℕ) (budget pla
   pub told : (block vertices : ℕ) → block ≡ suc (blockOf (shape g) h)
       → vertices ≡ suc (length (e .order)) - firstOf kind
       → End places read kind block vertices ≡ caseOf (answer (problemFrom g start table) budget)
-  told block vertices b q = rw (A .is, b, q, number, kind-is kind)
+  told block vertices b q = rw (A .is, b, q, number)

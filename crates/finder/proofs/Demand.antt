@@ -9,6 +9,7 @@ use native.Mathlib.Omega.{arith}
 use Rattle.combinatorics.proofs.Basics.{same-or}
 use Rattle.combinatorics.proofs.Fronts.{front-none}
 use Rattle.combinatorics.specs.Front.{front}
+use Rattle.end_kinds.specs.declared.Kind.{Kind}
 use Rattle.questions.specs.Questions.{firstNo}
 use Rattle.grid.specs.Grid.{bound}
 use Rattle.grid.specs.Questions.{gridQuestions}
@@ -21,7 +22,6 @@ use Rattle.finder.specs.Demand.{Demand3InOnePiece, FillingInOnePiece, Ru
 use Rattle.finder.specs.Run.{caseOf, numbersOf, refusal, runAnswer, runBuffer}
 use Rattle.finder.specs.declared.answers.Answer.{Answer}
 use Rattle.finder.specs.declared.answers.Answer.the-variants.{End, Spent, Unknown}
-use Rattle.path_walk.specs.declared.Kind.{Kind}
 use Rattle.finder.proofs.Refusals.{accepted-with-room, answered, by-grid, by-later}
 
 -- an answer is told by its case

@@ -7,6 +7,7 @@ use Prim.Native.Nat.{ℕ, suc, pred, _≤_, _<_}
 use lib.ListN.{length, getD}
 use Rattle.combinatorics.specs.Front.{front}
 use Rattle.combinatorics.specs.Lists.{concatMap}
+use Rattle.end_kinds.specs.declared.Kind.{Kind}
 use Rattle.grid.specs.Grid.{Point, bound, position}
 use Rattle.place.specs.Demand.{Demand3, Ended, Fills, NoGap, lastPlace}
 use Rattle.place.specs.Ends.{End as EndOfPath}
@@ -14,16 +15,15 @@ use Rattle.place.specs.LabelsRead.{labelsRead}
 use Rattle.place.specs.Path.{path as pathOf, pathLength}
 use Rattle.place.specs.Places.{unlabelled}
 use Rattle.place.specs.Problem.{Problem, withLabels}
-use Rattle.finder.specs.Run.{kindOf, refusal, runAnswer, runBuffer}
+use Rattle.finder.specs.Run.{refusal, runAnswer, runBuffer}
 use Rattle.finder.specs.declared.answers.Answer.{Answer}
 use Rattle.finder.specs.declared.answers.Answer.the-variants.{End, Spent, Unknown}
-use Rattle.path_walk.specs.declared.Kind.{Kind}
 
 -- "the kind, block and complete simplex of the path's end, and the length as the count of simplices visited"; the block
 -- counts from 1. Request 10: with the labels read on the path
 abbrev pub announcementOf : Problem → EndOfPath → Answer
 announcementOf p e =
-    End (pathLength p) (labelsRead (pathOf p .visited)) (kindOf (e .kind)) (suc (e .block)) (length (e .simplex))
+    End (pathLength p) (labelsRead (pathOf p .visited)) (e .kind) (suc (e .block)) (length (e .simplex))
 
 -- "A table is accepted if, with its grid, start and answer buffer, a run's questions 1 to 8 are answered yes"; the
 -- buffer has `room` numbers

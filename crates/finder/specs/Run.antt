@@ -7,18 +7,11 @@ use lib.ListN.{length}
 use Rattle.combinatorics.specs.Front.{front}
 use Rattle.combinatorics.specs.Lists.{concatMap}
 use Rattle.questions.specs.Questions.{firstNo}
-use Rattle.place.specs.Ends.{Kind as KindOfEnd, placeEnd, facetEnd}
 use Rattle.place.specs.Path.{Answer as PathAnswer, spent, ended, unknown, answer}
 use Rattle.place.specs.Problem.{Problem}
 use Rattle.place.specs.Questions.{runQuestions}
 use Rattle.finder.specs.declared.answers.Answer.{Answer}
 use Rattle.finder.specs.declared.answers.Answer.the-variants.{Refused, Spent, Unknown, End}
-use Rattle.path_walk.specs.declared.Kind.{Kind}
-use Rattle.path_walk.specs.declared.Kind.the-variants.{Place, Facet}
-
-abbrev pub kindOf : KindOfEnd → Kind
-kindOf placeEnd = Place
-kindOf facetEnd = Facet
 
 -- "The answer has the places, the kind of end, the block, the number of vertices": the enum's case and values for each
 -- answer of an accepted table. "A budget is called spent by number 9", which "also returns the places visited". Request
@@ -26,7 +19,7 @@ kindOf facetEnd = Facet
 -- read stand after the places, and "a refusal gives none".
 abbrev pub caseOf : PathAnswer → Answer
 caseOf (spent n) = Spent n
-caseOf (ended n read kind block vertices simplex) = End n read (kindOf kind) block vertices
+caseOf (ended n read kind block vertices simplex) = End n read kind block vertices
 caseOf (unknown n position) = Unknown n position
 
 -- "the vertices in rising coefficient sum, m 16-bit numbers each": the numbers that an answer writes

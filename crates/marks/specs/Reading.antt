@@ -38,11 +38,6 @@ pub record Readable (g : GridStruct) (binomials table : List ℕ) : Type 0 where
 abbrev pub readingOf : Problem → Point → Reading
 readingOf p y = cond (eqb (label p y) 0) (Unknown (position (p .grid) y)) (Marked (markOf p y))
 
--- a grid that was made, with its binomials
-pub record Measured (g : GridStruct) (binomials : List ℕ) : Type 0 where
-  pub made : IsMade g
-  pub filled : HasBinomials (shape g) binomials
-
 -- the point that has just come in can be computed, and is a grid point
 pub record CanRead (g : GridStruct) (a : State) : Type 0 where
   pub below : IndicesBelow (a .round .previous)

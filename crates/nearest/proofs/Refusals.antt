@@ -10,12 +10,12 @@ use lib.ListN.{length}
 use native.Mathlib.Omega.{arith}
 use Rattle.combinatorics.proofs.Fronts.{front-none}
 use Rattle.combinatorics.specs.Front.{front}
+use Rattle.end_kinds.specs.declared.Kind.{Kind}
 use Rattle.questions.proofs.Answers.{asked-next, asked-no, both-yes, first-yes}
 use Rattle.questions.specs.Questions.{firstNo}
 use Rattle.grid.specs.Grid.{Point, isGridPoint, numPoints}
 use Rattle.grid.specs.Questions.{gridQuestions, question5}
 use Rattle.place.specs.Demand.{Accepted}
-use Rattle.place.specs.Ends.{Kind as KindOfEnd}
 use Rattle.place.specs.Path.{Answer as PathAnswer, answer, ended, spent, unknown}
 use Rattle.place.specs.Places.{Simplex}
 use Rattle.place.specs.Problem.{Problem}
@@ -23,7 +23,6 @@ use Rattle.place.specs.Questions.{question6, question7, question8}
 use Rattle.finder.specs.Asked.{laterQuestions}
 use Rattle.finder.specs.Run.{caseOf, numbersOf}
 use Rattle.finder.specs.declared.answers.Answer.the-variants.{End, Refused, Unknown}
-use Rattle.path_walk.specs.declared.Kind.{Kind}
 use Rattle.visited.proofs.Nearest.{is-list}
 use Rattle.visited.specs.Questions.{pointQuestions, question8List}
 use Rattle.nearest.specs.Report.{answerBuffer, listBuffer, listedIn, nearRefusal, nearestIn, reportOf}
@@ -113,7 +112,7 @@ module _ (p : Problem) (w : Point) (given budget : ℕ) (old list : List ℕ) wh
 
 -- an end in the answer is the path's, after all its places
 case-ended : (a : PathAnswer) {n read block vertices : ℕ} {kind : Kind} → caseOf a ≡ End n read kind block vertices
-    → (k : KindOfEnd) × (s : Simplex) × (a ≡ ended n read k block vertices s)
+    → (k : Kind) × (s : Simplex) × (a ≡ ended n read k block vertices s)
 case-ended (spent m) e = absurd (let z : _≡_ {A = ℕ} 0 1 = cc in omega arith)
 case-ended (unknown m i) e = absurd (let z : _≡_ {A = ℕ} 0 1 = cc in omega arith)
 case-ended (ended m l k b v s) {n} {read} {block} {vertices} e =
@@ -133,7 +132,7 @@ module _ (p : Problem) (budget : ℕ) where
   at-gap e = case-unknown (answer p budget) e
 
   pub at-end : {n read block vertices : ℕ} {kind : Kind} → caseOf (answer p budget) ≡ End n read kind block vertices
-      → (k : KindOfEnd) × (s : Simplex) × (answer p budget ≡ ended n read k block vertices s)
+      → (k : Kind) × (s : Simplex) × (answer p budget ≡ ended n read k block vertices s)
   at-end e = case-ended (answer p budget) e
 
 -- what is reported tells what is listed: nothing; or as many positions as it says, which are no more than the points

@@ -4,12 +4,12 @@ use mathlib.Core.List.{List}
 use mathlib.Core.Path.{_≡_}
 use Prim.Native.Nat.{ℕ, _<_}
 use lib.ListN.{length}
+use Rattle.end_kinds.specs.declared.Kind.{Kind}
 use Rattle.grid.specs.Grid.{Point, position}
 use Rattle.place.specs.Path.{pathLength}
 use Rattle.place.specs.Problem.{Problem}
 use Rattle.finder.specs.Run.{runAnswer, runBuffer}
 use Rattle.finder.specs.declared.answers.Answer.the-variants.{End, Unknown}
-use Rattle.path_walk.specs.declared.Kind.{Kind}
 use Rattle.visited.specs.Demand.{Distances, IsList, IsNearest, Visits}
 use Rattle.visited.specs.Nearest.{nearest, positionsWithin}
 use Rattle.nearest.specs.Report.{answerBuffer, listBuffer, nearRefusal, reportOf}

@@ -16,6 +16,8 @@ use Rattle.combinatorics.proofs.EditsOfArrays.{first-few}
 use Rattle.combinatorics.proofs.Lists.{all-in, in-all, in-map, map-in, onNumbers}
 use Rattle.combinatorics.proofs.Ranges.{in-upFrom, upFrom-in}
 use Rattle.combinatorics.specs.Lists.{isIn, sum, upFrom}
+use Rattle.end_kinds.specs.declared.Kind.{Kind}
+use Rattle.end_kinds.specs.declared.Kind.the-variants.{Facet as facetEnd, Place as placeEnd}
 use Rattle.grid.proofs.Fields.{following-low, made-blocks, made-indices, made-next, made-previous, previous-low}
 use Rattle.grid.proofs.Points.{onPoints}
 use Rattle.grid.proofs.Terms.{bound-fits}
@@ -30,7 +32,6 @@ use Rattle.place.proofs.Labels.{label-ok}
 use Rattle.place.proofs.Theorem.{demand3-holds}
 use Rattle.place.specs.Demand.{Accepted, placeAt}
 use Rattle.place.specs.LabelsRead.{cameIn}
-use Rattle.place.specs.Ends.{Kind, placeEnd, facetEnd}
 use Rattle.place.specs.Path.{answer, path, pathLength, spent, unknown}
 use Rattle.place.specs.Places.{allLabelled}
 use Rattle.place.specs.Problem.{Problem, hasLabel, label}

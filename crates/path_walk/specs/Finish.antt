@@ -6,11 +6,12 @@ use mathlib.Core.Path.{_≡_}
 use Prim.Native.Nat.{ℕ, suc, _≤_, _<_}
 use lib.Dec.{eqb, ltb}
 use lib.ListN.{length, take}
+use Rattle.end_kinds.specs.declared.Kind.{Kind}
+use Rattle.end_kinds.specs.declared.Kind.the-variants.{Facet as facetEnd, Place as placeEnd}
 use Rattle.grid.specs.Grid.{at, blockOf, dimension, numIndices, position}
 use Rattle.grid.specs.Made.{shape}
 use Rattle.grid.specs.declared.Grid.{Grid as GridStruct}
 use Rattle.place.specs.Demand.{Accepted}
-use Rattle.place.specs.Ends.{Kind as KindOfEnd, placeEnd, facetEnd}
 use Rattle.place.specs.Path.{answer, ended, spent, unknown}
 use Rattle.place.specs.Problem.{Problem, label}
 use Rattle.moves.specs.Held.{stateOf}
@@ -23,8 +24,6 @@ use Rattle.moves.specs.declared.Outcome.the-variants.{Moved as OutcomeMoved, Pl
 use Rattle.moves.specs.declared.Outcome.the-variants.{FacetEnd as OutcomeFacetEnd}
 use Rattle.moves.specs.declared.Status.{Status}
 use Rattle.marks.specs.Reading.{problemFrom, tableOf, CanRead, HasMarks, Readable}
-use Rattle.path_walk.specs.declared.Kind.{Kind}
-use Rattle.path_walk.specs.declared.Kind.the-variants.{Place, Facet}
 use Rattle.path_walk.specs.declared.Finish.{Finish}
 use Rattle.path_walk.specs.declared.Finish.the-variants.{Ended, Spent, Unknown as UnknownLabel}
 use Rattle.path_walk.specs.declared.Visited.{Visited}
@@ -84,18 +83,14 @@ pub record IsBegun (first : List ℕ) (m : ℕ) (s : Status) : Type 0 where
   pub active : s .active ≡ 0
   pub zeros : (k : ℕ) → k < 16 → bit (s .u) k ≡ (ltb k m && eqb (at first k) 0)
 
--- document 01's kind of end, and the number of the first point of the complete simplex
-abbrev pub endOf : Kind → KindOfEnd
-endOf Place = placeEnd
-endOf Facet = facetEnd
-
+-- the number of the first point of the complete simplex
 abbrev pub firstOf : Kind → ℕ
-firstOf Place = 0
-firstOf Facet = 1
+firstOf placeEnd = 0
+firstOf facetEnd = 1
 
 -- the state e stands at an end, which is the answer: `places` places, an end of the kind given for the block of h, and
 -- as simplex the points of e from number `from` on; `labels` labels were read
-pub record Announced (p : Problem) (budget : ℕ) (kind : KindOfEnd) (from : ℕ) (e : State) (h places labels : ℕ)
+pub record Announced (p : Problem) (budget : ℕ) (kind : Kind) (from : ℕ) (e : State) (h places labels : ℕ)
     : Type 0 where
   pub firstLength : length (e .first) ≡ 16
   pub index : h < numIndices (p .grid)
@@ -108,7 +103,7 @@ pub record Announced (p : Problem) (budget : ℕ) (kind : KindOfEnd) (from : ℕ
 -- where a walk of at most `budget` places ends, with the first point and the order at the last place in its arrays
 abbrev pub Finished : Problem → ℕ → Round → List ℕ → List ℕ → Finish → Type 0
 Finished p budget round first order (Ended kind places h s labels) =
-    Announced p budget (endOf kind) (firstOf kind) (stateOf round first [] order [] s) h places labels
+    Announced p budget kind (firstOf kind) (stateOf round first [] order [] s) h places labels
     × (length order ≡ 16)
 Finished p budget round first order (UnknownLabel places place) = answer p budget ≡ unknown places place
 Finished p budget round first order Spent = answer p budget ≡ spent budget

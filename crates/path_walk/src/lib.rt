@@ -11,6 +11,7 @@ ghost use Rattle.rules.specs.Step.{Round, State, step as stepOf};
 ghost use Rattle.path_walk.specs.Finish.{CanVisit, CanWalk, Finished, Gives, IsBegun, labelsAt, problemIn};
 ghost use Rattle.path_walk.specs.Finish.{visitOf};
 use arrays::zeros;
+use end_kinds::Kind;
 use grid::Grid;
 use marks::Reading;
 use marks::mark_in;
@@ -18,12 +19,6 @@ use moves::Outcome;
 use moves::Status;
 use moves::step;
 use positions::ENTRIES;
-
-// The kind of end: a complete place, or what remains of a place less one point.
-pub enum Kind {
-    Place,
-    Facet,
-}
 
 // What a place of the walk leads to: what the move gives; or that the label of the point that has come in is not yet
 // known, with its position.

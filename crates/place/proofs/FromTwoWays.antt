@@ -18,6 +18,7 @@ use Rattle.combinatorics.proofs.Lists.{all-in, in-filter, filter-in, in-cases, 
 use Rattle.combinatorics.proofs.Lists.{distinct-filter, only-member, pigeon, length-without}
 use Rattle.combinatorics.proofs.Walk.{Walks, apart}
 use Rattle.combinatorics.specs.Lists.{filter, all, isIn, distinct, concatMap, same}
+use Rattle.end_kinds.specs.declared.Kind.the-variants.{Facet as facetEnd, Place as placeEnd}
 use Rattle.grid.proofs.Points.{onPoints}
 use Rattle.grid.specs.Grid.{Point, blocks, position, bound, numBlocks}
 use Rattle.place.proofs.Positions.{in-at}
@@ -36,7 +37,7 @@ use Rattle.place.proofs.Ways.{IsWay, byPlace, byFacet, byLink, sameWay,
 use Rattle.place.specs.Demand.{Accepted, Settled, TwoWays, placeAt, lastPlace, leftAt, Follows, IsPath, Stop}
 use Rattle.place.specs.Demand.{atEnd, atGap, NoGap, Ended, Demand3}
 use Rattle.place.specs.Ends.{End, Way, stop, link, isComplete, completeFor, placeEnds, facetEnds, facets, ends}
-use Rattle.place.specs.Ends.{ways, placeEnd, facetEnd}
+use Rattle.place.specs.Ends.{ways}
 use Rattle.place.specs.Links.{linked, links}
 use Rattle.place.specs.Path.{isBack, waysOn, sameSimplex, pathFrom, path, pathLength}
 use Rattle.place.specs.LabelsRead.{labelsRead}

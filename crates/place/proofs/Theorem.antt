@@ -12,6 +12,8 @@ use native.Mathlib.Omega.{arith}
 use Rattle.combinatorics.proofs.Basics.{absurd-bool, true-or-false, and-left}
 use Rattle.combinatorics.specs.Edits.{removeAt}
 use Rattle.combinatorics.specs.Lists.{isIn, all}
+use Rattle.end_kinds.specs.declared.Kind.{Kind}
+use Rattle.end_kinds.specs.declared.Kind.the-variants.{Facet as facetEnd, Place as placeEnd}
 use Rattle.geometry.proofs.Exits.{kinds, inside-not-complete, inside-not-larger}
 use Rattle.geometry.proofs.Definitions.{Carries, Twice, Extra}
 use Rattle.geometry.proofs.Graph.{Through, Above, exit, through-one, above-one, larger, from-same, one}
@@ -35,7 +37,7 @@ use Rattle.place.proofs.ChainEnds.{end-labels}
 use Rattle.place.proofs.Ways.{IsWay, byPlace, byFacet, byLink, exactly-one, exactly-two}
 use Rattle.place.specs.Demand.{Accepted, Settled, TwoWays, NoGap, Demand3, IsPath, Follows, placeAt}
 use Rattle.place.specs.Demand.{leftAt}
-use Rattle.place.specs.Ends.{Kind, placeEnd, facetEnd, End, Way, stop, link, ways, facets}
+use Rattle.place.specs.Ends.{End, Way, stop, link, ways, facets}
 use Rattle.place.specs.Links.{linked}
 use Rattle.place.specs.Path.{sameSimplex, path, pathLength}
 use Rattle.place.specs.Places.{Simplex, isPlace, order, allLabelled}

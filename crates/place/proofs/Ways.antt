@@ -16,13 +16,15 @@ use Rattle.combinatorics.proofs.Lists.{distinct-filter, distinct-append, distin
 use Rattle.combinatorics.proofs.Lists.{distinct-tail, same-sound, same-self, pigeon, eqb-self, onNumbers, Equality}
 use Rattle.combinatorics.proofs.Ranges.{in-upFrom, upFrom-in, distinct-upFrom}
 use Rattle.combinatorics.specs.Lists.{filter, isIn, distinct, same, oneLess}
+use Rattle.end_kinds.specs.declared.Kind.{Kind}
+use Rattle.end_kinds.specs.declared.Kind.the-variants.{Facet as facetEnd, Place as placeEnd}
 use Rattle.grid.proofs.Points.{onPoints}
 use Rattle.grid.specs.Grid.{samePoint, numBlocks, blocks}
 use Rattle.place.proofs.LinkSymmetry.{place-distinct}
 use Rattle.place.proofs.Simplices.{simplex-sound, simplex-self, onSimplices}
 use Rattle.place.proofs.ListOfPlaces.{places-all, places-distinct}
 use Rattle.place.proofs.PathSteps.{places-are}
-use Rattle.place.specs.Ends.{Kind, placeEnd, facetEnd, End, Way, stop, link, isComplete, completeFor, placeEnds}
+use Rattle.place.specs.Ends.{End, Way, stop, link, isComplete, completeFor, placeEnds}
 use Rattle.place.specs.Ends.{facetEnds, facets, ends, ways}
 use Rattle.place.specs.Links.{linked, links}
 use Rattle.place.specs.Path.{sameSimplex}

@@ -5,6 +5,8 @@ use Prim.Native.Nat.{ℕ}
 use lib.Dec.{eqb, ltb}
 use lib.ListN.{length}
 use Rattle.combinatorics.specs.Lists.{filter, all, isIn, same, concatMap, oneLess}
+use Rattle.end_kinds.specs.declared.Kind.{Kind}
+use Rattle.end_kinds.specs.declared.Kind.the-variants.{Facet as facetEnd, Place as placeEnd}
 use Rattle.grid.specs.Grid.{blocks, indicesOf}
 use Rattle.place.specs.Links.{links}
 use Rattle.place.specs.Places.{Simplex, setU, setT, labelSet}
@@ -21,9 +23,6 @@ isComplete p s j =
 -- the blocks for which a set of points is complete
 unfoldable pub completeFor : Problem → Simplex → List ℕ
 completeFor p s = filter (isComplete p s) (blocks (p .grid))
-
-pub data Kind : Type 0 where
-  placeEnd facetEnd : Kind
 
 -- "ends are told apart by kind, block and set of points"
 pub record End : Type 0 where

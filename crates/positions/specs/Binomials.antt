@@ -5,6 +5,8 @@ use Prim.Native.Nat.{ℕ, zero, suc, _+_, _-_, _*_, _≤_, _<_}
 use lib.ListN.{getD}
 use Rattle.combinatorics.specs.Counting.{choose}
 use Rattle.grid.specs.Grid.{Grid, numBlocks, size, division}
+use Rattle.grid.specs.Made.{IsMade, shape}
+use Rattle.grid.specs.declared.Grid.{Grid as GridStruct}
 
 -- the table has rows 15 to 3, each for r up to 69, and then row 2 for r up to 344: no block that needs a row has a
 -- greater division
@@ -22,6 +24,11 @@ HasRows size division t = (k r : ℕ) → 2 ≤ k → k < size → r ≤ divisio
 -- what every block needs
 pub record HasBinomials (g : Grid) (t : List ℕ) : Type 0 where
   pub rows : (j : ℕ) → j < numBlocks g → HasRows (size g j) (division g j) t
+
+-- a grid that was made, with its binomials: the position of every grid point can be found
+pub record Measured (g : GridStruct) (t : List ℕ) : Type 0 where
+  pub made : IsMade g
+  pub filled : HasBinomials (shape g) t
 
 -- an entry that was right is right
 pub record Keeps (old new : List ℕ) : Type 0 where

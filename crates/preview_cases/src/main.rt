@@ -1,11 +1,12 @@
 // Shows the next move of the walks that standard input holds: the answer, the simplex of an end, and the map and the
-// fields of a move. There are as many walks as the first 16 bits say, and each is followed by its labels.
+// fields of a move. There are as many walks as the first 16 bits say, and each is followed by its labels, as a list.
+use case_reader::bytes;
+use case_reader::show;
+use case_reader::show_words;
+use case_reader::word;
 use walk_preview::Shown;
-use walk_reader::number;
 use walk_reader::print_answer;
 use walk_reader::print_indices;
-use walk_reader::print_numbers;
-use walk_reader::read_list;
 use walk_reader::read_walk;
 
 fn print_shown(p: Shown) {
@@ -14,27 +15,22 @@ fn print_shown(p: Shown) {
     let change = p.change;
     let fields = change.fields;
     print_answer(answer);
-    io::write_all(1, b"simplex");
-    print_numbers(&simplex);
-    io::write_all(1, b"map ");
-    io::print_decimal(1, change.map as u64);
-    io::write_all(1, b"\nfields");
-    print_indices(&fields);
+    show_words(b"simplex", &simplex);
+    show(b"map ", change.map as u64);
+    print_indices(b"fields", &fields);
 }
 
 fn print_next(k: usize) {
-    io::write_all(1, b"walk ");
-    io::print_decimal(1, k as u64);
-    io::write_all(1, b"\n");
+    show(b"walk ", k as u64);
     let w = read_walk();
-    let mut labels = [0u8; 60000];
-    let count = read_list(&mut labels);
+    let mut labels = [0u8; 60001];
+    let count = bytes(&mut labels);
     let p = walk_preview::preview(w, &labels[..count]);
     print_shown(p);
 }
 
 fn main() {
-    let walks = number() as usize;
+    let walks = word() as usize;
     let mut k: usize = 0;
     while k < walks {
         k += 1;

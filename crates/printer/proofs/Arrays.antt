@@ -8,6 +8,7 @@ use Rattle.combinatorics.proofs.Fronts.{front-length, front-taken}
 use Rattle.combinatorics.proofs.Ranges.{length-upFrom}
 use Rattle.combinatorics.proofs.Turns.{map-at}
 use Rattle.combinatorics.specs.Front.{front}
+use Rattle.end_kinds.specs.declared.Kind.{Kind}
 use Rattle.grid.proofs.Accepted.{blocks-few}
 use Rattle.grid.proofs.Fields.{made-accepted, made-blocks, made-indices, division-range, indices-few}
 use Rattle.grid.proofs.Round.{block-spans}
@@ -16,7 +17,6 @@ use Rattle.grid.specs.Made.{shape, IsMade, padded}
 use Rattle.grid.specs.declared.Grid.{Grid as GridStruct}
 use Rattle.sheet.specs.Answer.{rows, Printable}
 use Rattle.sheet.specs.Sheet.{endSheet}
-use Rattle.sheet.specs.declared.Kind.{Kind}
 use Rattle.printer.specs.Printed.{indexDivisions}
 use Rattle.printer.specs.Run.{Prints}
 
@@ -86,10 +86,10 @@ module _ (g : GridStruct) (made : IsMade g) where
             whole = rw (n, m) (f .2);
           })
 
-      pub end-printed : (places read b block : ℕ) (k kind : Kind) → b ≡ bound (shape g) → k ≡ kind
-          → endSheet places read b k block (rows vertices (length (take (g .indices) array)) buffer)
+      pub end-printed : (places read b block : ℕ) (kind : Kind) → b ≡ bound (shape g)
+          → endSheet places read b kind block (rows vertices (length (take (g .indices) array)) buffer)
           (take (g .indices) array)
           ≡ endSheet places read (bound (shape g)) kind block (rows vertices (numIndices (shape g)) buffer)
           (indexDivisions (shape g))
-      end-printed places read b block k kind e f =
-          rw (e, f, divisions-taken, length-indexDivisions, made-indices g made)
+      end-printed places read b block kind e =
+          rw (e, divisions-taken, length-indexDivisions, made-indices g made)

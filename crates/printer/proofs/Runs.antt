@@ -14,10 +14,11 @@ use Rattle.combinatorics.proofs.Basics.{same-or, before-or-not, and-left, and-r
 use Rattle.combinatorics.proofs.Fronts.{front-length}
 use Rattle.combinatorics.specs.Front.{front}
 use Rattle.combinatorics.specs.Lists.{all, concatMap}
+use Rattle.end_kinds.specs.declared.Kind.{Kind}
 use Rattle.questions.specs.Questions.{firstNo}
 use Rattle.finder.proofs.Refusals.{by-grid, by-later, accepted-with-room, answered as run-answered}
 use Rattle.finder.proofs.Refusals.{refused as run-refused}
-use Rattle.finder.specs.Run.{kindOf as kindAnswered, caseOf, numbersOf, refusal, runAnswer, runBuffer}
+use Rattle.finder.specs.Run.{caseOf, numbersOf, refusal, runAnswer, runBuffer}
 use Rattle.finder.specs.declared.answers.Answer.{Answer}
 use Rattle.finder.specs.declared.answers.Answer.the-variants.{Refused, Spent, Unknown, End}
 use Rattle.grid.specs.Grid.{Grid, Point, dimension, numIndices, isGridPoint}
@@ -25,18 +26,14 @@ use Rattle.grid.specs.Questions.{gridQuestions}
 use Rattle.place.proofs.EndPoints.{IsSimplex, end-simplex}
 use Rattle.place.proofs.Theorem.{demand3-holds, gapless}
 use Rattle.place.specs.Demand.{Accepted, Stop, atGap, lastPlace}
-use Rattle.place.specs.Ends.{End as EndOfPath, Kind as KindOfEnd, placeEnd, facetEnd}
+use Rattle.place.specs.Ends.{End as EndOfPath}
 use Rattle.place.specs.Path.{answer, path, pathLength, ended}
 use Rattle.place.specs.Problem.{Problem}
 use Rattle.place.specs.Places.{Simplex}
 use Rattle.sheet.specs.Sheet.{refusedSheet, spentSheet, unknownSheet}
 use Rattle.printer.proofs.Vertices.{rows-of, rows-length}
-use Rattle.printer.specs.Printed.{kindOf, answerSheet}
-use Rattle.printer.specs.Run.{onSheet, room, printed, Fits, runSheet}
-
-kind-same : (k : KindOfEnd) → onSheet (kindAnswered k) ≡ kindOf k
-kind-same placeEnd = refl
-kind-same facetEnd = refl
+use Rattle.printer.specs.Printed.{answerSheet}
+use Rattle.printer.specs.Run.{room, printed, Fits, runSheet}
 
 -- the points of a simplex have m numbers each
 m-numbers : (g : Grid) (s : List Point) → all (isGridPoint g) s ≡ true
@@ -73,9 +70,9 @@ module _ (p : Problem) (budget : ℕ) (old : List ℕ) (large : length old ≡ r
   )
 
   -- an end with a simplex of the grid
-  ends : (places read : ℕ) (kind : KindOfEnd) (block : ℕ) (s : Simplex) → suc (dimension (p .grid)) ≤ 16
+  ends : (places read : ℕ) (kind : Kind) (block : ℕ) (s : Simplex) → suc (dimension (p .grid)) ≤ 16
       → suc (dimension (p .grid)) * numIndices (p .grid) ≤ room → IsSimplex p s
-      → Prints (End places read (kindAnswered kind) block (length s)) (front (concatMap (λ y. y) s) old)
+      → Prints (End places read kind block (length s)) (front (concatMap (λ y. y) s) old)
       (answerSheet (p .grid) (ended places read kind block (length s) s))
   unfolding printed front
   ends places read kind block s few small i =
@@ -85,7 +82,7 @@ module _ (p : Problem) (budget : ℕ) (old : List ℕ) (large : length old ≡ r
       let le : length s * m ≤ room = omega (arith, mul-le-mul-right m (i .few)) in
       let w : length (front (concatMap (λ y. y) s) old) ≡ room =
       front-length (concatMap (λ y. y) s) old (omega (arith, l, large)) ∙ large in (
-        rw (kind-same kind, rows-of m s (drop (length (concatMap (λ y. y) s)) old) a),
+        rw (rows-of m s (drop (length (concatMap (λ y. y) s)) old) a),
         record {
           end = λ places read kind block vertices e.
               let v : vertices ≡ length s = cc in

@@ -4,11 +4,8 @@ use mathlib.Core.List.{List, map}
 use Prim.Native.Nat.{ℕ}
 use lib.Dec.{eqb}
 use Rattle.grid.specs.Grid.{Grid, division, blockOf, indices, bound}
-use Rattle.place.specs.Ends.{Kind as KindOfEnd, placeEnd, facetEnd}
 use Rattle.place.specs.Path.{Answer, spent, ended, unknown, answer}
 use Rattle.sheet.specs.Sheet.{endSheet, refusedSheet, spentSheet, unknownSheet}
-use Rattle.sheet.specs.declared.Kind.{Kind}
-use Rattle.sheet.specs.declared.Kind.the-variants.{Place, Facet}
 use Rattle.slip.specs.Slip.{slipGrid, slipProblem, slipBudget, slipRefusal}
 
 -- "vertices times d_j": the division of each index's block
@@ -16,9 +13,6 @@ abbrev pub indexDivisions : Grid → List ℕ
 indexDivisions g = map (λ h. division g (blockOf g h)) (indices g)
 
 -- "end place" or "end facet"
-abbrev pub kindOf : KindOfEnd → Kind
-kindOf placeEnd = Place
-kindOf facetEnd = Facet
 
 -- "The answer has the places, the kind of end, the block, the number of vertices, and the vertices"; of a budget that
 -- is spent, "9 adds a "places" line"; request 02: of a label that is not yet known, "its sheet adds a "places" and a
@@ -27,7 +21,7 @@ abbrev pub answerSheet : Grid → Answer → List ℕ
 answerSheet g (spent places) = spentSheet places
 answerSheet g (unknown places place) = unknownSheet places place
 answerSheet g (ended places read kind block vertices simplex) =
-    endSheet places read (bound g) (kindOf kind) block simplex (indexDivisions g)
+    endSheet places read (bound g) kind block simplex (indexDivisions g)
 
 -- "The kiosk program reads a slip from standard input. For the bytes .. it prints": a slip asks 13, 1 to 4, 14,
 -- 15, 11, 5, 7, and then runs, and "A refusal prints one line"

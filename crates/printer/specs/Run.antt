@@ -6,11 +6,10 @@ use Prim.Native.Nat.{ℕ, _*_, _≤_}
 use lib.Dec.{eqb}
 use lib.ListN.{length, take}
 use Rattle.combinatorics.specs.Front.{front}
+use Rattle.end_kinds.specs.declared.Kind.{Kind}
 use Rattle.finder.specs.Run.{refusal}
 use Rattle.finder.specs.declared.answers.Answer.{Answer}
 use Rattle.finder.specs.declared.answers.Answer.the-variants.{Refused, Spent, Unknown, End}
-use Rattle.path_walk.specs.declared.Kind.{Kind}
-use Rattle.path_walk.specs.declared.Kind.the-variants.{Place, Facet}
 use Rattle.losses.specs.Game.{labels}
 use Rattle.grid.specs.Grid.{Grid, numIndices, bound}
 use Rattle.grid.specs.Made.{IsMade, shape}
@@ -18,16 +17,10 @@ use Rattle.place.specs.Path.{answer}
 use Rattle.place.specs.Problem.{Problem}
 use Rattle.sheet.specs.Answer.{rows}
 use Rattle.sheet.specs.Sheet.{endSheet, refusedSheet, spentSheet, unknownSheet}
-use Rattle.sheet.specs.declared.Kind.{Kind as KindOnSheet}
-use Rattle.sheet.specs.declared.Kind.the-variants.{Place as PlaceOnSheet, Facet as FacetOnSheet}
 use Rattle.slip.specs.declared.Reading.{Reading}
 use Rattle.slip.specs.Reading.{readingOf}
 use Rattle.slip.specs.Slip.{stands}
 use Rattle.printer.specs.Printed.{answerSheet, indexDivisions}
-
-abbrev pub onSheet : Kind → KindOnSheet
-onSheet Place = PlaceOnSheet
-onSheet Facet = FacetOnSheet
 
 -- the numbers of the answer buffer, which is enough for every grid: (n + 1) times m is at most 16 times 16
 abbrev pub room : ℕ
@@ -39,7 +32,7 @@ printed g (Refused number) buffer = refusedSheet number
 printed g (Spent places) buffer = spentSheet places
 printed g (Unknown places place) buffer = unknownSheet places place
 printed g (End places read kind block vertices) buffer =
-    endSheet places read (bound g) (onSheet kind) block (rows vertices (numIndices g) buffer) (indexDivisions g)
+    endSheet places read (bound g) kind block (rows vertices (numIndices g) buffer) (indexDivisions g)
 
 -- the vertices of an answer are at least one, at most 16, and all in the buffer
 pub record Fits (g : Grid) (answer : Answer) (buffer : List ℕ) : Type 0 where

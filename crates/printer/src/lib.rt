@@ -5,23 +5,13 @@ ghost use Rattle.combinatorics.specs.Front.{front};
 ghost use Rattle.grid.specs.Made.{IsMade, shape, padded};
 ghost use Rattle.losses.specs.Table.{IsTable};
 ghost use Rattle.printer.specs.Printed.{indexDivisions, sheetOf};
-ghost use Rattle.printer.specs.Run.{onSheet, printed, Prints, Fits, HasGrid, IsGameReading};
+ghost use Rattle.printer.specs.Run.{printed, Prints, Fits, HasGrid, IsGameReading};
 ghost use Rattle.printer.specs.Run.{problemWith, lossProblem, runSheet};
 use finder::Answer;
 use grid::Grid;
 use slip::Losses;
 use slip::Reading;
 use slip::Table;
-
-// The kind of end, as the sheet names it.
-fn on_sheet(kind: path_walk::Kind) -> sheet::Kind
-    ensures { λ r. ⌜ r ≡ onSheet kind ⌝ }
-{
-    match kind {
-        path_walk::Kind::Place => sheet::Kind::Place,
-        path_walk::Kind::Facet => sheet::Kind::Facet,
-    }
-}
 
 // The division of each index's block.
 fn divisions_of(grid: Grid) -> [u16; 16]
@@ -59,7 +49,6 @@ fn print_answer(answer: Answer, grid: Grid, buffer: &[u16], sheet: &mut [u8; 409
             let indices = grid.indices;
             let divisions = divisions_of(grid);
             let bound = grid.bound();
-            let kind = on_sheet(kind);
             sheet::ended(
                 sheet,
                 places,

@@ -65,7 +65,7 @@ module _ (g : GridStruct) (binomials start previous sizes first order : List ℕ
   u = zeroOutside (shape g) o y
 
   made : IsMade g
-  made = C .located .made
+  made = C .measured .made
 
   m-is : g .indices ≡ numIndices (shape g)
   m-is = made-indices g made

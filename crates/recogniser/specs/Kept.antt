@@ -11,15 +11,15 @@ use Rattle.grid.specs.Made.{shape}
 use Rattle.grid.specs.declared.Grid.{Grid as GridStruct}
 use Rattle.place.specs.Coefficients.{coefficients}
 use Rattle.place.specs.Problem.{Problem}
+use Rattle.positions.specs.Binomials.{Measured}
 use Rattle.rules.specs.Mask.{bit}
 use Rattle.rules.specs.Ready.{IndicesBelow}
 use Rattle.walks.specs.Kept.{isKept, keptPoints, zeroOutside}
-use Rattle.recogniser.specs.Pieces.{Located}
 use Rattle.recogniser.specs.declared.Sets.{Sets}
 
 pub record CanRecognise (g : GridStruct) (binomials start previous sizes first order : List ℕ) (n : ℕ) (marks : List ℕ)
     : Type 0 where
-  pub located : Located g binomials
+  pub measured : Measured g binomials
   pub startOn : isGridPoint (shape g) start ≡ true
   -- the ways back round the blocks, and the size of each index's block
   pub below : IndicesBelow previous

@@ -6,11 +6,10 @@ use Prim.Native.Nat.{ℕ, suc, _+_, _≤_, _<_}
 use lib.Dec.{eqb}
 use lib.ListN.{length, take, getD}
 use Rattle.grid.specs.Grid.{Grid, Point, at, blockOf, isGridPoint, position}
-use Rattle.grid.specs.Made.{IsMade, shape}
+use Rattle.grid.specs.Made.{shape}
 use Rattle.grid.specs.declared.Grid.{Grid as GridStruct}
 use Rattle.place.specs.Places.{firstBackOutside}
 use Rattle.place.specs.Problem.{Problem}
-use Rattle.positions.specs.Binomials.{HasBinomials}
 use Rattle.positions.specs.Steps.{afterSteps, CanStep}
 use Rattle.rules.specs.Mask.{bit}
 use Rattle.rules.specs.Step.{mark, markPosition}
@@ -81,11 +80,6 @@ pub record PutIn (c : List ℕ) (first end : ℕ) (old new : List ℕ) : Type 0 
   pub inside : (k : ℕ) → first ≤ k → k < end → at new k ≡ at c k
   pub outside : (k : ℕ) → (k < first → at new k ≡ at old k)
   pub behind : (k : ℕ) → (end ≤ k → at new k ≡ at old k)
-
--- the position of every grid point can be told
-pub record Located (g : GridStruct) (binomials : List ℕ) : Type 0 where
-  pub made : IsMade g
-  pub filled : HasBinomials (shape g) binomials
 
 -- the point with these counts of steps
 abbrev pub pointWith : GridStruct → List ℕ → List ℕ → Point

@@ -1,8 +1,9 @@
 // The points of a first point and an order, their positions, and their labels, which are read in one function.
 ghost use Prim.Native.Nat.{_<_};
+ghost use Rattle.positions.specs.Binomials.{Measured};
 ghost use Rattle.rules.specs.Ready.{IndicesBelow};
 ghost use Rattle.rules.specs.Step.{firstOutside};
-ghost use Rattle.recogniser.specs.Pieces.{CanMark, CanRead, IsMark, LabelsPut, Located, Marked, OnGrid};
+ghost use Rattle.recogniser.specs.Pieces.{CanMark, CanRead, IsMark, LabelsPut, Marked, OnGrid};
 use arrays::position_at;
 use arrays::source;
 use arrays::wide32;
@@ -13,7 +14,7 @@ use positions::ENTRIES;
 
 // The mark of the point with these counts of steps: its position, above the lowest 8 bits, where its label has room.
 fn mark_at(g: Grid, binomials: &[u16; ENTRIES], first: &[u16; 16], steps: &[u16; 16]) -> u32
-    requires { ⌜ Located g (now binomials) × OnGrid g (now first) (now steps) ⌝ }
+    requires { ⌜ Measured g (now binomials) × OnGrid g (now first) (now steps) ⌝ }
     ensures { λ r. ⌜ IsMark g (now (first .entry)) (now (steps .entry)) r ⌝ }
 {
     let at = positions::position(g, binomials, first, steps);
@@ -33,7 +34,7 @@ pub fn mark_points(
     n: usize,
     marks: &mut [u32; 16],
 ) -> bool
-    requires { ⌜ Located g (now binomials) × IndicesBelow (now previous) ⌝ }
+    requires { ⌜ Measured g (now binomials) × IndicesBelow (now previous) ⌝ }
     requires { ⌜ CanMark g (firstOutside (now previous) (now sizes) u) (now first) (now order) n (now marks) ⌝ }
     ensures { λ r. ⌜ Marked g (now (first .entry)) (now (order .entry)) n (now (marks .exit)) r ⌝ }
 {

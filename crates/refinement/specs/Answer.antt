@@ -5,10 +5,10 @@ use Prim.Native.Nat.{ℕ}
 use lib.Dec.{eqb, ltb}
 use lib.ListN.{length, replicate}
 use Rattle.combinatorics.specs.Lists.{upFrom}
+use Rattle.end_kinds.specs.declared.Kind.the-variants.{Place as placeEnd}
 use Rattle.finder.specs.Run.{caseOf}
 use Rattle.finder.specs.declared.answers.Answer.{Answer}
 use Rattle.finder.specs.declared.answers.Answer.the-variants.{Refused as RunRefused, Spent, Unknown, End}
-use Rattle.path_walk.specs.declared.Kind.the-variants.{Place}
 use Rattle.grid.specs.Grid.{Grid, Point}
 use Rattle.levels.specs.Buffers.{numbersAfter}
 use Rattle.levels.specs.Levels.{Refinement, levelEnd}
@@ -24,7 +24,7 @@ lentGame g start losses k = record { grid = g; start = start; losses = losses; f
 
 -- behind the last level
 abbrev pub noLevel : Level
-noLevel = record { places = 0; «labels_read» = 0; kind = Place; block = 0; vertices = 0 }
+noLevel = record { places = 0; «labels_read» = 0; kind = placeEnd; block = 0; vertices = 0 }
 
 -- "The result has each level's places, kind of end, block and number of vertices"; request 10: "for each level of a
 -- refinement too" it gains the labels read. The other cases of a run are none of

@@ -4,10 +4,10 @@ ghost use mathlib.Core.Path.{_≡_};
 ghost use Rattle.grid.specs.Build.{lent};
 ghost use Rattle.refinement.specs.Answer.{answerLeft, labelsLeft, lentGame, noLevel, refineAnswer};
 ghost use Rattle.refinement.specs.Answer.{refused as refusedOf};
+use end_kinds::Kind;
 use level_questions::first_no;
 use level_questions::in_range;
 use level_questions::made_levels;
-use path_walk::Kind;
 
 mod runs;
 

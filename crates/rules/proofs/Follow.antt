@@ -15,6 +15,8 @@ use native.Mathlib.Omega.{arith}
 use Rattle.combinatorics.proofs.Basics.{absurd-bool, true-or-false, before-or-not}
 use Rattle.combinatorics.specs.Edits.{removeAt}
 use Rattle.combinatorics.specs.Lists.{isIn}
+use Rattle.end_kinds.specs.declared.Kind.{Kind}
+use Rattle.end_kinds.specs.declared.Kind.the-variants.{Facet as facetEnd, Place as placeEnd}
 use Rattle.geometry.proofs.Definitions.{zeros, Omit}
 use Rattle.geometry.proofs.Search.{block-back}
 use Rattle.geometry.proofs.Points.{nth}
@@ -40,7 +42,7 @@ use Rattle.place.proofs.Ways.{IsWay, byPlace, byFacet}
 use Rattle.place.specs.Coefficients.{IsCoefficients, coefficients}
 use Rattle.place.specs.Demand.{Follows, placeAt, leftAt}
 use Rattle.place.proofs.Filled.{FullyLabelled, full-accepted, full-place}
-use Rattle.place.specs.Ends.{Kind, placeEnd, facetEnd, stop}
+use Rattle.place.specs.Ends.{stop}
 use Rattle.place.specs.LabelsRead.{cameIn, labelsRead, pointCameIn}
 use Rattle.place.specs.Links.{linked}
 use Rattle.place.specs.Path.{path, pathLength, answer, spent, ended}

@@ -1,14 +1,9 @@
 -- What the calls for C and Rust answer and write of a run: the number and the facts of each case. Assumes nothing.
 use mathlib.Core.List.{List, [], _∷_}
 use Prim.Native.Nat.{ℕ}
+use Rattle.end_kinds.specs.Numbers.{kindNumber}
 use Rattle.finder.specs.declared.answers.Answer.{Answer}
 use Rattle.finder.specs.declared.answers.Answer.the-variants.{Refused, Spent, Unknown, End}
-use Rattle.path_walk.specs.declared.Kind.{Kind}
-use Rattle.path_walk.specs.declared.Kind.the-variants.{Place, Facet}
-
-abbrev pub kindNumber : Kind → ℕ
-kindNumber Place = 0
-kindNumber Facet = 1
 
 -- "A refusal returns its number"; "A budget is called spent by number 9"; 16 where a label is not yet known; 0 at
 -- an end

@@ -3,19 +3,9 @@ ghost use mathlib.Core.Path.{_≡_};
 ghost use Prim.Native.Nat.{_≤_};
 ghost use lib.ListN.{length};
 ghost use Rattle.combinatorics.specs.Front.{front};
-ghost use Rattle.run_facts.specs.Numbers.{kindNumber, runFacts, runNumber};
+ghost use Rattle.run_facts.specs.Numbers.{runFacts, runNumber};
+use end_kinds::kind_number;
 use finder::Answer;
-use path_walk::Kind;
-
-// The kind of end.
-pub fn kind_number(kind: Kind) -> u64
-    ensures { λ r. ⌜ r ≡ kindNumber kind ⌝ }
-{
-    match kind {
-        Kind::Place => 0,
-        Kind::Facet => 1,
-    }
-}
 
 // The facts to the front of their buffer, and the number.
 pub fn put_answer(answer: Answer, facts: &mut [u64]) -> u8
@@ -42,7 +32,7 @@ pub fn put_answer(answer: Answer, facts: &mut [u64]) -> u8
         } => {
             facts[0] = places;
             facts[1] = labels_read;
-            facts[2] = kind_number(kind);
+            facts[2] = kind_number(kind) as u64;
             facts[3] = block as u64;
             facts[4] = vertices as u64;
             0

@@ -1,16 +1,16 @@
 -- Sheets written out byte by byte. Assumes nothing.
 use mathlib.Core.Path.{_≡_, refl}
 use mathlib.Core.List.{[], _∷_, flatMap}
+use Rattle.end_kinds.specs.declared.Kind.the-variants.{Facet as facetEnd}
 use Rattle.rounding.specs.Centre.{isNearest, rounded, centre}
 use Rattle.text.specs.Decimal.{digits, decimal}
 use Rattle.text.specs.Line.{spaced}
 use Rattle.sheet.specs.Sheet.{vertexLine, centreLine, endSheet, refusedSheet, spentSheet, unknownSheet}
-use Rattle.sheet.specs.declared.Kind.the-variants.{Facet}
 
 -- "For the bytes 4 2 2 2 1 0 1 0 2 2 2 4 it prints", with request 10's "labels read" after "places", 4 there: each line
 -- of the sheet on a line of its own, the last on two
 pub printed
-    : endSheet 5 4 68 Facet 1 ((0 ∷ 1 ∷ 1 ∷ 0 ∷ []) ∷ []) (1 ∷ 1 ∷ 1 ∷ 1 ∷ [])
+    : endSheet 5 4 68 facetEnd 1 ((0 ∷ 1 ∷ 1 ∷ 0 ∷ []) ∷ []) (1 ∷ 1 ∷ 1 ∷ 1 ∷ [])
     ≡ 112 ∷ 108 ∷ 97 ∷ 99 ∷ 101 ∷ 115 ∷ 32 ∷ 53 ∷ 10 ∷
     108 ∷ 97 ∷ 98 ∷ 101 ∷ 108 ∷ 115 ∷ 32 ∷ 114 ∷ 101 ∷ 97 ∷ 100 ∷ 32 ∷ 52 ∷ 10 ∷
     98 ∷ 111 ∷ 117 ∷ 110 ∷ 100 ∷ 32 ∷ 54 ∷ 56 ∷ 10 ∷

@@ -3,6 +3,8 @@ use mathlib.Core.List.{List, [], _∷_, _++_, map, flatMap}
 use Prim.Native.Nat.{ℕ}
 use lib.ListN.{length, getD}
 use Rattle.combinatorics.specs.Lists.{sum}
+use Rattle.end_kinds.specs.declared.Kind.{Kind}
+use Rattle.end_kinds.specs.declared.Kind.the-variants.{Facet as facetEnd, Place as placeEnd}
 use Rattle.rounding.specs.Centre.{centre}
 use Rattle.text.specs.Decimal.{decimal}
 use Rattle.text.specs.Line.{spaced, newline, line}
@@ -20,13 +22,11 @@ use Rattle.sheet.specs.Words.{
   refusedWord,
   positionWord,
 }
-use Rattle.sheet.specs.declared.Kind.{Kind}
-use Rattle.sheet.specs.declared.Kind.the-variants.{Place, Facet}
 
 -- "end place" or "end facet"
 abbrev pub endLine : Kind → List ℕ
-endLine Place = endWord ++ (32 ∷ placeWord) ++ newline
-endLine Facet = endWord ++ (32 ∷ facetWord) ++ newline
+endLine placeEnd = endWord ++ (32 ∷ placeWord) ++ newline
+endLine facetEnd = endWord ++ (32 ∷ facetWord) ++ newline
 
 -- "A line per vertex follows the vertex count": the vertex's numbers with a blank between, as in "0 1 1 0"
 unfoldable pub vertexLine : List ℕ → List ℕ

@@ -5,6 +5,7 @@ mod centre;
 mod line;
 
 use centre::centre_line;
+use end_kinds::Kind;
 use line::vertex_lines;
 use text::labelled;
 use text::text;
@@ -15,12 +16,6 @@ ghost use Rattle.sheet.specs.Answer.{rows, Printable};
 ghost use Rattle.combinatorics.specs.Front.{front};
 ghost use Rattle.text.specs.Part.{Part};
 ghost use Rattle.sheet.specs.Sheet.{endLine, endSheet, refusedSheet, spentSheet, unknownSheet};
-
-// The kind of end.
-pub enum Kind {
-    Place,
-    Facet,
-}
 
 // The sheet of a refusal other than 9 and 16.
 pub fn refused(out: &mut [u8; 4096], number: u8) -> usize

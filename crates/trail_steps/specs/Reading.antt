@@ -10,11 +10,12 @@ use Rattle.combinatorics.specs.Edits.{found}
 use Rattle.grid.specs.Grid.{at, numIndices, position}
 use Rattle.grid.specs.Made.{shape}
 use Rattle.grid.specs.declared.Grid.{Grid as GridStruct}
-use Rattle.marks.specs.Reading.{CanRead, HasMarks, Measured, problemFrom}
+use Rattle.marks.specs.Reading.{CanRead, HasMarks, problemFrom}
 use Rattle.moves.specs.declared.Status.{Status}
 use Rattle.place.specs.Demand.{Settled}
 use Rattle.place.specs.Places.{Simplex}
 use Rattle.place.specs.Problem.{Problem}
+use Rattle.positions.specs.Binomials.{Measured}
 use Rattle.positions.specs.Falls.{tailFrom}
 use Rattle.records.specs.Records.{recordFrom}
 use Rattle.records.specs.declared.Sets.{Sets}

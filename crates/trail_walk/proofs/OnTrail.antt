@@ -18,6 +18,7 @@ use Rattle.combinatorics.proofs.Lists.{all-in, in-cases, in-here, in-map, map-i
 use Rattle.combinatorics.proofs.Ranges.{in-upFrom, upFrom-in}
 use Rattle.combinatorics.specs.Front.{front}
 use Rattle.combinatorics.specs.Lists.{isIn, upFrom}
+use Rattle.end_kinds.specs.declared.Kind.{Kind}
 use Rattle.path_walk.proofs.Visits.{HasRead, OnPath}
 use Rattle.path_walk.specs.Finish.{IsKnown, problemIn}
 use Rattle.grid.proofs.Points.{in-points, onPoints, position-in}
@@ -31,7 +32,7 @@ use Rattle.place.proofs.Meaning.{T-means, U-means}
 use Rattle.place.proofs.LinkSymmetry.{parts}
 use Rattle.place.proofs.Theorem.{demand3-holds}
 use Rattle.place.specs.Demand.{Accepted, lastPlace, placeAt}
-use Rattle.place.specs.Ends.{End, Kind}
+use Rattle.place.specs.Ends.{End}
 use Rattle.place.specs.Path.{answer, ended, outcome, path, pathLength, spent}
 use Rattle.place.specs.Places.{Simplex, setT, setU}
 use Rattle.place.specs.Problem.{Problem, hasLabel, label}

@@ -14,10 +14,10 @@ use Rattle.combinatorics.proofs.Basics.{and-left, and-right, before-or-not, sam
 use Rattle.combinatorics.proofs.Fronts.{front-none, front-taken}
 use Rattle.combinatorics.specs.Front.{front}
 use Rattle.combinatorics.specs.Lists.{all}
+use Rattle.end_kinds.specs.declared.Kind.{Kind}
 use Rattle.finder.proofs.Demand.{unrefused}
-use Rattle.finder.specs.Run.{caseOf, kindOf, numbersOf, refusal, runAnswer, runBuffer}
+use Rattle.finder.specs.Run.{caseOf, numbersOf, refusal, runAnswer, runBuffer}
 use Rattle.finder.specs.declared.answers.Answer.the-variants.{Refused as RunRefused, End as RunEnd}
-use Rattle.path_walk.specs.declared.Kind.{Kind}
 use Rattle.place.specs.Demand.{Accepted, placeAt}
 use Rattle.place.specs.Path.{Answer as PathAnswer, answer, ended, path, pathLength, spent, unknown}
 use Rattle.place.specs.Problem.{Problem, withLabels}
@@ -69,7 +69,7 @@ module _ (p : Problem) (trailRoom : ℕ) where
       × (caseOf a ≡ RunEnd n read kind block vertices)
   of-17 (spent m) e = absurd (let z : _≡_ {A = ℕ} 0 1 = cc in omega arith)
   of-17 (unknown m position) e = absurd (let z : _≡_ {A = ℕ} 0 1 = cc in omega arith)
-  of-17 (ended m r k b v s) e = (m, r, kindOf k, b, v, refl)
+  of-17 (ended m r k b v s) e = (m, r, k, b, v, refl)
 
 module _ (p : Problem) (room trailRoom budget : ℕ) where
   -- by whether questions 1 to 8 are answered yes
@@ -141,7 +141,7 @@ module _ (p : Problem) (room budget : ℕ) (accepted : Accepted p) (old : List �
       too-short p (length old) l (ended m r k b v s) refl ∙ e in
       absurd (let z : _≡_ {A = ℕ} 0 1 = cc in omega arith))
       (λ (l : length (wholeTrail p) ≤ length old).
-      let f : End m r (kindOf k) b v (length (wholeTrail p)) ≡ End n read kind block vertices bytes =
+      let f : End m r k b v (length (wholeTrail p)) ≡ End n read kind block vertices bytes =
       has-room p (length old) l m r k b v s ∙ e in
       let c : m ≡ n = cc in
       let d : length (wholeTrail p) ≡ bytes = cc in

@@ -10,18 +10,17 @@ use lib.ListN.{length, replicate, take}
 use native.Mathlib.Omega.{arith}
 use Rattle.combinatorics.proofs.Fronts.{front-none}
 use Rattle.combinatorics.specs.Front.{front}
+use Rattle.end_kinds.specs.declared.Kind.{Kind}
 use Rattle.finder.proofs.Announcements.{same-problem}
 use Rattle.path_walk.specs.Finish.{Finished, problemIn}
-use Rattle.finder.specs.Run.{caseOf, kindOf, numbersOf, refusal}
+use Rattle.finder.specs.Run.{caseOf, numbersOf, refusal}
 use Rattle.finder.specs.declared.answers.Answer.the-variants.{End as RunEnd}
-use Rattle.path_walk.specs.declared.Kind.{Kind}
 use Rattle.path_walk.specs.declared.Finish.{Finish}
 use Rattle.path_walk.specs.declared.Finish.the-variants.{Ended, Spent as FinishSpent, Unknown as FinishUnknown}
 use Rattle.grid.specs.Made.{IsMade}
 use Rattle.grid.specs.declared.Grid.{Grid as GridStruct}
 use Rattle.marks.specs.Reading.{problemFrom}
 use Rattle.place.specs.Demand.{Accepted}
-use Rattle.place.specs.Ends.{Kind as KindOfEnd}
 use Rattle.place.specs.Path.{Answer as PathAnswer, answer, ended, spent, unknown}
 use Rattle.place.specs.Places.{Simplex}
 use Rattle.place.specs.Problem.{Problem}
@@ -40,7 +39,7 @@ problem-from g made start table ok taken e =
 
 -- a walk whose path has an end has it too
 pub ends-again : (p : Problem) (budget : ℕ) (round : Round) (first order old new : List ℕ) (bytes : ℕ) (f : Finish)
-    {n read : ℕ} {kind : KindOfEnd} {block vertices : ℕ} {simplex : Simplex}
+    {n read : ℕ} {kind : Kind} {block vertices : ℕ} {simplex : Simplex}
     → answer p budget ≡ ended n read kind block vertices simplex → Finished p budget round first order f
     → Recorded p true old new bytes f
     → new ≡ front (wholeTrail p) old
@@ -52,14 +51,14 @@ ends-again p budget round first order old new bytes FinishSpent e F R =
 
 module _ (p : Problem) (room : ℕ) where
   pub too-short : room < length (wholeTrail p)
-      → (a : PathAnswer) {n read : ℕ} {kind : KindOfEnd} {block vertices : ℕ} {simplex : Simplex}
+      → (a : PathAnswer) {n read : ℕ} {kind : Kind} {block vertices : ℕ} {simplex : Simplex}
       → a ≡ ended n read kind block vertices simplex
       → Refused 17 ≡ trailCase p room a
   unfolding firstNo
   too-short l a e = rw (e, lt-leb (length (wholeTrail p)) room l)
 
-  pub has-room : length (wholeTrail p) ≤ room → (n read : ℕ) (kind : KindOfEnd) (block vertices : ℕ) (simplex : Simplex)
-      → End n read (kindOf kind) block vertices (length (wholeTrail p))
+  pub has-room : length (wholeTrail p) ≤ room → (n read : ℕ) (kind : Kind) (block vertices : ℕ) (simplex : Simplex)
+      → End n read kind block vertices (length (wholeTrail p))
       ≡ trailCase p room (ended n read kind block vertices simplex)
   unfolding firstNo
   has-room l n read kind block vertices simplex = rw (le-leb (length (wholeTrail p)) room l)
@@ -71,7 +70,7 @@ module _ (p : Problem) (room : ℕ) where
   end-with-room l (unknown m position) n read kind block vertices e =
       absurd (let z : _≡_ {A = ℕ} 0 1 = cc in omega arith)
   end-with-room l (ended m r k b v s) n read kind block vertices e =
-      let z : End n read kind block vertices (length (wholeTrail p)) ≡ End m r (kindOf k) b v (length (wholeTrail p)) =
+      let z : End n read kind block vertices (length (wholeTrail p)) ≡ End m r k b v (length (wholeTrail p)) =
       cc in
       z ∙ has-room l m r k b v s
 

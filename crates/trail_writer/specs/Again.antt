@@ -3,11 +3,11 @@ use mathlib.Core.List.{List}
 use mathlib.Core.Path.{_≡_}
 use Prim.Native.Nat.{ℕ, _≤_}
 use lib.ListN.{length}
+use Rattle.end_kinds.specs.declared.Kind.{Kind}
 use Rattle.grid.specs.Made.{shape}
 use Rattle.grid.specs.declared.Grid.{Grid as GridStruct}
 use Rattle.marks.specs.Reading.{Readable, problemFrom}
 use Rattle.place.specs.Demand.{Accepted}
-use Rattle.place.specs.Ends.{Kind}
 use Rattle.place.specs.Path.{answer, ended}
 use Rattle.place.specs.Places.{Simplex}
 use Rattle.rules.specs.Ready.{IsRound, RoundBelow}

@@ -4,12 +4,12 @@ use mathlib.Core.Option.{none, some}
 use mathlib.Core.Path.{_≡_}
 use Prim.Native.Nat.{ℕ, suc, pred, _+_, _*_, _≤_, _<_}
 use lib.ListN.{length, take}
+use Rattle.end_kinds.specs.declared.Kind.{Kind}
 use Rattle.finder.specs.Demand.{AcceptedWith}
 use Rattle.finder.specs.Run.{runAnswer, runBuffer}
 use Rattle.finder.specs.declared.answers.Answer.{Answer as RunAnswer}
 use Rattle.finder.specs.declared.answers.Answer.the-variants.{Refused as RunRefused, Spent as RunSpent}
 use Rattle.finder.specs.declared.answers.Answer.the-variants.{Unknown as RunUnknown, End as RunEnd}
-use Rattle.path_walk.specs.declared.Kind.{Kind}
 use Rattle.place.specs.Demand.{placeAt}
 use Rattle.place.specs.Path.{path, pathLength}
 use Rattle.place.specs.Problem.{Problem, withLabels}

@@ -6,7 +6,7 @@ use Prim.Native.Nat.{ℕ}
 use lib.Dec.{eqb, leb}
 use lib.ListN.{length}
 use Rattle.combinatorics.specs.Front.{front}
-use Rattle.finder.specs.Run.{kindOf, numbersOf, refusal}
+use Rattle.finder.specs.Run.{numbersOf, refusal}
 use Rattle.place.specs.Path.{Answer as PathAnswer, answer, ended, path, spent, unknown}
 use Rattle.place.specs.Problem.{Problem}
 use Rattle.questions.specs.Questions.{Question, ask, firstNo}
@@ -29,7 +29,7 @@ trailCase p room (spent n) = Spent n
 trailCase p room (unknown n position) = Unknown n position
 trailCase p room (ended n read kind block vertices simplex) =
     let number = firstNo (question17 p room ∷ []) in
-    cond (eqb number 0) (End n read (kindOf kind) block vertices (length (wholeTrail p))) (Refused number)
+    cond (eqb number 0) (End n read kind block vertices (length (wholeTrail p))) (Refused number)
 
 -- questions 1 to 8 come first; the answer buffer has `room` numbers, the trail buffer `trailRoom` bytes
 unfoldable pub trailAnswer : Problem → ℕ → ℕ → ℕ → Answer

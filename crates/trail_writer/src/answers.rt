@@ -16,12 +16,12 @@ ghost use Rattle.trail_writer.specs.Writing.{announces, answerBuffer, tr
 ghost use Rattle.trail_writer.specs.Writing.{trailCase, wholeTrail};
 use arrays::block_sizes;
 use arrays::padded;
+use end_kinds::Kind;
 use finder::block_number;
 use finder::first_no;
 use finder::first_vertex;
 use grid::Grid;
 use path_walk::Finish;
-use path_walk::Kind;
 use place_points::put_points;
 use positions::ENTRIES;
 use trail_walk::follow;

@@ -14,6 +14,7 @@ use Rattle.combinatorics.specs.Front.{front}
 use Rattle.combinatorics.specs.Counting.{falling}
 use Rattle.combinatorics.specs.Lists.{sum, upFrom}
 use Rattle.combinatorics.proofs.Terms.{terms-few}
+use Rattle.end_kinds.specs.declared.Kind.{Kind}
 use Rattle.grid.specs.Grid.{Grid, bound, dimension, numIndices, numPoints}
 use Rattle.grid.specs.Questions.{gridQuestions, question5}
 use Rattle.place.specs.Places.{Simplex, allLabelled}
@@ -32,7 +33,6 @@ use Rattle.walk_calls.specs.Calls.{callOf}
 use Rattle.walk_ways.specs.declared.Answer.{Answer}
 use Rattle.walk_ways.specs.declared.Answer.the-variants.{Ended, Moved, Refused}
 use Rattle.walk_calls.specs.declared.Call.{Call}
-use Rattle.walk_ways.specs.declared.Kind.{Kind}
 use Rattle.walk_ways.specs.declared.Next.{Next}
 use Rattle.walk_places.specs.declared.Place.{Place}
 use Rattle.walk_places.specs.declared.Walk.{Walk as WalkStruct}

@@ -1,53 +1,49 @@
 // Moves on the walks that standard input holds, and prints each answer and the walk after it. There are as many as the
-// first 16 bits say. A walk is followed by the number of calls, and before each call come its labels.
+// first 16 bits say. A walk is followed by the number of calls, and before each call come its labels, as a list.
+use case_reader::bytes;
+use case_reader::show;
+use case_reader::show_bytes;
+use case_reader::show_text;
+use case_reader::show_words;
+use case_reader::word;
 use walk_calls::Call;
 use walk_places::Walk;
-use walk_reader::number;
 use walk_reader::print_answer;
-use walk_reader::print_labels;
-use walk_reader::print_numbers;
 use walk_reader::print_place;
-use walk_reader::read_list;
 use walk_reader::read_walk;
 
 fn print_walk(w: Walk) {
     let carried = w.carried;
-    io::write_all(1, b"present\n");
+    show_text(b"present\n");
     print_place(w.present);
-    io::write_all(1, b"before\n");
+    show_text(b"before\n");
     print_place(w.before);
-    io::write_all(1, b"places ");
-    io::print_decimal(1, w.places);
-    io::write_all(1, b"\nlabels read ");
-    io::print_decimal(1, w.labels_read);
-    io::write_all(1, b"\ncarried");
-    print_labels(&carried);
+    show(b"places ", w.places);
+    show(b"labels read ", w.labels_read);
+    show_bytes(b"carried", &carried);
 }
 
 fn print_call(c: Call) {
     let answer = c.answer;
     let simplex = c.simplex;
     print_answer(answer);
-    io::write_all(1, b"simplex");
-    print_numbers(&simplex);
+    show_words(b"simplex", &simplex);
     print_walk(c.walk);
 }
 
 // The walk after the call over the labels that are read next.
 fn next(w: Walk) -> Walk {
-    let mut labels = [0u8; 60000];
-    let count = read_list(&mut labels);
+    let mut labels = [0u8; 60001];
+    let count = bytes(&mut labels);
     let c = walk_calls::moved(w, &labels[..count]);
     print_call(c);
     c.walk
 }
 
 fn print_next(k: usize) {
-    io::write_all(1, b"walk ");
-    io::print_decimal(1, k as u64);
-    io::write_all(1, b"\n");
+    show(b"walk ", k as u64);
     let mut w = read_walk();
-    let mut left = number();
+    let mut left = word();
     while 0 < left {
         w = next(w);
         left -= 1;
@@ -55,7 +51,7 @@ fn print_next(k: usize) {
 }
 
 fn main() {
-    let walks = number() as usize;
+    let walks = word() as usize;
     let mut k: usize = 0;
     while k < walks {
         k += 1;

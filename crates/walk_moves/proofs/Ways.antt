@@ -11,6 +11,8 @@ use lib.ListN.{length}
 use native.Mathlib.Omega.{arith}
 use Rattle.combinatorics.proofs.Basics.{absurd-bool, true-or-false}
 use Rattle.combinatorics.specs.Lists.{isIn}
+use Rattle.end_kinds.specs.declared.Kind.{Kind}
+use Rattle.end_kinds.specs.declared.Kind.the-variants.{Facet as facetEnd, Place as placeEnd}
 use Rattle.geometry.proofs.Definitions.{Carries}
 use Rattle.geometry.proofs.LabelledChains.{LabelledChain}
 use Rattle.geometry.proofs.Onward.{through-determines, through-not-above, start-extra}
@@ -21,7 +23,7 @@ use Rattle.place.proofs.Filled.{FullyLabelled}
 use Rattle.place.proofs.FromChain.{T-is, back-again, in-U, place-of}
 use Rattle.place.proofs.ToChain.{coefficientsOf, labelOf, pointsOf}
 use Rattle.place.proofs.Ways.{IsWay, byLink}
-use Rattle.place.specs.Ends.{Kind, Way, facetEnd, link, placeEnd, stop}
+use Rattle.place.specs.Ends.{Way, link, stop}
 use Rattle.place.specs.Places.{isPlace, setT, setU}
 use Rattle.place.specs.Problem.{Problem}
 use Rattle.rules.proofs.Describes.{AllMarks, Describes, Joined, Left, Reached, facetEnds, joinedOn, labelsOf, leftOn}

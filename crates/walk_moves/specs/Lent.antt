@@ -5,9 +5,10 @@ use Prim.Native.Nat.{ℕ, suc, _≤_, _<_}
 use lib.Dec.{eqb}
 use lib.ListN.{length, getD, take}
 use Rattle.combinatorics.specs.Lists.{isIn}
+use Rattle.end_kinds.specs.declared.Kind.the-variants.{Facet as facetEnd, Place as placeEnd}
 use Rattle.grid.specs.Grid.{Point, at, blockOf, numIndices}
 use Rattle.place.specs.Coefficients.{coefficients}
-use Rattle.place.specs.Ends.{Way, stop, link, placeEnd, facetEnd}
+use Rattle.place.specs.Ends.{Way, stop, link}
 use Rattle.place.specs.Problem.{Problem}
 use Rattle.rules.specs.Mask.{bit}
 use Rattle.rules.specs.Read.{markOf, pointsFrom}

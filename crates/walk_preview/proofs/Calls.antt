@@ -4,6 +4,7 @@ use mathlib.Core.Path.{_≡_, refl, ap, _∙_}
 use Prim.Native.Nat.{ℕ}
 use Rattle.combinatorics.proofs.Basics.{absurd-bool}
 use Rattle.combinatorics.specs.Front.{front}
+use Rattle.end_kinds.specs.declared.Kind.{Kind}
 use Rattle.grid.specs.Questions.{gridQuestions}
 use Rattle.place.specs.Places.{Simplex}
 use Rattle.questions.specs.Questions.{firstNo}
@@ -22,7 +23,6 @@ use Rattle.walk_ways.specs.Answers.{answerOf, numbersOf, structOn}
 use Rattle.walk_places.specs.Walks.{gridOf, padded, walkOf}
 use Rattle.walk_ways.specs.declared.Answer.{Answer}
 use Rattle.walk_ways.specs.declared.Answer.the-variants.{Ended, Moved, Refused}
-use Rattle.walk_ways.specs.declared.Kind.{Kind}
 use Rattle.walk_places.specs.declared.Place.{Place}
 use Rattle.walk_places.specs.declared.Walk.{Walk as WalkStruct}
 

@@ -12,7 +12,6 @@ use Rattle.walks.specs.Preview.{Move, preview}
 use Rattle.walks.specs.Walk.{over}
 use Rattle.walk_places.specs.Placing.{GoesTo}
 use Rattle.walk_places.specs.Walks.{gridOf, padded, walkOf, walkOn}
-use Rattle.walk_ways.specs.Answers.{kindOf}
 use Rattle.walk_ways.specs.declared.Answer.the-variants.{Ended, Moved, Refused}
 use Rattle.walk_places.specs.declared.Place.{Place}
 use Rattle.walk_places.specs.declared.Walk.{Walk as WalkStruct}
@@ -24,7 +23,7 @@ use Rattle.walk_preview.specs.declared.Shown.{Shown}
 abbrev pub shownAs : Outcome Move → Shown
 shownAs (refused number) = record { answer = Refused number; simplex = replicate 256 0; change = noChange }
 shownAs (ended kind block simplex) = record {
-  answer = Ended (kindOf kind) block (length simplex);
+  answer = Ended kind block (length simplex);
   simplex = padded 256 (concatMap (λ y. y) simplex);
   change = noChange;
 }

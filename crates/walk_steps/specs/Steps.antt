@@ -4,6 +4,7 @@ use mathlib.Core.List.{List}
 use Prim.Native.Nat.{ℕ}
 use lib.Dec.{eqb}
 use lib.ListN.{replicate}
+use Rattle.end_kinds.specs.Numbers.{kindNumber}
 use Rattle.grid.specs.Build.{lent}
 use Rattle.walks.specs.Preview.{preview}
 use Rattle.walk_calls.specs.Calls.{callOf}
@@ -15,8 +16,6 @@ use Rattle.walk_views.specs.Viewed.{pointsOf}
 use Rattle.walk_places.specs.Walks.{walkOf}
 use Rattle.walk_ways.specs.declared.Answer.{Answer}
 use Rattle.walk_ways.specs.declared.Answer.the-variants.{Ended, Moved, Refused}
-use Rattle.walk_ways.specs.declared.Kind.{Kind}
-use Rattle.walk_ways.specs.declared.Kind.the-variants.{Facet, Place}
 use Rattle.walk_places.specs.declared.Walk.{Walk as WalkStruct}
 use Rattle.walk_steps.specs.declared.Step.{Step}
 
@@ -33,11 +32,6 @@ unansweredStep walk number vertices simplex = record {
   rule = 0;
   map = 0;
 }
-
--- the kinds of an end have no numbers in document 01: 0 place, 1 facet, as in the run's facts
-abbrev pub kindNumber : Kind → ℕ
-kindNumber Place = 0
-kindNumber Facet = 1
 
 -- each case's number and values
 abbrev pub stepOf : WalkStruct → Answer → List ℕ → Change → Step

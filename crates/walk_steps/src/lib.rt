@@ -2,8 +2,9 @@
 // call is by value here; the exported functions take the struct by reference and call these.
 ghost use mathlib.Core.Path.{_≡_};
 ghost use Rattle.walk_preview.specs.Changes.{noChange};
-ghost use Rattle.walk_steps.specs.Steps.{begunStep, kindNumber, movedStep, pointedStep};
+ghost use Rattle.walk_steps.specs.Steps.{begunStep, movedStep, pointedStep};
 ghost use Rattle.walk_steps.specs.Steps.{shownStep, stepOf, unansweredStep};
+use end_kinds::kind_number;
 use walk_calls::moved;
 use walk_places::Walk;
 use walk_preview::Change;
@@ -11,7 +12,6 @@ use walk_preview::preview;
 use walk_views::at_start;
 use walk_views::points;
 use walk_ways::Answer;
-use walk_ways::Kind;
 
 // The walk; the number of the refusal or 0; of an end the kind, 0 place and 1 facet, the block from 1 and the number of
 // vertices; of a move the rule, or else 0, and, where it is shown, the map and the fields; the numbers of the vertices
@@ -43,15 +43,6 @@ fn unanswered(walk: Walk, number: u8, vertices: u64, simplex: [u16; 256]) -> Ste
         block: 0,
         rule: 0,
         map: 0,
-    }
-}
-
-fn kind_number(kind: Kind) -> u8
-    ensures { λ r. ⌜ r ≡ kindNumber kind ⌝ }
-{
-    match kind {
-        Kind::Place => 0,
-        Kind::Facet => 1,
     }
 }
 

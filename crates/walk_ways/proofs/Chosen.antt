@@ -18,6 +18,7 @@ use Rattle.combinatorics.proofs.Lists.{all-in}
 use Rattle.combinatorics.proofs.Ranges.{length-upFrom}
 use Rattle.combinatorics.specs.Front.{front}
 use Rattle.combinatorics.specs.Lists.{isIn, upFrom}
+use Rattle.end_kinds.specs.declared.Kind.the-variants.{Facet as facetEnd, Place as placeEnd}
 use Rattle.grid.proofs.Fields.{made-indices}
 use Rattle.grid.proofs.Points.{in-points, onPoints, position-in}
 use Rattle.grid.specs.Grid.{Point, at, blockOf, isGridPoint, numIndices, numPoints, points, position}
@@ -33,7 +34,7 @@ use Rattle.place.proofs.Local.{setT-same}
 use Rattle.place.proofs.ToChain.{coefficientsOf, pointsOf, pointsOf-coefficientsOf}
 use Rattle.place.proofs.Positions.{at-in}
 use Rattle.place.specs.Demand.{Accepted}
-use Rattle.place.specs.Ends.{facetEnd, link, placeEnd}
+use Rattle.place.specs.Ends.{link}
 use Rattle.place.specs.Places.{Simplex, setT, setU}
 use Rattle.place.specs.Problem.{Problem, label}
 use Rattle.rules.proofs.StatePoints.{ready-point}
@@ -60,7 +61,6 @@ use Rattle.walk_ways.specs.Standing.{leadsBack, nextIn, IsRoundOf, Stand
 use Rattle.walk_places.specs.Walks.{beforeOf, keptAs, nowhere, placeOf, samePlace, stored, tableOn, walkOn}
 use Rattle.walk_ways.specs.Answers.{nextAs}
 use Rattle.walk_ways.specs.Ways.{CanTry, ruleFrom, wayIn}
-use Rattle.walk_ways.specs.declared.Kind.the-variants.{Facet, Place as AtPlace}
 use Rattle.walk_ways.specs.declared.Leads.the-variants.{FacetEnd, PlaceEnd}
 use Rattle.walk_places.specs.declared.Walk.{Walk as WalkStruct}
 
@@ -325,13 +325,13 @@ module _ {g : GridStruct} {w : WalkStruct} {labels first list order marks : List
 
       place-told : (d : State) (k : ℕ) → d ≡ a → nextOf walk labels ≡ ended placeEnd (suc (blockOf (shape g) k))
           (pointsFrom q d 0)
-          → endAs g told-state AtPlace k 0 ≡ nextIn g w labels
+          → endAs g told-state placeEnd k 0 ≡ nextIn g w labels
       unfolding nextAs front
       place-told d k e z = rw (z, e, m-is, long-points (pointIn q a) 0 (suc (length o) - 0))
 
       facet-told : (d : State) (k : ℕ) → d ≡ a → nextOf walk labels ≡ ended facetEnd (suc (blockOf (shape g) k))
           (pointsFrom q d 1)
-          → endAs g told-state Facet k 1 ≡ nextIn g w labels
+          → endAs g told-state facetEnd k 1 ≡ nextIn g w labels
       unfolding nextAs front
       facet-told d k e z = rw (z, e, m-is, long-points (pointIn q a) 1 (suc (length o) - 1))
 

@@ -6,7 +6,6 @@ use Prim.Native.Nat.{ℕ, _+_}
 use lib.ListN.{length}
 use Rattle.combinatorics.specs.Lists.{concatMap}
 use Rattle.grid.specs.Grid.{Grid}
-use Rattle.place.specs.Ends.{Kind, facetEnd, placeEnd}
 use Rattle.place.specs.LabelsRead.{pointCameIn}
 use Rattle.place.specs.Places.{Simplex}
 use Rattle.place.specs.Problem.{Problem}
@@ -17,18 +16,12 @@ use Rattle.walk_places.specs.declared.Place.{Place}
 use Rattle.walk_places.specs.declared.Walk.{Walk as WalkStruct}
 use Rattle.walk_ways.specs.declared.Answer.{Answer}
 use Rattle.walk_ways.specs.declared.Answer.the-variants.{Ended, Moved, Refused}
-use Rattle.walk_ways.specs.declared.Kind.{Kind as KindStruct}
-use Rattle.walk_ways.specs.declared.Kind.the-variants.{Facet, Place as AtPlace}
 use Rattle.walk_ways.specs.declared.Next.{Next}
-
-abbrev pub kindOf : Kind → KindStruct
-kindOf placeEnd = AtPlace
-kindOf facetEnd = Facet
 
 -- each case's number and values
 abbrev pub answerOf : (Simplex → ℕ) → Outcome Simplex → Answer
 answerOf rule (refused number) = Refused number
-answerOf rule (ended kind block simplex) = Ended (kindOf kind) block (length simplex)
+answerOf rule (ended kind block simplex) = Ended kind block (length simplex)
 answerOf rule (moved s) = Moved (rule s)
 
 abbrev pub numbersOf : Outcome Simplex → List ℕ

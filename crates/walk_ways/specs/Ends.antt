@@ -2,6 +2,8 @@
 use mathlib.Core.Path.{_≡_}
 use Prim.Native.Nat.{ℕ, suc, _-_, _<_}
 use lib.ListN.{length, replicate}
+use Rattle.end_kinds.specs.declared.Kind.{Kind}
+use Rattle.end_kinds.specs.declared.Kind.the-variants.{Facet as facetEnd, Place as placeEnd}
 use Rattle.grid.specs.Grid.{blockOf}
 use Rattle.grid.specs.Made.{shape}
 use Rattle.grid.specs.declared.Grid.{Grid as GridStruct}
@@ -10,8 +12,6 @@ use Rattle.rules.specs.Read.{numbersFrom}
 use Rattle.rules.specs.Step.{State}
 use Rattle.walk_places.specs.Walks.{nowhere, padded}
 use Rattle.walk_ways.specs.declared.Answer.the-variants.{Ended, Moved, Refused}
-use Rattle.walk_ways.specs.declared.Kind.{Kind}
-use Rattle.walk_ways.specs.declared.Kind.the-variants.{Facet, Place as AtPlace}
 use Rattle.walk_ways.specs.declared.Leads.{Leads}
 use Rattle.walk_ways.specs.declared.Leads.the-variants.{FacetEnd, Onto, PlaceEnd}
 use Rattle.walk_ways.specs.declared.Next.{Next}
@@ -30,8 +30,8 @@ endAs g a kind h from = record {
 
 abbrev pub leadsAs : GridStruct → State → Place → Leads → Next
 leadsAs g a place (Onto rule) = record { answer = Moved rule; simplex = replicate 256 0; place = place }
-leadsAs g a place (PlaceEnd h) = endAs g a AtPlace h 0
-leadsAs g a place (FacetEnd h) = endAs g a Facet h 1
+leadsAs g a place (PlaceEnd h) = endAs g a placeEnd h 0
+leadsAs g a place (FacetEnd h) = endAs g a facetEnd h 1
 
 abbrev pub toldAs : GridStruct → State → Way → Next
 toldAs g a w = leadsAs g a (w .place) (w .leads)

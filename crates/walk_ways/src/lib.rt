@@ -5,14 +5,9 @@ mod ways;
 
 pub use choice::from_other;
 pub use choice::from_start;
+use end_kinds::Kind;
 pub use ending::refused;
 use walk_places::Place;
-
-// The kind of end: a complete place, or what remains of a place less one point.
-pub enum Kind {
-    Place,
-    Facet,
-}
 
 // What a call answers.
 pub enum Answer {

@@ -8,6 +8,7 @@ use lib.Dec.{ltb}
 use native.Mathlib.Omega.{arith}
 use Rattle.combinatorics.proofs.Basics.{absurd-bool, false-of, not-is}
 use Rattle.combinatorics.proofs.Lists.{all-in, filter-in, in-filter, in-here, only-list}
+use Rattle.end_kinds.specs.declared.Kind.{Kind}
 use Rattle.grid.proofs.Points.{onPoints}
 use Rattle.grid.specs.Grid.{Point, bound}
 use Rattle.place.proofs.FromTwoWays.{back}
@@ -17,7 +18,7 @@ use Rattle.place.proofs.Simplices.{simplex-sound}
 use Rattle.place.proofs.Theorem.{demand3-holds}
 use Rattle.place.proofs.Ways.{byLink, onWays, in-ways}
 use Rattle.place.specs.Demand.{Accepted, Demand3, Stop, atEnd, atGap, placeAt, leftAt}
-use Rattle.place.specs.Ends.{Kind, End, link, ends, ways}
+use Rattle.place.specs.Ends.{End, link, ends, ways}
 use Rattle.place.specs.LabelsRead.{cameIn, labelsRead, pointCameIn}
 use Rattle.place.specs.Path.{isBack, waysOn, sameSimplex, path, pathLength, spent, unknown, ended as runEnded, outcome}
 use Rattle.place.specs.Path.{answer}

@@ -5,7 +5,8 @@ use mathlib.Core.Option.{some}
 use Prim.Native.Nat.{ℕ, zero, suc, _+_}
 use lib.Dec.{eqb}
 use Rattle.combinatorics.specs.Lists.{firstOr}
-use Rattle.place.specs.Ends.{Kind, Way, stop, link}
+use Rattle.end_kinds.specs.declared.Kind.{Kind}
+use Rattle.place.specs.Ends.{Way, stop, link}
 use Rattle.place.specs.LabelsRead.{pointCameIn}
 use Rattle.place.specs.Path.{waysOn}
 use Rattle.place.specs.Places.{Simplex}

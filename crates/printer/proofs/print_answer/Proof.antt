@@ -34,23 +34,20 @@ divisions-of-requires c κs = search needs
 bound-requires : tie.Need-bound-requires
 bound-requires c κs = search needs
 
-on-sheet-requires : tie.Need-on-sheet-requires
-on-sheet-requires c κs = search needs
-
 array-share-prefix-divisions : tie.Need-array-share-prefix-divisions
 array-share-prefix-divisions c = divisions-room
-    (c .before .before .before .before .before .before .before .before .args .grid)
-    (c .before .before .before .before .before .before .before .before .pre .0) _
-    (c .before .before .before .divisions-of .ensures)
+    (c .before .before .before .before .before .before .before .args .grid)
+    (c .before .before .before .before .before .before .before .pre .0) _
+    (c .before .before .divisions-of .ensures)
 
 slice-aggregate-ended : tie.Need-slice-aggregate-ended
 slice-aggregate-ended c = sym (length-take-le _ _ (array-share-prefix-divisions (c .before)))
 
 ended-requires : tie.Need-ended-requires
 ended-requires c κs =
-    let s = c .before .before .before .before .before .before .before .before .before in
-    printable (s .args .grid) (s .pre .0) _ (c .before .before .before .before .divisions-of .ensures) _ _
-    (s .pre .1 .end _ _ _ _ _ (c .before .before .before .before .before .before .answer4 .given .1))
+    let s = c .before .before .before .before .before .before .before .before in
+    printable (s .args .grid) (s .pre .0) _ (c .before .before .before .divisions-of .ensures) _ _
+    (s .pre .1 .end _ _ _ _ _ (c .before .before .before .before .before .answer4 .given .1))
 
 returns : tie.Need-returns
 unfolding printed
@@ -67,11 +64,10 @@ returns-3 c = rw (c .before .before .before .answer3 .given .1) (as-prints (c .u
 returns-4 : tie.Need-returns-4
 unfolding printed
 returns-4 c =
-    let s = c .before .before .before .before .before .before .before .before .before .before in
-    let end = c .before .before .before .before .before .before .before .answer4 .given in
-    let e = end-printed (s .args .grid) (s .pre .0) _ (c .before .before .before .before .before .divisions-of .ensures)
-    (end .0 .1 .1 .1 .1 .0) (s .args .buffer .now) _ _ _ _ _ _ (c .before .before .before .before .bound .ensures)
-    (c .before .before .before .on-sheet .ensures) in
+    let s = c .before .before .before .before .before .before .before .before .before in
+    let end = c .before .before .before .before .before .before .answer4 .given in
+    let e = end-printed (s .args .grid) (s .pre .0) _ (c .before .before .before .before .divisions-of .ensures)
+    (end .0 .1 .1 .1 .1 .0) (s .args .buffer .now) _ _ _ _ _ (c .before .before .before .bound .ensures) in
     rw (end .1) (same-sheet (s .args .sheet .now) e (as-prints (c .ended .ensures)))
 
 pub print-answer-spec : {M : Type 1} → statement M
@@ -87,7 +83,6 @@ print-answer-spec =
     enum-known-answer-4
     divisions-of-requires
     bound-requires
-    on-sheet-requires
     array-share-prefix-divisions
     slice-aggregate-ended
     ended-requires

@@ -16,19 +16,19 @@ use Rattle.recogniser.proofs.recognise.Tie as tie
 array-share-prefix-y : tie.Need-array-share-prefix-y
 array-share-prefix-y c = omega (
   arith,
-  indices-few (c .before .before .args .g) (c .before .before .pre .located .made),
+  indices-few (c .before .before .args .g) (c .before .before .pre .measured .made),
   c .before .before .pre .firstLong,
 )
 
 slice-aggregate-is-grid-point : tie.Need-slice-aggregate-is-grid-point
 slice-aggregate-is-grid-point c = simp length-take (omega (
   arith,
-  indices-few (c .before .before .before .args .g) (c .before .before .before .pre .located .made),
+  indices-few (c .before .before .before .args .g) (c .before .before .before .pre .measured .made),
   c .before .before .before .pre .firstLong,
 ))
 
 is-grid-point-requires : tie.Need-is-grid-point-requires
-is-grid-point-requires c κs = c .before .before .before .pre .located .made
+is-grid-point-requires c κs = c .before .before .before .pre .measured .made
 
 nothing-requires : tie.Need-nothing-requires
 nothing-requires c κs = search needs
@@ -41,14 +41,14 @@ returns c = let s = c .before .before .before .before .before .before in let a =
 
 zeros-requires : tie.Need-zeros-requires
 zeros-requires c κs = indices-few (c .before .before .before .before .before .args .g)
-    (c .before .before .before .before .before .pre .located .made)
+    (c .before .before .before .before .before .pre .measured .made)
 
 sets-of-requires : tie.Need-sets-of-requires
 sets-of-requires c κs = (
   omega (arith, c .before .before .before .before .before .before .pre .few),
   indices-few
       (c .before .before .before .before .before .before .args .g)
-      (c .before .before .before .before .before .before .pre .located .made),
+      (c .before .before .before .before .before .before .pre .measured .made),
   c .before .before .before .before .before .before .pre .orderLong,
 )
 
@@ -64,7 +64,7 @@ returns-2 c = let s = c .before .before .before .before .before .before .before 
 
 coefficients-requires : tie.Need-coefficients-requires
 coefficients-requires c κs = let s = c .before .before .before .before .before .before .before .before .before in (
-  s .pre .located .made,
+  s .pre .measured .made,
   s .pre .startOn,
   sym (c .before .before .before .before .before .is-grid-point .ensures) ∙
       is-not _ (c .before .before .before .before .if1 .left),
@@ -72,7 +72,7 @@ coefficients-requires c κs = let s = c .before .before .before .before .before 
 
 is-free-requires : tie.Need-is-free-requires
 is-free-requires c κs =
-    c .before .before .before .before .before .before .before .before .before .before .before .pre .located .made
+    c .before .before .before .before .before .before .before .before .before .before .before .pre .measured .made
 
 nothing-requires-3 : tie.Need-nothing-requires-3
 nothing-requires-3 c κs = search needs
@@ -95,7 +95,7 @@ mark-points-requires : tie.Need-mark-points-requires
 mark-points-requires c κs = let s =
     c .before .before .before .before .before .before .before .before .before .before .before .before .before .before in
     let a = s .args in let r = c .before .before .before .before .before .before .before .sets-of .result in (
-      (s .pre .located, s .pre .below),
+      (s .pre .measured, s .pre .below),
       can-mark (a .g) (a .binomials .now) (a .start .now) (a .previous .now) (a .sizes .now) (a .first .now)
           (a .order .now)
           (a .n) (a .marks .now) (s .pre)

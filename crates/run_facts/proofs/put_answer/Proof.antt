@@ -55,6 +55,9 @@ slice-write-facts-5 c = simp length-set (omega arith)
 cast-facts : tie.Need-cast-facts
 cast-facts c = search needs
 
+cast-facts-2 : tie.Need-cast-facts-2
+cast-facts-2 c = search needs
+
 slice-write-facts-6 : tie.Need-slice-write-facts-6
 slice-write-facts-6 c = simp length-set (omega arith)
 
@@ -83,7 +86,8 @@ same-length-3 : tie.Need-same-length-3
 same-length-3 c = search needs
 
 returns-4 : tie.Need-returns-4
-returns-4 c = rw (c .before .before .answer4 .given .1, c .kind-number .ensures) (refl, five _ _ _ _ _ _ (omega arith))
+returns-4 c =
+    rw (c .before .before .answer4 .given .1, c .kind-number .ensures .0) (refl, five _ _ _ _ _ _ (omega arith))
 
 pub put-answer-spec : {M : Type 1} → statement M
 put-answer-spec =
@@ -99,8 +103,9 @@ put-answer-spec =
     slice-write-facts-4
     slice-write-facts-5
     kind-number-requires
-    slice-write-facts-6
     cast-facts
+    slice-write-facts-6
+    cast-facts-2
     slice-write-facts-7
     slice-write-facts-8
     returns

@@ -7,10 +7,13 @@ use Rattle.walk_reader.proofs.print_indices.Statement.{statement}
 use Rattle.walk_reader.proofs.print_indices.Tie as tie
 
 abbrev Inv-loop : tie.InvT-loop
-Inv-loop list i₀ t3 i = i ≤ length list
+Inv-loop text list i₀ t4 i = i ≤ length list
 
 abbrev μ-loop : tie.MeasureT-loop
-μ-loop list i₀ t3 i = length list - i
+μ-loop text list i₀ t4 i = length list - i
+
+show-text-requires : tie.Need-show-text-requires Inv-loop μ-loop
+show-text-requires c κs = search needs
 
 loop-holds : tie.Need-loop-holds Inv-loop μ-loop
 loop-holds c = search needs
@@ -33,11 +36,11 @@ loop-less c = omega arith
 loop-again : tie.Need-loop-again Inv-loop μ-loop
 loop-again c = search needs
 
-slice-aggregate-write-all : tie.Need-slice-aggregate-write-all Inv-loop μ-loop
-slice-aggregate-write-all c = search needs
+slice-aggregate-show-text : tie.Need-slice-aggregate-show-text Inv-loop μ-loop
+slice-aggregate-show-text c = search needs
 
-write-all-requires : tie.Need-write-all-requires Inv-loop μ-loop
-write-all-requires c κs = search needs
+show-text-requires-2 : tie.Need-show-text-requires-2 Inv-loop μ-loop
+show-text-requires-2 c κs = search needs
 
 returns : tie.Need-returns Inv-loop μ-loop
 returns c = search needs
@@ -48,6 +51,7 @@ print-indices-spec =
     (tie.spec
     Inv-loop
     μ-loop
+    show-text-requires
     loop-holds
     mul-print-index
     shared-slice-read-print-index
@@ -55,6 +59,6 @@ print-indices-spec =
     add-i
     loop-less
     loop-again
-    slice-aggregate-write-all
-    write-all-requires
+    slice-aggregate-show-text
+    show-text-requires-2
     returns)

@@ -16,8 +16,8 @@ abbrev μ-loop : tie.MeasureT-loop
 loop-holds : tie.Need-loop-holds Inv-loop μ-loop
 loop-holds c = search needs
 
-number-requires : tie.Need-number-requires Inv-loop μ-loop
-number-requires c κs = search needs
+word-requires : tie.Need-word-requires Inv-loop μ-loop
+word-requires c κs = search needs
 
 cast-list : tie.Need-cast-list Inv-loop μ-loop
 cast-list c = omega arith
@@ -50,7 +50,7 @@ read-indices-spec =
     Inv-loop
     μ-loop
     loop-holds
-    number-requires
+    word-requires
     cast-list
     mul-list
     slice-write-list

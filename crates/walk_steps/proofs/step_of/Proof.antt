@@ -26,7 +26,7 @@ returns c = c .unanswered .ensures ∙ (let a = c .before .before .before .befor
     sym (ap (λ (x : Answer). stepOf (a .walk) x (a .simplex) (a .change)) (c .before .before .answer .given .1)))
 
 returns-2 : tie.Need-returns-2
-returns-2 c = rw (c .kind-number .ensures) (let a = c .before .before .before .before .before .args in
+returns-2 c = rw (c .kind-number .ensures .0) (let a = c .before .before .before .before .before .args in
     sym (ap (λ (x : Answer). stepOf (a .walk) x (a .simplex) (a .change)) (c .before .before .answer2 .given .1)))
 
 returns-3 : tie.Need-returns-3

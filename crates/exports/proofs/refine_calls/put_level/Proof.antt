@@ -18,6 +18,9 @@ slice-write-facts-2 c = simp length-set (omega arith)
 cast-facts : tie.Need-cast-facts
 cast-facts c = search needs
 
+cast-facts-2 : tie.Need-cast-facts-2
+cast-facts-2 c = search needs
+
 slice-write-facts-3 : tie.Need-slice-write-facts-3
 slice-write-facts-3 c = simp length-set (omega arith)
 
@@ -32,7 +35,7 @@ same-length c = search needs
 
 returns : tie.Need-returns
 returns c =
-    rw (c .before .kind-number .ensures) (five _ _ _ _ _ (c .before .before .before .args .facts .now)
+    rw (c .before .kind-number .ensures .0) (five _ _ _ _ _ (c .before .before .before .args .facts .now)
     (c .before .before .before .pre))
 
 pub put-level-spec : {M : Type 1} → statement M
@@ -42,8 +45,9 @@ put-level-spec =
     slice-write-facts
     slice-write-facts-2
     kind-number-requires
-    slice-write-facts-3
     cast-facts
+    slice-write-facts-3
+    cast-facts-2
     slice-write-facts-4
     slice-write-facts-5
     same-length

@@ -46,7 +46,7 @@ recognise-requires c κs = let s =
     c .before .before .before .before .before .before .before .before .before .before .before in let C = s .pre .0 in
     let g = s .args .g in
     record {
-      located = record {
+      measured = record {
         made = C .made;
         filled = c .before .before .before .before .before .before .binomials2 .ensures;
       };
