@@ -13,12 +13,12 @@ use Rattle.grid.proofs.Accepted.{accepted}
 use Rattle.grid.specs.Build.{lent}
 use Rattle.grid.specs.Grid.{Point, points}
 use Rattle.grid.specs.Questions.{question5}
-use Rattle.place.proofs.Accepted.{accepted-of}
 use Rattle.place.specs.Ends.{Kind as KindOfEnd}
 use Rattle.place.specs.Path.{Answer as PathAnswer, answer, ended, spent, unknown}
 use Rattle.place.specs.Places.{Simplex}
 use Rattle.place.specs.Problem.{Problem, problemOf}
 use Rattle.place.specs.Questions.{question8, tableQuestions}
+use Rattle.path_laws.proofs.Accepted.{accepted-of}
 use Rattle.simplices.proofs.Tests.{settled-with}
 use Rattle.finder.specs.Run.{caseOf, kindOf, refusal, runAnswer}
 use Rattle.finder.specs.declared.answers.Answer.{Answer}

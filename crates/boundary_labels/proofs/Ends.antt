@@ -17,18 +17,18 @@ use Rattle.combinatorics.proofs.Ranges.{upFrom-in}
 use Rattle.combinatorics.specs.Lists.{all, filter, isIn, same}
 use Rattle.grid.proofs.Points.{onPoints, points-in}
 use Rattle.grid.specs.Grid.{Point, blocks, isGridPoint, numBlocks, numIndices, numPoints, points}
-use Rattle.place.proofs.Accepted.{accepted-is}
-use Rattle.place.proofs.Labels.{place-labelled}
-use Rattle.place.proofs.LinkSymmetry.{parts}
-use Rattle.place.proofs.Meaning.{free-means}
-use Rattle.place.proofs.Simplices.{onSimplices}
-use Rattle.place.proofs.Theorem.{demand3-holds}
-use Rattle.place.proofs.Ways.{IsWay, byFacet, byPlace, onEnds}
-use Rattle.place.specs.Demand.{Accepted, NoGap, Settled, placeAt}
 use Rattle.place.specs.Ends.{End, Kind, completeFor, facetEnd, facetEnds, facets, isComplete, placeEnd, stop}
 use Rattle.place.specs.Path.{answer, ended, outcome, path, pathLength, sameSimplex, spent, unknown}
 use Rattle.place.specs.Places.{Simplex, isPlace, labelSet, setT, setU}
 use Rattle.place.specs.Problem.{Problem, label}
+use Rattle.path_laws.proofs.Accepted.{accepted-is}
+use Rattle.path_laws.proofs.Labels.{place-labelled}
+use Rattle.path_laws.proofs.LinkSymmetry.{parts}
+use Rattle.path_laws.proofs.Meaning.{free-means}
+use Rattle.path_laws.proofs.Simplices.{onSimplices}
+use Rattle.path_laws.proofs.Theorem.{demand3-holds}
+use Rattle.path_laws.proofs.Ways.{IsWay, byFacet, byPlace, onEnds}
+use Rattle.path_laws.specs.Demand.{Accepted, NoGap, Settled, placeAt}
 use Rattle.simplices.proofs.Answers.{last-place, stop-points}
 use Rattle.simplices.proofs.Places.{accepted-grid}
 use Rattle.boundary_labels.proofs.Complete.{complete-by-labels}

@@ -9,12 +9,12 @@ use lib.ListN.{length, getD}
 use Rattle.combinatorics.specs.Lists.{all, isIn}
 use Rattle.questions.specs.Questions.{firstNo}
 use Rattle.grid.specs.Grid.{Grid, Point, at, indicesOf, isGridPoint, numBlocks, numIndices, numPoints, points, previous}
-use Rattle.place.specs.Demand.{Ended, NoGap}
 use Rattle.place.specs.Ends.{End, Kind, facetEnds, isComplete, placeEnd}
 use Rattle.place.specs.Path.{answer, ended, path, unknown}
 use Rattle.place.specs.Places.{Simplex, isPlace, labelSet, setU}
 use Rattle.place.specs.Problem.{Problem}
 use Rattle.place.specs.Questions.{tableQuestions}
+use Rattle.path_laws.specs.Demand.{Ended, NoGap}
 use Rattle.boundary_labels.specs.Boundary.{boundaryIndex, boundaryLabel, boundaryTable, byteOf, isInterior}
 
 -- "the first index h with y_h = 0 and the number before it, round the block, positive"

@@ -8,12 +8,12 @@ use lib.ListN.{length, getD}
 use Rattle.combinatorics.specs.Front.{front}
 use Rattle.combinatorics.specs.Lists.{concatMap}
 use Rattle.grid.specs.Grid.{Point, bound, position}
-use Rattle.place.specs.Demand.{Demand3, Ended, Fills, NoGap, lastPlace}
 use Rattle.place.specs.Ends.{End as EndOfPath}
 use Rattle.place.specs.LabelsRead.{labelsRead}
 use Rattle.place.specs.Path.{path as pathOf, pathLength}
 use Rattle.place.specs.Places.{unlabelled}
 use Rattle.place.specs.Problem.{Problem, withLabels}
+use Rattle.path_laws.specs.Demand.{Demand3, Ended, Fills, NoGap, lastPlace}
 use Rattle.finder.specs.Run.{kindOf, refusal, runAnswer, runBuffer}
 use Rattle.finder.specs.declared.answers.Answer.{Answer}
 use Rattle.finder.specs.declared.answers.Answer.the-variants.{End, Spent, Unknown}

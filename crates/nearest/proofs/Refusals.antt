@@ -14,12 +14,12 @@ use Rattle.questions.proofs.Answers.{asked-next, asked-no, both-yes, first-yes}
 use Rattle.questions.specs.Questions.{firstNo}
 use Rattle.grid.specs.Grid.{Point, isGridPoint, numPoints}
 use Rattle.grid.specs.Questions.{gridQuestions, question5}
-use Rattle.place.specs.Demand.{Accepted}
 use Rattle.place.specs.Ends.{Kind as KindOfEnd}
 use Rattle.place.specs.Path.{Answer as PathAnswer, answer, ended, spent, unknown}
 use Rattle.place.specs.Places.{Simplex}
 use Rattle.place.specs.Problem.{Problem}
 use Rattle.place.specs.Questions.{question6, question7, question8}
+use Rattle.path_laws.specs.Demand.{Accepted}
 use Rattle.finder.specs.Asked.{laterQuestions}
 use Rattle.finder.specs.Run.{caseOf, numbersOf}
 use Rattle.finder.specs.declared.answers.Answer.the-variants.{End, Refused, Unknown}

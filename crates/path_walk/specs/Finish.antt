@@ -9,10 +9,10 @@ use lib.ListN.{length, take}
 use Rattle.grid.specs.Grid.{at, blockOf, dimension, numIndices, position}
 use Rattle.grid.specs.Made.{shape}
 use Rattle.grid.specs.declared.Grid.{Grid as GridStruct}
-use Rattle.place.specs.Demand.{Accepted}
 use Rattle.place.specs.Ends.{Kind as KindOfEnd, placeEnd, facetEnd}
 use Rattle.place.specs.Path.{answer, ended, spent, unknown}
 use Rattle.place.specs.Problem.{Problem, label}
+use Rattle.path_laws.specs.Demand.{Accepted}
 use Rattle.moves.specs.Held.{stateOf}
 use Rattle.rules.specs.Mask.{bit}
 use Rattle.rules.specs.Ready.{IsRound, RoundBelow, Ready}

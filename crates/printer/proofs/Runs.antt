@@ -22,13 +22,13 @@ use Rattle.finder.specs.declared.answers.Answer.{Answer}
 use Rattle.finder.specs.declared.answers.Answer.the-variants.{Refused, Spent, Unknown, End}
 use Rattle.grid.specs.Grid.{Grid, Point, dimension, numIndices, isGridPoint}
 use Rattle.grid.specs.Questions.{gridQuestions}
-use Rattle.place.proofs.EndPoints.{IsSimplex, end-simplex}
-use Rattle.place.proofs.Theorem.{demand3-holds, gapless}
-use Rattle.place.specs.Demand.{Accepted, Stop, atGap, lastPlace}
 use Rattle.place.specs.Ends.{End as EndOfPath, Kind as KindOfEnd, placeEnd, facetEnd}
 use Rattle.place.specs.Path.{answer, path, pathLength, ended}
 use Rattle.place.specs.Problem.{Problem}
 use Rattle.place.specs.Places.{Simplex}
+use Rattle.path_laws.proofs.EndPoints.{IsSimplex, end-simplex}
+use Rattle.path_laws.proofs.Theorem.{demand3-holds, gapless}
+use Rattle.path_laws.specs.Demand.{Accepted, Stop, atGap, lastPlace}
 use Rattle.sheet.specs.Sheet.{refusedSheet, spentSheet, unknownSheet}
 use Rattle.printer.proofs.Vertices.{rows-of, rows-length}
 use Rattle.printer.specs.Printed.{kindOf, answerSheet}

@@ -22,30 +22,30 @@ use Rattle.geometry.proofs.LabelledChains.{listAt, LabelledChain, FacetEnd, Pla
 use Rattle.grid.proofs.Points.{onPoints}
 use Rattle.grid.specs.Grid.{at, numBlocks, numIndices, dimension, blockOf, isGridPoint, position, samePoint}
 use Rattle.positions.specs.Falls.{tailFrom}
-use Rattle.place.proofs.BlocksOfGrid.{blocksOf, back-below, pointOf, coefficientOf, coord-in, coord-out}
-use Rattle.place.proofs.BlocksOfGrid.{coefficientOf-is}
-use Rattle.place.proofs.Bound.{order-short}
-use Rattle.place.proofs.ChainEnds.{complete-of, complete-below, end-below, end-complete, end-labels}
-use Rattle.place.proofs.ChainLinks.{of-link}
-use Rattle.place.proofs.FromChain.{back-again, place-of, long, pointsOf-grid, T-is, in-U}
-use Rattle.place.proofs.LabelsRead.{link-brings}
-use Rattle.place.proofs.LinkSymmetry.{parts}
-use Rattle.place.proofs.Positions.{at-in}
-use Rattle.place.proofs.Run.{below-length, not-start, ends-path, goes-on}
-use Rattle.place.proofs.Start.{start-place}
-use Rattle.place.proofs.Theorem.{demand3-holds, run-follows, zeroes, single, block-of, in-facets}
-use Rattle.place.proofs.ToChain.{inT, coefficientsOf, pointsOf, labelOf, place-long, labelledChain-of}
-use Rattle.place.proofs.ToChain.{pointsOf-coefficientsOf}
-use Rattle.place.proofs.Ways.{IsWay, byPlace, byFacet}
 use Rattle.place.specs.Coefficients.{IsCoefficients, coefficients}
-use Rattle.place.specs.Demand.{Follows, placeAt, leftAt}
-use Rattle.place.proofs.Filled.{FullyLabelled, full-accepted, full-place}
 use Rattle.place.specs.Ends.{Kind, placeEnd, facetEnd, stop}
 use Rattle.place.specs.LabelsRead.{cameIn, labelsRead, pointCameIn}
 use Rattle.place.specs.Links.{linked}
 use Rattle.place.specs.Path.{path, pathLength, answer, spent, ended}
 use Rattle.place.specs.Places.{Simplex, order, setT, setU, allLabelled}
 use Rattle.place.specs.Problem.{Problem}
+use Rattle.path_laws.proofs.BlocksOfGrid.{blocksOf, back-below, pointOf, coefficientOf, coord-in, coord-out}
+use Rattle.path_laws.proofs.BlocksOfGrid.{coefficientOf-is}
+use Rattle.path_laws.proofs.Bound.{order-short}
+use Rattle.path_laws.proofs.ChainEnds.{complete-of, complete-below, end-below, end-complete, end-labels}
+use Rattle.path_laws.proofs.ChainLinks.{of-link}
+use Rattle.path_laws.proofs.FromChain.{back-again, place-of, long, pointsOf-grid, T-is, in-U}
+use Rattle.path_laws.proofs.LabelsRead.{link-brings}
+use Rattle.path_laws.proofs.LinkSymmetry.{parts}
+use Rattle.path_laws.proofs.Positions.{at-in}
+use Rattle.path_laws.proofs.Run.{below-length, not-start, ends-path, goes-on}
+use Rattle.path_laws.proofs.Start.{start-place}
+use Rattle.path_laws.proofs.Theorem.{demand3-holds, run-follows, zeroes, single, block-of, in-facets}
+use Rattle.path_laws.proofs.ToChain.{inT, coefficientsOf, pointsOf, labelOf, place-long, labelledChain-of}
+use Rattle.path_laws.proofs.ToChain.{pointsOf-coefficientsOf}
+use Rattle.path_laws.proofs.Ways.{IsWay, byPlace, byFacet}
+use Rattle.path_laws.specs.Demand.{Follows, placeAt, leftAt}
+use Rattle.path_laws.proofs.Filled.{FullyLabelled, full-accepted, full-place}
 use Rattle.rules.specs.Mask.{bit}
 use Rattle.rules.specs.Read.{arrayOf, pointGone, pointIn, pointsFrom, read, stepAt, sourceAt, positionAt, above}
 use Rattle.rules.specs.Read.{MovedAt, Exchanged, FallsBeside, CanCompute}

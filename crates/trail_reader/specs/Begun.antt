@@ -9,7 +9,7 @@ use Rattle.grid.specs.Made.{IsMade, shape}
 use Rattle.grid.specs.declared.Grid.{Grid as GridStruct}
 use Rattle.marks.specs.Reading.{Measured}
 use Rattle.moves.specs.declared.Status.{Status}
-use Rattle.place.specs.Demand.{Settled}
+use Rattle.path_laws.specs.Demand.{Settled}
 use Rattle.rules.specs.Read.{numbersFrom}
 use Rattle.rules.specs.Ready.{IsRound, RoundBelow}
 use Rattle.rules.specs.Step.{Round, State}

@@ -12,9 +12,9 @@ use Rattle.grid.specs.Made.{shape}
 use Rattle.grid.specs.declared.Grid.{Grid as GridStruct}
 use Rattle.marks.specs.Reading.{CanRead, HasMarks, Measured, problemFrom}
 use Rattle.moves.specs.declared.Status.{Status}
-use Rattle.place.specs.Demand.{Settled}
 use Rattle.place.specs.Places.{Simplex}
 use Rattle.place.specs.Problem.{Problem}
+use Rattle.path_laws.specs.Demand.{Settled}
 use Rattle.positions.specs.Falls.{tailFrom}
 use Rattle.records.specs.Records.{recordFrom}
 use Rattle.records.specs.declared.Sets.{Sets}

@@ -25,16 +25,16 @@ use Rattle.grid.specs.Grid.{Point, isGridPoint, numIndices, points, position, s
 use Rattle.grid.specs.declared.Grid.{Grid as GridStruct}
 use Rattle.marks.specs.Reading.{tableOf}
 use Rattle.moves.proofs.Cases.{Leaving, label-joins, leaving-leaves, leaving-ready}
-use Rattle.place.proofs.Filled.{beside, filled-full, filledTable}
-use Rattle.place.proofs.Labels.{label-ok}
-use Rattle.place.proofs.Meaning.{T-means, U-means}
-use Rattle.place.proofs.LinkSymmetry.{parts}
-use Rattle.place.proofs.Theorem.{demand3-holds}
-use Rattle.place.specs.Demand.{Accepted, lastPlace, placeAt}
 use Rattle.place.specs.Ends.{End, Kind}
 use Rattle.place.specs.Path.{answer, ended, outcome, path, pathLength, spent}
 use Rattle.place.specs.Places.{Simplex, setT, setU}
 use Rattle.place.specs.Problem.{Problem, hasLabel, label}
+use Rattle.path_laws.proofs.Filled.{beside, filled-full, filledTable}
+use Rattle.path_laws.proofs.Labels.{label-ok}
+use Rattle.path_laws.proofs.Meaning.{T-means, U-means}
+use Rattle.path_laws.proofs.LinkSymmetry.{parts}
+use Rattle.path_laws.proofs.Theorem.{demand3-holds}
+use Rattle.path_laws.specs.Demand.{Accepted, lastPlace, placeAt}
 use Rattle.records.proofs.Differences.{length-alike}
 use Rattle.records.proofs.Kept.{Kept, grow-kept, kept-of, leave-kept}
 use Rattle.records.proofs.Told.{IsMask, told}

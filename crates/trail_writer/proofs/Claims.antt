@@ -18,10 +18,10 @@ use Rattle.finder.proofs.Demand.{unrefused}
 use Rattle.finder.specs.Run.{caseOf, kindOf, numbersOf, refusal, runAnswer, runBuffer}
 use Rattle.finder.specs.declared.answers.Answer.the-variants.{Refused as RunRefused, End as RunEnd}
 use Rattle.path_walk.specs.declared.Kind.{Kind}
-use Rattle.place.specs.Demand.{Accepted, placeAt}
 use Rattle.place.specs.Path.{Answer as PathAnswer, answer, ended, path, pathLength, spent, unknown}
 use Rattle.place.specs.Problem.{Problem, withLabels}
 use Rattle.place.specs.Questions.{runQuestions}
+use Rattle.path_laws.specs.Demand.{Accepted, placeAt}
 use Rattle.questions.specs.Questions.{Question, firstNo}
 use Rattle.trail.proofs.RunTrail.{path-trail}
 use Rattle.trail.specs.Trail.{rebuilt}

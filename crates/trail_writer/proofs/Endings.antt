@@ -20,11 +20,11 @@ use Rattle.path_walk.specs.declared.Finish.the-variants.{Ended, Spent as Finish
 use Rattle.grid.specs.Made.{IsMade}
 use Rattle.grid.specs.declared.Grid.{Grid as GridStruct}
 use Rattle.marks.specs.Reading.{problemFrom}
-use Rattle.place.specs.Demand.{Accepted}
 use Rattle.place.specs.Ends.{Kind as KindOfEnd}
 use Rattle.place.specs.Path.{Answer as PathAnswer, answer, ended, spent, unknown}
 use Rattle.place.specs.Places.{Simplex}
 use Rattle.place.specs.Problem.{Problem}
+use Rattle.path_laws.specs.Demand.{Accepted}
 use Rattle.questions.specs.Questions.{firstNo}
 use Rattle.rules.specs.Step.{Round}
 use Rattle.trail_walk.specs.Walked.{Recorded}

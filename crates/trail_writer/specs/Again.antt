@@ -6,10 +6,10 @@ use lib.ListN.{length}
 use Rattle.grid.specs.Made.{shape}
 use Rattle.grid.specs.declared.Grid.{Grid as GridStruct}
 use Rattle.marks.specs.Reading.{Readable, problemFrom}
-use Rattle.place.specs.Demand.{Accepted}
 use Rattle.place.specs.Ends.{Kind}
 use Rattle.place.specs.Path.{answer, ended}
 use Rattle.place.specs.Places.{Simplex}
+use Rattle.path_laws.specs.Demand.{Accepted}
 use Rattle.rules.specs.Ready.{IsRound, RoundBelow}
 use Rattle.rules.specs.Step.{Round}
 use Rattle.trail_writer.specs.Writing.{wholeTrail}

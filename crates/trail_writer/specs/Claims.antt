@@ -10,9 +10,9 @@ use Rattle.finder.specs.declared.answers.Answer.{Answer as RunAnswer}
 use Rattle.finder.specs.declared.answers.Answer.the-variants.{Refused as RunRefused, Spent as RunSpent}
 use Rattle.finder.specs.declared.answers.Answer.the-variants.{Unknown as RunUnknown, End as RunEnd}
 use Rattle.path_walk.specs.declared.Kind.{Kind}
-use Rattle.place.specs.Demand.{placeAt}
 use Rattle.place.specs.Path.{path, pathLength}
 use Rattle.place.specs.Problem.{Problem, withLabels}
+use Rattle.path_laws.specs.Demand.{placeAt}
 use Rattle.trail.specs.Trail.{rebuilt}
 use Rattle.trail_writer.specs.Writing.{answerBuffer, trailAnswer, trailBuffer, wholeTrail}
 use Rattle.trail_writer.specs.declared.answers.Answer.{Answer}

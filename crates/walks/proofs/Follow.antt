@@ -10,19 +10,19 @@ use Rattle.combinatorics.proofs.Basics.{absurd-bool, false-of, not-is}
 use Rattle.combinatorics.proofs.Lists.{all-in, filter-in, in-filter, in-here, only-list}
 use Rattle.grid.proofs.Points.{onPoints}
 use Rattle.grid.specs.Grid.{Point, bound}
-use Rattle.place.proofs.FromTwoWays.{back}
-use Rattle.place.proofs.LabelsRead.{came-few, came-next, came-none}
-use Rattle.place.proofs.PathSteps.{Link, waysOn-split}
-use Rattle.place.proofs.Simplices.{simplex-sound}
-use Rattle.place.proofs.Theorem.{demand3-holds}
-use Rattle.place.proofs.Ways.{byLink, onWays, in-ways}
-use Rattle.place.specs.Demand.{Accepted, Demand3, Stop, atEnd, atGap, placeAt, leftAt}
 use Rattle.place.specs.Ends.{Kind, End, link, ends, ways}
 use Rattle.place.specs.LabelsRead.{cameIn, labelsRead, pointCameIn}
 use Rattle.place.specs.Path.{isBack, waysOn, sameSimplex, path, pathLength, spent, unknown, ended as runEnded, outcome}
 use Rattle.place.specs.Path.{answer}
 use Rattle.place.specs.Places.{Simplex, allLabelled, unlabelled}
 use Rattle.place.specs.Problem.{Problem, hasLabel}
+use Rattle.path_laws.proofs.FromTwoWays.{back}
+use Rattle.path_laws.proofs.LabelsRead.{came-few, came-next, came-none}
+use Rattle.path_laws.proofs.PathSteps.{Link, waysOn-split}
+use Rattle.path_laws.proofs.Simplices.{simplex-sound}
+use Rattle.path_laws.proofs.Theorem.{demand3-holds}
+use Rattle.path_laws.proofs.Ways.{byLink, onWays, in-ways}
+use Rattle.path_laws.specs.Demand.{Accepted, Demand3, Stop, atEnd, atGap, placeAt, leftAt}
 use Rattle.walks.proofs.Meaning.{Came, begins, came, Stands, Passes, of-passes, meets-16, one-way-on}
 use Rattle.walks.proofs.Moved.{next-onward, answer-refused}
 use Rattle.walks.specs.Claims.{walkAt, facingBack, called, CallsFollow}

@@ -8,12 +8,12 @@ use Prim.Native.Nat.{ℕ, suc, pred, _+_, _≤_, _<_}
 use lib.ListN.{length}
 use Rattle.combinatorics.specs.Lists.{isIn}
 use Rattle.grid.specs.Grid.{Point, samePoint, bound}
-use Rattle.place.specs.Demand.{Accepted, placeAt, leftAt}
 use Rattle.place.specs.Ends.{Kind}
 use Rattle.place.specs.LabelsRead.{cameIn, pointCameIn}
 use Rattle.place.specs.Path.{path, pathLength, waysOn, ended as runEnded, unknown, answer}
 use Rattle.place.specs.Places.{Simplex}
 use Rattle.place.specs.Problem.{Problem, label}
+use Rattle.path_laws.specs.Demand.{Accepted, placeAt, leftAt}
 use Rattle.questions.specs.Questions.{firstNo}
 use Rattle.trail.specs.Change.{change, ByRule}
 use Rattle.trail.specs.Record.{fields, encoded, recordOf}
