@@ -12,17 +12,19 @@ USES = [
     "mathlib.Core.List.{List, [], _∷_, map}",
     "Rattle.grid.specs.Grid.{next, previous, isGridPoint, points, bound}",
     "Rattle.place.specs.Coefficients.{coefficients}",
+    "Rattle.questions.specs.Questions.{firstNo}",
     "Rattle.place.specs.Ends.{placeEnd, facetEnd, isComplete, completeFor, placeEnds, facetEnds, ends, ways}",
+    "Rattle.place.specs.LabelsRead.{cameIn, labelsRead}",
     "Rattle.place.specs.Links.{exchanged, extended, linked, links}",
     "Rattle.place.specs.Path.{spent, ended, waysOn, path, answer}",
     "Rattle.place.specs.Places.{setU, setT, labelSet, firstBackOutside, goesTo, grownAt, everyBlockFree, isUnlabelledPlace, isPlace, places}",
     "Rattle.place.specs.Problem.{problemOf, label}",
-    "Rattle.place.specs.Worked.{Row, row, rowWith}",
+    "Rattle.place.specs.Worked.{Row, given, row, rowWith}",
 ]
 # The definitions that the checker opens to compute, as for the nine marked ends.
 UNFOLDING = ("next previous isGridPoint points label coefficients setU setT labelSet firstBackOutside goesTo grownAt everyBlockFree"
              " isUnlabelledPlace isPlace places exchanged extended linked links isComplete completeFor placeEnds facetEnds"
-             " ends ways waysOn bound path answer")
+             " ends ways waysOn bound path answer cameIn labelsRead firstNo")
 KINDS = {"place": "placeEnd", "facet": "facetEnd"}
 ROWS_TO_A_FILE = 25
 
@@ -39,9 +41,9 @@ def row(line):
         answer = "(" + result + ")"
     else:
         head, vertices = result.split(" (", 1)
-        _, places, kind, block = head.split()
+        _, places, read, kind, block = head.split()
         points = [listed(vertex.split()) for vertex in vertices.rstrip(")").split(")(")]
-        answer = "(ended {} {} {} {} {})".format(places, KINDS[kind], block, len(points), listed(points))
+        answer = "(ended {} {} {} {} {} {})".format(places, read, KINDS[kind], block, len(points), listed(points))
     if budget == "bound":
         return "row {} {}".format(problem, answer)
     return "rowWith {} {} {}".format(problem, budget, answer)
@@ -57,7 +59,7 @@ rows =
 {}
     ∷ []
 
-answers : map (λ r. answer (r .problem) (r .budget)) rows ≡ map (λ r. r .result) rows
+answers : map given rows ≡ map (λ r. r .result) rows
 unfolding {}
 answers = refl
 """.format("\n".join("use " + use for use in USES), rows, UNFOLDING)

@@ -167,11 +167,16 @@ class Labelled:
             here, come_from = on[0][1], here
 
     def answer(self, budget):
-        """("spent", places) or ("ended", places, kind, block, vertices)."""
+        """("spent", places) or ("ended", places, labels read, kind, block, vertices)."""
         visited, (kind, block, points) = self.path()
         if budget < len(visited):
             return ("spent", budget)
-        return ("ended", len(visited), kind, block, self.problem.in_order(points))
+        return ("ended", len(visited), labels_read(visited), kind, block, self.problem.in_order(points))
+
+
+def labels_read(visited):
+    """"1 plus the moves by which a point came in\""""
+    return 1 + sum(1 for before, here in zip(visited, visited[1:]) if not here <= before)
 
 
 def bound(grid):

@@ -1,9 +1,9 @@
 """Writes answers.txt: small problems with the answers that document 01's definitions give, one to a line.
 
-    sizes; divisions; start; labels; budget -> ended places kind block (vertex)(vertex)...
+    sizes; divisions; start; labels; budget -> ended places read kind block (vertex)(vertex)...
     sizes; divisions; start; labels; budget -> spent places
 
-The labels stand in table order. The budget is a number, or `bound` for the bound of the grid.
+The labels stand in table order, `read` is the number of labels read. The budget is a number, or `bound` for the bound of the grid.
 """
 import random
 from itertools import product
@@ -28,8 +28,8 @@ def row(labelled, budget):
     grid = labelled.problem.grid
     answer = labelled.answer(budget if budget is not None else 10 ** 30)
     if answer[0] == "ended":
-        vertices = "".join("({})".format(numbers(y)) for y in answer[4])
-        result = "ended {} {} {} {}".format(*answer[1:4], vertices)
+        vertices = "".join("({})".format(numbers(y)) for y in answer[5])
+        result = "ended {} {} {} {} {}".format(*answer[1:5], vertices)
     else:
         result = "spent {}".format(answer[1])
     parts = [numbers(grid.sizes), numbers(grid.divisions), numbers(labelled.problem.start), numbers(labelled.table),

@@ -17,10 +17,10 @@ use Rattle.grid.proofs.Points.{onPoints}
 use Rattle.grid.proofs.Round.{block-fits}
 use Rattle.grid.specs.Grid.{Grid, Point, at, firstIndex, indicesOf, isGridPoint, numBlocks, numIndices, previous}
 use Rattle.grid.specs.Grid.{samePoint, size}
-use Rattle.place.proofs.Meaning.{U-means, complete-means, labels-mean}
 use Rattle.place.specs.Ends.{isComplete}
 use Rattle.place.specs.Places.{Simplex, labelSet, setU}
 use Rattle.place.specs.Problem.{Problem, label}
+use Rattle.path_laws.proofs.Meaning.{U-means, complete-means, labels-mean}
 use Rattle.points_in_order.proofs.Blocks.{point-length}
 use Rattle.boundary_labels.proofs.PointLabels.{boundary-index, zero-outside}
 use Rattle.boundary_labels.proofs.Rounds.{indexAt, next-in, not-all-zero, previous-in, round}

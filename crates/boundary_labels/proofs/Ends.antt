@@ -19,14 +19,14 @@ use Rattle.end_kinds.specs.declared.Kind.{Kind}
 use Rattle.end_kinds.specs.declared.Kind.the-variants.{Facet as facetEnd, Place as placeEnd}
 use Rattle.grid.proofs.Points.{onPoints, points-in}
 use Rattle.grid.specs.Grid.{Point, blocks, isGridPoint, numBlocks, numIndices, numPoints, points}
-use Rattle.place.proofs.Accepted.{accepted-is}
-use Rattle.place.proofs.Labels.{place-labelled}
-use Rattle.place.proofs.LinkSymmetry.{parts}
-use Rattle.place.proofs.Meaning.{free-means}
-use Rattle.place.proofs.Simplices.{onSimplices}
-use Rattle.place.proofs.Theorem.{demand3-holds}
-use Rattle.place.proofs.Ways.{IsWay, byFacet, byPlace, onEnds}
-use Rattle.place.specs.Demand.{Accepted, NoGap, Settled, placeAt}
+use Rattle.path_laws.proofs.Accepted.{accepted-is}
+use Rattle.path_laws.proofs.Labels.{place-labelled}
+use Rattle.path_laws.proofs.LinkSymmetry.{parts}
+use Rattle.path_laws.proofs.Meaning.{free-means}
+use Rattle.path_laws.proofs.Simplices.{onSimplices}
+use Rattle.path_laws.proofs.Theorem.{demand3-holds}
+use Rattle.path_laws.proofs.Ways.{IsWay, byFacet, byPlace, onEnds}
+use Rattle.path_laws.specs.Demand.{Accepted, NoGap, Settled, placeAt}
 use Rattle.place.specs.Ends.{End, completeFor, facetEnds, facets, isComplete, stop}
 use Rattle.place.specs.Path.{answer, ended, outcome, path, pathLength, sameSimplex, spent, unknown}
 use Rattle.place.specs.Places.{Simplex, isPlace, labelSet, setT, setU}

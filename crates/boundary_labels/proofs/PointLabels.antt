@@ -16,8 +16,8 @@ use Rattle.grid.proofs.Accepted.{Accepted}
 use Rattle.grid.proofs.Points.{distinct-points, onPoints, position-in}
 use Rattle.grid.specs.Grid.{Grid, Point, at, indices, isGridPoint, numIndices, numPoints, points, position, positionIn}
 use Rattle.grid.specs.Grid.{samePoint}
-use Rattle.place.proofs.Meaning.{index-means}
-use Rattle.place.proofs.Positions.{same-at}
+use Rattle.path_laws.proofs.Meaning.{index-means}
+use Rattle.path_laws.proofs.Positions.{same-at}
 use Rattle.points_in_order.proofs.Blocks.{point-length}
 use Rattle.points_in_order.proofs.InOrder.{at-in, at-map}
 use Rattle.positions.proofs.Positions.{at-positionIn}

@@ -17,7 +17,7 @@ use Rattle.grid.proofs.Accepted.{Accepted}
 use Rattle.grid.proofs.Round.{block-fits, previous-at, previous-round, seat}
 use Rattle.grid.specs.Grid.{Grid, Point, at, division, firstIndex, indices, isGridPoint, numBlocks, numIndices}
 use Rattle.grid.specs.Grid.{previous, size}
-use Rattle.place.proofs.Meaning.{index-means}
+use Rattle.path_laws.proofs.Meaning.{index-means}
 use Rattle.points_in_order.proofs.Blocks.{block-sum}
 use Rattle.boundary_labels.specs.Boundary.{isZeroBehindPositive}
 

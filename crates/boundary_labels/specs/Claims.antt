@@ -9,9 +9,9 @@ use lib.ListN.{length, getD}
 use Rattle.combinatorics.specs.Lists.{all, isIn}
 use Rattle.end_kinds.specs.declared.Kind.{Kind}
 use Rattle.end_kinds.specs.declared.Kind.the-variants.{Place as placeEnd}
+use Rattle.path_laws.specs.Demand.{Ended, NoGap}
 use Rattle.questions.specs.Questions.{firstNo}
 use Rattle.grid.specs.Grid.{Grid, Point, at, indicesOf, isGridPoint, numBlocks, numIndices, numPoints, points, previous}
-use Rattle.place.specs.Demand.{Ended, NoGap}
 use Rattle.place.specs.Ends.{End, facetEnds, isComplete}
 use Rattle.place.specs.Path.{answer, ended, path, unknown}
 use Rattle.place.specs.Places.{Simplex, isPlace, labelSet, setU}

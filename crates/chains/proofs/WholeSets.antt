@@ -22,8 +22,8 @@ use Rattle.grid.specs.Grid.{Grid, Point, at, numBlocks, numIndices, firstIndex,
 use Rattle.grid.specs.Made.{shape, IsMade}
 use Rattle.grid.specs.declared.Grid.{Grid as GridStruct}
 use Rattle.rules.proofs.Masks.{bit-none}
-use Rattle.place.proofs.BlocksOfGrid.{coefficientOf-is}
 use Rattle.place.specs.Coefficients.{IsCoefficients}
+use Rattle.path_laws.proofs.BlocksOfGrid.{coefficientOf-is}
 use Rattle.simplices.proofs.Tests.{at-index, coefficients-by, settled}
 use Rattle.simplices.specs.Chains.{startingAt, coefficientsFrom, zeroOrOne}
 use Rattle.chains.specs.Follow.{GoesRound, HasZero, closed, Added}

@@ -28,10 +28,10 @@ use Rattle.grid.specs.Made.{IsMade, shape}
 use Rattle.grid.specs.declared.Grid.{Grid as GridStruct}
 use Rattle.rules.proofs.Masks.{bit-and, bit-none, bit-or, bit-with}
 use Rattle.rules.specs.Mask.{bit}
-use Rattle.place.proofs.Meaning.{index-means}
 use Rattle.place.specs.Ends.{isComplete, completeFor}
 use Rattle.place.specs.Places.{labelSet, setU}
 use Rattle.place.specs.Problem.{label}
+use Rattle.path_laws.proofs.Meaning.{index-means}
 use Rattle.positions.specs.Steps.{afterSteps, CanStep}
 use Rattle.simplices.specs.Simplices.{firstOf, labelledBy}
 use Rattle.chains.proofs.ListedPoints.{all-at}

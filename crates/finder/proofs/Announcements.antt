@@ -22,9 +22,9 @@ use Rattle.grid.specs.Made.{IsMade, shape}
 use Rattle.grid.specs.declared.Grid.{Grid as GridStruct}
 use Rattle.rules.specs.Read.{numbersFrom, pointIn, pointsFrom}
 use Rattle.rules.specs.Step.{Round, State}
-use Rattle.place.specs.Demand.{Accepted}
 use Rattle.place.specs.Path.{answer}
 use Rattle.place.specs.Problem.{Problem}
+use Rattle.path_laws.specs.Demand.{Accepted}
 use Rattle.marks.specs.Reading.{problemFrom}
 use Rattle.path_walk.specs.Finish.{Announced, Finished, firstOf, problemIn}
 use Rattle.finder.specs.Run.{caseOf, numbersOf}

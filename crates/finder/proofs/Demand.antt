@@ -13,11 +13,11 @@ use Rattle.end_kinds.specs.declared.Kind.{Kind}
 use Rattle.questions.specs.Questions.{firstNo}
 use Rattle.grid.specs.Grid.{bound}
 use Rattle.grid.specs.Questions.{gridQuestions}
-use Rattle.place.proofs.Filling.{filling-holds}
-use Rattle.place.proofs.Theorem.{demand3-holds}
-use Rattle.place.specs.Demand.{Accepted, Demand3, Ended, Filling}
 use Rattle.place.specs.Path.{Answer as PathAnswer, spent, ended, unknown, answer, pathLength}
 use Rattle.place.specs.Problem.{Problem, withLabels}
+use Rattle.path_laws.proofs.Filling.{filling-holds}
+use Rattle.path_laws.proofs.Theorem.{demand3-holds}
+use Rattle.path_laws.specs.Demand.{Accepted, Demand3, Ended, Filling}
 use Rattle.finder.specs.Demand.{Demand3InOnePiece, FillingInOnePiece, RunEnded, announcementOf}
 use Rattle.finder.specs.Run.{caseOf, numbersOf, refusal, runAnswer, runBuffer}
 use Rattle.finder.specs.declared.answers.Answer.{Answer}

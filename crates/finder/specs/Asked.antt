@@ -7,9 +7,9 @@ use Rattle.grid.specs.Grid.{dimension, numIndices}
 use Rattle.grid.specs.Made.{shape}
 use Rattle.grid.specs.Questions.{question5}
 use Rattle.grid.specs.declared.Grid.{Grid as GridStruct}
-use Rattle.place.specs.Demand.{Accepted}
 use Rattle.place.specs.Problem.{Problem}
 use Rattle.place.specs.Questions.{question6, question7, question8}
+use Rattle.path_laws.specs.Demand.{Accepted}
 use Rattle.marks.specs.Reading.{problemFrom, Readable}
 
 -- questions 5 to 8, which a run asks on an accepted grid

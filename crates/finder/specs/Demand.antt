@@ -9,7 +9,7 @@ use Rattle.combinatorics.specs.Front.{front}
 use Rattle.combinatorics.specs.Lists.{concatMap}
 use Rattle.end_kinds.specs.declared.Kind.{Kind}
 use Rattle.grid.specs.Grid.{Point, bound, position}
-use Rattle.place.specs.Demand.{Demand3, Ended, Fills, NoGap, lastPlace}
+use Rattle.path_laws.specs.Demand.{Demand3, Ended, Fills, NoGap, lastPlace}
 use Rattle.place.specs.Ends.{End as EndOfPath}
 use Rattle.place.specs.LabelsRead.{labelsRead}
 use Rattle.place.specs.Path.{path as pathOf, pathLength}

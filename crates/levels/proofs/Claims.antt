@@ -18,12 +18,12 @@ use Rattle.grid.proofs.Accepted.{accepted}
 use Rattle.combinatorics.proofs.Terms.{terms-few}
 use Rattle.grid.specs.Grid.{bound, dimension, isGridPoint, numIndices}
 use Rattle.grid.specs.Questions.{gridQuestions, question5}
-use Rattle.place.proofs.Accepted.{accepted-is}
-use Rattle.place.proofs.Filled.{FullyLabelled, full-accepted}
-use Rattle.place.proofs.Theorem.{demand3-holds}
 use Rattle.place.specs.Path.{Answer, spent, ended, unknown, pathLength}
 use Rattle.place.specs.Problem.{Problem}
 use Rattle.place.specs.Questions.{question8 as runQuestion8, tableQuestions}
+use Rattle.path_laws.proofs.Accepted.{accepted-is}
+use Rattle.path_laws.proofs.Filled.{FullyLabelled, full-accepted}
+use Rattle.path_laws.proofs.Theorem.{demand3-holds}
 use Rattle.questions.proofs.Answers.{asked-next, both-yes, first-yes}
 use Rattle.questions.specs.Questions.{firstNo}
 use Rattle.levels.specs.Claims.{EveryRefinement, Level}

@@ -16,13 +16,13 @@ use Rattle.grid.proofs.Accepted.{accepted, blocks-few}
 use Rattle.grid.specs.Grid.{Grid, Point, at, blocks, division, indicesOf, isGridPoint, numIndices}
 use Rattle.grid.specs.Questions.{gridQuestions}
 use Rattle.losses.specs.Game.{labels}
-use Rattle.place.proofs.EndPoints.{IsSimplex, end-simplex}
-use Rattle.place.proofs.Filled.{FullyLabelled, full-accepted, full-place}
-use Rattle.place.proofs.Theorem.{demand3-holds}
-use Rattle.place.specs.Demand.{Ended, NoGap, placeAt}
 use Rattle.place.specs.Path.{path}
 use Rattle.place.specs.Places.{Simplex}
 use Rattle.place.specs.Problem.{Problem}
+use Rattle.path_laws.proofs.EndPoints.{IsSimplex, end-simplex}
+use Rattle.path_laws.proofs.Filled.{FullyLabelled, full-accepted, full-place}
+use Rattle.path_laws.proofs.Theorem.{demand3-holds}
+use Rattle.path_laws.specs.Demand.{Ended, NoGap, placeAt}
 use Rattle.questions.specs.Questions.{firstNo}
 use Rattle.levels.specs.Levels.{Refinement, endOf, finer, firstVertex, gameProblem, levelGrid, levelProblem}
 use Rattle.levels.specs.Levels.{levelStart, times, verticesOf}

@@ -18,9 +18,9 @@ use Rattle.grid.proofs.Accepted.{accepted}
 use Rattle.grid.proofs.CoordinatesBelow.{coordinate-below}
 use Rattle.grid.specs.Grid.{Grid, isGridPoint, numIndices}
 use Rattle.grid.specs.Questions.{gridQuestions}
-use Rattle.place.proofs.Filled.{FullyLabelled}
 use Rattle.place.specs.Places.{Simplex}
 use Rattle.place.specs.Problem.{Problem}
+use Rattle.path_laws.proofs.Filled.{FullyLabelled}
 use Rattle.questions.specs.Questions.{firstNo}
 use Rattle.levels.specs.Buffers.{levelNumbers, numbersAfter}
 use Rattle.levels.specs.Levels.{Refinement, endOf, firstVertex, levelGrid, levelProblem, levelStart, times}

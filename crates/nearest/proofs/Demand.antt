@@ -11,10 +11,10 @@ use Rattle.combinatorics.specs.Front.{front}
 use Rattle.questions.specs.Questions.{firstNo}
 use Rattle.grid.specs.Grid.{Point, isGridPoint}
 use Rattle.grid.specs.Questions.{gridQuestions}
-use Rattle.place.proofs.Theorem.{demand3-holds}
-use Rattle.place.specs.Demand.{Accepted}
 use Rattle.place.specs.Path.{answer, spent, unknown}
 use Rattle.place.specs.Problem.{Problem}
+use Rattle.path_laws.proofs.Theorem.{demand3-holds}
+use Rattle.path_laws.specs.Demand.{Accepted}
 use Rattle.finder.proofs.Refusals.{accepted-with-room, answered as run-answered, by-later}
 use Rattle.finder.specs.Asked.{laterQuestions}
 use Rattle.finder.specs.Run.{caseOf, numbersOf, runAnswer, runBuffer}

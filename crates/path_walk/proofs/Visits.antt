@@ -25,16 +25,16 @@ use Rattle.grid.specs.Grid.{Point, at, blockOf, numIndices, position, samePoint
 use Rattle.grid.specs.Made.{IsMade, shape}
 use Rattle.grid.specs.declared.Grid.{Grid as GridStruct}
 use Rattle.positions.proofs.Positions.{map-front}
-use Rattle.place.proofs.Filled.{FullyLabelled, ends-alike, filled-full, filled-label, filledTable, further-on}
-use Rattle.place.proofs.Filled.{gap-answer, known-before}
-use Rattle.place.proofs.LabelsRead.{came-few, came-next, came-none}
-use Rattle.place.proofs.Labels.{label-ok}
-use Rattle.place.proofs.Theorem.{demand3-holds}
-use Rattle.place.specs.Demand.{Accepted, placeAt}
 use Rattle.place.specs.LabelsRead.{cameIn}
 use Rattle.place.specs.Path.{answer, path, pathLength, spent, unknown}
 use Rattle.place.specs.Places.{allLabelled}
 use Rattle.place.specs.Problem.{Problem, hasLabel, label}
+use Rattle.path_laws.proofs.Filled.{FullyLabelled, ends-alike, filled-full, filled-label, filledTable, further-on}
+use Rattle.path_laws.proofs.Filled.{gap-answer, known-before}
+use Rattle.path_laws.proofs.LabelsRead.{came-few, came-next, came-none}
+use Rattle.path_laws.proofs.Labels.{label-ok}
+use Rattle.path_laws.proofs.Theorem.{demand3-holds}
+use Rattle.path_laws.specs.Demand.{Accepted, placeAt}
 use Rattle.rules.proofs.Follow.{At, EndsAt, NextAt, nextPlace, placeEnds, facetEnds, at-begin, at-below, at-beside}
 use Rattle.rules.proofs.Follow.{at-exchanged, at-first, at-new, at-next, at-others, at-place, at-reads, at-ready}
 use Rattle.rules.proofs.Follow.{ends-answer}

@@ -11,7 +11,7 @@ use Rattle.end_kinds.specs.declared.Kind.the-variants.{Facet as facetEnd, Place
 use Rattle.grid.specs.Grid.{at, blockOf, dimension, numIndices, position}
 use Rattle.grid.specs.Made.{shape}
 use Rattle.grid.specs.declared.Grid.{Grid as GridStruct}
-use Rattle.place.specs.Demand.{Accepted}
+use Rattle.path_laws.specs.Demand.{Accepted}
 use Rattle.place.specs.Path.{answer, ended, spent, unknown}
 use Rattle.place.specs.Problem.{Problem, label}
 use Rattle.moves.specs.Held.{stateOf}

@@ -1,5 +1,5 @@
--- The nine marked ends, and the three rows with a label not yet known, hold of the definitions: each row's table is
--- accepted and has the answer that stands there. Assumes nothing.
+-- The nine marked ends, the three rows with a label not yet known, the label that is refused and the longer path hold of
+-- the definitions: a run on each row's table gives what stands there. Assumes nothing.
 use mathlib.Core.List.{map}
 use mathlib.Core.Path.{_≡_, refl}
 use Rattle.grid.specs.Grid.{next, previous, isGridPoint, points, bound}
@@ -14,7 +14,7 @@ use Rattle.place.specs.Places.{isUnlabelledPlace, isPlace, places}
 use Rattle.place.specs.Problem.{label}
 use Rattle.place.specs.Worked.{given, table}
 
-worked : map given table ≡ map (λ r. (0, r .result)) table
+worked : map given table ≡ map (λ r. r .result) table
 unfolding next previous isGridPoint points label coefficients setU setT labelSet firstBackOutside goesTo grownAt
     everyBlockFree isUnlabelledPlace isPlace places exchanged extended linked links isComplete completeFor placeEnds
     facetEnds ends ways waysOn bound path answer cameIn labelsRead firstNo

@@ -7,5 +7,3 @@ pub mod Ends
 pub mod LabelsRead
 pub mod Path
 pub mod Worked
-pub mod Demand
-pub mod Backwards

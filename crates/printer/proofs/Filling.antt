@@ -17,11 +17,11 @@ use Rattle.grid.specs.Grid.{Grid, Point, dimension, numIndices, numPoints, boun
 use Rattle.grid.specs.Questions.{gridQuestions, question5}
 use Rattle.questions.proofs.Answers.{asked-next, both-yes, first-yes}
 use Rattle.questions.specs.Questions.{ask, firstNo}
-use Rattle.place.proofs.Filling.{filling-holds}
-use Rattle.place.specs.Demand.{Accepted, Filling}
 use Rattle.place.specs.Path.{answer}
 use Rattle.place.specs.Problem.{Problem, withLabels}
 use Rattle.place.specs.Questions.{question7}
+use Rattle.path_laws.proofs.Filling.{filling-holds}
+use Rattle.path_laws.specs.Demand.{Accepted, Filling}
 use Rattle.slip.proofs.Laws.{exact, at-first, at-next, length-there, labels-only, labels-last}
 use Rattle.slip.proofs.Runs.{answers, whole, refused-as-read, then-runs}
 use Rattle.slip.specs.Reading.{readingOf}

@@ -15,6 +15,9 @@ use Rattle.combinatorics.proofs.Fronts.{front-length}
 use Rattle.combinatorics.specs.Front.{front}
 use Rattle.combinatorics.specs.Lists.{all, concatMap}
 use Rattle.end_kinds.specs.declared.Kind.{Kind}
+use Rattle.path_laws.proofs.EndPoints.{IsSimplex, end-simplex}
+use Rattle.path_laws.proofs.Theorem.{demand3-holds, gapless}
+use Rattle.path_laws.specs.Demand.{Accepted, Stop, atGap, lastPlace}
 use Rattle.questions.specs.Questions.{firstNo}
 use Rattle.finder.proofs.Refusals.{by-grid, by-later, accepted-with-room, answered as run-answered}
 use Rattle.finder.proofs.Refusals.{refused as run-refused}
@@ -23,9 +26,6 @@ use Rattle.finder.specs.declared.answers.Answer.{Answer}
 use Rattle.finder.specs.declared.answers.Answer.the-variants.{Refused, Spent, Unknown, End}
 use Rattle.grid.specs.Grid.{Grid, Point, dimension, numIndices, isGridPoint}
 use Rattle.grid.specs.Questions.{gridQuestions}
-use Rattle.place.proofs.EndPoints.{IsSimplex, end-simplex}
-use Rattle.place.proofs.Theorem.{demand3-holds, gapless}
-use Rattle.place.specs.Demand.{Accepted, Stop, atGap, lastPlace}
 use Rattle.place.specs.Ends.{End as EndOfPath}
 use Rattle.place.specs.Path.{answer, path, pathLength, ended}
 use Rattle.place.specs.Problem.{Problem}

@@ -5,11 +5,11 @@ use mathlib.Core.List.{List, _++_}
 use mathlib.Core.Path.{_≡_}
 use Prim.Native.Nat.{ℕ}
 use lib.ListN.{length, getD}
-use Rattle.place.specs.Demand.{Fills}
 use Rattle.place.specs.Ends.{End}
 use Rattle.place.specs.Path.{answer, announcement, unknown}
 use Rattle.place.specs.Problem.{withLabels}
 use Rattle.place.specs.Questions.{question7}
+use Rattle.path_laws.specs.Demand.{Fills}
 use Rattle.slip.specs.Slip.{stands, fieldAt, slipProblem, slipBudget, slipRefusal}
 use Rattle.printer.specs.Printed.{sheetOf}
 

@@ -19,11 +19,11 @@ use Rattle.grid.proofs.Round.{block-at, block-fits}
 use Rattle.grid.specs.Grid.{at, blockOf, firstIndex, isGridPoint, next, numIndices, size}
 use Rattle.grid.specs.Made.{IsMade, shape}
 use Rattle.grid.specs.declared.Grid.{Grid as GridStruct}
-use Rattle.place.proofs.BlocksOfGrid.{coefficientOf-is}
-use Rattle.place.proofs.Coefficients.{coefficients-at-most}
 use Rattle.place.specs.Coefficients.{IsCoefficients, coefficients}
-use Rattle.place.specs.Demand.{Settled}
 use Rattle.place.specs.Problem.{Problem}
+use Rattle.path_laws.proofs.BlocksOfGrid.{coefficientOf-is}
+use Rattle.path_laws.proofs.Coefficients.{coefficients-at-most}
+use Rattle.path_laws.specs.Demand.{Settled}
 use Rattle.recogniser.proofs.Blocks.{next-sum}
 use Rattle.recogniser.specs.Pieces.{InBlock, PutIn, nextIn, startedOn}
 

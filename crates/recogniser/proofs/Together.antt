@@ -20,13 +20,13 @@ use Rattle.grid.proofs.Round.{block-at, block-fits, block-spans}
 use Rattle.grid.specs.Grid.{Point, at, blockOf, firstIndex, isGridPoint, numIndices, size}
 use Rattle.grid.specs.Made.{IsMade, shape}
 use Rattle.grid.specs.declared.Grid.{Grid as GridStruct}
-use Rattle.place.proofs.BlocksOfGrid.{back-below, before-same, blocksOf, outside-before}
-use Rattle.place.proofs.Filled.{FullyLabelled}
-use Rattle.place.proofs.Meaning.{free-means}
-use Rattle.place.proofs.Positions.{at-distinct, at-in, in-at, same-at}
 use Rattle.place.specs.Coefficients.{coefficients}
 use Rattle.place.specs.Places.{firstBackOutside}
 use Rattle.place.specs.Problem.{Problem, withLabels}
+use Rattle.path_laws.proofs.BlocksOfGrid.{back-below, before-same, blocksOf, outside-before}
+use Rattle.path_laws.proofs.Filled.{FullyLabelled}
+use Rattle.path_laws.proofs.Meaning.{free-means}
+use Rattle.path_laws.proofs.Positions.{at-distinct, at-in, in-at, same-at}
 use Rattle.rules.proofs.Walks.{back-outside, block-same}
 use Rattle.rules.specs.Mask.{bit}
 use Rattle.rules.specs.Ready.{IsRound}

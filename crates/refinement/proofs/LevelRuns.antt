@@ -22,9 +22,9 @@ use Rattle.levels.proofs.Starts.{game-full}
 use Rattle.levels.specs.Levels.{endOf, gameProblem}
 use Rattle.losses.specs.Game.{labels}
 use Rattle.marks.specs.Reading.{problemFrom}
-use Rattle.place.proofs.Filled.{full-accepted}
 use Rattle.place.specs.Path.{answer}
 use Rattle.place.specs.Problem.{Problem}
+use Rattle.path_laws.proofs.Filled.{full-accepted}
 use Rattle.positions.specs.Binomials.{HasBinomials}
 use Rattle.refinement.specs.Answer.{levelOf, noLevel}
 use Rattle.refinement.specs.Runs.{CanRun, numbersIn}

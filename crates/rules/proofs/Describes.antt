@@ -10,9 +10,9 @@ use Rattle.grid.specs.Grid.{at, numIndices, isGridPoint, position}
 use Rattle.geometry.proofs.Definitions.{coord, zeros, Carries, Extra}
 use Rattle.geometry.proofs.Graph.{Through, Above}
 use Rattle.geometry.proofs.LabelledChains.{listAt, LabelledChain, Link, FacetEnd, PlaceEnd}
-use Rattle.place.proofs.BlocksOfGrid.{blocksOf, pointOf}
-use Rattle.place.proofs.ToChain.{labelOf}
 use Rattle.place.specs.Problem.{Problem}
+use Rattle.path_laws.proofs.BlocksOfGrid.{blocksOf, pointOf}
+use Rattle.path_laws.proofs.ToChain.{labelOf}
 use Rattle.rules.specs.Mask.{bit}
 use Rattle.rules.specs.Read.{arrayOf, pointGone, sourceAt, positionAt}
 use Rattle.rules.specs.Ready.{IsRound}

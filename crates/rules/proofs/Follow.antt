@@ -23,25 +23,25 @@ use Rattle.geometry.proofs.Points.{nth}
 use Rattle.geometry.proofs.LabelledChains.{listAt, LabelledChain, FacetEnd, PlaceEnd}
 use Rattle.grid.proofs.Points.{onPoints}
 use Rattle.grid.specs.Grid.{at, numBlocks, numIndices, dimension, blockOf, isGridPoint, position, samePoint}
+use Rattle.path_laws.proofs.BlocksOfGrid.{blocksOf, back-below, pointOf, coefficientOf, coord-in, coord-out}
+use Rattle.path_laws.proofs.BlocksOfGrid.{coefficientOf-is}
+use Rattle.path_laws.proofs.Bound.{order-short}
+use Rattle.path_laws.proofs.ChainEnds.{complete-of, complete-below, end-below, end-complete, end-labels}
+use Rattle.path_laws.proofs.ChainLinks.{of-link}
+use Rattle.path_laws.proofs.Filled.{FullyLabelled, full-accepted, full-place}
+use Rattle.path_laws.proofs.FromChain.{back-again, place-of, long, pointsOf-grid, T-is, in-U}
+use Rattle.path_laws.proofs.LabelsRead.{link-brings}
+use Rattle.path_laws.proofs.LinkSymmetry.{parts}
+use Rattle.path_laws.proofs.Positions.{at-in}
+use Rattle.path_laws.proofs.Run.{below-length, not-start, ends-path, goes-on}
+use Rattle.path_laws.proofs.Start.{start-place}
+use Rattle.path_laws.proofs.Theorem.{demand3-holds, run-follows, zeroes, single, block-of, in-facets}
+use Rattle.path_laws.proofs.ToChain.{inT, coefficientsOf, pointsOf, labelOf, place-long, labelledChain-of}
+use Rattle.path_laws.proofs.ToChain.{pointsOf-coefficientsOf}
+use Rattle.path_laws.proofs.Ways.{IsWay, byPlace, byFacet}
+use Rattle.path_laws.specs.Demand.{Follows, placeAt, leftAt}
 use Rattle.positions.specs.Falls.{tailFrom}
-use Rattle.place.proofs.BlocksOfGrid.{blocksOf, back-below, pointOf, coefficientOf, coord-in, coord-out}
-use Rattle.place.proofs.BlocksOfGrid.{coefficientOf-is}
-use Rattle.place.proofs.Bound.{order-short}
-use Rattle.place.proofs.ChainEnds.{complete-of, complete-below, end-below, end-complete, end-labels}
-use Rattle.place.proofs.ChainLinks.{of-link}
-use Rattle.place.proofs.FromChain.{back-again, place-of, long, pointsOf-grid, T-is, in-U}
-use Rattle.place.proofs.LabelsRead.{link-brings}
-use Rattle.place.proofs.LinkSymmetry.{parts}
-use Rattle.place.proofs.Positions.{at-in}
-use Rattle.place.proofs.Run.{below-length, not-start, ends-path, goes-on}
-use Rattle.place.proofs.Start.{start-place}
-use Rattle.place.proofs.Theorem.{demand3-holds, run-follows, zeroes, single, block-of, in-facets}
-use Rattle.place.proofs.ToChain.{inT, coefficientsOf, pointsOf, labelOf, place-long, labelledChain-of}
-use Rattle.place.proofs.ToChain.{pointsOf-coefficientsOf}
-use Rattle.place.proofs.Ways.{IsWay, byPlace, byFacet}
 use Rattle.place.specs.Coefficients.{IsCoefficients, coefficients}
-use Rattle.place.specs.Demand.{Follows, placeAt, leftAt}
-use Rattle.place.proofs.Filled.{FullyLabelled, full-accepted, full-place}
 use Rattle.place.specs.Ends.{stop}
 use Rattle.place.specs.LabelsRead.{cameIn, labelsRead, pointCameIn}
 use Rattle.place.specs.Links.{linked}

@@ -22,10 +22,10 @@ use Rattle.geometry.proofs.LabelledChains.{listAt, tabulate, PlaceEnd}
 use Rattle.geometry.proofs.Moves.{rises-here, never-rises}
 use Rattle.geometry.proofs.Onward.{Enlarged, up-link, listAt-tabulate}
 use Rattle.grid.specs.Grid.{at, numIndices}
-use Rattle.place.proofs.BlocksOfGrid.{blocksOf}
-use Rattle.place.proofs.ToChain.{labelOf}
-use Rattle.place.proofs.Filled.{FullyLabelled}
 use Rattle.place.specs.Problem.{Problem}
+use Rattle.path_laws.proofs.BlocksOfGrid.{blocksOf}
+use Rattle.path_laws.proofs.ToChain.{labelOf}
+use Rattle.path_laws.proofs.Filled.{FullyLabelled}
 use Rattle.rules.specs.Mask.{bit, withIndex, withoutIndex}
 use Rattle.rules.specs.Ready.{IsRound, ReadyGrow}
 use Rattle.rules.specs.Step.{State, goes, endsAtPlace, firstOutside, isFilled, joined, grow}

@@ -21,10 +21,10 @@ use Rattle.geometry.proofs.Moves.{next-run, next-else}
 use Rattle.geometry.proofs.Onward.{Beyond, next-link, fill-end, listAt-tabulate}
 use Rattle.geometry.proofs.Ways.{first-or, first-p, first-o, first-later, first-rotate, first-beside}
 use Rattle.grid.specs.Grid.{at, numIndices}
-use Rattle.place.proofs.BlocksOfGrid.{blocksOf, back-below}
-use Rattle.place.proofs.ToChain.{labelOf}
-use Rattle.place.proofs.Filled.{FullyLabelled}
 use Rattle.place.specs.Problem.{Problem}
+use Rattle.path_laws.proofs.BlocksOfGrid.{blocksOf, back-below}
+use Rattle.path_laws.proofs.ToChain.{labelOf}
+use Rattle.path_laws.proofs.Filled.{FullyLabelled}
 use Rattle.rules.specs.Mask.{bit, withIndex}
 use Rattle.rules.specs.Ready.{IsRound, ReadyFirst}
 use Rattle.rules.specs.Step.{State, goes, endsAtFacet, sourceIn, isFilled, shifted, changedBefore, leaveFirst}

@@ -20,10 +20,10 @@ use Rattle.geometry.proofs.Onward.{Beyond, next-link, listAt-tabulate}
 use Rattle.geometry.proofs.Ways.{last-z, last-p, last-o, last-first, last-later, last-rotate, last-beside}
 use Rattle.geometry.proofs.Ways.{last-tight-at, dropped}
 use Rattle.grid.specs.Grid.{at, numIndices}
-use Rattle.place.proofs.BlocksOfGrid.{blocksOf, back-below}
-use Rattle.place.proofs.ToChain.{labelOf}
-use Rattle.place.proofs.Filled.{FullyLabelled}
 use Rattle.place.specs.Problem.{Problem}
+use Rattle.path_laws.proofs.BlocksOfGrid.{blocksOf, back-below}
+use Rattle.path_laws.proofs.ToChain.{labelOf}
+use Rattle.path_laws.proofs.Filled.{FullyLabelled}
 use Rattle.rules.specs.Mask.{bit, withoutIndex}
 use Rattle.rules.specs.Ready.{IsRound, ReadyLast}
 use Rattle.rules.specs.Step.{State, goes, shrink, shifted, firstOutsideOrZero, changedBefore, leave, leaveLast}

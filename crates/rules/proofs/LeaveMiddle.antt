@@ -18,10 +18,10 @@ use Rattle.geometry.proofs.Moves.{inner-if-positive, inner-if-zero, inner-stuck
 use Rattle.geometry.proofs.Onward.{Beyond, next-link, listAt-tabulate}
 use Rattle.geometry.proofs.Ways.{inner-p, inner-o, inner-same, inner-swap, inner-beside, inner-tight-at, dropped}
 use Rattle.grid.specs.Grid.{at, numIndices, position}
-use Rattle.place.proofs.BlocksOfGrid.{blocksOf, back-below}
-use Rattle.place.proofs.ToChain.{labelOf}
-use Rattle.place.proofs.Filled.{FullyLabelled}
 use Rattle.place.specs.Problem.{Problem}
+use Rattle.path_laws.proofs.BlocksOfGrid.{blocksOf, back-below}
+use Rattle.path_laws.proofs.ToChain.{labelOf}
+use Rattle.path_laws.proofs.Filled.{FullyLabelled}
 use Rattle.rules.specs.Read.{pointAfter, pointGone, pointIn}
 use Rattle.rules.specs.Step.{State, goes, markPosition, sourceIn, shrink, leave, leaveMiddle}
 use Rattle.rules.proofs.Describes.{Describes, Crossed, markAt, AllMarks, labelsOf, through, GoesOn, Left, leftOn}

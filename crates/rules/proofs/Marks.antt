@@ -8,10 +8,10 @@ use native.Mathlib.Omega.{arith}
 use Rattle.geometry.proofs.LabelledChains.{listAt, LabelledChain}
 use Rattle.geometry.proofs.Points.{nth}
 use Rattle.grid.specs.Grid.{at, position}
-use Rattle.place.proofs.BlocksOfGrid.{blocksOf, pointOf}
-use Rattle.place.proofs.ToChain.{pointsOf, labelOf}
-use Rattle.place.proofs.Filled.{FullyLabelled}
 use Rattle.place.specs.Problem.{Problem}
+use Rattle.path_laws.proofs.BlocksOfGrid.{blocksOf, pointOf}
+use Rattle.path_laws.proofs.ToChain.{pointsOf, labelOf}
+use Rattle.path_laws.proofs.Filled.{FullyLabelled}
 use Rattle.rules.specs.Read.{markOf}
 use Rattle.rules.specs.Ready.{IndicesBelow}
 use Rattle.rules.specs.Step.{mark, markLabel, markPosition}

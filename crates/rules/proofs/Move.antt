@@ -19,10 +19,10 @@ use Rattle.geometry.proofs.Graph.{Through, Above}
 use Rattle.geometry.proofs.LabelledChains.{listAt, LabelledChain, FacetEnd, PlaceEnd}
 use Rattle.geometry.proofs.Onward.{through-determines, through-not-above, start-extra}
 use Rattle.grid.specs.Grid.{at}
-use Rattle.place.proofs.BlocksOfGrid.{blocksOf}
-use Rattle.place.proofs.ToChain.{labelOf}
-use Rattle.place.proofs.Filled.{FullyLabelled}
 use Rattle.place.specs.Problem.{Problem}
+use Rattle.path_laws.proofs.BlocksOfGrid.{blocksOf}
+use Rattle.path_laws.proofs.ToChain.{labelOf}
+use Rattle.path_laws.proofs.Filled.{FullyLabelled}
 use Rattle.rules.specs.Mask.{bit}
 use Rattle.rules.specs.Read.{markOf, read}
 use Rattle.rules.specs.Ready.{labelIn, Ready, ReadyLeave, ReadyGrow}

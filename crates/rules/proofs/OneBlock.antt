@@ -19,10 +19,10 @@ use Rattle.geometry.proofs.Moves.{next-else}
 use Rattle.grid.proofs.Accepted.{Accepted as GridAccepted}
 use Rattle.grid.proofs.Round.{next-at, next-round}
 use Rattle.grid.specs.Grid.{Point, at, numBlocks, numIndices, firstIndex, isGridPoint, position}
-use Rattle.place.proofs.BlocksOfGrid.{blocksOf, next-agrees, start-inside}
-use Rattle.place.specs.Demand.{Settled}
-use Rattle.place.proofs.Filled.{FullyLabelled}
 use Rattle.place.specs.Problem.{Problem}
+use Rattle.path_laws.proofs.BlocksOfGrid.{blocksOf, next-agrees, start-inside}
+use Rattle.path_laws.specs.Demand.{Settled}
+use Rattle.path_laws.proofs.Filled.{FullyLabelled}
 use Rattle.positions.proofs.ByTails.{all-indices, position-tells, tails-order}
 use Rattle.positions.specs.Falls.{tailFrom, Falls}
 use Rattle.rules.proofs.Describes.{Describes}

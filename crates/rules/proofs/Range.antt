@@ -10,13 +10,13 @@ use Rattle.geometry.proofs.LabelledChains.{listAt, LabelledChain}
 use Rattle.geometry.proofs.Points.{nth}
 use Rattle.grid.proofs.CoordinatesBelow.{coordinate-below, division-below}
 use Rattle.grid.specs.Grid.{Point, numIndices, isGridPoint}
-use Rattle.place.proofs.BlocksOfGrid.{blocksOf, pointOf}
-use Rattle.place.proofs.Bound.{order-short}
-use Rattle.place.proofs.Coefficients.{coefficients-at-most}
-use Rattle.place.proofs.FromChain.{T-range, coefficient-at, coord-as, long, place-of, pointsOf-grid}
-use Rattle.place.proofs.ToChain.{pointsOf, labelOf, indexOf, index-is, grid-at, place-long}
-use Rattle.place.proofs.Filled.{FullyLabelled, full-label}
 use Rattle.place.specs.Problem.{Problem, label}
+use Rattle.path_laws.proofs.BlocksOfGrid.{blocksOf, pointOf}
+use Rattle.path_laws.proofs.Bound.{order-short}
+use Rattle.path_laws.proofs.Coefficients.{coefficients-at-most}
+use Rattle.path_laws.proofs.FromChain.{T-range, coefficient-at, coord-as, long, place-of, pointsOf-grid}
+use Rattle.path_laws.proofs.ToChain.{pointsOf, labelOf, indexOf, index-is, grid-at, place-long}
+use Rattle.path_laws.proofs.Filled.{FullyLabelled, full-label}
 use Rattle.rules.proofs.Describes.{labelsOf}
 
 pub nth-pointsOf : (p : Problem) (x : List (ℕ → ℕ)) (j : ℕ) → j < length x

@@ -18,10 +18,10 @@ use Rattle.geometry.proofs.LabelledChains.{listAt, tabulate}
 use Rattle.geometry.proofs.Onward.{Beneath, drop-link, listAt-tabulate}
 use Rattle.geometry.proofs.Ways.{omit-is}
 use Rattle.grid.specs.Grid.{at}
-use Rattle.place.proofs.BlocksOfGrid.{blocksOf}
-use Rattle.place.proofs.ToChain.{labelOf}
-use Rattle.place.proofs.Filled.{FullyLabelled}
 use Rattle.place.specs.Problem.{Problem}
+use Rattle.path_laws.proofs.BlocksOfGrid.{blocksOf}
+use Rattle.path_laws.proofs.ToChain.{labelOf}
+use Rattle.path_laws.proofs.Filled.{FullyLabelled}
 use Rattle.rules.specs.Mask.{bit, withIndex, withoutIndex}
 use Rattle.rules.specs.Step.{State, markLabel, shrink}
 use Rattle.rules.proofs.Describes.{Describes, markAt, AllMarks, labelsOf, Came, fromLarger, GoesOn}

@@ -18,12 +18,12 @@ use Rattle.geometry.proofs.LabelledChains.{listAt}
 use Rattle.geometry.proofs.Moves.{next-moved}
 use Rattle.geometry.proofs.Points.{nth}
 use Rattle.grid.specs.Grid.{Grid, Point, at, numIndices, isGridPoint, MovedBy}
-use Rattle.place.proofs.BlocksOfGrid.{blocksOf, back-below}
-use Rattle.place.proofs.FromChain.{coord-as, long}
-use Rattle.place.proofs.ToChain.{pointsOf}
-use Rattle.place.proofs.Filled.{FullyLabelled}
 use Rattle.place.specs.Places.{Simplex}
 use Rattle.place.specs.Problem.{Problem}
+use Rattle.path_laws.proofs.BlocksOfGrid.{blocksOf, back-below}
+use Rattle.path_laws.proofs.FromChain.{coord-as, long}
+use Rattle.path_laws.proofs.ToChain.{pointsOf}
+use Rattle.path_laws.proofs.Filled.{FullyLabelled}
 use Rattle.rules.proofs.Describes.{Describes}
 use Rattle.rules.proofs.Range.{index-below, few, point-on, coord-below}
 use Rattle.rules.proofs.Shifted.{length-shifted, shifted-at, shifted-moved}

@@ -19,10 +19,10 @@ use Rattle.geometry.proofs.Search.{find}
 use Rattle.geometry.proofs.Tight.{block-next}
 use Rattle.grid.proofs.Round.{block-fits, seat, block-at}
 use Rattle.grid.specs.Grid.{at, numIndices, size, blockOf}
-use Rattle.place.proofs.BlocksOfGrid.{blocksOf, back-shift, back-below, block-agrees, block-own, near-block}
-use Rattle.place.proofs.BlocksOfGrid.{next-agrees, previous-agrees}
-use Rattle.place.proofs.Filled.{FullyLabelled}
 use Rattle.place.specs.Problem.{Problem}
+use Rattle.path_laws.proofs.BlocksOfGrid.{blocksOf, back-shift, back-below, block-agrees, block-own, near-block}
+use Rattle.path_laws.proofs.BlocksOfGrid.{next-agrees, previous-agrees}
+use Rattle.path_laws.proofs.Filled.{FullyLabelled}
 use Rattle.rules.specs.Mask.{bit}
 use Rattle.rules.specs.Ready.{IsRound, testedBefore}
 use Rattle.rules.specs.Step.{Round, State, sourceIn, firstMet, firstOutside, source, firstOutsideOrZero, isFilled}

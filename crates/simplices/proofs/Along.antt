@@ -23,11 +23,11 @@ use Rattle.grid.proofs.Round.{next-previous}
 use Rattle.grid.specs.Grid.{Grid, Point, at, numBlocks, numIndices, firstIndex, size, blocks, indices, indicesOf, next}
 use Rattle.grid.specs.Grid.{previous}
 use Rattle.grid.specs.Grid.{isGridPoint, samePoint}
-use Rattle.place.proofs.BlocksOfGrid.{blocksOf, next-agrees, previous-agrees}
-use Rattle.place.proofs.IndexSets.{goes-at}
-use Rattle.place.proofs.Meaning.{index-means}
-use Rattle.place.proofs.Positions.{at-in, in-at, never, occurs-once}
 use Rattle.place.specs.Places.{within, unit}
+use Rattle.path_laws.proofs.BlocksOfGrid.{blocksOf, next-agrees, previous-agrees}
+use Rattle.path_laws.proofs.IndexSets.{goes-at}
+use Rattle.path_laws.proofs.Meaning.{index-means}
+use Rattle.path_laws.proofs.Positions.{at-in, in-at, never, occurs-once}
 use Rattle.simplices.proofs.Tests.{Below, Nested, coefficients-by, nested-by}
 use Rattle.simplices.specs.Chains.{startingAt, coefficientsFrom}
 use Rattle.simplices.specs.Simplices.{stepped, isOrder, eachStepped, isSimplex}

@@ -21,18 +21,18 @@ use Rattle.combinatorics.specs.Lists.{filter, all, isIn, distinct}
 use Rattle.grid.proofs.Accepted.{Accepted}
 use Rattle.grid.proofs.Points.{onPoints}
 use Rattle.grid.specs.Grid.{Grid, Point, numBlocks, dimension, blocks, isGridPoint, samePoint, bound}
-use Rattle.place.proofs.Facets.{oneLess-at}
-use Rattle.place.proofs.LinkSymmetry.{place-distinct}
-use Rattle.place.proofs.Meaning.{U-means, labels-mean, complete-means}
-use Rattle.place.proofs.PathSteps.{trail, all-places, finish}
-use Rattle.place.proofs.Start.{start-place}
-use Rattle.place.proofs.ToChain.{place-long}
-use Rattle.place.proofs.Ways.{IsWay, byPlace, byFacet, end-is, onEnds}
-use Rattle.place.specs.Demand.{Settled, SamePoints, placeAt}
 use Rattle.place.specs.Ends.{End, stop, isComplete, completeFor}
 use Rattle.place.specs.Path.{path, pathLength}
 use Rattle.place.specs.Places.{Simplex, isPlace, isUnlabelledPlace, setU, labelSet}
 use Rattle.place.specs.Problem.{Problem, label}
+use Rattle.path_laws.proofs.Facets.{oneLess-at}
+use Rattle.path_laws.proofs.LinkSymmetry.{place-distinct}
+use Rattle.path_laws.proofs.Meaning.{U-means, labels-mean, complete-means}
+use Rattle.path_laws.proofs.PathSteps.{trail, all-places, finish}
+use Rattle.path_laws.proofs.Start.{start-place}
+use Rattle.path_laws.proofs.ToChain.{place-long}
+use Rattle.path_laws.proofs.Ways.{IsWay, byPlace, byFacet, end-is, onEnds}
+use Rattle.path_laws.specs.Demand.{Settled, SamePoints, placeAt}
 use Rattle.simplices.proofs.Ends.{end-only}
 use Rattle.simplices.proofs.Places.{accepted-grid, place-in-simplex, unlabelled-in-simplex}
 use Rattle.simplices.proofs.Search.{search-finds, few-in-simplex}

@@ -20,18 +20,18 @@ use Rattle.geometry.proofs.Points.{nth}
 use Rattle.grid.proofs.Points.{onPoints}
 use Rattle.grid.proofs.Round.{block-fits}
 use Rattle.grid.specs.Grid.{Point, at, numBlocks, numIndices, firstIndex, size, indicesOf, samePoint}
-use Rattle.place.proofs.BlocksOfGrid.{blocksOf, block-agrees}
-use Rattle.place.proofs.Facets.{oneLess-at}
-use Rattle.place.proofs.IndexSets.{order-within, order-distinct, T-distinct, goes-at}
-use Rattle.place.proofs.LinkSymmetry.{parts}
-use Rattle.place.proofs.Meaning.{U-means, labels-mean, free-means, complete-means}
-use Rattle.place.proofs.Positions.{at-in, in-at, each-at}
-use Rattle.place.proofs.ToChain.{place-long}
-use Rattle.place.proofs.Ways.{IsWay, byPlace, byFacet}
-use Rattle.place.specs.Demand.{Settled}
 use Rattle.place.specs.Ends.{End, stop, isComplete}
 use Rattle.place.specs.Places.{Simplex, isPlace, setU, setT, labelSet, order, firstBackOutside, unit}
 use Rattle.place.specs.Problem.{Problem, label}
+use Rattle.path_laws.proofs.BlocksOfGrid.{blocksOf, block-agrees}
+use Rattle.path_laws.proofs.Facets.{oneLess-at}
+use Rattle.path_laws.proofs.IndexSets.{order-within, order-distinct, T-distinct, goes-at}
+use Rattle.path_laws.proofs.LinkSymmetry.{parts}
+use Rattle.path_laws.proofs.Meaning.{U-means, labels-mean, free-means, complete-means}
+use Rattle.path_laws.proofs.Positions.{at-in, in-at, each-at}
+use Rattle.path_laws.proofs.ToChain.{place-long}
+use Rattle.path_laws.proofs.Ways.{IsWay, byPlace, byFacet}
+use Rattle.path_laws.specs.Demand.{Settled}
 
 -- a set of points has no more labels than points
 labels-few : (p : Problem) (s : Simplex) (xs : List ℕ) → distinct eqb xs ≡ true

@@ -23,15 +23,16 @@ use Rattle.grid.proofs.Points.{onPoints}
 use Rattle.grid.specs.Grid.{Grid, Point, at, numBlocks, numIndices, firstIndex, size, blocks, indices, indicesOf, next}
 use Rattle.grid.specs.Grid.{previous}
 use Rattle.grid.specs.Grid.{isGridPoint, samePoint}
-use Rattle.place.proofs.BlocksOfGrid.{blocksOf, pointOf, next-agrees, block-own, block-agrees, block-inside, on-ring}
-use Rattle.place.proofs.BlocksOfGrid.{hasZeros, point-grid}
-use Rattle.place.proofs.BlocksOfGrid.{point-coefficientOf}
-use Rattle.place.proofs.Meaning.{index-means}
-use Rattle.place.proofs.Positions.{in-at, occurs-once}
-use Rattle.place.proofs.Start.{start-place}
-use Rattle.place.proofs.ToChain.{place-chain}
-use Rattle.place.specs.Demand.{Settled}
 use Rattle.place.specs.Places.{goesTo, unit, within}
+use Rattle.path_laws.proofs.BlocksOfGrid.{blocksOf, pointOf, next-agrees, block-own, block-agrees, block-inside}
+use Rattle.path_laws.proofs.BlocksOfGrid.{on-ring}
+use Rattle.path_laws.proofs.BlocksOfGrid.{hasZeros, point-grid}
+use Rattle.path_laws.proofs.BlocksOfGrid.{point-coefficientOf}
+use Rattle.path_laws.proofs.Meaning.{index-means}
+use Rattle.path_laws.proofs.Positions.{in-at, occurs-once}
+use Rattle.path_laws.proofs.Start.{start-place}
+use Rattle.path_laws.proofs.ToChain.{place-chain}
+use Rattle.path_laws.specs.Demand.{Settled}
 use Rattle.simplices.proofs.Along.{around}
 use Rattle.simplices.proofs.Closed.{Closed, Whole, whole-of, More, more-of, raise-above}
 use Rattle.simplices.proofs.Smallest.{Sets, largest, zero-from, more-or, Smallest, smallest}

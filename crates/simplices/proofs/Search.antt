@@ -23,9 +23,9 @@ use Rattle.grid.proofs.Points.{onPoints, in-points}
 use Rattle.grid.specs.Grid.{Grid, Point, at, numBlocks, numIndices, dimension, firstIndex, blocks, indices, indicesOf}
 use Rattle.grid.specs.Grid.{previous}
 use Rattle.grid.specs.Grid.{isGridPoint, samePoint, points}
-use Rattle.place.proofs.IndexSets.{goes-at}
-use Rattle.place.proofs.Meaning.{index-means}
 use Rattle.place.specs.Places.{unit, within}
+use Rattle.path_laws.proofs.IndexSets.{goes-at}
+use Rattle.path_laws.proofs.Meaning.{index-means}
 use Rattle.simplices.proofs.Along.{Walk, walk-of}
 use Rattle.simplices.specs.Simplices.{stepped, isOrder, eachStepped, isSimplex, InOneSimplex, stepFrom}
 use Rattle.simplices.specs.Simplices.{pointsFrom, inOneSimplex}

@@ -24,16 +24,16 @@ use Rattle.grid.proofs.Points.{onPoints}
 use Rattle.grid.proofs.Round.{seat, next-at, next-round, block-fits}
 use Rattle.grid.specs.Grid.{Grid, Point, at, numBlocks, numIndices, firstIndex, size, indicesOf, next, isGridPoint}
 use Rattle.grid.specs.Grid.{samePoint}
-use Rattle.place.proofs.BlocksOfGrid.{blocksOf, coefficientOf, start-inside, start-outside, block-agrees, beyond}
-use Rattle.place.proofs.BlocksOfGrid.{on-ring, hasZeros}
-use Rattle.place.proofs.BlocksOfGrid.{coefficientOf-is, point-coefficientOf}
-use Rattle.place.proofs.FromChain.{place-of}
-use Rattle.place.proofs.Positions.{at-in, in-at, same-at, at-distinct, never, occurs-once}
-use Rattle.place.proofs.ToChain.{coefficientsOf, pointsOf, labelOf, indexOf, index-is, pointsOf-coefficientsOf}
 use Rattle.place.specs.Coefficients.{coefficients}
-use Rattle.place.specs.Demand.{Settled}
 use Rattle.place.specs.Places.{isPlace, isUnlabelledPlace, setT, unit}
 use Rattle.place.specs.Problem.{Problem, label}
+use Rattle.path_laws.proofs.BlocksOfGrid.{blocksOf, coefficientOf, start-inside, start-outside, block-agrees, beyond}
+use Rattle.path_laws.proofs.BlocksOfGrid.{on-ring, hasZeros}
+use Rattle.path_laws.proofs.BlocksOfGrid.{coefficientOf-is, point-coefficientOf}
+use Rattle.path_laws.proofs.FromChain.{place-of}
+use Rattle.path_laws.proofs.Positions.{at-in, in-at, same-at, at-distinct, never, occurs-once}
+use Rattle.path_laws.proofs.ToChain.{coefficientsOf, pointsOf, labelOf, indexOf, index-is, pointsOf-coefficientsOf}
+use Rattle.path_laws.specs.Demand.{Settled}
 use Rattle.simplices.proofs.Along.{passed, passed-rises, passed-at-most, Walk, walk-of, walk-rule, on-walk}
 use Rattle.simplices.proofs.Along.{walk-coefficients}
 use Rattle.simplices.proofs.Places.{unlabelled-in-simplex}

@@ -22,12 +22,12 @@ use Rattle.grid.proofs.Points.{onPoints}
 use Rattle.grid.proofs.Round.{next-low, block-fits}
 use Rattle.grid.specs.Grid.{Grid, Point, at, numBlocks, numIndices, firstIndex, size, indices, next, isGridPoint}
 use Rattle.grid.specs.Grid.{samePoint}
-use Rattle.place.proofs.BlocksOfGrid.{coefficientOf, pointOf, coefficientOf-is, point-coefficientOf, beyond}
-use Rattle.place.proofs.Coefficients.{coefficients-only}
-use Rattle.place.proofs.Meaning.{index-means}
-use Rattle.place.proofs.Positions.{at-in, in-at, same-at, at-distinct}
 use Rattle.place.specs.Coefficients.{IsCoefficients}
-use Rattle.place.specs.Demand.{Settled}
+use Rattle.path_laws.proofs.BlocksOfGrid.{coefficientOf, pointOf, coefficientOf-is, point-coefficientOf, beyond}
+use Rattle.path_laws.proofs.Coefficients.{coefficients-only}
+use Rattle.path_laws.proofs.Meaning.{index-means}
+use Rattle.path_laws.proofs.Positions.{at-in, in-at, same-at, at-distinct}
+use Rattle.path_laws.specs.Demand.{Settled}
 use Rattle.simplices.specs.Chains.{startingAt, coefficientsFrom, zeroOrOne, inside, nested, pairwise, chainFrom}
 
 -- nowhere above

@@ -12,7 +12,7 @@ use Rattle.geometry.proofs.Points.{nth}
 use Rattle.grid.proofs.Accepted.{Accepted}
 use Rattle.grid.proofs.Points.{onPoints}
 use Rattle.grid.specs.Grid.{Grid, Point, isGridPoint, samePoint}
-use Rattle.place.proofs.Positions.{at-in}
+use Rattle.path_laws.proofs.Positions.{at-in}
 use Rattle.simplices.proofs.Along.{walk-of, walk-nested, from-first}
 use Rattle.simplices.proofs.Grown.{in-simplex}
 use Rattle.simplices.proofs.Tests.{nested-of, distinct-of, chain-of}

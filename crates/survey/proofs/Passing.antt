@@ -19,14 +19,14 @@ use Rattle.grid.proofs.Points.{onPoints}
 use Rattle.grid.specs.Grid.{Point, at, isGridPoint, numIndices, numPoints, position, samePoint}
 use Rattle.grid.specs.Made.{shape}
 use Rattle.grid.specs.declared.Grid.{Grid as GridStruct}
-use Rattle.place.proofs.Filled.{FullyLabelled, beside, filled-full, filledTable}
-use Rattle.place.proofs.Labels.{label-ok}
-use Rattle.place.proofs.LinkSymmetry.{parts}
-use Rattle.place.proofs.Theorem.{demand3-holds}
-use Rattle.place.specs.Demand.{Accepted, placeAt}
 use Rattle.place.specs.Path.{path as pathOf, pathLength}
 use Rattle.place.specs.Places.{Simplex}
 use Rattle.place.specs.Problem.{Problem, label}
+use Rattle.path_laws.proofs.Filled.{FullyLabelled, beside, filled-full, filledTable}
+use Rattle.path_laws.proofs.Labels.{label-ok}
+use Rattle.path_laws.proofs.LinkSymmetry.{parts}
+use Rattle.path_laws.proofs.Theorem.{demand3-holds}
+use Rattle.path_laws.specs.Demand.{Accepted, placeAt}
 use Rattle.rules.proofs.Follow.{At as StandsAt, NextAt, placeEnds, facetEnds, at-long, at-others, at-place, at-reads}
 use Rattle.rules.proofs.Marks.{position-in}
 use Rattle.rules.specs.Read.{CanCompute, pointIn, pointsFrom, positionAt, read}

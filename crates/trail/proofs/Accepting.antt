@@ -16,13 +16,13 @@ use Rattle.combinatorics.proofs.Lists.{all-in, in-here}
 use Rattle.combinatorics.specs.Lists.{isIn}
 use Rattle.grid.proofs.Points.{onPoints, in-points, position-in}
 use Rattle.grid.specs.Grid.{Point, isGridPoint, position, samePoint, points}
-use Rattle.place.proofs.Simplices.{onSimplices}
-use Rattle.place.proofs.Start.{start-place}
-use Rattle.place.proofs.LinkSymmetry.{unlabelled-of, unlabelled-parts}
-use Rattle.place.specs.Demand.{Settled}
 use Rattle.place.specs.Path.{sameSimplex}
 use Rattle.place.specs.Places.{Simplex, isUnlabelledPlace}
 use Rattle.place.specs.Problem.{Problem}
+use Rattle.path_laws.proofs.Simplices.{onSimplices}
+use Rattle.path_laws.proofs.Start.{start-place}
+use Rattle.path_laws.proofs.LinkSymmetry.{unlabelled-of, unlabelled-parts}
+use Rattle.path_laws.specs.Demand.{Settled}
 use Rattle.trail.proofs.Outside.{outside-in}
 use Rattle.trail.proofs.Reading.{begins-self, found, move-of, reads-on}
 use Rattle.trail.proofs.Rules.{recorded}

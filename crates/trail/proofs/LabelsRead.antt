@@ -15,11 +15,11 @@ use Rattle.combinatorics.proofs.Lists.{in-here, filter-in}
 use Rattle.combinatorics.proofs.Ranges.{length-upFrom}
 use Rattle.combinatorics.specs.Lists.{all, concatMap, filter, isIn, upFrom}
 use Rattle.grid.specs.Grid.{Point, position, samePoint}
-use Rattle.place.proofs.LabelsRead.{came-next, came-none}
-use Rattle.place.proofs.Simplices.{onSimplices}
 use Rattle.place.specs.LabelsRead.{cameIn, labelsRead, pointCameIn}
 use Rattle.place.specs.Places.{Simplex}
 use Rattle.place.specs.Problem.{Problem}
+use Rattle.path_laws.proofs.LabelsRead.{came-next, came-none}
+use Rattle.path_laws.proofs.Simplices.{onSimplices}
 use Rattle.trail.specs.Change.{change, outside}
 use Rattle.trail.specs.Record.{bytes16, fields, bitMap, recordOf, startRecord}
 use Rattle.trail.specs.Trail.{isMove, begins, unlabelledPlaces, readOn, goOn, rebuiltFrom, rebuilt, placeIn}

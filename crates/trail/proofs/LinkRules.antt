@@ -21,18 +21,19 @@ use Rattle.geometry.proofs.LabelledChains.{LabelledChain, Swapped, listAt}
 use Rattle.geometry.proofs.Points.{nth, listAt-map}
 use Rattle.grid.proofs.Points.{onPoints}
 use Rattle.grid.specs.Grid.{Point, at, numIndices, indices, samePoint, position}
-use Rattle.place.proofs.BlocksOfGrid.{blocksOf, coefficientOf, coord-in, coord-out}
-use Rattle.place.proofs.ChainLinks.{exchanged-swapped, extended-to}
-use Rattle.place.proofs.IndexSets.{T-distinct}
-use Rattle.place.proofs.LinkSymmetry.{parts, place-distinct, linked-other}
-use Rattle.place.proofs.Meaning.{U-means}
-use Rattle.place.proofs.Positions.{at-in, in-at}
-use Rattle.place.proofs.Theorem.{single}
-use Rattle.place.proofs.ToChain.{inT, inU, coefficientsOf, labelOf, is-at, place-long, place-chain, labelledChain-of}
-use Rattle.place.specs.Demand.{Settled}
 use Rattle.place.specs.Links.{shared, exchanged, extended, linked}
 use Rattle.place.specs.Places.{Simplex, setT, setU, labelSet, within, isPlace, allLabelled, order}
 use Rattle.place.specs.Problem.{Problem, hasLabel}
+use Rattle.path_laws.proofs.BlocksOfGrid.{blocksOf, coefficientOf, coord-in, coord-out}
+use Rattle.path_laws.proofs.ChainLinks.{exchanged-swapped, extended-to}
+use Rattle.path_laws.proofs.IndexSets.{T-distinct}
+use Rattle.path_laws.proofs.LinkSymmetry.{parts, place-distinct, linked-other}
+use Rattle.path_laws.proofs.Meaning.{U-means}
+use Rattle.path_laws.proofs.Positions.{at-in, in-at}
+use Rattle.path_laws.proofs.Theorem.{single}
+use Rattle.path_laws.proofs.ToChain.{inT, inU, coefficientsOf, labelOf, is-at, place-long, place-chain}
+use Rattle.path_laws.proofs.ToChain.{labelledChain-of}
+use Rattle.path_laws.specs.Demand.{Settled}
 use Rattle.trail.proofs.Outside.{one-of, filter-split, outside-count, outside-none, outside-one}
 use Rattle.trail.proofs.Rules.{back, inverse}
 use Rattle.trail.proofs.Zeros.{Exchange, beside-zeros, grown-zeros}

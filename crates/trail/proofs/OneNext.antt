@@ -24,18 +24,19 @@ use Rattle.geometry.proofs.Unique.{not-next-fills, not-drops-fills}
 use Rattle.geometry.proofs.Ways.{omit-is}
 use Rattle.grid.proofs.Points.{onPoints}
 use Rattle.grid.specs.Grid.{Point, at, numBlocks, firstIndex, samePoint}
-use Rattle.place.proofs.BlocksOfGrid.{blocksOf, pointOf, coefficientOf}
-use Rattle.place.proofs.ChainEnds.{complete-to, facet-end}
-use Rattle.place.proofs.ChainLinks.{link-of}
-use Rattle.place.proofs.LinkSymmetry.{parts, unlabelled-parts}
-use Rattle.place.proofs.Positions.{at-in, in-at, same-at}
-use Rattle.place.proofs.Meaning.{T-means}
-use Rattle.place.proofs.ToChain.{inT, coefficientsOf, labelOf, place-long, labelledChain-of, pointsOf-coefficientsOf}
-use Rattle.place.specs.Demand.{Settled}
 use Rattle.place.specs.Ends.{isComplete}
 use Rattle.place.specs.Links.{linked}
 use Rattle.place.specs.Places.{Simplex, setT, labelSet, order, isUnlabelledPlace, isPlace, allLabelled}
 use Rattle.place.specs.Problem.{Problem, withLabels}
+use Rattle.path_laws.proofs.BlocksOfGrid.{blocksOf, pointOf, coefficientOf}
+use Rattle.path_laws.proofs.ChainEnds.{complete-to, facet-end}
+use Rattle.path_laws.proofs.ChainLinks.{link-of}
+use Rattle.path_laws.proofs.LinkSymmetry.{parts, unlabelled-parts}
+use Rattle.path_laws.proofs.Positions.{at-in, in-at, same-at}
+use Rattle.path_laws.proofs.Meaning.{T-means}
+use Rattle.path_laws.proofs.ToChain.{inT, coefficientsOf, labelOf, place-long, labelledChain-of}
+use Rattle.path_laws.proofs.ToChain.{pointsOf-coefficientsOf}
+use Rattle.path_laws.specs.Demand.{Settled}
 use Rattle.trail.proofs.Outside.{in-outside, outside-in, outside-count}
 use Rattle.trail.proofs.Shapes.{Shape, exchange, joins, leaves, shape-of, not-empty, points-distinct}
 use Rattle.trail.proofs.SomeLinks.{LinkOver, stays-in, exchange-links, leave-links, join-links, number-of}

@@ -12,13 +12,13 @@ use Rattle.combinatorics.proofs.Basics.{absurd-bool, and-left, and-right, and-b
 use Rattle.combinatorics.proofs.Lists.{in-here, in-filter, filter-in, filter-cong, eqb-self}
 use Rattle.combinatorics.specs.Lists.{all, filter, isIn, sublists}
 use Rattle.grid.specs.Grid.{Point, numBlocks, isGridPoint, points}
-use Rattle.place.proofs.ListOfPlaces.{sets-all}
-use Rattle.place.proofs.Simplices.{onSimplices}
-use Rattle.place.proofs.LinkSymmetry.{unlabelled-parts}
 use Rattle.place.specs.Coefficients.{coefficients}
 use Rattle.place.specs.Path.{sameSimplex}
 use Rattle.place.specs.Places.{Simplex, setT, isUnlabelledPlace, insert, inOrder}
 use Rattle.place.specs.Problem.{Problem, withLabels}
+use Rattle.path_laws.proofs.ListOfPlaces.{sets-all}
+use Rattle.path_laws.proofs.Simplices.{onSimplices}
+use Rattle.path_laws.proofs.LinkSymmetry.{unlabelled-parts}
 use Rattle.trail.proofs.Rules.{rules-are}
 use Rattle.trail.proofs.Tells.{moves-of, record-tells}
 use Rattle.trail.specs.Change.{Change, change, ByRule, rule1, rule2, rule3, rule4, rule5, rule6, rule7, empty}

@@ -12,12 +12,12 @@ use native.Mathlib.Omega.{arith}
 use Rattle.combinatorics.proofs.Basics.{absurd-bool}
 use Rattle.combinatorics.proofs.Terms.{terms-few}
 use Rattle.grid.specs.Grid.{numBlocks, numIndices, dimension, bound}
-use Rattle.place.proofs.LinkSymmetry.{unlabelled-of, unlabelled-parts}
-use Rattle.place.proofs.Theorem.{demand3-holds, run-follows}
-use Rattle.place.specs.Demand.{Settled, Accepted, Follows, placeAt, lastPlace}
 use Rattle.place.specs.Path.{path}
 use Rattle.place.specs.Places.{Simplex, isUnlabelledPlace}
 use Rattle.place.specs.Problem.{Problem, withLabels}
+use Rattle.path_laws.proofs.LinkSymmetry.{unlabelled-of, unlabelled-parts}
+use Rattle.path_laws.proofs.Theorem.{demand3-holds, run-follows}
+use Rattle.path_laws.specs.Demand.{Settled, Accepted, Follows, placeAt, lastPlace}
 use Rattle.trail.proofs.LinkRules.{rule-of-link}
 use Rattle.trail.proofs.Reading.{begins-self, move-of, reads-on, reads-none, without-labels}
 use Rattle.trail.proofs.LabelsRead.{read-back}

@@ -17,15 +17,15 @@ use Rattle.combinatorics.specs.Lists.{filter, isIn, distinct}
 use Rattle.geometry.proofs.Definitions.{Less}
 use Rattle.grid.proofs.Points.{onPoints}
 use Rattle.grid.specs.Grid.{Point, numIndices, indices, samePoint, position}
-use Rattle.place.proofs.IndexSets.{no-empty, order-within, order-distinct, T-distinct}
-use Rattle.place.proofs.Meaning.{T-means}
-use Rattle.place.proofs.Positions.{set-of}
-use Rattle.place.proofs.ToChain.{inT, place-long}
-use Rattle.place.proofs.LinkSymmetry.{unlabelled-parts}
 use Rattle.place.specs.Coefficients.{coefficientSum}
-use Rattle.place.specs.Demand.{Settled}
 use Rattle.place.specs.Places.{Simplex, setT, labelSet, order, isUnlabelledPlace, isPlace}
 use Rattle.place.specs.Problem.{Problem, withLabels}
+use Rattle.path_laws.proofs.IndexSets.{no-empty, order-within, order-distinct, T-distinct}
+use Rattle.path_laws.proofs.Meaning.{T-means}
+use Rattle.path_laws.proofs.Positions.{set-of}
+use Rattle.path_laws.proofs.ToChain.{inT, place-long}
+use Rattle.path_laws.proofs.LinkSymmetry.{unlabelled-parts}
+use Rattle.path_laws.specs.Demand.{Settled}
 use Rattle.trail.proofs.Outside.{one-of, none-of, in-outside, outside-in, outside-count}
 use Rattle.trail.proofs.Reading.{T-alike}
 use Rattle.trail.proofs.Tables.{some-table, some-index, in-order}

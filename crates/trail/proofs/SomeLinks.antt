@@ -18,14 +18,14 @@ use Rattle.geometry.proofs.Definitions.{Less}
 use Rattle.geometry.proofs.Points.{nth}
 use Rattle.grid.proofs.Points.{onPoints}
 use Rattle.grid.specs.Grid.{Point, numIndices, indices, samePoint, isGridPoint}
-use Rattle.place.proofs.Meaning.{T-means, labels-mean}
-use Rattle.place.proofs.Positions.{set-of, at-in, in-at, same-at}
-use Rattle.place.proofs.ToChain.{inT}
-use Rattle.place.proofs.LinkSymmetry.{unlabelled-of, unlabelled-parts}
-use Rattle.place.specs.Demand.{Settled, Accepted}
 use Rattle.place.specs.Links.{shared, exchanged, extended, linked}
 use Rattle.place.specs.Places.{Simplex, setT, labelSet, isUnlabelledPlace, isPlace, allLabelled}
 use Rattle.place.specs.Problem.{Problem, label, withLabels}
+use Rattle.path_laws.proofs.Meaning.{T-means, labels-mean}
+use Rattle.path_laws.proofs.Positions.{set-of, at-in, in-at, same-at}
+use Rattle.path_laws.proofs.ToChain.{inT}
+use Rattle.path_laws.proofs.LinkSymmetry.{unlabelled-of, unlabelled-parts}
+use Rattle.path_laws.specs.Demand.{Settled, Accepted}
 use Rattle.trail.proofs.LinkRules.{rule-of-link}
 use Rattle.trail.proofs.Outside.{filter-split, in-outside, outside-in, outside-count}
 use Rattle.trail.proofs.Reading.{T-alike, place-alike, change-alike, move-of}

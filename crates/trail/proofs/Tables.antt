@@ -21,15 +21,15 @@ use Rattle.geometry.proofs.Points.{nth}
 use Rattle.grid.proofs.Round.{block-fits}
 use Rattle.grid.proofs.Points.{onPoints, point-sound, point-self, in-points, position-in}
 use Rattle.grid.specs.Grid.{Grid, Point, at, numIndices, isGridPoint, samePoint, points, position}
-use Rattle.place.proofs.Filled.{FullyLabelled}
-use Rattle.place.proofs.Meaning.{T-means, labels-mean}
-use Rattle.place.proofs.Positions.{at-in, in-at, occurs-in, order-long}
-use Rattle.place.proofs.ToChain.{size-positive}
-use Rattle.place.proofs.LinkSymmetry.{unlabelled-parts}
 use Rattle.place.specs.Coefficients.{coefficientSum}
-use Rattle.place.specs.Demand.{Settled, Accepted}
 use Rattle.place.specs.Places.{Simplex, setT, labelSet, within, order, isUnlabelledPlace, isPlace, allLabelled}
 use Rattle.place.specs.Problem.{Problem, label, hasLabel, withLabels}
+use Rattle.path_laws.proofs.Filled.{FullyLabelled}
+use Rattle.path_laws.proofs.Meaning.{T-means, labels-mean}
+use Rattle.path_laws.proofs.Positions.{at-in, in-at, occurs-in, order-long}
+use Rattle.path_laws.proofs.ToChain.{size-positive}
+use Rattle.path_laws.proofs.LinkSymmetry.{unlabelled-parts}
+use Rattle.path_laws.specs.Demand.{Settled, Accepted}
 use Rattle.trail.proofs.Reading.{T-alike, place-alike}
 use Rattle.trail.proofs.Tells.{at-position}
 

@@ -16,10 +16,10 @@ use Rattle.combinatorics.proofs.Rising.{rising-same}
 use Rattle.combinatorics.specs.Lists.{all, concatMap, isIn}
 use Rattle.grid.proofs.Points.{onPoints, in-points}
 use Rattle.grid.specs.Grid.{Grid, Point, numBlocks, isGridPoint, samePoint, points, position}
-use Rattle.place.proofs.LinkSymmetry.{unlabelled-parts}
 use Rattle.place.specs.Coefficients.{coefficientSum}
 use Rattle.place.specs.Places.{Simplex, isUnlabelledPlace}
 use Rattle.place.specs.Problem.{Problem}
+use Rattle.path_laws.proofs.LinkSymmetry.{unlabelled-parts}
 use Rattle.positions.proofs.Positions.{at-positionIn}
 use Rattle.trail.proofs.Outside.{one-of, in-outside, outside-in}
 use Rattle.trail.specs.Change.{Change, change, rules, outside, empty, single}

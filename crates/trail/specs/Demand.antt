@@ -9,10 +9,10 @@ use lib.Dec.{eqb}
 use lib.ListN.{length, take}
 use Rattle.combinatorics.specs.Lists.{isIn}
 use Rattle.grid.specs.Grid.{Point, numPoints, position, samePoint}
-use Rattle.place.specs.Demand.{placeAt}
 use Rattle.place.specs.LabelsRead.{cameIn, labelsRead}
 use Rattle.place.specs.Places.{Simplex, isUnlabelledPlace}
 use Rattle.place.specs.Problem.{Problem, withLabels}
+use Rattle.path_laws.specs.Demand.{placeAt}
 use Rattle.trail.specs.Change.{change, rules, ByRule}
 use Rattle.trail.specs.Record.{startRecord, trailOf, recordBy}
 use Rattle.trail.specs.Trail.{rebuiltFrom, rebuilt, rebuiltPlaces}

@@ -5,10 +5,10 @@ use mathlib.Core.Path.{_≡_, sym, ap, _∙_}
 use Prim.Native.Nat.{ℕ, suc, _+_, _%_, _≤_}
 use lib.ListN.{getD}
 use native.Mathlib.Omega.{arith}
-use Rattle.place.proofs.LabelsRead.{came-few, came-none}
 use Rattle.place.specs.LabelsRead.{cameIn}
 use Rattle.place.specs.Places.{Simplex}
 use Rattle.place.specs.Problem.{Problem}
+use Rattle.path_laws.proofs.LabelsRead.{came-few, came-none}
 use Rattle.trail.proofs.LabelsRead.{came-on}
 use Rattle.trail.specs.Trail.{placesFrom, rebuiltFrom}
 

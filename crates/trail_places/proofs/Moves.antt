@@ -19,17 +19,17 @@ use Rattle.geometry.proofs.LabelledChains.{FacetEnd, PlaceEnd, listAt}
 use Rattle.geometry.proofs.Points.{nth}
 use Rattle.grid.proofs.Points.{onPoints}
 use Rattle.grid.specs.Grid.{numIndices, position, samePoint}
-use Rattle.place.proofs.BlocksOfGrid.{blocksOf, coefficientOf, pointOf}
-use Rattle.place.proofs.ChainEnds.{complete-below, complete-of, end-below, end-complete, end-labels}
-use Rattle.place.proofs.Filled.{full-place}
-use Rattle.place.proofs.FromChain.{T-is, back-again, coefficient-at, long, place-of, pointsOf-grid}
-use Rattle.place.proofs.Positions.{at-in, in-at}
-use Rattle.place.proofs.Theorem.{block-of, single}
-use Rattle.place.proofs.ToChain.{coefficientsOf, inT, labelOf, pointsOf}
-use Rattle.place.specs.Demand.{Settled}
 use Rattle.place.specs.Ends.{isComplete}
 use Rattle.place.specs.Places.{Simplex, labelSet, setT}
 use Rattle.place.specs.Problem.{Problem, withLabels}
+use Rattle.path_laws.proofs.BlocksOfGrid.{blocksOf, coefficientOf, pointOf}
+use Rattle.path_laws.proofs.ChainEnds.{complete-below, complete-of, end-below, end-complete, end-labels}
+use Rattle.path_laws.proofs.Filled.{full-place}
+use Rattle.path_laws.proofs.FromChain.{T-is, back-again, coefficient-at, long, place-of, pointsOf-grid}
+use Rattle.path_laws.proofs.Positions.{at-in, in-at}
+use Rattle.path_laws.proofs.Theorem.{block-of, single}
+use Rattle.path_laws.proofs.ToChain.{coefficientsOf, inT, labelOf, pointsOf}
+use Rattle.path_laws.specs.Demand.{Settled}
 use Rattle.rules.proofs.Describes.{AllMarks, Describes, Joined, Left, Reached, facetEnds, joinedOn, labelsOf, leftOn}
 use Rattle.rules.proofs.Describes.{placeEnds}
 use Rattle.rules.proofs.Grow.{grow-ready, grows}

@@ -17,17 +17,17 @@ use Rattle.geometry.proofs.LabelledChains.{listAt}
 use Rattle.geometry.proofs.Points.{nth}
 use Rattle.grid.proofs.Points.{onPoints}
 use Rattle.grid.specs.Grid.{Point, at, isGridPoint, numBlocks, numIndices, position, samePoint}
-use Rattle.place.proofs.BlocksOfGrid.{coefficientOf, pointOf}
-use Rattle.place.proofs.ChainLinks.{of-link}
-use Rattle.place.proofs.Filled.{full-place}
-use Rattle.place.proofs.FromChain.{T-is, back-again, coefficient-at, place-of}
-use Rattle.place.proofs.LinkSymmetry.{unlabelled-of}
-use Rattle.place.proofs.Positions.{at-in, in-at}
-use Rattle.place.proofs.ToChain.{index-is, indexOf, inT, labelOf, pointsOf}
-use Rattle.place.specs.Demand.{Settled}
 use Rattle.place.specs.Links.{linked}
 use Rattle.place.specs.Places.{Simplex, isPlace, isUnlabelledPlace}
 use Rattle.place.specs.Problem.{Problem, label, withLabels}
+use Rattle.path_laws.proofs.BlocksOfGrid.{coefficientOf, pointOf}
+use Rattle.path_laws.proofs.ChainLinks.{of-link}
+use Rattle.path_laws.proofs.Filled.{full-place}
+use Rattle.path_laws.proofs.FromChain.{T-is, back-again, coefficient-at, place-of}
+use Rattle.path_laws.proofs.LinkSymmetry.{unlabelled-of}
+use Rattle.path_laws.proofs.Positions.{at-in, in-at}
+use Rattle.path_laws.proofs.ToChain.{index-is, indexOf, inT, labelOf, pointsOf}
+use Rattle.path_laws.specs.Demand.{Settled}
 use Rattle.positions.specs.Falls.{tailFrom}
 use Rattle.rules.proofs.Describes.{Came, Describes, Reached, begins, fromLarger, markAt, through}
 use Rattle.rules.proofs.Follow.{reached-stands, stands-beside, stands-exchanged, stands-reads}

@@ -13,11 +13,11 @@ use Rattle.geometry.proofs.Definitions.{Carries}
 use Rattle.geometry.proofs.LabelledChains.{LabelledChain, listAt}
 use Rattle.geometry.proofs.Points.{nth}
 use Rattle.grid.specs.Grid.{Point, at, numIndices}
-use Rattle.place.proofs.BlocksOfGrid.{blocksOf, pointOf}
-use Rattle.place.proofs.Meaning.{T-means}
-use Rattle.place.proofs.ToChain.{indexOf, labelOf}
 use Rattle.place.specs.Places.{Simplex, setT}
 use Rattle.place.specs.Problem.{Problem, label, withLabels}
+use Rattle.path_laws.proofs.BlocksOfGrid.{blocksOf, pointOf}
+use Rattle.path_laws.proofs.Meaning.{T-means}
+use Rattle.path_laws.proofs.ToChain.{indexOf, labelOf}
 use Rattle.rules.proofs.Describes.{AllMarks, Describes, labelsOf, markAt}
 use Rattle.rules.proofs.Range.{nth-pointsOf}
 use Rattle.rules.specs.Step.{State}

@@ -8,10 +8,10 @@ use lib.ListN.{length}
 use Rattle.geometry.proofs.Definitions.{Chain, coord, zeros}
 use Rattle.geometry.proofs.LabelledChains.{listAt}
 use Rattle.grid.specs.Grid.{Point, at, numIndices, position}
-use Rattle.place.proofs.BlocksOfGrid.{blocksOf}
-use Rattle.place.proofs.ToChain.{inT, pointsOf}
 use Rattle.place.specs.Places.{Simplex, isUnlabelledPlace}
 use Rattle.place.specs.Problem.{Problem}
+use Rattle.path_laws.proofs.BlocksOfGrid.{blocksOf}
+use Rattle.path_laws.proofs.ToChain.{inT, pointsOf}
 use Rattle.rules.specs.Mask.{bit}
 use Rattle.rules.specs.Ready.{IsRound}
 use Rattle.rules.specs.Step.{State, mark}

@@ -19,12 +19,12 @@ use Rattle.grid.specs.Made.{IsMade, shape}
 use Rattle.grid.specs.declared.Grid.{Grid as GridStruct}
 use Rattle.moves.specs.Held.{stateOf}
 use Rattle.moves.specs.declared.Status.{Status}
-use Rattle.place.proofs.LinkSymmetry.{parts, unlabelled-of}
-use Rattle.place.proofs.Start.{start-place}
-use Rattle.place.proofs.ToChain.{coefficientsOf, inT, pointsOf, pointsOf-coefficientsOf}
-use Rattle.place.specs.Demand.{Settled}
 use Rattle.place.specs.Places.{Simplex, isUnlabelledPlace, order as orderOf}
 use Rattle.place.specs.Problem.{Problem, withLabels}
+use Rattle.path_laws.proofs.LinkSymmetry.{parts, unlabelled-of}
+use Rattle.path_laws.proofs.Start.{start-place}
+use Rattle.path_laws.proofs.ToChain.{coefficientsOf, inT, pointsOf, pointsOf-coefficientsOf}
+use Rattle.path_laws.specs.Demand.{Settled}
 use Rattle.positions.proofs.Positions.{map-front}
 use Rattle.positions.specs.Falls.{tailFrom}
 use Rattle.rules.proofs.Describes.{Describes}

@@ -23,10 +23,10 @@ use Rattle.grid.specs.Questions.{gridQuestions, question5}
 use Rattle.grid.specs.declared.Grid.{Grid as GridStruct}
 use Rattle.moves.specs.Held.{stateOf}
 use Rattle.moves.specs.declared.Status.{Status}
-use Rattle.place.specs.Demand.{Settled}
 use Rattle.place.specs.LabelsRead.{cameIn, labelsRead}
 use Rattle.place.specs.Places.{Simplex, setT, setU}
 use Rattle.place.specs.Problem.{Problem}
+use Rattle.path_laws.specs.Demand.{Settled}
 use Rattle.questions.proofs.Answers.{asked-next, asked-no}
 use Rattle.questions.specs.Questions.{firstNo}
 use Rattle.records.specs.Records.{firstRecord}

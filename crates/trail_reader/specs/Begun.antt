@@ -8,7 +8,7 @@ use Rattle.grid.specs.Grid.{position}
 use Rattle.grid.specs.Made.{IsMade, shape}
 use Rattle.grid.specs.declared.Grid.{Grid as GridStruct}
 use Rattle.moves.specs.declared.Status.{Status}
-use Rattle.place.specs.Demand.{Settled}
+use Rattle.path_laws.specs.Demand.{Settled}
 use Rattle.positions.specs.Binomials.{Measured}
 use Rattle.rules.specs.Read.{numbersFrom}
 use Rattle.rules.specs.Ready.{IsRound, RoundBelow}

@@ -17,13 +17,13 @@ use Rattle.combinatorics.specs.Lists.{isIn}
 use Rattle.geometry.proofs.Points.{nth}
 use Rattle.grid.proofs.Points.{in-points, onPoints, position-in}
 use Rattle.grid.specs.Grid.{Point, isGridPoint, numIndices, points, position, samePoint}
-use Rattle.place.proofs.FromChain.{in-U}
-use Rattle.place.proofs.LinkSymmetry.{unlabelled-parts}
-use Rattle.place.proofs.Meaning.{T-means, U-means}
-use Rattle.place.proofs.Positions.{at-in}
-use Rattle.place.specs.Demand.{Settled}
 use Rattle.place.specs.Places.{Simplex, setT, setU}
 use Rattle.place.specs.Problem.{Problem}
+use Rattle.path_laws.proofs.FromChain.{in-U}
+use Rattle.path_laws.proofs.LinkSymmetry.{unlabelled-parts}
+use Rattle.path_laws.proofs.Meaning.{T-means, U-means}
+use Rattle.path_laws.proofs.Positions.{at-in}
+use Rattle.path_laws.specs.Demand.{Settled}
 use Rattle.records.proofs.Told.{IsMask, told}
 use Rattle.records.specs.Records.{recordFrom}
 use Rattle.rules.specs.Mask.{bit}

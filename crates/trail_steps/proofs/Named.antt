@@ -16,12 +16,12 @@ use Rattle.combinatorics.specs.Lists.{isIn}
 use Rattle.geometry.proofs.Points.{nth}
 use Rattle.grid.proofs.Points.{onPoints}
 use Rattle.grid.specs.Grid.{Point, at, isGridPoint, numIndices, points, position, samePoint}
-use Rattle.place.proofs.LinkSymmetry.{unlabelled-parts}
-use Rattle.place.proofs.Meaning.{T-means}
-use Rattle.place.proofs.Positions.{at-in, in-at}
-use Rattle.place.specs.Demand.{Settled}
 use Rattle.place.specs.Places.{Simplex, setT}
 use Rattle.place.specs.Problem.{Problem}
+use Rattle.path_laws.proofs.LinkSymmetry.{unlabelled-parts}
+use Rattle.path_laws.proofs.Meaning.{T-means}
+use Rattle.path_laws.proofs.Positions.{at-in, in-at}
+use Rattle.path_laws.specs.Demand.{Settled}
 use Rattle.rules.specs.Ready.{IndicesBelow}
 use Rattle.rules.specs.Step.{State, mark, markPosition}
 use Rattle.trail.proofs.Outside.{none-of, outside-in}

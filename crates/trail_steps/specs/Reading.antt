@@ -12,7 +12,7 @@ use Rattle.grid.specs.Made.{shape}
 use Rattle.grid.specs.declared.Grid.{Grid as GridStruct}
 use Rattle.marks.specs.Reading.{CanRead, HasMarks, problemFrom}
 use Rattle.moves.specs.declared.Status.{Status}
-use Rattle.place.specs.Demand.{Settled}
+use Rattle.path_laws.specs.Demand.{Settled}
 use Rattle.place.specs.Places.{Simplex}
 use Rattle.place.specs.Problem.{Problem}
 use Rattle.positions.specs.Binomials.{Measured}

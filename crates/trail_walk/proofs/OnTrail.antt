@@ -19,6 +19,12 @@ use Rattle.combinatorics.proofs.Ranges.{in-upFrom, upFrom-in}
 use Rattle.combinatorics.specs.Front.{front}
 use Rattle.combinatorics.specs.Lists.{isIn, upFrom}
 use Rattle.end_kinds.specs.declared.Kind.{Kind}
+use Rattle.path_laws.proofs.Filled.{beside, filled-full, filledTable}
+use Rattle.path_laws.proofs.Labels.{label-ok}
+use Rattle.path_laws.proofs.LinkSymmetry.{parts}
+use Rattle.path_laws.proofs.Meaning.{T-means, U-means}
+use Rattle.path_laws.proofs.Theorem.{demand3-holds}
+use Rattle.path_laws.specs.Demand.{Accepted, lastPlace, placeAt}
 use Rattle.path_walk.proofs.Visits.{HasRead, OnPath}
 use Rattle.path_walk.specs.Finish.{IsKnown, problemIn}
 use Rattle.grid.proofs.Points.{in-points, onPoints, position-in}
@@ -26,12 +32,6 @@ use Rattle.grid.specs.Grid.{Point, isGridPoint, numIndices, points, position, s
 use Rattle.grid.specs.declared.Grid.{Grid as GridStruct}
 use Rattle.marks.specs.Reading.{tableOf}
 use Rattle.moves.proofs.Cases.{Leaving, label-joins, leaving-leaves, leaving-ready}
-use Rattle.place.proofs.Filled.{beside, filled-full, filledTable}
-use Rattle.place.proofs.Labels.{label-ok}
-use Rattle.place.proofs.Meaning.{T-means, U-means}
-use Rattle.place.proofs.LinkSymmetry.{parts}
-use Rattle.place.proofs.Theorem.{demand3-holds}
-use Rattle.place.specs.Demand.{Accepted, lastPlace, placeAt}
 use Rattle.place.specs.Ends.{End}
 use Rattle.place.specs.Path.{answer, ended, outcome, path, pathLength, spent}
 use Rattle.place.specs.Places.{Simplex, setT, setU}

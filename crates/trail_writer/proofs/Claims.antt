@@ -18,7 +18,7 @@ use Rattle.end_kinds.specs.declared.Kind.{Kind}
 use Rattle.finder.proofs.Demand.{unrefused}
 use Rattle.finder.specs.Run.{caseOf, numbersOf, refusal, runAnswer, runBuffer}
 use Rattle.finder.specs.declared.answers.Answer.the-variants.{Refused as RunRefused, End as RunEnd}
-use Rattle.place.specs.Demand.{Accepted, placeAt}
+use Rattle.path_laws.specs.Demand.{Accepted, placeAt}
 use Rattle.place.specs.Path.{Answer as PathAnswer, answer, ended, path, pathLength, spent, unknown}
 use Rattle.place.specs.Problem.{Problem, withLabels}
 use Rattle.place.specs.Questions.{runQuestions}

@@ -12,6 +12,7 @@ use Rattle.combinatorics.proofs.Fronts.{front-none}
 use Rattle.combinatorics.specs.Front.{front}
 use Rattle.end_kinds.specs.declared.Kind.{Kind}
 use Rattle.finder.proofs.Announcements.{same-problem}
+use Rattle.path_laws.specs.Demand.{Accepted}
 use Rattle.path_walk.specs.Finish.{Finished, problemIn}
 use Rattle.finder.specs.Run.{caseOf, numbersOf, refusal}
 use Rattle.finder.specs.declared.answers.Answer.the-variants.{End as RunEnd}
@@ -20,7 +21,6 @@ use Rattle.path_walk.specs.declared.Finish.the-variants.{Ended, Spent as Finish
 use Rattle.grid.specs.Made.{IsMade}
 use Rattle.grid.specs.declared.Grid.{Grid as GridStruct}
 use Rattle.marks.specs.Reading.{problemFrom}
-use Rattle.place.specs.Demand.{Accepted}
 use Rattle.place.specs.Path.{Answer as PathAnswer, answer, ended, spent, unknown}
 use Rattle.place.specs.Places.{Simplex}
 use Rattle.place.specs.Problem.{Problem}

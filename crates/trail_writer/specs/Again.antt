@@ -7,7 +7,7 @@ use Rattle.end_kinds.specs.declared.Kind.{Kind}
 use Rattle.grid.specs.Made.{shape}
 use Rattle.grid.specs.declared.Grid.{Grid as GridStruct}
 use Rattle.marks.specs.Reading.{Readable, problemFrom}
-use Rattle.place.specs.Demand.{Accepted}
+use Rattle.path_laws.specs.Demand.{Accepted}
 use Rattle.place.specs.Path.{answer, ended}
 use Rattle.place.specs.Places.{Simplex}
 use Rattle.rules.specs.Ready.{IsRound, RoundBelow}

@@ -10,7 +10,7 @@ use Rattle.finder.specs.Run.{runAnswer, runBuffer}
 use Rattle.finder.specs.declared.answers.Answer.{Answer as RunAnswer}
 use Rattle.finder.specs.declared.answers.Answer.the-variants.{Refused as RunRefused, Spent as RunSpent}
 use Rattle.finder.specs.declared.answers.Answer.the-variants.{Unknown as RunUnknown, End as RunEnd}
-use Rattle.place.specs.Demand.{placeAt}
+use Rattle.path_laws.specs.Demand.{placeAt}
 use Rattle.place.specs.Path.{path, pathLength}
 use Rattle.place.specs.Problem.{Problem, withLabels}
 use Rattle.trail.specs.Trail.{rebuilt}

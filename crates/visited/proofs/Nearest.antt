@@ -17,11 +17,11 @@ use Rattle.combinatorics.specs.Lists.{all, filter, firstOr, isIn}
 use Rattle.grid.proofs.Accepted.{Accepted as GridAccepted}
 use Rattle.grid.proofs.Points.{onPoints}
 use Rattle.grid.specs.Grid.{Point, isGridPoint, position, samePoint}
-use Rattle.place.proofs.Positions.{at-in, in-at}
-use Rattle.place.proofs.Theorem.{demand3-holds}
-use Rattle.place.specs.Demand.{Accepted, placeAt}
 use Rattle.place.specs.Path.{path as pathOf}
 use Rattle.place.specs.Problem.{Problem}
+use Rattle.path_laws.proofs.Positions.{at-in, in-at}
+use Rattle.path_laws.proofs.Theorem.{demand3-holds}
+use Rattle.path_laws.specs.Demand.{Accepted, placeAt}
 use Rattle.positions.proofs.ByTails.{position-tells}
 use Rattle.visited.specs.Demand.{IsList, IsNearest}
 use Rattle.visited.specs.Distance.{distance}

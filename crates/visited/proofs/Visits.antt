@@ -17,13 +17,13 @@ use Rattle.combinatorics.proofs.Rising.{rising-below, rising-tail}
 use Rattle.combinatorics.specs.Lists.{all, distinct, filter, isIn, rising, same}
 use Rattle.grid.proofs.Points.{in-points, onPoints}
 use Rattle.grid.specs.Grid.{Point, isGridPoint, points, samePoint}
-use Rattle.place.proofs.LinkSymmetry.{parts, place-distinct}
-use Rattle.place.proofs.Theorem.{demand3-holds}
-use Rattle.place.specs.Demand.{Accepted, Follows, placeAt}
 use Rattle.place.specs.Links.{exchanged, extended, linked, shared}
 use Rattle.place.specs.Path.{path as pathOf}
 use Rattle.place.specs.Places.{Simplex, isPlace, labelSet, setT, within}
 use Rattle.place.specs.Problem.{Problem}
+use Rattle.path_laws.proofs.LinkSymmetry.{parts, place-distinct}
+use Rattle.path_laws.proofs.Theorem.{demand3-holds}
+use Rattle.path_laws.specs.Demand.{Accepted, Follows, placeAt}
 use Rattle.trail.proofs.Outside.{filter-split, in-outside, outside-count, outside-in, outside-none}
 use Rattle.trail.specs.Change.{outside}
 use Rattle.visited.specs.Demand.{Visits}

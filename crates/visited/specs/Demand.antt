@@ -9,9 +9,9 @@ use lib.Dec.{eqb}
 use lib.ListN.{length, getD}
 use Rattle.combinatorics.specs.Lists.{distinct, isIn, rising}
 use Rattle.grid.specs.Grid.{Grid, Point, blockOf, division, isGridPoint, numBlocks, numIndices, numPoints, samePoint}
-use Rattle.place.specs.Demand.{placeAt}
 use Rattle.place.specs.Path.{path as pathOf, pathLength}
 use Rattle.place.specs.Problem.{Problem}
+use Rattle.path_laws.specs.Demand.{placeAt}
 use Rattle.visited.specs.Distance.{allDivisions, distance, otherDivisions}
 use Rattle.visited.specs.Nearest.{nearest, positionsWithin, verticesWithin}
 use Rattle.visited.specs.Visited.{firstVisit, visitedVertices}

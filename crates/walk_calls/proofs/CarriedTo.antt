@@ -16,11 +16,11 @@ use Rattle.grid.proofs.Points.{in-points, onPoints, position-in}
 use Rattle.grid.specs.Grid.{Point, at, isGridPoint, points, samePoint}
 use Rattle.grid.specs.Made.{IsMade, shape}
 use Rattle.grid.specs.declared.Grid.{Grid as GridStruct}
-use Rattle.place.proofs.Positions.{at-in}
-use Rattle.place.specs.Demand.{Accepted}
 use Rattle.place.specs.LabelsRead.{pointCameIn}
 use Rattle.place.specs.Places.{Simplex, within}
 use Rattle.place.specs.Problem.{Problem, label}
+use Rattle.path_laws.proofs.Positions.{at-in}
+use Rattle.path_laws.specs.Demand.{Accepted}
 use Rattle.recogniser.specs.Pieces.{bareMark}
 use Rattle.rules.specs.Step.{markPosition}
 use Rattle.walks.specs.Walk.{labelsOf}

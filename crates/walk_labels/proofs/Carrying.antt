@@ -17,7 +17,7 @@ use Rattle.combinatorics.proofs.Lists.{onNumbers}
 use Rattle.combinatorics.specs.Front.{front}
 use Rattle.combinatorics.specs.Lists.{all, isIn}
 use Rattle.grid.specs.Grid.{at}
-use Rattle.place.proofs.Positions.{at-in, in-at}
+use Rattle.path_laws.proofs.Positions.{at-in, in-at}
 use Rattle.rules.proofs.Marks.{labels-in}
 use Rattle.rules.specs.Step.{markLabel, markPosition}
 use Rattle.walk_labels.specs.Carrying.{CanCarry, FoundIn, labelIn, labelsIn}

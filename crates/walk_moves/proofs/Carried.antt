@@ -14,14 +14,14 @@ use Rattle.geometry.proofs.Definitions.{Carries}
 use Rattle.geometry.proofs.Points.{nth}
 use Rattle.grid.proofs.Points.{onPoints}
 use Rattle.grid.specs.Grid.{Point}
-use Rattle.place.proofs.Filled.{filledTable, filled-label}
-use Rattle.place.proofs.LinkSymmetry.{parts}
-use Rattle.place.proofs.Meaning.{labels-mean}
-use Rattle.place.proofs.Positions.{in-at}
-use Rattle.place.proofs.ToChain.{coefficientsOf, inT, place-long, pointsOf-coefficientsOf}
-use Rattle.place.specs.Demand.{Accepted}
 use Rattle.place.specs.Places.{Simplex, isPlace, labelSet}
 use Rattle.place.specs.Problem.{Problem, label}
+use Rattle.path_laws.proofs.Filled.{filledTable, filled-label}
+use Rattle.path_laws.proofs.LinkSymmetry.{parts}
+use Rattle.path_laws.proofs.Meaning.{labels-mean}
+use Rattle.path_laws.proofs.Positions.{in-at}
+use Rattle.path_laws.proofs.ToChain.{coefficientsOf, inT, place-long, pointsOf-coefficientsOf}
+use Rattle.path_laws.specs.Demand.{Accepted}
 use Rattle.rules.proofs.Describes.{labelsOf}
 use Rattle.rules.proofs.Range.{label-is}
 use Rattle.walks.proofs.KeptForm.{labelled}

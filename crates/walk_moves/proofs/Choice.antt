@@ -9,17 +9,17 @@ use native.Mathlib.Omega.{arith}
 use Rattle.combinatorics.proofs.Basics.{absurd-bool, and-both, and-left, and-right, false-of}
 use Rattle.combinatorics.proofs.Lists.{in-cases, in-filter, pigeon}
 use Rattle.combinatorics.specs.Lists.{distinct, isIn}
-use Rattle.place.proofs.FromTwoWays.{back, one-from, one-from-start}
-use Rattle.place.proofs.PathSteps.{Link}
-use Rattle.place.proofs.Simplices.{simplex-sound}
-use Rattle.place.proofs.Theorem.{twoWays}
-use Rattle.place.proofs.Ways.{IsWay, byFacet, byLink, byPlace, in-ways, onWays, sameWay, way-sound}
-use Rattle.place.specs.Demand.{Accepted}
 use Rattle.place.specs.Ends.{Way, link, stop, ways}
 use Rattle.place.specs.Links.{linked}
 use Rattle.place.specs.Path.{isBack, waysOn}
 use Rattle.place.specs.Places.{Simplex, allLabelled, isPlace}
 use Rattle.place.specs.Problem.{Problem}
+use Rattle.path_laws.proofs.FromTwoWays.{back, one-from, one-from-start}
+use Rattle.path_laws.proofs.PathSteps.{Link}
+use Rattle.path_laws.proofs.Simplices.{simplex-sound}
+use Rattle.path_laws.proofs.Theorem.{twoWays}
+use Rattle.path_laws.proofs.Ways.{IsWay, byFacet, byLink, byPlace, in-ways, onWays, sameWay, way-sound}
+use Rattle.path_laws.specs.Demand.{Accepted}
 
 only-one : (l : List Way) (w : Way) → length l ≡ 1 → isIn sameWay w l ≡ true → l ≡ w ∷ []
 only-one [] w e m = absurd (omega arith)

@@ -21,21 +21,22 @@ use Rattle.geometry.proofs.Onward.{end-not-through, facet-way}
 use Rattle.geometry.proofs.Points.{listAt-map, nth}
 use Rattle.grid.proofs.Points.{onPoints}
 use Rattle.grid.specs.Grid.{Point, at, numIndices, samePoint}
-use Rattle.place.proofs.BlocksOfGrid.{blocksOf, coefficientOf, point-coefficientOf}
-use Rattle.place.proofs.ChainLinks.{exchanged-swapped, extended-to, of-link}
-use Rattle.place.proofs.Filled.{FullyLabelled}
-use Rattle.place.proofs.FromChain.{T-range}
-use Rattle.place.proofs.Gaps.{label-named}
-use Rattle.place.proofs.IndexSets.{order-distinct, order-within}
-use Rattle.place.proofs.LinkSymmetry.{parts}
-use Rattle.place.proofs.Meaning.{labels-mean}
-use Rattle.place.proofs.ToChain.{coefficientsOf, grid-at, inT, indexOf, labelOf, labelledChain-of, place-long, pointsOf}
-use Rattle.place.proofs.ToChain.{pointsOf-coefficientsOf}
-use Rattle.place.specs.Demand.{Settled}
 use Rattle.place.specs.Ends.{link}
 use Rattle.place.specs.Links.{exchanged, extended, linked}
 use Rattle.place.specs.Places.{Simplex, allLabelled, isPlace, labelSet, order, setT}
 use Rattle.place.specs.Problem.{Problem, hasLabel, label}
+use Rattle.path_laws.proofs.BlocksOfGrid.{blocksOf, coefficientOf, point-coefficientOf}
+use Rattle.path_laws.proofs.ChainLinks.{exchanged-swapped, extended-to, of-link}
+use Rattle.path_laws.proofs.Filled.{FullyLabelled}
+use Rattle.path_laws.proofs.FromChain.{T-range}
+use Rattle.path_laws.proofs.Gaps.{label-named}
+use Rattle.path_laws.proofs.IndexSets.{order-distinct, order-within}
+use Rattle.path_laws.proofs.LinkSymmetry.{parts}
+use Rattle.path_laws.proofs.Meaning.{labels-mean}
+use Rattle.path_laws.proofs.ToChain.{coefficientsOf, grid-at, inT, indexOf, labelOf, labelledChain-of, place-long}
+use Rattle.path_laws.proofs.ToChain.{pointsOf}
+use Rattle.path_laws.proofs.ToChain.{pointsOf-coefficientsOf}
+use Rattle.path_laws.specs.Demand.{Settled}
 use Rattle.rules.proofs.Describes.{Left, facetEnds, leftOn}
 use Rattle.rules.specs.Step.{After, State}
 use Rattle.walk_moves.proofs.Kept.{kept-described}

@@ -19,18 +19,18 @@ use Rattle.geometry.proofs.LabelledChains.{LabelledChain, listAt}
 use Rattle.geometry.proofs.Points.{nth, listAt-map}
 use Rattle.grid.proofs.Points.{onPoints}
 use Rattle.grid.specs.Grid.{Point, at, isGridPoint, numIndices}
-use Rattle.place.proofs.BlocksOfGrid.{blocksOf, coefficientOf, coefficientOf-is, coord-in, coord-out}
-use Rattle.place.proofs.Filled.{FullyLabelled, filledTable, filled-full, filled-label}
-use Rattle.place.proofs.FromChain.{T-is, back-again, long, place-of}
-use Rattle.place.proofs.Meaning.{labels-mean}
-use Rattle.place.proofs.LinkSymmetry.{parts}
-use Rattle.place.proofs.Positions.{at-in, in-at}
-use Rattle.place.proofs.ToChain.{coefficientsOf, inT, labelOf, labelledChain-of, place-long, pointsOf}
-use Rattle.place.proofs.ToChain.{pointsOf-coefficientsOf}
 use Rattle.place.specs.Coefficients.{IsCoefficients, coefficients}
-use Rattle.place.specs.Demand.{Accepted}
 use Rattle.place.specs.Places.{Simplex, isPlace, labelSet, order, within}
 use Rattle.place.specs.Problem.{Problem}
+use Rattle.path_laws.proofs.BlocksOfGrid.{blocksOf, coefficientOf, coefficientOf-is, coord-in, coord-out}
+use Rattle.path_laws.proofs.Filled.{FullyLabelled, filledTable, filled-full, filled-label}
+use Rattle.path_laws.proofs.FromChain.{T-is, back-again, long, place-of}
+use Rattle.path_laws.proofs.Meaning.{labels-mean}
+use Rattle.path_laws.proofs.LinkSymmetry.{parts}
+use Rattle.path_laws.proofs.Positions.{at-in, in-at}
+use Rattle.path_laws.proofs.ToChain.{coefficientsOf, inT, labelOf, labelledChain-of, place-long, pointsOf}
+use Rattle.path_laws.proofs.ToChain.{pointsOf-coefficientsOf}
+use Rattle.path_laws.specs.Demand.{Accepted}
 use Rattle.rules.proofs.Describes.{AllMarks, Describes}
 use Rattle.rules.proofs.Marks.{mark-is}
 use Rattle.rules.proofs.StatePoints.{point-is}

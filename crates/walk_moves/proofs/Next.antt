@@ -16,22 +16,22 @@ use Rattle.geometry.proofs.LabelledChains.{LabelledChain}
 use Rattle.geometry.proofs.Points.{nth}
 use Rattle.grid.proofs.Points.{onPoints}
 use Rattle.grid.specs.Grid.{Point, at, bound}
-use Rattle.place.proofs.BlocksOfGrid.{blocksOf}
-use Rattle.place.proofs.Filled.{fill, filledTable, filled-full, filled-label, full-accepted}
-use Rattle.place.proofs.FromTwoWays.{back}
-use Rattle.place.proofs.LinkSymmetry.{parts}
-use Rattle.place.proofs.Local.{Agree, known-local, map-same}
-use Rattle.place.proofs.Positions.{at-in}
-use Rattle.place.proofs.Theorem.{single}
-use Rattle.place.proofs.ToChain.{coefficientsOf, inT, labelOf, pointsOf, pointsOf-coefficientsOf}
-use Rattle.place.proofs.Ways.{IsWay}
 use Rattle.place.specs.Coefficients.{coefficients}
-use Rattle.place.specs.Demand.{Accepted}
 use Rattle.place.specs.Ends.{Way, link}
 use Rattle.place.specs.Links.{linked}
 use Rattle.place.specs.Path.{waysOn}
 use Rattle.place.specs.Places.{Simplex, allLabelled, isPlace, order, setT}
 use Rattle.place.specs.Problem.{Problem, hasLabel, label}
+use Rattle.path_laws.proofs.BlocksOfGrid.{blocksOf}
+use Rattle.path_laws.proofs.Filled.{fill, filledTable, filled-full, filled-label, full-accepted}
+use Rattle.path_laws.proofs.FromTwoWays.{back}
+use Rattle.path_laws.proofs.LinkSymmetry.{parts}
+use Rattle.path_laws.proofs.Local.{Agree, known-local, map-same}
+use Rattle.path_laws.proofs.Positions.{at-in}
+use Rattle.path_laws.proofs.Theorem.{single}
+use Rattle.path_laws.proofs.ToChain.{coefficientsOf, inT, labelOf, pointsOf, pointsOf-coefficientsOf}
+use Rattle.path_laws.proofs.Ways.{IsWay}
+use Rattle.path_laws.specs.Demand.{Accepted}
 use Rattle.rules.proofs.Describes.{AllMarks, Describes, Left, labelsOf}
 use Rattle.rules.specs.Ready.{Ready}
 use Rattle.rules.specs.Step.{State, step}

@@ -15,14 +15,14 @@ use Rattle.geometry.proofs.Exits.{kinds}
 use Rattle.geometry.proofs.LabelledChains.{LabelledChain, listAt}
 use Rattle.geometry.proofs.Points.{listAt-map, nth}
 use Rattle.grid.specs.Grid.{Point, at, numIndices}
-use Rattle.place.proofs.BlocksOfGrid.{blocksOf, coefficientOf, point-coefficientOf}
-use Rattle.place.proofs.LinkSymmetry.{parts}
-use Rattle.place.proofs.Meaning.{T-means}
-use Rattle.place.proofs.ToChain.{coefficientsOf, grid-at, inT, index-suc, indexOf, labelOf, labelledChain-of}
 use Rattle.place.specs.Coefficients.{coefficients}
-use Rattle.place.specs.Demand.{Accepted}
 use Rattle.place.specs.Places.{Simplex, isPlace, setT}
 use Rattle.place.specs.Problem.{Problem, label}
+use Rattle.path_laws.proofs.BlocksOfGrid.{blocksOf, coefficientOf, point-coefficientOf}
+use Rattle.path_laws.proofs.LinkSymmetry.{parts}
+use Rattle.path_laws.proofs.Meaning.{T-means}
+use Rattle.path_laws.proofs.ToChain.{coefficientsOf, grid-at, inT, index-suc, indexOf, labelOf, labelledChain-of}
+use Rattle.path_laws.specs.Demand.{Accepted}
 use Rattle.walks.specs.Kept.{keptPoints}
 use Rattle.walk_moves.proofs.Carried.{covering, points-long}
 use Rattle.walk_moves.proofs.Gap.{gap-only}

@@ -17,12 +17,12 @@ use Rattle.geometry.proofs.Definitions.{Carries}
 use Rattle.geometry.proofs.LabelledChains.{LabelledChain}
 use Rattle.geometry.proofs.Onward.{through-determines, through-not-above, start-extra}
 use Rattle.grid.specs.Grid.{at, numIndices}
-use Rattle.place.proofs.BlocksOfGrid.{blocksOf}
-use Rattle.place.proofs.ChainLinks.{of-link}
-use Rattle.place.proofs.Filled.{FullyLabelled}
-use Rattle.place.proofs.FromChain.{T-is, back-again, in-U, place-of}
-use Rattle.place.proofs.ToChain.{coefficientsOf, labelOf, pointsOf}
-use Rattle.place.proofs.Ways.{IsWay, byLink}
+use Rattle.path_laws.proofs.BlocksOfGrid.{blocksOf}
+use Rattle.path_laws.proofs.ChainLinks.{of-link}
+use Rattle.path_laws.proofs.Filled.{FullyLabelled}
+use Rattle.path_laws.proofs.FromChain.{T-is, back-again, in-U, place-of}
+use Rattle.path_laws.proofs.ToChain.{coefficientsOf, labelOf, pointsOf}
+use Rattle.path_laws.proofs.Ways.{IsWay, byLink}
 use Rattle.place.specs.Ends.{Way, link, stop}
 use Rattle.place.specs.Places.{isPlace, setT, setU}
 use Rattle.place.specs.Problem.{Problem}

@@ -15,10 +15,10 @@ use Rattle.grid.proofs.Fields.{made-indices}
 use Rattle.grid.specs.Grid.{at, bound}
 use Rattle.grid.specs.Made.{IsMade, shape}
 use Rattle.grid.specs.declared.Grid.{Grid as GridStruct}
-use Rattle.place.proofs.Accepted.{accepted-of}
-use Rattle.place.proofs.IndexSets.{no-empty}
-use Rattle.place.specs.Demand.{Accepted}
 use Rattle.place.specs.Questions.{tableQuestions}
+use Rattle.path_laws.proofs.Accepted.{accepted-of}
+use Rattle.path_laws.proofs.IndexSets.{no-empty}
+use Rattle.path_laws.specs.Demand.{Accepted}
 use Rattle.questions.specs.Questions.{firstNo}
 use Rattle.walks.specs.Next.{nextOf, refused}
 use Rattle.walk_moves.proofs.Next.{no-count, no-place, no-read}

@@ -19,13 +19,13 @@ use Rattle.grid.proofs.Points.{onPoints}
 use Rattle.grid.specs.Grid.{Point, at, blockOf, isGridPoint, numIndices, position, size}
 use Rattle.grid.specs.Made.{IsMade, shape}
 use Rattle.grid.specs.declared.Grid.{Grid as GridStruct}
-use Rattle.place.proofs.Accepted.{accepted-of}
-use Rattle.place.proofs.Labels.{label-within}
-use Rattle.place.proofs.Meaning.{labels-mean}
-use Rattle.place.proofs.Positions.{at-in, in-at}
-use Rattle.place.specs.Demand.{Accepted}
 use Rattle.place.specs.Places.{Simplex, isPlace, labelSet, within}
 use Rattle.place.specs.Problem.{Problem, label}
+use Rattle.path_laws.proofs.Accepted.{accepted-of}
+use Rattle.path_laws.proofs.Labels.{label-within}
+use Rattle.path_laws.proofs.Meaning.{labels-mean}
+use Rattle.path_laws.proofs.Positions.{at-in, in-at}
+use Rattle.path_laws.specs.Demand.{Accepted}
 use Rattle.rules.proofs.SameMasks.{same-mask}
 use Rattle.rules.proofs.Marks.{label-in, labels-in}
 use Rattle.rules.specs.Mask.{bit}

@@ -19,15 +19,15 @@ use Rattle.grid.specs.Grid.{Grid, Point, at, isGridPoint, numIndices, position,
 use Rattle.grid.specs.Made.{IsMade, shape}
 use Rattle.grid.specs.Questions.{gridQuestions, question5}
 use Rattle.grid.specs.declared.Grid.{Grid as GridStruct}
-use Rattle.place.proofs.Accepted.{accepted-is}
-use Rattle.place.proofs.Bound.{order-short}
-use Rattle.place.proofs.IndexSets.{no-empty}
-use Rattle.place.proofs.LinkSymmetry.{parts}
-use Rattle.place.proofs.ToChain.{place-long}
-use Rattle.place.specs.Demand.{Accepted}
 use Rattle.place.specs.Places.{Simplex, isPlace, labelSet, order, setT, setU, within}
 use Rattle.place.specs.Problem.{Problem}
 use Rattle.place.specs.Questions.{question6, question7}
+use Rattle.path_laws.proofs.Accepted.{accepted-is}
+use Rattle.path_laws.proofs.Bound.{order-short}
+use Rattle.path_laws.proofs.IndexSets.{no-empty}
+use Rattle.path_laws.proofs.LinkSymmetry.{parts}
+use Rattle.path_laws.proofs.ToChain.{place-long}
+use Rattle.path_laws.specs.Demand.{Accepted}
 use Rattle.positions.proofs.ByTails.{position-tells}
 use Rattle.questions.proofs.Answers.{both-yes}
 use Rattle.questions.specs.Questions.{firstNo}

@@ -14,11 +14,11 @@ use Rattle.combinatorics.proofs.Basics.{and-both, and-left, and-right, true-or-
 use Rattle.combinatorics.proofs.Fronts.{front-taken}
 use Rattle.combinatorics.specs.Lists.{firstOr}
 use Rattle.grid.specs.Grid.{Grid, numIndices}
-use Rattle.place.proofs.IndexSets.{no-empty}
-use Rattle.place.proofs.ToChain.{place-long}
-use Rattle.place.specs.Demand.{Settled}
 use Rattle.place.specs.Places.{Simplex, isPlace, order}
 use Rattle.place.specs.Problem.{Problem}
+use Rattle.path_laws.proofs.IndexSets.{no-empty}
+use Rattle.path_laws.proofs.ToChain.{place-long}
+use Rattle.path_laws.specs.Demand.{Settled}
 use Rattle.walks.proofs.KeptForm.{order-is}
 use Rattle.walks.proofs.Recognised.{kept-once}
 use Rattle.walks.specs.Kept.{keptPoints}

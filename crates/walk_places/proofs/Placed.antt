@@ -11,11 +11,11 @@ use Rattle.grid.proofs.Points.{in-points, onPoints, position-in}
 use Rattle.grid.specs.Grid.{Point, at, isGridPoint, numPoints, points, position}
 use Rattle.grid.specs.Made.{shape}
 use Rattle.grid.specs.declared.Grid.{Grid as GridStruct}
-use Rattle.place.proofs.Accepted.{accepted-of}
-use Rattle.place.proofs.Positions.{at-in}
-use Rattle.place.specs.Demand.{Accepted}
 use Rattle.place.specs.Places.{Simplex}
 use Rattle.place.specs.Problem.{Problem, label}
+use Rattle.path_laws.proofs.Accepted.{accepted-of}
+use Rattle.path_laws.proofs.Positions.{at-in}
+use Rattle.path_laws.specs.Demand.{Accepted}
 use Rattle.recogniser.specs.Kept.{Seen}
 use Rattle.recogniser.specs.Pieces.{CanRead, LabelsPut, bareMark}
 use Rattle.rules.proofs.Marks.{position-in as position-of-mark}

@@ -11,10 +11,10 @@ use Rattle.combinatorics.proofs.Lists.{all-in, in-here, in-later, in-map, map-i
 use Rattle.combinatorics.specs.Lists.{all, firstOr, isIn}
 use Rattle.grid.proofs.Points.{onPoints}
 use Rattle.grid.specs.Grid.{Point, isGridPoint, numIndices, position, samePoint}
-use Rattle.place.proofs.Meaning.{T-means, U-means}
-use Rattle.place.specs.Demand.{Accepted}
 use Rattle.place.specs.Places.{Simplex, setT, setU}
 use Rattle.place.specs.Problem.{Problem}
+use Rattle.path_laws.proofs.Meaning.{T-means, U-means}
+use Rattle.path_laws.specs.Demand.{Accepted}
 use Rattle.recogniser.specs.Pieces.{bareMark}
 use Rattle.records.proofs.Told.{IsMask, gained, into, kept, lost}
 use Rattle.rules.specs.Mask.{bit}

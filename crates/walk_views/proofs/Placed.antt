@@ -19,14 +19,14 @@ use Rattle.grid.specs.declared.Grid.{Grid as GridStruct}
 use Rattle.moves.specs.Held.{stateOf}
 use Rattle.place_points.specs.Room.{CanPut}
 use Rattle.moves.specs.declared.Status.{Status}
-use Rattle.place.proofs.Filled.{filledTable, filled-full}
-use Rattle.place.proofs.ToChain.{pointsOf-coefficientsOf}
-use Rattle.place.proofs.Accepted.{accepted-of}
-use Rattle.place.proofs.IndexSets.{no-empty}
-use Rattle.place.proofs.LinkSymmetry.{parts}
 use Rattle.place.specs.Places.{Simplex, isPlace}
 use Rattle.place.specs.Problem.{Problem}
 use Rattle.place.specs.Questions.{tableQuestions}
+use Rattle.path_laws.proofs.Filled.{filledTable, filled-full}
+use Rattle.path_laws.proofs.ToChain.{pointsOf-coefficientsOf}
+use Rattle.path_laws.proofs.Accepted.{accepted-of}
+use Rattle.path_laws.proofs.IndexSets.{no-empty}
+use Rattle.path_laws.proofs.LinkSymmetry.{parts}
 use Rattle.questions.proofs.Answers.{asked-next, asked-no}
 use Rattle.questions.specs.Questions.{ask, firstNo}
 use Rattle.recogniser.specs.declared.Sets.{Sets}

@@ -15,9 +15,9 @@ use Rattle.grid.proofs.Fields.{made-blocks, made-indices, made-points}
 use Rattle.grid.specs.Made.{IsMade, gridOf as structOf, shape}
 use Rattle.grid.specs.Questions.{gridQuestions}
 use Rattle.grid.specs.declared.Grid.{Grid as GridStruct}
-use Rattle.place.proofs.Accepted.{accepted-of}
 use Rattle.place.specs.Problem.{Problem, label}
 use Rattle.place.specs.Questions.{tableQuestions}
+use Rattle.path_laws.proofs.Accepted.{accepted-of}
 use Rattle.questions.proofs.Answers.{asked-no, both-yes}
 use Rattle.questions.specs.Questions.{firstNo}
 use Rattle.walks.proofs.KeptForm.{grid-long}

@@ -25,15 +25,15 @@ use Rattle.grid.specs.Grid.{Point, at, blockOf, isGridPoint, numIndices, numPoi
 use Rattle.grid.specs.Made.{shape}
 use Rattle.grid.specs.declared.Grid.{Grid as GridStruct}
 use Rattle.moves.specs.Held.{stateOf}
+use Rattle.path_laws.proofs.Accepted.{accepted-of}
+use Rattle.path_laws.proofs.Filled.{fill, filledTable, filled-full, filled-label}
+use Rattle.path_laws.proofs.LinkSymmetry.{parts}
+use Rattle.path_laws.proofs.Local.{setT-same}
+use Rattle.path_laws.proofs.Positions.{at-in}
+use Rattle.path_laws.proofs.ToChain.{coefficientsOf, pointsOf, pointsOf-coefficientsOf}
+use Rattle.path_laws.specs.Demand.{Accepted}
 use Rattle.place_points.specs.Room.{CanPut}
 use Rattle.moves.specs.declared.Status.{Status}
-use Rattle.place.proofs.Accepted.{accepted-of}
-use Rattle.place.proofs.Filled.{fill, filledTable, filled-full, filled-label}
-use Rattle.place.proofs.LinkSymmetry.{parts}
-use Rattle.place.proofs.Local.{setT-same}
-use Rattle.place.proofs.ToChain.{coefficientsOf, pointsOf, pointsOf-coefficientsOf}
-use Rattle.place.proofs.Positions.{at-in}
-use Rattle.place.specs.Demand.{Accepted}
 use Rattle.place.specs.Ends.{link}
 use Rattle.place.specs.Places.{Simplex, setT, setU}
 use Rattle.place.specs.Problem.{Problem, label}

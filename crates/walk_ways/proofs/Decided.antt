@@ -15,11 +15,11 @@ use Rattle.grid.proofs.Points.{onPoints}
 use Rattle.grid.specs.Grid.{isGridPoint}
 use Rattle.grid.specs.Made.{shape}
 use Rattle.grid.specs.declared.Grid.{Grid as GridStruct}
-use Rattle.place.proofs.Labels.{label-ok}
-use Rattle.place.proofs.LinkSymmetry.{parts}
-use Rattle.place.proofs.Positions.{in-at}
 use Rattle.place.specs.Places.{Simplex, allLabelled}
 use Rattle.place.specs.Problem.{hasLabel, label}
+use Rattle.path_laws.proofs.Labels.{label-ok}
+use Rattle.path_laws.proofs.LinkSymmetry.{parts}
+use Rattle.path_laws.proofs.Positions.{in-at}
 use Rattle.rules.specs.Step.{State, step}
 use Rattle.walks.specs.Kept.{keptPoints}
 use Rattle.walks.specs.Next.{byWay, nextOf, refused}

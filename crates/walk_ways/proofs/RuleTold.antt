@@ -9,9 +9,9 @@ use native.Mathlib.Omega.{arith}
 use Rattle.combinatorics.proofs.Basics.{absurd-bool, both, false-of, not-is, true-or-false}
 use Rattle.combinatorics.proofs.Lists.{filter-in, in-filter, in-here, onNumbers}
 use Rattle.combinatorics.specs.Lists.{isIn}
-use Rattle.place.proofs.Meaning.{T-means, U-means}
 use Rattle.place.specs.Places.{Simplex, setT, setU}
 use Rattle.place.specs.Problem.{Problem}
+use Rattle.path_laws.proofs.Meaning.{T-means, U-means}
 use Rattle.grid.specs.Grid.{numIndices}
 use Rattle.rules.specs.Mask.{bit}
 use Rattle.trail.specs.Change.{ByRule, Change, change, changeBy, outside, rule1, rule2, rule3, rule4, rule5, rule6}

@@ -11,13 +11,13 @@ use Rattle.combinatorics.proofs.Lists.{all-in, filter-in, in-filter, in-here, o
 use Rattle.end_kinds.specs.declared.Kind.{Kind}
 use Rattle.grid.proofs.Points.{onPoints}
 use Rattle.grid.specs.Grid.{Point, bound}
-use Rattle.place.proofs.FromTwoWays.{back}
-use Rattle.place.proofs.LabelsRead.{came-few, came-next, came-none}
-use Rattle.place.proofs.PathSteps.{Link, waysOn-split}
-use Rattle.place.proofs.Simplices.{simplex-sound}
-use Rattle.place.proofs.Theorem.{demand3-holds}
-use Rattle.place.proofs.Ways.{byLink, onWays, in-ways}
-use Rattle.place.specs.Demand.{Accepted, Demand3, Stop, atEnd, atGap, placeAt, leftAt}
+use Rattle.path_laws.proofs.FromTwoWays.{back}
+use Rattle.path_laws.proofs.LabelsRead.{came-few, came-next, came-none}
+use Rattle.path_laws.proofs.PathSteps.{Link, waysOn-split}
+use Rattle.path_laws.proofs.Simplices.{simplex-sound}
+use Rattle.path_laws.proofs.Theorem.{demand3-holds}
+use Rattle.path_laws.proofs.Ways.{byLink, onWays, in-ways}
+use Rattle.path_laws.specs.Demand.{Accepted, Demand3, Stop, atEnd, atGap, placeAt, leftAt}
 use Rattle.place.specs.Ends.{End, link, ends, ways}
 use Rattle.place.specs.LabelsRead.{cameIn, labelsRead, pointCameIn}
 use Rattle.place.specs.Path.{isBack, waysOn, sameSimplex, path, pathLength, spent, unknown, ended as runEnded, outcome}

@@ -18,14 +18,14 @@ use Rattle.grid.proofs.Points.{onPoints}
 use Rattle.grid.proofs.Round.{next-previous}
 use Rattle.grid.specs.Grid.{Grid, Point, at, blockIn, blockOf, indices, isGridPoint, numIndices, previous, samePoint}
 use Rattle.grid.specs.Grid.{size}
-use Rattle.place.proofs.IndexSets.{goes-at, order-distinct, order-within, T-not-U}
-use Rattle.place.proofs.LinkSymmetry.{parts}
-use Rattle.place.proofs.Meaning.{free-means, index-means, T-means, U-means}
-use Rattle.place.proofs.Positions.{first-of, occurs-in}
 use Rattle.place.specs.Coefficients.{coefficients, coefficientSum}
 use Rattle.place.specs.Places.{Simplex, eachGoesToNext, firstBackOutside, goesTo, grownAt, isPlace, labelSet, order}
 use Rattle.place.specs.Places.{searchBack, setT, setU, unit, within}
 use Rattle.place.specs.Problem.{Problem}
+use Rattle.path_laws.proofs.IndexSets.{goes-at, order-distinct, order-within, T-not-U}
+use Rattle.path_laws.proofs.LinkSymmetry.{parts}
+use Rattle.path_laws.proofs.Meaning.{free-means, index-means, T-means, U-means}
+use Rattle.path_laws.proofs.Positions.{first-of, occurs-in}
 use Rattle.walks.proofs.KeptPlace.{Conditions, at-stepped, is-zero, length-stepped, zero-is, zero-stays}
 use Rattle.walks.specs.Kept.{canStep, keptPoints, pointsBy, stepped, zeroOutside}
 

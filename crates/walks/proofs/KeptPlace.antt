@@ -29,17 +29,18 @@ use Rattle.geometry.proofs.Tight.{bounded, lifted-le, lifted-on, lifted-tight, 
 use Rattle.geometry.proofs.Sorted.{rising-chain}
 use Rattle.grid.proofs.Points.{onPoints}
 use Rattle.grid.specs.Grid.{Point, at, indices, isGridPoint, numIndices, samePoint}
-use Rattle.place.proofs.BlocksOfGrid.{back-below, beyond, blocksOf, coefficientOf, coefficientOf-is}
-use Rattle.place.proofs.BlocksOfGrid.{coefficientOf-point, coord-in, hasZeros, next-outside, on-ring, outside-before}
-use Rattle.place.proofs.BlocksOfGrid.{point-grid, pointOf, start-outside}
-use Rattle.place.proofs.FromChain.{place-of}
-use Rattle.place.proofs.Meaning.{index-means}
-use Rattle.place.proofs.Positions.{at-distinct, at-in, in-at, same-at}
-use Rattle.place.proofs.ToChain.{coefficientsOf, free-index, is-at, labelOf, labels-in, pointsOf-coefficientsOf}
 use Rattle.place.specs.Coefficients.{IsCoefficients, coefficients}
-use Rattle.place.specs.Demand.{Settled}
 use Rattle.place.specs.Places.{Simplex, everyBlockFree, firstBackOutside, isPlace, labelSet, unit, within}
 use Rattle.place.specs.Problem.{Problem}
+use Rattle.path_laws.proofs.BlocksOfGrid.{back-below, beyond, blocksOf, coefficientOf, coefficientOf-is}
+use Rattle.path_laws.proofs.BlocksOfGrid.{coefficientOf-point, coord-in, hasZeros, next-outside, on-ring}
+use Rattle.path_laws.proofs.BlocksOfGrid.{outside-before}
+use Rattle.path_laws.proofs.BlocksOfGrid.{point-grid, pointOf, start-outside}
+use Rattle.path_laws.proofs.FromChain.{place-of}
+use Rattle.path_laws.proofs.Meaning.{index-means}
+use Rattle.path_laws.proofs.Positions.{at-distinct, at-in, in-at, same-at}
+use Rattle.path_laws.proofs.ToChain.{coefficientsOf, free-index, is-at, labelOf, labels-in, pointsOf-coefficientsOf}
+use Rattle.path_laws.specs.Demand.{Settled}
 use Rattle.walks.specs.Kept.{canStep, isKept, keptPoints, pointsBy, stepped, zeroOutside}
 
 module _ (p : Problem) where

@@ -5,12 +5,12 @@ use mathlib.Core.Option.{Option}
 use mathlib.Core.Path.{_≡_, sym, ap, _∙_}
 use Prim.Native.Nat.{ℕ}
 use Rattle.combinatorics.proofs.Basics.{both}
-use Rattle.place.proofs.FromTwoWays.{back}
-use Rattle.place.proofs.Local.{Agree, map-same, place-local, linked-local, linked-stays, known-local, ways-local}
-use Rattle.place.specs.Demand.{Accepted}
 use Rattle.place.specs.Path.{waysOn}
 use Rattle.place.specs.Places.{Simplex, allLabelled}
 use Rattle.place.specs.Problem.{Problem, withLabels}
+use Rattle.path_laws.proofs.FromTwoWays.{back}
+use Rattle.path_laws.proofs.Local.{Agree, map-same, place-local, linked-local, linked-stays, known-local, ways-local}
+use Rattle.path_laws.specs.Demand.{Accepted}
 use Rattle.questions.specs.Questions.{firstNo, ask}
 use Rattle.walks.proofs.Meaning.{Came, begins, came, Stands, stands-of, of-stands, behind-seven}
 use Rattle.walks.specs.Next.{nextOf}

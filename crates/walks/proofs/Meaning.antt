@@ -13,17 +13,17 @@ use Rattle.combinatorics.proofs.Basics.{absurd-bool, and-both, and-left, and-ri
 use Rattle.combinatorics.proofs.Lists.{eqb-self, same-self, same-sound}
 use Rattle.combinatorics.specs.Lists.{same}
 use Rattle.grid.specs.Grid.{bound}
-use Rattle.place.proofs.Accepted.{accepted-of, accepted-is}
-use Rattle.place.proofs.FromTwoWays.{one-from-start, one-from}
-use Rattle.place.proofs.PathSteps.{Link}
-use Rattle.place.proofs.Simplices.{simplex-sound, simplex-self}
-use Rattle.place.proofs.Theorem.{twoWays}
-use Rattle.place.specs.Demand.{Accepted}
 use Rattle.place.specs.Links.{linked}
 use Rattle.place.specs.Path.{waysOn}
 use Rattle.place.specs.Places.{Simplex, isPlace, allLabelled}
 use Rattle.place.specs.Problem.{Problem}
 use Rattle.place.specs.Questions.{tableQuestions}
+use Rattle.path_laws.proofs.Accepted.{accepted-of, accepted-is}
+use Rattle.path_laws.proofs.FromTwoWays.{one-from-start, one-from}
+use Rattle.path_laws.proofs.PathSteps.{Link}
+use Rattle.path_laws.proofs.Simplices.{simplex-sound, simplex-self}
+use Rattle.path_laws.proofs.Theorem.{twoWays}
+use Rattle.path_laws.specs.Demand.{Accepted}
 use Rattle.questions.proofs.Answers.{both-yes, first-yes, asked-next}
 use Rattle.questions.specs.Questions.{firstNo, ask}
 use Rattle.walks.specs.Walk.{Walk, labelsOf, over, cameByLink, isStart, hasNone, bothOrNeither, isWalk}

@@ -12,19 +12,19 @@ use native.Mathlib.Omega.{arith}
 use Rattle.combinatorics.proofs.Basics.{absurd-bool, before-or-not, false-of, not-is, same-or, true-or-false}
 use Rattle.combinatorics.proofs.Lists.{filter-in, in-here}
 use Rattle.grid.specs.Grid.{bound}
-use Rattle.place.proofs.FromTwoWays.{among-two, back, in-links, length-ways}
-use Rattle.place.proofs.LinkSymmetry.{place-same}
-use Rattle.place.proofs.PathSteps.{Link}
-use Rattle.place.proofs.Simplices.{simplex-sound, simplex-self}
-use Rattle.place.proofs.Theorem.{twoWays}
-use Rattle.place.proofs.Ways.{IsWay, byPlace, byFacet, byLink, onWays, way-is}
-use Rattle.place.specs.Demand.{Accepted, SamePoints}
 use Rattle.place.specs.Ends.{Way, stop, link, ways}
 use Rattle.place.specs.LabelsRead.{pointCameIn}
 use Rattle.place.specs.Links.{links}
 use Rattle.place.specs.Path.{isBack, waysOn, sameSimplex}
 use Rattle.place.specs.Places.{Simplex, isPlace, allLabelled}
 use Rattle.place.specs.Problem.{Problem}
+use Rattle.path_laws.proofs.FromTwoWays.{among-two, back, in-links, length-ways}
+use Rattle.path_laws.proofs.LinkSymmetry.{place-same}
+use Rattle.path_laws.proofs.PathSteps.{Link}
+use Rattle.path_laws.proofs.Simplices.{simplex-sound, simplex-self}
+use Rattle.path_laws.proofs.Theorem.{twoWays}
+use Rattle.path_laws.proofs.Ways.{IsWay, byPlace, byFacet, byLink, onWays, way-is}
+use Rattle.path_laws.specs.Demand.{Accepted, SamePoints}
 use Rattle.questions.specs.Questions.{firstNo}
 use Rattle.trail.proofs.LinkRules.{rule-of-link}
 use Rattle.trail.proofs.Rules.{rules-are}

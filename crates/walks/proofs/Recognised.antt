@@ -16,15 +16,15 @@ use Rattle.combinatorics.proofs.Lists.{all-in, in-all, in-cases, in-here, in-la
 use Rattle.combinatorics.specs.Lists.{all, firstOr, isIn}
 use Rattle.grid.proofs.Points.{onPoints}
 use Rattle.grid.specs.Grid.{Grid, Point, at, indices, isGridPoint, numIndices, samePoint}
-use Rattle.place.proofs.IndexSets.{goes-at, no-empty, order-within, T-not-U}
-use Rattle.place.proofs.LinkSymmetry.{parts}
-use Rattle.place.proofs.Local.{unlabelled-same}
-use Rattle.place.proofs.Meaning.{index-means, labels-mean, U-means}
 use Rattle.place.specs.Coefficients.{coefficients}
-use Rattle.place.specs.Demand.{Settled}
 use Rattle.place.specs.Places.{Simplex, eachGoesToNext, firstBackOutside, goesTo, grownAt, isPlace, isUnlabelledPlace}
 use Rattle.place.specs.Places.{labelSet, order, setU, unit, within}
 use Rattle.place.specs.Problem.{Problem, label, withLabels}
+use Rattle.path_laws.proofs.IndexSets.{goes-at, no-empty, order-within, T-not-U}
+use Rattle.path_laws.proofs.LinkSymmetry.{parts}
+use Rattle.path_laws.proofs.Local.{unlabelled-same}
+use Rattle.path_laws.proofs.Meaning.{index-means, labels-mean, U-means}
+use Rattle.path_laws.specs.Demand.{Settled}
 use Rattle.trail.proofs.Tables.{Names, settled-with, some-index, some-table, table, table-labels}
 use Rattle.walks.proofs.KeptForm.{back-same, grid-long, labelled, meets, order-is}
 use Rattle.walks.proofs.KeptPlace.{Conditions, at-stepped, conditions-of, distinct-points, is-zero, kept-place}

@@ -7,12 +7,12 @@ use Prim.Native.Nat.{ℕ}
 use lib.Dec.{eqb, leb}
 use Rattle.combinatorics.specs.Lists.{same}
 use Rattle.grid.specs.Grid.{Grid, Point, bound}
-use Rattle.place.specs.Demand.{SamePoints}
 use Rattle.place.specs.Links.{linked}
 use Rattle.place.specs.Path.{sameSimplex}
 use Rattle.place.specs.Places.{Simplex, isPlace, allLabelled}
 use Rattle.place.specs.Problem.{Problem, label}
 use Rattle.place.specs.Questions.{tableQuestions}
+use Rattle.path_laws.specs.Demand.{SamePoints}
 use Rattle.questions.specs.Questions.{Question, ask}
 
 -- "A walk holds the grid, the start, the present place, the one before it and the places so far". As document 01's sets

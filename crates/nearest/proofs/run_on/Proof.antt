@@ -12,9 +12,9 @@ use Rattle.finder.proofs.Refusals.{accepted-with-room}
 use Rattle.finder.specs.Run.{numbersOf}
 use Rattle.grid.specs.Grid.{isGridPoint, numPoints}
 use Rattle.marks.specs.Reading.{problemFrom}
-use Rattle.place.specs.Demand.{Accepted}
 use Rattle.place.specs.Path.{answer}
 use Rattle.place.specs.Problem.{Problem}
+use Rattle.path_laws.specs.Demand.{Accepted}
 use Rattle.nearest.proofs.Refusals.{all-yes, answered, by-point, list-of, listed-few, none-of, refused}
 use Rattle.nearest.specs.Report.{answerBuffer, listBuffer, listedIn, nearestIn, reportOf}
 use Rattle.nearest.specs.declared.Nearest.the-variants.{Vertex}

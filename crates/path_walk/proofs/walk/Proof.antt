@@ -7,8 +7,8 @@ use native.Mathlib.Omega.{arith}
 use Rattle.arrays.specs.Rounds.{roundOf}
 use Rattle.grid.proofs.Fields.{indices-few}
 use Rattle.moves.specs.Held.{stateOf}
-use Rattle.place.proofs.Filled.{filledTable}
 use Rattle.place.specs.Problem.{Problem}
+use Rattle.path_laws.proofs.Filled.{filledTable}
 use Rattle.marks.specs.Reading.{tableOf}
 use Rattle.rules.proofs.Follow.{NextAt}
 use Rattle.rules.specs.Read.{read}

@@ -21,9 +21,9 @@ use Rattle.marks.specs.Reading.{tableOf}
 use Rattle.moves.specs.Held.{answered, stateOf}
 use Rattle.moves.specs.declared.Outcome.{Outcome}
 use Rattle.moves.specs.declared.Status.{Status}
-use Rattle.place.proofs.Filled.{filledTable}
 use Rattle.place.specs.Path.{path as pathOf, pathLength}
 use Rattle.place.specs.Problem.{Problem}
+use Rattle.path_laws.proofs.Filled.{filledTable}
 use Rattle.rules.proofs.Follow.{NextAt}
 use Rattle.rules.specs.Read.{positionAt, read}
 use Rattle.rules.specs.Step.{After, Round, State, goes, markPosition, step as stepOf}

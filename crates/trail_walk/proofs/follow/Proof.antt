@@ -21,9 +21,9 @@ use Rattle.moves.specs.Held.{answered, stateOf}
 use Rattle.moves.specs.declared.Outcome.{Outcome}
 use Rattle.moves.specs.declared.Outcome.the-variants.{Moved}
 use Rattle.moves.specs.declared.Status.{Status}
-use Rattle.place.proofs.Filled.{filledTable}
 use Rattle.place.specs.Path.{path, pathLength}
 use Rattle.place.specs.Problem.{Problem}
+use Rattle.path_laws.proofs.Filled.{filledTable}
 use Rattle.records.proofs.Differences.{none-differs}
 use Rattle.records.specs.Records.{SameSets}
 use Rattle.rules.proofs.Follow.{NextAt}

@@ -10,7 +10,7 @@ use Rattle.grid.proofs.Fields.{indices-few}
 use Rattle.trail_steps.specs.Reading.{problemBy}
 use Rattle.trail_reader.specs.Begun.{Reads}
 use Rattle.trail_reader.proofs.Rebuilt.{first-long, no-zero, reads-17, start-long, start-taken}
-use Rattle.place.specs.Demand.{Settled}
+use Rattle.path_laws.specs.Demand.{Settled}
 use Rattle.trail_reader.proofs.answers.read_on.Statement.{statement}
 use Rattle.trail_reader.proofs.answers.read_on.Tie as tie
 

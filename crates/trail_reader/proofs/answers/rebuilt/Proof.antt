@@ -9,8 +9,8 @@ use native.Mathlib.Omega.{arith}
 use Rattle.arrays.specs.Rounds.{roundOf}
 use Rattle.grid.proofs.Fields.{indices-few}
 use Rattle.moves.specs.Held.{stateOf}
-use Rattle.place.proofs.LabelsRead.{came-few}
 use Rattle.place.specs.Problem.{Problem}
+use Rattle.path_laws.proofs.LabelsRead.{came-few}
 use Rattle.records.proofs.Told.{taken-record}
 use Rattle.trail.specs.Record.{startRecord}
 use Rattle.trail.specs.Trail.{begins, placesFrom}

@@ -1,0 +1,51 @@
+-- A table is accepted exactly if questions 1 to 7 are answered yes. Assumes nothing.
+use mathlib.Core.List.{[], _∷_}
+use mathlib.Core.Path.{_≡_, refl}
+use borrow.Author.Tests.{eqb-true, le-leb, eq-eqb}
+use native.Mathlib.Omega.{arith}
+use Rattle.questions.proofs.Answers.{both-yes, first-yes}
+use Rattle.questions.specs.Questions.{firstNo}
+use Rattle.grid.proofs.Accepted.{accepted as grid-accepted}
+use Rattle.grid.specs.Grid.{numPoints}
+use Rattle.grid.specs.Questions.{gridQuestions, question5}
+use Rattle.place.specs.Problem.{Problem}
+use Rattle.place.specs.Questions.{question6, question7, tableQuestions}
+use Rattle.path_laws.specs.Demand.{Accepted}
+
+pub accepted-of : (p : Problem) → firstNo (tableQuestions p) ≡ 0 → Accepted p
+accepted-of p e =
+    let g = p .grid in
+    let parts = both-yes (gridQuestions g) (question5 g p.start ∷ question6 p ∷ question7 p ∷ []) refl e in
+    let a = grid-accepted g parts.0 in
+    let q5 = first-yes (question5 g p.start) (question6 p ∷ question7 p ∷ []) (omega arith) parts.1 in
+    let q6 = first-yes (question6 p) (question7 p ∷ []) (omega arith) q5.1 in
+    let q7 = first-yes (question7 p) [] (omega arith) q6.1 in
+    record {
+      settled = record {
+        someBlock = a .someBlock;
+        sixBlocks = a .fewBlocks;
+        sizes = a .sizesTwo;
+        sixteenIndices = a .fewIndices;
+        sameNumber = a .sameNumber;
+        divisions = a .divisionsOne;
+        points = a .fewPoints;
+        start = q5 .0;
+      };
+      tableLength = eqb-true _ (numPoints g) q6.0;
+      labels = q7 .0;
+    }
+
+pub accepted-is : {p : Problem} → Accepted p → firstNo (tableQuestions p) ≡ 0
+unfolding firstNo
+accepted-is {p} ok = rw (
+  le-leb 1 _ ok.settled.someBlock,
+  le-leb _ 6 ok.settled.sixBlocks,
+  ok .settled .sizes,
+  le-leb _ 16 ok.settled.sixteenIndices,
+  eq-eqb _ _ ok.settled.sameNumber,
+  ok .settled .divisions,
+  le-leb _ 60000 ok.settled.points,
+  ok .settled .start,
+  eq-eqb _ _ ok.tableLength,
+  ok .labels,
+)
