@@ -22,7 +22,7 @@ use Rattle.place.specs.Places.{
 }
 use Rattle.place.specs.Problem.{label}
 use Rattle.little_endian.specs.Numbers.{number, words}
-use Rattle.slip.specs.Slip.{
+use Rattle.slip_fields.specs.Slip.{
   isMap,
   stands,
   fieldLength,

@@ -9,7 +9,7 @@ use Rattle.place.specs.Path.{Answer, spent, ended, unknown, answer}
 use Rattle.sheet.specs.Sheet.{endSheet, refusedSheet, spentSheet, unknownSheet}
 use Rattle.sheet.specs.declared.Kind.{Kind}
 use Rattle.sheet.specs.declared.Kind.the-variants.{Place, Facet}
-use Rattle.slip.specs.Slip.{slipGrid, slipProblem, slipBudget, slipRefusal}
+use Rattle.slip_fields.specs.Slip.{slipGrid, slipProblem, slipBudget, slipRefusal}
 
 -- "vertices times d_j": the division of each index's block
 abbrev pub indexDivisions : Grid → List ℕ

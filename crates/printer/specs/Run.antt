@@ -22,7 +22,7 @@ use Rattle.sheet.specs.declared.Kind.{Kind as KindOnSheet}
 use Rattle.sheet.specs.declared.Kind.the-variants.{Place as PlaceOnSheet, Facet as FacetOnSheet}
 use Rattle.slip.specs.declared.Reading.{Reading}
 use Rattle.slip.specs.Reading.{readingOf}
-use Rattle.slip.specs.Slip.{stands}
+use Rattle.slip_fields.specs.Slip.{stands}
 use Rattle.printer.specs.Printed.{answerSheet, indexDivisions}
 
 abbrev pub onSheet : Kind → KindOnSheet
