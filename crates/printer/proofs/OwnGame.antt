@@ -26,7 +26,7 @@ use Rattle.losses.specs.Table.{numLosses}
 use Rattle.place.specs.Path.{answer}
 use Rattle.place.specs.Problem.{Problem}
 use Rattle.place.specs.Questions.{question7}
-use Rattle.sheet.specs.Sheet.{refusedSheet}
+use Rattle.sheet_lines.specs.Sheet.{refusedSheet}
 use Rattle.slip_fields.proofs.Laws.{at-first, at-next, length-there, game-last, losses-last, exact}
 use Rattle.slip.proofs.Readings.{refused-grid, refused-14}
 use Rattle.slip_fields.specs.Slip.{bit, isMap, stands, sizesOf, slipGrid, headLength, fieldLengths, fieldLength, fieldAt}

@@ -22,7 +22,7 @@ use Rattle.grid.specs.Grid.{Grid, numBlocks, dimension, numIndices}
 use Rattle.grid.specs.Made.{gridOf, shape}
 use Rattle.place.specs.Problem.{Problem}
 use Rattle.place.specs.Questions.{question8}
-use Rattle.sheet.specs.Sheet.{refusedSheet}
+use Rattle.sheet_lines.specs.Sheet.{refusedSheet}
 use Rattle.questions.specs.Questions.{firstNo}
 use Rattle.slip_fields.proofs.Laws.{labels-only}
 use Rattle.slip_fields.proofs.Runs.{answers, refused-as-read, then-runs}

@@ -6,9 +6,9 @@ use lib.Dec.{eqb}
 use Rattle.grid.specs.Grid.{Grid, division, blockOf, indices, bound}
 use Rattle.place.specs.Ends.{Kind as KindOfEnd, placeEnd, facetEnd}
 use Rattle.place.specs.Path.{Answer, spent, ended, unknown, answer}
-use Rattle.sheet.specs.Sheet.{endSheet, refusedSheet, spentSheet, unknownSheet}
-use Rattle.sheet.specs.declared.Kind.{Kind}
-use Rattle.sheet.specs.declared.Kind.the-variants.{Place, Facet}
+use Rattle.sheet_lines.specs.Sheet.{endSheet, refusedSheet, spentSheet, unknownSheet}
+use Rattle.sheet_lines.specs.declared.Kind.{Kind}
+use Rattle.sheet_lines.specs.declared.Kind.the-variants.{Place, Facet}
 use Rattle.slip_fields.specs.Slip.{slipGrid, slipProblem, slipBudget, slipRefusal}
 
 -- "vertices times d_j": the division of each index's block

@@ -16,10 +16,10 @@ use Rattle.grid.specs.Grid.{Grid, numIndices, bound}
 use Rattle.grid.specs.Made.{IsMade, shape}
 use Rattle.place.specs.Path.{answer}
 use Rattle.place.specs.Problem.{Problem}
-use Rattle.sheet.specs.Answer.{rows}
-use Rattle.sheet.specs.Sheet.{endSheet, refusedSheet, spentSheet, unknownSheet}
-use Rattle.sheet.specs.declared.Kind.{Kind as KindOnSheet}
-use Rattle.sheet.specs.declared.Kind.the-variants.{Place as PlaceOnSheet, Facet as FacetOnSheet}
+use Rattle.sheet_lines.specs.Answer.{rows}
+use Rattle.sheet_lines.specs.Sheet.{endSheet, refusedSheet, spentSheet, unknownSheet}
+use Rattle.sheet_lines.specs.declared.Kind.{Kind as KindOnSheet}
+use Rattle.sheet_lines.specs.declared.Kind.the-variants.{Place as PlaceOnSheet, Facet as FacetOnSheet}
 use Rattle.slip.specs.declared.Reading.{Reading}
 use Rattle.slip.specs.Reading.{readingOf}
 use Rattle.slip_fields.specs.Slip.{stands}

@@ -14,12 +14,12 @@ use slip::Reading;
 use slip::Table;
 
 // The kind of end, as the sheet names it.
-fn on_sheet(kind: path_walk::Kind) -> sheet::Kind
+fn on_sheet(kind: path_walk::Kind) -> sheet_lines::Kind
     ensures { λ r. ⌜ r ≡ onSheet kind ⌝ }
 {
     match kind {
-        path_walk::Kind::Place => sheet::Kind::Place,
-        path_walk::Kind::Facet => sheet::Kind::Facet,
+        path_walk::Kind::Place => sheet_lines::Kind::Place,
+        path_walk::Kind::Facet => sheet_lines::Kind::Facet,
     }
 }
 

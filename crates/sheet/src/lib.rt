@@ -6,21 +6,16 @@ mod line;
 
 use centre::centre_line;
 use line::vertex_lines;
+use sheet_lines::Kind;
 use text::labelled;
 use text::text;
 ghost use mathlib.Core.Path.{_≡_};
 ghost use Prim.Native.Nat.{_+_, _≤_};
 ghost use lib.ListN.{length};
-ghost use Rattle.sheet.specs.Answer.{rows, Printable};
+ghost use Rattle.sheet_lines.specs.Answer.{rows, Printable};
 ghost use Rattle.combinatorics.specs.Front.{front};
 ghost use Rattle.text.specs.Part.{Part};
-ghost use Rattle.sheet.specs.Sheet.{endLine, endSheet, refusedSheet, spentSheet, unknownSheet};
-
-// The kind of end.
-pub enum Kind {
-    Place,
-    Facet,
-}
+ghost use Rattle.sheet_lines.specs.Sheet.{endLine, endSheet, refusedSheet, spentSheet, unknownSheet};
 
 // The sheet of a refusal other than 9 and 16.
 pub fn refused(out: &mut [u8; 4096], number: u8) -> usize

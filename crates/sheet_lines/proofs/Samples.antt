@@ -4,8 +4,8 @@ use mathlib.Core.List.{[], _∷_, flatMap}
 use Rattle.rounding.specs.Centre.{isNearest, rounded, centre}
 use Rattle.text.specs.Decimal.{digits, decimal}
 use Rattle.text.specs.Line.{spaced}
-use Rattle.sheet.specs.Sheet.{vertexLine, centreLine, endSheet, refusedSheet, spentSheet, unknownSheet}
-use Rattle.sheet.specs.declared.Kind.the-variants.{Facet}
+use Rattle.sheet_lines.specs.Sheet.{vertexLine, centreLine, endSheet, refusedSheet, spentSheet, unknownSheet}
+use Rattle.sheet_lines.specs.declared.Kind.the-variants.{Facet}
 
 -- "For the bytes 4 2 2 2 1 0 1 0 2 2 2 4 it prints", with request 10's "labels read" after "places", 4 there: each line
 -- of the sheet on a line of its own, the last on two

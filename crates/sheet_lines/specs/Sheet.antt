@@ -6,8 +6,8 @@ use Rattle.combinatorics.specs.Lists.{sum}
 use Rattle.rounding.specs.Centre.{centre}
 use Rattle.text.specs.Decimal.{decimal}
 use Rattle.text.specs.Line.{spaced, newline, line}
-use Rattle.sheet.specs.Lists.{below}
-use Rattle.sheet.specs.Words.{
+use Rattle.sheet_lines.specs.Lists.{below}
+use Rattle.sheet_lines.specs.Words.{
   placesWord,
   labelsReadWord,
   boundWord,
@@ -20,8 +20,8 @@ use Rattle.sheet.specs.Words.{
   refusedWord,
   positionWord,
 }
-use Rattle.sheet.specs.declared.Kind.{Kind}
-use Rattle.sheet.specs.declared.Kind.the-variants.{Place, Facet}
+use Rattle.sheet_lines.specs.declared.Kind.{Kind}
+use Rattle.sheet_lines.specs.declared.Kind.the-variants.{Place, Facet}
 
 -- "end place" or "end facet"
 abbrev pub endLine : Kind → List ℕ
