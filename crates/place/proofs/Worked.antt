@@ -1,5 +1,5 @@
--- The nine marked ends, the three rows with a label not yet known, the label that is refused and the longer path hold of
--- the definitions: a run on each row's table gives what stands there. Assumes nothing.
+-- The nine marked ends, the three rows with a label not yet known, the label that is refused and the longer path hold
+-- of the definitions: a run on each row's table gives what stands there. Assumes nothing.
 use mathlib.Core.List.{map}
 use mathlib.Core.Path.{_≡_, refl}
 use Rattle.grid.specs.Grid.{next, previous, isGridPoint, points, bound}

@@ -1,5 +1,5 @@
--- Document 01, "Ends worked out": the nine marked rows; three of request 02, where a label is not yet known; a label that
--- is refused; and a longer path. Assumes nothing.
+-- Document 01, "Ends worked out": the nine marked rows; three of request 02, where a label is not yet known; a label
+-- that is refused; and a longer path. Assumes nothing.
 use mathlib.Core.Bool.{cond}
 use mathlib.Core.List.{List, [], _∷_}
 use Prim.Native.Nat.{ℕ, suc, _*_}
@@ -37,7 +37,7 @@ row p a = record { problem = p; budget = bound (p .grid); result = answered a }
 abbrev pub rowWith : Problem → ℕ → Answer → Row
 rowWith p n a = record { problem = p; budget = n; result = answered a }
 
--- "Label m is accepted; .. m + 1" gets 7
+-- "Label m is accepted; 0 and m + 1 get 7": since request 02 only m + 1 does
 abbrev pub rowRefused : Problem → ℕ → Row
 rowRefused p number = record { problem = p; budget = bound (p .grid); result = refused number }
 

@@ -15,8 +15,8 @@ use Rattle.grid.proofs.Round.{block-spans}
 use Rattle.grid.specs.Grid.{division, blockOf, bound, numIndices, indices}
 use Rattle.grid.specs.Made.{shape, IsMade, padded}
 use Rattle.grid.specs.declared.Grid.{Grid as GridStruct}
-use Rattle.sheet.specs.Answer.{rows, Printable}
-use Rattle.sheet.specs.Sheet.{endSheet}
+use Rattle.sheet_lines.specs.Answer.{rows, Printable}
+use Rattle.sheet_lines.specs.Sheet.{endSheet}
 use Rattle.printer.specs.Printed.{indexDivisions}
 use Rattle.printer.specs.Run.{Prints}
 

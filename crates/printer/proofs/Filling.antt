@@ -9,7 +9,7 @@ use borrow.Author.Tests.{le-leb}
 use lib.ListN.{length, length-append, length-drop, getD, take, drop, List·getD-append}
 use lib.Seq.{take-append-le, drop-append-le, drop-append-seam, take-all}
 use native.Mathlib.Omega.{arith}
-use Rattle.combinatorics.proofs.Basics.{same-or, true-or-false}
+use Rattle.combinatorics.proofs.Basics.{true-or-false}
 use Rattle.little_endian.proofs.Laws.{words-same, number-same}
 use Rattle.little_endian.specs.Numbers.{number, words}
 use Rattle.finder.proofs.Demand.{unrefused}
@@ -22,22 +22,18 @@ use Rattle.place.specs.Problem.{Problem, withLabels}
 use Rattle.place.specs.Questions.{question7}
 use Rattle.path_laws.proofs.Filling.{filling-holds}
 use Rattle.path_laws.specs.Demand.{Accepted, Filling}
-use Rattle.slip.proofs.Laws.{exact, at-first, at-next, length-there, labels-only, labels-last}
-use Rattle.slip.proofs.Runs.{answers, whole, refused-as-read, then-runs}
-use Rattle.slip.specs.Reading.{readingOf}
-use Rattle.slip.specs.Slip.{stands, numBlocksOf, slipGrid, headLength, fieldLengths, fieldLength, fieldAt, defaultStart}
-use Rattle.slip.specs.Slip.{slipStart, slipBudget, slipLabels, labelField, slipProblem, slipRefusal}
-use Rattle.slip.specs.Slip.{question11, question13, question14, question15, readQuestions}
+use Rattle.slip_fields.proofs.Laws.{exact, at-first, at-next, length-there, labels-only, labels-last}
+use Rattle.slip_fields.proofs.Runs.{answers, whole, then-runs}
+use Rattle.slip_fields.specs.Slip.{stands, numBlocksOf, slipGrid, headLength, fieldLengths, fieldLength, fieldAt}
+use Rattle.slip_fields.specs.Slip.{defaultStart}
+use Rattle.slip_fields.specs.Slip.{slipStart, slipBudget, slipLabels, labelField, slipProblem, slipRefusal}
+use Rattle.slip_fields.specs.Slip.{question11, question13, question14, question15, readQuestions, laterQuestions}
 use Rattle.printer.specs.Filling.{FilledSlip, SheetFilling}
 use Rattle.printer.specs.Printed.{answerSheet, sheetOf}
 
 -- a slip that no question refuses is read
-read-by : (slip : List ℕ) → slipRefusal slip ≡ 0 → readingOf slip .code ≡ 0
-read-by slip e =
-    ⊎-elim
-    (λ z. z)
-    (λ (n : readingOf slip .code ≡ 0 → ⊥). absurd (n (sym (refused-as-read slip .refused n) ∙ e)))
-    (same-or (readingOf slip .code) 0)
+read-by : (slip : List ℕ) → slipRefusal slip ≡ 0 → firstNo (readQuestions slip) ≡ 0
+read-by slip e = both-yes (readQuestions slip) (laterQuestions slip) refl e .0
 
 -- all questions of a slip are answered yes
 all-asked : (a c d e f s : Bool) (g : Grid) → a ≡ true → firstNo (gridQuestions g) ≡ 0
@@ -58,7 +54,7 @@ module _ (before labels filling : List ℕ) (F : FilledSlip before labels fillin
   new = before ++ filling
 
   -- the old slip is read, and its labels are the last field
-  read : readingOf old .code ≡ 0
+  read : firstNo (readQuestions old) ≡ 0
   read = read-by old (F .accepted)
 
   none : (stands old 3 ≡ false) × (stands old 4 ≡ false)
@@ -174,8 +170,7 @@ module _ (before labels filling : List ℕ) (F : FilledSlip before labels fillin
   -- of the questions only 7 is asked of other labels, and it is answered yes of both
   yes : (question11 old .answeredYes ≡ true) × (question5 (slipGrid old) (slipStart old) .answeredYes ≡ true)
   yes =
-      let rest = question11 old ∷ question5 (slipGrid old) (slipStart old) ∷ question7 p ∷ [] in
-      let late = both-yes (readQuestions old) rest refl (F .accepted) .1 in
+      let late = both-yes (readQuestions old) (laterQuestions old) refl (F .accepted) .1 in
       let a =
       first-yes (question11 old) (question5 (slipGrid old) (slipStart old) ∷ question7 p ∷ []) (omega arith) late in
       (a .0, first-yes (question5 (slipGrid old) (slipStart old)) (question7 p ∷ []) (omega arith) (a .1) .0)

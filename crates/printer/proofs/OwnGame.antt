@@ -26,13 +26,14 @@ use Rattle.losses.specs.Table.{numLosses}
 use Rattle.place.specs.Path.{answer}
 use Rattle.place.specs.Problem.{Problem}
 use Rattle.place.specs.Questions.{question7}
-use Rattle.sheet.specs.Sheet.{refusedSheet}
-use Rattle.slip.proofs.Laws.{at-first, at-next, length-there, game-last, losses-last, exact}
+use Rattle.sheet_lines.specs.Sheet.{refusedSheet}
+use Rattle.slip_fields.proofs.Laws.{at-first, at-next, length-there, game-last, losses-last, exact}
 use Rattle.slip.proofs.Readings.{refused-grid, refused-14}
-use Rattle.slip.specs.Slip.{bit, isMap, stands, sizesOf, slipGrid, headLength, fieldLengths, fieldLength, fieldAt}
-use Rattle.slip.specs.Slip.{fieldsEnd, defaultStart}
-use Rattle.slip.specs.Slip.{slipStart, slipBudget, slipGame, slipLosses, slipLabels, slipProblem, question11}
-use Rattle.slip.specs.Slip.{question13, question14, question15, slipQuestions}
+use Rattle.slip_fields.specs.Slip.{bit, isMap, stands, sizesOf, slipGrid, headLength, fieldLengths, fieldLength}
+use Rattle.slip_fields.specs.Slip.{fieldAt}
+use Rattle.slip_fields.specs.Slip.{fieldsEnd, defaultStart}
+use Rattle.slip_fields.specs.Slip.{slipStart, slipBudget, slipGame, slipLosses, slipLabels, slipProblem, question11}
+use Rattle.slip_fields.specs.Slip.{question13, question14, question15, slipQuestions}
 use Rattle.printer.proofs.Slips.{refused-by}
 use Rattle.printer.specs.OwnGame.{slipOn, OwnGame}
 use Rattle.printer.specs.Printed.{answerSheet, sheetOf}

@@ -30,7 +30,7 @@ use Rattle.place.specs.Ends.{End as EndOfPath}
 use Rattle.place.specs.Path.{answer, path, pathLength, ended}
 use Rattle.place.specs.Problem.{Problem}
 use Rattle.place.specs.Places.{Simplex}
-use Rattle.sheet.specs.Sheet.{refusedSheet, spentSheet, unknownSheet}
+use Rattle.sheet_lines.specs.Sheet.{refusedSheet, spentSheet, unknownSheet}
 use Rattle.printer.proofs.Vertices.{rows-of, rows-length}
 use Rattle.printer.specs.Printed.{answerSheet}
 use Rattle.printer.specs.Run.{room, printed, Fits, runSheet}

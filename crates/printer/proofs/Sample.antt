@@ -22,7 +22,7 @@ use Rattle.place.specs.Places.{
 }
 use Rattle.place.specs.Problem.{label}
 use Rattle.little_endian.specs.Numbers.{number, words}
-use Rattle.slip.specs.Slip.{
+use Rattle.slip_fields.specs.Slip.{
   isMap,
   stands,
   fieldLength,
@@ -38,7 +38,7 @@ use Rattle.slip.specs.Slip.{
 use Rattle.rounding.specs.Centre.{isNearest, rounded, centre}
 use Rattle.text.specs.Decimal.{digits, decimal}
 use Rattle.text.specs.Line.{spaced}
-use Rattle.sheet.specs.Sheet.{vertexLine, centreLine, endSheet}
+use Rattle.sheet_lines.specs.Sheet.{vertexLine, centreLine, endSheet}
 use Rattle.printer.specs.Printed.{sheetOf}
 use Rattle.printer.specs.Sample.{sampleSlip, sampleSheet}
 

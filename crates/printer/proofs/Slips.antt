@@ -22,19 +22,23 @@ use Rattle.grid.specs.Grid.{Grid, numBlocks, dimension, numIndices}
 use Rattle.grid.specs.Made.{gridOf, shape}
 use Rattle.place.specs.Problem.{Problem}
 use Rattle.place.specs.Questions.{question8}
-use Rattle.sheet.specs.Sheet.{refusedSheet}
-use Rattle.slip.proofs.Laws.{labels-only}
-use Rattle.slip.proofs.Runs.{answers, reading-accepted, refused-as-read, then-runs}
+use Rattle.sheet_lines.specs.Sheet.{refusedSheet}
+use Rattle.questions.specs.Questions.{firstNo}
+use Rattle.slip_fields.proofs.Laws.{labels-only}
+use Rattle.slip_fields.proofs.Runs.{answers, refused-as-read, then-runs}
+use Rattle.slip.proofs.Readings.{code-is, number-zero, reading-accepted, handed}
 use Rattle.slip.specs.Reading.{refusal, readingOf, labelsIn}
-use Rattle.slip.specs.Slip.{stands, fieldAt, defaultCoordinate, slipGrid, slipStart, slipLosses, slipLabels}
-use Rattle.slip.specs.Slip.{slipProblem, question11}
+use Rattle.slip_fields.specs.Slip.{stands, fieldAt, defaultCoordinate, slipGrid, slipStart, slipLosses, slipLabels}
+use Rattle.slip_fields.specs.Slip.{slipProblem, question11, readQuestions}
 use Rattle.printer.specs.Printed.{sheetOf}
 use Rattle.printer.specs.Run.{room, HasGrid, problemWith, lossProblem, runSheet}
 
 pub refusal-printed : (slip : List ℕ) → (readingOf slip .code ≡ 0 → ⊥)
     → sheetOf slip ≡ refusedSheet (readingOf slip .code)
 unfolding sheetOf
-refusal-printed slip h = rw (refused-as-read slip .refused h, ne-eqb (readingOf slip .code) 0 h)
+refusal-printed slip h =
+    let refused = refused-as-read slip .refused (λ e. h (code-is slip ∙ e)) ∙ sym (code-is slip) in
+    rw (refused, ne-eqb (readingOf slip .code) 0 h)
 
 pub refused-by : (slip : List ℕ) (number : ℕ) → (number ≡ 0 → ⊥) → refusal number ≡ readingOf slip
     → sheetOf slip ≡ refusedSheet number
@@ -43,6 +47,9 @@ refused-by slip number h e =
 
 -- a slip that is read
 module _ (slip : List ℕ) (zero : readingOf slip .code ≡ 0) where
+  asked : firstNo (readQuestions slip) ≡ 0
+  asked = number-zero slip zero
+
   start-length : length (slipStart slip) ≡ numIndices (slipGrid slip)
   unfolding slipStart words
   start-length =
@@ -54,13 +61,13 @@ module _ (slip : List ℕ) (zero : readingOf slip .code ≡ 0) where
 
   grid-is : shape (readingOf slip .grid) ≡ slipGrid slip
   grid-is = ap (λ r. shape (r .grid)) (reading-accepted slip zero)
-      ∙ shape-of (slipGrid slip) (grid-accepted (slipGrid slip) (answers slip zero .1) .sameNumber)
+      ∙ shape-of (slipGrid slip) (grid-accepted (slipGrid slip) (answers slip asked .1) .sameNumber)
 
   pub has-grid : HasGrid (readingOf slip)
   has-grid =
-      let few = grid-accepted (slipGrid slip) (answers slip zero .1) .fewIndices in
+      let few = grid-accepted (slipGrid slip) (answers slip asked .1) .fewIndices in
       rw (reading-accepted slip zero) (record {
-        made = is-made (slipGrid slip) (answers slip zero .1);
+        made = is-made (slipGrid slip) (answers slip asked .1);
         whole = front-length (slipStart slip) (replicate 16 0) (omega (arith, few, start-length));
       })
 
@@ -73,7 +80,7 @@ module _ (slip : List ℕ) (zero : readingOf slip .code ≡ 0) where
 
   enough : question8 (slipGrid slip) room .answeredYes ≡ true
   enough =
-      let a = grid-accepted (slipGrid slip) (answers slip zero .1) in
+      let a = grid-accepted (slipGrid slip) (answers slip asked .1) in
       let m = numIndices (slipGrid slip) in
       le-leb (suc (dimension (slipGrid slip)) * m) room (omega (
         arith,
@@ -84,7 +91,7 @@ module _ (slip : List ℕ) (zero : readingOf slip .code ≡ 0) where
 
   pub out-of-range-printed : question11 slip .answeredYes ≡ false → sheetOf slip ≡ refusedSheet 11
   unfolding sheetOf
-  out-of-range-printed e = rw (then-runs slip zero .outOfRange e)
+  out-of-range-printed e = rw (then-runs slip asked .outOfRange e)
 
   -- with the slip's labels the run prints the slip's sheet
   prints : question11 slip .answeredYes ≡ true → (labels : List ℕ) → labels ≡ slipLabels slip
@@ -93,30 +100,30 @@ module _ (slip : List ℕ) (zero : readingOf slip .code ≡ 0) where
   prints range labels e =
       ap (λ (p : Problem). runSheet p (readingOf slip .budget)) (problem-is labels e)
       ∙ ap (λ r. runSheet (slipProblem slip) (r .budget)) (reading-accepted slip zero)
-      ∙ rw (then-runs slip zero .runs range room enough)
+      ∙ rw (then-runs slip asked .runs range room enough)
 
   pub table-printed : stands slip 2 ≡ true
       → runSheet (problemWith (readingOf slip) (labelsIn slip (readingOf slip .table))) (readingOf slip .budget)
       ≡ sheetOf slip
   table-printed two =
-      let four = labels-only slip (answers slip zero .0) two .1 in
+      let four = labels-only slip (answers slip asked .0) two .1 in
       prints (rw four) (labelsIn slip (readingOf slip .table))
-      (then-runs slip zero .handed ∙ sym (then-runs slip zero .table two))
+      (handed slip zero ∙ sym (then-runs slip asked .table two))
 
   module _ (two : stands slip 2 ≡ false) (range : question11 slip .answeredYes ≡ true) where
     pub losses-printed : runSheet (lossProblem (readingOf slip) (slipLosses slip)) (readingOf slip .budget)
         ≡ sheetOf slip
     losses-printed =
-        prints range _ (ap (λ (g : Grid). labels g (slipLosses slip)) grid-is ∙ sym (then-runs slip zero .game two))
+        prints range _ (ap (λ (g : Grid). labels g (slipLosses slip)) grid-is ∙ sym (then-runs slip asked .game two))
 
     pub is-table : IsTable (shape (readingOf slip .grid)) (slipLosses slip)
-    is-table = rw grid-is (then-runs slip zero .losses two range)
+    is-table = rw grid-is (then-runs slip asked .losses two range)
 
     -- at most 1,944 losses
     pub losses-few : length (slipLosses slip) ≤ 1944
     losses-few =
-        let a = grid-accepted (slipGrid slip) (answers slip zero .1) in
-        let t = then-runs slip zero .losses two range in
+        let a = grid-accepted (slipGrid slip) (answers slip asked .1) in
+        let t = then-runs slip asked .losses two range in
         let most = mul-le-mul {n₁ = numBlocks (slipGrid slip)} {m₁ = product (slipGrid slip .sizes)} {n₂ = 6} {m₂ = 324}
         (a .fewBlocks) (product-few (slipGrid slip .sizes) (a .fewIndices)) in
         omega (arith, t .whole, most)

@@ -10,7 +10,7 @@ use lib.Seq.{take-append-seam, drop-append-add}
 use native.Mathlib.Omega.{arith}
 use Rattle.combinatorics.proofs.Basics.{and-left, and-right}
 use Rattle.combinatorics.specs.Lists.{all, concatMap}
-use Rattle.sheet.specs.Answer.{rows}
+use Rattle.sheet_lines.specs.Answer.{rows}
 
 rows-last : (k m : ℕ) (buffer : List ℕ) → rows (suc k) m buffer ≡ rows k m buffer ++ (take m (drop (k * m) buffer) ∷ [])
 rows-last k m buffer = rw map-append

@@ -10,7 +10,7 @@ use Rattle.place.specs.Path.{answer, announcement, unknown}
 use Rattle.place.specs.Problem.{withLabels}
 use Rattle.place.specs.Questions.{question7}
 use Rattle.path_laws.specs.Demand.{Fills}
-use Rattle.slip.specs.Slip.{stands, fieldAt, slipProblem, slipBudget, slipRefusal}
+use Rattle.slip_fields.specs.Slip.{stands, fieldAt, slipProblem, slipBudget, slipRefusal}
 use Rattle.printer.specs.Printed.{sheetOf}
 
 -- A slip that ends in the labels it brings, and other labels in their place: as many, from 0 to m, and the same

@@ -5,8 +5,8 @@ use Prim.Native.Nat.{ℕ}
 use lib.Dec.{eqb}
 use Rattle.grid.specs.Grid.{Grid, division, blockOf, indices, bound}
 use Rattle.place.specs.Path.{Answer, spent, ended, unknown, answer}
-use Rattle.sheet.specs.Sheet.{endSheet, refusedSheet, spentSheet, unknownSheet}
-use Rattle.slip.specs.Slip.{slipGrid, slipProblem, slipBudget, slipRefusal}
+use Rattle.sheet_lines.specs.Sheet.{endSheet, refusedSheet, spentSheet, unknownSheet}
+use Rattle.slip_fields.specs.Slip.{slipGrid, slipProblem, slipBudget, slipRefusal}
 
 -- "vertices times d_j": the division of each index's block
 abbrev pub indexDivisions : Grid → List ℕ

@@ -15,11 +15,11 @@ use Rattle.grid.specs.Grid.{Grid, numIndices, bound}
 use Rattle.grid.specs.Made.{IsMade, shape}
 use Rattle.place.specs.Path.{answer}
 use Rattle.place.specs.Problem.{Problem}
-use Rattle.sheet.specs.Answer.{rows}
-use Rattle.sheet.specs.Sheet.{endSheet, refusedSheet, spentSheet, unknownSheet}
+use Rattle.sheet_lines.specs.Answer.{rows}
+use Rattle.sheet_lines.specs.Sheet.{endSheet, refusedSheet, spentSheet, unknownSheet}
 use Rattle.slip.specs.declared.Reading.{Reading}
 use Rattle.slip.specs.Reading.{readingOf}
-use Rattle.slip.specs.Slip.{stands}
+use Rattle.slip_fields.specs.Slip.{stands}
 use Rattle.printer.specs.Printed.{answerSheet, indexDivisions}
 
 -- the numbers of the answer buffer, which is enough for every grid: (n + 1) times m is at most 16 times 16

@@ -7,9 +7,9 @@ use text::wide;
 ghost use mathlib.Core.Path.{_≡_};
 ghost use Prim.Native.Nat.{_*_, _≤_, _<_};
 ghost use lib.ListN.{length};
-ghost use Rattle.sheet.specs.Answer.{rows, Printable};
+ghost use Rattle.sheet_lines.specs.Answer.{rows, Printable};
 ghost use Rattle.text.specs.Part.{Part};
-ghost use Rattle.sheet.specs.Sheet.{centreLine, total as totalOf};
+ghost use Rattle.sheet_lines.specs.Sheet.{centreLine, total as totalOf};
 
 // The coordinate sum of the vertices at the index h.
 fn total(count: usize, vertices: &[u16], m: usize, h: usize) -> u64

@@ -1,6 +1,5 @@
 // The bytes of the kiosk's sheet. Each function writes a sheet at the front of the lent buffer and returns the
-// sheet's length. The longest sheet is
-// shorter than 2,400 bytes.
+// sheet's length. The longest sheet is shorter than 2,400 bytes.
 mod centre;
 mod line;
 
@@ -12,10 +11,10 @@ use text::text;
 ghost use mathlib.Core.Path.{_≡_};
 ghost use Prim.Native.Nat.{_+_, _≤_};
 ghost use lib.ListN.{length};
-ghost use Rattle.sheet.specs.Answer.{rows, Printable};
+ghost use Rattle.sheet_lines.specs.Answer.{rows, Printable};
 ghost use Rattle.combinatorics.specs.Front.{front};
 ghost use Rattle.text.specs.Part.{Part};
-ghost use Rattle.sheet.specs.Sheet.{endLine, endSheet, refusedSheet, spentSheet, unknownSheet};
+ghost use Rattle.sheet_lines.specs.Sheet.{endLine, endSheet, refusedSheet, spentSheet, unknownSheet};
 
 // The sheet of a refusal other than 9 and 16.
 pub fn refused(out: &mut [u8; 4096], number: u8) -> usize

@@ -8,10 +8,10 @@ use text::wide;
 ghost use mathlib.Core.List.{flatMap};
 ghost use Prim.Native.Nat.{_+_, _*_, _≤_, _<_};
 ghost use lib.ListN.{length};
-ghost use Rattle.sheet.specs.Answer.{rows};
+ghost use Rattle.sheet_lines.specs.Answer.{rows};
 ghost use Rattle.text.specs.Part.{Part};
 ghost use Rattle.text.specs.Line.{spaced as spacedOf};
-ghost use Rattle.sheet.specs.Sheet.{vertexLine};
+ghost use Rattle.sheet_lines.specs.Sheet.{vertexLine};
 
 // The numbers of `row`, each behind a blank.
 fn all_spaced(out: &mut [u8; 4096], at: usize, row: &[u16]) -> usize

@@ -1,5 +1,3 @@
-pub mod Laws
 pub mod Readings
 pub mod Tables
-pub mod Runs
 pub mod LossesRead

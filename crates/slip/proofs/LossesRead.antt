@@ -17,18 +17,23 @@ use Rattle.losses.proofs.Table.{product-few}
 use Rattle.built_in.specs.Tables.{gameLosses}
 use Rattle.grid.proofs.Accepted.{accepted as grid-accepted}
 use Rattle.grid.specs.Grid.{numBlocks}
-use Rattle.slip.proofs.Laws.{losses-only, losses-last, game-only}
-use Rattle.slip.proofs.Runs.{answers, whole, reading-accepted}
+use Rattle.questions.specs.Questions.{firstNo}
+use Rattle.slip_fields.proofs.Laws.{losses-only, losses-last, game-only}
+use Rattle.slip_fields.proofs.Runs.{answers, whole}
+use Rattle.slip.proofs.Readings.{number-zero, reading-accepted}
 use Rattle.slip.proofs.Tables.{is-game, are-losses}
 use Rattle.slip.specs.declared.Losses.the-variants.{Count, OutOfRange}
 use Rattle.slip.specs.declared.Reading.{Reading}
 use Rattle.slip.specs.declared.Table.the-variants.{Game, LossesFrom}
 use Rattle.slip.specs.Reading.{readingOf, lossesOf, tableNamed, WithLosses}
-use Rattle.slip.specs.Slip.{stands, slipGrid, slipLosses, fieldAt, question11}
+use Rattle.slip_fields.specs.Slip.{stands, slipGrid, slipLosses, fieldAt, question11, readQuestions}
 
 module _ (slip : List ℕ) (r : Reading) (room : List ℕ) (w : WithLosses slip r room) where
-  pub code : readingOf slip .code ≡ 0
+  code : readingOf slip .code ≡ 0
   code = sym (ap (λ x. x .code) (w .isReading)) ∙ w .read
+
+  pub asked : firstNo (readQuestions slip) ≡ 0
+  asked = number-zero slip code
 
   pub table-named : r .table ≡ tableNamed slip
   table-named = ap (λ x. x .table) (w .isReading) ∙ ap (λ x. x .table) (reading-accepted slip code)
@@ -38,14 +43,14 @@ module _ (slip : List ℕ) (r : Reading) (room : List ℕ) (w : WithLosses slip 
     pub game-losses : slipLosses slip ≡ gameLosses number
     unfolding slipLosses
     game-losses =
-        let g = is-game slip (answers slip code .0) number (sym table-named ∙ e) in
-        rw (game-only slip (answers slip code .0) (g .0) (g .1), g .2)
+        let g = is-game slip (answers slip asked .0) number (sym table-named ∙ e) in
+        rw (game-only slip (answers slip asked .0) (g .0) (g .1), g .2)
 
     pub game-count : Count (length (gameLosses number)) ≡ lossesOf slip
     unfolding lossesOf
     game-count =
-        let g = is-game slip (answers slip code .0) number (sym table-named ∙ e) in
-        rw (game-only slip (answers slip code .0) (g .0) (g .1), game-losses)
+        let g = is-game slip (answers slip asked .0) number (sym table-named ∙ e) in
+        rw (game-only slip (answers slip asked .0) (g .0) (g .1), game-losses)
 
 -- the losses that are brought begin at a position and are the rest of the slip
 pub record Brought (slip : List ℕ) (begin : ℕ) : Type 0 where
@@ -57,7 +62,7 @@ pub record Brought (slip : List ℕ) (begin : ℕ) : Type 0 where
 pub brought : (slip : List ℕ) (r : Reading) (room : List ℕ) → WithLosses slip r room → (begin : ℕ)
     → r .table ≡ LossesFrom begin → Brought slip begin
 brought slip r room w begin e =
-    let zero = code slip r room w in
+    let zero = asked slip r room w in
     let head = answers slip zero .0 in
     let l = are-losses slip head begin (sym (table-named slip r room w) ∙ e) in
     let last = losses-last slip head (l .0) (l .1) in

@@ -1,50 +1,33 @@
 -- What a slip is read to, question by question. Assumes nothing.
 use mathlib.Core.Bool.{Bool, true, false, cond}
-use mathlib.Core.List.{List, [], _∷_, _++_}
+use mathlib.Core.List.{List, [], _∷_}
+use mathlib.Core.Logic.{⊎-elim}
 use mathlib.Core.Path.{_≡_, refl, sym, ap, _∙_}
 use Prim.Native.Nat.{ℕ, _≤_, _<_}
-use borrow.Author.Tests.{leb-true, leb-false, le-leb, lt-leb, ne-eqb}
+use borrow.Author.Tests.{leb-true, leb-false, le-leb, lt-leb, eqb-true, eq-eqb, ne-eqb}
 use lib.Dec.{eqb, leb}
 use lib.ListN.{length, replicate}
 use native.Mathlib.Omega.{arith}
-use Rattle.combinatorics.proofs.Basics.{and-left, and-right}
+use Rattle.combinatorics.proofs.Basics.{true-or-false}
 use Rattle.combinatorics.proofs.Fronts.{front-length}
-use Rattle.combinatorics.specs.Lists.{all}
 use Rattle.grid.proofs.Accepted.{Accepted, accepted as grid-accepted}
 use Rattle.grid.proofs.Fields.{shape-of, is-made}
 use Rattle.grid.specs.declared.Grid.{Grid as GridStruct}
 use Rattle.grid.specs.Grid.{numBlocks, numIndices, numPoints}
 use Rattle.grid.specs.Made.{gridOf, shape, IsMade, padded}
-use Rattle.questions.specs.Questions.{Question, firstNo}
+use Rattle.questions.specs.Questions.{firstNo}
 use Rattle.grid.specs.Questions.{gridQuestions}
-use Rattle.slip.proofs.Laws.{inexact}
+use Rattle.slip_fields.proofs.Laws.{inexact}
+use Rattle.slip_fields.proofs.Runs.{number-is, then-runs}
 use Rattle.slip.specs.declared.Budget.the-variants.{Is, Missing as NoBudget}
 use Rattle.slip.specs.declared.Field.the-variants.{EndsAt, Missing}
 use Rattle.slip.specs.declared.Reading.{Reading}
 use Rattle.slip.specs.declared.Table.{Table}
 use Rattle.slip.specs.declared.Table.the-variants.{LabelsFrom, Game, LossesFrom, Missing as NoTable}
 use Rattle.slip.specs.Reading.{refusal, accepted, readingOf, headOf, startOf, budgetOf, tableOf, tableNamed}
-use Rattle.slip.specs.Reading.{Asked}
-use Rattle.slip.specs.Slip.{stands, slipGrid, slipStart, slipBudget, slipGame, headLength, fieldAt, question13}
-use Rattle.slip.specs.Slip.{question14, question15, readQuestions}
-
--- one question more in front: with `early` the first no of some questions, `later` that of more, and `rest` that of
--- those behind
-in-front : (yes : Bool) (n early later rest : ℕ) → 1 ≤ n → later ≡ cond (eqb early 0) rest early
-    → cond yes later n ≡ cond (eqb (cond yes early n) 0) rest (cond yes early n)
-in-front true n early later rest h e = e
-in-front false n early later rest h e = rw (ne-eqb n 0 (λ z. omega arith))
-
--- questions are asked until one is answered no
-pub first-append : (qs rs : List Question) → all (λ q. leb 1 (q .number)) qs ≡ true
-    → firstNo (qs ++ rs) ≡ cond (eqb (firstNo qs) 0) (firstNo rs) (firstNo qs)
-unfolding firstNo
-first-append [] rs a = refl
-first-append (q ∷ qs) rs a =
-    let numbered = all (λ q. leb 1 (q .number)) qs in
-    in-front (q .answeredYes) (q .number) (firstNo qs) (firstNo (qs ++ rs)) (firstNo rs)
-    (leb-true 1 (q .number) (and-left (leb 1 (q .number)) numbered a))
-    (first-append qs rs (and-right (leb 1 (q .number)) numbered a))
+use Rattle.slip.specs.Reading.{labelsIn, Asked}
+use Rattle.slip_fields.specs.Slip.{stands, slipGrid, slipStart, slipBudget, slipGame, headLength, fieldAt, labelField}
+use Rattle.slip_fields.specs.Slip.{question13, question14, question15, readQuestions}
 
 -- what a field answers tells whether its bytes are there
 told : (b : Bool) (x end : ℕ) → cond b (EndsAt x) Missing ≡ EndsAt end → (b ≡ true) × (end ≡ x)
@@ -56,15 +39,37 @@ untold true x e = absurd (let z : _≡_ {A = ℕ} 0 1 = cc in omega arith)
 untold false x e = refl
 
 module _ (slip : List ℕ) where
-  pub number-is : firstNo (readQuestions slip)
-      ≡ cond (question13 slip .answeredYes)
-      (cond (eqb (firstNo (gridQuestions (slipGrid slip))) 0) (firstNo (question14 slip ∷ question15 slip ∷ []))
-      (firstNo (gridQuestions (slipGrid slip))))
-      13
-  unfolding firstNo
-  number-is = ap
-      (λ n. cond (question13 slip .answeredYes) n 13)
-      (first-append (gridQuestions (slipGrid slip)) (question14 slip ∷ question15 slip ∷ []) refl)
+  -- the code is the number of the first question up to 15 that is answered no
+  pub code-is : readingOf slip .code ≡ firstNo (readQuestions slip)
+  unfolding readingOf
+  code-is =
+      ⊎-elim
+      (λ z. rw (z, eqb-true (firstNo (readQuestions slip)) 0 z))
+      (λ z. rw z)
+      (true-or-false (eqb (firstNo (readQuestions slip)) 0))
+
+  -- a slip that is read
+  module _ (zero : readingOf slip .code ≡ 0) where
+    pub number-zero : firstNo (readQuestions slip) ≡ 0
+    number-zero = sym code-is ∙ zero
+
+    pub reading-accepted : readingOf slip ≡ accepted slip
+    unfolding readingOf
+    reading-accepted = rw (eq-eqb (firstNo (readQuestions slip)) 0 number-zero)
+
+    -- "The slip's label field is handed over as that part of the slip's bytes"
+    pub handed : labelsIn slip (readingOf slip .table) ≡ labelField slip
+    unfolding labelsIn
+    handed =
+        let then = then-runs slip number-zero in
+        ⊎-elim
+        (λ (two : stands slip 2 ≡ true). rw (reading-accepted, two) (sym (then .rest two)))
+        (λ (two : stands slip 2 ≡ false).
+        ⊎-elim
+        (λ (three : stands slip 3 ≡ true). rw (reading-accepted, two, three) (sym (then .noPart two)))
+        (λ (three : stands slip 3 ≡ false). rw (reading-accepted, two, three) (sym (then .noPart two)))
+        (true-or-false (stands slip 3)))
+        (true-or-false (stands slip 2))
 
   pub refused-13 : question13 slip .answeredYes ≡ false → refusal 13 ≡ readingOf slip
   unfolding readingOf

@@ -8,12 +8,12 @@ use denote.Enum.Declared.{tagOf}
 use types.Run.{OneOf}
 use native.Mathlib.Omega.{arith}
 use Rattle.combinatorics.proofs.Basics.{true-or-false}
-use Rattle.slip.proofs.Laws.{labels-only}
+use Rattle.slip_fields.proofs.Laws.{labels-only}
 use Rattle.slip.proofs.Table.{the-type}
 use Rattle.slip.specs.declared.Table.{Table}
 use Rattle.slip.specs.declared.Table.the-variants.{LabelsFrom, Game, LossesFrom, Missing}
 use Rattle.slip.specs.Reading.{labelsIn, tableNamed}
-use Rattle.slip.specs.Slip.{stands, slipGame, fieldAt, question13, question15}
+use Rattle.slip_fields.specs.Slip.{stands, slipGame, fieldAt, question13, question15}
 
 -- what is not one of the variants named
 pub not-labels : (slip : List ℕ) (t : Table) → OneOf (1 ∷ 2 ∷ 3 ∷ []) (tagOf the-type t) → labelsIn slip t ≡ []

@@ -1,3 +1,1 @@
-pub mod Slip
 pub mod Reading
-pub mod Runs

@@ -4,7 +4,7 @@ ghost use Prim.Native.Nat.{_<_, _≤_};
 ghost use lib.ListN.{length};
 ghost use Rattle.grid.specs.Made.{shape, IsMade, padded};
 ghost use Rattle.slip.specs.Reading.{headOf, startOf, budgetOf, tableOf, Asked};
-ghost use Rattle.slip.specs.Slip.{isMap, stands as standsIn, fieldAt, defaultCoordinate, defaultStart};
+ghost use Rattle.slip_fields.specs.Slip.{isMap, stands as standsIn, fieldAt, defaultCoordinate, defaultStart};
 use crate::Budget;
 use crate::Field;
 use crate::Start;

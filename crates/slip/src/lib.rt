@@ -7,7 +7,7 @@ ghost use lib.ListN.{length};
 ghost use Rattle.combinatorics.specs.Front.{front};
 ghost use Rattle.grid.specs.Made.{madeOf};
 ghost use Rattle.slip.specs.Reading.{refusal, readingOf, tableNamed, labelsIn, lossesOf, Asked, WithLosses};
-ghost use Rattle.slip.specs.Slip.{slipGrid, slipLosses, headLength, numBlocksOf, question13, question15};
+ghost use Rattle.slip_fields.specs.Slip.{slipGrid, slipLosses, headLength, numBlocksOf, question13, question15};
 use grid::Grid;
 use grid::Made;
 use grid::wide;

@@ -1,6 +1,6 @@
 -- `printer::print` meets its contract, for every slip. Assumes nothing.
 use mathlib.Core.Path.{_≡_, sym, ap, _∙_}
-use Rattle.slip.proofs.Runs.{reading-accepted}
+use Rattle.slip.proofs.Readings.{reading-accepted}
 use Rattle.slip.proofs.Tables.{are-labels, no-labels}
 use Rattle.slip.specs.Reading.{readingOf}
 use Rattle.printer.proofs.Slips.{refusal-printed, has-grid, table-printed}

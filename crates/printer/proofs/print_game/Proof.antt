@@ -10,7 +10,7 @@ use lib.Seq.{length-take-le}
 use Rattle.combinatorics.proofs.Fronts.{front-length, front-taken}
 use Rattle.slip.proofs.LossesRead.{losses-count, losses-refused}
 use Rattle.slip.specs.Reading.{readingOf}
-use Rattle.slip.specs.Slip.{slipLosses, question11}
+use Rattle.slip_fields.specs.Slip.{slipLosses, question11}
 use Rattle.printer.proofs.Arrays.{same-sheet, as-prints}
 use Rattle.printer.proofs.Slips.{out-of-range-printed, has-grid, losses-printed, losses-few, is-table}
 use Rattle.printer.specs.Run.{lossProblem, runSheet}

@@ -2,9 +2,9 @@
 use native.Mathlib.Omega.{arith}
 use lib.ListN.{length}
 use borrow.Author.Needs.{needs}
-use Rattle.sheet.specs.Sheet.{endSheet}
+use Rattle.sheet_lines.specs.Sheet.{endSheet}
 use Rattle.text.proofs.Parts.{part-join, part-front}
-use Rattle.sheet.proofs.Rows.{length-rows}
+use Rattle.sheet_lines.proofs.Rows.{length-rows}
 use Rattle.sheet.proofs.ended.Statement.{statement}
 use Rattle.sheet.proofs.ended.Tie as tie
 

@@ -1,7 +1,7 @@
 -- `refused` meets its contract: its one line stands at the front. Assumes nothing.
 use native.Mathlib.Omega.{arith}
 use borrow.Author.Needs.{needs}
-use Rattle.sheet.specs.Sheet.{refusedSheet}
+use Rattle.sheet_lines.specs.Sheet.{refusedSheet}
 use Rattle.text.proofs.Parts.{part-front}
 use Rattle.sheet.proofs.refused.Statement.{statement}
 use Rattle.sheet.proofs.refused.Tie as tie

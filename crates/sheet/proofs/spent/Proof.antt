@@ -1,7 +1,7 @@
 -- `spent` meets its contract: its two lines are one part, which stands at the front. Assumes nothing.
 use native.Mathlib.Omega.{arith}
 use borrow.Author.Needs.{needs}
-use Rattle.sheet.specs.Sheet.{refusedSheet, spentSheet}
+use Rattle.sheet_lines.specs.Sheet.{refusedSheet, spentSheet}
 use Rattle.text.proofs.Parts.{part-join, part-front}
 use Rattle.sheet.proofs.spent.Statement.{statement}
 use Rattle.sheet.proofs.spent.Tie as tie

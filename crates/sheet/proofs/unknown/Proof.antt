@@ -1,7 +1,7 @@
 -- `unknown` meets its contract: its three lines are one part, which stands at the front. Assumes nothing.
 use native.Mathlib.Omega.{arith}
 use borrow.Author.Needs.{needs}
-use Rattle.sheet.specs.Sheet.{refusedSheet, unknownSheet}
+use Rattle.sheet_lines.specs.Sheet.{refusedSheet, unknownSheet}
 use Rattle.text.proofs.Parts.{part-join, part-front}
 use Rattle.sheet.proofs.unknown.Statement.{statement}
 use Rattle.sheet.proofs.unknown.Tie as tie

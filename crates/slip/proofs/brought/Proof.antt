@@ -11,7 +11,7 @@ use Rattle.combinatorics.specs.Lists.{all}
 use Rattle.little_endian.specs.Numbers.{words}
 use Rattle.losses.specs.Table.{numLosses, inRange}
 use Rattle.slip.proofs.LossesRead.{Brought, brought, words-put, read-back, room-left, in-range, out-of-range}
-use Rattle.slip.specs.Slip.{slipGrid, slipLosses}
+use Rattle.slip_fields.specs.Slip.{slipGrid, slipLosses}
 use borrow.Author.Needs.{needs}
 use Rattle.slip.proofs.brought.Statement.{statement}
 use Rattle.slip.proofs.brought.Tie as tie

@@ -4,7 +4,7 @@ use mathlib.Core.Path.{ap, _∙_}
 use borrow.Author.Needs.{needs}
 use lib.ListN.{length}
 use Rattle.grid.specs.Made.{madeOf}
-use Rattle.slip.proofs.Laws.{grid-from}
+use Rattle.slip_fields.proofs.Laws.{grid-from}
 use Rattle.slip.proofs.grid_in.Statement.{statement}
 use Rattle.slip.proofs.grid_in.Tie as tie
 

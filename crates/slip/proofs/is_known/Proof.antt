@@ -4,9 +4,9 @@ use mathlib.Core.Path.{_≡_, sym, ap, _∙_}
 use Prim.Native.Nat.{_+_, _-_}
 use lib.ListN.{take, drop}
 use Rattle.built_in.specs.Tables.{question15 as gameQuestion}
-use Rattle.slip.proofs.Laws.{head-fits}
+use Rattle.slip_fields.proofs.Laws.{head-fits}
 use Rattle.slip.proofs.Tables.{is-game, no-game}
-use Rattle.slip.specs.Slip.{numBlocksOf, sizesOf}
+use Rattle.slip_fields.specs.Slip.{numBlocksOf, sizesOf}
 use borrow.Author.Needs.{needs}
 use Rattle.slip.proofs.is_known.Statement.{statement}
 use Rattle.slip.proofs.is_known.Tie as tie

@@ -1,8 +1,8 @@
 -- `slip::losses_of` meets its contract: the losses of the game, or those that are brought. Assumes nothing.
 use native.Mathlib.Omega.{arith}
 use mathlib.Core.Path.{ap, _∙_}
-use Rattle.slip.proofs.LossesRead.{table-named, game-losses, game-count, code}
-use Rattle.slip.proofs.Runs.{answers}
+use Rattle.slip.proofs.LossesRead.{table-named, game-losses, game-count, asked}
+use Rattle.slip_fields.proofs.Runs.{answers}
 use Rattle.slip.proofs.Tables.{has-losses}
 use Rattle.slip.specs.declared.Losses.the-variants.{Count}
 use borrow.Author.Needs.{needs}
@@ -45,7 +45,7 @@ returns-3 c =
     let s = c .before .before .before in
     let a = s .args in
     let named = table-named (a .slip .now) (a .reading) (a .room .now) (s .pre) in
-    let head = answers (a .slip .now) (code (a .slip .now) (a .reading) (a .room .now) (s .pre)) .0 in
+    let head = answers (a .slip .now) (asked (a .slip .now) (a .reading) (a .room .now) (s .pre)) .0 in
     absurd (has-losses (a .slip .now) head (a .reading .table) (c .match .keys3) named (s .pre .noLabels))
 
 pub losses-of-spec : {M : Type 1} → statement M

@@ -2,9 +2,9 @@
 use mathlib.Core.Bool.{true}
 use mathlib.Core.Path.{_≡_, sym, _∙_}
 use Rattle.grid.proofs.Fields.{made-code, made-grid}
-use Rattle.slip.proofs.Laws.{head-fits}
+use Rattle.slip_fields.proofs.Laws.{head-fits}
 use Rattle.slip.proofs.Readings.{refused-13, refused-grid, head-there, head-missing}
-use Rattle.slip.specs.Slip.{slipGrid, headLength, question13}
+use Rattle.slip_fields.specs.Slip.{slipGrid, headLength, question13}
 use borrow.Author.Needs.{needs}
 use Rattle.slip.proofs.read.Statement.{statement}
 use Rattle.slip.proofs.read.Tie as tie

@@ -4,12 +4,12 @@ use mathlib.Core.Path.{_≡_, sym, ap, _∙_}
 use Prim.Native.Nat.{_≤_}
 use borrow.Author.Tests.{not-true, not-false}
 use lib.ListN.{length}
-use Rattle.slip.proofs.Laws.{at-first}
+use Rattle.slip_fields.proofs.Laws.{at-first}
 use Rattle.slip.proofs.Readings.{refused-14, refused-15, all-yes, start-there, start-missing, budget-there}
 use Rattle.slip.proofs.Readings.{budget-missing, table-is, table-there, table-missing}
 use Rattle.slip.proofs.Tables.{not-missing}
 use Rattle.grid.specs.Made.{padded}
-use Rattle.slip.specs.Slip.{fieldAt, slipStart, slipBudget, question14, question15}
+use Rattle.slip_fields.specs.Slip.{fieldAt, slipStart, slipBudget, question14, question15}
 use Rattle.slip.specs.Reading.{startOf}
 use borrow.Author.Needs.{needs}
 use Rattle.slip.proofs.read_fields.Statement.{statement}

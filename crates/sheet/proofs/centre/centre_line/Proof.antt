@@ -8,12 +8,12 @@ use native.Mathlib.Numerals.{add-one}
 use lib.ListN.{length}
 use borrow.Author.Needs.{needs}
 use Rattle.text.specs.Part.{Part}
-use Rattle.sheet.specs.Answer.{rows}
-use Rattle.sheet.specs.Lists.{below}
-use Rattle.sheet.specs.Sheet.{centreAt, centreLine}
+use Rattle.sheet_lines.specs.Answer.{rows}
+use Rattle.sheet_lines.specs.Lists.{below}
+use Rattle.sheet_lines.specs.Sheet.{centreAt, centreLine}
 use Rattle.text.specs.Line.{spaced as spacedOf}
 use Rattle.text.proofs.Parts.{part-empty, part-join}
-use Rattle.sheet.proofs.Rows.{flatMap-more, length-rows}
+use Rattle.sheet_lines.proofs.Rows.{flatMap-more, length-rows}
 use Rattle.sheet.proofs.centre.centre_line.Statement.{statement}
 use Rattle.sheet.proofs.centre.centre_line.Tie as tie
 

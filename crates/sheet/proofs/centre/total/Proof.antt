@@ -4,9 +4,9 @@ use Prim.Native.Nat.{_+_, _-_, _*_, _≤_, _<_}
 use native.Mathlib.Omega.{arith}
 use lib.ListN.{length}
 use borrow.Author.Needs.{needs}
-use Rattle.sheet.specs.Answer.{rows}
-use Rattle.sheet.specs.Sheet.{total as totalOf}
-use Rattle.sheet.proofs.Rows.{room, total-more}
+use Rattle.sheet_lines.specs.Answer.{rows}
+use Rattle.sheet_lines.specs.Sheet.{total as totalOf}
+use Rattle.sheet_lines.proofs.Rows.{room, total-more}
 use Rattle.sheet.proofs.centre.total.Statement.{statement}
 use Rattle.sheet.proofs.centre.total.Tie as tie
 

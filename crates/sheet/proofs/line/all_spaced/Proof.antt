@@ -12,7 +12,7 @@ use Rattle.text.specs.Part.{Part}
 use Rattle.text.specs.Line.{spaced as spacedOf}
 use Rattle.text.proofs.Decimals.{spaced-length}
 use Rattle.text.proofs.Parts.{part-empty, part-join}
-use Rattle.sheet.proofs.Rows.{flatMap-more}
+use Rattle.sheet_lines.proofs.Rows.{flatMap-more}
 use Rattle.sheet.proofs.line.all_spaced.Statement.{statement}
 use Rattle.sheet.proofs.line.all_spaced.Tie as tie
 

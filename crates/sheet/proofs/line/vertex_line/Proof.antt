@@ -4,7 +4,7 @@ use native.Mathlib.Omega.{arith}
 use lib.ListN.{length-take, length-drop}
 use borrow.Author.Needs.{needs}
 use Rattle.text.proofs.Parts.{part-join}
-use Rattle.sheet.proofs.Rows.{vertex-parts}
+use Rattle.sheet_lines.proofs.Rows.{vertex-parts}
 use Rattle.sheet.proofs.line.vertex_line.Statement.{statement}
 use Rattle.sheet.proofs.line.vertex_line.Tie as tie
 

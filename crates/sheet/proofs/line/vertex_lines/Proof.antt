@@ -6,10 +6,10 @@ use Prim.Native.Nat.{_+_, _-_, _*_, _≤_}
 use native.Mathlib.Omega.{arith}
 use lib.ListN.{length}
 use Rattle.text.specs.Part.{Part}
-use Rattle.sheet.specs.Answer.{rows}
-use Rattle.sheet.specs.Sheet.{vertexLine}
+use Rattle.sheet_lines.specs.Answer.{rows}
+use Rattle.sheet_lines.specs.Sheet.{vertexLine}
 use Rattle.text.proofs.Parts.{part-empty, part-join}
-use Rattle.sheet.proofs.Rows.{room, row-length, flatMap-more, rows-more}
+use Rattle.sheet_lines.proofs.Rows.{room, row-length, flatMap-more, rows-more}
 use Rattle.sheet.proofs.line.vertex_lines.Statement.{statement}
 use Rattle.sheet.proofs.line.vertex_lines.Tie as tie
 

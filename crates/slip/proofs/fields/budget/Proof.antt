@@ -6,9 +6,9 @@ use mathlib.Core.Path.{_≡_, sym, ap, _∙_}
 use Prim.Native.Nat.{_+_}
 use borrow.Author.Tests.{not-true, not-false}
 use Rattle.grid.specs.Grid.{bound}
-use Rattle.slip.proofs.Laws.{head-fits, at-next, length-there, length-absent}
+use Rattle.slip_fields.proofs.Laws.{head-fits, at-next, length-there, length-absent}
 use Rattle.slip.proofs.Readings.{budget-is, no-budget, asked-made}
-use Rattle.slip.specs.Slip.{stands, slipBudget, fieldAt}
+use Rattle.slip_fields.specs.Slip.{stands, slipBudget, fieldAt}
 use borrow.Author.Needs.{needs}
 use Rattle.slip.proofs.fields.budget.Statement.{statement}
 use Rattle.slip.proofs.fields.budget.Tie as tie

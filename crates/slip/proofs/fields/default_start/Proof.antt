@@ -11,7 +11,7 @@ use Rattle.combinatorics.specs.Lists.{upFrom}
 use Rattle.grid.proofs.Fields.{made-indices, indices-few}
 use Rattle.grid.specs.Grid.{numIndices}
 use Rattle.grid.specs.Made.{padded, shape}
-use Rattle.slip.specs.Slip.{defaultCoordinate}
+use Rattle.slip_fields.specs.Slip.{defaultCoordinate}
 use Rattle.slip.proofs.fields.default_start.Statement.{statement}
 use Rattle.slip.proofs.fields.default_start.Tie as tie
 

@@ -4,7 +4,7 @@ use mathlib.Core.Path.{sym, _∙_}
 use borrow.Author.Tests.{le-leb, lt-leb, not-true, not-false}
 use lib.ListN.{length}
 use Rattle.slip.specs.Reading.{headOf}
-use Rattle.slip.specs.Slip.{headLength}
+use Rattle.slip_fields.specs.Slip.{headLength}
 use borrow.Author.Needs.{needs}
 use Rattle.slip.proofs.fields.head.Statement.{statement}
 use Rattle.slip.proofs.fields.head.Tie as tie

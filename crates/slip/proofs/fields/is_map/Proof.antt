@@ -2,7 +2,7 @@
 use native.Mathlib.Omega.{arith}
 use mathlib.Core.Path.{sym, _∙_}
 use borrow.Author.Tests.{lt-ltb, le-ltb}
-use Rattle.slip.proofs.Laws.{map-passes}
+use Rattle.slip_fields.proofs.Laws.{map-passes}
 use Rattle.slip.proofs.fields.is_map.Statement.{statement}
 use Rattle.slip.proofs.fields.is_map.Tie as tie
 

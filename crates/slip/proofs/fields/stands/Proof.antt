@@ -1,6 +1,6 @@
 -- `slip::fields::stands` meets its contract. Assumes nothing.
 use borrow.Author.Needs.{needs}
-use Rattle.slip.specs.Slip.{stands}
+use Rattle.slip_fields.specs.Slip.{stands}
 use Rattle.slip.proofs.fields.stands.Statement.{statement}
 use Rattle.slip.proofs.fields.stands.Tie as tie
 

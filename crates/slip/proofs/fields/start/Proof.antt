@@ -10,9 +10,9 @@ use lib.ListN.{drop, replicate}
 use lib.Seq.{length-take-le}
 use Rattle.grid.specs.Made.{padded}
 use Rattle.little_endian.specs.Numbers.{words}
-use Rattle.slip.proofs.Laws.{head-fits, at-first, at-next, length-there, length-absent, start-there}
+use Rattle.slip_fields.proofs.Laws.{head-fits, at-first, at-next, length-there, length-absent, start-there}
 use Rattle.slip.proofs.Readings.{start-is, no-start, asked-made, asked-indices}
-use Rattle.slip.specs.Slip.{stands, defaultStart, slipStart, fieldAt}
+use Rattle.slip_fields.specs.Slip.{stands, defaultStart, slipStart, fieldAt}
 use Rattle.slip.proofs.fields.start.Statement.{statement}
 use Rattle.slip.proofs.fields.start.Tie as tie
 

@@ -13,9 +13,9 @@ use Rattle.grid.specs.Made.{shape}
 use Rattle.losses.proofs.Table.{product-few}
 use Rattle.losses.specs.Game.{product}
 use Rattle.losses.specs.Table.{numLosses}
-use Rattle.slip.proofs.Laws.{head-fits, exact, labels-last, game-last, losses-last}
+use Rattle.slip_fields.proofs.Laws.{head-fits, exact, labels-last, game-last, losses-last}
 use Rattle.slip.proofs.Readings.{table-is, no-table, asked-made, asked-points, sizes-room}
-use Rattle.slip.specs.Slip.{stands, slipGrid, slipGame, fieldsEnd}
+use Rattle.slip_fields.specs.Slip.{stands, slipGrid, slipGame, fieldsEnd}
 use borrow.Author.Needs.{needs}
 use Rattle.slip.proofs.fields.table.Statement.{statement}
 use Rattle.slip.proofs.fields.table.Tie as tie

@@ -5,7 +5,7 @@ use Rattle.end_kinds.specs.declared.Kind.the-variants.{Facet as facetEnd}
 use Rattle.rounding.specs.Centre.{isNearest, rounded, centre}
 use Rattle.text.specs.Decimal.{digits, decimal}
 use Rattle.text.specs.Line.{spaced}
-use Rattle.sheet.specs.Sheet.{vertexLine, centreLine, endSheet, refusedSheet, spentSheet, unknownSheet}
+use Rattle.sheet_lines.specs.Sheet.{vertexLine, centreLine, endSheet, refusedSheet, spentSheet, unknownSheet}
 
 -- "For the bytes 4 2 2 2 1 0 1 0 2 2 2 4 it prints", with request 10's "labels read" after "places", 4 there: each line
 -- of the sheet on a line of its own, the last on two

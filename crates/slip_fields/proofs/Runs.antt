@@ -1,11 +1,11 @@
--- Reading a slip leaves question 11 to its losses, and 5 and 7 to the run, which refuses as the slip's own order of
--- questions does. Assumes nothing.
-use mathlib.Core.Bool.{Bool, true, false, cond}
-use mathlib.Core.List.{List, [], _∷_}
+-- The questions up to 15 leave question 11 to a slip's losses, and 5 and 7 to the run, which refuses as the slip's own
+-- order of questions does. Assumes nothing.
+use mathlib.Core.Bool.{true, false, cond}
+use mathlib.Core.List.{List, [], _∷_, _++_}
 use mathlib.Core.Logic.{⊎-elim}
 use mathlib.Core.Path.{_≡_, refl, sym, ap, _∙_}
-use Prim.Native.Nat.{ℕ, suc}
-use borrow.Author.Tests.{eqb-true, eqb-false, eq-eqb, ne-eqb}
+use Prim.Native.Nat.{ℕ}
+use borrow.Author.Tests.{eqb-true, eq-eqb}
 use lib.Dec.{eqb}
 use lib.ListN.{length, length-map, length-drop, drop}
 use lib.Seq.{take-all}
@@ -16,72 +16,50 @@ use Rattle.losses.specs.Game.{label, labels}
 use Rattle.losses.specs.Table.{numLosses, IsTable}
 use Rattle.built_in.proofs.Games.{game-table}
 use Rattle.grid.specs.Grid.{numPoints, points}
+use Rattle.questions.proofs.Answers.{first-yes, first-append, both-yes, asked-next, asked-no}
 use Rattle.questions.specs.Questions.{firstNo}
 use Rattle.grid.specs.Questions.{gridQuestions, question5}
 use Rattle.place.specs.Questions.{question6, question7, question8, runQuestions}
-use Rattle.slip.proofs.Laws.{length-there, length-absent, labels-last, game-only, losses-only}
-use Rattle.slip.proofs.Readings.{first-append, number-is}
-use Rattle.slip.specs.Reading.{readingOf, labelsIn, accepted}
-use Rattle.slip.specs.Runs.{RefusedAsRead, ThenRuns}
-use Rattle.slip.specs.Slip.{stands, slipGrid, slipStart, slipGame, slipLosses, slipLabels, labelField}
-use Rattle.slip.specs.Slip.{fieldLength, fieldAt, fieldsEnd, slipProblem, slipRefusal}
-use Rattle.slip.specs.Slip.{question11, question13, question14, question15, readQuestions}
-
--- a question answered no would give its number
-both : (b : Bool) (later n : ℕ) → cond b later (suc n) ≡ 0 → (b ≡ true) × (later ≡ 0)
-both true later n e = (refl, e)
-both false later n e = absurd (omega arith)
-
-none-refuses : (n rest : ℕ) → cond (eqb n 0) rest n ≡ 0 → (n ≡ 0) × (rest ≡ 0)
-none-refuses n rest e =
-    ⊎-elim
-    (λ z. (eqb-true n 0 z, (rw z at e)))
-    (λ z. absurd (eqb-false n 0 z (rw z at e)))
-    (true-or-false (eqb n 0))
+use Rattle.slip_fields.proofs.Laws.{length-there, length-absent, labels-last, game-only, losses-only}
+use Rattle.slip_fields.specs.Runs.{RefusedAsRead, ThenRuns}
+use Rattle.slip_fields.specs.Slip.{stands, slipGrid, slipStart, slipGame, slipLosses, slipLabels, labelField}
+use Rattle.slip_fields.specs.Slip.{fieldLength, fieldAt, fieldsEnd, slipProblem, slipRefusal}
+use Rattle.slip_fields.specs.Slip.{question11, question13, question14, question15, readQuestions, laterQuestions}
 
 module _ (slip : List ℕ) where
-  code-is : readingOf slip .code ≡ firstNo (readQuestions slip)
-  unfolding readingOf
-  code-is =
-      ⊎-elim
-      (λ z. rw (z, eqb-true (firstNo (readQuestions slip)) 0 z))
-      (λ z. rw z)
-      (true-or-false (eqb (firstNo (readQuestions slip)) 0))
-
-  refusal-is : slipRefusal slip
-      ≡ cond (eqb (firstNo (readQuestions slip)) 0)
-      (firstNo (question11 slip ∷ question5 (slipGrid slip) (slipStart slip) ∷ question7 (slipProblem slip) ∷ []))
-      (firstNo (readQuestions slip))
-  refusal-is = first-append (readQuestions slip)
-      (question11 slip ∷ question5 (slipGrid slip) (slipStart slip) ∷ question7 (slipProblem slip) ∷ []) refl
+  -- 13, then 1 to 4, then 14, then 15
+  pub number-is : firstNo (readQuestions slip)
+      ≡ cond (question13 slip .answeredYes)
+      (cond (eqb (firstNo (gridQuestions (slipGrid slip))) 0)
+      (cond (question14 slip .answeredYes) (cond (question15 slip .answeredYes) 0 15) 14)
+      (firstNo (gridQuestions (slipGrid slip))))
+      13
+  unfolding firstNo
+  number-is = ap
+      (λ n. cond (question13 slip .answeredYes) n 13)
+      (first-append (gridQuestions (slipGrid slip)) (question14 slip ∷ question15 slip ∷ []) refl)
 
   pub refused-as-read : RefusedAsRead slip
   refused-as-read = record {
-    refused = λ h. refusal-is ∙ rw (ne-eqb (firstNo (readQuestions slip)) 0 (λ e. h (code-is ∙ e))) (sym code-is);
+    refused = λ h. asked-no (readQuestions slip) (laterQuestions slip) (firstNo (readQuestions slip)) h refl;
   }
 
-  -- what a slip that is read has
-  module _ (zero : readingOf slip .code ≡ 0) where
-    number-zero : firstNo (readQuestions slip) ≡ 0
-    number-zero = sym code-is ∙ zero
+  -- where none of the questions up to 15 refuses the slip
+  module _ (zero : firstNo (readQuestions slip) ≡ 0) where
+    later : slipRefusal slip ≡ firstNo (laterQuestions slip)
+    later = asked-next (readQuestions slip) (laterQuestions slip) refl zero
 
     pub answers : (question13 slip .answeredYes ≡ true) × (firstNo (gridQuestions (slipGrid slip)) ≡ 0)
         × (question14 slip .answeredYes ≡ true) × (question15 slip .answeredYes ≡ true)
-    unfolding firstNo
     answers =
-        let h = both (question13 slip .answeredYes) _ 12 (sym (number-is slip) ∙ number-zero) in
-        let g = none-refuses (firstNo (gridQuestions (slipGrid slip)))
-        (firstNo (question14 slip ∷ question15 slip ∷ [])) (h .1) in
-        let f = both (question14 slip .answeredYes) _ 13 (g .1) in
-        let k = both (question15 slip .answeredYes) 0 14 (f .1) in
-        (h .0, g .0, f .0, k .0)
+        let fields = question14 slip ∷ question15 slip ∷ [] in
+        let h = first-yes (question13 slip) (gridQuestions (slipGrid slip) ++ fields) (omega arith) zero in
+        let g = both-yes (gridQuestions (slipGrid slip)) fields refl (h .1) in
+        let f = first-yes (question14 slip) (question15 slip ∷ []) (omega arith) (g .1) in
+        (h .0, g .0, f .0, first-yes (question15 slip) [] (omega arith) (f .1) .0)
 
     pub whole : length slip ≡ fieldsEnd slip
     whole = eqb-true (length slip) (fieldsEnd slip) (answers .2)
-
-    pub reading-accepted : readingOf slip ≡ accepted slip
-    unfolding readingOf
-    reading-accepted = rw (eq-eqb (firstNo (readQuestions slip)) 0 number-zero)
 
     -- the label field is the rest of the slip
     labels-rest : stands slip 2 ≡ true
@@ -114,24 +92,11 @@ module _ (slip : List ℕ) where
         eq-eqb (length (slipLabels slip)) (numPoints (slipGrid slip)) length-labels in
         let rest =
         question5 (slipGrid slip) (slipStart slip) ∷ question6 p ∷ question7 p ∷ question8 (slipGrid slip) room ∷ [] in
-        first-append (gridQuestions (slipGrid slip)) rest refl
-        ∙ (rw (answers .1, six, e) (sym (refusal-is ∙ rw (number-zero, range))))
+        asked-next (gridQuestions (slipGrid slip)) rest refl (answers .1) ∙ (rw (six, e) (sym (later ∙ rw range)))
 
     out-of-range : question11 slip .answeredYes ≡ false → slipRefusal slip ≡ 11
     unfolding firstNo
-    out-of-range e = refusal-is ∙ rw (number-zero, e)
-
-    handed : labelsIn slip (readingOf slip .table) ≡ labelField slip
-    unfolding labelsIn
-    handed =
-        ⊎-elim
-        (λ (two : stands slip 2 ≡ true). rw (reading-accepted, two) (sym (labels-rest two .0)))
-        (λ (two : stands slip 2 ≡ false).
-        ⊎-elim
-        (λ (three : stands slip 3 ≡ true). rw (reading-accepted, two, three) (sym (no-part two)))
-        (λ (three : stands slip 3 ≡ false). rw (reading-accepted, two, three) (sym (no-part two)))
-        (true-or-false (stands slip 3)))
-        (true-or-false (stands slip 2))
+    out-of-range e = later ∙ rw e
 
     is-table : stands slip 2 ≡ false → question11 slip .answeredYes ≡ true → IsTable (slipGrid slip) (slipLosses slip)
     unfolding slipLosses
@@ -150,8 +115,8 @@ module _ (slip : List ℕ) where
         record {
           outOfRange = out-of-range;
           runs = runs;
-          handed = handed;
           table = λ two. rw two;
+          rest = λ two. labels-rest two .0;
           noPart = no-part;
           game = λ two. rw two;
           losses = is-table;

@@ -8,8 +8,8 @@ use Rattle.end_kinds.specs.declared.Kind.the-variants.{Facet as facetEnd, Place
 use Rattle.rounding.specs.Centre.{centre}
 use Rattle.text.specs.Decimal.{decimal}
 use Rattle.text.specs.Line.{spaced, newline, line}
-use Rattle.sheet.specs.Lists.{below}
-use Rattle.sheet.specs.Words.{
+use Rattle.sheet_lines.specs.Lists.{below}
+use Rattle.sheet_lines.specs.Words.{
   placesWord,
   labelsReadWord,
   boundWord,

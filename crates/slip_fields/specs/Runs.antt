@@ -1,20 +1,20 @@
--- "A slip asks 13, 1 to 4, 14, 15, 5, 7, and then runs", and 11 after 15: what reading a slip leaves to its losses and
--- to the run. Assumes nothing.
+-- "A slip asks 13, 1 to 4, 14, 15, 5, 7, and then runs", and 11 after 15: what the questions up to 15, which reading a
+-- slip asks, leave to its losses and to the run. Assumes nothing.
 use mathlib.Core.Bool.{true, false}
 use mathlib.Core.List.{List, []}
 use mathlib.Core.Path.{_≡_}
 use Prim.Native.Nat.{ℕ}
+use lib.ListN.{drop}
 use Rattle.losses.specs.Game.{labels}
 use Rattle.losses.specs.Table.{IsTable}
 use Rattle.questions.specs.Questions.{firstNo}
 use Rattle.place.specs.Questions.{question8, runQuestions}
-use Rattle.slip.specs.Reading.{readingOf, labelsIn}
-use Rattle.slip.specs.Slip.{stands, slipGrid, slipLosses, slipLabels, labelField, slipProblem, slipRefusal}
-use Rattle.slip.specs.Slip.{question11}
+use Rattle.slip_fields.specs.Slip.{stands, slipGrid, slipLosses, slipLabels, labelField, fieldAt, slipProblem}
+use Rattle.slip_fields.specs.Slip.{question11, readQuestions, slipRefusal}
 
 -- a slip that is refused as it is read has no other refusal
 pub record RefusedAsRead (slip : List ℕ) : Type 0 where
-  pub refused : (readingOf slip .code ≡ 0 → ⊥) → slipRefusal slip ≡ readingOf slip .code
+  pub refused : (firstNo (readQuestions slip) ≡ 0 → ⊥) → slipRefusal slip ≡ firstNo (readQuestions slip)
 
 -- of any other slip
 pub record ThenRuns (slip : List ℕ) : Type 0 where
@@ -24,10 +24,9 @@ pub record ThenRuns (slip : List ℕ) : Type 0 where
   -- the slip
   pub runs : question11 slip .answeredYes ≡ true → (room : ℕ) → question8 (slipGrid slip) room .answeredYes ≡ true
       → firstNo (runQuestions (slipProblem slip) room) ≡ slipRefusal slip
-  -- "The slip's label field is handed over as that part of the slip's bytes"
-  pub handed : labelsIn slip (readingOf slip .table) ≡ labelField slip
-  -- with labels that part is the label table
+  -- with labels the label table is the label field, and the field is the rest of the slip
   pub table : stands slip 2 ≡ true → slipLabels slip ≡ labelField slip
+  pub rest : stands slip 2 ≡ true → labelField slip ≡ drop (fieldAt slip 2) slip
   -- "With a game that part is empty", and the label table is that of the losses, which are a table of the grid
   pub noPart : stands slip 2 ≡ false → labelField slip ≡ []
   pub game : stands slip 2 ≡ false → slipLabels slip ≡ labels (slipGrid slip) (slipLosses slip)

@@ -121,10 +121,14 @@ question11 slip = ask 11 (not (stands slip 4) || lossQuestion (slipLosses slip) 
 abbrev pub readQuestions : List ℕ → List Question
 readQuestions slip = question13 slip ∷ (gridQuestions (slipGrid slip) ++ (question14 slip ∷ question15 slip ∷ []))
 
+-- those that are asked after 15
+abbrev pub laterQuestions : List ℕ → List Question
+laterQuestions slip =
+    question11 slip ∷ question5 (slipGrid slip) (slipStart slip) ∷ question7 (slipProblem slip) ∷ []
+
 -- "A slip asks 13, 1 to 4, 14, 15, 5, 7, and then runs", and "The slip puts 11 after 15"
 abbrev pub slipQuestions : List ℕ → List Question
-slipQuestions slip = readQuestions slip
-    ++ (question11 slip ∷ question5 (slipGrid slip) (slipStart slip) ∷ question7 (slipProblem slip) ∷ [])
+slipQuestions slip = readQuestions slip ++ laterQuestions slip
 
 -- "the number when the answer is no", or 0
 abbrev pub slipRefusal : List ℕ → ℕ

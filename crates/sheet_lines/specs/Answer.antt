@@ -2,7 +2,7 @@
 use mathlib.Core.List.{List, map}
 use Prim.Native.Nat.{ℕ, _*_, _≤_, _<_}
 use lib.ListN.{length, getD, take, drop}
-use Rattle.sheet.specs.Lists.{below}
+use Rattle.sheet_lines.specs.Lists.{below}
 
 -- "the vertices in rising coefficient sum, m 16-bit numbers each, at the front of the answer buffer": vertex k, counted
 -- from 0, begins at k times m

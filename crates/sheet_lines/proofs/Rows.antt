@@ -7,12 +7,12 @@ use native.Mathlib.Nat.{mul-le-mul-right}
 use native.Mathlib.Numerals.{add-one, add-one-le}
 use lib.ListN.{length, take, drop, getD, length-append, length-map, length-take, length-drop}
 use lib.Seq.{take-all, getD-take, getD-drop}
-use Rattle.sheet.specs.Answer.{rows}
+use Rattle.sheet_lines.specs.Answer.{rows}
 use Rattle.text.specs.Decimal.{decimal}
 use Rattle.combinatorics.specs.Lists.{sum}
-use Rattle.sheet.specs.Lists.{below}
+use Rattle.sheet_lines.specs.Lists.{below}
 use Rattle.text.specs.Line.{spaced, newline}
-use Rattle.sheet.specs.Sheet.{vertexLine, total}
+use Rattle.sheet_lines.specs.Sheet.{vertexLine, total}
 
 -- row k lies in the buffer
 pub room : (k count m size : ℕ) → k < count → count * m ≤ size → k * m + m ≤ size
