@@ -1,9 +1,9 @@
--- `refine_cases::checksum` is safe and ends. The measure is what is left of the list. Assumes nothing.
+-- `refinement_lines::checksum` is safe and ends. The measure is what is left of the list. Assumes nothing.
 use Prim.Native.Nat.{_≤_, _-_}
 use lib.ListN.{length}
 use borrow.Author.Needs.{needs}
-use Rattle.refine_cases.proofs.checksum.Statement.{statement}
-use Rattle.refine_cases.proofs.checksum.Tie as tie
+use Rattle.refinement_lines.proofs.checksum.Statement.{statement}
+use Rattle.refinement_lines.proofs.checksum.Tie as tie
 
 abbrev Inv-loop : tie.InvT-loop
 Inv-loop labels x₀ i₀ x i = i ≤ length labels

@@ -1,8 +1,8 @@
--- `refine_cases::with_byte` is safe and ends. The measure is what is left of the eight bits. Assumes nothing.
+-- `refinement_lines::with_byte` is safe and ends. The measure is what is left of the eight bits. Assumes nothing.
 use Prim.Native.Nat.{_≤_, _-_}
 use borrow.Author.Needs.{needs}
-use Rattle.refine_cases.proofs.with_byte.Statement.{statement}
-use Rattle.refine_cases.proofs.with_byte.Tie as tie
+use Rattle.refinement_lines.proofs.with_byte.Statement.{statement}
+use Rattle.refinement_lines.proofs.with_byte.Tie as tie
 
 abbrev Inv-loop : tie.InvT-loop
 Inv-loop remainder byte x₀ i₀ x i = i ≤ 8

@@ -1,8 +1,8 @@
--- `refine_cases::print_levels` is safe and ends. The measure is what is left of the eight levels. Assumes nothing.
+-- `refinement_lines::print_levels` is safe and ends. The measure is what is left of the eight levels. Assumes nothing.
 use Prim.Native.Nat.{_≤_, _-_}
 use borrow.Author.Needs.{needs}
-use Rattle.refine_cases.proofs.print_levels.Statement.{statement}
-use Rattle.refine_cases.proofs.print_levels.Tie as tie
+use Rattle.refinement_lines.proofs.print_levels.Statement.{statement}
+use Rattle.refinement_lines.proofs.print_levels.Tie as tie
 
 abbrev Inv-loop : tie.InvT-loop
 Inv-loop levels count i₀ i = i ≤ 8
