@@ -24,9 +24,10 @@ use Rattle.place.specs.Problem.{Problem, withLabels}
 use Rattle.place.specs.Questions.{question7}
 use Rattle.slip_fields.proofs.Laws.{exact, at-first, at-next, length-there, labels-only, labels-last}
 use Rattle.slip_fields.proofs.Runs.{answers, whole, then-runs}
-use Rattle.slip_fields.specs.Slip.{stands, numBlocksOf, slipGrid, headLength, fieldLengths, fieldLength, fieldAt, defaultStart}
-use Rattle.slip_fields.specs.Slip.{slipStart, slipBudget, slipLabels, labelField, slipProblem, slipRefusal}
+use Rattle.slip_fields.specs.Slip.{stands, numBlocksOf, slipGrid, headLength, fieldLengths, fieldLength, fieldAt}
+use Rattle.slip_fields.specs.Slip.{defaultStart, slipStart, slipBudget, slipLabels, labelField, slipProblem}
 use Rattle.slip_fields.specs.Slip.{question11, question13, question14, question15, readQuestions, laterQuestions}
+use Rattle.slip_fields.specs.Slip.{slipRefusal}
 use Rattle.printer.specs.Filling.{FilledSlip, SheetFilling}
 use Rattle.printer.specs.Printed.{answerSheet, sheetOf}
 

@@ -22,8 +22,8 @@ use Rattle.grid.specs.Questions.{gridQuestions}
 use Rattle.sheet_lines.specs.Sheet.{refusedSheet}
 use Rattle.slip_fields.proofs.Laws.{at-first, at-next, length-there, length-absent}
 use Rattle.slip.proofs.Readings.{refused-13, refused-grid, refused-14}
-use Rattle.slip_fields.specs.Slip.{isMap, stands, numBlocksOf, slipGrid, fieldLengths, fieldLength, fieldsEnd, headLength}
-use Rattle.slip_fields.specs.Slip.{question13, question14}
+use Rattle.slip_fields.specs.Slip.{isMap, stands, numBlocksOf, slipGrid, fieldLengths, fieldLength, fieldsEnd}
+use Rattle.slip_fields.specs.Slip.{headLength, question13, question14}
 use Rattle.printer.proofs.Slips.{refused-by}
 use Rattle.printer.specs.Printed.{sheetOf}
 

@@ -9,9 +9,8 @@ use Rattle.grid.specs.declared.Grid.{Grid as GridStruct}
 use Rattle.grid.specs.Made.{gridOf, noGrid, padded}
 use Rattle.questions.specs.Questions.{firstNo}
 use Rattle.grid.specs.Questions.{gridQuestions}
-use Rattle.slip_fields.specs.Slip.{stands, slipGrid, slipStart, slipBudget, slipGame, slipLosses, fieldAt, readQuestions}
-use Rattle.slip_fields.specs.Slip.{headLength}
-use Rattle.slip_fields.specs.Slip.{question11, question13, question14}
+use Rattle.slip_fields.specs.Slip.{stands, slipGrid, slipStart, slipBudget, slipGame, slipLosses, fieldAt, headLength}
+use Rattle.slip_fields.specs.Slip.{question11, question13, question14, readQuestions}
 use Rattle.slip.specs.declared.Budget.{Budget}
 use Rattle.slip.specs.declared.Budget.the-variants.{Is, Missing as NoBudget}
 use Rattle.slip.specs.declared.Field.{Field}

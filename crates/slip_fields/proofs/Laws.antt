@@ -20,8 +20,9 @@ use Rattle.grid.specs.Build.{lent}
 use Rattle.grid.specs.Grid.{Grid, numIndices, numPoints, division, firstIndex, blockOf}
 use Rattle.grid.specs.Made.{padded}
 use Rattle.losses.specs.Table.{numLosses}
-use Rattle.slip_fields.specs.Slip.{bit, numBlocksOf, slipGrid, isMap, stands, headLength, fieldLengths, fieldLength}
-use Rattle.slip_fields.specs.Slip.{fieldAt, fieldsEnd, defaultCoordinate, slipStart, question13, question14}
+use Rattle.slip_fields.specs.Slip.{bit, numBlocksOf, slipGrid, isMap, stands, headLength, fieldLengths}
+use Rattle.slip_fields.specs.Slip.{fieldLength, fieldAt, fieldsEnd, defaultCoordinate, slipStart}
+use Rattle.slip_fields.specs.Slip.{question13, question14}
 
 beq-true : (a b : Bool) → Bool·beq a b ≡ true → a ≡ b
 beq-true true true e = refl
