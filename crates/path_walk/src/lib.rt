@@ -16,8 +16,8 @@ use marks::Reading;
 use marks::mark_in;
 use moves::Outcome;
 use moves::Status;
-use moves::step;
 use positions::ENTRIES;
+use steps::step;
 
 // The kind of end: a complete place, or what remains of a place less one point.
 pub enum Kind {
