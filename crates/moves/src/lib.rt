@@ -1,12 +1,8 @@
-// The state of a run, and the move from a place to the next by the seven rules. What is public here is for the reading
-// of marks and the finder, which show what it asks.
-mod joining;
+// The state of a run, and the moves by which a point leaves. What is public here is for the crates above, which show
+// what it asks.
 mod leaving;
-mod moves;
 
-pub use joining::grow;
 pub use leaving::leave;
-pub use moves::step;
 
 // What the next move looks at, beside the arrays. T and U are masks of 16 indices.
 pub struct Status {

@@ -17,8 +17,8 @@ use marks::Reading;
 use marks::mark_in;
 use moves::Outcome;
 use moves::Status;
-use moves::step;
 use positions::ENTRIES;
+use steps::step;
 
 // What a place of the walk leads to: what the move gives; or that the label of the point that has come in is not yet
 // known, with its position.

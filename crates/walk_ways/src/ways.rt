@@ -9,7 +9,7 @@ use crate::Leads;
 use crate::Way;
 use moves::Outcome;
 use moves::Status;
-use moves::step;
+use steps::step;
 use walk_places::kept_as;
 use walk_places::none;
 

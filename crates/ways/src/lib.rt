@@ -16,8 +16,8 @@ use arrays::position_at;
 use arrays::wide32;
 use moves::Outcome;
 use moves::Status;
-use moves::grow;
 use moves::leave;
+use steps::grow;
 
 // The point that leaves, by its number; or the index that joins T; or neither, which only a reader meets.
 pub enum Way {

@@ -4,10 +4,10 @@ use Prim.Native.Nat.{suc, _+_}
 use lib.ListN.{take}
 use native.Mathlib.Numerals.{add-one}
 use Rattle.combinatorics.specs.Edits.{insertAt}
 use Rattle.moves.proofs.Cases.{same-state}
 use borrow.Author.Needs.{needs}
-use Rattle.moves.proofs.joining.join.Statement.{statement}
-use Rattle.moves.proofs.joining.join.Tie as tie
+use Rattle.steps.proofs.joining.join.Statement.{statement}
+use Rattle.steps.proofs.joining.join.Tie as tie
 
 cast-insert : tie.Need-cast-insert
 cast-insert c = search needs

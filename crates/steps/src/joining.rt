@@ -2,10 +2,8 @@
 ghost use mathlib.Core.List.{[]};
 ghost use mathlib.Core.Path.{_≡_};
 ghost use Rattle.arrays.specs.Rounds.{roundOn};
 ghost use Rattle.moves.specs.Held.{heldBy, Gives, CanJoin, Joins, CanGrow};
 ghost use Rattle.rules.specs.Step.{State, grow as grown};
-use crate::Outcome;
-use crate::Status;
 use arrays::add;
 use arrays::find;
 use arrays::first_outside;
@@ -13,6 +11,8 @@ use arrays::has;
 use arrays::insert;
 use arrays::is_filled;
 use arrays::without;
+use moves::Outcome;
+use moves::Status;
 
 // Index h joins T before entry i of the order, and the point behind that entry comes in.
 fn join(

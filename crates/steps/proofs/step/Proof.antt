@@ -1,4 +1,4 @@
--- `moves::step` meets its contract: the label that came in joins T, or a point leaves. Assumes nothing.
+-- `steps::step` meets its contract: the label that came in joins T, or a point leaves. Assumes nothing.
 use mathlib.Core.List.{[]}
 use mathlib.Core.Logic.{inl, ⊎-elim}
 use mathlib.Core.Path.{_≡_, sym, ap, _∙_}
@@ -8,14 +8,14 @@ use native.Mathlib.Numerals.{add-one}
 use native.Mathlib.Omega.{arith}
 use Rattle.arrays.specs.Rounds.{roundOf}
 use Rattle.combinatorics.proofs.EditsOfArrays.{counted}
 use Rattle.moves.specs.Held.{stateOf}
 use Rattle.rules.specs.Step.{markLabel}
 use Rattle.moves.proofs.Cases.{besideAfter, answered-beside, grow-beside, leaving-ready, leaving-leaves}
 use Rattle.moves.proofs.Cases.{other-leaving, join-ready, label-joins, count-low, active-low, mark-held}
 use Rattle.moves.proofs.Cases.{label-low}
 use borrow.Author.Needs.{needs}
-use Rattle.moves.proofs.moves.step.Statement.{statement}
-use Rattle.moves.proofs.moves.step.Tie as tie
+use Rattle.steps.proofs.step.Statement.{statement}
+use Rattle.steps.proofs.step.Tie as tie
 
 mul-label-in : tie.Need-mul-label-in
 mul-label-in c =

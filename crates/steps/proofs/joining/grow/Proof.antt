@@ -10,14 +10,14 @@ use native.Mathlib.Omega.{arith}
 use Rattle.arrays.specs.Rounds.{roundOf}
 use Rattle.combinatorics.proofs.EditsOfArrays.{counted, found-low}
 use Rattle.combinatorics.specs.Edits.{found}
 use Rattle.moves.specs.Held.{stateOf}
 use Rattle.rules.specs.Mask.{bit}
 use Rattle.rules.specs.Step.{State, goes, isFilled}
 use Rattle.moves.proofs.Cases.{joins-from-U, place-end, joins-from-outside}
 use Rattle.rules.proofs.Marks.{indices-in}
 use borrow.Author.Needs.{needs}
-use Rattle.moves.proofs.joining.grow.Statement.{statement}
-use Rattle.moves.proofs.joining.grow.Tie as tie
+use Rattle.steps.proofs.joining.grow.Statement.{statement}
+use Rattle.steps.proofs.joining.grow.Tie as tie
 
 has-requires : tie.Need-has-requires
 has-requires c κs = search needs

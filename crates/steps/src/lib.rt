@@ -1,16 +1,20 @@
-// The move from a place to the next. The place is lent, and so are the ways round the blocks.
+// The move from a place to the next by the seven rules. The place is lent, and so are the ways round the blocks. What
+// is public here is for the finder and the other walks, which show what it asks.
 ghost use mathlib.Core.Path.{_≡_};
 ghost use Rattle.arrays.specs.Rounds.{round};
 ghost use Rattle.moves.specs.Held.{held, GivesAll, CanStep};
 ghost use Rattle.rules.specs.Step.{State, step as stepped};
-use crate::Outcome;
-use crate::Status;
-use crate::joining::grow;
-use crate::leaving::leave;
+
+mod joining;
+
 use arrays::find;
 use arrays::has;
 use arrays::label_in;
 use arrays::wide32;
+pub use joining::grow;
+use moves::Outcome;
+use moves::Status;
+use moves::leave;
 
 // The move from a place whose points all have their marks. After rules 6 and 7 the point named leaves. Otherwise the
 // label that came in joins T if it is not there, and if it is, the other point with that label leaves.
