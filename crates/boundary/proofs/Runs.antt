@@ -21,7 +21,7 @@ use Rattle.place.specs.Places.{Simplex}
 use Rattle.place.specs.Problem.{Problem, problemOf}
 use Rattle.place.specs.Questions.{question8, tableQuestions}
 use Rattle.simplices.proofs.Tests.{settled-with}
-use Rattle.finder.specs.Run.{caseOf, refusal, runAnswer}
+use Rattle.finder.specs.Run.{caseOf, runRefusal, runAnswer}
 use Rattle.finder.specs.declared.answers.Answer.{Answer}
 use Rattle.finder.specs.declared.answers.Answer.the-variants.{End, Refused, Unknown}
 use Rattle.games.specs.declared.Labelled.the-variants.{Written}
@@ -37,12 +37,13 @@ module _ (p : Problem) (room budget : ℕ) where
   unrefused : (a : Answer) → ((n : ℕ) → Refused n ≡ a → ⊥) → runAnswer p room budget ≡ a
       → (firstNo (tableQuestions p) ≡ 0) × (caseOf (answer p budget) ≡ a)
   unfolding runAnswer
-  unrefused a never e = go (eqb (refusal p room) 0) refl e
+  unrefused a never e = go (eqb (runRefusal p room) 0) refl e
     where
-      go : (b : Bool) → eqb (refusal p room) 0 ≡ b → cond b (caseOf (answer p budget)) (Refused (refusal p room)) ≡ a
+      go : (b : Bool) → eqb (runRefusal p room) 0 ≡ b
+          → cond b (caseOf (answer p budget)) (Refused (runRefusal p room)) ≡ a
           → (firstNo (tableQuestions p) ≡ 0) × (caseOf (answer p budget) ≡ a)
       go true q e = (both-yes (tableQuestions p) (question8 (p .grid) room ∷ []) refl (eqb-true _ _ q) .0, e)
-      go false q e = absurd (never (refusal p room) e)
+      go false q e = absurd (never (runRefusal p room) e)
 
 -- the path's answer, by the run's
 ended-case : (places read : ℕ) (kind : Kind) (block vertices : ℕ) (o : PathAnswer)
@@ -84,7 +85,7 @@ module _ (sizes divisions old buffer : List ℕ) (count : ℕ)
       over (u .0) .1 .asksInside budget places position (unknown-case places position (answer p budget) (u .1))
 
   passes : question5 (p .grid) start .answeredYes ≡ true → question8 (p .grid) room .answeredYes ≡ true
-      → refusal p room ≡ 0
+      → runRefusal p room ≡ 0
   unfolding firstNo
   passes five eight =
       let ok = settled-with (p .grid) (accepted (p .grid) (wrote .grid)) start five (p .labels) in

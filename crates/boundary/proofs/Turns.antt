@@ -19,7 +19,7 @@ use Rattle.points_in_order.proofs.Blocks.{point-length}
 use Rattle.points_in_order.proofs.InOrder.{point-at}
 use Rattle.points_in_order.proofs.Shifts.{shifted-points, two-numbers}
 use Rattle.points_in_order.specs.Lent.{WithFirsts}
-use Rattle.points_in_order.specs.Shifted.{lastButOne, lastOne, shifted}
+use Rattle.points_in_order.specs.Shifted.{lastButOne, lastOne, endShifted}
 use Rattle.boundary_labels.proofs.Alike.{run-bytes}
 use Rattle.boundary_labels.proofs.PointLabels.{first-index, interior-is, table-kth, table-length}
 use Rattle.boundary_labels.proofs.Rounds.{behind-means, means-behind}
@@ -104,14 +104,14 @@ module _ (g : Grid) (firsts old : List ℕ) (l : WithFirsts g firsts) (k : ℕ) 
       (before-or-not 0 more)
 
   -- the point at which the turn ends
-  pub turn-point : shifted y more ≡ getD (points g) (k + more) []
+  pub turn-point : endShifted y more ≡ getD (points g) (k + more) []
   turn-point = sym (shifted-points g firsts l k y here more (omega arith) low)
 
   -- whose last number but one is no more than 60,000
   pub turn-fits : lastButOne y + more < 65536
   turn-fits =
-      let on = point-at g firsts l (k + more) (omega arith) (shifted y more) turn-point in
-      let z = shifted y more in
+      let on = point-at g firsts l (k + more) (omega arith) (endShifted y more) turn-point in
+      let z = endShifted y more in
       let below = coordinate-below g (a-turn .sizesTwo) (a-turn .sameNumber) z (on .isPoint) (length y - 2) in
       let front : length (take (length y - 2) y) ≡ length y - 2 = length-take-le (length y - 2) y (omega arith) in
       let is = getD-at (take (length y - 2) y) (lastButOne y + more) ((lastOne y - more) ∷ []) 0 (length y - 2) front in

@@ -22,7 +22,7 @@ pub record PointToLabel (g : Grid) (before : List ℕ) (y : Point) : Type 0 wher
   pub befores : IsPrevious g before
 
 -- an accepted grid, its first point, an old table and a buffer of P bytes each
-pub record PointsToLabel (g : Grid) (firsts before old : List ℕ) (point : Point) (buffer : List ℕ) : Type 0 where
+pub record TableToLabel (g : Grid) (firsts before old : List ℕ) (point : Point) (buffer : List ℕ) : Type 0 where
   pub grid : WithFirsts g firsts
   pub befores : IsPrevious g before
   pub first : point ≡ getD (points g) 0 []

@@ -11,7 +11,7 @@ use Rattle.grid.specs.Grid.{Point, points}
 use Rattle.grid.specs.Questions.{question5}
 use Rattle.place.specs.Problem.{Problem, problemOf}
 use Rattle.place.specs.Questions.{question8}
-use Rattle.finder.specs.Run.{refusal, runAnswer}
+use Rattle.finder.specs.Run.{runRefusal, runAnswer}
 use Rattle.finder.specs.declared.answers.Answer.the-variants.{End, Unknown}
 use Rattle.games.specs.declared.Labelled.the-variants.{Written}
 use Rattle.boundary_labels.specs.Boundary.{isInterior}
@@ -26,7 +26,7 @@ pub record RunsOver (p : Problem) (room : ℕ) : Type 0 where
       → isInterior (getD (points (p .grid)) position []) ≡ true
   -- the table is accepted: what a run refuses is its start or its answer buffer
   pub accepted : question5 (p .grid) (p .start) .answeredYes ≡ true → question8 (p .grid) room .answeredYes ≡ true
-      → refusal p room ≡ 0
+      → runRefusal p room ≡ 0
 
 -- where a call answers that it has written, what it leaves in its buffer is such a table
 abbrev pub CallsLeadToPlaceEnds : Type 0

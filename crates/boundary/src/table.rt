@@ -9,8 +9,8 @@ ghost use Rattle.grid.specs.Build.{lent};
 ghost use Rattle.grid.specs.Grid.{Grid as GridOf};
 ghost use Rattle.grid.specs.Made.{IsMade, shape};
 ghost use Rattle.boundary_labels.specs.Boundary.{isInterior, boundaryLabel, boundaryTable};
-ghost use Rattle.points_in_order.specs.Shifted.{lastButOne, lastOne, shifted};
-ghost use Rattle.boundary.specs.Lent.{FilledBy, PointToLabel, PointsToLabel, foundOr};
+ghost use Rattle.points_in_order.specs.Shifted.{lastButOne, lastOne, endShifted};
+ghost use Rattle.boundary.specs.Lent.{FilledBy, PointToLabel, TableToLabel, foundOr};
 use grid::Grid;
 use grid::wide;
 
@@ -87,7 +87,7 @@ fn more_alike(point: &[u16], left: usize) -> usize
 fn shift(point: &mut [u16], by: usize)
     requires { ⌜ (2 ≤ length (now point)) × (length (now point) ≤ 16) ⌝ }
     requires { ⌜ (by ≤ lastOne (now point)) × (lastButOne (now point) + by < 65536) ⌝ }
-    ensures { λ _. ⌜ now (point .exit) ≡ shifted (now (point .entry)) by ⌝ }
+    ensures { λ _. ⌜ now (point .exit) ≡ endShifted (now (point .entry)) by ⌝ }
 {
     if by == 0 {
         return;
@@ -110,7 +110,7 @@ fn write_from(
     point: &mut [u16],
     labels: &mut [u8],
 )
-    requires { ⌜ PointsToLabel (lent (now sizes) (now divisions)) (now firsts) (now previous) (now old) (now point)
+    requires { ⌜ TableToLabel (lent (now sizes) (now divisions)) (now firsts) (now previous) (now old) (now point)
         (now labels) ⌝ }
     ensures { λ _. ⌜ now (labels .exit)
         ≡ boundaryTable (lent (now (sizes .entry)) (now (divisions .entry))) (now (old .entry)) ⌝ }

@@ -13,7 +13,7 @@ use Rattle.combinatorics.specs.Lists.{firstOr}
 use Rattle.grid.specs.Grid.{Grid, Point, at, indices, numPoints, points, previous}
 use Rattle.points_in_order.proofs.Shifts.{shifted-none, shifted-points, two-numbers}
 use Rattle.points_in_order.specs.Lent.{WithFirsts}
-use Rattle.points_in_order.specs.Shifted.{lastButOne, lastOne, shifted}
+use Rattle.points_in_order.specs.Shifted.{lastButOne, lastOne, endShifted}
 use Rattle.boundary_labels.proofs.PointLabels.{table-kth}
 use Rattle.boundary_labels.specs.Boundary.{boundaryIndex, boundaryLabel, boundaryTable, isInterior}
 use Rattle.boundary_labels.specs.Boundary.{isZeroBehindPositive}
@@ -48,24 +48,24 @@ tail-alike (x ∷ pre) a b c d e f zero = refl
 tail-alike (x ∷ pre) a b c d e f (suc h) = tail-alike pre a b c d e f h
 
 module _ (g : Grid) (y : Point) (long : 2 ≤ length y) (positive : 0 < lastButOne y) (i : ℕ) (less : i < lastOne y) where
-  alike : Alike (shifted y 0) (shifted y i)
+  alike : Alike (endShifted y 0) (endShifted y i)
   alike =
       tail-alike (take (length y - 2) y) (lastButOne y + 0) (lastOne y - 0) (lastButOne y + i) (lastOne y - i)
       (lt-ltb 0 (lastButOne y + 0) (omega arith) ∙ sym (lt-ltb 0 (lastButOne y + i) (omega arith)))
       (lt-ltb 0 (lastOne y - 0) (omega arith) ∙ sym (lt-ltb 0 (lastOne y - i) (omega arith)))
 
-  same-length : length (shifted y 0) ≡ length (shifted y i)
+  same-length : length (endShifted y 0) ≡ length (endShifted y i)
   same-length = rw (length-append, length-append)
 
   -- the label of the shifted point, whose old byte is given
   shifted-label : (old : ℕ)
-      → cond (isInterior (shifted y i)) old (boundaryLabel g (shifted y i))
+      → cond (isInterior (endShifted y i)) old (boundaryLabel g (endShifted y i))
       ≡ cond (isInterior y) old (boundaryLabel g y)
   shifted-label old =
-      let e : isInterior (shifted y i) ≡ isInterior y =
-      sym (interior-alike (shifted y 0) (shifted y i) same-length alike) ∙ ap isInterior (shifted-none y long) in
-      let f : boundaryIndex g (shifted y i) ≡ boundaryIndex g y =
-      sym (index-alike g (shifted y 0) (shifted y i) alike) ∙ ap (boundaryIndex g) (shifted-none y long) in
+      let e : isInterior (endShifted y i) ≡ isInterior y =
+      sym (interior-alike (endShifted y 0) (endShifted y i) same-length alike) ∙ ap isInterior (shifted-none y long) in
+      let f : boundaryIndex g (endShifted y i) ≡ boundaryIndex g y =
+      sym (index-alike g (endShifted y 0) (endShifted y i) alike) ∙ ap (boundaryIndex g) (shifted-none y long) in
       rw (e, f)
 
 -- the bytes behind the k-th, as long as both numbers stay positive
@@ -74,5 +74,5 @@ pub run-bytes : (g : Grid) (firsts old : List ℕ) → WithFirsts g firsts → (
     → getD (boundaryTable g old) (k + i) 0 ≡ cond (isInterior y) (getD old (k + i) 0) (boundaryLabel g y)
 run-bytes g firsts old l k y here positive i less h =
     let z = sym (shifted-points g firsts l k y here i h (omega arith)) in
-    table-kth g old (k + i) h (shifted y i) z
+    table-kth g old (k + i) h (endShifted y i) z
     ∙ shifted-label g y (two-numbers g firsts l k y here (omega arith)) positive i less (getD old (k + i) 0)

@@ -26,7 +26,7 @@ use Rattle.path_laws.proofs.Meaning.{free-means}
 use Rattle.path_laws.proofs.Simplices.{onSimplices}
 use Rattle.path_laws.proofs.Theorem.{demand3-holds}
 use Rattle.path_laws.proofs.Ways.{IsWay, byFacet, byPlace, onEnds}
-use Rattle.path_laws.specs.Demand.{Accepted, NoGap, Settled, placeAt}
+use Rattle.path_laws.specs.Demand.{Accepted, NoGap, HasStart, placeAt}
 use Rattle.place.specs.Ends.{End, completeFor, facetEnds, facets, isComplete, stop}
 use Rattle.place.specs.Path.{answer, ended, outcome, path, pathLength, sameSimplex, spent, unknown}
 use Rattle.place.specs.Places.{Simplex, isPlace, labelSet, setT, setU}
@@ -39,7 +39,7 @@ use Rattle.boundary_labels.proofs.Tables.{new-byte, new-range, new-tabl
 use Rattle.boundary_labels.specs.Boundary.{boundaryLabel, boundaryTable, isInterior, newLabel}
 use Rattle.boundary_labels.specs.Claims.{AcceptedAgain, KnownInside, OverNewTable}
 
-module _ {p : Problem} (ok : Settled p) (old : List ℕ) (is : p .labels ≡ boundaryTable (p .grid) old) where
+module _ {p : Problem} (ok : HasStart p) (old : List ℕ) (is : p .labels ≡ boundaryTable (p .grid) old) where
   -- the labels of a facet end are T, so T would have all indices of a block, and a place leaves one of each block free
   no-facet : (s : Simplex) → isPlace p s ≡ true → (f : Simplex) → isIn sameSimplex f (facets s) ≡ true
       → labelSet p f ≡ setT p s → (j : ℕ) → j < numBlocks (p .grid) → isComplete p f j ≡ true → ⊥

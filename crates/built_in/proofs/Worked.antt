@@ -3,7 +3,7 @@ use mathlib.Core.List.{[], _∷_, map}
 use mathlib.Core.Path.{_≡_, refl}
 use lib.IntN.{pos, negsuc}
 use Rattle.grid.specs.Grid.{Grid, indices}
-use Rattle.losses.specs.Game.{difference, expectedLoss, replaced, label}
+use Rattle.losses.specs.Game.{difference, expectedLoss, replaced, gameLabel}
 use Rattle.built_in.specs.Tables.{sizes1, losses1}
 
 -- "In game 1 with all d_j = 1"
@@ -17,7 +17,7 @@ unfolding expectedLoss replaced losses1
 differences-worked = refl
 
 -- "and label 4. The point 1 0 0 1 1 0 has label 2"
-pub labels-worked : map (label grid1 losses1) ((1 ∷ 0 ∷ 1 ∷ 0 ∷ 1 ∷ 0 ∷ []) ∷ (1 ∷ 0 ∷ 0 ∷ 1 ∷ 1 ∷ 0 ∷ []) ∷ [])
+pub labels-worked : map (gameLabel grid1 losses1) ((1 ∷ 0 ∷ 1 ∷ 0 ∷ 1 ∷ 0 ∷ []) ∷ (1 ∷ 0 ∷ 0 ∷ 1 ∷ 1 ∷ 0 ∷ []) ∷ [])
     ≡ 4 ∷ 2 ∷ []
-unfolding expectedLoss replaced label losses1
+unfolding expectedLoss replaced gameLabel losses1
 labels-worked = refl

@@ -14,13 +14,13 @@ use Rattle.grid.specs.Grid.{Point, at}
 use Rattle.rules.proofs.Masks.{bit-with}
 use Rattle.rules.specs.Mask.{bit, withIndex}
 use Rattle.chains.specs.Follow.{GoesRound, HasZero, closed, Added, FollowedFrom, FoundOnBlock}
-use Rattle.chains.specs.Sets.{ones, ClearFrom}
+use Rattle.chains.specs.Sets.{bitNumber, ClearFrom}
 use Rattle.chains.specs.declared.sets.Found.{Found}
 use Rattle.chains.specs.declared.sets.Found.the-variants.{Set, NoSet}
 
 -- the numbers at the indices before h, and then `one`
 abbrev pub reached : ℕ → ℕ → ℕ → ℕ → ℕ
-reached set one h k = cond (ltb k h) (ones set k) one
+reached set one h k = cond (ltb k h) (bitNumber set k) one
 
 pub record Following (p z : Point) (first end c old set one h : ℕ) : Type 0 where
   pub low : first ≤ h
@@ -32,7 +32,7 @@ pub record Following (p z : Point) (first end c old set one h : ℕ) : Type 0 wh
   pub rule : (k : ℕ) → first ≤ k → k < h → at z k + reached set one h (suc k) ≡ at p k + reached set one h k
   pub begins : reached set one h first ≡ c
 
-pub ones-small : (set k : ℕ) → ones set k ≤ 1
+pub ones-small : (set k : ℕ) → bitNumber set k ≤ 1
 ones-small set k = go (bit set k)
   where
     go : (b : Bool) → cond b 1 0 ≤ 1
@@ -40,7 +40,7 @@ ones-small set k = go (bit set k)
     go false = omega arith
 
 module _ (set one h k : ℕ) where
-  pub reached-before : k < h → reached set one h k ≡ ones set k
+  pub reached-before : k < h → reached set one h k ≡ bitNumber set k
   reached-before l = rw (lt-ltb k h l)
 
   pub reached-at : h ≤ k → reached set one h k ≡ one
@@ -77,7 +77,7 @@ module _ {p z : Point} {first end c old : ℕ} where
   module _ {set one h : ℕ} (F : Following p z first end c old set one h) where
     -- the number at h is stored, and the next is known
     further : {new next : ℕ} → new < 65536 → h < 16 → h < end → next ≤ 1 → at z h + next ≡ at p h + one
-        → ((k : ℕ) → k < 16 → (k ≡ h → ⊥) → bit new k ≡ bit set k) → ones new h ≡ one
+        → ((k : ℕ) → k < 16 → (k ≡ h → ⊥) → bit new k ≡ bit set k) → bitNumber new h ≡ one
         → Following p z first end c old new next (h + 1)
     further {new} {next} b lh le s r other here = record {
       low = omega (arith, F .low);
@@ -144,10 +144,10 @@ module _ {p z : Point} {first end c old : ℕ} where
     pub number-at-end : (f : ℕ → ℕ) → f first ≡ c → GoesRound p z first end f → h ≡ end → one ≡ c
     number-at-end f e G l = sym (same-so-far f e G) ∙ ap f l ∙ G .round ∙ e
 
-    pub all-followed : first < end → h ≡ end → one ≡ c → Added p z first end old set × (ones set first ≡ c)
+    pub all-followed : first < end → h ≡ end → one ≡ c → Added p z first end old set × (bitNumber set first ≡ c)
     all-followed l e q =
-        let first-is : ones set first ≡ c = sym (reached-before set one h first (omega arith)) ∙ F .begins in
-        let same : (k : ℕ) → closed first end (ones set) k ≡ reached set one h k = λ k. rw (e, first-is, q) in (
+        let first-is : bitNumber set first ≡ c = sym (reached-before set one h first (omega arith)) ∙ F .begins in
+        let same : (k : ℕ) → closed first end (bitNumber set) k ≡ reached set one h k = λ k. rw (e, first-is, q) in (
           record {
             kept = F .kept;
             clear = rw e at F.clear;
@@ -169,7 +169,7 @@ module _ {p z : Point} {first end c old : ℕ} where
 
 -- a 0 among the numbers of a set, or none
 some-zero : (set first n : ℕ)
-    → HasZero first (first + n) (ones set) ⊎ ((k : ℕ) → first ≤ k → k < first + n → ones set k ≡ 1)
+    → HasZero first (first + n) (bitNumber set) ⊎ ((k : ℕ) → first ≤ k → k < first + n → bitNumber set k ≡ 1)
 some-zero set first zero = inr (λ k l m. absurd (omega arith))
 some-zero set first (suc n) =
     ⊎-elim (λ w. inl (w .0, w .1, omega (arith, w .2), w .3))
@@ -183,7 +183,7 @@ some-zero set first (suc n) =
 
 -- where no list begins with 0, one that begins with 1 has a 0: nothing but 1s may be lowered by 1 throughout
 zero-beside : {p z : Point} {first end old set : ℕ} → first < end → Added p z first end old set
-    → ((f : ℕ → ℕ) → f first ≡ 0 → GoesRound p z first end f → ⊥) → HasZero first end (ones set)
+    → ((f : ℕ → ℕ) → f first ≡ 0 → GoesRound p z first end f → ⊥) → HasZero first end (bitNumber set)
 zero-beside {p} {z} {first} {end} {set = set} l A none =
     let e : first + (end - first) ≡ end = omega arith in
     ⊎-elim
@@ -200,8 +200,8 @@ zero-beside {p} {z} {first} {end} {set = set} l A none =
     })))
     (some-zero set first (end - first))
   where
-    one-there : ((k : ℕ) → first ≤ k → k < end → ones set k ≡ 1) → (k : ℕ) → first ≤ k → k ≤ end
-        → closed first end (ones set) k ≡ 1
+    one-there : ((k : ℕ) → first ≤ k → k < end → bitNumber set k ≡ 1) → (k : ℕ) → first ≤ k → k ≤ end
+        → closed first end (bitNumber set) k ≡ 1
     one-there all-one k m n = ⊎-elim
         (λ (x : k < end). rw (lt-ltb k end x) (all-one k m x))
         (λ (x : end ≤ k). rw (le-ltb k end x) (all-one first (omega arith) l))

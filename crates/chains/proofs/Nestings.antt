@@ -20,7 +20,7 @@ use Rattle.rules.proofs.Masks.{bit-and}
 use Rattle.rules.specs.Mask.{bit}
 use Rattle.simplices.proofs.Tests.{at-index, index-at}
 use Rattle.simplices.specs.Chains.{inside, nested, pairwise}
-use Rattle.chains.specs.Sets.{ones, IsSet, nestedSets}
+use Rattle.chains.specs.Sets.{bitNumber, IsSet, nestedSets}
 
 last-same : (x y : ℕ) → x < 2 → y < 2 → eqb x 1 ≡ eqb y 1 → x ≡ y
 last-same zero zero l m e = refl
@@ -50,7 +50,7 @@ mask-same (suc n) a b l m h =
     last-bit : (a : ℕ) → eqb (a % 2) 1 ≡ bit a 0
     last-bit a = let e : a / 1 ≡ a = omega arith in rw e
 
-ones-same : (a b k : ℕ) → ones a k ≡ ones b k → bit a k ≡ bit b k
+ones-same : (a b k : ℕ) → bitNumber a k ≡ bitNumber b k → bit a k ≡ bit b k
 ones-same a b k e = go (bit a k) (bit b k) e
   where
     go : (x y : Bool) → _≡_ {A = ℕ} (cond x 1 0) (cond y 1 0) → x ≡ y
@@ -59,7 +59,7 @@ ones-same a b k e = go (bit a k) (bit b k) e
     go true false e = absurd (omega arith)
     go false true e = absurd (omega arith)
 
-ones-below : (a b k : ℕ) → ones a k ≤ ones b k → (bit a k && bit b k) ≡ bit a k
+ones-below : (a b k : ℕ) → bitNumber a k ≤ bitNumber b k → (bit a k && bit b k) ≡ bit a k
 ones-below a b k l = go (bit a k) (bit b k) l
   where
     go : (x y : Bool) → cond x 1 0 ≤ cond y 1 0 → (x && y) ≡ x
@@ -67,7 +67,7 @@ ones-below a b k l = go (bit a k) (bit b k) l
     go true false l = absurd (omega arith)
     go false y l = refl
 
-below-ones : (a b k : ℕ) → (bit a k && bit b k) ≡ bit a k → ones a k ≤ ones b k
+below-ones : (a b k : ℕ) → (bit a k && bit b k) ≡ bit a k → bitNumber a k ≤ bitNumber b k
 below-ones a b k e = go (bit a k) (bit b k) e
   where
     go : (x y : Bool) → (x && y) ≡ x → cond x 1 0 ≤ cond y 1 0
@@ -102,7 +102,7 @@ module _ (g : Grid) (few : numIndices g ≤ 16) where
         (λ (x : numIndices g ≤ k). p .clear k x l ∙ sym (q .clear k x l)) (before-or-not k (numIndices g)))))
         (λ h. let e : a ≡ b = eqb-true _ _ h in
         let w : A ≡ B = ext-getD 0 A B (p .long ∙ sym q.long) (λ k l.
-        p .is k (omega (arith, p .long)) ∙ ap (λ (n : ℕ). ones n k) e ∙ sym (q .is k (omega (arith, p .long)))) in
+        p .is k (omega (arith, p .long)) ∙ ap (λ (n : ℕ). bitNumber n k) e ∙ sym (q .is k (omega (arith, p .long)))) in
         rw w (same-self eqb eqb-self B))
 
   pub nested-is : {A B : List ℕ} {a b : ℕ} → IsSet (numIndices g) A a → IsSet (numIndices g) B b

@@ -27,7 +27,7 @@ use Rattle.path_laws.proofs.BlocksOfGrid.{coefficientOf-is}
 use Rattle.simplices.proofs.Tests.{at-index, coefficients-by, settled}
 use Rattle.simplices.specs.Chains.{startingAt, coefficientsFrom, zeroOrOne}
 use Rattle.chains.specs.Follow.{GoesRound, HasZero, closed, Added}
-use Rattle.chains.specs.Sets.{ones, ClearFrom, IsSet}
+use Rattle.chains.specs.Sets.{bitNumber, ClearFrom, IsSet}
 
 -- each block begins where the one before ends
 pub first-next : (ss : List ℕ) (j : ℕ) → sum (take (suc j) ss) ≡ sum (take j ss) + getD ss j 0
@@ -62,8 +62,9 @@ goes-same {first = first} {end} l same G = record {
 pub record AllAdded (ss : List ℕ) (p z : Point) (j set : ℕ) : Type 0 where
   pub clear : ClearFrom (firstOf ss j) set
   pub below : set < 65536
-  pub goes : (i : ℕ) → i < j → GoesRound p z (firstOf ss i) (endOf ss i) (closed (firstOf ss i) (endOf ss i) (ones set))
-  pub zeros : (i : ℕ) → i < j → HasZero (firstOf ss i) (endOf ss i) (ones set)
+  pub goes : (i : ℕ) → i < j
+      → GoesRound p z (firstOf ss i) (endOf ss i) (closed (firstOf ss i) (endOf ss i) (bitNumber set))
+  pub zeros : (i : ℕ) → i < j → HasZero (firstOf ss i) (endOf ss i) (bitNumber set)
 
 module _ {ss : List ℕ} {p z : Point} where
   pub none-added : AllAdded ss p z 0 0
@@ -75,7 +76,7 @@ module _ {ss : List ℕ} {p z : Point} where
   }
 
   pub one-added : {j old set : ℕ} → AllAdded ss p z j old → 0 < getD ss j 0
-      → Added p z (firstOf ss j) (endOf ss j) old set → HasZero (firstOf ss j) (endOf ss j) (ones set)
+      → Added p z (firstOf ss j) (endOf ss j) old set → HasZero (firstOf ss j) (endOf ss j) (bitNumber set)
       → AllAdded ss p z (j + 1) set
   one-added {j} {old} {set} A positive B zero-here = record {
     clear = rw (add-one j, first-next ss j) (B .clear);
@@ -88,11 +89,11 @@ module _ {ss : List ℕ} {p z : Point} where
         (λ (x : j ≤ i). let e : i ≡ j = omega arith in rw e zero-here) (before-or-not i j);
   }
     where
-      agree : (k : ℕ) → k < firstOf ss j → ones old k ≡ ones set k
+      agree : (k : ℕ) → k < firstOf ss j → bitNumber old k ≡ bitNumber set k
       agree k l = ap (λ (b : Bool). cond b 1 0) (sym (B .kept k l))
 
       agree-closed : (i : ℕ) → i < j → (k : ℕ)
-          → closed (firstOf ss i) (endOf ss i) (ones old) k ≡ closed (firstOf ss i) (endOf ss i) (ones set) k
+          → closed (firstOf ss i) (endOf ss i) (bitNumber old) k ≡ closed (firstOf ss i) (endOf ss i) (bitNumber set) k
       agree-closed i x k =
           let l = before-later ss i j x in
           ⊎-elim (λ (y : k < endOf ss i). rw (lt-ltb k (endOf ss i) y) (agree k (omega arith)))
@@ -127,11 +128,11 @@ module _ {g : Grid} (A : Accepted g) (p z : Point) (hp : isGridPoint g p ≡ tru
   -- all blocks have their sets
   pub whole-set : (set : ℕ) → AllAdded g.sizes p z (numBlocks g) set → IsSet (numIndices g) (coefficientsFrom g p z) set
   whole-set set all-added =
-      let list : coefficientsFrom g p z ≡ tabulate (numIndices g) (ones set) =
-      coefficients-by A p z hp hz (ones set) (all-added .zeros) rule in
+      let list : coefficientsFrom g p z ≡ tabulate (numIndices g) (bitNumber set) =
+      coefficients-by A p z hp hz (bitNumber set) (all-added .zeros) rule in
       record {
-        long = ap length list ∙ length-tabulate (numIndices g) (ones set);
-        is = λ k l. ap (λ (c : List ℕ). at c k) list ∙ getD-tabulate 0 (numIndices g) (ones set) k l;
+        long = ap length list ∙ length-tabulate (numIndices g) (bitNumber set);
+        is = λ k l. ap (λ (c : List ℕ). at c k) list ∙ getD-tabulate 0 (numIndices g) (bitNumber set) k l;
         clear = rw all-indices at (all-added .clear);
         below = all-added .below;
       }
@@ -139,26 +140,26 @@ module _ {g : Grid} (A : Accepted g) (p z : Point) (hp : isGridPoint g p ≡ tru
       all-indices : firstIndex g (numBlocks g) ≡ numIndices g
       all-indices = ap sum (take-length g.sizes)
 
-      rule : (k : ℕ) → k < numIndices g → at z k + ones set (next g k) ≡ at p k + ones set k
+      rule : (k : ℕ) → k < numIndices g → at z k + bitNumber set (next g k) ≡ at p k + bitNumber set k
       rule k l = go (seat g k l)
         where
-          go : Seat g k → at z k + ones set (next g k) ≡ at p k + ones set k
+          go : Seat g k → at z k + bitNumber set (next g k) ≡ at p k + bitNumber set k
           go s =
               let j = s .j in
               let i = s .i in
               let first = firstIndex g j in
               let r = all-added .goes j s.block .rule k (omega (arith, s .is)) (omega (arith, s .is, s .inside)) in
-              let here : closed first (endOf g.sizes j) (ones set) k ≡ ones set k =
+              let here : closed first (endOf g.sizes j) (bitNumber set) k ≡ bitNumber set k =
               rw (lt-ltb k (endOf g.sizes j) (omega (arith, s .is, s .inside))) in
               ⊎-elim
               (λ (x : suc i < size g j).
               let n : next g k ≡ suc k = rw s.is (next-at g j i x ∙ omega arith) in
-              let there : closed first (endOf g.sizes j) (ones set) (suc k) ≡ ones set (suc k) =
+              let there : closed first (endOf g.sizes j) (bitNumber set) (suc k) ≡ bitNumber set (suc k) =
               rw (lt-ltb (suc k) (endOf g.sizes j) (omega (arith, s .is))) in
               rw n (omega arith))
               (λ (x : size g j ≤ suc i).
               let n : next g k ≡ first = rw s.is (next-round g j i (omega (arith, s .inside))) in
-              let there : closed first (endOf g.sizes j) (ones set) (suc k) ≡ ones set first =
+              let there : closed first (endOf g.sizes j) (bitNumber set) (suc k) ≡ bitNumber set first =
               rw (le-ltb (suc k) (endOf g.sizes j) (omega (arith, s .is))) in
               rw n (omega arith))
               (before-or-not (suc i) (size g j))

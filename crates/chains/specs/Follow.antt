@@ -7,7 +7,7 @@ use lib.ListN.{length}
 use Rattle.grid.specs.Grid.{Grid, Point, at, numIndices}
 use Rattle.rules.specs.Mask.{bit}
 use Rattle.simplices.specs.Chains.{coefficientsFrom, zeroOrOne}
-use Rattle.chains.specs.Sets.{ones, ClearFrom, IsSet}
+use Rattle.chains.specs.Sets.{bitNumber, ClearFrom, IsSet}
 use Rattle.chains.specs.declared.sets.Found.{Found}
 use Rattle.chains.specs.declared.sets.Found.the-variants.{Set, NoSet}
 
@@ -39,16 +39,16 @@ pub record Added (p z : Point) (first end old set : ℕ) : Type 0 where
   pub kept : (k : ℕ) → k < first → bit set k ≡ bit old k
   pub clear : ClearFrom end set
   pub below : set < 65536
-  pub goes : GoesRound p z first end (closed first end (ones set))
+  pub goes : GoesRound p z first end (closed first end (bitNumber set))
 
 -- what is found where the first number is to be c
 abbrev pub FollowedFrom : Point → Point → ℕ → ℕ → ℕ → ℕ → Found → Type 0
-FollowedFrom p z first end c old (Set set) = Added p z first end old set × (ones set first ≡ c)
+FollowedFrom p z first end c old (Set set) = Added p z first end old set × (bitNumber set first ≡ c)
 FollowedFrom p z first end c old NoSet = (f : ℕ → ℕ) → f first ≡ c → GoesRound p z first end f → ⊥
 
 -- what is found on a block
 abbrev pub FoundOnBlock : Point → Point → ℕ → ℕ → ℕ → Found → Type 0
-FoundOnBlock p z first end old (Set set) = Added p z first end old set × HasZero first end (ones set)
+FoundOnBlock p z first end old (Set set) = Added p z first end old set × HasZero first end (bitNumber set)
 FoundOnBlock p z first end old NoSet = (f : ℕ → ℕ) → GoesRound p z first end f → ⊥
 
 -- what is found of the whole list

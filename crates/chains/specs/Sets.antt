@@ -10,8 +10,8 @@ use Rattle.grid.specs.Grid.{at}
 use Rattle.rules.specs.Mask.{bit}
 
 -- the number at index k
-abbrev pub ones : ℕ → ℕ → ℕ
-ones set k = cond (bit set k) 1 0
+abbrev pub bitNumber : ℕ → ℕ → ℕ
+bitNumber set k = cond (bit set k) 1 0
 
 -- no index from k on
 abbrev pub ClearFrom : ℕ → ℕ → Type 0
@@ -20,7 +20,7 @@ ClearFrom from set = (k : ℕ) → from ≤ k → k < 16 → bit set k ≡ false
 -- the set of a list of m 0s and 1s
 pub record IsSet (m : ℕ) (list : List ℕ) (set : ℕ) : Type 0 where
   pub long : length list ≡ m
-  pub is : (k : ℕ) → k < m → at list k ≡ ones set k
+  pub is : (k : ℕ) → k < m → at list k ≡ bitNumber set k
   pub clear : ClearFrom m set
   pub below : set < 65536
 

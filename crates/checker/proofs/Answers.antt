@@ -26,7 +26,7 @@ use Rattle.simplices.specs.Simplices.{firstOf, labelledBy, verdict}
 use Rattle.chains.specs.Listed.{listed, listedAt, Listed}
 use Rattle.checker.proofs.Covering.{whole-is}
 use Rattle.checker.proofs.ListRefusals.{most-few}
-use Rattle.checker.specs.Check.{question19, wholePoints, pointsOf, listQuestions, caseOf, checkAnswer}
+use Rattle.checker.specs.Check.{question19, wholePoints, listedPoints, listQuestions, checkCase, checkAnswer}
 use Rattle.checker.specs.Covered.{IsCovered, Labelled, firstWhole}
 use Rattle.checker.specs.declared.Answer.the-variants.{Refused}
 
@@ -66,7 +66,7 @@ module _ (g : Grid) (labels numbers : List ℕ) where
         rw (q, ne-eqb n 0 z)
 
     pub judged-is : firstNo (listQuestions g labels numbers) ≡ 0
-        → caseOf (verdict g labels (pointsOf g numbers)) ≡ checkAnswer g labels numbers
+        → checkCase (verdict g labels (listedPoints g numbers)) ≡ checkAnswer g labels numbers
     unfolding checkAnswer
     judged-is e = let q = asked-next (gridQuestions g) (listQuestions g labels numbers) refl accepted ∙ e in rw q
 
@@ -93,7 +93,7 @@ module _ (s : GridStruct) (made : IsMade s) (labels numbers : List ℕ)
       let a = leb 1 (length numbers) in
       let b = eqb (w * numIndices (shape s)) (length numbers) in
       let few = leb w (suc (dimension (shape s))) in
-      let points = all (isGridPoint (shape s)) (pointsOf (shape s) numbers) in
+      let points = all (isGridPoint (shape s)) (listedPoints (shape s) numbers) in
       let first : (a && b && few) ≡ true = and-left (a && b && few) points yes in
       let some = leb-true 1 (length numbers) (and-left a b (and-left (a && b) few first)) in
       let whole = eqb-true (w * numIndices (shape s)) (length numbers) (and-right a b (and-left (a && b) few first)) in

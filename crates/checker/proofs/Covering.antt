@@ -32,7 +32,7 @@ use Rattle.place.specs.Ends.{isComplete, completeFor}
 use Rattle.place.specs.Places.{labelSet, setU}
 use Rattle.place.specs.Problem.{label}
 use Rattle.path_laws.proofs.Meaning.{index-means}
-use Rattle.positions.specs.Steps.{afterSteps, CanStep}
+use Rattle.positions.specs.Steps.{afterSteps, CanTakeSteps}
 use Rattle.simplices.specs.Simplices.{firstOf, labelledBy}
 use Rattle.chains.proofs.ListedPoints.{all-at}
 use Rattle.chains.proofs.Nestings.{range-none, range-more}
@@ -88,7 +88,7 @@ module _ (s : GridStruct) (made : IsMade s) (y : List ℕ) (on : isGridPoint (sh
   few : s .indices ≤ 16
   few = omega (arith, made-accepted s made .fewIndices, made-indices s made)
 
-  pub can-stay : CanStep (s .indices) y (replicate 16 16)
+  pub can-stay : CanTakeSteps (s .indices) y (replicate 16 16)
   can-stay k l = omega (arith, at-replicate 16 16 k (omega (arith, few)))
 
   pub stays : take (s .indices) (afterSteps y (replicate 16 16)) ≡ take (s .indices) y

@@ -31,7 +31,7 @@ use Rattle.chains.proofs.WholeSets.{point-long}
 use Rattle.chains.specs.Listed.{listed, listedAt}
 use Rattle.checker.proofs.Answers.{judged-is}
 use Rattle.checker.proofs.ListRefusals.{list-points, none-no}
-use Rattle.checker.specs.Check.{question19, wholePoints, pointsOf, checkAnswer}
+use Rattle.checker.specs.Check.{question19, wholePoints, listedPoints, checkAnswer}
 use Rattle.checker.specs.EachEnd.{EachEndGetsYes}
 use Rattle.checker.specs.declared.Answer.the-variants.{Yes}
 
@@ -86,7 +86,7 @@ module _ {g : Grid} (A : Accepted g) (ys : List Point) (some-point : 1 ≤ lengt
   as-many : wholePoints g (concatMap (λ y. y) ys) ≡ length ys
   as-many = rw (numbers-long (numIndices g) ys (all-long g ys on)) (mul-div-cancel (length ys) some-index)
 
-  pub same-points : pointsOf g (concatMap (λ y. y) ys) ≡ ys
+  pub same-points : listedPoints g (concatMap (λ y. y) ys) ≡ ys
   same-points = rw as-many (points-back (numIndices g) ys (all-long g ys on))
 
   pub list-accepted : question19 g (concatMap (λ y. y) ys) .answeredYes ≡ true

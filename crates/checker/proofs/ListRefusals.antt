@@ -15,7 +15,7 @@ use Rattle.grid.proofs.Fields.{made-accepted, made-blocks, made-indices}
 use Rattle.grid.specs.Grid.{Grid, dimension, isGridPoint, numIndices, numPoints}
 use Rattle.grid.specs.Made.{IsMade, shape}
 use Rattle.grid.specs.declared.Grid.{Grid as GridStruct}
-use Rattle.checker.specs.Check.{question19, wholePoints, pointsOf, listQuestions}
+use Rattle.checker.specs.Check.{question19, wholePoints, listedPoints, listQuestions}
 
 -- question 19
 module _ (g : Grid) (numbers : List ℕ) where
@@ -37,7 +37,7 @@ module _ (g : Grid) (numbers : List ℕ) where
       )
 
       pub list-points : wholePoints g numbers ≤ suc (dimension g)
-          → all (isGridPoint g) (pointsOf g numbers) ≡ question19 g numbers .answeredYes
+          → all (isGridPoint g) (listedPoints g numbers) ≡ question19 g numbers .answeredYes
       list-points l = rw (
         le-leb 1 (length numbers) some,
         eq-eqb (wholePoints g numbers * numIndices g) (length numbers) whole,

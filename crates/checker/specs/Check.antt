@@ -21,15 +21,15 @@ abbrev pub wholePoints : Grid → List ℕ → ℕ
 wholePoints g numbers = length numbers / numIndices g
 
 -- the points of a list
-abbrev pub pointsOf : Grid → List ℕ → List Point
-pointsOf g numbers = listed (numIndices g) (wholePoints g numbers) numbers
+abbrev pub listedPoints : Grid → List ℕ → List Point
+listedPoints g numbers = listed (numIndices g) (wholePoints g numbers) numbers
 
 -- "19 when the list is empty, is not whole points of m numbers, has more than n + 1 points, or has a point off
 -- the grid"
 abbrev pub question19 : Grid → List ℕ → Question
 question19 g numbers = ask 19
     (leb 1 (length numbers) && eqb (wholePoints g numbers * numIndices g) (length numbers)
-    && leb (wholePoints g numbers) (suc (dimension g)) && all (isGridPoint g) (pointsOf g numbers))
+    && leb (wholePoints g numbers) (suc (dimension g)) && all (isGridPoint g) (listedPoints g numbers))
 
 -- those behind 1 to 4: "6 and 7", and 19 "put after 7"
 abbrev pub listQuestions : Grid → List ℕ → List ℕ → List Question
@@ -41,12 +41,12 @@ abbrev pub checkQuestions : Grid → List ℕ → List ℕ → List Question
 checkQuestions g labels numbers = gridQuestions g ++ listQuestions g labels numbers
 
 -- "says yes with the first block .., or no"; the block counts from 1
-abbrev pub caseOf : Option ℕ → Answer
-caseOf none = No
-caseOf (some j) = Yes (suc j)
+abbrev pub checkCase : Option ℕ → Answer
+checkCase none = No
+checkCase (some j) = Yes (suc j)
 
 -- "The checker takes grid, label table and a list of points"
 unfoldable pub checkAnswer : Grid → List ℕ → List ℕ → Answer
 checkAnswer g labels numbers =
     let number = firstNo (checkQuestions g labels numbers) in
-    cond (eqb number 0) (caseOf (verdict g labels (pointsOf g numbers))) (Refused number)
+    cond (eqb number 0) (checkCase (verdict g labels (listedPoints g numbers))) (Refused number)

@@ -11,7 +11,7 @@ ghost use Rattle.place.specs.Problem.{label};
 ghost use Rattle.simplices.specs.Simplices.{labelledBy};
 ghost use Rattle.chains.specs.Listed.{listed, Listed};
 ghost use Rattle.positions.specs.Binomials.{HasBinomials};
-ghost use Rattle.checker.specs.Check.{caseOf};
+ghost use Rattle.checker.specs.Check.{checkCase};
 ghost use Rattle.checker.specs.Covered.{IsCovered, firstWhole, Labelled, withLabel};
 use crate::Answer;
 use arrays::add;
@@ -89,7 +89,7 @@ fn has_all(set: u16, first: usize, end: usize) -> bool
 // The first block whose indices the set has all.
 pub fn first_whole(g: Grid, set: u16) -> Answer
     requires { ⌜ IsMade g ⌝ }
-    ensures { λ r. ⌜ r ≡ caseOf (firstWhole (shape g) set) ⌝ }
+    ensures { λ r. ⌜ r ≡ checkCase (firstWhole (shape g) set) ⌝ }
 {
     let firsts = g.firsts;
     let sizes = g.sizes;

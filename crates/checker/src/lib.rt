@@ -5,7 +5,7 @@ ghost use Rattle.grid.specs.Build.{lent};
 ghost use Rattle.grid.specs.Made.{shape};
 ghost use Rattle.simplices.specs.Simplices.{verdict};
 ghost use Rattle.chains.specs.Listed.{listed, Listed};
-ghost use Rattle.checker.specs.Check.{caseOf, checkAnswer};
+ghost use Rattle.checker.specs.Check.{checkCase, checkAnswer};
 ghost use Rattle.checker.specs.Covered.{Labelled};
 use grid::Grid;
 
@@ -24,7 +24,7 @@ pub enum Answer {
 // The verdict on points of the grid.
 fn judged(g: Grid, labels: &[u8], numbers: &[u16], count: usize) -> Answer
     requires { ⌜ Listed g count (now numbers) × Labelled g (now labels) × (1 ≤ count) ⌝ }
-    ensures { λ r. ⌜ r ≡ caseOf (verdict (shape g) (now (labels .entry))
+    ensures { λ r. ⌜ r ≡ checkCase (verdict (shape g) (now (labels .entry))
         (listed (g .indices) count (now (numbers .entry)))) ⌝ }
 {
     if !chains::one_chain(g, numbers, count) {

@@ -1,4 +1,4 @@
--- Binomials, products of falling factors, and products of binomials. Assumes nothing.
+-- Binomials, products of falling factors, products of binomials, and how far apart two numbers stand. Assumes nothing.
 use mathlib.Core.List.{List, [], _∷_}
 use Prim.Native.Nat.{ℕ, zero, suc, pred, _+_, _-_, _*_}
 
@@ -17,3 +17,7 @@ abbrev pub binomialProduct : List ℕ → List ℕ → ℕ
 binomialProduct [] ds = 1
 binomialProduct (s ∷ ss) [] = 0
 binomialProduct (s ∷ ss) (d ∷ ds) = choose (d + pred s) (pred s) * binomialProduct ss ds
+
+-- how far apart two whole numbers stand: a difference stops at 0, so one of the two is 0
+abbrev pub apart : ℕ → ℕ → ℕ
+apart a b = (a - b) + (b - a)

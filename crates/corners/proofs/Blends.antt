@@ -12,7 +12,7 @@ use Rattle.weighed_losses.proofs.Blends.{blend-agree, blend-times, blend-add, b
 use Rattle.weighed_losses.specs.Levels.{blend}
 use Rattle.losses.proofs.Weights.{dot-spread, length-weights}
 use Rattle.corners.proofs.Integers.{difference-weighed}
-use Rattle.corners.specs.Corners.{blendℤ, unit}
+use Rattle.corners.specs.Corners.{blendℤ, unitVector}
 use Rattle.losses.specs.Game.{dot}
 use Rattle.losses.specs.Weights.{weighed, weights}
 
@@ -39,7 +39,7 @@ blend-difference (x ∷ z) f e d h =
       ← blend-difference z (λ k. f (suc k)) (λ k. e (suc k)) (λ k. d (suc k)) (λ k l. h (suc k) (omega arith)),
     )
 
-pub unit-length : (s k : ℕ) → length (unit s k) ≡ s
+pub unit-length : (s k : ℕ) → length (unitVector s k) ≡ s
 unit-length s k = length-set (replicate s 0) k 1 ∙ length-replicate s 0
 
 dot-zeros : (s : ℕ) (v : List ℕ) → dot (replicate s 0) v ≡ 0
@@ -47,7 +47,7 @@ dot-zeros zero v = refl
 dot-zeros (suc s) [] = refl
 dot-zeros (suc s) (y ∷ v) = omega (arith, dot-zeros s v)
 
-dot-unit : (s k : ℕ) (v : List ℕ) → k < s → dot (unit s k) v ≡ at v k
+dot-unit : (s k : ℕ) (v : List ℕ) → k < s → dot (unitVector s k) v ≡ at v k
 dot-unit zero k v h = absurd (omega arith)
 dot-unit (suc s) zero [] h = refl
 dot-unit (suc s) zero (y ∷ v) h = omega (arith, dot-zeros s v)
@@ -55,7 +55,7 @@ dot-unit (suc s) (suc k) [] h = refl
 dot-unit (suc s) (suc k) (y ∷ v) h = omega (arith, dot-unit s k v (omega arith))
 
 -- a mix that is one strategy picks its number
-pub blend-unit : (s k : ℕ) (f : ℕ → ℕ) → k < s → blend (unit s k) f ≡ f k
+pub blend-unit : (s k : ℕ) (f : ℕ → ℕ) → k < s → blend (unitVector s k) f ≡ f k
 blend-unit zero k f h = absurd (omega arith)
 blend-unit (suc s) zero f h = omega (arith, zeros s (λ i. f (suc i)))
   where
@@ -79,15 +79,17 @@ module _ (z w : List ℕ) (ws : ℕ → List ℕ) (long : (k : ℕ) → length (
 
 -- the products of the mixes are linear in each mix
 pub linear : (xs : List (List ℕ)) (z : List ℕ) (ys : List (List ℕ)) (t : List ℕ)
-    → dot (weights (xs ++ z ∷ ys)) t ≡ blend z (λ k. dot (weights (xs ++ unit (length z) k ∷ ys)) t)
+    → dot (weights (xs ++ z ∷ ys)) t ≡ blend z (λ k. dot (weights (xs ++ unitVector (length z) k ∷ ys)) t)
 linear [] z ys t = dot-spread z (weights ys) t
     ∙ dot-blend z (weighed (length z) (weights ys) t)
     ∙ blend-agree z _ _ (λ k h.
-    sym (dot-spread (unit (length z) k) (weights ys) t ∙ rw (unit-length (length z) k) (dot-unit (length z) k _ h)))
+    sym (dot-spread (unitVector (length z) k) (weights ys) t
+    ∙ rw (unit-length (length z) k) (dot-unit (length z) k _ h)))
 linear (x ∷ xs) z ys t =
     dot-spread x (weights (xs ++ z ∷ ys)) t
-    ∙ weighed-blend z (weights (xs ++ z ∷ ys)) (λ k. weights (xs ++ unit (length z) k ∷ ys)) long (linear xs z ys) x t
-    ∙ blend-agree z _ _ (λ k h. sym (dot-spread x (weights (xs ++ unit (length z) k ∷ ys)) t))
+    ∙ weighed-blend z (weights (xs ++ z ∷ ys)) (λ k. weights (xs ++ unitVector (length z) k ∷ ys)) long
+    (linear xs z ys) x t
+    ∙ blend-agree z _ _ (λ k h. sym (dot-spread x (weights (xs ++ unitVector (length z) k ∷ ys)) t))
   where
-    long : (k : ℕ) → length (weights (xs ++ unit (length z) k ∷ ys)) ≡ length (weights (xs ++ z ∷ ys))
+    long : (k : ℕ) → length (weights (xs ++ unitVector (length z) k ∷ ys)) ≡ length (weights (xs ++ z ∷ ys))
     long k = rw (length-weights, length-weights, map-append, map-append, unit-length (length z) k)

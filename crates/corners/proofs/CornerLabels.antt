@@ -13,7 +13,7 @@ use Rattle.corners.proofs.CornerLosses.{last-ends, own-part, corner-poi
 use Rattle.corners.proofs.FirstLargest.{largest-agree}
 use Rattle.points_in_order.proofs.Blocks.{point-length, block-length}
 use Rattle.corners.specs.Corners.{column, RowsToAdd, lastPlayer, corner, cornerGrid, Cornered}
-use Rattle.losses.specs.Game.{mix, difference, firstLargest, label}
+use Rattle.losses.specs.Game.{mix, difference, firstLargest, gameLabel}
 use Rattle.grid.specs.Build.{lent}
 use Rattle.points_in_order.specs.Lent.{PointWithFirsts}
 
@@ -50,8 +50,8 @@ module _ (g : Grid) (firsts losses ones : List ℕ) (e : ones ≡ set (g .divisi
       low = rw (own, block-length g y (lastPlayer g)) (stand .low);
     }
 
-    pub lent-label : suc (firstLargest (column lentMix differences) (upFrom 0 (numIndices g))) ≡ label g losses y
-    unfolding label
+    pub lent-label : suc (firstLargest (column lentMix differences) (upFrom 0 (numIndices g))) ≡ gameLabel g losses y
+    unfolding gameLabel
     lent-label =
         let corners : Cornered (cornerGrid g) losses y (size g (lastPlayer g)) differences = rw e at stand in
         rw own

@@ -38,7 +38,7 @@ use Rattle.points_in_order.proofs.Blocks.{at-part, point-length, block-sum, blo
 use Rattle.losses.proofs.Replaced.{mix-lengths, expected-weights, replaced-is}
 use Rattle.corners.proofs.Rows.{part-before, part-within}
 use Rattle.losses.proofs.Weights.{length-weights, weighed-at}
-use Rattle.corners.specs.Corners.{entry, column, lastPlayer, unit, corner, cornerGrid, Cornered}
+use Rattle.corners.specs.Corners.{signedAt, column, lastPlayer, unitVector, corner, cornerGrid, Cornered}
 use Rattle.losses.specs.Game.{product, dot, mix, opponents, ownFirst, lossesOf, expectedLoss, replacedLoss, playerLoss}
 use Rattle.losses.specs.Game.{difference}
 use Rattle.points_in_order.specs.Lent.{PointWithFirsts}
@@ -90,15 +90,15 @@ module _ (g : Grid) (some : 1 ≤ numBlocks g) where
     pub corner-length : (k : ℕ) → length (corner g y k) ≡ numIndices g
     corner-length k = rw (length-append, outer-length, unit-length (size g last) k) last-ends
 
-    pub corner-last : (k : ℕ) → mix g (corner g y k) last ≡ unit (size g last) k
+    pub corner-last : (k : ℕ) → mix g (corner g y k) last ≡ unitVector (size g last) k
     corner-last k = at-part (corner g y k) (firstIndex g last) (size g last) (omega (arith, last-ends, corner-length k))
-        ∙ rw (drop-at (take (firstIndex g last) y) (unit (size g last) k) (firstIndex g last) outer-length)
-        (take-all (size g last) (unit (size g last) k) (omega (arith, unit-length (size g last) k)))
+        ∙ rw (drop-at (take (firstIndex g last) y) (unitVector (size g last) k) (firstIndex g last) outer-length)
+        (take-all (size g last) (unitVector (size g last) k) (omega (arith, unit-length (size g last) k)))
 
     pub corner-other : (k i : ℕ) → i < last → mix g (corner g y k) i ≡ mix g y i
     corner-other k i h = map-range _ _ (firstIndex g i) (size g i) (λ t l.
         let low : firstIndex g i + t < firstIndex g last = omega (arith, block-before (g .sizes) i last h) in
-        List·getD-append (take (firstIndex g last) y) (unit (size g last) k) 0 (firstIndex g i + t)
+        List·getD-append (take (firstIndex g last) y) (unitVector (size g last) k) 0 (firstIndex g i + t)
         (rw outer-length low)
         ∙ getD-take (firstIndex g last) y (firstIndex g i + t) 0 low)
 
@@ -180,7 +180,7 @@ sum-zeros : (s : ℕ) → sum (replicate s 0) ≡ 0
 sum-zeros zero = refl
 sum-zeros (suc s) = omega (arith, sum-zeros s)
 
-sum-unit : (s k : ℕ) → k < s → sum (unit s k) ≡ 1
+sum-unit : (s k : ℕ) → k < s → sum (unitVector s k) ≡ 1
 sum-unit zero k h = absurd (omega arith)
 sum-unit (suc s) zero h = omega (arith, sum-zeros s)
 sum-unit (suc s) (suc k) h = omega (arith, sum-unit s k (omega arith))
@@ -271,7 +271,7 @@ take-zeros (suc s) zero h = absurd (omega arith)
 take-zeros (suc s) (suc n) h = ap (λ (l : List ℕ). 0 ∷ l) (take-zeros s n (omega arith))
 
 set-unit : (o : List ℕ) (s n k : ℕ) → length o + s ≤ n → k < s
-    → take (length o + s) (set (front o (replicate n 0)) (length o + k) 1) ≡ o ++ unit s k
+    → take (length o + s) (set (front o (replicate n 0)) (length o + k) 1) ≡ o ++ unitVector s k
 unfolding front
 set-unit [] s n k h l =
     let a : 0 + s ≡ s = omega arith in
@@ -319,7 +319,7 @@ written-at f n old new e h inside =
 pub cornered-turn : (g : Grid) (few : numIndices g ≤ 16) (losses : List ℕ) (y : Point) (k : ℕ) (differences : List ℤ)
     → Cornered g losses y k differences → (row : List ℤ) (n : ℕ) → k * 16 ≤ length differences → length row ≡ 16
     → ((h : ℕ) → h < numIndices g
-    → (entry row h ≡ difference g losses (corner g y k) h) × (natAbs (entry row h) < 4294967296))
+    → (signedAt row h ≡ difference g losses (corner g y k) h) × (natAbs (signedAt row h) < 4294967296))
     → Cornered g losses y (k + 1) (take (k * 16) differences ++ (row ++ drop n (drop (k * 16) differences)))
 cornered-turn g few losses y k differences w row n inside long new = record {
   differenceAt = λ i h l b. ⊎-elim
@@ -335,10 +335,10 @@ cornered-turn g few losses y k differences w row n inside long new = record {
     whole : List ℤ
     whole = take (k * 16) differences ++ (row ++ drop n (drop (k * 16) differences))
 
-    here : (i h : ℕ) → i ≡ k → h < numIndices g → entry whole (i * 16 + h) ≡ entry row h
+    here : (i h : ℕ) → i ≡ k → h < numIndices g → signedAt whole (i * 16 + h) ≡ signedAt row h
     here i h s b = rw s (part-within differences row (k * 16) n inside h (omega arith))
 
-    before : (i h : ℕ) → i < k → h < numIndices g → entry whole (i * 16 + h) ≡ entry differences (i * 16 + h)
+    before : (i h : ℕ) → i < k → h < numIndices g → signedAt whole (i * 16 + h) ≡ signedAt differences (i * 16 + h)
     before i h l b = part-before differences row (k * 16) n inside (i * 16 + h) (omega arith)
 
 -- points that differ only in the last player's mix have the same corners

@@ -20,7 +20,7 @@ use Rattle.losses.specs.Game.{lossesOf}
 use Rattle.losses.specs.Weights.{strategyLosses}
 use Rattle.corners.proofs.Blends.{blend-unit}
 use Rattle.corners.proofs.CornerLosses.{outer-length, corner-last}
-use Rattle.corners.specs.Corners.{lastPlayer, numCorners, unit, corner, pickedAt}
+use Rattle.corners.specs.Corners.{lastPlayer, numCorners, unitVector, corner, pickedAt}
 
 module _ (g : Grid) (some : 1 ≤ numBlocks g) (y : Point) (whole : length y ≡ numIndices g) (k : ℕ)
     (inside : k < numCorners g) (owners losses levels : List ℕ) (owned : Owners g owners)
@@ -34,7 +34,8 @@ module _ (g : Grid) (some : 1 ≤ numBlocks g) (y : Point) (whole : length y ≡
   -- the corner has the mixes before the last player's
   same-before : take (firstIndex g last) z ≡ take (firstIndex g last) y
   same-before =
-      take-at (take (firstIndex g last) y) (unit (size g last) k) (firstIndex g last) (outer-length g some y whole)
+      take-at (take (firstIndex g last) y) (unitVector (size g last) k) (firstIndex g last)
+      (outer-length g some y whole)
 
   -- the table of strategy i of player j
   module _ (j i : ℕ) (b : j < numBlocks g) (c : i < size g j) where

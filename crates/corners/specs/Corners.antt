@@ -20,27 +20,27 @@ abbrev pub blendℤ : List ℕ → (ℕ → ℤ) → ℤ
 blendℤ [] f = pos 0
 blendℤ (x ∷ mix) f = pos x *ℤ f 0 +ℤ blendℤ mix (λ k. f (suc k))
 
-abbrev pub entry : List ℤ → ℕ → ℤ
-entry l i = getD l i (pos 0)
+abbrev pub signedAt : List ℤ → ℕ → ℤ
+signedAt l i = getD l i (pos 0)
 
 -- rows of 16 integers stand one behind the other: what stands at place h of the rows, weighed by the mix
 abbrev pub column : List ℕ → List ℤ → ℕ → ℤ
-column mix rows h = blendℤ mix (λ k. entry rows (k * 16 + h))
+column mix rows h = blendℤ mix (λ k. signedAt rows (k * 16 + h))
 
 -- the numbers at the first m places of the first n rows are less than 2^32 away from 0
 abbrev pub Low : ℕ → ℕ → List ℤ → Type 0
-Low n m rows = (k h : ℕ) → k < n → h < m → natAbs (entry rows (k * 16 + h)) < 4294967296
+Low n m rows = (k h : ℕ) → k < n → h < m → natAbs (signedAt rows (k * 16 + h)) < 4294967296
 
 abbrev pub lastPlayer : Grid → ℕ
 lastPlayer g = numBlocks g - 1
 
 -- s numbers, 1 at place k and 0 at the others
-abbrev pub unit : ℕ → ℕ → List ℕ
-unit s k = set (replicate s 0) k 1
+abbrev pub unitVector : ℕ → ℕ → List ℕ
+unitVector s k = set (replicate s 0) k 1
 
 -- the point with strategy k in place of the last player's mix
 abbrev pub corner : Grid → Point → ℕ → Point
-corner g y k = take (firstIndex g (lastPlayer g)) y ++ unit (size g (lastPlayer g)) k
+corner g y k = take (firstIndex g (lastPlayer g)) y ++ unitVector (size g (lastPlayer g)) k
 
 -- the grid with 1 as the last division, whose points the corners are
 abbrev pub cornerGrid : Grid → Grid
@@ -57,7 +57,7 @@ pickedAt owners levels last k h = at levels (place last h + cond (eqb (at owners
 -- the differences at the first n corners: row k of the table has those at corner k
 pub record Cornered (g : Grid) (losses : List ℕ) (y : Point) (n : ℕ) (differences : List ℤ) : Type 0 where
   pub differenceAt : (k h : ℕ) → k < n → h < numIndices g
-      → entry differences (k * 16 + h) ≡ difference g losses (corner g y k) h
+      → signedAt differences (k * 16 + h) ≡ difference g losses (corner g y k) h
   pub low : Low n (numIndices g) differences
 
 -- a game with the corners of a point and its tables up to the last level
@@ -84,4 +84,4 @@ pub record RowToAdd (totals : List ℤ) (x : ℤ) (row : List ℤ) (count : ℕ)
   pub sixteen : length totals ≡ 16
   pub few : count ≤ 16
   pub inside : count ≤ length row
-  pub fits : (h : ℕ) → h < count → natAbs (entry totals h) + natAbs x * natAbs (entry row h) < 9223372036854775808
+  pub fits : (h : ℕ) → h < count → natAbs (signedAt totals h) + natAbs x * natAbs (signedAt row h) < 9223372036854775808

@@ -4,7 +4,7 @@ ghost use Prim.Native.Nat.{ℕ, suc, _<_};
 ghost use lib.IntN.{pos, _+ℤ_, _*ℤ_};
 ghost use lib.ListN.{length, replicate};
 ghost use Rattle.combinatorics.specs.Lists.{upFrom};
-ghost use Rattle.corners.specs.Corners.{entry, column, RowToAdd, RowsToAdd};
+ghost use Rattle.corners.specs.Corners.{signedAt, column, RowToAdd, RowsToAdd};
 ghost use Rattle.losses.specs.Game.{firstLargest};
 use crate::largest;
 
@@ -12,7 +12,7 @@ use crate::largest;
 fn add_times(totals: &mut [i64; 16], x: i64, row: &[i64], count: usize)
     requires { ⌜ RowToAdd (now totals) x (now row) count ⌝ }
     ensures { λ _. ⌜ (length (now (totals .exit)) ≡ 16) × ((h : ℕ) → h < count
-        → entry (now (totals .exit)) h ≡ entry (now (totals .entry)) h +ℤ x *ℤ entry (now (row .entry)) h) ⌝ }
+        → signedAt (now (totals .exit)) h ≡ signedAt (now (totals .entry)) h +ℤ x *ℤ signedAt (now (row .entry)) h) ⌝ }
 {
     let mut h: usize = 0;
     while h < count {
@@ -27,7 +27,7 @@ fn add_times(totals: &mut [i64; 16], x: i64, row: &[i64], count: usize)
 fn add_rows(totals: &mut [i64; 16], mix: &[u16], rows: &[i64], count: usize)
     requires { ⌜ (now totals ≡ replicate 16 (pos 0)) × RowsToAdd (now mix) (now rows) count ⌝ }
     ensures { λ _. ⌜ ((h : ℕ) → h < count
-        → entry (now (totals .exit)) h ≡ column (now (mix .entry)) (now (rows .entry)) h) ⌝ }
+        → signedAt (now (totals .exit)) h ≡ column (now (mix .entry)) (now (rows .entry)) h) ⌝ }
 {
     let mut k: usize = 0;
     while k < mix.len() {

@@ -5,7 +5,7 @@ ghost use lib.IntN.{pos, natAbs, _-ℤ_};
 ghost use lib.ListN.{length};
 ghost use Rattle.combinatorics.specs.Lists.{upFrom};
 ghost use Rattle.grid.specs.Grid.{at};
-ghost use Rattle.corners.specs.Corners.{entry};
+ghost use Rattle.corners.specs.Corners.{signedAt};
 ghost use Rattle.losses.specs.Game.{firstLargest};
 
 fn difference(expected: u32, replaced: u32) -> i64
@@ -17,7 +17,7 @@ fn difference(expected: u32, replaced: u32) -> i64
 // The expected losses less the replaced ones, entry by entry.
 pub fn put_differences(differences: &mut [i64], expected: &[u32; 16], replaced: &[u32; 16])
     requires { ⌜ length (now differences) ≡ 16 ⌝ }
-    ensures { λ _. ⌜ ((h : ℕ) → h < 16 → (let d = entry (now (differences .exit)) h in
+    ensures { λ _. ⌜ ((h : ℕ) → h < 16 → (let d = signedAt (now (differences .exit)) h in
         ((d ≡ pos (at (now (expected .entry)) h) -ℤ pos (at (now (replaced .entry)) h)) × (natAbs d < 4294967296)))) ⌝ }
 {
     let mut h: usize = 0;
@@ -31,7 +31,7 @@ pub fn put_differences(differences: &mut [i64], expected: &[u32; 16], replaced: 
 // The first index below count at which the difference is largest.
 pub fn first_largest(differences: &[i64; 16], count: usize) -> usize
     requires { ⌜ (0 < count) × (count ≤ 16) ⌝ }
-    ensures { λ r. ⌜ (r ≡ firstLargest (entry (now (differences .entry))) (upFrom 0 count)) × (r < count) ⌝ }
+    ensures { λ r. ⌜ (r ≡ firstLargest (signedAt (now (differences .entry))) (upFrom 0 count)) × (r < count) ⌝ }
 {
     let mut best: usize = 0;
     let mut most = differences[0];

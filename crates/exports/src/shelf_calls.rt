@@ -1,6 +1,6 @@
 // The calls of the shelf.
 ghost use mathlib.Core.Path.{_≡_};
-ghost use Rattle.shelf.specs.Calls.{asking, filing, listAfter};
+ghost use Rattle.shelf.specs.Calls.{asking, filing, listFiled};
 ghost use Rattle.exports.specs.Shelf.{currentNumber, currentSheet, filedCount, filedNumber};
 use shelf::Current;
 use shelf::Filed;
@@ -15,7 +15,7 @@ pub extern "C" fn leveretplate_file(
 ) -> u8
     ensures number { λ r. ⌜ r ≡ filedNumber (filing (now (list .entry)) count named) ⌝ }
     ensures count { λ _. ⌜ now (to .exit) ≡ filedCount (filing (now (list .entry)) count named) (now (to .entry)) ⌝ }
-    ensures list { λ _. ⌜ now (list .exit) ≡ listAfter (now (list .entry)) count named ⌝ }
+    ensures list { λ _. ⌜ now (list .exit) ≡ listFiled (now (list .entry)) count named ⌝ }
 {
     match shelf::file(list, count, named) {
         Filed::Refused(number) => number,

@@ -26,7 +26,7 @@ use Rattle.place.specs.Path.{answer}
 use Rattle.place.specs.Problem.{Problem}
 use Rattle.path_laws.specs.Demand.{Accepted}
 use Rattle.marks.specs.Reading.{problemFrom}
-use Rattle.path_walk.specs.Finish.{Announced, Finished, firstOf, problemIn}
+use Rattle.path_walk.specs.Finish.{Announced, Finished, firstPointOf, problemIn}
 use Rattle.finder.specs.Run.{caseOf, numbersOf}
 use Rattle.finder.specs.declared.answers.Answer.the-variants.{End}
 use Rattle.path_walk.specs.declared.Finish.{Finish}
@@ -69,31 +69,32 @@ module _ (g : GridStruct) (made : IsMade g) (start table : List ℕ) (ok : Accep
 
 -- the answer at an end
 module _ (g : GridStruct) (made : IsMade g) (start table : List ℕ) (budget places : ℕ) (kind : Kind) (e : State) (h : ℕ)
-    {read : ℕ} (A : Announced (problemFrom g start table) budget kind (firstOf kind) e h places read) where
+    {read : ℕ} (A : Announced (problemFrom g start table) budget kind (firstPointOf kind) e h places read) where
   pub index : h < g .indices
   index = omega (arith, A .index, made-indices g made)
 
   -- its points have room
   pub room : (n : ℕ) → suc (dimension (shape g)) * numIndices (shape g) ≤ n
-      → (suc (length (e .order)) - firstOf kind) * g .indices ≤ n
+      → (suc (length (e .order)) - firstPointOf kind) * g .indices ≤ n
   room n l =
-      let a : suc (length (e .order)) - firstOf kind ≤ suc (dimension (shape g)) = omega (arith, A .few) in
-      let b : (suc (length (e .order)) - firstOf kind) * numIndices (shape g)
+      let a : suc (length (e .order)) - firstPointOf kind ≤ suc (dimension (shape g)) = omega (arith, A .few) in
+      let b : (suc (length (e .order)) - firstPointOf kind) * numIndices (shape g)
       ≤ suc (dimension (shape g)) * numIndices (shape g) =
       mul-le-mul-right (numIndices (shape g)) a in
       rw (made-indices g made) (omega arith)
 
-  number : length (pointsFrom (problemFrom g start table) e (firstOf kind)) ≡ suc (length (e .order)) - firstOf kind
+  number : length (pointsFrom (problemFrom g start table) e (firstPointOf kind))
+      ≡ suc (length (e .order)) - firstPointOf kind
   number =
-      length-map (upFrom (firstOf kind) (suc (length (e .order)) - firstOf kind))
+      length-map (upFrom (firstPointOf kind) (suc (length (e .order)) - firstPointOf kind))
       (pointIn (problemFrom g start table) e)
-      ∙ length-upFrom (firstOf kind) (suc (length (e .order)) - firstOf kind)
+      ∙ length-upFrom (firstPointOf kind) (suc (length (e .order)) - firstPointOf kind)
 
   -- they are what is written, and the answer is told by their number and the block
-  pub written : numbersFrom (g .indices) e (firstOf kind) ≡ numbersOf (answer (problemFrom g start table) budget)
+  pub written : numbersFrom (g .indices) e (firstPointOf kind) ≡ numbersOf (answer (problemFrom g start table) budget)
   written = rw (A .is, made-indices g made)
 
   pub told : (block vertices : ℕ) → block ≡ suc (blockOf (shape g) h)
-      → vertices ≡ suc (length (e .order)) - firstOf kind
+      → vertices ≡ suc (length (e .order)) - firstPointOf kind
       → End places read kind block vertices ≡ caseOf (answer (problemFrom g start table) budget)
   told block vertices b q = rw (A .is, b, q, number)

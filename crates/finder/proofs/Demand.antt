@@ -19,7 +19,7 @@ use Rattle.path_laws.proofs.Filling.{filling-holds}
 use Rattle.path_laws.proofs.Theorem.{demand3-holds}
 use Rattle.path_laws.specs.Demand.{Accepted, Demand3, Ended, Filling}
 use Rattle.finder.specs.Demand.{Demand3InOnePiece, FillingInOnePiece, RunEnded, announcementOf}
-use Rattle.finder.specs.Run.{caseOf, numbersOf, refusal, runAnswer, runBuffer}
+use Rattle.finder.specs.Run.{caseOf, numbersOf, runRefusal, runAnswer, runBuffer}
 use Rattle.finder.specs.declared.answers.Answer.{Answer}
 use Rattle.finder.specs.declared.answers.Answer.the-variants.{End, Spent, Unknown}
 use Rattle.finder.proofs.Refusals.{accepted-with-room, answered, by-grid, by-later}
@@ -36,13 +36,13 @@ case-unknown (ended k read kind block vertices simplex) n i e = absurd (let z : 
 case-unknown (unknown k j) n i e = let y : k ≡ n = cc in let z : j ≡ i = cc in rw (y, z)
 
 -- a table that no question refuses is accepted
-pub unrefused : (p : Problem) (room : ℕ) → refusal p room ≡ 0 → Accepted p
+pub unrefused : (p : Problem) (room : ℕ) → runRefusal p room ≡ 0 → Accepted p
 unrefused p room e =
     let grid : firstNo (gridQuestions (p .grid)) ≡ 0 =
     ⊎-elim (λ q. q) (λ n. absurd (n (sym (by-grid p room n) ∙ e))) (same-or (firstNo (gridQuestions (p .grid))) 0) in
     accepted-with-room p room grid (sym (by-later p room grid) ∙ e) .0
 
-module _ (p : Problem) (room : ℕ) (none : refusal p room ≡ 0) where
+module _ (p : Problem) (room : ℕ) (none : runRefusal p room ≡ 0) where
   D : Demand3 p
   D = demand3-holds (unrefused p room none)
 
@@ -50,7 +50,7 @@ module _ (p : Problem) (room : ℕ) (none : refusal p room ≡ 0) where
       → (caseOf (answer p budget) ≡ runAnswer p room budget)
       × (front (numbersOf (answer p budget)) old ≡ runBuffer p budget old)
   same budget old e = subst
-      (λ (n : ℕ). refusal p n ≡ 0
+      (λ (n : ℕ). runRefusal p n ≡ 0
       → (caseOf (answer p budget) ≡ runAnswer p n budget)
       × (front (numbersOf (answer p budget)) old ≡ runBuffer p budget old))
       e (answered p budget old) none

@@ -27,20 +27,20 @@ use Rattle.place.specs.Questions.{question8, tableQuestions}
 use Rattle.path_laws.proofs.Accepted.{accepted-of}
 use Rattle.path_laws.specs.Demand.{Accepted}
 use Rattle.marks.specs.Reading.{problemFrom}
-use Rattle.finder.specs.Asked.{laterQuestions}
-use Rattle.finder.specs.Run.{caseOf, numbersOf, refusal, runAnswer, runBuffer}
+use Rattle.finder.specs.Asked.{laterRunQuestions}
+use Rattle.finder.specs.Run.{caseOf, numbersOf, runRefusal, runAnswer, runBuffer}
 use Rattle.finder.specs.declared.answers.Answer.the-variants.{Refused}
 
 -- the refusal, by questions 1 to 4 and those behind them
 module _ (p : Problem) (room : ℕ) where
-  pub by-grid : (firstNo (gridQuestions (p .grid)) ≡ 0 → ⊥) → refusal p room ≡ firstNo (gridQuestions (p .grid))
-  by-grid n = asked-no (gridQuestions (p .grid)) (laterQuestions p room) _ n refl
+  pub by-grid : (firstNo (gridQuestions (p .grid)) ≡ 0 → ⊥) → runRefusal p room ≡ firstNo (gridQuestions (p .grid))
+  by-grid n = asked-no (gridQuestions (p .grid)) (laterRunQuestions p room) _ n refl
 
-  pub by-later : firstNo (gridQuestions (p .grid)) ≡ 0 → refusal p room ≡ firstNo (laterQuestions p room)
-  by-later e = asked-next (gridQuestions (p .grid)) (laterQuestions p room) refl e
+  pub by-later : firstNo (gridQuestions (p .grid)) ≡ 0 → runRefusal p room ≡ firstNo (laterRunQuestions p room)
+  by-later e = asked-next (gridQuestions (p .grid)) (laterRunQuestions p room) refl e
 
   -- where none is answered no, the table is accepted and the answer has room
-  pub accepted-with-room : firstNo (gridQuestions (p .grid)) ≡ 0 → firstNo (laterQuestions p room) ≡ 0
+  pub accepted-with-room : firstNo (gridQuestions (p .grid)) ≡ 0 → firstNo (laterRunQuestions p room) ≡ 0
       → Accepted p × (suc (dimension (p .grid)) * numIndices (p .grid) ≤ room)
   accepted-with-room e f =
       let w = both-yes (tableQuestions p) (question8 (p .grid) room ∷ []) refl (by-later e ∙ f) in (
@@ -51,22 +51,22 @@ module _ (p : Problem) (room : ℕ) where
 
 -- questions 5 to 8
 module _ (p : Problem) (room : ℕ) where
-  pub no-start : isGridPoint (p .grid) (p .start) ≡ false → 5 ≡ firstNo (laterQuestions p room)
+  pub no-start : isGridPoint (p .grid) (p .start) ≡ false → 5 ≡ firstNo (laterRunQuestions p room)
   unfolding firstNo
   no-start e = rw e
 
   pub no-length : isGridPoint (p .grid) (p .start) ≡ true → (length (p .labels) ≡ numPoints (p .grid) → ⊥)
-      → 6 ≡ firstNo (laterQuestions p room)
+      → 6 ≡ firstNo (laterRunQuestions p room)
   unfolding firstNo
   no-length on n = rw (on, ne-eqb (length (p .labels)) (numPoints (p .grid)) n)
 
   module _ (on : isGridPoint (p .grid) (p .start) ≡ true) (whole : length (p .labels) ≡ numPoints (p .grid)) where
-    pub no-label : all (λ l. leb l (numIndices (p .grid))) (p .labels) ≡ false → 7 ≡ firstNo (laterQuestions p room)
+    pub no-label : all (λ l. leb l (numIndices (p .grid))) (p .labels) ≡ false → 7 ≡ firstNo (laterRunQuestions p room)
     unfolding firstNo
     no-label e = rw (on, eq-eqb (length (p .labels)) (numPoints (p .grid)) whole, e)
 
     module _ (labelled : all (λ l. leb l (numIndices (p .grid))) (p .labels) ≡ true) where
-      pub no-room : room < suc (dimension (p .grid)) * numIndices (p .grid) → 8 ≡ firstNo (laterQuestions p room)
+      pub no-room : room < suc (dimension (p .grid)) * numIndices (p .grid) → 8 ≡ firstNo (laterRunQuestions p room)
       unfolding firstNo
       no-room l = rw (
         on,
@@ -76,7 +76,7 @@ module _ (p : Problem) (room : ℕ) where
       )
 
       pub none-no : suc (dimension (p .grid)) * numIndices (p .grid) ≤ room
-          → _≡_ {A = ℕ} 0 (firstNo (laterQuestions p room))
+          → _≡_ {A = ℕ} 0 (firstNo (laterRunQuestions p room))
       unfolding firstNo
       none-no l = rw (
         on,
@@ -124,14 +124,14 @@ same-problem G r is z start labels =
 
 -- what a run then answers, and what it leaves in its buffer
 module _ (p : Problem) (budget : ℕ) (old : List ℕ) where
-  pub refused : (n : ℕ) → (n ≡ 0 → ⊥) → refusal p (length old) ≡ n
+  pub refused : (n : ℕ) → (n ≡ 0 → ⊥) → runRefusal p (length old) ≡ n
       → (Refused n ≡ runAnswer p (length old) budget) × (old ≡ runBuffer p budget old)
   unfolding runAnswer runBuffer
   refused n z e =
-      let q : eqb (refusal p (length old)) 0 ≡ false = ne-eqb (refusal p (length old)) 0 (λ f. z (sym e ∙ f)) in
+      let q : eqb (runRefusal p (length old)) 0 ≡ false = ne-eqb (runRefusal p (length old)) 0 (λ f. z (sym e ∙ f)) in
       (rw (q, e), rw (q, front-none old))
 
-  pub answered : refusal p (length old) ≡ 0
+  pub answered : runRefusal p (length old) ≡ 0
       → (caseOf (answer p budget) ≡ runAnswer p (length old) budget)
       × (front (numbersOf (answer p budget)) old ≡ runBuffer p budget old)
   unfolding runAnswer runBuffer

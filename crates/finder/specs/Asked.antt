@@ -13,8 +13,8 @@ use Rattle.path_laws.specs.Demand.{Accepted}
 use Rattle.marks.specs.Reading.{problemFrom, Readable}
 
 -- questions 5 to 8, which a run asks on an accepted grid
-abbrev pub laterQuestions : Problem → ℕ → List Question
-laterQuestions p room = question5 (p .grid) (p .start) ∷ question6 p ∷ question7 p ∷ question8 (p .grid) room ∷ []
+abbrev pub laterRunQuestions : Problem → ℕ → List Question
+laterRunQuestions p room = question5 (p .grid) (p .start) ∷ question6 p ∷ question7 p ∷ question8 (p .grid) room ∷ []
 
 -- what a run asks behind the questions
 pub record CanRun (g : GridStruct) (binomials start labels answer : List ℕ) : Type 0 where

@@ -15,7 +15,7 @@ use Rattle.place.specs.LabelsRead.{labelsRead}
 use Rattle.place.specs.Path.{path as pathOf, pathLength}
 use Rattle.place.specs.Places.{unlabelled}
 use Rattle.place.specs.Problem.{Problem, withLabels}
-use Rattle.finder.specs.Run.{refusal, runAnswer, runBuffer}
+use Rattle.finder.specs.Run.{runRefusal, runAnswer, runBuffer}
 use Rattle.finder.specs.declared.answers.Answer.{Answer}
 use Rattle.finder.specs.declared.answers.Answer.the-variants.{End, Spent, Unknown}
 
@@ -28,7 +28,7 @@ announcementOf p e =
 -- "A table is accepted if, with its grid, start and answer buffer, a run's questions 1 to 8 are answered yes"; the
 -- buffer has `room` numbers
 abbrev pub AcceptedWith : Problem → ℕ → Type 0
-AcceptedWith p room = refusal p room ≡ 0
+AcceptedWith p room = runRefusal p room ≡ 0
 
 -- "the complete simplex is the set of the answer's vertices", m numbers each
 abbrev pub vertexNumbers : EndOfPath → List ℕ

@@ -29,13 +29,13 @@ numbersOf (ended n read kind block vertices simplex) = concatMap (λ y. y) simpl
 numbersOf (unknown n position) = []
 
 -- the number of the first of questions 1 to 8 that is answered no, or 0
-abbrev pub refusal : Problem → ℕ → ℕ
-refusal p room = firstNo (runQuestions p room)
+abbrev pub runRefusal : Problem → ℕ → ℕ
+runRefusal p room = firstNo (runQuestions p room)
 
 -- "A refusal returns its number and no count"
 unfoldable pub runAnswer : Problem → ℕ → ℕ → Answer
-runAnswer p room budget = cond (eqb (refusal p room) 0) (caseOf (answer p budget)) (Refused (refusal p room))
+runAnswer p room budget = cond (eqb (runRefusal p room) 0) (caseOf (answer p budget)) (Refused (runRefusal p room))
 
 -- "A refusal .. changes no buffer. What a call does write stands at the front of its buffer, old contents behind"
 unfoldable pub runBuffer : Problem → ℕ → List ℕ → List ℕ
-runBuffer p budget old = front (cond (eqb (refusal p (length old)) 0) (numbersOf (answer p budget)) []) old
+runBuffer p budget old = front (cond (eqb (runRefusal p (length old)) 0) (numbersOf (answer p budget)) []) old

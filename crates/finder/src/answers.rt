@@ -9,8 +9,8 @@ ghost use Rattle.grid.specs.Made.{IsMade, shape};
 ghost use Rattle.place.specs.Path.{Answer as PathAnswer, answer as answerOf};
 ghost use Rattle.place.specs.Problem.{problemOf};
 ghost use Rattle.marks.specs.Reading.{problemFrom};
-ghost use Rattle.finder.specs.Asked.{CanRun, laterQuestions};
-ghost use Rattle.path_walk.specs.Finish.{firstOf};
+ghost use Rattle.finder.specs.Asked.{CanRun, laterRunQuestions};
+ghost use Rattle.path_walk.specs.Finish.{firstPointOf};
 ghost use Rattle.finder.specs.Run.{caseOf, numbersOf, runAnswer, runBuffer};
 use arrays::block_sizes;
 use arrays::padded;
@@ -55,7 +55,7 @@ pub fn block_number(g: Grid, h: usize) -> u8
 
 // The number of the first point of the complete simplex: a facet end leaves out the first point of its place.
 pub fn first_vertex(kind: Kind) -> usize
-    ensures { λ r. ⌜ r ≡ firstOf kind ⌝ }
+    ensures { λ r. ⌜ r ≡ firstPointOf kind ⌝ }
 {
     match kind {
         Kind::Place => 0,
@@ -123,7 +123,7 @@ pub fn announced(
 // Questions 5 to 8, on a grid that is accepted: the number of the first that is answered no, or 0.
 pub fn first_no(g: Grid, start: &[u16], labels: &[u8], room: usize) -> u8
     requires { ⌜ IsMade g ⌝ }
-    ensures { λ r. ⌜ r ≡ firstNo (laterQuestions (problemFrom g (now (start .entry)) (now (labels .entry))) room) ⌝ }
+    ensures { λ r. ⌜ r ≡ firstNo (laterRunQuestions (problemFrom g (now (start .entry)) (now (labels .entry))) room) ⌝ }
 {
     let m = g.indices;
     if !g.is_grid_point(start) {

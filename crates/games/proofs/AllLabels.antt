@@ -7,17 +7,17 @@ use native.Mathlib.Omega.{arith}
 use Rattle.combinatorics.proofs.Fronts.{front-copy}
 use Rattle.combinatorics.specs.Front.{front}
 use Rattle.grid.specs.Grid.{Grid, Point, points, numPoints}
-use Rattle.losses.specs.Game.{label, labels}
+use Rattle.losses.specs.Game.{gameLabel, labels}
 use Rattle.points_in_order.proofs.InOrder.{at-map}
 
 pub labels-length : (g : Grid) (losses : List ℕ) → length (labels g losses) ≡ numPoints g
 unfolding labels
-labels-length g losses = length-map (points g) (label g losses)
+labels-length g losses = length-map (points g) (gameLabel g losses)
 
 module _ (g : Grid) (k : ℕ) where
   pub label-written : (losses old : List ℕ) → k < numPoints g → length old ≡ numPoints g → (y : Point)
       → y ≡ getD (points g) k []
-      → set (front (take k (labels g losses)) old) k (label g losses y) ≡ front (take (k + 1) (labels g losses)) old
+      → set (front (take k (labels g losses)) old) k (gameLabel g losses y) ≡ front (take (k + 1) (labels g losses)) old
   unfolding labels
-  label-written losses old h n y e = rw (e, ← at-map (label g losses) (points g) k h)
-      (front-copy (map (label g losses) (points g)) old k (rw length-map h) (omega arith))
+  label-written losses old h n y e = rw (e, ← at-map (gameLabel g losses) (points g) k h)
+      (front-copy (map (gameLabel g losses) (points g)) old k (rw length-map h) (omega arith))

@@ -16,6 +16,7 @@ use Rattle.combinatorics.proofs.Lists.{at-all}
 use Rattle.combinatorics.proofs.Ranges.{length-upFrom}
 use Rattle.combinatorics.proofs.Turns.{map-at}
 use Rattle.combinatorics.specs.Lists.{upFrom}
+use Rattle.combinatorics.specs.Front.{padded}
 use Rattle.questions.specs.Questions.{firstNo}
 use Rattle.grid.proofs.Accepted.{Accepted, accepted, count-few, size-two}
 use Rattle.grid.proofs.Round.{next-low, next-previous}
@@ -23,7 +24,7 @@ use Rattle.grid.specs.declared.Grid.{Grid as GridStruct}
 use Rattle.grid.specs.declared.Made.{Made}
 use Rattle.grid.specs.Grid.{Grid, numBlocks, numIndices, numPoints, size, division, firstIndex, blockOf, next}
 use Rattle.grid.specs.Grid.{previous}
-use Rattle.grid.specs.Made.{gridOf, madeOf, shape, IsMade, padded, blockCount}
+use Rattle.grid.specs.Made.{gridOf, madeOf, shape, IsMade, blockCount}
 use Rattle.grid.specs.Questions.{gridQuestions}
 
 pub padded-at : (f : ℕ → ℕ) (n m i : ℕ) → i < m → getD (padded n (map f (upFrom 0 m))) i 0 ≡ f i

@@ -6,7 +6,8 @@ use lib.ListN.{replicate}
 use Rattle.questions.specs.Questions.{firstNo}
 use Rattle.grid.specs.Grid.{Grid, numBlocks, firstIndex, blocks, indices, blockOf}
 use Rattle.grid.specs.Grid.{next as after, previous as before}
-use Rattle.grid.specs.Made.{padded, blockCount, gridOf}
+use Rattle.combinatorics.specs.Front.{padded}
+use Rattle.grid.specs.Made.{blockCount, gridOf}
 use Rattle.grid.specs.Questions.{gridQuestions}
 
 -- the sizes and divisions lent to the constructor

@@ -6,17 +6,13 @@ use Prim.Native.Nat.{ℕ, _+_, pred}
 use lib.Dec.{eqb}
 use lib.ListN.{take, replicate}
 use Rattle.combinatorics.specs.Counting.{choose}
-use Rattle.combinatorics.specs.Front.{front}
+use Rattle.combinatorics.specs.Front.{padded}
 use Rattle.questions.specs.Questions.{firstNo}
 use Rattle.grid.specs.Grid.{Grid, numBlocks, numIndices, numPoints, size, division, firstIndex, blocks, indices}
 use Rattle.grid.specs.Grid.{blockOf, next, previous}
 use Rattle.grid.specs.Questions.{gridQuestions}
 use Rattle.grid.specs.declared.Grid.{Grid as GridStruct}
 use Rattle.grid.specs.declared.Made.{Made}
-
--- the numbers at the front of an array of n, 0 behind
-abbrev pub padded : ℕ → List ℕ → List ℕ
-padded n xs = front xs (replicate n 0)
 
 -- the binomial "d_j + n_j choose n_j" of block j
 abbrev pub blockCount : Grid → ℕ → ℕ

@@ -6,7 +6,7 @@ use Prim.Native.Nat.{ℕ, suc}
 use lib.ListN.{length, take}
 use Rattle.path_walk.specs.Finish.{IsKnown, IsUnknown}
 use Rattle.grid.specs.declared.Grid.{Grid as GridStruct}
-use Rattle.marks.specs.Reading.{CanRead, HasMarks}
+use Rattle.marks.specs.Reading.{CanReadPoint, HasMarks}
 use Rattle.moves.specs.declared.Status.{Status}
 use Rattle.place.specs.Problem.{Problem}
 use Rattle.rules.specs.Read.{read}
@@ -16,7 +16,7 @@ use Rattle.label_reading.specs.declared.Looked.the-variants.{Known, Unkn
 
 -- the mark of the point that has come in can be read
 pub record CanLookUp (g : GridStruct) (tails : List ℕ) (a : State) (s : Status) : Type 0 where
-  pub reads : CanRead g a
+  pub reads : CanReadPoint g a
   pub marks : HasMarks g tails a
   pub many : length (a .order) ≡ s .count
 

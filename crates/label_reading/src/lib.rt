@@ -4,7 +4,7 @@ ghost use mathlib.Core.Path.{_≡_};
 ghost use Prim.Native.Nat.{_<_};
 ghost use lib.ListN.{length};
 ghost use Rattle.arrays.specs.Rounds.{roundBack};
-ghost use Rattle.marks.specs.Reading.{Readable, tableOf};
+ghost use Rattle.marks.specs.Reading.{Readable, tableProblem};
 ghost use Rattle.moves.specs.Held.{held};
 ghost use Rattle.rules.specs.Step.{State};
 ghost use Rattle.label_reading.specs.Looking.{CanLookUp, LooksUp};
@@ -38,7 +38,7 @@ pub fn look_up(
     requires { λ a. ⌜ held (roundBack previous sizes) first coefficients order marks s ≡ a ⌝ }
     requires { λ _. ⌜ Readable g (now binomials) (now table) × (length (now marks) ≡ 16) ⌝ }
     requires { λ a. ⌜ (s .rule < 6 → CanLookUp g (now tails) a s) ⌝ }
-    ensures { λ a r. ⌜ LooksUp (tableOf g (now (table .entry))) a s (now (marks .exit)) r ⌝ }
+    ensures { λ a r. ⌜ LooksUp (tableProblem g (now (table .entry))) a s (now (marks .exit)) r ⌝ }
 {
     if s.rule < 6 {
         let i = s.active;

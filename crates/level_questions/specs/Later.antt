@@ -5,7 +5,7 @@ use Prim.Native.Nat.{ℕ}
 use lib.Dec.{eqb}
 use Rattle.grid.specs.Grid.{Grid}
 use Rattle.grid.specs.Questions.{question5}
-use Rattle.levels.specs.Questions.{question8}
+use Rattle.levels.specs.Questions.{levelQuestion8}
 use Rattle.losses.specs.Table.{question10, question11}
 use Rattle.questions.specs.Questions.{Question, ask}
 
@@ -16,5 +16,5 @@ askedBehind g points start losses levels labelRoom room =
     ∷ question10 g losses
     ∷ question11 losses
     ∷ ask 12 (eqb labelRoom points)
-    ∷ question8 g levels room
+    ∷ levelQuestion8 g levels room
     ∷ []

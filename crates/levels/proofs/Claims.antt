@@ -13,7 +13,7 @@ use Rattle.combinatorics.specs.Front.{front}
 use Rattle.combinatorics.specs.Lists.{concatMap, sum, upFrom}
 use Rattle.finder.proofs.Demand.{run-demand3}
 use Rattle.finder.proofs.Refusals.{answered}
-use Rattle.finder.specs.Run.{caseOf, numbersOf, refusal, runAnswer, runBuffer}
+use Rattle.finder.specs.Run.{caseOf, numbersOf, runRefusal, runAnswer, runBuffer}
 use Rattle.grid.proofs.Accepted.{accepted}
 use Rattle.combinatorics.proofs.Terms.{terms-few}
 use Rattle.grid.specs.Grid.{bound, dimension, isGridPoint, numIndices}
@@ -27,8 +27,8 @@ use Rattle.path_laws.proofs.Theorem.{demand3-holds}
 use Rattle.questions.proofs.Answers.{asked-next, both-yes, first-yes}
 use Rattle.questions.specs.Questions.{firstNo}
 use Rattle.levels.specs.Claims.{EveryRefinement, Level}
-use Rattle.levels.specs.Levels.{Refinement, endOf, levelGrid, levelProblem, levelStart, verticesOf}
-use Rattle.levels.specs.Questions.{laterQuestions, levelQuestions, levelRoom, question18}
+use Rattle.levels.specs.Levels.{Refinement, endOf, levelGrid, levelProblem, levelStart, answerVertices}
+use Rattle.levels.specs.Questions.{laterLevelQuestions, levelQuestions, levelRoom, question18}
 use Rattle.levels.specs.Questions.{refineQuestions}
 use Rattle.levels.proofs.Grids.{levels-yes, numbered-levels}
 use Rattle.levels.proofs.Starts.{level-full, no-gap, start-on-grid}
@@ -52,7 +52,7 @@ pub record Passed (r : Refinement) (levels : ℕ) (buffer : List ℕ) (room : �
   pub factor : (2 ≤ r .factor) × (r .factor ≤ 10)
   pub levelsRange : (1 ≤ levels) × (levels ≤ 8)
   pub grids : firstNo (levelQuestions (r .grid) (r .factor) levels) ≡ 0
-  pub later : firstNo (laterQuestions r levels buffer room) ≡ 0
+  pub later : firstNo (laterLevelQuestions r levels buffer room) ≡ 0
 
 pub passed : (r : Refinement) (levels : ℕ) (buffer : List ℕ) (room : ℕ)
     → firstNo (refineQuestions r levels buffer room) ≡ 0 → Passed r levels buffer room
@@ -60,30 +60,30 @@ passed r levels buffer room e =
     let a = first-yes (question18 (r .factor) levels) _ (omega arith) e in
     let w = in-ranges (r .factor) levels (a .0) in
     let b =
-    both-yes (levelQuestions (r .grid) (r .factor) levels) (laterQuestions r levels buffer room)
+    both-yes (levelQuestions (r .grid) (r .factor) levels) (laterLevelQuestions r levels buffer room)
     (numbered-levels (r .grid) (r .factor) levels) (a .1)
     in
     record { factor = w .0; levelsRange = w .1; grids = b .0; later = b .1 }
 
 -- the numbers of an answer are those of its vertices
-pub numbers-are : (a : Answer) → numbersOf a ≡ concatMap (λ y. y) (verticesOf a)
+pub numbers-are : (a : Answer) → numbersOf a ≡ concatMap (λ y. y) (answerVertices a)
 numbers-are (spent n) = refl
 numbers-are (ended n read kind block vertices simplex) = refl
 numbers-are (unknown n position) = refl
 
 -- a table without gaps, with room for the answer
-unrefused : {p : Problem} (room : ℕ) → FullyLabelled p → levelRoom (p .grid) ≤ room → refusal p room ≡ 0
+unrefused : {p : Problem} (room : ℕ) → FullyLabelled p → levelRoom (p .grid) ≤ room → runRefusal p room ≡ 0
 unfolding firstNo
 unrefused {p} room full h =
     asked-next (tableQuestions p) (runQuestion8 (p .grid) room ∷ []) refl (accepted-is (full-accepted full))
     ∙ rw (le-leb (levelRoom (p .grid)) room h)
 
 -- what a run with the bound as budget answers and writes
-as-run : (p : Problem) (room : ℕ) → refusal p room ≡ 0 → (old : List ℕ) → length old ≡ room
+as-run : (p : Problem) (room : ℕ) → runRefusal p room ≡ 0 → (old : List ℕ) → length old ≡ room
     → (runAnswer p room (bound (p .grid)) ≡ caseOf (endOf p))
-    × (runBuffer p (bound (p .grid)) old ≡ front (concatMap (λ y. y) (verticesOf (endOf p))) old)
+    × (runBuffer p (bound (p .grid)) old ≡ front (concatMap (λ y. y) (answerVertices (endOf p))) old)
 as-run p room none old e =
-    let w = answered p (bound (p .grid)) old (ap (refusal p) e ∙ none) in (
+    let w = answered p (bound (p .grid)) old (ap (runRefusal p) e ∙ none) in (
       ap (λ (n : ℕ). runAnswer p n (bound (p .grid))) (sym e) ∙ sym (w .0),
       sym (w .1) ∙ ap (λ (l : List ℕ). front l old)
           (numbers-are (endOf p)),

@@ -9,7 +9,7 @@ use native.Mathlib.Omega.{arith}
 use Rattle.combinatorics.proofs.Basics.{and-both}
 use Rattle.combinatorics.specs.Lists.{all, filter, firstOr, upFrom}
 use Rattle.grid.specs.Grid.{Grid, Point, indices, numIndices, points}
-use Rattle.losses.specs.Game.{difference, firstLargest, label, labels}
+use Rattle.losses.specs.Game.{difference, firstLargest, gameLabel, labels}
 
 -- the first number of a range that passes a test is below its end, and so is 0
 first-below : (q : ℕ → Bool) (b n m : ℕ) → 1 ≤ m → b + n ≤ m → firstOr 0 (filter q (upFrom b n)) < m
@@ -22,8 +22,8 @@ first-below q b (suc n) m some h = go (q b) (first-below q (suc b) n m some (ome
     go false l = l
 
 module _ (g : Grid) (some : 1 ≤ numIndices g) (losses : List ℕ) where
-  label-range : (y : Point) → (leb 1 (label g losses y) && leb (label g losses y) (numIndices g)) ≡ true
-  unfolding label
+  label-range : (y : Point) → (leb 1 (gameLabel g losses y) && leb (gameLabel g losses y) (numIndices g)) ≡ true
+  unfolding gameLabel
   label-range y =
       let h = firstLargest (difference g losses y) (indices g) in
       let l : h < numIndices g = first-below _ 0 (numIndices g) (numIndices g) some (omega arith) in
@@ -33,6 +33,6 @@ module _ (g : Grid) (some : 1 ≤ numIndices g) (losses : List ℕ) where
   unfolding labels
   labels-range = go (points g)
     where
-      go : (ys : List Point) → all (λ l. leb 1 l && leb l (numIndices g)) (map (label g losses) ys) ≡ true
+      go : (ys : List Point) → all (λ l. leb 1 l && leb l (numIndices g)) (map (gameLabel g losses) ys) ≡ true
       go [] = refl
       go (y ∷ ys) = and-both _ _ (label-range y) (go ys)

@@ -25,7 +25,7 @@ use Rattle.path_laws.proofs.Theorem.{demand3-holds}
 use Rattle.path_laws.specs.Demand.{Ended, NoGap, placeAt}
 use Rattle.questions.specs.Questions.{firstNo}
 use Rattle.levels.specs.Levels.{Refinement, endOf, finer, firstVertex, gameProblem, levelGrid, levelProblem}
-use Rattle.levels.specs.Levels.{levelStart, times, verticesOf}
+use Rattle.levels.specs.Levels.{levelStart, times, answerVertices}
 use Rattle.levels.proofs.GameLabels.{labels-range}
 use Rattle.levels.proofs.Grids.{level-first, level-next, times-at}
 
@@ -57,14 +57,14 @@ module _ {p : Problem} (ok : FullyLabelled p) where
   full-ended = demand3-holds (full-accepted ok) .ended no-gap
 
   -- it reaches the end of its path, a simplex of the grid
-  pub vertices-are : verticesOf (endOf p) ≡ full-ended .end .simplex
-  vertices-are = ap verticesOf (full-ended .reaches)
+  pub vertices-are : answerVertices (endOf p) ≡ full-ended .end .simplex
+  vertices-are = ap answerVertices (full-ended .reaches)
 
-  pub is-simplex : IsSimplex p (verticesOf (endOf p))
+  pub is-simplex : IsSimplex p (answerVertices (endOf p))
   is-simplex = rw vertices-are (end-simplex p (ok .settled) (full-ended .isPath))
 
   pub first-on-grid : isGridPoint (p .grid) (firstVertex p) ≡ true
-  first-on-grid = go (verticesOf (endOf p)) (is-simplex .some) (is-simplex .onGrid)
+  first-on-grid = go (answerVertices (endOf p)) (is-simplex .some) (is-simplex .onGrid)
     where
       go : (s : Simplex) → 1 ≤ length s → all (isGridPoint (p .grid)) s ≡ true
           → isGridPoint (p .grid) (firstOr [] s) ≡ true

@@ -24,7 +24,7 @@ use Rattle.path_laws.proofs.Filled.{FullyLabelled}
 use Rattle.questions.specs.Questions.{firstNo}
 use Rattle.levels.specs.Buffers.{levelNumbers, numbersAfter}
 use Rattle.levels.specs.Levels.{Refinement, endOf, firstVertex, levelGrid, levelProblem, levelStart, times}
-use Rattle.levels.specs.Levels.{verticesOf}
+use Rattle.levels.specs.Levels.{answerVertices}
 use Rattle.levels.specs.Questions.{levelRoom}
 use Rattle.levels.proofs.Buffers.{after-length, after-next}
 use Rattle.levels.proofs.Grids.{times-at}
@@ -41,20 +41,20 @@ numbers-long g (y ∷ s) a =
 
 module _ {p : Problem} (ok : FullyLabelled p) where
   -- the numbers of the end
-  pub numbers-few : length (concatMap (λ y. y) (verticesOf (endOf p))) ≤ levelRoom (p .grid)
+  pub numbers-few : length (concatMap (λ y. y) (answerVertices (endOf p))) ≤ levelRoom (p .grid)
   numbers-few =
       let i = is-simplex ok in
-      let m : length (verticesOf (endOf p)) * numIndices (p .grid) ≤ levelRoom (p .grid) =
+      let m : length (answerVertices (endOf p)) * numIndices (p .grid) ≤ levelRoom (p .grid) =
       mul-le-mul (i .few) (omega arith)
       in
-      omega (arith, numbers-long (p .grid) (verticesOf (endOf p)) (i .onGrid), m)
+      omega (arith, numbers-long (p .grid) (answerVertices (endOf p)) (i .onGrid), m)
 
   -- the first vertex in front of what they are written over
   pub first-in-front : (old : List ℕ)
-      → take (numIndices (p .grid)) (front (concatMap (λ y. y) (verticesOf (endOf p))) old) ≡ firstVertex p
+      → take (numIndices (p .grid)) (front (concatMap (λ y. y) (answerVertices (endOf p))) old) ≡ firstVertex p
   unfolding front
   first-in-front old =
-      go (verticesOf (endOf p)) (is-simplex ok .some) (point-long (p .grid) (firstVertex p) (first-on-grid ok))
+      go (answerVertices (endOf p)) (is-simplex ok .some) (point-long (p .grid) (firstVertex p) (first-on-grid ok))
     where
       go : (s : Simplex) → 1 ≤ length s → length (firstOr [] s) ≡ numIndices (p .grid)
           → take (numIndices (p .grid)) (concatMap (λ y. y) s ++ drop (length (concatMap (λ y. y) s)) old) ≡ firstOr []

@@ -5,12 +5,12 @@ use Prim.Native.Nat.{ℕ, _/_, _%_}
 use lib.Dec.{ltb}
 use lib.ListN.{length, getD}
 use Rattle.combinatorics.specs.Lists.{concatMap, upFrom}
-use Rattle.levels.specs.Levels.{Refinement, levelEnd, verticesOf}
+use Rattle.levels.specs.Levels.{Refinement, levelEnd, answerVertices}
 use Rattle.levels.specs.Questions.{levelRoom}
 
 -- the vertices of level i, m numbers each
 abbrev pub levelNumbers : Refinement → ℕ → List ℕ
-levelNumbers r i = concatMap (λ y. y) (verticesOf (levelEnd r i))
+levelNumbers r i = concatMap (λ y. y) (answerVertices (levelEnd r i))
 
 -- "the vertices of level i, counted from 0, begin at i times (n + 1) times m in the answer buffer, and the numbers
 -- between are

@@ -41,14 +41,14 @@ abbrev pub endOf : Problem → Answer
 endOf p = answer p (bound (p .grid))
 
 -- the vertices that an answer has
-abbrev pub verticesOf : Answer → Simplex
-verticesOf (spent n) = []
-verticesOf (ended n read kind block vertices simplex) = simplex
-verticesOf (unknown n position) = []
+abbrev pub answerVertices : Answer → Simplex
+answerVertices (spent n) = []
+answerVertices (ended n read kind block vertices simplex) = simplex
+answerVertices (unknown n position) = []
 
 -- "the first vertex of the last end"
 abbrev pub firstVertex : Problem → Point
-firstVertex p = firstOr [] (verticesOf (endOf p))
+firstVertex p = firstOr [] (answerVertices (endOf p))
 
 -- "the run restarts at k times the first vertex of the last end"
 unfoldable pub levelStart : Refinement → ℕ → Point

@@ -28,20 +28,21 @@ abbrev pub levelRoom : Grid → ℕ
 levelRoom g = suc (dimension g) * numIndices g
 
 -- "8 asks for (n + 1) times m numbers per level"
-abbrev pub question8 : Grid → ℕ → ℕ → Question
-question8 g levels room = ask 8 (leb (levels * levelRoom g) room)
+abbrev pub levelQuestion8 : Grid → ℕ → ℕ → Question
+levelQuestion8 g levels room = ask 8 (leb (levels * levelRoom g) room)
 
 -- "then 5, 10, 11, 12 and 8"; "The label buffer must have exactly the last level's P bytes (12)"
-abbrev pub laterQuestions : Refinement → ℕ → List ℕ → ℕ → List Question
-laterQuestions r levels buffer room =
+abbrev pub laterLevelQuestions : Refinement → ℕ → List ℕ → ℕ → List Question
+laterLevelQuestions r levels buffer room =
     question5 (r .grid) (r .start)
     ∷ question10 (r .grid) (r .losses)
     ∷ question11 (r .losses)
     ∷ question12 (lastGrid r levels) buffer
-    ∷ question8 (r .grid) levels room
+    ∷ levelQuestion8 (r .grid) levels room
     ∷ []
 
 -- "18 .. put before 1"
 abbrev pub refineQuestions : Refinement → ℕ → List ℕ → ℕ → List Question
 refineQuestions r levels buffer room =
-    question18 (r .factor) levels ∷ levelQuestions (r .grid) (r .factor) levels ++ laterQuestions r levels buffer room
+    question18 (r .factor) levels ∷ levelQuestions (r .grid) (r .factor) levels
+    ++ laterLevelQuestions r levels buffer room

@@ -32,7 +32,7 @@ pub record LossesFit (division : ℕ) (mix values : List ℕ) : Type 0 where
   pub replacedFit : fit (map (λ v. division * v) (take (length mix) values)) ≡ true
 
 -- room for a number at each index
-pub record HasRoom (g : Grid) (expected replaced : List ℕ) : Type 0 where
+pub record HasRoomAtIndices (g : Grid) (expected replaced : List ℕ) : Type 0 where
   pub ofExpected : numIndices g ≤ length expected
   pub ofReplaced : numIndices g ≤ length replaced
 

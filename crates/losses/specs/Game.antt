@@ -76,9 +76,9 @@ abbrev pub firstLargest : (ℕ → ℤ) → List ℕ → ℕ
 firstLargest value hs = firstOr 0 (filter (λ h. all (λ k. not (ltZ (value h) (value k))) hs) hs)
 
 -- "The label of a point", which is one more than the index, since indices count from 0 here
-unfoldable pub label : Grid → List ℕ → Point → ℕ
-label g losses y = suc (firstLargest (difference g losses y) (indices g))
+unfoldable pub gameLabel : Grid → List ℕ → Point → ℕ
+gameLabel g losses y = suc (firstLargest (difference g losses y) (indices g))
 
 -- "The label table has one byte per point in that order"
 unfoldable pub labels : Grid → List ℕ → List ℕ
-labels g losses = map (label g losses) (points g)
+labels g losses = map (gameLabel g losses) (points g)

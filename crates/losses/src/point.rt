@@ -7,7 +7,7 @@ ghost use Rattle.combinatorics.specs.Front.{front};
 ghost use Rattle.grid.specs.Grid.{numBlocks, indices};
 ghost use Rattle.losses.specs.Game.{playerLoss, replacedLoss};
 ghost use Rattle.grid.specs.Build.{lent};
-ghost use Rattle.losses.specs.AtPoint.{GameAtPoint, HasRoom, StrategiesStand, withBlock};
+ghost use Rattle.losses.specs.AtPoint.{GameAtPoint, HasRoomAtIndices, StrategiesStand, withBlock};
 use crate::expected;
 use grid::wide;
 
@@ -25,7 +25,7 @@ fn weigh_player(
     requires { ⌜ (let g = lent (now sizes) (now divisions) in
         ((losses : List ℕ) × GameAtPoint g (now firsts) losses (now point) (now values))
         × (player < numBlocks g)
-        × HasRoom g (now expected) (now replaced)) ⌝ }
+        × HasRoomAtIndices g (now expected) (now replaced)) ⌝ }
     ensures { λ _. ⌜ (let g = lent (now (sizes .entry)) (now (divisions .entry)) in
         (losses : List ℕ) → StrategiesStand g losses (now (point .entry)) (now (values .entry))
         → now (expected .exit)
@@ -59,7 +59,7 @@ pub fn weigh_point(
 )
     requires { ⌜ (let g = lent (now sizes) (now divisions) in
         ((losses : List ℕ) × GameAtPoint g (now firsts) losses (now point) (now values))
-        × HasRoom g (now expected) (now replaced)) ⌝ }
+        × HasRoomAtIndices g (now expected) (now replaced)) ⌝ }
     ensures { λ _. ⌜ (let g = lent (now (sizes .entry)) (now (divisions .entry)) in
         (losses : List ℕ) → StrategiesStand g losses (now (point .entry)) (now (values .entry))
         → now (expected .exit)

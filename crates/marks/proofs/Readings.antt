@@ -16,7 +16,7 @@ use Rattle.positions.proofs.Positions.{position-below}
 use Rattle.positions.proofs.Squares.{square-adds}
 use Rattle.positions.proofs.Steps.{after-is}
 use Rattle.positions.specs.Squares.{Apart}
-use Rattle.positions.specs.Steps.{CanStep, afterSteps}
+use Rattle.positions.specs.Steps.{CanTakeSteps, afterSteps}
 use Rattle.grid.specs.Grid.{Grid, Point, at, blockOf, isGridPoint, position}
 use Rattle.grid.specs.Made.{IsMade, shape}
 use Rattle.grid.specs.declared.Grid.{Grid as GridStruct}
@@ -26,7 +26,7 @@ use Rattle.moves.specs.Held.{stateOf}
 use Rattle.rules.specs.Read.{Exchanged, ReadyPoint, pointAfter, pointOn, positionAt, stepAt}
 use Rattle.rules.specs.Step.{State, Round, mark, source, sourceIn}
 use Rattle.moves.specs.declared.Status.{Status}
-use Rattle.marks.specs.Reading.{Readable, CanRead, addUp, isBetween, readingOf, tableOf}
+use Rattle.marks.specs.Reading.{Readable, CanReadPoint, addUp, isBetween, labelReading, tableProblem}
 use Rattle.marks.specs.declared.Reading.the-variants.{Marked, Unknown}
 
 -- a grid point's label stands in the table at its position
@@ -34,16 +34,17 @@ module _ (g : GridStruct) (binomials table : List ℕ) (R : Readable g binomials
   pub in-table : isGridPoint (shape g) y ≡ true → position (shape g) y < length table
   in-table h = omega (arith, R .whole, position-below (shape g) y (made-accepted g (R .made) .sameNumber) h)
 
-  pub label-is : label (tableOf g table) y ≡ at table (position (shape g) y)
+  pub label-is : label (tableProblem g table) y ≡ at table (position (shape g) y)
   unfolding label
   label-is = refl
 
   -- what is read of the point, by the byte that stands in the table
-  pub read-gap : at table (position (shape g) y) ≡ 0 → Unknown (position (shape g) y) ≡ readingOf (tableOf g table) y
+  pub read-gap : at table (position (shape g) y) ≡ 0 → Unknown (position (shape g) y)
+      ≡ labelReading (tableProblem g table) y
   read-gap e = rw (label-is, e)
 
   pub read-mark : (at table (position (shape g) y) ≡ 0 → ⊥)
-      → Marked (mark (position (shape g) y) (at table (position (shape g) y))) ≡ readingOf (tableOf g table) y
+      → Marked (mark (position (shape g) y) (at table (position (shape g) y))) ≡ labelReading (tableProblem g table) y
   read-mark n = rw (label-is, ne-eqb (at table (position (shape g) y)) 0 n)
 
 -- the tests mean what they say
@@ -73,7 +74,7 @@ add-up-means g from h k e = ⊎-elim
 
 -- the point that has come in needs the steps before it only, and these are counted apart from the first point
 module _ (g : GridStruct) (made : IsMade g) (round : Round) (first order : List ℕ) (s : Status)
-    (R : CanRead g (stateOf round first [] order [] s)) where
+    (R : CanReadPoint g (stateOf round first [] order [] s)) where
   abbrev from : ℕ → ℕ
   from = source round (s .u)
 
@@ -96,7 +97,7 @@ module _ (g : GridStruct) (made : IsMade g) (round : Round) (first order : List 
   steps-add k l = counts-add from (take (s .active) order) first (R .firstLength) (s .active) point-ready k
       (omega (arith, indices-few g made))
 
-  pub can-step : CanStep (g .indices) first steps
+  pub can-step : CanTakeSteps (g .indices) first steps
   can-step k l = omega (arith, steps-add k l)
 
   pub point-at : take (g .indices) (afterSteps first steps)

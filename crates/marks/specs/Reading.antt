@@ -25,8 +25,8 @@ abbrev pub problemFrom : GridStruct → List ℕ → List ℕ → Problem
 problemFrom g start table = record { grid = shape g; start = start; labels = table }
 
 -- the start left open, since no label depends on it
-abbrev pub tableOf : GridStruct → List ℕ → Problem
-tableOf g table = problemFrom g [] table
+abbrev pub tableProblem : GridStruct → List ℕ → Problem
+tableProblem g table = problemFrom g [] table
 
 -- a label can be looked up for every grid point
 pub record Readable (g : GridStruct) (binomials table : List ℕ) : Type 0 where
@@ -35,11 +35,11 @@ pub record Readable (g : GridStruct) (binomials table : List ℕ) : Type 0 where
   pub whole : length table ≡ numPoints (shape g)
 
 -- Request 02, "Looking up a label may therefore answer that there is none": what is read of a point
-abbrev pub readingOf : Problem → Point → Reading
-readingOf p y = cond (eqb (label p y) 0) (Unknown (position (p .grid) y)) (Marked (markOf p y))
+abbrev pub labelReading : Problem → Point → Reading
+labelReading p y = cond (eqb (label p y) 0) (Unknown (position (p .grid) y)) (Marked (markOf p y))
 
 -- the point that has just come in can be computed, and is a grid point
-pub record CanRead (g : GridStruct) (a : State) : Type 0 where
+pub record CanReadPoint (g : GridStruct) (a : State) : Type 0 where
   pub below : IndicesBelow (a .round .previous)
   pub firstLength : length (a .first) ≡ 16
   pub point : CanCompute a (a .active)

@@ -12,7 +12,7 @@ ghost use Rattle.positions.specs.Binomials.{Measured};
 ghost use Rattle.rules.specs.Read.{pointOn};
 ghost use Rattle.rules.specs.Ready.{IndicesBelow};
 ghost use Rattle.rules.specs.Step.{State, firstOutside};
-ghost use Rattle.marks.specs.Reading.{tableOf, readingOf, isBetween, addUp, Readable, CanRead};
+ghost use Rattle.marks.specs.Reading.{tableProblem, labelReading, isBetween, addUp, Readable, CanReadPoint};
 ghost use Rattle.marks.specs.Reading.{HasMarks};
 use arrays::index_at;
 use arrays::position_at;
@@ -76,7 +76,7 @@ fn position_by_steps(
 ) -> usize
     ghost { State }
     requires { λ a. ⌜ stateOf (roundBack previous sizes) (now first) [] (now order) [] s ≡ a ⌝ }
-    requires { λ a. ⌜ Measured g (now binomials) × CanRead g a ⌝ }
+    requires { λ a. ⌜ Measured g (now binomials) × CanReadPoint g a ⌝ }
     ensures { λ a r. ⌜ r ≡ position (shape g) (pointOn (shape g) a (a .active)) ⌝ }
 {
     let mut steps = [16u16; 16];
@@ -101,7 +101,7 @@ pub fn position_in(
 ) -> usize
     ghost { State }
     requires { λ a. ⌜ held (roundBack previous sizes) first coefficients order marks s ≡ a ⌝ }
-    requires { λ a. ⌜ Measured g (now binomials) × CanRead g a ⌝ }
+    requires { λ a. ⌜ Measured g (now binomials) × CanReadPoint g a ⌝ }
     requires { λ a. ⌜ HasMarks g (now tails) a × (length (a .order) ≡ s .count) ⌝ }
     ensures { λ a r. ⌜ r ≡ position (shape g) (pointOn (shape g) a (a .active)) ⌝ }
 {
@@ -162,9 +162,9 @@ pub fn mark_in(
 ) -> Reading
     ghost { State }
     requires { λ a. ⌜ held (roundBack previous sizes) first coefficients order marks s ≡ a ⌝ }
-    requires { λ a. ⌜ Readable g (now binomials) (now table) × CanRead g a ⌝ }
+    requires { λ a. ⌜ Readable g (now binomials) (now table) × CanReadPoint g a ⌝ }
     requires { λ a. ⌜ HasMarks g (now tails) a × (length (a .order) ≡ s .count) ⌝ }
-    ensures { λ a r. ⌜ r ≡ readingOf (tableOf g (now (table .entry))) (pointOn (shape g) a (a .active)) ⌝ }
+    ensures { λ a r. ⌜ r ≡ labelReading (tableProblem g (now (table .entry))) (pointOn (shape g) a (a .active)) ⌝ }
 {
     let at = position_in(
         g,

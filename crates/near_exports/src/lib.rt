@@ -4,7 +4,7 @@ ghost use Prim.Native.Nat.{_≤_};
 ghost use lib.ListN.{length};
 ghost use Rattle.combinatorics.specs.Front.{front};
 ghost use Rattle.place.specs.Problem.{problemOf};
-ghost use Rattle.nearest.specs.Report.{answerBuffer, listBuffer, reportOf};
+ghost use Rattle.nearest.specs.Report.{nearAnswerBuffer, listBuffer, reportOf};
 ghost use Rattle.near_exports.specs.Near.{nearFacts};
 ghost use Rattle.run_facts.specs.Numbers.{runFacts, runNumber};
 use nearest::Nearest;
@@ -55,7 +55,7 @@ pub extern "C" fn leveretplate_nearest(
     ensures answer { λ _. ⌜ (let p = problemOf
         (now (sizes .entry)) (now (divisions .entry)) (now (start .entry)) (now (labels .entry)) in
         now (answer .exit)
-        ≡ answerBuffer p (now (w .entry)) (length (now (list .entry))) budget (now (answer .entry))) ⌝ }
+        ≡ nearAnswerBuffer p (now (w .entry)) (length (now (list .entry))) budget (now (answer .entry))) ⌝ }
     ensures list { λ _. ⌜ (let p = problemOf
         (now (sizes .entry)) (now (divisions .entry)) (now (start .entry)) (now (labels .entry)) in
         now (list .exit)

@@ -16,14 +16,14 @@ use Rattle.place.specs.Problem.{Problem}
 use Rattle.path_laws.proofs.Theorem.{demand3-holds}
 use Rattle.path_laws.specs.Demand.{Accepted}
 use Rattle.finder.proofs.Refusals.{accepted-with-room, answered as run-answered, by-later}
-use Rattle.finder.specs.Asked.{laterQuestions}
+use Rattle.finder.specs.Asked.{laterRunQuestions}
 use Rattle.finder.specs.Run.{caseOf, numbersOf, runAnswer, runBuffer}
 use Rattle.visited.proofs.Distances.{distances}
 use Rattle.visited.proofs.Nearest.{grid-accepted, is-list, is-nearest}
 use Rattle.visited.proofs.Visits.{visits}
 use Rattle.visited.specs.Nearest.{nearest}
 use Rattle.nearest.specs.Demand.{NearDemandHolds}
-use Rattle.nearest.specs.Report.{answerBuffer, listBuffer, listedIn, nearRefusal, nearestIn, reportOf}
+use Rattle.nearest.specs.Report.{nearAnswerBuffer, listBuffer, listedBy, nearRefusal, nearestIn, reportOf}
 use Rattle.nearest.specs.declared.Report.{Report}
 use Rattle.nearest.proofs.Refusals.{all-yes, answered, at-end, at-gap, by-grid, by-point}
 
@@ -34,7 +34,7 @@ module _ (p : Problem) (w : Point) (room listRoom : ℕ) (none : nearRefusal p w
       (λ n. absurd (n (sym (by-grid p w room listRoom n) ∙ none)))
       (same-or (firstNo (gridQuestions (p .grid))) 0)
 
-  yes : (isGridPoint (p .grid) w ≡ true) × (firstNo (laterQuestions p room) ≡ 0)
+  yes : (isGridPoint (p .grid) w ≡ true) × (firstNo (laterRunQuestions p room) ≡ 0)
   yes = let y = all-yes p w room listRoom (sym (by-point p w room listRoom accepted-grid) ∙ none) in (y .0, y .1)
 
   ok : Accepted p
@@ -44,8 +44,8 @@ module _ (p : Problem) (w : Point) (room listRoom : ℕ) (none : nearRefusal p w
   reported : (given budget : ℕ) (old list : List ℕ) → length old ≡ room → length list ≡ listRoom
       → (record { run = caseOf (answer p budget); nearest = nearestIn p w given (answer p budget) }
       ≡ reportOf p w given room listRoom budget)
-      × (front (numbersOf (answer p budget)) old ≡ answerBuffer p w listRoom budget old)
-      × (front (listedIn p w given (answer p budget)) list ≡ listBuffer p w given room budget list)
+      × (front (numbersOf (answer p budget)) old ≡ nearAnswerBuffer p w listRoom budget old)
+      × (front (listedBy p w given (answer p budget)) list ≡ listBuffer p w given room budget list)
   reported given budget old list e f = rw (← e, ← f) (answered p w given budget old list (rw (e, f) none))
 
   report-is : (given budget : ℕ)
@@ -55,7 +55,7 @@ module _ (p : Problem) (w : Point) (room listRoom : ℕ) (none : nearRefusal p w
       (length-replicate listRoom 0) .0
 
   list-is : (given budget : ℕ) (old : List ℕ) → length old ≡ listRoom
-      → front (listedIn p w given (answer p budget)) old ≡ listBuffer p w given room budget old
+      → front (listedBy p w given (answer p budget)) old ≡ listBuffer p w given room budget old
   list-is given budget old e = reported given budget (replicate room 0) old (length-replicate room 0) e .2
 
   -- a run without w

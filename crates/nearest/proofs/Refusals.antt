@@ -20,12 +20,12 @@ use Rattle.place.specs.Path.{Answer as PathAnswer, answer, ended, spent, unknow
 use Rattle.place.specs.Places.{Simplex}
 use Rattle.place.specs.Problem.{Problem}
 use Rattle.place.specs.Questions.{question6, question7, question8}
-use Rattle.finder.specs.Asked.{laterQuestions}
+use Rattle.finder.specs.Asked.{laterRunQuestions}
 use Rattle.finder.specs.Run.{caseOf, numbersOf}
 use Rattle.finder.specs.declared.answers.Answer.the-variants.{End, Refused, Unknown}
 use Rattle.visited.proofs.Nearest.{is-list}
 use Rattle.visited.specs.Questions.{pointQuestions, question8List}
-use Rattle.nearest.specs.Report.{answerBuffer, listBuffer, listedIn, nearRefusal, nearestIn, reportOf}
+use Rattle.nearest.specs.Report.{nearAnswerBuffer, listBuffer, listedBy, nearRefusal, nearestIn, reportOf}
 use Rattle.nearest.specs.declared.Nearest.the-variants.{Nothing, Vertex}
 
 module _ (p : Problem) (w : Point) (room listRoom : ℕ) where
@@ -53,17 +53,18 @@ module _ (p : Problem) (w : Point) (room listRoom : ℕ) where
 
   module _ (on : isGridPoint (p .grid) w ≡ true) where
     behind : firstNo (pointQuestions p w room listRoom)
-        ≡ firstNo (laterQuestions p room ++ (question8List (p .grid) listRoom ∷ []))
+        ≡ firstNo (laterRunQuestions p room ++ (question8List (p .grid) listRoom ∷ []))
     unfolding firstNo
     behind = rw on
 
-    pub no-later : (n : ℕ) → (n ≡ 0 → ⊥) → n ≡ firstNo (laterQuestions p room)
+    pub no-later : (n : ℕ) → (n ≡ 0 → ⊥) → n ≡ firstNo (laterRunQuestions p room)
         → n ≡ firstNo (pointQuestions p w room listRoom)
-    no-later n z e = sym (behind ∙ asked-no (laterQuestions p room) (question8List (p .grid) listRoom ∷ []) n z (sym e))
+    no-later n z e = sym
+        (behind ∙ asked-no (laterRunQuestions p room) (question8List (p .grid) listRoom ∷ []) n z (sym e))
 
-    module _ (later : firstNo (laterQuestions p room) ≡ 0) where
+    module _ (later : firstNo (laterRunQuestions p room) ≡ 0) where
       list-only : firstNo (pointQuestions p w room listRoom) ≡ firstNo (question8List (p .grid) listRoom ∷ [])
-      list-only = behind ∙ asked-next (laterQuestions p room) (question8List (p .grid) listRoom ∷ []) refl later
+      list-only = behind ∙ asked-next (laterRunQuestions p room) (question8List (p .grid) listRoom ∷ []) refl later
 
       pub no-list : listRoom < numPoints (p .grid) → 8 ≡ firstNo (pointQuestions p w room listRoom)
       unfolding firstNo
@@ -75,7 +76,7 @@ module _ (p : Problem) (w : Point) (room listRoom : ℕ) where
 
   -- where none is answered no
   pub all-yes : firstNo (pointQuestions p w room listRoom) ≡ 0
-      → (isGridPoint (p .grid) w ≡ true) × (firstNo (laterQuestions p room) ≡ 0) × (numPoints (p .grid) ≤ listRoom)
+      → (isGridPoint (p .grid) w ≡ true) × (firstNo (laterRunQuestions p room) ≡ 0) × (numPoints (p .grid) ≤ listRoom)
   all-yes e =
       let a = first-yes (question5 (p .grid) (p .start))
       (question5 (p .grid) w ∷ question6 p ∷ question7 p ∷ question8 (p .grid) room ∷ question8List (p .grid) listRoom
@@ -84,7 +85,8 @@ module _ (p : Problem) (w : Point) (room listRoom : ℕ) where
       let on = first-yes (question5 (p .grid) w)
       (question6 p ∷ question7 p ∷ question8 (p .grid) room ∷ question8List (p .grid) listRoom ∷ []) (omega arith)
       (a .1) .0 in
-      let b = both-yes (laterQuestions p room) (question8List (p .grid) listRoom ∷ []) refl (sym (behind on) ∙ e) in (
+      let b = both-yes (laterRunQuestions p room) (question8List (p .grid) listRoom ∷ []) refl (sym (behind on) ∙ e)
+      in (
         on,
         b .0,
         leb-true (numPoints (p .grid)) listRoom
@@ -95,8 +97,8 @@ module _ (p : Problem) (w : Point) (room listRoom : ℕ) where
 module _ (p : Problem) (w : Point) (given budget : ℕ) (old list : List ℕ) where
   pub refused : (n : ℕ) → (n ≡ 0 → ⊥) → nearRefusal p w (length old) (length list) ≡ n
       → (record { run = Refused n; nearest = Nothing } ≡ reportOf p w given (length old) (length list) budget)
-      × (old ≡ answerBuffer p w (length list) budget old) × (list ≡ listBuffer p w given (length old) budget list)
-  unfolding reportOf answerBuffer listBuffer
+      × (old ≡ nearAnswerBuffer p w (length list) budget old) × (list ≡ listBuffer p w given (length old) budget list)
+  unfolding reportOf nearAnswerBuffer listBuffer
   refused n z e =
       let q : eqb (nearRefusal p w (length old) (length list)) 0 ≡ false =
       ne-eqb (nearRefusal p w (length old) (length list)) 0 (λ f. z (sym e ∙ f)) in
@@ -105,9 +107,9 @@ module _ (p : Problem) (w : Point) (given budget : ℕ) (old list : List ℕ) wh
   pub answered : nearRefusal p w (length old) (length list) ≡ 0
       → (record { run = caseOf (answer p budget); nearest = nearestIn p w given (answer p budget) }
       ≡ reportOf p w given (length old) (length list) budget)
-      × (front (numbersOf (answer p budget)) old ≡ answerBuffer p w (length list) budget old)
-      × (front (listedIn p w given (answer p budget)) list ≡ listBuffer p w given (length old) budget list)
-  unfolding reportOf answerBuffer listBuffer
+      × (front (numbersOf (answer p budget)) old ≡ nearAnswerBuffer p w (length list) budget old)
+      × (front (listedBy p w given (answer p budget)) list ≡ listBuffer p w given (length old) budget list)
+  unfolding reportOf nearAnswerBuffer listBuffer
   answered e = (rw e, rw e, rw e)
 
 -- an end in the answer is the path's, after all its places
@@ -137,20 +139,20 @@ module _ (p : Problem) (budget : ℕ) where
 
 -- what is reported tells what is listed: nothing; or as many positions as it says, which are no more than the points
 pub none-of : (p : Problem) (w : Point) (given : ℕ) (a : PathAnswer) → nearestIn p w given a ≡ Nothing
-    → listedIn p w given a ≡ []
+    → listedBy p w given a ≡ []
 none-of p w given (spent n) e = refl
 none-of p w given (unknown n i) e = refl
 none-of p w given (ended n read kind block vertices s) e = absurd (let z : _≡_ {A = ℕ} 0 1 = cc in omega arith)
 
 pub list-of : (p : Problem) (w : Point) (given : ℕ) (a : PathAnswer) {q n : ℕ} → nearestIn p w given a ≡ Vertex q n
-    → n ≡ length (listedIn p w given a)
+    → n ≡ length (listedBy p w given a)
 list-of p w given (spent n) e = absurd (let z : _≡_ {A = ℕ} 0 1 = cc in omega arith)
 list-of p w given (unknown n i) e = absurd (let z : _≡_ {A = ℕ} 0 1 = cc in omega arith)
 list-of p w given (ended n read kind block vertices s) e = cc
 
 pub listed-few : {p : Problem} → Accepted p → (w : Point) → isGridPoint (p .grid) w ≡ true → (given : ℕ)
     (a : PathAnswer)
-    → length (listedIn p w given a) ≤ numPoints (p .grid)
+    → length (listedBy p w given a) ≤ numPoints (p .grid)
 listed-few ok w on given (spent n) = omega arith
 listed-few ok w on given (unknown n i) = omega arith
 listed-few ok w on given (ended n read kind block vertices s) = is-list ok w on given .few

@@ -12,14 +12,14 @@ use Rattle.finder.specs.Run.{runAnswer, runBuffer}
 use Rattle.finder.specs.declared.answers.Answer.the-variants.{End, Unknown}
 use Rattle.visited.specs.Demand.{Distances, IsList, IsNearest, Visits}
 use Rattle.visited.specs.Nearest.{nearest, positionsWithin}
-use Rattle.nearest.specs.Report.{answerBuffer, listBuffer, nearRefusal, reportOf}
+use Rattle.nearest.specs.Report.{nearAnswerBuffer, listBuffer, nearRefusal, reportOf}
 use Rattle.nearest.specs.declared.Nearest.the-variants.{Nothing, Vertex}
 
 pub record NearDemand (p : Problem) (w : Point) (room listRoom : ℕ) : Type 0 where
   -- the run is that of a run without w, distance and list, its vertices in the answer buffer included
   pub run : (given budget : ℕ) → reportOf p w given room listRoom budget .run ≡ runAnswer p room budget
   pub answer : (budget : ℕ) (old : List ℕ) → length old ≡ room
-      → answerBuffer p w listRoom budget old ≡ runBuffer p budget old
+      → nearAnswerBuffer p w listRoom budget old ≡ runBuffer p budget old
   -- so runs alike but in w, distance and list announce the same end
   pub alike : (other : Point) (given next budget otherRoom : ℕ) → nearRefusal p other room otherRoom ≡ 0
       → reportOf p w given room listRoom budget .run ≡ reportOf p other next room otherRoom budget .run

@@ -31,10 +31,10 @@ nearestIn p w given (spent n) = Nothing
 nearestIn p w given (unknown n i) = Nothing
 
 -- "list all visited vertices within a given distance"
-abbrev pub listedIn : Problem → Point → ℕ → PathAnswer → List ℕ
-listedIn p w given (ended n read kind block vertices simplex) = positionsWithin p w given
-listedIn p w given (spent n) = []
-listedIn p w given (unknown n i) = []
+abbrev pub listedBy : Problem → Point → ℕ → PathAnswer → List ℕ
+listedBy p w given (ended n read kind block vertices simplex) = positionsWithin p w given
+listedBy p w given (spent n) = []
+listedBy p w given (unknown n i) = []
 
 -- behind the questions: what a run answers, and what is reported besides
 abbrev pub reported : Problem → Point → ℕ → PathAnswer → Report
@@ -50,10 +50,10 @@ reportOf p w given room listRoom budget =
 
 -- "A refusal .. changes no buffer. What a call does write stands at the front of its buffer, old contents behind": the
 -- answer buffer, for a list of `listRoom` positions; and the list, for an answer buffer of `room` numbers
-unfoldable pub answerBuffer : Problem → Point → ℕ → ℕ → List ℕ → List ℕ
-answerBuffer p w listRoom budget old =
+unfoldable pub nearAnswerBuffer : Problem → Point → ℕ → ℕ → List ℕ → List ℕ
+nearAnswerBuffer p w listRoom budget old =
     front (cond (eqb (nearRefusal p w (length old) listRoom) 0) (numbersOf (answer p budget)) []) old
 
 unfoldable pub listBuffer : Problem → Point → ℕ → ℕ → ℕ → List ℕ → List ℕ
 listBuffer p w given room budget old =
-    front (cond (eqb (nearRefusal p w room (length old)) 0) (listedIn p w given (answer p budget)) []) old
+    front (cond (eqb (nearRefusal p w room (length old)) 0) (listedBy p w given (answer p budget)) []) old

@@ -13,7 +13,7 @@ ghost use Rattle.place.specs.Path.{Answer as PathAnswer, answer as answerOf};
 ghost use Rattle.place.specs.Problem.{problemOf};
 ghost use Rattle.marks.specs.Reading.{problemFrom};
 ghost use Rattle.visited.specs.Questions.{pointQuestions};
-ghost use Rattle.nearest.specs.Report.{answerBuffer, listBuffer, listedIn, reportOf, reported};
+ghost use Rattle.nearest.specs.Report.{nearAnswerBuffer, listBuffer, listedBy, reportOf, reported};
 use arrays::block_sizes;
 use arrays::padded;
 use distances::weights;
@@ -79,7 +79,7 @@ fn announced(
         ≡ reported (problemFrom g (now (start .entry)) (now (labels .entry))) (now (w .entry)) given p ⌝ }
     ensures { λ p _. ⌜ now (answer .exit) ≡ front (numbersOf p) (now (answer .entry)) ⌝ }
     ensures { λ p _.
-        let l = listedIn (problemFrom g (now (start .entry)) (now (labels .entry))) (now (w .entry)) given p in
+        let l = listedBy (problemFrom g (now (start .entry)) (now (labels .entry))) (now (w .entry)) given p in
         ⌜ take (length l) (now (found .exit)) ≡ l ⌝ }
 {
     let m = g.indices;
@@ -170,7 +170,7 @@ fn run_on(
         ≡ reportOf (problemFrom g (now (start .entry)) (now (labels .entry))) (now (w .entry)) given
         (length (now (answer .entry))) (length (now (list .entry))) budget ⌝ }
     ensures answer { λ _. ⌜ now (answer .exit)
-        ≡ answerBuffer (problemFrom g (now (start .entry)) (now (labels .entry))) (now (w .entry))
+        ≡ nearAnswerBuffer (problemFrom g (now (start .entry)) (now (labels .entry))) (now (w .entry))
         (length (now (list .entry))) budget (now (answer .entry)) ⌝ }
     ensures list { λ _. ⌜ now (list .exit)
         ≡ listBuffer (problemFrom g (now (start .entry)) (now (labels .entry))) (now (w .entry)) given
@@ -224,7 +224,7 @@ pub fn run(
     ensures report { λ r. ⌜ r ≡ reportOf
         (problemOf (now (sizes .entry)) (now (divisions .entry)) (now (start .entry)) (now (labels .entry)))
         (now (w .entry)) given (length (now (answer .entry))) (length (now (list .entry))) budget ⌝ }
-    ensures answer { λ _. ⌜ now (answer .exit) ≡ answerBuffer
+    ensures answer { λ _. ⌜ now (answer .exit) ≡ nearAnswerBuffer
         (problemOf (now (sizes .entry)) (now (divisions .entry)) (now (start .entry)) (now (labels .entry)))
         (now (w .entry)) (length (now (list .entry))) budget (now (answer .entry)) ⌝ }
     ensures list { λ _. ⌜ now (list .exit) ≡ listBuffer

@@ -23,7 +23,7 @@ use Rattle.path_laws.proofs.PathSteps.{Link}
 use Rattle.path_laws.proofs.Simplices.{onSimplices}
 use Rattle.path_laws.proofs.Theorem.{twoWays, ended-path}
 use Rattle.path_laws.specs.Backwards.{MovesFrom, Backwards}
-use Rattle.path_laws.specs.Demand.{Accepted, Settled, placeAt, leftAt, lastPlace, IsPath}
+use Rattle.path_laws.specs.Demand.{Accepted, HasStart, placeAt, leftAt, lastPlace, IsPath}
 
 -- a list reversed, by position
 behind : (l r : List Simplex) (i j : ℕ) → i ≡ length l + j → placeAt (reverseAux l r) i ≡ placeAt r j
@@ -45,7 +45,7 @@ record Meets (s t : List Simplex) (i j : ℕ) : Type 0 where
   here : placeAt t i ≡ placeAt s j
   left : (h : ℕ) → suc h ≡ i → placeAt t h ≡ placeAt s (suc j)
 
-module _ {p : Problem} (ok : Settled p) {s : List Simplex} {e : End} (k : IsPath p s e)
+module _ {p : Problem} (ok : HasStart p) {s : List Simplex} {e : End} (k : IsPath p s e)
     (own : (i : ℕ) → i < length s → allLabelled p (placeAt s i) ≡ true) where
   next : (i : ℕ) → suc i < length s → Link p (placeAt s i) (placeAt s (suc i))
   next i c = record {

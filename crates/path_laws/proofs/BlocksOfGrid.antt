@@ -26,7 +26,7 @@ use Rattle.place.specs.Coefficients.{IsCoefficients, coefficients}
 use Rattle.place.specs.Places.{searchBack, firstBackOutside}
 use Rattle.place.specs.Problem.{Problem}
 use Rattle.path_laws.proofs.Coefficients.{coefficients-are}
-use Rattle.path_laws.specs.Demand.{Settled}
+use Rattle.path_laws.specs.Demand.{HasStart}
 
 next-is : (ss ds : List ℕ) (k : ℕ) → k < sum ss → nextOf ss k ≡ next (sized ss ds) k
 next-is [] ds k l = absurd (omega arith)
@@ -260,7 +260,7 @@ module _ (p : Problem) where
     pub coord-out : (k : ℕ) → numIndices p.grid ≤ k → coord (blocksOf p) (at c) k ≡ 1
     coord-out k l = omega (arith, ap (at c) (next-outside k l), start-outside k l)
 
-module _ {p : Problem} (ok : Settled p) where
+module _ {p : Problem} (ok : HasStart p) where
   pub coefficientOf-is : (y : Point) → isGridPoint p.grid y ≡ true → IsCoefficients p y (coefficients p y)
   coefficientOf-is y h = coefficients-are p y ok.sameNumber ok.sizes ok.start h
 

@@ -27,7 +27,7 @@ use Rattle.path_laws.proofs.LinkSymmetry.{parts}
 use Rattle.path_laws.proofs.IndexSets.{order-within, order-distinct, T-indices, T-distinct, no-empty}
 use Rattle.path_laws.proofs.Simplices.{onSimplices}
 use Rattle.path_laws.proofs.BlocksOfGrid.{coefficientOf}
-use Rattle.path_laws.specs.Demand.{Settled}
+use Rattle.path_laws.specs.Demand.{HasStart}
 
 -- an index of each block left out
 any-mono : {q r : ℕ → Bool} (xs : List ℕ) → ((x : ℕ) → q x ≡ true → r x ≡ true) → any q xs ≡ true → any r xs ≡ true
@@ -120,7 +120,7 @@ module _ (p : Problem) where
       (dimension p.grid) (indices p.grid) (distinct-upFrom 0 (numIndices p.grid))
       ∙ ap (λ (k : ℕ). orders k (dimension p.grid)) (length-upFrom 0 (numIndices p.grid)))
 
-  module _ (ok : Settled p) where
+  module _ (ok : HasStart p) where
     key-in : (s : Simplex) → isPlace p s ≡ true → isIn sameSimplex (key s) keys ≡ true
     key-in [] h = absurd (no-empty p ok.someBlock h)
     key-in (y ∷ a) h = in-concatMap onPoints onSimplices

@@ -32,7 +32,7 @@ use Rattle.path_laws.proofs.LinkSymmetry.{parts}
 use Rattle.path_laws.proofs.Positions.{set-of, at-in, in-at}
 use Rattle.path_laws.proofs.BlocksOfGrid.{blocksOf, coefficientOf, block-agrees, block-inside, coord-in}
 use Rattle.path_laws.proofs.BlocksOfGrid.{coord-out}
-use Rattle.path_laws.specs.Demand.{Settled}
+use Rattle.path_laws.specs.Demand.{HasStart}
 
 complete-ext : (R : Blocks) (l : (ℕ → ℕ) → ℕ) (t : ℕ) {q q' : ℕ → ℕ → ℕ} → ((j : ℕ) → j ≤ t → q j ≡ q' j) → (h : ℕ)
     → Complete R l t q h → Complete R l t q' h
@@ -42,7 +42,7 @@ complete-ext R l t {q} e h c k b =
     (c k b)
 
 -- a set of grid points
-module _ {p : Problem} (ok : Settled p) (s : Simplex) (on : all (isGridPoint p.grid) s ≡ true) (t : ℕ)
+module _ {p : Problem} (ok : HasStart p) (s : Simplex) (on : all (isGridPoint p.grid) s ≡ true) (t : ℕ)
     (long : length s ≡ suc t) where
   at-coord : (j : ℕ) → j ≤ t → (k : ℕ) → k < numIndices p.grid
       → coord (blocksOf p) (listAt (coefficientsOf p s) j) k ≡ at (nth s j) k
@@ -127,7 +127,7 @@ remove-in (x ∷ s) (suc i) y m = ⊎-elim
     (λ n. in-later onPoints y x s (remove-in s i y n))
     (in-cases onPoints y x (removeAt i s) m)
 
-module _ {p : Problem} (ok : Settled p) (s : Simplex) (h : isPlace p s ≡ true) (n : ℕ) (long : length s ≡ suc (suc n))
+module _ {p : Problem} (ok : HasStart p) (s : Simplex) (h : isPlace p s ≡ true) (n : ℕ) (long : length s ≡ suc (suc n))
     (i : ℕ) (il : i ≤ suc n) where
   pub facet-grid : all (isGridPoint p.grid) (removeAt i s) ≡ true
   facet-grid =

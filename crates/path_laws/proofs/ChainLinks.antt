@@ -30,7 +30,7 @@ use Rattle.path_laws.proofs.Meaning.{T-means}
 use Rattle.path_laws.proofs.LinkSymmetry.{parts, place-distinct}
 use Rattle.path_laws.proofs.Positions.{set-of, at-in, in-at, same-at}
 use Rattle.path_laws.proofs.BlocksOfGrid.{blocksOf, pointOf, coefficientOf, point-coefficientOf}
-use Rattle.path_laws.specs.Demand.{Settled}
+use Rattle.path_laws.specs.Demand.{HasStart}
 
 -- a filter that leaves one out
 module _ (q : Point → Bool) where
@@ -85,7 +85,7 @@ module _ (q : Point → Bool) where
   missing-one (x ∷ xs) (suc i) l e h = rw (h 0 (omega arith) (λ z. omega arith))
       (ap suc (missing-one xs i (omega arith) e (λ j m n. h (suc j) (omega arith) (λ z. n (omega arith)))))
 
-module _ {p : Problem} (ok : Settled p) (a b : Simplex) (ha : isPlace p a ≡ true) (hb : isPlace p b ≡ true) where
+module _ {p : Problem} (ok : HasStart p) (a b : Simplex) (ha : isPlace p a ≡ true) (hb : isPlace p b ≡ true) where
   -- points and coefficients are the same together
   to-list : (j f : ℕ) → j < length a → f < length b → nth b f ≡ nth a j
       → listAt (coefficientsOf p b) f ≡ listAt (coefficientsOf p a) j
@@ -309,7 +309,7 @@ abbrev joined-of : Problem → Simplex → Simplex → Type 0
 joined-of p a b = Joined (labelOf p) (inT p a) (length (order p.grid a)) (coefficientsOf p a) (inT p b)
     (length (order p.grid b)) (coefficientsOf p b)
 
-module _ {p : Problem} (ok : Settled p) (a : Simplex) (ha : isPlace p a ≡ true) where
+module _ {p : Problem} (ok : HasStart p) (a : Simplex) (ha : isPlace p a ≡ true) where
   -- a link of places is one of the geometry
   pub link-of : allLabelled p a ≡ true → (b : Simplex) → isPlace p b ≡ true → linked p a b ≡ true
       → Link (blocksOf p) (labelOf p) (coefficientsOf p a) (coefficientsOf p b)

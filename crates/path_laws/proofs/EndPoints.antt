@@ -25,7 +25,7 @@ use Rattle.path_laws.proofs.Facets.{oneLess-at}
 use Rattle.path_laws.proofs.LinkSymmetry.{parts}
 use Rattle.path_laws.proofs.ToChain.{place-long}
 use Rattle.path_laws.proofs.Ways.{IsWay, byPlace, byFacet, end-is, onEnds}
-use Rattle.path_laws.specs.Demand.{Settled, IsPath, placeAt}
+use Rattle.path_laws.specs.Demand.{HasStart, IsPath, placeAt}
 
 -- a simplex of the grid: 1 to n + 1 grid points, in rising order of coefficient sum
 pub record IsSimplex (p : Problem) (s : Simplex) : Type 0 where
@@ -40,7 +40,7 @@ all-removeAt q zero (x ∷ xs) a = and-right (q x) (all q xs) a
 all-removeAt q (suc i) (x ∷ xs) a =
     and-both _ _ (and-left (q x) (all q xs) a) (all-removeAt q i xs (and-right (q x) (all q xs) a))
 
-module _ (p : Problem) (ok : Settled p) where
+module _ (p : Problem) (ok : HasStart p) where
   place-simplex : (s : Simplex) → isPlace p s ≡ true → IsSimplex p s
   place-simplex s h =
       let l = place-long ok s h in

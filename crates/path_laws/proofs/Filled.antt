@@ -25,11 +25,11 @@ use Rattle.path_laws.proofs.FromTwoWays.{gap-not-all}
 use Rattle.path_laws.proofs.LinkSymmetry.{parts}
 use Rattle.path_laws.proofs.Run.{asks-path}
 use Rattle.path_laws.proofs.Theorem.{demand3-holds, run-follows, twoWays}
-use Rattle.path_laws.specs.Demand.{Accepted, Fills, Settled, Stop, atGap, lastPlace, placeAt}
+use Rattle.path_laws.specs.Demand.{Accepted, Fills, HasStart, Stop, atGap, lastPlace, placeAt}
 
 -- an accepted table without gaps
 pub record FullyLabelled (p : Problem) : Type 0 where
-  pub settled : Settled p
+  pub settled : HasStart p
   pub tableLength : length (p .labels) ≡ numPoints (p .grid)
   pub labels : all (λ l. leb 1 l && leb l (numIndices (p .grid))) (p .labels) ≡ true
 

@@ -34,10 +34,10 @@ use Rattle.path_laws.proofs.Positions.{at-order}
 use Rattle.path_laws.proofs.Positions.{at-rising, set-of}
 use Rattle.path_laws.proofs.BlocksOfGrid.{blocksOf, pointOf, coefficientOf, block-agrees, block-inside, coord-in}
 use Rattle.path_laws.proofs.BlocksOfGrid.{coord-out, outside-before, before-same}
-use Rattle.path_laws.specs.Demand.{Settled}
+use Rattle.path_laws.specs.Demand.{HasStart}
 
 -- a chain that carries its labels
-module _ {p : Problem} (ok : Settled p) where
+module _ {p : Problem} (ok : HasStart p) where
   module _ {T : ℕ → Bool} {t : ℕ} {o : ℕ → ℕ} {x : List (ℕ → ℕ)}
       (S : LabelledChain (blocksOf p) (labelOf p) T t o x) where
     both-ways : (coefficientsOf p (pointsOf p x) ≡ x) × (all (isGridPoint p.grid) (pointsOf p x) ≡ true)

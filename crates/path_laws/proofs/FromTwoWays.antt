@@ -42,7 +42,7 @@ use Rattle.path_laws.proofs.PathSteps.{linksOn, waysOn-split, Trail, st
 use Rattle.path_laws.proofs.PathSteps.{step-links}
 use Rattle.path_laws.proofs.PathSteps.{all-places, onward, passes, known, finish, leftFrom, unended, more-fuel}
 use Rattle.path_laws.proofs.Ways.{IsWay, byPlace, byFacet, byLink, sameWay, onEnds, onWays, end-is, in-ways}
-use Rattle.path_laws.specs.Demand.{Accepted, Settled, TwoWays, placeAt, lastPlace, leftAt, Follows, IsPath, Stop}
+use Rattle.path_laws.specs.Demand.{Accepted, HasStart, TwoWays, placeAt, lastPlace, leftAt, Follows, IsPath, Stop}
 use Rattle.path_laws.specs.Demand.{atEnd, atGap, NoGap, Ended, Demand3}
 
 in-placeAt : (l : List Simplex) (s : Simplex) → isIn sameSimplex s l ≡ true
@@ -110,7 +110,7 @@ Final p s = allLabelled p (lastPlace s) ≡ true → ends p (lastPlace s) ≡ []
 pub back : {p : Problem} (a b : Simplex) → Link p a b → Link p b a
 back {p} a b k = record { from = k .to; to = k .from; by = linked-back p a b k.from k.to k.by }
 
-pub in-links : {p : Problem} → Settled p → {a b : Simplex} → Link p a b → isIn sameSimplex b (links p a) ≡ true
+pub in-links : {p : Problem} → HasStart p → {a b : Simplex} → Link p a b → isIn sameSimplex b (links p a) ≡ true
 unfolding links
 in-links {p} ok {a} {b} k = in-filter onSimplices (linked p a) b (places p) (places-all p ok.sameNumber b k.to) k.by
 

@@ -19,7 +19,7 @@ use Rattle.path_laws.proofs.IndexSets.{order-within, order-distinct}
 use Rattle.path_laws.proofs.LinkSymmetry.{parts}
 use Rattle.path_laws.proofs.Meaning.{labels-mean}
 use Rattle.path_laws.proofs.ToChain.{place-long}
-use Rattle.path_laws.specs.Demand.{Settled}
+use Rattle.path_laws.specs.Demand.{HasStart}
 
 -- a filter and what it leaves out
 both-parts : {A : Type 0} (q : A → Bool) (xs : List A)
@@ -40,7 +40,7 @@ left-none q (x ∷ xs) e = ⊎-elim
 pub label-named : (p : Problem) (y : Point) (h : ℕ) → h < numIndices p.grid → label p y ≡ suc h → hasLabel p y ≡ true
 label-named p y h l e = rw e (and-both _ _ (le-leb 1 (suc h) (omega arith)) (le-leb (suc h) _ (omega arith)))
 
-module _ {p : Problem} (ok : Settled p) (s : Simplex) (h : isPlace p s ≡ true) where
+module _ {p : Problem} (ok : HasStart p) (s : Simplex) (h : isPlace p s ≡ true) where
   -- each index of T is the label of a point with a label
   carried : (x : ℕ) → isIn eqb x (order p.grid s) ≡ true
       → isIn eqb x (map (λ y. pred (label p y)) (filter (hasLabel p) s)) ≡ true

@@ -17,7 +17,7 @@ use Rattle.place.specs.Coefficients.{coefficients}
 use Rattle.place.specs.Places.{setU, setT, isPlace, isUnlabelledPlace, everyBlockFree}
 use Rattle.place.specs.Problem.{Problem}
 use Rattle.path_laws.proofs.Coefficients.{coefficients-are, coefficients-only}
-use Rattle.path_laws.specs.Demand.{Settled}
+use Rattle.path_laws.specs.Demand.{HasStart}
 
 at-zeros : (n h : ℕ) → at (replicate n 0) h ≡ 0
 at-zeros zero h = refl
@@ -37,7 +37,7 @@ positive-sum f {r} (x ∷ xs) h c = go (f x) refl (positive-sum f xs h)
     go zero e i = or-right (r x) (any r xs) (i (omega arith))
     go (suc n) e i = or-left (r x) (any r xs) (h x (omega arith))
 
-module _ {p : Problem} (ok : Settled p) where
+module _ {p : Problem} (ok : HasStart p) where
   zero-coefficients : coefficients p p.start ≡ replicate (numIndices p.grid) 0
   zero-coefficients =
       let g = p .grid in

@@ -41,7 +41,7 @@ use Rattle.path_laws.proofs.ChainEnds.{complete-to, complete-of, comple
 use Rattle.path_laws.proofs.ChainEnds.{end-complete}
 use Rattle.path_laws.proofs.ChainEnds.{end-labels}
 use Rattle.path_laws.proofs.Ways.{IsWay, byPlace, byFacet, byLink, exactly-one, exactly-two}
-use Rattle.path_laws.specs.Demand.{Accepted, Settled, TwoWays, NoGap, Demand3, IsPath, Follows, placeAt}
+use Rattle.path_laws.specs.Demand.{Accepted, HasStart, TwoWays, NoGap, Demand3, IsPath, Follows, placeAt}
 use Rattle.path_laws.specs.Demand.{leftAt}
 
 abbrev atPlace : Simplex → ℕ → Way
@@ -70,7 +70,7 @@ pub in-facets : (s : Simplex) → 1 < length s → (i : ℕ) → i < length s
 in-facets s l i m = rw (lt-ltb 1 (length s) l) (at-oneLess s i m)
 
 -- a place of two or more points
-module _ {p : Problem} (ok : Settled p) (s : Simplex) (h : isPlace p s ≡ true) (own : allLabelled p s ≡ true) {n : ℕ}
+module _ {p : Problem} (ok : HasStart p) (s : Simplex) (h : isPlace p s ≡ true) (own : allLabelled p s ≡ true) {n : ℕ}
     {o : ℕ → ℕ} (long : length s ≡ suc (suc n))
     (A : LabelledChain (blocksOf p) (labelOf p) (inT p s) (suc n) o (coefficientsOf p s)) where
   abbrev labelAt : ℕ → ℕ
@@ -213,7 +213,7 @@ module _ {p : Problem} (ok : Settled p) (s : Simplex) (h : isPlace p s ≡ true)
           (λ Y. inr (up-one X Y Z.2))
           (cover k))
 
-module _ {p : Problem} (ok : Settled p) where
+module _ {p : Problem} (ok : HasStart p) where
   abbrev v : Simplex
   v = p .start ∷ []
 

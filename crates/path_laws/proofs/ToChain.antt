@@ -35,7 +35,7 @@ use Rattle.path_laws.proofs.BlocksOfGrid.{blocksOf, pointOf, coefficien
 use Rattle.path_laws.proofs.BlocksOfGrid.{hasZeros}
 use Rattle.path_laws.proofs.BlocksOfGrid.{coord-in, coord-out, coefficientOf-is, point-grid, coefficientOf-point}
 use Rattle.path_laws.proofs.BlocksOfGrid.{point-coefficientOf, outside-before, back-below}
-use Rattle.path_laws.specs.Demand.{Settled}
+use Rattle.path_laws.specs.Demand.{HasStart}
 
 abbrev pub inT : Problem → Simplex → ℕ → Bool
 inT p s k = isIn eqb k (setT p s)
@@ -99,7 +99,7 @@ free-index p t u every t-below u-below i =
     ))
     (before-or-not i (numIndices g))
 
-module _ {p : Problem} (ok : Settled p) where
+module _ {p : Problem} (ok : HasStart p) where
   pub size-positive : (j : ℕ) → j < numBlocks p.grid → 0 < size p.grid j
   size-positive j l = let w : 2 ≤ size p.grid j = leb-true 2 _ (at-all _ p.grid.sizes j ok.sizes l) in omega arith
 

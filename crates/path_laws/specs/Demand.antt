@@ -19,7 +19,7 @@ use Rattle.place.specs.Places.{Simplex, isPlace, allLabelled, unlabelled}
 use Rattle.place.specs.Problem.{Problem, withLabels}
 
 -- questions 1 to 5 are answered yes: those about the grid and the start
-pub record Settled (p : Problem) : Type 0 where
+pub record HasStart (p : Problem) : Type 0 where
   pub someBlock : 1 ≤ numBlocks (p .grid)
   pub sixBlocks : numBlocks (p .grid) ≤ 6
   pub sizes : all (λ s. leb 2 s) (p .grid .sizes) ≡ true
@@ -32,7 +32,7 @@ pub record Settled (p : Problem) : Type 0 where
 -- "A table is accepted if .. a run's questions 1 to 8 are answered yes"; 8 is about the answer buffer only and is not
 -- needed here
 pub record Accepted (p : Problem) : Type 0 where
-  pub settled : Settled p
+  pub settled : HasStart p
   pub tableLength : length (p .labels) ≡ numPoints (p .grid)
   pub labels : all (λ l. leb l (numIndices (p .grid))) (p .labels) ≡ true
 

@@ -46,9 +46,10 @@ use Rattle.rules.specs.Step.{After, Round, State, mark, goes, endsAtPlace, ends
 use Rattle.moves.specs.declared.Outcome.{Outcome}
 use Rattle.moves.specs.declared.Outcome.the-variants.{Moved, PlaceEnd, FacetEnd}
 use Rattle.moves.specs.declared.Status.{Status}
-use Rattle.marks.specs.Reading.{readingOf, tableOf, CanRead, HasMarks}
+use Rattle.marks.specs.Reading.{labelReading, tableProblem, CanReadPoint, HasMarks}
 use Rattle.marks.specs.declared.Reading.the-variants.{Marked, Unknown as UnknownLabel}
-use Rattle.path_walk.specs.Finish.{Announced, CanVisit, Gives, IsBegun, IsKnown, IsUnknown, labelsAt, problemIn}
+use Rattle.path_walk.specs.Finish.{Announced, CanVisit, GivesVisited, IsBegun, IsKnown, IsUnknown, labelsAt}
+use Rattle.path_walk.specs.Finish.{problemIn}
 use Rattle.path_walk.specs.Finish.{visitOf}
 
 -- the ways round the blocks that a made grid keeps
@@ -85,14 +86,15 @@ read-some p round first coefficients order marks s m r R e = rw (
 
 -- a mark is that of a label that is known, and else the label is 0
 module _ (p : Problem) (y : Point) where
-  pub marked-known : {m : ℕ} → readingOf p y ≡ Marked m → (0 < label p y) × (m ≡ markOf p y)
+  pub marked-known : {m : ℕ} → labelReading p y ≡ Marked m → (0 < label p y) × (m ≡ markOf p y)
   marked-known {m} e = ⊎-elim
       (λ (z : label p y ≡ 0).
       absurd (let f = rw (eq-eqb (label p y) 0 z) at e in let w : _≡_ {A = ℕ} 0 1 = cc in omega arith))
       (λ n. let f = rw (ne-eqb (label p y) 0 n) at e in (omega (arith, n), cc))
       (same-or (label p y) 0)
 
-  pub unknown-zero : {place : ℕ} → readingOf p y ≡ UnknownLabel place → (label p y ≡ 0) × (place ≡ position (p .grid) y)
+  pub unknown-zero : {place : ℕ} → labelReading p y ≡ UnknownLabel place → (label p y ≡ 0)
+      × (place ≡ position (p .grid) y)
   unknown-zero {place} e = ⊎-elim
       (λ (z : label p y ≡ 0). let f = rw (eq-eqb (label p y) 0 z) at e in (z, cc))
       (λ n. absurd (let f = rw (ne-eqb (label p y) 0 n) at e in let w : _≡_ {A = ℕ} 0 1 = cc in omega arith))
@@ -100,7 +102,7 @@ module _ (p : Problem) (y : Point) where
 
 -- what a move gives, a place of the walk gives
 pub gives : (p : Problem) (a : State) (made : Outcome → Type 0) (o : Outcome) → IsKnown p a → made o
-    → Gives p a made (visitOf o)
+    → GivesVisited p a made (visitOf o)
 gives p a made (Moved s) k m = (k, m)
 gives p a made (PlaceEnd h) k m = (k, m)
 gives p a made (FacetEnd h) k m = (k, m)
@@ -113,7 +115,7 @@ module _ (g : GridStruct) (previous next sizes first coefficients order marks : 
   abbrev back : State
   back = stateOf (roundOf previous [] sizes) first coefficients order marks s
 
-  pub read-back : CanRead g a → CanRead g back
+  pub read-back : CanReadPoint g a → CanReadPoint g back
   read-back R = record { below = R .below; firstLength = R .firstLength; point = R .point; onGrid = R .onGrid }
 
   falling-back : (tails : List ℕ) (j lag : ℕ) → Falling (shape g) tails a j lag → Falling (shape g) tails back j lag
@@ -221,15 +223,15 @@ module _ (g : GridStruct) (made : IsMade g) (start table : List ℕ) (ok : Accep
   A = here .0
 
   -- a label that is known is the filled table's, and no label depends on the start
-  same-read : IsKnown (tableOf g table) s → read (tableOf g table) s ≡ read (filledTable p) s
+  same-read : IsKnown (tableProblem g table) s → read (tableProblem g table) s ≡ read (filledTable p) s
   unfolding read label
   same-read known = ⊎-elim
       (λ (r : s .rule < 6). rw (lt-ltb (s .rule) 6 r, same-mark (known r)))
       (λ (r : 6 ≤ s .rule). rw (le-ltb (s .rule) 6 r))
       (before-or-not (s .rule) 6)
     where
-      same-mark : 0 < label (tableOf g table) (pointIn p s (s .active))
-          → markOf (tableOf g table) (pointIn p s (s .active)) ≡ markOf (filledTable p) (pointIn p s (s .active))
+      same-mark : 0 < label (tableProblem g table) (pointIn p s (s .active))
+          → markOf (tableProblem g table) (pointIn p s (s .active)) ≡ markOf (filledTable p) (pointIn p s (s .active))
       same-mark l = ap
           (λ (x : ℕ). mark (position (shape g) (pointIn p s (s .active))) x)
           (sym (filled-label ok (pointIn p s (s .active)) l))
@@ -254,7 +256,7 @@ module _ (g : GridStruct) (made : IsMade g) (start table : List ℕ) (ok : Accep
   }
 
   -- each point of the place has a label: the one that has come in, and the others, which are points of the place before
-  own : IsKnown (tableOf g table) s → allLabelled p (placeAt (path (filledTable p) .visited) k) ≡ true
+  own : IsKnown (tableProblem g table) s → allLabelled p (placeAt (path (filledTable p) .visited) k) ≡ true
   unfolding label
   own known = rw (at-place full A) (in-all onPoints (hasLabel p) (pointsFrom (filledTable p) s 0) each)
     where
@@ -264,7 +266,7 @@ module _ (g : GridStruct) (made : IsMade g) (start table : List ℕ) (ok : Accep
           all-in onPoints (hasLabel p) (placeAt (path (filledTable p) .visited) w.0)
           (known-before ok w.0 (omega (arith, w .1, here .1))) (pointIn p s j) w.2
 
-      came-in : 0 < label (tableOf g table) (pointIn p s (s .active)) → hasLabel p (pointIn p s (s .active)) ≡ true
+      came-in : 0 < label (tableProblem g table) (pointIn p s (s .active)) → hasLabel p (pointIn p s (s .active)) ≡ true
       came-in l = label-ok ok (pointIn p s (s .active)) (at-reads full A .1) l
 
       labelled : (j : ℕ) → j ≤ length (s .order) → hasLabel p (pointIn p s j) ≡ true
@@ -281,8 +283,8 @@ module _ (g : GridStruct) (made : IsMade g) (start table : List ℕ) (ok : Accep
           let w = map-in onNumbers onPoints (pointIn p s) z (upFrom 0 (suc (length (s .order)) - 0)) m in
           rw (w .2) (labelled (w .0) (omega (arith, upFrom-in 0 (suc (length (s .order)) - 0) (w .0) (w .1) .1)))
 
-  module _ (known : IsKnown (tableOf g table) s) where
-    pub leads : (after : After) → after ≡ step (read (tableOf g table) s) → NextAt (filledTable p) k after
+  module _ (known : IsKnown (tableProblem g table) s) where
+    pub leads : (after : After) → after ≡ step (read (tableProblem g table) s) → NextAt (filledTable p) k after
     leads after moved = subst (NextAt (filledTable p) k) (sym (moved ∙ ap step (same-read known))) (at-next full A)
 
     pub goes-on : {e : State} → NextAt (filledTable p) k (goes e) → OnPath p e (suc k)
@@ -321,7 +323,7 @@ module _ (g : GridStruct) (made : IsMade g) (start table : List ℕ) (ok : Accep
       announced-facet (facetEnds E) = announced facetEnd 1 E
 
   -- where the label is not known, it is asked for
-  pub asked : {place : ℕ} → IsUnknown (tableOf g table) s place → (budget : ℕ) → k < budget
+  pub asked : {place : ℕ} → IsUnknown (tableProblem g table) s place → (budget : ℕ) → k < budget
       → answer p budget ≡ unknown k place
   unfolding label
   asked U budget l =

@@ -23,7 +23,7 @@ use Rattle.moves.specs.declared.Outcome.{Outcome}
 use Rattle.moves.specs.declared.Outcome.the-variants.{Moved as OutcomeMoved, PlaceEnd as OutcomePlaceEnd}
 use Rattle.moves.specs.declared.Outcome.the-variants.{FacetEnd as OutcomeFacetEnd}
 use Rattle.moves.specs.declared.Status.{Status}
-use Rattle.marks.specs.Reading.{problemFrom, tableOf, CanRead, HasMarks, Readable}
+use Rattle.marks.specs.Reading.{problemFrom, tableProblem, CanReadPoint, HasMarks, Readable}
 use Rattle.path_walk.specs.declared.Finish.{Finish}
 use Rattle.path_walk.specs.declared.Finish.the-variants.{Ended, Spent, Unknown as UnknownLabel}
 use Rattle.path_walk.specs.declared.Visited.{Visited}
@@ -54,16 +54,16 @@ pub record IsUnknown (p : Problem) (a : State) (place : ℕ) : Type 0 where
 -- what one place of the walk asks
 pub record CanVisit (g : GridStruct) (tails table : List ℕ) (a : State) : Type 0 where
   pub below : RoundBelow (a .round)
-  pub reads : a .rule < 6 → CanRead g a
+  pub reads : a .rule < 6 → CanReadPoint g a
   pub marks : a .rule < 6 → HasMarks g tails a
-  pub ready : IsKnown (tableOf g table) a → Ready (read (tableOf g table) a)
+  pub ready : IsKnown (tableProblem g table) a → Ready (read (tableProblem g table) a)
 
 -- what it leads to, where `made` says what a move gives
-abbrev pub Gives : Problem → State → (Outcome → Type 0) → Visited → Type 0
-Gives p a made (Moved s) = IsKnown p a × made (OutcomeMoved s)
-Gives p a made (PlaceEnd h) = IsKnown p a × made (OutcomePlaceEnd h)
-Gives p a made (FacetEnd h) = IsKnown p a × made (OutcomeFacetEnd h)
-Gives p a made (Unknown place) = IsUnknown p a place
+abbrev pub GivesVisited : Problem → State → (Outcome → Type 0) → Visited → Type 0
+GivesVisited p a made (Moved s) = IsKnown p a × made (OutcomeMoved s)
+GivesVisited p a made (PlaceEnd h) = IsKnown p a × made (OutcomePlaceEnd h)
+GivesVisited p a made (FacetEnd h) = IsKnown p a × made (OutcomeFacetEnd h)
+GivesVisited p a made (Unknown place) = IsUnknown p a place
 
 abbrev pub visitOf : Outcome → Visited
 visitOf (OutcomeMoved s) = Moved s
@@ -84,9 +84,9 @@ pub record IsBegun (first : List ℕ) (m : ℕ) (s : Status) : Type 0 where
   pub zeros : (k : ℕ) → k < 16 → bit (s .u) k ≡ (ltb k m && eqb (at first k) 0)
 
 -- the number of the first point of the complete simplex
-abbrev pub firstOf : Kind → ℕ
-firstOf placeEnd = 0
-firstOf facetEnd = 1
+abbrev pub firstPointOf : Kind → ℕ
+firstPointOf placeEnd = 0
+firstPointOf facetEnd = 1
 
 -- the state e stands at an end, which is the answer: `places` places, an end of the kind given for the block of h, and
 -- as simplex the points of e from number `from` on; `labels` labels were read
@@ -103,7 +103,7 @@ pub record Announced (p : Problem) (budget : ℕ) (kind : Kind) (from : ℕ) (e 
 -- where a walk of at most `budget` places ends, with the first point and the order at the last place in its arrays
 abbrev pub Finished : Problem → ℕ → Round → List ℕ → List ℕ → Finish → Type 0
 Finished p budget round first order (Ended kind places h s labels) =
-    Announced p budget kind (firstOf kind) (stateOf round first [] order [] s) h places labels
+    Announced p budget kind (firstPointOf kind) (stateOf round first [] order [] s) h places labels
     × (length order ≡ 16)
 Finished p budget round first order (UnknownLabel places place) = answer p budget ≡ unknown places place
 Finished p budget round first order Spent = answer p budget ≡ spent budget

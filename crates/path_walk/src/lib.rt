@@ -3,12 +3,12 @@
 ghost use mathlib.Core.Path.{_≡_};
 ghost use Prim.Native.Nat.{_≤_};
 ghost use Rattle.arrays.specs.Rounds.{round};
-ghost use Rattle.marks.specs.Reading.{Readable, tableOf};
+ghost use Rattle.marks.specs.Reading.{Readable, tableProblem};
 ghost use Rattle.moves.specs.Held.{GivesAll, held};
 ghost use Rattle.rules.specs.Read.{read};
 ghost use Rattle.rules.specs.Ready.{SixteenEach};
 ghost use Rattle.rules.specs.Step.{Round, State, step as stepOf};
-ghost use Rattle.path_walk.specs.Finish.{CanVisit, CanWalk, Finished, Gives, IsBegun, labelsAt, problemIn};
+ghost use Rattle.path_walk.specs.Finish.{CanVisit, CanWalk, Finished, GivesVisited, IsBegun, labelsAt, problemIn};
 ghost use Rattle.path_walk.specs.Finish.{visitOf};
 use arrays::zeros;
 use end_kinds::Kind;
@@ -76,8 +76,8 @@ fn visit(
     requires { λ a. ⌜ held (round previous next sizes) first coefficients order marks s ≡ a ⌝ }
     requires { λ _. ⌜ Readable g (now binomials) (now table) × SixteenEach (now order) (now marks) ⌝ }
     requires { λ a. ⌜ CanVisit g (now tails) (now table) a ⌝ }
-    ensures { λ a r. let p = tableOf g (now (table .entry)) in
-        ⌜ Gives p a (λ o. GivesAll a first coefficients order marks s o (stepOf (read p a))) r ⌝ }
+    ensures { λ a r. let p = tableProblem g (now (table .entry)) in
+        ⌜ GivesVisited p a (λ o. GivesAll a first coefficients order marks s o (stepOf (read p a))) r ⌝ }
 {
     if s.rule < 6 {
         let i = s.active;

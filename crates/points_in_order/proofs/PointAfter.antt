@@ -22,20 +22,20 @@ use Rattle.grid.specs.Grid.{Grid, Point, blockPoints, productPoints, points, nu
 use Rattle.points_in_order.proofs.Blocks.{ofBlock, block-part, block-sum, block-length, division-few}
 use Rattle.grid.specs.Build.{lent}
 use Rattle.points_in_order.specs.Lent.{PointWithFirsts}
-use Rattle.points_in_order.specs.PointAfter.{Step, step, after, afterAll, firstPoint, LastPositive}
+use Rattle.points_in_order.specs.PointAfter.{Step, pointStep, after, afterAll, firstPoint, LastPositive}
 
 abbrev zeros : ℕ → List ℕ
 zeros n = replicate n 0
 
-after-last : (n v : ℕ) → after (v ∷ zeros n) ≡ step false (zeros n ++ (v ∷ []))
+after-last : (n v : ℕ) → after (v ∷ zeros n) ≡ pointStep false (zeros n ++ (v ∷ []))
 after-last zero v = refl
 after-last (suc n) v = rw (after-last n 0, length-replicate {A = ℕ} n 0)
 
-pub after-moves : (n a v : ℕ) → after (a ∷ suc v ∷ zeros n) ≡ step true (suc a ∷ (zeros n ++ (v ∷ [])))
+pub after-moves : (n a v : ℕ) → after (a ∷ suc v ∷ zeros n) ≡ pointStep true (suc a ∷ (zeros n ++ (v ∷ [])))
 after-moves n a v = rw (after-last n (suc v), length-replicate {A = ℕ} n 0)
 
 abbrev NextBlock : ℕ → List ℕ → List ℕ → Type 0
-NextBlock s x y = (length x ≡ s) × (after x ≡ step true y)
+NextBlock s x y = (length x ≡ s) × (after x ≡ pointStep true y)
 
 abbrev group : ℕ → ℕ → ℕ → List Point
 group s d k = map (λ l. k ∷ l) (blockPoints s (d - k))
@@ -73,18 +73,18 @@ lastPoint (s ∷ ss) [] = []
 lastPoint (s ∷ ss) (d ∷ ds) = (d ∷ zeros (pred s)) ++ lastPoint ss ds
 
 abbrev Next : List ℕ → Point → Point → Type 0
-Next ss x y = afterAll ss x ≡ step true y
+Next ss x y = afterAll ss x ≡ pointStep true y
 
 module _ (s : ℕ) (ss : List ℕ) where
   later-moves : (a x y : Point) → length a ≡ s → Next ss x y → Next (s ∷ ss) (a ++ x) (a ++ y)
   later-moves a x y e n = rw (take-at a x s e, drop-at a x s e, n)
 
-  own-moves : (a b x : Point) (moved : Bool) → length a ≡ s → after a ≡ step moved b → (y : Point)
-      → afterAll ss x ≡ step false y
-      → afterAll (s ∷ ss) (a ++ x) ≡ step moved (b ++ y)
+  own-moves : (a b x : Point) (moved : Bool) → length a ≡ s → after a ≡ pointStep moved b → (y : Point)
+      → afterAll ss x ≡ pointStep false y
+      → afterAll (s ∷ ss) (a ++ x) ≡ pointStep moved (b ++ y)
   own-moves a b x moved e n y f = rw (take-at a x s e, drop-at a x s e, f, n)
 
-  product-run : {p q : Point} {ps : List Point} → Run (Next ss) p ps q → afterAll ss q ≡ step false p
+  product-run : {p q : Point} {ps : List Point} → Run (Next ss) p ps q → afterAll ss q ≡ pointStep false p
       → {a b : Point} {bs : List Point} → length b ≡ s → Run (NextBlock s) a bs b
       → Run (Next (s ∷ ss)) (a ++ p) (concatMap (λ a. map (λ l. a ++ l) ps) bs) (b ++ q)
   product-run r w e (one {x}) =
@@ -95,7 +95,7 @@ module _ (s : ℕ) (ss : List ℕ) where
 
 all-run : (ss ds : List ℕ) → all (λ s. leb 2 s) ss ≡ true → length ds ≡ length ss
     → Run (Next ss) (firstPoint ss ds) (productPoints ss ds) (lastPoint ss ds)
-    × (afterAll ss (lastPoint ss ds) ≡ step false (firstPoint ss ds))
+    × (afterAll ss (lastPoint ss ds) ≡ pointStep false (firstPoint ss ds))
 all-run [] ds h e = (one, refl)
 all-run (s ∷ ss) [] h e = absurd (omega arith)
 all-run (s ∷ ss) (d ∷ ds) h e =
@@ -117,7 +117,7 @@ module _ (g : Grid) (sized : all (λ s. leb 2 s) (g .sizes) ≡ true) (as-many :
 
   -- from the k-th point to the next
   pub point-after : (k : ℕ) → suc k < numPoints g
-      → afterAll (g .sizes) (getD (points g) k []) ≡ step true (getD (points g) (suc k) [])
+      → afterAll (g .sizes) (getD (points g) k []) ≡ pointStep true (getD (points g) (suc k) [])
   unfolding points
   point-after k h = run-at (Next (g .sizes)) [] (all-run (g .sizes) (g .divisions) sized as-many .0) k h
 
@@ -127,15 +127,15 @@ set-last zero v = refl
 set-last (suc n) v = ap (λ (l : List ℕ). 0 ∷ l) (set-last n v)
 
 wraps : (last : ℕ) (b : List ℕ) → suc last ≡ length b → drop 1 b ≡ zeros last
-    → after b ≡ step false (set (set b 0 0) last (getD b 0 0))
+    → after b ≡ pointStep false (set (set b 0 0) last (getD b 0 0))
 wraps last [] e z = absurd (omega arith)
 wraps last (v ∷ l) e z = subst⁻¹
-    (λ (l : List ℕ). after (v ∷ l) ≡ step false (set (0 ∷ l) last v))
-    z (after-last last v ∙ ap (step false) (sym (set-last last v)))
+    (λ (l : List ℕ). after (v ∷ l) ≡ pointStep false (set (0 ∷ l) last v))
+    z (after-last last v ∙ ap (pointStep false) (sym (set-last last v)))
 
 pub moves : (i last : ℕ) (b : List ℕ) → suc last ≡ length b → suc i ≤ last → 0 < getD b (suc i) 0
     → drop (suc (suc i)) b ≡ zeros (last - suc i)
-    → after b ≡ step true (set (set (set b (suc i) 0) i (getD b i 0 + 1)) last (getD b (suc i) 0 - 1))
+    → after b ≡ pointStep true (set (set (set b (suc i) 0) i (getD b i 0 + 1)) last (getD b (suc i) 0 - 1))
 moves i last [] e h p z = absurd (omega arith)
 moves i zero (a ∷ b) e h p z = absurd (omega arith)
 moves zero (suc last) (a ∷ []) e h p z = absurd (omega arith)
@@ -144,8 +144,8 @@ moves zero (suc last) (a ∷ suc v ∷ l) e h p z =
     let y : suc last - 1 ≡ last = omega arith in
     let w : suc v - 1 ≡ v = omega arith in
     rw (add-one, w)
-    (subst⁻¹ (λ (l : List ℕ). after (a ∷ suc v ∷ l) ≡ step true (suc a ∷ set (0 ∷ l) last v)) (rw y at z)
-    (after-moves last a v ∙ ap (λ (l : List ℕ). step true (suc a ∷ l)) (sym (set-last last v))))
+    (subst⁻¹ (λ (l : List ℕ). after (a ∷ suc v ∷ l) ≡ pointStep true (suc a ∷ set (0 ∷ l) last v)) (rw y at z)
+    (after-moves last a v ∙ ap (λ (l : List ℕ). pointStep true (suc a ∷ l)) (sym (set-last last v))))
 moves (suc i) (suc last) (a ∷ b) e h p z =
     let y : suc last - suc (suc i) ≡ last - suc i = omega arith in
     rw (moves i last b (omega arith) (omega arith) p (rw y at z))
@@ -167,16 +167,16 @@ zeros-turn b i p h z l =
 
 -- what the stores of a move make of a block, by the last positive place
 pub block-wraps : (b : List ℕ) (i : ℕ) → LastPositive b i → i ≡ 0
-    → after b ≡ step false (set (set b i 0) (length b - 1) (getD b i 0))
+    → after b ≡ pointStep false (set (set b i 0) (length b - 1) (getD b i 0))
 block-wraps b i p e = subst⁻¹
-    (λ (n : ℕ). after b ≡ step false (set (set b n 0) (length b - 1) (getD b n 0)))
+    (λ (n : ℕ). after b ≡ pointStep false (set (set b n 0) (length b - 1) (getD b n 0)))
     e
     (wraps (length b - 1) b (omega (arith, p .inside))
     (subst (λ (n : ℕ). drop (suc n) b ≡ zeros (length b - suc n)) e (p .behind)))
 
 pub block-moves : (b : List ℕ) (i : ℕ) → LastPositive b i → (i ≡ 0 → ⊥)
     → after b
-    ≡ step true (set (set (set b i 0) (i - 1) (getD (set b i 0) (i - 1) 0 + 1)) (length b - 1) (getD b i 0 - 1))
+    ≡ pointStep true (set (set (set b i 0) (i - 1) (getD (set b i 0) (i - 1) 0 + 1)) (length b - 1) (getD b i 0 - 1))
 block-moves b zero p h = absurd (h refl)
 block-moves b (suc i) p h =
     let z : suc i - 1 ≡ i = omega arith in
@@ -203,7 +203,7 @@ room-before b (suc i) n p h s =
 -- the blocks from block j on have moved or begun again, those before stand as they were
 pub record Passed (ss y : List ℕ) (j : ℕ) (moved : Bool) (now : List ℕ) : Type 0 where
   pub before : take (sum (take j ss)) now ≡ take (sum (take j ss)) y
-  pub behind : afterAll (drop j ss) (drop (sum (take j ss)) y) ≡ step moved (drop (sum (take j ss)) now)
+  pub behind : afterAll (drop j ss) (drop (sum (take j ss)) y) ≡ pointStep moved (drop (sum (take j ss)) now)
 
 part-swap : (f s : ℕ) (l : List ℕ) → take s (drop f l) ≡ drop f (take (f + s) l)
 part-swap zero s l = let z : 0 + s ≡ s = omega arith in rw z
@@ -211,8 +211,8 @@ part-swap (suc f) s [] = rw (take-nil {A = ℕ} s, take-nil {A = ℕ} (suc f + s
 part-swap (suc f) s (x ∷ l) = let z : suc f + s ≡ suc (f + s) = omega arith in rw z (part-swap f s l)
 
 -- a move behind the first k blocks is a move of all
-lift : (k : ℕ) (ss y l : List ℕ) → afterAll (drop k ss) (drop (sum (take k ss)) y) ≡ step true l
-    → afterAll ss y ≡ step true (take (sum (take k ss)) y ++ l)
+lift : (k : ℕ) (ss y l : List ℕ) → afterAll (drop k ss) (drop (sum (take k ss)) y) ≡ pointStep true l
+    → afterAll ss y ≡ pointStep true (take (sum (take k ss)) y ++ l)
 lift zero ss y l e = e
 lift (suc k) [] y l e = absurd-bool (sym (ap (λ (t : Step). t .moved) e))
 lift (suc k) (s ∷ ss) y l e =
@@ -237,14 +237,14 @@ module _ (ss y : List ℕ) where
         ∙ sym (part-swap (sum (take k ss)) (getD ss k 0) y)
 
     pub passed-turn : (b : List ℕ) (moved : Bool) → sum (take k ss) + getD ss k 0 ≤ length now
-        → after (take (getD ss k 0) (drop (sum (take k ss)) now)) ≡ step moved b
+        → after (take (getD ss k 0) (drop (sum (take k ss)) now)) ≡ pointStep moved b
         → Passed ss y k moved (take (sum (take k ss)) now ++ (b ++ drop (sum (take k ss) + getD ss k 0) now))
     passed-turn b moved room a =
         let f : ℕ = sum (take k ss) in
         let s : ℕ = getD ss k 0 in
         let n : length (take f now) ≡ f = length-take-le f now (omega arith) in
-        let own : after (take s (drop f y)) ≡ step moved b = rw (← passed-part) a in
-        let later : afterAll (drop (suc k) ss) (drop (f + s) y) ≡ step false (drop (f + s) now) =
+        let own : after (take s (drop f y)) ≡ pointStep moved b = rw (← passed-part) a in
+        let later : afterAll (drop (suc k) ss) (drop (f + s) y) ≡ pointStep false (drop (f + s) now) =
         rw next-first at (p .behind) in
         record {
           before = take-at (take f now) (b ++ drop (f + s) now) f n
@@ -252,7 +252,7 @@ module _ (ss y : List ℕ) where
               ∙ ap (λ (l : List ℕ). take f l) stand
               ∙ take-take f (f + s) y (omega arith);
           behind = rw (drop-cons ss k 0 h, drop-drop s f y, later, own)
-              (ap (step moved) (sym (drop-at (take f now) (b ++ drop (f + s) now) f n)));
+              (ap (pointStep moved) (sym (drop-at (take f now) (b ++ drop (f + s) now) f n)));
         }
 
     -- the part that is lent-block for block k
@@ -261,7 +261,7 @@ module _ (ss y : List ℕ) where
       lent-block = let z : first + s - first ≡ s = omega arith in rw (z, e, f)
 
       pub lent-turn : (b : List ℕ) (moved : Bool) → sum (take k ss) + getD ss k 0 ≤ length now
-          → after (take (first + s - first) (drop first now)) ≡ step moved b
+          → after (take (first + s - first) (drop first now)) ≡ pointStep moved b
           → Passed ss y k moved (take first now ++ (b ++ drop (first + s - first) (drop first now)))
       lent-turn b moved room a =
           let z : first + s - first ≡ s = omega arith in

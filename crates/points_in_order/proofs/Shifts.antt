@@ -18,17 +18,17 @@ use Rattle.points_in_order.proofs.Blocks.{point-length}
 use Rattle.points_in_order.proofs.InOrder.{next-point, point-at}
 use Rattle.points_in_order.proofs.PointAfter.{after-moves}
 use Rattle.points_in_order.specs.Lent.{WithFirsts}
-use Rattle.points_in_order.specs.PointAfter.{step, after, afterAll}
-use Rattle.points_in_order.specs.Shifted.{lastButOne, lastOne, shifted}
+use Rattle.points_in_order.specs.PointAfter.{pointStep, after, afterAll}
+use Rattle.points_in_order.specs.Shifted.{lastButOne, lastOne, endShifted}
 
 -- in a block
-after-tail : (xs : List ℕ) (a b : ℕ) → after (xs ++ (a ∷ suc b ∷ [])) ≡ step true (xs ++ (suc a ∷ b ∷ []))
+after-tail : (xs : List ℕ) (a b : ℕ) → after (xs ++ (a ∷ suc b ∷ [])) ≡ pointStep true (xs ++ (suc a ∷ b ∷ []))
 after-tail [] a b = after-moves 0 a b
 after-tail (x ∷ xs) a b = rw (after-tail xs a b)
 
 -- in the last of several blocks
 all-tail : (ss pre : List ℕ) (a b : ℕ) → 0 < length ss → all (λ s. leb 2 s) ss ≡ true → length pre + 2 ≡ sum ss
-    → afterAll ss (pre ++ (a ∷ suc b ∷ [])) ≡ step true (pre ++ (suc a ∷ b ∷ []))
+    → afterAll ss (pre ++ (a ∷ suc b ∷ [])) ≡ pointStep true (pre ++ (suc a ∷ b ∷ []))
 all-tail [] pre a b some two e = absurd (omega arith)
 all-tail (s ∷ []) pre a b some two e =
     let y = pre ++ (a ∷ suc b ∷ []) in
@@ -70,13 +70,13 @@ module _ (y : Point) (long : 2 ≤ length y) where
       let tail : drop n y ≡ lastButOne y ∷ lastOne y ∷ [] = drop-cons y n 0 (omega arith) ∙ rw last in
       rw (← tail) (take-append-drop n y)
 
-  pub shifted-none : shifted y 0 ≡ y
+  pub shifted-none : endShifted y 0 ≡ y
   shifted-none =
       let z : lastButOne y + 0 ≡ lastButOne y = omega arith in
       let m : lastOne y - 0 ≡ lastOne y = omega arith in
       rw (z, m) by-last-two
 
-  pub shifted-stores : (by : ℕ) → set (set y n (lastButOne y + by)) (length y - 1) (lastOne y - by) ≡ shifted y by
+  pub shifted-stores : (by : ℕ) → set (set y n (lastButOne y + by)) (length y - 1) (lastOne y - by) ≡ endShifted y by
   shifted-stores by =
       let front : length (take n y) ≡ n = length-take-le n y (omega arith) in
       stores y (take n y) (lastButOne y) (lastOne y) (lastButOne y + by) (lastOne y - by) n (length y - 1)
@@ -94,7 +94,7 @@ module _ (g : Grid) (firsts : List ℕ) (l : WithFirsts g firsts) (k : ℕ) (y :
       let two = size-two g is-accepted 0 (is-accepted .someBlock) .0 in
       omega (arith, point-length g is-accepted y (on .isPoint), block-fits (g .sizes) 0)
 
-  pub shifted-points : (i : ℕ) → k + i < numPoints g → i ≤ lastOne y → getD (points g) (k + i) [] ≡ shifted y i
+  pub shifted-points : (i : ℕ) → k + i < numPoints g → i ≤ lastOne y → getD (points g) (k + i) [] ≡ endShifted y i
   shifted-points zero h b =
       let z : k + 0 ≡ k = omega arith in
       rw (z, ← here) (sym (shifted-none y (two-numbers (omega arith))))
@@ -110,5 +110,5 @@ module _ (g : Grid) (firsts : List ℕ) (l : WithFirsts g firsts) (k : ℕ) (y :
       let last : lastOne y - i ≡ suc (lastOne y - suc i) = omega arith in
       let more : suc (lastButOne y + i) ≡ lastButOne y + suc i = omega arith in
       let before = shifted-points i (omega arith) (omega arith) in
-      let next = next-point g firsts l (k + i) (omega arith) (shifted y i) (sym before) in
+      let next = next-point g firsts l (k + i) (omega arith) (endShifted y i) (sym before) in
       rw (e, ← next, last, moved, more)

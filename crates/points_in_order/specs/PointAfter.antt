@@ -11,27 +11,27 @@ pub record Step : Type 0 where
   pub moved : Bool
   pub list : List ℕ
 
-abbrev pub step : Bool → List ℕ → Step
-step moved list = record { moved = moved; list = list }
+abbrev pub pointStep : Bool → List ℕ → Step
+pointStep moved list = record { moved = moved; list = list }
 
 -- the numbers behind a are the last list of their sum: a takes 1 from them, and the rest goes to the last place
 abbrev pub carry : ℕ → List ℕ → Step
-carry a [] = step false (a ∷ [])
-carry a (zero ∷ l) = step false (replicate (suc (length l)) 0 ++ (a ∷ []))
-carry a (suc v ∷ l) = step true (suc a ∷ (replicate (length l) 0 ++ (v ∷ [])))
+carry a [] = pointStep false (a ∷ [])
+carry a (zero ∷ l) = pointStep false (replicate (suc (length l)) 0 ++ (a ∷ []))
+carry a (suc v ∷ l) = pointStep true (suc a ∷ (replicate (length l) 0 ++ (v ∷ [])))
 
 -- the list of a block after this one
 abbrev pub after : List ℕ → Step
-after [] = step false []
-after (a ∷ l) = let later = after l in cond (later .moved) (step true (a ∷ later .list)) (carry a l)
+after [] = pointStep false []
+after (a ∷ l) = let later = after l in cond (later .moved) (pointStep true (a ∷ later .list)) (carry a l)
 
 -- the list of all blocks, given their sizes, after this one
 abbrev pub afterAll : List ℕ → List ℕ → Step
-afterAll [] y = step false y
+afterAll [] y = pointStep false y
 afterAll (s ∷ ss) y =
     let later = afterAll ss (drop s y) in
     let own = after (take s y) in
-    cond (later .moved) (step true (take s y ++ later .list)) (step (own .moved) (own .list ++ later .list))
+    cond (later .moved) (pointStep true (take s y ++ later .list)) (pointStep (own .moved) (own .list ++ later .list))
 
 -- the coordinates before those of block j
 abbrev pub beforeBlock : List ℕ → ℕ → List ℕ → List ℕ

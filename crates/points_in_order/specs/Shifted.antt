@@ -12,5 +12,5 @@ abbrev pub lastOne : Point → ℕ
 lastOne y = at y (length y - 1)
 
 -- the point with so much moved from the last number to the one before it
-abbrev pub shifted : Point → ℕ → Point
-shifted y by = take (length y - 2) y ++ ((lastButOne y + by) ∷ (lastOne y - by) ∷ [])
+abbrev pub endShifted : Point → ℕ → Point
+endShifted y by = take (length y - 2) y ++ ((lastButOne y + by) ∷ (lastOne y - by) ∷ [])

@@ -7,7 +7,8 @@ ghost use Rattle.combinatorics.specs.Front.{front};
 ghost use Rattle.combinatorics.specs.Lists.{sum};
 ghost use Rattle.grid.specs.Build.{lent};
 ghost use Rattle.points_in_order.specs.Lent.{WithFirsts, PointWithFirsts};
-ghost use Rattle.points_in_order.specs.PointAfter.{step, after, afterAll, beforeBlock, firstPoint, LastPositive};
+ghost use Rattle.points_in_order.specs.PointAfter.{pointStep, after, afterAll, beforeBlock, firstPoint};
+ghost use Rattle.points_in_order.specs.PointAfter.{LastPositive};
 use grid::wide;
 
 fn last_positive(block: &[u16]) -> usize
@@ -27,7 +28,7 @@ fn last_positive(block: &[u16]) -> usize
 // The block's list becomes the one after it: true. The last becomes the first: false.
 fn advance_block(block: &mut [u16]) -> bool
     requires { ⌜ (0 < length (now block)) × (sum (now block) < 65536) ⌝ }
-    ensures { λ r. ⌜ after (now (block .entry)) ≡ step r (now (block .exit)) ⌝ }
+    ensures { λ r. ⌜ after (now (block .entry)) ≡ pointStep r (now (block .exit)) ⌝ }
 {
     let last = block.len() - 1;
     let i = last_positive(block);

@@ -7,7 +7,7 @@ use lib.Seq.{ext-getD, getD-take, length-take-le}
 use native.Mathlib.Omega.{arith}
 use Rattle.combinatorics.specs.Lists.{upFrom}
 use Rattle.grid.specs.Grid.{at}
-use Rattle.positions.specs.Steps.{afterSteps, CanStep}
+use Rattle.positions.specs.Steps.{afterSteps, CanTakeSteps}
 
 at-map : (f : ℕ → ℕ) (b n k : ℕ) → k < n → at (map f (upFrom b n)) k ≡ f (b + k)
 at-map f b zero k l = absurd (omega arith)
@@ -41,7 +41,7 @@ module _ (y : List ℕ) (m : ℕ) (few : m ≤ 16) where
   none-at : (k : ℕ) → k < m → at y k + 16 ≡ at y k + at (replicate 16 16) k
   none-at k l = rw (getD-replicate {A = ℕ} 16 k 16 0 (omega arith))
 
-  pub none-can : CanStep m y (replicate 16 16)
+  pub none-can : CanTakeSteps m y (replicate 16 16)
   none-can k l = omega (arith, none-at k l)
 
   pub none-after : m ≤ length y → take m (afterSteps y (replicate 16 16)) ≡ take m y

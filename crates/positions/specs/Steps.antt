@@ -10,5 +10,5 @@ unfoldable pub afterSteps : List ℕ → List ℕ → List ℕ
 afterSteps y steps = map (λ k. at y k + at steps k - 16) (upFrom 0 16)
 
 -- the steps take no more from the first m coordinates than those have
-abbrev pub CanStep : ℕ → List ℕ → List ℕ → Type 0
-CanStep m y steps = (k : ℕ) → k < m → 16 ≤ at y k + at steps k
+abbrev pub CanTakeSteps : ℕ → List ℕ → List ℕ → Type 0
+CanTakeSteps m y steps = (k : ℕ) → k < m → 16 ≤ at y k + at steps k

@@ -6,7 +6,7 @@ ghost use lib.ListN.{length, take};
 ghost use Rattle.grid.specs.Grid.{isGridPoint, position as positionOf};
 ghost use Rattle.grid.specs.Made.{shape, IsMade};
 ghost use Rattle.positions.specs.Binomials.{HasBinomials};
-ghost use Rattle.positions.specs.Steps.{afterSteps, CanStep};
+ghost use Rattle.positions.specs.Steps.{afterSteps, CanTakeSteps};
 use grid::Grid;
 use grid::wide;
 use grid::wide16;
@@ -42,7 +42,7 @@ pub fn binomials(g: Grid, t: &mut [u16; ENTRIES])
 // steps.
 pub fn position(g: Grid, t: &[u16; ENTRIES], y: &[u16; 16], steps: &[u16; 16]) -> usize
     requires { ⌜ IsMade g × HasBinomials (shape g) (now t) ⌝ }
-    requires { ⌜ CanStep (g .indices) (now y) (now steps)
+    requires { ⌜ CanTakeSteps (g .indices) (now y) (now steps)
         × (isGridPoint (shape g) (take (g .indices) (afterSteps (now y) (now steps))) ≡ true) ⌝ }
     ensures { λ r. ⌜ r ≡ positionOf (shape g) (take (g .indices) (afterSteps (now (y .entry)) (now (steps .entry)))) ⌝ }
 {

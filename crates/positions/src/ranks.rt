@@ -5,7 +5,7 @@ ghost use Prim.Native.Nat.{_+_, _-_, _≤_, pred};
 ghost use Rattle.combinatorics.specs.Counting.{choose};
 ghost use Rattle.combinatorics.specs.Lists.{sum, upFrom};
 ghost use Rattle.positions.specs.Binomials.{InTable, IsBinomial, HasRows};
-ghost use Rattle.positions.specs.Steps.{afterSteps, CanStep};
+ghost use Rattle.positions.specs.Steps.{afterSteps, CanTakeSteps};
 ghost use Rattle.grid.specs.Grid.{at, blockPoints, positionIn};
 use crate::ENTRIES;
 use crate::ROW;
@@ -31,7 +31,7 @@ pub fn in_block(
     division: usize,
 ) -> usize
     requires { ⌜ (2 ≤ size) × (first + size ≤ 16) × (choose (division + pred size) (pred size) ≤ 60000) ⌝ }
-    requires { ⌜ HasRows size division (now t) × CanStep (first + size) (now y) (now steps)
+    requires { ⌜ HasRows size division (now t) × CanTakeSteps (first + size) (now y) (now steps)
         × (sum (map (at (afterSteps (now y) (now steps))) (upFrom first size)) ≡ division) ⌝ }
     ensures { λ r. ⌜ (let after = afterSteps (now (y .entry)) (now (steps .entry)) in
         r ≡ positionIn (blockPoints size division) (map (at after) (upFrom first size))) ⌝ }

@@ -7,13 +7,13 @@ use native.Mathlib.Omega.{arith}
 use Rattle.combinatorics.proofs.Fronts.{front-length, front-taken}
 use Rattle.combinatorics.proofs.Ranges.{length-upFrom}
 use Rattle.combinatorics.proofs.Turns.{map-at}
-use Rattle.combinatorics.specs.Front.{front}
+use Rattle.combinatorics.specs.Front.{front, padded}
 use Rattle.end_kinds.specs.declared.Kind.{Kind}
 use Rattle.grid.proofs.Accepted.{blocks-few}
 use Rattle.grid.proofs.Fields.{made-accepted, made-blocks, made-indices, division-range, indices-few}
 use Rattle.grid.proofs.Round.{block-spans}
 use Rattle.grid.specs.Grid.{division, blockOf, bound, numIndices, indices}
-use Rattle.grid.specs.Made.{shape, IsMade, padded}
+use Rattle.grid.specs.Made.{shape, IsMade}
 use Rattle.grid.specs.declared.Grid.{Grid as GridStruct}
 use Rattle.sheet_lines.specs.Answer.{rows, Printable}
 use Rattle.sheet_lines.specs.Sheet.{endSheet}

@@ -27,13 +27,14 @@ use Rattle.slip_fields.proofs.Runs.{answers, whole, then-runs}
 use Rattle.slip_fields.specs.Slip.{stands, numBlocksOf, slipGrid, headLength, fieldLengths, fieldLength, fieldAt}
 use Rattle.slip_fields.specs.Slip.{defaultStart}
 use Rattle.slip_fields.specs.Slip.{slipStart, slipBudget, slipLabels, labelField, slipProblem, slipRefusal}
-use Rattle.slip_fields.specs.Slip.{question11, question13, question14, question15, readQuestions, laterQuestions}
+use Rattle.slip_fields.specs.Slip.{slipQuestion11, question13, question14, slipQuestion15, slipReadQuestions}
+use Rattle.slip_fields.specs.Slip.{laterSlipQuestions}
 use Rattle.printer.specs.Filling.{FilledSlip, SheetFilling}
 use Rattle.printer.specs.Printed.{answerSheet, sheetOf}
 
 -- a slip that no question refuses is read
-read-by : (slip : List ℕ) → slipRefusal slip ≡ 0 → firstNo (readQuestions slip) ≡ 0
-read-by slip e = both-yes (readQuestions slip) (laterQuestions slip) refl e .0
+read-by : (slip : List ℕ) → slipRefusal slip ≡ 0 → firstNo (slipReadQuestions slip) ≡ 0
+read-by slip e = both-yes (slipReadQuestions slip) (laterSlipQuestions slip) refl e .0
 
 -- all questions of a slip are answered yes
 all-asked : (a c d e f s : Bool) (g : Grid) → a ≡ true → firstNo (gridQuestions g) ≡ 0
@@ -54,7 +55,7 @@ module _ (before labels filling : List ℕ) (F : FilledSlip before labels fillin
   new = before ++ filling
 
   -- the old slip is read, and its labels are the last field
-  read : firstNo (readQuestions old) ≡ 0
+  read : firstNo (slipReadQuestions old) ≡ 0
   read = read-by old (F .accepted)
 
   none : (stands old 3 ≡ false) × (stands old 4 ≡ false)
@@ -168,11 +169,11 @@ module _ (before labels filling : List ℕ) (F : FilledSlip before labels fillin
       problem g h x y k l e f i = rw (e, f, i)
 
   -- of the questions only 7 is asked of other labels, and it is answered yes of both
-  yes : (question11 old .answeredYes ≡ true) × (question5 (slipGrid old) (slipStart old) .answeredYes ≡ true)
+  yes : (slipQuestion11 old .answeredYes ≡ true) × (question5 (slipGrid old) (slipStart old) .answeredYes ≡ true)
   yes =
-      let late = both-yes (readQuestions old) (laterQuestions old) refl (F .accepted) .1 in
+      let late = both-yes (slipReadQuestions old) (laterSlipQuestions old) refl (F .accepted) .1 in
       let a =
-      first-yes (question11 old) (question5 (slipGrid old) (slipStart old) ∷ question7 p ∷ []) (omega arith) late in
+      first-yes (slipQuestion11 old) (question5 (slipGrid old) (slipStart old) ∷ question7 p ∷ []) (omega arith) late in
       (a .0, first-yes (question5 (slipGrid old) (slipStart old)) (question7 p ∷ []) (omega arith) (a .1) .0)
 
   yes13 : question13 new .answeredYes ≡ true
@@ -181,10 +182,10 @@ module _ (before labels filling : List ℕ) (F : FilledSlip before labels fillin
   yes14 : question14 new .answeredYes ≡ true
   yes14 = exact new (omega (arith, same-length, whole old read, same-at 5))
 
-  yes15 : question15 new .answeredYes ≡ true
+  yes15 : slipQuestion15 new .answeredYes ≡ true
   yes15 = rw (sym (same-stands 3), none .0)
 
-  yes11 : question11 new .answeredYes ≡ true
+  yes11 : slipQuestion11 new .answeredYes ≡ true
   yes11 = rw (sym (same-stands 4), none .1)
 
   yes5 : question5 (slipGrid new) (slipStart new) .answeredYes ≡ true
@@ -202,7 +203,7 @@ module _ (before labels filling : List ℕ) (F : FilledSlip before labels fillin
       all-asked _ _ _ _ _ _ (slipGrid new) yes13 grid yes14 yes15 yes11 yes5 yes7
 
   -- a run with room for its answer asks nothing more
-  accepted-by : (slip : List ℕ) → slipRefusal slip ≡ 0 → question11 slip .answeredYes ≡ true
+  accepted-by : (slip : List ℕ) → slipRefusal slip ≡ 0 → slipQuestion11 slip .answeredYes ≡ true
       → Accepted (slipProblem slip)
   accepted-by slip e range =
       let room = suc (dimension (slipGrid slip)) * numIndices (slipGrid slip) in

@@ -29,25 +29,25 @@ use Rattle.place.specs.Questions.{question7}
 use Rattle.sheet_lines.specs.Sheet.{refusedSheet}
 use Rattle.slip_fields.proofs.Laws.{at-first, at-next, length-there, game-last, losses-last, exact}
 use Rattle.slip.proofs.Readings.{refused-grid, refused-14}
-use Rattle.slip_fields.specs.Slip.{bit, isMap, stands, sizesOf, slipGrid, headLength, fieldLengths, fieldLength}
+use Rattle.slip_fields.specs.Slip.{mapBit, isMap, stands, sizesOf, slipGrid, headLength, fieldLengths, fieldLength}
 use Rattle.slip_fields.specs.Slip.{fieldAt}
 use Rattle.slip_fields.specs.Slip.{fieldsEnd, defaultStart}
-use Rattle.slip_fields.specs.Slip.{slipStart, slipBudget, slipGame, slipLosses, slipLabels, slipProblem, question11}
-use Rattle.slip_fields.specs.Slip.{question13, question14, question15, slipQuestions}
+use Rattle.slip_fields.specs.Slip.{slipStart, slipBudget, slipGame, slipLosses, slipLabels, slipProblem, slipQuestion11}
+use Rattle.slip_fields.specs.Slip.{question13, question14, slipQuestion15, slipQuestions}
 use Rattle.printer.proofs.Slips.{refused-by}
 use Rattle.printer.specs.OwnGame.{slipOn, OwnGame}
 use Rattle.printer.specs.Printed.{answerSheet, sheetOf}
 
 -- the bits of the two maps
 record Bits (others : ℕ) : Type 0 where
-  start : bit (others + 8) 0 ≡ bit (others + 16) 0
-  budget : bit (others + 8) 1 ≡ bit (others + 16) 1
-  noLabels : bit (others + 8) 2 ≡ false
-  noLabels' : bit (others + 16) 2 ≡ false
-  game : bit (others + 8) 3 ≡ true
-  noLosses : bit (others + 8) 4 ≡ false
-  noGame : bit (others + 16) 3 ≡ false
-  losses : bit (others + 16) 4 ≡ true
+  start : mapBit (others + 8) 0 ≡ mapBit (others + 16) 0
+  budget : mapBit (others + 8) 1 ≡ mapBit (others + 16) 1
+  noLabels : mapBit (others + 8) 2 ≡ false
+  noLabels' : mapBit (others + 16) 2 ≡ false
+  game : mapBit (others + 8) 3 ≡ true
+  noLosses : mapBit (others + 8) 4 ≡ false
+  noGame : mapBit (others + 16) 3 ≡ false
+  losses : mapBit (others + 16) 4 ≡ true
   map : isMap (others + 8) ≡ true
   map' : isMap (others + 16) ≡ true
 
@@ -132,11 +132,11 @@ module _ (game others : ℕ) (low : 1 ≤ game) (high : game ≤ 3) (few : other
       (b .map')
 
   -- the fields before the last begin alike
-  same-stands : (k : ℕ) → bit (others + 8) k ≡ bit (others + 16) k → stands named k ≡ stands brought k
+  same-stands : (k : ℕ) → mapBit (others + 8) k ≡ mapBit (others + 16) k → stands named k ≡ stands brought k
   unfolding stands
   same-stands k e = e
 
-  same-length : (k : ℕ) → bit (others + 8) k ≡ bit (others + 16) k → fieldLength named k ≡ fieldLength brought k
+  same-length : (k : ℕ) → mapBit (others + 8) k ≡ mapBit (others + 16) k → fieldLength named k ≡ fieldLength brought k
   unfolding fieldLength
   same-length k e =
       ap (λ (t : Bool). cond t (getD (fieldLengths (slipGrid named)) k 0) 0) (same-stands k e)
@@ -150,7 +150,7 @@ module _ (game others : ℕ) (low : 1 ≤ game) (high : game ≤ 3) (few : other
   at-last = omega (arith, at-budget, at-next named 1, at-next brought 1, same-length 1 (b .budget))
 
   -- the last field is a game, or losses
-  bit-of : (map k : ℕ) (last : List ℕ) (t : Bool) → bit map k ≡ t
+  bit-of : (map k : ℕ) (last : List ℕ) (t : Bool) → mapBit map k ≡ t
       → stands (slipOn game map divisions between last) k ≡ t
   unfolding stands
   bit-of map k last t e = e
@@ -220,7 +220,7 @@ module _ (game others : ℕ) (low : 1 ≤ game) (high : game ≤ 3) (few : other
         rw (bit-of (others + 16) 4 last true (b .losses), at, count-is)
         (words-read ((others + 16) ∷ N ∷ common) (gameLosses game))
 
-    known : question15 named .answeredYes ≡ true
+    known : slipQuestion15 named .answeredYes ≡ true
     known =
         rw (bit-of (others + 8) 3 (game ∷ []) true (b .game), game-is, sizes-are (others + 8) (game ∷ []))
         (and-both _ _ (and-both _ _ (le-leb 1 game low) (le-leb game 3 high)) (same-self sizes))
@@ -282,13 +282,13 @@ module _ (game others : ℕ) (low : 1 ≤ game) (high : game ≤ 3) (few : other
             (record { grid = h; start = y; labels = l })
         problem g h x y k l e f i = rw (e, f, i)
 
-    yes15 : question15 brought .answeredYes ≡ true
+    yes15 : slipQuestion15 brought .answeredYes ≡ true
     yes15 = rw (bit-of (others + 16) 3 (bytesOf (gameLosses game)) false (b .noGame))
 
-    yes11 : question11 named .answeredYes ≡ true
+    yes11 : slipQuestion11 named .answeredYes ≡ true
     yes11 = rw (bit-of (others + 8) 4 (game ∷ []) false (b .noLosses))
 
-    range : question11 brought .answeredYes ≡ true
+    range : slipQuestion11 brought .answeredYes ≡ true
     range = rw (bit-of (others + 16) 4 (bytesOf (gameLosses game)) true (b .losses), losses-brought) (table-range game)
 
     same-questions : slipQuestions named ≡ slipQuestions brought

@@ -21,7 +21,7 @@ use Rattle.path_laws.specs.Demand.{Accepted, Stop, atGap, lastPlace}
 use Rattle.questions.specs.Questions.{firstNo}
 use Rattle.finder.proofs.Refusals.{by-grid, by-later, accepted-with-room, answered as run-answered}
 use Rattle.finder.proofs.Refusals.{refused as run-refused}
-use Rattle.finder.specs.Run.{caseOf, numbersOf, refusal, runAnswer, runBuffer}
+use Rattle.finder.specs.Run.{caseOf, numbersOf, runRefusal, runAnswer, runBuffer}
 use Rattle.finder.specs.declared.answers.Answer.{Answer}
 use Rattle.finder.specs.declared.answers.Answer.the-variants.{Refused, Spent, Unknown, End}
 use Rattle.grid.specs.Grid.{Grid, Point, dimension, numIndices, isGridPoint}
@@ -90,7 +90,7 @@ module _ (p : Problem) (budget : ℕ) (old : List ℕ) (large : length old ≡ r
         },
       )
 
-  module _ (unrefused : refusal p room ≡ 0) where
+  module _ (unrefused : runRefusal p room ≡ 0) where
     grid-yes : firstNo (gridQuestions (p .grid)) ≡ 0
     grid-yes = ⊎-elim
         (λ e. e)
@@ -126,8 +126,8 @@ module _ (p : Problem) (budget : ℕ) (old : List ℕ) (large : length old ≡ r
   pub run-prints : Prints (runAnswer p (length old) budget) (runBuffer p budget old) (runSheet p budget)
   unfolding runSheet
   run-prints =
-      let n = refusal p room in
-      let r : refusal p (length old) ≡ n = ap (refusal p) large in
+      let n = runRefusal p room in
+      let r : runRefusal p (length old) ≡ n = ap (runRefusal p) large in
       ⊎-elim
       (λ e. let a = run-answered p budget old (r ∙ e) in rw (← a .0, ← a .1, eq-eqb n 0 e) (answered e))
       (λ h. let a = run-refused p budget old n h r in rw (← a .0, ← a .1, ne-eqb n 0 h) (refused old n))

@@ -27,27 +27,27 @@ use Rattle.questions.specs.Questions.{firstNo}
 use Rattle.slip_fields.proofs.Laws.{labels-only}
 use Rattle.slip_fields.proofs.Runs.{answers, refused-as-read, then-runs}
 use Rattle.slip.proofs.Readings.{code-is, number-zero, reading-accepted, handed}
-use Rattle.slip.specs.Reading.{refusal, readingOf, labelsIn}
+use Rattle.slip.specs.Reading.{refusedReading, slipReadingOf, labelsIn}
 use Rattle.slip_fields.specs.Slip.{stands, fieldAt, defaultCoordinate, slipGrid, slipStart, slipLosses, slipLabels}
-use Rattle.slip_fields.specs.Slip.{slipProblem, question11, readQuestions}
+use Rattle.slip_fields.specs.Slip.{slipProblem, slipQuestion11, slipReadQuestions}
 use Rattle.printer.specs.Printed.{sheetOf}
 use Rattle.printer.specs.Run.{room, HasGrid, problemWith, lossProblem, runSheet}
 
-pub refusal-printed : (slip : List ℕ) → (readingOf slip .code ≡ 0 → ⊥)
-    → sheetOf slip ≡ refusedSheet (readingOf slip .code)
+pub refusal-printed : (slip : List ℕ) → (slipReadingOf slip .code ≡ 0 → ⊥)
+    → sheetOf slip ≡ refusedSheet (slipReadingOf slip .code)
 unfolding sheetOf
 refusal-printed slip h =
     let refused = refused-as-read slip .refused (λ e. h (code-is slip ∙ e)) ∙ sym (code-is slip) in
-    rw (refused, ne-eqb (readingOf slip .code) 0 h)
+    rw (refused, ne-eqb (slipReadingOf slip .code) 0 h)
 
-pub refused-by : (slip : List ℕ) (number : ℕ) → (number ≡ 0 → ⊥) → refusal number ≡ readingOf slip
+pub refused-by : (slip : List ℕ) (number : ℕ) → (number ≡ 0 → ⊥) → refusedReading number ≡ slipReadingOf slip
     → sheetOf slip ≡ refusedSheet number
 refused-by slip number h e =
     refusal-printed slip (λ z. h (ap (λ r. r .code) e ∙ z)) ∙ ap (λ r. refusedSheet (r .code)) (sym e)
 
 -- a slip that is read
-module _ (slip : List ℕ) (zero : readingOf slip .code ≡ 0) where
-  asked : firstNo (readQuestions slip) ≡ 0
+module _ (slip : List ℕ) (zero : slipReadingOf slip .code ≡ 0) where
+  asked : firstNo (slipReadQuestions slip) ≡ 0
   asked = number-zero slip zero
 
   start-length : length (slipStart slip) ≡ numIndices (slipGrid slip)
@@ -59,11 +59,11 @@ module _ (slip : List ℕ) (zero : readingOf slip .code ≡ 0) where
       (λ n. rw n (length-map (upFrom 0 m) (defaultCoordinate (slipGrid slip)) ∙ length-upFrom 0 m))
       (true-or-false (stands slip 0))
 
-  grid-is : shape (readingOf slip .grid) ≡ slipGrid slip
+  grid-is : shape (slipReadingOf slip .grid) ≡ slipGrid slip
   grid-is = ap (λ r. shape (r .grid)) (reading-accepted slip zero)
       ∙ shape-of (slipGrid slip) (grid-accepted (slipGrid slip) (answers slip asked .1) .sameNumber)
 
-  pub has-grid : HasGrid (readingOf slip)
+  pub has-grid : HasGrid (slipReadingOf slip)
   has-grid =
       let few = grid-accepted (slipGrid slip) (answers slip asked .1) .fewIndices in
       rw (reading-accepted slip zero) (record {
@@ -71,10 +71,10 @@ module _ (slip : List ℕ) (zero : readingOf slip .code ≡ 0) where
         whole = front-length (slipStart slip) (replicate 16 0) (omega (arith, few, start-length));
       })
 
-  problem-is : (labels : List ℕ) → labels ≡ slipLabels slip → problemWith (readingOf slip) labels ≡ slipProblem slip
+  problem-is : (labels : List ℕ) → labels ≡ slipLabels slip → problemWith (slipReadingOf slip) labels ≡ slipProblem slip
   unfolding gridOf
   problem-is labels e =
-      let start : take (readingOf slip .grid .indices) (readingOf slip .start) ≡ slipStart slip =
+      let start : take (slipReadingOf slip .grid .indices) (slipReadingOf slip .start) ≡ slipStart slip =
       rw (reading-accepted slip zero, ← start-length) (front-taken (slipStart slip) (replicate 16 0)) in
       rw (grid-is, start, e)
 
@@ -89,34 +89,35 @@ module _ (slip : List ℕ) (zero : readingOf slip .code ≡ 0) where
             (let l : suc (dimension (slipGrid slip)) ≤ 16 = omega (arith, a .someBlock, a .fewIndices) in l),
       ))
 
-  pub out-of-range-printed : question11 slip .answeredYes ≡ false → sheetOf slip ≡ refusedSheet 11
+  pub out-of-range-printed : slipQuestion11 slip .answeredYes ≡ false → sheetOf slip ≡ refusedSheet 11
   unfolding sheetOf
   out-of-range-printed e = rw (then-runs slip asked .outOfRange e)
 
   -- with the slip's labels the run prints the slip's sheet
-  prints : question11 slip .answeredYes ≡ true → (labels : List ℕ) → labels ≡ slipLabels slip
-      → runSheet (problemWith (readingOf slip) labels) (readingOf slip .budget) ≡ sheetOf slip
+  prints : slipQuestion11 slip .answeredYes ≡ true → (labels : List ℕ) → labels ≡ slipLabels slip
+      → runSheet (problemWith (slipReadingOf slip) labels) (slipReadingOf slip .budget) ≡ sheetOf slip
   unfolding runSheet sheetOf
   prints range labels e =
-      ap (λ (p : Problem). runSheet p (readingOf slip .budget)) (problem-is labels e)
+      ap (λ (p : Problem). runSheet p (slipReadingOf slip .budget)) (problem-is labels e)
       ∙ ap (λ r. runSheet (slipProblem slip) (r .budget)) (reading-accepted slip zero)
       ∙ rw (then-runs slip asked .runs range room enough)
 
   pub table-printed : stands slip 2 ≡ true
-      → runSheet (problemWith (readingOf slip) (labelsIn slip (readingOf slip .table))) (readingOf slip .budget)
+      → runSheet (problemWith (slipReadingOf slip) (labelsIn slip (slipReadingOf slip .table)))
+      (slipReadingOf slip .budget)
       ≡ sheetOf slip
   table-printed two =
       let four = labels-only slip (answers slip asked .0) two .1 in
-      prints (rw four) (labelsIn slip (readingOf slip .table))
+      prints (rw four) (labelsIn slip (slipReadingOf slip .table))
       (handed slip zero ∙ sym (then-runs slip asked .table two))
 
-  module _ (two : stands slip 2 ≡ false) (range : question11 slip .answeredYes ≡ true) where
-    pub losses-printed : runSheet (lossProblem (readingOf slip) (slipLosses slip)) (readingOf slip .budget)
+  module _ (two : stands slip 2 ≡ false) (range : slipQuestion11 slip .answeredYes ≡ true) where
+    pub losses-printed : runSheet (lossProblem (slipReadingOf slip) (slipLosses slip)) (slipReadingOf slip .budget)
         ≡ sheetOf slip
     losses-printed =
         prints range _ (ap (λ (g : Grid). labels g (slipLosses slip)) grid-is ∙ sym (then-runs slip asked .game two))
 
-    pub is-table : IsTable (shape (readingOf slip .grid)) (slipLosses slip)
+    pub is-table : IsTable (shape (slipReadingOf slip .grid)) (slipLosses slip)
     is-table = rw grid-is (then-runs slip asked .losses two range)
 
     -- at most 1,944 losses

@@ -7,7 +7,7 @@ use lib.Dec.{eqb}
 use lib.ListN.{length, take}
 use Rattle.combinatorics.specs.Front.{front}
 use Rattle.end_kinds.specs.declared.Kind.{Kind}
-use Rattle.finder.specs.Run.{refusal}
+use Rattle.finder.specs.Run.{runRefusal}
 use Rattle.finder.specs.declared.answers.Answer.{Answer}
 use Rattle.finder.specs.declared.answers.Answer.the-variants.{Refused, Spent, Unknown, End}
 use Rattle.losses.specs.Game.{labels}
@@ -18,7 +18,7 @@ use Rattle.place.specs.Problem.{Problem}
 use Rattle.sheet_lines.specs.Answer.{rows}
 use Rattle.sheet_lines.specs.Sheet.{endSheet, refusedSheet, spentSheet, unknownSheet}
 use Rattle.slip.specs.declared.Reading.{Reading}
-use Rattle.slip.specs.Reading.{readingOf}
+use Rattle.slip.specs.Reading.{slipReadingOf}
 use Rattle.slip_fields.specs.Slip.{stands}
 use Rattle.printer.specs.Printed.{answerSheet, indexDivisions}
 
@@ -51,7 +51,7 @@ pub record HasGrid (r : Reading) : Type 0 where
 
 -- the reading of a slip that is accepted as it is read and has no labels
 pub record IsGameReading (slip : List ℕ) (r : Reading) : Type 0 where
-  pub isReading : r ≡ readingOf slip
+  pub isReading : r ≡ slipReadingOf slip
   pub read : r .code ≡ 0
   pub noLabels : stands slip 2 ≡ false
 
@@ -66,4 +66,4 @@ lossProblem r losses = problemWith r (labels (shape (r .grid)) losses)
 -- what the run on a problem prints
 unfoldable pub runSheet : Problem → ℕ → List ℕ
 runSheet p budget =
-    cond (eqb (refusal p room) 0) (answerSheet (p .grid) (answer p budget)) (refusedSheet (refusal p room))
+    cond (eqb (runRefusal p room) 0) (answerSheet (p .grid) (answer p budget)) (refusedSheet (runRefusal p room))

@@ -1,8 +1,8 @@
 // The printer: from a slip's bytes to the sheet's.
 ghost use mathlib.Core.Path.{_≡_};
 ghost use lib.ListN.{length};
-ghost use Rattle.combinatorics.specs.Front.{front};
-ghost use Rattle.grid.specs.Made.{IsMade, shape, padded};
+ghost use Rattle.combinatorics.specs.Front.{front, padded};
+ghost use Rattle.grid.specs.Made.{IsMade, shape};
 ghost use Rattle.losses.specs.Table.{IsTable};
 ghost use Rattle.printer.specs.Printed.{indexDivisions, sheetOf};
 ghost use Rattle.printer.specs.Run.{printed, Prints, Fits, HasGrid, IsGameReading};

@@ -23,9 +23,9 @@ use Rattle.place.specs.Coefficients.{IsCoefficients, coefficients}
 use Rattle.place.specs.Problem.{Problem}
 use Rattle.path_laws.proofs.BlocksOfGrid.{coefficientOf-is}
 use Rattle.path_laws.proofs.Coefficients.{coefficients-at-most}
-use Rattle.path_laws.specs.Demand.{Settled}
+use Rattle.path_laws.specs.Demand.{HasStart}
 use Rattle.recogniser.proofs.Blocks.{next-sum}
-use Rattle.recogniser.specs.Pieces.{InBlock, PutIn, nextIn, startedOn}
+use Rattle.recogniser.specs.Pieces.{InBlock, PutIn, nextInBlock, startedOn}
 
 -- h, or the first index where h is past the end
 abbrev pub wrap : ℕ → ℕ → ℕ → ℕ
@@ -34,7 +34,7 @@ wrap first end h = cond (eqb h end) first h
 wrap-inside : (first end h : ℕ) → h < end → wrap first end h ≡ h
 wrap-inside first end h l = rw (ne-eqb h end (λ e. omega arith))
 
-wrap-next : (first end h : ℕ) → wrap first end (h + 1) ≡ nextIn first end h
+wrap-next : (first end h : ℕ) → wrap first end (h + 1) ≡ nextInBlock first end h
 wrap-next first end h = rw (add-one h)
 
 -- x follows the coefficients of c from 65,535 on, and `least` is the least so far
@@ -127,7 +127,7 @@ module _ (c v y : List ℕ) (first end : ℕ) (B : InBlock c v y first end) wher
 
 -- a grid that was made, with a start, is one that questions 1 to 5 let pass
 pub settled-on : (g : GridStruct) → IsMade g → (p : Problem) → p .grid ≡ shape g
-    → isGridPoint (p .grid) (p .start) ≡ true → Settled p
+    → isGridPoint (p .grid) (p .start) ≡ true → HasStart p
 settled-on g made p e s =
     let A = made-accepted g made in
     record {
@@ -149,7 +149,7 @@ module _ (g : GridStruct) (made : IsMade g) (v y : List ℕ) (start : isGridPoin
   abbrev list : List ℕ
   list = coefficients p (take (g .indices) y)
 
-  settled : Settled p
+  settled : HasStart p
   settled = settled-on g made p refl start
 
   is : IsCoefficients p (take (g .indices) y) list
@@ -160,7 +160,7 @@ module _ (g : GridStruct) (made : IsMade g) (v y : List ℕ) (start : isGridPoin
   start-long = eqb-true (length v) (numIndices (shape g)) (and-left _ _ start)
 
   next-is : (j h : ℕ) → firstIndex (shape g) j ≤ h → h < firstIndex (shape g) j + size (shape g) j
-      → next (shape g) h ≡ nextIn (firstIndex (shape g) j) (firstIndex (shape g) j + size (shape g) j) h
+      → next (shape g) h ≡ nextInBlock (firstIndex (shape g) j) (firstIndex (shape g) j + size (shape g) j) h
   unfolding next
   next-is j h a b =
       let i = h - firstIndex (shape g) j in
@@ -170,7 +170,7 @@ module _ (g : GridStruct) (made : IsMade g) (v y : List ℕ) (start : isGridPoin
 
   rw-rule : (j h : ℕ) → firstIndex (shape g) j ≤ h → h < firstIndex (shape g) j + size (shape g) j
       → h < numIndices (shape g)
-      → at y h + at list (nextIn (firstIndex (shape g) j) (firstIndex (shape g) j + size (shape g) j) h)
+      → at y h + at list (nextInBlock (firstIndex (shape g) j) (firstIndex (shape g) j + size (shape g) j) h)
       ≡ at v h + at list h
   rw-rule j h a b m =
       let r = is .rule h m in

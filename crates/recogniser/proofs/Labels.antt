@@ -9,7 +9,7 @@ use native.Mathlib.Omega.{arith}
 use Rattle.combinatorics.proofs.Basics.{same-or}
 use Rattle.grid.specs.Grid.{at}
 use Rattle.rules.specs.Step.{markPosition}
-use Rattle.recogniser.specs.Pieces.{CanRead, LabelsPut}
+use Rattle.recogniser.specs.Pieces.{CanReadLabels, LabelsPut}
 
 -- a mark with the label at its position
 abbrev pub read : List ℕ → ℕ → ℕ
@@ -21,7 +21,7 @@ pub record PutBelow (table old new : List ℕ) (k : ℕ) : Type 0 where
   pub each : (j : ℕ) → j < k → at new j ≡ read table (at old j)
   pub rest : (j : ℕ) → k ≤ j → at new j ≡ at old j
 
-module _ (table old : List ℕ) (n : ℕ) (C : CanRead table old n) where
+module _ (table old : List ℕ) (n : ℕ) (C : CanReadLabels table old n) where
   pub put-none : PutBelow table old old 0
   put-none = record { long = C .long; each = λ j l. absurd (omega arith); rest = λ j l. refl }
 

@@ -11,7 +11,7 @@ use Rattle.combinatorics.proofs.Basics.{absurd-bool, or-cases, same-or}
 use Rattle.grid.specs.Grid.{at}
 use Rattle.rules.proofs.Masks.{bit-none, bit-with, bit-without}
 use Rattle.rules.specs.Mask.{bit, withIndex, withoutIndex}
-use Rattle.recogniser.specs.Pieces.{AreSets}
+use Rattle.recogniser.specs.Pieces.{AreTandU}
 
 and-true : (a : Bool) → a ≡ (a && true)
 and-true true = refl
@@ -22,7 +22,7 @@ less true true t = refl
 less true false t = refl
 less false z t = refl
 
-pub sets-none : (order : List ℕ) (m zeros : ℕ) → AreSets order 0 m zeros 0 zeros
+pub sets-none : (order : List ℕ) (m zeros : ℕ) → AreTandU order 0 m zeros 0 zeros
 sets-none order m zeros = record {
   below = λ j l. absurd (omega arith);
   once = λ i j l. absurd (omega arith);
@@ -31,7 +31,7 @@ sets-none order m zeros = record {
   rest = λ k l. rw (bit-none k l) (and-true (bit zeros k));
 }
 
-module _ (order : List ℕ) (k m zeros t u h : ℕ) (s : AreSets order k m zeros t u) (is : h ≡ at order k) (low : h < m)
+module _ (order : List ℕ) (k m zeros t u h : ℕ) (s : AreTandU order k m zeros t u) (is : h ≡ at order k) (low : h < m)
     (few : m ≤ 16) where
   -- where T has the index, it stands twice
   pub stands-twice : bit t h ≡ true → (i : ℕ) × (i < k) × (at order i ≡ at order k)
@@ -41,7 +41,7 @@ module _ (order : List ℕ) (k m zeros t u h : ℕ) (s : AreSets order k m zeros
     apart : (j : ℕ) → j < k → at order j ≡ at order k → ⊥
     apart j l e = absurd-bool (sym (s .has j l) ∙ ap (bit t) (e ∙ sym is) ∙ new)
 
-    pub sets-more : AreSets order (k + 1) m zeros (withIndex t h) (withoutIndex u h)
+    pub sets-more : AreTandU order (k + 1) m zeros (withIndex t h) (withoutIndex u h)
     sets-more = record {
       below = λ j l.
           ⊎-elim (λ (e : j ≡ k). rw (e, ← is) low) (λ (n : j ≡ k → ⊥). s .below j (omega (arith, n))) (same-or j k);

@@ -37,7 +37,7 @@ use Rattle.walks.proofs.Recognised.{of-conditions}
 use Rattle.walks.specs.Kept.{canStep, isKept, zeroOutside}
 use Rattle.recogniser.proofs.Following.{settled-on}
 use Rattle.recogniser.specs.Kept.{CanRecognise, Recognised, Seen}
-use Rattle.recogniser.specs.Pieces.{AllFree, AreSets, CanMark, Marked, NoSets, NotFree, bareMark, beyond}
+use Rattle.recogniser.specs.Pieces.{AllFree, AreTandU, CanMark, Marked, NoSets, NotFree, bareMark, beyond}
 use Rattle.recogniser.specs.Pieces.{filled, inNeither, positive, startedOn, twice}
 use Rattle.recogniser.specs.declared.Sets.{Sets}
 
@@ -104,7 +104,7 @@ module _ (g : GridStruct) (binomials start previous sizes first order : List ℕ
   cannot-step e = false-of _ (λ h. absurd-bool (sym (conditions-of p y o h .can) ∙ e))
 
   -- the masks
-  module _ (zeros t v : ℕ) (S : AreSets order n (g .indices) zeros t v)
+  module _ (zeros t v : ℕ) (S : AreTandU order n (g .indices) zeros t v)
       (Z : (k : ℕ) → k < 16 → bit zeros k ≡ (ltb k (g .indices) && eqb (at first k) 0)) where
     pub in-T : (k : ℕ) → k < 16 → bit t k ≡ isIn eqb k o
     in-T k l = both (bit t k) (isIn eqb k o)

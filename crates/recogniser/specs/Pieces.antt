@@ -10,7 +10,7 @@ use Rattle.grid.specs.Made.{shape}
 use Rattle.grid.specs.declared.Grid.{Grid as GridStruct}
 use Rattle.place.specs.Places.{firstBackOutside}
 use Rattle.place.specs.Problem.{Problem}
-use Rattle.positions.specs.Steps.{afterSteps, CanStep}
+use Rattle.positions.specs.Steps.{afterSteps, CanTakeSteps}
 use Rattle.rules.specs.Mask.{bit}
 use Rattle.rules.specs.Step.{mark, markPosition}
 use Rattle.walks.specs.Kept.{canStep, keptPoints, zeroOutside}
@@ -21,7 +21,7 @@ abbrev pub startedOn : GridStruct → List ℕ → Problem
 startedOn g start = record { grid = shape g; start = start; labels = [] }
 
 -- T has the first n indices of the order, below m and all different; U has what T leaves of the zeros
-pub record AreSets (order : List ℕ) (n m zeros t u : ℕ) : Type 0 where
+pub record AreTandU (order : List ℕ) (n m zeros t u : ℕ) : Type 0 where
   pub below : (j : ℕ) → j < n → at order j < m
   pub once : (i j : ℕ) → i < n → j < n → at order i ≡ at order j → i ≡ j
   pub has : (j : ℕ) → j < n → bit t (at order j) ≡ true
@@ -34,7 +34,7 @@ pub data NoSets (order : List ℕ) (n m : ℕ) : Type 0 where
   twice : (i j : ℕ) → i < j → j < n → at order i ≡ at order j → NoSets order n m
 
 pub record SetsOf (order : List ℕ) (n m zeros : ℕ) (r : Sets) : Type 0 where
-  pub yes : r .is ≡ true → AreSets order n m zeros (r .t) (r .u)
+  pub yes : r .is ≡ true → AreTandU order n m zeros (r .t) (r .u)
   pub no : r .is ≡ false → NoSets order n m
 
 -- index h is in neither of two masks
@@ -62,15 +62,15 @@ pub record IsFree (g : GridStruct) (c : List ℕ) (t u : ℕ) (r : Bool) : Type 
   pub no : r ≡ false → NotFree g c t u
 
 -- the index after h in the block of the indices from first up to end
-abbrev pub nextIn : ℕ → ℕ → ℕ → ℕ
-nextIn first end h = cond (eqb (suc h) end) first (suc h)
+abbrev pub nextInBlock : ℕ → ℕ → ℕ → ℕ
+nextInBlock first end h = cond (eqb (suc h) end) first (suc h)
 
 -- c has a block's coefficients of y with v as the start
 pub record InBlock (c v y : List ℕ) (first end : ℕ) : Type 0 where
   pub some : first < end
   pub few : end ≤ 16
   pub long : end ≤ length v
-  pub rule : (h : ℕ) → first ≤ h → h < end → at y h + at c (nextIn first end h) ≡ at v h + at c h
+  pub rule : (h : ℕ) → first ≤ h → h < end → at y h + at c (nextInBlock first end h) ≡ at v h + at c h
   pub zero : (k : ℕ) × (first ≤ k) × (k < end) × (at c k ≡ 0)
   pub small : (h : ℕ) → at c h ≤ 65535
 
@@ -86,7 +86,7 @@ abbrev pub pointWith : GridStruct → List ℕ → List ℕ → Point
 pointWith g first steps = take (g .indices) (afterSteps first steps)
 
 pub record OnGrid (g : GridStruct) (first steps : List ℕ) : Type 0 where
-  pub can : CanStep (g .indices) first steps
+  pub can : CanTakeSteps (g .indices) first steps
   pub point : isGridPoint (shape g) (pointWith g first steps) ≡ true
 
 -- the mark of a grid point whose label is not read
@@ -119,7 +119,7 @@ pub record Marked (g : GridStruct) (first order : List ℕ) (n : ℕ) (marks : L
       → at marks j ≡ bareMark (shape g) (getD (keptPoints (shape g) (take (g .indices) first) (take n order)) j [])
 
 -- the position in each mark of the first n + 1 is in the table, and the mark has room for a label
-pub record CanRead (table marks : List ℕ) (n : ℕ) : Type 0 where
+pub record CanReadLabels (table marks : List ℕ) (n : ℕ) : Type 0 where
   pub few : n ≤ 15
   pub long : length marks ≡ 16
   pub within : (j : ℕ) → j ≤ n → markPosition (at marks j) < length table

@@ -3,7 +3,7 @@ ghost use Prim.Native.Nat.{_<_};
 ghost use Rattle.positions.specs.Binomials.{Measured};
 ghost use Rattle.rules.specs.Ready.{IndicesBelow};
 ghost use Rattle.rules.specs.Step.{firstOutside};
-ghost use Rattle.recogniser.specs.Pieces.{CanMark, CanRead, IsMark, LabelsPut, Marked, OnGrid};
+ghost use Rattle.recogniser.specs.Pieces.{CanMark, CanReadLabels, IsMark, LabelsPut, Marked, OnGrid};
 use arrays::position_at;
 use arrays::source;
 use arrays::wide32;
@@ -57,7 +57,7 @@ pub fn mark_points(
 
 // Reads the labels of the first n + 1 points into their marks.
 pub fn read_labels(table: &[u8], n: usize, marks: &mut [u32; 16])
-    requires { ⌜ CanRead (now table) (now marks) n ⌝ }
+    requires { ⌜ CanReadLabels (now table) (now marks) n ⌝ }
     ensures { λ _. ⌜ LabelsPut (now (table .entry)) n (now (marks .entry)) (now (marks .exit)) ⌝ }
 {
     let mut k: usize = 0;

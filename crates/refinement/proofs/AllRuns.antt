@@ -35,7 +35,7 @@ use Rattle.losses.specs.Game.{labels}
 use Rattle.place.specs.Problem.{Problem}
 use Rattle.questions.specs.Questions.{firstNo}
 use Rattle.refinement.specs.Answer.{entryOf, levelOf, levelsOf, noLevel}
-use Rattle.refinement.specs.Runs.{CanRunAll, CanSolve, CanStart, firstOf, problemAt, writtenAt}
+use Rattle.refinement.specs.Runs.{CanRunAll, CanSolve, CanStart, levelStartFrom, problemAt, writtenAt}
 use Rattle.refinement.specs.declared.Level.{Level}
 
 -- the array of the levels, one more a turn
@@ -154,7 +154,7 @@ module _ (r : Refinement) (levels : ℕ) (grids : List GridStruct) (buffer answe
       (level-fits i (omega arith)))
 
   starts-at : (i : ℕ) → i < levels
-      → firstOf (levelGrid r i) i (r .start) (r .factor) (numbersAfter r i answer) ≡ levelStart r i
+      → levelStartFrom (levelGrid r i) i (r .start) (r .factor) (numbersAfter r i answer) ≡ levelStart r i
   unfolding levelStart
   starts-at zero h = refl
   starts-at (suc i) h = ap (times (r .factor)) (vertex-read i h)

@@ -27,7 +27,7 @@ use Rattle.place.specs.Problem.{Problem}
 use Rattle.path_laws.proofs.Filled.{full-accepted}
 use Rattle.positions.specs.Binomials.{HasBinomials}
 use Rattle.refinement.specs.Answer.{levelOf, noLevel}
-use Rattle.refinement.specs.Runs.{CanRun, numbersIn}
+use Rattle.refinement.specs.Runs.{CanRunLevel, numbersIn}
 
 -- what is no end
 pub not-end : (a : Answer) → OneOf (0 ∷ 1 ∷ 2 ∷ []) (tagOf the-type a) → levelOf a ≡ noLevel
@@ -37,7 +37,7 @@ not-end (Unknown places position) h = refl
 not-end (End places read kind block vertices) h =
     absurd (⊎-elim (λ e. omega arith) (λ r. ⊎-elim (λ e. omega arith) (λ e. omega arith) r) h)
 
-module _ (g : GridStruct) (start losses : List ℕ) (labelRoom room : ℕ) (ok : CanRun g start losses labelRoom room)
+module _ (g : GridStruct) (start losses : List ℕ) (labelRoom room : ℕ) (ok : CanRunLevel g start losses labelRoom room)
     (table : List ℕ) (is : table ≡ labels (shape g) losses) where
   same-problem : problemFrom g start table ≡ gameProblem (shape g) start losses
   same-problem = ap (problemFrom g start) is

@@ -6,14 +6,14 @@ use lib.ListN.{length, drop, replicate, take}
 use lib.Seq.{take-all}
 use native.Mathlib.Nat.{mul-le-mul}
 use native.Mathlib.Omega.{arith}
-use Rattle.combinatorics.specs.Front.{front}
+use Rattle.combinatorics.specs.Front.{front, padded}
 use Rattle.grid.proofs.Fields.{made-indices}
 use Rattle.grid.specs.Grid.{dimension, numIndices}
-use Rattle.grid.specs.Made.{IsMade, padded, shape}
+use Rattle.grid.specs.Made.{IsMade, shape}
 use Rattle.grid.specs.declared.Grid.{Grid as GridStruct}
 use Rattle.levels.specs.Levels.{times}
 use Rattle.levels.specs.Questions.{levelRoom}
-use Rattle.refinement.specs.Runs.{CanStart, Fit, firstOf}
+use Rattle.refinement.specs.Runs.{CanStart, Fit, levelStartFrom}
 
 -- a room begins before the end of the buffer, and 16 bits and more are left
 pub room-begins : (level room : ℕ) → level ≤ 8 → room ≤ 272 → level * room ≤ 2176
@@ -26,10 +26,10 @@ module _ (g : GridStruct) (made : IsMade g) (level : ℕ) (start : List ℕ) (k 
 
   -- the first level
   pub start-first : level ≡ 0 → (r : List ℕ) → r ≡ front (take (g .indices) start) (replicate 16 0)
-      → r ≡ padded 16 (firstOf (shape g) level start k answer)
+      → r ≡ padded 16 (levelStartFrom (shape g) level start k answer)
   start-first z r e =
       e ∙ ap (λ (l : List ℕ). padded 16 l) (take-all (g .indices) start (omega (arith, ok .long, made-indices g made)))
-      ∙ ap (λ (l : ℕ). padded 16 (firstOf (shape g) l start k answer)) (sym z)
+      ∙ ap (λ (l : ℕ). padded 16 (levelStartFrom (shape g) l start k answer)) (sym z)
 
   -- a later one
   module _ (later : level ≡ 0 → ⊥) (room : ℕ) (is : room ≡ levelRoom (shape g)) where
@@ -64,7 +64,7 @@ module _ (g : GridStruct) (made : IsMade g) (level : ℕ) (start : List ℕ) (k 
     pub start-later : (r : List ℕ)
         → r ≡ padded 16 (times k
         (take ((level - 1) * room + g .indices - (level - 1) * room) (drop ((level - 1) * room) answer)))
-        → r ≡ padded 16 (firstOf (shape g) level start k answer)
+        → r ≡ padded 16 (levelStartFrom (shape g) level start k answer)
     start-later r e =
         e ∙ ap (λ (l : List ℕ). padded 16 (times k l)) part-is
-        ∙ ap (λ (l : ℕ). padded 16 (firstOf (shape g) l start k answer)) (sym one-more)
+        ∙ ap (λ (l : ℕ). padded 16 (levelStartFrom (shape g) l start k answer)) (sym one-more)

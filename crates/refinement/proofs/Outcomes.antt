@@ -22,12 +22,13 @@ use Rattle.levels.proofs.Claims.{passed}
 use Rattle.levels.proofs.Grids.{level-first, levels-yes, numbered-levels}
 use Rattle.levels.specs.Buffers.{numbersAfter}
 use Rattle.levels.specs.Levels.{Refinement, gridAt}
-use Rattle.levels.specs.Questions.{lastGrid, laterQuestions, levelQuestions, levelRoom, question18, question8}
+use Rattle.levels.specs.Questions.{lastGrid, laterLevelQuestions, levelQuestions, levelRoom, question18, levelQuestion8}
 use Rattle.losses.specs.Game.{labels}
 use Rattle.losses.specs.Table.{numLosses, question10, question11}
 use Rattle.questions.proofs.Answers.{asked-next, asked-no, first-yes}
 use Rattle.questions.specs.Questions.{Question, firstNo}
-use Rattle.refinement.specs.Answer.{answerLeft, labelsLeft, lentGame, levelsOf, refineAnswer, refusal, refused}
+use Rattle.refinement.specs.Answer.{answerLeft, labelsLeft, lentGame, levelsOf, refineAnswer, refineRefusal}
+use Rattle.refinement.specs.Answer.{refused}
 use Rattle.refinement.specs.Runs.{CanRunAll, gameOf}
 use Rattle.refinement.specs.declared.Level.{Level}
 use Rattle.refinement.specs.declared.Refined.{Refined}
@@ -48,12 +49,12 @@ module _ (r : Refinement) (levels : ℕ) (buffer old : List ℕ) where
       (a ≡ refineAnswer r levels buffer old)
       × ((b ≡ labelsLeft r levels buffer old) × (c ≡ answerLeft r levels buffer old))
 
-  refused-with : (a : Refined) (n : ℕ) → (n ≡ 0 → ⊥) → refusal r levels buffer old ≡ n → a ≡ refused n
+  refused-with : (a : Refined) (n : ℕ) → (n ≡ 0 → ⊥) → refineRefusal r levels buffer old ≡ n → a ≡ refused n
       → Left a buffer old
   unfolding refineAnswer labelsLeft answerLeft
   refused-with a n z e w = (rw (w, e, ne-eqb n 0 z), (rw (e, ne-eqb n 0 z), rw (e, ne-eqb n 0 z)))
 
-  passed-with : refusal r levels buffer old ≡ 0 → (found : List Level) (b c : List ℕ) → found ≡ levelsOf r levels
+  passed-with : refineRefusal r levels buffer old ≡ 0 → (found : List Level) (b c : List ℕ) → found ≡ levelsOf r levels
       → b ≡ labels (lastGrid r levels) (r .losses) → c ≡ numbersAfter r levels old
       → Left (record { code = 0; count = levels; levels = found }) b c
   unfolding refineAnswer labelsLeft answerLeft
@@ -65,8 +66,8 @@ module _ (r : Refinement) (levels : ℕ) (buffer old : List ℕ) where
   refused-range a e w = refused-with a 18 (λ z. omega arith) (asked-no-first (question18 (r .factor) levels) _ e) w
 
   module _ (yes : question18 (r .factor) levels .answeredYes ≡ true) where
-    rest : refusal r levels buffer old ≡ firstNo
-        (levelQuestions (r .grid) (r .factor) levels ++ laterQuestions r levels buffer (length old))
+    rest : refineRefusal r levels buffer old ≡ firstNo
+        (levelQuestions (r .grid) (r .factor) levels ++ laterLevelQuestions r levels buffer (length old))
     rest = asked-yes (question18 (r .factor) levels) _ yes
 
     -- questions 1 to 4 of all levels
@@ -74,19 +75,21 @@ module _ (r : Refinement) (levels : ℕ) (buffer old : List ℕ) where
         → a ≡ refused n → Left a buffer old
     refused-grids a n z e w =
         refused-with a n z (rest ∙ asked-no (levelQuestions (r .grid) (r .factor) levels)
-        (laterQuestions r levels buffer (length old)) n z (sym e)) w
+        (laterLevelQuestions r levels buffer (length old)) n z (sym e)) w
 
     module _ (grids : firstNo (levelQuestions (r .grid) (r .factor) levels) ≡ 0) where
-      later : refusal r levels buffer old ≡ firstNo (laterQuestions r levels buffer (length old))
+      later : refineRefusal r levels buffer old ≡ firstNo (laterLevelQuestions r levels buffer (length old))
       later =
-          rest ∙ asked-next (levelQuestions (r .grid) (r .factor) levels) (laterQuestions r levels buffer (length old))
+          rest ∙ asked-next (levelQuestions (r .grid) (r .factor) levels)
+          (laterLevelQuestions r levels buffer (length old))
           (numbered-levels (r .grid) (r .factor) levels) grids
 
       pub refused-later : (a : Refined) (n : ℕ) → (n ≡ 0 → ⊥)
-          → n ≡ firstNo (laterQuestions r levels buffer (length old)) → a ≡ refused n → Left a buffer old
+          → n ≡ firstNo (laterLevelQuestions r levels buffer (length old)) → a ≡ refused n → Left a buffer old
       refused-later a n z e w = refused-with a n z (later ∙ sym e) w
 
-      pub passed-later : firstNo (laterQuestions r levels buffer (length old)) ≡ 0 → (found : List Level) (b c : List ℕ)
+      pub passed-later : firstNo (laterLevelQuestions r levels buffer (length old)) ≡ 0
+          → (found : List Level) (b c : List ℕ)
           → found ≡ levelsOf r levels
           → b ≡ labels (lastGrid r levels) (r .losses) → c ≡ numbersAfter r levels old
           → Left (record { code = 0; count = levels; levels = found }) b c
@@ -131,7 +134,7 @@ module _ (g : Grid) (k levels : ℕ) (some : 1 ≤ levels) (m : Grids) (made : A
     pub asked-later : (n : ℕ) (one other : GridStruct)
         → n ≡ firstNo (askedBehind (shape (getD (m .grids) 0 one)) (getD (m .grids) (levels - 1) other .points) start
         losses levels (length buffer) (length old))
-        → n ≡ firstNo (laterQuestions game levels buffer (length old))
+        → n ≡ firstNo (laterLevelQuestions game levels buffer (length old))
     asked-later n one other e =
         e
         ∙ ap (λ (h : Grid). firstNo (askedBehind h (getD (m .grids) (levels - 1) other .points) start losses levels
@@ -139,14 +142,14 @@ module _ (g : Grid) (k levels : ℕ) (some : 1 ≤ levels) (m : Grids) (made : A
         ∙ ap (λ (p : ℕ). firstNo (askedBehind g p start losses levels (length buffer) (length old))) (last-points other)
 
     module _ (range : ((2 ≤ k) × (k ≤ 10)) × ((1 ≤ levels) × (levels ≤ 8)))
-        (yes : firstNo (laterQuestions game levels buffer (length old)) ≡ 0) where
+        (yes : firstNo (laterLevelQuestions game levels buffer (length old)) ≡ 0) where
       can-run-game : CanRunAll game levels (m .grids) buffer old
       can-run-game =
           let q5 = first-yes (question5 g start) _ (omega arith) yes in
           let q10 = first-yes (question10 g losses) _ (omega arith) (q5 .1) in
           let q11 = first-yes (question11 losses) _ (omega arith) (q10 .1) in
           let q12 = first-yes (question12 (lastGrid game levels) buffer) _ (omega arith) (q11 .1) in
-          let q8 = first-yes (question8 g levels (length old)) [] (omega arith) (q12 .1) in
+          let q8 = first-yes (levelQuestion8 g levels (length old)) [] (omega arith) (q12 .1) in
           record {
             factor = range .0;
             some = range .1;
@@ -179,7 +182,8 @@ pub answer-few : (r : Refinement) (levels : ℕ) (buffer old : List ℕ)
 unfolding refineAnswer levelsOf
 answer-few r levels buffer old =
     ⊎-elim
-    (λ (z : refusal r levels buffer old ≡ 0). let w = passed r levels buffer (length old) z in
+    (λ (z : refineRefusal r levels buffer old ≡ 0). let w = passed r levels buffer (length old) z in
     rw z (w .levelsRange .1, refl))
-    (λ (n : refusal r levels buffer old ≡ 0 → ⊥). rw (ne-eqb (refusal r levels buffer old) 0 n) (omega arith, refl))
-    (same-or (refusal r levels buffer old) 0)
+    (λ (n : refineRefusal r levels buffer old ≡ 0 → ⊥). rw (ne-eqb (refineRefusal r levels buffer old) 0 n)
+    (omega arith, refl))
+    (same-or (refineRefusal r levels buffer old) 0)

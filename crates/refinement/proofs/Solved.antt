@@ -6,18 +6,18 @@ use lib.ListN.{length, drop, drop-of-length-le, length-drop, replicate, take}
 use lib.Seq.{length-take-le, take-all}
 use native.Mathlib.Omega.{arith}
 use Rattle.combinatorics.proofs.Fronts.{front-length, front-taken}
-use Rattle.combinatorics.specs.Front.{front}
+use Rattle.combinatorics.specs.Front.{front, padded}
 use Rattle.finder.proofs.Announcements.{point-long}
 use Rattle.finder.specs.Run.{caseOf}
 use Rattle.games.proofs.AllLabels.{labels-length}
 use Rattle.grid.proofs.Fields.{indices-few, made-indices, made-points}
-use Rattle.grid.specs.Made.{padded, shape}
+use Rattle.grid.specs.Made.{shape}
 use Rattle.grid.specs.declared.Grid.{Grid as GridStruct}
 use Rattle.levels.specs.Levels.{endOf, gameProblem}
 use Rattle.levels.specs.Questions.{levelRoom}
 use Rattle.losses.specs.Game.{labels}
 use Rattle.refinement.specs.Answer.{levelOf}
-use Rattle.refinement.specs.Runs.{CanRun, CanSolve, firstOf, numbersIn, problemAt, writtenAt}
+use Rattle.refinement.specs.Runs.{CanRunLevel, CanSolve, levelStartFrom, numbersIn, problemAt, writtenAt}
 use Rattle.refinement.specs.declared.Level.{Level}
 
 -- the part of a list from a on, whole, and put back
@@ -35,31 +35,32 @@ put-back a xs ys new h e =
 
 module _ (g : GridStruct) (level : ℕ) (start losses : List ℕ) (k : ℕ) (buffer answer : List ℕ)
     (ok : CanSolve g level start losses k buffer answer) (room : ℕ) (is : room ≡ levelRoom (shape g))
-    (first : List ℕ) (f : first ≡ padded 16 (firstOf (shape g) level start k answer)) where
-  first-long : length (firstOf (shape g) level start k answer) ≡ g .indices
+    (first : List ℕ) (f : first ≡ padded 16 (levelStartFrom (shape g) level start k answer)) where
+  first-long : length (levelStartFrom (shape g) level start k answer) ≡ g .indices
   first-long =
-      point-long (shape g) (firstOf (shape g) level start k answer) (ok .onGrid) ∙ sym (made-indices g (ok .made))
+      point-long (shape g) (levelStartFrom (shape g) level start k answer) (ok .onGrid)
+      ∙ sym (made-indices g (ok .made))
 
   pub first-inside : g .indices ≤ length first
   first-inside =
-      let few : length (firstOf (shape g) level start k answer) ≤ 16 =
+      let few : length (levelStartFrom (shape g) level start k answer) ≤ 16 =
       omega (arith, first-long, indices-few g (ok .made))
       in
-      let l : length (padded 16 (firstOf (shape g) level start k answer)) ≡ 16 =
-      front-length (firstOf (shape g) level start k answer) (replicate 16 0) few
+      let l : length (padded 16 (levelStartFrom (shape g) level start k answer)) ≡ 16 =
+      front-length (levelStartFrom (shape g) level start k answer) (replicate 16 0) few
       in
       omega (arith, few, first-long, ap length f ∙ l)
 
-  start-is : take (g .indices) first ≡ firstOf (shape g) level start k answer
+  start-is : take (g .indices) first ≡ levelStartFrom (shape g) level start k answer
   start-is =
       ap (take (g .indices)) f
-      ∙ ap (λ (n : ℕ). take n (padded 16 (firstOf (shape g) level start k answer))) (sym first-long)
-      ∙ front-taken (firstOf (shape g) level start k answer) (replicate 16 0)
+      ∙ ap (λ (n : ℕ). take n (padded 16 (levelStartFrom (shape g) level start k answer))) (sym first-long)
+      ∙ front-taken (levelStartFrom (shape g) level start k answer) (replicate 16 0)
 
   pub begins : level * room ≤ length answer
   begins = rw is (omega (arith, ok .room))
 
-  pub can-run : CanRun g (take (g .indices) first) losses (length (take (g .points) buffer))
+  pub can-run : CanRunLevel g (take (g .indices) first) losses (length (take (g .points) buffer))
       (length (take (length answer - level * room) (drop (level * room) answer)))
   can-run = record {
     made = ok .made;

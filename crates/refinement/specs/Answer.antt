@@ -54,19 +54,19 @@ abbrev pub refused : ℕ → Refined
 refused number = record { code = number; count = 0; levels = replicate 8 noLevel }
 
 -- the number of the first question answered no, with the label buffer and the numbers of the answer buffer
-abbrev pub refusal : Refinement → ℕ → List ℕ → List ℕ → ℕ
-refusal r levels buffer old = firstNo (refineQuestions r levels buffer (length old))
+abbrev pub refineRefusal : Refinement → ℕ → List ℕ → List ℕ → ℕ
+refineRefusal r levels buffer old = firstNo (refineQuestions r levels buffer (length old))
 
 -- "Questions .. come before the first is run"
 unfoldable pub refineAnswer : Refinement → ℕ → List ℕ → List ℕ → Refined
 refineAnswer r levels buffer old =
-    let number = refusal r levels buffer old in
+    let number = refineRefusal r levels buffer old in
     cond (eqb number 0) (record { code = 0; count = levels; levels = levelsOf r levels }) (refused number)
 
 -- "The label buffer .. ends holding" the last level's table
 unfoldable pub labelsLeft : Refinement → ℕ → List ℕ → List ℕ → List ℕ
 labelsLeft r levels buffer old =
-    cond (eqb (refusal r levels buffer old) 0) (labels (lastGrid r levels) (r .losses)) buffer
+    cond (eqb (refineRefusal r levels buffer old) 0) (labels (lastGrid r levels) (r .losses)) buffer
 
 unfoldable pub answerLeft : Refinement → ℕ → List ℕ → List ℕ → List ℕ
-answerLeft r levels buffer old = cond (eqb (refusal r levels buffer old) 0) (numbersAfter r levels old) old
+answerLeft r levels buffer old = cond (eqb (refineRefusal r levels buffer old) 0) (numbersAfter r levels old) old

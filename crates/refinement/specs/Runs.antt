@@ -10,7 +10,7 @@ use Rattle.combinatorics.specs.Lists.{all, concatMap}
 use Rattle.grid.specs.Grid.{Grid, isGridPoint, numIndices, numPoints}
 use Rattle.grid.specs.Made.{IsMade, gridOf, noGrid, shape}
 use Rattle.grid.specs.declared.Grid.{Grid as GridStruct}
-use Rattle.levels.specs.Levels.{Refinement, endOf, gameProblem, levelGrid, times, verticesOf}
+use Rattle.levels.specs.Levels.{Refinement, endOf, gameProblem, levelGrid, times, answerVertices}
 use Rattle.levels.specs.Questions.{lastGrid, levelQuestions, levelRoom}
 use Rattle.losses.specs.Table.{IsTable}
 use Rattle.place.specs.Problem.{Problem}
@@ -24,12 +24,12 @@ pub record Fit (k : ℕ) (numbers : List ℕ) : Type 0 where
 
 -- the vertices that a run with its bound as budget writes
 abbrev pub numbersIn : Problem → List ℕ
-numbersIn p = concatMap (λ y. y) (verticesOf (endOf p))
+numbersIn p = concatMap (λ y. y) (answerVertices (endOf p))
 
 -- where a level starts, by what the level before has written
-abbrev pub firstOf : Grid → ℕ → List ℕ → ℕ → List ℕ → List ℕ
-firstOf g zero start k answer = start
-firstOf g (suc i) start k answer = times k (take (numIndices g) (drop (i * levelRoom g) answer))
+abbrev pub levelStartFrom : Grid → ℕ → List ℕ → ℕ → List ℕ → List ℕ
+levelStartFrom g zero start k answer = start
+levelStartFrom g (suc i) start k answer = times k (take (numIndices g) (drop (i * levelRoom g) answer))
 
 pub record CanStart (g : Grid) (level : ℕ) (start : List ℕ) (k : ℕ) (answer : List ℕ) : Type 0 where
   pub long : length start ≡ numIndices g
@@ -37,7 +37,7 @@ pub record CanStart (g : Grid) (level : ℕ) (start : List ℕ) (k : ℕ) (answe
   pub few : level ≤ 8
   pub fit : (i : ℕ) → level ≡ suc i → Fit k (take (numIndices g) (drop (i * levelRoom g) answer))
 
-pub record CanRun (grid : GridStruct) (start losses : List ℕ) (labelRoom room : ℕ) : Type 0 where
+pub record CanRunLevel (grid : GridStruct) (start losses : List ℕ) (labelRoom room : ℕ) : Type 0 where
   pub made : IsMade grid
   pub onGrid : isGridPoint (shape grid) start ≡ true
   pub table : IsTable (shape grid) losses
@@ -46,7 +46,7 @@ pub record CanRun (grid : GridStruct) (start losses : List ℕ) (labelRoom room 
 
 -- a level's problem, by what the level before has written
 abbrev pub problemAt : Grid → ℕ → List ℕ → List ℕ → ℕ → List ℕ → Problem
-problemAt g level start losses k answer = gameProblem g (firstOf g level start k answer) losses
+problemAt g level start losses k answer = gameProblem g (levelStartFrom g level start k answer) losses
 
 -- the answer buffer with the vertices of that problem's end at the level's room
 abbrev pub writtenAt : Grid → ℕ → Problem → List ℕ → List ℕ
@@ -56,7 +56,7 @@ pub record CanSolve (grid : GridStruct) (level : ℕ) (start losses : List ℕ) 
   where
     pub made : IsMade grid
     pub starts : CanStart (shape grid) level start k answer
-    pub onGrid : isGridPoint (shape grid) (firstOf (shape grid) level start k answer) ≡ true
+    pub onGrid : isGridPoint (shape grid) (levelStartFrom (shape grid) level start k answer) ≡ true
     pub table : IsTable (shape grid) losses
     pub points : grid .points ≤ length buffer
     pub room : suc level * levelRoom (shape grid) ≤ length answer

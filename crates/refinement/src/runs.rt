@@ -1,16 +1,16 @@
 // The runs of the levels, each on its grid.
 ghost use mathlib.Core.Path.{_≡_};
 ghost use lib.ListN.{length};
-ghost use Rattle.combinatorics.specs.Front.{front};
+ghost use Rattle.combinatorics.specs.Front.{front, padded};
 ghost use Rattle.finder.specs.Run.{caseOf};
-ghost use Rattle.grid.specs.Made.{IsMade, padded, shape};
+ghost use Rattle.grid.specs.Made.{IsMade, shape};
 ghost use Rattle.levels.specs.Buffers.{numbersAfter};
 ghost use Rattle.levels.specs.Levels.{endOf, gameProblem, times};
 ghost use Rattle.levels.specs.Questions.{lastGrid};
 ghost use Rattle.losses.specs.Game.{labels as labelsOf};
 ghost use Rattle.refinement.specs.Answer.{levelOf, levelsOf};
-ghost use Rattle.refinement.specs.Runs.{CanRun, CanRunAll, CanSolve, CanStart, Fit};
-ghost use Rattle.refinement.specs.Runs.{firstOf, gameOf, numbersIn, problemAt, writtenAt};
+ghost use Rattle.refinement.specs.Runs.{CanRunLevel, CanRunAll, CanSolve, CanStart, Fit};
+ghost use Rattle.refinement.specs.Runs.{levelStartFrom, gameOf, numbersIn, problemAt, writtenAt};
 use crate::Level;
 use crate::no_level;
 use finder::Answer;
@@ -36,7 +36,8 @@ fn scaled(numbers: &[u16], factor: usize) -> [u16; 16]
 // Where a level starts: the first at the start lent, each next one at k times the first vertex of the level before.
 fn start_of(grid: Grid, level: usize, start: &[u16], factor: usize, answer: &[u16]) -> [u16; 16]
     requires { ⌜ CanStart (shape grid) level (now start) factor (now answer) × IsMade grid ⌝ }
-    ensures { λ r. ⌜ r ≡ padded 16 (firstOf (shape grid) level (now (start .entry)) factor (now (answer .entry))) ⌝ }
+    ensures { λ r.
+        ⌜ r ≡ padded 16 (levelStartFrom (shape grid) level (now (start .entry)) factor (now (answer .entry))) ⌝ }
 {
     let m = grid.indices;
     if level == 0 {
@@ -55,7 +56,7 @@ fn run_level(
     labels: &mut [u8],
     answer: &mut [u16],
 ) -> Level
-    requires { ⌜ CanRun grid (now start) (now losses) (length (now labels)) (length (now answer)) ⌝ }
+    requires { ⌜ CanRunLevel grid (now start) (now losses) (length (now labels)) (length (now answer)) ⌝ }
     ensures level { λ r. ⌜ r
         ≡ levelOf (caseOf (endOf (gameProblem (shape grid) (now (start .entry)) (now (losses .entry))))) ⌝ }
     ensures labels { λ _. ⌜ now (labels .exit) ≡ labelsOf (shape grid) (now (losses .entry)) ⌝ }

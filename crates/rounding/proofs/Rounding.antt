@@ -10,21 +10,22 @@ use lib.Dec.{eqb, ltb}
 use borrow.Author.Tests.{eq-eqb, eqb-true, lt-ltb, ltb-true}
 use Rattle.combinatorics.proofs.Basics.{absurd-bool, and-both, and-left, and-right, before-or-not, or-cases, or-left}
 use Rattle.combinatorics.proofs.Basics.{or-right}
-use Rattle.rounding.specs.Centre.{distance, isNearest, rounded, centre}
+use Rattle.combinatorics.specs.Counting.{apart}
+use Rattle.rounding.specs.Centre.{isNearest, rounded, centre}
 
 -- the statement as one comparison: an even q is at most half away, an odd one less
-within-nearest : (a b q : ℕ) → 2 * distance a (q * b) + q % 2 ≤ b → isNearest a b q ≡ true
+within-nearest : (a b q : ℕ) → 2 * apart a (q * b) + q % 2 ≤ b → isNearest a b q ≡ true
 unfolding isNearest
 within-nearest a b q test =
-    let twice = 2 * distance a (q * b) in
+    let twice = 2 * apart a (q * b) in
     ⊎-elim (λ less. or-left _ _ (lt-ltb twice b less))
     (λ half. or-right (ltb twice b) _ (and-both _ _ (eq-eqb twice b (omega arith)) (eq-eqb (q % 2) 0 (omega arith))))
     (before-or-not twice b)
 
-nearest-within : (a b q : ℕ) → isNearest a b q ≡ true → 2 * distance a (q * b) + q % 2 ≤ b
+nearest-within : (a b q : ℕ) → isNearest a b q ≡ true → 2 * apart a (q * b) + q % 2 ≤ b
 unfolding isNearest
 nearest-within a b q e =
-    let twice = 2 * distance a (q * b) in
+    let twice = 2 * apart a (q * b) in
     ⊎-elim
     (λ less. let below = ltb-true twice b less in omega arith)
     (λ half.

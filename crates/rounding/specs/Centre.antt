@@ -1,17 +1,14 @@
 -- Rounding as the journals round, and a centre's number. Assumes nothing.
 use mathlib.Core.Bool.{Bool, _&&_, _||_, cond}
-use Prim.Native.Nat.{ℕ, _+_, _-_, _*_, _/_, _%_}
+use Prim.Native.Nat.{ℕ, _+_, _*_, _/_, _%_}
 use lib.Dec.{eqb, ltb}
-
--- how far apart two numbers stand: a difference of whole numbers stops at 0, so one of the two is 0
-abbrev pub distance : ℕ → ℕ → ℕ
-distance m n = (m - n) + (n - m)
+use Rattle.combinatorics.specs.Counting.{apart}
 
 -- "nearest, and at exactly half on the even neighbour": q stands less than half away from a over b, or exactly half
 -- away and is even
 unfoldable pub isNearest : ℕ → ℕ → ℕ → Bool
 isNearest a b q =
-    let twice = 2 * distance a (q * b) in
+    let twice = 2 * apart a (q * b) in
     ltb twice b || (eqb twice b && eqb (q % 2) 0)
 
 -- of the two whole numbers beside a over b, the one that is nearest

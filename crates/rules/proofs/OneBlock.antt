@@ -21,7 +21,7 @@ use Rattle.grid.proofs.Round.{next-at, next-round}
 use Rattle.grid.specs.Grid.{Point, at, numBlocks, numIndices, firstIndex, isGridPoint, position}
 use Rattle.place.specs.Problem.{Problem}
 use Rattle.path_laws.proofs.BlocksOfGrid.{blocksOf, next-agrees, start-inside}
-use Rattle.path_laws.specs.Demand.{Settled}
+use Rattle.path_laws.specs.Demand.{HasStart}
 use Rattle.path_laws.proofs.Filled.{FullyLabelled}
 use Rattle.positions.proofs.ByTails.{all-indices, position-tells, tails-order}
 use Rattle.positions.specs.Falls.{tailFrom, Falls}
@@ -32,7 +32,7 @@ use Rattle.rules.proofs.Walks.{in-block, source-from}
 use Rattle.rules.specs.Read.{pointIn, stepAt, sourceAt, Falling}
 use Rattle.rules.specs.Step.{State, sourceIn}
 
-grid-accepted : (p : Problem) → Settled p → GridAccepted p.grid
+grid-accepted : (p : Problem) → HasStart p → GridAccepted p.grid
 grid-accepted p ok = record {
   someBlock = ok .someBlock;
   fewBlocks = ok .sixBlocks;
@@ -43,7 +43,7 @@ grid-accepted p ok = record {
   fewPoints = ok .points;
 }
 
-module _ (p : Problem) (ok : Settled p) (one : numBlocks p.grid ≡ 1) where
+module _ (p : Problem) (ok : HasStart p) (one : numBlocks p.grid ≡ 1) where
   next-up : (k : ℕ) → suc k < numIndices p.grid → blocksOf p .next k ≡ suc k
   next-up k l =
       let z : firstIndex p.grid 0 + k ≡ k = omega arith in

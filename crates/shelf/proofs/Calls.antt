@@ -13,7 +13,7 @@ use Rattle.combinatorics.proofs.Basics.{and-left, and-right, false-of, not-is, 
 use Rattle.questions.proofs.Answers.{first-yes}
 use Rattle.questions.specs.Questions.{firstNo}
 use Rattle.shelf.proofs.Sheets.{Shelf, is-shelf, shelf-of}
-use Rattle.shelf.specs.Calls.{asking, filing, filingRefusal, listAfter}
+use Rattle.shelf.specs.Calls.{asking, filing, filingRefusal, listFiled}
 use Rattle.shelf.specs.Questions.{question21, question22, question23OfFiling}
 use Rattle.shelf.specs.Shelf.{current, isReplaced, isShelf}
 use Rattle.shelf.specs.declared.answers.Current.the-variants.{Refused as NoSheet, Sheet}
@@ -62,19 +62,19 @@ module _ (list : List ℕ) (count named : ℕ) where
   pub filed-count : {new : ℕ} → filing list count named ≡ FiledAs new → new ≡ suc count
   filed-count e = accepted e .1
 
-  pub filed-list : {new : ℕ} → filing list count named ≡ FiledAs new → listAfter list count named ≡ set list count named
-  unfolding listAfter
+  pub filed-list : {new : ℕ} → filing list count named ≡ FiledAs new → listFiled list count named ≡ set list count named
+  unfolding listFiled
   filed-list e = rw (accepted e .0)
 
   -- the other way round: a refusal gives its number and leaves the list, and else the entry is written
   pub refuses : (number : ℕ) → 1 ≤ number → filingRefusal list count named ≡ number
-      → (NotFiled number ≡ filing list count named) × (list ≡ listAfter list count named)
-  unfolding filing listAfter
+      → (NotFiled number ≡ filing list count named) × (list ≡ listFiled list count named)
+  unfolding filing listFiled
   refuses number h e = let n : eqb number 0 ≡ false = ne-eqb number 0 (λ z. omega arith) in (rw (e, n), rw (e, n))
 
   pub files : filingRefusal list count named ≡ 0
-      → (FiledAs (count + 1) ≡ filing list count named) × (set list count named ≡ listAfter list count named)
-  unfolding filing listAfter
+      → (FiledAs (count + 1) ≡ filing list count named) × (set list count named ≡ listFiled list count named)
+  unfolding filing listFiled
   files e = (rw (e, add-one count), rw e)
 
   pub refusal-21 : isShelf list count ≡ false → filingRefusal list count named ≡ 21

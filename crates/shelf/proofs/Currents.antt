@@ -10,7 +10,8 @@ use lib.Dec.{eqb}
 use native.Mathlib.Omega.{arith}
 use Rattle.combinatorics.proofs.Basics.{absurd-bool, same-or, true-or-false}
 use Rattle.shelf.proofs.Sheets.{Shelf, filed-later, last-names, later, none-named, none-names, one-replaces}
-use Rattle.shelf.specs.Shelf.{IsCurrent, Reached, Replaces, current, entry, goOn, here, isReplaced, names, onward}
+use Rattle.shelf.specs.Shelf.{IsCurrent, Reached, Replaces, current, entry, goToReplacement, here, isReplaced}
+use Rattle.shelf.specs.Shelf.{names, onward}
 use Rattle.shelf.specs.Shelf.{replacement}
 
 module _ (list : List ℕ) where
@@ -31,13 +32,13 @@ module _ (list : List ℕ) where
       (true-or-false (names list (suc c) s))
 
   module _ (count : ℕ) where
-    goes-nowhere : (n s : ℕ) → isReplaced list count s ≡ false → goOn n list count s ≡ s
-    unfolding goOn
+    goes-nowhere : (n s : ℕ) → isReplaced list count s ≡ false → goToReplacement n list count s ≡ s
+    unfolding goToReplacement
     goes-nowhere zero s e = refl
     goes-nowhere (suc n) s e = rw (replacement-none count s e) (goes-nowhere n s e)
 
-    goes : (n s : ℕ) → Reached list count s (goOn n list count s)
-    unfolding goOn
+    goes : (n s : ℕ) → Reached list count s (goToReplacement n list count s)
+    unfolding goToReplacement
     goes zero s = here
     goes (suc n) s = ⊎-elim
         (λ (t : isReplaced list count s ≡ true).
@@ -45,8 +46,8 @@ module _ (list : List ℕ) where
         (λ (t : isReplaced list count s ≡ false). rw (replacement-none count s t) (goes n s))
         (true-or-false (isReplaced list count s))
 
-    ends : Shelf list count → (n s : ℕ) → count ≤ s + n → isReplaced list count (goOn n list count s) ≡ false
-    unfolding goOn
+    ends : Shelf list count → (n s : ℕ) → count ≤ s + n → isReplaced list count (goToReplacement n list count s) ≡ false
+    unfolding goToReplacement
     ends f zero s h = none-named list (λ k r. absurd (omega (arith, later list f r, r .filed)))
     ends f (suc n) s h = ⊎-elim
         (λ (t : isReplaced list count s ≡ true).

@@ -23,8 +23,8 @@ filing list count named =
     let number = filingRefusal list count named in cond (eqb number 0) (FiledAs (suc count)) (NotFiled number)
 
 -- "Filing writes only the entry behind those filed"; a refusal writes nothing
-unfoldable pub listAfter : List ℕ → ℕ → ℕ → List ℕ
-listAfter list count named = cond (eqb (filingRefusal list count named) 0) (set list count named) list
+unfoldable pub listFiled : List ℕ → ℕ → ℕ → List ℕ
+listFiled list count named = cond (eqb (filingRefusal list count named) 0) (set list count named) list
 
 -- the number by which asking is refused, or 0
 abbrev pub askingRefusal : List ℕ → ℕ → ℕ → ℕ
@@ -45,4 +45,4 @@ gives (Sheet last) sheet = eqb sheet last
 pub data OnlyFiledOn : List ℕ → ℕ → Type 0 where
   begun : {list : List ℕ} → OnlyFiledOn list 0
   filedOn : {list : List ℕ} {count : ℕ} (named new : ℕ) → OnlyFiledOn list count → filing list count named ≡ FiledAs new
-      → OnlyFiledOn (listAfter list count named) new
+      → OnlyFiledOn (listFiled list count named) new

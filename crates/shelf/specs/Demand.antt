@@ -5,7 +5,7 @@ use mathlib.Core.Logic.{_⊎_, _↔_}
 use mathlib.Core.Path.{_≡_}
 use Prim.Native.Nat.{ℕ, suc, _≤_, _<_}
 use lib.Dec.{eqb}
-use Rattle.shelf.specs.Calls.{asking, askingRefusal, filingRefusal, gives, listAfter}
+use Rattle.shelf.specs.Calls.{asking, askingRefusal, filingRefusal, gives, listFiled}
 use Rattle.shelf.specs.Shelf.{IsCurrent, OnShelf, Reached, Replaces, current, isShelf}
 use Rattle.shelf.specs.declared.answers.Current.the-variants.{Sheet}
 
@@ -33,16 +33,16 @@ pub record AfterFiling (list : List ℕ) (count named new : ℕ) : Type 0 where
   -- "answers with the new count"
   pub counted : new ≡ suc count
   -- what question 21 let pass it lets pass again
-  pub kept : isShelf (listAfter list count named) new ≡ true
+  pub kept : isShelf (listFiled list count named) new ≡ true
   -- of every sheet, the new one too: its current one is the new sheet, if it is the new sheet or its current one is
   -- named; else what it was
   pub currents : (sheet : ℕ) → 1 ≤ sheet → sheet ≤ new
-      → current (listAfter list count named) new sheet
+      → current (listFiled list count named) new sheet
       ≡ cond (eqb sheet new || eqb named (current list count sheet)) new (current list count sheet)
   -- "filing a sheet changes the answer only for itself and for sheets whose current one was just replaced", of every
   -- number, on the shelf or not
   pub answers : (sheet : ℕ)
-      → asking (listAfter list count named) new sheet
+      → asking (listFiled list count named) new sheet
       ≡ cond (eqb sheet new || gives (asking list count sheet) named) (Sheet new) (asking list count sheet)
 
 -- of a shelf that meets 21 in no call

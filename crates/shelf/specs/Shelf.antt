@@ -43,13 +43,13 @@ unfoldable pub replacement : List ℕ → ℕ → ℕ → ℕ
 replacement list count sheet = firstOr sheet (filter (λ later. names list later sheet) (sheets count))
 
 -- "going from each to its replacement", so many times
-unfoldable pub goOn : ℕ → List ℕ → ℕ → ℕ → ℕ
-goOn zero list count sheet = sheet
-goOn (suc times) list count sheet = goOn times list count (replacement list count sheet)
+unfoldable pub goToReplacement : ℕ → List ℕ → ℕ → ℕ → ℕ
+goToReplacement zero list count sheet = sheet
+goToReplacement (suc times) list count sheet = goToReplacement times list count (replacement list count sheet)
 
 -- "the current one, reached by going from each to its replacement": there are no more to go to than sheets
 unfoldable pub current : List ℕ → ℕ → ℕ → ℕ
-current list count sheet = goOn count list count sheet
+current list count sheet = goToReplacement count list count sheet
 
 -- a sheet of a shelf that question 21 lets pass
 pub record OnShelf (list : List ℕ) (count sheet : ℕ) : Type 0 where

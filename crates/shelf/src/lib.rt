@@ -1,6 +1,6 @@
 // The shelf of sheets that replace sheets: request 13. It knows nothing of grids, labels and runs; a sheet is a number.
 ghost use mathlib.Core.Path.{_≡_};
-ghost use Rattle.shelf.specs.Calls.{filing, filingRefusal, listAfter, asking};
+ghost use Rattle.shelf.specs.Calls.{filing, filingRefusal, listFiled, asking};
 
 mod answers;
 mod passes;
@@ -37,7 +37,7 @@ fn first_no(list: &[u16], count: usize, named: usize) -> u8
 // Only the entry behind those filed is written, and a refusal writes nothing.
 pub fn file(list: &mut [u16], count: usize, named: usize) -> Filed
     ensures answer { λ r. ⌜ r ≡ filing (now (list .entry)) count named ⌝ }
-    ensures list { λ _. ⌜ now (list .exit) ≡ listAfter (now (list .entry)) count named ⌝ }
+    ensures list { λ _. ⌜ now (list .exit) ≡ listFiled (now (list .entry)) count named ⌝ }
 {
     let number = first_no(list, count, named);
     if number != 0 {

@@ -30,7 +30,7 @@ use Rattle.path_laws.proofs.Meaning.{index-means}
 use Rattle.path_laws.proofs.Positions.{at-in, in-at, never, occurs-once}
 use Rattle.simplices.proofs.Tests.{Below, Nested, coefficients-by, nested-by}
 use Rattle.simplices.specs.Chains.{startingAt, coefficientsFrom}
-use Rattle.simplices.specs.Simplices.{stepped, isOrder, eachStepped, isSimplex}
+use Rattle.simplices.specs.Simplices.{isStep, isOrder, eachStepped, isSimplex}
 
 -- the first i indices of an order, as a set
 abbrev pub passed : List ℕ → ℕ → ℕ → ℕ
@@ -119,10 +119,10 @@ module _ (g : Grid) where
   walk-rule (h ∷ o) (y ∷ z ∷ s) e b zero l k x = refl
   walk-rule (h ∷ o) (y ∷ z ∷ s) e b (suc i) l k x =
       let ih : at (nth (z ∷ s) i) k + passed o i (next g k) ≡ at z k + passed o i k = walk-rule o (z ∷ s)
-      (and-right (stepped g h y z) _ e) (λ a m. b a (in-later onNumbers a h o m)) i (omega arith) k x in
+      (and-right (isStep g h y z) _ e) (λ a m. b a (in-later onNumbers a h o m)) i (omega arith) k x in
       omega (
         arith,
-        goes-at g h (previous g h) y z (and-left (stepped g h y z) _ e) k x,
+        goes-at g h (previous g h) y z (and-left (isStep g h y z) _ e) k x,
         around h k (b h (in-here onNumbers h o)) x,
         occurs-more k h (take i o),
         occurs-more (next g k) h (take i o),
@@ -185,7 +185,7 @@ module _ (g : Grid) (zs : List Point) (z0 : Point) (m0 : isIn samePoint z0 zs �
     where
       rest : Walk g o (z ∷ s)
       rest = record {
-        steps = and-right (stepped g a y z) _ w.steps;
+        steps = and-right (isStep g a y z) _ w.steps;
         onGrid = and-right (isGridPoint g y) (all (isGridPoint g) (z ∷ s)) w.onGrid;
         once = distinct-tail eqb a o w.once;
         below = λ h m. w .below h (in-later onNumbers h a o m);

@@ -32,7 +32,7 @@ use Rattle.path_laws.proofs.PathSteps.{trail, all-places, finish}
 use Rattle.path_laws.proofs.Start.{start-place}
 use Rattle.path_laws.proofs.ToChain.{place-long}
 use Rattle.path_laws.proofs.Ways.{IsWay, byPlace, byFacet, end-is, onEnds}
-use Rattle.path_laws.specs.Demand.{Settled, SamePoints, placeAt}
+use Rattle.path_laws.specs.Demand.{HasStart, SamePoints, placeAt}
 use Rattle.simplices.proofs.Ends.{end-only}
 use Rattle.simplices.proofs.Places.{accepted-grid, place-in-simplex, unlabelled-in-simplex}
 use Rattle.simplices.proofs.Search.{search-finds, few-in-simplex}
@@ -56,7 +56,7 @@ module _ {g : Grid} (A : Accepted g) (zs : List Point) (on : all (isGridPoint g)
   answer-by-test labels = rw one-simplex-test
 
 -- every part of a place, labels apart, passes the test
-pub part-of-place : {p : Problem} → Settled p → (s : Simplex) → isUnlabelledPlace p s ≡ true → (ys : List Point)
+pub part-of-place : {p : Problem} → HasStart p → (s : Simplex) → isUnlabelledPlace p s ≡ true → (ys : List Point)
     → 0 < length ys → distinct samePoint ys ≡ true
     → ((y : Point) → isIn samePoint y ys ≡ true → isIn samePoint y s ≡ true)
     → oneChain p.grid ys ≡ true
@@ -119,7 +119,7 @@ removed-distinct (suc i) (x ∷ s) d =
     (λ m. absurd-bool (sym (removed-in i s x m) ∙ distinct-out samePoint x s d)) in
     rw out (removed-distinct i s (distinct-tail samePoint x s d))
 
-module _ {p : Problem} (ok : Settled p) where
+module _ {p : Problem} (ok : HasStart p) where
   -- what an end of a place shows: distinct points, in one simplex, complete for a block
   record Shown (e : End) : Type 0 where
     nonempty : 1 ≤ length e.simplex

@@ -31,7 +31,7 @@ use Rattle.path_laws.proofs.Meaning.{U-means, labels-mean, free-means, complete
 use Rattle.path_laws.proofs.Positions.{at-in, in-at, each-at}
 use Rattle.path_laws.proofs.ToChain.{place-long}
 use Rattle.path_laws.proofs.Ways.{IsWay, byPlace, byFacet}
-use Rattle.path_laws.specs.Demand.{Settled}
+use Rattle.path_laws.specs.Demand.{HasStart}
 
 -- a set of points has no more labels than points
 labels-few : (p : Problem) (s : Simplex) (xs : List ℕ) → distinct eqb xs ≡ true
@@ -58,7 +58,7 @@ same-block p i j x m n = sym (of i m) ∙ of j n
         let e : firstIndex p.grid j + (x - firstIndex p.grid j) ≡ x = omega (arith, r .0) in
         rw e at (block-agrees p j (x - firstIndex p.grid j) (omega (arith, r .0, r .1)))
 
-module _ {p : Problem} (ok : Settled p) (s : Simplex) (h : isPlace p s ≡ true) where
+module _ {p : Problem} (ok : HasStart p) (s : Simplex) (h : isPlace p s ≡ true) where
   -- an index of block j in neither T nor U
   free : (j : ℕ) → j < numBlocks p.grid
       → (x : ℕ) × (isIn eqb x (indicesOf p.grid j) ≡ true) × (isIn eqb x (setT p s) ≡ false)

@@ -32,13 +32,13 @@ use Rattle.path_laws.proofs.Meaning.{index-means}
 use Rattle.path_laws.proofs.Positions.{in-at, occurs-once}
 use Rattle.path_laws.proofs.Start.{start-place}
 use Rattle.path_laws.proofs.ToChain.{place-chain}
-use Rattle.path_laws.specs.Demand.{Settled}
+use Rattle.path_laws.specs.Demand.{HasStart}
 use Rattle.simplices.proofs.Along.{around}
 use Rattle.simplices.proofs.Closed.{Closed, Whole, whole-of, More, more-of, raise-above}
 use Rattle.simplices.proofs.Smallest.{Sets, largest, zero-from, more-or, Smallest, smallest}
 use Rattle.simplices.proofs.Tests.{Below, Nested, setAt, settled, index-at, on-at, is-list}
 use Rattle.simplices.specs.Chains.{startingAt}
-use Rattle.simplices.specs.Simplices.{stepped, isOrder, eachStepped, isSimplex, InOneSimplex}
+use Rattle.simplices.specs.Simplices.{isStep, isOrder, eachStepped, isSimplex, InOneSimplex}
 
 -- sums of a set
 upto-le : {c d : ℕ → ℕ} → Below c d → (m : ℕ) → upto c m ≤ upto d m
@@ -68,12 +68,12 @@ module _ {g : Grid} (A : Accepted g) (p : Point) (hp : isGridPoint g p ≡ true)
   abbrev pointAt : (ℕ → ℕ) → Point
   pointAt = pointOf (startingAt g p)
 
-  ok : Settled (startingAt g p)
+  ok : HasStart (startingAt g p)
   ok = settled g A p hp
 
   -- one index more steps to the next point
   one-step : (h : ℕ) (c : ℕ → ℕ) → h < numIndices g → OnRing R c → OnRing R (raise h c)
-      → stepped g h (pointAt c) (pointAt (raise h c)) ≡ true
+      → isStep g h (pointAt c) (pointAt (raise h c)) ≡ true
   unfolding goesTo
   one-step h c l a b =
       index-at g (λ k. eqb (at (pointAt (raise h c)) k + unit (previous g h) k) (at (pointAt c) k + unit h k)) (λ k x.

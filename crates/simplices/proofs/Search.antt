@@ -27,12 +27,12 @@ use Rattle.place.specs.Places.{unit, within}
 use Rattle.path_laws.proofs.IndexSets.{goes-at}
 use Rattle.path_laws.proofs.Meaning.{index-means}
 use Rattle.simplices.proofs.Along.{Walk, walk-of}
-use Rattle.simplices.specs.Simplices.{stepped, isOrder, eachStepped, isSimplex, InOneSimplex, stepFrom}
-use Rattle.simplices.specs.Simplices.{pointsFrom, inOneSimplex}
+use Rattle.simplices.specs.Simplices.{isStep, isOrder, eachStepped, isSimplex, InOneSimplex, stepFrom}
+use Rattle.simplices.specs.Simplices.{pointsAlong, inOneSimplex}
 
 module _ (g : Grid) where
   -- the first point and the order determine all
-  step-is : (h : ℕ) (y z : Point) → length z ≡ numIndices g → stepped g h y z ≡ true → stepFrom g h y ≡ z
+  step-is : (h : ℕ) (y z : Point) → length z ≡ numIndices g → isStep g h y z ≡ true → stepFrom g h y ≡ z
   step-is h y z l e =
       let f : ℕ → ℕ = λ k. at y k + unit h k - unit (previous g h) k in
       let long : length (stepFrom g h y) ≡ numIndices g = length-map (indices g) f ∙ length-upFrom 0 (numIndices g) in
@@ -47,22 +47,22 @@ module _ (g : Grid) where
 
   points-are : (o : List ℕ) (y : Point) (s : List Point) → eachStepped g o (y ∷ s) ≡ true
       → all (isGridPoint g) (y ∷ s) ≡ true
-      → pointsFrom g y o ≡ y ∷ s
+      → pointsAlong g y o ≡ y ∷ s
   points-are [] y [] e h = refl
   points-are [] y (z ∷ s) e h = absurd-bool (sym e)
   points-are (a ∷ o) y [] e h = absurd-bool (sym e)
   points-are (a ∷ o) y (z ∷ s) e h =
       let hs : all (isGridPoint g) (z ∷ s) ≡ true = and-right (isGridPoint g y) (all (isGridPoint g) (z ∷ s)) h in
       let q : stepFrom g a y ≡ z =
-      step-is a y z (grid-long z (and-left (isGridPoint g z) _ hs)) (and-left (stepped g a y z) _ e) in
-      rw q (ap (λ (l : List Point). y ∷ l) (points-are o z s (and-right (stepped g a y z) _ e) hs))
+      step-is a y z (grid-long z (and-left (isGridPoint g z) _ hs)) (and-left (isStep g a y z) _ e) in
+      rw q (ap (λ (l : List Point). y ∷ l) (points-are o z s (and-right (isStep g a y z) _ e) hs))
 
   none : (o : List ℕ) → eachStepped g o [] ≡ true → ⊥
   none [] e = absurd-bool (sym e)
   none (h ∷ o) e = absurd-bool (sym e)
 
   found : List Point → Point → List ℕ → Bool
-  found zs y o = let s = pointsFrom g y o in isSimplex g o s && all (λ z. isIn samePoint z s) zs
+  found zs y o = let s = pointsAlong g y o in isSimplex g o s && all (λ z. isIn samePoint z s) zs
 
   order-few : {o : List ℕ} {s : List Point} → Walk g o s → length o ≤ numIndices g
   order-few {o} w = omega (
@@ -86,7 +86,7 @@ module _ (g : Grid) where
               → any (λ y. any (found zs y) (selections (numIndices g) (indices g))) (points g) ≡ true
           go [] h a w = absurd (none I.order w.steps)
           go (y ∷ s) h a w =
-              let e : pointsFrom g y I.order ≡ y ∷ s = points-are I.order y s w.steps w.onGrid in
+              let e : pointsAlong g y I.order ≡ y ∷ s = points-are I.order y s w.steps w.onGrid in
               in-any onPoints (λ y. any (found zs y) os) y (points g)
               (in-points g y A.sameNumber (and-left (isGridPoint g y) _ w.onGrid))
               (in-any onPoints (found zs y) I.order os
@@ -99,7 +99,7 @@ module _ (g : Grid) where
       from h =
           let y = any-in onPoints (λ y. any (found zs y) os) (points g) h in
           let o = any-in onPoints (found zs y.0) os y.2 in
-          let s = pointsFrom g y.0 o.0 in
+          let s = pointsAlong g y.0 o.0 in
           record {
             order = o .0;
             points = s;
@@ -129,7 +129,7 @@ steps-long g [] (y ∷ []) e = refl
 steps-long g [] (y ∷ z ∷ s) e = absurd-bool (sym e)
 steps-long g (a ∷ o) [] e = absurd-bool (sym e)
 steps-long g (a ∷ o) (y ∷ []) e = absurd-bool (sym e)
-steps-long g (a ∷ o) (y ∷ z ∷ s) e = ap suc (steps-long g o (z ∷ s) (and-right (stepped g a y z) _ e))
+steps-long g (a ∷ o) (y ∷ z ∷ s) e = ap suc (steps-long g o (z ∷ s) (and-right (isStep g a y z) _ e))
 
 module _ (g : Grid) (o : List ℕ) (s : List Point) (h : isSimplex g o s ≡ true) where
   pub left-one : (j : ℕ) → j < numBlocks g → length (filter (λ h. not (isIn eqb h o)) (indicesOf g j)) ≡ 1

@@ -33,7 +33,7 @@ use Rattle.path_laws.proofs.BlocksOfGrid.{coefficientOf-is, point-coefficientOf
 use Rattle.path_laws.proofs.FromChain.{place-of}
 use Rattle.path_laws.proofs.Positions.{at-in, in-at, same-at, at-distinct, never, occurs-once}
 use Rattle.path_laws.proofs.ToChain.{coefficientsOf, pointsOf, labelOf, indexOf, index-is, pointsOf-coefficientsOf}
-use Rattle.path_laws.specs.Demand.{Settled}
+use Rattle.path_laws.specs.Demand.{HasStart}
 use Rattle.simplices.proofs.Along.{passed, passed-rises, passed-at-most, Walk, walk-of, walk-rule, on-walk}
 use Rattle.simplices.proofs.Along.{walk-coefficients}
 use Rattle.simplices.proofs.Places.{unlabelled-in-simplex}
@@ -72,7 +72,7 @@ module _ {g : Grid} (A : Accepted g) (o : List ℕ) (s : List Point) (h : isSimp
   abbrev c : ℕ → ℕ → ℕ
   c j = coefficientOf Q (nth s j)
 
-  ok : Settled Q
+  ok : HasStart Q
   ok = settled g A (nth s 0) (on-walk A w some 0 some)
 
   c-is : (j : ℕ) → j < length s → (k : ℕ) → k < numIndices g → c j k ≡ passed o j k

@@ -27,7 +27,7 @@ use Rattle.path_laws.proofs.BlocksOfGrid.{coefficientOf, pointOf, coefficientOf
 use Rattle.path_laws.proofs.Coefficients.{coefficients-only}
 use Rattle.path_laws.proofs.Meaning.{index-means}
 use Rattle.path_laws.proofs.Positions.{at-in, in-at, same-at, at-distinct}
-use Rattle.path_laws.specs.Demand.{Settled}
+use Rattle.path_laws.specs.Demand.{HasStart}
 use Rattle.simplices.specs.Chains.{startingAt, coefficientsFrom, zeroOrOne, inside, nested, pairwise, chainFrom}
 
 -- nowhere above
@@ -64,7 +64,7 @@ module _ (g : Grid) where
 
   -- a grid with a start, and labels
   pub settled-with : Accepted g → (p : Point) → isGridPoint g p ≡ true → (labels : List ℕ)
-      → Settled (record { grid = g; start = p; labels = labels })
+      → HasStart (record { grid = g; start = p; labels = labels })
   settled-with A p h labels = record {
     someBlock = A .someBlock;
     sixBlocks = A .fewBlocks;
@@ -76,7 +76,7 @@ module _ (g : Grid) where
     start = h;
   }
 
-  pub settled : Accepted g → (p : Point) → isGridPoint g p ≡ true → Settled (startingAt g p)
+  pub settled : Accepted g → (p : Point) → isGridPoint g p ≡ true → HasStart (startingAt g p)
   settled A p h = settled-with A p h []
 
 -- the coefficients of the i-th point with p as the start, as a function

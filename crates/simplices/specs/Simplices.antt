@@ -15,8 +15,8 @@ use Rattle.place.specs.Places.{within, goesTo, unit}
 use Rattle.place.specs.Problem.{Problem}
 
 -- "each next point adds 1 at the next index and takes 1 at the one before it in the block"
-abbrev pub stepped : Grid → ℕ → Point → Point → Bool
-stepped g h y z = goesTo g h (previous g h) y z
+abbrev pub isStep : Grid → ℕ → Point → Point → Bool
+isStep g h y z = goesTo g h (previous g h) y z
 
 -- "an order of all indices but one in each block"
 unfoldable pub isOrder : Grid → List ℕ → Bool
@@ -30,7 +30,7 @@ eachStepped g [] (y ∷ []) = true
 eachStepped g [] (y ∷ z ∷ s) = false
 eachStepped g (h ∷ o) [] = false
 eachStepped g (h ∷ o) (y ∷ []) = false
-eachStepped g (h ∷ o) (y ∷ z ∷ s) = stepped g h y z && eachStepped g o (z ∷ s)
+eachStepped g (h ∷ o) (y ∷ z ∷ s) = isStep g h y z && eachStepped g o (z ∷ s)
 
 -- "Such a simplex has a first point and an order ..; each next point ..; and all n + 1 points are on the grid"
 unfoldable pub isSimplex : Grid → List ℕ → List Point → Bool
@@ -48,14 +48,14 @@ abbrev pub stepFrom : Grid → ℕ → Point → Point
 stepFrom g h y = map (λ k. at y k + unit h k - unit (previous g h) k) (indices g)
 
 -- the points from y on, by the order o
-abbrev pub pointsFrom : Grid → Point → List ℕ → List Point
-pointsFrom g y [] = y ∷ []
-pointsFrom g y (h ∷ o) = y ∷ pointsFrom g (stepFrom g h y) o
+abbrev pub pointsAlong : Grid → Point → List ℕ → List Point
+pointsAlong g y [] = y ∷ []
+pointsAlong g y (h ∷ o) = y ∷ pointsAlong g (stepFrom g h y) o
 
 -- the same, by a search over all first points and all orders
 unfoldable pub inOneSimplex : Grid → List Point → Bool
 inOneSimplex g zs =
-    any (λ y. any (λ o. let s = pointsFrom g y o in isSimplex g o s && all (λ z. isIn samePoint z s) zs)
+    any (λ y. any (λ o. let s = pointsAlong g y o in isSimplex g o s && all (λ z. isIn samePoint z s) zs)
     (selections (numIndices g) (indices g)))
     (points g)
 

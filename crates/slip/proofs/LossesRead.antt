@@ -25,14 +25,14 @@ use Rattle.slip.proofs.Tables.{is-game, are-losses}
 use Rattle.slip.specs.declared.Losses.the-variants.{Count, OutOfRange}
 use Rattle.slip.specs.declared.Reading.{Reading}
 use Rattle.slip.specs.declared.Table.the-variants.{Game, LossesFrom}
-use Rattle.slip.specs.Reading.{readingOf, lossesOf, tableNamed, WithLosses}
-use Rattle.slip_fields.specs.Slip.{stands, slipGrid, slipLosses, fieldAt, question11, readQuestions}
+use Rattle.slip.specs.Reading.{slipReadingOf, lossesOnSlip, tableNamed, WithLosses}
+use Rattle.slip_fields.specs.Slip.{stands, slipGrid, slipLosses, fieldAt, slipQuestion11, slipReadQuestions}
 
 module _ (slip : List ℕ) (r : Reading) (room : List ℕ) (w : WithLosses slip r room) where
-  code : readingOf slip .code ≡ 0
+  code : slipReadingOf slip .code ≡ 0
   code = sym (ap (λ x. x .code) (w .isReading)) ∙ w .read
 
-  pub asked : firstNo (readQuestions slip) ≡ 0
+  pub asked : firstNo (slipReadQuestions slip) ≡ 0
   asked = number-zero slip code
 
   pub table-named : r .table ≡ tableNamed slip
@@ -46,8 +46,8 @@ module _ (slip : List ℕ) (r : Reading) (room : List ℕ) (w : WithLosses slip 
         let g = is-game slip (answers slip asked .0) number (sym table-named ∙ e) in
         rw (game-only slip (answers slip asked .0) (g .0) (g .1), g .2)
 
-    pub game-count : Count (length (gameLosses number)) ≡ lossesOf slip
-    unfolding lossesOf
+    pub game-count : Count (length (gameLosses number)) ≡ lossesOnSlip slip
+    unfolding lossesOnSlip
     game-count =
         let g = is-game slip (answers slip asked .0) number (sym table-named ∙ e) in
         rw (game-only slip (answers slip asked .0) (g .0) (g .1), game-losses)
@@ -100,12 +100,12 @@ module _ (slip : List ℕ) (begin : ℕ) (b : Brought slip begin) where
   room-left now room e f = ap length f ∙ front-length (slipLosses slip) room (omega (arith, count-is, b .few)) ∙ e
 
   pub in-range : (count : ℕ) → all inRange (slipLosses slip) ≡ true → count ≡ numLosses (slipGrid slip)
-      → Count count ≡ lossesOf slip
-  unfolding lossesOf
+      → Count count ≡ lossesOnSlip slip
+  unfolding lossesOnSlip
   in-range count e f = rw (b .there, e, count-is, f)
 
-  pub out-of-range : all inRange (slipLosses slip) ≡ false → OutOfRange ≡ lossesOf slip
-  unfolding lossesOf
+  pub out-of-range : all inRange (slipLosses slip) ≡ false → OutOfRange ≡ lossesOnSlip slip
+  unfolding lossesOnSlip
   out-of-range e = rw (b .there, e)
 
 -- what the answer tells
@@ -118,11 +118,11 @@ module _ (slip : List ℕ) where
   uncounted true n e = absurd (let z : _≡_ {A = ℕ} 0 1 = cc in omega arith)
   uncounted false n e = refl
 
-  pub losses-count : (n : ℕ) → lossesOf slip ≡ Count n
-      → (question11 slip .answeredYes ≡ true) × (n ≡ length (slipLosses slip))
-  unfolding lossesOf
-  losses-count n e = counted (question11 slip .answeredYes) (length (slipLosses slip)) n e
+  pub losses-count : (n : ℕ) → lossesOnSlip slip ≡ Count n
+      → (slipQuestion11 slip .answeredYes ≡ true) × (n ≡ length (slipLosses slip))
+  unfolding lossesOnSlip
+  losses-count n e = counted (slipQuestion11 slip .answeredYes) (length (slipLosses slip)) n e
 
-  pub losses-refused : lossesOf slip ≡ OutOfRange → question11 slip .answeredYes ≡ false
-  unfolding lossesOf
-  losses-refused e = uncounted (question11 slip .answeredYes) (length (slipLosses slip)) e
+  pub losses-refused : lossesOnSlip slip ≡ OutOfRange → slipQuestion11 slip .answeredYes ≡ false
+  unfolding lossesOnSlip
+  losses-refused e = uncounted (slipQuestion11 slip .answeredYes) (length (slipLosses slip)) e

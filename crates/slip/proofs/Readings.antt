@@ -10,11 +10,12 @@ use lib.ListN.{length, replicate}
 use native.Mathlib.Omega.{arith}
 use Rattle.combinatorics.proofs.Basics.{true-or-false}
 use Rattle.combinatorics.proofs.Fronts.{front-length}
+use Rattle.combinatorics.specs.Front.{padded}
 use Rattle.grid.proofs.Accepted.{Accepted, accepted as grid-accepted}
 use Rattle.grid.proofs.Fields.{shape-of, is-made}
 use Rattle.grid.specs.declared.Grid.{Grid as GridStruct}
 use Rattle.grid.specs.Grid.{numBlocks, numIndices, numPoints}
-use Rattle.grid.specs.Made.{gridOf, shape, IsMade, padded}
+use Rattle.grid.specs.Made.{gridOf, shape, IsMade}
 use Rattle.questions.specs.Questions.{firstNo}
 use Rattle.grid.specs.Questions.{gridQuestions}
 use Rattle.slip_fields.proofs.Laws.{inexact}
@@ -24,10 +25,11 @@ use Rattle.slip.specs.declared.Field.the-variants.{EndsAt, Missing}
 use Rattle.slip.specs.declared.Reading.{Reading}
 use Rattle.slip.specs.declared.Table.{Table}
 use Rattle.slip.specs.declared.Table.the-variants.{LabelsFrom, Game, LossesFrom, Missing as NoTable}
-use Rattle.slip.specs.Reading.{refusal, accepted, readingOf, headOf, startOf, budgetOf, tableOf, tableNamed}
+use Rattle.slip.specs.Reading.{refusedReading, accepted, slipReadingOf, headOf, startOf, budgetOf, tableOf}
+use Rattle.slip.specs.Reading.{tableNamed}
 use Rattle.slip.specs.Reading.{labelsIn, Asked}
 use Rattle.slip_fields.specs.Slip.{stands, slipGrid, slipStart, slipBudget, slipGame, headLength, fieldAt, labelField}
-use Rattle.slip_fields.specs.Slip.{question13, question14, question15, readQuestions}
+use Rattle.slip_fields.specs.Slip.{question13, question14, slipQuestion15, slipReadQuestions}
 
 -- what a field answers tells whether its bytes are there
 told : (b : Bool) (x end : ℕ) → cond b (EndsAt x) Missing ≡ EndsAt end → (b ≡ true) × (end ≡ x)
@@ -40,25 +42,25 @@ untold false x e = refl
 
 module _ (slip : List ℕ) where
   -- the code is the number of the first question up to 15 that is answered no
-  pub code-is : readingOf slip .code ≡ firstNo (readQuestions slip)
-  unfolding readingOf
+  pub code-is : slipReadingOf slip .code ≡ firstNo (slipReadQuestions slip)
+  unfolding slipReadingOf
   code-is =
       ⊎-elim
-      (λ z. rw (z, eqb-true (firstNo (readQuestions slip)) 0 z))
+      (λ z. rw (z, eqb-true (firstNo (slipReadQuestions slip)) 0 z))
       (λ z. rw z)
-      (true-or-false (eqb (firstNo (readQuestions slip)) 0))
+      (true-or-false (eqb (firstNo (slipReadQuestions slip)) 0))
 
   -- a slip that is read
-  module _ (zero : readingOf slip .code ≡ 0) where
-    pub number-zero : firstNo (readQuestions slip) ≡ 0
+  module _ (zero : slipReadingOf slip .code ≡ 0) where
+    pub number-zero : firstNo (slipReadQuestions slip) ≡ 0
     number-zero = sym code-is ∙ zero
 
-    pub reading-accepted : readingOf slip ≡ accepted slip
-    unfolding readingOf
-    reading-accepted = rw (eq-eqb (firstNo (readQuestions slip)) 0 number-zero)
+    pub reading-accepted : slipReadingOf slip ≡ accepted slip
+    unfolding slipReadingOf
+    reading-accepted = rw (eq-eqb (firstNo (slipReadQuestions slip)) 0 number-zero)
 
     -- "The slip's label field is handed over as that part of the slip's bytes"
-    pub handed : labelsIn slip (readingOf slip .table) ≡ labelField slip
+    pub handed : labelsIn slip (slipReadingOf slip .table) ≡ labelField slip
     unfolding labelsIn
     handed =
         let then = then-runs slip number-zero in
@@ -71,41 +73,42 @@ module _ (slip : List ℕ) where
         (true-or-false (stands slip 3)))
         (true-or-false (stands slip 2))
 
-  pub refused-13 : question13 slip .answeredYes ≡ false → refusal 13 ≡ readingOf slip
-  unfolding readingOf
+  pub refused-13 : question13 slip .answeredYes ≡ false → refusedReading 13 ≡ slipReadingOf slip
+  unfolding slipReadingOf
   refused-13 e = rw (number-is, e)
 
   pub refused-grid : (n : ℕ) → question13 slip .answeredYes ≡ true → firstNo (gridQuestions (slipGrid slip)) ≡ n
       → (n ≡ 0 → ⊥)
-      → refusal n ≡ readingOf slip
-  unfolding readingOf
+      → refusedReading n ≡ slipReadingOf slip
+  unfolding slipReadingOf
   refused-grid n e f h = rw (number-is, e, f, ne-eqb n 0 h, ne-eqb n 0 h)
 
   fields-number : (a b : Bool) (x : Reading)
-      → cond (eqb (cond a (cond b 0 15) 14) 0) x (refusal (cond a (cond b 0 15) 14))
-      ≡ cond a (cond b x (refusal 15)) (refusal 14)
+      → cond (eqb (cond a (cond b 0 15) 14) 0) x (refusedReading (cond a (cond b 0 15) 14))
+      ≡ cond a (cond b x (refusedReading 15)) (refusedReading 14)
   fields-number true true x = refl
   fields-number true false x = refl
   fields-number false b x = refl
 
   -- behind questions 13 and 1 to 4
   module _ (head : question13 slip .answeredYes ≡ true) (accepts : firstNo (gridQuestions (slipGrid slip)) ≡ 0) where
-    reading-is : readingOf slip
-        ≡ cond (question14 slip .answeredYes) (cond (question15 slip .answeredYes) (accepted slip) (refusal 15))
-        (refusal 14)
-    unfolding readingOf firstNo
+    reading-is : slipReadingOf slip
+        ≡ cond (question14 slip .answeredYes)
+        (cond (slipQuestion15 slip .answeredYes) (accepted slip) (refusedReading 15))
+        (refusedReading 14)
+    unfolding slipReadingOf firstNo
     reading-is = rw (number-is, head, accepts)
-        (fields-number (question14 slip .answeredYes) (question15 slip .answeredYes) (accepted slip))
+        (fields-number (question14 slip .answeredYes) (slipQuestion15 slip .answeredYes) (accepted slip))
 
-    pub refused-14 : question14 slip .answeredYes ≡ false → refusal 14 ≡ readingOf slip
+    pub refused-14 : question14 slip .answeredYes ≡ false → refusedReading 14 ≡ slipReadingOf slip
     refused-14 e = sym (reading-is ∙ rw e)
 
-    pub refused-15 : question14 slip .answeredYes ≡ true → question15 slip .answeredYes ≡ false
-        → refusal 15 ≡ readingOf slip
+    pub refused-15 : question14 slip .answeredYes ≡ true → slipQuestion15 slip .answeredYes ≡ false
+        → refusedReading 15 ≡ slipReadingOf slip
     refused-15 e f = sym (reading-is ∙ rw (e, f))
 
-    pub all-yes : question14 slip .answeredYes ≡ true → question15 slip .answeredYes ≡ true
-        → accepted slip ≡ readingOf slip
+    pub all-yes : question14 slip .answeredYes ≡ true → slipQuestion15 slip .answeredYes ≡ true
+        → accepted slip ≡ slipReadingOf slip
     all-yes e f = rw (reading-is, e, f)
 
   pub head-there : (at : ℕ) → headOf slip ≡ EndsAt at → (question13 slip .answeredYes ≡ true) × (at ≡ headLength slip)

@@ -13,7 +13,7 @@ use Rattle.slip.proofs.Table.{the-type}
 use Rattle.slip.specs.declared.Table.{Table}
 use Rattle.slip.specs.declared.Table.the-variants.{LabelsFrom, Game, LossesFrom, Missing}
 use Rattle.slip.specs.Reading.{labelsIn, tableNamed}
-use Rattle.slip_fields.specs.Slip.{stands, slipGame, fieldAt, question13, question15}
+use Rattle.slip_fields.specs.Slip.{stands, slipGame, fieldAt, question13, slipQuestion15}
 
 -- what is not one of the variants named
 pub not-labels : (slip : List ℕ) (t : Table) → OneOf (1 ∷ 2 ∷ 3 ∷ []) (tagOf the-type t) → labelsIn slip t ≡ []
@@ -74,7 +74,7 @@ module _ (slip : List ℕ) (head : question13 slip .answeredYes ≡ true) where
 
   -- without a game question 15 is answered yes
   pub no-game : (t : Table) → OneOf (0 ∷ 2 ∷ 3 ∷ []) (tagOf the-type t) → t ≡ tableNamed slip
-      → question15 slip .answeredYes ≡ true
+      → slipQuestion15 slip .answeredYes ≡ true
   no-game t h e =
       let three : stands slip 3 ≡ false = ⊎-elim
       (λ two. labels-only slip head two .0)

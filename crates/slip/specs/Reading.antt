@@ -6,13 +6,14 @@ use Prim.Native.Nat.{ℕ}
 use lib.Dec.{eqb, leb}
 use lib.ListN.{length, drop, replicate}
 use Rattle.grid.specs.declared.Grid.{Grid as GridStruct}
-use Rattle.grid.specs.Made.{gridOf, noGrid, padded}
+use Rattle.combinatorics.specs.Front.{padded}
+use Rattle.grid.specs.Made.{gridOf, noGrid}
 use Rattle.questions.specs.Questions.{firstNo}
 use Rattle.grid.specs.Questions.{gridQuestions}
 use Rattle.slip_fields.specs.Slip.{stands, slipGrid, slipStart, slipBudget, slipGame, slipLosses, fieldAt}
-use Rattle.slip_fields.specs.Slip.{readQuestions}
+use Rattle.slip_fields.specs.Slip.{slipReadQuestions}
 use Rattle.slip_fields.specs.Slip.{headLength}
-use Rattle.slip_fields.specs.Slip.{question11, question13, question14}
+use Rattle.slip_fields.specs.Slip.{slipQuestion11, question13, question14}
 use Rattle.slip.specs.declared.Budget.{Budget}
 use Rattle.slip.specs.declared.Budget.the-variants.{Is, Missing as NoBudget}
 use Rattle.slip.specs.declared.Field.{Field}
@@ -50,8 +51,8 @@ tableNamed slip = cond (stands slip 2) (LabelsFrom (fieldAt slip 2))
 unfoldable pub tableOf : List ℕ → Table
 tableOf slip = cond (question14 slip .answeredYes) (tableNamed slip) NoTable
 
-abbrev pub reading : ℕ → GridStruct → List ℕ → ℕ → Table → Reading
-reading code grid start budget table = record {
+abbrev pub slipReading : ℕ → GridStruct → List ℕ → ℕ → Table → Reading
+slipReading code grid start budget table = record {
   code = code;
   grid = grid;
   start = start;
@@ -60,16 +61,17 @@ reading code grid start budget table = record {
 }
 
 -- "A refusal returns its number", and nothing else
-abbrev pub refusal : ℕ → Reading
-refusal number = reading number noGrid (replicate 16 0) 0 NoTable
+abbrev pub refusedReading : ℕ → Reading
+refusedReading number = slipReading number noGrid (replicate 16 0) 0 NoTable
 
 -- what an accepted slip says
 abbrev pub accepted : List ℕ → Reading
-accepted slip = reading 0 (gridOf (slipGrid slip)) (padded 16 (slipStart slip)) (slipBudget slip) (tableNamed slip)
+accepted slip = slipReading 0 (gridOf (slipGrid slip)) (padded 16 (slipStart slip)) (slipBudget slip) (tableNamed slip)
 
 -- the number of the first of the questions up to 15 that is answered no, or 0 and what the slip says
-unfoldable pub readingOf : List ℕ → Reading
-readingOf slip = let number = firstNo (readQuestions slip) in cond (eqb number 0) (accepted slip) (refusal number)
+unfoldable pub slipReadingOf : List ℕ → Reading
+slipReadingOf slip = let number = firstNo (slipReadQuestions slip) in cond (eqb number 0) (accepted slip)
+    (refusedReading number)
 
 -- the part of the slip's bytes where a reading has the labels; empty where it has none
 unfoldable pub labelsIn : List ℕ → Table → List ℕ
@@ -79,8 +81,8 @@ labelsIn slip (LossesFrom begin) = []
 labelsIn slip NoTable = []
 
 -- question 11 of a slip with a game or losses, and how many losses there are
-unfoldable pub lossesOf : List ℕ → Losses
-lossesOf slip = cond (question11 slip .answeredYes) (Count (length (slipLosses slip))) OutOfRange
+unfoldable pub lossesOnSlip : List ℕ → Losses
+lossesOnSlip slip = cond (slipQuestion11 slip .answeredYes) (Count (length (slipLosses slip))) OutOfRange
 
 -- where the fields are read: questions 13 and 1 to 4 are answered yes, and the struct is the slip's grid
 pub record Asked (slip : List ℕ) (grid : GridStruct) : Type 0 where
@@ -90,7 +92,7 @@ pub record Asked (slip : List ℕ) (grid : GridStruct) : Type 0 where
 
 -- a reading of a slip with a game or losses, and room for the losses
 pub record WithLosses (slip : List ℕ) (r : Reading) (room : List ℕ) : Type 0 where
-  pub isReading : r ≡ readingOf slip
+  pub isReading : r ≡ slipReadingOf slip
   pub read : r .code ≡ 0
   pub noLabels : stands slip 2 ≡ false
   pub whole : length room ≡ 1944

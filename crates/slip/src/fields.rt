@@ -2,7 +2,8 @@
 ghost use mathlib.Core.Path.{_≡_};
 ghost use Prim.Native.Nat.{_<_, _≤_};
 ghost use lib.ListN.{length};
-ghost use Rattle.grid.specs.Made.{shape, IsMade, padded};
+ghost use Rattle.combinatorics.specs.Front.{padded};
+ghost use Rattle.grid.specs.Made.{shape, IsMade};
 ghost use Rattle.slip.specs.Reading.{headOf, startOf, budgetOf, tableOf, Asked};
 ghost use Rattle.slip_fields.specs.Slip.{isMap, stands as standsIn, fieldAt, defaultCoordinate, defaultStart};
 use crate::Budget;

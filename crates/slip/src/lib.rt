@@ -6,8 +6,9 @@ ghost use Prim.Native.Nat.{_≤_};
 ghost use lib.ListN.{length};
 ghost use Rattle.combinatorics.specs.Front.{front};
 ghost use Rattle.grid.specs.Made.{madeOf};
-ghost use Rattle.slip.specs.Reading.{refusal, readingOf, tableNamed, labelsIn, lossesOf, Asked, WithLosses};
-ghost use Rattle.slip_fields.specs.Slip.{slipGrid, slipLosses, headLength, numBlocksOf, question13, question15};
+ghost use Rattle.slip.specs.Reading.{refusedReading, slipReadingOf, tableNamed, labelsIn, lossesOnSlip, Asked};
+ghost use Rattle.slip.specs.Reading.{WithLosses};
+ghost use Rattle.slip_fields.specs.Slip.{slipGrid, slipLosses, headLength, numBlocksOf, question13, slipQuestion15};
 use grid::Grid;
 use grid::Made;
 use grid::wide;
@@ -58,7 +59,7 @@ pub enum Losses {
 }
 
 fn refused(code: u8) -> Reading
-    ensures { λ r. ⌜ r ≡ refusal code ⌝ }
+    ensures { λ r. ⌜ r ≡ refusedReading code ⌝ }
 {
     Reading {
         code,
@@ -92,7 +93,7 @@ fn grid_of(slip: &[u8]) -> Made
 // Question 15.
 fn is_known(slip: &[u8], table: Table) -> bool
     requires { ⌜ (question13 (now slip) .answeredYes ≡ true) × (table ≡ tableNamed (now slip)) ⌝ }
-    ensures { λ r. ⌜ r ≡ question15 (now (slip .entry)) .answeredYes ⌝ }
+    ensures { λ r. ⌜ r ≡ slipQuestion15 (now (slip .entry)) .answeredYes ⌝ }
 {
     let Table::Game(number) = table else {
         return true;
@@ -104,7 +105,7 @@ fn is_known(slip: &[u8], table: Table) -> bool
 // Questions 14 and 15, of the fields, which begin at a position.
 fn read_fields(slip: &[u8], at: usize, grid: Grid) -> Reading
     requires { ⌜ Asked (now slip) grid × (at ≡ headLength (now slip)) ⌝ }
-    ensures { λ r. ⌜ r ≡ readingOf (now (slip .entry)) ⌝ }
+    ensures { λ r. ⌜ r ≡ slipReadingOf (now (slip .entry)) ⌝ }
 {
     let read = fields::start(slip, at, grid);
     let field = read.field;
@@ -133,7 +134,7 @@ fn read_fields(slip: &[u8], at: usize, grid: Grid) -> Reading
 
 // Questions 13, 1 to 4, 14 and 15 about any bytes.
 pub fn read(slip: &[u8]) -> Reading
-    ensures { λ r. ⌜ r ≡ readingOf (now (slip .entry)) ⌝ }
+    ensures { λ r. ⌜ r ≡ slipReadingOf (now (slip .entry)) ⌝ }
 {
     let Field::EndsAt(at) = fields::head(slip) else {
         return refused(13);
@@ -164,7 +165,7 @@ pub fn labels_of(slip: &[u8], reading: Reading) -> &[u8]
 // The losses that are brought, to the front of the room, and question 11.
 fn brought(slip: &[u8], begin: usize, reading: Reading, room: &mut [u16]) -> Losses
     requires { ⌜ WithLosses (now slip) reading (now room) × (reading .table ≡ Table.LossesFrom begin) ⌝ }
-    ensures { λ r. ⌜ r ≡ lossesOf (now (slip .entry)) ⌝ }
+    ensures { λ r. ⌜ r ≡ lossesOnSlip (now (slip .entry)) ⌝ }
     ensures { λ _. ⌜ now (room .exit) ≡ front (slipLosses (now (slip .entry))) (now (room .entry)) ⌝ }
 {
     let count = (slip.len() - begin) / 2;
@@ -178,7 +179,7 @@ fn brought(slip: &[u8], begin: usize, reading: Reading, room: &mut [u16]) -> Los
 // The losses of a slip with a game or losses, to the front of the room, and question 11.
 pub fn losses_of(slip: &[u8], reading: Reading, room: &mut [u16]) -> Losses
     requires { ⌜ WithLosses (now slip) reading (now room) ⌝ }
-    ensures { λ r. ⌜ r ≡ lossesOf (now (slip .entry)) ⌝ }
+    ensures { λ r. ⌜ r ≡ lossesOnSlip (now (slip .entry)) ⌝ }
     ensures { λ _. ⌜ now (room .exit) ≡ front (slipLosses (now (slip .entry))) (now (room .entry)) ⌝ }
 {
     let table = reading.table;

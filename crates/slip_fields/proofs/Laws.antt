@@ -12,15 +12,14 @@ use Rattle.combinatorics.proofs.Basics.{absurd-bool, and-left, and-right, true-
 use Rattle.combinatorics.proofs.Lists.{all-in, onNumbers}
 use Rattle.combinatorics.proofs.Ranges.{in-upFrom}
 use Rattle.combinatorics.proofs.Turns.{sum-counted}
-use Rattle.combinatorics.specs.Front.{front}
+use Rattle.combinatorics.specs.Front.{front, padded}
 use Rattle.combinatorics.specs.Lists.{all, filter, sum, upFrom}
 use Rattle.little_endian.proofs.Laws.{length-words}
 use Rattle.little_endian.specs.Numbers.{words}
 use Rattle.grid.specs.Build.{lent}
 use Rattle.grid.specs.Grid.{Grid, numIndices, numPoints, division, firstIndex, blockOf}
-use Rattle.grid.specs.Made.{padded}
 use Rattle.losses.specs.Table.{numLosses}
-use Rattle.slip_fields.specs.Slip.{bit, numBlocksOf, slipGrid, isMap, stands, headLength, fieldLengths}
+use Rattle.slip_fields.specs.Slip.{mapBit, numBlocksOf, slipGrid, isMap, stands, headLength, fieldLengths}
 use Rattle.slip_fields.specs.Slip.{fieldLength}
 use Rattle.slip_fields.specs.Slip.{fieldAt, fieldsEnd, defaultCoordinate, slipStart, question13, question14}
 
@@ -113,7 +112,7 @@ module _ (slip : List ℕ) where
 
     one-bit : eqb (length (filter (stands slip) (2 ∷ 3 ∷ 4 ∷ []))) 1 ≡ true
     unfolding isMap stands
-    one-bit = and-right (all (λ k. not (bit (getD slip 0 0) k)) (upFrom 5 3)) _
+    one-bit = and-right (all (λ k. not (mapBit (getD slip 0 0) k)) (upFrom 5 3)) _
         (and-right (leb (headLength slip) (length slip)) (isMap (getD slip 0 0)) head)
 
     -- labels: neither game nor losses

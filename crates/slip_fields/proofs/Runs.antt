@@ -12,7 +12,7 @@ use lib.Seq.{take-all}
 use native.Mathlib.Omega.{arith}
 use Rattle.combinatorics.proofs.Basics.{true-or-false}
 use Rattle.little_endian.proofs.Laws.{length-words}
-use Rattle.losses.specs.Game.{label, labels}
+use Rattle.losses.specs.Game.{gameLabel, labels}
 use Rattle.losses.specs.Table.{numLosses, IsTable}
 use Rattle.built_in.proofs.Games.{game-table}
 use Rattle.grid.specs.Grid.{numPoints, points}
@@ -24,39 +24,41 @@ use Rattle.slip_fields.proofs.Laws.{length-there, length-absent, labels
 use Rattle.slip_fields.specs.Runs.{RefusedAsRead, ThenRuns}
 use Rattle.slip_fields.specs.Slip.{stands, slipGrid, slipStart, slipGame, slipLosses, slipLabels, labelField}
 use Rattle.slip_fields.specs.Slip.{fieldLength, fieldAt, fieldsEnd, slipProblem, slipRefusal}
-use Rattle.slip_fields.specs.Slip.{question11, question13, question14, question15, readQuestions, laterQuestions}
+use Rattle.slip_fields.specs.Slip.{slipQuestion11, question13, question14, slipQuestion15, slipReadQuestions}
+use Rattle.slip_fields.specs.Slip.{laterSlipQuestions}
 
 module _ (slip : List ℕ) where
   -- 13, then 1 to 4, then 14, then 15
-  pub number-is : firstNo (readQuestions slip)
+  pub number-is : firstNo (slipReadQuestions slip)
       ≡ cond (question13 slip .answeredYes)
       (cond (eqb (firstNo (gridQuestions (slipGrid slip))) 0)
-      (cond (question14 slip .answeredYes) (cond (question15 slip .answeredYes) 0 15) 14)
+      (cond (question14 slip .answeredYes) (cond (slipQuestion15 slip .answeredYes) 0 15) 14)
       (firstNo (gridQuestions (slipGrid slip))))
       13
   unfolding firstNo
   number-is = ap
       (λ n. cond (question13 slip .answeredYes) n 13)
-      (first-append (gridQuestions (slipGrid slip)) (question14 slip ∷ question15 slip ∷ []) refl)
+      (first-append (gridQuestions (slipGrid slip)) (question14 slip ∷ slipQuestion15 slip ∷ []) refl)
 
   pub refused-as-read : RefusedAsRead slip
   refused-as-read = record {
-    refused = λ h. asked-no (readQuestions slip) (laterQuestions slip) (firstNo (readQuestions slip)) h refl;
+    refused = λ h. asked-no (slipReadQuestions slip) (laterSlipQuestions slip) (firstNo (slipReadQuestions slip)) h
+        refl;
   }
 
   -- where none of the questions up to 15 refuses the slip
-  module _ (zero : firstNo (readQuestions slip) ≡ 0) where
-    later : slipRefusal slip ≡ firstNo (laterQuestions slip)
-    later = asked-next (readQuestions slip) (laterQuestions slip) refl zero
+  module _ (zero : firstNo (slipReadQuestions slip) ≡ 0) where
+    later : slipRefusal slip ≡ firstNo (laterSlipQuestions slip)
+    later = asked-next (slipReadQuestions slip) (laterSlipQuestions slip) refl zero
 
     pub answers : (question13 slip .answeredYes ≡ true) × (firstNo (gridQuestions (slipGrid slip)) ≡ 0)
-        × (question14 slip .answeredYes ≡ true) × (question15 slip .answeredYes ≡ true)
+        × (question14 slip .answeredYes ≡ true) × (slipQuestion15 slip .answeredYes ≡ true)
     answers =
-        let fields = question14 slip ∷ question15 slip ∷ [] in
+        let fields = question14 slip ∷ slipQuestion15 slip ∷ [] in
         let h = first-yes (question13 slip) (gridQuestions (slipGrid slip) ++ fields) (omega arith) zero in
         let g = both-yes (gridQuestions (slipGrid slip)) fields refl (h .1) in
-        let f = first-yes (question14 slip) (question15 slip ∷ []) (omega arith) (g .1) in
-        (h .0, g .0, f .0, first-yes (question15 slip) [] (omega arith) (f .1) .0)
+        let f = first-yes (question14 slip) (slipQuestion15 slip ∷ []) (omega arith) (g .1) in
+        (h .0, g .0, f .0, first-yes (slipQuestion15 slip) [] (omega arith) (f .1) .0)
 
     pub whole : length slip ≡ fieldsEnd slip
     whole = eqb-true (length slip) (fieldsEnd slip) (answers .2)
@@ -80,10 +82,10 @@ module _ (slip : List ℕ) where
     length-labels = ⊎-elim
         (λ (two : stands slip 2 ≡ true). rw two (ap length (labels-rest two .0) ∙ labels-rest two .1))
         (λ (two : stands slip 2 ≡ false).
-        rw two (length-map (points (slipGrid slip)) (label (slipGrid slip) (slipLosses slip))))
+        rw two (length-map (points (slipGrid slip)) (gameLabel (slipGrid slip) (slipLosses slip))))
         (true-or-false (stands slip 2))
 
-    runs : question11 slip .answeredYes ≡ true → (room : ℕ) → question8 (slipGrid slip) room .answeredYes ≡ true
+    runs : slipQuestion11 slip .answeredYes ≡ true → (room : ℕ) → question8 (slipGrid slip) room .answeredYes ≡ true
         → firstNo (runQuestions (slipProblem slip) room) ≡ slipRefusal slip
     unfolding firstNo
     runs range room e =
@@ -94,11 +96,12 @@ module _ (slip : List ℕ) where
         question5 (slipGrid slip) (slipStart slip) ∷ question6 p ∷ question7 p ∷ question8 (slipGrid slip) room ∷ [] in
         asked-next (gridQuestions (slipGrid slip)) rest refl (answers .1) ∙ (rw (six, e) (sym (later ∙ rw range)))
 
-    out-of-range : question11 slip .answeredYes ≡ false → slipRefusal slip ≡ 11
+    out-of-range : slipQuestion11 slip .answeredYes ≡ false → slipRefusal slip ≡ 11
     unfolding firstNo
     out-of-range e = later ∙ rw e
 
-    is-table : stands slip 2 ≡ false → question11 slip .answeredYes ≡ true → IsTable (slipGrid slip) (slipLosses slip)
+    is-table : stands slip 2 ≡ false → slipQuestion11 slip .answeredYes ≡ true
+        → IsTable (slipGrid slip) (slipLosses slip)
     unfolding slipLosses
     is-table two range = ⊎-elim
         (λ (three : stands slip 3 ≡ true). rw (game-only slip (answers .0) two three)

@@ -2,7 +2,7 @@
 use mathlib.Core.List.{map}
 use mathlib.Core.Path.{_≡_, refl}
 use Rattle.grid.specs.Grid.{isGridPoint, points, bound}
-use Rattle.losses.specs.Game.{expectedLoss, replaced, label, labels}
+use Rattle.losses.specs.Game.{expectedLoss, replaced, gameLabel, labels}
 use Rattle.little_endian.specs.Numbers.{number, words}
 use Rattle.questions.specs.Questions.{firstNo}
 use Rattle.slip_fields.specs.Slip.{isMap, stands, fieldLength, fieldAt, defaultCoordinate, slipStart, slipBudget}
@@ -10,6 +10,6 @@ use Rattle.slip_fields.specs.Slip.{labelField, slipGame, slipLosses, sli
 use Rattle.slip_fields.specs.Worked.{given, table}
 
 worked : map given table ≡ map (λ r. r .result) table
-unfolding isGridPoint points bound expectedLoss replaced label labels number words firstNo isMap stands fieldLength
+unfolding isGridPoint points bound expectedLoss replaced gameLabel labels number words firstNo isMap stands fieldLength
     fieldAt defaultCoordinate slipStart slipBudget labelField slipGame slipLosses slipLabels
 worked = refl

@@ -10,19 +10,19 @@ use Rattle.losses.specs.Table.{IsTable}
 use Rattle.questions.specs.Questions.{firstNo}
 use Rattle.place.specs.Questions.{question8, runQuestions}
 use Rattle.slip_fields.specs.Slip.{stands, slipGrid, slipLosses, slipLabels, labelField, fieldAt, slipProblem}
-use Rattle.slip_fields.specs.Slip.{question11, readQuestions, slipRefusal}
+use Rattle.slip_fields.specs.Slip.{slipQuestion11, slipReadQuestions, slipRefusal}
 
 -- a slip that is refused as it is read has no other refusal
 pub record RefusedAsRead (slip : List ℕ) : Type 0 where
-  pub refused : (firstNo (readQuestions slip) ≡ 0 → ⊥) → slipRefusal slip ≡ firstNo (readQuestions slip)
+  pub refused : (firstNo (slipReadQuestions slip) ≡ 0 → ⊥) → slipRefusal slip ≡ firstNo (slipReadQuestions slip)
 
 -- of any other slip
 pub record ThenRuns (slip : List ℕ) : Type 0 where
   -- question 11 is asked next
-  pub outOfRange : question11 slip .answeredYes ≡ false → slipRefusal slip ≡ 11
+  pub outOfRange : slipQuestion11 slip .answeredYes ≡ false → slipRefusal slip ≡ 11
   -- the run that has room for its answer asks what is left: 6 is answered yes, and 5 and 7 refuse as they refuse
   -- the slip
-  pub runs : question11 slip .answeredYes ≡ true → (room : ℕ) → question8 (slipGrid slip) room .answeredYes ≡ true
+  pub runs : slipQuestion11 slip .answeredYes ≡ true → (room : ℕ) → question8 (slipGrid slip) room .answeredYes ≡ true
       → firstNo (runQuestions (slipProblem slip) room) ≡ slipRefusal slip
   -- with labels the label table is the label field, and the field is the rest of the slip
   pub table : stands slip 2 ≡ true → slipLabels slip ≡ labelField slip
@@ -30,4 +30,5 @@ pub record ThenRuns (slip : List ℕ) : Type 0 where
   -- "With a game that part is empty", and the label table is that of the losses, which are a table of the grid
   pub noPart : stands slip 2 ≡ false → labelField slip ≡ []
   pub game : stands slip 2 ≡ false → slipLabels slip ≡ labels (slipGrid slip) (slipLosses slip)
-  pub losses : stands slip 2 ≡ false → question11 slip .answeredYes ≡ true → IsTable (slipGrid slip) (slipLosses slip)
+  pub losses : stands slip 2 ≡ false → slipQuestion11 slip .answeredYes ≡ true
+      → IsTable (slipGrid slip) (slipLosses slip)

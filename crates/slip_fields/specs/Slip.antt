@@ -17,16 +17,16 @@ use Rattle.place.specs.Problem.{Problem}
 use Rattle.place.specs.Questions.{question7}
 
 -- "a bit map (bit 0 has value 1)": whether bit k of a byte stands
-abbrev pub bit : ℕ → ℕ → Bool
-bit byte k = eqb (byte / 2 ^ k % 2) 1
+abbrev pub mapBit : ℕ → ℕ → Bool
+mapBit byte k = eqb (byte / 2 ^ k % 2) 1
 
 -- "exactly one of bits 2, 3 and 4, with bits 5 to 7 clear"
 unfoldable pub isMap : ℕ → Bool
-isMap byte = all (λ k. not (bit byte k)) (upFrom 5 3) && eqb (length (filter (bit byte) (2 ∷ 3 ∷ 4 ∷ []))) 1
+isMap byte = all (λ k. not (mapBit byte k)) (upFrom 5 3) && eqb (length (filter (mapBit byte) (2 ∷ 3 ∷ 4 ∷ []))) 1
 
 -- "The first byte is a bit map"
 unfoldable pub stands : List ℕ → ℕ → Bool
-stands slip k = bit (getD slip 0 0) k
+stands slip k = mapBit (getD slip 0 0) k
 
 -- "Then come N"
 abbrev pub numBlocksOf : List ℕ → ℕ
@@ -110,25 +110,26 @@ abbrev pub question14 : List ℕ → Question
 question14 slip = ask 14 (eqb (length slip) (fieldsEnd slip))
 
 -- "Is the game 1, 2 or 3, with these sizes? 15": asked of a slip with a game
-abbrev pub question15 : List ℕ → Question
-question15 slip = ask 15 (not (stands slip 3) || gameQuestion (slipGame slip) (sizesOf slip) .answeredYes)
+abbrev pub slipQuestion15 : List ℕ → Question
+slipQuestion15 slip = ask 15 (not (stands slip 3) || gameQuestion (slipGame slip) (sizesOf slip) .answeredYes)
 
 -- "Is each loss from 1 to 1,000? 11": asked of a slip with losses
-abbrev pub question11 : List ℕ → Question
-question11 slip = ask 11 (not (stands slip 4) || lossQuestion (slipLosses slip) .answeredYes)
+abbrev pub slipQuestion11 : List ℕ → Question
+slipQuestion11 slip = ask 11 (not (stands slip 4) || lossQuestion (slipLosses slip) .answeredYes)
 
 -- the questions that reading the slip asks, up to 15
-abbrev pub readQuestions : List ℕ → List Question
-readQuestions slip = question13 slip ∷ (gridQuestions (slipGrid slip) ++ (question14 slip ∷ question15 slip ∷ []))
+abbrev pub slipReadQuestions : List ℕ → List Question
+slipReadQuestions slip = question13 slip
+    ∷ (gridQuestions (slipGrid slip) ++ (question14 slip ∷ slipQuestion15 slip ∷ []))
 
 -- those that are asked after 15
-abbrev pub laterQuestions : List ℕ → List Question
-laterQuestions slip =
-    question11 slip ∷ question5 (slipGrid slip) (slipStart slip) ∷ question7 (slipProblem slip) ∷ []
+abbrev pub laterSlipQuestions : List ℕ → List Question
+laterSlipQuestions slip =
+    slipQuestion11 slip ∷ question5 (slipGrid slip) (slipStart slip) ∷ question7 (slipProblem slip) ∷ []
 
 -- "A slip asks 13, 1 to 4, 14, 15, 5, 7, and then runs", and "The slip puts 11 after 15"
 abbrev pub slipQuestions : List ℕ → List Question
-slipQuestions slip = readQuestions slip ++ laterQuestions slip
+slipQuestions slip = slipReadQuestions slip ++ laterSlipQuestions slip
 
 -- "the number when the answer is no", or 0
 abbrev pub slipRefusal : List ℕ → ℕ

@@ -32,7 +32,7 @@ use Rattle.rules.proofs.Marks.{position-in}
 use Rattle.rules.specs.Read.{CanCompute, pointIn, pointsFrom, positionAt, read}
 use Rattle.rules.specs.Ready.{SixteenEach}
 use Rattle.rules.specs.Step.{State, endsAtFacet, endsAtPlace, markPosition, withMark}
-use Rattle.marks.specs.Reading.{tableOf}
+use Rattle.marks.specs.Reading.{tableProblem}
 use Rattle.path_walk.proofs.Visits.{HasRead, OnPath}
 use Rattle.path_walk.specs.Finish.{IsKnown, problemIn}
 use Rattle.visited.proofs.Firsts.{firsts-distinct, firsts-in, in-firsts, none-more, one-more}
@@ -41,7 +41,8 @@ use Rattle.visited.proofs.Visits.{in-before, next-place, place-in}
 use Rattle.visited.specs.Distance.{distance}
 use Rattle.visited.specs.Nearest.{nearest, positionsWithin, verticesWithin}
 use Rattle.visited.specs.Visited.{pointsOfPlaces, verticesOf, visitedVertices}
-use Rattle.vertices_met.specs.Meeting.{HasRoom, Kept, comeBy, comeIn, listAfter, pointCome, seenAfter, tallyAfter}
+use Rattle.vertices_met.specs.Meeting.{HasRoomToNote, Kept, comeBy, vertexCome, listAfter, pointCome, seenAfter}
+use Rattle.vertices_met.specs.Meeting.{tallyAfter}
 use Rattle.vertices_met.specs.declared.Came.{Came}
 use Rattle.vertices_met.specs.declared.Came.the-variants.{At, Nothing}
 use Rattle.vertices_met.specs.declared.Tally.{Tally}
@@ -124,7 +125,7 @@ module _ (g : GridStruct) (first table : List ℕ) (ok : Accepted (problemIn g f
         (in-upFrom 0 (suc (length (s .order)) - 0) (s .active) (omega arith) (omega arith)))
 
     -- its mark, once read, has its position
-    label-small : IsKnown (tableOf g table) s → s .rule < 6 → label (tableOf g table) y < 256
+    label-small : IsKnown (tableProblem g table) s → s .rule < 6 → label (tableProblem g table) y < 256
     unfolding label
     label-small known r = omega (
       arith,
@@ -133,17 +134,17 @@ module _ (g : GridStruct) (first table : List ℕ) (ok : Accepted (problemIn g f
       ok .settled .sixteenIndices,
     )
 
-    come-position : IsKnown (tableOf g table) s → s .rule < 6
-        → positionAt (read (tableOf g table) s) (read (tableOf g table) s .active) ≡ position (shape g) y
+    come-position : IsKnown (tableProblem g table) s → s .rule < 6
+        → positionAt (read (tableProblem g table) s) (read (tableProblem g table) s .active) ≡ position (shape g) y
     unfolding read withMark
     come-position known r =
         rw (lt-ltb (s .rule) 6 r)
         (ap markPosition (getD-set-same (s .marks) (s .active) _ 0 (omega (arith, at-long full A, computed .low)))
-        ∙ position-in (position (shape g) y) (label (tableOf g table) y) (label-small known r))
+        ∙ position-in (position (shape g) y) (label (tableProblem g table) y) (label-small known r))
 
-    pub come-is : IsKnown (tableOf g table) s → (q : ℕ)
-        → q ≡ positionAt (read (tableOf g table) s) (read (tableOf g table) s .active)
-        → comeBy (s .rule) q ≡ comeIn (shape g) s
+    pub come-is : IsKnown (tableProblem g table) s → (q : ℕ)
+        → q ≡ positionAt (read (tableProblem g table) s) (read (tableProblem g table) s .active)
+        → comeBy (s .rule) q ≡ vertexCome (shape g) s
     come-is known q e = ⊎-elim
         (λ (r : s .rule < 6). rw (lt-ltb (s .rule) 6 r) (ap At (e ∙ come-position known r)))
         (λ (r : 6 ≤ s .rule). rw (le-ltb (s .rule) 6 r))
@@ -205,7 +206,7 @@ module _ (g : GridStruct) (first table : List ℕ) (ok : Accepted (problemIn g f
           (in-firsts onPoints y (pointsOfPlaces (take k walked)) m)
 
       -- there is room for it
-      pub room-next : HasRoom given t away seen list (comeIn (shape g) s)
+      pub room-next : HasRoomToNote given t away seen list (vertexCome (shape g) s)
       room-next = ⊎-elim
           (λ (r : s .rule < 6). rw (lt-ltb (s .rule) 6 r) (
             low (shape g) (grid-accepted ok) w onW given old room K (on-so-far k) y on-grid,
@@ -220,8 +221,8 @@ module _ (g : GridStruct) (first table : List ℕ) (ok : Accepted (problemIn g f
 
       -- what is kept up to the next place
       pub kept-next : Kept (shape g) w given old (verticesOf (take (suc k) walked))
-          (seenAfter seen (comeIn (shape g) s)) (listAfter given t away seen list (comeIn (shape g) s))
-          (tallyAfter given t away seen (comeIn (shape g) s))
+          (seenAfter seen (vertexCome (shape g) s)) (listAfter given t away seen list (vertexCome (shape g) s))
+          (tallyAfter given t away seen (vertexCome (shape g) s))
       kept-next = ⊎-elim
           (λ (r : s .rule < 6). ⊎-elim
           (λ m. rw (
@@ -236,7 +237,7 @@ module _ (g : GridStruct) (first table : List ℕ) (ok : Accepted (problemIn g f
           (λ (r : 6 ≤ s .rule). rw (vertices-same r, le-ltb (s .rule) 6 r) K)
           (before-or-not (s .rule) 6)
 
-      pub kept-met : {came : Came} {r : Tally} {seen' list' : List ℕ} → came ≡ comeIn (shape g) s
+      pub kept-met : {came : Came} {r : Tally} {seen' list' : List ℕ} → came ≡ vertexCome (shape g) s
           → r ≡ tallyAfter given t away seen came → seen' ≡ seenAfter seen came
           → list' ≡ listAfter given t away seen list came
           → Kept (shape g) w given old (verticesOf (take (suc k) walked)) seen' list' r

@@ -22,7 +22,7 @@ use Rattle.place.specs.Problem.{Problem}
 use Rattle.path_laws.proofs.Simplices.{onSimplices}
 use Rattle.path_laws.proofs.Start.{start-place}
 use Rattle.path_laws.proofs.LinkSymmetry.{unlabelled-of, unlabelled-parts}
-use Rattle.path_laws.specs.Demand.{Settled}
+use Rattle.path_laws.specs.Demand.{HasStart}
 use Rattle.trail.proofs.Outside.{outside-in}
 use Rattle.trail.proofs.Reading.{begins-self, found, move-of, reads-on}
 use Rattle.trail.proofs.Rules.{recorded}
@@ -33,7 +33,7 @@ use Rattle.trail.specs.Demand.{Accepts, Refuses, mapBytes}
 use Rattle.trail.specs.Record.{recordOf, startRecord, recordBy}
 use Rattle.trail.specs.Trail.{isMove, begins, readOn, goOn, rebuiltFrom, rebuilt}
 
-module _ {p : Problem} (ok : Settled p) (a : Simplex) (ha : isUnlabelledPlace p a ≡ true) where
+module _ {p : Problem} (ok : HasStart p) (a : Simplex) (ha : isUnlabelledPlace p a ≡ true) where
   by-rule : (b : Simplex) {r : ℕ} (m : ByRule (change p a b) r) → recordOf p a b ≡ recordBy m
   unfolding recordOf
   by-rule b m = recorded m
@@ -173,7 +173,7 @@ module _ {c : Change} where
   goes-behind (rule6 z h e) m x y low high rest behind q o = absurd (omega arith)
   goes-behind (rule7 z h e) m x y low high rest behind q o = absurd (omega arith)
 
-module _ {p : Problem} (ok : Settled p) (a : Simplex) (ha : isUnlabelledPlace p a ≡ true) where
+module _ {p : Problem} (ok : HasStart p) (a : Simplex) (ha : isUnlabelledPlace p a ≡ true) where
   -- a record that would be accepted leads to what cannot be
   refuse : (bytes : List ℕ) (n : ℕ) → ((c : Simplex) → Accepts p a bytes n c → ⊥) → rebuiltFrom p (suc n) a bytes ≡ none
   refuse bytes n h = none-of (rebuiltFrom p (suc n) a bytes) (λ c e. h c (accepts ok a ha bytes n c .0 e))
@@ -253,7 +253,7 @@ module _ {p : Problem} (ok : Settled p) (a : Simplex) (ha : isUnlabelledPlace p 
       at-one e = cc
 
 -- what is rebuilt is an unlabelled place
-module _ {p : Problem} (ok : Settled p) where
+module _ {p : Problem} (ok : HasStart p) where
   from-place : (n : ℕ) (a : Simplex) → isUnlabelledPlace p a ≡ true → (bytes : List ℕ) (c : Simplex)
       → rebuiltFrom p n a bytes ≡ some c
       → isUnlabelledPlace p c ≡ true

@@ -33,7 +33,7 @@ use Rattle.path_laws.proofs.Positions.{at-in, in-at}
 use Rattle.path_laws.proofs.Theorem.{single}
 use Rattle.path_laws.proofs.ToChain.{inT, inU, coefficientsOf, labelOf, is-at, place-long, place-chain}
 use Rattle.path_laws.proofs.ToChain.{labelledChain-of}
-use Rattle.path_laws.specs.Demand.{Settled}
+use Rattle.path_laws.specs.Demand.{HasStart}
 use Rattle.trail.proofs.Outside.{one-of, filter-split, outside-count, outside-none, outside-one}
 use Rattle.trail.proofs.Rules.{back, inverse}
 use Rattle.trail.proofs.Zeros.{Exchange, beside-zeros, grown-zeros}
@@ -95,7 +95,7 @@ extended-parts p a b x =
     let k : (e1 && e2) ≡ true = and-left (e1 && e2) (same eqb (labelSet p a) (setT p b)) x in
     (eqb-true _ _ (and-left e1 e2 k), and-right e1 e2 k)
 
-module _ {p : Problem} (ok : Settled p) where
+module _ {p : Problem} (ok : HasStart p) where
   -- U is the zeros of the first point outside T
   module _ (s : Simplex) (h : isPlace p s ≡ true) where
     in-coord : (j : ℕ) → j < length s → (k : ℕ) → k < numIndices p.grid

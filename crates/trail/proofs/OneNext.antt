@@ -36,7 +36,7 @@ use Rattle.path_laws.proofs.Positions.{at-in, in-at, same-at}
 use Rattle.path_laws.proofs.Meaning.{T-means}
 use Rattle.path_laws.proofs.ToChain.{inT, coefficientsOf, labelOf, place-long, labelledChain-of}
 use Rattle.path_laws.proofs.ToChain.{pointsOf-coefficientsOf}
-use Rattle.path_laws.specs.Demand.{Settled}
+use Rattle.path_laws.specs.Demand.{HasStart}
 use Rattle.trail.proofs.Outside.{in-outside, outside-in, outside-count}
 use Rattle.trail.proofs.Shapes.{Shape, exchange, joins, leaves, shape-of, not-empty, points-distinct}
 use Rattle.trail.proofs.SomeLinks.{LinkOver, stays-in, exchange-links, leave-links, join-links, number-of}
@@ -69,7 +69,7 @@ not-there {s} a K {i} l x W f fl e =
         (before-or-not w i)
 
 -- over a table
-module _ {q : Problem} (ok : Settled q) (a : Simplex) (ha : isPlace q a ≡ true) (own : allLabelled q a ≡ true) where
+module _ {q : Problem} (ok : HasStart q) (a : Simplex) (ha : isPlace q a ≡ true) (own : allLabelled q a ≡ true) where
   long : (b : Simplex) → length (coefficientsOf q b) ≡ length b
   long b = length-map b (coefficientOf q)
 
@@ -182,7 +182,7 @@ module _ {q : Problem} (ok : Settled q) (a : Simplex) (ha : isPlace q a ≡ true
       up-not-complete (labelOf q) A.chain A.covers W.1 (rw e at w.1.1) w.1.2.1 h C)
       (kinds (labelOf q) A.chain A.covers)
 
-module _ {p : Problem} (ok : Settled p) (a : Simplex) (ha : isUnlabelledPlace p a ≡ true) where
+module _ {p : Problem} (ok : HasStart p) (a : Simplex) (ha : isUnlabelledPlace p a ≡ true) where
   counted : (b : Simplex) → isMove p a b ≡ true
       → length (outside samePoint a b) + length a ≡ length (outside samePoint b a) + length b
   counted b m = outside-count onPoints a b (points-distinct p a ha) (points-distinct p b (moves-of p a b m .place))

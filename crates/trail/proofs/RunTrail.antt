@@ -17,7 +17,7 @@ use Rattle.place.specs.Places.{Simplex, isUnlabelledPlace}
 use Rattle.place.specs.Problem.{Problem, withLabels}
 use Rattle.path_laws.proofs.LinkSymmetry.{unlabelled-of, unlabelled-parts}
 use Rattle.path_laws.proofs.Theorem.{demand3-holds, run-follows}
-use Rattle.path_laws.specs.Demand.{Settled, Accepted, Follows, placeAt, lastPlace}
+use Rattle.path_laws.specs.Demand.{HasStart, Accepted, Follows, placeAt, lastPlace}
 use Rattle.trail.proofs.LinkRules.{rule-of-link}
 use Rattle.trail.proofs.Reading.{begins-self, move-of, reads-on, reads-none, without-labels}
 use Rattle.trail.proofs.LabelsRead.{read-back}
@@ -129,7 +129,7 @@ one-more p (a ∷ s) b l =
         ap (λ (x : List ℕ). recordOf p a c ++ x) (go c s) ∙ sym (append-assoc (recordOf p a c) (recordsFrom p c s) _)
 
 -- every list of places that follows the path: it may end, or stop at a gap or where a budget is spent
-pub run-trail : {p : Problem} → Settled p → (s : List Simplex) → Follows p s → Trails p s
+pub run-trail : {p : Problem} → HasStart p → (s : List Simplex) → Follows p s → Trails p s
 run-trail {p} ok s F = trails p ok.sameNumber s F.nonempty F.begins (record {
   places = λ i l. unlabelled-of p (placeAt s i) (F .places i l);
   byRule = λ i l. rule-of-link ok (placeAt s i) (placeAt s (suc i)) (F .places i (omega arith)) (F .places (suc i) l)

@@ -25,7 +25,7 @@ use Rattle.path_laws.proofs.Meaning.{T-means}
 use Rattle.path_laws.proofs.Positions.{set-of}
 use Rattle.path_laws.proofs.ToChain.{inT, place-long}
 use Rattle.path_laws.proofs.LinkSymmetry.{unlabelled-parts}
-use Rattle.path_laws.specs.Demand.{Settled}
+use Rattle.path_laws.specs.Demand.{HasStart}
 use Rattle.trail.proofs.Outside.{one-of, none-of, in-outside, outside-in, outside-count}
 use Rattle.trail.proofs.Reading.{T-alike}
 use Rattle.trail.proofs.Tables.{some-table, some-index, in-order}
@@ -96,7 +96,7 @@ pub data Shape (p : Problem) (a b : Simplex) : Type 0 where
 pub points-distinct : (p : Problem) (s : Simplex) → isUnlabelledPlace p s ≡ true → distinct samePoint s ≡ true
 points-distinct p s h = rising-distinct onPoints (coefficientSum p) s (unlabelled-parts p s h .inOrder)
 
-module _ {p : Problem} (ok : Settled p) where
+module _ {p : Problem} (ok : HasStart p) where
   pub not-empty : (s : Simplex) → isUnlabelledPlace p s ≡ true → 0 < length s
   unfolding isPlace
   not-empty [] h = absurd (no-empty p ok.someBlock place)

@@ -25,7 +25,7 @@ use Rattle.path_laws.proofs.Meaning.{T-means, labels-mean}
 use Rattle.path_laws.proofs.Positions.{set-of, at-in, in-at, same-at}
 use Rattle.path_laws.proofs.ToChain.{inT}
 use Rattle.path_laws.proofs.LinkSymmetry.{unlabelled-of, unlabelled-parts}
-use Rattle.path_laws.specs.Demand.{Settled, Accepted}
+use Rattle.path_laws.specs.Demand.{HasStart, Accepted}
 use Rattle.trail.proofs.LinkRules.{rule-of-link}
 use Rattle.trail.proofs.Outside.{filter-split, in-outside, outside-in, outside-count}
 use Rattle.trail.proofs.Reading.{T-alike, place-alike, change-alike, move-of}
@@ -201,7 +201,7 @@ module _ {p : Problem} (a b : Simplex) (ha : isUnlabelledPlace p a ≡ true) (hb
           has-label a (nth a c.0) k (at-in onPoints [] a c.0 c.1) (T-means p b k .0 t .0) c.3)
           (same-or k x))
 
-module _ {p : Problem} (ok : Settled p) where
+module _ {p : Problem} (ok : HasStart p) where
   -- the number of a point of a place
   pub number-of : (a b : Simplex) {z : Point} → outside samePoint b a ≡ z ∷ []
       → (i : ℕ) × (i < length a) × (nth a i ≡ z)

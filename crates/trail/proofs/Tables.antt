@@ -29,7 +29,7 @@ use Rattle.path_laws.proofs.Meaning.{T-means, labels-mean}
 use Rattle.path_laws.proofs.Positions.{at-in, in-at, occurs-in, order-long}
 use Rattle.path_laws.proofs.ToChain.{size-positive}
 use Rattle.path_laws.proofs.LinkSymmetry.{unlabelled-parts}
-use Rattle.path_laws.specs.Demand.{Settled, Accepted}
+use Rattle.path_laws.specs.Demand.{HasStart, Accepted}
 use Rattle.trail.proofs.Reading.{T-alike, place-alike}
 use Rattle.trail.proofs.Tells.{at-position}
 
@@ -78,7 +78,7 @@ given-all (x ∷ s) d (l ∷ ls) e = rw (point-self x)
         (ap (λ (k : List ℕ). given s ls y ∷ k) (later r (λ z m. h z (in-later onPoints z y r m))))
 
 -- grid and start are the same with another table
-pub settled-with : {p : Problem} → Settled p → (labels : List ℕ) → Settled (withLabels p labels)
+pub settled-with : {p : Problem} → HasStart p → (labels : List ℕ) → HasStart (withLabels p labels)
 settled-with ok labels = record {
   someBlock = ok .someBlock;
   sixBlocks = ok .sixBlocks;
@@ -90,10 +90,10 @@ settled-with ok labels = record {
   start = ok .start;
 }
 
-pub some-index : {p : Problem} → Settled p → 0 < numIndices p.grid
+pub some-index : {p : Problem} → HasStart p → 0 < numIndices p.grid
 some-index {p} ok = omega (arith, size-positive ok 0 ok.someBlock, block-fits p.grid.sizes 0)
 
-module _ {p : Problem} (ok : Settled p) (s : Simplex) (on : all (isGridPoint p.grid) s ≡ true)
+module _ {p : Problem} (ok : HasStart p) (s : Simplex) (on : all (isGridPoint p.grid) s ≡ true)
     (d : distinct samePoint s ≡ true) (ls : List ℕ) (long : length ls ≡ length s)
     (names : Names (numIndices p.grid) ls) where
   label-given : (y : Point) → isGridPoint p.grid y ≡ true → label (withLabels p (table p.grid s ls)) y ≡ given s ls y
@@ -177,7 +177,7 @@ pub record Labelled (p : Problem) (s : Simplex) (i x : ℕ) (labels : List ℕ) 
   pub inside : (j : ℕ) → j < length s → (j ≡ i → ⊥)
       → (k : ℕ) × (isIn eqb k (setT p s) ≡ true) × (label (withLabels p labels) (nth s j) ≡ suc k)
 
-module _ {p : Problem} (ok : Settled p) (s : Simplex) (h : isUnlabelledPlace p s ≡ true) (i x : ℕ) (il : i < length s)
+module _ {p : Problem} (ok : HasStart p) (s : Simplex) (h : isUnlabelledPlace p s ≡ true) (i x : ℕ) (il : i < length s)
     (xl : x < numIndices p.grid) where
   o : List ℕ
   o = order p.grid s

@@ -29,7 +29,7 @@ use Rattle.path_laws.proofs.FromChain.{T-is, back-again, coefficient-at, long, 
 use Rattle.path_laws.proofs.Positions.{at-in, in-at}
 use Rattle.path_laws.proofs.Theorem.{block-of, single}
 use Rattle.path_laws.proofs.ToChain.{coefficientsOf, inT, labelOf, pointsOf}
-use Rattle.path_laws.specs.Demand.{Settled}
+use Rattle.path_laws.specs.Demand.{HasStart}
 use Rattle.rules.proofs.Describes.{AllMarks, Describes, Joined, Left, Reached, facetEnds, joinedOn, labelsOf, leftOn}
 use Rattle.rules.proofs.Describes.{placeEnds}
 use Rattle.rules.proofs.Grow.{grow-ready, grows}
@@ -60,7 +60,7 @@ abbrev pub BringsIn : Problem → Simplex → ℕ → Simplex → Type 0
 BringsIn p a h b = (isMove p a b ≡ true) × (outside samePoint b a ≡ []) × (outside eqb (setT p a) (setT p b) ≡ h ∷ [])
 
 -- over a table where the points of the place but point i carry T
-module _ {p : Problem} (ok : Settled p) {a : Simplex} {s : State} (S : Shows p a s) {i h : ℕ} {labels : List ℕ}
+module _ {p : Problem} (ok : HasStart p) {a : Simplex} {s : State} (S : Shows p a s) {i h : ℕ} {labels : List ℕ}
     (L : Labelled p a i h labels) where
   abbrev q : Problem
   q = withLabels p labels
@@ -144,7 +144,7 @@ pub data LeavesTo (p : Problem) (a : Simplex) (i : ℕ) : After → Type 0 where
   leavesOn : {f : State} (b : Simplex) → Arrives p a b f → TakesOut p a i b → LeavesTo p a i (goes f)
   leavesNone : {f : State} {k : ℕ} → ((b : Simplex) → TakesOut p a i b → ⊥) → LeavesTo p a i (endsAtFacet f k)
 
-module _ {p : Problem} (ok : Settled p) {a : Simplex} {s : State} (S : Shows p a s) (i : ℕ) (il : i ≤ S .t) where
+module _ {p : Problem} (ok : HasStart p) {a : Simplex} {s : State} (S : Shows p a s) (i : ℕ) (il : i ≤ S .t) where
   some-labels : (labels : List ℕ) × Labelled p a i 0 labels
   some-labels = some-table ok a S.place i 0 (omega (arith, il, shows-long S)) (some-index ok)
 
@@ -208,7 +208,8 @@ pub data JoinsTo (p : Problem) (a : Simplex) (h : ℕ) : After → Type 0 where
   joinsOn : {f : State} (b : Simplex) → Arrives p a b f → BringsIn p a h b → JoinsTo p a h (goes f)
   joinsNone : {f : State} {k : ℕ} → ((b : Simplex) → BringsIn p a h b → ⊥) → JoinsTo p a h (endsAtPlace f k)
 
-module _ {p : Problem} (ok : Settled p) {a : Simplex} {s : State} (S : Shows p a s) (h : ℕ) (hl : h < numIndices p.grid)
+module _ {p : Problem} (ok : HasStart p) {a : Simplex} {s : State} (S : Shows p a s) (h : ℕ)
+    (hl : h < numIndices p.grid)
     (out : S .T h ≡ false) where
   joining-labels : (labels : List ℕ) × Labelled p a 0 h labels
   joining-labels = some-table ok a S.place 0 h (omega (arith, shows-long S)) hl

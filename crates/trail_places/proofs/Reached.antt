@@ -27,7 +27,7 @@ use Rattle.path_laws.proofs.FromChain.{T-is, back-again, coefficient-at, place-
 use Rattle.path_laws.proofs.LinkSymmetry.{unlabelled-of}
 use Rattle.path_laws.proofs.Positions.{at-in, in-at}
 use Rattle.path_laws.proofs.ToChain.{index-is, indexOf, inT, labelOf, pointsOf}
-use Rattle.path_laws.specs.Demand.{Settled}
+use Rattle.path_laws.specs.Demand.{HasStart}
 use Rattle.positions.specs.Falls.{tailFrom}
 use Rattle.rules.proofs.Describes.{Came, Describes, Reached, begins, fromLarger, markAt, through}
 use Rattle.rules.proofs.Follow.{reached-stands, stands-beside, stands-exchanged, stands-reads}
@@ -129,7 +129,7 @@ module _ {q : Problem} {T : ℕ → Bool} {t : ℕ} {o : ℕ → ℕ} {x y : Lis
       let v = X .4 .part j m in
       (v .0, omega (arith, v .1, X .3 .size, ap length i), ap (λ (c : List (ℕ → ℕ)). listAt c v.0) (sym i) ∙ v .2)
 
-module _ {p : Problem} (ok : Settled p) {a : Simplex} {s : State} (S : Shows p a s) {i h : ℕ} {labels : List ℕ}
+module _ {p : Problem} (ok : HasStart p) {a : Simplex} {s : State} (S : Shows p a s) {i h : ℕ} {labels : List ℕ}
     (L : Labelled p a i h labels) where
   abbrev q : Problem
   q = withLabels p labels

@@ -24,7 +24,7 @@ use Rattle.place.specs.Problem.{Problem, withLabels}
 use Rattle.path_laws.proofs.LinkSymmetry.{parts, unlabelled-of}
 use Rattle.path_laws.proofs.Start.{start-place}
 use Rattle.path_laws.proofs.ToChain.{coefficientsOf, inT, pointsOf, pointsOf-coefficientsOf}
-use Rattle.path_laws.specs.Demand.{Settled}
+use Rattle.path_laws.specs.Demand.{HasStart}
 use Rattle.positions.proofs.Positions.{map-front}
 use Rattle.positions.specs.Falls.{tailFrom}
 use Rattle.rules.proofs.Describes.{Describes}
@@ -37,7 +37,7 @@ use Rattle.trail.proofs.Tables.{Labelled, some-index, some-table}
 use Rattle.trail_places.specs.Shows.{Shows, bare}
 use Rattle.trail_steps.specs.Reading.{HasRead, problemBy}
 
-module _ (g : GridStruct) (made : IsMade g) (first : List ℕ) (ok : Settled (problemBy g (take (g .indices) first)))
+module _ (g : GridStruct) (made : IsMade g) (first : List ℕ) (ok : HasStart (problemBy g (take (g .indices) first)))
     (previous next sizes order : List ℕ) (N : IsRound (shape g) (roundOf previous next sizes))
     (size : length first ≡ 16) (s : Status) (B : IsBegun first (g .indices) s) where
   abbrev p : Problem

@@ -26,7 +26,7 @@ use Rattle.moves.specs.declared.Status.{Status}
 use Rattle.place.specs.LabelsRead.{cameIn, labelsRead}
 use Rattle.place.specs.Places.{Simplex, setT, setU}
 use Rattle.place.specs.Problem.{Problem}
-use Rattle.path_laws.specs.Demand.{Settled}
+use Rattle.path_laws.specs.Demand.{HasStart}
 use Rattle.questions.proofs.Answers.{asked-next, asked-no}
 use Rattle.questions.specs.Questions.{firstNo}
 use Rattle.records.specs.Records.{firstRecord}
@@ -45,8 +45,8 @@ use Rattle.trail_steps.proofs.Arrived.{mask-T, mask-U}
 use Rattle.trail_steps.proofs.Named.{shows-few}
 use Rattle.trail_steps.specs.Reading.{problemBy}
 use Rattle.trail_reader.proofs.Masks.{mask-is}
-use Rattle.trail_reader.specs.Reading.{caseOf, isPlaced, numbersOf, question17, readAnswer, readPoints}
-use Rattle.trail_reader.specs.Reading.{readQuestions}
+use Rattle.trail_reader.specs.Reading.{readCase, isPlaced, readNumbers, readQuestion17, readAnswer, readPoints}
+use Rattle.trail_reader.specs.Reading.{trailReadQuestions}
 use Rattle.trail_reader.specs.Begun.{IsPlace, Reads}
 use Rattle.trail_reader.specs.declared.answers.Answer.the-variants.{Place, Refused}
 use Rattle.trail_reader.specs.declared.answers.Reading.{Reading}
@@ -91,7 +91,7 @@ module _ (p : Problem) (bytes : List ℕ) where
           rw (behind ∙ e, read, z, f) refl
 
 -- the place that a state holds
-module _ {p : Problem} (ok : Settled p) {b : Simplex} {s : State} (S : Shows p b s) where
+module _ {p : Problem} (ok : HasStart p) {b : Simplex} {s : State} (S : Shows p b s) where
   pub computes : CanCompute s (length (s .order))
   computes =
       let t = some-table ok b (S .place) 0 0 (omega (arith, shows-long S)) (some-index ok) in
@@ -109,20 +109,20 @@ module _ {p : Problem} (ok : Settled p) {b : Simplex} {s : State} (S : Shows p b
       mul-le-mul few l
 
   pub case-is : (read : ℕ) → s .T < 65536 → s .U < 65536
-      → Place (suc (length (s .order))) (s .T) (s .U) read ≡ caseOf (placed read b (setT p b) (setU (p .grid) b))
+      → Place (suc (length (s .order))) (s .T) (s .U) read ≡ readCase (placed read b (setT p b) (setU (p .grid) b))
   case-is read t u =
       let n : suc (length (s .order)) ≡ length b = omega (arith, S .orderLength, shows-long S) in
       rw (n, ← mask-is (mask-T ok S) t, ← mask-is (mask-U ok S) u)
 
   pub numbers-are : (read m : ℕ) → m ≡ numIndices (p .grid)
-      → numbersFrom m s 0 ≡ numbersOf (placed read b (setT p b) (setU (p .grid) b))
+      → numbersFrom m s 0 ≡ readNumbers (placed read b (setT p b) (setU (p .grid) b))
   numbers-are read m e = rw e (ap (concatMap (λ y. y)) points-are)
 
 pub minus-none : (n : ℕ) → n - 0 ≡ n
 minus-none n = omega arith
 
 -- so the reader's answer is that of the place
-pub reads-by : (g : GridStruct) → IsMade g → (start trail : List ℕ) (number : ℕ) → Settled (problemBy g start)
+pub reads-by : (g : GridStruct) → IsMade g → (start trail : List ℕ) (number : ℕ) → HasStart (problemBy g start)
     → (b : Simplex) (previous next sizes first coefficients order marks : List ℕ) (status : Status) (labels : ℕ)
     → Shows (problemBy g start) b (stateOf (roundOf previous next sizes) first coefficients order marks status)
     → (r : Reading)
@@ -131,10 +131,10 @@ pub reads-by : (g : GridStruct) → IsMade g → (start trail : List ℕ) (numbe
     → Reads g start trail number r
 reads-by g made start trail number ok b previous next sizes first coefficients order marks status labels S r I e =
     record {
-      answer = I .answer ∙ case-is ok S labels (I .lowT) (I .lowU) ∙ ap caseOf (sym e);
+      answer = I .answer ∙ case-is ok S labels (I .lowT) (I .lowU) ∙ ap readCase (sym e);
       points = I .points
           ∙ ap (λ (l : List ℕ). front l (replicate 256 0)) (numbers-are ok S labels (g .indices) (made-indices g made))
-          ∙ ap (λ (x : TrailReading). front (numbersOf x) (replicate 256 0)) (sym e);
+          ∙ ap (λ (x : TrailReading). front (readNumbers x) (replicate 256 0)) (sym e);
     }
 
 -- and of no record, where there is none
@@ -142,15 +142,15 @@ pub reads-17 : (g : GridStruct) (start trail : List ℕ) (number : ℕ) (r : Rea
     → (r .answer ≡ Refused 17) × (r .points ≡ replicate 256 0) → reading (problemBy g start) trail number ≡ noRecord
     → Reads g start trail number r
 reads-17 g start trail number r R e = record {
-  answer = R .0 ∙ ap caseOf (sym e);
+  answer = R .0 ∙ ap readCase (sym e);
   points = R .1
       ∙ sym (front-none (replicate 256 0))
-      ∙ ap (λ (x : TrailReading). front (numbersOf x) (replicate 256 0)) (sym e);
+      ∙ ap (λ (x : TrailReading). front (readNumbers x) (replicate 256 0)) (sym e);
 }
 
 -- a grid that was made, with a start that is a grid point
 pub settled-by : (g : GridStruct) → IsMade g → (start : List ℕ) → isGridPoint (shape g) start ≡ true
-    → Settled (problemBy g start)
+    → HasStart (problemBy g start)
 settled-by g made start on =
     let a = made-accepted g made in
     record {
@@ -167,7 +167,7 @@ settled-by g made start on =
 -- the refusals
 module _ (p : Problem) (bytes : List ℕ) (number : ℕ) where
   abbrev refusal : ℕ
-  refusal = firstNo (readQuestions p bytes number)
+  refusal = firstNo (trailReadQuestions p bytes number)
 
   pub by-number : (n : ℕ) → (n ≡ 0 → ⊥) → refusal ≡ n
       → (Refused n ≡ readAnswer p bytes number) × (replicate 256 0 ≡ readPoints p bytes number)
@@ -178,12 +178,12 @@ module _ (p : Problem) (bytes : List ℕ) (number : ℕ) where
 
   pub by-grid : (firstNo (gridQuestions (p .grid)) ≡ 0 → ⊥) → refusal ≡ firstNo (gridQuestions (p .grid))
   by-grid n =
-      asked-no (gridQuestions (p .grid)) (question5 (p .grid) (p .start) ∷ question17 p bytes number ∷ []) _ n refl
+      asked-no (gridQuestions (p .grid)) (question5 (p .grid) (p .start) ∷ readQuestion17 p bytes number ∷ []) _ n refl
 
   later : firstNo (gridQuestions (p .grid)) ≡ 0
-      → refusal ≡ firstNo (question5 (p .grid) (p .start) ∷ question17 p bytes number ∷ [])
+      → refusal ≡ firstNo (question5 (p .grid) (p .start) ∷ readQuestion17 p bytes number ∷ [])
   later e =
-      asked-next (gridQuestions (p .grid)) (question5 (p .grid) (p .start) ∷ question17 p bytes number ∷ []) refl e
+      asked-next (gridQuestions (p .grid)) (question5 (p .grid) (p .start) ∷ readQuestion17 p bytes number ∷ []) refl e
 
   pub by-start : firstNo (gridQuestions (p .grid)) ≡ 0 → isGridPoint (p .grid) (p .start) ≡ false → refusal ≡ 5
   unfolding firstNo
@@ -200,22 +200,23 @@ module _ (p : Problem) (bytes : List ℕ) (number : ℕ) where
     a-place e = later grid ∙ (rw (on, e))
 
     answered : refusal ≡ 0
-        → (caseOf (reading p bytes number) ≡ readAnswer p bytes number)
-        × (front (numbersOf (reading p bytes number)) (replicate 256 0) ≡ readPoints p bytes number)
+        → (readCase (reading p bytes number) ≡ readAnswer p bytes number)
+        × (front (readNumbers (reading p bytes number)) (replicate 256 0) ≡ readPoints p bytes number)
     unfolding readAnswer readPoints
     answered e = (rw (eq-eqb refusal 0 e), rw (eq-eqb refusal 0 e))
 
-    pub read-so : (caseOf (reading p bytes number) ≡ readAnswer p bytes number)
-        × (front (numbersOf (reading p bytes number)) (replicate 256 0) ≡ readPoints p bytes number)
+    pub read-so : (readCase (reading p bytes number) ≡ readAnswer p bytes number)
+        × (front (readNumbers (reading p bytes number)) (replicate 256 0) ≡ readPoints p bytes number)
     read-so = go (reading p bytes number) refl
       where
         go : (r : TrailReading) → reading p bytes number ≡ r
-            → (caseOf (reading p bytes number) ≡ readAnswer p bytes number)
-            × (front (numbersOf (reading p bytes number)) (replicate 256 0) ≡ readPoints p bytes number)
+            → (readCase (reading p bytes number) ≡ readAnswer p bytes number)
+            × (front (readNumbers (reading p bytes number)) (replicate 256 0) ≡ readPoints p bytes number)
         go noRecord q =
             let w = by-number 17 (λ z. omega arith) (no-place (ap isPlaced q)) in (
-              ap caseOf q ∙ w .0,
-              ap (λ (r : TrailReading). front (numbersOf r) (replicate 256 0)) q ∙ front-none (replicate 256 0) ∙ w .1,
+              ap readCase q ∙ w .0,
+              ap (λ (r : TrailReading). front (readNumbers r) (replicate 256 0)) q ∙ front-none (replicate 256 0)
+                  ∙ w .1,
             )
         go (placed read b T U) q = answered (a-place (ap isPlaced q))
 
@@ -228,7 +229,7 @@ unfolding startRecord
 begins-three p bytes e = begins-long (startRecord p) bytes e
 
 -- the start in its array
-module _ (g : GridStruct) (made : IsMade g) (start : List ℕ) (ok : Settled (problemBy g start)) where
+module _ (g : GridStruct) (made : IsMade g) (start : List ℕ) (ok : HasStart (problemBy g start)) where
   pub start-long : length start ≡ g .indices
   start-long = point-long (shape g) start (ok .start) ∙ sym (made-indices g made)
 

@@ -8,26 +8,26 @@ use Rattle.grid.specs.Grid.{position}
 use Rattle.grid.specs.Made.{IsMade, shape}
 use Rattle.grid.specs.declared.Grid.{Grid as GridStruct}
 use Rattle.moves.specs.declared.Status.{Status}
-use Rattle.path_laws.specs.Demand.{Settled}
+use Rattle.path_laws.specs.Demand.{HasStart}
 use Rattle.positions.specs.Binomials.{Measured}
 use Rattle.rules.specs.Read.{numbersFrom}
 use Rattle.rules.specs.Ready.{IsRound, RoundBelow}
 use Rattle.rules.specs.Step.{Round, State}
 use Rattle.trail.specs.Trail.{reading}
 use Rattle.trail_steps.specs.Reading.{problemBy}
-use Rattle.trail_reader.specs.Reading.{caseOf, numbersOf}
+use Rattle.trail_reader.specs.Reading.{readCase, readNumbers}
 use Rattle.trail_reader.specs.declared.answers.Answer.the-variants.{Place}
 use Rattle.trail_reader.specs.declared.answers.Reading.{Reading}
 
-pub record CanRead (g : GridStruct) (start : List ℕ) : Type 0 where
+pub record CanReadTrail (g : GridStruct) (start : List ℕ) : Type 0 where
   pub made : IsMade g
-  pub settled : Settled (problemBy g start)
+  pub settled : HasStart (problemBy g start)
 
 -- the start in an array, and its position
 pub record CanLocate (g : GridStruct) (binomials first : List ℕ) : Type 0 where
   pub measured : Measured g binomials
   pub firstLength : length first ≡ 16
-  pub settled : Settled (problemBy g (take (g .indices) first))
+  pub settled : HasStart (problemBy g (take (g .indices) first))
 
 abbrev pub IsLocated : GridStruct → List ℕ → ℕ → Type 0
 IsLocated g first r = (r ≡ position (shape g) (take (g .indices) first)) × (r < 65536)
@@ -38,7 +38,7 @@ pub record CanRebuild (g : GridStruct) (round : Round) (binomials first : List �
   pub isRound : IsRound (shape g) round
   pub below : RoundBelow round
   pub firstLength : length first ≡ 16
-  pub settled : Settled (problemBy g (take (g .indices) first))
+  pub settled : HasStart (problemBy g (take (g .indices) first))
 
 -- the place that a state holds, with masks of 16 bits and the labels read
 pub record IsPlace (a : State) (m : ℕ) (s : Status) (labels : ℕ) (r : Reading) : Type 0 where
@@ -49,5 +49,5 @@ pub record IsPlace (a : State) (m : ℕ) (s : Status) (labels : ℕ) (r : Readin
 
 -- the answer, and the points
 pub record Reads (g : GridStruct) (start trail : List ℕ) (number : ℕ) (r : Reading) : Type 0 where
-  pub answer : r .answer ≡ caseOf (reading (problemBy g start) trail number)
-  pub points : r .points ≡ front (numbersOf (reading (problemBy g start) trail number)) (replicate 256 0)
+  pub answer : r .answer ≡ readCase (reading (problemBy g start) trail number)
+  pub points : r .points ≡ front (readNumbers (reading (problemBy g start) trail number)) (replicate 256 0)

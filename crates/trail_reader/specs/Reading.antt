@@ -27,34 +27,34 @@ abbrev pub isPlaced : TrailReading → Bool
 isPlaced noRecord = false
 isPlaced (placed read points T U) = true
 
-abbrev pub question17 : Problem → List ℕ → ℕ → Question
-question17 p bytes number = ask 17 (isPlaced (reading p bytes number))
+abbrev pub readQuestion17 : Problem → List ℕ → ℕ → Question
+readQuestion17 p bytes number = ask 17 (isPlaced (reading p bytes number))
 
 -- "puts 1 to 5"
 abbrev pub startQuestions : Problem → List Question
 startQuestions p = gridQuestions (p .grid) ++ (question5 (p .grid) (p .start) ∷ [])
 
-abbrev pub readQuestions : Problem → List ℕ → ℕ → List Question
-readQuestions p bytes number = startQuestions p ++ (question17 p bytes number ∷ [])
+abbrev pub trailReadQuestions : Problem → List ℕ → ℕ → List Question
+trailReadQuestions p bytes number = startQuestions p ++ (readQuestion17 p bytes number ∷ [])
 
 -- "rebuilds the place at that record": how many points it has, T and U, and request 10's labels read; the points'
 -- numbers, in rising coefficient sum, m each
-abbrev pub caseOf : TrailReading → Answer
-caseOf noRecord = Refused 17
-caseOf (placed read points T U) = Place (length points) (maskOf T) (maskOf U) read
+abbrev pub readCase : TrailReading → Answer
+readCase noRecord = Refused 17
+readCase (placed read points T U) = Place (length points) (maskOf T) (maskOf U) read
 
-abbrev pub numbersOf : TrailReading → List ℕ
-numbersOf noRecord = []
-numbersOf (placed read points T U) = concatMap (λ y. y) points
+abbrev pub readNumbers : TrailReading → List ℕ
+readNumbers noRecord = []
+readNumbers (placed read points T U) = concatMap (λ y. y) points
 
 -- "A refusal returns its number": the first question answered no; else the place
 unfoldable pub readAnswer : Problem → List ℕ → ℕ → Answer
 readAnswer p bytes number =
-    let refusal = firstNo (readQuestions p bytes number) in
-    cond (eqb refusal 0) (caseOf (reading p bytes number)) (Refused refusal)
+    let refusal = firstNo (trailReadQuestions p bytes number) in
+    cond (eqb refusal 0) (readCase (reading p bytes number)) (Refused refusal)
 
 -- the points stand at the front of 256 numbers, 0 behind; a place has at most 16 points of 16 numbers
 unfoldable pub readPoints : Problem → List ℕ → ℕ → List ℕ
 readPoints p bytes number =
-    let refusal = firstNo (readQuestions p bytes number) in
-    front (cond (eqb refusal 0) (numbersOf (reading p bytes number)) []) (replicate 256 0)
+    let refusal = firstNo (trailReadQuestions p bytes number) in
+    front (cond (eqb refusal 0) (readNumbers (reading p bytes number)) []) (replicate 256 0)

@@ -8,7 +8,7 @@ ghost use Rattle.moves.specs.Held.{stateOf};
 ghost use Rattle.place_points.specs.Room.{CanPut};
 ghost use Rattle.place.specs.Problem.{problemOf};
 ghost use Rattle.rules.specs.Step.{Round, State};
-ghost use Rattle.trail_reader.specs.Begun.{CanLocate, CanRead, CanRebuild, IsLocated, IsPlace, Reads};
+ghost use Rattle.trail_reader.specs.Begun.{CanLocate, CanReadTrail, CanRebuild, IsLocated, IsPlace, Reads};
 ghost use Rattle.trail_reader.specs.Reading.{readAnswer, readPoints};
 use arrays::block_sizes;
 use arrays::padded;
@@ -144,7 +144,7 @@ fn rebuilt(
 
 // The reading behind questions 1 to 5.
 fn read_on(g: Grid, start: &[u16], trail: &[u8], number: u64) -> Reading
-    requires { ⌜ CanRead g (now start) ⌝ }
+    requires { ⌜ CanReadTrail g (now start) ⌝ }
     ensures { λ r. ⌜ Reads g (now (start .entry)) (now (trail .entry)) number r ⌝ }
 {
     if number == 0 {

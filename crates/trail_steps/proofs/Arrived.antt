@@ -23,7 +23,7 @@ use Rattle.path_laws.proofs.FromChain.{in-U}
 use Rattle.path_laws.proofs.LinkSymmetry.{unlabelled-parts}
 use Rattle.path_laws.proofs.Meaning.{T-means, U-means}
 use Rattle.path_laws.proofs.Positions.{at-in}
-use Rattle.path_laws.specs.Demand.{Settled}
+use Rattle.path_laws.specs.Demand.{HasStart}
 use Rattle.records.proofs.Told.{IsMask, told}
 use Rattle.records.specs.Records.{recordFrom}
 use Rattle.rules.specs.Mask.{bit}
@@ -48,7 +48,7 @@ use Rattle.ways.specs.Ways.{CanMove, goneBy, wayAfter}
 use Rattle.ways.specs.declared.Way.{Way}
 use Rattle.ways.specs.declared.Way.the-variants.{Joins, Leaves, Nothing}
 
-pub position-low : {p : Problem} → Settled p → (y : Point) → isGridPoint (p .grid) y ≡ true
+pub position-low : {p : Problem} → HasStart p → (y : Point) → isGridPoint (p .grid) y ≡ true
     → position (p .grid) y < 65536
 position-low {p} ok y h =
     omega (arith, position-in (points (p .grid)) y (in-points (p .grid) y (ok .sameNumber) h), ok .points)
@@ -57,7 +57,7 @@ on-grid-in : {p : Problem} {a : Simplex} {s : State} → Shows p a s → (y : Po
     → isGridPoint (p .grid) y ≡ true
 on-grid-in {p} {a} S y m = all-in onPoints (isGridPoint (p .grid)) a (unlabelled-parts p a (S .place) .gridPoints) y m
 
-module _ {p : Problem} (ok : Settled p) where
+module _ {p : Problem} (ok : HasStart p) where
   -- T and U of a place, by the masks of a state that holds it
   module _ {a : Simplex} {s : State} (S : Shows p a s) where
     pub mask-T : IsMask (s .T) (setT p a)
@@ -266,7 +266,7 @@ pub place-ends : (e f : State) (k : ℕ) → endsAtPlace e k ≡ goes f → ⊥
 place-ends e f k q = let z : _≡_ {A = ℕ} 0 1 = cc in omega arith
 
 -- what a way leads to
-pub data WayLeads {p : Problem} (ok : Settled p) {a : Simplex} {s : State} (S : Shows p a s) (bytes : List ℕ) (n : ℕ)
+pub data WayLeads {p : Problem} (ok : HasStart p) {a : Simplex} {s : State} (S : Shows p a s) (bytes : List ℕ) (n : ℕ)
     (count : n ≡ S .t) (gone : ℕ) : After → Type 0 where
   leadsOn : {f : State} (b : Simplex) → Arrives p a b f → OnlyPlace ok S bytes n count b
       → ((x : ℕ) → change p a b .pointsOut ≡ x ∷ [] → gone ≡ x)
@@ -274,7 +274,7 @@ pub data WayLeads {p : Problem} (ok : Settled p) {a : Simplex} {s : State} (S : 
   leadsNowhere : {after : After} → ((f : State) → after ≡ goes f → ⊥) → ((k : ℕ) → rebuiltFrom p (suc k) a bytes ≡ none)
       → WayLeads ok S bytes n count gone after
 
-module _ {p : Problem} (ok : Settled p) {a : Simplex} {s : State} (S : Shows p a s) (bytes : List ℕ) (n : ℕ)
+module _ {p : Problem} (ok : HasStart p) {a : Simplex} {s : State} (S : Shows p a s) (bytes : List ℕ) (n : ℕ)
     (count : n ≡ S .t) where
   at-mark : (i : ℕ) → i ≤ S .t → positionAt s i ≡ position (p .grid) (nth a i)
   at-mark i l = position-at S i l

@@ -21,7 +21,7 @@ use Rattle.place.specs.Problem.{Problem}
 use Rattle.path_laws.proofs.LinkSymmetry.{unlabelled-parts}
 use Rattle.path_laws.proofs.Meaning.{T-means}
 use Rattle.path_laws.proofs.Positions.{at-in, in-at}
-use Rattle.path_laws.specs.Demand.{Settled}
+use Rattle.path_laws.specs.Demand.{HasStart}
 use Rattle.rules.specs.Ready.{IndicesBelow}
 use Rattle.rules.specs.Step.{State, mark, markPosition}
 use Rattle.trail.proofs.Outside.{none-of, outside-in}
@@ -55,14 +55,14 @@ mapped-one f (y ∷ []) x e = (y, refl, in-here onPoints y [], cc)
 mapped-one f (y ∷ z ∷ l) x e = absurd (omega (arith, ap length e))
 
 -- T leaves out an index of each block
-pub shows-few : {p : Problem} → Settled p → {a : Simplex} {s : State} (S : Shows p a s) → S .t ≤ 15
+pub shows-few : {p : Problem} → HasStart p → {a : Simplex} {s : State} (S : Shows p a s) → S .t ≤ 15
 shows-few ok S = ⊎-elim
     (λ (l : 0 < S .t). omega (arith, ready-leave ok S 0 (omega arith) l .few, S .orderLength))
     (λ (l : S .t ≤ 0). omega arith)
     (before-or-not 0 (S .t))
 
 -- the steps are indices
-pub order-low : {p : Problem} → Settled p → {a : Simplex} {s : State} → Shows p a s → IndicesBelow (s .order)
+pub order-low : {p : Problem} → HasStart p → {a : Simplex} {s : State} → Shows p a s → IndicesBelow (s .order)
 order-low {p} ok {a} {s} S j l =
     let jl : j < S .t = omega (arith, S .orderLength) in
     let m : isIn eqb (S .o j) (setT p a) ≡ true =
@@ -80,7 +80,7 @@ position-at {p} {a} {s} S j l =
     whole : (n : ℕ) → markPosition (mark n 0) ≡ n
     whole n = omega arith
 
-module _ {p : Problem} (ok : Settled p) {a : Simplex} {s : State} (S : Shows p a s) (b : Simplex)
+module _ {p : Problem} (ok : HasStart p) {a : Simplex} {s : State} (S : Shows p a s) (b : Simplex)
     (move : isMove p a b ≡ true) where
   same-point : {y z : Point} → isGridPoint (p .grid) y ≡ true → isGridPoint (p .grid) z ≡ true
       → position (p .grid) y ≡ position (p .grid) z → y ≡ z

@@ -35,7 +35,7 @@ use Rattle.trail_places.specs.Shows.{Shows}
 use Rattle.trail_steps.proofs.Arrived.{OnlyPlace, WayLeads, goes-on, inside, leadsNowhere, leadsOn, not-there}
 use Rattle.trail_steps.proofs.Arrived.{position-low, record-is}
 use Rattle.trail_steps.proofs.Named.{shows-few}
-use Rattle.trail_steps.specs.Reading.{CanFind, HasRead, Leads, comeIn, marksWith, problemBy, recordMade}
+use Rattle.trail_steps.specs.Reading.{CanFind, HasRead, Leads, comePosition, marksWith, problemBy, recordMade}
 use Rattle.trail_steps.specs.Reading.{wayOf}
 
 -- what the marks and the status alone tell is what the state tells
@@ -72,11 +72,11 @@ module _ (g : GridStruct) (made : IsMade g) (start tails : List ℕ) {a : Simple
 
     module _ (b : Simplex) (A : Arrives p a b after) where
       -- the point that has come in
-      come-is : status .rule < 6 → comeIn g back ≡ position (p .grid) (nth b (status .active))
+      come-is : status .rule < 6 → comePosition g back ≡ position (p .grid) (nth b (status .active))
       come-is r = rw (lt-ltb (status .rule) 6 r) (ap (position (p .grid)) (A .point r))
 
-      held : Shows p b (stored after (comeIn g back * 256))
-      held = A .shows (comeIn g back * 256) (λ r. rw (come-is r) (omega arith))
+      held : Shows p b (stored after (comePosition g back * 256))
+      held = A .shows (comePosition g back * 256) (λ r. rw (come-is r) (omega arith))
 
       many : length (take (status .count) order) ≡ status .count
       many =
@@ -97,7 +97,7 @@ module _ (g : GridStruct) (made : IsMade g) (start tails : List ℕ) {a : Simple
         many = many;
       }
 
-      pub come-low : comeIn g back < 65536
+      pub come-low : comePosition g back < 65536
       come-low =
           ⊎-elim (λ (r : status .rule < 6). rw (lt-ltb (status .rule) 6 r) (position-low (H .settled) _ (A .onGrid r)))
           (λ (r : 6 ≤ status .rule). rw (le-ltb (status .rule) 6 r) (omega arith)) (before-or-not (status .rule) 6)
@@ -105,7 +105,7 @@ module _ (g : GridStruct) (made : IsMade g) (start tails : List ℕ) {a : Simple
       made-is : ((x : ℕ) → change p a b .pointsOut ≡ x ∷ [] → gone ≡ x) → (before : Sets) → before .t ≡ s .T
           → before .u ≡ s .U
           → recordMade g back before gone ≡ recordOf p a b
-      made-is out before t u = rw (t, u) (record-is (H .settled) (H .shows) A (comeIn g back) gone come-is out)
+      made-is out before t u = rw (t, u) (record-is (H .settled) (H .shows) A (comePosition g back) gone come-is out)
 
       some-bytes : 1 ≤ length (recordOf p a b)
       unfolding recordOf
@@ -128,9 +128,9 @@ module _ (g : GridStruct) (made : IsMade g) (start tails : List ℕ) {a : Simple
             let bytes-are : bytes ≡ length (recordOf p a b) = e ∙ ap length same in
             let fits = inside (H .settled) (H .shows) (drop at trail) n count b yes in
             let state : stateOf (roundOf previous next sizes) first coefficients order new status
-            ≡ stored after (comeIn g back * 256) =
+            ≡ stored after (comePosition g back * 256) =
             ap (λ (m : List ℕ). stateOf (roundOf previous next sizes) first coefficients order m status) m
-            ∙ stored-in (roundOf previous next sizes) first coefficients order marks status (comeIn g back * 256)
+            ∙ stored-in (roundOf previous next sizes) first coefficients order marks status (comePosition g back * 256)
             (λ r. omega (arith, A .active r, many)) in
             record {
               next = b;

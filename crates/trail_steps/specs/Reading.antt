@@ -10,9 +10,9 @@ use Rattle.combinatorics.specs.Edits.{found}
 use Rattle.grid.specs.Grid.{at, numIndices, position}
 use Rattle.grid.specs.Made.{shape}
 use Rattle.grid.specs.declared.Grid.{Grid as GridStruct}
-use Rattle.marks.specs.Reading.{CanRead, HasMarks, problemFrom}
+use Rattle.marks.specs.Reading.{CanReadPoint, HasMarks, problemFrom}
 use Rattle.moves.specs.declared.Status.{Status}
-use Rattle.path_laws.specs.Demand.{Settled}
+use Rattle.path_laws.specs.Demand.{HasStart}
 use Rattle.place.specs.Places.{Simplex}
 use Rattle.place.specs.Problem.{Problem}
 use Rattle.positions.specs.Binomials.{Measured}
@@ -48,22 +48,22 @@ wayOf m n s bytes =
     cond (eqb (length bytes) 0) Nothing (cond (eqb (byte / 2 % 2) 1) out into)
 
 -- the position of the point that has come in, if any
-abbrev pub comeIn : GridStruct → State → ℕ
-comeIn g a = cond (ltb (a .rule) 6) (position (shape g) (pointOn (shape g) a (a .active))) 0
+abbrev pub comePosition : GridStruct → State → ℕ
+comePosition g a = cond (ltb (a .rule) 6) (position (shape g) (pointOn (shape g) a (a .active))) 0
 
 -- the point that has come in, if any, can be computed, and its position found
 pub record CanFind (g : GridStruct) (tails : List ℕ) (a : State) (s : Status) : Type 0 where
-  pub reads : CanRead g a
+  pub reads : CanReadPoint g a
   pub marks : HasMarks g tails a
   pub many : length (a .order) ≡ s .count
 
 -- the record of the change that has been made
 abbrev pub recordMade : GridStruct → State → Sets → ℕ → List ℕ
-recordMade g a before gone = recordFrom (before .t) (before .u) (a .T) (a .U) (comeIn g a) gone
+recordMade g a before gone = recordFrom (before .t) (before .u) (a .T) (a .U) (comePosition g a) gone
 
 -- it can be compared with the bytes
-pub record CanStand (g : GridStruct) (a : State) (gone marks room at : ℕ) : Type 0 where
-  pub come : comeIn g a < 65536
+pub record CanCompare (g : GridStruct) (a : State) (gone marks room at : ℕ) : Type 0 where
+  pub come : comePosition g a < 65536
   pub out : gone < 65536
   pub sixteen : marks ≡ 16
   pub low : at ≤ room
@@ -75,7 +75,7 @@ bytesStanding g a before gone bytes =
 
 -- the marks with that of the point that has come in
 abbrev pub marksWith : GridStruct → State → List ℕ → List ℕ
-marksWith g a marks = cond (ltb (a .rule) 6) (set marks (a .active) (comeIn g a * 256)) marks
+marksWith g a marks = cond (ltb (a .rule) 6) (set marks (a .active) (comePosition g a * 256)) marks
 
 -- grid and start; the label table is not looked at
 abbrev pub problemBy : GridStruct → List ℕ → Problem
@@ -83,7 +83,7 @@ problemBy g start = problemFrom g start []
 
 -- a reading has come to the place a
 pub record HasRead (g : GridStruct) (start tails : List ℕ) (a : Simplex) (s : State) : Type 0 where
-  pub settled : Settled (problemBy g start)
+  pub settled : HasStart (problemBy g start)
   pub shows : Shows (problemBy g start) a s
   pub sums : (k : ℕ) → k < numIndices (shape g) → at tails k ≡ tailFrom (shape g) start k
 

@@ -9,7 +9,7 @@ ghost use Rattle.combinatorics.specs.Edits.{found};
 ghost use Rattle.moves.specs.Held.{held};
 ghost use Rattle.positions.specs.Binomials.{Measured};
 ghost use Rattle.rules.specs.Step.{State, markPosition};
-ghost use Rattle.trail_steps.specs.Reading.{CanFind, CanStand, bytesStanding, comeIn, joining, leaving};
+ghost use Rattle.trail_steps.specs.Reading.{CanFind, CanCompare, bytesStanding, comePosition, joining, leaving};
 ghost use Rattle.trail_steps.specs.Reading.{marksWith, wayOf};
 ghost use Rattle.ways.specs.Ways.{heldMarks};
 use arrays::has;
@@ -127,7 +127,7 @@ fn come_in(
     ghost { State }
     requires { λ a. ⌜ held (roundBack previous sizes) first coefficients order marks s ≡ a ⌝ }
     requires { λ a. ⌜ Measured g (now binomials) × (s .rule < 6 → CanFind g (now tails) a s) ⌝ }
-    ensures { λ a r. ⌜ r ≡ comeIn g a ⌝ }
+    ensures { λ a r. ⌜ r ≡ comePosition g a ⌝ }
 {
     if s.rule < 6 {
         return position_in(
@@ -167,7 +167,7 @@ pub fn arrive(
     ghost { State }
     requires { λ a. ⌜ held (roundBack previous sizes) first coefficients order marks s ≡ a ⌝ }
     requires { λ a. ⌜ Measured g (now binomials) × (s .rule < 6 → CanFind g (now tails) a s) ⌝ }
-    requires { λ a. ⌜ CanStand g a gone (length (now marks)) (length (now trail)) at ⌝ }
+    requires { λ a. ⌜ CanCompare g a gone (length (now marks)) (length (now trail)) at ⌝ }
     ensures { λ a _. ⌜ now (marks .exit) ≡ marksWith g a (now (marks .entry)) ⌝ }
     ensures { λ a r. ⌜ r ≡ bytesStanding g a before gone (drop at (now (trail .entry))) ⌝ }
 {

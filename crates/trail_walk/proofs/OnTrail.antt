@@ -30,7 +30,7 @@ use Rattle.path_walk.specs.Finish.{IsKnown, problemIn}
 use Rattle.grid.proofs.Points.{in-points, onPoints, position-in}
 use Rattle.grid.specs.Grid.{Point, isGridPoint, numIndices, points, position, samePoint}
 use Rattle.grid.specs.declared.Grid.{Grid as GridStruct}
-use Rattle.marks.specs.Reading.{tableOf}
+use Rattle.marks.specs.Reading.{tableProblem}
 use Rattle.moves.proofs.Cases.{Leaving, label-joins, leaving-leaves, leaving-ready}
 use Rattle.place.specs.Ends.{End}
 use Rattle.place.specs.Path.{answer, ended, outcome, path, pathLength, spent}
@@ -186,8 +186,8 @@ module _ (g : GridStruct) (start table : List ℕ) (ok : Accepted (problemIn g s
     active-low = at-reads (filled-full ok) (here .0) .0 .low
 
     -- once the mark of the point that has come in is read, each point has its position in its mark
-    module _ (known : IsKnown (tableOf g table) s) where
-      label-small : s .rule < 6 → label (tableOf g table) (pointIn p s (s .active)) < 256
+    module _ (known : IsKnown (tableProblem g table) s) where
+      label-small : s .rule < 6 → label (tableProblem g table) (pointIn p s (s .active)) < 256
       unfolding label
       label-small r =
           let y = pointIn p s (s .active) in
@@ -199,11 +199,11 @@ module _ (g : GridStruct) (start table : List ℕ) (ok : Accepted (problemIn g s
           )
 
       pub known-position : (j : ℕ) → j ≤ length (s .order)
-          → positionAt (read (tableOf g table) s) j ≡ position (p .grid) (pointIn p s j)
+          → positionAt (read (tableProblem g table) s) j ≡ position (p .grid) (pointIn p s j)
       unfolding read withMark
       known-position j l =
           let y = pointIn p s (s .active) in
-          let m = markOf (tableOf g table) y in
+          let m = markOf (tableProblem g table) y in
           let marked = at-marks (filled-full ok) (here .0) j l in
           let long = at-long (filled-full ok) (here .0) in
           ⊎-elim
@@ -211,19 +211,19 @@ module _ (g : GridStruct) (start table : List ℕ) (ok : Accepted (problemIn g s
           (⊎-elim
           (λ (e : j ≡ s .active). rw e
           (ap markPosition (getD-set-same (s .marks) (s .active) m 0 (omega (arith, long, active-low)))
-          ∙ mark-position (position (p .grid) y) (label (tableOf g table) y) (label-small r)))
+          ∙ mark-position (position (p .grid) y) (label (tableProblem g table) y) (label-small r)))
           (λ n. ap markPosition (getD-set-other (s .marks) (s .active) j m 0 n) ∙ marked (λ q. n))
           (same-or j (s .active))))
           (λ (r : 6 ≤ s .rule). rw (le-ltb (s .rule) 6 r) (marked (λ q. absurd (omega arith))))
           (before-or-not (s .rule) 6)
 
-      come-low : positionAt (read (tableOf g table) s) (s .active) < 65536
+      come-low : positionAt (read (tableProblem g table) s) (s .active) < 65536
       come-low = omega (arith, known-position (s .active) active-low, position-low (s .active) active-low)
 
   -- what reading a mark leaves as it is
   module _ (s : State) where
     abbrev r : State
-    r = read (tableOf g table) s
+    r = read (tableProblem g table) s
 
     same-T : r .T ≡ s .T
     unfolding read withMark
@@ -261,8 +261,8 @@ module _ (g : GridStruct) (start table : List ℕ) (ok : Accepted (problemIn g s
         (before-or-not (s .rule) 6)
 
   -- so the position of the point that has come in fits 16 bits
-  pub come-fits : (s : State) (k : ℕ) (here : OnPath p s k) (known : IsKnown (tableOf g table) s)
-      → positionAt (read (tableOf g table) s) (read (tableOf g table) s .active) < 65536
+  pub come-fits : (s : State) (k : ℕ) (here : OnPath p s k) (known : IsKnown (tableProblem g table) s)
+      → positionAt (read (tableProblem g table) s) (read (tableProblem g table) s .active) < 65536
   come-fits s k here known = rw (same-active s) (come-low s k here known)
 
   -- the position of the first of some points; 0 of none
@@ -332,10 +332,11 @@ module _ (g : GridStruct) (start table : List ℕ) (ok : Accepted (problemIn g s
     )
 
   -- the record that is made at a place is the trail's
-  module _ (s : State) (k : ℕ) (here : OnPath p s k) (known : IsKnown (tableOf g table) s) (before : Before) (at : ℕ)
+  module _ (s : State) (k : ℕ) (here : OnPath p s k) (known : IsKnown (tableProblem g table) s) (before : Before)
+      (at : ℕ)
       (F : SoFar g start table before k at) (left : (h : ℕ) → suc h ≡ k → HasLeft g start table before h) where
     abbrev come : ℕ
-    come = positionAt (read (tableOf g table) s) (s .active)
+    come = positionAt (read (tableProblem g table) s) (s .active)
 
     come-is : come ≡ position (p .grid) (pointIn p s (s .active))
     come-is = known-position s k here known (s .active) (active-low s k here)
@@ -398,27 +399,27 @@ module _ (g : GridStruct) (start table : List ℕ) (ok : Accepted (problemIn g s
     one-place : take (suc k) visited ≡ take k visited ++ (placeAt visited k ∷ [])
     one-place = take-suc visited k [] (here .1)
 
-    made-first : at ≡ 0 → recordHere (read (tableOf g table) s) before at ≡ firstRecord come
+    made-first : at ≡ 0 → recordHere (read (tableProblem g table) s) before at ≡ firstRecord come
     made-first e = rw (eq-eqb at 0 e, same-active s)
 
     made-later : (at ≡ 0 → ⊥)
-        → recordHere (read (tableOf g table) s) before at
+        → recordHere (read (tableProblem g table) s) before at
         ≡ recordFrom (before .t) (before .u) (s .T) (s .U) come (before .gone)
     made-later n = rw (ne-eqb at 0 n, same-T s, same-U s, same-active s)
 
-    pub here-trail : trailOf p (take k visited) ++ recordHere (read (tableOf g table) s) before at
+    pub here-trail : trailOf p (take k visited) ++ recordHere (read (tableProblem g table) s) before at
         ≡ trailOf p (take (suc k) visited)
     here-trail = go k refl
       where
         go : (n : ℕ) → k ≡ n
-            → trailOf p (take k visited) ++ recordHere (read (tableOf g table) s) before at
+            → trailOf p (take k visited) ++ recordHere (read (tableProblem g table) s) before at
             ≡ trailOf p (take (suc k) visited)
         go zero e =
             let none : trailOf p (take k visited) ≡ [] = ap (λ (n : ℕ). trailOf p (take n visited)) e ∙ no-trail in
             let z : at ≡ 0 = F .long ∙ ap length none in
             let one : take (suc k) visited ≡ placeAt visited k ∷ [] =
             one-place ∙ ap (λ (n : ℕ). take n visited ++ (placeAt visited k ∷ [])) e in
-            ap (λ (l : List ℕ). l ++ recordHere (read (tableOf g table) s) before at) none
+            ap (λ (l : List ℕ). l ++ recordHere (read (tableProblem g table) s) before at) none
             ∙ made-first z
             ∙ begins-trail e
             ∙ first-trail (placeAt visited k)
@@ -433,10 +434,10 @@ module _ (g : GridStruct) (start table : List ℕ) (ok : Accepted (problemIn g s
             ∙ rw e (sym (trail-next h (omega (arith, here .1, e))))
 
   -- the point that leaves
-  module _ (s : State) (k : ℕ) (here : OnPath p s k) (known : IsKnown (tableOf g table) s)
-      (ready : Ready (read (tableOf g table) s)) where
+  module _ (s : State) (k : ℕ) (here : OnPath p s k) (known : IsKnown (tableProblem g table) s)
+      (ready : Ready (read (tableProblem g table) s)) where
     abbrev full-marks : State
-    full-marks = read (tableOf g table) s
+    full-marks = read (tableProblem g table) s
 
     -- its position, if one leaves
     abbrev gone-here : ℕ
@@ -557,10 +558,11 @@ module _ (g : GridStruct) (start table : List ℕ) (ok : Accepted (problemIn g s
   trail-none false old = refl
 
   -- one place of the walk
-  module _ (s : State) (k : ℕ) (here : OnPath p s k) (known : IsKnown (tableOf g table) s) (before : Before) (at : ℕ)
+  module _ (s : State) (k : ℕ) (here : OnPath p s k) (known : IsKnown (tableProblem g table) s) (before : Before)
+      (at : ℕ)
       (F : SoFar g start table before k at) where
     abbrev rec : List ℕ
-    rec = recordHere (read (tableOf g table) s) before at
+    rec = recordHere (read (tableProblem g table) s) before at
 
     next-long : at + length rec ≡ length (trailOf p (take (suc k) visited))
     next-long = go k refl

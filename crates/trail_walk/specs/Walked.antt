@@ -12,8 +12,8 @@ use Rattle.place.specs.Problem.{Problem}
 use Rattle.trail.specs.Record.{trailOf}
 
 -- the whole trail of the path has room, where the walk writes
-abbrev pub HasRoom : Problem → Bool → ℕ → Type 0
-HasRoom p writes room = writes ≡ true → length (trailOf p (path p .visited)) ≤ room
+abbrev pub HasRoomForTrail : Problem → Bool → ℕ → Type 0
+HasRoomForTrail p writes room = writes ≡ true → length (trailOf p (path p .visited)) ≤ room
 
 -- what a walk leaves in the trail, and counts
 abbrev pub Recorded : Problem → Bool → List ℕ → List ℕ → ℕ → Finish → Type 0

@@ -5,7 +5,7 @@ ghost use lib.ListN.{length};
 ghost use Rattle.arrays.specs.Rounds.{round};
 ghost use Rattle.path_walk.specs.Finish.{CanWalk, Finished, problemIn};
 ghost use Rattle.rules.specs.Step.{Round};
-ghost use Rattle.trail_walk.specs.Walked.{HasRoom, Recorded};
+ghost use Rattle.trail_walk.specs.Walked.{HasRoomForTrail, Recorded};
 use end_kinds::Kind;
 use grid::Grid;
 use label_reading::Looked;
@@ -46,7 +46,7 @@ pub fn follow(
     ghost { Round }
     requires { λ w. ⌜ round previous next sizes ≡ w ⌝ }
     requires { λ w. ⌜ CanWalk g w (now binomials) (now first) (now order) (now table) ⌝ }
-    requires { λ _. ⌜ HasRoom (problemIn g (now first) (now table)) writes (length (now trail)) ⌝ }
+    requires { λ _. ⌜ HasRoomForTrail (problemIn g (now first) (now table)) writes (length (now trail)) ⌝ }
     ensures { λ w r. ⌜ Finished (problemIn g (now (first .entry)) (now (table .entry))) budget w
         (now (first .exit)) (now (order .exit)) (r .finish) ⌝ }
     ensures { λ _ r. ⌜ Recorded (problemIn g (now (first .entry)) (now (table .entry))) writes

@@ -16,7 +16,7 @@ use Rattle.combinatorics.specs.Front.{front}
 use Rattle.combinatorics.specs.Lists.{all}
 use Rattle.end_kinds.specs.declared.Kind.{Kind}
 use Rattle.finder.proofs.Demand.{unrefused}
-use Rattle.finder.specs.Run.{caseOf, numbersOf, refusal, runAnswer, runBuffer}
+use Rattle.finder.specs.Run.{caseOf, numbersOf, runRefusal, runAnswer, runBuffer}
 use Rattle.finder.specs.declared.answers.Answer.the-variants.{Refused as RunRefused, End as RunEnd}
 use Rattle.path_laws.specs.Demand.{Accepted, placeAt}
 use Rattle.place.specs.Path.{Answer as PathAnswer, answer, ended, path, pathLength, spent, unknown}
@@ -26,7 +26,8 @@ use Rattle.questions.specs.Questions.{Question, firstNo}
 use Rattle.trail.proofs.RunTrail.{path-trail}
 use Rattle.trail.specs.Trail.{rebuilt}
 use Rattle.trail_writer.specs.Claims.{ReadsBack, TrailsOfRuns, Writes, withoutBytes}
-use Rattle.trail_writer.specs.Writing.{announces, answerBuffer, trailAnswer, trailBuffer, trailCase, wholeTrail}
+use Rattle.trail_writer.specs.Writing.{announces, trailAnswerBuffer, trailAnswer, trailBuffer, trailCase}
+use Rattle.trail_writer.specs.Writing.{wholeTrail}
 use Rattle.trail_writer.specs.declared.answers.Answer.the-variants.{End, Refused}
 use Rattle.trail_writer.proofs.Endings.{has-room, too-short}
 use Rattle.trail_walk.proofs.OnTrail.{ended-whole}
@@ -40,7 +41,7 @@ first-low (q ∷ qs) e = ⊎-elim
     (λ f. rw f (leb-true (q .number) 8 (and-left (leb (q .number) 8) _ e)))
     (true-or-false (q .answeredYes))
 
-refusal-low : (p : Problem) (room : ℕ) → refusal p room ≤ 8
+refusal-low : (p : Problem) (room : ℕ) → runRefusal p room ≤ 8
 refusal-low p room = first-low (runQuestions p room) refl
 
 module _ (p : Problem) (trailRoom : ℕ) where
@@ -77,16 +78,16 @@ module _ (p : Problem) (room trailRoom budget : ℕ) where
       → withoutBytes (trailAnswer p room trailRoom budget) ≡ runAnswer p room budget
   unfolding trailAnswer runAnswer
   with-room l = ⊎-elim
-      (λ e. rw (eq-eqb (refusal p room) 0 e) (bytes-off p trailRoom l (answer p budget)))
-      (λ n. rw (ne-eqb (refusal p room) 0 n))
-      (same-or (refusal p room) 0)
+      (λ e. rw (eq-eqb (runRefusal p room) 0 e) (bytes-off p trailRoom l (answer p budget)))
+      (λ n. rw (ne-eqb (runRefusal p room) 0 n))
+      (same-or (runRefusal p room) 0)
 
   same-buffer : length (wholeTrail p) ≤ trailRoom → (old : List ℕ) → length old ≡ room
-      → answerBuffer p trailRoom budget old ≡ runBuffer p budget old
-  unfolding answerBuffer runBuffer trailAnswer
+      → trailAnswerBuffer p trailRoom budget old ≡ runBuffer p budget old
+  unfolding trailAnswerBuffer runBuffer trailAnswer
   same-buffer l old q =
-      ⊎-elim (λ e. rw (eq-eqb (refusal p (length old)) 0 e, numbers-alike p trailRoom l (answer p budget)))
-      (λ n. rw (ne-eqb (refusal p (length old)) 0 n)) (same-or (refusal p (length old)) 0)
+      ⊎-elim (λ e. rw (eq-eqb (runRefusal p (length old)) 0 e, numbers-alike p trailRoom l (answer p budget)))
+      (λ n. rw (ne-eqb (runRefusal p (length old)) 0 n)) (same-or (runRefusal p (length old)) 0)
 
   no-room : trailRoom < length (wholeTrail p) → (n read : ℕ) (kind : Kind) (block vertices : ℕ)
       → runAnswer p room budget ≡ RunEnd n read kind block vertices
@@ -94,11 +95,13 @@ module _ (p : Problem) (room trailRoom budget : ℕ) where
   unfolding trailAnswer runAnswer
   no-room l n read kind block vertices e = ⊎-elim
       (λ z.
-      rw (eq-eqb (refusal p room) 0 z) (is-17 p trailRoom l (answer p budget) (rw (eq-eqb (refusal p room) 0 z) at e)))
+      rw (eq-eqb (runRefusal p room) 0 z)
+      (is-17 p trailRoom l (answer p budget) (rw (eq-eqb (runRefusal p room) 0 z) at e)))
       (λ z.
-      let f : RunRefused (refusal p room) ≡ RunEnd n read kind block vertices = rw (ne-eqb (refusal p room) 0 z) at e in
+      let f : RunRefused (runRefusal p room)
+      ≡ RunEnd n read kind block vertices = rw (ne-eqb (runRefusal p room) 0 z) at e in
       absurd (let w : _≡_ {A = ℕ} 0 1 = cc in omega arith))
-      (same-or (refusal p room) 0)
+      (same-or (runRefusal p room) 0)
 
   only-ends : withoutBytes (trailAnswer p room trailRoom budget) ≡ RunRefused 17
       → (n : ℕ) × (read : ℕ) × (kind : Kind) × (block : ℕ) × (vertices : ℕ)
@@ -106,17 +109,18 @@ module _ (p : Problem) (room trailRoom budget : ℕ) where
   unfolding trailAnswer runAnswer
   only-ends e = ⊎-elim
       (λ z.
-      rw (eq-eqb (refusal p room) 0 z) (of-17 p trailRoom (answer p budget) (rw (eq-eqb (refusal p room) 0 z) at e)))
+      rw (eq-eqb (runRefusal p room) 0 z)
+      (of-17 p trailRoom (answer p budget) (rw (eq-eqb (runRefusal p room) 0 z) at e)))
       (λ z.
-      let f : RunRefused (refusal p room) ≡ RunRefused 17 = rw (ne-eqb (refusal p room) 0 z) at e in
-      let w : refusal p room ≡ 17 = cc in
+      let f : RunRefused (runRefusal p room) ≡ RunRefused 17 = rw (ne-eqb (runRefusal p room) 0 z) at e in
+      let w : runRefusal p room ≡ 17 = cc in
       absurd (omega (arith, refusal-low p room)))
-      (same-or (refusal p room) 0)
+      (same-or (runRefusal p room) 0)
 
   un-written : (n : ℕ) → trailAnswer p room trailRoom budget ≡ Refused n
-      → ((old : List ℕ) → length old ≡ room → answerBuffer p trailRoom budget old ≡ old)
+      → ((old : List ℕ) → length old ≡ room → trailAnswerBuffer p trailRoom budget old ≡ old)
       × ((old : List ℕ) → length old ≡ trailRoom → trailBuffer p room budget old ≡ old)
-  unfolding answerBuffer trailBuffer
+  unfolding trailAnswerBuffer trailBuffer
   un-written n e = ((λ old q. rw (q, e, front-none old)), (λ old q. rw (q, e, front-none old)))
 
   writes : Writes p room trailRoom budget
@@ -153,12 +157,12 @@ module _ (p : Problem) (room budget : ℕ) (accepted : Accepted p) (old : List �
     ended-so : (n ≡ pathLength p) × (bytes ≡ length (wholeTrail p))
     unfolding trailAnswer
     ended-so = ⊎-elim
-        (λ z. case-end (answer p budget) (rw (eq-eqb (refusal p room) 0 z) at e) refl)
+        (λ z. case-end (answer p budget) (rw (eq-eqb (runRefusal p room) 0 z) at e) refl)
         (λ z.
-        let f : Refused (refusal p room) ≡ End n read kind block vertices bytes =
-        rw (ne-eqb (refusal p room) 0 z) at e in
+        let f : Refused (runRefusal p room) ≡ End n read kind block vertices bytes =
+        rw (ne-eqb (runRefusal p room) 0 z) at e in
         absurd (let w : _≡_ {A = ℕ} 0 1 = cc in omega arith))
-        (same-or (refusal p room) 0)
+        (same-or (runRefusal p room) 0)
 
     buffer-is : trailBuffer p room budget old ≡ wholeTrail p ++ drop (length (wholeTrail p)) old
     unfolding trailBuffer front

@@ -14,7 +14,7 @@ use Rattle.end_kinds.specs.declared.Kind.{Kind}
 use Rattle.finder.proofs.Announcements.{same-problem}
 use Rattle.path_laws.specs.Demand.{Accepted}
 use Rattle.path_walk.specs.Finish.{Finished, problemIn}
-use Rattle.finder.specs.Run.{caseOf, numbersOf, refusal}
+use Rattle.finder.specs.Run.{caseOf, numbersOf, runRefusal}
 use Rattle.finder.specs.declared.answers.Answer.the-variants.{End as RunEnd}
 use Rattle.path_walk.specs.declared.Finish.{Finish}
 use Rattle.path_walk.specs.declared.Finish.the-variants.{Ended, Spent as FinishSpent, Unknown as FinishUnknown}
@@ -27,7 +27,7 @@ use Rattle.place.specs.Problem.{Problem}
 use Rattle.questions.specs.Questions.{firstNo}
 use Rattle.rules.specs.Step.{Round}
 use Rattle.trail_walk.specs.Walked.{Recorded}
-use Rattle.trail_writer.specs.Writing.{announces, answerBuffer, trailAnswer, trailBuffer, trailCase}
+use Rattle.trail_writer.specs.Writing.{announces, trailAnswerBuffer, trailAnswer, trailBuffer, trailCase}
 use Rattle.trail_writer.specs.Writing.{wholeTrail}
 use Rattle.trail_writer.specs.declared.answers.Answer.the-variants.{End, Refused}
 
@@ -76,19 +76,20 @@ module _ (p : Problem) (room : ℕ) where
 
 -- what a run that writes a trail then answers, and what it leaves in its buffers
 module _ (p : Problem) (budget : ℕ) (old oldTrail : List ℕ) where
-  pub refused : (n : ℕ) → (n ≡ 0 → ⊥) → refusal p (length old) ≡ n
+  pub refused : (n : ℕ) → (n ≡ 0 → ⊥) → runRefusal p (length old) ≡ n
       → (Refused n ≡ trailAnswer p (length old) (length oldTrail) budget)
-      × (old ≡ answerBuffer p (length oldTrail) budget old) × (oldTrail ≡ trailBuffer p (length old) budget oldTrail)
-  unfolding trailAnswer answerBuffer trailBuffer
+      × (old ≡ trailAnswerBuffer p (length oldTrail) budget old)
+      × (oldTrail ≡ trailBuffer p (length old) budget oldTrail)
+  unfolding trailAnswer trailAnswerBuffer trailBuffer
   refused n z e =
-      let q : eqb (refusal p (length old)) 0 ≡ false = ne-eqb (refusal p (length old)) 0 (λ f. z (sym e ∙ f)) in
+      let q : eqb (runRefusal p (length old)) 0 ≡ false = ne-eqb (runRefusal p (length old)) 0 (λ f. z (sym e ∙ f)) in
       (rw (q, e), rw (q, front-none old), rw (q, front-none oldTrail))
 
-  pub answered : refusal p (length old) ≡ 0
+  pub answered : runRefusal p (length old) ≡ 0
       → (trailCase p (length oldTrail) (answer p budget) ≡ trailAnswer p (length old) (length oldTrail) budget)
       × (front (cond (announces (trailCase p (length oldTrail) (answer p budget))) (numbersOf (answer p budget)) []) old
-      ≡ answerBuffer p (length oldTrail) budget old)
+      ≡ trailAnswerBuffer p (length oldTrail) budget old)
       × (front (cond (announces (trailCase p (length oldTrail) (answer p budget))) (wholeTrail p) []) oldTrail
       ≡ trailBuffer p (length old) budget oldTrail)
-  unfolding trailAnswer answerBuffer trailBuffer
+  unfolding trailAnswer trailAnswerBuffer trailBuffer
   answered e = (rw e, rw e, rw e)

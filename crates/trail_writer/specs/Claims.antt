@@ -14,7 +14,7 @@ use Rattle.path_laws.specs.Demand.{placeAt}
 use Rattle.place.specs.Path.{path, pathLength}
 use Rattle.place.specs.Problem.{Problem, withLabels}
 use Rattle.trail.specs.Trail.{rebuilt}
-use Rattle.trail_writer.specs.Writing.{answerBuffer, trailAnswer, trailBuffer, wholeTrail}
+use Rattle.trail_writer.specs.Writing.{trailAnswerBuffer, trailAnswer, trailBuffer, wholeTrail}
 use Rattle.trail_writer.specs.declared.answers.Answer.{Answer}
 use Rattle.trail_writer.specs.declared.answers.Answer.the-variants.{Refused, Spent, Unknown, End}
 
@@ -31,7 +31,7 @@ pub record Writes (p : Problem) (room trailRoom budget : ℕ) : Type 0 where
   pub withRoom : length (wholeTrail p) ≤ trailRoom
       → withoutBytes (trailAnswer p room trailRoom budget) ≡ runAnswer p room budget
   pub sameBuffer : length (wholeTrail p) ≤ trailRoom → (old : List ℕ) → length old ≡ room
-      → answerBuffer p trailRoom budget old ≡ runBuffer p budget old
+      → trailAnswerBuffer p trailRoom budget old ≡ runBuffer p budget old
   -- where there is none, a run that would announce an end gets 17, and only such a run
   pub noRoom : trailRoom < length (wholeTrail p) → (n read : ℕ) (kind : Kind) (block vertices : ℕ)
       → runAnswer p room budget ≡ RunEnd n read kind block vertices
@@ -41,7 +41,7 @@ pub record Writes (p : Problem) (room trailRoom budget : ℕ) : Type 0 where
       × (runAnswer p room budget ≡ RunEnd n read kind block vertices)
   -- nothing is written then, nor at any other refusal
   pub unwritten : (n : ℕ) → trailAnswer p room trailRoom budget ≡ Refused n
-      → ((old : List ℕ) → length old ≡ room → answerBuffer p trailRoom budget old ≡ old)
+      → ((old : List ℕ) → length old ≡ room → trailAnswerBuffer p trailRoom budget old ≡ old)
       × ((old : List ℕ) → length old ≡ trailRoom → trailBuffer p room budget old ≡ old)
 
 -- "over a run's trail these places are the path": what a run has written reads back, place by place, whatever was

@@ -6,7 +6,7 @@ use Prim.Native.Nat.{ℕ}
 use lib.Dec.{eqb, leb}
 use lib.ListN.{length}
 use Rattle.combinatorics.specs.Front.{front}
-use Rattle.finder.specs.Run.{numbersOf, refusal}
+use Rattle.finder.specs.Run.{numbersOf, runRefusal}
 use Rattle.place.specs.Path.{Answer as PathAnswer, answer, ended, path, spent, unknown}
 use Rattle.place.specs.Problem.{Problem}
 use Rattle.questions.specs.Questions.{Question, ask, firstNo}
@@ -19,8 +19,8 @@ abbrev pub wholeTrail : Problem → List ℕ
 wholeTrail p = trailOf p (path p .visited)
 
 -- "17 when the trail buffer is shorter than the whole trail": is it as long at least?
-abbrev pub question17 : Problem → ℕ → Question
-question17 p room = ask 17 (leb (length (wholeTrail p)) room)
+abbrev pub writeQuestion17 : Problem → ℕ → Question
+writeQuestion17 p room = ask 17 (leb (length (wholeTrail p)) room)
 
 -- "asked after the run has ended and before anything is written (that run announces no end ..)": of an accepted table.
 -- A run that meets 9 or 16 has not ended, and is not asked. The end is the run's, with the bytes written.
@@ -28,13 +28,13 @@ abbrev pub trailCase : Problem → ℕ → PathAnswer → Answer
 trailCase p room (spent n) = Spent n
 trailCase p room (unknown n position) = Unknown n position
 trailCase p room (ended n read kind block vertices simplex) =
-    let number = firstNo (question17 p room ∷ []) in
+    let number = firstNo (writeQuestion17 p room ∷ []) in
     cond (eqb number 0) (End n read kind block vertices (length (wholeTrail p))) (Refused number)
 
 -- questions 1 to 8 come first; the answer buffer has `room` numbers, the trail buffer `trailRoom` bytes
 unfoldable pub trailAnswer : Problem → ℕ → ℕ → ℕ → Answer
 trailAnswer p room trailRoom budget =
-    cond (eqb (refusal p room) 0) (trailCase p trailRoom (answer p budget)) (Refused (refusal p room))
+    cond (eqb (runRefusal p room) 0) (trailCase p trailRoom (answer p budget)) (Refused (runRefusal p room))
 
 -- "A refusal returns its number and no count, and changes no buffer": only a run that announces an end writes
 abbrev pub announces : Answer → Bool
@@ -44,8 +44,8 @@ announces (Unknown n position) = false
 announces (End n read kind block vertices bytes) = true
 
 -- "What a call does write stands at the front of its buffer, old contents behind"
-unfoldable pub answerBuffer : Problem → ℕ → ℕ → List ℕ → List ℕ
-answerBuffer p trailRoom budget old =
+unfoldable pub trailAnswerBuffer : Problem → ℕ → ℕ → List ℕ → List ℕ
+trailAnswerBuffer p trailRoom budget old =
     front (cond (announces (trailAnswer p (length old) trailRoom budget)) (numbersOf (answer p budget)) []) old
 
 unfoldable pub trailBuffer : Problem → ℕ → ℕ → List ℕ → List ℕ

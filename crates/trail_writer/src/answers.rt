@@ -12,7 +12,7 @@ ghost use Rattle.place.specs.Path.{Answer as PathAnswer, answer as answerOf};
 ghost use Rattle.place.specs.Problem.{problemOf};
 ghost use Rattle.rules.specs.Step.{Round};
 ghost use Rattle.trail_writer.specs.Again.{CanWriteTrail};
-ghost use Rattle.trail_writer.specs.Writing.{announces, answerBuffer, trailAnswer, trailBuffer};
+ghost use Rattle.trail_writer.specs.Writing.{announces, trailAnswerBuffer, trailAnswer, trailBuffer};
 ghost use Rattle.trail_writer.specs.Writing.{trailCase, wholeTrail};
 use arrays::block_sizes;
 use arrays::padded;
@@ -180,7 +180,7 @@ pub fn run_with_trail(
     ensures answer { λ r. ⌜ r ≡ trailAnswer
         (problemOf (now (sizes .entry)) (now (divisions .entry)) (now (start .entry)) (now (labels .entry)))
         (length (now (answer .entry))) (length (now (trail .entry))) budget ⌝ }
-    ensures buffer { λ _. ⌜ now (answer .exit) ≡ answerBuffer
+    ensures buffer { λ _. ⌜ now (answer .exit) ≡ trailAnswerBuffer
         (problemOf (now (sizes .entry)) (now (divisions .entry)) (now (start .entry)) (now (labels .entry)))
         (length (now (trail .entry))) budget (now (answer .entry)) ⌝ }
     ensures trail { λ _. ⌜ now (trail .exit) ≡ trailBuffer

@@ -5,7 +5,7 @@ ghost use Rattle.combinatorics.specs.Front.{front};
 ghost use Rattle.place.specs.Problem.{problemOf};
 ghost use Rattle.run_facts.specs.Numbers.{runFacts, runNumber};
 ghost use Rattle.trail_writer.specs.Claims.{withoutBytes};
-ghost use Rattle.trail_writer.specs.Writing.{answerBuffer, trailAnswer, trailBuffer};
+ghost use Rattle.trail_writer.specs.Writing.{trailAnswerBuffer, trailAnswer, trailBuffer};
 ghost use Rattle.trail_writer_exports.specs.Written.{bytesWritten};
 use run_facts::put_answer;
 
@@ -83,7 +83,7 @@ pub extern "C" fn leveretplate_run_with_trail(
         now (bytes .exit) ≡ bytesWritten found (now (bytes .entry))) ⌝ }
     ensures answer { λ _. ⌜ (let p = problemOf
         (now (sizes .entry)) (now (divisions .entry)) (now (start .entry)) (now (labels .entry)) in
-        now (answer .exit) ≡ answerBuffer p (length (now (trail .entry))) budget (now (answer .entry))) ⌝ }
+        now (answer .exit) ≡ trailAnswerBuffer p (length (now (trail .entry))) budget (now (answer .entry))) ⌝ }
     ensures trail { λ _. ⌜ (let p = problemOf
         (now (sizes .entry)) (now (divisions .entry)) (now (start .entry)) (now (labels .entry)) in
         now (trail .exit) ≡ trailBuffer p (length (now (answer .entry))) budget (now (trail .entry))) ⌝ }

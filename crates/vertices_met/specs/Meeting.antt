@@ -26,8 +26,8 @@ pointCome g a = pointOn g a (a .active)
 abbrev pub comeBy : ℕ → ℕ → Came
 comeBy rule position = cond (ltb rule 6) (At position) Nothing
 
-abbrev pub comeIn : Grid → State → Came
-comeIn g a = comeBy (a .rule) (position g (pointCome g a))
+abbrev pub vertexCome : Grid → State → Came
+vertexCome g a = comeBy (a .rule) (position g (pointCome g a))
 
 -- a vertex at a position and a distance is met for the first time: the list where it is within the given distance, and
 -- what is kept
@@ -59,9 +59,9 @@ listAfter given t away seen list Nothing = list
 listAfter given t away seen list (At q) = cond (eqb (at seen q) 0) (listedIn given (t .listed) q away list) list
 
 -- there is room to note it
-abbrev pub HasRoom : ℕ → Tally → ℕ → List ℕ → List ℕ → Came → Type 0
-HasRoom given t away seen list Nothing = length list ≡ length list
-HasRoom given t away seen list (At q) = (q < 60000) × (at seen q ≡ 0 → away ≤ given → t .listed < length list)
+abbrev pub HasRoomToNote : ℕ → Tally → ℕ → List ℕ → List ℕ → Came → Type 0
+HasRoomToNote given t away seen list Nothing = length list ≡ length list
+HasRoomToNote given t away seen list (At q) = (q < 60000) × (at seen q ≡ 0 → away ≤ given → t .listed < length list)
 
 pub record HasMet (given : ℕ) (t : Tally) (away : ℕ) (came : Came) (seen list : LentBoth) (r : Tally) : Type 0 where
   pub tally : r ≡ tallyAfter given t away (now (seen .entry)) came

@@ -13,7 +13,7 @@ ghost use Rattle.rules.specs.Ready.{IndicesBelow};
 ghost use Rattle.rules.specs.Step.{State, markPosition};
 ghost use Rattle.visited.specs.Distance.{distance};
 ghost use Rattle.distances.specs.Measure.{CanMeasure};
-ghost use Rattle.vertices_met.specs.Meeting.{HasMet, HasRoom, comeBy, listedAfter, listedIn, noted};
+ghost use Rattle.vertices_met.specs.Meeting.{HasMet, HasRoomToNote, comeBy, listedAfter, listedIn, noted};
 ghost use Rattle.vertices_met.specs.Meeting.{pointCome};
 use arrays::position_at;
 use distances::distance_of;
@@ -132,7 +132,7 @@ pub fn meet(
     requires { λ a. ⌜ stateOf (roundBack previous sizes) (now first) [] (now order) [] s ≡ a ⌝ }
     requires { λ a. ⌜ IndicesBelow (now previous) × CanCompute a (a .active) ⌝ }
     requires { λ a. ⌜ ((g : Shape) × CanMeasure g (now weights) (now w) m
-        × HasRoom given t (distance g (now w) (pointCome g a)) (now seen) (now list) came) ⌝ }
+        × HasRoomToNote given t (distance g (now w) (pointCome g a)) (now seen) (now list) came) ⌝ }
     ensures { λ a r. ⌜ ((g : Shape) → CanMeasure g (now (weights .entry)) (now (w .entry)) m
         → HasMet given t (distance g (now (w .entry)) (pointCome g a)) came seen list r) ⌝ }
 {

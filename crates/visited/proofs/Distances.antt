@@ -17,6 +17,7 @@ use Rattle.combinatorics.proofs.Lists.{at-all, filter-append}
 use Rattle.combinatorics.proofs.Ranges.{upFrom-add}
 use Rattle.combinatorics.proofs.Turns.{map-append, sum-append, sum-next, upFrom-next}
 use Rattle.combinatorics.specs.Lists.{filter, sum, upFrom}
+use Rattle.combinatorics.specs.Counting.{apart}
 use Rattle.grid.proofs.Accepted.{Accepted}
 use Rattle.grid.proofs.Round.{block-at, block-spans}
 use Rattle.grid.specs.Grid.{Grid, Point, at, blockOf, blocks, division, firstIndex, indicesOf, isGridPoint, numBlocks}
@@ -25,7 +26,7 @@ use Rattle.losses.proofs.Players.{divisions-few, product-append, product-own}
 use Rattle.losses.specs.Game.{product}
 use Rattle.positions.proofs.Positions.{adds-up}
 use Rattle.visited.specs.Demand.{Distances}
-use Rattle.visited.specs.Distance.{allDivisions, apart, distance, otherDivisions}
+use Rattle.visited.specs.Distance.{allDivisions, distance, otherDivisions}
 
 -- one coordinate
 module _ (g : Grid) (w y : Point) where

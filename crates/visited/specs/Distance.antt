@@ -1,15 +1,12 @@
 -- Request 11: the distance of two grid points. Assumes nothing.
 use mathlib.Core.Bool.{not}
 use mathlib.Core.List.{map}
-use Prim.Native.Nat.{ℕ, _+_, _-_, _*_}
+use Prim.Native.Nat.{ℕ, _*_}
 use lib.Dec.{eqb}
+use Rattle.combinatorics.specs.Counting.{apart}
 use Rattle.combinatorics.specs.Lists.{filter, sum}
 use Rattle.grid.specs.Grid.{Grid, Point, at, blockOf, blocks, division, indices}
 use Rattle.losses.specs.Game.{product}
-
--- "the absolute .. difference": one of the two differences is 0, being cut off there
-abbrev pub apart : ℕ → ℕ → ℕ
-apart a b = (a - b) + (b - a)
 
 -- "D being the product of the divisions"
 abbrev pub allDivisions : Grid → ℕ

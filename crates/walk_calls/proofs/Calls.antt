@@ -10,7 +10,7 @@ use lib.ListN.{take, length-replicate}
 use native.Mathlib.Nat.{mul-le-mul}
 use native.Mathlib.Omega.{arith}
 use Rattle.combinatorics.proofs.Basics.{absurd-bool}
-use Rattle.combinatorics.specs.Front.{front}
+use Rattle.combinatorics.specs.Front.{front, padded}
 use Rattle.combinatorics.specs.Counting.{falling}
 use Rattle.combinatorics.specs.Lists.{sum, upFrom}
 use Rattle.combinatorics.proofs.Terms.{terms-few}
@@ -24,11 +24,11 @@ use Rattle.questions.specs.Questions.{ask, firstNo}
 use Rattle.walks.proofs.Moved.{moved-passes, next-refused}
 use Rattle.walks.specs.Next.{Outcome, ended, moved, nextOf, refused, ruleOf}
 use Rattle.walks.specs.Walk.{Walk, isWalk, over}
-use Rattle.walk_calls.specs.Moving.{CarriesTo, callOn, movedTo, unmovedAs}
+use Rattle.walk_calls.specs.Moving.{CarriesTo, callOn, walkMovedTo, unmovedAs}
 use Rattle.walk_places.specs.Placing.{GoesTo}
 use Rattle.walk_labels.specs.declared.Carried.{Carried}
-use Rattle.walk_places.specs.Walks.{gridOf, padded, placeOf, walkOf, walkOn}
-use Rattle.walk_ways.specs.Answers.{answerOf, nextAs, numbersOf, structOn}
+use Rattle.walk_places.specs.Walks.{walkGrid, placeOf, walkOf, walkOn}
+use Rattle.walk_ways.specs.Answers.{answerOf, nextAs, outcomeNumbers, structOn}
 use Rattle.walk_calls.specs.Calls.{callOf}
 use Rattle.walk_ways.specs.declared.Answer.{Answer}
 use Rattle.walk_ways.specs.declared.Answer.the-variants.{Ended, Moved, Refused}
@@ -71,7 +71,7 @@ module _ (g : Grid) (w : WalkStruct) (labels : List ℕ) where
 
     pub call-moved : (G : GoesTo g w labels (next .place)) (on : Carried) → CarriesTo (over walk labels)
         (placeOf g (w .present)) (G .to) on
-        → madeCall (next .answer) (next .simplex) (movedTo w (next .place) on) ≡ callOn g w labels
+        → madeCall (next .answer) (next .simplex) (walkMovedTo w (next .place) on) ≡ callOn g w labels
     unfolding callOn nextAs
     call-moved G on C =
         let q : next ≡ nextAs walk labels (moved (G .to)) = is ∙ ap (nextAs walk labels) G.moves in
@@ -83,7 +83,7 @@ module _ (g : Grid) (w : WalkStruct) (labels : List ℕ) where
     call-refuses k e = go (nextOf walk labels) is
       where
         go : (n : Outcome Simplex) → next ≡ nextAs walk labels n → madeCall (next .answer) (next .simplex) w
-            ≡ madeCall (answerOf (ruleOf (over walk labels) (placeOf g (w .present))) n) (padded 256 (numbersOf n))
+            ≡ madeCall (answerOf (ruleOf (over walk labels) (placeOf g (w .present))) n) (padded 256 (outcomeNumbers n))
             (structOn (over walk labels) w n)
         go (refused k) q = rw q
         go (ended k b s) q = rw q
@@ -95,7 +95,7 @@ module _ (g : Grid) (w : WalkStruct) (labels : List ℕ) where
     call-ended kind block vertices e = go (nextOf walk labels) is
       where
         go : (n : Outcome Simplex) → next ≡ nextAs walk labels n → madeCall (next .answer) (next .simplex) w
-            ≡ madeCall (answerOf (ruleOf (over walk labels) (placeOf g (w .present))) n) (padded 256 (numbersOf n))
+            ≡ madeCall (answerOf (ruleOf (over walk labels) (placeOf g (w .present))) n) (padded 256 (outcomeNumbers n))
             (structOn (over walk labels) w n)
         go (refused k) q = rw q
         go (ended k b s) q = rw q
@@ -112,11 +112,11 @@ places-few g w labels G =
     (omega (arith, ok .sixteenIndices, ok .someBlock))) in
     (omega (arith, P .stands .bounded, few), omega (arith, P .stands .bounded, P .stands .readFew, few))
 
-pub call-on-own : (w : WalkStruct) (labels : List ℕ) → callOf w labels ≡ callOn (gridOf w) w labels
+pub call-on-own : (w : WalkStruct) (labels : List ℕ) → callOf w labels ≡ callOn (walkGrid w) w labels
 unfolding callOf callOn
 call-on-own w labels = refl
 
-pub six-blocks : (w : WalkStruct) → w .blocks ≤ 6 → gridOf w
+pub six-blocks : (w : WalkStruct) → w .blocks ≤ 6 → walkGrid w
     ≡ record { sizes = take (w .blocks) (w .sizes); divisions = take (w .blocks) (w .divisions) }
 six-blocks w l = rw (le-leb (w .blocks) 6 l)
 
@@ -125,7 +125,7 @@ and-no true = refl
 and-no false = refl
 
 -- neither more than six blocks nor none are a grid's
-pub too-many-blocks : (w : WalkStruct) → 6 < w .blocks → firstNo (gridQuestions (gridOf w)) ≡ firstNo
+pub too-many-blocks : (w : WalkStruct) → 6 < w .blocks → firstNo (gridQuestions (walkGrid w)) ≡ firstNo
     (gridQuestions (record { sizes = []; divisions = [] }))
 unfolding firstNo
 too-many-blocks w l = rw (lt-leb (w .blocks) 6 l, length-replicate {A = ℕ} (w .blocks) 0)
@@ -136,8 +136,9 @@ unfolding firstNo
 none-refused k e z = omega (arith, e, z)
 
 -- a refusal by questions 1 to 4
-pub grid-refused : (w : WalkStruct) (labels : List ℕ) (k : ℕ) → (k ≡ 0 → ⊥) → firstNo (gridQuestions (gridOf w)) ≡ k →
+pub grid-refused : (w : WalkStruct) (labels : List ℕ) (k : ℕ) → (k ≡ 0 → ⊥) → firstNo (gridQuestions (walkGrid w)) ≡ k →
     unmovedAs w k ≡ callOf w labels
-grid-refused w labels k ne e = table-refused (gridOf w) w labels k ne
-    (asked-no (gridQuestions (gridOf w)) (question5 (gridOf w) (walkOf w .start) ∷ question6 (over (walkOf w) labels)
+grid-refused w labels k ne e = table-refused (walkGrid w) w labels k ne
+    (asked-no (gridQuestions (walkGrid w))
+    (question5 (walkGrid w) (walkOf w .start) ∷ question6 (over (walkOf w) labels)
     ∷ question7 (over (walkOf w) labels) ∷ []) k ne e) ∙ sym (call-on-own w labels)

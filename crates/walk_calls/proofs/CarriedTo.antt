@@ -12,6 +12,7 @@ use native.Mathlib.Omega.{arith}
 use Rattle.combinatorics.proofs.Basics.{and-left, and-right, true-or-false}
 use Rattle.combinatorics.proofs.Lists.{all-in}
 use Rattle.combinatorics.specs.Lists.{all, isIn, same}
+use Rattle.combinatorics.specs.Front.{padded}
 use Rattle.grid.proofs.Points.{in-points, onPoints, position-in}
 use Rattle.grid.specs.Grid.{Point, at, isGridPoint, points, samePoint}
 use Rattle.grid.specs.Made.{IsMade, shape}
@@ -27,9 +28,9 @@ use Rattle.walks.specs.Walk.{labelsOf}
 use Rattle.walk_calls.specs.Moving.{CarriesTo}
 use Rattle.walk_places.specs.Placing.{BothMarked, GoesTo}
 use Rattle.walk_places.specs.declared.Both.{Both}
-use Rattle.walk_labels.specs.Carrying.{CanCarry, CarriedOn, labelIn}
+use Rattle.walk_labels.specs.Carrying.{CanCarry, CarriedOn, labelAtMark}
 use Rattle.walk_labels.specs.declared.Carried.{Carried}
-use Rattle.walk_places.specs.Walks.{carriedOf, padded, placeOf, tableOn}
+use Rattle.walk_places.specs.Walks.{carriedOf, placeOf, tableOn}
 use Rattle.walk_places.specs.declared.Place.{Place}
 use Rattle.walk_places.specs.declared.Walk.{Walk as WalkStruct}
 use Rattle.walk_places.proofs.BothPlaced.{bare-in, bare-position, map-at, ok as accepted, on-here, on-there, passes}
@@ -62,7 +63,7 @@ module _ {g : GridStruct} {w : WalkStruct} {labels : List ℕ} {next : Place} (m
   abbrev ok : Accepted p
   ok = accepted made G
 
-  label-bare : (y : Point) → labelIn labels (bareMark (shape g) y) ≡ label p y
+  label-bare : (y : Point) → labelAtMark labels (bareMark (shape g) y) ≡ label p y
   unfolding label
   label-bare y = ap (λ (i : ℕ). getD labels i 0) (bare-position (shape g) y)
 
@@ -111,7 +112,7 @@ module _ {g : GridStruct} {w : WalkStruct} {labels : List ℕ} {next : Place} (m
       few = M .few;
       long = M .fromLong;
       carries = λ i l. carried-at i (omega (arith, long-here)) ∙ sym
-          (ap (labelIn labels) (from-at i l) ∙ label-bare (getD here i []));
+          (ap (labelAtMark labels) (from-at i l) ∙ label-bare (getD here i []));
       fewNext = M .fewNext;
       nextLong = M .ontoLong;
       within = λ j l. let y = getD there j [] in
@@ -131,6 +132,6 @@ module _ {g : GridStruct} {w : WalkStruct} {labels : List ℕ} {next : Place} (m
       cameIn = C .cameIn ∙ rw (M .from, M .onto) (came-in ok here there (on-here made G) (on-there made G));
     }
       where
-        go : (s : Simplex) → map (labelIn labels) (map (bareMark (shape g)) s) ≡ labelsOf p s
+        go : (s : Simplex) → map (labelAtMark labels) (map (bareMark (shape g)) s) ≡ labelsOf p s
         go [] = refl
         go (x ∷ s) = rw (label-bare x, go s)

@@ -18,7 +18,7 @@ use Rattle.grid.specs.declared.Made.{Made}
 use Rattle.questions.specs.Questions.{firstNo}
 use Rattle.walk_calls.specs.Moving.{GridIn}
 use Rattle.walk_calls.proofs.Calls.{none-refused, six-blocks, too-many-blocks}
-use Rattle.walk_places.specs.Walks.{gridOf}
+use Rattle.walk_places.specs.Walks.{walkGrid}
 use Rattle.walk_places.specs.declared.Walk.{Walk as WalkStruct}
 
 pub few-blocks : (b n : ℕ) → n ≡ cond (leb b 6) b 0 → n ≤ 6
@@ -30,13 +30,13 @@ module _ (w : WalkStruct) (n : ℕ) (is : n ≡ cond (leb (w .blocks) 6) (w .blo
   abbrev G : Grid
   G = lent (take n (w .sizes)) (take n (w .divisions))
 
-  of-own : G ≡ gridOf w → GridIn (gridOf w) r
+  of-own : G ≡ walkGrid w → GridIn (walkGrid w) r
   of-own e = record {
     code = made-code G r made ∙ ap (λ (g : Grid). firstNo (gridQuestions g)) e;
     is = λ z. (made-is G r made z, made-shape G r made z ∙ e);
   }
 
-  of-none : 6 < w .blocks → n ≡ 0 → GridIn (gridOf w) r
+  of-none : 6 < w .blocks → n ≡ 0 → GridIn (walkGrid w) r
   of-none l z =
       let e : G ≡ record { sizes = []; divisions = [] } = ap (λ (k : ℕ). lent (take k (w .sizes)) (take k
       (w .divisions))) z in
@@ -44,7 +44,7 @@ module _ (w : WalkStruct) (n : ℕ) (is : n ≡ cond (leb (w .blocks) 6) (w .blo
       ∙ ap (λ (g : Grid). firstNo (gridQuestions g)) e in
       record { code = c ∙ sym (too-many-blocks w l); is = λ q. absurd (none-refused (r .code) c q) }
 
-  pub grid-in : GridIn (gridOf w) r
+  pub grid-in : GridIn (walkGrid w) r
   grid-in =
       ⊎-elim (λ t. let k : n ≡ w .blocks = is ∙ (rw t) in
       of-own (ap (λ (b : ℕ). lent (take b (w .sizes)) (take b (w .divisions))) k

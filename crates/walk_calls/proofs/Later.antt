@@ -14,29 +14,29 @@ use Rattle.grid.specs.declared.Grid.{Grid as GridStruct}
 use Rattle.place.specs.Questions.{tableQuestions}
 use Rattle.questions.proofs.Answers.{asked-next}
 use Rattle.questions.specs.Questions.{firstNo}
-use Rattle.walk_calls.specs.Asked.{laterQuestions, problemOn}
+use Rattle.walk_calls.specs.Asked.{laterWalkQuestions, problemOn}
 
 module _ (g : GridStruct) (start labels : List ℕ) where
-  pub no-start : isGridPoint (shape g) start ≡ false → 5 ≡ firstNo (laterQuestions g start labels)
+  pub no-start : isGridPoint (shape g) start ≡ false → 5 ≡ firstNo (laterWalkQuestions g start labels)
   unfolding firstNo
   no-start f = rw f
 
   module _ (on : isGridPoint (shape g) start ≡ true) where
-    pub no-length : (length labels ≡ numPoints (shape g) → ⊥) → 6 ≡ firstNo (laterQuestions g start labels)
+    pub no-length : (length labels ≡ numPoints (shape g) → ⊥) → 6 ≡ firstNo (laterWalkQuestions g start labels)
     unfolding firstNo
     no-length n = rw (on, ne-eqb (length labels) (numPoints (shape g)) n)
 
     module _ (long : length labels ≡ numPoints (shape g)) where
       pub no-label : all (λ l. leb l (numIndices (shape g))) labels ≡ false
-          → 7 ≡ firstNo (laterQuestions g start labels)
+          → 7 ≡ firstNo (laterWalkQuestions g start labels)
       unfolding firstNo
       no-label f = rw (on, eq-eqb (length labels) (numPoints (shape g)) long, f)
 
       pub no-question : all (λ l. leb l (numIndices (shape g))) labels ≡ true
-          → _≡_ {A = ℕ} 0 (firstNo (laterQuestions g start labels))
+          → _≡_ {A = ℕ} 0 (firstNo (laterWalkQuestions g start labels))
       unfolding firstNo
       no-question f = rw (on, eq-eqb (length labels) (numPoints (shape g)) long, f)
 
   pub behind-four : firstNo (gridQuestions (shape g)) ≡ 0
-      → firstNo (tableQuestions (problemOn g start labels)) ≡ firstNo (laterQuestions g start labels)
-  behind-four e = asked-next (gridQuestions (shape g)) (laterQuestions g start labels) refl e
+      → firstNo (tableQuestions (problemOn g start labels)) ≡ firstNo (laterWalkQuestions g start labels)
+  behind-four e = asked-next (gridQuestions (shape g)) (laterWalkQuestions g start labels) refl e

@@ -11,6 +11,6 @@ use Rattle.questions.specs.Questions.{Question}
 abbrev pub problemOn : GridStruct → List ℕ → List ℕ → Problem
 problemOn g start labels = record { grid = shape g; start = start; labels = labels }
 
-abbrev pub laterQuestions : GridStruct → List ℕ → List ℕ → List Question
-laterQuestions g start labels = let p = problemOn g start labels in
+abbrev pub laterWalkQuestions : GridStruct → List ℕ → List ℕ → List Question
+laterWalkQuestions g start labels = let p = problemOn g start labels in
     question5 (p .grid) (p .start) ∷ question6 p ∷ question7 p ∷ []

@@ -15,8 +15,9 @@ use Rattle.questions.specs.Questions.{firstNo}
 use Rattle.walks.specs.Next.{nextOf, ruleOf}
 use Rattle.walks.specs.Walk.{labelsOf, over}
 use Rattle.walk_labels.specs.declared.Carried.{Carried}
-use Rattle.walk_places.specs.Walks.{padded, placeOf, walkOn}
-use Rattle.walk_ways.specs.Answers.{answerOf, numbersOf, structOn}
+use Rattle.combinatorics.specs.Front.{padded}
+use Rattle.walk_places.specs.Walks.{placeOf, walkOn}
+use Rattle.walk_ways.specs.Answers.{answerOf, outcomeNumbers, structOn}
 use Rattle.walk_ways.specs.declared.Answer.the-variants.{Refused}
 use Rattle.walk_calls.specs.declared.Call.{Call}
 use Rattle.walk_places.specs.declared.Place.{Place}
@@ -33,8 +34,8 @@ pub record CarriesTo (p : Problem) (here there : Simplex) (r : Carried) : Type 0
   pub cameIn : r .«came_in» ≡ pointCameIn here there
 
 -- the walk moved on to a place
-abbrev pub movedTo : WalkStruct → Place → Carried → WalkStruct
-movedTo w place on = record {
+abbrev pub walkMovedTo : WalkStruct → Place → Carried → WalkStruct
+walkMovedTo w place on = record {
   places = w .places + 1;
   «labels_read» = w .«labels_read» + cond (on .«came_in») 1 0;
   present = place;
@@ -55,6 +56,6 @@ callOn g w labels =
     let n = nextOf (walkOn g w) labels in
     record {
       answer = answerOf (ruleOf (over (walkOn g w) labels) (placeOf g (w .present))) n;
-      simplex = padded 256 (numbersOf n);
+      simplex = padded 256 (outcomeNumbers n);
       walk = structOn (over (walkOn g w) labels) w n;
     }

@@ -4,9 +4,9 @@ ghost use mathlib.Core.Path.{_≡_};
 ghost use Prim.Native.Nat.{_<_};
 ghost use lib.Dec.{leb};
 ghost use Rattle.grid.specs.Made.{IsMade, shape};
-ghost use Rattle.walk_calls.specs.Moving.{CarriesTo, GridIn, callOn, movedTo, unmovedAs};
+ghost use Rattle.walk_calls.specs.Moving.{CarriesTo, GridIn, callOn, walkMovedTo, unmovedAs};
 ghost use Rattle.walk_places.specs.Placing.{GoesTo};
-ghost use Rattle.walk_places.specs.Walks.{gridOf, placeOf, tableOn};
+ghost use Rattle.walk_places.specs.Walks.{walkGrid, placeOf, tableOn};
 ghost use Rattle.walk_calls.specs.Calls.{callOf};
 use crate::Call;
 use crate::asking::first_no;
@@ -47,7 +47,7 @@ fn one_if(came_in: bool) -> u64
 // The walk moved on to a place: what was the present place is then the one before.
 fn moved_to(w: Walk, place: Place, on: Carried) -> Walk
     requires { ⌜ (w .places < 18446744073709551615) × (w .«labels_read» < 18446744073709551615) ⌝ }
-    ensures { λ r. ⌜ r ≡ movedTo w place on ⌝ }
+    ensures { λ r. ⌜ r ≡ walkMovedTo w place on ⌝ }
 {
     let present = w.present;
     let start = w.start;
@@ -121,7 +121,7 @@ fn six(blocks: u8) -> usize
 
 // The grid of a walk, and the number of the first of questions 1 to 4 that is answered no.
 pub fn grid_in(w: Walk) -> Made
-    ensures { λ r. ⌜ GridIn (gridOf w) r ⌝ }
+    ensures { λ r. ⌜ GridIn (walkGrid w) r ⌝ }
 {
     let blocks = six(w.blocks);
     let sizes = w.sizes;

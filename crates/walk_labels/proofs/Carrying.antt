@@ -20,7 +20,7 @@ use Rattle.grid.specs.Grid.{at}
 use Rattle.path_laws.proofs.Positions.{at-in, in-at}
 use Rattle.rules.proofs.Marks.{labels-in}
 use Rattle.rules.specs.Step.{markLabel, markPosition}
-use Rattle.walk_labels.specs.Carrying.{CanCarry, FoundIn, labelIn, labelsIn}
+use Rattle.walk_labels.specs.Carrying.{CanCarry, FoundIn, labelAtMark, labelsInMarks}
 
 -- labels in marks
 module _ (marks : List ℕ) (n : ℕ) (few : n ≤ 15) (long : length marks ≡ 16) where
@@ -30,16 +30,16 @@ module _ (marks : List ℕ) (n : ℕ) (few : n ≤ 15) (long : length marks ≡ 
   labels-long : length (map markLabel (take (suc n) marks)) ≡ suc n
   labels-long = length-map (take (suc n) marks) markLabel ∙ first-long
 
-  pub front-long : length (labelsIn marks n) ≡ 16
+  pub front-long : length (labelsInMarks marks n) ≡ 16
   front-long = let z = length-replicate {A = ℕ} 16 0 in
       front-length (map markLabel (take (suc n) marks)) (replicate 16 0) (omega (arith, labels-long, z)) ∙ z
 
-  pub label-front : (k : ℕ) → k ≤ n → markLabel (at marks k) ≡ at (labelsIn marks n) k
+  pub label-front : (k : ℕ) → k ≤ n → markLabel (at marks k) ≡ at (labelsInMarks marks n) k
   label-front k l = sym (front-at (map markLabel (take (suc n) marks)) (replicate 16 0) k (omega (arith, labels-long))
       ∙ labels-in (take (suc n) marks) k (omega (arith, first-long)) ∙ ap markLabel
       (getD-take (suc n) marks k 0 (omega arith)))
 
-  pub label-behind : (k : ℕ) → n < k → k ≤ 15 → _≡_ {A = ℕ} 0 (at (labelsIn marks n) k)
+  pub label-behind : (k : ℕ) → n < k → k ≤ 15 → _≡_ {A = ℕ} 0 (at (labelsInMarks marks n) k)
   label-behind k l m = sym (front-behind (map markLabel (take (suc n) marks)) (replicate 16 0) k
       (omega (arith, labels-long)) ∙ getD-replicate {A = ℕ} 16 k 0 0 (omega arith))
 
@@ -82,7 +82,7 @@ map-more f (y ∷ xs) x = ap (λ (l : List ℕ). f y ∷ l) (map-more f xs x)
 
 -- the labels of the first j points, and whether one of these came in
 pub record CarriedBelow (marks : List ℕ) (n : ℕ) (next table labels : List ℕ) (came : Bool) (j : ℕ) : Type 0 where
-  pub put : labels ≡ front (map (labelIn table) (take j next)) (replicate 16 0)
+  pub put : labels ≡ front (map (labelAtMark table) (take j next)) (replicate 16 0)
   pub cameIn : came ≡ not (all (λ m. isIn eqb m (take (suc n) marks)) (take j next))
 
 module _ (marks : List ℕ) (n : ℕ) (carried next : List ℕ) (k : ℕ) (table : List ℕ)
@@ -99,23 +99,24 @@ module _ (marks : List ℕ) (n : ℕ) (carried next : List ℕ) (k : ℕ) (table
     next-more = rw (add-one j) (take-suc next j 0 (omega (arith, C .nextLong, C .fewNext)))
 
     -- the label is the table's, whether carried or read
-    label-is : cond (leb i n) (at carried i) (labelIn table (at next j)) ≡ labelIn table (at next j)
+    label-is : cond (leb i n) (at carried i) (labelAtMark table (at next j)) ≡ labelAtMark table (at next j)
     label-is = ⊎-elim (λ (m : n < i). rw (lt-leb i n m))
-        (λ (m : i ≤ n). rw (le-leb i n m) (C .carries i m ∙ ap (labelIn table) (F .there m))) (before-or-not n i)
+        (λ (m : i ≤ n). rw (le-leb i n m) (C .carries i m ∙ ap (labelAtMark table) (F .there m))) (before-or-not n i)
 
-    stored : (x : ℕ) → x ≡ cond (leb i n) (at carried i) (labelIn table (at next j))
-        → set labels j x ≡ front (map (labelIn table) (take (j + 1) next)) (replicate 16 0)
+    stored : (x : ℕ) → x ≡ cond (leb i n) (at carried i) (labelAtMark table (at next j))
+        → set labels j x ≡ front (map (labelAtMark table) (take (j + 1) next)) (replicate 16 0)
     stored x e =
-        let z : x ≡ labelIn table (at next j) = e ∙ label-is in
+        let z : x ≡ labelAtMark table (at next j) = e ∙ label-is in
         let few : j < 16 = omega (arith, C .fewNext) in
-        let long : length (map (labelIn table) (take j next)) ≡ j = length-map (take j next) (labelIn table) ∙
+        let long : length (map (labelAtMark table) (take j next)) ≡ j = length-map (take j next) (labelAtMark table) ∙
         length-take-le j next (omega (arith, C .nextLong, C .fewNext)) in
-        rw (z, B .put) (front-put (map (labelIn table) (take j next)) (replicate 16 0) j (labelIn table (at next j))
+        rw (z, B .put)
+        (front-put (map (labelAtMark table) (take j next)) (replicate 16 0) j (labelAtMark table (at next j))
         (sym long) few
         ∙ ap (λ (r : List ℕ). front r (replicate 16 0))
-        (sym (ap (map (labelIn table)) next-more ∙ map-more (labelIn table) (take j next) (at next j))))
+        (sym (ap (map (labelAtMark table)) next-more ∙ map-more (labelAtMark table) (take j next) (at next j))))
 
-    pub carried-in : n < i → (x : ℕ) → x ≡ cond (leb i n) (at carried i) (labelIn table (at next j)) →
+    pub carried-in : n < i → (x : ℕ) → x ≡ cond (leb i n) (at carried i) (labelAtMark table (at next j)) →
         CarriedBelow marks n next table (set labels j x) true (j + 1)
     carried-in m x e = record {
       put = stored x e;
@@ -132,7 +133,7 @@ module _ (marks : List ℕ) (n : ℕ) (carried next : List ℕ) (k : ℕ) (table
         and-false true = refl
         and-false false = refl
 
-    pub carried-over : i ≤ n → (x : ℕ) → x ≡ cond (leb i n) (at carried i) (labelIn table (at next j)) →
+    pub carried-over : i ≤ n → (x : ℕ) → x ≡ cond (leb i n) (at carried i) (labelAtMark table (at next j)) →
         CarriedBelow marks n next table (set labels j x) came (j + 1)
     carried-over m x e = record {
       put = stored x e;

@@ -12,12 +12,12 @@ use Rattle.rules.specs.Step.{markLabel, markPosition}
 use Rattle.walk_labels.specs.declared.Carried.{Carried}
 
 -- the labels in the first n + 1 marks, with 0 behind
-abbrev pub labelsIn : List ℕ → ℕ → List ℕ
-labelsIn marks n = front (map markLabel (take (suc n) marks)) (replicate 16 0)
+abbrev pub labelsInMarks : List ℕ → ℕ → List ℕ
+labelsInMarks marks n = front (map markLabel (take (suc n) marks)) (replicate 16 0)
 
 -- the table's label of the point with this mark
-abbrev pub labelIn : List ℕ → ℕ → ℕ
-labelIn table m = getD table (markPosition m) 0
+abbrev pub labelAtMark : List ℕ → ℕ → ℕ
+labelAtMark table m = getD table (markPosition m) 0
 
 -- r is the number of a mark among the first n + 1, or n + 1
 pub record FoundIn (marks : List ℕ) (n mark r : ℕ) : Type 0 where
@@ -29,12 +29,12 @@ pub record FoundIn (marks : List ℕ) (n mark r : ℕ) : Type 0 where
 pub record CanCarry (marks : List ℕ) (n : ℕ) (carried next : List ℕ) (k : ℕ) (table : List ℕ) : Type 0 where
   pub few : n ≤ 15
   pub long : length marks ≡ 16
-  pub carries : (i : ℕ) → i ≤ n → at carried i ≡ labelIn table (at marks i)
+  pub carries : (i : ℕ) → i ≤ n → at carried i ≡ labelAtMark table (at marks i)
   pub fewNext : k ≤ 15
   pub nextLong : length next ≡ 16
   pub within : (j : ℕ) → j ≤ k → markPosition (at next j) < length table
 
 -- the table's labels, and whether a mark is not among those before
 pub record CarriedOn (marks : List ℕ) (n : ℕ) (next : List ℕ) (k : ℕ) (table : List ℕ) (r : Carried) : Type 0 where
-  pub labels : r .labels ≡ front (map (labelIn table) (take (suc k) next)) (replicate 16 0)
+  pub labels : r .labels ≡ front (map (labelAtMark table) (take (suc k) next)) (replicate 16 0)
   pub cameIn : r .«came_in» ≡ not (all (λ m. isIn eqb m (take (suc n) marks)) (take (suc k) next))

@@ -7,7 +7,7 @@ ghost use lib.Dec.{eqb, leb};
 ghost use lib.ListN.{length, getD};
 ghost use Rattle.combinatorics.specs.Lists.{same};
 ghost use Rattle.grid.specs.Grid.{at};
-ghost use Rattle.walk_labels.specs.Carrying.{CanCarry, CarriedOn, FoundIn, labelsIn};
+ghost use Rattle.walk_labels.specs.Carrying.{CanCarry, CarriedOn, FoundIn, labelsInMarks};
 use arrays::label_in;
 use arrays::position_at;
 use arrays::wide32;
@@ -23,7 +23,7 @@ pub struct Carried {
 // The label in mark k of the first n + 1, and 0 behind them.
 fn label_at(marks: &[u32; 16], n: usize, k: usize) -> usize
     requires { ⌜ (n ≤ 15) × (k ≤ 15) × (length (now marks) ≡ 16) ⌝ }
-    ensures { λ r. ⌜ r ≡ at (labelsIn (now (marks .entry)) n) k ⌝ }
+    ensures { λ r. ⌜ r ≡ at (labelsInMarks (now (marks .entry)) n) k ⌝ }
 {
     if n < k {
         return 0;
@@ -34,7 +34,7 @@ fn label_at(marks: &[u32; 16], n: usize, k: usize) -> usize
 // Whether the labels carried are those in the first n + 1 marks, with 0 behind.
 pub fn carries(marks: &[u32; 16], n: usize, carried: &[u8; 16]) -> bool
     requires { ⌜ (n ≤ 15) × (length (now marks) ≡ 16) × (length (now carried) ≡ 16) ⌝ }
-    ensures { λ r. ⌜ r ≡ same eqb (now (carried .entry)) (labelsIn (now (marks .entry)) n) ⌝ }
+    ensures { λ r. ⌜ r ≡ same eqb (now (carried .entry)) (labelsInMarks (now (marks .entry)) n) ⌝ }
 {
     let mut k: usize = 0;
     while k < 16 {

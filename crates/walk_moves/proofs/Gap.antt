@@ -36,11 +36,11 @@ use Rattle.path_laws.proofs.Meaning.{labels-mean}
 use Rattle.path_laws.proofs.ToChain.{coefficientsOf, grid-at, inT, indexOf, labelOf, labelledChain-of, place-long}
 use Rattle.path_laws.proofs.ToChain.{pointsOf}
 use Rattle.path_laws.proofs.ToChain.{pointsOf-coefficientsOf}
-use Rattle.path_laws.specs.Demand.{Settled}
+use Rattle.path_laws.specs.Demand.{HasStart}
 use Rattle.rules.proofs.Describes.{Left, facetEnds, leftOn}
 use Rattle.rules.specs.Step.{After, State}
 use Rattle.walk_moves.proofs.Kept.{kept-described}
-use Rattle.walk_moves.specs.Lent.{keptBy, wayOf}
+use Rattle.walk_moves.specs.Lent.{keptBy, wayMade}
 
 all-kept : {A : Type 0} (r : A → Bool) (xs : List A) → length xs ≤ length (filter r xs) → all r xs ≡ true
 all-kept r [] l = refl
@@ -63,7 +63,7 @@ covered-known p c o d w l =
           (in-filter onPoints (hasLabel p) v.1.0 c v.1.1 (label-named p v.1.0 k v.0 v.1.2)))),
     ))
 
-module _ {p : Problem} (ok : Settled p) where
+module _ {p : Problem} (ok : HasStart p) where
   -- the smaller of two places, one of which is the other plus one point, has all labels
   smaller-known : (a b : Simplex) → isPlace p a ≡ true → isPlace p b ≡ true → extended p a b ≡ true
       → allLabelled p a ≡ true
@@ -96,7 +96,7 @@ module _ {p : Problem} (ok : Settled p) where
   )
 
 -- point i of a place has no label
-module _ {p : Problem} (ok : Settled p) (s : Simplex) (place : isPlace p s ≡ true) (n : ℕ)
+module _ {p : Problem} (ok : HasStart p) (s : Simplex) (place : isPlace p s ≡ true) (n : ℕ)
     (size : length (order p.grid s) ≡ suc n) (i : ℕ) (il : i ≤ suc n) (none : label p (nth s i) ≡ 0) where
   abbrev T : ℕ → Bool
   T = inT p s
@@ -161,7 +161,7 @@ module _ {p : Problem} (ok : Settled p) (s : Simplex) (place : isPlace p s ≡ t
 
     pub gap-back : (b : Simplex) → isPlace p b ≡ true → linked p s b ≡ true → {S : State} {after : After}
         → Left q T n x S i after
-        → wayOf q after ≡ link b
+        → wayMade q after ≡ link b
     gap-back b hb e (facetEnds h z F) = absurd (end-not-through chain F (coefficientsOf p b)
         (rw z at (subst (λ (R : Blocks). Through R T n x i (coefficientsOf p b)) (sym same) (opposite b hb e))))
     gap-back b hb e (leftOn {after} w) =
@@ -173,7 +173,7 @@ module _ {p : Problem} (ok : Settled p) (s : Simplex) (place : isPlace p s ≡ t
         ∙ ap (pointsOf p) r
         ∙ pointsOf-coefficientsOf ok b (parts p b hb .gridPoints))
 
-    pub gap-way : (b : Simplex) {S : State} {after : After} → Left q T n x S i after → wayOf q after ≡ link b
+    pub gap-way : (b : Simplex) {S : State} {after : After} → Left q T n x S i after → wayMade q after ≡ link b
         → (isPlace p b ≡ true) × (linked p s b ≡ true)
     gap-way b (facetEnds h z F) e = absurd-bool (cc)
     gap-way b (leftOn {after} w) e =

@@ -40,7 +40,7 @@ use Rattle.walks.proofs.KeptForm.{order-is}
 use Rattle.walks.proofs.KeptPlace.{is-zero, zero-is}
 use Rattle.walks.proofs.Recognised.{kept-every, recognised}
 use Rattle.walks.specs.Kept.{isKept, keptPoints, zeroOutside}
-use Rattle.walk_moves.specs.Lent.{Lent, keptBy}
+use Rattle.walk_moves.specs.Lent.{LentPlace, keptBy}
 
 module _ {p : Problem} (ok : Accepted p) (y : Point) (o : List ℕ)
     (place : isPlace p (keptPoints p.grid y o) ≡ true) where
@@ -116,7 +116,7 @@ module _ {p : Problem} (ok : Accepted p) (y : Point) (o : List ℕ)
       → isIn eqb k (zeroOutside p.grid o y) ≡ zeros (blocksOf q) (inT q s) (listAt (coefficientsOf q s) 0) k
   U-same k = U-first k ∙ ap (λ (c : ℕ → ℕ). zeros (blocksOf q) (inT q s) c k) (sym first-list)
 
-  module _ (S : State) (L : Lent p q y o S) where
+  module _ (S : State) (L : LentPlace p q y o S) where
     pub describes : Describes q (inT q s) (length o) (at o) (coefficientsOf q s) S
     unfolding coefficients
     describes = record {

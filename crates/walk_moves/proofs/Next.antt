@@ -48,7 +48,7 @@ use Rattle.walk_moves.proofs.Kept.{chain, describes, full, marks, order
 use Rattle.walk_moves.proofs.Ways.{Fits, fits-back, fits-onward, fits-start, leaves-by, ready-leaves, ready-on}
 use Rattle.walk_moves.proofs.Ways.{start-ready, start-way, way-back, way-onward, ways-apart}
 use Rattle.walk_moves.specs.Counted.{Counted}
-use Rattle.walk_moves.specs.Lent.{Lent, wayOf}
+use Rattle.walk_moves.specs.Lent.{LentPlace, wayMade}
 use Rattle.walk_moves.specs.Spare.{Spare}
 
 module _ (w : Walk) (labels : List ℕ) where
@@ -121,15 +121,15 @@ module _ (w : Walk) (labels : List ℕ) (ok : Accepted (over w labels)) (y : Poi
   points-same = pointsOf-coefficientsOf (full ok y o place .settled) s
       (parts q s (place-filled ok y o place) .gridPoints)
 
-  described : (t : ℕ) → length o ≡ t → (S : State) → Lent p q y o S → Describes q (inT q s) t (at o)
+  described : (t : ℕ) → length o ≡ t → (S : State) → LentPlace p q y o S → Describes q (inT q s) t (at o)
       (coefficientsOf q s) S
   described t e S L = subst (λ (t : ℕ). Describes q (inT q s) t (at o) (coefficientsOf q s) S) e
       (describes ok y o place S L)
 
-  all-marked : (t : ℕ) → length o ≡ t → (S : State) → Lent p q y o S → AllMarks q t (coefficientsOf q s) S
+  all-marked : (t : ℕ) → length o ≡ t → (S : State) → LentPlace p q y o S → AllMarks q t (coefficientsOf q s) S
   all-marked t e S L = subst (λ (t : ℕ). AllMarks q t (coefficientsOf q s) S) e (marks ok y o place S L)
 
-  pub ready-v : length o ≡ 0 → (S : State) → Lent p q y o S → S .active ≡ 0 → S .rule < 6 → Ready S
+  pub ready-v : length o ≡ 0 → (S : State) → LentPlace p q y o S → S .active ≡ 0 → S .rule < 6 → Ready S
   ready-v e S L a r = start-ready (full ok y o place) (described 0 e S L) (all-marked 0 e S L) a r
 
   -- over the table with each gap filled the same comes next
@@ -167,17 +167,18 @@ module _ (w : Walk) (labels : List ℕ) (ok : Accepted (over w labels)) (y : Poi
         })) ∙ ap byWay e
 
     -- {v}
-    pub from-v : length o ≡ 0 → w .before ≡ none → (S : State) → Lent p q y o S → S .active ≡ 0 → S .rule < 6 →
-        nextOf w labels ≡ byWay (wayOf q (step S) ∷ [])
-    from-v e b S L a r = onward (wayOf q (step S)) (rw (b, is, is-start e) begins)
+    pub from-v : length o ≡ 0 → w .before ≡ none → (S : State) → LentPlace p q y o S → S .active ≡ 0 → S .rule < 6 →
+        nextOf w labels ≡ byWay (wayMade q (step S) ∷ [])
+    from-v e b S L a r = onward (wayMade q (step S)) (rw (b, is, is-start e) begins)
         (rw (b, is) (from-start (full-accepted (filled-full ok)) s (place-filled ok y o place) known-filled
-        (wayOf q (step S)) (is-start e) the-way))
+        (wayMade q (step S)) (is-start e) the-way))
       where
-        the-way : IsWay q s (wayOf q (step S))
-        the-way = subst (λ (z : Simplex). IsWay q z (wayOf q (step S))) points-same
+        the-way : IsWay q s (wayMade q (step S))
+        the-way = subst (λ (z : Simplex). IsWay q z (wayMade q (step S))) points-same
             (start-way (full ok y o place) (described 0 e S L) (all-marked 0 e S L) a r)
 
-  pub fits-v : length o ≡ 0 → (S : State) → Lent p q y o S → S .active ≡ 0 → S .rule < 6 → Fits (full ok y o place) S
+  pub fits-v : length o ≡ 0 → (S : State) → LentPlace p q y o S → S .active ≡ 0 → S .rule < 6
+      → Fits (full ok y o place) S
       (step S)
   fits-v e S L a r = fits-start (full ok y o place) (described 0 e S L) (all-marked 0 e S L) a r
 
@@ -190,35 +191,36 @@ module _ (w : Walk) (labels : List ℕ) (ok : Accepted (over w labels)) (y : Poi
     carries-at : (S : State) → S .active ≡ i → Carries (inT q s) (suc n) (labelsOf q (coefficientsOf q s)) S.active
     carries-at S a = rw a carries
 
-    pub ready-a : (S : State) → Lent p q y o S → S .active ≡ i → S .rule < 6 → Ready S
+    pub ready-a : (S : State) → LentPlace p q y o S → S .active ≡ i → S .rule < 6 → Ready S
     ready-a S L a r = ready-on (full ok y o place) (described (suc n) e S L) (all-marked (suc n) e S L) (omega arith)
         (carries-at S a) r
 
-    pub ready-b : (S : State) → Lent p q y o S → S .active ≡ i → 6 ≤ S .rule → Ready S
+    pub ready-b : (S : State) → LentPlace p q y o S → S .active ≡ i → 6 ≤ S .rule → Ready S
     ready-b S L a r = ready-leaves (full ok y o place) (described (suc n) e S L) (all-marked (suc n) e S L)
         (omega arith) (carries-at S a) r
 
-    pub fits-a : (S : State) → Lent p q y o S → S .active ≡ i → S .rule < 6 → Fits (full ok y o place) S (step S)
+    pub fits-a : (S : State) → LentPlace p q y o S → S .active ≡ i → S .rule < 6 → Fits (full ok y o place) S (step S)
     fits-a S L a r = fits-onward (full ok y o place) (described (suc n) e S L) (all-marked (suc n) e S L) (omega arith)
         (carries-at S a) r
 
-    pub fits-b : (S : State) → Lent p q y o S → S .active ≡ i → 6 ≤ S .rule → Fits (full ok y o place) S (step S)
+    pub fits-b : (S : State) → LentPlace p q y o S → S .active ≡ i → 6 ≤ S .rule → Fits (full ok y o place) S (step S)
     fits-b S L a r = fits-back (full ok y o place) (described (suc n) e S L) (all-marked (suc n) e S L) (omega arith)
         (carries-at S a) r
 
-    way-a : (S : State) → Lent p q y o S → S .active ≡ i → S .rule < 6 → IsWay q s (wayOf q (step S))
-    way-a S L a r = subst (λ (z : Simplex). IsWay q z (wayOf q (step S))) points-same
+    way-a : (S : State) → LentPlace p q y o S → S .active ≡ i → S .rule < 6 → IsWay q s (wayMade q (step S))
+    way-a S L a r = subst (λ (z : Simplex). IsWay q z (wayMade q (step S))) points-same
         (way-onward (full ok y o place) (described (suc n) e S L) (all-marked (suc n) e S L) (omega arith)
         (carries-at S a) r)
 
-    way-b : (S : State) → Lent p q y o S → S .active ≡ i → 6 ≤ S .rule → IsWay q s (wayOf q (step S))
-    way-b S L a r = subst (λ (z : Simplex). IsWay q z (wayOf q (step S))) points-same
+    way-b : (S : State) → LentPlace p q y o S → S .active ≡ i → 6 ≤ S .rule → IsWay q s (wayMade q (step S))
+    way-b S L a r = subst (λ (z : Simplex). IsWay q z (wayMade q (step S))) points-same
         (way-back (full ok y o place) (described (suc n) e S L) (all-marked (suc n) e S L) (omega arith)
         (carries-at S a) r)
 
-    different : (S S' : State) → Lent p q y o S → Lent p q y o S' → S .active ≡ i → S' .active ≡ i → S .rule < 6 →
+    different : (S S' : State) → LentPlace p q y o S → LentPlace p q y o S' → S .active ≡ i → S' .active ≡ i
+        → S .rule < 6 →
         6 ≤ S' .rule
-        → wayOf q (step S) ≡ wayOf q (step S') → ⊥
+        → wayMade q (step S) ≡ wayMade q (step S') → ⊥
     different S S' L L' a a' r r' = ways-apart (full ok y o place) (described (suc n) e S L) (all-marked (suc n) e S L)
         (described (suc n) e S' L')
         (all-marked (suc n) e S' L') (omega arith) (carries-at S a) (a' ∙ sym a) r r'
@@ -231,7 +233,8 @@ module _ (w : Walk) (labels : List ℕ) (ok : Accepted (over w labels)) (y : Poi
         go begins z r = not-start n e (sym is ∙ sym r)
         go (came k ne) z r = absurd-bool (cc)
 
-    module _ (b : Simplex) (before : w .before ≡ some b) (S S' : State) (L : Lent p q y o S) (L' : Lent p q y o S')
+    module _ (b : Simplex) (before : w .before ≡ some b) (S S' : State) (L : LentPlace p q y o S)
+        (L' : LentPlace p q y o S')
         (a : S .active ≡ i) (a' : S' .active ≡ i)
         (r : S .rule < 6) (r' : 6 ≤ S' .rule) where
       -- the point has no label
@@ -258,14 +261,14 @@ module _ (w : Walk) (labels : List ℕ) (ok : Accepted (over w labels)) (y : Poi
             (leaves-by (full ok y o place) (described (suc n) e S' L') (all-marked (suc n) e S' L') (omega arith)
             (carries-at S' a') r')
 
-        pub back-unknown : wayOf q (step S') ≡ link b → nextOf w labels ≡ refused 16
+        pub back-unknown : wayMade q (step S') ≡ link b → nextOf w labels ≡ refused 16
         back-unknown z =
             let g = gap-way ok.settled s place n size i low unknown (full ok y o place) refl (λ x. refl)
             chain-p b left-p z in
             gap w labels ok (stands (rw (before, is)
             (came (back s b (record { from = place; to = g .0; by = g .1 })) (not-start n e)))) unknown-place
 
-        pub not-back-unknown : (wayOf q (step S') ≡ link b → ⊥) → nextOf w labels ≡ refused 20
+        pub not-back-unknown : (wayMade q (step S') ≡ link b → ⊥) → nextOf w labels ≡ refused 20
         not-back-unknown never = no-walk w labels ok (λ h. go h.came refl refl)
           where
             go : {l : Option Simplex} {t : Simplex} → Came p l t → l ≡ w .before → t ≡ w .present → ⊥
@@ -286,29 +289,30 @@ module _ (w : Walk) (labels : List ℕ) (ok : Accepted (over w labels)) (y : Poi
           by = and-right (isPlace q b) (linked q b s) t;
         }) (not-start n e))
 
-        pub onward-a : wayOf q (step S') ≡ link b → nextOf w labels ≡ byWay (wayOf q (step S) ∷ [])
-        onward-a z = onward own (wayOf q (step S)) (link-q
+        pub onward-a : wayMade q (step S') ≡ link b → nextOf w labels ≡ byWay (wayMade q (step S) ∷ [])
+        onward-a z = onward own (wayMade q (step S)) (link-q
             (came-by (full-accepted (filled-full ok)) s (place-filled ok y o place) (known-filled own) (not-start n e) b
-            (wayOf q (step S')) (way-b S' L' a' r') z))
+            (wayMade q (step S')) (way-b S' L' a' r') z))
             (rw (before, is) (other-on (full-accepted (filled-full ok)) s (place-filled ok y o place) (known-filled own)
-            (not-start n e) b (wayOf q (step S')) (wayOf q (step S))
+            (not-start n e) b (wayMade q (step S')) (wayMade q (step S))
             (way-b S' L' a' r') (way-a S L a r) (λ k. different S S' L L' a a' r r' (sym k)) z))
 
-        pub onward-b : wayOf q (step S) ≡ link b → nextOf w labels ≡ byWay (wayOf q (step S') ∷ [])
-        onward-b z = onward own (wayOf q (step S'))
+        pub onward-b : wayMade q (step S) ≡ link b → nextOf w labels ≡ byWay (wayMade q (step S') ∷ [])
+        onward-b z = onward own (wayMade q (step S'))
             (link-q (came-by (full-accepted (filled-full ok)) s (place-filled ok y o place) (known-filled own)
-            (not-start n e) b (wayOf q (step S)) (way-a S L a r) z))
+            (not-start n e) b (wayMade q (step S)) (way-a S L a r) z))
             (rw (before, is) (other-on (full-accepted (filled-full ok)) s (place-filled ok y o place) (known-filled own)
-            (not-start n e) b (wayOf q (step S)) (wayOf q (step S'))
+            (not-start n e) b (wayMade q (step S)) (wayMade q (step S'))
             (way-a S L a r) (way-b S' L' a' r') (different S S' L L' a a' r r') z))
 
-        pub neither : (wayOf q (step S) ≡ link b → ⊥) → (wayOf q (step S') ≡ link b → ⊥) → nextOf w labels ≡ refused 20
+        pub neither : (wayMade q (step S) ≡ link b → ⊥) → (wayMade q (step S') ≡ link b → ⊥) → nextOf w labels
+            ≡ refused 20
         neither ka kb = sym (same-next own) ∙ no-walk w (map fill labels) (full-accepted (filled-full ok))
             (λ h. go h.came refl refl)
           where
             none-linked : (isPlace q b && linked q b s) ≡ false
             none-linked = not-linked (full-accepted (filled-full ok)) s (place-filled ok y o place) (known-filled own)
-                (not-start n e) b (wayOf q (step S)) (wayOf q (step S'))
+                (not-start n e) b (wayMade q (step S)) (wayMade q (step S'))
                 (way-a S L a r) (way-b S' L' a' r') (different S S' L L' a a' r r') ka kb
 
             go : {l : Option Simplex} {t : Simplex} → Came q l t → l ≡ w .before → t ≡ w .present → ⊥

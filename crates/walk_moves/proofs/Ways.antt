@@ -39,7 +39,7 @@ use Rattle.rules.specs.Mask.{bit}
 use Rattle.rules.specs.Ready.{Ready}
 use Rattle.rules.specs.Step.{After, State, endsAtFacet, endsAtPlace, goes, step}
 use Rattle.walk_moves.proofs.Kept.{kept-described}
-use Rattle.walk_moves.specs.Lent.{keptBy, wayOf}
+use Rattle.walk_moves.specs.Lent.{keptBy, wayMade}
 
 abbrev ofPlace : Kind → Bool
 ofPlace placeEnd = true
@@ -64,13 +64,13 @@ module _ {q : Problem} (full : FullyLabelled q) where
 
   module _ {T : ℕ → Bool} {n : ℕ} {o : ℕ → ℕ} {x : List (ℕ → ℕ)} where
     left-way : {S : State} {i : ℕ} {after : After} → Describes q T (suc n) o x S → Left q T n x S i after
-        → IsWay q (pointsOf q x) (wayOf q after)
+        → IsWay q (pointsOf q x) (wayMade q after)
     left-way D (facetEnds h z F) = rw (later-points full D) (facet-way full D.chain h refl F .1)
     left-way D (leftOn w) = reached-way D.chain w.2
 
     -- two points that leave
     apart : {S S' : State} {i j : ℕ} {a b : After} → LabelledChain (blocksOf q) (labelOf q) T (suc n) o x → i ≤ suc n
-        → j ≤ suc n → (i ≡ j → ⊥) → Left q T n x S i a → Left q T n x S' j b → wayOf q a ≡ wayOf q b → ⊥
+        → j ≤ suc n → (i ≡ j → ⊥) → Left q T n x S i a → Left q T n x S' j b → wayMade q a ≡ wayMade q b → ⊥
     apart C li lj ne (facetEnds h z F) (facetEnds k w G) e = ne (z ∙ sym w)
     apart C li lj ne (facetEnds h z F) (leftOn w) e = absurd-bool (cc)
     apart C li lj ne (leftOn w) (facetEnds h z F) e = absurd-bool (cc)
@@ -81,7 +81,7 @@ module _ {q : Problem} (full : FullyLabelled q) where
 
     -- a point that leaves, and a label that joins T
     apart-joined : {S S' : State} {i : ℕ} {a b : After} → LabelledChain (blocksOf q) (labelOf q) T (suc n) o x
-        → Left q T n x S i a → Joined q T (suc n) x S' b → wayOf q a ≡ wayOf q b → ⊥
+        → Left q T n x S i a → Joined q T (suc n) x S' b → wayMade q a ≡ wayMade q b → ⊥
     apart-joined C (facetEnds h z F) (placeEnds k c) e = absurd-bool (sym (ap atPlace e))
     apart-joined C (facetEnds h z F) (joinedOn y Y R) e = absurd-bool (cc)
     apart-joined C (leftOn w) (placeEnds k c) e = absurd-bool (cc)
@@ -92,7 +92,7 @@ module _ {q : Problem} (full : FullyLabelled q) where
 
   joined-way : {T : ℕ → Bool} {t : ℕ} {o : ℕ → ℕ} {x : List (ℕ → ℕ)} {S : State} {after : After} → Describes q T t o x S
       → Joined q T t x S after
-      → IsWay q (pointsOf q x) (wayOf q after)
+      → IsWay q (pointsOf q x) (wayMade q after)
   joined-way D (placeEnds h c) = rw (all-points full D) (place-way full D.chain h c .1)
   joined-way D (joinedOn y Y R) = reached-way D.chain R
 
@@ -138,10 +138,10 @@ module _ {q : Problem} (full : FullyLabelled q) where
         (λ z. absurd (omega arith)))
         (true-or-false (T (labelsOf q x S.active)))
 
-    pub way-back : 6 ≤ S .rule → IsWay q (pointsOf q x) (wayOf q (step S))
+    pub way-back : 6 ≤ S .rule → IsWay q (pointsOf q x) (wayMade q (step S))
     way-back r = left-way D (leaves-by r)
 
-    pub way-onward : S .rule < 6 → IsWay q (pointsOf q x) (wayOf q (step S))
+    pub way-onward : S .rule < 6 → IsWay q (pointsOf q x) (wayMade q (step S))
     way-onward r = ⊎-elim
         (λ e. left-way D (other-leaves r e))
         (λ e. joined-way D (joins-by r e))
@@ -158,7 +158,7 @@ module _ {q : Problem} (full : FullyLabelled q) where
     carry' : Carries T (suc n) (labelsOf q x) S'.active
     carry' = rw same carry
 
-    pub ways-apart : S .rule < 6 → 6 ≤ S' .rule → wayOf q (step S) ≡ wayOf q (step S') → ⊥
+    pub ways-apart : S .rule < 6 → 6 ≤ S' .rule → wayMade q (step S) ≡ wayMade q (step S') → ⊥
     ways-apart r r' w =
         let L = leaves-by D' A' low' carry' r' in
         ⊎-elim
@@ -191,7 +191,7 @@ module _ {q : Problem} (full : FullyLabelled q) where
     start-joins = rw (lt-ltb S.rule 6 r, label-bit full D A start-low ∙ start-out, label-index full D A start-low)
         (grows full T 0 o x S S.active D A (extra-at full D.chain S.active start-low start-out))
 
-    pub start-way : IsWay q (pointsOf q x) (wayOf q (step S))
+    pub start-way : IsWay q (pointsOf q x) (wayMade q (step S))
     start-way = joined-way D start-joins
 
 -- what comes after a move fits its arrays, and an end names an index

@@ -17,7 +17,7 @@ use Rattle.rules.specs.Step.{After, State, endsAtFacet, endsAtPlace, goes}
 use Rattle.walks.specs.Kept.{keptPoints, zeroOutside}
 
 -- the state of the place with first point y and order o; `filled` has the labels of its marks
-pub record Lent (p filled : Problem) (y : Point) (o : List ℕ) (s : State) : Type 0 where
+pub record LentPlace (p filled : Problem) (y : Point) (o : List ℕ) (s : State) : Type 0 where
   pub round : IsRound (p .grid) (s .round)
   pub orderIs : s .order ≡ o
   pub firstLong : length (s .first) ≡ 16
@@ -34,7 +34,7 @@ abbrev pub keptBy : Problem → State → List Point
 keptBy p s = keptPoints (p .grid) (take (numIndices (p .grid)) (s .first)) (s .order)
 
 -- the way that a move makes
-abbrev pub wayOf : Problem → After → Way
-wayOf p (goes e) = link (keptBy p e)
-wayOf p (endsAtPlace s h) = stop (record { kind = placeEnd; block = blockOf (p .grid) h; simplex = pointsFrom p s 0 })
-wayOf p (endsAtFacet s h) = stop (record { kind = facetEnd; block = blockOf (p .grid) h; simplex = pointsFrom p s 1 })
+abbrev pub wayMade : Problem → After → Way
+wayMade p (goes e) = link (keptBy p e)
+wayMade p (endsAtPlace s h) = stop (record { kind = placeEnd; block = blockOf (p .grid) h; simplex = pointsFrom p s 0 })
+wayMade p (endsAtFacet s h) = stop (record { kind = facetEnd; block = blockOf (p .grid) h; simplex = pointsFrom p s 1 })

@@ -23,18 +23,18 @@ use Rattle.questions.specs.Questions.{firstNo}
 use Rattle.walks.specs.Next.{nextOf, refused}
 use Rattle.walk_moves.proofs.Next.{no-count, no-place, no-read}
 use Rattle.walk_places.proofs.Held.{held, held-parts, not-held}
-use Rattle.walk_next.specs.Standing.{inRange, CanStand}
-use Rattle.walk_next.specs.Choosing.{FilledBy}
+use Rattle.walk_next.specs.Standing.{countsInRange, CanStand}
+use Rattle.walk_next.specs.Choosing.{MarksFilledBy}
 use Rattle.walk_places.specs.Walks.{holdsNumbers, holdsPlace, keptAs, samePlace, tableOn, walkOn}
 use Rattle.walk_places.specs.declared.Place.{Place}
 use Rattle.walk_places.specs.declared.Walk.{Walk as WalkStruct}
 
 pub fill-no : (marks : List ℕ) (point : ℕ) (unknown : Bool) → unknown ≡ false → length marks ≡ 16 →
-    FilledBy marks point unknown marks
+    MarksFilledBy marks point unknown marks
 fill-no marks point unknown e l = record { long = l; each = λ j. rw e (omega arith) }
 
 pub fill-yes : (marks : List ℕ) (point : ℕ) (unknown : Bool) → unknown ≡ true → length marks ≡ 16 → point < 16 →
-    FilledBy marks point unknown (set marks point (at marks point + 1))
+    MarksFilledBy marks point unknown (set marks point (at marks point + 1))
 fill-yes marks point unknown e l low = record {
   long = length-set marks point (at marks point + 1) ∙ l;
   each = λ j. ⊎-elim (λ (q : j ≡ point). rw (e, q, eq-eqb point point refl)
@@ -68,7 +68,7 @@ module _ (g : GridStruct) (w : WalkStruct) (labels : List ℕ) (made : IsMade g)
       (before-or-not (w .places) (w .«labels_read»)))
       (before-or-not (w .«labels_read») 1))
 
-  pub out-of-range : inRange (shape g) (w .places) (w .«labels_read») ≡ false → nextOf (walkOn (shape g) w) labels
+  pub out-of-range : countsInRange (shape g) (w .places) (w .«labels_read») ≡ false → nextOf (walkOn (shape g) w) labels
       ≡ refused 20
   out-of-range f = ⊎-elim (λ t. read-passed (rw t at f)) (λ n. bound-passed n)
       (true-or-false (leb 1 (w .places) && leb (w .places) (bound (shape g))))
@@ -80,7 +80,7 @@ module _ (g : GridStruct) (w : WalkStruct) (labels : List ℕ) (made : IsMade g)
 
   pub kept-rightly : holdsNumbers (g .indices) (w .present) ≡ true → length (w .present .first) ≡ 16 → length
       (w .present .order) ≡ 16
-      → inRange (shape g) (w .places) (w .«labels_read») ≡ true → (n : ℕ) → n ≡ pred (w .present .count) →
+      → countsInRange (shape g) (w .places) (w .«labels_read») ≡ true → (n : ℕ) → n ≡ pred (w .present .count) →
       CanStand g w labels (w .present .first) (w .present .order) n
   kept-rightly t fl ol range n is =
       let h : holdsPlace (shape g) (w .present) ≡ true = rw (← (made-indices g made)) t in

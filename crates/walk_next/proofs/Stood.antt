@@ -14,6 +14,7 @@ use Rattle.combinatorics.proofs.Basics.{absurd-bool, and-both, and-right, befor
 use Rattle.combinatorics.proofs.Basics.{true-or-false}
 use Rattle.combinatorics.proofs.Lists.{all-in, eqb-self, in-all, onNumbers, same-self, same-sound}
 use Rattle.combinatorics.specs.Lists.{isIn, same}
+use Rattle.combinatorics.specs.Front.{padded}
 use Rattle.grid.proofs.Fields.{following-low, made-accepted, made-indices, made-next, made-previous, previous-low}
 use Rattle.grid.proofs.Points.{onPoints}
 use Rattle.grid.specs.Grid.{Point, at, blockOf, isGridPoint, numIndices, position, size}
@@ -38,7 +39,7 @@ use Rattle.walks.specs.Next.{nextOf, refused}
 use Rattle.walks.specs.Walk.{labelsOf}
 use Rattle.walk_moves.proofs.Next.{no-place, not-carried}
 use Rattle.walk_moves.proofs.Unknown.{some-spare}
-use Rattle.walk_labels.specs.Carrying.{labelsIn}
+use Rattle.walk_labels.specs.Carrying.{labelsInMarks}
 use Rattle.walk_moves.specs.Spare.{Spare, again, outside, unknown}
 use Rattle.recogniser.specs.Kept.{Seen}
 use Rattle.walk_places.proofs.Placed.{kept-on-grid, kept-position}
@@ -48,8 +49,8 @@ use Rattle.walk_places.specs.Placing.{CanSee}
 use Rattle.walk_places.proofs.Held.{padded-taken}
 use Rattle.walk_next.specs.Spares.{LabelsLow, NotNew, SparesOf, again as seenAgain, labelAt}
 use Rattle.walk_next.specs.Spares.{outside as seenOutside, unknown as unseen}
-use Rattle.walk_ways.specs.Standing.{IsRoundOf, pointsOn}
-use Rattle.walk_places.specs.Walks.{carriedOf, padded, placeOf, tableOn, walkOn}
+use Rattle.walk_ways.specs.Standing.{IsRoundOf, pointsKept}
+use Rattle.walk_places.specs.Walks.{carriedOf, placeOf, tableOn, walkOn}
 use Rattle.walk_next.specs.declared.Spared.{Spared}
 use Rattle.walk_places.specs.declared.Walk.{Walk as WalkStruct}
 
@@ -224,7 +225,7 @@ module _ {g : GridStruct} {w : WalkStruct} {labels first order : List ℕ} {n : 
           D .orderLong;
     }
 
-    pub no-place-there : isPlace (tableOn g w labels) (pointsOn g first order n) ≡ false → nextOf (walkOn (shape g) w)
+    pub no-place-there : isPlace (tableOn g w labels) (pointsKept g first order n) ≡ false → nextOf (walkOn (shape g) w)
         labels ≡ refused 20
     no-place-there f = no-place (walkOn (shape g) w) labels (ok can-see) (rw D.present f)
 
@@ -232,7 +233,7 @@ module _ {g : GridStruct} {w : WalkStruct} {labels first order : List ℕ} {n : 
     module _ {list marks : List ℕ} {t u : ℕ} (S : Seen (tableOn g w labels) (markOf (tableOn g w labels))
         (take (g .indices) first) (take n order) list marks t u) where
       abbrev there : Simplex
-      there = pointsOn g first order n
+      there = pointsKept g first order n
 
       there-long : length there ≡ suc n
       there-long = points-long (ok can-see .settled) (take (g .indices) first) (take n order)
@@ -257,7 +258,8 @@ module _ {g : GridStruct} {w : WalkStruct} {labels first order : List ℕ} {n : 
           label-at (z ∷ r) zero l = refl
           label-at (z ∷ r) (suc j) l = label-at r j (omega arith)
 
-      pub carries-own : same eqb (w .carried) (labelsIn marks n) ≡ true → carriedOf w ≡ labelsOf (tableOn g w labels)
+      pub carries-own : same eqb (w .carried) (labelsInMarks marks n) ≡ true → carriedOf w
+          ≡ labelsOf (tableOn g w labels)
           (placeOf (shape g) (w .present))
       unfolding carriedOf
       carries-own e =
@@ -269,7 +271,7 @@ module _ {g : GridStruct} {w : WalkStruct} {labels first order : List ℕ} {n : 
           (length-map there (label (tableOn g w labels)) ∙ there-long ∙ sym D.count) in
           rw (b, D .present) (rw (← a) (rw (same-self eqb eqb-self (w .carried))))
 
-      pub carries-others : same eqb (w .carried) (labelsIn marks n) ≡ false → nextOf (walkOn (shape g) w) labels
+      pub carries-others : same eqb (w .carried) (labelsInMarks marks n) ≡ false → nextOf (walkOn (shape g) w) labels
           ≡ refused 20
       unfolding carriedOf
       carries-others f = not-carried (walkOn (shape g) w) labels (ok can-see) (λ e.
@@ -278,7 +280,7 @@ module _ {g : GridStruct} {w : WalkStruct} {labels first order : List ℕ} {n : 
           (labelsOf (tableOn g w labels)) D.present in
           ⊎-elim (λ t.
           let a : own ≡ labelsOf (tableOn g w labels) there = rw t at z in
-          let b : w .carried ≡ labelsIn marks n = same-sound eqb eqb-true (w .carried) (padded 16 own) t ∙ ap
+          let b : w .carried ≡ labelsInMarks marks n = same-sound eqb eqb-true (w .carried) (padded 16 own) t ∙ ap
           (padded 16)
           (a ∙ sym in-marks) in
           absurd-bool (sym (same-self eqb eqb-self (w .carried)) ∙ ap (same eqb (w .carried)) b ∙ f))

@@ -16,7 +16,7 @@ pub record CanFill (marks : List ℕ) (point : ℕ) (unknown : Bool) : Type 0 wh
   pub long : length marks ≡ 16
   pub room : unknown ≡ true → at marks point < 4294967295
 
-pub record FilledBy (marks : List ℕ) (point : ℕ) (unknown : Bool) (own : List ℕ) : Type 0 where
+pub record MarksFilledBy (marks : List ℕ) (point : ℕ) (unknown : Bool) (own : List ℕ) : Type 0 where
   pub long : length own ≡ 16
   pub each : (j : ℕ) → at own j ≡ at marks j + cond (unknown && eqb j point) 1 0
 
@@ -27,5 +27,5 @@ pub record CanChoose (g : GridStruct) (w : WalkStruct) (labels first list order 
   pub long : length marks ≡ 16
   pub room : at marks point < 4294967295
   pub stands : (own : List ℕ) (unknown : Bool) → unknown ≡ eqb (labelAt marks point) 0 →
-      FilledBy marks point unknown own
+      MarksFilledBy marks point unknown own
       → Standing g w labels first list order own n t u point unknown

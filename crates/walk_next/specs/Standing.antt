@@ -10,13 +10,13 @@ use Rattle.grid.specs.Made.{IsMade, shape}
 use Rattle.grid.specs.declared.Grid.{Grid as GridStruct}
 use Rattle.place.specs.Questions.{tableQuestions}
 use Rattle.questions.specs.Questions.{firstNo}
-use Rattle.walk_ways.specs.Standing.{pointsOn}
+use Rattle.walk_ways.specs.Standing.{pointsKept}
 use Rattle.walk_places.specs.Walks.{placeOf, tableOn}
 use Rattle.walk_places.specs.declared.Walk.{Walk as WalkStruct}
 
 -- the places so far are "from 1 to the bound", the labels read "from 1 to its places"
-abbrev pub inRange : Grid → ℕ → ℕ → Bool
-inRange g places read = (leb 1 places && leb places (bound g)) && (leb 1 read && leb read places)
+abbrev pub countsInRange : Grid → ℕ → ℕ → Bool
+countsInRange g places read = (leb 1 places && leb places (bound g)) && (leb 1 read && leb read places)
 
 -- the walk passes questions 1 to 7, its places so far and its labels read are in range, and its present place is kept
 -- rightly
@@ -26,7 +26,7 @@ pub record CanStand (g : GridStruct) (w : WalkStruct) (labels first order : List
   pub few : n ≤ 15
   pub firstLong : length first ≡ 16
   pub orderLong : length order ≡ 16
-  pub present : placeOf (shape g) (w .present) ≡ pointsOn g first order n
+  pub present : placeOf (shape g) (w .present) ≡ pointsKept g first order n
   pub count : w .present .count ≡ suc n
   pub some : 1 ≤ w .places
   pub most : w .places ≤ bound (shape g)

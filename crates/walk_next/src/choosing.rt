@@ -1,6 +1,6 @@
 // What comes next from a place that is recognised, by its spare point.
 ghost use mathlib.Core.Path.{_≡_};
-ghost use Rattle.walk_next.specs.Choosing.{CanChoose, CanFill, FilledBy};
+ghost use Rattle.walk_next.specs.Choosing.{CanChoose, CanFill, MarksFilledBy};
 ghost use Rattle.walk_ways.specs.Standing.{IsRoundOf, nextIn};
 use arrays::label_in;
 use grid::Grid;
@@ -13,7 +13,7 @@ use walk_ways::from_start;
 // The marks, with index 1 for the label of this point where it is not yet known.
 fn filled(marks: &[u32; 16], point: usize, unknown: bool) -> [u32; 16]
     requires { ⌜ CanFill (now marks) point unknown ⌝ }
-    ensures { λ r. ⌜ FilledBy (now (marks .entry)) point unknown r ⌝ }
+    ensures { λ r. ⌜ MarksFilledBy (now (marks .entry)) point unknown r ⌝ }
 {
     let mut own = *marks;
     if unknown {

@@ -3,7 +3,7 @@ ghost use mathlib.Core.Path.{_≡_};
 ghost use Rattle.questions.specs.Questions.{firstNo};
 ghost use Rattle.grid.specs.Made.{IsMade, shape};
 ghost use Rattle.place.specs.Questions.{tableQuestions};
-ghost use Rattle.walk_next.specs.Standing.{CanStand, inRange};
+ghost use Rattle.walk_next.specs.Standing.{CanStand, countsInRange};
 ghost use Rattle.walk_ways.specs.Standing.{nextIn};
 ghost use Rattle.walk_places.specs.Walks.{tableOn};
 use crate::choosing::chosen;
@@ -21,7 +21,7 @@ use walk_ways::refused;
 // Whether the places so far are from 1 to the bound, and the labels read from 1 to the places.
 fn in_range(g: Grid, places: u64, read: u64) -> bool
     requires { ⌜ IsMade g ⌝ }
-    ensures { λ r. ⌜ r ≡ inRange (shape g) places read ⌝ }
+    ensures { λ r. ⌜ r ≡ countsInRange (shape g) places read ⌝ }
 {
     if read == 0 {
         return false;

@@ -12,6 +12,7 @@ use Rattle.combinatorics.proofs.Basics.{absurd-bool, and-left, both, true-or-fa
 use Rattle.combinatorics.proofs.Fronts.{front-length}
 use Rattle.combinatorics.proofs.Lists.{all-in, in-map, map-in, onNumbers}
 use Rattle.combinatorics.specs.Lists.{all, firstOr, isIn}
+use Rattle.combinatorics.specs.Front.{padded}
 use Rattle.grid.proofs.Accepted.{accepted as accepted-grid}
 use Rattle.grid.proofs.Fields.{indices-few, made-indices}
 use Rattle.grid.proofs.Points.{onPoints}
@@ -44,7 +45,7 @@ use Rattle.walks.specs.Kept.{isKept, keptPoints}
 use Rattle.walks.specs.Walk.{Walk}
 use Rattle.walk_places.specs.Placing.{BothMarked, CanPlace, GoesTo}
 use Rattle.walk_places.proofs.Held.{held, held-parts, not-held, padded-taken}
-use Rattle.walk_places.specs.Walks.{holdsPlace, keptAs, padded, placeOf, stored, tableOn, walkOn}
+use Rattle.walk_places.specs.Walks.{holdsPlace, keptAs, placeOf, stored, tableOn, walkOn}
 use Rattle.walk_places.specs.declared.Place.{Place}
 use Rattle.walk_places.specs.declared.Walk.{Walk as WalkStruct}
 

@@ -13,17 +13,18 @@ use native.Mathlib.Omega.{arith}
 use Rattle.combinatorics.proofs.Basics.{and-both, and-left, and-right, true-or-false}
 use Rattle.combinatorics.proofs.Fronts.{front-taken}
 use Rattle.combinatorics.specs.Lists.{firstOr}
+use Rattle.combinatorics.specs.Front.{padded}
 use Rattle.grid.specs.Grid.{Grid, numIndices}
 use Rattle.place.specs.Places.{Simplex, isPlace, order}
 use Rattle.place.specs.Problem.{Problem}
 use Rattle.path_laws.proofs.IndexSets.{no-empty}
 use Rattle.path_laws.proofs.ToChain.{place-long}
-use Rattle.path_laws.specs.Demand.{Settled}
+use Rattle.path_laws.specs.Demand.{HasStart}
 use Rattle.walks.proofs.KeptForm.{order-is}
 use Rattle.walks.proofs.Recognised.{kept-once}
 use Rattle.walks.specs.Kept.{keptPoints}
 use Rattle.walk_places.proofs.Alike.{place-same, same-place}
-use Rattle.walk_places.specs.Walks.{beforeOf, holdsPlace, keptAs, padded, placeOf, samePlace, stored}
+use Rattle.walk_places.specs.Walks.{beforeOf, holdsPlace, keptAs, placeOf, samePlace, stored}
 use Rattle.walk_places.specs.declared.Place.{Place}
 
 pub padded-taken : (n : ℕ) (xs : List ℕ) → length xs ≡ n → take n (padded 16 xs) ≡ xs
@@ -88,7 +89,7 @@ module _ (g : Grid) (b : Place) where
       (leb-true 1 _ (and-left x y xy), leb-true _ 16 (and-right x y xy), same-place b _ (and-right (x && y) z e))
 
 -- the struct is told by the place
-module _ (p : Problem) (ok : Settled p) (b : Place) (long-b : length (b .order) ≡ 16) (first order : List ℕ) (n : ℕ)
+module _ (p : Problem) (ok : HasStart p) (b : Place) (long-b : length (b .order) ≡ 16) (first order : List ℕ) (n : ℕ)
     (long : length (take n order) ≡ n)
     (place : isPlace p (keptPoints p.grid (take (numIndices p.grid) first) (take n order)) ≡ true)
     (is : placeOf p.grid b ≡ keptPoints p.grid (take (numIndices p.grid) first) (take n order)) where
@@ -106,7 +107,7 @@ module _ (p : Problem) (ok : Settled p) (b : Place) (long-b : length (b .order) 
       (true-or-false (holdsPlace p.grid b))
 
 -- a place that is stored
-pub stored-kept : (p : Problem) → Settled p → (first order : List ℕ) (n : ℕ) → length (take n order) ≡ n
+pub stored-kept : (p : Problem) → HasStart p → (first order : List ℕ) (n : ℕ) → length (take n order) ≡ n
     → isPlace p (keptPoints p.grid (take (numIndices p.grid) first) (take n order)) ≡ true
     → stored p.grid (keptPoints p.grid (take (numIndices p.grid) first) (take n order))
     ≡ keptAs (numIndices p.grid) first order n

@@ -17,7 +17,7 @@ use Rattle.path_laws.proofs.Accepted.{accepted-of}
 use Rattle.path_laws.proofs.Positions.{at-in}
 use Rattle.path_laws.specs.Demand.{Accepted}
 use Rattle.recogniser.specs.Kept.{Seen}
-use Rattle.recogniser.specs.Pieces.{CanRead, LabelsPut, bareMark}
+use Rattle.recogniser.specs.Pieces.{CanReadLabels, LabelsPut, bareMark}
 use Rattle.rules.proofs.Marks.{position-in as position-of-mark}
 use Rattle.rules.specs.Read.{markOf}
 use Rattle.rules.specs.Step.{markPosition}
@@ -74,7 +74,7 @@ module _ {g : GridStruct} {w : WalkStruct} {labels first order : List ℕ} {n : 
       position-is j l = ap markPosition (mark-is j l) ∙ position-of-mark (position (shape g) (getD s j [])) 0
           (omega arith)
 
-      pub can-read : CanRead labels marks n
+      pub can-read : CanReadLabels labels marks n
       can-read = record {
         few = C .few;
         long = S .marksLong;

@@ -5,7 +5,7 @@ use mathlib.Core.Option.{Option, none, some}
 use Prim.Native.Nat.{ℕ, pred, _+_}
 use lib.Dec.{eqb, leb}
 use lib.ListN.{length, take, replicate}
-use Rattle.combinatorics.specs.Front.{front}
+use Rattle.combinatorics.specs.Front.{padded}
 use Rattle.combinatorics.specs.Lists.{firstOr, same}
 use Rattle.grid.specs.Grid.{Grid, numIndices}
 use Rattle.grid.specs.Made.{shape}
@@ -16,10 +16,6 @@ use Rattle.walks.specs.Kept.{keptPoints}
 use Rattle.walks.specs.Walk.{Walk, over}
 use Rattle.walk_places.specs.declared.Place.{Place}
 use Rattle.walk_places.specs.declared.Walk.{Walk as WalkStruct}
-
--- numbers at the front of an array of n, 0 behind
-abbrev pub padded : ℕ → List ℕ → List ℕ
-padded n xs = front xs (replicate n 0)
 
 -- a place with the first m numbers of the first point, and the first n indices of the order
 abbrev pub keptAs : ℕ → List ℕ → List ℕ → ℕ → Place
@@ -52,8 +48,8 @@ beforeOf g b = cond (samePlace b nowhere) none (some (placeOf g b))
 abbrev pub firstSix : ℕ → List ℕ → List ℕ
 firstSix n xs = cond (leb n 6) (take n xs) (replicate n 0)
 
-abbrev pub gridOf : WalkStruct → Grid
-gridOf w = record { sizes = firstSix (w .blocks) (w .sizes); divisions = firstSix (w .blocks) (w .divisions) }
+abbrev pub walkGrid : WalkStruct → Grid
+walkGrid w = record { sizes = firstSix (w .blocks) (w .sizes); divisions = firstSix (w .blocks) (w .divisions) }
 
 -- "Runs and walks now carry their place's labels": one for each point of the present place, with 0 behind. With
 -- anything else behind it carries none, which are no place's labels
@@ -75,7 +71,7 @@ walkOn g w = record {
 
 -- and on its own
 abbrev pub walkOf : WalkStruct → Walk
-walkOf w = walkOn (gridOf w) w
+walkOf w = walkOn (walkGrid w) w
 
 -- the walk's grid and start with the table
 abbrev pub tableOn : GridStruct → WalkStruct → List ℕ → Problem

@@ -3,7 +3,7 @@ use mathlib.Core.List.{List}
 use mathlib.Core.Path.{_≡_, refl, ap, _∙_}
 use Prim.Native.Nat.{ℕ}
 use Rattle.combinatorics.proofs.Basics.{absurd-bool}
-use Rattle.combinatorics.specs.Front.{front}
+use Rattle.combinatorics.specs.Front.{front, padded}
 use Rattle.end_kinds.specs.declared.Kind.{Kind}
 use Rattle.grid.specs.Questions.{gridQuestions}
 use Rattle.place.specs.Places.{Simplex}
@@ -19,15 +19,15 @@ use Rattle.walk_preview.specs.Changes.{noChange}
 use Rattle.walk_preview.specs.Previews.{Moves, changeIn, shownAs}
 use Rattle.walk_preview.specs.declared.Change.{Change as ChangeStruct}
 use Rattle.walk_preview.specs.declared.Shown.{Shown}
-use Rattle.walk_ways.specs.Answers.{answerOf, numbersOf, structOn}
-use Rattle.walk_places.specs.Walks.{gridOf, padded, walkOf}
+use Rattle.walk_ways.specs.Answers.{answerOf, outcomeNumbers, structOn}
+use Rattle.walk_places.specs.Walks.{walkGrid, walkOf}
 use Rattle.walk_ways.specs.declared.Answer.{Answer}
 use Rattle.walk_ways.specs.declared.Answer.the-variants.{Ended, Moved, Refused}
 use Rattle.walk_places.specs.declared.Place.{Place}
 use Rattle.walk_places.specs.declared.Walk.{Walk as WalkStruct}
 
-pub grid-passes : {w : WalkStruct} {labels : List ℕ} {next : Place} {rule : ℕ} → Moves (gridOf w) w labels next rule →
-    firstNo (gridQuestions (gridOf w)) ≡ 0
+pub grid-passes : {w : WalkStruct} {labels : List ℕ} {next : Place} {rule : ℕ} → Moves (walkGrid w) w labels next rule →
+    firstNo (gridQuestions (walkGrid w)) ≡ 0
 grid-passes {w} {labels} M = grid-asked (moved-passes (walkOf w) labels (M .goes .to) (M .goes .moves) .0 .accepted)
 
 abbrev pub shownWith : Answer → List ℕ → ChangeStruct → Shown
@@ -37,7 +37,7 @@ module _ (w : WalkStruct) (labels : List ℕ) where
   abbrev callBy : Outcome Simplex → Call
   callBy n = record {
     answer = answerOf (ruleOf (over (walkOf w) labels) (walkOf w .present)) n;
-    simplex = padded 256 (numbersOf n);
+    simplex = padded 256 (outcomeNumbers n);
     walk = structOn (over (walkOf w) labels) w n;
   }
 
@@ -51,10 +51,10 @@ module _ (w : WalkStruct) (labels : List ℕ) where
   preview-is n e = rw e
 
   module _ (c : Call) (is : c ≡ callOf w labels) where
-    pub moves-of : (rule : ℕ) → c .answer ≡ Moved rule → Moves (gridOf w) w labels (c .walk .present) rule
+    pub moves-of : (rule : ℕ) → c .answer ≡ Moved rule → Moves (walkGrid w) w labels (c .walk .present) rule
     moves-of rule e = go (nextOf (walkOf w) labels) refl
       where
-        go : (n : Outcome Simplex) → nextOf (walkOf w) labels ≡ n → Moves (gridOf w) w labels (c .walk .present) rule
+        go : (n : Outcome Simplex) → nextOf (walkOf w) labels ≡ n → Moves (walkGrid w) w labels (c .walk .present) rule
         go (refused k) q = absurd-bool (let z = ap (λ (x : Call). x .answer) (is ∙ call-is (refused k) q) in cc)
         go (ended k b s) q = absurd-bool (let z = ap (λ (x : Call). x .answer) (is ∙ call-is (ended k b s) q) in cc)
         go (moved s) q = record {

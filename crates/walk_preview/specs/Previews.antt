@@ -4,6 +4,7 @@ use mathlib.Core.Path.{_≡_}
 use Prim.Native.Nat.{ℕ}
 use lib.ListN.{length, replicate}
 use Rattle.combinatorics.specs.Lists.{concatMap}
+use Rattle.combinatorics.specs.Front.{padded}
 use Rattle.grid.specs.Grid.{Grid}
 use Rattle.grid.specs.Made.{IsMade, shape}
 use Rattle.grid.specs.declared.Grid.{Grid as GridStruct}
@@ -11,7 +12,7 @@ use Rattle.walks.specs.Next.{Outcome, ended, moved, refused, ruleOf}
 use Rattle.walks.specs.Preview.{Move, preview}
 use Rattle.walks.specs.Walk.{over}
 use Rattle.walk_places.specs.Placing.{GoesTo}
-use Rattle.walk_places.specs.Walks.{gridOf, padded, walkOf, walkOn}
+use Rattle.walk_places.specs.Walks.{walkGrid, walkOf, walkOn}
 use Rattle.walk_ways.specs.declared.Answer.the-variants.{Ended, Moved, Refused}
 use Rattle.walk_places.specs.declared.Place.{Place}
 use Rattle.walk_places.specs.declared.Walk.{Walk as WalkStruct}
@@ -45,7 +46,7 @@ pub record Moves (g : Grid) (w : WalkStruct) (labels : List ℕ) (next : Place) 
   pub byRule : rule ≡ ruleOf (over (walkOn g w) labels) (walkOn g w .present) (goes .to)
 
 abbrev pub MovesTo : WalkStruct → List ℕ → Place → ℕ → Type 0
-MovesTo w labels next rule = Moves (gridOf w) w labels next rule
+MovesTo w labels next rule = Moves (walkGrid w) w labels next rule
 
 pub record CanShow (g : GridStruct) (w : WalkStruct) (labels : List ℕ) (next : Place) (rule : ℕ) : Type 0 where
   pub made : IsMade g

@@ -10,7 +10,7 @@ use native.Mathlib.Nat.{le-trans, mul-le-mul-left, mul-le-mul-right}
 use native.Mathlib.Omega.{arith}
 use Rattle.arrays.specs.Rounds.{roundOf}
 use Rattle.combinatorics.proofs.Basics.{false-of}
-use Rattle.combinatorics.specs.Front.{front}
+use Rattle.combinatorics.specs.Front.{front, padded}
 use Rattle.combinatorics.specs.Lists.{concatMap}
 use Rattle.grid.proofs.Fields.{made-indices}
 use Rattle.grid.specs.Grid.{Grid, Point, at, blockOf, numIndices, size}
@@ -39,11 +39,11 @@ use Rattle.walk_next.proofs.Stood.{ok, round-of}
 use Rattle.walk_places.specs.Placing.{CanSee}
 use Rattle.walk_moves.proofs.Carried.{points-long}
 use Rattle.walk_moves.proofs.Kept.{describes, full, place-filled}
-use Rattle.walk_moves.specs.Lent.{Lent}
+use Rattle.walk_moves.specs.Lent.{LentPlace}
 use Rattle.walk_views.specs.Viewed.{CanPoint, noPoints, placeQuestions, pointsAt, pointsOn}
 use Rattle.walk_views.specs.declared.PlacePoints.{PlacePoints}
 use Rattle.walk_ways.specs.Standing.{IsRoundOf}
-use Rattle.walk_places.specs.Walks.{holdsNumbers, holdsPlace, padded, placeOf, tableOn, walkOn}
+use Rattle.walk_places.specs.Walks.{holdsNumbers, holdsPlace, placeOf, tableOn, walkOn}
 use Rattle.walk_places.proofs.Held.{held, held-parts, not-held}
 use Rattle.walk_places.specs.declared.Walk.{Walk as WalkStruct}
 
@@ -112,7 +112,7 @@ module _ {g : GridStruct} {w : WalkStruct} {labels first order : List ℕ} {n : 
   here-long : length here ≡ suc n
   here-long = points-long (ok (C .sees)) y o (C .place) ∙ ap suc long-o
 
-  lent : Lent p filled y o state
+  lent : LentPlace p filled y o state
   lent = record {
     round = N .round;
     orderIs = refl;

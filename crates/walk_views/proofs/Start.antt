@@ -9,6 +9,7 @@ use lib.ListN.{length, replicate, take, length-replicate}
 use native.Mathlib.Omega.{arith}
 use Rattle.combinatorics.proofs.Lists.{eqb-self, same-self}
 use Rattle.combinatorics.proofs.Fronts.{front-length, front-none, front-taken}
+use Rattle.combinatorics.specs.Front.{padded}
 use Rattle.grid.proofs.Accepted.{accepted as accepted-grid}
 use Rattle.grid.specs.Grid.{Grid, Point, isGridPoint, numIndices}
 use Rattle.grid.proofs.Fields.{made-blocks, made-indices, made-points}
@@ -22,12 +23,12 @@ use Rattle.questions.proofs.Answers.{asked-no, both-yes}
 use Rattle.questions.specs.Questions.{firstNo}
 use Rattle.walks.proofs.KeptForm.{grid-long}
 use Rattle.walk_calls.proofs.Later.{behind-four}
-use Rattle.walk_calls.specs.Asked.{laterQuestions}
+use Rattle.walk_calls.specs.Asked.{laterWalkQuestions}
 use Rattle.walks.specs.Walk.{walkAtStart}
-use Rattle.walk_views.specs.Begun.{begunOf, begunOn, noWalk, startWalk, CanLookUp}
+use Rattle.walk_views.specs.Begun.{begunOf, begunOn, noWalk, startWalk, CanLabelStart}
 use Rattle.walk_views.specs.declared.Begun.{Begun}
 use Rattle.walk_places.proofs.Held.{kept-held, padded-taken}
-use Rattle.walk_places.specs.Walks.{carriedOf, gridOf, keptAs, nowhere, padded, placeOf, walkOf, walkOn}
+use Rattle.walk_places.specs.Walks.{carriedOf, walkGrid, keptAs, nowhere, placeOf, walkOf, walkOn}
 use Rattle.walk_places.specs.declared.Place.{Place}
 use Rattle.walk_places.specs.declared.Walk.{Walk as WalkStruct}
 
@@ -74,7 +75,7 @@ module _ (g : Grid) (v : Point) (labels : List ℕ) (asked : firstNo (tableQuest
   pub long : length v ≡ numIndices g
   long = grid-long (p g v labels) v (parts .1)
 
-  grid-is : gridOf w ≡ g
+  grid-is : walkGrid w ≡ g
   grid-is =
       let a = accepted-grid g (parts .0) in
       let six : length (g .sizes) ≤ 6 = a .fewBlocks in
@@ -110,7 +111,8 @@ module _ (g : Grid) (v : Point) (labels : List ℕ) (asked : firstNo (tableQuest
   at-start = ap (λ (h : Grid). walkOn h w) grid-is ∙ rw (taken, present-is, carried-is)
 
 -- as it is made on a grid that is accepted
-module _ (g : GridStruct) (made : IsMade g) (v labels : List ℕ) (asked : firstNo (laterQuestions g v labels) ≡ 0) where
+module _ (g : GridStruct) (made : IsMade g) (v labels : List ℕ)
+    (asked : firstNo (laterWalkQuestions g v labels) ≡ 0) where
   behind : firstNo (tableQuestions (begunOn (shape g) v labels)) ≡ 0
   behind = behind-four g v labels (made .accepted) ∙ asked
 
@@ -120,7 +122,7 @@ module _ (g : GridStruct) (made : IsMade g) (v labels : List ℕ) (asked : first
   pub taken-start : (y : List ℕ) → y ≡ padded 16 v → take (g .indices) y ≡ v
   taken-start y e = rw (e, made-indices g made) (taken (shape g) v labels behind)
 
-  pub can-look-up : (y : List ℕ) → y ≡ padded 16 v → CanLookUp g y labels
+  pub can-look-up : (y : List ℕ) → y ≡ padded 16 v → CanLabelStart g y labels
   can-look-up y e =
       let ok = accepted-of (begunOn (shape g) v labels) behind in
       let z = length-replicate {A = ℕ} 16 0 in

@@ -11,7 +11,8 @@ use Rattle.grid.specs.declared.Grid.{Grid as GridStruct}
 use Rattle.place.specs.Problem.{Problem, label}
 use Rattle.place.specs.Questions.{tableQuestions}
 use Rattle.questions.specs.Questions.{firstNo}
-use Rattle.walk_places.specs.Walks.{nowhere, padded}
+use Rattle.combinatorics.specs.Front.{padded}
+use Rattle.walk_places.specs.Walks.{nowhere}
 use Rattle.walk_places.specs.declared.Walk.{Walk as WalkStruct}
 use Rattle.walk_views.specs.declared.Begun.{Begun}
 
@@ -55,7 +56,7 @@ begunOf g v labels =
     record { code = n; walk = cond (eqb n 0) (startWalk g v (label p v)) noWalk }
 
 -- the label of the start can be looked up
-pub record CanLookUp (g : GridStruct) (y labels : List ℕ) : Type 0 where
+pub record CanLabelStart (g : GridStruct) (y labels : List ℕ) : Type 0 where
   pub made : IsMade g
   pub long : length y ≡ 16
   pub onGrid : isGridPoint (shape g) (take (g .indices) y) ≡ true

@@ -6,6 +6,7 @@ use Prim.Native.Nat.{ℕ}
 use lib.Dec.{eqb}
 use lib.ListN.{length, replicate, take}
 use Rattle.combinatorics.specs.Lists.{concatMap}
+use Rattle.combinatorics.specs.Front.{padded}
 use Rattle.grid.specs.Grid.{Grid}
 use Rattle.grid.specs.Made.{shape}
 use Rattle.grid.specs.declared.Grid.{Grid as GridStruct}
@@ -18,8 +19,8 @@ use Rattle.recogniser.specs.declared.Sets.{Sets}
 use Rattle.rules.specs.Read.{markOf}
 use Rattle.walks.specs.Walk.{over}
 use Rattle.walk_places.specs.Placing.{CanSee}
-use Rattle.walk_ways.specs.Standing.{pointsOn as pointsBy}
-use Rattle.walk_places.specs.Walks.{gridOf, padded, placeOf, tableOn, walkOn}
+use Rattle.walk_ways.specs.Standing.{pointsKept as pointsBy}
+use Rattle.walk_places.specs.Walks.{walkGrid, placeOf, tableOn, walkOn}
 use Rattle.walk_places.specs.declared.Walk.{Walk as WalkStruct}
 use Rattle.walk_views.specs.declared.PlacePoints.{PlacePoints}
 
@@ -42,7 +43,7 @@ pointsOn g w labels =
     cond (eqb n 0) (pointsAt g w) (noPoints n)
 
 abbrev pub pointsOf : WalkStruct → List ℕ → PlacePoints
-pointsOf w labels = pointsOn (gridOf w) w labels
+pointsOf w labels = pointsOn (walkGrid w) w labels
 
 -- the walk passes questions 1 to 7, and its present place is one
 pub record CanPoint (g : GridStruct) (w : WalkStruct) (labels first order : List ℕ) (n : ℕ) (sets : Sets) : Type 0 where

@@ -7,8 +7,8 @@ ghost use Rattle.grid.specs.Build.{lent};
 ghost use Rattle.grid.specs.Made.{IsMade, shape};
 ghost use Rattle.place.specs.Problem.{label as labelIn};
 ghost use Rattle.questions.specs.Questions.{firstNo};
-ghost use Rattle.walk_calls.specs.Asked.{laterQuestions};
-ghost use Rattle.walk_views.specs.Begun.{begunOf, begunOn, noWalk, startWalk, CanLookUp};
+ghost use Rattle.walk_calls.specs.Asked.{laterWalkQuestions};
+ghost use Rattle.walk_views.specs.Begun.{begunOf, begunOn, noWalk, startWalk, CanLabelStart};
 use crate::Begun;
 use grid::Grid;
 use label_table::read_at;
@@ -53,7 +53,7 @@ fn no_walk() -> Walk
 
 // The table's label of the start, whose numbers stand at the front of y.
 fn label_of(g: Grid, y: &[u16; 16], labels: &[u8]) -> u8
-    requires { ⌜ CanLookUp g (now y) (now labels) ⌝ }
+    requires { ⌜ CanLabelStart g (now y) (now labels) ⌝ }
     ensures { λ r. ⌜ (let v = take (g .indices) (now (y .entry)) in
         r ≡ labelIn (begunOn (shape g) v (now (labels .entry))) v) ⌝ }
 {
@@ -65,7 +65,7 @@ fn label_of(g: Grid, y: &[u16; 16], labels: &[u8]) -> u8
 
 // The walk at {v}, behind questions 1 to 7.
 fn start_on(g: Grid, start: &[u16], labels: &[u8]) -> Walk
-    requires { ⌜ IsMade g × (firstNo (laterQuestions g (now start) (now labels)) ≡ 0) ⌝ }
+    requires { ⌜ IsMade g × (firstNo (laterWalkQuestions g (now start) (now labels)) ≡ 0) ⌝ }
     ensures { λ r. ⌜ (let v = now (start .entry) in
         r ≡ startWalk (shape g) v (labelIn (begunOn (shape g) v (now (labels .entry))) v)) ⌝ }
 {

@@ -52,11 +52,11 @@ use Rattle.walk_moves.proofs.Kept.{describes, full, place-filled}
 use Rattle.walk_moves.proofs.Next.{fits-a, fits-b, fits-v, ready-a, ready-b, ready-v}
 use Rattle.walk_moves.proofs.Unknown.{unknown-only}
 use Rattle.walk_moves.proofs.Ways.{Fits, described-masks}
-use Rattle.walk_moves.specs.Lent.{Lent, keptBy, wayOf}
+use Rattle.walk_moves.specs.Lent.{LentPlace, keptBy, wayMade}
 use Rattle.walk_places.proofs.Alike.{place-same, same-place}
 use Rattle.walk_places.proofs.Held.{held-once, kept-before, stored-kept}
 use Rattle.walk_ways.proofs.RuleTold.{rule-told}
-use Rattle.walk_ways.specs.Ends.{CanTell, endAs, refusedAs, toldAs}
+use Rattle.walk_ways.specs.Ends.{CanTellEnd, endAs, refusedAs, toldAs}
 use Rattle.walk_ways.specs.Standing.{leadsBack, nextIn, IsRoundOf, Standing}
 use Rattle.walk_places.specs.Walks.{beforeOf, keptAs, nowhere, placeOf, samePlace, stored, tableOn, walkOn}
 use Rattle.walk_ways.specs.Answers.{nextAs}
@@ -140,7 +140,7 @@ module _ {g : GridStruct} {w : WalkStruct} {labels first list order marks : List
     abbrev pub stateAs : ℕ → State
     stateAs rule = stateOf (roundOf previous next sizes) first list order marks (statusAs rule)
 
-    pub lent : (rule : ℕ) → Lent p (filledTable p) y o (stateAs rule)
+    pub lent : (rule : ℕ) → LentPlace p (filledTable p) y o (stateAs rule)
     lent rule = record {
       round = N .round;
       orderIs = refl;
@@ -218,7 +218,7 @@ module _ {g : GridStruct} {w : WalkStruct} {labels first list order marks : List
           product : (x m : ℕ) → x ≤ 16 → m ≤ 16 → x * m ≤ 256
           product x m a b = le-trans (mul-le-mul-left x b) (mul-le-mul-right 16 a)
 
-      pub can-tell : CanTell g told-state (wayIn (g .indices) a (step a))
+      pub can-tell : CanTellEnd g told-state (wayIn (g .indices) a (step a))
       can-tell = record {
         place = λ h z. go-place (step a) refl h z;
         facet = λ h z. go-facet (step a) refl h z;
@@ -240,11 +240,11 @@ module _ {g : GridStruct} {w : WalkStruct} {labels first list order marks : List
 
       -- it leads to the place before
       pub leads-there : length (w .before .order) ≡ 16 → leadsBack (wayIn (g .indices) a (step a)) (w .before) ≡ true
-          → (b : Simplex) × (beforeOf (shape g) (w .before) ≡ some b) × (wayOf q (step a) ≡ link b)
+          → (b : Simplex) × (beforeOf (shape g) (w .before) ≡ some b) × (wayMade q (step a) ≡ link b)
       leads-there long z = go (step a) refl z
         where
           go : (after : After) → step a ≡ after → leadsBack (wayIn (g .indices) a after) (w .before) ≡ true
-              → (b : Simplex) × (beforeOf (shape g) (w .before) ≡ some b) × (wayOf q after ≡ link b)
+              → (b : Simplex) × (beforeOf (shape g) (w .before) ≡ some b) × (wayMade q after ≡ link b)
           go (goes e) x z =
               let f = R .fits .moves e x in
               let same : w .before ≡ keptAs (g .indices) (e .first) (e .order) (length (e .order)) = sym
@@ -261,7 +261,7 @@ module _ {g : GridStruct} {w : WalkStruct} {labels first list order marks : List
 
       pub leads-elsewhere : length (w .before .order) ≡ 16 → leadsBack (wayIn (g .indices) a (step a)) (w .before)
           ≡ false → (b : Simplex)
-          → beforeOf (shape g) (w .before) ≡ some b → wayOf q (step a) ≡ link b → ⊥
+          → beforeOf (shape g) (w .before) ≡ some b → wayMade q (step a) ≡ link b → ⊥
       leads-elsewhere long z b is = go (step a) refl z
         where
           held-b : placeOf (shape g) (w .before) ≡ b
@@ -269,7 +269,7 @@ module _ {g : GridStruct} {w : WalkStruct} {labels first list order marks : List
               (true-or-false (samePlace (w .before) nowhere))
 
           go : (after : After) → step a ≡ after → leadsBack (wayIn (g .indices) a after) (w .before) ≡ false →
-              wayOf q after ≡ link b → ⊥
+              wayMade q after ≡ link b → ⊥
           go (endsAtPlace d k) x z v = absurd-bool (cc)
           go (endsAtFacet d k) x z v = absurd-bool (cc)
           go (goes e) x z v =
@@ -335,11 +335,12 @@ module _ {g : GridStruct} {w : WalkStruct} {labels first list order marks : List
       unfolding nextAs front
       facet-told d k e z = rw (z, e, m-is, long-points (pointIn q a) 1 (suc (length o) - 1))
 
-      pub told-is : nextOf walk labels ≡ byWay (wayOf q (step a) ∷ []) → toldAs g told-state
+      pub told-is : nextOf walk labels ≡ byWay (wayMade q (step a) ∷ []) → toldAs g told-state
           (wayIn (g .indices) a (step a)) ≡ nextIn g w labels
       told-is z = go (step a) refl z
         where
-          go : (after : After) → step a ≡ after → nextOf walk labels ≡ byWay (wayOf q after ∷ []) → toldAs g told-state
+          go : (after : After) → step a ≡ after → nextOf walk labels ≡ byWay (wayMade q after ∷ [])
+              → toldAs g told-state
               (wayIn (g .indices) a after) ≡ nextIn g w labels
           go (goes e) x z = moved-told e x z
           go (endsAtPlace d k) x z = place-told d k (R .fits .place d k x .0) z

@@ -27,7 +27,7 @@ use Rattle.walks.specs.Walk.{Walk}
 use Rattle.walk_moves.proofs.Carried.{points-long}
 use Rattle.walk_moves.proofs.Next.{back-unknown, from-v, neither, not-back-unknown, onward-a, onward-b, start-with-one}
 use Rattle.walk_moves.proofs.Next.{unknown-v, without-one}
-use Rattle.walk_moves.specs.Lent.{wayOf}
+use Rattle.walk_moves.specs.Lent.{wayMade}
 use Rattle.walk_ways.proofs.Chosen.{leads-elsewhere, leads-there, lent, long-o, o, ok, only-unknown, p, q}
 use Rattle.walk_ways.proofs.Chosen.{stateAs, tried-back, tried-on, y}
 use Rattle.walk_ways.specs.Standing.{IsRoundOf, Standing, leadsBack}
@@ -72,7 +72,7 @@ module _ {g : GridStruct} {w : WalkStruct} {labels first list order marks : List
 
     pub start-on : {previous next sizes : List ℕ} (N : IsRoundOf g previous next sizes) → samePlace (w .before) nowhere
         ≡ true → unknown ≡ false
-        → nextOf walk labels ≡ byWay (wayOf (q S N) (step (stateAs S N 1)) ∷ [])
+        → nextOf walk labels ≡ byWay (wayMade (q S N) (step (stateAs S N 1)) ∷ [])
     start-on N f v = from-v walk labels (ok S) (y S) (o S) S.present S.place S.counted (known-all v) (long-o S ∙ e)
         (rw f) (stateAs S N 1) (lent S N 1) (omega (arith, S .low)) (omega arith)
 
@@ -97,13 +97,13 @@ module _ {g : GridStruct} {w : WalkStruct} {labels first list order marks : List
         (f .0) (f .1) staying leaving (lent S N 1) (lent S N 6) refl refl
         (omega arith) (omega arith) (unknown-label v) (f .2)
 
-    pub other-on : back 6 ≡ true → unknown ≡ false → nextOf walk labels ≡ byWay (wayOf (q S N) (step staying) ∷ [])
+    pub other-on : back 6 ≡ true → unknown ≡ false → nextOf walk labels ≡ byWay (wayMade (q S N) (step staying) ∷ [])
     other-on z v = let f = leads-there S N 6 (tried-back S N k e 6 (omega arith)) long z in
         onward-a walk labels (ok S) (y S) (o S) S.present S.place S.counted k (long-o S ∙ e) point low S.spare (f .0)
         (f .1) staying leaving (lent S N 1) (lent S N 6) refl refl
         (omega arith) (omega arith) (known-all v) (f .2)
 
-    pub other-back : back 1 ≡ true → unknown ≡ false → nextOf walk labels ≡ byWay (wayOf (q S N) (step leaving) ∷ [])
+    pub other-back : back 1 ≡ true → unknown ≡ false → nextOf walk labels ≡ byWay (wayMade (q S N) (step leaving) ∷ [])
     other-back z v = let f = leads-there S N 1 (tried-on S N k e 1 (omega arith)) long z in
         onward-b walk labels (ok S) (y S) (o S) S.present S.place S.counted k (long-o S ∙ e) point low S.spare (f .0)
         (f .1) staying leaving (lent S N 1) (lent S N 6) refl refl

@@ -13,7 +13,7 @@ use Rattle.combinatorics.specs.Lists.{upFrom}
 use Rattle.rules.proofs.SameMasks.{same-mask}
 use Rattle.rules.proofs.Masks.{bit-and}
 use Rattle.rules.specs.Mask.{bit}
-use Rattle.walk_ways.specs.Ways.{alike, within}
+use Rattle.walk_ways.specs.Ways.{alike, maskWithin}
 
 beq-is : (a b : Bool) → Bool·beq a b ≡ true → a ≡ b
 beq-is true true e = refl
@@ -48,15 +48,15 @@ is-or : (a b : Bool) → (a ≡ true → b ≡ true) → (not a || b) ≡ true
 is-or true b h = h refl
 is-or false b h = refl
 
-pub within-of : (a b : ℕ) → ((k : ℕ) → k < 16 → bit a k ≡ true → bit b k ≡ true) → within a b ≡ true
-unfolding within
+pub within-of : (a b : ℕ) → ((k : ℕ) → k < 16 → bit a k ≡ true → bit b k ≡ true) → maskWithin a b ≡ true
+unfolding maskWithin
 within-of a b h = in-all onNumbers
     (λ k. not (bit a k) || bit b k)
     (upFrom 0 16)
     (λ k m. is-or _ _ (h k (omega (arith, upFrom-in 0 16 k m .1))))
 
-pub of-within : (a b : ℕ) → within a b ≡ true → (k : ℕ) → k < 16 → bit a k ≡ (bit a k && bit b k)
-unfolding within
+pub of-within : (a b : ℕ) → maskWithin a b ≡ true → (k : ℕ) → k < 16 → bit a k ≡ (bit a k && bit b k)
+unfolding maskWithin
 of-within a b e k l = or-is _ _
     (all-in onNumbers (λ k. not (bit a k) || bit b k) (upFrom 0 16) e k (in-upFrom 0 16 k (omega arith) (omega arith)))
 
@@ -69,8 +69,8 @@ and-true : (a b : Bool) → a ≡ (a && b) → a ≡ true → b ≡ true
 and-true true b e q = sym e
 and-true false b e q = absurd-bool (sym q)
 
-pub and-within : (a b : ℕ) → a < 65536 → eqb (bitAnd a b) a ≡ within a b
-and-within a b la = both (eqb (bitAnd a b) a) (within a b)
+pub and-within : (a b : ℕ) → a < 65536 → eqb (bitAnd a b) a ≡ maskWithin a b
+and-within a b la = both (eqb (bitAnd a b) a) (maskWithin a b)
     (λ e. within-of a b (λ k l t.
     and-true (bit a k) (bit b k) (ap (λ (x : ℕ). bit x k) (sym (eqb-true (bitAnd a b) a e)) ∙ bit-and a b k) t))
     (λ e. eq-eqb (bitAnd a b) a

@@ -17,7 +17,7 @@ use Rattle.rules.specs.Mask.{bit}
 use Rattle.trail.specs.Change.{ByRule, Change, change, changeBy, outside, rule1, rule2, rule3, rule4, rule5, rule6}
 use Rattle.trail.specs.Change.{rule7}
 use Rattle.walk_ways.proofs.MaskTests.{alike-of, of-alike, of-within, within-of}
-use Rattle.walk_ways.specs.Ways.{alike, ruleFrom, within}
+use Rattle.walk_ways.specs.Ways.{alike, ruleFrom, maskWithin}
 
 -- a mask of a set
 pub record MaskOf (a : ℕ) (u : List ℕ) : Type 0 where
@@ -42,14 +42,14 @@ module _ {a b : ℕ} {u v : List ℕ} (A : MaskOf a u) (B : MaskOf b v) where
       ∙ both (isIn eqb k u) (isIn eqb k v) (within-other u v f k) (within-other v u e k)
       ∙ sym (B .bits k l))
 
-  gained : (h : ℕ) → outside eqb u v ≡ h ∷ [] → outside eqb v u ≡ [] → (alike a b ≡ false) × (within a b ≡ true)
+  gained : (h : ℕ) → outside eqb u v ≡ h ∷ [] → outside eqb v u ≡ [] → (alike a b ≡ false) × (maskWithin a b ≡ true)
   gained h e f =
       let w = one-outside v u h e in let l = B .below h w.0 in (
         false-of _ (λ q. absurd-bool (sym (B .bits h l ∙ w .0) ∙ sym (of-alike a b q h l) ∙ A .bits h l ∙ w .1)),
         within-of a b (λ k m t. B .bits k m ∙ within-other u v f k (sym (A .bits k m) ∙ t)),
       )
 
-  lost : (h : ℕ) → outside eqb u v ≡ [] → outside eqb v u ≡ h ∷ [] → (alike a b ≡ false) × (within a b ≡ false)
+  lost : (h : ℕ) → outside eqb u v ≡ [] → outside eqb v u ≡ h ∷ [] → (alike a b ≡ false) × (maskWithin a b ≡ false)
   lost h e f =
       let w = one-outside u v h f in let l = A .below h w.0 in
       let x : bit a h ≡ true = A .bits h l ∙ w .0 in let y : bit b h ≡ false = B .bits h l ∙ w .1 in (

@@ -9,7 +9,8 @@ use Rattle.moves.specs.declared.Outcome.{Outcome}
 use Rattle.moves.specs.declared.Outcome.the-variants.{FacetEnd, Moved, PlaceEnd}
 use Rattle.moves.specs.declared.Status.{Status}
 use Rattle.rules.specs.Step.{Round, State, goes, step}
-use Rattle.walk_places.specs.Walks.{keptAs, nowhere, padded}
+use Rattle.combinatorics.specs.Front.{padded}
+use Rattle.walk_places.specs.Walks.{keptAs, nowhere}
 use Rattle.walk_ways.specs.Ways.{CanTry, ruleFrom, wayIn}
 use Rattle.walk_ways.specs.declared.Leads.{Leads}
 use Rattle.walk_ways.specs.declared.Leads.the-variants.{FacetEnd as ToFacet, Onto, PlaceEnd as ToPlace}

@@ -5,13 +5,14 @@ use mathlib.Core.List.{List, []}
 use Prim.Native.Nat.{ℕ, _+_}
 use lib.ListN.{length}
 use Rattle.combinatorics.specs.Lists.{concatMap}
+use Rattle.combinatorics.specs.Front.{padded}
 use Rattle.grid.specs.Grid.{Grid}
 use Rattle.place.specs.LabelsRead.{pointCameIn}
 use Rattle.place.specs.Places.{Simplex}
 use Rattle.place.specs.Problem.{Problem}
 use Rattle.walks.specs.Next.{Outcome, ended, moved, refused, ruleOf}
 use Rattle.walks.specs.Walk.{Walk, labelsOf, over}
-use Rattle.walk_places.specs.Walks.{nowhere, padded, placeOf, stored}
+use Rattle.walk_places.specs.Walks.{nowhere, placeOf, stored}
 use Rattle.walk_places.specs.declared.Place.{Place}
 use Rattle.walk_places.specs.declared.Walk.{Walk as WalkStruct}
 use Rattle.walk_ways.specs.declared.Answer.{Answer}
@@ -24,10 +25,10 @@ answerOf rule (refused number) = Refused number
 answerOf rule (ended kind block simplex) = Ended kind block (length simplex)
 answerOf rule (moved s) = Moved (rule s)
 
-abbrev pub numbersOf : Outcome Simplex → List ℕ
-numbersOf (refused number) = []
-numbersOf (ended kind block simplex) = concatMap (λ y. y) simplex
-numbersOf (moved s) = []
+abbrev pub outcomeNumbers : Outcome Simplex → List ℕ
+outcomeNumbers (refused number) = []
+outcomeNumbers (ended kind block simplex) = concatMap (λ y. y) simplex
+outcomeNumbers (moved s) = []
 
 abbrev pub placeAfter : Grid → Outcome Simplex → Place
 placeAfter g (refused number) = nowhere
@@ -38,7 +39,7 @@ placeAfter g (moved s) = stored g s
 unfoldable pub nextAs : Walk → List ℕ → Outcome Simplex → Next
 nextAs w labels n = record {
   answer = answerOf (ruleOf (over w labels) (w .present)) n;
-  simplex = padded 256 (numbersOf n);
+  simplex = padded 256 (outcomeNumbers n);
   place = placeAfter (w .grid) n;
 }
 

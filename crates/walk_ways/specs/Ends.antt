@@ -10,7 +10,8 @@ use Rattle.grid.specs.declared.Grid.{Grid as GridStruct}
 use Rattle.place_points.specs.Room.{CanPut}
 use Rattle.rules.specs.Read.{numbersFrom}
 use Rattle.rules.specs.Step.{State}
-use Rattle.walk_places.specs.Walks.{nowhere, padded}
+use Rattle.combinatorics.specs.Front.{padded}
+use Rattle.walk_places.specs.Walks.{nowhere}
 use Rattle.walk_ways.specs.declared.Answer.the-variants.{Ended, Moved, Refused}
 use Rattle.walk_ways.specs.declared.Leads.{Leads}
 use Rattle.walk_ways.specs.declared.Leads.the-variants.{FacetEnd, Onto, PlaceEnd}
@@ -36,6 +37,6 @@ leadsAs g a place (FacetEnd h) = endAs g a facetEnd h 1
 abbrev pub toldAs : GridStruct → State → Way → Next
 toldAs g a w = leadsAs g a (w .place) (w .leads)
 
-pub record CanTell (g : GridStruct) (a : State) (w : Way) : Type 0 where
+pub record CanTellEnd (g : GridStruct) (a : State) (w : Way) : Type 0 where
   pub place : (h : ℕ) → w .leads ≡ PlaceEnd h → (h < g .indices) × CanPut a (g .indices) 0 256
   pub facet : (h : ℕ) → w .leads ≡ FacetEnd h → (h < g .indices) × CanPut a (g .indices) 1 256

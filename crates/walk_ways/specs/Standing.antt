@@ -35,8 +35,8 @@ abbrev pub nextIn : GridStruct → WalkStruct → List ℕ → Next
 nextIn g w labels = nextAs (walkOn (shape g) w) labels (nextOf (walkOn (shape g) w) labels)
 
 -- the points that a first point and an order keep
-abbrev pub pointsOn : GridStruct → List ℕ → List ℕ → ℕ → Simplex
-pointsOn g first order n = keptPoints (shape g) (take (g .indices) first) (take n order)
+abbrev pub pointsKept : GridStruct → List ℕ → List ℕ → ℕ → Simplex
+pointsKept g first order n = keptPoints (shape g) (take (g .indices) first) (take n order)
 
 abbrev pub isOnto : Leads → Bool
 isOnto (Onto rule) = true
@@ -62,16 +62,17 @@ pub record Standing (g : GridStruct) (w : WalkStruct) (labels first list order m
   pub listLong : length list ≡ 16
   pub orderLong : length order ≡ 16
   pub marksLong : length marks ≡ 16
-  pub present : placeOf (shape g) (w .present) ≡ pointsOn g first order n
-  pub place : isPlace (tableOn g w labels) (pointsOn g first order n) ≡ true
+  pub present : placeOf (shape g) (w .present) ≡ pointsKept g first order n
+  pub place : isPlace (tableOn g w labels) (pointsKept g first order n) ≡ true
   pub inT : (k : ℕ) → k < 16 → bit t k ≡ isIn eqb k (take n order)
   pub inU : (k : ℕ) → k < 16 → bit u k ≡ isIn eqb k (zeroOutside (shape g) (take n order) (take (g .indices) first))
   pub listAt : (k : ℕ) → k < numIndices (shape g) → at list k ≡ at
       (coefficients (tableOn g w labels) (take (g .indices) first)) k
   pub low : point ≤ n
-  pub spare : Spare (tableOn g w labels) (pointsOn g first order n) (take n order) point
-  pub unknownIs : unknown ≡ eqb (label (tableOn g w labels) (getD (pointsOn g first order n) point [])) 0
+  pub spare : Spare (tableOn g w labels) (pointsKept g first order n) (take n order) point
+  pub unknownIs : unknown ≡ eqb (label (tableOn g w labels) (getD (pointsKept g first order n) point [])) 0
   pub marked : (j : ℕ) → j ≤ n
-      → at marks j ≡ markOf (tableOn g w labels) (getD (pointsOn g first order n) j []) + cond (unknown && eqb j point)
+      → at marks j ≡ markOf (tableOn g w labels) (getD (pointsKept g first order n) j []) + cond
+      (unknown && eqb j point)
       1 0
   pub counted : Counted (walkOn (shape g) w) labels

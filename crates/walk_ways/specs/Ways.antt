@@ -14,14 +14,14 @@ use Rattle.walk_ways.specs.declared.Way.{Way}
 unfoldable pub alike : ℕ → ℕ → Bool
 alike a b = all (λ k. Bool·beq (bit a k) (bit b k)) (upFrom 0 16)
 
-unfoldable pub within : ℕ → ℕ → Bool
-within a b = all (λ k. not (bit a k) || bit b k) (upFrom 0 16)
+unfoldable pub maskWithin : ℕ → ℕ → Bool
+maskWithin a b = all (λ k. not (bit a k) || bit b k) (upFrom 0 16)
 
 -- the rule by which T and U change to T' and U', as masks
 unfoldable pub ruleFrom : ℕ → ℕ → ℕ → ℕ → ℕ
 ruleFrom T U T' U' =
-    cond (alike T T') (cond (alike U U') 1 (cond (within U U') 2 3))
-    (cond (within T T') (cond (alike U U') 4 5) (cond (alike U U') 7 6))
+    cond (alike T T') (cond (alike U U') 1 (cond (maskWithin U U') 2 3))
+    (cond (maskWithin T T') (cond (alike U U') 4 5) (cond (alike U U') 7 6))
 
 -- the state after the move fits its arrays
 pub record CanTry (a : State) : Type 0 where

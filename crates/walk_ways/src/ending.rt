@@ -8,7 +8,7 @@ ghost use Rattle.grid.specs.Made.{IsMade};
 ghost use Rattle.moves.specs.Held.{stateOf};
 ghost use Rattle.place_points.specs.Room.{CanPut};
 ghost use Rattle.rules.specs.Step.{State};
-ghost use Rattle.walk_ways.specs.Ends.{endAs, refusedAs, toldAs, CanTell};
+ghost use Rattle.walk_ways.specs.Ends.{endAs, refusedAs, toldAs, CanTellEnd};
 use crate::Answer;
 use crate::Leads;
 use crate::Next;
@@ -77,7 +77,7 @@ pub fn told(
 ) -> Next
     ghost { State }
     requires { λ a. ⌜ stateOf (roundBack previous sizes) (now first) [] (now order) [] s ≡ a ⌝ }
-    requires { λ a. ⌜ IsMade g × CanTell g a way × (length (a .order) ≡ s .count) ⌝ }
+    requires { λ a. ⌜ IsMade g × CanTellEnd g a way × (length (a .order) ≡ s .count) ⌝ }
     ensures { λ a r. ⌜ r ≡ toldAs g a way ⌝ }
 {
     let leads = way.leads;

@@ -40,7 +40,7 @@ use Rattle.path_laws.proofs.FromChain.{place-of}
 use Rattle.path_laws.proofs.Meaning.{index-means}
 use Rattle.path_laws.proofs.Positions.{at-distinct, at-in, in-at, same-at}
 use Rattle.path_laws.proofs.ToChain.{coefficientsOf, free-index, is-at, labelOf, labels-in, pointsOf-coefficientsOf}
-use Rattle.path_laws.specs.Demand.{Settled}
+use Rattle.path_laws.specs.Demand.{HasStart}
 use Rattle.walks.specs.Kept.{canStep, isKept, keptPoints, pointsBy, stepped, zeroOutside}
 
 module _ (p : Problem) where
@@ -82,7 +82,7 @@ module _ (p : Problem) where
   zero-stays u h y k l z n = let w : unit h k ≡ 0 = rw (ne-eqb k h n) in omega (arith, at-stepped u h y k l)
 
 -- the steps from the first point on
-module _ {p : Problem} (ok : Settled p) (y : Point) (o : List ℕ) (grid-y : isGridPoint p.grid y ≡ true) where
+module _ {p : Problem} (ok : HasStart p) (y : Point) (o : List ℕ) (grid-y : isGridPoint p.grid y ≡ true) where
   abbrev u : List ℕ
   u = zeroOutside p.grid o y
 
@@ -308,7 +308,7 @@ conditions-of p y o h =
       can = and-right (a && (b && c) && d && e) f h;
     }
 
-module _ {p : Problem} (ok : Settled p) (y : Point) (o : List ℕ) (k : Conditions p y o) where
+module _ {p : Problem} (ok : HasStart p) (y : Point) (o : List ℕ) (k : Conditions p y o) where
   is-y : IsCoefficients p y (coefficients p y)
   is-y = coefficientOf-is ok y k.onGrid
 

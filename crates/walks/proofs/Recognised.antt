@@ -24,7 +24,7 @@ use Rattle.path_laws.proofs.IndexSets.{goes-at, no-empty, order-within, T-not-U
 use Rattle.path_laws.proofs.LinkSymmetry.{parts}
 use Rattle.path_laws.proofs.Local.{unlabelled-same}
 use Rattle.path_laws.proofs.Meaning.{index-means, labels-mean, U-means}
-use Rattle.path_laws.specs.Demand.{Settled}
+use Rattle.path_laws.specs.Demand.{HasStart}
 use Rattle.trail.proofs.Tables.{Names, settled-with, some-index, some-table, table, table-labels}
 use Rattle.walks.proofs.KeptForm.{back-same, grid-long, labelled, meets, order-is}
 use Rattle.walks.proofs.KeptPlace.{Conditions, at-stepped, conditions-of, distinct-points, is-zero, kept-place}
@@ -52,7 +52,7 @@ of-conditions p y o k =
         (true-or-false t)
 
 -- a first point and an order are a place exactly if they meet the conditions and the indices of the order are labels
-pub recognised : {p : Problem} → Settled p → (y : Point) (o : List ℕ)
+pub recognised : {p : Problem} → HasStart p → (y : Point) (o : List ℕ)
     → isPlace p (keptPoints p.grid y o) ≡ (isKept p y o && within o (labelSet p (keptPoints p.grid y o)))
 recognised {p} ok y o =
     let s = keptPoints p.grid y o in
@@ -68,7 +68,7 @@ unfolding isKept coefficients
 kept-same-labels p labels y o = refl
 
 -- labels for the points, by the order
-module _ {p : Problem} (ok : Settled p) (y : Point) (o : List ℕ) (k : Conditions p y o) where
+module _ {p : Problem} (ok : HasStart p) (y : Point) (o : List ℕ) (k : Conditions p y o) where
   abbrev s : Simplex
   s = keptPoints p.grid y o
 
@@ -102,7 +102,7 @@ module _ {p : Problem} (ok : Settled p) (y : Point) (o : List ℕ) (k : Conditio
       sym (unlabelled-same p (table p.grid s ls) s) ∙ and-left (isUnlabelledPlace q s) _ (kept-place okq y o kq w)
 
 -- they are a place over some table exactly if they meet the conditions
-pub shape-recognised : {p : Problem} → Settled p → (y : Point) (o : List ℕ)
+pub shape-recognised : {p : Problem} → HasStart p → (y : Point) (o : List ℕ)
     → isUnlabelledPlace p (keptPoints p.grid y o) ≡ isKept p y o
 shape-recognised {p} ok y o =
     both (isUnlabelledPlace p (keptPoints p.grid y o)) (isKept p y o)
@@ -158,7 +158,7 @@ module _ (p : Problem) where
       ap (λ (l : Simplex). z ∷ l) (rw q (rebuilt u v same x r rest (goes-later v z x r e)))
 
 -- every place is kept by its first point and its order,
-pub kept-every : {p : Problem} → Settled p → (s : Simplex) → isPlace p s ≡ true
+pub kept-every : {p : Problem} → HasStart p → (s : Simplex) → isPlace p s ≡ true
     → keptPoints p.grid (firstOr [] s) (order p.grid s) ≡ s
 kept-every {p} ok [] h = absurd (no-empty p ok.someBlock h)
 kept-every {p} ok (y ∷ r) h =

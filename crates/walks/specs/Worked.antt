@@ -76,8 +76,8 @@ place4 = point3 ∷ point1 ∷ point0 ∷ []
 abbrev pub place5 : Simplex
 place5 = point3 ∷ point1 ∷ []
 
-abbrev pub sheet : List ℕ
-sheet = 2 ∷ 2 ∷ 2 ∷ 4 ∷ []
+abbrev pub sheetLabels : List ℕ
+sheetLabels = 2 ∷ 2 ∷ 2 ∷ 4 ∷ []
 
 abbrev pub ones : List ℕ
 ones = 1 ∷ 1 ∷ 1 ∷ 1 ∷ []
@@ -92,37 +92,38 @@ unknownNext = 2 ∷ 2 ∷ 0 ∷ 4 ∷ []
 abbrev pub table : List Row
 table =
     -- to the end, and once more; back from the last place but one onto {v}, and once more
-    row (on sheet place1 none 1 1) sheet
+    row (on sheetLabels place1 none 1 1) sheetLabels
     (moved 5 ∷ moved 5 ∷ moved 1 ∷ moved 6 ∷ ended facetEnd 1 (point1 ∷ []) ∷ ended facetEnd 1 (point1 ∷ []) ∷ [])
-    (on sheet place5 (some place4) 5 4)
-    ∷ row (on sheet place4 (some place5) 5 2) sheet (moved 1 ∷ moved 6 ∷ moved 6 ∷ refused 20 ∷ [])
-    (on sheet place1 (some place2) 8 3)
+    (on sheetLabels place5 (some place4) 5 4)
+    ∷ row (on sheetLabels place4 (some place5) 5 2) sheetLabels (moved 1 ∷ moved 6 ∷ moved 6 ∷ refused 20 ∷ [])
+    (on sheetLabels place1 (some place2) 8 3)
     -- the count is asked to be from 1 to the bound, 68, and no more; the labels read from 1 to the count, and no more
-    ∷ row (on sheet place1 none 7 7) sheet (moved 5 ∷ []) (on sheet place2 (some place1) 8 8)
-    ∷ row (on sheet place4 (some place3) 68 1) sheet (moved 6 ∷ refused 20 ∷ []) (on sheet place5 (some place4) 69 1)
-    ∷ rowRefused (on sheet place1 none 0 1) sheet 20
-    ∷ rowRefused (on sheet place2 (some place1) 69 1) sheet 20
-    ∷ rowRefused (on sheet place1 none 1 0) sheet 20
-    ∷ rowRefused (on sheet place2 (some place1) 2 3) sheet 20
+    ∷ row (on sheetLabels place1 none 7 7) sheetLabels (moved 5 ∷ []) (on sheetLabels place2 (some place1) 8 8)
+    ∷ row (on sheetLabels place4 (some place3) 68 1) sheetLabels (moved 6 ∷ refused 20 ∷ [])
+    (on sheetLabels place5 (some place4) 69 1)
+    ∷ rowRefused (on sheetLabels place1 none 0 1) sheetLabels 20
+    ∷ rowRefused (on sheetLabels place2 (some place1) 69 1) sheetLabels 20
+    ∷ rowRefused (on sheetLabels place1 none 1 0) sheetLabels 20
+    ∷ rowRefused (on sheetLabels place2 (some place1) 2 3) sheetLabels 20
     -- the one before
-    ∷ rowRefused (on sheet place2 none 2 1) sheet 20
-    ∷ rowRefused (on sheet place1 (some place1) 2 1) sheet 20
-    ∷ rowRefused (on sheet place3 (some place1) 3 1) sheet 20
+    ∷ rowRefused (on sheetLabels place2 none 2 1) sheetLabels 20
+    ∷ rowRefused (on sheetLabels place1 (some place1) 2 1) sheetLabels 20
+    ∷ rowRefused (on sheetLabels place3 (some place1) 3 1) sheetLabels 20
     -- no place: no step, no point, a point twice, an index of T that is no label
-    ∷ rowRefused (on sheet (point3 ∷ point0 ∷ []) (some place1) 2 1) sheet 20
-    ∷ rowRefused (on sheet [] none 1 1) sheet 20
-    ∷ rowRefused (on sheet (point3 ∷ point2 ∷ point2 ∷ []) (some place1) 2 1) sheet 20
+    ∷ rowRefused (on sheetLabels (point3 ∷ point0 ∷ []) (some place1) 2 1) sheetLabels 20
+    ∷ rowRefused (on sheetLabels [] none 1 1) sheetLabels 20
+    ∷ rowRefused (on sheetLabels (point3 ∷ point2 ∷ point2 ∷ []) (some place1) 2 1) sheetLabels 20
     ∷ rowRefused (on ones place2 (some place1) 2 1) ones 20
     -- labels that are not the table's: others, those of other points, too few, and 0 where the table has a label
-    ∷ rowRefused (carrying (2 ∷ []) place1 none 1 1) sheet 20
-    ∷ rowRefused (carrying (2 ∷ 4 ∷ []) place2 (some place1) 2 2) sheet 20
-    ∷ rowRefused (carrying (4 ∷ []) place2 (some place1) 2 2) sheet 20
-    ∷ rowRefused (carrying (4 ∷ 0 ∷ []) place2 (some place1) 2 2) sheet 20
+    ∷ rowRefused (carrying (2 ∷ []) place1 none 1 1) sheetLabels 20
+    ∷ rowRefused (carrying (2 ∷ 4 ∷ []) place2 (some place1) 2 2) sheetLabels 20
+    ∷ rowRefused (carrying (4 ∷ []) place2 (some place1) 2 2) sheetLabels 20
+    ∷ rowRefused (carrying (4 ∷ 0 ∷ []) place2 (some place1) 2 2) sheetLabels 20
     -- a label 0 in the present place, behind 20 and behind 7; one that comes in
     ∷ rowRefused (on unknownStart place1 none 1 1) unknownStart 16
     ∷ rowRefused (on unknownNext place2 (some place3) 2 1) unknownNext 20
     ∷ rowRefused (carrying (4 ∷ 2 ∷ []) place2 (some place1) 2 2) unknownNext 20
-    ∷ rowRefused (on sheet (point3 ∷ point0 ∷ []) none 0 1) (5 ∷ 2 ∷ 2 ∷ 4 ∷ []) 7
+    ∷ rowRefused (on sheetLabels (point3 ∷ point0 ∷ []) none 0 1) (5 ∷ 2 ∷ 2 ∷ 4 ∷ []) 7
     ∷ row (on unknownNext place1 none 1 1) unknownNext (moved 5 ∷ refused 16 ∷ [])
     (on unknownNext place2 (some place1) 2 2)
     ∷ []

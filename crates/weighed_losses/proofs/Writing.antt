@@ -17,7 +17,7 @@ use Rattle.losses.specs.Game.{product}
 use Rattle.losses.specs.Table.{IsTable}
 use Rattle.weighed_losses.proofs.Blends.{blend-agree}
 use Rattle.weighed_losses.proofs.Levels.{own-behind, behind-few, begin-is, levelled-start}
-use Rattle.weighed_losses.specs.Levels.{blend, behind, lossesBegin, levelled, place, weighedAt, Stand, Apart}
+use Rattle.weighed_losses.specs.Levels.{blend, behind, lossesBegin, levelled, place, weighedAt, Stand, Spaced}
 use Rattle.weighed_losses.specs.Levels.{TableToWeigh, Written}
 
 pub written-start : (old : List ℕ) (to : ℕ) (f : ℕ → ℕ) → Written old to 0 f old
@@ -62,7 +62,7 @@ module _ (mix old : List ℕ) (from to rest : ℕ) (t : TableToWeigh mix old fro
   pub lent-sum : blend mix (λ k. at lentPart (k * rest)) ≡ weighedAt mix old from rest e
   lent-sum = blend-agree mix _ _ lent-at
 
-  pub lent-apart : Apart mix lentPart rest
+  pub lent-apart : Spaced mix lentPart rest
   lent-apart = record {
     two = t .two;
     inside = λ k b. simp (length-take, length-drop) (omega (arith, number-before k b, t .inside));

@@ -67,7 +67,7 @@ pub record Written (old : List ℕ) (to n : ℕ) (f : ℕ → ℕ) (new : List �
   pub kept : (i : ℕ) → i < to → at new i ≡ at old i
 
 -- the numbers that stand step apart, one for each number of the mix, and their sum fits
-pub record Apart (mix values : List ℕ) (step : ℕ) : Type 0 where
+pub record Spaced (mix values : List ℕ) (step : ℕ) : Type 0 where
   pub two : 2 ≤ length mix
   pub inside : (k : ℕ) → k < length mix → k * step < length values
   pub fits : blend mix (λ k. at values (k * step)) < 4294967296

@@ -3,13 +3,13 @@ ghost use mathlib.Core.Path.{_≡_};
 ghost use Prim.Native.Nat.{_+_, _*_, _≤_};
 ghost use lib.ListN.{length};
 ghost use Rattle.grid.specs.Grid.{at};
-ghost use Rattle.weighed_losses.specs.Levels.{blend, weighedAt, Apart, TableToWeigh, Written};
+ghost use Rattle.weighed_losses.specs.Levels.{blend, weighedAt, Spaced, TableToWeigh, Written};
 use losses::long;
 
 // The sum of the mix's numbers times the values that stand step apart. There are at least two, and mostly no more:
 // those are added without a loop.
 fn dot_apart(mix: &[u16], values: &[u32], step: usize) -> u32
-    requires { ⌜ Apart (now mix) (now values) step ⌝ }
+    requires { ⌜ Spaced (now mix) (now values) step ⌝ }
     ensures { λ r. ⌜ r ≡ blend (now (mix .entry)) (λ k. at (now (values .entry)) (k * step)) ⌝ }
 {
     let mut total = long(mix[0]) * values[0] + long(mix[1]) * values[step];

@@ -10,7 +10,7 @@ use Rattle.simplices.specs.Simplices.{verdict}
 use Rattle.chains.specs.Listed.{listed}
 use Rattle.checker.proofs.Answers.{refused-grid, refused-list, judged-is, passed-labels, passed-list}
 use Rattle.checker.proofs.ListRefusals.{some-index}
-use Rattle.checker.specs.Check.{pointsOf, listQuestions, caseOf}
+use Rattle.checker.specs.Check.{listedPoints, listQuestions, checkCase}
 use borrow.Author.Needs.{needs}
 use Rattle.checker.proofs.check.Statement.{statement}
 use Rattle.checker.proofs.check.Tie as tie
@@ -75,8 +75,8 @@ returns-3 c =
     ∙ sym (c .before .before .first-no .ensures)
     ∙ c .before .if2 .left in
     c .judged .ensures
-    ∙ ap (λ (m : ℕ). caseOf (verdict (shape s) labels (listed m (length numbers / m) numbers))) (made-indices s made)
-    ∙ ap (λ (h : Grid). caseOf (verdict h labels (pointsOf h numbers))) same
+    ∙ ap (λ (m : ℕ). checkCase (verdict (shape s) labels (listed m (length numbers / m) numbers))) (made-indices s made)
+    ∙ ap (λ (h : Grid). checkCase (verdict h labels (listedPoints h numbers))) same
     ∙ judged-is G labels numbers (sym (made-code G (n .result) (n .ensures)) ∙ zero) none
 
 pub check-spec : {M : Type 1} → statement M

@@ -2,7 +2,7 @@
 use mathlib.Core.Path.{sym, ap, _∙_}
 use borrow.Author.Tests.{not-true, not-false}
 use Rattle.checker.proofs.Answers.{verdict-no, verdict-covered}
-use Rattle.checker.specs.Check.{caseOf}
+use Rattle.checker.specs.Check.{checkCase}
 use borrow.Author.Needs.{needs}
 use Rattle.checker.proofs.judged.Statement.{statement}
 use Rattle.checker.proofs.judged.Tie as tie
@@ -13,7 +13,7 @@ one-chain-requires c κs = search needs
 returns : tie.Need-returns
 returns c =
     let b = c .before .before .before .before in
-    ap caseOf (verdict-no (b .pre .0) (b .pre .2) (b .args .labels .now)
+    ap checkCase (verdict-no (b .pre .0) (b .pre .2) (b .args .labels .now)
     (sym (c .before .one-chain .ensures) ∙ not-true _ (c .if1 .taken)))
 
 binomials-requires : tie.Need-binomials-requires
@@ -29,7 +29,7 @@ returns-2 : tie.Need-returns-2
 returns-2 c =
     let b = c .before .before .before .before .before .before .before .before .before in
     c .first-whole .ensures
-    ∙ ap caseOf (verdict-covered (b .pre .0) (b .pre .2) (b .args .labels .now) (c .before .covered .result)
+    ∙ ap checkCase (verdict-covered (b .pre .0) (b .pre .2) (b .args .labels .now) (c .before .covered .result)
     (sym (c .before .before .before .before .before .before .one-chain .ensures)
     ∙ not-false _ (c .before .before .before .before .before .if1 .left))
     (c .before .covered .ensures))

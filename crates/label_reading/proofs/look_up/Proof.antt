@@ -6,7 +6,7 @@ use lib.ListN.{length-set}
 use native.Mathlib.Omega.{arith}
 use Rattle.arrays.specs.Rounds.{roundOf}
 use Rattle.path_walk.proofs.Visits.{marked-known, unknown-zero}
-use Rattle.marks.specs.Reading.{tableOf}
+use Rattle.marks.specs.Reading.{tableProblem}
 use Rattle.label_reading.proofs.Places.{looked-none, looked-some}
 use borrow.Author.Needs.{needs}
 use Rattle.label_reading.proofs.look_up.Statement.{statement}
@@ -48,7 +48,7 @@ returns-2 c =
     let m = c .before .reading2 .given in
     let e = marked-known _ _ (sym (c .before .before .before .mark-in .ensures) ∙ m .1) in (
       (λ _. e .0),
-      looked-some (tableOf (a .g) (a .table .now)) (roundOf (a .previous .now) [] (a .sizes .now)) (a .first .now)
+      looked-some (tableProblem (a .g) (a .table .now)) (roundOf (a .previous .now) [] (a .sizes .now)) (a .first .now)
           (a .coefficients .now) (a .order .now) (a .marks .now) (a .s) (m .0 .0)
           (c .before .before .before .before .before .if1 .taken) (omega (arith, can .reads .point .low, can .many))
           (e .1),
@@ -60,7 +60,7 @@ returns-3 : tie.Need-returns-3
 returns-3 c =
     let a = c .before .before .before .args in (
       (λ r. absurd (omega (arith, c .if1 .left))),
-      looked-none (tableOf (a .g) (a .table .now)) (roundOf (a .previous .now) [] (a .sizes .now)) (a .first .now)
+      looked-none (tableProblem (a .g) (a .table .now)) (roundOf (a .previous .now) [] (a .sizes .now)) (a .first .now)
           (a .coefficients .now) (a .order .now) (a .marks .now) (a .s) (c .if1 .left),
       c .before .before .before .pre .0 .1,
     )

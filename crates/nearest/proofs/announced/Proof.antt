@@ -21,7 +21,7 @@ use Rattle.grid.specs.Grid.{position}
 use Rattle.grid.specs.Made.{shape}
 use Rattle.marks.specs.Reading.{problemFrom}
 use Rattle.moves.specs.Held.{stateOf}
-use Rattle.nearest.specs.Report.{listedIn, nearestIn}
+use Rattle.nearest.specs.Report.{listedBy, nearestIn}
 use Rattle.nearest.specs.declared.Nearest.{Nearest}
 use Rattle.nearest.specs.declared.Nearest.the-variants.{Vertex}
 use Rattle.nearest.specs.declared.Report.{Report}
@@ -236,7 +236,7 @@ returns-3 c =
             (A .0)),
         subst
             (λ (l : List ℕ). take (length l) (found w) ≡ l)
-            (ap (listedIn (problem w) (a .w .now) (a .given)) (sym (A .0 .is)))
+            (ap (listedBy (problem w) (a .w .now) (a .given)) (sym (A .0 .is)))
             (ap (take (length (positionsWithin (problem w) (a .w .now) (a .given)))) list
             ∙ front-taken (positionsWithin (problem w) (a .w .now) (a .given)) (a .found .now)),
       ),

@@ -7,7 +7,7 @@ use Rattle.grid.specs.Grid.{Grid}
 use Rattle.place.specs.Problem.{Problem, problemOf}
 use Rattle.finder.proofs.Refusals.{same-problem}
 use Rattle.nearest.proofs.Refusals.{by-grid, refused}
-use Rattle.nearest.specs.Report.{answerBuffer, listBuffer, reportOf}
+use Rattle.nearest.specs.Report.{nearAnswerBuffer, listBuffer, reportOf}
 use borrow.Author.Needs.{needs}
 use Rattle.nearest.proofs.run.Statement.{statement}
 use Rattle.nearest.proofs.run.Tie as tie
@@ -60,7 +60,7 @@ returns-2 c =
       (
         w .1 .0
             ∙ ap
-            (λ (p : Problem). answerBuffer p (a .w .now) (length (a .list .now)) (a .budget) (a .answer .now))
+            (λ (p : Problem). nearAnswerBuffer p (a .w .now) (length (a .list .now)) (a .budget) (a .answer .now))
             same,
         w .1 .1
             ∙ ap

@@ -16,7 +16,7 @@ use Rattle.place.specs.Path.{answer}
 use Rattle.place.specs.Problem.{Problem}
 use Rattle.path_laws.specs.Demand.{Accepted}
 use Rattle.nearest.proofs.Refusals.{all-yes, answered, by-point, list-of, listed-few, none-of, refused}
-use Rattle.nearest.specs.Report.{answerBuffer, listBuffer, listedIn, nearestIn, reportOf}
+use Rattle.nearest.specs.Report.{nearAnswerBuffer, listBuffer, listedBy, nearestIn, reportOf}
 use Rattle.nearest.specs.declared.Nearest.the-variants.{Vertex}
 use Rattle.nearest.specs.declared.Report.{Report}
 use Rattle.nearest.proofs.run_on.Statement.{statement}
@@ -99,8 +99,8 @@ given : (c : Reported)
     (c .announced .result ≡ reportOf p (a .w .now) (a .given) (length (a .answer .now)) (length (a .list .now))
     (a .budget))
     × (front (numbersOf (answer p (a .budget))) (a .answer .now)
-    ≡ answerBuffer p (a .w .now) (length (a .list .now)) (a .budget) (a .answer .now))
-    × (front (listedIn p (a .w .now) (a .given) (answer p (a .budget))) (a .list .now)
+    ≡ nearAnswerBuffer p (a .w .now) (length (a .list .now)) (a .budget) (a .answer .now))
+    × (front (listedBy p (a .w .now) (a .given) (answer p (a .budget))) (a .list .now)
     ≡ listBuffer p (a .w .now) (a .given) (length (a .answer .now)) (a .budget) (a .list .now))
 given c =
     let a = begun (c .before) .args in
@@ -126,7 +126,7 @@ slice-aggregate-put-list c = search needs
 listed : (c : Reported) {q n : ℕ} → c .announced .result .nearest ≡ Vertex q n
     → let a = begun (c .before) .args in
     let p = problem (c .before) in
-    n ≡ length (listedIn p (a .w .now) (a .given) (answer p (a .budget)))
+    n ≡ length (listedBy p (a .w .now) (a .given) (answer p (a .budget)))
 listed c e =
     let a = begun (c .before) .args in
     let p = problem (c .before) in

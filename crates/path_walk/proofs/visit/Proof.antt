@@ -10,7 +10,7 @@ use Rattle.moves.specs.Held.{stateOf}
 use Rattle.rules.specs.Read.{read}
 use Rattle.rules.specs.Ready.{Ready}
 use Rattle.rules.specs.Step.{State, step}
-use Rattle.marks.specs.Reading.{tableOf}
+use Rattle.marks.specs.Reading.{tableProblem}
 use Rattle.place.specs.Problem.{Problem}
 use Rattle.path_walk.specs.Finish.{IsKnown}
 use Rattle.path_walk.proofs.Visits.{gives, marked-known, marks-back, read-back, read-none, read-some}
@@ -79,7 +79,7 @@ after c =
     (a .order .now) (c .if1 .marks) (a .s)
 
 abbrev table : tie.Joined1 → Problem
-table c = let a = c .before .before .before .args in tableOf (a .g) (a .table .now)
+table c = let a = c .before .before .before .args in tableProblem (a .g) (a .table .now)
 
 looked-up : (c : tie.Joined1)
     → IsKnown (table c) (before c) × (after c ≡ read (table c) (before c)) × (length (c .if1 .marks) ≡ 16)
@@ -93,14 +93,14 @@ looked-up c =
     let e = marked-known _ _ (sym (w .5 .ensures) ∙ r .1) in
     rw (w .9) (
       (λ _. e .0),
-      read-some (tableOf (a .g) (a .table .now)) (roundOf (a .previous .now) (a .next .now) (a .sizes .now))
+      read-some (tableProblem (a .g) (a .table .now)) (roundOf (a .previous .now) (a .next .now) (a .sizes .now))
           (a .first .now) (a .coefficients .now) (a .order .now) (a .marks .now) (a .s) (r .0 .0) (w .0 .taken)
           (s .pre .1 .reads (w .0 .taken) .point) (e .1),
       length-set (a .marks .now) (a .s .active) (r .0 .0) ∙ sixteen,
     ))
     (λ w. rw (w .1) (
       (λ r. absurd (omega (arith, w .0 .left))),
-      sym (read-none (tableOf (a .g) (a .table .now)) (before c) (w .0 .left)),
+      sym (read-none (tableProblem (a .g) (a .table .now)) (before c) (w .0 .left)),
       sixteen,
     ))
     (c .if1 .came)

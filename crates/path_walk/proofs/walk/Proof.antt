@@ -9,7 +9,7 @@ use Rattle.grid.proofs.Fields.{indices-few}
 use Rattle.moves.specs.Held.{stateOf}
 use Rattle.place.specs.Problem.{Problem}
 use Rattle.path_laws.proofs.Filled.{filledTable}
-use Rattle.marks.specs.Reading.{tableOf}
+use Rattle.marks.specs.Reading.{tableProblem}
 use Rattle.rules.proofs.Follow.{NextAt}
 use Rattle.rules.specs.Read.{read}
 use Rattle.rules.specs.Ready.{SixteenEach}
@@ -105,13 +105,13 @@ abbrev Known : Seen → Type 0
 Known c =
     let a = c .before .before .before .before .before .before .before
     .before .before .before .before .before .before .before .args in
-    IsKnown (tableOf (a .g) (a .table .now)) (place c)
+    IsKnown (tableProblem (a .g) (a .table .now)) (place c)
 
 -- where the move from there leads
 next : (c : Seen) → Known c → (after : After)
     → after
     ≡ step (read
-    (tableOf
+    (tableProblem
     (c .before .before .before .before .before .before .before .before
     .before .before .before .before .before .before .args .g)
     (c .before .before .before .before .before .before .before .before

@@ -12,7 +12,7 @@ use Rattle.points_in_order.proofs.PointAfter.{Passed, passed-start, len
 use Rattle.points_in_order.proofs.PointAfter.{passed-end}
 use Rattle.points_in_order.proofs.Blocks.{point-length}
 use Rattle.grid.specs.Build.{lent}
-use Rattle.points_in_order.specs.PointAfter.{after, step}
+use Rattle.points_in_order.specs.PointAfter.{after, pointStep}
 use Rattle.grid.proofs.Accepted.{accepted}
 use Rattle.grid.proofs.Round.{block-fits}
 use Rattle.points_in_order.proofs.advance.Statement.{statement}
@@ -61,7 +61,7 @@ module _ (c : tie.After-wide2 Inv-loop μ-loop) where
   abbrev now : List ℕ
   now = c .before .before .before .before .before .loop .point
 
-  turned : (b : List ℕ) (moved : Bool) → after (take n (drop f now)) ≡ step moved b
+  turned : (b : List ℕ) (moved : Bool) → after (take n (drop f now)) ≡ pointStep moved b
       → Passed (s .args .sizes .now) (s .args .point .now) k moved (take f now ++ (b ++ drop n (drop f now)))
   turned b moved = lent-turn (s .args .sizes .now) (s .args .point .now) k
       (c .before .before .before .before .before .loop .point) (omega arith) state (c .before .before .wide .result)
@@ -122,7 +122,7 @@ returns c =
     let s = c .before .before .before .before .before .before .before .before .before .before .before .before .before in
     let a = c .before .before .before .advance-block in
     let w = c .before .before .before .before .before in
-    let p = turned w (a .last .0) true (a .ensures ∙ ap (λ (b : Bool). step b (a .last .0)) (c .if1 .taken)) in (
+    let p = turned w (a .last .0) true (a .ensures ∙ ap (λ (b : Bool). pointStep b (a .last .0)) (c .if1 .taken)) in (
       passed-moved (s .args .sizes .now) (s .args .point .now) (k w) _ p,
       (omega arith, p .before),
     )
@@ -134,7 +134,7 @@ loop-again : tie.Need-loop-again Inv-loop μ-loop
 loop-again c =
     let a = c .before .before .before .advance-block in (
       turned (c .before .before .before .before .before) (a .last .0) false
-          (a .ensures ∙ ap (λ (b : Bool). step b (a .last .0)) (c .if1 .left)),
+          (a .ensures ∙ ap (λ (b : Bool). pointStep b (a .last .0)) (c .if1 .left)),
       omega arith,
       omega arith,
     )

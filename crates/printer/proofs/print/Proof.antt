@@ -2,13 +2,13 @@
 use mathlib.Core.Path.{_≡_, sym, ap, _∙_}
 use Rattle.slip.proofs.Readings.{reading-accepted}
 use Rattle.slip.proofs.Tables.{are-labels, no-labels}
-use Rattle.slip.specs.Reading.{readingOf}
+use Rattle.slip.specs.Reading.{slipReadingOf}
 use Rattle.printer.proofs.Slips.{refusal-printed, has-grid, table-printed}
 use borrow.Author.Needs.{needs}
 use Rattle.printer.proofs.print.Statement.{statement}
 use Rattle.printer.proofs.print.Tie as tie
 
-zero : (c : tie.Else1) → readingOf (c .before .before .before .before .args .slip .now) .code ≡ 0
+zero : (c : tie.Else1) → slipReadingOf (c .before .before .before .before .args .slip .now) .code ≡ 0
 zero c = sym (ap (λ r. r .code) (c .before .before .read .ensures)) ∙ c .if1 .left
 
 read-requires : tie.Need-read-requires

@@ -9,8 +9,8 @@ use lib.ListN.{length, take, replicate}
 use lib.Seq.{length-take-le}
 use Rattle.combinatorics.proofs.Fronts.{front-length, front-taken}
 use Rattle.slip.proofs.LossesRead.{losses-count, losses-refused}
-use Rattle.slip.specs.Reading.{readingOf}
-use Rattle.slip_fields.specs.Slip.{slipLosses, question11}
+use Rattle.slip.specs.Reading.{slipReadingOf}
+use Rattle.slip_fields.specs.Slip.{slipLosses, slipQuestion11}
 use Rattle.printer.proofs.Arrays.{same-sheet, as-prints}
 use Rattle.printer.proofs.Slips.{out-of-range-printed, has-grid, losses-printed, losses-few, is-table}
 use Rattle.printer.specs.Run.{lossProblem, runSheet}
@@ -18,7 +18,7 @@ use borrow.Author.Needs.{needs}
 use Rattle.printer.proofs.print_game.Statement.{statement}
 use Rattle.printer.proofs.print_game.Tie as tie
 
-zero : (s : tie.Start) → readingOf (s .args .slip .now) .code ≡ 0
+zero : (s : tie.Start) → slipReadingOf (s .args .slip .now) .code ≡ 0
 zero s = sym (ap (λ x. x .code) (s .pre .isReading)) ∙ s .pre .read
 
 -- the losses stand at the front of the array
@@ -26,7 +26,7 @@ counted : (c : tie.After-known-told)
     → let slip = c .before .before .before .before .before .before .before .args .slip .now in
     let array = c .before .before .before .before .losses-of .last .1 .1 .0 in
     let count = c .before .count .given .0 .0 in
-    (question11 slip .answeredYes ≡ true) × (take count array ≡ slipLosses slip) × (count ≤ length array)
+    (slipQuestion11 slip .answeredYes ≡ true) × (take count array ≡ slipLosses slip) × (count ≤ length array)
 counted c =
     let s = c .before .before .before .before .before .before .before in
     let slip = s .args .slip .now in

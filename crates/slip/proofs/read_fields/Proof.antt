@@ -8,8 +8,8 @@ use Rattle.slip_fields.proofs.Laws.{at-first}
 use Rattle.slip.proofs.Readings.{refused-14, refused-15, all-yes, start-there, start-missing, budget-there}
 use Rattle.slip.proofs.Readings.{budget-missing, table-is, table-there, table-missing}
 use Rattle.slip.proofs.Tables.{not-missing}
-use Rattle.grid.specs.Made.{padded}
-use Rattle.slip_fields.specs.Slip.{fieldAt, slipStart, slipBudget, question14, question15}
+use Rattle.combinatorics.specs.Front.{padded}
+use Rattle.slip_fields.specs.Slip.{fieldAt, slipStart, slipBudget, question14, slipQuestion15}
 use Rattle.slip.specs.Reading.{startOf}
 use borrow.Author.Needs.{needs}
 use Rattle.slip.proofs.read_fields.Statement.{statement}
@@ -119,7 +119,7 @@ returns-4 c =
     let s =
     c .before .before .before .before .before .before .before .before .before .before .before .before .before .before in
     let slip = s .args .slip .now in
-    let unknown : question15 slip .answeredYes ≡ false =
+    let unknown : slipQuestion15 slip .answeredYes ≡ false =
     sym (c .before .before .is-known .ensures) ∙ not-true _ (c .before .if1 .taken) in
     c .refused4 .ensures
     ∙ refused-15 slip (s .pre .0 .head) (s .pre .0 .accepts) (exact (c .before .before .before)) unknown
@@ -130,7 +130,7 @@ returns-5 c =
     c .before .before .before .before .before .before .before .before .before .before .before .before .before .before in
     let slip = s .args .slip .now in
     let whole = exact (c .before .before .before) in
-    let known : question15 slip .answeredYes ≡ true =
+    let known : slipQuestion15 slip .answeredYes ≡ true =
     sym (c .before .before .is-known .ensures) ∙ not-false _ (c .before .if1 .left) in
     let start =
     ap (λ x. x .start)

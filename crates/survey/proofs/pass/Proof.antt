@@ -17,7 +17,7 @@ use Rattle.grid.specs.Grid.{at as gridAt, position}
 use Rattle.grid.specs.Made.{shape}
 use Rattle.label_reading.proofs.Places.{IsRead, looked-up}
 use Rattle.label_reading.specs.Looking.{LooksUp}
-use Rattle.marks.specs.Reading.{tableOf}
+use Rattle.marks.specs.Reading.{tableProblem}
 use Rattle.moves.specs.Held.{answered, stateOf}
 use Rattle.moves.specs.declared.Outcome.{Outcome}
 use Rattle.moves.specs.declared.Status.{Status}
@@ -30,7 +30,7 @@ use Rattle.rules.specs.Step.{After, Round, State, goes, markPosition, step as s
 use Rattle.vertices_met.proofs.Keeping.{kept-none}
 use Rattle.survey.proofs.Passing.{Walking, come-is, computed, kept-met, last-facet, last-place}
 use Rattle.survey.proofs.Passing.{met-listed, met-nearest, met-written, room-next}
-use Rattle.vertices_met.specs.Meeting.{Kept, comeIn}
+use Rattle.vertices_met.specs.Meeting.{Kept, vertexCome}
 use Rattle.survey.proofs.pass.Statement.{statement}
 use Rattle.survey.proofs.pass.Tie as tie
 use Rattle.visited.proofs.Nearest.{grid-accepted}
@@ -107,7 +107,7 @@ problem c =
 abbrev table : At → Problem
 table c =
     let a = begun c .args in
-    tableOf (a .g) (a .table .now)
+    tableProblem (a .g) (a .table .now)
 
 -- the state there, and the place's number
 abbrev place : At → State
@@ -240,7 +240,7 @@ came-in-requires c κs =
 
 came-is : (c : tie.After-came-in Inv-loop μ-loop)
     → let k = c .before .before in
-    c .came-in .result ≡ comeIn (shape (begun (at k) .args .g)) (place (at k))
+    c .came-in .result ≡ vertexCome (shape (begun (at k) .args .g)) (place (at k))
 came-is c =
     let k = c .before .before in
     let a = begun (at k) .args in

@@ -27,7 +27,7 @@ use Rattle.trail_steps.proofs.Arrived.{OnlyPlace, WayLeads, facet-ends, gone-lo
 use Rattle.trail_steps.proofs.Arrived.{way-ready}
 use Rattle.trail_steps.proofs.Named.{order-low, shows-few}
 use Rattle.trail_steps.proofs.NextPlace.{can-find, come-low, nowhere, on, same-way, to-next, to-none}
-use Rattle.trail_steps.specs.Reading.{HasRead, Leads, comeIn, problemBy, wayOf}
+use Rattle.trail_steps.specs.Reading.{HasRead, Leads, comePosition, problemBy, wayOf}
 use Rattle.trail_following.proofs.Led.{Led, led-all, led-few, led-none, led-on}
 use Rattle.trail_following.proofs.follow.Statement.{statement}
 use Rattle.trail_following.proofs.follow.Tie as tie
@@ -315,7 +315,7 @@ differs c z H =
     to-none (a .g) (w .measured .made) _ (a .tails .now) H (a .trail .now) (l .at) (l .s .count) (counted (at m) H)
     (a .previous .now) (a .next .now) (a .sizes .now) (last .0) (last .1 .0) (last .1 .1 .0) (last .1 .1 .1 .0) s
     (m .moved-by .ensures .each) (w .below) (gone m) (K .0) (K .1) (K .2) (K .3) _ refl refl (l .inv .2)
-    (not-standing (l .s .t) (l .s .u) (s .t) (s .u) (comeIn (a .g) (back c)) (gone m) (c .arrive .ensures .1) z)
+    (not-standing (l .s .t) (l .s .u) (s .t) (s .u) (comePosition (a .g) (back c)) (gone m) (c .arrive .ensures .1) z)
 
 next : (c : Compared) → (c .arrive .result ≡ 0 → ⊥) → {start : List ℕ} {a : Simplex}
     → Holds (at (made (c .before))) start a
@@ -334,7 +334,8 @@ next c z H =
     let s = status (c .before) in
     let last = m .moved-by .last .1 .1 .1 in
     let K = arrives (c .before) H in
-    let S = standing (l .s .t) (l .s .u) (s .t) (s .u) (comeIn (a .g) (back c)) (gone m) (c .arrive .ensures .1) z in
+    let S = standing (l .s .t) (l .s .u) (s .t) (s .u) (comePosition (a .g) (back c)) (gone m)
+    (c .arrive .ensures .1) z in
     to-next (a .g) (w .measured .made) _ (a .tails .now) H (a .trail .now) (l .at) (l .s .count) (counted (at m) H)
     (a .previous .now) (a .next .now) (a .sizes .now) (last .0) (last .1 .0) (last .1 .1 .0) (last .1 .1 .1 .0) s
     (m .moved-by .ensures .each) (w .below) (gone m) (K .0) (K .1) (K .2) (K .3) _ refl refl (l .inv .2) _

@@ -16,7 +16,7 @@ use Rattle.path_walk.specs.Finish.{CanVisit, problemIn}
 use Rattle.grid.proofs.Fields.{indices-few}
 use Rattle.label_reading.proofs.Places.{IsRead, looked-up}
 use Rattle.label_reading.specs.Looking.{LooksUp}
-use Rattle.marks.specs.Reading.{tableOf}
+use Rattle.marks.specs.Reading.{tableProblem}
 use Rattle.moves.specs.Held.{answered, stateOf}
 use Rattle.moves.specs.declared.Outcome.{Outcome}
 use Rattle.moves.specs.declared.Outcome.the-variants.{Moved}
@@ -110,7 +110,7 @@ problem c =
 abbrev table : At → Problem
 table c =
     let a = begun c .args in
-    tableOf (a .g) (a .table .now)
+    tableProblem (a .g) (a .table .now)
 
 -- the state there, and the place's number
 abbrev place : At → State

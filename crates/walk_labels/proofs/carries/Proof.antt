@@ -13,12 +13,12 @@ use Rattle.combinatorics.proofs.Basics.{false-of, same-or}
 use Rattle.combinatorics.proofs.Lists.{eqb-self, same-self, same-sound}
 use Rattle.grid.specs.Grid.{at}
 use Rattle.walk_labels.proofs.Carrying.{front-long}
-use Rattle.walk_labels.specs.Carrying.{labelsIn}
+use Rattle.walk_labels.specs.Carrying.{labelsInMarks}
 use Rattle.walk_labels.proofs.carries.Statement.{statement}
 use Rattle.walk_labels.proofs.carries.Tie as tie
 
 abbrev Inv-loop : tie.InvT-loop
-Inv-loop marks n carried k₀ k = (k ≤ 16) × ((j : ℕ) → j < k → at carried j ≡ at (labelsIn marks n) j) × (n ≤ 15) ×
+Inv-loop marks n carried k₀ k = (k ≤ 16) × ((j : ℕ) → j < k → at carried j ≡ at (labelsInMarks marks n) j) × (n ≤ 15) ×
     (length marks ≡ 16) × (length carried ≡ 16)
 
 abbrev μ-loop : tie.MeasureT-loop
@@ -42,7 +42,7 @@ returns c = let a = c .before .before .before .before .before .before .args in
     let l = c .before .before .before .before .before .loop in
     sym (false-of _ (λ e.
     let z = ap (λ (r : List ℕ). at r (l .k)) (same-sound eqb eqb-true (a .carried .now)
-    (labelsIn (a .marks .now) (a .n)) e) in
+    (labelsInMarks (a .marks .now) (a .n)) e) in
     omega (arith, c .if1 .taken, c .before .before .wide .ensures, z, c .before .label-at .ensures)))
 
 add-k : tie.Need-add-k Inv-loop μ-loop
@@ -68,9 +68,9 @@ loop-again c = let l = c .before .before .before .before .before .loop in (
 
 returns-2 : tie.Need-returns-2 Inv-loop μ-loop
 returns-2 c = let a = c .before .before .args in let l = c .before .loop in
-    sym (rw (ext-getD 0 (a .carried .now) (labelsIn (a .marks .now) (a .n))
+    sym (rw (ext-getD 0 (a .carried .now) (labelsInMarks (a .marks .now) (a .n))
     (l .inv .4 ∙ sym (front-long (a .marks .now) (a .n) (l .inv .2) (l .inv .3)))
-    (λ j jl. l .inv .1 j (omega (arith, l .inv .4)))) (same-self eqb eqb-self (labelsIn (a .marks .now) (a .n))))
+    (λ j jl. l .inv .1 j (omega (arith, l .inv .4)))) (same-self eqb eqb-self (labelsInMarks (a .marks .now) (a .n))))
 
 pub carries-spec : {M : Type 1} → statement M
 carries-spec =

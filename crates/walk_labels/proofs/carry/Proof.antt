@@ -9,7 +9,7 @@ use lib.ListN.{getD}
 use native.Mathlib.Omega.{arith}
 use Rattle.grid.specs.Grid.{at}
 use Rattle.walk_labels.proofs.Carrying.{CarriedBelow, carried-in, carried-over, none-carried, position-here}
-use Rattle.walk_labels.specs.Carrying.{labelIn}
+use Rattle.walk_labels.specs.Carrying.{labelAtMark}
 use Rattle.walk_labels.proofs.carry.Statement.{statement}
 use Rattle.walk_labels.proofs.carry.Tie as tie
 
@@ -72,7 +72,7 @@ loop-again c = let s = c .before .before .before .before .before .before .before
     let z = position-here (a .marks .now) (a .n) (a .carried .now) (a .next .now) (a .k) (a .table .now) (s .pre) (l .j)
     (c .before .before .position-at .result) m (c .before .before .position-at .ensures .0) in
     let e : c .before .label-of .result ≡ cond (leb i (a .n)) (at (a .carried .now) i)
-    (labelIn (a .table .now) (at (a .next .now) (l .j))) =
+    (labelAtMark (a .table .now) (at (a .next .now) (l .j))) =
     c .before .label-of .ensures ∙ ap (λ (r : ℕ). cond (leb i (a .n)) (at (a .carried .now) i)
     (getD (a .table .now) r 0)) z in (
       omega (arith, m),

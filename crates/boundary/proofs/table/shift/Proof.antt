@@ -3,7 +3,7 @@ use mathlib.Core.Path.{_≡_, sym}
 use lib.ListN.{length-set}
 use native.Mathlib.Omega.{arith}
 use Rattle.points_in_order.proofs.Shifts.{shifted-none, shifted-stores}
-use Rattle.points_in_order.specs.Shifted.{shifted}
+use Rattle.points_in_order.specs.Shifted.{endShifted}
 use borrow.Author.Needs.{needs}
 use Rattle.boundary.proofs.table.shift.Statement.{statement}
 use Rattle.boundary.proofs.table.shift.Tie as tie
@@ -12,7 +12,7 @@ returns : tie.Need-returns
 returns c =
     let s = c .before in
     let y = s .args .point .now in
-    let none : shifted y 0 ≡ y = shifted-none y (s .pre .0 .0) in
+    let none : endShifted y 0 ≡ y = shifted-none y (s .pre .0 .0) in
     rw (c .if1 .taken) (sym none)
 
 sub-before : tie.Need-sub-before

@@ -14,7 +14,7 @@ use Rattle.grid.specs.Build.{lent}
 use Rattle.grid.specs.Grid.{Grid, Point, numPoints, points}
 use Rattle.points_in_order.proofs.InOrder.{next-point, point-at}
 use Rattle.points_in_order.specs.Lent.{PointWithFirsts}
-use Rattle.points_in_order.specs.Shifted.{lastButOne, lastOne, shifted}
+use Rattle.points_in_order.specs.Shifted.{lastButOne, lastOne, endShifted}
 use Rattle.boundary_labels.proofs.PointLabels.{table-length}
 use Rattle.boundary_labels.specs.Boundary.{boundaryLabel, boundaryTable, isInterior}
 use Rattle.boundary.proofs.Turns.{all-written, few, found-or-is, long, low, turn-filled, turn-fits, turn-point}
@@ -94,7 +94,7 @@ module _ (c : tie.After-more-alike Inv-loop μ-loop) where
   raised : lastButOne (y t) + more < 65536
   raised = turn-fits (g t) (firsts t) (old t) (start t .pre .grid) (k t) (y t) (stands t) more fits alike
 
-  ends : shifted (y t) more ≡ getD (points (g t)) (k t + more) []
+  ends : endShifted (y t) more ≡ getD (points (g t)) (k t + more) []
   ends = turn-point (g t) (firsts t) (old t) (start t .pre .grid) (k t) (y t) (stands t) more fits alike
 
   abbrev found : ℕ

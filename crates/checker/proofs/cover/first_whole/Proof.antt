@@ -13,7 +13,7 @@ use Rattle.simplices.specs.Simplices.{firstOf}
 use Rattle.chains.proofs.WholeSets.{is-block}
 use Rattle.checker.proofs.Covering.{whole-block, block-whole, first-of-blocks, first-stops, first-goes}
 use Rattle.checker.proofs.Covering.{first-ends}
-use Rattle.checker.specs.Check.{caseOf}
+use Rattle.checker.specs.Check.{checkCase}
 use Rattle.checker.proofs.cover.first_whole.Statement.{statement}
 use Rattle.checker.proofs.cover.first_whole.Tie as tie
 
@@ -70,7 +70,7 @@ returns c =
     (c .before .has-all .ensures) in
     let first = first-stops (whole-block (shape s .sizes) (b .args .set)) (l .j) (s .blocks) (omega arith) (l .inv .2)
     (sym found ∙ c .if1 .taken) in
-    rw (add-one (l .j)) (ap caseOf (first-of-blocks s (b .pre) (b .args .set) first))
+    rw (add-one (l .j)) (ap checkCase (first-of-blocks s (b .pre) (b .args .set) first))
 
 add-j : tie.Need-add-j Inv-loop μ-loop
 add-j c = omega arith
@@ -99,7 +99,7 @@ returns-2 c =
     let b = c .before .before .before .before in
     let l = c .before .loop in
     let s = b .args .g in
-    ap caseOf (first-of-blocks s (b .pre) (b .args .set)
+    ap checkCase (first-of-blocks s (b .pre) (b .args .set)
     (first-ends (whole-block (shape s .sizes) (b .args .set)) (l .j) (s .blocks) (omega arith) (l .inv .2)))
 
 pub first-whole-spec : {M : Type 1} → statement M

@@ -12,14 +12,14 @@ use mir.Syntax.{w64}
 use mir.Val.{toZ}
 use Rattle.corners.proofs.Integers.{weighed-low}
 use Rattle.corners.proofs.Rows.{column-next, total-low}
-use Rattle.corners.specs.Corners.{entry, column}
+use Rattle.corners.specs.Corners.{signedAt, column}
 use Rattle.corners.proofs.labels.add_rows.Statement.{statement}
 use Rattle.corners.proofs.labels.add_rows.Tie as tie
 
 abbrev Inv-loop : tie.InvT-loop
 Inv-loop totals₀ mix rows count k₀ totals k =
     ((h : ℕ) → h < count
-    → (entry totals h ≡ column (take k mix) rows h) × (natAbs (entry totals h) ≤ k * 281474976710656))
+    → (signedAt totals h ≡ column (take k mix) rows h) × (natAbs (signedAt totals h) ≤ k * 281474976710656))
     × (k ≤ length mix) × (length totals ≡ 16)
 
 abbrev μ-loop : tie.MeasureT-loop
@@ -52,21 +52,21 @@ module _ (c : tie.After-shared-slice-known2 Inv-loop μ-loop) where
   abbrev row : List ℤ
   row = take (length rows - k * 16) (drop (k * 16) rows)
 
-  number : (h : ℕ) → entry row h ≡ entry rows (k * 16 + h)
+  number : (h : ℕ) → signedAt row h ≡ signedAt rows (k * 16 + h)
   number h = rw (take-all (length rows - k * 16) (drop (k * 16) rows) (omega (arith, length-drop (k * 16) rows)))
       (getD-drop (k * 16) rows h (pos 0))
 
   low : (h : ℕ) → h < s .args .count
-      → natAbs (entry totals h) + natAbs (toZ w64 x) * natAbs (entry row h) ≤ (k + 1) * 281474976710656
+      → natAbs (signedAt totals h) + natAbs (toZ w64 x) * natAbs (signedAt row h) ≤ (k + 1) * 281474976710656
   low h b = rw (number h, x-is)
-      (total-low (natAbs (entry totals h)) x (natAbs (entry rows (k * 16 + h))) k
+      (total-low (natAbs (signedAt totals h)) x (natAbs (signedAt rows (k * 16 + h))) k
       (c .before .before .before .loop .inv .0 h b .1) x-low (s .pre .1 .low k h (omega arith) b))
 
 loop-holds : tie.Need-loop-holds Inv-loop μ-loop
 loop-holds c =
     let p = c .before .pre in (
       (λ h b.
-          let e : entry (c .before .args .totals .now) h ≡ pos 0 =
+          let e : signedAt (c .before .args .totals .now) h ≡ pos 0 =
           rw (p .0) (getD-replicate 16 h (pos 0) (pos 0) (omega (arith, p .1 .few))) in
           (e, rw e (omega arith))),
       omega arith,
@@ -123,7 +123,7 @@ loop-again c =
         e h b
             ∙ rw (number w h, x-is w, l .inv .0 h b .0)
             (sym (column-next (s w .args .mix .now) (rows w) (k w) h (omega arith))),
-        rw (e h b) (omega (arith, low w h b, weighed-low (entry (totals w) h) (toZ w64 (x w)) (entry (row w) h))),
+        rw (e h b) (omega (arith, low w h b, weighed-low (signedAt (totals w) h) (toZ w64 (x w)) (signedAt (row w) h))),
       )),
       omega arith,
       c .add-times .ensures .0,

@@ -9,7 +9,7 @@ use mir.Syntax.{w64}
 use mir.Val.{toZ, ofZ, SFits}
 use Rattle.corners.proofs.Integers.{mag-low, product-abs, weighed-low}
 use Rattle.corners.proofs.Rows.{Added, added-start, added-turn}
-use Rattle.corners.specs.Corners.{entry}
+use Rattle.corners.specs.Corners.{signedAt}
 use Rattle.corners.proofs.labels.add_times.Statement.{statement}
 use Rattle.corners.proofs.labels.add_times.Tie as tie
 
@@ -31,10 +31,10 @@ module _ (c : tie.After-total2 Inv-loop μ-loop) where
   h = c .before .before .before .loop .h
 
   abbrev number : ℤ
-  number = entry (s .args .row .now) h
+  number = signedAt (s .args .row .now) h
 
   abbrev total : ℤ
-  total = entry (c .before .before .before .loop .totals) h
+  total = signedAt (c .before .before .before .loop .totals) h
 
   low : natAbs total + natAbs x * natAbs number < 9223372036854775808
   low = rw (c .before .before .before .loop .inv .0 .left h (omega arith)) (s .pre .fits h (omega arith))

@@ -2,7 +2,7 @@
 use mathlib.Core.Path.{ap, _∙_}
 use Prim.Native.Nat.{suc}
 use native.Mathlib.Numerals.{add-one}
-use Rattle.corners.specs.Corners.{entry, column}
+use Rattle.corners.specs.Corners.{signedAt, column}
 use Rattle.corners.proofs.FirstLargest.{largest-agree}
 use borrow.Author.Needs.{needs}
 use Rattle.corners.proofs.labels.label_point.Statement.{statement}
@@ -27,7 +27,7 @@ returns c =
     add-one (c .first-largest .result)
     ∙ ap suc
     (c .first-largest .ensures .0
-    ∙ largest-agree (entry (t .last .0)) (column (a .mix .now) (a .differences .now)) (a .count) (t .ensures))
+    ∙ largest-agree (signedAt (t .last .0)) (column (a .mix .now) (a .differences .now)) (a .count) (t .ensures))
 
 pub label-point-spec : {M : Type 1} → statement M
 label-point-spec =

@@ -7,13 +7,13 @@ use mir.Val.{toZ, ofZ}
 use mir.Syntax.{w64}
 use mir.Facts.{toZ-ofZ}
 use Rattle.corners.proofs.FirstLargest.{Leads, leads-start, leads-taken, leads-kept, leads-end}
-use Rattle.corners.specs.Corners.{entry}
+use Rattle.corners.specs.Corners.{signedAt}
 use Rattle.corners.proofs.largest.first_largest.Statement.{statement}
 use Rattle.corners.proofs.largest.first_largest.Tie as tie
 
 abbrev Inv-loop : tie.InvT-loop
 Inv-loop differences count best₀ most₀ h₀ best most h =
-    Leads (entry differences) best (toZ w64 most) h × (1 ≤ h) × (h ≤ count)
+    Leads (signedAt differences) best (toZ w64 most) h × (1 ≤ h) × (h ≤ count)
 
 abbrev μ-loop : tie.MeasureT-loop
 μ-loop differences count best₀ most₀ h₀ best most h = count - h
@@ -23,7 +23,7 @@ element-copy-out-most c = omega arith
 
 loop-holds : tie.Need-loop-holds Inv-loop μ-loop
 loop-holds c = (
-  leads-start (entry (c .before .args .differences .now)) _ (toZ-ofZ {w = w64} (record { sfits = c .most .given })),
+  leads-start (signedAt (c .before .args .differences .now)) _ (toZ-ofZ {w = w64} (record { sfits = c .most .given })),
   omega arith,
   omega arith,
 )
@@ -43,7 +43,7 @@ loop-less c = omega arith
 loop-again : tie.Need-loop-again Inv-loop μ-loop
 loop-again c =
     let l = c .before .before .before .loop in
-    let v = entry (c .before .before .before .before .before .args .differences .now) in
+    let v = signedAt (c .before .before .before .before .before .args .differences .now) in
     let z : toZ w64 (ofZ w64 (v (l .h))) ≡ v (l .h) = toZ-ofZ {w = w64} (record { sfits = c .before .d .given }) in (
       ⊎-elim
           (λ w. rw (w .1, w .2) (leads-taken v (l .best) _ _ (l .h) (l .inv .0) z (w .0 .taken)))
@@ -58,7 +58,7 @@ returns c =
     let l = c .before .loop in
     let a = c .before .before .before .args in
     let e : l .h ≡ a .count = omega arith in (
-      sym (leads-end (entry (a .differences .now)) (l .best) _ (a .count) (rw e at (l .inv .0))),
+      sym (leads-end (signedAt (a .differences .now)) (l .best) _ (a .count) (rw e at (l .inv .0))),
       omega (arith, l .inv .0 .inside),
     )
 

@@ -11,7 +11,7 @@ use mir.Syntax.{w64}
 use mir.Val.{toZ, ofZ}
 use Rattle.grid.specs.Grid.{at}
 use Rattle.corners.proofs.Rows.{entry-next}
-use Rattle.corners.specs.Corners.{entry}
+use Rattle.corners.specs.Corners.{signedAt}
 use Rattle.corners.proofs.largest.put_differences.Statement.{statement}
 use Rattle.corners.proofs.largest.put_differences.Tie as tie
 
@@ -20,7 +20,7 @@ IsDifference expected replaced i z = (z ≡ pos (at expected i) -ℤ pos (at rep
 
 abbrev Inv-loop : tie.InvT-loop
 Inv-loop differences₀ expected replaced h₀ differences h =
-    ((i : ℕ) → i < h → IsDifference expected replaced i (entry differences i)) × (h ≤ 16) × (length differences ≡ 16)
+    ((i : ℕ) → i < h → IsDifference expected replaced i (signedAt differences i)) × (h ≤ 16) × (length differences ≡ 16)
 
 abbrev μ-loop : tie.MeasureT-loop
 μ-loop differences₀ expected replaced h₀ differences h = 16 - h

@@ -22,7 +22,7 @@ use Rattle.grid.specs.Build.{lent}
 use Rattle.grid.specs.Grid.{Grid, Point, numIndices, numPoints, points, size, firstIndex}
 use Rattle.weighed_losses.proofs.Levels.{behind-alike, stand-to-alike}
 use Rattle.weighed_losses.specs.Levels.{Rests, StandTo}
-use Rattle.losses.specs.Game.{label, labels}
+use Rattle.losses.specs.Game.{gameLabel, labels}
 use Rattle.points_in_order.proofs.Blocks.{point-length}
 use Rattle.points_in_order.proofs.InOrder.{point-at, next-point}
 use Rattle.points_in_order.specs.Lent.{PointWithFirsts}
@@ -248,7 +248,7 @@ loop-again c =
     let stand = w .ensures .1 losses (i .7) (i .8) in
     let a = c .before .before .advance in
     let z : Point = a .last .1 .1 .0 in
-    let is : c .before .before .before .before .label-point .result ≡ label (g s) losses (y t) =
+    let is : c .before .before .before .before .label-point .result ≡ gameLabel (g s) losses (y t) =
     c .before .before .before .before .label-point .ensures
     ∙ rw (long t) (lent-label (g s) (firsts t) losses (s .args .ones .now) (s .pre .onesAre) (y t) (here t) _ stand
     (from t) (i .9)) in

@@ -5,7 +5,7 @@ use Prim.Native.Nat.{_-_, _≤_}
 use lib.ListN.{length}
 use Rattle.combinatorics.proofs.Basics.{absurd-bool}
 use Rattle.recogniser.proofs.OrderSets.{sets-none, sets-more, stands-twice}
-use Rattle.recogniser.specs.Pieces.{AreSets, beyond, twice}
+use Rattle.recogniser.specs.Pieces.{AreTandU, beyond, twice}
 use borrow.Author.Needs.{needs}
 use native.Mathlib.Omega.{arith}
 use Rattle.recogniser.proofs.free.sets_of.Statement.{statement}
@@ -13,7 +13,7 @@ use Rattle.recogniser.proofs.free.sets_of.Tie as tie
 
 abbrev Inv-loop : tie.InvT-loop
 Inv-loop order n m zeros t₀ u₀ k₀ t u k =
-    (k ≤ n) × (n ≤ 16) × (m ≤ 16) × (length order ≡ 16) × AreSets order k m zeros t u
+    (k ≤ n) × (n ≤ 16) × (m ≤ 16) × (length order ≡ 16) × AreTandU order k m zeros t u
 
 abbrev μ-loop : tie.MeasureT-loop
 μ-loop order n m zeros t₀ u₀ k₀ t u k = n - k

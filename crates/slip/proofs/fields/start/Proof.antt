@@ -8,7 +8,7 @@ use Prim.Native.Nat.{ℕ, _+_, _*_}
 use borrow.Author.Tests.{not-true, not-false}
 use lib.ListN.{drop, replicate}
 use lib.Seq.{length-take-le}
-use Rattle.grid.specs.Made.{padded}
+use Rattle.combinatorics.specs.Front.{padded}
 use Rattle.little_endian.specs.Numbers.{words}
 use Rattle.slip_fields.proofs.Laws.{head-fits, at-first, at-next, length-there, length-absent, start-there}
 use Rattle.slip.proofs.Readings.{start-is, no-start, asked-made, asked-indices}

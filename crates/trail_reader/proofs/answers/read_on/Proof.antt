@@ -10,7 +10,7 @@ use Rattle.grid.proofs.Fields.{indices-few}
 use Rattle.trail_steps.specs.Reading.{problemBy}
 use Rattle.trail_reader.specs.Begun.{Reads}
 use Rattle.trail_reader.proofs.Rebuilt.{first-long, no-zero, reads-17, start-long, start-taken}
-use Rattle.path_laws.specs.Demand.{Settled}
+use Rattle.path_laws.specs.Demand.{HasStart}
 use Rattle.trail_reader.proofs.answers.read_on.Statement.{statement}
 use Rattle.trail_reader.proofs.answers.read_on.Tie as tie
 
@@ -73,7 +73,7 @@ rebuilt-requires c κs =
             (c .before .before .before .before .before .padded .result)
             (c .before .before .before .before .before .padded .ensures);
         settled = subst
-            (λ (s : List ℕ). Settled (problemBy (a .g) s))
+            (λ (s : List ℕ). HasStart (problemBy (a .g) s))
             (sym taken)
             (c .before .before .before .before .before .before .before .before
             .before .before .before .before .before .before .pre .settled);

@@ -8,7 +8,7 @@ use Rattle.grid.proofs.Fields.{made-code, made-is}
 use Rattle.grid.specs.Grid.{Grid}
 use Rattle.marks.specs.Reading.{problemFrom}
 use Rattle.place.specs.Problem.{Problem, problemOf}
-use Rattle.trail_writer.specs.Writing.{answerBuffer, trailAnswer, trailBuffer}
+use Rattle.trail_writer.specs.Writing.{trailAnswerBuffer, trailAnswer, trailBuffer}
 use Rattle.trail_writer.specs.declared.answers.Answer.the-variants.{Refused}
 use Rattle.trail_writer.proofs.Endings.{answered, refused}
 use Rattle.trail_writer.proofs.answers.run_with_trail.Statement.{statement}
@@ -49,7 +49,7 @@ returns-2 c =
     (c .before .before .before .before .new .ensures) (c .before .before .if1 .left) (a .start .now) (a .labels .now) in
     subst
     (λ (p : Problem). (Refused n ≡ trailAnswer p (length (a .answer .now)) (length (a .trail .now)) (a .budget))
-    × ((a .answer .now ≡ answerBuffer p (length (a .trail .now)) (a .budget) (a .answer .now))
+    × ((a .answer .now ≡ trailAnswerBuffer p (length (a .trail .now)) (a .budget) (a .answer .now))
     × (a .trail .now ≡ trailBuffer p (length (a .answer .now)) (a .budget) (a .trail .now))))
     same (w .0, (w .1, w .2))
 
@@ -123,7 +123,7 @@ returns-3 c =
     (c .before .before .before .before .announced .result
     ≡ trailAnswer p (length (a .answer .now)) (length (a .trail .now)) (a .budget))
     × ((c .before .before .before .before .announced .last .1 .1 .1 .1 .0
-    ≡ answerBuffer p (length (a .trail .now)) (a .budget) (a .answer .now))
+    ≡ trailAnswerBuffer p (length (a .trail .now)) (a .budget) (a .answer .now))
     × (c .before .before .before .before .announced .last .1 .1 .1 .1 .1 .0
     ≡ trailBuffer p (length (a .answer .now)) (a .budget) (a .trail .now))))
     same (q .0 ∙ v .0, ((rw (q .0) at (q .1 .0)) ∙ v .1, (rw (q .0) at (q .1 .1)) ∙ v .2))

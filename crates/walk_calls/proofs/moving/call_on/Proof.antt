@@ -9,7 +9,7 @@ use Rattle.grid.specs.Made.{shape}
 use Rattle.questions.specs.Questions.{firstNo}
 use Rattle.walk_calls.proofs.Calls.{call-ended, call-moved, call-refuses, goes-to, places-few, table-refused}
 use Rattle.walk_calls.proofs.Later.{behind-four}
-use Rattle.walk_calls.specs.Asked.{laterQuestions}
+use Rattle.walk_calls.specs.Asked.{laterWalkQuestions}
 use borrow.Author.Needs.{needs}
 use native.Mathlib.Omega.{arith}
 use Rattle.walk_calls.proofs.moving.call_on.Statement.{statement}
@@ -38,14 +38,14 @@ returns c = let s = c .before .before .before .before .before .before in let a =
     c .unmoved .ensures ∙ table-refused (shape (a .g)) (a .w) (a .labels .now) (c .before .before .first-no .result)
     (c .before .if1 .taken)
     (behind-four (a .g) (take (numIndices (shape (a .g))) (a .w .start)) (a .labels .now) (s .pre .accepted) ∙ ap
-    (λ (m : ℕ). firstNo (laterQuestions (a .g) (take m (a .w .start)) (a .labels .now)))
+    (λ (m : ℕ). firstNo (laterWalkQuestions (a .g) (take m (a .w .start)) (a .labels .now)))
     (sym (made-indices (a .g) (s .pre))) ∙ sym (c .before .before .first-no .ensures))
 
 next-on-requires : tie.Need-next-on-requires
 next-on-requires c κs = let s = c .before .before .before .before .before in let a = s .args in (
   s .pre,
   behind-four (a .g) (take (numIndices (shape (a .g))) (a .w .start)) (a .labels .now) (s .pre .accepted) ∙ ap
-      (λ (m : ℕ). firstNo (laterQuestions (a .g) (take m (a .w .start)) (a .labels .now)))
+      (λ (m : ℕ). firstNo (laterWalkQuestions (a .g) (take m (a .w .start)) (a .labels .now)))
       (sym (made-indices (a .g) (s .pre)))
       ∙ sym (c .before .first-no .ensures) ∙ c .if1 .left,
 )

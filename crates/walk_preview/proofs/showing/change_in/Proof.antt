@@ -10,15 +10,15 @@ use Rattle.walks.specs.Preview.{preview}
 use Rattle.walk_calls.specs.Moving.{GridIn}
 use Rattle.walk_preview.proofs.Calls.{grid-passes}
 use Rattle.walk_preview.specs.Previews.{CanShow, Moves, MovesTo, changeShown}
-use Rattle.walk_places.specs.Walks.{gridOf, walkOn}
+use Rattle.walk_places.specs.Walks.{walkGrid, walkOn}
 use Rattle.walk_places.specs.declared.Place.{Place}
 use Rattle.walk_places.specs.declared.Walk.{Walk as WalkStruct}
 use Rattle.walk_preview.proofs.showing.change_in.Statement.{statement}
 use Rattle.walk_preview.proofs.showing.change_in.Tie as tie
 
-module _ (w : WalkStruct) (made : Made) (is : GridIn (gridOf w) made) (labels : List ℕ) (next : Place) (rule : ℕ)
+module _ (w : WalkStruct) (made : Made) (is : GridIn (walkGrid w) made) (labels : List ℕ) (next : Place) (rule : ℕ)
     (M : MovesTo w labels next rule) where
-  same-grid : shape (made .grid) ≡ gridOf w
+  same-grid : shape (made .grid) ≡ walkGrid w
   same-grid = is .is (is .code ∙ grid-passes M) .1
 
   can-show : CanShow (made .grid) w labels next rule

@@ -15,10 +15,10 @@ use Rattle.questions.proofs.Answers.{asked-no}
 use Rattle.questions.specs.Questions.{firstNo}
 use Rattle.walks.specs.Walk.{over}
 use Rattle.walk_calls.proofs.Later.{behind-four}
-use Rattle.walk_calls.specs.Asked.{laterQuestions}
+use Rattle.walk_calls.specs.Asked.{laterWalkQuestions}
 use Rattle.walk_views.proofs.Placed.{points-refused}
 use Rattle.walk_views.specs.Viewed.{pointsOn}
-use Rattle.walk_places.specs.Walks.{gridOf, walkOf}
+use Rattle.walk_places.specs.Walks.{walkGrid, walkOf}
 use Rattle.walk_views.proofs.pointing.points.Statement.{statement}
 use Rattle.walk_views.proofs.pointing.points.Tie as tie
 
@@ -30,9 +30,9 @@ no-points-requires c κs = search needs
 
 returns : tie.Need-returns
 returns c = let a = c .before .before .before .before .before .args in let made = c .before .before .before .grid-in in
-    c .no-points .ensures ∙ points-refused (gridOf (a .w)) (a .w) (a .labels .now) (made .result .code)
+    c .no-points .ensures ∙ points-refused (walkGrid (a .w)) (a .w) (a .labels .now) (made .result .code)
     (c .before .if1 .taken)
-    (asked-no (gridQuestions (gridOf (a .w))) (question5 (gridOf (a .w)) (walkOf (a .w) .start) ∷ question6 (over
+    (asked-no (gridQuestions (walkGrid (a .w))) (question5 (walkGrid (a .w)) (walkOf (a .w) .start) ∷ question6 (over
     (walkOf (a .w)) (a .labels .now)) ∷ question7 (over (walkOf (a .w)) (a .labels .now)) ∷ []) (made .result .code)
     (c .before .if1 .taken) (sym (made .ensures .code)))
 
@@ -69,7 +69,7 @@ returns-2 c = let a = c .before .before .before .before .before .before .before 
     c .no-points2 .ensures ∙ points-refused (shape g) (a .w) (a .labels .now) (c .before .before .first-no .result)
     (c .before .if2 .taken)
     (behind-four g (take (numIndices (shape g)) (a .w .start)) (a .labels .now) (is .0 .accepted)
-    ∙ ap (λ (m : ℕ). firstNo (laterQuestions g (take m (a .w .start)) (a .labels .now))) (sym (made-indices g
+    ∙ ap (λ (m : ℕ). firstNo (laterWalkQuestions g (take m (a .w .start)) (a .labels .now))) (sym (made-indices g
     (is .0))) ∙ sym (c .before .before .first-no .ensures))
     ∙ ap (λ (G : Grid). pointsOn G (a .w) (a .labels .now)) (is .1)
 
@@ -79,7 +79,7 @@ points-on-requires c κs = let a = c .before .before .before .before .before .be
     let is = made .ensures .is (c .before .before .before .before .if1 .left) in (
       is .0,
       behind-four g (take (numIndices (shape g)) (a .w .start)) (a .labels .now) (is .0 .accepted)
-          ∙ ap (λ (m : ℕ). firstNo (laterQuestions g (take m (a .w .start)) (a .labels .now))) (sym (made-indices g
+          ∙ ap (λ (m : ℕ). firstNo (laterWalkQuestions g (take m (a .w .start)) (a .labels .now))) (sym (made-indices g
           (is .0))) ∙ sym (c .before .first-no .ensures) ∙ c .if2 .left,
     )
 
