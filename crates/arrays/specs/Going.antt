@@ -6,7 +6,7 @@ use lib.Dec.{ltb}
 use lib.ListN.{take}
 use denote.Ref.{now}
 use Rattle.combinatorics.specs.Edits.{rotateLeft, rotateRight}
-use Rattle.grid.specs.Grid.{at}
+use Rattle.grid_points.specs.Grid.{at}
 use Rattle.rules.specs.Ready.{IndicesBelow, testedBefore, SixteenEach}
 use Rattle.rules.specs.Step.{shifted, changedBefore}
 use Rattle.arrays.specs.Rounds.{Lent, LentBoth}

@@ -4,7 +4,7 @@ ghost use mathlib.Core.Path.{_≡_};
 ghost use Prim.Native.Nat.{suc, _+_, _-_, _≤_, _<_};
 ghost use lib.ListN.{length, take};
 ghost use Rattle.combinatorics.specs.Edits.{insertAt, removeAt, swapAt, rotateLeft, rotateRight, found};
-ghost use Rattle.grid.specs.Grid.{at};
+ghost use Rattle.grid_points.specs.Grid.{at};
 ghost use Rattle.rules.specs.Ready.{HasEntry, IsEntry};
 ghost use Rattle.rules.specs.Step.{markLabel, markPosition};
 

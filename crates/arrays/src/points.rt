@@ -5,7 +5,7 @@ ghost use Prim.Native.Nat.{ℕ, _≤_, _<_};
 ghost use lib.Dec.{eqb, ltb};
 ghost use lib.ListN.{length, take, replicate};
 ghost use Rattle.combinatorics.specs.Front.{front};
-ghost use Rattle.grid.specs.Grid.{at};
+ghost use Rattle.grid_points.specs.Grid.{at};
 ghost use Rattle.rules.specs.Mask.{bit};
 use crate::mask::add;
 

@@ -3,7 +3,7 @@ ghost use mathlib.Core.Bool.{true};
 ghost use mathlib.Core.Path.{_≡_};
 ghost use Prim.Native.Nat.{suc, pred, _≤_, _<_};
 ghost use lib.Dec.{ltb};
-ghost use Rattle.grid.specs.Grid.{at};
+ghost use Rattle.grid_points.specs.Grid.{at};
 ghost use Rattle.rules.specs.Ready.{IndicesBelow, testedBefore};
 ghost use Rattle.rules.specs.Step.{shifted, changedBefore};
 use grid::wide;

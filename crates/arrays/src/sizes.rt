@@ -1,7 +1,7 @@
 // The sizes of the blocks, an entry for each index.
 ghost use mathlib.Core.Path.{_≡_};
 ghost use Prim.Native.Nat.{ℕ, _<_};
-ghost use Rattle.grid.specs.Grid.{at, size, blockOf};
+ghost use Rattle.grid_points.specs.Grid.{at, size, blockOf};
 ghost use Rattle.grid.specs.Made.{IsMade, shape};
 use grid::Grid;
 use grid::wide;

@@ -14,8 +14,8 @@ use Rattle.combinatorics.specs.Lists.{all}
 use Rattle.questions.proofs.Answers.{asked-next, both-yes, first-yes}
 use Rattle.questions.specs.Questions.{Question, firstNo}
 use Rattle.grid.specs.Build.{lent}
-use Rattle.grid.specs.Grid.{Grid, numIndices, numPoints}
-use Rattle.grid.specs.Questions.{gridQuestions}
+use Rattle.grid_points.specs.Grid.{Grid, numIndices, numPoints}
+use Rattle.grid_points.specs.Questions.{gridQuestions}
 use Rattle.place.specs.Questions.{question6, question7}
 use Rattle.simplices.specs.Simplices.{labelledBy}
 use Rattle.games.specs.Labelling.{labelledOf}

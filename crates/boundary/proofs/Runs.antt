@@ -12,10 +12,10 @@ use Rattle.end_kinds.specs.declared.Kind.the-variants.{Place as placeEnd}
 use Rattle.path_laws.proofs.Accepted.{accepted-of}
 use Rattle.questions.proofs.Answers.{asked-next, both-yes}
 use Rattle.questions.specs.Questions.{firstNo}
-use Rattle.grid.proofs.Accepted.{accepted}
+use Rattle.grid_points.proofs.Accepted.{accepted}
 use Rattle.grid.specs.Build.{lent}
-use Rattle.grid.specs.Grid.{Point, points}
-use Rattle.grid.specs.Questions.{question5}
+use Rattle.grid_points.specs.Grid.{Point, points}
+use Rattle.grid_points.specs.Questions.{question5}
 use Rattle.place.specs.Path.{Answer as PathAnswer, answer, ended, spent, unknown}
 use Rattle.place.specs.Places.{Simplex}
 use Rattle.place.specs.Problem.{Problem, problemOf}

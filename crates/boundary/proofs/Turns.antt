@@ -11,10 +11,10 @@ use native.Mathlib.Omega.{arith}
 use Rattle.combinatorics.proofs.Basics.{before-or-not, false-of, true-or-false}
 use Rattle.combinatorics.proofs.Fronts.{front-copy, front-full, front-whole}
 use Rattle.combinatorics.specs.Front.{front}
-use Rattle.grid.proofs.Accepted.{Accepted, accepted}
-use Rattle.grid.proofs.CoordinatesBelow.{coordinate-below}
-use Rattle.grid.proofs.Round.{next-previous}
-use Rattle.grid.specs.Grid.{Grid, Point, at, numIndices, numPoints, points, previous}
+use Rattle.grid_points.proofs.Accepted.{Accepted, accepted}
+use Rattle.grid_points.proofs.CoordinatesBelow.{coordinate-below}
+use Rattle.grid_points.proofs.Round.{next-previous}
+use Rattle.grid_points.specs.Grid.{Grid, Point, at, numIndices, numPoints, points, previous}
 use Rattle.points_in_order.proofs.Blocks.{point-length}
 use Rattle.points_in_order.proofs.InOrder.{point-at}
 use Rattle.points_in_order.proofs.Shifts.{shifted-points, two-numbers}

@@ -5,8 +5,8 @@ use Prim.Native.Nat.{ℕ}
 use lib.Dec.{eqb}
 use Rattle.questions.specs.Questions.{Question, firstNo}
 use Rattle.grid.specs.Build.{lent}
-use Rattle.grid.specs.Grid.{Grid}
-use Rattle.grid.specs.Questions.{gridQuestions}
+use Rattle.grid_points.specs.Grid.{Grid}
+use Rattle.grid_points.specs.Questions.{gridQuestions}
 use Rattle.place.specs.Questions.{question6, question7}
 use Rattle.simplices.specs.Simplices.{labelledBy}
 use Rattle.games.specs.Labelling.{labelledOf, question12}

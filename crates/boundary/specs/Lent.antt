@@ -7,8 +7,8 @@ use Prim.Native.Nat.{ℕ, _≤_, _<_}
 use lib.Dec.{eqb}
 use lib.ListN.{length, getD}
 use Rattle.questions.specs.Questions.{firstNo}
-use Rattle.grid.specs.Grid.{Grid, Point, isGridPoint, numIndices, numPoints, points, previous}
-use Rattle.grid.specs.Questions.{gridQuestions}
+use Rattle.grid_points.specs.Grid.{Grid, Point, isGridPoint, numIndices, numPoints, points, previous}
+use Rattle.grid_points.specs.Questions.{gridQuestions}
 use Rattle.points_in_order.specs.Lent.{WithFirsts}
 
 -- the array has the index before each index, round its block

@@ -7,8 +7,8 @@ use Prim.Native.Nat.{ℕ}
 use lib.ListN.{getD}
 use Rattle.end_kinds.specs.declared.Kind.{Kind}
 use Rattle.end_kinds.specs.declared.Kind.the-variants.{Place as placeEnd}
-use Rattle.grid.specs.Grid.{Point, points}
-use Rattle.grid.specs.Questions.{question5}
+use Rattle.grid_points.specs.Grid.{Point, points}
+use Rattle.grid_points.specs.Questions.{question5}
 use Rattle.place.specs.Problem.{Problem, problemOf}
 use Rattle.place.specs.Questions.{question8}
 use Rattle.finder.specs.Run.{runRefusal, runAnswer}

@@ -6,7 +6,7 @@ ghost use Prim.Native.Nat.{ℕ, _+_, _≤_, _<_};
 ghost use lib.ListN.{length, take};
 ghost use Rattle.combinatorics.specs.Front.{front};
 ghost use Rattle.grid.specs.Build.{lent};
-ghost use Rattle.grid.specs.Grid.{Grid as GridOf};
+ghost use Rattle.grid_points.specs.Grid.{Grid as GridOf};
 ghost use Rattle.grid.specs.Made.{IsMade, shape};
 ghost use Rattle.boundary_labels.specs.Boundary.{isInterior, boundaryLabel, boundaryTable};
 ghost use Rattle.points_in_order.specs.Shifted.{lastButOne, lastOne, endShifted};

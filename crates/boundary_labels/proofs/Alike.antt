@@ -10,7 +10,7 @@ use lib.ListN.{length, getD, take, length-append}
 use native.Mathlib.Omega.{arith}
 use Rattle.combinatorics.proofs.Lists.{filter-cong, onNumbers}
 use Rattle.combinatorics.specs.Lists.{firstOr}
-use Rattle.grid.specs.Grid.{Grid, Point, at, indices, numPoints, points, previous}
+use Rattle.grid_points.specs.Grid.{Grid, Point, at, indices, numPoints, points, previous}
 use Rattle.points_in_order.proofs.Shifts.{shifted-none, shifted-points, two-numbers}
 use Rattle.points_in_order.specs.Lent.{WithFirsts}
 use Rattle.points_in_order.specs.Shifted.{lastButOne, lastOne, endShifted}

@@ -12,11 +12,11 @@ use Rattle.combinatorics.proofs.Basics.{absurd-bool, false-of}
 use Rattle.combinatorics.proofs.Lists.{all-in, in-here}
 use Rattle.combinatorics.proofs.Ranges.{in-upFrom, upFrom-in}
 use Rattle.combinatorics.specs.Lists.{all, isIn}
-use Rattle.grid.proofs.Accepted.{Accepted}
-use Rattle.grid.proofs.Points.{onPoints}
-use Rattle.grid.proofs.Round.{block-fits}
-use Rattle.grid.specs.Grid.{Grid, Point, at, firstIndex, indicesOf, isGridPoint, numBlocks, numIndices, previous}
-use Rattle.grid.specs.Grid.{samePoint, size}
+use Rattle.grid_points.proofs.Accepted.{Accepted}
+use Rattle.grid_points.proofs.Points.{onPoints}
+use Rattle.grid_points.proofs.Round.{block-fits}
+use Rattle.grid_points.specs.Grid.{Grid, Point, at, firstIndex, indicesOf, isGridPoint, numBlocks, numIndices, previous}
+use Rattle.grid_points.specs.Grid.{samePoint, size}
 use Rattle.place.specs.Ends.{isComplete}
 use Rattle.place.specs.Places.{Simplex, labelSet, setU}
 use Rattle.place.specs.Problem.{Problem, label}

@@ -17,8 +17,8 @@ use Rattle.combinatorics.proofs.Ranges.{upFrom-in}
 use Rattle.combinatorics.specs.Lists.{all, filter, isIn, same}
 use Rattle.end_kinds.specs.declared.Kind.{Kind}
 use Rattle.end_kinds.specs.declared.Kind.the-variants.{Facet as facetEnd, Place as placeEnd}
-use Rattle.grid.proofs.Points.{onPoints, points-in}
-use Rattle.grid.specs.Grid.{Point, blocks, isGridPoint, numBlocks, numIndices, numPoints, points}
+use Rattle.grid_points.proofs.Points.{onPoints, points-in}
+use Rattle.grid_points.specs.Grid.{Point, blocks, isGridPoint, numBlocks, numIndices, numPoints, points}
 use Rattle.path_laws.proofs.Accepted.{accepted-is}
 use Rattle.path_laws.proofs.Labels.{place-labelled}
 use Rattle.path_laws.proofs.LinkSymmetry.{parts}

@@ -12,10 +12,11 @@ use native.Mathlib.Omega.{arith}
 use Rattle.combinatorics.proofs.Basics.{absurd-bool, and-both, before-or-not, false-of, true-or-false}
 use Rattle.combinatorics.proofs.Lists.{at-all, filter-in, in-filter, in-here, onNumbers}
 use Rattle.combinatorics.specs.Lists.{distinct, filter, firstOr, isIn, upFrom}
-use Rattle.grid.proofs.Accepted.{Accepted}
-use Rattle.grid.proofs.Points.{distinct-points, onPoints, position-in}
-use Rattle.grid.specs.Grid.{Grid, Point, at, indices, isGridPoint, numIndices, numPoints, points, position, positionIn}
-use Rattle.grid.specs.Grid.{samePoint}
+use Rattle.grid_points.proofs.Accepted.{Accepted}
+use Rattle.grid_points.proofs.Points.{distinct-points, onPoints, position-in}
+use Rattle.grid_points.specs.Grid.{Grid, Point, at, indices, isGridPoint, numIndices, numPoints, points, position}
+use Rattle.grid_points.specs.Grid.{positionIn}
+use Rattle.grid_points.specs.Grid.{samePoint}
 use Rattle.path_laws.proofs.Meaning.{index-means}
 use Rattle.path_laws.proofs.Positions.{same-at}
 use Rattle.points_in_order.proofs.Blocks.{point-length}

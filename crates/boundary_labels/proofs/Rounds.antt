@@ -13,10 +13,10 @@ use Rattle.combinatorics.proofs.Basics.{absurd-bool, and-both, and-left, and-ri
 use Rattle.combinatorics.proofs.Basics.{true-or-false}
 use Rattle.combinatorics.proofs.Lists.{any-in, at-all, in-any, onNumbers}
 use Rattle.combinatorics.specs.Lists.{any, sum, upFrom}
-use Rattle.grid.proofs.Accepted.{Accepted}
-use Rattle.grid.proofs.Round.{block-fits, previous-at, previous-round, seat}
-use Rattle.grid.specs.Grid.{Grid, Point, at, division, firstIndex, indices, isGridPoint, numBlocks, numIndices}
-use Rattle.grid.specs.Grid.{previous, size}
+use Rattle.grid_points.proofs.Accepted.{Accepted}
+use Rattle.grid_points.proofs.Round.{block-fits, previous-at, previous-round, seat}
+use Rattle.grid_points.specs.Grid.{Grid, Point, at, division, firstIndex, indices, isGridPoint, numBlocks, numIndices}
+use Rattle.grid_points.specs.Grid.{previous, size}
 use Rattle.path_laws.proofs.Meaning.{index-means}
 use Rattle.points_in_order.proofs.Blocks.{block-sum}
 use Rattle.boundary_labels.specs.Boundary.{isZeroBehindPositive}

@@ -12,9 +12,9 @@ use native.Mathlib.Omega.{arith}
 use Rattle.combinatorics.proofs.Basics.{true-or-false}
 use Rattle.combinatorics.proofs.Lists.{at-all, in-all, in-here, in-later, map-in, onNumbers}
 use Rattle.combinatorics.specs.Lists.{all, isIn}
-use Rattle.grid.proofs.Accepted.{Accepted}
-use Rattle.grid.proofs.Points.{in-points, onPoints, points-in, position-in}
-use Rattle.grid.specs.Grid.{Grid, Point, isGridPoint, numIndices, numPoints, points, position, samePoint}
+use Rattle.grid_points.proofs.Accepted.{Accepted}
+use Rattle.grid_points.proofs.Points.{in-points, onPoints, points-in, position-in}
+use Rattle.grid_points.specs.Grid.{Grid, Point, isGridPoint, numIndices, numPoints, points, position, samePoint}
 use Rattle.boundary_labels.proofs.PointLabels.{boundary-index, table-at, table-length}
 use Rattle.boundary_labels.specs.Boundary.{boundaryLabel, boundaryTable, byteOf, isInterior, newLabel}
 use Rattle.boundary_labels.specs.Claims.{NewTable}

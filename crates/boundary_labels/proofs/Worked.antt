@@ -1,7 +1,7 @@
 -- The worked tables hold. Assumes nothing.
 use mathlib.Core.List.{map}
 use mathlib.Core.Path.{_≡_, refl}
-use Rattle.grid.specs.Grid.{points, previous}
+use Rattle.grid_points.specs.Grid.{points, previous}
 use Rattle.boundary_labels.specs.Boundary.{boundaryIndex, boundaryTable, isInterior}
 use Rattle.boundary_labels.specs.Boundary.{isZeroBehindPositive, newLabel}
 use Rattle.boundary_labels.specs.Worked.{table}

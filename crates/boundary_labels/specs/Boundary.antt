@@ -7,7 +7,7 @@ use Prim.Native.Nat.{ℕ, suc}
 use lib.Dec.{eqb, ltb}
 use lib.ListN.{getD}
 use Rattle.combinatorics.specs.Lists.{all, filter, firstOr}
-use Rattle.grid.specs.Grid.{Grid, Point, at, indices, points, position, previous}
+use Rattle.grid_points.specs.Grid.{Grid, Point, at, indices, points, position, previous}
 
 -- an interior point has no 0, in any block; the others are "boundary points"
 unfoldable pub isInterior : Point → Bool

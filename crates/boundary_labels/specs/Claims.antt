@@ -11,7 +11,8 @@ use Rattle.end_kinds.specs.declared.Kind.{Kind}
 use Rattle.end_kinds.specs.declared.Kind.the-variants.{Place as placeEnd}
 use Rattle.path_laws.specs.Demand.{Ended, NoGap}
 use Rattle.questions.specs.Questions.{firstNo}
-use Rattle.grid.specs.Grid.{Grid, Point, at, indicesOf, isGridPoint, numBlocks, numIndices, numPoints, points, previous}
+use Rattle.grid_points.specs.Grid.{Grid, Point, at, indicesOf, isGridPoint, numBlocks, numIndices, numPoints, points}
+use Rattle.grid_points.specs.Grid.{previous}
 use Rattle.place.specs.Ends.{End, facetEnds, isComplete}
 use Rattle.place.specs.Path.{answer, ended, path, unknown}
 use Rattle.place.specs.Places.{Simplex, isPlace, labelSet, setU}

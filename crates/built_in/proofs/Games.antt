@@ -13,7 +13,7 @@ use native.Mathlib.Omega.{arith}
 use Rattle.combinatorics.proofs.Basics.{false-of, and-left, and-right}
 use Rattle.combinatorics.proofs.Lists.{same-sound, onNumbers}
 use Rattle.combinatorics.specs.Lists.{all, same}
-use Rattle.grid.specs.Grid.{Grid}
+use Rattle.grid_points.specs.Grid.{Grid}
 use Rattle.losses.specs.Game.{product}
 use Rattle.losses.specs.Table.{inRange, IsTable}
 use Rattle.built_in.specs.Tables.{sizes1, sizes2, sizes3, losses1, losses2, losses3, gameSizes, gameLosses}

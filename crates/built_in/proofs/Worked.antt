@@ -2,7 +2,7 @@
 use mathlib.Core.List.{[], _∷_, map}
 use mathlib.Core.Path.{_≡_, refl}
 use lib.IntN.{pos, negsuc}
-use Rattle.grid.specs.Grid.{Grid, indices}
+use Rattle.grid_points.specs.Grid.{Grid, indices}
 use Rattle.losses.specs.Game.{difference, expectedLoss, replaced, gameLabel}
 use Rattle.built_in.specs.Tables.{sizes1, losses1}
 

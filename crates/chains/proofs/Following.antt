@@ -10,7 +10,7 @@ use lib.Dec.{ltb}
 use native.Mathlib.Nat.{mod-lt}
 use native.Mathlib.Omega.{arith}
 use Rattle.combinatorics.proofs.Basics.{before-or-not, same-or, true-or-false}
-use Rattle.grid.specs.Grid.{Point, at}
+use Rattle.grid_points.specs.Grid.{Point, at}
 use Rattle.rules.proofs.Masks.{bit-with}
 use Rattle.rules.specs.Mask.{bit, withIndex}
 use Rattle.chains.specs.Follow.{GoesRound, HasZero, closed, Added, FollowedFrom, FoundOnBlock}

@@ -14,7 +14,7 @@ use native.Mathlib.Omega.{arith}
 use Rattle.combinatorics.proofs.Basics.{absurd-bool, and-left, and-right, before-or-not}
 use Rattle.combinatorics.specs.Lists.{all, upFrom}
 use Rattle.grid.proofs.Fields.{indices-few, made-accepted}
-use Rattle.grid.specs.Grid.{Point, at, numIndices, isGridPoint}
+use Rattle.grid_points.specs.Grid.{Point, at, numIndices, isGridPoint}
 use Rattle.grid.specs.Made.{shape}
 use Rattle.grid.specs.declared.Grid.{Grid as GridStruct}
 use Rattle.simplices.proofs.Tests.{index-at}

@@ -15,7 +15,7 @@ use native.Mathlib.Omega.{arith}
 use Rattle.combinatorics.proofs.Basics.{absurd-bool, before-or-not, both}
 use Rattle.combinatorics.proofs.Lists.{eqb-self, same-self, same-sound}
 use Rattle.combinatorics.specs.Lists.{all, any, same, upFrom}
-use Rattle.grid.specs.Grid.{Grid, at, numIndices}
+use Rattle.grid_points.specs.Grid.{Grid, at, numIndices}
 use Rattle.rules.proofs.Masks.{bit-and}
 use Rattle.rules.specs.Mask.{bit}
 use Rattle.simplices.proofs.Tests.{at-index, index-at}

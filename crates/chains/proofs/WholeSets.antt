@@ -15,10 +15,10 @@ use Rattle.combinatorics.proofs.Basics.{and-left, before-or-not, false-of}
 use Rattle.combinatorics.specs.Lists.{sum}
 use Rattle.geometry.proofs.LabelledChains.{tabulate}
 use Rattle.geometry.proofs.Onward.{length-tabulate, getD-tabulate}
-use Rattle.grid.proofs.Accepted.{Accepted, size-two}
+use Rattle.grid_points.proofs.Accepted.{Accepted, size-two}
 use Rattle.grid.proofs.Fields.{made-accepted, made-first, made-size, size-range as fields-size}
-use Rattle.grid.proofs.Round.{Seat, seat, next-at, next-round, block-fits}
-use Rattle.grid.specs.Grid.{Grid, Point, at, numBlocks, numIndices, firstIndex, size, next, isGridPoint}
+use Rattle.grid_points.proofs.Round.{Seat, seat, next-at, next-round, block-fits}
+use Rattle.grid_points.specs.Grid.{Grid, Point, at, numBlocks, numIndices, firstIndex, size, next, isGridPoint}
 use Rattle.grid.specs.Made.{shape, IsMade}
 use Rattle.grid.specs.declared.Grid.{Grid as GridStruct}
 use Rattle.rules.proofs.Masks.{bit-none}

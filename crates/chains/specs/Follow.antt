@@ -4,7 +4,7 @@ use mathlib.Core.Path.{_≡_}
 use Prim.Native.Nat.{ℕ, suc, _+_, _≤_, _<_}
 use lib.Dec.{ltb}
 use lib.ListN.{length}
-use Rattle.grid.specs.Grid.{Grid, Point, at, numIndices}
+use Rattle.grid_points.specs.Grid.{Grid, Point, at, numIndices}
 use Rattle.rules.specs.Mask.{bit}
 use Rattle.simplices.specs.Chains.{coefficientsFrom, zeroOrOne}
 use Rattle.chains.specs.Sets.{bitNumber, ClearFrom, IsSet}

@@ -5,7 +5,7 @@ use mathlib.Core.Path.{_≡_}
 use Prim.Native.Nat.{ℕ, _*_, _≤_, _<_}
 use lib.ListN.{length, take, drop}
 use Rattle.combinatorics.specs.Lists.{all, upFrom}
-use Rattle.grid.specs.Grid.{Point, at, numIndices, isGridPoint}
+use Rattle.grid_points.specs.Grid.{Point, at, numIndices, isGridPoint}
 use Rattle.grid.specs.Made.{shape, IsMade}
 use Rattle.grid.specs.declared.Grid.{Grid as GridStruct}
 use Rattle.simplices.specs.Chains.{coefficientsFrom, zeroOrOne}

@@ -5,7 +5,7 @@ ghost use mathlib.Core.Path.{_≡_};
 ghost use Prim.Native.Nat.{_+_, _-_, _≤_, _<_};
 ghost use lib.ListN.{length};
 ghost use Rattle.combinatorics.specs.Lists.{all, upFrom};
-ghost use Rattle.grid.specs.Grid.{at, isGridPoint};
+ghost use Rattle.grid_points.specs.Grid.{at, isGridPoint};
 ghost use Rattle.grid.specs.Made.{shape};
 ghost use Rattle.simplices.specs.Chains.{pairwise, chainFrom, oneChain};
 ghost use Rattle.chains.specs.Listed.{listed, Listed, Filled};

@@ -3,7 +3,7 @@
 ghost use mathlib.Core.Bool.{true};
 ghost use mathlib.Core.Path.{_≡_};
 ghost use Prim.Native.Nat.{_≤_};
-ghost use Rattle.grid.specs.Grid.{isGridPoint};
+ghost use Rattle.grid_points.specs.Grid.{isGridPoint};
 ghost use Rattle.grid.specs.Made.{IsMade, shape};
 ghost use Rattle.chains.specs.Follow.{CanFollow, FollowedFrom, FoundOnBlock, FoundOf};
 use arrays::add;

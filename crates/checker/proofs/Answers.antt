@@ -14,9 +14,9 @@ use Rattle.combinatorics.specs.Lists.{all, upFrom}
 use Rattle.questions.proofs.Answers.{asked-next, asked-no, first-yes}
 use Rattle.questions.specs.Questions.{firstNo}
 use Rattle.grid.proofs.Fields.{made-accepted, made-indices}
-use Rattle.grid.specs.Grid.{Grid, dimension, isGridPoint, numIndices}
+use Rattle.grid_points.specs.Grid.{Grid, dimension, isGridPoint, numIndices}
 use Rattle.grid.specs.Made.{IsMade, shape}
-use Rattle.grid.specs.Questions.{gridQuestions}
+use Rattle.grid_points.specs.Questions.{gridQuestions}
 use Rattle.grid.specs.declared.Grid.{Grid as GridStruct}
 use Rattle.place.specs.Questions.{question6, question7}
 use Rattle.simplices.proofs.Answers.{answer-by-test}

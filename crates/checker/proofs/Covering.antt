@@ -20,10 +20,10 @@ use Rattle.combinatorics.proofs.Turns.{map-at}
 use Rattle.combinatorics.specs.Front.{front}
 use Rattle.combinatorics.specs.Lists.{all, filter, isIn, sum, upFrom}
 use Rattle.grid.proofs.Fields.{made-accepted, made-blocks, made-indices}
-use Rattle.grid.proofs.Points.{in-points, position-in}
-use Rattle.grid.proofs.Round.{block-fits}
-use Rattle.grid.specs.Grid.{Grid, Point, at, blocks, firstIndex, indices, indicesOf, isGridPoint, numIndices}
-use Rattle.grid.specs.Grid.{numPoints, points, position, size}
+use Rattle.grid_points.proofs.Points.{in-points, position-in}
+use Rattle.grid_points.proofs.Round.{block-fits}
+use Rattle.grid_points.specs.Grid.{Grid, Point, at, blocks, firstIndex, indices, indicesOf, isGridPoint, numIndices}
+use Rattle.grid_points.specs.Grid.{numPoints, points, position, size}
 use Rattle.grid.specs.Made.{IsMade, shape}
 use Rattle.grid.specs.declared.Grid.{Grid as GridStruct}
 use Rattle.rules.proofs.Masks.{bit-and, bit-none, bit-or, bit-with}

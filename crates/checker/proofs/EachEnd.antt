@@ -16,9 +16,9 @@ use Rattle.combinatorics.specs.Lists.{all, concatMap, upFrom}
 use Rattle.end_kinds.specs.declared.Kind.{Kind}
 use Rattle.questions.proofs.Answers.{both-yes, first-yes}
 use Rattle.questions.specs.Questions.{firstNo}
-use Rattle.grid.proofs.Accepted.{Accepted, accepted, blocks-few}
-use Rattle.grid.specs.Grid.{Grid, Point, dimension, isGridPoint, numIndices}
-use Rattle.grid.specs.Questions.{gridQuestions, question5}
+use Rattle.grid_points.proofs.Accepted.{Accepted, accepted, blocks-few}
+use Rattle.grid_points.specs.Grid.{Grid, Point, dimension, isGridPoint, numIndices}
+use Rattle.grid_points.specs.Questions.{gridQuestions, question5}
 use Rattle.place.specs.Ends.{End}
 use Rattle.place.specs.LabelsRead.{labelsRead}
 use Rattle.place.specs.Path.{answer, outcome, announcement, ended, path, pathLength, spent}

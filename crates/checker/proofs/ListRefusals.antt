@@ -10,9 +10,9 @@ use lib.ListN.{length}
 use native.Mathlib.Omega.{arith}
 use Rattle.combinatorics.specs.Lists.{all}
 use Rattle.questions.specs.Questions.{firstNo}
-use Rattle.grid.proofs.Accepted.{blocks-few}
+use Rattle.grid_points.proofs.Accepted.{blocks-few}
 use Rattle.grid.proofs.Fields.{made-accepted, made-blocks, made-indices}
-use Rattle.grid.specs.Grid.{Grid, dimension, isGridPoint, numIndices, numPoints}
+use Rattle.grid_points.specs.Grid.{Grid, dimension, isGridPoint, numIndices, numPoints}
 use Rattle.grid.specs.Made.{IsMade, shape}
 use Rattle.grid.specs.declared.Grid.{Grid as GridStruct}
 use Rattle.checker.specs.Check.{question19, wholePoints, listedPoints, listQuestions}

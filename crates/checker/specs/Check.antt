@@ -8,8 +8,8 @@ use lib.Dec.{eqb, leb}
 use lib.ListN.{length}
 use Rattle.combinatorics.specs.Lists.{all}
 use Rattle.questions.specs.Questions.{Question, ask, firstNo}
-use Rattle.grid.specs.Grid.{Grid, Point, dimension, numIndices, isGridPoint}
-use Rattle.grid.specs.Questions.{gridQuestions}
+use Rattle.grid_points.specs.Grid.{Grid, Point, dimension, numIndices, isGridPoint}
+use Rattle.grid_points.specs.Questions.{gridQuestions}
 use Rattle.place.specs.Questions.{question6, question7}
 use Rattle.simplices.specs.Simplices.{labelledBy, verdict}
 use Rattle.chains.specs.Listed.{listed}

@@ -8,7 +8,7 @@ use Prim.Native.Nat.{ℕ, suc, _-_, _<_}
 use lib.Dec.{eqb, leb}
 use lib.ListN.{length}
 use Rattle.combinatorics.specs.Lists.{all, filter, isIn}
-use Rattle.grid.specs.Grid.{Grid, Point, at, blocks, indicesOf, numIndices, numPoints}
+use Rattle.grid_points.specs.Grid.{Grid, Point, at, blocks, indicesOf, numIndices, numPoints}
 use Rattle.grid.specs.Made.{shape}
 use Rattle.grid.specs.declared.Grid.{Grid as GridStruct}
 use Rattle.rules.specs.Mask.{bit, withIndex}

@@ -4,7 +4,7 @@ ghost use mathlib.Core.Path.{_≡_};
 ghost use Prim.Native.Nat.{_-_, _≤_};
 ghost use lib.ListN.{take};
 ghost use Rattle.combinatorics.specs.Lists.{all, upFrom};
-ghost use Rattle.grid.specs.Grid.{isGridPoint};
+ghost use Rattle.grid_points.specs.Grid.{isGridPoint};
 ghost use Rattle.grid.specs.Made.{IsMade, shape};
 ghost use Rattle.rules.specs.Mask.{bit};
 ghost use Rattle.place.specs.Problem.{label};

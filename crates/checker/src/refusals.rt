@@ -4,7 +4,7 @@ ghost use Prim.Native.Nat.{_*_};
 ghost use lib.ListN.{length};
 ghost use Rattle.combinatorics.specs.Lists.{all};
 ghost use Rattle.questions.specs.Questions.{firstNo};
-ghost use Rattle.grid.specs.Grid.{isGridPoint};
+ghost use Rattle.grid_points.specs.Grid.{isGridPoint};
 ghost use Rattle.grid.specs.Made.{IsMade, shape};
 ghost use Rattle.chains.specs.Listed.{listed, HasPoints};
 ghost use Rattle.checker.specs.Check.{listQuestions, question19};

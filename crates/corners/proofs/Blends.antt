@@ -7,7 +7,7 @@ use lib.ListN.{length, getD, take, drop, replicate, length-set, length-replicate
 use native.Mathlib.Numerals.{add-one}
 use native.Mathlib.Omega.{arith}
 use Rattle.combinatorics.proofs.Turns.{map-append}
-use Rattle.grid.specs.Grid.{at}
+use Rattle.grid_points.specs.Grid.{at}
 use Rattle.weighed_losses.proofs.Blends.{blend-agree, blend-times, blend-add, blend-same, dot-blend}
 use Rattle.weighed_losses.specs.Levels.{blend}
 use Rattle.losses.proofs.Weights.{dot-spread, length-weights}

@@ -7,8 +7,8 @@ use lib.ListN.{length, take, drop, set, length-drop}
 use lib.Seq.{take-all}
 use native.Mathlib.Omega.{arith}
 use Rattle.combinatorics.specs.Lists.{upFrom}
-use Rattle.grid.proofs.Accepted.{Accepted, accepted}
-use Rattle.grid.specs.Grid.{Grid, Point, numIndices, size, firstIndex}
+use Rattle.grid_points.proofs.Accepted.{Accepted, accepted}
+use Rattle.grid_points.specs.Grid.{Grid, Point, numIndices, size, firstIndex}
 use Rattle.corners.proofs.CornerLosses.{last-ends, own-part, corner-point, difference-column}
 use Rattle.corners.proofs.FirstLargest.{largest-agree}
 use Rattle.points_in_order.proofs.Blocks.{point-length, block-length}

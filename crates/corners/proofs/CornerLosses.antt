@@ -24,12 +24,12 @@ use Rattle.combinatorics.specs.Counting.{binomialProduct, choose}
 use Rattle.combinatorics.specs.Front.{front}
 use Rattle.combinatorics.specs.Lists.{all, filter, sum, upFrom}
 use Rattle.questions.specs.Questions.{firstNo}
-use Rattle.grid.proofs.Accepted.{Accepted, accepted, points-are}
-use Rattle.grid.proofs.Listing.{numPoints-is}
-use Rattle.grid.proofs.Round.{Seat, seat, block-spans}
-use Rattle.grid.specs.Grid.{Grid, Point, at, blockOf, numBlocks, numIndices, numPoints, size, division}
-use Rattle.grid.specs.Grid.{firstIndex, blocks, isGridPoint}
-use Rattle.grid.specs.Questions.{gridQuestions}
+use Rattle.grid_points.proofs.Accepted.{Accepted, accepted, points-are}
+use Rattle.grid_points.proofs.Listing.{numPoints-is}
+use Rattle.grid_points.proofs.Round.{Seat, seat, block-spans}
+use Rattle.grid_points.specs.Grid.{Grid, Point, at, blockOf, numBlocks, numIndices, numPoints, size, division}
+use Rattle.grid_points.specs.Grid.{firstIndex, blocks, isGridPoint}
+use Rattle.grid_points.specs.Questions.{gridQuestions}
 use Rattle.weighed_losses.proofs.Blends.{blend-agree, blend-times, blend-same}
 use Rattle.weighed_losses.proofs.Levels.{block-before}
 use Rattle.weighed_losses.specs.Levels.{blend}

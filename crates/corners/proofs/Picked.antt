@@ -10,8 +10,8 @@ use lib.ListN.{getD, length, take}
 use lib.Seq.{take-at}
 use native.Mathlib.Omega.{arith}
 use Rattle.combinatorics.proofs.Basics.{same-or}
-use Rattle.grid.proofs.Round.{block-at, block-fits}
-use Rattle.grid.specs.Grid.{Grid, Point, at, numBlocks, numIndices, size, firstIndex, blockOf}
+use Rattle.grid_points.proofs.Round.{block-at, block-fits}
+use Rattle.grid_points.specs.Grid.{Grid, Point, at, numBlocks, numIndices, size, firstIndex, blockOf}
 use Rattle.weighed_losses.proofs.Levels.{behind-next, behind-none, levelled-own, levelled-other, levelled-kept}
 use Rattle.weighed_losses.proofs.Levels.{strategy-levelled}
 use Rattle.weighed_losses.specs.Levels.{behind, levelled, place, Owners, StandTo}

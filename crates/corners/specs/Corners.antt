@@ -8,7 +8,7 @@ use Prim.Native.Nat.{ℕ, suc, _+_, _-_, _*_, _≤_, _<_}
 use lib.Dec.{eqb}
 use lib.IntN.{ℤ, pos, natAbs, _+ℤ_, _*ℤ_}
 use lib.ListN.{length, getD, take, set, replicate}
-use Rattle.grid.specs.Grid.{Grid, Point, at, numBlocks, numIndices, size, firstIndex}
+use Rattle.grid_points.specs.Grid.{Grid, Point, at, numBlocks, numIndices, size, firstIndex}
 use Rattle.weighed_losses.specs.Levels.{place, StandTo, Owners}
 use Rattle.losses.specs.Game.{difference}
 use Rattle.losses.specs.Table.{IsTable}

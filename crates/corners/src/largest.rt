@@ -4,7 +4,7 @@ ghost use Prim.Native.Nat.{ℕ, _≤_, _<_};
 ghost use lib.IntN.{pos, natAbs, _-ℤ_};
 ghost use lib.ListN.{length};
 ghost use Rattle.combinatorics.specs.Lists.{upFrom};
-ghost use Rattle.grid.specs.Grid.{at};
+ghost use Rattle.grid_points.specs.Grid.{at};
 ghost use Rattle.corners.specs.Corners.{signedAt};
 ghost use Rattle.losses.specs.Game.{firstLargest};
 

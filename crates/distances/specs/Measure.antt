@@ -3,7 +3,7 @@ use mathlib.Core.Path.{_≡_}
 use mathlib.Core.List.{List}
 use Prim.Native.Nat.{ℕ, _≤_, _<_}
 use lib.ListN.{length}
-use Rattle.grid.specs.Grid.{Grid, at, blockOf, numIndices}
+use Rattle.grid_points.specs.Grid.{Grid, at, blockOf, numIndices}
 use Rattle.visited.specs.Distance.{otherDivisions}
 
 -- "(D / d_j)" of each index

@@ -2,7 +2,7 @@
 ghost use mathlib.Core.Path.{_≡_};
 ghost use Prim.Native.Nat.{_≤_, _<_};
 ghost use lib.ListN.{take};
-ghost use Rattle.grid.specs.Grid.{Grid as Shape};
+ghost use Rattle.grid_points.specs.Grid.{Grid as Shape};
 ghost use Rattle.grid.specs.Made.{shape, IsMade};
 ghost use Rattle.combinatorics.specs.Counting.{apart as apartOf};
 ghost use Rattle.visited.specs.Distance.{distance, otherDivisions};

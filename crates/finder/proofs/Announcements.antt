@@ -17,7 +17,7 @@ use Rattle.combinatorics.specs.Front.{front}
 use Rattle.combinatorics.specs.Lists.{upFrom}
 use Rattle.end_kinds.specs.declared.Kind.{Kind}
 use Rattle.grid.proofs.Fields.{indices-few, made-indices}
-use Rattle.grid.specs.Grid.{Grid, Point, blockOf, dimension, isGridPoint, numIndices}
+use Rattle.grid_points.specs.Grid.{Grid, Point, blockOf, dimension, isGridPoint, numIndices}
 use Rattle.grid.specs.Made.{IsMade, shape}
 use Rattle.grid.specs.declared.Grid.{Grid as GridStruct}
 use Rattle.rules.specs.Read.{numbersFrom, pointIn, pointsFrom}

@@ -11,8 +11,8 @@ use Rattle.combinatorics.proofs.Fronts.{front-none}
 use Rattle.combinatorics.specs.Front.{front}
 use Rattle.end_kinds.specs.declared.Kind.{Kind}
 use Rattle.questions.specs.Questions.{firstNo}
-use Rattle.grid.specs.Grid.{bound}
-use Rattle.grid.specs.Questions.{gridQuestions}
+use Rattle.grid_points.specs.Grid.{bound}
+use Rattle.grid_points.specs.Questions.{gridQuestions}
 use Rattle.place.specs.Path.{Answer as PathAnswer, spent, ended, unknown, answer, pathLength}
 use Rattle.place.specs.Problem.{Problem, withLabels}
 use Rattle.path_laws.proofs.Filling.{filling-holds}

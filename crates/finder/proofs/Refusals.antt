@@ -16,9 +16,9 @@ use Rattle.combinatorics.specs.Lists.{all, sum}
 use Rattle.questions.proofs.Answers.{asked-next, asked-no, both-yes, first-yes}
 use Rattle.questions.specs.Questions.{firstNo}
 use Rattle.grid.proofs.Fields.{indices-few, made-accepted, made-blocks, made-indices, made-shape}
-use Rattle.grid.specs.Grid.{Grid, dimension, isGridPoint, numIndices, numPoints}
+use Rattle.grid_points.specs.Grid.{Grid, dimension, isGridPoint, numIndices, numPoints}
 use Rattle.grid.specs.Made.{IsMade, madeOf, shape}
-use Rattle.grid.specs.Questions.{gridQuestions}
+use Rattle.grid_points.specs.Questions.{gridQuestions}
 use Rattle.grid.specs.declared.Grid.{Grid as GridStruct}
 use Rattle.grid.specs.declared.Made.{Made}
 use Rattle.place.specs.Path.{answer}

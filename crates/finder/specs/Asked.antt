@@ -3,9 +3,9 @@ use mathlib.Core.List.{List, [], _∷_}
 use Prim.Native.Nat.{ℕ, suc, _*_, _≤_}
 use lib.ListN.{length}
 use Rattle.questions.specs.Questions.{Question}
-use Rattle.grid.specs.Grid.{dimension, numIndices}
+use Rattle.grid_points.specs.Grid.{dimension, numIndices}
 use Rattle.grid.specs.Made.{shape}
-use Rattle.grid.specs.Questions.{question5}
+use Rattle.grid_points.specs.Questions.{question5}
 use Rattle.grid.specs.declared.Grid.{Grid as GridStruct}
 use Rattle.place.specs.Problem.{Problem}
 use Rattle.place.specs.Questions.{question6, question7, question8}

@@ -8,7 +8,7 @@ use lib.ListN.{length, getD}
 use Rattle.combinatorics.specs.Front.{front}
 use Rattle.combinatorics.specs.Lists.{concatMap}
 use Rattle.end_kinds.specs.declared.Kind.{Kind}
-use Rattle.grid.specs.Grid.{Point, bound, position}
+use Rattle.grid_points.specs.Grid.{Point, bound, position}
 use Rattle.path_laws.specs.Demand.{Demand3, Ended, Fills, NoGap, lastPlace}
 use Rattle.place.specs.Ends.{End as EndOfPath}
 use Rattle.place.specs.LabelsRead.{labelsRead}

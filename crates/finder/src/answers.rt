@@ -4,7 +4,7 @@ ghost use Prim.Native.Nat.{suc, _<_};
 ghost use lib.ListN.{length};
 ghost use Rattle.combinatorics.specs.Front.{front};
 ghost use Rattle.questions.specs.Questions.{firstNo};
-ghost use Rattle.grid.specs.Grid.{blockOf};
+ghost use Rattle.grid_points.specs.Grid.{blockOf};
 ghost use Rattle.grid.specs.Made.{IsMade, shape};
 ghost use Rattle.place.specs.Path.{Answer as PathAnswer, answer as answerOf};
 ghost use Rattle.place.specs.Problem.{problemOf};

@@ -6,7 +6,7 @@ use lib.ListN.{length, getD, take, set, length-map}
 use native.Mathlib.Omega.{arith}
 use Rattle.combinatorics.proofs.Fronts.{front-copy}
 use Rattle.combinatorics.specs.Front.{front}
-use Rattle.grid.specs.Grid.{Grid, Point, points, numPoints}
+use Rattle.grid_points.specs.Grid.{Grid, Point, points, numPoints}
 use Rattle.losses.specs.Game.{gameLabel, labels}
 use Rattle.points_in_order.proofs.InOrder.{at-map}
 

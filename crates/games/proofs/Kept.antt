@@ -6,7 +6,7 @@ use lib.ListN.{take}
 use lib.Seq.{take-take}
 use native.Mathlib.Omega.{arith}
 use Rattle.combinatorics.specs.Lists.{sum}
-use Rattle.grid.specs.Grid.{Grid, Point, firstIndex}
+use Rattle.grid_points.specs.Grid.{Grid, Point, firstIndex}
 use Rattle.weighed_losses.proofs.Levels.{levelled-kept}
 use Rattle.weighed_losses.specs.Levels.{StandTo}
 

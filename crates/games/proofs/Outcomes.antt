@@ -12,10 +12,10 @@ use Rattle.combinatorics.proofs.Fronts.{front-length}
 use Rattle.combinatorics.specs.Front.{front}
 use Rattle.combinatorics.specs.Lists.{all}
 use Rattle.grid.proofs.Fields.{made-accepted, blocks-range, made-is, made-shape, made-blocks, made-first, made-points}
-use Rattle.grid.specs.Grid.{Grid, numBlocks, numPoints}
+use Rattle.grid_points.specs.Grid.{Grid, numBlocks, numPoints}
 use Rattle.grid.specs.Made.{madeOf, gridOf, IsMade, shape}
 use Rattle.questions.specs.Questions.{Question, firstNo}
-use Rattle.grid.specs.Questions.{gridQuestions}
+use Rattle.grid_points.specs.Questions.{gridQuestions}
 use Rattle.grid.specs.declared.Grid.{Grid as GridStruct}
 use Rattle.grid.specs.declared.Made.{Made}
 use Rattle.losses.specs.Game.{product, labels}

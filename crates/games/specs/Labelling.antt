@@ -5,9 +5,9 @@ use Prim.Native.Nat.{ℕ}
 use lib.Dec.{eqb}
 use lib.ListN.{length}
 use Rattle.combinatorics.specs.Front.{front}
-use Rattle.grid.specs.Grid.{Grid, numPoints}
+use Rattle.grid_points.specs.Grid.{Grid, numPoints}
 use Rattle.questions.specs.Questions.{Question, ask, firstNo}
-use Rattle.grid.specs.Questions.{gridQuestions}
+use Rattle.grid_points.specs.Questions.{gridQuestions}
 use Rattle.losses.specs.Game.{labels}
 use Rattle.grid.specs.Build.{lent}
 use Rattle.losses.specs.Table.{question10, question11}

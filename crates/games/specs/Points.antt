@@ -6,7 +6,7 @@ use Prim.Native.Nat.{ℕ, _<_}
 use lib.IntN.{ℤ}
 use lib.ListN.{length, getD}
 use Rattle.corners.specs.Corners.{lastPlayer, cornerGrid}
-use Rattle.grid.specs.Grid.{Grid, Point, numBlocks, numPoints, points}
+use Rattle.grid_points.specs.Grid.{Grid, Point, numBlocks, numPoints, points}
 use Rattle.weighed_losses.specs.Levels.{Owners, LevelsAt}
 use Rattle.losses.specs.Table.{IsTable}
 use Rattle.points_in_order.specs.Lent.{WithFirsts}

@@ -9,7 +9,7 @@ ghost use Rattle.combinatorics.specs.Lists.{sum};
 ghost use Rattle.corners.specs.Corners.{numCorners, Cornered};
 ghost use Rattle.games.specs.Points.{ChangeToWeigh, PointsToLabel};
 ghost use Rattle.grid.specs.Build.{lent};
-ghost use Rattle.grid.specs.Grid.{numPoints};
+ghost use Rattle.grid_points.specs.Grid.{numPoints};
 ghost use Rattle.weighed_losses.specs.Levels.{Owners, StandTo};
 ghost use Rattle.losses.specs.Game.{labels};
 ghost use Rattle.losses.specs.Table.{IsTable};

@@ -18,14 +18,14 @@ use Rattle.combinatorics.proofs.Turns.{map-at}
 use Rattle.combinatorics.specs.Lists.{upFrom}
 use Rattle.combinatorics.specs.Front.{padded}
 use Rattle.questions.specs.Questions.{firstNo}
-use Rattle.grid.proofs.Accepted.{Accepted, accepted, count-few, size-two}
-use Rattle.grid.proofs.Round.{next-low, next-previous}
+use Rattle.grid_points.proofs.Accepted.{Accepted, accepted, count-few, size-two}
+use Rattle.grid_points.proofs.Round.{next-low, next-previous}
 use Rattle.grid.specs.declared.Grid.{Grid as GridStruct}
 use Rattle.grid.specs.declared.Made.{Made}
-use Rattle.grid.specs.Grid.{Grid, numBlocks, numIndices, numPoints, size, division, firstIndex, blockOf, next}
-use Rattle.grid.specs.Grid.{previous}
-use Rattle.grid.specs.Made.{gridOf, madeOf, shape, IsMade, blockCount}
-use Rattle.grid.specs.Questions.{gridQuestions}
+use Rattle.grid_points.specs.Grid.{Grid, numBlocks, numIndices, numPoints, size, division, firstIndex, blockOf, next}
+use Rattle.grid_points.specs.Grid.{previous, blockCount}
+use Rattle.grid.specs.Made.{gridOf, madeOf, shape, IsMade}
+use Rattle.grid_points.specs.Questions.{gridQuestions}
 
 pub padded-at : (f : ℕ → ℕ) (n m i : ℕ) → i < m → getD (padded n (map f (upFrom 0 m))) i 0 ≡ f i
 padded-at f n m i h =

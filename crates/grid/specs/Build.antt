@@ -4,11 +4,11 @@ use mathlib.Core.Path.{_≡_}
 use Prim.Native.Nat.{ℕ}
 use lib.ListN.{replicate}
 use Rattle.questions.specs.Questions.{firstNo}
-use Rattle.grid.specs.Grid.{Grid, numBlocks, firstIndex, blocks, indices, blockOf}
-use Rattle.grid.specs.Grid.{next as after, previous as before}
+use Rattle.grid_points.specs.Grid.{Grid, numBlocks, firstIndex, blocks, indices, blockOf, blockCount}
+use Rattle.grid_points.specs.Grid.{next as after, previous as before}
 use Rattle.combinatorics.specs.Front.{padded}
-use Rattle.grid.specs.Made.{blockCount, gridOf}
-use Rattle.grid.specs.Questions.{gridQuestions}
+use Rattle.grid.specs.Made.{gridOf}
+use Rattle.grid_points.specs.Questions.{gridQuestions}
 
 -- the sizes and divisions lent to the constructor
 abbrev pub lent : List ℕ → List ℕ → Grid

@@ -1,4 +1,2 @@
-pub mod Grid
-pub mod Questions
 pub mod Made
 pub mod Build

@@ -2,21 +2,15 @@
 use mathlib.Core.Path.{_≡_}
 use mathlib.Core.Bool.{cond}
 use mathlib.Core.List.{List, map}
-use Prim.Native.Nat.{ℕ, _+_, pred}
 use lib.Dec.{eqb}
 use lib.ListN.{take, replicate}
-use Rattle.combinatorics.specs.Counting.{choose}
 use Rattle.combinatorics.specs.Front.{padded}
 use Rattle.questions.specs.Questions.{firstNo}
-use Rattle.grid.specs.Grid.{Grid, numBlocks, numIndices, numPoints, size, division, firstIndex, blocks, indices}
-use Rattle.grid.specs.Grid.{blockOf, next, previous}
-use Rattle.grid.specs.Questions.{gridQuestions}
+use Rattle.grid_points.specs.Grid.{Grid, blockCount, blockOf, blocks, firstIndex, indices, next, numBlocks, numIndices}
+use Rattle.grid_points.specs.Grid.{numPoints, previous}
+use Rattle.grid_points.specs.Questions.{gridQuestions}
 use Rattle.grid.specs.declared.Grid.{Grid as GridStruct}
 use Rattle.grid.specs.declared.Made.{Made}
-
--- the binomial "d_j + n_j choose n_j" of block j
-abbrev pub blockCount : Grid → ℕ → ℕ
-blockCount g j = choose (division g j + pred (size g j)) (pred (size g j))
 
 unfoldable pub gridOf : Grid → GridStruct
 gridOf g = record {

@@ -13,9 +13,9 @@ ghost use Rattle.grid.specs.Build.{
   IndicesUnmarked,
   IndicesMarked,
 };
-ghost use Rattle.grid.specs.Grid.{Grid as Shape, blockIn, numPoints};
+ghost use Rattle.grid_points.specs.Grid.{Grid as Shape, blockIn, numPoints};
 ghost use Rattle.grid.specs.Made.{gridOf};
-ghost use Rattle.grid.specs.Questions.{gridQuestions};
+ghost use Rattle.grid_points.specs.Questions.{gridQuestions};
 use crate::Grid;
 use grid_counts::block_count;
 use grid_counts::first_index;

@@ -2,7 +2,7 @@
 ghost use mathlib.Core.Path.{_≡_};
 ghost use Rattle.questions.specs.Questions.{firstNo};
 ghost use Rattle.grid.specs.Build.{lent};
-ghost use Rattle.grid.specs.Questions.{gridQuestions};
+ghost use Rattle.grid_points.specs.Questions.{gridQuestions};
 use crate::Grid;
 use grid_counts::MAX_POINTS;
 use grid_counts::each_one;

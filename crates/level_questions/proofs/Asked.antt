@@ -6,7 +6,7 @@ use Prim.Native.Nat.{ℕ, _*_, _≤_, _<_}
 use borrow.Author.Tests.{eq-eqb, le-leb, lt-leb, ne-eqb}
 use lib.ListN.{length}
 use Rattle.combinatorics.specs.Lists.{all}
-use Rattle.grid.specs.Grid.{Grid, isGridPoint}
+use Rattle.grid_points.specs.Grid.{Grid, isGridPoint}
 use Rattle.levels.specs.Questions.{levelRoom}
 use Rattle.losses.specs.Table.{inRange, numLosses}
 use Rattle.questions.specs.Questions.{firstNo}

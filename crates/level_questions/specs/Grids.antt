@@ -3,7 +3,7 @@ use mathlib.Core.Bool.{true, false}
 use mathlib.Core.Path.{_≡_}
 use Prim.Native.Nat.{ℕ, _≤_, _<_}
 use lib.ListN.{length, getD, take}
-use Rattle.grid.specs.Grid.{Grid, division}
+use Rattle.grid_points.specs.Grid.{Grid, division}
 use Rattle.grid.specs.Made.{gridOf, shape}
 use Rattle.grid.specs.declared.Grid.{Grid as GridStruct}
 use Rattle.levels.specs.Levels.{finer, gridAt, times}

@@ -3,8 +3,8 @@
 use mathlib.Core.List.{List, [], _∷_}
 use Prim.Native.Nat.{ℕ}
 use lib.Dec.{eqb}
-use Rattle.grid.specs.Grid.{Grid}
-use Rattle.grid.specs.Questions.{question5}
+use Rattle.grid_points.specs.Grid.{Grid}
+use Rattle.grid_points.specs.Questions.{question5}
 use Rattle.levels.specs.Questions.{levelQuestion8}
 use Rattle.losses.specs.Table.{question10, question11}
 use Rattle.questions.specs.Questions.{Question, ask}

@@ -14,10 +14,10 @@ use Rattle.combinatorics.specs.Lists.{concatMap, sum, upFrom}
 use Rattle.finder.proofs.Demand.{run-demand3}
 use Rattle.finder.proofs.Refusals.{answered}
 use Rattle.finder.specs.Run.{caseOf, numbersOf, runRefusal, runAnswer, runBuffer}
-use Rattle.grid.proofs.Accepted.{accepted}
+use Rattle.grid_points.proofs.Accepted.{accepted}
 use Rattle.combinatorics.proofs.Terms.{terms-few}
-use Rattle.grid.specs.Grid.{bound, dimension, isGridPoint, numIndices}
-use Rattle.grid.specs.Questions.{gridQuestions, question5}
+use Rattle.grid_points.specs.Grid.{bound, dimension, isGridPoint, numIndices}
+use Rattle.grid_points.specs.Questions.{gridQuestions, question5}
 use Rattle.place.specs.Path.{Answer, spent, ended, unknown, pathLength}
 use Rattle.place.specs.Problem.{Problem}
 use Rattle.place.specs.Questions.{question8 as runQuestion8, tableQuestions}

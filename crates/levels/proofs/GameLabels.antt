@@ -8,7 +8,7 @@ use lib.Dec.{leb}
 use native.Mathlib.Omega.{arith}
 use Rattle.combinatorics.proofs.Basics.{and-both}
 use Rattle.combinatorics.specs.Lists.{all, filter, firstOr, upFrom}
-use Rattle.grid.specs.Grid.{Grid, Point, indices, numIndices, points}
+use Rattle.grid_points.specs.Grid.{Grid, Point, indices, numIndices, points}
 use Rattle.losses.specs.Game.{difference, firstLargest, gameLabel, labels}
 
 -- the first number of a range that passes a test is below its end, and so is 0

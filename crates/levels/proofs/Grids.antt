@@ -15,12 +15,12 @@ use Rattle.combinatorics.proofs.Basics.{and-left, before-or-not, same-or}
 use Rattle.combinatorics.proofs.Binomials.{choose-grows}
 use Rattle.combinatorics.proofs.Turns.{upFrom-next}
 use Rattle.combinatorics.specs.Lists.{all, concatMap, upFrom}
-use Rattle.grid.proofs.Accepted.{Accepted, accepted}
-use Rattle.grid.proofs.CoordinatesBelow.{division-below}
-use Rattle.grid.proofs.Listing.{numPoints-is}
-use Rattle.grid.specs.Grid.{Grid, division, numBlocks, numIndices, numPoints}
+use Rattle.grid_points.proofs.Accepted.{Accepted, accepted}
+use Rattle.grid_points.proofs.CoordinatesBelow.{division-below}
+use Rattle.grid_points.proofs.Listing.{numPoints-is}
+use Rattle.grid_points.specs.Grid.{Grid, division, numBlocks, numIndices, numPoints}
 use Rattle.combinatorics.specs.Counting.{binomialProduct}
-use Rattle.grid.specs.Questions.{gridQuestions, question1, question2, question3, question4}
+use Rattle.grid_points.specs.Questions.{gridQuestions, question1, question2, question3, question4}
 use Rattle.questions.proofs.Answers.{asked-next, asked-no, both-yes, numbered}
 use Rattle.questions.specs.Questions.{Question, firstNo}
 use Rattle.levels.specs.Claims.{AskedOfAll}

@@ -12,9 +12,9 @@ use Rattle.combinatorics.proofs.Basics.{and-both, and-left, and-right}
 use Rattle.combinatorics.proofs.Lists.{all-in, in-all, onNumbers}
 use Rattle.combinatorics.specs.Lists.{all, firstOr, sum}
 use Rattle.games.proofs.AllLabels.{labels-length}
-use Rattle.grid.proofs.Accepted.{accepted, blocks-few}
-use Rattle.grid.specs.Grid.{Grid, Point, at, blocks, division, indicesOf, isGridPoint, numIndices}
-use Rattle.grid.specs.Questions.{gridQuestions}
+use Rattle.grid_points.proofs.Accepted.{accepted, blocks-few}
+use Rattle.grid_points.specs.Grid.{Grid, Point, at, blocks, division, indicesOf, isGridPoint, numIndices}
+use Rattle.grid_points.specs.Questions.{gridQuestions}
 use Rattle.losses.specs.Game.{labels}
 use Rattle.place.specs.Path.{path}
 use Rattle.place.specs.Places.{Simplex}

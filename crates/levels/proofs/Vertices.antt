@@ -14,10 +14,10 @@ use Rattle.combinatorics.proofs.Basics.{and-both, and-left, and-right}
 use Rattle.combinatorics.specs.Front.{front}
 use Rattle.combinatorics.specs.Lists.{all, concatMap, firstOr}
 use Rattle.finder.proofs.Announcements.{point-long}
-use Rattle.grid.proofs.Accepted.{accepted}
-use Rattle.grid.proofs.CoordinatesBelow.{coordinate-below}
-use Rattle.grid.specs.Grid.{Grid, isGridPoint, numIndices}
-use Rattle.grid.specs.Questions.{gridQuestions}
+use Rattle.grid_points.proofs.Accepted.{accepted}
+use Rattle.grid_points.proofs.CoordinatesBelow.{coordinate-below}
+use Rattle.grid_points.specs.Grid.{Grid, isGridPoint, numIndices}
+use Rattle.grid_points.specs.Questions.{gridQuestions}
 use Rattle.place.specs.Places.{Simplex}
 use Rattle.place.specs.Problem.{Problem}
 use Rattle.path_laws.proofs.Filled.{FullyLabelled}

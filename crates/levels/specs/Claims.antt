@@ -8,8 +8,8 @@ use Rattle.combinatorics.specs.Front.{front}
 use Rattle.combinatorics.specs.Lists.{sum, upFrom}
 use Rattle.finder.specs.Demand.{AcceptedWith, RunDemand3, RunEnded, announcementOf}
 use Rattle.finder.specs.Run.{caseOf, runAnswer, runBuffer}
-use Rattle.grid.specs.Grid.{Grid, bound, isGridPoint}
-use Rattle.grid.specs.Questions.{question1, question2, question3, question4}
+use Rattle.grid_points.specs.Grid.{Grid, bound, isGridPoint}
+use Rattle.grid_points.specs.Questions.{question1, question2, question3, question4}
 use Rattle.place.specs.Path.{pathLength}
 use Rattle.questions.specs.Questions.{firstNo}
 use Rattle.levels.specs.Levels.{Refinement, firstVertex, gridAt, levelEnd, levelGrid, levelProblem, times}

@@ -4,7 +4,7 @@
 use mathlib.Core.List.{List, [], map}
 use Prim.Native.Nat.{ℕ, zero, suc, _*_, _^_}
 use Rattle.combinatorics.specs.Lists.{firstOr}
-use Rattle.grid.specs.Grid.{Grid, Point, bound}
+use Rattle.grid_points.specs.Grid.{Grid, Point, bound}
 use Rattle.losses.specs.Game.{labels}
 use Rattle.place.specs.Path.{Answer, spent, ended, unknown, answer}
 use Rattle.place.specs.Places.{Simplex}

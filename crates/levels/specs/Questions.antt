@@ -5,8 +5,8 @@ use Prim.Native.Nat.{ℕ, suc, pred, _*_}
 use lib.Dec.{leb}
 use Rattle.combinatorics.specs.Lists.{concatMap, upFrom}
 use Rattle.games.specs.Labelling.{question12}
-use Rattle.grid.specs.Grid.{Grid, dimension, numIndices}
-use Rattle.grid.specs.Questions.{gridQuestions, question5}
+use Rattle.grid_points.specs.Grid.{Grid, dimension, numIndices}
+use Rattle.grid_points.specs.Questions.{gridQuestions, question5}
 use Rattle.losses.specs.Table.{question10, question11}
 use Rattle.questions.specs.Questions.{Question, ask}
 use Rattle.levels.specs.Levels.{Refinement, gridAt, levelGrid}

@@ -13,8 +13,8 @@ use Rattle.combinatorics.proofs.Basics.{and-left, and-right, and-both}
 use Rattle.combinatorics.proofs.Lists.{in-all, filter-in, onNumbers}
 use Rattle.combinatorics.proofs.Ranges.{upFrom-in}
 use Rattle.combinatorics.specs.Lists.{all, sum}
-use Rattle.grid.proofs.Accepted.{Accepted}
-use Rattle.grid.specs.Grid.{Grid, Point, at, numBlocks, division, size, isGridPoint, blocks}
+use Rattle.grid_points.proofs.Accepted.{Accepted}
+use Rattle.grid_points.specs.Grid.{Grid, Point, at, numBlocks, division, size, isGridPoint, blocks}
 use Rattle.losses.proofs.Players.{product-own, divisions-few}
 use Rattle.points_in_order.proofs.Blocks.{block-sum}
 use Rattle.losses.proofs.Weights.{sum-weights, dot-bound}

@@ -11,9 +11,9 @@ use Rattle.combinatorics.proofs.Ranges.{length-upFrom, upFrom-add}
 use Rattle.combinatorics.proofs.Turns.{map-append, sum-next}
 use Rattle.combinatorics.specs.Front.{front}
 use Rattle.combinatorics.specs.Lists.{sum, upFrom}
-use Rattle.grid.proofs.Accepted.{accepted}
-use Rattle.grid.proofs.Round.{block-fits}
-use Rattle.grid.specs.Grid.{Grid, Point, numBlocks, numIndices, division, size, firstIndex}
+use Rattle.grid_points.proofs.Accepted.{accepted}
+use Rattle.grid_points.proofs.Round.{block-fits}
+use Rattle.grid_points.specs.Grid.{Grid, Point, numBlocks, numIndices, division, size, firstIndex}
 use Rattle.losses.proofs.Losses.{expected-fits, replaced-fit}
 use Rattle.losses.proofs.Players.{lent-mix}
 use Rattle.points_in_order.proofs.Blocks.{block-length, point-length}

@@ -14,9 +14,9 @@ use Rattle.combinatorics.proofs.Lists.{filter-append, eqb-self}
 use Rattle.combinatorics.proofs.Ranges.{upFrom-add}
 use Rattle.combinatorics.proofs.Turns.{map-append}
 use Rattle.combinatorics.specs.Lists.{all, filter, sum, upFrom}
-use Rattle.grid.proofs.Accepted.{Accepted, points-are}
-use Rattle.grid.proofs.Round.{block-fits}
-use Rattle.grid.specs.Grid.{Grid, at}
+use Rattle.grid_points.proofs.Accepted.{Accepted, points-are}
+use Rattle.grid_points.proofs.Round.{block-fits}
+use Rattle.grid_points.specs.Grid.{Grid, at}
 use Rattle.combinatorics.specs.Counting.{binomialProduct}
 use Rattle.points_in_order.proofs.Blocks.{at-part, division-below}
 use Rattle.losses.specs.Game.{product, mix}

@@ -12,8 +12,8 @@ use Rattle.combinatorics.proofs.Basics.{not-is}
 use Rattle.combinatorics.proofs.Lists.{in-all, filter-in, eqb-self, onNumbers}
 use Rattle.combinatorics.proofs.Turns.{map-at}
 use Rattle.combinatorics.specs.Lists.{upFrom}
-use Rattle.grid.proofs.Round.{block-at, block-fits}
-use Rattle.grid.specs.Grid.{Grid, Point, at, numIndices, division, size, firstIndex, blockOf, blocks, indicesOf}
+use Rattle.grid_points.proofs.Round.{block-at, block-fits}
+use Rattle.grid_points.specs.Grid.{Grid, Point, at, numIndices, division, size, firstIndex, blockOf, blocks, indicesOf}
 use Rattle.points_in_order.proofs.Blocks.{block-length}
 use Rattle.losses.proofs.Weights.{dot-spread, length-weighed, chances}
 use Rattle.losses.specs.Game.{dot, profiles, chance, mix, opponents, ownFirst, lossesOf, expectedLoss, replaced}

@@ -15,7 +15,7 @@ use Rattle.combinatorics.proofs.Lists.{all-in, at-all, onNumbers}
 use Rattle.combinatorics.proofs.Ranges.{in-upFrom}
 use Rattle.combinatorics.proofs.Turns.{all-next}
 use Rattle.combinatorics.specs.Lists.{all, sum, upFrom}
-use Rattle.grid.specs.Grid.{Grid, numBlocks}
+use Rattle.grid_points.specs.Grid.{Grid, numBlocks}
 use Rattle.losses.specs.Game.{product, lossesOf}
 use Rattle.losses.specs.Table.{inRange, IsTable}
 

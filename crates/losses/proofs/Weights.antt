@@ -15,8 +15,8 @@ use Rattle.combinatorics.proofs.Basics.{and-left, and-right}
 use Rattle.combinatorics.proofs.Lists.{at-all}
 use Rattle.combinatorics.proofs.Turns.{sum-append, map-append}
 use Rattle.combinatorics.specs.Lists.{all, concatMap, sum, upFrom}
-use Rattle.grid.proofs.Points.{first-append}
-use Rattle.grid.specs.Grid.{at}
+use Rattle.grid_points.proofs.Points.{first-append}
+use Rattle.grid_points.specs.Grid.{at}
 use Rattle.losses.specs.Game.{product, dot, profiles, chance}
 use Rattle.losses.specs.Weights.{weighed, spread, weights, fit}
 

@@ -6,7 +6,7 @@ use mathlib.Core.Path.{_≡_}
 use Prim.Native.Nat.{ℕ, _+_, _*_, _≤_, _<_}
 use lib.ListN.{length, getD, take}
 use lib.Seq.{paste}
-use Rattle.grid.specs.Grid.{Grid, Point, at, numBlocks, numIndices, size, firstIndex, indicesOf}
+use Rattle.grid_points.specs.Grid.{Grid, Point, at, numBlocks, numIndices, size, firstIndex, indicesOf}
 use Rattle.points_in_order.specs.Lent.{PointWithFirsts}
 use Rattle.losses.specs.Game.{dot, lossesOf}
 use Rattle.losses.specs.Table.{IsTable}

@@ -8,7 +8,7 @@ use lib.IntN.{ℤ, pos, _-ℤ_}
 use lib.ListN.{take, drop}
 use lib.Signed.{ltZ}
 use Rattle.combinatorics.specs.Lists.{all, concatMap, filter, firstOr, upFrom}
-use Rattle.grid.specs.Grid.{Grid, Point, at, size, division, blockOf, blocks, indices, indicesOf, points}
+use Rattle.grid_points.specs.Grid.{Grid, Point, at, size, division, blockOf, blocks, indices, indicesOf, points}
 
 abbrev pub product : List ℕ → ℕ
 product [] = 1

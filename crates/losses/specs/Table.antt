@@ -6,7 +6,7 @@ use Prim.Native.Nat.{ℕ, _*_}
 use lib.Dec.{eqb, leb}
 use lib.ListN.{length}
 use Rattle.combinatorics.specs.Lists.{all}
-use Rattle.grid.specs.Grid.{Grid, numBlocks}
+use Rattle.grid_points.specs.Grid.{Grid, numBlocks}
 use Rattle.questions.specs.Questions.{Question, ask}
 use Rattle.losses.specs.Game.{product}
 

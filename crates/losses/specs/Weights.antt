@@ -5,7 +5,7 @@ use Prim.Native.Nat.{ℕ, zero, suc, _*_}
 use lib.Dec.{ltb}
 use lib.ListN.{length, drop}
 use Rattle.combinatorics.specs.Lists.{all, concatMap}
-use Rattle.grid.specs.Grid.{Grid, Point, size}
+use Rattle.grid_points.specs.Grid.{Grid, Point, size}
 use Rattle.losses.specs.Game.{dot, mix, opponents}
 
 -- each of the first n rows of values, as long as the weights, becomes the sum of its values weighed

@@ -4,7 +4,7 @@ ghost use mathlib.Core.List.{List, map};
 ghost use mathlib.Core.Path.{_≡_};
 ghost use Prim.Native.Nat.{ℕ, _<_};
 ghost use Rattle.combinatorics.specs.Front.{front};
-ghost use Rattle.grid.specs.Grid.{numBlocks, indices};
+ghost use Rattle.grid_points.specs.Grid.{numBlocks, indices};
 ghost use Rattle.losses.specs.Game.{playerLoss, replacedLoss};
 ghost use Rattle.grid.specs.Build.{lent};
 ghost use Rattle.losses.specs.AtPoint.{GameAtPoint, HasRoomAtIndices, StrategiesStand, withBlock};

@@ -14,7 +14,7 @@ use Rattle.grid.proofs.Fields.{made-accepted, made-indices}
 use Rattle.positions.proofs.ByTails.{falls-room}
 use Rattle.positions.proofs.Positions.{position-below}
 use Rattle.positions.specs.Falls.{Falls, tailFrom}
-use Rattle.grid.specs.Grid.{Grid, position}
+use Rattle.grid_points.specs.Grid.{Grid, position}
 use Rattle.grid.specs.Made.{IsMade, shape}
 use Rattle.grid.specs.declared.Grid.{Grid as GridStruct}
 use Rattle.rules.specs.Read.{Falling, FallsBeside, pointOn, positionAt, sourceAt, stepAt}

@@ -17,7 +17,7 @@ use Rattle.positions.proofs.Squares.{square-adds}
 use Rattle.positions.proofs.Steps.{after-is}
 use Rattle.positions.specs.Squares.{Apart}
 use Rattle.positions.specs.Steps.{CanTakeSteps, afterSteps}
-use Rattle.grid.specs.Grid.{Grid, Point, at, blockOf, isGridPoint, position}
+use Rattle.grid_points.specs.Grid.{Grid, Point, at, blockOf, isGridPoint, position}
 use Rattle.grid.specs.Made.{IsMade, shape}
 use Rattle.grid.specs.declared.Grid.{Grid as GridStruct}
 use Rattle.place.specs.Problem.{label}

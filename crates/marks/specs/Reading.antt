@@ -7,7 +7,7 @@ use lib.Dec.{eqb, ltb, leb}
 use lib.ListN.{length}
 use Rattle.positions.specs.Binomials.{HasBinomials}
 use Rattle.positions.specs.Falls.{Falls}
-use Rattle.grid.specs.Grid.{Grid, Point, at, blockOf, division, isGridPoint, numPoints, position}
+use Rattle.grid_points.specs.Grid.{Grid, Point, at, blockOf, division, isGridPoint, numPoints, position}
 use Rattle.grid.specs.Made.{IsMade, shape}
 use Rattle.grid.specs.declared.Grid.{Grid as GridStruct}
 use Rattle.place.specs.Problem.{Problem, label}

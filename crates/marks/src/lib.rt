@@ -5,7 +5,7 @@ ghost use mathlib.Core.Path.{_≡_};
 ghost use Prim.Native.Nat.{_≤_, _<_};
 ghost use lib.ListN.{length};
 ghost use Rattle.arrays.specs.Rounds.{roundBack};
-ghost use Rattle.grid.specs.Grid.{position};
+ghost use Rattle.grid_points.specs.Grid.{position};
 ghost use Rattle.grid.specs.Made.{shape, IsMade};
 ghost use Rattle.moves.specs.Held.{stateOf, held};
 ghost use Rattle.positions.specs.Binomials.{Measured};

@@ -12,7 +12,7 @@ use lib.ListN.{length, take}
 use Rattle.arrays.specs.Rounds.{roundOf}
 use Rattle.combinatorics.proofs.Basics.{true-or-false, false-of, and-left, and-right}
 use Rattle.combinatorics.specs.Edits.{removeAt, swapAt, rotateLeft, rotateRight, found}
-use Rattle.grid.specs.Grid.{at}
+use Rattle.grid_points.specs.Grid.{at}
 use Rattle.combinatorics.proofs.EditsOfArrays.{counted}
 use Rattle.rules.proofs.FirstMet.{entry}
 use Rattle.rules.specs.Mask.{bit, withIndex, withoutIndex}

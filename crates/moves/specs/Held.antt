@@ -5,7 +5,7 @@ use Prim.Native.Nat.{ℕ, suc, _-_, _≤_, _<_}
 use lib.ListN.{take}
 use denote.Ref.{now}
 use Rattle.arrays.specs.Rounds.{Lent, LentBoth}
-use Rattle.grid.specs.Grid.{at}
+use Rattle.grid_points.specs.Grid.{at}
 use Rattle.rules.specs.Ready.{IndicesBelow, RoundBelow, SixteenEach, Ready, ReadyGrow}
 use Rattle.rules.specs.Step.{State, Round, After, goes, endsAtPlace, endsAtFacet, sourceIn, joined}
 use Rattle.moves.specs.declared.Outcome.{Outcome}

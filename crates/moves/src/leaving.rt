@@ -9,7 +9,7 @@ ghost use Prim.Native.Nat.{_-_, _<_};
 ghost use lib.Dec.{eqb};
 ghost use lib.ListN.{length};
 ghost use Rattle.arrays.specs.Rounds.{round, roundBack, noRound};
-ghost use Rattle.grid.specs.Grid.{at};
+ghost use Rattle.grid_points.specs.Grid.{at};
 ghost use Rattle.moves.specs.Held.{held, heldBy, Gives, GivesAll, Sound, CanShrink};
 ghost use Rattle.moves.specs.Held.{IsFirstStep, IsLastStep, IsMiddle};
 ghost use Rattle.rules.specs.Mask.{bit};

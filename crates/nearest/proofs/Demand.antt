@@ -9,8 +9,8 @@ use Rattle.combinatorics.proofs.Basics.{same-or}
 use Rattle.combinatorics.proofs.Fronts.{front-none}
 use Rattle.combinatorics.specs.Front.{front}
 use Rattle.questions.specs.Questions.{firstNo}
-use Rattle.grid.specs.Grid.{Point, isGridPoint}
-use Rattle.grid.specs.Questions.{gridQuestions}
+use Rattle.grid_points.specs.Grid.{Point, isGridPoint}
+use Rattle.grid_points.specs.Questions.{gridQuestions}
 use Rattle.place.specs.Path.{answer, spent, unknown}
 use Rattle.place.specs.Problem.{Problem}
 use Rattle.path_laws.proofs.Theorem.{demand3-holds}

@@ -14,8 +14,8 @@ use Rattle.end_kinds.specs.declared.Kind.{Kind}
 use Rattle.path_laws.specs.Demand.{Accepted}
 use Rattle.questions.proofs.Answers.{asked-next, asked-no, both-yes, first-yes}
 use Rattle.questions.specs.Questions.{firstNo}
-use Rattle.grid.specs.Grid.{Point, isGridPoint, numPoints}
-use Rattle.grid.specs.Questions.{gridQuestions, question5}
+use Rattle.grid_points.specs.Grid.{Point, isGridPoint, numPoints}
+use Rattle.grid_points.specs.Questions.{gridQuestions, question5}
 use Rattle.place.specs.Path.{Answer as PathAnswer, answer, ended, spent, unknown}
 use Rattle.place.specs.Places.{Simplex}
 use Rattle.place.specs.Problem.{Problem}

@@ -5,7 +5,7 @@ use mathlib.Core.Path.{_≡_}
 use Prim.Native.Nat.{ℕ, _<_}
 use lib.ListN.{length}
 use Rattle.end_kinds.specs.declared.Kind.{Kind}
-use Rattle.grid.specs.Grid.{Point, position}
+use Rattle.grid_points.specs.Grid.{Point, position}
 use Rattle.place.specs.Path.{pathLength}
 use Rattle.place.specs.Problem.{Problem}
 use Rattle.finder.specs.Run.{runAnswer, runBuffer}

@@ -7,7 +7,7 @@ use lib.Dec.{eqb}
 use lib.ListN.{length}
 use Rattle.combinatorics.specs.Front.{front}
 use Rattle.questions.specs.Questions.{firstNo}
-use Rattle.grid.specs.Grid.{Point, position}
+use Rattle.grid_points.specs.Grid.{Point, position}
 use Rattle.place.specs.Path.{Answer as PathAnswer, answer, ended, spent, unknown}
 use Rattle.place.specs.Problem.{Problem}
 use Rattle.finder.specs.Run.{caseOf, numbersOf}

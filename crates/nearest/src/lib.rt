@@ -6,7 +6,7 @@ ghost use lib.ListN.{length, take};
 ghost use Rattle.combinatorics.specs.Front.{front};
 ghost use Rattle.finder.specs.Asked.{CanRun};
 ghost use Rattle.finder.specs.Run.{numbersOf};
-ghost use Rattle.grid.specs.Grid.{isGridPoint, numPoints};
+ghost use Rattle.grid_points.specs.Grid.{isGridPoint, numPoints};
 ghost use Rattle.questions.specs.Questions.{firstNo};
 ghost use Rattle.grid.specs.Made.{IsMade, shape};
 ghost use Rattle.place.specs.Path.{Answer as PathAnswer, answer as answerOf};

@@ -5,9 +5,9 @@ use borrow.Author.Tests.{eqb-true, le-leb, eq-eqb}
 use native.Mathlib.Omega.{arith}
 use Rattle.questions.proofs.Answers.{both-yes, first-yes}
 use Rattle.questions.specs.Questions.{firstNo}
-use Rattle.grid.proofs.Accepted.{accepted as grid-accepted}
-use Rattle.grid.specs.Grid.{numPoints}
-use Rattle.grid.specs.Questions.{gridQuestions, question5}
+use Rattle.grid_points.proofs.Accepted.{accepted as grid-accepted}
+use Rattle.grid_points.specs.Grid.{numPoints}
+use Rattle.grid_points.specs.Questions.{gridQuestions, question5}
 use Rattle.place.specs.Problem.{Problem}
 use Rattle.place.specs.Questions.{question6, question7, tableQuestions}
 use Rattle.path_laws.specs.Demand.{Accepted}

@@ -19,9 +19,10 @@ use Rattle.geometry.proofs.Places.{coefficients as same-coefficients}
 use Rattle.geometry.proofs.Points.{own-block, ring, point, next-beyond, point-on, at-point}
 use Rattle.geometry.proofs.BlocksOfSizes.{blocksOfSizes, next-wrap, next-inside, next-outside as nx-later}
 use Rattle.geometry.proofs.Sizes.{nextOf, blockNumber, distanceOf, upto, shift, SameSums}
-use Rattle.grid.proofs.Round.{sized, next-first, next-later, block-at, block-fits, seat, next-previous}
-use Rattle.grid.specs.Grid.{Point, at, numBlocks, numIndices, firstIndex, size, division, blocks, indicesOf, blockIn}
-use Rattle.grid.specs.Grid.{blockOf, next, previous, isGridPoint}
+use Rattle.grid_points.proofs.Round.{sized, next-first, next-later, block-at, block-fits, seat, next-previous}
+use Rattle.grid_points.specs.Grid.{Point, at, numBlocks, numIndices, firstIndex, size, division, blocks, indicesOf}
+use Rattle.grid_points.specs.Grid.{blockIn}
+use Rattle.grid_points.specs.Grid.{blockOf, next, previous, isGridPoint}
 use Rattle.place.specs.Coefficients.{IsCoefficients, coefficients}
 use Rattle.place.specs.Places.{searchBack, firstBackOutside}
 use Rattle.place.specs.Problem.{Problem}

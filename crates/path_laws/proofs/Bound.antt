@@ -16,9 +16,9 @@ use Rattle.combinatorics.proofs.Ranges.{distinct-upFrom, length-upFrom, all-shi
 use Rattle.combinatorics.proofs.Selections.{orders, length-selections, in-selections}
 use Rattle.combinatorics.specs.Lists.{filter, all, any, isIn, distinct, concatMap, upFrom, sum, firstOr, selections}
 use Rattle.geometry.proofs.Graph.{code-determines}
-use Rattle.grid.proofs.Points.{onPoints, in-points}
-use Rattle.grid.specs.Grid.{samePoint, points, isGridPoint, numBlocks, numIndices, dimension, indices, blocks}
-use Rattle.grid.specs.Grid.{indicesOf, at, bound}
+use Rattle.grid_points.proofs.Points.{onPoints, in-points}
+use Rattle.grid_points.specs.Grid.{samePoint, points, isGridPoint, numBlocks, numIndices, dimension, indices, blocks}
+use Rattle.grid_points.specs.Grid.{indicesOf, at, bound}
 use Rattle.place.specs.Path.{sameSimplex}
 use Rattle.place.specs.Places.{Simplex, isPlace, setU, setT, order, everyBlockFree}
 use Rattle.place.specs.Problem.{Problem}

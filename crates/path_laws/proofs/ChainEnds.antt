@@ -18,9 +18,9 @@ use Rattle.geometry.proofs.Definitions.{Blocks, coord, Complete, Covers, Inside
 use Rattle.geometry.proofs.LabelledChains.{listAt, FacetEnd}
 use Rattle.geometry.proofs.Points.{nth, listAt-map}
 use Rattle.geometry.proofs.Ways.{omit-is}
-use Rattle.grid.proofs.Points.{onPoints}
-use Rattle.grid.proofs.Round.{block-fits}
-use Rattle.grid.specs.Grid.{Point, samePoint, at, numBlocks, numIndices, firstIndex, size, indices, isGridPoint}
+use Rattle.grid_points.proofs.Points.{onPoints}
+use Rattle.grid_points.proofs.Round.{block-fits}
+use Rattle.grid_points.specs.Grid.{Point, samePoint, at, numBlocks, numIndices, firstIndex, size, indices, isGridPoint}
 use Rattle.place.specs.Ends.{isComplete}
 use Rattle.place.specs.Places.{Simplex, isPlace, setU, setT, labelSet, allLabelled}
 use Rattle.place.specs.Problem.{Problem, label}

@@ -18,8 +18,8 @@ use Rattle.combinatorics.specs.Lists.{isIn, all, filter, distinct, same}
 use Rattle.geometry.proofs.Graph.{same-T, from-same}
 use Rattle.geometry.proofs.LabelledChains.{listAt, LabelledChain, Swapped, Extended, Joined, Link}
 use Rattle.geometry.proofs.Points.{nth, listAt-map}
-use Rattle.grid.proofs.Points.{onPoints}
-use Rattle.grid.specs.Grid.{Point, samePoint, at, indices, isGridPoint, numIndices}
+use Rattle.grid_points.proofs.Points.{onPoints}
+use Rattle.grid_points.specs.Grid.{Point, samePoint, at, indices, isGridPoint, numIndices}
 use Rattle.place.specs.Links.{shared, exchanged, extended, linked}
 use Rattle.place.specs.Places.{Simplex, isPlace, setT, labelSet, within, order, allLabelled}
 use Rattle.place.specs.Problem.{Problem, label}

@@ -12,9 +12,10 @@ use lib.Seq.{ext-getD, take-at, drop-at, getD-append-add}
 use native.Mathlib.Omega.{arith}
 use Rattle.combinatorics.proofs.Basics.{absurd-bool, before-or-not, and-left, and-right}
 use Rattle.combinatorics.specs.Lists.{all, sum}
-use Rattle.grid.proofs.Points.{Fits, none, block, fits-of}
-use Rattle.grid.proofs.Round.{sized, next-first, next-later, find-block, block-fits, next-at}
-use Rattle.grid.specs.Grid.{Grid, Point, at, numBlocks, numIndices, firstIndex, size, division, next, isGridPoint}
+use Rattle.grid_points.proofs.Points.{Fits, none, block, fits-of}
+use Rattle.grid_points.proofs.Round.{sized, next-first, next-later, find-block, block-fits, next-at}
+use Rattle.grid_points.specs.Grid.{Grid, Point, at, numBlocks, numIndices, firstIndex, size, division, next}
+use Rattle.grid_points.specs.Grid.{isGridPoint}
 use Rattle.place.specs.Coefficients.{IsCoefficients, runOn, least, blockCoefficients, productCoefficients}
 use Rattle.place.specs.Coefficients.{coefficients}
 use Rattle.place.specs.Problem.{Problem}

@@ -14,7 +14,7 @@ use Rattle.combinatorics.proofs.Lists.{in-here}
 use Rattle.combinatorics.proofs.Rising.{rising-less}
 use Rattle.combinatorics.specs.Edits.{removeAt}
 use Rattle.combinatorics.specs.Lists.{all, isIn, rising}
-use Rattle.grid.specs.Grid.{dimension, isGridPoint}
+use Rattle.grid_points.specs.Grid.{dimension, isGridPoint}
 use Rattle.place.specs.Coefficients.{coefficientSum}
 use Rattle.place.specs.Ends.{End, stop, facets}
 use Rattle.place.specs.Path.{sameSimplex}

@@ -14,8 +14,8 @@ use native.Mathlib.Omega.{arith}
 use Rattle.combinatorics.proofs.Basics.{absurd-bool, and-both, and-left, and-right, before-or-not}
 use Rattle.combinatorics.proofs.Lists.{all-in, in-all, at-all}
 use Rattle.combinatorics.specs.Lists.{all, isIn, sum}
-use Rattle.grid.proofs.Points.{onPoints, in-points, position-in}
-use Rattle.grid.specs.Grid.{Point, isGridPoint, numIndices, numPoints, points, position, samePoint}
+use Rattle.grid_points.proofs.Points.{onPoints, in-points, position-in}
+use Rattle.grid_points.specs.Grid.{Point, isGridPoint, numIndices, numPoints, points, position, samePoint}
 use Rattle.place.specs.Ends.{End}
 use Rattle.place.specs.Path.{answer, path, pathLength, spent, unknown}
 use Rattle.place.specs.Places.{Simplex, allLabelled, isPlace}

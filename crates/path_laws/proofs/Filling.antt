@@ -14,8 +14,8 @@ use Rattle.combinatorics.proofs.Basics.{absurd-bool, and-both, and-left, and-ri
 use Rattle.combinatorics.proofs.Basics.{true-or-false}
 use Rattle.combinatorics.proofs.Lists.{all-in, in-all, in-here, in-filter, filter-in, only-member, onNumbers}
 use Rattle.combinatorics.specs.Lists.{isIn, same}
-use Rattle.grid.proofs.Points.{onPoints}
-use Rattle.grid.specs.Grid.{Point, samePoint, isGridPoint, position, numIndices}
+use Rattle.grid_points.proofs.Points.{onPoints}
+use Rattle.grid_points.specs.Grid.{Point, samePoint, isGridPoint, position, numIndices}
 use Rattle.place.specs.Ends.{End}
 use Rattle.place.specs.Path.{path, pathLength, Answer, unknown, announcement, answer}
 use Rattle.place.specs.Places.{Simplex, setT, labelSet, within, isUnlabelledPlace, isPlace, allLabelled}

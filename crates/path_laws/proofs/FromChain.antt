@@ -20,8 +20,8 @@ use Rattle.geometry.proofs.Onward.{length-tabulate, getD-tabulate}
 use Rattle.geometry.proofs.Places.{coefficients as same-coefficients}
 use Rattle.geometry.proofs.Points.{nth, in-range, ring, listAt-map}
 use Rattle.geometry.proofs.Sorted.{rising-chain}
-use Rattle.grid.proofs.Points.{onPoints}
-use Rattle.grid.specs.Grid.{Point, at, numIndices, firstIndex, size, indices, isGridPoint}
+use Rattle.grid_points.proofs.Points.{onPoints}
+use Rattle.grid_points.specs.Grid.{Point, at, numIndices, firstIndex, size, indices, isGridPoint}
 use Rattle.place.specs.Coefficients.{IsCoefficients, coefficients, coefficientSum}
 use Rattle.place.specs.Places.{isPlace, setU, setT, within, order, grownAt, goesTo, firstBackOutside, unit}
 use Rattle.place.specs.Places.{eachGoesToNext, everyBlockFree, usesEachOnce, isUnlabelledPlace}

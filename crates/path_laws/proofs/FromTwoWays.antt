@@ -19,8 +19,8 @@ use Rattle.combinatorics.proofs.Lists.{distinct-filter, only-member, pigeon, le
 use Rattle.combinatorics.proofs.Walk.{Walks, apart}
 use Rattle.combinatorics.specs.Lists.{filter, all, isIn, distinct, concatMap, same}
 use Rattle.end_kinds.specs.declared.Kind.the-variants.{Facet as facetEnd, Place as placeEnd}
-use Rattle.grid.proofs.Points.{onPoints}
-use Rattle.grid.specs.Grid.{Point, blocks, position, bound, numBlocks}
+use Rattle.grid_points.proofs.Points.{onPoints}
+use Rattle.grid_points.specs.Grid.{Point, blocks, position, bound, numBlocks}
 use Rattle.place.specs.Ends.{End, Way, stop, link, isComplete, completeFor, placeEnds, facetEnds, facets, ends}
 use Rattle.place.specs.Ends.{ways}
 use Rattle.place.specs.Links.{linked, links}

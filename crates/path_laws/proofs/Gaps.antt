@@ -11,8 +11,8 @@ use native.Mathlib.Omega.{arith}
 use Rattle.combinatorics.proofs.Basics.{absurd-bool, and-both, true-or-false}
 use Rattle.combinatorics.proofs.Lists.{all-in, in-filter, in-map, only-list, pigeon, onNumbers}
 use Rattle.combinatorics.specs.Lists.{filter, all, isIn}
-use Rattle.grid.proofs.Points.{onPoints}
-use Rattle.grid.specs.Grid.{Point, samePoint, numIndices}
+use Rattle.grid_points.proofs.Points.{onPoints}
+use Rattle.grid_points.specs.Grid.{Point, samePoint, numIndices}
 use Rattle.place.specs.Places.{Simplex, isPlace, order, setT, allLabelled, unlabelled}
 use Rattle.place.specs.Problem.{Problem, label, hasLabel}
 use Rattle.path_laws.proofs.IndexSets.{order-within, order-distinct}

@@ -10,8 +10,8 @@ use Rattle.combinatorics.proofs.Basics.{absurd-bool, and-left, and-right}
 use Rattle.combinatorics.proofs.Lists.{all-in, distinct-filter, onNumbers, once-distinct}
 use Rattle.combinatorics.proofs.Ranges.{upFrom-in, in-upFrom, distinct-upFrom}
 use Rattle.combinatorics.specs.Lists.{any, isIn, distinct, occurrences}
-use Rattle.grid.specs.Grid.{Grid, Point, numBlocks, numIndices, indices, at, firstIndex, size}
-use Rattle.grid.proofs.Round.{block-fits}
+use Rattle.grid_points.specs.Grid.{Grid, Point, numBlocks, numIndices, indices, at, firstIndex, size}
+use Rattle.grid_points.proofs.Round.{block-fits}
 use Rattle.place.specs.Coefficients.{coefficients}
 use Rattle.place.specs.Places.{Simplex, isPlace, setU, setT, within, order, goesTo, unit}
 use Rattle.place.specs.Problem.{Problem}

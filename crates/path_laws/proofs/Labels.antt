@@ -10,8 +10,8 @@ use native.Mathlib.Omega.{arith}
 use Rattle.combinatorics.proofs.Basics.{absurd-bool, and-both, before-or-not}
 use Rattle.combinatorics.proofs.Lists.{all-in, in-all, at-all}
 use Rattle.combinatorics.specs.Lists.{isIn}
-use Rattle.grid.proofs.Points.{onPoints, in-points, position-in}
-use Rattle.grid.specs.Grid.{Point, isGridPoint, points, numIndices, position, samePoint}
+use Rattle.grid_points.proofs.Points.{onPoints, in-points, position-in}
+use Rattle.grid_points.specs.Grid.{Point, isGridPoint, points, numIndices, position, samePoint}
 use Rattle.place.specs.Places.{Simplex, isPlace, allLabelled}
 use Rattle.place.specs.Problem.{Problem, label, hasLabel}
 use Rattle.path_laws.proofs.LinkSymmetry.{parts}

@@ -13,8 +13,8 @@ use Rattle.combinatorics.proofs.Basics.{and-left, and-right, or-cases, true-or-
 use Rattle.combinatorics.proofs.Lists.{all-in, in-filter, filter-append, length-filter-le, pigeon}
 use Rattle.combinatorics.proofs.Ranges.{length-upFrom, upFrom-add}
 use Rattle.combinatorics.specs.Lists.{all, distinct, filter, isIn, same, upFrom}
-use Rattle.grid.proofs.Points.{onPoints}
-use Rattle.grid.specs.Grid.{samePoint}
+use Rattle.grid_points.proofs.Points.{onPoints}
+use Rattle.grid_points.specs.Grid.{samePoint}
 use Rattle.place.specs.LabelsRead.{pointCameIn, cameIn, labelsRead}
 use Rattle.place.specs.Links.{shared, exchanged, extended, linked}
 use Rattle.place.specs.Places.{Simplex, setT, labelSet, within, isPlace}

@@ -14,8 +14,8 @@ use Rattle.combinatorics.proofs.Lists.{same-sound, same-self, onNumbers}
 use Rattle.combinatorics.proofs.Basics.{or-left, or-right, or-cases, and-left, and-right, and-both}
 use Rattle.combinatorics.proofs.Rising.{rising-distinct, rising-same}
 use Rattle.combinatorics.specs.Lists.{all, isIn, same, distinct, rising}
-use Rattle.grid.proofs.Points.{onPoints}
-use Rattle.grid.specs.Grid.{Point, samePoint, indices, isGridPoint}
+use Rattle.grid_points.proofs.Points.{onPoints}
+use Rattle.grid_points.specs.Grid.{Point, samePoint, indices, isGridPoint}
 use Rattle.place.specs.Coefficients.{coefficientSum}
 use Rattle.place.specs.Links.{shared, exchanged, extended, linked}
 use Rattle.place.specs.Places.{Simplex, setT, setU, labelSet, within, isPlace, isUnlabelledPlace, eachGoesToNext}

@@ -15,8 +15,8 @@ use Rattle.combinatorics.proofs.Lists.{distinct-map, distinct-append, distinct-
 use Rattle.combinatorics.proofs.Lists.{in-append-right, append-in}
 use Rattle.combinatorics.proofs.Rising.{rising-tail, rising-below}
 use Rattle.combinatorics.specs.Lists.{all, isIn, distinct, rising, sublists}
-use Rattle.grid.proofs.Points.{point-sound, point-self, onPoints, distinct-points, in-points}
-use Rattle.grid.specs.Grid.{Point, samePoint, points, isGridPoint, numBlocks}
+use Rattle.grid_points.proofs.Points.{point-sound, point-self, onPoints, distinct-points, in-points}
+use Rattle.grid_points.specs.Grid.{Point, samePoint, points, isGridPoint, numBlocks}
 use Rattle.place.specs.Coefficients.{coefficientSum}
 use Rattle.place.specs.Path.{sameSimplex}
 use Rattle.place.specs.Places.{Simplex, isPlace, places, insert, inOrder}

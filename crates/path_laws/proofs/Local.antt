@@ -12,8 +12,8 @@ use Rattle.combinatorics.proofs.Basics.{absurd-bool, and-both, and-left, and-ri
 use Rattle.combinatorics.proofs.Lists.{all-in, in-all, in-here, in-later, filter-cong, filter-in, same-sound, onNumbers}
 use Rattle.combinatorics.specs.Lists.{filter, all, isIn, same, concatMap, oneLess, sublists}
 use Rattle.end_kinds.specs.declared.Kind.the-variants.{Facet as facetEnd}
-use Rattle.grid.proofs.Points.{onPoints}
-use Rattle.grid.specs.Grid.{Point, samePoint, blocks, indicesOf, points}
+use Rattle.grid_points.proofs.Points.{onPoints}
+use Rattle.grid_points.specs.Grid.{Point, samePoint, blocks, indicesOf, points}
 use Rattle.place.specs.Coefficients.{coefficients}
 use Rattle.place.specs.Ends.{End, isComplete, completeFor, placeEnds, facetEnds, facets, ends, ways}
 use Rattle.place.specs.Links.{shared, exchanged, extended, linked, links}

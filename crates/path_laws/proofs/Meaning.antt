@@ -13,8 +13,8 @@ use Rattle.combinatorics.proofs.Lists.{onNumbers}
 use Rattle.combinatorics.proofs.Basics.{and-both, and-left, and-right, or-cases, or-left, or-right, not-is}
 use Rattle.combinatorics.proofs.Ranges.{in-upFrom, upFrom-in}
 use Rattle.combinatorics.specs.Lists.{all, any, isIn}
-use Rattle.grid.proofs.Points.{onPoints}
-use Rattle.grid.specs.Grid.{Grid, Point, at, blocks, indices, indicesOf, numBlocks, numIndices, samePoint}
+use Rattle.grid_points.proofs.Points.{onPoints}
+use Rattle.grid_points.specs.Grid.{Grid, Point, at, blocks, indices, indicesOf, numBlocks, numIndices, samePoint}
 use Rattle.place.specs.Coefficients.{coefficients}
 use Rattle.place.specs.Ends.{isComplete}
 use Rattle.place.specs.Places.{Simplex, everyBlockFree, isPlace, isUnlabelledPlace, labelSet, setT, setU}

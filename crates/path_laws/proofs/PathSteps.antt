@@ -11,7 +11,7 @@ use native.Mathlib.Omega.{arith}
 use Rattle.combinatorics.proofs.Basics.{absurd-bool, not-is, true-or-false}
 use Rattle.combinatorics.proofs.Lists.{filter-append, filter-in, in-here}
 use Rattle.combinatorics.specs.Lists.{filter, isIn, sublists}
-use Rattle.grid.specs.Grid.{points}
+use Rattle.grid_points.specs.Grid.{points}
 use Rattle.place.specs.Ends.{End, Way, stop, link, ends, ways}
 use Rattle.place.specs.Links.{linked, links}
 use Rattle.place.specs.Path.{isBack, waysOn, SimplicialPath, follow, pathFrom, sameSimplex}

@@ -14,7 +14,7 @@ use Rattle.combinatorics.proofs.Basics.{absurd-bool, true-or-false, and-both, a
 use Rattle.combinatorics.specs.Lists.{isIn, all, filter, distinct, sum, rising, firstOr, occurrences}
 use Rattle.geometry.proofs.LabelledChains.{tabulate}
 use Rattle.geometry.proofs.Points.{nth}
-use Rattle.grid.specs.Grid.{Grid, Point, at}
+use Rattle.grid_points.specs.Grid.{Grid, Point, at}
 use Rattle.place.specs.Places.{Simplex, order, grownAt, goesTo, firstBackOutside, eachGoesToNext}
 
 -- lists by position

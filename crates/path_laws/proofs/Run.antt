@@ -12,8 +12,8 @@ use native.Mathlib.Omega.{arith}
 use Rattle.combinatorics.proofs.Lists.{all-in, only-list, in-filter}
 use Rattle.combinatorics.proofs.Basics.{absurd-bool, same-or, false-of}
 use Rattle.combinatorics.specs.Lists.{isIn}
-use Rattle.grid.proofs.Points.{onPoints}
-use Rattle.grid.specs.Grid.{Point, samePoint, position}
+use Rattle.grid_points.proofs.Points.{onPoints}
+use Rattle.grid_points.specs.Grid.{Point, samePoint, position}
 use Rattle.place.specs.Ends.{End, Way, stop, link, ends, ways}
 use Rattle.place.specs.Links.{linked}
 use Rattle.place.specs.Path.{isBack, waysOn, path, pathLength, unknown, answer, sameSimplex}

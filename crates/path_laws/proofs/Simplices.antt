@@ -2,7 +2,7 @@
 use mathlib.Core.Bool.{true}
 use mathlib.Core.Path.{_≡_}
 use Rattle.combinatorics.proofs.Lists.{Equality, onLists}
-use Rattle.grid.proofs.Points.{onPoints}
+use Rattle.grid_points.proofs.Points.{onPoints}
 use Rattle.place.specs.Path.{sameSimplex}
 use Rattle.place.specs.Places.{Simplex}
 

@@ -11,8 +11,8 @@ use Rattle.combinatorics.proofs.Basics.{and-left, and-right, or-left, or-right,
 use Rattle.combinatorics.proofs.Lists.{filter-in, all-in, in-all, onNumbers, at-all}
 use Rattle.combinatorics.proofs.Ranges.{upFrom-in}
 use Rattle.combinatorics.specs.Lists.{filter, all, any, isIn, sum}
-use Rattle.grid.specs.Grid.{at, numBlocks, numIndices, firstIndex, size, division, indices, indicesOf, blocks}
-use Rattle.grid.specs.Grid.{isGridPoint}
+use Rattle.grid_points.specs.Grid.{at, numBlocks, numIndices, firstIndex, size, division, indices, indicesOf, blocks}
+use Rattle.grid_points.specs.Grid.{isGridPoint}
 use Rattle.place.specs.Coefficients.{coefficients}
 use Rattle.place.specs.Places.{setU, setT, isPlace, isUnlabelledPlace, everyBlockFree}
 use Rattle.place.specs.Problem.{Problem}

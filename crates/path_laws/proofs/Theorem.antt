@@ -22,8 +22,8 @@ use Rattle.geometry.proofs.Onward.{facet-way, up-way, above-not-end, through-de
 use Rattle.geometry.proofs.Onward.{end-not-through, end-carries, one-place-end, one-facet-end, start-onward}
 use Rattle.geometry.proofs.Onward.{start-not-both, start-one-end}
 use Rattle.geometry.proofs.Places.{start-only}
-use Rattle.grid.proofs.Round.{seat}
-use Rattle.grid.specs.Grid.{Point, at, numBlocks, numIndices, firstIndex, isGridPoint}
+use Rattle.grid_points.proofs.Round.{seat}
+use Rattle.grid_points.specs.Grid.{Point, at, numBlocks, numIndices, firstIndex, isGridPoint}
 use Rattle.place.specs.Ends.{End, Way, stop, link, ways, facets}
 use Rattle.place.specs.Links.{linked}
 use Rattle.place.specs.Path.{sameSimplex, path, pathLength}

@@ -20,9 +20,9 @@ use Rattle.geometry.proofs.Definitions.{back, coord, HasZeros, Grid as OnRing, 
 use Rattle.geometry.proofs.LabelledChains.{listAt, LabelledChain}
 use Rattle.geometry.proofs.Links.{chain-ext}
 use Rattle.geometry.proofs.Points.{nth, listAt-map}
-use Rattle.grid.proofs.Points.{onPoints}
-use Rattle.grid.proofs.Round.{seat}
-use Rattle.grid.specs.Grid.{Point, at, numBlocks, numIndices, firstIndex, size, indices, isGridPoint}
+use Rattle.grid_points.proofs.Points.{onPoints}
+use Rattle.grid_points.proofs.Round.{seat}
+use Rattle.grid_points.specs.Grid.{Point, at, numBlocks, numIndices, firstIndex, size, indices, isGridPoint}
 use Rattle.place.specs.Coefficients.{IsCoefficients, coefficients}
 use Rattle.place.specs.Places.{Simplex, isPlace, setU, setT, labelSet, within, order, unit, everyBlockFree}
 use Rattle.place.specs.Places.{allLabelled}

@@ -18,8 +18,8 @@ use Rattle.combinatorics.proofs.Ranges.{in-upFrom, upFrom-in, distinct-upFrom}
 use Rattle.combinatorics.specs.Lists.{filter, isIn, distinct, same, oneLess}
 use Rattle.end_kinds.specs.declared.Kind.{Kind}
 use Rattle.end_kinds.specs.declared.Kind.the-variants.{Facet as facetEnd, Place as placeEnd}
-use Rattle.grid.proofs.Points.{onPoints}
-use Rattle.grid.specs.Grid.{samePoint, numBlocks, blocks}
+use Rattle.grid_points.proofs.Points.{onPoints}
+use Rattle.grid_points.specs.Grid.{samePoint, numBlocks, blocks}
 use Rattle.place.specs.Ends.{End, Way, stop, link, isComplete, completeFor, placeEnds}
 use Rattle.place.specs.Ends.{facetEnds, facets, ends, ways}
 use Rattle.place.specs.Links.{linked, links}

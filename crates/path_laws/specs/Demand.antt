@@ -9,7 +9,7 @@ use Prim.Native.Nat.{ℕ, zero, suc, pred, _≤_, _<_}
 use lib.Dec.{leb}
 use lib.ListN.{length, getD}
 use Rattle.combinatorics.specs.Lists.{all, isIn, rising}
-use Rattle.grid.specs.Grid.{Point, numBlocks, numIndices, numPoints, position, isGridPoint, samePoint, bound}
+use Rattle.grid_points.specs.Grid.{Point, numBlocks, numIndices, numPoints, position, isGridPoint, samePoint, bound}
 use Rattle.place.specs.Coefficients.{coefficientSum}
 use Rattle.place.specs.Ends.{End, isComplete, ends, ways}
 use Rattle.place.specs.Links.{linked, links}

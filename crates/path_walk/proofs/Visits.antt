@@ -19,9 +19,9 @@ use Rattle.combinatorics.specs.Lists.{isIn, sum, upFrom}
 use Rattle.end_kinds.specs.declared.Kind.{Kind}
 use Rattle.end_kinds.specs.declared.Kind.the-variants.{Facet as facetEnd, Place as placeEnd}
 use Rattle.grid.proofs.Fields.{following-low, made-blocks, made-indices, made-next, made-previous, previous-low}
-use Rattle.grid.proofs.Points.{onPoints}
-use Rattle.grid.proofs.Terms.{bound-fits}
-use Rattle.grid.specs.Grid.{Point, at, blockOf, numIndices, position, samePoint, size}
+use Rattle.grid_points.proofs.Points.{onPoints}
+use Rattle.grid_points.proofs.Terms.{bound-fits}
+use Rattle.grid_points.specs.Grid.{Point, at, blockOf, numIndices, position, samePoint, size}
 use Rattle.grid.specs.Made.{IsMade, shape}
 use Rattle.grid.specs.declared.Grid.{Grid as GridStruct}
 use Rattle.positions.proofs.Positions.{map-front}

@@ -8,7 +8,7 @@ use lib.Dec.{eqb, ltb}
 use lib.ListN.{length, take}
 use Rattle.end_kinds.specs.declared.Kind.{Kind}
 use Rattle.end_kinds.specs.declared.Kind.the-variants.{Facet as facetEnd, Place as placeEnd}
-use Rattle.grid.specs.Grid.{at, blockOf, dimension, numIndices, position}
+use Rattle.grid_points.specs.Grid.{at, blockOf, dimension, numIndices, position}
 use Rattle.grid.specs.Made.{shape}
 use Rattle.grid.specs.declared.Grid.{Grid as GridStruct}
 use Rattle.path_laws.specs.Demand.{Accepted}

@@ -2,7 +2,7 @@
 -- of the definitions: a run on each row's table gives what stands there. Assumes nothing.
 use mathlib.Core.List.{map}
 use mathlib.Core.Path.{_≡_, refl}
-use Rattle.grid.specs.Grid.{next, previous, isGridPoint, points, bound}
+use Rattle.grid_points.specs.Grid.{next, previous, isGridPoint, points, bound}
 use Rattle.questions.specs.Questions.{firstNo}
 use Rattle.place.specs.Coefficients.{coefficients}
 use Rattle.place.specs.Ends.{isComplete, completeFor, placeEnds, facetEnds, ends, ways}

@@ -4,7 +4,7 @@ use mathlib.Core.Path.{_≡_}
 use Prim.Native.Nat.{ℕ, zero, _+_, _-_, min, _≤_, _<_}
 use lib.ListN.{length, take, drop}
 use Rattle.combinatorics.specs.Lists.{sum}
-use Rattle.grid.specs.Grid.{Point, at, numIndices, numBlocks, firstIndex, size, next}
+use Rattle.grid_points.specs.Grid.{Point, at, numIndices, numBlocks, firstIndex, size, next}
 use Rattle.place.specs.Problem.{Problem}
 
 -- "whole numbers c, none negative, at least one zero in each block,

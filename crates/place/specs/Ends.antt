@@ -7,7 +7,7 @@ use lib.ListN.{length}
 use Rattle.combinatorics.specs.Lists.{filter, all, isIn, same, concatMap, oneLess}
 use Rattle.end_kinds.specs.declared.Kind.{Kind}
 use Rattle.end_kinds.specs.declared.Kind.the-variants.{Facet as facetEnd, Place as placeEnd}
-use Rattle.grid.specs.Grid.{blocks, indicesOf}
+use Rattle.grid_points.specs.Grid.{blocks, indicesOf}
 use Rattle.place.specs.Links.{links}
 use Rattle.place.specs.Places.{Simplex, setU, setT, labelSet}
 use Rattle.place.specs.Problem.{Problem}

@@ -4,7 +4,7 @@ use mathlib.Core.List.{List, []}
 use Prim.Native.Nat.{ℕ, suc, pred}
 use lib.ListN.{length, getD}
 use Rattle.combinatorics.specs.Lists.{all, filter, isIn, upFrom}
-use Rattle.grid.specs.Grid.{samePoint}
+use Rattle.grid_points.specs.Grid.{samePoint}
 use Rattle.place.specs.Places.{Simplex}
 
 -- the place b has a point which the place a before it lacks

@@ -5,7 +5,7 @@ use Prim.Native.Nat.{suc}
 use lib.Dec.{eqb}
 use lib.ListN.{length}
 use Rattle.combinatorics.specs.Lists.{filter, all, isIn, same}
-use Rattle.grid.specs.Grid.{samePoint}
+use Rattle.grid_points.specs.Grid.{samePoint}
 use Rattle.place.specs.Places.{Simplex, setT, labelSet, within, places}
 use Rattle.place.specs.Problem.{Problem}
 

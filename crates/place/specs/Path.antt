@@ -8,7 +8,7 @@ use lib.Dec.{ltb}
 use lib.ListN.{length, getD}
 use Rattle.combinatorics.specs.Lists.{filter, firstOr, same}
 use Rattle.end_kinds.specs.declared.Kind.{Kind}
-use Rattle.grid.specs.Grid.{samePoint, position, bound}
+use Rattle.grid_points.specs.Grid.{samePoint, position, bound}
 use Rattle.place.specs.Ends.{End, Way, stop, link, ways}
 use Rattle.place.specs.LabelsRead.{labelsRead}
 use Rattle.place.specs.Places.{Simplex, allLabelled, unlabelled}

@@ -5,7 +5,8 @@ use mathlib.Core.List.{List, [], _∷_, map}
 use Prim.Native.Nat.{ℕ, zero, suc, _+_}
 use lib.Dec.{eqb, ltb, leb}
 use Rattle.combinatorics.specs.Lists.{filter, all, any, isIn, firstOr, occurrences, rising, sublists}
-use Rattle.grid.specs.Grid.{Grid, Point, at, size, blockOf, blocks, indices, indicesOf, previous, isGridPoint, points}
+use Rattle.grid_points.specs.Grid.{Grid, Point, at, size, blockOf, blocks, indices, indicesOf, previous, isGridPoint}
+use Rattle.grid_points.specs.Grid.{points}
 use Rattle.place.specs.Coefficients.{coefficients, coefficientSum}
 use Rattle.place.specs.Problem.{Problem, label, hasLabel}
 

@@ -4,7 +4,7 @@ use mathlib.Core.List.{List}
 use Prim.Native.Nat.{ℕ}
 use lib.Dec.{leb}
 use lib.ListN.{getD}
-use Rattle.grid.specs.Grid.{Grid, Point, position, numIndices}
+use Rattle.grid_points.specs.Grid.{Grid, Point, position, numIndices}
 
 -- What a run is about: a grid, "v is the start", and "The label table"
 pub record Problem : Type 0 where

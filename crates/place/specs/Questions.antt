@@ -6,8 +6,8 @@ use lib.Dec.{eqb, leb}
 use lib.ListN.{length}
 use Rattle.combinatorics.specs.Lists.{all}
 use Rattle.questions.specs.Questions.{Question, ask}
-use Rattle.grid.specs.Grid.{Grid, dimension, numIndices, numPoints}
-use Rattle.grid.specs.Questions.{gridQuestions, question5}
+use Rattle.grid_points.specs.Grid.{Grid, dimension, numIndices, numPoints}
+use Rattle.grid_points.specs.Questions.{gridQuestions, question5}
 use Rattle.place.specs.Problem.{Problem}
 
 -- "Has the label table exactly P bytes? 6"

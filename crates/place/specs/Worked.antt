@@ -6,7 +6,7 @@ use Prim.Native.Nat.{ℕ, suc, _*_}
 use lib.Dec.{eqb}
 use lib.ListN.{replicate}
 use Rattle.end_kinds.specs.declared.Kind.the-variants.{Facet as facetEnd, Place as placeEnd}
-use Rattle.grid.specs.Grid.{bound, dimension, numIndices}
+use Rattle.grid_points.specs.Grid.{bound, dimension, numIndices}
 use Rattle.questions.specs.Questions.{firstNo}
 use Rattle.place.specs.Path.{Answer, spent, ended, unknown, answer}
 use Rattle.place.specs.Problem.{Problem, problemOf}

@@ -14,10 +14,11 @@ use Rattle.combinatorics.proofs.Lists.{all-in, onNumbers}
 use Rattle.combinatorics.proofs.Ranges.{in-upFrom, length-upFrom}
 use Rattle.combinatorics.specs.Counting.{choose}
 use Rattle.combinatorics.specs.Lists.{sum, upFrom}
-use Rattle.grid.proofs.Accepted.{Accepted, count-few, size-two}
-use Rattle.grid.proofs.Round.{block-fits}
-use Rattle.grid.specs.Grid.{Grid, Point, at, numBlocks, numIndices, division, size, firstIndex, blocks, indicesOf}
-use Rattle.grid.specs.Grid.{isGridPoint}
+use Rattle.grid_points.proofs.Accepted.{Accepted, count-few, size-two}
+use Rattle.grid_points.proofs.Round.{block-fits}
+use Rattle.grid_points.specs.Grid.{Grid, Point, at, numBlocks, numIndices, division, size, firstIndex, blocks}
+use Rattle.grid_points.specs.Grid.{indicesOf}
+use Rattle.grid_points.specs.Grid.{isGridPoint}
 
 -- the coordinates at some indices that follow one another
 pub at-part : (y : List ℕ) (b n : ℕ) → b + n ≤ length y → map (at y) (upFrom b n) ≡ take n (drop b y)

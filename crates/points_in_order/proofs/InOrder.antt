@@ -9,9 +9,9 @@ use native.Mathlib.Numerals.{add-one}
 use native.Mathlib.Omega.{arith}
 use Rattle.combinatorics.proofs.Lists.{in-here, in-later}
 use Rattle.combinatorics.specs.Lists.{isIn}
-use Rattle.grid.proofs.Accepted.{accepted}
-use Rattle.grid.proofs.Points.{onPoints, points-in}
-use Rattle.grid.specs.Grid.{Grid, Point, samePoint, points, numPoints}
+use Rattle.grid_points.proofs.Accepted.{accepted}
+use Rattle.grid_points.proofs.Points.{onPoints, points-in}
+use Rattle.grid_points.specs.Grid.{Grid, Point, samePoint, points, numPoints}
 use Rattle.points_in_order.specs.Lent.{WithFirsts, PointWithFirsts}
 use Rattle.points_in_order.proofs.PointAfter.{point-after}
 use Rattle.points_in_order.specs.PointAfter.{Step, afterAll}

@@ -16,9 +16,9 @@ use Rattle.combinatorics.proofs.Fronts.{front-length, front-taken}
 use Rattle.combinatorics.proofs.Turns.{sum-append}
 use Rattle.combinatorics.specs.Front.{front}
 use Rattle.combinatorics.specs.Lists.{all, concatMap, sum, upFrom}
-use Rattle.grid.proofs.Accepted.{Accepted, accepted, size-two}
-use Rattle.grid.proofs.Round.{block-fits}
-use Rattle.grid.specs.Grid.{Grid, Point, blockPoints, productPoints, points, numBlocks, numPoints}
+use Rattle.grid_points.proofs.Accepted.{Accepted, accepted, size-two}
+use Rattle.grid_points.proofs.Round.{block-fits}
+use Rattle.grid_points.specs.Grid.{Grid, Point, blockPoints, productPoints, points, numBlocks, numPoints}
 use Rattle.points_in_order.proofs.Blocks.{ofBlock, block-part, block-sum, block-length, division-few}
 use Rattle.grid.specs.Build.{lent}
 use Rattle.points_in_order.specs.Lent.{PointWithFirsts}

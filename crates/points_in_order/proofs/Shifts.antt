@@ -11,9 +11,9 @@ use lib.Seq.{drop-append-le, drop-cons, drop-length, length-take-le, take-append
 use native.Mathlib.Omega.{arith}
 use Rattle.combinatorics.proofs.Basics.{and-left, and-right}
 use Rattle.combinatorics.specs.Lists.{all, sum}
-use Rattle.grid.proofs.Accepted.{Accepted, accepted, size-two}
-use Rattle.grid.proofs.Round.{block-fits}
-use Rattle.grid.specs.Grid.{Grid, Point, numIndices, numPoints, points}
+use Rattle.grid_points.proofs.Accepted.{Accepted, accepted, size-two}
+use Rattle.grid_points.proofs.Round.{block-fits}
+use Rattle.grid_points.specs.Grid.{Grid, Point, numIndices, numPoints, points}
 use Rattle.points_in_order.proofs.Blocks.{point-length}
 use Rattle.points_in_order.proofs.InOrder.{next-point, point-at}
 use Rattle.points_in_order.proofs.PointAfter.{after-moves}

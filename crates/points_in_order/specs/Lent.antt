@@ -4,9 +4,9 @@ use mathlib.Core.List.{List}
 use mathlib.Core.Path.{_≡_}
 use Prim.Native.Nat.{ℕ, _<_}
 use lib.ListN.{getD}
-use Rattle.grid.specs.Grid.{Grid, Point, numBlocks, firstIndex, isGridPoint}
+use Rattle.grid_points.specs.Grid.{Grid, Point, numBlocks, firstIndex, isGridPoint}
 use Rattle.questions.specs.Questions.{firstNo}
-use Rattle.grid.specs.Questions.{gridQuestions}
+use Rattle.grid_points.specs.Questions.{gridQuestions}
 
 -- questions 1 to 4 are answered yes, and the array has the first index of each block
 pub record WithFirsts (g : Grid) (firsts : List ℕ) : Type 0 where

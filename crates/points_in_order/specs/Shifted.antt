@@ -2,7 +2,7 @@
 use mathlib.Core.List.{[], _∷_, _++_}
 use Prim.Native.Nat.{ℕ, _+_, _-_}
 use lib.ListN.{length, take}
-use Rattle.grid.specs.Grid.{Point, at}
+use Rattle.grid_points.specs.Grid.{Point, at}
 
 -- the last number but one, and the last
 abbrev pub lastButOne : Point → ℕ

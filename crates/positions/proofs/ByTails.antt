@@ -15,10 +15,9 @@ use Rattle.combinatorics.proofs.Ranges.{length-upFrom, upFrom-add}
 use Rattle.combinatorics.proofs.Turns.{sum-append}
 use Rattle.combinatorics.specs.Counting.{choose}
 use Rattle.combinatorics.specs.Lists.{sum, upFrom}
-use Rattle.grid.proofs.Accepted.{Accepted, size-two}
-use Rattle.grid.specs.Grid.{Grid, Point, position, points, numBlocks, numIndices, firstIndex, size, division}
-use Rattle.grid.specs.Grid.{isGridPoint, at, MovedBy}
-use Rattle.grid.specs.Made.{blockCount}
+use Rattle.grid_points.proofs.Accepted.{Accepted, size-two}
+use Rattle.grid_points.specs.Grid.{Grid, Point, position, points, numBlocks, numIndices, firstIndex, size, division}
+use Rattle.grid_points.specs.Grid.{isGridPoint, at, MovedBy, blockCount}
 use Rattle.positions.specs.Binomials.{lists}
 use Rattle.positions.specs.Falls.{tailFrom, Falls}
 use Rattle.positions.proofs.Positions.{at-position, block-step, rankOf, rank-below, Horner, horner-start}

@@ -18,14 +18,17 @@ use Rattle.combinatorics.proofs.Lists.{in-here, in-later, in-cases, in-map, map
 use Rattle.combinatorics.proofs.Ranges.{length-upFrom, in-upFrom}
 use Rattle.combinatorics.specs.Counting.{choose}
 use Rattle.combinatorics.specs.Lists.{all, isIn, concatMap, sum, upFrom}
-use Rattle.grid.proofs.Accepted.{Accepted, size-two}
-use Rattle.grid.proofs.Listing.{group, block-suc, length-block}
-use Rattle.grid.proofs.Points.{onPoints, point-sound, point-self, Fits, none, block, in-block, in-product, append-head}
-use Rattle.grid.proofs.Points.{append-tail, first-append, shift-append, position-in, in-points, block-in, fits-of}
-use Rattle.grid.proofs.Points.{blockSum}
-use Rattle.grid.specs.Grid.{Grid, Point, samePoint, positionIn, blockPoints, productPoints, points, position, numPoints}
-use Rattle.grid.specs.Grid.{numBlocks, numIndices, size, division, blocks, indicesOf, isGridPoint, at}
-use Rattle.grid.specs.Made.{blockCount}
+use Rattle.grid_points.proofs.Accepted.{Accepted, size-two}
+use Rattle.grid_points.proofs.Listing.{group, block-suc, length-block}
+use Rattle.grid_points.proofs.Points.{onPoints, point-sound, point-self, Fits, none, block, in-block, in-product}
+use Rattle.grid_points.proofs.Points.{append-head}
+use Rattle.grid_points.proofs.Points.{append-tail, first-append, shift-append, position-in, in-points, block-in}
+use Rattle.grid_points.proofs.Points.{fits-of}
+use Rattle.grid_points.proofs.Points.{blockSum}
+use Rattle.grid_points.specs.Grid.{Grid, Point, samePoint, positionIn, blockPoints, productPoints, points, position}
+use Rattle.grid_points.specs.Grid.{numPoints}
+use Rattle.grid_points.specs.Grid.{numBlocks, numIndices, size, division, blocks, indicesOf, isGridPoint, at}
+use Rattle.grid_points.specs.Grid.{blockCount}
 
 position-skip : (xs ys : List Point) (y : Point) → isIn samePoint y xs ≡ false
     → positionIn (xs ++ ys) y ≡ length xs + positionIn ys y

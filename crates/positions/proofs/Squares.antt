@@ -8,11 +8,10 @@ use native.Mathlib.Nat.{add-mul, add-comm}
 use native.Mathlib.Omega.{arith}
 use Rattle.combinatorics.proofs.Basics.{same-or, before-or-not}
 use Rattle.combinatorics.specs.Counting.{choose}
-use Rattle.grid.proofs.Accepted.{Accepted, size-two}
-use Rattle.grid.proofs.Round.{block-at, block-fits, block-spans}
-use Rattle.grid.specs.Grid.{Grid, Point, position, numBlocks, numIndices, firstIndex, size, blockOf, isGridPoint}
-use Rattle.grid.specs.Grid.{MovedBy}
-use Rattle.grid.specs.Made.{blockCount}
+use Rattle.grid_points.proofs.Accepted.{Accepted, size-two}
+use Rattle.grid_points.proofs.Round.{block-at, block-fits, block-spans}
+use Rattle.grid_points.specs.Grid.{Grid, Point, position, numBlocks, numIndices, firstIndex, size, blockOf, isGridPoint}
+use Rattle.grid_points.specs.Grid.{MovedBy, blockCount}
 use Rattle.positions.specs.Squares.{Apart}
 use Rattle.positions.proofs.ByTails.{tail, hits, hits-out, hits-in, tail-moved, rank, rank-one, rank-next}
 use Rattle.positions.proofs.ByTails.{before, position-is}

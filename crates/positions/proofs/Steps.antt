@@ -6,7 +6,7 @@ use lib.ListN.{length, take, replicate, getD-replicate}
 use lib.Seq.{ext-getD, getD-take, length-take-le}
 use native.Mathlib.Omega.{arith}
 use Rattle.combinatorics.specs.Lists.{upFrom}
-use Rattle.grid.specs.Grid.{at}
+use Rattle.grid_points.specs.Grid.{at}
 use Rattle.positions.specs.Steps.{afterSteps, CanTakeSteps}
 
 at-map : (f : ℕ → ℕ) (b n k : ℕ) → k < n → at (map f (upFrom b n)) k ≡ f (b + k)

@@ -4,7 +4,7 @@ use mathlib.Core.Path.{_≡_}
 use Prim.Native.Nat.{ℕ, zero, suc, _+_, _-_, _*_, _≤_, _<_}
 use lib.ListN.{getD}
 use Rattle.combinatorics.specs.Counting.{choose}
-use Rattle.grid.specs.Grid.{Grid, numBlocks, size, division}
+use Rattle.grid_points.specs.Grid.{Grid, numBlocks, size, division}
 use Rattle.grid.specs.Made.{IsMade, shape}
 use Rattle.grid.specs.declared.Grid.{Grid as GridStruct}
 

@@ -4,7 +4,7 @@ use mathlib.Core.List.{List, map}
 use mathlib.Core.Path.{_≡_}
 use Prim.Native.Nat.{ℕ, _-_, _<_}
 use Rattle.combinatorics.specs.Lists.{sum, upFrom}
-use Rattle.grid.specs.Grid.{Grid, Point, numBlocks, numIndices, at, isGridPoint, MovedBy}
+use Rattle.grid_points.specs.Grid.{Grid, Point, numBlocks, numIndices, at, isGridPoint, MovedBy}
 
 -- the sum of the coordinates from index h on
 abbrev pub tailFrom : Grid → List ℕ → ℕ → ℕ

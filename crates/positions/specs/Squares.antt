@@ -2,7 +2,7 @@
 use mathlib.Core.Logic.{_⊎_}
 use mathlib.Core.Path.{_≡_}
 use Prim.Native.Nat.{ℕ, _≤_, _<_}
-use Rattle.grid.specs.Grid.{Grid, blockOf}
+use Rattle.grid_points.specs.Grid.{Grid, blockOf}
 
 -- two steps, to h from c and to k from e, are in two blocks; or each takes from an index before the one it gives to,
 -- and one ends no later than the other begins

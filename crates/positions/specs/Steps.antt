@@ -2,7 +2,7 @@
 use mathlib.Core.List.{List, map}
 use Prim.Native.Nat.{ℕ, _+_, _-_, _≤_, _<_}
 use Rattle.combinatorics.specs.Lists.{upFrom}
-use Rattle.grid.specs.Grid.{at}
+use Rattle.grid_points.specs.Grid.{at}
 
 -- the 16 coordinates of y after its steps: each count begins at 16, so that it does not fall below 0 where steps take
 -- from the coordinate

@@ -3,7 +3,7 @@ ghost use mathlib.Core.List.{map};
 ghost use mathlib.Core.Path.{_≡_};
 ghost use Prim.Native.Nat.{ℕ, _+_, _-_, _≤_, _<_};
 ghost use Rattle.combinatorics.specs.Lists.{sum, upFrom};
-ghost use Rattle.grid.specs.Grid.{Point, at, division, position};
+ghost use Rattle.grid_points.specs.Grid.{Point, at, division, position};
 ghost use Rattle.grid.specs.Made.{shape, IsMade};
 ghost use Rattle.positions.specs.Binomials.{InTable, IsBinomial, HasBinomials, lists};
 ghost use Rattle.positions.specs.Falls.{Falls};

@@ -3,7 +3,7 @@
 ghost use mathlib.Core.Bool.{true};
 ghost use mathlib.Core.Path.{_≡_};
 ghost use lib.ListN.{length, take};
-ghost use Rattle.grid.specs.Grid.{isGridPoint, position as positionOf};
+ghost use Rattle.grid_points.specs.Grid.{isGridPoint, position as positionOf};
 ghost use Rattle.grid.specs.Made.{shape, IsMade};
 ghost use Rattle.positions.specs.Binomials.{HasBinomials};
 ghost use Rattle.positions.specs.Steps.{afterSteps, CanTakeSteps};

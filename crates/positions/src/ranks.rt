@@ -6,7 +6,7 @@ ghost use Rattle.combinatorics.specs.Counting.{choose};
 ghost use Rattle.combinatorics.specs.Lists.{sum, upFrom};
 ghost use Rattle.positions.specs.Binomials.{InTable, IsBinomial, HasRows};
 ghost use Rattle.positions.specs.Steps.{afterSteps, CanTakeSteps};
-ghost use Rattle.grid.specs.Grid.{at, blockPoints, positionIn};
+ghost use Rattle.grid_points.specs.Grid.{at, blockPoints, positionIn};
 use crate::ENTRIES;
 use crate::ROW;
 use grid::wide16;

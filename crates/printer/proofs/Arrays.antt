@@ -9,10 +9,10 @@ use Rattle.combinatorics.proofs.Ranges.{length-upFrom}
 use Rattle.combinatorics.proofs.Turns.{map-at}
 use Rattle.combinatorics.specs.Front.{front, padded}
 use Rattle.end_kinds.specs.declared.Kind.{Kind}
-use Rattle.grid.proofs.Accepted.{blocks-few}
+use Rattle.grid_points.proofs.Accepted.{blocks-few}
 use Rattle.grid.proofs.Fields.{made-accepted, made-blocks, made-indices, division-range, indices-few}
-use Rattle.grid.proofs.Round.{block-spans}
-use Rattle.grid.specs.Grid.{division, blockOf, bound, numIndices, indices}
+use Rattle.grid_points.proofs.Round.{block-spans}
+use Rattle.grid_points.specs.Grid.{division, blockOf, bound, numIndices, indices}
 use Rattle.grid.specs.Made.{shape, IsMade}
 use Rattle.grid.specs.declared.Grid.{Grid as GridStruct}
 use Rattle.sheet_lines.specs.Answer.{rows, Printable}

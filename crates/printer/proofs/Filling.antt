@@ -13,8 +13,8 @@ use Rattle.combinatorics.proofs.Basics.{true-or-false}
 use Rattle.little_endian.proofs.Laws.{words-same, number-same}
 use Rattle.little_endian.specs.Numbers.{number, words}
 use Rattle.finder.proofs.Demand.{unrefused}
-use Rattle.grid.specs.Grid.{Grid, Point, dimension, numIndices, numPoints, bound}
-use Rattle.grid.specs.Questions.{gridQuestions, question5}
+use Rattle.grid_points.specs.Grid.{Grid, Point, dimension, numIndices, numPoints, bound}
+use Rattle.grid_points.specs.Questions.{gridQuestions, question5}
 use Rattle.questions.proofs.Answers.{asked-next, both-yes, first-yes}
 use Rattle.questions.specs.Questions.{ask, firstNo}
 use Rattle.place.specs.Path.{answer}

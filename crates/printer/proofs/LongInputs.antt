@@ -15,10 +15,10 @@ use Rattle.combinatorics.proofs.Basics.{true-or-false, same-or, before-or-not}
 use Rattle.little_endian.proofs.Laws.{words-same}
 use Rattle.losses.proofs.Table.{product-few}
 use Rattle.losses.specs.Game.{product}
-use Rattle.grid.proofs.Accepted.{accepted}
-use Rattle.grid.specs.Grid.{Grid, numBlocks}
+use Rattle.grid_points.proofs.Accepted.{accepted}
+use Rattle.grid_points.specs.Grid.{Grid, numBlocks}
 use Rattle.questions.specs.Questions.{firstNo}
-use Rattle.grid.specs.Questions.{gridQuestions}
+use Rattle.grid_points.specs.Questions.{gridQuestions}
 use Rattle.sheet_lines.specs.Sheet.{refusedSheet}
 use Rattle.slip_fields.proofs.Laws.{at-first, at-next, length-there, length-absent}
 use Rattle.slip.proofs.Readings.{refused-13, refused-grid, refused-14}

@@ -18,9 +18,9 @@ use Rattle.little_endian.proofs.Laws.{words-same, number-same, words-read, leng
 use Rattle.little_endian.specs.Numbers.{number, words, bytesOf}
 use Rattle.built_in.proofs.Games.{table-whole, table-range}
 use Rattle.built_in.specs.Tables.{gameSizes, gameLosses}
-use Rattle.grid.specs.Grid.{Grid, numIndices, bound}
+use Rattle.grid_points.specs.Grid.{Grid, numIndices, bound}
 use Rattle.questions.specs.Questions.{Question, ask, firstNo}
-use Rattle.grid.specs.Questions.{gridQuestions, question5}
+use Rattle.grid_points.specs.Questions.{gridQuestions, question5}
 use Rattle.losses.specs.Game.{product, labels}
 use Rattle.losses.specs.Table.{numLosses}
 use Rattle.place.specs.Path.{answer}

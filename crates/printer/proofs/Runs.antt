@@ -24,8 +24,8 @@ use Rattle.finder.proofs.Refusals.{refused as run-refused}
 use Rattle.finder.specs.Run.{caseOf, numbersOf, runRefusal, runAnswer, runBuffer}
 use Rattle.finder.specs.declared.answers.Answer.{Answer}
 use Rattle.finder.specs.declared.answers.Answer.the-variants.{Refused, Spent, Unknown, End}
-use Rattle.grid.specs.Grid.{Grid, Point, dimension, numIndices, isGridPoint}
-use Rattle.grid.specs.Questions.{gridQuestions}
+use Rattle.grid_points.specs.Grid.{Grid, Point, dimension, numIndices, isGridPoint}
+use Rattle.grid_points.specs.Questions.{gridQuestions}
 use Rattle.place.specs.Ends.{End as EndOfPath}
 use Rattle.place.specs.Path.{answer, path, pathLength, ended}
 use Rattle.place.specs.Problem.{Problem}

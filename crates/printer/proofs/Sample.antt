@@ -2,7 +2,7 @@
 use mathlib.Core.List.{flatMap}
 use mathlib.Core.Path.{_≡_, refl}
 use Rattle.questions.specs.Questions.{firstNo}
-use Rattle.grid.specs.Grid.{next, previous, isGridPoint, points, bound}
+use Rattle.grid_points.specs.Grid.{next, previous, isGridPoint, points, bound}
 use Rattle.place.specs.Coefficients.{coefficients}
 use Rattle.place.specs.Ends.{isComplete, completeFor, placeEnds, facetEnds, ends, ways}
 use Rattle.place.specs.LabelsRead.{cameIn, labelsRead}

@@ -16,9 +16,9 @@ use Rattle.little_endian.specs.Numbers.{number, words}
 use Rattle.losses.proofs.Table.{product-few}
 use Rattle.losses.specs.Game.{product, labels}
 use Rattle.losses.specs.Table.{IsTable}
-use Rattle.grid.proofs.Accepted.{accepted as grid-accepted}
+use Rattle.grid_points.proofs.Accepted.{accepted as grid-accepted}
 use Rattle.grid.proofs.Fields.{is-made, shape-of}
-use Rattle.grid.specs.Grid.{Grid, numBlocks, dimension, numIndices}
+use Rattle.grid_points.specs.Grid.{Grid, numBlocks, dimension, numIndices}
 use Rattle.grid.specs.Made.{gridOf, shape}
 use Rattle.place.specs.Problem.{Problem}
 use Rattle.place.specs.Questions.{question8}

@@ -3,7 +3,7 @@ use mathlib.Core.Bool.{cond}
 use mathlib.Core.List.{List, map}
 use Prim.Native.Nat.{ℕ}
 use lib.Dec.{eqb}
-use Rattle.grid.specs.Grid.{Grid, division, blockOf, indices, bound}
+use Rattle.grid_points.specs.Grid.{Grid, division, blockOf, indices, bound}
 use Rattle.place.specs.Path.{Answer, spent, ended, unknown, answer}
 use Rattle.sheet_lines.specs.Sheet.{endSheet, refusedSheet, spentSheet, unknownSheet}
 use Rattle.slip_fields.specs.Slip.{slipGrid, slipProblem, slipBudget, slipRefusal}

@@ -11,7 +11,7 @@ use Rattle.finder.specs.Run.{runRefusal}
 use Rattle.finder.specs.declared.answers.Answer.{Answer}
 use Rattle.finder.specs.declared.answers.Answer.the-variants.{Refused, Spent, Unknown, End}
 use Rattle.losses.specs.Game.{labels}
-use Rattle.grid.specs.Grid.{Grid, numIndices, bound}
+use Rattle.grid_points.specs.Grid.{Grid, numIndices, bound}
 use Rattle.grid.specs.Made.{IsMade, shape}
 use Rattle.place.specs.Path.{answer}
 use Rattle.place.specs.Problem.{Problem}

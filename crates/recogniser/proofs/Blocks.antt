@@ -12,8 +12,8 @@ use native.Mathlib.Omega.{arith}
 use Rattle.combinatorics.proofs.Basics.{absurd-bool, and-left, and-right, not-is, same-or}
 use Rattle.combinatorics.specs.Lists.{sum}
 use Rattle.grid.proofs.Fields.{made-blocks, made-indices}
-use Rattle.grid.proofs.Round.{block-spans}
-use Rattle.grid.specs.Grid.{at, blockOf}
+use Rattle.grid_points.proofs.Round.{block-spans}
+use Rattle.grid_points.specs.Grid.{at, blockOf}
 use Rattle.grid.specs.Made.{IsMade, shape}
 use Rattle.grid.specs.declared.Grid.{Grid as GridStruct}
 use Rattle.rules.specs.Mask.{bit}

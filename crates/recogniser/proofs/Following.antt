@@ -13,10 +13,10 @@ use native.Mathlib.Numerals.{add-one}
 use native.Mathlib.Omega.{arith}
 use Rattle.combinatorics.proofs.Basics.{and-left, before-or-not, same-or}
 use Rattle.combinatorics.specs.Lists.{sum}
-use Rattle.grid.proofs.CoordinatesBelow.{division-below}
+use Rattle.grid_points.proofs.CoordinatesBelow.{division-below}
 use Rattle.grid.proofs.Fields.{made-accepted, made-blocks, made-indices}
-use Rattle.grid.proofs.Round.{block-at, block-fits}
-use Rattle.grid.specs.Grid.{at, blockOf, firstIndex, isGridPoint, next, numIndices, size}
+use Rattle.grid_points.proofs.Round.{block-at, block-fits}
+use Rattle.grid_points.specs.Grid.{at, blockOf, firstIndex, isGridPoint, next, numIndices, size}
 use Rattle.grid.specs.Made.{IsMade, shape}
 use Rattle.grid.specs.declared.Grid.{Grid as GridStruct}
 use Rattle.place.specs.Coefficients.{IsCoefficients, coefficients}

@@ -8,7 +8,7 @@ use borrow.Author.Tests.{eqb-true, eq-eqb}
 use lib.Dec.{eqb}
 use native.Mathlib.Omega.{arith}
 use Rattle.combinatorics.proofs.Basics.{absurd-bool, or-cases, same-or}
-use Rattle.grid.specs.Grid.{at}
+use Rattle.grid_points.specs.Grid.{at}
 use Rattle.rules.proofs.Masks.{bit-none, bit-with, bit-without}
 use Rattle.rules.specs.Mask.{bit, withIndex, withoutIndex}
 use Rattle.recogniser.specs.Pieces.{AreTandU}

@@ -17,10 +17,11 @@ use Rattle.combinatorics.proofs.Ranges.{length-upFrom, upFrom-in}
 use Rattle.combinatorics.proofs.Turns.{map-at}
 use Rattle.combinatorics.specs.Lists.{all, isIn, sum, upFrom}
 use Rattle.grid.proofs.Fields.{made-accepted, made-indices}
-use Rattle.grid.proofs.Points.{in-points, position-in}
-use Rattle.grid.proofs.Round.{block-at, block-fits, block-spans}
-use Rattle.grid.specs.Grid.{Grid, Point, MovedBy, at, blockOf, blocks, division, firstIndex, indicesOf, isGridPoint}
-use Rattle.grid.specs.Grid.{numBlocks, numIndices, numPoints, points as gridPoints, position, size}
+use Rattle.grid_points.proofs.Points.{in-points, position-in}
+use Rattle.grid_points.proofs.Round.{block-at, block-fits, block-spans}
+use Rattle.grid_points.specs.Grid.{Grid, Point, MovedBy, at, blockOf, blocks, division, firstIndex, indicesOf}
+use Rattle.grid_points.specs.Grid.{isGridPoint}
+use Rattle.grid_points.specs.Grid.{numBlocks, numIndices, numPoints, points as gridPoints, position, size}
 use Rattle.grid.specs.Made.{IsMade, shape}
 use Rattle.grid.specs.declared.Grid.{Grid as GridStruct}
 use Rattle.place.specs.Places.{Simplex, firstBackOutside}

@@ -16,8 +16,8 @@ use Rattle.combinatorics.specs.Lists.{isIn}
 use Rattle.geometry.proofs.Definitions.{back}
 use Rattle.geometry.proofs.Search.{block-back}
 use Rattle.grid.proofs.Fields.{made-accepted, made-blocks, made-indices, made-next}
-use Rattle.grid.proofs.Round.{block-at, block-fits, block-spans}
-use Rattle.grid.specs.Grid.{Point, at, blockOf, firstIndex, isGridPoint, numIndices, size}
+use Rattle.grid_points.proofs.Round.{block-at, block-fits, block-spans}
+use Rattle.grid_points.specs.Grid.{Point, at, blockOf, firstIndex, isGridPoint, numIndices, size}
 use Rattle.grid.specs.Made.{IsMade, shape}
 use Rattle.grid.specs.declared.Grid.{Grid as GridStruct}
 use Rattle.place.specs.Coefficients.{coefficients}

@@ -6,7 +6,7 @@ use Prim.Native.Nat.{ℕ, _≤_, _<_}
 use lib.Dec.{eqb}
 use lib.ListN.{length, getD}
 use Rattle.combinatorics.specs.Lists.{isIn}
-use Rattle.grid.specs.Grid.{Point, at, blockOf, isGridPoint, numIndices, previous as indexBefore, size}
+use Rattle.grid_points.specs.Grid.{Point, at, blockOf, isGridPoint, numIndices, previous as indexBefore, size}
 use Rattle.grid.specs.Made.{shape}
 use Rattle.grid.specs.declared.Grid.{Grid as GridStruct}
 use Rattle.place.specs.Coefficients.{coefficients}

@@ -5,7 +5,7 @@ use mathlib.Core.Path.{_≡_}
 use Prim.Native.Nat.{ℕ, suc, _+_, _≤_, _<_}
 use lib.Dec.{eqb}
 use lib.ListN.{length, take, getD}
-use Rattle.grid.specs.Grid.{Grid, Point, at, blockOf, isGridPoint, position}
+use Rattle.grid_points.specs.Grid.{Grid, Point, at, blockOf, isGridPoint, position}
 use Rattle.grid.specs.Made.{shape}
 use Rattle.grid.specs.declared.Grid.{Grid as GridStruct}
 use Rattle.place.specs.Places.{firstBackOutside}

@@ -4,7 +4,7 @@ ghost use mathlib.Core.List.{List};
 ghost use mathlib.Core.Path.{_≡_};
 ghost use Prim.Native.Nat.{ℕ, _<_};
 ghost use lib.ListN.{length, take};
-ghost use Rattle.grid.specs.Grid.{at, isGridPoint};
+ghost use Rattle.grid_points.specs.Grid.{at, isGridPoint};
 ghost use Rattle.grid.specs.Made.{IsMade, shape};
 ghost use Rattle.place.specs.Coefficients.{coefficients as coefficientsOf};
 ghost use Rattle.recogniser.specs.Pieces.{InBlock, PutIn, startedOn};

@@ -14,7 +14,7 @@ use Rattle.combinatorics.proofs.EditsRemove.{length-removeAt, length-rotateRigh
 use Rattle.combinatorics.proofs.EditsRemove.{removeAt-behind, rotateRight-later}
 use Rattle.combinatorics.proofs.EditsRotate.{length-rotateLeft, rotateLeft-before}
 use Rattle.combinatorics.specs.Edits.{found}
-use Rattle.grid.specs.Grid.{at}
+use Rattle.grid_points.specs.Grid.{at}
 use Rattle.rules.specs.Mask.{bit}
 use Rattle.rules.specs.Step.{State, After, goes, endsAtPlace, endsAtFacet, firstOutside, grow}
 use Rattle.rules.specs.Step.{isFilled, joined, leave, leaveFirst, leaveLast, leaveMiddle, shrink, sourceIn}

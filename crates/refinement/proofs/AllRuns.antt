@@ -17,11 +17,11 @@ use Rattle.combinatorics.specs.Lists.{upFrom}
 use Rattle.finder.proofs.Announcements.{point-long}
 use Rattle.finder.specs.Run.{caseOf}
 use Rattle.games.proofs.AllLabels.{labels-length}
-use Rattle.grid.proofs.Accepted.{Accepted, accepted, blocks-few}
+use Rattle.grid_points.proofs.Accepted.{Accepted, accepted, blocks-few}
 use Rattle.grid.proofs.Fields.{is-made, made-points, shape-of}
-use Rattle.grid.specs.Grid.{Grid, dimension, numIndices, numPoints}
+use Rattle.grid_points.specs.Grid.{Grid, dimension, numIndices, numPoints}
 use Rattle.grid.specs.Made.{IsMade, gridOf, shape}
-use Rattle.grid.specs.Questions.{gridQuestions}
+use Rattle.grid_points.specs.Questions.{gridQuestions}
 use Rattle.grid.specs.declared.Grid.{Grid as GridStruct}
 use Rattle.levels.proofs.Buffers.{after-length, after-next, after-none}
 use Rattle.levels.proofs.Grids.{level-first, levels-yes, points-grow}

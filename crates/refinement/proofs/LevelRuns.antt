@@ -14,7 +14,7 @@ use Rattle.finder.specs.Run.{caseOf, numbersOf}
 use Rattle.finder.specs.declared.answers.Answer.{Answer}
 use Rattle.finder.specs.declared.answers.Answer.the-variants.{Refused, Spent, Unknown, End}
 use Rattle.games.proofs.AllLabels.{labels-length}
-use Rattle.grid.specs.Grid.{bound}
+use Rattle.grid_points.specs.Grid.{bound}
 use Rattle.grid.specs.Made.{shape}
 use Rattle.grid.specs.declared.Grid.{Grid as GridStruct}
 use Rattle.levels.proofs.Claims.{numbers-are}

@@ -8,7 +8,7 @@ use native.Mathlib.Nat.{mul-le-mul}
 use native.Mathlib.Omega.{arith}
 use Rattle.combinatorics.specs.Front.{front, padded}
 use Rattle.grid.proofs.Fields.{made-indices}
-use Rattle.grid.specs.Grid.{dimension, numIndices}
+use Rattle.grid_points.specs.Grid.{dimension, numIndices}
 use Rattle.grid.specs.Made.{IsMade, shape}
 use Rattle.grid.specs.declared.Grid.{Grid as GridStruct}
 use Rattle.levels.specs.Levels.{times}

@@ -9,11 +9,11 @@ use lib.ListN.{length, getD}
 use native.Mathlib.Omega.{arith}
 use Rattle.combinatorics.proofs.Basics.{same-or}
 use Rattle.games.specs.Labelling.{question12}
-use Rattle.grid.proofs.Accepted.{accepted}
+use Rattle.grid_points.proofs.Accepted.{accepted}
 use Rattle.grid.proofs.Fields.{is-made, made-points, shape-of}
-use Rattle.grid.specs.Grid.{Grid, numPoints}
+use Rattle.grid_points.specs.Grid.{Grid, numPoints}
 use Rattle.grid.specs.Made.{IsMade, noGrid, shape}
-use Rattle.grid.specs.Questions.{question5}
+use Rattle.grid_points.specs.Questions.{question5}
 use Rattle.grid.specs.declared.Grid.{Grid as GridStruct}
 use Rattle.level_questions.specs.Grids.{AreMade}
 use Rattle.level_questions.specs.Later.{askedBehind}

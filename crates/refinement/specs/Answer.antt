@@ -9,7 +9,7 @@ use Rattle.end_kinds.specs.declared.Kind.the-variants.{Place as placeEnd}
 use Rattle.finder.specs.Run.{caseOf}
 use Rattle.finder.specs.declared.answers.Answer.{Answer}
 use Rattle.finder.specs.declared.answers.Answer.the-variants.{Refused as RunRefused, Spent, Unknown, End}
-use Rattle.grid.specs.Grid.{Grid, Point}
+use Rattle.grid_points.specs.Grid.{Grid, Point}
 use Rattle.levels.specs.Buffers.{numbersAfter}
 use Rattle.levels.specs.Levels.{Refinement, levelEnd}
 use Rattle.levels.specs.Questions.{lastGrid, refineQuestions}

@@ -7,7 +7,7 @@ use lib.Dec.{leb}
 use lib.ListN.{length, getD, drop, take}
 use Rattle.combinatorics.specs.Front.{front}
 use Rattle.combinatorics.specs.Lists.{all, concatMap}
-use Rattle.grid.specs.Grid.{Grid, isGridPoint, numIndices, numPoints}
+use Rattle.grid_points.specs.Grid.{Grid, isGridPoint, numIndices, numPoints}
 use Rattle.grid.specs.Made.{IsMade, gridOf, noGrid, shape}
 use Rattle.grid.specs.declared.Grid.{Grid as GridStruct}
 use Rattle.levels.specs.Levels.{Refinement, endOf, gameProblem, levelGrid, times, answerVertices}

@@ -7,7 +7,7 @@ use native.Mathlib.Omega.{arith}
 use borrow.Author.Tests.{eq-eqb, ne-eqb}
 use lib.ListN.{set}
 use Rattle.combinatorics.proofs.Basics.{and-left, and-right}
-use Rattle.grid.specs.Grid.{at}
+use Rattle.grid_points.specs.Grid.{at}
 use Rattle.rules.specs.Ready.{testedBefore}
 use Rattle.rules.specs.Step.{changedBefore}
 

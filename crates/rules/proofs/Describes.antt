@@ -6,7 +6,7 @@ use mathlib.Core.Option.{Option, none, some}
 use mathlib.Core.Path.{_≡_}
 use Prim.Native.Nat.{ℕ, suc, _-_, _≤_, _<_}
 use lib.ListN.{length}
-use Rattle.grid.specs.Grid.{at, numIndices, isGridPoint, position}
+use Rattle.grid_points.specs.Grid.{at, numIndices, isGridPoint, position}
 use Rattle.geometry.proofs.Definitions.{coord, zeros, Carries, Extra}
 use Rattle.geometry.proofs.Graph.{Through, Above}
 use Rattle.geometry.proofs.LabelledChains.{listAt, LabelledChain, Link, FacetEnd, PlaceEnd}

@@ -21,8 +21,8 @@ use Rattle.geometry.proofs.Definitions.{zeros, Omit}
 use Rattle.geometry.proofs.Search.{block-back}
 use Rattle.geometry.proofs.Points.{nth}
 use Rattle.geometry.proofs.LabelledChains.{listAt, LabelledChain, FacetEnd, PlaceEnd}
-use Rattle.grid.proofs.Points.{onPoints}
-use Rattle.grid.specs.Grid.{at, numBlocks, numIndices, dimension, blockOf, isGridPoint, position, samePoint}
+use Rattle.grid_points.proofs.Points.{onPoints}
+use Rattle.grid_points.specs.Grid.{at, numBlocks, numIndices, dimension, blockOf, isGridPoint, position, samePoint}
 use Rattle.path_laws.proofs.BlocksOfGrid.{blocksOf, back-below, pointOf, coefficientOf, coord-in, coord-out}
 use Rattle.path_laws.proofs.BlocksOfGrid.{coefficientOf-is}
 use Rattle.path_laws.proofs.Bound.{order-short}

@@ -21,7 +21,7 @@ use Rattle.geometry.proofs.Joins.{room, room-in-U, rises-with, stays-with}
 use Rattle.geometry.proofs.LabelledChains.{listAt, tabulate, PlaceEnd}
 use Rattle.geometry.proofs.Moves.{rises-here, never-rises}
 use Rattle.geometry.proofs.Onward.{Enlarged, up-link, listAt-tabulate}
-use Rattle.grid.specs.Grid.{at, numIndices}
+use Rattle.grid_points.specs.Grid.{at, numIndices}
 use Rattle.place.specs.Problem.{Problem}
 use Rattle.path_laws.proofs.BlocksOfGrid.{blocksOf}
 use Rattle.path_laws.proofs.ToChain.{labelOf}

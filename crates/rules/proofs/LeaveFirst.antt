@@ -20,7 +20,7 @@ use Rattle.geometry.proofs.LabelledChains.{listAt, tabulate}
 use Rattle.geometry.proofs.Moves.{next-run, next-else}
 use Rattle.geometry.proofs.Onward.{Beyond, next-link, fill-end, listAt-tabulate}
 use Rattle.geometry.proofs.Ways.{first-or, first-p, first-o, first-later, first-rotate, first-beside}
-use Rattle.grid.specs.Grid.{at, numIndices}
+use Rattle.grid_points.specs.Grid.{at, numIndices}
 use Rattle.place.specs.Problem.{Problem}
 use Rattle.path_laws.proofs.BlocksOfGrid.{blocksOf, back-below}
 use Rattle.path_laws.proofs.ToChain.{labelOf}

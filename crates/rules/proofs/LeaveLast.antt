@@ -19,7 +19,7 @@ use Rattle.geometry.proofs.Moves.{last-run, last-else, last-moved}
 use Rattle.geometry.proofs.Onward.{Beyond, next-link, listAt-tabulate}
 use Rattle.geometry.proofs.Ways.{last-z, last-p, last-o, last-first, last-later, last-rotate, last-beside}
 use Rattle.geometry.proofs.Ways.{last-tight-at, dropped}
-use Rattle.grid.specs.Grid.{at, numIndices}
+use Rattle.grid_points.specs.Grid.{at, numIndices}
 use Rattle.place.specs.Problem.{Problem}
 use Rattle.path_laws.proofs.BlocksOfGrid.{blocksOf, back-below}
 use Rattle.path_laws.proofs.ToChain.{labelOf}

@@ -17,7 +17,7 @@ use Rattle.geometry.proofs.LabelledChains.{listAt, tabulate}
 use Rattle.geometry.proofs.Moves.{inner-if-positive, inner-if-zero, inner-stuck, inner-unstuck}
 use Rattle.geometry.proofs.Onward.{Beyond, next-link, listAt-tabulate}
 use Rattle.geometry.proofs.Ways.{inner-p, inner-o, inner-same, inner-swap, inner-beside, inner-tight-at, dropped}
-use Rattle.grid.specs.Grid.{at, numIndices, position}
+use Rattle.grid_points.specs.Grid.{at, numIndices, position}
 use Rattle.place.specs.Problem.{Problem}
 use Rattle.path_laws.proofs.BlocksOfGrid.{blocksOf, back-below}
 use Rattle.path_laws.proofs.ToChain.{labelOf}

@@ -7,7 +7,7 @@ use lib.ListN.{length}
 use native.Mathlib.Omega.{arith}
 use Rattle.geometry.proofs.LabelledChains.{listAt, LabelledChain}
 use Rattle.geometry.proofs.Points.{nth}
-use Rattle.grid.specs.Grid.{at, position}
+use Rattle.grid_points.specs.Grid.{at, position}
 use Rattle.place.specs.Problem.{Problem}
 use Rattle.path_laws.proofs.BlocksOfGrid.{blocksOf, pointOf}
 use Rattle.path_laws.proofs.ToChain.{pointsOf, labelOf}

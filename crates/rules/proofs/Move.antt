@@ -18,7 +18,7 @@ use Rattle.geometry.proofs.Exits.{kinds}
 use Rattle.geometry.proofs.Graph.{Through, Above}
 use Rattle.geometry.proofs.LabelledChains.{listAt, LabelledChain, FacetEnd, PlaceEnd}
 use Rattle.geometry.proofs.Onward.{through-determines, through-not-above, start-extra}
-use Rattle.grid.specs.Grid.{at}
+use Rattle.grid_points.specs.Grid.{at}
 use Rattle.place.specs.Problem.{Problem}
 use Rattle.path_laws.proofs.BlocksOfGrid.{blocksOf}
 use Rattle.path_laws.proofs.ToChain.{labelOf}

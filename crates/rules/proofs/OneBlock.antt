@@ -16,9 +16,9 @@ use Rattle.geometry.proofs.Chains.{rise, one-more-at-most, before-raise, free-z
 use Rattle.geometry.proofs.Definitions.{Grid as OnRing, back, coord, zeros, BackOutside, OnRun}
 use Rattle.geometry.proofs.LabelledChains.{listAt}
 use Rattle.geometry.proofs.Moves.{next-else}
-use Rattle.grid.proofs.Accepted.{Accepted as GridAccepted}
-use Rattle.grid.proofs.Round.{next-at, next-round}
-use Rattle.grid.specs.Grid.{Point, at, numBlocks, numIndices, firstIndex, isGridPoint, position}
+use Rattle.grid_points.proofs.Accepted.{Accepted as GridAccepted}
+use Rattle.grid_points.proofs.Round.{next-at, next-round}
+use Rattle.grid_points.specs.Grid.{Point, at, numBlocks, numIndices, firstIndex, isGridPoint, position}
 use Rattle.place.specs.Problem.{Problem}
 use Rattle.path_laws.proofs.BlocksOfGrid.{blocksOf, next-agrees, start-inside}
 use Rattle.path_laws.specs.Demand.{HasStart}

@@ -15,7 +15,7 @@ use Rattle.combinatorics.proofs.EditsRemove.{swapAt-else}
 use Rattle.combinatorics.specs.Edits.{swapAt}
 use Rattle.combinatorics.specs.Front.{front}
 use Rattle.combinatorics.specs.Lists.{concatMap, upFrom}
-use Rattle.grid.specs.Grid.{at}
+use Rattle.grid_points.specs.Grid.{at}
 use Rattle.rules.proofs.FirstMet.{entry}
 use Rattle.rules.proofs.Shifted.{at-most-one, length-shifted, shifted-at}
 use Rattle.rules.specs.Read.{pointAfter, ReadyPoint}

@@ -8,8 +8,8 @@ use native.Mathlib.Omega.{arith}
 use Rattle.geometry.proofs.Definitions.{coord}
 use Rattle.geometry.proofs.LabelledChains.{listAt, LabelledChain}
 use Rattle.geometry.proofs.Points.{nth}
-use Rattle.grid.proofs.CoordinatesBelow.{coordinate-below, division-below}
-use Rattle.grid.specs.Grid.{Point, numIndices, isGridPoint}
+use Rattle.grid_points.proofs.CoordinatesBelow.{coordinate-below, division-below}
+use Rattle.grid_points.specs.Grid.{Point, numIndices, isGridPoint}
 use Rattle.place.specs.Problem.{Problem, label}
 use Rattle.path_laws.proofs.BlocksOfGrid.{blocksOf, pointOf}
 use Rattle.path_laws.proofs.Bound.{order-short}

@@ -9,7 +9,7 @@ use lib.Seq.{getD-set-same, getD-set-other, getD-take}
 use native.Mathlib.Omega.{arith}
 use Rattle.combinatorics.proofs.Basics.{same-or}
 use Rattle.geometry.proofs.Definitions.{one-at}
-use Rattle.grid.specs.Grid.{at}
+use Rattle.grid_points.specs.Grid.{at}
 use Rattle.rules.specs.Step.{shifted}
 
 pub at-most-one : (b k : ℕ) → one-at b k ≤ 1

@@ -17,7 +17,7 @@ use Rattle.geometry.proofs.Definitions.{Blocks, coord, zeros, Carries, Dropped,
 use Rattle.geometry.proofs.LabelledChains.{listAt, tabulate}
 use Rattle.geometry.proofs.Onward.{Beneath, drop-link, listAt-tabulate}
 use Rattle.geometry.proofs.Ways.{omit-is}
-use Rattle.grid.specs.Grid.{at}
+use Rattle.grid_points.specs.Grid.{at}
 use Rattle.place.specs.Problem.{Problem}
 use Rattle.path_laws.proofs.BlocksOfGrid.{blocksOf}
 use Rattle.path_laws.proofs.ToChain.{labelOf}

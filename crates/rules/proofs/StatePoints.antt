@@ -17,7 +17,7 @@ use Rattle.geometry.proofs.Definitions.{back, coord, Moved}
 use Rattle.geometry.proofs.LabelledChains.{listAt}
 use Rattle.geometry.proofs.Moves.{next-moved}
 use Rattle.geometry.proofs.Points.{nth}
-use Rattle.grid.specs.Grid.{Grid, Point, at, numIndices, isGridPoint, MovedBy}
+use Rattle.grid_points.specs.Grid.{Grid, Point, at, numIndices, isGridPoint, MovedBy}
 use Rattle.place.specs.Places.{Simplex}
 use Rattle.place.specs.Problem.{Problem}
 use Rattle.path_laws.proofs.BlocksOfGrid.{blocksOf, back-below}

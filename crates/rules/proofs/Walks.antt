@@ -17,8 +17,8 @@ use Rattle.geometry.proofs.Definitions.{back, Blocks, Chain, BackOutside, BackT
 use Rattle.geometry.proofs.LabelledChains.{listAt}
 use Rattle.geometry.proofs.Search.{find}
 use Rattle.geometry.proofs.Tight.{block-next}
-use Rattle.grid.proofs.Round.{block-fits, seat, block-at}
-use Rattle.grid.specs.Grid.{at, numIndices, size, blockOf}
+use Rattle.grid_points.proofs.Round.{block-fits, seat, block-at}
+use Rattle.grid_points.specs.Grid.{at, numIndices, size, blockOf}
 use Rattle.place.specs.Problem.{Problem}
 use Rattle.path_laws.proofs.BlocksOfGrid.{blocksOf, back-shift, back-below, block-agrees, block-own, near-block}
 use Rattle.path_laws.proofs.BlocksOfGrid.{next-agrees, previous-agrees}

@@ -7,7 +7,7 @@ use Prim.Native.Nat.{ℕ, zero, suc, _+_, _-_, _≤_, _<_}
 use lib.Dec.{ltb}
 use lib.ListN.{length, take}
 use Rattle.combinatorics.specs.Lists.{concatMap, upFrom}
-use Rattle.grid.specs.Grid.{Grid, Point, at, numIndices, blockOf, isGridPoint, position, MovedBy}
+use Rattle.grid_points.specs.Grid.{Grid, Point, at, numIndices, blockOf, isGridPoint, position, MovedBy}
 use Rattle.positions.specs.Falls.{tailFrom, Falls}
 use Rattle.place.specs.Places.{Simplex}
 use Rattle.place.specs.Problem.{Problem, label}

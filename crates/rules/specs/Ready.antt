@@ -8,7 +8,7 @@ use Prim.Native.Nat.{ℕ, zero, suc, pred, _-_, _≤_, _<_}
 use lib.Dec.{eqb, ltb}
 use lib.ListN.{length, set, take}
 use Rattle.combinatorics.specs.Edits.{found}
-use Rattle.grid.specs.Grid.{Grid, at, numIndices, size, blockOf, previous, next}
+use Rattle.grid_points.specs.Grid.{Grid, at, numIndices, size, blockOf, previous, next}
 use Rattle.rules.specs.Mask.{bit}
 use Rattle.rules.specs.Step.{State, Round, markLabel, sourceIn, firstOutsideOrZero, isFilled}
 

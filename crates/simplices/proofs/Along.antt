@@ -17,12 +17,13 @@ use Rattle.combinatorics.proofs.Ranges.{in-upFrom, upFrom-in}
 use Rattle.combinatorics.specs.Lists.{filter, all, isIn, distinct, occurrences}
 use Rattle.geometry.proofs.LabelledChains.{tabulate}
 use Rattle.geometry.proofs.Points.{nth}
-use Rattle.grid.proofs.Accepted.{Accepted}
-use Rattle.grid.proofs.Points.{onPoints}
-use Rattle.grid.proofs.Round.{next-previous}
-use Rattle.grid.specs.Grid.{Grid, Point, at, numBlocks, numIndices, firstIndex, size, blocks, indices, indicesOf, next}
-use Rattle.grid.specs.Grid.{previous}
-use Rattle.grid.specs.Grid.{isGridPoint, samePoint}
+use Rattle.grid_points.proofs.Accepted.{Accepted}
+use Rattle.grid_points.proofs.Points.{onPoints}
+use Rattle.grid_points.proofs.Round.{next-previous}
+use Rattle.grid_points.specs.Grid.{Grid, Point, at, numBlocks, numIndices, firstIndex, size, blocks, indices, indicesOf}
+use Rattle.grid_points.specs.Grid.{next}
+use Rattle.grid_points.specs.Grid.{previous}
+use Rattle.grid_points.specs.Grid.{isGridPoint, samePoint}
 use Rattle.place.specs.Places.{within, unit}
 use Rattle.path_laws.proofs.BlocksOfGrid.{blocksOf, next-agrees, previous-agrees}
 use Rattle.path_laws.proofs.IndexSets.{goes-at}

@@ -18,9 +18,9 @@ use Rattle.combinatorics.proofs.Ranges.{in-upFrom, upFrom-in}
 use Rattle.combinatorics.proofs.EditsRemove.{length-removeAt}
 use Rattle.combinatorics.specs.Edits.{removeAt}
 use Rattle.combinatorics.specs.Lists.{filter, all, isIn, distinct}
-use Rattle.grid.proofs.Accepted.{Accepted}
-use Rattle.grid.proofs.Points.{onPoints}
-use Rattle.grid.specs.Grid.{Grid, Point, numBlocks, dimension, blocks, isGridPoint, samePoint, bound}
+use Rattle.grid_points.proofs.Accepted.{Accepted}
+use Rattle.grid_points.proofs.Points.{onPoints}
+use Rattle.grid_points.specs.Grid.{Grid, Point, numBlocks, dimension, blocks, isGridPoint, samePoint, bound}
 use Rattle.place.specs.Ends.{End, stop, isComplete, completeFor}
 use Rattle.place.specs.Path.{path, pathLength}
 use Rattle.place.specs.Places.{Simplex, isPlace, isUnlabelledPlace, setU, labelSet}

@@ -17,9 +17,9 @@ use Rattle.combinatorics.proofs.Ranges.{upFrom-in}
 use Rattle.combinatorics.specs.Edits.{removeAt}
 use Rattle.combinatorics.specs.Lists.{isIn, distinct}
 use Rattle.geometry.proofs.Points.{nth}
-use Rattle.grid.proofs.Points.{onPoints}
-use Rattle.grid.proofs.Round.{block-fits}
-use Rattle.grid.specs.Grid.{Point, at, numBlocks, numIndices, firstIndex, size, indicesOf, samePoint}
+use Rattle.grid_points.proofs.Points.{onPoints}
+use Rattle.grid_points.proofs.Round.{block-fits}
+use Rattle.grid_points.specs.Grid.{Point, at, numBlocks, numIndices, firstIndex, size, indicesOf, samePoint}
 use Rattle.place.specs.Ends.{End, stop, isComplete}
 use Rattle.place.specs.Places.{Simplex, isPlace, setU, setT, labelSet, order, firstBackOutside, unit}
 use Rattle.place.specs.Problem.{Problem, label}

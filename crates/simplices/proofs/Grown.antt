@@ -18,11 +18,12 @@ use Rattle.geometry.proofs.Definitions.{Blocks, Grid as OnRing, raise}
 use Rattle.geometry.proofs.Points.{nth, at-point}
 use Rattle.geometry.proofs.Search.{raise-at, raise-elsewhere}
 use Rattle.geometry.proofs.Sizes.{upto}
-use Rattle.grid.proofs.Accepted.{Accepted, size-two}
-use Rattle.grid.proofs.Points.{onPoints}
-use Rattle.grid.specs.Grid.{Grid, Point, at, numBlocks, numIndices, firstIndex, size, blocks, indices, indicesOf, next}
-use Rattle.grid.specs.Grid.{previous}
-use Rattle.grid.specs.Grid.{isGridPoint, samePoint}
+use Rattle.grid_points.proofs.Accepted.{Accepted, size-two}
+use Rattle.grid_points.proofs.Points.{onPoints}
+use Rattle.grid_points.specs.Grid.{Grid, Point, at, numBlocks, numIndices, firstIndex, size, blocks, indices, indicesOf}
+use Rattle.grid_points.specs.Grid.{next}
+use Rattle.grid_points.specs.Grid.{previous}
+use Rattle.grid_points.specs.Grid.{isGridPoint, samePoint}
 use Rattle.place.specs.Places.{goesTo, unit, within}
 use Rattle.path_laws.proofs.BlocksOfGrid.{blocksOf, pointOf, next-agrees, block-own, block-agrees, block-inside}
 use Rattle.path_laws.proofs.BlocksOfGrid.{on-ring}

@@ -18,11 +18,12 @@ use Rattle.combinatorics.proofs.Ranges.{length-upFrom, upFrom-add, distinct-upF
 use Rattle.combinatorics.proofs.Selections.{in-selections}
 use Rattle.combinatorics.proofs.Turns.{map-at}
 use Rattle.combinatorics.specs.Lists.{filter, all, any, isIn, distinct, sum, upFrom, selections}
-use Rattle.grid.proofs.Accepted.{Accepted}
-use Rattle.grid.proofs.Points.{onPoints, in-points}
-use Rattle.grid.specs.Grid.{Grid, Point, at, numBlocks, numIndices, dimension, firstIndex, blocks, indices, indicesOf}
-use Rattle.grid.specs.Grid.{previous}
-use Rattle.grid.specs.Grid.{isGridPoint, samePoint, points}
+use Rattle.grid_points.proofs.Accepted.{Accepted}
+use Rattle.grid_points.proofs.Points.{onPoints, in-points}
+use Rattle.grid_points.specs.Grid.{Grid, Point, at, numBlocks, numIndices, dimension, firstIndex, blocks, indices}
+use Rattle.grid_points.specs.Grid.{indicesOf}
+use Rattle.grid_points.specs.Grid.{previous}
+use Rattle.grid_points.specs.Grid.{isGridPoint, samePoint, points}
 use Rattle.place.specs.Places.{unit, within}
 use Rattle.path_laws.proofs.IndexSets.{goes-at}
 use Rattle.path_laws.proofs.Meaning.{index-means}

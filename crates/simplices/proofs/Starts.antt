@@ -19,11 +19,12 @@ use Rattle.geometry.proofs.LabelledChains.{LabelledChain}
 use Rattle.geometry.proofs.Links.{chain-ext}
 use Rattle.geometry.proofs.Onward.{getD-tabulate}
 use Rattle.geometry.proofs.Points.{nth, listAt-map}
-use Rattle.grid.proofs.Accepted.{Accepted, size-two}
-use Rattle.grid.proofs.Points.{onPoints}
-use Rattle.grid.proofs.Round.{seat, next-at, next-round, block-fits}
-use Rattle.grid.specs.Grid.{Grid, Point, at, numBlocks, numIndices, firstIndex, size, indicesOf, next, isGridPoint}
-use Rattle.grid.specs.Grid.{samePoint}
+use Rattle.grid_points.proofs.Accepted.{Accepted, size-two}
+use Rattle.grid_points.proofs.Points.{onPoints}
+use Rattle.grid_points.proofs.Round.{seat, next-at, next-round, block-fits}
+use Rattle.grid_points.specs.Grid.{Grid, Point, at, numBlocks, numIndices, firstIndex, size, indicesOf, next}
+use Rattle.grid_points.specs.Grid.{isGridPoint}
+use Rattle.grid_points.specs.Grid.{samePoint}
 use Rattle.place.specs.Coefficients.{coefficients}
 use Rattle.place.specs.Places.{isPlace, isUnlabelledPlace, setT, unit}
 use Rattle.place.specs.Problem.{Problem, label}

@@ -17,11 +17,11 @@ use Rattle.combinatorics.specs.Lists.{all, same, distinct}
 use Rattle.geometry.proofs.LabelledChains.{tabulate}
 use Rattle.geometry.proofs.Onward.{length-tabulate, getD-tabulate}
 use Rattle.geometry.proofs.Points.{nth}
-use Rattle.grid.proofs.Accepted.{Accepted}
-use Rattle.grid.proofs.Points.{onPoints}
-use Rattle.grid.proofs.Round.{next-low, block-fits}
-use Rattle.grid.specs.Grid.{Grid, Point, at, numBlocks, numIndices, firstIndex, size, indices, next, isGridPoint}
-use Rattle.grid.specs.Grid.{samePoint}
+use Rattle.grid_points.proofs.Accepted.{Accepted}
+use Rattle.grid_points.proofs.Points.{onPoints}
+use Rattle.grid_points.proofs.Round.{next-low, block-fits}
+use Rattle.grid_points.specs.Grid.{Grid, Point, at, numBlocks, numIndices, firstIndex, size, indices, next, isGridPoint}
+use Rattle.grid_points.specs.Grid.{samePoint}
 use Rattle.place.specs.Coefficients.{IsCoefficients}
 use Rattle.path_laws.proofs.BlocksOfGrid.{coefficientOf, pointOf, coefficientOf-is, point-coefficientOf, beyond}
 use Rattle.path_laws.proofs.Coefficients.{coefficients-only}

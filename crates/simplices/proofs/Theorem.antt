@@ -9,9 +9,9 @@ use lib.ListN.{length}
 use Rattle.combinatorics.proofs.Lists.{all-in, in-all, any-in, in-any}
 use Rattle.combinatorics.specs.Lists.{all, isIn, distinct}
 use Rattle.geometry.proofs.Points.{nth}
-use Rattle.grid.proofs.Accepted.{Accepted}
-use Rattle.grid.proofs.Points.{onPoints}
-use Rattle.grid.specs.Grid.{Grid, Point, isGridPoint, samePoint}
+use Rattle.grid_points.proofs.Accepted.{Accepted}
+use Rattle.grid_points.proofs.Points.{onPoints}
+use Rattle.grid_points.specs.Grid.{Grid, Point, isGridPoint, samePoint}
 use Rattle.path_laws.proofs.Positions.{at-in}
 use Rattle.simplices.proofs.Along.{walk-of, walk-nested, from-first}
 use Rattle.simplices.proofs.Grown.{in-simplex}

@@ -4,7 +4,7 @@ use mathlib.Core.Bool.{cond}
 use mathlib.Core.List.{map}
 use mathlib.Core.Option.{none}
 use mathlib.Core.Path.{_≡_, refl}
-use Rattle.grid.specs.Grid.{previous, isGridPoint, points}
+use Rattle.grid_points.specs.Grid.{previous, isGridPoint, points}
 use Rattle.place.specs.Coefficients.{coefficients}
 use Rattle.place.specs.Ends.{isComplete, completeFor}
 use Rattle.place.specs.Places.{setU, labelSet, goesTo}

@@ -5,7 +5,7 @@ use mathlib.Core.List.{List, [], _∷_}
 use Prim.Native.Nat.{ℕ}
 use lib.Dec.{eqb, leb}
 use Rattle.combinatorics.specs.Lists.{all, any, same}
-use Rattle.grid.specs.Grid.{Grid, Point, at, indices}
+use Rattle.grid_points.specs.Grid.{Grid, Point, at, indices}
 use Rattle.place.specs.Coefficients.{coefficients}
 use Rattle.place.specs.Problem.{Problem}
 

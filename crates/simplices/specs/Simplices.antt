@@ -8,8 +8,9 @@ use Prim.Native.Nat.{ℕ, _+_, _-_}
 use lib.Dec.{eqb}
 use lib.ListN.{length}
 use Rattle.combinatorics.specs.Lists.{filter, all, any, isIn, distinct, selections}
-use Rattle.grid.specs.Grid.{Grid, Point, at, numIndices, blocks, indices, indicesOf, previous, isGridPoint, samePoint}
-use Rattle.grid.specs.Grid.{points}
+use Rattle.grid_points.specs.Grid.{Grid, Point, at, numIndices, blocks, indices, indicesOf, previous, isGridPoint}
+use Rattle.grid_points.specs.Grid.{samePoint}
+use Rattle.grid_points.specs.Grid.{points}
 use Rattle.place.specs.Ends.{completeFor}
 use Rattle.place.specs.Places.{within, goesTo, unit}
 use Rattle.place.specs.Problem.{Problem}

@@ -2,7 +2,7 @@
 use mathlib.Core.List.{List, [], _∷_}
 use mathlib.Core.Option.{Option, none, some}
 use Prim.Native.Nat.{ℕ}
-use Rattle.grid.specs.Grid.{Grid, Point}
+use Rattle.grid_points.specs.Grid.{Grid, Point}
 
 pub record Row : Type 0 where
   pub grid : Grid

@@ -15,8 +15,8 @@ use Rattle.losses.specs.Game.{product}
 use Rattle.losses.specs.Table.{numLosses, inRange}
 use Rattle.losses.proofs.Table.{product-few}
 use Rattle.built_in.specs.Tables.{gameLosses}
-use Rattle.grid.proofs.Accepted.{accepted as grid-accepted}
-use Rattle.grid.specs.Grid.{numBlocks}
+use Rattle.grid_points.proofs.Accepted.{accepted as grid-accepted}
+use Rattle.grid_points.specs.Grid.{numBlocks}
 use Rattle.questions.specs.Questions.{firstNo}
 use Rattle.slip_fields.proofs.Laws.{losses-only, losses-last, game-only}
 use Rattle.slip_fields.proofs.Runs.{answers, whole}

@@ -11,13 +11,13 @@ use native.Mathlib.Omega.{arith}
 use Rattle.combinatorics.proofs.Basics.{true-or-false}
 use Rattle.combinatorics.proofs.Fronts.{front-length}
 use Rattle.combinatorics.specs.Front.{padded}
-use Rattle.grid.proofs.Accepted.{Accepted, accepted as grid-accepted}
+use Rattle.grid_points.proofs.Accepted.{Accepted, accepted as grid-accepted}
 use Rattle.grid.proofs.Fields.{shape-of, is-made}
 use Rattle.grid.specs.declared.Grid.{Grid as GridStruct}
-use Rattle.grid.specs.Grid.{numBlocks, numIndices, numPoints}
+use Rattle.grid_points.specs.Grid.{numBlocks, numIndices, numPoints}
 use Rattle.grid.specs.Made.{gridOf, shape, IsMade}
 use Rattle.questions.specs.Questions.{firstNo}
-use Rattle.grid.specs.Questions.{gridQuestions}
+use Rattle.grid_points.specs.Questions.{gridQuestions}
 use Rattle.slip_fields.proofs.Laws.{inexact}
 use Rattle.slip_fields.proofs.Runs.{number-is, then-runs}
 use Rattle.slip.specs.declared.Budget.the-variants.{Is, Missing as NoBudget}

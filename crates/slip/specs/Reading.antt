@@ -9,7 +9,7 @@ use Rattle.grid.specs.declared.Grid.{Grid as GridStruct}
 use Rattle.combinatorics.specs.Front.{padded}
 use Rattle.grid.specs.Made.{gridOf, noGrid}
 use Rattle.questions.specs.Questions.{firstNo}
-use Rattle.grid.specs.Questions.{gridQuestions}
+use Rattle.grid_points.specs.Questions.{gridQuestions}
 use Rattle.slip_fields.specs.Slip.{stands, slipGrid, slipStart, slipBudget, slipGame, slipLosses, fieldAt}
 use Rattle.slip_fields.specs.Slip.{slipReadQuestions}
 use Rattle.slip_fields.specs.Slip.{headLength}

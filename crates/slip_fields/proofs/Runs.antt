@@ -15,10 +15,10 @@ use Rattle.little_endian.proofs.Laws.{length-words}
 use Rattle.losses.specs.Game.{gameLabel, labels}
 use Rattle.losses.specs.Table.{numLosses, IsTable}
 use Rattle.built_in.proofs.Games.{game-table}
-use Rattle.grid.specs.Grid.{numPoints, points}
+use Rattle.grid_points.specs.Grid.{numPoints, points}
 use Rattle.questions.proofs.Answers.{first-yes, first-append, both-yes, asked-next, asked-no}
 use Rattle.questions.specs.Questions.{firstNo}
-use Rattle.grid.specs.Questions.{gridQuestions, question5}
+use Rattle.grid_points.specs.Questions.{gridQuestions, question5}
 use Rattle.place.specs.Questions.{question6, question7, question8, runQuestions}
 use Rattle.slip_fields.proofs.Laws.{length-there, length-absent, labels-last, game-only, losses-only}
 use Rattle.slip_fields.specs.Runs.{RefusedAsRead, ThenRuns}

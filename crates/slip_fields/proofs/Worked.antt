@@ -1,7 +1,7 @@
 -- The worked slips hold of the definitions: each is refused by its number, or says what stands there. Assumes nothing.
 use mathlib.Core.List.{map}
 use mathlib.Core.Path.{_≡_, refl}
-use Rattle.grid.specs.Grid.{isGridPoint, points, bound}
+use Rattle.grid_points.specs.Grid.{isGridPoint, points, bound}
 use Rattle.losses.specs.Game.{expectedLoss, replaced, gameLabel, labels}
 use Rattle.little_endian.specs.Numbers.{number, words}
 use Rattle.questions.specs.Questions.{firstNo}

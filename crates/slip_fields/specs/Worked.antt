@@ -6,7 +6,7 @@ use mathlib.Core.List.{List, [], _∷_}
 use Prim.Native.Nat.{ℕ}
 use lib.Dec.{eqb}
 use lib.ListN.{replicate}
-use Rattle.grid.specs.Grid.{Point}
+use Rattle.grid_points.specs.Grid.{Point}
 use Rattle.slip_fields.specs.Slip.{stands, slipStart, slipBudget, labelField, slipLosses, slipRefusal}
 
 -- the number of the first question answered no, or else the start, the budget, and the labels or losses

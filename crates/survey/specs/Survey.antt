@@ -5,7 +5,7 @@ use mathlib.Core.Path.{_≡_}
 use Prim.Native.Nat.{ℕ, _≤_}
 use lib.ListN.{length}
 use Rattle.combinatorics.specs.Front.{front}
-use Rattle.grid.specs.Grid.{Point, isGridPoint, numPoints, position}
+use Rattle.grid_points.specs.Grid.{Point, isGridPoint, numPoints, position}
 use Rattle.grid.specs.Made.{shape}
 use Rattle.grid.specs.declared.Grid.{Grid as GridStruct}
 use Rattle.place.specs.Problem.{Problem}

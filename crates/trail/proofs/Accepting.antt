@@ -14,8 +14,8 @@ use native.Mathlib.Omega.{arith}
 use Rattle.combinatorics.proofs.Basics.{absurd-bool, true-or-false}
 use Rattle.combinatorics.proofs.Lists.{all-in, in-here}
 use Rattle.combinatorics.specs.Lists.{isIn}
-use Rattle.grid.proofs.Points.{onPoints, in-points, position-in}
-use Rattle.grid.specs.Grid.{Point, isGridPoint, position, samePoint, points}
+use Rattle.grid_points.proofs.Points.{onPoints, in-points, position-in}
+use Rattle.grid_points.specs.Grid.{Point, isGridPoint, position, samePoint, points}
 use Rattle.place.specs.Path.{sameSimplex}
 use Rattle.place.specs.Places.{Simplex, isUnlabelledPlace}
 use Rattle.place.specs.Problem.{Problem}

@@ -14,7 +14,7 @@ use Rattle.combinatorics.proofs.Basics.{absurd-bool, and-left, and-right, true-
 use Rattle.combinatorics.proofs.Lists.{in-here, filter-in}
 use Rattle.combinatorics.proofs.Ranges.{length-upFrom}
 use Rattle.combinatorics.specs.Lists.{all, concatMap, filter, isIn, upFrom}
-use Rattle.grid.specs.Grid.{Point, position, samePoint}
+use Rattle.grid_points.specs.Grid.{Point, position, samePoint}
 use Rattle.place.specs.LabelsRead.{cameIn, labelsRead, pointCameIn}
 use Rattle.place.specs.Places.{Simplex}
 use Rattle.place.specs.Problem.{Problem}

@@ -19,8 +19,8 @@ use Rattle.geometry.proofs.Definitions.{Less, Place, coord, zeros}
 use Rattle.geometry.proofs.Graph.{larger, swapped-facet, Facet}
 use Rattle.geometry.proofs.LabelledChains.{LabelledChain, Swapped, listAt}
 use Rattle.geometry.proofs.Points.{nth, listAt-map}
-use Rattle.grid.proofs.Points.{onPoints}
-use Rattle.grid.specs.Grid.{Point, at, numIndices, indices, samePoint, position}
+use Rattle.grid_points.proofs.Points.{onPoints}
+use Rattle.grid_points.specs.Grid.{Point, at, numIndices, indices, samePoint, position}
 use Rattle.place.specs.Links.{shared, exchanged, extended, linked}
 use Rattle.place.specs.Places.{Simplex, setT, setU, labelSet, within, isPlace, allLabelled, order}
 use Rattle.place.specs.Problem.{Problem, hasLabel}

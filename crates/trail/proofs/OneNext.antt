@@ -22,8 +22,8 @@ use Rattle.geometry.proofs.Points.{nth, listAt-map}
 use Rattle.geometry.proofs.Sorted.{rising-chain}
 use Rattle.geometry.proofs.Unique.{not-next-fills, not-drops-fills}
 use Rattle.geometry.proofs.Ways.{omit-is}
-use Rattle.grid.proofs.Points.{onPoints}
-use Rattle.grid.specs.Grid.{Point, at, numBlocks, firstIndex, samePoint}
+use Rattle.grid_points.proofs.Points.{onPoints}
+use Rattle.grid_points.specs.Grid.{Point, at, numBlocks, firstIndex, samePoint}
 use Rattle.place.specs.Ends.{isComplete}
 use Rattle.place.specs.Links.{linked}
 use Rattle.place.specs.Places.{Simplex, setT, labelSet, order, isUnlabelledPlace, isPlace, allLabelled}

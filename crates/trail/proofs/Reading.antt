@@ -11,7 +11,7 @@ use native.Mathlib.Omega.{arith}
 use Rattle.combinatorics.proofs.Basics.{absurd-bool, and-left, and-right, and-both}
 use Rattle.combinatorics.proofs.Lists.{in-here, in-filter, filter-in, filter-cong, eqb-self}
 use Rattle.combinatorics.specs.Lists.{all, filter, isIn, sublists}
-use Rattle.grid.specs.Grid.{Point, numBlocks, isGridPoint, points}
+use Rattle.grid_points.specs.Grid.{Point, numBlocks, isGridPoint, points}
 use Rattle.place.specs.Coefficients.{coefficients}
 use Rattle.place.specs.Path.{sameSimplex}
 use Rattle.place.specs.Places.{Simplex, setT, isUnlabelledPlace, insert, inOrder}

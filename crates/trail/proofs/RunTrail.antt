@@ -11,7 +11,7 @@ use native.Mathlib.Nat.{mul-le-mul}
 use native.Mathlib.Omega.{arith}
 use Rattle.combinatorics.proofs.Basics.{absurd-bool}
 use Rattle.combinatorics.proofs.Terms.{terms-few}
-use Rattle.grid.specs.Grid.{numBlocks, numIndices, dimension, bound}
+use Rattle.grid_points.specs.Grid.{numBlocks, numIndices, dimension, bound}
 use Rattle.place.specs.Path.{path}
 use Rattle.place.specs.Places.{Simplex, isUnlabelledPlace}
 use Rattle.place.specs.Problem.{Problem, withLabels}

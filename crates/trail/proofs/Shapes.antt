@@ -15,8 +15,8 @@ use Rattle.combinatorics.proofs.Ranges.{distinct-upFrom}
 use Rattle.combinatorics.proofs.Rising.{rising-distinct}
 use Rattle.combinatorics.specs.Lists.{filter, isIn, distinct}
 use Rattle.geometry.proofs.Definitions.{Less}
-use Rattle.grid.proofs.Points.{onPoints}
-use Rattle.grid.specs.Grid.{Point, numIndices, indices, samePoint, position}
+use Rattle.grid_points.proofs.Points.{onPoints}
+use Rattle.grid_points.specs.Grid.{Point, numIndices, indices, samePoint, position}
 use Rattle.place.specs.Coefficients.{coefficientSum}
 use Rattle.place.specs.Places.{Simplex, setT, labelSet, order, isUnlabelledPlace, isPlace}
 use Rattle.place.specs.Problem.{Problem, withLabels}

@@ -16,8 +16,8 @@ use Rattle.combinatorics.proofs.Lists.{onNumbers}
 use Rattle.combinatorics.specs.Lists.{all, isIn}
 use Rattle.geometry.proofs.Definitions.{Less}
 use Rattle.geometry.proofs.Points.{nth}
-use Rattle.grid.proofs.Points.{onPoints}
-use Rattle.grid.specs.Grid.{Point, numIndices, indices, samePoint, isGridPoint}
+use Rattle.grid_points.proofs.Points.{onPoints}
+use Rattle.grid_points.specs.Grid.{Point, numIndices, indices, samePoint, isGridPoint}
 use Rattle.place.specs.Links.{shared, exchanged, extended, linked}
 use Rattle.place.specs.Places.{Simplex, setT, labelSet, isUnlabelledPlace, isPlace, allLabelled}
 use Rattle.place.specs.Problem.{Problem, label, withLabels}

@@ -18,9 +18,9 @@ use Rattle.combinatorics.proofs.Rising.{rising-distinct}
 use Rattle.combinatorics.specs.Edits.{insertAt}
 use Rattle.combinatorics.specs.Lists.{all, isIn, distinct, occurrences}
 use Rattle.geometry.proofs.Points.{nth}
-use Rattle.grid.proofs.Round.{block-fits}
-use Rattle.grid.proofs.Points.{onPoints, point-sound, point-self, in-points, position-in}
-use Rattle.grid.specs.Grid.{Grid, Point, at, numIndices, isGridPoint, samePoint, points, position}
+use Rattle.grid_points.proofs.Round.{block-fits}
+use Rattle.grid_points.proofs.Points.{onPoints, point-sound, point-self, in-points, position-in}
+use Rattle.grid_points.specs.Grid.{Grid, Point, at, numIndices, isGridPoint, samePoint, points, position}
 use Rattle.place.specs.Coefficients.{coefficientSum}
 use Rattle.place.specs.Places.{Simplex, setT, labelSet, within, order, isUnlabelledPlace, isPlace, allLabelled}
 use Rattle.place.specs.Problem.{Problem, label, hasLabel, withLabels}

@@ -14,8 +14,8 @@ use Rattle.combinatorics.proofs.Basics.{before-or-not}
 use Rattle.combinatorics.proofs.Lists.{all-in, in-all}
 use Rattle.combinatorics.proofs.Rising.{rising-same}
 use Rattle.combinatorics.specs.Lists.{all, concatMap, isIn}
-use Rattle.grid.proofs.Points.{onPoints, in-points}
-use Rattle.grid.specs.Grid.{Grid, Point, numBlocks, isGridPoint, samePoint, points, position}
+use Rattle.grid_points.proofs.Points.{onPoints, in-points}
+use Rattle.grid_points.specs.Grid.{Grid, Point, numBlocks, isGridPoint, samePoint, points, position}
 use Rattle.place.specs.Coefficients.{coefficientSum}
 use Rattle.place.specs.Places.{Simplex, isUnlabelledPlace}
 use Rattle.place.specs.Problem.{Problem}

@@ -6,7 +6,7 @@ use Prim.Native.Nat.{ℕ, suc}
 use lib.Dec.{eqb}
 use lib.ListN.{length}
 use Rattle.combinatorics.specs.Lists.{filter, isIn, same}
-use Rattle.grid.specs.Grid.{samePoint, position}
+use Rattle.grid_points.specs.Grid.{samePoint, position}
 use Rattle.place.specs.Places.{Simplex, setT, setU}
 use Rattle.place.specs.Problem.{Problem}
 

@@ -8,7 +8,7 @@ use Prim.Native.Nat.{ℕ, suc, pred, _+_, _*_, _%_, _≤_, _<_}
 use lib.Dec.{eqb}
 use lib.ListN.{length, take}
 use Rattle.combinatorics.specs.Lists.{isIn}
-use Rattle.grid.specs.Grid.{Point, numPoints, position, samePoint}
+use Rattle.grid_points.specs.Grid.{Point, numPoints, position, samePoint}
 use Rattle.place.specs.LabelsRead.{cameIn, labelsRead}
 use Rattle.place.specs.Places.{Simplex, isUnlabelledPlace}
 use Rattle.place.specs.Problem.{Problem, withLabels}

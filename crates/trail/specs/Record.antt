@@ -2,7 +2,7 @@
 use mathlib.Core.List.{List, [], _∷_, _++_, map}
 use Prim.Native.Nat.{ℕ, suc, _+_, _*_, _/_, _%_}
 use Rattle.combinatorics.specs.Lists.{concatMap}
-use Rattle.grid.specs.Grid.{position}
+use Rattle.grid_points.specs.Grid.{position}
 use Rattle.place.specs.Places.{Simplex}
 use Rattle.place.specs.Problem.{Problem}
 use Rattle.trail.specs.Change.{Change, change, rules, ByRule, rule1, rule2, rule3, rule4, rule5, rule6, rule7}

@@ -6,7 +6,7 @@ use Prim.Native.Nat.{ℕ, zero, suc}
 use lib.Dec.{eqb, leb}
 use lib.ListN.{length, drop}
 use Rattle.combinatorics.specs.Lists.{filter, sublists, upFrom}
-use Rattle.grid.specs.Grid.{points}
+use Rattle.grid_points.specs.Grid.{points}
 use Rattle.place.specs.LabelsRead.{labelsRead}
 use Rattle.place.specs.Places.{Simplex, setT, setU, isUnlabelledPlace, inOrder}
 use Rattle.place.specs.Problem.{Problem}

@@ -17,8 +17,8 @@ use Rattle.geometry.proofs.Exits.{kinds}
 use Rattle.geometry.proofs.Graph.{Above, Through}
 use Rattle.geometry.proofs.LabelledChains.{FacetEnd, PlaceEnd, listAt}
 use Rattle.geometry.proofs.Points.{nth}
-use Rattle.grid.proofs.Points.{onPoints}
-use Rattle.grid.specs.Grid.{numIndices, position, samePoint}
+use Rattle.grid_points.proofs.Points.{onPoints}
+use Rattle.grid_points.specs.Grid.{numIndices, position, samePoint}
 use Rattle.place.specs.Ends.{isComplete}
 use Rattle.place.specs.Places.{Simplex, labelSet, setT}
 use Rattle.place.specs.Problem.{Problem, withLabels}

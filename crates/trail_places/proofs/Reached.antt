@@ -15,8 +15,8 @@ use Rattle.combinatorics.proofs.Basics.{absurd-bool, before-or-not, false-of, s
 use Rattle.combinatorics.specs.Lists.{isIn}
 use Rattle.geometry.proofs.LabelledChains.{listAt}
 use Rattle.geometry.proofs.Points.{nth}
-use Rattle.grid.proofs.Points.{onPoints}
-use Rattle.grid.specs.Grid.{Point, at, isGridPoint, numBlocks, numIndices, position, samePoint}
+use Rattle.grid_points.proofs.Points.{onPoints}
+use Rattle.grid_points.specs.Grid.{Point, at, isGridPoint, numBlocks, numIndices, position, samePoint}
 use Rattle.place.specs.Links.{linked}
 use Rattle.place.specs.Places.{Simplex, isPlace, isUnlabelledPlace}
 use Rattle.place.specs.Problem.{Problem, label, withLabels}

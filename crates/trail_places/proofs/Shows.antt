@@ -12,7 +12,7 @@ use Rattle.combinatorics.specs.Lists.{isIn}
 use Rattle.geometry.proofs.Definitions.{Carries}
 use Rattle.geometry.proofs.LabelledChains.{LabelledChain, listAt}
 use Rattle.geometry.proofs.Points.{nth}
-use Rattle.grid.specs.Grid.{Point, at, numIndices}
+use Rattle.grid_points.specs.Grid.{Point, at, numIndices}
 use Rattle.place.specs.Places.{Simplex, setT}
 use Rattle.place.specs.Problem.{Problem, label, withLabels}
 use Rattle.path_laws.proofs.BlocksOfGrid.{blocksOf, pointOf}

@@ -11,7 +11,7 @@ use lib.ListN.{length}
 use native.Mathlib.Omega.{arith}
 use Rattle.combinatorics.proofs.Basics.{before-or-not, same-or, true-or-false}
 use Rattle.combinatorics.specs.Edits.{butLast, found, insertAt, lastOr, removeAt, rotateLeft, rotateRight}
-use Rattle.grid.specs.Grid.{at}
+use Rattle.grid_points.specs.Grid.{at}
 use Rattle.rules.specs.Mask.{bit}
 use Rattle.rules.specs.Step.{State, After, goes, endsAtPlace, endsAtFacet, firstOutside, grow}
 use Rattle.rules.specs.Step.{isFilled, leave, leaveFirst, leaveLast, leaveMiddle, mark, markPosition, shrink}

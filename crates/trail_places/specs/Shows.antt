@@ -7,7 +7,7 @@ use Prim.Native.Nat.{ℕ, suc, _<_}
 use lib.ListN.{length}
 use Rattle.geometry.proofs.Definitions.{Chain, coord, zeros}
 use Rattle.geometry.proofs.LabelledChains.{listAt}
-use Rattle.grid.specs.Grid.{Point, at, numIndices, position}
+use Rattle.grid_points.specs.Grid.{Point, at, numIndices, position}
 use Rattle.place.specs.Places.{Simplex, isUnlabelledPlace}
 use Rattle.place.specs.Problem.{Problem}
 use Rattle.path_laws.proofs.BlocksOfGrid.{blocksOf}

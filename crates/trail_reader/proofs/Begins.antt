@@ -14,7 +14,7 @@ use Rattle.combinatorics.proofs.Basics.{before-or-not}
 use Rattle.combinatorics.specs.Lists.{isIn, sum, upFrom}
 use Rattle.path_walk.specs.Finish.{IsBegun}
 use Rattle.grid.proofs.Fields.{made-indices}
-use Rattle.grid.specs.Grid.{at, numIndices, position}
+use Rattle.grid_points.specs.Grid.{at, numIndices, position}
 use Rattle.grid.specs.Made.{IsMade, shape}
 use Rattle.grid.specs.declared.Grid.{Grid as GridStruct}
 use Rattle.moves.specs.Held.{stateOf}

@@ -17,9 +17,9 @@ use Rattle.combinatorics.specs.Front.{front}
 use Rattle.combinatorics.specs.Lists.{concatMap}
 use Rattle.finder.proofs.Announcements.{point-long}
 use Rattle.grid.proofs.Fields.{indices-few, made-accepted, made-indices}
-use Rattle.grid.specs.Grid.{isGridPoint, numIndices, position}
+use Rattle.grid_points.specs.Grid.{isGridPoint, numIndices, position}
 use Rattle.grid.specs.Made.{IsMade, shape}
-use Rattle.grid.specs.Questions.{gridQuestions, question5}
+use Rattle.grid_points.specs.Questions.{gridQuestions, question5}
 use Rattle.grid.specs.declared.Grid.{Grid as GridStruct}
 use Rattle.moves.specs.Held.{stateOf}
 use Rattle.moves.specs.declared.Status.{Status}

@@ -4,7 +4,7 @@ use mathlib.Core.Path.{_≡_}
 use Prim.Native.Nat.{ℕ, suc, _<_}
 use lib.ListN.{length, replicate, take}
 use Rattle.combinatorics.specs.Front.{front}
-use Rattle.grid.specs.Grid.{position}
+use Rattle.grid_points.specs.Grid.{position}
 use Rattle.grid.specs.Made.{IsMade, shape}
 use Rattle.grid.specs.declared.Grid.{Grid as GridStruct}
 use Rattle.moves.specs.declared.Status.{Status}

@@ -6,7 +6,7 @@ use lib.Dec.{eqb}
 use lib.ListN.{length, replicate}
 use Rattle.combinatorics.specs.Front.{front}
 use Rattle.combinatorics.specs.Lists.{concatMap, isIn}
-use Rattle.grid.specs.Questions.{gridQuestions, question5}
+use Rattle.grid_points.specs.Questions.{gridQuestions, question5}
 use Rattle.place.specs.Problem.{Problem}
 use Rattle.questions.specs.Questions.{Question, ask, firstNo}
 use Rattle.trail.specs.Trail.{Reading as TrailReading, noRecord, placed, reading}

@@ -15,8 +15,8 @@ use Rattle.combinatorics.proofs.Lists.{all-in, in-cases}
 use Rattle.combinatorics.specs.Edits.{found}
 use Rattle.combinatorics.specs.Lists.{isIn}
 use Rattle.geometry.proofs.Points.{nth}
-use Rattle.grid.proofs.Points.{in-points, onPoints, position-in}
-use Rattle.grid.specs.Grid.{Point, isGridPoint, numIndices, points, position, samePoint}
+use Rattle.grid_points.proofs.Points.{in-points, onPoints, position-in}
+use Rattle.grid_points.specs.Grid.{Point, isGridPoint, numIndices, points, position, samePoint}
 use Rattle.place.specs.Places.{Simplex, setT, setU}
 use Rattle.place.specs.Problem.{Problem}
 use Rattle.path_laws.proofs.FromChain.{in-U}

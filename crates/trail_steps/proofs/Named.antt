@@ -14,8 +14,8 @@ use Rattle.combinatorics.proofs.Lists.{all-in, in-here, onNumbers}
 use Rattle.combinatorics.specs.Edits.{found}
 use Rattle.combinatorics.specs.Lists.{isIn}
 use Rattle.geometry.proofs.Points.{nth}
-use Rattle.grid.proofs.Points.{onPoints}
-use Rattle.grid.specs.Grid.{Point, at, isGridPoint, numIndices, points, position, samePoint}
+use Rattle.grid_points.proofs.Points.{onPoints}
+use Rattle.grid_points.specs.Grid.{Point, at, isGridPoint, numIndices, points, position, samePoint}
 use Rattle.place.specs.Places.{Simplex, setT}
 use Rattle.place.specs.Problem.{Problem}
 use Rattle.path_laws.proofs.LinkSymmetry.{unlabelled-parts}

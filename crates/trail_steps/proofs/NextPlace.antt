@@ -16,7 +16,7 @@ use Rattle.combinatorics.proofs.EditsOfArrays.{counted}
 use Rattle.path_walk.proofs.Visits.{marks-back}
 use Rattle.geometry.proofs.Points.{nth}
 use Rattle.grid.proofs.Fields.{made-blocks}
-use Rattle.grid.specs.Grid.{at, position}
+use Rattle.grid_points.specs.Grid.{at, position}
 use Rattle.grid.specs.Made.{IsMade}
 use Rattle.grid.specs.declared.Grid.{Grid as GridStruct}
 use Rattle.moves.specs.Held.{stateOf}

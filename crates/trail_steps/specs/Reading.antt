@@ -7,7 +7,7 @@ use Prim.Native.Nat.{ℕ, suc, _+_, _-_, _*_, _/_, _%_, _≤_, _<_}
 use lib.Dec.{eqb, leb, ltb}
 use lib.ListN.{drop, getD, length, set}
 use Rattle.combinatorics.specs.Edits.{found}
-use Rattle.grid.specs.Grid.{at, numIndices, position}
+use Rattle.grid_points.specs.Grid.{at, numIndices, position}
 use Rattle.grid.specs.Made.{shape}
 use Rattle.grid.specs.declared.Grid.{Grid as GridStruct}
 use Rattle.marks.specs.Reading.{CanReadPoint, HasMarks, problemFrom}

@@ -27,8 +27,8 @@ use Rattle.path_laws.proofs.Theorem.{demand3-holds}
 use Rattle.path_laws.specs.Demand.{Accepted, lastPlace, placeAt}
 use Rattle.path_walk.proofs.Visits.{HasRead, OnPath}
 use Rattle.path_walk.specs.Finish.{IsKnown, problemIn}
-use Rattle.grid.proofs.Points.{in-points, onPoints, position-in}
-use Rattle.grid.specs.Grid.{Point, isGridPoint, numIndices, points, position, samePoint}
+use Rattle.grid_points.proofs.Points.{in-points, onPoints, position-in}
+use Rattle.grid_points.specs.Grid.{Point, isGridPoint, numIndices, points, position, samePoint}
 use Rattle.grid.specs.declared.Grid.{Grid as GridStruct}
 use Rattle.marks.specs.Reading.{tableProblem}
 use Rattle.moves.proofs.Cases.{Leaving, label-joins, leaving-leaves, leaving-ready}

@@ -18,9 +18,9 @@ use Rattle.combinatorics.proofs.Lists.{pigeon}
 use Rattle.combinatorics.proofs.Turns.{map-append}
 use Rattle.combinatorics.specs.Front.{front}
 use Rattle.combinatorics.specs.Lists.{distinct, filter, isIn}
-use Rattle.grid.proofs.Accepted.{Accepted}
-use Rattle.grid.proofs.Points.{in-points, onPoints}
-use Rattle.grid.specs.Grid.{Grid, Point, at, isGridPoint, numBlocks, numPoints, points, position, samePoint}
+use Rattle.grid_points.proofs.Accepted.{Accepted}
+use Rattle.grid_points.proofs.Points.{in-points, onPoints}
+use Rattle.grid_points.specs.Grid.{Grid, Point, at, isGridPoint, numBlocks, numPoints, points, position, samePoint}
 use Rattle.losses.proofs.Players.{divisions-few}
 use Rattle.positions.proofs.ByTails.{position-tells}
 use Rattle.positions.proofs.Positions.{position-below}

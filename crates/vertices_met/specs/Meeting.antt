@@ -10,7 +10,7 @@ use denote.Ref.{now}
 use Rattle.arrays.specs.Rounds.{LentBoth}
 use Rattle.combinatorics.specs.Front.{front}
 use Rattle.combinatorics.specs.Lists.{filter, isIn}
-use Rattle.grid.specs.Grid.{Grid, Point, at, position}
+use Rattle.grid_points.specs.Grid.{Grid, Point, at, position}
 use Rattle.rules.specs.Read.{pointOn}
 use Rattle.rules.specs.Step.{State}
 use Rattle.visited.specs.Distance.{distance}

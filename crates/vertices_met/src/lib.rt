@@ -6,7 +6,7 @@ ghost use mathlib.Core.Path.{_≡_};
 ghost use Prim.Native.Nat.{suc, _≤_, _<_};
 ghost use lib.ListN.{length, set, take};
 ghost use Rattle.arrays.specs.Rounds.{roundBack};
-ghost use Rattle.grid.specs.Grid.{Grid as Shape, at};
+ghost use Rattle.grid_points.specs.Grid.{Grid as Shape, at};
 ghost use Rattle.moves.specs.Held.{stateOf};
 ghost use Rattle.rules.specs.Read.{CanCompute};
 ghost use Rattle.rules.specs.Ready.{IndicesBelow};

@@ -18,10 +18,11 @@ use Rattle.combinatorics.proofs.Ranges.{upFrom-add}
 use Rattle.combinatorics.proofs.Turns.{map-append, sum-append, sum-next, upFrom-next}
 use Rattle.combinatorics.specs.Lists.{filter, sum, upFrom}
 use Rattle.combinatorics.specs.Counting.{apart}
-use Rattle.grid.proofs.Accepted.{Accepted}
-use Rattle.grid.proofs.Round.{block-at, block-spans}
-use Rattle.grid.specs.Grid.{Grid, Point, at, blockOf, blocks, division, firstIndex, indicesOf, isGridPoint, numBlocks}
-use Rattle.grid.specs.Grid.{numIndices, size}
+use Rattle.grid_points.proofs.Accepted.{Accepted}
+use Rattle.grid_points.proofs.Round.{block-at, block-spans}
+use Rattle.grid_points.specs.Grid.{Grid, Point, at, blockOf, blocks, division, firstIndex, indicesOf, isGridPoint}
+use Rattle.grid_points.specs.Grid.{numBlocks}
+use Rattle.grid_points.specs.Grid.{numIndices, size}
 use Rattle.losses.proofs.Players.{divisions-few, product-append, product-own}
 use Rattle.losses.specs.Game.{product}
 use Rattle.positions.proofs.Positions.{adds-up}

@@ -14,9 +14,9 @@ use Rattle.combinatorics.proofs.Basics.{absurd-bool, before-or-not, false-of}
 use Rattle.combinatorics.proofs.Lists.{all-in, append-in, distinct-filter, distinct-map, filter-all, filter-in, in-all}
 use Rattle.combinatorics.proofs.Lists.{in-cases, in-filter, in-here, length-filter-le, onNumbers}
 use Rattle.combinatorics.specs.Lists.{all, filter, firstOr, isIn}
-use Rattle.grid.proofs.Accepted.{Accepted as GridAccepted}
-use Rattle.grid.proofs.Points.{onPoints}
-use Rattle.grid.specs.Grid.{Point, isGridPoint, position, samePoint}
+use Rattle.grid_points.proofs.Accepted.{Accepted as GridAccepted}
+use Rattle.grid_points.proofs.Points.{onPoints}
+use Rattle.grid_points.specs.Grid.{Point, isGridPoint, position, samePoint}
 use Rattle.place.specs.Path.{path as pathOf}
 use Rattle.place.specs.Problem.{Problem}
 use Rattle.path_laws.proofs.Positions.{at-in, in-at}

@@ -15,8 +15,8 @@ use Rattle.combinatorics.proofs.Lists.{in-append-left, in-append-right, in-case
 use Rattle.combinatorics.proofs.Lists.{pigeon}
 use Rattle.combinatorics.proofs.Rising.{rising-below, rising-tail}
 use Rattle.combinatorics.specs.Lists.{all, distinct, filter, isIn, rising, same}
-use Rattle.grid.proofs.Points.{in-points, onPoints}
-use Rattle.grid.specs.Grid.{Point, isGridPoint, points, samePoint}
+use Rattle.grid_points.proofs.Points.{in-points, onPoints}
+use Rattle.grid_points.specs.Grid.{Point, isGridPoint, points, samePoint}
 use Rattle.place.specs.Links.{exchanged, extended, linked, shared}
 use Rattle.place.specs.Path.{path as pathOf}
 use Rattle.place.specs.Places.{Simplex, isPlace, labelSet, setT, within}

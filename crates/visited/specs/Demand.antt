@@ -8,7 +8,8 @@ use Prim.Native.Nat.{ℕ, _*_, _≤_, _<_}
 use lib.Dec.{eqb}
 use lib.ListN.{length, getD}
 use Rattle.combinatorics.specs.Lists.{distinct, isIn, rising}
-use Rattle.grid.specs.Grid.{Grid, Point, blockOf, division, isGridPoint, numBlocks, numIndices, numPoints, samePoint}
+use Rattle.grid_points.specs.Grid.{Grid, Point, blockOf, division, isGridPoint, numBlocks, numIndices, numPoints}
+use Rattle.grid_points.specs.Grid.{samePoint}
 use Rattle.place.specs.Path.{path as pathOf, pathLength}
 use Rattle.place.specs.Problem.{Problem}
 use Rattle.path_laws.specs.Demand.{placeAt}

@@ -5,7 +5,7 @@ use Prim.Native.Nat.{ℕ, _*_}
 use lib.Dec.{eqb}
 use Rattle.combinatorics.specs.Counting.{apart}
 use Rattle.combinatorics.specs.Lists.{filter, sum}
-use Rattle.grid.specs.Grid.{Grid, Point, at, blockOf, blocks, division, indices}
+use Rattle.grid_points.specs.Grid.{Grid, Point, at, blockOf, blocks, division, indices}
 use Rattle.losses.specs.Game.{product}
 
 -- "D being the product of the divisions"

@@ -3,7 +3,7 @@ use mathlib.Core.List.{List, [], map}
 use Prim.Native.Nat.{ℕ}
 use lib.Dec.{leb}
 use Rattle.combinatorics.specs.Lists.{all, filter, firstOr}
-use Rattle.grid.specs.Grid.{Point, position}
+use Rattle.grid_points.specs.Grid.{Point, position}
 use Rattle.place.specs.Problem.{Problem}
 use Rattle.visited.specs.Distance.{distance}
 use Rattle.visited.specs.Visited.{visitedVertices}

@@ -3,7 +3,7 @@ use mathlib.Core.Bool.{Bool, not, cond}
 use mathlib.Core.List.{List, [], _∷_}
 use Prim.Native.Nat.{ℕ, suc}
 use Rattle.combinatorics.specs.Lists.{concatMap, filter, isIn}
-use Rattle.grid.specs.Grid.{Point, samePoint}
+use Rattle.grid_points.specs.Grid.{Point, samePoint}
 use Rattle.place.specs.Path.{path as pathOf}
 use Rattle.place.specs.Places.{Simplex}
 use Rattle.place.specs.Problem.{Problem}

@@ -15,8 +15,8 @@ use Rattle.combinatorics.specs.Counting.{falling}
 use Rattle.combinatorics.specs.Lists.{sum, upFrom}
 use Rattle.combinatorics.proofs.Terms.{terms-few}
 use Rattle.end_kinds.specs.declared.Kind.{Kind}
-use Rattle.grid.specs.Grid.{Grid, bound, dimension, numIndices, numPoints}
-use Rattle.grid.specs.Questions.{gridQuestions, question5}
+use Rattle.grid_points.specs.Grid.{Grid, bound, dimension, numIndices, numPoints}
+use Rattle.grid_points.specs.Questions.{gridQuestions, question5}
 use Rattle.place.specs.Places.{Simplex, allLabelled}
 use Rattle.place.specs.Questions.{question6, question7, tableQuestions}
 use Rattle.questions.proofs.Answers.{asked-no}

@@ -13,8 +13,8 @@ use Rattle.combinatorics.proofs.Basics.{and-left, and-right, true-or-false}
 use Rattle.combinatorics.proofs.Lists.{all-in}
 use Rattle.combinatorics.specs.Lists.{all, isIn, same}
 use Rattle.combinatorics.specs.Front.{padded}
-use Rattle.grid.proofs.Points.{in-points, onPoints, position-in}
-use Rattle.grid.specs.Grid.{Point, at, isGridPoint, points, samePoint}
+use Rattle.grid_points.proofs.Points.{in-points, onPoints, position-in}
+use Rattle.grid_points.specs.Grid.{Point, at, isGridPoint, points, samePoint}
 use Rattle.grid.specs.Made.{IsMade, shape}
 use Rattle.grid.specs.declared.Grid.{Grid as GridStruct}
 use Rattle.place.specs.LabelsRead.{pointCameIn}

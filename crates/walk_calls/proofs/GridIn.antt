@@ -11,9 +11,9 @@ use native.Mathlib.Omega.{arith}
 use Rattle.combinatorics.proofs.Basics.{true-or-false}
 use Rattle.grid.proofs.Fields.{made-code, made-is, made-shape}
 use Rattle.grid.specs.Build.{lent}
-use Rattle.grid.specs.Grid.{Grid}
+use Rattle.grid_points.specs.Grid.{Grid}
 use Rattle.grid.specs.Made.{madeOf}
-use Rattle.grid.specs.Questions.{gridQuestions}
+use Rattle.grid_points.specs.Questions.{gridQuestions}
 use Rattle.grid.specs.declared.Made.{Made}
 use Rattle.questions.specs.Questions.{firstNo}
 use Rattle.walk_calls.specs.Moving.{GridIn}

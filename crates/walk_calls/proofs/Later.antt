@@ -7,9 +7,9 @@ use borrow.Author.Tests.{eq-eqb, ne-eqb}
 use lib.Dec.{leb}
 use lib.ListN.{length}
 use Rattle.combinatorics.specs.Lists.{all}
-use Rattle.grid.specs.Grid.{isGridPoint, numIndices, numPoints}
+use Rattle.grid_points.specs.Grid.{isGridPoint, numIndices, numPoints}
 use Rattle.grid.specs.Made.{shape}
-use Rattle.grid.specs.Questions.{gridQuestions}
+use Rattle.grid_points.specs.Questions.{gridQuestions}
 use Rattle.grid.specs.declared.Grid.{Grid as GridStruct}
 use Rattle.place.specs.Questions.{tableQuestions}
 use Rattle.questions.proofs.Answers.{asked-next}

@@ -4,9 +4,9 @@ use mathlib.Core.List.{List}
 use mathlib.Core.Path.{_≡_}
 use Prim.Native.Nat.{ℕ, _+_}
 use lib.ListN.{replicate}
-use Rattle.grid.specs.Grid.{Grid}
+use Rattle.grid_points.specs.Grid.{Grid}
 use Rattle.grid.specs.Made.{IsMade, shape}
-use Rattle.grid.specs.Questions.{gridQuestions}
+use Rattle.grid_points.specs.Questions.{gridQuestions}
 use Rattle.grid.specs.declared.Made.{Made}
 use Rattle.place.specs.LabelsRead.{pointCameIn}
 use Rattle.place.specs.Places.{Simplex}

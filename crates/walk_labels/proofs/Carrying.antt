@@ -16,7 +16,7 @@ use Rattle.combinatorics.proofs.Fronts.{front-at, front-behind, front-length, f
 use Rattle.combinatorics.proofs.Lists.{onNumbers}
 use Rattle.combinatorics.specs.Front.{front}
 use Rattle.combinatorics.specs.Lists.{all, isIn}
-use Rattle.grid.specs.Grid.{at}
+use Rattle.grid_points.specs.Grid.{at}
 use Rattle.path_laws.proofs.Positions.{at-in, in-at}
 use Rattle.rules.proofs.Marks.{labels-in}
 use Rattle.rules.specs.Step.{markLabel, markPosition}

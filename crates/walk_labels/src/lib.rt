@@ -6,7 +6,7 @@ ghost use Prim.Native.Nat.{_≤_, _<_};
 ghost use lib.Dec.{eqb, leb};
 ghost use lib.ListN.{length, getD};
 ghost use Rattle.combinatorics.specs.Lists.{same};
-ghost use Rattle.grid.specs.Grid.{at};
+ghost use Rattle.grid_points.specs.Grid.{at};
 ghost use Rattle.walk_labels.specs.Carrying.{CanCarry, CarriedOn, FoundIn, labelsInMarks};
 use arrays::label_in;
 use arrays::position_at;

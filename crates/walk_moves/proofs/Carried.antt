@@ -12,8 +12,8 @@ use Rattle.combinatorics.proofs.Lists.{all-in, onNumbers}
 use Rattle.combinatorics.specs.Lists.{isIn}
 use Rattle.geometry.proofs.Definitions.{Carries}
 use Rattle.geometry.proofs.Points.{nth}
-use Rattle.grid.proofs.Points.{onPoints}
-use Rattle.grid.specs.Grid.{Point}
+use Rattle.grid_points.proofs.Points.{onPoints}
+use Rattle.grid_points.specs.Grid.{Point}
 use Rattle.place.specs.Places.{Simplex, isPlace, labelSet}
 use Rattle.place.specs.Problem.{Problem, label}
 use Rattle.path_laws.proofs.Filled.{filledTable, filled-label}

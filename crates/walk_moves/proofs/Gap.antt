@@ -19,8 +19,8 @@ use Rattle.geometry.proofs.Graph.{Above, Through, exit, larger, through-one}
 use Rattle.geometry.proofs.LabelledChains.{LabelledChain, LinkTo, listAt}
 use Rattle.geometry.proofs.Onward.{end-not-through, facet-way}
 use Rattle.geometry.proofs.Points.{listAt-map, nth}
-use Rattle.grid.proofs.Points.{onPoints}
-use Rattle.grid.specs.Grid.{Point, at, numIndices, samePoint}
+use Rattle.grid_points.proofs.Points.{onPoints}
+use Rattle.grid_points.specs.Grid.{Point, at, numIndices, samePoint}
 use Rattle.place.specs.Ends.{link}
 use Rattle.place.specs.Links.{exchanged, extended, linked}
 use Rattle.place.specs.Places.{Simplex, allLabelled, isPlace, labelSet, order, setT}

@@ -17,8 +17,8 @@ use Rattle.combinatorics.specs.Lists.{firstOr, isIn}
 use Rattle.geometry.proofs.Definitions.{Chain, Step, coord, zeros}
 use Rattle.geometry.proofs.LabelledChains.{LabelledChain, listAt}
 use Rattle.geometry.proofs.Points.{nth, listAt-map}
-use Rattle.grid.proofs.Points.{onPoints}
-use Rattle.grid.specs.Grid.{Point, at, isGridPoint, numIndices}
+use Rattle.grid_points.proofs.Points.{onPoints}
+use Rattle.grid_points.specs.Grid.{Point, at, isGridPoint, numIndices}
 use Rattle.place.specs.Coefficients.{IsCoefficients, coefficients}
 use Rattle.place.specs.Places.{Simplex, isPlace, labelSet, order, within}
 use Rattle.place.specs.Problem.{Problem}

@@ -14,8 +14,8 @@ use Rattle.combinatorics.proofs.Lists.{all-in}
 use Rattle.geometry.proofs.Definitions.{Carries}
 use Rattle.geometry.proofs.LabelledChains.{LabelledChain}
 use Rattle.geometry.proofs.Points.{nth}
-use Rattle.grid.proofs.Points.{onPoints}
-use Rattle.grid.specs.Grid.{Point, at, bound}
+use Rattle.grid_points.proofs.Points.{onPoints}
+use Rattle.grid_points.specs.Grid.{Point, at, bound}
 use Rattle.place.specs.Coefficients.{coefficients}
 use Rattle.place.specs.Ends.{Way, link}
 use Rattle.place.specs.Links.{linked}

@@ -14,7 +14,7 @@ use Rattle.geometry.proofs.Definitions.{Twice}
 use Rattle.geometry.proofs.Exits.{kinds}
 use Rattle.geometry.proofs.LabelledChains.{LabelledChain, listAt}
 use Rattle.geometry.proofs.Points.{listAt-map, nth}
-use Rattle.grid.specs.Grid.{Point, at, numIndices}
+use Rattle.grid_points.specs.Grid.{Point, at, numIndices}
 use Rattle.place.specs.Coefficients.{coefficients}
 use Rattle.place.specs.Places.{Simplex, isPlace, setT}
 use Rattle.place.specs.Problem.{Problem, label}

@@ -16,7 +16,7 @@ use Rattle.end_kinds.specs.declared.Kind.the-variants.{Facet as facetEnd, Place
 use Rattle.geometry.proofs.Definitions.{Carries}
 use Rattle.geometry.proofs.LabelledChains.{LabelledChain}
 use Rattle.geometry.proofs.Onward.{through-determines, through-not-above, start-extra}
-use Rattle.grid.specs.Grid.{at, numIndices}
+use Rattle.grid_points.specs.Grid.{at, numIndices}
 use Rattle.path_laws.proofs.BlocksOfGrid.{blocksOf}
 use Rattle.path_laws.proofs.ChainLinks.{of-link}
 use Rattle.path_laws.proofs.Filled.{FullyLabelled}

@@ -2,7 +2,7 @@
 use mathlib.Core.List.{List}
 use mathlib.Core.Path.{_≡_}
 use Prim.Native.Nat.{ℕ, _≤_}
-use Rattle.grid.specs.Grid.{bound}
+use Rattle.grid_points.specs.Grid.{bound}
 use Rattle.walks.specs.Walk.{Walk, labelsOf, over}
 
 -- its places so far are from 1 to the bound, it carries its place's labels, and its labels read are from 1 to its

@@ -6,7 +6,7 @@ use lib.Dec.{eqb}
 use lib.ListN.{length, getD, take}
 use Rattle.combinatorics.specs.Lists.{isIn}
 use Rattle.end_kinds.specs.declared.Kind.the-variants.{Facet as facetEnd, Place as placeEnd}
-use Rattle.grid.specs.Grid.{Point, at, blockOf, numIndices}
+use Rattle.grid_points.specs.Grid.{Point, at, blockOf, numIndices}
 use Rattle.place.specs.Coefficients.{coefficients}
 use Rattle.place.specs.Ends.{Way, stop, link}
 use Rattle.place.specs.Problem.{Problem}

@@ -12,7 +12,7 @@ use native.Mathlib.Omega.{arith}
 use Rattle.combinatorics.proofs.Basics.{absurd-bool, and-both, and-left, and-right, before-or-not, false-of, same-or}
 use Rattle.combinatorics.proofs.Basics.{true-or-false}
 use Rattle.grid.proofs.Fields.{made-indices}
-use Rattle.grid.specs.Grid.{at, bound}
+use Rattle.grid_points.specs.Grid.{at, bound}
 use Rattle.grid.specs.Made.{IsMade, shape}
 use Rattle.grid.specs.declared.Grid.{Grid as GridStruct}
 use Rattle.place.specs.Questions.{tableQuestions}

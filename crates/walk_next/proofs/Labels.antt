@@ -8,7 +8,7 @@ use borrow.Author.Tests.{eqb-true, eq-eqb, ne-eqb}
 use lib.Dec.{eqb}
 use native.Mathlib.Omega.{arith}
 use Rattle.combinatorics.proofs.Basics.{absurd-bool, and-left, and-right, not-is, or-cases, same-or, true-or-false}
-use Rattle.grid.specs.Grid.{at}
+use Rattle.grid_points.specs.Grid.{at}
 use Rattle.rules.proofs.Masks.{bit-none, bit-with}
 use Rattle.rules.specs.Mask.{bit, withIndex}
 use Rattle.walk_next.specs.Spares.{NotNew, SparesBelow, again, isNew, labelAt, outside, unknown}

@@ -16,8 +16,8 @@ use Rattle.combinatorics.proofs.Lists.{all-in, eqb-self, in-all, onNumbers, sam
 use Rattle.combinatorics.specs.Lists.{isIn, same}
 use Rattle.combinatorics.specs.Front.{padded}
 use Rattle.grid.proofs.Fields.{following-low, made-accepted, made-indices, made-next, made-previous, previous-low}
-use Rattle.grid.proofs.Points.{onPoints}
-use Rattle.grid.specs.Grid.{Point, at, blockOf, isGridPoint, numIndices, position, size}
+use Rattle.grid_points.proofs.Points.{onPoints}
+use Rattle.grid_points.specs.Grid.{Point, at, blockOf, isGridPoint, numIndices, position, size}
 use Rattle.grid.specs.Made.{IsMade, shape}
 use Rattle.grid.specs.declared.Grid.{Grid as GridStruct}
 use Rattle.place.specs.Places.{Simplex, isPlace, labelSet, within}

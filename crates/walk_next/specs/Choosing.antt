@@ -5,7 +5,7 @@ use mathlib.Core.Path.{_≡_}
 use Prim.Native.Nat.{ℕ, _+_, _<_}
 use lib.Dec.{eqb}
 use lib.ListN.{length}
-use Rattle.grid.specs.Grid.{at}
+use Rattle.grid_points.specs.Grid.{at}
 use Rattle.grid.specs.declared.Grid.{Grid as GridStruct}
 use Rattle.walk_next.specs.Spares.{labelAt}
 use Rattle.walk_ways.specs.Standing.{Standing}

@@ -11,7 +11,7 @@ use native.Mathlib.Omega.{arith}
 use Rattle.combinatorics.proofs.Basics.{and-both, and-left, and-right, false-of}
 use Rattle.combinatorics.proofs.Lists.{eqb-self, same-self, same-sound}
 use Rattle.combinatorics.specs.Lists.{same}
-use Rattle.grid.specs.Grid.{at}
+use Rattle.grid_points.specs.Grid.{at}
 use Rattle.walk_places.specs.Walks.{samePlace}
 use Rattle.walk_places.specs.declared.Place.{Place}
 

@@ -13,12 +13,12 @@ use Rattle.combinatorics.proofs.Fronts.{front-length}
 use Rattle.combinatorics.proofs.Lists.{all-in, in-map, map-in, onNumbers}
 use Rattle.combinatorics.specs.Lists.{all, firstOr, isIn}
 use Rattle.combinatorics.specs.Front.{padded}
-use Rattle.grid.proofs.Accepted.{accepted as accepted-grid}
+use Rattle.grid_points.proofs.Accepted.{accepted as accepted-grid}
 use Rattle.grid.proofs.Fields.{indices-few, made-indices}
-use Rattle.grid.proofs.Points.{onPoints}
-use Rattle.grid.specs.Grid.{Grid, Point, at, isGridPoint, numIndices, position, samePoint}
+use Rattle.grid_points.proofs.Points.{onPoints}
+use Rattle.grid_points.specs.Grid.{Grid, Point, at, isGridPoint, numIndices, position, samePoint}
 use Rattle.grid.specs.Made.{IsMade, shape}
-use Rattle.grid.specs.Questions.{gridQuestions, question5}
+use Rattle.grid_points.specs.Questions.{gridQuestions, question5}
 use Rattle.grid.specs.declared.Grid.{Grid as GridStruct}
 use Rattle.place.specs.Places.{Simplex, isPlace, labelSet, order, setT, setU, within}
 use Rattle.place.specs.Problem.{Problem}

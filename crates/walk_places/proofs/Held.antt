@@ -14,7 +14,7 @@ use Rattle.combinatorics.proofs.Basics.{and-both, and-left, and-right, true-or-
 use Rattle.combinatorics.proofs.Fronts.{front-taken}
 use Rattle.combinatorics.specs.Lists.{firstOr}
 use Rattle.combinatorics.specs.Front.{padded}
-use Rattle.grid.specs.Grid.{Grid, numIndices}
+use Rattle.grid_points.specs.Grid.{Grid, numIndices}
 use Rattle.place.specs.Places.{Simplex, isPlace, order}
 use Rattle.place.specs.Problem.{Problem}
 use Rattle.path_laws.proofs.IndexSets.{no-empty}

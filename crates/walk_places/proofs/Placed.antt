@@ -7,8 +7,8 @@ use lib.ListN.{length, getD, take, length-take}
 use native.Mathlib.Omega.{arith}
 use Rattle.combinatorics.proofs.Lists.{all-in}
 use Rattle.grid.proofs.Fields.{made-accepted}
-use Rattle.grid.proofs.Points.{in-points, onPoints, position-in}
-use Rattle.grid.specs.Grid.{Point, at, isGridPoint, numPoints, points, position}
+use Rattle.grid_points.proofs.Points.{in-points, onPoints, position-in}
+use Rattle.grid_points.specs.Grid.{Point, at, isGridPoint, numPoints, points, position}
 use Rattle.grid.specs.Made.{shape}
 use Rattle.grid.specs.declared.Grid.{Grid as GridStruct}
 use Rattle.place.specs.Places.{Simplex}

@@ -7,7 +7,7 @@ use lib.Dec.{eqb, leb}
 use lib.ListN.{length, take, replicate}
 use Rattle.combinatorics.specs.Front.{padded}
 use Rattle.combinatorics.specs.Lists.{firstOr, same}
-use Rattle.grid.specs.Grid.{Grid, numIndices}
+use Rattle.grid_points.specs.Grid.{Grid, numIndices}
 use Rattle.grid.specs.Made.{shape}
 use Rattle.grid.specs.declared.Grid.{Grid as GridStruct}
 use Rattle.place.specs.Places.{Simplex, order}

@@ -5,7 +5,7 @@ use Prim.Native.Nat.{ℕ}
 use Rattle.combinatorics.proofs.Basics.{absurd-bool}
 use Rattle.combinatorics.specs.Front.{front, padded}
 use Rattle.end_kinds.specs.declared.Kind.{Kind}
-use Rattle.grid.specs.Questions.{gridQuestions}
+use Rattle.grid_points.specs.Questions.{gridQuestions}
 use Rattle.place.specs.Places.{Simplex}
 use Rattle.questions.specs.Questions.{firstNo}
 use Rattle.walks.proofs.Moved.{moved-passes}

@@ -9,8 +9,8 @@ use native.Mathlib.Omega.{arith}
 use Rattle.combinatorics.proofs.Basics.{absurd-bool, both, true-or-false}
 use Rattle.combinatorics.proofs.Lists.{all-in, in-here, in-later, in-map, map-in, onNumbers}
 use Rattle.combinatorics.specs.Lists.{all, firstOr, isIn}
-use Rattle.grid.proofs.Points.{onPoints}
-use Rattle.grid.specs.Grid.{Point, isGridPoint, numIndices, position, samePoint}
+use Rattle.grid_points.proofs.Points.{onPoints}
+use Rattle.grid_points.specs.Grid.{Point, isGridPoint, numIndices, position, samePoint}
 use Rattle.place.specs.Places.{Simplex, setT, setU}
 use Rattle.place.specs.Problem.{Problem}
 use Rattle.path_laws.proofs.Meaning.{T-means, U-means}

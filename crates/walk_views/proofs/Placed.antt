@@ -13,7 +13,7 @@ use Rattle.combinatorics.proofs.Basics.{false-of}
 use Rattle.combinatorics.specs.Front.{front, padded}
 use Rattle.combinatorics.specs.Lists.{concatMap}
 use Rattle.grid.proofs.Fields.{made-indices}
-use Rattle.grid.specs.Grid.{Grid, Point, at, blockOf, numIndices, size}
+use Rattle.grid_points.specs.Grid.{Grid, Point, at, blockOf, numIndices, size}
 use Rattle.grid.specs.Made.{IsMade, shape}
 use Rattle.grid.specs.declared.Grid.{Grid as GridStruct}
 use Rattle.moves.specs.Held.{stateOf}

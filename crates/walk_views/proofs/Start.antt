@@ -10,11 +10,11 @@ use native.Mathlib.Omega.{arith}
 use Rattle.combinatorics.proofs.Lists.{eqb-self, same-self}
 use Rattle.combinatorics.proofs.Fronts.{front-length, front-none, front-taken}
 use Rattle.combinatorics.specs.Front.{padded}
-use Rattle.grid.proofs.Accepted.{accepted as accepted-grid}
-use Rattle.grid.specs.Grid.{Grid, Point, isGridPoint, numIndices}
+use Rattle.grid_points.proofs.Accepted.{accepted as accepted-grid}
+use Rattle.grid_points.specs.Grid.{Grid, Point, isGridPoint, numIndices}
 use Rattle.grid.proofs.Fields.{made-blocks, made-indices, made-points}
 use Rattle.grid.specs.Made.{IsMade, gridOf as structOf, shape}
-use Rattle.grid.specs.Questions.{gridQuestions}
+use Rattle.grid_points.specs.Questions.{gridQuestions}
 use Rattle.grid.specs.declared.Grid.{Grid as GridStruct}
 use Rattle.place.specs.Problem.{Problem, label}
 use Rattle.place.specs.Questions.{tableQuestions}

@@ -20,8 +20,8 @@ use Rattle.combinatorics.specs.Front.{front}
 use Rattle.combinatorics.specs.Lists.{isIn, upFrom}
 use Rattle.end_kinds.specs.declared.Kind.the-variants.{Facet as facetEnd, Place as placeEnd}
 use Rattle.grid.proofs.Fields.{made-indices}
-use Rattle.grid.proofs.Points.{in-points, onPoints, position-in}
-use Rattle.grid.specs.Grid.{Point, at, blockOf, isGridPoint, numIndices, numPoints, points, position}
+use Rattle.grid_points.proofs.Points.{in-points, onPoints, position-in}
+use Rattle.grid_points.specs.Grid.{Point, at, blockOf, isGridPoint, numIndices, numPoints, points, position}
 use Rattle.grid.specs.Made.{shape}
 use Rattle.grid.specs.declared.Grid.{Grid as GridStruct}
 use Rattle.moves.specs.Held.{stateOf}

@@ -11,8 +11,8 @@ use lib.ListN.{length, getD}
 use native.Mathlib.Omega.{arith}
 use Rattle.combinatorics.proofs.Basics.{absurd-bool, same-or}
 use Rattle.combinatorics.proofs.Lists.{all-in, in-all}
-use Rattle.grid.proofs.Points.{onPoints}
-use Rattle.grid.specs.Grid.{isGridPoint}
+use Rattle.grid_points.proofs.Points.{onPoints}
+use Rattle.grid_points.specs.Grid.{isGridPoint}
 use Rattle.grid.specs.Made.{shape}
 use Rattle.grid.specs.declared.Grid.{Grid as GridStruct}
 use Rattle.place.specs.Places.{Simplex, allLabelled}

@@ -12,7 +12,7 @@ use Rattle.combinatorics.specs.Lists.{isIn}
 use Rattle.place.specs.Places.{Simplex, setT, setU}
 use Rattle.place.specs.Problem.{Problem}
 use Rattle.path_laws.proofs.Meaning.{T-means, U-means}
-use Rattle.grid.specs.Grid.{numIndices}
+use Rattle.grid_points.specs.Grid.{numIndices}
 use Rattle.rules.specs.Mask.{bit}
 use Rattle.trail.specs.Change.{ByRule, Change, change, changeBy, outside, rule1, rule2, rule3, rule4, rule5, rule6}
 use Rattle.trail.specs.Change.{rule7}

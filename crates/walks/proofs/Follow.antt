@@ -9,8 +9,8 @@ use native.Mathlib.Omega.{arith}
 use Rattle.combinatorics.proofs.Basics.{absurd-bool, false-of, not-is}
 use Rattle.combinatorics.proofs.Lists.{all-in, filter-in, in-filter, in-here, only-list}
 use Rattle.end_kinds.specs.declared.Kind.{Kind}
-use Rattle.grid.proofs.Points.{onPoints}
-use Rattle.grid.specs.Grid.{Point, bound}
+use Rattle.grid_points.proofs.Points.{onPoints}
+use Rattle.grid_points.specs.Grid.{Point, bound}
 use Rattle.path_laws.proofs.FromTwoWays.{back}
 use Rattle.path_laws.proofs.LabelsRead.{came-few, came-next, came-none}
 use Rattle.path_laws.proofs.PathSteps.{Link, waysOn-split}

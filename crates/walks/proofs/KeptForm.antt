@@ -14,10 +14,11 @@ use Rattle.combinatorics.proofs.Basics.{absurd-bool, and-both, and-left, and-ri
 use Rattle.combinatorics.proofs.Basics.{same-or, true-or-false}
 use Rattle.combinatorics.proofs.Lists.{all-in, in-all, in-cases, in-here, in-later, eqb-self, onNumbers}
 use Rattle.combinatorics.specs.Lists.{all, isIn, occurrences, rising, sum}
-use Rattle.grid.proofs.Points.{onPoints}
-use Rattle.grid.proofs.Round.{next-previous}
-use Rattle.grid.specs.Grid.{Grid, Point, at, blockIn, blockOf, indices, isGridPoint, numIndices, previous, samePoint}
-use Rattle.grid.specs.Grid.{size}
+use Rattle.grid_points.proofs.Points.{onPoints}
+use Rattle.grid_points.proofs.Round.{next-previous}
+use Rattle.grid_points.specs.Grid.{Grid, Point, at, blockIn, blockOf, indices, isGridPoint, numIndices, previous}
+use Rattle.grid_points.specs.Grid.{samePoint}
+use Rattle.grid_points.specs.Grid.{size}
 use Rattle.place.specs.Coefficients.{coefficients, coefficientSum}
 use Rattle.place.specs.Places.{Simplex, eachGoesToNext, firstBackOutside, goesTo, grownAt, isPlace, labelSet, order}
 use Rattle.place.specs.Places.{searchBack, setT, setU, unit, within}

@@ -27,8 +27,8 @@ use Rattle.geometry.proofs.Runs.{moved, positive-run, positive-stop, up-grid}
 use Rattle.geometry.proofs.Search.{raise-at, raise-elsewhere, raise-step}
 use Rattle.geometry.proofs.Tight.{bounded, lifted-le, lifted-on, lifted-tight, lifted-zeros}
 use Rattle.geometry.proofs.Sorted.{rising-chain}
-use Rattle.grid.proofs.Points.{onPoints}
-use Rattle.grid.specs.Grid.{Point, at, indices, isGridPoint, numIndices, samePoint}
+use Rattle.grid_points.proofs.Points.{onPoints}
+use Rattle.grid_points.specs.Grid.{Point, at, indices, isGridPoint, numIndices, samePoint}
 use Rattle.place.specs.Coefficients.{IsCoefficients, coefficients}
 use Rattle.place.specs.Places.{Simplex, everyBlockFree, firstBackOutside, isPlace, labelSet, unit, within}
 use Rattle.place.specs.Problem.{Problem}

@@ -11,7 +11,7 @@ use lib.ListN.{length}
 use native.Mathlib.Omega.{arith}
 use Rattle.combinatorics.proofs.Basics.{absurd-bool, before-or-not, false-of, not-is, same-or, true-or-false}
 use Rattle.combinatorics.proofs.Lists.{filter-in, in-here}
-use Rattle.grid.specs.Grid.{bound}
+use Rattle.grid_points.specs.Grid.{bound}
 use Rattle.place.specs.Ends.{Way, stop, link, ways}
 use Rattle.place.specs.LabelsRead.{pointCameIn}
 use Rattle.place.specs.Links.{links}

@@ -14,8 +14,8 @@ use Rattle.combinatorics.proofs.Basics.{absurd-bool, and-both, and-left, and-ri
 use Rattle.combinatorics.proofs.Basics.{true-or-false}
 use Rattle.combinatorics.proofs.Lists.{all-in, in-all, in-cases, in-here, in-later, in-map, map-in, onNumbers}
 use Rattle.combinatorics.specs.Lists.{all, firstOr, isIn}
-use Rattle.grid.proofs.Points.{onPoints}
-use Rattle.grid.specs.Grid.{Grid, Point, at, indices, isGridPoint, numIndices, samePoint}
+use Rattle.grid_points.proofs.Points.{onPoints}
+use Rattle.grid_points.specs.Grid.{Grid, Point, at, indices, isGridPoint, numIndices, samePoint}
 use Rattle.place.specs.Coefficients.{coefficients}
 use Rattle.place.specs.Places.{Simplex, eachGoesToNext, firstBackOutside, goesTo, grownAt, isPlace, isUnlabelledPlace}
 use Rattle.place.specs.Places.{labelSet, order, setU, unit, within}

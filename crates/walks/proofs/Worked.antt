@@ -1,7 +1,7 @@
 -- The calls of the table give its answers and its walks. Assumes nothing.
 use mathlib.Core.List.{map}
 use mathlib.Core.Path.{_≡_, refl}
-use Rattle.grid.specs.Grid.{bound, isGridPoint, next, points, previous}
+use Rattle.grid_points.specs.Grid.{bound, isGridPoint, next, points, previous}
 use Rattle.place.specs.Coefficients.{coefficients}
 use Rattle.place.specs.Ends.{completeFor, ends, facetEnds, isComplete, placeEnds, ways}
 use Rattle.place.specs.Links.{exchanged, extended, linked, links}

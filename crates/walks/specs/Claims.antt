@@ -8,7 +8,7 @@ use Prim.Native.Nat.{ℕ, suc, pred, _+_, _≤_, _<_}
 use lib.ListN.{length}
 use Rattle.combinatorics.specs.Lists.{isIn}
 use Rattle.end_kinds.specs.declared.Kind.{Kind}
-use Rattle.grid.specs.Grid.{Point, samePoint, bound}
+use Rattle.grid_points.specs.Grid.{Point, samePoint, bound}
 use Rattle.path_laws.specs.Demand.{Accepted, placeAt, leftAt}
 use Rattle.place.specs.LabelsRead.{cameIn, pointCameIn}
 use Rattle.place.specs.Path.{path, pathLength, waysOn, ended as runEnded, unknown, answer}

@@ -5,7 +5,7 @@ use mathlib.Core.List.{List, [], _∷_, map}
 use Prim.Native.Nat.{ℕ, _+_, _-_}
 use lib.Dec.{eqb, ltb}
 use Rattle.combinatorics.specs.Lists.{filter, all, isIn, distinct}
-use Rattle.grid.specs.Grid.{Grid, Point, at, numIndices, indices, isGridPoint}
+use Rattle.grid_points.specs.Grid.{Grid, Point, at, numIndices, indices, isGridPoint}
 use Rattle.place.specs.Coefficients.{coefficients}
 use Rattle.place.specs.Places.{Simplex, unit, firstBackOutside, everyBlockFree}
 use Rattle.place.specs.Problem.{Problem}

@@ -6,7 +6,7 @@ use mathlib.Core.Path.{_≡_}
 use Prim.Native.Nat.{ℕ}
 use lib.Dec.{eqb, leb}
 use Rattle.combinatorics.specs.Lists.{same}
-use Rattle.grid.specs.Grid.{Grid, Point, bound}
+use Rattle.grid_points.specs.Grid.{Grid, Point, bound}
 use Rattle.place.specs.Links.{linked}
 use Rattle.place.specs.Path.{sameSimplex}
 use Rattle.place.specs.Places.{Simplex, isPlace, allLabelled}

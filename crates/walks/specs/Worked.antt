@@ -5,7 +5,7 @@ use mathlib.Core.Option.{Option, none, some}
 use Prim.Native.Nat.{ℕ, zero, suc}
 use lib.ListN.{length}
 use Rattle.end_kinds.specs.declared.Kind.the-variants.{Facet as facetEnd}
-use Rattle.grid.specs.Grid.{Point}
+use Rattle.grid_points.specs.Grid.{Point}
 use Rattle.place.specs.Places.{Simplex}
 use Rattle.place.specs.Problem.{problemOf}
 use Rattle.walks.specs.Next.{Outcome, refused, ended, moved, moveAnswer, moveWalk, afterCalls}

@@ -9,7 +9,7 @@ use lib.Dec.{eqb, ltb}
 use lib.ListN.{length}
 use native.Mathlib.Omega.{arith}
 use Rattle.combinatorics.proofs.Basics.{same-or, true-or-false}
-use Rattle.grid.specs.Grid.{at}
+use Rattle.grid_points.specs.Grid.{at}
 use Rattle.rules.proofs.FirstMet.{below}
 use Rattle.rules.proofs.Masks.{bit-without}
 use Rattle.rules.specs.Mask.{bit, withoutIndex}

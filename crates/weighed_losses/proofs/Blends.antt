@@ -9,7 +9,7 @@ use native.Mathlib.Nat.{mul-le-mul-left, mul-assoc}
 use native.Mathlib.Numerals.{add-one}
 use native.Mathlib.Omega.{arith}
 use Rattle.combinatorics.specs.Lists.{sum}
-use Rattle.grid.specs.Grid.{at}
+use Rattle.grid_points.specs.Grid.{at}
 use Rattle.losses.proofs.Weights.{length-spread}
 use Rattle.losses.specs.Game.{dot}
 use Rattle.losses.specs.Weights.{spread, weights}

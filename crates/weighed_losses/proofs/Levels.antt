@@ -17,10 +17,10 @@ use Rattle.combinatorics.proofs.Basics.{true-or-false, and-right, before-or-not
 use Rattle.combinatorics.proofs.Lists.{at-all, eqb-self}
 use Rattle.combinatorics.proofs.Turns.{map-append, upFrom-next}
 use Rattle.combinatorics.specs.Lists.{all, filter, sum, upFrom}
-use Rattle.grid.proofs.Accepted.{Accepted, size-two}
-use Rattle.grid.proofs.Round.{block-at}
+use Rattle.grid_points.proofs.Accepted.{Accepted, size-two}
+use Rattle.grid_points.proofs.Round.{block-at}
 use Rattle.grid.specs.Build.{lent}
-use Rattle.grid.specs.Grid.{Grid, Point, at, numBlocks, size, division, firstIndex, blockOf, isGridPoint}
+use Rattle.grid_points.specs.Grid.{Grid, Point, at, numBlocks, size, division, firstIndex, blockOf, isGridPoint}
 use Rattle.points_in_order.proofs.Blocks.{block-sum, block-length}
 use Rattle.losses.proofs.Players.{product-own, product-positive, divisions-few}
 use Rattle.losses.proofs.Replaced.{mix-lengths}

@@ -9,9 +9,9 @@ use native.Mathlib.Nat.{mul-le-mul-right}
 use native.Mathlib.Numerals.{add-one}
 use native.Mathlib.Omega.{arith}
 use Rattle.combinatorics.proofs.Basics.{same-or}
-use Rattle.grid.proofs.Accepted.{Accepted, accepted, size-two}
-use Rattle.grid.proofs.Round.{block-spans}
-use Rattle.grid.specs.Grid.{Grid, Point, at, numBlocks, numIndices, size, blockOf}
+use Rattle.grid_points.proofs.Accepted.{Accepted, accepted, size-two}
+use Rattle.grid_points.proofs.Round.{block-spans}
+use Rattle.grid_points.specs.Grid.{Grid, Point, at, numBlocks, numIndices, size, blockOf}
 use Rattle.points_in_order.proofs.Blocks.{block-length}
 use Rattle.losses.specs.Game.{mix}
 use Rattle.weighed_losses.proofs.Blends.{blend-agree}

@@ -8,11 +8,11 @@ use lib.Seq.{getD-set-same, getD-set-other, getD-drop, take-all}
 use native.Mathlib.Nat.{mul-le-mul-right}
 use native.Mathlib.Omega.{arith}
 use Rattle.combinatorics.proofs.Basics.{same-or}
-use Rattle.grid.specs.Grid.{at}
-use Rattle.grid.proofs.Accepted.{Accepted}
-use Rattle.grid.proofs.Round.{block-spans}
+use Rattle.grid_points.specs.Grid.{at}
+use Rattle.grid_points.proofs.Accepted.{Accepted}
+use Rattle.grid_points.proofs.Round.{block-spans}
 use Rattle.combinatorics.specs.Lists.{sum}
-use Rattle.grid.specs.Grid.{Grid, Point, numIndices, size, firstIndex, blockIn, blockOf}
+use Rattle.grid_points.specs.Grid.{Grid, Point, numIndices, size, firstIndex, blockIn, blockOf}
 use Rattle.losses.specs.Game.{product}
 use Rattle.losses.specs.Table.{IsTable}
 use Rattle.weighed_losses.proofs.Blends.{blend-agree}

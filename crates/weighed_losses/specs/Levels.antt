@@ -8,7 +8,7 @@ use Prim.Native.Nat.{ℕ, suc, _+_, _-_, _*_, _≤_, _<_}
 use lib.Dec.{eqb}
 use lib.ListN.{length}
 use Rattle.combinatorics.specs.Lists.{all, upFrom}
-use Rattle.grid.specs.Grid.{Grid, Point, at, numBlocks, numIndices, size, firstIndex, blockOf}
+use Rattle.grid_points.specs.Grid.{Grid, Point, at, numBlocks, numIndices, size, firstIndex, blockOf}
 use Rattle.points_in_order.specs.Lent.{WithFirsts, PointWithFirsts}
 use Rattle.losses.specs.Game.{product, mix}
 use Rattle.losses.specs.Table.{inRange, IsTable}

@@ -5,7 +5,7 @@ ghost use Prim.Native.Nat.{ℕ, _+_, _≤_};
 ghost use lib.ListN.{length};
 ghost use Rattle.combinatorics.specs.Lists.{sum};
 ghost use Rattle.grid.specs.Build.{lent};
-ghost use Rattle.grid.specs.Grid.{Point, at};
+ghost use Rattle.grid_points.specs.Grid.{Point, at};
 ghost use Rattle.weighed_losses.specs.Levels.{StandTo, TableToLoad, Written};
 use grid::wide;
 use losses::long;

@@ -2,7 +2,7 @@
 ghost use mathlib.Core.Path.{_≡_};
 ghost use Prim.Native.Nat.{_+_, _*_, _≤_};
 ghost use lib.ListN.{length};
-ghost use Rattle.grid.specs.Grid.{at};
+ghost use Rattle.grid_points.specs.Grid.{at};
 ghost use Rattle.weighed_losses.specs.Levels.{blend, weighedAt, Spaced, TableToWeigh, Written};
 use losses::long;
 

@@ -13,9 +13,9 @@ use Rattle.questions.proofs.Answers.{asked-no}
 use Rattle.questions.specs.Questions.{firstNo}
 use Rattle.grid.proofs.Fields.{indices-few, made-code, made-indices}
 use Rattle.grid.specs.Build.{lent}
-use Rattle.grid.specs.Grid.{Grid, numIndices, numPoints}
+use Rattle.grid_points.specs.Grid.{Grid, numIndices, numPoints}
 use Rattle.grid.specs.Made.{IsMade, shape}
-use Rattle.grid.specs.Questions.{gridQuestions}
+use Rattle.grid_points.specs.Questions.{gridQuestions}
 use Rattle.grid.specs.declared.Grid.{Grid as GridStruct}
 use Rattle.games.proofs.Outcomes.{made-on}
 use Rattle.games.specs.Labelling.{labelledOf}

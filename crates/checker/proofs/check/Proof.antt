@@ -4,7 +4,7 @@ use Prim.Native.Nat.{ℕ, _/_}
 use lib.ListN.{length}
 use Rattle.questions.specs.Questions.{firstNo}
 use Rattle.grid.proofs.Fields.{made-code, made-indices, made-is, made-shape}
-use Rattle.grid.specs.Grid.{Grid}
+use Rattle.grid_points.specs.Grid.{Grid}
 use Rattle.grid.specs.Made.{shape}
 use Rattle.simplices.specs.Simplices.{verdict}
 use Rattle.chains.specs.Listed.{listed}

@@ -6,7 +6,7 @@ use Prim.Native.Nat.{_-_, _*_, _≤_}
 use native.Mathlib.Nat.{mul-le-mul}
 use native.Mathlib.Omega.{arith}
 use Rattle.combinatorics.specs.Lists.{sum, upFrom}
-use Rattle.grid.specs.Grid.{Grid, at}
+use Rattle.grid_points.specs.Grid.{Grid, at}
 use Rattle.distances.specs.Measure.{CanMeasure}
 use Rattle.visited.proofs.Distances.{distance-front, distance-turn, term}
 use borrow.Author.Needs.{needs}

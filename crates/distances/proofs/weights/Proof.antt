@@ -5,8 +5,8 @@ use lib.ListN.{length, length-set}
 use native.Mathlib.Omega.{arith}
 use Rattle.combinatorics.proofs.Turns.{at-set}
 use Rattle.grid.proofs.Fields.{indices-few, made-blocks, made-indices}
-use Rattle.grid.proofs.Round.{block-spans}
-use Rattle.grid.specs.Grid.{at, blockOf}
+use Rattle.grid_points.proofs.Round.{block-spans}
+use Rattle.grid_points.specs.Grid.{at, blockOf}
 use Rattle.grid.specs.Made.{shape}
 use Rattle.visited.specs.Distance.{otherDivisions}
 use borrow.Author.Needs.{needs}

@@ -8,13 +8,13 @@ use lib.ListN.{length}
 use borrow.Author.Tests.{not-true, not-false}
 use Rattle.combinatorics.proofs.Fronts.{front-full}
 use Rattle.combinatorics.specs.Lists.{all}
-use Rattle.grid.proofs.Accepted.{Accepted, accepted}
+use Rattle.grid_points.proofs.Accepted.{Accepted, accepted}
 use Rattle.grid.proofs.Fields.{made-code}
 use Rattle.grid.specs.Build.{lent}
-use Rattle.grid.specs.Grid.{Grid, numPoints}
+use Rattle.grid_points.specs.Grid.{Grid, numPoints}
 use Rattle.grid.specs.Made.{IsMade, shape}
 use Rattle.questions.specs.Questions.{firstNo}
-use Rattle.grid.specs.Questions.{gridQuestions}
+use Rattle.grid_points.specs.Questions.{gridQuestions}
 use Rattle.losses.proofs.Table.{product-few}
 use Rattle.losses.specs.Game.{product, labels}
 use Rattle.losses.specs.Table.{numLosses, inRange, IsTable}

@@ -17,7 +17,7 @@ use Rattle.path_walk.specs.Finish.{Finished, problemIn}
 use Rattle.finder.specs.declared.answers.Answer.{Answer}
 use Rattle.path_walk.specs.declared.Finish.{Finish}
 use Rattle.grid.proofs.Fields.{indices-few, made-indices}
-use Rattle.grid.specs.Grid.{position}
+use Rattle.grid_points.specs.Grid.{position}
 use Rattle.grid.specs.Made.{shape}
 use Rattle.marks.specs.Reading.{problemFrom}
 use Rattle.moves.specs.Held.{stateOf}

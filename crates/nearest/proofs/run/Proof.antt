@@ -3,7 +3,7 @@
 use mathlib.Core.Path.{sym, ap, _∙_}
 use lib.ListN.{length}
 use Rattle.grid.proofs.Fields.{made-code, made-is}
-use Rattle.grid.specs.Grid.{Grid}
+use Rattle.grid_points.specs.Grid.{Grid}
 use Rattle.place.specs.Problem.{Problem, problemOf}
 use Rattle.finder.proofs.Refusals.{same-problem}
 use Rattle.nearest.proofs.Refusals.{by-grid, refused}

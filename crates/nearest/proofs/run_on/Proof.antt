@@ -10,7 +10,7 @@ use Rattle.combinatorics.proofs.Fronts.{front-none}
 use Rattle.combinatorics.specs.Front.{front}
 use Rattle.finder.proofs.Refusals.{accepted-with-room}
 use Rattle.finder.specs.Run.{numbersOf}
-use Rattle.grid.specs.Grid.{isGridPoint, numPoints}
+use Rattle.grid_points.specs.Grid.{isGridPoint, numPoints}
 use Rattle.marks.specs.Reading.{problemFrom}
 use Rattle.place.specs.Path.{answer}
 use Rattle.place.specs.Problem.{Problem}

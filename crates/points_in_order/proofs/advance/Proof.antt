@@ -13,8 +13,8 @@ use Rattle.points_in_order.proofs.PointAfter.{passed-end}
 use Rattle.points_in_order.proofs.Blocks.{point-length}
 use Rattle.grid.specs.Build.{lent}
 use Rattle.points_in_order.specs.PointAfter.{after, pointStep}
-use Rattle.grid.proofs.Accepted.{accepted}
-use Rattle.grid.proofs.Round.{block-fits}
+use Rattle.grid_points.proofs.Accepted.{accepted}
+use Rattle.grid_points.proofs.Round.{block-fits}
 use Rattle.points_in_order.proofs.advance.Statement.{statement}
 use Rattle.points_in_order.proofs.advance.Tie as tie
 

@@ -8,8 +8,8 @@ use lib.Seq.{take-all}
 use Rattle.combinatorics.proofs.Fronts.{front-none}
 use Rattle.combinatorics.specs.Front.{front}
 use Rattle.combinatorics.specs.Lists.{sum}
-use Rattle.grid.proofs.Accepted.{Accepted, accepted, size-two}
-use Rattle.grid.proofs.Round.{block-fits}
+use Rattle.grid_points.proofs.Accepted.{Accepted, accepted, size-two}
+use Rattle.grid_points.proofs.Round.{block-fits}
 use Rattle.points_in_order.proofs.PointAfter.{first-turn}
 use Rattle.grid.specs.Build.{lent}
 use Rattle.points_in_order.specs.PointAfter.{firstPoint}

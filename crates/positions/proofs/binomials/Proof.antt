@@ -7,7 +7,7 @@ use Rattle.combinatorics.proofs.Basics.{before-or-not}
 use Rattle.grid.proofs.Fields.{made-size, made-division, made-blocks, blocks-range, size-range, count-range}
 use Rattle.positions.proofs.Table.{rows-kept}
 use Rattle.positions.specs.Binomials.{HasRows}
-use Rattle.grid.specs.Grid.{size, division}
+use Rattle.grid_points.specs.Grid.{size, division}
 use Rattle.grid.specs.Made.{shape}
 use borrow.Author.Needs.{needs}
 use native.Mathlib.Omega.{arith}

@@ -10,8 +10,8 @@ use Rattle.combinatorics.proofs.Turns.{front-counted}
 use Rattle.combinatorics.specs.Lists.{upFrom}
 use Rattle.combinatorics.specs.Front.{padded}
 use Rattle.grid.proofs.Fields.{made-blocks, made-indices, made-division, blocks-range, indices-few}
-use Rattle.grid.proofs.Round.{block-spans}
-use Rattle.grid.specs.Grid.{numIndices, division, blockOf}
+use Rattle.grid_points.proofs.Round.{block-spans}
+use Rattle.grid_points.specs.Grid.{numIndices, division, blockOf}
 use Rattle.grid.specs.Made.{shape}
 use Rattle.printer.proofs.divisions_of.Statement.{statement}
 use Rattle.printer.proofs.divisions_of.Tie as tie

@@ -7,7 +7,7 @@ use borrow.Author.Needs.{needs}
 use borrow.Author.Tests.{not-false, not-true}
 use native.Mathlib.Omega.{arith}
 use Rattle.grid.specs.Build.{lent}
-use Rattle.grid.specs.Grid.{Grid}
+use Rattle.grid_points.specs.Grid.{Grid}
 use Rattle.levels.proofs.Claims.{in-ranges}
 use Rattle.levels.specs.Levels.{Refinement}
 use Rattle.levels.specs.Questions.{question18}

@@ -13,7 +13,7 @@ use Rattle.path_walk.proofs.Visits.{HasRead, OnPath, announced-facet, announced
 use Rattle.path_walk.proofs.Visits.{goes-on, leads, marks-back, read-back, reads-fit, reads-on, spends, visits}
 use Rattle.path_walk.specs.Finish.{CanVisit, problemIn}
 use Rattle.grid.proofs.Fields.{indices-few}
-use Rattle.grid.specs.Grid.{at as gridAt, position}
+use Rattle.grid_points.specs.Grid.{at as gridAt, position}
 use Rattle.grid.specs.Made.{shape}
 use Rattle.label_reading.proofs.Places.{IsRead, looked-up}
 use Rattle.label_reading.specs.Looking.{LooksUp}

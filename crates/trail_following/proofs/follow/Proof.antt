@@ -10,7 +10,7 @@ use lib.Seq.{getD-drop}
 use native.Mathlib.Omega.{arith}
 use Rattle.arrays.specs.Rounds.{roundOf}
 use Rattle.grid.proofs.Fields.{indices-few, made-indices}
-use Rattle.grid.specs.Grid.{numIndices}
+use Rattle.grid_points.specs.Grid.{numIndices}
 use Rattle.grid.specs.Made.{shape}
 use Rattle.moves.specs.Held.{answered, stateOf}
 use Rattle.moves.specs.declared.Outcome.{Outcome}

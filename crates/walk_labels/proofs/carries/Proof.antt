@@ -11,7 +11,7 @@ use borrow.Author.Needs.{needs}
 use native.Mathlib.Omega.{arith}
 use Rattle.combinatorics.proofs.Basics.{false-of, same-or}
 use Rattle.combinatorics.proofs.Lists.{eqb-self, same-self, same-sound}
-use Rattle.grid.specs.Grid.{at}
+use Rattle.grid_points.specs.Grid.{at}
 use Rattle.walk_labels.proofs.Carrying.{front-long}
 use Rattle.walk_labels.specs.Carrying.{labelsInMarks}
 use Rattle.walk_labels.proofs.carries.Statement.{statement}

@@ -7,7 +7,7 @@ use Prim.Native.Nat.{ℕ, suc, _-_, _≤_, _<_}
 use lib.Dec.{leb}
 use lib.ListN.{getD}
 use native.Mathlib.Omega.{arith}
-use Rattle.grid.specs.Grid.{at}
+use Rattle.grid_points.specs.Grid.{at}
 use Rattle.walk_labels.proofs.Carrying.{CarriedBelow, carried-in, carried-over, none-carried, position-here}
 use Rattle.walk_labels.specs.Carrying.{labelAtMark}
 use Rattle.walk_labels.proofs.carry.Statement.{statement}

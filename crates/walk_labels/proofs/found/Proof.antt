@@ -5,7 +5,7 @@ use Prim.Native.Nat.{ℕ, suc, _-_, _≤_, _<_}
 use borrow.Author.Count.{below-more}
 use lib.ListN.{length}
 use native.Mathlib.Omega.{arith}
-use Rattle.grid.specs.Grid.{at}
+use Rattle.grid_points.specs.Grid.{at}
 use Rattle.walk_labels.proofs.Carrying.{found-at, found-none}
 use Rattle.walk_labels.proofs.found.Statement.{statement}
 use Rattle.walk_labels.proofs.found.Tie as tie

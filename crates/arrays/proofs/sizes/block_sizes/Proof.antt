@@ -9,8 +9,8 @@ use lib.Seq.{getD-set-same, getD-set-other}
 use native.Mathlib.Omega.{arith}
 use Rattle.combinatorics.proofs.Basics.{same-or}
 use Rattle.grid.proofs.Fields.{made-block, made-blocks, made-indices, made-size, blocks-range, indices-few}
-use Rattle.grid.proofs.Round.{block-spans}
-use Rattle.grid.specs.Grid.{at}
+use Rattle.grid_points.proofs.Round.{block-spans}
+use Rattle.grid_points.specs.Grid.{at}
 use Rattle.grid.specs.Made.{IsMade, shape}
 use Rattle.grid.specs.declared.Grid.{Grid as GridStruct}
 use Rattle.arrays.proofs.sizes.block_sizes.Statement.{statement}

@@ -5,7 +5,7 @@ use mathlib.Core.Path.{_≡_, sym, ap, _∙_}
 use Prim.Native.Nat.{_<_}
 use borrow.Author.Needs.{needs}
 use native.Mathlib.Omega.{arith}
-use Rattle.grid.specs.Grid.{at}
+use Rattle.grid_points.specs.Grid.{at}
 use Rattle.rules.specs.Step.{firstMet, firstOutside}
 use Rattle.rules.proofs.FirstMet.{outside, below, met-spent, met-here, met-onward}
 use Rattle.arrays.proofs.walk.first_outside.Statement.{statement}

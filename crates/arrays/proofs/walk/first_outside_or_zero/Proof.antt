@@ -9,7 +9,7 @@ use borrow.Author.Tests.{eq-eqb, ne-eqb, not-false}
 use lib.Dec.{eqb}
 use native.Mathlib.Omega.{arith}
 use Rattle.combinatorics.proofs.Basics.{or-left, or-right}
-use Rattle.grid.specs.Grid.{at}
+use Rattle.grid_points.specs.Grid.{at}
 use Rattle.rules.specs.Mask.{bit}
 use Rattle.arrays.specs.Rounds.{roundOf}
 use Rattle.rules.specs.Step.{firstMet, firstOutsideOrZero}

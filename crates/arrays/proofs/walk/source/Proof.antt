@@ -1,7 +1,7 @@
 -- `walk::source` meets its contract: where the first index met is not in U, the walk stops there. Assumes nothing.
 use mathlib.Core.Bool.{true, not}
 use mathlib.Core.Path.{_≡_, sym, ap, _∙_}
-use Rattle.grid.specs.Grid.{at}
+use Rattle.grid_points.specs.Grid.{at}
 use Rattle.rules.proofs.FirstMet.{outside, below, met-here}
 use borrow.Author.Needs.{needs}
 use Rattle.arrays.proofs.walk.source.Statement.{statement}

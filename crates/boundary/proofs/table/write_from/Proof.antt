@@ -9,9 +9,9 @@ use lib.ListN.{length, getD, set, take, length-set}
 use native.Mathlib.Omega.{arith}
 use Rattle.combinatorics.proofs.Fronts.{front-none}
 use Rattle.combinatorics.specs.Front.{front}
-use Rattle.grid.proofs.Accepted.{accepted}
+use Rattle.grid_points.proofs.Accepted.{accepted}
 use Rattle.grid.specs.Build.{lent}
-use Rattle.grid.specs.Grid.{Grid, Point, numPoints, points}
+use Rattle.grid_points.specs.Grid.{Grid, Point, numPoints, points}
 use Rattle.points_in_order.proofs.InOrder.{next-point, point-at}
 use Rattle.points_in_order.specs.Lent.{PointWithFirsts}
 use Rattle.points_in_order.specs.Shifted.{lastButOne, lastOne, endShifted}

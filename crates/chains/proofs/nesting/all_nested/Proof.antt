@@ -7,7 +7,7 @@ use borrow.Author.Needs.{needs}
 use borrow.Author.Tests.{not-true, not-false}
 use native.Mathlib.Omega.{arith}
 use Rattle.combinatorics.specs.Lists.{upFrom}
-use Rattle.grid.specs.Grid.{at}
+use Rattle.grid_points.specs.Grid.{at}
 use Rattle.simplices.specs.Chains.{pairwise}
 use Rattle.chains.proofs.Nestings.{left-none, pairs-stop, pairs-go}
 use Rattle.chains.specs.Sets.{nestedSets}

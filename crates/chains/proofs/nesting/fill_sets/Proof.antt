@@ -8,7 +8,7 @@ use borrow.Author.Needs.{needs}
 use lib.ListN.{length, length-set}
 use native.Mathlib.Omega.{arith}
 use Rattle.combinatorics.specs.Lists.{all, upFrom}
-use Rattle.grid.specs.Grid.{Point}
+use Rattle.grid_points.specs.Grid.{Point}
 use Rattle.grid.specs.Made.{shape}
 use Rattle.grid.specs.declared.Grid.{Grid as GridStruct}
 use Rattle.simplices.specs.Chains.{coefficientsFrom, zeroOrOne}

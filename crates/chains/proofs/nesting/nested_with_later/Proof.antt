@@ -7,7 +7,7 @@ use borrow.Author.Needs.{needs}
 use borrow.Author.Tests.{not-true, not-false}
 use native.Mathlib.Omega.{arith}
 use Rattle.combinatorics.specs.Lists.{all, upFrom}
-use Rattle.grid.specs.Grid.{at}
+use Rattle.grid_points.specs.Grid.{at}
 use Rattle.chains.proofs.Nestings.{left-none, all-stops, all-goes}
 use Rattle.chains.specs.Sets.{nestedSets}
 use Rattle.chains.proofs.nesting.nested_with_later.Statement.{statement}

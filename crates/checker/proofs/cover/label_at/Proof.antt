@@ -7,7 +7,7 @@ use lib.ListN.{getD, take}
 use native.Mathlib.Omega.{arith}
 use Rattle.combinatorics.proofs.Lists.{at-all}
 use Rattle.grid.proofs.Fields.{made-accepted}
-use Rattle.grid.specs.Grid.{numIndices, position}
+use Rattle.grid_points.specs.Grid.{numIndices, position}
 use Rattle.grid.specs.Made.{shape}
 use Rattle.place.specs.Problem.{label}
 use Rattle.checker.proofs.Covering.{can-stay, stays-on-grid, same-position, label-inside}

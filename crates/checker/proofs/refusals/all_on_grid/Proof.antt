@@ -7,7 +7,7 @@ use borrow.Author.Needs.{needs}
 use borrow.Author.Tests.{not-true, not-false}
 use native.Mathlib.Omega.{arith}
 use Rattle.combinatorics.specs.Lists.{all, upFrom}
-use Rattle.grid.specs.Grid.{isGridPoint}
+use Rattle.grid_points.specs.Grid.{isGridPoint}
 use Rattle.grid.specs.Made.{shape}
 use Rattle.chains.proofs.ListedPoints.{is-listed}
 use Rattle.chains.proofs.Nestings.{left-none, all-stops, all-goes}

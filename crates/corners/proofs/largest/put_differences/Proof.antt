@@ -9,7 +9,7 @@ use lib.ListN.{length, length-set}
 use mir.Facts.{toZ-ofZ}
 use mir.Syntax.{w64}
 use mir.Val.{toZ, ofZ}
-use Rattle.grid.specs.Grid.{at}
+use Rattle.grid_points.specs.Grid.{at}
 use Rattle.corners.proofs.Rows.{entry-next}
 use Rattle.corners.specs.Corners.{signedAt}
 use Rattle.corners.proofs.largest.put_differences.Statement.{statement}

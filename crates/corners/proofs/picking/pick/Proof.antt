@@ -9,7 +9,7 @@ use borrow.Author.Tests.{eq-eqb, ne-eqb}
 use lib.Dec.{eqb}
 use lib.ListN.{length, length-set}
 use Rattle.combinatorics.proofs.Basics.{same-or}
-use Rattle.grid.specs.Grid.{at}
+use Rattle.grid_points.specs.Grid.{at}
 use Rattle.weighed_losses.proofs.Writing.{entries-turn}
 use Rattle.weighed_losses.specs.Levels.{place}
 use Rattle.corners.specs.Corners.{pickedAt}

@@ -2,7 +2,7 @@
 use borrow.Author.Needs.{needs}
 use native.Mathlib.Omega.{arith}
 use Rattle.grid.proofs.Fields.{blocks-range, made-blocks, made-indices}
-use Rattle.grid.proofs.Round.{block-spans}
+use Rattle.grid_points.proofs.Round.{block-spans}
 use Rattle.grid.specs.Made.{shape}
 use Rattle.finder.proofs.answers.block_number.Statement.{statement}
 use Rattle.finder.proofs.answers.block_number.Tie as tie

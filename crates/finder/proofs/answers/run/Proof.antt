@@ -4,7 +4,7 @@ use mathlib.Core.Path.{_≡_, sym, _∙_, subst}
 use borrow.Author.Needs.{needs}
 use lib.ListN.{length}
 use Rattle.grid.proofs.Fields.{made-code, made-is}
-use Rattle.grid.specs.Grid.{Grid}
+use Rattle.grid_points.specs.Grid.{Grid}
 use Rattle.place.specs.Problem.{Problem, problemOf}
 use Rattle.finder.specs.Run.{runAnswer, runBuffer}
 use Rattle.finder.proofs.Refusals.{by-grid, refused, same-problem}

@@ -16,10 +16,10 @@ use Rattle.combinatorics.specs.Front.{front}
 use Rattle.corners.proofs.CornerLabels.{lent-rows, lent-label}
 use Rattle.corners.proofs.CornerLosses.{last-ends, cornered-kept}
 use Rattle.corners.specs.Corners.{lastPlayer, Cornered}
-use Rattle.grid.proofs.Accepted.{Accepted, accepted, blocks-few}
-use Rattle.grid.proofs.CoordinatesBelow.{division-below}
+use Rattle.grid_points.proofs.Accepted.{Accepted, accepted, blocks-few}
+use Rattle.grid_points.proofs.CoordinatesBelow.{division-below}
 use Rattle.grid.specs.Build.{lent}
-use Rattle.grid.specs.Grid.{Grid, Point, numIndices, numPoints, points, size, firstIndex}
+use Rattle.grid_points.specs.Grid.{Grid, Point, numIndices, numPoints, points, size, firstIndex}
 use Rattle.weighed_losses.proofs.Levels.{behind-alike, stand-to-alike}
 use Rattle.weighed_losses.specs.Levels.{Rests, StandTo}
 use Rattle.losses.specs.Game.{gameLabel, labels}

@@ -7,7 +7,7 @@ use borrow.Author.Needs.{needs}
 use borrow.Author.Tests.{not-true}
 use lib.ListN.{length}
 use Rattle.corners.proofs.CornerLabels.{corner-points}
-use Rattle.grid.proofs.Accepted.{accepted}
+use Rattle.grid_points.proofs.Accepted.{accepted}
 use Rattle.grid.specs.Build.{lent}
 use Rattle.weighed_losses.proofs.Levels.{stand-to-alike}
 use Rattle.points_in_order.proofs.Blocks.{point-length}

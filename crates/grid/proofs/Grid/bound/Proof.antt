@@ -1,10 +1,10 @@
 -- `grid::Grid::bound` meets its contract. Assumes nothing.
 use mathlib.Core.Path.{_≡_, ap, _∙_}
 use Prim.Native.Nat.{_*_, _-_}
-use Rattle.grid.proofs.Accepted.{blocks-few}
+use Rattle.grid_points.proofs.Accepted.{blocks-few}
 use Rattle.grid.proofs.Fields.{made-accepted, made-blocks, made-indices, made-points, blocks-range, indices-few}
-use Rattle.grid.proofs.Terms.{bound-fits, bound-of}
-use Rattle.grid.specs.Grid.{bound}
+use Rattle.grid_points.proofs.Terms.{bound-fits, bound-of}
+use Rattle.grid_points.specs.Grid.{bound}
 use Rattle.grid.specs.Made.{shape}
 use native.Mathlib.Omega.{arith}
 use Rattle.grid.proofs.Grid.bound.Statement.{statement}

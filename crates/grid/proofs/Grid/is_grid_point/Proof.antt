@@ -10,9 +10,9 @@ use Rattle.combinatorics.proofs.Turns.{all-counted}
 use Rattle.combinatorics.specs.Lists.{all, sum, upFrom}
 use Rattle.grid.proofs.Fields.{made-first, made-size, made-division, made-indices, made-blocks, blocks-range}
 use Rattle.grid.proofs.Fields.{size-range}
-use Rattle.grid.proofs.Points.{blockSum}
-use Rattle.grid.proofs.Round.{block-fits}
-use Rattle.grid.specs.Grid.{isGridPoint, at, indicesOf, division, numIndices, numBlocks}
+use Rattle.grid_points.proofs.Points.{blockSum}
+use Rattle.grid_points.proofs.Round.{block-fits}
+use Rattle.grid_points.specs.Grid.{isGridPoint, at, indicesOf, division, numIndices, numBlocks}
 use Rattle.grid.specs.Made.{shape}
 use borrow.Author.Needs.{needs}
 use native.Mathlib.Omega.{arith}

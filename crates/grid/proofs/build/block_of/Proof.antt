@@ -4,8 +4,8 @@ use mathlib.Core.Path.{_≡_, _∙_}
 use Prim.Native.Nat.{_+_, _-_, _<_}
 use lib.ListN.{length, drop}
 use Rattle.combinatorics.specs.Lists.{sum}
-use Rattle.grid.proofs.Prefix.{some-left, find-turn, find-stop}
-use Rattle.grid.specs.Grid.{blockIn}
+use Rattle.grid_points.proofs.Prefix.{some-left, find-turn, find-stop}
+use Rattle.grid_points.specs.Grid.{blockIn}
 use borrow.Author.Needs.{needs}
 use native.Mathlib.Omega.{arith}
 use Rattle.grid.proofs.build.block_of.Statement.{statement}

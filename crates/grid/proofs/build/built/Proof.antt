@@ -3,9 +3,9 @@ use mathlib.Core.Path.{_≡_, refl, _∙_}
 use lib.ListN.{length}
 use Rattle.combinatorics.proofs.Turns.{whole}
 use Rattle.combinatorics.specs.Lists.{sum}
-use Rattle.grid.proofs.Accepted.{Accepted, accepted}
+use Rattle.grid_points.proofs.Accepted.{Accepted, accepted}
 use Rattle.grid.specs.Build.{lent, BlocksCounted}
-use Rattle.grid.specs.Grid.{next as after, previous as before}
+use Rattle.grid_points.specs.Grid.{next as after, previous as before}
 use Rattle.grid.specs.Made.{gridOf}
 use borrow.Author.Needs.{needs}
 use native.Mathlib.Omega.{arith}

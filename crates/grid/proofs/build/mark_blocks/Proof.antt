@@ -8,11 +8,10 @@ use Rattle.combinatorics.proofs.Fronts.{front-none, front-copy, front-whole}
 use Rattle.combinatorics.proofs.Turns.{front-counted}
 use Rattle.combinatorics.specs.Lists.{upFrom}
 use Rattle.combinatorics.specs.Front.{padded}
-use Rattle.grid.proofs.Accepted.{Accepted, accepted, count-few, size-two}
-use Rattle.grid.proofs.Round.{block-fits}
+use Rattle.grid_points.proofs.Accepted.{Accepted, accepted, count-few, size-two}
+use Rattle.grid_points.proofs.Round.{block-fits}
 use Rattle.grid.specs.Build.{lent}
-use Rattle.grid.specs.Grid.{firstIndex}
-use Rattle.grid.specs.Made.{blockCount}
+use Rattle.grid_points.specs.Grid.{firstIndex, blockCount}
 use borrow.Author.Needs.{needs}
 use native.Mathlib.Omega.{arith}
 use Rattle.grid.proofs.build.mark_blocks.Statement.{statement}

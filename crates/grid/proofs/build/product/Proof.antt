@@ -5,13 +5,13 @@ use mathlib.Core.Path.{_≡_, refl, sym, _∙_}
 use Prim.Native.Nat.{ℕ, _+_, _*_, _≤_, _<_, _-_}
 use lib.ListN.{getD, take}
 use Rattle.combinatorics.proofs.Turns.{whole}
-use Rattle.grid.proofs.Accepted.{accepted, points-are}
+use Rattle.grid_points.proofs.Accepted.{accepted, points-are}
 use Rattle.grid.proofs.Fields.{padded-at}
 use Rattle.grid_counts.proofs.Products.{product-next, product-below}
 use Rattle.grid.specs.Build.{BlocksCounted}
-use Rattle.grid.specs.Grid.{Grid, numBlocks}
+use Rattle.grid_points.specs.Grid.{Grid, numBlocks, blockCount}
 use Rattle.combinatorics.specs.Counting.{binomialProduct}
-use Rattle.grid.specs.Made.{blockCount, gridOf}
+use Rattle.grid.specs.Made.{gridOf}
 use borrow.Author.Needs.{needs}
 use native.Mathlib.Omega.{arith}
 use Rattle.grid.proofs.build.product.Statement.{statement}

@@ -10,11 +10,11 @@ use Rattle.combinatorics.proofs.Basics.{and-both}
 use Rattle.combinatorics.proofs.Turns.{whole}
 use Rattle.combinatorics.specs.Lists.{all, sum}
 use Rattle.questions.specs.Questions.{firstNo}
-use Rattle.grid.proofs.Listing.{numPoints-is}
+use Rattle.grid_points.proofs.Listing.{numPoints-is}
 use Rattle.grid.specs.Build.{lent}
-use Rattle.grid.specs.Grid.{Grid, numPoints}
+use Rattle.grid_points.specs.Grid.{Grid, numPoints}
 use Rattle.combinatorics.specs.Counting.{binomialProduct}
-use Rattle.grid.specs.Questions.{question1, question2, question3}
+use Rattle.grid_points.specs.Questions.{question1, question2, question3}
 use borrow.Author.Needs.{needs}
 use native.Mathlib.Omega.{arith}
 use Rattle.grid.proofs.grid_questions.first_no.Statement.{statement}

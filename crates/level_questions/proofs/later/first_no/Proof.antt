@@ -12,7 +12,7 @@ use native.Mathlib.Omega.{arith}
 use Rattle.combinatorics.specs.Lists.{all}
 use Rattle.games.proofs.Outcomes.{blocks-room}
 use Rattle.grid.proofs.Fields.{blocks-range, made-accepted, made-blocks}
-use Rattle.grid.specs.Grid.{isGridPoint}
+use Rattle.grid_points.specs.Grid.{isGridPoint}
 use Rattle.grid.specs.Made.{shape}
 use Rattle.losses.proofs.Table.{product-few}
 use Rattle.losses.specs.Game.{product}

@@ -4,7 +4,7 @@ use Prim.Native.Nat.{_-_}
 use lib.ListN.{length, take}
 use lib.Seq.{length-take-le}
 use native.Mathlib.Omega.{arith}
-use Rattle.grid.specs.Grid.{at}
+use Rattle.grid_points.specs.Grid.{at}
 use Rattle.moves.proofs.leaving.leave_last.Statement.{statement}
 use Rattle.moves.proofs.leaving.leave_last.Tie as tie
 

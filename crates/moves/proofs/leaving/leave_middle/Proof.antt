@@ -9,7 +9,7 @@ use native.Mathlib.Omega.{arith}
 use Rattle.arrays.specs.Rounds.{roundOf, noRound}
 use Rattle.combinatorics.proofs.EditsOfArrays.{take-swap}
 use Rattle.combinatorics.specs.Edits.{swapAt}
-use Rattle.grid.specs.Grid.{at}
+use Rattle.grid_points.specs.Grid.{at}
 use Rattle.moves.specs.Held.{stateOf}
 use Rattle.rules.specs.Step.{State, goes}
 use Rattle.moves.proofs.Cases.{same-state, besideAfter, shrink-beside, middle-to-U, steps-exchanged}

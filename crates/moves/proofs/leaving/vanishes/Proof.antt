@@ -1,7 +1,7 @@
 -- `leaving::vanishes` meets its contract. Assumes nothing.
 use borrow.Author.Needs.{needs}
 use borrow.Author.Tests.{eq-eqb, ne-eqb}
-use Rattle.grid.specs.Grid.{at}
+use Rattle.grid_points.specs.Grid.{at}
 use Rattle.moves.proofs.leaving.vanishes.Statement.{statement}
 use Rattle.moves.proofs.leaving.vanishes.Tie as tie
 

@@ -2,7 +2,7 @@
 use mathlib.Core.Path.{_≡_, _∙_}
 use Prim.Native.Nat.{ℕ, _+_, _-_, pred, _≤_, _<_}
 use Rattle.grid.proofs.Fields.{made-accepted, made-indices, made-blocks, indices-few, division-range, count-range}
-use Rattle.grid.specs.Grid.{size, division}
+use Rattle.grid_points.specs.Grid.{size, division}
 use Rattle.grid.specs.Made.{shape}
 use Rattle.positions.proofs.ByTails.{all-indices, falls-by}
 use Rattle.positions.proofs.Table.{in-table, in-smaller, lists-grow}

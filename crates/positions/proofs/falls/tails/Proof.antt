@@ -4,7 +4,7 @@ use mathlib.Core.Path.{_≡_, refl}
 use Prim.Native.Nat.{ℕ, suc, _+_, _-_, _*_, _≤_, _<_}
 use lib.ListN.{length, length-set}
 use Rattle.combinatorics.proofs.Turns.{at-set}
-use Rattle.grid.specs.Grid.{Point, at}
+use Rattle.grid_points.specs.Grid.{Point, at}
 use Rattle.positions.proofs.ByTails.{tail}
 use borrow.Author.Needs.{needs}
 use native.Mathlib.Omega.{arith}

@@ -8,7 +8,7 @@ use Rattle.combinatorics.specs.Lists.{sum, upFrom}
 use Rattle.positions.proofs.Positions.{rankOf, rank-turn, rank-end, rank-below}
 use Rattle.positions.proofs.Steps.{after-at}
 use Rattle.positions.proofs.Table.{in-table, in-smaller}
-use Rattle.grid.specs.Grid.{at}
+use Rattle.grid_points.specs.Grid.{at}
 use Rattle.positions.specs.Steps.{afterSteps}
 use borrow.Author.Needs.{needs}
 use native.Mathlib.Omega.{arith}

@@ -4,8 +4,8 @@ use mathlib.Core.Path.{_≡_, refl, _∙_}
 use Prim.Native.Nat.{ℕ, _-_, _+_, _≤_, _<_}
 use lib.ListN.{length, take}
 use Rattle.grid.proofs.Fields.{made-first, made-size, blocks-range, indices-few, made-indices}
-use Rattle.grid.proofs.Round.{block-fits}
-use Rattle.grid.specs.Grid.{at, firstIndex, size}
+use Rattle.grid_points.proofs.Round.{block-fits}
+use Rattle.grid_points.specs.Grid.{at, firstIndex, size}
 use Rattle.grid.specs.Made.{shape}
 use Rattle.place.specs.Coefficients.{coefficients as coefficientsOf}
 use Rattle.recogniser.proofs.Following.{block-of, stored-more, stored-all}

@@ -5,7 +5,7 @@ use mathlib.Core.Logic.{⊎-elim}
 use mathlib.Core.Path.{_≡_}
 use Prim.Native.Nat.{ℕ, _-_, _≤_}
 use lib.ListN.{length}
-use Rattle.grid.specs.Grid.{at}
+use Rattle.grid_points.specs.Grid.{at}
 use Rattle.recogniser.proofs.Following.{Follows, follow-none, follow-fits, follow-small, follow-less, follow-not}
 use Rattle.recogniser.proofs.Following.{follow-all}
 use Rattle.recogniser.specs.Pieces.{InBlock}

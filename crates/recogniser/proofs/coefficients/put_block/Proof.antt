@@ -5,7 +5,7 @@ use mathlib.Core.Path.{_≡_, _∙_}
 use Prim.Native.Nat.{ℕ, _-_, _≤_}
 use borrow.Author.Tests.{ne-eqb}
 use lib.ListN.{length, length-set}
-use Rattle.grid.specs.Grid.{at}
+use Rattle.grid_points.specs.Grid.{at}
 use Rattle.recogniser.proofs.Following.{wrap, put-none, put-fits, put-on, put-more}
 use Rattle.recogniser.specs.Pieces.{InBlock, PutIn}
 use borrow.Author.Needs.{needs}

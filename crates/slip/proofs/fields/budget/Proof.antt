@@ -5,7 +5,7 @@ use mathlib.Core.Bool.{true, false}
 use mathlib.Core.Path.{_≡_, sym, ap, _∙_}
 use Prim.Native.Nat.{_+_}
 use borrow.Author.Tests.{not-true, not-false}
-use Rattle.grid.specs.Grid.{bound}
+use Rattle.grid_points.specs.Grid.{bound}
 use Rattle.slip_fields.proofs.Laws.{head-fits, at-next, length-there, length-absent}
 use Rattle.slip.proofs.Readings.{budget-is, no-budget, asked-made}
 use Rattle.slip_fields.specs.Slip.{stands, slipBudget, fieldAt}

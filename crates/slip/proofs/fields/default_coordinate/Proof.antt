@@ -4,7 +4,7 @@ use Prim.Native.Nat.{_<_}
 use borrow.Author.Needs.{needs}
 use native.Mathlib.Omega.{arith}
 use Rattle.grid.proofs.Fields.{made-blocks, made-indices, made-division, made-first, blocks-range}
-use Rattle.grid.proofs.Round.{block-spans}
+use Rattle.grid_points.proofs.Round.{block-spans}
 use Rattle.grid.specs.Made.{shape}
 use Rattle.slip_fields.proofs.Laws.{default-first, default-other}
 use Rattle.slip.proofs.fields.default_coordinate.Statement.{statement}

@@ -10,7 +10,7 @@ use Rattle.combinatorics.proofs.Turns.{front-counted}
 use Rattle.combinatorics.specs.Lists.{upFrom}
 use Rattle.combinatorics.specs.Front.{padded}
 use Rattle.grid.proofs.Fields.{made-indices, indices-few}
-use Rattle.grid.specs.Grid.{numIndices}
+use Rattle.grid_points.specs.Grid.{numIndices}
 use Rattle.grid.specs.Made.{shape}
 use Rattle.slip_fields.specs.Slip.{defaultCoordinate}
 use Rattle.slip.proofs.fields.default_start.Statement.{statement}

@@ -2,7 +2,7 @@
 use mathlib.Core.Path.{ap, _∙_}
 use native.Mathlib.Omega.{arith}
 use Rattle.grid.proofs.Fields.{indices-few}
-use Rattle.grid.specs.Grid.{isGridPoint, position}
+use Rattle.grid_points.specs.Grid.{isGridPoint, position}
 use Rattle.grid.specs.Made.{shape}
 use Rattle.positions.proofs.Steps.{none-after, none-can}
 use Rattle.trail_steps.proofs.Arrived.{position-low}

@@ -5,7 +5,7 @@ use borrow.Author.Needs.{needs}
 use lib.ListN.{length}
 use Rattle.finder.proofs.Refusals.{accepted-with-room, by-grid, by-later, same-problem}
 use Rattle.grid.proofs.Fields.{made-code, made-is}
-use Rattle.grid.specs.Grid.{Grid}
+use Rattle.grid_points.specs.Grid.{Grid}
 use Rattle.marks.specs.Reading.{problemFrom}
 use Rattle.place.specs.Problem.{Problem, problemOf}
 use Rattle.trail_writer.specs.Writing.{trailAnswerBuffer, trailAnswer, trailBuffer}

@@ -4,7 +4,7 @@ use Prim.Native.Nat.{ℕ}
 use borrow.Author.Needs.{needs, length-unmapped}
 use lib.ListN.{length, take, length-take}
 use Rattle.grid.proofs.Fields.{indices-few, made-indices}
-use Rattle.grid.specs.Grid.{numIndices}
+use Rattle.grid_points.specs.Grid.{numIndices}
 use Rattle.grid.specs.Made.{shape}
 use Rattle.questions.specs.Questions.{firstNo}
 use Rattle.walk_calls.proofs.Calls.{call-ended, call-moved, call-refuses, goes-to, places-few, table-refused}

@@ -1,7 +1,7 @@
 -- `moving::moved` meets its contract: questions 1 to 4 on the walk's own grid, and then the call on that grid. Assumes
 -- nothing.
 use mathlib.Core.Path.{sym, ap, _∙_}
-use Rattle.grid.specs.Grid.{Grid}
+use Rattle.grid_points.specs.Grid.{Grid}
 use Rattle.walk_calls.proofs.Calls.{call-on-own, grid-refused}
 use Rattle.walk_calls.specs.Moving.{callOn}
 use borrow.Author.Needs.{needs}

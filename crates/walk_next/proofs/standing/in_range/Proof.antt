@@ -5,7 +5,7 @@ use borrow.Author.Tests.{le-leb, lt-leb}
 use borrow.Author.Needs.{needs}
 use lib.Dec.{leb}
 use native.Mathlib.Omega.{arith}
-use Rattle.grid.specs.Grid.{bound}
+use Rattle.grid_points.specs.Grid.{bound}
 use Rattle.grid.specs.Made.{shape}
 use Rattle.walk_next.proofs.standing.in_range.Statement.{statement}
 use Rattle.walk_next.proofs.standing.in_range.Tie as tie

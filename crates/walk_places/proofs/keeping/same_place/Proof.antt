@@ -8,7 +8,7 @@ use borrow.Author.Tests.{eq-eqb, ne-eqb}
 use lib.Dec.{eqb}
 use Rattle.combinatorics.proofs.Basics.{same-or}
 use Rattle.combinatorics.specs.Lists.{same}
-use Rattle.grid.specs.Grid.{at}
+use Rattle.grid_points.specs.Grid.{at}
 use Rattle.walk_places.proofs.Alike.{lists-alike, lists-differ}
 use borrow.Author.Needs.{needs}
 use native.Mathlib.Omega.{arith}

@@ -2,7 +2,7 @@
 use mathlib.Core.Path.{_≡_, refl, subst}
 use lib.ListN.{length, take, length-take}
 use Rattle.grid.proofs.Fields.{indices-few, made-indices, made-previous, previous-low}
-use Rattle.grid.specs.Grid.{numIndices}
+use Rattle.grid_points.specs.Grid.{numIndices}
 use Rattle.grid.specs.Made.{shape}
 use Rattle.recogniser.proofs.Together.{with-table}
 use Rattle.recogniser.specs.Kept.{Recognised}

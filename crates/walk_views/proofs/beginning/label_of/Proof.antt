@@ -5,7 +5,7 @@ use borrow.Author.Needs.{needs}
 use lib.ListN.{getD, getD-replicate, take}
 use native.Mathlib.Omega.{arith}
 use Rattle.grid.proofs.Fields.{indices-few, made-points}
-use Rattle.grid.specs.Grid.{position}
+use Rattle.grid_points.specs.Grid.{position}
 use Rattle.grid.specs.Made.{shape}
 use Rattle.place.specs.Problem.{label}
 use Rattle.recogniser.proofs.Steps.{position-low, with-none}

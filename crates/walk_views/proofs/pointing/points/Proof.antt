@@ -7,9 +7,9 @@ use borrow.Author.Needs.{length-unmapped}
 use lib.ListN.{length, take, length-take}
 use native.Mathlib.Omega.{arith}
 use Rattle.grid.proofs.Fields.{indices-few, made-indices}
-use Rattle.grid.specs.Grid.{Grid, numIndices}
+use Rattle.grid_points.specs.Grid.{Grid, numIndices}
 use Rattle.grid.specs.Made.{shape}
-use Rattle.grid.specs.Questions.{gridQuestions, question5}
+use Rattle.grid_points.specs.Questions.{gridQuestions, question5}
 use Rattle.place.specs.Questions.{question6, question7}
 use Rattle.questions.proofs.Answers.{asked-no}
 use Rattle.questions.specs.Questions.{firstNo}

@@ -1,7 +1,7 @@
 -- `ending::ended` meets its contract. Assumes nothing.
 use native.Mathlib.Numerals.{add-one}
 use Rattle.grid.proofs.Fields.{blocks-range, made-blocks, made-indices}
-use Rattle.grid.proofs.Round.{block-spans}
+use Rattle.grid_points.proofs.Round.{block-spans}
 use Rattle.grid.specs.Made.{shape}
 use borrow.Author.Needs.{needs}
 use native.Mathlib.Omega.{arith}

@@ -3,7 +3,7 @@ use mathlib.Core.Path.{_≡_, refl}
 use Prim.Native.Nat.{_+_, _-_, _≤_}
 use native.Mathlib.Omega.{arith}
 use lib.ListN.{length, length-set}
-use Rattle.grid.specs.Grid.{at}
+use Rattle.grid_points.specs.Grid.{at}
 use Rattle.weighed_losses.proofs.Writing.{written-start, written-turn}
 use Rattle.weighed_losses.specs.Levels.{Written}
 use Rattle.weighed_losses.proofs.tables.copy_table.Statement.{statement}

@@ -4,7 +4,7 @@ use Prim.Native.Nat.{ℕ, _+_, _-_, _*_, _≤_}
 use native.Mathlib.Omega.{arith}
 use borrow.Author.Needs.{needs}
 use lib.ListN.{length, drop}
-use Rattle.grid.specs.Grid.{at as number}
+use Rattle.grid_points.specs.Grid.{at as number}
 use Rattle.weighed_losses.proofs.Blends.{apart-first, apart-next, apart-done}
 use Rattle.weighed_losses.specs.Levels.{blend}
 use Rattle.weighed_losses.proofs.tables.dot_apart.Statement.{statement}

@@ -4,7 +4,7 @@ use Prim.Native.Nat.{ℕ, _+_, _-_, _*_, _≤_, _<_}
 use native.Mathlib.Omega.{arith}
 use borrow.Author.Needs.{needs}
 use lib.ListN.{length}
-use Rattle.grid.specs.Grid.{at}
+use Rattle.grid_points.specs.Grid.{at}
 use Rattle.weighed_losses.proofs.NextLevel.{index-kept, level-start, level-turn}
 use Rattle.weighed_losses.specs.Levels.{place, nextAt, restAt, IndexToWeigh, LevelWeighed, Written}
 use Rattle.weighed_losses.proofs.weighing.weigh_level.Statement.{statement}

@@ -6,10 +6,10 @@ use Prim.Native.Nat.{ℕ, _+_, _-_, _≤_}
 use native.Mathlib.Omega.{arith}
 use borrow.Author.Needs.{needs}
 use lib.ListN.{length, take, drop}
-use Rattle.grid.proofs.Accepted.{Accepted, accepted}
-use Rattle.grid.proofs.Round.{block-fits}
+use Rattle.grid_points.proofs.Accepted.{Accepted, accepted}
+use Rattle.grid_points.proofs.Round.{block-fits}
 use Rattle.grid.specs.Build.{lent}
-use Rattle.grid.specs.Grid.{Grid, numIndices, firstIndex}
+use Rattle.grid_points.specs.Grid.{Grid, numIndices, firstIndex}
 use Rattle.points_in_order.proofs.Blocks.{point-length}
 use Rattle.losses.proofs.Players.{lent-mix}
 use Rattle.losses.specs.Game.{mix}

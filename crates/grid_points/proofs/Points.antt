@@ -14,8 +14,8 @@ use Rattle.combinatorics.proofs.Lists.{Equality, in-cases, concatMap-in, distin
 use Rattle.combinatorics.proofs.Lists.{distinct-map, in-map, onNumbers, all-cong, onLists}
 use Rattle.combinatorics.proofs.Ranges.{in-upFrom, upFrom-in, distinct-upFrom, all-shift}
 use Rattle.combinatorics.specs.Lists.{all, isIn, distinct, upFrom, sum}
-use Rattle.grid.specs.Grid.{Point, samePoint, Grid, isGridPoint, points, blockPoints, productPoints, at}
-use Rattle.grid.specs.Grid.{numIndices, numBlocks, blocks, positionIn}
+use Rattle.grid_points.specs.Grid.{Point, samePoint, Grid, isGridPoint, points, blockPoints, productPoints, at}
+use Rattle.grid_points.specs.Grid.{numIndices, numBlocks, blocks, positionIn}
 
 abbrev pub onPoints : Equality Point
 onPoints = onLists onNumbers

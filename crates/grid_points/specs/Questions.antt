@@ -5,7 +5,7 @@ use lib.Dec.{eqb, leb}
 use lib.ListN.{length}
 use Rattle.combinatorics.specs.Lists.{all}
 use Rattle.questions.specs.Questions.{Question, ask}
-use Rattle.grid.specs.Grid.{Grid, Point, numBlocks, numIndices, numPoints, isGridPoint}
+use Rattle.grid_points.specs.Grid.{Grid, Point, numBlocks, numIndices, numPoints, isGridPoint}
 
 -- "Is N, which outside a slip is the number of sizes lent, from 1 to 6? 1"
 abbrev pub question1 : Grid → Question

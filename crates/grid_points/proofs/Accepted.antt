@@ -11,13 +11,12 @@ use Rattle.combinatorics.proofs.Basics.{and-left, and-right}
 use Rattle.combinatorics.specs.Lists.{all, sum}
 use Rattle.questions.proofs.Answers.{first-yes}
 use Rattle.questions.specs.Questions.{firstNo}
-use Rattle.grid.proofs.Listing.{numPoints-is}
+use Rattle.grid_points.proofs.Listing.{numPoints-is}
 use Rattle.grid_counts.proofs.Products.{count-below}
 use Rattle.grid_counts.proofs.SizeRange.{size-range}
-use Rattle.grid.specs.Grid.{Grid, numBlocks, numIndices, numPoints, size}
+use Rattle.grid_points.specs.Grid.{Grid, numBlocks, numIndices, numPoints, size, blockCount}
 use Rattle.combinatorics.specs.Counting.{binomialProduct}
-use Rattle.grid.specs.Made.{blockCount}
-use Rattle.grid.specs.Questions.{gridQuestions, question1, question2, question3, question4}
+use Rattle.grid_points.specs.Questions.{gridQuestions, question1, question2, question3, question4}
 
 -- questions 1 to 4 are answered yes
 pub record Accepted (g : Grid) : Type 0 where

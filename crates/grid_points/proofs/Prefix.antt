@@ -7,7 +7,7 @@ use lib.ListN.{length, getD, drop}
 use native.Mathlib.Numerals.{add-one}
 use native.Mathlib.Omega.{arith}
 use Rattle.combinatorics.specs.Lists.{sum}
-use Rattle.grid.specs.Grid.{blockIn}
+use Rattle.grid_points.specs.Grid.{blockIn}
 
 -- the block of an index, looked for from block j on
 pub some-left : (ss : List ℕ) (j left : ℕ) → left < sum (drop j ss) → j < length ss

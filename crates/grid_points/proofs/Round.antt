@@ -10,8 +10,8 @@ use lib.ListN.{length, getD, take}
 use native.Mathlib.Omega.{arith}
 use Rattle.combinatorics.proofs.Basics.{before-or-not, both}
 use Rattle.combinatorics.specs.Lists.{sum}
-use Rattle.grid.proofs.Points.{block}
-use Rattle.grid.specs.Grid.{Grid, numBlocks, numIndices, firstIndex, size, blockIn, next, previous}
+use Rattle.grid_points.proofs.Points.{block}
+use Rattle.grid_points.specs.Grid.{Grid, numBlocks, numIndices, firstIndex, size, blockIn, next, previous}
 
 -- next round the block, by the list of sizes
 abbrev pub sized : List ℕ → List ℕ → Grid

@@ -5,7 +5,7 @@ use mathlib.Core.Path.{_≡_}
 use Prim.Native.Nat.{ℕ, zero, suc, _+_, _-_, _*_, _<_, pred}
 use lib.Dec.{eqb, ltb}
 use lib.ListN.{length, getD, take}
-use Rattle.combinatorics.specs.Counting.{falling}
+use Rattle.combinatorics.specs.Counting.{choose, falling}
 use Rattle.combinatorics.specs.Lists.{all, concatMap, sum, upFrom, same}
 
 -- "N blocks. Block j has s_j indices .. and a division d_j"
@@ -91,6 +91,10 @@ points g = productPoints (g .sizes) (g .divisions)
 -- "P is the number of grid points"
 abbrev pub numPoints : Grid → ℕ
 numPoints g = length (points g)
+
+-- the binomial "d_j + n_j choose n_j" of block j
+abbrev pub blockCount : Grid → ℕ → ℕ
+blockCount g j = choose (division g j + pred (size g j)) (pred (size g j))
 
 -- "lexicographic order, first coordinate first"
 abbrev pub lexBefore : Point → Point → Bool

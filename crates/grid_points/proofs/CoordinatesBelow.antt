@@ -14,9 +14,9 @@ use Rattle.combinatorics.proofs.Basics.{before-or-not, and-left, and-right}
 use Rattle.combinatorics.specs.Counting.{choose, binomialProduct}
 use Rattle.combinatorics.specs.Lists.{all}
 use Rattle.grid_counts.proofs.SizeRange.{at-sum}
-use Rattle.grid.proofs.Listing.{numPoints-is}
-use Rattle.grid.proofs.Points.{Fits, none, block, fits-of}
-use Rattle.grid.specs.Grid.{Grid, Point, at, numBlocks, numPoints, division, isGridPoint}
+use Rattle.grid_points.proofs.Listing.{numPoints-is}
+use Rattle.grid_points.proofs.Points.{Fits, none, block, fits-of}
+use Rattle.grid_points.specs.Grid.{Grid, Point, at, numBlocks, numPoints, division, isGridPoint}
 
 choose-some : (d n : ℕ) → 1 ≤ choose (d + n) n
 choose-some d zero = omega arith

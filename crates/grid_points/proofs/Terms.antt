@@ -8,9 +8,9 @@ use Rattle.combinatorics.proofs.Terms.{terms-few}
 use Rattle.combinatorics.specs.Counting.{falling}
 use Rattle.combinatorics.specs.Lists.{sum, upFrom}
 use Rattle.questions.specs.Questions.{firstNo}
-use Rattle.grid.proofs.Accepted.{accepted}
-use Rattle.grid.specs.Grid.{Grid, bound, numPoints, numIndices, dimension}
-use Rattle.grid.specs.Questions.{gridQuestions}
+use Rattle.grid_points.proofs.Accepted.{accepted}
+use Rattle.grid_points.specs.Grid.{Grid, bound, numPoints, numIndices, dimension}
+use Rattle.grid_points.specs.Questions.{gridQuestions}
 
 pub bound-fits : (g : Grid) → firstNo (gridQuestions g) ≡ 0 → bound g < 2 ^ 64
 unfolding bound

@@ -16,8 +16,9 @@ use Rattle.combinatorics.proofs.Lists.{onNumbers}
 use Rattle.combinatorics.proofs.Ranges.{upFrom-in}
 use Rattle.combinatorics.specs.Counting.{binomialProduct, choose}
 use Rattle.combinatorics.specs.Lists.{all, isIn, concatMap, upFrom}
-use Rattle.grid.proofs.Points.{onPoints, block-in}
-use Rattle.grid.specs.Grid.{Grid, Point, blockPoints, lexBefore, numPoints, points, productPoints, samePoint}
+use Rattle.grid_points.proofs.Points.{onPoints, block-in}
+use Rattle.grid_points.specs.Grid.{Grid, Point, blockPoints, lexBefore, numPoints, points, productPoints}
+use Rattle.grid_points.specs.Grid.{samePoint}
 
 abbrev pub group : ℕ → ℕ → ℕ → List Point
 group s d k = map (λ l. k ∷ l) (blockPoints s (d - k))

@@ -1,0 +1,3 @@
+pub mod Grid
+pub mod Questions
+pub mod Worked
