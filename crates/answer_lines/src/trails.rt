@@ -7,7 +7,7 @@ use case_reader::within_bytes;
 // What the weighed sum of a long trail is counted by.
 const COUNTED_BY: u64 = 1000000007;
 
-fn wide(x: u8) -> u64
+fn u64_of_byte(x: u8) -> u64
     ensures { λ r. ⌜ r < 256 ⌝ }
 {
     x as u64
@@ -29,7 +29,7 @@ fn weighed(trail: &[u8]) -> u64 {
     let mut sum: u64 = 0;
     while 0 < i {
         i -= 1;
-        last = counted(last + wide(trail[i]));
+        last = counted(last + u64_of_byte(trail[i]));
         sum = counted(sum + last);
     }
     sum

@@ -30,7 +30,7 @@ pub fn label_in(mark: u32) -> u32
 }
 
 // The position in a mark.
-fn position_in(mark: u32) -> usize
+fn mark_position(mark: u32) -> usize
     ensures { λ r. ⌜ (r ≡ markPosition mark) × (r < 16777216) ⌝ }
 {
     wide32(mark >> 8)
@@ -41,7 +41,7 @@ pub fn position_at(marks: &[u32; 16], n: usize, i: usize) -> usize
     requires { ⌜ (i ≤ n) × (n ≤ 15) ⌝ }
     ensures { λ r. ⌜ (r ≡ markPosition (at (take (suc n) (now (marks .entry))) i)) × (r < 16777216) ⌝ }
 {
-    position_in(marks[i])
+    mark_position(marks[i])
 }
 
 // x put before entry at of the first n.

@@ -13,8 +13,7 @@ use Rattle.combinatorics.proofs.Basics.{absurd-bool, true-or-false}
 use Rattle.combinatorics.specs.Lists.{all}
 use Rattle.questions.proofs.Answers.{asked-next, both-yes, first-yes}
 use Rattle.questions.specs.Questions.{Question, firstNo}
-use Rattle.grid.specs.Build.{lent}
-use Rattle.grid_points.specs.Grid.{Grid, numIndices, numPoints}
+use Rattle.grid_points.specs.Grid.{Grid, numIndices, numPoints, lent}
 use Rattle.grid_points.specs.Questions.{gridQuestions}
 use Rattle.place.specs.Questions.{question6, question7}
 use Rattle.simplices.specs.Simplices.{labelledBy}

@@ -13,8 +13,7 @@ use Rattle.path_laws.proofs.Accepted.{accepted-of}
 use Rattle.questions.proofs.Answers.{asked-next, both-yes}
 use Rattle.questions.specs.Questions.{firstNo}
 use Rattle.grid_points.proofs.Accepted.{accepted}
-use Rattle.grid.specs.Build.{lent}
-use Rattle.grid_points.specs.Grid.{Point, points}
+use Rattle.grid_points.specs.Grid.{Point, points, lent}
 use Rattle.grid_points.specs.Questions.{question5}
 use Rattle.place.specs.Path.{Answer as PathAnswer, answer, ended, spent, unknown}
 use Rattle.place.specs.Places.{Simplex}

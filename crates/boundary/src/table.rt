@@ -5,8 +5,7 @@ ghost use mathlib.Core.Path.{_≡_};
 ghost use Prim.Native.Nat.{ℕ, _+_, _≤_, _<_};
 ghost use lib.ListN.{length, take};
 ghost use Rattle.combinatorics.specs.Front.{front};
-ghost use Rattle.grid.specs.Build.{lent};
-ghost use Rattle.grid_points.specs.Grid.{Grid as GridOf};
+ghost use Rattle.grid_points.specs.Grid.{Grid as GridOf, lent};
 ghost use Rattle.grid.specs.Made.{IsMade, shape};
 ghost use Rattle.boundary_labels.specs.Boundary.{isInterior, boundaryLabel, boundaryTable};
 ghost use Rattle.points_in_order.specs.Shifted.{lastButOne, lastOne, endShifted};
@@ -84,7 +83,7 @@ fn more_alike(point: &[u16], left: usize) -> usize
 }
 
 // The point so many behind this one, where only the last two numbers change.
-fn shift(point: &mut [u16], by: usize)
+fn shift_end(point: &mut [u16], by: usize)
     requires { ⌜ (2 ≤ length (now point)) × (length (now point) ≤ 16) ⌝ }
     requires { ⌜ (by ≤ lastOne (now point)) × (lastButOne (now point) + by < 65536) ⌝ }
     ensures { λ _. ⌜ now (point .exit) ≡ endShifted (now (point .entry)) by ⌝ }
@@ -121,8 +120,8 @@ fn write_from(
         labels[k] = found_or(found, old[k]);
         let more = more_alike(point, old.len() - k - 1);
         fill(old, labels, k + 1, k + 1 + more, found);
-        shift(point, more);
-        points_in_order::advance(sizes, firsts, point);
+        shift_end(point, more);
+        points_in_order::next_point(sizes, firsts, point);
         k += 1 + more;
     }
 }

@@ -1,7 +1,7 @@
 -- Request 12 worked out: small tables, old and new. Assumes nothing.
 use mathlib.Core.List.{List, [], _∷_}
 use Prim.Native.Nat.{ℕ}
-use Rattle.grid_points.specs.Grid.{Grid}
+use Rattle.grid_points.specs.Grid.{Grid, lent}
 
 pub record Row : Type 0 where
   pub grid : Grid
@@ -9,7 +9,7 @@ pub record Row : Type 0 where
   pub new : List ℕ
 
 abbrev pub row : List ℕ → List ℕ → List ℕ → List ℕ → Row
-row sizes divisions old new = record { grid = record { sizes = sizes; divisions = divisions }; old = old; new = new }
+row sizes divisions old new = record { grid = lent sizes divisions; old = old; new = new }
 
 abbrev pub table : List Row
 table =

@@ -1,7 +1,7 @@
 // The checker of end simplices from other programs: the customer's call.
 ghost use mathlib.Core.Path.{_≡_};
 ghost use Prim.Native.Nat.{_≤_};
-ghost use Rattle.grid.specs.Build.{lent};
+ghost use Rattle.grid_points.specs.Grid.{lent};
 ghost use Rattle.grid.specs.Made.{shape};
 ghost use Rattle.simplices.specs.Simplices.{verdict};
 ghost use Rattle.chains.specs.Listed.{listed, Listed};

@@ -8,13 +8,12 @@ use lib.Seq.{take-all}
 use native.Mathlib.Omega.{arith}
 use Rattle.combinatorics.specs.Lists.{upFrom}
 use Rattle.grid_points.proofs.Accepted.{Accepted, accepted}
-use Rattle.grid_points.specs.Grid.{Grid, Point, numIndices, size, firstIndex}
+use Rattle.grid_points.specs.Grid.{Grid, Point, numIndices, size, firstIndex, lent}
 use Rattle.corners.proofs.CornerLosses.{last-ends, own-part, corner-point, difference-column}
 use Rattle.corners.proofs.FirstLargest.{largest-agree}
 use Rattle.points_in_order.proofs.Blocks.{point-length, block-length}
 use Rattle.corners.specs.Corners.{column, RowsToAdd, lastPlayer, corner, cornerGrid, Cornered}
 use Rattle.losses.specs.Game.{mix, difference, firstLargest, gameLabel}
-use Rattle.grid.specs.Build.{lent}
 use Rattle.points_in_order.specs.Lent.{PointWithFirsts}
 
 module _ (g : Grid) (firsts losses ones : List ℕ) (e : ones ≡ set (g .divisions) (lastPlayer g) 1) (y : Point)

@@ -8,12 +8,11 @@ use Prim.Native.Nat.{ℕ, suc, _+_, _-_, _*_, _≤_, _<_}
 use lib.Dec.{eqb}
 use lib.IntN.{ℤ, pos, natAbs, _+ℤ_, _*ℤ_}
 use lib.ListN.{length, getD, take, set, replicate}
-use Rattle.grid_points.specs.Grid.{Grid, Point, at, numBlocks, numIndices, size, firstIndex}
+use Rattle.grid_points.specs.Grid.{Grid, Point, at, numBlocks, numIndices, size, firstIndex, lent}
 use Rattle.weighed_losses.specs.Levels.{place, StandTo, Owners}
 use Rattle.losses.specs.Game.{difference}
 use Rattle.losses.specs.Table.{IsTable}
 use Rattle.points_in_order.specs.Lent.{PointWithFirsts}
-use Rattle.grid.specs.Build.{lent}
 
 -- the sum of the integers f 0, f 1, .. weighed by a mix
 abbrev pub blendℤ : List ℕ → (ℕ → ℤ) → ℤ

@@ -8,7 +8,7 @@ ghost use Rattle.grid_points.specs.Grid.{at};
 ghost use Rattle.corners.specs.Corners.{signedAt};
 ghost use Rattle.losses.specs.Game.{firstLargest};
 
-fn difference(expected: u32, replaced: u32) -> i64
+fn signed_difference(expected: u32, replaced: u32) -> i64
     ensures { λ r. ⌜ (r ≡ pos expected -ℤ pos replaced) × (natAbs r < 4294967296) ⌝ }
 {
     (expected as i64) - (replaced as i64)
@@ -22,7 +22,7 @@ pub fn put_differences(differences: &mut [i64], expected: &[u32; 16], replaced: 
 {
     let mut h: usize = 0;
     while h < 16 {
-        let d = difference(expected[h], replaced[h]);
+        let d = signed_difference(expected[h], replaced[h]);
         differences[h] = d;
         h += 1;
     }

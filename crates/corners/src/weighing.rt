@@ -5,7 +5,7 @@ ghost use Prim.Native.Nat.{ℕ, _+_, _≤_, _<_};
 ghost use lib.ListN.{length, take, set, replicate};
 ghost use Rattle.combinatorics.specs.Front.{front};
 ghost use Rattle.corners.specs.Corners.{lastPlayer, numCorners, Cornered, CornersToWeigh};
-ghost use Rattle.grid.specs.Build.{lent};
+ghost use Rattle.grid_points.specs.Grid.{lent};
 ghost use Rattle.weighed_losses.specs.Levels.{StandTo};
 use crate::largest;
 use crate::picking::pick;

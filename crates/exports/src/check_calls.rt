@@ -1,6 +1,6 @@
 // The checker for programs in C and Rust.
 ghost use mathlib.Core.Path.{_≡_};
-ghost use Rattle.grid.specs.Build.{lent};
+ghost use Rattle.grid_points.specs.Grid.{lent};
 ghost use Rattle.checker.specs.Check.{checkAnswer};
 ghost use Rattle.exports.specs.Check.{checkNumber};
 use checker::Answer;

@@ -3,7 +3,7 @@ ghost use mathlib.Core.Path.{_≡_};
 ghost use Prim.Native.Nat.{_≤_};
 ghost use lib.ListN.{length};
 ghost use Rattle.combinatorics.specs.Front.{front};
-ghost use Rattle.grid.specs.Build.{lent};
+ghost use Rattle.grid_points.specs.Grid.{lent};
 ghost use Rattle.refinement.specs.Answer.{answerLeft, labelsLeft, lentGame, refineAnswer};
 ghost use Rattle.exports.specs.Refine.{levelFacts, refinedFacts};
 use end_kinds::kind_number;

@@ -5,11 +5,10 @@ use Prim.Native.Nat.{ℕ}
 use lib.Dec.{eqb}
 use lib.ListN.{length}
 use Rattle.combinatorics.specs.Front.{front}
-use Rattle.grid_points.specs.Grid.{Grid, numPoints}
+use Rattle.grid_points.specs.Grid.{Grid, numPoints, lent}
 use Rattle.questions.specs.Questions.{Question, ask, firstNo}
 use Rattle.grid_points.specs.Questions.{gridQuestions}
 use Rattle.losses.specs.Game.{labels}
-use Rattle.grid.specs.Build.{lent}
 use Rattle.losses.specs.Table.{question10, question11}
 use Rattle.games.specs.declared.Labelled.{Labelled}
 use Rattle.games.specs.declared.Labelled.the-variants.{Refused, Written}

@@ -8,8 +8,7 @@ ghost use Rattle.combinatorics.specs.Front.{front};
 ghost use Rattle.combinatorics.specs.Lists.{sum};
 ghost use Rattle.corners.specs.Corners.{numCorners, Cornered};
 ghost use Rattle.games.specs.Points.{ChangeToWeigh, PointsToLabel};
-ghost use Rattle.grid.specs.Build.{lent};
-ghost use Rattle.grid_points.specs.Grid.{numPoints};
+ghost use Rattle.grid_points.specs.Grid.{numPoints, lent};
 ghost use Rattle.weighed_losses.specs.Levels.{Owners, StandTo};
 ghost use Rattle.losses.specs.Game.{labels};
 ghost use Rattle.losses.specs.Table.{IsTable};
@@ -18,7 +17,7 @@ use corners::label_point;
 use corners::weigh_corners;
 use grid::wide;
 use losses::num_profiles;
-use points_in_order::advance;
+use points_in_order::next_point;
 use weighed_losses::load_losses;
 use weighed_losses::rests;
 use weighed_losses::weigh_levels;
@@ -106,7 +105,7 @@ fn label_points(
         );
         let label = label_point(&point[from..], indices, differences);
         buffer[k] = label;
-        first = advance(sizes, firsts, point);
+        first = next_point(sizes, firsts, point);
         changed = first < last;
         k += 1;
     }

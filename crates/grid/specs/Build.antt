@@ -10,10 +10,6 @@ use Rattle.combinatorics.specs.Front.{padded}
 use Rattle.grid.specs.Made.{gridOf}
 use Rattle.grid_points.specs.Questions.{gridQuestions}
 
--- the sizes and divisions lent to the constructor
-abbrev pub lent : List ℕ → List ℕ → Grid
-lent sizes divisions = record { sizes = sizes; divisions = divisions }
-
 -- the arrays about the blocks before they are filled,
 pub record BlocksUnmarked (sizes divisions firsts counts : List ℕ) : Type 0 where
   pub sizesZero : sizes ≡ replicate 6 0

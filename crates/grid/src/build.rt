@@ -5,15 +5,8 @@ ghost use Prim.Native.Nat.{_≤_, _<_};
 ghost use lib.ListN.{length};
 ghost use Rattle.combinatorics.specs.Lists.{sum};
 ghost use Rattle.questions.specs.Questions.{firstNo};
-ghost use Rattle.grid.specs.Build.{
-  lent,
-  BlocksUnmarked,
-  BlocksMarked,
-  BlocksCounted,
-  IndicesUnmarked,
-  IndicesMarked,
-};
-ghost use Rattle.grid_points.specs.Grid.{Grid as Shape, blockIn, numPoints};
+ghost use Rattle.grid.specs.Build.{BlocksUnmarked, BlocksMarked, BlocksCounted, IndicesUnmarked, IndicesMarked};
+ghost use Rattle.grid_points.specs.Grid.{Grid as Shape, blockIn, lent, numPoints};
 ghost use Rattle.grid.specs.Made.{gridOf};
 ghost use Rattle.grid_points.specs.Questions.{gridQuestions};
 use crate::Grid;

@@ -2,8 +2,7 @@
 ghost use mathlib.Core.Bool.{true};
 ghost use mathlib.Core.Path.{_≡_};
 ghost use Prim.Native.Nat.{_<_};
-ghost use Rattle.grid.specs.Build.{lent};
-ghost use Rattle.grid_points.specs.Grid.{bound, isGridPoint, blockOf};
+ghost use Rattle.grid_points.specs.Grid.{bound, isGridPoint, blockOf, lent};
 ghost use Rattle.grid.specs.Made.{madeOf, noGrid, shape, IsMade};
 
 mod build;

@@ -18,7 +18,7 @@ fn cap(n: usize) -> usize
 }
 
 // The binomials of r + 1 from those of r.
-fn raise(row: &mut [usize; 16], last: usize)
+fn next_row(row: &mut [usize; 16], last: usize)
     requires { ⌜ (last < 16) × (length (now row) ≡ 16)
         × ((k : ℕ) → k ≤ last → getD (now row) k 0 ≤ 60001) ⌝ }
     ensures { λ _. ⌜ (length (now (row .exit)) ≡ 16)
@@ -46,7 +46,7 @@ pub fn block_count(size: usize, division: usize) -> usize
         if MAX_POINTS < row[last] {
             return MAX_POINTS + 1;
         }
-        raise(&mut row, last);
+        next_row(&mut row, last);
         r += 1;
     }
     row[last]

@@ -11,18 +11,15 @@ use native.Mathlib.Omega.{arith}
 use Rattle.combinatorics.proofs.Basics.{before-or-not, both}
 use Rattle.combinatorics.specs.Lists.{sum}
 use Rattle.grid_points.proofs.Points.{block}
-use Rattle.grid_points.specs.Grid.{Grid, numBlocks, numIndices, firstIndex, size, blockIn, next, previous}
+use Rattle.grid_points.specs.Grid.{Grid, blockIn, firstIndex, lent, next, numBlocks, numIndices, previous, size}
 
 -- next round the block, by the list of sizes
-abbrev pub sized : List ℕ → List ℕ → Grid
-sized ss ds = record { sizes = ss; divisions = ds }
-
 pub next-first : (s : ℕ) (ss ds : List ℕ) (h : ℕ) → h < s
-    → next (sized (s ∷ ss) ds) h ≡ cond (eqb (suc h) (0 + s)) 0 (suc h)
+    → next (lent (s ∷ ss) ds) h ≡ cond (eqb (suc h) (0 + s)) 0 (suc h)
 unfolding next
 next-first s ss ds h c = rw (lt-ltb h s c)
 
-pub next-later : (s : ℕ) (ss ds es : List ℕ) (k : ℕ) → next (sized (s ∷ ss) ds) (s + k) ≡ s + next (sized ss es) k
+pub next-later : (s : ℕ) (ss ds es : List ℕ) (k : ℕ) → next (lent (s ∷ ss) ds) (s + k) ≡ s + next (lent ss es) k
 unfolding next
 next-later s ss ds es k =
     let z : s + k - s ≡ k = omega arith in

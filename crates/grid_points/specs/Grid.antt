@@ -13,6 +13,10 @@ pub record Grid : Type 0 where
   pub sizes : List ℕ
   pub divisions : List ℕ
 
+-- the grid with the sizes and divisions that a call is lent
+abbrev pub lent : List ℕ → List ℕ → Grid
+lent sizes divisions = record { sizes = sizes; divisions = divisions }
+
 -- N
 abbrev pub numBlocks : Grid → ℕ
 numBlocks g = length (g .sizes)

@@ -3,7 +3,7 @@
 use mathlib.Core.List.{List, [], _∷_}
 use Prim.Native.Nat.{ℕ}
 use Rattle.questions.specs.Questions.{firstNo}
-use Rattle.grid_points.specs.Grid.{Grid, bound, numPoints}
+use Rattle.grid_points.specs.Grid.{Grid, bound, lent, numPoints}
 use Rattle.grid_points.specs.Questions.{gridQuestions}
 
 -- the number that refuses the grid, or 0; P; the bound
@@ -12,7 +12,7 @@ pub record Row : Type 0 where
   pub numbers : List ℕ
 
 abbrev pub row : List ℕ → List ℕ → List ℕ → Row
-row sizes divisions numbers = record { grid = record { sizes = sizes; divisions = divisions }; numbers = numbers }
+row sizes divisions numbers = record { grid = lent sizes divisions; numbers = numbers }
 
 abbrev pub given : Row → List ℕ
 given r = firstNo (gridQuestions (r .grid)) ∷ numPoints (r .grid) ∷ bound (r .grid) ∷ []

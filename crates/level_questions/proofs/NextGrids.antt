@@ -11,8 +11,7 @@ use Rattle.combinatorics.proofs.Basics.{absurd-bool}
 use Rattle.combinatorics.proofs.Fronts.{front-copy, front-length, front-taken, front-whole}
 use Rattle.combinatorics.specs.Front.{front}
 use Rattle.grid.proofs.Fields.{blocks-range, made-accepted, made-blocks}
-use Rattle.grid.specs.Build.{lent}
-use Rattle.grid_points.specs.Grid.{Grid}
+use Rattle.grid_points.specs.Grid.{Grid, lent}
 use Rattle.grid.specs.Made.{IsMade, madeOf, noGrid, shape}
 use Rattle.grid.specs.declared.Grid.{Grid as GridStruct}
 use Rattle.grid.specs.declared.Made.{Made}

@@ -2,7 +2,7 @@
 ghost use mathlib.Core.Bool.{true, false};
 ghost use mathlib.Core.Path.{_≡_};
 ghost use Prim.Native.Nat.{_≤_, _<_};
-ghost use Rattle.grid.specs.Build.{lent};
+ghost use Rattle.grid_points.specs.Grid.{lent};
 ghost use Rattle.grid.specs.Made.{IsMade, madeOf, shape};
 ghost use Rattle.levels.specs.Levels.{finer};
 ghost use Rattle.level_questions.specs.Grids.{AreMade, AreNext};

@@ -11,7 +11,7 @@ pub use later::first_no;
 pub use later::room_of;
 
 // Question 18: is k from 2 to 10 and the number of levels from 1 to 8?
-pub fn in_range(factor: usize, levels: usize) -> bool
+pub fn levels_in_range(factor: usize, levels: usize) -> bool
     ensures { λ r. ⌜ r ≡ question18 factor levels .answeredYes ⌝ }
 {
     if factor < 2 {

@@ -4,13 +4,13 @@ ghost use Prim.Native.Nat.{_+_, _*_, _≤_};
 ghost use lib.ListN.{length};
 ghost use Rattle.little_endian.specs.Numbers.{number, words};
 
-fn wide16(x: u8) -> u16
+fn u16_of(x: u8) -> u16
     ensures { λ r. ⌜ (r ≡ x) × (r ≤ 255) ⌝ }
 {
     x as u16
 }
 
-fn wide64(x: u16) -> u64
+fn u64_of(x: u16) -> u64
     ensures { λ r. ⌜ (r ≡ x) × (r ≤ 65535) ⌝ }
 {
     x as u64
@@ -21,7 +21,7 @@ fn word(bytes: &[u8], at: usize) -> u16
     requires { ⌜ at + 2 ≤ length (now bytes) ⌝ }
     ensures { λ r. ⌜ r ≡ number 2 (now (bytes .entry)) at ⌝ }
 {
-    wide16(bytes[at]) + 256 * wide16(bytes[at + 1])
+    u16_of(bytes[at]) + 256 * u16_of(bytes[at + 1])
 }
 
 // The 64-bit number at a position.
@@ -29,10 +29,10 @@ pub fn number64(bytes: &[u8], at: usize) -> u64
     requires { ⌜ at + 8 ≤ length (now bytes) ⌝ }
     ensures { λ r. ⌜ r ≡ number 8 (now (bytes .entry)) at ⌝ }
 {
-    let a = wide64(word(bytes, at));
-    let b = wide64(word(bytes, at + 2));
-    let c = wide64(word(bytes, at + 4));
-    let d = wide64(word(bytes, at + 6));
+    let a = u64_of(word(bytes, at));
+    let b = u64_of(word(bytes, at + 2));
+    let c = u64_of(word(bytes, at + 4));
+    let d = u64_of(word(bytes, at + 6));
     a + 65536 * (b + 65536 * (c + 65536 * d))
 }
 

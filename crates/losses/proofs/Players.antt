@@ -16,11 +16,10 @@ use Rattle.combinatorics.proofs.Turns.{map-append}
 use Rattle.combinatorics.specs.Lists.{all, filter, sum, upFrom}
 use Rattle.grid_points.proofs.Accepted.{Accepted, points-are}
 use Rattle.grid_points.proofs.Round.{block-fits}
-use Rattle.grid_points.specs.Grid.{Grid, at}
+use Rattle.grid_points.specs.Grid.{Grid, at, lent}
 use Rattle.combinatorics.specs.Counting.{binomialProduct}
 use Rattle.points_in_order.proofs.Blocks.{at-part, division-below}
 use Rattle.losses.specs.Game.{product, mix}
-use Rattle.grid.specs.Build.{lent}
 
 -- all numbers but j
 abbrev others : ℕ → ℕ → List ℕ

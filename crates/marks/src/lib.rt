@@ -134,7 +134,7 @@ pub fn position_in(
     position_by_steps(g, binomials, previous, sizes, first, order, s)
 }
 
-fn byte(x: u8) -> u32
+fn u32_of(x: u8) -> u32
     ensures { λ r. ⌜ (r ≡ x) × (r ≤ 255) ⌝ }
 {
     x as u32
@@ -178,7 +178,7 @@ pub fn mark_in(
         marks,
         s,
     );
-    let label = byte(read_at(table, at));
+    let label = u32_of(read_at(table, at));
     if label == 0 {
         return Reading::Unknown(at);
     }

@@ -19,8 +19,9 @@ use Rattle.geometry.proofs.Places.{coefficients as same-coefficients}
 use Rattle.geometry.proofs.Points.{own-block, ring, point, next-beyond, point-on, at-point}
 use Rattle.geometry.proofs.BlocksOfSizes.{blocksOfSizes, next-wrap, next-inside, next-outside as nx-later}
 use Rattle.geometry.proofs.Sizes.{nextOf, blockNumber, distanceOf, upto, shift, SameSums}
-use Rattle.grid_points.proofs.Round.{sized, next-first, next-later, block-at, block-fits, seat, next-previous}
+use Rattle.grid_points.proofs.Round.{next-first, next-later, block-at, block-fits, seat, next-previous}
 use Rattle.grid_points.specs.Grid.{Point, at, numBlocks, numIndices, firstIndex, size, division, blocks, indicesOf}
+use Rattle.grid_points.specs.Grid.{lent}
 use Rattle.grid_points.specs.Grid.{blockIn}
 use Rattle.grid_points.specs.Grid.{blockOf, next, previous, isGridPoint}
 use Rattle.place.specs.Coefficients.{IsCoefficients, coefficients}
@@ -29,7 +30,7 @@ use Rattle.place.specs.Problem.{Problem}
 use Rattle.path_laws.proofs.Coefficients.{coefficients-are}
 use Rattle.path_laws.specs.Demand.{HasStart}
 
-next-is : (ss ds : List ℕ) (k : ℕ) → k < sum ss → nextOf ss k ≡ next (sized ss ds) k
+next-is : (ss ds : List ℕ) (k : ℕ) → k < sum ss → nextOf ss k ≡ next (lent ss ds) k
 next-is [] ds k l = absurd (omega arith)
 next-is (s ∷ ss) ds k l = ⊎-elim
     (λ (a : k < s). ⊎-elim
@@ -42,7 +43,7 @@ next-is (s ∷ ss) ds k l = ⊎-elim
     nx-later s ss k a
     ∙ ap (λ (i : ℕ). s + i) (next-is ss ds (k - s) (omega arith))
     ∙ sym (next-later s ss ds ds (k - s))
-    ∙ ap (next (sized (s ∷ ss) ds)) e)
+    ∙ ap (next (lent (s ∷ ss) ds)) e)
     (before-or-not k s)
 
 block-is : (ss : List ℕ) (k : ℕ) → k < sum ss → blockNumber ss k ≡ blockIn ss k

@@ -13,8 +13,8 @@ use native.Mathlib.Omega.{arith}
 use Rattle.combinatorics.proofs.Basics.{absurd-bool, before-or-not, and-left, and-right}
 use Rattle.combinatorics.specs.Lists.{all, sum}
 use Rattle.grid_points.proofs.Points.{Fits, none, block, fits-of}
-use Rattle.grid_points.proofs.Round.{sized, next-first, next-later, find-block, block-fits, next-at}
-use Rattle.grid_points.specs.Grid.{Grid, Point, at, numBlocks, numIndices, firstIndex, size, division, next}
+use Rattle.grid_points.proofs.Round.{next-first, next-later, find-block, block-fits, next-at}
+use Rattle.grid_points.specs.Grid.{Grid, Point, at, numBlocks, numIndices, firstIndex, size, division, next, lent}
 use Rattle.grid_points.specs.Grid.{isGridPoint}
 use Rattle.place.specs.Coefficients.{IsCoefficients, runOn, least, blockCoefficients, productCoefficients}
 use Rattle.place.specs.Coefficients.{coefficients}
@@ -201,7 +201,7 @@ product-length (s ∷ ss) (d ∷ ds) fv fy =
     (omega (arith, block-length d a.front b.front e a.total b.total, product-length ss ds a.fits b.fits, a .long))
 
 product-rule : (ss ds : List ℕ) {v y : List ℕ} (es : List ℕ) → Fits ss ds v → Fits ss ds y → (h : ℕ) → h < sum ss
-    → at y h + at (productCoefficients ss ds v y) (next (sized ss es) h) ≡ at v h + at (productCoefficients ss ds v y) h
+    → at y h + at (productCoefficients ss ds v y) (next (lent ss es) h) ≡ at v h + at (productCoefficients ss ds v y) h
 product-rule [] ds es fv fy h c = absurd (omega arith)
 product-rule (s ∷ ss) [] es fv fy h c = absurd (no-division fv)
 product-rule (s ∷ ss) (d ∷ ds) {v} {y} es fv fy h c =
@@ -240,7 +240,7 @@ product-rule (s ∷ ss) (d ∷ ds) {v} {y} es fv fy h c =
     lc : length cb ≡ s
     lc = block-length d av bv e a.total b.total ∙ a .long
 
-    here : h < s → at (bv ++ bl) h + at (cb ++ cl) (next (sized (s ∷ ss) es) h) ≡ at (av ++ al) h + at (cb ++ cl) h
+    here : h < s → at (bv ++ bl) h + at (cb ++ cl) (next (lent (s ∷ ss) es) h) ≡ at (av ++ al) h + at (cb ++ cl) h
     here l =
         let n : ℕ = cond (eqb (suc h) (0 + s)) 0 (suc h) in
         let nl : n < s = go (eqb (suc h) (0 + s)) refl in
@@ -261,15 +261,15 @@ product-rule (s ∷ ss) (d ∷ ds) {v} {y} es fv fy h c =
     shift : (x z : List ℕ) → length x ≡ s → (k : ℕ) → at (x ++ z) (s + k) ≡ at z k
     shift x z q k = rw (← q) (getD-append-add x z k 0)
 
-    later : (k : ℕ) → h ≡ s + k → at bl k + at cl (next (sized ss es) k) ≡ at al k + at cl k
-        → at (bv ++ bl) h + at (cb ++ cl) (next (sized (s ∷ ss) es) h) ≡ at (av ++ al) h + at (cb ++ cl) h
+    later : (k : ℕ) → h ≡ s + k → at bl k + at cl (next (lent ss es) k) ≡ at al k + at cl k
+        → at (bv ++ bl) h + at (cb ++ cl) (next (lent (s ∷ ss) es) h) ≡ at (av ++ al) h + at (cb ++ cl) h
     later k q r = rw (
       q,
       next-later s ss es es k,
       shift bv bl b.long k,
       shift av al a.long k,
       shift cb cl lc k,
-      shift cb cl lc (next (sized ss es) k),
+      shift cb cl lc (next (lent ss es) k),
     ) r
 
 product-zero : (ss ds : List ℕ) {v y : List ℕ} → all (λ s. leb 2 s) ss ≡ true → Fits ss ds v → Fits ss ds y → (j : ℕ)

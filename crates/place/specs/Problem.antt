@@ -4,7 +4,7 @@ use mathlib.Core.List.{List}
 use Prim.Native.Nat.{ℕ}
 use lib.Dec.{leb}
 use lib.ListN.{getD}
-use Rattle.grid_points.specs.Grid.{Grid, Point, position, numIndices}
+use Rattle.grid_points.specs.Grid.{Grid, Point, lent, position, numIndices}
 
 -- What a run is about: a grid, "v is the start", and "The label table"
 pub record Problem : Type 0 where
@@ -14,7 +14,7 @@ pub record Problem : Type 0 where
 
 abbrev pub problemOf : List ℕ → List ℕ → Point → List ℕ → Problem
 problemOf sizes divisions start labels = record {
-  grid = record { sizes = sizes; divisions = divisions };
+  grid = lent sizes divisions;
   start = start;
   labels = labels;
 }

@@ -18,9 +18,8 @@ use Rattle.combinatorics.specs.Front.{front}
 use Rattle.combinatorics.specs.Lists.{all, concatMap, sum, upFrom}
 use Rattle.grid_points.proofs.Accepted.{Accepted, accepted, size-two}
 use Rattle.grid_points.proofs.Round.{block-fits}
-use Rattle.grid_points.specs.Grid.{Grid, Point, blockPoints, productPoints, points, numBlocks, numPoints}
+use Rattle.grid_points.specs.Grid.{Grid, Point, blockPoints, productPoints, points, numBlocks, numPoints, lent}
 use Rattle.points_in_order.proofs.Blocks.{ofBlock, block-part, block-sum, block-length, division-few}
-use Rattle.grid.specs.Build.{lent}
 use Rattle.points_in_order.specs.Lent.{PointWithFirsts}
 use Rattle.points_in_order.specs.PointAfter.{Step, pointStep, after, afterAll, firstPoint, LastPositive}
 

@@ -5,7 +5,7 @@ ghost use Prim.Native.Nat.{ℕ, _<_};
 ghost use lib.ListN.{length, replicate};
 ghost use Rattle.combinatorics.specs.Front.{front};
 ghost use Rattle.combinatorics.specs.Lists.{sum};
-ghost use Rattle.grid.specs.Build.{lent};
+ghost use Rattle.grid_points.specs.Grid.{lent};
 ghost use Rattle.points_in_order.specs.Lent.{WithFirsts, PointWithFirsts};
 ghost use Rattle.points_in_order.specs.PointAfter.{pointStep, after, afterAll, beforeBlock, firstPoint};
 ghost use Rattle.points_in_order.specs.PointAfter.{LastPositive};
@@ -46,7 +46,7 @@ fn advance_block(block: &mut [u16]) -> bool
 
 // The grid point becomes the one after it. The last becomes the first. The blocks before the one answered keep their
 // coordinates.
-pub fn advance(sizes: &[u8], firsts: &[u8; 6], point: &mut [u16]) -> usize
+pub fn next_point(sizes: &[u8], firsts: &[u8; 6], point: &mut [u16]) -> usize
     requires { ⌜ ((ds : List ℕ) × PointWithFirsts (lent (now sizes) ds) (now firsts) (now point)) ⌝ }
     ensures { λ _. ⌜ now (point .exit) ≡ afterAll (now (sizes .entry)) (now (point .entry)) .list ⌝ }
     ensures { λ r. ⌜ (r < length (now (sizes .entry)))

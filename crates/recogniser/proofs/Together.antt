@@ -39,13 +39,14 @@ use Rattle.recogniser.proofs.Following.{settled-on}
 use Rattle.recogniser.specs.Kept.{CanRecognise, Recognised, Seen}
 use Rattle.recogniser.specs.Pieces.{AllFree, AreTandU, CanMark, Marked, NoSets, NotFree, bareMark, beyond}
 use Rattle.recogniser.specs.Pieces.{filled, inNeither, positive, startedOn, twice}
-use Rattle.recogniser.specs.declared.Sets.{Sets}
+use Rattle.recogniser.specs.declared.FoundSets.{FoundSets}
 
 pub is-not : (b : Bool) → not b ≡ false → b ≡ true
 is-not true e = refl
 is-not false e = sym e
 
-pub not-recognised : {p : Problem} {marking : Point → ℕ} {y : Point} {o list marks : List ℕ} {r : Sets} → r .is ≡ false
+pub not-recognised : {p : Problem} {marking : Point → ℕ} {y : Point} {o list marks : List ℕ} {r : FoundSets} → r .is
+    ≡ false
     → isKept p y o ≡ false
     → Recognised p marking y o list marks r
 not-recognised e h = record { yes = λ t. absurd-bool (sym t ∙ e); no = λ _. h }
@@ -231,7 +232,7 @@ module _ (g : GridStruct) (binomials start previous sizes first order : List ℕ
 
 -- whatever the label table
 pub with-table : (g : GridStruct) (start labels : List ℕ) {marking : Point → ℕ} {y : Point} {o list marks : List ℕ}
-    {r : Sets}
+    {r : FoundSets}
     → Recognised (startedOn g start) marking y o list marks r → Recognised (withLabels (startedOn g start) labels)
     marking y o list marks r
 unfolding isKept coefficients

@@ -15,7 +15,7 @@ use Rattle.positions.specs.Binomials.{Measured}
 use Rattle.rules.specs.Mask.{bit}
 use Rattle.rules.specs.Ready.{IndicesBelow}
 use Rattle.walks.specs.Kept.{isKept, keptPoints, zeroOutside}
-use Rattle.recogniser.specs.declared.Sets.{Sets}
+use Rattle.recogniser.specs.declared.FoundSets.{FoundSets}
 
 pub record CanRecognise (g : GridStruct) (binomials start previous sizes first order : List ℕ) (n : ℕ) (marks : List ℕ)
     : Type 0 where
@@ -42,6 +42,7 @@ pub record Seen (p : Problem) (marking : Point → ℕ) (y : Point) (o list mark
   pub marked : (j : ℕ) → j ≤ length o → at marks j ≡ marking (getD (keptPoints (p .grid) y o) j [])
 
 -- exactly where the conditions are met
-pub record Recognised (p : Problem) (marking : Point → ℕ) (y : Point) (o list marks : List ℕ) (r : Sets) : Type 0 where
+pub record Recognised (p : Problem) (marking : Point → ℕ) (y : Point) (o list marks : List ℕ) (r : FoundSets) : Type
+    0 where
   pub yes : r .is ≡ true → Seen p marking y o list marks (r .t) (r .u)
   pub no : r .is ≡ false → isKept p y o ≡ false

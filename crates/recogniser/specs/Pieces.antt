@@ -14,7 +14,7 @@ use Rattle.positions.specs.Steps.{afterSteps, CanTakeSteps}
 use Rattle.rules.specs.Mask.{bit}
 use Rattle.rules.specs.Step.{mark, markPosition}
 use Rattle.walks.specs.Kept.{canStep, keptPoints, zeroOutside}
-use Rattle.recogniser.specs.declared.Sets.{Sets}
+use Rattle.recogniser.specs.declared.FoundSets.{FoundSets}
 
 -- the grid and a start, no label being looked at
 abbrev pub startedOn : GridStruct → List ℕ → Problem
@@ -33,7 +33,7 @@ pub data NoSets (order : List ℕ) (n m : ℕ) : Type 0 where
   beyond : (j : ℕ) → j < n → m ≤ at order j → NoSets order n m
   twice : (i j : ℕ) → i < j → j < n → at order i ≡ at order j → NoSets order n m
 
-pub record SetsOf (order : List ℕ) (n m zeros : ℕ) (r : Sets) : Type 0 where
+pub record SetsOf (order : List ℕ) (n m zeros : ℕ) (r : FoundSets) : Type 0 where
   pub yes : r .is ≡ true → AreTandU order n m zeros (r .t) (r .u)
   pub no : r .is ≡ false → NoSets order n m
 

@@ -6,7 +6,7 @@ ghost use lib.Dec.{eqb};
 ghost use lib.ListN.{length};
 ghost use Rattle.grid.specs.Made.{IsMade};
 ghost use Rattle.recogniser.specs.Pieces.{SetsOf, IsFree};
-use crate::Sets;
+use crate::FoundSets;
 use arrays::add;
 use arrays::has;
 use arrays::in_neither;
@@ -17,7 +17,7 @@ use grid::wide;
 
 // T has the first n indices of the order, where these are below m and all different; U has what T leaves of the set
 // `zeros`.
-pub fn sets_of(order: &[u32; 16], n: usize, m: usize, zeros: u16) -> Sets
+pub fn sets_of(order: &[u32; 16], n: usize, m: usize, zeros: u16) -> FoundSets
     requires { ⌜ (n ≤ 16) × (m ≤ 16) × (length (now order) ≡ 16) ⌝ }
     ensures { λ r. ⌜ SetsOf (now (order .entry)) n m zeros r ⌝ }
 {
@@ -27,16 +27,16 @@ pub fn sets_of(order: &[u32; 16], n: usize, m: usize, zeros: u16) -> Sets
     while k < n {
         let h = wide32(order[k]);
         if m <= h {
-            return Sets { is: false, t, u };
+            return FoundSets { is: false, t, u };
         }
         if has(t, h) {
-            return Sets { is: false, t, u };
+            return FoundSets { is: false, t, u };
         }
         t = add(t, h);
         u = without(u, h);
         k += 1;
     }
-    Sets { is: true, t, u }
+    FoundSets { is: true, t, u }
 }
 
 // An index of block b in neither set is met, the first `met` blocks having one: how many of the first have one now.

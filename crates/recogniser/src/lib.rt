@@ -22,17 +22,17 @@ pub use points::read_labels;
 use positions::ENTRIES;
 
 // T and U as masks, where there are such sets.
-pub struct Sets {
+pub struct FoundSets {
     pub is: bool,
     pub t: u16,
     pub u: u16,
 }
 
 // Nothing is kept: what stands beside a no.
-fn nothing() -> Sets
+fn nothing() -> FoundSets
     ensures { λ r. ⌜ r .is ≡ false ⌝ }
 {
-    Sets {
+    FoundSets {
         is: false,
         t: 0,
         u: 0,
@@ -52,7 +52,7 @@ pub fn recognise(
     n: usize,
     list: &mut [u16; 16],
     marks: &mut [u32; 16],
-) -> Sets
+) -> FoundSets
     requires { ⌜ CanRecognise g (now binomials) (now start) (now previous) (now sizes) (now first) (now order) n
         (now marks) ⌝ }
     ensures { λ r. ⌜ Recognised (startedOn g (now (start .entry))) (bareMark (shape g))

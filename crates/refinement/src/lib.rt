@@ -1,12 +1,12 @@
 // Refinement runs: a game is solved on finer and finer grids, each run beginning where the one before ended. Levels and
 // blocks count from 0 here, and blocks from 1 in what is answered.
 ghost use mathlib.Core.Path.{_≡_};
-ghost use Rattle.grid.specs.Build.{lent};
+ghost use Rattle.grid_points.specs.Grid.{lent};
 ghost use Rattle.refinement.specs.Answer.{answerLeft, labelsLeft, lentGame, noLevel, refineAnswer};
 ghost use Rattle.refinement.specs.Answer.{refused as refusedOf};
 use end_kinds::Kind;
 use level_questions::first_no;
-use level_questions::in_range;
+use level_questions::levels_in_range;
 use level_questions::made_levels;
 
 mod runs;
@@ -78,7 +78,7 @@ pub fn refine(
         (now (start .entry)) (now (losses .entry)) factor in
         now (answer .exit) ≡ answerLeft game levels (now (labels .entry)) (now (answer .entry))) ⌝ }
 {
-    if !in_range(factor, levels) {
+    if !levels_in_range(factor, levels) {
         return refused(18);
     }
     let made = made_levels(sizes, divisions, factor, levels);

@@ -3,7 +3,7 @@ use rounding::centre;
 use text::byte;
 use text::spaced;
 use text::text;
-use text::wide;
+use text::u64_of;
 ghost use mathlib.Core.Path.{_≡_};
 ghost use Prim.Native.Nat.{_*_, _≤_, _<_};
 ghost use lib.ListN.{length};
@@ -12,7 +12,7 @@ ghost use Rattle.text.specs.Part.{Part};
 ghost use Rattle.sheet_lines.specs.Sheet.{centreLine, total as totalOf};
 
 // The coordinate sum of the vertices at the index h.
-fn total(count: usize, vertices: &[u16], m: usize, h: usize) -> u64
+fn coordinate_sum(count: usize, vertices: &[u16], m: usize, h: usize) -> u64
     requires { ⌜ (h < m) × (m ≤ 16) ⌝ }
     requires { ⌜ (count ≤ 16) × (count * m ≤ length (now vertices)) ⌝ }
     ensures { λ r. ⌜ (r ≡ totalOf (rows count m (now (vertices .entry))) h) × (r ≤ 65535 * count) ⌝ }
@@ -20,7 +20,7 @@ fn total(count: usize, vertices: &[u16], m: usize, h: usize) -> u64
     let mut sum: u64 = 0;
     let mut k: usize = 0;
     while k < count {
-        sum += wide(vertices[k * m + h]);
+        sum += u64_of(vertices[k * m + h]);
         k += 1;
     }
     sum
@@ -42,7 +42,7 @@ pub fn centre_line(
     let mut next = text(out, at, b"centre");
     let mut h: usize = 0;
     while h < m {
-        let sum = total(count, vertices, m, h);
+        let sum = coordinate_sum(count, vertices, m, h);
         let division = divisions[h];
         next = spaced(out, next, centre(sum, count, division));
         h += 1;

@@ -4,7 +4,7 @@
 use text::byte;
 use text::decimal;
 use text::spaced;
-use text::wide;
+use text::u64_of;
 ghost use mathlib.Core.List.{flatMap};
 ghost use Prim.Native.Nat.{_+_, _*_, _≤_, _<_};
 ghost use lib.ListN.{length};
@@ -22,7 +22,7 @@ fn all_spaced(out: &mut [u8; 4096], at: usize, row: &[u16]) -> usize
     let mut next = at;
     let mut i: usize = 0;
     while i < row.len() {
-        next = spaced(out, next, wide(row[i]));
+        next = spaced(out, next, u64_of(row[i]));
         i += 1;
     }
     next
@@ -33,7 +33,7 @@ fn vertex_line(out: &mut [u8; 4096], at: usize, row: &[u16]) -> usize
     requires { ⌜ (at ≤ 3500) × (1 ≤ length (now row)) × (length (now row) ≤ 16) ⌝ }
     ensures { λ r. ⌜ Part (vertexLine (now (row .entry))) (now (out .entry)) (now (out .exit)) at r × (r ≤ at + 117) ⌝ }
 {
-    let mut next = decimal(out, at, wide(row[0]));
+    let mut next = decimal(out, at, u64_of(row[0]));
     next = all_spaced(out, next, &row[1..]);
     byte(out, next, b'\n')
 }

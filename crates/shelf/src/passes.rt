@@ -3,7 +3,7 @@ ghost use mathlib.Core.Path.{_≡_};
 ghost use Prim.Native.Nat.{_≤_};
 ghost use Rattle.shelf.specs.Shelf.{isShelf, isReplaced, current, OnShelf};
 
-fn wide(x: u16) -> usize
+fn wide16(x: u16) -> usize
     ensures { λ r. ⌜ (r ≡ x) × (r ≤ 65535) ⌝ }
 {
     x as usize
@@ -23,7 +23,7 @@ pub fn is_shelf(list: &[u16], count: usize) -> bool
     let mut marks = [false; 1001];
     let mut k: usize = 0;
     while k < count {
-        let named = wide(list[k]);
+        let named = wide16(list[k]);
         if k < named {
             return false;
         }
@@ -45,7 +45,7 @@ pub fn is_replaced(list: &[u16], count: usize, sheet: usize) -> bool
 {
     let mut k: usize = 0;
     while k < count {
-        if wide(list[k]) == sheet {
+        if wide16(list[k]) == sheet {
             return true;
         }
         k += 1;
@@ -61,7 +61,7 @@ pub fn last_reached(list: &[u16], count: usize, sheet: usize) -> usize
     let mut reached = sheet;
     let mut k = sheet;
     while k < count {
-        if wide(list[k]) == reached {
+        if wide16(list[k]) == reached {
             reached = k + 1;
         }
         k += 1;

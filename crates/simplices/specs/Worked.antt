@@ -2,7 +2,7 @@
 use mathlib.Core.List.{List, [], _∷_}
 use mathlib.Core.Option.{Option, none, some}
 use Prim.Native.Nat.{ℕ}
-use Rattle.grid_points.specs.Grid.{Grid, Point}
+use Rattle.grid_points.specs.Grid.{Grid, Point, lent}
 
 pub record Row : Type 0 where
   pub grid : Grid
@@ -12,7 +12,7 @@ pub record Row : Type 0 where
 
 abbrev pub row : List ℕ → List ℕ → List ℕ → List Point → Option ℕ → Row
 row sizes divisions labels points answer =
-    record { grid = record { sizes = sizes; divisions = divisions }; labels = labels; points = points; answer = answer }
+    record { grid = lent sizes divisions; labels = labels; points = points; answer = answer }
 
 abbrev pub table : List Row
 table =

@@ -47,7 +47,7 @@ pub fn head(slip: &[u8]) -> Field
 }
 
 // Whether bit k of a slip's map stands.
-fn stands(slip: &[u8], k: u8) -> bool
+fn bit_stands(slip: &[u8], k: u8) -> bool
     requires { ⌜ (0 < length (now slip)) × (k < 5) ⌝ }
     ensures { λ r. ⌜ r ≡ standsIn (now (slip .entry)) k ⌝ }
 {
@@ -89,7 +89,7 @@ pub fn start(slip: &[u8], at: usize, grid: Grid) -> Start
     requires { ⌜ Asked (now slip) grid × (at ≡ fieldAt (now slip) 0) ⌝ }
     ensures { λ r. ⌜ r ≡ startOf (now (slip .entry)) ⌝ }
 {
-    if !stands(slip, 0) {
+    if !bit_stands(slip, 0) {
         let start = default_start(grid);
         return Start {
             field: Field::EndsAt(at),
@@ -116,7 +116,7 @@ pub fn budget(slip: &[u8], at: usize, grid: Grid) -> Budget
     requires { ⌜ Asked (now slip) grid × (at ≡ fieldAt (now slip) 1) × (at ≤ length (now slip)) ⌝ }
     ensures { λ r. ⌜ r ≡ budgetOf (now (slip .entry)) ⌝ }
 {
-    if !stands(slip, 1) {
+    if !bit_stands(slip, 1) {
         let places = grid.bound();
         return Budget::Is { places, end: at };
     }
@@ -136,13 +136,13 @@ pub fn table(slip: &[u8], at: usize, grid: Grid) -> Table
     ensures { λ r. ⌜ r ≡ tableOf (now (slip .entry)) ⌝ }
 {
     let left = slip.len() - at;
-    if stands(slip, 2) {
+    if bit_stands(slip, 2) {
         if left != grid.points {
             return Table::Missing;
         }
         return Table::LabelsFrom(at);
     }
-    if stands(slip, 3) {
+    if bit_stands(slip, 3) {
         if left != 1 {
             return Table::Missing;
         }

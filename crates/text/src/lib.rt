@@ -67,7 +67,7 @@ pub fn labelled(out: &mut [u8; 4096], at: usize, word: &[u8], n: u64) -> usize
 }
 
 // A number of 16 bits as one of 64.
-pub fn wide(x: u16) -> u64
+pub fn u64_of(x: u16) -> u64
     ensures { λ r. ⌜ (r ≡ x) × (r ≤ 65535) ⌝ }
 {
     x as u64

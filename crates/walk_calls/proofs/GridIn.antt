@@ -10,8 +10,7 @@ use lib.ListN.{take}
 use native.Mathlib.Omega.{arith}
 use Rattle.combinatorics.proofs.Basics.{true-or-false}
 use Rattle.grid.proofs.Fields.{made-code, made-is, made-shape}
-use Rattle.grid.specs.Build.{lent}
-use Rattle.grid_points.specs.Grid.{Grid}
+use Rattle.grid_points.specs.Grid.{Grid, lent}
 use Rattle.grid.specs.Made.{madeOf}
 use Rattle.grid_points.specs.Questions.{gridQuestions}
 use Rattle.grid.specs.declared.Made.{Made}

@@ -4,7 +4,7 @@ ghost use Rattle.walk_next.specs.Choosing.{CanChoose, CanFill, MarksFill
 ghost use Rattle.walk_ways.specs.Standing.{IsRoundOf, nextIn};
 use arrays::label_in;
 use grid::Grid;
-use recogniser::Sets;
+use recogniser::FoundSets;
 use walk_places::Walk;
 use walk_ways::Next;
 use walk_ways::from_other;
@@ -33,7 +33,7 @@ pub fn chosen(
     labels: &[u8],
     w: Walk,
     n: usize,
-    sets: Sets,
+    sets: FoundSets,
     point: usize,
 ) -> Next
     requires { ⌜ CanChoose g w (now labels) (now first) (now list) (now order) (now marks) n

@@ -19,7 +19,7 @@ use walk_ways::Next;
 use walk_ways::refused;
 
 // Whether the places so far are from 1 to the bound, and the labels read from 1 to the places.
-fn in_range(g: Grid, places: u64, read: u64) -> bool
+fn counts_in_range(g: Grid, places: u64, read: u64) -> bool
     requires { ⌜ IsMade g ⌝ }
     ensures { λ r. ⌜ r ≡ countsInRange (shape g) places read ⌝ }
 {
@@ -75,7 +75,7 @@ pub fn next_on(g: Grid, w: Walk, labels: &[u8]) -> Next
     ensures { λ r. ⌜ r ≡ nextIn g w (now (labels .entry)) ⌝ }
 {
     let m = g.indices;
-    if !in_range(g, w.places, w.labels_read) {
+    if !counts_in_range(g, w.places, w.labels_read) {
         return refused(20);
     }
     let present = w.present;

@@ -34,7 +34,7 @@ use Rattle.questions.proofs.Answers.{both-yes}
 use Rattle.questions.specs.Questions.{firstNo}
 use Rattle.recogniser.specs.Kept.{Recognised, Seen}
 use Rattle.recogniser.specs.Pieces.{bareMark}
-use Rattle.recogniser.specs.declared.Sets.{Sets}
+use Rattle.recogniser.specs.declared.FoundSets.{FoundSets}
 use Rattle.rules.proofs.Marks.{position-in as position-of-mark}
 use Rattle.rules.specs.Step.{markPosition}
 use Rattle.walks.proofs.KeptForm.{T-is, U-is, grid-long, meets, order-is}
@@ -88,7 +88,7 @@ module _ {p : Problem} (ok : Accepted p) where
       (λ m. in-map onPoints onNumbers (bareMark p.grid) y a m)
 
 -- a place that is recognised
-module _ {p : Problem} (ok : Accepted p) {marking : Point → ℕ} {y : Point} {o list marks : List ℕ} {r : Sets}
+module _ {p : Problem} (ok : Accepted p) {marking : Point → ℕ} {y : Point} {o list marks : List ℕ} {r : FoundSets}
     (R : Recognised p marking y o list marks r)
     (place : isPlace p (keptPoints p.grid y o) ≡ true) where
   sees : Seen p marking y o list marks (r .t) (r .u)
@@ -214,7 +214,7 @@ module _ {g : GridStruct} {w : WalkStruct} {labels : List ℕ} {next : Place} (m
 
   -- what is told of both
   module _ (n k : ℕ) (is-n : n ≡ pred (w .present .count)) (is-k : k ≡ pred (next .count))
-      {list marks list2 marks2 : List ℕ} {a b : Sets}
+      {list marks list2 marks2 : List ℕ} {a b : FoundSets}
       (A : Recognised p (bareMark (shape g)) (take (g .indices) (w .present .first)) (take n (w .present .order))
       list marks a)
       (B : Recognised p (bareMark (shape g)) (take (g .indices) (next .first)) (take k (next .order)) list2 marks2 b)

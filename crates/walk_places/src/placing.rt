@@ -17,7 +17,7 @@ use arrays::block_sizes;
 use grid::Grid;
 use grid::wide;
 use positions::ENTRIES;
-use recogniser::Sets;
+use recogniser::FoundSets;
 use recogniser::read_labels;
 use recogniser::recognise;
 
@@ -31,7 +31,7 @@ pub fn placed(
     n: usize,
     list: &mut [u16; 16],
     marks: &mut [u32; 16],
-) -> Sets
+) -> FoundSets
     requires { ⌜ CanPlace g w (now first) (now order) n × (length (now marks) ≡ 16) ⌝ }
     ensures { λ r. ⌜ ((labels : List ℕ) → Recognised (tableOn g w labels) (bareMark (shape g))
         (take (g .indices) (now (first .entry))) (take n (now (order .entry)))
@@ -67,7 +67,7 @@ pub fn seen(
     n: usize,
     list: &mut [u16; 16],
     marks: &mut [u32; 16],
-) -> Sets
+) -> FoundSets
     requires { ⌜ CanSee g w (now labels) (now first) (now order) n × (length (now marks) ≡ 16) ⌝ }
     ensures { λ r. ⌜ Recognised (tableOn g w (now (labels .entry))) (markOf (tableOn g w (now (labels .entry))))
         (take (g .indices) (now (first .entry))) (take n (now (order .entry)))

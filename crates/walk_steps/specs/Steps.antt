@@ -5,7 +5,7 @@ use Prim.Native.Nat.{ℕ}
 use lib.Dec.{eqb}
 use lib.ListN.{replicate}
 use Rattle.end_kinds.specs.Numbers.{kindNumber}
-use Rattle.grid.specs.Build.{lent}
+use Rattle.grid_points.specs.Grid.{lent}
 use Rattle.walks.specs.Preview.{preview}
 use Rattle.walk_calls.specs.Calls.{callOf}
 use Rattle.walk_preview.specs.Changes.{noChange}

@@ -29,7 +29,7 @@ use Rattle.path_laws.proofs.IndexSets.{no-empty}
 use Rattle.path_laws.proofs.LinkSymmetry.{parts}
 use Rattle.questions.proofs.Answers.{asked-next, asked-no}
 use Rattle.questions.specs.Questions.{ask, firstNo}
-use Rattle.recogniser.specs.declared.Sets.{Sets}
+use Rattle.recogniser.specs.declared.FoundSets.{FoundSets}
 use Rattle.rules.proofs.StatePoints.{all-points, ready-point}
 use Rattle.rules.specs.Read.{markOf, numbersFrom, pointsFrom}
 use Rattle.rules.specs.Step.{State}
@@ -73,7 +73,7 @@ module _ (g : Grid) (w : WalkStruct) (labels : List ℕ) where
     points-there t = let z : firstNo (placeQuestions q s) ≡ 0 = asked-next (tableQuestions q) (ask 20
         (isPlace q s) ∷ []) refl asked ∙ (rw t) in rw z
 
-module _ {g : GridStruct} {w : WalkStruct} {labels first order : List ℕ} {n : ℕ} {sets : Sets}
+module _ {g : GridStruct} {w : WalkStruct} {labels first order : List ℕ} {n : ℕ} {sets : FoundSets}
     (C : CanPoint g w labels first order n sets)
     (sizes : List ℕ) (is : (h : ℕ) → h < g .indices → at sizes h ≡ size (shape g) (blockOf (shape g) h)) where
   abbrev p : Problem

@@ -15,7 +15,7 @@ use Rattle.place.specs.Problem.{Problem}
 use Rattle.place.specs.Questions.{tableQuestions}
 use Rattle.questions.specs.Questions.{Question, ask, firstNo}
 use Rattle.recogniser.specs.Kept.{Seen}
-use Rattle.recogniser.specs.declared.Sets.{Sets}
+use Rattle.recogniser.specs.declared.FoundSets.{FoundSets}
 use Rattle.rules.specs.Read.{markOf}
 use Rattle.walks.specs.Walk.{over}
 use Rattle.walk_places.specs.Placing.{CanSee}
@@ -46,7 +46,8 @@ abbrev pub pointsOf : WalkStruct → List ℕ → PlacePoints
 pointsOf w labels = pointsOn (walkGrid w) w labels
 
 -- the walk passes questions 1 to 7, and its present place is one
-pub record CanPoint (g : GridStruct) (w : WalkStruct) (labels first order : List ℕ) (n : ℕ) (sets : Sets) : Type 0 where
+pub record CanPoint (g : GridStruct) (w : WalkStruct) (labels first order : List ℕ) (n : ℕ)
+    (sets : FoundSets) : Type 0 where
   pub sees : CanSee g w labels first order n
   pub present : placeOf (shape g) (w .present) ≡ pointsBy g first order n
   pub place : isPlace (tableOn g w labels) (pointsBy g first order n) ≡ true

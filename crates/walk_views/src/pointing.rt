@@ -11,7 +11,7 @@ use grid::Grid;
 use grid::wide;
 use moves::Status;
 use place_points::put_points;
-use recogniser::Sets;
+use recogniser::FoundSets;
 use walk_calls::first_no;
 use walk_calls::grid_in;
 use walk_next::spare;
@@ -38,7 +38,7 @@ fn put(
     first: &[u16; 16],
     order: &[u32; 16],
     n: usize,
-    sets: Sets,
+    sets: FoundSets,
 ) -> PlacePoints
     requires { ⌜ CanPoint g w (now labels) (now first) (now order) n sets ⌝ }
     ensures { λ r. ⌜ r ≡ pointsAt (shape g) w ⌝ }

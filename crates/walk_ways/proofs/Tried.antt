@@ -15,9 +15,9 @@ use Rattle.walk_ways.specs.Ways.{CanTry, ruleFrom, wayIn}
 use Rattle.walk_ways.specs.declared.Leads.{Leads}
 use Rattle.walk_ways.specs.declared.Leads.the-variants.{FacetEnd as ToFacet, Onto, PlaceEnd as ToPlace}
 use Rattle.walk_places.specs.declared.Place.{Place}
-use Rattle.walk_ways.specs.declared.Way.{Way}
+use Rattle.walk_ways.specs.declared.Move.{Move}
 
-abbrev made : Leads → Place → Way
+abbrev made : Leads → Place → Move
 made leads place = record { leads = leads; place = place }
 
 module _ (m : ℕ) (a : State) (round : Round) (first list order marks : List ℕ) (s : Status) (o : Outcome)

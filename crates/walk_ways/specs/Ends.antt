@@ -17,7 +17,7 @@ use Rattle.walk_ways.specs.declared.Leads.{Leads}
 use Rattle.walk_ways.specs.declared.Leads.the-variants.{FacetEnd, Onto, PlaceEnd}
 use Rattle.walk_ways.specs.declared.Next.{Next}
 use Rattle.walk_places.specs.declared.Place.{Place}
-use Rattle.walk_ways.specs.declared.Way.{Way}
+use Rattle.walk_ways.specs.declared.Move.{Move}
 
 abbrev pub refusedAs : ℕ → Next
 refusedAs number = record { answer = Refused number; simplex = replicate 256 0; place = nowhere }
@@ -34,9 +34,9 @@ leadsAs g a place (Onto rule) = record { answer = Moved rule; simplex = replicat
 leadsAs g a place (PlaceEnd h) = endAs g a placeEnd h 0
 leadsAs g a place (FacetEnd h) = endAs g a facetEnd h 1
 
-abbrev pub toldAs : GridStruct → State → Way → Next
+abbrev pub toldAs : GridStruct → State → Move → Next
 toldAs g a w = leadsAs g a (w .place) (w .leads)
 
-pub record CanTellEnd (g : GridStruct) (a : State) (w : Way) : Type 0 where
+pub record CanTellEnd (g : GridStruct) (a : State) (w : Move) : Type 0 where
   pub place : (h : ℕ) → w .leads ≡ PlaceEnd h → (h < g .indices) × CanPut a (g .indices) 0 256
   pub facet : (h : ℕ) → w .leads ≡ FacetEnd h → (h < g .indices) × CanPut a (g .indices) 1 256

@@ -28,7 +28,7 @@ use Rattle.walk_ways.specs.declared.Leads.the-variants.{FacetEnd, Onto, 
 use Rattle.walk_ways.specs.declared.Next.{Next}
 use Rattle.walk_places.specs.declared.Place.{Place}
 use Rattle.walk_places.specs.declared.Walk.{Walk as WalkStruct}
-use Rattle.walk_ways.specs.declared.Way.{Way}
+use Rattle.walk_ways.specs.declared.Move.{Move}
 
 -- what comes next on the walk, on its grid
 abbrev pub nextIn : GridStruct → WalkStruct → List ℕ → Next
@@ -43,7 +43,7 @@ isOnto (Onto rule) = true
 isOnto (PlaceEnd h) = false
 isOnto (FacetEnd h) = false
 
-abbrev pub leadsBack : Way → Place → Bool
+abbrev pub leadsBack : Move → Place → Bool
 leadsBack way before = isOnto (way .leads) && samePlace (way .place) before
 
 pub record IsRoundOf (g : GridStruct) (previous next sizes : List ℕ) : Type 0 where

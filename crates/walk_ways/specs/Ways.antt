@@ -8,7 +8,7 @@ use Rattle.rules.specs.Mask.{bit}
 use Rattle.rules.specs.Step.{After, State, endsAtFacet, endsAtPlace, goes, step}
 use Rattle.walk_places.specs.Walks.{keptAs, nowhere}
 use Rattle.walk_ways.specs.declared.Leads.the-variants.{FacetEnd, Onto, PlaceEnd}
-use Rattle.walk_ways.specs.declared.Way.{Way}
+use Rattle.walk_ways.specs.declared.Move.{Move}
 
 -- two masks of 16 bits have the same indices; one has those of the other
 unfoldable pub alike : ℕ → ℕ → Bool
@@ -28,7 +28,7 @@ pub record CanTry (a : State) : Type 0 where
   pub short : (e : State) → step a ≡ goes e → (length (e .order) ≤ 15) × (length (e .first) ≡ 16)
   pub firstLong : length (a .first) ≡ 16
 
-abbrev pub wayIn : ℕ → State → After → Way
+abbrev pub wayIn : ℕ → State → After → Move
 wayIn m a (goes e) = record {
   leads = Onto (ruleFrom (a .T) (a .U) (e .T) (e .U));
   place = keptAs m (e .first) (e .order) (length (e .order));

@@ -4,8 +4,8 @@ ghost use Prim.Native.Nat.{_≤_};
 ghost use lib.ListN.{length};
 ghost use Rattle.walk_ways.specs.Standing.{IsRoundOf, leadsBack, nextIn, Standing};
 use crate::Leads;
+use crate::Move;
 use crate::Next;
-use crate::Way;
 use crate::ending::refused;
 use crate::ending::told;
 use crate::ways::way;
@@ -17,7 +17,7 @@ use walk_places::none;
 use walk_places::same_place;
 
 // Whether a way leads to the place before.
-fn leads_back(way: Way, before: Place) -> bool
+fn leads_back(way: Move, before: Place) -> bool
     ensures { λ r. ⌜ (r ≡ leadsBack way before) × (length (before .order) ≡ 16) ⌝ }
 {
     let leads = way.leads;

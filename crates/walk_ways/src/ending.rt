@@ -11,8 +11,8 @@ ghost use Rattle.rules.specs.Step.{State};
 ghost use Rattle.walk_ways.specs.Ends.{endAs, refusedAs, toldAs, CanTellEnd};
 use crate::Answer;
 use crate::Leads;
+use crate::Move;
 use crate::Next;
-use crate::Way;
 use end_kinds::Kind;
 use grid::Grid;
 use moves::Status;
@@ -73,7 +73,7 @@ pub fn told(
     first: &[u16; 16],
     order: &[u32; 16],
     s: Status,
-    way: Way,
+    way: Move,
 ) -> Next
     ghost { State }
     requires { λ a. ⌜ stateOf (roundBack previous sizes) (now first) [] (now order) [] s ≡ a ⌝ }

@@ -39,7 +39,7 @@ pub enum Leads {
 }
 
 // A move, with the place to which it leads, if to any.
-pub struct Way {
+pub struct Move {
     pub leads: Leads,
     pub place: Place,
 }

@@ -6,7 +6,7 @@ ghost use Rattle.moves.specs.Held.{held, CanStep};
 ghost use Rattle.rules.specs.Step.{State, step as stepped};
 ghost use Rattle.walk_ways.specs.Ways.{CanTry, ruleFrom, wayIn};
 use crate::Leads;
-use crate::Way;
+use crate::Move;
 use moves::Outcome;
 use moves::Status;
 use steps::step;
@@ -49,7 +49,7 @@ pub fn way(
     marks: &[u32; 16],
     m: usize,
     s: Status,
-) -> Way
+) -> Move
     ghost { State }
     requires { λ a. ⌜ held (round previous next sizes) first list order marks s ≡ a ⌝ }
     requires { λ a. ⌜ CanStep order marks a × CanTry a × (m ≤ 16) ⌝ }
@@ -64,21 +64,21 @@ pub fn way(
         Outcome::Moved(r) => {
             let place = kept_as(&f, m, &o, r.count);
             let rule = rule_of(s.t, s.u, r.t, r.u);
-            Way {
+            Move {
                 leads: Leads::Onto(rule),
                 place,
             }
         }
         Outcome::PlaceEnd(h) => {
             let place = none();
-            Way {
+            Move {
                 leads: Leads::PlaceEnd(h),
                 place,
             }
         }
         Outcome::FacetEnd(h) => {
             let place = none();
-            Way {
+            Move {
                 leads: Leads::FacetEnd(h),
                 place,
             }

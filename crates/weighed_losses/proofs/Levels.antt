@@ -19,8 +19,7 @@ use Rattle.combinatorics.proofs.Turns.{map-append, upFrom-next}
 use Rattle.combinatorics.specs.Lists.{all, filter, sum, upFrom}
 use Rattle.grid_points.proofs.Accepted.{Accepted, size-two}
 use Rattle.grid_points.proofs.Round.{block-at}
-use Rattle.grid.specs.Build.{lent}
-use Rattle.grid_points.specs.Grid.{Grid, Point, at, numBlocks, size, division, firstIndex, blockOf, isGridPoint}
+use Rattle.grid_points.specs.Grid.{Grid, Point, at, numBlocks, size, division, firstIndex, blockOf, isGridPoint, lent}
 use Rattle.points_in_order.proofs.Blocks.{block-sum, block-length}
 use Rattle.losses.proofs.Players.{product-own, product-positive, divisions-few}
 use Rattle.losses.proofs.Replaced.{mix-lengths}

@@ -2,7 +2,7 @@
 ghost use mathlib.Core.List.{List, []};
 ghost use Prim.Native.Nat.{ℕ, _+_, _-_, _<_};
 ghost use lib.ListN.{length};
-ghost use Rattle.grid.specs.Build.{lent};
+ghost use Rattle.grid_points.specs.Grid.{lent};
 ghost use Rattle.weighed_losses.specs.Levels.{place, nextAt, IndexToWeigh, LevelToWeigh, LevelWeighed};
 ghost use Rattle.weighed_losses.specs.Levels.{LevelsAt, StandTo, Written};
 use crate::tables;

@@ -12,8 +12,7 @@ use Rattle.combinatorics.specs.Lists.{all}
 use Rattle.questions.proofs.Answers.{asked-no}
 use Rattle.questions.specs.Questions.{firstNo}
 use Rattle.grid.proofs.Fields.{indices-few, made-code, made-indices}
-use Rattle.grid.specs.Build.{lent}
-use Rattle.grid_points.specs.Grid.{Grid, numIndices, numPoints}
+use Rattle.grid_points.specs.Grid.{Grid, numIndices, numPoints, lent}
 use Rattle.grid.specs.Made.{IsMade, shape}
 use Rattle.grid_points.specs.Questions.{gridQuestions}
 use Rattle.grid.specs.declared.Grid.{Grid as GridStruct}

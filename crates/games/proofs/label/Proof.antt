@@ -10,8 +10,7 @@ use Rattle.combinatorics.proofs.Fronts.{front-full}
 use Rattle.combinatorics.specs.Lists.{all}
 use Rattle.grid_points.proofs.Accepted.{Accepted, accepted}
 use Rattle.grid.proofs.Fields.{made-code}
-use Rattle.grid.specs.Build.{lent}
-use Rattle.grid_points.specs.Grid.{Grid, numPoints}
+use Rattle.grid_points.specs.Grid.{Grid, numPoints, lent}
 use Rattle.grid.specs.Made.{IsMade, shape}
 use Rattle.questions.specs.Questions.{firstNo}
 use Rattle.grid_points.specs.Questions.{gridQuestions}

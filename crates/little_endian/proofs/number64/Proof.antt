@@ -10,8 +10,8 @@ use Rattle.little_endian.proofs.number64.Tie as tie
 word-requires : tie.Need-word-requires
 word-requires c κs = search needs
 
-wide64-requires : tie.Need-wide64-requires
-wide64-requires c κs = search needs
+u64-of-requires : tie.Need-u64-of-requires
+u64-of-requires c κs = search needs
 
 add-word : tie.Need-add-word
 add-word c = search needs
@@ -19,8 +19,8 @@ add-word c = search needs
 word-requires-2 : tie.Need-word-requires-2
 word-requires-2 c κs = search needs
 
-wide64-requires-2 : tie.Need-wide64-requires-2
-wide64-requires-2 c κs = search needs
+u64-of-requires-2 : tie.Need-u64-of-requires-2
+u64-of-requires-2 c κs = search needs
 
 add-word-2 : tie.Need-add-word-2
 add-word-2 c = search needs
@@ -28,8 +28,8 @@ add-word-2 c = search needs
 word-requires-3 : tie.Need-word-requires-3
 word-requires-3 c κs = search needs
 
-wide64-requires-3 : tie.Need-wide64-requires-3
-wide64-requires-3 c κs = search needs
+u64-of-requires-3 : tie.Need-u64-of-requires-3
+u64-of-requires-3 c κs = search needs
 
 add-word-3 : tie.Need-add-word-3
 add-word-3 c = search needs
@@ -37,8 +37,8 @@ add-word-3 c = search needs
 word-requires-4 : tie.Need-word-requires-4
 word-requires-4 c κs = search needs
 
-wide64-requires-4 : tie.Need-wide64-requires-4
-wide64-requires-4 c κs = search needs
+u64-of-requires-4 : tie.Need-u64-of-requires-4
+u64-of-requires-4 c κs = search needs
 
 mul-result : tie.Need-mul-result
 mul-result c = search needs
@@ -74,16 +74,16 @@ number64-spec =
     tie.close
     (tie.spec
     word-requires
-    wide64-requires
+    u64-of-requires
     add-word
     word-requires-2
-    wide64-requires-2
+    u64-of-requires-2
     add-word-2
     word-requires-3
-    wide64-requires-3
+    u64-of-requires-3
     add-word-3
     word-requires-4
-    wide64-requires-4
+    u64-of-requires-4
     mul-result
     add-result
     mul-result-2

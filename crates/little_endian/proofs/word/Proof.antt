@@ -5,20 +5,20 @@ use Rattle.little_endian.specs.Numbers.{number}
 use Rattle.little_endian.proofs.word.Statement.{statement}
 use Rattle.little_endian.proofs.word.Tie as tie
 
-shared-slice-read-wide16 : tie.Need-shared-slice-read-wide16
-shared-slice-read-wide16 c = search needs
+shared-slice-read-u16-of : tie.Need-shared-slice-read-u16-of
+shared-slice-read-u16-of c = search needs
 
-wide16-requires : tie.Need-wide16-requires
-wide16-requires c κs = search needs
+u16-of-requires : tie.Need-u16-of-requires
+u16-of-requires c κs = search needs
 
-add-wide16 : tie.Need-add-wide16
-add-wide16 c = search needs
+add-u16-of : tie.Need-add-u16-of
+add-u16-of c = search needs
 
-shared-slice-read-wide16-2 : tie.Need-shared-slice-read-wide16-2
-shared-slice-read-wide16-2 c = search needs
+shared-slice-read-u16-of-2 : tie.Need-shared-slice-read-u16-of-2
+shared-slice-read-u16-of-2 c = search needs
 
-wide16-requires-2 : tie.Need-wide16-requires-2
-wide16-requires-2 c κs = search needs
+u16-of-requires-2 : tie.Need-u16-of-requires-2
+u16-of-requires-2 c κs = search needs
 
 mul-result : tie.Need-mul-result
 mul-result c = search needs
@@ -34,11 +34,11 @@ pub word-spec : {M : Type 1} → statement M
 word-spec =
     tie.close
     (tie.spec
-    shared-slice-read-wide16
-    wide16-requires
-    add-wide16
-    shared-slice-read-wide16-2
-    wide16-requires-2
+    shared-slice-read-u16-of
+    u16-of-requires
+    add-u16-of
+    shared-slice-read-u16-of-2
+    u16-of-requires-2
     mul-result
     add-result
     returns)

@@ -21,8 +21,8 @@ read-at-requires c κs =
     rw (c .position-in .ensures)
     (in-table (a .g) (a .binomials .now) (a .table .now) (s .pre .0 .0) _ (s .pre .0 .1 .onGrid))
 
-byte-requires : tie.Need-byte-requires
-byte-requires c κs = search needs
+u32-of-requires : tie.Need-u32-of-requires
+u32-of-requires c κs = search needs
 
 returns : tie.Need-returns
 returns c =
@@ -31,7 +31,7 @@ returns c =
     let e = c .before .before .before .position-in .ensures in
     ap (λ (at : ℕ). Unknown at) e
     ∙ read-gap (a .g) (a .binomials .now) (a .table .now) (s .pre .0 .0) _
-    (rw e at (sym (c .before .byte .ensures .0 ∙ c .before .before .read-at .ensures) ∙ c .if1 .taken))
+    (rw e at (sym (c .before .u32-of .ensures .0 ∙ c .before .before .read-at .ensures) ∙ c .if1 .taken))
 
 cast-t16 : tie.Need-cast-t16
 cast-t16 c =
@@ -58,15 +58,15 @@ add-t18 c =
     let at = c .before .before .before .position-in in
     let small : at .result < 60001 =
     rw (at .ensures) (omega (arith, position-below _ _ (a .sameNumber) (s .pre .0 .1 .onGrid), a .fewPoints)) in
-    omega (arith, c .before .byte .ensures .1)
+    omega (arith, c .before .u32-of .ensures .1)
 
 returns-2 : tie.Need-returns-2
 returns-2 c =
     let s = c .before .before .before .before .before in
     let a = s .args in
     let e = c .before .before .before .position-in .ensures in
-    let b = c .before .byte .ensures .0 ∙ c .before .before .read-at .ensures in
-    ap (λ (at : ℕ). Marked (mark at (c .before .byte .result))) e
+    let b = c .before .u32-of .ensures .0 ∙ c .before .before .read-at .ensures in
+    ap (λ (at : ℕ). Marked (mark at (c .before .u32-of .result))) e
     ∙ rw (b, e) (read-mark (a .g) (a .binomials .now) (a .table .now) (s .pre .0 .0) _ (λ z. c .if1 .left (b ∙ rw e z)))
 
 pub mark-in-spec : {M : Type 1} → statement M
@@ -75,7 +75,7 @@ mark-in-spec =
     (tie.spec
     position-in-requires
     read-at-requires
-    byte-requires
+    u32-of-requires
     returns
     cast-t16
     mul-t17

@@ -10,8 +10,8 @@ use Rattle.combinatorics.specs.Front.{front}
 use Rattle.combinatorics.specs.Lists.{sum}
 use Rattle.grid_points.proofs.Accepted.{Accepted, accepted, size-two}
 use Rattle.grid_points.proofs.Round.{block-fits}
+use Rattle.grid_points.specs.Grid.{lent}
 use Rattle.points_in_order.proofs.PointAfter.{first-turn}
-use Rattle.grid.specs.Build.{lent}
 use Rattle.points_in_order.specs.PointAfter.{firstPoint}
 use Rattle.points_in_order.proofs.first_point.Statement.{statement}
 use Rattle.points_in_order.proofs.first_point.Tie as tie

@@ -10,8 +10,7 @@ use Rattle.grid.proofs.Fields.{made-count, blocks-range, indices-few, size-rang
 use Rattle.positions.proofs.Positions.{Horner, horner-start, horner-next, horner-few, horner-done, adds-up}
 use Rattle.positions.proofs.Positions.{map-front}
 use Rattle.grid_points.proofs.Round.{block-fits}
-use Rattle.grid.specs.Build.{lent}
-use Rattle.grid_points.specs.Grid.{isGridPoint, numIndices, numBlocks, indicesOf, firstIndex, size, division}
+use Rattle.grid_points.specs.Grid.{isGridPoint, numIndices, numBlocks, indicesOf, firstIndex, size, division, lent}
 use Rattle.grid_points.specs.Grid.{blockPoints}
 use Rattle.grid_points.specs.Grid.{position, positionIn, at as coordinate}
 use Rattle.grid.specs.Made.{shape}

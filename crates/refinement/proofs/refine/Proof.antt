@@ -6,8 +6,7 @@ use Prim.Native.Nat.{_≤_}
 use borrow.Author.Needs.{needs}
 use borrow.Author.Tests.{not-false, not-true}
 use native.Mathlib.Omega.{arith}
-use Rattle.grid.specs.Build.{lent}
-use Rattle.grid_points.specs.Grid.{Grid}
+use Rattle.grid_points.specs.Grid.{Grid, lent}
 use Rattle.levels.proofs.Claims.{in-ranges}
 use Rattle.levels.specs.Levels.{Refinement}
 use Rattle.levels.specs.Questions.{question18}
@@ -28,7 +27,7 @@ game s = lentGame (grid s) (s .args .start .now) (s .args .losses .now) (s .args
 asked : (c : tie.Else1)
     → question18 (c .before .before .before .before .before .before .before .before .args .factor)
     (c .before .before .before .before .before .before .before .before .args .levels) .answeredYes ≡ true
-asked c = sym (c .before .in-range .ensures) ∙ not-false _ (c .if1 .left)
+asked c = sym (c .before .levels-in-range .ensures) ∙ not-false _ (c .if1 .left)
 
 ranges : (c : tie.Else1)
     → let a = c .before .before .before .before .before .before .before .before .args in
@@ -37,8 +36,8 @@ ranges c =
     in-ranges (c .before .before .before .before .before .before .before .before .args .factor)
     (c .before .before .before .before .before .before .before .before .args .levels) (asked c)
 
-in-range-requires : tie.Need-in-range-requires
-in-range-requires c κs = search needs
+levels-in-range-requires : tie.Need-levels-in-range-requires
+levels-in-range-requires c κs = search needs
 
 refused-requires : tie.Need-refused-requires
 refused-requires c κs = search needs
@@ -47,7 +46,7 @@ returns : tie.Need-returns
 returns c =
     let s = c .before .before .before .before .before .before .before .before .before in
     refused-range (game s) (s .args .levels) (s .args .labels .now) (s .args .answer .now) (c .refused .result)
-    (sym (c .before .before .in-range .ensures) ∙ not-true _ (c .before .if1 .taken)) (c .refused .ensures)
+    (sym (c .before .before .levels-in-range .ensures) ∙ not-true _ (c .before .if1 .taken)) (c .refused .ensures)
 
 made-levels-requires : tie.Need-made-levels-requires
 made-levels-requires c κs = let w = ranges c in ((omega (arith, w .0 .0), w .0 .1), w .1)
@@ -157,7 +156,7 @@ pub refine-spec : {M : Type 1} → statement M
 refine-spec =
     tie.close
     (tie.spec
-    in-range-requires
+    levels-in-range-requires
     refused-requires
     returns
     made-levels-requires

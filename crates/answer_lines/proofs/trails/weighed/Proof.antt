@@ -18,11 +18,11 @@ loop-holds c = search needs
 sub-i : tie.Need-sub-i Inv-loop μ-loop
 sub-i c = search needs
 
-shared-slice-read-wide : tie.Need-shared-slice-read-wide Inv-loop μ-loop
-shared-slice-read-wide c = search needs
+shared-slice-read-u64-of-byte : tie.Need-shared-slice-read-u64-of-byte Inv-loop μ-loop
+shared-slice-read-u64-of-byte c = search needs
 
-wide-requires : tie.Need-wide-requires Inv-loop μ-loop
-wide-requires c κs = search needs
+u64-of-byte-requires : tie.Need-u64-of-byte-requires Inv-loop μ-loop
+u64-of-byte-requires c κs = search needs
 
 add-counted : tie.Need-add-counted Inv-loop μ-loop
 add-counted c = search needs
@@ -53,8 +53,8 @@ weighed-spec =
     μ-loop
     loop-holds
     sub-i
-    shared-slice-read-wide
-    wide-requires
+    shared-slice-read-u64-of-byte
+    u64-of-byte-requires
     add-counted
     counted-requires
     add-counted-2

@@ -8,21 +8,21 @@ use Rattle.rules.proofs.FirstMet.{entry}
 use Rattle.arrays.proofs.lists.position_at.Statement.{statement}
 use Rattle.arrays.proofs.lists.position_at.Tie as tie
 
-mul-position-in : tie.Need-mul-position-in
-mul-position-in c = search needs
+mul-mark-position : tie.Need-mul-mark-position
+mul-mark-position c = search needs
 
-element-copy-out-position-in : tie.Need-element-copy-out-position-in
-element-copy-out-position-in c = search needs
+element-copy-out-mark-position : tie.Need-element-copy-out-mark-position
+element-copy-out-mark-position c = search needs
 
-position-in-requires : tie.Need-position-in-requires
-position-in-requires c κs = search needs
+mark-position-requires : tie.Need-mark-position-requires
+mark-position-requires c κs = search needs
 
 returns : tie.Need-returns
 returns c =
     let a = c .before .before .args in (
-      c .position-in .ensures .0 ∙ ap markPosition (entry (a .marks .now) (suc (a .n)) (a .i) _ (omega arith) refl),
-      c .position-in .ensures .1,
+      c .mark-position .ensures .0 ∙ ap markPosition (entry (a .marks .now) (suc (a .n)) (a .i) _ (omega arith) refl),
+      c .mark-position .ensures .1,
     )
 
 pub position-at-spec : {M : Type 1} → statement M
-position-at-spec = tie.close (tie.spec mul-position-in element-copy-out-position-in position-in-requires returns)
+position-at-spec = tie.close (tie.spec mul-mark-position element-copy-out-mark-position mark-position-requires returns)

@@ -10,8 +10,7 @@ use native.Mathlib.Omega.{arith}
 use Rattle.combinatorics.proofs.Fronts.{front-none}
 use Rattle.combinatorics.specs.Front.{front}
 use Rattle.grid_points.proofs.Accepted.{accepted}
-use Rattle.grid.specs.Build.{lent}
-use Rattle.grid_points.specs.Grid.{Grid, Point, numPoints, points}
+use Rattle.grid_points.specs.Grid.{Grid, Point, numPoints, points, lent}
 use Rattle.points_in_order.proofs.InOrder.{next-point, point-at}
 use Rattle.points_in_order.specs.Lent.{PointWithFirsts}
 use Rattle.points_in_order.specs.Shifted.{lastButOne, lastOne, endShifted}
@@ -155,18 +154,18 @@ fill-requires c κs =
     omega (arith, fits m, s .pre .room, t m .before .loop .inv .3) in
     (omega arith, omega (arith, fits m, s .pre .oldWhole), rw length-set room)
 
-shift-requires : tie.Need-shift-requires Inv-loop μ-loop
-shift-requires c κs =
+shift-end-requires : tie.Need-shift-end-requires Inv-loop μ-loop
+shift-end-requires c κs =
     let m = c .before .before .before .before .before in
     ((two (t m), short (t m)), (lowered m, raised m))
 
-advance-requires : tie.Need-advance-requires Inv-loop μ-loop
-advance-requires c κs =
+next-point-requires : tie.Need-next-point-requires Inv-loop μ-loop
+next-point-requires c κs =
     let h = c .before .before .before in
     let m = h .before .before .before .before .before .before in
     let s = start (t m) in
     let z = point-at (g (t m)) (firsts (t m)) (s .pre .grid) (k (t m) + more m) (omega (arith, fits m)) _ in
-    (s .args .divisions .now, z (h .shift .ensures ∙ ends m))
+    (s .args .divisions .now, z (h .shift-end .ensures ∙ ends m))
 
 -- a turn from its end back to where the further points were counted
 abbrev counted : tie.After-slice-known5 Inv-loop μ-loop → tie.After-more-alike Inv-loop μ-loop
@@ -199,9 +198,9 @@ loop-again c =
     let same : length (set (t m .before .loop .labels) (k (t m)) (o .result)) ≡ numPoints (g (t m)) =
     rw length-set (i .3 ∙ room) in
     let e : k (t m) + 1 + more m ≡ k (t m) + (1 + more m) = omega arith in
-    let at = h .shift .ensures ∙ ends m in (
+    let at = h .shift-end .ensures ∙ ends m in (
       f .fill .ensures T B (n ∙ sym same) (room ∙ sym n) first (filled m) ∙ ap (λ (n : ℕ). front (take n T) B) e,
-      (λ q. c .before .before .advance .ensures .0
+      (λ q. c .before .before .next-point .ensures .0
           ∙ next-point (g (t m)) (firsts (t m)) (s .pre .grid) (k (t m) + more m) (omega arith) _ at
           ∙ ap (λ (n : ℕ). getD (points (g (t m))) n []) (omega arith)),
       omega (arith, fits m, room),
@@ -241,8 +240,8 @@ write-from-spec =
     add-fill-2
     add-fill-3
     fill-requires
-    shift-requires
-    advance-requires
+    shift-end-requires
+    next-point-requires
     add-k
     add-k-2
     loop-less

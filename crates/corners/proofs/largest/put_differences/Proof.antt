@@ -28,20 +28,20 @@ abbrev μ-loop : tie.MeasureT-loop
 loop-holds : tie.Need-loop-holds Inv-loop μ-loop
 loop-holds c = ((λ i b. absurd (omega arith)), omega arith, c .pre)
 
-mul-difference : tie.Need-mul-difference Inv-loop μ-loop
-mul-difference c = omega arith
+mul-signed-difference : tie.Need-mul-signed-difference Inv-loop μ-loop
+mul-signed-difference c = omega arith
 
-element-copy-out-difference : tie.Need-element-copy-out-difference Inv-loop μ-loop
-element-copy-out-difference c = omega arith
+element-copy-out-signed-difference : tie.Need-element-copy-out-signed-difference Inv-loop μ-loop
+element-copy-out-signed-difference c = omega arith
 
-mul-difference-2 : tie.Need-mul-difference-2 Inv-loop μ-loop
-mul-difference-2 c = omega arith
+mul-signed-difference-2 : tie.Need-mul-signed-difference-2 Inv-loop μ-loop
+mul-signed-difference-2 c = omega arith
 
-element-copy-out-difference-2 : tie.Need-element-copy-out-difference-2 Inv-loop μ-loop
-element-copy-out-difference-2 c = omega arith
+element-copy-out-signed-difference-2 : tie.Need-element-copy-out-signed-difference-2 Inv-loop μ-loop
+element-copy-out-signed-difference-2 c = omega arith
 
-difference-requires : tie.Need-difference-requires Inv-loop μ-loop
-difference-requires c κs = search needs
+signed-difference-requires : tie.Need-signed-difference-requires Inv-loop μ-loop
+signed-difference-requires c κs = search needs
 
 mul-d : tie.Need-mul-d Inv-loop μ-loop
 mul-d c = omega arith
@@ -59,7 +59,7 @@ loop-again : tie.Need-loop-again Inv-loop μ-loop
 loop-again c =
     let l = c .before .before .before .before .loop in
     let a = c .before .before .before .before .before .args in
-    let d = c .difference in
+    let d = c .signed-difference in
     let z : toZ w64 (ofZ w64 (d .result)) ≡ d .result = toZ-ofZ {w = w64} (record { sfits = d .ok }) in (
       entry-next (IsDifference (a .expected .now) (a .replaced .now)) (l .differences) (l .h) _ (omega arith)
           (l .inv .0) (rw z (d .ensures)),
@@ -82,11 +82,11 @@ put-differences-spec =
     Inv-loop
     μ-loop
     loop-holds
-    mul-difference
-    element-copy-out-difference
-    mul-difference-2
-    element-copy-out-difference-2
-    difference-requires
+    mul-signed-difference
+    element-copy-out-signed-difference
+    mul-signed-difference-2
+    element-copy-out-signed-difference-2
+    signed-difference-requires
     mul-d
     slice-set-from-d
     add-h

@@ -8,8 +8,7 @@ use lib.ListN.{length, take, set, replicate}
 use lib.Seq.{length-take-le}
 use Rattle.combinatorics.specs.Front.{front}
 use Rattle.grid_points.proofs.Accepted.{Accepted, accepted}
-use Rattle.grid.specs.Build.{lent}
-use Rattle.grid_points.specs.Grid.{Grid, Point, numIndices, firstIndex}
+use Rattle.grid_points.specs.Grid.{Grid, Point, numIndices, firstIndex, lent}
 use Rattle.weighed_losses.specs.Levels.{StandTo}
 use Rattle.losses.specs.AtPoint.{StrategiesStand}
 use Rattle.losses.specs.Game.{playerLoss, replacedLoss}

@@ -1,7 +1,7 @@
 -- `leveretplate_refine` meets its contract: it is the refinement's own, with the levels as numbers. Assumes nothing.
 use mathlib.Core.Path.{ap, _∙_}
 use Rattle.combinatorics.specs.Front.{front}
-use Rattle.grid.specs.Build.{lent}
+use Rattle.grid_points.specs.Grid.{lent}
 use Rattle.levels.specs.Levels.{Refinement}
 use Rattle.refinement.proofs.Outcomes.{answer-few}
 use Rattle.refinement.specs.Answer.{lentGame}

@@ -18,8 +18,7 @@ use Rattle.corners.proofs.CornerLosses.{last-ends, cornered-kept}
 use Rattle.corners.specs.Corners.{lastPlayer, Cornered}
 use Rattle.grid_points.proofs.Accepted.{Accepted, accepted, blocks-few}
 use Rattle.grid_points.proofs.CoordinatesBelow.{division-below}
-use Rattle.grid.specs.Build.{lent}
-use Rattle.grid_points.specs.Grid.{Grid, Point, numIndices, numPoints, points, size, firstIndex}
+use Rattle.grid_points.specs.Grid.{Grid, Point, numIndices, numPoints, points, size, firstIndex, lent}
 use Rattle.weighed_losses.proofs.Levels.{behind-alike, stand-to-alike}
 use Rattle.weighed_losses.specs.Levels.{Rests, StandTo}
 use Rattle.losses.specs.Game.{gameLabel, labels}
@@ -220,8 +219,8 @@ label-point-requires c κs =
 slice-write-buffer : tie.Need-slice-write-buffer Inv-loop μ-loop
 slice-write-buffer c = omega arith
 
-advance-requires : tie.Need-advance-requires Inv-loop μ-loop
-advance-requires c κs =
+next-point-requires : tie.Need-next-point-requires Inv-loop μ-loop
+next-point-requires c κs =
     let t = c .before .before .before .before .before .before .before .before .before .before .before .before .before in
     (start t .args .divisions .now, here t)
 
@@ -246,7 +245,7 @@ loop-again c =
     let levels = c .before .before .before .before .before .before .before .before .before .before .levels2 in
     let differences = c .before .before .before .before .before .before .before .before .differences in
     let stand = w .ensures .1 losses (i .7) (i .8) in
-    let a = c .before .before .advance in
+    let a = c .before .before .next-point in
     let z : Point = a .last .1 .1 .0 in
     let is : c .before .before .before .before .label-point .result ≡ gameLabel (g s) losses (y t) =
     c .before .before .before .before .label-point .ensures
@@ -315,7 +314,7 @@ label-points-spec =
     part-label-point-end
     label-point-requires
     slice-write-buffer
-    advance-requires
+    next-point-requires
     add-k
     loop-less
     loop-again

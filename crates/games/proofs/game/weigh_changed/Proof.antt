@@ -8,7 +8,7 @@ use borrow.Author.Tests.{not-true}
 use lib.ListN.{length}
 use Rattle.corners.proofs.CornerLabels.{corner-points}
 use Rattle.grid_points.proofs.Accepted.{accepted}
-use Rattle.grid.specs.Build.{lent}
+use Rattle.grid_points.specs.Grid.{lent}
 use Rattle.weighed_losses.proofs.Levels.{stand-to-alike}
 use Rattle.points_in_order.proofs.Blocks.{point-length}
 use Rattle.games.proofs.game.weigh_changed.Statement.{statement}

@@ -8,7 +8,7 @@ use Prim.Native.Nat.{ℕ, _-_, _≤_}
 use lib.ListN.{length, set, length-set, length-take, length-replicate}
 use lib.Seq.{length-take-le, take-set-lt}
 use Rattle.grid_points.proofs.Accepted.{Accepted, accepted}
-use Rattle.grid.specs.Build.{lent}
+use Rattle.grid_points.specs.Grid.{lent}
 use Rattle.points_in_order.proofs.PointAfter.{first-array}
 use Rattle.games.proofs.game.write_labels.Statement.{statement}
 use Rattle.games.proofs.game.write_labels.Tie as tie

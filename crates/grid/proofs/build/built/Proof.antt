@@ -4,8 +4,8 @@ use lib.ListN.{length}
 use Rattle.combinatorics.proofs.Turns.{whole}
 use Rattle.combinatorics.specs.Lists.{sum}
 use Rattle.grid_points.proofs.Accepted.{Accepted, accepted}
-use Rattle.grid.specs.Build.{lent, BlocksCounted}
-use Rattle.grid_points.specs.Grid.{next as after, previous as before}
+use Rattle.grid.specs.Build.{BlocksCounted}
+use Rattle.grid_points.specs.Grid.{next as after, previous as before, lent}
 use Rattle.grid.specs.Made.{gridOf}
 use borrow.Author.Needs.{needs}
 use native.Mathlib.Omega.{arith}

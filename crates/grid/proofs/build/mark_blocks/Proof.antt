@@ -10,8 +10,7 @@ use Rattle.combinatorics.specs.Lists.{upFrom}
 use Rattle.combinatorics.specs.Front.{padded}
 use Rattle.grid_points.proofs.Accepted.{Accepted, accepted, count-few, size-two}
 use Rattle.grid_points.proofs.Round.{block-fits}
-use Rattle.grid.specs.Build.{lent}
-use Rattle.grid_points.specs.Grid.{firstIndex, blockCount}
+use Rattle.grid_points.specs.Grid.{firstIndex, blockCount, lent}
 use borrow.Author.Needs.{needs}
 use native.Mathlib.Omega.{arith}
 use Rattle.grid.proofs.build.mark_blocks.Statement.{statement}

@@ -9,8 +9,7 @@ use Rattle.combinatorics.proofs.Turns.{front-counted}
 use Rattle.combinatorics.specs.Lists.{sum, upFrom}
 use Rattle.combinatorics.specs.Front.{padded}
 use Rattle.grid_points.proofs.Round.{block-spans, block-fits}
-use Rattle.grid.specs.Build.{lent}
-use Rattle.grid_points.specs.Grid.{blockIn, next as after, previous as before}
+use Rattle.grid_points.specs.Grid.{blockIn, next as after, previous as before, lent}
 use borrow.Author.Needs.{needs}
 use native.Mathlib.Omega.{arith}
 use Rattle.grid.proofs.build.mark_indices.Statement.{statement}

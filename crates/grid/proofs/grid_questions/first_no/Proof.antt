@@ -11,8 +11,7 @@ use Rattle.combinatorics.proofs.Turns.{whole}
 use Rattle.combinatorics.specs.Lists.{all, sum}
 use Rattle.questions.specs.Questions.{firstNo}
 use Rattle.grid_points.proofs.Listing.{numPoints-is}
-use Rattle.grid.specs.Build.{lent}
-use Rattle.grid_points.specs.Grid.{Grid, numPoints}
+use Rattle.grid_points.specs.Grid.{Grid, numPoints, lent}
 use Rattle.combinatorics.specs.Counting.{binomialProduct}
 use Rattle.grid_points.specs.Questions.{question1, question2, question3}
 use borrow.Author.Needs.{needs}

@@ -59,8 +59,8 @@ returns-2 c =
     rw (← sub-one (a .size))
     (past (l .r) (a .division) (a .size - 1) (omega arith) (omega (arith, l .inv .0 (a .size - 1) (omega arith))))
 
-raise-requires : tie.Need-raise-requires Inv-loop μ-loop
-raise-requires c κs =
+next-row-requires : tie.Need-next-row-requires Inv-loop μ-loop
+next-row-requires c κs =
     let l = c .before .before .before .loop in
     (l .inv .4, l .inv .2, λ k h. omega (arith, l .inv .0 k h))
 
@@ -72,8 +72,13 @@ loop-less c = search needs
 
 loop-again : tie.Need-loop-again Inv-loop μ-loop
 loop-again c =
-    let l = c .before .before .before .before .loop in
-    (rw add-one (c .raise .ensures .1 (l .r) (l .inv .0)), omega arith, c .raise .ensures .0, l .inv .3, l .inv .4)
+    let l = c .before .before .before .before .loop in (
+      rw add-one (c .next-row .ensures .1 (l .r) (l .inv .0)),
+      omega arith,
+      c .next-row .ensures .0,
+      l .inv .3,
+      l .inv .4,
+    )
 
 mul-result : tie.Need-mul-result Inv-loop μ-loop
 mul-result c = search needs
@@ -103,7 +108,7 @@ block-count-spec =
     array-read-if2
     add-result
     returns-2
-    raise-requires
+    next-row-requires
     add-r
     loop-less
     loop-again

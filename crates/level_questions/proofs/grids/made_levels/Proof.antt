@@ -4,7 +4,7 @@ use mathlib.Core.Path.{refl}
 use Prim.Native.Nat.{_≤_, _-_}
 use borrow.Author.Needs.{needs}
 use native.Mathlib.Omega.{arith}
-use Rattle.grid.specs.Build.{lent}
+use Rattle.grid_points.specs.Grid.{lent}
 use Rattle.level_questions.proofs.MadeLevels.{SomeMade, all-made, first-made, first-refused, last-made}
 use Rattle.level_questions.proofs.MadeLevels.{next-goes, next-stops}
 use Rattle.level_questions.proofs.grids.made_levels.Statement.{statement}

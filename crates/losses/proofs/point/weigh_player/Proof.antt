@@ -6,8 +6,7 @@ use borrow.Author.Needs.{needs}
 use lib.ListN.{length}
 use Rattle.grid_points.proofs.Accepted.{Accepted, accepted}
 use Rattle.grid_points.proofs.Round.{block-fits}
-use Rattle.grid.specs.Build.{lent}
-use Rattle.grid_points.specs.Grid.{Grid, firstIndex}
+use Rattle.grid_points.specs.Grid.{Grid, firstIndex, lent}
 use Rattle.points_in_order.proofs.Blocks.{point-length}
 use Rattle.losses.proofs.Player.{player-fits, player-ends, player-expected, player-replaced}
 use Rattle.losses.specs.AtPoint.{GameAtPoint}

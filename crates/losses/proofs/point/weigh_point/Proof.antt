@@ -8,7 +8,7 @@ use lib.Seq.{take-all}
 use Rattle.combinatorics.proofs.Fronts.{front-none}
 use Rattle.combinatorics.specs.Front.{front}
 use Rattle.combinatorics.specs.Lists.{sum, upFrom}
-use Rattle.grid.specs.Build.{lent}
+use Rattle.grid_points.specs.Grid.{lent}
 use Rattle.losses.proofs.Player.{filled-turn}
 use Rattle.losses.specs.AtPoint.{StrategiesStand}
 use Rattle.losses.specs.Game.{playerLoss, replacedLoss}

@@ -36,8 +36,8 @@ loop-holds : tie.Need-loop-holds Inv-loop μ-loop
 unfolding flatMap
 loop-holds c = (part-empty _ _, omega arith, omega arith)
 
-total-requires : tie.Need-total-requires Inv-loop μ-loop
-total-requires c κs = omega arith
+coordinate-sum-requires : tie.Need-coordinate-sum-requires Inv-loop μ-loop
+coordinate-sum-requires c κs = omega arith
 
 mul-division : tie.Need-mul-division Inv-loop μ-loop
 mul-division c = omega arith
@@ -66,7 +66,7 @@ loop-again c =
     let l = c .before .before .before .before .before .before .loop in
     let m = length (a .divisions .now) in
     let vertices = rows (a .count) m (a .vertices .now) in
-    let coordinates = c .before .before .before .before .total .ensures .0 in
+    let coordinates = c .before .before .before .before .coordinate-sum .ensures .0 in
     let number : c .before .centre .result ≡ centreAt vertices (a .divisions .now) (l .h) =
     c .before .centre .ensures ∙ rw (coordinates, length-rows (a .count) m (a .vertices .now)) in (
       rw (add-one (l .h), flatMap-more) (part-join (l .inv .0) (rw number at (c .spaced .ensures .0))),
@@ -98,7 +98,7 @@ centre-line-spec =
     slice-aggregate-text
     text-requires
     loop-holds
-    total-requires
+    coordinate-sum-requires
     mul-division
     shared-slice-read-division
     centre-requires

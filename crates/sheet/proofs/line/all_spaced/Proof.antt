@@ -27,14 +27,14 @@ loop-holds : tie.Need-loop-holds Inv-loop μ-loop
 unfolding flatMap
 loop-holds c = (part-empty _ _, omega arith, omega arith)
 
-mul-wide : tie.Need-mul-wide Inv-loop μ-loop
-mul-wide c = omega arith
+mul-u64-of : tie.Need-mul-u64-of Inv-loop μ-loop
+mul-u64-of c = omega arith
 
-shared-slice-read-wide : tie.Need-shared-slice-read-wide Inv-loop μ-loop
-shared-slice-read-wide c = omega arith
+shared-slice-read-u64-of : tie.Need-shared-slice-read-u64-of Inv-loop μ-loop
+shared-slice-read-u64-of c = omega arith
 
-wide-requires : tie.Need-wide-requires Inv-loop μ-loop
-wide-requires c κs = search needs
+u64-of-requires : tie.Need-u64-of-requires Inv-loop μ-loop
+u64-of-requires c κs = search needs
 
 spaced-requires : tie.Need-spaced-requires Inv-loop μ-loop
 spaced-requires c κs = omega arith
@@ -49,7 +49,7 @@ loop-again : tie.Need-loop-again Inv-loop μ-loop
 loop-again c =
     let a = c .before .before .before .before .before .before .before .args in
     let l = c .before .before .before .before .before .loop in
-    let n = c .before .wide in
+    let n = c .before .u64-of in
     let short = spaced-length 4 (n .result) (omega arith) in (
       rw (add-one (l .i), take-suc (a .row .now) (l .i) 0 (omega arith), flatMap-more, ← n .ensures .0)
           (part-join (l .inv .0) (c .spaced .ensures .0)),
@@ -70,9 +70,9 @@ all-spaced-spec =
     Inv-loop
     μ-loop
     loop-holds
-    mul-wide
-    shared-slice-read-wide
-    wide-requires
+    mul-u64-of
+    shared-slice-read-u64-of
+    u64-of-requires
     spaced-requires
     add-i
     loop-less

@@ -8,11 +8,11 @@ use Rattle.sheet_lines.proofs.Rows.{vertex-parts}
 use Rattle.sheet.proofs.line.vertex_line.Statement.{statement}
 use Rattle.sheet.proofs.line.vertex_line.Tie as tie
 
-shared-slice-read-wide : tie.Need-shared-slice-read-wide
-shared-slice-read-wide c = search needs
+shared-slice-read-u64-of : tie.Need-shared-slice-read-u64-of
+shared-slice-read-u64-of c = search needs
 
-wide-requires : tie.Need-wide-requires
-wide-requires c κs = search needs
+u64-of-requires : tie.Need-u64-of-requires
+u64-of-requires c κs = search needs
 
 decimal-requires : tie.Need-decimal-requires
 decimal-requires c κs = search needs
@@ -38,7 +38,7 @@ returns c =
     let first = c .before .before .before .before .before in
     let written = part-join (part-join (first .decimal .ensures .0) (c .before .before .all-spaced .ensures .0))
     (c .byte .ensures) in (
-      rw (vertex-parts (a .row .now) (omega arith), ← first .before .wide .ensures .0) written,
+      rw (vertex-parts (a .row .now) (omega arith), ← first .before .u64-of .ensures .0) written,
       omega (arith, c .byte .ensures .behind),
     )
 
@@ -46,8 +46,8 @@ pub vertex-line-spec : {M : Type 1} → statement M
 vertex-line-spec =
     tie.close
     (tie.spec
-    shared-slice-read-wide
-    wide-requires
+    shared-slice-read-u64-of
+    u64-of-requires
     decimal-requires
     sub-all-spaced
     part-all-spaced-start

@@ -27,19 +27,19 @@ loop-holds c = (
   shelf-of (c .before .args .list .now) (c .before .pre .passes) .room,
 )
 
-mul-wide : tie.Need-mul-wide Inv-loop μ-loop
-mul-wide c = omega arith
+mul-wide16 : tie.Need-mul-wide16 Inv-loop μ-loop
+mul-wide16 c = omega arith
 
-shared-slice-read-wide : tie.Need-shared-slice-read-wide Inv-loop μ-loop
-shared-slice-read-wide c = omega arith
+shared-slice-read-wide16 : tie.Need-shared-slice-read-wide16 Inv-loop μ-loop
+shared-slice-read-wide16 c = omega arith
 
-wide-requires : tie.Need-wide-requires Inv-loop μ-loop
-wide-requires c κs = search needs
+wide16-requires : tie.Need-wide16-requires Inv-loop μ-loop
+wide16-requires c κs = search needs
 
 returns : tie.Need-returns Inv-loop μ-loop
 returns c =
     let a = c .before .before .before .before .before .before .args in
-    let e = sym (c .before .wide .ensures .0) ∙ c .if1 .taken in
+    let e = sym (c .before .wide16 .ensures .0) ∙ c .if1 .taken in
     sym (found (a .list .now) (a .count) (c .before .before .before .before .loop .k) (a .sheet) (omega arith)
     (omega arith) e)
 
@@ -53,7 +53,7 @@ loop-again : tie.Need-loop-again Inv-loop μ-loop
 loop-again c =
     let a = c .before .before .before .before .before .before .args in
     let l = c .before .before .before .before .loop in
-    let other = passed-other (a .list .now) (l .k) (a .sheet) (λ e. c .if1 .left (c .before .wide .ensures .0 ∙ e)) in
+    let other = passed-other (a .list .now) (l .k) (a .sheet) (λ e. c .if1 .left (c .before .wide16 .ensures .0 ∙ e)) in
     (other ∙ l .inv .0, omega arith, omega arith, omega arith)
 
 returns-2 : tie.Need-returns-2 Inv-loop μ-loop
@@ -69,9 +69,9 @@ is-replaced-spec =
     Inv-loop
     μ-loop
     loop-holds
-    mul-wide
-    shared-slice-read-wide
-    wide-requires
+    mul-wide16
+    shared-slice-read-wide16
+    wide16-requires
     returns
     add-k
     loop-less

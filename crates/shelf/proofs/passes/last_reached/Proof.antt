@@ -32,14 +32,14 @@ loop-holds c =
       f .room,
     )
 
-mul-wide : tie.Need-mul-wide Inv-loop μ-loop
-mul-wide c = omega arith
+mul-wide16 : tie.Need-mul-wide16 Inv-loop μ-loop
+mul-wide16 c = omega arith
 
-shared-slice-read-wide : tie.Need-shared-slice-read-wide Inv-loop μ-loop
-shared-slice-read-wide c = omega arith
+shared-slice-read-wide16 : tie.Need-shared-slice-read-wide16 Inv-loop μ-loop
+shared-slice-read-wide16 c = omega arith
 
-wide-requires : tie.Need-wide-requires Inv-loop μ-loop
-wide-requires c κs = search needs
+wide16-requires : tie.Need-wide16-requires Inv-loop μ-loop
+wide16-requires c κs = search needs
 
 add-reached : tie.Need-add-reached Inv-loop μ-loop
 add-reached c = omega arith
@@ -55,7 +55,7 @@ loop-again c =
     let a = c .before .before .before .before .before .before .args in
     let l = c .before .before .before .before .loop in
     let f = shelf-of (a .list .now) (l .inv .1 .passes) in
-    let e = c .before .wide .ensures .0 in (
+    let e = c .before .wide16 .ensures .0 in (
       ⊎-elim
           (λ w. w .1
           ∙ sym (goes-on (a .list .now) f (l .k) (a .sheet) (l .inv .1 .numbered) (omega arith) (omega arith)
@@ -83,9 +83,9 @@ last-reached-spec =
     Inv-loop
     μ-loop
     loop-holds
-    mul-wide
-    shared-slice-read-wide
-    wide-requires
+    mul-wide16
+    shared-slice-read-wide16
+    wide16-requires
     add-reached
     add-k
     loop-less

@@ -13,8 +13,9 @@ use borrow.Author.Needs.{needs}
 use Rattle.slip.proofs.fields.budget.Statement.{statement}
 use Rattle.slip.proofs.fields.budget.Tie as tie
 
-stands-requires : tie.Need-stands-requires
-stands-requires c κs = (omega (arith, head-fits (c .before .args .slip .now) (c .before .pre .0 .head)), omega arith)
+bit-stands-requires : tie.Need-bit-stands-requires
+bit-stands-requires c
+    κs = (omega (arith, head-fits (c .before .args .slip .now) (c .before .pre .0 .head)), omega arith)
 
 bound-requires : tie.Need-bound-requires
 bound-requires c κs = asked-made (c .before .before .before .args .slip .now) (c .before .before .before .args .grid)
@@ -26,7 +27,7 @@ returns c =
     let s = c .before .before .before .before in
     let slip = s .args .slip .now in
     let absent : stands slip 1 ≡ false =
-    sym (c .before .before .stands .ensures) ∙ not-true _ (c .before .if1 .taken) in
+    sym (c .before .before .bit-stands .ensures) ∙ not-true _ (c .before .if1 .taken) in
     let end : s .args .at ≡ fieldAt slip 2 = omega (arith, s .pre .1, at-next slip 1, length-absent slip 1 absent) in
     let is : c .bound .result ≡ slipBudget slip =
     c .bound .ensures ∙ ap bound (asked-made slip (s .args .grid) (s .pre .0) .1) ∙ rw absent in
@@ -39,7 +40,8 @@ returns-2 : tie.Need-returns-2
 returns-2 c =
     let s = c .before .before .before .before in
     let slip = s .args .slip .now in
-    let there : stands slip 1 ≡ true = sym (c .before .before .stands .ensures) ∙ not-false _ (c .before .if1 .left) in
+    let there : stands slip 1 ≡ true = sym (c .before .before .bit-stands .ensures)
+    ∙ not-false _ (c .before .if1 .left) in
     sym (no-budget slip (omega (arith, s .pre .1, s .pre .2, at-next slip 1, length-there slip 1 there)))
 
 number64-requires : tie.Need-number64-requires
@@ -54,7 +56,7 @@ returns-3 c =
     let s = c .before .before .before .before .before in
     let slip = s .args .slip .now in
     let there : stands slip 1 ≡ true =
-    sym (c .before .before .before .stands .ensures) ∙ not-false _ (c .before .before .if1 .left) in
+    sym (c .before .before .before .bit-stands .ensures) ∙ not-false _ (c .before .before .if1 .left) in
     let end : s .args .at + 8 ≡ fieldAt slip 2 = omega (arith, s .pre .1, at-next slip 1, length-there slip 1 there) in
     let is : c .number64 .result ≡ slipBudget slip = c .number64 .ensures ∙ rw (there, s .pre .1) in
     rw (is, end) (sym (budget-is slip (omega (arith, end, s .pre .2))))
@@ -63,7 +65,7 @@ pub budget-spec : {M : Type 1} → statement M
 budget-spec =
     tie.close
     (tie.spec
-    stands-requires
+    bit-stands-requires
     bound-requires
     returns
     sub-if2

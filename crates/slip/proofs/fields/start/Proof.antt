@@ -16,8 +16,9 @@ use Rattle.slip_fields.specs.Slip.{stands, defaultStart, slipStart, fieldAt}
 use Rattle.slip.proofs.fields.start.Statement.{statement}
 use Rattle.slip.proofs.fields.start.Tie as tie
 
-stands-requires : tie.Need-stands-requires
-stands-requires c κs = (omega (arith, head-fits (c .before .args .slip .now) (c .before .pre .0 .head)), omega arith)
+bit-stands-requires : tie.Need-bit-stands-requires
+bit-stands-requires c
+    κs = (omega (arith, head-fits (c .before .args .slip .now) (c .before .pre .0 .head)), omega arith)
 
 default-start-requires : tie.Need-default-start-requires
 default-start-requires c κs = asked-made (c .before .before .before .args .slip .now)
@@ -29,7 +30,7 @@ returns c =
     let s = c .before .before .before .before in
     let slip = s .args .slip .now in
     let absent : stands slip 0 ≡ false =
-    sym (c .before .before .stands .ensures) ∙ not-true _ (c .before .if1 .taken) in
+    sym (c .before .before .bit-stands .ensures) ∙ not-true _ (c .before .if1 .taken) in
     let end : s .args .at ≡ fieldAt slip 1 = omega (arith, s .pre .1, at-next slip 0, length-absent slip 0 absent) in
     let is : c .default-start .result ≡ padded 16 (slipStart slip) = c .default-start .ensures
     ∙ ap (λ g. padded 16 (defaultStart g)) (asked-made slip (s .args .grid) (s .pre .0) .1)
@@ -56,7 +57,8 @@ returns-2 c =
     let s = c .before .before .before .before in
     let slip = s .args .slip .now in
     let n = asked-indices slip (s .args .grid) (s .pre .0) in
-    let there : stands slip 0 ≡ true = sym (c .before .before .stands .ensures) ∙ not-false _ (c .before .if1 .left) in
+    let there : stands slip 0 ≡ true = sym (c .before .before .bit-stands .ensures)
+    ∙ not-false _ (c .before .if1 .left) in
     let end : s .args .at + 2 * s .args .grid .indices ≡ fieldAt slip 1 =
     omega (arith, n .0, s .pre .1, at-next slip 0, length-there slip 0 there) in
     sym (no-start slip (omega (arith, end, c .if2 .taken, s .pre .1, at-first slip, head-fits slip (s .pre .0 .head))))
@@ -77,7 +79,7 @@ words-requires c κs =
     let slip = s .args .slip .now in
     let n = asked-indices slip (s .args .grid) (s .pre .0) in
     let there : stands slip 0 ≡ true =
-    sym (c .before .before .before .stands .ensures) ∙ not-false _ (c .before .before .if1 .left) in
+    sym (c .before .before .before .bit-stands .ensures) ∙ not-false _ (c .before .before .if1 .left) in
     let end : s .args .at + 2 * s .args .grid .indices ≡ fieldAt slip 1 =
     omega (arith, n .0, s .pre .1, at-next slip 0, length-there slip 0 there) in
     let k = length-take-le {A = ℕ} (s .args .grid .indices) (replicate 16 0) (n .1) in
@@ -106,7 +108,7 @@ returns-3 c =
     let s = c .before .before .before .before .before .before .before in
     let slip = s .args .slip .now in
     let n = asked-indices slip (s .args .grid) (s .pre .0) in
-    let there : stands slip 0 ≡ true = sym (c .before .before .before .before .before .stands .ensures)
+    let there : stands slip 0 ≡ true = sym (c .before .before .before .before .before .bit-stands .ensures)
     ∙ not-false _ (c .before .before .before .before .if1 .left) in
     let end : s .args .at + 2 * s .args .grid .indices ≡ fieldAt slip 1 =
     omega (arith, n .0, s .pre .1, at-next slip 0, length-there slip 0 there) in
@@ -128,7 +130,7 @@ pub start-spec : {M : Type 1} → statement M
 start-spec =
     tie.close
     (tie.spec
-    stands-requires
+    bit-stands-requires
     default-start-requires
     returns
     sub-if2

@@ -48,14 +48,16 @@ most c =
 sub-left : tie.Need-sub-left
 sub-left c = search needs
 
-stands-requires : tie.Need-stands-requires
-stands-requires c κs = (omega (arith, head-fits (c .before .args .slip .now) (c .before .pre .0 .head)), omega arith)
+bit-stands-requires : tie.Need-bit-stands-requires
+bit-stands-requires c
+    κs = (omega (arith, head-fits (c .before .args .slip .now) (c .before .pre .0 .head)), omega arith)
 
 returns : tie.Need-returns
 returns c =
     let s = c .before .before .before .before .before in
     let slip = s .args .slip .now in
-    let two : stands slip 2 ≡ true = sym (c .before .before .before .stands .ensures) ∙ c .before .before .if1 .taken in
+    let two : stands slip 2 ≡ true = sym (c .before .before .before .bit-stands .ensures)
+    ∙ c .before .before .if1 .taken in
     let P = asked-points slip (s .args .grid) (s .pre .0) in
     sym (no-table slip (ne-eqb (length slip) (fieldsEnd slip)
     (λ e. c .if2 .taken (omega (arith, e, P, s .pre .1, labels-last slip (s .pre .0 .head) two)))))
@@ -64,14 +66,15 @@ returns-2 : tie.Need-returns-2
 returns-2 c =
     let s = c .before .before .before .before .before in
     let slip = s .args .slip .now in
-    let two : stands slip 2 ≡ true = sym (c .before .before .before .stands .ensures) ∙ c .before .before .if1 .taken in
+    let two : stands slip 2 ≡ true = sym (c .before .before .before .bit-stands .ensures)
+    ∙ c .before .before .if1 .taken in
     let P = asked-points slip (s .args .grid) (s .pre .0) in
     let whole =
     exact slip (omega (arith, c .if2 .left, P, s .pre .1, s .pre .2, labels-last slip (s .pre .0 .head) two)) in
     sym (table-is slip whole ∙ rw (two, s .pre .1))
 
-stands-requires-2 : tie.Need-stands-requires-2
-stands-requires-2 c κs = (
+bit-stands-requires-2 : tie.Need-bit-stands-requires-2
+bit-stands-requires-2 c κs = (
   omega (arith, head-fits (c .before .before .before .args .slip .now) (c .before .before .before .pre .0 .head)),
   omega arith,
 )
@@ -81,8 +84,8 @@ returns-3 c =
     let s = c .before .before .before .before .before .before in
     let slip = s .args .slip .now in
     let two : stands slip 2 ≡ false =
-    sym (c .before .before .before .before .stands .ensures) ∙ c .before .before .before .if1 .left in
-    let three : stands slip 3 ≡ true = sym (c .before .before .stands2 .ensures) ∙ c .before .if3 .taken in
+    sym (c .before .before .before .before .bit-stands .ensures) ∙ c .before .before .before .if1 .left in
+    let three : stands slip 3 ≡ true = sym (c .before .before .bit-stands2 .ensures) ∙ c .before .if3 .taken in
     sym (no-table slip (ne-eqb (length slip) (fieldsEnd slip)
     (λ e. c .if4 .taken (omega (arith, e, s .pre .1, game-last slip (s .pre .0 .head) two three .1)))))
 
@@ -95,9 +98,10 @@ returns-4 c =
     let s = c .before .before .before .before .before .before .before in
     let slip = s .args .slip .now in
     let two : stands slip 2 ≡ false =
-    sym (c .before .before .before .before .before .stands .ensures) ∙ c .before .before .before .before .if1 .left in
+    sym (c .before .before .before .before .before .bit-stands .ensures)
+    ∙ c .before .before .before .before .if1 .left in
     let three : stands slip 3 ≡ true =
-    sym (c .before .before .before .stands2 .ensures) ∙ c .before .before .if3 .taken in
+    sym (c .before .before .before .bit-stands2 .ensures) ∙ c .before .before .if3 .taken in
     let last = game-last slip (s .pre .0 .head) two three in
     let whole = exact slip (omega (arith, c .before .if4 .left, s .pre .1, s .pre .2, last .1)) in
     sym (table-is slip whole ∙ rw (two, three, last .0, ← s .pre .1))
@@ -126,10 +130,12 @@ returns-5 : tie.Need-returns-5
 returns-5 c =
     let s = c .before .before .before .before .before .before .before .before .before in
     let slip = s .args .slip .now in
-    let two : stands slip 2 ≡ false = sym (c .before .before .before .before .before .before .before .stands .ensures)
+    let two : stands slip 2
+    ≡ false = sym (c .before .before .before .before .before .before .before .bit-stands .ensures)
     ∙ c .before .before .before .before .before .before .if1 .left in
     let three : stands slip 3 ≡ false =
-    sym (c .before .before .before .before .before .stands2 .ensures) ∙ c .before .before .before .before .if3 .left in
+    sym (c .before .before .before .before .before .bit-stands2 .ensures)
+    ∙ c .before .before .before .before .if3 .left in
     let n = losses-are (c .before) in
     sym (no-table slip (ne-eqb (length slip) (fieldsEnd slip)
     (λ e. c .if5 .taken (omega (arith, e, n, s .pre .1, losses-last slip (s .pre .0 .head) two three .1)))))
@@ -138,10 +144,12 @@ returns-6 : tie.Need-returns-6
 returns-6 c =
     let s = c .before .before .before .before .before .before .before .before .before in
     let slip = s .args .slip .now in
-    let two : stands slip 2 ≡ false = sym (c .before .before .before .before .before .before .before .stands .ensures)
+    let two : stands slip 2
+    ≡ false = sym (c .before .before .before .before .before .before .before .bit-stands .ensures)
     ∙ c .before .before .before .before .before .before .if1 .left in
     let three : stands slip 3 ≡ false =
-    sym (c .before .before .before .before .before .stands2 .ensures) ∙ c .before .before .before .before .if3 .left in
+    sym (c .before .before .before .before .before .bit-stands2 .ensures)
+    ∙ c .before .before .before .before .if3 .left in
     let n = losses-are (c .before) in
     let last = losses-last slip (s .pre .0 .head) two three in
     let whole = exact slip (omega (arith, c .if5 .left, n, s .pre .1, s .pre .2, last .1)) in
@@ -152,10 +160,10 @@ table-spec =
     tie.close
     (tie.spec
     sub-left
-    stands-requires
+    bit-stands-requires
     returns
     returns-2
-    stands-requires-2
+    bit-stands-requires-2
     returns-3
     shared-slice-read-t13
     returns-4

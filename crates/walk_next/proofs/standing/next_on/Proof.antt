@@ -11,8 +11,8 @@ use native.Mathlib.Omega.{arith}
 use Rattle.walk_next.proofs.standing.next_on.Statement.{statement}
 use Rattle.walk_next.proofs.standing.next_on.Tie as tie
 
-in-range-requires : tie.Need-in-range-requires
-in-range-requires c κs = c .before .pre .0
+counts-in-range-requires : tie.Need-counts-in-range-requires
+counts-in-range-requires c κs = c .before .pre .0
 
 refused-requires : tie.Need-refused-requires
 refused-requires c κs = search needs
@@ -24,7 +24,7 @@ returns c =
     c .refused .ensures
     ∙ refused-is (a .g) (a .w) (a .labels .now) 20
     (out-of-range (a .g) (a .w) (a .labels .now) (s .pre .0) (s .pre .1)
-    (sym (c .before .before .in-range .ensures) ∙ not-is _ (c .before .if1 .taken)))
+    (sym (c .before .before .counts-in-range .ensures) ∙ not-is _ (c .before .if1 .taken)))
 
 is-kept-requires : tie.Need-is-kept-requires
 is-kept-requires c κs =
@@ -65,7 +65,7 @@ stand-requires c κs =
     ∙ is-not _ (c .before .before .before .before .before .if2 .left))
     (c .before .before .before .before .before .before .is-kept .ensures .1)
     (c .before .before .before .before .before .before .is-kept .ensures .2)
-    (sym (c .before .before .before .before .before .before .before .before .before .in-range .ensures)
+    (sym (c .before .before .before .before .before .before .before .before .before .counts-in-range .ensures)
     ∙ is-not _ (c .before .before .before .before .before .before .before .before .if1 .left))
     (c .before .before .wide .result - 1) (omega (arith, c .before .before .wide .ensures))
 
@@ -76,7 +76,7 @@ pub next-on-spec : {M : Type 1} → statement M
 next-on-spec =
     tie.close
     (tie.spec
-    in-range-requires
+    counts-in-range-requires
     refused-requires
     returns
     is-kept-requires

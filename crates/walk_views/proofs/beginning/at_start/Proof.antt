@@ -2,8 +2,7 @@
 use mathlib.Core.Path.{_≡_, sym, ap, _∙_}
 use borrow.Author.Needs.{needs}
 use Rattle.grid.proofs.Fields.{made-code, made-is, made-shape}
-use Rattle.grid.specs.Build.{lent}
-use Rattle.grid_points.specs.Grid.{Grid}
+use Rattle.grid_points.specs.Grid.{Grid, lent}
 use Rattle.place.specs.Problem.{label}
 use Rattle.place.specs.Questions.{tableQuestions}
 use Rattle.questions.specs.Questions.{firstNo}

@@ -6,7 +6,7 @@ use Rattle.walk_ways.proofs.Chosen.{can-tell, can-try, long-o, m-is, ok
 use Rattle.walk_ways.proofs.Chosen.{tried-on}
 use Rattle.walk_ways.proofs.Decided.{other-16, other-20, other-20-unknown, other-back, other-on}
 use Rattle.walk_ways.specs.Standing.{leadsBack}
-use Rattle.walk_ways.specs.declared.Way.{Way}
+use Rattle.walk_ways.specs.declared.Move.{Move}
 use borrow.Author.Needs.{needs}
 use native.Mathlib.Omega.{arith}
 use Rattle.walk_ways.proofs.choice.from_other.Statement.{statement}
@@ -42,7 +42,7 @@ returns c =
     c .refused .ensures
     ∙ refused-is (s .args .g) (s .args .w) (s .args .labels .now) 16
     (other-16 S k e N long
-    (ap (λ (v : Way). leadsBack v (s .args .w .before)) (sym (c .before .before .before .before .way .ensures))
+    (ap (λ (v : Move). leadsBack v (s .args .w .before)) (sym (c .before .before .before .before .way .ensures))
     ∙ sym (c .before .before .before .leads-back .ensures .0)
     ∙ c .before .before .if1 .taken)
     (c .before .if2 .taken))
@@ -82,7 +82,7 @@ returns-2 c =
     c .told .ensures
     ∙ rw (c .before .way2 .ensures)
     (told-is S N 1 R (other-on S k e N long
-    (ap (λ (v : Way). leadsBack v (s .args .w .before)) (sym (c .before .before .before .before .before .way .ensures))
+    (ap (λ (v : Move). leadsBack v (s .args .w .before)) (sym (c .before .before .before .before .before .way .ensures))
     ∙ sym (c .before .before .before .before .leads-back .ensures .0)
     ∙ c .before .before .before .if1 .taken)
     (c .before .before .if2 .left)))
@@ -101,7 +101,7 @@ returns-3 c =
     c .refused2 .ensures
     ∙ refused-is (s .args .g) (s .args .w) (s .args .labels .now) 20
     (other-20-unknown S k e N long
-    (ap (λ (v : Way). leadsBack v (s .args .w .before)) (sym (c .before .before .before .before .way .ensures))
+    (ap (λ (v : Move). leadsBack v (s .args .w .before)) (sym (c .before .before .before .before .way .ensures))
     ∙ sym (c .before .before .before .leads-back .ensures .0)
     ∙ c .before .before .if1 .left)
     (c .before .if3 .taken))
@@ -145,7 +145,7 @@ returns-4 c =
     c .told2 .ensures
     ∙ rw (c .before .before .before .before .before .before .before .way .ensures)
     (told-is S N 6 R (other-back S k e N long
-    (ap (λ (v : Way). leadsBack v (s .args .w .before)) (sym (c .before .before .before .way3 .ensures))
+    (ap (λ (v : Move). leadsBack v (s .args .w .before)) (sym (c .before .before .before .way3 .ensures))
     ∙ sym (c .before .before .leads-back2 .ensures .0)
     ∙ c .before .if4 .taken)
     (c .before .before .before .before .if3 .left)))
@@ -166,11 +166,11 @@ returns-5 c =
     ∙ refused-is (s .args .g) (s .args .w) (s .args .labels .now) 20
     (other-20 S k e N long
     (ap
-    (λ (v : Way). leadsBack v (s .args .w .before))
+    (λ (v : Move). leadsBack v (s .args .w .before))
     (sym (c .before .before .before .before .before .before .before .way .ensures))
     ∙ sym (c .before .before .before .before .before .before .leads-back .ensures .0)
     ∙ c .before .before .before .before .before .if1 .left)
-    (ap (λ (v : Way). leadsBack v (s .args .w .before)) (sym (c .before .before .before .way3 .ensures))
+    (ap (λ (v : Move). leadsBack v (s .args .w .before)) (sym (c .before .before .before .way3 .ensures))
     ∙ sym (c .before .before .leads-back2 .ensures .0)
     ∙ c .before .if4 .left)
     (c .before .before .before .before .if3 .left))

@@ -6,7 +6,7 @@ use Prim.Native.Nat.{_-_, _≤_}
 use native.Mathlib.Omega.{arith}
 use borrow.Author.Needs.{needs}
 use lib.ListN.{length}
-use Rattle.grid.specs.Build.{lent}
+use Rattle.grid_points.specs.Grid.{lent}
 use Rattle.weighed_losses.proofs.Levels.{behind-none, behind-turn, behind-skip, behind-low}
 use Rattle.weighed_losses.specs.Levels.{behind}
 use Rattle.weighed_losses.proofs.lengths.profiles_behind.Statement.{statement}

@@ -5,8 +5,7 @@ use Prim.Native.Nat.{ℕ, _+_, _-_, _*_, _/_, _%_, _≤_, _<_}
 use native.Mathlib.Omega.{arith}
 use borrow.Author.Needs.{needs}
 use lib.ListN.{length, length-set}
-use Rattle.grid.specs.Build.{lent}
-use Rattle.grid_points.specs.Grid.{at}
+use Rattle.grid_points.specs.Grid.{at, lent}
 use Rattle.weighed_losses.proofs.Writing.{entries-turn}
 use Rattle.weighed_losses.specs.Levels.{behind}
 use Rattle.weighed_losses.proofs.lengths.rests.Statement.{statement}

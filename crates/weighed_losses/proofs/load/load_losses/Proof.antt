@@ -8,8 +8,7 @@ use lib.ListN.{length, take, drop, length-drop}
 use lib.Seq.{getD-take, getD-drop, length-take-le}
 use Rattle.grid_points.proofs.Accepted.{Accepted, accepted}
 use Rattle.grid_points.proofs.Round.{block-spans}
-use Rattle.grid.specs.Build.{lent}
-use Rattle.grid_points.specs.Grid.{Grid, Point, at, numBlocks, numIndices, firstIndex, blockOf}
+use Rattle.grid_points.specs.Grid.{Grid, Point, at, numBlocks, numIndices, firstIndex, blockOf, lent}
 use Rattle.combinatorics.specs.Lists.{sum}
 use Rattle.weighed_losses.proofs.Levels.{behind-few, stand-alike}
 use Rattle.weighed_losses.proofs.Writing.{begin-inside, load-turn, load-player, load-from}

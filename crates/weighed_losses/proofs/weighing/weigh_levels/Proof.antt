@@ -8,8 +8,7 @@ use borrow.Author.Needs.{needs}
 use lib.ListN.{length, take, drop}
 use Rattle.grid_points.proofs.Accepted.{Accepted, accepted}
 use Rattle.grid_points.proofs.Round.{block-fits}
-use Rattle.grid.specs.Build.{lent}
-use Rattle.grid_points.specs.Grid.{Grid, numIndices, firstIndex}
+use Rattle.grid_points.specs.Grid.{Grid, numIndices, firstIndex, lent}
 use Rattle.points_in_order.proofs.Blocks.{point-length}
 use Rattle.losses.proofs.Players.{lent-mix}
 use Rattle.losses.specs.Game.{mix}

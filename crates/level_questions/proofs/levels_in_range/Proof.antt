@@ -1,7 +1,7 @@
--- `level_questions::in_range` meets its contract, test by test. Assumes nothing.
+-- `level_questions::levels_in_range` meets its contract, test by test. Assumes nothing.
 use borrow.Author.Tests.{le-leb, lt-leb}
-use Rattle.level_questions.proofs.in_range.Statement.{statement}
-use Rattle.level_questions.proofs.in_range.Tie as tie
+use Rattle.level_questions.proofs.levels_in_range.Statement.{statement}
+use Rattle.level_questions.proofs.levels_in_range.Tie as tie
 
 returns : tie.Need-returns
 returns c = rw (lt-leb 2 (c .before .args .factor) (c .if1 .taken))
@@ -41,5 +41,5 @@ returns-5 c =
       le-leb (a .levels) 8 (c .if4 .left),
     )
 
-pub in-range-spec : {M : Type 1} → statement M
-in-range-spec = tie.close (tie.spec returns returns-2 returns-3 returns-4 returns-5)
+pub levels-in-range-spec : {M : Type 1} → statement M
+levels-in-range-spec = tie.close (tie.spec returns returns-2 returns-3 returns-4 returns-5)

@@ -5,8 +5,8 @@ use native.Mathlib.Omega.{arith}
 use Rattle.points_in_order.proofs.Shifts.{shifted-none, shifted-stores}
 use Rattle.points_in_order.specs.Shifted.{endShifted}
 use borrow.Author.Needs.{needs}
-use Rattle.boundary.proofs.table.shift.Statement.{statement}
-use Rattle.boundary.proofs.table.shift.Tie as tie
+use Rattle.boundary.proofs.table.shift_end.Statement.{statement}
+use Rattle.boundary.proofs.table.shift_end.Tie as tie
 
 returns : tie.Need-returns
 returns c =
@@ -69,8 +69,8 @@ same-length c = search needs
 returns-2 : tie.Need-returns-2
 returns-2 c = let s = c .before .before .before in shifted-stores (s .args .point .now) (s .pre .0 .0) (s .args .by)
 
-pub shift-spec : {M : Type 1} → statement M
-shift-spec =
+pub shift-end-spec : {M : Type 1} → statement M
+shift-end-spec =
     tie.close
     (tie.spec
     returns

@@ -11,12 +11,12 @@ use Rattle.combinatorics.specs.Lists.{sum}
 use Rattle.points_in_order.proofs.PointAfter.{Passed, passed-start, lent-turn, lent-ready, passed-moved}
 use Rattle.points_in_order.proofs.PointAfter.{passed-end}
 use Rattle.points_in_order.proofs.Blocks.{point-length}
-use Rattle.grid.specs.Build.{lent}
 use Rattle.points_in_order.specs.PointAfter.{after, pointStep}
 use Rattle.grid_points.proofs.Accepted.{accepted}
 use Rattle.grid_points.proofs.Round.{block-fits}
-use Rattle.points_in_order.proofs.advance.Statement.{statement}
-use Rattle.points_in_order.proofs.advance.Tie as tie
+use Rattle.grid_points.specs.Grid.{lent}
+use Rattle.points_in_order.proofs.next_point.Statement.{statement}
+use Rattle.points_in_order.proofs.next_point.Tie as tie
 
 abbrev Inv-loop : tie.InvT-loop
 Inv-loop sizes firsts point₀ j₀ point j =
@@ -151,8 +151,8 @@ returns-2 c =
       (omega (arith, accepted (lent (s .args .sizes .now) (s .pre .0)) (s .pre .1 .grid .accepted) .someBlock), refl),
     )
 
-pub advance-spec : {M : Type 1} → statement M
-advance-spec =
+pub next-point-spec : {M : Type 1} → statement M
+next-point-spec =
     tie.close
     (tie.spec
     Inv-loop

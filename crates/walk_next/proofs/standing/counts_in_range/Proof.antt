@@ -1,4 +1,4 @@
--- `standing::in_range` meets its contract. Assumes nothing.
+-- `standing::counts_in_range` meets its contract. Assumes nothing.
 use mathlib.Core.Bool.{Bool, true, false, _&&_}
 use mathlib.Core.Path.{_≡_, refl}
 use borrow.Author.Tests.{le-leb, lt-leb}
@@ -7,8 +7,8 @@ use lib.Dec.{leb}
 use native.Mathlib.Omega.{arith}
 use Rattle.grid_points.specs.Grid.{bound}
 use Rattle.grid.specs.Made.{shape}
-use Rattle.walk_next.proofs.standing.in_range.Statement.{statement}
-use Rattle.walk_next.proofs.standing.in_range.Tie as tie
+use Rattle.walk_next.proofs.standing.counts_in_range.Statement.{statement}
+use Rattle.walk_next.proofs.standing.counts_in_range.Tie as tie
 
 and-no : (a : Bool) → false ≡ (a && false)
 and-no true = refl
@@ -40,5 +40,5 @@ returns-3 c = let a = c .before .before .before .args in
       c .bound .ensures,
     ) (and-yes (leb (a .places) (bound (shape (a .g)))))
 
-pub in-range-spec : {M : Type 1} → statement M
-in-range-spec = tie.close (tie.spec returns returns-2 bound-requires returns-3)
+pub counts-in-range-spec : {M : Type 1} → statement M
+counts-in-range-spec = tie.close (tie.spec returns returns-2 bound-requires returns-3)

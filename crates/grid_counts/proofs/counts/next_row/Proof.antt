@@ -1,4 +1,4 @@
--- `counts::raise` meets its contract. The invariant: before k stand the binomials of the next row, from k on
+-- `counts::next_row` meets its contract. The invariant: before k stand the binomials of the next row, from k on
 -- those of the old one. Assumes nothing.
 use mathlib.Core.Path.{_≡_}
 use Prim.Native.Nat.{ℕ, suc, _≤_, _<_, _-_}
@@ -7,8 +7,8 @@ use Rattle.grid_counts.specs.Capped.{IsRow}
 use Rattle.grid_counts.proofs.Capped.{Raised, raised-start, raised-end, raised-turn, small-turn}
 use borrow.Author.Needs.{needs}
 use native.Mathlib.Omega.{arith}
-use Rattle.grid_counts.proofs.counts.raise.Statement.{statement}
-use Rattle.grid_counts.proofs.counts.raise.Tie as tie
+use Rattle.grid_counts.proofs.counts.next_row.Statement.{statement}
+use Rattle.grid_counts.proofs.counts.next_row.Tie as tie
 
 abbrev Inv-loop : tie.InvT-loop
 Inv-loop row₀ last k₀ row k = (1 ≤ k) × (k ≤ suc last) × (last < 16) × (length row ≡ 16)
@@ -75,8 +75,8 @@ returns c =
     let l = c .before .loop in
     (l .inv .3, λ r h. raised-end r (c .before .before .args .last) (l .k) (l .row) (omega arith) (l .inv .5 r h))
 
-pub raise-spec : {M : Type 1} → statement M
-raise-spec =
+pub next-row-spec : {M : Type 1} → statement M
+next-row-spec =
     tie.close
     (tie.spec
     Inv-loop

@@ -8,8 +8,8 @@ use mir.Syntax.{w64}
 use mir.Facts.{toZ-pos, toZ-ofZ}
 use Rattle.corners.proofs.Integers.{mag-low, difference-low}
 use borrow.Author.Needs.{needs}
-use Rattle.corners.proofs.largest.difference.Statement.{statement}
-use Rattle.corners.proofs.largest.difference.Tie as tie
+use Rattle.corners.proofs.largest.signed_difference.Statement.{statement}
+use Rattle.corners.proofs.largest.signed_difference.Tie as tie
 
 module _ (c : tie.Start) where
   abbrev result : ℤ
@@ -36,5 +36,5 @@ sub-result c = rw (is c) (fits c)
 returns : tie.Need-returns
 returns c = rw (is c, toZ-ofZ {w = w64} (fits c)) (refl, low c)
 
-pub difference-spec : {M : Type 1} → statement M
-difference-spec = tie.close (tie.spec cast-result cast-result-2 sub-result returns)
+pub signed-difference-spec : {M : Type 1} → statement M
+signed-difference-spec = tie.close (tie.spec cast-result cast-result-2 sub-result returns)

@@ -1,4 +1,4 @@
--- `centre::total` meets its contract: after k turns the sum is that of the first k vertices. Assumes nothing.
+-- `centre::coordinate_sum` meets its contract: after k turns the sum is that of the first k vertices. Assumes nothing.
 use mathlib.Core.Path.{_≡_, refl}
 use Prim.Native.Nat.{_+_, _-_, _*_, _≤_, _<_}
 use native.Mathlib.Omega.{arith}
@@ -7,8 +7,8 @@ use borrow.Author.Needs.{needs}
 use Rattle.sheet_lines.specs.Answer.{rows}
 use Rattle.sheet_lines.specs.Sheet.{total as totalOf}
 use Rattle.sheet_lines.proofs.Rows.{room, total-more}
-use Rattle.sheet.proofs.centre.total.Statement.{statement}
-use Rattle.sheet.proofs.centre.total.Tie as tie
+use Rattle.sheet.proofs.centre.coordinate_sum.Statement.{statement}
+use Rattle.sheet.proofs.centre.coordinate_sum.Tie as tie
 
 abbrev Inv-loop : tie.InvT-loop
 Inv-loop count vertices m h sum₀ k₀ sum k = (sum ≡ totalOf (rows k m vertices) h) × (sum ≤ 65535 * k) × (k ≤ count)
@@ -28,20 +28,20 @@ inside c =
 loop-holds : tie.Need-loop-holds Inv-loop μ-loop
 loop-holds c = (refl, omega arith, omega arith)
 
-mul-wide : tie.Need-mul-wide Inv-loop μ-loop
-mul-wide c = omega (arith, inside c)
+mul-u64-of : tie.Need-mul-u64-of Inv-loop μ-loop
+mul-u64-of c = omega (arith, inside c)
 
-add-wide : tie.Need-add-wide Inv-loop μ-loop
-add-wide c = omega (arith, inside c)
+add-u64-of : tie.Need-add-u64-of Inv-loop μ-loop
+add-u64-of c = omega (arith, inside c)
 
-mul-wide-2 : tie.Need-mul-wide-2 Inv-loop μ-loop
-mul-wide-2 c = omega (arith, inside c)
+mul-u64-of-2 : tie.Need-mul-u64-of-2 Inv-loop μ-loop
+mul-u64-of-2 c = omega (arith, inside c)
 
-shared-slice-read-wide : tie.Need-shared-slice-read-wide Inv-loop μ-loop
-shared-slice-read-wide c = inside (c .before)
+shared-slice-read-u64-of : tie.Need-shared-slice-read-u64-of Inv-loop μ-loop
+shared-slice-read-u64-of c = inside (c .before)
 
-wide-requires : tie.Need-wide-requires Inv-loop μ-loop
-wide-requires c κs = search needs
+u64-of-requires : tie.Need-u64-of-requires Inv-loop μ-loop
+u64-of-requires c κs = search needs
 
 add-sum : tie.Need-add-sum Inv-loop μ-loop
 add-sum c = omega arith
@@ -56,7 +56,7 @@ loop-again : tie.Need-loop-again Inv-loop μ-loop
 loop-again c =
     let a = c .before .before .before .before .before .args in
     let l = c .before .before .before .loop in (
-      rw (total-more (l .k) (a .m) (a .h) (a .vertices .now) (omega arith), ← l .inv .0, c .wide .ensures .0),
+      rw (total-more (l .k) (a .m) (a .h) (a .vertices .now) (omega arith), ← l .inv .0, c .u64-of .ensures .0),
       omega arith,
       omega arith,
     )
@@ -67,18 +67,18 @@ returns c =
     let all : l .k ≡ c .before .before .before .args .count = omega arith in
     (rw all at (l .inv .0), omega arith)
 
-pub total-spec : {M : Type 1} → statement M
-total-spec =
+pub coordinate-sum-spec : {M : Type 1} → statement M
+coordinate-sum-spec =
     tie.close
     (tie.spec
     Inv-loop
     μ-loop
     loop-holds
-    mul-wide
-    add-wide
-    mul-wide-2
-    shared-slice-read-wide
-    wide-requires
+    mul-u64-of
+    add-u64-of
+    mul-u64-of-2
+    shared-slice-read-u64-of
+    u64-of-requires
     add-sum
     add-k
     loop-less
