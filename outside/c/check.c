@@ -1,4 +1,5 @@
-/* Calls each function of the library from C, on document 01's examples and on a small shelf, and says whether they give what the papers say. */
+/* Calls each function of the library from C, on document 01's examples and on a small shelf, and says whether they give
+ * what the papers say. */
 #include "leveretplate.h"
 
 #include <stdio.h>
@@ -17,7 +18,8 @@ static uint8_t sheet[LEVERETPLATE_SHEET];
 static void check_sheet(void)
 {
     const uint8_t slip[] = {4, 2, 2, 2, 1, 0, 1, 0, 2, 2, 2, 4};
-    const char expected[] = "places 5\nlabels read 4\nbound 68\nend facet\nblock 1\nvertices 1\n0 1 1 0\ncentre 0 10000 10000 0\n";
+    const char expected[]
+        = "places 5\nlabels read 4\nbound 68\nend facet\nblock 1\nvertices 1\n0 1 1 0\ncentre 0 10000 10000 0\n";
     size_t length = leveretplate_sheet(slip, sizeof slip, sheet);
     expect("the example's sheet", length == strlen(expected) && memcmp(sheet, expected, length) == 0);
     length = leveretplate_sheet(slip, sizeof slip - 1, sheet);
@@ -37,7 +39,9 @@ static void check_run(void)
     number = leveretplate_run(sizes, 2, divisions, 2, start, 4, table, 4, answer, 11, 68, facts);
     expect("an answer buffer one short", number == 8 && facts[0] == 5 && answer[0] == 77);
     number = leveretplate_run(sizes, 2, divisions, 2, start, 4, table, 4, answer, 13, 2, facts);
-    expect("a budget of 2", number == 9 && facts[0] == 2 && facts[1] == 6 && facts[2] == 7 && facts[3] == 8 && facts[4] == 9 && answer[0] == 77);
+    expect("a budget of 2",
+        number == 9 && facts[0] == 2 && facts[1] == 6 && facts[2] == 7 && facts[3] == 8 && facts[4] == 9
+            && answer[0] == 77);
     number = leveretplate_run(sizes, 2, divisions, 2, start, 4, table, 4, answer, 13, 68, facts);
     expect("the end", number == 0 && facts[0] == 3 && facts[1] == 3 && facts[2] == 0 && facts[3] == 2 && facts[4] == 3);
     expect("its vertices, and the number behind them", memcmp(answer, vertices, sizeof vertices) == 0);
@@ -51,13 +55,18 @@ static void check_nearest(void)
     uint16_t answer[4] = {77, 77, 77, 77}, list[6] = {77, 77, 77, 77, 77, 77};
     uint64_t facts[LEVERETPLATE_FACTS] = {5, 6, 7, 8, 9}, near[LEVERETPLATE_NEAR] = {5, 6};
     uint8_t number;
-    number = leveretplate_nearest(sizes, 1, divisions, 1, start, 2, table, 5, answer, 4, 9, off, 2, 6, list, 6, facts, near);
+    number = leveretplate_nearest(
+        sizes, 1, divisions, 1, start, 2, table, 5, answer, 4, 9, off, 2, 6, list, 6, facts, near);
     expect("a point off the grid", number == 5 && near[0] == 5 && list[0] == 77);
-    number = leveretplate_nearest(sizes, 1, divisions, 1, start, 2, table, 5, answer, 4, 9, w, 2, 6, list, 4, facts, near);
+    number = leveretplate_nearest(
+        sizes, 1, divisions, 1, start, 2, table, 5, answer, 4, 9, w, 2, 6, list, 4, facts, near);
     expect("a list one short", number == 8 && near[0] == 5 && list[0] == 77);
-    number = leveretplate_nearest(sizes, 1, divisions, 1, start, 2, table, 5, answer, 4, 2, w, 2, 6, list, 6, facts, near);
-    expect("a budget of 2, and no vertex", number == 9 && facts[0] == 2 && near[0] == 5 && list[0] == 77 && answer[0] == 77);
-    number = leveretplate_nearest(sizes, 1, divisions, 1, start, 2, table, 5, answer, 4, 9, w, 2, 6, list, 6, facts, near);
+    number = leveretplate_nearest(
+        sizes, 1, divisions, 1, start, 2, table, 5, answer, 4, 2, w, 2, 6, list, 6, facts, near);
+    expect("a budget of 2, and no vertex",
+        number == 9 && facts[0] == 2 && near[0] == 5 && list[0] == 77 && answer[0] == 77);
+    number = leveretplate_nearest(
+        sizes, 1, divisions, 1, start, 2, table, 5, answer, 4, 9, w, 2, 6, list, 6, facts, near);
     expect("the nearest vertex, and how many are listed", number == 0 && facts[0] == 3 && near[0] == 2 && near[1] == 2);
     expect("their positions, and the numbers behind them", memcmp(list, within, sizeof within) == 0);
     expect("the vertex of the end", answer[0] == 4 && answer[1] == 0 && answer[2] == 77);
@@ -68,7 +77,8 @@ static void check_trail(void)
     /* Document 01's sheet, whose path has five places. */
     const uint8_t sizes[] = {2, 2}, table[] = {2, 2, 2, 4};
     const uint16_t divisions[] = {1, 1}, start[] = {1, 0, 1, 0};
-    const uint8_t records[] = {1, 3, 0, 101, 2, 0, 4, 4, 5, 101, 0, 0, 2, 2, 5, 67, 1, 0, 2, 0, 1, 90, 0, 0, 4, 4, 6, 77};
+    const uint8_t records[] = {
+        1, 3, 0, 101, 2, 0, 4, 4, 5, 101, 0, 0, 2, 2, 5, 67, 1, 0, 2, 0, 1, 90, 0, 0, 4, 4, 6, 77};
     const uint16_t expected[] = {1, 0, 1, 0, 0, 1, 1, 0};
     uint8_t trail[28], number;
     uint16_t answer[12], points[LEVERETPLATE_POINTS];
@@ -76,18 +86,26 @@ static void check_trail(void)
     memset(trail, 77, sizeof trail);
     memset(answer, 77, sizeof answer);
     memset(points, 77, sizeof points);
-    number = leveretplate_run_with_trail(sizes, 2, divisions, 2, start, 4, table, 4, answer, 12, 68, trail, 26, facts, &bytes);
-    expect("a trail buffer one short", number == 17 && facts[0] == 5 && bytes == 77 && trail[0] == 77 && answer[0] == 77 * 257);
-    number = leveretplate_run_with_trail(sizes, 2, divisions, 2, start, 4, table, 4, answer, 12, 4, trail, 28, facts, &bytes);
-    expect("a budget of 4, and no trail", number == 9 && facts[0] == 4 && bytes == 77 && trail[0] == 77 && answer[0] == 77 * 257);
-    number = leveretplate_run_with_trail(sizes, 2, divisions, 2, start, 4, table, 4, answer, 12, 68, trail, 28, facts, &bytes);
-    expect("the end with its trail", number == 0 && facts[0] == 5 && facts[1] == 4 && facts[2] == 1 && bytes == 27 && answer[1] == 1 && answer[4] == 77 * 257);
+    number = leveretplate_run_with_trail(
+        sizes, 2, divisions, 2, start, 4, table, 4, answer, 12, 68, trail, 26, facts, &bytes);
+    expect("a trail buffer one short",
+        number == 17 && facts[0] == 5 && bytes == 77 && trail[0] == 77 && answer[0] == 77 * 257);
+    number = leveretplate_run_with_trail(
+        sizes, 2, divisions, 2, start, 4, table, 4, answer, 12, 4, trail, 28, facts, &bytes);
+    expect("a budget of 4, and no trail",
+        number == 9 && facts[0] == 4 && bytes == 77 && trail[0] == 77 && answer[0] == 77 * 257);
+    number = leveretplate_run_with_trail(
+        sizes, 2, divisions, 2, start, 4, table, 4, answer, 12, 68, trail, 28, facts, &bytes);
+    expect("the end with its trail",
+        number == 0 && facts[0] == 5 && facts[1] == 4 && facts[2] == 1 && bytes == 27 && answer[1] == 1
+            && answer[4] == 77 * 257);
     expect("the records, and the byte behind them", memcmp(trail, records, sizeof records) == 0);
     number = leveretplate_read_trail(sizes, 2, divisions, 2, start, 4, trail, 27, 6, points, place);
     expect("a record beyond the last", number == 17 && place[0] == 5 && points[0] == 77 * 257);
     number = leveretplate_read_trail(sizes, 2, divisions, 2, start, 4, trail, 27, 5, points, place);
     expect("the last record's place", number == 0 && place[0] == 2 && place[1] == 2 && place[2] == 8 && place[3] == 4);
-    expect("its points, and 0 behind them", memcmp(points, expected, sizeof expected) == 0 && points[8] == 0 && points[255] == 0);
+    expect("its points, and 0 behind them",
+        memcmp(points, expected, sizeof expected) == 0 && points[8] == 0 && points[255] == 0);
 }
 
 static void check_label(void)
@@ -97,8 +115,11 @@ static void check_label(void)
     const uint16_t losses[] = {1, 2, 8, 5, 8, 8, 2, 2, 4, 2, 2, 1, 2, 6, 1, 3, 4, 1, 4, 2, 8, 8, 2, 1};
     uint8_t table[8] = {0};
     uint64_t count = 77;
-    expect("a loss too few", leveretplate_label(sizes, 3, divisions, 3, losses, 23, table, 8, &count) == 10 && count == 77 && table[0] == 0);
-    expect("game 1's labels", leveretplate_label(sizes, 3, divisions, 3, losses, 24, table, 8, &count) == 0 && count == 8 && memcmp(table, expected, 8) == 0);
+    expect("a loss too few",
+        leveretplate_label(sizes, 3, divisions, 3, losses, 23, table, 8, &count) == 10 && count == 77 && table[0] == 0);
+    expect("game 1's labels",
+        leveretplate_label(sizes, 3, divisions, 3, losses, 24, table, 8, &count) == 0 && count == 8
+            && memcmp(table, expected, 8) == 0);
 }
 
 static void check_boundary(void)
@@ -108,12 +129,17 @@ static void check_boundary(void)
     uint8_t table[6] = {77, 77, 77, 77, 77, 77};
     uint16_t answer[4] = {0};
     uint64_t count = 77, facts[LEVERETPLATE_FACTS] = {0};
-    expect("a label buffer too long", leveretplate_boundary(sizes, 1, divisions, 1, old, 5, table, 6, &count) == 12 && count == 77 && table[0] == 77);
-    expect("a boundary table", leveretplate_boundary(sizes, 1, divisions, 1, old, 5, table, 5, &count) == 0 && count == 5);
+    expect("a label buffer too long",
+        leveretplate_boundary(sizes, 1, divisions, 1, old, 5, table, 6, &count) == 12 && count == 77 && table[0] == 77);
+    expect(
+        "a boundary table", leveretplate_boundary(sizes, 1, divisions, 1, old, 5, table, 5, &count) == 0 && count == 5);
     expect("its labels, and the byte behind them", memcmp(table, expected, 5) == 0 && table[5] == 77);
-    expect("a run that needs its gap", leveretplate_run(sizes, 1, divisions, 1, start, 2, table, 5, answer, 4, 20, facts) == 16 && facts[1] == 2);
-    expect("a facet end on the old table", leveretplate_run(sizes, 1, divisions, 1, one, 2, old, 5, answer, 4, 20, facts) == 0 && facts[2] == 1);
-    expect("a place end on the new one", leveretplate_run(sizes, 1, divisions, 1, one, 2, table, 5, answer, 4, 20, facts) == 0 && facts[2] == 0);
+    expect("a run that needs its gap",
+        leveretplate_run(sizes, 1, divisions, 1, start, 2, table, 5, answer, 4, 20, facts) == 16 && facts[1] == 2);
+    expect("a facet end on the old table",
+        leveretplate_run(sizes, 1, divisions, 1, one, 2, old, 5, answer, 4, 20, facts) == 0 && facts[2] == 1);
+    expect("a place end on the new one",
+        leveretplate_run(sizes, 1, divisions, 1, one, 2, table, 5, answer, 4, 20, facts) == 0 && facts[2] == 0);
 }
 
 static void check_shelf(void)
@@ -171,26 +197,32 @@ static struct leveretplate_step step;
 static void check_walk(void)
 {
     const uint8_t sizes[] = {2, 2}, table[] = {2, 2, 2, 4}, rules[] = {5, 5, 1, 6};
-    const uint16_t divisions[] = {1, 1}, start[] = {1, 0, 1, 0}, off[] = {1, 0, 1, 1}, points[] = {1, 0, 1, 0, 0, 1, 1, 0, 0};
+    const uint16_t divisions[] = {1, 1}, start[] = {1, 0, 1, 0}, off[] = {1, 0, 1, 1},
+                   points[] = {1, 0, 1, 0, 0, 1, 1, 0, 0};
     struct leveretplate_walk end;
     int rightly = 1;
     leveretplate_walk_at_start(&step, sizes, 2, divisions, 2, off, 4, table, 4);
     expect("a walk at a start off the grid", step.number == 5 && step.walk.places == 0);
     leveretplate_walk_at_start(&step, sizes, 2, divisions, 2, start, 4, table, 4);
-    expect("the walk at {v}", step.number == 0 && step.walk.places == 1 && step.walk.present.count == 1 && step.walk.before.count == 0
-                                 && step.walk.labels_read == 1 && step.walk.carried[0] == 4);
+    expect("the walk at {v}",
+        step.number == 0 && step.walk.places == 1 && step.walk.present.count == 1 && step.walk.before.count == 0
+            && step.walk.labels_read == 1 && step.walk.carried[0] == 4);
     leveretplate_preview(&step, table, 4);
-    expect("its first move shown", step.rule == 5 && step.map == 37 && step.fields[0] == 2 && step.fields[2] == 4 && step.fields[5] == 4
-                                       && step.walk.places == 1);
+    expect("its first move shown",
+        step.rule == 5 && step.map == 37 && step.fields[0] == 2 && step.fields[2] == 4 && step.fields[5] == 4
+            && step.walk.places == 1);
     for (size_t at = 0; at < 4; at++) {
         leveretplate_move_on(&step, table, 4);
         rightly &= step.number == 0 && step.rule == rules[at] && step.walk.places == at + 2;
     }
     expect("the path by calls", rightly);
-    expect("its labels read, and the labels carried", step.walk.labels_read == 4 && memcmp(step.walk.carried, "\4\2\0", 3) == 0);
+    expect("its labels read, and the labels carried",
+        step.walk.labels_read == 4 && memcmp(step.walk.carried, "\4\2\0", 3) == 0);
     end = step.walk;
     leveretplate_move_on(&step, table, 4);
-    expect("its end", step.number == 0 && step.kind == 1 && step.block == 1 && step.vertices == 1 && step.rule == 0 && step.simplex[1] == 1);
+    expect("its end",
+        step.number == 0 && step.kind == 1 && step.block == 1 && step.vertices == 1 && step.rule == 0
+            && step.simplex[1] == 1);
     expect("the walk at the end", memcmp(&step.walk, &end, sizeof end) == 0);
     leveretplate_walk_points(&step, table, 4);
     expect("its points", step.vertices == 2 && memcmp(step.simplex, points, sizeof points) == 0);

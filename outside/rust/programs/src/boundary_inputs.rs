@@ -7,8 +7,16 @@ use reference::grid::Grid;
 use reference::{boundary, paper, Kind, Outcome};
 
 /// Grids whose old tables are all tried, gaps too.
-const EVERY_OLD_TABLE: [(&[u8], &[u16]); 8] =
-    [(&[2], &[1]), (&[2], &[2]), (&[2], &[4]), (&[3], &[1]), (&[3], &[2]), (&[4], &[1]), (&[2, 2], &[1, 1]), (&[2, 2], &[2, 1])];
+const EVERY_OLD_TABLE: [(&[u8], &[u16]); 8] = [
+    (&[2], &[1]),
+    (&[2], &[2]),
+    (&[2], &[4]),
+    (&[3], &[1]),
+    (&[3], &[2]),
+    (&[4], &[1]),
+    (&[2, 2], &[1, 1]),
+    (&[2, 2], &[2, 1]),
+];
 
 /// Every old table of the smallest grids, with a run from every start over the new one.
 pub fn every_table(take: Take) {
@@ -16,8 +24,12 @@ pub fn every_table(take: Take) {
         let grid = Grid::new(sizes, divisions).expect("a grid");
         let mut labels = vec![0; grid.points];
         loop {
-            let call =
-                BoundaryCall { sizes: sizes.to_vec(), divisions: divisions.to_vec(), labels: labels.clone(), buffer: grid.points };
+            let call = BoundaryCall {
+                sizes: sizes.to_vec(),
+                divisions: divisions.to_vec(),
+                labels: labels.clone(),
+                buffer: grid.points,
+            };
             for start in grid.all_points() {
                 take(Call::Run(run_over(&grid, &call, start[..grid.m].to_vec())));
             }
@@ -64,15 +76,21 @@ fn random_call(random: &mut Random, limit: usize) -> (BoundaryCall, Grid) {
     (BoundaryCall { sizes, divisions, labels, buffer: grid.points }, grid)
 }
 
-/// The run over the new table. "every end that a run announces is a place end", and a label that it asks for is one of the interior.
+/// The run over the new table. "every end that a run announces is a place end", and a label that it asks for is one of
+/// the interior.
 fn run_over(grid: &Grid, call: &BoundaryCall, start: Vec<u16>) -> RunCall {
     let mut labels = vec![0; call.buffer];
     boundary::by_rule(&call.sizes, &call.divisions, &call.labels, &mut labels).expect("a table");
     let mut answer = vec![0; (grid.n() + 1) * grid.m];
     match paper::run(&call.sizes, &call.divisions, &start, &labels, &mut answer, u64::MAX) {
-        Outcome::Ended(end) => assert!(end.kind == Kind::Place, "a facet end over a boundary table: {call:?} from {start:?}"),
+        Outcome::Ended(end) => {
+            assert!(end.kind == Kind::Place, "a facet end over a boundary table: {call:?} from {start:?}")
+        }
         Outcome::Unknown { position, .. } => {
-            assert!(grid.all_points()[position][..grid.m].iter().all(|&number| number > 0), "a gap on the boundary: {call:?}")
+            assert!(
+                grid.all_points()[position][..grid.m].iter().all(|&number| number > 0),
+                "a gap on the boundary: {call:?}"
+            )
         }
         other => panic!("{other:?}: {call:?} from {start:?}"),
     }

@@ -105,7 +105,8 @@ impl Fields<'_> {
 }
 
 impl RunCall {
-    /// The slip of the same run. Its questions come in another order, and it lends an answer buffer that is long enough.
+    /// The slip of the same run. Its questions come in another order, and it lends an answer buffer that is long
+    /// enough.
     pub fn slip(&self) -> Vec<u8> {
         let (start, budget, labels) = (Some(&self.start[..]), Some(self.budget), Some(&self.labels[..]));
         Fields { sizes: &self.sizes, divisions: &self.divisions, start, budget, labels, ..Fields::default() }.bytes()

@@ -1,13 +1,16 @@
 //! Everything that answers a call: by the definitions, by the paper's steps, and the proved code where it is linked.
 
 use crate::calls::{BoundaryCall, CheckCall, LabelCall, RunCall, ShelfCall, ShelfCalls};
-use reference::grid::Grid;
-use reference::slip::{self, ByDefinitions, ByPaper, SHEET_BYTES, Slip};
-use reference::{boundary, check, games, nearest, paper, questions, shelf, small, trail, End, Near, Outcome, Rebuilt, Verdict, Written};
 use crate::near::NearCall;
 use crate::refinements::RefineCall;
 use crate::trails::{ReadCall, TrailCall};
+use reference::grid::Grid;
 use reference::refine::Method;
+use reference::slip::{self, ByDefinitions, ByPaper, Slip, SHEET_BYTES};
+use reference::{
+    boundary, check, games, nearest, paper, questions, shelf, small, trail, End, Near, Outcome, Rebuilt, Verdict,
+    Written,
+};
 
 pub type Sheet = [u8; SHEET_BYTES];
 

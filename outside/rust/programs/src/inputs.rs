@@ -104,8 +104,8 @@ pub fn random_start(random: &mut Random, grid: &Grid) -> Vec<u16> {
     start
 }
 
-/// Labels drawn at random: from all indices, from all but one, from all but one of each block, from two, or one alone. Where an
-/// index of each block is left out, no place is complete inside, and the paths are long.
+/// Labels drawn at random: from all indices, from all but one, from all but one of each block, from two, or one alone.
+/// Where an index of each block is left out, no place is complete inside, and the paths are long.
 pub fn random_labels(random: &mut Random, grid: &Grid) -> Vec<u8> {
     let any = |random: &mut Random| 1 + random.below(grid.m) as u8;
     let mut choice: Vec<u8> = (1..=grid.m as u8).collect();
@@ -223,11 +223,21 @@ pub fn spoil(random: &mut Random, run: &mut RunCall) {
         7 => run.divisions.iter_mut().skip(division).take(1).for_each(|division| *division = random.next() as u16),
         8 => drop(run.start.pop()),
         9 => run.start.push(0),
-        10 => run.start.iter_mut().skip(number).take(1).for_each(|number| *number = number.wrapping_add(random.next() as u16)),
+        10 => run
+            .start
+            .iter_mut()
+            .skip(number)
+            .take(1)
+            .for_each(|number| *number = number.wrapping_add(random.next() as u16)),
         11 => drop(run.labels.pop()),
         12 => run.labels.push(1),
         13 => run.labels.iter_mut().skip(label).take(1).for_each(|label| *label = 0),
-        14 => run.labels.iter_mut().skip(label).take(1).for_each(|label| *label = m + 1 + random.below(255 - m as usize) as u8),
+        14 => run
+            .labels
+            .iter_mut()
+            .skip(label)
+            .take(1)
+            .for_each(|label| *label = m + 1 + random.below(255 - m as usize) as u8),
         _ => run.answer = run.answer.saturating_sub(1 + random.below(60)),
     }
 }
@@ -274,8 +284,8 @@ pub fn edges(take: Take) {
     }
 }
 
-/// Slips whose centres stand at halves and beside them: every point of a block as one vertex, and every two neighbours. Halves need
-/// that 32 divides vertices times division.
+/// Slips whose centres stand at halves and beside them: every point of a block as one vertex, and every two neighbours.
+/// Halves need that 32 divides vertices times division.
 pub fn halves(take: Take) {
     for division in [15u16, 16, 31, 32, 33, 48, 96, 160, 4_000, 20_000, 20_001] {
         let labels = vec![1; division as usize + 1];
@@ -284,15 +294,27 @@ pub fn halves(take: Take) {
             let (divisions, start) = ([1, division], [1, 0, first, second]);
             let twice = labels.repeat(2);
             take(Call::Slip(
-                Fields { sizes: &[2, 2], divisions: &divisions, start: Some(&start), labels: Some(&twice), ..Fields::default() }
-                    .bytes(),
+                Fields {
+                    sizes: &[2, 2],
+                    divisions: &divisions,
+                    start: Some(&start),
+                    labels: Some(&twice),
+                    ..Fields::default()
+                }
+                .bytes(),
             ));
             let mut labels = labels.clone();
             labels[first as usize] = 2;
             let (divisions, start) = ([division], [first, second]);
             take(Call::Slip(
-                Fields { sizes: &[2], divisions: &divisions, start: Some(&start), labels: Some(&labels), ..Fields::default() }
-                    .bytes(),
+                Fields {
+                    sizes: &[2],
+                    divisions: &divisions,
+                    start: Some(&start),
+                    labels: Some(&labels),
+                    ..Fields::default()
+                }
+                .bytes(),
             ));
         }
     }
@@ -398,7 +420,15 @@ fn random_slip(random: &mut Random) -> Vec<u8> {
     let sizes = game_table(game).sizes;
     if random.chance(3) {
         let divisions = random_divisions(random, &sizes, 60);
-        return Fields { sizes: &sizes, divisions: &divisions, start: None, budget, game: Some(game as u8), ..Fields::default() }.bytes();
+        return Fields {
+            sizes: &sizes,
+            divisions: &divisions,
+            start: None,
+            budget,
+            game: Some(game as u8),
+            ..Fields::default()
+        }
+        .bytes();
     }
     let fields = Fields { sizes: &run.sizes, divisions: &run.divisions, start, budget, ..Fields::default() };
     if random.chance(3) {
@@ -427,7 +457,14 @@ pub fn own_games(seed: u64, count: usize, limit: usize, take: Take) {
         let losses = random_losses(&mut random, &run.sizes);
         let start = (!random.chance(3)).then_some(&run.start[..]);
         let budget = random.chance(3).then_some(run.budget);
-        let fields = Fields { sizes: &run.sizes, divisions: &run.divisions, start, budget, losses: Some(&losses), ..Fields::default() };
+        let fields = Fields {
+            sizes: &run.sizes,
+            divisions: &run.divisions,
+            start,
+            budget,
+            losses: Some(&losses),
+            ..Fields::default()
+        };
         take(Call::Slip(fields.bytes()));
     }
 }
@@ -444,7 +481,8 @@ fn damage(random: &mut Random, slip: &mut Vec<u8>) {
     }
 }
 
-/// Every set of up to n + 1 points of small grids, some with a point that stands twice, in random order and with random labels, gaps too.
+/// Every set of up to n + 1 points of small grids, some with a point that stands twice, in random order and with random
+/// labels, gaps too.
 pub fn every_list(take: Take) {
     let mut random = Random(14);
     let grids: [(&[u8], &[u16]); 9] = [
@@ -536,7 +574,8 @@ fn random_simplex(random: &mut Random, grid: &Grid) -> Vec<Vec<u16>> {
     points
 }
 
-/// All points of a simplex that begins at the first corner, the last first, with the label 1 everywhere: the test goes through all of them.
+/// All points of a simplex that begins at the first corner, the last first, with the label 1 everywhere: the test goes
+/// through all of them.
 pub fn whole_simplex(sizes: &[u8], divisions: &[u16]) -> CheckCall {
     let grid = Grid::new(sizes, divisions).expect("a grid");
     let mut points = vec![grid.first_corner()[..grid.m].to_vec()];
@@ -549,7 +588,12 @@ pub fn whole_simplex(sizes: &[u8], divisions: &[u16]) -> CheckCall {
         }
     }
     points.reverse();
-    CheckCall { sizes: sizes.to_vec(), divisions: divisions.to_vec(), labels: vec![1; grid.points], points: points.concat() }
+    CheckCall {
+        sizes: sizes.to_vec(),
+        divisions: divisions.to_vec(),
+        labels: vec![1; grid.points],
+        points: points.concat(),
+    }
 }
 
 /// The ends that the reference announces, in random order, on their own tables.
@@ -625,8 +669,8 @@ pub fn start_from(grid: &Grid, from: From) -> Vec<u16> {
     start
 }
 
-/// A run with a long path. A random table without one index of each block, then for some rounds a vertex of the end simplex gets
-/// another label, and the change stays if it makes the path no shorter.
+/// A run with a long path. A random table without one index of each block, then for some rounds a vertex of the end
+/// simplex gets another label, and the change stays if it makes the path no shorter.
 pub fn long_run(sizes: &[u8], divisions: &[u16], from: From, seed: u64, rounds: usize) -> RunCall {
     let grid = Grid::new(sizes, divisions).expect("a grid");
     let start = start_from(&grid, from);
@@ -636,7 +680,9 @@ pub fn long_run(sizes: &[u8], divisions: &[u16], from: From, seed: u64, rounds: 
     let mut labels: Vec<u8> = (0..grid.points).map(|_| *random.among(&choice)).collect();
     let mut answer = [0; MOST_INDICES * MOST_INDICES];
     let mut length = |labels: &[u8], vertex: &mut [u16; MOST_INDICES], pick: usize| {
-        let Outcome::Ended(end) = paper::follow(&grid, &start, labels, &mut answer, u64::MAX) else { unreachable!("no budget") };
+        let Outcome::Ended(end) = paper::follow(&grid, &start, labels, &mut answer, u64::MAX) else {
+            unreachable!("no budget")
+        };
         let pick = pick % end.vertices;
         vertex[..grid.m].copy_from_slice(&answer[pick * grid.m..(pick + 1) * grid.m]);
         end.places
@@ -655,10 +701,18 @@ pub fn long_run(sizes: &[u8], divisions: &[u16], from: From, seed: u64, rounds: 
             length(&labels, &mut vertex, random.below(MOST_INDICES));
         }
     }
-    RunCall { sizes: sizes.to_vec(), divisions: divisions.to_vec(), start, labels, budget: grid.bound(), answer: room(&grid) }
+    RunCall {
+        sizes: sizes.to_vec(),
+        divisions: divisions.to_vec(),
+        start,
+        labels,
+        budget: grid.bound(),
+        answer: room(&grid),
+    }
 }
 
-/// Every list of up to five numbers from 0 to one above its length, with every count to one above its length: each sheet filed and asked for.
+/// Every list of up to five numbers from 0 to one above its length, with every count to one above its length: each
+/// sheet filed and asked for.
 pub fn every_shelf(take: Take) {
     for length in 0..=5 {
         let most = length as u16 + 1;

@@ -1,4 +1,5 @@
-//! The calls that report where the path came nearest to a grid point: the call, its inputs, and its lines in the stored cases.
+//! The calls that report where the path came nearest to a grid point: the call, its inputs, and its lines in the stored
+//! cases.
 
 use crate::calls::{spaced, Call, RunCall};
 use crate::inputs::{random_run, random_start, spoil, with_gaps, Take};
@@ -33,7 +34,15 @@ type Way = fn(&[u8], &[u16], &[u16], &[u8], &mut [u16], u64, Around) -> Near;
 impl NearCall {
     pub fn by(&self, way: Way, answer: &mut [u16], list: &mut [u16]) -> Near {
         let NearCall { run, w, distance, .. } = self;
-        way(&run.sizes, &run.divisions, &run.start, &run.labels, answer, run.budget, Around { w, distance: *distance, list })
+        way(
+            &run.sizes,
+            &run.divisions,
+            &run.start,
+            &run.labels,
+            answer,
+            run.budget,
+            Around { w, distance: *distance, list },
+        )
     }
 }
 

@@ -10,8 +10,8 @@ use reference::{End, Kind, Near, Outcome, Rebuilt, Verdict, Written};
 
 #[rustfmt::skip]
 extern "C" {
-    /// 0 at an end, else the refusal's number. The facts are places, labels read, kind (0 place, 1 facet), block and vertices; of the refusals
-    /// number 9 sets one, the places, and number 16 two, the places and the position.
+    /// 0 at an end, else the refusal's number. The facts are places, labels read, kind (0 place, 1 facet), block and
+    /// vertices; of the refusals number 9 sets one, the places, and number 16 two, the places and the position.
     fn leveretplate_run(
         sizes: *const u8, sizes_length: usize,
         divisions: *const u16, divisions_length: usize,
@@ -140,7 +140,13 @@ fn outcome(number: u8, facts: [u64; FACTS]) -> Outcome {
     match number {
         0 => {
             let kind = if kind == 0 { Kind::Place } else { Kind::Facet };
-            Outcome::Ended(End { places, labels_read: second, kind, block: block as usize, vertices: vertices as usize })
+            Outcome::Ended(End {
+                places,
+                labels_read: second,
+                kind,
+                block: block as usize,
+                vertices: vertices as usize,
+            })
         }
         9 => Outcome::Spent(places),
         16 => Outcome::Unknown { places, position: second as usize },
@@ -180,8 +186,8 @@ impl Implementation for Proved {
     fn near(&self, call: &NearCall, answer: &mut [u16], list: &mut [u16]) -> Near {
         let (mut facts, mut near) = ([OLD; FACTS], [OLD; 2]);
         let run = &call.run;
-        // Safety: each pointer comes with the length of its slice, and only the answer, the list, the facts and the two numbers are
-        // written to.
+        // Safety: each pointer comes with the length of its slice, and only the answer, the list, the facts and the two
+        // numbers are written to.
         #[rustfmt::skip]
         let number = unsafe {
             leveretplate_nearest(
@@ -206,7 +212,8 @@ impl Implementation for Proved {
     fn write(&self, call: &TrailCall, answer: &mut [u16], trail: &mut [u8]) -> Written {
         let (mut facts, mut bytes) = ([OLD; FACTS], OLD);
         let run = &call.run;
-        // Safety: each pointer comes with the length of its slice, and only the answer, the trail, the facts and the count are written to.
+        // Safety: each pointer comes with the length of its slice, and only the answer, the trail, the facts and the
+        // count are written to.
         #[rustfmt::skip]
         let number = unsafe {
             leveretplate_run_with_trail(

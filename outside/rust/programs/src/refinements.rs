@@ -87,7 +87,9 @@ pub fn expected(line: &str) -> String {
     let mut words = Vec::new();
     for word in line.split(' ') {
         match word.split_once('x') {
-            Some((count, word)) if count.parse::<usize>().is_ok() => words.extend(vec![word; count.parse().expect("a count")]),
+            Some((count, word)) if count.parse::<usize>().is_ok() => {
+                words.extend(vec![word; count.parse().expect("a count")])
+            }
             _ => words.push(word),
         }
     }
@@ -183,7 +185,8 @@ fn spoil(random: &mut Random, call: &mut RefineCall) {
     }
 }
 
-/// One player with two strategies, of whom each division from the last that fits on is refused; and the longest numbers of levels.
+/// One player with two strategies, of whom each division from the last that fits on is refused; and the longest numbers
+/// of levels.
 pub fn edges(take: Take) {
     for factor in 2..=10usize {
         for levels in 1..=8 {
@@ -192,7 +195,8 @@ pub fn edges(take: Take) {
             for division in [1, most.max(1), most + 1, 32_768, 40_000, 59_999, 60_000, 65_535] {
                 let (sizes, divisions) = (vec![2], vec![division]);
                 let (start, losses) = (vec![division, 0], vec![1000, 1]);
-                let call = RefineCall { sizes, divisions, start, losses, factor, levels, buffer: 60_000, answer: levels * 4 };
+                let call =
+                    RefineCall { sizes, divisions, start, losses, factor, levels, buffer: 60_000, answer: levels * 4 };
                 take(Call::Refine(if call.largest().is_some() { call.with_buffers() } else { call }));
             }
         }
@@ -206,6 +210,7 @@ pub fn of_game(game: usize) -> RefineCall {
     let grid = Grid::new(&sizes, &divisions).expect("a grid");
     let start = grid.first_corner()[..grid.m].to_vec();
     let call = RefineCall { sizes, divisions, start, losses, factor: 2, levels: 8, ..RefineCall::default() };
-    let levels = (1..=8).rev().find(|&levels| RefineCall { levels, ..call.clone() }.largest().is_some()).expect("a level");
+    let levels =
+        (1..=8).rev().find(|&levels| RefineCall { levels, ..call.clone() }.largest().is_some()).expect("a level");
     RefineCall { levels, ..call }.with_buffers()
 }

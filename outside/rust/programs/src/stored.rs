@@ -1,4 +1,5 @@
-//! The stored cases, each from a `call` line to the next: lines of a word and its values, then `expect` and the lines expected.
+//! The stored cases, each from a `call` line to the next: lines of a word and its values, then `expect` and the lines
+//! expected.
 
 use crate::calls::{spaced, BoundaryCall, Call, CheckCall, Fields, LabelCall, RunCall, ShelfCall, ShelfCalls};
 use crate::near::NearCall;
@@ -40,7 +41,12 @@ fn read_case(lines: &[&str]) -> Case {
             let run = RunCall { sizes, divisions, start: pairs("start"), labels: bytes("labels"), budget, answer };
             match word {
                 "run" => Call::Run(run),
-                "near" => Call::Near(NearCall { run, w: pairs("w"), distance: list("distance")[0], list: list("list")[0] as usize }),
+                "near" => Call::Near(NearCall {
+                    run,
+                    w: pairs("w"),
+                    distance: list("distance")[0],
+                    list: list("list")[0] as usize,
+                }),
                 _ => Call::Trail(TrailCall { run, room: list("trail")[0] as usize }),
             }
         }
@@ -68,13 +74,19 @@ fn read_case(lines: &[&str]) -> Case {
             })
         }
         "check" => Call::Check(CheckCall { sizes, divisions, labels: bytes("labels"), points: pairs("points") }),
-        "boundary" => {
-            Call::Boundary(BoundaryCall { sizes, divisions, labels: bytes("labels"), buffer: list("buffer")[0] as usize })
+        "boundary" => Call::Boundary(BoundaryCall {
+            sizes,
+            divisions,
+            labels: bytes("labels"),
+            buffer: list("buffer")[0] as usize,
+        }),
+        "label" => {
+            Call::Label(LabelCall { sizes, divisions, losses: pairs("losses"), buffer: list("buffer")[0] as usize })
         }
-        "label" => Call::Label(LabelCall { sizes, divisions, losses: pairs("losses"), buffer: list("buffer")[0] as usize }),
         "shelf" => {
             let one = |word: &str| values.get(word).map(|sheet| format!("{word} {sheet}"));
-            let script = values.get("script").map(|script| script.to_string()).or(one("file")).or(one("ask")).expect("a call");
+            let script =
+                values.get("script").map(|script| script.to_string()).or(one("file")).or(one("ask")).expect("a call");
             Call::Shelf(ShelfCalls {
                 list: pairs("list"),
                 count: list("count")[0] as usize,

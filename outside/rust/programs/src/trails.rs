@@ -1,4 +1,5 @@
-//! The calls of the trail: a run that writes one and the reading of a record, their inputs, and their lines in the stored cases.
+//! The calls of the trail: a run that writes one and the reading of a record, their inputs, and their lines in the
+//! stored cases.
 
 use crate::calls::{hex, spaced, Call, RunCall};
 use crate::inputs::{random_run, spoil, with_gaps, Take};
@@ -119,7 +120,8 @@ fn trail_of(run: &RunCall, grid: &Grid) -> (Outcome, Trail) {
     trail::trail_by_paper(grid, &run.start, &run.labels, &mut vec![0; run.answer], run.budget)
 }
 
-/// Random runs with a trail, every fourth on a table with gaps. The buffer has as many bytes as the trail, one fewer or more, none, few or many.
+/// Random runs with a trail, every fourth on a table with gaps. The buffer has as many bytes as the trail, one fewer or
+/// more, none, few or many.
 pub fn random_writes(seed: u64, count: usize, limit: usize, take: Take) {
     let mut random = Random(seed);
     for number in 0..count {
@@ -223,8 +225,8 @@ pub fn random_reads(seed: u64, count: usize, limit: usize, take: Take) {
     }
 }
 
-/// A trail of moves in any order, turning back and coming back included; the last change is, now and then, one that is no rule, told truly
-/// or named after a rule. For small grids.
+/// A trail of moves in any order, turning back and coming back included; the last change is, now and then, one that is
+/// no rule, told truly or named after a rule. For small grids.
 pub fn random_walks(seed: u64, count: usize, limit: usize, take: Take) {
     let mut random = Random(seed);
     for _ in 0..count {
@@ -249,7 +251,8 @@ pub fn random_walks(seed: u64, count: usize, limit: usize, take: Take) {
     }
 }
 
-/// The record of a change that is no rule, with all its fields or without those of T and U, and with the number of some rule.
+/// The record of a change that is no rule, with all its fields or without those of T and U, and with the number of some
+/// rule.
 fn told(random: &mut Random, from: &Set, to: &Set) -> Vec<u8> {
     let mut change = Change::new(from, to);
     if random.chance(3) {
@@ -272,7 +275,8 @@ pub fn faulty_reads(seed: u64, count: usize, take: Take) {
                 0 => read.start.iter_mut().skip(at).take(1).for_each(|number| *number = number.wrapping_sub(1)),
                 1 => drop(read.start.pop()),
                 _ => {
-                    let mut run = RunCall { sizes: read.sizes.clone(), divisions: read.divisions.clone(), ..RunCall::default() };
+                    let mut run =
+                        RunCall { sizes: read.sizes.clone(), divisions: read.divisions.clone(), ..RunCall::default() };
                     spoil(&mut random, &mut run);
                     (read.sizes, read.divisions) = (run.sizes, run.divisions);
                 }

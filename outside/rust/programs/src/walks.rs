@@ -38,7 +38,10 @@ impl Tally {
         if proved != expected {
             self.differences += 1;
             if self.differences <= 3 {
-                println!("DIFFERENCE in {what}: {:?}\nover {labels:?}\nproved {:?}\nexpected {:?}", before.walk, proved, expected);
+                println!(
+                    "DIFFERENCE in {what}: {:?}\nover {labels:?}\nproved {:?}\nexpected {:?}",
+                    before.walk, proved, expected
+                );
             }
         }
     }
@@ -152,8 +155,9 @@ pub fn compare(name: &str, seed: u64, count: usize, limit: usize) -> usize {
             start[0] += 1;
         }
         let gaps = random.chance(3);
-        let mut labels: Vec<u8> =
-            (0..grid.points).map(|_| if gaps && random.chance(8) { 0 } else { random.below(grid.m) as u8 + 1 }).collect();
+        let mut labels: Vec<u8> = (0..grid.points)
+            .map(|_| if gaps && random.chance(8) { 0 } else { random.below(grid.m) as u8 + 1 })
+            .collect();
         if random.chance(40) {
             labels[0] = 200;
         }
@@ -207,8 +211,11 @@ pub fn compare(name: &str, seed: u64, count: usize, limit: usize) -> usize {
     let refused: Vec<String> =
         refusals.iter().enumerate().skip(1).filter(|(_, &n)| n > 0).map(|(k, n)| format!("{k}: {n}")).collect();
     let [place, linked, one, count, labels, read] = reasons;
-    println!("{name}: {calls} calls, {moved} moved, {ends} ends, refusals [{}]; 20 by place {place}, link {linked}, only one {one}, count {count}, labels {labels}, labels read {read}; {differences} differences",
-        refused.join(", "));
+    println!(
+        "{name}: {calls} calls, {moved} moved, {ends} ends, refusals [{}]; 20 by place {place}, link {linked}, \
+         only one {one}, count {count}, labels {labels}, labels read {read}; {differences} differences",
+        refused.join(", ")
+    );
     assert!(reasons.iter().all(|&count| count > 0));
     *differences
 }

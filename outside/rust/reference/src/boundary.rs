@@ -1,4 +1,5 @@
-//! The older boundary rule, twice: by the request's sentences over a list of all points, and in one pass from point to point.
+//! The older boundary rule, twice: by the request's sentences over a list of all points, and in one pass from point to
+//! point.
 
 use crate::grid::{Grid, MOST_INDICES};
 use crate::questions::labels_in_range;
@@ -30,20 +31,22 @@ fn indices_before(grid: &Grid) -> [u8; MOST_INDICES] {
     before
 }
 
-/// "interior labels are the old ones and .. boundary points have the label of rule (1.3): the first index h with y_h = 0 and the number
-/// before it, round the block, positive"
+/// "interior labels are the old ones and .. boundary points have the label of rule (1.3): the first index h with y_h =
+/// 0 and the number before it, round the block, positive"
 pub fn by_rule(sizes: &[u8], divisions: &[u16], old: &[u8], labels: &mut [u8]) -> Result<usize, u64> {
     let grid = questions(sizes, divisions, old, labels.len())?;
     let before = indices_before(&grid);
     for (at, point) in grid.all_points().iter().enumerate() {
         let interior = point[..grid.m].iter().all(|&number| number > 0);
         let mut rule = (0..grid.m).filter(|&h| point[h] == 0 && point[before[h] as usize] > 0);
-        labels[at] = if interior { old[at] } else { rule.next().expect("a boundary point has such an index") as u8 + 1 };
+        labels[at] =
+            if interior { old[at] } else { rule.next().expect("a boundary point has such an index") as u8 + 1 };
     }
     Ok(grid.points)
 }
 
-/// The same from each point to the next. Where no index is found the point is interior: going back from a 0 one meets a positive number.
+/// The same from each point to the next. Where no index is found the point is interior: going back from a 0 one meets a
+/// positive number.
 pub fn write(sizes: &[u8], divisions: &[u16], old: &[u8], labels: &mut [u8]) -> Result<usize, u64> {
     let grid = questions(sizes, divisions, old, labels.len())?;
     let ranges: Vec<Range<usize>> = grid.ranges().collect();
@@ -63,7 +66,8 @@ fn named(before: &[u8; MOST_INDICES], point: &[u16; MOST_INDICES], m: usize) -> 
     (0..m).find(|&h| point[h] == 0 && point[before[h] as usize] > 0)
 }
 
-/// The next point in lexicographic order; the last block that is not at its last list goes on, and those behind it begin again.
+/// The next point in lexicographic order; the last block that is not at its last list goes on, and those behind it
+/// begin again.
 fn advance(ranges: &[Range<usize>], point: &mut [u16; MOST_INDICES]) {
     for range in ranges.iter().rev() {
         let block = &mut point[range.clone()];

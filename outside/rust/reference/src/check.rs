@@ -1,4 +1,5 @@
-//! Checking the end simplices of other programs, twice: by search over the simplices of the Q triangulation, and by coefficient lists.
+//! Checking the end simplices of other programs, twice: by search over the simplices of the Q triangulation, and by
+//! coefficient lists.
 
 use crate::grid::{Grid, MOST_INDICES};
 
@@ -36,10 +37,18 @@ fn questions(sizes: &[u8], divisions: &[u16], labels: &[u8], points: &[u16]) -> 
     Ok((grid, listed))
 }
 
-fn judge(sizes: &[u8], divisions: &[u16], labels: &[u8], points: &[u16], in_one: fn(&Grid, &[Point]) -> bool) -> Verdict {
+fn judge(
+    sizes: &[u8],
+    divisions: &[u16],
+    labels: &[u8],
+    points: &[u16],
+    in_one: fn(&Grid, &[Point]) -> bool,
+) -> Verdict {
     match questions(sizes, divisions, labels, points) {
         Err(number) => Verdict::Refused(number),
-        Ok((grid, listed)) if in_one(&grid, &listed) => first_complete(&grid, labels, &listed).map_or(Verdict::No, Verdict::Yes),
+        Ok((grid, listed)) if in_one(&grid, &listed) => {
+            first_complete(&grid, labels, &listed).map_or(Verdict::No, Verdict::Yes)
+        }
         Ok(_) => Verdict::No,
     }
 }
@@ -49,7 +58,8 @@ pub fn by_search(sizes: &[u8], divisions: &[u16], labels: &[u8], points: &[u16])
     judge(sizes, divisions, labels, points, |grid, listed| distinct(listed) && Search::new(grid, listed).finds())
 }
 
-/// By coefficient lists: with one of the points as the start they are 0s and 1s, and put in order of size each lies in the next.
+/// By coefficient lists: with one of the points as the start they are 0s and 1s, and put in order of size each lies in
+/// the next.
 pub fn by_lists(sizes: &[u8], divisions: &[u16], labels: &[u8], points: &[u16]) -> Verdict {
     judge(sizes, divisions, labels, points, |grid, listed| listed.iter().any(|start| is_chain(grid, start, listed)))
 }
@@ -92,7 +102,8 @@ fn distinct(points: &[Point]) -> bool {
     points.iter().enumerate().all(|(at, point)| !points[..at].contains(point))
 }
 
-/// Definition 2.2: the first block, counted from 1, each of whose indices is a label of one of the points or 0 at all of them.
+/// Definition 2.2: the first block, counted from 1, each of whose indices is a label of one of the points or 0 at all
+/// of them.
 fn first_complete(grid: &Grid, labels: &[u8], points: &[Point]) -> Option<usize> {
     let all = grid.all_points();
     let named: Vec<u8> = points.iter().map(|point| labels[all.binary_search(point).expect("a grid point")]).collect();
@@ -100,8 +111,8 @@ fn first_complete(grid: &Grid, labels: &[u8], points: &[Point]) -> Option<usize>
     grid.ranges().position(|mut range| range.all(covered)).map(|block| block + 1)
 }
 
-/// "a first point and an order of all indices but one in each block; each next point adds 1 at the next index and takes 1 at the one
-/// before it in the block, and all n + 1 points are on the grid"
+/// "a first point and an order of all indices but one in each block; each next point adds 1 at the next index and takes
+/// 1 at the one before it in the block, and all n + 1 points are on the grid"
 struct Search<'a> {
     grid: &'a Grid,
     listed: &'a [Point],

@@ -58,8 +58,8 @@ pub fn label(sizes: &[u8], divisions: &[u16], losses: &[u16], labels: &mut [u8])
     Ok(grid.points)
 }
 
-/// The labels of all grid points. The losses are summed over one opponent's block after the other, outermost first, so what is
-/// summed over the outer blocks serves all points that agree there. Products stay below 1,000 times 60,000.
+/// The labels of all grid points. The losses are summed over one opponent's block after the other, outermost first, so
+/// what is summed over the outer blocks serves all points that agree there. Products stay below 1,000 times 60,000.
 pub fn fill(grid: &Grid, losses: &[u16], labels: &mut [u8]) {
     let mut sums: Vec<i64> = losses.iter().map(|&loss| loss as i64).collect();
     let share = sums.len() / grid.blocks;
@@ -89,7 +89,8 @@ struct Level {
     parts: Vec<Part>,
 }
 
-/// The losses of another player than the block's own: for each strategy of that player, the block's strategies times `rest` numbers.
+/// The losses of another player than the block's own: for each strategy of that player, the block's strategies times
+/// `rest` numbers.
 struct Part {
     from: usize,
     length: usize,
@@ -98,8 +99,12 @@ struct Part {
 }
 
 fn rows(size: usize, division: u16) -> Vec<i64> {
-    let grid = Grid { blocks: 1, sizes: [size, 0, 0, 0, 0, 0], divisions: [division, 0, 0, 0, 0, 0], m: size, points: 0 };
-    grid.all_points().iter().flat_map(|point| point[..size].iter().map(|&number| number as i64).collect::<Vec<_>>()).collect()
+    let grid =
+        Grid { blocks: 1, sizes: [size, 0, 0, 0, 0, 0], divisions: [division, 0, 0, 0, 0, 0], m: size, points: 0 };
+    grid.all_points()
+        .iter()
+        .flat_map(|point| point[..size].iter().map(|&number| number as i64).collect::<Vec<_>>())
+        .collect()
 }
 
 struct Labelling<'a> {
@@ -130,8 +135,8 @@ impl Labelling<'_> {
     }
 }
 
-/// The first index h for which p_j - q_h is largest, both times the product of all divisions. In a block that is the first with the
-/// smallest q_h.
+/// The first index h for which p_j - q_h is largest, both times the product of all divisions. In a block that is the
+/// first with the smallest q_h.
 fn first_largest(grid: &Grid, begins: &[usize], sums: &[i64], point: &[i64; MOST_INDICES]) -> u8 {
     let (mut label, mut largest, mut first) = (0, i64::MIN, 0);
     for (j, &begin) in begins.iter().enumerate() {
@@ -199,8 +204,10 @@ fn label_by_rule(grid: &Grid, losses: &[u16], point: &[u16; MOST_INDICES]) -> u8
             replaced[chosen[player]] += loss * others * grid.divisions[player] as i64;
         }
     }
-    let differences: Vec<i64> =
-        (0..grid.blocks).flat_map(|j| ranges[j].clone().map(move |h| (j, h))).map(|(j, h)| expected[j] - replaced[h]).collect();
+    let differences: Vec<i64> = (0..grid.blocks)
+        .flat_map(|j| ranges[j].clone().map(move |h| (j, h)))
+        .map(|(j, h)| expected[j] - replaced[h])
+        .collect();
     let largest = *differences.iter().max().expect("a grid has indices");
     differences.iter().position(|&difference| difference == largest).expect("the largest is there") as u8 + 1
 }

@@ -62,7 +62,8 @@ impl Grid {
         })
     }
 
-    /// P times the sum 1 + m + m(m - 1) + ..., whose last term has n factors. At most 16 indices keep it below 2 to the 62.
+    /// P times the sum 1 + m + m(m - 1) + ..., whose last term has n factors. At most 16 indices keep it below 2 to the
+    /// 62.
     pub fn bound(&self) -> u64 {
         let (mut sum, mut term) = (1u64, 1u64);
         for factor in 0..self.n() {
@@ -75,10 +76,9 @@ impl Grid {
     /// Question 5: m numbers, each block adding up to its division.
     pub fn has_point(&self, point: &[u16]) -> bool {
         point.len() == self.m
-            && self
-                .ranges()
-                .zip(self.divisions)
-                .all(|(range, division)| point[range].iter().map(|&number| number as u32).sum::<u32>() == division as u32)
+            && self.ranges().zip(self.divisions).all(|(range, division)| {
+                point[range].iter().map(|&number| number as u32).sum::<u32>() == division as u32
+            })
     }
 
     /// The start of a slip without one: "each block has d_j at its first index".
@@ -117,7 +117,8 @@ fn fill(mut point: [u16; MOST_INDICES], range: std::ops::Range<usize>, left: u16
     }
 }
 
-/// "d_j + n_j choose n_j", or none if it is more than 60,000. The partial binomials only rise, so stopping early is safe.
+/// "d_j + n_j choose n_j", or none if it is more than 60,000. The partial binomials only rise, so stopping early is
+/// safe.
 fn points_of_block(size: usize, division: usize) -> Option<usize> {
     let mut count = 1;
     for taken in 1..size {

@@ -1,7 +1,8 @@
 //! The simplicial path finder on a product of unit simplices, independent of the proved code.
 //!
-//! `small` renders document 01's definitions by search over sets of points, `paper` follows the steps of the 1987 paper's section 4
-//! as document 01 fixes them. Both answer the same call and share the grid, the questions, the slip and the sheet.
+//! `small` renders document 01's definitions by search over sets of points, `paper` follows the steps of the 1987
+//! paper's section 4 as document 01 fixes them. Both answer the same call and share the grid, the questions, the slip
+//! and the sheet.
 
 pub mod boundary;
 pub mod check;

@@ -21,7 +21,14 @@ pub struct Around<'a> {
 type Point = [u16; MOST_INDICES];
 
 /// Questions 1 to 8, where 5 is put for w behind the start, and 8 for the list behind the answer buffer.
-fn questions(sizes: &[u8], divisions: &[u16], start: &[u16], labels: &[u8], answer: usize, around: &Around) -> Result<Grid, u64> {
+fn questions(
+    sizes: &[u8],
+    divisions: &[u16],
+    start: &[u16],
+    labels: &[u8],
+    answer: usize,
+    around: &Around,
+) -> Result<Grid, u64> {
     let grid = Grid::new(sizes, divisions)?;
     if !grid.has_point(start) || !grid.has_point(around.w) {
         return Err(5);
@@ -33,11 +40,14 @@ fn questions(sizes: &[u8], divisions: &[u16], start: &[u16], labels: &[u8], answ
     Ok(grid)
 }
 
-/// "the sum over all indices of the absolute coordinate difference times (D / d_j), D being the product of the divisions"
+/// "the sum over all indices of the absolute coordinate difference times (D / d_j), D being the product of the
+/// divisions"
 fn distance(grid: &Grid, w: &[u16], point: &Point) -> u64 {
     let all: u64 = grid.divisions[..grid.blocks].iter().map(|&division| division as u64).product();
     let blocks = grid.ranges().zip(grid.divisions);
-    blocks.map(|(range, division)| range.map(|h| w[h].abs_diff(point[h]) as u64).sum::<u64>() * (all / division as u64)).sum()
+    blocks
+        .map(|(range, division)| range.map(|h| w[h].abs_diff(point[h]) as u64).sum::<u64>() * (all / division as u64))
+        .sum()
 }
 
 /// Writes the list of an end and answers the nearest vertex, of vertices in order of first visit.

@@ -26,6 +26,10 @@ pub enum Outcome {
     Refused(u64),
     /// Number 9, with the places visited.
     Spent(u64),
-    /// Number 16: a label that the path needs is 0, with the places visited before and the label's position in the table.
-    Unknown { places: u64, position: usize },
+    /// Number 16: a label that the path needs is 0, with the places visited before and the label's position in the
+    /// table.
+    Unknown {
+        places: u64,
+        position: usize,
+    },
 }

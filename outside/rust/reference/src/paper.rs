@@ -1,8 +1,8 @@
 //! The finder for grids of any accepted size: the steps of the 1987 paper's section 4 as document 01 fixes them.
 //!
-//! A vertex is kept by its coefficient list c, from which a coordinate is y_h = v_h + c_h - c_(h+1). The vertices of the present
-//! place stand in slots, joined in a ring in their order; an exchange overwrites the slot of the vertex that leaves and turns or
-//! swaps what is around it, so no vertex ever moves to another slot.
+//! A vertex is kept by its coefficient list c, from which a coordinate is y_h = v_h + c_h - c_(h+1). The vertices of
+//! the present place stand in slots, joined in a ring in their order; an exchange overwrites the slot of the vertex
+//! that leaves and turns or swaps what is around it, so no vertex ever moves to another slot.
 
 use crate::grid::{Grid, MOST_BLOCKS, MOST_INDICES};
 use crate::outcome::{End, Kind, Outcome};
@@ -41,7 +41,8 @@ struct Frame<'a> {
     block: [u8; MOST_INDICES],
     block_mask: [u16; MOST_INDICES],
     block_ones: [Coefficients; MOST_BLOCKS],
-    /// A point's position falls by `weights[offset + (r & keep)]` when the tail sum at an index rises to r and nothing else changes.
+    /// A point's position falls by `weights[offset + (r & keep)]` when the tail sum at an index rises to r and nothing
+    /// else changes.
     weights: [u16; MOST_WEIGHTS],
     offset: [u16; MOST_INDICES],
     keep: [u16; MOST_INDICES],
@@ -136,8 +137,9 @@ impl<'a> Frame<'a> {
         (frame, position as u16)
     }
 
-    /// Writes the weights of an index with `behind` indices after it in its block; answers where the next may begin. The weight at
-    /// r is the stride times "r + behind - 1 choose behind", so each index's weights are the sums of those of the index after it.
+    /// Writes the weights of an index with `behind` indices after it in its block; answers where the next may begin.
+    /// The weight at r is the stride times "r + behind - 1 choose behind", so each index's weights are the sums of
+    /// those of the index after it.
     fn add_weights(&mut self, h: usize, behind: usize, division: usize, stride: usize, room: usize) -> usize {
         self.offset[h] = room as u16;
         if behind == 0 {
@@ -280,7 +282,8 @@ impl Place {
         let bit = 1 << label;
         let mut from = self.previous(self.first);
         if self.u & bit != 0 {
-            // The first index after the label that is not in U; it took from where the label takes now, so the label goes before it.
+            // The first index after the label that is not in U; it took from where the label takes now, so the label
+            // goes before it.
             let outside = frame.block_mask[label] & !self.u;
             let behind = outside & !(2 * bit - 1);
             let k = if behind != 0 { behind } else { outside }.trailing_zeros() as usize;
@@ -374,7 +377,8 @@ impl Place {
         if c[h] == 0 {
             return self.shrink(slot, false);
         }
-        // The coefficients do not fall from the index after b up to h, so a zero among them means that the first is zero.
+        // The coefficients do not fall from the index after b up to h, so a zero among them means that the first is
+        // zero.
         let mut b = frame.taken(self.u, h);
         let mut k = frame.after[b] as usize & LOW;
         if c[k] == 0 {
@@ -476,7 +480,13 @@ fn follow_watched(
         if place.t >> label & 1 == 0 {
             if place.u >> label & 1 == 0 && frame.one_left(&place, label) {
                 let vertices = place.write(&frame, grid.m, place.first, answer);
-                return Outcome::Ended(End { places, labels_read, kind: Kind::Place, block: frame.block[label] as usize + 1, vertices });
+                return Outcome::Ended(End {
+                    places,
+                    labels_read,
+                    kind: Kind::Place,
+                    block: frame.block[label] as usize + 1,
+                    vertices,
+                });
             }
             if places == budget {
                 return Outcome::Spent(places);
@@ -493,7 +503,13 @@ fn follow_watched(
             match place.exchange(&frame, leaving) {
                 Exchange::Complete(h) => {
                     let vertices = place.write(&frame, grid.m, place.next(leaving), answer);
-                    return Outcome::Ended(End { places, labels_read, kind: Kind::Facet, block: frame.block[h] as usize + 1, vertices });
+                    return Outcome::Ended(End {
+                        places,
+                        labels_read,
+                        kind: Kind::Facet,
+                        block: frame.block[h] as usize + 1,
+                        vertices,
+                    });
                 }
                 _ if places == budget => return Outcome::Spent(places),
                 Exchange::Replaced => {

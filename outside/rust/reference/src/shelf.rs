@@ -1,4 +1,5 @@
-//! The shelf of sheets that replace sheets, from the request's sentences. It is slow: every question looks at every pair of sheets.
+//! The shelf of sheets that replace sheets, from the request's sentences. It is slow: every question looks at every
+//! pair of sheets.
 
 pub const MOST_SHEETS: usize = 1000;
 

@@ -1,7 +1,7 @@
 //! Document 01's definitions by search over sets of grid points, for small grids.
 //!
-//! Nothing is pivoted: the links of a place are found by trying every set that shares all points but one with it, has one point
-//! more or one point fewer, and testing the document's conditions on that set.
+//! Nothing is pivoted: the links of a place are found by trying every set that shares all points but one with it, has
+//! one point more or one point fewer, and testing the document's conditions on that set.
 
 use crate::grid::{Grid, MOST_INDICES};
 use crate::outcome::{End, Kind, Outcome};
@@ -168,13 +168,18 @@ impl Problem {
     /// The blocks, counted from 1, for which the set is complete.
     fn complete<'a>(&'a self, labels: &[u8], set: &[usize]) -> impl Iterator<Item = usize> + 'a {
         let have = self.label_set(labels, set) | self.set_u(set);
-        self.grid.ranges().enumerate().filter(move |(_, range)| range.clone().all(|h| have >> h & 1 == 1)).map(|(j, _)| j + 1)
+        self.grid
+            .ranges()
+            .enumerate()
+            .filter(move |(_, range)| range.clone().all(|h| have >> h & 1 == 1))
+            .map(|(j, _)| j + 1)
     }
 
     /// The links and ends of a place.
     pub(crate) fn ways(&self, labels: &[u8], place: &Set) -> Vec<Way> {
         let t = self.set_t(place);
-        let mut ways: Vec<Way> = self.complete(labels, place).map(|j| Way::End(Kind::Place, j, place.clone())).collect();
+        let mut ways: Vec<Way> =
+            self.complete(labels, place).map(|j| Way::End(Kind::Place, j, place.clone())).collect();
         let outside = || (0..self.points.len()).filter(|z| !place.contains(z));
         for z in outside() {
             let mut larger = place.clone();
@@ -215,7 +220,13 @@ impl Problem {
     }
 
     /// The same, with each place as the positions of its points.
-    pub fn follow_past(&self, labels: &[u8], budget: u64, answer: &mut [u16], mut passes: impl FnMut(&[usize])) -> Outcome {
+    pub fn follow_past(
+        &self,
+        labels: &[u8],
+        budget: u64,
+        answer: &mut [u16],
+        mut passes: impl FnMut(&[usize]),
+    ) -> Outcome {
         let mut here = vec![self.start];
         let mut come_from: Option<Set> = None;
         let mut labels_read = 0;
@@ -256,8 +267,9 @@ impl Point {
     }
 }
 
-/// "whole numbers c, none negative, at least one zero in each block, with y_h = v_h + c_h - c_(h+1) for every h". In a block one
-/// coefficient gives the others, and as two of them differ by at most the division, the first is among 0 to the division.
+/// "whole numbers c, none negative, at least one zero in each block, with y_h = v_h + c_h - c_(h+1) for every h". In a
+/// block one coefficient gives the others, and as two of them differ by at most the division, the first is among 0 to
+/// the division.
 fn coefficient_list(grid: &Grid, start: &[u16], point: &[u16; MOST_INDICES]) -> [i32; MOST_INDICES] {
     let mut list = [0; MOST_INDICES];
     for (range, &division) in grid.ranges().zip(&grid.divisions) {

@@ -1,5 +1,6 @@
-//! Request 03's trail. It is written from the places of a path by set difference. It is read twice: by the fields of each record, whose
-//! points are put to the test of a place, and by search over all sets that differ from a place by a point in, out or both.
+//! Request 03's trail. It is written from the places of a path by set difference. It is read twice: by the fields of
+//! each record, whose points are put to the test of a place, and by search over all sets that differ from a place by a
+//! point in, out or both.
 
 use crate::grid::{Grid, MOST_INDICES};
 use crate::outcome::Outcome;
@@ -77,8 +78,8 @@ impl Change {
         }
     }
 
-    /// "Rule 1 keeps T and U; 2 keeps T and U gains; 3 keeps T and U loses; 4 takes an index into T from outside U; 5 takes it from U;
-    /// 6 moves an index from T to U; 7 only drops it from T."
+    /// "Rule 1 keeps T and U; 2 keeps T and U gains; 3 keeps T and U loses; 4 takes an index into T from outside U; 5
+    /// takes it from U; 6 moves an index from T to U; 7 only drops it from T."
     pub fn rule(&self) -> Option<u8> {
         let [into_t, out_of_t, into_u, out_of_u] = self.sets;
         match self.sets.map(u16::count_ones) {
@@ -147,7 +148,8 @@ impl Trail {
     }
 }
 
-/// "17 when the trail buffer is shorter than the whole trail, asked after the run has ended and before anything is written"
+/// "17 when the trail buffer is shorter than the whole trail, asked after the run has ended and before anything is
+/// written"
 fn settle(run: Outcome, vertices: &[u16], m: usize, trail: Trail, answer: &mut [u16], to: &mut [u8]) -> Written {
     let Outcome::Ended(end) = run else { return Written { run, bytes: None } };
     let bytes = trail.bytes;
@@ -217,7 +219,13 @@ fn asked(sizes: &[u8], divisions: &[u16], start: &[u16]) -> Result<Grid, u64> {
 }
 
 /// The place at a record by the fields of the records up to it, or the refusal's number.
-pub fn read_by_fields(sizes: &[u8], divisions: &[u16], start: &[u16], trail: &[u8], record: u64) -> Result<Rebuilt, u64> {
+pub fn read_by_fields(
+    sizes: &[u8],
+    divisions: &[u16],
+    start: &[u16],
+    trail: &[u8],
+    record: u64,
+) -> Result<Rebuilt, u64> {
     let grid = asked(sizes, divisions, start)?;
     let (shape, labels_read) = Reader { grid: &grid, start }.read(trail, record).map_err(|_| 17u64)?;
     let points = shape.points.iter().map(|point| point[..grid.m].to_vec()).collect();
@@ -410,8 +418,8 @@ impl Reader<'_> {
         (used == t).then(|| Shape { set, points: points.iter().map(|&(_, _, point, _)| point).collect() })
     }
 
-    /// The index of T by which a point goes to the next: it gains 1 there, and loses 1 at "the first index met going back from h that
-    /// is not in U".
+    /// The index of T by which a point goes to the next: it gains 1 there, and loses 1 at "the first index met going
+    /// back from h that is not in U".
     fn step(&self, t: u16, u: u16, from: &Point, to: &Point) -> Option<usize> {
         let h = (0..self.grid.m).find(|&h| to[h] == from[h] + 1)?;
         let range = self.grid.ranges().find(|range| range.contains(&h))?;
@@ -424,8 +432,15 @@ impl Reader<'_> {
     }
 }
 
-/// The place at a record by search: of all sets of points next to a place, that to which the record at the front of the bytes leads.
-pub fn read_by_search(sizes: &[u8], divisions: &[u16], start: &[u16], trail: &[u8], record: u64) -> Result<Rebuilt, u64> {
+/// The place at a record by search: of all sets of points next to a place, that to which the record at the front of the
+/// bytes leads.
+pub fn read_by_search(
+    sizes: &[u8],
+    divisions: &[u16],
+    start: &[u16],
+    trail: &[u8],
+    record: u64,
+) -> Result<Rebuilt, u64> {
     let grid = asked(sizes, divisions, start)?;
     let problem = small::Problem::new(&grid, start);
     let mut here = problem.set(&[problem.start()]);
@@ -459,7 +474,8 @@ fn search(problem: &small::Problem, here: &Set, bytes: &[u8]) -> Option<(Set, Ve
     found.pop()
 }
 
-/// The sets that a place's moves lead to; where `otherwise`, those that leave a place as well but by no rule. For small grids.
+/// The sets that a place's moves lead to; where `otherwise`, those that leave a place as well but by no rule. For small
+/// grids.
 pub fn moves(problem: &small::Problem, here: &Set, otherwise: bool) -> Vec<Set> {
     let mut found = Vec::new();
     problem.each_near(&here.positions, |set| {

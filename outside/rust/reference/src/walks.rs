@@ -1,5 +1,5 @@
-//! Walks that are lent, shown and moved on, by document 01's definitions: a place is a set of points, and what comes next is found among its
-//! links and ends. The structs are those that cross to C.
+//! Walks that are lent, shown and moved on, by document 01's definitions: a place is a set of points, and what comes
+//! next is found among its links and ends. The structs are those that cross to C.
 
 use crate::grid::{Grid, MOST_INDICES};
 use crate::outcome::Kind;
@@ -121,8 +121,8 @@ impl<'a> Table<'a> {
         Ok(Table { grid, problem, labels })
     }
 
-    /// The points that a first point and an order keep, if they are grid points: "adding 1 to the coordinate at an index h of T and taking 1
-    /// from the coordinate at b", the first index met going back from h that is not in U.
+    /// The points that a first point and an order keep, if they are grid points: "adding 1 to the coordinate at an
+    /// index h of T and taking 1 from the coordinate at b", the first index met going back from h that is not in U.
     fn points(&self, place: &Place) -> Option<Set> {
         let m = self.grid.m;
         let count = place.count as usize;

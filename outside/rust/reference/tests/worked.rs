@@ -37,7 +37,8 @@ fn worked_ends() {
 
 #[test]
 fn edges() {
-    let run = |division: u16, labels: &[u8]| paper::run(&[2], &[division], &[division, 0], labels, &mut [0; 4], u64::MAX);
+    let run =
+        |division: u16, labels: &[u8]| paper::run(&[2], &[division], &[division, 0], labels, &mut [0; 4], u64::MAX);
     assert!(matches!(run(59_999, &[2; 60_000]), Outcome::Ended(End { places: 60_000, .. })));
     assert_eq!(run(60_000, &[2; 60_001]), Outcome::Refused(4));
     assert!(matches!(run(1, &[2, 2]), Outcome::Ended(_)));
@@ -54,7 +55,8 @@ fn printed<M: Method>(slip: &[u8]) -> String {
 #[test]
 fn example_sheet() {
     let slip = [4, 2, 2, 2, 1, 0, 1, 0, 2, 2, 2, 4];
-    let expected = "places 5\nlabels read 4\nbound 68\nend facet\nblock 1\nvertices 1\n0 1 1 0\ncentre 0 10000 10000 0\n";
+    let expected =
+        "places 5\nlabels read 4\nbound 68\nend facet\nblock 1\nvertices 1\n0 1 1 0\ncentre 0 10000 10000 0\n";
     assert_eq!(printed::<ByPaper>(&slip), expected);
     assert_eq!(printed::<ByDefinitions>(&slip), expected);
 }
@@ -66,7 +68,8 @@ fn labels_of_game_1() {
         let mut labels = [0; 8];
         fill(&grid, GAMES[0].losses, &mut labels);
         let points = grid.all_points();
-        let label = |point: [u16; 6]| labels[points.iter().position(|other| other[..6] == point).expect("a grid point")];
+        let label =
+            |point: [u16; 6]| labels[points.iter().position(|other| other[..6] == point).expect("a grid point")];
         assert_eq!((label([1, 0, 1, 0, 1, 0]), label([1, 0, 0, 1, 1, 0])), (4, 2));
     }
 }

@@ -1,5 +1,5 @@
-//! Times the implementations on the same inputs, with warm buffers: the median of many short repetitions, their quartiles, and the least, in processor
-//! time on Linux, so that other programs disturb little.
+//! Times the implementations on the same inputs, with warm buffers: the median of many short repetitions, their
+//! quartiles, and the least, in processor time on Linux, so that other programs disturb little.
 //!
 //!     cargo run --release --bin benchmark            # everything
 //!     cargo run --release --bin benchmark -- "16;6"  # the lines that have this text
@@ -70,7 +70,8 @@ struct Timing {
     least: f64,
 }
 
-/// Times the calls in turn, one repetition of each after the other, so that a slow moment of the machine falls on all of them.
+/// Times the calls in turn, one repetition of each after the other, so that a slow moment of the machine falls on all
+/// of them.
 fn time(calls: &mut [Box<dyn FnMut() + '_>]) -> Vec<Timing> {
     let mut counts = Vec::new();
     for call in calls.iter_mut() {
@@ -136,16 +137,25 @@ impl Benchmark {
         self.print(&name, "place", places, &mut calls);
     }
 
-    /// Tables of a grid whose runs follow each other, where a call is timed beside another: over one table alone the processor learns the
-    /// path by heart, and the call that is longer, only in part.
-    fn tables(&self, name: &str, sizes: &[u8], divisions: &[u16], from: From, seed: u64, rounds: usize) -> Vec<RunCall> {
+    /// Tables of a grid whose runs follow each other, where a call is timed beside another: over one table alone the
+    /// processor learns the path by heart, and the call that is longer, only in part.
+    fn tables(
+        &self,
+        name: &str,
+        sizes: &[u8],
+        divisions: &[u16],
+        from: From,
+        seed: u64,
+        rounds: usize,
+    ) -> Vec<RunCall> {
         if !name.contains(&self.text) {
             return Vec::new();
         }
         (0..TABLES).map(|k| long_run(sizes, divisions, from, seed + 1000 * k, rounds)).collect()
     }
 
-    /// The call that reports where the path came nearest, beside the run alone, over all these tables: at most 3 times as long was aimed at.
+    /// The call that reports where the path came nearest, beside the run alone, over all these tables: at most 3 times
+    /// as long was aimed at.
     fn near(&self, name: &str, calls: &[NearCall]) {
         if !name.contains(&self.text) {
             return;
@@ -167,13 +177,18 @@ impl Benchmark {
             ]);
             let [run, near] = [&timings[0], &timings[1]];
             let each = calls.len() as f64 * 1e3;
-            print!("{name:44} {:8} {:9.2} us (least {:.2})", implementation.name(), near.median / each, near.least / each);
+            print!(
+                "{name:44} {:8} {:9.2} us (least {:.2})",
+                implementation.name(),
+                near.median / each,
+                near.least / each
+            );
             println!("  {:.2} times the run (of the least {:.2})", near.median / run.median, near.least / run.least);
         }
     }
 
-    /// The run that writes a trail, and the reading of that trail's last record, beside the run alone, over all these tables: the most that
-    /// they may take is 2.5 times as long and as long.
+    /// The run that writes a trail, and the reading of that trail's last record, beside the run alone, over all these
+    /// tables: the most that they may take is 2.5 times as long and as long.
     fn trail(&self, name: &str, runs: &[RunCall]) {
         if !name.contains(&self.text) {
             return;
@@ -181,11 +196,14 @@ impl Benchmark {
         for implementation in &self.implementations {
             let room = runs[0].answer;
             let (mut alone, mut answer, mut trail) = (vec![0; room], vec![0; room], vec![0; MOST_TRAIL]);
-            let writes: Vec<TrailCall> = runs.iter().map(|run| TrailCall { run: run.clone(), room: MOST_TRAIL }).collect();
+            let writes: Vec<TrailCall> =
+                runs.iter().map(|run| TrailCall { run: run.clone(), room: MOST_TRAIL }).collect();
             let mut reads = Vec::new();
             for call in &writes {
                 let written = implementation.write(call, &mut answer, &mut trail);
-                let (Outcome::Ended(end), Some(bytes)) = (written.run, written.bytes) else { unreachable!("an end and its trail") };
+                let (Outcome::Ended(end), Some(bytes)) = (written.run, written.bytes) else {
+                    unreachable!("an end and its trail")
+                };
                 reads.push(read_of(&call.run, trail[..bytes].to_vec(), end.places));
             }
             let timings = time(&mut [
@@ -207,7 +225,12 @@ impl Benchmark {
             ]);
             let [run, write, read] = [&timings[0], &timings[1], &timings[2]];
             let each = runs.len() as f64 * 1e3;
-            print!("{name:44} {:8} {:9.2} us (least {:.2})", implementation.name(), write.median / each, write.least / each);
+            print!(
+                "{name:44} {:8} {:9.2} us (least {:.2})",
+                implementation.name(),
+                write.median / each,
+                write.least / each
+            );
             print!("  {:.2} times the run (of the least {:.2})", write.median / run.median, write.least / run.least);
             print!("  last record read {:.2} us (least {:.2})", read.median / each, read.least / each);
             println!("  {:.2} times the run (of the least {:.2})", read.median / run.median, read.least / run.least);
@@ -256,7 +279,8 @@ impl Benchmark {
         self.print(name, "", 0, &mut calls);
     }
 
-    /// Beside the refinement, its labellings and runs one by one, each with its own questions; the ratio is to those of the same code.
+    /// Beside the refinement, its labellings and runs one by one, each with its own questions; the ratio is to those of
+    /// the same code.
     fn refine(&self, name: &str, call: &RefineCall) {
         if !name.contains(&self.text) {
             return;
@@ -278,7 +302,12 @@ impl Benchmark {
                 }),
             ];
             let [parts, whole] = &time(&mut calls)[..] else { unreachable!("two calls") };
-            print!("{name:44} {:8} {:9.2} us (least {:.2})", implementation.name(), whole.median / 1e3, whole.least / 1e3);
+            print!(
+                "{name:44} {:8} {:9.2} us (least {:.2})",
+                implementation.name(),
+                whole.median / 1e3,
+                whole.least / 1e3
+            );
             print!("  one by one {:.2} us (least {:.2})", parts.median / 1e3, parts.least / 1e3);
             println!("  ratio {:.3} (of the least {:.3})", whole.median / parts.median, whole.least / parts.least);
         }
@@ -298,14 +327,19 @@ impl Benchmark {
 
 fn grid_name(sizes: &[u8], divisions: &[u16]) -> String {
     let text = |numbers: Vec<String>| numbers.join(" ");
-    format!("{};{}", text(sizes.iter().map(u8::to_string).collect()), text(divisions.iter().map(u16::to_string).collect()))
+    format!(
+        "{};{}",
+        text(sizes.iter().map(u8::to_string).collect()),
+        text(divisions.iter().map(u16::to_string).collect())
+    )
 }
 
 fn read_of(run: &RunCall, trail: Vec<u8>, record: u64) -> ReadCall {
     ReadCall { sizes: run.sizes.clone(), divisions: run.divisions.clone(), start: run.start.clone(), trail, record }
 }
 
-/// The whole trail of the path over one label, on a grid of one block of two indices, and the reading of its third record.
+/// The whole trail of the path over one label, on a grid of one block of two indices, and the reading of its third
+/// record.
 fn third_record(division: u16) -> ReadCall {
     let points = division as usize + 1;
     let (sizes, divisions, start) = (vec![2], vec![division], vec![division, 0]);
@@ -344,7 +378,12 @@ fn one_by_one(implementation: &dyn Implementation, call: &RefineCall) -> Vec<(La
     let (sizes, losses, mut start) = (&call.sizes, &call.losses, call.start.clone());
     for grid in call.game().grids().expect("accepted grids") {
         let divisions = grid.divisions[..grid.blocks].to_vec();
-        let label = LabelCall { sizes: sizes.clone(), divisions: divisions.clone(), losses: losses.clone(), buffer: grid.points };
+        let label = LabelCall {
+            sizes: sizes.clone(),
+            divisions: divisions.clone(),
+            losses: losses.clone(),
+            buffer: grid.points,
+        };
         let mut labels = vec![0; grid.points];
         implementation.label(&label, &mut labels).expect("a labelling");
         let (budget, answer) = (grid.bound(), (grid.n() + 1) * grid.m);
@@ -388,7 +427,10 @@ fn main() {
         benchmark.run(&grid_name(sizes, divisions), &long_run(sizes, divisions, from, seed, rounds));
     }
     for game in 0..GAMES.len() {
-        benchmark.run(&format!("game {}, {}", game + 1, grid_name(GAMES[game].sizes, GAME_DIVISIONS[game])), &game_run(game));
+        benchmark.run(
+            &format!("game {}, {}", game + 1, grid_name(GAMES[game].sizes, GAME_DIVISIONS[game])),
+            &game_run(game),
+        );
     }
     println!("\nthe questions alone (budget 0)");
     benchmark.run("2;59999, 60,000 labels", &RunCall { budget: 0, ..straight.clone() });
@@ -397,7 +439,8 @@ fn main() {
     benchmark.near("near, 2;59999, one label", &[near_run(straight.clone())]);
     for (sizes, divisions, from, seed, rounds) in LONG_RUNS {
         let name = format!("near, {}", grid_name(sizes, divisions));
-        let calls = benchmark.tables(&name, sizes, divisions, from, seed, rounds).into_iter().map(near_run).collect::<Vec<_>>();
+        let calls =
+            benchmark.tables(&name, sizes, divisions, from, seed, rounds).into_iter().map(near_run).collect::<Vec<_>>();
         benchmark.near(&name, &calls);
     }
     println!("\nruns that write a trail, and the reading of its last record");
@@ -420,7 +463,10 @@ fn main() {
     for (sizes, divisions) in BOUNDARY_GRIDS {
         let points = Grid::new(sizes, divisions).expect("a grid").points;
         let (sizes, divisions, labels) = (sizes.to_vec(), divisions.to_vec(), vec![1; points]);
-        benchmark.boundary(&format!("boundary of {}", grid_name(&sizes, &divisions)), &BoundaryCall { sizes, divisions, labels, buffer: points });
+        benchmark.boundary(
+            &format!("boundary of {}", grid_name(&sizes, &divisions)),
+            &BoundaryCall { sizes, divisions, labels, buffer: points },
+        );
     }
     let own = own_game();
     benchmark.label(&own_name(&own.sizes, &own.divisions), &own);
@@ -438,8 +484,12 @@ fn main() {
     benchmark.sheet("2;59999, one label", &straight.slip());
     for game in 0..GAMES.len() {
         let name = format!("game {}, {}", game + 1, grid_name(GAMES[game].sizes, GAME_DIVISIONS[game]));
-        let fields =
-            Fields { sizes: GAMES[game].sizes, divisions: GAME_DIVISIONS[game], game: Some(game as u8 + 1), ..Fields::default() };
+        let fields = Fields {
+            sizes: GAMES[game].sizes,
+            divisions: GAME_DIVISIONS[game],
+            game: Some(game as u8 + 1),
+            ..Fields::default()
+        };
         benchmark.sheet(&name, &fields.bytes());
     }
     for divisions in [&own.divisions[..], &[1; 6]] {

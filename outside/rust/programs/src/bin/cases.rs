@@ -77,7 +77,10 @@ fn given(implementation: &dyn Implementation, call: &Call) -> Option<Vec<String>
                 let written = implementation.write(call, &mut answer, &mut trail);
                 let (vertices, bytes) = call.written(&written);
                 let numbers = answer[vertices..].iter().all(|&number| number == UNTOUCHED);
-                assert!(numbers && trail[bytes..].iter().all(|&byte| byte == UNTOUCHED_BYTE), "a buffer is changed behind what is written");
+                assert!(
+                    numbers && trail[bytes..].iter().all(|&byte| byte == UNTOUCHED_BYTE),
+                    "a buffer is changed behind what is written"
+                );
                 let mut lines = run_lines(written.run, &answer);
                 if written.bytes.is_some() {
                     lines.pop();
@@ -155,7 +158,13 @@ fn main() -> ExitCode {
                     Some(lines) if lines == case.expect => *count += 1,
                     Some(lines) => {
                         failed += 1;
-                        println!("{} {}: {} gives\n{}", file.display(), case.name, implementation.name(), lines.join("\n"));
+                        println!(
+                            "{} {}: {} gives\n{}",
+                            file.display(),
+                            case.name,
+                            implementation.name(),
+                            lines.join("\n")
+                        );
                     }
                 }
             }

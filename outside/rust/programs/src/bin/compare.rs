@@ -1,4 +1,5 @@
-//! Gives the same calls to every implementation and compares result and buffers, the pattern behind what is written included.
+//! Gives the same calls to every implementation and compares result and buffers, the pattern behind what is written
+//! included.
 //!
 //!     cargo run --release --bin compare
 
@@ -7,7 +8,9 @@ use programs::calls::Call;
 use programs::implementations::Sheet;
 use programs::inputs::{self, Take};
 use programs::{all, near, refinements, trails};
-use programs::{BoundaryCall, CheckCall, Implementation, LabelCall, NearCall, ReadCall, RefineCall, RunCall, TrailCall};
+use programs::{
+    BoundaryCall, CheckCall, Implementation, LabelCall, NearCall, ReadCall, RefineCall, RunCall, TrailCall,
+};
 use reference::grid::Grid;
 use reference::slip::SHEET_BYTES;
 use reference::trail::WHY;
@@ -199,9 +202,18 @@ impl Comparison {
             .filter(|(_, &count)| count > 0)
             .map(|(number, count)| format!("{number}: {count}"))
             .collect();
-        println!("{name}: {calls} calls, {compared} compared, {ends} ends, {places} places, longest path {longest}, refusals [{}], {:.1} s",
-            refused.join(", "), begin.elapsed().as_secs_f64());
-        let reasons: Vec<String> = WHY.iter().zip(reasons).filter(|(_, &count)| count > 0).map(|(why, count)| format!("{why:?}: {count}")).collect();
+        println!(
+            "{name}: {calls} calls, {compared} compared, {ends} ends, {places} places, \
+             longest path {longest}, refusals [{}], {:.1} s",
+            refused.join(", "),
+            begin.elapsed().as_secs_f64()
+        );
+        let reasons: Vec<String> = WHY
+            .iter()
+            .zip(reasons)
+            .filter(|(_, &count)| count > 0)
+            .map(|(why, count)| format!("{why:?}: {count}"))
+            .collect();
         if !reasons.is_empty() {
             println!("    reasons for 17: {}", reasons.join(", "));
         }
@@ -224,9 +236,9 @@ impl Tally {
 
     fn count(&mut self, seen: &Seen) {
         match seen {
-            Seen::Run(outcome, _) | Seen::Near(Near { run: outcome, .. }, ..) | Seen::Trail(Written { run: outcome, .. }, ..) => {
-                self.count_run(outcome)
-            }
+            Seen::Run(outcome, _)
+            | Seen::Near(Near { run: outcome, .. }, ..)
+            | Seen::Trail(Written { run: outcome, .. }, ..) => self.count_run(outcome),
             Seen::Read(Ok(_)) => self.ends += 1,
             Seen::Read(Err(number)) => self.refusals[*number as usize] += 1,
             Seen::Label(Ok(_), _) | Seen::Boundary(Ok(_), _) => self.ends += 1,
@@ -303,7 +315,8 @@ fn main() -> ExitCode {
     comparison.part("large games of one's own", |take| inputs::own_games(11, 1_000, 60_000, take));
     comparison.part("every list of points of the smallest grids", inputs::every_list);
     comparison.part("lists near simplices", |take| inputs::lists_near_simplices(12, 200_000, 200, take));
-    comparison.part("lists near simplices of large grids", |take| inputs::lists_near_simplices(13, 5_000, 60_000, take));
+    comparison
+        .part("lists near simplices of large grids", |take| inputs::lists_near_simplices(13, 5_000, 60_000, take));
     comparison.part("ends of runs, checked", |take| inputs::checked_ends(14, 200_000, 500, take));
     comparison.part("faulty lists", |take| inputs::faulty_lists(15, 200_000, take));
     comparison.part("every old table of the smallest grids", boundary_inputs::every_table);

@@ -1,7 +1,9 @@
-//! What a run reads of its label table, from a trace of its loads and stores: `../run reads` makes the trace and gives it to this program.
+//! What a run reads of its label table, from a trace of its loads and stores: `../run reads` makes the trace and gives
+//! it to this program.
 //!
-//! Each run is made twice, with a budget of 0, which asks the questions and stops, and with the bound. The loads from the table that the
-//! second makes beyond those of the first are the run's own, and there must be as many as the labels read that it announces.
+//! Each run is made twice, with a budget of 0, which asks the questions and stops, and with the bound. The loads from
+//! the table that the second makes beyond those of the first are the run's own, and there must be as many as the labels
+//! read that it announces.
 //!
 //!     reads              makes the runs, and says where each one's table lies and what it announces
 //!     reads SAID TRACE   counts the loads of a trace by what such a call said
@@ -79,7 +81,10 @@ fn count(said: &str, trace: &str) -> bool {
         let reads = |call: &[usize]| call.iter().filter(|&&address| (from..from + length).contains(&address)).count();
         let (asked, whole) = (reads(&calls[0]), reads(&calls[1]));
         let own = whole.wrapping_sub(asked);
-        println!("{} {}: {} places, {} labels read, {own} reads beyond the {asked} of the questions", words[5], words[4], words[2], words[3]);
+        println!(
+            "{} {}: {} places, {} labels read, {own} reads beyond the {asked} of the questions",
+            words[5], words[4], words[2], words[3]
+        );
         right && own.to_string() == words[3]
     })
 }
