@@ -10,7 +10,7 @@ NAME = "answers"
 USES = [
     "mathlib.Core.Path.{_≡_, refl}",
     "mathlib.Core.List.{List, [], _∷_, map}",
-    "Rattle.grid.specs.Grid.{next, previous, isGridPoint, points, bound}",
+    "Rattle.grid_points.specs.Grid.{next, previous, isGridPoint, points, bound}",
     "Rattle.place.specs.Coefficients.{coefficients}",
     "Rattle.questions.specs.Questions.{firstNo}",
     "Rattle.place.specs.Ends.{placeEnd, facetEnd, isComplete, completeFor, placeEnds, facetEnds, ends, ways}",
