@@ -13,14 +13,14 @@ use Rattle.combinatorics.proofs.Basics.{absurd-bool, and-both, before-or-not, f
 use Rattle.combinatorics.proofs.Lists.{at-all, filter-in, in-filter, in-here, onNumbers}
 use Rattle.combinatorics.specs.Lists.{distinct, filter, firstOr, isIn, upFrom}
 use Rattle.grid_points.proofs.Accepted.{Accepted}
-use Rattle.grid_points.proofs.Points.{distinct-points, onPoints, position-in}
+use Rattle.grid_points.proofs.Points.{distinct-points, onPoints, position-in, at-map}
 use Rattle.grid_points.specs.Grid.{Grid, Point, at, indices, isGridPoint, numIndices, numPoints, points, position}
 use Rattle.grid_points.specs.Grid.{positionIn}
 use Rattle.grid_points.specs.Grid.{samePoint}
 use Rattle.path_laws.proofs.Meaning.{index-means}
 use Rattle.path_laws.proofs.Positions.{same-at}
 use Rattle.points_in_order.proofs.Blocks.{point-length}
-use Rattle.points_in_order.proofs.InOrder.{at-in, at-map}
+use Rattle.points_in_order.proofs.InOrder.{at-in}
 use Rattle.positions.proofs.Positions.{at-positionIn}
 use Rattle.boundary_labels.proofs.Rounds.{behind-means, has-index, means-behind, none-zero}
 use Rattle.boundary_labels.specs.Boundary.{boundaryIndex, boundaryLabel, boundaryTable, isInterior}

@@ -4,12 +4,11 @@ use mathlib.Core.Bool.{Bool, true, false, _&&_, cond}
 use mathlib.Core.List.{List, [], _∷_, map}
 use mathlib.Core.Logic.{⊎-elim}
 use mathlib.Core.Path.{_≡_, refl, sym, ap, _∙_}
-use Prim.Native.Nat.{ℕ, zero, suc, _+_, _-_, _/_, _%_, _^_, _≤_, _<_}
+use Prim.Native.Nat.{ℕ, zero, suc, _+_, _-_, _≤_, _<_}
 use borrow.Author.Tests.{eq-eqb, eqb-true, leb-true, le-leb}
 use lib.Bits.{bitAnd, and-comm, and-le-l}
 use lib.Dec.{eqb, leb}
 use lib.Seq.{ext-getD}
-use native.Mathlib.Nat.{div-div-eq-div-mul, pow-succ'}
 use native.Mathlib.Numerals.{add-one}
 use native.Mathlib.Omega.{arith}
 use Rattle.combinatorics.proofs.Basics.{absurd-bool, before-or-not, both}
@@ -18,37 +17,10 @@ use Rattle.combinatorics.specs.Lists.{all, any, same, upFrom}
 use Rattle.grid_points.specs.Grid.{Grid, at, numIndices}
 use Rattle.rules.proofs.Masks.{bit-and}
 use Rattle.rules.specs.Mask.{bit}
+use Rattle.rules.proofs.SameMasks.{same-from}
 use Rattle.simplices.proofs.Tests.{at-index, index-at}
 use Rattle.simplices.specs.Chains.{inside, nested, pairwise}
 use Rattle.chains.specs.Sets.{bitNumber, IsSet, nestedSets}
-
-last-same : (x y : ℕ) → x < 2 → y < 2 → eqb x 1 ≡ eqb y 1 → x ≡ y
-last-same zero zero l m e = refl
-last-same (suc zero) (suc zero) l m e = refl
-last-same zero (suc zero) l m e = absurd-bool (sym e)
-last-same (suc zero) zero l m e = absurd-bool e
-last-same (suc (suc x)) y l m e = absurd (omega arith)
-last-same zero (suc (suc y)) l m e = absurd (omega arith)
-last-same (suc zero) (suc (suc y)) l m e = absurd (omega arith)
-
-bit-half : (a k : ℕ) → bit a (suc k) ≡ bit (a / 2) k
-unfolding bit
-bit-half a k = rw (pow-succ' 2 k, ← div-div-eq-div-mul a 2 (2 ^ k))
-
--- two masks of n bits with the same bits
-mask-same : (n a b : ℕ) → a < 2 ^ n → b < 2 ^ n → ((k : ℕ) → k < n → bit a k ≡ bit b k) → a ≡ b
-unfolding bit
-mask-same zero a b l m h = omega arith
-mask-same (suc n) a b l m h =
-    let halves : a / 2 ≡ b / 2 = mask-same n (a / 2) (b / 2) (omega (arith, pow-succ' 2 n))
-    (omega (arith, pow-succ' 2 n))
-    (λ k x. sym (bit-half a k) ∙ h (suc k) (omega arith) ∙ bit-half b k) in
-    let last : a % 2 ≡ b % 2 =
-    last-same (a % 2) (b % 2) (omega arith) (omega arith) (last-bit a ∙ h 0 (omega arith) ∙ sym (last-bit b)) in
-    omega arith
-  where
-    last-bit : (a : ℕ) → eqb (a % 2) 1 ≡ bit a 0
-    last-bit a = let e : a / 1 ≡ a = omega arith in rw e
 
 ones-same : (a b k : ℕ) → bitNumber a k ≡ bitNumber b k → bit a k ≡ bit b k
 ones-same a b k e = go (bit a k) (bit b k) e
@@ -80,7 +52,7 @@ module _ (g : Grid) (few : numIndices g ≤ 16) where
   module _ {A B : List ℕ} {a b : ℕ} (p : IsSet (numIndices g) A a) (q : IsSet (numIndices g) B b) where
     inside-is : inside g A B ≡ eqb (bitAnd a b) a
     inside-is = both _ _
-        (λ h. eq-eqb _ _ (mask-same 16 (bitAnd a b) a (omega (arith, and-le-l a b, p .below)) (p .below)
+        (λ h. eq-eqb _ _ (same-from 16 (bitAnd a b) a (omega (arith, and-le-l a b, p .below)) (p .below)
         (λ k l. bit-and a b k
         ∙ ⊎-elim
         (λ (x : k < numIndices g). ones-below a b k
@@ -97,7 +69,7 @@ module _ (g : Grid) (few : numIndices g ≤ 16) where
     same-is : same eqb A B ≡ eqb a b
     same-is = both _ _
         (λ h. let e : A ≡ B = same-sound eqb (λ x y. eqb-true x y) A B h in
-        eq-eqb _ _ (mask-same 16 a b (p .below) (q .below) (λ k l. ⊎-elim
+        eq-eqb _ _ (same-from 16 a b (p .below) (q .below) (λ k l. ⊎-elim
         (λ (x : k < numIndices g). ones-same a b k (sym (p .is k x) ∙ ap (λ (c : List ℕ). at c k) e ∙ q .is k x))
         (λ (x : numIndices g ≤ k). p .clear k x l ∙ sym (q .clear k x l)) (before-or-not k (numIndices g)))))
         (λ h. let e : a ≡ b = eqb-true _ _ h in

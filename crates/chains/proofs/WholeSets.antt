@@ -5,14 +5,15 @@ use mathlib.Core.List.{List, [], _∷_}
 use mathlib.Core.Logic.{⊎-elim}
 use mathlib.Core.Path.{_≡_, sym, ap, _∙_}
 use Prim.Native.Nat.{ℕ, zero, suc, _+_, _-_, _≤_, _<_}
-use borrow.Author.Tests.{eqb-true, leb-true, lt-ltb, le-ltb}
+use borrow.Author.Tests.{leb-true, lt-ltb, le-ltb}
 use lib.Dec.{leb}
 use lib.ListN.{length, getD, take}
 use lib.Seq.{take-length}
 use native.Mathlib.Numerals.{add-one}
 use native.Mathlib.Omega.{arith}
-use Rattle.combinatorics.proofs.Basics.{and-left, before-or-not, false-of}
+use Rattle.combinatorics.proofs.Basics.{before-or-not, false-of}
 use Rattle.combinatorics.specs.Lists.{sum}
+use Rattle.combinatorics.proofs.Lists.{sums-rise}
 use Rattle.geometry.proofs.LabelledChains.{tabulate}
 use Rattle.geometry.proofs.Onward.{length-tabulate, getD-tabulate}
 use Rattle.grid_points.proofs.Accepted.{Accepted, size-two}
@@ -35,12 +36,6 @@ first-next [] zero = omega arith
 first-next [] (suc j) = omega arith
 first-next (s ∷ ss) zero = omega arith
 first-next (s ∷ ss) (suc j) = omega (arith, first-next ss j)
-
-before-later : (ss : List ℕ) (i j : ℕ) → i < j → sum (take i ss) + getD ss i 0 ≤ sum (take j ss)
-before-later ss i zero l = absurd (omega arith)
-before-later ss i (suc j) l =
-    ⊎-elim (λ (x : i < j). omega (arith, before-later ss i j x, first-next ss j))
-    (λ (x : j ≤ i). let e : i ≡ j = omega arith in rw e (omega (arith, first-next ss j))) (before-or-not i j)
 
 -- where the block j begins and ends, for these sizes
 abbrev firstOf : List ℕ → ℕ → ℕ
@@ -85,7 +80,7 @@ module _ {ss : List ℕ} {p z : Point} where
         (λ (x : j ≤ i). let e : i ≡ j = omega arith in rw e (B .goes)) (before-or-not i j);
     zeros = λ i l. ⊎-elim
         (λ (x : i < j). let w = A .zeros i x in
-        (w .0, w .1, w .2, sym (agree w.0 (omega (arith, w .2, before-later ss i j x))) ∙ w .3))
+        (w .0, w .1, w .2, sym (agree w.0 (omega (arith, w .2, sums-rise ss i j x))) ∙ w .3))
         (λ (x : j ≤ i). let e : i ≡ j = omega arith in rw e zero-here) (before-or-not i j);
   }
     where
@@ -95,17 +90,13 @@ module _ {ss : List ℕ} {p z : Point} where
       agree-closed : (i : ℕ) → i < j → (k : ℕ)
           → closed (firstOf ss i) (endOf ss i) (bitNumber old) k ≡ closed (firstOf ss i) (endOf ss i) (bitNumber set) k
       agree-closed i x k =
-          let l = before-later ss i j x in
+          let l = sums-rise ss i j x in
           ⊎-elim (λ (y : k < endOf ss i). rw (lt-ltb k (endOf ss i) y) (agree k (omega arith)))
           (λ (y : endOf ss i ≤ k). rw (le-ltb k (endOf ss i) y) (agree (firstOf ss i) (omega (arith, some-size i x))))
           (before-or-not k (endOf ss i))
         where
           some-size : (i : ℕ) → i < j → firstOf ss i < endOf ss i
           some-size i x = let w = A .zeros i x in omega (arith, w .1, w .2)
-
-pub point-long : (g : Grid) (y : Point) → isGridPoint g y ≡ true → length y ≡ numIndices g
-unfolding isGridPoint
-point-long g y h = eqb-true _ _ (and-left _ _ h)
 
 -- a block of a grid that is made
 pub record IsBlock (s : GridStruct) (j : ℕ) : Type 0 where

@@ -20,7 +20,7 @@ use Rattle.combinatorics.proofs.Turns.{map-at}
 use Rattle.combinatorics.specs.Front.{front}
 use Rattle.combinatorics.specs.Lists.{all, filter, isIn, sum, upFrom}
 use Rattle.grid.proofs.Fields.{made-accepted, made-blocks, made-indices}
-use Rattle.grid_points.proofs.Points.{in-points, position-in}
+use Rattle.grid_points.proofs.Points.{in-points, position-in, point-long}
 use Rattle.grid_points.proofs.Round.{block-fits}
 use Rattle.grid_points.specs.Grid.{Grid, Point, at, blocks, firstIndex, indices, indicesOf, isGridPoint, numIndices}
 use Rattle.grid_points.specs.Grid.{numPoints, points, position, size}
@@ -36,7 +36,6 @@ use Rattle.positions.specs.Steps.{afterSteps, CanTakeSteps}
 use Rattle.simplices.specs.Simplices.{firstOf, labelledBy}
 use Rattle.chains.proofs.ListedPoints.{all-at}
 use Rattle.chains.proofs.Nestings.{range-none, range-more}
-use Rattle.chains.proofs.WholeSets.{point-long}
 use Rattle.checker.specs.Covered.{IsCovered, firstWhole, withLabel}
 
 -- a search through numbers from k up to n

@@ -5,7 +5,7 @@ use mathlib.Core.List.{List, [], _∷_, _++_, map}
 use mathlib.Core.Option.{Option, none, some}
 use mathlib.Core.Path.{_≡_, refl, sym, ap, _∙_}
 use Prim.Native.Nat.{ℕ, zero, suc, _+_, _-_, _*_, _≤_, _<_}
-use borrow.Author.Tests.{eq-eqb, eqb-true}
+use borrow.Author.Tests.{eqb-true}
 use lib.Dec.{eqb, ltb}
 use lib.ListN.{length, take, drop, length-append}
 use lib.Seq.{drop-append-add, take-append-le, take-length}
@@ -19,6 +19,7 @@ use Rattle.questions.specs.Questions.{firstNo}
 use Rattle.grid_points.proofs.Accepted.{Accepted, accepted, blocks-few}
 use Rattle.grid_points.specs.Grid.{Grid, Point, dimension, isGridPoint, numIndices}
 use Rattle.grid_points.specs.Questions.{gridQuestions, question5}
+use Rattle.grid_points.proofs.Points.{points-long}
 use Rattle.place.specs.Ends.{End}
 use Rattle.place.specs.LabelsRead.{labelsRead}
 use Rattle.place.specs.Path.{answer, outcome, announcement, ended, path, pathLength, spent}
@@ -27,7 +28,6 @@ use Rattle.place.specs.Problem.{Problem}
 use Rattle.place.specs.Questions.{question6, question7, tableQuestions}
 use Rattle.simplices.proofs.Answers.{last-place, stop-answer, stop-points}
 use Rattle.simplices.proofs.Tests.{settled-with}
-use Rattle.chains.proofs.WholeSets.{point-long}
 use Rattle.chains.specs.Listed.{listed, listedAt}
 use Rattle.checker.proofs.Answers.{judged-is}
 use Rattle.checker.proofs.ListRefusals.{list-points, none-no}
@@ -70,12 +70,6 @@ numbers-long m (y ∷ ys) a =
     let long : length y ≡ m = eqb-true _ _ (and-left (eqb (length y) m) _ a) in
     rw length-append (omega (arith, suc-mul (length ys) m, numbers-long m ys (and-right (eqb (length y) m) _ a)))
 
-all-long : (g : Grid) (ys : List Point) → all (isGridPoint g) ys ≡ true
-    → all (λ y. eqb (length y) (numIndices g)) ys ≡ true
-all-long g [] a = refl
-all-long g (y ∷ ys) a =
-    rw (eq-eqb _ _ (point-long g y (and-left (isGridPoint g y) _ a))) (all-long g ys (and-right (isGridPoint g y) _ a))
-
 -- the points of a list that is 1 to n + 1 points of the grid one after another are these, and question 19 is
 -- answered yes
 module _ {g : Grid} (A : Accepted g) (ys : List Point) (some-point : 1 ≤ length ys)
@@ -84,14 +78,14 @@ module _ {g : Grid} (A : Accepted g) (ys : List Point) (some-point : 1 ≤ lengt
   some-index = omega (arith, blocks-few g A, A .someBlock)
 
   as-many : wholePoints g (concatMap (λ y. y) ys) ≡ length ys
-  as-many = rw (numbers-long (numIndices g) ys (all-long g ys on)) (mul-div-cancel (length ys) some-index)
+  as-many = rw (numbers-long (numIndices g) ys (points-long g ys on)) (mul-div-cancel (length ys) some-index)
 
   pub same-points : listedPoints g (concatMap (λ y. y) ys) ≡ ys
-  same-points = rw as-many (points-back (numIndices g) ys (all-long g ys on))
+  same-points = rw as-many (points-back (numIndices g) ys (points-long g ys on))
 
   pub list-accepted : question19 g (concatMap (λ y. y) ys) .answeredYes ≡ true
   list-accepted =
-      let long = numbers-long (numIndices g) ys (all-long g ys on) in
+      let long = numbers-long (numIndices g) ys (points-long g ys on) in
       let least : 1 * numIndices g ≤ length ys * numIndices g = mul-le-mul-right (numIndices g) some-point in
       sym (list-points g (concatMap (λ y. y) ys) (omega (arith, some-index)) (rw as-many (sym long)) (rw as-many few))
       ∙ rw same-points on

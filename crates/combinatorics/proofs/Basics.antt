@@ -1,5 +1,5 @@
 -- Truth values and comparisons of numbers. Assumes nothing.
-use mathlib.Core.Bool.{Bool, true, false, not, _&&_, _||_}
+use mathlib.Core.Bool.{Bool, Bool·beq, true, false, not, _&&_, _||_}
 use mathlib.Core.Logic.{_⊎_, inl, inr, ⊎-elim}
 use mathlib.Core.Path.{_≡_, refl, sym}
 use Prim.Native.Nat.{ℕ, _≤_, _<_}
@@ -48,6 +48,10 @@ pub not-is : (a : Bool) → not a ≡ true → a ≡ false
 not-is true e = sym e
 not-is false e = refl
 
+pub is-not : (a : Bool) → not a ≡ false → a ≡ true
+is-not true e = refl
+is-not false e = sym e
+
 pub false-of : (a : Bool) → (a ≡ true → ⊥) → a ≡ false
 false-of true h = absurd (h refl)
 false-of false h = refl
@@ -56,3 +60,23 @@ pub both : (a b : Bool) → (a ≡ true → b ≡ true) → (b ≡ true → a �
 both true b f g = sym (f refl)
 both false true f g = g refl
 both false false f g = refl
+
+pub beq-same : (a b : Bool) → Bool·beq a b ≡ true → a ≡ b
+beq-same true true e = refl
+beq-same false false e = refl
+beq-same true false e = absurd-bool (sym e)
+beq-same false true e = absurd-bool (sym e)
+
+pub same-beq : (a b : Bool) → a ≡ b → Bool·beq a b ≡ true
+same-beq true true e = refl
+same-beq false false e = refl
+same-beq true false e = absurd-bool e
+same-beq false true e = absurd-bool (sym e)
+
+pub or-true : (a : Bool) → (a || true) ≡ true
+or-true true = refl
+or-true false = refl
+
+pub and-false : (a : Bool) → (a && false) ≡ false
+and-false true = refl
+and-false false = refl

@@ -1,16 +1,18 @@
 -- Lists as finite sets, by a test of equality; the pigeonhole law. Assumes nothing.
-use mathlib.Core.Bool.{Bool, true, false, not, cond}
+use mathlib.Core.Bool.{Bool, true, false, not, _&&_, cond}
 use mathlib.Core.List.{List, [], _∷_, _++_, map}
 use mathlib.Core.Logic.{_⊎_, inl, inr, ⊎-elim}
 use mathlib.Core.Path.{_≡_, refl, sym, ap, _∙_, subst}
 use Prim.Native.Nat.{ℕ, suc, _+_, _*_, _≤_, zero, _<_}
 use borrow.Author.Tests.{eqb-true, eq-eqb}
 use lib.Dec.{eqb}
-use lib.ListN.{length, length-append, getD}
+use lib.ListN.{length, length-append, getD, take}
+use native.Mathlib.Nat.{mul-le-mul-right}
+use native.Mathlib.Numerals.{add-one-le}
 use native.Mathlib.Omega.{arith}
 use Rattle.combinatorics.proofs.Basics.{absurd-bool, or-cases, or-right, or-left, and-left, and-right, and-both}
 use Rattle.combinatorics.proofs.Basics.{not-is, false-of, true-or-false}
-use Rattle.combinatorics.specs.Lists.{filter, all, concatMap, same, isIn, distinct, any, occurrences}
+use Rattle.combinatorics.specs.Lists.{filter, all, concatMap, same, isIn, distinct, any, occurrences, sum}
 
 -- a test of equality for the elements of a list
 pub record Equality (A : Type 0) : Type 0 where
@@ -241,6 +243,28 @@ pub length-passing : {A : Type 0} (q : A → Bool) (xs : List A)
 length-passing q [] = omega arith
 length-passing q (x ∷ xs) =
     let i = length-passing q xs in ⊎-elim (λ t. rw t (omega arith)) (λ f. rw f (omega arith)) (true-or-false (q x))
+
+-- two filters, one after the other
+pub filter-twice : {A : Type 0} (q r : A → Bool) (xs : List A) → filter q (filter r xs) ≡ filter (λ x. r x && q x) xs
+filter-twice q r [] = refl
+filter-twice q r (x ∷ xs) =
+    let i = filter-twice q r xs in
+    ⊎-elim
+    (λ t. rw t (⊎-elim (λ u. rw u (ap (λ l. x ∷ l) i)) (λ u. rw u i) (true-or-false (q x))))
+    (λ t. rw t i)
+    (true-or-false (r x))
+
+-- row k of m numbers lies in a buffer of so many rows
+pub row-room : (k rows m long : ℕ) → k < rows → rows * m ≤ long → k * m + m ≤ long
+row-room k rows m long l h = omega (arith, mul-le-mul-right m (add-one-le l))
+
+-- the first numbers of a list up to one of them have no larger sum than those up to a later one
+pub sums-rise : (xs : List ℕ) (i n : ℕ) → i < n → sum (take i xs) + getD xs i 0 ≤ sum (take n xs)
+sums-rise [] zero n h = omega arith
+sums-rise [] (suc i) n h = omega arith
+sums-rise (x ∷ xs) i zero h = absurd (omega arith)
+sums-rise (x ∷ xs) zero (suc n) h = omega arith
+sums-rise (x ∷ xs) (suc i) (suc n) h = omega (arith, sums-rise xs i n (omega arith))
 
 module _ {A B : Type 0} (E : Equality A) (F : Equality B) where
   open Equality E using (eq, sound, self)

@@ -17,7 +17,7 @@ use Rattle.combinatorics.proofs.Agreement.{map-agree, map-range}
 use Rattle.combinatorics.proofs.Basics.{and-left, and-right, and-both, same-or}
 use Rattle.combinatorics.proofs.Binomials.{choose-grows}
 use Rattle.combinatorics.proofs.Fronts.{front-at, front-length}
-use Rattle.combinatorics.proofs.Lists.{in-all, filter-in, filter-append, eqb-self, onNumbers}
+use Rattle.combinatorics.proofs.Lists.{in-all, filter-in, filter-append, eqb-self, onNumbers, sums-rise}
 use Rattle.combinatorics.proofs.Ranges.{length-upFrom, upFrom-in, upFrom-add}
 use Rattle.combinatorics.proofs.Turns.{map-append, map-at, sum-next}
 use Rattle.combinatorics.specs.Counting.{binomialProduct, choose}
@@ -31,7 +31,6 @@ use Rattle.grid_points.specs.Grid.{Grid, Point, at, blockOf, numBlocks, numIndi
 use Rattle.grid_points.specs.Grid.{firstIndex, blocks, isGridPoint}
 use Rattle.grid_points.specs.Questions.{gridQuestions}
 use Rattle.weighed_losses.proofs.Blends.{blend-agree, blend-times, blend-same}
-use Rattle.weighed_losses.proofs.Levels.{block-before}
 use Rattle.weighed_losses.specs.Levels.{blend}
 use Rattle.corners.proofs.Blends.{blend-difference, linear, unit-length}
 use Rattle.points_in_order.proofs.Blocks.{at-part, point-length, block-sum, block-length}
@@ -97,7 +96,7 @@ module _ (g : Grid) (some : 1 ≤ numBlocks g) where
 
     pub corner-other : (k i : ℕ) → i < last → mix g (corner g y k) i ≡ mix g y i
     corner-other k i h = map-range _ _ (firstIndex g i) (size g i) (λ t l.
-        let low : firstIndex g i + t < firstIndex g last = omega (arith, block-before (g .sizes) i last h) in
+        let low : firstIndex g i + t < firstIndex g last = omega (arith, sums-rise (g .sizes) i last h) in
         List·getD-append (take (firstIndex g last) y) (unitVector (size g last) k) 0 (firstIndex g i + t)
         (rw outer-length low)
         ∙ getD-take (firstIndex g last) y (firstIndex g i + t) 0 low)

@@ -1,23 +1,20 @@
 -- From where a walk finished to a run's answer: the start in its array is the start, and the points of the last state
 -- are the answer's. Assumes nothing.
-use mathlib.Core.Bool.{true}
 use mathlib.Core.List.{List}
-use mathlib.Core.Path.{_≡_, refl, sym, ap, _∙_, subst}
+use mathlib.Core.Path.{_≡_, sym, ap, _∙_, subst}
 use Prim.Native.Nat.{ℕ, suc, _-_, _*_, _≤_, _<_}
-use borrow.Author.Tests.{eqb-true}
-use lib.Dec.{eqb}
 use lib.ListN.{length, length-map, length-replicate, length-take, replicate, take}
 use lib.Seq.{take-length}
 use native.Mathlib.Nat.{mul-le-mul-right}
 use native.Mathlib.Omega.{arith}
-use Rattle.combinatorics.proofs.Basics.{and-left}
 use Rattle.combinatorics.proofs.Fronts.{front-length, front-taken}
 use Rattle.combinatorics.proofs.Ranges.{length-upFrom}
 use Rattle.combinatorics.specs.Front.{front}
 use Rattle.combinatorics.specs.Lists.{upFrom}
 use Rattle.end_kinds.specs.declared.Kind.{Kind}
 use Rattle.grid.proofs.Fields.{indices-few, made-indices}
-use Rattle.grid_points.specs.Grid.{Grid, Point, blockOf, dimension, isGridPoint, numIndices}
+use Rattle.grid_points.specs.Grid.{blockOf, dimension, numIndices}
+use Rattle.grid_points.proofs.Points.{point-long}
 use Rattle.grid.specs.Made.{IsMade, shape}
 use Rattle.grid.specs.declared.Grid.{Grid as GridStruct}
 use Rattle.rules.specs.Read.{numbersFrom, pointIn, pointsFrom}
@@ -30,11 +27,6 @@ use Rattle.path_walk.specs.Finish.{Announced, Finished, firstPointOf, problemIn
 use Rattle.finder.specs.Run.{caseOf, numbersOf}
 use Rattle.finder.specs.declared.answers.Answer.the-variants.{End}
 use Rattle.path_walk.specs.declared.Finish.{Finish}
-
--- a grid point has m numbers
-pub point-long : (g : Grid) (y : Point) → isGridPoint g y ≡ true → length y ≡ numIndices g
-unfolding isGridPoint
-point-long g y h = eqb-true (length y) (numIndices g) (and-left (eqb (length y) (numIndices g)) _ h)
 
 -- the array that the start was copied to holds it
 module _ (g : GridStruct) (made : IsMade g) (start table : List ℕ) (ok : Accepted (problemFrom g start table)) where

@@ -9,16 +9,16 @@ use lib.Dec.{eqb, leb}
 use lib.ListN.{length}
 use native.Mathlib.Nat.{mul-le-mul-right}
 use native.Mathlib.Omega.{arith}
-use Rattle.combinatorics.proofs.Basics.{and-left, and-right}
 use Rattle.combinatorics.proofs.Fronts.{front-none}
 use Rattle.combinatorics.specs.Front.{front}
-use Rattle.combinatorics.specs.Lists.{all, sum}
+use Rattle.combinatorics.specs.Lists.{all}
 use Rattle.questions.proofs.Answers.{asked-next, asked-no, both-yes, first-yes}
 use Rattle.questions.specs.Questions.{firstNo}
 use Rattle.grid.proofs.Fields.{indices-few, made-accepted, made-blocks, made-indices, made-shape}
 use Rattle.grid_points.specs.Grid.{Grid, dimension, isGridPoint, numIndices, numPoints}
 use Rattle.grid.specs.Made.{IsMade, madeOf, shape}
 use Rattle.grid_points.specs.Questions.{gridQuestions}
+use Rattle.grid_points.proofs.Accepted.{blocks-at-most}
 use Rattle.grid.specs.declared.Grid.{Grid as GridStruct}
 use Rattle.grid.specs.declared.Made.{Made}
 use Rattle.place.specs.Path.{answer}
@@ -87,14 +87,6 @@ module _ (p : Problem) (room : ℕ) where
 
 -- the numbers of question 8, as the program works them out
 module _ (g : GridStruct) (made : IsMade g) where
-  blocks-at-most : (ss : List ℕ) → all (λ s. leb 2 s) ss ≡ true → length ss ≤ sum ss
-  blocks-at-most [] e = omega arith
-  blocks-at-most (s ∷ ss) e = omega (
-    arith,
-    leb-true 2 s (and-left (leb 2 s) (all (λ s. leb 2 s) ss) e),
-    blocks-at-most ss (and-right (leb 2 s) (all (λ s. leb 2 s) ss) e),
-  )
-
   pub fewer-blocks : g .blocks ≤ g .indices
   fewer-blocks = omega (
     arith,

@@ -7,8 +7,8 @@ use native.Mathlib.Omega.{arith}
 use Rattle.combinatorics.proofs.Fronts.{front-copy}
 use Rattle.combinatorics.specs.Front.{front}
 use Rattle.grid_points.specs.Grid.{Grid, Point, points, numPoints}
+use Rattle.grid_points.proofs.Points.{at-map}
 use Rattle.losses.specs.Game.{gameLabel, labels}
-use Rattle.points_in_order.proofs.InOrder.{at-map}
 
 pub labels-length : (g : Grid) (losses : List ℕ) → length (labels g losses) ≡ numPoints g
 unfolding labels

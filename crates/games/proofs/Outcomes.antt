@@ -1,13 +1,11 @@
 -- What each outcome of the questions makes of the answer and of the buffer. Assumes nothing.
-use mathlib.Core.Bool.{Bool, true, false, cond}
-use mathlib.Core.List.{List, [], _∷_, _++_}
-use mathlib.Core.Path.{_≡_, refl, sym, ap, _∙_}
-use Prim.Native.Nat.{ℕ, _*_, _≤_, _<_}
-use borrow.Author.Tests.{eq-eqb, ne-eqb, ltb-true}
-use lib.Dec.{ltb}
+use mathlib.Core.Bool.{true, false}
+use mathlib.Core.List.{List, [], _∷_}
+use mathlib.Core.Path.{_≡_, refl, ap, _∙_}
+use Prim.Native.Nat.{ℕ, _*_, _≤_}
+use borrow.Author.Tests.{eq-eqb, ne-eqb}
 use lib.ListN.{length, replicate}
 use native.Mathlib.Omega.{arith}
-use Rattle.combinatorics.proofs.Basics.{and-left, and-right}
 use Rattle.combinatorics.proofs.Fronts.{front-length}
 use Rattle.combinatorics.specs.Front.{front}
 use Rattle.combinatorics.specs.Lists.{all}
@@ -15,6 +13,7 @@ use Rattle.grid.proofs.Fields.{made-accepted, blocks-range, made-is, made-shape
 use Rattle.grid_points.specs.Grid.{Grid, numBlocks, numPoints}
 use Rattle.grid.specs.Made.{madeOf, gridOf, IsMade, shape}
 use Rattle.questions.specs.Questions.{Question, firstNo}
+use Rattle.questions.proofs.Answers.{asked-next}
 use Rattle.grid_points.specs.Questions.{gridQuestions}
 use Rattle.grid.specs.declared.Grid.{Grid as GridStruct}
 use Rattle.grid.specs.declared.Made.{Made}
@@ -23,34 +22,6 @@ use Rattle.losses.specs.Table.{question10, question11, inRange}
 use Rattle.points_in_order.specs.Lent.{WithFirsts}
 use Rattle.games.specs.Labelling.{question12, labelQuestions, labelledOf, leftIn}
 use Rattle.games.specs.declared.Labelled.the-variants.{Refused, Written}
-
--- questions answered yes, and what is asked after them
-abbrev numbered : List Question → Bool
-numbered qs = all (λ q. ltb 0 (q .number)) qs
-
-pub asked-next : (qs rs : List Question) → numbered qs ≡ true → firstNo qs ≡ 0 → firstNo (qs ++ rs) ≡ firstNo rs
-unfolding firstNo
-asked-next [] rs a e = refl
-asked-next (q ∷ qs) rs a e = go (q .answeredYes) e (asked-next qs rs (and-right (ltb 0 (q .number)) (numbered qs) a))
-  where
-    some : 0 < q .number
-    some = ltb-true 0 (q .number) (and-left (ltb 0 (q .number)) (numbered qs) a)
-
-    go : (b : Bool) → cond b (firstNo qs) (q .number) ≡ 0 → (firstNo qs ≡ 0 → firstNo (qs ++ rs) ≡ firstNo rs)
-        → cond b (firstNo (qs ++ rs)) (q .number) ≡ firstNo rs
-    go true e i = i e
-    go false e i = absurd (omega (arith, some))
-
--- a question answered no, whatever is asked after it
-pub asked-no : (qs rs : List Question) (n : ℕ) → (n ≡ 0 → ⊥) → firstNo qs ≡ n → firstNo (qs ++ rs) ≡ n
-unfolding firstNo
-asked-no [] rs n h e = absurd (h (sym e))
-asked-no (q ∷ qs) rs n h e = go (q .answeredYes) e (asked-no qs rs n h)
-  where
-    go : (b : Bool) → cond b (firstNo qs) (q .number) ≡ n → (firstNo qs ≡ n → firstNo (qs ++ rs) ≡ n)
-        → cond b (firstNo (qs ++ rs)) (q .number) ≡ n
-    go true e i = i e
-    go false e i = e
 
 module _ (g : Grid) (questions : List Question) (losses buffer : List ℕ) where
   pub refused : (n : ℕ) → (n ≡ 0 → ⊥) → firstNo questions ≡ n

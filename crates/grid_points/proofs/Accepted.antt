@@ -46,6 +46,13 @@ accepted g e =
       fewPoints = leb-true (numPoints g) 60000 (d .0);
     }
 
+-- where each block has an index there are at least as many indices as blocks
+pub blocks-at-most : (ss : List ℕ) → all (λ s. leb 2 s) ss ≡ true → length ss ≤ sum ss
+blocks-at-most [] h = omega arith
+blocks-at-most (s ∷ ss) h =
+    let two : 2 ≤ s = leb-true 2 s (and-left (leb 2 s) (all (λ s. leb 2 s) ss) h) in
+    omega (arith, blocks-at-most ss (and-right (leb 2 s) (all (λ s. leb 2 s) ss) h))
+
 module _ (g : Grid) (a : Accepted g) where
   pub points-are : numPoints g ≡ binomialProduct (g .sizes) (g .divisions)
   points-are = numPoints-is g (a .sizesTwo)
@@ -58,13 +65,7 @@ module _ (g : Grid) (a : Accepted g) where
 
   -- each block has an index, so there are at least as many indices
   pub blocks-few : numBlocks g ≤ numIndices g
-  blocks-few = go (g .sizes) (a .sizesTwo)
-    where
-      go : (ss : List ℕ) → all (λ s. leb 2 s) ss ≡ true → length ss ≤ sum ss
-      go [] h = omega arith
-      go (s ∷ ss) h =
-          let two : 2 ≤ s = leb-true 2 s (and-left (leb 2 s) (all (λ s. leb 2 s) ss) h) in
-          omega (arith, go ss (and-right (leb 2 s) (all (λ s. leb 2 s) ss) h))
+  blocks-few = blocks-at-most (g .sizes) (a .sizesTwo)
 
   pub size-two : (j : ℕ) → j < numBlocks g → (2 ≤ size g j) × (size g j ≤ 16)
   size-two j h = size-range (g .sizes) j (a .sizesTwo) (a .fewIndices) h

@@ -13,21 +13,18 @@ use native.Mathlib.Omega.{arith}
 use Rattle.combinatorics.proofs.Basics.{before-or-not, and-left, and-right}
 use Rattle.combinatorics.specs.Counting.{choose, binomialProduct}
 use Rattle.combinatorics.specs.Lists.{all}
+use Rattle.combinatorics.proofs.Binomials.{choose-positive}
 use Rattle.grid_counts.proofs.SizeRange.{at-sum}
 use Rattle.grid_points.proofs.Listing.{numPoints-is}
 use Rattle.grid_points.proofs.Points.{Fits, none, block, fits-of}
 use Rattle.grid_points.specs.Grid.{Grid, Point, at, numBlocks, numPoints, division, isGridPoint}
 
-choose-some : (d n : ℕ) → 1 ≤ choose (d + n) n
-choose-some d zero = omega arith
-choose-some d (suc n) = let w : d + suc n ≡ suc (d + n) = omega arith in rw w (omega (arith, choose-some d n))
-
 choose-many : (d n : ℕ) → d < choose (d + suc n) (suc n)
-choose-many zero n = choose-some 0 (suc n)
+choose-many zero n = choose-positive 0 (suc n)
 choose-many (suc d) n =
     let w : suc d + suc n ≡ suc (d + suc n) = omega arith in
     let v : suc d + n ≡ d + suc n = omega arith in
-    rw w (omega (arith, choose-many d n, rw v at (choose-some (suc d) n)))
+    rw w (omega (arith, choose-many d n, rw v at (choose-positive (suc d) n)))
 
 divisions-below : (ss ds : List ℕ) → all (λ s. leb 2 s) ss ≡ true → length ds ≡ length ss → (j : ℕ)
     → getD ds j 0 < binomialProduct ss ds

@@ -200,3 +200,20 @@ position-in (x ∷ xs) y m = go (samePoint x y) refl (position-in xs y)
       arith,
       i (⊎-elim (λ q. absurd-bool (sym (point-self x) ∙ (rw q at e))) (λ n. n) (in-cases onPoints y x xs m)),
     )
+
+-- a grid point has m numbers
+pub point-long : (g : Grid) (y : Point) → isGridPoint g y ≡ true → length y ≡ numIndices g
+unfolding isGridPoint
+point-long g y h = eqb-true (length y) (numIndices g) (and-left _ _ h)
+
+pub points-long : (g : Grid) (ys : List Point) → all (isGridPoint g) ys ≡ true
+    → all (λ y. eqb (length y) (numIndices g)) ys ≡ true
+points-long g [] a = refl
+points-long g (y ∷ ys) a = and-both _ _ (eq-eqb _ _ (point-long g y (and-left (isGridPoint g y) _ a)))
+    (points-long g ys (and-right (isGridPoint g y) _ a))
+
+-- what a point at a place of a list is mapped to
+pub at-map : (f : Point → ℕ) (ys : List Point) (k : ℕ) → k < length ys → getD (map f ys) k 0 ≡ f (getD ys k [])
+at-map f [] k h = absurd (omega arith)
+at-map f (y ∷ ys) zero h = refl
+at-map f (y ∷ ys) (suc k) h = at-map f ys k (omega arith)

@@ -13,11 +13,11 @@ use native.Mathlib.Omega.{arith}
 use Rattle.combinatorics.proofs.Basics.{and-both, and-left, and-right}
 use Rattle.combinatorics.specs.Front.{front}
 use Rattle.combinatorics.specs.Lists.{all, concatMap, firstOr}
-use Rattle.finder.proofs.Announcements.{point-long}
 use Rattle.grid_points.proofs.Accepted.{accepted}
 use Rattle.grid_points.proofs.CoordinatesBelow.{coordinate-below}
 use Rattle.grid_points.specs.Grid.{Grid, isGridPoint, numIndices}
 use Rattle.grid_points.specs.Questions.{gridQuestions}
+use Rattle.grid_points.proofs.Points.{point-long}
 use Rattle.place.specs.Places.{Simplex}
 use Rattle.place.specs.Problem.{Problem}
 use Rattle.path_laws.proofs.Filled.{FullyLabelled}

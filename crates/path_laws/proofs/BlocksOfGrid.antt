@@ -13,6 +13,7 @@ use native.Mathlib.Omega.{arith}
 use Rattle.combinatorics.proofs.Basics.{same-or, absurd-bool, before-or-not, not-is, and-both, and-left, and-right}
 use Rattle.combinatorics.proofs.Lists.{in-all, all-in, onNumbers}
 use Rattle.combinatorics.specs.Lists.{sum, all, isIn, upFrom}
+use Rattle.combinatorics.proofs.Basics.{is-not}
 use Rattle.geometry.proofs.Search.{find}
 use Rattle.geometry.proofs.Definitions.{Blocks, back, coord, HasZeros, Grid as OnRing, BackOutside}
 use Rattle.geometry.proofs.Places.{coefficients as same-coefficients}
@@ -215,7 +216,7 @@ module _ (p : Problem) where
       (λ i.
       let out : isIn eqb (back R.previous (suc i.0) h) u ≡ false = not-is _ i.2 in
       let on : (j : ℕ) → j < i .0 → isIn eqb (back R.previous (suc j) h) u ≡ true = λ j m.
-      yes (isIn eqb (back R.previous (suc j) h) u) (i .3 j m) in (
+      is-not (isIn eqb (back R.previous (suc j) h) u) (i .3 j m) in (
         suc i.0,
         record {
           some = omega arith;
@@ -225,13 +226,9 @@ module _ (p : Problem) where
         search-back u (size p.grid (blockOf p.grid h)) i.0 h l (omega (arith, i .1)) on out,
       ))
       (λ i. absurd-bool
-      (sym (yes (isIn eqb (back R.previous (suc (d - 1)) h) u) (i (d - 1) (omega (arith, d0))))
+      (sym (is-not (isIn eqb (back R.previous (suc (d - 1)) h) u) (i (d - 1) (omega (arith, d0))))
       ∙ (rw x (ap (λ (k : ℕ). isIn eqb k u) w ∙ o))))
       (find (λ j. not (isIn eqb (back R.previous (suc j) h) u)) d)
-    where
-      yes : (b : Bool) → not b ≡ false → b ≡ true
-      yes true q = refl
-      yes false q = sym q
 
   -- coefficients on the ring
   module _ {y : Point} {c : List ℕ} (hc : IsCoefficients p y c) where

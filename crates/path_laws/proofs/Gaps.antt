@@ -3,13 +3,13 @@ use mathlib.Core.Bool.{Bool, true, false, not}
 use mathlib.Core.List.{List, [], _∷_, map}
 use mathlib.Core.Logic.{⊎-elim}
 use mathlib.Core.Path.{_≡_, refl, sym, ap, _∙_}
-use Prim.Native.Nat.{ℕ, suc, pred, _+_, _≤_, _<_}
+use Prim.Native.Nat.{ℕ, suc, pred, _≤_, _<_}
 use borrow.Author.Tests.{le-leb}
 use lib.Dec.{eqb}
 use lib.ListN.{length, length-map}
 use native.Mathlib.Omega.{arith}
 use Rattle.combinatorics.proofs.Basics.{absurd-bool, and-both, true-or-false}
-use Rattle.combinatorics.proofs.Lists.{all-in, in-filter, in-map, only-list, pigeon, onNumbers}
+use Rattle.combinatorics.proofs.Lists.{all-in, in-filter, in-map, only-list, pigeon, onNumbers, length-passing}
 use Rattle.combinatorics.specs.Lists.{filter, all, isIn}
 use Rattle.grid_points.proofs.Points.{onPoints}
 use Rattle.grid_points.specs.Grid.{Point, samePoint, numIndices}
@@ -20,14 +20,6 @@ use Rattle.path_laws.proofs.LinkSymmetry.{parts}
 use Rattle.path_laws.proofs.Meaning.{labels-mean}
 use Rattle.path_laws.proofs.ToChain.{place-long}
 use Rattle.path_laws.specs.Demand.{HasStart}
-
--- a filter and what it leaves out
-both-parts : {A : Type 0} (q : A → Bool) (xs : List A)
-    → length (filter q xs) + length (filter (λ x. not (q x)) xs) ≡ length xs
-both-parts q [] = refl
-both-parts q (x ∷ xs) =
-    let i = both-parts q xs in
-    ⊎-elim (λ t. rw t (omega arith)) (λ f. rw f (omega arith)) (true-or-false (q x))
 
 left-none : {A : Type 0} (q : A → Bool) (xs : List A) → filter (λ x. not (q x)) xs ≡ [] → all q xs ≡ true
 left-none q [] e = refl
@@ -54,7 +46,7 @@ module _ {p : Problem} (ok : HasStart p) (s : Simplex) (h : isPlace p s ≡ true
   few : length (unlabelled p s) ≤ 1
   few = omega (
     arith,
-    both-parts (hasLabel p) s,
+    length-passing (hasLabel p) s,
     place-long ok s h,
     length-map (filter (hasLabel p) s) (λ y. pred (label p y)),
     pigeon onNumbers (order p.grid s) (map (λ y. pred (label p y)) (filter (hasLabel p) s)) (order-distinct p s h)

@@ -8,9 +8,10 @@ use Prim.Native.Nat.{ℕ, suc}
 use borrow.Author.Tests.{eqb-true}
 use lib.Dec.{eqb, ltb}
 use lib.ListN.{length}
-use Rattle.combinatorics.proofs.Basics.{absurd-bool, and-both, and-left, and-right, both, or-cases, true-or-false}
+use Rattle.combinatorics.proofs.Basics.{absurd-bool, and-both, and-left, and-right, both, or-cases}
 use Rattle.combinatorics.proofs.Lists.{all-in, in-all, in-here, in-later, filter-cong, filter-in, same-sound, onNumbers}
 use Rattle.combinatorics.specs.Lists.{filter, all, isIn, same, concatMap, oneLess, sublists}
+use Rattle.combinatorics.proofs.Lists.{filter-twice}
 use Rattle.end_kinds.specs.declared.Kind.the-variants.{Facet as facetEnd}
 use Rattle.grid_points.proofs.Points.{onPoints}
 use Rattle.grid_points.specs.Grid.{Point, samePoint, blocks, indicesOf, points}
@@ -49,15 +50,6 @@ concatMap-same {A} F G q r known (x ∷ xs) a k =
     pick ys zs e i true false t = absurd-bool t
     pick ys zs e i false true t = absurd-bool (sym t)
     pick ys zs e i false false t = i
-
-filter-twice : {A : Type 0} (q r : A → Bool) (xs : List A) → filter q (filter r xs) ≡ filter (λ x. r x && q x) xs
-filter-twice q r [] = refl
-filter-twice q r (x ∷ xs) =
-    let i = filter-twice q r xs in
-    ⊎-elim
-    (λ t. rw t (⊎-elim (λ u. rw u (ap (λ l. x ∷ l) i)) (λ u. rw u i) (true-or-false (q x))))
-    (λ t. rw t i)
-    (true-or-false (r x))
 
 -- of three tests the third need agree only where the second holds
 where-holds : (c d e f : Bool) → (d ≡ true → e ≡ f) → (c && d && e) ≡ (c && d && f)

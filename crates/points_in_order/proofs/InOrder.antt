@@ -1,8 +1,8 @@
 -- The points of the table, one from the other: what is known of the k-th and of what is made of it, and that the next
 -- follows it. Assumes nothing.
 use mathlib.Core.Bool.{true}
-use mathlib.Core.List.{List, [], _∷_, map}
-use mathlib.Core.Path.{_≡_, refl, ap}
+use mathlib.Core.List.{List, [], _∷_}
+use mathlib.Core.Path.{_≡_, ap}
 use Prim.Native.Nat.{ℕ, zero, suc, _+_, _<_}
 use lib.ListN.{length, getD}
 use native.Mathlib.Numerals.{add-one}
@@ -20,11 +20,6 @@ pub at-in : (xs : List Point) (k : ℕ) → k < length xs → isIn samePoint (ge
 at-in [] k h = absurd (omega arith)
 at-in (x ∷ xs) zero h = in-here onPoints x xs
 at-in (x ∷ xs) (suc k) h = in-later onPoints (getD xs k []) x xs (at-in xs k (omega arith))
-
-pub at-map : (f : Point → ℕ) (xs : List Point) (k : ℕ) → k < length xs → getD (map f xs) k 0 ≡ f (getD xs k [])
-at-map f [] k h = absurd (omega arith)
-at-map f (x ∷ xs) zero h = refl
-at-map f (x ∷ xs) (suc k) h = at-map f xs k (omega arith)
 
 module _ (g : Grid) (firsts : List ℕ) (l : WithFirsts g firsts) (k : ℕ) where
   -- the k-th point

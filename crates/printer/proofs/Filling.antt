@@ -47,6 +47,11 @@ all-asked a c d e f s g x grid y z w u v =
     (ask 11 true ∷ ask 5 true ∷ ask 7 true ∷ []) refl
     (asked-next (gridQuestions g) (ask 14 true ∷ ask 15 true ∷ []) refl grid))
 
+-- problems with the same grid, start and labels
+pub same-parts : (g h : Grid) (x y k l : List ℕ) → g ≡ h → x ≡ y → k ≡ l
+    → _≡_ {A = Problem} (record { grid = g; start = x; labels = k }) (record { grid = h; start = y; labels = l })
+same-parts g h x y k l e f i = rw (e, f, i)
+
 module _ (before labels filling : List ℕ) (F : FilledSlip before labels filling) where
   abbrev old : List ℕ
   old = before ++ labels
@@ -161,12 +166,8 @@ module _ (before labels filling : List ℕ) (F : FilledSlip before labels fillin
 
   same-problem : slipProblem new ≡ withLabels p filling
   same-problem =
-      problem (slipGrid new) (slipGrid old) (slipStart new) (slipStart old) (slipLabels new) filling
+      same-parts (slipGrid new) (slipGrid old) (slipStart new) (slipStart old) (slipLabels new) filling
       (sym same-grid) (sym same-start) labels-new
-    where
-      problem : (g h : Grid) (x y k l : List ℕ) → g ≡ h → x ≡ y → k ≡ l
-          → _≡_ {A = Problem} (record { grid = g; start = x; labels = k }) (record { grid = h; start = y; labels = l })
-      problem g h x y k l e f i = rw (e, f, i)
 
   -- of the questions only 7 is asked of other labels, and it is answered yes of both
   yes : (slipQuestion11 old .answeredYes ≡ true) × (question5 (slipGrid old) (slipStart old) .answeredYes ≡ true)

@@ -37,6 +37,7 @@ use Rattle.slip_fields.specs.Slip.{question13, question14, slipQuestion15, slip
 use Rattle.printer.proofs.Slips.{refused-by}
 use Rattle.printer.specs.OwnGame.{slipOn, OwnGame}
 use Rattle.printer.specs.Printed.{answerSheet, sheetOf}
+use Rattle.printer.proofs.Filling.{same-parts}
 
 -- the bits of the two maps
 record Bits (others : ℕ) : Type 0 where
@@ -274,13 +275,9 @@ module _ (game others : ℕ) (low : 1 ≤ game) (high : game ≤ 3) (few : other
     ) (ap (λ (g : Grid). labels g (gameLosses game)) same-grid)
 
     same-problem : slipProblem named ≡ slipProblem brought
-    same-problem = problem (slipGrid named) (slipGrid brought) (slipStart named) (slipStart brought) (slipLabels named)
+    same-problem = same-parts (slipGrid named) (slipGrid brought) (slipStart named) (slipStart brought)
+        (slipLabels named)
         (slipLabels brought) same-grid same-start same-labels
-      where
-        problem : (g h : Grid) (x y k l : List ℕ) → g ≡ h → x ≡ y → k ≡ l
-            → _≡_ {A = Problem} (record { grid = g; start = x; labels = k })
-            (record { grid = h; start = y; labels = l })
-        problem g h x y k l e f i = rw (e, f, i)
 
     yes15 : slipQuestion15 brought .answeredYes ≡ true
     yes15 = rw (bit-of (others + 16) 3 (bytesOf (gameLosses game)) false (b .noGame))

@@ -1,19 +1,17 @@
 -- What a run answers, with its vertices in the buffer, prints what the path's answer prints. Assumes nothing.
-use mathlib.Core.Bool.{true}
-use mathlib.Core.List.{List, [], _∷_}
+use mathlib.Core.List.{List}
 use mathlib.Core.Logic.{⊎-elim}
 use mathlib.Core.Option.{Option, none, some}
 use mathlib.Core.Path.{_≡_, refl, sym, ap, _∙_}
 use Prim.Native.Nat.{ℕ, suc, _*_, _≤_}
 use borrow.Author.Tests.{eq-eqb, ne-eqb}
-use lib.Dec.{eqb}
 use lib.ListN.{length, drop}
 use native.Mathlib.Nat.{mul-le-mul-right}
 use native.Mathlib.Omega.{arith}
-use Rattle.combinatorics.proofs.Basics.{same-or, before-or-not, and-left, and-right, and-both}
+use Rattle.combinatorics.proofs.Basics.{same-or, before-or-not}
 use Rattle.combinatorics.proofs.Fronts.{front-length}
 use Rattle.combinatorics.specs.Front.{front}
-use Rattle.combinatorics.specs.Lists.{all, concatMap}
+use Rattle.combinatorics.specs.Lists.{concatMap}
 use Rattle.end_kinds.specs.declared.Kind.{Kind}
 use Rattle.path_laws.proofs.EndPoints.{IsSimplex, end-simplex}
 use Rattle.path_laws.proofs.Theorem.{demand3-holds, gapless}
@@ -24,8 +22,9 @@ use Rattle.finder.proofs.Refusals.{refused as run-refused}
 use Rattle.finder.specs.Run.{caseOf, numbersOf, runRefusal, runAnswer, runBuffer}
 use Rattle.finder.specs.declared.answers.Answer.{Answer}
 use Rattle.finder.specs.declared.answers.Answer.the-variants.{Refused, Spent, Unknown, End}
-use Rattle.grid_points.specs.Grid.{Grid, Point, dimension, numIndices, isGridPoint}
+use Rattle.grid_points.specs.Grid.{dimension, numIndices}
 use Rattle.grid_points.specs.Questions.{gridQuestions}
+use Rattle.grid_points.proofs.Points.{points-long}
 use Rattle.place.specs.Ends.{End as EndOfPath}
 use Rattle.place.specs.Path.{answer, path, pathLength, ended}
 use Rattle.place.specs.Problem.{Problem}
@@ -34,14 +33,6 @@ use Rattle.sheet_lines.specs.Sheet.{refusedSheet, spentSheet, unknownSheet}
 use Rattle.printer.proofs.Vertices.{rows-of, rows-length}
 use Rattle.printer.specs.Printed.{answerSheet}
 use Rattle.printer.specs.Run.{room, printed, Fits, runSheet}
-
--- the points of a simplex have m numbers each
-m-numbers : (g : Grid) (s : List Point) → all (isGridPoint g) s ≡ true
-    → all (λ y. eqb (length y) (numIndices g)) s ≡ true
-unfolding isGridPoint
-m-numbers g [] a = refl
-m-numbers g (y ∷ s) a = and-both _ _ (and-left (eqb (length y) (numIndices g)) _ (and-left (isGridPoint g y) _ a))
-    (m-numbers g s (and-right (isGridPoint g y) (all (isGridPoint g) s) a))
 
 module _ (p : Problem) (budget : ℕ) (old : List ℕ) (large : length old ≡ room) where
   -- what is to be shown of an answer and its buffer
@@ -77,7 +68,7 @@ module _ (p : Problem) (budget : ℕ) (old : List ℕ) (large : length old ≡ r
   unfolding printed front
   ends places read kind block s few small i =
       let m = numIndices (p .grid) in
-      let a = m-numbers (p .grid) s (i .onGrid) in
+      let a = points-long (p .grid) s (i .onGrid) in
       let l = rows-length m s a in
       let le : length s * m ≤ room = omega (arith, mul-le-mul-right m (i .few)) in
       let w : length (front (concatMap (λ y. y) s) old) ≡ room =

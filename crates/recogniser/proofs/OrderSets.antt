@@ -7,7 +7,7 @@ use Prim.Native.Nat.{ℕ, _+_, _≤_, _<_}
 use borrow.Author.Tests.{eqb-true, eq-eqb}
 use lib.Dec.{eqb}
 use native.Mathlib.Omega.{arith}
-use Rattle.combinatorics.proofs.Basics.{absurd-bool, or-cases, same-or}
+use Rattle.combinatorics.proofs.Basics.{absurd-bool, or-cases, same-or, or-true}
 use Rattle.grid_points.specs.Grid.{at}
 use Rattle.rules.proofs.Masks.{bit-none, bit-with, bit-without}
 use Rattle.rules.specs.Mask.{bit, withIndex, withoutIndex}
@@ -69,7 +69,3 @@ module _ (order : List ℕ) (k m zeros t u h : ℕ) (s : AreTandU order k m zero
       rest = λ i l. bit-without u h i (omega arith) l
           ∙ rw (s .rest i l, bit-with t h i (omega arith) l) (less (eqb i h) (bit zeros i) (bit t i));
     }
-      where
-        or-true : (a : Bool) → (a || true) ≡ true
-        or-true true = refl
-        or-true false = refl

@@ -1,6 +1,6 @@
 -- The pieces of the recogniser together: where each is passed the conditions of a place are met, its labels apart, and
 -- where one fails they are not. In order: a failure; the masks; the sources of the steps; all passed. Assumes nothing.
-use mathlib.Core.Bool.{Bool, true, false, not, _&&_}
+use mathlib.Core.Bool.{true, false, not, _&&_}
 use mathlib.Core.List.{List, []}
 use mathlib.Core.Path.{_≡_, refl, sym, ap, _∙_}
 use Prim.Native.Nat.{ℕ, _+_, _-_, _≤_, _<_}
@@ -40,10 +40,6 @@ use Rattle.recogniser.specs.Kept.{CanRecognise, Recognised, Seen}
 use Rattle.recogniser.specs.Pieces.{AllFree, AreTandU, CanMark, Marked, NoSets, NotFree, bareMark, beyond}
 use Rattle.recogniser.specs.Pieces.{filled, inNeither, positive, startedOn, twice}
 use Rattle.recogniser.specs.declared.FoundSets.{FoundSets}
-
-pub is-not : (b : Bool) → not b ≡ false → b ≡ true
-is-not true e = refl
-is-not false e = sym e
 
 pub not-recognised : {p : Problem} {marking : Point → ℕ} {y : Point} {o list marks : List ℕ} {r : FoundSets} → r .is
     ≡ false

@@ -14,7 +14,6 @@ use Rattle.combinatorics.proofs.Fronts.{front-full, front-length}
 use Rattle.combinatorics.proofs.Ranges.{length-upFrom}
 use Rattle.combinatorics.specs.Front.{front}
 use Rattle.combinatorics.specs.Lists.{upFrom}
-use Rattle.finder.proofs.Announcements.{point-long}
 use Rattle.finder.specs.Run.{caseOf}
 use Rattle.games.proofs.AllLabels.{labels-length}
 use Rattle.grid_points.proofs.Accepted.{Accepted, accepted, blocks-few}
@@ -22,6 +21,7 @@ use Rattle.grid.proofs.Fields.{is-made, made-points, shape-of}
 use Rattle.grid_points.specs.Grid.{Grid, dimension, numIndices, numPoints}
 use Rattle.grid.specs.Made.{IsMade, gridOf, shape}
 use Rattle.grid_points.specs.Questions.{gridQuestions}
+use Rattle.grid_points.proofs.Points.{point-long}
 use Rattle.grid.specs.declared.Grid.{Grid as GridStruct}
 use Rattle.levels.proofs.Buffers.{after-length, after-next, after-none}
 use Rattle.levels.proofs.Grids.{level-first, levels-yes, points-grow}

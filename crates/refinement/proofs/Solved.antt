@@ -7,12 +7,12 @@ use lib.Seq.{length-take-le, take-all}
 use native.Mathlib.Omega.{arith}
 use Rattle.combinatorics.proofs.Fronts.{front-length, front-taken}
 use Rattle.combinatorics.specs.Front.{front, padded}
-use Rattle.finder.proofs.Announcements.{point-long}
 use Rattle.finder.specs.Run.{caseOf}
 use Rattle.games.proofs.AllLabels.{labels-length}
 use Rattle.grid.proofs.Fields.{indices-few, made-indices, made-points}
 use Rattle.grid.specs.Made.{shape}
 use Rattle.grid.specs.declared.Grid.{Grid as GridStruct}
+use Rattle.grid_points.proofs.Points.{point-long}
 use Rattle.levels.specs.Levels.{endOf, gameProblem}
 use Rattle.levels.specs.Questions.{levelRoom}
 use Rattle.losses.specs.Game.{labels}

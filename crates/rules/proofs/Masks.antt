@@ -1,11 +1,11 @@
 -- The bits of a mask with an index, without an index, and of the empty mask. Assumes nothing.
 use mathlib.Core.Bool.{Bool, true, false, not, _&&_, _||_, Bool·beq}
-use mathlib.Core.Path.{_≡_, refl, sym}
+use mathlib.Core.Path.{_≡_, refl}
 use Prim.Native.Nat.{ℕ, zero, suc, _-_, _*_, _/_, _%_, _^_, _<_, min, max}
 use lib.Bits.{bitOr, bitAnd, or-step, and-step, or-shr, and-shr}
 use lib.Dec.{eqb}
 use native.Mathlib.Omega.{arith}
-use Rattle.combinatorics.proofs.Basics.{absurd-bool}
+use Rattle.combinatorics.proofs.Basics.{beq-same}
 use Rattle.combinatorics.proofs.Lists.{all-in, onNumbers}
 use Rattle.combinatorics.proofs.Ranges.{in-upFrom}
 use Rattle.combinatorics.specs.Lists.{all, upFrom}
@@ -43,16 +43,9 @@ pub bit-and : (a b k : ℕ) → bit (bitAnd a b) k ≡ (bit a k && bit b k)
 unfolding bit
 bit-and a b k = rw (and-shr, and-last-bit) (min-and (a / 2 ^ k % 2) (b / 2 ^ k % 2) (omega arith) (omega arith))
 
--- a rule of two indices below 16, by a test of the 256 pairs
-beq-true : (a b : Bool) → Bool·beq a b ≡ true → a ≡ b
-beq-true true true e = refl
-beq-true false false e = refl
-beq-true true false e = absurd-bool (sym e)
-beq-true false true e = absurd-bool (sym e)
-
 pairs : (f g : ℕ → ℕ → Bool) → all (λ h. all (λ k. Bool·beq (f h k) (g h k)) (upFrom 0 16)) (upFrom 0 16) ≡ true
     → (h k : ℕ) → h < 16 → k < 16 → f h k ≡ g h k
-pairs f g t h k a b = beq-true (f h k) (g h k)
+pairs f g t h k a b = beq-same (f h k) (g h k)
     (all-in onNumbers (λ k. Bool·beq (f h k) (g h k)) (upFrom 0 16)
     (all-in onNumbers
     (λ h. all (λ k. Bool·beq (f h k) (g h k)) (upFrom 0 16))

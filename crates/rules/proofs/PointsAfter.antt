@@ -6,8 +6,7 @@ use mathlib.Core.Path.{_≡_, refl, sym, ap, _∙_}
 use Prim.Native.Nat.{ℕ, zero, suc, _+_, _-_, _*_, _≤_, _<_}
 use lib.ListN.{length, length-append, length-take, take, replicate, getD-replicate, List·getD-eq-default}
 use lib.Seq.{paste, take-length, length-take-le, getD-take}
-use native.Mathlib.Nat.{mul-le-mul-right}
-use native.Mathlib.Numerals.{add-one, add-one-le}
+use native.Mathlib.Numerals.{add-one}
 use native.Mathlib.Omega.{arith}
 use Rattle.combinatorics.proofs.Basics.{before-or-not}
 use Rattle.combinatorics.proofs.Fronts.{front-paste}
@@ -190,9 +189,6 @@ same-rows f g b (suc k) h = rw (h b (omega arith), same-rows f g (suc b) k (λ j
 paste-taken : (old row : List ℕ) (i m : ℕ) → m ≤ length row
     → paste old i row m ≡ paste old i (take m row) (length (take m row))
 paste-taken old row i m l = rw (take-length, length-take-le m row l)
-
-pub room : (k n m long : ℕ) → k < n → n * m ≤ long → k * m + m ≤ long
-room k n m long l h = omega (arith, mul-le-mul-right m (add-one-le l))
 
 pub next-position : (i b m position : ℕ) → b ≤ i → position ≡ (i - b) * m → position + m ≡ (i + 1 - b) * m
 next-position i b m position l e = let k : i + 1 - b ≡ suc (i - b) = omega arith in rw (k, e) (omega arith)

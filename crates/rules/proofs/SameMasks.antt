@@ -10,7 +10,7 @@ use native.Mathlib.Omega.{arith}
 use Rattle.combinatorics.proofs.Basics.{true-or-false}
 use Rattle.rules.specs.Mask.{bit}
 
-bit-half : (a k : ℕ) → bit (a / 2) k ≡ bit a (suc k)
+pub bit-half : (a k : ℕ) → bit (a / 2) k ≡ bit a (suc k)
 unfolding bit
 bit-half a k =
     ap (λ (x : ℕ). eqb (x % 2) 1) (div-div-eq-div-mul a 2 (2 ^ k) ∙ ap (λ (x : ℕ). a / x) (sym (pow-succ' 2 k)))
@@ -24,7 +24,8 @@ last-bit a b e = ⊎-elim
     omega (arith, eqb-false (b / 2 ^ 0 % 2) 1 f, eqb-false (a / 2 ^ 0 % 2) 1 (e ∙ f)))
     (true-or-false (eqb (b / 2 ^ 0 % 2) 1))
 
-same-from : (n a b : ℕ) → a < 2 ^ n → b < 2 ^ n → ((k : ℕ) → k < n → bit a k ≡ bit b k) → a ≡ b
+-- two masks of n bits with the same bits
+pub same-from : (n a b : ℕ) → a < 2 ^ n → b < 2 ^ n → ((k : ℕ) → k < n → bit a k ≡ bit b k) → a ≡ b
 same-from zero a b la lb e = omega arith
 same-from (suc n) a b la lb e =
     let q : a / 2 ≡ b / 2 = same-from n (a / 2) (b / 2) (omega arith) (omega arith)

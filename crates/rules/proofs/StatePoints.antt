@@ -1,14 +1,12 @@
 -- The points that a state's first point and order give are those of the place it describes, and each can be computed.
 -- Assumes nothing.
-use mathlib.Core.Bool.{Bool, true}
+use mathlib.Core.Bool.{Bool}
 use mathlib.Core.List.{List, [], _∷_, map}
 use mathlib.Core.Path.{_≡_, refl, sym, _∙_}
 use Prim.Native.Nat.{ℕ, zero, suc, _+_, _-_, _≤_, _<_}
-use borrow.Author.Tests.{eqb-true}
 use lib.ListN.{length, length-take}
 use lib.Seq.{ext-getD, getD-take}
 use native.Mathlib.Omega.{arith}
-use Rattle.combinatorics.proofs.Basics.{and-left}
 use Rattle.combinatorics.proofs.EditsRemove.{length-removeAt, removeAt-behind}
 use Rattle.combinatorics.specs.Edits.{removeAt}
 use Rattle.combinatorics.specs.Lists.{upFrom}
@@ -17,7 +15,8 @@ use Rattle.geometry.proofs.Definitions.{back, coord, Moved}
 use Rattle.geometry.proofs.LabelledChains.{listAt}
 use Rattle.geometry.proofs.Moves.{next-moved}
 use Rattle.geometry.proofs.Points.{nth}
-use Rattle.grid_points.specs.Grid.{Grid, Point, at, numIndices, isGridPoint, MovedBy}
+use Rattle.grid_points.specs.Grid.{Point, at, numIndices, MovedBy}
+use Rattle.grid_points.proofs.Points.{point-long}
 use Rattle.place.specs.Places.{Simplex}
 use Rattle.place.specs.Problem.{Problem}
 use Rattle.path_laws.proofs.BlocksOfGrid.{blocksOf, back-below}
@@ -30,10 +29,6 @@ use Rattle.rules.proofs.Shifted.{length-shifted, shifted-at, shifted-mo
 use Rattle.rules.proofs.Walks.{source-from}
 use Rattle.rules.specs.Read.{pointAfter, arrayOf, pointIn, pointsFrom, sourceAt, CanCompute}
 use Rattle.rules.specs.Step.{State}
-
-point-long : (g : Grid) (y : Point) → isGridPoint g y ≡ true → length y ≡ numIndices g
-unfolding isGridPoint
-point-long g y h = eqb-true (length y) (numIndices g) (and-left _ _ h)
 
 map-upFrom : (f : ℕ → Point) (l : Simplex) (b n : ℕ) → length l ≡ n → ((j : ℕ) → j < n → f (b + j) ≡ nth l j)
     → map f (upFrom b n) ≡ l

@@ -3,8 +3,7 @@ use mathlib.Core.Path.{_≡_, refl, sym, _∙_}
 use mathlib.Core.List.{List, [], _∷_, _++_, flatMap, map-append, append-nil, append-assoc}
 use Prim.Native.Nat.{ℕ, zero, suc, _+_, _-_, _*_, _≤_, _<_}
 use native.Mathlib.Omega.{arith}
-use native.Mathlib.Nat.{mul-le-mul-right}
-use native.Mathlib.Numerals.{add-one, add-one-le}
+use native.Mathlib.Numerals.{add-one}
 use lib.ListN.{length, take, drop, getD, length-append, length-map, length-take, length-drop}
 use lib.Seq.{take-all, getD-take, getD-drop}
 use Rattle.sheet_lines.specs.Answer.{rows}
@@ -13,10 +12,6 @@ use Rattle.combinatorics.specs.Lists.{sum}
 use Rattle.sheet_lines.specs.Lists.{below}
 use Rattle.text.specs.Line.{spaced, newline}
 use Rattle.sheet_lines.specs.Sheet.{vertexLine, total}
-
--- row k lies in the buffer
-pub room : (k count m size : ℕ) → k < count → count * m ≤ size → k * m + m ≤ size
-room k count m size a b = omega (arith, mul-le-mul-right m (add-one-le a))
 
 pub row-length : (start m : ℕ) (buffer : List ℕ) → start + m ≤ length buffer → length (take m (drop start buffer)) ≡ m
 row-length start m buffer h = simp (length-take, length-drop) (omega arith)

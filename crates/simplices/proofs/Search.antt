@@ -19,7 +19,7 @@ use Rattle.combinatorics.proofs.Selections.{in-selections}
 use Rattle.combinatorics.proofs.Turns.{map-at}
 use Rattle.combinatorics.specs.Lists.{filter, all, any, isIn, distinct, sum, upFrom, selections}
 use Rattle.grid_points.proofs.Accepted.{Accepted}
-use Rattle.grid_points.proofs.Points.{onPoints, in-points}
+use Rattle.grid_points.proofs.Points.{onPoints, in-points, point-long}
 use Rattle.grid_points.specs.Grid.{Grid, Point, at, numBlocks, numIndices, dimension, firstIndex, blocks, indices}
 use Rattle.grid_points.specs.Grid.{indicesOf}
 use Rattle.grid_points.specs.Grid.{previous}
@@ -42,10 +42,6 @@ module _ (g : Grid) where
       let q : 0 + k ≡ k = omega arith in
       map-at f 0 (numIndices g) k m ∙ ap f q ∙ omega (arith, goes-at g h (previous g h) y z e k m))
 
-  grid-long : (z : Point) → isGridPoint g z ≡ true → length z ≡ numIndices g
-  unfolding isGridPoint
-  grid-long z h = eqb-true _ _ (and-left _ _ h)
-
   points-are : (o : List ℕ) (y : Point) (s : List Point) → eachStepped g o (y ∷ s) ≡ true
       → all (isGridPoint g) (y ∷ s) ≡ true
       → pointsAlong g y o ≡ y ∷ s
@@ -55,7 +51,7 @@ module _ (g : Grid) where
   points-are (a ∷ o) y (z ∷ s) e h =
       let hs : all (isGridPoint g) (z ∷ s) ≡ true = and-right (isGridPoint g y) (all (isGridPoint g) (z ∷ s)) h in
       let q : stepFrom g a y ≡ z =
-      step-is a y z (grid-long z (and-left (isGridPoint g z) _ hs)) (and-left (isStep g a y z) _ e) in
+      step-is a y z (point-long g z (and-left (isGridPoint g z) _ hs)) (and-left (isStep g a y z) _ e) in
       rw q (ap (λ (l : List Point). y ∷ l) (points-are o z s (and-right (isStep g a y z) _ e) hs))
 
   none : (o : List ℕ) → eachStepped g o [] ≡ true → ⊥

@@ -8,7 +8,7 @@ use borrow.Author.Tests.{leb-true, eq-eqb, ne-eqb}
 use lib.Dec.{eqb, leb, ltb}
 use lib.ListN.{length, getD, take, drop, replicate}
 use native.Mathlib.Omega.{arith}
-use Rattle.combinatorics.proofs.Basics.{absurd-bool, and-left, and-right, true-or-false}
+use Rattle.combinatorics.proofs.Basics.{absurd-bool, and-left, and-right, true-or-false, beq-same}
 use Rattle.combinatorics.proofs.Lists.{all-in, onNumbers}
 use Rattle.combinatorics.proofs.Ranges.{in-upFrom}
 use Rattle.combinatorics.proofs.Turns.{sum-counted}
@@ -22,12 +22,6 @@ use Rattle.slip_fields.specs.Slip.{mapBit, numBlocksOf, slipGrid, isMap,
 use Rattle.slip_fields.specs.Slip.{fieldLength}
 use Rattle.slip_fields.specs.Slip.{fieldAt, fieldsEnd, defaultCoordinate, slipStart, question13, question14}
 
-beq-true : (a b : Bool) → Bool·beq a b ≡ true → a ≡ b
-beq-true true true e = refl
-beq-true false false e = refl
-beq-true true false e = absurd-bool (sym e)
-beq-true false true e = absurd-bool (sym e)
-
 -- the maps that question 13 lets pass are 4 to 11 and 16 to 19
 abbrev pub passes : ℕ → Bool
 passes b = cond (ltb b 4) false (cond (ltb b 12) true (cond (ltb b 16) false (ltb b 20)))
@@ -35,7 +29,7 @@ passes b = cond (ltb b 4) false (cond (ltb b 12) true (cond (ltb b 16) false (lt
 -- by a test of all bytes
 pub map-passes : (b : ℕ) → b < 256 → isMap b ≡ passes b
 unfolding isMap
-map-passes b h = beq-true (isMap b) (passes b)
+map-passes b h = beq-same (isMap b) (passes b)
     (all-in onNumbers (λ x. Bool·beq (isMap x) (passes x)) (upFrom 0 256) refl b
     (in-upFrom 0 256 b (omega arith) (omega arith)))
 

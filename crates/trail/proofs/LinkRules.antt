@@ -11,7 +11,7 @@ use lib.ListN.{length, length-map}
 use native.Mathlib.Omega.{arith}
 use Rattle.combinatorics.proofs.Basics.{absurd-bool, true-or-false, same-or, before-or-not, and-left, and-right}
 use Rattle.combinatorics.proofs.Basics.{or-cases, both}
-use Rattle.combinatorics.proofs.Lists.{all-in, in-all, same-sound, distinct-filter, onNumbers}
+use Rattle.combinatorics.proofs.Lists.{all-in, in-all, same-sound, distinct-filter, onNumbers, length-passing}
 use Rattle.combinatorics.proofs.Ranges.{distinct-upFrom}
 use Rattle.combinatorics.specs.Lists.{all, isIn, same, distinct}
 use Rattle.geometry.proofs.Bridge.{chain-place}
@@ -34,7 +34,7 @@ use Rattle.path_laws.proofs.Theorem.{single}
 use Rattle.path_laws.proofs.ToChain.{inT, inU, coefficientsOf, labelOf, is-at, place-long, place-chain}
 use Rattle.path_laws.proofs.ToChain.{labelledChain-of}
 use Rattle.path_laws.specs.Demand.{HasStart}
-use Rattle.trail.proofs.Outside.{one-of, filter-split, outside-count, outside-none, outside-one}
+use Rattle.trail.proofs.Outside.{one-of, outside-count, outside-none, outside-one}
 use Rattle.trail.proofs.Rules.{back, inverse}
 use Rattle.trail.proofs.Zeros.{Exchange, beside-zeros, grown-zeros}
 use Rattle.trail.specs.Change.{change, changeBy, outside, ByRule, rule1, rule2, rule3, rule4, rule5}
@@ -160,7 +160,7 @@ module _ {p : Problem} (ok : HasStart p) where
         X = exchanged-parts p a b x
 
         gone : (y : Point) × (outside samePoint b a ≡ y ∷ [])
-        gone = one-of (outside samePoint b a) (omega (arith, X .0, filter-split (λ y. isIn samePoint y b) a))
+        gone = one-of (outside samePoint b a) (omega (arith, X .0, length-passing (λ y. isIn samePoint y b) a))
 
         come : (y : Point) × (outside samePoint a b ≡ y ∷ [])
         come = one-of (outside samePoint a b) (omega (

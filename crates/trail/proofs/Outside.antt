@@ -1,23 +1,15 @@
 -- Lists less another list: what is left, and how much. Assumes nothing.
-use mathlib.Core.Bool.{Bool, true, false, not}
+use mathlib.Core.Bool.{true, false, not}
 use mathlib.Core.List.{List, [], _∷_}
-use mathlib.Core.Logic.{⊎-elim}
 use mathlib.Core.Path.{_≡_, refl, sym, _∙_}
 use Prim.Native.Nat.{_+_, _≤_}
 use lib.ListN.{length}
 use native.Mathlib.Omega.{arith}
-use Rattle.combinatorics.proofs.Basics.{absurd-bool, true-or-false, not-is}
+use Rattle.combinatorics.proofs.Basics.{absurd-bool, not-is}
 use Rattle.combinatorics.proofs.Lists.{Equality, in-here, in-filter, filter-in, distinct-filter, pigeon, only-list}
 use Rattle.combinatorics.specs.Lists.{filter, isIn, distinct}
+use Rattle.combinatorics.proofs.Lists.{length-passing}
 use Rattle.trail.specs.Change.{outside}
-
-pub filter-split : {A : Type 0} (q : A → Bool) (xs : List A)
-    → length (filter q xs) + length (filter (λ x. not (q x)) xs) ≡ length xs
-filter-split q [] = omega arith
-filter-split q (x ∷ xs) = ⊎-elim
-    (λ t. rw t (omega (arith, filter-split q xs)))
-    (λ f. rw f (omega (arith, filter-split q xs)))
-    (true-or-false (q x))
 
 pub one-of : {A : Type 0} (xs : List A) → length xs ≡ 1 → (x : A) × (xs ≡ x ∷ [])
 one-of [] e = absurd (omega arith)
@@ -52,7 +44,7 @@ module _ {A : Type 0} (E : Equality A) where
   pub outside-count : (a b : List A) → distinct E.eq a ≡ true → distinct E.eq b ≡ true
       → length (outside E.eq a b) + length a ≡ length (outside E.eq b a) + length b
   outside-count a b da db =
-      omega (arith, shared-same a b da db, filter-split (λ x. isIn E.eq x b) a, filter-split (λ x. isIn E.eq x a) b)
+      omega (arith, shared-same a b da db, length-passing (λ x. isIn E.eq x b) a, length-passing (λ x. isIn E.eq x a) b)
 
   empty-of : (xs : List A) → ((x : A) → isIn E.eq x xs ≡ true → ⊥) → xs ≡ []
   empty-of [] h = refl

@@ -12,7 +12,7 @@ use lib.ListN.{length}
 use native.Mathlib.Omega.{arith}
 use Rattle.combinatorics.proofs.Basics.{absurd-bool, true-or-false, same-or, and-both, or-left, or-right, both}
 use Rattle.combinatorics.proofs.Lists.{in-here, in-cases, in-all, in-filter, filter-cong, same-self, eqb-self}
-use Rattle.combinatorics.proofs.Lists.{onNumbers}
+use Rattle.combinatorics.proofs.Lists.{onNumbers, length-passing}
 use Rattle.combinatorics.specs.Lists.{all, isIn}
 use Rattle.geometry.proofs.Definitions.{Less}
 use Rattle.geometry.proofs.Points.{nth}
@@ -27,7 +27,7 @@ use Rattle.path_laws.proofs.ToChain.{inT}
 use Rattle.path_laws.proofs.LinkSymmetry.{unlabelled-of, unlabelled-parts}
 use Rattle.path_laws.specs.Demand.{HasStart, Accepted}
 use Rattle.trail.proofs.LinkRules.{rule-of-link}
-use Rattle.trail.proofs.Outside.{filter-split, in-outside, outside-in, outside-count}
+use Rattle.trail.proofs.Outside.{in-outside, outside-in, outside-count}
 use Rattle.trail.proofs.Reading.{T-alike, place-alike, change-alike, move-of}
 use Rattle.trail.proofs.Shapes.{Shape, exchange, joins, leaves, shape-of, not-empty, points-distinct}
 use Rattle.trail.proofs.Tables.{settled-with, Labelled, some-table, some-index}
@@ -121,7 +121,7 @@ module _ {p : Problem} (a b : Simplex) (ha : isUnlabelledPlace p a ≡ true) (hb
     }
       where
         la : length a ≡ suc (length (shared a b))
-        la = omega (arith, ap length out, filter-split (λ y. isIn samePoint y b) a)
+        la = omega (arith, ap length out, length-passing (λ y. isIn samePoint y b) a)
 
         lb : length b ≡ suc (length (shared a b))
         lb = omega (arith, la, ap length out, ap length come, counted)

@@ -19,7 +19,7 @@ use Rattle.combinatorics.specs.Edits.{insertAt}
 use Rattle.combinatorics.specs.Lists.{all, isIn, distinct, occurrences}
 use Rattle.geometry.proofs.Points.{nth}
 use Rattle.grid_points.proofs.Round.{block-fits}
-use Rattle.grid_points.proofs.Points.{onPoints, point-sound, point-self, in-points, position-in}
+use Rattle.grid_points.proofs.Points.{onPoints, point-sound, point-self, in-points, position-in, at-map}
 use Rattle.grid_points.specs.Grid.{Grid, Point, at, numIndices, isGridPoint, samePoint, points, position}
 use Rattle.place.specs.Coefficients.{coefficientSum}
 use Rattle.place.specs.Places.{Simplex, setT, labelSet, within, order, isUnlabelledPlace, isPlace, allLabelled}
@@ -32,11 +32,6 @@ use Rattle.path_laws.proofs.LinkSymmetry.{unlabelled-parts}
 use Rattle.path_laws.specs.Demand.{HasStart, Accepted}
 use Rattle.trail.proofs.Reading.{T-alike, place-alike}
 use Rattle.trail.proofs.Tells.{at-position}
-
-mapped-at : (f : Point → ℕ) (xs : List Point) (i : ℕ) → i < length xs → getD (map f xs) i 0 ≡ f (getD xs i [])
-mapped-at f [] i l = absurd (omega arith)
-mapped-at f (x ∷ xs) zero l = refl
-mapped-at f (x ∷ xs) (suc i) l = mapped-at f xs i (omega arith)
 
 -- the label of a point: that of its entry in the list; 1 for a point that has none
 abbrev given : Simplex → List ℕ → Point → ℕ
@@ -99,7 +94,7 @@ module _ {p : Problem} (ok : HasStart p) (s : Simplex) (on : all (isGridPoint p.
   label-given : (y : Point) → isGridPoint p.grid y ≡ true → label (withLabels p (table p.grid s ls)) y ≡ given s ls y
   unfolding label table
   label-given y h =
-      mapped-at (given s ls) (points p.grid) (position p.grid y)
+      at-map (given s ls) (points p.grid) (position p.grid y)
       (position-in (points p.grid) y (in-points p.grid y ok.sameNumber h))
       ∙ ap (given s ls) (at-position p.grid ok.sameNumber y h)
 
@@ -227,7 +222,7 @@ module _ {p : Problem} (ok : HasStart p) (s : Simplex) (h : isUnlabelledPlace p 
   labels-are = table-labels ok s on d ls ls-long names
 
   at-point : (j : ℕ) → j < length s → label q (nth s j) ≡ getD ls j 0
-  at-point j l = sym (mapped-at (label q) s j l) ∙ ap (λ (k : List ℕ). getD k j 0) labels-are
+  at-point j l = sym (at-map (label q) s j l) ∙ ap (λ (k : List ℕ). getD k j 0) labels-are
 
   short : i ≤ length (map suc o)
   short = omega (arith, il, long, length-map o suc)

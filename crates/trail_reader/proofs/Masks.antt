@@ -5,17 +5,12 @@ use mathlib.Core.Path.{_≡_, sym, ap, _∙_}
 use Prim.Native.Nat.{ℕ, zero, suc, _+_, _/_, _%_, _^_, _<_}
 use borrow.Author.Tests.{eqb-false, eqb-true}
 use lib.Dec.{eqb}
-use native.Mathlib.Nat.{div-div-eq-div-mul, pow-succ'}
 use native.Mathlib.Omega.{arith}
 use Rattle.combinatorics.specs.Lists.{isIn}
 use Rattle.records.proofs.Told.{IsMask}
 use Rattle.rules.specs.Mask.{bit}
+use Rattle.rules.proofs.SameMasks.{bit-half}
 use Rattle.trail_reader.specs.Reading.{maskFrom, maskOf}
-
-bit-half : (a k : ℕ) → bit (a / 2) k ≡ bit a (suc k)
-unfolding bit
-bit-half a k =
-    ap (λ (x : ℕ). eqb (x % 2) 1) (div-div-eq-div-mul a 2 (2 ^ k) ∙ ap (λ (x : ℕ). a / x) (sym (pow-succ' 2 k)))
 
 last-bit : (a : ℕ) (b : Bool) → bit a 0 ≡ b → a % 2 ≡ cond b 1 0
 unfolding bit

@@ -15,11 +15,11 @@ use Rattle.arrays.specs.Rounds.{roundOf}
 use Rattle.combinatorics.proofs.Fronts.{front-length, front-none, front-taken}
 use Rattle.combinatorics.specs.Front.{front}
 use Rattle.combinatorics.specs.Lists.{concatMap}
-use Rattle.finder.proofs.Announcements.{point-long}
 use Rattle.grid.proofs.Fields.{indices-few, made-accepted, made-indices}
 use Rattle.grid_points.specs.Grid.{isGridPoint, numIndices, position}
 use Rattle.grid.specs.Made.{IsMade, shape}
 use Rattle.grid_points.specs.Questions.{gridQuestions, question5}
+use Rattle.grid_points.proofs.Points.{point-long}
 use Rattle.grid.specs.declared.Grid.{Grid as GridStruct}
 use Rattle.moves.specs.Held.{stateOf}
 use Rattle.moves.specs.declared.Status.{Status}

@@ -4,14 +4,14 @@ use mathlib.Core.List.{List, [], _∷_, map}
 use mathlib.Core.Logic.{⊎-elim}
 use mathlib.Core.Path.{_≡_, refl, sym, ap, _∙_}
 use Prim.Native.Nat.{ℕ, zero, suc, _+_, _-_, _*_, _≤_, _<_}
-use borrow.Author.Tests.{eq-eqb, eqb-true, leb-true, ne-eqb}
+use borrow.Author.Tests.{eq-eqb, leb-true, ne-eqb}
 use lib.Dec.{eqb, leb}
-use lib.ListN.{length, take}
+use lib.ListN.{take}
 use lib.Seq.{ext-getD, getD-take, take-all}
 use native.Mathlib.Nat.{add-mul, suc-mul, mul-comm, mul-assoc, mul-one, mul-le-mul, mul-le-mul-left, mul-le-mul-right}
 use native.Mathlib.Numerals.{add-one}
 use native.Mathlib.Omega.{arith}
-use Rattle.combinatorics.proofs.Basics.{and-left, true-or-false}
+use Rattle.combinatorics.proofs.Basics.{true-or-false}
 use Rattle.combinatorics.proofs.Agreement.{map-range}
 use Rattle.combinatorics.proofs.Lists.{at-all, filter-append}
 use Rattle.combinatorics.proofs.Ranges.{upFrom-add}
@@ -23,6 +23,7 @@ use Rattle.grid_points.proofs.Round.{block-at, block-spans}
 use Rattle.grid_points.specs.Grid.{Grid, Point, at, blockOf, blocks, division, firstIndex, indicesOf, isGridPoint}
 use Rattle.grid_points.specs.Grid.{numBlocks}
 use Rattle.grid_points.specs.Grid.{numIndices, size}
+use Rattle.grid_points.proofs.Points.{point-long}
 use Rattle.losses.proofs.Players.{divisions-few, product-append, product-own}
 use Rattle.losses.specs.Game.{product}
 use Rattle.positions.proofs.Positions.{adds-up}
@@ -199,12 +200,9 @@ module _ (g : Grid) (a : Accepted g) where
         mul-le-mul-left (apart (at y h) (at w h)) (others-positive (blockOf g h)) in
         omega arith
 
-    long : (z : Point) → isGridPoint g z ≡ true → length z ≡ numIndices g
-    unfolding isGridPoint
-    long z h = eqb-true (length z) (numIndices g) (and-left (eqb (length z) (numIndices g)) _ h)
-
     same-point : distance g w y ≡ 0 → y ≡ w
-    same-point e = ext-getD 0 y w (long y onY ∙ sym (long w onW)) (λ i l. same-at e i (omega (arith, long y onY)))
+    same-point e = ext-getD 0 y w (point-long g y onY ∙ sym (point-long g w onW))
+        (λ i l. same-at e i (omega (arith, point-long g y onY)))
 
   no-terms : (w : Point) (b n : ℕ) → sum (map (term g w w) (upFrom b n)) ≡ 0
   no-terms w b zero = refl

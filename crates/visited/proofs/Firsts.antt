@@ -5,21 +5,11 @@ use mathlib.Core.Logic.{_⊎_, ⊎-elim}
 use mathlib.Core.Path.{_≡_, refl, sym, ap, _∙_}
 use Rattle.combinatorics.proofs.Basics.{absurd-bool, both, false-of, not-is, true-or-false}
 use Rattle.combinatorics.proofs.Lists.{Equality, distinct-filter, filter-all, filter-append, filter-cong, filter-in}
-use Rattle.combinatorics.proofs.Lists.{in-cases, in-filter, in-here, in-later}
+use Rattle.combinatorics.proofs.Lists.{in-cases, in-filter, in-here, in-later, filter-twice}
 use Rattle.combinatorics.specs.Lists.{distinct, filter, isIn}
 use Rattle.trail.proofs.Outside.{outside-none, outside-one}
 use Rattle.trail.specs.Change.{outside}
 use Rattle.visited.specs.Visited.{firsts}
-
-filter-filter : {A : Type 0} (q r : A → Bool) (xs : List A) → filter q (filter r xs) ≡ filter (λ x. r x && q x) xs
-filter-filter q r [] = refl
-filter-filter q r (x ∷ xs) = ⊎-elim
-    (λ t. rw t (⊎-elim
-    (λ u. rw u (ap (λ l. x ∷ l) (filter-filter q r xs)))
-    (λ u. rw u (filter-filter q r xs))
-    (true-or-false (q x))))
-    (λ f. rw f (filter-filter q r xs))
-    (true-or-false (r x))
 
 neither : (a b : Bool) → (not a && not b) ≡ not (b || a)
 neither true true = refl
@@ -64,7 +54,7 @@ module _ {A : Type 0} (E : Equality A) where
       (ap (filter (λ z. not (eq x z))) (firsts-append xs ys)
       ∙ filter-append (λ z. not (eq x z)) (firsts eq xs) (outside eq xs (firsts eq ys))
       ∙ ap (λ (l : List A). filter (λ z. not (eq x z)) (firsts eq xs) ++ l)
-      (filter-filter (λ z. not (eq x z)) (λ z. not (isIn eq z xs)) (firsts eq ys)
+      (filter-twice (λ z. not (eq x z)) (λ z. not (isIn eq z xs)) (firsts eq ys)
       ∙ filter-cong E (firsts eq ys) (λ z m. rw (turned x z) (neither (isIn eq z xs) (eq z x)))))
 
   pub none-more : (xs ys : List A) → ((z : A) → isIn eq z ys ≡ true → isIn eq z xs ≡ true)

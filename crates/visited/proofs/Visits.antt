@@ -12,7 +12,7 @@ use native.Mathlib.Omega.{arith}
 use Rattle.combinatorics.proofs.Basics.{absurd-bool, and-both, and-left, and-right, false-of, or-cases, true-or-false}
 use Rattle.combinatorics.proofs.Lists.{Equality, all-in, append-in, distinct-filter, distinct-out, filter-in}
 use Rattle.combinatorics.proofs.Lists.{in-append-left, in-append-right, in-cases, in-here, in-later, only-member}
-use Rattle.combinatorics.proofs.Lists.{pigeon}
+use Rattle.combinatorics.proofs.Lists.{pigeon, length-passing}
 use Rattle.combinatorics.proofs.Rising.{rising-below, rising-tail}
 use Rattle.combinatorics.specs.Lists.{all, distinct, filter, isIn, rising, same}
 use Rattle.grid_points.proofs.Points.{in-points, onPoints}
@@ -24,7 +24,7 @@ use Rattle.place.specs.Problem.{Problem}
 use Rattle.path_laws.proofs.LinkSymmetry.{parts, place-distinct}
 use Rattle.path_laws.proofs.Theorem.{demand3-holds}
 use Rattle.path_laws.specs.Demand.{Accepted, Follows, placeAt}
-use Rattle.trail.proofs.Outside.{filter-split, in-outside, outside-count, outside-in, outside-none}
+use Rattle.trail.proofs.Outside.{in-outside, outside-count, outside-in, outside-none}
 use Rattle.trail.specs.Change.{outside}
 use Rattle.visited.specs.Demand.{Visits}
 use Rattle.visited.specs.Visited.{firsts, firstWith, pointsOfPlaces, verticesOf, visitedVertices}
@@ -206,7 +206,7 @@ module _ (p : Problem) (a b : Simplex) (pa : isPlace p a ≡ true) (pb : isPlace
       let f : (e1 && e2) ≡ true = and-left (e1 && e2) e3 (and-left (e1 && e2 && e3) e4 e) in
       let la : length a ≡ suc (length s) = eqb-true _ _ (and-left e1 e2 f) in
       let lb : length b ≡ suc (length s) = eqb-true _ _ (and-right e1 e2 f) in
-      omega (arith, counts, filter-split (λ y. isIn samePoint y b) a)
+      omega (arith, counts, length-passing (λ y. isIn samePoint y b) a)
 
   by-more : extended p a b ≡ true → length (outside samePoint a b) ≤ 1
   unfolding extended

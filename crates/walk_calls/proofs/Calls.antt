@@ -1,6 +1,5 @@
 -- The moving call by its parts. In order: a refusal by questions 1 to 7; what comes next; the grid of a walk. Assumes
 -- nothing.
-use mathlib.Core.Bool.{Bool, true, false, _&&_}
 use mathlib.Core.List.{List, [], _∷_, map}
 use mathlib.Core.Path.{_≡_, refl, sym, ap, _∙_}
 use Prim.Native.Nat.{ℕ, suc, _*_, _≤_, _<_}
@@ -9,7 +8,7 @@ use lib.Dec.{leb}
 use lib.ListN.{take, length-replicate}
 use native.Mathlib.Nat.{mul-le-mul}
 use native.Mathlib.Omega.{arith}
-use Rattle.combinatorics.proofs.Basics.{absurd-bool}
+use Rattle.combinatorics.proofs.Basics.{absurd-bool, and-false}
 use Rattle.combinatorics.specs.Front.{front, padded}
 use Rattle.combinatorics.specs.Counting.{falling}
 use Rattle.combinatorics.specs.Lists.{sum, upFrom}
@@ -120,16 +119,12 @@ pub six-blocks : (w : WalkStruct) → w .blocks ≤ 6 → walkGrid w
     ≡ record { sizes = take (w .blocks) (w .sizes); divisions = take (w .blocks) (w .divisions) }
 six-blocks w l = rw (le-leb (w .blocks) 6 l)
 
-and-no : (a : Bool) → (a && false) ≡ false
-and-no true = refl
-and-no false = refl
-
 -- neither more than six blocks nor none are a grid's
 pub too-many-blocks : (w : WalkStruct) → 6 < w .blocks → firstNo (gridQuestions (walkGrid w)) ≡ firstNo
     (gridQuestions (record { sizes = []; divisions = [] }))
 unfolding firstNo
 too-many-blocks w l = rw (lt-leb (w .blocks) 6 l, length-replicate {A = ℕ} (w .blocks) 0)
-    (rw (lt-leb (w .blocks) 6 l, and-no (leb 1 (w .blocks))))
+    (rw (lt-leb (w .blocks) 6 l, and-false (leb 1 (w .blocks))))
 
 pub none-refused : (k : ℕ) → k ≡ firstNo (gridQuestions (record { sizes = []; divisions = [] })) → k ≡ 0 → ⊥
 unfolding firstNo

@@ -11,7 +11,7 @@ use lib.ListN.{length, replicate, set, take, length-map, length-replicate, getD-
 use lib.Seq.{getD-take, length-take-le, take-suc}
 use native.Mathlib.Numerals.{add-one}
 use native.Mathlib.Omega.{arith}
-use Rattle.combinatorics.proofs.Basics.{before-or-not, false-of}
+use Rattle.combinatorics.proofs.Basics.{before-or-not, false-of, and-false}
 use Rattle.combinatorics.proofs.Fronts.{front-at, front-behind, front-length, front-none, front-put}
 use Rattle.combinatorics.proofs.Lists.{onNumbers}
 use Rattle.combinatorics.specs.Front.{front}
@@ -128,10 +128,6 @@ module _ (marks : List ℕ) (n : ℕ) (carried next : List ℕ) (k : ℕ) (table
       )
           (sym (ap not (and-false (all (λ m. isIn eqb m (take (suc n) marks)) (take j next)))));
     }
-      where
-        and-false : (a : Bool) → (a && false) ≡ false
-        and-false true = refl
-        and-false false = refl
 
     pub carried-over : i ≤ n → (x : ℕ) → x ≡ cond (leb i n) (at carried i) (labelAtMark table (at next j)) →
         CarriedBelow marks n next table (set labels j x) came (j + 1)

@@ -1,5 +1,5 @@
 -- The search for the spare point, one point after another. Assumes nothing.
-use mathlib.Core.Bool.{Bool, true, false, not, _&&_, _||_}
+use mathlib.Core.Bool.{true, false, not, _&&_}
 use mathlib.Core.List.{List}
 use mathlib.Core.Logic.{⊎-elim}
 use mathlib.Core.Path.{_≡_, refl, sym, ap, _∙_}
@@ -8,6 +8,7 @@ use borrow.Author.Tests.{eqb-true, eq-eqb, ne-eqb}
 use lib.Dec.{eqb}
 use native.Mathlib.Omega.{arith}
 use Rattle.combinatorics.proofs.Basics.{absurd-bool, and-left, and-right, not-is, or-cases, same-or, true-or-false}
+use Rattle.combinatorics.proofs.Basics.{or-true}
 use Rattle.grid_points.specs.Grid.{at}
 use Rattle.rules.proofs.Masks.{bit-none, bit-with}
 use Rattle.rules.specs.Mask.{bit, withIndex}
@@ -58,10 +59,6 @@ module _ (marks : List ℕ) (k t seen point l : ℕ) (S : SparesBelow marks k t 
             (same-or j k);
       }
     where
-      or-true : (a : Bool) → (a || true) ≡ true
-      or-true true = refl
-      or-true false = refl
-
       is-new : NotNew marks t k → ⊥
       is-new (unknown z) = omega (arith, new-parts e .0, is, z)
       is-new (outside h z f) =

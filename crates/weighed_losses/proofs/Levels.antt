@@ -14,7 +14,7 @@ use native.Mathlib.Numerals.{add-one}
 use native.Mathlib.Omega.{arith}
 use Rattle.combinatorics.proofs.Agreement.{map-range, all-drop}
 use Rattle.combinatorics.proofs.Basics.{true-or-false, and-right, before-or-not}
-use Rattle.combinatorics.proofs.Lists.{at-all, eqb-self}
+use Rattle.combinatorics.proofs.Lists.{at-all, eqb-self, sums-rise}
 use Rattle.combinatorics.proofs.Turns.{map-append, upFrom-next}
 use Rattle.combinatorics.specs.Lists.{all, filter, sum, upFrom}
 use Rattle.grid_points.proofs.Accepted.{Accepted, size-two}
@@ -33,19 +33,11 @@ use Rattle.weighed_losses.proofs.Blends.{dot-blend}
 use Rattle.weighed_losses.specs.Levels.{blend, sizeAgainst, mixAgainst, behind, lossesBegin, levelled, Stand}
 use Rattle.weighed_losses.specs.Levels.{StandTo}
 
--- a block ends where a later one begins, or before
-pub block-before : (ss : List ℕ) (i n : ℕ) → i < n → sum (take i ss) + getD ss i 0 ≤ sum (take n ss)
-block-before [] zero n h = omega arith
-block-before [] (suc i) n h = omega arith
-block-before (s ∷ ss) i zero h = absurd (omega arith)
-block-before (s ∷ ss) zero (suc n) h = omega arith
-block-before (s ∷ ss) (suc i) (suc n) h = omega (arith, block-before ss i n (omega arith))
-
 -- points that agree before block l have the same mixes there
 mix-kept : (g : Grid) (y z : Point) (l : ℕ) → take (firstIndex g l) y ≡ take (firstIndex g l) z → (i : ℕ) → i < l
     → mix g y i ≡ mix g z i
 mix-kept g y z l e i h = map-range _ _ (firstIndex g i) (size g i) (λ t m.
-    let low : firstIndex g i + t < firstIndex g l = omega (arith, block-before (g .sizes) i l h) in
+    let low : firstIndex g i + t < firstIndex g l = omega (arith, sums-rise (g .sizes) i l h) in
     sym (getD-take (firstIndex g l) y (firstIndex g i + t) 0 low)
     ∙ ap (λ (p : Point). at p (firstIndex g i + t)) e
     ∙ getD-take (firstIndex g l) z (firstIndex g i + t) 0 low)

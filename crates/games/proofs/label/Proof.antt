@@ -13,12 +13,13 @@ use Rattle.grid.proofs.Fields.{made-code}
 use Rattle.grid_points.specs.Grid.{Grid, numPoints, lent}
 use Rattle.grid.specs.Made.{IsMade, shape}
 use Rattle.questions.specs.Questions.{firstNo}
+use Rattle.questions.proofs.Answers.{asked-no}
 use Rattle.grid_points.specs.Questions.{gridQuestions}
 use Rattle.losses.proofs.Table.{product-few}
 use Rattle.losses.specs.Game.{product, labels}
 use Rattle.losses.specs.Table.{numLosses, inRange, IsTable}
 use Rattle.games.proofs.AllLabels.{labels-length}
-use Rattle.games.proofs.Outcomes.{asked-no, refused, written, asked10, asked11, asked12, asked-all, made-on}
+use Rattle.games.proofs.Outcomes.{refused, written, asked10, asked11, asked12, asked-all, made-on}
 use Rattle.games.specs.Labelling.{labelQuestions, labelledOf, leftIn}
 use Rattle.games.specs.declared.Labelled.the-variants.{Refused, Written}
 use borrow.Author.Needs.{needs}

@@ -10,7 +10,7 @@ use Rattle.arrays.specs.Rounds.{roundOf}
 use Rattle.combinatorics.proofs.EditsOfArrays.{counted}
 use Rattle.combinatorics.proofs.Fronts.{front-none, front-taken}
 use Rattle.combinatorics.specs.Front.{front}
-use Rattle.finder.proofs.Announcements.{accepted-in, finished-from, index, point-long, room, same-problem, start-long}
+use Rattle.finder.proofs.Announcements.{accepted-in, finished-from, index, room, same-problem, start-long}
 use Rattle.finder.proofs.Announcements.{taken-long, told, written}
 use Rattle.path_walk.proofs.Visits.{is-round, round-below}
 use Rattle.path_walk.specs.Finish.{Finished, problemIn}
@@ -18,6 +18,7 @@ use Rattle.finder.specs.declared.answers.Answer.{Answer}
 use Rattle.path_walk.specs.declared.Finish.{Finish}
 use Rattle.grid.proofs.Fields.{indices-few, made-indices}
 use Rattle.grid_points.specs.Grid.{position}
+use Rattle.grid_points.proofs.Points.{point-long}
 use Rattle.grid.specs.Made.{shape}
 use Rattle.marks.specs.Reading.{problemFrom}
 use Rattle.moves.specs.Held.{stateOf}

@@ -8,9 +8,10 @@ use lib.Seq.{length-take-le}
 use native.Mathlib.Omega.{arith}
 use Rattle.combinatorics.proofs.Fronts.{front-none}
 use Rattle.combinatorics.specs.Front.{front}
+use Rattle.combinatorics.proofs.Lists.{row-room}
 use Rattle.rules.specs.Read.{pointAfter, ReadyPoint}
 use Rattle.rules.specs.Step.{firstOutside}
-use Rattle.rules.proofs.PointsAfter.{after-taken, few-ready, length-after, earlier-ready, inRow, same-rows, room}
+use Rattle.rules.proofs.PointsAfter.{after-taken, few-ready, length-after, earlier-ready, inRow, same-rows}
 use Rattle.rules.proofs.PointsAfter.{next-position, row-put}
 use Rattle.place_points.proofs.put_points.Statement.{statement}
 use Rattle.place_points.proofs.put_points.Tie as tie
@@ -61,7 +62,8 @@ put-row-requires c κs =
     let l = c .before .before .before .before .before .before .loop in
     let from = firstOutside (a .previous .now) (a .sizes .now) (a .s .u) in
     let all : (suc (a .s .count) - a .from) * a .m ≤ length (a .buf .now) = rw (s .pre .1) at (s .pre .0 .fits) in
-    let fits = room (l .i - a .from) (suc (a .s .count) - a .from) (a .m) (length (a .buf .now)) (omega arith) all in (
+    let fits = row-room (l .i - a .from) (suc (a .s .count) - a .from) (a .m) (length (a .buf .now)) (omega arith)
+    all in (
       omega arith,
       s .pre .0 .short,
       rw (c .before .before .advance .ensures)
@@ -74,7 +76,8 @@ add-position c =
     let a = s .args in
     let l = c .before .before .before .before .before .before .before .before .before .loop in
     let all : (suc (a .s .count) - a .from) * a .m ≤ length (a .buf .now) = rw (s .pre .1) at (s .pre .0 .fits) in
-    let fits = room (l .i - a .from) (suc (a .s .count) - a .from) (a .m) (length (a .buf .now)) (omega arith) all in
+    let fits = row-room (l .i - a .from) (suc (a .s .count) - a .from) (a .m) (length (a .buf .now)) (omega arith)
+    all in
     omega arith
 
 add-i : tie.Need-add-i Inv-loop μ-loop
@@ -92,7 +95,8 @@ loop-again c =
     let points = pointAfter from (a .order .now) (a .first .now) in
     let long = length-after from (a .order .now) (a .first .now) in
     let all : (suc (a .s .count) - a .from) * a .m ≤ length (a .buf .now) = rw (s .pre .1) at (s .pre .0 .fits) in
-    let fits = room (l .i - a .from) (suc (a .s .count) - a .from) (a .m) (length (a .buf .now)) (omega arith) all in
+    let fits = row-room (l .i - a .from) (suc (a .s .count) - a .from) (a .m) (length (a .buf .now)) (omega arith)
+    all in
     let short : (j : ℕ) → a .m ≤ length (points j) = λ j.
     rw (long j) (omega (arith, s .pre .0 .short, s .pre .0 .firstLength)) in
     let point = c .before .before .before .before .before .advance .ensures

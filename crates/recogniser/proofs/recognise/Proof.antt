@@ -3,9 +3,9 @@
 use mathlib.Core.Bool.{Bool}
 use mathlib.Core.Path.{sym, _∙_, subst}
 use lib.ListN.{length-take}
-use Rattle.combinatorics.proofs.Basics.{absurd-bool, not-is}
+use Rattle.combinatorics.proofs.Basics.{absurd-bool, not-is, is-not}
 use Rattle.grid.proofs.Fields.{indices-few}
-use Rattle.recogniser.proofs.Together.{is-not, not-recognised, off-grid, no-sets, not-free, cannot-step}
+use Rattle.recogniser.proofs.Together.{not-recognised, off-grid, no-sets, not-free, cannot-step}
 use Rattle.recogniser.proofs.Together.{can-mark, all-seen}
 use Rattle.recogniser.specs.Pieces.{Marked}
 use borrow.Author.Needs.{needs}

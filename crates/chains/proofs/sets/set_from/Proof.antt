@@ -7,8 +7,9 @@ use native.Mathlib.Omega.{arith}
 use borrow.Author.Needs.{needs}
 use Rattle.grid.proofs.Fields.{blocks-range, made-accepted, made-blocks}
 use Rattle.grid_points.specs.Grid.{firstIndex, numBlocks, size}
+use Rattle.grid_points.proofs.Points.{point-long}
 use Rattle.grid.specs.Made.{shape}
-use Rattle.chains.proofs.WholeSets.{AllAdded, none-added, one-added, point-long, is-block, whole-set, no-set}
+use Rattle.chains.proofs.WholeSets.{AllAdded, none-added, one-added, is-block, whole-set, no-set}
 use Rattle.chains.proofs.sets.set_from.Statement.{statement}
 use Rattle.chains.proofs.sets.set_from.Tie as tie
 

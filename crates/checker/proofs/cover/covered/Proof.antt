@@ -10,12 +10,12 @@ use Rattle.grid.proofs.Fields.{indices-few, made-accepted, made-indices}
 use Rattle.grid.specs.Made.{shape}
 use Rattle.chains.proofs.ListedPoints.{is-listed, on-grid}
 use Rattle.chains.proofs.Nestings.{left-none, one-more}
-use Rattle.chains.proofs.WholeSets.{point-long}
 use Rattle.chains.specs.Listed.{listedAt}
 use Rattle.checker.proofs.Covering.{Covering, copied, copied-point, none-covered, more-covered, all-covered}
 use Rattle.checker.proofs.Covering.{zeros-at}
 use Rattle.checker.proofs.cover.covered.Statement.{statement}
 use Rattle.checker.proofs.cover.covered.Tie as tie
+use Rattle.grid_points.proofs.Points.{point-long}
 
 abbrev Inv-loop : tie.InvT-loop
 Inv-loop g binomials labels numbers count m labelled₀ zero₀ k₀ labelled zero k =

@@ -1,12 +1,13 @@
 -- `centre::coordinate_sum` meets its contract: after k turns the sum is that of the first k vertices. Assumes nothing.
 use mathlib.Core.Path.{_≡_, refl}
 use Prim.Native.Nat.{_+_, _-_, _*_, _≤_, _<_}
+use Rattle.combinatorics.proofs.Lists.{row-room}
 use native.Mathlib.Omega.{arith}
 use lib.ListN.{length}
 use borrow.Author.Needs.{needs}
 use Rattle.sheet_lines.specs.Answer.{rows}
 use Rattle.sheet_lines.specs.Sheet.{total as totalOf}
-use Rattle.sheet_lines.proofs.Rows.{room, total-more}
+use Rattle.sheet_lines.proofs.Rows.{total-more}
 use Rattle.sheet.proofs.centre.coordinate_sum.Statement.{statement}
 use Rattle.sheet.proofs.centre.coordinate_sum.Tie as tie
 
@@ -23,7 +24,7 @@ inside : (c : tie.In-loop Inv-loop μ-loop)
 inside c =
     let a = c .before .before .before .args in
     let l = c .before .loop in
-    omega (arith, room (l .k) (a .count) (a .m) (length (a .vertices .now)) (omega arith) (omega arith))
+    omega (arith, row-room (l .k) (a .count) (a .m) (length (a .vertices .now)) (omega arith) (omega arith))
 
 loop-holds : tie.Need-loop-holds Inv-loop μ-loop
 loop-holds c = (refl, omega arith, omega arith)

@@ -3,13 +3,14 @@
 use mathlib.Core.Path.{_≡_}
 use mathlib.Core.List.{flatMap}
 use Prim.Native.Nat.{_+_, _-_, _*_, _≤_}
+use Rattle.combinatorics.proofs.Lists.{row-room}
 use native.Mathlib.Omega.{arith}
 use lib.ListN.{length}
 use Rattle.text.specs.Part.{Part}
 use Rattle.sheet_lines.specs.Answer.{rows}
 use Rattle.sheet_lines.specs.Sheet.{vertexLine}
 use Rattle.text.proofs.Parts.{part-empty, part-join}
-use Rattle.sheet_lines.proofs.Rows.{room, row-length, flatMap-more, rows-more}
+use Rattle.sheet_lines.proofs.Rows.{row-length, flatMap-more, rows-more}
 use Rattle.sheet.proofs.line.vertex_lines.Statement.{statement}
 use Rattle.sheet.proofs.line.vertex_lines.Tie as tie
 
@@ -26,7 +27,7 @@ inside : (c : tie.In-loop Inv-loop μ-loop)
     ≤ length (c .before .before .before .args .vertices .now)
 inside c =
     let a = c .before .before .before .args in
-    room (c .before .loop .k) (a .count) (a .m) (length (a .vertices .now)) (omega arith) (omega arith)
+    row-room (c .before .loop .k) (a .count) (a .m) (length (a .vertices .now)) (omega arith) (omega arith)
 
 loop-holds : tie.Need-loop-holds Inv-loop μ-loop
 unfolding flatMap

@@ -1,8 +1,7 @@
 -- `asking::first_no` meets its contract: each exit is the first question that is answered no. Assumes nothing.
 use mathlib.Core.Path.{sym, _∙_}
-use Rattle.combinatorics.proofs.Basics.{not-is}
+use Rattle.combinatorics.proofs.Basics.{not-is, is-not}
 use Rattle.grid.proofs.Fields.{indices-few, made-indices, made-points}
-use Rattle.recogniser.proofs.Together.{is-not}
 use Rattle.walk_calls.proofs.Later.{no-label, no-length, no-question, no-start}
 use borrow.Author.Needs.{needs}
 use native.Mathlib.Omega.{arith}

@@ -3,8 +3,7 @@ use mathlib.Core.Bool.{true, false}
 use mathlib.Core.Path.{_≡_, sym, ap, _∙_}
 use Prim.Native.Nat.{ℕ, _-_}
 use borrow.Author.Tests.{eq-eqb, ne-eqb}
-use Rattle.combinatorics.proofs.Basics.{not-is}
-use Rattle.recogniser.proofs.Together.{is-not}
+use Rattle.combinatorics.proofs.Basics.{not-is, is-not}
 use Rattle.rules.specs.Mask.{bit}
 use borrow.Author.Needs.{needs}
 use native.Mathlib.Omega.{arith}

@@ -1,9 +1,8 @@
 -- `standing::next_on` meets its contract. Assumes nothing.
 use mathlib.Core.Path.{sym, _∙_}
 use Prim.Native.Nat.{_-_}
-use Rattle.combinatorics.proofs.Basics.{not-is}
+use Rattle.combinatorics.proofs.Basics.{not-is, is-not}
 use Rattle.grid.proofs.Fields.{indices-few}
-use Rattle.recogniser.proofs.Together.{is-not}
 use Rattle.walk_next.proofs.Begins.{count-some, kept-rightly, kept-wrongly, out-of-range}
 use Rattle.walk_ways.proofs.Chosen.{refused-is}
 use borrow.Author.Needs.{needs}

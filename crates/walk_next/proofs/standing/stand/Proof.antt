@@ -1,8 +1,7 @@
 -- `standing::stand` meets its contract. Assumes nothing.
 use mathlib.Core.Path.{refl, sym, _∙_}
 use borrow.Author.Needs.{needs, length-unmapped}
-use Rattle.combinatorics.proofs.Basics.{not-is}
-use Rattle.recogniser.proofs.Together.{is-not}
+use Rattle.combinatorics.proofs.Basics.{not-is, is-not}
 use Rattle.walk_ways.proofs.Chosen.{refused-is}
 use Rattle.walk_next.proofs.Stood.{all-seen, can-choose, can-see, carries-others, carries-own, labels-low}
 use Rattle.walk_next.proofs.Stood.{no-place-there, not-all-place, not-kept-place, round-of}

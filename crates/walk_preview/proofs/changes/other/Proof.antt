@@ -9,9 +9,8 @@ use lib.ListN.{drop, take}
 use lib.Seq.{getD-take, length-take-le}
 use native.Mathlib.Numerals.{add-one}
 use native.Mathlib.Omega.{arith}
-use Rattle.combinatorics.proofs.Basics.{not-is}
+use Rattle.combinatorics.proofs.Basics.{not-is, is-not}
 use Rattle.combinatorics.specs.Lists.{firstOr}
-use Rattle.recogniser.proofs.Together.{is-not}
 use Rattle.rules.specs.Step.{markPosition}
 use Rattle.trail.specs.Change.{outside}
 use Rattle.walk_preview.proofs.Among.{outside-done, outside-here, outside-later}

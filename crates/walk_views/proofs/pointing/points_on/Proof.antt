@@ -3,10 +3,9 @@ use borrow.Author.Needs.{needs}
 use mathlib.Core.Path.{_≡_, refl, sym, _∙_}
 use Prim.Native.Nat.{pred, _-_}
 use native.Mathlib.Omega.{arith}
-use Rattle.combinatorics.proofs.Basics.{not-is}
+use Rattle.combinatorics.proofs.Basics.{not-is, is-not}
 use Rattle.grid.proofs.Fields.{indices-few}
 use Rattle.grid.specs.Made.{shape}
-use Rattle.recogniser.proofs.Together.{is-not}
 use Rattle.walk_next.proofs.Begins.{count-some}
 use Rattle.walk_next.proofs.Stood.{all-seen, labels-low, not-all-place, not-kept-place}
 use Rattle.walk_views.proofs.Placed.{no-place-held, points-none, points-there, present-is, view}

@@ -1,7 +1,6 @@
 -- `choice::from_start` meets its contract. Assumes nothing.
 use mathlib.Core.Path.{refl, sym, ap, _∙_}
-use Rattle.combinatorics.proofs.Basics.{not-is}
-use Rattle.recogniser.proofs.Together.{is-not}
+use Rattle.combinatorics.proofs.Basics.{not-is, is-not}
 use Rattle.walk_ways.proofs.Chosen.{can-tell, can-try, m-is, ok, refused-is, told-is, tried-start}
 use Rattle.walk_ways.proofs.Decided.{start-16, start-20, start-on}
 use Rattle.walk_places.specs.Walks.{samePlace}
