@@ -167,7 +167,7 @@ module _ (g : GridStruct) (made : IsMade g) (first order : List ℕ) (n : ℕ) w
   drop-next (x ∷ l) zero z r e = cc
   drop-next (x ∷ l) (suc k) z r e = drop-next l k z r e
 
-  module _ (from : ℕ → ℕ) (marks₀ : List ℕ) (M : CanMark g from first order n marks₀) where
+  module _ {from : ℕ → ℕ} {marks₀ : List ℕ} (M : CanMark g from first order n marks₀) where
     pub reached-none : Reached g first order n marks₀ (replicate 16 16) 0
     reached-none = record {
       long = refl;
@@ -183,7 +183,7 @@ module _ (g : GridStruct) (made : IsMade g) (first order : List ℕ) (n : ℕ) w
       marked = λ j l. absurd (omega arith);
     }
 
-    module _ (marks steps : List ℕ) (k : ℕ) (R : Reached g first order n marks steps k) (l : k < n) (h b : ℕ)
+    module _ {marks steps : List ℕ} {k : ℕ} (R : Reached g first order n marks steps k) (l : k < n) {h b : ℕ}
         (isH : h ≡ at order k) (isB : b ≡ from h) where
       abbrev z : Point
       z = pointWith g first steps
@@ -281,7 +281,7 @@ module _ (g : GridStruct) (made : IsMade g) (first order : List ℕ) (n : ℕ) w
         }
 
     -- all steps are made: the last point's mark
-    module _ (marks steps : List ℕ) (R : Reached g first order n marks steps n) where
+    module _ {marks steps : List ℕ} (R : Reached g first order n marks steps n) where
       none-left : drop n o ≡ []
       none-left = drop-all o n (omega (arith, length-take n order, M .orderLong, M .few))
         where
