@@ -2,11 +2,9 @@
 use mathlib.Core.Bool.{Bool, Bool·beq, true, false, not, _&&_, _||_}
 use mathlib.Core.Path.{_≡_, refl, sym, ap, _∙_}
 use Prim.Native.Nat.{ℕ, _<_}
-use borrow.Author.Tests.{eqb-true, eq-eqb}
 use lib.Bits.{and-le-l, bitAnd}
-use lib.Dec.{eqb}
 use native.Mathlib.Omega.{arith}
-use Rattle.combinatorics.proofs.Basics.{absurd-bool, both}
+use Rattle.combinatorics.proofs.Basics.{absurd-bool, false-of}
 use Rattle.combinatorics.proofs.Lists.{all-in, in-all, onNumbers}
 use Rattle.combinatorics.proofs.Ranges.{in-upFrom, upFrom-in}
 use Rattle.combinatorics.specs.Lists.{upFrom}
@@ -60,18 +58,20 @@ unfolding maskWithin
 of-within a b e k l = or-is _ _
     (all-in onNumbers (λ k. not (bit a k) || bit b k) (upFrom 0 16) e k (in-upFrom 0 16 k (omega arith) (omega arith)))
 
-pub same-alike : (a b : ℕ) → a < 65536 → b < 65536 → eqb a b ≡ alike a b
-same-alike a b la lb = both (eqb a b) (alike a b)
-    (λ e. alike-of a b (λ k l. ap (λ (x : ℕ). bit x k) (eqb-true a b e)))
-    (λ e. eq-eqb a b (same-mask a b la lb (of-alike a b e)))
+pub same-alike : {a b : ℕ} → a ≡ b → alike a b ≡ true
+same-alike {a} {b} e = alike-of a b (λ k l. ap (λ (x : ℕ). bit x k) e)
+
+pub other-alike : (a b : ℕ) → a < 65536 → b < 65536 → (a ≡ b → ⊥) → alike a b ≡ false
+other-alike a b la lb n = false-of (alike a b) (λ e. n (same-mask a b la lb (of-alike a b e)))
 
 and-true : (a b : Bool) → a ≡ (a && b) → a ≡ true → b ≡ true
 and-true true b e q = sym e
 and-true false b e q = absurd-bool (sym q)
 
-pub and-within : (a b : ℕ) → a < 65536 → eqb (bitAnd a b) a ≡ maskWithin a b
-and-within a b la = both (eqb (bitAnd a b) a) (maskWithin a b)
-    (λ e. within-of a b (λ k l t.
-    and-true (bit a k) (bit b k) (ap (λ (x : ℕ). bit x k) (sym (eqb-true (bitAnd a b) a e)) ∙ bit-and a b k) t))
-    (λ e. eq-eqb (bitAnd a b) a
+pub and-within : (a b : ℕ) → bitAnd a b ≡ a → maskWithin a b ≡ true
+and-within a b e = within-of a b
+    (λ k l. and-true (bit a k) (bit b k) (ap (λ (x : ℕ). bit x k) (sym e) ∙ bit-and a b k))
+
+pub and-without : (a b : ℕ) → a < 65536 → (bitAnd a b ≡ a → ⊥) → maskWithin a b ≡ false
+and-without a b la n = false-of (maskWithin a b) (λ e. n
     (same-mask (bitAnd a b) a (omega (arith, and-le-l a b)) la (λ k l. bit-and a b k ∙ sym (of-within a b e k l))))
