@@ -7,12 +7,13 @@ use mathlib.Core.Option.{some}
 use mathlib.Core.Path.{_≡_, refl, sym, ap, _∙_}
 use Prim.Native.Nat.{ℕ, zero, suc, _+_, _-_, _*_, _≤_, _<_}
 use borrow.Author.Tests.{eqb-true, eq-eqb}
+use denote.Ref.{now}
 use lib.Dec.{eqb}
 use lib.ListN.{length, getD, take, length-map, length-take}
 use lib.Seq.{getD-take}
 use native.Mathlib.Nat.{le-trans, mul-le-mul-left, mul-le-mul-right}
 use native.Mathlib.Omega.{arith}
-use Rattle.arrays.specs.Rounds.{roundOf}
+use Rattle.arrays.specs.Rounds.{Lent, roundOf}
 use Rattle.combinatorics.proofs.Basics.{absurd-bool, and-left, and-right, false-of, same-or, true-or-false}
 use Rattle.combinatorics.proofs.Lists.{all-in}
 use Rattle.combinatorics.proofs.Ranges.{length-upFrom}
@@ -24,7 +25,7 @@ use Rattle.grid_points.proofs.Points.{in-points, onPoints, position-in}
 use Rattle.grid_points.specs.Grid.{Point, at, blockOf, isGridPoint, numIndices, numPoints, points, position}
 use Rattle.grid.specs.Made.{shape}
 use Rattle.grid.specs.declared.Grid.{Grid as GridStruct}
-use Rattle.moves.specs.Held.{stateOf}
+use Rattle.moves.specs.Held.{CanStep, stateOf}
 use Rattle.path_laws.proofs.Accepted.{accepted-of}
 use Rattle.path_laws.proofs.Filled.{fill, filledTable, filled-full, filled-label}
 use Rattle.path_laws.proofs.LinkSymmetry.{parts}
@@ -172,7 +173,7 @@ module _ {g : GridStruct} {w : WalkStruct} {labels first list order marks : List
       fits = fits-v walk labels ok y o S.present S.place S.counted (long-o ∙ e) (stateAs rule) (lent rule) f r;
     }
 
-    module _ (k : ℕ) (e : n ≡ suc k) where
+    module _ {k : ℕ} (e : n ≡ suc k) where
       low-point : point ≤ suc k
       low-point = omega (arith, S .low)
 
@@ -200,8 +201,20 @@ module _ {g : GridStruct} {w : WalkStruct} {labels first list order marks : List
       abbrev pub told-state : State
       told-state = stateOf (roundOf previous [] sizes) first [] order [] (statusAs rule)
 
-      pub can-try : CanTry a
+      can-try : CanTry a
       can-try = record { short = λ e z. let f = R .fits .moves e z in (f .0, f .1); firstLong = S .firstLong }
+
+      pub can-move : {lentOrder lentMarks : Lent} → now lentOrder ≡ order → now lentMarks ≡ marks
+          → CanStep lentOrder lentMarks a × CanTry a × (g .indices ≤ 16)
+      can-move e f = (
+        record {
+          below = N .below;
+          each = record { inOrder = rw e (S .orderLong); inMarks = rw f (S .marksLong) };
+          ready = R .ready;
+        },
+        can-try,
+        omega (arith, m-is, ok .settled .sixteenIndices),
+      )
 
       can-put : (from : ℕ) → from ≤ n → CanPut told-state (g .indices) from 256
       can-put from l = record {

@@ -77,7 +77,7 @@ module _ {g : GridStruct} {w : WalkStruct} {labels first list order marks : List
         (rw f) (stateAs S N 1) (lent S N 1) (omega (arith, S .low)) (omega arith)
 
   -- any other place
-  module _ (k : ℕ) (e : n ≡ suc k) {previous next sizes : List ℕ} (N : IsRoundOf g previous next sizes)
+  module _ {k : ℕ} (e : n ≡ suc k) {previous next sizes : List ℕ} (N : IsRoundOf g previous next sizes)
       (long : length (w .before .order) ≡ 16) where
     low : point ≤ suc k
     low = omega (arith, S .low)
@@ -88,23 +88,23 @@ module _ {g : GridStruct} {w : WalkStruct} {labels first list order marks : List
     abbrev staying : State
     staying = stateAs S N 1
 
-    abbrev back : ℕ → Bool
+    abbrev pub back : ℕ → Bool
     back rule = leadsBack (wayIn (g .indices) (stateAs S N rule) (step (stateAs S N rule))) (w .before)
 
     pub other-16 : back 6 ≡ true → unknown ≡ true → nextOf walk labels ≡ refused 16
-    other-16 z v = let f = leads-there S N 6 (tried-back S N k e 6 (omega arith)) long z in
+    other-16 z v = let f = leads-there S N 6 (tried-back S N e 6 (omega arith)) long z in
         back-unknown walk labels (ok S) (y S) (o S) S.present S.place S.counted k (long-o S ∙ e) point low S.spare
         (f .0) (f .1) staying leaving (lent S N 1) (lent S N 6) refl refl
         (omega arith) (omega arith) (unknown-label v) (f .2)
 
     pub other-on : back 6 ≡ true → unknown ≡ false → nextOf walk labels ≡ byWay (wayMade (q S N) (step staying) ∷ [])
-    other-on z v = let f = leads-there S N 6 (tried-back S N k e 6 (omega arith)) long z in
+    other-on z v = let f = leads-there S N 6 (tried-back S N e 6 (omega arith)) long z in
         onward-a walk labels (ok S) (y S) (o S) S.present S.place S.counted k (long-o S ∙ e) point low S.spare (f .0)
         (f .1) staying leaving (lent S N 1) (lent S N 6) refl refl
         (omega arith) (omega arith) (known-all v) (f .2)
 
     pub other-back : back 1 ≡ true → unknown ≡ false → nextOf walk labels ≡ byWay (wayMade (q S N) (step leaving) ∷ [])
-    other-back z v = let f = leads-there S N 1 (tried-on S N k e 1 (omega arith)) long z in
+    other-back z v = let f = leads-there S N 1 (tried-on S N e 1 (omega arith)) long z in
         onward-b walk labels (ok S) (y S) (o S) S.present S.place S.counted k (long-o S ∙ e) point low S.spare (f .0)
         (f .1) staying leaving (lent S N 1) (lent S N 6) refl refl
         (omega arith) (omega arith) (known-all v) (f .2)
@@ -122,12 +122,12 @@ module _ {g : GridStruct} {w : WalkStruct} {labels first list order marks : List
         not-back-unknown walk labels (ok S) (y S) (o S) S.present S.place S.counted k (long-o S ∙ e)
         point low S.spare b before staying leaving (lent S N 1) (lent S N 6) refl refl
         (omega arith) (omega arith) (unknown-label v)
-        (leads-elsewhere S N 6 (tried-back S N k e 6 (omega arith)) long z b before))
+        (leads-elsewhere S N 6 (tried-back S N e 6 (omega arith)) long z b before))
 
     pub other-20 : back 6 ≡ false → back 1 ≡ false → unknown ≡ false → nextOf walk labels ≡ refused 20
     other-20 z x v = without (beforeOf (shape g) (w .before)) refl (λ b before.
         neither walk labels (ok S) (y S) (o S) S.present S.place S.counted k (long-o S ∙ e)
         point low S.spare b before staying leaving (lent S N 1) (lent S N 6) refl refl
-        (omega arith) (omega arith) (known-all v) (leads-elsewhere S N 1 (tried-on S N k e 1 (omega arith))
+        (omega arith) (omega arith) (known-all v) (leads-elsewhere S N 1 (tried-on S N e 1 (omega arith))
         long x b before)
-        (leads-elsewhere S N 6 (tried-back S N k e 6 (omega arith)) long z b before))
+        (leads-elsewhere S N 6 (tried-back S N e 6 (omega arith)) long z b before))

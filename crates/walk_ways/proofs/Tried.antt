@@ -20,9 +20,9 @@ use Rattle.walk_ways.specs.declared.Move.{Move}
 abbrev made : Leads → Place → Move
 made leads place = record { leads = leads; place = place }
 
-module _ (m : ℕ) (a : State) (round : Round) (first list order marks : List ℕ) (s : Status) (o : Outcome)
+module _ (m : ℕ) {a : State} {round : Round} {first list order marks : List ℕ} {s : Status} {o : Outcome}
     (H : Holds round first list order marks s o (step a)) (C : CanTry a) where
-  module _ (r : Status) (is : o ≡ Moved r) where
+  module _ {r : Status} (is : o ≡ Moved r) where
     after : goes (stateOf round first list order marks r) ≡ step a
     after = rw is at H.after
 
@@ -48,8 +48,8 @@ module _ (m : ℕ) (a : State) (round : Round) (first list order marks : List �
         take-again (suc n) [] = refl
         take-again (suc n) (x ∷ l) = ap (λ (y : List ℕ). x ∷ y) (take-again n l)
 
-  pub way-place : (h : ℕ) → o ≡ PlaceEnd h → made (ToPlace h) nowhere ≡ wayIn m a (step a)
-  way-place h is = rw (← (rw is at H.after))
+  pub way-place : {h : ℕ} → o ≡ PlaceEnd h → made (ToPlace h) nowhere ≡ wayIn m a (step a)
+  way-place is = rw (← (rw is at H.after))
 
-  pub way-facet : (h : ℕ) → o ≡ FacetEnd h → made (ToFacet h) nowhere ≡ wayIn m a (step a)
-  way-facet h is = rw (← (rw is at H.after))
+  pub way-facet : {h : ℕ} → o ≡ FacetEnd h → made (ToFacet h) nowhere ≡ wayIn m a (step a)
+  way-facet is = rw (← (rw is at H.after))

@@ -1,9 +1,9 @@
 -- `choice::from_start` meets its contract. Assumes nothing.
-use mathlib.Core.Path.{refl, sym, ap, _∙_}
+use mathlib.Core.Path.{_≡_, refl, sym, ap, _∙_}
 use Rattle.combinatorics.proofs.Basics.{not-is, is-not}
-use Rattle.walk_ways.proofs.Chosen.{can-tell, can-try, m-is, ok, refused-is, told-is, tried-start}
+use Rattle.walk_ways.proofs.Chosen.{can-move, can-tell, refused-is, told-is, tried-start}
 use Rattle.walk_ways.proofs.Decided.{start-16, start-20, start-on}
-use Rattle.walk_places.specs.Walks.{samePlace}
+use Rattle.walk_places.specs.Walks.{nowhere, samePlace}
 use borrow.Author.Needs.{needs}
 use native.Mathlib.Omega.{arith}
 use Rattle.walk_ways.proofs.choice.from_start.Statement.{statement}
@@ -15,6 +15,12 @@ none-requires c κs = search needs
 same-place-requires : tie.Need-same-place-requires
 same-place-requires c κs = search needs
 
+-- whether there is no place before
+alone : (c : tie.After-same-place)
+    → samePlace (c .before .before .before .before .args .w .before) nowhere ≡ c .same-place .result
+alone c = ap (samePlace (c .before .before .before .before .args .w .before)) (sym (c .before .none .ensures))
+    ∙ sym (c .same-place .ensures .0)
+
 refused-requires : tie.Need-refused-requires
 refused-requires c κs = search needs
 
@@ -23,11 +29,7 @@ returns c =
     let s = c .before .before .before .before .before .before in
     c .refused .ensures
     ∙ refused-is (s .args .g) (s .args .w) (s .args .labels .now) 20
-    (start-20 (s .pre .0) refl
-    (ap (samePlace (c .before .before .before .before .before .before .args .w .before))
-    (sym (c .before .before .before .none .ensures))
-    ∙ sym (c .before .before .same-place .ensures .0)
-    ∙ not-is _ (c .before .if1 .taken)))
+    (start-20 (s .pre .0) refl (alone (c .before .before) ∙ not-is _ (c .before .if1 .taken)))
 
 refused-requires-2 : tie.Need-refused-requires-2
 refused-requires-2 c κs = search needs
@@ -37,11 +39,7 @@ returns-2 c =
     let s = c .before .before .before .before .before .before .before in
     c .refused2 .ensures
     ∙ refused-is (s .args .g) (s .args .w) (s .args .labels .now) 16
-    (start-16 (s .pre .0) refl
-    (ap (samePlace (c .before .before .before .before .before .before .before .args .w .before))
-    (sym (c .before .before .before .before .none .ensures))
-    ∙ sym (c .before .before .before .same-place .ensures .0)
-    ∙ is-not _ (c .before .before .if1 .left))
+    (start-16 (s .pre .0) refl (alone (c .before .before .before) ∙ is-not _ (c .before .before .if1 .left))
     (c .before .if2 .taken))
 
 way-requires : tie.Need-way-requires
@@ -49,11 +47,7 @@ way-requires c κs =
     let s = c .before .before .before .before .before .before in
     let S = s .pre .0 in
     let N = s .pre .1 in
-    let R = tried-start S N refl refl 1 (omega arith) in (
-      record { below = N .below; each = record { inOrder = S .orderLong; inMarks = S .marksLong }; ready = R .ready },
-      can-try S N 1 R,
-      omega (arith, m-is S, ok S .settled .sixteenIndices),
-    )
+    can-move S N 1 (tried-start S N refl refl 1 (omega arith)) refl refl
 
 told-requires : tie.Need-told-requires
 told-requires c κs =
@@ -72,10 +66,7 @@ returns-3 c =
     c .told .ensures
     ∙ rw (c .before .way .ensures)
     (told-is S N 1 R (start-on S refl N
-    (ap (samePlace (c .before .before .before .before .before .before .before .before .args .w .before))
-    (sym (c .before .before .before .before .before .none .ensures))
-    ∙ sym (c .before .before .before .before .same-place .ensures .0)
-    ∙ is-not _ (c .before .before .before .if1 .left))
+    (alone (c .before .before .before .before) ∙ is-not _ (c .before .before .before .if1 .left))
     (c .before .before .if2 .left)))
 
 pub from-start-spec : {M : Type 1} → statement M
