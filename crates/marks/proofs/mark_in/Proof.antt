@@ -33,32 +33,22 @@ returns c =
     ∙ read-gap (a .g) (a .binomials .now) (a .table .now) (s .pre .0 .0) _
     (rw e at (sym (c .before .u32-of .ensures .0 ∙ c .before .before .read-at .ensures) ∙ c .if1 .taken))
 
-cast-t16 : tie.Need-cast-t16
-cast-t16 c =
-    let s = c .before .before .before .before .before in
+-- the position is below the number of grid points
+small : (c : tie.After-position-in) → c .position-in .result < 60001
+small c =
+    let s = c .before .before in
     let a = made-accepted (s .args .g) (s .pre .0 .0 .made) in
-    let at = c .before .before .before .position-in in
-    let small : at .result < 60001 =
-    rw (at .ensures) (omega (arith, position-below _ _ (a .sameNumber) (s .pre .0 .1 .onGrid), a .fewPoints)) in
-    omega arith
+    rw (c .position-in .ensures)
+    (omega (arith, position-below _ _ (a .sameNumber) (s .pre .0 .1 .onGrid), a .fewPoints))
+
+cast-t16 : tie.Need-cast-t16
+cast-t16 c = omega (arith, small (c .before .before .before))
 
 mul-t17 : tie.Need-mul-t17
-mul-t17 c =
-    let s = c .before .before .before .before .before in
-    let a = made-accepted (s .args .g) (s .pre .0 .0 .made) in
-    let at = c .before .before .before .position-in in
-    let small : at .result < 60001 =
-    rw (at .ensures) (omega (arith, position-below _ _ (a .sameNumber) (s .pre .0 .1 .onGrid), a .fewPoints)) in
-    omega arith
+mul-t17 c = omega (arith, small (c .before .before .before))
 
 add-t18 : tie.Need-add-t18
-add-t18 c =
-    let s = c .before .before .before .before .before in
-    let a = made-accepted (s .args .g) (s .pre .0 .0 .made) in
-    let at = c .before .before .before .position-in in
-    let small : at .result < 60001 =
-    rw (at .ensures) (omega (arith, position-below _ _ (a .sameNumber) (s .pre .0 .1 .onGrid), a .fewPoints)) in
-    omega (arith, c .before .u32-of .ensures .1)
+add-t18 c = omega (arith, small (c .before .before .before), c .before .u32-of .ensures .1)
 
 returns-2 : tie.Need-returns-2
 returns-2 c =
