@@ -165,7 +165,7 @@ module _ (s : State) (h : ℕ) where
   unfolding grow
   joins-from-outside i e f g = rw (e, f, g)
 
-module _ (s : State) (h b : ℕ) (atH : h ≡ at (s .order) 0) (atB : b ≡ sourceIn s h) where
+module _ (s : State) {h b : ℕ} (atH : h ≡ at (s .order) 0) (atB : b ≡ sourceIn s h) where
   pub first-ready : ReadyFirst s
       → (at (s .first) h < 65535) × (1 ≤ at (s .first) b)
       × (testedBefore (λ x. ltb x 65535) suc (s .round .previous) b 16 h (s .coefficients) ≡ true)
@@ -225,7 +225,7 @@ module _ (s : State) (i h w b : ℕ) (atH : h ≡ at (s .order) i) (atW : w ≡ 
       (λ t. e (eqb-true w b (and-left (eqb w b) _ t)) (eqb-true (at (s .first) b) 0 (and-right (eqb w b) _ t))) in
       rw (← atH, ← atB, ← atW, stays)
 
-module _ (s : State) (n h : ℕ) (atN : n ≡ length (s .order)) (atH : h ≡ at (s .order) (n - 1)) where
+module _ (s : State) {n h : ℕ} (atN : n ≡ length (s .order)) (atH : h ≡ at (s .order) (n - 1)) where
   pub last-to-U : at (s .first) h ≡ 0 → shrink s n (n - 1) true ≡ leaveLast s
   unfolding leaveLast
   last-to-U e = rw (← atN, ← atH, e)
@@ -234,7 +234,7 @@ module _ (s : State) (n h : ℕ) (atN : n ≡ length (s .order)) (atH : h ≡ at
   unfolding leaveLast
   T-loses e f = rw (← atN, ← atH, ne-eqb (at (s .first) h) 0 e, f)
 
-  module _ (b : ℕ) (atB : b ≡ firstOutsideOrZero (s .round) (s .U) (s .coefficients) h) where
+  module _ {b : ℕ} (atB : b ≡ firstOutsideOrZero (s .round) (s .U) (s .coefficients) h) where
     pub last-ready : ReadyLast s h → (at (s .first) h ≡ 0 → ⊥) → (at (s .coefficients) h ≡ 0 → ⊥)
         → (at (s .first) b < 65535)
         × (testedBefore (λ x. ltb 0 x) pred (s .round .previous) b 16 h (s .coefficients) ≡ true)
@@ -257,15 +257,11 @@ module _ (s : State) (n h : ℕ) (atN : n ≡ length (s .order)) (atH : h ≡ at
       rule = rule;
     }
 
-    pub U-loses : (at (s .first) h ≡ 0 → ⊥) → (at (s .coefficients) h ≡ 0 → ⊥) → bit (s .U) b ≡ true
-        → backward 3 ≡ leaveLast s
+    pub last-leaves : (at (s .first) h ≡ 0 → ⊥) → (at (s .coefficients) h ≡ 0 → ⊥) → (rule : ℕ)
+        → cond (bit (s .U) b) 3 1 ≡ rule → backward rule ≡ leaveLast s
     unfolding leaveLast
-    U-loses e f g = rw (← atN, ← atH, ne-eqb (at (s .first) h) 0 e, ne-eqb (at (s .coefficients) h) 0 f, ← atB, g)
-
-    pub last-leaves : (at (s .first) h ≡ 0 → ⊥) → (at (s .coefficients) h ≡ 0 → ⊥) → bit (s .U) b ≡ false
-        → backward 1 ≡ leaveLast s
-    unfolding leaveLast
-    last-leaves e f g = rw (← atN, ← atH, ne-eqb (at (s .first) h) 0 e, ne-eqb (at (s .coefficients) h) 0 f, ← atB, g)
+    last-leaves e f rule g =
+        rw (← atN, ← atH, ne-eqb (at (s .first) h) 0 e, ne-eqb (at (s .coefficients) h) 0 f, ← atB, g)
 
 module _ (s : State) (i : ℕ) where
   pub is-first : i ≡ 0 → leaveFirst s ≡ leave s i
