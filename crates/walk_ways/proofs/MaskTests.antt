@@ -4,7 +4,7 @@ use mathlib.Core.Path.{_≡_, refl, sym, ap, _∙_}
 use Prim.Native.Nat.{ℕ, _<_}
 use lib.Bits.{and-le-l, bitAnd}
 use native.Mathlib.Omega.{arith}
-use Rattle.combinatorics.proofs.Basics.{absurd-bool, false-of}
+use Rattle.combinatorics.proofs.Basics.{absurd-bool, false-of, beq-same, same-beq}
 use Rattle.combinatorics.proofs.Lists.{all-in, in-all, onNumbers}
 use Rattle.combinatorics.proofs.Ranges.{in-upFrom, upFrom-in}
 use Rattle.combinatorics.specs.Lists.{upFrom}
@@ -13,28 +13,16 @@ use Rattle.rules.proofs.Masks.{bit-and}
 use Rattle.rules.specs.Mask.{bit}
 use Rattle.walk_ways.specs.Ways.{alike, maskWithin}
 
-beq-is : (a b : Bool) → Bool·beq a b ≡ true → a ≡ b
-beq-is true true e = refl
-beq-is false false e = refl
-beq-is true false e = absurd-bool (sym e)
-beq-is false true e = absurd-bool (sym e)
-
-is-beq : (a b : Bool) → a ≡ b → Bool·beq a b ≡ true
-is-beq true true e = refl
-is-beq false false e = refl
-is-beq true false e = absurd-bool e
-is-beq false true e = absurd-bool (sym e)
-
 pub alike-of : (a b : ℕ) → ((k : ℕ) → k < 16 → bit a k ≡ bit b k) → alike a b ≡ true
 unfolding alike
 alike-of a b h = in-all onNumbers
     (λ k. Bool·beq (bit a k) (bit b k))
     (upFrom 0 16)
-    (λ k m. is-beq _ _ (h k (omega (arith, upFrom-in 0 16 k m .1))))
+    (λ k m. same-beq _ _ (h k (omega (arith, upFrom-in 0 16 k m .1))))
 
 pub of-alike : (a b : ℕ) → alike a b ≡ true → (k : ℕ) → k < 16 → bit a k ≡ bit b k
 unfolding alike
-of-alike a b e k l = beq-is _ _ (all-in onNumbers (λ k. Bool·beq (bit a k) (bit b k)) (upFrom 0 16) e k
+of-alike a b e k l = beq-same _ _ (all-in onNumbers (λ k. Bool·beq (bit a k) (bit b k)) (upFrom 0 16) e k
     (in-upFrom 0 16 k (omega arith) (omega arith)))
 
 or-is : (a b : Bool) → (not a || b) ≡ true → a ≡ (a && b)
