@@ -15,8 +15,8 @@ use Rattle.rules.proofs.Masks.{bit-with}
 use Rattle.rules.specs.Mask.{bit, withIndex}
 use Rattle.chains.specs.Follow.{GoesRound, HasZero, closed, Added, FollowedFrom, FoundOnBlock}
 use Rattle.chains.specs.Sets.{bitNumber, ClearFrom}
-use Rattle.chains.specs.declared.sets.Found.{Found}
-use Rattle.chains.specs.declared.sets.Found.the-variants.{Set, NoSet}
+use Rattle.chains.specs.declared.sets.SetOfOnes.{SetOfOnes}
+use Rattle.chains.specs.declared.sets.SetOfOnes.the-variants.{Set, NoSet}
 
 -- the numbers at the indices before h, and then `one`
 abbrev pub reached : ℕ → ℕ → ℕ → ℕ → ℕ
@@ -220,7 +220,7 @@ neither {first = first} l zero-no one-no f G = ⊎-elim
     one-of (suc n) h = omega arith
 
 -- what the second search finds is what there is
-pub found-second : {p z : Point} {first end : ℕ} (old : ℕ) (r : Found) → first < end
+pub found-second : {p z : Point} {first end : ℕ} (old : ℕ) (r : SetOfOnes) → first < end
     → ((f : ℕ → ℕ) → f first ≡ 0 → GoesRound p z first end f → ⊥) → FollowedFrom p z first end 1 old r
     → FoundOnBlock p z first end old r
 found-second old (Set set) l none w = (w .0, zero-beside l w.0 none)

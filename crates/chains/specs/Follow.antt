@@ -8,8 +8,8 @@ use Rattle.grid_points.specs.Grid.{Grid, Point, at, numIndices}
 use Rattle.rules.specs.Mask.{bit}
 use Rattle.simplices.specs.Chains.{coefficientsFrom, zeroOrOne}
 use Rattle.chains.specs.Sets.{bitNumber, ClearFrom, IsSet}
-use Rattle.chains.specs.declared.sets.Found.{Found}
-use Rattle.chains.specs.declared.sets.Found.the-variants.{Set, NoSet}
+use Rattle.chains.specs.declared.sets.SetOfOnes.{SetOfOnes}
+use Rattle.chains.specs.declared.sets.SetOfOnes.the-variants.{Set, NoSet}
 
 -- 0s and 1s at the indices from `first` up to `end`, a block, with "y_h = v_h + c_h - c_(h+1) for every h, h + 1 taken
 -- round the block": at `end` the first number stands again
@@ -42,16 +42,16 @@ pub record Added (p z : Point) (first end old set : ℕ) : Type 0 where
   pub goes : GoesRound p z first end (closed first end (bitNumber set))
 
 -- what is found where the first number is to be c
-abbrev pub FollowedFrom : Point → Point → ℕ → ℕ → ℕ → ℕ → Found → Type 0
+abbrev pub FollowedFrom : Point → Point → ℕ → ℕ → ℕ → ℕ → SetOfOnes → Type 0
 FollowedFrom p z first end c old (Set set) = Added p z first end old set × (bitNumber set first ≡ c)
 FollowedFrom p z first end c old NoSet = (f : ℕ → ℕ) → f first ≡ c → GoesRound p z first end f → ⊥
 
 -- what is found on a block
-abbrev pub FoundOnBlock : Point → Point → ℕ → ℕ → ℕ → Found → Type 0
+abbrev pub FoundOnBlock : Point → Point → ℕ → ℕ → ℕ → SetOfOnes → Type 0
 FoundOnBlock p z first end old (Set set) = Added p z first end old set × HasZero first end (bitNumber set)
 FoundOnBlock p z first end old NoSet = (f : ℕ → ℕ) → GoesRound p z first end f → ⊥
 
 -- what is found of the whole list
-abbrev pub FoundOf : Grid → Point → Point → Found → Type 0
+abbrev pub FoundOf : Grid → Point → Point → SetOfOnes → Type 0
 FoundOf g p z (Set set) = IsSet (numIndices g) (coefficientsFrom g p z) set
 FoundOf g p z NoSet = zeroOrOne g (coefficientsFrom g p z) ≡ false

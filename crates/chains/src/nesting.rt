@@ -10,7 +10,7 @@ ghost use Rattle.grid.specs.Made.{shape};
 ghost use Rattle.simplices.specs.Chains.{pairwise, chainFrom, oneChain};
 ghost use Rattle.chains.specs.Listed.{listed, Listed, Filled};
 ghost use Rattle.chains.specs.Sets.{nestedSets};
-use crate::sets::Found;
+use crate::sets::SetOfOnes;
 use crate::sets::set_from;
 use grid::Grid;
 
@@ -69,7 +69,7 @@ fn fill_sets(g: Grid, p: &[u16], numbers: &[u16], count: usize, sets: &mut [u16;
     while k < count {
         let at = k * m;
         let found = set_from(g, p, &numbers[at..at + m]);
-        let Found::Set(set) = found else {
+        let SetOfOnes::Set(set) = found else {
             return false;
         };
         sets[k] = set;

@@ -12,13 +12,13 @@ use grid::wide;
 use grid::wide16;
 
 // The set of the indices with 1, if there is nothing but 0s and 1s.
-pub enum Found {
+pub enum SetOfOnes {
     Set(u16),
     NoSet,
 }
 
 // On the block of the indices from first up to end, beginning with c.
-fn follow_from(p: &[u16], z: &[u16], first: usize, end: usize, c: usize, old: u16) -> Found
+fn follow_from(p: &[u16], z: &[u16], first: usize, end: usize, c: usize, old: u16) -> SetOfOnes
     requires { ⌜ CanFollow (now p) (now z) first end old × (c ≤ 1) ⌝ }
     ensures { λ r. ⌜ FollowedFrom (now (p .entry)) (now (z .entry)) first end c old r ⌝ }
 {
@@ -32,35 +32,35 @@ fn follow_from(p: &[u16], z: &[u16], first: usize, end: usize, c: usize, old: u1
         let sum = one + wide16(p[h]);
         let less = wide16(z[h]);
         if sum < less {
-            return Found::NoSet;
+            return SetOfOnes::NoSet;
         }
         one = sum - less;
         if 1 < one {
-            return Found::NoSet;
+            return SetOfOnes::NoSet;
         }
         h += 1;
     }
     if one == c {
-        Found::Set(set)
+        SetOfOnes::Set(set)
     } else {
-        Found::NoSet
+        SetOfOnes::NoSet
     }
 }
 
 // On a block: the first coefficient is 0 or 1.
-fn on_block(p: &[u16], z: &[u16], first: usize, end: usize, old: u16) -> Found
+fn on_block(p: &[u16], z: &[u16], first: usize, end: usize, old: u16) -> SetOfOnes
     requires { ⌜ CanFollow (now p) (now z) first end old ⌝ }
     ensures { λ r. ⌜ FoundOnBlock (now (p .entry)) (now (z .entry)) first end old r ⌝ }
 {
     let from_zero = follow_from(p, z, first, end, 0, old);
     match from_zero {
-        Found::Set(set) => Found::Set(set),
-        Found::NoSet => follow_from(p, z, first, end, 1, old),
+        SetOfOnes::Set(set) => SetOfOnes::Set(set),
+        SetOfOnes::NoSet => follow_from(p, z, first, end, 1, old),
     }
 }
 
 // On all blocks.
-pub fn set_from(g: Grid, p: &[u16], z: &[u16]) -> Found
+pub fn set_from(g: Grid, p: &[u16], z: &[u16]) -> SetOfOnes
     requires { ⌜ IsMade g × (isGridPoint (shape g) (now p) ≡ true) × (isGridPoint (shape g) (now z) ≡ true) ⌝ }
     ensures { λ r. ⌜ FoundOf (shape g) (now (p .entry)) (now (z .entry)) r ⌝ }
 {
@@ -72,11 +72,11 @@ pub fn set_from(g: Grid, p: &[u16], z: &[u16]) -> Found
     while j < blocks {
         let first = wide(firsts[j]);
         let found = on_block(p, z, first, first + wide(sizes[j]), set);
-        let Found::Set(more) = found else {
-            return Found::NoSet;
+        let SetOfOnes::Set(more) = found else {
+            return SetOfOnes::NoSet;
         };
         set = more;
         j += 1;
     }
-    Found::Set(set)
+    SetOfOnes::Set(set)
 }

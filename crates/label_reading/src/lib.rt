@@ -9,7 +9,7 @@ ghost use Rattle.moves.specs.Held.{held};
 ghost use Rattle.rules.specs.Step.{State};
 ghost use Rattle.label_reading.specs.Looking.{CanLookUp, LooksUp};
 use grid::Grid;
-use marks::Reading;
+use marks::LookedUp;
 use marks::mark_in;
 use moves::Status;
 use positions::ENTRIES;
@@ -56,10 +56,10 @@ pub fn look_up(
             s,
         );
         match reading {
-            Reading::Unknown(position) => {
+            LookedUp::Unknown(position) => {
                 return Looked::Unknown(position);
             }
-            Reading::Marked(mark) => {
+            LookedUp::Marked(mark) => {
                 marks[i] = mark;
             }
         }

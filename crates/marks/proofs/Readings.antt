@@ -27,7 +27,7 @@ use Rattle.rules.specs.Read.{Exchanged, ReadyPoint, pointAfter, pointOn, positi
 use Rattle.rules.specs.Step.{State, Round, mark, source, sourceIn}
 use Rattle.moves.specs.declared.Status.{Status}
 use Rattle.marks.specs.Reading.{Readable, CanReadPoint, addUp, isBetween, labelReading, tableProblem}
-use Rattle.marks.specs.declared.Reading.the-variants.{Marked, Unknown}
+use Rattle.marks.specs.declared.LookedUp.the-variants.{Marked, Unknown}
 
 -- a grid point's label stands in the table at its position
 module _ (g : GridStruct) (binomials table : List ℕ) (R : Readable g binomials table) (y : Point) where

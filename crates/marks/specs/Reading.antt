@@ -15,8 +15,8 @@ use Rattle.rules.specs.Ready.{IndicesBelow}
 use Rattle.rules.specs.Read.{markOf, pointOn, stepAt, sourceAt, Exchanged, FallsBeside, CanCompute}
 use Rattle.rules.specs.Step.{State}
 use Rattle.moves.specs.declared.Status.{Status}
-use Rattle.marks.specs.declared.Reading.{Reading}
-use Rattle.marks.specs.declared.Reading.the-variants.{Marked, Unknown}
+use Rattle.marks.specs.declared.LookedUp.{LookedUp}
+use Rattle.marks.specs.declared.LookedUp.the-variants.{Marked, Unknown}
 use Rattle.marks.specs.declared.one_step.Found.{Found}
 use Rattle.marks.specs.declared.one_step.Found.the-variants.{At, Nothing}
 
@@ -35,7 +35,7 @@ pub record Readable (g : GridStruct) (binomials table : List ℕ) : Type 0 where
   pub whole : length table ≡ numPoints (shape g)
 
 -- Request 02, "Looking up a label may therefore answer that there is none": what is read of a point
-abbrev pub labelReading : Problem → Point → Reading
+abbrev pub labelReading : Problem → Point → LookedUp
 labelReading p y = cond (eqb (label p y) 0) (Unknown (position (p .grid) y)) (Marked (markOf p y))
 
 -- the point that has just come in can be computed, and is a grid point

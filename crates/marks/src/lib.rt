@@ -141,7 +141,7 @@ fn u32_of(x: u8) -> u32
 }
 
 // What is read of the point that has just come in: its mark; or that its label is not yet known, with its position.
-pub enum Reading {
+pub enum LookedUp {
     Marked(u32),
     Unknown(usize),
 }
@@ -159,7 +159,7 @@ pub fn mark_in(
     order: &[u32; 16],
     marks: &[u32; 16],
     s: Status,
-) -> Reading
+) -> LookedUp
     ghost { State }
     requires { λ a. ⌜ held (roundBack previous sizes) first coefficients order marks s ≡ a ⌝ }
     requires { λ a. ⌜ Readable g (now binomials) (now table) × CanReadPoint g a ⌝ }
@@ -180,7 +180,7 @@ pub fn mark_in(
     );
     let label = u32_of(read_at(table, at));
     if label == 0 {
-        return Reading::Unknown(at);
+        return LookedUp::Unknown(at);
     }
-    Reading::Marked(at as u32 * 256 + label)
+    LookedUp::Marked(at as u32 * 256 + label)
 }

@@ -47,7 +47,7 @@ use Rattle.moves.specs.declared.Outcome.{Outcome}
 use Rattle.moves.specs.declared.Outcome.the-variants.{Moved, PlaceEnd, FacetEnd}
 use Rattle.moves.specs.declared.Status.{Status}
 use Rattle.marks.specs.Reading.{labelReading, tableProblem, CanReadPoint, HasMarks}
-use Rattle.marks.specs.declared.Reading.the-variants.{Marked, Unknown as UnknownLabel}
+use Rattle.marks.specs.declared.LookedUp.the-variants.{Marked, Unknown as UnknownLabel}
 use Rattle.path_walk.specs.Finish.{Announced, CanVisit, GivesVisited, IsBegun, IsKnown, IsUnknown, labelsAt}
 use Rattle.path_walk.specs.Finish.{problemIn}
 use Rattle.path_walk.specs.Finish.{visitOf}

@@ -13,7 +13,7 @@ ghost use Rattle.path_walk.specs.Finish.{visitOf};
 use arrays::zeros;
 use end_kinds::Kind;
 use grid::Grid;
-use marks::Reading;
+use marks::LookedUp;
 use marks::mark_in;
 use moves::Outcome;
 use moves::Status;
@@ -95,10 +95,10 @@ fn visit(
             s,
         );
         match reading {
-            Reading::Unknown(position) => {
+            LookedUp::Unknown(position) => {
                 return Visited::Unknown(position);
             }
-            Reading::Marked(mark) => {
+            LookedUp::Marked(mark) => {
                 marks[i] = mark;
             }
         }

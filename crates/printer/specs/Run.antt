@@ -17,7 +17,7 @@ use Rattle.place.specs.Path.{answer}
 use Rattle.place.specs.Problem.{Problem}
 use Rattle.sheet_lines.specs.Answer.{rows}
 use Rattle.sheet_lines.specs.Sheet.{endSheet, refusedSheet, spentSheet, unknownSheet}
-use Rattle.slip.specs.declared.Reading.{Reading}
+use Rattle.slip.specs.declared.SlipReading.{SlipReading}
 use Rattle.slip.specs.Reading.{slipReadingOf}
 use Rattle.slip_fields.specs.Slip.{stands}
 use Rattle.printer.specs.Printed.{answerSheet, indexDivisions}
@@ -45,22 +45,22 @@ pub record Prints (sheet old : List ℕ) (count : ℕ) (new : List ℕ) : Type 0
   pub stands : new ≡ front sheet old
 
 -- what a reading leaves to the run: a grid that was made, and the start's numbers at the front of the array
-pub record HasGrid (r : Reading) : Type 0 where
+pub record HasGrid (r : SlipReading) : Type 0 where
   pub made : IsMade (r .grid)
   pub whole : length (r .start) ≡ 16
 
 -- the reading of a slip that is accepted as it is read and has no labels
-pub record IsGameReading (slip : List ℕ) (r : Reading) : Type 0 where
+pub record IsGameReading (slip : List ℕ) (r : SlipReading) : Type 0 where
   pub isReading : r ≡ slipReadingOf slip
   pub read : r .code ≡ 0
   pub noLabels : stands slip 2 ≡ false
 
 -- the problem of a reading and a label table
-abbrev pub problemWith : Reading → List ℕ → Problem
+abbrev pub problemWith : SlipReading → List ℕ → Problem
 problemWith r labels = record { grid = shape (r .grid); start = take (r .grid .indices) (r .start); labels = labels }
 
 -- and that of a reading and losses
-abbrev pub lossProblem : Reading → List ℕ → Problem
+abbrev pub lossProblem : SlipReading → List ℕ → Problem
 lossProblem r losses = problemWith r (labels (shape (r .grid)) losses)
 
 -- what the run on a problem prints

@@ -10,7 +10,7 @@ ghost use Rattle.printer.specs.Run.{problemWith, lossProblem, runSheet};
 use finder::Answer;
 use grid::Grid;
 use slip::Losses;
-use slip::Reading;
+use slip::SlipReading;
 use slip::Table;
 
 // The division of each index's block.
@@ -65,7 +65,7 @@ fn print_answer(answer: Answer, grid: Grid, buffer: &[u16], sheet: &mut [u8; 409
 }
 
 // The run on a label table, and its sheet.
-fn print_run(reading: Reading, labels: &[u8], sheet: &mut [u8; 4096]) -> usize
+fn print_run(reading: SlipReading, labels: &[u8], sheet: &mut [u8; 4096]) -> usize
     requires { ⌜ HasGrid reading ⌝ }
     ensures { λ r. ⌜ Prints (runSheet (problemWith reading (now (labels .entry))) (reading .budget))
         (now (sheet .entry)) r (now (sheet .exit)) ⌝ }
@@ -80,7 +80,7 @@ fn print_run(reading: Reading, labels: &[u8], sheet: &mut [u8; 4096]) -> usize
 
 // The run on the labels of losses, which are filled in here.
 fn label_and_print(
-    reading: Reading,
+    reading: SlipReading,
     losses: &[u16],
     labels: &mut [u8],
     sheet: &mut [u8; 4096],
@@ -96,7 +96,7 @@ fn label_and_print(
 }
 
 // The run on losses, with P bytes for their labels.
-fn print_labelled(reading: Reading, losses: &[u16], sheet: &mut [u8; 4096]) -> usize
+fn print_labelled(reading: SlipReading, losses: &[u16], sheet: &mut [u8; 4096]) -> usize
     requires { ⌜ HasGrid reading × IsTable (shape (reading .grid)) (now losses) ⌝ }
     ensures { λ r. ⌜ Prints (runSheet (lossProblem reading (now (losses .entry))) (reading .budget))
         (now (sheet .entry)) r (now (sheet .exit)) ⌝ }
@@ -107,7 +107,7 @@ fn print_labelled(reading: Reading, losses: &[u16], sheet: &mut [u8; 4096]) -> u
 }
 
 // The sheet of a slip with a game or losses. 1,944 losses are the most that a grid has.
-fn print_game(slip: &[u8], reading: Reading, sheet: &mut [u8; 4096]) -> usize
+fn print_game(slip: &[u8], reading: SlipReading, sheet: &mut [u8; 4096]) -> usize
     requires { ⌜ IsGameReading (now slip) reading ⌝ }
     ensures { λ r. ⌜ Prints (sheetOf (now (slip .entry))) (now (sheet .entry)) r (now (sheet .exit)) ⌝ }
 {

@@ -23,12 +23,12 @@ use Rattle.slip_fields.proofs.Runs.{answers, whole}
 use Rattle.slip.proofs.Readings.{number-zero, reading-accepted}
 use Rattle.slip.proofs.Tables.{is-game, are-losses}
 use Rattle.slip.specs.declared.Losses.the-variants.{Count, OutOfRange}
-use Rattle.slip.specs.declared.Reading.{Reading}
+use Rattle.slip.specs.declared.SlipReading.{SlipReading}
 use Rattle.slip.specs.declared.Table.the-variants.{Game, LossesFrom}
 use Rattle.slip.specs.Reading.{slipReadingOf, lossesOnSlip, tableNamed, WithLosses}
 use Rattle.slip_fields.specs.Slip.{stands, slipGrid, slipLosses, fieldAt, slipQuestion11, slipReadQuestions}
 
-module _ (slip : List ℕ) (r : Reading) (room : List ℕ) (w : WithLosses slip r room) where
+module _ (slip : List ℕ) (r : SlipReading) (room : List ℕ) (w : WithLosses slip r room) where
   code : slipReadingOf slip .code ≡ 0
   code = sym (ap (λ x. x .code) (w .isReading)) ∙ w .read
 
@@ -59,7 +59,7 @@ pub record Brought (slip : List ℕ) (begin : ℕ) : Type 0 where
   pub ends : length slip ≡ begin + 2 * numLosses (slipGrid slip)
   pub few : numLosses (slipGrid slip) ≤ 1944
 
-pub brought : (slip : List ℕ) (r : Reading) (room : List ℕ) → WithLosses slip r room → (begin : ℕ)
+pub brought : (slip : List ℕ) (r : SlipReading) (room : List ℕ) → WithLosses slip r room → (begin : ℕ)
     → r .table ≡ LossesFrom begin → Brought slip begin
 brought slip r room w begin e =
     let zero = asked slip r room w in

@@ -22,7 +22,7 @@ use Rattle.slip_fields.proofs.Laws.{inexact}
 use Rattle.slip_fields.proofs.Runs.{number-is, then-runs}
 use Rattle.slip.specs.declared.Budget.the-variants.{Is, Missing as NoBudget}
 use Rattle.slip.specs.declared.Field.the-variants.{EndsAt, Missing}
-use Rattle.slip.specs.declared.Reading.{Reading}
+use Rattle.slip.specs.declared.SlipReading.{SlipReading}
 use Rattle.slip.specs.declared.Table.{Table}
 use Rattle.slip.specs.declared.Table.the-variants.{LabelsFrom, Game, LossesFrom, Missing as NoTable}
 use Rattle.slip.specs.Reading.{refusedReading, accepted, slipReadingOf, headOf, startOf, budgetOf, tableOf}
@@ -83,7 +83,7 @@ module _ (slip : List ℕ) where
   unfolding slipReadingOf
   refused-grid n e f h = rw (number-is, e, f, ne-eqb n 0 h, ne-eqb n 0 h)
 
-  fields-number : (a b : Bool) (x : Reading)
+  fields-number : (a b : Bool) (x : SlipReading)
       → cond (eqb (cond a (cond b 0 15) 14) 0) x (refusedReading (cond a (cond b 0 15) 14))
       ≡ cond a (cond b x (refusedReading 15)) (refusedReading 14)
   fields-number true true x = refl

@@ -20,7 +20,7 @@ use Rattle.slip.specs.declared.Field.{Field}
 use Rattle.slip.specs.declared.Field.the-variants.{EndsAt, Missing}
 use Rattle.slip.specs.declared.Losses.{Losses}
 use Rattle.slip.specs.declared.Losses.the-variants.{Count, OutOfRange}
-use Rattle.slip.specs.declared.Reading.{Reading}
+use Rattle.slip.specs.declared.SlipReading.{SlipReading}
 use Rattle.slip.specs.declared.Start.{Start}
 use Rattle.slip.specs.declared.Table.{Table}
 use Rattle.slip.specs.declared.Table.the-variants.{LabelsFrom, Game, LossesFrom, Missing as NoTable}
@@ -51,7 +51,7 @@ tableNamed slip = cond (stands slip 2) (LabelsFrom (fieldAt slip 2))
 unfoldable pub tableOf : List ℕ → Table
 tableOf slip = cond (question14 slip .answeredYes) (tableNamed slip) NoTable
 
-abbrev pub slipReading : ℕ → GridStruct → List ℕ → ℕ → Table → Reading
+abbrev pub slipReading : ℕ → GridStruct → List ℕ → ℕ → Table → SlipReading
 slipReading code grid start budget table = record {
   code = code;
   grid = grid;
@@ -61,15 +61,15 @@ slipReading code grid start budget table = record {
 }
 
 -- "A refusal returns its number", and nothing else
-abbrev pub refusedReading : ℕ → Reading
+abbrev pub refusedReading : ℕ → SlipReading
 refusedReading number = slipReading number noGrid (replicate 16 0) 0 NoTable
 
 -- what an accepted slip says
-abbrev pub accepted : List ℕ → Reading
+abbrev pub accepted : List ℕ → SlipReading
 accepted slip = slipReading 0 (gridOf (slipGrid slip)) (padded 16 (slipStart slip)) (slipBudget slip) (tableNamed slip)
 
 -- the number of the first of the questions up to 15 that is answered no, or 0 and what the slip says
-unfoldable pub slipReadingOf : List ℕ → Reading
+unfoldable pub slipReadingOf : List ℕ → SlipReading
 slipReadingOf slip = let number = firstNo (slipReadQuestions slip) in cond (eqb number 0) (accepted slip)
     (refusedReading number)
 
@@ -91,7 +91,7 @@ pub record Asked (slip : List ℕ) (grid : GridStruct) : Type 0 where
   pub isGrid : grid ≡ gridOf (slipGrid slip)
 
 -- a reading of a slip with a game or losses, and room for the losses
-pub record WithLosses (slip : List ℕ) (r : Reading) (room : List ℕ) : Type 0 where
+pub record WithLosses (slip : List ℕ) (r : SlipReading) (room : List ℕ) : Type 0 where
   pub isReading : r ≡ slipReadingOf slip
   pub read : r .code ≡ 0
   pub noLabels : stands slip 2 ≡ false

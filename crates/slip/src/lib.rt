@@ -43,7 +43,7 @@ pub enum Table {
 }
 
 // What a slip says, or the number of the question answered no beside zeros.
-pub struct Reading {
+pub struct SlipReading {
     pub code: u8,
     pub grid: Grid,
     // the start's numbers at the front, 0 behind
@@ -58,10 +58,10 @@ pub enum Losses {
     OutOfRange,
 }
 
-fn refused(code: u8) -> Reading
+fn refused(code: u8) -> SlipReading
     ensures { λ r. ⌜ r ≡ refusedReading code ⌝ }
 {
-    Reading {
+    SlipReading {
         code,
         grid: Grid::none(),
         start: [0u16; 16],
@@ -103,7 +103,7 @@ fn is_known(slip: &[u8], table: Table) -> bool
 }
 
 // Questions 14 and 15, of the fields, which begin at a position.
-fn read_fields(slip: &[u8], at: usize, grid: Grid) -> Reading
+fn read_fields(slip: &[u8], at: usize, grid: Grid) -> SlipReading
     requires { ⌜ Asked (now slip) grid × (at ≡ headLength (now slip)) ⌝ }
     ensures { λ r. ⌜ r ≡ slipReadingOf (now (slip .entry)) ⌝ }
 {
@@ -123,7 +123,7 @@ fn read_fields(slip: &[u8], at: usize, grid: Grid) -> Reading
         return refused(15);
     }
     let start = read.start;
-    Reading {
+    SlipReading {
         code: 0,
         grid,
         start,
@@ -133,7 +133,7 @@ fn read_fields(slip: &[u8], at: usize, grid: Grid) -> Reading
 }
 
 // Questions 13, 1 to 4, 14 and 15 about any bytes.
-pub fn read(slip: &[u8]) -> Reading
+pub fn read(slip: &[u8]) -> SlipReading
     ensures { λ r. ⌜ r ≡ slipReadingOf (now (slip .entry)) ⌝ }
 {
     let Field::EndsAt(at) = fields::head(slip) else {
@@ -149,7 +149,7 @@ pub fn read(slip: &[u8]) -> Reading
 }
 
 // The part of the slip where a reading has the labels.
-pub fn labels_of(slip: &[u8], reading: Reading) -> &[u8]
+pub fn labels_of(slip: &[u8], reading: SlipReading) -> &[u8]
     ensures { λ r. ⌜ now r ≡ labelsIn (now (slip .entry)) (reading .table) ⌝ }
 {
     let table = reading.table;
@@ -163,7 +163,7 @@ pub fn labels_of(slip: &[u8], reading: Reading) -> &[u8]
 }
 
 // The losses that are brought, to the front of the room, and question 11.
-fn brought(slip: &[u8], begin: usize, reading: Reading, room: &mut [u16]) -> Losses
+fn brought(slip: &[u8], begin: usize, reading: SlipReading, room: &mut [u16]) -> Losses
     requires { ⌜ WithLosses (now slip) reading (now room) × (reading .table ≡ Table.LossesFrom begin) ⌝ }
     ensures { λ r. ⌜ r ≡ lossesOnSlip (now (slip .entry)) ⌝ }
     ensures { λ _. ⌜ now (room .exit) ≡ front (slipLosses (now (slip .entry))) (now (room .entry)) ⌝ }
@@ -177,7 +177,7 @@ fn brought(slip: &[u8], begin: usize, reading: Reading, room: &mut [u16]) -> Los
 }
 
 // The losses of a slip with a game or losses, to the front of the room, and question 11.
-pub fn losses_of(slip: &[u8], reading: Reading, room: &mut [u16]) -> Losses
+pub fn losses_of(slip: &[u8], reading: SlipReading, room: &mut [u16]) -> Losses
     requires { ⌜ WithLosses (now slip) reading (now room) ⌝ }
     ensures { λ r. ⌜ r ≡ lossesOnSlip (now (slip .entry)) ⌝ }
     ensures { λ _. ⌜ now (room .exit) ≡ front (slipLosses (now (slip .entry))) (now (room .entry)) ⌝ }

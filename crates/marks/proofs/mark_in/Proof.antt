@@ -5,7 +5,7 @@ use native.Mathlib.Omega.{arith}
 use Rattle.grid.proofs.Fields.{made-accepted}
 use Rattle.positions.proofs.Positions.{position-below}
 use Rattle.marks.proofs.Readings.{in-table, read-gap, read-mark}
-use Rattle.marks.specs.declared.Reading.the-variants.{Marked, Unknown}
+use Rattle.marks.specs.declared.LookedUp.the-variants.{Marked, Unknown}
 use Rattle.rules.specs.Step.{mark}
 use borrow.Author.Needs.{needs}
 use Rattle.marks.proofs.mark_in.Statement.{statement}
