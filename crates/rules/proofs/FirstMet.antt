@@ -37,7 +37,7 @@ abbrev pub homeOrFree : ℕ → ℕ → ℕ → ℕ → Bool
 homeOrFree t u h k = eqb k h || not (bit t k) && not (bit u k)
 
 module _ (way : List ℕ) (q : ℕ → Bool) where
-  pub met-spent : (n h : ℕ) → n ≡ 0 → h ≡ firstMet way q n h
+  met-spent : (n h : ℕ) → n ≡ 0 → h ≡ firstMet way q n h
   unfolding firstMet
   met-spent zero h e = refl
   met-spent (suc n) h e = absurd (omega arith)
@@ -47,7 +47,26 @@ module _ (way : List ℕ) (q : ℕ → Bool) where
   met-here zero h e = refl
   met-here (suc n) h e = rw e
 
-  pub met-onward : (n h : ℕ) → (n ≡ 0 → ⊥) → q h ≡ false → firstMet way q (n - 1) (at way h) ≡ firstMet way q n h
+  met-onward : (n h : ℕ) → (n ≡ 0 → ⊥) → q h ≡ false → firstMet way q (n - 1) (at way h) ≡ firstMet way q n h
   unfolding firstMet
   met-onward zero h l e = absurd (l refl)
   met-onward (suc n) h l e = let z : suc n - 1 ≡ n = omega arith in rw (z, e)
+
+-- a walk of which `left` steps are left from `here` on: they meet what the whole walk meets
+pub record Meeting (way : List ℕ) (q : ℕ → Bool) (whole here left : ℕ) : Type 0 where
+  pub same : firstMet way q left here ≡ whole
+  pub low : here < 16
+
+module _ {way : List ℕ} {q : ℕ → Bool} {whole here left : ℕ} (M : Meeting way q whole here left) where
+  pub meets-spent : left ≡ 0 → here ≡ whole
+  meets-spent e = met-spent way q left here e ∙ M .same
+
+  pub meets-here : q here ≡ true → here ≡ whole
+  meets-here e = met-here way q left here e ∙ M .same
+
+  pub meets-onward : IndicesBelow way → (left ≡ 0 → ⊥) → q here ≡ false → {next : ℕ} → next ≡ at way here
+      → Meeting way q whole next (left - 1)
+  meets-onward B l e n = record {
+    same = rw n (met-onward way q left here l e ∙ M .same);
+    low = rw n (below way B here);
+  }

@@ -1,25 +1,23 @@
 -- `walk::first_outside_or_zero` meets its contract. The invariant: the walk from here with the steps left meets what
 -- the whole walk meets. The measure: the steps left. Assumes nothing.
-use mathlib.Core.Bool.{false, true, not}
+use mathlib.Core.Bool.{true, not}
 use mathlib.Core.List.{[]}
 use mathlib.Core.Path.{_≡_, sym, ap, _∙_}
-use Prim.Native.Nat.{_<_}
 use borrow.Author.Needs.{needs}
 use borrow.Author.Tests.{eq-eqb, ne-eqb, not-false}
-use lib.Dec.{eqb}
 use native.Mathlib.Omega.{arith}
 use Rattle.combinatorics.proofs.Basics.{or-left, or-right}
 use Rattle.grid_points.specs.Grid.{at}
 use Rattle.rules.specs.Mask.{bit}
 use Rattle.arrays.specs.Rounds.{roundOf}
-use Rattle.rules.specs.Step.{firstMet, firstOutsideOrZero}
-use Rattle.rules.proofs.FirstMet.{outsideOrZero, below, met-spent, met-here, met-onward}
+use Rattle.rules.specs.Step.{firstOutsideOrZero}
+use Rattle.rules.proofs.FirstMet.{Meeting, below, meets-here, meets-onward, meets-spent, outsideOrZero}
 use Rattle.arrays.proofs.walk.first_outside_or_zero.Statement.{statement}
 use Rattle.arrays.proofs.walk.first_outside_or_zero.Tie as tie
 
 abbrev Inv-loop : tie.InvT-loop
 Inv-loop way sizes mask c h at₀ left₀ at left =
-    (firstMet way (outsideOrZero mask c) left at ≡ firstOutsideOrZero (roundOf way [] sizes) mask c h) × (at < 16)
+    Meeting way (outsideOrZero mask c) (firstOutsideOrZero (roundOf way [] sizes) mask c h) at left
 
 abbrev μ-loop : tie.MeasureT-loop
 μ-loop way sizes mask c h at₀ left₀ at left = left
@@ -38,10 +36,11 @@ wide-requires-2 c κs = search needs
 
 loop-holds : tie.Need-loop-holds Inv-loop μ-loop
 loop-holds c =
-    let s = c .before .before .before .before in (
-      rw (c .before .before .wide .ensures, c .wide2 .ensures),
-      rw (c .before .before .wide .ensures) (below (s .args .previous .now) (s .pre .1) (s .args .h)),
-    )
+    let s = c .before .before .before .before in
+    record {
+      same = rw (c .before .before .wide .ensures, c .wide2 .ensures);
+      low = rw (c .before .before .wide .ensures) (below (s .args .previous .now) (s .pre .1) (s .args .h));
+    }
 
 has-requires : tie.Need-has-requires Inv-loop μ-loop
 has-requires c κs = search needs
@@ -68,44 +67,24 @@ loop-again : tie.Need-loop-again Inv-loop μ-loop
 loop-again c =
     let s = c .before .before .before .before .before .before .before .before .before .before .before .before in
     let l = c .before .before .before .before .before .before .before .loop in
-    let q = outsideOrZero (s .args .u) (s .args .c .now) in
     let isIn : bit (s .args .u) (l .at) ≡ true = sym (c .before .before .before .before .before .has .ensures)
     ∙ not-false _ (c .before .before .before .before .if2 .left) in
-    let on : q (l .at) ≡ false = rw (isIn, ne-eqb (at (s .args .c .now) (l .at)) 0 (c .before .before .if3 .left)) in (
-      rw (c .wide3 .ensures)
-          (met-onward (s .args .previous .now) q (l .left) (l .at)
-          (c .before .before .before .before .before .before .if1 .left) on
-          ∙ l .inv .0),
-      rw (c .wide3 .ensures) (below (s .args .previous .now) (s .pre .1) (l .at)),
-    )
+    meets-onward (l .inv) (s .pre .1) (c .before .before .before .before .before .before .if1 .left)
+    (rw (isIn, ne-eqb (at (s .args .c .now) (l .at)) 0 (c .before .before .if3 .left))) (c .wide3 .ensures)
 
 returns : tie.Need-returns Inv-loop μ-loop
-returns c =
-    let a = c .before .before .before .before .before .before .args in
-    let l = c .before .loop in (
-      met-spent (a .previous .now) (outsideOrZero (a .u) (a .c .now)) (l .left) (l .at) (c .if1 .taken) ∙ l .inv .0,
-      l .inv .1,
-    )
+returns c = let l = c .before .loop in (meets-spent (l .inv) (c .if1 .taken), l .inv .low)
 
 returns-2 : tie.Need-returns-2 Inv-loop μ-loop
 returns-2 c =
-    let a = c .before .before .before .before .before .before .before .before .args in
     let l = c .before .before .before .loop in
-    let out : not (bit (a .u) (l .at)) ≡ true = ap not (sym (c .before .has .ensures)) ∙ c .if2 .taken in (
-      met-here (a .previous .now) (outsideOrZero (a .u) (a .c .now)) (l .left) (l .at) (or-left _ _ out) ∙ l .inv .0,
-      l .inv .1,
-    )
+    (meets-here (l .inv) (or-left _ _ (ap not (sym (c .before .has .ensures)) ∙ c .if2 .taken)), l .inv .low)
 
 returns-3 : tie.Need-returns-3 Inv-loop μ-loop
 returns-3 c =
     let a = c .before .before .before .before .before .before .before .before .before .before .args in
     let l = c .before .before .before .before .before .loop in
-    let null : eqb (at (a .c .now) (l .at)) 0 ≡ true = eq-eqb _ _ (c .if3 .taken) in (
-      met-here (a .previous .now) (outsideOrZero (a .u) (a .c .now)) (l .left) (l .at)
-          (or-right (not (bit (a .u) (l .at))) _ null)
-          ∙ l .inv .0,
-      l .inv .1,
-    )
+    (meets-here (l .inv) (or-right (not (bit (a .u) (l .at))) _ (eq-eqb _ _ (c .if3 .taken))), l .inv .low)
 
 pub first-outside-or-zero-spec : {M : Type 1} → statement M
 first-outside-or-zero-spec =
