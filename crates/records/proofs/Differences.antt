@@ -84,12 +84,15 @@ module _ (a b : ℕ) where
       (λ (q : Bool·beq (bit a k) (bit b k) ≡ false). absurd (omega (arith, sym (differs-here (suc n) k q) ∙ e)))
       (true-or-false (Bool·beq (bit a k) (bit b k)))
 
+  pub none-alike : differing a b ≡ 16 → (i : ℕ) → i < 16 → bit a i ≡ bit b i
+  none-alike e i l = alike-from 16 0 (omega arith) e i (omega arith) l
+
   pub alike-none : a < 65536 → b < 65536 → eqb a b ≡ eqb (differing a b) 16
   alike-none la lb = ⊎-elim
       (λ (e : a ≡ b). eq-eqb a b e ∙ sym (eq-eqb (differing a b) 16 (same-none e)))
       (λ n. ne-eqb a b n
       ∙ sym (ne-eqb (differing a b) 16
-      (λ d. n (same-mask a b la lb (λ i l. alike-from 16 0 (omega arith) d i (omega arith) l)))))
+      (λ d. n (same-mask a b la lb (none-alike d)))))
       (same-or a b)
 
 -- a record's length, by what T and U do

@@ -3,20 +3,21 @@
 use mathlib.Core.Bool.{true, false}
 use mathlib.Core.List.{List, [], _∷_}
 use mathlib.Core.Logic.{⊎-elim}
-use mathlib.Core.Path.{_≡_, sym, ap, _∙_}
+use mathlib.Core.Path.{_≡_, refl, sym, ap, _∙_}
 use Prim.Native.Nat.{ℕ, _<_}
 use borrow.Author.Tests.{eq-eqb, ne-eqb}
 use lib.Dec.{eqb}
 use lib.ListN.{length, replicate, take}
 use lib.Seq.{paste, take-length}
 use native.Mathlib.Omega.{arith}
-use Rattle.combinatorics.proofs.Basics.{absurd-bool, both, true-or-false}
+use Rattle.combinatorics.proofs.Basics.{absurd-bool, both, same-or, true-or-false}
 use Rattle.combinatorics.proofs.Fronts.{front-taken}
 use Rattle.combinatorics.proofs.Lists.{onNumbers}
 use Rattle.combinatorics.specs.Lists.{isIn}
 use Rattle.place.specs.Places.{Simplex, setT, setU}
 use Rattle.place.specs.Problem.{Problem}
-use Rattle.rules.specs.Mask.{bit}
+use Rattle.rules.proofs.Masks.{bit-with, bit-without}
+use Rattle.rules.specs.Mask.{bit, withIndex, withoutIndex}
 use Rattle.trail.proofs.Rules.{recorded}
 use Rattle.trail.proofs.Outside.{in-outside}
 use Rattle.trail.proofs.Shapes.{less-of}
@@ -36,11 +37,39 @@ within-other : (u v : List ℕ) → outside eqb v u ≡ [] → (k : ℕ) → isI
 within-other u v q k m =
     ⊎-elim (λ y. y) (λ z. absurd-bool (sym (rw q at (in-outside onNumbers k u v m z)))) (true-or-false (isIn eqb k v))
 
+-- the mask of the first set, changed as the set is, has the indices of the second
+module _ {a : ℕ} {u : List ℕ} (A : IsMask a u) (v : List ℕ) where
+  pub kept-bits : outside eqb u v ≡ [] → outside eqb v u ≡ [] → (k : ℕ) → k < 16 → bit a k ≡ isIn eqb k v
+  kept-bits e f k l = A .bits k l ∙ both _ _ (within-other u v f k) (within-other v u e k)
+
+  pub gained-bits : {h : ℕ} → h < 16 → outside eqb u v ≡ h ∷ [] → outside eqb v u ≡ []
+      → (bit a h ≡ false) × ((k : ℕ) → k < 16 → bit (withIndex a h) k ≡ isIn eqb k v)
+  gained-bits {h} m e f =
+      let L = less-of v u e f in (
+        A .bits h m ∙ L .out,
+        λ k l. bit-with a h k m l
+            ∙ ⊎-elim
+            (λ (z : k ≡ h). rw (z, eq-eqb h h refl) (sym (L .has)))
+            (λ n. rw (ne-eqb k h n) (A .bits k l ∙ L .rest k n))
+            (same-or k h),
+      )
+
+  pub lost-bits : {h : ℕ} → outside eqb u v ≡ [] → outside eqb v u ≡ h ∷ []
+      → (bit a h ≡ true) × ((k : ℕ) → k < 16 → bit (withoutIndex a h) k ≡ isIn eqb k v)
+  lost-bits {h} e f =
+      let L = less-of u v f e in
+      let m = A .below h L.has in (
+        A .bits h m ∙ L .has,
+        λ k l. bit-without a h k m l
+            ∙ ⊎-elim
+            (λ (z : k ≡ h). rw (z, eq-eqb h h refl) (sym (L .out)))
+            (λ n. rw (ne-eqb k h n) (A .bits k l ∙ sym (L .rest k n)))
+            (same-or k h),
+      )
+
 module _ {a b : ℕ} {u v : List ℕ} (A : IsMask a u) (B : IsMask b v) where
   pub kept : outside eqb u v ≡ [] → outside eqb v u ≡ [] → eqb (differing a b) 16 ≡ true
-  kept e f = eq-eqb (differing a b) 16
-      (none-differs a b
-      (λ k l. A .bits k l ∙ both _ _ (within-other u v f k) (within-other v u e k) ∙ sym (B .bits k l)))
+  kept e f = eq-eqb (differing a b) 16 (none-differs a b (λ k l. kept-bits A v e f k l ∙ sym (B .bits k l)))
 
   differs : {h : ℕ} → h < 16 → (bit a h ≡ bit b h → ⊥) → ((k : ℕ) → (k ≡ h → ⊥) → isIn eqb k u ≡ isIn eqb k v)
       → (eqb h 16 ≡ false) × (differing a b ≡ h)

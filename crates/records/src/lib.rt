@@ -63,7 +63,7 @@ pub fn difference(a: u16, b: u16) -> usize
 }
 
 // Two sets are the same.
-fn alike(a: u16, b: u16) -> bool
+pub fn alike(a: u16, b: u16) -> bool
     ensures { λ r. ⌜ r ≡ eqb (differing a b) 16 ⌝ }
 {
     a == b

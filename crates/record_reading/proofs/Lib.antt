@@ -1,0 +1,3 @@
+pub mod Otherwise
+pub mod Says
+pub mod Recorded
