@@ -1,8 +1,7 @@
 // The records of a trail behind the first, one after another. What is public here is for the reader, which shows what
 // it asks.
 ghost use mathlib.Core.Path.{_≡_};
-ghost use Prim.Native.Nat.{_%_, _≤_, _<_};
-ghost use lib.ListN.{getD, length};
+ghost use lib.ListN.{length};
 ghost use Rattle.arrays.specs.Rounds.{round};
 ghost use Rattle.moves.specs.Held.{held, stateOf};
 ghost use Rattle.rules.specs.Step.{State};
@@ -12,10 +11,8 @@ use grid::Grid;
 use moves::Outcome;
 use moves::Status;
 use positions::ENTRIES;
-use records::Sets;
+use record_reading::said_at;
 use trail_steps::arrive;
-use trail_steps::way_on;
-use ways::gone_by;
 use ways::moved_by;
 
 // Where the records lead: to a place, with the number of them that bring a point in; or nowhere.
@@ -24,16 +21,8 @@ pub enum Reached {
     Nowhere,
 }
 
-// Bit 0 of the byte at a position, which stands in a record's map byte if the record brings a point in.
-fn low_bit(trail: &[u8], at: usize) -> u64
-    requires { ⌜ at < length (now trail) ⌝ }
-    ensures { λ r. ⌜ (r ≡ getD (now (trail .entry)) at 0 % 2) × (r ≤ 1) ⌝ }
-{
-    let byte = trail[at];
-    (byte % 2) as u64
-}
-
-// The place to which the next records lead from the place in the arrays. The number of records left counts down.
+// The place to which the next records lead from the place in the arrays. The number of records left counts down, and
+// those by rules 6 and 7, which bring no point in, are counted.
 pub fn follow(
     g: Grid,
     binomials: &[u16; ENTRIES],
@@ -60,12 +49,12 @@ pub fn follow(
 {
     let mut s = begun;
     let mut at = from;
-    let mut came = 0u64;
+    let mut without = 0u64;
     let mut left = number;
     while 0 < left {
-        let way = way_on(trail, at, marks, s, g.indices);
-        let gone = gone_by(way, marks, s);
-        let before = Sets { t: s.t, u: s.u };
+        let bytes = &trail[at..];
+        let said = said_at(bytes, marks, s, g.indices);
+        let way = said.way;
         let outcome = moved_by(
             previous,
             next,
@@ -77,37 +66,34 @@ pub fn follow(
             s,
             way,
         );
+        let Outcome::Moved(status) = outcome else {
+            return Reached::Nowhere;
+        };
+        if !arrive(
+            g,
+            binomials,
+            tails,
+            previous,
+            sizes,
+            first,
+            coefficients,
+            order,
+            marks,
+            status,
+            said,
+            bytes,
+        ) {
+            return Reached::Nowhere;
+        }
+        s = status;
+        if 5 < s.rule {
+            without += 1;
+        }
+        at += said.bytes;
         left -= 1;
-        if let Outcome::PlaceEnd(_) = outcome {
-            return Reached::Nowhere;
-        }
-        if let Outcome::FacetEnd(_) = outcome {
-            return Reached::Nowhere;
-        }
-        if let Outcome::Moved(status) = outcome {
-            let bytes = arrive(
-                g,
-                binomials,
-                tails,
-                previous,
-                sizes,
-                first,
-                coefficients,
-                order,
-                marks,
-                before,
-                status,
-                gone,
-                trail,
-                at,
-            );
-            if bytes == 0 {
-                return Reached::Nowhere;
-            }
-            s = status;
-            came += low_bit(trail, at);
-            at += bytes;
-        }
     }
-    Reached::At { status: s, came }
+    Reached::At {
+        status: s,
+        came: number - without,
+    }
 }

@@ -1,4 +1,3 @@
-pub mod Ways
 pub mod Named
 pub mod Arrived
 pub mod NextPlace

@@ -1,85 +1,112 @@
 -- `trail_following::follow` meets its contract. The loop's invariant: the arrays hold a place, from which the records
--- that are left lead where all lead from the first. The measure: the records left. Assumes nothing.
+-- that are left lead where all lead from the first; of those that are read, all but `without` brought a point in. The
+-- measure: the records left. Assumes nothing.
+use mathlib.Core.Bool.{true, false, cond}
 use mathlib.Core.List.{List, [], _∷_}
+use mathlib.Core.Logic.{⊎-elim}
 use mathlib.Core.Option.{none}
 use mathlib.Core.Path.{_≡_, refl, sym, ap, _∙_, subst}
 use Prim.Native.Nat.{ℕ, suc, _+_, _-_, _%_, _≤_, _<_}
 use borrow.Author.Needs.{needs}
+use borrow.Author.Tests.{le-ltb, lt-ltb, not-false, not-true}
+use borrow.Rule.Slice.PartAt.{part-to-end}
+use denote.Enum.Declared.{tagOf}
+use lib.Dec.{ltb}
 use lib.ListN.{drop, getD, length, take}
-use lib.Seq.{getD-drop}
 use native.Mathlib.Omega.{arith}
-use Rattle.arrays.specs.Rounds.{roundOf}
+use types.Run.{OneOf}
+use Rattle.arrays.specs.Rounds.{noRound, roundOf}
 use Rattle.grid.proofs.Fields.{indices-few, made-indices}
 use Rattle.grid_points.specs.Grid.{numIndices}
 use Rattle.grid.specs.Made.{shape}
+use Rattle.moves.proofs.Outcome.{the-type}
 use Rattle.moves.specs.Held.{answered, stateOf}
 use Rattle.moves.specs.declared.Outcome.{Outcome}
-use Rattle.moves.specs.declared.Outcome.the-variants.{Moved}
+use Rattle.moves.specs.declared.Outcome.the-variants.{FacetEnd, Moved, PlaceEnd}
 use Rattle.moves.specs.declared.Status.{Status}
 use Rattle.place.specs.Places.{Simplex}
-use Rattle.records.proofs.Standing.{not-standing, standing}
+use Rattle.record_reading.specs.Said.{IsSaid, saidBy}
+use Rattle.record_reading.specs.declared.Said.{Said}
 use Rattle.rules.specs.Ready.{SixteenEach}
-use Rattle.rules.specs.Step.{After, Round, State}
+use Rattle.rules.specs.Step.{After, Round, State, goes}
 use Rattle.trail.specs.Change.{change}
 use Rattle.trail.specs.Trail.{rebuiltFrom}
 use Rattle.trail_places.proofs.Reached.{Arrives}
-use Rattle.trail_steps.proofs.Arrived.{OnlyPlace, WayLeads, facet-ends, gone-low, place-ends, way-fits, way-leads}
-use Rattle.trail_steps.proofs.Arrived.{way-ready}
+use Rattle.trail_steps.proofs.Arrived.{OnlyPlace, WayLeads, facet-ends, only-long, place-ends, way-leads, way-ready}
 use Rattle.trail_steps.proofs.Named.{order-low, shows-few}
-use Rattle.trail_steps.proofs.NextPlace.{can-find, come-low, nowhere, on, same-way, to-next, to-none}
-use Rattle.trail_steps.specs.Reading.{HasRead, Leads, comePosition, problemBy, wayOf}
-use Rattle.trail_following.proofs.Led.{Led, led-all, led-few, led-none, led-on}
+use Rattle.trail_steps.proofs.NextPlace.{can-find, come-low, low-bit, nowhere, on, same-said, to-next, to-none}
+use Rattle.trail_steps.specs.Reading.{HasRead, Leads, agrees, problemBy, wayOf}
+use Rattle.trail_following.proofs.Led.{Led, led-all, led-none, led-on}
 use Rattle.trail_following.proofs.follow.Statement.{statement}
 use Rattle.trail_following.proofs.follow.Tie as tie
-use Rattle.ways.proofs.Here.{same-gone}
-use Rattle.ways.proofs.Outcomes.{one-of-three}
-use Rattle.ways.specs.Ways.{wayAfter}
+use Rattle.ways.specs.Ways.{goneBy, wayAfter}
+use Rattle.ways.specs.declared.Way.{Way}
 
 abbrev Inv-loop : tie.InvT-loop
-Inv-loop g binomials tails previous next sizes first₀ coefficients₀ order₀ marks₀ trail from number s₀ at₀ came₀ left₀
-    first coefficients order marks s at came left =
+Inv-loop g binomials tails previous next sizes first₀ coefficients₀ order₀ marks₀ trail from number s₀ at₀ without₀
+    left₀ first coefficients order marks s at without left =
     let round = roundOf previous next sizes in
     SixteenEach order marks × (length (take (s .count) order) ≡ s .count) × (at ≤ length trail)
     × ((start : List ℕ) (a : Simplex) → HasRead g start tails a (stateOf round first₀ coefficients₀ order₀ marks₀ s₀)
     → (b : Simplex) × HasRead g start tails b (stateOf round first coefficients order marks s)
-    × Led (problemBy g start) a (drop from trail) number (number - left) came b (drop at trail))
-    × (length trail < 18446744073709551616) × (left ≤ number)
+    × Led (problemBy g start) a (drop from trail) number (number - left) (number - left - without) b (drop at trail))
+    × (length trail < 18446744073709551616) × (left ≤ number) × (without ≤ number - left)
 
 abbrev μ-loop : tie.MeasureT-loop
-μ-loop g binomials tails previous next sizes first₀ coefficients₀ order₀ marks₀ trail from number s₀ at₀ came₀ left₀
-    first coefficients order marks s at came left =
+μ-loop g binomials tails previous next sizes first₀ coefficients₀ order₀ marks₀ trail from number s₀ at₀ without₀
+    left₀ first coefficients order marks s at without left =
     left
 
 loop-holds : tie.Need-loop-holds Inv-loop μ-loop
 loop-holds c =
     let number = c .before .args .number in
-    let z : number - number ≡ 0 = omega arith in (
+    let z : number - number ≡ 0 = omega arith in
+    let y : number - number - 0 ≡ 0 = omega arith in (
       c .before .pre .each,
       c .before .pre .many,
       c .before .pre .low,
-      (λ start a H. (a, H, rw z (led-none (problemBy (c .before .args .g) start) a _ number))),
+      (λ start a H. (a, H, rw (y, z) (led-none (problemBy (c .before .args .g) start) a _ number))),
+      omega arith,
       omega arith,
       omega arith,
     )
 
+sub-bytes : tie.Need-sub-bytes Inv-loop μ-loop
+sub-bytes c = omega (arith, c .before .loop .inv .2)
+
+part-bytes-start : tie.Need-part-bytes-start Inv-loop μ-loop
+part-bytes-start c = search needs
+
+part-bytes-end : tie.Need-part-bytes-end Inv-loop μ-loop
+part-bytes-end c = search needs
+
 -- at a place: where the call began, the ways round the blocks, the bytes from here on, and the state
 abbrev At : Type 0
-At = tie.After-way-on-arg Inv-loop μ-loop
+At = tie.After-said-at-arg Inv-loop μ-loop
 
 abbrev begun : At → tie.Start Inv-loop μ-loop
-begun c = c .before .before .before .before
+begun c = c .before .before .before .before .before
 
 abbrev round : At → Round
 round c =
     let a = begun c .args in
     roundOf (a .previous .now) (a .next .now) (a .sizes .now)
 
+abbrev trail : At → List ℕ
+trail c = begun c .args .trail .now
+
+abbrev at : At → ℕ
+at c = c .before .before .before .loop .at
+
 abbrev bytesOn : At → List ℕ
-bytesOn c = drop (c .before .before .loop .at) (begun c .args .trail .now)
+bytesOn c = drop (at c) (trail c)
+
+abbrev count : At → ℕ
+count c = c .before .before .before .loop .s .count
 
 abbrev state : At → State
 state c =
-    let l = c .before .before .loop in
+    let l = c .before .before .before .loop in
     stateOf (round c) (l .first) (l .coefficients) (l .order) (l .marks) (l .s)
 
 -- a reading of the place, by some start
@@ -89,103 +116,101 @@ Holds c start a = HasRead (begun c .args .g) start (begun c .args .tails .now) a
 some : (c : At) → (start : List ℕ) × (a : Simplex) × Holds c start a
 some c =
     let w = begun c .pre .place in
-    let v = c .before .before .loop .inv .3 (w .0) (w .1) (w .2) in
+    let v = c .before .before .before .loop .inv .3 (w .0) (w .1) (w .2) in
     (w .0, v .0, v .1)
 
-few : (c : At) → c .before .before .loop .s .count ≤ 15
+few : (c : At) → count c ≤ 15
 few c =
     let H = some c .2 in
-    omega (arith, c .before .before .loop .inv .1, H .shows .orderLength, shows-few (H .settled) (H .shows))
+    omega (arith, c .before .before .before .loop .inv .1, H .shows .orderLength, shows-few (H .settled) (H .shows))
 
-way-on-requires : tie.Need-way-on-requires Inv-loop μ-loop
-way-on-requires c κs = (
-  (few c, c .before .before .loop .inv .0 .inMarks),
-  (c .before .before .loop .inv .2, indices-few (begun c .args .g) (begun c .pre .measured .made)),
+said-at-requires : tie.Need-said-at-requires Inv-loop μ-loop
+said-at-requires c κs = (
+  few c,
+  c .before .before .before .loop .inv .0 .inMarks,
+  indices-few (begun c .args .g) (begun c .pre .measured .made),
 )
 
--- the way that the bytes name
+-- what the bytes say
 abbrev Named : Type 0
-Named = tie.After-way-on Inv-loop μ-loop
+Named = tie.After-said-at Inv-loop μ-loop
 
-way-is : (c : Named)
-    → wayOf (numIndices (shape (begun (c .before) .args .g))) (c .before .before .before .loop .s .count)
-    (state (c .before)) (bytesOn (c .before)) ≡ c .way-on .result
-way-is c =
-    let l = c .before .before .before .loop in
+abbrev saidHere : Named → Said
+saidHere c = saidBy (numIndices (shape (begun (c .before) .args .g))) (count (c .before)) (state (c .before))
+    (bytesOn (c .before))
+
+is-said : (c : Named) → let l = c .before .before .before .before .loop in
+    IsSaid (begun (c .before) .args .g .indices) (count (c .before)) (stateOf noRound [] [] [] (l .marks) (l .s))
+    (bytesOn (c .before))
+    (c .said-at .result)
+is-said c =
+    let l = c .before .before .before .before .loop in
+    subst
+    (λ (b : List ℕ). IsSaid (begun (c .before) .args .g .indices) (count (c .before))
+    (stateOf noRound [] [] [] (l .marks) (l .s)) b (c .said-at .result))
+    (part-to-end (trail (c .before)) (at (c .before))) (c .said-at .ensures)
+
+said-is : (c : Named) → c .said-at .result ≡ saidHere c
+said-is c =
+    let l = c .before .before .before .before .loop in
     let a = begun (c .before) .args in
-    sym
-    (c .way-on .ensures
-    ∙ same-way (a .g .indices) (l .s .count) (round (c .before)) (l .first) (l .coefficients) (l .order) (l .marks)
+    is-said c .is
+    ∙ same-said (a .g .indices) (l .s .count) (round (c .before)) (l .first) (l .coefficients) (l .order) (l .marks)
     (l .s) (bytesOn (c .before))
     ∙ ap
-    (λ (m : ℕ). wayOf m (l .s .count) (state (c .before)) (bytesOn (c .before)))
-    (made-indices (a .g) (begun (c .before) .pre .measured .made)))
+    (λ (m : ℕ). saidBy m (l .s .count) (state (c .before)) (bytesOn (c .before)))
+    (made-indices (a .g) (begun (c .before) .pre .measured .made))
 
-counted : (c : At) {start : List ℕ} {a : Simplex} (H : Holds c start a)
-    → c .before .before .loop .s .count ≡ H .shows .t
-counted c H = sym (c .before .before .loop .inv .1) ∙ H .shows .orderLength
+way-is : (c : Named) → saidHere c .way ≡ c .said-at .result .way
+way-is c = ap (λ (r : Said). r .way) (sym (said-is c))
 
-gone-by-requires : tie.Need-gone-by-requires Inv-loop μ-loop
-gone-by-requires c κs =
-    let n = c .before in
-    let at = n .before in (
-      few at,
-      λ i e. way-fits (numIndices (shape (begun at .args .g))) (at .before .before .loop .s .count) (state at)
-          (bytesOn at) .leaves i (way-is n ∙ e) .0,
-    )
+counted : (c : At) {start : List ℕ} {a : Simplex} (H : Holds c start a) → count c ≡ H .shows .t
+counted c H = sym (c .before .before .before .loop .inv .1) ∙ H .shows .orderLength
 
 moved-by-requires : tie.Need-moved-by-requires Inv-loop μ-loop
 moved-by-requires c κs =
-    let n = c .before .before .before .before .before .before in
-    let at = n .before in
-    let H = some at .2 in (
+    let n = c .before .before .before .before in
+    let p = n .before in
+    let H = some p .2 in (
       (
-        begun at .pre .below,
+        begun p .pre .below,
         record {
-          each = at .before .before .loop .inv .0;
-          few = few at;
+          each = p .before .before .before .loop .inv .0;
+          few = few p;
           orderBelow = order-low (H .settled) (H .shows);
         },
       ),
-      way-ready (H .settled) (H .shows) (bytesOn at) (at .before .before .loop .s .count) (counted at H)
-          (n .way-on .result) (way-is n),
+      way-ready (H .settled) (H .shows) (bytesOn p) (count p) (counted p H) (n .said-at .result .way) (way-is n),
     )
-
-sub-left : tie.Need-sub-left Inv-loop μ-loop
-sub-left c = omega arith
 
 -- the move is made
 abbrev Made : Type 0
 Made = tie.After-moved-by Inv-loop μ-loop
 
 abbrev named : Made → Named
-named c = c .before .before .before .before .before .before .before
+named c = c .before .before .before .before .before
 
-abbrev at : Made → At
-at c = named c .before
+abbrev place : Made → At
+place c = named c .before
 
 abbrev gone : Made → ℕ
-gone c = c .before .before .before .before .before .gone-by .result
+gone c = goneBy (state (place c)) (named c .said-at .result .way)
 
 abbrev given : Made → Outcome → After
 given c o =
     let last = c .moved-by .last .1 .1 .1 in
-    answered (round (at c)) (last .0) (last .1 .0) (last .1 .1 .0) (last .1 .1 .1 .0) (at c .before .before .loop .s) o
+    answered (round (place c)) (last .0) (last .1 .0) (last .1 .1 .0) (last .1 .1 .1 .0)
+    (place c .before .before .before .loop .s) o
 
 -- what the way leads to
-leads : (c : Made) (o : Outcome) → c .moved-by .result ≡ o → {start : List ℕ} {a : Simplex} (H : Holds (at c) start a)
-    → WayLeads (H .settled) (H .shows) (bytesOn (at c)) (at c .before .before .loop .s .count) (counted (at c) H)
-    (gone c)
-    (given c o)
+leads : (c : Made) (o : Outcome) → c .moved-by .result ≡ o → {start : List ℕ} {a : Simplex}
+    (H : Holds (place c) start a)
+    → WayLeads (H .settled) (H .shows) (bytesOn (place c)) (count (place c)) (counted (place c) H) (gone c) (given c o)
 leads c o e H =
-    let l = at c .before .before .loop in
-    let w = named c .way-on .result in
-    let W : ℕ → After → Type 0 = WayLeads (H .settled) (H .shows) (bytesOn (at c)) (l .s .count) (counted (at c) H) in
-    let out = c .before .before .before .before .before .gone-by .ensures
-    ∙ same-gone (round (at c)) (l .first) (l .coefficients) (l .order) (l .marks) (l .s) w in
-    subst (W (gone c)) (sym (c .moved-by .ensures .after) ∙ ap (given c) e)
-    (subst (λ (n : ℕ). W n (wayAfter (state (at c)) w)) (sym out)
-    (way-leads (H .settled) (H .shows) (bytesOn (at c)) (l .s .count) (counted (at c) H) w (way-is (named c))))
+    subst (WayLeads (H .settled) (H .shows) (bytesOn (place c)) (count (place c)) (counted (place c) H) (gone c))
+    (sym (c .moved-by .ensures .after) ∙ ap (given c) e)
+    (way-leads (H .settled) (H .shows) (bytesOn (place c)) (count (place c)) (counted (place c) H)
+    (named c .said-at .result .way) (way-is (named c)))
 
 -- where no record leads on, all lead nowhere
 ends : (c : At) (start : List ℕ) (a : Simplex)
@@ -193,228 +218,229 @@ ends : (c : At) (start : List ℕ) (a : Simplex)
     (stateOf (round c) (begun c .args .first .now) (begun c .args .coefficients .now) (begun c .args .order .now)
     (begun c .args .marks .now) (begun c .args .begun)))
     → let p = problemBy (begun c .args .g) start in
-    ((k : ℕ) → rebuiltFrom p (suc k) (c .before .before .loop .inv .3 start a H .0) (bytesOn c) ≡ none)
+    ((k : ℕ) → rebuiltFrom p (suc k) (c .before .before .before .loop .inv .3 start a H .0) (bytesOn c) ≡ none)
     → rebuiltFrom p (begun c .args .number) a (drop (begun c .args .from) (begun c .args .trail .now)) ≡ none
 ends c start a H e =
-    let l = c .before .before .loop in
+    let l = c .before .before .before .loop in
     let v = l .inv .3 start a H in
     let p = problemBy (begun c .args .g) start in
-    let z : l .left ≡ suc (l .left - 1) = omega (arith, c .before .loop-test .taken) in
+    let z : l .left ≡ suc (l .left - 1) = omega (arith, c .before .before .loop-test .taken) in
     led-all p a _ (begun c .args .number) (v .2) (l .left) (omega (arith, l .inv .5))
     ∙ ap (λ (n : ℕ). rebuiltFrom p n (v .0) (bytesOn c)) z
     ∙ e (l .left - 1)
 
-enum-told : tie.Need-enum-told Inv-loop μ-loop
-enum-told c = search needs
+enum-known-outcome : tie.Need-enum-known-outcome Inv-loop μ-loop
+enum-known-outcome c = search needs
+
+-- an end is no move
+not-on : (c : Made) (o : Outcome) → OneOf (1 ∷ 2 ∷ []) (tagOf the-type o) → (f : State) → given c o ≡ goes f → ⊥
+not-on c (Moved s) h f = ⊎-elim (λ e. omega arith) (λ e. omega arith) h
+not-on c (PlaceEnd k) h f = place-ends _ f k
+not-on c (FacetEnd k) h f = facet-ends _ f k
 
 returns : tie.Need-returns Inv-loop μ-loop
 returns c start a H =
-    let m = c .before .before in
-    let v = at m .before .before .loop .inv .3 start a H in
-    ends (at m) start a H
-    (nowhere (v .1) (bytesOn (at m)) (at m .before .before .loop .s .count) (counted (at m) (v .1)) (gone m)
-    (leads m _ (c .enum-told .given .1) (v .1)) (λ f q. place-ends _ f _ q))
-
-enum-told-2 : tie.Need-enum-told-2 Inv-loop μ-loop
-enum-told-2 c = search needs
-
-returns-2 : tie.Need-returns-2 Inv-loop μ-loop
-returns-2 c start a H =
-    let m = c .before .before .before in
-    let v = at m .before .before .loop .inv .3 start a H in
-    ends (at m) start a H
-    (nowhere (v .1) (bytesOn (at m)) (at m .before .before .loop .s .count) (counted (at m) (v .1)) (gone m)
-    (leads m _ (c .enum-told2 .given .1) (v .1)) (λ f q. facet-ends _ f _ q))
-
-enum-known-outcome : tie.Need-enum-known-outcome Inv-loop μ-loop
-enum-known-outcome c = search needs
+    let m = c .before in
+    let v = place m .before .before .before .loop .inv .3 start a H in
+    ends (place m) start a H
+    (nowhere (v .1) (bytesOn (place m)) (count (place m)) (counted (place m) (v .1)) (gone m)
+    (leads m (m .moved-by .result) refl (v .1)) (not-on m (m .moved-by .result) (c .match .keys2)))
 
 -- a place is reached
 abbrev Gone : Type 0
 Gone = tie.After-arrive-arg4 Inv-loop μ-loop
 
 abbrev made : Gone → Made
-made c = c .before .before .before .before .before .before .before .before .before
+made c = c .before .before .before .before .before .before .before
 
 abbrev status : Gone → Status
 status c = c .before .before .before .before .before .outcome .given .0 .0
 
-abbrev onward : Gone → State
-onward c =
-    let last = made c .moved-by .last .1 .1 .1 in
-    stateOf (round (at (made c))) (last .0) (last .1 .0) (last .1 .1 .0) (last .1 .1 .1 .0) (status c)
-
-arrives : (c : Gone) {start : List ℕ} {a : Simplex} (H : Holds (at (made c)) start a)
-    → (b : Simplex) × Arrives (problemBy (begun (at (made c)) .args .g) start) a b (onward c)
-    × OnlyPlace (H .settled) (H .shows) (bytesOn (at (made c))) (at (made c) .before .before .loop .s .count)
-    (counted (at (made c)) H) b
-    × ((x : ℕ) → change (problemBy (begun (at (made c)) .args .g) start) a b .pointsOut ≡ x ∷ [] → gone (made c) ≡ x)
+arrives : (c : Gone) {start : List ℕ} {a : Simplex} (H : Holds (place (made c)) start a)
+    → (b : Simplex)
+    × Arrives (problemBy (begun (place (made c)) .args .g) start) a b
+    (let last = made c .moved-by .last .1 .1 .1 in
+    stateOf (round (place (made c))) (last .0) (last .1 .0) (last .1 .1 .0) (last .1 .1 .1 .0) (status c))
+    × OnlyPlace (H .settled) (H .shows) (bytesOn (place (made c))) (count (place (made c)))
+    (counted (place (made c)) H) b
+    × ((x : ℕ) → change (problemBy (begun (place (made c)) .args .g) start) a b .pointsOut ≡ x ∷ [] → gone (made c) ≡ x)
 arrives c H =
     let m = made c in
-    on H (bytesOn (at m)) (at m .before .before .loop .s .count) (counted (at m) H) (gone m)
+    on H (bytesOn (place m)) (count (place m)) (counted (place m) H) (gone m)
     (leads m (Moved (status c)) (c .before .before .before .before .before .outcome .given .1) H)
 
 arrive-requires : tie.Need-arrive-requires Inv-loop μ-loop
 arrive-requires c κs =
     let m = made c in
-    let a = begun (at m) .args in
-    let w = begun (at m) .pre in
-    let l = at m .before .before .loop in
-    let H = some (at m) .2 in
+    let p = place m in
+    let a = begun p .args in
+    let w = begun p .pre in
+    let H = some p .2 in
     let K = arrives c H in
     let last = m .moved-by .last .1 .1 .1 in
     let each = m .moved-by .ensures .each in
-    let way = named m .way-on .result in
-    let out = m .before .before .before .before .before .gone-by .ensures
-    ∙ same-gone (round (at m)) (l .first) (l .coefficients) (l .order) (l .marks) (l .s) way in (
+    let long = only-long (H .settled) (H .shows) (bytesOn p) (count p) (counted p H) (K .2) in (
       (
         w .measured,
-        can-find (a .g) (w .measured .made) _ (a .tails .now) H (a .trail .now) (l .at) (l .s .count)
-            (counted (at m) H) (a .previous .now) (a .next .now) (a .sizes .now) (last .0) (last .1 .0) (last .1 .1 .0)
+        can-find (a .g) (w .measured .made) _ (a .tails .now) H (a .trail .now) (at p) (count p) (counted p H)
+            (a .previous .now) (a .next .now) (a .sizes .now) (last .0) (last .1 .0) (last .1 .1 .0)
             (last .1 .1 .1 .0) (status c) each (w .below) (gone m) (K .0) (K .1),
       ),
       record {
-        come = come-low (a .g) (w .measured .made) _ (a .tails .now) H (a .trail .now) (l .at) (l .s .count)
-            (counted (at m) H) (a .previous .now) (a .next .now) (a .sizes .now) (last .0) (last .1 .0) (last .1 .1 .0)
+        come = come-low (a .g) (w .measured .made) _ (a .tails .now) H (a .trail .now) (at p) (count p) (counted p H)
+            (a .previous .now) (a .next .now) (a .sizes .now) (last .0) (last .1 .0) (last .1 .1 .0)
             (last .1 .1 .1 .0) (status c) each (w .below) (gone m) (K .0) (K .1);
-        out = omega (
-          arith,
-          out,
-          gone-low (H .settled) (H .shows) (bytesOn (at m)) (l .s .count) (counted (at m) H) way (way-is (named m)),
-        );
         sixteen = each .inMarks;
-        low = l .inv .2;
+        long = rw (part-to-end (trail p) (at p)) (omega (arith, long));
       },
     )
 
--- its record is compared
+-- it is compared with what the bytes say
 abbrev Compared : Type 0
 Compared = tie.After-arrive Inv-loop μ-loop
+
+abbrev here : Compared → At
+here c = place (made (c .before))
 
 abbrev back : Compared → State
 back c =
     let m = made (c .before) in
-    let a = begun (at m) .args in
+    let a = begun (place m) .args in
     let last = m .moved-by .last .1 .1 .1 in
     stateOf (roundOf (a .previous .now) [] (a .sizes .now)) (last .0) (last .1 .0) (last .1 .1 .0) (last .1 .1 .1 .0)
     (status (c .before))
 
-differs : (c : Compared) → c .arrive .result ≡ 0 → {start : List ℕ} {a : Simplex}
-    → Holds (at (made (c .before))) start a
+compared : (c : Compared)
+    → c .arrive .result
+    ≡ agrees (begun (here c) .args .g) (back c) (saidHere (named (made (c .before)))) (bytesOn (here c))
+compared c =
+    let g = begun (here c) .args .g in
+    let n = named (made (c .before)) in
+    c .arrive .ensures .1
+    ∙ ap (λ (b : List ℕ). agrees g (back c) (n .said-at .result) b) (part-to-end (trail (here c)) (at (here c)))
+    ∙ ap (λ (r : Said). agrees g (back c) r (bytesOn (here c))) (said-is n)
+
+differs : (c : Compared) → c .arrive .result ≡ false → {start : List ℕ} {a : Simplex} → Holds (here c) start a
     → (k : ℕ)
-    → rebuiltFrom (problemBy (begun (at (made (c .before))) .args .g) start) (suc k) a (bytesOn (at (made (c .before))))
-    ≡ none
+    → rebuiltFrom (problemBy (begun (here c) .args .g) start) (suc k) a (bytesOn (here c)) ≡ none
 differs c z H =
     let m = made (c .before) in
-    let a = begun (at m) .args in
-    let w = begun (at m) .pre in
-    let l = at m .before .before .loop in
-    let s = status (c .before) in
+    let p = here c in
+    let a = begun p .args in
+    let w = begun p .pre in
     let last = m .moved-by .last .1 .1 .1 in
     let K = arrives (c .before) H in
-    to-none (a .g) (w .measured .made) _ (a .tails .now) H (a .trail .now) (l .at) (l .s .count) (counted (at m) H)
-    (a .previous .now) (a .next .now) (a .sizes .now) (last .0) (last .1 .0) (last .1 .1 .0) (last .1 .1 .1 .0) s
-    (m .moved-by .ensures .each) (w .below) (gone m) (K .0) (K .1) (K .2) (K .3) _ refl refl (l .inv .2)
-    (not-standing (l .s .t) (l .s .u) (s .t) (s .u) (comePosition (a .g) (back c)) (gone m) (c .arrive .ensures .1) z)
+    to-none (a .g) (w .measured .made) _ (a .tails .now) H (a .trail .now) (at p) (count p) (counted p H)
+    (a .previous .now) (a .next .now) (a .sizes .now) (last .0) (last .1 .0) (last .1 .1 .0) (last .1 .1 .1 .0)
+    (status (c .before))
+    (m .moved-by .ensures .each) (w .below) (gone m) (K .0) (K .1) (K .2) (K .3) (sym (compared c) ∙ z)
 
-next : (c : Compared) → (c .arrive .result ≡ 0 → ⊥) → {start : List ℕ} {a : Simplex}
-    → Holds (at (made (c .before))) start a
+-- the record leads on, and its map byte tells whether a point has come in
+next : (c : Compared) → c .arrive .result ≡ true → {start : List ℕ} {a : Simplex} → Holds (here c) start a
     → let m = made (c .before) in
     let last = m .moved-by .last .1 .1 .1 in
     let marks = c .arrive .last .1 .1 .1 .1 .1 .1 .1 .1 .0 in
-    Leads (begun (at m) .args .g) start (begun (at m) .args .trail .now) a (at m .before .before .loop .at)
-    (last .1 .1 .0)
-    marks (stateOf (round (at m)) (last .0) (last .1 .0) (last .1 .1 .0) marks (status (c .before)))
-    (status (c .before) .count) (c .arrive .result)
+    Leads (begun (here c) .args .g) start (trail (here c)) a (at (here c)) (last .1 .1 .0) marks
+    (stateOf (round (here c)) (last .0) (last .1 .0) (last .1 .1 .0) marks (status (c .before)))
+    (status (c .before) .count) (named m .said-at .result .bytes)
+    × (getD (bytesOn (here c)) 0 0 % 2 ≡ cond (ltb (status (c .before) .rule) 6) 1 0)
 next c z H =
     let m = made (c .before) in
-    let a = begun (at m) .args in
-    let w = begun (at m) .pre in
-    let l = at m .before .before .loop in
-    let s = status (c .before) in
+    let p = here c in
+    let a = begun p .args in
+    let w = begun p .pre in
     let last = m .moved-by .last .1 .1 .1 in
     let K = arrives (c .before) H in
-    let S = standing (l .s .t) (l .s .u) (s .t) (s .u) (comePosition (a .g) (back c)) (gone m)
-    (c .arrive .ensures .1) z in
-    to-next (a .g) (w .measured .made) _ (a .tails .now) H (a .trail .now) (l .at) (l .s .count) (counted (at m) H)
-    (a .previous .now) (a .next .now) (a .sizes .now) (last .0) (last .1 .0) (last .1 .1 .0) (last .1 .1 .1 .0) s
-    (m .moved-by .ensures .each) (w .below) (gone m) (K .0) (K .1) (K .2) (K .3) _ refl refl (l .inv .2) _
-    (c .arrive .ensures .0) (S .0) (c .arrive .result) (S .1)
+    let same = sym (compared c) ∙ z in
+    let low = is-said (named m) .low in
+    let goes = ap (goneBy (state p)) (sym (way-is (named m))) in (
+      subst
+          (Leads (a .g) _ (a .trail .now) _ (at p) (last .1 .1 .0) _ _ (status (c .before) .count))
+          (ap (λ (r : Said). r .bytes) (sym (said-is (named m))))
+          (to-next (a .g) (w .measured .made) _ (a .tails .now) H (a .trail .now) (at p) (count p) (counted p H)
+          (a .previous .now) (a .next .now) (a .sizes .now) (last .0) (last .1 .0) (last .1 .1 .0) (last .1 .1 .1 .0)
+          (status (c .before))
+          (m .moved-by .ensures .each) (w .below) (gone m) (K .0) (K .1) (K .2) (K .3) same low goes
+          (p .before .before .before .loop .inv .2) _ (c .arrive .ensures .0)),
+      low-bit (a .g) (w .measured .made) _ (a .tails .now) H (a .trail .now) (at p) (count p) (counted p H)
+          (a .previous .now) (a .next .now) (a .sizes .now) (last .0) (last .1 .0) (last .1 .1 .0) (last .1 .1 .1 .0)
+          (status (c .before))
+          (m .moved-by .ensures .each) (w .below) (gone m) (K .0) (K .1) (K .2) (K .3) same low goes,
+    )
 
-returns-3 : tie.Need-returns-3 Inv-loop μ-loop
-returns-3 c start a H =
-    let m = made (c .before .before) in
-    ends (at m) start a H
-    (differs (c .before) (c .if1 .taken) (at m .before .before .loop .inv .3 start a H .1))
+returns-2 : tie.Need-returns-2 Inv-loop μ-loop
+returns-2 c start a H =
+    let d = c .before in
+    ends (here d) start a H
+    (differs d (not-true _ (c .if1 .taken)) (here d .before .before .before .loop .inv .3 start a H .1))
 
 -- the record has a byte, and ends in the trail
-inside : (c : Compared) → (c .arrive .result ≡ 0 → ⊥)
-    → let m = made (c .before) in
-    (1 ≤ c .arrive .result)
-    × (at m .before .before .loop .at + c .arrive .result ≤ length (begun (at m) .args .trail .now))
-inside c z = let N = next c z (some (at (made (c .before))) .2) in (N .some, N .inside)
+inside : (c : Compared) → c .arrive .result ≡ true
+    → at (here c) + named (made (c .before)) .said-at .result .bytes ≤ length (trail (here c))
+inside c z = next c z (some (here c) .2) .0 .inside
 
-low-bit-requires : tie.Need-low-bit-requires Inv-loop μ-loop
-low-bit-requires c κs = let w = inside (c .before) (c .if1 .left) in omega (arith, w .0, w .1)
-
-add-came : tie.Need-add-came Inv-loop μ-loop
-add-came c =
-    let p = at (made (c .before .before .before)) in
-    let l = p .before .before .loop in
-    let w = begun p .pre .place in
-    let v = l .inv .3 (w .0) (w .1) (w .2) in
+add-without : tie.Need-add-without Inv-loop μ-loop
+add-without c =
+    let p = here (c .before .before .before) in
     omega (
       arith,
-      led-few (problemBy (begun p .args .g) (w .0)) (w .1) _ (begun p .args .number) (v .2),
-      c .low-bit .ensures .1,
-      p .before .loop-test .taken,
-      l .inv .5,
+      p .before .before .before .loop .inv .6,
+      p .before .before .loop-test .taken,
       begun p .fits .number .fits,
     )
 
 add-at : tie.Need-add-at Inv-loop μ-loop
 add-at c =
-    let w = inside (c .before .before) (c .before .if1 .left) in
-    omega (arith, w .1, at (made (c .before .before .before)) .before .before .loop .inv .4)
+    let d = c .before .before .before .before in
+    let w = inside d (not-false _ (c .before .before .before .if1 .left)) in
+    omega (arith, w, here d .before .before .before .loop .inv .4)
+
+sub-left : tie.Need-sub-left Inv-loop μ-loop
+sub-left c = omega (arith, here (c .before .before .before .before) .before .before .loop-test .taken)
 
 loop-less : tie.Need-loop-less Inv-loop μ-loop
-loop-less c = omega (arith, at (made (c .before .before .before)) .before .loop-test .taken)
+loop-less c = omega (arith, here (c .before .before .before .before) .before .before .loop-test .taken)
 
 loop-again : tie.Need-loop-again Inv-loop μ-loop
 loop-again c =
-    let compared = c .before .before in
-    let p = at (made (compared .before)) in
-    let l = p .before .before .loop in
+    let d = c .before .before .before .before in
+    let yes = not-false _ (c .before .before .before .if1 .left) in
+    let p = here d in
+    let l = p .before .before .before .loop in
     let number = begun p .args .number in
-    let trail = begun p .args .trail .now in
-    let M = next compared (c .before .if1 .left) (some p .2) in
-    let test = p .before .loop-test .taken in
-    let e : number - (l .left - 1) ≡ suc (number - l .left) = omega (arith, test, l .inv .5) in
-    let here : l .at + 0 ≡ l .at = omega arith in
-    let byte = getD-drop (l .at) trail 0 0 ∙ ap (λ (i : ℕ). getD trail i 0) here in (
+    let M = next d yes (some p .2) .0 in
+    let test = p .before .before .loop-test .taken in
+    let rule = status (d .before) .rule in
+    let without = c .before .if2 .without in
+    let k : number - (l .left - 1) ≡ suc (number - l .left) = omega (arith, test, l .inv .5) in
+    let few : without ≤ suc (l .without) =
+    ⊎-elim (λ v. omega (arith, v .1)) (λ v. omega (arith, v .1)) (c .before .if2 .came) in
+    let total : number - (l .left - 1) - without ≡ number - l .left - l .without + cond (ltb rule 6) 1 0 =
+    ⊎-elim
+    (λ v. rw (le-ltb rule 6 (omega (arith, v .0 .taken))) (omega (arith, v .1, k, l .inv .6)))
+    (λ v. rw (lt-ltb rule 6 (omega (arith, v .0 .left))) (omega (arith, v .1, k, l .inv .6)))
+    (c .before .if2 .came) in (
       M .each,
       M .many,
       M .inside,
       λ start a H.
           let v = l .inv .3 start a H in
-          let N = next compared (c .before .if1 .left) (v .1) in (
-            N .next,
-            record { settled = v .1 .settled; shows = N .shows; sums = v .1 .sums },
-            led-on (problemBy (begun p .args .g) start) a _ number (v .2) (omega (arith, test, l .inv .5)) (N .next) _
-                (N .reads) e (c .low-bit .ensures .0 ∙ ap (λ (x : ℕ). x % 2) (sym byte)) refl,
+          let N = next d yes (v .1) in (
+            N .0 .next,
+            record { settled = v .1 .settled; shows = N .0 .shows; sums = v .1 .sums },
+            led-on (problemBy (begun p .args .g) start) a _ number (v .2) (omega (arith, test, l .inv .5))
+                (N .0 .next) _ (N .0 .reads) k (sym (N .1)) total,
           ),
       l .inv .4,
       omega (arith, l .inv .5),
+      omega (arith, few, k, l .inv .6),
     )
 
-loop-less-2 : tie.Need-loop-less-2 Inv-loop μ-loop
-loop-less-2 c = omega (arith, at (c .before .before .before) .before .loop-test .taken)
+sub-t38 : tie.Need-sub-t38 Inv-loop μ-loop
+sub-t38 c = omega (arith, c .before .loop .inv .6)
 
-loop-again-2 : tie.Need-loop-again-2 Inv-loop μ-loop
-loop-again-2 c = absurd (one-of-three _ (c .before .before .match .keys2) (c .before .match2 .keys2) (c .match3 .keys2))
-
-returns-4 : tie.Need-returns-4 Inv-loop μ-loop
-returns-4 c start a H =
+returns-3 : tie.Need-returns-3 Inv-loop μ-loop
+returns-3 c start a H =
     let s = c .before .before .before in
     let l = c .before .loop in
     let v = l .inv .3 start a H in
@@ -437,22 +463,19 @@ follow-spec =
     Inv-loop
     μ-loop
     loop-holds
-    way-on-requires
-    gone-by-requires
+    sub-bytes
+    part-bytes-start
+    part-bytes-end
+    said-at-requires
     moved-by-requires
-    sub-left
-    enum-told
-    returns
-    enum-told-2
-    returns-2
     enum-known-outcome
+    returns
     arrive-requires
-    returns-3
-    low-bit-requires
-    add-came
+    returns-2
+    add-without
     add-at
+    sub-left
     loop-less
     loop-again
-    loop-less-2
-    loop-again-2
-    returns-4)
+    sub-t38
+    returns-3)
