@@ -84,12 +84,3 @@ module _ (bytes trail : List ℕ) (at n : ℕ) (fits : at + n ≤ length trail) 
       → begins (take n bytes) (drop at trail) ≡ true
   all-same m a b c d e f g =
       together (each-below (λ (k : ℕ). getD trail (at + k) 0 ≡ getD bytes k 0) n m (first-at ∙ a) b c d e f g)
-
-  -- where one of two bytes is another
-  pub two-apart : (k : ℕ) → suc k < n
-      → (getD trail (at + k) 0 ≡ getD bytes k 0 → getD trail (at + k + 1) 0 ≡ getD bytes (suc k) 0 → ⊥)
-      → begins (take n bytes) (drop at trail) ≡ false
-  two-apart k l ne =
-      let z : at + k + 1 ≡ at + suc k = omega arith in
-      ⊎-elim (λ e. apart (suc k) l (λ f. ne e (ap (λ (i : ℕ). getD trail i 0) z ∙ f))) (λ d. apart k (omega arith) d)
-      (same-or (getD trail (at + k) 0) (getD bytes k 0))

@@ -66,8 +66,3 @@ pub record IsRecord (bytes : List ℕ) (r : Record) : Type 0 where
   pub long : r .length ≡ length bytes
   pub sized : HasLength (length bytes)
   pub eight : length (r .bytes) ≡ 8
-
--- whether two bytes are those of a number, the low byte first
-abbrev pub WordStands : ℕ → ℕ → ℕ → Bool → Type 0
-WordStands low high n true = (low ≡ n % 256) × (high ≡ n / 256)
-WordStands low high n false = low ≡ n % 256 → high ≡ n / 256 → ⊥

@@ -1,15 +1,14 @@
 // The record of a place, as bytes, by T and U at the place before it and at the place, and by the positions of the
 // points that come in and go out. What is public here is for the writer and the reader of a trail, which show what it
 // asks.
-ghost use mathlib.Core.Bool.{cond};
 ghost use mathlib.Core.Path.{_≡_};
 ghost use Prim.Native.Nat.{ℕ, suc, _+_, _/_, _%_, _≤_, _<_};
 ghost use lib.Dec.{eqb};
-ghost use lib.ListN.{drop, getD, length, take};
+ghost use lib.ListN.{drop, length, take};
 ghost use lib.Seq.{paste};
 ghost use Rattle.trail.specs.Trail.{begins};
 ghost use Rattle.records.specs.Records.{differing, exchangedRecord, joinedRecord, leftRecord, recordFrom};
-ghost use Rattle.records.specs.Records.{firstRecord, keptRecord, HasLength, IsRecord, WordStands};
+ghost use Rattle.records.specs.Records.{firstRecord, keptRecord, HasLength, IsRecord};
 use arrays::has;
 
 // T and U of a place, as masks.
@@ -259,67 +258,4 @@ pub fn stands(trail: &[u8], at: usize, made: Record) -> bool
         return true;
     }
     trail[at + 6] == bytes[6]
-}
-
-fn wide(x: u8) -> usize
-    ensures { λ r. ⌜ (r ≡ x) × (r ≤ 255) ⌝ }
-{
-    x as usize
-}
-
-// A number stands at a position of the trail, in 16 bits.
-fn word_stands(trail: &[u8], at: usize, n: usize) -> bool
-    requires { ⌜ at + 2 ≤ length (now trail) ⌝ }
-    ensures { λ r. ⌜ WordStands (getD (now (trail .entry)) at 0) (getD (now (trail .entry)) (at + 1) 0) n r ⌝ }
-{
-    wide(trail[at]) + 256 * wide(trail[at + 1]) == n
-}
-
-// The bytes of the trail from a position on begin with the record of rule 1, which most places of a long path have.
-fn exchange_stands(trail: &[u8], at: usize, come: usize, gone: usize) -> bool
-    requires { ⌜ at ≤ length (now trail) ⌝ }
-    ensures { λ r. ⌜ r ≡ begins (keptRecord come gone) (drop at (now (trail .entry))) ⌝ }
-{
-    if trail.len() - at < 6 {
-        return false;
-    }
-    if trail[at] != 67 {
-        return false;
-    }
-    if !word_stands(trail, at + 1, come) {
-        return false;
-    }
-    if !word_stands(trail, at + 3, gone) {
-        return false;
-    }
-    trail[at + 5] == 1
-}
-
-// How many bytes the record of a place behind the first has, where the bytes of the trail from a position on begin with
-// it; else 0. With T and U kept the number is known before the bytes are compared.
-pub fn standing_bytes(
-    trail: &[u8],
-    at: usize,
-    before: Sets,
-    after: Sets,
-    come: usize,
-    gone: usize,
-) -> usize
-    requires { ⌜ (at ≤ length (now trail)) × (come < 65536) × (gone < 65536) ⌝ }
-    ensures { λ r. let bytes = recordFrom (before .t) (before .u) (after .t) (after .u) come gone in
-        ⌜ r ≡ cond (begins bytes (drop at (now (trail .entry)))) (length bytes) 0 ⌝ }
-{
-    if alike(before.t, after.t) {
-        if alike(before.u, after.u) {
-            if exchange_stands(trail, at, come, gone) {
-                return 6;
-            }
-            return 0;
-        }
-    }
-    let made = record_of(before, after, come, gone);
-    if stands(trail, at, made) {
-        return made.length;
-    }
-    0
 }
