@@ -66,34 +66,38 @@ pub fn follow(
             s,
             way,
         );
-        let Outcome::Moved(status) = outcome else {
-            return Reached::Nowhere;
-        };
-        if !arrive(
-            g,
-            binomials,
-            tails,
-            previous,
-            sizes,
-            first,
-            coefficients,
-            order,
-            marks,
-            status,
-            said,
-            bytes,
-        ) {
+        if let Outcome::PlaceEnd(_) = outcome {
             return Reached::Nowhere;
         }
-        s = status;
-        if 5 < s.rule {
-            without += 1;
+        if let Outcome::FacetEnd(_) = outcome {
+            return Reached::Nowhere;
         }
-        at += said.bytes;
-        left -= 1;
+        if let Outcome::Moved(status) = outcome {
+            let stands = arrive(
+                g,
+                binomials,
+                tails,
+                previous,
+                sizes,
+                first,
+                coefficients,
+                order,
+                marks,
+                status,
+                said,
+                bytes,
+            );
+            if !stands {
+                return Reached::Nowhere;
+            }
+            s = status;
+            if 5 < s.rule {
+                without += 1;
+            }
+            at += said.bytes;
+            left -= 1;
+        }
     }
-    Reached::At {
-        status: s,
-        came: number - without,
-    }
+    let came = number - without;
+    Reached::At { status: s, came }
 }

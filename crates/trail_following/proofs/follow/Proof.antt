@@ -5,24 +5,21 @@ use mathlib.Core.Bool.{true, false, cond}
 use mathlib.Core.List.{List, [], _∷_}
 use mathlib.Core.Logic.{⊎-elim}
 use mathlib.Core.Option.{none}
-use mathlib.Core.Path.{_≡_, refl, sym, ap, _∙_, subst}
+use mathlib.Core.Path.{_≡_, sym, ap, _∙_, subst}
 use Prim.Native.Nat.{ℕ, suc, _+_, _-_, _%_, _≤_, _<_}
 use borrow.Author.Needs.{needs}
 use borrow.Author.Tests.{le-ltb, lt-ltb, not-false, not-true}
 use borrow.Rule.Slice.PartAt.{part-to-end}
-use denote.Enum.Declared.{tagOf}
 use lib.Dec.{ltb}
 use lib.ListN.{drop, getD, length, take}
 use native.Mathlib.Omega.{arith}
-use types.Run.{OneOf}
 use Rattle.arrays.specs.Rounds.{noRound, roundOf}
 use Rattle.grid.proofs.Fields.{indices-few, made-indices}
 use Rattle.grid_points.specs.Grid.{numIndices}
 use Rattle.grid.specs.Made.{shape}
-use Rattle.moves.proofs.Outcome.{the-type}
 use Rattle.moves.specs.Held.{answered, stateOf}
 use Rattle.moves.specs.declared.Outcome.{Outcome}
-use Rattle.moves.specs.declared.Outcome.the-variants.{FacetEnd, Moved, PlaceEnd}
+use Rattle.moves.specs.declared.Outcome.the-variants.{Moved}
 use Rattle.moves.specs.declared.Status.{Status}
 use Rattle.place.specs.Places.{Simplex}
 use Rattle.record_reading.specs.Said.{IsSaid, saidBy}
@@ -35,12 +32,12 @@ use Rattle.trail_places.proofs.Reached.{Arrives}
 use Rattle.trail_steps.proofs.Arrived.{OnlyPlace, WayLeads, facet-ends, only-long, place-ends, way-leads, way-ready}
 use Rattle.trail_steps.proofs.Named.{order-low, shows-few}
 use Rattle.trail_steps.proofs.NextPlace.{can-find, come-low, low-bit, nowhere, on, same-said, to-next, to-none}
-use Rattle.trail_steps.specs.Reading.{HasRead, Leads, agrees, problemBy, wayOf}
+use Rattle.trail_steps.specs.Reading.{HasRead, Leads, agrees, problemBy}
 use Rattle.trail_following.proofs.Led.{Led, led-all, led-none, led-on}
 use Rattle.trail_following.proofs.follow.Statement.{statement}
 use Rattle.trail_following.proofs.follow.Tie as tie
-use Rattle.ways.specs.Ways.{goneBy, wayAfter}
-use Rattle.ways.specs.declared.Way.{Way}
+use Rattle.ways.proofs.Outcomes.{one-of-three}
+use Rattle.ways.specs.Ways.{goneBy}
 
 abbrev Inv-loop : tie.InvT-loop
 Inv-loop g binomials tails previous next sizes first₀ coefficients₀ order₀ marks₀ trail from number s₀ at₀ without₀
@@ -229,29 +226,42 @@ ends c start a H e =
     ∙ ap (λ (n : ℕ). rebuiltFrom p n (v .0) (bytesOn c)) z
     ∙ e (l .left - 1)
 
-enum-known-outcome : tie.Need-enum-known-outcome Inv-loop μ-loop
-enum-known-outcome c = search needs
+enum-told : tie.Need-enum-told Inv-loop μ-loop
+enum-told c = search needs
 
 -- an end is no move
-not-on : (c : Made) (o : Outcome) → OneOf (1 ∷ 2 ∷ []) (tagOf the-type o) → (f : State) → given c o ≡ goes f → ⊥
-not-on c (Moved s) h f = ⊎-elim (λ e. omega arith) (λ e. omega arith) h
-not-on c (PlaceEnd k) h f = place-ends _ f k
-not-on c (FacetEnd k) h f = facet-ends _ f k
+stops : (c : Made) (o : Outcome) → c .moved-by .result ≡ o → ((f : State) → given c o ≡ goes f → ⊥) → (start : List ℕ)
+    (a : Simplex)
+    → (H : HasRead (begun (place c) .args .g) start (begun (place c) .args .tails .now) a
+    (stateOf (round (place c)) (begun (place c) .args .first .now) (begun (place c) .args .coefficients .now)
+    (begun (place c) .args .order .now) (begun (place c) .args .marks .now) (begun (place c) .args .begun)))
+    → rebuiltFrom (problemBy (begun (place c) .args .g) start) (begun (place c) .args .number) a
+    (drop (begun (place c) .args .from) (begun (place c) .args .trail .now))
+    ≡ none
+stops c o e other start a H =
+    let p = place c in
+    let v = p .before .before .before .loop .inv .3 start a H in
+    ends p start a H
+    (nowhere (v .1) (bytesOn p) (count p) (counted p (v .1)) (gone c) (leads c o e (v .1)) other)
 
 returns : tie.Need-returns Inv-loop μ-loop
-returns c start a H =
-    let m = c .before in
-    let v = place m .before .before .before .loop .inv .3 start a H in
-    ends (place m) start a H
-    (nowhere (v .1) (bytesOn (place m)) (count (place m)) (counted (place m) (v .1)) (gone m)
-    (leads m (m .moved-by .result) refl (v .1)) (not-on m (m .moved-by .result) (c .match .keys2)))
+returns c = stops (c .before .before) _ (c .enum-told .given .1) (λ f q. place-ends _ f _ q)
+
+enum-told-2 : tie.Need-enum-told-2 Inv-loop μ-loop
+enum-told-2 c = search needs
+
+returns-2 : tie.Need-returns-2 Inv-loop μ-loop
+returns-2 c = stops (c .before .before .before) _ (c .enum-told2 .given .1) (λ f q. facet-ends _ f _ q)
+
+enum-known-outcome : tie.Need-enum-known-outcome Inv-loop μ-loop
+enum-known-outcome c = search needs
 
 -- a place is reached
 abbrev Gone : Type 0
 Gone = tie.After-arrive-arg4 Inv-loop μ-loop
 
 abbrev made : Gone → Made
-made c = c .before .before .before .before .before .before .before
+made c = c .before .before .before .before .before .before .before .before .before
 
 abbrev status : Gone → Status
 status c = c .before .before .before .before .before .outcome .given .0 .0
@@ -368,8 +378,8 @@ next c z H =
           (m .moved-by .ensures .each) (w .below) (gone m) (K .0) (K .1) (K .2) (K .3) same low goes,
     )
 
-returns-2 : tie.Need-returns-2 Inv-loop μ-loop
-returns-2 c start a H =
+returns-3 : tie.Need-returns-3 Inv-loop μ-loop
+returns-3 c start a H =
     let d = c .before in
     ends (here d) start a H
     (differs d (not-true _ (c .if1 .taken)) (here d .before .before .before .loop .inv .3 start a H .1))
@@ -436,11 +446,18 @@ loop-again c =
       omega (arith, few, k, l .inv .6),
     )
 
-sub-t38 : tie.Need-sub-t38 Inv-loop μ-loop
-sub-t38 c = omega (arith, c .before .loop .inv .6)
+-- an outcome is one of three
+loop-less-2 : tie.Need-loop-less-2 Inv-loop μ-loop
+loop-less-2 c = absurd (one-of-three _ (c .before .before .match .keys2) (c .before .match2 .keys2) (c .match3 .keys2))
 
-returns-3 : tie.Need-returns-3 Inv-loop μ-loop
-returns-3 c start a H =
+loop-again-2 : tie.Need-loop-again-2 Inv-loop μ-loop
+loop-again-2 c = absurd (one-of-three _ (c .before .before .match .keys2) (c .before .match2 .keys2) (c .match3 .keys2))
+
+sub-came : tie.Need-sub-came Inv-loop μ-loop
+sub-came c = omega (arith, c .before .loop .inv .6)
+
+returns-4 : tie.Need-returns-4 Inv-loop μ-loop
+returns-4 c start a H =
     let s = c .before .before .before in
     let l = c .before .loop in
     let v = l .inv .3 start a H in
@@ -468,14 +485,19 @@ follow-spec =
     part-bytes-end
     said-at-requires
     moved-by-requires
-    enum-known-outcome
+    enum-told
     returns
-    arrive-requires
+    enum-told-2
     returns-2
+    enum-known-outcome
+    arrive-requires
+    returns-3
     add-without
     add-at
     sub-left
     loop-less
     loop-again
-    sub-t38
-    returns-3)
+    loop-less-2
+    loop-again-2
+    sub-came
+    returns-4)
