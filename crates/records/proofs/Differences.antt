@@ -8,7 +8,7 @@ use borrow.Author.Tests.{eq-eqb, ne-eqb}
 use lib.Dec.{eqb}
 use lib.ListN.{length}
 use native.Mathlib.Omega.{arith}
-use Rattle.combinatorics.proofs.Basics.{absurd-bool, same-or, true-or-false}
+use Rattle.combinatorics.proofs.Basics.{same-or, true-or-false, beq-same, same-beq}
 use Rattle.rules.specs.Mask.{bit}
 use Rattle.rules.proofs.SameMasks.{same-mask}
 use Rattle.records.specs.Records.{SameSets, differingFrom, differing, keptRecord, recordFrom}
@@ -18,18 +18,6 @@ beq-unlike true true n = absurd (n refl)
 beq-unlike false false n = absurd (n refl)
 beq-unlike true false n = refl
 beq-unlike false true n = refl
-
-beq-alike : (x y : Bool) → x ≡ y → Bool·beq x y ≡ true
-beq-alike true true e = refl
-beq-alike false false e = refl
-beq-alike true false e = absurd-bool e
-beq-alike false true e = absurd-bool (sym e)
-
-alike-beq : (x y : Bool) → Bool·beq x y ≡ true → x ≡ y
-alike-beq true true e = refl
-alike-beq false false e = refl
-alike-beq true false e = absurd-bool (sym e)
-alike-beq false true e = absurd-bool (sym e)
 
 -- the search, step by step
 module _ (a b : ℕ) where
@@ -54,7 +42,7 @@ module _ (a b : ℕ) where
   only-from zero k h s l m d rest = absurd (omega arith)
   only-from (suc n) k h s l m d rest = ⊎-elim
       (λ (e : k ≡ h). differs-here (suc n) k (rw e (beq-unlike _ _ d)) ∙ e)
-      (λ ne. differs-later n k (beq-alike _ _ (rest k (omega arith) ne))
+      (λ ne. differs-later n k (same-beq _ _ (rest k (omega arith) ne))
       ∙ only-from n (suc k) h (omega arith) (omega (arith, ne)) m d rest)
       (same-or k h)
 
@@ -66,7 +54,7 @@ module _ (a b : ℕ) where
   none-from : (n k : ℕ) → k + n ≡ 16 → ((i : ℕ) → i < 16 → bit a i ≡ bit b i) → differingFrom a b n k ≡ 16
   none-from zero k s rest = differs-spent 0 k refl ∙ omega arith
   none-from (suc n) k s rest =
-      differs-later n k (beq-alike _ _ (rest k (omega arith))) ∙ none-from n (suc k) (omega arith) rest
+      differs-later n k (same-beq _ _ (rest k (omega arith))) ∙ none-from n (suc k) (omega arith) rest
 
   pub none-differs : ((i : ℕ) → i < 16 → bit a i ≡ bit b i) → differing a b ≡ 16
   none-differs rest = none-from 16 0 (omega arith) rest
@@ -79,7 +67,7 @@ module _ (a b : ℕ) where
   alike-from zero k s e i l m = absurd (omega arith)
   alike-from (suc n) k s e i l m =
       ⊎-elim
-      (λ (q : Bool·beq (bit a k) (bit b k) ≡ true). ⊎-elim (λ (z : i ≡ k). rw z (alike-beq _ _ q))
+      (λ (q : Bool·beq (bit a k) (bit b k) ≡ true). ⊎-elim (λ (z : i ≡ k). rw z (beq-same _ _ q))
       (λ ne. alike-from n (suc k) (omega arith) (sym (differs-later n k q) ∙ e) i (omega (arith, ne)) m) (same-or i k))
       (λ (q : Bool·beq (bit a k) (bit b k) ≡ false). absurd (omega (arith, sym (differs-here (suc n) k q) ∙ e)))
       (true-or-false (Bool·beq (bit a k) (bit b k)))

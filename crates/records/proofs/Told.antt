@@ -7,21 +7,20 @@ use mathlib.Core.Path.{_≡_, refl, sym, ap, _∙_}
 use Prim.Native.Nat.{ℕ, _<_}
 use borrow.Author.Tests.{eq-eqb, ne-eqb}
 use lib.Dec.{eqb}
-use lib.ListN.{length, replicate, take}
+use lib.ListN.{length, replicate}
 use lib.Seq.{paste, take-length}
 use native.Mathlib.Omega.{arith}
-use Rattle.combinatorics.proofs.Basics.{absurd-bool, both, same-or, true-or-false}
+use Rattle.combinatorics.proofs.Basics.{absurd-bool, both, same-or}
 use Rattle.combinatorics.proofs.Fronts.{front-taken}
-use Rattle.combinatorics.proofs.Lists.{onNumbers}
 use Rattle.combinatorics.specs.Lists.{isIn}
 use Rattle.place.specs.Places.{Simplex, setT, setU}
 use Rattle.place.specs.Problem.{Problem}
 use Rattle.rules.proofs.Masks.{bit-with, bit-without}
 use Rattle.rules.specs.Mask.{bit, withIndex, withoutIndex}
-use Rattle.trail.proofs.Rules.{recorded}
-use Rattle.trail.proofs.Outside.{in-outside}
+use Rattle.trail.proofs.Rules.{recorded, change-sets}
+use Rattle.trail.proofs.Outside.{within-other}
 use Rattle.trail.proofs.Shapes.{less-of}
-use Rattle.trail.specs.Change.{Change, change, changeBy, outside, ByRule, rule1, rule2, rule3, rule4, rule5, rule6}
+use Rattle.trail.specs.Change.{Change, change, outside, ByRule, rule1, rule2, rule3, rule4, rule5, rule6}
 use Rattle.trail.specs.Change.{rule7}
 use Rattle.trail.specs.Record.{recordOf, recordBy}
 use Rattle.records.specs.Records.{differing, recordFrom, IsRecord}
@@ -32,10 +31,6 @@ use Rattle.records.proofs.Differences.{only-differs, none-differs}
 pub record IsMask (mask : ℕ) (set : List ℕ) : Type 0 where
   pub bits : (k : ℕ) → k < 16 → bit mask k ≡ isIn eqb k set
   pub below : (k : ℕ) → isIn eqb k set ≡ true → k < 16
-
-within-other : (u v : List ℕ) → outside eqb v u ≡ [] → (k : ℕ) → isIn eqb k u ≡ true → isIn eqb k v ≡ true
-within-other u v q k m =
-    ⊎-elim (λ y. y) (λ z. absurd-bool (sym (rw q at (in-outside onNumbers k u v m z)))) (true-or-false (isIn eqb k v))
 
 -- the mask of the first set, changed as the set is, has the indices of the second
 module _ {a : ℕ} {u : List ℕ} (A : IsMask a u) (v : List ℕ) where
@@ -96,10 +91,6 @@ module _ {a b : ℕ} {u v : List ℕ} (A : IsMask a u) (B : IsMask b v) where
       let w = differs l (λ q. absurd-bool (sym (A .bits h l ∙ L .has) ∙ q ∙ y)) (λ k n. sym (L .rest k n)) in
       (w .0, w .1, y)
 
--- a record's bytes, as its array has them
-pub taken-record : {bytes : List ℕ} {r : Record} → IsRecord bytes r → take (r .length) (r .bytes) ≡ bytes
-taken-record {bytes} R = rw (R .are, R .long) (front-taken bytes (replicate 8 0))
-
 -- stored from its array, or by its bytes
 pub pasted : {bytes : List ℕ} {r : Record} → IsRecord bytes r → (d : List ℕ) (at : ℕ)
     → paste d at (r .bytes) (r .length) ≡ paste d at bytes (length bytes)
@@ -109,26 +100,15 @@ module _ (p : Problem) (a b : Simplex) {T U T' U' y z : ℕ} (t : IsMask T (setT
     (u : IsMask U (setU p.grid a)) (u' : IsMask U' (setU p.grid b))
     (come : (x : ℕ) → change p a b .pointsIn ≡ x ∷ [] → y ≡ x)
     (gone : (x : ℕ) → change p a b .pointsOut ≡ x ∷ [] → z ≡ x) where
-  pub into : {i o t t' u u' : List ℕ} → change p a b ≡ changeBy i o t t' u u'
-      → (outside eqb (setT p a) (setT p b) ≡ t) × (outside eqb (setT p b) (setT p a) ≡ t')
-      × (outside eqb (setU p.grid a) (setU p.grid b) ≡ u) × (outside eqb (setU p.grid b) (setU p.grid a) ≡ u')
-  unfolding change
-  into e = (
-    ap (λ (c : Change). c .intoT) e,
-    ap (λ (c : Change). c .outOfT) e,
-    ap (λ (c : Change). c .intoU) e,
-    ap (λ (c : Change). c .outOfU) e,
-  )
-
   go : {r : ℕ} (m : ByRule (change p a b) r) → recordFrom T U T' U' y z ≡ recordBy m
   unfolding recordFrom
   go (rule1 x w e) =
-      let i = into e in
+      let i = change-sets p a b e in
       let d = kept t t' (i .0) (i .1) in
       let f = kept u u' (i .2) (i .3) in
       rw (d, f, come x (ap (λ (c : Change). c .pointsIn) e), gone w (ap (λ (c : Change). c .pointsOut) e))
   go (rule2 x w h e) =
-      let i = into e in
+      let i = change-sets p a b e in
       let d = kept t t' (i .0) (i .1) in
       let f = gained u u' (i .2) (i .3) in
       rw (
@@ -140,7 +120,7 @@ module _ (p : Problem) (a b : Simplex) {T U T' U' y z : ℕ} (t : IsMask T (setT
         gone w (ap (λ (c : Change). c .pointsOut) e),
       )
   go (rule3 x w h e) =
-      let i = into e in
+      let i = change-sets p a b e in
       let d = kept t t' (i .0) (i .1) in
       let f = lost u u' (i .2) (i .3) in
       rw (
@@ -152,22 +132,22 @@ module _ (p : Problem) (a b : Simplex) {T U T' U' y z : ℕ} (t : IsMask T (setT
         gone w (ap (λ (c : Change). c .pointsOut) e),
       )
   go (rule4 x h e) =
-      let i = into e in
+      let i = change-sets p a b e in
       let d = gained t t' (i .0) (i .1) in
       let f = kept u u' (i .2) (i .3) in
       rw (d .1, d .0, d .2, f, come x (ap (λ (c : Change). c .pointsIn) e))
   go (rule5 x h e) =
-      let i = into e in
+      let i = change-sets p a b e in
       let d = gained t t' (i .0) (i .1) in
       let f = lost u u' (i .2) (i .3) in
       rw (d .1, d .0, d .2, f .1, f .0, come x (ap (λ (c : Change). c .pointsIn) e))
   go (rule6 w h e) =
-      let i = into e in
+      let i = change-sets p a b e in
       let d = lost t t' (i .0) (i .1) in
       let f = gained u u' (i .2) (i .3) in
       rw (d .1, d .0, d .2, f .1, f .0, gone w (ap (λ (c : Change). c .pointsOut) e))
   go (rule7 w h e) =
-      let i = into e in
+      let i = change-sets p a b e in
       let d = lost t t' (i .0) (i .1) in
       let f = kept u u' (i .2) (i .3) in
       rw (d .1, d .0, d .2, f, gone w (ap (λ (c : Change). c .pointsOut) e))

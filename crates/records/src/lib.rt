@@ -12,7 +12,7 @@ ghost use Rattle.records.specs.Records.{firstRecord, keptRecord, HasLeng
 use arrays::has;
 
 // T and U of a place, as masks.
-pub struct Sets {
+pub struct IndexSets {
     pub t: u16,
     pub u: u16,
 }
@@ -150,7 +150,7 @@ fn left(before: u16, after: u16, h: usize, gone: usize) -> Record
 }
 
 // The record of a place behind the first.
-pub fn record_of(before: Sets, after: Sets, come: usize, gone: usize) -> Record
+pub fn record_of(before: IndexSets, after: IndexSets, come: usize, gone: usize) -> Record
     requires { ⌜ (come < 65536) × (gone < 65536) ⌝ }
     ensures { λ r. ⌜ IsRecord (recordFrom (before .t) (before .u) (after .t) (after .u) come gone) r ⌝ }
 {
@@ -165,7 +165,7 @@ pub fn record_of(before: Sets, after: Sets, come: usize, gone: usize) -> Record
 }
 
 // How many bytes the record of a place behind the first has: the sets alone tell, whatever points come in and go out.
-pub fn length_of(before: Sets, after: Sets) -> usize
+pub fn length_of(before: IndexSets, after: IndexSets) -> usize
     ensures { λ r. ⌜ ((come gone : ℕ)
         → r ≡ length (recordFrom (before .t) (before .u) (after .t) (after .u) come gone)) ⌝ }
 {
@@ -220,42 +220,19 @@ pub fn put(trail: &mut [u8], at: usize, made: Record)
     trail[at + 6] = bytes[6];
 }
 
-// The bytes of the trail from a position on begin with the record's: each by its number, as they are stored.
-pub fn stands(trail: &[u8], at: usize, made: Record) -> bool
-    requires { ⌜ (at ≤ length (now trail)) × HasLength (made .length) × (length (made .bytes) ≡ 8) ⌝ }
-    ensures { λ r. ⌜ r ≡ begins (take (made .length) (made .bytes)) (drop at (now (trail .entry))) ⌝ }
+// The trail begins with the record of {v}, which has this position: byte by byte.
+pub fn first_stands(trail: &[u8], position: usize) -> bool
+    requires { ⌜ position < 65536 ⌝ }
+    ensures { λ r. ⌜ r ≡ begins (firstRecord position) (now (trail .entry)) ⌝ }
 {
-    let bytes = made.bytes;
-    let n = made.length;
-    if trail.len() - at < n {
+    if trail.len() < 3 {
         return false;
     }
-    if trail[at] != bytes[0] {
+    if trail[0] != 1 {
         return false;
     }
-    if trail[at + 1] != bytes[1] {
+    if trail[1] != low_byte(position) {
         return false;
     }
-    if trail[at + 2] != bytes[2] {
-        return false;
-    }
-    if n < 5 {
-        return true;
-    }
-    if trail[at + 3] != bytes[3] {
-        return false;
-    }
-    if trail[at + 4] != bytes[4] {
-        return false;
-    }
-    if n < 6 {
-        return true;
-    }
-    if trail[at + 5] != bytes[5] {
-        return false;
-    }
-    if n < 7 {
-        return true;
-    }
-    trail[at + 6] == bytes[6]
+    trail[2] == high_byte(position)
 }

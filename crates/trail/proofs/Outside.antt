@@ -1,14 +1,16 @@
 -- Lists less another list: what is left, and how much. Assumes nothing.
 use mathlib.Core.Bool.{true, false, not}
 use mathlib.Core.List.{List, [], _∷_}
+use mathlib.Core.Logic.{⊎-elim}
 use mathlib.Core.Path.{_≡_, refl, sym, _∙_}
-use Prim.Native.Nat.{_+_, _≤_}
+use Prim.Native.Nat.{ℕ, _+_, _≤_}
+use lib.Dec.{eqb}
 use lib.ListN.{length}
 use native.Mathlib.Omega.{arith}
-use Rattle.combinatorics.proofs.Basics.{absurd-bool, not-is}
+use Rattle.combinatorics.proofs.Basics.{absurd-bool, not-is, true-or-false}
 use Rattle.combinatorics.proofs.Lists.{Equality, in-here, in-filter, filter-in, distinct-filter, pigeon, only-list}
 use Rattle.combinatorics.specs.Lists.{filter, isIn, distinct}
-use Rattle.combinatorics.proofs.Lists.{length-passing}
+use Rattle.combinatorics.proofs.Lists.{length-passing, onNumbers}
 use Rattle.trail.specs.Change.{outside}
 
 pub one-of : {A : Type 0} (xs : List A) → length xs ≡ 1 → (x : A) × (xs ≡ x ∷ [])
@@ -63,3 +65,8 @@ module _ {A : Type 0} (E : Equality A) where
       (pigeon E (outside E.eq b a) (g ∷ []) (distinct-filter E (λ x. not (isIn E.eq x b)) a d)
       (λ x k. let w = outside-in x a b k in rw (only x w.0 w.1) (in-here E g [])))
       (in-outside g a b m n)
+
+-- with nothing left out of one list by another, its numbers are all in the other
+pub within-other : (u v : List ℕ) → outside eqb v u ≡ [] → (k : ℕ) → isIn eqb k u ≡ true → isIn eqb k v ≡ true
+within-other u v q k m =
+    ⊎-elim (λ y. y) (λ z. absurd-bool (sym (rw q at (in-outside onNumbers k u v m z)))) (true-or-false (isIn eqb k v))

@@ -1,11 +1,15 @@
 -- The seven rules exclude each other; the bytes of each one's record; the rule of the change back. Assumes nothing.
-use mathlib.Core.List.{[], _∷_}
+use mathlib.Core.List.{List, [], _∷_}
 use mathlib.Core.Path.{_≡_, ap}
 use Prim.Native.Nat.{ℕ, zero, suc, _<_, _≤_}
+use lib.Dec.{eqb}
 use lib.ListN.{length}
 use native.Mathlib.Omega.{arith}
 use Rattle.combinatorics.proofs.Lists.{eqb-self}
-use Rattle.trail.specs.Change.{Change, rules, changeBy, ByRule, rule1, rule2, rule3, rule4, rule5, rule6, rule7}
+use Rattle.place.specs.Places.{Simplex, setT, setU}
+use Rattle.place.specs.Problem.{Problem}
+use Rattle.trail.specs.Change.{Change, change, changeBy, outside, rules}
+use Rattle.trail.specs.Change.{ByRule, rule1, rule2, rule3, rule4, rule5, rule6, rule7}
 use Rattle.trail.specs.Record.{fields, encoded, recordBy}
 
 -- the rule of the change back
@@ -66,3 +70,15 @@ module _ {c : Change} where
   back (rule5 y h e) = rule6 y h (rw e)
   back (rule6 z h e) = rule5 z h (rw e)
   back (rule7 z h e) = rule4 z h (rw e)
+
+-- what T and U gain and lose
+pub change-sets : (p : Problem) (a b : Simplex) {i o t t' u u' : List ℕ} → change p a b ≡ changeBy i o t t' u u'
+    → (outside eqb (setT p a) (setT p b) ≡ t) × (outside eqb (setT p b) (setT p a) ≡ t')
+    × (outside eqb (setU p.grid a) (setU p.grid b) ≡ u) × (outside eqb (setU p.grid b) (setU p.grid a) ≡ u')
+unfolding change
+change-sets p a b e = (
+  ap (λ (c : Change). c .intoT) e,
+  ap (λ (c : Change). c .outOfT) e,
+  ap (λ (c : Change). c .intoU) e,
+  ap (λ (c : Change). c .outOfU) e,
+)

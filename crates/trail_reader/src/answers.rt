@@ -17,8 +17,7 @@ use moves::Status;
 use path_walk::begin;
 use place_points::put_points;
 use positions::ENTRIES;
-use records::first_record;
-use records::stands;
+use records::first_stands;
 use trail_following::Reached;
 use trail_following::follow;
 
@@ -116,7 +115,7 @@ fn rebuilt(
     let s = begin(first, m);
     let tails = positions::tails(first, m);
     let position = start_position(g, binomials, first);
-    if !stands(trail, 0, first_record(position)) {
+    if !first_stands(trail, position) {
         return refused(17);
     }
     marks[0] = position as u32 * 256;

@@ -10,8 +10,8 @@ ghost use Rattle.trail_visits.specs.Visited.{CanWrite, HasPositions, rec
 ghost use Rattle.ways.specs.Ways.{goneBy, heldMarks};
 use arrays::position_at;
 use moves::Status;
+use records::IndexSets;
 use records::Record;
-use records::Sets;
 use records::first_record;
 use records::kept_record;
 use records::length_of;
@@ -38,11 +38,11 @@ fn record_here(marks: &[u32; 16], s: Status, before: Before, at: usize) -> Recor
     if at == 0 {
         return first_record(come);
     }
-    let from = Sets {
+    let from = IndexSets {
         t: before.t,
         u: before.u,
     };
-    let to = Sets { t: s.t, u: s.u };
+    let to = IndexSets { t: s.t, u: s.u };
     record_of(from, to, come, before.gone)
 }
 
@@ -97,8 +97,8 @@ pub fn bytes_to(s: Status, next: Status) -> usize
     if next.rule == 1 {
         return 6;
     }
-    let from = Sets { t: s.t, u: s.u };
-    let to = Sets {
+    let from = IndexSets { t: s.t, u: s.u };
+    let to = IndexSets {
         t: next.t,
         u: next.u,
     };

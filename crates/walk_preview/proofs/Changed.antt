@@ -16,11 +16,12 @@ use Rattle.place.specs.Problem.{Problem}
 use Rattle.path_laws.proofs.Meaning.{T-means, U-means}
 use Rattle.path_laws.specs.Demand.{Accepted}
 use Rattle.recogniser.specs.Pieces.{bareMark}
-use Rattle.records.proofs.Told.{IsMask, gained, into, kept, lost}
+use Rattle.records.proofs.Told.{IsMask, gained, kept, lost}
 use Rattle.rules.specs.Mask.{bit}
 use Rattle.rules.specs.Step.{markPosition}
-use Rattle.trail.specs.Change.{ByRule, Change, change, changeBy, outside, rule1, rule2, rule3, rule4, rule5, rule6}
+use Rattle.trail.specs.Change.{ByRule, Change, change, outside, rule1, rule2, rule3, rule4, rule5, rule6}
 use Rattle.trail.specs.Change.{rule7}
+use Rattle.trail.proofs.Rules.{change-sets}
 use Rattle.walk_places.proofs.BothPlaced.{bare-position, bare-tells}
 use Rattle.walk_preview.specs.Changes.{changeFor, changedOf, indexFrom, otherIn}
 
@@ -67,17 +68,12 @@ module _ (p : Problem) (a b : Simplex) {T U T' U' y z : ℕ} (t : IsMask T (setT
     (u : IsMask U (setU p.grid a)) (u' : IsMask U' (setU p.grid b))
     (come : (x : ℕ) → change p a b .pointsIn ≡ x ∷ [] → y ≡ x)
     (gone : (x : ℕ) → change p a b .pointsOut ≡ x ∷ [] → z ≡ x) where
-  abbrev parts : {i o t t' u u' : List ℕ} → change p a b ≡ changeBy i o t t' u u'
-      → (outside eqb (setT p a) (setT p b) ≡ t) × (outside eqb (setT p b) (setT p a) ≡ t')
-      × (outside eqb (setU p.grid a) (setU p.grid b) ≡ u) × (outside eqb (setU p.grid b) (setU p.grid a) ≡ u')
-  parts e = into p a b t t' u u' come gone e
-
   pub changed : {r : ℕ} → ByRule (change p a b) r → changeFor r y z (suc (indexFrom T U T' U')) ≡ changedOf
       (change p a b)
   changed (rule1 x w e) = rw (come x (ap (λ (c : Change). c .pointsIn) e), gone w (ap (λ (c : Change). c .pointsOut) e))
       (sym (ap changedOf e))
   changed (rule2 x w h e) =
-      let i = parts e in let f = gained u u' (i .2) (i .3) in
+      let i = change-sets p a b e in let f = gained u u' (i .2) (i .3) in
       rw (
         kept t t' (i .0) (i .1),
         f .1,
@@ -86,7 +82,7 @@ module _ (p : Problem) (a b : Simplex) {T U T' U' y z : ℕ} (t : IsMask T (setT
             (ap (λ (c : Change). c .pointsOut) e),
       ) (sym (ap changedOf e))
   changed (rule3 x w h e) =
-      let i = parts e in let f = lost u u' (i .2) (i .3) in
+      let i = change-sets p a b e in let f = lost u u' (i .2) (i .3) in
       rw (
         kept t t' (i .0) (i .1),
         f .1,
@@ -95,14 +91,14 @@ module _ (p : Problem) (a b : Simplex) {T U T' U' y z : ℕ} (t : IsMask T (setT
             (ap (λ (c : Change). c .pointsOut) e),
       ) (sym (ap changedOf e))
   changed (rule4 x h e) =
-      let i = parts e in let d = gained t t' (i .0) (i .1) in
+      let i = change-sets p a b e in let d = gained t t' (i .0) (i .1) in
       rw (d .1, d .0, come x (ap (λ (c : Change). c .pointsIn) e)) (sym (ap changedOf e))
   changed (rule5 x h e) =
-      let i = parts e in let d = gained t t' (i .0) (i .1) in
+      let i = change-sets p a b e in let d = gained t t' (i .0) (i .1) in
       rw (d .1, d .0, come x (ap (λ (c : Change). c .pointsIn) e)) (sym (ap changedOf e))
   changed (rule6 w h e) =
-      let i = parts e in let d = lost t t' (i .0) (i .1) in
+      let i = change-sets p a b e in let d = lost t t' (i .0) (i .1) in
       rw (d .1, d .0, gone w (ap (λ (c : Change). c .pointsOut) e)) (sym (ap changedOf e))
   changed (rule7 w h e) =
-      let i = parts e in let d = lost t t' (i .0) (i .1) in
+      let i = change-sets p a b e in let d = lost t t' (i .0) (i .1) in
       rw (d .1, d .0, gone w (ap (λ (c : Change). c .pointsOut) e)) (sym (ap changedOf e))

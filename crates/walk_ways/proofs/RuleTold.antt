@@ -1,21 +1,22 @@
 -- The rule that masks tell is the rule of the change. Assumes nothing.
 use mathlib.Core.Bool.{true, false, not}
 use mathlib.Core.List.{List, [], _∷_}
-use mathlib.Core.Logic.{⊎-elim}
-use mathlib.Core.Path.{_≡_, sym, ap, _∙_}
+use mathlib.Core.Path.{_≡_, sym, _∙_}
 use Prim.Native.Nat.{ℕ, _≤_, _<_}
 use lib.Dec.{eqb}
 use native.Mathlib.Omega.{arith}
-use Rattle.combinatorics.proofs.Basics.{absurd-bool, both, false-of, not-is, true-or-false}
-use Rattle.combinatorics.proofs.Lists.{filter-in, in-filter, in-here, onNumbers}
+use Rattle.combinatorics.proofs.Basics.{absurd-bool, both, false-of, not-is}
+use Rattle.combinatorics.proofs.Lists.{filter-in, in-here, onNumbers}
 use Rattle.combinatorics.specs.Lists.{isIn}
 use Rattle.place.specs.Places.{Simplex, setT, setU}
 use Rattle.place.specs.Problem.{Problem}
 use Rattle.path_laws.proofs.Meaning.{T-means, U-means}
 use Rattle.grid_points.specs.Grid.{numIndices}
 use Rattle.rules.specs.Mask.{bit}
-use Rattle.trail.specs.Change.{ByRule, Change, change, changeBy, outside, rule1, rule2, rule3, rule4, rule5, rule6}
+use Rattle.trail.specs.Change.{ByRule, change, outside, rule1, rule2, rule3, rule4, rule5, rule6}
 use Rattle.trail.specs.Change.{rule7}
+use Rattle.trail.proofs.Rules.{change-sets}
+use Rattle.trail.proofs.Outside.{within-other}
 use Rattle.walk_ways.proofs.MaskTests.{alike-of, of-alike, of-within, within-of}
 use Rattle.walk_ways.specs.Ways.{alike, ruleFrom, maskWithin}
 
@@ -23,12 +24,6 @@ use Rattle.walk_ways.specs.Ways.{alike, ruleFrom, maskWithin}
 pub record MaskOf (a : ℕ) (u : List ℕ) : Type 0 where
   pub bits : (k : ℕ) → k < 16 → bit a k ≡ isIn eqb k u
   pub below : (k : ℕ) → isIn eqb k u ≡ true → k < 16
-
-within-other : (u v : List ℕ) → outside eqb v u ≡ [] → (k : ℕ) → isIn eqb k u ≡ true → isIn eqb k v ≡ true
-within-other u v q k m = ⊎-elim
-    (λ y. y)
-    (λ z. absurd-bool (sym (rw q at (in-filter onNumbers (λ x. not (isIn eqb x v)) k u m (rw z)))))
-    (true-or-false (isIn eqb k v))
 
 one-outside : (u v : List ℕ) (h : ℕ) → outside eqb v u ≡ h ∷ [] → (isIn eqb h u ≡ true) × (isIn eqb h v ≡ false)
 one-outside u v h e =
@@ -67,43 +62,32 @@ module _ (p : Problem) (few : numIndices p.grid ≤ 16) (a b : Simplex) (T U T' 
   maskU : (s : Simplex) (m : ℕ) → ((k : ℕ) → k < 16 → bit m k ≡ isIn eqb k (setU p.grid s)) → MaskOf m (setU p.grid s)
   maskU s m h = record { bits = h; below = λ k e. omega (arith, U-means p.grid s k .0 e .0) }
 
-  into : {i o tt to ui uo : List ℕ} → change p a b ≡ changeBy i o tt to ui uo
-      → (outside eqb (setT p a) (setT p b) ≡ tt) × (outside eqb (setT p b) (setT p a) ≡ to)
-      × (outside eqb (setU p.grid a) (setU p.grid b) ≡ ui) × (outside eqb (setU p.grid b) (setU p.grid a) ≡ uo)
-  unfolding change
-  into e = (
-    ap (λ (c : Change). c .intoT) e,
-    ap (λ (c : Change). c .outOfT) e,
-    ap (λ (c : Change). c .intoU) e,
-    ap (λ (c : Change). c .outOfU) e,
-  )
-
   pub rule-told : {r : ℕ} → ByRule (change p a b) r → ruleFrom T U T' U' ≡ r
   unfolding ruleFrom
   rule-told (rule1 y z e) =
-      let i = into e in
+      let i = change-sets p a b e in
       rw (kept (maskT a T t) (maskT b T' t') i.0 i.1, kept (maskU a U u) (maskU b U' u') i.2 i.3)
   rule-told (rule2 y z h e) =
-      let i = into e in
+      let i = change-sets p a b e in
       let f = gained (maskU a U u) (maskU b U' u') h i.2 i.3 in
       rw (kept (maskT a T t) (maskT b T' t') i.0 i.1, f .0, f .1)
   rule-told (rule3 y z h e) =
-      let i = into e in
+      let i = change-sets p a b e in
       let f = lost (maskU a U u) (maskU b U' u') h i.2 i.3 in
       rw (kept (maskT a T t) (maskT b T' t') i.0 i.1, f .0, f .1)
   rule-told (rule4 y h e) =
-      let i = into e in
+      let i = change-sets p a b e in
       let d = gained (maskT a T t) (maskT b T' t') h i.0 i.1 in
       rw (d .0, d .1, kept (maskU a U u) (maskU b U' u') i.2 i.3)
   rule-told (rule5 y h e) =
-      let i = into e in
+      let i = change-sets p a b e in
       let d = gained (maskT a T t) (maskT b T' t') h i.0 i.1 in
       rw (d .0, d .1, lost (maskU a U u) (maskU b U' u') h i.2 i.3 .0)
   rule-told (rule6 z h e) =
-      let i = into e in
+      let i = change-sets p a b e in
       let d = lost (maskT a T t) (maskT b T' t') h i.0 i.1 in
       rw (d .0, d .1, gained (maskU a U u) (maskU b U' u') h i.2 i.3 .0)
   rule-told (rule7 z h e) =
-      let i = into e in
+      let i = change-sets p a b e in
       let d = lost (maskT a T t) (maskT b T' t') h i.0 i.1 in
       rw (d .0, d .1, kept (maskU a U u) (maskU b U' u') i.2 i.3)

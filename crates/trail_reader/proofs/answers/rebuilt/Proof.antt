@@ -11,7 +11,6 @@ use Rattle.grid.proofs.Fields.{indices-few}
 use Rattle.moves.specs.Held.{stateOf}
 use Rattle.place.specs.Problem.{Problem}
 use Rattle.path_laws.proofs.LabelsRead.{came-few}
-use Rattle.records.proofs.Told.{taken-record}
 use Rattle.trail.specs.Record.{startRecord}
 use Rattle.trail.specs.Trail.{begins, placesFrom}
 use Rattle.trail_steps.specs.Reading.{HasRead, problemBy}
@@ -32,48 +31,45 @@ start-position-requires c κs =
     let w = c .before .before .before .before .before .before .pre .0 in
     record { measured = w .measured; firstLength = w .firstLength; settled = w .settled }
 
-first-record-requires : tie.Need-first-record-requires
-first-record-requires c κs = c .start-position .ensures .1
-
-stands-requires : tie.Need-stands-requires
-stands-requires c κs = let R = c .first-record .ensures in (omega arith, rw (R .long) (R .sized), R .eight)
+first-stands-requires : tie.Need-first-stands-requires
+first-stands-requires c κs = c .start-position .ensures .1
 
 -- v's record has been compared: the start, grid and start, and whether the trail begins with the record
 abbrev Compared : Type 0
-Compared = tie.After-stands
+Compared = tie.After-first-stands
+
+abbrev entered : Compared → tie.Start
+entered c = c .before .before .before .before .before .before .before .before
 
 abbrev start : Compared → List ℕ
-start c =
-    let a = c .before .before .before .before .before .before .before .before .before .args in
-    take (a .g .indices) (a .first .now)
+start c = let a = entered c .args in take (a .g .indices) (a .first .now)
 
 abbrev problem : Compared → Problem
-problem c = problemBy (c .before .before .before .before .before .before .before .before .before .args .g) (start c)
+problem c = problemBy (entered c .args .g) (start c)
 
 told : (c : Compared)
-    → c .stands .result
+    → c .first-stands .result
     ≡ begins (startRecord (problem c))
-    (c .before .before .before .before .before .before .before .before .before .args .trail .now)
+    (entered c .args .trail .now)
 told c =
-    let trail = c .before .before .before .before .before .before .before .before .before .args .trail .now in
-    let position = c .before .before .start-position in
-    let is = taken-record (c .before .first-record .ensures)
-    ∙ first-is (problem c) trail (position .result) (position .ensures .0) in
-    c .stands .ensures ∙ ap (λ (r : List ℕ). begins r trail) is
+    let trail = entered c .args .trail .now in
+    let position = c .before .start-position in
+    c .first-stands .ensures
+    ∙ ap (λ (r : List ℕ). begins r trail) (first-is (problem c) trail (position .result) (position .ensures .0))
 
 -- with v's position in its mark the arrays hold {v}
 held : (c : Compared)
-    → let a = c .before .before .before .before .before .before .before .before .before .args in
-    let marks = set (replicate 16 0) 0 (c .before .before .start-position .result * 256) in
-    HasRead (a .g) (start c) (c .before .before .before .before .tails .result) (start c ∷ [])
+    → let a = entered c .args in
+    let marks = set (replicate 16 0) 0 (c .before .start-position .result * 256) in
+    HasRead (a .g) (start c) (c .before .before .before .tails .result) (start c ∷ [])
     (stateOf (roundOf (a .previous .now) (a .next .now) (a .sizes .now)) (a .first .now) (replicate 16 0)
-    (replicate 16 0) marks (c .before .before .before .before .before .before .begin .result))
+    (replicate 16 0) marks (c .before .before .before .before .before .begin .result))
 held c =
-    let a = c .before .before .before .before .before .before .before .before .before .args in
-    let w = c .before .before .before .before .before .before .before .before .before .pre .0 in
-    let begun = c .before .before .before .before .before .before .begin in
-    let tails = c .before .before .before .before .tails in
-    let position = c .before .before .start-position in
+    let a = entered c .args in
+    let w = entered c .pre .0 in
+    let begun = c .before .before .before .before .before .begin in
+    let tails = c .before .before .before .tails in
+    let position = c .before .start-position in
     v-read (a .g) (w .measured .made) (a .first .now) (w .settled) (a .previous .now) (a .next .now) (a .sizes .now)
     (replicate 16 0) (w .isRound) (w .firstLength) (begun .result) (begun .ensures) (tails .result) (tails .ensures)
     (position .result) (position .ensures .0)
@@ -84,17 +80,17 @@ refused-requires c κs = search needs
 returns : tie.Need-returns
 returns c =
     let v = c .before .before in
-    let s = c .before .before .before .before .before .before .before .before .before .before .before in
+    let s = entered v in
     let a = s .args in
     let no = sym (told v) ∙ not-true _ (c .before .if1 .taken) in
     reads-17 (a .g) (start v) (a .trail .now) (a .number) (c .refused .result) (c .refused .ensures)
     (not-first (problem v) (a .trail .now) (a .number) (s .pre .1) no)
 
 cast-marks : tie.Need-cast-marks
-cast-marks c = omega (arith, c .before .before .before .start-position .ensures .1)
+cast-marks c = omega (arith, c .before .before .start-position .ensures .1)
 
 mul-marks : tie.Need-mul-marks
-mul-marks c = omega (arith, c .before .before .before .start-position .ensures .1)
+mul-marks c = omega (arith, c .before .before .start-position .ensures .1)
 
 array-write-marks : tie.Need-array-write-marks
 array-write-marks c = search needs
@@ -102,15 +98,13 @@ array-write-marks c = search needs
 sub-follow : tie.Need-sub-follow
 sub-follow c = omega (
   arith,
-  c .before .before .before .before .before .before .before .before
-      .before .before .before .before .before .before .before .pre .1,
+  entered (c .before .before .before .before .before .before) .pre .1,
 )
 
 follow-requires : tie.Need-follow-requires
 follow-requires c κs =
     let v = c .before .before .before .before .before .before in
-    let s = c .before .before .before .before .before .before .before
-    .before .before .before .before .before .before .before .before in
+    let s = entered v in
     let w = s .pre .0 in
     let yes = sym (told v) ∙ not-false _ (c .before .before .before .before .before .if1 .left) in
     record {
@@ -118,8 +112,7 @@ follow-requires c κs =
       below = w .below;
       each = record { inOrder = refl; inMarks = refl };
       many = rw
-          (c .before .before .before .before .before .before .before
-          .before .before .before .before .before .begin .ensures .none);
+          (v .before .before .before .before .before .begin .ensures .none);
       place = (start v, start v ∷ [], held v);
       low = begins-three (problem v) (s .args .trail .now) yes;
     }
@@ -130,8 +123,7 @@ enum-known-reached c = search needs
 add-placed : tie.Need-add-placed
 add-placed c =
     let v = c .before .before .before .before .before .before .before .before .before .before .before .before in
-    let s = c .before .before .before .before .before .before .before .before .before .before
-    .before .before .before .before .before .before .before .before .before .before .before in
+    let s = entered v in
     let n = s .args .number - 1 in
     let R = (rw (c .before .before .before .reached .given .1)
     at (c .before .before .before .before .before .follow .ensures))
@@ -142,8 +134,7 @@ add-placed c =
 placed-requires : tie.Need-placed-requires
 placed-requires c κs =
     let v = c .before .before .before .before .before .before .before .before .before .before .before .before in
-    let s = c .before .before .before .before .before .before .before .before .before .before
-    .before .before .before .before .before .before .before .before .before .before .before in
+    let s = entered v in
     let a = s .args in
     let w = s .pre .0 in
     let few = indices-few (a .g) (w .measured .made) in
@@ -171,8 +162,7 @@ refused-requires-2 c κs = search needs
 returns-2 : tie.Need-returns-2
 returns-2 c =
     let v = c .before .before .before .before .before .before .before .before .before .before .before .before .before in
-    let s = c .before .before .before .before .before .before .before .before .before .before .before
-    .before .before .before .before .before .before .before .before .before .before .before in
+    let s = entered v in
     let a = s .args in
     let w = s .pre .0 in
     let trail = a .trail .now in
@@ -192,8 +182,7 @@ returns-2 c =
 returns-3 : tie.Need-returns-3
 returns-3 c =
     let v = c .before .before .before .before .before .before .before .before .before .before in
-    let s = c .before .before .before .before .before .before .before .before .before
-    .before .before .before .before .before .before .before .before .before .before in
+    let s = entered v in
     let a = s .args in
     let yes =
     sym (told v) ∙ not-false _ (c .before .before .before .before .before .before .before .before .before .if1 .left) in
@@ -209,8 +198,7 @@ rebuilt-spec =
     begin-requires
     tails-requires
     start-position-requires
-    first-record-requires
-    stands-requires
+    first-stands-requires
     refused-requires
     returns
     cast-marks
