@@ -142,7 +142,20 @@ pub record Reached (g : GridStruct) (first order : List ℕ) (n : ℕ) (marks st
   pub marked : (j : ℕ) → j < k → at marks j ≡ bareMark (shape g)
       (getD (keptPoints (shape g) (take (g .indices) first) (take n order)) j [])
 
-module _ (g : GridStruct) (made : IsMade g) (first order : List ℕ) (n : ℕ) where
+drop-first : (l : Simplex) (k : ℕ) (z : Point) (r : Simplex) → drop k l ≡ z ∷ r → getD l k [] ≡ z
+drop-first [] zero z r e = absurd-bool (cc)
+drop-first [] (suc k) z r e = absurd-bool (cc)
+drop-first (x ∷ l) zero z r e = cc
+drop-first (x ∷ l) (suc k) z r e = drop-first l k z r e
+
+drop-next : (l : Simplex) (k : ℕ) (z : Point) (r : Simplex) → drop k l ≡ z ∷ r → drop (suc k) l ≡ r
+drop-next [] zero z r e = absurd-bool (cc)
+drop-next [] (suc k) z r e = absurd-bool (cc)
+drop-next (x ∷ l) zero z r e = cc
+drop-next (x ∷ l) (suc k) z r e = drop-next l k z r e
+
+module _ {g : GridStruct} (made : IsMade g) {first order : List ℕ} {n : ℕ} {from : ℕ → ℕ} {marks₀ : List ℕ}
+    (M : CanMark g from first order n marks₀) where
   abbrev y : Point
   y = take (g .indices) first
 
@@ -155,155 +168,142 @@ module _ (g : GridStruct) (made : IsMade g) (first order : List ℕ) (n : ℕ) w
   abbrev points : Simplex
   points = keptPoints (shape g) y o
 
-  drop-first : (l : Simplex) (k : ℕ) (z : Point) (r : Simplex) → drop k l ≡ z ∷ r → getD l k [] ≡ z
-  drop-first [] zero z r e = absurd-bool (cc)
-  drop-first [] (suc k) z r e = absurd-bool (cc)
-  drop-first (x ∷ l) zero z r e = cc
-  drop-first (x ∷ l) (suc k) z r e = drop-first l k z r e
+  pub reached-none : Reached g first order n marks₀ (replicate 16 16) 0
+  reached-none = record {
+    long = refl;
+    counts = λ i l. let w = getD-replicate {A = ℕ} 16 i 16 0 l in (omega (arith, w), omega (arith, w));
+    on = record {
+      can = λ k l. omega (arith, getD-replicate {A = ℕ} 16 k 16 0 (omega (arith, few g made)));
+      point = rw
+          (with-none g made first (M .long)) (M .onGrid);
+    };
+    rest = ap (λ (z : Point). pointsBy (shape g) zeros z o) (with-none g made first (M .long));
+    can = ap (λ (z : Point). canStep (shape g) zeros z o) (with-none g made first (M .long));
+    marksLong = M .marksLong;
+    marked = λ j l. absurd (omega arith);
+  }
 
-  drop-next : (l : Simplex) (k : ℕ) (z : Point) (r : Simplex) → drop k l ≡ z ∷ r → drop (suc k) l ≡ r
-  drop-next [] zero z r e = absurd-bool (cc)
-  drop-next [] (suc k) z r e = absurd-bool (cc)
-  drop-next (x ∷ l) zero z r e = cc
-  drop-next (x ∷ l) (suc k) z r e = drop-next l k z r e
+  module _ {marks steps : List ℕ} {k : ℕ} (R : Reached g first order n marks steps k) (l : k < n) {h b : ℕ}
+      (isH : h ≡ at order k) (isB : b ≡ from h) where
+    abbrev z : Point
+    z = pointWith g first steps
 
-  module _ {from : ℕ → ℕ} {marks₀ : List ℕ} (M : CanMark g from first order n marks₀) where
-    pub reached-none : Reached g first order n marks₀ (replicate 16 16) 0
-    reached-none = record {
-      long = refl;
-      counts = λ i l. let w = getD-replicate {A = ℕ} 16 i 16 0 l in (omega (arith, w), omega (arith, w));
-      on = record {
-        can = λ k l. omega (arith, getD-replicate {A = ℕ} 16 k 16 0 (omega (arith, few g made)));
-        point = rw
-            (with-none g made first (M .long)) (M .onGrid);
-      };
-      rest = ap (λ (z : Point). pointsBy (shape g) zeros z o) (with-none g made first (M .long));
-      can = ap (λ (z : Point). canStep (shape g) zeros z o) (with-none g made first (M .long));
-      marksLong = M .marksLong;
-      marked = λ j l. absurd (omega arith);
-    }
+    long-o : length o ≡ n
+    long-o = length-take n order ∙ omega (arith, M .orderLong, M .few)
 
-    module _ {marks steps : List ℕ} {k : ℕ} (R : Reached g first order n marks steps k) (l : k < n) {h b : ℕ}
-        (isH : h ≡ at order k) (isB : b ≡ from h) where
-      abbrev z : Point
-      z = pointWith g first steps
+    next-o : drop k o ≡ h ∷ drop (suc k) o
+    next-o = drop-cons o k 0 (omega (arith, long-o)) ∙ ap (λ (x : ℕ). x ∷ drop (suc k) o)
+        (getD-take n order k 0 l ∙ sym isH)
 
-      long-o : length o ≡ n
-      long-o = length-take n order ∙ omega (arith, M .orderLong, M .few)
+    source : b ≡ firstBackOutside (shape g) zeros h
+    source = isB ∙ ap from isH ∙ M .sources k l ∙ ap (firstBackOutside (shape g) zeros) (sym isH)
 
-      next-o : drop k o ≡ h ∷ drop (suc k) o
-      next-o = drop-cons o k 0 (omega (arith, long-o)) ∙ ap (λ (x : ℕ). x ∷ drop (suc k) o)
-          (getD-take n order k 0 l ∙ sym isH)
+    low-h : h < g .indices
+    low-h = omega (arith, M .below k l, isH)
 
-      source : b ≡ firstBackOutside (shape g) zeros h
-      source = isB ∙ ap from isH ∙ M .sources k l ∙ ap (firstBackOutside (shape g) zeros) (sym isH)
+    low-b : b < g .indices
+    low-b = omega (arith, M .sourcesBelow k l, isB ∙ ap from isH)
 
-      pub low-h : h < g .indices
-      low-h = omega (arith, M .below k l, isH)
+    here-rest : drop k points ≡ z ∷ pointsBy (shape g) zeros (stepped (shape g) zeros h z) (drop (suc k) o)
+    here-rest = sym (R .rest) ∙ ap (pointsBy (shape g) zeros z) next-o
 
-      pub low-b : b < g .indices
-      low-b = omega (arith, M .sourcesBelow k l, isB ∙ ap from isH)
+    here-point : getD points k [] ≡ z
+    here-point = drop-first points k z _ here-rest
 
-      here-rest : drop k points ≡ z ∷ pointsBy (shape g) zeros (stepped (shape g) zeros h z) (drop (suc k) o)
-      here-rest = sym (R .rest) ∙ ap (pointsBy (shape g) zeros z) next-o
+    here-can : canStep (shape g) zeros y o ≡ (ltb 0 (at z (firstBackOutside (shape g) zeros h)) && canStep (shape g)
+        zeros (stepped (shape g) zeros h z) (drop (suc k) o))
+    here-can = sym (R .can) ∙ ap (canStep (shape g) zeros z) next-o
 
-      pub here-point : getD points k [] ≡ z
-      here-point = drop-first points k z _ here-rest
+    -- where there is nothing to take the steps end
+    pub cannot : at first b + at steps b ≤ 16 → canStep (shape g) zeros y o ≡ false
+    cannot e = here-can ∙ rw (← source, le-ltb 0 (at z b) (omega (arith, with-at g made first steps b low-b)))
 
-      here-can : canStep (shape g) zeros y o ≡ (ltb 0 (at z (firstBackOutside (shape g) zeros h)) && canStep (shape g)
-          zeros (stepped (shape g) zeros h z) (drop (suc k) o))
-      here-can = sym (R .can) ∙ ap (canStep (shape g) zeros z) next-o
+    module _ (some : 16 < at first b + at steps b) where
+      pub count-b : 0 < at steps b
+      count-b = let w = R .counts b (omega (arith, low-b, few g made)) in omega (arith, w .0, M .few)
 
-      -- where there is nothing to take the steps end
-      pub cannot : at first b + at steps b ≤ 16 → canStep (shape g) zeros y o ≡ false
-      cannot e = here-can ∙ rw (← source, le-ltb 0 (at z b) (omega (arith, with-at g made first steps b low-b)))
+      next-point : pointWith g first (shifted steps h b) ≡ stepped (shape g) zeros h z
+      next-point = with-step g made zeros first steps h b (R .long) source low-b count-b (R .on)
 
-      module _ (some : 16 < at first b + at steps b) where
-        pub count-b : 0 < at steps b
-        count-b = let w = R .counts b (omega (arith, low-b, few g made)) in omega (arith, w .0, M .few)
+      can-next : (i : ℕ) → i < g .indices → 16 ≤ at first i + at (shifted steps h b) i
+      can-next i m =
+          let w = shifted-at steps h b count-b i (omega (arith, R .long, few g made)) in
+          ⊎-elim (λ (e : i ≡ b). let q : one-at b i ≡ 1 = rw (eq-eqb i b e) in
+          omega (arith, w, ap (at first) e, ap (at steps) e))
+          (λ (e : i ≡ b → ⊥). let q : one-at b i ≡ 0 = rw (ne-eqb i b e) in omega (arith, w, R .on .can i m))
+          (same-or i b)
 
-        next-point : pointWith g first (shifted steps h b) ≡ stepped (shape g) zeros h z
-        next-point = with-step g made zeros first steps h b (R .long) source low-b count-b (R .on)
+      moves : MovedBy (shape g) z (pointWith g first (shifted steps h b)) h b
+      moves i il =
+          let m : i < g .indices = omega (arith, made-indices g made) in
+          omega (
+            arith,
+            with-at g made first steps i m,
+            with-at g made first (shifted steps h b) i m,
+            shifted-at steps h b count-b i (omega (arith, R .long, few g made)),
+            R .on .can i m,
+            can-next i m,
+          )
 
-        can-next : (i : ℕ) → i < g .indices → 16 ≤ at first i + at (shifted steps h b) i
-        can-next i m =
-            let w = shifted-at steps h b count-b i (omega (arith, R .long, few g made)) in
-            ⊎-elim (λ (e : i ≡ b). let q : one-at b i ≡ 1 = rw (eq-eqb i b e) in
-            omega (arith, w, ap (at first) e, ap (at steps) e))
-            (λ (e : i ≡ b → ⊥). let q : one-at b i ≡ 0 = rw (ne-eqb i b e) in omega (arith, w, R .on .can i m))
-            (same-or i b)
+      next-on : OnGrid g first (shifted steps h b)
+      next-on = record {
+        can = can-next;
+        point = moved-on (shape g) z (pointWith g first (shifted steps h b)) h b
+            (with-long g made first (shifted steps h b) ∙ made-indices g made) (R .on .point) moves
+            (omega (arith, low-h, made-indices g made)) (omega (arith, low-b, made-indices g made))
+            (ap (blockOf (shape g)) (isB ∙ ap from isH) ∙ M .inBlock k l ∙ ap (blockOf (shape g)) (sym isH));
+      }
 
-        moves : MovedBy (shape g) z (pointWith g first (shifted steps h b)) h b
-        moves i il =
-            let m : i < g .indices = omega (arith, made-indices g made) in
-            omega (
-              arith,
-              with-at g made first steps i m,
-              with-at g made first (shifted steps h b) i m,
-              shifted-at steps h b count-b i (omega (arith, R .long, few g made)),
-              R .on .can i m,
-              can-next i m,
-            )
+      pub reached-more : (r : ℕ) → r ≡ bareMark (shape g) z → Reached g first order n (set marks k r)
+          (shifted steps h b) (k + 1)
+      reached-more r e = record {
+        long = length-shifted steps h b ∙ R .long;
+        counts = λ i il. let w = shifted-at steps h b count-b i (omega (arith, R .long)) in
+            let v = R .counts i il in (
+              omega (arith, w, v .0, at-most-one b i, at-most-one h i),
+              omega
+                  (arith, w, v .1, at-most-one b i, at-most-one h i),
+            );
+        on = next-on;
+        rest = rw (add-one k) (ap (λ (q : Point). pointsBy (shape g) zeros q (drop (suc k) o)) next-point ∙ sym
+            (drop-next points k z _ here-rest));
+        can = rw (add-one k) (ap (λ (q : Point). canStep (shape g) zeros q (drop (suc k) o)) next-point
+            ∙ sym (here-can ∙ (rw (
+              ← source,
+              lt-ltb 0 (at z b)
+                  (omega (arith, with-at g made first steps b low-b)),
+            ))));
+        marksLong = length-set marks k r ∙ R .marksLong;
+        marked = λ j jl. ⊎-elim (λ (q : j ≡ k). rw q
+            (getD-set-same marks k r 0 (omega (arith, R .marksLong, M .few)) ∙ e ∙ ap (bareMark (shape g))
+            (sym here-point)))
+            (λ (q : j ≡ k → ⊥). getD-set-other marks k j r 0 q ∙ R .marked j (omega (arith, q))) (same-or j k);
+      }
 
-        next-on : OnGrid g first (shifted steps h b)
-        next-on = record {
-          can = can-next;
-          point = moved-on (shape g) z (pointWith g first (shifted steps h b)) h b
-              (with-long g made first (shifted steps h b) ∙ made-indices g made) (R .on .point) moves
-              (omega (arith, low-h, made-indices g made)) (omega (arith, low-b, made-indices g made))
-              (ap (blockOf (shape g)) (isB ∙ ap from isH) ∙ M .inBlock k l ∙ ap (blockOf (shape g)) (sym isH));
-        }
+  -- all steps are made: the last point's mark
+  module _ {marks steps : List ℕ} (R : Reached g first order n marks steps n) where
+    none-left : drop n o ≡ []
+    none-left = drop-all o n (omega (arith, length-take n order, M .orderLong, M .few))
+      where
+        drop-all : (l : List ℕ) (k : ℕ) → length l ≤ k → drop k l ≡ []
+        drop-all [] zero e = refl
+        drop-all [] (suc k) e = refl
+        drop-all (x ∷ l) zero e = absurd (omega arith)
+        drop-all (x ∷ l) (suc k) e = drop-all l k (omega arith)
 
-        pub reached-more : (r : ℕ) → r ≡ bareMark (shape g) z → Reached g first order n (set marks k r)
-            (shifted steps h b) (k + 1)
-        reached-more r e = record {
-          long = length-shifted steps h b ∙ R .long;
-          counts = λ i il. let w = shifted-at steps h b count-b i (omega (arith, R .long)) in
-              let v = R .counts i il in (
-                omega (arith, w, v .0, at-most-one b i, at-most-one h i),
-                omega
-                    (arith, w, v .1, at-most-one b i, at-most-one h i),
-              );
-          on = next-on;
-          rest = rw (add-one k) (ap (λ (q : Point). pointsBy (shape g) zeros q (drop (suc k) o)) next-point ∙ sym
-              (drop-next points k z _ here-rest));
-          can = rw (add-one k) (ap (λ (q : Point). canStep (shape g) zeros q (drop (suc k) o)) next-point
-              ∙ sym (here-can ∙ (rw (
-                ← source,
-                lt-ltb 0 (at z b)
-                    (omega (arith, with-at g made first steps b low-b)),
-              ))));
-          marksLong = length-set marks k r ∙ R .marksLong;
-          marked = λ j jl. ⊎-elim (λ (q : j ≡ k). rw q
-              (getD-set-same marks k r 0 (omega (arith, R .marksLong, M .few)) ∙ e ∙ ap (bareMark (shape g))
-              (sym here-point)))
-              (λ (q : j ≡ k → ⊥). getD-set-other marks k j r 0 q ∙ R .marked j (omega (arith, q))) (same-or j k);
-        }
+    pub can-all : canStep (shape g) zeros y o ≡ true
+    can-all = sym (R .can) ∙ ap (canStep (shape g) zeros (pointWith g first steps)) none-left
 
-    -- all steps are made: the last point's mark
-    module _ {marks steps : List ℕ} (R : Reached g first order n marks steps n) where
-      none-left : drop n o ≡ []
-      none-left = drop-all o n (omega (arith, length-take n order, M .orderLong, M .few))
-        where
-          drop-all : (l : List ℕ) (k : ℕ) → length l ≤ k → drop k l ≡ []
-          drop-all [] zero e = refl
-          drop-all [] (suc k) e = refl
-          drop-all (x ∷ l) zero e = absurd (omega arith)
-          drop-all (x ∷ l) (suc k) e = drop-all l k (omega arith)
+    last-point : getD points n [] ≡ pointWith g first steps
+    last-point = drop-first points n (pointWith g first steps) []
+        (sym (R .rest) ∙ ap (pointsBy (shape g) zeros (pointWith g first steps)) none-left)
 
-      pub can-all : canStep (shape g) zeros y o ≡ true
-      can-all = sym (R .can) ∙ ap (canStep (shape g) zeros (pointWith g first steps)) none-left
-
-      last-point : getD points n [] ≡ pointWith g first steps
-      last-point = drop-first points n (pointWith g first steps) []
-          (sym (R .rest) ∙ ap (pointsBy (shape g) zeros (pointWith g first steps)) none-left)
-
-      pub marked-all : (r : ℕ) → r ≡ bareMark (shape g) (pointWith g first steps) → (j : ℕ) → j ≤ n → at (set marks n r)
-          j ≡ bareMark (shape g) (getD points j [])
-      marked-all r e j l =
-          ⊎-elim (λ (q : j ≡ n). rw q (getD-set-same marks n r 0 (omega (arith, R .marksLong, M .few)) ∙ e ∙ ap
-          (bareMark (shape g)) (sym last-point)))
-          (λ (q : j ≡ n → ⊥). getD-set-other marks n j r 0 q ∙ R .marked j (omega (arith, q))) (same-or j n)
+    pub marked-all : (r : ℕ) → r ≡ bareMark (shape g) (pointWith g first steps) → (j : ℕ) → j ≤ n → at (set marks n r)
+        j ≡ bareMark (shape g) (getD points j [])
+    marked-all r e j l =
+        ⊎-elim (λ (q : j ≡ n). rw q (getD-set-same marks n r 0 (omega (arith, R .marksLong, M .few)) ∙ e ∙ ap
+        (bareMark (shape g)) (sym last-point)))
+        (λ (q : j ≡ n → ⊥). getD-set-other marks n j r 0 q ∙ R .marked j (omega (arith, q))) (same-or j n)
 
 pub position-low : (g : GridStruct) → IsMade g → (y : Point) → isGridPoint (shape g) y ≡ true → position (shape g)
     y < numPoints (shape g)

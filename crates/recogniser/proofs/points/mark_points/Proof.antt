@@ -6,8 +6,7 @@ use lib.ListN.{getD, length-set}
 use Rattle.combinatorics.proofs.Basics.{absurd-bool}
 use Rattle.grid.proofs.Fields.{indices-few}
 use Rattle.rules.proofs.ChangedBefore.{raised-positive}
-use Rattle.recogniser.proofs.Steps.{Reached, reached-none, reached-more, cannot, low-h, count-b, can-all}
-use Rattle.recogniser.proofs.Steps.{marked-all}
+use Rattle.recogniser.proofs.Steps.{Reached, can-all, cannot, count-b, marked-all, reached-more, reached-none}
 use borrow.Author.Needs.{needs}
 use native.Mathlib.Omega.{arith}
 use Rattle.recogniser.proofs.points.mark_points.Statement.{statement}
@@ -21,11 +20,7 @@ abbrev μ-loop : tie.MeasureT-loop
 μ-loop g binomials previous sizes first u order n marks₀ steps₀ k₀ marks steps k = n - k
 
 loop-holds : tie.Need-loop-holds Inv-loop μ-loop
-loop-holds c = let a = c .args in (
-  omega arith,
-  c .pre .1 .few,
-  reached-none (a .g) (c .pre .0 .0 .made) (a .first .now) (a .order .now) (a .n) (c .pre .1),
-)
+loop-holds c = (omega arith, c .pre .1 .few, reached-none (c .pre .0 .0 .made) (c .pre .1))
 
 mark-at-requires : tie.Need-mark-at-requires Inv-loop μ-loop
 mark-at-requires c κs = (c .before .before .before .pre .0 .0, c .before .before .loop .inv .2 .on)
@@ -45,17 +40,26 @@ element-copy-out-wide32 c = omega arith
 wide32-requires : tie.Need-wide32-requires Inv-loop μ-loop
 wide32-requires c κs = search needs
 
+-- in the loop, with the index of the step: where the call began, the loop, and that the index is low
+abbrev At : Type 0
+At = tie.After-wide32 Inv-loop μ-loop
+
+abbrev begun : At → tie.Start Inv-loop μ-loop
+begun c = c .before .before .before .before .before .before
+
+abbrev turn : At → tie.At-loop Inv-loop μ-loop
+turn c = c .before .before .before .before .before
+
+abbrev goes-on : (c : At) → turn c .loop .k < begun c .args .n
+goes-on c = c .before .before .before .before .loop-test .taken
+
+low : (c : At) → c .wide32 .result < 16
+low c =
+    let few = indices-few (begun c .args .g) (begun c .pre .0 .0 .made) in
+    omega (arith, begun c .pre .1 .below (turn c .loop .k) (goes-on c), c .wide32 .ensures)
+
 source-requires : tie.Need-source-requires Inv-loop μ-loop
-source-requires c κs = let s = c .before .before .before .before .before .before in
-    let k = c .before .before .before .before .before .loop .k in (
-      omega (
-        arith,
-        s .pre .1 .below k (c .before .before .before .before .loop-test .taken),
-        c .wide32 .ensures,
-        indices-few (s .args .g) (s .pre .0 .0 .made),
-      ),
-      s .pre .0 .1,
-    )
+source-requires c κs = (low c, begun c .pre .0 .1)
 
 mul-wide16 : tie.Need-mul-wide16 Inv-loop μ-loop
 mul-wide16 c = omega arith
@@ -78,54 +82,34 @@ wide16-requires-2 c κs = search needs
 add-if1 : tie.Need-add-if1 Inv-loop μ-loop
 add-if1 c = omega (arith, c .before .wide16 .ensures, c .wide162 .ensures)
 
--- after the source: where the call began, the loop, and the step's two indices
-abbrev At : Type 0
-At = tie.After-source Inv-loop μ-loop
-
-abbrev begun : At → tie.Start Inv-loop μ-loop
-begun c = c .before .before .before .before .before .before .before
-
-abbrev turn : At → tie.At-loop Inv-loop μ-loop
-turn c = c .before .before .before .before .before .before
-
-abbrev goes-on : (c : At) → turn c .loop .k < begun c .args .n
-goes-on c = c .before .before .before .before .before .loop-test .taken
-
--- the index of the step is one of the grid's
-low : (c : At) → c .before .wide32 .result < 16
-low c = let a = begun c .args in let made = begun c .pre .0 .0 .made in
-    omega (
-      arith,
-      low-h (a .g) made (a .first .now) (a .order .now) (a .n) (begun c .pre .1) (turn c .loop .inv .2) (goes-on c)
-          (c .before .wide32 .ensures) (c .source .ensures .0),
-      indices-few (a .g) made,
-    )
-
 returns : tie.Need-returns Inv-loop μ-loop
-returns c = let at = c .before .before .before .before in let a = begun at .args in let l = turn at .loop in
+returns c =
+    let at = c .before .before .before .before .before in
+    let l = turn at .loop in
     record {
-      can = sym (cannot (a .g) (begun at .pre .0 .0 .made) (a .first .now) (a .order .now) (a .n) (begun at .pre .1)
-          (l .inv .2) (goes-on at) (at .before .wide32 .ensures) (at .source .ensures .0)
+      can = sym (cannot (begun at .pre .0 .0 .made) (begun at .pre .1) (l .inv .2) (goes-on at) (at .wide32 .ensures)
+          (c .before .before .before .before .source .ensures .0)
           (omega (arith, c .if1 .taken, c .before .before .wide16 .ensures, c .before .wide162 .ensures)));
-      long = length-set (l .marks) (l .k) (at .before .before .before .mark-at .result) ∙ l .inv .2 .marksLong;
+      long = length-set (l .marks) (l .k) (at .before .before .mark-at .result) ∙ l .inv .2 .marksLong;
       each = λ e. absurd-bool (sym e);
     }
 
 mul-steps : tie.Need-mul-steps Inv-loop μ-loop
-mul-steps c = omega (arith, low (c .before .before .before .before))
+mul-steps c = omega (arith, low (c .before .before .before .before .before))
 
 array-read-steps : tie.Need-array-read-steps Inv-loop μ-loop
-array-read-steps c = omega (arith, low (c .before .before .before .before))
+array-read-steps c = omega (arith, low (c .before .before .before .before .before))
 
 add-steps : tie.Need-add-steps Inv-loop μ-loop
-add-steps c = let at = c .before .before .before .before in
-    omega (arith, turn at .loop .inv .2 .counts (at .before .wide32 .result) (low at) .1)
+add-steps c =
+    let at = c .before .before .before .before .before in
+    omega (arith, turn at .loop .inv .2 .counts (at .wide32 .result) (low at) .1)
 
 mul-steps-2 : tie.Need-mul-steps-2 Inv-loop μ-loop
-mul-steps-2 c = omega (arith, low (c .before .before .before .before))
+mul-steps-2 c = omega (arith, low (c .before .before .before .before .before))
 
 array-write-steps : tie.Need-array-write-steps Inv-loop μ-loop
-array-write-steps c = omega (arith, low (c .before .before .before .before))
+array-write-steps c = omega (arith, low (c .before .before .before .before .before))
 
 mul-steps-3 : tie.Need-mul-steps-3 Inv-loop μ-loop
 mul-steps-3 c = omega arith
@@ -134,15 +118,19 @@ array-read-steps-2 : tie.Need-array-read-steps-2 Inv-loop μ-loop
 array-read-steps-2 c = omega (arith, c .before .before .before .before .source .ensures .1)
 
 -- the source has something to take
-some : (c : tie.Else1 Inv-loop μ-loop) → let at = c .before .before .before .before in let b = at .source .result in
-    16 < getD (begun at .args .first .now) b 0 + getD (turn at .loop .steps) b 0
+some : (c : tie.Else1 Inv-loop μ-loop) → let b = c .before .before .before .before in
+    16 < getD (begun (b .before) .args .first .now) (b .source .result) 0
+    + getD (turn (b .before) .loop .steps) (b .source .result) 0
 some c = omega (arith, c .if1 .left, c .before .before .wide16 .ensures, c .before .wide162 .ensures)
 
 sub-steps : tie.Need-sub-steps Inv-loop μ-loop
-sub-steps c = let at = c .before .before .before .before in let a = begun at .args in let l = turn at .loop in
-    raised-positive (l .steps) (at .before .wide32 .result) (at .source .result)
-    (count-b (a .g) (begun at .pre .0 .0 .made) (a .first .now) (a .order .now) (a .n) (begun at .pre .1) (l .inv .2)
-    (goes-on at) (at .before .wide32 .ensures) (at .source .ensures .0) (some c))
+sub-steps c =
+    let at = c .before .before .before .before .before in
+    let l = turn at .loop in
+    let b = c .before .before .before .before .source in
+    raised-positive (l .steps) (at .wide32 .result) (b .result)
+    (count-b (begun at .pre .0 .0 .made) (begun at .pre .1) (l .inv .2) (goes-on at) (at .wide32 .ensures)
+    (b .ensures .0) (some c))
 
 mul-steps-4 : tie.Need-mul-steps-4 Inv-loop μ-loop
 mul-steps-4 c = omega arith
@@ -157,13 +145,15 @@ loop-less : tie.Need-loop-less Inv-loop μ-loop
 loop-less c = omega arith
 
 loop-again : tie.Need-loop-again Inv-loop μ-loop
-loop-again c = let at = c .before .before .before .before in let a = begun at .args in let l = turn at .loop in (
-  omega (arith, goes-on at),
-  l .inv .1,
-  reached-more (a .g) (begun at .pre .0 .0 .made) (a .first .now) (a .order .now) (a .n) (begun at .pre .1) (l .inv .2)
-      (goes-on at) (at .before .wide32 .ensures) (at .source .ensures .0) (some c)
-      (at .before .before .before .mark-at .result) (at .before .before .before .mark-at .ensures .is),
-)
+loop-again c =
+    let at = c .before .before .before .before .before in
+    let l = turn at .loop in
+    let m = at .before .before .mark-at in (
+      omega (arith, goes-on at),
+      l .inv .1,
+      reached-more (begun at .pre .0 .0 .made) (begun at .pre .1) (l .inv .2) (goes-on at) (at .wide32 .ensures)
+          (c .before .before .before .before .source .ensures .0) (some c) (m .result) (m .ensures .is),
+    )
 
 mark-at-requires-2 : tie.Need-mark-at-requires-2 Inv-loop μ-loop
 mark-at-requires-2 c κs = (c .before .before .before .pre .0 .0, c .before .before .loop .inv .2 .on)
@@ -175,14 +165,16 @@ element-write-marks-2 : tie.Need-element-write-marks-2 Inv-loop μ-loop
 element-write-marks-2 c = let l = c .before .before .before .loop in omega (arith, l .inv .1, l .inv .2 .marksLong)
 
 returns-2 : tie.Need-returns-2 Inv-loop μ-loop
-returns-2 c = let s = c .before .before .before .before in let a = s .args in let l = c .before .before .before .loop in
+returns-2 c =
+    let s = c .before .before .before .before in
+    let a = s .args in
+    let l = c .before .before .before .loop in
     let e : l .k ≡ a .n = omega arith in
     let R = subst (Reached (a .g) (a .first .now) (a .order .now) (a .n) (l .marks) (l .steps)) e (l .inv .2) in
     record {
-      can = sym (can-all (a .g) (s .pre .0 .0 .made) (a .first .now) (a .order .now) (a .n) (s .pre .1) R);
+      can = sym (can-all (s .pre .0 .0 .made) (s .pre .1) R);
       long = length-set (l .marks) (a .n) (c .mark-at2 .result) ∙ l .inv .2 .marksLong;
-      each = λ q. marked-all (a .g) (s .pre .0 .0 .made) (a .first .now) (a .order .now) (a .n) (s .pre .1) R
-          (c .mark-at2 .result) (c .mark-at2 .ensures .is);
+      each = λ q. marked-all (s .pre .0 .0 .made) (s .pre .1) R (c .mark-at2 .result) (c .mark-at2 .ensures .is);
     }
 
 pub mark-points-spec : {M : Type 1} → statement M
