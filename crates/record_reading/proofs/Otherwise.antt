@@ -7,7 +7,8 @@ use borrow.Author.Tests.{eq-eqb, eqb-true, le-leb, leb-true, ne-eqb, not-true}
 use lib.Dec.{eqb, leb, ltb}
 use lib.ListN.{getD, length}
 use Rattle.combinatorics.proofs.Basics.{absurd-bool, and-left, and-right, false-of}
-use Rattle.record_reading.specs.Said.{bytesBy, isKept, isOther, keptSaid, nothingSaid, ruleBy, saidBy, saidOf}
+use Rattle.record_reading.specs.Said.{bytesBy, isByRuleOne, isOther, keptSaid, nothingSaid, ruleBy, saidBy}
+use Rattle.record_reading.specs.Said.{saidOf}
 use Rattle.record_reading.specs.Said.{saidOtherwise}
 use Rattle.rules.specs.Step.{State}
 
@@ -91,10 +92,10 @@ module _ (m n : ℕ) (s : State) (bytes : List ℕ) where
   unfolding saidOtherwise
   no-record e = rw e
 
-  pub kept : isKept bytes ≡ true → keptSaid n s bytes ≡ saidBy m n s bytes
+  pub kept : isByRuleOne bytes ≡ true → keptSaid n s bytes ≡ saidBy m n s bytes
   unfolding saidBy
   kept e = rw e
 
-  pub not-kept : isKept bytes ≡ false → saidOtherwise m n s bytes ≡ saidBy m n s bytes
+  pub not-kept : isByRuleOne bytes ≡ false → saidOtherwise m n s bytes ≡ saidBy m n s bytes
   unfolding saidBy
   not-kept e = rw e

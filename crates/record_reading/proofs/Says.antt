@@ -10,8 +10,9 @@ use lib.ListN.{getD, length}
 use native.Mathlib.Omega.{arith}
 use Rattle.combinatorics.proofs.Basics.{absurd-bool, and-left, and-right, same-or, true-or-false}
 use Rattle.record_reading.proofs.Otherwise.{OtherBy, kept, no-record, not-kept, other, other-facts}
-use Rattle.record_reading.specs.Said.{bytesBy, canTurn, isKept, isOther, keptSaid, leaving, nothingSaid, ruleBy}
-use Rattle.record_reading.specs.Said.{saidBy, saidOf, saidOtherwise, turned, wayBy}
+use Rattle.record_reading.specs.Said.{bytesBy, canChange, isByRuleOne, isOther, keptSaid, leaving, nothingSaid}
+use Rattle.record_reading.specs.Said.{ruleBy}
+use Rattle.record_reading.specs.Said.{saidBy, saidOf, saidOtherwise, setChanged, wayBy}
 use Rattle.record_reading.specs.declared.Said.{Said}
 use Rattle.rules.specs.Mask.{bit, withIndex, withoutIndex}
 use Rattle.rules.specs.Step.{State}
@@ -97,28 +98,28 @@ module _ (m n : ℕ) (s : State) where
 
   -- what T and U can do
   of2 : (a b c d h : ℕ) (rest : List ℕ) → h < m → OfIndex (suc h) (83 ∷ a ∷ b ∷ c ∷ d ∷ suc h ∷ 2 ∷ rest)
-  unfolding saidOf canTurn turned wayBy bytesBy ruleBy
+  unfolding saidOf canChange setChanged wayBy bytesBy ruleBy
   of2 a b c d h rest l = rw (less h) (⊎-elim
       (λ (e : bit (s .U) h ≡ true). rw e says0)
       (λ (e : bit (s .U) h ≡ false). rw e (says2 a b c d h rest l e))
       (true-or-false (bit (s .U) h)))
 
   of3 : (a b c d h : ℕ) (rest : List ℕ) → h < m → OfIndex (suc h) (99 ∷ a ∷ b ∷ c ∷ d ∷ suc h ∷ 3 ∷ rest)
-  unfolding saidOf canTurn turned wayBy bytesBy ruleBy
+  unfolding saidOf canChange setChanged wayBy bytesBy ruleBy
   of3 a b c d h rest l = rw (less h) (⊎-elim
       (λ (e : bit (s .U) h ≡ true). rw e (says3 a b c d h rest l e))
       (λ (e : bit (s .U) h ≡ false). rw e says0)
       (true-or-false (bit (s .U) h)))
 
   of4 : (a b h : ℕ) (rest : List ℕ) → h < m → OfIndex (suc h) (69 ∷ a ∷ b ∷ suc h ∷ 4 ∷ rest)
-  unfolding saidOf canTurn turned wayBy bytesBy ruleBy
+  unfolding saidOf canChange setChanged wayBy bytesBy ruleBy
   of4 a b h rest l = rw (less h) (⊎-elim
       (λ (e : bit (s .T) h ≡ true). rw e says0)
       (λ (e : bit (s .T) h ≡ false). rw e (says4 a b h rest l e))
       (true-or-false (bit (s .T) h)))
 
   of5 : (a b h : ℕ) (rest : List ℕ) → h < m → OfIndex (suc h) (101 ∷ a ∷ b ∷ suc h ∷ suc h ∷ 5 ∷ rest)
-  unfolding saidOf canTurn turned wayBy bytesBy ruleBy
+  unfolding saidOf canChange setChanged wayBy bytesBy ruleBy
   of5 a b h rest l = rw (less h) (⊎-elim
       (λ (t : bit (s .T) h ≡ true). rw t says0)
       (λ (t : bit (s .T) h ≡ false). ⊎-elim
@@ -128,7 +129,7 @@ module _ (m n : ℕ) (s : State) where
       (true-or-false (bit (s .T) h)))
 
   of6 : (a b h : ℕ) (rest : List ℕ) → h < m → OfIndex (suc h) (90 ∷ a ∷ b ∷ suc h ∷ suc h ∷ 6 ∷ rest)
-  unfolding saidOf canTurn turned wayBy bytesBy ruleBy
+  unfolding saidOf canChange setChanged wayBy bytesBy ruleBy
   of6 a b h rest l = rw (less h) (⊎-elim
       (λ (t : bit (s .T) h ≡ true). ⊎-elim
       (λ (u : bit (s .U) h ≡ true). rw (t, u) says0)
@@ -138,7 +139,7 @@ module _ (m n : ℕ) (s : State) where
       (true-or-false (bit (s .T) h)))
 
   of7 : (a b h : ℕ) (rest : List ℕ) → h < m → OfIndex (suc h) (74 ∷ a ∷ b ∷ suc h ∷ 7 ∷ rest)
-  unfolding saidOf canTurn turned wayBy bytesBy ruleBy
+  unfolding saidOf canChange setChanged wayBy bytesBy ruleBy
   of7 a b h rest l = rw (less h) (⊎-elim
       (λ (e : bit (s .T) h ≡ true). rw e (says7 a b h rest l e))
       (λ (e : bit (s .T) h ≡ false). rw e says0)
@@ -180,8 +181,8 @@ module _ (m n : ℕ) (s : State) where
   other-says (x ∷ []) e = absurd (omega (arith, other-facts m (x ∷ []) e .five))
   other-says [] e = absurd (omega (arith, other-facts m [] e .five))
 
-  kept-says : (bytes : List ℕ) → isKept bytes ≡ true → Says m n s bytes (keptSaid n s bytes)
-  unfolding isKept
+  kept-says : (bytes : List ℕ) → isByRuleOne bytes ≡ true → Says m n s bytes (keptSaid n s bytes)
+  unfolding isByRuleOne
   kept-says (x ∷ a ∷ b ∷ c ∷ d ∷ y ∷ rest) e =
       let long = leb 6 (length (x ∷ a ∷ b ∷ c ∷ d ∷ y ∷ rest)) in
       let first = and-right long (eqb x 67) (and-left (long && eqb x 67) (eqb y 1) e) in
@@ -197,17 +198,17 @@ module _ (m n : ℕ) (s : State) where
   -- what any bytes say
   pub says : (bytes : List ℕ) → Says m n s bytes (saidBy m n s bytes)
   says bytes = ⊎-elim
-      (λ (k : isKept bytes ≡ true). subst (Says m n s bytes) (kept m n s bytes k) (kept-says bytes k))
-      (λ (k : isKept bytes ≡ false). subst (Says m n s bytes) (not-kept m n s bytes k) (⊎-elim
+      (λ (k : isByRuleOne bytes ≡ true). subst (Says m n s bytes) (kept m n s bytes k) (kept-says bytes k))
+      (λ (k : isByRuleOne bytes ≡ false). subst (Says m n s bytes) (not-kept m n s bytes k) (⊎-elim
       (λ (e : isOther m bytes ≡ true).
       subst (Says m n s bytes) (other m n s bytes refl refl refl (other-facts m bytes e)) (other-says bytes e))
       (λ (e : isOther m bytes ≡ false). subst (Says m n s bytes) (no-record m n s bytes e) says0)
       (true-or-false (isOther m bytes))))
-      (true-or-false (isKept bytes))
+      (true-or-false (isByRuleOne bytes))
 
   -- what the record of each rule says
-  not-first : (bytes : List ℕ) → eqb (getD bytes 0 0) 67 ≡ false → isKept bytes ≡ false
-  unfolding isKept
+  not-first : (bytes : List ℕ) → eqb (getD bytes 0 0) 67 ≡ false → isByRuleOne bytes ≡ false
+  unfolding isByRuleOne
   not-first bytes e = ⊎-elim
       (λ (l : leb 6 (length bytes) ≡ true). rw (l, e))
       (λ (l : leb 6 (length bytes) ≡ false). rw l)
@@ -220,7 +221,7 @@ module _ (m n : ℕ) (s : State) where
 
   pub said1 : (a b c d : ℕ) (rest : List ℕ) → saidBy m n s (67 ∷ a ∷ b ∷ c ∷ d ∷ 1 ∷ rest)
       ≡ saying (leaving s n (c + 256 * d)) (s .T) (s .U) 6
-  unfolding isKept
+  unfolding isByRuleOne
   said1 a b c d rest =
       let bytes : List ℕ = 67 ∷ a ∷ b ∷ c ∷ d ∷ 1 ∷ rest in
       sym (kept m n s bytes (rw (le-leb 6 (length bytes) (omega arith))))
@@ -228,7 +229,7 @@ module _ (m n : ℕ) (s : State) where
   pub said2 : (a b c d h : ℕ) (rest : List ℕ) → h < m → bit (s .U) h ≡ false
       → saidBy m n s (83 ∷ a ∷ b ∷ c ∷ d ∷ suc h ∷ 2 ∷ rest)
       ≡ saying (leaving s n (c + 256 * d)) (s .T) (withIndex (s .U) h) 7
-  unfolding saidOf canTurn turned wayBy bytesBy ruleBy
+  unfolding saidOf canChange setChanged wayBy bytesBy ruleBy
   said2 a b c d h rest l u = of-other (83 ∷ a ∷ b ∷ c ∷ d ∷ suc h ∷ 2 ∷ rest) refl (record {
     five = omega arith;
     ruled = λ z. omega arith;
@@ -242,7 +243,7 @@ module _ (m n : ℕ) (s : State) where
   pub said3 : (a b c d h : ℕ) (rest : List ℕ) → h < m → bit (s .U) h ≡ true
       → saidBy m n s (99 ∷ a ∷ b ∷ c ∷ d ∷ suc h ∷ 3 ∷ rest)
       ≡ saying (leaving s n (c + 256 * d)) (s .T) (withoutIndex (s .U) h) 7
-  unfolding saidOf canTurn turned wayBy bytesBy ruleBy
+  unfolding saidOf canChange setChanged wayBy bytesBy ruleBy
   said3 a b c d h rest l u = of-other (99 ∷ a ∷ b ∷ c ∷ d ∷ suc h ∷ 3 ∷ rest) refl (record {
     five = omega arith;
     ruled = λ z. omega arith;
@@ -256,7 +257,7 @@ module _ (m n : ℕ) (s : State) where
   pub said4 : (a b h : ℕ) (rest : List ℕ) → h < m → bit (s .T) h ≡ false
       → saidBy m n s (69 ∷ a ∷ b ∷ suc h ∷ 4 ∷ rest)
       ≡ saying (Joins h) (withIndex (s .T) h) (s .U) 5
-  unfolding saidOf canTurn turned wayBy bytesBy ruleBy
+  unfolding saidOf canChange setChanged wayBy bytesBy ruleBy
   said4 a b h rest l t = of-other (69 ∷ a ∷ b ∷ suc h ∷ 4 ∷ rest) refl (record {
     five = omega arith;
     ruled = λ z. omega arith;
@@ -270,7 +271,7 @@ module _ (m n : ℕ) (s : State) where
   pub said5 : (a b h : ℕ) (rest : List ℕ) → h < m → bit (s .T) h ≡ false → bit (s .U) h ≡ true
       → saidBy m n s (101 ∷ a ∷ b ∷ suc h ∷ suc h ∷ 5 ∷ rest)
       ≡ saying (Joins h) (withIndex (s .T) h) (withoutIndex (s .U) h) 6
-  unfolding saidOf canTurn turned wayBy bytesBy ruleBy
+  unfolding saidOf canChange setChanged wayBy bytesBy ruleBy
   said5 a b h rest l t u = of-other (101 ∷ a ∷ b ∷ suc h ∷ suc h ∷ 5 ∷ rest) refl (record {
     five = omega arith;
     ruled = λ z. omega arith;
@@ -284,7 +285,7 @@ module _ (m n : ℕ) (s : State) where
   pub said6 : (a b h : ℕ) (rest : List ℕ) → h < m → bit (s .T) h ≡ true → bit (s .U) h ≡ false
       → saidBy m n s (90 ∷ a ∷ b ∷ suc h ∷ suc h ∷ 6 ∷ rest)
       ≡ saying (leaving s n (a + 256 * b)) (withoutIndex (s .T) h) (withIndex (s .U) h) 6
-  unfolding saidOf canTurn turned wayBy bytesBy ruleBy
+  unfolding saidOf canChange setChanged wayBy bytesBy ruleBy
   said6 a b h rest l t u = of-other (90 ∷ a ∷ b ∷ suc h ∷ suc h ∷ 6 ∷ rest) refl (record {
     five = omega arith;
     ruled = λ z. omega arith;
@@ -298,7 +299,7 @@ module _ (m n : ℕ) (s : State) where
   pub said7 : (a b h : ℕ) (rest : List ℕ) → h < m → bit (s .T) h ≡ true
       → saidBy m n s (74 ∷ a ∷ b ∷ suc h ∷ 7 ∷ rest)
       ≡ saying (leaving s n (a + 256 * b)) (withoutIndex (s .T) h) (s .U) 5
-  unfolding saidOf canTurn turned wayBy bytesBy ruleBy
+  unfolding saidOf canChange setChanged wayBy bytesBy ruleBy
   said7 a b h rest l t = of-other (74 ∷ a ∷ b ∷ suc h ∷ 7 ∷ rest) refl (record {
     five = omega arith;
     ruled = λ z. omega arith;

@@ -42,11 +42,11 @@ bytesBy rule = cond (ltb rule 4) 7 (cond (eqb rule 4) 5 (cond (eqb rule 7) 5 6))
 
 -- what a set does with index h, by its two bits of the map byte: with 1 the index joins it, and is not there; with 2 it
 -- goes out of it, and is there; else the set is kept
-unfoldable pub canTurn : ℕ → ℕ → ℕ → Bool
-canTurn set turn h = cond (eqb turn 1) (not (bit set h)) (cond (eqb turn 2) (bit set h) true)
+unfoldable pub canChange : ℕ → ℕ → ℕ → Bool
+canChange set change h = cond (eqb change 1) (not (bit set h)) (cond (eqb change 2) (bit set h) true)
 
-unfoldable pub turned : ℕ → ℕ → ℕ → ℕ
-turned set turn h = cond (eqb turn 1) (withIndex set h) (cond (eqb turn 2) (withoutIndex set h) set)
+unfoldable pub setChanged : ℕ → ℕ → ℕ → ℕ
+setChanged set change h = cond (eqb change 1) (withIndex set h) (cond (eqb change 2) (withoutIndex set h) set)
 
 -- the position of the point that goes out stands behind that of the point that comes in, if one does
 unfoldable pub wayBy : ℕ → State → ℕ → ℕ → List ℕ → Way
@@ -58,11 +58,11 @@ unfoldable pub saidOf : ℕ → State → ℕ → ℕ → List ℕ → Said
 saidOf n s rule h bytes =
     let ofT = getD bytes 0 0 / 4 % 4 in
     let ofU = getD bytes 0 0 / 16 % 4 in
-    cond (canTurn (s .T) ofT h && canTurn (s .U) ofU h)
+    cond (canChange (s .T) ofT h && canChange (s .U) ofU h)
     (record {
       way = wayBy n s rule h bytes;
-      t = turned (s .T) ofT h;
-      u = turned (s .U) ofU h;
+      t = setChanged (s .T) ofT h;
+      u = setChanged (s .U) ofU h;
       bytes = bytesBy rule;
     })
     nothingSaid
@@ -82,11 +82,11 @@ saidOtherwise m n s bytes =
     cond (isOther m bytes) (saidOf n s rule (getD bytes (bytesBy rule - 2) 0 - 1) bytes) nothingSaid
 
 -- the bytes are those of a record by rule 1
-unfoldable pub isKept : List ℕ → Bool
-isKept bytes = leb 6 (length bytes) && eqb (getD bytes 0 0) 67 && eqb (getD bytes 5 0) 1
+unfoldable pub isByRuleOne : List ℕ → Bool
+isByRuleOne bytes = leb 6 (length bytes) && eqb (getD bytes 0 0) 67 && eqb (getD bytes 5 0) 1
 
 unfoldable pub saidBy : ℕ → ℕ → State → List ℕ → Said
-saidBy m n s bytes = cond (isKept bytes) (keptSaid n s bytes) (saidOtherwise m n s bytes)
+saidBy m n s bytes = cond (isByRuleOne bytes) (keptSaid n s bytes) (saidOtherwise m n s bytes)
 
 pub record IsSaid (m n : ℕ) (s : State) (bytes : List ℕ) (r : Said) : Type 0 where
   pub is : r ≡ saidBy m n s bytes

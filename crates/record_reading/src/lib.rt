@@ -5,8 +5,8 @@ ghost use mathlib.Core.Path.{_≡_};
 ghost use Prim.Native.Nat.{suc, _+_, _≤_, _<_};
 ghost use lib.ListN.{length, take};
 ghost use Rattle.combinatorics.specs.Edits.{found};
-ghost use Rattle.record_reading.specs.Said.{IsSaid, bytesBy, canTurn, leaving, nothingSaid, ruleBy};
-ghost use Rattle.record_reading.specs.Said.{saidOf, saidOtherwise, turned, wayBy, wordAt};
+ghost use Rattle.record_reading.specs.Said.{IsSaid, bytesBy, canChange, leaving, nothingSaid, ruleBy};
+ghost use Rattle.record_reading.specs.Said.{saidOf, saidOtherwise, setChanged, wayBy, wordAt};
 ghost use Rattle.rules.specs.Step.{State, markPosition};
 ghost use Rattle.ways.specs.Ways.{heldMarks};
 use arrays::add;
@@ -125,28 +125,28 @@ fn bytes_by(rule: u8) -> usize
 
 // Whether a set can do with an index what two bits of the map byte say: one that joins is not there, one that goes out
 // is.
-fn can_turn(set: u16, turn: u8, h: usize) -> bool
+fn can_change(set: u16, change: u8, h: usize) -> bool
     requires { ⌜ h < 16 ⌝ }
-    ensures { λ r. ⌜ r ≡ canTurn set turn h ⌝ }
+    ensures { λ r. ⌜ r ≡ canChange set change h ⌝ }
 {
-    if turn == 1 {
+    if change == 1 {
         return !has(set, h);
     }
-    if turn == 2 {
+    if change == 2 {
         return has(set, h);
     }
     true
 }
 
 // What it becomes.
-fn turned(set: u16, turn: u8, h: usize) -> u16
+fn set_changed(set: u16, change: u8, h: usize) -> u16
     requires { ⌜ h < 16 ⌝ }
-    ensures { λ r. ⌜ r ≡ turned set turn h ⌝ }
+    ensures { λ r. ⌜ r ≡ setChanged set change h ⌝ }
 {
-    if turn == 1 {
+    if change == 1 {
         return add(set, h);
     }
-    if turn == 2 {
+    if change == 2 {
         return without(set, h);
     }
     set
@@ -177,16 +177,16 @@ fn said_of(bytes: &[u8], marks: &[u32; 16], s: Status, rule: u8, h: usize) -> Sa
 {
     let of_t = bytes[0] / 4 % 4;
     let of_u = bytes[0] / 16 % 4;
-    if !can_turn(s.t, of_t, h) {
+    if !can_change(s.t, of_t, h) {
         return nothing();
     }
-    if !can_turn(s.u, of_u, h) {
+    if !can_change(s.u, of_u, h) {
         return nothing();
     }
     Said {
         way: way_by(bytes, marks, s, rule, h),
-        t: turned(s.t, of_t, h),
-        u: turned(s.u, of_u, h),
+        t: set_changed(s.t, of_t, h),
+        u: set_changed(s.u, of_u, h),
         bytes: bytes_by(rule),
     }
 }

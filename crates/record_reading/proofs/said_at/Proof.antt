@@ -11,7 +11,7 @@ use Rattle.moves.specs.Held.{stateOf}
 use Rattle.record_reading.proofs.said_at.Statement.{statement}
 use Rattle.record_reading.proofs.said_at.Tie as tie
 use Rattle.record_reading.proofs.Otherwise.{kept, not-kept}
-use Rattle.record_reading.specs.Said.{isKept}
+use Rattle.record_reading.specs.Said.{isByRuleOne}
 
 shared-slice-read-if2 : tie.Need-shared-slice-read-if2
 shared-slice-read-if2 c = search needs
@@ -26,7 +26,7 @@ leaving-requires : tie.Need-leaving-requires
 leaving-requires c κs = search needs
 
 returns : tie.Need-returns
-unfolding isKept
+unfolding isByRuleOne
 returns c =
     let a = c .before .before .before .before .before .before .before .before .args in
     record {
@@ -43,10 +43,10 @@ said-otherwise-requires : tie.Need-said-otherwise-requires
 said-otherwise-requires c κs = search needs
 
 returns-2 : tie.Need-returns-2
-unfolding isKept
+unfolding isByRuleOne
 returns-2 c =
     let a = c .before .before .before .args in
-    let no : isKept (a .bytes .now) ≡ false = ⊎-elim
+    let no : isByRuleOne (a .bytes .now) ≡ false = ⊎-elim
     (λ w. rw (le-leb 6 _ (w .0 .taken), eq-eqb _ 67 (w .2 .taken), ne-eqb _ 1 (w .4 .left)))
     (λ v. ⊎-elim
     (λ w. rw (le-leb 6 _ (w .0 .taken), ne-eqb _ 67 (w .2 .left)))
