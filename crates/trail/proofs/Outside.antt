@@ -1,8 +1,8 @@
 -- Lists less another list: what is left, and how much. Assumes nothing.
 use mathlib.Core.Bool.{true, false, not}
-use mathlib.Core.List.{List, [], _∷_}
+use mathlib.Core.List.{List, [], _∷_, map}
 use mathlib.Core.Logic.{⊎-elim}
-use mathlib.Core.Path.{_≡_, refl, sym, _∙_}
+use mathlib.Core.Path.{_≡_, refl, sym, ap, _∙_}
 use Prim.Native.Nat.{ℕ, _+_, _≤_}
 use lib.Dec.{eqb}
 use lib.ListN.{length}
@@ -11,6 +11,8 @@ use Rattle.combinatorics.proofs.Basics.{absurd-bool, not-is, true-or-false}
 use Rattle.combinatorics.proofs.Lists.{Equality, in-here, in-filter, filter-in, distinct-filter, pigeon, only-list}
 use Rattle.combinatorics.specs.Lists.{filter, isIn, distinct}
 use Rattle.combinatorics.proofs.Lists.{length-passing, onNumbers}
+use Rattle.grid_points.proofs.Points.{onPoints}
+use Rattle.grid_points.specs.Grid.{Point, samePoint}
 use Rattle.trail.specs.Change.{outside}
 
 pub one-of : {A : Type 0} (xs : List A) → length xs ≡ 1 → (x : A) × (xs ≡ x ∷ [])
@@ -70,3 +72,10 @@ module _ {A : Type 0} (E : Equality A) where
 pub within-other : (u v : List ℕ) → outside eqb v u ≡ [] → (k : ℕ) → isIn eqb k u ≡ true → isIn eqb k v ≡ true
 within-other u v q k m =
     ⊎-elim (λ y. y) (λ z. absurd-bool (sym (rw q at (in-outside onNumbers k u v m z)))) (true-or-false (isIn eqb k v))
+
+-- a list of points that is mapped to one number has one point
+pub mapped-one : (f : Point → ℕ) (l : List Point) (x : ℕ) → map f l ≡ x ∷ []
+    → (y : Point) × (l ≡ y ∷ []) × (isIn samePoint y l ≡ true) × (f y ≡ x)
+mapped-one f [] x e = absurd (omega (arith, ap length e))
+mapped-one f (y ∷ []) x e = (y, refl, in-here onPoints y [], cc)
+mapped-one f (y ∷ z ∷ l) x e = absurd (omega (arith, ap length e))

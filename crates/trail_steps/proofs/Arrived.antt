@@ -31,7 +31,7 @@ use Rattle.rules.specs.Mask.{bit}
 use Rattle.rules.specs.Read.{positionAt}
 use Rattle.rules.specs.Step.{After, State, endsAtFacet, endsAtPlace, goes, markPosition}
 use Rattle.trail.proofs.OneNext.{into-tells, out-tells}
-use Rattle.trail.proofs.Outside.{in-outside, none-of}
+use Rattle.trail.proofs.Outside.{in-outside, none-of, mapped-one}
 use Rattle.trail.proofs.Reading.{reads-none, reads-on}
 use Rattle.trail.proofs.Shapes.{less-of}
 use Rattle.trail.proofs.Tells.{begins-with}
@@ -43,7 +43,7 @@ use Rattle.trail_places.proofs.Moves.{leave-leads, leavesNone, leavesOn, ready-
 use Rattle.trail_places.proofs.Reached.{Arrives, stored}
 use Rattle.trail_places.proofs.Shows.{shows-long}
 use Rattle.trail_places.specs.Shows.{Shows}
-use Rattle.trail_steps.proofs.Named.{Names, brings, mapped-one, mask-T, mask-U, position-at, said-to, takes}
+use Rattle.trail_steps.proofs.Named.{Names, brings, mask-T, mask-U, position-at, said-to, takes}
 use Rattle.trail_steps.specs.Reading.{wayOf}
 use Rattle.ways.specs.Ways.{CanMove, goneBy, wayAfter}
 use Rattle.ways.specs.declared.Way.{Way}

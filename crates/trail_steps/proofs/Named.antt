@@ -11,7 +11,7 @@ use lib.ListN.{drop, getD, length, length-map}
 use native.Mathlib.Omega.{arith}
 use Rattle.combinatorics.proofs.Basics.{before-or-not}
 use Rattle.combinatorics.proofs.EditsRemove.{found-is}
-use Rattle.combinatorics.proofs.Lists.{all-in, in-here}
+use Rattle.combinatorics.proofs.Lists.{all-in}
 use Rattle.combinatorics.specs.Edits.{found}
 use Rattle.combinatorics.specs.Lists.{isIn}
 use Rattle.geometry.proofs.Points.{nth}
@@ -31,7 +31,7 @@ use Rattle.records.proofs.Told.{IsMask, gained-bits, kept-bits, lost-bits}
 use Rattle.rules.specs.Mask.{bit, withIndex, withoutIndex}
 use Rattle.rules.specs.Ready.{IndicesBelow}
 use Rattle.rules.specs.Step.{State, mark, markPosition}
-use Rattle.trail.proofs.Outside.{none-of, outside-in}
+use Rattle.trail.proofs.Outside.{none-of, outside-in, mapped-one}
 use Rattle.trail.proofs.Rules.{recorded}
 use Rattle.trail.proofs.Shapes.{less-of}
 use Rattle.trail.proofs.SomeLinks.{move-rule}
@@ -55,12 +55,6 @@ mapped-at : {A : Type 0} (f : A → ℕ) (d : A) (l : List A) (j : ℕ) → j < 
 mapped-at f d [] j l = absurd (omega arith)
 mapped-at f d (x ∷ xs) zero l = refl
 mapped-at f d (x ∷ xs) (suc j) l = mapped-at f d xs j (omega arith)
-
-pub mapped-one : (f : Point → ℕ) (l : List Point) (x : ℕ) → map f l ≡ x ∷ []
-    → (y : Point) × (l ≡ y ∷ []) × (isIn samePoint y l ≡ true) × (f y ≡ x)
-mapped-one f [] x e = absurd (omega (arith, ap length e))
-mapped-one f (y ∷ []) x e = (y, refl, in-here onPoints y [], cc)
-mapped-one f (y ∷ z ∷ l) x e = absurd (omega (arith, ap length e))
 
 one : {y z : ℕ} → _≡_ {A = List ℕ} (y ∷ []) (z ∷ []) → y ≡ z
 one e = cc

@@ -45,7 +45,7 @@ use Rattle.rules.proofs.Marks.{position-in as mark-position}
 use Rattle.rules.specs.Read.{markOf, pointIn, pointsFrom, positionAt, read}
 use Rattle.rules.specs.Ready.{labelIn, Ready, SixteenEach}
 use Rattle.rules.specs.Step.{State, goes, markPosition, step, withMark}
-use Rattle.trail.proofs.Outside.{outside-in}
+use Rattle.trail.proofs.Outside.{outside-in, mapped-one}
 use Rattle.trail.proofs.Reading.{T-alike}
 use Rattle.trail.proofs.RunTrail.{one-more, path-trail, trail-fits}
 use Rattle.trail.proofs.Tells.{at-position}
@@ -75,12 +75,6 @@ ended-whole p budget {n} {read} {kind} {block} {vertices} {simplex} e =
     go (some x) w f =
         let h : outcome p (path p .visited) (some x) ≡ ended n read kind block vertices simplex = rw w at f in
         cc
-
-mapped-one : (f : Point → ℕ) (l : List Point) (x : ℕ) → map f l ≡ x ∷ []
-    → (y : Point) × (l ≡ y ∷ []) × (isIn samePoint y l ≡ true) × (f y ≡ x)
-mapped-one f [] x e = absurd (omega (arith, ap length e))
-mapped-one f (y ∷ []) x e = (y, refl, in-here onPoints y [], cc)
-mapped-one f (y ∷ z ∷ l) x e = absurd (omega (arith, ap length e))
 
 module _ (g : GridStruct) (start table : List ℕ) where
   -- what is kept of the place before
