@@ -1,7 +1,7 @@
 -- The vertices that a run has written are the rows of its buffer. Assumes nothing.
 use mathlib.Core.Bool.{true}
-use mathlib.Core.List.{List, [], _∷_, _++_, map-append, append-assoc}
-use mathlib.Core.Path.{_≡_, refl, sym, ap, _∙_}
+use mathlib.Core.List.{List, [], _∷_, _++_, map, append-assoc}
+use mathlib.Core.Path.{_≡_, refl, ap, _∙_}
 use Prim.Native.Nat.{ℕ, zero, suc, _+_, _*_}
 use borrow.Author.Tests.{eqb-true}
 use lib.Dec.{eqb}
@@ -9,22 +9,24 @@ use lib.ListN.{length, length-append, take, drop}
 use lib.Seq.{take-append-seam, drop-append-add}
 use native.Mathlib.Omega.{arith}
 use Rattle.combinatorics.proofs.Basics.{and-left, and-right}
-use Rattle.combinatorics.specs.Lists.{all, concatMap}
+use Rattle.combinatorics.specs.Lists.{all, concatMap, upFrom}
 use Rattle.sheet_lines.specs.Answer.{rows}
 
-rows-last : (k m : ℕ) (buffer : List ℕ) → rows (suc k) m buffer ≡ rows k m buffer ++ (take m (drop (k * m) buffer) ∷ [])
-rows-last k m buffer = rw map-append
-
 -- the first row, and those behind it
+rows-behind : (b k m : ℕ) (y rest : List ℕ) → length y ≡ m
+    → map (λ i. take m (drop (i * m) (y ++ rest))) (upFrom (suc b) k)
+    ≡ map (λ i. take m (drop (i * m) rest)) (upFrom b k)
+rows-behind b zero m y rest e = refl
+rows-behind b (suc k) m y rest e =
+    let n : suc b * m ≡ length y + b * m = omega (arith, e) in
+    rw (n, drop-append-add y rest (b * m))
+    (ap (λ (l : List (List ℕ)). take m (drop (b * m) rest) ∷ l) (rows-behind (suc b) k m y rest e))
+
 rows-first : (k m : ℕ) (y rest : List ℕ) → length y ≡ m → rows (suc k) m (y ++ rest) ≡ y ∷ rows k m rest
-rows-first zero m y rest e =
+rows-first k m y rest e =
     let z : 0 * m ≡ 0 = omega arith in
-    rw (z, ← e) (ap (λ (l : List ℕ). l ∷ []) (take-append-seam y rest))
-rows-first (suc k) m y rest e =
-    let n : suc k * m ≡ length y + k * m = omega (arith, e) in
-    let d : drop (suc k * m) (y ++ rest) ≡ drop (k * m) rest = rw n (drop-append-add y rest (k * m)) in
-    rows-last (suc k) m (y ++ rest)
-    ∙ rw (rows-first k m y rest e, d) (ap (λ (l : List (List ℕ)). y ∷ l) (sym (rows-last k m rest)))
+    let first : take m (y ++ rest) ≡ y = rw (← e) (take-append-seam y rest) in
+    rw (z, first, rows-behind 0 k m y rest e)
 
 -- a list of rows of m numbers each, one behind the other
 pub rows-of : (m : ℕ) (ys : List (List ℕ)) (rest : List ℕ) → all (λ y. eqb (length y) m) ys ≡ true

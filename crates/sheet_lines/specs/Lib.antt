@@ -1,4 +1,3 @@
 pub mod Answer
-pub mod Lists
 pub mod Sheet
 pub mod Words

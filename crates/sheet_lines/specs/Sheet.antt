@@ -2,13 +2,12 @@
 use mathlib.Core.List.{List, [], _∷_, _++_, map, flatMap}
 use Prim.Native.Nat.{ℕ}
 use lib.ListN.{length, getD}
-use Rattle.combinatorics.specs.Lists.{sum}
+use Rattle.combinatorics.specs.Lists.{sum, upFrom}
 use Rattle.end_kinds.specs.declared.Kind.{Kind}
 use Rattle.end_kinds.specs.declared.Kind.the-variants.{Facet as facetEnd, Place as placeEnd}
 use Rattle.rounding.specs.Centre.{centre}
 use Rattle.text.specs.Decimal.{decimal}
 use Rattle.text.specs.Line.{spaced, newline, line}
-use Rattle.sheet_lines.specs.Lists.{below}
 use Rattle.sheet_lines.specs.Words.{
   placesWord,
   labelsReadWord,
@@ -45,7 +44,7 @@ centreAt vertices divisions h = centre (total vertices h) (length vertices) (get
 -- the centre at every index, as in "centre 0 10000 10000 0"
 unfoldable pub centreLine : List (List ℕ) → List ℕ → List ℕ
 centreLine vertices divisions =
-    centreWord ++ flatMap (λ h. spaced (centreAt vertices divisions h)) (below (length divisions)) ++ newline
+    centreWord ++ flatMap (λ h. spaced (centreAt vertices divisions h)) (upFrom 0 (length divisions)) ++ newline
 
 -- "it prints": the sheet of an end. Request 10: "the sheet gain[s] 'labels read' after 'places'"; the sheets of
 -- refusals, below, do not.

@@ -4,12 +4,13 @@ use mathlib.Core.Path.{_≡_, refl, _∙_}
 use mathlib.Core.List.{flatMap}
 use Prim.Native.Nat.{_+_, _-_, _*_, _≤_}
 use native.Mathlib.Omega.{arith}
-use native.Mathlib.Numerals.{add-one}
+use native.Mathlib.Nat.{zero-add}
 use lib.ListN.{length}
 use borrow.Author.Needs.{needs}
+use Rattle.combinatorics.specs.Lists.{upFrom}
+use Rattle.combinatorics.proofs.Turns.{upFrom-next}
 use Rattle.text.specs.Part.{Part}
 use Rattle.sheet_lines.specs.Answer.{rows}
-use Rattle.sheet_lines.specs.Lists.{below}
 use Rattle.sheet_lines.specs.Sheet.{centreAt, centreLine}
 use Rattle.text.specs.Line.{spaced as spacedOf}
 use Rattle.text.proofs.Parts.{part-empty, part-join}
@@ -19,7 +20,7 @@ use Rattle.sheet.proofs.centre.centre_line.Tie as tie
 
 abbrev Inv-loop : tie.InvT-loop
 Inv-loop out₀ at count vertices divisions m next₀ h₀ out next h =
-    Part (flatMap (λ h. spacedOf (centreAt (rows count m vertices) divisions h)) (below h)) out₀ out next₀ next
+    Part (flatMap (λ h. spacedOf (centreAt (rows count m vertices) divisions h)) (upFrom 0 h)) out₀ out next₀ next
     × (h ≤ m)
     × (next ≤ next₀ + 21 * h)
 
@@ -69,7 +70,7 @@ loop-again c =
     let coordinates = c .before .before .before .before .coordinate-sum .ensures .0 in
     let number : c .before .centre .result ≡ centreAt vertices (a .divisions .now) (l .h) =
     c .before .centre .ensures ∙ rw (coordinates, length-rows (a .count) m (a .vertices .now)) in (
-      rw (add-one (l .h), flatMap-more) (part-join (l .inv .0) (rw number at (c .spaced .ensures .0))),
+      rw (upFrom-next 0 (l .h), zero-add, flatMap-more) (part-join (l .inv .0) (rw number at (c .spaced .ensures .0))),
       omega arith,
       omega arith,
     )
