@@ -1,10 +1,5 @@
 // Reads a slip from standard input and prints its sheet.
-
-fn print_sheet(slip: &[u8]) {
-    let mut sheet = [0u8; 4096];
-    let length = printer::print(slip, &mut sheet);
-    io::write_all(1, &sheet[..length]);
-}
+use sheet_output::print_sheet;
 
 // The buffer has 65,536 bytes, more than any slip that is accepted. Of a longer input the sheet depends on the bytes
 // that are read alone: one of 13 and 1 to 4 refuses both, or 14 does (`cut-alike` in the printer's proofs).

@@ -2,14 +2,8 @@
 // list of bytes.
 use case_reader::bytes;
 use case_reader::show;
-use case_reader::show_text;
 use case_reader::word;
-
-fn print_sheet(slip: &[u8]) {
-    let mut sheet = [0u8; 4096];
-    let length = printer::print(slip, &mut sheet);
-    show_text(&sheet[..length]);
-}
+use sheet_output::print_sheet;
 
 fn print_next() {
     let mut slip = io::large_buffer();

@@ -1,10 +1,10 @@
--- `stored_cases::print_sheet` is safe: the sheet lies in its buffer. Assumes nothing.
+-- `sheet_output::print_sheet` is safe: the sheet lies in its buffer. Assumes nothing.
 use mathlib.Core.Path.{sym}
 use borrow.Author.Needs.{needs}
 use lib.Seq.{length-take-le}
 use Rattle.printer.proofs.Arrays.{sheet-inside}
-use Rattle.stored_cases.proofs.print_sheet.Statement.{statement}
-use Rattle.stored_cases.proofs.print_sheet.Tie as tie
+use Rattle.sheet_output.proofs.print_sheet.Statement.{statement}
+use Rattle.sheet_output.proofs.print_sheet.Tie as tie
 
 print-requires : tie.Need-print-requires
 print-requires c κs = search needs
@@ -12,11 +12,11 @@ print-requires c κs = search needs
 array-share-prefix-sheet : tie.Need-array-share-prefix-sheet
 array-share-prefix-sheet c = rw (c .print .ensures .0, c .print .ensures .1) (sheet-inside _ _)
 
-slice-aggregate-show-text : tie.Need-slice-aggregate-show-text
-slice-aggregate-show-text c = sym (length-take-le _ _ (array-share-prefix-sheet (c .before)))
+slice-aggregate-write-all : tie.Need-slice-aggregate-write-all
+slice-aggregate-write-all c = sym (length-take-le _ _ (array-share-prefix-sheet (c .before)))
 
-show-text-requires : tie.Need-show-text-requires
-show-text-requires c κs = search needs
+write-all-requires : tie.Need-write-all-requires
+write-all-requires c κs = search needs
 
 returns : tie.Need-returns
 returns c = search needs
@@ -27,6 +27,6 @@ print-sheet-spec =
     (tie.spec
     print-requires
     array-share-prefix-sheet
-    slice-aggregate-show-text
-    show-text-requires
+    slice-aggregate-write-all
+    write-all-requires
     returns)

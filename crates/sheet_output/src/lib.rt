@@ -1,0 +1,8 @@
+// Writes the sheet of a slip to standard output.
+use libc::STDOUT_FILENO;
+
+pub fn print_sheet(slip: &[u8]) {
+    let mut sheet = [0u8; 4096];
+    let length = printer::print(slip, &mut sheet);
+    io::write_all(STDOUT_FILENO, &sheet[..length]);
+}
