@@ -1,7 +1,7 @@
 -- What a loop that goes through a list, or counts, has after one turn more. Assumes nothing.
-use mathlib.Core.Bool.{Bool, _&&_, and-true, and-assoc}
+use mathlib.Core.Bool.{Bool, true, false, _&&_, and-true, and-false, and-assoc}
 use mathlib.Core.List.{List, [], _∷_, _++_, map}
-use mathlib.Core.Logic.{⊎-elim}
+use mathlib.Core.Logic.{_⊎_, ⊎-elim}
 use mathlib.Core.Path.{_≡_, refl, sym, ap, _∙_, subst}
 use Prim.Native.Nat.{ℕ, zero, suc, _+_, _≤_, _<_}
 use lib.ListN.{length, length-map, getD, take, set}
@@ -34,6 +34,12 @@ sum-next xs i h = rw (add-one, take-suc xs i 0, sum-append) (omega arith)
 pub all-next : (q : ℕ → Bool) (xs : List ℕ) (i : ℕ) → i < length xs
     → all q (take (i + 1) xs) ≡ (all q (take i xs) && q (getD xs i 0))
 all-next q xs i h = rw (add-one, take-suc xs i 0, all-append, and-true)
+
+-- an answer so far that a branch lowers where one test more fails, and else leaves
+pub lowered-or-left : {A B : Type 0} {good passes next : Bool} → (A → passes ≡ false) → (B → passes ≡ true)
+    → (A × (next ≡ false)) ⊎ (B × (next ≡ good)) → next ≡ (good && passes)
+lowered-or-left {good = good} fails holds =
+    ⊎-elim (λ w. rw (fails (w .0), and-false good) (w .1)) (λ w. rw (holds (w .0), and-true good) (w .1))
 
 -- all elements, where the loop ends
 pub whole : {A : Type 0} (xs : List A) (i : ℕ) → length xs ≤ i → take i xs ≡ xs

@@ -57,6 +57,11 @@ pub record Meeting (way : List ℕ) (q : ℕ → Bool) (whole here left : ℕ) :
   pub same : firstMet way q left here ≡ whole
   pub low : here < 16
 
+-- it begins at the index that the way has behind h, with the steps that h's block has
+pub meets-begun : {way : List ℕ} {q : ℕ → Bool} {here left : ℕ} (sizes : List ℕ) (h : ℕ) → IndicesBelow way
+    → here ≡ at way h → left ≡ at sizes h → Meeting way q (firstMet way q (at sizes h) (at way h)) here left
+meets-begun {way} sizes h B first steps = record { same = rw (first, steps); low = rw first (below way B h) }
+
 module _ {way : List ℕ} {q : ℕ → Bool} {whole here left : ℕ} (M : Meeting way q whole here left) where
   pub meets-spent : left ≡ 0 → here ≡ whole
   meets-spent e = met-spent way q left here e ∙ M .same

@@ -1,9 +1,5 @@
 -- `going::go_back` meets its contract. Assumes nothing.
-use mathlib.Core.Path.{_≡_}
-use Prim.Native.Nat.{suc}
-use lib.ListN.{take}
 use native.Mathlib.Numerals.{add-one}
-use Rattle.combinatorics.specs.Edits.{rotateRight}
 use borrow.Author.Needs.{needs}
 use Rattle.arrays.proofs.going.go_back.Statement.{statement}
 use Rattle.arrays.proofs.going.go_back.Tie as tie
@@ -25,14 +21,11 @@ rotate-right-requires-2 c κs = search needs
 
 returns : tie.Need-returns
 returns c =
-    let a = c .before .before .before .before .before .before .before .before .args in
-    let marks : take (suc (a .n)) (c .rotate-right2 .last .0) ≡ rotateRight (take (suc (a .n)) (a .marks .now)) =
-    rw (← add-one (a .n)) (c .rotate-right2 .ensures .0) in
     record {
       point = c .before .before .before .before .before .before .shift .ensures;
       list = c .before .before .before .before .lower .ensures;
       steps = c .before .before .rotate-right .ensures .0;
-      marked = marks;
+      marked = rw add-one at (c .rotate-right2 .ensures .0);
       each = record { inOrder = c .before .before .rotate-right .ensures .1; inMarks = c .rotate-right2 .ensures .1 };
     }
 

@@ -9,7 +9,7 @@ use native.Mathlib.Omega.{arith}
 use Rattle.combinatorics.proofs.Basics.{or-left, or-right}
 use Rattle.arrays.specs.Rounds.{roundOf}
 use Rattle.rules.specs.Step.{firstFree}
-use Rattle.rules.proofs.FirstMet.{Meeting, below, homeOrFree, meets-here, meets-onward, meets-spent}
+use Rattle.rules.proofs.FirstMet.{Meeting, homeOrFree, meets-begun, meets-here, meets-onward, meets-spent}
 use Rattle.arrays.proofs.walk.first_free.Statement.{statement}
 use Rattle.arrays.proofs.walk.first_free.Tie as tie
 
@@ -35,10 +35,7 @@ wide-requires-2 c κs = search needs
 loop-holds : tie.Need-loop-holds Inv-loop μ-loop
 loop-holds c =
     let s = c .before .before .before .before in
-    record {
-      same = rw (c .before .before .wide .ensures, c .wide2 .ensures);
-      low = rw (c .before .before .wide .ensures) (below (s .args .next .now) (s .pre .1) (s .args .h));
-    }
+    meets-begun (s .args .sizes .now) (s .args .h) (s .pre .1) (c .before .before .wide .ensures) (c .wide2 .ensures)
 
 in-neither-requires : tie.Need-in-neither-requires Inv-loop μ-loop
 in-neither-requires c κs = search needs

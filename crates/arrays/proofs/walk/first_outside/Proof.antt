@@ -5,7 +5,7 @@ use mathlib.Core.Path.{_≡_, sym, ap, _∙_}
 use borrow.Author.Needs.{needs}
 use native.Mathlib.Omega.{arith}
 use Rattle.rules.specs.Step.{firstOutside}
-use Rattle.rules.proofs.FirstMet.{Meeting, below, meets-here, meets-onward, meets-spent, outside}
+use Rattle.rules.proofs.FirstMet.{Meeting, meets-begun, meets-here, meets-onward, meets-spent, outside}
 use Rattle.arrays.proofs.walk.first_outside.Statement.{statement}
 use Rattle.arrays.proofs.walk.first_outside.Tie as tie
 
@@ -31,10 +31,7 @@ wide-requires-2 c κs = search needs
 loop-holds : tie.Need-loop-holds Inv-loop μ-loop
 loop-holds c =
     let s = c .before .before .before .before in
-    record {
-      same = rw (c .before .before .wide .ensures, c .wide2 .ensures);
-      low = rw (c .before .before .wide .ensures) (below (s .args .way .now) (s .pre .1) (s .args .h));
-    }
+    meets-begun (s .args .sizes .now) (s .args .h) (s .pre .1) (c .before .before .wide .ensures) (c .wide2 .ensures)
 
 has-requires : tie.Need-has-requires Inv-loop μ-loop
 has-requires c κs = search needs

@@ -11,7 +11,7 @@ use Rattle.grid_points.specs.Grid.{at}
 use Rattle.rules.specs.Mask.{bit}
 use Rattle.arrays.specs.Rounds.{roundOf}
 use Rattle.rules.specs.Step.{firstOutsideOrZero}
-use Rattle.rules.proofs.FirstMet.{Meeting, below, meets-here, meets-onward, meets-spent, outsideOrZero}
+use Rattle.rules.proofs.FirstMet.{Meeting, meets-begun, meets-here, meets-onward, meets-spent, outsideOrZero}
 use Rattle.arrays.proofs.walk.first_outside_or_zero.Statement.{statement}
 use Rattle.arrays.proofs.walk.first_outside_or_zero.Tie as tie
 
@@ -37,10 +37,7 @@ wide-requires-2 c κs = search needs
 loop-holds : tie.Need-loop-holds Inv-loop μ-loop
 loop-holds c =
     let s = c .before .before .before .before in
-    record {
-      same = rw (c .before .before .wide .ensures, c .wide2 .ensures);
-      low = rw (c .before .before .wide .ensures) (below (s .args .previous .now) (s .pre .1) (s .args .h));
-    }
+    meets-begun (s .args .sizes .now) (s .args .h) (s .pre .1) (c .before .before .wide .ensures) (c .wide2 .ensures)
 
 has-requires : tie.Need-has-requires Inv-loop μ-loop
 has-requires c κs = search needs

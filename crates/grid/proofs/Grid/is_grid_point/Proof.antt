@@ -1,12 +1,10 @@
 -- `grid::Grid::is_grid_point` meets its contract. The invariant: whether the blocks so far add up. Assumes nothing.
 use mathlib.Core.List.{map}
-use mathlib.Core.Bool.{and-true, and-false}
-use mathlib.Core.Logic.{⊎-elim}
 use mathlib.Core.Path.{_≡_, refl, sym, _∙_}
 use Prim.Native.Nat.{_-_, _≤_}
 use borrow.Author.Tests.{eq-eqb, ne-eqb}
 use lib.ListN.{length, take}
-use Rattle.combinatorics.proofs.Turns.{all-counted}
+use Rattle.combinatorics.proofs.Turns.{all-counted, lowered-or-left}
 use Rattle.combinatorics.specs.Lists.{all, sum, upFrom}
 use Rattle.grid.proofs.Fields.{made-first, made-size, made-division, made-indices, made-blocks, blocks-range}
 use Rattle.grid.proofs.Fields.{size-range}
@@ -99,10 +97,8 @@ loop-again c =
     ) in
     let d : c .before .wide16 .result ≡ division (shape s) (l .j) =
     c .before .wide16 .ensures .0 ∙ made-division s m (l .j) (omega arith) in (
-      rw (all-counted (blockSum (shape s .sizes) (shape s .divisions) y) (l .j), ← (l .inv .0), ← t, ← d) (⊎-elim
-          (λ w. w .1 ∙ sym (rw (ne-eqb _ _ (w .0 .taken)) (and-false (l .good))))
-          (λ w. w .1 ∙ sym (rw (eq-eqb _ _ (w .0 .left)) (and-true (l .good))))
-          (c .if2 .came)),
+      rw (all-counted (blockSum (shape s .sizes) (shape s .divisions) y) (l .j), ← (l .inv .0), ← t, ← d)
+          (lowered-or-left (λ w. ne-eqb _ _ (w .taken)) (λ w. eq-eqb _ _ (w .left)) (c .if2 .came)),
       omega arith,
       l .inv .2,
     )

@@ -1,12 +1,10 @@
 -- `sizes::each_one` meets its contract. The invariant: the answer for the divisions so far. Assumes nothing.
-use mathlib.Core.Bool.{and-true, and-false}
-use mathlib.Core.Logic.{⊎-elim}
-use mathlib.Core.Path.{_≡_, refl, sym, _∙_}
+use mathlib.Core.Path.{_≡_, refl, _∙_}
 use Prim.Native.Nat.{_≤_, _-_}
 use borrow.Author.Tests.{le-leb, lt-leb}
 use lib.Dec.{leb}
-use lib.ListN.{length, getD, take}
-use Rattle.combinatorics.proofs.Turns.{all-next, whole}
+use lib.ListN.{length, take}
+use Rattle.combinatorics.proofs.Turns.{all-next, lowered-or-left, whole}
 use Rattle.combinatorics.specs.Lists.{all}
 use borrow.Author.Needs.{needs}
 use native.Mathlib.Omega.{arith}
@@ -39,10 +37,8 @@ loop-again : tie.Need-loop-again Inv-loop μ-loop
 loop-again c =
     let l = c .before .before .before .loop in
     let xs = c .before .before .before .before .args .divisions .now in (
-      rw (all-next (λ x. leb 1 x) xs (l .j) (omega arith), ← (l .inv .0)) (⊎-elim
-          (λ w. w .1 ∙ sym (rw (lt-leb 1 (getD xs (l .j) 0) (w .0 .taken)) (and-false (l .good))))
-          (λ w. w .1 ∙ sym (rw (le-leb 1 (getD xs (l .j) 0) (w .0 .left)) (and-true (l .good))))
-          (c .if1 .came)),
+      rw (all-next (λ x. leb 1 x) xs (l .j) (omega arith), ← (l .inv .0))
+          (lowered-or-left (λ w. lt-leb 1 _ (w .taken)) (λ w. le-leb 1 _ (w .left)) (c .if1 .came)),
       search needs,
     )
 
