@@ -2,11 +2,12 @@
 // and the rules. How many there are stands first, in 16 bits. A path is its sizes, divisions, start and labels as
 // lists.
 use case_reader::bytes;
+use case_reader::cases;
+use case_reader::next_case;
 use case_reader::show;
 use case_reader::show_kind;
 use case_reader::show_text;
 use case_reader::show_words;
-use case_reader::word;
 use case_reader::words;
 use walk_calls::moved;
 use walk_places::Walk;
@@ -102,11 +103,10 @@ fn print_next() {
 }
 
 fn main() {
-    let paths = word() as u64;
+    let paths = cases();
     let mut k: u64 = 0;
     while k < paths {
-        k += 1;
-        show(b"path ", k);
+        k = next_case(b"path ", k, paths);
         print_next();
     }
 }

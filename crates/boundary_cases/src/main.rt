@@ -2,6 +2,8 @@
 // call: how many tables there are, in 16 bits, and then of each the sizes, divisions and labels as lists, and the
 // length of the buffer, in 16 bits. The buffer is lent full of 255, which is no label.
 use case_reader::bytes;
+use case_reader::cases;
+use case_reader::next_case;
 use case_reader::show;
 use case_reader::show_bytes;
 use case_reader::within_bytes;
@@ -36,11 +38,10 @@ fn print_next() {
 }
 
 fn main() {
-    let tables = word() as u64;
+    let tables = cases();
     let mut k: u64 = 0;
     while k < tables {
-        k += 1;
-        show(b"table ", k);
+        k = next_case(b"table ", k, tables);
         print_next();
     }
 }

@@ -119,6 +119,20 @@ pub fn show(text: &[u8], number: u64) {
     show_text(b"\n");
 }
 
+// How many cases follow, which stands first.
+pub fn cases() -> u64 {
+    word() as u64
+}
+
+// The number of the next case behind k cases, once its line is printed.
+pub fn next_case(name: &[u8], k: u64, cases: u64) -> u64
+    requires { ⌜ k < cases ⌝ }
+    ensures { λ r. ⌜ r ≡ k + 1 ⌝ }
+{
+    show(name, k + 1);
+    k + 1
+}
+
 // The line of an end's kind.
 pub fn show_kind(kind: Kind) {
     match kind {
@@ -127,11 +141,51 @@ pub fn show_kind(kind: Kind) {
     }
 }
 
-fn show_run(count: usize, number: u64) {
+// A run of equal numbers; before the first number it has none.
+struct Run {
+    number: u64,
+    count: u64,
+}
+
+fn show_run(run: Run) {
+    if run.count == 0 {
+        return;
+    }
     show_text(b" ");
-    io::print_decimal(STDOUT_FILENO, count as u64);
+    io::print_decimal(STDOUT_FILENO, run.count);
     show_text(b"x");
-    io::print_decimal(STDOUT_FILENO, number);
+    io::print_decimal(STDOUT_FILENO, run.number);
+}
+
+// A text, and no number yet behind it.
+fn begun(text: &[u8]) -> Run
+    ensures { λ r. ⌜ r .count ≡ 0 ⌝ }
+{
+    show_text(text);
+    Run {
+        number: 0,
+        count: 0,
+    }
+}
+
+// The run with one number more. Another number ends it, so that it is shown, and begins the next.
+fn continued(run: Run, number: u64) -> Run
+    requires { ⌜ run .count < 18446744073709551615 ⌝ }
+    ensures { λ r. ⌜ r .count ≤ run .count + 1 ⌝ }
+{
+    if run.number == number {
+        return Run {
+            number,
+            count: run.count + 1,
+        };
+    }
+    show_run(run);
+    Run { number, count: 1 }
+}
+
+fn end_line(run: Run) {
+    show_run(run);
+    show_text(b"\n");
 }
 
 fn from_byte(x: u8) -> u64 {
@@ -142,55 +196,24 @@ fn from_word(x: u16) -> u64 {
     x as u64
 }
 
-// How many bytes from `at` on equal the one there.
-fn run_of_bytes(list: &[u8], at: usize) -> usize
-    requires { ⌜ at < length (now list) ⌝ }
-    ensures { λ r. ⌜ (1 ≤ r) × (at + r ≤ length (now (list .entry))) ⌝ }
-{
-    let mut i = at + 1;
-    while i < list.len() {
-        if list[i] != list[at] {
-            return i - at;
-        }
-        i += 1;
-    }
-    i - at
-}
-
 // A text and a list of bytes as runs of equal ones, on a line: 3x0 stands for three times 0.
 pub fn show_bytes(text: &[u8], list: &[u8]) {
-    show_text(text);
-    let mut at: usize = 0;
-    while at < list.len() {
-        let count = run_of_bytes(list, at);
-        show_run(count, from_byte(list[at]));
-        at += count;
-    }
-    show_text(b"\n");
-}
-
-fn run_of_words(list: &[u16], at: usize) -> usize
-    requires { ⌜ at < length (now list) ⌝ }
-    ensures { λ r. ⌜ (1 ≤ r) × (at + r ≤ length (now (list .entry))) ⌝ }
-{
-    let mut i = at + 1;
+    let mut run = begun(text);
+    let mut i: usize = 0;
     while i < list.len() {
-        if list[i] != list[at] {
-            return i - at;
-        }
+        run = continued(run, from_byte(list[i]));
         i += 1;
     }
-    i - at
+    end_line(run);
 }
 
 // The same of numbers of 16 bits.
 pub fn show_words(text: &[u8], list: &[u16]) {
-    show_text(text);
-    let mut at: usize = 0;
-    while at < list.len() {
-        let count = run_of_words(list, at);
-        show_run(count, from_word(list[at]));
-        at += count;
+    let mut run = begun(text);
+    let mut i: usize = 0;
+    while i < list.len() {
+        run = continued(run, from_word(list[i]));
+        i += 1;
     }
-    show_text(b"\n");
+    end_line(run);
 }

@@ -1,9 +1,10 @@
 // Prints what the checker answers to the lists of points that standard input holds: how many there are, in 16 bits, and
 // then of each the sizes, divisions, labels and points as lists.
 use case_reader::bytes;
+use case_reader::cases;
+use case_reader::next_case;
 use case_reader::show;
 use case_reader::show_text;
-use case_reader::word;
 use case_reader::words;
 use checker::Answer;
 
@@ -33,11 +34,10 @@ fn check_next() {
 }
 
 fn main() {
-    let lists = word() as u64;
+    let lists = cases();
     let mut k: u64 = 0;
     while k < lists {
-        k += 1;
-        show(b"list ", k);
+        k = next_case(b"list ", k, lists);
         check_next();
     }
 }

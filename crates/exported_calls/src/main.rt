@@ -7,7 +7,8 @@
 use call_lines::label_with;
 use call_lines::make_run;
 use case_reader::bytes;
-use case_reader::show;
+use case_reader::cases;
+use case_reader::next_case;
 use case_reader::within_words;
 use case_reader::word;
 use case_reader::words;
@@ -43,11 +44,10 @@ fn make_next() {
 }
 
 fn main() {
-    let calls = word() as u64;
+    let calls = cases();
     let mut k: u64 = 0;
     while k < calls {
-        k += 1;
-        show(b"call ", k);
+        k = next_case(b"call ", k, calls);
         make_next();
     }
 }

@@ -2,7 +2,7 @@
 ghost use mathlib.Core.Path.{_≡_};
 ghost use Rattle.boundary.specs.Call.{boundaryAnswer, boundaryBuffer};
 ghost use Rattle.exports.specs.Numbers.{labelNumber, labelCount};
-use games::Labelled;
+use crate::put_count;
 
 // The boundary table of an old one: 0 where it is written, with the count of its bytes, else the refusal's number.
 #[no_mangle]
@@ -21,11 +21,6 @@ pub extern "C" fn leveretplate_boundary(
     ensures buffer { λ _. ⌜ now (labels .exit) ≡ boundaryBuffer
         (now (sizes .entry)) (now (divisions .entry)) (now (old .entry)) (now (labels .entry)) ⌝ }
 {
-    match boundary::boundary(sizes, divisions, old, labels) {
-        Labelled::Refused(number) => number,
-        Labelled::Written(written) => {
-            *count = written as u64;
-            0
-        }
-    }
+    let found = boundary::boundary(sizes, divisions, old, labels);
+    put_count(found, count)
 }

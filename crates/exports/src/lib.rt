@@ -46,6 +46,19 @@ pub extern "C" fn leveretplate_run(
     put_answer(found, facts)
 }
 
+// The number of what a labelling answers; the count is stored where labels are written.
+fn put_count(found: Labelled, count: &mut u64) -> u8
+    ensures { λ r. ⌜ (r ≡ labelNumber found) × (now (count .exit) ≡ labelCount found (now (count .entry))) ⌝ }
+{
+    match found {
+        Labelled::Refused(number) => number,
+        Labelled::Written(written) => {
+            *count = written as u64;
+            0
+        }
+    }
+}
+
 // The labels of a game: 0 where they are written, with their count, else the refusal's number.
 #[no_mangle]
 pub extern "C" fn leveretplate_label(
@@ -63,13 +76,8 @@ pub extern "C" fn leveretplate_label(
     ensures buffer { λ _. ⌜ now (labels .exit) ≡ labelBuffer
         (now (sizes .entry)) (now (divisions .entry)) (now (losses .entry)) (now (labels .entry)) ⌝ }
 {
-    match games::label(sizes, divisions, losses, labels) {
-        Labelled::Refused(number) => number,
-        Labelled::Written(written) => {
-            *count = written as u64;
-            0
-        }
-    }
+    let found = games::label(sizes, divisions, losses, labels);
+    put_count(found, count)
 }
 
 // The sheet of a slip: its length.

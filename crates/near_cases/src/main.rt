@@ -7,6 +7,8 @@ use answer_lines::print_refused;
 use answer_lines::print_spent;
 use answer_lines::print_unknown;
 use case_reader::bytes;
+use case_reader::cases;
+use case_reader::next_case;
 use case_reader::number;
 use case_reader::show;
 use case_reader::show_text;
@@ -99,11 +101,10 @@ fn print_next() {
 }
 
 fn main() {
-    let calls = word() as u64;
+    let calls = cases();
     let mut k: u64 = 0;
     while k < calls {
-        k += 1;
-        show(b"call ", k);
+        k = next_case(b"call ", k, calls);
         print_next();
     }
 }

@@ -1,9 +1,10 @@
 // Shows the next move of the walks that standard input holds: the answer, the simplex of an end, and the map and the
 // fields of a move. There are as many walks as the first 16 bits say, and each is followed by its labels, as a list.
 use case_reader::bytes;
+use case_reader::cases;
+use case_reader::next_case;
 use case_reader::show;
 use case_reader::show_words;
-use case_reader::word;
 use walk_preview::Shown;
 use walk_reader::print_answer;
 use walk_reader::print_indices;
@@ -20,8 +21,7 @@ fn print_shown(p: Shown) {
     print_indices(b"fields", &fields);
 }
 
-fn print_next(k: usize) {
-    show(b"walk ", k as u64);
+fn print_next() {
     let w = read_walk();
     let mut labels = [0u8; 60001];
     let count = bytes(&mut labels);
@@ -30,10 +30,10 @@ fn print_next(k: usize) {
 }
 
 fn main() {
-    let walks = word() as usize;
-    let mut k: usize = 0;
+    let walks = cases();
+    let mut k: u64 = 0;
     while k < walks {
-        k += 1;
-        print_next(k);
+        k = next_case(b"walk ", k, walks);
+        print_next();
     }
 }

@@ -3,7 +3,8 @@
 // levels, and how long the label buffer and the answer buffer are, in 16 bits each. The answer buffer is lent full of
 // 65,535, which is no coordinate.
 use case_reader::bytes;
-use case_reader::show;
+use case_reader::cases;
+use case_reader::next_case;
 use case_reader::within_bytes;
 use case_reader::within_words;
 use case_reader::word;
@@ -53,11 +54,10 @@ fn print_next() {
 }
 
 fn main() {
-    let refinements = word() as u64;
+    let refinements = cases();
     let mut k: u64 = 0;
     while k < refinements {
-        k += 1;
-        show(b"refinement ", k);
+        k = next_case(b"refinement ", k, refinements);
         print_next();
     }
 }

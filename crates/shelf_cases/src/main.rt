@@ -1,6 +1,8 @@
 // Prints what shelves answer to calls, and the whole list after each call. Standard input has the number of shelves, in
 // 16 bits, and then of each the list, the count of sheets, of 64 bits, the number of calls, of 16 bits, and of each
 // call 1 to file or 0 to ask, of 16 bits, and the sheet named or asked for, of 64.
+use case_reader::cases;
+use case_reader::next_case;
 use case_reader::number;
 use case_reader::show;
 use case_reader::show_words;
@@ -58,11 +60,10 @@ fn make_next() {
 }
 
 fn main() {
-    let shelves = word() as u64;
+    let shelves = cases();
     let mut k: u64 = 0;
     while k < shelves {
-        k += 1;
-        show(b"case ", k);
+        k = next_case(b"case ", k, shelves);
         make_next();
     }
 }

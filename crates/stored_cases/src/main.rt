@@ -1,8 +1,8 @@
 // Prints the sheets of the slips that standard input holds: how many there are, in 16 bits, and then each slip as a
 // list of bytes.
 use case_reader::bytes;
-use case_reader::show;
-use case_reader::word;
+use case_reader::cases;
+use case_reader::next_case;
 use sheet_output::print_sheet;
 
 fn print_next() {
@@ -12,11 +12,10 @@ fn print_next() {
 }
 
 fn main() {
-    let slips = word() as u64;
+    let slips = cases();
     let mut k: u64 = 0;
     while k < slips {
-        k += 1;
-        show(b"slip ", k);
+        k = next_case(b"slip ", k, slips);
         print_next();
     }
 }

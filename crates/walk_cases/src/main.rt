@@ -1,6 +1,8 @@
 // Moves on the walks that standard input holds, and prints each answer and the walk after it. There are as many as the
 // first 16 bits say. A walk is followed by the number of calls, and before each call come its labels, as a list.
 use case_reader::bytes;
+use case_reader::cases;
+use case_reader::next_case;
 use case_reader::show;
 use case_reader::show_bytes;
 use case_reader::show_text;
@@ -40,8 +42,7 @@ fn next(w: Walk) -> Walk {
     c.walk
 }
 
-fn print_next(k: usize) {
-    show(b"walk ", k as u64);
+fn print_next() {
     let mut w = read_walk();
     let mut left = word();
     while 0 < left {
@@ -51,10 +52,10 @@ fn print_next(k: usize) {
 }
 
 fn main() {
-    let walks = word() as usize;
-    let mut k: usize = 0;
+    let walks = cases();
+    let mut k: u64 = 0;
     while k < walks {
-        k += 1;
-        print_next(k);
+        k = next_case(b"walk ", k, walks);
+        print_next();
     }
 }

@@ -20,14 +20,12 @@ fn byte() -> u8 {
     (word() % 256) as u8
 }
 
-fn read_numbers(list: &mut [u16])
-    ensures { λ _. ⌜ length (now (list .exit)) ≡ length (now (list .entry)) ⌝ }
-{
-    let mut i: usize = 0;
-    while i < list.len() {
-        list[i] = word();
-        i += 1;
-    }
+fn sixteen_numbers() -> [u16; 16] {
+    let mut bytes = [0u8; 32];
+    io::read_full(STDIN_FILENO, &mut bytes);
+    let mut numbers = [0u16; 16];
+    little_endian::words(&bytes, 0, &mut numbers);
+    numbers
 }
 
 fn read_indices(list: &mut [u32])
@@ -41,9 +39,8 @@ fn read_indices(list: &mut [u32])
 }
 
 fn read_place() -> Place {
-    let mut first = [0u16; 16];
+    let first = sixteen_numbers();
     let mut order = [0u32; 16];
-    read_numbers(&mut first);
     read_indices(&mut order);
     Place {
         first,
@@ -54,12 +51,13 @@ fn read_place() -> Place {
 
 pub fn read_walk() -> Walk {
     let mut sizes = [0u8; 6];
-    let mut divisions = [0u16; 6];
-    let mut start = [0u16; 16];
     io::read_full(STDIN_FILENO, &mut sizes);
     let blocks = byte();
-    read_numbers(&mut divisions);
-    read_numbers(&mut start);
+    let mut divided = [0u8; 12];
+    io::read_full(STDIN_FILENO, &mut divided);
+    let mut divisions = [0u16; 6];
+    little_endian::words(&divided, 0, &mut divisions);
+    let start = sixteen_numbers();
     let present = read_place();
     let before = read_place();
     let places = number();

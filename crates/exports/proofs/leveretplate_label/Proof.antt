@@ -1,5 +1,5 @@
 -- `leveretplate_label` meets its contract: it is the labelling's own, with the answer as numbers. Assumes nothing.
-use mathlib.Core.Path.{refl, sym, _∙_}
+use mathlib.Core.Path.{sym}
 use borrow.Author.Needs.{needs}
 use Rattle.exports.proofs.leveretplate_label.Statement.{statement}
 use Rattle.exports.proofs.leveretplate_label.Tie as tie
@@ -7,36 +7,16 @@ use Rattle.exports.proofs.leveretplate_label.Tie as tie
 label-requires : tie.Need-label-requires
 label-requires c κs = search needs
 
-enum-known-number : tie.Need-enum-known-number
-enum-known-number c = search needs
-
-enum-known-written : tie.Need-enum-known-written
-enum-known-written c = search needs
+put-count-requires : tie.Need-put-count-requires
+put-count-requires c κs = search needs
 
 same-length : tie.Need-same-length
 same-length c = search needs
 
 returns : tie.Need-returns
 returns c =
-    let l = c .before .before .before .before .before .label in
-    rw (sym (l .ensures .0) ∙ c .before .number .given .1) (refl, (refl, l .ensures .1))
-
-same-length-2 : tie.Need-same-length-2
-same-length-2 c = search needs
-
-returns-2 : tie.Need-returns-2
-returns-2 c =
-    let l = c .before .before .before .before .before .label in
-    rw (sym (l .ensures .0) ∙ c .before .written .given .1) (refl, (refl, l .ensures .1))
+    let found = c .before .before .before .before .label .ensures in
+    rw (sym (found .0)) (c .put-count .ensures .0, (c .put-count .ensures .1, found .1))
 
 pub leveretplate-label-spec : {M : Type 1} → statement M
-leveretplate-label-spec =
-    tie.close
-    (tie.spec
-    label-requires
-    enum-known-number
-    enum-known-written
-    same-length
-    returns
-    same-length-2
-    returns-2)
+leveretplate-label-spec = tie.close (tie.spec label-requires put-count-requires same-length returns)

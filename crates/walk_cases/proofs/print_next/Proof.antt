@@ -4,16 +4,10 @@ use Rattle.walk_cases.proofs.print_next.Statement.{statement}
 use Rattle.walk_cases.proofs.print_next.Tie as tie
 
 abbrev Inv-loop : tie.InvT-loop
-Inv-loop k w₀ left₀ w left = Unit {0}
+Inv-loop w₀ left₀ w left = Unit {0}
 
 abbrev μ-loop : tie.MeasureT-loop
-μ-loop k w₀ left₀ w left = left
-
-slice-aggregate-show : tie.Need-slice-aggregate-show Inv-loop μ-loop
-slice-aggregate-show c = search needs
-
-show-requires : tie.Need-show-requires Inv-loop μ-loop
-show-requires c κs = search needs
+μ-loop w₀ left₀ w left = left
 
 read-walk-requires : tie.Need-read-walk-requires Inv-loop μ-loop
 read-walk-requires c κs = search needs
@@ -45,8 +39,6 @@ print-next-spec =
     (tie.spec
     Inv-loop
     μ-loop
-    slice-aggregate-show
-    show-requires
     read-walk-requires
     word-requires
     loop-holds
