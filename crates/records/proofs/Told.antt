@@ -15,7 +15,7 @@ use Rattle.combinatorics.proofs.Fronts.{front-taken}
 use Rattle.combinatorics.specs.Lists.{isIn}
 use Rattle.place.specs.Places.{Simplex, setT, setU}
 use Rattle.place.specs.Problem.{Problem}
-use Rattle.rules.proofs.Masks.{bit-with, bit-without}
+use Rattle.rules.proofs.Masks.{IsMask, bit-with, bit-without}
 use Rattle.rules.specs.Mask.{bit, withIndex, withoutIndex}
 use Rattle.trail.proofs.Rules.{recorded, change-sets}
 use Rattle.trail.proofs.Outside.{within-other}
@@ -26,11 +26,6 @@ use Rattle.trail.specs.Record.{recordOf, recordBy}
 use Rattle.records.specs.Records.{differing, recordFrom, IsRecord}
 use Rattle.records.specs.declared.Record.{Record}
 use Rattle.records.proofs.Differences.{only-differs, none-differs}
-
--- "T and U are sets of at most 16 indices": a mask of a set
-pub record IsMask (mask : ℕ) (set : List ℕ) : Type 0 where
-  pub bits : (k : ℕ) → k < 16 → bit mask k ≡ isIn eqb k set
-  pub below : (k : ℕ) → isIn eqb k set ≡ true → k < 16
 
 -- the mask of the first set, changed as the set is, has the indices of the second
 module _ {a : ℕ} {u : List ℕ} (A : IsMask a u) (v : List ℕ) where

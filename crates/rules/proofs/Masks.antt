@@ -1,14 +1,19 @@
--- The bits of a mask with an index, without an index, and of the empty mask. Assumes nothing.
+-- The bits of a mask with an index, without an index, and of the empty mask, and masks of sets. Assumes nothing.
 use mathlib.Core.Bool.{Bool, true, false, not, _&&_, _||_, Bool·beq}
+use mathlib.Core.List.{List}
 use mathlib.Core.Path.{_≡_, refl}
-use Prim.Native.Nat.{ℕ, zero, suc, _-_, _*_, _/_, _%_, _^_, _<_, min, max}
+use Prim.Native.Nat.{ℕ, zero, suc, _-_, _*_, _/_, _%_, _^_, _≤_, _<_, min, max}
 use lib.Bits.{bitOr, bitAnd, or-step, and-step, or-shr, and-shr}
 use lib.Dec.{eqb}
 use native.Mathlib.Omega.{arith}
 use Rattle.combinatorics.proofs.Basics.{beq-same}
 use Rattle.combinatorics.proofs.Lists.{all-in, onNumbers}
 use Rattle.combinatorics.proofs.Ranges.{in-upFrom}
-use Rattle.combinatorics.specs.Lists.{all, upFrom}
+use Rattle.combinatorics.specs.Lists.{all, isIn, upFrom}
+use Rattle.grid_points.specs.Grid.{numIndices}
+use Rattle.place.specs.Places.{Simplex, setT, setU}
+use Rattle.place.specs.Problem.{Problem}
+use Rattle.path_laws.proofs.Meaning.{T-means, U-means}
 use Rattle.rules.specs.Mask.{bit, withIndex, withoutIndex}
 
 or-last-bit : (a b : ℕ) → bitOr a b % 2 ≡ max (a % 2) (b % 2)
@@ -83,3 +88,15 @@ bit-without m h k a b = rw (bit-and, bit-rest h k a b) (and-swap (bit m k) (not 
 pub bit-none : (k : ℕ) → k < 16 → bit 0 k ≡ false
 unfolding bit
 bit-none k a = pairs (λ h k. bit 0 k) (λ h k. false) refl 0 k (omega arith) a
+
+-- "T and U are sets of at most 16 indices": a mask of a set
+pub record IsMask (mask : ℕ) (set : List ℕ) : Type 0 where
+  pub bits : (k : ℕ) → k < 16 → bit mask k ≡ isIn eqb k set
+  pub below : (k : ℕ) → isIn eqb k set ≡ true → k < 16
+
+module _ (p : Problem) (few : numIndices p.grid ≤ 16) (s : Simplex) (m : ℕ) where
+  pub maskT : ((k : ℕ) → k < 16 → bit m k ≡ isIn eqb k (setT p s)) → IsMask m (setT p s)
+  maskT h = record { bits = h; below = λ k e. omega (arith, T-means p s k .0 e .0) }
+
+  pub maskU : ((k : ℕ) → k < 16 → bit m k ≡ isIn eqb k (setU p.grid s)) → IsMask m (setU p.grid s)
+  maskU h = record { bits = h; below = λ k e. omega (arith, U-means p.grid s k .0 e .0) }

@@ -7,7 +7,7 @@ use borrow.Author.Tests.{eqb-false, eqb-true}
 use lib.Dec.{eqb}
 use native.Mathlib.Omega.{arith}
 use Rattle.combinatorics.specs.Lists.{isIn}
-use Rattle.records.proofs.Told.{IsMask}
+use Rattle.rules.proofs.Masks.{IsMask}
 use Rattle.rules.specs.Mask.{bit}
 use Rattle.rules.proofs.SameMasks.{bit-half}
 use Rattle.trail_reader.specs.Reading.{maskFrom, maskOf}

@@ -27,7 +27,8 @@ use Rattle.path_laws.specs.Demand.{HasStart}
 use Rattle.record_reading.proofs.Says.{said1, said2, said3, said4, said5, said6, said7}
 use Rattle.record_reading.specs.Said.{leaving, saidBy, wordAt}
 use Rattle.record_reading.specs.declared.Said.{Said}
-use Rattle.records.proofs.Told.{IsMask, gained-bits, kept-bits, lost-bits}
+use Rattle.records.proofs.Told.{gained-bits, kept-bits, lost-bits}
+use Rattle.rules.proofs.Masks.{IsMask}
 use Rattle.rules.specs.Mask.{bit, withIndex, withoutIndex}
 use Rattle.rules.specs.Ready.{IndicesBelow}
 use Rattle.rules.specs.Step.{State, mark, markPosition}

@@ -22,7 +22,6 @@ use Rattle.end_kinds.specs.declared.Kind.{Kind}
 use Rattle.path_laws.proofs.Filled.{beside, filled-full, filledTable}
 use Rattle.path_laws.proofs.Labels.{label-ok}
 use Rattle.path_laws.proofs.LinkSymmetry.{parts}
-use Rattle.path_laws.proofs.Meaning.{T-means, U-means}
 use Rattle.path_laws.proofs.Theorem.{demand3-holds}
 use Rattle.path_laws.specs.Demand.{Accepted, lastPlace, placeAt}
 use Rattle.path_walk.proofs.Visits.{HasRead, OnPath}
@@ -38,10 +37,11 @@ use Rattle.place.specs.Places.{Simplex, setT, setU}
 use Rattle.place.specs.Problem.{Problem, hasLabel, label}
 use Rattle.records.proofs.Differences.{length-alike}
 use Rattle.records.proofs.Kept.{Kept, grow-kept, kept-of, leave-kept}
-use Rattle.records.proofs.Told.{IsMask, told}
+use Rattle.records.proofs.Told.{told}
 use Rattle.records.specs.Records.{SameSets, firstRecord, recordFrom}
 use Rattle.rules.proofs.Follow.{at-long, at-marks, at-others, at-place, at-reads, at-T, at-U}
 use Rattle.rules.proofs.Marks.{position-in as mark-position}
+use Rattle.rules.proofs.Masks.{IsMask, maskT, maskU}
 use Rattle.rules.specs.Read.{markOf, pointIn, pointsFrom, positionAt, read}
 use Rattle.rules.specs.Ready.{labelIn, Ready, SixteenEach}
 use Rattle.rules.specs.Step.{State, goes, markPosition, step, withMark}
@@ -162,19 +162,15 @@ module _ (g : GridStruct) (start table : List ℕ) (ok : Accepted (problemIn g s
 
     -- T and U, by their masks
     mask-T : IsMask (s .T) (setT p (placeAt visited k))
-    mask-T = record {
-      bits = λ h m. at-T (filled-full ok) (here .0) h m
-          ∙ ap (isIn eqb h)
-          (T-alike p _ (placeAt (path (filledTable p) .visited) k) ∙ ap (setT p) (sym (beside ok k (here .1) .1)));
-      below = λ h m. omega (arith, T-means p (placeAt visited k) h .0 m .0, ok .settled .sixteenIndices);
-    }
+    mask-T = maskT p (ok .settled .sixteenIndices) (placeAt visited k) (s .T) (λ h m.
+        at-T (filled-full ok) (here .0) h m
+        ∙ ap (isIn eqb h)
+        (T-alike p _ (placeAt (path (filledTable p) .visited) k) ∙ ap (setT p) (sym (beside ok k (here .1) .1))))
 
     mask-U : IsMask (s .U) (setU (p .grid) (placeAt visited k))
-    mask-U = record {
-      bits = λ h m. at-U (filled-full ok) (here .0) h m
-          ∙ ap (λ (x : Simplex). isIn eqb h (setU (p .grid) x)) (sym (beside ok k (here .1) .1));
-      below = λ h m. omega (arith, U-means (p .grid) (placeAt visited k) h .0 m .0, ok .settled .sixteenIndices);
-    }
+    mask-U = maskU p (ok .settled .sixteenIndices) (placeAt visited k) (s .U) (λ h m.
+        at-U (filled-full ok) (here .0) h m
+        ∙ ap (λ (x : Simplex). isIn eqb h (setU (p .grid) x)) (sym (beside ok k (here .1) .1)))
 
     active-low : s .active ≤ length (s .order)
     active-low = at-reads (filled-full ok) (here .0) .0 .low

@@ -11,10 +11,11 @@ use Rattle.grid_points.specs.Grid.{isGridPoint, numIndices, numPoints}
 use Rattle.grid.specs.Made.{shape}
 use Rattle.grid_points.specs.Questions.{gridQuestions}
 use Rattle.grid.specs.declared.Grid.{Grid as GridStruct}
+use Rattle.marks.specs.Reading.{problemFrom}
 use Rattle.place.specs.Questions.{tableQuestions}
 use Rattle.questions.proofs.Answers.{asked-next}
 use Rattle.questions.specs.Questions.{firstNo}
-use Rattle.walk_calls.specs.Asked.{laterWalkQuestions, problemOn}
+use Rattle.walk_calls.specs.Asked.{laterWalkQuestions}
 
 module _ (g : GridStruct) (start labels : List ℕ) where
   pub no-start : isGridPoint (shape g) start ≡ false → 5 ≡ firstNo (laterWalkQuestions g start labels)
@@ -38,5 +39,5 @@ module _ (g : GridStruct) (start labels : List ℕ) where
       no-question f = rw (on, eq-eqb (length labels) (numPoints (shape g)) long, f)
 
   pub behind-four : firstNo (gridQuestions (shape g)) ≡ 0
-      → firstNo (tableQuestions (problemOn g start labels)) ≡ firstNo (laterWalkQuestions g start labels)
+      → firstNo (tableQuestions (problemFrom g start labels)) ≡ firstNo (laterWalkQuestions g start labels)
   behind-four e = asked-next (gridQuestions (shape g)) (laterWalkQuestions g start labels) refl e

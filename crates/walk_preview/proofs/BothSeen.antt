@@ -9,6 +9,7 @@ use Rattle.grid.specs.declared.Grid.{Grid as GridStruct}
 use Rattle.place.specs.Places.{Simplex}
 use Rattle.place.specs.Problem.{Problem}
 use Rattle.recogniser.specs.Pieces.{bareMark}
+use Rattle.rules.proofs.Masks.{maskT, maskU}
 use Rattle.trail.specs.Change.{ByRule, change}
 use Rattle.walks.proofs.Moved.{calls-hold}
 use Rattle.walks.specs.Next.{moveAnswer, moveWalk, moved, ruleOf}
@@ -17,7 +18,7 @@ use Rattle.walks.specs.Walk.{Walk}
 use Rattle.walk_places.proofs.BothPlaced.{ok, on-here, on-there}
 use Rattle.walk_places.specs.Placing.{BothMarked}
 use Rattle.walk_places.specs.declared.Both.{Both}
-use Rattle.walk_preview.proofs.Changed.{changed, maskT, maskU, only-other}
+use Rattle.walk_preview.proofs.Changed.{changed, only-other}
 use Rattle.walk_preview.specs.Changes.{changeFor, changedOf, indexFrom, otherIn}
 use Rattle.walk_preview.specs.Previews.{CanShow, changeOn}
 use Rattle.walk_places.specs.Walks.{placeOf, tableOn, walkOn}

@@ -3,21 +3,19 @@ use mathlib.Core.Bool.{true, false}
 use mathlib.Core.List.{List, [], _∷_, map}
 use mathlib.Core.Logic.{⊎-elim}
 use mathlib.Core.Path.{_≡_, refl, sym, ap, _∙_}
-use Prim.Native.Nat.{ℕ, suc, _≤_, _<_}
+use Prim.Native.Nat.{ℕ, suc}
 use lib.Dec.{eqb}
-use native.Mathlib.Omega.{arith}
 use Rattle.combinatorics.proofs.Basics.{absurd-bool, both, true-or-false}
 use Rattle.combinatorics.proofs.Lists.{all-in, in-here, in-later, in-map, map-in, onNumbers}
 use Rattle.combinatorics.specs.Lists.{all, firstOr, isIn}
 use Rattle.grid_points.proofs.Points.{onPoints}
-use Rattle.grid_points.specs.Grid.{Point, isGridPoint, numIndices, position, samePoint}
+use Rattle.grid_points.specs.Grid.{Point, isGridPoint, position, samePoint}
 use Rattle.place.specs.Places.{Simplex, setT, setU}
 use Rattle.place.specs.Problem.{Problem}
-use Rattle.path_laws.proofs.Meaning.{T-means, U-means}
 use Rattle.path_laws.specs.Demand.{Accepted}
 use Rattle.recogniser.specs.Pieces.{bareMark}
-use Rattle.records.proofs.Told.{IsMask, gained, kept, lost}
-use Rattle.rules.specs.Mask.{bit}
+use Rattle.records.proofs.Told.{gained, kept, lost}
+use Rattle.rules.proofs.Masks.{IsMask}
 use Rattle.rules.specs.Step.{markPosition}
 use Rattle.trail.specs.Change.{ByRule, Change, change, outside, rule1, rule2, rule3, rule4, rule5, rule6}
 use Rattle.trail.specs.Change.{rule7}
@@ -54,14 +52,6 @@ module _ {p : Problem} (ok : Accepted p) where
       go : (o : List Point) → map (position p.grid) o ≡ x ∷ [] → markPosition (firstOr 0 (map (bareMark p.grid) o)) ≡ x
       go [] q = absurd-bool (cc)
       go (y ∷ o) q = bare-position p.grid y ∙ ap (firstOr 0) q
-
--- masks of T and U
-module _ (p : Problem) (few : numIndices p.grid ≤ 16) (s : Simplex) (m : ℕ) where
-  pub maskT : ((k : ℕ) → k < 16 → bit m k ≡ isIn eqb k (setT p s)) → IsMask m (setT p s)
-  maskT h = record { bits = h; below = λ k e. omega (arith, T-means p s k .0 e .0) }
-
-  pub maskU : ((k : ℕ) → k < 16 → bit m k ≡ isIn eqb k (setU p.grid s)) → IsMask m (setU p.grid s)
-  maskU h = record { bits = h; below = λ k e. omega (arith, U-means p.grid s k .0 e .0) }
 
 -- the fields of the rule are those of the change
 module _ (p : Problem) (a b : Simplex) {T U T' U' y z : ℕ} (t : IsMask T (setT p a)) (t' : IsMask T' (setT p b))

@@ -38,6 +38,7 @@ use Rattle.moves.specs.declared.Status.{Status}
 use Rattle.place.specs.Ends.{link}
 use Rattle.place.specs.Places.{Simplex, setT, setU}
 use Rattle.place.specs.Problem.{Problem, label}
+use Rattle.rules.proofs.Masks.{maskT, maskU}
 use Rattle.rules.proofs.StatePoints.{ready-point}
 use Rattle.rules.specs.Mask.{bit}
 use Rattle.rules.specs.Read.{markOf, pointIn, pointsFrom}
@@ -315,10 +316,13 @@ module _ {g : GridStruct} {w : WalkStruct} {labels first list order marks : List
           let f = R .fits .moves e x in
           let b = calls-hold walk labels .rule (ruleOf p (walk .present) (keptBy q e)) (rw z) in
           let c : ByRule (change p (walk .present) (keptBy q e)) (ruleOf p (walk .present) (keptBy q e)) = rw z at b in
-          rule-told p (ok .settled .sixteenIndices) (walk .present) (keptBy q e) t u (e .T) (e .U)
-          (λ k l. rw S.present (masks .0 k l)) (λ k l. f .3 k l ∙ ap (λ (r : List ℕ). isIn eqb k r)
-          (setT-same p (map fill labels) (keptBy q e)))
-          (λ k l. rw S.present (masks .1 k l)) (f .4) c
+          let few = ok .settled .sixteenIndices in
+          rule-told p (walk .present) (keptBy q e)
+          (maskT p few _ t (λ k l. rw S.present (masks .0 k l)))
+          (maskT p few _ (e .T) (λ k l. f .3 k l ∙ ap (λ (r : List ℕ). isIn eqb k r)
+          (setT-same p (map fill labels) (keptBy q e))))
+          (maskU p few _ u (λ k l. rw S.present (masks .1 k l)))
+          (maskU p few _ (e .U) (f .4)) c
 
       long-points : (f : ℕ → Point) (b k : ℕ) → length (map f (upFrom b k)) ≡ k
       long-points f b k = length-map (upFrom b k) f ∙ length-upFrom b k

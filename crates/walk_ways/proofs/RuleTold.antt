@@ -2,16 +2,14 @@
 use mathlib.Core.Bool.{true, false, not}
 use mathlib.Core.List.{List, [], _∷_}
 use mathlib.Core.Path.{_≡_, sym, _∙_}
-use Prim.Native.Nat.{ℕ, _≤_, _<_}
+use Prim.Native.Nat.{ℕ}
 use lib.Dec.{eqb}
-use native.Mathlib.Omega.{arith}
 use Rattle.combinatorics.proofs.Basics.{absurd-bool, both, false-of, not-is}
 use Rattle.combinatorics.proofs.Lists.{filter-in, in-here, onNumbers}
 use Rattle.combinatorics.specs.Lists.{isIn}
 use Rattle.place.specs.Places.{Simplex, setT, setU}
 use Rattle.place.specs.Problem.{Problem}
-use Rattle.path_laws.proofs.Meaning.{T-means, U-means}
-use Rattle.grid_points.specs.Grid.{numIndices}
+use Rattle.rules.proofs.Masks.{IsMask}
 use Rattle.rules.specs.Mask.{bit}
 use Rattle.trail.specs.Change.{ByRule, change, outside, rule1, rule2, rule3, rule4, rule5, rule6}
 use Rattle.trail.specs.Change.{rule7}
@@ -20,17 +18,12 @@ use Rattle.trail.proofs.Outside.{within-other}
 use Rattle.walk_ways.proofs.MaskTests.{alike-of, of-alike, of-within, within-of}
 use Rattle.walk_ways.specs.Ways.{alike, ruleFrom, maskWithin}
 
--- a mask of a set
-pub record MaskOf (a : ℕ) (u : List ℕ) : Type 0 where
-  pub bits : (k : ℕ) → k < 16 → bit a k ≡ isIn eqb k u
-  pub below : (k : ℕ) → isIn eqb k u ≡ true → k < 16
-
 one-outside : (u v : List ℕ) (h : ℕ) → outside eqb v u ≡ h ∷ [] → (isIn eqb h u ≡ true) × (isIn eqb h v ≡ false)
 one-outside u v h e =
     let w = filter-in onNumbers (λ x. not (isIn eqb x v)) h u (rw e (in-here onNumbers h [])) in
     (w .0, not-is _ w.1)
 
-module _ {a b : ℕ} {u v : List ℕ} (A : MaskOf a u) (B : MaskOf b v) where
+module _ {a b : ℕ} {u v : List ℕ} (A : IsMask a u) (B : IsMask b v) where
   kept : outside eqb u v ≡ [] → outside eqb v u ≡ [] → alike a b ≡ true
   kept e f = alike-of a b
       (λ k l. A .bits k l
@@ -52,42 +45,34 @@ module _ {a b : ℕ} {u v : List ℕ} (A : MaskOf a u) (B : MaskOf b v) where
         false-of _ (λ q. absurd-bool (sym x ∙ of-within a b q h l ∙ (rw (x, y)))),
       )
 
-module _ (p : Problem) (few : numIndices p.grid ≤ 16) (a b : Simplex) (T U T' U' : ℕ)
-    (t : (k : ℕ) → k < 16 → bit T k ≡ isIn eqb k (setT p a)) (t' : (k : ℕ) → k < 16 → bit T' k ≡ isIn eqb k (setT p b))
-    (u : (k : ℕ) → k < 16 → bit U k ≡ isIn eqb k (setU p.grid a))
-    (u' : (k : ℕ) → k < 16 → bit U' k ≡ isIn eqb k (setU p.grid b)) where
-  maskT : (s : Simplex) (m : ℕ) → ((k : ℕ) → k < 16 → bit m k ≡ isIn eqb k (setT p s)) → MaskOf m (setT p s)
-  maskT s m h = record { bits = h; below = λ k e. omega (arith, T-means p s k .0 e .0) }
-
-  maskU : (s : Simplex) (m : ℕ) → ((k : ℕ) → k < 16 → bit m k ≡ isIn eqb k (setU p.grid s)) → MaskOf m (setU p.grid s)
-  maskU s m h = record { bits = h; below = λ k e. omega (arith, U-means p.grid s k .0 e .0) }
-
+module _ (p : Problem) (a b : Simplex) {T U T' U' : ℕ} (t : IsMask T (setT p a)) (t' : IsMask T' (setT p b))
+    (u : IsMask U (setU p.grid a)) (u' : IsMask U' (setU p.grid b)) where
   pub rule-told : {r : ℕ} → ByRule (change p a b) r → ruleFrom T U T' U' ≡ r
   unfolding ruleFrom
   rule-told (rule1 y z e) =
       let i = change-sets p a b e in
-      rw (kept (maskT a T t) (maskT b T' t') i.0 i.1, kept (maskU a U u) (maskU b U' u') i.2 i.3)
+      rw (kept t t' i.0 i.1, kept u u' i.2 i.3)
   rule-told (rule2 y z h e) =
       let i = change-sets p a b e in
-      let f = gained (maskU a U u) (maskU b U' u') h i.2 i.3 in
-      rw (kept (maskT a T t) (maskT b T' t') i.0 i.1, f .0, f .1)
+      let f = gained u u' h i.2 i.3 in
+      rw (kept t t' i.0 i.1, f .0, f .1)
   rule-told (rule3 y z h e) =
       let i = change-sets p a b e in
-      let f = lost (maskU a U u) (maskU b U' u') h i.2 i.3 in
-      rw (kept (maskT a T t) (maskT b T' t') i.0 i.1, f .0, f .1)
+      let f = lost u u' h i.2 i.3 in
+      rw (kept t t' i.0 i.1, f .0, f .1)
   rule-told (rule4 y h e) =
       let i = change-sets p a b e in
-      let d = gained (maskT a T t) (maskT b T' t') h i.0 i.1 in
-      rw (d .0, d .1, kept (maskU a U u) (maskU b U' u') i.2 i.3)
+      let d = gained t t' h i.0 i.1 in
+      rw (d .0, d .1, kept u u' i.2 i.3)
   rule-told (rule5 y h e) =
       let i = change-sets p a b e in
-      let d = gained (maskT a T t) (maskT b T' t') h i.0 i.1 in
-      rw (d .0, d .1, lost (maskU a U u) (maskU b U' u') h i.2 i.3 .0)
+      let d = gained t t' h i.0 i.1 in
+      rw (d .0, d .1, lost u u' h i.2 i.3 .0)
   rule-told (rule6 z h e) =
       let i = change-sets p a b e in
-      let d = lost (maskT a T t) (maskT b T' t') h i.0 i.1 in
-      rw (d .0, d .1, gained (maskU a U u) (maskU b U' u') h i.2 i.3 .0)
+      let d = lost t t' h i.0 i.1 in
+      rw (d .0, d .1, gained u u' h i.2 i.3 .0)
   rule-told (rule7 z h e) =
       let i = change-sets p a b e in
-      let d = lost (maskT a T t) (maskT b T' t') h i.0 i.1 in
-      rw (d .0, d .1, kept (maskU a U u) (maskU b U' u') i.2 i.3)
+      let d = lost t t' h i.0 i.1 in
+      rw (d .0, d .1, kept u u' i.2 i.3)
