@@ -19,7 +19,7 @@ use Rattle.place.specs.Path.{Answer as PathAnswer, answer, ended, spent, unknow
 use Rattle.place.specs.Places.{Simplex}
 use Rattle.place.specs.Problem.{Problem, problemOf}
 use Rattle.place.specs.Questions.{question8, tableQuestions}
-use Rattle.simplices.proofs.Tests.{settled-with}
+use Rattle.simplices.proofs.Tests.{has-start-with}
 use Rattle.finder.specs.Run.{caseOf, runRefusal, runAnswer}
 use Rattle.finder.specs.declared.answers.Answer.{Answer}
 use Rattle.finder.specs.declared.answers.Answer.the-variants.{End, Refused, Unknown}
@@ -67,7 +67,7 @@ module _ (sizes divisions old buffer : List ℕ) (count : ℕ)
 
   over : firstNo (tableQuestions p) ≡ 0 → OverNewTable p × AcceptedAgain p
   over q =
-      let ok = accepted-of p q .settled in
+      let ok = accepted-of p q .hasStart in
       (over-new-table ok old (wrote .table), accepted-again ok old (wrote .table) (wrote .long) (wrote .range))
 
   place-ends : (budget places read : ℕ) (kind : Kind) (block vertices : ℕ)
@@ -87,7 +87,7 @@ module _ (sizes divisions old buffer : List ℕ) (count : ℕ)
       → runRefusal p room ≡ 0
   unfolding firstNo
   passes five eight =
-      let ok = settled-with (p .grid) (accepted (p .grid) (wrote .grid)) start five (p .labels) in
+      let ok = has-start-with (p .grid) (accepted (p .grid) (wrote .grid)) start five (p .labels) in
       let t = accepted-again ok old (wrote .table) (wrote .long) (wrote .range) .accepted in
       asked-next (tableQuestions p) (question8 (p .grid) room ∷ []) refl t ∙ rw eight
 

@@ -103,7 +103,7 @@ module _ {p : Problem} (ok : HasStart p) (old : List ℕ) (is : p .labels ≡ bo
     is-accepted =
         let t = new-table (p .grid) (accepted-grid ok) old in
         record {
-          settled = ok;
+          hasStart = ok;
           tableLength = ap length is ∙ t .whole;
           labels = rw is (new-range (p .grid) (accepted-grid ok) old long range);
         }

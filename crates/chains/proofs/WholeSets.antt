@@ -25,7 +25,7 @@ use Rattle.grid.specs.declared.Grid.{Grid as GridStruct}
 use Rattle.rules.proofs.Masks.{bit-none}
 use Rattle.place.specs.Coefficients.{IsCoefficients}
 use Rattle.path_laws.proofs.BlocksOfGrid.{coefficientOf-is}
-use Rattle.simplices.proofs.Tests.{at-index, coefficients-by, settled}
+use Rattle.simplices.proofs.Tests.{at-index, coefficients-by, has-start}
 use Rattle.simplices.specs.Chains.{startingAt, coefficientsFrom, zeroOrOne}
 use Rattle.chains.specs.Follow.{GoesRound, HasZero, closed, Added}
 use Rattle.chains.specs.Sets.{bitNumber, ClearFrom, IsSet}
@@ -193,7 +193,7 @@ module _ {g : Grid} (A : Accepted g) (p z : Point) (hp : isGridPoint g p ≡ tru
       c = coefficientsFrom g p z
 
       C : IsCoefficients (startingAt g p) z (coefficientsFrom g p z)
-      C = coefficientOf-is (settled g A p hp) z hz
+      C = coefficientOf-is (has-start g A p hp) z hz
 
       positive : 2 ≤ size g j
       positive = size-two g A j lj .0

@@ -27,7 +27,7 @@ use Rattle.place.specs.Places.{Simplex}
 use Rattle.place.specs.Problem.{Problem}
 use Rattle.place.specs.Questions.{question6, question7, tableQuestions}
 use Rattle.simplices.proofs.Answers.{last-place, stop-answer, stop-points}
-use Rattle.simplices.proofs.Tests.{settled-with}
+use Rattle.simplices.proofs.Tests.{has-start-with}
 use Rattle.chains.specs.Listed.{listed, listedAt}
 use Rattle.checker.proofs.Answers.{judged-is}
 use Rattle.checker.proofs.ListRefusals.{list-points, none-no}
@@ -138,7 +138,7 @@ each-end p questions = record {
         let size = first-yes (question6 p) _ (omega arith) start.1 in
         let labels = first-yes (question7 p) [] (omega arith) size.1 in
         let A = accepted p.grid asked.0 in
-        let ok = settled-with p.grid A p.start start.0 p.labels in
+        let ok = has-start-with p.grid A p.start start.0 p.labels in
         let w = last-place ok e q in
         let s = stop-points ok w.0 e w.1 w.2 in
         let numbers = concatMap (λ y. y) (e .simplex) in

@@ -31,7 +31,7 @@ use Rattle.path_walk.specs.declared.Finish.{Finish}
 -- the array that the start was copied to holds it
 module _ (g : GridStruct) (made : IsMade g) (start table : List ℕ) (ok : Accepted (problemFrom g start table)) where
   pub start-long : length start ≡ g .indices
-  start-long = point-long (shape g) start (ok .settled .start) ∙ sym (made-indices g made)
+  start-long = point-long (shape g) start (ok .hasStart .start) ∙ sym (made-indices g made)
 
   pub same-problem : problemIn g (front (take (g .indices) start) (replicate 16 0)) table ≡ problemFrom g start table
   same-problem =

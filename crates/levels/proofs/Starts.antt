@@ -61,7 +61,7 @@ module _ {p : Problem} (ok : FullyLabelled p) where
   vertices-are = ap answerVertices (full-ended .reaches)
 
   pub is-simplex : IsSimplex p (answerVertices (endOf p))
-  is-simplex = rw vertices-are (end-simplex p (ok .settled) (full-ended .isPath))
+  is-simplex = rw vertices-are (end-simplex p (ok .hasStart) (full-ended .isPath))
 
   pub first-on-grid : isGridPoint (p .grid) (firstVertex p) ≡ true
   first-on-grid = go (answerVertices (endOf p)) (is-simplex .some) (is-simplex .onGrid)
@@ -79,7 +79,7 @@ game-full g start losses e on =
     let a = accepted g e in
     let some : 1 ≤ numIndices g = omega (arith, a .someBlock, blocks-few g a) in
     record {
-      settled = record {
+      hasStart = record {
         someBlock = a .someBlock;
         sixBlocks = a .fewBlocks;
         sizes = a .sizesTwo;

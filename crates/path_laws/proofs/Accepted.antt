@@ -21,7 +21,7 @@ accepted-of p e =
     let q6 = first-yes (question6 p) (question7 p ∷ []) (omega arith) q5.1 in
     let q7 = first-yes (question7 p) [] (omega arith) q6.1 in
     record {
-      settled = record {
+      hasStart = record {
         someBlock = a .someBlock;
         sixBlocks = a .fewBlocks;
         sizes = a .sizesTwo;
@@ -38,14 +38,14 @@ accepted-of p e =
 pub accepted-is : {p : Problem} → Accepted p → firstNo (tableQuestions p) ≡ 0
 unfolding firstNo
 accepted-is {p} ok = rw (
-  le-leb 1 _ ok.settled.someBlock,
-  le-leb _ 6 ok.settled.sixBlocks,
-  ok .settled .sizes,
-  le-leb _ 16 ok.settled.sixteenIndices,
-  eq-eqb _ _ ok.settled.sameNumber,
-  ok .settled .divisions,
-  le-leb _ 60000 ok.settled.points,
-  ok .settled .start,
+  le-leb 1 _ ok.hasStart.someBlock,
+  le-leb _ 6 ok.hasStart.sixBlocks,
+  ok .hasStart .sizes,
+  le-leb _ 16 ok.hasStart.sixteenIndices,
+  eq-eqb _ _ ok.hasStart.sameNumber,
+  ok .hasStart .divisions,
+  le-leb _ 60000 ok.hasStart.points,
+  ok .hasStart .start,
   eq-eqb _ _ ok.tableLength,
   ok .labels,
 )

@@ -234,4 +234,4 @@ module _ {p : Problem} (ok : HasStart p) {s : List Simplex} {e : End} (k : IsPat
 
 -- the path of every accepted table that reaches an end
 pub backwards-holds : {p : Problem} → Accepted p → {e : End} → path p .end ≡ some e → Backwards p (path p .visited)
-backwards-holds ok q = let w = ended-path ok q in backwards ok.settled w.0 w.1
+backwards-holds ok q = let w = ended-path ok q in backwards ok.hasStart w.0 w.1

@@ -29,7 +29,7 @@ use Rattle.path_laws.specs.Demand.{Accepted, Fills, HasStart, Stop, atGa
 
 -- an accepted table without gaps
 pub record FullyLabelled (p : Problem) : Type 0 where
-  pub settled : HasStart p
+  pub hasStart : HasStart p
   pub tableLength : length (p .labels) ≡ numPoints (p .grid)
   pub labels : all (λ l. leb 1 l && leb l (numIndices (p .grid))) (p .labels) ≡ true
 
@@ -41,7 +41,7 @@ all-right m (l ∷ ls) a =
 
 pub full-accepted : {p : Problem} → FullyLabelled p → Accepted p
 full-accepted {p} ok = record {
-  settled = ok .settled;
+  hasStart = ok .hasStart;
   tableLength = ok .tableLength;
   labels = all-right _ p.labels ok.labels;
 }
@@ -51,7 +51,7 @@ module _ {p : Problem} (ok : FullyLabelled p) where
   unfolding label
   full-label y h =
       at-all (λ l. leb 1 l && leb l (numIndices p.grid)) p.labels _ ok.labels
-      (omega (arith, ok .tableLength, position-in (points p.grid) y (in-points p.grid y ok.settled.sameNumber h)))
+      (omega (arith, ok .tableLength, position-in (points p.grid) y (in-points p.grid y ok.hasStart.sameNumber h)))
 
   pub full-place : (s : Simplex) → isPlace p s ≡ true → allLabelled p s ≡ true
   full-place s h = in-all onPoints _ s (λ y m. full-label y (all-in onPoints _ s (parts p s h .gridPoints) y m))
@@ -88,22 +88,22 @@ fill-at (l ∷ ls) (suc i) h = fill-at ls i h
 module _ {p : Problem} (ok : Accepted p) where
   pub filled-full : FullyLabelled (filledTable p)
   filled-full = record {
-    settled = record {
-      someBlock = ok .settled .someBlock;
-      sixBlocks = ok .settled .sixBlocks;
-      sizes = ok .settled .sizes;
-      sixteenIndices = ok .settled .sixteenIndices;
-      sameNumber = ok .settled .sameNumber;
-      divisions = ok .settled .divisions;
-      points = ok .settled .points;
-      start = ok .settled .start;
+    hasStart = record {
+      someBlock = ok .hasStart .someBlock;
+      sixBlocks = ok .hasStart .sixBlocks;
+      sizes = ok .hasStart .sizes;
+      sixteenIndices = ok .hasStart .sixteenIndices;
+      sameNumber = ok .hasStart .sameNumber;
+      divisions = ok .hasStart .divisions;
+      points = ok .hasStart .points;
+      start = ok .hasStart .start;
     };
     tableLength = length-map p.labels fill ∙ ok .tableLength;
     labels = fill-in (numIndices p.grid) p.labels some-index ok.labels;
   }
     where
       some-index : 1 ≤ numIndices p.grid
-      some-index = some-sum p.grid.sizes ok.settled.someBlock ok.settled.sizes
+      some-index = some-sum p.grid.sizes ok.hasStart.someBlock ok.hasStart.sizes
 
   accepted-filled : Accepted (filledTable p)
   accepted-filled = full-accepted filled-full
@@ -159,7 +159,7 @@ module _ {p : Problem} (ok : Accepted p) where
             → (e : End) × (path p .end ≡ some e)
         go (some e) r s = (e, r)
         go none r (atGap y g) =
-            absurd (gap-not-all ok (twoWays ok.settled) (lastPlace (path p .visited)) g (rw (last, beside k l .1) own))
+            absurd (gap-not-all ok (twoWays ok.hasStart) (lastPlace (path p .visited)) g (rw (last, beside k l .1) own))
 
     -- and so the filled table's
     same-answers : pathLength p ≡ suc k → (b : ℕ) → answer (filledTable p) b ≡ answer p b

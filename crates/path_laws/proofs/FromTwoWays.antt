@@ -157,19 +157,19 @@ module _ {p : Problem} (ok : Accepted p) (W : TwoWays p) where
 
   two : (a x y z : Simplex) → Known a x → Known a y → Known a z → (x ≡ y) ⊎ ((x ≡ z) ⊎ (y ≡ z))
   two a x y z kx ky kz = among-two x y z (links p a)
-      (omega (arith, ways-le a kx.joins.from kx.ownFrom, length-ways p a)) (in-links ok.settled kx.joins)
-      (in-links ok.settled ky.joins) (in-links ok.settled kz.joins)
+      (omega (arith, ways-le a kx.joins.from kx.ownFrom, length-ways p a)) (in-links ok.hasStart kx.joins)
+      (in-links ok.hasStart ky.joins) (in-links ok.hasStart kz.joins)
 
   one-link : (x y : Simplex) → Known (p .start ∷ []) x → Known (p .start ∷ []) y → x ≡ y
   one-link x y kx ky = only-member onSimplices x y (links p (p .start ∷ []))
-      (omega (arith, W .start kx.ownFrom, length-ways p (p .start ∷ []))) (in-links ok.settled kx.joins)
-      (in-links ok.settled ky.joins)
+      (omega (arith, W .start kx.ownFrom, length-ways p (p .start ∷ []))) (in-links ok.hasStart kx.joins)
+      (in-links ok.hasStart ky.joins)
 
   walks : {n : ℕ} {s : List Simplex} {e : Option End} → Trail p n none (p .start ∷ []) s e → (k : ℕ) → k < length s
       → allLabelled p (placeAt s k) ≡ true → Walks Known (placeAt s) k
   walks {s = s} t k c own = record {
     linked = λ i h. record {
-      joins = step-links p t (start-place ok.settled) i (omega arith);
+      joins = step-links p t (start-place ok.hasStart) i (omega arith);
       ownFrom = known p t i (omega arith);
       ownTo = ⊎-elim
           (λ (e : suc i ≡ k). rw e own)
@@ -200,7 +200,7 @@ module _ {p : Problem} (ok : Accepted p) (W : TwoWays p) where
       → length (waysOn p (some a) b) ≡ 1
   one-from a b k own ne =
       let m : suc (length (linksOn p (some a) b)) ≡ length (links p b) =
-      length-without onSimplices a (links p b) (links-distinct p b) (in-links ok.settled (back a b k)) in
+      length-without onSimplices a (links p b) (links-distinct p b) (in-links ok.hasStart (back a b k)) in
       omega (arith, length-waysOn p (some a) b, length-ways p b, W .other b k.to own ne)
 
   -- so on the path
@@ -210,14 +210,14 @@ module _ {p : Problem} (ok : Accepted p) (W : TwoWays p) where
   one-way {s = s} t zero c own = rw (first p t c) (one-from-start (rw (first p t c) at own))
   one-way {s = s} t (suc i) c own =
       let z : placeAt s 0 ≡ p .start ∷ [] = first p t (omega arith) in
-      one-from (placeAt s i) (placeAt s (suc i)) (step-links p t (start-place ok.settled) i c) own
+      one-from (placeAt s i) (placeAt s (suc i)) (step-links p t (start-place ok.hasStart) i c) own
       (λ q. never-twice t 0 (suc i) (omega arith) c (z ∙ sym q))
 
   pub within-bound : {n : ℕ} {s : List Simplex} {e : Option End} → Trail p n none (p .start ∷ []) s e
       → length s ≤ bound p.grid
   within-bound {s = s} t =
-      count p ok.settled s (distinct-apart s (never-twice t))
-      (λ x m. let k = in-placeAt s x m in rw k.2 (all-places p t (start-place ok.settled) k.0 k.1))
+      count p ok.hasStart s (distinct-apart s (never-twice t))
+      (λ x m. let k = in-placeAt s x m in rw k.2 (all-places p t (start-place ok.hasStart) k.0 k.1))
 
   left-same : (s : List Simplex) (i : ℕ) → leftFrom p none s i ≡ leftAt s i
   left-same s zero = refl
@@ -235,7 +235,7 @@ module _ {p : Problem} (ok : Accepted p) (W : TwoWays p) where
       (λ own. absurd
       (let z : length (waysOn p (leftAt s i.0) (placeAt s i.0)) ≡ 0 = ap length (rw (left-same s i.0) at (i .2 own)) in
       omega (arith, one-way t i.0 l own))) in
-      let g = one-gap ok.settled (placeAt s i.0) (all-places p t (start-place ok.settled) i.0 l) f in
+      let g = one-gap ok.hasStart (placeAt s i.0) (all-places p t (start-place ok.hasStart) i.0 l) f in
       rw k (atGap g.0 g.1))
       (unended p t refl)
   stops-long {e = some f} t c = let w = finish p t f refl in atEnd w.finishes.0 w.whole w.finishes.1
@@ -285,7 +285,7 @@ module _ {p : Problem} (ok : Accepted p) (W : TwoWays p) where
   path-next {s} k i c = in-filter onSimplices
       (λ t. not (isBack (leftAt s i) (link t)))
       (placeAt s (suc i)) (links p (placeAt s i))
-      (in-links ok.settled (record { from = k .places i (omega arith); to = k .places (suc i) c; by = k .links i c }))
+      (in-links ok.hasStart (record { from = k .places i (omega arith); to = k .places (suc i) c; by = k .links i c }))
       (go i c)
     where
       go : (i : ℕ) → suc i < length s → not (isBack (leftAt s i) (link (placeAt s (suc i)))) ≡ true
@@ -356,8 +356,8 @@ module _ {p : Problem} (ok : Accepted p) (W : TwoWays p) where
       record {
         nonempty = path-nonempty;
         begins = first p t path-nonempty;
-        places = all-places p t (start-place ok.settled);
-        links = λ i h. step-links p t (start-place ok.settled) i h .by;
+        places = all-places p t (start-place ok.hasStart);
+        links = λ i h. step-links p t (start-place ok.hasStart) i h .by;
         onward = onward p t;
         passes = passes p t;
         known = known p t;
@@ -426,7 +426,7 @@ module _ {p : Problem} (ok : Accepted p) (W : TwoWays p) where
 
         on : (d : End) → IsWay p s (stop d) → isIn sameWay (stop d) (waysOn p (leftAt n i) s) ≡ true
         on d k = in-filter onWays (λ w. not (isBack (leftAt n i) w)) (stop d) (ways p s)
-            (in-ways p s ok.settled.sameNumber k) (stays (leftAt n i) d)
+            (in-ways p s ok.hasStart.sameNumber k) (stays (leftAt n i) d)
 
         same-block : (d f : End) → IsWay p s (stop d) → IsWay p s (stop f) → d .block ≡ f .block
         same-block d f a b =
@@ -456,7 +456,7 @@ module _ {p : Problem} (ok : Accepted p) (W : TwoWays p) where
           announces = answer-ended e ended;
           complete = first-complete fin.0 _ fin.1 (ends-complete p _);
           completeOnly = end-only;
-          inOrder = end-simplex p ok.settled path-is .inOrder;
+          inOrder = end-simplex p ok.hasStart path-is .inOrder;
           reaches = answer-ended e ended _ (within-bound path-trail);
         }
       where
@@ -475,8 +475,8 @@ module _ {p : Problem} (ok : Accepted p) (W : TwoWays p) where
         only = only-path;
         one = one-way t;
         once = λ i j l c q. never-twice t i j l c
-            (place-same p (placeAt n i) (placeAt n j) (all-places p t (start-place ok.settled) i (omega arith))
-            (all-places p t (start-place ok.settled) j c) q);
+            (place-same p (placeAt n i) (placeAt n j) (all-places p t (start-place ok.hasStart) i (omega arith))
+            (all-places p t (start-place ok.hasStart) j c) q);
         bounded = within-bound t;
         spends = λ b. (spent-short b, answer-spent b);
         enough = λ b h q. absurd (omega (arith, spent-short b q, within-bound t));
@@ -518,7 +518,7 @@ module _ {p : Problem} (ok : Accepted p) (W : TwoWays p) where
               let m = filter-in onPoints (λ y. not (hasLabel p y)) y (lastPlace (path p .visited))
               (rw g (in-here onPoints y [])) in
               let c = path-nonempty in
-              let l = all-places p path-trail (start-place ok.settled) (pred (pathLength p)) (omega arith) in
+              let l = all-places p path-trail (start-place ok.hasStart) (pred (pathLength p)) (omega arith) in
               let o = zero-at ok y (all-in onPoints _ (lastPlace (path p .visited)) (parts p _ l .gridPoints) y m.0)
               (not-is _ m.1) in
               (omega arith, omega arith, rw (← w) o)

@@ -22,7 +22,7 @@ module _ {p : Problem} (ok : Accepted p) where
   unfolding label
   label-within y h =
       leb-true _ _ (at-all (λ l. leb l (numIndices p.grid)) p.labels _ ok.labels
-      (omega (arith, ok .tableLength, position-in (points p.grid) y (in-points p.grid y ok.settled.sameNumber h))))
+      (omega (arith, ok .tableLength, position-in (points p.grid) y (in-points p.grid y ok.hasStart.sameNumber h))))
 
   pub label-ok : (y : Point) → isGridPoint p.grid y ≡ true → 0 < label p y → hasLabel p y ≡ true
   label-ok y h l = and-both _ _ (le-leb 1 (label p y) (omega arith)) (le-leb (label p y) _ (label-within y h))

@@ -72,7 +72,7 @@ module _ {p : Problem} (ok : Accepted p) {s : List Simplex} (follows : Follows p
       (λ own n. absurd-bool (sym (all-in onPoints (hasLabel p) (placeAt s k) (rw q at own) y m) ∙ f)) in
       let l : pathLength p ≡ suc k = ap length (sym w) ∙ many in
       let g : unlabelled p (placeAt s k) ≡ y ∷ [] =
-      the-gap ok.settled (placeAt s k) (follows .places k (omega arith)) y m f in
+      the-gap ok.hasStart (placeAt s k) (follows .places k (omega arith)) y m f in
       let z : pred (pathLength p) ≡ k = omega arith in
       let v : unlabelled p (lastPlace (path p .visited)) ≡ y ∷ [] = rw (z, ← w) g in
       (l, (λ b c. demand3-holds ok .asks y v b (omega arith) ∙ rw z))
@@ -92,7 +92,7 @@ module _ {p : Problem} (ok : Accepted p) {s : List Simplex} (follows : Follows p
     only-way {w} i b = sym (waysOn-split p (leftAt s k) (placeAt s k))
         ∙ only-list onWays w (waysOn p (leftAt s k) (placeAt s k)) (omega (arith, one-way))
         (in-filter onWays (λ w. not (isBack (leftAt s k) w)) w (ways p (placeAt s k))
-        (in-ways p (placeAt s k) ok.settled.sameNumber i) (rw b))
+        (in-ways p (placeAt s k) ok.hasStart.sameNumber i) (rw b))
 
     -- an end of its last place is the path's
     pub ends-path : (e : End) → IsWay p (placeAt s k) (stop e) → (path p .end ≡ some e) × (pathLength p ≡ suc k)

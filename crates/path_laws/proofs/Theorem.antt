@@ -294,21 +294,21 @@ module _ {p : Problem} (ok : HasStart p) where
 
 -- demand 3, of every accepted table
 pub demand3-holds : {p : Problem} → Accepted p → Demand3 p
-demand3-holds {p} ok = demand3 ok (twoWays ok.settled)
+demand3-holds {p} ok = demand3 ok (twoWays ok.hasStart)
 
 -- a path that reached an end
 pub ended-path : {p : Problem} → Accepted p → {e : End} → path p .end ≡ some e → IsPath p (path p .visited) e × NoGap p
-ended-path ok {e} q = (path-is ok (twoWays ok.settled) e q, no-gap ok (twoWays ok.settled) e q)
+ended-path ok {e} q = (path-is ok (twoWays ok.hasStart) e q, no-gap ok (twoWays ok.hasStart) e q)
 
 -- a path has no gap exactly if it has an end
 pub gapless : {p : Problem} → Accepted p → NoGap p ↔ ((e : End) × (path p .end ≡ some e))
-gapless {p} ok = (ends-known ok (twoWays ok.settled), (λ e. no-gap ok (twoWays ok.settled) e.0 e.1))
+gapless {p} ok = (ends-known ok (twoWays ok.hasStart), (λ e. no-gap ok (twoWays ok.hasStart) e.0 e.1))
 
 -- what a run that goes from place to place needs: its places are the path's,
 pub run-follows : {p : Problem} → Accepted p → (s : List Simplex) → Follows p s → (i : ℕ) → i < length s
     → (i < pathLength p) × (placeAt s i ≡ placeAt (path p .visited) i) × (leftAt s i ≡ leftAt (path p .visited) i)
-run-follows {p} ok = follows-path ok (twoWays ok.settled)
+run-follows {p} ok = follows-path ok (twoWays ok.hasStart)
 
 -- and where they have come to an end or a gap, they are all of them
 pub run-whole : {p : Problem} → Accepted p → (s : List Simplex) → Follows p s → Final p s → s ≡ path p .visited
-run-whole {p} ok = whole-path ok (twoWays ok.settled)
+run-whole {p} ok = whole-path ok (twoWays ok.hasStart)

@@ -32,7 +32,7 @@ pub record HasStart (p : Problem) : Type 0 where
 -- "A table is accepted if .. a run's questions 1 to 8 are answered yes"; 8 is about the answer buffer only and is not
 -- needed here
 pub record Accepted (p : Problem) : Type 0 where
-  pub settled : HasStart p
+  pub hasStart : HasStart p
   pub tableLength : length (p .labels) ≡ numPoints (p .grid)
   pub labels : all (λ l. leb l (numIndices (p .grid))) (p .labels) ≡ true
 

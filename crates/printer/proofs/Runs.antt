@@ -96,7 +96,8 @@ module _ (p : Problem) (budget : ℕ) (old : List ℕ) (large : length old ≡ r
     answered =
         let ok = accepted .0 in
         let d = demand3-holds ok in
-        let few : suc (dimension (p .grid)) ≤ 16 = omega (arith, ok .settled .someBlock, ok .settled .sixteenIndices) in
+        let few : suc (dimension (p .grid)) ≤ 16 =
+        omega (arith, ok .hasStart .someBlock, ok .hasStart .sixteenIndices) in
         ⊎-elim
         (λ l. rw (d .spends budget .1 l) (spends _ budget))
         (λ l. stopped l few (path p .end) refl (d .stops))
@@ -111,7 +112,7 @@ module _ (p : Problem) (budget : ℕ) (old : List ℕ) (large : length old ≡ r
             let E = demand3-holds (accepted .0) .ended (gapless (accepted .0) .1 (e, q)) in
             rw (E .announces budget l)
             (ends (pathLength p) _ (E .end .kind) (suc (E .end .block)) (E .end .simplex) few (accepted .1)
-            (end-simplex p (accepted .0 .settled) (E .isPath)))
+            (end-simplex p (accepted .0 .hasStart) (E .isPath)))
         stopped l few none q (atGap y g) = rw (demand3-holds (accepted .0) .asks y g budget l) (unknowns _ _ _)
 
   pub run-prints : Prints (runAnswer p (length old) budget) (runBuffer p budget old) (runSheet p budget)

@@ -126,9 +126,9 @@ module _ (c v y : List ℕ) (first end : ℕ) (B : InBlock c v y first end) wher
     }
 
 -- a grid that was made, with a start, is one that questions 1 to 5 let pass
-pub settled-on : (g : GridStruct) → IsMade g → (p : Problem) → p .grid ≡ shape g
+pub has-start-on : (g : GridStruct) → IsMade g → (p : Problem) → p .grid ≡ shape g
     → isGridPoint (p .grid) (p .start) ≡ true → HasStart p
-settled-on g made p e s =
+has-start-on g made p e s =
     let A = made-accepted g made in
     record {
       someBlock = rw e (A .someBlock);
@@ -149,11 +149,11 @@ module _ (g : GridStruct) (made : IsMade g) (v y : List ℕ) (start : isGridPoin
   abbrev list : List ℕ
   list = coefficients p (take (g .indices) y)
 
-  settled : HasStart p
-  settled = settled-on g made p refl start
+  hasStart : HasStart p
+  hasStart = has-start-on g made p refl start
 
   is : IsCoefficients p (take (g .indices) y) list
-  is = coefficientOf-is settled (take (g .indices) y) on
+  is = coefficientOf-is hasStart (take (g .indices) y) on
 
   start-long : length v ≡ numIndices (shape g)
   unfolding isGridPoint
@@ -190,8 +190,8 @@ module _ (g : GridStruct) (made : IsMade g) (v y : List ℕ) (start : isGridPoin
         long = omega (arith, start-long);
         rule = λ h a b. rw-rule j h a b (omega arith);
         zero = (w .0, w .1, w .2, w .3);
-        small = λ h. let b = coefficients-at-most p (take (g .indices) y) settled.sameNumber start on h in
-            omega (arith, b .1, division-below G settled.sizes settled.sameNumber b.0, settled .points);
+        small = λ h. let b = coefficients-at-most p (take (g .indices) y) hasStart.sameNumber start on h in
+            omega (arith, b .1, division-below G hasStart.sizes hasStart.sameNumber b.0, hasStart .points);
       }
 
   -- the coefficients of the first j blocks

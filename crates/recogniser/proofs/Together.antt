@@ -35,7 +35,7 @@ use Rattle.trail.proofs.Tables.{table, table-full}
 use Rattle.walks.proofs.KeptPlace.{conditions-of, is-zero, zero-is}
 use Rattle.walks.proofs.Recognised.{of-conditions}
 use Rattle.walks.specs.Kept.{canStep, isKept, zeroOutside}
-use Rattle.recogniser.proofs.Following.{settled-on}
+use Rattle.recogniser.proofs.Following.{has-start-on}
 use Rattle.recogniser.specs.Kept.{CanRecognise, Recognised, Seen}
 use Rattle.recogniser.specs.Pieces.{AllFree, AreTandU, CanMark, Marked, NoSets, NotFree, bareMark, beyond}
 use Rattle.recogniser.specs.Pieces.{filled, inNeither, positive, startedOn, twice}
@@ -75,7 +75,7 @@ module _ (g : GridStruct) (binomials start previous sizes first order : List ℕ
   q = withLabels p (table (shape g) [] [])
 
   full : FullyLabelled q
-  full = table-full (settled-on g made p refl (C .startOn)) [] refl refl [] refl (λ l m. absurd-bool (sym m))
+  full = table-full (has-start-on g made p refl (C .startOn)) [] refl refl [] refl (λ l m. absurd-bool (sym m))
 
   long-o : length o ≡ n
   long-o = length-take n order ∙ omega (arith, C .orderLong, C .few)

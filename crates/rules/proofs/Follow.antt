@@ -121,37 +121,37 @@ module _ {p : Problem} (ok : FullyLabelled p) {T : ℕ → Bool} {t : ℕ} {o : 
   a = pointsOf p x
 
   own : allLabelled p a ≡ true
-  own = full-place ok a (place-of ok.settled S)
+  own = full-place ok a (place-of ok.hasStart S)
 
   pub place-way : PlaceEnd (blocksOf p) (labelOf p) t x h
       → (h < numIndices p.grid) × IsWay p a (stop (record { kind = placeEnd; block = blockOf p.grid h; simplex = a }))
   place-way c =
-      let d : PlaceEnd (blocksOf p) (labelOf p) t (coefficientsOf p a) h = rw (back-again ok.settled S) c in
-      let l = complete-below ok.settled a (pointsOf-grid ok.settled S) t (long ok.settled S) own h d in
+      let d : PlaceEnd (blocksOf p) (labelOf p) t (coefficientsOf p a) h = rw (back-again ok.hasStart S) c in
+      let l = complete-below ok.hasStart a (pointsOf-grid ok.hasStart S) t (long ok.hasStart S) own h d in
       let j = block-of p h l in (
         l,
         rw (← (block-same p h l))
             (byPlace (blocksOf p .block h) j
-            (complete-of ok.settled a (pointsOf-grid ok.settled S) t (long ok.settled S) h (blocksOf p .block h) j refl
-            d)),
+            (complete-of ok.hasStart a (pointsOf-grid ok.hasStart S) t (long ok.hasStart S) h (blocksOf p .block h) j
+            refl d)),
       )
 
   pub facet-way : {n : ℕ} → t ≡ suc n → FacetEnd (blocksOf p) (labelOf p) T n x 0 h
       → (h < numIndices p.grid)
       × IsWay p a (stop (record { kind = facetEnd; block = blockOf p.grid h; simplex = removeAt 0 a }))
   facet-way {n} e F =
-      let q = place-of ok.settled S in
-      let many : length a ≡ suc (suc n) = long ok.settled S ∙ ap suc e in
+      let q = place-of ok.hasStart S in
+      let many : length a ≡ suc (suc n) = long ok.hasStart S ∙ ap suc e in
       let G : FacetEnd (blocksOf p) (labelOf p) (inT p a) n (coefficientsOf p a) 0 h =
-      rw (back-again ok.settled S) (rw (T-is ok.settled S) F)
+      rw (back-again ok.hasStart S) (rw (T-is ok.hasStart S) F)
       in
-      let l = end-below ok.settled a q n many 0 (omega arith) G own in
+      let l = end-below ok.hasStart a q n many 0 (omega arith) G own in
       let j = block-of p h l in (
         l,
         rw (← (block-same p h l))
             (byFacet (removeAt 0 a) (blocksOf p .block h) (in-facets a (omega arith) 0 (omega arith))
-            (end-labels ok.settled a q n many 0 (omega arith) G) j
-            (end-complete ok.settled a q n many 0 (omega arith) G (blocksOf p .block h) j refl)),
+            (end-labels ok.hasStart a q n many 0 (omega arith) G) j
+            (end-complete ok.hasStart a q n many 0 (omega arith) G (blocksOf p .block h) j refl)),
       )
 
 -- the place just left, as a list of points and as a chain
@@ -211,10 +211,10 @@ module _ {p : Problem} (ok : FullyLabelled p) where
   v = p .start ∷ []
 
   start-chain : LabelledChain (blocksOf p) (labelOf p) (inT p v) 0 (at (order p.grid v)) (coefficientsOf p v)
-  start-chain = labelledChain-of ok.settled v (start-place ok.settled)
+  start-chain = labelledChain-of ok.hasStart v (start-place ok.hasStart)
 
   start-coefficients : IsCoefficients p p.start (coefficients p p.start)
-  start-coefficients = coefficientOf-is ok.settled p.start ok.settled.start
+  start-coefficients = coefficientOf-is ok.hasStart p.start ok.hasStart.start
 
   start-T : (k : ℕ) → inT p v k ≡ false
   start-T k = ⊎-elim
@@ -246,8 +246,8 @@ module _ {p : Problem} (ok : FullyLabelled p) where
       firstAt = λ k l. same k l ∙ sym (coord-in p start-coefficients k l);
       coefficientsLength = refl;
       coefficientsAt =
-          λ k l. getD-replicate 16 k 0 0 (omega (arith, ok .settled .sixteenIndices))
-          ∙ ap (λ (c : ℕ → ℕ). c k) (sym (zeroes ok.settled p.start (start-place ok.settled)));
+          λ k l. getD-replicate 16 k 0 0 (omega (arith, ok .hasStart .sixteenIndices))
+          ∙ ap (λ (c : ℕ → ℕ). c k) (sym (zeroes ok.hasStart p.start (start-place ok.hasStart)));
       inT = λ k l. bit-none k l ∙ sym (start-T k);
       inU = start-zeros;
       marksLength = refl;
@@ -260,7 +260,7 @@ module _ {p : Problem} (ok : FullyLabelled p) where
       follows = record {
         nonempty = omega arith;
         begins = refl;
-        places = λ i l. let e : i ≡ 0 = omega arith in rw e (start-place ok.settled);
+        places = λ i l. let e : i ≡ 0 = omega arith in rw e (start-place ok.hasStart);
         links = λ i l. absurd (omega arith);
         onward = λ i l. absurd (omega arith);
         passes = λ i l. absurd (omega arith);
@@ -275,7 +275,7 @@ module _ {p : Problem} (ok : FullyLabelled p) where
         left = none;
         came = begins refl refl (omega arith);
       };
-      here = sym (pointsOf-coefficientsOf ok.settled v (parts p v (start-place ok.settled) .gridPoints));
+      here = sym (pointsOf-coefficientsOf ok.hasStart v (parts p v (start-place ok.hasStart) .gridPoints));
       before = refl;
     }
 
@@ -390,7 +390,7 @@ module _ {p : Problem} (ok : FullyLabelled p) {s : State} (A : Stands p s) where
             (λ (i : ℕ). MovedAt p.grid s (s .active - 1) (pointIn p s (s .active - 1)) (pointIn p s i))
             z (moved-on ok D (s .active - 1) (omega arith));
         toGone = shifted-moved (arrayOf s (s .active - 1)) (stepAt s s.active) (sourceAt s s.active) (numIndices p.grid)
-            c.1 (omega (arith, y .0, ok .settled .sixteenIndices));
+            c.1 (omega (arith, y .0, ok .hasStart .sixteenIndices));
         toFar = moved-on ok D s.active low;
         indices = λ j l.
             let jl : j < A .t = omega (arith, D .orderLength) in
@@ -467,10 +467,10 @@ module _ {p : Problem} (ok : FullyLabelled p) {s : State} {k : ℕ} (A : At p s 
 
   pub at-T : (h : ℕ) → h < 16 → bit s.T h ≡ isIn eqb h (setT p (placeAt (path p .visited) k))
   at-T h l = rw on-path
-      (A .stands .describes .inT h l ∙ sym (ap (λ (t : ℕ → Bool). t h) (T-is ok.settled A.stands.describes.chain)))
+      (A .stands .describes .inT h l ∙ sym (ap (λ (t : ℕ → Bool). t h) (T-is ok.hasStart A.stands.describes.chain)))
 
   pub at-U : (h : ℕ) → h < 16 → bit s.U h ≡ isIn eqb h (setU p.grid (placeAt (path p .visited) k))
-  at-U h l = rw on-path (A .stands .describes .inU h l ∙ sym (in-U ok.settled A.stands.describes.chain h))
+  at-U h l = rw on-path (A .stands .describes .inU h l ∙ sym (in-U ok.hasStart A.stands.describes.chain h))
 
   abbrev described : Describes p A.stands.T A.stands.t A.stands.o A.stands.x s
   described = A .stands .describes
@@ -478,8 +478,8 @@ module _ {p : Problem} (ok : FullyLabelled p) {s : State} {k : ℕ} (A : At p s 
   here-place : (length (pointsOf p A.stands.x) ≡ suc A.stands.t)
       × (length (pointsOf p A.stands.x) ≡ suc (length (order p.grid (pointsOf p A.stands.x))))
   here-place = (
-    long ok.settled A.stands.describes.chain,
-    place-long ok.settled _ (place-of ok.settled A.stands.describes.chain),
+    long ok.hasStart A.stands.describes.chain,
+    place-long ok.hasStart _ (place-of ok.hasStart A.stands.describes.chain),
   )
 
   here-labelled : allLabelled p (placeAt A.places k) ≡ true
@@ -488,7 +488,7 @@ module _ {p : Problem} (ok : FullyLabelled p) {s : State} {k : ℕ} (A : At p s 
   move : Onward ok A.stands.T A.stands.t A.stands.o A.stands.x (read p s) A.stands.left
   move = onward ok A.stands.T A.stands.o A.stands.x s A.stands.t A.stands.describes A.stands.came (λ l q e.
       not-start (full-accepted ok) A.follows k A.many (pointsOf p l) (left-of p A.stands.left _ A.before l q)
-      (A .here ∙ single ok.settled _ (place-of ok.settled A.stands.describes.chain) (here-place .0 ∙ ap suc e)))
+      (A .here ∙ single ok.hasStart _ (place-of ok.hasStart A.stands.describes.chain) (here-place .0 ∙ ap suc e)))
 
   -- the path's place is that of the state
   pub at-place : placeAt (path p .visited) k ≡ pointsFrom p s 0
@@ -530,8 +530,8 @@ module _ {p : Problem} (ok : FullyLabelled p) {s : State} {k : ℕ} (A : At p s 
   onto : {e : State} {y : List (ℕ → ℕ)} → (A .stands .left ≡ some y → ⊥) → Reached p A.stands.x e y → At p e (suc k)
   onto {e} {y} new R =
       let C = A .stands .describes .chain in
-      let back = back-again ok.settled C in
-      let L = of-link ok.settled _ (place-of ok.settled C) (rw (← back) at R.link) in
+      let back = back-again ok.hasStart C in
+      let L = of-link ok.hasStart _ (place-of ok.hasStart C) (rw (← back) at R.link) in
       let joined : linked p (placeAt A.places k) (pointsOf p y) ≡ true = rw A.here L.1 in
       record {
         places = A .places ++ (pointsOf p y ∷ []);
@@ -565,7 +565,7 @@ module _ {p : Problem} (ok : FullyLabelled p) {s : State} {k : ℕ} (A : At p s 
           D .orderLength,
           here-place .0,
           here-place .1,
-          order-short p _ (place-of ok.settled A.stands.describes.chain),
+          order-short p _ (place-of ok.hasStart A.stands.describes.chain),
         );
         low = omega (arith, D .orderLength);
         points = ready-point ok D _ (omega (arith, D .orderLength));

@@ -146,9 +146,9 @@ module _ {p : Problem} (ok : FullyLabelled p) {T : ℕ → Bool} {t : ℕ} {o : 
       coefficientsLength = D .coefficientsLength;
       coefficientsAt = λ k m. D .coefficientsAt k m ∙ ap (λ (c : ℕ → ℕ). c k) (sym (point-before 0 (omega arith)));
       inT = λ k m.
-          with-plus (blocksOf p) T g (omega (arith, joining-below, ok .settled .sixteenIndices)) s.T k m (D .inT k m);
+          with-plus (blocksOf p) T g (omega (arith, joining-below, ok .hasStart .sixteenIndices)) s.T k m (D .inT k m);
       inU = λ k m. rw (point-before 0 (omega arith))
-          (zeros-plus (blocksOf p) T g (omega (arith, joining-below, ok .settled .sixteenIndices)) s.U k m (listAt x 0)
+          (zeros-plus (blocksOf p) T g (omega (arith, joining-below, ok .hasStart .sixteenIndices)) s.U k m (listAt x 0)
           (D .inU k m));
       marksLength = length-insertAt (suc a) 0 s.marks ∙ ap suc D.marksLength;
     }
@@ -168,7 +168,7 @@ module _ {p : Problem} (ok : FullyLabelled p) {T : ℕ → Bool} {t : ℕ} {o : 
   N = D .round
 
   in-U : bit s.U g ≡ zeros (blocksOf p) T (listAt x 0) g
-  in-U = D .inU g (omega (arith, joining-below, ok .settled .sixteenIndices))
+  in-U = D .inU g (omega (arith, joining-below, ok .hasStart .sixteenIndices))
 
   room-of : (bit s.U g ≡ true) ⊎ (isFilled s.round s.T s.U g ≡ false) → Free (blocksOf p) T+ (listAt x 0)
   room-of (inl u) = room-in-U D.chain.chain g E.out (sym in-U ∙ u)
@@ -178,10 +178,10 @@ module _ {p : Problem} (ok : FullyLabelled p) {T : ℕ → Bool} {t : ℕ} {o : 
 
   pub grow-ready : ReadyGrow s g
   grow-ready = record {
-    low = omega (arith, joining-below, ok .settled .sixteenIndices);
-    few = omega (arith, D .orderLength, few ok D.chain, ok .settled .sixteenIndices);
+    low = omega (arith, joining-below, ok .hasStart .sixteenIndices);
+    few = omega (arith, D .orderLength, few ok D.chain, ok .hasStart .sixteenIndices);
     room = λ r. let G = larger plus-g D.chain.chain (room-of r) in
-        omega (arith, D .orderLength, few ok (up-link D.chain E G.3 .place), ok .settled .sixteenIndices);
+        omega (arith, D .orderLength, few ok (up-link D.chain E G.3 .place), ok .hasStart .sixteenIndices);
   }
 
   -- g's block is full: each of its indices is a label or has coordinate 0
@@ -219,7 +219,7 @@ module _ {p : Problem} (ok : FullyLabelled p) {T : ℕ → Bool} {t : ℕ} {o : 
           let f : ℕ = found (firstOutside s.round.next s.round.sizes s.U g) 16 s.order in
           let F : Found (firstOutside s.round.next s.round.sizes s.U g) 16 s.order f = found-is _ 16 s.order w.0
           (omega (arith, w .1, D .orderLength)) (D .orderAt w.0 w.1 ∙ w .2 ∙ sym out.3)
-          (λ q. omega (arith, w .1, few ok D.chain, ok .settled .sixteenIndices)) in
+          (λ q. omega (arith, w .1, few ok D.chain, ok .hasStart .sixteenIndices)) in
           let l : f < t = omega (arith, F .inside, D .orderLength) in
           let r = rises-here K g f l
           (rises-with K g E.out z out.0 skipped out.2.some f l (sym (D .orderAt f l) ∙ F .is ∙ out .3)) in

@@ -98,7 +98,7 @@ module _ {p : Problem} (ok : FullyLabelled p) {T : ℕ → Bool} {n : ℕ} {o : 
     D .orderAt 0 (omega arith),
     run .3,
     D .firstAt b end-below,
-    D .inT b (omega (arith, end-below, ok .settled .sixteenIndices)),
+    D .inT b (omega (arith, end-below, ok .hasStart .sixteenIndices)),
   )
 
   pub ready-first : ReadyFirst s
@@ -148,7 +148,7 @@ module _ {p : Problem} (ok : FullyLabelled p) {T : ℕ → Bool} {n : ℕ} {o : 
       first-at k l = rw (points 0 (omega arith)) (omega (
         arith,
         shifted-at s.first (o 0) b (omega (arith, D .firstAt b end-below, moves .gives)) k
-            (omega (arith, D .firstLength, ok .settled .sixteenIndices)),
+            (omega (arith, D .firstLength, ok .hasStart .sixteenIndices)),
         changes-of moves k,
         D .firstAt k l,
       ))
@@ -156,7 +156,7 @@ module _ {p : Problem} (ok : FullyLabelled p) {T : ℕ → Bool} {n : ℕ} {o : 
       raised : ChangedOn R.previous suc (o 0) run.0 s.coefficients
           (changedBefore suc s.round.previous b 16 (o 0) s.coefficients)
       raised = changed s.round.previous _ (backward ok N) (previous-below ok N) suc 16 run.0 s.coefficients first-below
-          (omega (arith, D .coefficientsLength, ok .settled .sixteenIndices)) run.1 (before-outside run.2 moves.apart)
+          (omega (arith, D .coefficientsLength, ok .hasStart .sixteenIndices)) run.1 (before-outside run.2 moves.apart)
 
       coefficients-at : (k : ℕ) → k < numIndices p.grid
           → at (changedBefore suc s.round.previous b 16 (o 0) s.coefficients) k ≡ listAt y 0 k
@@ -174,7 +174,7 @@ module _ {p : Problem} (ok : FullyLabelled p) {T : ℕ → Bool} {n : ℕ} {o : 
       zeros-at k l = rw (points 0 (omega arith)) (go joins ∙ sym (zeros-next K run.2 k))
         where
           go : (g : Bool) → bit (cond g (withIndex s.U b) s.U) k ≡ (eqb k b && g || zeros R T (P 0) k)
-          go true = bit-with s.U b k (omega (arith, end-below, ok .settled .sixteenIndices)) l
+          go true = bit-with s.U b k (omega (arith, end-below, ok .hasStart .sixteenIndices)) l
               ∙ rw (D .inU k l) (or-into (eqb k b) _)
           go false = D .inU k l ∙ or-not (eqb k b) _
 

@@ -102,7 +102,7 @@ module _ {p : Problem} (ok : FullyLabelled p) {T : ℕ → Bool} {n : ℕ} {o : 
         (changedBefore pred s.round.previous b 16 (o n) s.coefficients)
     lowered =
         changed s.round.previous _ (backward ok N) (previous-below ok N) pred 16 run.0 s.coefficients last-below
-        (omega (arith, D .coefficientsLength, ok .settled .sixteenIndices)) run.1 before
+        (omega (arith, D .coefficientsLength, ok .hasStart .sixteenIndices)) run.1 before
 
     coefficients-at : (k : ℕ) → k < numIndices p.grid
         → at (changedBefore pred s.round.previous b 16 (o n) s.coefficients) k ≡ z k
@@ -121,7 +121,7 @@ module _ {p : Problem} (ok : FullyLabelled p) {T : ℕ → Bool} {n : ℕ} {o : 
     first-at k m = omega (
       arith,
       shifted-at s.first b (o n) (omega (arith, D .firstAt (o n) last-below)) k
-          (omega (arith, D .firstLength, ok .settled .sixteenIndices)),
+          (omega (arith, D .firstLength, ok .hasStart .sixteenIndices)),
       changes-of moves k,
       D .firstAt k m,
     )
@@ -144,7 +144,7 @@ module _ {p : Problem} (ok : FullyLabelled p) {T : ℕ → Bool} {n : ℕ} {o : 
 
     in-U : (k : ℕ) → k < 16 → bit (withoutIndex s.U b) k ≡ zeros R T z k
     in-U k m =
-        let w = bit-without s.U b k (omega (arith, end-below, ok .settled .sixteenIndices)) m in
+        let w = bit-without s.U b k (omega (arith, end-below, ok .hasStart .sixteenIndices)) m in
         ⊎-elim (λ (q : k ≡ b). rw (eq-eqb k b q) at w ∙ sym (ap (zeros R T z) q ∙ zeros-end))
         (λ q. rw (ne-eqb k b q) at w ∙ D .inU k m ∙ zeros-else k q)
         (same-or k b)

@@ -29,7 +29,7 @@ pub leave-ready : {p : Problem} → FullyLabelled p
     → i ≤ suc n → ReadyLeave s i
 leave-ready ok i D l = record {
   low = omega (arith, D .orderLength);
-  few = omega (arith, D .orderLength, few ok D.chain, ok .settled .sixteenIndices);
+  few = omega (arith, D .orderLength, few ok D.chain, ok .hasStart .sixteenIndices);
   first = λ e. ready-first ok D;
   last = λ e. ready-last ok D;
 }

@@ -41,11 +41,11 @@ module _ {p : Problem} (ok : FullyLabelled p) {T : ℕ → Bool} {t : ℕ} {o : 
     (S : LabelledChain (blocksOf p) (labelOf p) T t o x) (j : ℕ) (l : j ≤ t) where
   pub mark-label : markLabel (markAt p (listAt x j)) ≡ suc (labelsOf p x j)
   mark-label = label-in (position p.grid (pointOf p (listAt x j))) (suc (labelsOf p x j))
-      (omega (arith, label-below ok S j l, ok .settled .sixteenIndices))
+      (omega (arith, label-below ok S j l, ok .hasStart .sixteenIndices))
 
   pub mark-is : markAt p (listAt x j) ≡ markOf p (nth (pointsOf p x) j)
   mark-is = rw (label-is ok S j l, nth-pointsOf p x j (omega (arith, S .size)))
 
   pub mark-position : markPosition (markAt p (listAt x j)) ≡ position p.grid (pointOf p (listAt x j))
   mark-position = position-in (position p.grid (pointOf p (listAt x j))) (suc (labelsOf p x j))
-      (omega (arith, label-below ok S j l, ok .settled .sixteenIndices))
+      (omega (arith, label-below ok S j l, ok .hasStart .sixteenIndices))

@@ -101,7 +101,7 @@ module _ {p : Problem} (ok : FullyLabelled p) where
     pub label-bit : bit s.T (labelIn s - 1) ≡ T (labelsOf p x s.active)
     label-bit = ap (bit s.T) label-index
         ∙ D .inT (labelsOf p x s.active)
-        (omega (arith, label-below ok D.chain s.active low, ok .settled .sixteenIndices))
+        (omega (arith, label-below ok D.chain s.active low, ok .hasStart .sixteenIndices))
 
     pub ready-of : (s .rule < 6 → bit s.T (labelIn s - 1) ≡ true
         → ReadyLeave s (found (labelIn s) s.active (map markLabel s.marks)))
@@ -114,12 +114,12 @@ module _ {p : Problem} (ok : FullyLabelled p) where
             arith,
             D .orderAt j w,
             index-below ok D.chain (o j) (D .chain .chain .order .within j w),
-            ok .settled .sixteenIndices,
+            ok .hasStart .sixteenIndices,
           );
       active = omega (arith, D .orderLength);
       label = λ r. (
         omega (arith, label-at s.active low),
-        omega (arith, label-at s.active low, label-below ok D.chain s.active low, ok .settled .sixteenIndices),
+        omega (arith, label-at s.active low, label-below ok D.chain s.active low, ok .hasStart .sixteenIndices),
       );
       leaves = left;
       grows = joined;

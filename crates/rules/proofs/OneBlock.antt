@@ -125,7 +125,7 @@ module _ {p : Problem} (ok : FullyLabelled p) (one : numBlocks p.grid ≡ 1)
   tail-at : (i : ℕ) → i ≤ t → (k : ℕ) → k < numIndices p.grid
       → tailFrom p.grid (pointIn p s i) k + listAt x i 0 ≡ tailFrom p.grid p.start k + listAt x i k
   tail-at i l k m =
-      tail-is p ok.settled one (pointIn p s i) (listAt x i) (D .chain .chain .grid i l) (coordinate-is i l) k m
+      tail-is p ok.hasStart one (pointIn p s i) (listAt x i) (D .chain .chain .grid i l) (coordinate-is i l) k m
 
   -- the first index's coefficient is 1 more than at the first point where the position is above the first's, and the
   -- same elsewhere
@@ -137,13 +137,13 @@ module _ {p : Problem} (ok : FullyLabelled p) (one : numBlocks p.grid ≡ 1)
       let most = one-more-at-most K i l in
       ⊎-elim
       (λ (q : listAt x 0 0 < listAt x i 0).
-      let low = tails-order p.grid (grid-accepted p ok.settled) one (pointIn p s i) (pointIn p s 0) (on-grid i l)
+      let low = tails-order p.grid (grid-accepted p ok.hasStart) one (pointIn p s i) (pointIn p s 0) (on-grid i l)
       (on-grid 0 (omega arith))
       (λ k m. omega (arith, tail-at i l k m, tail-at 0 (omega arith) k m, most k, most 0)) in
       rw (lt-ltb (position p.grid (pointIn p s 0)) (position p.grid (pointIn p s i)) (omega (arith, low, apart q)))
       (omega (arith, most 0)))
       (λ (q : listAt x i 0 ≤ listAt x 0 0).
-      let low = tails-order p.grid (grid-accepted p ok.settled) one (pointIn p s 0) (pointIn p s i)
+      let low = tails-order p.grid (grid-accepted p ok.hasStart) one (pointIn p s 0) (pointIn p s i)
       (on-grid 0 (omega arith)) (on-grid i l)
       (λ k m. omega (arith, tail-at i l k m, tail-at 0 (omega arith) k m, up k, up 0)) in
       rw (le-ltb (position p.grid (pointIn p s 0)) (position p.grid (pointIn p s i)) low) (omega (arith, up 0)))
@@ -154,7 +154,7 @@ module _ {p : Problem} (ok : FullyLabelled p) (one : numBlocks p.grid ≡ 1)
           let K = D .chain .chain in
           let f = K .free 0 in
           let low : f .0 < numIndices p.grid = in-block ok D.round 0 f.0 (omega (arith, few ok D.chain)) f.1 in
-          let same = position-tells p.grid (grid-accepted p ok.settled) (pointIn p s 0) (pointIn p s i)
+          let same = position-tells p.grid (grid-accepted p ok.hasStart) (pointIn p s 0) (pointIn p s i)
           (on-grid 0 (omega arith)) (on-grid i l) e in
           omega (
             arith,
@@ -184,7 +184,7 @@ module _ {p : Problem} (ok : FullyLabelled p) (one : numBlocks p.grid ≡ 1)
     pub first-same : listAt x (suc j) 0 ≡ listAt x j 0
     first-same = ⊎-elim
         (λ e. e)
-        (λ r. absurd (first-kept p ok.settled one low (source .2) not-round r))
+        (λ r. absurd (first-kept p ok.hasStart one low (source .2) not-round r))
         (next-else (D .chain .chain) j l (source .2) 0)
 
     falls-at : Falls p.grid (pointIn p s j) (pointIn p s (suc j)) (stepAt s j) (sourceAt s j)
@@ -198,8 +198,8 @@ module _ {p : Problem} (ok : FullyLabelled p) (one : numBlocks p.grid ≡ 1)
       before = before;
       between = λ k u w. coordinate-is j (omega arith) k (omega (arith, low, order-at))
           ∙ chain-place (D .chain .chain) .unused k
-          (passed-over p ok.settled one low (source .2) not-round k (omega (arith, source .3, ap (sourceIn s) order-at))
-          (omega (arith, order-at)))
+          (passed-over p ok.hasStart one low (source .2) not-round k
+          (omega (arith, source .3, ap (sourceIn s) order-at)) (omega (arith, order-at)))
           j (omega arith);
       tail = refl;
     }

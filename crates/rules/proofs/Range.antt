@@ -28,46 +28,46 @@ nth-pointsOf p (c ∷ x) (suc j) l = nth-pointsOf p x j (omega arith)
 module _ {p : Problem} (ok : FullyLabelled p) {T : ℕ → Bool} {t : ℕ} {o : ℕ → ℕ} {x : List (ℕ → ℕ)}
     (S : LabelledChain (blocksOf p) (labelOf p) T t o x) where
   pub index-below : (k : ℕ) → T k ≡ true → k < numIndices p.grid
-  index-below = T-range ok.settled S
+  index-below = T-range ok.hasStart S
 
   -- T leaves out an index of each block
   pub few : t < numIndices p.grid
   few =
-      let h = place-of ok.settled S in
+      let h = place-of ok.hasStart S in
       omega (
         arith,
         order-short p (pointsOf p x) h,
-        place-long ok.settled (pointsOf p x) h,
-        long ok.settled S,
-        ok .settled .someBlock,
+        place-long ok.hasStart (pointsOf p x) h,
+        long ok.hasStart S,
+        ok .hasStart .someBlock,
         index-some,
       )
     where
       index-some : 0 < numIndices p.grid
       index-some =
-          omega (arith, index-is (numIndices p.grid) (label p p.start) (full-label ok p.start ok.settled.start) .1)
+          omega (arith, index-is (numIndices p.grid) (label p p.start) (full-label ok p.start ok.hasStart.start) .1)
 
   pub point-on : (j : ℕ) → j ≤ t → isGridPoint p.grid (nth (pointsOf p x) j) ≡ true
-  point-on j l = grid-at ok.settled (pointsOf p x) (pointsOf-grid ok.settled S) j (omega (arith, long ok.settled S))
+  point-on j l = grid-at ok.hasStart (pointsOf p x) (pointsOf-grid ok.hasStart S) j (omega (arith, long ok.hasStart S))
 
   pub coord-below : (j : ℕ) → j ≤ t → (k : ℕ) → k < numIndices p.grid → coord (blocksOf p) (listAt x j) k < 60000
   coord-below j l k m =
       omega (
         arith,
-        coord-as ok.settled S j l k m,
-        coordinate-below p.grid ok.settled.sizes ok.settled.sameNumber _ (point-on j l) k,
-        ok .settled .points,
+        coord-as ok.hasStart S j l k m,
+        coordinate-below p.grid ok.hasStart.sizes ok.hasStart.sameNumber _ (point-on j l) k,
+        ok .hasStart .points,
       )
 
   pub coefficient-below : (j : ℕ) → j ≤ t → (k : ℕ) → listAt x j k < 60000
   coefficient-below j l k =
-      let w = coefficients-at-most p _ ok.settled.sameNumber ok.settled.start (point-on j l) k in
+      let w = coefficients-at-most p _ ok.hasStart.sameNumber ok.hasStart.start (point-on j l) k in
       omega (
         arith,
         w .1,
-        ap (λ (c : ℕ → ℕ). c k) (coefficient-at ok.settled S j (omega (arith, S .size))),
-        division-below p.grid ok.settled.sizes ok.settled.sameNumber w.0,
-        ok .settled .points,
+        ap (λ (c : ℕ → ℕ). c k) (coefficient-at ok.hasStart S j (omega (arith, S .size))),
+        division-below p.grid ok.hasStart.sizes ok.hasStart.sameNumber w.0,
+        ok .hasStart .points,
       )
 
   index-of : (j : ℕ) → j ≤ t → labelsOf p x j ≡ indexOf (numIndices p.grid) (label p (nth (pointsOf p x) j))

@@ -61,7 +61,7 @@ module _ {p : Problem} (ok : FullyLabelled p) {T : ℕ → Bool} {n : ℕ} {o : 
   leaving-below = omega (
     arith,
     index-below ok D.chain (o e) (D .chain .chain .order .within e (omega arith)),
-    ok .settled .sixteenIndices,
+    ok .hasStart .sixteenIndices,
   )
 
   y : List (ℕ → ℕ)
@@ -135,7 +135,7 @@ module _ {p : Problem} (ok : FullyLabelled p) {T : ℕ → Bool} {n : ℕ} {o : 
   lost =
       let w = beneath .extended .covers (o e) F.small.has in
       found-is (suc (o e)) 16 _ w.0 (omega (arith, w .1, labels-long)) (label-at w.0 w.1 ∙ ap suc w.2)
-      (λ q. omega (arith, w .1, few ok D.chain, ok .settled .sixteenIndices))
+      (λ q. omega (arith, w .1, few ok D.chain, ok .hasStart .sixteenIndices))
 
   lost-label : labelsOf p y (found (suc (o e)) 16 labels) ≡ o e
   lost-label =

@@ -76,7 +76,7 @@ module _ {p : Problem} (ok : FullyLabelled p) {T : ℕ → Bool} {t : ℕ} {o : 
         λ k kl. omega (
           arith,
           shifted-at y h b (omega (arith, r .1 b m.1, m .0 .gives)) k
-              (omega (arith, r .0, ok .settled .sixteenIndices)),
+              (omega (arith, r .0, ok .hasStart .sixteenIndices)),
           changes-of m.0 k,
           r .1 k kl,
         ),
@@ -85,10 +85,10 @@ module _ {p : Problem} (ok : FullyLabelled p) {T : ℕ → Bool} {t : ℕ} {o : 
   pub ready-point : (i : ℕ) → i ≤ t → CanCompute s i
   ready-point i l = record {
     low = omega (arith, D .orderLength);
-    few = omega (arith, D .orderLength, few ok D.chain, ok .settled .sixteenIndices);
+    few = omega (arith, D .orderLength, few ok D.chain, ok .hasStart .sixteenIndices);
     indices = λ j m.
         let jl : j < t = omega (arith, D .orderLength) in
-        omega (arith, D .orderAt j jl, order-below j jl, ok .settled .sixteenIndices);
+        omega (arith, D .orderAt j jl, order-below j jl, ok .hasStart .sixteenIndices);
     positive = λ j m.
         let jl : j < t = omega arith in
         let w = moves j jl in
@@ -109,11 +109,12 @@ module _ {p : Problem} (ok : FullyLabelled p) {T : ℕ → Bool} {t : ℕ} {o : 
   point-is i l =
       let m = numIndices p.grid in
       let r = after-is i l in
-      let e : length (pointIn p s i) ≡ m = length-take m (after i) ∙ omega (arith, r .0, ok .settled .sixteenIndices) in
+      let e : length (pointIn p s i) ≡ m =
+      length-take m (after i) ∙ omega (arith, r .0, ok .hasStart .sixteenIndices) in
       ext-getD 0 (pointIn p s i) (nth (pointsOf p x) i) (e ∙ sym (point-long p.grid _ (point-on ok D.chain i l)))
       (λ k kl.
       let w : k < m = omega arith in
-      getD-take m (after i) k 0 w ∙ r .1 k w ∙ coord-as ok.settled D.chain i l k w)
+      getD-take m (after i) k 0 w ∙ r .1 k w ∙ coord-as ok.hasStart D.chain i l k w)
 
   -- each step of the order moves a point by its index
   pub moved-on : (i : ℕ) → i < t → MovedBy p.grid (pointIn p s i) (pointIn p s (suc i)) (at s.order i) (lower i)
@@ -122,11 +123,11 @@ module _ {p : Problem} (ok : FullyLabelled p) {T : ℕ → Bool} {t : ℕ} {o : 
       let r = after-is i (omega arith) in
       let w = moves i l in
       shifted-moved (after i) (at s.order i) (lower i) (numIndices p.grid)
-      (omega (arith, r .1 (lower i) w.1, w .0 .gives)) (omega (arith, r .0, ok .settled .sixteenIndices))
+      (omega (arith, r .1 (lower i) w.1, w .0 .gives)) (omega (arith, r .0, ok .hasStart .sixteenIndices))
 
   pub all-points : pointsFrom p s 0 ≡ pointsOf p x
   all-points = map-upFrom (pointIn p s) (pointsOf p x) 0 (suc (length s.order) - 0)
-      (long ok.settled D.chain ∙ omega (arith, D .orderLength))
+      (long ok.hasStart D.chain ∙ omega (arith, D .orderLength))
       (λ j l. let w : 0 + j ≡ j = omega arith in rw w (point-is j (omega (arith, D .orderLength))))
 
   pub later-points : pointsFrom p s 1 ≡ removeAt 0 (pointsOf p x)
@@ -134,8 +135,8 @@ module _ {p : Problem} (ok : FullyLabelled p) {T : ℕ → Bool} {t : ℕ} {o : 
       (omega (
         arith,
         D .orderLength,
-        long ok.settled D.chain,
-        length-removeAt 0 (pointsOf p x) (omega (arith, long ok.settled D.chain)),
+        long ok.hasStart D.chain,
+        length-removeAt 0 (pointsOf p x) (omega (arith, long ok.hasStart D.chain)),
       ))
       (λ j l.
       let w : 1 + j ≡ suc j = omega arith in

@@ -207,7 +207,7 @@ module _ {p : Problem} (ok : FullyLabelled p) {round : Round} (N : IsRound p.gri
   size-at h k l m e = ap (size p.grid) (sym (block-same p k m) ∙ e ∙ block-same p h l) ∙ sym (N .size h l)
 
   pub size-few : (h : ℕ) → h < numIndices p.grid → at round.sizes h ≤ 16
-  size-few h l = omega (arith, N .size h l, block-fits p.grid.sizes (blockOf p.grid h), ok .settled .sixteenIndices)
+  size-few h l = omega (arith, N .size h l, block-fits p.grid.sizes (blockOf p.grid h), ok .hasStart .sixteenIndices)
 
   distance-near : (h k : ℕ) → h < numIndices p.grid → k < numIndices p.grid → blocksOf p .block k ≡ blocksOf p .block h
       → (f : ℕ) → blocksOf p .block f ≡ blocksOf p .block k → blocksOf p .distance k f < at round.sizes h
@@ -253,13 +253,13 @@ module _ {p : Problem} (ok : FullyLabelled p) {round : Round} (N : IsRound p.gri
     below : (n h : ℕ) → h < numIndices p.grid
         → bit U (back (blocksOf p .previous) n h) ≡ inU (back (blocksOf p .previous) n h)
     below n h l =
-        same (back (blocksOf p .previous) n h) (omega (arith, back-below p n h l, ok .settled .sixteenIndices))
+        same (back (blocksOf p .previous) n h) (omega (arith, back-below p n h l, ok .hasStart .sixteenIndices))
 
     pub back-outside : (h k : ℕ) → h < numIndices p.grid → blocksOf p .block k ≡ blocksOf p .block h → inU k ≡ false
         → (n : ℕ) × (n ≤ 16) × BackOutside (blocksOf p) inU h n × (source round U h ≡ back (blocksOf p .previous) n h)
     back-outside h k l e o =
         let w = back-met (λ k. not (bit U k)) h k l e
-        (ap not (same k (omega (arith, in-block h k l e, ok .settled .sixteenIndices)) ∙ o)) in (
+        (ap not (same k (omega (arith, in-block h k l e, ok .hasStart .sixteenIndices)) ∙ o)) in (
           w .0,
           omega (arith, w .1, size-few h l),
           record {
@@ -275,13 +275,13 @@ module _ {p : Problem} (ok : FullyLabelled p) {round : Round} (N : IsRound p.gri
         × (firstOutside round.next round.sizes U h ≡ back (blocksOf p .next) n h)
     forward-outside h k l e o =
         let w = forward-met (λ k. not (bit U k)) h k l e
-        (ap not (same k (omega (arith, in-block h k l e, ok .settled .sixteenIndices)) ∙ o)) in
+        (ap not (same k (omega (arith, in-block h k l e, ok .hasStart .sixteenIndices)) ∙ o)) in
         let z : (j : ℕ) → not (bit U (back (blocksOf p .next) j h)) ≡ not (inU (back (blocksOf p .next) j h)) = λ j. ap
         not
         (same (back (blocksOf p .next) j h) (omega (
           arith,
           in-block h (back (blocksOf p .next) j h) l (block-forward (blocksOf p) j h),
-          ok .settled .sixteenIndices,
+          ok .hasStart .sixteenIndices,
         ))) in (
           w .0,
           omega (arith, w .1, size-few h l),
@@ -311,7 +311,7 @@ module _ {p : Problem} (ok : FullyLabelled p) {round : Round} (N : IsRound p.gri
         let r : back R.next w.0 h ≡ h = sym w.3 ∙ eqb-true _ _ e in
         let d : ℕ = R .distance k h in
         let y : back R.next d h ≡ k = ap (back R.next d) (sym (R .reached k h b)) ∙ forward-back R d k in
-        let low : k < 16 = omega (arith, in-block h k l b, ok .settled .sixteenIndices) in
+        let low : k < 16 = omega (arith, in-block h k l b, ok .hasStart .sixteenIndices) in
         ⊎-elim
         (λ z. absurd (x (sym y ∙ z)))
         (λ z.
@@ -327,7 +327,7 @@ module _ {p : Problem} (ok : FullyLabelled p) {round : Round} (N : IsRound p.gri
         let k : ℕ = back R.next w.0 h in
         let b : R .block k ≡ R .block h = block-forward R w.0 h in
         let x : (k ≡ h → ⊥) = λ z. eqb-false _ _ e (w .3 ∙ z) in
-        let low : k < 16 = omega (arith, in-block h k l b, ok .settled .sixteenIndices) in
+        let low : k < 16 = omega (arith, in-block h k l b, ok .hasStart .sixteenIndices) in
         let q : (not (bit T k) && not (bit U k)) ≡ true = rw (ne-eqb k h x) at w.2.stops in (
           k,
           b,
@@ -371,11 +371,11 @@ module _ {p : Problem} (ok : FullyLabelled p) {round : Round} (N : IsRound p.gri
             × (firstOutsideOrZero round U c h ≡ back R.previous n h)
         w = back-met _ h f.0 l f.1
             (let z : bit U f.0 ≡ false =
-            same f.0 (omega (arith, in-block h f.0 l f.1, ok .settled .sixteenIndices)) ∙ f .3 in
+            same f.0 (omega (arith, in-block h f.0 l f.1, ok .hasStart .sixteenIndices)) ∙ f .3 in
             rw z)
 
         u : (j : ℕ) → bit U (back R.previous j h) ≡ zeros R T (P 0) (back R.previous j h)
-        u j = same (back R.previous j h) (omega (arith, back-below p j h l, ok .settled .sixteenIndices))
+        u j = same (back R.previous j h) (omega (arith, back-below p j h l, ok .hasStart .sixteenIndices))
 
         skipped : (j : ℕ) → 0 < j → j < w .0 → (T (back R.previous j h) ≡ false) × (0 < P 0 (back R.previous j h))
         skipped j a b =

@@ -37,7 +37,7 @@ use Rattle.path_laws.specs.Demand.{HasStart}
 use Rattle.simplices.proofs.Along.{around}
 use Rattle.simplices.proofs.Closed.{Closed, Whole, whole-of, More, more-of, raise-above}
 use Rattle.simplices.proofs.Smallest.{Sets, largest, zero-from, more-or, Smallest, smallest}
-use Rattle.simplices.proofs.Tests.{Below, Nested, setAt, settled, index-at, on-at, is-list}
+use Rattle.simplices.proofs.Tests.{Below, Nested, setAt, has-start, index-at, on-at, is-list}
 use Rattle.simplices.specs.Chains.{startingAt}
 use Rattle.simplices.specs.Simplices.{isStep, isOrder, eachStepped, isSimplex, InOneSimplex}
 
@@ -70,7 +70,7 @@ module _ {g : Grid} (A : Accepted g) (p : Point) (hp : isGridPoint g p ≡ true)
   pointAt = pointOf (startingAt g p)
 
   ok : HasStart (startingAt g p)
-  ok = settled g A p hp
+  ok = has-start g A p hp
 
   -- one index more steps to the next point
   one-step : (h : ℕ) (c : ℕ → ℕ) → h < numIndices g → OnRing R c → OnRing R (raise h c)

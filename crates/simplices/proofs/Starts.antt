@@ -40,7 +40,7 @@ use Rattle.simplices.proofs.Along.{walk-coefficients}
 use Rattle.simplices.proofs.Places.{unlabelled-in-simplex}
 use Rattle.simplices.proofs.Relabelled.{relabelled, label-at}
 use Rattle.simplices.proofs.Search.{left-one, steps-long}
-use Rattle.simplices.proofs.Tests.{settled, settled-with}
+use Rattle.simplices.proofs.Tests.{has-start, has-start-with}
 use Rattle.simplices.proofs.Theorem.{part-in}
 use Rattle.simplices.specs.Chains.{startingAt}
 use Rattle.simplices.specs.Simplices.{isSimplex, InOneSimplex}
@@ -74,7 +74,7 @@ module _ {g : Grid} (A : Accepted g) (o : List ℕ) (s : List Point) (h : isSimp
   c j = coefficientOf Q (nth s j)
 
   ok : HasStart Q
-  ok = settled g A (nth s 0) (on-walk A w some 0 some)
+  ok = has-start g A (nth s 0) (on-walk A w some 0 some)
 
   c-is : (j : ℕ) → j < length s → (k : ℕ) → k < numIndices g → c j k ≡ passed o j k
   c-is j l k x =
@@ -237,7 +237,7 @@ module _ {g : Grid} (A : Accepted g) (o : List ℕ) (s : List Point) (h : isSimp
   simplex-place =
       let P = relabelled g (nth s 0) o s in
       let e : pointsOf Q (coefficientsOf Q s) ≡ s = pointsOf-coefficientsOf ok s w.onGrid in
-      and-left _ _ (rw e at (place-of (settled-with g A (nth s 0) (on-walk A w some 0 some) P.labels) labelled))
+      and-left _ _ (rw e at (place-of (has-start-with g A (nth s 0) (on-walk A w some 0 some) P.labels) labelled))
 
 -- points lie in one simplex exactly if they are part of a place, labels apart, for some start
 pub for-some-start : {g : Grid} → Accepted g → (zs : List Point) → InOneSimplex g zs ↔
@@ -253,5 +253,5 @@ for-some-start {g} A zs = (
     I .has,
   )),
   (λ f. part-in zs (all-in onPoints (λ z. isIn samePoint z f.1) zs f.4)
-      (unlabelled-in-simplex (settled g A f.0 f.2) f.1 f.3)),
+      (unlabelled-in-simplex (has-start g A f.0 f.2) f.1 f.3)),
 )

@@ -63,9 +63,9 @@ module _ (g : Grid) where
   index-at q h = in-all onNumbers q (indices g) (λ k m. h k (index-means g k .0 m))
 
   -- a grid with a start, and labels
-  pub settled-with : Accepted g → (p : Point) → isGridPoint g p ≡ true → (labels : List ℕ)
+  pub has-start-with : Accepted g → (p : Point) → isGridPoint g p ≡ true → (labels : List ℕ)
       → HasStart (record { grid = g; start = p; labels = labels })
-  settled-with A p h labels = record {
+  has-start-with A p h labels = record {
     someBlock = A .someBlock;
     sixBlocks = A .fewBlocks;
     sizes = A .sizesTwo;
@@ -76,8 +76,8 @@ module _ (g : Grid) where
     start = h;
   }
 
-  pub settled : Accepted g → (p : Point) → isGridPoint g p ≡ true → HasStart (startingAt g p)
-  settled A p h = settled-with A p h []
+  pub has-start : Accepted g → (p : Point) → isGridPoint g p ≡ true → HasStart (startingAt g p)
+  has-start A p h = has-start-with A p h []
 
 -- the coefficients of the i-th point with p as the start, as a function
 abbrev pub setAt : Grid → List Point → Point → ℕ → ℕ → ℕ
@@ -98,7 +98,7 @@ pub coefficients-by : {g : Grid} → Accepted g → (p z : Point) → isGridPoin
 coefficients-by {g} A p z hp hz f none rule =
     let m = numIndices g in
     let is : (k : ℕ) → k < m → at (tabulate m f) k ≡ f k = getD-tabulate 0 m f in
-    coefficients-only {p = startingAt g p} (coefficientOf-is (settled g A p hp) z hz) (record {
+    coefficients-only {p = startingAt g p} (coefficientOf-is (has-start g A p hp) z hz) (record {
       numbers = length-tabulate m f;
       zero = λ j l. let h = none j l in (h .0, h .1, h .2, is h.0 (omega (arith, h .2, block-fits g.sizes j)) ∙ h .3);
       rule = λ k l. omega (arith, is k l, is (next g k) (next-low g k l), rule k l);
@@ -134,7 +134,7 @@ module _ {g : Grid} (A : Accepted g) (zs : List Point) (on : all (isGridPoint g)
   on-at i l = all-in onPoints (isGridPoint g) zs on (nth zs i) (at-in onPoints [] zs i l)
 
   pub is-list : (i : ℕ) → i < length zs → IsCoefficients (startingAt g p) (nth zs i) (coefficientsFrom g p (nth zs i))
-  is-list i l = coefficientOf-is (settled g A p hp) (nth zs i) (on-at i l)
+  is-list i l = coefficientOf-is (has-start g A p hp) (nth zs i) (on-at i l)
 
   -- from the indices to all numbers
   everywhere : (i : ℕ) → i < length zs → (d : ℕ → ℕ) → ((k : ℕ) → k < numIndices g → setAt g zs p i k ≤ d k)
@@ -223,9 +223,9 @@ module _ {g : Grid} (A : Accepted g) (zs : List Point) (on : all (isGridPoint g)
       let b = coefficientsFrom g p (nth zs j) in
       let li : i < length zs = omega arith in
       let n : same eqb a b ≡ false = false-of _ (λ q.
-      let w : nth zs i ≡ nth zs j = sym (point-coefficientOf (settled g A p hp) (nth zs i) (on-at i li))
+      let w : nth zs i ≡ nth zs j = sym (point-coefficientOf (has-start g A p hp) (nth zs i) (on-at i li))
       ∙ ap (λ (c : List ℕ). pointOf (startingAt g p) (at c)) (onPoints .sound a b q)
-      ∙ point-coefficientOf (settled g A p hp) (nth zs j) (on-at j m) in
+      ∙ point-coefficientOf (has-start g A p hp) (nth zs j) (on-at j m) in
       absurd (omega (arith, same-at onPoints [] zs d i j li m w))) in
       and-both _ _
       (⊎-elim

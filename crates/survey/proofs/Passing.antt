@@ -131,7 +131,7 @@ module _ (g : GridStruct) (first table : List ℕ) (ok : Accepted (problemIn g f
       arith,
       leb-true (label p y) (numIndices (p .grid))
           (and-right (leb 1 (label p y)) _ (label-ok ok y on-grid (known r))),
-      ok .settled .sixteenIndices,
+      ok .hasStart .sixteenIndices,
     )
 
     come-position : IsKnown (tableProblem g table) s → s .rule < 6

@@ -40,7 +40,7 @@ use Rattle.path_laws.specs.Demand.{HasStart}
 use Rattle.trail.proofs.Outside.{in-outside, outside-in, outside-count}
 use Rattle.trail.proofs.Shapes.{Shape, exchange, joins, leaves, shape-of, not-empty, points-distinct}
 use Rattle.trail.proofs.SomeLinks.{LinkOver, stays-in, exchange-links, leave-links, join-links, number-of}
-use Rattle.trail.proofs.Tables.{Labelled, some-table, some-index, settled-with}
+use Rattle.trail.proofs.Tables.{Labelled, some-table, some-index, has-start-with}
 use Rattle.trail.proofs.Tells.{moves-of}
 use Rattle.trail.specs.Change.{outside}
 use Rattle.trail.specs.Trail.{isMove}
@@ -241,13 +241,13 @@ module _ {p : Problem} (ok : HasStart p) (a : Simplex) (ha : isUnlabelledPlace p
         → outside samePoint b a ≡ nth a i ∷ [] → ⊥
     out-none j lj s c b m e =
         let B = over-out b m e in
-        none-through (settled-with ok labels) a L.place all-known i il j lj s c b B.0.to B.0.by B.1 (others b e)
+        none-through (has-start-with ok labels) a L.place all-known i il j lj s c b B.0.to B.0.by B.1 (others b e)
 
     pub into-none : (j : ℕ) → j < numBlocks p.grid → isComplete (withLabels p labels) a j ≡ true → (b : Simplex)
         → isMove p a b ≡ true → outside samePoint b a ≡ [] → outside eqb (setT p a) (setT p b) ≡ x ∷ [] → ⊥
     into-none j lj c b m e t =
         let B = over-into b m e t in
-        none-above (settled-with ok labels) a L.place all-known j lj c b B.0.to B.0.by B.1
+        none-above (has-start-with ok labels) a L.place all-known j lj c b B.0.to B.0.by B.1
 
   -- the point that goes out tells the next place,
   pub out-tells : (b c : Simplex) → isMove p a b ≡ true → isMove p a c ≡ true → {z : Point}
@@ -260,7 +260,7 @@ module _ {p : Problem} (ok : HasStart p) (a : Simplex) (ha : isUnlabelledPlace p
       let fc : outside samePoint c a ≡ nth a n.0 ∷ [] = rw n.2 ec in
       let B = over-out n.1 L b mb fb in
       let C = over-out n.1 L c mc fc in
-      one-through (settled-with ok t.0) a L.place (all-known n.1 L) n.0 n.1 b c B.0.to C.0.to B.0.by C.0.by B.1 C.1
+      one-through (has-start-with ok t.0) a L.place (all-known n.1 L) n.0 n.1 b c B.0.to C.0.to B.0.by C.0.by B.1 C.1
       (others n.1 L b fb) (others n.1 L c fc)
 
   -- and where none goes out, the index that comes into T
@@ -275,4 +275,4 @@ module _ {p : Problem} (ok : HasStart p) (a : Simplex) (ha : isUnlabelledPlace p
       let L = t .1 in
       let B = over-into l L b mb ob tb in
       let C = over-into l L c mc oc tc in
-      one-above (settled-with ok t.0) a L.place (all-known l L) b c B.0.to C.0.to B.0.by C.0.by B.1 C.1
+      one-above (has-start-with ok t.0) a L.place (all-known l L) b c B.0.to C.0.to B.0.by C.0.by B.1 C.1

@@ -138,14 +138,14 @@ run-trail {p} ok s F = trails p ok.sameNumber s F.nonempty F.begins (record {
 
 -- so the path itself
 pub path-trail : {p : Problem} → Accepted p → Trails p (path p .visited)
-path-trail {p} ok = run-trail ok.settled (path p .visited) (demand3-holds ok .follows)
+path-trail {p} ok = run-trail ok.hasStart (path p .visited) (demand3-holds ok .follows)
 
 -- the length of a run's trail fits 64 bits
 pub trail-fits : {p : Problem} → Accepted p → (s : List Simplex) → Follows p s → length (trailOf p s) < 2 ^ 64
 unfolding bound
 trail-fits {p} ok s F =
     let g = p .grid in
-    let k = ok .settled in
+    let k = ok .hasStart in
     let last = run-follows ok s F (pred (length s)) (omega (arith, F .nonempty)) .0 in
     let most : bound g ≤ 60000 * 35951249665217 = mul-le-mul k.points
     (terms-few (numIndices g) (dimension g) k.sixteenIndices (omega (arith, k .sixteenIndices, k .someBlock))) in

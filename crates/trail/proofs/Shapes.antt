@@ -113,12 +113,12 @@ module _ {p : Problem} (ok : HasStart p) where
   T-long s h =
       let w = some-table ok s h 0 0 (not-empty s h) (some-index ok) in
       let q = withLabels p w.0 in
-      let settled = w .1 .accepted .settled in
+      let hasStart = w .1 .accepted .hasStart in
       let e : setT q s ≡ setT p s = T-alike p w.0 s in
       let place = w .1 .place in
       omega (
         arith,
-        place-long settled s place,
+        place-long hasStart s place,
         ap length e,
         pigeon onNumbers (order p.grid s) (setT q s) (order-distinct q s place) (order-within q s place),
         pigeon onNumbers (setT q s) (order p.grid s) (T-distinct q s place) (λ k m. in-order p s h k (rw e at m)),

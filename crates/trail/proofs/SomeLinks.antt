@@ -30,7 +30,7 @@ use Rattle.trail.proofs.LinkRules.{rule-of-link}
 use Rattle.trail.proofs.Outside.{in-outside, outside-in, outside-count}
 use Rattle.trail.proofs.Reading.{T-alike, place-alike, change-alike, move-of}
 use Rattle.trail.proofs.Shapes.{Shape, exchange, joins, leaves, shape-of, not-empty, points-distinct}
-use Rattle.trail.proofs.Tables.{settled-with, Labelled, some-table, some-index}
+use Rattle.trail.proofs.Tables.{has-start-with, Labelled, some-table, some-index}
 use Rattle.trail.proofs.Tells.{Moves, moves-of}
 use Rattle.trail.specs.Change.{change, outside, ByRule}
 use Rattle.trail.specs.Trail.{isMove}
@@ -239,7 +239,7 @@ module _ {p : Problem} (ok : HasStart p) where
       → allLabelled (withLabels p labels) a ≡ true
       → (isMove p a b ≡ true) × ((r : ℕ) × ByRule (change p a b) r)
   link-moves labels a b L own =
-      let w = rule-of-link (settled-with ok labels) a b L.from L.to own L.by in
+      let w = rule-of-link (has-start-with ok labels) a b L.from L.to own L.by in
       let m : ByRule (change p a b) w.0 = rw (change-alike p labels a b) at w.1 in
       (move-of p a b (sym (place-alike p labels b) ∙ unlabelled-of (withLabels p labels) b L.to) m, (w .0, m))
 

@@ -73,8 +73,8 @@ given-all (x ∷ s) d (l ∷ ls) e = rw (point-self x)
         (ap (λ (k : List ℕ). given s ls y ∷ k) (later r (λ z m. h z (in-later onPoints z y r m))))
 
 -- grid and start are the same with another table
-pub settled-with : {p : Problem} → HasStart p → (labels : List ℕ) → HasStart (withLabels p labels)
-settled-with ok labels = record {
+pub has-start-with : {p : Problem} → HasStart p → (labels : List ℕ) → HasStart (withLabels p labels)
+has-start-with ok labels = record {
   someBlock = ok .someBlock;
   sixBlocks = ok .sixBlocks;
   sizes = ok .sizes;
@@ -105,7 +105,7 @@ module _ {p : Problem} (ok : HasStart p) (s : Simplex) (on : all (isGridPoint p.
   pub table-accepted : Accepted (withLabels p (table p.grid s ls))
   unfolding table
   table-accepted = record {
-    settled = settled-with ok (map (given s ls) (points p.grid));
+    hasStart = has-start-with ok (map (given s ls) (points p.grid));
     tableLength = length-map (points p.grid) (given s ls);
     labels = in-all onNumbers (λ l. leb l (numIndices p.grid)) (map (given s ls) (points p.grid)) (λ l m.
         let w = map-in onPoints onNumbers (given s ls) l (points p.grid) m in
@@ -115,7 +115,7 @@ module _ {p : Problem} (ok : HasStart p) (s : Simplex) (on : all (isGridPoint p.
   pub table-full : FullyLabelled (withLabels p (table p.grid s ls))
   unfolding table
   table-full = record {
-    settled = settled-with ok (map (given s ls) (points p.grid));
+    hasStart = has-start-with ok (map (given s ls) (points p.grid));
     tableLength = length-map (points p.grid) (given s ls);
     labels = in-all onNumbers (λ l. leb 1 l && leb l (numIndices p.grid)) (map (given s ls) (points p.grid)) (λ l m.
         let w = map-in onPoints onNumbers (given s ls) l (points p.grid) m in

@@ -41,7 +41,7 @@ use Rattle.trail.proofs.OneNext.{into-none, not-there, out-none, over-out}
 use Rattle.trail.proofs.Outside.{in-outside, outside-in, outside-none}
 use Rattle.trail.proofs.Reading.{T-alike}
 use Rattle.trail.proofs.Shapes.{not-empty}
-use Rattle.trail.proofs.Tables.{Labelled, settled-with, some-index, some-table}
+use Rattle.trail.proofs.Tables.{Labelled, has-start-with, some-index, some-table}
 use Rattle.trail.proofs.Tells.{Moves, moves-of}
 use Rattle.trail.specs.Change.{ByRule, Change, change, outside, rule1, rule2, rule3, rule4, rule5, rule6, rule7}
 use Rattle.trail.specs.Trail.{isMove}
@@ -95,7 +95,7 @@ module _ {p : Problem} (ok : HasStart p) {a : Simplex} {s : State} (S : Shows p 
         → ⊥
     facet-none {k} z F b m =
         let C = chain-over S L in
-        let ok' = L .full .settled in
+        let ok' = L .full .hasStart in
         let here = S .here in
         let c : Simplex = pointsOf q S.x in
         let hc = place-of ok' C in
@@ -121,7 +121,7 @@ module _ {p : Problem} (ok : HasStart p) {a : Simplex} {s : State} (S : Shows p 
         let C = chain-over S L in
         let u : coefficientOf q (nth a i) ≡ listAt S.x i = subst
         (λ (c : Simplex). coefficientOf q (nth c i) ≡ listAt S.x i)
-        S.here (coefficient-at L.full.settled C i (omega (arith, il, S .size))) in
+        S.here (coefficient-at L.full.hasStart C i (omega (arith, il, S .size))) in
         not-there S.x (subst (λ (t : ℕ). Chain (blocksOf q) S.T t (listAt S.x) S.o) e S.chain) (omega arith) y X v.0 vl
         (sym (back v.0 vl) ∙ ap (coefficientOf q) v.2 ∙ u))
 
@@ -137,7 +137,7 @@ module _ {p : Problem} (ok : HasStart p) {a : Simplex} {s : State} (S : Shows p 
 
   back-at : {e : State} {y : List (ℕ → ℕ)} → Reached q S.x e y → (j : ℕ) → j < length y
       → coefficientOf q (nth (pointsOf p y) j) ≡ listAt y j
-  back-at R j l = coefficient-at L.full.settled R.describes.chain j l
+  back-at R j l = coefficient-at L.full.hasStart R.describes.chain j l
 
 -- what a point that leaves leads to: a place, or none where the facet is an end
 pub data LeavesTo (p : Problem) (a : Simplex) (i : ℕ) : After → Type 0 where
@@ -198,8 +198,8 @@ module _ {p : Problem} (ok : HasStart p) {a : Simplex} {s : State} (S : Shows p 
       let B = over-out ok a S.place (omega (arith, il, shows-long S)) t.1 b (m .0) (m .1) in
       let some = not-empty ok b (moves-of p a b (m .0) .place) in
       let one : length b ≡ 1 = omega (arith, B .1, shows-long S, some) in
-      let z : a ≡ b = single (settled-with ok t.0) a (B .0 .from) (omega (arith, shows-long S))
-      ∙ sym (single (settled-with ok t.0) b (B .0 .to) one) in
+      let z : a ≡ b = single (has-start-with ok t.0) a (B .0 .from) (omega (arith, shows-long S))
+      ∙ sym (single (has-start-with ok t.0) b (B .0 .to) one) in
       let w = outside-in onPoints (nth a i) a b (rw (m .1) (in-here onPoints (nth a i) [])) in
       absurd-bool (sym w.0 ∙ ap (λ (c : Simplex). isIn samePoint (nth a i) c) z ∙ w .1)
 
@@ -248,7 +248,7 @@ module _ {p : Problem} (ok : HasStart p) {a : Simplex} {s : State} (S : Shows p 
     place-none : (k : ℕ) → PlaceEnd (blocksOf over) (labelOf over) S.t S.x k → (b : Simplex) → BringsIn p a h b → ⊥
     place-none k c b m =
         let C = chain-over S L in
-        let ok' = L .full .settled in
+        let ok' = L .full .hasStart in
         let here = S .here in
         let v : Simplex = pointsOf over S.x in
         let hv = place-of ok' C in
@@ -280,7 +280,7 @@ module _ {p : Problem} (ok : HasStart p) {a : Simplex} {s : State} (S : Shows p 
       has-index =
           let e : X .0 h ≡ true = ap X.0 (sym label-is) ∙ X .4 .inside 0 (omega arith) in
           subst (λ (u : List ℕ). isIn eqb h u ≡ true) (T-alike p labels next)
-          (ap (λ (T : ℕ → Bool). T h) (T-is L.full.settled X.3) ∙ e)
+          (ap (λ (T : ℕ → Bool). T h) (T-is L.full.hasStart X.3) ∙ e)
 
       not-before : isIn eqb h (setT p a) ≡ false
       not-before = ap (λ (T : ℕ → Bool). T h) S.isT ∙ out

@@ -152,9 +152,10 @@ module _ {p : Problem} (ok : HasStart p) {a : Simplex} {s : State} (S : Shows p 
     chain-back : LinkOver p a b labels
     chain-back =
         let C = chain-over S L in
-        let w = of-link L.full.settled _ (place-of L.full.settled C) (rw (← (back-again L.full.settled C)) at R.link) in
+        let okq = L .full .hasStart in
+        let w = of-link okq _ (place-of okq C) (rw (← (back-again okq C)) at R.link) in
         record {
-          from = subst (λ (c : Simplex). isPlace q c ≡ true) S.here (place-of L.full.settled C);
+          from = subst (λ (c : Simplex). isPlace q c ≡ true) S.here (place-of okq C);
           to = w .0;
           by = subst (λ (c : Simplex). linked q c b ≡ true) S.here w.1;
         }
@@ -195,9 +196,9 @@ module _ {p : Problem} (ok : HasStart p) {a : Simplex} {s : State} (S : Shows p 
           let wl : w .0 < length S.x = omega (arith, w .1, shows-long S, S .size) in
           let u : coefficientOf q (nth a w.0) ≡ listAt S.x w.0 = subst
           (λ (c : Simplex). coefficientOf q (nth c w.0) ≡ listAt S.x w.0)
-          S.here (coefficient-at L.full.settled C w.0 wl) in
+          S.here (coefficient-at L.full.hasStart C w.0 wl) in
           let v : coefficientOf q (nth b f.active) ≡ listAt y f.active =
-          coefficient-at L.full.settled D.chain f.active (omega (arith, active-low, D .chain .size)) in
+          coefficient-at L.full.hasStart D.chain f.active (omega (arith, active-low, D .chain .size)) in
           came-new D R.came refl in-rule w.0 wl (sym u ∙ ap (coefficientOf q) w.2 ∙ v ∙ ap (listAt y) same-active))
 
       computes : CanCompute f f.active
@@ -320,7 +321,7 @@ module _ {p : Problem} (ok : HasStart p) {a : Simplex} {s : State} (S : Shows p 
       place = place-b;
       isT =
           let f : List ℕ → ℕ → Bool = λ u k. isIn eqb k u in
-          ap f (sym (T-alike p labels b)) ∙ T-is L.full.settled D.chain;
+          ap f (sym (T-alike p labels b)) ∙ T-is L.full.hasStart D.chain;
       round = D .round;
       orderLength = D .orderLength;
       orderAt = D .orderAt;

@@ -78,7 +78,7 @@ module _ (g : GridStruct) (made : IsMade g) (first : List ℕ) (ok : HasStart (p
     described = start-describes (L .full) N first (s .u) size start-at zeros-at
 
     points-of : pointsOf q (coefficientsOf q v) ≡ v
-    points-of = pointsOf-coefficientsOf (L .full .settled) v (parts q v (start-place (L .full .settled)) .gridPoints)
+    points-of = pointsOf-coefficientsOf (L .full .hasStart) v (parts q v (start-place (L .full .hasStart)) .gridPoints)
 
   module _ (tails : List ℕ)
       (are : (k : ℕ) → k < g .indices → at tails k ≡ sum (map (at first) (upFrom k (g .indices - k)))) where
@@ -90,7 +90,7 @@ module _ (g : GridStruct) (made : IsMade g) (first : List ℕ) (ok : HasStart (p
     pub v-read : (c : ℕ) → c ≡ position (shape g) (p .start)
         → HasRead g (take (g .indices) first) tails v
         (stateOf round first (replicate 16 0) order (set (replicate 16 0) 0 (c * 256)) s)
-    v-read c e = record { settled = ok; shows = shown; sums = sums }
+    v-read c e = record { hasStart = ok; shows = shown; sums = sums }
       where
         L : Labelled p v 0 0 (table .0)
         L = table .1

@@ -148,9 +148,9 @@ reads-17 g start trail number r R e = record {
 }
 
 -- a grid that was made, with a start that is a grid point
-pub settled-by : (g : GridStruct) → IsMade g → (start : List ℕ) → isGridPoint (shape g) start ≡ true
+pub has-start-by : (g : GridStruct) → IsMade g → (start : List ℕ) → isGridPoint (shape g) start ≡ true
     → HasStart (problemBy g start)
-settled-by g made start on =
+has-start-by g made start on =
     let a = made-accepted g made in
     record {
       someBlock = a .someBlock;

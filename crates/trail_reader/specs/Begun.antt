@@ -21,13 +21,13 @@ use Rattle.trail_reader.specs.declared.answers.Reading.{Reading}
 
 pub record CanReadTrail (g : GridStruct) (start : List ℕ) : Type 0 where
   pub made : IsMade g
-  pub settled : HasStart (problemBy g start)
+  pub hasStart : HasStart (problemBy g start)
 
 -- the start in an array, and its position
 pub record CanLocate (g : GridStruct) (binomials first : List ℕ) : Type 0 where
   pub measured : Measured g binomials
   pub firstLength : length first ≡ 16
-  pub settled : HasStart (problemBy g (take (g .indices) first))
+  pub hasStart : HasStart (problemBy g (take (g .indices) first))
 
 abbrev pub IsLocated : GridStruct → List ℕ → ℕ → Type 0
 IsLocated g first r = (r ≡ position (shape g) (take (g .indices) first)) × (r < 65536)
@@ -38,7 +38,7 @@ pub record CanRebuild (g : GridStruct) (round : Round) (binomials first : List �
   pub isRound : IsRound (shape g) round
   pub below : RoundBelow round
   pub firstLength : length first ≡ 16
-  pub settled : HasStart (problemBy g (take (g .indices) first))
+  pub hasStart : HasStart (problemBy g (take (g .indices) first))
 
 -- the place that a state holds, with masks of 16 bits and the labels read
 pub record IsPlace (a : State) (m : ℕ) (s : Status) (labels : ℕ) (r : Reading) : Type 0 where

@@ -100,7 +100,7 @@ module _ {p : Problem} (ok : HasStart p) where
         let t = some-table ok a (S .place) 0 0 (omega (arith, shows-long S)) (some-index ok) in
         record {
           bits = λ k l. S .bitsU k l
-              ∙ sym (in-U (t .1 .full .settled) (chain-over S (t .1)) k)
+              ∙ sym (in-U (t .1 .full .hasStart) (chain-over S (t .1)) k)
               ∙ ap (λ (c : Simplex). isIn eqb k (setU (p .grid) c)) (S .here);
           below = λ k m. omega (arith, U-means (p .grid) a k .0 m .0, ok .sixteenIndices);
         }

@@ -99,7 +99,7 @@ module _ (g : GridStruct) (made : IsMade g) (start tails : List ℕ) {a : Simple
 
       many : length (take (status .count) order) ≡ status .count
       many =
-          counted order (status .count) (each .inOrder) (omega (arith, held .orderLength, shows-few (H .settled) held))
+          counted order (status .count) (each .inOrder) (omega (arith, held .orderLength, shows-few (H .hasStart) held))
 
       pub can-find : status .rule < 6 → CanFind g tails back status
       can-find r = record {
@@ -118,11 +118,11 @@ module _ (g : GridStruct) (made : IsMade g) (start tails : List ℕ) {a : Simple
 
       pub come-low : comePosition g back < 65536
       come-low =
-          ⊎-elim (λ (r : status .rule < 6). rw (lt-ltb (status .rule) 6 r) (position-low (H .settled) _ (A .onGrid r)))
+          ⊎-elim (λ (r : status .rule < 6). rw (lt-ltb (status .rule) 6 r) (position-low (H .hasStart) _ (A .onGrid r)))
           (λ (r : 6 ≤ status .rule). rw (le-ltb (status .rule) 6 r) (omega arith)) (before-or-not (status .rule) 6)
 
       made-is : ((x : ℕ) → change p a b .pointsOut ≡ x ∷ [] → gone ≡ x) → recordMade g s back gone ≡ recordOf p a b
-      made-is out = record-is (H .settled) (H .shows) A (comePosition g back) gone come-is out
+      made-is out = record-is (H .hasStart) (H .shows) A (comePosition g back) gone come-is out
 
       some-bytes : 1 ≤ length (recordOf p a b)
       unfolding recordOf
@@ -131,14 +131,14 @@ module _ (g : GridStruct) (made : IsMade g) (start tails : List ℕ) {a : Simple
       -- where the record stands, the place is the one that the bytes say
       stands-agrees : begins (recordOf p a b) bytes ≡ true → agrees g back said bytes ≡ true
       stands-agrees e =
-          let D = said-to (H .settled) (H .shows) b (A .move) bytes n count e in
+          let D = said-to (H .hasStart) (H .shows) b (A .move) bytes n count e in
           let t = none-differs (status .t) (said .t)
-          (λ k l. mask-T (H .settled) held .bits k l ∙ sym (D .bitsT k l)) in
+          (λ k l. mask-T (H .hasStart) held .bits k l ∙ sym (D .bitsT k l)) in
           let u = none-differs (status .u) (said .u)
-          (λ k l. mask-U (H .settled) held .bits k l ∙ sym (D .bitsU k l)) in
+          (λ k l. mask-U (H .hasStart) held .bits k l ∙ sym (D .bitsU k l)) in
           ⊎-elim
           (λ (r : status .rule < 6).
-          let w = comes-in (H .settled) (H .shows) A (comePosition g back) gone come-is r in
+          let w = comes-in (H .hasStart) (H .shows) A (comePosition g back) gone come-is r in
           rw (
             eq-eqb (differing (status .t) (said .t)) 16 t,
             eq-eqb (differing (status .u) (said .u)) 16 u,
@@ -153,12 +153,12 @@ module _ (g : GridStruct) (made : IsMade g) (start tails : List ℕ) {a : Simple
           ))
           (before-or-not (status .rule) 6)
 
-      module _ (O : OnlyPlace (H .settled) (H .shows) bytes n count b)
+      module _ (O : OnlyPlace (H .hasStart) (H .shows) bytes n count b)
           (out : (x : ℕ) → change p a b .pointsOut ≡ x ∷ [] → gone ≡ x) where
         -- where the place is another, it leads nowhere
         pub to-none : agrees g back said bytes ≡ false → (k : ℕ) → rebuiltFrom p (suc k) a bytes ≡ none
         to-none differs =
-            not-there (H .settled) (H .shows) bytes n count O
+            not-there (H .hasStart) (H .shows) bytes n count O
             (false-of (begins (recordOf p a b) bytes) (λ e. absurd-bool (sym (stands-agrees e) ∙ differs)))
 
         -- where it is the one, the record stands, and leads to it
@@ -187,7 +187,7 @@ module _ (g : GridStruct) (made : IsMade g) (start tails : List ℕ) {a : Simple
               let e = and-right (sameT && sameU) sameCome same in
               sym (eqb-true (wordAt bytes 1) (comePosition g back) (asked _ _ e (lt-ltb (status .rule) 6 r))))
               (λ (r : 6 ≤ status .rule).
-              let w = goes-out (H .settled) (H .shows) A (comePosition g back) gone come-is r in
+              let w = goes-out (H .hasStart) (H .shows) A (comePosition g back) gone come-is r in
               absurd-bool (sym (keeps (w .0) (w .1) (w .2)) ∙ alike-T (w .0) (w .1) ∙ w .3))
               (before-or-not (status .rule) 6)
 
@@ -196,9 +196,9 @@ module _ (g : GridStruct) (made : IsMade g) (start tails : List ℕ) {a : Simple
 
           begins-made : Begun bytes (recordMade g s back gone) (said .bytes)
           begins-made =
-              begun (numIndices (p .grid)) n s (H .settled .sixteenIndices) marked (status .t) (status .u)
+              begun (numIndices (p .grid)) n s (H .hasStart .sixteenIndices) marked (status .t) (status .u)
               (comePosition g back) gone (says (numIndices (p .grid)) n s bytes)
-              (only-named (H .settled) (H .shows) bytes n count O) alike-T alike-U bytesLow come-said goes
+              (only-named (H .hasStart) (H .shows) bytes n count O) alike-T alike-U bytesLow come-said goes
 
           stands : begins (recordOf p a b) bytes ≡ true
           stands =
@@ -211,7 +211,7 @@ module _ (g : GridStruct) (made : IsMade g) (start tails : List ℕ) {a : Simple
               (status .count) (said .bytes)
           to-next low new m =
               let long : said .bytes ≡ length (recordOf p a b) = begins-made .many ∙ ap length (made-is out) in
-              let fits = inside (H .settled) (H .shows) bytes n count b stands in
+              let fits = inside (H .hasStart) (H .shows) bytes n count b stands in
               let state : stateOf (roundOf previous next sizes) first coefficients order new status
               ≡ stored after (comePosition g back * 256) =
               ap (λ (m : List ℕ). stateOf (roundOf previous next sizes) first coefficients order m status) m
@@ -225,7 +225,7 @@ module _ (g : GridStruct) (made : IsMade g) (start tails : List ℕ) {a : Simple
                 many = many;
                 inside = omega (arith, fits, length-drop at trail, long, low);
                 some = omega (arith, some-bytes, long);
-                reads = λ k. goes-on (H .settled) (H .shows) bytes n count O stands k
+                reads = λ k. goes-on (H .hasStart) (H .shows) bytes n count O stands k
                     ∙ ap (rebuiltFrom p k b)
                     (ap (λ (m : ℕ). drop m bytes) (sym long) ∙ drop-drop (said .bytes) at trail);
               }
@@ -245,23 +245,23 @@ module _ (g : GridStruct) (made : IsMade g) (start tails : List ℕ) {a : Simple
           pub low-bit : getD bytes 0 0 % 2 ≡ cond (ltb (status .rule) 6) 1 0
           low-bit = ⊎-elim
               (λ (r : status .rule < 6).
-              let w = comes-in (H .settled) (H .shows) A (comePosition g back) gone come-is r in
+              let w = comes-in (H .hasStart) (H .shows) A (comePosition g back) gone come-is r in
               rw (first-byte, lt-ltb (status .rule) 6 r, w .1) (omega arith))
               (λ (r : 6 ≤ status .rule).
-              let none = none-in (H .settled) (H .shows) A (comePosition g back) gone come-is r in
+              let none = none-in (H .hasStart) (H .shows) A (comePosition g back) gone come-is r in
               rw (first-byte, le-ltb (status .rule) 6 r, none) (omega arith))
               (before-or-not (status .rule) 6)
 
 -- the cases of what a way leads to
 module _ {g : GridStruct} {start tails : List ℕ} {a : Simplex} {s : State} (H : HasRead g start tails a s)
     (bytes : List ℕ) (n : ℕ) (count : n ≡ H .shows .t) (gone : ℕ) where
-  pub on : {f : State} → WayLeads (H .settled) (H .shows) bytes n count gone (goes f)
-      → (b : Simplex) × Arrives (problemBy g start) a b f × OnlyPlace (H .settled) (H .shows) bytes n count b
+  pub on : {f : State} → WayLeads (H .hasStart) (H .shows) bytes n count gone (goes f)
+      → (b : Simplex) × Arrives (problemBy g start) a b f × OnlyPlace (H .hasStart) (H .shows) bytes n count b
       × ((x : ℕ) → change (problemBy g start) a b .pointsOut ≡ x ∷ [] → gone ≡ x)
   on (leadsOn b A O out) = (b, A, O, out)
   on {f} (leadsNowhere h k) = absurd (h f refl)
 
-  pub nowhere : {after : After} → WayLeads (H .settled) (H .shows) bytes n count gone after
+  pub nowhere : {after : After} → WayLeads (H .hasStart) (H .shows) bytes n count gone after
       → ((f : State) → after ≡ goes f → ⊥) → (k : ℕ)
       → rebuiltFrom (problemBy g start) (suc k) a bytes ≡ none
   nowhere (leadsOn {f} b A O out) h k = absurd (h f refl)

@@ -65,7 +65,7 @@ problemBy g start = problemFrom g start []
 
 -- a reading has come to the place a
 pub record HasRead (g : GridStruct) (start tails : List ℕ) (a : Simplex) (s : State) : Type 0 where
-  pub settled : HasStart (problemBy g start)
+  pub hasStart : HasStart (problemBy g start)
   pub shows : Shows (problemBy g start) a s
   pub sums : (k : ℕ) → k < numIndices (shape g) → at tails k ≡ tailFrom (shape g) start k
 

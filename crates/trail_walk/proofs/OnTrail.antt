@@ -128,9 +128,9 @@ module _ (g : GridStruct) (start table : List ℕ) (ok : Accepted (problemIn g s
   -- a position tells its point
   same-point : {y z : Point} → isGridPoint (p .grid) y ≡ true → isGridPoint (p .grid) z ≡ true
       → position (p .grid) y ≡ position (p .grid) z → y ≡ z
-  same-point {y} {z} hy hz e = sym (at-position (p .grid) (ok .settled .sameNumber) y hy)
+  same-point {y} {z} hy hz e = sym (at-position (p .grid) (ok .hasStart .sameNumber) y hy)
       ∙ ap (λ (i : ℕ). getD (points (p .grid)) i []) e
-      ∙ at-position (p .grid) (ok .settled .sameNumber) z hz
+      ∙ at-position (p .grid) (ok .hasStart .sameNumber) z hz
 
   -- a place of the path, in a state that stands there
   module _ (s : State) (k : ℕ) (here : OnPath p s k) where
@@ -156,19 +156,19 @@ module _ (g : GridStruct) (start table : List ℕ) (ok : Accepted (problemIn g s
     position-low j l = omega (
       arith,
       position-in (points (p .grid)) (pointIn p s j)
-          (in-points (p .grid) (pointIn p s j) (ok .settled .sameNumber) (on-grid j l)),
-      ok .settled .points,
+          (in-points (p .grid) (pointIn p s j) (ok .hasStart .sameNumber) (on-grid j l)),
+      ok .hasStart .points,
     )
 
     -- T and U, by their masks
     mask-T : IsMask (s .T) (setT p (placeAt visited k))
-    mask-T = maskT p (ok .settled .sixteenIndices) (placeAt visited k) (s .T) (λ h m.
+    mask-T = maskT p (ok .hasStart .sixteenIndices) (placeAt visited k) (s .T) (λ h m.
         at-T (filled-full ok) (here .0) h m
         ∙ ap (isIn eqb h)
         (T-alike p _ (placeAt (path (filledTable p) .visited) k) ∙ ap (setT p) (sym (beside ok k (here .1) .1))))
 
     mask-U : IsMask (s .U) (setU (p .grid) (placeAt visited k))
-    mask-U = maskU p (ok .settled .sixteenIndices) (placeAt visited k) (s .U) (λ h m.
+    mask-U = maskU p (ok .hasStart .sixteenIndices) (placeAt visited k) (s .U) (λ h m.
         at-U (filled-full ok) (here .0) h m
         ∙ ap (λ (x : Simplex). isIn eqb h (setU (p .grid) x)) (sym (beside ok k (here .1) .1)))
 
@@ -185,7 +185,7 @@ module _ (g : GridStruct) (start table : List ℕ) (ok : Accepted (problemIn g s
           omega (
             arith,
             leb-true (label p y) (numIndices (p .grid)) (and-right (leb 1 (label p y)) _ h),
-            ok .settled .sixteenIndices,
+            ok .hasStart .sixteenIndices,
           )
 
       pub known-position : (j : ℕ) → j ≤ length (s .order)

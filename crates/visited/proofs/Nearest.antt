@@ -135,7 +135,7 @@ module _ (f : Point → ℕ) where
 
 module _ {p : Problem} (ok : Accepted p) where
   pub grid-accepted : GridAccepted (p .grid)
-  grid-accepted = let s = ok .settled in record {
+  grid-accepted = let s = ok .hasStart in record {
     someBlock = s .someBlock;
     fewBlocks = s .sixBlocks;
     sizesTwo = s .sizes;

@@ -270,7 +270,7 @@ module _ {p : Problem} (ok : Accepted p) where
     begins = first-is walked (follows .nonempty) (follows .begins);
     onGrid = on-grid;
     few = pigeon onPoints (visitedVertices p) (points (p .grid)) (firsts-distinct onPoints (pointsOfPlaces walked))
-        (λ z m. in-points (p .grid) z (ok .settled .sameNumber) (on-grid z m));
+        (λ z m. in-points (p .grid) z (ok .hasStart .sameNumber) (on-grid z m));
   }
     where
       first-is : (s : List Simplex) → 0 < length s → placeAt s 0 ≡ p .start ∷ [] → getD (verticesOf s) 0 [] ≡ p .start

@@ -105,7 +105,7 @@ pub places-few : (g : Grid) (w : WalkStruct) (labels : List ℕ) {next : Place} 
 unfolding bound
 places-few g w labels G =
     let P = moved-passes (walkOn g w) labels (G .to) (G .moves) .0 in
-    let ok = P .accepted .settled in
+    let ok = P .accepted .hasStart in
     let few : numPoints g * sum (map (falling (numIndices g)) (upFrom 0 (suc (dimension g)))) ≤ 60000 * 35951249665217 =
     mul-le-mul (ok .points) (terms-few (numIndices g) (dimension g) (ok .sixteenIndices)
     (omega (arith, ok .sixteenIndices, ok .someBlock))) in

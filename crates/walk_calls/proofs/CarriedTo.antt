@@ -121,7 +121,7 @@ module _ {g : GridStruct} {w : WalkStruct} {labels : List ℕ} {next : Place} (m
           omega (
             arith,
             ap markPosition (onto-at j l) ∙ bare-position (shape g) y,
-            position-in (points (shape g)) y (in-points (shape g) y ok.settled.sameNumber on),
+            position-in (points (shape g)) y (in-points (shape g) y ok.hasStart.sameNumber on),
             ok .tableLength,
           );
     }

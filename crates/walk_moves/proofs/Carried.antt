@@ -38,7 +38,7 @@ module _ {p : Problem} (ok : Accepted p) (y : Point) (o : List ℕ)
   s = keptPoints p.grid y o
 
   pub points-long : length s ≡ suc (length o)
-  points-long = place-long (full ok y o place .settled) s (place-filled ok y o place)
+  points-long = place-long (full ok y o place .hasStart) s (place-filled ok y o place)
       ∙ ap (λ (r : List ℕ). suc (length r)) (order-same ok y o place)
 
   -- a label of the table, as an index
@@ -47,7 +47,7 @@ module _ {p : Problem} (ok : Accepted p) (y : Point) (o : List ℕ)
       let c = chain ok y o place in
       let w = label-is (full ok y o place) c j l in
       let z = ap (λ (r : Simplex). label q (nth r j))
-      (pointsOf-coefficientsOf (full ok y o place .settled) s (parts q s (place-filled ok y o place) .gridPoints)) in
+      (pointsOf-coefficientsOf (full ok y o place .hasStart) s (parts q s (place-filled ok y o place) .gridPoints)) in
       omega (arith, w, z, filled-label ok (nth s j) (omega (arith, e)), e)
 
   -- each index of T is the label of a point

@@ -30,11 +30,11 @@ module _ {p : Problem} (ok : Accepted p) (s : Simplex) (h : isPlace p s ≡ true
   -- a way that is not back is a way on
   way-on : (l : Option Simplex) (w : Way) → IsWay p s w → isBack l w ≡ false → isIn sameWay w (waysOn p l s) ≡ true
   unfolding waysOn
-  way-on l w k b = in-filter onWays (λ w. not (isBack l w)) w (ways p s) (in-ways p s ok.settled.sameNumber k) (rw b)
+  way-on l w k b = in-filter onWays (λ w. not (isBack l w)) w (ways p s) (in-ways p s ok.hasStart.sameNumber k) (rw b)
 
   pub from-start : (w : Way) → s ≡ p .start ∷ [] → IsWay p s w → waysOn p none s ≡ w ∷ []
   from-start w e k =
-      only-one (waysOn p none s) w (rw e (one-from-start ok (twoWays ok.settled) (rw e at own))) (way-on none w k refl)
+      only-one (waysOn p none s) w (rw e (one-from-start ok (twoWays ok.hasStart) (rw e at own))) (way-on none w k refl)
 
   module _ (ne : s ≡ p .start ∷ [] → ⊥) where
     link-in : (b : Simplex) {w : Way} → IsWay p s w → w ≡ link b → Link p b s
@@ -50,7 +50,7 @@ module _ {p : Problem} (ok : Accepted p) (s : Simplex) (h : isPlace p s ≡ true
     pub other-on : (b : Simplex) (v w : Way) → IsWay p s v → IsWay p s w → (v ≡ w → ⊥) → v ≡ link b
         → waysOn p (some b) s ≡ w ∷ []
     other-on b v w kv kw n e = only-one (waysOn p (some b) s) w
-        (one-from ok (twoWays ok.settled) b s (link-in b kv e) own ne)
+        (one-from ok (twoWays ok.hasStart) b s (link-in b kv e) own ne)
         (way-on (some b) w kw (not-back b w (λ q. n (e ∙ sym q))))
 
     pub came-by : (b : Simplex) (v : Way) → IsWay p s v → v ≡ link b → (isPlace p b && linked p b s) ≡ true
@@ -70,11 +70,11 @@ module _ {p : Problem} (ok : Accepted p) (s : Simplex) (h : isPlace p s ≡ true
         let f : (x y : Way) → (x ≡ y → ⊥) → sameWay x y ≡ false = λ x y q. false-of _ (λ z. q (way-sound x y z)) in
         let d : distinct sameWay (v ∷ w ∷ link b ∷ []) ≡ true = rw (f v w n, f v (link b) nv, f w (link b) nw) in
         let d = pigeon onWays (v ∷ w ∷ link b ∷ []) (ways p s) d
-        (λ x m. in-ways p s ok.settled.sameNumber {w = x} (⊎-elim
+        (λ x m. in-ways p s ok.hasStart.sameNumber {w = x} (⊎-elim
         (λ q. rw q kv)
         (λ m. ⊎-elim
         (λ q. rw q kw)
         (λ m. ⊎-elim (λ q. rw q k) (λ m. absurd-bool (sym m)) (in-cases onWays x (link b) [] m))
         (in-cases onWays x w (link b ∷ []) m))
         (in-cases onWays x v (w ∷ link b ∷ []) m))) in
-        omega (arith, d, twoWays ok.settled .other s h own ne))
+        omega (arith, d, twoWays ok.hasStart .other s h own ne))

@@ -59,9 +59,9 @@ module _ {p : Problem} (ok : Accepted p) (y : Point) (o : List ℕ)
 
   pub place-filled : isPlace q s ≡ true
   place-filled =
-      let r = sym (recognised ok.settled y o) ∙ place in
+      let r = sym (recognised ok.hasStart y o) ∙ place in
       let a : Bool = isKept p y o in let b : Bool = within o (labelSet p s) in
-      recognised full.settled y o ∙ and-both _ _ (same-kept ∙ and-left a b r) (in-all onNumbers _ o (λ k m.
+      recognised full.hasStart y o ∙ and-both _ _ (same-kept ∙ and-left a b r) (in-all onNumbers _ o (λ k m.
       let w = labels-mean p s k .0 (all-in onNumbers (λ h. isIn eqb h (labelSet p s)) o (and-right a b r) k m) in
       labels-mean q s k .1 (w .0, (w .1 .0, w .1 .1, filled-label ok w.1.0 (omega (arith, w .1 .2)) ∙ w .1 .2))))
 
@@ -71,7 +71,7 @@ module _ {p : Problem} (ok : Accepted p) (y : Point) (o : List ℕ)
   pub chain : LabelledChain (blocksOf q) (labelOf q) (inT q s) (length o) (at o) (coefficientsOf q s)
   chain = subst
       (λ (r : List ℕ). LabelledChain (blocksOf q) (labelOf q) (inT q s) (length r) (at r) (coefficientsOf q s))
-      order-same (labelledChain-of full.settled s place-filled)
+      order-same (labelledChain-of full.hasStart s place-filled)
 
   first-is : nth s 0 ≡ y
   first-is = go o
@@ -81,7 +81,7 @@ module _ {p : Problem} (ok : Accepted p) (y : Point) (o : List ℕ)
       go (h ∷ r) = refl
 
   some-points : 0 < length s
-  some-points = omega (arith, place-long full.settled s place-filled)
+  some-points = omega (arith, place-long full.hasStart s place-filled)
 
   first-list : listAt (coefficientsOf q s) 0 ≡ coefficientOf q y
   first-list = listAt-map (coefficientOf q) s 0 some-points ∙ ap (coefficientOf q) first-is
@@ -91,7 +91,7 @@ module _ {p : Problem} (ok : Accepted p) (y : Point) (o : List ℕ)
       (at-in onPoints [] s 0 some-points))
 
   is : IsCoefficients q y (coefficients q y)
-  is = coefficientOf-is full.settled y on-grid
+  is = coefficientOf-is full.hasStart y on-grid
 
   pub T-same : (k : ℕ) → inT q s k ≡ isIn eqb k o
   T-same k = both (inT q s k) (isIn eqb k o)
@@ -139,7 +139,7 @@ module _ {p : Problem} (ok : Accepted p) (y : Point) (o : List ℕ)
     pub marks : AllMarks q (length o) (coefficientsOf q s) S
     marks j l = L .marked j l
         ∙ ap (λ (z : Simplex). markOf q (nth z j))
-        (sym (pointsOf-coefficientsOf full.settled s (parts q s place-filled .gridPoints)))
+        (sym (pointsOf-coefficientsOf full.hasStart s (parts q s place-filled .gridPoints)))
         ∙ sym (mark-is full chain j l)
 
 -- a step of a chain is at one index
@@ -156,17 +156,17 @@ module _ {q : Problem} (full : FullyLabelled q) {T : ℕ → Bool} {t : ℕ} {o 
   points = pointsOf q x
 
   described-place : isPlace q points ≡ true
-  described-place = place-of full.settled D.chain
+  described-place = place-of full.hasStart D.chain
 
   long-order : length (order q.grid points) ≡ t
-  long-order = omega (arith, place-long full.settled points described-place, long full.settled D.chain)
+  long-order = omega (arith, place-long full.hasStart points described-place, long full.hasStart D.chain)
 
   own-chain : Chain (blocksOf q) T t (listAt x) (at (order q.grid points))
   own-chain = subst
       (λ (n : ℕ). Chain (blocksOf q) T n (listAt x) (at (order q.grid points)))
       long-order
-      (rw (back-again full.settled D.chain)
-      at (rw (T-is full.settled D.chain) at (labelledChain-of full.settled points described-place .chain)))
+      (rw (back-again full.hasStart D.chain)
+      at (rw (T-is full.hasStart D.chain) at (labelledChain-of full.hasStart points described-place .chain)))
 
   pub order-described : order q.grid points ≡ S .order
   order-described = ext-getD 0 (order q.grid points) S.order (long-order ∙ sym D.orderLength) (λ j l.
@@ -183,4 +183,4 @@ module _ {q : Problem} (full : FullyLabelled q) {T : ℕ → Bool} {t : ℕ} {o 
   first-described = point-is full D 0 (omega arith) ∙ first-of points
 
   pub kept-described : keptBy q S ≡ points
-  kept-described = rw (first-described, ← order-described) (kept-every full.settled points described-place)
+  kept-described = rw (first-described, ← order-described) (kept-every full.hasStart points described-place)

@@ -94,7 +94,7 @@ module _ (w : Walk) (labels : List ℕ) (ok : Accepted (over w labels)) (y : Poi
   long = points-long ok y o place
 
   pub is-start : length o ≡ 0 → s ≡ w .start ∷ []
-  is-start e = single ok.settled s place (omega (arith, long))
+  is-start e = single ok.hasStart s place (omega (arith, long))
 
   pub not-start : (n : ℕ) → length o ≡ suc n → s ≡ w .start ∷ [] → ⊥
   not-start n e z = omega (arith, long, ap length z)
@@ -118,7 +118,7 @@ module _ (w : Walk) (labels : List ℕ) (ok : Accepted (over w labels)) (y : Poi
       go (came k ne) z r = ne (r ∙ is ∙ is-start e)
 
   points-same : pointsOf q (coefficientsOf q s) ≡ s
-  points-same = pointsOf-coefficientsOf (full ok y o place .settled) s
+  points-same = pointsOf-coefficientsOf (full ok y o place .hasStart) s
       (parts q s (place-filled ok y o place) .gridPoints)
 
   described : (t : ℕ) → length o ≡ t → (S : State) → LentPlace p q y o S → Describes q (inT q s) t (at o)
@@ -263,7 +263,7 @@ module _ (w : Walk) (labels : List ℕ) (ok : Accepted (over w labels)) (y : Poi
 
         pub back-unknown : wayMade q (step S') ≡ link b → nextOf w labels ≡ refused 16
         back-unknown z =
-            let g = gap-way ok.settled s place n size i low unknown (full ok y o place) refl (λ x. refl)
+            let g = gap-way ok.hasStart s place n size i low unknown (full ok y o place) refl (λ x. refl)
             chain-p b left-p z in
             gap w labels ok (stands (rw (before, is)
             (came (back s b (record { from = place; to = g .0; by = g .1 })) (not-start n e)))) unknown-place
@@ -276,7 +276,7 @@ module _ (w : Walk) (labels : List ℕ) (ok : Accepted (over w labels)) (y : Poi
             go (came {a = c} {s = t} k ne) z u =
                 let d : c ≡ b = cc in let v : t ≡ s = u ∙ is in
                 let j = back c t k in
-                never (gap-back ok.settled s place n size i low unknown (full ok y o place) refl (λ x. refl) chain-p b
+                never (gap-back ok.hasStart s place n size i low unknown (full ok y o place) refl (λ x. refl) chain-p b
                 (rw d at j.to) (rw (v, d) at j.by) left-p)
 
       -- each point has one

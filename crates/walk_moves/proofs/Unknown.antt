@@ -45,7 +45,7 @@ module _ {p : Problem} (ok : Accepted p) (y : Point) (o : List ℕ)
       ap (labelOf p) (listAt-map (coefficientOf p) s j jl)
       ∙ ap
       (λ (z : Point). indexOf (numIndices p.grid) (label p z))
-      (point-coefficientOf ok.settled (nth s j) (grid-at ok.settled s (parts p s place .gridPoints) j jl))
+      (point-coefficientOf ok.hasStart (nth s j) (grid-at ok.hasStart s (parts p s place .gridPoints) j jl))
 
   index-own : (j k : ℕ) → j ≤ length o → k < numIndices p.grid → label p (nth s j) ≡ suc k
       → labelOf p (listAt (coefficientsOf p s) j) ≡ k
@@ -56,7 +56,7 @@ module _ {p : Problem} (ok : Accepted p) (y : Point) (o : List ℕ)
   pub unknown-only : (n : ℕ) → length o ≡ suc n → (i j : ℕ) → i ≤ suc n → j ≤ suc n → Spare p s o i
       → label p (nth s j) ≡ 0 → j ≡ i
   unknown-only n e i j il jl S z = sym
-      (gap-only ok.settled s place n (ap length (order-same ok y o place) ∙ e) j jl z i il (λ k t.
+      (gap-only ok.hasStart s place n (ap length (order-same ok y o place) ∙ e) j jl z i il (λ k t.
       let m = sym (T-own k) ∙ t in
       let low = T-means p s k .0 t .0 in
       let w = covering ok y o place k m in
@@ -80,7 +80,7 @@ module _ {p : Problem} (ok : Accepted p) (y : Point) (o : List ℕ)
   own-chain : LabelledChain (blocksOf p) (labelOf p) (inT p s) (length o) (at o) (coefficientsOf p s)
   own-chain = subst
       (λ (r : List ℕ). LabelledChain (blocksOf p) (labelOf p) (inT p s) (length r) (at r) (coefficientsOf p s))
-      (order-same ok y o place) (labelledChain-of ok.settled s place)
+      (order-same ok y o place) (labelledChain-of ok.hasStart s place)
 
   pub some-spare : (j : ℕ) × (j ≤ length o) × SpareAt j
   some-spare = ⊎-elim

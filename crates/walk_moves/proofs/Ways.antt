@@ -55,12 +55,13 @@ module _ {q : Problem} (full : FullyLabelled q) where
       → {e : State} {y : List (ℕ → ℕ)} → Reached q x e y
       → IsWay q (pointsOf q x) (link (keptBy q e))
   reached-way {x} C {e} {y} R =
-      let L = of-link full.settled _ (place-of full.settled C) (rw (← back-again full.settled C) at R.link) in
+      let L = of-link full.hasStart _ (place-of full.hasStart C) (rw (← back-again full.hasStart C) at R.link) in
       rw (kept-described full R.describes) (byLink (pointsOf q y) L.0 L.1)
 
   reached-points : {x : List (ℕ → ℕ)} {e : State} {y : List (ℕ → ℕ)} → Reached q x e y
       → coefficientsOf q (keptBy q e) ≡ y
-  reached-points R = ap (coefficientsOf q) (kept-described full R.describes) ∙ back-again full.settled R.describes.chain
+  reached-points R =
+      ap (coefficientsOf q) (kept-described full R.describes) ∙ back-again full.hasStart R.describes.chain
 
   module _ {T : ℕ → Bool} {n : ℕ} {o : ℕ → ℕ} {x : List (ℕ → ℕ)} where
     left-way : {S : State} {i : ℕ} {after : After} → Describes q T (suc n) o x S → Left q T n x S i after
@@ -199,20 +200,20 @@ module _ {q : Problem} (full : FullyLabelled q) where
   reached-fits : {x : List (ℕ → ℕ)} {e : State} {y : List (ℕ → ℕ)} → Reached q x e y
       → (length e.order ≤ 15) × (length e.first ≡ 16)
   reached-fits R = (
-    omega (arith, R .describes .orderLength, few full R.describes.chain, full .settled .sixteenIndices),
+    omega (arith, R .describes .orderLength, few full R.describes.chain, full .hasStart .sixteenIndices),
     R .describes .firstLength,
   )
 
   reached-place : {x : List (ℕ → ℕ)} {e : State} {y : List (ℕ → ℕ)} → Reached q x e y → isPlace q (keptBy q e) ≡ true
-  reached-place R = rw (kept-described full R.describes) (place-of full.settled R.describes.chain)
+  reached-place R = rw (kept-described full R.describes) (place-of full.hasStart R.describes.chain)
 
   reached-masks : {x : List (ℕ → ℕ)} {e : State} {y : List (ℕ → ℕ)} → Reached q x e y
       → ((k : ℕ) → k < 16 → bit e.T k ≡ isIn eqb k (setT q (keptBy q e)))
       × ((k : ℕ) → k < 16 → bit e.U k ≡ isIn eqb k (setU q.grid (keptBy q e)))
   reached-masks {e} {y} R =
       let D = R .describes in (
-        λ k l. rw (kept-described full D) (D .inT k l ∙ sym (ap (λ (t : ℕ → Bool). t k) (T-is full.settled D.chain))),
-        λ k l. rw (kept-described full D) (D .inU k l ∙ sym (in-U full.settled D.chain k)),
+        λ k l. rw (kept-described full D) (D .inT k l ∙ sym (ap (λ (t : ℕ → Bool). t k) (T-is full.hasStart D.chain))),
+        λ k l. rw (kept-described full D) (D .inU k l ∙ sym (in-U full.hasStart D.chain k)),
       )
 
   -- what a move gives, whichever it is
@@ -276,6 +277,6 @@ pub described-masks : {q : Problem} (full : FullyLabelled q) {T : ℕ → Bool} 
     → ((k : ℕ) → k < 16 → bit e.T k ≡ isIn eqb k (setT q (pointsOf q x)))
     × ((k : ℕ) → k < 16 → bit e.U k ≡ isIn eqb k (setU q.grid (pointsOf q x)))
 described-masks full D = (
-  λ k l. D .inT k l ∙ sym (ap (λ (t : ℕ → Bool). t k) (T-is full.settled D.chain)),
-  λ k l. D .inU k l ∙ sym (in-U full.settled D.chain k),
+  λ k l. D .inT k l ∙ sym (ap (λ (t : ℕ → Bool). t k) (T-is full.hasStart D.chain)),
+  λ k l. D .inU k l ∙ sym (in-U full.hasStart D.chain k),
 )

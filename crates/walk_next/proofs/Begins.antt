@@ -75,7 +75,7 @@ module _ (g : GridStruct) (w : WalkStruct) (labels : List ℕ) (made : IsMade g)
 
   pub not-kept-so : holdsPlace (shape g) (w .present) ≡ false → nextOf (walkOn (shape g) w) labels ≡ refused 20
   not-kept-so f = no-place (walkOn (shape g) w) labels ok
-      (false-of _ (λ h. no-empty (tableOn g w labels) ok.settled.someBlock
+      (false-of _ (λ h. no-empty (tableOn g w labels) ok.hasStart.someBlock
       (rw (not-held (shape g) (w .present) f) at h)))
 
   pub kept-rightly : holdsNumbers (g .indices) (w .present) ≡ true → length (w .present .first) ≡ 16 → length

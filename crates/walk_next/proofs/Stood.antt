@@ -88,7 +88,7 @@ module _ {g : GridStruct} {w : WalkStruct} {labels first order : List ℕ} {n : 
     long-o = length-take n order ∙ omega (arith, C .orderLong, C .few)
 
     pub not-kept-place : isKept p y o ≡ false → isPlace p s ≡ false
-    not-kept-place f = recognised ok.settled y o ∙ (rw f)
+    not-kept-place f = recognised ok.hasStart y o ∙ (rw f)
 
     module _ {list marks : List ℕ} {t u : ℕ} (S : Seen p (markOf p) y o list marks t u) where
       -- the points are on the grid, and their labels stand in the marks
@@ -96,7 +96,7 @@ module _ {g : GridStruct} {w : WalkStruct} {labels first order : List ℕ} {n : 
       on-grid j l = kept-on-grid C S.kept j l
 
       label-few : (j : ℕ) → j ≤ n → label p (getD s j []) ≤ 16
-      label-few j l = omega (arith, label-within ok (getD s j []) (on-grid j l), ok .settled .sixteenIndices)
+      label-few j l = omega (arith, label-within ok (getD s j []) (on-grid j l), ok .hasStart .sixteenIndices)
 
       pub label-is : (j : ℕ) → j ≤ n → labelAt marks j ≡ label p (getD s j [])
       label-is j l = ap markLabel (S .marked j (omega (arith, long-o))) ∙ label-in (position (shape g) (getD s j []))
@@ -117,7 +117,7 @@ module _ {g : GridStruct} {w : WalkStruct} {labels first order : List ℕ} {n : 
               (
                 getD s v.1.0 [],
                 at-in onPoints [] s v.1.0
-                    (omega (arith, points-long ok.settled y o (conditions-of p y o S.kept), long-o)),
+                    (omega (arith, points-long ok.hasStart y o (conditions-of p y o S.kept), long-o)),
                 e,
               ),
             )
@@ -128,11 +128,11 @@ module _ {g : GridStruct} {w : WalkStruct} {labels first order : List ℕ} {n : 
               arith,
               ltb-true k (numIndices (shape g))
                   (all-in onNumbers (λ h. ltb h (numIndices (shape g))) o b k m),
-              ok .settled .sixteenIndices,
+              ok .hasStart .sixteenIndices,
             )
 
         pub all-seen : r .seen ≡ t → isPlace p s ≡ true
-        all-seen e = recognised ok.settled y o ∙ and-both _ _ S.kept
+        all-seen e = recognised ok.hasStart y o ∙ and-both _ _ S.kept
             (in-all onNumbers _ o (λ k m. seen-in k (below k m) (ap (λ (x : ℕ). bit x k) e ∙ S .inT k (below k m) ∙ m)))
 
         pub not-all-place : r .seen < 65536 → t < 65536 → (r .seen ≡ t → ⊥) → isPlace p s ≡ false
@@ -140,9 +140,9 @@ module _ {g : GridStruct} {w : WalkStruct} {labels first order : List ℕ} {n : 
             (λ k l. both (bit (r .seen) k) (bit t k) (λ b. P .known k l b .0) (λ b.
             let m = sym (S .inT k l) ∙ b in
             let v = labels-mean p s k .0 (all-in onNumbers (λ h. isIn eqb h (labelSet p s)) o
-            (and-right (isKept p y o) (within o (labelSet p s)) (sym (recognised ok.settled y o) ∙ h)) k m) in
+            (and-right (isKept p y o) (within o (labelSet p s)) (sym (recognised ok.hasStart y o) ∙ h)) k m) in
             let i = in-at onPoints [] v.1.0 s v.1.1 in
-            let il : i .0 ≤ n = omega (arith, i .1, points-long ok.settled y o (conditions-of p y o S.kept), long-o) in
+            let il : i .0 ≤ n = omega (arith, i .1, points-long ok.hasStart y o (conditions-of p y o S.kept), long-o) in
             P .all i.0 k (omega (arith, il)) l (label-is i.0 il ∙ ap (label p) i.2 ∙ v .1 .2) b))))
 
         -- the spare point
@@ -236,7 +236,7 @@ module _ {g : GridStruct} {w : WalkStruct} {labels first order : List ℕ} {n : 
       there = pointsKept g first order n
 
       there-long : length there ≡ suc n
-      there-long = points-long (ok can-see .settled) (take (g .indices) first) (take n order)
+      there-long = points-long (ok can-see .hasStart) (take (g .indices) first) (take n order)
           (conditions-of (tableOn g w labels) (take (g .indices) first) (take n order) S.kept)
           ∙ ap suc (length-take n order ∙ omega (arith, D .orderLong, D .few))
 

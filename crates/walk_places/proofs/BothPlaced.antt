@@ -95,7 +95,7 @@ module _ {p : Problem} (ok : Accepted p) {marking : Point → ℕ} {y : Point} {
   sees =
       ⊎-elim (λ t. R .yes t)
       (λ f. absurd-bool (sym (and-left (isKept p y o) (within o (labelSet p (keptPoints p.grid y o)))
-      (sym (recognised ok.settled y o) ∙ place)) ∙ R .no f))
+      (sym (recognised ok.hasStart y o) ∙ place)) ∙ R .no f))
       (true-or-false (r .is))
 
 module _ {g : GridStruct} {w : WalkStruct} {labels : List ℕ} {next : Place} (made : IsMade g)
@@ -131,7 +131,7 @@ module _ {g : GridStruct} {w : WalkStruct} {labels : List ℕ} {next : Place} (m
   holds : holdsPlace (shape g) (w .present) ≡ true
   holds =
       ⊎-elim (λ t. t)
-      (λ f. absurd (no-empty p ok.settled.someBlock
+      (λ f. absurd (no-empty p ok.hasStart.someBlock
       (subst (λ (s : Simplex). isPlace p s ≡ true) (not-held (shape g) (w .present) f) here-place)))
       (true-or-false (holdsPlace (shape g) (w .present)))
 
@@ -148,7 +148,7 @@ module _ {g : GridStruct} {w : WalkStruct} {labels : List ℕ} {next : Place} (m
   pub place-present : (n : ℕ) → n ≡ pred (w .present .count) → CanPlace g w (w .present .first) (w .present .order) n
   place-present n e = record {
     made = made;
-    start = ok .settled .start;
+    start = ok .hasStart .start;
     few = omega (arith, held-so .0, held-so .1);
     firstLong = ap (λ (b : Place). length (b .first)) (held-so .2) ∙ padded-long _
         (take-few (numIndices (shape g)) (w .present .first) (omega (arith, made-indices g made, m-few)));
@@ -168,16 +168,16 @@ module _ {g : GridStruct} {w : WalkStruct} {labels : List ℕ} {next : Place} (m
   o = order (shape g) there
 
   there-is : keptPoints (shape g) y o ≡ there
-  there-is = kept-every ok.settled there there-place
+  there-is = kept-every ok.hasStart there there-place
 
   there-kept : isPlace p (keptPoints (shape g) y o) ≡ true
   there-kept = rw there-is there-place
 
   there-long : length there ≡ suc (length o)
-  there-long = place-long ok.settled there there-place
+  there-long = place-long ok.hasStart there there-place
 
   o-few : length o ≤ 15
-  o-few = omega (arith, order-short p there there-place, ok .settled .sixteenIndices, ok .settled .someBlock)
+  o-few = omega (arith, order-short p there there-place, ok .hasStart .sixteenIndices, ok .hasStart .someBlock)
 
   y-long : length y ≡ numIndices (shape g)
   y-long = grid-long p y (meets p y o there-kept .onGrid)
@@ -200,7 +200,7 @@ module _ {g : GridStruct} {w : WalkStruct} {labels : List ℕ} {next : Place} (m
   pub place-next : (k : ℕ) → k ≡ pred (next .count) → CanPlace g w (next .first) (next .order) k
   place-next k e = record {
     made = made;
-    start = ok .settled .start;
+    start = ok .hasStart .start;
     few = omega (arith, next-count, o-few);
     firstLong = ap length next-first ∙ padded-long y (omega (arith, y-long, made-indices g made, m-few));
     orderLong = ap length next-order ∙ padded-long o (omega (arith, o-few));
@@ -244,7 +244,7 @@ module _ {g : GridStruct} {w : WalkStruct} {labels : List ℕ} {next : Place} (m
           (arith, place-present n is-n .orderLong, place-present n is-n .few)
 
       from-long : length from ≡ suc n
-      from-long = place-long ok.settled from here-kept ∙ ap (λ (x : List ℕ). suc (length x)) (order-is p z r here-kept)
+      from-long = place-long ok.hasStart from here-kept ∙ ap (λ (x : List ℕ). suc (length x)) (order-is p z r here-kept)
           ∙
           ap suc r-long
 

@@ -47,7 +47,7 @@ module _ {g : GridStruct} {w : WalkStruct} {labels first order : List ℕ} {n : 
     pub can-place : CanPlace g w first order n
     can-place = record {
       made = C .made;
-      start = ok .settled .start;
+      start = ok .hasStart .start;
       few = C .few;
       firstLong = C .firstLong;
       orderLong =
@@ -59,12 +59,12 @@ module _ {g : GridStruct} {w : WalkStruct} {labels first order : List ℕ} {n : 
 
     pub kept-on-grid : isKept p y o ≡ true → (j : ℕ) → j ≤ n → isGridPoint (shape g) (getD s j []) ≡ true
     kept-on-grid h j l = let k = conditions-of p y o h in
-        all-in onPoints (isGridPoint (shape g)) s (points-on ok.settled y o k) (getD s j [])
-        (at-in onPoints [] s j (omega (arith, points-long ok.settled y o k, long-o)))
+        all-in onPoints (isGridPoint (shape g)) s (points-on ok.hasStart y o k) (getD s j [])
+        (at-in onPoints [] s j (omega (arith, points-long ok.hasStart y o k, long-o)))
 
     pub kept-position : isKept p y o ≡ true → (j : ℕ) → j ≤ n → position (shape g) (getD s j []) < numPoints (shape g)
     kept-position h j l = position-in (points (shape g)) (getD s j [])
-        (in-points (shape g) (getD s j []) ok.settled.sameNumber (kept-on-grid h j l))
+        (in-points (shape g) (getD s j []) ok.hasStart.sameNumber (kept-on-grid h j l))
 
     module _ {list marks : List ℕ} {t u : ℕ} (S : Seen p (bareMark (shape g)) y o list marks t u) where
       mark-is : (j : ℕ) → j ≤ n → at marks j ≡ bareMark (shape g) (getD s j [])

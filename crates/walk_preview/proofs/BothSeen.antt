@@ -59,7 +59,7 @@ module _ {g : GridStruct} {w : WalkStruct} {labels : List ℕ} {next : Place} {r
   change-is = rw (C .moves .goes .moves)
 
   few : numIndices (shape g) ≤ 16
-  few = ok (C .made) (C .moves .goes) .settled .sixteenIndices
+  few = ok (C .made) (C .moves .goes) .hasStart .sixteenIndices
 
   come : (x : ℕ) → change p here there .pointsIn ≡ x ∷ [] → otherIn (map (bareMark (shape g)) there)
       (map (bareMark (shape g)) here) ≡ x

@@ -141,12 +141,12 @@ module _ {g : GridStruct} {w : WalkStruct} {labels first order : List ℕ} {n : 
     firstLength = C .sees .firstLong;
     points = rw (ap length refl) (ready-point (full (ok (C .sees)) y o (C .place)) (describes (ok (C .sees)) y o
         (C .place) state lent) (length o) (omega arith));
-    short = omega (arith, m-is, ok (C .sees) .settled .sixteenIndices);
+    short = omega (arith, m-is, ok (C .sees) .hasStart .sixteenIndices);
     low = omega (arith, long-o);
     fits = product (suc (length o) - 0) (g .indices) (omega (arith, long-o, C .sees .few)) (omega (
       arith,
       m-is,
-      ok (C .sees) .settled .sixteenIndices,
+      ok (C .sees) .hasStart .sixteenIndices,
     ));
   }
     where
@@ -159,7 +159,7 @@ module _ {g : GridStruct} {w : WalkStruct} {labels first order : List ℕ} {n : 
   points-here : pointsFrom filled state 0 ≡ here
   points-here =
       all-points (full (ok (C .sees)) y o (C .place)) (describes (ok (C .sees)) y o (C .place) state lent)
-      ∙ pointsOf-coefficientsOf (filled-full (ok (C .sees)) .settled) here (parts filled here (place-filled (ok
+      ∙ pointsOf-coefficientsOf (filled-full (ok (C .sees)) .hasStart) here (parts filled here (place-filled (ok
       (C .sees)) y o (C .place)) .gridPoints)
 
   numbers-here : numbersFrom (g .indices) told 0 ≡ concatMap (λ y. y) here
@@ -188,7 +188,7 @@ module _ (g : GridStruct) (w : WalkStruct) (labels : List ℕ) (made : IsMade g)
   pub no-place-held : holdsNumbers (g .indices) (w .present) ≡ false
       → isPlace (tableOn g w labels) (placeOf (shape g) (w .present)) ≡ false
   no-place-held f = false-of _ (λ h. no-empty (tableOn g w labels) (accepted-of
-      (tableOn g w labels) asked .settled .someBlock)
+      (tableOn g w labels) asked .hasStart .someBlock)
       (subst (λ (s : Simplex). isPlace (tableOn g w labels) s ≡ true) (not-held (shape g) (w .present) (rw (←
       (made-indices g made)) f)) h))
 

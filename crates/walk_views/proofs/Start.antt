@@ -70,7 +70,7 @@ module _ (g : Grid) (v : Point) (labels : List ℕ) (asked : firstNo (tableQuest
   w = startWalk g v (label (p g v labels) v)
 
   parts : (firstNo (gridQuestions g) ≡ 0) × (isGridPoint g v ≡ true)
-  parts = (both-yes (gridQuestions g) _ refl asked .0, accepted-of (p g v labels) asked .settled .start)
+  parts = (both-yes (gridQuestions g) _ refl asked .0, accepted-of (p g v labels) asked .hasStart .start)
 
   pub long : length v ≡ numIndices g
   long = grid-long (p g v labels) v (parts .1)
@@ -129,7 +129,7 @@ module _ (g : GridStruct) (made : IsMade g) (v labels : List ℕ)
       record {
         made = made;
         long = rw e (front-length v (replicate 16 0) (omega (arith, z, short)) ∙ z);
-        onGrid = rw (taken-start y e) (ok .settled .start);
+        onGrid = rw (taken-start y e) (ok .hasStart .start);
         whole = ok .tableLength ∙ sym (made-points g made);
       }
 

@@ -130,7 +130,7 @@ module _ {g : GridStruct} {w : WalkStruct} {labels first list order marks : List
         where
           position-low-of : position p.grid (getD s j []) < numPoints p.grid
           position-low-of = position-in (points p.grid) (getD s j [])
-              (in-points p.grid (getD s j []) ok.settled.sameNumber
+              (in-points p.grid (getD s j []) ok.hasStart.sameNumber
               (all-in onPoints (isGridPoint p.grid) s (parts p s S.place .gridPoints) (getD s j [])
               (at-in onPoints [] s j (omega (arith, points-long ok y o S.place, long-o)))))
 
@@ -214,7 +214,7 @@ module _ {g : GridStruct} {w : WalkStruct} {labels first list order marks : List
           ready = R .ready;
         },
         can-try,
-        omega (arith, m-is, ok .settled .sixteenIndices),
+        omega (arith, m-is, ok .hasStart .sixteenIndices),
       )
 
       can-put : (from : ℕ) → from ≤ n → CanPut told-state (g .indices) from 256
@@ -223,10 +223,10 @@ module _ {g : GridStruct} {w : WalkStruct} {labels first list order marks : List
         firstLength = S .firstLong;
         points = rw (ap length refl) (ready-point (full ok y o S.place) (describes ok y o S.place a (lent rule))
             (length o) (omega arith));
-        short = omega (arith, m-is, ok .settled .sixteenIndices);
+        short = omega (arith, m-is, ok .hasStart .sixteenIndices);
         low = omega (arith, long-o);
         fits = product (suc (length o) - from) (g .indices) (omega (arith, long-o, S .few))
-            (omega (arith, m-is, ok .settled .sixteenIndices));
+            (omega (arith, m-is, ok .hasStart .sixteenIndices));
       }
         where
           product : (x m : ℕ) → x ≤ 16 → m ≤ 16 → x * m ≤ 256
@@ -266,7 +266,7 @@ module _ {g : GridStruct} {w : WalkStruct} {labels first list order marks : List
               let t : take (length (e .order)) (e .order) ≡ e .order = take-whole (e .order) in (
                 keptBy q e,
                 rw same (rw m-is (kept-before (shape g) (e .first) (e .order) (length (e .order))
-                    (ok .settled .sixteenIndices) (f .0) (f .1) (omega arith))) ∙ ap
+                    (ok .hasStart .sixteenIndices) (f .0) (f .1) (omega arith))) ∙ ap
                     (λ (r : List ℕ). some (keptPoints (shape g) (take (numIndices (shape g)) (e .first)) r)) t,
                 refl,
               )
@@ -291,14 +291,14 @@ module _ {g : GridStruct} {w : WalkStruct} {labels first list order marks : List
               let t : take (length (e .order)) (e .order) ≡ e .order = take-whole (e .order) in
               let k : keptBy q e ≡ b = cc in
               let c : w .before ≡ keptAs (numIndices (shape g)) (e .first) (e .order) (length (e .order)) =
-              held-once q (filled-full ok .settled) (w .before) long (e .first) (e .order) (length (e .order))
+              held-once q (filled-full ok .hasStart) (w .before) long (e .first) (e .order) (length (e .order))
               (ap length t) (rw t (f .2)) (rw t (held-b ∙ sym k)) in
               absurd-bool (sym (place-same (keptAs (g .indices) (e .first) (e .order) (length (e .order))) (w .before)
               (rw m-is (sym c))) ∙ z)
 
       -- what is told of it is what comes next
       points-here : pointsOf q (coefficientsOf q s) ≡ s
-      points-here = pointsOf-coefficientsOf (filled-full ok .settled) s
+      points-here = pointsOf-coefficientsOf (filled-full ok .hasStart) s
           (parts q s (place-filled ok y o S.place) .gridPoints)
 
       masks : ((k : ℕ) → k < 16 → bit t k ≡ isIn eqb k (setT p s)) ×
@@ -316,7 +316,7 @@ module _ {g : GridStruct} {w : WalkStruct} {labels first list order marks : List
           let f = R .fits .moves e x in
           let b = calls-hold walk labels .rule (ruleOf p (walk .present) (keptBy q e)) (rw z) in
           let c : ByRule (change p (walk .present) (keptBy q e)) (ruleOf p (walk .present) (keptBy q e)) = rw z at b in
-          let few = ok .settled .sixteenIndices in
+          let few = ok .hasStart .sixteenIndices in
           rule-told p (walk .present) (keptBy q e)
           (maskT p few _ t (λ k l. rw S.present (masks .0 k l)))
           (maskT p few _ (e .T) (λ k l. f .3 k l ∙ ap (λ (r : List ℕ). isIn eqb k r)
@@ -336,7 +336,7 @@ module _ {g : GridStruct} {w : WalkStruct} {labels first list order marks : List
           let c : stored (shape g) (keptBy q e) ≡ keptAs (g .indices) (e .first) (e .order) (length (e .order)) =
           rw m-is (ap (λ (r : List ℕ). stored (shape g)
           (keptPoints (shape g) (take (numIndices (shape g)) (e .first)) r)) (sym t)
-          ∙ stored-kept q (filled-full ok .settled) (e .first) (e .order) (length (e .order)) (ap length t)
+          ∙ stored-kept q (filled-full ok .hasStart) (e .first) (e .order) (length (e .order)) (ap length t)
           (rw t (f .2))) in
           rw (z, ← rule-is e x z, c)
 

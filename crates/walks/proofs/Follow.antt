@@ -82,7 +82,7 @@ module _ {p : Problem} (ok : Accepted p) where
   ways-at i c = only-list onWays (link (here (suc i))) (waysOn p (leftAt visited i) (here i))
       (omega (arith, follows .one i (omega arith) (follows .follows .known i c)))
       (in-filter onWays (λ w. not (isBack (leftAt visited i) w)) (link (here (suc i))) (ways p (here i))
-      (in-ways p (here i) ok.settled.sameNumber
+      (in-ways p (here i) ok.hasStart.sameNumber
       (byLink (here (suc i)) (follows .follows .places (suc i) c) (follows .follows .links i c)))
       (rw (onward-at i c)))
 
@@ -209,7 +209,7 @@ module _ {p : Problem} (ok : Accepted p) where
         (in-filter onWays
         (λ w. not (isBack (some (here (suc (suc i)))) w))
         (link (here i)) (ways p (here (suc i)))
-        (in-ways p (here (suc i)) ok.settled.sameNumber (byLink (here i) l.to l.by)) (rw away))
+        (in-ways p (here (suc i)) ok.hasStart.sameNumber (byLink (here i) l.to l.by)) (rw away))
 
     moves-back : moveWalk (facingBack p (suc i) n read) p.labels
         ≡ facingBack p i (suc n) (read + cond (pointCameIn (here (suc i)) (here i)) 1 0)

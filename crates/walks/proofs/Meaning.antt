@@ -145,5 +145,5 @@ module _ (w : Walk) (labels : List ℕ) where
   one-way-on k = go k.stands.came k.known
     where
       go : {l : Option Simplex} {s : Simplex} → Came p l s → allLabelled p s ≡ true → length (waysOn p l s) ≡ 1
-      go begins own = one-from-start k.accepted (twoWays k.accepted.settled) own
-      go (came {a} {s} j ne) own = one-from k.accepted (twoWays k.accepted.settled) a s j own ne
+      go begins own = one-from-start k.accepted (twoWays k.accepted.hasStart) own
+      go (came {a} {s} j ne) own = one-from k.accepted (twoWays k.accepted.hasStart) a s j own ne

@@ -104,7 +104,7 @@ module _ (w : Walk) (labels : List ℕ) where
   by-rule s e =
       let k = moved-passes s e in
       let j = k .1 .joins in
-      let b = rule-of-link k.0.accepted.settled w.present s j.from j.to k.0.known j.by in
+      let b = rule-of-link k.0.accepted.hasStart w.present s j.from j.to k.0.known j.by in
       rw (rules-are b.1) (b .1)
 
   moved-rule : (r : ℕ) → moveAnswer w labels ≡ moved r → ByRule (change p w.present (moveWalk w labels .present)) r
@@ -249,8 +249,8 @@ one-origin ok (came k ne) begins own a b = absurd (ne refl)
 one-origin {p} ok {s = s} (came {a = x} {s = here} k ne) (came {a = y} j _) own a b = ⊎-elim
     (λ e. ap (λ (z : Simplex). some z) e)
     (λ e. ⊎-elim (λ e. absurd (apart x e a.away)) (λ e. absurd (apart y e b.away)) e)
-    (among-two x y s (links p here) (omega (arith, length-ways p here, twoWays ok.settled .other here k.to own ne))
-    (in-links ok.settled (back x here k)) (in-links ok.settled (back y here j)) (in-links ok.settled a.joins))
+    (among-two x y s (links p here) (omega (arith, length-ways p here, twoWays ok.hasStart .other here k.to own ne))
+    (in-links ok.hasStart (back x here k)) (in-links ok.hasStart (back y here j)) (in-links ok.hasStart a.joins))
   where
     apart : (z : Simplex) → z ≡ s → sameSimplex z s ≡ false → ⊥
     apart z e f = absurd-bool (sym (simplex-self s) ∙ (rw e at f))

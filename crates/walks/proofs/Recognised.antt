@@ -25,7 +25,7 @@ use Rattle.path_laws.proofs.LinkSymmetry.{parts}
 use Rattle.path_laws.proofs.Local.{unlabelled-same}
 use Rattle.path_laws.proofs.Meaning.{index-means, labels-mean, U-means}
 use Rattle.path_laws.specs.Demand.{HasStart}
-use Rattle.trail.proofs.Tables.{Names, settled-with, some-index, some-table, table, table-labels}
+use Rattle.trail.proofs.Tables.{Names, has-start-with, some-index, some-table, table, table-labels}
 use Rattle.walks.proofs.KeptForm.{back-same, grid-long, labelled, meets, order-is}
 use Rattle.walks.proofs.KeptPlace.{Conditions, at-stepped, conditions-of, distinct-points, is-zero, kept-place}
 use Rattle.walks.proofs.KeptPlace.{length-stepped, points-long, points-on, zero-is}
@@ -87,7 +87,7 @@ module _ {p : Problem} (ok : HasStart p) (y : Point) (o : List ℕ) (k : Conditi
   unfolding isPlace
   shape =
       let q = withLabels p (table p.grid s ls) in
-      let okq = settled-with ok (table p.grid s ls) in
+      let okq = has-start-with ok (table p.grid s ls) in
       let kq = conditions-of q y o (kept-same-labels p (table p.grid s ls) y o ∙ of-conditions p y o k) in
       let e : map (label q) s ≡ ls = table-labels ok s (points-on ok y o k) (distinct-points ok y o k) ls
       (ap suc (length-map o suc) ∙ sym (points-long ok y o k)) names in

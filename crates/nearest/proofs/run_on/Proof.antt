@@ -86,7 +86,7 @@ announced-requires c κs =
         accepted = ok .0;
         room = ok .1;
       },
-      (y .0, ok .0 .settled .points),
+      (y .0, ok .0 .hasStart .points),
     )
 
 -- what the walk reported
@@ -140,7 +140,7 @@ put-list-requires c κs =
     let y = yes (r .before) in
     let n = listed r (c .before .before .before .near .given .1) in
     let few = listed-few (y .1) (a .w .now) (y .0) (a .given) (answer p (a .budget)) in
-    (omega (arith, n, few, y .2), omega (arith, n, few, y .1 .settled .points))
+    (omega (arith, n, few, y .2), omega (arith, n, few, y .1 .hasStart .points))
 
 enum-told : tie.Need-enum-told
 enum-told c = search needs

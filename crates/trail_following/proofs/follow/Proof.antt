@@ -119,7 +119,7 @@ some c =
 few : (c : At) → count c ≤ 15
 few c =
     let H = some c .2 in
-    omega (arith, c .before .before .before .loop .inv .1, H .shows .orderLength, shows-few (H .settled) (H .shows))
+    omega (arith, c .before .before .before .loop .inv .1, H .shows .orderLength, shows-few (H .hasStart) (H .shows))
 
 said-at-requires : tie.Need-said-at-requires Inv-loop μ-loop
 said-at-requires c κs = (
@@ -174,10 +174,10 @@ moved-by-requires c κs =
         record {
           each = p .before .before .before .loop .inv .0;
           few = few p;
-          orderBelow = order-low (H .settled) (H .shows);
+          orderBelow = order-low (H .hasStart) (H .shows);
         },
       ),
-      way-ready (H .settled) (H .shows) (bytesOn p) (count p) (counted p H) (n .said-at .result .way) (way-is n),
+      way-ready (H .hasStart) (H .shows) (bytesOn p) (count p) (counted p H) (n .said-at .result .way) (way-is n),
     )
 
 -- the move is made
@@ -202,11 +202,11 @@ given c o =
 -- what the way leads to
 leads : (c : Made) (o : Outcome) → c .moved-by .result ≡ o → {start : List ℕ} {a : Simplex}
     (H : Holds (place c) start a)
-    → WayLeads (H .settled) (H .shows) (bytesOn (place c)) (count (place c)) (counted (place c) H) (gone c) (given c o)
+    → WayLeads (H .hasStart) (H .shows) (bytesOn (place c)) (count (place c)) (counted (place c) H) (gone c) (given c o)
 leads c o e H =
-    subst (WayLeads (H .settled) (H .shows) (bytesOn (place c)) (count (place c)) (counted (place c) H) (gone c))
+    subst (WayLeads (H .hasStart) (H .shows) (bytesOn (place c)) (count (place c)) (counted (place c) H) (gone c))
     (sym (c .moved-by .ensures .after) ∙ ap (given c) e)
-    (way-leads (H .settled) (H .shows) (bytesOn (place c)) (count (place c)) (counted (place c) H)
+    (way-leads (H .hasStart) (H .shows) (bytesOn (place c)) (count (place c)) (counted (place c) H)
     (named c .said-at .result .way) (way-is (named c)))
 
 -- where no record leads on, all lead nowhere
@@ -271,7 +271,7 @@ arrives : (c : Gone) {start : List ℕ} {a : Simplex} (H : Holds (place (made c)
     × Arrives (problemBy (begun (place (made c)) .args .g) start) a b
     (let last = made c .moved-by .last .1 .1 .1 in
     stateOf (round (place (made c))) (last .0) (last .1 .0) (last .1 .1 .0) (last .1 .1 .1 .0) (status c))
-    × OnlyPlace (H .settled) (H .shows) (bytesOn (place (made c))) (count (place (made c)))
+    × OnlyPlace (H .hasStart) (H .shows) (bytesOn (place (made c))) (count (place (made c)))
     (counted (place (made c)) H) b
     × ((x : ℕ) → change (problemBy (begun (place (made c)) .args .g) start) a b .pointsOut ≡ x ∷ [] → gone (made c) ≡ x)
 arrives c H =
@@ -289,7 +289,7 @@ arrive-requires c κs =
     let K = arrives c H in
     let last = m .moved-by .last .1 .1 .1 in
     let each = m .moved-by .ensures .each in
-    let long = only-long (H .settled) (H .shows) (bytesOn p) (count p) (counted p H) (K .2) in (
+    let long = only-long (H .hasStart) (H .shows) (bytesOn p) (count p) (counted p H) (K .2) in (
       (
         w .measured,
         can-find (a .g) (w .measured .made) _ (a .tails .now) H (a .trail .now) (at p) (count p) (counted p H)
@@ -437,7 +437,7 @@ loop-again c =
           let v = l .inv .3 start a H in
           let N = next d yes (v .1) in (
             N .0 .next,
-            record { settled = v .1 .settled; shows = N .0 .shows; sums = v .1 .sums },
+            record { hasStart = v .1 .hasStart; shows = N .0 .shows; sums = v .1 .sums },
             led-on (problemBy (begun p .args .g) start) a _ number (v .2) (omega (arith, test, l .inv .5))
                 (N .0 .next) _ (N .0 .reads) k (sym (N .1)) total,
           ),

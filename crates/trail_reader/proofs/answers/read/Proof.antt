@@ -11,7 +11,7 @@ use Rattle.grid_points.specs.Grid.{Grid}
 use Rattle.place.specs.Problem.{Problem, problemOf}
 use Rattle.trail_steps.specs.Reading.{problemBy}
 use Rattle.trail_reader.specs.Reading.{readAnswer, readPoints}
-use Rattle.trail_reader.proofs.Rebuilt.{by-grid, by-number, by-start, read-so, settled-by}
+use Rattle.trail_reader.proofs.Rebuilt.{by-grid, by-number, by-start, read-so, has-start-by}
 use Rattle.trail_reader.proofs.answers.read.Statement.{statement}
 use Rattle.trail_reader.proofs.answers.read.Tie as tie
 
@@ -68,7 +68,7 @@ read-on-requires c κs =
     (c .before .before .before .before .new .ensures) (c .before .before .if1 .left) in
     record {
       made = made;
-      settled = settled-by (c .before .before .before .before .new .result .grid) made (a .start .now)
+      hasStart = has-start-by (c .before .before .before .before .new .result .grid) made (a .start .now)
           (sym (c .before .is-grid-point .ensures) ∙ not-false _ (c .if2 .left));
     }
 

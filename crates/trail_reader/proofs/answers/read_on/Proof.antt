@@ -40,7 +40,7 @@ padded-requires c κs = (
     start-long (c .before .before .before .before .before .before .before .before .args .g)
         (c .before .before .before .before .before .before .before .before .pre .made)
         (c .before .before .before .before .before .before .before .before .args .start .now)
-        (c .before .before .before .before .before .before .before .before .pre .settled),
+        (c .before .before .before .before .before .before .before .before .pre .hasStart),
   ),
   indices-few (c .before .before .before .before .before .before .before .before .args .g)
       (c .before .before .before .before .before .before .before .before .pre .made),
@@ -54,7 +54,7 @@ rebuilt-requires c κs =
     .before .before .before .before .before .before .pre .made in
     let taken = start-taken (a .g) made (a .start .now)
     (c .before .before .before .before .before .before .before .before
-    .before .before .before .before .before .before .pre .settled)
+    .before .before .before .before .before .before .pre .hasStart)
     (c .before .before .before .before .before .padded .result)
     (c .before .before .before .before .before .padded .ensures) in (
       record {
@@ -69,14 +69,14 @@ rebuilt-requires c κs =
             (c .before .before .before .before .before .before .before .before .block-sizes .result);
         firstLength = first-long (a .g) made (a .start .now)
             (c .before .before .before .before .before .before .before .before
-            .before .before .before .before .before .before .pre .settled)
+            .before .before .before .before .before .before .pre .hasStart)
             (c .before .before .before .before .before .padded .result)
             (c .before .before .before .before .before .padded .ensures);
-        settled = subst
+        hasStart = subst
             (λ (s : List ℕ). HasStart (problemBy (a .g) s))
             (sym taken)
             (c .before .before .before .before .before .before .before .before
-            .before .before .before .before .before .before .pre .settled);
+            .before .before .before .before .before .before .pre .hasStart);
       },
       omega (
         arith,
@@ -95,7 +95,7 @@ returns-2 c =
     .before .before .before .before .before .before .before .pre .made)
     (a .start .now)
     (c .before .before .before .before .before .before .before .before
-    .before .before .before .before .before .before .before .pre .settled)
+    .before .before .before .before .before .before .before .pre .hasStart)
     (c .before .before .before .before .before .before .padded .result)
     (c .before .before .before .before .before .before .padded .ensures))
     (c .rebuilt .ensures)

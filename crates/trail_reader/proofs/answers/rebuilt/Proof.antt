@@ -29,7 +29,7 @@ tails-requires c κs = let s = c .before .before .before .before in indices-few 
 start-position-requires : tie.Need-start-position-requires
 start-position-requires c κs =
     let w = c .before .before .before .before .before .before .pre .0 in
-    record { measured = w .measured; firstLength = w .firstLength; settled = w .settled }
+    record { measured = w .measured; firstLength = w .firstLength; hasStart = w .hasStart }
 
 first-stands-requires : tie.Need-first-stands-requires
 first-stands-requires c κs = c .start-position .ensures .1
@@ -70,7 +70,7 @@ held c =
     let begun = c .before .before .before .before .before .begin in
     let tails = c .before .before .before .tails in
     let position = c .before .start-position in
-    v-read (a .g) (w .measured .made) (a .first .now) (w .settled) (a .previous .now) (a .next .now) (a .sizes .now)
+    v-read (a .g) (w .measured .made) (a .first .now) (w .hasStart) (a .previous .now) (a .next .now) (a .sizes .now)
     (replicate 16 0) (w .isRound) (w .firstLength) (begun .result) (begun .ensures) (tails .result) (tails .ensures)
     (position .result) (position .ensures .0)
 
@@ -141,14 +141,14 @@ placed-requires c κs =
     let R = (rw (c .before .before .before .reached .given .1)
     at (c .before .before .before .before .before .follow .ensures))
     (start v) (start v ∷ []) (held v) in
-    let C = computes (w .settled) (R .shows) in (
+    let C = computes (w .hasStart) (R .shows) in (
       record {
         below = w .below .backward;
         firstLength = R .shows .firstLength;
         points = record { low = C .low; few = C .few; indices = C .indices; positive = C .positive; fits = C .fits };
         short = few;
         low = omega arith;
-        fits = rw minus-none (few-numbers (w .settled) (R .shows) (a .g .indices) few);
+        fits = rw minus-none (few-numbers (w .hasStart) (R .shows) (a .g .indices) few);
       },
       R .many,
     )
@@ -174,7 +174,7 @@ returns-2 c =
     let R = (rw (c .before .before .before .before .reached .given .1) at (followed .ensures)) (start v) (start v ∷ [])
     (held v) in
     let there = reads-place (problem v) trail (a .number) (s .pre .1) yes (R .place) (R .is) _ (R .brought) in
-    reads-by (a .g) (w .measured .made) (start v) trail (a .number) (w .settled) (R .place) (a .previous .now)
+    reads-by (a .g) (w .measured .made) (start v) trail (a .number) (w .hasStart) (R .place) (a .previous .now)
     (a .next .now) (a .sizes .now) (last .0) (last .1 .0) (last .1 .1 .0) (last .1 .1 .1 .0)
     (c .before .before .before .before .reached .given .0 .0) _ (R .shows) (c .placed .result) (c .placed .ensures)
     there

@@ -16,7 +16,7 @@ position-requires c κs =
     let few = indices-few (a .g) (w .measured .made) in
     let stays = none-after (a .first .now) (a .g .indices) few (omega (arith, few, w .firstLength)) in (
       (w .measured .made, w .measured .filled),
-      (none-can (a .first .now) (a .g .indices) few, ap (isGridPoint (shape (a .g))) stays ∙ w .settled .start),
+      (none-can (a .first .now) (a .g .indices) few, ap (isGridPoint (shape (a .g))) stays ∙ w .hasStart .start),
     )
 
 returns : tie.Need-returns
@@ -26,7 +26,7 @@ returns c =
     let few = indices-few (a .g) (w .measured .made) in
     let stays = none-after (a .first .now) (a .g .indices) few (omega (arith, few, w .firstLength)) in
     let e = c .position .ensures ∙ ap (position (shape (a .g))) stays in
-    (e, omega (arith, e, position-low (w .settled) _ (w .settled .start)))
+    (e, omega (arith, e, position-low (w .hasStart) _ (w .hasStart .start)))
 
 pub start-position-spec : {M : Type 1} → statement M
 start-position-spec = tie.close (tie.spec position-requires returns)
