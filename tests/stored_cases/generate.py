@@ -16,8 +16,8 @@ HERE = pathlib.Path(__file__).resolve().parent
 CRATES = HERE.parent.parent / "crates"
 
 
-def cases():
-    text = "".join(p.read_text() for p in sorted(HERE.glob("*.txt")))
+def cases(folder):
+    text = "".join(p.read_text() for p in sorted(folder.glob("*.txt")))
     for block in re.split(r"^(?=call )", text, flags=re.M)[1:]:
         head, expect = block.split("expect\n", 1)
         fields = dict(line.partition(" ")[::2] for line in head.splitlines())
@@ -236,7 +236,12 @@ def boundary_case(fields, expect):
     return on_grid(fields) + listed(numbers(fields["labels"])) + word(room), f"{answer}\n" + runs("buffer", buffer)
 
 
-everything = list(cases())
+def grid_case(fields, expect):
+    """A grid of its sizes and divisions, and a point, whose position is asked for unless it has no numbers."""
+    return lent(fields, "sizes", "d", "point"), expect
+
+
+everything = list(cases(HERE))
 
 
 def called(call):
@@ -253,4 +258,5 @@ written, read = called("run-with-trail"), called("read-trail")
 write("trail_cases", "call", [write_trail_case(*case) for case in written] + [read_trail_case(*case) for case in read])
 write("refine_cases", "refinement", [refine_case(*case) for case in called("refine")])
 write("shelf_cases", "case", [shelf_case(*case) for case in called("shelf")])
+write("grid_cases", "grid", [grid_case(*case) for case in cases(HERE / "grids")])
 walks.write()

@@ -1,0 +1,58 @@
+-- `grid_cases::main` is safe and ends. The invariant: no more grids than there are. Assumes nothing.
+use Prim.Native.Nat.{_≤_, _-_}
+use borrow.Author.Needs.{needs}
+use Rattle.grid_cases.proofs.main.Statement.{statement}
+use Rattle.grid_cases.proofs.main.Tie as tie
+
+abbrev Inv-loop : tie.InvT-loop
+Inv-loop grids k₀ t3 k = (k ≤ grids) × (grids ≤ 65535)
+
+abbrev μ-loop : tie.MeasureT-loop
+μ-loop grids k₀ t3 k = grids - k
+
+word-requires : tie.Need-word-requires Inv-loop μ-loop
+word-requires c κs = search needs
+
+cast-grids : tie.Need-cast-grids Inv-loop μ-loop
+cast-grids c = search needs
+
+loop-holds : tie.Need-loop-holds Inv-loop μ-loop
+loop-holds c = search needs
+
+add-k : tie.Need-add-k Inv-loop μ-loop
+add-k c = search needs
+
+slice-aggregate-show : tie.Need-slice-aggregate-show Inv-loop μ-loop
+slice-aggregate-show c = search needs
+
+show-requires : tie.Need-show-requires Inv-loop μ-loop
+show-requires c κs = search needs
+
+show-next-requires : tie.Need-show-next-requires Inv-loop μ-loop
+show-next-requires c κs = search needs
+
+loop-less : tie.Need-loop-less Inv-loop μ-loop
+loop-less c = search needs
+
+loop-again : tie.Need-loop-again Inv-loop μ-loop
+loop-again c = search needs
+
+returns : tie.Need-returns Inv-loop μ-loop
+returns c = search needs
+
+pub main-spec : {M : Type 1} → statement M
+main-spec =
+    tie.close
+    (tie.spec
+    Inv-loop
+    μ-loop
+    word-requires
+    cast-grids
+    loop-holds
+    add-k
+    slice-aggregate-show
+    show-requires
+    show-next-requires
+    loop-less
+    loop-again
+    returns)
