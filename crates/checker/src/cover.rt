@@ -21,6 +21,7 @@ use arrays::zeros;
 use grid::Grid;
 use grid::wide;
 use label_table::read_at;
+use positions::ENTRIES;
 
 // The set with the index that a label names; 0 names none.
 fn with_label(set: u16, label: u8) -> u16
@@ -35,7 +36,7 @@ fn with_label(set: u16, label: u8) -> u16
 }
 
 // The label of a grid point, which stands at the front; its position is the one to which no steps lead.
-fn label_at(g: Grid, binomials: &[u16; 1255], labels: &[u8], y: &[u16; 16]) -> u8
+fn label_at(g: Grid, binomials: &[u16; ENTRIES], labels: &[u8], y: &[u16; 16]) -> u8
     requires { ⌜ IsMade g × HasBinomials (shape g) (now binomials) ⌝ }
     requires { ⌜ Labelled g (now labels) × (isGridPoint (shape g) (take (g .indices) (now y)) ≡ true) ⌝ }
     ensures { λ r. ⌜ (r ≡ label (labelledBy (shape g) (now (labels .entry))) (take (g .indices) (now (y .entry))))
@@ -49,7 +50,7 @@ fn label_at(g: Grid, binomials: &[u16; 1255], labels: &[u8], y: &[u16; 16]) -> u
 // The points are taken from the last to the first.
 pub fn covered(
     g: Grid,
-    binomials: &[u16; 1255],
+    binomials: &[u16; ENTRIES],
     labels: &[u8],
     numbers: &[u16],
     count: usize,

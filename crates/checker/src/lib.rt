@@ -8,6 +8,7 @@ ghost use Rattle.chains.specs.Listed.{listed, Listed};
 ghost use Rattle.checker.specs.Check.{checkCase, checkAnswer};
 ghost use Rattle.checker.specs.Covered.{Labelled};
 use grid::Grid;
+use positions::ENTRIES;
 
 mod cover;
 mod refusals;
@@ -30,7 +31,7 @@ fn judged(g: Grid, labels: &[u8], numbers: &[u16], count: usize) -> Answer
     if !chains::one_chain(g, numbers, count) {
         return Answer::No;
     }
-    let mut binomials = [0u16; 1255];
+    let mut binomials = [0u16; ENTRIES];
     positions::binomials(g, &mut binomials);
     let covered = cover::covered(g, &binomials, labels, numbers, count);
     cover::first_whole(g, covered)
