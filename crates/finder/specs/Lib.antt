@@ -1,3 +1,4 @@
 pub mod Run
 pub mod Asked
 pub mod Demand
+pub mod Finishes

@@ -1,7 +1,9 @@
 // The run on a label table: the customer's call.
+ghost use mathlib.Core.List.{[]};
 ghost use mathlib.Core.Path.{_≡_};
 ghost use Prim.Native.Nat.{suc, _<_};
 ghost use lib.ListN.{length};
+ghost use Rattle.arrays.specs.Rounds.{roundBack, roundOf};
 ghost use Rattle.combinatorics.specs.Front.{front};
 ghost use Rattle.questions.specs.Questions.{firstNo};
 ghost use Rattle.grid_points.specs.Grid.{blockOf};
@@ -10,6 +12,7 @@ ghost use Rattle.place.specs.Path.{Answer as PathAnswer, answer as answerOf};
 ghost use Rattle.place.specs.Problem.{problemOf};
 ghost use Rattle.marks.specs.Reading.{problemFrom};
 ghost use Rattle.finder.specs.Asked.{CanRun, laterRunQuestions};
+ghost use Rattle.finder.specs.Finishes.{CanAnnounce, caseAt, numbersAt};
 ghost use Rattle.path_walk.specs.Finish.{firstPointOf};
 ghost use Rattle.finder.specs.Run.{caseOf, numbersOf, runAnswer, runBuffer};
 use arrays::block_sizes;
@@ -45,7 +48,7 @@ pub enum Answer {
 }
 
 // The number, from 1, of the block of index h.
-pub fn block_number(g: Grid, h: usize) -> u8
+fn block_number(g: Grid, h: usize) -> u8
     requires { ⌜ IsMade g × (h < g .indices) ⌝ }
     ensures { λ r. ⌜ r ≡ suc (blockOf (shape g) h) ⌝ }
 {
@@ -54,7 +57,7 @@ pub fn block_number(g: Grid, h: usize) -> u8
 }
 
 // The number of the first point of the complete simplex: a facet end leaves out the first point of its place.
-pub fn first_vertex(kind: Kind) -> usize
+fn first_vertex(kind: Kind) -> usize
     ensures { λ r. ⌜ r ≡ firstPointOf kind ⌝ }
 {
     match kind {
@@ -63,8 +66,58 @@ pub fn first_vertex(kind: Kind) -> usize
     }
 }
 
+// Where a walk finished, announced: the answer, and at an end its vertices at the front of the buffer.
+pub fn announce(
+    g: Grid,
+    previous: &[u8; 16],
+    sizes: &[u8; 16],
+    first: &[u16; 16],
+    order: &[u32; 16],
+    finish: Finish,
+    answer: &mut [u16],
+    budget: u64,
+) -> Answer
+    requires { ⌜ CanAnnounce g (roundBack previous sizes) (now first) (now order) (length (now answer)) finish ⌝ }
+    ensures { λ r. ⌜ r ≡ caseAt g budget finish ⌝ }
+    ensures { λ _. ⌜ now (answer .exit) ≡ front (numbersAt (g .indices)
+        (roundOf (now (previous .entry)) [] (now (sizes .entry))) (now (first .entry)) (now (order .entry)) finish)
+        (now (answer .entry)) ⌝ }
+{
+    match finish {
+        Finish::Spent => Answer::Spent(budget),
+        Finish::Unknown { places, position } => Answer::Unknown { places, position },
+        Finish::Ended {
+            kind,
+            places,
+            index,
+            status,
+            labels_read,
+        } => {
+            let block = block_number(g, index);
+            let from = first_vertex(kind);
+            let vertices = put_points(
+                answer,
+                previous,
+                sizes,
+                first,
+                order,
+                status,
+                g.indices,
+                from,
+            );
+            Answer::End {
+                places,
+                labels_read,
+                kind,
+                block,
+                vertices,
+            }
+        }
+    }
+}
+
 // The walk along the path of an accepted table, and its answer: the run behind all its questions. A refinement calls it
-// too, which has asked them of its levels, and so does the report of where the path came nearest.
+// too, which has asked them of its levels.
 pub fn announced(
     g: Grid,
     binomials: &[u16; ENTRIES],
@@ -96,28 +149,7 @@ pub fn announced(
         &mut order,
         budget,
     );
-    match finish {
-        Finish::Spent => Answer::Spent(budget),
-        Finish::Unknown { places, position } => Answer::Unknown { places, position },
-        Finish::Ended {
-            kind,
-            places,
-            index,
-            status,
-            labels_read,
-        } => {
-            let block = block_number(g, index);
-            let from = first_vertex(kind);
-            let vertices = put_points(answer, &previous, &sizes, &first, &order, status, m, from);
-            Answer::End {
-                places,
-                labels_read,
-                kind,
-                block,
-                vertices,
-            }
-        }
-    }
+    announce(g, &previous, &sizes, &first, &order, finish, answer, budget)
 }
 
 // Questions 5 to 8, on a grid that is accepted: the number of the first that is answered no, or 0.

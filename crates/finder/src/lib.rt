@@ -2,9 +2,8 @@
 mod answers;
 
 pub use answers::Answer;
+pub use answers::announce;
 pub use answers::announced;
-pub use answers::block_number;
 pub use answers::first_no;
-pub use answers::first_vertex;
 pub use answers::run;
 pub use answers::run_on;

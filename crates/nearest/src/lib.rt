@@ -13,18 +13,18 @@ ghost use Rattle.place.specs.Path.{Answer as PathAnswer, answer as answerOf};
 ghost use Rattle.place.specs.Problem.{problemOf};
 ghost use Rattle.marks.specs.Reading.{problemFrom};
 ghost use Rattle.visited.specs.Questions.{pointQuestions};
+ghost use Rattle.nearest.specs.Finishes.{nearestAt};
 ghost use Rattle.nearest.specs.Report.{nearAnswerBuffer, listBuffer, listedBy, reportOf, reported};
 use arrays::block_sizes;
 use arrays::padded;
 use distances::weights;
 use finder::Answer;
-use finder::block_number;
-use finder::first_vertex;
+use finder::announce;
 use grid::Grid;
 use path_walk::Finish;
-use place_points::put_points;
 use positions::ENTRIES;
 use survey::pass;
+use vertices_met::Tally;
 
 // The nearest visited vertex, by its position, and how many positions are listed; nothing where the run reached no end.
 pub enum Nearest {
@@ -56,6 +56,29 @@ fn first_no(g: Grid, start: &[u16], labels: &[u8], room: usize, w: &[u16], entri
         return 8;
     }
     0
+}
+
+// What is reported besides the run's answer where a walk finished.
+fn nearest_at(tally: Tally, finish: Finish) -> Nearest
+    ensures { λ r. ⌜ r ≡ nearestAt tally finish ⌝ }
+{
+    match finish {
+        Finish::Spent => Nearest::Nothing,
+        Finish::Unknown {
+            places: _,
+            position: _,
+        } => Nearest::Nothing,
+        Finish::Ended {
+            kind: _,
+            places: _,
+            index: _,
+            status: _,
+            labels_read: _,
+        } => Nearest::Vertex {
+            position: tally.nearest,
+            listed: tally.listed,
+        },
+    }
 }
 
 // The walk along the path of an accepted table: the run's answer, and what is reported besides. The list that the walk
@@ -106,40 +129,9 @@ fn announced(
     );
     let tally = passed.tally;
     let finish = passed.finish;
-    match finish {
-        Finish::Spent => Report {
-            run: Answer::Spent(budget),
-            nearest: Nearest::Nothing,
-        },
-        Finish::Unknown { places, position } => Report {
-            run: Answer::Unknown { places, position },
-            nearest: Nearest::Nothing,
-        },
-        Finish::Ended {
-            kind,
-            places,
-            index,
-            status,
-            labels_read,
-        } => {
-            let block = block_number(g, index);
-            let from = first_vertex(kind);
-            let vertices = put_points(answer, &previous, &sizes, &first, &order, status, m, from);
-            Report {
-                run: Answer::End {
-                    places,
-                    labels_read,
-                    kind,
-                    block,
-                    vertices,
-                },
-                nearest: Nearest::Vertex {
-                    position: tally.nearest,
-                    listed: tally.listed,
-                },
-            }
-        }
-    }
+    let run = announce(g, &previous, &sizes, &first, &order, finish, answer, budget);
+    let nearest = nearest_at(tally, finish);
+    Report { run, nearest }
 }
 
 // The first n positions that were found, at the front of the list.

@@ -1,41 +1,33 @@
--- From where a walk finished to the answer of a run that writes a trail. In order: the start in its array is the start;
--- the second walk ends as the first; question 17; the refusals. Assumes nothing.
+-- From where a walk finished to the answer of a run that writes a trail. In order: the second walk ends as the first;
+-- question 17; the refusals. Assumes nothing.
 use mathlib.Core.Bool.{true, false, cond}
 use mathlib.Core.List.{List, []}
-use mathlib.Core.Path.{_≡_, sym, ap, _∙_}
+use mathlib.Core.Path.{_≡_, refl, sym, _∙_, subst}
 use Prim.Native.Nat.{ℕ, _≤_, _<_}
 use borrow.Author.Tests.{le-leb, lt-leb, ne-eqb}
 use lib.Dec.{eqb}
-use lib.ListN.{length, replicate, take}
+use lib.ListN.{length}
 use native.Mathlib.Omega.{arith}
+use Rattle.combinatorics.proofs.Basics.{absurd-bool}
 use Rattle.combinatorics.proofs.Fronts.{front-none}
 use Rattle.combinatorics.specs.Front.{front}
 use Rattle.end_kinds.specs.declared.Kind.{Kind}
-use Rattle.finder.proofs.Announcements.{same-problem}
-use Rattle.path_laws.specs.Demand.{Accepted}
-use Rattle.path_walk.specs.Finish.{Finished, problemIn}
+use Rattle.moves.specs.declared.Status.{Status}
+use Rattle.path_walk.specs.Finish.{Finished}
 use Rattle.finder.specs.Run.{caseOf, numbersOf, runRefusal}
-use Rattle.finder.specs.declared.answers.Answer.the-variants.{End as RunEnd}
 use Rattle.path_walk.specs.declared.Finish.{Finish}
 use Rattle.path_walk.specs.declared.Finish.the-variants.{Ended, Spent as FinishSpent, Unknown as FinishUnknown}
-use Rattle.grid.specs.Made.{IsMade}
-use Rattle.grid.specs.declared.Grid.{Grid as GridStruct}
-use Rattle.marks.specs.Reading.{problemFrom}
-use Rattle.place.specs.Path.{Answer as PathAnswer, answer, ended, spent, unknown}
+use Rattle.place.specs.Path.{Answer as PathAnswer, answer, ended}
 use Rattle.place.specs.Places.{Simplex}
 use Rattle.place.specs.Problem.{Problem}
 use Rattle.questions.specs.Questions.{firstNo}
 use Rattle.rules.specs.Step.{Round}
 use Rattle.trail_walk.specs.Walked.{Recorded}
+use Rattle.trail_writer.specs.Again.{HasEnd, hasRoom, storedAt, withBytes}
 use Rattle.trail_writer.specs.Writing.{announces, trailAnswerBuffer, trailAnswer, trailBuffer, trailCase}
 use Rattle.trail_writer.specs.Writing.{wholeTrail}
+use Rattle.trail_writer.specs.declared.answers.Answer.{Answer}
 use Rattle.trail_writer.specs.declared.answers.Answer.the-variants.{End, Refused}
-
-pub problem-from : (g : GridStruct) → IsMade g → (start table : List ℕ) → Accepted (problemFrom g start table)
-    → (taken : List ℕ) → taken ≡ front (take (g .indices) start) (replicate 16 0)
-    → problemIn g taken table ≡ problemFrom g start table
-problem-from g made start table ok taken e =
-    ap (λ (t : List ℕ). problemIn g t table) e ∙ same-problem g made start table ok
 
 -- a walk whose path has an end has it too
 pub ends-again : (p : Problem) (budget : ℕ) (round : Round) (first order old new : List ℕ) (bytes : ℕ) (f : Finish)
@@ -63,16 +55,40 @@ module _ (p : Problem) (room : ℕ) where
   unfolding firstNo
   has-room l n read kind block vertices simplex = rw (le-leb (length (wholeTrail p)) room l)
 
-  pub end-with-room : length (wholeTrail p) ≤ room → (a : PathAnswer) (n read : ℕ) (kind : Kind) (block vertices : ℕ)
-      → RunEnd n read kind block vertices ≡ caseOf a
-      → End n read kind block vertices (length (wholeTrail p)) ≡ trailCase p room a
-  end-with-room l (spent m) n read kind block vertices e = absurd (let z : _≡_ {A = ℕ} 0 1 = cc in omega arith)
-  end-with-room l (unknown m position) n read kind block vertices e =
-      absurd (let z : _≡_ {A = ℕ} 0 1 = cc in omega arith)
-  end-with-room l (ended m r k b v s) n read kind block vertices e =
-      let z : End n read kind block vertices (length (wholeTrail p)) ≡ End m r k b v (length (wholeTrail p)) =
-      cc in
-      z ∙ has-room l m r k b v s
+-- where the first walk finished, in a trail buffer of `room` bytes
+module _ (p : Problem) (budget : ℕ) (round : Round) (first order : List ℕ) (room : ℕ) where
+  pub refused-17 : (f : Finish) → Finished p budget round first order f → hasRoom p room f ≡ false
+      → (Refused 17 ≡ trailCase p room (answer p budget)) × (storedAt p room f ≡ [])
+  unfolding firstNo
+  refused-17 (Ended kind places h s read) (A, sixteen) short = (rw (A .is, short), rw short)
+  refused-17 (FinishUnknown places position) is short = absurd-bool short
+  refused-17 FinishSpent is short = absurd-bool short
+
+  pub announced-end : (old new : List ℕ) (bytes : ℕ) (f : Finish) → Finished p budget round first order f
+      → Recorded p false old new bytes f → hasRoom p room f ≡ true
+      → (r : Answer) → r ≡ withBytes (caseOf (answer p budget)) bytes
+      → (r ≡ trailCase p room (answer p budget))
+      × (numbersOf (answer p budget) ≡ cond (announces r) (numbersOf (answer p budget)) [])
+      × (storedAt p room f ≡ cond (announces r) (wholeTrail p) [])
+  unfolding firstNo
+  announced-end old new bytes (Ended kind places h s read) (A, sixteen) R fits r e =
+      (rw (e, A .is, R .0, fits), rw (e, A .is), rw (e, A .is, fits))
+  announced-end old new bytes (FinishUnknown places position) is R fits r e = (rw (e, is), rw (e, is), rw (e, is))
+  announced-end old new bytes FinishSpent is R fits r e = (rw (e, is), rw (e, is), rw (e, is))
+
+  -- it has counted, and stored nothing
+  pub counts : (old new : List ℕ) (bytes : ℕ) (f : Finish) → Finished p budget round first order f
+      → Recorded p false old new bytes f → (kind : Kind) (places h : ℕ) (s : Status) (read : ℕ)
+      → f ≡ Ended kind places h s read → HasEnd p budget × (bytes ≡ length (wholeTrail p))
+  counts old new bytes f F R kind places h s read is =
+      let A = subst (Finished p budget round first order) is F in
+      let B = subst (Recorded p false old new bytes) is R in ((_, _, _, _, _, _, A .0 .is), B .0)
+
+pub stores-nothing : (p : Problem) (old new : List ℕ) (bytes : ℕ) (f : Finish) → Recorded p false old new bytes f
+    → new ≡ old
+stores-nothing p old new bytes (Ended kind places h s read) R = R .1
+stores-nothing p old new bytes (FinishUnknown places position) R = R refl
+stores-nothing p old new bytes FinishSpent R = R refl
 
 -- what a run that writes a trail then answers, and what it leaves in its buffers
 module _ (p : Problem) (budget : ℕ) (old oldTrail : List ℕ) where

@@ -11,18 +11,16 @@ ghost use Rattle.marks.specs.Reading.{problemFrom};
 ghost use Rattle.place.specs.Path.{Answer as PathAnswer, answer as answerOf};
 ghost use Rattle.place.specs.Problem.{problemOf};
 ghost use Rattle.rules.specs.Step.{Round};
-ghost use Rattle.trail_writer.specs.Again.{CanWriteTrail};
+ghost use Rattle.trail_writer.specs.Again.{CanWriteTrail, HasCounted, hasRoom, storedAt, withBytes};
 ghost use Rattle.trail_writer.specs.Writing.{announces, trailAnswerBuffer, trailAnswer, trailBuffer};
 ghost use Rattle.trail_writer.specs.Writing.{trailCase, wholeTrail};
 use arrays::block_sizes;
 use arrays::padded;
 use end_kinds::Kind;
-use finder::block_number;
+use finder::announce;
 use finder::first_no;
-use finder::first_vertex;
 use grid::Grid;
 use path_walk::Finish;
-use place_points::put_points;
 use positions::ENTRIES;
 use trail_walk::follow;
 
@@ -86,6 +84,86 @@ fn write_trail(
     );
 }
 
+// 17, which is put where the first walk came to an end, and then the second walk: whether the trail has room. A run
+// without an end stores nothing.
+fn stored(
+    g: Grid,
+    binomials: &[u16; ENTRIES],
+    start: &[u16],
+    labels: &[u8],
+    previous: &[u8; 16],
+    next: &[u8; 16],
+    sizes: &[u8; 16],
+    trail: &mut [u8],
+    budget: u64,
+    finish: Finish,
+    bytes: usize,
+) -> bool
+    ghost { Round }
+    requires { λ w. ⌜ round previous next sizes ≡ w ⌝ }
+    requires { λ w. ⌜ HasCounted g w (now binomials) (now start) (now labels) budget bytes finish ⌝ }
+    ensures { λ _ r. ⌜ r ≡ hasRoom (problemFrom g (now (start .entry)) (now (labels .entry)))
+        (length (now (trail .entry))) finish ⌝ }
+    ensures { λ _ _. ⌜ now (trail .exit) ≡ front (storedAt (problemFrom g (now (start .entry)) (now (labels .entry)))
+        (length (now (trail .entry))) finish) (now (trail .entry)) ⌝ }
+{
+    match finish {
+        Finish::Spent => true,
+        Finish::Unknown {
+            places: _,
+            position: _,
+        } => true,
+        Finish::Ended {
+            kind: _,
+            places: _,
+            index: _,
+            status: _,
+            labels_read: _,
+        } => {
+            if trail.len() < bytes {
+                return false;
+            }
+            write_trail(
+                g,
+                binomials,
+                start,
+                labels,
+                previous,
+                next,
+                sizes,
+                trail,
+                budget,
+            );
+            true
+        }
+    }
+}
+
+// A run's answer, at an end with the bytes written.
+fn with_bytes(run: finder::Answer, bytes: usize) -> Answer
+    ensures { λ r. ⌜ r ≡ withBytes run bytes ⌝ }
+{
+    match run {
+        finder::Answer::Refused(number) => Answer::Refused(number),
+        finder::Answer::Spent(places) => Answer::Spent(places),
+        finder::Answer::Unknown { places, position } => Answer::Unknown { places, position },
+        finder::Answer::End {
+            places,
+            labels_read,
+            kind,
+            block,
+            vertices,
+        } => Answer::End {
+            places,
+            labels_read,
+            kind,
+            block,
+            vertices,
+            bytes,
+        },
+    }
+}
+
 // The walk along the path of an accepted table, and its answer. The length of the trail is known only at the end, so a
 // first walk counts it and a second one writes.
 fn announced(
@@ -127,43 +205,24 @@ fn announced(
     );
     let bytes = walked.bytes;
     let finish = walked.finish;
-    match finish {
-        Finish::Spent => Answer::Spent(budget),
-        Finish::Unknown { places, position } => Answer::Unknown { places, position },
-        Finish::Ended {
-            kind,
-            places,
-            index,
-            status,
-            labels_read,
-        } => {
-            if trail.len() < bytes {
-                return Answer::Refused(17);
-            }
-            write_trail(
-                g,
-                binomials,
-                start,
-                labels,
-                &previous,
-                &next,
-                &sizes,
-                trail,
-                budget,
-            );
-            let block = block_number(g, index);
-            let from = first_vertex(kind);
-            let vertices = put_points(answer, &previous, &sizes, &first, &order, status, m, from);
-            Answer::End {
-                places,
-                labels_read,
-                kind,
-                block,
-                vertices,
-                bytes,
-            }
-        }
+    let has_room = stored(
+        g,
+        binomials,
+        start,
+        labels,
+        &previous,
+        &next,
+        &sizes,
+        trail,
+        budget,
+        finish,
+        bytes,
+    );
+    if !has_room {
+        return Answer::Refused(17);
     }
+    let run = announce(g, &previous, &sizes, &first, &order, finish, answer, budget);
+    with_bytes(run, bytes)
 }
 
 // Questions 1 to 8, then 9 or 16, then 17, on every input. Refusals write nothing. What is written stands at the front

@@ -2,42 +2,27 @@
 use mathlib.Core.Bool.{true}
 use mathlib.Core.Path.{refl, subst}
 use borrow.Author.Needs.{needs}
-use native.Mathlib.Omega.{arith}
 use Rattle.arrays.specs.Rounds.{roundOf}
-use Rattle.finder.proofs.Announcements.{accepted-in, start-long, taken-long}
+use Rattle.finder.proofs.Announcements.{can-pad, can-walk, problem-from}
 use Rattle.path_walk.specs.Finish.{Finished}
-use Rattle.grid.proofs.Fields.{indices-few}
 use Rattle.marks.specs.Reading.{problemFrom}
 use Rattle.place.specs.Problem.{Problem}
 use Rattle.trail_walk.specs.Walked.{Recorded}
-use Rattle.trail_writer.proofs.Endings.{ends-again, problem-from}
+use Rattle.trail_writer.proofs.Endings.{ends-again}
 use Rattle.trail_writer.proofs.answers.write_trail.Statement.{statement}
 use Rattle.trail_writer.proofs.answers.write_trail.Tie as tie
 
 padded-requires : tie.Need-padded-requires
 padded-requires c κs =
-    let a = c .before .before .before .args in
-    let made = c .before .before .before .pre .readable .made in (
-      omega (arith, start-long (a .g) made (a .start .now) (a .labels .now) (c .before .before .before .pre .accepted)),
-      indices-few (a .g) made,
-    )
+    let w = c .before .before .before .pre in
+    can-pad (w .readable) (w .accepted)
 
 follow-requires : tie.Need-follow-requires
 follow-requires c κs =
-    let a = c .before .before .before .before .before .before .before .args in
     let w = c .before .before .before .before .before .before .before .pre in
-    let made = w .readable .made in
-    let t = c .before .before .before .padded in
-    let same = problem-from (a .g) made (a .start .now) (a .labels .now) (w .accepted) (t .result) (t .ensures) in (
-      record {
-        readable = w .readable;
-        isRound = w .isRound;
-        below = w .below;
-        accepted = accepted-in (a .g) made (a .start .now) (a .labels .now) (w .accepted) (t .result) (t .ensures);
-        firstLength = taken-long (a .g) made (a .start .now) (a .labels .now) (w .accepted) (t .result) (t .ensures);
-        orderLength = refl;
-      },
-      λ e. rw same (w .fits),
+    let t = c .before .before .before .padded in (
+      can-walk (w .readable) (w .accepted) _ (w .isRound) (w .below) (t .result) (t .ensures) _ refl,
+      λ e. rw (problem-from (w .readable) (w .accepted) (t .result) (t .ensures)) (w .fits),
     )
 
 same-length : tie.Need-same-length
@@ -50,8 +35,7 @@ returns c =
     let t = c .before .before .before .before .before .before .padded in
     let f = c .before .before .follow in
     let round = roundOf (a .previous .now) (a .next .now) (a .sizes .now) in
-    let same =
-    problem-from (a .g) (w .readable .made) (a .start .now) (a .labels .now) (w .accepted) (t .result) (t .ensures) in
+    let same = problem-from (w .readable) (w .accepted) (t .result) (t .ensures) in
     ends-again (problemFrom (a .g) (a .start .now) (a .labels .now)) (a .budget) round
     (c .before .before .follow .last .1 .1 .1 .1 .1 .1 .0) (c .before .before .follow .last .1 .1 .1 .1 .1 .1 .1 .0)
     (a .trail .now) (c .before .before .follow .last .1 .1 .1 .1 .1 .1 .1 .1 .0) (f .result .bytes) (f .result .finish)

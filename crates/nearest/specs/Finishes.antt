@@ -1,0 +1,12 @@
+-- What the finish of the walk reports besides the run's answer. The call's own promise does not cite it. Assumes
+-- nothing.
+use Rattle.path_walk.specs.declared.Finish.{Finish}
+use Rattle.path_walk.specs.declared.Finish.the-variants.{Ended, Spent, Unknown}
+use Rattle.vertices_met.specs.declared.Tally.{Tally}
+use Rattle.nearest.specs.declared.Nearest.{Nearest}
+use Rattle.nearest.specs.declared.Nearest.the-variants.{Nothing, Vertex}
+
+abbrev pub nearestAt : Tally → Finish → Nearest
+nearestAt tally (Ended kind places h s read) = Vertex (tally .nearest) (tally .listed)
+nearestAt tally (Unknown places position) = Nothing
+nearestAt tally Spent = Nothing
