@@ -4,8 +4,9 @@
 ghost use Prim.Native.Nat.{_≤_};
 ghost use Rattle.grid.specs.Made.{IsMade};
 use case_reader::bytes;
+use case_reader::cases;
+use case_reader::next_case;
 use case_reader::show;
-use case_reader::word;
 use case_reader::words;
 use grid::Grid;
 use positions::ENTRIES;
@@ -52,11 +53,10 @@ fn show_next() {
 }
 
 fn main() {
-    let grids = word() as u64;
+    let grids = cases();
     let mut k: u64 = 0;
     while k < grids {
-        k += 1;
-        show(b"grid ", k);
+        k = next_case(b"grid ", k, grids);
         show_next();
     }
 }

@@ -5,28 +5,22 @@ use Rattle.grid_cases.proofs.main.Statement.{statement}
 use Rattle.grid_cases.proofs.main.Tie as tie
 
 abbrev Inv-loop : tie.InvT-loop
-Inv-loop grids k₀ t3 k = (k ≤ grids) × (grids ≤ 65535)
+Inv-loop grids k₀ t3 k = k ≤ grids
 
 abbrev μ-loop : tie.MeasureT-loop
 μ-loop grids k₀ t3 k = grids - k
 
-word-requires : tie.Need-word-requires Inv-loop μ-loop
-word-requires c κs = search needs
-
-cast-grids : tie.Need-cast-grids Inv-loop μ-loop
-cast-grids c = search needs
+cases-requires : tie.Need-cases-requires Inv-loop μ-loop
+cases-requires c κs = search needs
 
 loop-holds : tie.Need-loop-holds Inv-loop μ-loop
 loop-holds c = search needs
 
-add-k : tie.Need-add-k Inv-loop μ-loop
-add-k c = search needs
+slice-aggregate-next-case : tie.Need-slice-aggregate-next-case Inv-loop μ-loop
+slice-aggregate-next-case c = search needs
 
-slice-aggregate-show : tie.Need-slice-aggregate-show Inv-loop μ-loop
-slice-aggregate-show c = search needs
-
-show-requires : tie.Need-show-requires Inv-loop μ-loop
-show-requires c κs = search needs
+next-case-requires : tie.Need-next-case-requires Inv-loop μ-loop
+next-case-requires c κs = search needs
 
 show-next-requires : tie.Need-show-next-requires Inv-loop μ-loop
 show-next-requires c κs = search needs
@@ -46,12 +40,10 @@ main-spec =
     (tie.spec
     Inv-loop
     μ-loop
-    word-requires
-    cast-grids
+    cases-requires
     loop-holds
-    add-k
-    slice-aggregate-show
-    show-requires
+    slice-aggregate-next-case
+    next-case-requires
     show-next-requires
     loop-less
     loop-again
