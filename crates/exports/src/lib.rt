@@ -17,6 +17,7 @@ mod shelf_calls;
 
 use games::Labelled;
 use run_facts::put_answer;
+use text::SHEET_BYTES;
 
 // The run on a label table: 0 at an end, else the refusal's number. The facts are the places, the labels read, the kind
 // of end (0 place, 1 facet), the block and the number of vertices; of the refusals 9 writes one, the places, and 16
@@ -82,7 +83,7 @@ pub extern "C" fn leveretplate_label(
 
 // The sheet of a slip: its length.
 #[no_mangle]
-pub extern "C" fn leveretplate_sheet(slip: &[u8], sheet: &mut [u8; 4096]) -> usize
+pub extern "C" fn leveretplate_sheet(slip: &[u8], sheet: &mut [u8; SHEET_BYTES]) -> usize
     ensures { λ r. ⌜ (r ≡ length (sheetOf (now (slip .entry))))
         × (now (sheet .exit) ≡ front (sheetOf (now (slip .entry))) (now (sheet .entry))) ⌝ }
 {

@@ -12,6 +12,7 @@ use grid::Grid;
 use slip::Losses;
 use slip::SlipReading;
 use slip::Table;
+use text::SHEET_BYTES;
 
 // The division of each index's block.
 fn divisions_of(grid: Grid) -> [u16; 16]
@@ -30,7 +31,7 @@ fn divisions_of(grid: Grid) -> [u16; 16]
 }
 
 // The sheet of an answer with its vertices.
-fn print_answer(answer: Answer, grid: Grid, buffer: &[u16], sheet: &mut [u8; 4096]) -> usize
+fn print_answer(answer: Answer, grid: Grid, buffer: &[u16], sheet: &mut [u8; SHEET_BYTES]) -> usize
     requires { ⌜ IsMade grid × Fits (shape grid) answer (now buffer) ⌝ }
     ensures { λ r. ⌜ Prints (printed (shape grid) answer (now (buffer .entry)))
         (now (sheet .entry)) r (now (sheet .exit)) ⌝ }
@@ -65,7 +66,7 @@ fn print_answer(answer: Answer, grid: Grid, buffer: &[u16], sheet: &mut [u8; 409
 }
 
 // The run on a label table, and its sheet.
-fn print_run(reading: SlipReading, labels: &[u8], sheet: &mut [u8; 4096]) -> usize
+fn print_run(reading: SlipReading, labels: &[u8], sheet: &mut [u8; SHEET_BYTES]) -> usize
     requires { ⌜ HasGrid reading ⌝ }
     ensures { λ r. ⌜ Prints (runSheet (problemWith reading (now (labels .entry))) (reading .budget))
         (now (sheet .entry)) r (now (sheet .exit)) ⌝ }
@@ -83,7 +84,7 @@ fn label_and_print(
     reading: SlipReading,
     losses: &[u16],
     labels: &mut [u8],
-    sheet: &mut [u8; 4096],
+    sheet: &mut [u8; SHEET_BYTES],
 ) -> usize
     requires { ⌜ HasGrid reading
         × IsTable (shape (reading .grid)) (now losses)
@@ -96,7 +97,7 @@ fn label_and_print(
 }
 
 // The run on losses, with P bytes for their labels.
-fn print_labelled(reading: SlipReading, losses: &[u16], sheet: &mut [u8; 4096]) -> usize
+fn print_labelled(reading: SlipReading, losses: &[u16], sheet: &mut [u8; SHEET_BYTES]) -> usize
     requires { ⌜ HasGrid reading × IsTable (shape (reading .grid)) (now losses) ⌝ }
     ensures { λ r. ⌜ Prints (runSheet (lossProblem reading (now (losses .entry))) (reading .budget))
         (now (sheet .entry)) r (now (sheet .exit)) ⌝ }
@@ -107,7 +108,7 @@ fn print_labelled(reading: SlipReading, losses: &[u16], sheet: &mut [u8; 4096]) 
 }
 
 // The sheet of a slip with a game or losses. 1,944 losses are the most that a grid has.
-fn print_game(slip: &[u8], reading: SlipReading, sheet: &mut [u8; 4096]) -> usize
+fn print_game(slip: &[u8], reading: SlipReading, sheet: &mut [u8; SHEET_BYTES]) -> usize
     requires { ⌜ IsGameReading (now slip) reading ⌝ }
     ensures { λ r. ⌜ Prints (sheetOf (now (slip .entry))) (now (sheet .entry)) r (now (sheet .exit)) ⌝ }
 {
@@ -119,7 +120,7 @@ fn print_game(slip: &[u8], reading: SlipReading, sheet: &mut [u8; 4096]) -> usiz
 }
 
 // The sheet of any bytes, at the front of the buffer. The result is the sheet's length.
-pub fn print(slip: &[u8], sheet: &mut [u8; 4096]) -> usize
+pub fn print(slip: &[u8], sheet: &mut [u8; SHEET_BYTES]) -> usize
     ensures { λ r. ⌜ (r ≡ length (sheetOf (now (slip .entry))))
         × (now (sheet .exit) ≡ front (sheetOf (now (slip .entry))) (now (sheet .entry))) ⌝ }
 {

@@ -1,5 +1,6 @@
 // The centre of the vertices: at each index their mean in ten-thousandths. Only this crate calls these functions.
 use rounding::centre;
+use text::SHEET_BYTES;
 use text::byte;
 use text::spaced;
 use text::text;
@@ -28,7 +29,7 @@ fn coordinate_sum(count: usize, vertices: &[u16], m: usize, h: usize) -> u64
 
 // The line of the centre.
 pub fn centre_line(
-    out: &mut [u8; 4096],
+    out: &mut [u8; SHEET_BYTES],
     at: usize,
     count: usize,
     vertices: &[u16],

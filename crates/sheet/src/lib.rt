@@ -6,6 +6,7 @@ mod line;
 use centre::centre_line;
 use end_kinds::Kind;
 use line::vertex_lines;
+use text::SHEET_BYTES;
 use text::labelled;
 use text::text;
 ghost use mathlib.Core.Path.{_≡_};
@@ -17,7 +18,7 @@ ghost use Rattle.text.specs.Part.{Part};
 ghost use Rattle.sheet_lines.specs.Sheet.{endLine, endSheet, refusedSheet, spentSheet, unknownSheet};
 
 // The sheet of a refusal other than 9 and 16.
-pub fn refused(out: &mut [u8; 4096], number: u8) -> usize
+pub fn refused(out: &mut [u8; SHEET_BYTES], number: u8) -> usize
     ensures { λ r. ⌜ (r ≡ length (refusedSheet number))
         × (now (out .exit) ≡ front (refusedSheet number) (now (out .entry))) ⌝ }
 {
@@ -25,7 +26,7 @@ pub fn refused(out: &mut [u8; 4096], number: u8) -> usize
 }
 
 // The sheet of refusal 9, the budget spent.
-pub fn spent(out: &mut [u8; 4096], places: u64) -> usize
+pub fn spent(out: &mut [u8; SHEET_BYTES], places: u64) -> usize
     ensures { λ r. ⌜ (r ≡ length (spentSheet places))
         × (now (out .exit) ≡ front (spentSheet places) (now (out .entry))) ⌝ }
 {
@@ -34,7 +35,7 @@ pub fn spent(out: &mut [u8; 4096], places: u64) -> usize
 }
 
 // The sheet of refusal 16: the label at a position of the table is not yet known.
-pub fn unknown(out: &mut [u8; 4096], places: u64, position: u64) -> usize
+pub fn unknown(out: &mut [u8; SHEET_BYTES], places: u64, position: u64) -> usize
     ensures { λ r. ⌜ (let sheet = unknownSheet places position in
         (r ≡ length sheet) × (now (out .exit) ≡ front sheet (now (out .entry)))) ⌝ }
 {
@@ -47,7 +48,7 @@ pub fn unknown(out: &mut [u8; 4096], places: u64, position: u64) -> usize
 // vertices of as many numbers each.
 // Public only because the kiosk calls it, with an answer that a run has given.
 pub fn ended(
-    out: &mut [u8; 4096],
+    out: &mut [u8; SHEET_BYTES],
     places: u64,
     labels_read: u64,
     bound: u64,
@@ -73,7 +74,7 @@ pub fn ended(
 }
 
 // The line of the kind of end.
-fn end_line(out: &mut [u8; 4096], at: usize, kind: Kind) -> usize
+fn end_line(out: &mut [u8; SHEET_BYTES], at: usize, kind: Kind) -> usize
     requires { ⌜ at ≤ 3500 ⌝ }
     ensures { λ r. ⌜ Part (endLine kind) (now (out .entry)) (now (out .exit)) at r × (r ≤ at + 10) ⌝ }
 {

@@ -1,6 +1,7 @@
 // The lines of the sheet but the centre's. Only this crate calls these functions: each writes into the buffer from a
 // position on, for which there is
 // room, and returns the position behind what it wrote.
+use text::SHEET_BYTES;
 use text::byte;
 use text::decimal;
 use text::spaced;
@@ -14,7 +15,7 @@ ghost use Rattle.text.specs.Line.{spaced as spacedOf};
 ghost use Rattle.sheet_lines.specs.Sheet.{vertexLine};
 
 // The numbers of `row`, each behind a blank.
-fn all_spaced(out: &mut [u8; 4096], at: usize, row: &[u16]) -> usize
+fn all_spaced(out: &mut [u8; SHEET_BYTES], at: usize, row: &[u16]) -> usize
     requires { ⌜ (at ≤ 3600) × (length (now row) ≤ 16) ⌝ }
     ensures { λ r. ⌜ Part (flatMap spacedOf (now (row .entry))) (now (out .entry)) (now (out .exit)) at r
         × (r ≤ at + 96) ⌝ }
@@ -29,7 +30,7 @@ fn all_spaced(out: &mut [u8; 4096], at: usize, row: &[u16]) -> usize
 }
 
 // The line of one vertex.
-fn vertex_line(out: &mut [u8; 4096], at: usize, row: &[u16]) -> usize
+fn vertex_line(out: &mut [u8; SHEET_BYTES], at: usize, row: &[u16]) -> usize
     requires { ⌜ (at ≤ 3500) × (1 ≤ length (now row)) × (length (now row) ≤ 16) ⌝ }
     ensures { λ r. ⌜ Part (vertexLine (now (row .entry))) (now (out .entry)) (now (out .exit)) at r × (r ≤ at + 117) ⌝ }
 {
@@ -40,7 +41,7 @@ fn vertex_line(out: &mut [u8; 4096], at: usize, row: &[u16]) -> usize
 
 // A line for each of the `count` vertices.
 pub fn vertex_lines(
-    out: &mut [u8; 4096],
+    out: &mut [u8; SHEET_BYTES],
     at: usize,
     count: usize,
     vertices: &[u16],

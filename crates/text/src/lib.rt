@@ -8,8 +8,11 @@ ghost use Rattle.text.specs.Decimal.{decimal as decimalOf};
 ghost use Rattle.text.specs.Part.{Part};
 ghost use Rattle.text.specs.Line.{line, spaced as spacedOf};
 
+// The room that a sheet is lent; none has more bytes.
+pub const SHEET_BYTES: usize = 4096;
+
 // One byte.
-pub fn byte(out: &mut [u8; 4096], at: usize, b: u8) -> usize
+pub fn byte(out: &mut [u8; SHEET_BYTES], at: usize, b: u8) -> usize
     requires { ⌜ at < 4096 ⌝ }
     ensures { λ r. ⌜ Part (b ∷ []) (now (out .entry)) (now (out .exit)) at r ⌝ }
 {
@@ -33,7 +36,7 @@ pub fn text(out: &mut [u8], at: usize, bytes: &[u8]) -> usize
 }
 
 // The digits of a number. It calls itself for those before the last, so it is at most 20 deep.
-pub fn decimal(out: &mut [u8; 4096], at: usize, n: u64) -> usize
+pub fn decimal(out: &mut [u8; SHEET_BYTES], at: usize, n: u64) -> usize
     requires { ⌜ at ≤ 4050 ⌝ }
     ensures { λ r. ⌜ Part (decimalOf n) (now (out .entry)) (now (out .exit)) at r × (r ≤ at + 20) ⌝ }
 {
@@ -47,7 +50,7 @@ pub fn decimal(out: &mut [u8; 4096], at: usize, n: u64) -> usize
 }
 
 // A number behind a blank.
-pub fn spaced(out: &mut [u8; 4096], at: usize, n: u64) -> usize
+pub fn spaced(out: &mut [u8; SHEET_BYTES], at: usize, n: u64) -> usize
     requires { ⌜ at ≤ 4000 ⌝ }
     ensures { λ r. ⌜ Part (spacedOf n) (now (out .entry)) (now (out .exit)) at r × (r ≤ at + 21) ⌝ }
 {
@@ -56,7 +59,7 @@ pub fn spaced(out: &mut [u8; 4096], at: usize, n: u64) -> usize
 }
 
 // A line of a word and a number.
-pub fn labelled(out: &mut [u8; 4096], at: usize, word: &[u8], n: u64) -> usize
+pub fn labelled(out: &mut [u8; SHEET_BYTES], at: usize, word: &[u8], n: u64) -> usize
     requires { ⌜ (at ≤ 3500) × (length (now word) ≤ 16) ⌝ }
     ensures { λ r. ⌜ Part (line (now (word .entry)) n) (now (out .entry)) (now (out .exit)) at r
         × (r ≤ at + 38) × (length (now (out .entry)) ≡ 4096) ⌝ }
