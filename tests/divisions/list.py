@@ -13,7 +13,7 @@ import sys
 ROOT = pathlib.Path(__file__).resolve().parents[2]
 
 # the crates that find a point's position, prepare for it and read what is kept of it
-WITHOUT = ["positions", "rules", "arrays", "moves", "place_points", "marks", "finder"]
+WITHOUT = ["positions", "rules", "arrays", "moves", "steps", "place_points", "marks", "path_walk", "finder"]
 
 REASONS = {
     "weighed_losses::lengths::rests": "which block and player a place stands for, 36 times a game",
@@ -23,6 +23,8 @@ REASONS = {
     "text::decimal": "a number's decimal digits",
     "checker::check": "how many points of m numbers a list has",
     "checker::refusals::is_list": "how many points of m numbers a list has",
+    "record_reading::said_of": "two bits of a record's first byte",
+    "walk_reader::byte": "a program of the tests, which reads a byte",
     "case_reader::put_bytes": "a program of the tests, which reads a byte",
     "exported_calls::make_game": "a program of the tests, which reads the number of a game",
 }
