@@ -1,24 +1,15 @@
--- What the look-up of the point that has come in asks and gives. No promise of a customer's call cites it. Assumes
--- nothing.
+-- What the look-up of the point that has come in gives. No promise of a customer's call cites it. Assumes nothing.
 use mathlib.Core.List.{List}
 use mathlib.Core.Path.{_≡_}
 use Prim.Native.Nat.{ℕ, suc}
 use lib.ListN.{length, take}
 use Rattle.path_walk.specs.Finish.{IsKnown, IsUnknown}
-use Rattle.grid.specs.declared.Grid.{Grid as GridStruct}
-use Rattle.marks.specs.Reading.{CanReadPoint, HasMarks}
 use Rattle.moves.specs.declared.Status.{Status}
 use Rattle.place.specs.Problem.{Problem}
 use Rattle.rules.specs.Read.{read}
 use Rattle.rules.specs.Step.{State}
 use Rattle.label_reading.specs.declared.Looked.{Looked}
 use Rattle.label_reading.specs.declared.Looked.the-variants.{Known, Unknown}
-
--- the mark of the point that has come in can be read
-pub record CanLookUp (g : GridStruct) (tails : List ℕ) (a : State) (s : Status) : Type 0 where
-  pub reads : CanReadPoint g a
-  pub marks : HasMarks g tails a
-  pub many : length (a .order) ≡ s .count
 
 -- the label is known, or nothing is read, and the array holds the marks; or it is not known
 abbrev pub LooksUp : Problem → State → Status → List ℕ → Looked → Type 0

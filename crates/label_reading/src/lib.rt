@@ -4,10 +4,10 @@ ghost use mathlib.Core.Path.{_≡_};
 ghost use Prim.Native.Nat.{_<_};
 ghost use lib.ListN.{length};
 ghost use Rattle.arrays.specs.Rounds.{roundBack};
-ghost use Rattle.marks.specs.Reading.{Readable, tableProblem};
+ghost use Rattle.marks.specs.Reading.{CanFind, Readable, tableProblem};
 ghost use Rattle.moves.specs.Held.{held};
 ghost use Rattle.rules.specs.Step.{State};
-ghost use Rattle.label_reading.specs.Looking.{CanLookUp, LooksUp};
+ghost use Rattle.label_reading.specs.Looking.{LooksUp};
 use grid::Grid;
 use marks::LookedUp;
 use marks::mark_in;
@@ -37,7 +37,7 @@ pub fn look_up(
     ghost { State }
     requires { λ a. ⌜ held (roundBack previous sizes) first coefficients order marks s ≡ a ⌝ }
     requires { λ _. ⌜ Readable g (now binomials) (now table) × (length (now marks) ≡ 16) ⌝ }
-    requires { λ a. ⌜ (s .rule < 6 → CanLookUp g (now tails) a s) ⌝ }
+    requires { λ a. ⌜ (s .rule < 6 → CanFind g (now tails) a s) ⌝ }
     ensures { λ a r. ⌜ LooksUp (tableProblem g (now (table .entry))) a s (now (marks .exit)) r ⌝ }
 {
     if s.rule < 6 {

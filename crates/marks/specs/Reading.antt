@@ -51,6 +51,12 @@ pub record HasMarks (g : GridStruct) (tails : List ℕ) (a : State) : Type 0 whe
   pub square : a .rule ≡ 1 → 0 < a .active → a .active < length (a .order) → Exchanged (shape g) a
   pub beside : g .blocks ≡ 1 → FallsBeside (shape g) tails a
 
+-- so its position can be found
+pub record CanFind (g : GridStruct) (tails : List ℕ) (a : State) (s : Status) : Type 0 where
+  pub reads : CanReadPoint g a
+  pub marks : HasMarks g tails a
+  pub many : length (a .order) ≡ s .count
+
 -- two steps have changed places, and the point has come in between them
 abbrev pub isBetween : Status → Bool
 isBetween s = eqb (s .rule) 1 && (ltb 0 (s .active) && ltb (s .active) (s .count))

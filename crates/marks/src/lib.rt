@@ -3,7 +3,6 @@
 ghost use mathlib.Core.List.{[]};
 ghost use mathlib.Core.Path.{_≡_};
 ghost use Prim.Native.Nat.{_≤_, _<_};
-ghost use lib.ListN.{length};
 ghost use Rattle.arrays.specs.Rounds.{roundBack};
 ghost use Rattle.grid_points.specs.Grid.{position};
 ghost use Rattle.grid.specs.Made.{shape, IsMade};
@@ -12,8 +11,8 @@ ghost use Rattle.positions.specs.Binomials.{Measured};
 ghost use Rattle.rules.specs.Read.{pointOn};
 ghost use Rattle.rules.specs.Ready.{IndicesBelow};
 ghost use Rattle.rules.specs.Step.{State, firstOutside};
-ghost use Rattle.marks.specs.Reading.{tableProblem, labelReading, isBetween, addUp, Readable, CanReadPoint};
-ghost use Rattle.marks.specs.Reading.{HasMarks};
+ghost use Rattle.marks.specs.Reading.{tableProblem, labelReading, isBetween, addUp, Readable, CanFind};
+ghost use Rattle.marks.specs.Reading.{CanReadPoint};
 use arrays::index_at;
 use arrays::position_at;
 use arrays::source;
@@ -101,8 +100,7 @@ pub fn position_in(
 ) -> usize
     ghost { State }
     requires { λ a. ⌜ held (roundBack previous sizes) first coefficients order marks s ≡ a ⌝ }
-    requires { λ a. ⌜ Measured g (now binomials) × CanReadPoint g a ⌝ }
-    requires { λ a. ⌜ HasMarks g (now tails) a × (length (a .order) ≡ s .count) ⌝ }
+    requires { λ a. ⌜ Measured g (now binomials) × CanFind g (now tails) a s ⌝ }
     ensures { λ a r. ⌜ r ≡ position (shape g) (pointOn (shape g) a (a .active)) ⌝ }
 {
     let i = s.active;
@@ -162,8 +160,7 @@ pub fn mark_in(
 ) -> LookedUp
     ghost { State }
     requires { λ a. ⌜ held (roundBack previous sizes) first coefficients order marks s ≡ a ⌝ }
-    requires { λ a. ⌜ Readable g (now binomials) (now table) × CanReadPoint g a ⌝ }
-    requires { λ a. ⌜ HasMarks g (now tails) a × (length (a .order) ≡ s .count) ⌝ }
+    requires { λ a. ⌜ Readable g (now binomials) (now table) × CanFind g (now tails) a s ⌝ }
     ensures { λ a r. ⌜ r ≡ labelReading (tableProblem g (now (table .entry))) (pointOn (shape g) a (a .active)) ⌝ }
 {
     let at = position_in(

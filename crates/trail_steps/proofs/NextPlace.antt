@@ -19,6 +19,7 @@ use Rattle.grid.proofs.Fields.{made-blocks}
 use Rattle.grid_points.specs.Grid.{numIndices, position}
 use Rattle.grid.specs.Made.{IsMade}
 use Rattle.grid.specs.declared.Grid.{Grid as GridStruct}
+use Rattle.marks.specs.Reading.{CanFind}
 use Rattle.moves.specs.Held.{stateOf}
 use Rattle.moves.specs.declared.Status.{Status}
 use Rattle.place.specs.Places.{Simplex}
@@ -43,7 +44,7 @@ use Rattle.trail_places.specs.Shows.{Shows, bare}
 use Rattle.trail_steps.proofs.Arrived.{OnlyPlace, WayLeads, comes-in, goes-on, goes-out, inside, leadsNowhere}
 use Rattle.trail_steps.proofs.Arrived.{leadsOn, none-in, not-there, only-named, position-low, record-is}
 use Rattle.trail_steps.proofs.Named.{mask-T, mask-U, said-to, shows-few}
-use Rattle.trail_steps.specs.Reading.{CanFind, HasRead, Leads, agrees, comePosition, marksWith, problemBy}
+use Rattle.trail_steps.specs.Reading.{HasRead, Leads, agrees, comePosition, marksWith, problemBy}
 use Rattle.trail_steps.specs.Reading.{recordMade}
 use Rattle.ways.specs.Ways.{goneBy}
 

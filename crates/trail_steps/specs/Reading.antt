@@ -8,8 +8,7 @@ use lib.ListN.{drop, length, set}
 use Rattle.grid_points.specs.Grid.{at, numIndices, position}
 use Rattle.grid.specs.Made.{shape}
 use Rattle.grid.specs.declared.Grid.{Grid as GridStruct}
-use Rattle.marks.specs.Reading.{CanReadPoint, HasMarks, problemFrom}
-use Rattle.moves.specs.declared.Status.{Status}
+use Rattle.marks.specs.Reading.{problemFrom}
 use Rattle.path_laws.specs.Demand.{HasStart}
 use Rattle.place.specs.Places.{Simplex}
 use Rattle.place.specs.Problem.{Problem}
@@ -32,12 +31,6 @@ wayOf m n s bytes = saidBy m n s bytes .way
 -- the position of the point that has come in, if any
 abbrev pub comePosition : GridStruct → State → ℕ
 comePosition g a = cond (ltb (a .rule) 6) (position (shape g) (pointOn (shape g) a (a .active))) 0
-
--- the point that has come in, if any, can be computed, and its position found
-pub record CanFind (g : GridStruct) (tails : List ℕ) (a : State) (s : Status) : Type 0 where
-  pub reads : CanReadPoint g a
-  pub marks : HasMarks g tails a
-  pub many : length (a .order) ≡ s .count
 
 -- the record of the change that has been made
 abbrev pub recordMade : GridStruct → State → State → ℕ → List ℕ

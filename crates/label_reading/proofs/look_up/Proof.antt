@@ -15,7 +15,7 @@ use Rattle.label_reading.proofs.look_up.Tie as tie
 mark-in-requires : tie.Need-mark-in-requires
 mark-in-requires c κs =
     let can = c .before .before .before .before .pre .1 (c .before .if1 .taken) in
-    ((c .before .before .before .before .pre .0 .0, can .reads), (can .marks, can .many))
+    (c .before .before .before .before .pre .0 .0, can)
 
 enum-known-reading : tie.Need-enum-known-reading
 enum-known-reading c = search needs

@@ -19,7 +19,7 @@ read-at-requires c κs =
     let s = c .before .before in
     let a = s .args in
     rw (c .position-in .ensures)
-    (in-table (a .g) (a .binomials .now) (a .table .now) (s .pre .0 .0) _ (s .pre .0 .1 .onGrid))
+    (in-table (a .g) (a .binomials .now) (a .table .now) (s .pre .0) _ (s .pre .1 .reads .onGrid))
 
 u32-of-requires : tie.Need-u32-of-requires
 u32-of-requires c κs = search needs
@@ -30,16 +30,16 @@ returns c =
     let a = s .args in
     let e = c .before .before .before .position-in .ensures in
     ap (λ (at : ℕ). Unknown at) e
-    ∙ read-gap (a .g) (a .binomials .now) (a .table .now) (s .pre .0 .0) _
+    ∙ read-gap (a .g) (a .binomials .now) (a .table .now) (s .pre .0) _
     (rw e at (sym (c .before .u32-of .ensures .0 ∙ c .before .before .read-at .ensures) ∙ c .if1 .taken))
 
 -- the position is below the number of grid points
 small : (c : tie.After-position-in) → c .position-in .result < 60001
 small c =
     let s = c .before .before in
-    let a = made-accepted (s .args .g) (s .pre .0 .0 .made) in
+    let a = made-accepted (s .args .g) (s .pre .0 .made) in
     rw (c .position-in .ensures)
-    (omega (arith, position-below _ _ (a .sameNumber) (s .pre .0 .1 .onGrid), a .fewPoints))
+    (omega (arith, position-below _ _ (a .sameNumber) (s .pre .1 .reads .onGrid), a .fewPoints))
 
 cast-t16 : tie.Need-cast-t16
 cast-t16 c = omega (arith, small (c .before .before .before))
@@ -57,7 +57,7 @@ returns-2 c =
     let e = c .before .before .before .position-in .ensures in
     let b = c .before .u32-of .ensures .0 ∙ c .before .before .read-at .ensures in
     ap (λ (at : ℕ). Marked (mark at (c .before .u32-of .result))) e
-    ∙ rw (b, e) (read-mark (a .g) (a .binomials .now) (a .table .now) (s .pre .0 .0) _ (λ z. c .if1 .left (b ∙ rw e z)))
+    ∙ rw (b, e) (read-mark (a .g) (a .binomials .now) (a .table .now) (s .pre .0) _ (λ z. c .if1 .left (b ∙ rw e z)))
 
 pub mark-in-spec : {M : Type 1} → statement M
 mark-in-spec =

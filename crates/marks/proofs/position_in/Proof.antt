@@ -34,10 +34,10 @@ square : (c : tie.Then1) → let s = c .before .before in Exchanged (shape (s .a
 square c =
     let s = c .before .before in
     let b = between c in
-    s .pre .1 .0 .square (b .0) (b .1) (rw (s .pre .1 .1) (b .2))
+    s .pre .1 .marks .square (b .0) (b .1) (rw (s .pre .1 .many) (b .2))
 
 few : (s : tie.Start) → s .args .s .count ≤ 15
-few s = omega (arith, s .pre .0 .1 .point .few, s .pre .1 .1)
+few s = omega (arith, s .pre .1 .reads .point .few, s .pre .1 .many)
 
 sub-index-at : tie.Need-sub-index-at
 sub-index-at c = omega (arith, between c)
@@ -45,19 +45,19 @@ sub-index-at c = omega (arith, between c)
 index-at-requires : tie.Need-index-at-requires
 index-at-requires c κs =
     let s = c .before .before in
-    record { low = omega (arith, between c); few = omega (arith, few s); below = s .pre .0 .1 .point .indices }
+    record { low = omega (arith, between c); few = omega (arith, few s); below = s .pre .1 .reads .point .indices }
 
 index-at-requires-2 : tie.Need-index-at-requires-2
 index-at-requires-2 c κs =
     let s = c .before .before .before in
-    record { low = between (c .before) .2; few = omega (arith, few s); below = s .pre .0 .1 .point .indices }
+    record { low = between (c .before) .2; few = omega (arith, few s); below = s .pre .1 .reads .point .indices }
 
 add-up-requires : tie.Need-add-up-requires
 add-up-requires c κs =
     let at = c .before .before in
     let s = at .before .before in
-    let i = corner-indices (s .args .g) (s .pre .0 .0 .made) (place s) (between at .1) (square at) in (
-      (s .pre .0 .0 .made, s .pre .0 .1 .below),
+    let i = corner-indices (s .args .g) (s .pre .0 .made) (place s) (between at .1) (square at) in (
+      (s .pre .0 .made, s .pre .1 .reads .below),
       (rw (c .before .index-at .ensures .is) (i .0), rw (c .index-at2 .ensures .is) (i .1)),
     )
 
@@ -100,7 +100,7 @@ adds c =
     let apart = rw (sums .before .before .before .index-at .ensures .is, sums .before .before .index-at2 .ensures .is)
     at (sym (sums .before .add-up .ensures) ∙ sums .if2 .taken) in
     let up : s .args .s .active + 1 ≡ suc (s .args .s .active) = omega arith in
-    let sum = corners-add (s .args .g) (s .pre .0 .0 .made) (place s) (between at .1) (square at) apart in
+    let sum = corners-add (s .args .g) (s .pre .0 .made) (place s) (between at .1) (square at) apart in
     let far = rw up at (c .before .position-at2 .ensures .0) in
     omega (arith, c .before .before .position-at .ensures .0, c .position-at3 .ensures .0)
 
@@ -113,9 +113,9 @@ returns c = omega (arith, adds c)
 position-by-one-step-requires : tie.Need-position-by-one-step-requires
 position-by-one-step-requires c κs =
     let s = c .before .before .before .before in
-    let R = s .pre .0 .1 in
-    let many = s .pre .1 .1 in (
-      (s .pre .0 .0, c .if3 .taken),
+    let R = s .pre .1 .reads in
+    let many = s .pre .1 .many in (
+      (s .pre .0, c .if3 .taken),
       (
         record {
           below = R .below;
@@ -124,7 +124,7 @@ position-by-one-step-requires c κs =
           few = few s;
           many = many;
         },
-        (s .args .first .now, s .pre .1 .0 .beside (c .if3 .taken)),
+        (s .args .first .now, s .pre .1 .marks .beside (c .if3 .taken)),
       ),
     )
 
@@ -137,7 +137,7 @@ returns-2 c =
     one-step-is _ (place s) _
     (sym (c .before .found .given .1)
     ∙ c .before .before .before .position-by-one-step .ensures (s .args .first .now)
-    (s .pre .1 .0 .beside (c .before .before .before .before .if3 .taken)))
+    (s .pre .1 .marks .beside (c .before .before .before .before .if3 .taken)))
 
 enum-told : tie.Need-enum-told
 enum-told c = search needs
@@ -145,8 +145,8 @@ enum-told c = search needs
 position-by-steps-requires : tie.Need-position-by-steps-requires
 position-by-steps-requires c κs =
     let s = c .before .before .before .before in
-    let R = s .pre .0 .1 in
-    (s .pre .0 .0, record { below = R .below; firstLength = R .firstLength; point = R .point; onGrid = R .onGrid })
+    let R = s .pre .1 .reads in
+    (s .pre .0, record { below = R .below; firstLength = R .firstLength; point = R .point; onGrid = R .onGrid })
 
 returns-3 : tie.Need-returns-3
 returns-3 c = search needs

@@ -24,18 +24,15 @@ mark-in-requires c κs =
     let s = c .before .before .before .before .before .before .before in
     let a = s .args in
     let read = c .before .before .before .before .if1 .taken in
-    let R = s .pre .1 .reads read in
-    let many = counted (a .order .now) (a .s .count) (s .pre .0 .1 .inOrder) (R .point .few) in (
-      (
-        s .pre .0 .0,
-        read-back (a .g) (a .previous .now) (a .next .now) (a .sizes .now) (a .first .now) (a .coefficients .now)
-            (a .order .now) (a .marks .now) (a .s) R,
-      ),
-      (
-        marks-back (a .g) (a .previous .now) (a .next .now) (a .sizes .now) (a .first .now) (a .coefficients .now)
-            (a .order .now) (a .marks .now) (a .s) (a .tails .now) (s .pre .1 .marks read),
-        many,
-      ),
+    let R = s .pre .1 .reads read in (
+      s .pre .0 .0,
+      record {
+        reads = read-back (a .g) (a .previous .now) (a .next .now) (a .sizes .now) (a .first .now)
+            (a .coefficients .now) (a .order .now) (a .marks .now) (a .s) R;
+        marks = marks-back (a .g) (a .previous .now) (a .next .now) (a .sizes .now) (a .first .now)
+            (a .coefficients .now) (a .order .now) (a .marks .now) (a .s) (a .tails .now) (s .pre .1 .marks read);
+        many = counted (a .order .now) (a .s .count) (s .pre .0 .1 .inOrder) (R .point .few);
+      },
     )
 
 enum-known-reading : tie.Need-enum-known-reading

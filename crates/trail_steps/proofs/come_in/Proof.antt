@@ -5,8 +5,7 @@ use Rattle.trail_steps.proofs.come_in.Tie as tie
 
 position-in-requires : tie.Need-position-in-requires
 position-in-requires c κs =
-    let can = c .before .before .pre .1 (c .if1 .taken) in
-    ((c .before .before .pre .0, can .reads), (can .marks, can .many))
+    (c .before .before .pre .0, c .before .before .pre .1 (c .if1 .taken))
 
 returns : tie.Need-returns
 returns c = rw (lt-ltb (c .before .before .before .args .s .rule) 6 (c .before .if1 .taken)) (c .position-in .ensures)
