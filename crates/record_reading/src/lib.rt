@@ -1,13 +1,11 @@
 // What a record of a trail says, read whole before the move: the way on, what T and U become, and its bytes. What is
 // public here is for the reader, which shows what it asks.
-ghost use mathlib.Core.List.{map};
 ghost use mathlib.Core.Path.{_≡_};
-ghost use Prim.Native.Nat.{suc, _+_, _≤_, _<_};
-ghost use lib.ListN.{length, take};
-ghost use Rattle.combinatorics.specs.Edits.{found};
+ghost use Prim.Native.Nat.{_+_, _≤_, _<_};
+ghost use lib.ListN.{length};
 ghost use Rattle.record_reading.specs.Said.{IsSaid, bytesBy, canChange, leaving, nothingSaid, ruleBy};
 ghost use Rattle.record_reading.specs.Said.{saidOf, saidOtherwise, setChanged, wayBy, wordAt};
-ghost use Rattle.rules.specs.Step.{State, markPosition};
+ghost use Rattle.rules.specs.Step.{State};
 ghost use Rattle.ways.specs.Ways.{heldMarks};
 use arrays::add;
 use arrays::has;
@@ -38,21 +36,6 @@ pub fn word(bytes: &[u8], at: usize) -> usize
     wide(bytes[at]) + 256 * wide(bytes[at + 1])
 }
 
-// The number of the point with a position, n being the number of steps; n + 1 where no point has it.
-fn point_with(marks: &[u32; 16], n: usize, position: usize) -> usize
-    requires { ⌜ (n ≤ 15) × (length (now marks) ≡ 16) ⌝ }
-    ensures { λ r. ⌜ r ≡ found position 16 (map markPosition (take (suc n) (now (marks .entry)))) ⌝ }
-{
-    let mut k: usize = 0;
-    while k <= n {
-        if position_at(marks, n, k) == position {
-            break;
-        }
-        k += 1;
-    }
-    k
-}
-
 // The point with a position leaves, if the place has it and another.
 fn leaving(marks: &[u32; 16], s: Status, position: usize) -> Way
     ghost { State }
@@ -61,11 +44,15 @@ fn leaving(marks: &[u32; 16], s: Status, position: usize) -> Way
     ensures { λ a r. ⌜ r ≡ leaving a (s .count) position ⌝ }
 {
     let n = s.count;
-    let i = point_with(marks, n, position);
-    if i <= n {
-        if 0 < n {
-            return Way::Leaves(i);
+    if n == 0 {
+        return Way::Nothing;
+    }
+    let mut k: usize = 0;
+    while k <= n {
+        if position_at(marks, n, k) == position {
+            return Way::Leaves(k);
         }
+        k += 1;
     }
     Way::Nothing
 }
