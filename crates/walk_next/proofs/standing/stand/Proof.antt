@@ -15,68 +15,86 @@ refused-requires : tie.Need-refused-requires
 refused-requires c κs = search needs
 
 returns : tie.Need-returns
-returns c = let s = c .before .before .before .before .before .before .before in let a = s .args in
-    c .refused .ensures ∙ refused-is (a .g) (a .w) (a .labels .now) 20
-    (no-place-there (s .pre) (not-kept-place (can-see (s .pre))
-    (c .before .before .before .seen .ensures .no (not-is _ (c .before .if1 .taken)))))
+returns c =
+    let s = c .before .before .before .before .before .before .before in
+    let a = s .args in
+    let no = c .before .before .before .seen .ensures .no (not-is _ (c .before .if1 .taken)) in
+    c .refused .ensures
+    ∙ refused-is (a .g) (a .w) (a .labels .now) 20 (no-place-there (s .pre) (not-kept-place (can-see (s .pre)) no))
+
+-- the place recognised, and where the call began
+abbrev Recognised : Type 0
+Recognised = tie.Else1
+
+abbrev begun : Recognised → tie.Start
+begun c = c .before .before .before .before .before .before
 
 carries-requires : tie.Need-carries-requires
-carries-requires c κs = let s = c .before .before .before .before .before .before .before .before .before in
-    let S = c .before .before .before .before .before .seen .ensures .yes
-    (is-not _ (c .before .before .before .if1 .left)) in let h = s .good .1 .0 .1 .1 .1 .1 .1 .1 .1 .1 .1 .1 in
-    (s .pre .few, S .marksLong, length-unmapped _ (s .args .w .carried) 16 (search (h, needs)))
+carries-requires c κs =
+    let r = c .before .before .before in
+    let s = begun r in
+    let seen = r .before .before .seen .ensures .yes (is-not _ (r .if1 .left)) in
+    let h = s .good .1 .0 .1 .1 .1 .1 .1 .1 .1 .1 .1 .1 in
+    (s .pre .few, seen .marksLong, length-unmapped _ (s .args .w .carried) 16 (search (h, needs)))
+
+-- what the walk carries compared with it
+abbrev Compared : Type 0
+Compared = tie.After-carries
+
+abbrev recognised : Compared → Recognised
+recognised c = c .before .before .before .before
 
 refused-requires-2 : tie.Need-refused-requires-2
 refused-requires-2 c κs = search needs
 
 returns-2 : tie.Need-returns-2
-returns-2 c = let s =
-    c .before .before .before .before .before .before .before .before .before .before .before .before in
-    let a = s .args in let S = c .before .before .before .before .before .before .before .before .seen .ensures .yes
-    (is-not _ (c .before .before .before .before .before .before .if1 .left)) in
-    c .refused2 .ensures ∙ refused-is (a .g) (a .w) (a .labels .now) 20
-    (carries-others (s .pre) S (sym (c .before .before .carries .ensures) ∙ not-is _ (c .before .if2 .taken)))
+returns-2 c =
+    let d = c .before .before in
+    let r = recognised d in
+    let a = begun r .args in
+    let seen = r .before .before .seen .ensures .yes (is-not _ (r .if1 .left)) in
+    c .refused2 .ensures
+    ∙ refused-is (a .g) (a .w) (a .labels .now) 20
+    (carries-others (begun r .pre) seen (sym (d .carries .ensures) ∙ not-is _ (c .before .if2 .taken)))
 
 spare-requires : tie.Need-spare-requires
-spare-requires c κs = let s =
-    c .before .before .before .before .before .before .before .before .before .before .before .before in
-    let S = c .before .before .before .before .before .before .before .before .seen .ensures .yes
-    (is-not _ (c .before .before .before .before .before .before .if1 .left)) in
-    (s .pre .few, S .marksLong, labels-low (can-see (s .pre)) S)
+spare-requires c κs =
+    let r = recognised (c .before .before) in
+    let pre = begun r .pre in
+    let seen = r .before .before .seen .ensures .yes (is-not _ (r .if1 .left)) in
+    (pre .few, seen .marksLong, labels-low (can-see pre) seen)
 
 refused-requires-3 : tie.Need-refused-requires-3
 refused-requires-3 c κs = search needs
 
 returns-3 : tie.Need-returns-3
-returns-3 c = let s =
-    c .before .before .before .before .before .before .before .before .before .before .before .before .before .before
-    .before .before .before in let a = s .args in let S =
-    c .before .before .before .before .before .before .before .before .before .before .before .before .before .seen
-    .ensures .yes (is-not _
-    (c .before .before .before .before .before .before .before .before .before .before .before .if1 .left)) in
-    c .refused3 .ensures ∙ refused-is (a .g) (a .w) (a .labels .now) 20
-    (no-place-there (s .pre) (not-all-place (can-see (s .pre)) S (c .before .before .before .before .spare .ensures)
-    (search needs) (search needs) (c .before .if3 .taken)))
+returns-3 c =
+    let d = c .before .before .before .before in
+    let r = recognised (d .before .before .before) in
+    let a = begun r .args in
+    let pre = begun r .pre in
+    let seen = r .before .before .seen .ensures .yes (is-not _ (r .if1 .left)) in
+    c .refused3 .ensures
+    ∙ refused-is (a .g) (a .w) (a .labels .now) 20
+    (no-place-there pre (not-all-place (can-see pre) seen (d .spare .ensures) (search needs) (search needs)
+    (c .before .if3 .taken)))
 
 block-sizes-requires : tie.Need-block-sizes-requires
-block-sizes-requires c κs =
-    c .before .before .before .before .before .before .before .before .before .before .before .before .before .before
-    .before .before .pre .made
+block-sizes-requires c κs = begun (recognised (c .before .before .before .before .before .before)) .pre .made
 
 chosen-requires : tie.Need-chosen-requires
-chosen-requires c κs = let s =
-    c .before .before .before .before .before .before .before .before .before .before .before .before .before .before
-    .before .before .before .before .before .before in let a = s .args in
-    let S = c .before .before .before .before .before .before .before .before .before .before .before .before .before
-    .before .before .before .seen .ensures .yes (is-not _
-    (c .before .before .before .before .before .before .before .before .before .before .before .before .before .before
-    .if1 .left)) in let P = c .before .before .before .before .before .before .before .spare .ensures in (
-      can-choose (can-see (s .pre)) S P (all-seen (can-see (s .pre)) S P (c .before .before .before .before .if3 .left))
-          (s .pre) (carries-own (s .pre) S
-          (sym (c .before .before .before .before .before .before .before .before .before .before .carries .ensures) ∙
-          is-not _ (c .before .before .before .before .before .before .before .before .before .if2 .left))),
-      round-of (a .g) (s .pre .made) (c .before .before .before .block-sizes .result)
-          (c .before .before .before .block-sizes .ensures),
+chosen-requires c κs =
+    let sizes = c .before .before .before .block-sizes in
+    let d = c .before .before .before .before .before .before .before in
+    let compared = d .before .before .before in
+    let r = recognised compared in
+    let pre = begun r .pre in
+    let seen = r .before .before .seen .ensures .yes (is-not _ (r .if1 .left)) in
+    let spared = d .spare .ensures in
+    let place = all-seen (can-see pre) seen spared (c .before .before .before .before .if3 .left) in
+    let own = sym (compared .carries .ensures) ∙ is-not _ (d .before .before .if2 .left) in (
+      can-choose (can-see pre) seen spared place pre (carries-own pre seen own),
+      round-of (begun r .args .g) (pre .made) (sizes .result) (sizes .ensures),
     )
 
 returns-4 : tie.Need-returns-4
