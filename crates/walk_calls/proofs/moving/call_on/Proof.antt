@@ -1,73 +1,89 @@
 -- `moving::call_on` meets its contract. Assumes nothing.
-use mathlib.Core.Path.{_≡_, sym, ap, _∙_}
-use Prim.Native.Nat.{ℕ}
+use mathlib.Core.Path.{_≡_, sym, _∙_}
 use borrow.Author.Needs.{needs, length-unmapped}
-use lib.ListN.{length, take, length-take}
-use Rattle.grid.proofs.Fields.{indices-few, made-indices}
-use Rattle.grid_points.specs.Grid.{numIndices}
+use lib.ListN.{length, length-take}
+use native.Mathlib.Omega.{arith}
+use Rattle.grid.proofs.Fields.{indices-few}
 use Rattle.grid.specs.Made.{shape}
+use Rattle.place.specs.Questions.{tableQuestions}
 use Rattle.questions.specs.Questions.{firstNo}
 use Rattle.walk_calls.proofs.Calls.{call-ended, call-moved, call-refuses, goes-to, places-few, table-refused}
-use Rattle.walk_calls.proofs.Later.{behind-four}
-use Rattle.walk_calls.specs.Asked.{laterWalkQuestions}
-use borrow.Author.Needs.{needs}
-use native.Mathlib.Omega.{arith}
+use Rattle.walk_calls.proofs.Later.{walk-asked}
+use Rattle.walk_places.specs.Placing.{GoesTo}
+use Rattle.walk_places.specs.Walks.{tableOn}
 use Rattle.walk_calls.proofs.moving.call_on.Statement.{statement}
 use Rattle.walk_calls.proofs.moving.call_on.Tie as tie
 
+-- the numbers of the walk's start
+start-long : (s : tie.Start) → length (s .args .w .start) ≡ 16
+start-long s = length-unmapped _ (s .args .w .start) 16 (search (s .good .1 .0 .1 .1 .1 .1 .1 .1 .0, needs))
+
 array-share-prefix-start : tie.Need-array-share-prefix-start
-array-share-prefix-start c = let h = c .before .before .good .1 .0 .1 .1 .1 .1 .1 .1 .0 in
-    let z : length (c .before .before .args .w .start) ≡ 16 = length-unmapped _ (c .before .before .args .w .start) 16
-    (search (h, needs)) in
-    omega (arith, indices-few (c .before .before .args .g) (c .before .before .pre))
+array-share-prefix-start c =
+    let s = c .before .before in
+    omega (arith, start-long s, indices-few (s .args .g) (s .pre))
 
 slice-aggregate-first-no : tie.Need-slice-aggregate-first-no
-slice-aggregate-first-no c = let h = c .before .before .before .good .1 .0 .1 .1 .1 .1 .1 .1 .0 in
-    let z : length (c .before .before .before .args .w .start) ≡ 16 = length-unmapped _
-    (c .before .before .before .args .w .start) 16 (search (h, needs)) in
-    simp length-take (omega (arith, indices-few (c .before .before .before .args .g) (c .before .before .before .pre)))
+slice-aggregate-first-no c =
+    let s = c .before .before .before in
+    simp length-take (omega (arith, start-long s, indices-few (s .args .g) (s .pre)))
 
 first-no-requires : tie.Need-first-no-requires
 first-no-requires c κs = c .before .before .before .pre
+
+-- questions 5 to 7 asked, and where the call began
+abbrev Asked : Type 0
+Asked = tie.After-first-no
+
+abbrev begun : Asked → tie.Start
+begun c = c .before .before .before .before
+
+asked : (c : Asked) → (let a = begun c .args in
+    firstNo (tableQuestions (tableOn (a .g) (a .w) (a .labels .now))) ≡ c .first-no .result)
+asked c =
+    let s = begun c in
+    walk-asked (s .args .g) (s .args .w) (s .args .labels .now) (s .pre) ∙ sym (c .first-no .ensures)
 
 unmoved-requires : tie.Need-unmoved-requires
 unmoved-requires c κs = search needs
 
 returns : tie.Need-returns
-returns c = let s = c .before .before .before .before .before .before in let a = s .args in
-    c .unmoved .ensures ∙ table-refused (shape (a .g)) (a .w) (a .labels .now) (c .before .before .first-no .result)
-    (c .before .if1 .taken)
-    (behind-four (a .g) (take (numIndices (shape (a .g))) (a .w .start)) (a .labels .now) (s .pre .accepted) ∙ ap
-    (λ (m : ℕ). firstNo (laterWalkQuestions (a .g) (take m (a .w .start)) (a .labels .now)))
-    (sym (made-indices (a .g) (s .pre))) ∙ sym (c .before .before .first-no .ensures))
+returns c =
+    let d = c .before .before in
+    let a = begun d .args in
+    c .unmoved .ensures
+    ∙ table-refused (shape (a .g)) (a .w) (a .labels .now) (d .first-no .result) (c .before .if1 .taken) (asked d)
 
 next-on-requires : tie.Need-next-on-requires
-next-on-requires c κs = let s = c .before .before .before .before .before in let a = s .args in (
-  s .pre,
-  behind-four (a .g) (take (numIndices (shape (a .g))) (a .w .start)) (a .labels .now) (s .pre .accepted) ∙ ap
-      (λ (m : ℕ). firstNo (laterWalkQuestions (a .g) (take m (a .w .start)) (a .labels .now)))
-      (sym (made-indices (a .g) (s .pre)))
-      ∙ sym (c .before .first-no .ensures) ∙ c .if1 .left,
-)
+next-on-requires c κs = (begun (c .before) .pre, asked (c .before) ∙ c .if1 .left)
 
 enum-told : tie.Need-enum-told
 enum-told c = search needs
 
+-- the walk moves, as what comes next says
+abbrev Moves : Type 0
+Moves = tie.After-enum-told
+
+abbrev answered : Moves → tie.After-next-on
+answered c = c .before .before .before .before
+
+going : (c : Moves) → (let d = answered c in
+    let a = begun (d .before .before) .args in
+    GoesTo (shape (a .g)) (a .w) (a .labels .now) (d .next-on .result .place))
+going c =
+    let d = answered c in
+    let a = begun (d .before .before) .args in
+    goes-to (shape (a .g)) (a .w) (a .labels .now) (d .next-on .result) (d .next-on .ensures)
+    (c .enum-told .given .0 .0) (c .enum-told .given .1)
+
 carried-to-requires : tie.Need-carried-to-requires
-carried-to-requires c κs = let s = c .before .before .before .before .before .before .before .before .before .before in
-    let a = s .args in (
-      s .pre,
-      goes-to (shape (a .g)) (a .w) (a .labels .now) (c .before .before .before .before .next-on .result)
-          (c .before .before .before .before .next-on .ensures) (c .enum-told .given .0 .0) (c .enum-told .given .1),
-    )
+carried-to-requires c κs = (begun (answered c .before .before) .pre, going c)
 
 moved-to-requires : tie.Need-moved-to-requires
-moved-to-requires c κs = let a =
-    c .before .before .before .before .before .before .before .before .before .before .before .args in
-    places-few (shape (a .g)) (a .w) (a .labels .now)
-    (goes-to (shape (a .g)) (a .w) (a .labels .now) (c .before .before .before .before .before .next-on .result)
-    (c .before .before .before .before .before .next-on .ensures) (c .before .enum-told .given .0 .0)
-    (c .before .enum-told .given .1))
+moved-to-requires c κs =
+    let m = c .before in
+    let a = begun (answered m .before .before) .args in
+    places-few (shape (a .g)) (a .w) (a .labels .now) (going m)
 
 enum-told-2 : tie.Need-enum-told-2
 enum-told-2 c = search needs
@@ -76,26 +92,28 @@ enum-told-3 : tie.Need-enum-told-3
 enum-told-3 c = search needs
 
 returns-2 : tie.Need-returns-2
-returns-2 c = let a =
-    c .before .before .before .before .before .before .before .before .before .before .before .before .args in
-    let G = goes-to (shape (a .g)) (a .w) (a .labels .now)
-    (c .before .before .before .before .before .before .next-on .result)
-    (c .before .before .before .before .before .before .next-on .ensures)
-    (c .before .before .enum-told .given .0 .0) (c .before .before .enum-told .given .1) in
-    rw (c .moved-to .ensures) (call-moved (shape (a .g)) (a .w) (a .labels .now)
-    (c .before .before .before .before .before .before .next-on .result)
-    (c .before .before .before .before .before .before .next-on .ensures) G (c .before .carried-to .result)
-    (c .before .carried-to .ensures G))
+returns-2 c =
+    let m = c .before .before in
+    let d = answered m in
+    let a = begun (d .before .before) .args in
+    let on = c .before .carried-to in
+    rw (c .moved-to .ensures)
+    (call-moved (shape (a .g)) (a .w) (a .labels .now) (d .next-on .result) (d .next-on .ensures) (going m)
+    (on .result) (on .ensures (going m)))
 
 returns-3 : tie.Need-returns-3
-returns-3 c = let a = c .before .before .before .before .before .before .before .before .before .before .args in
-    call-refuses (shape (a .g)) (a .w) (a .labels .now) (c .before .before .before .before .next-on .result)
-    (c .before .before .before .before .next-on .ensures) (c .enum-told2 .given .0 .0) (c .enum-told2 .given .1)
+returns-3 c =
+    let d = c .before .before .before .before in
+    let a = begun (d .before .before) .args in
+    call-refuses (shape (a .g)) (a .w) (a .labels .now) (d .next-on .result) (d .next-on .ensures)
+    (c .enum-told2 .given .0 .0) (c .enum-told2 .given .1)
 
 returns-4 : tie.Need-returns-4
-returns-4 c = let a = c .before .before .before .before .before .before .before .before .before .before .args in
-    call-ended (shape (a .g)) (a .w) (a .labels .now) (c .before .before .before .before .next-on .result)
-    (c .before .before .before .before .next-on .ensures) _ _ _ (c .enum-told3 .given .1)
+returns-4 c =
+    let d = c .before .before .before .before in
+    let a = begun (d .before .before) .args in
+    call-ended (shape (a .g)) (a .w) (a .labels .now) (d .next-on .result) (d .next-on .ensures) _ _ _
+    (c .enum-told3 .given .1)
 
 pub call-on-spec : {M : Type 1} → statement M
 call-on-spec =
