@@ -1,9 +1,10 @@
 -- `answers::read_on` meets its contract: 0 is no number, and else the place is rebuilt from the start in an array.
 -- Assumes nothing.
-use mathlib.Core.Path.{refl, sym, subst}
+use mathlib.Core.Path.{_≡_, refl, sym, subst}
 use mathlib.Core.List.{List}
 use Prim.Native.Nat.{ℕ}
 use borrow.Author.Needs.{needs}
+use lib.ListN.{take}
 use native.Mathlib.Omega.{arith}
 use Rattle.path_walk.proofs.Visits.{is-round, round-below}
 use Rattle.grid.proofs.Fields.{indices-few}
@@ -19,13 +20,9 @@ refused-requires c κs = search needs
 
 returns : tie.Need-returns
 returns c =
-    let none = no-zero
-    (problemBy (c .before .before .before .before .args .g) (c .before .before .before .before .args .start .now))
-    (c .before .before .before .before .args .trail .now) (c .before .before .before .before .args .number)
-    (c .before .if1 .taken) in
-    reads-17 (c .before .before .before .before .args .g) (c .before .before .before .before .args .start .now)
-    (c .before .before .before .before .args .trail .now) (c .before .before .before .before .args .number)
-    (c .refused .result) (c .refused .ensures) none
+    let a = c .before .before .before .before .args in
+    reads-17 (a .g) (a .start .now) (a .trail .now) (a .number) (c .refused .result) (c .refused .ensures)
+    (no-zero (problemBy (a .g) (a .start .now)) (a .trail .now) (a .number) (c .before .if1 .taken))
 
 block-sizes-requires : tie.Need-block-sizes-requires
 block-sizes-requires c κs = c .before .before .before .before .before .pre .made
@@ -34,70 +31,47 @@ binomials-requires : tie.Need-binomials-requires
 binomials-requires c κs = (c .before .before .before .before .before .before .before .pre .made, refl)
 
 padded-requires : tie.Need-padded-requires
-padded-requires c κs = (
-  omega (
-    arith,
-    start-long (c .before .before .before .before .before .before .before .before .args .g)
-        (c .before .before .before .before .before .before .before .before .pre .made)
-        (c .before .before .before .before .before .before .before .before .args .start .now)
-        (c .before .before .before .before .before .before .before .before .pre .hasStart),
-  ),
-  indices-few (c .before .before .before .before .before .before .before .before .args .g)
-      (c .before .before .before .before .before .before .before .before .pre .made),
-)
+padded-requires c κs =
+    let s = c .before .before .before .before .before .before .before .before in
+    let g = s .args .g in
+    let made = s .pre .made in
+    (omega (arith, start-long g made (s .args .start .now) (s .pre .hasStart)), indices-few g made)
+
+-- the start in an array, and where the call began
+abbrev Padded : Type 0
+Padded = tie.After-padded
+
+abbrev begun : Padded → tie.Start
+begun c = c .before .before .before .before .before .before .before .before .before
+
+taken : (c : Padded) → take (begun c .args .g .indices) (c .padded .result) ≡ begun c .args .start .now
+taken c =
+    let s = begun c in
+    start-taken (s .args .g) (s .pre .made) (s .args .start .now) (s .pre .hasStart) (c .padded .result)
+    (c .padded .ensures)
 
 rebuilt-requires : tie.Need-rebuilt-requires
 rebuilt-requires c κs =
-    let a = c .before .before .before .before .before .before .before
-    .before .before .before .before .before .before .before .args in
-    let made = c .before .before .before .before .before .before .before .before
-    .before .before .before .before .before .before .pre .made in
-    let taken = start-taken (a .g) made (a .start .now)
-    (c .before .before .before .before .before .before .before .before
-    .before .before .before .before .before .before .pre .hasStart)
-    (c .before .before .before .before .before .padded .result)
-    (c .before .before .before .before .before .padded .ensures) in (
+    let t = c .before .before .before .before .before in
+    let g = begun t .args .g in
+    let w = begun t .pre in
+    let sizes = t .before .before .before .block-sizes in (
       record {
-        measured = record {
-          made = made;
-          filled = c .before .before .before .before .before .before .binomials2 .ensures;
-        };
-        isRound = is-round (a .g) made
-            (c .before .before .before .before .before .before .before .before .block-sizes .result)
-            (c .before .before .before .before .before .before .before .before .block-sizes .ensures);
-        below = round-below (a .g) made
-            (c .before .before .before .before .before .before .before .before .block-sizes .result);
-        firstLength = first-long (a .g) made (a .start .now)
-            (c .before .before .before .before .before .before .before .before
-            .before .before .before .before .before .before .pre .hasStart)
-            (c .before .before .before .before .before .padded .result)
-            (c .before .before .before .before .before .padded .ensures);
-        hasStart = subst
-            (λ (s : List ℕ). HasStart (problemBy (a .g) s))
-            (sym taken)
-            (c .before .before .before .before .before .before .before .before
-            .before .before .before .before .before .before .pre .hasStart);
+        measured = record { made = w .made; filled = t .before .binomials2 .ensures };
+        isRound = is-round g (w .made) (sizes .result) (sizes .ensures);
+        below = round-below g (w .made) (sizes .result);
+        firstLength = first-long g (w .made) (begun t .args .start .now) (w .hasStart) (t .padded .result)
+            (t .padded .ensures);
+        hasStart = subst (λ (s : List ℕ). HasStart (problemBy g s)) (sym (taken t)) (w .hasStart);
       },
-      omega (
-        arith,
-        c .before .before .before .before .before .before .before .before .before .before .before .if1 .left,
-      ),
+      omega (arith, t .before .before .before .before .before .before .if1 .left),
     )
 
 returns-2 : tie.Need-returns-2
 returns-2 c =
-    let a = c .before .before .before .before .before .before .before .before
-    .before .before .before .before .before .before .before .args in
-    subst
-    (λ (s : List ℕ). Reads (a .g) s (a .trail .now) (a .number) (c .rebuilt .result))
-    (start-taken (a .g)
-    (c .before .before .before .before .before .before .before .before
-    .before .before .before .before .before .before .before .pre .made)
-    (a .start .now)
-    (c .before .before .before .before .before .before .before .before
-    .before .before .before .before .before .before .before .pre .hasStart)
-    (c .before .before .before .before .before .before .padded .result)
-    (c .before .before .before .before .before .before .padded .ensures))
+    let t = c .before .before .before .before .before .before in
+    let a = begun t .args in
+    subst (λ (s : List ℕ). Reads (a .g) s (a .trail .now) (a .number) (c .rebuilt .result)) (taken t)
     (c .rebuilt .ensures)
 
 pub read-on-spec : {M : Type 1} → statement M
