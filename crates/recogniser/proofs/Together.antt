@@ -47,7 +47,7 @@ pub not-recognised : {p : Problem} {marking : Point → ℕ} {y : Point} {o list
     → Recognised p marking y o list marks r
 not-recognised e h = record { yes = λ t. absurd-bool (sym t ∙ e); no = λ _. h }
 
-module _ (g : GridStruct) (binomials start previous sizes first order : List ℕ) (n : ℕ) (marks : List ℕ)
+module _ {g : GridStruct} {binomials start previous sizes first order : List ℕ} {n : ℕ} {marks : List ℕ}
     (C : CanRecognise g binomials start previous sizes first order n marks) where
   abbrev p : Problem
   p = startedOn g start
@@ -101,7 +101,7 @@ module _ (g : GridStruct) (binomials start previous sizes first order : List ℕ
   cannot-step e = false-of _ (λ h. absurd-bool (sym (conditions-of p y o h .can) ∙ e))
 
   -- the masks
-  module _ (zeros t v : ℕ) (S : AreTandU order n (g .indices) zeros t v)
+  module _ {zeros t v : ℕ} (S : AreTandU order n (g .indices) zeros t v)
       (Z : (k : ℕ) → k < 16 → bit zeros k ≡ (ltb k (g .indices) && eqb (at first k) 0)) where
     pub in-T : (k : ℕ) → k < 16 → bit t k ≡ isIn eqb k o
     in-T k l = both (bit t k) (isIn eqb k o)
@@ -126,9 +126,9 @@ module _ (g : GridStruct) (binomials start previous sizes first order : List ℕ
     free-index : (k : ℕ) → k < g .indices → inNeither t v k → (isIn eqb k o ≡ false) × (isIn eqb k u ≡ false)
     free-index k l w = (sym (in-T k (omega (arith, few, m-is))) ∙ w .0, sym (in-U k (omega (arith, few, m-is))) ∙ w .1)
 
-    pub not-free : (list : List ℕ) → ((k : ℕ) → k < g .indices → at list k ≡ at (coefficients (startedOn g start) y) k)
+    pub not-free : {list : List ℕ} → ((k : ℕ) → k < g .indices → at list k ≡ at (coefficients (startedOn g start) y) k)
         → NotFree g list t v → isKept p y o ≡ false
-    not-free list L (filled j l none) = false-of _ (λ h.
+    not-free L (filled j l none) = false-of _ (λ h.
         let f = free-means p [] o u .0 (conditions-of p y o h .free) j (omega (arith, made-blocks g made)) in
         let r = upFrom-in (firstIndex (shape g) j) (size (shape g) j) f.0 f.1 in
         let i = f .0 - firstIndex (shape g) j in
@@ -140,12 +140,12 @@ module _ (g : GridStruct) (binomials start previous sizes first order : List ℕ
           block = ap (blockOf (shape g)) z ∙ block-at (shape g .sizes) j i (omega (arith, r .0, r .1));
           free = (in-T f.0 (omega (arith, few, m-is)) ∙ f .2, in-U f.0 (omega (arith, few, m-is)) ∙ f .3);
         }))
-    not-free list L (positive k l w c) = false-of _ (λ h.
+    not-free L (positive k l w c) = false-of _ (λ h.
         let f = free-index k l w in
         omega (arith, c, L k l, conditions-of p y o h .zero k (omega (arith, m-is)) f.0 f.1))
 
     -- each step takes from document 01's b
-    module _ (list : List ℕ) (F : AllFree g list t v) where
+    module _ {list : List ℕ} (F : AllFree g list t v) where
       abbrev round : Round
       round = record { previous = previous; next = g .next; sizes = sizes }
 
@@ -197,8 +197,8 @@ module _ (g : GridStruct) (binomials start previous sizes first order : List ℕ
       -- all passed
       pub all-seen : isGridPoint (shape g) y ≡ true → length list ≡ 16 →
           ((k : ℕ) → k < g .indices → at list k ≡ at (coefficients (startedOn g start) y) k)
-          → (new : List ℕ) → Marked g first order n new true → Seen p (bareMark (shape g)) y o list new t v
-      all-seen on long L new M = record {
+          → {new : List ℕ} → Marked g first order n new true → Seen p (bareMark (shape g)) y o list new t v
+      all-seen on long L M = record {
         kept = of-conditions p y o (record {
           onGrid = on;
           below = in-all onNumbers _ o (λ k e. let w = in-at onNumbers 0 k o e in
