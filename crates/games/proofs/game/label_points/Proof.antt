@@ -60,11 +60,22 @@ module _ (s : tie.Start Inv-loop μ-loop) where
   s-long = sym (point-length g yes (s .args .point .now)
       (point-at g (s .args .firsts .now) (s .pre .grid) 0 some (s .args .point .now) (s .pre .first) .isPoint))
 
+-- before the first turn, and where the call began
+abbrev Ready : Type 0
+Ready = tie.After-slice-known4 Inv-loop μ-loop
+
+abbrev begun : Ready → tie.Start Inv-loop μ-loop
+begun c =
+    c .before .before .before .before .before .before .before .before
+    .before .before .before .before .before .before .before .before
+
 -- what is known in a turn
-module _ (c : tie.In-loop Inv-loop μ-loop) where
+abbrev Turn : Type 0
+Turn = tie.In-loop Inv-loop μ-loop
+
+module _ (c : Turn) where
   abbrev start : tie.Start Inv-loop μ-loop
-  start = c .before .before .before .before .before .before .before .before .before
-      .before .before .before .before .before .before .before .before .before
+  start = begun (c .before .before)
 
   abbrev firsts : List ℕ
   firsts = start .args .firsts .now
@@ -95,24 +106,25 @@ module _ (c : tie.In-loop Inv-loop μ-loop) where
   long : length (start .args .point .now) ≡ numIndices (g start)
   long = sym (c .before .loop .inv .5) ∙ point-length (g start) (yes start) y (here .isPoint)
 
+-- the differences weighed, in the turn
+abbrev turn : tie.After-differences Inv-loop μ-loop → Turn
+turn c = c .before .before .before .before .before .before .before .before
+
 sub-last : tie.Need-sub-last Inv-loop μ-loop
 sub-last c = omega (arith, yes (c .before .before .before .before .before .before .before) .someBlock)
 
 element-copy-out-wide : tie.Need-element-copy-out-wide Inv-loop μ-loop
-element-copy-out-wide c = omega (
-  arith,
-  yes (c .before .before .before .before .before .before .before) .fewBlocks,
-  yes (c .before .before .before .before .before .before .before) .someBlock,
-)
+element-copy-out-wide c =
+    let ok = yes (c .before .before .before .before .before .before .before) in
+    omega (arith, ok .fewBlocks, ok .someBlock)
 
 wide-requires : tie.Need-wide-requires Inv-loop μ-loop
 wide-requires c κs = search needs
 
 rests-requires : tie.Need-rests-requires Inv-loop μ-loop
-rests-requires c κs = (
-  yes (c .before .before .before .before .before .before .before .before .before) .sizesTwo,
-  yes (c .before .before .before .before .before .before .before .before .before) .fewIndices,
-)
+rests-requires c κs =
+    let ok = yes (c .before .before .before .before .before .before .before .before .before) in
+    (ok .sizesTwo, ok .fewIndices)
 
 num-profiles-requires : tie.Need-num-profiles-requires Inv-loop μ-loop
 num-profiles-requires c κs =
@@ -138,8 +150,7 @@ load-losses-requires c κs =
 
 loop-holds : tie.Need-loop-holds Inv-loop μ-loop
 loop-holds c =
-    let s = c .before .before .before .before .before .before .before .before
-    .before .before .before .before .before .before .before .before in (
+    let s = begun c in (
       sym (front-none (s .args .buffer .now)),
       (λ h. s .pre .first),
       omega arith,
@@ -186,32 +197,27 @@ weigh-changed-requires c κs =
     )
 
 mul-label-point : tie.Need-mul-label-point Inv-loop μ-loop
-mul-label-point c = omega (
-  arith,
-  first-inside (c .before .before .before .before .before .before .before .before),
-  point-length (g (start (c .before .before .before .before .before .before .before .before)))
-      (yes (start (c .before .before .before .before .before .before .before .before)))
-      (y (c .before .before .before .before .before .before .before .before))
-      (here (c .before .before .before .before .before .before .before .before) .isPoint),
-  yes (start (c .before .before .before .before .before .before .before .before)) .fewIndices,
-)
+mul-label-point c =
+    let t = turn c in
+    let ok = yes (start t) in
+    omega (arith, first-inside t, point-length (g (start t)) ok (y t) (here t .isPoint), ok .fewIndices)
 
 sub-label-point : tie.Need-sub-label-point Inv-loop μ-loop
-sub-label-point c = first-inside (c .before .before .before .before .before .before .before .before)
+sub-label-point c = first-inside (turn c)
 
 part-label-point-start : tie.Need-part-label-point-start Inv-loop μ-loop
-part-label-point-start c = first-inside (c .before .before .before .before .before .before .before .before .before)
+part-label-point-start c = first-inside (turn (c .before))
 
 part-label-point-end : tie.Need-part-label-point-end Inv-loop μ-loop
 part-label-point-end c = search needs
 
 label-point-requires : tie.Need-label-point-requires Inv-loop μ-loop
 label-point-requires c κs =
-    let t = c .before .before .before .before .before .before .before .before .before .before .before in
+    let d = c .before .before .before in
+    let t = turn d in
     let s = start t in
     let i = t .before .loop .inv in
-    let stand =
-    c .before .before .before .before .before .before .weigh-changed .ensures .1 (s .args .losses .now) (i .7) (i .8) in
+    let stand = d .before .before .before .weigh-changed .ensures .1 (s .args .losses .now) (i .7) (i .8) in
     let rows = lent-rows (g s) (firsts t) (s .args .losses .now) (s .args .ones .now) (s .pre .onesAre) (y t) (here t) _
     stand (from t) (i .9) (omega arith) in
     (omega (arith, long t, blocks-few (g s) (yes s), yes s .someBlock), rw (long t) rows)
@@ -221,13 +227,12 @@ slice-write-buffer c = omega arith
 
 next-point-requires : tie.Need-next-point-requires Inv-loop μ-loop
 next-point-requires c κs =
-    let t = c .before .before .before .before .before .before .before .before .before .before .before .before .before in
+    let t = turn (c .before .before .before .before .before) in
     (start t .args .divisions .now, here t)
 
 add-k : tie.Need-add-k Inv-loop μ-loop
 add-k c =
-    let t = c .before .before .before .before .before .before .before .before
-    .before .before .before .before .before .before .before .before in
+    let t = turn (c .before .before .before .before .before .before .before .before) in
     omega (arith, inside t, yes (start t) .fewPoints)
 
 loop-less : tie.Need-loop-less Inv-loop μ-loop
@@ -235,20 +240,18 @@ loop-less c = omega arith
 
 loop-again : tie.Need-loop-again Inv-loop μ-loop
 loop-again c =
-    let t = c .before .before .before .before .before .before .before .before
-    .before .before .before .before .before .before .before .before in
+    let d = c .before .before .before .before .before .before .before .before in
+    let t = turn d in
     let s = start t in
     let i = t .before .loop .inv in
     let losses = s .args .losses .now in
     let ss = s .args .sizes .now in
-    let w = c .before .before .before .before .before .before .before .before .before .before .before .weigh-changed in
-    let levels = c .before .before .before .before .before .before .before .before .before .before .levels2 in
-    let differences = c .before .before .before .before .before .before .before .before .differences in
+    let w = d .before .before .before .weigh-changed in
     let stand = w .ensures .1 losses (i .7) (i .8) in
     let a = c .before .before .next-point in
     let z : Point = a .last .1 .1 .0 in
-    let is : c .before .before .before .before .label-point .result ≡ gameLabel (g s) losses (y t) =
-    c .before .before .before .before .label-point .ensures
+    let label = c .before .before .before .before .label-point in
+    let is : label .result ≡ gameLabel (g s) losses (y t) = label .ensures
     ∙ rw (long t) (lent-label (g s) (firsts t) losses (s .args .ones .now) (s .pre .onesAre) (y t) (here t) _ stand
     (from t) (i .9)) in
     let ended : ltb (a .result) (length ss - 1) ≡ false → a .result ≡ lastPlayer (g s) = λ f.
@@ -287,8 +290,7 @@ same-length-4 c = omega arith
 
 returns : tie.Need-returns Inv-loop μ-loop
 returns c =
-    let s = c .before .before .before .before .before .before .before .before .before
-    .before .before .before .before .before .before .before .before .before in
+    let s = begun (c .before .before) in
     let l = c .before .loop in
     l .inv .0
     ∙ front-whole (labels (g s) (s .args .losses .now)) (s .args .buffer .now) (l .k)
