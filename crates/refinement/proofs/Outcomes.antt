@@ -96,7 +96,7 @@ module _ (r : Refinement) (levels : ℕ) (buffer old : List ℕ) where
       passed-later e = passed-with (later ∙ e)
 
 -- the grids that were made
-module _ (g : Grid) (k levels : ℕ) (some : 1 ≤ levels) (m : Grids) (made : AreMade g k levels m) (z : m .code ≡ 0) where
+module _ {g : Grid} {k levels : ℕ} {m : Grids} (some : 1 ≤ levels) (made : AreMade g k levels m) (z : m .code ≡ 0) where
   grids-yes : firstNo (levelQuestions g k levels) ≡ 0
   grids-yes = sym (made .code) ∙ z
 
