@@ -73,80 +73,56 @@ visit-requires c κs =
           (l .inv .0) (w .below) (tails .result) (tails .ensures),
     )
 
--- a place that has been visited: the problem, the ways round the blocks, the state there, and its number
+-- a place that has been visited: where the call began, and the turn
 abbrev Seen : Type 0
 Seen = tie.After-visit Inv-loop μ-loop
 
+abbrev begun : Seen → tie.Start Inv-loop μ-loop
+begun c =
+    c .before .before .before .before .before .before .before
+    .before .before .before .before .before .before .before
+
+abbrev turn : Seen → tie.At-loop Inv-loop μ-loop
+turn c = c .before .before .before .before .before .before .before
+
+-- the problem with the start in its array and from the table alone, and the ways round the blocks
 abbrev problem : Seen → Problem
 problem c =
-    let a = c .before .before .before .before .before .before .before
-    .before .before .before .before .before .before .before .args in
+    let a = begun c .args in
     problemIn (a .g) (a .first .now) (a .table .now)
+
+abbrev table : Seen → Problem
+table c = tableProblem (begun c .args .g) (begun c .args .table .now)
 
 abbrev round : Seen → Round
 round c =
-    let a = c .before .before .before .before .before .before .before
-    .before .before .before .before .before .before .before .args in
+    let a = begun c .args in
     roundOf (a .previous .now) (a .next .now) (a .sizes .now)
 
+-- the state there, and its number
 abbrev place : Seen → State
 place c =
-    let l = c .before .before .before .before .before .before .before .loop in
+    let l = turn c .loop in
     stateOf (round c) (l .first) (l .coefficients) (l .order) (l .marks) (l .s)
 
 abbrev number : Seen → ℕ
-number c =
-    c .before .before .before .before .before .before .before .before
-    .before .before .before .before .before .before .args .budget
-    - c .before .before .before .before .before .before .before .loop .left
+number c = begun c .args .budget - turn c .loop .left
 
--- its label is known
-abbrev Known : Seen → Type 0
-Known c =
-    let a = c .before .before .before .before .before .before .before
-    .before .before .before .before .before .before .before .args in
-    IsKnown (tableProblem (a .g) (a .table .now)) (place c)
-
--- where the move from there leads
-next : (c : Seen) → Known c → (after : After)
-    → after
-    ≡ step (read
-    (tableProblem
-    (c .before .before .before .before .before .before .before .before
-    .before .before .before .before .before .before .args .g)
-    (c .before .before .before .before .before .before .before .before
-    .before .before .before .before .before .before .args .table .now))
-    (place c))
+-- where the move from there leads, once its label is known
+next : (c : Seen) → IsKnown (table c) (place c) → (after : After) → after ≡ step (read (table c) (place c))
     → NextAt (filledTable (problem c)) (number c) after
 next c known after e =
-    let s =
-    c .before .before .before .before .before .before .before .before .before .before .before .before .before .before in
-    let a = s .args in
-    let w = s .pre in
+    let a = begun c .args in
+    let w = begun c .pre in
     leads (a .g) (w .readable .made) (a .first .now) (a .table .now) (w .accepted) (place c) (number c)
-    (c .before .before .before .before .before .before .before .loop .inv .0) known after e
+    (turn c .loop .inv .0) known after e
 
 -- the budget that is spent with it
-spent : (c : Seen)
-    → c .before .before .before .before .before .before .before .before
-    .before .before .before .before .before .before .args .budget
-    - (c .before .before .before .before .before .before .before .loop .left - 1)
-    ≡ suc (number c)
-spent c = omega (
-  arith,
-  c .before .before .before .before .before .before .before .loop .inv .1,
-  c .before .before .before .before .before .before .loop-test .taken,
-)
+spent : (c : Seen) → begun c .args .budget - (turn c .loop .left - 1) ≡ suc (number c)
+spent c = omega (arith, turn c .loop .inv .1, c .before .before .before .before .before .before .loop-test .taken)
 
-within : (c : Seen)
-    → number c
-    < c .before .before .before .before .before .before .before .before
-    .before .before .before .before .before .before .args .budget
-within c = omega (
-  arith,
-  c .before .before .before .before .before .before .before .loop .inv .1,
-  c .before .before .before .before .before .before .loop-test .taken,
-)
+within : (c : Seen) → number c < begun c .args .budget
+within c = omega (arith, turn c .loop .inv .1, c .before .before .before .before .before .before .loop-test .taken)
 
 sub-left : tie.Need-sub-left Inv-loop μ-loop
 sub-left c = omega arith
@@ -155,24 +131,19 @@ enum-known-seen : tie.Need-enum-known-seen Inv-loop μ-loop
 enum-known-seen c = search needs
 
 sub-t30 : tie.Need-sub-t30 Inv-loop μ-loop
-sub-t30 c =
-    omega (arith, c .before .before .before .before .before .before .before .before .before .before .loop .inv .1)
+sub-t30 c = omega (arith, turn (c .before .before .before) .loop .inv .1)
 
 sub-t31 : tie.Need-sub-t31 Inv-loop μ-loop
-sub-t31 c = omega (
-  arith,
-  c .before .before .before .before .before .before .before .before .before .before .loop .inv .1,
-  c .before .before .before .before .before .before .before .before .before .loop-test .taken,
-)
+sub-t31 c =
+    let v = c .before .before .before in
+    omega (arith, turn v .loop .inv .1, v .before .before .before .before .before .before .loop-test .taken)
 
 returns : tie.Need-returns Inv-loop μ-loop
 returns c =
     let v = c .before .before .before in
-    let s = c .before .before .before .before .before .before .before .before
-    .before .before .before .before .before .before .before .before .before in
-    let a = s .args in
-    let w = s .pre in
-    let l = c .before .before .before .before .before .before .before .before .before .before .loop in
+    let a = begun v .args in
+    let w = begun v .pre in
+    let l = turn v .loop in
     let G = rw (c .before .seen .given .1) at (v .visit .ensures) in
     let e : a .budget - (l .left - 1) - 1 ≡ number v = omega (arith, spent v) in
     rw e (asked (a .g) (w .readable .made) (a .first .now) (a .table .now) (w .accepted) (place v) (number v)
@@ -182,19 +153,14 @@ enum-known-seen-2 : tie.Need-enum-known-seen-2 Inv-loop μ-loop
 enum-known-seen-2 c = search needs
 
 sub-t33 : tie.Need-sub-t33 Inv-loop μ-loop
-sub-t33 c = omega (
-  arith,
-  c .before .before .before .before .before .before .before .before .before .before .before .loop .inv .1,
-)
+sub-t33 c = omega (arith, turn (c .before .before .before .before) .loop .inv .1)
 
 returns-2 : tie.Need-returns-2 Inv-loop μ-loop
 returns-2 c =
     let v = c .before .before .before .before in
-    let s = c .before .before .before .before .before .before .before .before .before
-    .before .before .before .before .before .before .before .before .before in
-    let a = s .args in
-    let w = s .pre in
-    let l = c .before .before .before .before .before .before .before .before .before .before .before .loop in
+    let a = begun v .args in
+    let w = begun v .pre in
+    let l = turn v .loop in
     let last = v .visit .last .1 .1 .1 .1 .1 .1 .1 in
     let G = rw (c .before .seen2 .given .1) at (v .visit .ensures) in (
       announced-place (a .g) (w .readable .made) (a .first .now) (a .table .now) (w .accepted) (place v) (number v)
@@ -207,19 +173,14 @@ enum-known-seen-3 : tie.Need-enum-known-seen-3 Inv-loop μ-loop
 enum-known-seen-3 c = search needs
 
 sub-t35 : tie.Need-sub-t35 Inv-loop μ-loop
-sub-t35 c = omega (
-  arith,
-  c .before .before .before .before .before .before .before .before .before .before .before .before .loop .inv .1,
-)
+sub-t35 c = omega (arith, turn (c .before .before .before .before .before) .loop .inv .1)
 
 returns-3 : tie.Need-returns-3 Inv-loop μ-loop
 returns-3 c =
     let v = c .before .before .before .before .before in
-    let s = c .before .before .before .before .before .before .before .before .before
-    .before .before .before .before .before .before .before .before .before .before in
-    let a = s .args in
-    let w = s .pre in
-    let l = c .before .before .before .before .before .before .before .before .before .before .before .before .loop in
+    let a = begun v .args in
+    let w = begun v .pre in
+    let l = turn v .loop in
     let last = v .visit .last .1 .1 .1 .1 .1 .1 .1 in
     let G = rw (c .before .seen3 .given .1) at (v .visit .ensures) in (
       announced-facet (a .g) (w .readable .made) (a .first .now) (a .table .now) (w .accepted) (place v) (number v)
@@ -236,23 +197,17 @@ labels-at-requires-2 c κs = search needs
 
 -- the walk has moved on: it stands at the next place of the path, and has read the labels up to it
 further : (c : tie.After-labels-at2 Inv-loop μ-loop)
-    → let v = c .before .before .before .before .before .before .before in
+    → (let v = c .before .before .before .before .before .before .before in
     let last = v .visit .last .1 .1 .1 .1 .1 .1 .1 in
     let e = stateOf (round v) (last .0) (last .1 .0) (last .1 .1 .0) (last .1 .1 .1 .0)
     (c .before .before .seen4 .given .0 .0) in
     OnPath (problem v) e (suc (number v))
-    × HasRead (problem v) (suc (number v))
-    (c .before .before .before .before .before .before .before .before
-    .before .before .before .before .before .before .loop .labels-read
-    + c .labels-at2 .result)
+    × HasRead (problem v) (suc (number v)) (turn v .loop .labels-read + c .labels-at2 .result))
 further c =
     let v = c .before .before .before .before .before .before .before in
-    let s = c .before .before .before .before .before .before .before .before .before .before
-    .before .before .before .before .before .before .before .before .before .before .before in
-    let a = s .args in
-    let w = s .pre in
-    let l = c .before .before .before .before .before .before .before
-    .before .before .before .before .before .before .before .loop in
+    let a = begun v .args in
+    let w = begun v .pre in
+    let l = turn v .loop in
     let G = rw (c .before .before .seen4 .given .1) at (v .visit .ensures) in
     let on = next v (G .0) _ (G .1 .after) in (
       goes-on (a .g) (w .readable .made) (a .first .now) (a .table .now) (w .accepted) (place v) (number v) (l .inv .0)
@@ -264,10 +219,9 @@ further c =
 
 add-labels-read : tie.Need-add-labels-read Inv-loop μ-loop
 add-labels-read c =
-    let s = c .before .before .before .before .before .before .before .before .before .before
-    .before .before .before .before .before .before .before .before .before .before .before in
-    let a = s .args in
-    let w = s .pre in
+    let v = c .before .before .before .before .before .before .before in
+    let a = begun v .args in
+    let w = begun v .pre in
     let f = further c in
     record {
       fits = reads-fit (a .g) (w .readable .made) (a .first .now) (a .table .now) (w .accepted) _ _ (f .0 .1) (f .1);
@@ -282,11 +236,7 @@ loop-again c =
     let G = rw (c .before .before .seen4 .given .1) at (v .visit .ensures) in
     let f = further c in (
       rw (spent v) (f .0),
-      omega (
-        arith,
-        c .before .before .before .before .before .before .before .before
-            .before .before .before .before .before .before .loop .inv .1,
-      ),
+      omega (arith, turn v .loop .inv .1),
       G .1 .each,
       rw (spent v) (f .1),
     )
