@@ -21,30 +21,6 @@ use Rattle.level_questions.proofs.Asked.{no-buffer, no-length, no-range
 use Rattle.level_questions.proofs.later.first_no.Statement.{statement}
 use Rattle.level_questions.proofs.later.first_no.Tie as tie
 
--- what is known behind each question
-on : (c : tie.Else1)
-    → isGridPoint (shape (c .before .before .before .before .args .grid))
-    (c .before .before .before .before .args .start .now) ≡ true
-on c = sym (c .before .is-grid-point .ensures) ∙ not-false _ (c .if1 .left)
-
-count-is : (c : tie.After-num-profiles)
-    → let g = c .before .before .before .before .before .before .before .args .grid in
-    g .blocks * c .num-profiles .result ≡ numLosses (shape g)
-count-is c =
-    let s = c .before .before .before .before .before .before .before in
-    let g = s .args .grid in
-    ap (λ (n : ℕ). g .blocks * n) (c .num-profiles .ensures) ∙ ap (λ (n : ℕ). n * product (shape g .sizes))
-    (made-blocks g (s .pre .0))
-
-whole : (c : tie.Else2) → let a = c .before .before .before .before .before .before .before .before .args in
-    length (a .losses .now) ≡ numLosses (shape (a .grid))
-whole c = c .if2 .left ∙ count-is (c .before)
-
-range : (c : tie.Else3)
-    → all inRange (c .before .before .before .before .before .before .before .before .before .before .args .losses .now)
-    ≡ true
-range c = sym (c .before .in-range .ensures) ∙ not-false _ (c .if3 .left)
-
 is-grid-point-requires : tie.Need-is-grid-point-requires
 is-grid-point-requires c κs = search needs
 
@@ -54,20 +30,47 @@ returns c =
     no-start (shape (a .grid)) (a .points) (a .start .now) (a .losses .now) (a .levels) (a .label-room) (a .room)
     (sym (c .before .is-grid-point .ensures) ∙ not-true _ (c .if1 .taken))
 
+-- question 5 answered yes, and where the call began
+abbrev Started : Type 0
+Started = tie.Else1
+
+abbrev begun : Started → tie.Start
+begun c = c .before .before .before .before
+
+on : (c : Started) → isGridPoint (shape (begun c .args .grid)) (begun c .args .start .now) ≡ true
+on c = sym (c .before .is-grid-point .ensures) ∙ not-false _ (c .if1 .left)
+
 array-share-prefix-sizes : tie.Need-array-share-prefix-sizes
 array-share-prefix-sizes c =
-    let s = c .before .before .before .before .before in blocks-room (s .args .grid) (s .pre .0) .0
+    let s = begun (c .before) in
+    blocks-room (s .args .grid) (s .pre .0) .0
 
 slice-aggregate-num-profiles : tie.Need-slice-aggregate-num-profiles
 slice-aggregate-num-profiles c = sym (length-take-le _ _ (array-share-prefix-sizes (c .before)))
 
 num-profiles-requires : tie.Need-num-profiles-requires
 num-profiles-requires c κs =
-    let s = c .before .before .before .before .before .before in made-accepted (s .args .grid) (s .pre .0) .fewIndices
+    let s = begun (c .before .before) in
+    made-accepted (s .args .grid) (s .pre .0) .fewIndices
+
+-- the profiles counted
+abbrev Counted : Type 0
+Counted = tie.After-num-profiles
+
+abbrev started : Counted → Started
+started c = c .before .before .before
+
+count-is : (c : Counted) → (let g = begun (started c) .args .grid in
+    g .blocks * c .num-profiles .result ≡ numLosses (shape g))
+count-is c =
+    let s = begun (started c) in
+    let g = s .args .grid in
+    ap (λ (n : ℕ). g .blocks * n) (c .num-profiles .ensures)
+    ∙ ap (λ (n : ℕ). n * product (shape g .sizes)) (made-blocks g (s .pre .0))
 
 mul-if2 : tie.Need-mul-if2
 mul-if2 c =
-    let s = c .before .before .before .before .before .before .before in
+    let s = begun (started c) in
     let g = s .args .grid in
     let few = product-few (shape g .sizes) (made-accepted g (s .pre .0) .fewIndices) in
     let m : g .blocks * c .num-profiles .result ≤ 6 * 324 =
@@ -78,57 +81,67 @@ mul-if2 c =
 
 returns-2 : tie.Need-returns-2
 returns-2 c =
-    let a = c .before .before .before .before .before .before .before .before .args in
+    let d = started (c .before) in
+    let a = begun d .args in
     no-length (shape (a .grid)) (a .points) (a .start .now) (a .losses .now) (a .levels) (a .label-room) (a .room)
-    (on (c .before .before .before .before))
-    (λ e. c .if2 .taken (e ∙ sym (count-is (c .before))))
+    (on d) (λ e. c .if2 .taken (e ∙ sym (count-is (c .before))))
+
+-- question 10 answered yes
+whole : (c : tie.Else2) → (let a = begun (started (c .before)) .args in
+    length (a .losses .now) ≡ numLosses (shape (a .grid)))
+whole c = c .if2 .left ∙ count-is (c .before)
 
 in-range-requires : tie.Need-in-range-requires
 in-range-requires c κs = search needs
 
 returns-3 : tie.Need-returns-3
 returns-3 c =
-    let a = c .before .before .before .before .before .before .before .before .before .before .args in
+    let w = c .before .before in
+    let d = started (w .before) in
+    let a = begun d .args in
     no-range (shape (a .grid)) (a .points) (a .start .now) (a .losses .now) (a .levels) (a .label-room) (a .room)
-    (on (c .before .before .before .before .before .before)) (whole (c .before .before))
-    (sym (c .before .in-range .ensures) ∙ not-true _ (c .if3 .taken))
+    (on d) (whole w) (sym (c .before .in-range .ensures) ∙ not-true _ (c .if3 .taken))
+
+-- question 11 answered yes
+abbrev Ranged : Type 0
+Ranged = tie.Else3
+
+abbrev asked : Ranged → Started
+asked c = started (c .before .before .before)
+
+range : (c : Ranged) → all inRange (begun (asked c) .args .losses .now) ≡ true
+range c = sym (c .before .in-range .ensures) ∙ not-false _ (c .if3 .left)
 
 returns-4 : tie.Need-returns-4
 returns-4 c =
-    let a = c .before .before .before .before .before .before .before .before .before .before .before .args in
+    let r = c .before in
+    let a = begun (asked r) .args in
     no-buffer (shape (a .grid)) (a .points) (a .start .now) (a .losses .now) (a .levels) (a .label-room) (a .room)
-    (on (c .before .before .before .before .before .before .before)) (whole (c .before .before .before))
-    (range (c .before)) (c .if4 .taken)
+    (on (asked r)) (whole (r .before .before)) (range r) (c .if4 .taken)
 
 room-of-requires : tie.Need-room-of-requires
 room-of-requires c κs = search needs
 
 mul-if5 : tie.Need-mul-if5
 mul-if5 c =
-    let s = c .before .before .before .before .before .before .before .before .before .before .before .before in
+    let s = begun (asked (c .before .before)) in
     let p : s .args .levels * c .room-of .result ≤ 8 * 272 = mul-le-mul (s .pre .1) (c .room-of .ensures .1) in
     omega arith
 
 returns-5 : tie.Need-returns-5
 returns-5 c =
-    let a =
-    c .before .before .before .before .before .before .before .before .before .before .before .before .before .args
-    in
+    let r = c .before .before .before in
+    let a = begun (asked r) .args in
     no-room (shape (a .grid)) (a .points) (a .start .now) (a .losses .now) (a .levels) (a .label-room) (a .room)
-    (on (c .before .before .before .before .before .before .before .before .before))
-    (whole (c .before .before .before .before .before)) (range (c .before .before .before))
-    (c .before .before .if4 .left)
+    (on (asked r)) (whole (r .before .before)) (range r) (c .before .before .if4 .left)
     (rw (c .before .room-of .ensures .0) at (c .if5 .taken))
 
 returns-6 : tie.Need-returns-6
 returns-6 c =
-    let a =
-    c .before .before .before .before .before .before .before .before .before .before .before .before .before .args
-    in
+    let r = c .before .before .before in
+    let a = begun (asked r) .args in
     none-no (shape (a .grid)) (a .points) (a .start .now) (a .losses .now) (a .levels) (a .label-room) (a .room)
-    (on (c .before .before .before .before .before .before .before .before .before))
-    (whole (c .before .before .before .before .before)) (range (c .before .before .before))
-    (c .before .before .if4 .left)
+    (on (asked r)) (whole (r .before .before)) (range r) (c .before .before .if4 .left)
     (rw (c .before .room-of .ensures .0) at (c .if5 .left))
 
 pub first-no-spec : {M : Type 1} → statement M
