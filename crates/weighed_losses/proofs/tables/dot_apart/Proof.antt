@@ -25,10 +25,24 @@ first : (s : tie.Start Inv-loop μ-loop)
     + blend (drop 2 (s .args .mix .now)) (λ i. number (s .args .values .now) ((2 + i) * s .args .step))
 first s = apart-first (s .args .mix .now) (s .args .values .now) (s .args .step) (s .pre .two)
 
+-- before the loop, and where the call began
+abbrev Ready : Type 0
+Ready = tie.After-shared-slice-known6 Inv-loop μ-loop
+
+abbrev begun : Ready → tie.Start Inv-loop μ-loop
+begun c = c .before .before .before .before .before .before .before .before
+
+-- a turn
+abbrev Turn : Type 0
+Turn = tie.In-loop Inv-loop μ-loop
+
+abbrev start : Turn → tie.Start Inv-loop μ-loop
+start c = begun (c .before .before)
+
 -- what is left at a turn
 module _ (c : tie.After-shared-slice-known8 Inv-loop μ-loop) where
   abbrev s : tie.Start Inv-loop μ-loop
-  s = c .before .before .before .before .before .before .before .before .before .before .before .before .before
+  s = start (c .before .before .before)
 
   abbrev k : ℕ
   k = c .before .before .before .before .loop .k
@@ -45,20 +59,14 @@ long-requires : tie.Need-long-requires Inv-loop μ-loop
 long-requires c κs = search needs
 
 shared-slice-read-total : tie.Need-shared-slice-read-total Inv-loop μ-loop
-shared-slice-read-total c = omega (
-  arith,
-  c .before .before .before .before .before .pre .inside 0
-      (omega (arith, c .before .before .before .before .before .pre .two)),
-)
+shared-slice-read-total c =
+    let s = c .before .before .before .before .before in
+    omega (arith, s .pre .inside 0 (omega (arith, s .pre .two)))
 
 mul-total : tie.Need-mul-total Inv-loop μ-loop
-mul-total c = record {
-  fits = rw (c .before .long .ensures) (omega (
-    arith,
-    first (c .before .before .before .before .before),
-    c .before .before .before .before .before .pre .fits,
-  ));
-}
+mul-total c =
+    let s = c .before .before .before .before .before in
+    record { fits = rw (c .before .long .ensures) (omega (arith, first s, s .pre .fits)) }
 
 shared-slice-read-long-2 : tie.Need-shared-slice-read-long-2 Inv-loop μ-loop
 shared-slice-read-long-2 c = omega arith
@@ -67,52 +75,38 @@ long-requires-2 : tie.Need-long-requires-2 Inv-loop μ-loop
 long-requires-2 c κs = search needs
 
 mul-total-2 : tie.Need-mul-total-2 Inv-loop μ-loop
-mul-total-2 c = omega (
-  arith,
-  c .before .before .before .before .before .before .before .pre .inside 1
-      (omega (arith, c .before .before .before .before .before .before .before .pre .two)),
-)
+mul-total-2 c =
+    let s = c .before .before .before .before .before .before .before in
+    omega (arith, s .pre .inside 1 (omega (arith, s .pre .two)))
 
 shared-slice-read-total-2 : tie.Need-shared-slice-read-total-2 Inv-loop μ-loop
-shared-slice-read-total-2 c = omega (
-  arith,
-  c .before .before .before .before .before .before .before .before .pre .inside 1
-      (omega (arith, c .before .before .before .before .before .before .before .before .pre .two)),
-)
+shared-slice-read-total-2 c =
+    let s = begun c in
+    omega (arith, s .pre .inside 1 (omega (arith, s .pre .two)))
 
 mul-total-3 : tie.Need-mul-total-3 Inv-loop μ-loop
-mul-total-3 c = record {
-  fits = rw (c .before .long2 .ensures) (omega (
-    arith,
-    first (c .before .before .before .before .before .before .before .before),
-    c .before .before .before .before .before .before .before .before .pre .fits,
-  ));
-}
+mul-total-3 c =
+    let s = begun c in
+    record { fits = rw (c .before .long2 .ensures) (omega (arith, first s, s .pre .fits)) }
 
 add-total : tie.Need-add-total Inv-loop μ-loop
-add-total c = record {
-  fits = rw (c .before .before .before .before .long .ensures, c .before .long2 .ensures) (omega (
-    arith,
-    first (c .before .before .before .before .before .before .before .before),
-    c .before .before .before .before .before .before .before .before .pre .fits,
-  ));
-}
+add-total c =
+    let s = begun c in
+    record {
+      fits = rw (c .before .before .before .before .long .ensures, c .before .long2 .ensures)
+          (omega (arith, first s, s .pre .fits));
+    }
 
 loop-holds : tie.Need-loop-holds Inv-loop μ-loop
 loop-holds c = (
-  rw (c .before .before .before .before .long .ensures, c .before .long2 .ensures)
-      (omega (arith, first (c .before .before .before .before .before .before .before .before))),
+  rw (c .before .before .before .before .long .ensures, c .before .long2 .ensures) (omega (arith, first (begun c))),
   omega arith,
   omega arith,
-  omega (arith, c .before .before .before .before .before .before .before .before .pre .two),
+  omega (arith, begun c .pre .two),
 )
 
 add-at : tie.Need-add-at Inv-loop μ-loop
-add-at c = omega (
-  arith,
-  c .before .before .before .before .before .before .before .before .before .before .pre .inside (c .before .loop .k)
-      (omega arith),
-)
+add-at c = omega (arith, start c .pre .inside (c .before .loop .k) (omega arith))
 
 mul-long : tie.Need-mul-long Inv-loop μ-loop
 mul-long c = omega arith
@@ -124,37 +118,23 @@ long-requires-3 : tie.Need-long-requires-3 Inv-loop μ-loop
 long-requires-3 c κs = search needs
 
 mul-total-4 : tie.Need-mul-total-4 Inv-loop μ-loop
-mul-total-4 c = omega (
-  arith,
-  c .before .before .before .before .before .before .before .before .before .before .before .before .pre .inside
-      (c .before .before .before .loop .k) (omega arith),
-)
+mul-total-4 c =
+    let t = c .before .before in
+    omega (arith, start t .pre .inside (t .before .loop .k) (omega arith))
 
 shared-slice-read-total-3 : tie.Need-shared-slice-read-total-3 Inv-loop μ-loop
-shared-slice-read-total-3 c = omega (
-  arith,
-  c .before .before .before .before .before .before .before .before .before .before .before .before .before .pre .inside
-      (c .before .before .before .before .loop .k) (omega arith),
-)
+shared-slice-read-total-3 c = omega (arith, s c .pre .inside (k c) (omega arith))
 
 mul-total-5 : tie.Need-mul-total-5 Inv-loop μ-loop
 mul-total-5 c = record {
-  fits = rw (c .before .long3 .ensures, c .before .before .before .before .loop .inv .1) (omega (
-    arith,
-    next c,
-    c .before .before .before .before .before .before .before
-        .before .before .before .before .before .before .pre .fits,
-  ));
+  fits = rw (c .before .long3 .ensures, c .before .before .before .before .loop .inv .1)
+      (omega (arith, next c, s c .pre .fits));
 }
 
 add-total-2 : tie.Need-add-total-2 Inv-loop μ-loop
 add-total-2 c = record {
-  fits = rw (c .before .long3 .ensures, c .before .before .before .before .loop .inv .1) (omega (
-    arith,
-    next c,
-    c .before .before .before .before .before .before .before
-        .before .before .before .before .before .before .pre .fits,
-  ));
+  fits = rw (c .before .long3 .ensures, c .before .before .before .before .loop .inv .1)
+      (omega (arith, next c, s c .pre .fits));
 }
 
 add-k : tie.Need-add-k Inv-loop μ-loop
@@ -172,13 +152,9 @@ loop-again c = (
 )
 
 returns : tie.Need-returns Inv-loop μ-loop
-returns c = omega (
-  arith,
-  apart-done (c .before .before .before .before .before .before .before .before .before .before .args .mix .now)
-      (c .before .before .before .before .before .before .before .before .before .before .args .values .now)
-      (c .before .before .before .before .before .before .before .before .before .before .args .step)
-      (c .before .loop .k) (omega arith),
-)
+returns c =
+    let a = begun (c .before .before) .args in
+    omega (arith, apart-done (a .mix .now) (a .values .now) (a .step) (c .before .loop .k) (omega arith))
 
 pub dot-apart-spec : {M : Type 1} → statement M
 dot-apart-spec =
