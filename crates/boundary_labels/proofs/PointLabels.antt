@@ -10,10 +10,10 @@ use lib.Dec.{eqb, ltb}
 use lib.ListN.{length, getD, length-map}
 use native.Mathlib.Omega.{arith}
 use Rattle.combinatorics.proofs.Basics.{absurd-bool, and-both, before-or-not, false-of, true-or-false}
-use Rattle.combinatorics.proofs.Lists.{at-all, filter-in, in-filter, in-here, onNumbers}
+use Rattle.combinatorics.proofs.Lists.{at-all, filter-in, in-filter, in-here, mapped-at, onNumbers}
 use Rattle.combinatorics.specs.Lists.{distinct, filter, firstOr, isIn, upFrom}
 use Rattle.grid_points.proofs.Accepted.{Accepted}
-use Rattle.grid_points.proofs.Points.{distinct-points, onPoints, position-in, at-map}
+use Rattle.grid_points.proofs.Points.{distinct-points, onPoints, position-in}
 use Rattle.grid_points.specs.Grid.{Grid, Point, at, indices, isGridPoint, numIndices, numPoints, points, position}
 use Rattle.grid_points.specs.Grid.{positionIn}
 use Rattle.grid_points.specs.Grid.{samePoint}
@@ -130,7 +130,7 @@ module _ (g : Grid) (old : List ℕ) where
       → getD (boundaryTable g old) (position g y) 0 ≡ newLabel g old y
   unfolding boundaryTable
   table-at y m =
-      at-map (newLabel g old) (points g) (position g y) (position-in (points g) y m)
+      mapped-at (newLabel g old) [] (points g) (position g y) (position-in (points g) y m)
       ∙ ap (newLabel g old) (at-positionIn (points g) y m)
 
   -- the k-th byte of the new table, by the k-th point and the k-th old byte
@@ -140,5 +140,5 @@ module _ (g : Grid) (old : List ℕ) where
   table-kth k l y e =
       let i : position g (getD (points g) k []) ≡ k = position-at (points g) (distinct-points g) k l in
       let z = getD (points g) k [] in
-      rw e (at-map (newLabel g old) (points g) k l
+      rw e (mapped-at (newLabel g old) [] (points g) k l
       ∙ ap (λ (n : ℕ). cond (isInterior z) (getD old n 0) (boundaryLabel g z)) i)

@@ -4,10 +4,10 @@ use mathlib.Core.Path.{_≡_}
 use Prim.Native.Nat.{ℕ, _+_, _<_}
 use lib.ListN.{length, getD, take, set, length-map}
 use native.Mathlib.Omega.{arith}
+use Rattle.combinatorics.proofs.Lists.{mapped-at}
 use Rattle.combinatorics.proofs.Fronts.{front-copy}
 use Rattle.combinatorics.specs.Front.{front}
 use Rattle.grid_points.specs.Grid.{Grid, Point, points, numPoints}
-use Rattle.grid_points.proofs.Points.{at-map}
 use Rattle.losses.specs.Game.{gameLabel, labels}
 
 pub labels-length : (g : Grid) (losses : List ℕ) → length (labels g losses) ≡ numPoints g
@@ -19,5 +19,5 @@ module _ (g : Grid) (k : ℕ) where
       → y ≡ getD (points g) k []
       → set (front (take k (labels g losses)) old) k (gameLabel g losses y) ≡ front (take (k + 1) (labels g losses)) old
   unfolding labels
-  label-written losses old h n y e = rw (e, ← at-map (gameLabel g losses) (points g) k h)
+  label-written losses old h n y e = rw (e, ← mapped-at (gameLabel g losses) [] (points g) k h)
       (front-copy (map (gameLabel g losses) (points g)) old k (rw length-map h) (omega arith))

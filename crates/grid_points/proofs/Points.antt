@@ -211,9 +211,3 @@ pub points-long : (g : Grid) (ys : List Point) → all (isGridPoint g) ys ≡ tr
 points-long g [] a = refl
 points-long g (y ∷ ys) a = and-both _ _ (eq-eqb _ _ (point-long g y (and-left (isGridPoint g y) _ a)))
     (points-long g ys (and-right (isGridPoint g y) _ a))
-
--- what a point at a place of a list is mapped to
-pub at-map : (f : Point → ℕ) (ys : List Point) (k : ℕ) → k < length ys → getD (map f ys) k 0 ≡ f (getD ys k [])
-at-map f [] k h = absurd (omega arith)
-at-map f (y ∷ ys) zero h = refl
-at-map f (y ∷ ys) (suc k) h = at-map f ys k (omega arith)

@@ -5,19 +5,15 @@ use Prim.Native.Nat.{ℕ, zero, suc, _+_, _-_, _≤_, _<_}
 use lib.ListN.{length, take, replicate, getD-replicate}
 use lib.Seq.{ext-getD, getD-take, length-take-le}
 use native.Mathlib.Omega.{arith}
+use Rattle.combinatorics.proofs.Turns.{map-at}
 use Rattle.combinatorics.specs.Lists.{upFrom}
 use Rattle.grid_points.specs.Grid.{at}
 use Rattle.positions.specs.Steps.{afterSteps, CanTakeSteps}
 
-at-map : (f : ℕ → ℕ) (b n k : ℕ) → k < n → at (map f (upFrom b n)) k ≡ f (b + k)
-at-map f b zero k l = absurd (omega arith)
-at-map f b (suc n) zero l = ap f (omega arith)
-at-map f b (suc n) (suc k) l = at-map f (suc b) n k (omega arith) ∙ ap f (omega arith)
-
 module _ (y steps : List ℕ) where
   pub after-at : (k : ℕ) → k < 16 → at (afterSteps y steps) k ≡ at y k + at steps k - 16
   unfolding afterSteps
-  after-at k l = at-map (λ k. at y k + at steps k - 16) 0 16 k l ∙ ap (λ k. at y k + at steps k - 16) (omega arith)
+  after-at k l = map-at (λ k. at y k + at steps k - 16) 0 16 k l ∙ ap (λ k. at y k + at steps k - 16) (omega arith)
 
   length-after : length (afterSteps y steps) ≡ 16
   unfolding afterSteps

@@ -5,6 +5,7 @@ use mathlib.Core.Path.{_≡_, refl}
 use Prim.Native.Nat.{ℕ, zero, suc, _≤_, _<_}
 use lib.ListN.{length}
 use native.Mathlib.Omega.{arith}
+use Rattle.combinatorics.proofs.Lists.{mapped-at}
 use Rattle.geometry.proofs.LabelledChains.{listAt, LabelledChain}
 use Rattle.geometry.proofs.Points.{nth}
 use Rattle.grid_points.specs.Grid.{at, position}
@@ -25,9 +26,11 @@ pub position-in : (position label : ℕ) → label < 256 → markPosition (mark 
 position-in position label l = omega arith
 
 pub labels-in : (marks : List ℕ) (j : ℕ) → j < length marks → at (map markLabel marks) j ≡ markLabel (at marks j)
-labels-in [] j l = absurd (omega arith)
-labels-in (m ∷ marks) zero l = refl
-labels-in (m ∷ marks) (suc j) l = labels-in marks j (omega arith)
+labels-in = mapped-at markLabel 0
+
+pub positions-in : (marks : List ℕ) (j : ℕ) → j < length marks
+    → at (map markPosition marks) j ≡ markPosition (at marks j)
+positions-in = mapped-at markPosition 0
 
 -- an index is a label
 pub indices-in : (l : List ℕ) → IndicesBelow l → map markLabel l ≡ l

@@ -12,14 +12,14 @@ use native.Mathlib.Omega.{arith}
 use Rattle.combinatorics.proofs.Basics.{absurd-bool, true-or-false, and-left, and-right, and-both, false-of}
 use Rattle.combinatorics.proofs.Basics.{before-or-not}
 use Rattle.combinatorics.proofs.EditsInsert.{length-insertAt, insertAt-before, insertAt-here, insertAt-behind}
-use Rattle.combinatorics.proofs.Lists.{all-in, in-all, in-here, in-later, in-cases, map-in, distinct-out, distinct-tail}
+use Rattle.combinatorics.proofs.Lists.{all-in, distinct-out, distinct-tail, in-all, in-cases, in-here, in-later, map-in, mapped-at}
 use Rattle.combinatorics.proofs.Lists.{onNumbers}
 use Rattle.combinatorics.proofs.Rising.{rising-distinct}
 use Rattle.combinatorics.specs.Edits.{insertAt}
 use Rattle.combinatorics.specs.Lists.{all, isIn, distinct, occurrences}
 use Rattle.geometry.proofs.Points.{nth}
 use Rattle.grid_points.proofs.Round.{block-fits}
-use Rattle.grid_points.proofs.Points.{onPoints, point-sound, point-self, in-points, position-in, at-map}
+use Rattle.grid_points.proofs.Points.{onPoints, point-sound, point-self, in-points, position-in}
 use Rattle.grid_points.specs.Grid.{Grid, Point, at, numIndices, isGridPoint, samePoint, points, position}
 use Rattle.place.specs.Coefficients.{coefficientSum}
 use Rattle.place.specs.Places.{Simplex, setT, labelSet, within, order, isUnlabelledPlace, isPlace, allLabelled}
@@ -94,7 +94,7 @@ module _ {p : Problem} (ok : HasStart p) (s : Simplex) (on : all (isGridPoint p.
   label-given : (y : Point) → isGridPoint p.grid y ≡ true → label (withLabels p (table p.grid s ls)) y ≡ given s ls y
   unfolding label table
   label-given y h =
-      at-map (given s ls) (points p.grid) (position p.grid y)
+      mapped-at (given s ls) [] (points p.grid) (position p.grid y)
       (position-in (points p.grid) y (in-points p.grid y ok.sameNumber h))
       ∙ ap (given s ls) (at-position p.grid ok.sameNumber y h)
 
@@ -222,7 +222,7 @@ module _ {p : Problem} (ok : HasStart p) (s : Simplex) (h : isUnlabelledPlace p 
   labels-are = table-labels ok s on d ls ls-long names
 
   at-point : (j : ℕ) → j < length s → label q (nth s j) ≡ getD ls j 0
-  at-point j l = sym (at-map (label q) s j l) ∙ ap (λ (k : List ℕ). getD k j 0) labels-are
+  at-point j l = sym (mapped-at (label q) [] s j l) ∙ ap (λ (k : List ℕ). getD k j 0) labels-are
 
   short : i ≤ length (map suc o)
   short = omega (arith, il, long, length-map o suc)

@@ -12,6 +12,7 @@ use lib.ListN.{length, length-map, length-set, set}
 use lib.Seq.{ext-getD, getD-set-other, getD-set-same}
 use native.Mathlib.Omega.{arith}
 use Rattle.combinatorics.proofs.Basics.{absurd-bool, before-or-not, false-of, same-or, true-or-false}
+use Rattle.combinatorics.proofs.Lists.{mapped-at}
 use Rattle.combinatorics.specs.Lists.{isIn}
 use Rattle.geometry.proofs.LabelledChains.{listAt}
 use Rattle.geometry.proofs.Points.{nth}
@@ -84,16 +85,6 @@ stripped-mark p labels few c =
         (λ t. omega (arith, index-is (numIndices p.grid) l t .1))
         (λ f. rw f (omega arith))
         (true-or-false (leb 1 l && leb l (numIndices p.grid)))
-
-mapped-at : (f : ℕ → ℕ) (l : List ℕ) (j : ℕ) → j < length l → at (map f l) j ≡ f (at l j)
-mapped-at f [] j l = absurd (omega arith)
-mapped-at f (x ∷ xs) zero l = refl
-mapped-at f (x ∷ xs) (suc j) l = mapped-at f xs j (omega arith)
-
-bare-at : (f : Point → ℕ) (l : List Point) (j : ℕ) → j < length l → at (map f l) j ≡ f (nth l j)
-bare-at f [] j l = absurd (omega arith)
-bare-at f (x ∷ xs) zero l = refl
-bare-at f (x ∷ xs) (suc j) l = bare-at f xs j (omega arith)
 
 -- by how a place was reached: the marks, and which point is new
 module _ {q : Problem} {T : ℕ → Bool} {t : ℕ} {o : ℕ → ℕ} {y : List (ℕ → ℕ)} {e : State}
@@ -211,7 +202,7 @@ module _ {p : Problem} (ok : HasStart p) {a : Simplex} {s : State} (S : Shows p 
 
     -- positions are not changed
     kept-position : (j : ℕ) → j < length e.marks → positionAt (stripped e) j ≡ positionAt e j
-    kept-position j l = ap markPosition (mapped-at strip e.marks j l) ∙ position-strip (at e.marks j)
+    kept-position j l = ap markPosition (mapped-at strip 0 e.marks j l) ∙ position-strip (at e.marks j)
       where
         position-strip : (m : ℕ) → markPosition (strip m) ≡ markPosition m
         position-strip m = omega arith
@@ -286,7 +277,7 @@ module _ {p : Problem} (ok : HasStart p) {a : Simplex} {s : State} (S : Shows p 
         (λ (z : j ≡ f .active). rw z
         (getD-set-same f.marks f.active come 0 (omega (arith, active-low r, long-f))
         ∙ c r
-        ∙ sym (bare-at (bare p) b f.active (omega (arith, active-low r, long-b)))))
+        ∙ sym (mapped-at (bare p) [] b f.active (omega (arith, active-low r, long-b)))))
         (λ n. getD-set-other f.marks f.active j come 0 n ∙ other j jl (λ m z. n (z ∙ sym (same-active r))))
         (same-or j f.active))))
         (λ (r : 6 ≤ f .rule). rw (le-ltb f.rule 6 r)
@@ -302,11 +293,11 @@ module _ {p : Problem} (ok : HasStart p) {a : Simplex} {s : State} (S : Shows p 
 
         other : (j : ℕ) → j ≤ R .t → (e .rule < 6 → j ≡ e .active → ⊥) → at f.marks j ≡ at (map (bare p) b) j
         other j jl n = ap (λ (l : List ℕ). at l j) marks-f
-            ∙ mapped-at strip e.marks j (omega (arith, marks-long))
+            ∙ mapped-at strip 0 e.marks j (omega (arith, marks-long))
             ∙ ap strip (came-marks D R.came refl j jl n)
             ∙ stripped-mark p labels ok.sixteenIndices (listAt y j)
             ∙ ap (bare p) (sym (point-b j jl))
-            ∙ sym (bare-at (bare p) b j (omega (arith, jl, long-b)))
+            ∙ sym (mapped-at (bare p) [] b j (omega (arith, jl, long-b)))
 
     shows-with : (k : ℕ) (marks : List ℕ) → marks ≡ map (bare p) b
         → Shows p b (withMarks (withActive (stripped e) k) marks)

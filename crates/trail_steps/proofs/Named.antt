@@ -11,7 +11,7 @@ use lib.ListN.{drop, getD, length, length-map}
 use native.Mathlib.Omega.{arith}
 use Rattle.combinatorics.proofs.Basics.{before-or-not}
 use Rattle.combinatorics.proofs.EditsRemove.{found-is}
-use Rattle.combinatorics.proofs.Lists.{all-in}
+use Rattle.combinatorics.proofs.Lists.{all-in, mapped-at}
 use Rattle.combinatorics.specs.Edits.{found}
 use Rattle.combinatorics.specs.Lists.{isIn}
 use Rattle.geometry.proofs.Points.{nth}
@@ -51,11 +51,6 @@ use Rattle.ways.specs.declared.Way.the-variants.{Joins, Leaves}
 pub data Names (p : Problem) (a b : Simplex) (t : ℕ) (T : ℕ → Bool) : Way → Type 0 where
   takes : (i : ℕ) → i ≤ t → 1 ≤ t → TakesOut p a i b → Names p a b t T (Leaves i)
   brings : (h : ℕ) → h < numIndices (p .grid) → T h ≡ false → BringsIn p a h b → Names p a b t T (Joins h)
-
-mapped-at : {A : Type 0} (f : A → ℕ) (d : A) (l : List A) (j : ℕ) → j < length l → getD (map f l) j 0 ≡ f (getD l j d)
-mapped-at f d [] j l = absurd (omega arith)
-mapped-at f d (x ∷ xs) zero l = refl
-mapped-at f d (x ∷ xs) (suc j) l = mapped-at f d xs j (omega arith)
 
 one : {y z : ℕ} → _≡_ {A = List ℕ} (y ∷ []) (z ∷ []) → y ≡ z
 one e = cc

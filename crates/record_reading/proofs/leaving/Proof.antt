@@ -1,8 +1,8 @@
 -- `record_reading::leaving` meets its contract. The invariant: the search from point k on finds what the search from
 -- the first finds. The measure: the points left. Assumes nothing.
-use mathlib.Core.List.{List, [], _∷_, map}
+use mathlib.Core.List.{List, map}
 use mathlib.Core.Path.{_≡_, refl, sym, _∙_}
-use Prim.Native.Nat.{ℕ, zero, suc, _-_, _≤_, _<_}
+use Prim.Native.Nat.{ℕ, suc, _-_, _≤_, _<_}
 use borrow.Author.Tests.{le-leb, le-ltb, lt-leb, lt-ltb}
 use lib.ListN.{drop, getD, length, length-map, take}
 use lib.Seq.{length-take-le}
@@ -11,6 +11,7 @@ use native.Mathlib.Omega.{arith}
 use Rattle.combinatorics.proofs.Basics.{and-false}
 use Rattle.combinatorics.proofs.EditsOfArrays.{found-here, found-later, found-past}
 use Rattle.combinatorics.specs.Edits.{found, foundFrom}
+use Rattle.rules.proofs.Marks.{positions-in}
 use Rattle.rules.specs.Step.{markPosition}
 use Rattle.record_reading.proofs.leaving.Statement.{statement}
 use Rattle.record_reading.proofs.leaving.Tie as tie
@@ -40,12 +41,6 @@ abbrev positions : At → List ℕ
 positions c =
     let a = c .before .before .before .before .args in
     map markPosition (take (suc (a .s .count)) (a .marks .now))
-
-positions-in : (marks : List ℕ) (j : ℕ) → j < length marks
-    → getD (map markPosition marks) j 0 ≡ markPosition (getD marks j 0)
-positions-in [] j l = absurd (omega arith)
-positions-in (m ∷ marks) zero l = refl
-positions-in (m ∷ marks) (suc j) l = positions-in marks j (omega arith)
 
 among : (c : At) → let k = c .before .before .loop .k in
     (k < length (positions c)) × (getD (positions c) k 0 ≡ c .position-at .result)
