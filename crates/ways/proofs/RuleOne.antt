@@ -4,14 +4,13 @@ use mathlib.Core.List.{List}
 use mathlib.Core.Logic.{⊎-elim}
 use mathlib.Core.Path.{_≡_, refl, sym, _∙_, subst}
 use Prim.Native.Nat.{ℕ, zero, suc, _-_, _<_}
-use borrow.Author.Tests.{eq-eqb, ne-eqb}
 use lib.Dec.{eqb, ltb}
 use lib.ListN.{length}
 use native.Mathlib.Omega.{arith}
-use Rattle.combinatorics.proofs.Basics.{same-or, true-or-false}
+use Rattle.combinatorics.proofs.Basics.{true-or-false}
 use Rattle.grid_points.specs.Grid.{at}
 use Rattle.rules.proofs.FirstMet.{below}
-use Rattle.rules.proofs.Masks.{bit-without}
+use Rattle.rules.proofs.SameMasks.{without-none}
 use Rattle.rules.specs.Mask.{bit, withoutIndex}
 use Rattle.rules.specs.Ready.{IndicesBelow}
 use Rattle.rules.specs.Step.{After, State, endsAtFacet, endsAtPlace, firstMet, firstOutsideOrZero, goes}
@@ -37,14 +36,6 @@ met-below way q I (suc n) h l = ⊎-elim
     (λ (e : q h ≡ true). rw e l)
     (λ (e : q h ≡ false). rw e (met-below way q I n (at way h) (below way I h)))
     (true-or-false (q h))
-
--- to take out an index that is not there changes nothing
-without-none : (m h k : ℕ) → h < 16 → k < 16 → bit m h ≡ false → bit m k ≡ bit (withoutIndex m h) k
-without-none m h k hl kl e =
-    ⊎-elim
-    (λ (q : k ≡ h). rw (q, e) (sym (bit-without m h h hl hl ∙ rw (eq-eqb h h refl))))
-    (λ n. sym (bit-without m h k hl kl ∙ rw (ne-eqb k h n)))
-    (same-or k h)
 
 module _ (s : State) (I : IndicesBelow (s .round .previous)) where
   shrunk-else : (i e : ℕ) (intoU : Bool) → shrink s i e intoU .rule ≡ 1 → ⊥
