@@ -1,26 +1,23 @@
 -- In a grid of one block: the position of the point that has come in, by the step to it and by the step from it.
 -- Assumes nothing.
-use mathlib.Core.Bool.{Bool, true, false, _||_, cond}
+use mathlib.Core.Bool.{Bool, true, false, cond}
 use mathlib.Core.List.{List}
-use mathlib.Core.Logic.{⊎-elim}
 use mathlib.Core.Path.{_≡_, _∙_}
 use Prim.Native.Nat.{ℕ, suc, _+_, _-_, _≤_, _<_}
-use borrow.Author.Tests.{lt-ltb, le-ltb}
+use borrow.Author.Tests.{lt-ltb}
 use lib.Dec.{ltb}
 use lib.ListN.{length}
 use native.Mathlib.Omega.{arith}
-use Rattle.combinatorics.proofs.Basics.{before-or-not, true-or-false}
 use Rattle.grid.proofs.Fields.{made-accepted, made-indices}
 use Rattle.positions.proofs.ByTails.{falls-room}
 use Rattle.positions.proofs.Positions.{position-below}
 use Rattle.positions.specs.Falls.{Falls, tailFrom}
-use Rattle.grid_points.specs.Grid.{Grid, position}
+use Rattle.grid_points.specs.Grid.{position}
 use Rattle.grid.specs.Made.{IsMade, shape}
 use Rattle.grid.specs.declared.Grid.{Grid as GridStruct}
 use Rattle.rules.specs.Read.{Falling, FallsBeside, pointOn, positionAt, sourceAt, stepAt}
 use Rattle.rules.specs.Step.{State}
-use Rattle.marks.specs.Reading.{CanWeigh, FallsBy, fallsFrom, fallsTo, oneStep, tailBy}
-use Rattle.marks.specs.declared.one_step.Found.the-variants.{At, Nothing}
+use Rattle.marks.specs.Reading.{CanWeigh, FallsBy, tailBy}
 
 -- a step that lowers the position
 module _ {g : GridStruct} (made : IsMade g) (one : g .blocks ≡ 1) {tails : List ℕ} {a : State} {j lag : ℕ}
@@ -100,50 +97,3 @@ module _ {g : GridStruct} (made : IsMade g) (one : g .blocks ≡ 1) {tails : Lis
     far-low =
         let w = made-accepted g made in
         omega (arith, position-below (shape g) _ (w .sameNumber) (to-far .falls .here), w .fewPoints)
-
--- the answer, where one of the two steps takes from an index before its own, and where neither does
-module _ (g : Grid) (a : State) where
-  pub found-near : (n : ℕ) → 0 < a .active → sourceAt a (a .active - 1) < stepAt a (a .active - 1)
-      → n ≡ position g (pointOn g a (a .active)) → At n ≡ oneStep g a
-  unfolding oneStep
-  found-near n l b e = rw (lt-ltb 0 (a .active) l, lt-ltb _ _ b, e)
-
-  -- the step to the point is none, or takes from its own index or one behind it
-  abbrev pub NotTo : Type 0
-  NotTo = fallsTo a ≡ false
-
-  pub not-to : (0 < a .active → stepAt a (a .active - 1) ≤ sourceAt a (a .active - 1)) → NotTo
-  not-to h = ⊎-elim
-      (λ (l : 0 < a .active).
-      rw (lt-ltb 0 (a .active) l, le-ltb (sourceAt a (a .active - 1)) (stepAt a (a .active - 1)) (h l)))
-      (λ (l : a .active ≤ 0). rw (le-ltb 0 (a .active) l))
-      (before-or-not 0 (a .active))
-
-  pub not-from : (a .active < length (a .order) → stepAt a (a .active) ≤ sourceAt a (a .active)) → fallsFrom a ≡ false
-  not-from h = ⊎-elim
-      (λ (l : a .active < length (a .order)).
-      rw (lt-ltb (a .active) (length (a .order)) l, le-ltb (sourceAt a (a .active)) (stepAt a (a .active)) (h l)))
-      (λ (l : length (a .order) ≤ a .active). rw (le-ltb (a .active) (length (a .order)) l))
-      (before-or-not (a .active) (length (a .order)))
-
-  pub found-far : (n : ℕ) → NotTo → a .active < length (a .order) → sourceAt a (a .active) < stepAt a (a .active)
-      → n ≡ position g (pointOn g a (a .active)) → At n ≡ oneStep g a
-  unfolding oneStep
-  found-far n t l b e = rw (t, lt-ltb (a .active) (length (a .order)) l, lt-ltb _ _ b, e)
-
-  pub found-nothing : NotTo → fallsFrom a ≡ false → Nothing ≡ oneStep g a
-  unfolding oneStep
-  found-nothing t f = rw (t, f)
-
-  -- a position that was found is the point's
-  pub one-step-is : (n : ℕ) → At n ≡ oneStep g a → n ≡ position g (pointOn g a (a .active))
-  unfolding oneStep
-  one-step-is n e = ⊎-elim
-      (λ (t : (fallsTo a || fallsFrom a) ≡ true).
-      let z : At n ≡ At (position g (pointOn g a (a .active))) = rw t at e in
-      cc)
-      (λ (f : (fallsTo a || fallsFrom a) ≡ false).
-      let z : At n ≡ Nothing = rw f at e in
-      let y : _≡_ {A = ℕ} 0 1 = cc in
-      absurd (omega arith))
-      (true-or-false (fallsTo a || fallsFrom a))

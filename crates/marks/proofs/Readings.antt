@@ -26,8 +26,10 @@ use Rattle.moves.specs.Held.{stateOf}
 use Rattle.rules.specs.Read.{Exchanged, ReadyPoint, pointAfter, pointOn, positionAt, stepAt}
 use Rattle.rules.specs.Step.{State, Round, mark, source, sourceIn}
 use Rattle.moves.specs.declared.Status.{Status}
-use Rattle.marks.specs.Reading.{Readable, CanReadPoint, addUp, isBetween, labelReading, tableProblem}
+use Rattle.marks.specs.Reading.{Readable, CanFind, CanReadPoint, HasOrder, addUp, isBetween, labelReading}
+use Rattle.marks.specs.Reading.{tableProblem}
 use Rattle.marks.specs.declared.LookedUp.the-variants.{Marked, Unknown}
+use Rattle.marks.specs.declared.one_step.Found.the-variants.{At, Nothing}
 
 -- a grid point's label stands in the table at its position
 module _ (g : GridStruct) (binomials table : List ℕ) (R : Readable g binomials table) (y : Point) where
@@ -71,6 +73,25 @@ add-up-means g from h k e = ⊎-elim
           ltb-true _ _ (and-left (ltb (from k) k) _ r),
           ⊎-elim (λ l. inl (leb-true _ _ l)) (λ l. inr (leb-true _ _ l)) ends,
         )
+
+-- the steps of a point whose position can be found are those of an array
+pub has-order : {g : GridStruct} {tails : List ℕ} {a : State} {s : Status} → CanFind g tails a s
+    → a .active ≡ s .active → HasOrder (a .round .previous) (a .order) s
+has-order F e =
+    let P = F .reads .point in record {
+      below = F .reads .below;
+      orderBelow = P .indices;
+      active = omega (arith, P .low, F .many);
+      few = omega (arith, P .few, F .many);
+      many = F .many;
+    }
+
+-- an answer is right where the position in it is, and where there is none in it
+pub at-right : {n p : ℕ} → n ≡ p → (x : ℕ) → At n ≡ At x → x ≡ p
+at-right h x e = cc
+
+pub nothing-right : {p : ℕ} (x : ℕ) → Nothing ≡ At x → x ≡ p
+nothing-right x e = let y : _≡_ {A = ℕ} 0 1 = cc in absurd (omega arith)
 
 -- the point that has come in needs the steps before it only, and these are counted apart from the first point
 module _ (g : GridStruct) (made : IsMade g) (round : Round) (first order : List ℕ) (s : Status)

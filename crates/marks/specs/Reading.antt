@@ -5,6 +5,8 @@ use mathlib.Core.Path.{_≡_}
 use Prim.Native.Nat.{ℕ, _+_, _-_, _≤_, _<_}
 use lib.Dec.{eqb, ltb, leb}
 use lib.ListN.{length}
+use denote.Ref.{now}
+use Rattle.arrays.specs.Rounds.{Lent}
 use Rattle.positions.specs.Binomials.{HasBinomials}
 use Rattle.positions.specs.Falls.{Falls}
 use Rattle.grid_points.specs.Grid.{Grid, Point, at, blockOf, division, isGridPoint, numPoints, position}
@@ -12,13 +14,14 @@ use Rattle.grid.specs.Made.{IsMade, shape}
 use Rattle.grid.specs.declared.Grid.{Grid as GridStruct}
 use Rattle.place.specs.Problem.{Problem, label}
 use Rattle.rules.specs.Ready.{IndicesBelow}
-use Rattle.rules.specs.Read.{markOf, pointOn, stepAt, sourceAt, Exchanged, FallsBeside, CanCompute}
-use Rattle.rules.specs.Step.{State}
+use Rattle.rules.specs.Read.{markOf, pointOn, Exchanged, FallsBeside, CanCompute}
+use Rattle.rules.specs.Step.{Round, State}
+use Rattle.moves.specs.Held.{stateOf}
 use Rattle.moves.specs.declared.Status.{Status}
 use Rattle.marks.specs.declared.LookedUp.{LookedUp}
 use Rattle.marks.specs.declared.LookedUp.the-variants.{Marked, Unknown}
 use Rattle.marks.specs.declared.one_step.Found.{Found}
-use Rattle.marks.specs.declared.one_step.Found.the-variants.{At, Nothing}
+use Rattle.marks.specs.declared.one_step.Found.the-variants.{At}
 
 -- the grid, a start and the label table
 abbrev pub problemFrom : GridStruct → List ℕ → List ℕ → Problem
@@ -68,24 +71,29 @@ addUp g from h k =
     not (eqb (blockOf g h) (blockOf g k))
     || ltb (from h) h && (ltb (from k) k && (leb h (from k) || leb k (from h)))
 
--- the step to the point that has come in, or the step from it, takes from an index before its own
-abbrev pub fallsTo : State → Bool
-fallsTo a = ltb 0 (a .active) && ltb (sourceAt a (a .active - 1)) (stepAt a (a .active - 1))
-
-abbrev pub fallsFrom : State → Bool
-fallsFrom a = ltb (a .active) (length (a .order)) && ltb (sourceAt a (a .active)) (stepAt a (a .active))
-
--- the position by one step, where there is such a step
-unfoldable pub oneStep : Grid → State → Found
-oneStep g a = cond (fallsTo a || fallsFrom a) (At (position g (pointOn g a (a .active)))) Nothing
+-- a position that is found is that of the point that has come in
+abbrev pub IsRight : GridStruct → State → Found → Type 0
+IsRight g a r = (x : ℕ) → r ≡ At x → x ≡ position (shape g) (pointOn (shape g) a (a .active))
 
 -- the arrays hold the state but for its first point, which may be any for which the steps beside the point that has
 -- come in are known
 abbrev pub CanFall : GridStruct → List ℕ → (List ℕ → State) → Type 0
 CanFall g tails a = (first : List ℕ) × FallsBeside (shape g) tails (a first)
 
-abbrev pub IsFound : GridStruct → List ℕ → (List ℕ → State) → Found → Type 0
-IsFound g tails a r = (first : List ℕ) → FallsBeside (shape g) tails (a first) → r ≡ oneStep (shape g) (a first)
+abbrev pub FindsBeside : GridStruct → List ℕ → (List ℕ → State) → Found → Type 0
+FindsBeside g tails a r = (first : List ℕ) → FallsBeside (shape g) tails (a first) → IsRight g (a first) r
+
+-- the arrays hold the state but for its first point and that point's coefficients, which may be any for which the
+-- square is known
+abbrev pub heldSteps : Round → Lent → Lent → Status → List ℕ → List ℕ → State
+heldSteps round order marks s first coefficients = stateOf round first coefficients (now order) (now marks) s
+
+abbrev pub HasSquare : GridStruct → (List ℕ → List ℕ → State) → Type 0
+HasSquare g a = (first : List ℕ) × (coefficients : List ℕ) × Exchanged (shape g) (a first coefficients)
+
+abbrev pub FindsCorner : GridStruct → (List ℕ → List ℕ → State) → Found → Type 0
+FindsCorner g a r =
+    (first coefficients : List ℕ) → Exchanged (shape g) (a first coefficients) → IsRight g (a first coefficients) r
 
 -- the steps of the order, and the point that has come in, are those of an array
 pub record HasOrder (previous steps : List ℕ) (s : Status) : Type 0 where

@@ -1,8 +1,9 @@
 // The mark of the point that has just come in: its position, by the marks around it or by its steps, and its label in
 // the table. What is public here is for the finder's walk, which shows what it asks.
-ghost use mathlib.Core.List.{[]};
+ghost use mathlib.Core.List.{List, []};
 ghost use mathlib.Core.Path.{_≡_};
-ghost use Prim.Native.Nat.{_≤_, _<_};
+ghost use Prim.Native.Nat.{ℕ, _≤_, _<_};
+ghost use lib.ListN.{take};
 ghost use Rattle.arrays.specs.Rounds.{roundBack};
 ghost use Rattle.grid_points.specs.Grid.{position};
 ghost use Rattle.grid.specs.Made.{shape, IsMade};
@@ -12,15 +13,16 @@ ghost use Rattle.rules.specs.Read.{pointOn};
 ghost use Rattle.rules.specs.Ready.{IndicesBelow};
 ghost use Rattle.rules.specs.Step.{State, firstOutside};
 ghost use Rattle.marks.specs.Reading.{tableProblem, labelReading, isBetween, addUp, Readable, CanFind};
-ghost use Rattle.marks.specs.Reading.{CanReadPoint};
+ghost use Rattle.marks.specs.Reading.{CanReadPoint, FindsCorner, HasOrder, HasSquare, heldSteps};
 use arrays::index_at;
 use arrays::position_at;
 use arrays::source;
 use grid::Grid;
 use label_table::read_at;
 use moves::Status;
-use one_step::Found;
-use one_step::position_by_one_step;
+pub use one_step::Found;
+pub use one_step::by_step_from;
+pub use one_step::by_step_to;
 use place_points::advance;
 use positions::ENTRIES;
 
@@ -83,9 +85,91 @@ fn position_by_steps(
     positions::position(g, binomials, first, &steps)
 }
 
-// The position of the point that has just come in: where it has come in between two steps that changed places, by the
-// marks of the other corners of their square if these add up, the point that left having still its mark there; in a
-// grid of one block by one step; else by all its steps.
+// The position of the point that has just come in between two steps that changed places, by the marks of the other
+// corners of their square if these add up. The point that left has still its mark there.
+pub fn by_square(
+    g: Grid,
+    previous: &[u8; 16],
+    sizes: &[u8; 16],
+    order: &[u32; 16],
+    marks: &[u32; 16],
+    s: Status,
+) -> Found
+    ghost { List ℕ → List ℕ → State }
+    requires { λ a. ⌜ heldSteps (roundBack previous sizes) order marks s ≡ a ⌝ }
+    requires { λ _. ⌜ IsMade g × HasOrder (now previous) (take (s .count) (now order)) s × (0 < s .active) ⌝ }
+    requires { λ a. ⌜ HasSquare g a ⌝ }
+    ensures { λ a r. ⌜ FindsCorner g a r ⌝ }
+{
+    let i = s.active;
+    let n = s.count;
+    let h = index_at(order, n, i - 1);
+    let k = index_at(order, n, i);
+    if add_up(g, previous, sizes, s.u, h, k) {
+        return Found::At(
+            position_at(marks, n, i - 1) + position_at(marks, n, i + 1) - position_at(marks, n, i),
+        );
+    }
+    Found::Nothing
+}
+
+// The position of the point that has just come in, by one step in a grid of one block, and else by all its steps.
+pub fn position_apart(
+    g: Grid,
+    binomials: &[u16; ENTRIES],
+    tails: &[u32; 16],
+    previous: &[u8; 16],
+    sizes: &[u8; 16],
+    first: &[u16; 16],
+    coefficients: &[u16; 16],
+    order: &[u32; 16],
+    marks: &[u32; 16],
+    s: Status,
+) -> usize
+    ghost { State }
+    requires { λ a. ⌜ held (roundBack previous sizes) first coefficients order marks s ≡ a ⌝ }
+    requires { λ a. ⌜ Measured g (now binomials) × CanFind g (now tails) a s ⌝ }
+    ensures { λ a r. ⌜ r ≡ position (shape g) (pointOn (shape g) a (a .active)) ⌝ }
+{
+    if g.blocks == 1 {
+        if 0 < s.active {
+            let found = by_step_to(
+                g,
+                binomials,
+                tails,
+                previous,
+                sizes,
+                coefficients,
+                order,
+                marks,
+                s,
+            );
+            if let Found::At(position) = found {
+                return position;
+            }
+        }
+        if s.active < s.count {
+            let found = by_step_from(
+                g,
+                binomials,
+                tails,
+                previous,
+                sizes,
+                coefficients,
+                order,
+                marks,
+                s,
+            );
+            if let Found::At(position) = found {
+                return position;
+            }
+        }
+    }
+    position_by_steps(g, binomials, previous, sizes, first, order, s)
+}
+
+// The position of the point that has just come in: by the square, where it has come in between two steps that changed
+// places; else by one step or by all its steps.
 pub fn position_in(
     g: Grid,
     binomials: &[u16; ENTRIES],
@@ -103,33 +187,24 @@ pub fn position_in(
     requires { λ a. ⌜ Measured g (now binomials) × CanFind g (now tails) a s ⌝ }
     ensures { λ a r. ⌜ r ≡ position (shape g) (pointOn (shape g) a (a .active)) ⌝ }
 {
-    let i = s.active;
-    let n = s.count;
     if is_between(s) {
-        let h = index_at(order, n, i - 1);
-        let k = index_at(order, n, i);
-        if add_up(g, previous, sizes, s.u, h, k) {
-            return position_at(marks, n, i - 1) + position_at(marks, n, i + 1)
-                - position_at(marks, n, i);
-        }
-    }
-    if g.blocks == 1 {
-        let found = position_by_one_step(
-            g,
-            binomials,
-            tails,
-            previous,
-            sizes,
-            coefficients,
-            order,
-            marks,
-            s,
-        );
+        let found = by_square(g, previous, sizes, order, marks, s);
         if let Found::At(position) = found {
             return position;
         }
     }
-    position_by_steps(g, binomials, previous, sizes, first, order, s)
+    position_apart(
+        g,
+        binomials,
+        tails,
+        previous,
+        sizes,
+        first,
+        coefficients,
+        order,
+        marks,
+        s,
+    )
 }
 
 fn u32_of(x: u8) -> u32

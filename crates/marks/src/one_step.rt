@@ -9,7 +9,7 @@ ghost use Rattle.arrays.specs.Rounds.{roundBack};
 ghost use Rattle.moves.specs.Held.{heldButFirst};
 ghost use Rattle.positions.specs.Binomials.{Measured};
 ghost use Rattle.rules.specs.Step.{State};
-ghost use Rattle.marks.specs.Reading.{HasOrder, CanFall, IsFound, CanWeigh, FallsBy};
+ghost use Rattle.marks.specs.Reading.{CanFall, CanWeigh, FallsBy, FindsBeside, HasOrder};
 use arrays::index_at;
 use arrays::position_at;
 use arrays::source;
@@ -18,7 +18,7 @@ use grid::wide16;
 use moves::Status;
 use positions::ENTRIES;
 
-// A position, or that one step does not lead to it.
+// A position, or that it is not found in this way.
 pub enum Found {
     At(usize),
     Nothing,
@@ -60,9 +60,9 @@ fn fall_at(
     positions::fall(g, binomials, h, b, most - (wide16(coefficients[0]) + lag))
 }
 
-// In a grid of one block, the position of the point that has just come in by the mark of the point before it or behind
-// it, where the step between them takes from an index before its own.
-pub fn position_by_one_step(
+// In a grid of one block, the position of the point that has just come in by the mark of the point before it, where the
+// step to it takes from an index before its own.
+pub fn by_step_to(
     g: Grid,
     binomials: &[u16; ENTRIES],
     tails: &[u32; 16],
@@ -75,29 +75,48 @@ pub fn position_by_one_step(
 ) -> Found
     ghost { List ℕ → State }
     requires { λ a. ⌜ heldButFirst (roundBack previous sizes) coefficients order marks s ≡ a ⌝ }
-    requires { λ _. ⌜ Measured g (now binomials) × (g .blocks ≡ 1) ⌝ }
+    requires { λ _. ⌜ Measured g (now binomials) × (g .blocks ≡ 1) × (0 < s .active) ⌝ }
     requires { λ a. ⌜ HasOrder (now previous) (take (s .count) (now order)) s × CanFall g (now tails) a ⌝ }
-    ensures { λ a r. ⌜ IsFound g (now (tails .entry)) a r ⌝ }
+    ensures { λ a r. ⌜ FindsBeside g (now (tails .entry)) a r ⌝ }
 {
     let i = s.active;
     let n = s.count;
-    if 0 < i {
-        let h = index_at(order, n, i - 1);
-        let b = source(previous, sizes, s.u, h);
-        if b < h {
-            let near = position_at(marks, n, i - 1);
-            let lag = gone_round(i, near, position_at(marks, n, 0));
-            return Found::At(near - fall_at(g, binomials, tails, coefficients, h, b, lag));
-        }
+    let h = index_at(order, n, i - 1);
+    let b = source(previous, sizes, s.u, h);
+    if b < h {
+        let near = position_at(marks, n, i - 1);
+        let lag = gone_round(i, near, position_at(marks, n, 0));
+        return Found::At(near - fall_at(g, binomials, tails, coefficients, h, b, lag));
     }
-    if i < n {
-        let h = index_at(order, n, i);
-        let b = source(previous, sizes, s.u, h);
-        if b < h {
-            let far = position_at(marks, n, i + 1);
-            let lag = gone_round(i, far, position_at(marks, n, 0));
-            return Found::At(far + fall_at(g, binomials, tails, coefficients, h, b, lag));
-        }
+    Found::Nothing
+}
+
+// The same by the mark of the point behind it, where the step from it takes from an index before its own.
+pub fn by_step_from(
+    g: Grid,
+    binomials: &[u16; ENTRIES],
+    tails: &[u32; 16],
+    previous: &[u8; 16],
+    sizes: &[u8; 16],
+    coefficients: &[u16; 16],
+    order: &[u32; 16],
+    marks: &[u32; 16],
+    s: Status,
+) -> Found
+    ghost { List ℕ → State }
+    requires { λ a. ⌜ heldButFirst (roundBack previous sizes) coefficients order marks s ≡ a ⌝ }
+    requires { λ _. ⌜ Measured g (now binomials) × (g .blocks ≡ 1) × (s .active < s .count) ⌝ }
+    requires { λ a. ⌜ HasOrder (now previous) (take (s .count) (now order)) s × CanFall g (now tails) a ⌝ }
+    ensures { λ a r. ⌜ FindsBeside g (now (tails .entry)) a r ⌝ }
+{
+    let i = s.active;
+    let n = s.count;
+    let h = index_at(order, n, i);
+    let b = source(previous, sizes, s.u, h);
+    if b < h {
+        let far = position_at(marks, n, i + 1);
+        let lag = gone_round(i, far, position_at(marks, n, 0));
+        return Found::At(far + fall_at(g, binomials, tails, coefficients, h, b, lag));
     }
     Found::Nothing
 }
