@@ -3,6 +3,7 @@
 mod leaving;
 
 pub use leaving::leave;
+pub use leaving::vanishes;
 
 // What the next move looks at, beside the arrays. T and U are masks of 16 indices.
 pub struct Status {
