@@ -99,3 +99,11 @@ module _ (m n : ℕ) (s : State) (bytes : List ℕ) where
   pub not-kept : isByRuleOne bytes ≡ false → saidOtherwise m n s bytes ≡ saidBy m n s bytes
   unfolding saidBy
   not-kept e = rw e
+
+-- a record by rule 1 has six bytes
+pub kept-long : (bytes : List ℕ) → isByRuleOne bytes ≡ true → 6 ≤ length bytes
+unfolding isByRuleOne
+kept-long bytes e =
+    let long = leb 6 (length bytes) in
+    let map = eqb (getD bytes 0 0) 67 in
+    leb-true 6 (length bytes) (and-left long map (and-left (long && map) (eqb (getD bytes 5 0) 1) e))

@@ -3,8 +3,8 @@
 ghost use mathlib.Core.Path.{_≡_};
 ghost use Prim.Native.Nat.{_+_, _≤_, _<_};
 ghost use lib.ListN.{length};
-ghost use Rattle.record_reading.specs.Said.{IsSaid, bytesBy, canChange, leaving, nothingSaid, ruleBy};
-ghost use Rattle.record_reading.specs.Said.{saidOf, saidOtherwise, setChanged, wayBy, wordAt};
+ghost use Rattle.record_reading.specs.Said.{IsSaid, bytesBy, canChange, isByRuleOne, leaving, nothingSaid};
+ghost use Rattle.record_reading.specs.Said.{ruleBy, saidOf, saidOtherwise, setChanged, wayBy, wordAt};
 ghost use Rattle.rules.specs.Step.{State};
 ghost use Rattle.ways.specs.Ways.{heldMarks};
 use arrays::add;
@@ -215,6 +215,19 @@ fn said_otherwise(bytes: &[u8], marks: &[u32; 16], s: Status, m: usize) -> Said
     said_of(bytes, marks, s, rule, i - 1)
 }
 
+// Whether the bytes are those of a record by rule 1.
+pub fn is_by_rule_one(bytes: &[u8]) -> bool
+    ensures { λ r. ⌜ r ≡ isByRuleOne (now (bytes .entry)) ⌝ }
+{
+    if bytes.len() < 6 {
+        return false;
+    }
+    if bytes[0] != 67 {
+        return false;
+    }
+    bytes[5] == 1
+}
+
 // What the bytes of a trail from a position on say. Rule 1, which most places of a long path have, is asked for first.
 pub fn said_at(bytes: &[u8], marks: &[u32; 16], s: Status, m: usize) -> Said
     ghost { State }
@@ -222,17 +235,13 @@ pub fn said_at(bytes: &[u8], marks: &[u32; 16], s: Status, m: usize) -> Said
     requires { λ _. ⌜ (s .count ≤ 15) × (length (now marks) ≡ 16) × (m ≤ 16) ⌝ }
     ensures { λ a r. ⌜ IsSaid m (s .count) a (now (bytes .entry)) r ⌝ }
 {
-    if 6 <= bytes.len() {
-        if bytes[0] == 67 {
-            if bytes[5] == 1 {
-                return Said {
-                    way: leaving(marks, s, word(bytes, 3)),
-                    t: s.t,
-                    u: s.u,
-                    bytes: 6,
-                };
-            }
-        }
+    if is_by_rule_one(bytes) {
+        return Said {
+            way: leaving(marks, s, word(bytes, 3)),
+            t: s.t,
+            u: s.u,
+            bytes: 6,
+        };
     }
     said_otherwise(bytes, marks, s, m)
 }
