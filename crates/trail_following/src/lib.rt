@@ -8,10 +8,16 @@ ghost use Rattle.rules.specs.Step.{State};
 ghost use Rattle.trail_steps.specs.Reading.{CanGoOn};
 ghost use Rattle.trail_following.specs.Reached.{ReachesFrom};
 use grid::Grid;
+use kept_records::Kept;
+use kept_records::arrived;
+use kept_records::keep;
+use kept_records::kept_status;
+use marks::position_apart;
 use moves::Outcome;
 use moves::Status;
 use positions::ENTRIES;
 use record_reading::said_at;
+use record_reading::word;
 use trail_steps::arrive;
 use ways::moved_by;
 
@@ -21,8 +27,9 @@ pub enum Reached {
     Nowhere,
 }
 
-// The place to which the next records lead from the place in the arrays. The number of records left counts down, and
-// those by rules 6 and 7, which bring no point in, are counted.
+// The place to which the next records lead from the place in the arrays. A record by rule 1 is read by a move of its
+// own; what that leaves as it was is read whole. The number of records left counts down, and those by rules 6 and 7,
+// which bring no point in, are counted.
 pub fn follow(
     g: Grid,
     binomials: &[u16; ENTRIES],
@@ -53,49 +60,94 @@ pub fn follow(
     let mut left = number;
     while 0 < left {
         let bytes = &trail[at..];
-        let said = said_at(bytes, marks, s, g.indices);
-        let way = said.way;
-        let outcome = moved_by(
+        let kept = keep(
+            g,
+            binomials,
+            tails,
             previous,
-            next,
             sizes,
             first,
             coefficients,
             order,
             marks,
             s,
-            way,
+            bytes,
         );
-        if let Outcome::PlaceEnd(_) = outcome {
-            return Reached::Nowhere;
-        }
-        if let Outcome::FacetEnd(_) = outcome {
-            return Reached::Nowhere;
-        }
-        if let Outcome::Moved(status) = outcome {
-            let stands = arrive(
-                g,
-                binomials,
-                tails,
-                previous,
-                sizes,
-                first,
-                coefficients,
-                order,
-                marks,
-                status,
-                said,
-                bytes,
-            );
-            if !stands {
+        match kept {
+            Kept::Refused => {
                 return Reached::Nowhere;
             }
-            s = status;
-            if 5 < s.rule {
-                without += 1;
+            Kept::Arrived => {
+                at += 6;
+                left -= 1;
             }
-            at += said.bytes;
-            left -= 1;
+            Kept::Moved(k) => {
+                let after = kept_status(s, k);
+                let position = position_apart(
+                    g,
+                    binomials,
+                    tails,
+                    previous,
+                    sizes,
+                    first,
+                    coefficients,
+                    order,
+                    marks,
+                    after,
+                );
+                let come = word(bytes, 1);
+                if !arrived(marks, k, position, come) {
+                    return Reached::Nowhere;
+                }
+                at += 6;
+                left -= 1;
+            }
+            Kept::Otherwise => {
+                let said = said_at(bytes, marks, s, g.indices);
+                let way = said.way;
+                let outcome = moved_by(
+                    previous,
+                    next,
+                    sizes,
+                    first,
+                    coefficients,
+                    order,
+                    marks,
+                    s,
+                    way,
+                );
+                if let Outcome::PlaceEnd(_) = outcome {
+                    return Reached::Nowhere;
+                }
+                if let Outcome::FacetEnd(_) = outcome {
+                    return Reached::Nowhere;
+                }
+                if let Outcome::Moved(status) = outcome {
+                    let stands = arrive(
+                        g,
+                        binomials,
+                        tails,
+                        previous,
+                        sizes,
+                        first,
+                        coefficients,
+                        order,
+                        marks,
+                        status,
+                        said,
+                        bytes,
+                    );
+                    if !stands {
+                        return Reached::Nowhere;
+                    }
+                    s = status;
+                    if 5 < s.rule {
+                        without += 1;
+                    }
+                    at += said.bytes;
+                    left -= 1;
+                }
+            }
         }
     }
     let came = number - without;
