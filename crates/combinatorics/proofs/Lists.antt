@@ -379,7 +379,8 @@ abbrev pub onLists : {A : Type 0} → Equality A → Equality (List A)
 onLists E = record { eq = same E.eq; sound = same-sound E.eq E.sound; self = same-self E.eq E.self }
 
 -- what an element of a list is mapped to
-pub mapped-at : {A : Type 0} (f : A → ℕ) (d : A) (l : List A) (j : ℕ) → j < length l → getD (map f l) j 0 ≡ f (getD l j d)
+pub mapped-at : {A : Type 0} (f : A → ℕ) (d : A) (l : List A) (j : ℕ) → j < length l
+    → getD (map f l) j 0 ≡ f (getD l j d)
 mapped-at f d [] j l = absurd (omega arith)
 mapped-at f d (x ∷ xs) zero l = refl
 mapped-at f d (x ∷ xs) (suc j) l = mapped-at f d xs j (omega arith)

@@ -21,8 +21,9 @@ use Rattle.rules.specs.Read.{pointOn}
 use Rattle.rules.specs.Step.{State}
 use Rattle.trail_steps.specs.Reading.{comePosition}
 use Rattle.turns.specs.Turned.{keptStatus}
-use Rattle.kept_records.specs.Keeping.{CanKeep, KeepsOn, Settles, Turned, arrives, keptFound, marksBy, moves, refuses}
-use Rattle.kept_records.specs.Keeping.{KeepsBy, TakesBy, keepsNone, keepsOn, leaves, takes, takesNone, turnedState}
+use Rattle.kept_records.specs.Keeping.{CanKeep, KeepsBy, KeepsOn, Settles, TakesBy, Turned, arrives, keepsNone}
+use Rattle.kept_records.specs.Keeping.{keepsOn, keptFound, leaves, marksBy, moves, refuses, takes, takesNone}
+use Rattle.kept_records.specs.Keeping.{turnedState}
 use Rattle.kept_records.specs.declared.Kept.{Kept}
 use Rattle.kept_records.specs.declared.Kept.the-variants.{Arrived, Moved, Otherwise, Refused}
 use Rattle.record_reading.specs.Said.{isByRuleOne, leaving, wordAt}
@@ -53,7 +54,8 @@ module _ (g : GridStruct) (a : State) (s : Status) (i come : ℕ) (first coeffic
 
   -- whatever was found is right, and what becomes of the record follows
   pub settled-keeps : (stays : Type 0) (found : Found) → ((x : ℕ) → found ≡ At x → x ≡ place) → (r : Kept)
-      → r ≡ keptFound k found come → marks ≡ marksBy k found moved → KeepsOn g a s i come first coefficients order marks stays r
+      → r ≡ keptFound k found come → marks ≡ marksBy k found moved
+      → KeepsOn g a s i come first coefficients order marks stays r
   settled-keeps stays (At x) right r e m = ⊎-elim
       (λ (t : eqb x come ≡ true). rw (e, t) (arrives (settles x (right x refl) m true t)))
       (λ (f : eqb x come ≡ false). rw (e, f) (refuses (settles x (right x refl) m false f)))

@@ -174,7 +174,8 @@ module _ (g : GridStruct) (made : IsMade g) (start tails : List ℕ) {a : Simple
         turned = stateOf (roundOf previous [] sizes) first coefficients order marks (keptStatus s k)
 
         finds : CanFind g tails turned (keptStatus s k)
-        finds = can-find g made start tails H trail at (s .count) count previous next sizes first coefficients order marks
+        finds = can-find g made start tails H trail at (s .count) count previous next sizes first coefficients order
+            marks
             (keptStatus s k) (T .each) below (positionAt state i) (reached .0) (reached .1) (omega arith)
 
         low : comePosition g turned < 65536

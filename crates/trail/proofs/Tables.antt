@@ -12,7 +12,8 @@ use native.Mathlib.Omega.{arith}
 use Rattle.combinatorics.proofs.Basics.{absurd-bool, true-or-false, and-left, and-right, and-both, false-of}
 use Rattle.combinatorics.proofs.Basics.{before-or-not}
 use Rattle.combinatorics.proofs.EditsInsert.{length-insertAt, insertAt-before, insertAt-here, insertAt-behind}
-use Rattle.combinatorics.proofs.Lists.{all-in, distinct-out, distinct-tail, in-all, in-cases, in-here, in-later, map-in, mapped-at}
+use Rattle.combinatorics.proofs.Lists.{all-in, distinct-out, distinct-tail, in-all, in-cases, in-here, in-later}
+use Rattle.combinatorics.proofs.Lists.{map-in, mapped-at}
 use Rattle.combinatorics.proofs.Lists.{onNumbers}
 use Rattle.combinatorics.proofs.Rising.{rising-distinct}
 use Rattle.combinatorics.specs.Edits.{insertAt}

@@ -102,7 +102,8 @@ settled-requires c κs =
     let gone = at .before .before .before in
     let s = begun gone in (
       omega arith,
-      low (s .pre .1 .0) (turned gone) (at .kept-status .ensures) (c .before .by-step-from .result) (is-right (c .before)),
+      low (s .pre .1 .0) (turned gone) (at .kept-status .ensures) (c .before .by-step-from .result)
+          (is-right (c .before)),
     )
 
 returns-3 : tie.Need-returns-3
@@ -111,8 +112,8 @@ returns-3 c =
     let gone = at .before .before .before in
     let s = begun gone in
     let last = gone .before .turn-last .last .1 .1 in
-    settled-keeps (s .args .g) (place s) (s .args .s) (s .args .s .count) (s .args .come) (last .0) (last .1 .0) (last .1 .1 .0)
-    (last .1 .1 .1 .0) _ 0 (turned gone) _ (c .before .before .by-step-from .result)
+    settled-keeps (s .args .g) (place s) (s .args .s) (s .args .s .count) (s .args .come) (last .0) (last .1 .0)
+    (last .1 .1 .0) (last .1 .1 .1 .0) _ 0 (turned gone) _ (c .before .before .by-step-from .result)
     (right (s .pre .1 .0) (turned gone) (at .kept-status .ensures) (c .before .before .by-step-from .result)
     (is-right (c .before .before)))
     (c .settled .result) (c .settled .ensures .0) (c .settled .ensures .1)

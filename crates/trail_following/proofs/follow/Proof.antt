@@ -32,7 +32,8 @@ use Rattle.trail.specs.Change.{change}
 use Rattle.trail.specs.Trail.{rebuiltFrom}
 use Rattle.trail_places.proofs.Reached.{Arrives}
 use Rattle.kept_records.proofs.Taken.{can-keep, taken-next, taken-none}
-use Rattle.kept_records.proofs.Compared.{known, right-at, settles, taken-arrived, taken-moved, taken-otherwise, taken-refused, Named}
+use Rattle.kept_records.proofs.Compared.{Named, known, right-at, settles, taken-arrived, taken-moved, taken-otherwise}
+use Rattle.kept_records.proofs.Compared.{taken-refused}
 use Rattle.kept_records.specs.Keeping.{CanKeep, Settles, Turned, turnedState}
 use Rattle.trail_steps.proofs.Arrived.{OnlyPlace, WayLeads, facet-ends, only-long, place-ends, way-leads, way-ready}
 use Rattle.trail_steps.proofs.Named.{order-low, shows-few}
@@ -164,9 +165,10 @@ again : (c : Turn) (first coefficients order marks : List ℕ) (s : Status) (byt
     → (let l = c .before .before .loop in
     begun c .args .number - (l .left - 1) - without ≡ begun c .args .number - l .left - l .without + bit)
     → let a = begun c .args in
-    Inv-loop (a .g) (a .binomials .now) (a .tails .now) (a .previous .now) (a .next .now) (a .sizes .now) (a .first .now)
-    (a .coefficients .now) (a .order .now) (a .marks .now) (a .trail .now) (a .from) (a .number) (a .begun) (a .from) 0
-    (a .number) first coefficients order marks s (at c + bytes) without (c .before .before .loop .left - 1)
+    Inv-loop (a .g) (a .binomials .now) (a .tails .now) (a .previous .now) (a .next .now) (a .sizes .now)
+    (a .first .now) (a .coefficients .now) (a .order .now) (a .marks .now) (a .trail .now) (a .from) (a .number)
+    (a .begun) (a .from) 0 (a .number) first coefficients order marks s (at c + bytes) without
+    (c .before .before .loop .left - 1)
 again c first coefficients order marks s bytes without bit leads few total =
     let l = c .before .before .loop in
     let number = begun c .args .number in
@@ -228,8 +230,8 @@ turn c = c .before .before .before .before .before
 -- a record by rule 1 leads nowhere, or on
 module _ (c : Turn) (N : Named (back c) (c .before .before .loop .s) (bytesOn c)) {start : List ℕ} {x : Simplex}
     (H : Holds c start x) {first coefficients order marks : List ℕ} where
-  leads-nowhere : Settles (begun c .args .g) (back c) (c .before .before .loop .s) (N .point) (wordAt (bytesOn c) 1) first
-      coefficients order marks false
+  leads-nowhere : Settles (begun c .args .g) (back c) (c .before .before .loop .s) (N .point) (wordAt (bytesOn c) 1)
+      first coefficients order marks false
       → (k : ℕ) → rebuiltFrom (problemBy (begun c .args .g) start) (suc k) x (bytesOn c) ≡ none
   leads-nowhere S =
       let a = begun c .args in
@@ -257,9 +259,9 @@ again-by-one : (c : Turn) (N : Named (back c) (c .before .before .loop .s) (byte
     coefficients order marks true
     → let a = begun c .args in
     let l = c .before .before .loop in
-    Inv-loop (a .g) (a .binomials .now) (a .tails .now) (a .previous .now) (a .next .now) (a .sizes .now) (a .first .now)
-    (a .coefficients .now) (a .order .now) (a .marks .now) (a .trail .now) (a .from) (a .number) (a .begun) (a .from) 0
-    (a .number) first coefficients order marks (l .s) (at c + 6) (l .without) (l .left - 1)
+    Inv-loop (a .g) (a .binomials .now) (a .tails .now) (a .previous .now) (a .next .now) (a .sizes .now)
+    (a .first .now) (a .coefficients .now) (a .order .now) (a .marks .now) (a .trail .now) (a .from) (a .number)
+    (a .begun) (a .from) 0 (a .number) first coefficients order marks (l .s) (at c + 6) (l .without) (l .left - 1)
 again-by-one c N first coefficients order marks S =
     let l = c .before .before .loop in
     again c first coefficients order marks (l .s) 6 (l .without) 1 (λ start a H. leads-on c N H S) (omega arith)
@@ -368,7 +370,8 @@ is-found : (c : Found)
     let last = m .before .before .before .before .keep .last .1 .1 .1 .1 .1 in
     c .position-apart .result
     ≡ comePosition (begun t .args .g)
-    (turnedState (back t) (t .before .before .loop .s) (last .0) (last .1 .0) (last .1 .1 .0) (last .1 .1 .1 .0) (point m))
+    (turnedState (back t) (t .before .before .loop .s) (last .0) (last .1 .0) (last .1 .1 .0) (last .1 .1 .1 .0)
+    (point m))
 is-found c =
     let m = from c in
     right-at (can m) (moving m .1) (m .kept-status .ensures) (c .position-apart .ensures)
@@ -394,21 +397,23 @@ settling : (c : Settling) (same : Bool) → c .arrived .result ≡ same
     → let m = from (found c) in
     let t = turnMoving m in
     let last = m .before .before .before .before .keep .last .1 .1 .1 .1 .1 in
-    Settles (begun t .args .g) (back t) (t .before .before .loop .s) (moving m .0 .point) (wordAt (bytesOn t) 1) (last .0)
-    (last .1 .0) (last .1 .1 .0) (c .arrived .last .0) same
+    Settles (begun t .args .g) (back t) (t .before .before .loop .s) (moving m .0 .point) (wordAt (bytesOn t) 1)
+    (last .0) (last .1 .0) (last .1 .1 .0) (c .arrived .last .0) same
 settling c same e =
     let m = from (found c) in
     let t = turnMoving m in
     let come = rw (part-to-end (trail t) (at t)) at (c .before .before .word .ensures) in
-    settles (begun t .args .g) (back t) (t .before .before .loop .s) (moving m .0 .point) (wordAt (bytesOn t) 1) _ _ _ _ _
-    (point m) (moving m .1) (found c .position-apart .result) (is-found (found c)) (c .arrived .ensures .1) same
+    settles (begun t .args .g) (back t) (t .before .before .loop .s) (moving m .0 .point) (wordAt (bytesOn t) 1)
+    _ _ _ _ _ (point m) (moving m .1) (found c .position-apart .result) (is-found (found c)) (c .arrived .ensures .1)
+    same
     (ap (λ (x : ℕ). eqb (found c .position-apart .result) x) (sym come) ∙ sym (c .arrived .ensures .0) ∙ e)
 
 returns-2 : tie.Need-returns-2 Inv-loop μ-loop
 returns-2 c start a H =
     let t = turnMoving (from (found (c .before))) in
     let S = settling (c .before) false (not-true _ (c .if1 .taken)) in
-    ends t start a H (leads-nowhere t (moving (from (found (c .before))) .0) (t .before .before .loop .inv .3 start a H .1) S)
+    ends t start a H
+    (leads-nowhere t (moving (from (found (c .before))) .0) (t .before .before .loop .inv .3 start a H .1) S)
 
 add-at-2 : tie.Need-add-at-2 Inv-loop μ-loop
 add-at-2 c =
@@ -445,7 +450,8 @@ turnStill c = turn (c .before .before .before)
 abbrev still : At → State
 still c =
     let last = c .before .before .before .keep .last .1 .1 .1 .1 .1 in
-    stateOf (round (turnStill c)) (last .0) (last .1 .0) (last .1 .1 .0) (last .1 .1 .1 .0) (turnStill c .before .before .loop .s)
+    stateOf (round (turnStill c)) (last .0) (last .1 .0) (last .1 .1 .0) (last .1 .1 .1 .0)
+    (turnStill c .before .before .loop .s)
 
 abbrev Reads : At → List ℕ → Simplex → Type 0
 Reads c v a = HasRead (begun (turnStill c) .args .g) v (begun (turnStill c) .args .tails .now) a (still c)
@@ -501,8 +507,8 @@ saidHere c =
 is-said : (c : Told)
     → let t = turnStill (c .before) in
     let last = c .before .before .before .before .keep .last .1 .1 .1 .1 .1 in
-    IsSaid (begun t .args .g .indices) (count t) (stateOf noRound [] [] [] (last .1 .1 .1 .0) (t .before .before .loop .s))
-    (bytesOn t) (c .said-at .result)
+    IsSaid (begun t .args .g .indices) (count t)
+    (stateOf noRound [] [] [] (last .1 .1 .1 .0) (t .before .before .loop .s)) (bytesOn t) (c .said-at .result)
 is-said c =
     let t = turnStill (c .before) in
     let last = c .before .before .before .before .keep .last .1 .1 .1 .1 .1 in
@@ -563,11 +569,13 @@ gone c = goneBy (still (place c)) (told c .said-at .result .way)
 abbrev given : Made → Outcome → After
 given c o =
     let last = c .moved-by .last .1 .1 .1 in
-    answered (round (turnMade c)) (last .0) (last .1 .0) (last .1 .1 .0) (last .1 .1 .1 .0) (turnMade c .before .before .loop .s) o
+    answered (round (turnMade c)) (last .0) (last .1 .0) (last .1 .1 .0) (last .1 .1 .1 .0)
+    (turnMade c .before .before .loop .s) o
 
 -- what the way leads to
 leads : (c : Made) (o : Outcome) → c .moved-by .result ≡ o → {v : List ℕ} {a : Simplex} (H : Reads (place c) v a)
-    → WayLeads (H .hasStart) (H .shows) (bytesOn (turnMade c)) (count (turnMade c)) (many (place c) H) (gone c) (given c o)
+    → WayLeads (H .hasStart) (H .shows) (bytesOn (turnMade c)) (count (turnMade c)) (many (place c) H) (gone c)
+    (given c o)
 leads c o e H =
     subst (WayLeads (H .hasStart) (H .shows) (bytesOn (turnMade c)) (count (turnMade c)) (many (place c) H) (gone c))
     (sym (c .moved-by .ensures .after) ∙ ap (given c) e)
@@ -618,7 +626,8 @@ reached : (c : Gone) {v : List ℕ} {a : Simplex} (H : Reads (place (made c)) v 
     × Arrives (problemBy (begun (turnMade (made c)) .args .g) v) a b
     (let last = made c .moved-by .last .1 .1 .1 in
     stateOf (round (turnMade (made c))) (last .0) (last .1 .0) (last .1 .1 .0) (last .1 .1 .1 .0) (status c))
-    × OnlyPlace (H .hasStart) (H .shows) (bytesOn (turnMade (made c))) (count (turnMade (made c))) (many (place (made c)) H) b
+    × OnlyPlace (H .hasStart) (H .shows) (bytesOn (turnMade (made c))) (count (turnMade (made c)))
+    (many (place (made c)) H) b
     × ((x : ℕ) → change (problemBy (begun (turnMade (made c)) .args .g) v) a b .pointsOut ≡ x ∷ [] → gone (made c) ≡ x)
 reached c H =
     let m = made c in
@@ -769,11 +778,14 @@ loop-again-3 c =
     (c .before .if3 .came))
 
 -- an outcome is one of three
+no-outcome : tie.At-match4-keys2 Inv-loop μ-loop → ⊥
+no-outcome c = one-of-three _ (c .before .before .match2 .keys2) (c .before .match3 .keys2) (c .match4 .keys2)
+
 loop-less-4 : tie.Need-loop-less-4 Inv-loop μ-loop
-loop-less-4 c = absurd (one-of-three _ (c .before .before .match2 .keys2) (c .before .match3 .keys2) (c .match4 .keys2))
+loop-less-4 c = absurd (no-outcome c)
 
 loop-again-4 : tie.Need-loop-again-4 Inv-loop μ-loop
-loop-again-4 c = absurd (one-of-three _ (c .before .before .match2 .keys2) (c .before .match3 .keys2) (c .match4 .keys2))
+loop-again-4 c = absurd (no-outcome c)
 
 sub-came : tie.Need-sub-came Inv-loop μ-loop
 sub-came c = omega (arith, c .before .loop .inv .6)
