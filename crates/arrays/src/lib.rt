@@ -30,4 +30,3 @@ pub use walk::first_outside;
 pub use walk::first_outside_or_zero;
 pub use walk::in_neither;
 pub use walk::is_filled;
-pub use walk::source;

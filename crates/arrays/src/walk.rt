@@ -10,7 +10,8 @@ ghost use Rattle.rules.specs.Step.{firstOutside, firstOutsideOrZero, firstFree,
 use crate::mask::has;
 use grid::wide;
 
-// The first index met going from h that is not in the set, by a loop round the block.
+// The first index met going from h that is not in the set, by a loop round the block: going back and with U, document
+// 01's b.
 pub fn first_outside(way: &[u8; 16], sizes: &[u8; 16], mask: u16, h: usize) -> usize
     requires { ⌜ (h < 16) × IndicesBelow (now way) ⌝ }
     ensures { λ r. ⌜ (r ≡ firstOutside (now (way .entry)) (now (sizes .entry)) mask h) × (r < 16) ⌝ }
@@ -28,19 +29,6 @@ pub fn first_outside(way: &[u8; 16], sizes: &[u8; 16], mask: u16, h: usize) -> u
         left -= 1;
     };
     b
-}
-
-// Document 01's b: the first index met going back from h that is not in U. It is mostly the first of all, so that the
-// loop is seldom entered.
-pub fn source(previous: &[u8; 16], sizes: &[u8; 16], u: u16, h: usize) -> usize
-    requires { ⌜ (h < 16) × IndicesBelow (now previous) ⌝ }
-    ensures { λ r. ⌜ (r ≡ firstOutside (now (previous .entry)) (now (sizes .entry)) u h) × (r < 16) ⌝ }
-{
-    let at = wide(previous[h]);
-    if has(u, at) {
-        return first_outside(previous, sizes, u, h);
-    }
-    at
 }
 
 // The first index met going back from h that is not in U or has coefficient 0.

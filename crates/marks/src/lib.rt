@@ -14,9 +14,9 @@ ghost use Rattle.rules.specs.Ready.{IndicesBelow};
 ghost use Rattle.rules.specs.Step.{State, firstOutside};
 ghost use Rattle.marks.specs.Reading.{tableProblem, labelReading, isBetween, addUp, Readable, CanFind};
 ghost use Rattle.marks.specs.Reading.{CanReadPoint, FindsCorner, HasOrder, HasSquare, heldSteps};
+use arrays::first_outside;
 use arrays::index_at;
 use arrays::position_at;
-use arrays::source;
 use grid::Grid;
 use label_table::read_at;
 use moves::Status;
@@ -37,11 +37,11 @@ fn add_up(g: Grid, previous: &[u8; 16], sizes: &[u8; 16], u: u16, h: usize, k: u
     if g.block_of(h) != g.block_of(k) {
         return true;
     }
-    let b = source(previous, sizes, u, h);
+    let b = first_outside(previous, sizes, u, h);
     if h <= b {
         return false;
     }
-    let e = source(previous, sizes, u, k);
+    let e = first_outside(previous, sizes, u, k);
     if k <= e {
         return false;
     }

@@ -10,9 +10,9 @@ ghost use Rattle.moves.specs.Held.{heldButFirst};
 ghost use Rattle.positions.specs.Binomials.{Measured};
 ghost use Rattle.rules.specs.Step.{State};
 ghost use Rattle.marks.specs.Reading.{CanFall, CanWeigh, FallsBy, FindsBeside, HasOrder};
+use arrays::first_outside;
 use arrays::index_at;
 use arrays::position_at;
-use arrays::source;
 use grid::Grid;
 use grid::wide16;
 use moves::Status;
@@ -82,7 +82,7 @@ pub fn by_step_to(
     let i = s.active;
     let n = s.count;
     let h = index_at(order, n, i - 1);
-    let b = source(previous, sizes, s.u, h);
+    let b = first_outside(previous, sizes, s.u, h);
     if b < h {
         let near = position_at(marks, n, i - 1);
         let lag = gone_round(i, near, position_at(marks, n, 0));
@@ -112,7 +112,7 @@ pub fn by_step_from(
     let i = s.active;
     let n = s.count;
     let h = index_at(order, n, i);
-    let b = source(previous, sizes, s.u, h);
+    let b = first_outside(previous, sizes, s.u, h);
     if b < h {
         let far = position_at(marks, n, i + 1);
         let lag = gone_round(i, far, position_at(marks, n, 0));

@@ -20,6 +20,7 @@ use crate::Status;
 use arrays::add;
 use arrays::exchange;
 use arrays::find;
+use arrays::first_outside;
 use arrays::first_outside_or_zero;
 use arrays::go_back;
 use arrays::go_forward;
@@ -27,7 +28,6 @@ use arrays::has;
 use arrays::index_at;
 use arrays::is_filled;
 use arrays::remove;
-use arrays::source;
 use arrays::without;
 
 // Point i and entry e of the order go. The index of that entry leaves T, and joins U where `joins`; the point labelled
@@ -143,7 +143,7 @@ fn leave_first(
     ensures { λ a r. ⌜ GivesAll a first coefficients order marks s r (leaveFirst a) ⌝ }
 {
     let h = index_at(order, s.count, 0);
-    let b = source(previous, sizes, s.u, h);
+    let b = first_outside(previous, sizes, s.u, h);
     leave_first_at(
         previous,
         next,
@@ -177,7 +177,7 @@ fn leave_middle(
 {
     let from = index_at(order, s.count, i);
     let to = index_at(order, s.count, i - 1);
-    let b = source(previous, sizes, s.u, from);
+    let b = first_outside(previous, sizes, s.u, from);
     if to == b {
         if first[b] == 0 {
             return shrink(order, marks, s, i, i - 1, true);

@@ -48,9 +48,7 @@ use Rattle.moves.specs.declared.Outcome.the-variants.{Moved, PlaceEnd, FacetEnd
 use Rattle.moves.specs.declared.Status.{Status}
 use Rattle.marks.specs.Reading.{labelReading, tableProblem, CanReadPoint, HasMarks}
 use Rattle.marks.specs.declared.LookedUp.the-variants.{Marked, Unknown as UnknownLabel}
-use Rattle.path_walk.specs.Finish.{Announced, CanVisit, GivesVisited, IsBegun, IsKnown, IsUnknown, labelsAt}
-use Rattle.path_walk.specs.Finish.{problemIn}
-use Rattle.path_walk.specs.Finish.{visitOf}
+use Rattle.path_walk.specs.Finish.{Announced, CanVisit, IsBegun, IsKnown, IsUnknown, labelsAt, problemIn}
 
 -- the ways round the blocks that a made grid keeps
 module _ (g : GridStruct) (made : IsMade g) (sizes : List ℕ) where
@@ -64,25 +62,6 @@ module _ (g : GridStruct) (made : IsMade g) (sizes : List ℕ) where
     forward = λ h l. made-next g made h (omega (arith, made-indices g made));
     size = λ h l. at-sizes h (omega (arith, made-indices g made));
   }
-
--- after rules 6 and 7 nothing is read, and else the mark of the point that has come in is stored
-pub read-none : (p : Problem) (s : State) → 6 ≤ s .rule → read p s ≡ s
-unfolding read
-read-none p s l = rw (le-ltb (s .rule) 6 l)
-
-pub read-some : (p : Problem) (round : Round) (first coefficients order marks : List ℕ) (s : Status) (m : ℕ)
-    → s .rule < 6 → CanCompute (stateOf round first coefficients order marks s) (s .active)
-    → m ≡ markOf p (pointIn p (stateOf round first coefficients order marks s) (s .active))
-    → stateOf round first coefficients order (set marks (s .active) m) s
-    ≡ read p (stateOf round first coefficients order marks s)
-unfolding read withMark
-read-some p round first coefficients order marks s m r R e = rw (
-  e,
-  lt-ltb (s .rule) 6 r,
-  take-set-lt (suc (s .count)) marks (s .active)
-      (markOf p (pointIn p (stateOf round first coefficients order marks s) (s .active)))
-      (omega (arith, R .low, first-few (s .count) order)),
-)
 
 -- a mark is that of a label that is known, and else the label is 0
 module _ (p : Problem) (y : Point) where
@@ -99,13 +78,6 @@ module _ (p : Problem) (y : Point) where
       (λ (z : label p y ≡ 0). let f = rw (eq-eqb (label p y) 0 z) at e in (z, cc))
       (λ n. absurd (let f = rw (ne-eqb (label p y) 0 n) at e in let w : _≡_ {A = ℕ} 0 1 = cc in omega arith))
       (same-or (label p y) 0)
-
--- what a move gives, a place of the walk gives
-pub gives : (p : Problem) (a : State) (made : Outcome → Type 0) (o : Outcome) → IsKnown p a → made o
-    → GivesVisited p a made (visitOf o)
-gives p a made (Moved s) k m = (k, m)
-gives p a made (PlaceEnd h) k m = (k, m)
-gives p a made (FacetEnd h) k m = (k, m)
 
 -- to read, the way on is not looked at
 module _ (g : GridStruct) (previous next sizes first coefficients order marks : List ℕ) (s : Status) where
@@ -196,19 +168,6 @@ reads-fit g made first table ok k labels l R =
     let p = problemIn g first table in
     let fits = bound-fits (shape g) (made .accepted) in
     omega (arith, R, came-few (path (filledTable p) .visited) k, demand3-holds ok .bounded, fits)
-
--- a visit leads to one of four outcomes
-among : {x i j k : ℕ} → (x ≡ i → ⊥) → (x ≡ j → ⊥) → (x ≡ k → ⊥) → (x ≡ i) ⊎ ((x ≡ j) ⊎ (x ≡ k)) → ⊥
-among f g h = ⊎-elim f (⊎-elim g h)
-
-pub one-of-four : (x : ℕ) → (x ≡ 0) ⊎ ((x ≡ 1) ⊎ (x ≡ 2)) → (x ≡ 0) ⊎ ((x ≡ 2) ⊎ (x ≡ 3))
-    → (x ≡ 0) ⊎ ((x ≡ 1) ⊎ (x ≡ 3)) → (x ≡ 1) ⊎ ((x ≡ 2) ⊎ (x ≡ 3)) → ⊥
-one-of-four x a b c d =
-    among
-    (λ e. among (λ f. omega arith) (λ f. omega arith) (λ f. omega arith) d)
-    (λ e. among (λ f. omega arith) (λ f. omega arith) (λ f. omega arith) b)
-    (λ e. among (λ f. omega arith) (λ f. omega arith) (λ f. omega arith) c)
-    a
 
 -- one place of the walk: what it needs, and where it leads
 module _ (g : GridStruct) (made : IsMade g) (start table : List ℕ) (ok : Accepted (problemIn g start table)) (s : State)

@@ -3,7 +3,7 @@
 use mathlib.Core.Bool.{_&&_, cond}
 use mathlib.Core.List.{List, []}
 use mathlib.Core.Path.{_≡_}
-use Prim.Native.Nat.{ℕ, suc, _≤_, _<_}
+use Prim.Native.Nat.{ℕ, suc, _+_, _-_, _≤_, _<_}
 use lib.Dec.{eqb, ltb}
 use lib.ListN.{length, take}
 use Rattle.end_kinds.specs.declared.Kind.{Kind}
@@ -20,14 +20,12 @@ use Rattle.rules.specs.Ready.{IsRound, RoundBelow, Ready}
 use Rattle.rules.specs.Read.{pointIn, pointsFrom, read, CanCompute}
 use Rattle.rules.specs.Step.{Round, State}
 use Rattle.moves.specs.declared.Outcome.{Outcome}
-use Rattle.moves.specs.declared.Outcome.the-variants.{Moved as OutcomeMoved, PlaceEnd as OutcomePlaceEnd}
-use Rattle.moves.specs.declared.Outcome.the-variants.{FacetEnd as OutcomeFacetEnd}
+use Rattle.moves.specs.declared.Outcome.the-variants.{FacetEnd, Moved, PlaceEnd}
 use Rattle.moves.specs.declared.Status.{Status}
 use Rattle.marks.specs.Reading.{problemFrom, tableProblem, CanReadPoint, HasMarks, Readable}
 use Rattle.path_walk.specs.declared.Finish.{Finish}
 use Rattle.path_walk.specs.declared.Finish.the-variants.{Ended, Spent, Unknown as UnknownLabel}
-use Rattle.path_walk.specs.declared.Visited.{Visited}
-use Rattle.path_walk.specs.declared.Visited.the-variants.{Moved, PlaceEnd, FacetEnd, Unknown}
+use Rattle.path_walk.specs.declared.Stand.{Stand}
 
 -- with the start that the first array holds
 abbrev pub problemIn : GridStruct → List ℕ → List ℕ → Problem
@@ -58,22 +56,20 @@ pub record CanVisit (g : GridStruct) (tails table : List ℕ) (a : State) : Type
   pub marks : a .rule < 6 → HasMarks g tails a
   pub ready : IsKnown (tableProblem g table) a → Ready (read (tableProblem g table) a)
 
--- what it leads to, where `made` says what a move gives
-abbrev pub GivesVisited : Problem → State → (Outcome → Type 0) → Visited → Type 0
-GivesVisited p a made (Moved s) = IsKnown p a × made (OutcomeMoved s)
-GivesVisited p a made (PlaceEnd h) = IsKnown p a × made (OutcomePlaceEnd h)
-GivesVisited p a made (FacetEnd h) = IsKnown p a × made (OutcomeFacetEnd h)
-GivesVisited p a made (Unknown place) = IsUnknown p a place
-
-abbrev pub visitOf : Outcome → Visited
-visitOf (OutcomeMoved s) = Moved s
-visitOf (OutcomePlaceEnd h) = PlaceEnd h
-visitOf (OutcomeFacetEnd h) = FacetEnd h
-
 -- the labels that are read at a place: that of the point which has come in; none after rules 6 and 7, by which
 -- none does
 abbrev pub labelsAt : ℕ → ℕ
 labelsAt rule = cond (ltb rule 6) 1 0
+
+-- where a walk stands once it has moved on
+abbrev pub onOf : Stand → Status → Stand
+onOf at s = record { status = s; left = at .left - 1; labels = at .labels + labelsAt (s .rule) }
+
+-- how it ended, where the move from there has led to an end
+abbrev pub endedOf : Stand → Outcome → ℕ → Finish
+endedOf at (Moved s) budget = Spent
+endedOf at (PlaceEnd h) budget = Ended placeEnd (budget - at .left + 1) h (at .status) (at .labels)
+endedOf at (FacetEnd h) budget = Ended facetEnd (budget - at .left + 1) h (at .status) (at .labels)
 
 -- the status at {v}, before the mark of its one point is read
 pub record IsBegun (first : List ℕ) (m : ℕ) (s : Status) : Type 0 where

@@ -1,15 +1,14 @@
 // The walk from {v} along the path, place by place. What is public is also for the walks that write a trail and that
 // report where the path came nearest.
 ghost use mathlib.Core.Path.{_≡_};
-ghost use Prim.Native.Nat.{_≤_};
-ghost use Rattle.arrays.specs.Rounds.{round};
-ghost use Rattle.marks.specs.Reading.{Readable, tableProblem};
-ghost use Rattle.moves.specs.Held.{GivesAll, held};
-ghost use Rattle.rules.specs.Read.{read};
-ghost use Rattle.rules.specs.Ready.{SixteenEach};
-ghost use Rattle.rules.specs.Step.{Round, State, step as stepOf};
-ghost use Rattle.path_walk.specs.Finish.{CanVisit, CanWalk, Finished, GivesVisited, IsBegun, labelsAt, problemIn};
-ghost use Rattle.path_walk.specs.Finish.{visitOf};
+ghost use Prim.Native.Nat.{_+_, _^_, _≤_, _<_};
+ghost use lib.ListN.{length};
+ghost use Rattle.arrays.specs.Rounds.{round, roundBack};
+ghost use Rattle.marks.specs.Reading.{CanFind, Readable, tableProblem};
+ghost use Rattle.moves.specs.Held.{held};
+ghost use Rattle.rules.specs.Step.{Round, State};
+ghost use Rattle.path_walk.specs.Finish.{CanWalk, Finished, IsBegun, endedOf, labelsAt, onOf, problemIn};
+ghost use Rattle.path_walk.specs.Looking.{LooksUp};
 use arrays::zeros;
 use end_kinds::Kind;
 use grid::Grid;
@@ -18,16 +17,7 @@ use marks::mark_in;
 use moves::Outcome;
 use moves::Status;
 use positions::ENTRIES;
-use steps::step;
-
-// What a place of the walk leads to: what the move gives; or that the label of the point that has come in is not yet
-// known, with its position.
-pub enum Visited {
-    Moved(Status),
-    PlaceEnd(usize),
-    FacetEnd(usize),
-    Unknown(usize),
-}
+use ways::step;
 
 // How a walk ended: at the path's end, after so many places, with an index of the block for which the simplex is
 // complete, the status at the last place and the labels read; at a place that needs a label not yet known, after so
@@ -47,37 +37,39 @@ pub enum Finish {
     Spent,
 }
 
-fn moved(outcome: Outcome) -> Visited
-    ensures { λ r. ⌜ r ≡ visitOf outcome ⌝ }
-{
-    match outcome {
-        Outcome::Moved(status) => Visited::Moved(status),
-        Outcome::PlaceEnd(index) => Visited::PlaceEnd(index),
-        Outcome::FacetEnd(index) => Visited::FacetEnd(index),
-    }
+// Where a walk stands: the status, how much of the budget is left, and the labels read up to the place, its own
+// included.
+pub struct Stand {
+    pub status: Status,
+    pub left: u64,
+    pub labels: u64,
 }
 
-// One place: the mark of the point that has just come in is read, and the move is made.
-fn visit(
+// The label of the point that has come in is known, or nothing was to be read; or it is not, and stands at a position.
+pub enum Looked {
+    Known,
+    Unknown(usize),
+}
+
+// The mark of the point that has just come in is read and stored.
+pub fn look_up(
     g: Grid,
     binomials: &[u16; ENTRIES],
     tails: &[u32; 16],
     table: &[u8],
     previous: &[u8; 16],
-    next: &[u8; 16],
     sizes: &[u8; 16],
-    first: &mut [u16; 16],
-    coefficients: &mut [u16; 16],
-    order: &mut [u32; 16],
+    first: &[u16; 16],
+    coefficients: &[u16; 16],
+    order: &[u32; 16],
     marks: &mut [u32; 16],
     s: Status,
-) -> Visited
+) -> Looked
     ghost { State }
-    requires { λ a. ⌜ held (round previous next sizes) first coefficients order marks s ≡ a ⌝ }
-    requires { λ _. ⌜ Readable g (now binomials) (now table) × SixteenEach (now order) (now marks) ⌝ }
-    requires { λ a. ⌜ CanVisit g (now tails) (now table) a ⌝ }
-    ensures { λ a r. let p = tableProblem g (now (table .entry)) in
-        ⌜ GivesVisited p a (λ o. GivesAll a first coefficients order marks s o (stepOf (read p a))) r ⌝ }
+    requires { λ a. ⌜ held (roundBack previous sizes) first coefficients order marks s ≡ a ⌝ }
+    requires { λ _. ⌜ Readable g (now binomials) (now table) × (length (now marks) ≡ 16) ⌝ }
+    requires { λ a. ⌜ (s .rule < 6 → CanFind g (now tails) a s) ⌝ }
+    ensures { λ a r. ⌜ LooksUp (tableProblem g (now (table .entry))) a s (now (marks .exit)) r ⌝ }
 {
     if s.rule < 6 {
         let i = s.active;
@@ -96,14 +88,14 @@ fn visit(
         );
         match reading {
             LookedUp::Unknown(position) => {
-                return Visited::Unknown(position);
+                return Looked::Unknown(position);
             }
             LookedUp::Marked(mark) => {
                 marks[i] = mark;
             }
         }
     }
-    moved(step(previous, next, sizes, first, coefficients, order, marks, s))
+    Looked::Known
 }
 
 // {v}, before the mark of its one point is read.
@@ -131,8 +123,45 @@ pub fn labels_at(s: Status) -> u64
     0
 }
 
-// From {v} to the path's end, or until the budget is spent: the number of places left counts down. A place's label is
-// counted where the move to it is made, whose rule the compiler then knows.
+// The walk has moved on. A place's label is counted where the move to it is made, whose rule the compiler then knows.
+pub fn on(at: Stand, status: Status) -> Stand
+    requires { ⌜ (0 < at .left) × (at .labels + labelsAt (status .rule) < 2 ^ 64) ⌝ }
+    ensures { λ r. ⌜ r ≡ onOf at status ⌝ }
+{
+    Stand {
+        status,
+        left: at.left - 1,
+        labels: at.labels + labels_at(status),
+    }
+}
+
+// How a walk ended whose move has led to an end.
+pub fn ended(at: Stand, outcome: Outcome, budget: u64) -> Finish
+    requires { ⌜ (0 < at .left) × (at .left ≤ budget) ⌝ }
+    ensures { λ r. ⌜ r ≡ endedOf at outcome budget ⌝ }
+{
+    let places = budget - at.left + 1;
+    let status = at.status;
+    match outcome {
+        Outcome::Moved(_) => Finish::Spent,
+        Outcome::PlaceEnd(index) => Finish::Ended {
+            kind: Kind::Place,
+            places,
+            index,
+            status,
+            labels_read: at.labels,
+        },
+        Outcome::FacetEnd(index) => Finish::Ended {
+            kind: Kind::Facet,
+            places,
+            index,
+            status,
+            labels_read: at.labels,
+        },
+    }
+}
+
+// From {v} to the path's end, or until the budget is spent.
 pub fn walk(
     g: Grid,
     binomials: &[u16; ENTRIES],
@@ -152,16 +181,34 @@ pub fn walk(
 {
     let mut coefficients = [0u16; 16];
     let mut marks = [0u32; 16];
-    let mut s = begin(first, g.indices);
     let tails = positions::tails(first, g.indices);
-    let mut labels_read = labels_at(s);
-    let mut left = budget;
-    while 0 < left {
-        let seen = visit(
+    let mut at = Stand {
+        status: begin(first, g.indices),
+        left: budget,
+        labels: 1,
+    };
+    while 0 < at.left {
+        let s = at.status;
+        let looked = look_up(
             g,
             binomials,
             &tails,
             table,
+            previous,
+            sizes,
+            first,
+            &coefficients,
+            order,
+            &mut marks,
+            s,
+        );
+        if let Looked::Unknown(position) = looked {
+            return Finish::Unknown {
+                places: budget - at.left,
+                position,
+            };
+        }
+        let outcome = step(
             previous,
             next,
             sizes,
@@ -171,34 +218,14 @@ pub fn walk(
             &mut marks,
             s,
         );
-        left -= 1;
-        if let Visited::Unknown(position) = seen {
-            return Finish::Unknown {
-                places: budget - left - 1,
-                position,
-            };
+        if let Outcome::PlaceEnd(_) = outcome {
+            return ended(at, outcome, budget);
         }
-        if let Visited::PlaceEnd(index) = seen {
-            return Finish::Ended {
-                kind: Kind::Place,
-                places: budget - left,
-                index,
-                status: s,
-                labels_read,
-            };
+        if let Outcome::FacetEnd(_) = outcome {
+            return ended(at, outcome, budget);
         }
-        if let Visited::FacetEnd(index) = seen {
-            return Finish::Ended {
-                kind: Kind::Facet,
-                places: budget - left,
-                index,
-                status: s,
-                labels_read,
-            };
-        }
-        if let Visited::Moved(status) = seen {
-            s = status;
-            labels_read += labels_at(s);
+        if let Outcome::Moved(status) = outcome {
+            at = on(at, status);
         }
     }
     Finish::Spent

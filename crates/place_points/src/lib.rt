@@ -11,8 +11,8 @@ ghost use Rattle.place_points.specs.Room.{CanPut};
 ghost use Rattle.rules.specs.Read.{pointAfter, numbersFrom, ReadyPoint};
 ghost use Rattle.rules.specs.Ready.{IndicesBelow};
 ghost use Rattle.rules.specs.Step.{State, firstOutside};
+use arrays::first_outside;
 use arrays::shift;
-use arrays::source;
 use arrays::wide32;
 use moves::Status;
 
@@ -33,7 +33,7 @@ pub fn advance(
     let mut k: usize = 0;
     while k < i {
         let h = wide32(order[k]);
-        let b = source(previous, sizes, u, h);
+        let b = first_outside(previous, sizes, u, h);
         shift(y, h, b);
         k += 1;
     }

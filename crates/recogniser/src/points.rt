@@ -4,8 +4,8 @@ ghost use Rattle.positions.specs.Binomials.{Measured};
 ghost use Rattle.rules.specs.Ready.{IndicesBelow};
 ghost use Rattle.rules.specs.Step.{firstOutside};
 ghost use Rattle.recogniser.specs.Pieces.{CanMark, CanReadLabels, IsMark, LabelsPut, Marked, OnGrid};
+use arrays::first_outside;
 use arrays::position_at;
-use arrays::source;
 use arrays::wide32;
 use grid::Grid;
 use grid::wide16;
@@ -43,7 +43,7 @@ pub fn mark_points(
     while k < n {
         marks[k] = mark_at(g, binomials, first, &steps);
         let h = wide32(order[k]);
-        let b = source(previous, sizes, u, h);
+        let b = first_outside(previous, sizes, u, h);
         if wide16(first[b]) + wide16(steps[b]) <= 16 {
             return false;
         }

@@ -7,7 +7,7 @@ use mathlib.Core.Path.{_≡_, refl, sym, ap, _∙_}
 use Prim.Native.Nat.{ℕ, _<_}
 use borrow.Author.Tests.{eq-eqb, ne-eqb}
 use lib.Dec.{eqb}
-use lib.ListN.{length, replicate}
+use lib.ListN.{length, replicate, take}
 use lib.Seq.{paste, take-length}
 use native.Mathlib.Omega.{arith}
 use Rattle.combinatorics.proofs.Basics.{absurd-bool, both, same-or}
@@ -85,6 +85,10 @@ module _ {a b : ℕ} {u v : List ℕ} (A : IsMask a u) (B : IsMask b v) where
       let y = B .bits h l ∙ L .out in
       let w = differs l (λ q. absurd-bool (sym (A .bits h l ∙ L .has) ∙ q ∙ y)) (λ k n. sym (L .rest k n)) in
       (w .0, w .1, y)
+
+-- a record's bytes, as its array has them
+pub taken-record : {bytes : List ℕ} {r : Record} → IsRecord bytes r → take (r .length) (r .bytes) ≡ bytes
+taken-record {bytes} R = rw (R .are, R .long) (front-taken bytes (replicate 8 0))
 
 -- stored from its array, or by its bytes
 pub pasted : {bytes : List ℕ} {r : Record} → IsRecord bytes r → (d : List ℕ) (at : ℕ)

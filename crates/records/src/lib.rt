@@ -1,6 +1,7 @@
 // The record of a place, as bytes, by T and U at the place before it and at the place, and by the positions of the
 // points that come in and go out. What is public here is for the writer and the reader of a trail, which show what it
 // asks.
+ghost use mathlib.Core.Bool.{cond};
 ghost use mathlib.Core.Path.{_≡_};
 ghost use Prim.Native.Nat.{ℕ, suc, _+_, _/_, _%_, _≤_, _<_};
 ghost use lib.Dec.{eqb};
@@ -220,19 +221,44 @@ pub fn put(trail: &mut [u8], at: usize, made: Record)
     trail[at + 6] = bytes[6];
 }
 
-// The trail begins with the record of {v}, which has this position: byte by byte.
-pub fn first_stands(trail: &[u8], position: usize) -> bool
-    requires { ⌜ position < 65536 ⌝ }
-    ensures { λ r. ⌜ r ≡ begins (firstRecord position) (now (trail .entry)) ⌝ }
+// The bytes of the trail from a position on begin with the record's.
+pub fn stands(trail: &[u8], at: usize, made: Record) -> bool
+    requires { ⌜ (at ≤ length (now trail)) × (made .length ≤ 8) × (length (made .bytes) ≡ 8) ⌝ }
+    ensures { λ r. ⌜ r ≡ begins (take (made .length) (made .bytes)) (drop at (now (trail .entry))) ⌝ }
 {
-    if trail.len() < 3 {
+    let bytes = made.bytes;
+    let n = made.length;
+    if trail.len() - at < n {
         return false;
     }
-    if trail[0] != 1 {
-        return false;
+    let mut k: usize = 0;
+    while k < n {
+        let x = bytes[k];
+        if trail[at + k] != x {
+            return false;
+        }
+        k += 1;
     }
-    if trail[1] != low_byte(position) {
-        return false;
+    true
+}
+
+// How many bytes the record of a place behind the first has, where the bytes of the trail from a position on begin with
+// it; else 0.
+pub fn standing_bytes(
+    trail: &[u8],
+    at: usize,
+    before: IndexSets,
+    after: IndexSets,
+    come: usize,
+    gone: usize,
+) -> usize
+    requires { ⌜ (at ≤ length (now trail)) × (come < 65536) × (gone < 65536) ⌝ }
+    ensures { λ r. let bytes = recordFrom (before .t) (before .u) (after .t) (after .u) come gone in
+        ⌜ r ≡ cond (begins bytes (drop at (now (trail .entry)))) (length bytes) 0 ⌝ }
+{
+    let made = record_of(before, after, come, gone);
+    if stands(trail, at, made) {
+        return made.length;
     }
-    trail[2] == high_byte(position)
+    0
 }

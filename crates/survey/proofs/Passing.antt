@@ -30,10 +30,9 @@ use Rattle.path_laws.specs.Demand.{Accepted, placeAt}
 use Rattle.rules.proofs.Follow.{At as StandsAt, NextAt, placeEnds, facetEnds, at-long, at-others, at-place, at-reads}
 use Rattle.rules.proofs.Marks.{position-in}
 use Rattle.rules.specs.Read.{CanCompute, pointIn, pointsFrom, positionAt, read}
-use Rattle.rules.specs.Ready.{SixteenEach}
 use Rattle.rules.specs.Step.{State, endsAtFacet, endsAtPlace, markPosition, withMark}
 use Rattle.marks.specs.Reading.{tableProblem}
-use Rattle.path_walk.proofs.Visits.{HasRead, OnPath}
+use Rattle.path_walk.proofs.Visits.{OnPath}
 use Rattle.path_walk.specs.Finish.{IsKnown, problemIn}
 use Rattle.visited.proofs.Firsts.{firsts-distinct, firsts-in, in-firsts, none-more, one-more}
 use Rattle.visited.proofs.Nearest.{grid-accepted, some-visited}
@@ -55,16 +54,6 @@ list-long given t away seen list (At q) =
     ⊎-elim
     (λ n. rw n (⊎-elim (λ c. rw c (length-set list (t .listed) q)) (λ c. rw c) (true-or-false (leb away given))))
     (λ n. rw n) (true-or-false (eqb (at seen q) 0))
-
--- The walk stands at place number k, from 0: what is kept is that of the vertices before it, in a list that had the
--- contents `old`, and the labels read are those up to it.
-pub record Walking (g : GridStruct) (first table : List ℕ) (w : Point) (given : ℕ) (old : List ℕ) (k : ℕ) (a : State)
-    (order marks seen list : List ℕ) (t : Tally) (labels : ℕ) : Type 0 where
-  pub here : OnPath (problemIn g first table) a k
-  pub each : SixteenEach order marks
-  pub kept : Kept (shape g) w given old (verticesOf (take k (pathOf (problemIn g first table) .visited))) seen list t
-  pub long : length list ≡ length old
-  pub read : HasRead (problemIn g first table) k labels
 
 module _ (g : GridStruct) (first table : List ℕ) (ok : Accepted (problemIn g first table)) where
   abbrev p : Problem

@@ -5,20 +5,20 @@ ghost use Rattle.arrays.specs.Rounds.{round};
 ghost use Rattle.rules.specs.Step.{Round};
 ghost use Rattle.path_walk.specs.Finish.{CanWalk, Finished, problemIn};
 ghost use Rattle.survey.specs.Survey.{CanNote, Surveys};
-use end_kinds::Kind;
 use grid::Grid;
-use label_reading::Looked;
-use label_reading::look_up;
 use moves::Outcome;
-use moves::Status;
 use path_walk::Finish;
+use path_walk::Looked;
+use path_walk::Stand;
 use path_walk::begin;
-use path_walk::labels_at;
+use path_walk::ended;
+use path_walk::look_up;
+use path_walk::on;
 use positions::ENTRIES;
-use steps::step;
 use vertices_met::Tally;
 use vertices_met::came_in;
 use vertices_met::meet;
+use ways::step;
 
 // How a walk ended, and what is kept of the vertices that it has met.
 pub struct Passed {
@@ -56,16 +56,19 @@ pub fn pass(
     let mut coefficients = [0u16; 16];
     let mut marks = [0u32; 16];
     let mut seen = [0u8; 60000];
-    let mut s = begin(first, m);
     let tails = positions::tails(first, m);
     let mut t = Tally {
         nearest: 0,
         least: 18446744073709551615,
         listed: 0,
     };
-    let mut labels_read = labels_at(s);
-    let mut left = budget;
-    while 0 < left {
+    let mut at = Stand {
+        status: begin(first, m),
+        left: budget,
+        labels: 1,
+    };
+    while 0 < at.left {
+        let s = at.status;
         let looked = look_up(
             g,
             binomials,
@@ -79,11 +82,10 @@ pub fn pass(
             &mut marks,
             s,
         );
-        left -= 1;
         if let Looked::Unknown(position) = looked {
             return Passed {
                 finish: Finish::Unknown {
-                    places: budget - left - 1,
+                    places: budget - at.left,
                     position,
                 },
                 tally: t,
@@ -115,33 +117,20 @@ pub fn pass(
             &mut marks,
             s,
         );
-        if let Outcome::PlaceEnd(index) = outcome {
+        if let Outcome::PlaceEnd(_) = outcome {
             return Passed {
-                finish: Finish::Ended {
-                    kind: Kind::Place,
-                    places: budget - left,
-                    index,
-                    status: s,
-                    labels_read,
-                },
+                finish: ended(at, outcome, budget),
                 tally: t,
             };
         }
-        if let Outcome::FacetEnd(index) = outcome {
+        if let Outcome::FacetEnd(_) = outcome {
             return Passed {
-                finish: Finish::Ended {
-                    kind: Kind::Facet,
-                    places: budget - left,
-                    index,
-                    status: s,
-                    labels_read,
-                },
+                finish: ended(at, outcome, budget),
                 tally: t,
             };
         }
         if let Outcome::Moved(status) = outcome {
-            s = status;
-            labels_read += labels_at(s);
+            at = on(at, status);
         }
     }
     Passed {

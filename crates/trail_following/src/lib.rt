@@ -1,24 +1,21 @@
 // The records of a trail behind the first, one after another. What is public here is for the reader, which shows what
 // it asks.
 ghost use mathlib.Core.Path.{_≡_};
-ghost use lib.ListN.{length};
+ghost use Prim.Native.Nat.{_%_, _≤_, _<_};
+ghost use lib.ListN.{getD, length};
 ghost use Rattle.arrays.specs.Rounds.{round};
 ghost use Rattle.moves.specs.Held.{held, stateOf};
 ghost use Rattle.rules.specs.Step.{State};
 ghost use Rattle.trail_steps.specs.Reading.{CanGoOn};
 ghost use Rattle.trail_following.specs.Reached.{ReachesFrom};
 use grid::Grid;
-use kept_records::Kept;
-use kept_records::arrived;
-use kept_records::keep;
-use kept_records::kept_status;
-use marks::position_apart;
 use moves::Outcome;
 use moves::Status;
 use positions::ENTRIES;
-use record_reading::said_at;
-use record_reading::word;
+use records::IndexSets;
 use trail_steps::arrive;
+use trail_steps::way_on;
+use ways::gone_by;
 use ways::moved_by;
 
 // Where the records lead: to a place, with the number of them that bring a point in; or nowhere.
@@ -27,9 +24,16 @@ pub enum Reached {
     Nowhere,
 }
 
-// The place to which the next records lead from the place in the arrays. A record by rule 1 is read by a move of its
-// own; what that leaves as it was is read whole. The number of records left counts down, and those by rules 6 and 7,
-// which bring no point in, are counted.
+// Bit 0 of the byte at a position, which stands in a record's map byte if the record brings a point in.
+fn low_bit(trail: &[u8], at: usize) -> u64
+    requires { ⌜ at < length (now trail) ⌝ }
+    ensures { λ r. ⌜ (r ≡ getD (now (trail .entry)) at 0 % 2) × (r ≤ 1) ⌝ }
+{
+    let byte = trail[at];
+    (byte % 2) as u64
+}
+
+// The place to which the next records lead from the place in the arrays. The number of records left counts down.
 pub fn follow(
     g: Grid,
     binomials: &[u16; ENTRIES],
@@ -56,100 +60,54 @@ pub fn follow(
 {
     let mut s = begun;
     let mut at = from;
-    let mut without = 0u64;
+    let mut came = 0u64;
     let mut left = number;
     while 0 < left {
-        let bytes = &trail[at..];
-        let kept = keep(
-            g,
-            binomials,
-            tails,
+        let way = way_on(trail, at, marks, s, g.indices);
+        let gone = gone_by(way, marks, s);
+        let before = IndexSets { t: s.t, u: s.u };
+        let outcome = moved_by(
             previous,
+            next,
             sizes,
             first,
             coefficients,
             order,
             marks,
             s,
-            bytes,
+            way,
         );
-        match kept {
-            Kept::Refused => {
+        left -= 1;
+        if let Outcome::PlaceEnd(_) = outcome {
+            return Reached::Nowhere;
+        }
+        if let Outcome::FacetEnd(_) = outcome {
+            return Reached::Nowhere;
+        }
+        if let Outcome::Moved(status) = outcome {
+            let bytes = arrive(
+                g,
+                binomials,
+                tails,
+                previous,
+                sizes,
+                first,
+                coefficients,
+                order,
+                marks,
+                before,
+                status,
+                gone,
+                trail,
+                at,
+            );
+            if bytes == 0 {
                 return Reached::Nowhere;
             }
-            Kept::Arrived => {
-                at += 6;
-                left -= 1;
-            }
-            Kept::Moved(k) => {
-                let after = kept_status(s, k);
-                let position = position_apart(
-                    g,
-                    binomials,
-                    tails,
-                    previous,
-                    sizes,
-                    first,
-                    coefficients,
-                    order,
-                    marks,
-                    after,
-                );
-                let come = word(bytes, 1);
-                if !arrived(marks, k, position, come) {
-                    return Reached::Nowhere;
-                }
-                at += 6;
-                left -= 1;
-            }
-            Kept::Otherwise => {
-                let said = said_at(bytes, marks, s, g.indices);
-                let way = said.way;
-                let outcome = moved_by(
-                    previous,
-                    next,
-                    sizes,
-                    first,
-                    coefficients,
-                    order,
-                    marks,
-                    s,
-                    way,
-                );
-                if let Outcome::PlaceEnd(_) = outcome {
-                    return Reached::Nowhere;
-                }
-                if let Outcome::FacetEnd(_) = outcome {
-                    return Reached::Nowhere;
-                }
-                if let Outcome::Moved(status) = outcome {
-                    let stands = arrive(
-                        g,
-                        binomials,
-                        tails,
-                        previous,
-                        sizes,
-                        first,
-                        coefficients,
-                        order,
-                        marks,
-                        status,
-                        said,
-                        bytes,
-                    );
-                    if !stands {
-                        return Reached::Nowhere;
-                    }
-                    s = status;
-                    if 5 < s.rule {
-                        without += 1;
-                    }
-                    at += said.bytes;
-                    left -= 1;
-                }
-            }
+            s = status;
+            came += low_bit(trail, at);
+            at += bytes;
         }
     }
-    let came = number - without;
     Reached::At { status: s, came }
 }

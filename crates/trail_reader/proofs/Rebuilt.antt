@@ -41,7 +41,8 @@ use Rattle.trail.specs.Trail.{Reading as TrailReading, begins, noRecord, placed
 use Rattle.trail.specs.Trail.{rebuiltFrom, rebuiltPlaces}
 use Rattle.trail_places.proofs.Shows.{describes, shows-long}
 use Rattle.trail_places.specs.Shows.{Shows}
-use Rattle.trail_steps.proofs.Named.{mask-T, mask-U, shows-few}
+use Rattle.trail_steps.proofs.Arrived.{mask-T, mask-U}
+use Rattle.trail_steps.proofs.Named.{shows-few}
 use Rattle.trail_steps.specs.Reading.{problemBy}
 use Rattle.trail_reader.proofs.Masks.{mask-is}
 use Rattle.trail_reader.specs.Reading.{readCase, isPlaced, readNumbers, readQuestion17, readAnswer, readPoints}

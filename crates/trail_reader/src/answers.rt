@@ -17,7 +17,8 @@ use moves::Status;
 use path_walk::begin;
 use place_points::put_points;
 use positions::ENTRIES;
-use records::first_stands;
+use records::first_record;
+use records::stands;
 use trail_following::Reached;
 use trail_following::follow;
 
@@ -115,7 +116,7 @@ fn rebuilt(
     let s = begin(first, m);
     let tails = positions::tails(first, m);
     let position = start_position(g, binomials, first);
-    if !first_stands(trail, position) {
+    if !stands(trail, 0, first_record(position)) {
         return refused(17);
     }
     marks[0] = position as u32 * 256;

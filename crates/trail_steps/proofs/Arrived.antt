@@ -1,50 +1,50 @@
 -- One record of a reading. In order: the record that the state before and after tells is that of the place; where it
 -- stands, the reading goes on, and else there is no record. Assumes nothing.
-use mathlib.Core.Bool.{true, false, _&&_}
+use mathlib.Core.Bool.{Bool, true, false, _&&_}
 use mathlib.Core.List.{List, [], _∷_, map}
 use mathlib.Core.Logic.{⊎-elim}
 use mathlib.Core.Option.{none}
 use mathlib.Core.Path.{_≡_, sym, ap, _∙_, subst}
-use Prim.Native.Nat.{ℕ, suc, _+_, _*_, _≤_, _<_}
+use Prim.Native.Nat.{ℕ, suc, _+_, _-_, _*_, _/_, _%_, _≤_, _<_}
 use borrow.Author.Tests.{leb-true, ltb-true}
-use lib.Dec.{leb, ltb}
-use lib.ListN.{drop, length, length-append, length-map}
+use lib.Dec.{eqb, leb, ltb}
+use lib.ListN.{drop, getD, length, length-append, length-map}
 use native.Mathlib.Omega.{arith}
 use Rattle.combinatorics.proofs.Basics.{absurd-bool, and-left, and-right, before-or-not, true-or-false}
-use Rattle.combinatorics.proofs.Lists.{in-cases}
+use Rattle.combinatorics.proofs.Lists.{all-in, in-cases}
 use Rattle.combinatorics.specs.Edits.{found}
 use Rattle.combinatorics.specs.Lists.{isIn}
 use Rattle.geometry.proofs.Points.{nth}
 use Rattle.grid_points.proofs.Points.{in-points, onPoints, position-in}
 use Rattle.grid_points.specs.Grid.{Point, isGridPoint, numIndices, points, position, samePoint}
-use Rattle.place.specs.Places.{Simplex, setT}
+use Rattle.place.specs.Places.{Simplex, setT, setU}
 use Rattle.place.specs.Problem.{Problem}
+use Rattle.path_laws.proofs.FromChain.{in-U}
 use Rattle.path_laws.proofs.LinkSymmetry.{unlabelled-parts}
+use Rattle.path_laws.proofs.Meaning.{T-means, U-means}
 use Rattle.path_laws.proofs.Positions.{at-in}
 use Rattle.path_laws.specs.Demand.{HasStart}
-use Rattle.record_reading.proofs.Says.{Says, says, says-long, says0, says1, says2, says3, says4, says5, says6, says7}
-use Rattle.record_reading.specs.Said.{leaving}
-use Rattle.record_reading.specs.declared.Said.{Said}
+use Rattle.rules.proofs.Masks.{IsMask}
 use Rattle.records.proofs.Told.{told}
 use Rattle.records.specs.Records.{recordFrom}
 use Rattle.rules.specs.Mask.{bit}
 use Rattle.rules.specs.Read.{positionAt}
 use Rattle.rules.specs.Step.{After, State, endsAtFacet, endsAtPlace, goes, markPosition}
 use Rattle.trail.proofs.OneNext.{into-tells, out-tells}
-use Rattle.trail.proofs.Outside.{in-outside, none-of, mapped-one}
+use Rattle.trail.proofs.Outside.{in-outside}
 use Rattle.trail.proofs.Reading.{reads-none, reads-on}
-use Rattle.trail.proofs.Shapes.{less-of}
+use Rattle.trail.proofs.Tables.{some-index, some-table}
 use Rattle.trail.proofs.Tells.{begins-with}
-use Rattle.trail.specs.Change.{ByRule, Change, change, outside, rule1, rule2, rule3, rule4, rule5, rule6, rule7}
+use Rattle.trail.specs.Change.{change, outside}
 use Rattle.trail.specs.Record.{recordOf}
 use Rattle.trail.specs.Trail.{begins, isMove, rebuiltFrom}
 use Rattle.trail_places.proofs.Moves.{BringsIn, JoinsTo, LeavesTo, TakesOut, grow-leads, joinsNone, joinsOn}
 use Rattle.trail_places.proofs.Moves.{leave-leads, leavesNone, leavesOn, ready-grow, ready-leave}
 use Rattle.trail_places.proofs.Reached.{Arrives, stored}
-use Rattle.trail_places.proofs.Shows.{shows-long}
+use Rattle.trail_places.proofs.Shows.{chain-over, shows-long}
 use Rattle.trail_places.specs.Shows.{Shows}
-use Rattle.trail_steps.proofs.Named.{Names, brings, mask-T, mask-U, position-at, said-to, takes}
-use Rattle.trail_steps.specs.Reading.{wayOf}
+use Rattle.trail_steps.proofs.Named.{Names, brings, mapped-one, names, position-at, takes}
+use Rattle.trail_steps.specs.Reading.{joining, leaving, wayOf}
 use Rattle.ways.specs.Ways.{CanMove, goneBy, wayAfter}
 use Rattle.ways.specs.declared.Way.{Way}
 use Rattle.ways.specs.declared.Way.the-variants.{Joins, Leaves, Nothing}
@@ -54,7 +54,29 @@ pub position-low : {p : Problem} → HasStart p → (y : Point) → isGridPoint 
 position-low {p} ok y h =
     omega (arith, position-in (points (p .grid)) y (in-points (p .grid) y (ok .sameNumber) h), ok .points)
 
+on-grid-in : {p : Problem} {a : Simplex} {s : State} → Shows p a s → (y : Point) → isIn samePoint y a ≡ true
+    → isGridPoint (p .grid) y ≡ true
+on-grid-in {p} {a} S y m = all-in onPoints (isGridPoint (p .grid)) a (unlabelled-parts p a (S .place) .gridPoints) y m
+
 module _ {p : Problem} (ok : HasStart p) where
+  -- T and U of a place, by the masks of a state that holds it
+  module _ {a : Simplex} {s : State} (S : Shows p a s) where
+    pub mask-T : IsMask (s .T) (setT p a)
+    mask-T = record {
+      bits = λ k l. S .bitsT k l ∙ ap (λ (T : ℕ → Bool). T k) (sym (S .isT));
+      below = λ k m. omega (arith, T-means p a k .0 m .0, ok .sixteenIndices);
+    }
+
+    pub mask-U : IsMask (s .U) (setU (p .grid) a)
+    mask-U =
+        let t = some-table ok a (S .place) 0 0 (omega (arith, shows-long S)) (some-index ok) in
+        record {
+          bits = λ k l. S .bitsU k l
+              ∙ sym (in-U (t .1 .full .hasStart) (chain-over S (t .1)) k)
+              ∙ ap (λ (c : Simplex). isIn eqb k (setU (p .grid) c)) (S .here);
+          below = λ k m. omega (arith, U-means (p .grid) a k .0 m .0, ok .sixteenIndices);
+        }
+
   module _ {a b : Simplex} {s f : State} (S : Shows p a s) (A : Arrives p a b f) (come gone : ℕ)
       (is : f .rule < 6 → come ≡ position (p .grid) (nth b (f .active))) where
     held : Shows p b (stored f (come * 256))
@@ -78,59 +100,9 @@ module _ {p : Problem} (ok : HasStart p) where
         (λ (r : 6 ≤ f .rule). absurd (omega (arith, ap length (w .1), ap length (A .none r))))
         (before-or-not (f .rule) 6)
 
-    some-in : f .rule < 6 → change p a b .pointsIn ≡ [] → ⊥
-    unfolding change
-    some-in r e =
-        let none = none-of (outside samePoint a b)
-        (sym (length-map (outside samePoint a b) (position (p .grid))) ∙ ap length e) in
-        absurd-bool (sym (rw none at
-        (in-outside onPoints (nth b (f .active)) b a (active-in r) (A .new r))))
-
-    pub none-in : 6 ≤ f .rule → change p a b .pointsIn ≡ []
-    unfolding change
-    none-in r = ap (map (position (p .grid))) (A .none r)
-
-    not-in : 6 ≤ f .rule → (x : ℕ) → change p a b .pointsIn ≡ x ∷ [] → ⊥
-    not-in r x e = omega (arith, ap length e, ap length (none-in r))
-
-    -- by the rule of the state a point has come in, or an index has gone out of T
-    pub comes-in : f .rule < 6 → (x : ℕ) × (change p a b .pointsIn ≡ x ∷ []) × (come ≡ x)
-    comes-in r = go (A .byRule .1)
-      where
-        go : {k : ℕ} → ByRule (change p a b) k → (x : ℕ) × (change p a b .pointsIn ≡ x ∷ []) × (come ≡ x)
-        go (rule1 x z e) = let q = ap (λ (c : Change). c .pointsIn) e in (x, q, comes x q)
-        go (rule2 x z h e) = let q = ap (λ (c : Change). c .pointsIn) e in (x, q, comes x q)
-        go (rule3 x z h e) = let q = ap (λ (c : Change). c .pointsIn) e in (x, q, comes x q)
-        go (rule4 x h e) = let q = ap (λ (c : Change). c .pointsIn) e in (x, q, comes x q)
-        go (rule5 x h e) = let q = ap (λ (c : Change). c .pointsIn) e in (x, q, comes x q)
-        go (rule6 z h e) = absurd (some-in r (ap (λ (c : Change). c .pointsIn) e))
-        go (rule7 z h e) = absurd (some-in r (ap (λ (c : Change). c .pointsIn) e))
-
-    lost : (h : ℕ) → change p a b .intoT ≡ [] → change p a b .outOfT ≡ h ∷ []
-        → (h : ℕ) × (h < 16) × (bit (s .T) h ≡ true) × (bit (f .T) h ≡ false)
-    unfolding change
-    lost h e o =
-        let L = less-of (setT p a) (setT p b) o e in
-        let l = mask-T ok S .below h (L .has) in
-        (h, l, mask-T ok S .bits h l ∙ L .has, mask-T ok held .bits h l ∙ L .out)
-
-    pub goes-out : 6 ≤ f .rule → (h : ℕ) × (h < 16) × (bit (s .T) h ≡ true) × (bit (f .T) h ≡ false)
-    goes-out r = go (A .byRule .1)
-      where
-        go : {k : ℕ} → ByRule (change p a b) k
-            → (h : ℕ) × (h < 16) × (bit (s .T) h ≡ true) × (bit (f .T) h ≡ false)
-        go (rule1 x z e) = absurd (not-in r x (ap (λ (c : Change). c .pointsIn) e))
-        go (rule2 x z h e) = absurd (not-in r x (ap (λ (c : Change). c .pointsIn) e))
-        go (rule3 x z h e) = absurd (not-in r x (ap (λ (c : Change). c .pointsIn) e))
-        go (rule4 x h e) = absurd (not-in r x (ap (λ (c : Change). c .pointsIn) e))
-        go (rule5 x h e) = absurd (not-in r x (ap (λ (c : Change). c .pointsIn) e))
-        go (rule6 z h e) = lost h (ap (λ (c : Change). c .intoT) e) (ap (λ (c : Change). c .outOfT) e)
-        go (rule7 z h e) = lost h (ap (λ (c : Change). c .intoT) e) (ap (λ (c : Change). c .outOfT) e)
-
     pub record-is : ((x : ℕ) → change p a b .pointsOut ≡ x ∷ [] → gone ≡ x)
         → recordFrom (s .T) (s .U) (f .T) (f .U) come gone ≡ recordOf p a b
-    record-is out =
-        told p a b (mask-T ok S) (mask-T ok held) (mask-U ok S) (mask-U ok held) comes out (A .byRule .1)
+    record-is goes-out = told p a b (mask-T S) (mask-T held) (mask-U S) (mask-U held) comes goes-out (A .byRule .1)
 
   -- which point goes out
   module _ (a b : Simplex) where
@@ -161,7 +133,7 @@ module _ {p : Problem} (ok : HasStart p) where
 
     -- where the bytes name nothing
     pub nothing-named : way ≡ Nothing → (k : ℕ) → rebuiltFrom p (suc k) a bytes ≡ none
-    nothing-named e = stops (λ b m r. go (said-to ok S b m bytes n count r .way) e)
+    nothing-named e = stops (λ b m r. go (names ok S b m bytes n count r) e)
       where
         go : {b : Simplex} {w : Way} → Names p a b (S .t) (S .T) w → w ≡ Nothing → ⊥
         go (takes i l c m) q = let z : _≡_ {A = ℕ} 0 1 = cc in omega arith
@@ -170,7 +142,7 @@ module _ {p : Problem} (ok : HasStart p) where
     -- where they name a point that leaves, each record that stands there takes it out
     pub named-out : (i : ℕ) → way ≡ Leaves i → (b : Simplex) → isMove p a b ≡ true
         → begins (recordOf p a b) bytes ≡ true → TakesOut p a i b
-    named-out i e b m r = go (said-to ok S b m bytes n count r .way) e
+    named-out i e b m r = go (names ok S b m bytes n count r) e
       where
         go : {w : Way} → Names p a b (S .t) (S .T) w → w ≡ Leaves i → TakesOut p a i b
         go (takes j l c o) q = let z : j ≡ i = cc in subst (λ (k : ℕ). TakesOut p a k b) z o
@@ -178,7 +150,7 @@ module _ {p : Problem} (ok : HasStart p) where
 
     pub named-into : (h : ℕ) → way ≡ Joins h → (b : Simplex) → isMove p a b ≡ true
         → begins (recordOf p a b) bytes ≡ true → BringsIn p a h b
-    named-into h e b m r = go (said-to ok S b m bytes n count r .way) e
+    named-into h e b m r = go (names ok S b m bytes n count r) e
       where
         go : {w : Way} → Names p a b (S .t) (S .T) w → w ≡ Joins h → BringsIn p a h b
         go (takes j l c o) q = let z : _≡_ {A = ℕ} 0 1 = cc in absurd (omega arith)
@@ -197,13 +169,6 @@ module _ {p : Problem} (ok : HasStart p) where
     pub data OnlyPlace (b : Simplex) : Type 0 where
       byOut : (i : ℕ) → way ≡ Leaves i → TakesOut p a i b → OnlyPlace b
       byInto : (h : ℕ) → way ≡ Joins h → BringsIn p a h b → OnlyPlace b
-
-    pub only-named : {b : Simplex} → OnlyPlace b → way ≡ Nothing → ⊥
-    only-named (byOut i e m) q = let z : _≡_ {A = ℕ} 0 1 = cc in omega arith
-    only-named (byInto h e m) q = let z : _≡_ {A = ℕ} 0 1 = cc in omega arith
-
-    pub only-long : {b : Simplex} → OnlyPlace b → 5 ≤ length bytes
-    only-long O = says-long (says (numIndices (p .grid)) n s bytes) (only-named O)
 
     only-move : {b : Simplex} → OnlyPlace b → isMove p a b ≡ true
     only-move (byOut i e m) = m .0
@@ -262,24 +227,38 @@ module _ (m n : ℕ) (s : State) where
       (λ f. rw f fits-none)
       (true-or-false (leb r n && ltb 0 n))
 
-  fits-joins : (h : ℕ) → h < m → bit (s .T) h ≡ false → WayFits m n (s .T) (Joins h)
-  fits-joins h l out = record {
-    leaves = λ i e. absurd (let z : _≡_ {A = ℕ} 0 1 = cc in omega arith);
-    joins = λ j e. let q : h ≡ j = cc in (omega (arith, l, q), ap (bit (s .T)) (sym q) ∙ out);
-  }
-
-  fits-by : {bytes : List ℕ} {r : Said} → Says m n s bytes r → WayFits m n (s .T) (r .way)
-  fits-by says0 = fits-none
-  fits-by (says1 a b c d rest) = fits-leaving (c + 256 * d)
-  fits-by (says2 a b c d h rest l u) = fits-leaving (c + 256 * d)
-  fits-by (says3 a b c d h rest l u) = fits-leaving (c + 256 * d)
-  fits-by (says4 a b h rest l t) = fits-joins h l t
-  fits-by (says5 a b h rest l t u) = fits-joins h l t
-  fits-by (says6 a b h rest l t u) = fits-leaving (a + 256 * b)
-  fits-by (says7 a b h rest l t) = fits-leaving (a + 256 * b)
+  fits-joining : (b : ℕ) → WayFits m n (s .T) (joining (s .T) m b)
+  fits-joining b = ⊎-elim
+      (λ t. rw t (⊎-elim
+      (λ u. rw u fits-none)
+      (λ u. rw u (record {
+        leaves = λ i e. absurd (let z : _≡_ {A = ℕ} 0 1 = cc in omega arith);
+        joins = λ h e.
+            let q : b - 1 ≡ h = cc in (
+              omega (arith, leb-true 1 b (and-left (leb 1 b) _ t), leb-true b m (and-right (leb 1 b) _ t), q),
+              ap (bit (s .T)) (sym q) ∙ u,
+            );
+      }))
+      (true-or-false (bit (s .T) (b - 1)))))
+      (λ f. rw f fits-none)
+      (true-or-false (leb 1 b && leb b m))
 
   pub way-fits : (bytes : List ℕ) → WayFits m n (s .T) (wayOf m n s bytes)
-  way-fits bytes = fits-by (says m n s bytes)
+  unfolding wayOf
+  way-fits bytes =
+      let byte = getD bytes 0 0 in
+      let from = 1 + 2 * (byte % 2) in
+      ⊎-elim
+      (λ t. rw t fits-none)
+      (λ f. rw f (⊎-elim
+      (λ u. rw u (⊎-elim
+      (λ v. rw v (fits-leaving (getD bytes from 0 + 256 * getD bytes (suc from) 0)))
+      (λ v. rw v fits-none)
+      (true-or-false (leb (from + 2) (length bytes)))))
+      (λ u. rw u
+      (⊎-elim (λ v. rw v (fits-joining (getD bytes 3 0))) (λ v. rw v fits-none) (true-or-false (leb 4 (length bytes)))))
+      (true-or-false (eqb (byte / 2 % 2) 1))))
+      (true-or-false (eqb (length bytes) 0))
 
 pub facet-ends : (e f : State) (k : ℕ) → endsAtFacet e k ≡ goes f → ⊥
 facet-ends e f k q = let z : _≡_ {A = ℕ} 0 1 = cc in omega arith
@@ -334,3 +313,15 @@ module _ {p : Problem} (ok : HasStart p) {a : Simplex} {s : State} (S : Shows p 
         let F = way-fits (numIndices (p .grid)) n s bytes .joins h (e ∙ q) in
         ready-grow ok S h (F .0) (sym (S .bitsT h (omega (arith, F .0, ok .sixteenIndices))) ∙ F .1);
   }
+
+  pub gone-low : (w : Way) → wayOf (numIndices (p .grid)) n s bytes ≡ w → goneBy s w < 65536
+  gone-low (Leaves i) e =
+      let F = way-fits (numIndices (p .grid)) n s bytes .leaves i e in
+      let il : i ≤ S .t = omega (arith, F .0, count) in
+      omega (
+        arith,
+        at-mark i il,
+        position-low ok (nth a i) (on-grid-in S (nth a i) (at-in onPoints [] a i (omega (arith, il, shows-long S)))),
+      )
+  gone-low (Joins h) e = omega arith
+  gone-low Nothing e = omega arith

@@ -1,3 +1,4 @@
+pub mod Ways
 pub mod Named
 pub mod Arrived
 pub mod NextPlace

@@ -1,10 +1,12 @@
--- What one record of a reading asks and gives. The reader's own promise does not cite it. Assumes nothing.
-use mathlib.Core.Bool.{Bool, true, _&&_, cond}
-use mathlib.Core.List.{List, []}
+-- What a record at the front of bytes names, and what one record of a reading asks and gives. The reader's own promise
+-- does not cite it. Assumes nothing.
+use mathlib.Core.Bool.{_&&_, cond}
+use mathlib.Core.List.{List, [], map}
 use mathlib.Core.Path.{_≡_}
-use Prim.Native.Nat.{ℕ, suc, _+_, _*_, _≤_, _<_}
-use lib.Dec.{eqb, ltb}
-use lib.ListN.{drop, length, set}
+use Prim.Native.Nat.{ℕ, suc, _+_, _-_, _*_, _/_, _%_, _≤_, _<_}
+use lib.Dec.{eqb, leb, ltb}
+use lib.ListN.{drop, getD, length, set}
+use Rattle.combinatorics.specs.Edits.{found}
 use Rattle.grid_points.specs.Grid.{at, numIndices, position}
 use Rattle.grid.specs.Made.{shape}
 use Rattle.grid.specs.declared.Grid.{Grid as GridStruct}
@@ -14,39 +16,55 @@ use Rattle.place.specs.Places.{Simplex}
 use Rattle.place.specs.Problem.{Problem}
 use Rattle.positions.specs.Binomials.{Measured}
 use Rattle.positions.specs.Falls.{tailFrom}
-use Rattle.record_reading.specs.Said.{saidBy, wordAt}
-use Rattle.record_reading.specs.declared.Said.{Said}
-use Rattle.records.specs.Records.{differing, recordFrom}
+use Rattle.records.specs.Records.{recordFrom}
+use Rattle.records.specs.declared.IndexSets.{IndexSets}
+use Rattle.rules.specs.Mask.{bit}
 use Rattle.rules.specs.Read.{pointOn}
 use Rattle.rules.specs.Ready.{RoundBelow, SixteenEach}
-use Rattle.rules.specs.Step.{State}
-use Rattle.trail.specs.Trail.{rebuiltFrom}
+use Rattle.rules.specs.Step.{State, markPosition}
+use Rattle.trail.specs.Trail.{begins, rebuiltFrom}
 use Rattle.trail_places.specs.Shows.{Shows}
 use Rattle.ways.specs.declared.Way.{Way}
+use Rattle.ways.specs.declared.Way.the-variants.{Joins, Leaves, Nothing}
 
--- the way that bytes name: m indices, n steps
-abbrev pub wayOf : ℕ → ℕ → State → List ℕ → Way
-wayOf m n s bytes = saidBy m n s bytes .way
+-- the point with a position leaves, if the place has it and another
+abbrev pub leaving : State → ℕ → ℕ → Way
+leaving s n z = let i = found z 16 (map markPosition (s .marks)) in cond (leb i n && ltb 0 n) (Leaves i) Nothing
+
+-- the index that a byte names, counted from 1, joins T
+abbrev pub joining : ℕ → ℕ → ℕ → Way
+joining T m b = cond (leb 1 b && leb b m) (cond (bit T (b - 1)) Nothing (Joins (b - 1))) Nothing
+
+-- by the map byte at the front: bit 1 stands for a point that goes out, whose position stands behind that of a point
+-- that comes in, if bit 0 stands; without it an index comes into T. m indices, n steps.
+unfoldable pub wayOf : ℕ → ℕ → State → List ℕ → Way
+wayOf m n s bytes =
+    let byte = getD bytes 0 0 in
+    let from = 1 + 2 * (byte % 2) in
+    let z = getD bytes from 0 + 256 * getD bytes (suc from) 0 in
+    let out = cond (leb (from + 2) (length bytes)) (leaving s n z) Nothing in
+    let into = cond (leb 4 (length bytes)) (joining (s .T) m (getD bytes 3 0)) Nothing in
+    cond (eqb (length bytes) 0) Nothing (cond (eqb (byte / 2 % 2) 1) out into)
 
 -- the position of the point that has come in, if any
 abbrev pub comePosition : GridStruct → State → ℕ
 comePosition g a = cond (ltb (a .rule) 6) (position (shape g) (pointOn (shape g) a (a .active))) 0
 
 -- the record of the change that has been made
-abbrev pub recordMade : GridStruct → State → State → ℕ → List ℕ
-recordMade g before a gone = recordFrom (before .T) (before .U) (a .T) (a .U) (comePosition g a) gone
+abbrev pub recordMade : GridStruct → State → IndexSets → ℕ → List ℕ
+recordMade g a before gone = recordFrom (before .t) (before .u) (a .T) (a .U) (comePosition g a) gone
 
--- T and U have become what the bytes say, and the point that has come in, if any, has the position there
-abbrev pub agrees : GridStruct → State → Said → List ℕ → Bool
-agrees g a said bytes =
-    eqb (differing (a .T) (said .t)) 16 && eqb (differing (a .U) (said .u)) 16
-    && cond (ltb (a .rule) 6) (eqb (wordAt bytes 1) (comePosition g a)) true
-
--- the two can be compared
-pub record CanCompare (g : GridStruct) (a : State) (marks room : ℕ) : Type 0 where
+-- it can be compared with the bytes
+pub record CanCompare (g : GridStruct) (a : State) (gone marks room at : ℕ) : Type 0 where
   pub come : comePosition g a < 65536
+  pub out : gone < 65536
   pub sixteen : marks ≡ 16
-  pub long : 3 ≤ room
+  pub low : at ≤ room
+
+-- how many bytes it has, where the bytes begin with it; else 0
+abbrev pub bytesStanding : GridStruct → State → IndexSets → ℕ → List ℕ → ℕ
+bytesStanding g a before gone bytes =
+    let made = recordMade g a before gone in cond (begins made bytes) (length made) 0
 
 -- the marks with that of the point that has come in
 abbrev pub marksWith : GridStruct → State → List ℕ → List ℕ

@@ -2,12 +2,12 @@
 // here is for the writer, which shows what it asks.
 ghost use mathlib.Core.Bool.{true};
 ghost use mathlib.Core.Path.{_≡_};
-ghost use Prim.Native.Nat.{ℕ, _≤_};
+ghost use Prim.Native.Nat.{ℕ};
 ghost use lib.ListN.{length};
 ghost use Rattle.records.specs.Records.{IsRecord, SameSets, recordFrom};
 ghost use Rattle.rules.specs.Step.{State};
 ghost use Rattle.trail_visits.specs.Visited.{CanWrite, HasPositions, recordHere, withRecord};
-ghost use Rattle.ways.specs.Ways.{goneBy, heldMarks};
+ghost use Rattle.ways.specs.Ways.{CanTell, goneBy, heldMarks, wayHere};
 use arrays::position_at;
 use moves::Status;
 use records::IndexSets;
@@ -17,8 +17,8 @@ use records::kept_record;
 use records::length_of;
 use records::put;
 use records::record_of;
-use ways::Way;
 use ways::gone_by;
+use ways::way_here;
 
 // What a record looks at of the place before its own: T and U, and the position of the point that has left.
 pub struct Before {
@@ -68,7 +68,6 @@ fn put_here(marks: &[u32; 16], s: Status, trail: &mut [u8], at: usize, before: B
 pub fn tell(
     marks: &[u32; 16],
     s: Status,
-    way: Way,
     trail: &mut [u8],
     at: usize,
     before: Before,
@@ -76,15 +75,16 @@ pub fn tell(
 ) -> usize
     ghost { State }
     requires { λ a. ⌜ heldMarks marks s ≡ a ⌝ }
-    requires { λ _. ⌜ (s .count ≤ 15) × ((i : ℕ) → way ≡ Way.Leaves i → i ≤ s .count) ⌝ }
+    requires { λ a. ⌜ CanTell a s × (length (now marks) ≡ 16) ⌝ }
     requires { λ a. ⌜ (writes ≡ true → CanWrite a s (now trail) at before) ⌝ }
-    ensures { λ a r. ⌜ (writes ≡ true → r ≡ goneBy a way) ⌝ }
+    ensures { λ a r. ⌜ (writes ≡ true → r ≡ goneBy a (wayHere a)) ⌝ }
     ensures { λ a _. ⌜ now (trail .exit) ≡ withRecord a (now (trail .entry)) at before writes ⌝ }
 {
     if !writes {
         return 0;
     }
     put_here(marks, s, trail, at, before);
+    let way = way_here(marks, s);
     gone_by(way, marks, s)
 }
 

@@ -24,7 +24,7 @@ use Rattle.path_laws.proofs.Labels.{label-ok}
 use Rattle.path_laws.proofs.LinkSymmetry.{parts}
 use Rattle.path_laws.proofs.Theorem.{demand3-holds}
 use Rattle.path_laws.specs.Demand.{Accepted, lastPlace, placeAt}
-use Rattle.path_walk.proofs.Visits.{HasRead, OnPath}
+use Rattle.path_walk.proofs.Visits.{OnPath}
 use Rattle.path_walk.specs.Finish.{IsKnown, problemIn}
 use Rattle.grid_points.proofs.Points.{in-points, onPoints, position-in}
 use Rattle.grid_points.specs.Grid.{Point, isGridPoint, numIndices, points, position, samePoint}
@@ -43,7 +43,7 @@ use Rattle.rules.proofs.Follow.{at-long, at-marks, at-others, at-place, at-read
 use Rattle.rules.proofs.Marks.{position-in as mark-position}
 use Rattle.rules.proofs.Masks.{IsMask, maskT, maskU}
 use Rattle.rules.specs.Read.{markOf, pointIn, pointsFrom, positionAt, read}
-use Rattle.rules.specs.Ready.{labelIn, Ready, SixteenEach}
+use Rattle.rules.specs.Ready.{labelIn, Ready}
 use Rattle.rules.specs.Step.{State, goes, markPosition, step, withMark}
 use Rattle.trail.proofs.Outside.{outside-in, mapped-one}
 use Rattle.trail.proofs.Reading.{T-alike}
@@ -76,6 +76,11 @@ ended-whole p budget {n} {read} {kind} {block} {vertices} {simplex} e =
         let h : outcome p (path p .visited) (some x) ≡ ended n read kind block vertices simplex = rw w at f in
         cc
 
+-- a walk that only counts leaves the trail as it was
+pub unwritten : (writes : Bool) (new old : List ℕ) → writes ≡ false → cond writes new old ≡ old
+unwritten true new old e = absurd-bool e
+unwritten false new old e = refl
+
 module _ (g : GridStruct) (start table : List ℕ) where
   -- what is kept of the place before
   pub record Behind (before : Before) (h : ℕ) : Type 0 where
@@ -101,21 +106,18 @@ module _ (g : GridStruct) (start table : List ℕ) where
     pub long : at ≡ length (trailOf (problemIn g start table) (take k (path (problemIn g start table) .visited)))
     pub behind : (h : ℕ) → suc h ≡ k → Behind before h
 
-  -- The walk stands at place number k, from 0. The trail has the records of the places before it, and the record of
-  -- the place ends at byte `end`. Where rule 1 led to the place, T and U are those of the place before. The labels read
-  -- are those up to the place, and a walk that writes knows the point that has left.
-  pub record Walking (writes : Bool) (old : List ℕ) (k : ℕ) (a : State) (order marks trail : List ℕ) (before : Before)
-      (at end labels : ℕ) : Type 0 where
-    pub here : OnPath (problemIn g start table) a k
-    pub each : SixteenEach order marks
-    pub soFar : SoFar before k at
+  -- What the walk has written at place number k, from 0: the records of the places before it. The record of the place
+  -- ends at byte `end`. Where rule 1 led to the place, T and U are those of the place before. A walk that writes knows
+  -- the point that has left.
+  pub record Recording (writes : Bool) (old : List ℕ) (k : ℕ) (a : State) (trail : List ℕ) (before : Before)
+      (from end : ℕ) : Type 0 where
+    pub soFar : SoFar before k from
     pub counted : end ≡ length (trailOf (problemIn g start table)
         (take (suc k) (path (problemIn g start table) .visited)))
-    pub kept : a .rule ≡ 1 → 0 < at → SameSets (before .t) (before .u) (a .T) (a .U)
+    pub kept : a .rule ≡ 1 → 0 < from → SameSets (before .t) (before .u) (a .T) (a .U)
     pub written : trail ≡ cond writes
         (front (trailOf (problemIn g start table) (take k (path (problemIn g start table) .visited))) old) old
     pub long : length trail ≡ length old
-    pub read : HasRead (problemIn g start table) k labels
     pub left : writes ≡ true → Left before k
 
 module _ (g : GridStruct) (start table : List ℕ) (ok : Accepted (problemIn g start table)) where

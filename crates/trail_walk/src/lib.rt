@@ -6,20 +6,20 @@ ghost use Rattle.arrays.specs.Rounds.{round};
 ghost use Rattle.path_walk.specs.Finish.{CanWalk, Finished, problemIn};
 ghost use Rattle.rules.specs.Step.{Round};
 ghost use Rattle.trail_walk.specs.Walked.{HasRoomForTrail, Recorded};
-use end_kinds::Kind;
 use grid::Grid;
-use label_reading::Looked;
-use label_reading::look_up;
 use moves::Outcome;
 use path_walk::Finish;
+use path_walk::Looked;
+use path_walk::Stand;
 use path_walk::begin;
-use path_walk::labels_at;
+use path_walk::ended;
+use path_walk::look_up;
+use path_walk::on;
 use positions::ENTRIES;
 use trail_visits::Before;
 use trail_visits::bytes_to;
 use trail_visits::tell;
-use ways::moved_by;
-use ways::way_here;
+use ways::step;
 
 // How a walk ended, and the bytes of its records.
 pub struct Walked {
@@ -28,7 +28,7 @@ pub struct Walked {
 }
 
 // From {v} to the path's end, or until the budget is spent: the number of places left counts down. The record of a
-// place goes from byte `at` to byte `end`. It is counted where the move to the place is made, whose rule the compiler
+// place goes from byte `from` to byte `end`. It is counted where the move to the place is made, whose rule the compiler
 // then knows, and stored where the walk writes.
 pub fn follow(
     g: Grid,
@@ -54,18 +54,21 @@ pub fn follow(
 {
     let mut coefficients = [0u16; 16];
     let mut marks = [0u32; 16];
-    let mut s = begin(first, g.indices);
     let tails = positions::tails(first, g.indices);
     let mut before = Before {
         t: 0,
         u: 0,
         gone: 0,
     };
-    let mut at: usize = 0;
+    let mut from: usize = 0;
     let mut end: usize = 3;
-    let mut labels_read = labels_at(s);
-    let mut left = budget;
-    while 0 < left {
+    let mut at = Stand {
+        status: begin(first, g.indices),
+        left: budget,
+        labels: 1,
+    };
+    while 0 < at.left {
+        let s = at.status;
         let looked = look_up(
             g,
             binomials,
@@ -79,19 +82,17 @@ pub fn follow(
             &mut marks,
             s,
         );
-        left -= 1;
         if let Looked::Unknown(position) = looked {
             return Walked {
                 finish: Finish::Unknown {
-                    places: budget - left - 1,
+                    places: budget - at.left,
                     position,
                 },
-                bytes: at,
+                bytes: from,
             };
         }
-        let way = way_here(&marks, s);
-        let gone = tell(&marks, s, way, trail, at, before, writes);
-        let outcome = moved_by(
+        let gone = tell(&marks, s, trail, from, before, writes);
+        let outcome = step(
             previous,
             next,
             sizes,
@@ -100,29 +101,16 @@ pub fn follow(
             order,
             &mut marks,
             s,
-            way,
         );
-        if let Outcome::PlaceEnd(index) = outcome {
+        if let Outcome::PlaceEnd(_) = outcome {
             return Walked {
-                finish: Finish::Ended {
-                    kind: Kind::Place,
-                    places: budget - left,
-                    index,
-                    status: s,
-                    labels_read,
-                },
+                finish: ended(at, outcome, budget),
                 bytes: end,
             };
         }
-        if let Outcome::FacetEnd(index) = outcome {
+        if let Outcome::FacetEnd(_) = outcome {
             return Walked {
-                finish: Finish::Ended {
-                    kind: Kind::Facet,
-                    places: budget - left,
-                    index,
-                    status: s,
-                    labels_read,
-                },
+                finish: ended(at, outcome, budget),
                 bytes: end,
             };
         }
@@ -132,14 +120,13 @@ pub fn follow(
                 u: s.u,
                 gone,
             };
-            at = end;
+            from = end;
             end += bytes_to(s, status);
-            s = status;
-            labels_read += labels_at(s);
+            at = on(at, status);
         }
     }
     Walked {
         finish: Finish::Spent,
-        bytes: at,
+        bytes: from,
     }
 }

@@ -8,7 +8,7 @@ use crate::Move;
 use crate::Next;
 use crate::ending::refused;
 use crate::ending::told;
-use crate::ways::way;
+use crate::one_way::way;
 use grid::Grid;
 use moves::Status;
 use walk_places::Place;

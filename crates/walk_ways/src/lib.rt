@@ -1,7 +1,7 @@
 // What comes next from the present place of a walk.
 mod choice;
 mod ending;
-mod ways;
+mod one_way;
 
 pub use choice::from_other;
 pub use choice::from_start;

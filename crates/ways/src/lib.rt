@@ -5,19 +5,22 @@ ghost use mathlib.Core.Path.{_≡_};
 ghost use Prim.Native.Nat.{ℕ, _≤_};
 ghost use lib.ListN.{length};
 ghost use Rattle.arrays.specs.Rounds.{round};
-ghost use Rattle.moves.specs.Held.{GivesAll, Sound, held};
+ghost use Rattle.moves.specs.Held.{CanStep, GivesAll, Sound, held};
 ghost use Rattle.rules.specs.Ready.{RoundBelow};
-ghost use Rattle.rules.specs.Step.{State};
+ghost use Rattle.rules.specs.Step.{State, step as stepped};
 ghost use Rattle.ways.specs.Ways.{CanMove, CanTell, goneBy, heldMarks, wayAfter, wayHere};
+
+mod joining;
+
 use arrays::find;
 use arrays::has;
 use arrays::label_in;
 use arrays::position_at;
 use arrays::wide32;
+use joining::grow;
 use moves::Outcome;
 use moves::Status;
 use moves::leave;
-use steps::grow;
 
 // The point that leaves, by its number; or the index that joins T; or neither, which only a reader meets.
 pub enum Way {
@@ -93,4 +96,34 @@ pub fn moved_by(
         Way::Joins(h) => grow(next, sizes, order, marks, s, h),
         Way::Nothing => Outcome::FacetEnd(0),
     }
+}
+
+// The move from a place whose points all have their marks, by the labels.
+pub fn step(
+    previous: &[u8; 16],
+    next: &[u8; 16],
+    sizes: &[u8; 16],
+    first: &mut [u16; 16],
+    coefficients: &mut [u16; 16],
+    order: &mut [u32; 16],
+    marks: &mut [u32; 16],
+    s: Status,
+) -> Outcome
+    ghost { State }
+    requires { λ a. ⌜ held (round previous next sizes) first coefficients order marks s ≡ a ⌝ }
+    requires { λ a. ⌜ CanStep order marks a ⌝ }
+    ensures { λ a r. ⌜ GivesAll a first coefficients order marks s r (stepped a) ⌝ }
+{
+    let way = way_here(marks, s);
+    moved_by(
+        previous,
+        next,
+        sizes,
+        first,
+        coefficients,
+        order,
+        marks,
+        s,
+        way,
+    )
 }

@@ -17,8 +17,8 @@ returns : tie.Need-returns
 returns c = rw
     (ne-eqb _ _ (λ e. c .if1 .taken (c .before .before .block-of .ensures ∙ e ∙ sym (c .before .block-of2 .ensures))))
 
-source-requires : tie.Need-source-requires
-source-requires c κs =
+first-outside-requires : tie.Need-first-outside-requires
+first-outside-requires c κs =
     let s = c .before .before .before in
     (omega (arith, s .pre .1 .0, indices-few (s .args .g) (s .pre .0 .0)), s .pre .0 .1)
 
@@ -27,10 +27,10 @@ returns-2 c =
     let same = sym (c .before .before .before .before .block-of .ensures)
     ∙ c .before .before .if1 .left
     ∙ c .before .before .before .block-of2 .ensures in
-    rw (eq-eqb _ _ same, ← c .before .source .ensures .0, le-ltb _ _ (c .if2 .taken))
+    rw (eq-eqb _ _ same, ← c .before .first-outside .ensures .0, le-ltb _ _ (c .if2 .taken))
 
-source-requires-2 : tie.Need-source-requires-2
-source-requires-2 c κs =
+first-outside-requires-2 : tie.Need-first-outside-requires-2
+first-outside-requires-2 c κs =
     let s = c .before .before .before .before .before in
     (omega (arith, s .pre .1 .1, indices-few (s .args .g) (s .pre .0 .0)), s .pre .0 .1)
 
@@ -41,8 +41,8 @@ returns-3 c =
     ∙ c .before .before .before .before .before .block-of2 .ensures in
     rw (
       eq-eqb _ _ same,
-      ← c .before .before .before .source .ensures .0,
-      ← c .before .source2 .ensures .0,
+      ← c .before .before .before .first-outside .ensures .0,
+      ← c .before .first-outside2 .ensures .0,
       lt-ltb _ _ (c .before .before .if2 .left),
       le-ltb _ _ (c .if3 .taken),
     )
@@ -54,8 +54,8 @@ returns-4 c =
     ∙ c .before .before .before .before .before .before .block-of2 .ensures in
     rw (
       eq-eqb _ _ same,
-      ← c .before .before .before .before .source .ensures .0,
-      ← c .before .before .source2 .ensures .0,
+      ← c .before .before .before .before .first-outside .ensures .0,
+      ← c .before .before .first-outside2 .ensures .0,
       lt-ltb _ _ (c .before .before .before .if2 .left),
       lt-ltb _ _ (c .before .if3 .left),
       le-leb _ _ (c .if4 .taken),
@@ -68,8 +68,8 @@ returns-5 c =
     ∙ c .before .before .before .before .before .before .block-of2 .ensures in
     rw (
       eq-eqb _ _ same,
-      ← c .before .before .before .before .source .ensures .0,
-      ← c .before .before .source2 .ensures .0,
+      ← c .before .before .before .before .first-outside .ensures .0,
+      ← c .before .before .first-outside2 .ensures .0,
       lt-ltb _ _ (c .before .before .before .if2 .left),
       lt-ltb _ _ (c .before .if3 .left),
       lt-leb _ _ (c .if4 .left),
@@ -82,9 +82,9 @@ add-up-spec =
     block-of-requires
     block-of-requires-2
     returns
-    source-requires
+    first-outside-requires
     returns-2
-    source-requires-2
+    first-outside-requires-2
     returns-3
     returns-4
     returns-5)

@@ -1,262 +1,221 @@
--- `path_walk::walk` meets its contract. The loop's invariant: the state that the arrays and the status hold stands
--- at the place whose number is what is spent of the budget, and the labels read are those up to it. The measure is what
--- is left of the budget. Assumes nothing.
-use mathlib.Core.Path.{_≡_, refl}
-use Prim.Native.Nat.{ℕ, suc, _+_, _-_, _≤_, _<_}
+-- `path_walk::walk` meets its contract. The loop's invariant: the walk stands at the place whose number is what is
+-- spent of the budget. The measure is what is left of it. Assumes nothing.
+use mathlib.Core.List.{List}
+use mathlib.Core.Path.{_≡_, refl, sym, ap, _∙_, subst}
+use Prim.Native.Nat.{ℕ, _-_, _<_}
+use borrow.Author.Needs.{needs}
 use native.Mathlib.Omega.{arith}
 use Rattle.arrays.specs.Rounds.{roundOf}
 use Rattle.grid.proofs.Fields.{indices-few}
-use Rattle.moves.specs.Held.{stateOf}
-use Rattle.place.specs.Problem.{Problem}
-use Rattle.path_laws.proofs.Filled.{filledTable}
 use Rattle.marks.specs.Reading.{tableProblem}
-use Rattle.rules.proofs.Follow.{NextAt}
+use Rattle.moves.specs.Held.{answered, stateOf}
+use Rattle.moves.specs.declared.Outcome.{Outcome}
+use Rattle.place.specs.Problem.{Problem}
 use Rattle.rules.specs.Read.{read}
 use Rattle.rules.specs.Ready.{SixteenEach}
-use Rattle.rules.specs.Step.{After, Round, State, step}
-use Rattle.path_walk.specs.Finish.{IsKnown, problemIn}
-use Rattle.path_walk.proofs.Visits.{HasRead, OnPath, announced-facet, announced-place, asked, begins}
-use Rattle.path_walk.proofs.Visits.{begins-reading}
-use Rattle.path_walk.proofs.Visits.{goes-on, leads, one-of-four, reads-fit, reads-on, spends, visits}
-use borrow.Author.Needs.{needs}
+use Rattle.rules.specs.Step.{After, Round, State, step as stepOf}
+use Rattle.path_walk.specs.Finish.{problemIn}
+use Rattle.path_walk.specs.declared.Stand.{Stand}
+use Rattle.path_walk.proofs.Places.{IsRead}
+use Rattle.path_walk.proofs.Visits.{begins, begins-reading, spends}
+use Rattle.path_walk.proofs.Walking.{MovesTo, Place, Walking, asks, can-look, facet-ends, has-looked, labels-fit}
+use Rattle.path_walk.proofs.Walking.{place-ends, rounds, stands, walks-on}
 use Rattle.path_walk.proofs.walk.Statement.{statement}
 use Rattle.path_walk.proofs.walk.Tie as tie
+use Rattle.ways.proofs.Outcomes.{one-of-three}
 
 abbrev Inv-loop : tie.InvT-loop
-Inv-loop g binomials table previous next sizes first₀ order₀ budget coefficients₀ marks₀ s₀ tails read₀ left₀ first
-    order coefficients marks s read left =
-    let p = problemIn g first₀ table in
-    OnPath p (stateOf (roundOf previous next sizes) first coefficients order marks s) (budget - left) × (left ≤ budget)
-    × SixteenEach order marks × HasRead p (budget - left) read
+Inv-loop g binomials table previous next sizes first₀ order₀ budget coefficients₀ marks₀ tails at₀ first order
+    coefficients marks at =
+    Walking (problemIn g first₀ table) budget at
+    (stateOf (roundOf previous next sizes) first coefficients order marks (at .status)) × SixteenEach order marks
 
 abbrev μ-loop : tie.MeasureT-loop
-μ-loop g binomials table previous next sizes first₀ order₀ budget coefficients₀ marks₀ s₀ tails read₀ left₀ first order
-    coefficients marks s read left = left
-
-begin-requires : tie.Need-begin-requires Inv-loop μ-loop
-begin-requires c κs = indices-few (c .before .before .args .g) (c .before .before .pre .readable .made)
+μ-loop g binomials table previous next sizes first₀ order₀ budget coefficients₀ marks₀ tails at₀ first order
+    coefficients marks at =
+    at .left
 
 tails-requires : tie.Need-tails-requires Inv-loop μ-loop
-tails-requires c κs =
-    indices-few (c .before .before .before .before .args .g) (c .before .before .before .before .pre .readable .made)
+tails-requires c κs = let s = c .before .before in indices-few (s .args .g) (s .pre .readable .made)
 
-labels-at-requires : tie.Need-labels-at-requires Inv-loop μ-loop
-labels-at-requires c κs = search needs
+begin-requires : tie.Need-begin-requires Inv-loop μ-loop
+begin-requires c κs = let s = c .before .before .before .before in indices-few (s .args .g) (s .pre .readable .made)
 
 loop-holds : tie.Need-loop-holds Inv-loop μ-loop
 loop-holds c =
-    let s = c .before .before .before .before .before .before in
+    let s = c .before .before .before .before .before in
     let a = s .args in
     let w = s .pre in
-    let start = c .before .before .before .begin in
-    let p = problemIn (a .g) (a .first .now) (a .table .now) in
     let z : a .budget - a .budget ≡ 0 = omega arith in (
-      rw z (begins (a .g) (w .readable .made) (a .first .now) (a .table .now) (w .accepted) (w .isRound)
-          (w .firstLength) (a .order .now) (start .result) (start .ensures)),
-      omega arith,
+      record {
+        here = rw z (begins (a .g) (w .readable .made) (a .first .now) (a .table .now) (w .accepted) (w .isRound)
+            (w .firstLength) (a .order .now) (c .begin .result) (c .begin .ensures));
+        low = omega arith;
+        read = rw z (begins-reading (problemIn (a .g) (a .first .now) (a .table .now)) 1 1 refl refl);
+      },
       record { inOrder = w .orderLength; inMarks = refl },
-      rw z (begins-reading p (c .labels-at .result) (start .result .rule) (c .labels-at .ensures)
-          (start .ensures .rule)),
     )
 
-visit-requires : tie.Need-visit-requires Inv-loop μ-loop
-visit-requires c κs =
-    let s = c .before .before .before .before .before .before .before .before .before .before .before .before .before in
-    let a = s .args in
-    let w = s .pre in
-    let l = c .before .before .before .before .before .before .loop in
-    let tails = c .before .before .before .before .before .before .before .before .tails in
-    let round = roundOf (a .previous .now) (a .next .now) (a .sizes .now) in
-    let place = stateOf round (l .first) (l .coefficients) (l .order) (l .marks) (l .s) in (
-      (w .readable, l .inv .2),
-      visits (a .g) (w .readable .made) (a .first .now) (a .table .now) (w .accepted) place (a .budget - l .left)
-          (l .inv .0) (w .below) (tails .result) (tails .ensures),
-    )
+-- at a place: where the call began, and the loop
+abbrev At : Type 0
+At = tie.After-marks Inv-loop μ-loop
 
--- a place that has been visited: where the call began, and the turn
-abbrev Seen : Type 0
-Seen = tie.After-visit Inv-loop μ-loop
-
-abbrev begun : Seen → tie.Start Inv-loop μ-loop
+abbrev begun : At → tie.Start Inv-loop μ-loop
 begun c =
     c .before .before .before .before .before .before .before
     .before .before .before .before .before .before .before
 
-abbrev turn : Seen → tie.At-loop Inv-loop μ-loop
-turn c = c .before .before .before .before .before .before .before
+abbrev turn : At → tie.At-loop Inv-loop μ-loop
+turn c = c .before .before .before .before .before .before .before .before
 
--- the problem with the start in its array and from the table alone, and the ways round the blocks
-abbrev problem : Seen → Problem
-problem c =
-    let a = begun c .args in
-    problemIn (a .g) (a .first .now) (a .table .now)
-
-abbrev table : Seen → Problem
-table c = tableProblem (begun c .args .g) (begun c .args .table .now)
-
-abbrev round : Seen → Round
-round c =
-    let a = begun c .args in
-    roundOf (a .previous .now) (a .next .now) (a .sizes .now)
-
--- the state there, and its number
-abbrev place : Seen → State
+abbrev place : At → Place
 place c =
-    let l = turn c .loop in
-    stateOf (round c) (l .first) (l .coefficients) (l .order) (l .marks) (l .s)
-
-abbrev number : Seen → ℕ
-number c = begun c .args .budget - turn c .loop .left
-
--- where the move from there leads, once its label is known
-next : (c : Seen) → IsKnown (table c) (place c) → (after : After) → after ≡ step (read (table c) (place c))
-    → NextAt (filledTable (problem c)) (number c) after
-next c known after e =
     let a = begun c .args in
     let w = begun c .pre in
-    leads (a .g) (w .readable .made) (a .first .now) (a .table .now) (w .accepted) (place c) (number c)
-    (turn c .loop .inv .0) known after e
+    let l = turn c .loop in
+    let tails = c .before .before .before .before .before .before .before .before .before .before .before .tails in
+    record {
+      g = a .g;
+      made = w .readable .made;
+      start = a .first .now;
+      table = a .table .now;
+      ok = w .accepted;
+      previous = a .previous .now;
+      next = a .next .now;
+      sizes = a .sizes .now;
+      first = l .first;
+      coefficients = l .coefficients;
+      order = l .order;
+      marks = l .marks;
+      budget = a .budget;
+      stand = l .at;
+      walking = l .inv .0;
+      more = c .before .before .before .before .before .before .if1 .taken;
+      below = w .below;
+      sixteen = l .inv .1 .inOrder;
+      tails = tails .result;
+      sums = tails .ensures;
+    }
 
--- the budget that is spent with it
-spent : (c : Seen) → begun c .args .budget - (turn c .loop .left - 1) ≡ suc (number c)
-spent c = omega (arith, turn c .loop .inv .1, c .before .before .before .before .before .before .loop-test .taken)
+look-up-requires : tie.Need-look-up-requires Inv-loop μ-loop
+look-up-requires c κs = ((begun c .pre .readable, turn c .loop .inv .1 .inMarks), can-look (place c))
 
-within : (c : Seen) → number c < begun c .args .budget
-within c = omega (arith, turn c .loop .inv .1, c .before .before .before .before .before .before .loop-test .taken)
+enum-known-looked : tie.Need-enum-known-looked Inv-loop μ-loop
+enum-known-looked c = search needs
 
-sub-left : tie.Need-sub-left Inv-loop μ-loop
-sub-left c = omega arith
-
-enum-known-seen : tie.Need-enum-known-seen Inv-loop μ-loop
-enum-known-seen c = search needs
-
-sub-t30 : tie.Need-sub-t30 Inv-loop μ-loop
-sub-t30 c = omega (arith, turn (c .before .before .before) .loop .inv .1)
-
-sub-t31 : tie.Need-sub-t31 Inv-loop μ-loop
-sub-t31 c =
-    let v = c .before .before .before in
-    omega (arith, turn v .loop .inv .1, v .before .before .before .before .before .before .loop-test .taken)
+sub-t29 : tie.Need-sub-t29 Inv-loop μ-loop
+sub-t29 c = omega (arith, turn (c .before .before .before .before .before) .loop .inv .0 .low)
 
 returns : tie.Need-returns Inv-loop μ-loop
 returns c =
-    let v = c .before .before .before in
-    let a = begun v .args in
-    let w = begun v .pre in
-    let l = turn v .loop in
-    let G = rw (c .before .seen .given .1) at (v .visit .ensures) in
-    let e : a .budget - (l .left - 1) - 1 ≡ number v = omega (arith, spent v) in
-    rw e (asked (a .g) (w .readable .made) (a .first .now) (a .table .now) (w .accepted) (place v) (number v)
-    (l .inv .0) G (a .budget) (within v))
+    asks (place (c .before .before .before .before .before))
+    (rw (c .before .before .looked .given .1) at (c .before .before .before .before .look-up .ensures))
 
-enum-known-seen-2 : tie.Need-enum-known-seen-2 Inv-loop μ-loop
-enum-known-seen-2 c = search needs
+enum-told : tie.Need-enum-told Inv-loop μ-loop
+enum-told c = search needs
 
-sub-t33 : tie.Need-sub-t33 Inv-loop μ-loop
-sub-t33 c = omega (arith, turn (c .before .before .before .before) .loop .inv .1)
+-- its label is known
+abbrev Known : Type 0
+Known = tie.After-enum-told Inv-loop μ-loop
+
+abbrev at : Known → At
+at c = c .before .before .before
+
+abbrev marksRead : Known → List ℕ
+marksRead c = c .before .before .look-up .last .1 .1 .1 .1 .1 .1 .1 .1 .1 .0
+
+told : (c : Known)
+    → let P = place (at c) in
+    IsRead (tableProblem (P .g) (P .table)) (stands P) (rounds P) (P .first) (P .coefficients) (P .order) (marksRead c)
+    (P .stand .status)
+told c =
+    has-looked (place (at c)) (marksRead c) (rw (c .enum-told .given .1) at (c .before .before .look-up .ensures))
+
+step-requires : tie.Need-step-requires Inv-loop μ-loop
+step-requires c κs =
+    let k = c .before .before .before .before in
+    let R = told k in
+    record { below = begun (at k) .pre .below; each = R .each; ready = R .ready }
+
+-- the move is made
+abbrev Made : Type 0
+Made = tie.After-step Inv-loop μ-loop
+
+abbrev known : Made → Known
+known c = c .before .before .before .before .before
+
+-- what it gives, by its outcome: the step from the place
+abbrev here : Made → Place
+here c = place (at (known c))
+
+abbrev Goes : (c : Made) → Outcome → Type 0
+Goes c o = let last = c .step .last .1 .1 .1 in MovesTo (here c) (last .0) (last .1 .0) (last .1 .1 .0) (last .1 .1 .1 .0) o
+
+steps : (c : Made) (o : Outcome) → c .step .result ≡ o → Goes c o
+steps c o e =
+    let last = c .step .last .1 .1 .1 in record {
+      known = told (known c) .known;
+      moves = ap (λ (x : Outcome). answered (rounds (here c)) (last .0) (last .1 .0) (last .1 .1 .0) (last .1 .1 .1 .0)
+          (here c .stand .status) x) (sym e) ∙ c .step .ensures .after ∙ ap stepOf (told (known c) .is);
+      sixteen = c .step .ensures .each .inOrder;
+    }
+
+enum-told-2 : tie.Need-enum-told-2 Inv-loop μ-loop
+enum-told-2 c = search needs
+
+ended-requires : tie.Need-ended-requires Inv-loop μ-loop
+ended-requires c κs = let P = here (c .before .before) in (P .more, P .walking .low)
 
 returns-2 : tie.Need-returns-2 Inv-loop μ-loop
 returns-2 c =
-    let v = c .before .before .before .before in
-    let a = begun v .args in
-    let w = begun v .pre in
-    let l = turn v .loop in
-    let last = v .visit .last .1 .1 .1 .1 .1 .1 .1 in
-    let G = rw (c .before .seen2 .given .1) at (v .visit .ensures) in (
-      announced-place (a .g) (w .readable .made) (a .first .now) (a .table .now) (w .accepted) (place v) (number v)
-          (l .inv .0) (G .0) (a .budget) (round v) (last .0) (last .1 .0) (last .1 .1 .0) (last .1 .1 .1 .0) (l .s)
-          (c .before .seen2 .given .0 .0) _ _ (spent v) (within v) (l .inv .3) (next v (G .0) _ (G .1 .after)),
-      G .1 .each .inOrder,
-    )
+    let m = c .before .before .before in
+    let o = c .before .enum-told2 .given in
+    rw (c .ended .ensures, o .1) (place-ends (here m) (steps m _ (o .1)))
 
-enum-known-seen-3 : tie.Need-enum-known-seen-3 Inv-loop μ-loop
-enum-known-seen-3 c = search needs
+enum-told-3 : tie.Need-enum-told-3 Inv-loop μ-loop
+enum-told-3 c = search needs
 
-sub-t35 : tie.Need-sub-t35 Inv-loop μ-loop
-sub-t35 c = omega (arith, turn (c .before .before .before .before .before) .loop .inv .1)
+ended-requires-2 : tie.Need-ended-requires-2 Inv-loop μ-loop
+ended-requires-2 c κs = let P = here (c .before .before .before) in (P .more, P .walking .low)
 
 returns-3 : tie.Need-returns-3 Inv-loop μ-loop
 returns-3 c =
-    let v = c .before .before .before .before .before in
-    let a = begun v .args in
-    let w = begun v .pre in
-    let l = turn v .loop in
-    let last = v .visit .last .1 .1 .1 .1 .1 .1 .1 in
-    let G = rw (c .before .seen3 .given .1) at (v .visit .ensures) in (
-      announced-facet (a .g) (w .readable .made) (a .first .now) (a .table .now) (w .accepted) (place v) (number v)
-          (l .inv .0) (G .0) (a .budget) (round v) (last .0) (last .1 .0) (last .1 .1 .0) (last .1 .1 .1 .0) (l .s)
-          (c .before .seen3 .given .0 .0) _ _ (spent v) (within v) (l .inv .3) (next v (G .0) _ (G .1 .after)),
-      G .1 .each .inOrder,
-    )
+    let m = c .before .before .before .before in
+    let o = c .before .enum-told3 .given in
+    rw (c .ended2 .ensures, o .1) (facet-ends (here m) (steps m _ (o .1)))
 
-enum-known-seen-4 : tie.Need-enum-known-seen-4 Inv-loop μ-loop
-enum-known-seen-4 c = search needs
+enum-known-outcome : tie.Need-enum-known-outcome Inv-loop μ-loop
+enum-known-outcome c = search needs
 
-labels-at-requires-2 : tie.Need-labels-at-requires-2 Inv-loop μ-loop
-labels-at-requires-2 c κs = search needs
-
--- the walk has moved on: it stands at the next place of the path, and has read the labels up to it
-further : (c : tie.After-labels-at2 Inv-loop μ-loop)
-    → (let v = c .before .before .before .before .before .before .before in
-    let last = v .visit .last .1 .1 .1 .1 .1 .1 .1 in
-    let e = stateOf (round v) (last .0) (last .1 .0) (last .1 .1 .0) (last .1 .1 .1 .0)
-    (c .before .before .seen4 .given .0 .0) in
-    OnPath (problem v) e (suc (number v))
-    × HasRead (problem v) (suc (number v)) (turn v .loop .labels-read + c .labels-at2 .result))
-further c =
-    let v = c .before .before .before .before .before .before .before in
-    let a = begun v .args in
-    let w = begun v .pre in
-    let l = turn v .loop in
-    let G = rw (c .before .before .seen4 .given .1) at (v .visit .ensures) in
-    let on = next v (G .0) _ (G .1 .after) in (
-      goes-on (a .g) (w .readable .made) (a .first .now) (a .table .now) (w .accepted) (place v) (number v) (l .inv .0)
-          (G .0) on,
-      rw (c .labels-at2 .ensures)
-          (reads-on (a .g) (w .readable .made) (a .first .now) (a .table .now) (w .accepted) (place v) (number v)
-          (l .inv .0) (G .0) (l .labels-read) (l .inv .3) on),
-    )
-
-add-labels-read : tie.Need-add-labels-read Inv-loop μ-loop
-add-labels-read c =
-    let v = c .before .before .before .before .before .before .before in
-    let a = begun v .args in
-    let w = begun v .pre in
-    let f = further c in
-    record {
-      fits = reads-fit (a .g) (w .readable .made) (a .first .now) (a .table .now) (w .accepted) _ _ (f .0 .1) (f .1);
-    }
+on-requires : tie.Need-on-requires Inv-loop μ-loop
+on-requires c κs =
+    let m = c .before .before .before .before .before in
+    (here m .more, labels-fit (here m) (steps m _ (c .before .outcome .given .1)))
 
 loop-less : tie.Need-loop-less Inv-loop μ-loop
-loop-less c = omega arith
+loop-less c =
+    rw (c .on .ensures) (omega (arith, here (c .before .before .before .before .before .before) .more))
 
 loop-again : tie.Need-loop-again Inv-loop μ-loop
 loop-again c =
-    let v = c .before .before .before .before .before .before .before in
-    let G = rw (c .before .before .seen4 .given .1) at (v .visit .ensures) in
-    let f = further c in (
-      rw (spent v) (f .0),
-      omega (arith, turn v .loop .inv .1),
-      G .1 .each,
-      rw (spent v) (f .1),
-    )
+    let m = c .before .before .before .before .before .before in
+    (walks-on (here m) (steps m _ (c .before .before .outcome .given .1)) (c .on .ensures), m .step .ensures .each)
 
 loop-less-2 : tie.Need-loop-less-2 Inv-loop μ-loop
-loop-less-2 c = omega arith
+loop-less-2 c =
+    absurd (one-of-three _ (c .before .before .match2 .keys2) (c .before .match3 .keys2) (c .match4 .keys2))
 
 loop-again-2 : tie.Need-loop-again-2 Inv-loop μ-loop
-loop-again-2 c =
-    absurd (one-of-four _ (c .before .before .before .match .keys2) (c .before .before .match2 .keys2)
-    (c .before .match3 .keys2) (c .match4 .keys2))
+loop-again-2 c = absurd (one-of-three _ (c .before .before .match2 .keys2) (c .before .match3 .keys2) (c .match4 .keys2))
 
 returns-4 : tie.Need-returns-4 Inv-loop μ-loop
 returns-4 c =
     let s = c .before .before .before .before .before .before .before .before in
     let a = s .args in
     let w = s .pre in
-    let l = c .before .loop in
-    spends (a .g) (w .readable .made) (a .first .now) (a .table .now) (w .accepted) _ (a .budget - l .left) (l .inv .0)
-    (a .budget) (omega arith)
+    let l = c .before .before .loop in
+    spends (a .g) (w .readable .made) (a .first .now) (a .table .now) (w .accepted) _ (a .budget - l .at .left)
+    (l .inv .0 .here) (a .budget) (omega (arith, c .if1 .left))
 
 pub walk-spec : {M : Type 1} → statement M
 walk-spec =
@@ -264,25 +223,23 @@ walk-spec =
     (tie.spec
     Inv-loop
     μ-loop
-    begin-requires
     tails-requires
-    labels-at-requires
+    begin-requires
     loop-holds
-    visit-requires
-    sub-left
-    enum-known-seen
-    sub-t30
-    sub-t31
+    look-up-requires
+    enum-known-looked
+    sub-t29
     returns
-    enum-known-seen-2
-    sub-t33
+    enum-told
+    step-requires
+    enum-told-2
+    ended-requires
     returns-2
-    enum-known-seen-3
-    sub-t35
+    enum-told-3
+    ended-requires-2
     returns-3
-    enum-known-seen-4
-    labels-at-requires-2
-    add-labels-read
+    enum-known-outcome
+    on-requires
     loop-less
     loop-again
     loop-less-2

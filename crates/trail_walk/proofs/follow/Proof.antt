@@ -1,5 +1,6 @@
 -- `trail_walk::follow` meets its contract. The loop's invariant: the walk stands at the place whose number is what is
--- spent of the budget (`Walking`). The measure is what is left of the budget. Assumes nothing.
+-- spent of the budget, and has written the records of the places before it. The measure is what is left of it. Assumes
+-- nothing.
 use mathlib.Core.Bool.{cond}
 use mathlib.Core.List.{List, []}
 use mathlib.Core.Path.{_≡_, refl, sym, ap, _∙_, subst}
@@ -8,14 +9,13 @@ use borrow.Author.Needs.{needs}
 use lib.ListN.{length, take}
 use native.Mathlib.Omega.{arith}
 use Rattle.arrays.specs.Rounds.{noRound, roundOf}
-use Rattle.combinatorics.proofs.EditsOfArrays.{counted}
 use Rattle.combinatorics.specs.Front.{front}
-use Rattle.path_walk.proofs.Visits.{HasRead, OnPath, announced-facet, announced-place, asked, begins, begins-reading}
-use Rattle.path_walk.proofs.Visits.{goes-on, leads, marks-back, read-back, reads-fit, reads-on, spends, visits}
-use Rattle.path_walk.specs.Finish.{CanVisit, problemIn}
+use Rattle.path_walk.proofs.Places.{IsRead}
+use Rattle.path_walk.proofs.Visits.{begins, begins-reading, spends}
+use Rattle.path_walk.proofs.Walking.{MovesTo, Place, Walking, asks, can-look, counted-on, facet-ends, further}
+use Rattle.path_walk.proofs.Walking.{goes-next, has-looked, labels-fit, place-ends, rounds, spent, stands, walks-on}
+use Rattle.path_walk.specs.Finish.{problemIn}
 use Rattle.grid.proofs.Fields.{indices-few}
-use Rattle.label_reading.proofs.Places.{IsRead, looked-up}
-use Rattle.label_reading.specs.Looking.{LooksUp}
 use Rattle.marks.specs.Reading.{tableProblem}
 use Rattle.moves.specs.Held.{answered, stateOf}
 use Rattle.moves.specs.declared.Outcome.{Outcome}
@@ -23,69 +23,64 @@ use Rattle.moves.specs.declared.Outcome.the-variants.{Moved}
 use Rattle.moves.specs.declared.Status.{Status}
 use Rattle.place.specs.Path.{path, pathLength}
 use Rattle.place.specs.Problem.{Problem}
-use Rattle.path_laws.proofs.Filled.{filledTable}
 use Rattle.records.proofs.Differences.{none-differs}
 use Rattle.records.specs.Records.{SameSets}
-use Rattle.rules.proofs.Follow.{NextAt}
 use Rattle.rules.specs.Read.{positionAt, read}
-use Rattle.rules.specs.Step.{After, Round, State, goes, step}
+use Rattle.rules.specs.Ready.{Ready, SixteenEach}
+use Rattle.rules.specs.Step.{State, step as stepOf}
 use Rattle.trail.specs.Record.{trailOf}
 use Rattle.trail_visits.specs.Visited.{recordHere, withRecord}
-use Rattle.trail_walk.proofs.OnTrail.{SoFar, Walking, come-fits, ended-whole, first-bytes, left-none, next-end}
+use Rattle.trail_visits.specs.declared.Before.{Before}
+use Rattle.trail_walk.proofs.OnTrail.{Recording, SoFar, come-fits, ended-whole, first-bytes, left-none, next-end}
 use Rattle.trail_walk.proofs.OnTrail.{next-left, next-short, next-so-far, next-trail, part-fits, so-far-none}
-use Rattle.trail_walk.proofs.OnTrail.{trail-none, whole-at}
+use Rattle.trail_walk.proofs.OnTrail.{trail-none, unwritten, whole-at}
 use Rattle.trail_walk.proofs.follow.Statement.{statement}
 use Rattle.trail_walk.proofs.follow.Tie as tie
-use Rattle.ways.proofs.Here.{can-tell, here-low, here-moves, here-steps, same-gone, same-way}
+use Rattle.ways.proofs.Here.{can-tell, here-steps, same-gone, same-way}
 use Rattle.ways.proofs.Outcomes.{one-of-three}
 use Rattle.ways.proofs.RuleOne.{KeepsBoth, rule-one}
-use Rattle.ways.specs.Ways.{CanMove, CanTell, goneBy, wayAfter, wayHere}
+use Rattle.ways.specs.Ways.{CanTell, goneBy, wayHere}
 
 abbrev Inv-loop : tie.InvT-loop
-Inv-loop g binomials table previous next sizes first₀ order₀ trail₀ writes budget coefficients₀ marks₀ s₀ tails before₀
-    at₀ end₀ read₀ left₀ first order trail coefficients marks s before at end read left =
-    Walking g first₀ table writes trail₀ (budget - left)
-    (stateOf (roundOf previous next sizes) first coefficients order marks s) order marks trail before at end read
-    × (left ≤ budget)
+Inv-loop g binomials table previous next sizes first₀ order₀ trail₀ writes budget coefficients₀ marks₀ tails before₀
+    from₀ end₀ at₀ first order trail coefficients marks before from end at =
+    let s = stateOf (roundOf previous next sizes) first coefficients order marks (at .status) in
+    Walking (problemIn g first₀ table) budget at s × SixteenEach order marks
+    × Recording g first₀ table writes trail₀ (budget - at .left) s trail before from end
 
 abbrev μ-loop : tie.MeasureT-loop
-μ-loop g binomials table previous next sizes first₀ order₀ trail₀ writes budget coefficients₀ marks₀ s₀ tails before₀
-    at₀ end₀ read₀ left₀ first order trail coefficients marks s before at end read left =
-    left
-
-begin-requires : tie.Need-begin-requires Inv-loop μ-loop
-begin-requires c κs = let s = c .before .before .before in indices-few (s .args .g) (s .pre .0 .readable .made)
+μ-loop g binomials table previous next sizes first₀ order₀ trail₀ writes budget coefficients₀ marks₀ tails before₀
+    from₀ end₀ at₀ first order trail coefficients marks before from end at =
+    at .left
 
 tails-requires : tie.Need-tails-requires Inv-loop μ-loop
-tails-requires c κs =
-    let s = c .before .before .before .before .before in
-    indices-few (s .args .g) (s .pre .0 .readable .made)
+tails-requires c κs = let s = c .before .before .before in indices-few (s .args .g) (s .pre .0 .readable .made)
 
-labels-at-requires : tie.Need-labels-at-requires Inv-loop μ-loop
-labels-at-requires c κs = search needs
+begin-requires : tie.Need-begin-requires Inv-loop μ-loop
+begin-requires c κs =
+    let s = c .before .before .before .before .before in indices-few (s .args .g) (s .pre .0 .readable .made)
 
 loop-holds : tie.Need-loop-holds Inv-loop μ-loop
 loop-holds c =
-    let s = c .before .before .before .before .before .before .before in
+    let s = c .before .before .before .before .before .before in
     let a = s .args in
     let w = s .pre .0 in
-    let start = c .before .before .before .begin in
-    let p = problemIn (a .g) (a .first .now) (a .table .now) in
     let z : a .budget - a .budget ≡ 0 = omega arith in (
+      record {
+        here = rw z (begins (a .g) (w .readable .made) (a .first .now) (a .table .now) (w .accepted) (w .isRound)
+            (w .firstLength) (a .order .now) (c .begin .result) (c .begin .ensures));
+        low = omega arith;
+        read = rw z (begins-reading (problemIn (a .g) (a .first .now) (a .table .now)) 1 1 refl refl);
+      },
+      record { inOrder = w .orderLength; inMarks = refl },
       rw z (record {
-        here = begins (a .g) (w .readable .made) (a .first .now) (a .table .now) (w .accepted) (w .isRound)
-            (w .firstLength) (a .order .now) (start .result) (start .ensures);
-        each = record { inOrder = w .orderLength; inMarks = refl };
         soFar = so-far-none (a .g) (a .first .now) (a .table .now) (w .accepted) _;
         counted = first-bytes (a .g) (a .first .now) (a .table .now) (w .accepted);
         kept = λ r l. absurd (omega arith);
         written = trail-none (a .g) (a .first .now) (a .table .now) (w .accepted) (a .writes) (a .trail .now);
         long = refl;
-        read = begins-reading p (c .labels-at .result) (start .result .rule) (c .labels-at .ensures)
-            (start .ensures .rule);
         left = λ f. left-none (a .g) (a .first .now) (a .table .now) (w .accepted) _ (omega arith);
       }),
-      omega arith,
     )
 
 -- at a place: where the call began, and the loop
@@ -94,103 +89,58 @@ At = tie.After-marks Inv-loop μ-loop
 
 abbrev begun : At → tie.Start Inv-loop μ-loop
 begun c =
-    c .before .before .before .before .before .before .before
+    c .before .before .before .before .before .before .before .before
     .before .before .before .before .before .before .before
 
-abbrev round : At → Round
-round c =
-    let a = begun c .args in
-    roundOf (a .previous .now) (a .next .now) (a .sizes .now)
+abbrev turn : At → tie.At-loop Inv-loop μ-loop
+turn c = c .before .before .before .before .before .before .before .before
 
-abbrev problem : At → Problem
-problem c =
-    let a = begun c .args in
-    problemIn (a .g) (a .first .now) (a .table .now)
-
-abbrev table : At → Problem
-table c =
-    let a = begun c .args in
-    tableProblem (a .g) (a .table .now)
-
--- the state there, and the place's number
-abbrev place : At → State
+abbrev place : At → Place
 place c =
-    let l = c .before .before .before .before .before .before .loop in
-    stateOf (round c) (l .first) (l .coefficients) (l .order) (l .marks) (l .s)
-
-abbrev number : At → ℕ
-number c = begun c .args .budget - c .before .before .before .before .before .before .loop .left
-
--- the budget that is spent with it
-spent : (c : At)
-    → begun c .args .budget - (c .before .before .before .before .before .before .loop .left - 1) ≡ suc (number c)
-spent c = omega (
-  arith,
-  c .before .before .before .before .before .before .loop .inv .1,
-  c .before .before .before .before .before .loop-test .taken,
-)
-
-within : (c : At) → number c < begun c .args .budget
-within c = omega (
-  arith,
-  c .before .before .before .before .before .before .loop .inv .1,
-  c .before .before .before .before .before .loop-test .taken,
-)
-
--- what a place of the path can be asked
-visited : (c : At)
-    → CanVisit (begun c .args .g) (c .before .before .before .before .before .before .before .before .tails .result)
-    (begun c .args .table .now) (place c)
-visited c =
     let a = begun c .args in
     let w = begun c .pre .0 in
-    let tails = c .before .before .before .before .before .before .before .before .tails in
-    visits (a .g) (w .readable .made) (a .first .now) (a .table .now) (w .accepted) (place c) (number c)
-    (c .before .before .before .before .before .before .loop .inv .0 .here) (w .below) (tails .result) (tails .ensures)
+    let l = turn c .loop in
+    let tails = c .before .before .before .before .before .before .before .before .before .before .before .tails in
+    record {
+      g = a .g;
+      made = w .readable .made;
+      start = a .first .now;
+      table = a .table .now;
+      ok = w .accepted;
+      previous = a .previous .now;
+      next = a .next .now;
+      sizes = a .sizes .now;
+      first = l .first;
+      coefficients = l .coefficients;
+      order = l .order;
+      marks = l .marks;
+      budget = a .budget;
+      stand = l .at;
+      walking = l .inv .0;
+      more = c .before .before .before .before .before .before .if1 .taken;
+      below = w .below;
+      sixteen = l .inv .1 .inOrder;
+      tails = tails .result;
+      sums = tails .ensures;
+    }
 
 look-up-requires : tie.Need-look-up-requires Inv-loop μ-loop
-look-up-requires c κs =
-    let a = begun c .args in
-    let l = c .before .before .before .before .before .before .loop in
-    let each = l .inv .0 .each in (
-      (begun c .pre .0 .readable, each .inMarks),
-      λ r. record {
-        reads = read-back (a .g) (a .previous .now) (a .next .now) (a .sizes .now) (l .first) (l .coefficients)
-            (l .order) (l .marks) (l .s) (visited c .reads r);
-        marks = marks-back (a .g) (a .previous .now) (a .next .now) (a .sizes .now) (l .first) (l .coefficients)
-            (l .order) (l .marks) (l .s) _ (visited c .marks r);
-        many = counted (l .order) (l .s .count) (each .inOrder) (visited c .reads r .point .few);
-      },
-    )
-
-sub-left : tie.Need-sub-left Inv-loop μ-loop
-sub-left c = omega arith
+look-up-requires c κs = ((begun c .pre .0 .readable, turn c .loop .inv .1 .inMarks), can-look (place c))
 
 enum-known-looked : tie.Need-enum-known-looked Inv-loop μ-loop
 enum-known-looked c = search needs
 
-sub-t38 : tie.Need-sub-t38 Inv-loop μ-loop
-sub-t38 c =
-    omega (arith, c .before .before .before .before .before .before .before .before .before .before .loop .inv .1)
-
-sub-t39 : tie.Need-sub-t39 Inv-loop μ-loop
-sub-t39 c = let at = c .before .before .before .before in omega (arith, spent at)
+sub-t35 : tie.Need-sub-t35 Inv-loop μ-loop
+sub-t35 c = omega (arith, turn (c .before .before .before .before .before) .loop .inv .0 .low)
 
 same-length : tie.Need-same-length Inv-loop μ-loop
-same-length c =
-    omega (arith, c .before .before .before .before .before .before .before .before .before .before .loop .inv .0 .long)
+same-length c = omega (arith, turn (c .before .before .before .before .before) .loop .inv .2 .long)
 
 returns : tie.Need-returns Inv-loop μ-loop
 returns c =
-    let at = c .before .before .before .before in
-    let a = begun at .args in
-    let w = begun at .pre .0 in
-    let l = at .before .before .before .before .before .before .loop in
-    let U = rw (c .before .looked .given .1) at (c .before .before .before .look-up .ensures) in
-    let e : a .budget - (l .left - 1) - 1 ≡ number at = omega (arith, spent at) in (
-      rw e (asked (a .g) (w .readable .made) (a .first .now) (a .table .now) (w .accepted) (place at) (number at)
-          (l .inv .0 .here) (record { reads = U .reads; zero = U .zero; at = U .at }) (a .budget) (within at)),
-      λ f. l .inv .0 .written ∙ (rw f),
+    let v = c .before .before .before .before .before in (
+      asks (place v) (rw (c .before .before .looked .given .1) at (c .before .before .before .before .look-up .ensures)),
+      λ f. turn v .loop .inv .2 .written ∙ unwritten _ _ _ f,
     )
 
 enum-told : tie.Need-enum-told Inv-loop μ-loop
@@ -206,63 +156,47 @@ at c = c .before .before .before
 abbrev marksRead : Known → List ℕ
 marksRead c = c .before .before .look-up .last .1 .1 .1 .1 .1 .1 .1 .1 .1 .0
 
+told : (c : Known)
+    → let P = place (at c) in
+    IsRead (tableProblem (P .g) (P .table)) (stands P) (rounds P) (P .first) (P .coefficients) (P .order) (marksRead c)
+    (P .stand .status)
+told c =
+    has-looked (place (at c)) (marksRead c) (rw (c .enum-told .given .1) at (c .before .before .look-up .ensures))
+
 abbrev marked : Known → State
 marked c =
-    let l = at c .before .before .before .before .before .before .loop in
-    stateOf (round (at c)) (l .first) (l .coefficients) (l .order) (marksRead c) (l .s)
-
-told : (c : Known)
-    → let l = at c .before .before .before .before .before .before .loop in
-    IsRead (table (at c)) (place (at c)) (round (at c)) (l .first) (l .coefficients) (l .order) (marksRead c) (l .s)
-told c =
-    let a = begun (at c) .args in
-    let l = at c .before .before .before .before .before .before .loop in
-    let back = stateOf (roundOf (a .previous .now) [] (a .sizes .now)) (l .first) (l .coefficients) (l .order)
-    (l .marks) (l .s) in
-    looked-up (table (at c)) (a .previous .now) (a .next .now) (a .sizes .now) (l .first) (l .coefficients) (l .order)
-    (l .marks) (l .s) (marksRead c)
-    (subst (LooksUp (table (at c)) back (l .s) (marksRead c)) (c .enum-told .given .1)
-    (c .before .before .look-up .ensures))
-    (l .inv .0 .each .inOrder) (visited (at c) .ready)
+    let P = place (at c) in
+    stateOf (rounds P) (P .first) (P .coefficients) (P .order) (marksRead c) (P .stand .status)
 
 tells : (c : Known)
-    → let s = at c .before .before .before .before .before .before .loop .s in
-    CanTell (stateOf noRound [] [] [] (marksRead c) s) s
+    → let s = place (at c) .stand .status in CanTell (stateOf noRound [] [] [] (marksRead c) s) s
 tells c =
-    let l = at c .before .before .before .before .before .before .loop in
-    can-tell (round (at c)) (l .first) (l .coefficients) (l .order) (marksRead c) (l .s) (told c .each) (told c .ready)
-
-way-here-requires : tie.Need-way-here-requires Inv-loop μ-loop
-way-here-requires c κs = (tells (c .before), told (c .before) .each .inMarks)
+    let P = place (at c) in
+    can-tell (rounds P) (P .first) (P .coefficients) (P .order) (marksRead c) (P .stand .status) (told c .each)
+    (told c .ready)
 
 tell-requires : tie.Need-tell-requires Inv-loop μ-loop
 tell-requires c κs =
-    let k = c .before .before .before .before in
+    let k = c .before .before in
     let R = told k in
-    let a = begun (at k) .args in
-    let w = begun (at k) .pre .0 in
-    let l = at k .before .before .before .before .before .before .loop in
-    let walk = l .inv .0 in (
-      (
-        tells k .few,
-        λ i e. here-low (stateOf noRound [] [] [] (marksRead k) (l .s)) (l .s) (tells k) refl refl i
-            (sym (c .before .before .way-here .ensures) ∙ e),
-      ),
+    let P = place (at k) in
+    let l = turn (at k) .loop in
+    let walk = l .inv .2 in (
+      (tells k, R .each .inMarks),
       λ e. record {
         positions = record {
           active = tells k .active;
           few = tells k .few;
           come = subst (λ (x : State). positionAt x (x .active) < 65536) (sym (R .is))
-              (come-fits (a .g) (a .first .now) (a .table .now) (w .accepted) (place (at k)) (number (at k))
-              (walk .here) (R .known));
+              (come-fits (P .g) (P .start) (P .table) (P .ok) (stands P) (spent P) (P .walking .here) (R .known));
           gone = walk .left e .low;
         };
-        room = subst (λ (x : State). l .at + length (recordHere x (l .before) (l .at)) ≤ length (l .trail))
+        room = subst (λ (x : State). l .from + length (recordHere x (l .before) (l .from)) ≤ length (l .trail))
             (sym (R .is))
             (omega (
               arith,
-              next-short (a .g) (a .first .now) (a .table .now) (w .accepted) (place (at k)) (number (at k))
-                  (walk .here) (R .known) (l .before) (l .at) (walk .soFar),
+              next-short (P .g) (P .start) (P .table) (P .ok) (stands P) (spent P) (P .walking .here) (R .known)
+                  (l .before) (l .from) (walk .soFar),
               begun (at k) .pre .1 e,
               walk .long,
             ));
@@ -270,204 +204,144 @@ tell-requires c κs =
       },
     )
 
--- the way on, which the labels tell
-way-is : (c : tie.After-way-here Inv-loop μ-loop)
-    → c .way-here .result ≡ wayHere (marked (c .before .before))
-way-is c =
-    let k = c .before .before in
-    let l = at k .before .before .before .before .before .before .loop in
-    c .way-here .ensures
-    ∙ same-way (round (at k)) (l .first) (l .coefficients) (l .order) (marksRead k) (l .s)
-
-moved-by-requires : tie.Need-moved-by-requires Inv-loop μ-loop
-moved-by-requires c κs =
-    let k = c .before .before .before .before .before .before .before .before .before .before .before in
-    let way = c .before .before .before .before .before .before .before .before .before in
-    let R = told k in (
-      (
-        begun (at k) .pre .0 .below,
-        record { each = R .each; few = tells k .few; orderBelow = R .ready .orderBelow },
-      ),
-      subst (CanMove (marked k)) (sym (way-is way)) (here-moves (marked k) (R .ready)),
-    )
+step-requires : tie.Need-step-requires Inv-loop μ-loop
+step-requires c κs =
+    let k = c .before .before .before .before .before .before .before .before .before in
+    let R = told k in
+    record { below = begun (at k) .pre .0 .below; each = R .each; ready = R .ready }
 
 -- the move is made
 abbrev Made : Type 0
-Made = tie.After-moved-by Inv-loop μ-loop
+Made = tie.After-step Inv-loop μ-loop
 
 abbrev known : Made → Known
-known c = c .before .before .before .before .before .before .before .before .before .before .before .before
+known c = c .before .before .before .before .before .before .before .before .before .before
 
 -- what it gives, by its outcome: the step from the place
-abbrev given : (c : Made) → Outcome → After
-given c o =
-    let last = c .moved-by .last .1 .1 .1 in
-    answered (round (at (known c))) (last .0) (last .1 .0) (last .1 .1 .0) (last .1 .1 .1 .0)
-    (at (known c) .before .before .before .before .before .before .loop .s) o
+abbrev here : Made → Place
+here c = place (at (known c))
 
-moves : (c : Made) (o : Outcome) → c .moved-by .result ≡ o
-    → given c o
-    ≡ wayAfter (marked (known c))
-    (c .before .before .before .before .before .before .before .before .before .before .way-here .result)
-moves c o e = ap (given c) (sym e) ∙ c .moved-by .ensures .after
+abbrev Goes : (c : Made) → Outcome → Type 0
+Goes c o = let last = c .step .last .1 .1 .1 in MovesTo (here c) (last .0) (last .1 .0) (last .1 .1 .0) (last .1 .1 .1 .0) o
 
-steps : (c : Made) (o : Outcome) → c .moved-by .result ≡ o
-    → given c o ≡ step (read (table (at (known c))) (place (at (known c))))
+steps : (c : Made) (o : Outcome) → c .step .result ≡ o → Goes c o
 steps c o e =
-    let k = known c in
-    let way = c .before .before .before .before .before .before .before .before .before .before in
-    moves c o e ∙ ap (wayAfter (marked k)) (way-is way) ∙ here-steps (marked k) ∙ ap step (told k .is)
-
--- and leads along the path
-next : (c : Made) (after : After) → after ≡ step (read (table (at (known c))) (place (at (known c))))
-    → NextAt (filledTable (problem (at (known c)))) (number (at (known c))) after
-next c after e =
-    let k = known c in
-    let a = begun (at k) .args in
-    let w = begun (at k) .pre .0 in
-    leads (a .g) (w .readable .made) (a .first .now) (a .table .now) (w .accepted) (place (at k)) (number (at k))
-    (at k .before .before .before .before .before .before .loop .inv .0 .here) (told k .known) after e
+    let last = c .step .last .1 .1 .1 in record {
+      known = told (known c) .known;
+      moves = ap (λ (x : Outcome). answered (rounds (here c)) (last .0) (last .1 .0) (last .1 .1 .0) (last .1 .1 .1 .0)
+          (here c .stand .status) x) (sym e) ∙ c .step .ensures .after ∙ ap stepOf (told (known c) .is);
+      sixteen = c .step .ensures .each .inOrder;
+    }
 
 -- the trail with the record of the place
 abbrev trailAfter : Made → List ℕ
-trailAfter c = c .before .before .before .before .before .before .before .tell .last .1 .1 .1 .0
+trailAfter c = c .before .before .before .before .before .before .before .tell .last .1 .1 .0
+
+abbrev problem : Made → Problem
+problem c = problemIn (here c .g) (here c .start) (here c .table)
 
 put : (c : Made)
-    → let k = known c in
-    let a = begun (at k) .args in
-    let p = problem (at k) in
+    → let a = begun (at (known c)) .args in
+    let p = problem c in
     trailAfter c
-    ≡ cond (a .writes) (front (trailOf p (take (suc (number (at k))) (path p .visited))) (a .trail .now))
+    ≡ cond (a .writes) (front (trailOf p (take (suc (spent (here c))) (path p .visited))) (a .trail .now))
     (a .trail .now)
 put c =
     let k = known c in
+    let P = here c in
     let a = begun (at k) .args in
-    let w = begun (at k) .pre .0 in
-    let l = at k .before .before .before .before .before .before .loop in
-    let walk = l .inv .0 in
+    let l = turn (at k) .loop in
+    let walk = l .inv .2 in
     c .before .before .before .before .before .before .before .tell .ensures .1
-    ∙ ap (λ (x : State). withRecord x (l .trail) (l .at) (l .before) (a .writes)) (told k .is)
-    ∙ next-trail (a .g) (a .first .now) (a .table .now) (w .accepted) (place (at k)) (number (at k)) (walk .here)
-    (told k .known) (l .before) (l .at) (walk .soFar) (a .writes) (a .trail .now) (l .trail) (begun (at k) .pre .1)
-    (walk .left) (walk .written)
+    ∙ ap (λ (x : State). withRecord x (l .trail) (l .from) (l .before) (a .writes)) (told k .is)
+    ∙ next-trail (P .g) (P .start) (P .table) (P .ok) (stands P) (spent P) (P .walking .here) (told k .known) (l .before)
+    (l .from) (walk .soFar) (a .writes) (a .trail .now) (l .trail) (begun (at k) .pre .1) (walk .left) (walk .written)
+
+stays : (c : Made) → length (trailAfter c) ≡ length (begun (at (known c)) .args .trail .now)
+stays c = omega (
+  arith,
+  c .before .before .before .before .before .before .trail .given,
+  turn (at (known c)) .loop .inv .2 .long,
+)
 
 -- at the path's last place it is whole
-whole : (c : Made) → suc (number (at (known c))) ≡ pathLength (problem (at (known c)))
-    → let k = known c in
-    let a = begun (at k) .args in
-    let p = problem (at k) in
-    let trail = trailOf p (path p .visited) in
-    (at k .before .before .before .before .before .before .loop .end ≡ length trail)
+whole : (c : Made) → spent (here c) + 1 ≡ pathLength (problem c)
+    → let a = begun (at (known c)) .args in
+    let trail = trailOf (problem c) (path (problem c) .visited) in
+    (turn (at (known c)) .loop .end ≡ length trail)
     × (trailAfter c ≡ cond (a .writes) (front trail (a .trail .now)) (a .trail .now))
 whole c last =
-    let k = known c in
-    let a = begun (at k) .args in
-    let w = begun (at k) .pre .0 in
-    let e = whole-at (a .g) (a .first .now) (a .table .now) (w .accepted) (number (at k)) last in (
-      at k .before .before .before .before .before .before .loop .inv .0 .counted ∙ ap length e,
+    let P = here c in
+    let a = begun (at (known c)) .args in
+    let e = whole-at (P .g) (P .start) (P .table) (P .ok) (spent P) (sym (counted-on P) ∙ last) in (
+      turn (at (known c)) .loop .inv .2 .counted ∙ ap length e,
       put c ∙ ap (λ (x : List ℕ). cond (a .writes) (front x (a .trail .now)) (a .trail .now)) e,
     )
+
+enum-told-2 : tie.Need-enum-told-2 Inv-loop μ-loop
+enum-told-2 c = search needs
+
+ended-requires : tie.Need-ended-requires Inv-loop μ-loop
+ended-requires c κs = let P = here (c .before .before) in (P .more, P .walking .low)
+
+same-length-2 : tie.Need-same-length-2 Inv-loop μ-loop
+same-length-2 c = stays (c .before .before .before)
+
+returns-2 : tie.Need-returns-2 Inv-loop μ-loop
+returns-2 c =
+    let m = c .before .before .before in
+    let o = c .before .enum-told2 .given in
+    let N = place-ends (here m) (steps m _ (o .1)) in
+    rw (c .ended .ensures, o .1) (N, whole m (ended-whole (problem m) (here m .budget) (N .0 .is)))
+
+enum-told-3 : tie.Need-enum-told-3 Inv-loop μ-loop
+enum-told-3 c = search needs
+
+ended-requires-2 : tie.Need-ended-requires-2 Inv-loop μ-loop
+ended-requires-2 c κs = let P = here (c .before .before .before) in (P .more, P .walking .low)
+
+same-length-3 : tie.Need-same-length-3 Inv-loop μ-loop
+same-length-3 c = stays (c .before .before .before .before)
+
+returns-3 : tie.Need-returns-3 Inv-loop μ-loop
+returns-3 c =
+    let m = c .before .before .before .before in
+    let o = c .before .enum-told3 .given in
+    let N = facet-ends (here m) (steps m _ (o .1)) in
+    rw (c .ended2 .ensures, o .1) (N, whole m (ended-whole (problem m) (here m .budget) (N .0 .is)))
 
 enum-known-outcome : tie.Need-enum-known-outcome Inv-loop μ-loop
 enum-known-outcome c = search needs
 
-sub-t50 : tie.Need-sub-t50 Inv-loop μ-loop
-sub-t50 c = let k = known (c .before .before .before) in omega (arith, within (at k))
-
-same-length-2 : tie.Need-same-length-2 Inv-loop μ-loop
-same-length-2 c =
-    let made = c .before .before .before in
-    let l = at (known made) .before .before .before .before .before .before .loop in
-    omega (arith, made .before .before .before .before .before .before .trail .given, l .inv .0 .long)
-
-returns-2 : tie.Need-returns-2 Inv-loop μ-loop
-returns-2 c =
-    let made = c .before .before .before in
-    let k = known made in
-    let a = begun (at k) .args in
-    let w = begun (at k) .pre .0 in
-    let l = at k .before .before .before .before .before .before .loop in
-    let last = made .moved-by .last .1 .1 .1 in
-    let e = steps made _ (c .before .outcome .given .1) in
-    let N = announced-place (a .g) (w .readable .made) (a .first .now) (a .table .now) (w .accepted) (place (at k))
-    (number (at k)) (l .inv .0 .here) (told k .known) (a .budget) (round (at k)) (last .0) (last .1 .0) (last .1 .1 .0)
-    (last .1 .1 .1 .0) (l .s) (c .before .outcome .given .0 .0) _ _ (spent (at k)) (within (at k)) (l .inv .0 .read)
-    (next made _ e) in (
-      (N, made .moved-by .ensures .each .inOrder),
-      whole made (sym (spent (at k)) ∙ ended-whole (problem (at k)) (a .budget) (N .is)),
-    )
-
-enum-known-outcome-2 : tie.Need-enum-known-outcome-2 Inv-loop μ-loop
-enum-known-outcome-2 c = search needs
-
-sub-t53 : tie.Need-sub-t53 Inv-loop μ-loop
-sub-t53 c = let k = known (c .before .before .before .before) in omega (arith, within (at k))
-
-same-length-3 : tie.Need-same-length-3 Inv-loop μ-loop
-same-length-3 c =
-    let made = c .before .before .before .before in
-    let l = at (known made) .before .before .before .before .before .before .loop in
-    omega (arith, made .before .before .before .before .before .before .trail .given, l .inv .0 .long)
-
-returns-3 : tie.Need-returns-3 Inv-loop μ-loop
-returns-3 c =
-    let made = c .before .before .before .before in
-    let k = known made in
-    let a = begun (at k) .args in
-    let w = begun (at k) .pre .0 in
-    let l = at k .before .before .before .before .before .before .loop in
-    let last = made .moved-by .last .1 .1 .1 in
-    let e = steps made _ (c .before .outcome2 .given .1) in
-    let N = announced-facet (a .g) (w .readable .made) (a .first .now) (a .table .now) (w .accepted) (place (at k))
-    (number (at k)) (l .inv .0 .here) (told k .known) (a .budget) (round (at k)) (last .0) (last .1 .0) (last .1 .1 .0)
-    (last .1 .1 .1 .0) (l .s) (c .before .outcome2 .given .0 .0) _ _ (spent (at k)) (within (at k)) (l .inv .0 .read)
-    (next made _ e) in (
-      (N, made .moved-by .ensures .each .inOrder),
-      whole made (sym (spent (at k)) ∙ ended-whole (problem (at k)) (a .budget) (N .is)),
-    )
-
-enum-known-outcome-3 : tie.Need-enum-known-outcome-3 Inv-loop μ-loop
-enum-known-outcome-3 c = search needs
-
 -- the walk goes on
 abbrev Gone : Type 0
-Gone = tie.After-known-told4 Inv-loop μ-loop
+Gone = tie.After-known-told2 Inv-loop μ-loop
 
 abbrev made : Gone → Made
 made c = c .before .before .before .before .before
 
 abbrev status : Gone → Status
-status c = c .before .outcome3 .given .0 .0
+status c = c .before .outcome .given .0 .0
 
 -- the state at the next place
 abbrev onward : Gone → State
 onward c =
-    let last = made c .moved-by .last .1 .1 .1 in
-    stateOf (round (at (known (made c)))) (last .0) (last .1 .0) (last .1 .1 .0) (last .1 .1 .1 .0) (status c)
+    let last = made c .step .last .1 .1 .1 in
+    stateOf (rounds (here (made c))) (last .0) (last .1 .0) (last .1 .1 .0) (last .1 .1 .1 .0) (status c)
 
-leads-on : (c : Gone) → NextAt (filledTable (problem (at (known (made c))))) (number (at (known (made c))))
-    (goes (onward c))
-leads-on c = next (made c) _ (steps (made c) _ (c .before .outcome3 .given .1))
-
-stands-on : (c : Gone) → OnPath (problem (at (known (made c)))) (onward c) (suc (number (at (known (made c)))))
-stands-on c =
-    let k = known (made c) in
-    let a = begun (at k) .args in
-    let w = begun (at k) .pre .0 in
-    goes-on (a .g) (w .readable .made) (a .first .now) (a .table .now) (w .accepted) (place (at k)) (number (at k))
-    (at k .before .before .before .before .before .before .loop .inv .0 .here) (told k .known) (leads-on c)
+on-there : (c : Gone) → Goes (made c) (Moved (status c))
+on-there c = steps (made c) _ (c .before .outcome .given .1)
 
 -- where rule 1 led to it, T and U are kept
 keeps : (c : Gone)
-    → let s = at (known (made c)) .before .before .before .before .before .before .loop .s in
+    → let s = here (made c) .stand .status in
     status c .rule ≡ 1 → SameSets (s .t) (s .u) (status c .t) (status c .u)
 keeps c r =
     let k = known (made c) in
-    let s = at k .before .before .before .before .before .before .loop .s in
-    let way = made c .before .before .before .before .before .before .before .before .before .before .way-here .result
-    in
-    let K : KeepsBoth (marked k) (onward c) = rule-one (marked k) (begun (at k) .pre .0 .below .backward) way (onward c)
-    (sym (moves (made c) (Moved (status c)) (c .before .outcome3 .given .1))) r in
+    let P = here (made c) in
+    let s = P .stand .status in
+    let K : KeepsBoth (marked k) (onward c) = rule-one (marked k) (P .below .backward) (wayHere (marked k)) (onward c)
+    (here-steps (marked k) ∙ ap stepOf (told k .is) ∙ sym (on-there c .moves)) r in
     record {
       inT = none-differs (s .t) (status c .t) (K .inT);
       inU = none-differs (s .u) (status c .u) (K .inU);
@@ -475,133 +349,97 @@ keeps c r =
 
 -- what the walk keeps of the place that it leaves
 so-far : (c : Gone)
-    → let k = known (made c) in
-    let l = at k .before .before .before .before .before .before .loop in
-    SoFar (begun (at k) .args .g) (begun (at k) .args .first .now) (begun (at k) .args .table .now)
+    → let P = here (made c) in
+    SoFar (P .g) (P .start) (P .table)
     (record {
-      t = l .s .t;
-      u = l .s .u;
+      t = P .stand .status .t;
+      u = P .stand .status .u;
       gone = made c .before .before .before .before .before .before .before .tell .result;
     })
-    (suc (number (at k))) (l .end)
+    (suc (spent P)) (turn (at (known (made c))) .loop .end)
 so-far c =
     let k = known (made c) in
-    let a = begun (at k) .args in
-    let l = at k .before .before .before .before .before .before .loop in
-    next-so-far (a .g) (a .first .now) (a .table .now) (begun (at k) .pre .0 .accepted) (place (at k)) (number (at k))
-    (l .inv .0 .here) (told k .known) (l .before) (l .at) (l .inv .0 .soFar) _ (l .end) (l .inv .0 .counted)
+    let P = here (made c) in
+    let l = turn (at k) .loop in
+    next-so-far (P .g) (P .start) (P .table) (P .ok) (stands P) (spent P) (P .walking .here) (told k .known) (l .before)
+    (l .from) (l .inv .2 .soFar) _ (l .end) (l .inv .2 .counted)
 
 bytes-to-requires : tie.Need-bytes-to-requires Inv-loop μ-loop
 bytes-to-requires c κs = keeps c
 
 -- the record of the next place is counted
 longer : (c : tie.After-bytes-to Inv-loop μ-loop)
-    → let k = known (made (c .before)) in
-    let p = problem (at k) in
-    at k .before .before .before .before .before .before .loop .end + c .bytes-to .result
-    ≡ length (trailOf p (take (suc (suc (number (at k)))) (path p .visited)))
+    → let m = made (c .before) in
+    turn (at (known m)) .loop .end + c .bytes-to .result
+    ≡ length (trailOf (problem m) (take (suc (suc (spent (here m)))) (path (problem m) .visited)))
 longer c =
-    let k = known (made (c .before)) in
-    let a = begun (at k) .args in
-    let l = at k .before .before .before .before .before .before .loop in
-    next-end (a .g) (a .first .now) (a .table .now) (begun (at k) .pre .0 .accepted) (onward (c .before))
-    (number (at k))
-    (stands-on (c .before)) _ (so-far (c .before) .behind (number (at k)) refl) (l .end) (c .bytes-to .result)
-    (l .inv .0 .counted) (c .bytes-to .ensures)
+    let P = here (made (c .before)) in
+    let l = turn (at (known (made (c .before)))) .loop in
+    next-end (P .g) (P .start) (P .table) (P .ok) (onward (c .before)) (spent P) (goes-next P (on-there (c .before))) _
+    (so-far (c .before) .behind (spent P) refl) (l .end) (c .bytes-to .result) (l .inv .2 .counted)
+    (c .bytes-to .ensures)
 
 add-end : tie.Need-add-end Inv-loop μ-loop
 add-end c =
-    let k = known (made (c .before)) in
-    let a = begun (at k) .args in
+    let P = here (made (c .before)) in
     record {
-      fits = rw (longer c)
-          (part-fits (a .g) (a .first .now) (a .table .now) (begun (at k) .pre .0 .accepted)
-          (suc (suc (number (at k)))));
+      fits = rw (longer c) (part-fits (P .g) (P .start) (P .table) (P .ok) (suc (suc (spent P))));
     }
 
-labels-at-requires-2 : tie.Need-labels-at-requires-2 Inv-loop μ-loop
-labels-at-requires-2 c κs = search needs
-
--- the labels up to it are read
-reads : (c : tie.After-labels-at2 Inv-loop μ-loop)
-    → let k = known (made (c .before .before)) in
-    HasRead (problem (at k)) (suc (number (at k)))
-    (at k .before .before .before .before .before .before .loop .labels-read + c .labels-at2 .result)
-reads c =
-    let gone = c .before .before in
-    let k = known (made gone) in
-    let a = begun (at k) .args in
-    let w = begun (at k) .pre .0 in
-    let l = at k .before .before .before .before .before .before .loop in
-    rw (c .labels-at2 .ensures)
-    (reads-on (a .g) (w .readable .made) (a .first .now) (a .table .now) (w .accepted) (place (at k)) (number (at k))
-    (l .inv .0 .here) (told k .known) (l .labels-read) (l .inv .0 .read) (leads-on gone))
-
-add-labels-read : tie.Need-add-labels-read Inv-loop μ-loop
-add-labels-read c =
-    let gone = c .before .before in
-    let k = known (made gone) in
-    let a = begun (at k) .args in
-    let w = begun (at k) .pre .0 in
-    record {
-      fits = reads-fit (a .g) (w .readable .made) (a .first .now) (a .table .now) (w .accepted) _ _
-          (stands-on gone .1) (reads c);
-    }
+on-requires : tie.Need-on-requires Inv-loop μ-loop
+on-requires c κs = let P = here (made (c .before)) in (P .more, labels-fit P (on-there (c .before)))
 
 loop-less : tie.Need-loop-less Inv-loop μ-loop
-loop-less c =
-    omega (arith, at (known (made (c .before .before))) .before .before .before .before .before .loop-test .taken)
+loop-less c = rw (c .on .ensures) (omega (arith, here (made (c .before .before)) .more))
 
 loop-again : tie.Need-loop-again Inv-loop μ-loop
 loop-again c =
     let gone = c .before .before in
     let m = made gone in
     let k = known m in
-    let a = begun (at k) .args in
-    let l = at k .before .before .before .before .before .before .loop in
-    let tell = m .before .before .before .before .before .before .before .tell in
-    let way = m .before .before .before .before .before .before .before .before .before .before in (
-      rw (spent (at k)) (record {
-        here = stands-on gone;
-        each = m .moved-by .ensures .each;
+    let P = here m in
+    let l = turn (at k) .loop in
+    let tell = m .before .before .before .before .before .before .before .tell in (
+      walks-on P (on-there gone) (c .on .ensures),
+      m .step .ensures .each,
+      rw (c .on .ensures, further P) (record {
         soFar = so-far gone;
         counted = longer (c .before);
         kept = λ r q. keeps gone r;
         written = put m;
-        long = omega (arith, m .before .before .before .before .before .before .trail .given, l .inv .0 .long);
-        read = reads c;
-        left = λ e. next-left (a .g) (a .first .now) (a .table .now) (begun (at k) .pre .0 .accepted) (place (at k))
-            (number (at k)) (l .inv .0 .here) (told k .known) (visited (at k) .ready (told k .known)) (onward gone)
-            (sym (steps m (Moved (status gone)) (gone .before .outcome3 .given .1))) (stands-on gone) (tell .result)
+        long = stays m;
+        left = λ e. next-left (P .g) (P .start) (P .table) (P .ok) (stands P) (spent P) (P .walking .here)
+            (told k .known) (subst Ready (told k .is) (told k .ready)) (onward gone) (sym (on-there gone .moves))
+            (goes-next P (on-there gone)) (tell .result)
             (tell .ensures .0 e
-            ∙ same-gone (round (at k)) (l .first) (l .coefficients) (l .order) (marksRead k) (l .s)
-            (way .way-here .result)
-            ∙ ap (goneBy (marked k)) (way-is way)
+            ∙ same-gone (rounds P) (P .first) (P .coefficients) (P .order) (marksRead k) (P .stand .status)
+            (wayHere (stateOf noRound [] [] [] (marksRead k) (P .stand .status)))
+            ∙ ap (goneBy (marked k))
+            (same-way (rounds P) (P .first) (P .coefficients) (P .order) (marksRead k) (P .stand .status))
             ∙ ap (λ (x : State). goneBy x (wayHere x)) (told k .is));
       }),
-      omega (arith, l .inv .1),
     )
 
 loop-less-2 : tie.Need-loop-less-2 Inv-loop μ-loop
 loop-less-2 c =
-    omega (arith, at (known (c .before .before .before)) .before .before .before .before .before .loop-test .taken)
+    absurd (one-of-three _ (c .before .before .match2 .keys2) (c .before .match3 .keys2) (c .match4 .keys2))
 
 loop-again-2 : tie.Need-loop-again-2 Inv-loop μ-loop
 loop-again-2 c =
     absurd (one-of-three _ (c .before .before .match2 .keys2) (c .before .match3 .keys2) (c .match4 .keys2))
 
 same-length-4 : tie.Need-same-length-4 Inv-loop μ-loop
-same-length-4 c = omega (arith, c .before .loop .inv .0 .long)
+same-length-4 c = omega (arith, c .before .before .loop .inv .2 .long)
 
 returns-4 : tie.Need-returns-4 Inv-loop μ-loop
 returns-4 c =
     let s = c .before .before .before .before .before .before .before .before .before in
     let a = s .args in
     let w = s .pre .0 in
-    let l = c .before .loop in (
-      spends (a .g) (w .readable .made) (a .first .now) (a .table .now) (w .accepted) _ (a .budget - l .left)
-          (l .inv .0 .here) (a .budget) (omega arith),
-      λ f. l .inv .0 .written ∙ (rw f),
+    let l = c .before .before .loop in (
+      spends (a .g) (w .readable .made) (a .first .now) (a .table .now) (w .accepted) _ (a .budget - l .at .left)
+          (l .inv .0 .here) (a .budget) (omega (arith, c .if1 .left)),
+      λ f. l .inv .2 .written ∙ unwritten _ _ _ f,
     )
 
 pub follow-spec : {M : Type 1} → statement M
@@ -610,34 +448,29 @@ follow-spec =
     (tie.spec
     Inv-loop
     μ-loop
-    begin-requires
     tails-requires
-    labels-at-requires
+    begin-requires
     loop-holds
     look-up-requires
-    sub-left
     enum-known-looked
-    sub-t38
-    sub-t39
+    sub-t35
     same-length
     returns
     enum-told
-    way-here-requires
     tell-requires
-    moved-by-requires
-    enum-known-outcome
-    sub-t50
+    step-requires
+    enum-told-2
+    ended-requires
     same-length-2
     returns-2
-    enum-known-outcome-2
-    sub-t53
+    enum-told-3
+    ended-requires-2
     same-length-3
     returns-3
-    enum-known-outcome-3
+    enum-known-outcome
     bytes-to-requires
     add-end
-    labels-at-requires-2
-    add-labels-read
+    on-requires
     loop-less
     loop-again
     loop-less-2

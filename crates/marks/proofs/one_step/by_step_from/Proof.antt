@@ -20,8 +20,8 @@ use Rattle.marks.proofs.one_step.by_step_from.Tie as tie
 index-at-requires : tie.Need-index-at-requires
 index-at-requires c κs = search needs
 
-source-requires : tie.Need-source-requires
-source-requires c κs = search needs
+first-outside-requires : tie.Need-first-outside-requires
+first-outside-requires c κs = search needs
 
 add-position-at : tie.Need-add-position-at
 add-position-at c = search needs
@@ -52,7 +52,7 @@ far-more s = rw (s .pre .1 .0 .many) (s .pre .0 .2)
 far-before : (c : tie.Then1) (first : List ℕ)
     → let x = place (begun c) first in sourceAt x (x .active) < stepAt x (x .active)
 far-before c first =
-    rw (← c .before .before .index-at .ensures .is, ← c .before .source .ensures .0) (c .if1 .taken)
+    rw (← c .before .before .index-at .ensures .is, ← c .before .first-outside .ensures .0) (c .if1 .taken)
 
 far-mark : (c : tie.After-position-at) (first : List ℕ)
     → let x = place (begun (c .before)) first in c .position-at .result ≡ positionAt x (suc (x .active))
@@ -74,7 +74,7 @@ fall-at-requires c κs =
     let s = begun at in
     let n = s .pre .1 .1 in (
       s .pre .0 .0,
-      rw (at .before .source .ensures .0, at .before .before .index-at .ensures .is, far-lag c (n .0))
+      rw (at .before .first-outside .ensures .0, at .before .before .index-at .ensures .is, far-lag c (n .0))
           (weigh-far (s .pre .0 .0 .made) (s .pre .0 .1) (n .1) (far-more s) (far-before at (n .0))),
     )
 
@@ -88,7 +88,7 @@ far-is c first B =
     let at = c .before .before .before .before in
     let s = begun at in
     let is = before-far (s .pre .0 .0 .made) (s .pre .0 .1) B (far-more s) (far-before at first) (c .fall-at .result)
-    (rw (← at .before .before .index-at .ensures .is, ← at .before .source .ensures .0, ← far-lag (c .before) first)
+    (rw (← at .before .before .index-at .ensures .is, ← at .before .first-outside .ensures .0, ← far-lag (c .before) first)
     (c .fall-at .ensures)) in
     omega (arith, far-mark (c .before .before .before) first)
 
@@ -114,7 +114,7 @@ by-step-from-spec =
     tie.close
     (tie.spec
     index-at-requires
-    source-requires
+    first-outside-requires
     add-position-at
     position-at-requires
     position-at-requires-2

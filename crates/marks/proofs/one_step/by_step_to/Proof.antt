@@ -22,8 +22,8 @@ sub-index-at c = search needs
 index-at-requires : tie.Need-index-at-requires
 index-at-requires c κs = search needs
 
-source-requires : tie.Need-source-requires
-source-requires c κs = search needs
+first-outside-requires : tie.Need-first-outside-requires
+first-outside-requires c κs = search needs
 
 sub-position-at : tie.Need-sub-position-at
 sub-position-at c = search needs
@@ -51,7 +51,7 @@ begun c = c .before .before .before
 near-before : (c : tie.Then1) (first : List ℕ)
     → let x = place (begun c) first in sourceAt x (x .active - 1) < stepAt x (x .active - 1)
 near-before c first =
-    rw (← c .before .before .index-at .ensures .is, ← c .before .source .ensures .0) (c .if1 .taken)
+    rw (← c .before .before .index-at .ensures .is, ← c .before .first-outside .ensures .0) (c .if1 .taken)
 
 near-lag : (c : tie.After-gone-round) (first : List ℕ)
     → let x = place (begun (c .before .before .before)) first in c .gone-round .result ≡ lagBy x (x .active - 1)
@@ -66,7 +66,7 @@ fall-at-requires c κs =
     let s = begun at in
     let n = s .pre .1 .1 in (
       s .pre .0 .0,
-      rw (at .before .source .ensures .0, at .before .before .index-at .ensures .is, near-lag c (n .0))
+      rw (at .before .first-outside .ensures .0, at .before .before .index-at .ensures .is, near-lag c (n .0))
           (weigh-near (s .pre .0 .0 .made) (s .pre .0 .1) (n .1) (s .pre .0 .2) (near-before at (n .0))),
     )
 
@@ -81,7 +81,7 @@ near-is c first B =
     let s = begun at in
     c .before .before .before .position-at .ensures .0
     ∙ after-near (s .pre .0 .0 .made) (s .pre .0 .1) B (s .pre .0 .2) (near-before at first) (c .fall-at .result)
-    (rw (← at .before .before .index-at .ensures .is, ← at .before .source .ensures .0, ← near-lag (c .before) first)
+    (rw (← at .before .before .index-at .ensures .is, ← at .before .first-outside .ensures .0, ← near-lag (c .before) first)
     (c .fall-at .ensures))
 
 sub-t19 : tie.Need-sub-t19
@@ -99,7 +99,7 @@ by-step-to-spec =
     (tie.spec
     sub-index-at
     index-at-requires
-    source-requires
+    first-outside-requires
     sub-position-at
     position-at-requires
     position-at-requires-2

@@ -11,14 +11,14 @@ index-at-requires c κs =
     let long = length-take-le (a .s .count) (a .order .now) (omega arith) in
     record { low = omega (arith, s .pre .1 .some); few = omega arith; below = s .pre .0 .1 .orderBelow }
 
-source-requires : tie.Need-source-requires
-source-requires c κs = (c .index-at .ensures .index, c .before .before .pre .0 .0 .backward)
+first-outside-requires : tie.Need-first-outside-requires
+first-outside-requires c κs = (c .index-at .ensures .index, c .before .before .pre .0 .0 .backward)
 
 leave-first-at-requires : tie.Need-leave-first-at-requires
 leave-first-at-requires c κs =
     let s = c .before .before .before .before .before .before .before in
     let h = c .before .before .before .before .before .index-at .ensures in
-    let b = c .before .before .before .before .source .ensures in
+    let b = c .before .before .before .before .first-outside .ensures in
     (s .pre .0, (record { index = h .index; source = b .1; atH = h .is; atB = b .0 }, s .pre .1))
 
 returns : tie.Need-returns
@@ -29,6 +29,6 @@ leave-first-spec =
     tie.close
     (tie.spec
     index-at-requires
-    source-requires
+    first-outside-requires
     leave-first-at-requires
     returns)

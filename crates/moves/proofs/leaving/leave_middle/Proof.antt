@@ -26,8 +26,8 @@ sub-index-at c = search needs
 index-at-requires-2 : tie.Need-index-at-requires-2
 index-at-requires-2 c κs = search needs
 
-source-requires : tie.Need-source-requires
-source-requires c κs = (c .before .before .index-at .ensures .index, c .before .before .before .before .pre .0 .0)
+first-outside-requires : tie.Need-first-outside-requires
+first-outside-requires c κs = (c .before .before .index-at .ensures .index, c .before .before .before .before .pre .0 .0)
 
 mul-if2 : tie.Need-mul-if2
 mul-if2 c = search needs
@@ -50,7 +50,7 @@ returns c =
     let a = s .args in
     let h = c .before .before .before .before .before .before .before .before .before .index-at in
     let w = c .before .before .before .before .before .before .before .index-at2 in
-    let b = c .before .before .before .before .before .before .source in
+    let b = c .before .before .before .before .before .before .first-outside in
     let round = roundOf (a .previous .now) [] (a .sizes .now) in
     record {
       after = ap (besideAfter round (a .first .now) []) (c .shrink .ensures .after)
@@ -75,7 +75,7 @@ returns-2 c =
     let a = s .args in
     let h = c .before .before .before .before .before .before .index-at in
     let w = c .before .before .before .before .index-at2 in
-    let b = c .before .before .before .source in
+    let b = c .before .before .before .first-outside in
     let round = roundOf (a .previous .now) [] (a .sizes .now) in
     let stays : (w .result ≡ b .result → at (a .first .now) (b .result) ≡ 0 → ⊥) =
     ⊎-elim (λ t _. t .2 .left) (λ t e _. t .left e) (c .before .before .if1 .came) in
@@ -96,7 +96,7 @@ leave-middle-spec =
     index-at-requires
     sub-index-at
     index-at-requires-2
-    source-requires
+    first-outside-requires
     mul-if2
     element-copy-out-if2
     sub-shrink

@@ -58,14 +58,14 @@ low c =
     let few = indices-few (begun c .args .g) (begun c .pre .0 .0 .made) in
     omega (arith, begun c .pre .1 .below (turn c .loop .k) (goes-on c), c .wide32 .ensures)
 
-source-requires : tie.Need-source-requires Inv-loop μ-loop
-source-requires c κs = (low c, begun c .pre .0 .1)
+first-outside-requires : tie.Need-first-outside-requires Inv-loop μ-loop
+first-outside-requires c κs = (low c, begun c .pre .0 .1)
 
 mul-wide16 : tie.Need-mul-wide16 Inv-loop μ-loop
 mul-wide16 c = omega arith
 
 element-copy-out-wide16 : tie.Need-element-copy-out-wide16 Inv-loop μ-loop
-element-copy-out-wide16 c = omega (arith, c .source .ensures .1)
+element-copy-out-wide16 c = omega (arith, c .first-outside .ensures .1)
 
 wide16-requires : tie.Need-wide16-requires Inv-loop μ-loop
 wide16-requires c κs = search needs
@@ -74,7 +74,7 @@ mul-wide16-2 : tie.Need-mul-wide16-2 Inv-loop μ-loop
 mul-wide16-2 c = omega arith
 
 array-read-wide16 : tie.Need-array-read-wide16 Inv-loop μ-loop
-array-read-wide16 c = omega (arith, c .before .before .source .ensures .1)
+array-read-wide16 c = omega (arith, c .before .before .first-outside .ensures .1)
 
 wide16-requires-2 : tie.Need-wide16-requires-2 Inv-loop μ-loop
 wide16-requires-2 c κs = search needs
@@ -88,7 +88,7 @@ returns c =
     let l = turn at .loop in
     record {
       can = sym (cannot (begun at .pre .0 .0 .made) (begun at .pre .1) (l .inv .2) (goes-on at) (at .wide32 .ensures)
-          (c .before .before .before .before .source .ensures .0)
+          (c .before .before .before .before .first-outside .ensures .0)
           (omega (arith, c .if1 .taken, c .before .before .wide16 .ensures, c .before .wide162 .ensures)));
       long = length-set (l .marks) (l .k) (at .before .before .mark-at .result) ∙ l .inv .2 .marksLong;
       each = λ e. absurd-bool (sym e);
@@ -115,19 +115,19 @@ mul-steps-3 : tie.Need-mul-steps-3 Inv-loop μ-loop
 mul-steps-3 c = omega arith
 
 array-read-steps-2 : tie.Need-array-read-steps-2 Inv-loop μ-loop
-array-read-steps-2 c = omega (arith, c .before .before .before .before .source .ensures .1)
+array-read-steps-2 c = omega (arith, c .before .before .before .before .first-outside .ensures .1)
 
 -- the source has something to take
 some : (c : tie.Else1 Inv-loop μ-loop) → let b = c .before .before .before .before in
-    16 < getD (begun (b .before) .args .first .now) (b .source .result) 0
-    + getD (turn (b .before) .loop .steps) (b .source .result) 0
+    16 < getD (begun (b .before) .args .first .now) (b .first-outside .result) 0
+    + getD (turn (b .before) .loop .steps) (b .first-outside .result) 0
 some c = omega (arith, c .if1 .left, c .before .before .wide16 .ensures, c .before .wide162 .ensures)
 
 sub-steps : tie.Need-sub-steps Inv-loop μ-loop
 sub-steps c =
     let at = c .before .before .before .before .before in
     let l = turn at .loop in
-    let b = c .before .before .before .before .source in
+    let b = c .before .before .before .before .first-outside in
     raised-positive (l .steps) (at .wide32 .result) (b .result)
     (count-b (begun at .pre .0 .0 .made) (begun at .pre .1) (l .inv .2) (goes-on at) (at .wide32 .ensures)
     (b .ensures .0) (some c))
@@ -136,7 +136,7 @@ mul-steps-4 : tie.Need-mul-steps-4 Inv-loop μ-loop
 mul-steps-4 c = omega arith
 
 array-write-steps-2 : tie.Need-array-write-steps-2 Inv-loop μ-loop
-array-write-steps-2 c = omega (arith, c .before .before .before .before .source .ensures .1)
+array-write-steps-2 c = omega (arith, c .before .before .before .before .first-outside .ensures .1)
 
 add-k : tie.Need-add-k Inv-loop μ-loop
 add-k c = omega arith
@@ -152,7 +152,7 @@ loop-again c =
       omega (arith, goes-on at),
       l .inv .1,
       reached-more (begun at .pre .0 .0 .made) (begun at .pre .1) (l .inv .2) (goes-on at) (at .wide32 .ensures)
-          (c .before .before .before .before .source .ensures .0) (some c) (m .result) (m .ensures .is),
+          (c .before .before .before .before .first-outside .ensures .0) (some c) (m .result) (m .ensures .is),
     )
 
 mark-at-requires-2 : tie.Need-mark-at-requires-2 Inv-loop μ-loop
@@ -190,7 +190,7 @@ mark-points-spec =
     mul-wide32
     element-copy-out-wide32
     wide32-requires
-    source-requires
+    first-outside-requires
     mul-wide16
     element-copy-out-wide16
     wide16-requires

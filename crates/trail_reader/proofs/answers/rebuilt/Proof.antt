@@ -11,6 +11,7 @@ use Rattle.grid.proofs.Fields.{indices-few}
 use Rattle.moves.specs.Held.{stateOf}
 use Rattle.place.specs.Problem.{Problem}
 use Rattle.path_laws.proofs.LabelsRead.{came-few}
+use Rattle.records.proofs.Told.{taken-record}
 use Rattle.trail.specs.Record.{startRecord}
 use Rattle.trail.specs.Trail.{begins, placesFrom}
 use Rattle.trail_steps.specs.Reading.{HasRead, problemBy}
@@ -31,15 +32,19 @@ start-position-requires c κs =
     let w = c .before .before .before .before .before .before .pre .0 in
     record { measured = w .measured; firstLength = w .firstLength; hasStart = w .hasStart }
 
-first-stands-requires : tie.Need-first-stands-requires
-first-stands-requires c κs = c .start-position .ensures .1
+first-record-requires : tie.Need-first-record-requires
+first-record-requires c κs = c .start-position .ensures .1
+
+stands-requires : tie.Need-stands-requires
+stands-requires c κs =
+    let R = c .first-record .ensures in (omega arith, omega (arith, R .long, R .sized .1), R .eight)
 
 -- v's record has been compared: the start, grid and start, and whether the trail begins with the record
 abbrev Compared : Type 0
-Compared = tie.After-first-stands
+Compared = tie.After-stands
 
 abbrev entered : Compared → tie.Start
-entered c = c .before .before .before .before .before .before .before .before
+entered c = c .before .before .before .before .before .before .before .before .before
 
 abbrev start : Compared → List ℕ
 start c = let a = entered c .args in take (a .g .indices) (a .first .now)
@@ -48,28 +53,29 @@ abbrev problem : Compared → Problem
 problem c = problemBy (entered c .args .g) (start c)
 
 told : (c : Compared)
-    → c .first-stands .result
+    → c .stands .result
     ≡ begins (startRecord (problem c))
     (entered c .args .trail .now)
 told c =
     let trail = entered c .args .trail .now in
-    let position = c .before .start-position in
-    c .first-stands .ensures
-    ∙ ap (λ (r : List ℕ). begins r trail) (first-is (problem c) trail (position .result) (position .ensures .0))
+    let position = c .before .before .start-position in
+    let is = taken-record (c .before .first-record .ensures)
+    ∙ first-is (problem c) trail (position .result) (position .ensures .0) in
+    c .stands .ensures ∙ ap (λ (r : List ℕ). begins r trail) is
 
 -- with v's position in its mark the arrays hold {v}
 held : (c : Compared)
     → let a = entered c .args in
-    let marks = set (replicate 16 0) 0 (c .before .start-position .result * 256) in
-    HasRead (a .g) (start c) (c .before .before .before .tails .result) (start c ∷ [])
+    let marks = set (replicate 16 0) 0 (c .before .before .start-position .result * 256) in
+    HasRead (a .g) (start c) (c .before .before .before .before .tails .result) (start c ∷ [])
     (stateOf (roundOf (a .previous .now) (a .next .now) (a .sizes .now)) (a .first .now) (replicate 16 0)
-    (replicate 16 0) marks (c .before .before .before .before .before .begin .result))
+    (replicate 16 0) marks (c .before .before .before .before .before .before .begin .result))
 held c =
     let a = entered c .args in
     let w = entered c .pre .0 in
-    let begun = c .before .before .before .before .before .begin in
-    let tails = c .before .before .before .tails in
-    let position = c .before .start-position in
+    let begun = c .before .before .before .before .before .before .begin in
+    let tails = c .before .before .before .before .tails in
+    let position = c .before .before .start-position in
     v-read (a .g) (w .measured .made) (a .first .now) (w .hasStart) (a .previous .now) (a .next .now) (a .sizes .now)
     (replicate 16 0) (w .isRound) (w .firstLength) (begun .result) (begun .ensures) (tails .result) (tails .ensures)
     (position .result) (position .ensures .0)
@@ -87,10 +93,10 @@ returns c =
     (not-first (problem v) (a .trail .now) (a .number) (s .pre .1) no)
 
 cast-marks : tie.Need-cast-marks
-cast-marks c = omega (arith, c .before .before .start-position .ensures .1)
+cast-marks c = omega (arith, c .before .before .before .start-position .ensures .1)
 
 mul-marks : tie.Need-mul-marks
-mul-marks c = omega (arith, c .before .before .start-position .ensures .1)
+mul-marks c = omega (arith, c .before .before .before .start-position .ensures .1)
 
 array-write-marks : tie.Need-array-write-marks
 array-write-marks c = search needs
@@ -112,7 +118,7 @@ follow-requires c κs =
       below = w .below;
       each = record { inOrder = refl; inMarks = refl };
       many = rw
-          (v .before .before .before .before .before .begin .ensures .none);
+          (v .before .before .before .before .before .before .begin .ensures .none);
       place = (start v, start v ∷ [], held v);
       low = begins-three (problem v) (s .args .trail .now) yes;
     }
@@ -198,7 +204,8 @@ rebuilt-spec =
     begin-requires
     tails-requires
     start-position-requires
-    first-stands-requires
+    first-record-requires
+    stands-requires
     refused-requires
     returns
     cast-marks

@@ -1,3 +1,0 @@
-pub mod Otherwise
-pub mod Says
-pub mod Recorded

@@ -1,0 +1,75 @@
+-- `one_way::way` meets its contract. Assumes nothing.
+use Rattle.walk_ways.proofs.Tried.{few, way-facet, way-moved, way-place}
+use borrow.Author.Needs.{needs}
+use Rattle.walk_ways.proofs.one_way.way.Statement.{statement}
+use Rattle.walk_ways.proofs.one_way.way.Tie as tie
+
+-- where the call began, from the step on
+abbrev begun : tie.After-step → tie.Start
+begun c = c .before .before .before .before .before .before .before .before .before
+
+step-requires : tie.Need-step-requires
+step-requires c κs = search needs
+
+enum-known-outcome : tie.Need-enum-known-outcome
+enum-known-outcome c = search needs
+
+kept-as-requires : tie.Need-kept-as-requires
+kept-as-requires c κs =
+    let at = c .before .before .before .before .before in
+    let s = begun at in
+    let w = few (s .args .m) (at .step .ensures) (s .pre .1) (c .before .before .before .outcome .given .1) in
+    ((s .pre .2, w .1), (w .0, at .step .ensures .each .inOrder))
+
+rule-of-requires : tie.Need-rule-of-requires
+rule-of-requires c κs = search needs
+
+enum-known-outcome-2 : tie.Need-enum-known-outcome-2
+enum-known-outcome-2 c = search needs
+
+none-requires : tie.Need-none-requires
+none-requires c κs = search needs
+
+enum-known-outcome-3 : tie.Need-enum-known-outcome-3
+enum-known-outcome-3 c = search needs
+
+none-requires-2 : tie.Need-none-requires-2
+none-requires-2 c κs = search needs
+
+returns : tie.Need-returns
+returns c =
+    let at = c .before .before .before .before .before .before .before in
+    let s = begun at in
+    rw (c .rule-of .ensures, c .before .kept-as .ensures)
+    (way-moved (s .args .m) (at .step .ensures) (s .pre .1)
+    (c .before .before .before .before .before .outcome .given .1))
+
+returns-2 : tie.Need-returns-2
+returns-2 c =
+    let at = c .before .before .before .before in
+    let s = begun at in
+    rw (c .none .ensures)
+    (way-place (s .args .m) (at .step .ensures) (s .pre .1) (c .before .before .outcome2 .given .1))
+
+returns-3 : tie.Need-returns-3
+returns-3 c =
+    let at = c .before .before .before .before in
+    let s = begun at in
+    rw (c .none2 .ensures)
+    (way-facet (s .args .m) (at .step .ensures) (s .pre .1) (c .before .before .outcome3 .given .1))
+
+pub way-spec : {M : Type 1} → statement M
+way-spec =
+    tie.close
+    (tie.spec
+    step-requires
+    enum-known-outcome
+    kept-as-requires
+    rule-of-requires
+    enum-known-outcome-2
+    none-requires
+    enum-known-outcome-3
+    none-requires-2
+    returns
+    returns-2
+    returns-3)
