@@ -73,9 +73,6 @@ after3 c = c .before .before .before
 range : (c : tie.Else3) → (let e = after2 (after3 c) in all (λ l. leb l (numIndices (g e))) (old e) ≡ true)
 range c = by-count (after2 (after3 c)) true (sym (c .before .all-at-most .ensures) ∙ not-false _ (c .if3 .left))
 
-new-requires : tie.Need-new-requires
-new-requires c κs = search needs
-
 returns : tie.Need-returns
 returns c =
     let s = c .before .before .before .before .before .before .before in
@@ -96,9 +93,6 @@ cast-all-at-most : tie.Need-cast-all-at-most
 cast-all-at-most c =
     let e = c .before .before .before .before in omega (arith, indices-few (grid e) (is-grid e .0))
 
-all-at-most-requires : tie.Need-all-at-most-requires
-all-at-most-requires c κs = search needs
-
 returns-3 : tie.Need-returns-3
 returns-3 c =
     let e = after2 (c .before .before .before) in
@@ -118,9 +112,6 @@ write-requires c κs =
     let f = c .before .before .before in
     (is-grid (after2 (after3 f)) .0, after3 f .if2 .left, c .before .if4 .left)
 
-same-length : tie.Need-same-length
-same-length c = search needs
-
 returns-5 : tie.Need-returns-5
 returns-5 c =
     let f = c .before .before .before .before .before .before in
@@ -135,13 +126,13 @@ pub boundary-spec : {M : Type 1} → statement M
 boundary-spec =
     tie.close
     (tie.spec
-    new-requires
+    (λ c κs. search needs)
     returns
     returns-2
     cast-all-at-most
-    all-at-most-requires
+    (λ c κs. search needs)
     returns-3
     returns-4
     write-requires
-    same-length
+    (λ c. search needs)
     returns-5)

@@ -5,29 +5,11 @@ use borrow.Author.Needs.{needs}
 use Rattle.built_in.proofs.is_game.Statement.{statement}
 use Rattle.built_in.proofs.is_game.Tie as tie
 
-slice-aggregate-same-sizes : tie.Need-slice-aggregate-same-sizes
-slice-aggregate-same-sizes c = search needs
-
-same-sizes-requires : tie.Need-same-sizes-requires
-same-sizes-requires c κs = search needs
-
 returns : tie.Need-returns
 returns c = rw (c .before .before .if1 .taken) (c .same-sizes .ensures)
 
-slice-aggregate-same-sizes-2 : tie.Need-slice-aggregate-same-sizes-2
-slice-aggregate-same-sizes-2 c = search needs
-
-same-sizes-requires-2 : tie.Need-same-sizes-requires-2
-same-sizes-requires-2 c κs = search needs
-
 returns-2 : tie.Need-returns-2
 returns-2 c = rw (c .before .before .if2 .taken) (c .same-sizes2 .ensures)
-
-slice-aggregate-same-sizes-3 : tie.Need-slice-aggregate-same-sizes-3
-slice-aggregate-same-sizes-3 c = search needs
-
-same-sizes-requires-3 : tie.Need-same-sizes-requires-3
-same-sizes-requires-3 c κs = search needs
 
 returns-3 : tie.Need-returns-3
 returns-3 c = rw (c .before .before .if3 .taken) (c .same-sizes3 .ensures)
@@ -41,13 +23,13 @@ pub is-game-spec : {M : Type 1} → statement M
 is-game-spec =
     tie.close
     (tie.spec
-    slice-aggregate-same-sizes
-    same-sizes-requires
+    (λ c. search needs)
+    (λ c κs. search needs)
     returns
-    slice-aggregate-same-sizes-2
-    same-sizes-requires-2
+    (λ c. search needs)
+    (λ c κs. search needs)
     returns-2
-    slice-aggregate-same-sizes-3
-    same-sizes-requires-3
+    (λ c. search needs)
+    (λ c κs. search needs)
     returns-3
     returns-4)

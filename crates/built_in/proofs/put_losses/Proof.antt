@@ -5,15 +5,6 @@ use borrow.Author.Needs.{needs}
 use Rattle.built_in.proofs.put_losses.Statement.{statement}
 use Rattle.built_in.proofs.put_losses.Tie as tie
 
-slice-aggregate-put : tie.Need-slice-aggregate-put
-slice-aggregate-put c = search needs
-
-put-requires : tie.Need-put-requires
-put-requires c κs = search needs
-
-same-length : tie.Need-same-length
-same-length c = search needs
-
 returns : tie.Need-returns
 unfolding losses1
 returns c = rw
@@ -21,30 +12,12 @@ returns c = rw
     (c .before .before .before .before .before .if1 .taken))
     (c .before .before .put .ensures)
 
-slice-aggregate-put-2 : tie.Need-slice-aggregate-put-2
-slice-aggregate-put-2 c = search needs
-
-put-requires-2 : tie.Need-put-requires-2
-put-requires-2 c κs = search needs
-
-same-length-2 : tie.Need-same-length-2
-same-length-2 c = search needs
-
 returns-2 : tie.Need-returns-2
 unfolding losses2
 returns-2 c = rw
     (losses-of-2 (c .before .before .before .before .before .before .before .before .args .game)
     (c .before .before .before .before .before .if2 .taken))
     (c .before .before .put2 .ensures)
-
-slice-aggregate-put-3 : tie.Need-slice-aggregate-put-3
-slice-aggregate-put-3 c = search needs
-
-put-requires-3 : tie.Need-put-requires-3
-put-requires-3 c κs = search needs
-
-same-length-3 : tie.Need-same-length-3
-same-length-3 c = search needs
 
 returns-3 : tie.Need-returns-3
 unfolding losses3
@@ -58,15 +31,15 @@ pub put-losses-spec : {M : Type 1} → statement M
 put-losses-spec =
     tie.close
     (tie.spec
-    slice-aggregate-put
-    put-requires
-    same-length
+    (λ c. search needs)
+    (λ c κs. search needs)
+    (λ c. search needs)
     returns
-    slice-aggregate-put-2
-    put-requires-2
-    same-length-2
+    (λ c. search needs)
+    (λ c κs. search needs)
+    (λ c. search needs)
     returns-2
-    slice-aggregate-put-3
-    put-requires-3
-    same-length-3
+    (λ c. search needs)
+    (λ c κs. search needs)
+    (λ c. search needs)
     returns-3)

@@ -16,15 +16,6 @@ Inv-loop numbers bytes₀ count i₀ bytes i =
 abbrev μ-loop : tie.MeasureT-loop
 μ-loop numbers bytes₀ count i₀ bytes i = count - i
 
-smaller-requires : tie.Need-smaller-requires Inv-loop μ-loop
-smaller-requires c κs = search needs
-
-loop-holds : tie.Need-loop-holds Inv-loop μ-loop
-loop-holds c = search needs
-
-mul-bytes : tie.Need-mul-bytes Inv-loop μ-loop
-mul-bytes c = search needs
-
 shared-slice-read-bytes : tie.Need-shared-slice-read-bytes Inv-loop μ-loop
 shared-slice-read-bytes c = omega arith
 
@@ -40,12 +31,6 @@ add-i c = omega arith
 loop-less : tie.Need-loop-less Inv-loop μ-loop
 loop-less c = omega arith
 
-loop-again : tie.Need-loop-again Inv-loop μ-loop
-loop-again c = search needs
-
-same-length : tie.Need-same-length Inv-loop μ-loop
-same-length c = search needs
-
 returns : tie.Need-returns Inv-loop μ-loop
 returns c = counted _ _ (omega arith)
 
@@ -55,14 +40,14 @@ put-bytes-spec =
     (tie.spec
     Inv-loop
     μ-loop
-    smaller-requires
-    loop-holds
-    mul-bytes
+    (λ c κs. search needs)
+    (λ c. search needs)
+    (λ c. search needs)
     shared-slice-read-bytes
     cast-bytes
     slice-write-bytes
     add-i
     loop-less
-    loop-again
-    same-length
+    (λ c. search needs)
+    (λ c. search needs)
     returns)

@@ -4,11 +4,8 @@ use Rattle.case_reader.proofs.Counted.{counted}
 use Rattle.case_reader.proofs.within_words.Statement.{statement}
 use Rattle.case_reader.proofs.within_words.Tie as tie
 
-smaller-requires : tie.Need-smaller-requires
-smaller-requires c κs = search needs
-
 returns : tie.Need-returns
 returns c = counted _ _ (search needs)
 
 pub within-words-spec : {M : Type 1} → statement M
-within-words-spec = tie.close (tie.spec smaller-requires returns)
+within-words-spec = tie.close (tie.spec (λ c κs. search needs) returns)

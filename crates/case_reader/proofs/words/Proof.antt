@@ -18,12 +18,6 @@ abbrev μ-loop : tie.MeasureT-loop
 loop-holds : tie.Need-loop-holds Inv-loop μ-loop
 loop-holds c = (omega arith, refl)
 
-read-run-requires : tie.Need-read-run-requires Inv-loop μ-loop
-read-run-requires c κs = search needs
-
-same-length : tie.Need-same-length Inv-loop μ-loop
-same-length c = search needs
-
 returns : tie.Need-returns Inv-loop μ-loop
 returns c = counted _ _ (c .before .before .before .read-run .ensures .0)
 
@@ -32,12 +26,6 @@ sub-left c = omega arith
 
 loop-less : tie.Need-loop-less Inv-loop μ-loop
 loop-less c = omega arith
-
-loop-again : tie.Need-loop-again Inv-loop μ-loop
-loop-again c = search needs
-
-same-length-2 : tie.Need-same-length-2 Inv-loop μ-loop
-same-length-2 c = search needs
 
 returns-2 : tie.Need-returns-2 Inv-loop μ-loop
 returns-2 c = counted _ _ (c .before .loop .inv .0)
@@ -49,11 +37,11 @@ words-spec =
     Inv-loop
     μ-loop
     loop-holds
-    read-run-requires
-    same-length
+    (λ c κs. search needs)
+    (λ c. search needs)
     returns
     sub-left
     loop-less
-    loop-again
-    same-length-2
+    (λ c. search needs)
+    (λ c. search needs)
     returns-2)

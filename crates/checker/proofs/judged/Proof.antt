@@ -7,23 +7,11 @@ use borrow.Author.Needs.{needs}
 use Rattle.checker.proofs.judged.Statement.{statement}
 use Rattle.checker.proofs.judged.Tie as tie
 
-one-chain-requires : tie.Need-one-chain-requires
-one-chain-requires c κs = search needs
-
 returns : tie.Need-returns
 returns c =
     let b = c .before .before .before .before in
     ap checkCase (verdict-no (b .pre .0) (b .pre .2) (b .args .labels .now)
     (sym (c .before .one-chain .ensures) ∙ not-true _ (c .if1 .taken)))
-
-binomials-requires : tie.Need-binomials-requires
-binomials-requires c κs = search needs
-
-covered-requires : tie.Need-covered-requires
-covered-requires c κs = search needs
-
-first-whole-requires : tie.Need-first-whole-requires
-first-whole-requires c κs = search needs
 
 returns-2 : tie.Need-returns-2
 returns-2 c =
@@ -38,9 +26,9 @@ pub judged-spec : {M : Type 1} → statement M
 judged-spec =
     tie.close
     (tie.spec
-    one-chain-requires
+    (λ c κs. search needs)
     returns
-    binomials-requires
-    covered-requires
-    first-whole-requires
+    (λ c κs. search needs)
+    (λ c κs. search needs)
+    (λ c κs. search needs)
     returns-2)

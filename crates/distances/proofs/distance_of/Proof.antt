@@ -36,9 +36,6 @@ mul-apart-2 c = omega (arith, c .before .before .before .before .pre .1 .long)
 shared-slice-read-apart : tie.Need-shared-slice-read-apart Inv-loop μ-loop
 shared-slice-read-apart c = omega (arith, c .before .before .before .before .before .pre .1 .long)
 
-apart-requires : tie.Need-apart-requires Inv-loop μ-loop
-apart-requires c κs = search needs
-
 mul-total : tie.Need-mul-total Inv-loop μ-loop
 mul-total c = omega (arith, c .before .before .before .before .before .before .pre .1 .sixteen)
 
@@ -64,12 +61,6 @@ add-total c =
     (c .before .apart .ensures .1)
     (C .each .few (l .h) (omega (arith, C .indices, c .before .before .before .before .loop-test .taken))) in
     omega (arith, l .inv .2, c .before .before .before .before .loop-test .taken, C .sixteen)
-
-add-h : tie.Need-add-h Inv-loop μ-loop
-add-h c = search needs
-
-loop-less : tie.Need-loop-less Inv-loop μ-loop
-loop-less c = search needs
 
 loop-again : tie.Need-loop-again Inv-loop μ-loop
 loop-again c =
@@ -108,12 +99,12 @@ distance-of-spec =
     element-copy-out-apart
     mul-apart-2
     shared-slice-read-apart
-    apart-requires
+    (λ c κs. search needs)
     mul-total
     element-copy-out-total
     mul-total-2
     add-total
-    add-h
-    loop-less
+    (λ c. search needs)
+    (λ c. search needs)
     loop-again
     returns)

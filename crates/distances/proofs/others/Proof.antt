@@ -44,14 +44,8 @@ abbrev μ-loop : tie.MeasureT-loop
 loop-holds : tie.Need-loop-holds Inv-loop μ-loop
 loop-holds c = (refl, omega arith, blocks-range (c .before .args .g) (c .before .pre .0) .1)
 
-mul-wide16 : tie.Need-mul-wide16 Inv-loop μ-loop
-mul-wide16 c = search needs
-
 array-read-wide16 : tie.Need-array-read-wide16 Inv-loop μ-loop
 array-read-wide16 c = omega (arith, c .before .before .loop .inv .2)
-
-wide16-requires : tie.Need-wide16-requires Inv-loop μ-loop
-wide16-requires c κs = search needs
 
 mul-product : tie.Need-mul-product Inv-loop μ-loop
 mul-product c =
@@ -62,12 +56,6 @@ mul-product c =
       few (s .args .g) (s .pre .0) (s .args .j) (s .pre .1) (l .i) (c .before .before .loop-test .taken)
           (c .before .if1 .taken),
     ))
-
-add-i : tie.Need-add-i Inv-loop μ-loop
-add-i c = search needs
-
-loop-less : tie.Need-loop-less Inv-loop μ-loop
-loop-less c = search needs
 
 loop-again : tie.Need-loop-again Inv-loop μ-loop
 loop-again c =
@@ -102,11 +90,11 @@ others-spec =
     Inv-loop
     μ-loop
     loop-holds
-    mul-wide16
+    (λ c. search needs)
     array-read-wide16
-    wide16-requires
+    (λ c κs. search needs)
     mul-product
-    add-i
-    loop-less
+    (λ c. search needs)
+    (λ c. search needs)
     loop-again
     returns)

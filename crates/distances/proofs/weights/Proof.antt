@@ -54,12 +54,6 @@ array-write-a c = omega (
   c .before .before .loop-test .taken,
 )
 
-add-h : tie.Need-add-h Inv-loop μ-loop
-add-h c = search needs
-
-loop-less : tie.Need-loop-less Inv-loop μ-loop
-loop-less c = search needs
-
 loop-again : tie.Need-loop-again Inv-loop μ-loop
 loop-again c =
     let s = c .before .before .before .before in
@@ -98,7 +92,7 @@ weights-spec =
     others-requires
     mul-a
     array-write-a
-    add-h
-    loop-less
+    (λ c. search needs)
+    (λ c. search needs)
     loop-again
     returns)

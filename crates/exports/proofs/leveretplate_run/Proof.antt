@@ -4,19 +4,10 @@ use borrow.Author.Needs.{needs}
 use Rattle.exports.proofs.leveretplate_run.Statement.{statement}
 use Rattle.exports.proofs.leveretplate_run.Tie as tie
 
-run-requires : tie.Need-run-requires
-run-requires c κs = search needs
-
-put-answer-requires : tie.Need-put-answer-requires
-put-answer-requires c κs = search needs
-
-same-length : tie.Need-same-length
-same-length c = search needs
-
 returns : tie.Need-returns
 returns c =
     let found = c .before .before .before .before .run .ensures in
     rw (sym (found .0)) (c .put-answer .ensures .0, (c .put-answer .ensures .1, found .1))
 
 pub leveretplate-run-spec : {M : Type 1} → statement M
-leveretplate-run-spec = tie.close (tie.spec run-requires put-answer-requires same-length returns)
+leveretplate-run-spec = tie.close (tie.spec (λ c κs. search needs) (λ c κs. search needs) (λ c. search needs) returns)

@@ -65,9 +65,6 @@ whole c = c .if2 .left ∙ table-length (c .before .before .before) _ (c .before
 range : (c : tie.Else3) → all inRange (s (c .before .before .before .before .before) .args .losses .now) ≡ true
 range c = sym (c .before .in-range .ensures) ∙ not-false _ (c .if3 .left)
 
-new-requires : tie.Need-new-requires
-new-requires c κs = search needs
-
 returns : tie.Need-returns
 returns c =
     let s = c .before .before .before .before .before .before .before in
@@ -95,9 +92,6 @@ returns-2 c =
     answer e 10 (λ z. omega arith) (asked10 (g e) (s e .args .losses .now) (s e .args .buffer .now) (asked e)
     (λ h. c .if2 .taken (h ∙ sym (table-length e _ (c .before .num-profiles .ensures)))))
 
-in-range-requires : tie.Need-in-range-requires
-in-range-requires c κs = search needs
-
 returns-3 : tie.Need-returns-3
 returns-3 c =
     let e = c .before .before .before .before .before in
@@ -122,9 +116,6 @@ label-on-requires c κs =
     } in
     (is-grid e .0, rw (is-grid e .1) table, c .before .if4 .left)
 
-same-length : tie.Need-same-length
-same-length c = search needs
-
 returns-5 : tie.Need-returns-5
 returns-5 c =
     let e = c .before .before .before .before .before .before .before .before .before .before .before in
@@ -143,14 +134,14 @@ pub label-spec : {M : Type 1} → statement M
 label-spec =
     tie.close
     (tie.spec
-    new-requires
+    (λ c κs. search needs)
     returns
     num-profiles-requires
     mul-if2
     returns-2
-    in-range-requires
+    (λ c κs. search needs)
     returns-3
     returns-4
     label-on-requires
-    same-length
+    (λ c. search needs)
     returns-5)

@@ -41,9 +41,6 @@ write-labels-requires c κs =
       (made-indices g made, rw n, s .pre .2 ∙ made-points g made),
     )
 
-same-length : tie.Need-same-length
-same-length c = search needs
-
 returns : tie.Need-returns
 returns c =
     let s = c .before .before .before .before .before .before .before
@@ -61,5 +58,5 @@ label-on-spec =
     array-share-prefix-divisions
     slice-aggregate-write-labels-2
     write-labels-requires
-    same-length
+    (λ c. search needs)
     returns)

@@ -13,29 +13,11 @@ use native.Mathlib.Omega.{arith}
 use Rattle.grid_cases.proofs.show_position.Statement.{statement}
 use Rattle.grid_cases.proofs.show_position.Tie as tie
 
-array-share-prefix-y : tie.Need-array-share-prefix-y
-array-share-prefix-y c = search needs
-
 slice-aggregate-is-grid-point : tie.Need-slice-aggregate-is-grid-point
 slice-aggregate-is-grid-point c =
     let y = c .before .args .t2 in
     let long : length y ≡ 16 = search needs in
     sym (length-take-le _ y (omega (arith, long, c .before .pre .1)))
-
-is-grid-point-requires : tie.Need-is-grid-point-requires
-is-grid-point-requires c κs = search needs
-
-slice-aggregate-show : tie.Need-slice-aggregate-show
-slice-aggregate-show c = search needs
-
-show-requires : tie.Need-show-requires
-show-requires c κs = search needs
-
-returns : tie.Need-returns
-returns c = search needs
-
-binomials-requires : tie.Need-binomials-requires
-binomials-requires c κs = search needs
 
 position-requires : tie.Need-position-requires
 position-requires c κs =
@@ -57,27 +39,18 @@ position-requires c κs =
       ),
     )
 
-slice-aggregate-show-2 : tie.Need-slice-aggregate-show-2
-slice-aggregate-show-2 c = search needs
-
-show-requires-2 : tie.Need-show-requires-2
-show-requires-2 c κs = search needs
-
-returns-2 : tie.Need-returns-2
-returns-2 c = search needs
-
 pub show-position-spec : {M : Type 1} → statement M
 show-position-spec =
     tie.close
     (tie.spec
-    array-share-prefix-y
+    (λ c. search needs)
     slice-aggregate-is-grid-point
-    is-grid-point-requires
-    slice-aggregate-show
-    show-requires
-    returns
-    binomials-requires
+    (λ c κs. search needs)
+    (λ c. search needs)
+    (λ c κs. search needs)
+    (λ c. search needs)
+    (λ c κs. search needs)
     position-requires
-    slice-aggregate-show-2
-    show-requires-2
-    returns-2)
+    (λ c. search needs)
+    (λ c κs. search needs)
+    (λ c. search needs))

@@ -7,12 +7,6 @@ use borrow.Author.Needs.{needs}
 use Rattle.marks.proofs.add_up.Statement.{statement}
 use Rattle.marks.proofs.add_up.Tie as tie
 
-block-of-requires : tie.Need-block-of-requires
-block-of-requires c κs = search needs
-
-block-of-requires-2 : tie.Need-block-of-requires-2
-block-of-requires-2 c κs = search needs
-
 returns : tie.Need-returns
 returns c = rw
     (ne-eqb _ _ (λ e. c .if1 .taken (c .before .before .block-of .ensures ∙ e ∙ sym (c .before .block-of2 .ensures))))
@@ -79,8 +73,8 @@ pub add-up-spec : {M : Type 1} → statement M
 add-up-spec =
     tie.close
     (tie.spec
-    block-of-requires
-    block-of-requires-2
+    (λ c κs. search needs)
+    (λ c κs. search needs)
     returns
     first-outside-requires
     returns-2

@@ -14,15 +14,6 @@ use borrow.Author.Needs.{needs}
 use Rattle.marks.proofs.by_square.Statement.{statement}
 use Rattle.marks.proofs.by_square.Tie as tie
 
-sub-index-at : tie.Need-sub-index-at
-sub-index-at c = search needs
-
-index-at-requires : tie.Need-index-at-requires
-index-at-requires c κs = search needs
-
-index-at-requires-2 : tie.Need-index-at-requires-2
-index-at-requires-2 c κs = search needs
-
 -- the state, with any first point
 abbrev place : tie.Start → List ℕ → List ℕ → State
 place s first coefficients =
@@ -37,24 +28,6 @@ add-up-requires c κs =
       (s .pre .0 .0, s .pre .0 .1 .below),
       (rw (c .before .index-at .ensures .is) (i .0), rw (c .index-at2 .ensures .is) (i .1)),
     )
-
-sub-position-at : tie.Need-sub-position-at
-sub-position-at c = search needs
-
-position-at-requires : tie.Need-position-at-requires
-position-at-requires c κs = search needs
-
-add-position-at : tie.Need-add-position-at
-add-position-at c = search needs
-
-position-at-requires-2 : tie.Need-position-at-requires-2
-position-at-requires-2 c κs = search needs
-
-add-t17 : tie.Need-add-t17
-add-t17 c = search needs
-
-position-at-requires-3 : tie.Need-position-at-requires-3
-position-at-requires-3 c κs = search needs
 
 -- the corners of the square add up
 abbrev begun : tie.After-position-at3 → tie.Start
@@ -89,16 +62,16 @@ pub by-square-spec : {M : Type 1} → statement M
 by-square-spec =
     tie.close
     (tie.spec
-    sub-index-at
-    index-at-requires
-    index-at-requires-2
+    (λ c. search needs)
+    (λ c κs. search needs)
+    (λ c κs. search needs)
     add-up-requires
-    sub-position-at
-    position-at-requires
-    add-position-at
-    position-at-requires-2
-    add-t17
-    position-at-requires-3
+    (λ c. search needs)
+    (λ c κs. search needs)
+    (λ c. search needs)
+    (λ c κs. search needs)
+    (λ c. search needs)
+    (λ c κs. search needs)
     sub-t19
     returns
     returns-2)

@@ -11,18 +11,12 @@ use borrow.Author.Needs.{needs}
 use Rattle.marks.proofs.mark_in.Statement.{statement}
 use Rattle.marks.proofs.mark_in.Tie as tie
 
-position-in-requires : tie.Need-position-in-requires
-position-in-requires c κs = search needs
-
 read-at-requires : tie.Need-read-at-requires
 read-at-requires c κs =
     let s = c .before .before in
     let a = s .args in
     rw (c .position-in .ensures)
     (in-table (a .g) (a .binomials .now) (a .table .now) (s .pre .0) _ (s .pre .1 .reads .onGrid))
-
-u32-of-requires : tie.Need-u32-of-requires
-u32-of-requires c κs = search needs
 
 returns : tie.Need-returns
 returns c =
@@ -63,9 +57,9 @@ pub mark-in-spec : {M : Type 1} → statement M
 mark-in-spec =
     tie.close
     (tie.spec
-    position-in-requires
+    (λ c κs. search needs)
     read-at-requires
-    u32-of-requires
+    (λ c κs. search needs)
     returns
     cast-t16
     mul-t17

@@ -14,18 +14,12 @@ by-step-to-requires c κs =
       (has-order (s .pre .1) refl, (s .args .first .now, s .pre .1 .marks .beside one)),
     )
 
-enum-known-found : tie.Need-enum-known-found
-enum-known-found c = search needs
-
 returns : tie.Need-returns
 returns c =
     let at = c .before .before .before .before in
     let s = at .before .before .before .before in
     c .before .before .before .by-step-to .ensures (s .args .first .now)
     (s .pre .1 .marks .beside (at .before .before .if1 .taken)) _ (c .before .found .given .1)
-
-enum-told : tie.Need-enum-told
-enum-told c = search needs
 
 by-step-from-requires : tie.Need-by-step-from-requires
 by-step-from-requires c κs =
@@ -35,9 +29,6 @@ by-step-from-requires c κs =
       (has-order (s .pre .1) refl, (s .args .first .now, s .pre .1 .marks .beside one)),
     )
 
-enum-known-found-2 : tie.Need-enum-known-found-2
-enum-known-found-2 c = search needs
-
 returns-2 : tie.Need-returns-2
 returns-2 c =
     let at = c .before .before .before .before .before .before .before .before in
@@ -45,26 +36,17 @@ returns-2 c =
     c .before .before .before .by-step-from .ensures (s .args .first .now)
     (s .pre .1 .marks .beside (at .if1 .taken)) _ (c .before .found2 .given .1)
 
-enum-told-2 : tie.Need-enum-told-2
-enum-told-2 c = search needs
-
-position-by-steps-requires : tie.Need-position-by-steps-requires
-position-by-steps-requires c κs = search needs
-
-returns-3 : tie.Need-returns-3
-returns-3 c = search needs
-
 pub position-apart-spec : {M : Type 1} → statement M
 position-apart-spec =
     tie.close
     (tie.spec
     by-step-to-requires
-    enum-known-found
+    (λ c. search needs)
     returns
-    enum-told
+    (λ c. search needs)
     by-step-from-requires
-    enum-known-found-2
+    (λ c. search needs)
     returns-2
-    enum-told-2
-    position-by-steps-requires
-    returns-3)
+    (λ c. search needs)
+    (λ c κs. search needs)
+    (λ c. search needs))

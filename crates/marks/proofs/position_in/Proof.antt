@@ -11,9 +11,6 @@ use borrow.Author.Needs.{needs}
 use Rattle.marks.proofs.position_in.Statement.{statement}
 use Rattle.marks.proofs.position_in.Tie as tie
 
-is-between-requires : tie.Need-is-between-requires
-is-between-requires c κs = search needs
-
 -- the point has come in between two steps, which changed places
 square : (c : tie.Then1)
     → let a = c .before .before .args in
@@ -34,9 +31,6 @@ by-square-requires c κs =
       (a .first .now, a .coefficients .now, square c .1),
     )
 
-enum-known-found : tie.Need-enum-known-found
-enum-known-found c = search needs
-
 returns : tie.Need-returns
 returns c =
     let at = c .before .before .before .before in
@@ -44,23 +38,14 @@ returns c =
     c .before .before .before .by-square .ensures (a .first .now) (a .coefficients .now) (square at .1) _
     (c .before .found .given .1)
 
-enum-told : tie.Need-enum-told
-enum-told c = search needs
-
-position-apart-requires : tie.Need-position-apart-requires
-position-apart-requires c κs = search needs
-
-returns-2 : tie.Need-returns-2
-returns-2 c = search needs
-
 pub position-in-spec : {M : Type 1} → statement M
 position-in-spec =
     tie.close
     (tie.spec
-    is-between-requires
+    (λ c κs. search needs)
     by-square-requires
-    enum-known-found
+    (λ c. search needs)
     returns
-    enum-told
-    position-apart-requires
-    returns-2)
+    (λ c. search needs)
+    (λ c κs. search needs)
+    (λ c. search needs))

@@ -4,21 +4,6 @@ use borrow.Author.Needs.{needs}
 use Rattle.near_exports.proofs.leveretplate_nearest.Statement.{statement}
 use Rattle.near_exports.proofs.leveretplate_nearest.Tie as tie
 
-run-requires : tie.Need-run-requires
-run-requires c κs = search needs
-
-put-nearest-requires : tie.Need-put-nearest-requires
-put-nearest-requires c κs = search needs
-
-put-answer-requires : tie.Need-put-answer-requires
-put-answer-requires c κs = search needs
-
-same-length : tie.Need-same-length
-same-length c = search needs
-
-same-length-2 : tie.Need-same-length-2
-same-length-2 c = search needs
-
 returns : tie.Need-returns
 returns c =
     let found = c .before .before .before .before .before .before .before .before .run .ensures in
@@ -31,9 +16,9 @@ pub leveretplate-nearest-spec : {M : Type 1} → statement M
 leveretplate-nearest-spec =
     tie.close
     (tie.spec
-    run-requires
-    put-nearest-requires
-    put-answer-requires
-    same-length
-    same-length-2
+    (λ c κs. search needs)
+    (λ c κs. search needs)
+    (λ c κs. search needs)
+    (λ c. search needs)
+    (λ c. search needs)
     returns)

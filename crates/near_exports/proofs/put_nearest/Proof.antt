@@ -16,20 +16,11 @@ two x y (a ∷ b ∷ old) h = refl
 two x y [] h = absurd (omega arith)
 two x y (a ∷ []) h = absurd (omega arith)
 
-enum-known-found : tie.Need-enum-known-found
-enum-known-found c = search needs
-
-slice-write-near : tie.Need-slice-write-near
-slice-write-near c = search needs
-
 slice-write-near-2 : tie.Need-slice-write-near-2
 slice-write-near-2 c = simp length-set (omega arith)
 
 enum-told : tie.Need-enum-told
 enum-told c = search needs
-
-same-length : tie.Need-same-length
-same-length c = search needs
 
 returns : tie.Need-returns
 returns c = rw (c .before .found .given .1)
@@ -43,10 +34,10 @@ pub put-nearest-spec : {M : Type 1} → statement M
 put-nearest-spec =
     tie.close
     (tie.spec
-    enum-known-found
-    slice-write-near
+    (λ c. search needs)
+    (λ c. search needs)
     slice-write-near-2
     enum-told
-    same-length
+    (λ c. search needs)
     returns
     returns-2)

@@ -29,12 +29,6 @@ same-report : {run run' : Answer} {near near' : Nearest} → run ≡ run' → ne
     → _≡_ {A = Report} (record { run = run; nearest = near }) (record { run = run'; nearest = near' })
 same-report e f = cc
 
-block-sizes-requires : tie.Need-block-sizes-requires
-block-sizes-requires c κs = search needs
-
-weights-requires : tie.Need-weights-requires
-weights-requires c κs = search needs
-
 padded-requires : tie.Need-padded-requires
 padded-requires c κs =
     let w = c .before .before .before .before .before .before .before .before .before .pre .0 in
@@ -124,15 +118,6 @@ announce-requires c κs =
     (first w) (order w) _ (round-below (a .g) made (sizes w) .backward) (begun w .pre .0 .room)
     (w .pass .result .finish) (finished w)
 
-nearest-at-requires : tie.Need-nearest-at-requires
-nearest-at-requires c κs = search needs
-
-same-length : tie.Need-same-length
-same-length c = search needs
-
-same-length-2 : tie.Need-same-length-2
-same-length-2 c = search needs
-
 returns : tie.Need-returns
 returns c =
     let w = c .before .before .before .before .before .before .before .before .before .before .before .before in
@@ -163,12 +148,12 @@ pub announced-spec : {M : Type 1} → statement M
 announced-spec =
     tie.close
     (tie.spec
-    block-sizes-requires
-    weights-requires
+    (λ c κs. search needs)
+    (λ c κs. search needs)
     padded-requires
     pass-requires
     announce-requires
-    nearest-at-requires
-    same-length
-    same-length-2
+    (λ c κs. search needs)
+    (λ c. search needs)
+    (λ c. search needs)
     returns)

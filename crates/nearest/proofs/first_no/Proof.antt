@@ -9,18 +9,12 @@ use borrow.Author.Needs.{needs}
 use Rattle.nearest.proofs.first_no.Statement.{statement}
 use Rattle.nearest.proofs.first_no.Tie as tie
 
-is-grid-point-requires : tie.Need-is-grid-point-requires
-is-grid-point-requires c κs = search needs
-
 returns : tie.Need-returns
 returns c =
     let s = c .before .before .before .before .before in
     let a = s .args in
     let p = problemFrom (a .g) (a .start .now) (a .labels .now) in
     no-point p (a .w .now) (a .room) (a .entries) (sym (c .before .is-grid-point .ensures) ∙ not-true _ (c .if1 .taken))
-
-first-no-requires : tie.Need-first-no-requires
-first-no-requires c κs = search needs
 
 returns-2 : tie.Need-returns-2
 returns-2 c =
@@ -56,4 +50,4 @@ returns-4 c =
 pub first-no-spec : {M : Type 1} → statement M
 first-no-spec =
     tie.close
-    (tie.spec is-grid-point-requires returns first-no-requires returns-2 returns-3 returns-4)
+    (tie.spec (λ c κs. search needs) returns (λ c κs. search needs) returns-2 returns-3 returns-4)

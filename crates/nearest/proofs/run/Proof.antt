@@ -12,9 +12,6 @@ use borrow.Author.Needs.{needs}
 use Rattle.nearest.proofs.run.Statement.{statement}
 use Rattle.nearest.proofs.run.Tie as tie
 
-new-requires : tie.Need-new-requires
-new-requires c κs = search needs
-
 returns : tie.Need-returns
 returns c =
     let s = c .before .before .before .before .before .before .before .before .before .before in
@@ -34,12 +31,6 @@ run-on-requires c κs =
     let G : Grid = record { sizes = a .sizes .now; divisions = a .divisions .now } in
     let r = c .before .before .before .before .new .result in
     made-is G r (c .before .before .before .before .new .ensures) (c .before .before .if1 .left)
-
-same-length : tie.Need-same-length
-same-length c = search needs
-
-same-length-2 : tie.Need-same-length-2
-same-length-2 c = search needs
 
 returns-2 : tie.Need-returns-2
 returns-2 c =
@@ -71,4 +62,4 @@ returns-2 c =
 
 pub run-spec : {M : Type 1} → statement M
 run-spec =
-    tie.close (tie.spec new-requires returns run-on-requires same-length same-length-2 returns-2)
+    tie.close (tie.spec (λ c κs. search needs) returns run-on-requires (λ c. search needs) (λ c. search needs) returns-2)

@@ -24,9 +24,6 @@ use Rattle.nearest.proofs.run_on.Tie as tie
 use Rattle.questions.specs.Questions.{firstNo}
 use Rattle.visited.specs.Questions.{pointQuestions}
 
-first-no-requires : tie.Need-first-no-requires
-first-no-requires c κs = search needs
-
 returns : tie.Need-returns
 returns c =
     let s = c .before .before .before .before .before .before .before in
@@ -37,12 +34,6 @@ returns c =
     (by-point p (a .w .now) (length (a .answer .now)) (length (a .list .now)) (s .pre .accepted)
     ∙ sym (c .before .first-no .ensures)) in
     (w .0, (w .1, w .2))
-
-binomials-requires : tie.Need-binomials-requires
-binomials-requires c κs = search needs
-
-slice-aggregate-announced : tie.Need-slice-aggregate-announced
-slice-aggregate-announced c = search needs
 
 -- behind the questions: where the call began, and what they tell
 abbrev Asked : Type 0
@@ -116,12 +107,6 @@ nearest-is : (c : Reported)
     nearestIn p (a .w .now) (a .given) (answer p (a .budget)) ≡ c .announced .result .nearest
 nearest-is c = ap (λ (r : Report). r .nearest) (sym (c .announced .ensures .0))
 
-enum-known-near : tie.Need-enum-known-near
-enum-known-near c = search needs
-
-slice-aggregate-put-list : tie.Need-slice-aggregate-put-list
-slice-aggregate-put-list c = search needs
-
 -- as many positions are listed as were found
 listed : (c : Reported) {q n : ℕ} → c .announced .result .nearest ≡ Vertex q n
     → let a = begun (c .before) .args in
@@ -145,12 +130,6 @@ put-list-requires c κs =
 enum-told : tie.Need-enum-told
 enum-told c = search needs
 
-same-length : tie.Need-same-length
-same-length c = search needs
-
-same-length-2 : tie.Need-same-length-2
-same-length-2 c = search needs
-
 returns-2 : tie.Need-returns-2
 returns-2 c =
     let r = c .before .before .before .before .before .before .before .before .before .before .before in
@@ -166,9 +145,6 @@ returns-2 c =
             ∙ G .2,
       ),
     )
-
-same-length-3 : tie.Need-same-length-3
-same-length-3 c = search needs
 
 returns-3 : tie.Need-returns-3
 returns-3 c =
@@ -188,17 +164,17 @@ pub run-on-spec : {M : Type 1} → statement M
 run-on-spec =
     tie.close
     (tie.spec
-    first-no-requires
+    (λ c κs. search needs)
     returns
-    binomials-requires
-    slice-aggregate-announced
+    (λ c κs. search needs)
+    (λ c. search needs)
     announced-requires
-    enum-known-near
-    slice-aggregate-put-list
+    (λ c. search needs)
+    (λ c. search needs)
     put-list-requires
     enum-told
-    same-length
-    same-length-2
+    (λ c. search needs)
+    (λ c. search needs)
     returns-2
-    same-length-3
+    (λ c. search needs)
     returns-3)

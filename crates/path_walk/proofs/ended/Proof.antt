@@ -6,24 +6,6 @@ use Rattle.path_walk.specs.Finish.{endedOf}
 use Rattle.path_walk.proofs.ended.Statement.{statement}
 use Rattle.path_walk.proofs.ended.Tie as tie
 
-sub-places : tie.Need-sub-places
-sub-places c = search needs
-
-add-places : tie.Need-add-places
-add-places c = search needs
-
-enum-told : tie.Need-enum-told
-enum-told c = search needs
-
-enum-known-outcome : tie.Need-enum-known-outcome
-enum-known-outcome c = search needs
-
-enum-known-outcome-2 : tie.Need-enum-known-outcome-2
-enum-known-outcome-2 c = search needs
-
-returns : tie.Need-returns
-returns c = search needs
-
 returns-2 : tie.Need-returns-2
 returns-2 c = rw (c .before .outcome .given .1)
 
@@ -34,11 +16,11 @@ pub ended-spec : {M : Type 1} → statement M
 ended-spec =
     tie.close
     (tie.spec
-    sub-places
-    add-places
-    enum-told
-    enum-known-outcome
-    enum-known-outcome-2
-    returns
+    (λ c. search needs)
+    (λ c. search needs)
+    (λ c. search needs)
+    (λ c. search needs)
+    (λ c. search needs)
+    (λ c. search needs)
     returns-2
     returns-3)

@@ -17,16 +17,10 @@ mark-in-requires c κs =
     let can = c .before .before .before .before .pre .1 (c .before .if1 .taken) in
     (c .before .before .before .before .pre .0 .0, can)
 
-enum-known-reading : tie.Need-enum-known-reading
-enum-known-reading c = search needs
-
 returns : tie.Need-returns
 returns c =
     let u = unknown-zero _ _ (sym (c .before .before .before .mark-in .ensures) ∙ c .before .reading .given .1) in
     record { reads = c .before .before .before .before .before .if1 .taken; zero = u .0; at = u .1 }
-
-enum-known-reading-2 : tie.Need-enum-known-reading-2
-enum-known-reading-2 c = search needs
 
 mul-marks : tie.Need-mul-marks
 mul-marks c =
@@ -70,9 +64,9 @@ look-up-spec =
     tie.close
     (tie.spec
     mark-in-requires
-    enum-known-reading
+    (λ c. search needs)
     returns
-    enum-known-reading-2
+    (λ c. search needs)
     mul-marks
     element-write-marks
     returns-2

@@ -100,9 +100,6 @@ place c =
 look-up-requires : tie.Need-look-up-requires Inv-loop μ-loop
 look-up-requires c κs = ((begun c .pre .readable, turn c .loop .inv .1 .inMarks), can-look (place c))
 
-enum-known-looked : tie.Need-enum-known-looked Inv-loop μ-loop
-enum-known-looked c = search needs
-
 sub-t29 : tie.Need-sub-t29 Inv-loop μ-loop
 sub-t29 c = omega (arith, turn (c .before .before .before .before .before) .loop .inv .0 .low)
 
@@ -160,9 +157,6 @@ steps c o e =
       sixteen = c .step .ensures .each .inOrder;
     }
 
-enum-told-2 : tie.Need-enum-told-2 Inv-loop μ-loop
-enum-told-2 c = search needs
-
 ended-requires : tie.Need-ended-requires Inv-loop μ-loop
 ended-requires c κs = let P = here (c .before .before) in (P .more, P .walking .low)
 
@@ -172,9 +166,6 @@ returns-2 c =
     let o = c .before .enum-told2 .given in
     rw (c .ended .ensures, o .1) (place-ends (here m) (steps m _ (o .1)))
 
-enum-told-3 : tie.Need-enum-told-3 Inv-loop μ-loop
-enum-told-3 c = search needs
-
 ended-requires-2 : tie.Need-ended-requires-2 Inv-loop μ-loop
 ended-requires-2 c κs = let P = here (c .before .before .before) in (P .more, P .walking .low)
 
@@ -183,9 +174,6 @@ returns-3 c =
     let m = c .before .before .before .before in
     let o = c .before .enum-told3 .given in
     rw (c .ended2 .ensures, o .1) (facet-ends (here m) (steps m _ (o .1)))
-
-enum-known-outcome : tie.Need-enum-known-outcome Inv-loop μ-loop
-enum-known-outcome c = search needs
 
 on-requires : tie.Need-on-requires Inv-loop μ-loop
 on-requires c κs =
@@ -227,18 +215,18 @@ walk-spec =
     begin-requires
     loop-holds
     look-up-requires
-    enum-known-looked
+    (λ c. search needs)
     sub-t29
     returns
     enum-told
     step-requires
-    enum-told-2
+    (λ c. search needs)
     ended-requires
     returns-2
-    enum-told-3
+    (λ c. search needs)
     ended-requires-2
     returns-3
-    enum-known-outcome
+    (λ c. search needs)
     on-requires
     loop-less
     loop-again

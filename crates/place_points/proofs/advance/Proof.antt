@@ -28,9 +28,6 @@ mul-wide32 c = omega arith
 element-copy-out-wide32 : tie.Need-element-copy-out-wide32 Inv-loop μ-loop
 element-copy-out-wide32 c = omega (arith, c .before .before .pre .1 .low, c .before .before .pre .1 .few)
 
-wide32-requires : tie.Need-wide32-requires Inv-loop μ-loop
-wide32-requires c κs = search needs
-
 first-outside-requires : tie.Need-first-outside-requires Inv-loop μ-loop
 first-outside-requires c κs =
     let s = c .before .before .before .before in
@@ -87,7 +84,7 @@ advance-spec =
     loop-holds
     mul-wide32
     element-copy-out-wide32
-    wide32-requires
+    (λ c κs. search needs)
     first-outside-requires
     shift-requires
     add-k

@@ -51,14 +51,8 @@ loop-holds c =
 element-copy-out-wide : tie.Need-element-copy-out-wide Inv-loop μ-loop
 element-copy-out-wide c = omega (arith, c .before .loop .inv .2 .fewBlocks)
 
-wide-requires : tie.Need-wide-requires Inv-loop μ-loop
-wide-requires c κs = search needs
-
 shared-slice-read-wide : tie.Need-shared-slice-read-wide Inv-loop μ-loop
 shared-slice-read-wide c = omega arith
-
-wide-requires-2 : tie.Need-wide-requires-2 Inv-loop μ-loop
-wide-requires-2 c κs = search needs
 
 add-last : tie.Need-add-last Inv-loop μ-loop
 add-last c = omega (arith, last-is c)
@@ -111,9 +105,9 @@ first-point-spec =
     μ-loop
     loop-holds
     element-copy-out-wide
-    wide-requires
+    (λ c κs. search needs)
     shared-slice-read-wide
-    wide-requires-2
+    (λ c κs. search needs)
     add-last
     sub-last
     mul-point

@@ -82,26 +82,14 @@ element-copy-out-wide c =
     let s = c .before .before .before .before in
     omega (arith, accepted (lent (s .args .sizes .now) (s .pre .0)) (s .pre .1 .grid .accepted) .fewBlocks)
 
-wide-requires : tie.Need-wide-requires Inv-loop μ-loop
-wide-requires c κs = search needs
-
 shared-slice-read-wide : tie.Need-shared-slice-read-wide Inv-loop μ-loop
 shared-slice-read-wide c = omega arith
-
-wide-requires-2 : tie.Need-wide-requires-2 Inv-loop μ-loop
-wide-requires-2 c κs = search needs
 
 add-end : tie.Need-add-end Inv-loop μ-loop
 add-end c = omega (arith, first-is c, inside c)
 
 mul-advance-block : tie.Need-mul-advance-block Inv-loop μ-loop
 mul-advance-block c = omega (arith, first-is c, inside c)
-
-sub-advance-block : tie.Need-sub-advance-block Inv-loop μ-loop
-sub-advance-block c = search needs
-
-part-advance-block-start : tie.Need-part-advance-block-start Inv-loop μ-loop
-part-advance-block-start c = search needs
 
 part-advance-block-end : tie.Need-part-advance-block-end Inv-loop μ-loop
 part-advance-block-end c = let e = first-is c in let i = inside c in search needs
@@ -113,9 +101,6 @@ advance-block-requires c κs =
     lent-ready (s .args .sizes .now) (s .args .point .now) (l .j - 1) (l .point) (omega arith) (state (c .before))
     (c .before .before .before .wide .result) (c .before .wide2 .result) (first-is (c .before))
     (c .before .wide2 .ensures) (s .pre .0) (s .args .firsts .now) (s .pre .1)
-
-same-length : tie.Need-same-length Inv-loop μ-loop
-same-length c = search needs
 
 returns : tie.Need-returns Inv-loop μ-loop
 returns c =
@@ -160,16 +145,16 @@ next-point-spec =
     loop-holds
     sub-j
     element-copy-out-wide
-    wide-requires
+    (λ c κs. search needs)
     shared-slice-read-wide
-    wide-requires-2
+    (λ c κs. search needs)
     add-end
     mul-advance-block
-    sub-advance-block
-    part-advance-block-start
+    (λ c. search needs)
+    (λ c. search needs)
     part-advance-block-end
     advance-block-requires
-    same-length
+    (λ c. search needs)
     returns
     loop-less
     loop-again

@@ -32,21 +32,6 @@ loop-holds c = (
   blocks-range _ (c .before .before .pre .0) .1,
 )
 
-array-read-wide : tie.Need-array-read-wide Inv-loop μ-loop
-array-read-wide c = search needs
-
-wide-requires : tie.Need-wide-requires Inv-loop μ-loop
-wide-requires c κs = search needs
-
-mul-wide16 : tie.Need-mul-wide16 Inv-loop μ-loop
-mul-wide16 c = search needs
-
-array-read-wide16 : tie.Need-array-read-wide16 Inv-loop μ-loop
-array-read-wide16 c = search needs
-
-wide16-requires : tie.Need-wide16-requires Inv-loop μ-loop
-wide16-requires c κs = search needs
-
 fill-block-requires : tie.Need-fill-block-requires Inv-loop μ-loop
 fill-block-requires c κs =
     let l = c .before .before .before .before .loop in
@@ -59,12 +44,6 @@ fill-block-requires c κs =
       made-size s m (l .j) (omega arith),
       made-division s m (l .j) (omega arith),
     ) ((r .0, r .1, count-range s m (l .j) (omega arith)), l .inv .1)
-
-add-j : tie.Need-add-j Inv-loop μ-loop
-add-j c = search needs
-
-loop-less : tie.Need-loop-less Inv-loop μ-loop
-loop-less c = search needs
 
 loop-again : tie.Need-loop-again Inv-loop μ-loop
 loop-again c =
@@ -103,13 +82,13 @@ binomials-spec =
     Inv-loop
     μ-loop
     loop-holds
-    array-read-wide
-    wide-requires
-    mul-wide16
-    array-read-wide16
-    wide16-requires
+    (λ c. search needs)
+    (λ c κs. search needs)
+    (λ c. search needs)
+    (λ c. search needs)
+    (λ c κs. search needs)
     fill-block-requires
-    add-j
-    loop-less
+    (λ c. search needs)
+    (λ c. search needs)
     loop-again
     returns)

@@ -8,15 +8,6 @@ use borrow.Author.Needs.{needs}
 use Rattle.printer.proofs.label_and_print.Statement.{statement}
 use Rattle.printer.proofs.label_and_print.Tie as tie
 
-label-on-requires : tie.Need-label-on-requires
-label-on-requires c κs = search needs
-
-print-run-requires : tie.Need-print-run-requires
-print-run-requires c κs = search needs
-
-same-length : tie.Need-same-length
-same-length c = search needs
-
 returns : tie.Need-returns
 returns c =
     let r = c .before .before .before .before .before .before .before .before .before .args .reading in
@@ -28,4 +19,4 @@ returns c =
 
 pub label-and-print-spec : {M : Type 1} → statement M
 label-and-print-spec =
-    tie.close (tie.spec label-on-requires print-run-requires same-length returns)
+    tie.close (tie.spec (λ c κs. search needs) (λ c κs. search needs) (λ c. search needs) returns)

@@ -11,12 +11,6 @@ use Rattle.printer.proofs.print.Tie as tie
 zero : (c : tie.Else1) → slipReadingOf (c .before .before .before .before .args .slip .now) .code ≡ 0
 zero c = sym (ap (λ r. r .code) (c .before .before .read .ensures)) ∙ c .if1 .left
 
-read-requires : tie.Need-read-requires
-read-requires c κs = search needs
-
-refused-requires : tie.Need-refused-requires
-refused-requires c κs = search needs
-
 returns : tie.Need-returns
 returns c =
     let slip = c .before .before .before .before .before .before .args .slip .now in
@@ -26,9 +20,6 @@ returns c =
 
 enum-told : tie.Need-enum-told
 enum-told c = search needs
-
-labels-of-requires : tie.Need-labels-of-requires
-labels-of-requires c κs = search needs
 
 print-run-requires : tie.Need-print-run-requires
 print-run-requires c κs =
@@ -67,11 +58,11 @@ pub print-spec : {M : Type 1} → statement M
 print-spec =
     tie.close
     (tie.spec
-    read-requires
-    refused-requires
+    (λ c κs. search needs)
+    (λ c κs. search needs)
     returns
     enum-told
-    labels-of-requires
+    (λ c κs. search needs)
     print-run-requires
     returns-2
     print-game-requires

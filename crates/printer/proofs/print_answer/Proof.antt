@@ -7,33 +7,6 @@ use borrow.Author.Needs.{needs}
 use Rattle.printer.proofs.print_answer.Statement.{statement}
 use Rattle.printer.proofs.print_answer.Tie as tie
 
-enum-known-answer : tie.Need-enum-known-answer
-enum-known-answer c = search needs
-
-refused-requires : tie.Need-refused-requires
-refused-requires c κs = search needs
-
-enum-known-answer-2 : tie.Need-enum-known-answer-2
-enum-known-answer-2 c = search needs
-
-spent-requires : tie.Need-spent-requires
-spent-requires c κs = search needs
-
-enum-known-answer-3 : tie.Need-enum-known-answer-3
-enum-known-answer-3 c = search needs
-
-unknown-requires : tie.Need-unknown-requires
-unknown-requires c κs = search needs
-
-enum-known-answer-4 : tie.Need-enum-known-answer-4
-enum-known-answer-4 c = search needs
-
-divisions-of-requires : tie.Need-divisions-of-requires
-divisions-of-requires c κs = search needs
-
-bound-requires : tie.Need-bound-requires
-bound-requires c κs = search needs
-
 array-share-prefix-divisions : tie.Need-array-share-prefix-divisions
 array-share-prefix-divisions c = divisions-room
     (c .before .before .before .before .before .before .before .args .grid)
@@ -74,15 +47,15 @@ pub print-answer-spec : {M : Type 1} → statement M
 print-answer-spec =
     tie.close
     (tie.spec
-    enum-known-answer
-    refused-requires
-    enum-known-answer-2
-    spent-requires
-    enum-known-answer-3
-    unknown-requires
-    enum-known-answer-4
-    divisions-of-requires
-    bound-requires
+    (λ c. search needs)
+    (λ c κs. search needs)
+    (λ c. search needs)
+    (λ c κs. search needs)
+    (λ c. search needs)
+    (λ c κs. search needs)
+    (λ c. search needs)
+    (λ c κs. search needs)
+    (λ c κs. search needs)
     array-share-prefix-divisions
     slice-aggregate-ended
     ended-requires

@@ -39,9 +39,6 @@ counted c =
       omega (arith, few, front-length (slipLosses slip) (replicate 1944 0) few),
     )
 
-slice-aggregate-losses-of : tie.Need-slice-aggregate-losses-of
-slice-aggregate-losses-of c = search needs
-
 losses-of-requires : tie.Need-losses-of-requires
 losses-of-requires c κs = record {
   isReading = c .before .before .pre .isReading;
@@ -50,14 +47,8 @@ losses-of-requires c κs = record {
   whole = refl;
 }
 
-enum-known-count : tie.Need-enum-known-count
-enum-known-count c = search needs
-
 enum-told : tie.Need-enum-told
 enum-told c = search needs
-
-refused-requires : tie.Need-refused-requires
-refused-requires c κs = search needs
 
 returns : tie.Need-returns
 returns c =
@@ -95,11 +86,11 @@ pub print-game-spec : {M : Type 1} → statement M
 print-game-spec =
     tie.close
     (tie.spec
-    slice-aggregate-losses-of
+    (λ c. search needs)
     losses-of-requires
-    enum-known-count
+    (λ c. search needs)
     enum-told
-    refused-requires
+    (λ c κs. search needs)
     returns
     array-share-prefix-losses
     slice-aggregate-print-labelled

@@ -24,9 +24,6 @@ label-and-print-requires c κs = (
   sym (slice-aggregate-label-and-print (c .before)),
 )
 
-returns : tie.Need-returns
-returns c = search needs
-
 pub print-labelled-spec : {M : Type 1} → statement M
 print-labelled-spec =
     tie.close
@@ -34,4 +31,4 @@ print-labelled-spec =
     array-borrow-prefix-labels
     slice-aggregate-label-and-print
     label-and-print-requires
-    returns)
+    (λ c. search needs))

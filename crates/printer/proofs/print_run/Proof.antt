@@ -20,15 +20,6 @@ array-share-prefix-start c =
 slice-aggregate-run-on : tie.Need-slice-aggregate-run-on
 slice-aggregate-run-on c = sym (length-take-le _ _ (array-share-prefix-start (c .before)))
 
-slice-aggregate-run-on-2 : tie.Need-slice-aggregate-run-on-2
-slice-aggregate-run-on-2 c = search needs
-
-run-on-requires : tie.Need-run-on-requires
-run-on-requires c κs = search needs
-
-slice-aggregate-print-answer : tie.Need-slice-aggregate-print-answer
-slice-aggregate-print-answer c = search needs
-
 -- what is printed is the sheet of the run
 printed-run : (c : tie.After-run-on)
     → let s = c .before .before .before .before .before .before in
@@ -57,8 +48,8 @@ print-run-spec =
     (tie.spec
     array-share-prefix-start
     slice-aggregate-run-on
-    slice-aggregate-run-on-2
-    run-on-requires
-    slice-aggregate-print-answer
+    (λ c. search needs)
+    (λ c κs. search needs)
+    (λ c. search needs)
     print-answer-requires
     returns)

@@ -28,9 +28,6 @@ slice-aggregate-is-grid-point c =
 is-grid-point-requires : tie.Need-is-grid-point-requires
 is-grid-point-requires c κs = c .before .before .before .pre .measured .made
 
-nothing-requires : tie.Need-nothing-requires
-nothing-requires c κs = search needs
-
 returns : tie.Need-returns
 returns c =
     not-recognised (c .nothing .ensures)
@@ -46,9 +43,6 @@ sets-of-requires : tie.Need-sets-of-requires
 sets-of-requires c κs =
     let s = c .before .before .before .before .before .before in
     (omega (arith, s .pre .few), indices-few (s .args .g) (s .pre .measured .made), s .pre .orderLong)
-
-nothing-requires-2 : tie.Need-nothing-requires-2
-nothing-requires-2 c κs = search needs
 
 returns-2 : tie.Need-returns-2
 returns-2 c =
@@ -80,9 +74,6 @@ coefficients-requires c κs = (begun c .pre .measured .made, begun c .pre .start
 is-free-requires : tie.Need-is-free-requires
 is-free-requires c κs = begun (c .before .before) .pre .measured .made
 
-nothing-requires-3 : tie.Need-nothing-requires-3
-nothing-requires-3 c κs = search needs
-
 returns-3 : tie.Need-returns-3
 returns-3 c =
     let f = c .before .before .before .before .before in
@@ -99,9 +90,6 @@ mark-points-requires c κs =
       can-mark w (sets f) (f .before .before .before .zeros .ensures)
           (c .before .before .is-free .ensures .yes (is-not _ (c .before .if3 .left))) (on-grid f),
     )
-
-nothing-requires-4 : tie.Need-nothing-requires-4
-nothing-requires-4 c κs = search needs
 
 returns-4 : tie.Need-returns-4
 returns-4 c =
@@ -129,17 +117,17 @@ recognise-spec =
     array-share-prefix-y
     slice-aggregate-is-grid-point
     is-grid-point-requires
-    nothing-requires
+    (λ c κs. search needs)
     returns
     zeros-requires
     sets-of-requires
-    nothing-requires-2
+    (λ c κs. search needs)
     returns-2
     coefficients-requires
     is-free-requires
-    nothing-requires-3
+    (λ c κs. search needs)
     returns-3
     mark-points-requires
-    nothing-requires-4
+    (λ c κs. search needs)
     returns-4
     returns-5)

@@ -11,29 +11,8 @@ use borrow.Author.Needs.{needs}
 use Rattle.records.proofs.exchanged.Statement.{statement}
 use Rattle.records.proofs.exchanged.Tie as tie
 
-alike-requires : tie.Need-alike-requires
-alike-requires c κs = search needs
-
-kept-record-requires : tie.Need-kept-record-requires
-kept-record-requires c κs = search needs
-
 returns : tie.Need-returns
 returns c = rw (sym (c .before .before .alike .ensures) ∙ c .before .if1 .taken) (c .kept-record .ensures)
-
-low-byte-requires : tie.Need-low-byte-requires
-low-byte-requires c κs = search needs
-
-high-byte-requires : tie.Need-high-byte-requires
-high-byte-requires c κs = search needs
-
-low-byte-requires-2 : tie.Need-low-byte-requires-2
-low-byte-requires-2 c κs = search needs
-
-high-byte-requires-2 : tie.Need-high-byte-requires-2
-high-byte-requires-2 c κs = search needs
-
-difference-requires : tie.Need-difference-requires
-difference-requires c κs = search needs
 
 -- the sets differ at an index
 apart : (c : tie.After-difference) → eqb (c .difference .result) 16 ≡ false
@@ -95,14 +74,14 @@ pub exchanged-spec : {M : Type 1} → statement M
 exchanged-spec =
     tie.close
     (tie.spec
-    alike-requires
-    kept-record-requires
+    (λ c κs. search needs)
+    (λ c κs. search needs)
     returns
-    low-byte-requires
-    high-byte-requires
-    low-byte-requires-2
-    high-byte-requires-2
-    difference-requires
+    (λ c κs. search needs)
+    (λ c κs. search needs)
+    (λ c κs. search needs)
+    (λ c κs. search needs)
+    (λ c κs. search needs)
     from-one-requires
     has-requires
     returns-2

@@ -11,13 +11,7 @@ use Rattle.records.proofs.high_byte.Reads as high-byte-reads
 use Rattle.records.proofs.low_byte.Reads as low-byte-reads
 
 -- src/lib.rt:148:9
-low-byte-requires : tie.Need-low-byte-requires
-low-byte-requires c κs = search needs
-
 -- src/lib.rt:149:9
-high-byte-requires : tie.Need-high-byte-requires
-high-byte-requires c κs = search needs
-
 -- src/lib.rt:144:1
 returns : tie.Need-returns
 unfolding front
@@ -29,4 +23,4 @@ returns c = record {
 }
 
 pub first-record-spec : {M : Type 1} → statement M
-first-record-spec = tie.close (tie.spec low-byte-requires high-byte-requires returns)
+first-record-spec = tie.close (tie.spec (λ c κs. search needs) (λ c κs. search needs) returns)

@@ -6,18 +6,6 @@ use borrow.Author.Needs.{needs}
 use Rattle.records.proofs.joined.Statement.{statement}
 use Rattle.records.proofs.joined.Tie as tie
 
-low-byte-requires : tie.Need-low-byte-requires
-low-byte-requires c κs = search needs
-
-high-byte-requires : tie.Need-high-byte-requires
-high-byte-requires c κs = search needs
-
-from-one-requires : tie.Need-from-one-requires
-from-one-requires c κs = search needs
-
-alike-requires : tie.Need-alike-requires
-alike-requires c κs = search needs
-
 returns : tie.Need-returns
 unfolding front
 returns c =
@@ -54,9 +42,9 @@ pub joined-spec : {M : Type 1} → statement M
 joined-spec =
     tie.close
     (tie.spec
-    low-byte-requires
-    high-byte-requires
-    from-one-requires
-    alike-requires
+    (λ c κs. search needs)
+    (λ c κs. search needs)
+    (λ c κs. search needs)
+    (λ c κs. search needs)
     returns
     returns-2)

@@ -5,12 +5,6 @@ use Rattle.records.proofs.Differences.{record-length}
 use Rattle.records.proofs.length_of.Statement.{statement}
 use Rattle.records.proofs.length_of.Tie as tie
 
-alike-requires : tie.Need-alike-requires
-alike-requires c κs = search needs
-
-alike-requires-2 : tie.Need-alike-requires-2
-alike-requires-2 c κs = search needs
-
 returns : tie.Need-returns
 returns c come gone =
     let a = c .before .before .before .before .args in
@@ -48,4 +42,4 @@ returns-4 c come gone =
     )
 
 pub length-of-spec : {M : Type 1} → statement M
-length-of-spec = tie.close (tie.spec alike-requires alike-requires-2 returns returns-2 returns-3 returns-4)
+length-of-spec = tie.close (tie.spec (λ c κs. search needs) (λ c κs. search needs) returns returns-2 returns-3 returns-4)

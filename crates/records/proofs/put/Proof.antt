@@ -7,26 +7,8 @@ use Rattle.records.proofs.Stored.{stored-3, stored-5, stored-6, stored-
 use Rattle.records.proofs.put.Statement.{statement}
 use Rattle.records.proofs.put.Tie as tie
 
-array-read-trail : tie.Need-array-read-trail
-array-read-trail c = search needs
-
-slice-write-trail : tie.Need-slice-write-trail
-slice-write-trail c = search needs
-
-array-read-trail-2 : tie.Need-array-read-trail-2
-array-read-trail-2 c = search needs
-
-add-trail : tie.Need-add-trail
-add-trail c = search needs
-
 slice-write-trail-2 : tie.Need-slice-write-trail-2
 slice-write-trail-2 c = simp length-set (omega (arith, c .before .pre .0, c .before .pre .1))
-
-array-read-trail-3 : tie.Need-array-read-trail-3
-array-read-trail-3 c = search needs
-
-add-trail-2 : tie.Need-add-trail-2
-add-trail-2 c = search needs
 
 slice-write-trail-3 : tie.Need-slice-write-trail-3
 slice-write-trail-3 c = simp length-set (omega (arith, c .before .pre .0, c .before .pre .1))
@@ -41,20 +23,8 @@ returns c =
     let n : a .made .length ≡ 3 = w .1 .2 (c .if1 .taken) in
     rw n (stored-3 (a .trail .now) (a .at) (a .made .bytes) (w .2) (omega (arith, w .0)))
 
-array-read-trail-4 : tie.Need-array-read-trail-4
-array-read-trail-4 c = search needs
-
-add-trail-3 : tie.Need-add-trail-3
-add-trail-3 c = search needs
-
 slice-write-trail-4 : tie.Need-slice-write-trail-4
 slice-write-trail-4 c = simp length-set (omega (arith, c .before .before .pre .0, c .before .before .pre .1))
-
-array-read-trail-5 : tie.Need-array-read-trail-5
-array-read-trail-5 c = search needs
-
-add-trail-4 : tie.Need-add-trail-4
-add-trail-4 c = search needs
 
 slice-write-trail-5 : tie.Need-slice-write-trail-5
 slice-write-trail-5 c = simp length-set (omega (arith, c .before .before .pre .0, c .before .before .pre .1))
@@ -69,12 +39,6 @@ returns-2 c =
     let n : a .made .length ≡ 5 = omega (arith, c .if2 .taken, c .before .if1 .left) in
     rw n (stored-5 (a .trail .now) (a .at) (a .made .bytes) (w .2) (omega (arith, w .0)))
 
-array-read-trail-6 : tie.Need-array-read-trail-6
-array-read-trail-6 c = search needs
-
-add-trail-5 : tie.Need-add-trail-5
-add-trail-5 c = search needs
-
 slice-write-trail-6 : tie.Need-slice-write-trail-6
 slice-write-trail-6 c =
     simp length-set (omega (arith, c .before .before .before .pre .0, c .before .before .before .pre .1))
@@ -88,12 +52,6 @@ returns-3 c =
     let w = c .before .before .before .before .pre in
     let n : a .made .length ≡ 6 = omega (arith, c .if3 .taken, c .before .if2 .left) in
     rw n (stored-6 (a .trail .now) (a .at) (a .made .bytes) (w .2) (omega (arith, w .0)))
-
-array-read-trail-7 : tie.Need-array-read-trail-7
-array-read-trail-7 c = search needs
-
-add-trail-6 : tie.Need-add-trail-6
-add-trail-6 c = search needs
 
 slice-write-trail-7 : tie.Need-slice-write-trail-7
 slice-write-trail-7 c = simp length-set
@@ -113,31 +71,31 @@ pub put-spec : {M : Type 1} → statement M
 put-spec =
     tie.close
     (tie.spec
-    array-read-trail
-    slice-write-trail
-    array-read-trail-2
-    add-trail
+    (λ c. search needs)
+    (λ c. search needs)
+    (λ c. search needs)
+    (λ c. search needs)
     slice-write-trail-2
-    array-read-trail-3
-    add-trail-2
+    (λ c. search needs)
+    (λ c. search needs)
     slice-write-trail-3
     same-length
     returns
-    array-read-trail-4
-    add-trail-3
+    (λ c. search needs)
+    (λ c. search needs)
     slice-write-trail-4
-    array-read-trail-5
-    add-trail-4
+    (λ c. search needs)
+    (λ c. search needs)
     slice-write-trail-5
     same-length-2
     returns-2
-    array-read-trail-6
-    add-trail-5
+    (λ c. search needs)
+    (λ c. search needs)
     slice-write-trail-6
     same-length-3
     returns-3
-    array-read-trail-7
-    add-trail-6
+    (λ c. search needs)
+    (λ c. search needs)
     slice-write-trail-7
     same-length-4
     returns-4)

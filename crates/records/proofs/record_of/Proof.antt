@@ -8,18 +8,9 @@ use borrow.Author.Needs.{needs}
 use Rattle.records.proofs.record_of.Statement.{statement}
 use Rattle.records.proofs.record_of.Tie as tie
 
-alike-requires : tie.Need-alike-requires
-alike-requires c κs = search needs
-
-exchanged-requires : tie.Need-exchanged-requires
-exchanged-requires c κs = search needs
-
 returns : tie.Need-returns
 unfolding recordFrom
 returns c = rw (sym (c .before .before .alike .ensures) ∙ c .before .if1 .taken) (c .exchanged .ensures)
-
-difference-requires : tie.Need-difference-requires
-difference-requires c κs = search needs
 
 -- the sets differ at an index
 low : (c : tie.After-difference) → c .difference .result < 16
@@ -56,10 +47,10 @@ pub record-of-spec : {M : Type 1} → statement M
 record-of-spec =
     tie.close
     (tie.spec
-    alike-requires
-    exchanged-requires
+    (λ c κs. search needs)
+    (λ c κs. search needs)
     returns
-    difference-requires
+    (λ c κs. search needs)
     has-requires
     joined-requires
     returns-2

@@ -11,9 +11,6 @@ use Rattle.records.proofs.Told.{taken-record}
 use Rattle.records.proofs.standing_bytes.Statement.{statement}
 use Rattle.records.proofs.standing_bytes.Tie as tie
 
-record-of-requires : tie.Need-record-of-requires
-record-of-requires c κs = search needs
-
 stands-requires : tie.Need-stands-requires
 stands-requires c κs =
     let R = c .record-of .ensures in
@@ -37,4 +34,4 @@ returns-2 : tie.Need-returns-2
 returns-2 c = rw (sym (told (c .before)) ∙ c .if1 .left)
 
 pub standing-bytes-spec : {M : Type 1} → statement M
-standing-bytes-spec = tie.close (tie.spec record-of-requires stands-requires returns returns-2)
+standing-bytes-spec = tie.close (tie.spec (λ c κs. search needs) stands-requires returns returns-2)

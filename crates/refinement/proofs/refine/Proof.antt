@@ -23,12 +23,6 @@ abbrev game : tie.Start → Refinement
 game s = lentGame (lent (s .args .sizes .now) (s .args .divisions .now)) (s .args .start .now) (s .args .losses .now)
     (s .args .factor)
 
-levels-in-range-requires : tie.Need-levels-in-range-requires
-levels-in-range-requires c κs = search needs
-
-refused-requires : tie.Need-refused-requires
-refused-requires c κs = search needs
-
 returns : tie.Need-returns
 returns c =
     let s = c .before .before .before .before .before .before .before .before .before in
@@ -52,9 +46,6 @@ ranges c = in-ranges (begun c .args .factor) (begun c .args .levels) (asked c)
 made-levels-requires : tie.Need-made-levels-requires
 made-levels-requires c κs = let w = ranges c in ((omega (arith, w .0 .0), w .0 .1), w .1)
 
-refused-requires-2 : tie.Need-refused-requires-2
-refused-requires-2 c κs = search needs
-
 returns-2 : tie.Need-returns-2
 returns-2 c =
     let m = c .before .before .before in
@@ -69,9 +60,6 @@ Made = tie.Else2
 
 abbrev ranged : Made → Ranged
 ranged c = c .before .before .before
-
-array-copy-out-first : tie.Need-array-copy-out-first
-array-copy-out-first c = search needs
 
 sub-last : tie.Need-sub-last
 sub-last c = omega (arith, ranges (ranged (c .before .before)) .1 .0)
@@ -104,9 +92,6 @@ later c =
     asked-later (ranges (ranged m) .1 .0) (m .before .before .made-levels .ensures) (m .if2 .left) (a .start .now)
     (a .losses .now) (a .labels .now) (a .answer .now) (c .first-no .result) _ _ (c .first-no .ensures)
 
-refused-requires-3 : tie.Need-refused-requires-3
-refused-requires-3 c κs = search needs
-
 returns-3 : tie.Need-returns-3
 returns-3 c =
     let d = c .before .before in
@@ -124,12 +109,6 @@ run-levels-requires c κs =
     let w = ranges (ranged m) in
     can-run-all (w .1 .0) (m .before .before .made-levels .ensures) (m .if2 .left) (a .start .now) (a .losses .now)
     (a .labels .now) (a .answer .now) w (sym (later d) ∙ c .before .before .if3 .left)
-
-same-length : tie.Need-same-length
-same-length c = search needs
-
-same-length-2 : tie.Need-same-length-2
-same-length-2 c = search needs
 
 returns-4 : tie.Need-returns-4
 returns-4 c =
@@ -150,20 +129,20 @@ pub refine-spec : {M : Type 1} → statement M
 refine-spec =
     tie.close
     (tie.spec
-    levels-in-range-requires
-    refused-requires
+    (λ c κs. search needs)
+    (λ c κs. search needs)
     returns
     made-levels-requires
-    refused-requires-2
+    (λ c κs. search needs)
     returns-2
-    array-copy-out-first
+    (λ c. search needs)
     sub-last
     mul-last
     array-copy-out-last
     first-no-requires
-    refused-requires-3
+    (λ c κs. search needs)
     returns-3
     run-levels-requires
-    same-length
-    same-length-2
+    (λ c. search needs)
+    (λ c. search needs)
     returns-4)

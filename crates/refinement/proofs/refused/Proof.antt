@@ -3,11 +3,8 @@ use borrow.Author.Needs.{needs}
 use Rattle.refinement.proofs.refused.Statement.{statement}
 use Rattle.refinement.proofs.refused.Tie as tie
 
-no-level-requires : tie.Need-no-level-requires
-no-level-requires c κs = search needs
-
 returns : tie.Need-returns
 returns c = rw (c .no-level .ensures)
 
 pub refused-spec : {M : Type 1} → statement M
-refused-spec = tie.close (tie.spec no-level-requires returns)
+refused-spec = tie.close (tie.spec (λ c κs. search needs) returns)

@@ -10,9 +10,6 @@ use Rattle.rounding.proofs.Rounding.{nearest-above, nearest-below, near
 use Rattle.rounding.proofs.centre.Statement.{statement}
 use Rattle.rounding.proofs.centre.Tie as tie
 
-mul-parts : tie.Need-mul-parts
-mul-parts c = search needs
-
 -- the divisor's bound
 product : (n d : ℕ) → n ≤ 16 → d ≤ 65535 → n * d ≤ 1048560
 product n d p q = mul-le-mul p q
@@ -28,9 +25,6 @@ mul-rest c = fits-le (div-mul-le-self _ _) (omega arith)
 
 sub-rest : tie.Need-sub-rest
 sub-rest c = div-mul-le-self _ _
-
-mul-if1 : tie.Need-mul-if1
-mul-if1 c = search needs
 
 add-if1 : tie.Need-add-if1
 add-if1 c = omega (arith, product (c .args .count) (c .args .division) (omega arith) (omega arith))
@@ -65,4 +59,4 @@ returns-2 c =
 pub centre-spec : {M : Type 1} → statement M
 centre-spec =
     tie.close
-    (tie.spec mul-parts mul-divisor div-number mul-rest sub-rest mul-if1 add-if1 add-result returns returns-2)
+    (tie.spec (λ c. search needs) mul-divisor div-number mul-rest sub-rest (λ c. search needs) add-if1 add-result returns returns-2)

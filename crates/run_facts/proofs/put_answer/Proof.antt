@@ -22,41 +22,11 @@ two x y (a ∷ b ∷ old) h = refl
 two x y [] h = absurd (omega arith)
 two x y (a ∷ []) h = absurd (omega arith)
 
-enum-known-answer : tie.Need-enum-known-answer
-enum-known-answer c = search needs
-
-enum-known-answer-2 : tie.Need-enum-known-answer-2
-enum-known-answer-2 c = search needs
-
-slice-write-facts : tie.Need-slice-write-facts
-slice-write-facts c = search needs
-
-enum-known-answer-3 : tie.Need-enum-known-answer-3
-enum-known-answer-3 c = search needs
-
-slice-write-facts-2 : tie.Need-slice-write-facts-2
-slice-write-facts-2 c = search needs
-
 slice-write-facts-3 : tie.Need-slice-write-facts-3
 slice-write-facts-3 c = simp length-set (omega arith)
 
-enum-known-answer-4 : tie.Need-enum-known-answer-4
-enum-known-answer-4 c = search needs
-
-slice-write-facts-4 : tie.Need-slice-write-facts-4
-slice-write-facts-4 c = search needs
-
-kind-number-requires : tie.Need-kind-number-requires
-kind-number-requires c κs = search needs
-
 slice-write-facts-5 : tie.Need-slice-write-facts-5
 slice-write-facts-5 c = simp length-set (omega arith)
-
-cast-facts : tie.Need-cast-facts
-cast-facts c = search needs
-
-cast-facts-2 : tie.Need-cast-facts-2
-cast-facts-2 c = search needs
 
 slice-write-facts-6 : tie.Need-slice-write-facts-6
 slice-write-facts-6 c = simp length-set (omega arith)
@@ -70,20 +40,11 @@ slice-write-facts-8 c = simp length-set (omega arith)
 returns : tie.Need-returns
 returns c = rw (c .before .answer .given .1) (refl, sym (front-none _))
 
-same-length : tie.Need-same-length
-same-length c = search needs
-
 returns-2 : tie.Need-returns-2
 returns-2 c = rw (c .before .answer2 .given .1) (refl, one _ _ (omega arith))
 
-same-length-2 : tie.Need-same-length-2
-same-length-2 c = search needs
-
 returns-3 : tie.Need-returns-3
 returns-3 c = rw (c .before .answer3 .given .1) (refl, two _ _ _ (omega arith))
-
-same-length-3 : tie.Need-same-length-3
-same-length-3 c = search needs
 
 returns-4 : tie.Need-returns-4
 returns-4 c =
@@ -93,25 +54,25 @@ pub put-answer-spec : {M : Type 1} → statement M
 put-answer-spec =
     tie.close
     (tie.spec
-    enum-known-answer
-    enum-known-answer-2
-    slice-write-facts
-    enum-known-answer-3
-    slice-write-facts-2
+    (λ c. search needs)
+    (λ c. search needs)
+    (λ c. search needs)
+    (λ c. search needs)
+    (λ c. search needs)
     slice-write-facts-3
-    enum-known-answer-4
-    slice-write-facts-4
+    (λ c. search needs)
+    (λ c. search needs)
     slice-write-facts-5
-    kind-number-requires
-    cast-facts
+    (λ c κs. search needs)
+    (λ c. search needs)
     slice-write-facts-6
-    cast-facts-2
+    (λ c. search needs)
     slice-write-facts-7
     slice-write-facts-8
     returns
-    same-length
+    (λ c. search needs)
     returns-2
-    same-length-2
+    (λ c. search needs)
     returns-3
-    same-length-3
+    (λ c. search needs)
     returns-4)

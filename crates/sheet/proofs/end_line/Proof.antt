@@ -7,21 +7,6 @@ use Rattle.sheet.proofs.end_line.Tie as tie
 enum-told : tie.Need-enum-told
 enum-told c = search needs
 
-slice-aggregate-text : tie.Need-slice-aggregate-text
-slice-aggregate-text c = search needs
-
-text-requires : tie.Need-text-requires
-text-requires c κs = search needs
-
-enum-told-2 : tie.Need-enum-told-2
-enum-told-2 c = search needs
-
-slice-aggregate-text-2 : tie.Need-slice-aggregate-text-2
-slice-aggregate-text-2 c = search needs
-
-text-requires-2 : tie.Need-text-requires-2
-text-requires-2 c κs = search needs
-
 returns : tie.Need-returns
 returns c =
     rw (c .before .before .before .enum-told .given .1) (c .text .ensures, omega (arith, c .text .ensures .behind))
@@ -35,10 +20,10 @@ end-line-spec =
     tie.close
     (tie.spec
     enum-told
-    slice-aggregate-text
-    text-requires
-    enum-told-2
-    slice-aggregate-text-2
-    text-requires-2
+    (λ c. search needs)
+    (λ c κs. search needs)
+    (λ c. search needs)
+    (λ c. search needs)
+    (λ c κs. search needs)
     returns
     returns-2)

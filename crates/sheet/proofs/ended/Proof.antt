@@ -8,42 +8,6 @@ use Rattle.sheet_lines.proofs.Rows.{length-rows}
 use Rattle.sheet.proofs.ended.Statement.{statement}
 use Rattle.sheet.proofs.ended.Tie as tie
 
-slice-aggregate-labelled : tie.Need-slice-aggregate-labelled
-slice-aggregate-labelled c = search needs
-
-labelled-requires : tie.Need-labelled-requires
-labelled-requires c κs = search needs
-
-slice-aggregate-labelled-2 : tie.Need-slice-aggregate-labelled-2
-slice-aggregate-labelled-2 c = search needs
-
-labelled-requires-2 : tie.Need-labelled-requires-2
-labelled-requires-2 c κs = search needs
-
-slice-aggregate-labelled-3 : tie.Need-slice-aggregate-labelled-3
-slice-aggregate-labelled-3 c = search needs
-
-labelled-requires-3 : tie.Need-labelled-requires-3
-labelled-requires-3 c κs = search needs
-
-end-line-requires : tie.Need-end-line-requires
-end-line-requires c κs = search needs
-
-slice-aggregate-labelled-4 : tie.Need-slice-aggregate-labelled-4
-slice-aggregate-labelled-4 c = search needs
-
-labelled-requires-4 : tie.Need-labelled-requires-4
-labelled-requires-4 c κs = search needs
-
-slice-aggregate-labelled-5 : tie.Need-slice-aggregate-labelled-5
-slice-aggregate-labelled-5 c = search needs
-
-labelled-requires-5 : tie.Need-labelled-requires-5
-labelled-requires-5 c κs = search needs
-
-vertex-lines-requires : tie.Need-vertex-lines-requires
-vertex-lines-requires c κs = search needs
-
 centre-line-requires : tie.Need-centre-line-requires
 centre-line-requires c κs =
     let at-block = c .before .before .before .before .before .before in
@@ -75,17 +39,17 @@ pub ended-spec : {M : Type 1} → statement M
 ended-spec =
     tie.close
     (tie.spec
-    slice-aggregate-labelled
-    labelled-requires
-    slice-aggregate-labelled-2
-    labelled-requires-2
-    slice-aggregate-labelled-3
-    labelled-requires-3
-    end-line-requires
-    slice-aggregate-labelled-4
-    labelled-requires-4
-    slice-aggregate-labelled-5
-    labelled-requires-5
-    vertex-lines-requires
+    (λ c. search needs)
+    (λ c κs. search needs)
+    (λ c. search needs)
+    (λ c κs. search needs)
+    (λ c. search needs)
+    (λ c κs. search needs)
+    (λ c κs. search needs)
+    (λ c. search needs)
+    (λ c κs. search needs)
+    (λ c. search needs)
+    (λ c κs. search needs)
+    (λ c κs. search needs)
     centre-line-requires
     returns)

@@ -6,18 +6,6 @@ use Rattle.text.proofs.Parts.{part-join, part-front}
 use Rattle.sheet.proofs.spent.Statement.{statement}
 use Rattle.sheet.proofs.spent.Tie as tie
 
-slice-aggregate-labelled : tie.Need-slice-aggregate-labelled
-slice-aggregate-labelled c = search needs
-
-labelled-requires : tie.Need-labelled-requires
-labelled-requires c κs = search needs
-
-slice-aggregate-labelled-2 : tie.Need-slice-aggregate-labelled-2
-slice-aggregate-labelled-2 c = search needs
-
-labelled-requires-2 : tie.Need-labelled-requires-2
-labelled-requires-2 c κs = search needs
-
 returns : tie.Need-returns
 unfolding refusedSheet spentSheet
 returns c =
@@ -27,8 +15,8 @@ pub spent-spec : {M : Type 1} → statement M
 spent-spec =
     tie.close
     (tie.spec
-    slice-aggregate-labelled
-    labelled-requires
-    slice-aggregate-labelled-2
-    labelled-requires-2
+    (λ c. search needs)
+    (λ c κs. search needs)
+    (λ c. search needs)
+    (λ c κs. search needs)
     returns)

@@ -6,27 +6,18 @@ use Rattle.printer.proofs.Arrays.{sheet-inside}
 use Rattle.sheet_output.proofs.print_sheet.Statement.{statement}
 use Rattle.sheet_output.proofs.print_sheet.Tie as tie
 
-print-requires : tie.Need-print-requires
-print-requires c κs = search needs
-
 array-share-prefix-sheet : tie.Need-array-share-prefix-sheet
 array-share-prefix-sheet c = rw (c .print .ensures .0, c .print .ensures .1) (sheet-inside _ _)
 
 slice-aggregate-write-all : tie.Need-slice-aggregate-write-all
 slice-aggregate-write-all c = sym (length-take-le _ _ (array-share-prefix-sheet (c .before)))
 
-write-all-requires : tie.Need-write-all-requires
-write-all-requires c κs = search needs
-
-returns : tie.Need-returns
-returns c = search needs
-
 pub print-sheet-spec : {M : Type 1} → statement M
 print-sheet-spec =
     tie.close
     (tie.spec
-    print-requires
+    (λ c κs. search needs)
     array-share-prefix-sheet
     slice-aggregate-write-all
-    write-all-requires
-    returns)
+    (λ c κs. search needs)
+    (λ c. search needs))

@@ -13,9 +13,6 @@ use Rattle.shelf.specs.declared.answers.Current.the-variants.{Sheet}
 use Rattle.shelf.proofs.current.Statement.{statement}
 use Rattle.shelf.proofs.current.Tie as tie
 
-is-shelf-requires : tie.Need-is-shelf-requires
-is-shelf-requires c κs = search needs
-
 -- behind question 21
 passes : (c : tie.Else1)
     → isShelf (c .before .before .before .args .list .now) (c .before .before .before .args .count) ≡ true
@@ -58,7 +55,7 @@ pub current-spec : {M : Type 1} → statement M
 current-spec =
     tie.close
     (tie.spec
-    is-shelf-requires
+    (λ c κs. search needs)
     returns
     returns-2
     returns-3

@@ -6,12 +6,6 @@ use Rattle.shelf.proofs.Calls.{MayFile, files, may-file, refuses}
 use Rattle.shelf.proofs.file.Statement.{statement}
 use Rattle.shelf.proofs.file.Tie as tie
 
-first-no-requires : tie.Need-first-no-requires
-first-no-requires c κs = search needs
-
-same-length : tie.Need-same-length
-same-length c = search needs
-
 returns : tie.Need-returns
 returns c =
     let a = c .before .before .before .before .args in
@@ -34,9 +28,6 @@ slice-write-list c = omega (arith, may c .place)
 add-t9 : tie.Need-add-t9
 add-t9 c = omega (arith, may c .place)
 
-same-length-2 : tie.Need-same-length-2
-same-length-2 c = search needs
-
 returns-2 : tie.Need-returns-2
 returns-2 c =
     let a = c .before .before .before .before .args in
@@ -46,12 +37,12 @@ pub file-spec : {M : Type 1} → statement M
 file-spec =
     tie.close
     (tie.spec
-    first-no-requires
-    same-length
+    (λ c κs. search needs)
+    (λ c. search needs)
     returns
     cast-list
     mul-list
     slice-write-list
     add-t9
-    same-length-2
+    (λ c. search needs)
     returns-2)

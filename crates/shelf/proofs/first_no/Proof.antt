@@ -12,9 +12,6 @@ use Rattle.shelf.specs.Shelf.{isReplaced, isShelf}
 use Rattle.shelf.proofs.first_no.Statement.{statement}
 use Rattle.shelf.proofs.first_no.Tie as tie
 
-is-shelf-requires : tie.Need-is-shelf-requires
-is-shelf-requires c κs = search needs
-
 -- behind question 21
 passes : (c : tie.Else1)
     → isShelf (c .before .before .before .args .list .now) (c .before .before .before .args .count) ≡ true
@@ -78,7 +75,7 @@ pub first-no-spec : {M : Type 1} → statement M
 first-no-spec =
     tie.close
     (tie.spec
-    is-shelf-requires
+    (λ c κs. search needs)
     returns
     returns-2
     returns-3

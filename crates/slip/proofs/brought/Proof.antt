@@ -73,12 +73,6 @@ slice-aggregate-in-range c =
     (put (c .before .before .before)) in
     sym (length-take-le (count s) _ (omega (arith, left, half s, facts s .few)))
 
-in-range-requires : tie.Need-in-range-requires
-in-range-requires c κs = search needs
-
-same-length : tie.Need-same-length
-same-length c = search needs
-
 returns : tie.Need-returns
 returns c =
     let s = c .before .before .before .before .before .before .before .before .before in
@@ -87,9 +81,6 @@ returns c =
     (put (c .before .before .before .before .before)) in
     let out = ap (all inRange) (sym read) ∙ sym (c .before .in-range .ensures) ∙ not-true _ (c .if1 .taken) in
     (out-of-range slip (s .args .begin) (facts s) out, put (c .before .before .before .before .before))
-
-same-length-2 : tie.Need-same-length-2
-same-length-2 c = search needs
 
 returns-2 : tie.Need-returns-2
 returns-2 c =
@@ -112,8 +103,8 @@ brought-spec =
     words-requires
     slice-reshare-prefix-in-range
     slice-aggregate-in-range
-    in-range-requires
-    same-length
+    (λ c κs. search needs)
+    (λ c. search needs)
     returns
-    same-length-2
+    (λ c. search needs)
     returns-2)

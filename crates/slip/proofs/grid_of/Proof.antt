@@ -8,12 +8,6 @@ use native.Mathlib.Omega.{arith}
 use Rattle.slip.proofs.grid_of.Statement.{statement}
 use Rattle.slip.proofs.grid_of.Tie as tie
 
-shared-slice-read-wide : tie.Need-shared-slice-read-wide
-shared-slice-read-wide c = search needs
-
-wide-requires : tie.Need-wide-requires
-wide-requires c κs = search needs
-
 array-borrow-prefix-divisions : tie.Need-array-borrow-prefix-divisions
 array-borrow-prefix-divisions c = omega (arith, c .before .shared-slice-known2 .given 1)
 
@@ -29,16 +23,13 @@ grid-in-requires c κs = (
       ∙ c .before .wide .ensures,
 )
 
-returns : tie.Need-returns
-returns c = search needs
-
 pub grid-of-spec : {M : Type 1} → statement M
 grid-of-spec =
     tie.close
     (tie.spec
-    shared-slice-read-wide
-    wide-requires
+    (λ c. search needs)
+    (λ c κs. search needs)
     array-borrow-prefix-divisions
     slice-aggregate-grid-in
     grid-in-requires
-    returns)
+    (λ c. search needs))

@@ -11,9 +11,6 @@ use borrow.Author.Needs.{needs}
 use Rattle.slip.proofs.is_known.Statement.{statement}
 use Rattle.slip.proofs.is_known.Tie as tie
 
-enum-known-table : tie.Need-enum-known-table
-enum-known-table c = search needs
-
 returns : tie.Need-returns
 returns c = sym (no-game (c .before .before .args .slip .now) (c .before .before .pre .0)
     (c .before .before .args .table) (c .match .keys2) (c .before .before .pre .1))
@@ -25,29 +22,17 @@ shared-slice-read-wide c = omega (
       (c .before .before .before .before .before .pre .0),
 )
 
-wide-requires : tie.Need-wide-requires
-wide-requires c κs = search needs
-
 add-end : tie.Need-add-end
 add-end c =
     let h = head-fits (c .before .before .before .before .before .before .args .slip .now)
     (c .before .before .before .before .before .before .pre .0) in
     search needs
 
-sub-is-game : tie.Need-sub-is-game
-sub-is-game c = search needs
-
-part-is-game-start : tie.Need-part-is-game-start
-part-is-game-start c = search needs
-
 part-is-game-end : tie.Need-part-is-game-end
 part-is-game-end c =
     let h = head-fits (c .before .before .before .before .before .before .args .slip .now)
     (c .before .before .before .before .before .before .pre .0) in
     search needs
-
-is-game-requires : tie.Need-is-game-requires
-is-game-requires c κs = search needs
 
 returns-2 : tie.Need-returns-2
 returns-2 c =
@@ -68,13 +53,13 @@ pub is-known-spec : {M : Type 1} → statement M
 is-known-spec =
     tie.close
     (tie.spec
-    enum-known-table
+    (λ c. search needs)
     returns
     shared-slice-read-wide
-    wide-requires
+    (λ c κs. search needs)
     add-end
-    sub-is-game
-    part-is-game-start
+    (λ c. search needs)
+    (λ c. search needs)
     part-is-game-end
-    is-game-requires
+    (λ c κs. search needs)
     returns-2)

@@ -10,45 +10,15 @@ use borrow.Author.Needs.{needs}
 use Rattle.slip.proofs.labels_of.Statement.{statement}
 use Rattle.slip.proofs.labels_of.Tie as tie
 
-enum-known-table : tie.Need-enum-known-table
-enum-known-table c = search needs
-
-sub-result : tie.Need-sub-result
-sub-result c = search needs
-
-part-result-start : tie.Need-part-result-start
-part-result-start c = search needs
-
-part-result-end : tie.Need-part-result-end
-part-result-end c = search needs
-
 returns : tie.Need-returns
 returns c = sym (not-labels (c .before .before .args .slip .now) (c .before .before .args .reading .table)
     (c .before .match .keys2))
-
-sub-result-2 : tie.Need-sub-result-2
-sub-result-2 c = search needs
-
-part-result-start-2 : tie.Need-part-result-start-2
-part-result-start-2 c = search needs
-
-part-result-end-2 : tie.Need-part-result-end-2
-part-result-end-2 c = search needs
 
 returns-2 : tie.Need-returns-2
 unfolding labelsIn
 returns-2 c = rw (c .before .before .before .table .given .1)
     (sym (drop-of-length-le (c .before .before .before .before .before .args .slip .now)
     {i = c .before .before .before .table .given .0 .0} (omega arith)))
-
-sub-result-3 : tie.Need-sub-result-3
-sub-result-3 c = search needs
-
-part-result-start-3 : tie.Need-part-result-start-3
-part-result-start-3 c = search needs
-
-part-result-end-3 : tie.Need-part-result-end-3
-part-result-end-3 c = search needs
 
 returns-3 : tie.Need-returns-3
 unfolding labelsIn
@@ -66,16 +36,16 @@ pub labels-of-spec : {M : Type 1} → statement M
 labels-of-spec =
     tie.close
     (tie.spec
-    enum-known-table
-    sub-result
-    part-result-start
-    part-result-end
+    (λ c. search needs)
+    (λ c. search needs)
+    (λ c. search needs)
+    (λ c. search needs)
     returns
-    sub-result-2
-    part-result-start-2
-    part-result-end-2
+    (λ c. search needs)
+    (λ c. search needs)
+    (λ c. search needs)
     returns-2
-    sub-result-3
-    part-result-start-3
-    part-result-end-3
+    (λ c. search needs)
+    (λ c. search needs)
+    (λ c. search needs)
     returns-3)

@@ -9,20 +9,11 @@ use borrow.Author.Needs.{needs}
 use Rattle.slip.proofs.losses_of.Statement.{statement}
 use Rattle.slip.proofs.losses_of.Tie as tie
 
-enum-known-table : tie.Need-enum-known-table
-enum-known-table c = search needs
-
 put-losses-requires : tie.Need-put-losses-requires
 put-losses-requires c κs = omega (arith, c .before .before .before .before .before .before .pre .whole)
 
-enum-known-table-2 : tie.Need-enum-known-table-2
-enum-known-table-2 c = search needs
-
 brought-requires : tie.Need-brought-requires
 brought-requires c κs = (c .before .before .before .before .before .before .pre, c .before .before .table2 .given .1)
-
-same-length : tie.Need-same-length
-same-length c = search needs
 
 returns : tie.Need-returns
 returns c =
@@ -33,12 +24,6 @@ returns c =
       ap Count (p .0) ∙ game-count (a .slip .now) (a .reading) (a .room .now) (s .pre) (g .0 .0) (g .1),
       p .1 ∙ rw (game-losses (a .slip .now) (a .reading) (a .room .now) (s .pre) (g .0 .0) (g .1)),
     )
-
-same-length-2 : tie.Need-same-length-2
-same-length-2 c = search needs
-
-returns-2 : tie.Need-returns-2
-returns-2 c = search needs
 
 returns-3 : tie.Need-returns-3
 returns-3 c =
@@ -52,12 +37,12 @@ pub losses-of-spec : {M : Type 1} → statement M
 losses-of-spec =
     tie.close
     (tie.spec
-    enum-known-table
+    (λ c. search needs)
     put-losses-requires
-    enum-known-table-2
+    (λ c. search needs)
     brought-requires
-    same-length
+    (λ c. search needs)
     returns
-    same-length-2
-    returns-2
+    (λ c. search needs)
+    (λ c. search needs)
     returns-3)

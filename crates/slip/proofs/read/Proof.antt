@@ -16,17 +16,8 @@ there : (c : tie.After-known-told)
 there c = head-there (c .before .before .before .before .before .args .slip .now) (c .before .at .given .0 .0)
     (sym (c .before .before .before .head .ensures) ∙ c .before .at .given .1)
 
-head-requires : tie.Need-head-requires
-head-requires c κs = search needs
-
-enum-known-at : tie.Need-enum-known-at
-enum-known-at c = search needs
-
 enum-told : tie.Need-enum-told
 enum-told c = search needs
-
-refused-requires : tie.Need-refused-requires
-refused-requires c κs = search needs
 
 returns : tie.Need-returns
 returns c =
@@ -37,9 +28,6 @@ returns c =
 
 grid-of-requires : tie.Need-grid-of-requires
 grid-of-requires c κs = head-fits (c .before .before .before .before .before .args .slip .now) (there (c) .0)
-
-refused-requires-2 : tie.Need-refused-requires-2
-refused-requires-2 c κs = search needs
 
 returns-2 : tie.Need-returns-2
 returns-2 c =
@@ -63,20 +51,17 @@ read-fields-requires c κs =
       t .1,
     )
 
-returns-3 : tie.Need-returns-3
-returns-3 c = search needs
-
 pub read-spec : {M : Type 1} → statement M
 read-spec =
     tie.close
     (tie.spec
-    head-requires
-    enum-known-at
+    (λ c κs. search needs)
+    (λ c. search needs)
     enum-told
-    refused-requires
+    (λ c κs. search needs)
     returns
     grid-of-requires
-    refused-requires-2
+    (λ c κs. search needs)
     returns-2
     read-fields-requires
-    returns-3)
+    (λ c. search needs))

@@ -18,14 +18,8 @@ use Rattle.slip.proofs.read_fields.Tie as tie
 start-requires : tie.Need-start-requires
 start-requires c κs = (c .before .pre .0, c .before .pre .1 ∙ sym (at-first (c .before .args .slip .now)))
 
-enum-known-field : tie.Need-enum-known-field
-enum-known-field c = search needs
-
 enum-told : tie.Need-enum-told
 enum-told c = search needs
-
-refused-requires : tie.Need-refused-requires
-refused-requires c κs = search needs
 
 returns : tie.Need-returns
 returns c =
@@ -51,15 +45,6 @@ start-ends c =
 
 budget-requires : tie.Need-budget-requires
 budget-requires c κs = (begun c .pre .0, start-ends c .0, start-ends c .1)
-
-enum-known-places : tie.Need-enum-known-places
-enum-known-places c = search needs
-
-enum-told-2 : tie.Need-enum-told-2
-enum-told-2 c = search needs
-
-refused-requires-2 : tie.Need-refused-requires-2
-refused-requires-2 c κs = search needs
 
 returns-2 : tie.Need-returns-2
 returns-2 c =
@@ -87,12 +72,6 @@ budget-ends c =
 table-requires : tie.Need-table-requires
 table-requires c κs = (begun (started c) .pre .0, budget-ends c .1, budget-ends c .2)
 
-enum-told-3 : tie.Need-enum-told-3
-enum-told-3 c = search needs
-
-refused-requires-3 : tie.Need-refused-requires-3
-refused-requires-3 c κs = search needs
-
 returns-3 : tie.Need-returns-3
 returns-3 c =
     let s = begun (started (c .before .before .before .before)) in
@@ -117,9 +96,6 @@ is-known-requires : tie.Need-is-known-requires
 is-known-requires c κs =
     let s = begun (started (budgeted c)) in
     (s .pre .0 .head, c .before .table .ensures ∙ table-is (s .args .slip .now) (exact c))
-
-refused-requires-4 : tie.Need-refused-requires-4
-refused-requires-4 c κs = search needs
 
 returns-4 : tie.Need-returns-4
 returns-4 c =
@@ -150,20 +126,20 @@ read-fields-spec =
     tie.close
     (tie.spec
     start-requires
-    enum-known-field
+    (λ c. search needs)
     enum-told
-    refused-requires
+    (λ c κs. search needs)
     returns
     budget-requires
-    enum-known-places
-    enum-told-2
-    refused-requires-2
+    (λ c. search needs)
+    (λ c. search needs)
+    (λ c κs. search needs)
     returns-2
     table-requires
-    enum-told-3
-    refused-requires-3
+    (λ c. search needs)
+    (λ c κs. search needs)
     returns-3
     is-known-requires
-    refused-requires-4
+    (λ c κs. search needs)
     returns-4
     returns-5)

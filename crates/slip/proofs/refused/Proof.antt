@@ -7,11 +7,8 @@ use Rattle.slip.proofs.refused.Lts as lts
 use Rattle.grid.proofs.Grid.none.Reads as none-reads
 
 -- src/lib.rt
-none-requires : tie.Need-none-requires
-none-requires c κs = search needs
-
 returns : tie.Need-returns
 returns c = rw (c .none .ensures)
 
 pub refused-spec : {M : Type 1} → statement M
-refused-spec = tie.close (tie.spec none-requires returns)
+refused-spec = tie.close (tie.spec (λ c κs. search needs) returns)

@@ -122,9 +122,6 @@ place c =
 look-up-requires : tie.Need-look-up-requires Inv-loop μ-loop
 look-up-requires c κs = ((begun c .pre .0 .readable, turn c .loop .inv .1 .inMarks), can-look (place c))
 
-enum-known-looked : tie.Need-enum-known-looked Inv-loop μ-loop
-enum-known-looked c = search needs
-
 sub-t37 : tie.Need-sub-t37 Inv-loop μ-loop
 sub-t37 c = omega (arith, turn (c .before .before .before .before .before) .loop .inv .0 .low)
 
@@ -277,9 +274,6 @@ surveyed c whole =
           (met c);
     }
 
-enum-told-2 : tie.Need-enum-told-2 Inv-loop μ-loop
-enum-told-2 c = search needs
-
 ended-requires : tie.Need-ended-requires Inv-loop μ-loop
 ended-requires c κs = let P = here (c .before .before) in (P .more, P .walking .low)
 
@@ -298,9 +292,6 @@ returns-2 c =
           (onward P M)),
     )
 
-enum-told-3 : tie.Need-enum-told-3 Inv-loop μ-loop
-enum-told-3 c = search needs
-
 ended-requires-2 : tie.Need-ended-requires-2 Inv-loop μ-loop
 ended-requires-2 c κs = let P = here (c .before .before .before) in (P .more, P .walking .low)
 
@@ -318,9 +309,6 @@ returns-3 c =
       surveyed m (last-facet (P .g) (P .start) (P .table) (P .ok) (spent P) _ _ (P .walking .here .1)
           (onward P M)),
     )
-
-enum-known-outcome : tie.Need-enum-known-outcome Inv-loop μ-loop
-enum-known-outcome c = search needs
 
 on-requires : tie.Need-on-requires Inv-loop μ-loop
 on-requires c κs =
@@ -372,7 +360,7 @@ pass-spec =
     begin-requires
     loop-holds
     look-up-requires
-    enum-known-looked
+    (λ c. search needs)
     sub-t37
     same-length
     returns
@@ -380,15 +368,15 @@ pass-spec =
     came-in-requires
     meet-requires
     step-requires
-    enum-told-2
+    (λ c. search needs)
     ended-requires
     same-length-2
     returns-2
-    enum-told-3
+    (λ c. search needs)
     ended-requires-2
     same-length-3
     returns-3
-    enum-known-outcome
+    (λ c. search needs)
     on-requires
     loop-less
     loop-again

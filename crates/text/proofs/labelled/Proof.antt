@@ -5,15 +5,6 @@ use Rattle.text.proofs.Parts.{part-join}
 use Rattle.text.proofs.labelled.Statement.{statement}
 use Rattle.text.proofs.labelled.Tie as tie
 
-text-requires : tie.Need-text-requires
-text-requires c κs = search needs
-
-spaced-requires : tie.Need-spaced-requires
-spaced-requires c κs = search needs
-
-byte-requires : tie.Need-byte-requires
-byte-requires c κs = search needs
-
 returns : tie.Need-returns
 returns c =
     let first = c .before .before .before .before .text .ensures in (
@@ -23,4 +14,4 @@ returns c =
     )
 
 pub labelled-spec : {M : Type 1} → statement M
-labelled-spec = tie.close (tie.spec text-requires spaced-requires byte-requires returns)
+labelled-spec = tie.close (tie.spec (λ c κs. search needs) (λ c κs. search needs) (λ c κs. search needs) returns)

@@ -6,9 +6,6 @@ use Rattle.text.proofs.Parts.{part-join}
 use Rattle.text.proofs.spaced.Statement.{statement}
 use Rattle.text.proofs.spaced.Tie as tie
 
-byte-requires : tie.Need-byte-requires
-byte-requires c κs = search needs
-
 decimal-requires : tie.Need-decimal-requires
 decimal-requires c κs = omega (arith, c .before .byte .ensures .behind)
 
@@ -19,4 +16,4 @@ returns c =
     (part-join first (c .decimal .ensures .0), omega (arith, first .behind))
 
 pub spaced-spec : {M : Type 1} → statement M
-spaced-spec = tie.close (tie.spec byte-requires decimal-requires returns)
+spaced-spec = tie.close (tie.spec (λ c κs. search needs) decimal-requires returns)

@@ -215,9 +215,6 @@ returns c start a H =
     (nowhere (v .1) (bytesOn (at m)) (at m .before .before .loop .s .count) (counted (at m) (v .1)) (gone m)
     (leads m _ (c .enum-told .given .1) (v .1)) (λ f q. place-ends _ f _ q))
 
-enum-told-2 : tie.Need-enum-told-2 Inv-loop μ-loop
-enum-told-2 c = search needs
-
 returns-2 : tie.Need-returns-2 Inv-loop μ-loop
 returns-2 c start a H =
     let m = c .before .before .before in
@@ -225,9 +222,6 @@ returns-2 c start a H =
     ends (at m) start a H
     (nowhere (v .1) (bytesOn (at m)) (at m .before .before .loop .s .count) (counted (at m) (v .1)) (gone m)
     (leads m _ (c .enum-told2 .given .1) (v .1)) (λ f q. facet-ends _ f _ q))
-
-enum-known-outcome : tie.Need-enum-known-outcome Inv-loop μ-loop
-enum-known-outcome c = search needs
 
 -- a place is reached
 abbrev Gone : Type 0
@@ -443,9 +437,9 @@ follow-spec =
     sub-left
     enum-told
     returns
-    enum-told-2
+    (λ c. search needs)
     returns-2
-    enum-known-outcome
+    (λ c. search needs)
     arrive-requires
     returns-3
     low-bit-requires

@@ -4,16 +4,10 @@ use borrow.Author.Needs.{needs}
 use Rattle.trail_reader_exports.proofs.leveretplate_read_trail.Statement.{statement}
 use Rattle.trail_reader_exports.proofs.leveretplate_read_trail.Tie as tie
 
-read-requires : tie.Need-read-requires
-read-requires c κs = search needs
-
-put-place-requires : tie.Need-put-place-requires
-put-place-requires c κs = search needs
-
 returns : tie.Need-returns
 returns c =
     let found = c .before .before .before .before .read .ensures in
     rw (sym (found .0), sym (found .1)) (c .put-place .ensures)
 
 pub leveretplate-read-trail-spec : {M : Type 1} → statement M
-leveretplate-read-trail-spec = tie.close (tie.spec read-requires put-place-requires returns)
+leveretplate-read-trail-spec = tie.close (tie.spec (λ c κs. search needs) (λ c κs. search needs) returns)

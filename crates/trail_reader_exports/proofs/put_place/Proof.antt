@@ -19,32 +19,14 @@ four x y z u (a ∷ []) h = absurd (omega arith)
 four x y z u (a ∷ b ∷ []) h = absurd (omega arith)
 four x y z u (a ∷ b ∷ c ∷ []) h = absurd (omega arith)
 
-enum-known-found : tie.Need-enum-known-found
-enum-known-found c = search needs
-
-enum-known-found-2 : tie.Need-enum-known-found-2
-enum-known-found-2 c = search needs
-
-slice-write-place : tie.Need-slice-write-place
-slice-write-place c = search needs
-
-cast-place : tie.Need-cast-place
-cast-place c = search needs
-
 slice-write-place-2 : tie.Need-slice-write-place-2
 slice-write-place-2 c = simp length-set (omega arith)
-
-cast-place-2 : tie.Need-cast-place-2
-cast-place-2 c = search needs
 
 slice-write-place-3 : tie.Need-slice-write-place-3
 slice-write-place-3 c = simp length-set (omega arith)
 
 slice-write-place-4 : tie.Need-slice-write-place-4
 slice-write-place-4 c = simp length-set (omega arith)
-
-same-length : tie.Need-same-length
-same-length c = search needs
 
 returns : tie.Need-returns
 returns c = rw (c .before .found .given .1) (refl, (refl, sym (front-none _)))
@@ -56,14 +38,14 @@ pub put-place-spec : {M : Type 1} → statement M
 put-place-spec =
     tie.close
     (tie.spec
-    enum-known-found
-    enum-known-found-2
-    slice-write-place
-    cast-place
+    (λ c. search needs)
+    (λ c. search needs)
+    (λ c. search needs)
+    (λ c. search needs)
     slice-write-place-2
-    cast-place-2
+    (λ c. search needs)
     slice-write-place-3
     slice-write-place-4
     returns
-    same-length
+    (λ c. search needs)
     returns-2)

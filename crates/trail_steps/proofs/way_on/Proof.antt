@@ -22,9 +22,6 @@ returns c =
 shared-slice-read-wide : tie.Need-shared-slice-read-wide
 shared-slice-read-wide c = omega (arith, c .before .if1 .left)
 
-wide-requires : tie.Need-wide-requires
-wide-requires c κs = search needs
-
 mul-from : tie.Need-mul-from
 mul-from c = omega (arith, c .before .wide .ensures .1)
 
@@ -76,9 +73,6 @@ add-wide c = omega (arith, c .if4 .left)
 shared-slice-read-wide-2 : tie.Need-shared-slice-read-wide-2
 shared-slice-read-wide-2 c = omega (arith, c .before .if4 .left)
 
-wide-requires-2 : tie.Need-wide-requires-2
-wide-requires-2 c κs = search needs
-
 joining-requires : tie.Need-joining-requires
 joining-requires c κs = c .before .before .before .before .before .before .before .before .pre .1 .1
 
@@ -100,7 +94,7 @@ way-on-spec =
     sub-room
     returns
     shared-slice-read-wide
-    wide-requires
+    (λ c κs. search needs)
     mul-from
     add-from
     add-if3
@@ -112,6 +106,6 @@ way-on-spec =
     returns-4
     add-wide
     shared-slice-read-wide-2
-    wide-requires-2
+    (λ c κs. search needs)
     joining-requires
     returns-5)

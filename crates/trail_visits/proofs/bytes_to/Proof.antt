@@ -12,11 +12,8 @@ returns c come gone =
     sym (ap length (same-record (a .s .t) (a .s .u) (a .next .t) (a .next .u) come gone
     (c .before .before .pre (c .if1 .taken))))
 
-length-of-requires : tie.Need-length-of-requires
-length-of-requires c κs = search needs
-
 returns-2 : tie.Need-returns-2
 returns-2 c = c .length-of .ensures
 
 pub bytes-to-spec : {M : Type 1} → statement M
-bytes-to-spec = tie.close (tie.spec returns length-of-requires returns-2)
+bytes-to-spec = tie.close (tie.spec returns (λ c κs. search needs) returns-2)

@@ -46,9 +46,6 @@ put-requires c κs =
       R .eight,
     )
 
-same-length : tie.Need-same-length
-same-length c = search needs
-
 returns : tie.Need-returns
 returns c =
     let w = c .before .before .before in
@@ -63,9 +60,6 @@ put-requires-2 c κs =
     let R = c .record-here .ensures in
     (omega (arith, R .long, c .before .before .before .before .pre .room), rw (R .long) (R .sized), R .eight)
 
-same-length-2 : tie.Need-same-length-2
-same-length-2 c = search needs
-
 returns-2 : tie.Need-returns-2
 returns-2 c =
     let a = c .before .before .before .before .before .before .before .args in
@@ -78,9 +72,9 @@ put-here-spec =
     position-at-requires
     kept-record-requires
     put-requires
-    same-length
+    (λ c. search needs)
     returns
     record-here-requires
     put-requires-2
-    same-length-2
+    (λ c. search needs)
     returns-2)

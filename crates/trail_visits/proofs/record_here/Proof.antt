@@ -4,20 +4,11 @@ use borrow.Author.Tests.{eq-eqb, ne-eqb}
 use Rattle.trail_visits.proofs.record_here.Statement.{statement}
 use Rattle.trail_visits.proofs.record_here.Tie as tie
 
-position-at-requires : tie.Need-position-at-requires
-position-at-requires c κs = search needs
-
-first-record-requires : tie.Need-first-record-requires
-first-record-requires c κs = search needs
-
 returns : tie.Need-returns
 returns c = rw (
   eq-eqb (c .before .before .before .args .at) 0 (c .before .if1 .taken),
   ← c .before .before .position-at .ensures .0,
 ) (c .first-record .ensures)
-
-record-of-requires : tie.Need-record-of-requires
-record-of-requires c κs = search needs
 
 returns-2 : tie.Need-returns-2
 returns-2 c = rw (
@@ -28,4 +19,4 @@ returns-2 c = rw (
 pub record-here-spec : {M : Type 1} → statement M
 record-here-spec =
     tie.close
-    (tie.spec position-at-requires first-record-requires returns record-of-requires returns-2)
+    (tie.spec (λ c κs. search needs) (λ c κs. search needs) returns (λ c κs. search needs) returns-2)

@@ -33,9 +33,6 @@ gone-by-requires c κs =
           (sym (c .way-here .ensures) ∙ e),
     )
 
-same-length : tie.Need-same-length
-same-length c = search needs
-
 returns-2 : tie.Need-returns-2
 returns-2 c =
     let a = c .before .before .before .before .before .before .before .before .args in
@@ -46,4 +43,4 @@ returns-2 c =
     )
 
 pub tell-spec : {M : Type 1} → statement M
-tell-spec = tie.close (tie.spec returns put-here-requires way-here-requires gone-by-requires same-length returns-2)
+tell-spec = tie.close (tie.spec returns put-here-requires way-here-requires gone-by-requires (λ c. search needs) returns-2)

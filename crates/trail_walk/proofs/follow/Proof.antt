@@ -127,9 +127,6 @@ place c =
 look-up-requires : tie.Need-look-up-requires Inv-loop μ-loop
 look-up-requires c κs = ((begun c .pre .0 .readable, turn c .loop .inv .1 .inMarks), can-look (place c))
 
-enum-known-looked : tie.Need-enum-known-looked Inv-loop μ-loop
-enum-known-looked c = search needs
-
 sub-t35 : tie.Need-sub-t35 Inv-loop μ-loop
 sub-t35 c = omega (arith, turn (c .before .before .before .before .before) .loop .inv .0 .low)
 
@@ -278,9 +275,6 @@ whole c last =
       put c ∙ ap (λ (x : List ℕ). cond (a .writes) (front x (a .trail .now)) (a .trail .now)) e,
     )
 
-enum-told-2 : tie.Need-enum-told-2 Inv-loop μ-loop
-enum-told-2 c = search needs
-
 ended-requires : tie.Need-ended-requires Inv-loop μ-loop
 ended-requires c κs = let P = here (c .before .before) in (P .more, P .walking .low)
 
@@ -294,9 +288,6 @@ returns-2 c =
     let N = place-ends (here m) (steps m _ (o .1)) in
     rw (c .ended .ensures, o .1) (N, whole m (ended-whole (problem m) (here m .budget) (N .0 .is)))
 
-enum-told-3 : tie.Need-enum-told-3 Inv-loop μ-loop
-enum-told-3 c = search needs
-
 ended-requires-2 : tie.Need-ended-requires-2 Inv-loop μ-loop
 ended-requires-2 c κs = let P = here (c .before .before .before) in (P .more, P .walking .low)
 
@@ -309,9 +300,6 @@ returns-3 c =
     let o = c .before .enum-told3 .given in
     let N = facet-ends (here m) (steps m _ (o .1)) in
     rw (c .ended2 .ensures, o .1) (N, whole m (ended-whole (problem m) (here m .budget) (N .0 .is)))
-
-enum-known-outcome : tie.Need-enum-known-outcome Inv-loop μ-loop
-enum-known-outcome c = search needs
 
 -- the walk goes on
 abbrev Gone : Type 0
@@ -452,22 +440,22 @@ follow-spec =
     begin-requires
     loop-holds
     look-up-requires
-    enum-known-looked
+    (λ c. search needs)
     sub-t35
     same-length
     returns
     enum-told
     tell-requires
     step-requires
-    enum-told-2
+    (λ c. search needs)
     ended-requires
     same-length-2
     returns-2
-    enum-told-3
+    (λ c. search needs)
     ended-requires-2
     same-length-3
     returns-3
-    enum-known-outcome
+    (λ c. search needs)
     bytes-to-requires
     add-end
     on-requires

@@ -3,18 +3,6 @@ use borrow.Author.Needs.{needs}
 use Rattle.trail_writer_exports.proofs.without_bytes.Statement.{statement}
 use Rattle.trail_writer_exports.proofs.without_bytes.Tie as tie
 
-enum-known-answer : tie.Need-enum-known-answer
-enum-known-answer c = search needs
-
-enum-known-answer-2 : tie.Need-enum-known-answer-2
-enum-known-answer-2 c = search needs
-
-enum-known-answer-3 : tie.Need-enum-known-answer-3
-enum-known-answer-3 c = search needs
-
-enum-known-answer-4 : tie.Need-enum-known-answer-4
-enum-known-answer-4 c = search needs
-
 returns : tie.Need-returns
 returns c = rw (c .before .answer .given .1)
 
@@ -31,10 +19,10 @@ pub without-bytes-spec : {M : Type 1} → statement M
 without-bytes-spec =
     tie.close
     (tie.spec
-    enum-known-answer
-    enum-known-answer-2
-    enum-known-answer-3
-    enum-known-answer-4
+    (λ c. search needs)
+    (λ c. search needs)
+    (λ c. search needs)
+    (λ c. search needs)
     returns
     returns-2
     returns-3

@@ -6,9 +6,6 @@ use Rattle.vertices_met.specs.declared.Came.the-variants.{At}
 use Rattle.vertices_met.proofs.came_in.Statement.{statement}
 use Rattle.vertices_met.proofs.came_in.Tie as tie
 
-position-at-requires : tie.Need-position-at-requires
-position-at-requires c κs = search needs
-
 returns : tie.Need-returns
 returns c =
     rw (lt-ltb (c .before .before .before .args .s .rule) 6 (c .before .if1 .taken))
@@ -18,4 +15,4 @@ returns-2 : tie.Need-returns-2
 returns-2 c = rw (le-ltb (c .before .before .args .s .rule) 6 (c .if1 .left))
 
 pub came-in-spec : {M : Type 1} → statement M
-came-in-spec = tie.close (tie.spec position-at-requires returns returns-2)
+came-in-spec = tie.close (tie.spec (λ c κs. search needs) returns returns-2)

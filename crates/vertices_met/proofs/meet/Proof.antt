@@ -6,9 +6,6 @@ use borrow.Author.Needs.{needs}
 use Rattle.vertices_met.proofs.meet.Statement.{statement}
 use Rattle.vertices_met.proofs.meet.Tie as tie
 
-enum-known-came : tie.Need-enum-known-came
-enum-known-came c = search needs
-
 enum-told : tie.Need-enum-told
 enum-told c = search needs
 
@@ -46,9 +43,6 @@ note-requires c κs =
           at l)),
     )
 
-same-length : tie.Need-same-length
-same-length c = search needs
-
 returns-3 : tie.Need-returns-3
 returns-3 c g C =
     let z = eq-eqb _ _ (c .before .before .before .before .before .before .if1 .left) in
@@ -63,12 +57,12 @@ pub meet-spec : {M : Type 1} → statement M
 meet-spec =
     tie.close
     (tie.spec
-    enum-known-came
+    (λ c. search needs)
     enum-told
     returns
     element-copy-out-if1
     returns-2
     away-requires
     note-requires
-    same-length
+    (λ c. search needs)
     returns-3)

@@ -10,41 +10,17 @@ Inv-loop walks k₀ t3 k = k ≤ walks
 abbrev μ-loop : tie.MeasureT-loop
 μ-loop walks k₀ t3 k = walks - k
 
-cases-requires : tie.Need-cases-requires Inv-loop μ-loop
-cases-requires c κs = search needs
-
-loop-holds : tie.Need-loop-holds Inv-loop μ-loop
-loop-holds c = search needs
-
-slice-aggregate-next-case : tie.Need-slice-aggregate-next-case Inv-loop μ-loop
-slice-aggregate-next-case c = search needs
-
-next-case-requires : tie.Need-next-case-requires Inv-loop μ-loop
-next-case-requires c κs = search needs
-
-print-next-requires : tie.Need-print-next-requires Inv-loop μ-loop
-print-next-requires c κs = search needs
-
-loop-less : tie.Need-loop-less Inv-loop μ-loop
-loop-less c = search needs
-
-loop-again : tie.Need-loop-again Inv-loop μ-loop
-loop-again c = search needs
-
-returns : tie.Need-returns Inv-loop μ-loop
-returns c = search needs
-
 pub main-spec : {M : Type 1} → statement M
 main-spec =
     tie.close
     (tie.spec
     Inv-loop
     μ-loop
-    cases-requires
-    loop-holds
-    slice-aggregate-next-case
-    next-case-requires
-    print-next-requires
-    loop-less
-    loop-again
-    returns)
+    (λ c κs. search needs)
+    (λ c. search needs)
+    (λ c. search needs)
+    (λ c κs. search needs)
+    (λ c κs. search needs)
+    (λ c. search needs)
+    (λ c. search needs)
+    (λ c. search needs))

@@ -9,29 +9,11 @@ Inv-loop w₀ left₀ w left = Unit {0}
 abbrev μ-loop : tie.MeasureT-loop
 μ-loop w₀ left₀ w left = left
 
-read-walk-requires : tie.Need-read-walk-requires Inv-loop μ-loop
-read-walk-requires c κs = search needs
-
-word-requires : tie.Need-word-requires Inv-loop μ-loop
-word-requires c κs = search needs
-
 loop-holds : tie.Need-loop-holds Inv-loop μ-loop
 loop-holds c = tt
 
-next-requires : tie.Need-next-requires Inv-loop μ-loop
-next-requires c κs = search needs
-
-sub-left : tie.Need-sub-left Inv-loop μ-loop
-sub-left c = search needs
-
-loop-less : tie.Need-loop-less Inv-loop μ-loop
-loop-less c = search needs
-
 loop-again : tie.Need-loop-again Inv-loop μ-loop
 loop-again c = tt
-
-returns : tie.Need-returns Inv-loop μ-loop
-returns c = search needs
 
 pub print-next-spec : {M : Type 1} → statement M
 print-next-spec =
@@ -39,11 +21,11 @@ print-next-spec =
     (tie.spec
     Inv-loop
     μ-loop
-    read-walk-requires
-    word-requires
+    (λ c κs. search needs)
+    (λ c κs. search needs)
     loop-holds
-    next-requires
-    sub-left
-    loop-less
+    (λ c κs. search needs)
+    (λ c. search needs)
+    (λ c. search needs)
     loop-again
-    returns)
+    (λ c. search needs))

@@ -30,9 +30,6 @@ loop-holds c = (omega arith, (λ j l. absurd (omega arith)), c .pre .0, c .pre .
 element-copy-out-wide : tie.Need-element-copy-out-wide Inv-loop μ-loop
 element-copy-out-wide c = omega arith
 
-wide-requires : tie.Need-wide-requires Inv-loop μ-loop
-wide-requires c κs = search needs
-
 label-at-requires : tie.Need-label-at-requires Inv-loop μ-loop
 label-at-requires c κs = let l = c .before .before .before .loop in
     (l .inv .2, omega (arith, c .before .before .loop-test .taken), l .inv .3)
@@ -80,7 +77,7 @@ carries-spec =
     μ-loop
     loop-holds
     element-copy-out-wide
-    wide-requires
+    (λ c κs. search needs)
     label-at-requires
     returns
     add-k

@@ -10,18 +10,6 @@ returns : tie.Need-returns
 returns c = let s = c .before in let a = s .args in
     label-behind (a .marks .now) (a .n) (s .pre .0) (s .pre .2) (a .k) (c .if1 .taken) (s .pre .1)
 
-mul-label-in : tie.Need-mul-label-in
-mul-label-in c = search needs
-
-element-copy-out-label-in : tie.Need-element-copy-out-label-in
-element-copy-out-label-in c = search needs
-
-label-in-requires : tie.Need-label-in-requires
-label-in-requires c κs = search needs
-
-wide32-requires : tie.Need-wide32-requires
-wide32-requires c κs = search needs
-
 returns-2 : tie.Need-returns-2
 returns-2 c = let s = c .before .before .before .before in let a = s .args in
     c .wide32 .ensures ∙ c .before .label-in .ensures ∙ label-front (a .marks .now) (a .n) (s .pre .0) (s .pre .2)
@@ -32,8 +20,8 @@ label-at-spec =
     tie.close
     (tie.spec
     returns
-    mul-label-in
-    element-copy-out-label-in
-    label-in-requires
-    wide32-requires
+    (λ c. search needs)
+    (λ c. search needs)
+    (λ c κs. search needs)
+    (λ c κs. search needs)
     returns-2)

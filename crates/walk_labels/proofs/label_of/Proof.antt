@@ -5,14 +5,8 @@ use native.Mathlib.Omega.{arith}
 use Rattle.walk_labels.proofs.label_of.Statement.{statement}
 use Rattle.walk_labels.proofs.label_of.Tie as tie
 
-element-copy-out-result : tie.Need-element-copy-out-result
-element-copy-out-result c = search needs
-
 returns : tie.Need-returns
 returns c = let a = c .before .before .before .args in rw (le-leb (a .i) (a .n) (c .before .if1 .taken))
-
-read-at-requires : tie.Need-read-at-requires
-read-at-requires c κs = search needs
 
 returns-2 : tie.Need-returns-2
 returns-2 c =
@@ -21,4 +15,4 @@ returns-2 c =
 
 pub label-of-spec : {M : Type 1} → statement M
 label-of-spec =
-    tie.close (tie.spec element-copy-out-result returns read-at-requires returns-2)
+    tie.close (tie.spec (λ c. search needs) returns (λ c κs. search needs) returns-2)

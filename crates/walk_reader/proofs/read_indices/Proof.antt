@@ -13,12 +13,6 @@ Inv-loop list₀ i₀ list i = length list ≡ length list₀
 abbrev μ-loop : tie.MeasureT-loop
 μ-loop list₀ i₀ list i = length list₀ - i
 
-loop-holds : tie.Need-loop-holds Inv-loop μ-loop
-loop-holds c = search needs
-
-word-requires : tie.Need-word-requires Inv-loop μ-loop
-word-requires c κs = search needs
-
 cast-list : tie.Need-cast-list Inv-loop μ-loop
 cast-list c = omega arith
 
@@ -34,28 +28,19 @@ add-i c = omega arith
 loop-less : tie.Need-loop-less Inv-loop μ-loop
 loop-less c = omega arith
 
-loop-again : tie.Need-loop-again Inv-loop μ-loop
-loop-again c = search needs
-
-same-length : tie.Need-same-length Inv-loop μ-loop
-same-length c = search needs
-
-returns : tie.Need-returns Inv-loop μ-loop
-returns c = search needs
-
 pub read-indices-spec : {M : Type 1} → statement M
 read-indices-spec =
     tie.close
     (tie.spec
     Inv-loop
     μ-loop
-    loop-holds
-    word-requires
+    (λ c. search needs)
+    (λ c κs. search needs)
     cast-list
     mul-list
     slice-write-list
     add-i
     loop-less
-    loop-again
-    same-length
-    returns)
+    (λ c. search needs)
+    (λ c. search needs)
+    (λ c. search needs))

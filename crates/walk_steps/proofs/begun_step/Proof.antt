@@ -11,12 +11,6 @@ use Rattle.walk_views.specs.declared.Begun.{Begun}
 use Rattle.walk_steps.proofs.begun_step.Statement.{statement}
 use Rattle.walk_steps.proofs.begun_step.Tie as tie
 
-at-start-requires : tie.Need-at-start-requires
-at-start-requires c κs = search needs
-
-unanswered-requires : tie.Need-unanswered-requires
-unanswered-requires c κs = search needs
-
 returns : tie.Need-returns
 unfolding begunStep
 returns c = let s = c .before .before .before .before .before .before .before .before .args .s .walk in
@@ -24,9 +18,6 @@ returns c = let s = c .before .before .before .before .before .before .before .b
     → Step = λ x. unansweredStep (cond (eqb (x .code) 0) (x .walk) s) (x .code) 0 (replicate 256 0) in
     c .unanswered .ensures ∙ _∙_ {b = F (b .result)} (rw (ne-eqb (b .result .code) 0 (c .before .before .if1 .taken)))
     (ap F (b .ensures))
-
-unanswered-requires-2 : tie.Need-unanswered-requires-2
-unanswered-requires-2 c κs = search needs
 
 returns-2 : tie.Need-returns-2
 unfolding begunStep
@@ -38,4 +29,4 @@ returns-2 c = let s = c .before .before .before .before .before .before .before 
 pub begun-step-spec : {M : Type 1} → statement M
 begun-step-spec =
     tie.close
-    (tie.spec at-start-requires unanswered-requires returns unanswered-requires-2 returns-2)
+    (tie.spec (λ c κs. search needs) (λ c κs. search needs) returns (λ c κs. search needs) returns-2)

@@ -5,18 +5,9 @@ use Rattle.walk_steps.specs.Steps.{movedStep}
 use Rattle.walk_steps.proofs.moved_step.Statement.{statement}
 use Rattle.walk_steps.proofs.moved_step.Tie as tie
 
-moved-requires : tie.Need-moved-requires
-moved-requires c κs = search needs
-
-unchanged-requires : tie.Need-unchanged-requires
-unchanged-requires c κs = search needs
-
-step-of-requires : tie.Need-step-of-requires
-step-of-requires c κs = search needs
-
 returns : tie.Need-returns
 unfolding movedStep
 returns c = c .step-of .ensures ∙ rw (c .before .before .before .before .moved .ensures, c .before .unchanged .ensures)
 
 pub moved-step-spec : {M : Type 1} → statement M
-moved-step-spec = tie.close (tie.spec moved-requires unchanged-requires step-of-requires returns)
+moved-step-spec = tie.close (tie.spec (λ c κs. search needs) (λ c κs. search needs) (λ c κs. search needs) returns)

@@ -5,15 +5,9 @@ use Rattle.walk_steps.specs.Steps.{pointedStep}
 use Rattle.walk_steps.proofs.pointed_step.Statement.{statement}
 use Rattle.walk_steps.proofs.pointed_step.Tie as tie
 
-points-requires : tie.Need-points-requires
-points-requires c κs = search needs
-
-unanswered-requires : tie.Need-unanswered-requires
-unanswered-requires c κs = search needs
-
 returns : tie.Need-returns
 unfolding pointedStep
 returns c = c .unanswered .ensures ∙ rw (c .before .before .points .ensures)
 
 pub pointed-step-spec : {M : Type 1} → statement M
-pointed-step-spec = tie.close (tie.spec points-requires unanswered-requires returns)
+pointed-step-spec = tie.close (tie.spec (λ c κs. search needs) (λ c κs. search needs) returns)

@@ -5,15 +5,9 @@ use Rattle.walk_steps.specs.Steps.{shownStep}
 use Rattle.walk_steps.proofs.shown_step.Statement.{statement}
 use Rattle.walk_steps.proofs.shown_step.Tie as tie
 
-preview-requires : tie.Need-preview-requires
-preview-requires c κs = search needs
-
-step-of-requires : tie.Need-step-of-requires
-step-of-requires c κs = search needs
-
 returns : tie.Need-returns
 unfolding shownStep
 returns c = c .step-of .ensures ∙ rw (c .before .before .before .preview .ensures)
 
 pub shown-step-spec : {M : Type 1} → statement M
-shown-step-spec = tie.close (tie.spec preview-requires step-of-requires returns)
+shown-step-spec = tie.close (tie.spec (λ c κs. search needs) (λ c κs. search needs) returns)

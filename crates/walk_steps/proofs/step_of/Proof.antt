@@ -6,21 +6,6 @@ use Rattle.walk_ways.specs.declared.Answer.{Answer}
 use Rattle.walk_steps.proofs.step_of.Statement.{statement}
 use Rattle.walk_steps.proofs.step_of.Tie as tie
 
-enum-known-answer : tie.Need-enum-known-answer
-enum-known-answer c = search needs
-
-unanswered-requires : tie.Need-unanswered-requires
-unanswered-requires c κs = search needs
-
-enum-known-answer-2 : tie.Need-enum-known-answer-2
-enum-known-answer-2 c = search needs
-
-kind-number-requires : tie.Need-kind-number-requires
-kind-number-requires c κs = search needs
-
-enum-known-answer-3 : tie.Need-enum-known-answer-3
-enum-known-answer-3 c = search needs
-
 returns : tie.Need-returns
 returns c = c .unanswered .ensures ∙ (let a = c .before .before .before .before .before .args in
     sym (ap (λ (x : Answer). stepOf (a .walk) x (a .simplex) (a .change)) (c .before .before .answer .given .1)))
@@ -37,11 +22,11 @@ pub step-of-spec : {M : Type 1} → statement M
 step-of-spec =
     tie.close
     (tie.spec
-    enum-known-answer
-    unanswered-requires
-    enum-known-answer-2
-    kind-number-requires
-    enum-known-answer-3
+    (λ c. search needs)
+    (λ c κs. search needs)
+    (λ c. search needs)
+    (λ c κs. search needs)
+    (λ c. search needs)
     returns
     returns-2
     returns-3)

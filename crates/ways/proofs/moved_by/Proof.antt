@@ -8,18 +8,12 @@ use Rattle.moves.specs.Held.{stateOf}
 use Rattle.ways.proofs.moved_by.Statement.{statement}
 use Rattle.ways.proofs.moved_by.Tie as tie
 
-enum-known-way : tie.Need-enum-known-way
-enum-known-way c = search needs
-
 leave-requires : tie.Need-leave-requires
 leave-requires c κs = (
   c .before .before .before .before .before .before .before .pre .0,
   c .before .before .before .before .before .before .before .pre .1 .leaves _
       (c .before .before .before .before .before .way .given .1),
 )
-
-enum-known-way-2 : tie.Need-enum-known-way-2
-enum-known-way-2 c = search needs
 
 grow-requires : tie.Need-grow-requires
 grow-requires c κs =
@@ -59,9 +53,9 @@ pub moved-by-spec : {M : Type 1} → statement M
 moved-by-spec =
     tie.close
     (tie.spec
-    enum-known-way
+    (λ c. search needs)
     leave-requires
-    enum-known-way-2
+    (λ c. search needs)
     grow-requires
     enum-told
     returns

@@ -18,18 +18,6 @@ use Rattle.ways.proofs.Here.{here-joins, here-leaves}
 use Rattle.ways.proofs.way_here.Statement.{statement}
 use Rattle.ways.proofs.way_here.Tie as tie
 
-mul-label-in : tie.Need-mul-label-in
-mul-label-in c = search needs
-
-element-copy-out-label-in : tie.Need-element-copy-out-label-in
-element-copy-out-label-in c = search needs
-
-label-in-requires : tie.Need-label-in-requires
-label-in-requires c κs = search needs
-
-wide32-requires : tie.Need-wide32-requires
-wide32-requires c κs = search needs
-
 -- where a label has come in: the state, its label, and that this names an index
 abbrev here : tie.After-wide32 → State
 here c =
@@ -61,9 +49,6 @@ returns c =
     ap (λ (x : ℕ). x - 1) (w .wide32 .ensures ∙ label-is w) in
     here-joins (here w) _ (w .before .before .before .if1 .taken, rw (← e) out, e)
 
-add-find : tie.Need-add-find
-add-find c = search needs
-
 find-requires : tie.Need-find-requires
 find-requires c κs = (
   omega (arith, c .before .before .before .before .before .before .before .before .pre .0 .few),
@@ -89,14 +74,14 @@ pub way-here-spec : {M : Type 1} → statement M
 way-here-spec =
     tie.close
     (tie.spec
-    mul-label-in
-    element-copy-out-label-in
-    label-in-requires
-    wide32-requires
+    (λ c. search needs)
+    (λ c. search needs)
+    (λ c κs. search needs)
+    (λ c κs. search needs)
     sub-h
     has-requires
     returns
-    add-find
+    (λ c. search needs)
     find-requires
     returns-2
     returns-3)

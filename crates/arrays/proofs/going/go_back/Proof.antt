@@ -4,21 +4,6 @@ use borrow.Author.Needs.{needs}
 use Rattle.arrays.proofs.going.go_back.Statement.{statement}
 use Rattle.arrays.proofs.going.go_back.Tie as tie
 
-shift-requires : tie.Need-shift-requires
-shift-requires c κs = search needs
-
-lower-requires : tie.Need-lower-requires
-lower-requires c κs = search needs
-
-rotate-right-requires : tie.Need-rotate-right-requires
-rotate-right-requires c κs = search needs
-
-add-rotate-right : tie.Need-add-rotate-right
-add-rotate-right c = search needs
-
-rotate-right-requires-2 : tie.Need-rotate-right-requires-2
-rotate-right-requires-2 c κs = search needs
-
 returns : tie.Need-returns
 returns c =
     record {
@@ -33,9 +18,9 @@ pub go-back-spec : {M : Type 1} → statement M
 go-back-spec =
     tie.close
     (tie.spec
-    shift-requires
-    lower-requires
-    rotate-right-requires
-    add-rotate-right
-    rotate-right-requires-2
+    (λ c κs. search needs)
+    (λ c κs. search needs)
+    (λ c κs. search needs)
+    (λ c. search needs)
+    (λ c κs. search needs)
     returns)

@@ -4,21 +4,6 @@ use borrow.Author.Needs.{needs}
 use Rattle.arrays.proofs.going.go_forward.Statement.{statement}
 use Rattle.arrays.proofs.going.go_forward.Tie as tie
 
-shift-requires : tie.Need-shift-requires
-shift-requires c κs = search needs
-
-raise-requires : tie.Need-raise-requires
-raise-requires c κs = search needs
-
-rotate-left-requires : tie.Need-rotate-left-requires
-rotate-left-requires c κs = search needs
-
-add-rotate-left : tie.Need-add-rotate-left
-add-rotate-left c = search needs
-
-rotate-left-requires-2 : tie.Need-rotate-left-requires-2
-rotate-left-requires-2 c κs = search needs
-
 returns : tie.Need-returns
 returns c =
     record {
@@ -33,9 +18,9 @@ pub go-forward-spec : {M : Type 1} → statement M
 go-forward-spec =
     tie.close
     (tie.spec
-    shift-requires
-    raise-requires
-    rotate-left-requires
-    add-rotate-left
-    rotate-left-requires-2
+    (λ c κs. search needs)
+    (λ c κs. search needs)
+    (λ c κs. search needs)
+    (λ c. search needs)
+    (λ c κs. search needs)
     returns)

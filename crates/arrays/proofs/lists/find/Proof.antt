@@ -41,9 +41,6 @@ label-at a n k l m =
 element-copy-out-label-in : tie.Need-element-copy-out-label-in Inv-loop μ-loop
 element-copy-out-label-in c = omega arith
 
-label-in-requires : tie.Need-label-in-requires Inv-loop μ-loop
-label-in-requires c κs = search needs
-
 add-k : tie.Need-add-k Inv-loop μ-loop
 add-k c = omega arith
 
@@ -92,7 +89,7 @@ find-spec =
     loop-holds
     mul-label-in
     element-copy-out-label-in
-    label-in-requires
+    (λ c κs. search needs)
     add-k
     loop-less
     loop-again

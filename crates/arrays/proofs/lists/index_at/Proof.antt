@@ -4,15 +4,6 @@ use borrow.Author.Needs.{needs}
 use Rattle.arrays.proofs.lists.index_at.Statement.{statement}
 use Rattle.arrays.proofs.lists.index_at.Tie as tie
 
-mul-wide32 : tie.Need-mul-wide32
-mul-wide32 c = search needs
-
-element-copy-out-wide32 : tie.Need-element-copy-out-wide32
-element-copy-out-wide32 c = search needs
-
-wide32-requires : tie.Need-wide32-requires
-wide32-requires c κs = search needs
-
 returns : tie.Need-returns
 returns c =
     let s = c .before .before in
@@ -26,7 +17,7 @@ pub index-at-spec : {M : Type 1} → statement M
 index-at-spec =
     tie.close
     (tie.spec
-    mul-wide32
-    element-copy-out-wide32
-    wide32-requires
+    (λ c. search needs)
+    (λ c. search needs)
+    (λ c κs. search needs)
     returns)

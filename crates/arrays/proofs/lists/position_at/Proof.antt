@@ -8,15 +8,6 @@ use Rattle.rules.proofs.FirstMet.{entry}
 use Rattle.arrays.proofs.lists.position_at.Statement.{statement}
 use Rattle.arrays.proofs.lists.position_at.Tie as tie
 
-mul-mark-position : tie.Need-mul-mark-position
-mul-mark-position c = search needs
-
-element-copy-out-mark-position : tie.Need-element-copy-out-mark-position
-element-copy-out-mark-position c = search needs
-
-mark-position-requires : tie.Need-mark-position-requires
-mark-position-requires c κs = search needs
-
 returns : tie.Need-returns
 returns c =
     let a = c .before .before .args in (
@@ -25,4 +16,4 @@ returns c =
     )
 
 pub position-at-spec : {M : Type 1} → statement M
-position-at-spec = tie.close (tie.spec mul-mark-position element-copy-out-mark-position mark-position-requires returns)
+position-at-spec = tie.close (tie.spec (λ c. search needs) (λ c. search needs) (λ c κs. search needs) returns)

@@ -10,21 +10,6 @@ use Rattle.combinatorics.specs.Edits.{rotateLeft}
 use Rattle.arrays.proofs.lists.rotate_left.Statement.{statement}
 use Rattle.arrays.proofs.lists.rotate_left.Tie as tie
 
-element-copy-out-x : tie.Need-element-copy-out-x
-element-copy-out-x c = search needs
-
-remove-requires : tie.Need-remove-requires
-remove-requires c κs = search needs
-
-sub-a : tie.Need-sub-a
-sub-a c = search needs
-
-mul-a : tie.Need-mul-a
-mul-a c = search needs
-
-element-write-a : tie.Need-element-write-a
-element-write-a c = search needs
-
 returns : tie.Need-returns
 returns c =
     let a = c .before .before .before .args in
@@ -41,4 +26,4 @@ returns c =
 
 pub rotate-left-spec : {M : Type 1} → statement M
 rotate-left-spec =
-    tie.close (tie.spec element-copy-out-x remove-requires sub-a mul-a element-write-a returns)
+    tie.close (tie.spec (λ c. search needs) (λ c κs. search needs) (λ c. search needs) (λ c. search needs) (λ c. search needs) returns)

@@ -10,21 +10,6 @@ use Rattle.combinatorics.specs.Edits.{rotateRight}
 use Rattle.arrays.proofs.lists.rotate_right.Statement.{statement}
 use Rattle.arrays.proofs.lists.rotate_right.Tie as tie
 
-sub-x : tie.Need-sub-x
-sub-x c = search needs
-
-mul-x : tie.Need-mul-x
-mul-x c = search needs
-
-element-copy-out-x : tie.Need-element-copy-out-x
-element-copy-out-x c = search needs
-
-sub-insert : tie.Need-sub-insert
-sub-insert c = search needs
-
-insert-requires : tie.Need-insert-requires
-insert-requires c κs = search needs
-
 returns : tie.Need-returns
 returns c =
     let a = c .before .before .before .args in
@@ -35,4 +20,4 @@ returns c =
     (rw (add-one, n) at made, c .insert .ensures .1)
 
 pub rotate-right-spec : {M : Type 1} → statement M
-rotate-right-spec = tie.close (tie.spec sub-x mul-x element-copy-out-x sub-insert insert-requires returns)
+rotate-right-spec = tie.close (tie.spec (λ c. search needs) (λ c. search needs) (λ c. search needs) (λ c. search needs) (λ c κs. search needs) returns)

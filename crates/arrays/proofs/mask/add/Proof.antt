@@ -5,15 +5,9 @@ use Rattle.rules.specs.Mask.{withIndex}
 use Rattle.arrays.proofs.mask.add.Statement.{statement}
 use Rattle.arrays.proofs.mask.add.Tie as tie
 
-cast-result : tie.Need-cast-result
-cast-result c = search needs
-
-shl-result : tie.Need-shl-result
-shl-result c = search needs
-
 returns : tie.Need-returns
 unfolding withIndex
 returns c = refl
 
 pub add-spec : {M : Type 1} → statement M
-add-spec = tie.close (tie.spec cast-result shl-result returns)
+add-spec = tie.close (tie.spec (λ c. search needs) (λ c. search needs) returns)

@@ -8,15 +8,9 @@ use Rattle.rules.specs.Mask.{bit}
 use Rattle.arrays.proofs.mask.has.Statement.{statement}
 use Rattle.arrays.proofs.mask.has.Tie as tie
 
-cast-result : tie.Need-cast-result
-cast-result c = search needs
-
-shr-result : tie.Need-shr-result
-shr-result c = search needs
-
 returns : tie.Need-returns
 unfolding bit
 returns c = ap (λ (x : ℕ). eqb x 1) (and-mask (c .args .mask / 2 ^ c .args .h) 1)
 
 pub has-spec : {M : Type 1} → statement M
-has-spec = tie.close (tie.spec cast-result shr-result returns)
+has-spec = tie.close (tie.spec (λ c. search needs) (λ c. search needs) returns)

@@ -5,15 +5,9 @@ use Rattle.rules.specs.Mask.{withoutIndex}
 use Rattle.arrays.proofs.mask.without.Statement.{statement}
 use Rattle.arrays.proofs.mask.without.Tie as tie
 
-cast-result : tie.Need-cast-result
-cast-result c = search needs
-
-shl-result : tie.Need-shl-result
-shl-result c = search needs
-
 returns : tie.Need-returns
 unfolding withoutIndex
 returns c = refl
 
 pub without-spec : {M : Type 1} → statement M
-without-spec = tie.close (tie.spec cast-result shl-result returns)
+without-spec = tie.close (tie.spec (λ c. search needs) (λ c. search needs) returns)

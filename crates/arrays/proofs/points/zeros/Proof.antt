@@ -24,9 +24,6 @@ mul-if1 c = omega arith
 element-copy-out-if1 : tie.Need-element-copy-out-if1 Inv-loop μ-loop
 element-copy-out-if1 c = omega arith
 
-add-requires : tie.Need-add-requires Inv-loop μ-loop
-add-requires c κs = search needs
-
 add-h : tie.Need-add-h Inv-loop μ-loop
 add-h c = omega arith
 
@@ -60,7 +57,7 @@ zeros-spec =
     loop-holds
     mul-if1
     element-copy-out-if1
-    add-requires
+    (λ c κs. search needs)
     add-h
     loop-less
     loop-again

@@ -41,9 +41,6 @@ element-write-c c = omega arith
 element-copy-out-wide : tie.Need-element-copy-out-wide Inv-loop μ-loop
 element-copy-out-wide c = omega arith
 
-wide-requires : tie.Need-wide-requires Inv-loop μ-loop
-wide-requires c κs = search needs
-
 sub-left : tie.Need-sub-left Inv-loop μ-loop
 sub-left c = omega arith
 
@@ -76,7 +73,7 @@ raise-spec =
     mul-c-2
     element-write-c
     element-copy-out-wide
-    wide-requires
+    (λ c κs. search needs)
     sub-left
     loop-less
     loop-again

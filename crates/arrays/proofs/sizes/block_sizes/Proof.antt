@@ -37,9 +37,6 @@ loop-holds c = (omega arith, search needs, λ k l. absurd (omega arith))
 array-read-wide : tie.Need-array-read-wide Inv-loop μ-loop
 array-read-wide c = let s = c .before .before .before .before in omega (arith, indices-few (s .args .g) (s .pre))
 
-wide-requires : tie.Need-wide-requires Inv-loop μ-loop
-wide-requires c κs = search needs
-
 array-read-a : tie.Need-array-read-a Inv-loop μ-loop
 array-read-a c =
     let s = c .before .before .before .before .before in
@@ -91,7 +88,7 @@ block-sizes-spec =
     μ-loop
     loop-holds
     array-read-wide
-    wide-requires
+    (λ c κs. search needs)
     array-read-a
     array-write-a
     add-h

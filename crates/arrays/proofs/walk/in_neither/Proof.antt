@@ -4,17 +4,11 @@ use borrow.Author.Needs.{needs}
 use Rattle.arrays.proofs.walk.in_neither.Statement.{statement}
 use Rattle.arrays.proofs.walk.in_neither.Tie as tie
 
-has-requires : tie.Need-has-requires
-has-requires c κs = search needs
-
 returns : tie.Need-returns
 returns c = rw (sym (c .before .has .ensures) ∙ c .if1 .taken)
-
-has-requires-2 : tie.Need-has-requires-2
-has-requires-2 c κs = search needs
 
 returns-2 : tie.Need-returns-2
 returns-2 c = rw (sym (c .before .before .has .ensures) ∙ c .before .if1 .left, c .has2 .ensures)
 
 pub in-neither-spec : {M : Type 1} → statement M
-in-neither-spec = tie.close (tie.spec has-requires returns has-requires-2 returns-2)
+in-neither-spec = tie.close (tie.spec (λ c κs. search needs) returns (λ c κs. search needs) returns-2)

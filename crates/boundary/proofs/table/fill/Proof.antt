@@ -27,9 +27,6 @@ loop-holds c = (omega arith, omega arith, refl, λ table buffer n m e f. e)
 shared-slice-read-found-or : tie.Need-shared-slice-read-found-or Inv-loop μ-loop
 shared-slice-read-found-or c = omega arith
 
-found-or-requires : tie.Need-found-or-requires Inv-loop μ-loop
-found-or-requires c κs = search needs
-
 slice-write-labels : tie.Need-slice-write-labels Inv-loop μ-loop
 slice-write-labels c = omega arith
 
@@ -67,7 +64,7 @@ fill-spec =
     μ-loop
     loop-holds
     shared-slice-read-found-or
-    found-or-requires
+    (λ c κs. search needs)
     slice-write-labels
     add-i
     loop-less

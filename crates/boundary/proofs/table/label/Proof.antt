@@ -34,9 +34,6 @@ shared-slice-read-if1 c = omega arith
 element-copy-out-wide : tie.Need-element-copy-out-wide Inv-loop μ-loop
 element-copy-out-wide c = omega (arith, short (c .before .before .before .before .before))
 
-wide-requires : tie.Need-wide-requires Inv-loop μ-loop
-wide-requires c κs = search needs
-
 mul-if2 : tie.Need-mul-if2 Inv-loop μ-loop
 mul-if2 c =
     let s = c .before .before .before .before .before .before .before in
@@ -92,7 +89,7 @@ label-spec =
     mul-if1
     shared-slice-read-if1
     element-copy-out-wide
-    wide-requires
+    (λ c κs. search needs)
     mul-if2
     shared-slice-read-if2
     add-result

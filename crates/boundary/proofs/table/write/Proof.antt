@@ -76,12 +76,6 @@ write-from-requires c κs =
       room = s .pre .2 ∙ made-points (g s) (made s);
     }
 
-same-length : tie.Need-same-length
-same-length c = search needs
-
-returns : tie.Need-returns
-returns c = search needs
-
 pub write-spec : {M : Type 1} → statement M
 write-spec =
     tie.close
@@ -98,5 +92,5 @@ write-spec =
     array-borrow-prefix-point
     slice-aggregate-write-from-3
     write-from-requires
-    same-length
-    returns)
+    (λ c. search needs)
+    (λ c. search needs))

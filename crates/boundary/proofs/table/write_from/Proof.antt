@@ -121,9 +121,6 @@ label-requires c κs = let t = c .before in (g t, on t)
 shared-slice-read-found-or : tie.Need-shared-slice-read-found-or Inv-loop μ-loop
 shared-slice-read-found-or c = let t = c .before .before .before in omega (arith, inside t, start t .pre .oldWhole)
 
-found-or-requires : tie.Need-found-or-requires Inv-loop μ-loop
-found-or-requires c κs = search needs
-
 slice-write-labels : tie.Need-slice-write-labels Inv-loop μ-loop
 slice-write-labels c = omega arith
 
@@ -231,7 +228,7 @@ write-from-spec =
     loop-holds
     label-requires
     shared-slice-read-found-or
-    found-or-requires
+    (λ c κs. search needs)
     slice-write-labels
     sub-more-alike
     sub-more-alike-2

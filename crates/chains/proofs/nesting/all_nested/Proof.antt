@@ -35,9 +35,6 @@ returns c =
     pairs-stop (at (a .sets .now)) (l .i) (a .count) (omega arith) nestedSets (l .inv .2)
     (sym (c .before .nested-with-later .ensures) ∙ not-true _ (c .if1 .taken))
 
-add-i : tie.Need-add-i Inv-loop μ-loop
-add-i c = search needs
-
 loop-less : tie.Need-loop-less Inv-loop μ-loop
 loop-less c = omega arith
 
@@ -65,7 +62,7 @@ all-nested-spec =
     loop-holds
     nested-with-later-requires
     returns
-    add-i
+    (λ c. search needs)
     loop-less
     loop-again
     returns-2)

@@ -5,15 +5,9 @@ use borrow.Author.Needs.{needs}
 use Rattle.chains.proofs.nesting.chain_from.Statement.{statement}
 use Rattle.chains.proofs.nesting.chain_from.Tie as tie
 
-fill-sets-requires : tie.Need-fill-sets-requires
-fill-sets-requires c κs = search needs
-
 returns : tie.Need-returns
 returns c = let b = c .before .before .before .before .before in
     not-served (b .pre .0) (b .args .p .now) (c .before .fill-sets .ensures) (not-true _ (c .if1 .taken))
-
-all-nested-requires : tie.Need-all-nested-requires
-all-nested-requires c κs = search needs
 
 returns-2 : tie.Need-returns-2
 returns-2 c =
@@ -22,4 +16,4 @@ returns-2 c =
     (not-false _ (c .before .before .if1 .left)) (c .all-nested .ensures)
 
 pub chain-from-spec : {M : Type 1} → statement M
-chain-from-spec = tie.close (tie.spec fill-sets-requires returns all-nested-requires returns-2)
+chain-from-spec = tie.close (tie.spec (λ c κs. search needs) returns (λ c κs. search needs) returns-2)

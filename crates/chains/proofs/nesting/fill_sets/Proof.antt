@@ -48,9 +48,6 @@ mul-set-from c = let b = c .before .before .before .before in
 sub-set-from : tie.Need-sub-set-from Inv-loop μ-loop
 sub-set-from c = omega arith
 
-part-set-from-start : tie.Need-part-set-from-start Inv-loop μ-loop
-part-set-from-start c = search needs
-
 part-set-from-end : tie.Need-part-set-from-end Inv-loop μ-loop
 part-set-from-end c = let b = c .before .before .before .before in
     is-listed (b .pre .0 .has) (c .before .loop .k) (omega arith) .room
@@ -59,9 +56,6 @@ set-from-requires : tie.Need-set-from-requires Inv-loop μ-loop
 set-from-requires c κs = let b = c .before .before .before .before .before in
     let i = is-listed (b .pre .0 .has) (c .before .before .loop .k) (omega arith) in
     (b .pre .0 .has .made, b .pre .1, rw (i .part) (on-grid (b .pre .0) (c .before .before .loop .k) (omega arith)))
-
-enum-known-found : tie.Need-enum-known-found Inv-loop μ-loop
-enum-known-found c = search needs
 
 enum-told : tie.Need-enum-told Inv-loop μ-loop
 enum-told c = search needs
@@ -114,10 +108,10 @@ fill-sets-spec =
     add-set-from
     mul-set-from
     sub-set-from
-    part-set-from-start
+    (λ c. search needs)
     part-set-from-end
     set-from-requires
-    enum-known-found
+    (λ c. search needs)
     enum-told
     returns
     mul-sets

@@ -21,26 +21,14 @@ Inv-loop sets i count k₀ k = (i < k) × (k ≤ count) × (count ≤ 16)
 abbrev μ-loop : tie.MeasureT-loop
 μ-loop sets i count k₀ k = count - k
 
-add-k : tie.Need-add-k Inv-loop μ-loop
-add-k c = search needs
-
 loop-holds : tie.Need-loop-holds Inv-loop μ-loop
 loop-holds c = (omega arith, omega arith, omega arith, refl)
-
-mul-is-nested : tie.Need-mul-is-nested Inv-loop μ-loop
-mul-is-nested c = search needs
 
 element-copy-out-is-nested : tie.Need-element-copy-out-is-nested Inv-loop μ-loop
 element-copy-out-is-nested c = omega arith
 
-mul-is-nested-2 : tie.Need-mul-is-nested-2 Inv-loop μ-loop
-mul-is-nested-2 c = search needs
-
 element-copy-out-is-nested-2 : tie.Need-element-copy-out-is-nested-2 Inv-loop μ-loop
 element-copy-out-is-nested-2 c = omega arith
-
-is-nested-requires : tie.Need-is-nested-requires Inv-loop μ-loop
-is-nested-requires c κs = search needs
 
 returns : tie.Need-returns Inv-loop μ-loop
 returns c =
@@ -48,9 +36,6 @@ returns c =
     let a = c .before .before .before .before .before .before .args in
     all-stops (at (a .sets .now)) (l .k) (a .count) (omega arith) (nestedSets (at (a .sets .now) (a .i))) (l .inv .3)
     (sym (c .before .is-nested .ensures) ∙ not-true _ (c .if1 .taken))
-
-add-k-2 : tie.Need-add-k-2 Inv-loop μ-loop
-add-k-2 c = search needs
 
 loop-less : tie.Need-loop-less Inv-loop μ-loop
 loop-less c = omega arith
@@ -77,15 +62,15 @@ nested-with-later-spec =
     (tie.spec
     Inv-loop
     μ-loop
-    add-k
+    (λ c. search needs)
     loop-holds
-    mul-is-nested
+    (λ c. search needs)
     element-copy-out-is-nested
-    mul-is-nested-2
+    (λ c. search needs)
     element-copy-out-is-nested-2
-    is-nested-requires
+    (λ c κs. search needs)
     returns
-    add-k-2
+    (λ c. search needs)
     loop-less
     loop-again
     returns-2)

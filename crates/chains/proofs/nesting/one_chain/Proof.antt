@@ -41,9 +41,6 @@ mul-chain-from c =
 sub-chain-from : tie.Need-sub-chain-from Inv-loop μ-loop
 sub-chain-from c = omega arith
 
-part-chain-from-start : tie.Need-part-chain-from-start Inv-loop μ-loop
-part-chain-from-start c = search needs
-
 part-chain-from-end : tie.Need-part-chain-from-end Inv-loop μ-loop
 part-chain-from-end c = is-listed (c .before .before .before .pre .has) (c .before .loop .k) (omega arith) .room
 
@@ -96,7 +93,7 @@ one-chain-spec =
     add-chain-from
     mul-chain-from
     sub-chain-from
-    part-chain-from-start
+    (λ c. search needs)
     part-chain-from-end
     chain-from-requires
     returns

@@ -23,26 +23,14 @@ loop-holds c = begin (omega arith) (omega arith) (c .before .before .pre .0 .cle
 add-requires : tie.Need-add-requires Inv-loop μ-loop
 add-requires c κs = omega arith
 
-mul-wide16 : tie.Need-mul-wide16 Inv-loop μ-loop
-mul-wide16 c = search needs
-
 shared-slice-read-wide16 : tie.Need-shared-slice-read-wide16 Inv-loop μ-loop
 shared-slice-read-wide16 c = omega arith
-
-wide16-requires : tie.Need-wide16-requires Inv-loop μ-loop
-wide16-requires c κs = search needs
 
 add-sum : tie.Need-add-sum Inv-loop μ-loop
 add-sum c = omega (arith, c .wide16 .ensures .1, c .before .before .before .before .loop .inv .small)
 
-mul-wide16-2 : tie.Need-mul-wide16-2 Inv-loop μ-loop
-mul-wide16-2 c = search needs
-
 shared-slice-read-wide16-2 : tie.Need-shared-slice-read-wide16-2 Inv-loop μ-loop
 shared-slice-read-wide16-2 c = omega arith
-
-wide16-requires-2 : tie.Need-wide16-requires-2 Inv-loop μ-loop
-wide16-requires-2 c κs = search needs
 
 returns : tie.Need-returns Inv-loop μ-loop
 returns c = λ f e G.
@@ -106,13 +94,13 @@ follow-from-spec =
     μ-loop
     loop-holds
     add-requires
-    mul-wide16
+    (λ c. search needs)
     shared-slice-read-wide16
-    wide16-requires
+    (λ c κs. search needs)
     add-sum
-    mul-wide16-2
+    (λ c. search needs)
     shared-slice-read-wide16-2
-    wide16-requires-2
+    (λ c κs. search needs)
     returns
     returns-2
     add-h

@@ -5,17 +5,8 @@ use borrow.Author.Needs.{needs}
 use Rattle.chains.proofs.sets.on_block.Statement.{statement}
 use Rattle.chains.proofs.sets.on_block.Tie as tie
 
-follow-from-requires : tie.Need-follow-from-requires
-follow-from-requires c κs = search needs
-
-enum-known-from-zero : tie.Need-enum-known-from-zero
-enum-known-from-zero c = search needs
-
 enum-told : tie.Need-enum-told
 enum-told c = search needs
-
-follow-from-requires-2 : tie.Need-follow-from-requires-2
-follow-from-requires-2 c κs = search needs
 
 returns : tie.Need-returns
 returns c = let w = rw (c .before .from-zero .given .1) at (c .before .before .before .follow-from .ensures) in
@@ -30,9 +21,9 @@ pub on-block-spec : {M : Type 1} → statement M
 on-block-spec =
     tie.close
     (tie.spec
-    follow-from-requires
-    enum-known-from-zero
+    (λ c κs. search needs)
+    (λ c. search needs)
     enum-told
-    follow-from-requires-2
+    (λ c κs. search needs)
     returns
     returns-2)

@@ -22,18 +22,6 @@ abbrev μ-loop : tie.MeasureT-loop
 loop-holds : tie.Need-loop-holds Inv-loop μ-loop
 loop-holds c = (none-added, omega arith, blocks-range _ (c .before .before .before .before .pre .0) .1)
 
-array-read-wide : tie.Need-array-read-wide Inv-loop μ-loop
-array-read-wide c = search needs
-
-wide-requires : tie.Need-wide-requires Inv-loop μ-loop
-wide-requires c κs = search needs
-
-array-read-wide-2 : tie.Need-array-read-wide-2 Inv-loop μ-loop
-array-read-wide-2 c = search needs
-
-wide-requires-2 : tie.Need-wide-requires-2 Inv-loop μ-loop
-wide-requires-2 c κs = search needs
-
 add-on-block : tie.Need-add-on-block Inv-loop μ-loop
 add-on-block c =
     let start = c .before .before .before .before .before .before .before .before in
@@ -55,9 +43,6 @@ on-block-requires c κs = let start = c .before .before .before .before .before 
       clear = rw first (l .inv .0 .clear);
     }
 
-enum-known-found : tie.Need-enum-known-found Inv-loop μ-loop
-enum-known-found c = search needs
-
 enum-told : tie.Need-enum-told Inv-loop μ-loop
 enum-told c = search needs
 
@@ -72,9 +57,6 @@ returns c =
     let none = rw (c .enum-told .given .1) at (c .before .before .on-block .ensures) in
     no-set (made-accepted s (start .pre .0)) (start .args .p .now) (start .args .z .now) (start .pre .1) (start .pre .2)
     (l .j) (omega (arith, made-blocks s (start .pre .0))) (rw (first, size) at none)
-
-add-j : tie.Need-add-j Inv-loop μ-loop
-add-j c = search needs
 
 loop-less : tie.Need-loop-less Inv-loop μ-loop
 loop-less c = omega arith
@@ -107,16 +89,16 @@ set-from-spec =
     Inv-loop
     μ-loop
     loop-holds
-    array-read-wide
-    wide-requires
-    array-read-wide-2
-    wide-requires-2
+    (λ c. search needs)
+    (λ c κs. search needs)
+    (λ c. search needs)
+    (λ c κs. search needs)
     add-on-block
     on-block-requires
-    enum-known-found
+    (λ c. search needs)
     enum-told
     returns
-    add-j
+    (λ c. search needs)
     loop-less
     loop-again
     returns-2)

@@ -55,9 +55,6 @@ mul-padded c =
 sub-padded : tie.Need-sub-padded Inv-loop μ-loop
 sub-padded c = omega arith
 
-part-padded-start : tie.Need-part-padded-start Inv-loop μ-loop
-part-padded-start c = search needs
-
 part-padded-end : tie.Need-part-padded-end Inv-loop μ-loop
 part-padded-end c =
     let b = c .before .before .before .before in
@@ -144,7 +141,7 @@ covered-spec =
     add-padded
     mul-padded
     sub-padded
-    part-padded-start
+    (λ c. search needs)
     part-padded-end
     padded-requires
     label-at-requires

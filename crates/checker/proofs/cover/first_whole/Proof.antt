@@ -33,14 +33,8 @@ loop-holds c = let b = c .before .before in
 array-read-wide : tie.Need-array-read-wide Inv-loop μ-loop
 array-read-wide c = omega arith
 
-wide-requires : tie.Need-wide-requires Inv-loop μ-loop
-wide-requires c κs = search needs
-
 array-read-wide-2 : tie.Need-array-read-wide-2 Inv-loop μ-loop
 array-read-wide-2 c = omega arith
-
-wide-requires-2 : tie.Need-wide-requires-2 Inv-loop μ-loop
-wide-requires-2 c κs = search needs
 
 add-has-all : tie.Need-add-has-all Inv-loop μ-loop
 add-has-all c = let b = c .before .before .before .before .before .before in
@@ -110,9 +104,9 @@ first-whole-spec =
     μ-loop
     loop-holds
     array-read-wide
-    wide-requires
+    (λ c κs. search needs)
     array-read-wide-2
-    wide-requires-2
+    (λ c κs. search needs)
     add-has-all
     has-all-requires
     cast-t17

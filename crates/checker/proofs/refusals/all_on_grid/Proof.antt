@@ -40,9 +40,6 @@ mul-is-grid-point c =
 sub-is-grid-point : tie.Need-sub-is-grid-point Inv-loop μ-loop
 sub-is-grid-point c = omega arith
 
-part-is-grid-point-start : tie.Need-part-is-grid-point-start Inv-loop μ-loop
-part-is-grid-point-start c = search needs
-
 part-is-grid-point-end : tie.Need-part-is-grid-point-end Inv-loop μ-loop
 part-is-grid-point-end c = is-listed (c .before .before .before .pre) (c .before .loop .k) (omega arith) .room
 
@@ -91,7 +88,7 @@ all-on-grid-spec =
     add-is-grid-point
     mul-is-grid-point
     sub-is-grid-point
-    part-is-grid-point-start
+    (λ c. search needs)
     part-is-grid-point-end
     is-grid-point-requires
     returns

@@ -18,18 +18,12 @@ returns c =
 cast-all-at-most : tie.Need-cast-all-at-most
 cast-all-at-most c = let b = c .before .before .before .before in omega (arith, indices-few (b .args .g) (b .pre))
 
-all-at-most-requires : tie.Need-all-at-most-requires
-all-at-most-requires c κs = search needs
-
 returns-2 : tie.Need-returns-2
 returns-2 c =
     let b = c .before .before .before .before .before .before in
     no-label (shape (b .args .g)) (b .args .labels .now) (b .args .numbers .now)
     (c .before .before .if1 .left ∙ made-points (b .args .g) (b .pre))
     (rw (← made-indices (b .args .g) (b .pre)) (sym (c .before .all-at-most .ensures) ∙ not-true _ (c .if2 .taken)))
-
-is-list-requires : tie.Need-is-list-requires
-is-list-requires c κs = search needs
 
 returns-3 : tie.Need-returns-3
 returns-3 c =
@@ -55,8 +49,8 @@ first-no-spec =
     (tie.spec
     returns
     cast-all-at-most
-    all-at-most-requires
+    (λ c κs. search needs)
     returns-2
-    is-list-requires
+    (λ c κs. search needs)
     returns-3
     returns-4)

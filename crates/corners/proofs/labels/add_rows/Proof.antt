@@ -88,12 +88,6 @@ mul-add-times-2 c = omega arith
 mul-add-times-3 : tie.Need-mul-add-times-3 Inv-loop μ-loop
 mul-add-times-3 c = omega arith
 
-sub-add-times : tie.Need-sub-add-times Inv-loop μ-loop
-sub-add-times c = search needs
-
-part-add-times-start : tie.Need-part-add-times-start Inv-loop μ-loop
-part-add-times-start c = search needs
-
 part-add-times-end : tie.Need-part-add-times-end Inv-loop μ-loop
 part-add-times-end c = omega arith
 
@@ -148,8 +142,8 @@ add-rows-spec =
     cast-add-times
     mul-add-times-2
     mul-add-times-3
-    sub-add-times
-    part-add-times-start
+    (λ c. search needs)
+    (λ c. search needs)
     part-add-times-end
     add-times-requires
     add-k

@@ -8,18 +8,6 @@ use borrow.Author.Needs.{needs}
 use Rattle.corners.proofs.labels.label_point.Statement.{statement}
 use Rattle.corners.proofs.labels.label_point.Tie as tie
 
-add-rows-requires : tie.Need-add-rows-requires
-add-rows-requires c κs = search needs
-
-first-largest-requires : tie.Need-first-largest-requires
-first-largest-requires c κs = search needs
-
-add-result : tie.Need-add-result
-add-result c = search needs
-
-cast-result : tie.Need-cast-result
-cast-result c = search needs
-
 returns : tie.Need-returns
 returns c =
     let a = c .before .before .before .before .before .args in
@@ -31,4 +19,4 @@ returns c =
 
 pub label-point-spec : {M : Type 1} → statement M
 label-point-spec =
-    tie.close (tie.spec add-rows-requires first-largest-requires add-result cast-result returns)
+    tie.close (tie.spec (λ c κs. search needs) (λ c κs. search needs) (λ c. search needs) (λ c. search needs) returns)

@@ -40,9 +40,6 @@ mul-signed-difference-2 c = omega arith
 element-copy-out-signed-difference-2 : tie.Need-element-copy-out-signed-difference-2 Inv-loop μ-loop
 element-copy-out-signed-difference-2 c = omega arith
 
-signed-difference-requires : tie.Need-signed-difference-requires Inv-loop μ-loop
-signed-difference-requires c κs = search needs
-
 mul-d : tie.Need-mul-d Inv-loop μ-loop
 mul-d c = omega arith
 
@@ -86,7 +83,7 @@ put-differences-spec =
     element-copy-out-signed-difference
     mul-signed-difference-2
     element-copy-out-signed-difference-2
-    signed-difference-requires
+    (λ c κs. search needs)
     mul-d
     slice-set-from-d
     add-h

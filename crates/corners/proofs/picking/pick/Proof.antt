@@ -48,12 +48,6 @@ mul-at-2 c = omega arith
 element-copy-out-wide : tie.Need-element-copy-out-wide Inv-loop μ-loop
 element-copy-out-wide c = omega arith
 
-wide-requires : tie.Need-wide-requires Inv-loop μ-loop
-wide-requires c κs = search needs
-
-strategy-requires : tie.Need-strategy-requires Inv-loop μ-loop
-strategy-requires c κs = search needs
-
 add-at-2 : tie.Need-add-at-2 Inv-loop μ-loop
 add-at-2 c = omega (arith, low c)
 
@@ -105,8 +99,8 @@ pick-spec =
     add-at
     mul-at-2
     element-copy-out-wide
-    wide-requires
-    strategy-requires
+    (λ c κs. search needs)
+    (λ c κs. search needs)
     add-at-2
     mul-value
     shared-slice-read-value

@@ -101,9 +101,6 @@ element-copy-out-wide : tie.Need-element-copy-out-wide
 element-copy-out-wide c =
     omega (arith, yes (c .before .before .before .before) .fewBlocks, game (c .before .before .before .before) .some)
 
-wide-requires : tie.Need-wide-requires
-wide-requires c κs = search needs
-
 add-corner : tie.Need-add-corner
 add-corner c = omega (arith, first-is c, ends (start c) .0, ends (start c) .1)
 
@@ -137,15 +134,6 @@ slice-aggregate-weigh-point c =
     sym
     (length-take-le (length p) (w .corner .result) (omega (arith, long w, game (begun w) .whole, ends (begun w) .1)))
 
-slice-aggregate-weigh-point-2 : tie.Need-slice-aggregate-weigh-point-2
-slice-aggregate-weigh-point-2 c = search needs
-
-slice-aggregate-weigh-point-3 : tie.Need-slice-aggregate-weigh-point-3
-slice-aggregate-weigh-point-3 c = search needs
-
-slice-aggregate-weigh-point-4 : tie.Need-slice-aggregate-weigh-point-4
-slice-aggregate-weigh-point-4 c = search needs
-
 weigh-point-requires : tie.Need-weigh-point-requires
 weigh-point-requires c κs =
     let w = c .before .before .before .before in
@@ -178,12 +166,6 @@ mul-put-differences c = omega (
       .before .before .before .before .before .before .before .before) .2,
 )
 
-sub-put-differences : tie.Need-sub-put-differences
-sub-put-differences c = search needs
-
-part-put-differences-start : tie.Need-part-put-differences-start
-part-put-differences-start c = search needs
-
 part-put-differences-end : tie.Need-part-put-differences-end
 part-put-differences-end c =
     let e = ends (c .before .before .before .before .before .before .before .before
@@ -195,9 +177,6 @@ part-put-differences-end c =
 
 put-differences-requires : tie.Need-put-differences-requires
 put-differences-requires c κs = search needs
-
-same-length : tie.Need-same-length
-same-length c = search needs
 
 returns : tie.Need-returns
 returns c =
@@ -223,22 +202,22 @@ weigh-corner-spec =
     (tie.spec
     sub-last
     element-copy-out-wide
-    wide-requires
+    (λ c κs. search needs)
     add-corner
     corner-requires
     mul-at
     pick-requires
     array-share-prefix-corner
     slice-aggregate-weigh-point
-    slice-aggregate-weigh-point-2
-    slice-aggregate-weigh-point-3
-    slice-aggregate-weigh-point-4
+    (λ c. search needs)
+    (λ c. search needs)
+    (λ c. search needs)
     weigh-point-requires
     add-put-differences
     mul-put-differences
-    sub-put-differences
-    part-put-differences-start
+    (λ c. search needs)
+    (λ c. search needs)
     part-put-differences-end
     put-differences-requires
-    same-length
+    (λ c. search needs)
     returns)

@@ -26,9 +26,6 @@ sub-wide c = omega (arith, c .before .before .before .before .pre .1 .some)
 shared-slice-read-wide : tie.Need-shared-slice-read-wide Inv-loop μ-loop
 shared-slice-read-wide c = omega (arith, c .before .before .before .before .before .pre .1 .some)
 
-wide-requires : tie.Need-wide-requires Inv-loop μ-loop
-wide-requires c κs = search needs
-
 loop-holds : tie.Need-loop-holds Inv-loop μ-loop
 loop-holds c = (
   (λ t s. record { differenceAt = λ k h b. absurd (omega arith); low = λ k h b. absurd (omega arith) }),
@@ -87,7 +84,7 @@ weigh-corners-spec =
     μ-loop
     sub-wide
     shared-slice-read-wide
-    wide-requires
+    (λ c κs. search needs)
     loop-holds
     weigh-corner-requires
     add-k

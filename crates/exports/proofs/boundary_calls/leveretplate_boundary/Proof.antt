@@ -5,19 +5,10 @@ use borrow.Author.Needs.{needs}
 use Rattle.exports.proofs.boundary_calls.leveretplate_boundary.Statement.{statement}
 use Rattle.exports.proofs.boundary_calls.leveretplate_boundary.Tie as tie
 
-boundary-requires : tie.Need-boundary-requires
-boundary-requires c κs = search needs
-
-put-count-requires : tie.Need-put-count-requires
-put-count-requires c κs = search needs
-
-same-length : tie.Need-same-length
-same-length c = search needs
-
 returns : tie.Need-returns
 returns c =
     let found = c .before .before .before .before .boundary .ensures in
     rw (sym (found .0)) (c .put-count .ensures .0, (c .put-count .ensures .1, found .1))
 
 pub leveretplate-boundary-spec : {M : Type 1} → statement M
-leveretplate-boundary-spec = tie.close (tie.spec boundary-requires put-count-requires same-length returns)
+leveretplate-boundary-spec = tie.close (tie.spec (λ c κs. search needs) (λ c κs. search needs) (λ c. search needs) returns)

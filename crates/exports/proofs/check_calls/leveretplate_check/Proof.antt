@@ -5,14 +5,8 @@ use borrow.Author.Needs.{needs}
 use Rattle.exports.proofs.check_calls.leveretplate_check.Statement.{statement}
 use Rattle.exports.proofs.check_calls.leveretplate_check.Tie as tie
 
-check-requires : tie.Need-check-requires
-check-requires c κs = search needs
-
-check-number-requires : tie.Need-check-number-requires
-check-number-requires c κs = search needs
-
 returns : tie.Need-returns
 returns c = c .check-number .ensures ∙ ap checkNumber (c .before .check .ensures)
 
 pub leveretplate-check-spec : {M : Type 1} → statement M
-leveretplate-check-spec = tie.close (tie.spec check-requires check-number-requires returns)
+leveretplate-check-spec = tie.close (tie.spec (λ c κs. search needs) (λ c κs. search needs) returns)

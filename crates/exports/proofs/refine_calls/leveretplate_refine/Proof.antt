@@ -17,9 +17,6 @@ game s =
     lentGame (lent (s .args .sizes .now) (s .args .divisions .now)) (s .args .start .now) (s .args .losses .now)
     (s .args .factor)
 
-refine-requires : tie.Need-refine-requires
-refine-requires c κs = search needs
-
 put-levels-requires : tie.Need-put-levels-requires
 put-levels-requires c κs =
     let far = c .before .before .before .before .before .before .before .before .before .before in
@@ -27,12 +24,6 @@ put-levels-requires c κs =
     let few = answer-few (game s) (s .args .levels) (s .args .labels .now) (s .args .answer .now) in
     let found = c .before .before .before .before .before .refine .ensures .0 in
     (rw found (few .0), rw found (few .1), search needs)
-
-same-length : tie.Need-same-length
-same-length c = search needs
-
-same-length-2 : tie.Need-same-length-2
-same-length-2 c = search needs
 
 returns : tie.Need-returns
 returns c =
@@ -52,4 +43,4 @@ returns c =
 
 pub leveretplate-refine-spec : {M : Type 1} → statement M
 leveretplate-refine-spec =
-    tie.close (tie.spec refine-requires put-levels-requires same-length same-length-2 returns)
+    tie.close (tie.spec (λ c κs. search needs) put-levels-requires (λ c. search needs) (λ c. search needs) returns)

@@ -6,20 +6,8 @@ use Rattle.run_facts.proofs.Facts.{five}
 use Rattle.exports.proofs.refine_calls.put_level.Statement.{statement}
 use Rattle.exports.proofs.refine_calls.put_level.Tie as tie
 
-slice-write-facts : tie.Need-slice-write-facts
-slice-write-facts c = search needs
-
-kind-number-requires : tie.Need-kind-number-requires
-kind-number-requires c κs = search needs
-
 slice-write-facts-2 : tie.Need-slice-write-facts-2
 slice-write-facts-2 c = simp length-set (omega arith)
-
-cast-facts : tie.Need-cast-facts
-cast-facts c = search needs
-
-cast-facts-2 : tie.Need-cast-facts-2
-cast-facts-2 c = search needs
 
 slice-write-facts-3 : tie.Need-slice-write-facts-3
 slice-write-facts-3 c = simp length-set (omega arith)
@@ -30,9 +18,6 @@ slice-write-facts-4 c = simp length-set (omega arith)
 slice-write-facts-5 : tie.Need-slice-write-facts-5
 slice-write-facts-5 c = simp length-set (omega arith)
 
-same-length : tie.Need-same-length
-same-length c = search needs
-
 returns : tie.Need-returns
 returns c =
     rw (c .before .kind-number .ensures .0) (five _ _ _ _ _ (c .before .before .before .args .facts .now)
@@ -42,13 +27,13 @@ pub put-level-spec : {M : Type 1} → statement M
 put-level-spec =
     tie.close
     (tie.spec
-    slice-write-facts
+    (λ c. search needs)
     slice-write-facts-2
-    kind-number-requires
-    cast-facts
+    (λ c κs. search needs)
+    (λ c. search needs)
     slice-write-facts-3
-    cast-facts-2
+    (λ c. search needs)
     slice-write-facts-4
     slice-write-facts-5
-    same-length
+    (λ c. search needs)
     returns)

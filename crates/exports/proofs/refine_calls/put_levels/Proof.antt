@@ -43,9 +43,6 @@ sub-put-level c =
 part-put-level-start : tie.Need-part-put-level-start Inv-loop μ-loop
 part-put-level-start c = sub-put-level c
 
-part-put-level-end : tie.Need-part-put-level-end Inv-loop μ-loop
-part-put-level-end c = search needs
-
 put-level-requires : tie.Need-put-level-requires Inv-loop μ-loop
 put-level-requires c κs =
     let s = c .before .before .before .before .before .before in
@@ -95,7 +92,7 @@ put-levels-spec =
     mul-put-level
     sub-put-level
     part-put-level-start
-    part-put-level-end
+    (λ c. search needs)
     put-level-requires
     add-i
     loop-less

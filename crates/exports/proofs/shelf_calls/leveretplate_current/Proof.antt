@@ -4,15 +4,6 @@ use borrow.Author.Needs.{needs}
 use Rattle.exports.proofs.shelf_calls.leveretplate_current.Statement.{statement}
 use Rattle.exports.proofs.shelf_calls.leveretplate_current.Tie as tie
 
-current-requires : tie.Need-current-requires
-current-requires c κs = search needs
-
-enum-known-number : tie.Need-enum-known-number
-enum-known-number c = search needs
-
-enum-known-last : tie.Need-enum-known-last
-enum-known-last c = search needs
-
 returns : tie.Need-returns
 returns c = rw (sym (c .before .before .before .current .ensures) ∙ c .before .number .given .1) (refl, refl)
 
@@ -23,8 +14,8 @@ pub leveretplate-current-spec : {M : Type 1} → statement M
 leveretplate-current-spec =
     tie.close
     (tie.spec
-    current-requires
-    enum-known-number
-    enum-known-last
+    (λ c κs. search needs)
+    (λ c. search needs)
+    (λ c. search needs)
     returns
     returns-2)

@@ -9,19 +9,10 @@ use Rattle.finder.proofs.answers.announce.Tie as tie
 enum-told : tie.Need-enum-told
 enum-told c = search needs
 
-enum-known-finish : tie.Need-enum-known-finish
-enum-known-finish c = search needs
-
-enum-known-finish-2 : tie.Need-enum-known-finish-2
-enum-known-finish-2 c = search needs
-
 block-number-requires : tie.Need-block-number-requires
 block-number-requires c κs =
     let s = c .before .before .before .before in
     (s .pre .made, s .pre .end _ _ _ _ _ (c .before .finish2 .given .1) .index)
-
-first-vertex-requires : tie.Need-first-vertex-requires
-first-vertex-requires c κs = search needs
 
 put-points-requires : tie.Need-put-points-requires
 put-points-requires c κs =
@@ -36,9 +27,6 @@ returns-2 : tie.Need-returns-2
 returns-2 c =
     let is = c .before .finish .given .1 in
     (rw is, rw is (sym (front-none _)))
-
-same-length : tie.Need-same-length
-same-length c = search needs
 
 returns-3 : tie.Need-returns-3
 returns-3 c =
@@ -56,12 +44,12 @@ announce-spec =
     tie.close
     (tie.spec
     enum-told
-    enum-known-finish
-    enum-known-finish-2
+    (λ c. search needs)
+    (λ c. search needs)
     block-number-requires
-    first-vertex-requires
+    (λ c κs. search needs)
     put-points-requires
     returns
     returns-2
-    same-length
+    (λ c. search needs)
     returns-3)

@@ -11,9 +11,6 @@ use borrow.Author.Needs.{needs}
 use Rattle.finder.proofs.answers.announced.Statement.{statement}
 use Rattle.finder.proofs.answers.announced.Tie as tie
 
-block-sizes-requires : tie.Need-block-sizes-requires
-block-sizes-requires c κs = search needs
-
 padded-requires : tie.Need-padded-requires
 padded-requires c κs =
     let w = c .before .before .before .before .before .before .pre in
@@ -63,9 +60,6 @@ announce-requires c κs =
     (first w) (order w) _ (round-below (a .g) made (sizes w) .backward) (begun w .pre .room) (w .walk .result)
     (finished w)
 
-same-length : tie.Need-same-length
-same-length c = search needs
-
 returns : tie.Need-returns
 returns c =
     let w = c .before .before .before .before .before .before .before .before in
@@ -86,9 +80,9 @@ pub announced-spec : {M : Type 1} → statement M
 announced-spec =
     tie.close
     (tie.spec
-    block-sizes-requires
+    (λ c κs. search needs)
     padded-requires
     walk-requires
     announce-requires
-    same-length
+    (λ c. search needs)
     returns)

@@ -7,9 +7,6 @@ use Rattle.grid.specs.Made.{shape}
 use Rattle.finder.proofs.answers.block_number.Statement.{statement}
 use Rattle.finder.proofs.answers.block_number.Tie as tie
 
-block-of-requires : tie.Need-block-of-requires
-block-of-requires c κs = search needs
-
 cast-result : tie.Need-cast-result
 cast-result c =
     let e = c .before in
@@ -38,4 +35,4 @@ returns : tie.Need-returns
 returns c = omega (arith, c .block-of .ensures)
 
 pub block-number-spec : {M : Type 1} → statement M
-block-number-spec = tie.close (tie.spec block-of-requires cast-result add-result returns)
+block-number-spec = tie.close (tie.spec (λ c κs. search needs) cast-result add-result returns)

@@ -10,9 +10,6 @@ use Rattle.finder.proofs.Refusals.{room-small}
 use Rattle.finder.proofs.answers.first_no.Statement.{statement}
 use Rattle.finder.proofs.answers.first_no.Tie as tie
 
-is-grid-point-requires : tie.Need-is-grid-point-requires
-is-grid-point-requires c κs = search needs
-
 returns : tie.Need-returns
 returns c =
     let a = c .before .before .before .before .args in
@@ -31,9 +28,6 @@ cast-all-at-most : tie.Need-cast-all-at-most
 cast-all-at-most c =
     let e = c .before .before .before .before .before .before in
     omega (arith, indices-few (e .args .g) (e .pre))
-
-all-at-most-requires : tie.Need-all-at-most-requires
-all-at-most-requires c κs = search needs
 
 returns-3 : tie.Need-returns-3
 returns-3 c =
@@ -88,11 +82,11 @@ pub first-no-spec : {M : Type 1} → statement M
 first-no-spec =
     tie.close
     (tie.spec
-    is-grid-point-requires
+    (λ c κs. search needs)
     returns
     returns-2
     cast-all-at-most
-    all-at-most-requires
+    (λ c κs. search needs)
     returns-3
     sub-if4
     add-if4

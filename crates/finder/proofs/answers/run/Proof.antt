@@ -11,9 +11,6 @@ use Rattle.finder.proofs.Refusals.{by-grid, refused, same-problem}
 use Rattle.finder.proofs.answers.run.Statement.{statement}
 use Rattle.finder.proofs.answers.run.Tie as tie
 
-new-requires : tie.Need-new-requires
-new-requires c κs = search needs
-
 returns : tie.Need-returns
 returns c =
     let k = c .before .before in
@@ -33,9 +30,6 @@ run-on-requires c κs =
     let G : Grid = record { sizes = a .sizes .now; divisions = a .divisions .now } in
     made-is G (k .new .result) (k .new .ensures) (c .before .if1 .left)
 
-same-length : tie.Need-same-length
-same-length c = search needs
-
 returns-2 : tie.Need-returns-2
 returns-2 c =
     let k = c .before .before .before .before .before .before in
@@ -51,4 +45,4 @@ returns-2 c =
     (w .ensures)
 
 pub run-spec : {M : Type 1} → statement M
-run-spec = tie.close (tie.spec new-requires returns run-on-requires same-length returns-2)
+run-spec = tie.close (tie.spec (λ c κs. search needs) returns run-on-requires (λ c. search needs) returns-2)

@@ -8,9 +8,6 @@ use Rattle.finder.proofs.Refusals.{accepted-with-room, answered, by-lat
 use Rattle.finder.proofs.answers.run_on.Statement.{statement}
 use Rattle.finder.proofs.answers.run_on.Tie as tie
 
-first-no-requires : tie.Need-first-no-requires
-first-no-requires c κs = search needs
-
 returns : tie.Need-returns
 returns c =
     let e = c .before .before .before .before .before in
@@ -19,9 +16,6 @@ returns c =
     let p = problemFrom (a .g) (a .start .now) (a .labels .now) in
     refused p (a .budget) old (c .before .first-no .result) (c .if1 .taken)
     (by-later p (length old) (e .pre .accepted) ∙ sym (c .before .first-no .ensures))
-
-binomials-requires : tie.Need-binomials-requires
-binomials-requires c κs = search needs
 
 announced-requires : tie.Need-announced-requires
 announced-requires c κs =
@@ -36,9 +30,6 @@ announced-requires c κs =
       accepted = w .0;
       room = w .1;
     }
-
-same-length : tie.Need-same-length
-same-length c = search needs
 
 returns-2 : tie.Need-returns-2
 returns-2 c =
@@ -57,9 +48,9 @@ pub run-on-spec : {M : Type 1} → statement M
 run-on-spec =
     tie.close
     (tie.spec
-    first-no-requires
+    (λ c κs. search needs)
     returns
-    binomials-requires
+    (λ c κs. search needs)
     announced-requires
-    same-length
+    (λ c. search needs)
     returns-2)

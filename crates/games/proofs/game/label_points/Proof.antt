@@ -118,9 +118,6 @@ element-copy-out-wide c =
     let ok = yes (c .before .before .before .before .before .before .before) in
     omega (arith, ok .fewBlocks, ok .someBlock)
 
-wide-requires : tie.Need-wide-requires Inv-loop μ-loop
-wide-requires c κs = search needs
-
 rests-requires : tie.Need-rests-requires Inv-loop μ-loop
 rests-requires c κs =
     let ok = yes (c .before .before .before .before .before .before .before .before .before) in
@@ -207,9 +204,6 @@ sub-label-point c = first-inside (turn c)
 
 part-label-point-start : tie.Need-part-label-point-start Inv-loop μ-loop
 part-label-point-start c = first-inside (turn (c .before))
-
-part-label-point-end : tie.Need-part-label-point-end Inv-loop μ-loop
-part-label-point-end c = search needs
 
 label-point-requires : tie.Need-label-point-requires Inv-loop μ-loop
 label-point-requires c κs =
@@ -304,7 +298,7 @@ label-points-spec =
     μ-loop
     sub-last
     element-copy-out-wide
-    wide-requires
+    (λ c κs. search needs)
     rests-requires
     num-profiles-requires
     load-losses-requires
@@ -313,7 +307,7 @@ label-points-spec =
     mul-label-point
     sub-label-point
     part-label-point-start
-    part-label-point-end
+    (λ c. search needs)
     label-point-requires
     slice-write-buffer
     next-point-requires

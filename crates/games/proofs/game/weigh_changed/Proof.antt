@@ -52,12 +52,6 @@ weigh-corners-requires c κs =
       },
     )
 
-same-length : tie.Need-same-length
-same-length c = search needs
-
-same-length-2 : tie.Need-same-length-2
-same-length-2 c = search needs
-
 returns-2 : tie.Need-returns-2
 returns-2 c =
     let w = c .before .before .before .before .before .before .weigh-levels in
@@ -77,6 +71,6 @@ weigh-changed-spec =
     returns
     weigh-levels-requires
     weigh-corners-requires
-    same-length
-    same-length-2
+    (λ c. search needs)
+    (λ c. search needs)
     returns-2)

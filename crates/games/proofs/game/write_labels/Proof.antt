@@ -32,14 +32,8 @@ module _ (s : tie.Start) where
 sub-ones : tie.Need-sub-ones
 sub-ones c = omega (arith, yes (c .before .before .before .before) .someBlock)
 
-mul-ones : tie.Need-mul-ones
-mul-ones c = search needs
-
 array-write-ones : tie.Need-array-write-ones
 array-write-ones c = omega (arith, yes (c .before .before .before .before) .fewBlocks)
-
-first-point-requires : tie.Need-first-point-requires
-first-point-requires c κs = search needs
 
 array-share-prefix-ones : tie.Need-array-share-prefix-ones
 array-share-prefix-ones c = ones-long (c .before .before .before .before .before .before)
@@ -65,12 +59,6 @@ slice-aggregate-label-points-2 c =
     ) (omega (arith, s .pre .1 .0, yes s .fewIndices)) in
     sym (length-take-le (s .args .indices) (c .before .before .first-point .last .1 .1 .1 .0) room)
 
-slice-aggregate-label-points-3 : tie.Need-slice-aggregate-label-points-3
-slice-aggregate-label-points-3 c = search needs
-
-slice-aggregate-label-points-4 : tie.Need-slice-aggregate-label-points-4
-slice-aggregate-label-points-4 c = search needs
-
 label-points-requires : tie.Need-label-points-requires
 label-points-requires c κs =
     let s = c .before .before .before .before .before .before .before .before .before .before .before in
@@ -89,26 +77,20 @@ label-points-requires c κs =
       whole = s .pre .1 .2;
     }
 
-same-length : tie.Need-same-length
-same-length c = search needs
-
-returns : tie.Need-returns
-returns c = search needs
-
 pub write-labels-spec : {M : Type 1} → statement M
 write-labels-spec =
     tie.close
     (tie.spec
     sub-ones
-    mul-ones
+    (λ c. search needs)
     array-write-ones
-    first-point-requires
+    (λ c κs. search needs)
     array-share-prefix-ones
     slice-aggregate-label-points
     array-borrow-prefix-point
     slice-aggregate-label-points-2
-    slice-aggregate-label-points-3
-    slice-aggregate-label-points-4
+    (λ c. search needs)
+    (λ c. search needs)
     label-points-requires
-    same-length
-    returns)
+    (λ c. search needs)
+    (λ c. search needs))

@@ -6,14 +6,8 @@ use borrow.Author.Needs.{needs}
 use Rattle.grid.proofs.Grid.new.Statement.{statement}
 use Rattle.grid.proofs.Grid.new.Tie as tie
 
-first-no-requires : tie.Need-first-no-requires
-first-no-requires c κs = search needs
-
 built-requires : tie.Need-built-requires
 built-requires c κs = sym (c .before .first-no .ensures) ∙ c .if1 .taken
-
-none-requires : tie.Need-none-requires
-none-requires c κs = search needs
 
 returns : tie.Need-returns
 unfolding madeOf
@@ -30,4 +24,4 @@ returns-2 c =
     rw (c .none .ensures, ← e, ne-eqb (c .before .before .first-no .result) 0 z)
 
 pub new-spec : {M : Type 1} → statement M
-new-spec = tie.close (tie.spec first-no-requires built-requires none-requires returns returns-2)
+new-spec = tie.close (tie.spec (λ c κs. search needs) built-requires (λ c κs. search needs) returns returns-2)

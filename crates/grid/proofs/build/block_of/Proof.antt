@@ -25,19 +25,10 @@ shared-slice-read-wide : tie.Need-shared-slice-read-wide Inv-loop μ-loop
 shared-slice-read-wide c = some-left (c .before .before .before .args .sizes .now) (c .before .loop .j)
     (c .before .loop .left) (c .before .loop .inv .0)
 
-wide-requires : tie.Need-wide-requires Inv-loop μ-loop
-wide-requires c κs = search needs
-
 shared-slice-read-wide-2 : tie.Need-shared-slice-read-wide-2 Inv-loop μ-loop
 shared-slice-read-wide-2 c =
     let l = c .before .before .before .before .loop in
     some-left (c .before .before .before .before .before .before .args .sizes .now) (l .j) (l .left) (l .inv .0)
-
-wide-requires-2 : tie.Need-wide-requires-2 Inv-loop μ-loop
-wide-requires-2 c κs = search needs
-
-sub-left : tie.Need-sub-left Inv-loop μ-loop
-sub-left c = search needs
 
 add-j : tie.Need-add-j Inv-loop μ-loop
 add-j c =
@@ -78,10 +69,10 @@ block-of-spec =
     μ-loop
     loop-holds
     shared-slice-read-wide
-    wide-requires
+    (λ c κs. search needs)
     shared-slice-read-wide-2
-    wide-requires-2
-    sub-left
+    (λ c κs. search needs)
+    (λ c. search needs)
     add-j
     loop-less
     loop-again

@@ -34,9 +34,6 @@ counted c = record {
   numberIs = refl;
 }
 
-mark-blocks-requires : tie.Need-mark-blocks-requires
-mark-blocks-requires c κs = search needs
-
 first-index-requires : tie.Need-first-index-requires
 first-index-requires c κs = (omega arith, yes (c .before .before .before .before .before .before .before) .fewBlocks)
 
@@ -70,7 +67,7 @@ pub built-spec : {M : Type 1} → statement M
 built-spec =
     tie.close
     (tie.spec
-    mark-blocks-requires
+    (λ c κs. search needs)
     first-index-requires
     mark-indices-requires
     product-requires

@@ -42,51 +42,12 @@ loop-holds c =
       accepted _ (p .0),
     )
 
-shared-slice-read-own-sizes : tie.Need-shared-slice-read-own-sizes Inv-loop μ-loop
-shared-slice-read-own-sizes c = search needs
-
-element-write-own-sizes : tie.Need-element-write-own-sizes Inv-loop μ-loop
-element-write-own-sizes c = search needs
-
-mul-own-divisions : tie.Need-mul-own-divisions Inv-loop μ-loop
-mul-own-divisions c = search needs
-
-shared-slice-read-own-divisions : tie.Need-shared-slice-read-own-divisions Inv-loop μ-loop
-shared-slice-read-own-divisions c = search needs
-
-mul-own-divisions-2 : tie.Need-mul-own-divisions-2 Inv-loop μ-loop
-mul-own-divisions-2 c = search needs
-
-element-write-own-divisions : tie.Need-element-write-own-divisions Inv-loop μ-loop
-element-write-own-divisions c = search needs
-
-first-index-requires : tie.Need-first-index-requires Inv-loop μ-loop
-first-index-requires c κs = search needs
-
 cast-firsts : tie.Need-cast-firsts Inv-loop μ-loop
 cast-firsts c = omega (
   arith,
   block-fits (c .before .before .before .before .before .before .before .args .sizes .now)
       (c .before .before .before .before .loop .j),
 )
-
-element-write-firsts : tie.Need-element-write-firsts Inv-loop μ-loop
-element-write-firsts c = search needs
-
-shared-slice-read-wide : tie.Need-shared-slice-read-wide Inv-loop μ-loop
-shared-slice-read-wide c = search needs
-
-wide-requires : tie.Need-wide-requires Inv-loop μ-loop
-wide-requires c κs = search needs
-
-mul-wide16 : tie.Need-mul-wide16 Inv-loop μ-loop
-mul-wide16 c = search needs
-
-shared-slice-read-wide16 : tie.Need-shared-slice-read-wide16 Inv-loop μ-loop
-shared-slice-read-wide16 c = search needs
-
-wide16-requires : tie.Need-wide16-requires Inv-loop μ-loop
-wide16-requires c κs = search needs
 
 block-count-requires : tie.Need-block-count-requires Inv-loop μ-loop
 block-count-requires c κs =
@@ -96,18 +57,6 @@ block-count-requires c κs =
 
 cast-counts : tie.Need-cast-counts Inv-loop μ-loop
 cast-counts c = omega (arith, c .block-count .ensures)
-
-mul-counts : tie.Need-mul-counts Inv-loop μ-loop
-mul-counts c = search needs
-
-element-write-counts : tie.Need-element-write-counts Inv-loop μ-loop
-element-write-counts c = search needs
-
-add-j : tie.Need-add-j Inv-loop μ-loop
-add-j c = search needs
-
-loop-less : tie.Need-loop-less Inv-loop μ-loop
-loop-less c = search needs
 
 loop-again : tie.Need-loop-again Inv-loop μ-loop
 loop-again c =
@@ -151,25 +100,25 @@ mark-blocks-spec =
     Inv-loop
     μ-loop
     loop-holds
-    shared-slice-read-own-sizes
-    element-write-own-sizes
-    mul-own-divisions
-    shared-slice-read-own-divisions
-    mul-own-divisions-2
-    element-write-own-divisions
-    first-index-requires
+    (λ c. search needs)
+    (λ c. search needs)
+    (λ c. search needs)
+    (λ c. search needs)
+    (λ c. search needs)
+    (λ c. search needs)
+    (λ c κs. search needs)
     cast-firsts
-    element-write-firsts
-    shared-slice-read-wide
-    wide-requires
-    mul-wide16
-    shared-slice-read-wide16
-    wide16-requires
+    (λ c. search needs)
+    (λ c. search needs)
+    (λ c κs. search needs)
+    (λ c. search needs)
+    (λ c. search needs)
+    (λ c κs. search needs)
     block-count-requires
     cast-counts
-    mul-counts
-    element-write-counts
-    add-j
-    loop-less
+    (λ c. search needs)
+    (λ c. search needs)
+    (λ c. search needs)
+    (λ c. search needs)
     loop-again
     returns)

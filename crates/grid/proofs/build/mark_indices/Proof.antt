@@ -51,45 +51,24 @@ loop-holds c =
     let z = p .1 in
     (z .blockZero ∙ none, z .previousZero ∙ none, z .nextZero ∙ none, omega arith, p .0 .0, p .0 .1, p .0 .2)
 
-block-of-requires : tie.Need-block-of-requires Inv-loop μ-loop
-block-of-requires c κs = search needs
-
 first-index-requires : tie.Need-first-index-requires Inv-loop μ-loop
 first-index-requires c κs = omega (arith, spans c .0)
 
 shared-slice-read-wide : tie.Need-shared-slice-read-wide Inv-loop μ-loop
 shared-slice-read-wide c = spans (c .before .before) .0
 
-wide-requires : tie.Need-wide-requires Inv-loop μ-loop
-wide-requires c κs = search needs
-
 cast-block : tie.Need-cast-block Inv-loop μ-loop
 cast-block c = omega (arith, spans (c .before .before .before) .0)
-
-element-write-block : tie.Need-element-write-block Inv-loop μ-loop
-element-write-block c = search needs
 
 index-before-requires : tie.Need-index-before-requires Inv-loop μ-loop
 index-before-requires c κs =
     let s = spans (c .before .before .before) in
     rw (c .before .before .first-index .ensures, c .wide .ensures) (s .1, s .2, s .3)
 
-element-write-previous : tie.Need-element-write-previous Inv-loop μ-loop
-element-write-previous c = search needs
-
 index-after-requires : tie.Need-index-after-requires Inv-loop μ-loop
 index-after-requires c κs =
     let s = spans (c .before .before .before .before) in
     rw (c .before .before .before .first-index .ensures, c .before .wide .ensures) (omega arith, s .3)
-
-element-write-next : tie.Need-element-write-next Inv-loop μ-loop
-element-write-next c = search needs
-
-add-h : tie.Need-add-h Inv-loop μ-loop
-add-h c = search needs
-
-loop-less : tie.Need-loop-less Inv-loop μ-loop
-loop-less c = search needs
 
 loop-again : tie.Need-loop-again Inv-loop μ-loop
 unfolding before after
@@ -131,17 +110,17 @@ mark-indices-spec =
     Inv-loop
     μ-loop
     loop-holds
-    block-of-requires
+    (λ c κs. search needs)
     first-index-requires
     shared-slice-read-wide
-    wide-requires
+    (λ c κs. search needs)
     cast-block
-    element-write-block
+    (λ c. search needs)
     index-before-requires
-    element-write-previous
+    (λ c. search needs)
     index-after-requires
-    element-write-next
-    add-h
-    loop-less
+    (λ c. search needs)
+    (λ c. search needs)
+    (λ c. search needs)
     loop-again
     returns)

@@ -48,26 +48,11 @@ loop-holds c =
     let p = c .pre in
     ((λ g b. refl), omega arith, omega (arith, p .1 .numberIs, accepted (p .0) (p .1 .accepted) .fewBlocks))
 
-mul-wide16 : tie.Need-mul-wide16 Inv-loop μ-loop
-mul-wide16 c = search needs
-
-element-copy-out-wide16 : tie.Need-element-copy-out-wide16 Inv-loop μ-loop
-element-copy-out-wide16 c = search needs
-
-wide16-requires : tie.Need-wide16-requires Inv-loop μ-loop
-wide16-requires c κs = search needs
-
 mul-product : tie.Need-mul-product Inv-loop μ-loop
 mul-product c =
     let l = c .before .before .before .loop in
     let p = c .before .before .before .before .pre in
     rw (l .inv .0 (p .0) (p .1), c .wide16 .ensures .0) (omega (arith, few (p .1) (l .j) (omega arith)))
-
-add-j : tie.Need-add-j Inv-loop μ-loop
-add-j c = search needs
-
-loop-less : tie.Need-loop-less Inv-loop μ-loop
-loop-less c = search needs
 
 loop-again : tie.Need-loop-again Inv-loop μ-loop
 loop-again c =
@@ -90,11 +75,11 @@ product-spec =
     Inv-loop
     μ-loop
     loop-holds
-    mul-wide16
-    element-copy-out-wide16
-    wide16-requires
+    (λ c. search needs)
+    (λ c. search needs)
+    (λ c κs. search needs)
     mul-product
-    add-j
-    loop-less
+    (λ c. search needs)
+    (λ c. search needs)
     loop-again
     returns)

@@ -87,15 +87,9 @@ returns-2 c =
     let n = length (c .before .before .before .before .args .sizes .now) in
     rw (le-leb 1 n (omega arith), lt-leb n 6 (omega arith))
 
-each-two-requires : tie.Need-each-two-requires
-each-two-requires c κs = search needs
-
 returns-3 : tie.Need-returns-3
 unfolding firstNo grid
 returns-3 c = rw (yes1 (c .before .before), sym (c .before .each-two .ensures) ∙ not-true _ (c .if3 .taken))
-
-first-index-requires : tie.Need-first-index-requires
-first-index-requires c κs = search needs
 
 returns-4 : tie.Need-returns-4
 unfolding firstNo grid
@@ -110,9 +104,6 @@ returns-4 c =
 returns-5 : tie.Need-returns-5
 unfolding firstNo grid
 returns-5 c = rw (yes1 (few (c .before)), yes2 (c .before), ne-eqb _ _ (c .if5 .taken))
-
-each-one-requires : tie.Need-each-one-requires
-each-one-requires c κs = search needs
 
 returns-6 : tie.Need-returns-6
 unfolding firstNo grid
@@ -154,12 +145,12 @@ first-no-spec =
     (tie.spec
     returns
     returns-2
-    each-two-requires
+    (λ c κs. search needs)
     returns-3
-    first-index-requires
+    (λ c κs. search needs)
     returns-4
     returns-5
-    each-one-requires
+    (λ c κs. search needs)
     returns-6
     points-requires
     returns-7

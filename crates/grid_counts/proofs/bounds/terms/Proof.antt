@@ -34,9 +34,6 @@ factor c =
 loop-holds : tie.Need-loop-holds Inv-loop μ-loop
 loop-holds c = (refl, refl, omega arith, omega arith, omega arith, omega arith)
 
-sub-product : tie.Need-sub-product Inv-loop μ-loop
-sub-product c = search needs
-
 mul-product : tie.Need-mul-product Inv-loop μ-loop
 mul-product c = omega (arith, factor c .0, factor c .1)
 
@@ -47,12 +44,6 @@ add-sum c =
     let few : total (map (falling m) (upFrom 0 (l .k + 1))) ≤ 35951249665217 =
     rw (add-one (l .k)) (terms-few m (l .k) (omega arith) (omega arith)) in
     omega (arith, factor c .0, factor c .1, few, l .inv .1)
-
-add-k : tie.Need-add-k Inv-loop μ-loop
-add-k c = search needs
-
-loop-less : tie.Need-loop-less Inv-loop μ-loop
-loop-less c = search needs
 
 loop-again : tie.Need-loop-again Inv-loop μ-loop
 loop-again c =
@@ -80,10 +71,10 @@ terms-spec =
     Inv-loop
     μ-loop
     loop-holds
-    sub-product
+    (λ c. search needs)
     mul-product
     add-sum
-    add-k
-    loop-less
+    (λ c. search needs)
+    (λ c. search needs)
     loop-again
     returns)

@@ -19,20 +19,11 @@ Inv-loop size division last row₀ r₀ row r =
 abbrev μ-loop : tie.MeasureT-loop
 μ-loop size division last row₀ r₀ row r = division - r
 
-add-cap : tie.Need-add-cap Inv-loop μ-loop
-add-cap c = search needs
-
-cap-requires : tie.Need-cap-requires Inv-loop μ-loop
-cap-requires c κs = search needs
-
 returns : tie.Need-returns Inv-loop μ-loop
 returns c =
     let a = c .before .before .args in
     let e : pred (a .size) ≡ 1 = omega arith in
     c .cap .ensures ∙ rw e (ap capped (sym (choose-one (a .division))))
-
-sub-last : tie.Need-sub-last Inv-loop μ-loop
-sub-last c = search needs
 
 loop-holds : tie.Need-loop-holds Inv-loop μ-loop
 loop-holds c = (
@@ -42,15 +33,6 @@ loop-holds c = (
   sub-one (c .before .args .size),
   omega arith,
 )
-
-mul-if2 : tie.Need-mul-if2 Inv-loop μ-loop
-mul-if2 c = search needs
-
-array-read-if2 : tie.Need-array-read-if2 Inv-loop μ-loop
-array-read-if2 c = search needs
-
-add-result : tie.Need-add-result Inv-loop μ-loop
-add-result c = search needs
 
 returns-2 : tie.Need-returns-2 Inv-loop μ-loop
 returns-2 c =
@@ -64,12 +46,6 @@ next-row-requires c κs =
     let l = c .before .before .before .loop in
     (l .inv .4, l .inv .2, λ k h. omega (arith, l .inv .0 k h))
 
-add-r : tie.Need-add-r Inv-loop μ-loop
-add-r c = search needs
-
-loop-less : tie.Need-loop-less Inv-loop μ-loop
-loop-less c = search needs
-
 loop-again : tie.Need-loop-again Inv-loop μ-loop
 loop-again c =
     let l = c .before .before .before .before .loop in (
@@ -79,12 +55,6 @@ loop-again c =
       l .inv .3,
       l .inv .4,
     )
-
-mul-result : tie.Need-mul-result Inv-loop μ-loop
-mul-result c = search needs
-
-array-read-result : tie.Need-array-read-result Inv-loop μ-loop
-array-read-result c = search needs
 
 returns-3 : tie.Need-returns-3 Inv-loop μ-loop
 returns-3 c =
@@ -99,19 +69,19 @@ block-count-spec =
     (tie.spec
     Inv-loop
     μ-loop
-    add-cap
-    cap-requires
+    (λ c. search needs)
+    (λ c κs. search needs)
     returns
-    sub-last
+    (λ c. search needs)
     loop-holds
-    mul-if2
-    array-read-if2
-    add-result
+    (λ c. search needs)
+    (λ c. search needs)
+    (λ c. search needs)
     returns-2
     next-row-requires
-    add-r
-    loop-less
+    (λ c. search needs)
+    (λ c. search needs)
     loop-again
-    mul-result
-    array-read-result
+    (λ c. search needs)
+    (λ c. search needs)
     returns-3)

@@ -22,40 +22,10 @@ loop-holds c =
     let a = c .args in
     (omega arith, omega arith, omega arith, c .pre .1, c .pre .2, (λ r h. raised-start r (a .last) (a .row .now) h))
 
-mul-cap : tie.Need-mul-cap Inv-loop μ-loop
-mul-cap c = search needs
-
-element-copy-out-cap : tie.Need-element-copy-out-cap Inv-loop μ-loop
-element-copy-out-cap c = search needs
-
-sub-cap : tie.Need-sub-cap Inv-loop μ-loop
-sub-cap c = search needs
-
-mul-cap-2 : tie.Need-mul-cap-2 Inv-loop μ-loop
-mul-cap-2 c = search needs
-
-element-copy-out-cap-2 : tie.Need-element-copy-out-cap-2 Inv-loop μ-loop
-element-copy-out-cap-2 c = search needs
-
 add-cap : tie.Need-add-cap Inv-loop μ-loop
 add-cap c =
     let l = c .before .before .before .loop in
     omega (arith, l .inv .4 (l .k) (omega arith), l .inv .4 (l .k - 1) (omega arith))
-
-cap-requires : tie.Need-cap-requires Inv-loop μ-loop
-cap-requires c κs = search needs
-
-mul-row : tie.Need-mul-row Inv-loop μ-loop
-mul-row c = search needs
-
-element-write-row : tie.Need-element-write-row Inv-loop μ-loop
-element-write-row c = search needs
-
-add-k : tie.Need-add-k Inv-loop μ-loop
-add-k c = search needs
-
-loop-less : tie.Need-loop-less Inv-loop μ-loop
-loop-less c = search needs
 
 loop-again : tie.Need-loop-again Inv-loop μ-loop
 loop-again c =
@@ -82,16 +52,16 @@ next-row-spec =
     Inv-loop
     μ-loop
     loop-holds
-    mul-cap
-    element-copy-out-cap
-    sub-cap
-    mul-cap-2
-    element-copy-out-cap-2
+    (λ c. search needs)
+    (λ c. search needs)
+    (λ c. search needs)
+    (λ c. search needs)
+    (λ c. search needs)
     add-cap
-    cap-requires
-    mul-row
-    element-write-row
-    add-k
-    loop-less
+    (λ c κs. search needs)
+    (λ c. search needs)
+    (λ c. search needs)
+    (λ c. search needs)
+    (λ c. search needs)
     loop-again
     returns)

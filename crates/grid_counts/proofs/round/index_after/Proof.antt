@@ -6,21 +6,6 @@ use native.Mathlib.Omega.{arith}
 use Rattle.grid_counts.proofs.round.index_after.Statement.{statement}
 use Rattle.grid_counts.proofs.round.index_after.Tie as tie
 
-add-if1 : tie.Need-add-if1
-add-if1 c = search needs
-
-add-if1-2 : tie.Need-add-if1-2
-add-if1-2 c = search needs
-
-cast-result : tie.Need-cast-result
-cast-result c = search needs
-
-add-result : tie.Need-add-result
-add-result c = search needs
-
-cast-result-2 : tie.Need-cast-result-2
-cast-result-2 c = search needs
-
 returns : tie.Need-returns
 returns c = let a = c .before .args in rw (eq-eqb (suc (a .h)) (a .first + a .size) (omega arith))
 
@@ -29,4 +14,4 @@ returns-2 c = let a = c .before .args in rw (ne-eqb (suc (a .h)) (a .first + a .
 
 pub index-after-spec : {M : Type 1} → statement M
 index-after-spec =
-    tie.close (tie.spec add-if1 add-if1-2 cast-result add-result cast-result-2 returns returns-2)
+    tie.close (tie.spec (λ c. search needs) (λ c. search needs) (λ c. search needs) (λ c. search needs) (λ c. search needs) returns returns-2)

@@ -17,21 +17,12 @@ Inv-loop sizes divisions factor levels grids₀ made₀ i₀ grids made i =
 abbrev μ-loop : tie.MeasureT-loop
 μ-loop sizes divisions factor levels grids₀ made₀ i₀ grids made i = levels - i
 
-none-requires : tie.Need-none-requires Inv-loop μ-loop
-none-requires c κs = search needs
-
-new-requires : tie.Need-new-requires Inv-loop μ-loop
-new-requires c κs = search needs
-
 returns : tie.Need-returns Inv-loop μ-loop
 returns c =
     let s = c .before .before .before .before .before .before .before in
     let n = c .before .before .before .new in
     first-refused (lent (s .args .sizes .now) (s .args .divisions .now)) (s .args .factor) (s .args .levels) (n .result)
     _ (s .pre .1 .0) (n .ensures) (c .if1 .taken)
-
-array-set-from-grids : tie.Need-array-set-from-grids Inv-loop μ-loop
-array-set-from-grids c = search needs
 
 loop-holds : tie.Need-loop-holds Inv-loop μ-loop
 loop-holds c =
@@ -59,12 +50,6 @@ returns-2 c =
     let n = c .before .before .next-grid in
     next-stops (lent (s .args .sizes .now) (s .args .divisions .now)) (s .args .factor) (l .i) (l .grids) (l .made)
     (l .inv .0) (n .result) (n .ensures) (s .args .levels) (omega arith) (c .if2 .taken)
-
-mul-grids : tie.Need-mul-grids Inv-loop μ-loop
-mul-grids c = search needs
-
-array-set-from-grids-2 : tie.Need-array-set-from-grids-2 Inv-loop μ-loop
-array-set-from-grids-2 c = search needs
 
 add-i : tie.Need-add-i Inv-loop μ-loop
 add-i c = omega arith
@@ -95,15 +80,15 @@ made-levels-spec =
     (tie.spec
     Inv-loop
     μ-loop
-    none-requires
-    new-requires
+    (λ c κs. search needs)
+    (λ c κs. search needs)
     returns
-    array-set-from-grids
+    (λ c. search needs)
     loop-holds
     next-grid-requires
     returns-2
-    mul-grids
-    array-set-from-grids-2
+    (λ c. search needs)
+    (λ c. search needs)
     add-i
     loop-less
     loop-again

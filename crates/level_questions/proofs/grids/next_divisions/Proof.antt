@@ -30,9 +30,6 @@ mul-wide16 c = omega arith
 array-read-wide16 : tie.Need-array-read-wide16 Inv-loop μ-loop
 array-read-wide16 c = omega arith
 
-wide16-requires : tie.Need-wide16-requires Inv-loop μ-loop
-wide16-requires c κs = search needs
-
 mul-product : tie.Need-mul-product Inv-loop μ-loop
 mul-product c =
     omega (
@@ -90,7 +87,7 @@ next-divisions-spec =
     loop-holds
     mul-wide16
     array-read-wide16
-    wide16-requires
+    (λ c κs. search needs)
     mul-product
     returns
     cast-numbers

@@ -11,12 +11,6 @@ use Rattle.level_questions.proofs.NextGrids.{next-lent, next-refused}
 use Rattle.level_questions.proofs.grids.next_grid.Statement.{statement}
 use Rattle.level_questions.proofs.grids.next_grid.Tie as tie
 
-next-divisions-requires : tie.Need-next-divisions-requires
-next-divisions-requires c κs = search needs
-
-none-requires : tie.Need-none-requires
-none-requires c κs = search needs
-
 returns : tie.Need-returns
 returns c =
     let s = c .before .before .before .before in
@@ -44,9 +38,6 @@ array-share-prefix-divisions c =
 slice-aggregate-new-2 : tie.Need-slice-aggregate-new-2
 slice-aggregate-new-2 c = sym (length-take-le _ _ (array-share-prefix-divisions (c .before)))
 
-new-requires : tie.Need-new-requires
-new-requires c κs = search needs
-
 returns-2 : tie.Need-returns-2
 returns-2 c =
     let s = c .before .before .before .before .before .before .before .before in
@@ -59,12 +50,12 @@ pub next-grid-spec : {M : Type 1} → statement M
 next-grid-spec =
     tie.close
     (tie.spec
-    next-divisions-requires
-    none-requires
+    (λ c κs. search needs)
+    (λ c κs. search needs)
     returns
     array-share-prefix-sizes
     slice-aggregate-new
     array-share-prefix-divisions
     slice-aggregate-new-2
-    new-requires
+    (λ c κs. search needs)
     returns-2)

@@ -21,9 +21,6 @@ use Rattle.level_questions.proofs.Asked.{no-buffer, no-length, no-range
 use Rattle.level_questions.proofs.later.first_no.Statement.{statement}
 use Rattle.level_questions.proofs.later.first_no.Tie as tie
 
-is-grid-point-requires : tie.Need-is-grid-point-requires
-is-grid-point-requires c κs = search needs
-
 returns : tie.Need-returns
 returns c =
     let a = c .before .before .before .before .args in
@@ -91,9 +88,6 @@ whole : (c : tie.Else2) → (let a = begun (started (c .before)) .args in
     length (a .losses .now) ≡ numLosses (shape (a .grid)))
 whole c = c .if2 .left ∙ count-is (c .before)
 
-in-range-requires : tie.Need-in-range-requires
-in-range-requires c κs = search needs
-
 returns-3 : tie.Need-returns-3
 returns-3 c =
     let w = c .before .before in
@@ -118,9 +112,6 @@ returns-4 c =
     let a = begun (asked r) .args in
     no-buffer (shape (a .grid)) (a .points) (a .start .now) (a .losses .now) (a .levels) (a .label-room) (a .room)
     (on (asked r)) (whole (r .before .before)) (range r) (c .if4 .taken)
-
-room-of-requires : tie.Need-room-of-requires
-room-of-requires c κs = search needs
 
 mul-if5 : tie.Need-mul-if5
 mul-if5 c =
@@ -148,17 +139,17 @@ pub first-no-spec : {M : Type 1} → statement M
 first-no-spec =
     tie.close
     (tie.spec
-    is-grid-point-requires
+    (λ c κs. search needs)
     returns
     array-share-prefix-sizes
     slice-aggregate-num-profiles
     num-profiles-requires
     mul-if2
     returns-2
-    in-range-requires
+    (λ c κs. search needs)
     returns-3
     returns-4
-    room-of-requires
+    (λ c κs. search needs)
     mul-if5
     returns-5
     returns-6)

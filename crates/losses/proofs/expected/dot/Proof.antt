@@ -24,9 +24,6 @@ mul-long c = omega arith
 shared-slice-read-long : tie.Need-shared-slice-read-long Inv-loop μ-loop
 shared-slice-read-long c = omega arith
 
-long-requires : tie.Need-long-requires Inv-loop μ-loop
-long-requires c κs = search needs
-
 mul-total : tie.Need-mul-total Inv-loop μ-loop
 mul-total c = omega arith
 
@@ -81,7 +78,7 @@ dot-spec =
     loop-holds
     mul-long
     shared-slice-read-long
-    long-requires
+    (λ c κs. search needs)
     mul-total
     shared-slice-read-total
     mul-total-2

@@ -21,9 +21,6 @@ Inv-loop mix values division first expected₀ replaced₀ loss k₀ expected re
 abbrev μ-loop : tie.MeasureT-loop
 μ-loop mix values division first expected₀ replaced₀ loss k₀ expected replaced k = length mix - k
 
-dot-requires : tie.Need-dot-requires Inv-loop μ-loop
-dot-requires c κs = search needs
-
 loop-holds : tie.Need-loop-holds Inv-loop μ-loop
 loop-holds c =
     let a = c .before .before .before .before .before .args in (
@@ -35,9 +32,6 @@ loop-holds c =
       refl,
       refl,
     )
-
-long-requires : tie.Need-long-requires Inv-loop μ-loop
-long-requires c κs = search needs
 
 mul-instead : tie.Need-mul-instead Inv-loop μ-loop
 mul-instead c = omega arith
@@ -114,9 +108,9 @@ put-losses-spec =
     (tie.spec
     Inv-loop
     μ-loop
-    dot-requires
+    (λ c κs. search needs)
     loop-holds
-    long-requires
+    (λ c κs. search needs)
     mul-instead
     shared-slice-read-instead
     mul-instead-2

@@ -50,26 +50,11 @@ element-copy-out-wide c = omega (
   c .before .before .before .before .before .before .pre .1,
 )
 
-wide-requires : tie.Need-wide-requires
-wide-requires c κs = search needs
-
-shared-slice-read-wide : tie.Need-shared-slice-read-wide
-shared-slice-read-wide c = search needs
-
-wide-requires-2 : tie.Need-wide-requires-2
-wide-requires-2 c κs = search needs
-
 add-end : tie.Need-add-end
 add-end c = omega (arith, first-is c, inside c)
 
 mul-put-losses : tie.Need-mul-put-losses
 mul-put-losses c = omega (arith, first-is c, inside c)
-
-sub-put-losses : tie.Need-sub-put-losses
-sub-put-losses c = search needs
-
-part-put-losses-start : tie.Need-part-put-losses-start
-part-put-losses-start c = search needs
 
 part-put-losses-end : tie.Need-part-put-losses-end
 part-put-losses-end c = let e = first-is c in let i = inside c in search needs
@@ -77,17 +62,8 @@ part-put-losses-end c = let e = first-is c in let i = inside c in search needs
 mul-put-losses-2 : tie.Need-mul-put-losses-2
 mul-put-losses-2 c = omega (arith, first-is (c .before), inside-values (c .before))
 
-sub-put-losses-2 : tie.Need-sub-put-losses-2
-sub-put-losses-2 c = search needs
-
-part-put-losses-start-2 : tie.Need-part-put-losses-start-2
-part-put-losses-start-2 c = search needs
-
 part-put-losses-end-2 : tie.Need-part-put-losses-end-2
 part-put-losses-end-2 c = let e = first-is (c .before) in let i = inside-values (c .before) in search needs
-
-mul-put-losses-3 : tie.Need-mul-put-losses-3
-mul-put-losses-3 c = search needs
 
 shared-slice-read-put-losses : tie.Need-shared-slice-read-put-losses
 shared-slice-read-put-losses c = omega (
@@ -111,12 +87,6 @@ put-losses-requires c κs =
     (w .before .before .wide .result) (w .wide2 .result) (first-is w) (w .wide2 .ensures) in
     (fits, omega (arith, ends, s .pre .2 .ofExpected), omega (arith, ends, s .pre .2 .ofReplaced))
 
-same-length : tie.Need-same-length
-same-length c = search needs
-
-same-length-2 : tie.Need-same-length-2
-same-length-2 c = search needs
-
 returns : tie.Need-returns
 returns c =
     let w = c .before .before .before .before .before .before .before .before .before .before in
@@ -138,21 +108,21 @@ weigh-player-spec =
     tie.close
     (tie.spec
     element-copy-out-wide
-    wide-requires
-    shared-slice-read-wide
-    wide-requires-2
+    (λ c κs. search needs)
+    (λ c. search needs)
+    (λ c κs. search needs)
     add-end
     mul-put-losses
-    sub-put-losses
-    part-put-losses-start
+    (λ c. search needs)
+    (λ c. search needs)
     part-put-losses-end
     mul-put-losses-2
-    sub-put-losses-2
-    part-put-losses-start-2
+    (λ c. search needs)
+    (λ c. search needs)
     part-put-losses-end-2
-    mul-put-losses-3
+    (λ c. search needs)
     shared-slice-read-put-losses
     put-losses-requires
-    same-length
-    same-length-2
+    (λ c. search needs)
+    (λ c. search needs)
     returns)

@@ -17,24 +17,6 @@ use borrow.Author.Needs.{needs}
 use Rattle.marks.proofs.one_step.by_step_from.Statement.{statement}
 use Rattle.marks.proofs.one_step.by_step_from.Tie as tie
 
-index-at-requires : tie.Need-index-at-requires
-index-at-requires c κs = search needs
-
-first-outside-requires : tie.Need-first-outside-requires
-first-outside-requires c κs = search needs
-
-add-position-at : tie.Need-add-position-at
-add-position-at c = search needs
-
-position-at-requires : tie.Need-position-at-requires
-position-at-requires c κs = search needs
-
-position-at-requires-2 : tie.Need-position-at-requires-2
-position-at-requires-2 c κs = search needs
-
-gone-round-requires : tie.Need-gone-round-requires
-gone-round-requires c κs = search needs
-
 -- the state, with any first point
 abbrev place : tie.Start → List ℕ → State
 place s first =
@@ -113,12 +95,12 @@ pub by-step-from-spec : {M : Type 1} → statement M
 by-step-from-spec =
     tie.close
     (tie.spec
-    index-at-requires
-    first-outside-requires
-    add-position-at
-    position-at-requires
-    position-at-requires-2
-    gone-round-requires
+    (λ c κs. search needs)
+    (λ c κs. search needs)
+    (λ c. search needs)
+    (λ c κs. search needs)
+    (λ c κs. search needs)
+    (λ c κs. search needs)
     fall-at-requires
     add-t18
     returns

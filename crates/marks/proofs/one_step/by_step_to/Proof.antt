@@ -16,27 +16,6 @@ use borrow.Author.Needs.{needs}
 use Rattle.marks.proofs.one_step.by_step_to.Statement.{statement}
 use Rattle.marks.proofs.one_step.by_step_to.Tie as tie
 
-sub-index-at : tie.Need-sub-index-at
-sub-index-at c = search needs
-
-index-at-requires : tie.Need-index-at-requires
-index-at-requires c κs = search needs
-
-first-outside-requires : tie.Need-first-outside-requires
-first-outside-requires c κs = search needs
-
-sub-position-at : tie.Need-sub-position-at
-sub-position-at c = search needs
-
-position-at-requires : tie.Need-position-at-requires
-position-at-requires c κs = search needs
-
-position-at-requires-2 : tie.Need-position-at-requires-2
-position-at-requires-2 c κs = search needs
-
-gone-round-requires : tie.Need-gone-round-requires
-gone-round-requires c κs = search needs
-
 -- the state, with any first point
 abbrev place : tie.Start → List ℕ → State
 place s first =
@@ -97,13 +76,13 @@ pub by-step-to-spec : {M : Type 1} → statement M
 by-step-to-spec =
     tie.close
     (tie.spec
-    sub-index-at
-    index-at-requires
-    first-outside-requires
-    sub-position-at
-    position-at-requires
-    position-at-requires-2
-    gone-round-requires
+    (λ c. search needs)
+    (λ c κs. search needs)
+    (λ c κs. search needs)
+    (λ c. search needs)
+    (λ c κs. search needs)
+    (λ c κs. search needs)
+    (λ c κs. search needs)
     fall-at-requires
     sub-t19
     returns

@@ -19,15 +19,6 @@ element-copy-out-sum-2 : tie.Need-element-copy-out-sum-2
 element-copy-out-sum-2 c =
     omega (arith, indices-few (c .before .args .g) (c .before .pre .0 .made), c .before .pre .1 .index)
 
-sum-requires : tie.Need-sum-requires
-sum-requires c κs = search needs
-
-element-copy-out-wide16 : tie.Need-element-copy-out-wide16
-element-copy-out-wide16 c = search needs
-
-wide16-requires : tie.Need-wide16-requires
-wide16-requires c κs = search needs
-
 add-fall : tie.Need-add-fall
 add-fall c = omega (arith, c .wide16 .ensures, c .before .before .before .before .before .pre .1 .most)
 
@@ -59,9 +50,9 @@ fall-at-spec =
     element-copy-out-sum
     mul-sum-2
     element-copy-out-sum-2
-    sum-requires
-    element-copy-out-wide16
-    wide16-requires
+    (λ c κs. search needs)
+    (λ c. search needs)
+    (λ c κs. search needs)
     add-fall
     sub-fall
     fall-requires

@@ -13,9 +13,6 @@ use borrow.Author.Needs.{needs}
 use Rattle.moves.proofs.leaving.leave_first_at.Statement.{statement}
 use Rattle.moves.proofs.leaving.leave_first_at.Tie as tie
 
-vanishes-requires : tie.Need-vanishes-requires
-vanishes-requires c κs = search needs
-
 is-filled-requires : tie.Need-is-filled-requires
 is-filled-requires c κs = let s = c .before .before .before in (s .pre .1 .0 .source, s .pre .0 .0 .forward)
 
@@ -64,9 +61,6 @@ go-forward-requires : tie.Need-go-forward-requires
 go-forward-requires c κs =
     can-go (c .before .before .before .before .before .before .before .before .before) refl refl refl refl refl
 
-add-requires : tie.Need-add-requires
-add-requires c κs = search needs
-
 returns-2 : tie.Need-returns-2
 returns-2 c =
     let at = c .before .before .before .before .before .before in
@@ -105,11 +99,11 @@ pub leave-first-at-spec : {M : Type 1} → statement M
 leave-first-at-spec =
     tie.close
     (tie.spec
-    vanishes-requires
+    (λ c κs. search needs)
     is-filled-requires
     returns
     go-forward-requires
-    add-requires
+    (λ c κs. search needs)
     returns-2
     go-forward-requires-2
     returns-3)

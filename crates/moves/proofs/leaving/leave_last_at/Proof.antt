@@ -16,15 +16,6 @@ use borrow.Author.Needs.{needs}
 use Rattle.moves.proofs.leaving.leave_last_at.Statement.{statement}
 use Rattle.moves.proofs.leaving.leave_last_at.Tie as tie
 
-mul-if1 : tie.Need-mul-if1
-mul-if1 c = search needs
-
-element-copy-out-if1 : tie.Need-element-copy-out-if1
-element-copy-out-if1 c = search needs
-
-sub-shrink : tie.Need-sub-shrink
-sub-shrink c = search needs
-
 shrink-requires : tie.Need-shrink-requires
 shrink-requires c κs =
     let s = c .before .before .before .before in
@@ -64,15 +55,6 @@ returns c =
           (last-to-U (place s) (long s) (s .pre .1 .0 .atH) (c .before .before .before .if1 .taken));
       each = c .shrink .ensures .each;
     }
-
-mul-if2 : tie.Need-mul-if2
-mul-if2 c = search needs
-
-element-copy-out-if2 : tie.Need-element-copy-out-if2
-element-copy-out-if2 c = search needs
-
-sub-shrink-2 : tie.Need-sub-shrink-2
-sub-shrink-2 c = search needs
 
 shrink-requires-2 : tie.Need-shrink-requires-2
 shrink-requires-2 c κs =
@@ -116,12 +98,6 @@ go-back-requires c κs =
       record { fits = r .0; positive = omega (arith, at .before .before .if1 .left); lowered = r .1 },
     )
 
-without-requires : tie.Need-without-requires
-without-requires c κs = search needs
-
-has-requires : tie.Need-has-requires
-has-requires c κs = search needs
-
 -- what comes in, by rule 3 or 1
 comes : (c : tie.After-first-outside-or-zero) (rule : ℕ) → let s = begun (c .before .before) in
     cond (bit (s .args .s .u) (c .first-outside-or-zero .result)) 3 1 ≡ rule
@@ -158,19 +134,19 @@ pub leave-last-at-spec : {M : Type 1} → statement M
 leave-last-at-spec =
     tie.close
     (tie.spec
-    mul-if1
-    element-copy-out-if1
-    sub-shrink
+    (λ c. search needs)
+    (λ c. search needs)
+    (λ c. search needs)
     shrink-requires
     returns
-    mul-if2
-    element-copy-out-if2
-    sub-shrink-2
+    (λ c. search needs)
+    (λ c. search needs)
+    (λ c. search needs)
     shrink-requires-2
     returns-2
     first-outside-or-zero-requires
     go-back-requires
-    without-requires
-    has-requires
+    (λ c κs. search needs)
+    (λ c κs. search needs)
     returns-3
     returns-4)

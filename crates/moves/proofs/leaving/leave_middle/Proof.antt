@@ -17,26 +17,8 @@ use borrow.Author.Needs.{needs}
 use Rattle.moves.proofs.leaving.leave_middle.Statement.{statement}
 use Rattle.moves.proofs.leaving.leave_middle.Tie as tie
 
-index-at-requires : tie.Need-index-at-requires
-index-at-requires c κs = search needs
-
-sub-index-at : tie.Need-sub-index-at
-sub-index-at c = search needs
-
-index-at-requires-2 : tie.Need-index-at-requires-2
-index-at-requires-2 c κs = search needs
-
 first-outside-requires : tie.Need-first-outside-requires
 first-outside-requires c κs = (c .before .before .index-at .ensures .index, c .before .before .before .before .pre .0 .0)
-
-mul-if2 : tie.Need-mul-if2
-mul-if2 c = search needs
-
-element-copy-out-if2 : tie.Need-element-copy-out-if2
-element-copy-out-if2 c = search needs
-
-sub-shrink : tie.Need-sub-shrink
-sub-shrink c = search needs
 
 shrink-requires : tie.Need-shrink-requires
 shrink-requires c κs =
@@ -63,12 +45,6 @@ returns c =
       each = c .shrink .ensures .each;
     }
 
-sub-exchange : tie.Need-sub-exchange
-sub-exchange c = search needs
-
-exchange-requires : tie.Need-exchange-requires
-exchange-requires c κs = search needs
-
 returns-2 : tie.Need-returns-2
 returns-2 c =
     let s = c .before .before .before .before .before .before .before .before in
@@ -93,15 +69,15 @@ pub leave-middle-spec : {M : Type 1} → statement M
 leave-middle-spec =
     tie.close
     (tie.spec
-    index-at-requires
-    sub-index-at
-    index-at-requires-2
+    (λ c κs. search needs)
+    (λ c. search needs)
+    (λ c κs. search needs)
     first-outside-requires
-    mul-if2
-    element-copy-out-if2
-    sub-shrink
+    (λ c. search needs)
+    (λ c. search needs)
+    (λ c. search needs)
     shrink-requires
     returns
-    sub-exchange
-    exchange-requires
+    (λ c. search needs)
+    (λ c κs. search needs)
     returns-2)

@@ -10,36 +10,6 @@ use borrow.Author.Needs.{needs}
 use Rattle.moves.proofs.leaving.shrink.Statement.{statement}
 use Rattle.moves.proofs.leaving.shrink.Tie as tie
 
-index-at-requires : tie.Need-index-at-requires
-index-at-requires c κs = search needs
-
-remove-requires : tie.Need-remove-requires
-remove-requires c κs = search needs
-
-add-remove : tie.Need-add-remove
-add-remove c = search needs
-
-remove-requires-2 : tie.Need-remove-requires-2
-remove-requires-2 c κs = search needs
-
-cast-find : tie.Need-cast-find
-cast-find c = search needs
-
-add-find : tie.Need-add-find
-add-find c = search needs
-
-find-requires : tie.Need-find-requires
-find-requires c κs = search needs
-
-without-requires : tie.Need-without-requires
-without-requires c κs = search needs
-
-sub-t20 : tie.Need-sub-t20
-sub-t20 c = search needs
-
-add-requires : tie.Need-add-requires
-add-requires c κs = search needs
-
 returns : tie.Need-returns
 returns c =
     let s = c .before .before .before .before .before .before .before .before .before .before .before in
@@ -61,9 +31,6 @@ returns c =
         inMarks = c .before .before .before .before .before .remove2 .ensures .1;
       };
     }
-
-sub-t15 : tie.Need-sub-t15
-sub-t15 c = search needs
 
 returns-2 : tie.Need-returns-2
 returns-2 c =
@@ -90,16 +57,16 @@ pub shrink-spec : {M : Type 1} → statement M
 shrink-spec =
     tie.close
     (tie.spec
-    index-at-requires
-    remove-requires
-    add-remove
-    remove-requires-2
-    cast-find
-    add-find
-    find-requires
-    without-requires
-    sub-t20
-    add-requires
+    (λ c κs. search needs)
+    (λ c κs. search needs)
+    (λ c. search needs)
+    (λ c κs. search needs)
+    (λ c. search needs)
+    (λ c. search needs)
+    (λ c κs. search needs)
+    (λ c κs. search needs)
+    (λ c. search needs)
+    (λ c κs. search needs)
     returns
-    sub-t15
+    (λ c. search needs)
     returns-2)

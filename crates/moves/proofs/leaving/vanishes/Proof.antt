@@ -5,15 +5,6 @@ use Rattle.grid_points.specs.Grid.{at}
 use Rattle.moves.proofs.leaving.vanishes.Statement.{statement}
 use Rattle.moves.proofs.leaving.vanishes.Tie as tie
 
-mul-if1 : tie.Need-mul-if1
-mul-if1 c = search needs
-
-element-copy-out-if1 : tie.Need-element-copy-out-if1
-element-copy-out-if1 c = search needs
-
-has-requires : tie.Need-has-requires
-has-requires c κs = search needs
-
 returns : tie.Need-returns
 returns c =
     let a = c .before .before .before .args in
@@ -23,4 +14,4 @@ returns-2 : tie.Need-returns-2
 returns-2 c = let a = c .before .before .args in rw (ne-eqb (at (a .first .now) (a .b)) 1 (c .if1 .left))
 
 pub vanishes-spec : {M : Type 1} → statement M
-vanishes-spec = tie.close (tie.spec mul-if1 element-copy-out-if1 has-requires returns returns-2)
+vanishes-spec = tie.close (tie.spec (λ c. search needs) (λ c. search needs) (λ c κs. search needs) returns returns-2)

@@ -12,23 +12,11 @@ use Rattle.positions.proofs.falls.entry.Tie as tie
 sub-place : tie.Need-sub-place
 sub-place c = omega (arith, c .before .pre .1 (omega arith) .0 .1)
 
-mul-place : tie.Need-mul-place
-mul-place c = search needs
-
-add-place : tie.Need-add-place
-add-place c = search needs
-
-mul-wide16 : tie.Need-mul-wide16
-mul-wide16 c = search needs
-
 element-copy-out-wide16 : tie.Need-element-copy-out-wide16
 element-copy-out-wide16 c =
     let a = c .before .args in
     let e : 16 - a .k ≡ 15 - (a .k - 1) = omega arith in
     rw e (place-below (a .k - 1) (a .x) (c .before .pre .1 (omega arith) .0))
-
-wide16-requires : tie.Need-wide16-requires
-wide16-requires c κs = search needs
 
 returns : tie.Need-returns
 returns c =
@@ -36,9 +24,6 @@ returns c =
     let e : 16 - a .k ≡ 15 - (a .k - 1) = omega arith in
     c .wide16 .ensures .0
     ∙ rw (e, lists-row (a .k) (a .x) (omega arith)) (c .before .before .before .pre .1 (omega arith) .1)
-
-add-result : tie.Need-add-result
-add-result c = search needs
 
 returns-2 : tie.Need-returns-2
 returns-2 c =
@@ -59,12 +44,12 @@ entry-spec =
     tie.close
     (tie.spec
     sub-place
-    mul-place
-    add-place
-    mul-wide16
+    (λ c. search needs)
+    (λ c. search needs)
+    (λ c. search needs)
     element-copy-out-wide16
-    wide16-requires
+    (λ c κs. search needs)
     returns
-    add-result
+    (λ c. search needs)
     returns-2
     returns-3)

@@ -49,23 +49,11 @@ fewer c =
           (omega (arith, c .before .before .pre .1 .1)),
     )
 
-sub-entry : tie.Need-sub-entry
-sub-entry c = search needs
-
-sub-entry-2 : tie.Need-sub-entry-2
-sub-entry-2 c = search needs
-
 add-entry : tie.Need-add-entry
 add-entry c = omega (arith, asked c 0 (omega (arith, c .pre .1 .0)) .0)
 
 entry-requires : tie.Need-entry-requires
 entry-requires c κs = asked c _ (omega (arith, c .pre .1 .0))
-
-sub-entry-3 : tie.Need-sub-entry-3
-sub-entry-3 c = search needs
-
-sub-entry-4 : tie.Need-sub-entry-4
-sub-entry-4 c = search needs
 
 add-entry-2 : tie.Need-add-entry-2
 add-entry-2 c = omega (arith, asked (c .before) 0 (omega (arith, c .before .pre .1 .0)) .0)
@@ -92,12 +80,12 @@ pub fall-spec : {M : Type 1} → statement M
 fall-spec =
     tie.close
     (tie.spec
-    sub-entry
-    sub-entry-2
+    (λ c. search needs)
+    (λ c. search needs)
     add-entry
     entry-requires
-    sub-entry-3
-    sub-entry-4
+    (λ c. search needs)
+    (λ c. search needs)
     add-entry-2
     entry-requires-2
     sub-result

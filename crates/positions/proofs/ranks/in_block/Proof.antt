@@ -69,35 +69,11 @@ taken c =
     rw (turn c .1) (rank-turn (stepped (c .before .before .before .before .before .before)) (l .i) (l .k) (l .left)
     (omega arith) (l .inv .4))
 
-sub-k : tie.Need-sub-k Inv-loop μ-loop
-sub-k c = search needs
-
 loop-holds : tie.Need-loop-holds Inv-loop μ-loop
 loop-holds c =
     let a = c .args in
     let z : a .size - 1 + 1 ≡ a .size = omega arith in
     (omega arith, omega arith, omega arith, omega arith, rw z (c .pre .1 .2), rw z (omega arith))
-
-mul-wide16 : tie.Need-mul-wide16 Inv-loop μ-loop
-mul-wide16 c = search needs
-
-element-copy-out-wide16 : tie.Need-element-copy-out-wide16 Inv-loop μ-loop
-element-copy-out-wide16 c = search needs
-
-wide16-requires : tie.Need-wide16-requires Inv-loop μ-loop
-wide16-requires c κs = search needs
-
-mul-wide16-2 : tie.Need-mul-wide16-2 Inv-loop μ-loop
-mul-wide16-2 c = search needs
-
-element-copy-out-wide16-2 : tie.Need-element-copy-out-wide16-2 Inv-loop μ-loop
-element-copy-out-wide16-2 c = search needs
-
-wide16-requires-2 : tie.Need-wide16-requires-2 Inv-loop μ-loop
-wide16-requires-2 c κs = search needs
-
-add-x : tie.Need-add-x Inv-loop μ-loop
-add-x c = search needs
 
 sub-x : tie.Need-sub-x Inv-loop μ-loop
 sub-x c = omega (arith, turn c .0)
@@ -133,38 +109,11 @@ add-rank c =
 sub-left : tie.Need-sub-left Inv-loop μ-loop
 sub-left c = taken (c .before) .0
 
-add-i : tie.Need-add-i Inv-loop μ-loop
-add-i c = search needs
-
-sub-k-2 : tie.Need-sub-k-2 Inv-loop μ-loop
-sub-k-2 c = search needs
-
-loop-less : tie.Need-loop-less Inv-loop μ-loop
-loop-less c = search needs
-
 loop-again : tie.Need-loop-again Inv-loop μ-loop
 loop-again c =
     let l = c .before .before .before .before .before .before .loop in
     let t = taken (c .before) in
     (omega arith, omega arith, omega arith, omega arith, t .1, omega (arith, l .inv .5, t .2, c .lists-before .ensures))
-
-mul-wide16-3 : tie.Need-mul-wide16-3 Inv-loop μ-loop
-mul-wide16-3 c = search needs
-
-element-copy-out-wide16-3 : tie.Need-element-copy-out-wide16-3 Inv-loop μ-loop
-element-copy-out-wide16-3 c = search needs
-
-wide16-requires-3 : tie.Need-wide16-requires-3 Inv-loop μ-loop
-wide16-requires-3 c κs = search needs
-
-mul-wide16-4 : tie.Need-mul-wide16-4 Inv-loop μ-loop
-mul-wide16-4 c = search needs
-
-element-copy-out-wide16-4 : tie.Need-element-copy-out-wide16-4 Inv-loop μ-loop
-element-copy-out-wide16-4 c = search needs
-
-wide16-requires-4 : tie.Need-wide16-requires-4 Inv-loop μ-loop
-wide16-requires-4 c κs = search needs
 
 -- the one it ends with
 last : (c : tie.After-wide164 Inv-loop μ-loop)
@@ -175,9 +124,6 @@ last : (c : tie.After-wide164 Inv-loop μ-loop)
     (c .before .before .before .before .before .loop .i))
 last c = coordinate (c .before .before .before .before .before .before) _ _ _ (omega arith)
     (c .before .before .wide163 .ensures .0) (c .wide164 .ensures .0)
-
-add-result : tie.Need-add-result Inv-loop μ-loop
-add-result c = search needs
 
 sub-result : tie.Need-sub-result Inv-loop μ-loop
 sub-result c = omega (arith, last c .0)
@@ -207,30 +153,30 @@ in-block-spec =
     (tie.spec
     Inv-loop
     μ-loop
-    sub-k
+    (λ c. search needs)
     loop-holds
-    mul-wide16
-    element-copy-out-wide16
-    wide16-requires
-    mul-wide16-2
-    element-copy-out-wide16-2
-    wide16-requires-2
-    add-x
+    (λ c. search needs)
+    (λ c. search needs)
+    (λ c κs. search needs)
+    (λ c. search needs)
+    (λ c. search needs)
+    (λ c κs. search needs)
+    (λ c. search needs)
     sub-x
     lists-before-requires
     add-rank
     sub-left
-    add-i
-    sub-k-2
-    loop-less
+    (λ c. search needs)
+    (λ c. search needs)
+    (λ c. search needs)
     loop-again
-    mul-wide16-3
-    element-copy-out-wide16-3
-    wide16-requires-3
-    mul-wide16-4
-    element-copy-out-wide16-4
-    wide16-requires-4
-    add-result
+    (λ c. search needs)
+    (λ c. search needs)
+    (λ c κs. search needs)
+    (λ c. search needs)
+    (λ c. search needs)
+    (λ c κs. search needs)
+    (λ c. search needs)
     sub-result
     add-result-2
     returns)

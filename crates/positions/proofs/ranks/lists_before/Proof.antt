@@ -20,32 +20,8 @@ fewer c =
       choose-grows (a .left - a .x) (a .left) (a .k) (a .k) (omega arith) (omega arith),
     )
 
-sub-row : tie.Need-sub-row
-sub-row c = search needs
-
-mul-row : tie.Need-mul-row
-mul-row c = search needs
-
-add-wide16 : tie.Need-add-wide16
-add-wide16 c = search needs
-
-mul-wide16 : tie.Need-mul-wide16
-mul-wide16 c = search needs
-
 element-copy-out-wide16 : tie.Need-element-copy-out-wide16
 element-copy-out-wide16 c = place-below (c .args .k) (c .args .left) (c .pre .0 .0)
-
-wide16-requires : tie.Need-wide16-requires
-wide16-requires c κs = search needs
-
-sub-wide16 : tie.Need-sub-wide16
-sub-wide16 c = search needs
-
-add-wide16-2 : tie.Need-add-wide16-2
-add-wide16-2 c = search needs
-
-mul-wide16-2 : tie.Need-mul-wide16-2
-mul-wide16-2 c = search needs
 
 element-copy-out-wide16-2 : tie.Need-element-copy-out-wide16-2
 element-copy-out-wide16-2 c =
@@ -53,9 +29,6 @@ element-copy-out-wide16-2 c =
     let i = c .before .before .pre .0 .0 in
     place-below (a .k) (a .left - a .x)
     (in-smaller (a .k) (a .left) i (a .k) (a .left - a .x) (i .0) (omega arith) (omega arith))
-
-wide16-requires-2 : tie.Need-wide16-requires-2
-wide16-requires-2 c κs = search needs
 
 sub-result : tie.Need-sub-result
 sub-result c = fewer c
@@ -69,16 +42,16 @@ pub lists-before-spec : {M : Type 1} → statement M
 lists-before-spec =
     tie.close
     (tie.spec
-    sub-row
-    mul-row
-    add-wide16
-    mul-wide16
+    (λ c. search needs)
+    (λ c. search needs)
+    (λ c. search needs)
+    (λ c. search needs)
     element-copy-out-wide16
-    wide16-requires
-    sub-wide16
-    add-wide16-2
-    mul-wide16-2
+    (λ c κs. search needs)
+    (λ c. search needs)
+    (λ c. search needs)
+    (λ c. search needs)
     element-copy-out-wide16-2
-    wide16-requires-2
+    (λ c κs. search needs)
     sub-result
     returns)

@@ -8,29 +8,11 @@ use native.Mathlib.Omega.{arith}
 use Rattle.positions.proofs.tables.entry_before.Statement.{statement}
 use Rattle.positions.proofs.tables.entry_before.Tie as tie
 
-add-result : tie.Need-add-result
-add-result c = search needs
-
-cast-result : tie.Need-cast-result
-cast-result c = search needs
-
 returns : tie.Need-returns
 returns c =
     let a = c .before .args in
     let e : a .k - 1 ≡ 1 = omega arith in
     rw e (sym (choose-one (a .r)))
-
-sub-at : tie.Need-sub-at
-sub-at c = search needs
-
-mul-at : tie.Need-mul-at
-mul-at c = search needs
-
-add-at : tie.Need-add-at
-add-at c = search needs
-
-mul-result : tie.Need-mul-result
-mul-result c = search needs
 
 element-copy-out-result : tie.Need-element-copy-out-result
 element-copy-out-result c =
@@ -50,12 +32,12 @@ pub entry-before-spec : {M : Type 1} → statement M
 entry-before-spec =
     tie.close
     (tie.spec
-    add-result
-    cast-result
+    (λ c. search needs)
+    (λ c. search needs)
     returns
-    sub-at
-    mul-at
-    add-at
-    mul-result
+    (λ c. search needs)
+    (λ c. search needs)
+    (λ c. search needs)
+    (λ c. search needs)
     element-copy-out-result
     returns-2)

@@ -38,12 +38,6 @@ fill-row-requires c κs =
       (l .inv .2, λ r h m. l .inv .4 (l .k - 1) r (omega arith) (omega arith) m),
     )
 
-add-k : tie.Need-add-k Inv-loop μ-loop
-add-k c = search needs
-
-loop-less : tie.Need-loop-less Inv-loop μ-loop
-loop-less c = search needs
-
 loop-again : tie.Need-loop-again Inv-loop μ-loop
 loop-again c =
     let l = c .before .before .before .loop in
@@ -64,4 +58,4 @@ returns c =
 pub fill-block-spec : {M : Type 1} → statement M
 fill-block-spec =
     tie.close
-    (tie.spec Inv-loop μ-loop loop-holds fill-row-requires add-k loop-less loop-again returns)
+    (tie.spec Inv-loop μ-loop loop-holds fill-row-requires (λ c. search needs) (λ c. search needs) loop-again returns)

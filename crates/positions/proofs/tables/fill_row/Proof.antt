@@ -46,18 +46,6 @@ next c =
     rw (l .inv .1, c .entry-before .ensures)
     (sym (row-next (l .r) (c .before .before .before .before .args .k) (omega arith)))
 
-sub-at : tie.Need-sub-at Inv-loop μ-loop
-sub-at c = search needs
-
-mul-at : tie.Need-mul-at Inv-loop μ-loop
-mul-at c = search needs
-
-mul-t : tie.Need-mul-t Inv-loop μ-loop
-mul-t c = search needs
-
-element-write-t : tie.Need-element-write-t Inv-loop μ-loop
-element-write-t c = search needs
-
 loop-holds : tie.Need-loop-holds Inv-loop μ-loop
 loop-holds c =
     let s = started c in (
@@ -67,9 +55,6 @@ loop-holds c =
       keeps-self,
       (λ i h. let e : i ≡ 0 = omega arith in rw e (s .1)),
     )
-
-add-r : tie.Need-add-r Inv-loop μ-loop
-add-r c = search needs
 
 entry-before-requires : tie.Need-entry-before-requires Inv-loop μ-loop
 entry-before-requires c κs =
@@ -93,18 +78,6 @@ add-last c =
       choose-grows (l .r + 1) (a .most) (a .k) (a .k) (omega arith) (omega arith),
       c .before .before .before .before .pre .0 .1,
     )
-
-add-t : tie.Need-add-t Inv-loop μ-loop
-add-t c = search needs
-
-mul-t-2 : tie.Need-mul-t-2 Inv-loop μ-loop
-mul-t-2 c = search needs
-
-element-write-t-2 : tie.Need-element-write-t-2 Inv-loop μ-loop
-element-write-t-2 c = search needs
-
-loop-less : tie.Need-loop-less Inv-loop μ-loop
-loop-less c = search needs
 
 loop-again : tie.Need-loop-again Inv-loop μ-loop
 loop-again c =
@@ -138,17 +111,17 @@ fill-row-spec =
     (tie.spec
     Inv-loop
     μ-loop
-    sub-at
-    mul-at
-    mul-t
-    element-write-t
+    (λ c. search needs)
+    (λ c. search needs)
+    (λ c. search needs)
+    (λ c. search needs)
     loop-holds
-    add-r
+    (λ c. search needs)
     entry-before-requires
     add-last
-    add-t
-    mul-t-2
-    element-write-t-2
-    loop-less
+    (λ c. search needs)
+    (λ c. search needs)
+    (λ c. search needs)
+    (λ c. search needs)
     loop-again
     returns)

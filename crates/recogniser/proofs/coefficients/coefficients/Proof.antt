@@ -33,18 +33,12 @@ array-read-wide c = omega (
       (c .before .before .before .before .before .before .pre .0) .1,
 )
 
-wide-requires : tie.Need-wide-requires Inv-loop μ-loop
-wide-requires c κs = search needs
-
 array-read-wide-2 : tie.Need-array-read-wide-2 Inv-loop μ-loop
 array-read-wide-2 c = omega (
   arith,
   blocks-range (c .before .before .before .before .before .before .before .args .g)
       (c .before .before .before .before .before .before .before .pre .0) .1,
 )
-
-wide-requires-2 : tie.Need-wide-requires-2 Inv-loop μ-loop
-wide-requires-2 c κs = search needs
 
 add-end : tie.Need-add-end Inv-loop μ-loop
 add-end c =
@@ -148,9 +142,9 @@ coefficients-spec =
     μ-loop
     loop-holds
     array-read-wide
-    wide-requires
+    (λ c κs. search needs)
     array-read-wide-2
-    wide-requires-2
+    (λ c κs. search needs)
     add-end
     first-of-requires
     put-block-requires

@@ -5,12 +5,6 @@ use borrow.Author.Needs.{needs}
 use Rattle.recogniser.proofs.free.met_in.Statement.{statement}
 use Rattle.recogniser.proofs.free.met_in.Tie as tie
 
-wide-requires : tie.Need-wide-requires
-wide-requires c κs = search needs
-
-add-result : tie.Need-add-result
-add-result c = search needs
-
 returns : tie.Need-returns
 returns c = rw (eq-eqb (c .before .before .args .b) (c .before .before .args .met)
     (sym (c .before .wide .ensures) ∙ c .if1 .taken))
@@ -20,4 +14,4 @@ returns-2 c = rw (ne-eqb (c .before .before .args .b) (c .before .before .args .
     (λ e. c .if1 .left (c .before .wide .ensures ∙ e)))
 
 pub met-in-spec : {M : Type 1} → statement M
-met-in-spec = tie.close (tie.spec wide-requires add-result returns returns-2)
+met-in-spec = tie.close (tie.spec (λ c κs. search needs) (λ c. search needs) returns returns-2)

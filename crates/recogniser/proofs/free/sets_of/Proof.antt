@@ -29,18 +29,12 @@ mul-wide32 c = omega arith
 element-copy-out-wide32 : tie.Need-element-copy-out-wide32 Inv-loop μ-loop
 element-copy-out-wide32 c = omega arith
 
-wide32-requires : tie.Need-wide32-requires Inv-loop μ-loop
-wide32-requires c κs = search needs
-
 returns : tie.Need-returns Inv-loop μ-loop
 returns c = let l = c .before .before .before .before .loop in
     record {
       yes = λ e. absurd-bool (sym e);
       no = λ e. beyond (l .k) (omega arith) (rw (sym (c .before .wide32 .ensures)) (c .if1 .taken));
     }
-
-has-requires : tie.Need-has-requires Inv-loop μ-loop
-has-requires c κs = search needs
 
 returns-2 : tie.Need-returns-2 Inv-loop μ-loop
 returns-2 c =
@@ -53,9 +47,6 @@ returns-2 c =
 
 add-requires : tie.Need-add-requires Inv-loop μ-loop
 add-requires c κs = omega arith
-
-without-requires : tie.Need-without-requires Inv-loop μ-loop
-without-requires c κs = search needs
 
 add-k : tie.Need-add-k Inv-loop μ-loop
 add-k c = omega arith
@@ -92,12 +83,12 @@ sets-of-spec =
     loop-holds
     mul-wide32
     element-copy-out-wide32
-    wide32-requires
+    (λ c κs. search needs)
     returns
-    has-requires
+    (λ c κs. search needs)
     returns-2
     add-requires
-    without-requires
+    (λ c κs. search needs)
     add-k
     loop-less
     loop-again

@@ -37,9 +37,6 @@ mul-wide32 c = omega arith
 element-copy-out-wide32 : tie.Need-element-copy-out-wide32 Inv-loop μ-loop
 element-copy-out-wide32 c = omega arith
 
-wide32-requires : tie.Need-wide32-requires Inv-loop μ-loop
-wide32-requires c κs = search needs
-
 -- in the loop, with the index of the step: where the call began, the loop, and that the index is low
 abbrev At : Type 0
 At = tie.After-wide32 Inv-loop μ-loop
@@ -67,17 +64,11 @@ mul-wide16 c = omega arith
 element-copy-out-wide16 : tie.Need-element-copy-out-wide16 Inv-loop μ-loop
 element-copy-out-wide16 c = omega (arith, c .first-outside .ensures .1)
 
-wide16-requires : tie.Need-wide16-requires Inv-loop μ-loop
-wide16-requires c κs = search needs
-
 mul-wide16-2 : tie.Need-mul-wide16-2 Inv-loop μ-loop
 mul-wide16-2 c = omega arith
 
 array-read-wide16 : tie.Need-array-read-wide16 Inv-loop μ-loop
 array-read-wide16 c = omega (arith, c .before .before .first-outside .ensures .1)
-
-wide16-requires-2 : tie.Need-wide16-requires-2 Inv-loop μ-loop
-wide16-requires-2 c κs = search needs
 
 add-if1 : tie.Need-add-if1 Inv-loop μ-loop
 add-if1 c = omega (arith, c .before .wide16 .ensures, c .wide162 .ensures)
@@ -189,14 +180,14 @@ mark-points-spec =
     element-write-marks
     mul-wide32
     element-copy-out-wide32
-    wide32-requires
+    (λ c κs. search needs)
     first-outside-requires
     mul-wide16
     element-copy-out-wide16
-    wide16-requires
+    (λ c κs. search needs)
     mul-wide16-2
     array-read-wide16
-    wide16-requires-2
+    (λ c κs. search needs)
     add-if1
     returns
     mul-steps

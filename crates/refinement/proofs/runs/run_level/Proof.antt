@@ -26,18 +26,6 @@ announced-requires c κs =
     (c .before .before .before .before .before .before .before .before .label-on .ensures) _ _
     (c .before .before .before .before .binomials2 .ensures) refl
 
-enum-known-found : tie.Need-enum-known-found
-enum-known-found c = search needs
-
-no-level-requires : tie.Need-no-level-requires
-no-level-requires c κs = search needs
-
-same-length : tie.Need-same-length
-same-length c = search needs
-
-same-length-2 : tie.Need-same-length-2
-same-length-2 c = search needs
-
 returns : tie.Need-returns
 returns c =
     let far = c .before .before .before .before .before .before .before .before .before .before in
@@ -54,12 +42,6 @@ returns c =
             (w .ensures .1),
       ),
     )
-
-same-length-3 : tie.Need-same-length-3
-same-length-3 c = search needs
-
-same-length-4 : tie.Need-same-length-4
-same-length-4 c = search needs
 
 returns-2 : tie.Need-returns-2
 returns-2 c =
@@ -88,11 +70,11 @@ run-level-spec =
     binomials-requires
     bound-requires
     announced-requires
-    enum-known-found
-    no-level-requires
-    same-length
-    same-length-2
+    (λ c. search needs)
+    (λ c κs. search needs)
+    (λ c. search needs)
+    (λ c. search needs)
     returns
-    same-length-3
-    same-length-4
+    (λ c. search needs)
+    (λ c. search needs)
     returns-2)

@@ -26,9 +26,6 @@ Inv-loop start losses factor levels labels₀ answer₀ grids found₀ i₀ labe
 abbrev μ-loop : tie.MeasureT-loop
 μ-loop start losses factor levels labels₀ answer₀ grids found₀ i₀ labels answer found i = levels - i
 
-no-level-requires : tie.Need-no-level-requires Inv-loop μ-loop
-no-level-requires c κs = search needs
-
 loop-holds : tie.Need-loop-holds Inv-loop μ-loop
 loop-holds c =
     let s = c .before .before .before .before .before in
@@ -139,7 +136,7 @@ run-levels-spec =
     (tie.spec
     Inv-loop
     μ-loop
-    no-level-requires
+    (λ c κs. search needs)
     loop-holds
     mul-grid
     array-copy-out-grid

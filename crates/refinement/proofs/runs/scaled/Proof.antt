@@ -37,14 +37,8 @@ fits c =
 loop-holds : tie.Need-loop-holds Inv-loop μ-loop
 loop-holds c = (sym (front-none (replicate 16 0)), omega arith)
 
-mul-wide16 : tie.Need-mul-wide16 Inv-loop μ-loop
-mul-wide16 c = search needs
-
 shared-slice-read-wide16 : tie.Need-shared-slice-read-wide16 Inv-loop μ-loop
 shared-slice-read-wide16 c = omega arith
-
-wide16-requires : tie.Need-wide16-requires Inv-loop μ-loop
-wide16-requires c κs = search needs
 
 mul-start : tie.Need-mul-start Inv-loop μ-loop
 mul-start c = omega (arith, fits c)
@@ -94,9 +88,9 @@ scaled-spec =
     Inv-loop
     μ-loop
     loop-holds
-    mul-wide16
+    (λ c. search needs)
     shared-slice-read-wide16
-    wide16-requires
+    (λ c κs. search needs)
     mul-start
     cast-start
     mul-start-2

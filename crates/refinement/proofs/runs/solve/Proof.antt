@@ -60,9 +60,6 @@ sub-run-level c =
 part-run-level-start : tie.Need-part-run-level-start
 part-run-level-start c = sub-run-level c
 
-part-run-level-end : tie.Need-part-run-level-end
-part-run-level-end c = search needs
-
 run-level-requires : tie.Need-run-level-requires
 run-level-requires c κs =
     let s = c .before .before .before .before .before .before .before .before .before .before in
@@ -71,12 +68,6 @@ run-level-requires c κs =
     let f = c .before .before .before .start-of in
     can-run (a .grid) (a .level) (a .start .now) (a .losses .now) (a .factor) (a .labels .now) (a .answer .now) (s .pre)
     (m .result) (m .ensures .0) (f .result) (f .ensures)
-
-same-length : tie.Need-same-length
-same-length c = search needs
-
-same-length-2 : tie.Need-same-length-2
-same-length-2 c = search needs
 
 returns : tie.Need-returns
 returns c =
@@ -110,8 +101,8 @@ solve-spec =
     mul-run-level
     sub-run-level
     part-run-level-start
-    part-run-level-end
+    (λ c. search needs)
     run-level-requires
-    same-length
-    same-length-2
+    (λ c. search needs)
+    (λ c. search needs)
     returns)

@@ -24,12 +24,6 @@ returns c =
     start-first (a .grid) (s .pre .1) (a .level) (a .start .now) (a .factor) (a .answer .now) (s .pre .0)
     (c .before .if1 .taken) (c .padded .result) (c .padded .ensures)
 
-sub-at : tie.Need-sub-at
-sub-at c = search needs
-
-room-of-requires : tie.Need-room-of-requires
-room-of-requires c κs = search needs
-
 -- where the level before begins
 at-small : (c : tie.After-room-of) → (c .before .before .before .before .args .level - 1) * c .room-of .result ≤ 2176
 at-small c =
@@ -45,12 +39,6 @@ add-scaled c =
 
 mul-scaled : tie.Need-mul-scaled
 mul-scaled c = omega (arith, at-small c)
-
-sub-scaled : tie.Need-sub-scaled
-sub-scaled c = search needs
-
-part-scaled-start : tie.Need-part-scaled-start
-part-scaled-start c = search needs
 
 part-scaled-end : tie.Need-part-scaled-end
 part-scaled-end c =
@@ -80,13 +68,13 @@ start-of-spec =
     (tie.spec
     padded-requires
     returns
-    sub-at
-    room-of-requires
+    (λ c. search needs)
+    (λ c κs. search needs)
     mul-at
     add-scaled
     mul-scaled
-    sub-scaled
-    part-scaled-start
+    (λ c. search needs)
+    (λ c. search needs)
     part-scaled-end
     scaled-requires
     returns-2)

@@ -30,9 +30,6 @@ abbrev μ-loop : tie.MeasureT-loop
 slice-aggregate-text : tie.Need-slice-aggregate-text Inv-loop μ-loop
 slice-aggregate-text c = refl
 
-text-requires : tie.Need-text-requires Inv-loop μ-loop
-text-requires c κs = search needs
-
 loop-holds : tie.Need-loop-holds Inv-loop μ-loop
 unfolding flatMap
 loop-holds c = (part-empty _ _, omega arith, omega arith)
@@ -97,7 +94,7 @@ centre-line-spec =
     Inv-loop
     μ-loop
     slice-aggregate-text
-    text-requires
+    (λ c κs. search needs)
     loop-holds
     coordinate-sum-requires
     mul-division

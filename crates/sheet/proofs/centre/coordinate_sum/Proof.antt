@@ -41,9 +41,6 @@ mul-u64-of-2 c = omega (arith, inside c)
 shared-slice-read-u64-of : tie.Need-shared-slice-read-u64-of Inv-loop μ-loop
 shared-slice-read-u64-of c = inside (c .before)
 
-u64-of-requires : tie.Need-u64-of-requires Inv-loop μ-loop
-u64-of-requires c κs = search needs
-
 add-sum : tie.Need-add-sum Inv-loop μ-loop
 add-sum c = omega arith
 
@@ -79,7 +76,7 @@ coordinate-sum-spec =
     add-u64-of
     mul-u64-of-2
     shared-slice-read-u64-of
-    u64-of-requires
+    (λ c κs. search needs)
     add-sum
     add-k
     loop-less

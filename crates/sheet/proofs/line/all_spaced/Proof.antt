@@ -33,9 +33,6 @@ mul-u64-of c = omega arith
 shared-slice-read-u64-of : tie.Need-shared-slice-read-u64-of Inv-loop μ-loop
 shared-slice-read-u64-of c = omega arith
 
-u64-of-requires : tie.Need-u64-of-requires Inv-loop μ-loop
-u64-of-requires c κs = search needs
-
 spaced-requires : tie.Need-spaced-requires Inv-loop μ-loop
 spaced-requires c κs = omega arith
 
@@ -72,7 +69,7 @@ all-spaced-spec =
     loop-holds
     mul-u64-of
     shared-slice-read-u64-of
-    u64-of-requires
+    (λ c κs. search needs)
     spaced-requires
     add-i
     loop-less

@@ -8,29 +8,8 @@ use Rattle.sheet_lines.proofs.Rows.{vertex-parts}
 use Rattle.sheet.proofs.line.vertex_line.Statement.{statement}
 use Rattle.sheet.proofs.line.vertex_line.Tie as tie
 
-shared-slice-read-u64-of : tie.Need-shared-slice-read-u64-of
-shared-slice-read-u64-of c = search needs
-
-u64-of-requires : tie.Need-u64-of-requires
-u64-of-requires c κs = search needs
-
-decimal-requires : tie.Need-decimal-requires
-decimal-requires c κs = search needs
-
-sub-all-spaced : tie.Need-sub-all-spaced
-sub-all-spaced c = search needs
-
-part-all-spaced-start : tie.Need-part-all-spaced-start
-part-all-spaced-start c = search needs
-
-part-all-spaced-end : tie.Need-part-all-spaced-end
-part-all-spaced-end c = search needs
-
 all-spaced-requires : tie.Need-all-spaced-requires
 all-spaced-requires c κs = (omega arith, simp (length-take, length-drop) (omega arith))
-
-byte-requires : tie.Need-byte-requires
-byte-requires c κs = search needs
 
 returns : tie.Need-returns
 returns c =
@@ -46,12 +25,12 @@ pub vertex-line-spec : {M : Type 1} → statement M
 vertex-line-spec =
     tie.close
     (tie.spec
-    shared-slice-read-u64-of
-    u64-of-requires
-    decimal-requires
-    sub-all-spaced
-    part-all-spaced-start
-    part-all-spaced-end
+    (λ c. search needs)
+    (λ c κs. search needs)
+    (λ c κs. search needs)
+    (λ c. search needs)
+    (λ c. search needs)
+    (λ c. search needs)
     all-spaced-requires
-    byte-requires
+    (λ c κs. search needs)
     returns)

@@ -33,9 +33,6 @@ mul-wide16 c = omega arith
 shared-slice-read-wide16 : tie.Need-shared-slice-read-wide16 Inv-loop μ-loop
 shared-slice-read-wide16 c = omega arith
 
-wide16-requires : tie.Need-wide16-requires Inv-loop μ-loop
-wide16-requires c κs = search needs
-
 returns : tie.Need-returns Inv-loop μ-loop
 returns c =
     let a = c .before .before .before .before .before .before .args in
@@ -71,7 +68,7 @@ is-replaced-spec =
     loop-holds
     mul-wide16
     shared-slice-read-wide16
-    wide16-requires
+    (λ c κs. search needs)
     returns
     add-k
     loop-less

@@ -38,9 +38,6 @@ mul-wide16 c = omega arith
 shared-slice-read-wide16 : tie.Need-shared-slice-read-wide16 Inv-loop μ-loop
 shared-slice-read-wide16 c = omega arith
 
-wide16-requires : tie.Need-wide16-requires Inv-loop μ-loop
-wide16-requires c κs = search needs
-
 add-reached : tie.Need-add-reached Inv-loop μ-loop
 add-reached c = omega arith
 
@@ -85,7 +82,7 @@ last-reached-spec =
     loop-holds
     mul-wide16
     shared-slice-read-wide16
-    wide16-requires
+    (λ c κs. search needs)
     add-reached
     add-k
     loop-less

@@ -4,15 +4,9 @@ use Rattle.slip_fields.specs.Slip.{stands}
 use Rattle.slip.proofs.fields.bit_stands.Statement.{statement}
 use Rattle.slip.proofs.fields.bit_stands.Tie as tie
 
-shared-slice-read-map : tie.Need-shared-slice-read-map
-shared-slice-read-map c = search needs
-
-shr-result : tie.Need-shr-result
-shr-result c = search needs
-
 returns : tie.Need-returns
 unfolding stands
 returns c = search needs
 
 pub bit-stands-spec : {M : Type 1} → statement M
-bit-stands-spec = tie.close (tie.spec shared-slice-read-map shr-result returns)
+bit-stands-spec = tie.close (tie.spec (λ c. search needs) (λ c. search needs) returns)

@@ -33,9 +33,6 @@ returns c =
     c .bound .ensures ∙ ap bound (asked-made slip (s .args .grid) (s .pre .0) .1) ∙ rw absent in
     rw (is, end) (sym (budget-is slip (omega (arith, end, s .pre .2))))
 
-sub-if2 : tie.Need-sub-if2
-sub-if2 c = search needs
-
 returns-2 : tie.Need-returns-2
 returns-2 c =
     let s = c .before .before .before .before in
@@ -43,12 +40,6 @@ returns-2 c =
     let there : stands slip 1 ≡ true = sym (c .before .before .bit-stands .ensures)
     ∙ not-false _ (c .before .if1 .left) in
     sym (no-budget slip (omega (arith, s .pre .1, s .pre .2, at-next slip 1, length-there slip 1 there)))
-
-number64-requires : tie.Need-number64-requires
-number64-requires c κs = search needs
-
-add-t8 : tie.Need-add-t8
-add-t8 c = search needs
 
 returns-3 : tie.Need-returns-3
 unfolding slipBudget
@@ -68,8 +59,8 @@ budget-spec =
     bit-stands-requires
     bound-requires
     returns
-    sub-if2
+    (λ c. search needs)
     returns-2
-    number64-requires
-    add-t8
+    (λ c κs. search needs)
+    (λ c. search needs)
     returns-3)

@@ -21,14 +21,8 @@ inside c =
     rw (c .block-of .ensures)
     (omega (arith, b, made-blocks g m), omega (arith, b, made-blocks g m, blocks-range g m .1))
 
-block-of-requires : tie.Need-block-of-requires
-block-of-requires c κs = search needs
-
 array-read-wide : tie.Need-array-read-wide
 array-read-wide c = inside c .1
-
-wide-requires : tie.Need-wide-requires
-wide-requires c κs = search needs
 
 mul-result : tie.Need-mul-result
 mul-result c = omega (arith, inside (c .before .before) .1)
@@ -58,9 +52,9 @@ pub default-coordinate-spec : {M : Type 1} → statement M
 default-coordinate-spec =
     tie.close
     (tie.spec
-    block-of-requires
+    (λ c κs. search needs)
     array-read-wide
-    wide-requires
+    (λ c κs. search needs)
     mul-result
     array-read-result
     returns

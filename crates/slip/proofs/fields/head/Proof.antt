@@ -15,12 +15,6 @@ returns c =
     let slip = c .before .before .args .slip .now in
     rw (lt-leb (headLength slip) (length slip) (omega arith))
 
-shared-slice-read-wide : tie.Need-shared-slice-read-wide
-shared-slice-read-wide c = search needs
-
-wide-requires : tie.Need-wide-requires
-wide-requires c κs = search needs
-
 mul-end : tie.Need-mul-end
 mul-end c = omega (arith, c .before .shared-slice-known2 .given 1)
 
@@ -32,12 +26,6 @@ unfolding headOf
 returns-2 c =
     let slip = c .before .before .before .before .before .args .slip .now in
     rw (lt-leb (headLength slip) (length slip) (omega arith))
-
-shared-slice-read-is-map : tie.Need-shared-slice-read-is-map
-shared-slice-read-is-map c = search needs
-
-is-map-requires : tie.Need-is-map-requires
-is-map-requires c κs = search needs
 
 returns-3 : tie.Need-returns-3
 unfolding headOf
@@ -63,12 +51,12 @@ head-spec =
     tie.close
     (tie.spec
     returns
-    shared-slice-read-wide
-    wide-requires
+    (λ c. search needs)
+    (λ c κs. search needs)
     mul-end
     add-end
     returns-2
-    shared-slice-read-is-map
-    is-map-requires
+    (λ c. search needs)
+    (λ c κs. search needs)
     returns-3
     returns-4)

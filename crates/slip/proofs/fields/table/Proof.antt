@@ -20,9 +20,6 @@ use borrow.Author.Needs.{needs}
 use Rattle.slip.proofs.fields.table.Statement.{statement}
 use Rattle.slip.proofs.fields.table.Tie as tie
 
-sub-left : tie.Need-sub-left
-sub-left c = search needs
-
 bit-stands-requires : tie.Need-bit-stands-requires
 bit-stands-requires c
     κs = (omega (arith, head-fits (c .before .args .slip .now) (c .before .pre .0 .head)), omega arith)
@@ -75,9 +72,6 @@ returns-3 c =
     let last = game-last slip (s .pre .0 .head) (not-labelled (d .before .before)) (built-in d) in
     sym (no-table slip (ne-eqb (length slip) (fieldsEnd slip)
     (λ e. c .if4 .taken (omega (arith, e, s .pre .1, last .1)))))
-
-shared-slice-read-t13 : tie.Need-shared-slice-read-t13
-shared-slice-read-t13 c = search needs
 
 returns-4 : tie.Need-returns-4
 unfolding slipGame
@@ -167,13 +161,13 @@ pub table-spec : {M : Type 1} → statement M
 table-spec =
     tie.close
     (tie.spec
-    sub-left
+    (λ c. search needs)
     bit-stands-requires
     returns
     returns-2
     bit-stands-requires-2
     returns-3
-    shared-slice-read-t13
+    (λ c. search needs)
     returns-4
     array-share-prefix-sizes
     slice-aggregate-num-profiles

@@ -5,17 +5,8 @@ use Rattle.trail_reader.proofs.Rebuilt.{minus-none}
 use Rattle.trail_reader.proofs.answers.placed.Statement.{statement}
 use Rattle.trail_reader.proofs.answers.placed.Tie as tie
 
-slice-aggregate-put-points : tie.Need-slice-aggregate-put-points
-slice-aggregate-put-points c = search needs
-
 put-points-requires : tie.Need-put-points-requires
 put-points-requires c κs = c .before .pre
-
-mask-requires : tie.Need-mask-requires
-mask-requires c κs = search needs
-
-mask-requires-2 : tie.Need-mask-requires-2
-mask-requires-2 c κs = search needs
 
 returns : tie.Need-returns
 returns c =
@@ -31,4 +22,4 @@ returns c =
 pub placed-spec : {M : Type 1} → statement M
 placed-spec =
     tie.close
-    (tie.spec slice-aggregate-put-points put-points-requires mask-requires mask-requires-2 returns)
+    (tie.spec (λ c. search needs) put-points-requires (λ c κs. search needs) (λ c κs. search needs) returns)

@@ -15,12 +15,6 @@ use Rattle.trail_reader.proofs.Rebuilt.{by-grid, by-number, by-start, r
 use Rattle.trail_reader.proofs.answers.read.Statement.{statement}
 use Rattle.trail_reader.proofs.answers.read.Tie as tie
 
-new-requires : tie.Need-new-requires
-new-requires c κs = search needs
-
-refused-requires : tie.Need-refused-requires
-refused-requires c κs = search needs
-
 returns : tie.Need-returns
 returns c =
     let a = c .before .before .before .before .before .before .before .before .args in
@@ -39,9 +33,6 @@ is-grid-point-requires c κs =
       divisions = c .before .before .before .before .before .before .before .args .divisions .now;
     } in
     made-is G (c .before .before .new .result) (c .before .before .new .ensures) (c .if1 .left)
-
-refused-requires-2 : tie.Need-refused-requires-2
-refused-requires-2 c κs = search needs
 
 returns-2 : tie.Need-returns-2
 returns-2 c =
@@ -93,11 +84,11 @@ pub read-spec : {M : Type 1} → statement M
 read-spec =
     tie.close
     (tie.spec
-    new-requires
-    refused-requires
+    (λ c κs. search needs)
+    (λ c κs. search needs)
     returns
     is-grid-point-requires
-    refused-requires-2
+    (λ c κs. search needs)
     returns-2
     read-on-requires
     returns-3)

@@ -15,9 +15,6 @@ use Rattle.path_laws.specs.Demand.{HasStart}
 use Rattle.trail_reader.proofs.answers.read_on.Statement.{statement}
 use Rattle.trail_reader.proofs.answers.read_on.Tie as tie
 
-refused-requires : tie.Need-refused-requires
-refused-requires c κs = search needs
-
 returns : tie.Need-returns
 returns c =
     let a = c .before .before .before .before .args in
@@ -78,7 +75,7 @@ pub read-on-spec : {M : Type 1} → statement M
 read-on-spec =
     tie.close
     (tie.spec
-    refused-requires
+    (λ c κs. search needs)
     returns
     block-sizes-requires
     binomials-requires

@@ -80,9 +80,6 @@ held c =
     (replicate 16 0) (w .isRound) (w .firstLength) (begun .result) (begun .ensures) (tails .result) (tails .ensures)
     (position .result) (position .ensures .0)
 
-refused-requires : tie.Need-refused-requires
-refused-requires c κs = search needs
-
 returns : tie.Need-returns
 returns c =
     let v = c .before .before in
@@ -97,9 +94,6 @@ cast-marks c = omega (arith, c .before .before .before .start-position .ensures 
 
 mul-marks : tie.Need-mul-marks
 mul-marks c = omega (arith, c .before .before .before .start-position .ensures .1)
-
-array-write-marks : tie.Need-array-write-marks
-array-write-marks c = search needs
 
 sub-follow : tie.Need-sub-follow
 sub-follow c = omega (
@@ -122,9 +116,6 @@ follow-requires c κs =
       place = (start v, start v ∷ [], held v);
       low = begins-three (problem v) (s .args .trail .now) yes;
     }
-
-enum-known-reached : tie.Need-enum-known-reached
-enum-known-reached c = search needs
 
 add-placed : tie.Need-add-placed
 add-placed c =
@@ -161,9 +152,6 @@ placed-requires c κs =
 
 enum-told : tie.Need-enum-told
 enum-told c = search needs
-
-refused-requires-2 : tie.Need-refused-requires-2
-refused-requires-2 c κs = search needs
 
 returns-2 : tie.Need-returns-2
 returns-2 c =
@@ -206,17 +194,17 @@ rebuilt-spec =
     start-position-requires
     first-record-requires
     stands-requires
-    refused-requires
+    (λ c κs. search needs)
     returns
     cast-marks
     mul-marks
-    array-write-marks
+    (λ c. search needs)
     sub-follow
     follow-requires
-    enum-known-reached
+    (λ c. search needs)
     add-placed
     placed-requires
     enum-told
-    refused-requires-2
+    (λ c κs. search needs)
     returns-2
     returns-3)

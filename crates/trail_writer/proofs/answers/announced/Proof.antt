@@ -24,9 +24,6 @@ use Rattle.trail_writer.proofs.Endings.{announced-end, counts, refused-
 use Rattle.trail_writer.proofs.answers.announced.Statement.{statement}
 use Rattle.trail_writer.proofs.answers.announced.Tie as tie
 
-block-sizes-requires : tie.Need-block-sizes-requires
-block-sizes-requires c κs = search needs
-
 padded-requires : tie.Need-padded-requires
 padded-requires c κs =
     let w = c .before .before .before .before .before .before .before .pre in
@@ -137,9 +134,6 @@ left c =
     c .stored .ensures .1
     ∙ ap (λ (x : List ℕ). front (storedAt (problem w) (length x) (w .follow .result .finish)) x) (same-trail w)
 
-same-length : tie.Need-same-length
-same-length c = search needs
-
 returns : tie.Need-returns
 returns c =
     let d = c .before .before .before in
@@ -163,15 +157,6 @@ announce-requires c κs =
     can-announce (a .g) made (a .start .now) (a .labels .now) (a .budget) (a .g .previous) (a .g .next) (sizes w)
     (first w) (order w) _ (round-below (a .g) made (sizes w) .backward) (begun w .pre .room)
     (w .follow .result .finish) (finished w)
-
-with-bytes-requires : tie.Need-with-bytes-requires
-with-bytes-requires c κs = search needs
-
-same-length-2 : tie.Need-same-length-2
-same-length-2 c = search needs
-
-same-length-3 : tie.Need-same-length-3
-same-length-3 c = search needs
 
 returns-2 : tie.Need-returns-2
 returns-2 c =
@@ -202,14 +187,14 @@ pub announced-spec : {M : Type 1} → statement M
 announced-spec =
     tie.close
     (tie.spec
-    block-sizes-requires
+    (λ c κs. search needs)
     padded-requires
     follow-requires
     stored-requires
-    same-length
+    (λ c. search needs)
     returns
     announce-requires
-    with-bytes-requires
-    same-length-2
-    same-length-3
+    (λ c κs. search needs)
+    (λ c. search needs)
+    (λ c. search needs)
     returns-2)

@@ -35,9 +35,6 @@ Answers s said answer trail p =
     × ((answer ≡ trailAnswerBuffer p (length (a .trail .now)) (a .budget) (a .answer .now))
     × (trail ≡ trailBuffer p (length (a .answer .now)) (a .budget) (a .trail .now)))
 
-new-requires : tie.Need-new-requires
-new-requires c κs = search needs
-
 returns : tie.Need-returns
 returns c =
     let s = c .before .before .before .before .before .before .before .before .before in
@@ -113,12 +110,6 @@ announced-requires c κs =
       room = w .1;
     }
 
-same-length : tie.Need-same-length
-same-length c = search needs
-
-same-length-2 : tie.Need-same-length-2
-same-length-2 c = search needs
-
 returns-3 : tie.Need-returns-3
 returns-3 c =
     let d = c .before .before .before .before .before .before .before .before .before .before .before in
@@ -133,12 +124,12 @@ pub run-with-trail-spec : {M : Type 1} → statement M
 run-with-trail-spec =
     tie.close
     (tie.spec
-    new-requires
+    (λ c κs. search needs)
     returns
     first-no-requires
     returns-2
     binomials-requires
     announced-requires
-    same-length
-    same-length-2
+    (λ c. search needs)
+    (λ c. search needs)
     returns-3)

@@ -13,12 +13,6 @@ use Rattle.trail_writer.proofs.answers.stored.Tie as tie
 enum-told : tie.Need-enum-told
 enum-told c = search needs
 
-enum-told-2 : tie.Need-enum-told-2
-enum-told-2 c = search needs
-
-enum-told-3 : tie.Need-enum-told-3
-enum-told-3 c = search needs
-
 returns : tie.Need-returns
 returns c =
     let is = c .before .enum-told3 .given .1 in
@@ -52,9 +46,6 @@ returns-3 c =
     let is = c .enum-told2 .given .1 in
     (rw is, rw is (sym (front-none _)))
 
-same-length : tie.Need-same-length
-same-length c = search needs
-
 returns-4 : tie.Need-returns-4
 returns-4 c =
     let is = c .before .before .before .before .before .enum-told3 .given .1 in
@@ -70,11 +61,11 @@ stored-spec =
     tie.close
     (tie.spec
     enum-told
-    enum-told-2
-    enum-told-3
+    (λ c. search needs)
+    (λ c. search needs)
     returns
     write-trail-requires
     returns-2
     returns-3
-    same-length
+    (λ c. search needs)
     returns-4)

@@ -3,18 +3,6 @@ use borrow.Author.Needs.{needs}
 use Rattle.trail_writer.proofs.answers.with_bytes.Statement.{statement}
 use Rattle.trail_writer.proofs.answers.with_bytes.Tie as tie
 
-enum-known-run : tie.Need-enum-known-run
-enum-known-run c = search needs
-
-enum-known-run-2 : tie.Need-enum-known-run-2
-enum-known-run-2 c = search needs
-
-enum-known-run-3 : tie.Need-enum-known-run-3
-enum-known-run-3 c = search needs
-
-enum-known-run-4 : tie.Need-enum-known-run-4
-enum-known-run-4 c = search needs
-
 returns : tie.Need-returns
 returns c = rw (c .before .run .given .1)
 
@@ -31,10 +19,10 @@ pub with-bytes-spec : {M : Type 1} → statement M
 with-bytes-spec =
     tie.close
     (tie.spec
-    enum-known-run
-    enum-known-run-2
-    enum-known-run-3
-    enum-known-run-4
+    (λ c. search needs)
+    (λ c. search needs)
+    (λ c. search needs)
+    (λ c. search needs)
     returns
     returns-2
     returns-3

@@ -25,9 +25,6 @@ follow-requires c κs =
       λ e. rw (problem-from (w .readable) (w .accepted) (t .result) (t .ensures)) (w .fits),
     )
 
-same-length : tie.Need-same-length
-same-length c = search needs
-
 returns : tie.Need-returns
 returns c =
     let a = c .before .before .before .before .before .before .before .before .before .before .args in
@@ -50,4 +47,4 @@ returns c =
     same (f .ensures .1))
 
 pub write-trail-spec : {M : Type 1} → statement M
-write-trail-spec = tie.close (tie.spec padded-requires follow-requires same-length returns)
+write-trail-spec = tie.close (tie.spec padded-requires follow-requires (λ c. search needs) returns)

@@ -8,9 +8,6 @@ use native.Mathlib.Omega.{arith}
 use Rattle.walk_calls.proofs.asking.first_no.Statement.{statement}
 use Rattle.walk_calls.proofs.asking.first_no.Tie as tie
 
-is-grid-point-requires : tie.Need-is-grid-point-requires
-is-grid-point-requires c κs = search needs
-
 returns : tie.Need-returns
 returns c =
     let a = c .before .before .before .before .args in
@@ -31,9 +28,6 @@ cast-all-at-most c = omega (
   indices-few (c .before .before .before .before .before .before .args .g)
       (c .before .before .before .before .before .before .pre),
 )
-
-all-at-most-requires : tie.Need-all-at-most-requires
-all-at-most-requires c κs = search needs
 
 returns-3 : tie.Need-returns-3
 returns-3 c =
@@ -59,10 +53,10 @@ pub first-no-spec : {M : Type 1} → statement M
 first-no-spec =
     tie.close
     (tie.spec
-    is-grid-point-requires
+    (λ c κs. search needs)
     returns
     returns-2
     cast-all-at-most
-    all-at-most-requires
+    (λ c κs. search needs)
     returns-3
     returns-4)

@@ -44,9 +44,6 @@ asked c =
     let s = begun c in
     walk-asked (s .args .g) (s .args .w) (s .args .labels .now) (s .pre) ∙ sym (c .first-no .ensures)
 
-unmoved-requires : tie.Need-unmoved-requires
-unmoved-requires c κs = search needs
-
 returns : tie.Need-returns
 returns c =
     let d = c .before .before in
@@ -85,12 +82,6 @@ moved-to-requires c κs =
     let a = begun (answered m .before .before) .args in
     places-few (shape (a .g)) (a .w) (a .labels .now) (going m)
 
-enum-told-2 : tie.Need-enum-told-2
-enum-told-2 c = search needs
-
-enum-told-3 : tie.Need-enum-told-3
-enum-told-3 c = search needs
-
 returns-2 : tie.Need-returns-2
 returns-2 c =
     let m = c .before .before in
@@ -122,14 +113,14 @@ call-on-spec =
     array-share-prefix-start
     slice-aggregate-first-no
     first-no-requires
-    unmoved-requires
+    (λ c κs. search needs)
     returns
     next-on-requires
     enum-told
     carried-to-requires
     moved-to-requires
-    enum-told-2
-    enum-told-3
+    (λ c. search needs)
+    (λ c. search needs)
     returns-2
     returns-3
     returns-4)

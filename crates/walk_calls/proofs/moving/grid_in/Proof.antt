@@ -7,9 +7,6 @@ use Rattle.walk_calls.proofs.GridIn.{few-blocks, grid-in}
 use Rattle.walk_calls.proofs.moving.grid_in.Statement.{statement}
 use Rattle.walk_calls.proofs.moving.grid_in.Tie as tie
 
-six-requires : tie.Need-six-requires
-six-requires c κs = search needs
-
 array-share-prefix-sizes : tie.Need-array-share-prefix-sizes
 array-share-prefix-sizes c = let h = c .before .before .before .good .0 .1 .1 .1 .1 .1 .1 .1 .0 in
     let z : length (c .before .before .before .args .w .sizes) ≡ 6 = length-unmapped _
@@ -50,9 +47,6 @@ slice-aggregate-new-2 c = let h = c .before .before .before .before .before .goo
           (c .before .before .before .before .six .result) (c .before .before .before .before .six .ensures),
     ))
 
-new-requires : tie.Need-new-requires
-new-requires c κs = search needs
-
 returns : tie.Need-returns
 returns c = grid-in (c .before .before .before .before .before .before .args .w)
     (c .before .before .before .before .before .six .result) (c .before .before .before .before .before .six .ensures)
@@ -62,10 +56,10 @@ pub grid-in-spec : {M : Type 1} → statement M
 grid-in-spec =
     tie.close
     (tie.spec
-    six-requires
+    (λ c κs. search needs)
     array-share-prefix-sizes
     slice-aggregate-new
     array-share-prefix-divisions
     slice-aggregate-new-2
-    new-requires
+    (λ c κs. search needs)
     returns)

@@ -8,12 +8,6 @@ use borrow.Author.Needs.{needs}
 use Rattle.walk_calls.proofs.moving.moved.Statement.{statement}
 use Rattle.walk_calls.proofs.moving.moved.Tie as tie
 
-grid-in-requires : tie.Need-grid-in-requires
-grid-in-requires c κs = search needs
-
-unmoved-requires : tie.Need-unmoved-requires
-unmoved-requires c κs = search needs
-
 returns : tie.Need-returns
 returns c = let w = c .before .before .before .before .before .args .w in
     let made = c .before .before .before .grid-in in
@@ -30,4 +24,4 @@ returns-2 c = let w = c .before .before .before .before .before .args .w in
     (c .before .if1 .left) .1) ∙ sym (call-on-own w labels)
 
 pub moved-spec : {M : Type 1} → statement M
-moved-spec = tie.close (tie.spec grid-in-requires unmoved-requires returns call-on-requires returns-2)
+moved-spec = tie.close (tie.spec (λ c κs. search needs) (λ c κs. search needs) returns call-on-requires returns-2)

@@ -10,12 +10,6 @@ one-most : (b : Bool) → cond b 1 0 ≤ 1
 one-most true = omega arith
 one-most false = omega arith
 
-add-t9 : tie.Need-add-t9
-add-t9 c = search needs
-
-one-if-requires : tie.Need-one-if-requires
-one-if-requires c κs = search needs
-
 add-t11 : tie.Need-add-t11
 add-t11 c = let s = c .before .before .before .before .before .before .before .before in
     omega (arith, c .before .one-if .ensures, one-most (s .args .on .«came_in»), s .pre .1)
@@ -24,4 +18,4 @@ returns : tie.Need-returns
 returns c = rw (c .before .one-if .ensures)
 
 pub moved-to-spec : {M : Type 1} → statement M
-moved-to-spec = tie.close (tie.spec add-t9 one-if-requires add-t11 returns)
+moved-to-spec = tie.close (tie.spec (λ c. search needs) (λ c κs. search needs) add-t11 returns)

@@ -14,9 +14,6 @@ mul-label-in c = omega (arith, c .before .before .before .pre .0 .low)
 element-copy-out-label-in : tie.Need-element-copy-out-label-in
 element-copy-out-label-in c = omega (arith, c .before .before .before .pre .0 .low)
 
-label-in-requires : tie.Need-label-in-requires
-label-in-requires c κs = search needs
-
 filled-requires : tie.Need-filled-requires
 filled-requires c κs =
     let C = c .before .before .before .before .before .pre .0 in
@@ -66,7 +63,7 @@ chosen-spec =
     (tie.spec
     mul-label-in
     element-copy-out-label-in
-    label-in-requires
+    (λ c κs. search needs)
     filled-requires
     from-start-requires
     returns

@@ -13,9 +13,6 @@ use Rattle.walk_next.proofs.spares.is_new.Tie as tie
 returns : tie.Need-returns
 returns c = rw (eq-eqb (c .before .args .label) 0 (c .if1 .taken))
 
-wide32-requires : tie.Need-wide32-requires
-wide32-requires c κs = search needs
-
 sub-h : tie.Need-sub-h
 sub-h c = omega (arith, c .wide32 .ensures, c .before .if1 .left)
 
@@ -48,4 +45,4 @@ returns-3 c =
 pub is-new-spec : {M : Type 1} → statement M
 is-new-spec =
     tie.close
-    (tie.spec returns wide32-requires sub-h has-requires returns-2 has-requires-2 returns-3)
+    (tie.spec returns (λ c κs. search needs) sub-h has-requires returns-2 has-requires-2 returns-3)

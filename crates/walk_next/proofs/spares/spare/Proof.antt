@@ -27,18 +27,12 @@ mul-label-in c = omega arith
 element-copy-out-label-in : tie.Need-element-copy-out-label-in Inv-loop μ-loop
 element-copy-out-label-in c = omega arith
 
-label-in-requires : tie.Need-label-in-requires Inv-loop μ-loop
-label-in-requires c κs = search needs
-
 is-new-requires : tie.Need-is-new-requires Inv-loop μ-loop
 is-new-requires c κs = omega (
   arith,
   c .label-in .ensures,
   c .before .before .before .loop .inv .3 (c .before .before .before .loop .k) (c .before .before .loop-test .taken),
 )
-
-wide32-requires : tie.Need-wide32-requires Inv-loop μ-loop
-wide32-requires c κs = search needs
 
 sub-add : tie.Need-sub-add Inv-loop μ-loop
 sub-add c =
@@ -116,9 +110,9 @@ spare-spec =
     loop-holds
     mul-label-in
     element-copy-out-label-in
-    label-in-requires
+    (λ c κs. search needs)
     is-new-requires
-    wide32-requires
+    (λ c κs. search needs)
     sub-add
     add-requires
     add-k

@@ -28,9 +28,6 @@ returns-2 c = let a = c .before .before .args in
     rw (le-leb 1 (a .read) (omega (arith, c .before .if1 .left)), lt-leb (a .read) (a .places) (c .if2 .taken))
     (and-no (leb 1 (a .places) && leb (a .places) (bound (shape (a .g)))))
 
-bound-requires : tie.Need-bound-requires
-bound-requires c κs = search needs
-
 returns-3 : tie.Need-returns-3
 returns-3 c = let a = c .before .before .before .args in
     rw (
@@ -41,4 +38,4 @@ returns-3 c = let a = c .before .before .before .args in
     ) (and-yes (leb (a .places) (bound (shape (a .g)))))
 
 pub counts-in-range-spec : {M : Type 1} → statement M
-counts-in-range-spec = tie.close (tie.spec returns returns-2 bound-requires returns-3)
+counts-in-range-spec = tie.close (tie.spec returns returns-2 (λ c κs. search needs) returns-3)

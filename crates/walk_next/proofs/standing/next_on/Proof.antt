@@ -13,9 +13,6 @@ use Rattle.walk_next.proofs.standing.next_on.Tie as tie
 counts-in-range-requires : tie.Need-counts-in-range-requires
 counts-in-range-requires c κs = c .before .pre .0
 
-refused-requires : tie.Need-refused-requires
-refused-requires c κs = search needs
-
 returns : tie.Need-returns
 returns c =
     let s = c .before .before .before .before in
@@ -29,9 +26,6 @@ is-kept-requires : tie.Need-is-kept-requires
 is-kept-requires c κs =
     indices-few (c .before .before .before .before .args .g) (c .before .before .before .before .pre .0)
 
-refused-requires-2 : tie.Need-refused-requires-2
-refused-requires-2 c κs = search needs
-
 returns-2 : tie.Need-returns-2
 returns-2 c =
     let s = c .before .before .before .before .before .before .before in
@@ -40,9 +34,6 @@ returns-2 c =
     ∙ refused-is (a .g) (a .w) (a .labels .now) 20
     (kept-wrongly (a .g) (a .w) (a .labels .now) (s .pre .0) (s .pre .1)
     (sym (c .before .before .is-kept .ensures .0) ∙ not-is _ (c .before .if2 .taken)))
-
-wide-requires : tie.Need-wide-requires
-wide-requires c κs = search needs
 
 sub-n : tie.Need-sub-n
 sub-n c =
@@ -76,12 +67,12 @@ next-on-spec =
     tie.close
     (tie.spec
     counts-in-range-requires
-    refused-requires
+    (λ c κs. search needs)
     returns
     is-kept-requires
-    refused-requires-2
+    (λ c κs. search needs)
     returns-2
-    wide-requires
+    (λ c κs. search needs)
     sub-n
     stand-requires
     returns-3)

@@ -11,9 +11,6 @@ use Rattle.walk_next.proofs.standing.stand.Tie as tie
 seen-requires : tie.Need-seen-requires
 seen-requires c κs = (can-see (c .before .before .before .pre), refl)
 
-refused-requires : tie.Need-refused-requires
-refused-requires c κs = search needs
-
 returns : tie.Need-returns
 returns c =
     let s = c .before .before .before .before .before .before .before in
@@ -44,9 +41,6 @@ Compared = tie.After-carries
 abbrev recognised : Compared → Recognised
 recognised c = c .before .before .before .before
 
-refused-requires-2 : tie.Need-refused-requires-2
-refused-requires-2 c κs = search needs
-
 returns-2 : tie.Need-returns-2
 returns-2 c =
     let d = c .before .before in
@@ -63,9 +57,6 @@ spare-requires c κs =
     let pre = begun r .pre in
     let seen = r .before .before .seen .ensures .yes (is-not _ (r .if1 .left)) in
     (pre .few, seen .marksLong, labels-low (can-see pre) seen)
-
-refused-requires-3 : tie.Need-refused-requires-3
-refused-requires-3 c κs = search needs
 
 returns-3 : tie.Need-returns-3
 returns-3 c =
@@ -105,13 +96,13 @@ stand-spec =
     tie.close
     (tie.spec
     seen-requires
-    refused-requires
+    (λ c κs. search needs)
     returns
     carries-requires
-    refused-requires-2
+    (λ c κs. search needs)
     returns-2
     spare-requires
-    refused-requires-3
+    (λ c κs. search needs)
     returns-3
     block-sizes-requires
     chosen-requires

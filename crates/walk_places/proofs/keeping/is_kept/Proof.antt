@@ -24,9 +24,6 @@ returns-2 c =
       length-unmapped _ (a .p .order) 16 (search needs),
     )
 
-wide-requires : tie.Need-wide-requires
-wide-requires c κs = search needs
-
 sub-kept-as : tie.Need-sub-kept-as
 sub-kept-as c = omega (arith, c .wide .ensures, c .before .before .before .before .before .before .if1 .left)
 
@@ -42,9 +39,6 @@ kept-as-requires c κs =
         length-unmapped _ (a .p .order) 16 (search needs),
       ),
     )
-
-same-place-requires : tie.Need-same-place-requires
-same-place-requires c κs = search needs
 
 returns-3 : tie.Need-returns-3
 returns-3 c =
@@ -69,8 +63,8 @@ is-kept-spec =
     (tie.spec
     returns
     returns-2
-    wide-requires
+    (λ c κs. search needs)
     sub-kept-as
     kept-as-requires
-    same-place-requires
+    (λ c κs. search needs)
     returns-3)

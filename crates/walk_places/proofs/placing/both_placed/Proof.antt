@@ -7,16 +7,10 @@ use Rattle.walk_places.proofs.BothPlaced.{both-marked, place-next, plac
 use Rattle.walk_places.proofs.placing.both_placed.Statement.{statement}
 use Rattle.walk_places.proofs.placing.both_placed.Tie as tie
 
-wide-requires : tie.Need-wide-requires
-wide-requires c κs = search needs
-
 sub-n : tie.Need-sub-n
 sub-n c =
     let s = c .before .before .before .before in
     omega (arith, c .wide .ensures, some-present (s .pre .0) (s .pre .1 .1))
-
-wide-requires-2 : tie.Need-wide-requires-2
-wide-requires-2 c κs = search needs
 
 -- both places counted, and where the call began
 abbrev Counted : Type 0
@@ -59,4 +53,4 @@ returns c labels goes =
 pub both-placed-spec : {M : Type 1} → statement M
 both-placed-spec =
     tie.close
-    (tie.spec wide-requires sub-n wide-requires-2 sub-k placed-requires placed-requires-2 returns)
+    (tie.spec (λ c κs. search needs) sub-n (λ c κs. search needs) sub-k placed-requires placed-requires-2 returns)

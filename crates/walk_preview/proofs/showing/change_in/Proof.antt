@@ -27,9 +27,6 @@ module _ (w : WalkStruct) (made : Made) (is : GridIn (walkGrid w) made) (labels 
     moves = subst (λ (g : Grid). Moves g w labels next rule) (sym same-grid) M;
   }
 
-grid-in-requires : tie.Need-grid-in-requires
-grid-in-requires c κs = search needs
-
 change-on-requires : tie.Need-change-on-requires
 change-on-requires c κs = let s = c .before .before in let a = s .args in (
   s .pre .0,
@@ -44,4 +41,4 @@ returns c labels M = let a = c .before .before .before .args in let made = c .be
     (same-grid (a .w) (made .result) (made .ensures) labels (a .next) (a .rule) M)
 
 pub change-in-spec : {M : Type 1} → statement M
-change-in-spec = tie.close (tie.spec grid-in-requires change-on-requires returns)
+change-in-spec = tie.close (tie.spec (λ c κs. search needs) change-on-requires returns)

@@ -18,12 +18,6 @@ other-requires-2 c κs = let C = c .before .before .before .before .before .befo
     let M = c .before .before .before .before .before .before .before .both-placed .ensures (C .0)
     (C .1 .moves .goes) in ((M .few, M .fromLong), (M .fewNext, M .ontoLong))
 
-index-of-requires : tie.Need-index-of-requires
-index-of-requires c κs = search needs
-
-change-for-requires : tie.Need-change-for-requires
-change-for-requires c κs = search needs
-
 returns : tie.Need-returns
 returns c labels C = c .change-for .ensures ∙ rw (
   c .before .before .before .before .before .other .ensures,
@@ -41,6 +35,6 @@ change-on-spec =
     both-placed-requires
     other-requires
     other-requires-2
-    index-of-requires
-    change-for-requires
+    (λ c κs. search needs)
+    (λ c κs. search needs)
     returns)

@@ -6,12 +6,6 @@ use Rattle.walk_ways.specs.declared.Answer.{Answer}
 use Rattle.walk_preview.proofs.showing.preview.Statement.{statement}
 use Rattle.walk_preview.proofs.showing.preview.Tie as tie
 
-moved-requires : tie.Need-moved-requires
-moved-requires c κs = search needs
-
-enum-known-answer : tie.Need-enum-known-answer
-enum-known-answer c = search needs
-
 change-in-requires : tie.Need-change-in-requires
 change-in-requires c κs = let a = c .before .before .before .before .before .before .before .args in (
   a .labels .now,
@@ -22,15 +16,6 @@ change-in-requires c κs = let a = c .before .before .before .before .before .be
 
 enum-told : tie.Need-enum-told
 enum-told c = search needs
-
-unchanged-requires : tie.Need-unchanged-requires
-unchanged-requires c κs = search needs
-
-enum-told-2 : tie.Need-enum-told-2
-enum-told-2 c = search needs
-
-unchanged-requires-2 : tie.Need-unchanged-requires-2
-unchanged-requires-2 c κs = search needs
 
 returns : tie.Need-returns
 returns c = let m = c .before .before .before .before .before .before .moved in
@@ -57,13 +42,13 @@ pub preview-spec : {M : Type 1} → statement M
 preview-spec =
     tie.close
     (tie.spec
-    moved-requires
-    enum-known-answer
+    (λ c κs. search needs)
+    (λ c. search needs)
     change-in-requires
     enum-told
-    unchanged-requires
-    enum-told-2
-    unchanged-requires-2
+    (λ c κs. search needs)
+    (λ c. search needs)
+    (λ c κs. search needs)
     returns
     returns-2
     returns-3)

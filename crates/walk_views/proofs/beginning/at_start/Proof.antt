@@ -12,12 +12,6 @@ use Rattle.walk_views.specs.Begun.{begunOn, startWalk}
 use Rattle.walk_views.proofs.beginning.at_start.Statement.{statement}
 use Rattle.walk_views.proofs.beginning.at_start.Tie as tie
 
-new-requires : tie.Need-new-requires
-new-requires c κs = search needs
-
-no-walk-requires : tie.Need-no-walk-requires
-no-walk-requires c κs = search needs
-
 returns : tie.Need-returns
 returns c =
     let a = c .before .before .before .before .before .before .before .before .args in
@@ -32,9 +26,6 @@ first-no-requires c κs =
     let a = c .before .before .before .before .before .before .before .args in
     made-is (lent (a .sizes .now) (a .divisions .now)) (c .before .before .new .result)
     (c .before .before .new .ensures) (c .if1 .left)
-
-no-walk-requires-2 : tie.Need-no-walk-requires-2
-no-walk-requires-2 c κs = search needs
 
 returns-2 : tie.Need-returns-2
 returns-2 c =
@@ -84,11 +75,11 @@ pub at-start-spec : {M : Type 1} → statement M
 at-start-spec =
     tie.close
     (tie.spec
-    new-requires
-    no-walk-requires
+    (λ c κs. search needs)
+    (λ c κs. search needs)
     returns
     first-no-requires
-    no-walk-requires-2
+    (λ c κs. search needs)
     returns-2
     start-on-requires
     returns-3)

@@ -21,12 +21,6 @@ label-of-requires c κs =
     can-look-up (a .g) (s .pre .0) (a .start .now) (a .labels .now) (s .pre .1) (c .before .copied .result)
     (c .before .copied .ensures)
 
-array-write-carried : tie.Need-array-write-carried
-array-write-carried c = search needs
-
-none-requires : tie.Need-none-requires
-none-requires c κs = search needs
-
 cast-t11 : tie.Need-cast-t11
 cast-t11 c = omega (
   arith,
@@ -46,4 +40,4 @@ returns c =
 
 pub start-on-spec : {M : Type 1} → statement M
 start-on-spec =
-    tie.close (tie.spec copied-requires label-of-requires array-write-carried none-requires cast-t11 returns)
+    tie.close (tie.spec copied-requires label-of-requires (λ c. search needs) (λ c κs. search needs) cast-t11 returns)

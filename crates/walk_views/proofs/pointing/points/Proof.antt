@@ -20,12 +20,6 @@ use Rattle.walk_places.specs.Walks.{tableOn, walkGrid, walkOf}
 use Rattle.walk_views.proofs.pointing.points.Statement.{statement}
 use Rattle.walk_views.proofs.pointing.points.Tie as tie
 
-grid-in-requires : tie.Need-grid-in-requires
-grid-in-requires c κs = search needs
-
-no-points-requires : tie.Need-no-points-requires
-no-points-requires c κs = search needs
-
 returns : tie.Need-returns
 returns c =
     let a = c .before .before .before .before .before .args in
@@ -82,9 +76,6 @@ asked c =
     let a = begun m .args in
     walk-asked (grid m) (a .w) (a .labels .now) (is-made m .0) ∙ sym (c .first-no .ensures)
 
-no-points-requires-2 : tie.Need-no-points-requires-2
-no-points-requires-2 c κs = search needs
-
 returns-2 : tie.Need-returns-2
 returns-2 c =
     let d = c .before .before in
@@ -107,13 +98,13 @@ pub points-spec : {M : Type 1} → statement M
 points-spec =
     tie.close
     (tie.spec
-    grid-in-requires
-    no-points-requires
+    (λ c κs. search needs)
+    (λ c κs. search needs)
     returns
     array-share-prefix-start
     slice-aggregate-first-no
     first-no-requires
-    no-points-requires-2
+    (λ c κs. search needs)
     returns-2
     points-on-requires
     returns-3)

@@ -20,9 +20,6 @@ use Rattle.walk_views.proofs.pointing.points_on.Tie as tie
 is-kept-requires : tie.Need-is-kept-requires
 is-kept-requires c κs = indices-few (c .before .before .args .g) (c .before .before .pre .0)
 
-no-points-requires : tie.Need-no-points-requires
-no-points-requires c κs = search needs
-
 returns : tie.Need-returns
 returns c =
     let s = c .before .before .before .before .before in
@@ -31,9 +28,6 @@ returns c =
     ∙ points-none (shape (a .g)) (a .w) (a .labels .now) (s .pre .1)
     (no-place-held (a .g) (a .w) (a .labels .now) (s .pre .0) (s .pre .1)
     (sym (c .before .before .is-kept .ensures .0) ∙ not-is _ (c .before .if1 .taken)))
-
-wide-requires : tie.Need-wide-requires
-wide-requires c κs = search needs
 
 -- the present place counted, and where the call began
 abbrev Counted : Type 0
@@ -77,9 +71,6 @@ sub-n c =
 seen-requires : tie.Need-seen-requires
 seen-requires c κs = (sees (c .before .before .before .before), refl)
 
-no-points-requires-2 : tie.Need-no-points-requires-2
-no-points-requires-2 c κs = search needs
-
 returns-2 : tie.Need-returns-2
 returns-2 c =
     let n = c .before .before .before .before .before .before .before .before in
@@ -102,9 +93,6 @@ spare-requires c κs =
     let see = sees (counted r) in
     let seen = r .before .before .seen .ensures .yes (is-not _ (r .if2 .left)) in
     (see .few, seen .marksLong, labels-low see seen)
-
-no-points-requires-3 : tie.Need-no-points-requires-3
-no-points-requires-3 c κs = search needs
 
 returns-3 : tie.Need-returns-3
 returns-3 c =
@@ -160,15 +148,15 @@ points-on-spec =
     tie.close
     (tie.spec
     is-kept-requires
-    no-points-requires
+    (λ c κs. search needs)
     returns
-    wide-requires
+    (λ c κs. search needs)
     sub-n
     seen-requires
-    no-points-requires-2
+    (λ c κs. search needs)
     returns-2
     spare-requires
-    no-points-requires-3
+    (λ c κs. search needs)
     returns-3
     put-requires
     returns-4)

@@ -7,9 +7,6 @@ use Rattle.walk_views.proofs.pointing.put.Tie as tie
 block-sizes-requires : tie.Need-block-sizes-requires
 block-sizes-requires c κs = c .before .before .pre .sees .made
 
-slice-aggregate-put-points : tie.Need-slice-aggregate-put-points
-slice-aggregate-put-points c = search needs
-
 put-points-requires : tie.Need-put-points-requires
 put-points-requires c κs = (
   can-put (c .before .before .before .before .before .before .pre)
@@ -25,4 +22,4 @@ returns c = put-so (c .before .before .before .before .before .before .before .b
     (c .before .put-points .last .0) (c .before .put-points .ensures .0) (c .before .put-points .ensures .1)
 
 pub put-spec : {M : Type 1} → statement M
-put-spec = tie.close (tie.spec block-sizes-requires slice-aggregate-put-points put-points-requires returns)
+put-spec = tie.close (tie.spec block-sizes-requires (λ c. search needs) put-points-requires returns)

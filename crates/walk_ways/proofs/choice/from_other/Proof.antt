@@ -25,9 +25,6 @@ stays s = tried-on (s .pre .0 .0) (s .pre .1) (some s) 1 (omega arith)
 way-requires : tie.Need-way-requires
 way-requires c κs = let s = c .before .before in can-move (s .pre .0 .0) (s .pre .1) 6 (leaves s) refl refl
 
-leads-back-requires : tie.Need-leads-back-requires
-leads-back-requires c κs = search needs
-
 -- what is told of the first: where the call began, and whether it leads back
 abbrev Told : Type 0
 Told = tie.After-leads-back
@@ -40,9 +37,6 @@ first-leads : (c : Told) → let s = begun c in
 first-leads c =
     ap (λ (v : Move). leadsBack v (begun c .args .w .before)) (sym (c .before .way .ensures))
     ∙ sym (c .leads-back .ensures .0)
-
-refused-requires : tie.Need-refused-requires
-refused-requires c κs = search needs
 
 returns : tie.Need-returns
 returns c =
@@ -72,9 +66,6 @@ returns-2 c =
     (other-on (s .pre .0 .0) (some s) (s .pre .1) (t .leads-back .ensures .1)
     (first-leads t ∙ c .before .before .before .if1 .taken) (c .before .before .if2 .left)))
 
-refused-requires-2 : tie.Need-refused-requires-2
-refused-requires-2 c κs = search needs
-
 returns-3 : tie.Need-returns-3
 returns-3 c =
     let t = c .before .before .before in
@@ -86,9 +77,6 @@ returns-3 c =
 
 way-requires-3 : tie.Need-way-requires-3
 way-requires-3 c κs = let s = begun (c .before .before) in can-move (s .pre .0 .0) (s .pre .1) 1 (stays s) refl refl
-
-leads-back-requires-2 : tie.Need-leads-back-requires-2
-leads-back-requires-2 c κs = search needs
 
 -- what is told of the second
 abbrev told-first : tie.After-leads-back2 → Told
@@ -117,9 +105,6 @@ returns-4 c =
     (other-back (s .pre .0 .0) (some s) (s .pre .1) (t .leads-back .ensures .1)
     (second-leads (c .before .before) ∙ c .before .if4 .taken) (c .before .before .before .before .if3 .left)))
 
-refused-requires-3 : tie.Need-refused-requires-3
-refused-requires-3 c κs = search needs
-
 returns-5 : tie.Need-returns-5
 returns-5 c =
     let t = told-first (c .before .before) in
@@ -135,17 +120,17 @@ from-other-spec =
     tie.close
     (tie.spec
     way-requires
-    leads-back-requires
-    refused-requires
+    (λ c κs. search needs)
+    (λ c κs. search needs)
     returns
     way-requires-2
     told-requires
     returns-2
-    refused-requires-2
+    (λ c κs. search needs)
     returns-3
     way-requires-3
-    leads-back-requires-2
+    (λ c κs. search needs)
     told-requires-2
     returns-4
-    refused-requires-3
+    (λ c κs. search needs)
     returns-5)

@@ -9,20 +9,11 @@ use native.Mathlib.Omega.{arith}
 use Rattle.walk_ways.proofs.choice.from_start.Statement.{statement}
 use Rattle.walk_ways.proofs.choice.from_start.Tie as tie
 
-none-requires : tie.Need-none-requires
-none-requires c κs = search needs
-
-same-place-requires : tie.Need-same-place-requires
-same-place-requires c κs = search needs
-
 -- whether there is no place before
 alone : (c : tie.After-same-place)
     → samePlace (c .before .before .before .before .args .w .before) nowhere ≡ c .same-place .result
 alone c = ap (samePlace (c .before .before .before .before .args .w .before)) (sym (c .before .none .ensures))
     ∙ sym (c .same-place .ensures .0)
-
-refused-requires : tie.Need-refused-requires
-refused-requires c κs = search needs
 
 returns : tie.Need-returns
 returns c =
@@ -30,9 +21,6 @@ returns c =
     c .refused .ensures
     ∙ refused-is (s .args .g) (s .args .w) (s .args .labels .now) 20
     (start-20 (s .pre .0) refl (alone (c .before .before) ∙ not-is _ (c .before .if1 .taken)))
-
-refused-requires-2 : tie.Need-refused-requires-2
-refused-requires-2 c κs = search needs
 
 returns-2 : tie.Need-returns-2
 returns-2 c =
@@ -73,11 +61,11 @@ pub from-start-spec : {M : Type 1} → statement M
 from-start-spec =
     tie.close
     (tie.spec
-    none-requires
-    same-place-requires
-    refused-requires
+    (λ c κs. search needs)
+    (λ c κs. search needs)
+    (λ c κs. search needs)
     returns
-    refused-requires-2
+    (λ c κs. search needs)
     returns-2
     way-requires
     told-requires

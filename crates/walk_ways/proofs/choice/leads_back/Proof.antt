@@ -3,17 +3,8 @@ use borrow.Author.Needs.{needs}
 use Rattle.walk_ways.proofs.choice.leads_back.Statement.{statement}
 use Rattle.walk_ways.proofs.choice.leads_back.Tie as tie
 
-same-place-requires : tie.Need-same-place-requires
-same-place-requires c κs = search needs
-
 enum-told : tie.Need-enum-told
 enum-told c = search needs
-
-enum-told-2 : tie.Need-enum-told-2
-enum-told-2 c = search needs
-
-enum-told-3 : tie.Need-enum-told-3
-enum-told-3 c = search needs
 
 returns : tie.Need-returns
 returns c = (
@@ -30,4 +21,4 @@ returns-3 c = (rw (c .enum-told3 .given .1), c .before .before .same-place .ensu
 pub leads-back-spec : {M : Type 1} → statement M
 leads-back-spec =
     tie.close
-    (tie.spec same-place-requires enum-told enum-told-2 enum-told-3 returns returns-2 returns-3)
+    (tie.spec (λ c κs. search needs) enum-told (λ c. search needs) (λ c. search needs) returns returns-2 returns-3)

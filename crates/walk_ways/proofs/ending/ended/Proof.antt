@@ -8,15 +8,6 @@ use native.Mathlib.Omega.{arith}
 use Rattle.walk_ways.proofs.ending.ended.Statement.{statement}
 use Rattle.walk_ways.proofs.ending.ended.Tie as tie
 
-slice-aggregate-put-points : tie.Need-slice-aggregate-put-points
-slice-aggregate-put-points c = search needs
-
-put-points-requires : tie.Need-put-points-requires
-put-points-requires c κs = search needs
-
-block-of-requires : tie.Need-block-of-requires
-block-of-requires c κs = search needs
-
 cast-block : tie.Need-cast-block
 cast-block c =
     let s = c .before .before .before .before in
@@ -41,9 +32,6 @@ add-block c =
       blocks-range g (s .pre .0 .0),
     )
 
-none-requires : tie.Need-none-requires
-none-requires c κs = search needs
-
 returns : tie.Need-returns
 returns c = rw (
   c .none .ensures,
@@ -57,10 +45,10 @@ pub ended-spec : {M : Type 1} → statement M
 ended-spec =
     tie.close
     (tie.spec
-    slice-aggregate-put-points
-    put-points-requires
-    block-of-requires
+    (λ c. search needs)
+    (λ c κs. search needs)
+    (λ c κs. search needs)
     cast-block
     add-block
-    none-requires
+    (λ c κs. search needs)
     returns)

@@ -3,20 +3,11 @@ use borrow.Author.Needs.{needs}
 use Rattle.walk_ways.proofs.ending.told.Statement.{statement}
 use Rattle.walk_ways.proofs.ending.told.Tie as tie
 
-enum-known-leads : tie.Need-enum-known-leads
-enum-known-leads c = search needs
-
-enum-known-leads-2 : tie.Need-enum-known-leads-2
-enum-known-leads-2 c = search needs
-
 ended-requires : tie.Need-ended-requires
 ended-requires c κs =
     let s = c .before .before .before .before in
     let w = s .pre .1 .place (c .before .leads2 .given .0 .0) (c .before .leads2 .given .1) in
     ((s .pre .0, w .0), (w .1, s .pre .2))
-
-enum-known-leads-3 : tie.Need-enum-known-leads-3
-enum-known-leads-3 c = search needs
 
 ended-requires-2 : tie.Need-ended-requires-2
 ended-requires-2 c κs =
@@ -37,10 +28,10 @@ pub told-spec : {M : Type 1} → statement M
 told-spec =
     tie.close
     (tie.spec
-    enum-known-leads
-    enum-known-leads-2
+    (λ c. search needs)
+    (λ c. search needs)
     ended-requires
-    enum-known-leads-3
+    (λ c. search needs)
     ended-requires-2
     returns
     returns-2

@@ -8,33 +8,12 @@ use Rattle.walk_ways.proofs.one_way.way.Tie as tie
 abbrev begun : tie.After-step → tie.Start
 begun c = c .before .before .before .before .before .before .before .before .before
 
-step-requires : tie.Need-step-requires
-step-requires c κs = search needs
-
-enum-known-outcome : tie.Need-enum-known-outcome
-enum-known-outcome c = search needs
-
 kept-as-requires : tie.Need-kept-as-requires
 kept-as-requires c κs =
     let at = c .before .before .before .before .before in
     let s = begun at in
     let w = few (s .args .m) (at .step .ensures) (s .pre .1) (c .before .before .before .outcome .given .1) in
     ((s .pre .2, w .1), (w .0, at .step .ensures .each .inOrder))
-
-rule-of-requires : tie.Need-rule-of-requires
-rule-of-requires c κs = search needs
-
-enum-known-outcome-2 : tie.Need-enum-known-outcome-2
-enum-known-outcome-2 c = search needs
-
-none-requires : tie.Need-none-requires
-none-requires c κs = search needs
-
-enum-known-outcome-3 : tie.Need-enum-known-outcome-3
-enum-known-outcome-3 c = search needs
-
-none-requires-2 : tie.Need-none-requires-2
-none-requires-2 c κs = search needs
 
 returns : tie.Need-returns
 returns c =
@@ -62,14 +41,14 @@ pub way-spec : {M : Type 1} → statement M
 way-spec =
     tie.close
     (tie.spec
-    step-requires
-    enum-known-outcome
+    (λ c κs. search needs)
+    (λ c. search needs)
     kept-as-requires
-    rule-of-requires
-    enum-known-outcome-2
-    none-requires
-    enum-known-outcome-3
-    none-requires-2
+    (λ c κs. search needs)
+    (λ c. search needs)
+    (λ c κs. search needs)
+    (λ c. search needs)
+    (λ c κs. search needs)
     returns
     returns-2
     returns-3)

@@ -19,14 +19,8 @@ use borrow.Author.Needs.{needs}
 use Rattle.ways.proofs.joining.grow.Statement.{statement}
 use Rattle.ways.proofs.joining.grow.Tie as tie
 
-has-requires : tie.Need-has-requires
-has-requires c κs = search needs
-
 first-outside-requires : tie.Need-first-outside-requires
 first-outside-requires c κs = let s = c .before .before in (s .pre .ready .low, s .pre .below)
-
-cast-find : tie.Need-cast-find
-cast-find c = search needs
 
 find-requires : tie.Need-find-requires
 find-requires c κs =
@@ -130,9 +124,9 @@ pub grow-spec : {M : Type 1} → statement M
 grow-spec =
     tie.close
     (tie.spec
-    has-requires
+    (λ c κs. search needs)
     first-outside-requires
-    cast-find
+    (λ c. search needs)
     find-requires
     join-requires
     returns

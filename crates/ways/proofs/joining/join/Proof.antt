@@ -9,33 +9,6 @@ use borrow.Author.Needs.{needs}
 use Rattle.ways.proofs.joining.join.Statement.{statement}
 use Rattle.ways.proofs.joining.join.Tie as tie
 
-cast-insert : tie.Need-cast-insert
-cast-insert c = search needs
-
-insert-requires : tie.Need-insert-requires
-insert-requires c κs = search needs
-
-add-insert : tie.Need-add-insert
-add-insert c = search needs
-
-add-insert-2 : tie.Need-add-insert-2
-add-insert-2 c = search needs
-
-insert-requires-2 : tie.Need-insert-requires-2
-insert-requires-2 c κs = search needs
-
-add-t12 : tie.Need-add-t12
-add-t12 c = search needs
-
-add-requires : tie.Need-add-requires
-add-requires c κs = search needs
-
-without-requires : tie.Need-without-requires
-without-requires c κs = search needs
-
-add-t13 : tie.Need-add-t13
-add-t13 c = search needs
-
 returns : tie.Need-returns
 returns c =
     let a = c .before .before .before .before .before .before .args in
@@ -57,13 +30,13 @@ pub join-spec : {M : Type 1} → statement M
 join-spec =
     tie.close
     (tie.spec
-    cast-insert
-    insert-requires
-    add-insert
-    add-insert-2
-    insert-requires-2
-    add-t12
-    add-requires
-    without-requires
-    add-t13
+    (λ c. search needs)
+    (λ c κs. search needs)
+    (λ c. search needs)
+    (λ c. search needs)
+    (λ c κs. search needs)
+    (λ c. search needs)
+    (λ c κs. search needs)
+    (λ c κs. search needs)
+    (λ c. search needs)
     returns)

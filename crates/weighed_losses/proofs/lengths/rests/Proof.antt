@@ -21,9 +21,6 @@ abbrev μ-loop : tie.MeasureT-loop
 loop-holds : tie.Need-loop-holds Inv-loop μ-loop
 loop-holds c = ((λ n b. absurd (omega arith)), omega arith, refl)
 
-profiles-behind-requires : tie.Need-profiles-behind-requires Inv-loop μ-loop
-profiles-behind-requires c κs = search needs
-
 mul-rests : tie.Need-mul-rests Inv-loop μ-loop
 mul-rests c = omega arith
 
@@ -62,7 +59,7 @@ rests-spec =
     Inv-loop
     μ-loop
     loop-holds
-    profiles-behind-requires
+    (λ c κs. search needs)
     mul-rests
     array-write-rests
     add-i

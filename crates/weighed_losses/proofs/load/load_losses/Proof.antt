@@ -132,9 +132,6 @@ element-copy-out-wide c = omega (
   c .before .before .before .before .before .pre .0,
 )
 
-wide-requires : tie.Need-wide-requires Inv-loop μ-loop
-wide-requires c κs = search needs
-
 mul-rest : tie.Need-mul-rest Inv-loop μ-loop
 mul-rest c = omega (arith, owner-low c)
 
@@ -146,9 +143,6 @@ mul-at c = omega (arith, counted (c .before))
 
 element-copy-out-wide-2 : tie.Need-element-copy-out-wide-2 Inv-loop μ-loop
 element-copy-out-wide-2 c = omega (arith, owner-low (c .before))
-
-wide-requires-2 : tie.Need-wide-requires-2 Inv-loop μ-loop
-wide-requires-2 c κs = search needs
 
 sub-at : tie.Need-sub-at Inv-loop μ-loop
 sub-at c = omega (arith, spans c)
@@ -167,12 +161,6 @@ add-load-table c = omega (arith, within (c .before))
 
 mul-load-table-2 : tie.Need-mul-load-table-2 Inv-loop μ-loop
 mul-load-table-2 c = omega (arith, within (c .before))
-
-sub-load-table : tie.Need-sub-load-table Inv-loop μ-loop
-sub-load-table c = search needs
-
-part-load-table-start : tie.Need-part-load-table-start Inv-loop μ-loop
-part-load-table-start c = search needs
 
 part-load-table-end : tie.Need-part-load-table-end Inv-loop μ-loop
 part-load-table-end c = let w = within (c .before) in search needs
@@ -226,20 +214,20 @@ load-losses-spec =
     μ-loop
     loop-holds
     element-copy-out-wide
-    wide-requires
+    (λ c κs. search needs)
     mul-rest
     element-copy-out-rest
     mul-at
     element-copy-out-wide-2
-    wide-requires-2
+    (λ c κs. search needs)
     sub-at
     mul-at-2
     add-at
     mul-load-table
     add-load-table
     mul-load-table-2
-    sub-load-table
-    part-load-table-start
+    (λ c. search needs)
+    (λ c. search needs)
     part-load-table-end
     load-table-requires
     add-h

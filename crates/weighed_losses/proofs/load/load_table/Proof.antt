@@ -26,9 +26,6 @@ mul-long c = omega arith
 shared-slice-read-long : tie.Need-shared-slice-read-long Inv-loop μ-loop
 shared-slice-read-long c = omega arith
 
-long-requires : tie.Need-long-requires Inv-loop μ-loop
-long-requires c κs = search needs
-
 add-levels : tie.Need-add-levels Inv-loop μ-loop
 add-levels c = omega arith
 
@@ -71,7 +68,7 @@ load-table-spec =
     loop-holds
     mul-long
     shared-slice-read-long
-    long-requires
+    (λ c κs. search needs)
     add-levels
     mul-levels
     slice-write-levels

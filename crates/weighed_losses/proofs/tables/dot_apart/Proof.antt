@@ -55,9 +55,6 @@ module _ (c : tie.After-shared-slice-known8 Inv-loop μ-loop) where
 shared-slice-read-long : tie.Need-shared-slice-read-long Inv-loop μ-loop
 shared-slice-read-long c = omega arith
 
-long-requires : tie.Need-long-requires Inv-loop μ-loop
-long-requires c κs = search needs
-
 shared-slice-read-total : tie.Need-shared-slice-read-total Inv-loop μ-loop
 shared-slice-read-total c =
     let s = c .before .before .before .before .before in
@@ -70,9 +67,6 @@ mul-total c =
 
 shared-slice-read-long-2 : tie.Need-shared-slice-read-long-2 Inv-loop μ-loop
 shared-slice-read-long-2 c = omega arith
-
-long-requires-2 : tie.Need-long-requires-2 Inv-loop μ-loop
-long-requires-2 c κs = search needs
 
 mul-total-2 : tie.Need-mul-total-2 Inv-loop μ-loop
 mul-total-2 c =
@@ -113,9 +107,6 @@ mul-long c = omega arith
 
 shared-slice-read-long-3 : tie.Need-shared-slice-read-long-3 Inv-loop μ-loop
 shared-slice-read-long-3 c = omega arith
-
-long-requires-3 : tie.Need-long-requires-3 Inv-loop μ-loop
-long-requires-3 c κs = search needs
 
 mul-total-4 : tie.Need-mul-total-4 Inv-loop μ-loop
 mul-total-4 c =
@@ -163,11 +154,11 @@ dot-apart-spec =
     Inv-loop
     μ-loop
     shared-slice-read-long
-    long-requires
+    (λ c κs. search needs)
     shared-slice-read-total
     mul-total
     shared-slice-read-long-2
-    long-requires-2
+    (λ c κs. search needs)
     mul-total-2
     shared-slice-read-total-2
     mul-total-3
@@ -176,7 +167,7 @@ dot-apart-spec =
     add-at
     mul-long
     shared-slice-read-long-3
-    long-requires-3
+    (λ c κs. search needs)
     mul-total-4
     shared-slice-read-total-3
     mul-total-5

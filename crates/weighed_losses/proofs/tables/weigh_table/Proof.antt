@@ -44,9 +44,6 @@ sub-dot-apart c = omega (arith, before c)
 part-dot-apart-start : tie.Need-part-dot-apart-start Inv-loop μ-loop
 part-dot-apart-start c = let h = before (c .before) in search needs
 
-part-dot-apart-end : tie.Need-part-dot-apart-end Inv-loop μ-loop
-part-dot-apart-end c = search needs
-
 dot-apart-requires : tie.Need-dot-apart-requires Inv-loop μ-loop
 dot-apart-requires c κs =
     let s = c .before .before .before .before .before .before in
@@ -102,7 +99,7 @@ weigh-table-spec =
     mul-dot-apart
     sub-dot-apart
     part-dot-apart-start
-    part-dot-apart-end
+    (λ c. search needs)
     dot-apart-requires
     add-levels
     mul-levels

@@ -9,21 +9,6 @@ use Rattle.weighed_losses.specs.Levels.{place}
 use Rattle.weighed_losses.proofs.weighing.weigh_index.Statement.{statement}
 use Rattle.weighed_losses.proofs.weighing.weigh_index.Tie as tie
 
-mul-from : tie.Need-mul-from
-mul-from c = search needs
-
-add-from : tie.Need-add-from
-add-from c = search needs
-
-mul-from-2 : tie.Need-mul-from-2
-mul-from-2 c = search needs
-
-add-to : tie.Need-add-to
-add-to c = search needs
-
-copy-table-requires : tie.Need-copy-table-requires
-copy-table-requires c κs = search needs
-
 weigh-table-requires : tie.Need-weigh-table-requires
 weigh-table-requires c κs =
     let s = c .before .before .before .before in
@@ -35,9 +20,6 @@ weigh-table-requires c κs =
       fits = λ e h. rw (ne-eqb (s .args .owner) (s .args .level) n) at (s .pre .fits e h);
     }
 
-same-length : tie.Need-same-length
-same-length c = search needs
-
 returns : tie.Need-returns
 returns c =
     let a = c .before .before .before .before .before .before .before .args in
@@ -45,9 +27,6 @@ returns c =
     written-as _ _ _ _ (a .rest) _ _ z
     (λ e h. rw (eq-eqb (a .owner) (a .level) (c .before .before .before .before .if1 .taken)))
     (c .before .before .copy-table .ensures)
-
-same-length-2 : tie.Need-same-length-2
-same-length-2 c = search needs
 
 returns-2 : tie.Need-returns-2
 returns-2 c =
@@ -61,13 +40,13 @@ pub weigh-index-spec : {M : Type 1} → statement M
 weigh-index-spec =
     tie.close
     (tie.spec
-    mul-from
-    add-from
-    mul-from-2
-    add-to
-    copy-table-requires
+    (λ c. search needs)
+    (λ c. search needs)
+    (λ c. search needs)
+    (λ c. search needs)
+    (λ c κs. search needs)
     weigh-table-requires
-    same-length
+    (λ c. search needs)
     returns
-    same-length-2
+    (λ c. search needs)
     returns-2)

@@ -39,9 +39,6 @@ loop-holds c = (level-start (_) (_) (_) (_) _ _ (c .before .before .pre), omega 
 element-copy-out-wide : tie.Need-element-copy-out-wide Inv-loop μ-loop
 element-copy-out-wide c = omega (arith, c .before .before .before .before .pre .0)
 
-wide-requires : tie.Need-wide-requires Inv-loop μ-loop
-wide-requires c κs = search needs
-
 add-rest : tie.Need-add-rest Inv-loop μ-loop
 add-rest c = omega (arith, ready c .1 .low)
 
@@ -110,7 +107,7 @@ weigh-level-spec =
     μ-loop
     loop-holds
     element-copy-out-wide
-    wide-requires
+    (λ c κs. search needs)
     add-rest
     mul-rest
     add-rest-2

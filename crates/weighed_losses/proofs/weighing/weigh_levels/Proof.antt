@@ -67,26 +67,14 @@ element-copy-out-wide : tie.Need-element-copy-out-wide Inv-loop μ-loop
 element-copy-out-wide c =
     omega (arith, yes (c .before .before .before .before .before) .fewBlocks, c .before .loop .inv .3)
 
-wide-requires : tie.Need-wide-requires Inv-loop μ-loop
-wide-requires c κs = search needs
-
 shared-slice-read-wide : tie.Need-shared-slice-read-wide Inv-loop μ-loop
 shared-slice-read-wide c = omega (arith, c .before .before .before .before .loop .inv .3)
-
-wide-requires-2 : tie.Need-wide-requires-2 Inv-loop μ-loop
-wide-requires-2 c κs = search needs
 
 add-end : tie.Need-add-end Inv-loop μ-loop
 add-end c = omega (arith, first-is c, inside c)
 
 mul-weigh-level : tie.Need-mul-weigh-level Inv-loop μ-loop
 mul-weigh-level c = omega (arith, first-is c, inside c)
-
-sub-weigh-level : tie.Need-sub-weigh-level Inv-loop μ-loop
-sub-weigh-level c = search needs
-
-part-weigh-level-start : tie.Need-part-weigh-level-start Inv-loop μ-loop
-part-weigh-level-start c = search needs
 
 part-weigh-level-end : tie.Need-part-weigh-level-end Inv-loop μ-loop
 part-weigh-level-end c = let e = first-is c in let i = inside c in search needs
@@ -161,13 +149,13 @@ weigh-levels-spec =
     sub-last
     loop-holds
     element-copy-out-wide
-    wide-requires
+    (λ c κs. search needs)
     shared-slice-read-wide
-    wide-requires-2
+    (λ c κs. search needs)
     add-end
     mul-weigh-level
-    sub-weigh-level
-    part-weigh-level-start
+    (λ c. search needs)
+    (λ c. search needs)
     part-weigh-level-end
     weigh-level-requires
     add-level
