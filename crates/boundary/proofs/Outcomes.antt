@@ -16,9 +16,9 @@ use Rattle.questions.specs.Questions.{Question, firstNo}
 use Rattle.grid_points.specs.Grid.{Grid, numIndices, numPoints, lent}
 use Rattle.grid_points.specs.Questions.{gridQuestions}
 use Rattle.place.specs.Questions.{question6, question7}
-use Rattle.simplices.specs.Simplices.{labelledBy}
-use Rattle.games.specs.Labelling.{labelledOf}
-use Rattle.games.specs.declared.Labelled.the-variants.{Refused, Written}
+use Rattle.check_simplices.specs.Simplices.{labelledBy}
+use Rattle.game_labels.specs.Labelling.{labelledOf}
+use Rattle.game_labels.specs.declared.Labelled.the-variants.{Refused, Written}
 use Rattle.boundary_labels.specs.Boundary.{boundaryTable}
 use Rattle.boundary.specs.Call.{boundaryAnswer, boundaryBuffer, boundaryQuestions, tableOrOld, lentQuestions}
 

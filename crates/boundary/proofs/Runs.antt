@@ -19,11 +19,11 @@ use Rattle.place.specs.Path.{Answer as PathAnswer, answer, ended, spent, unknow
 use Rattle.place.specs.Places.{Simplex}
 use Rattle.place.specs.Problem.{Problem, problemOf}
 use Rattle.place.specs.Questions.{question8, tableQuestions}
-use Rattle.simplices.proofs.Tests.{has-start-with}
+use Rattle.check_simplices.proofs.Tests.{has-start-with}
 use Rattle.finder.specs.Run.{caseOf, runRefusal, runAnswer}
 use Rattle.finder.specs.declared.answers.Answer.{Answer}
 use Rattle.finder.specs.declared.answers.Answer.the-variants.{End, Refused, Unknown}
-use Rattle.games.specs.declared.Labelled.the-variants.{Written}
+use Rattle.game_labels.specs.declared.Labelled.the-variants.{Written}
 use Rattle.boundary_labels.proofs.Ends.{accepted-again, over-new-table}
 use Rattle.boundary_labels.specs.Boundary.{isInterior}
 use Rattle.boundary_labels.specs.Claims.{AcceptedAgain, OverNewTable}

@@ -7,9 +7,9 @@ use Rattle.questions.specs.Questions.{Question, firstNo}
 use Rattle.grid_points.specs.Grid.{Grid, lent}
 use Rattle.grid_points.specs.Questions.{gridQuestions}
 use Rattle.place.specs.Questions.{question6, question7}
-use Rattle.simplices.specs.Simplices.{labelledBy}
-use Rattle.games.specs.Labelling.{labelledOf, question12}
-use Rattle.games.specs.declared.Labelled.{Labelled}
+use Rattle.check_simplices.specs.Simplices.{labelledBy}
+use Rattle.game_labels.specs.Labelling.{labelledOf, question12}
+use Rattle.game_labels.specs.declared.Labelled.{Labelled}
 use Rattle.boundary_labels.specs.Boundary.{boundaryTable}
 
 -- those behind 1 to 4: 6 and 7 of the old table, whose every byte is asked, also those written over, and 12 of the

@@ -13,7 +13,7 @@ use Rattle.place.specs.Problem.{Problem, problemOf}
 use Rattle.place.specs.Questions.{question8}
 use Rattle.finder.specs.Run.{runRefusal, runAnswer}
 use Rattle.finder.specs.declared.answers.Answer.the-variants.{End, Unknown}
-use Rattle.games.specs.declared.Labelled.the-variants.{Written}
+use Rattle.game_labels.specs.declared.Labelled.the-variants.{Written}
 use Rattle.boundary_labels.specs.Boundary.{isInterior}
 use Rattle.boundary.specs.Call.{boundaryAnswer, boundaryBuffer}
 

@@ -1,7 +1,7 @@
 // The older boundary rule, request 12: the interior keeps its labels, and the boundary has those of rule (1.3).
 ghost use mathlib.Core.Path.{_≡_};
 ghost use Rattle.boundary.specs.Call.{boundaryAnswer, boundaryBuffer};
-use games::Labelled;
+use game_labels::Labelled;
 use grid::Grid;
 use label_table::all_at_most;
 

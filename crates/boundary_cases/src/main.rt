@@ -9,7 +9,7 @@ use case_reader::show_bytes;
 use case_reader::within_bytes;
 use case_reader::word;
 use case_reader::words;
-use games::Labelled;
+use game_labels::Labelled;
 
 // The answer, and the buffer after it.
 fn print_call(sizes: &[u8], divisions: &[u16], old: &[u8], buffer: &mut [u8]) {

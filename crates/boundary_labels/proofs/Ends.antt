@@ -31,8 +31,8 @@ use Rattle.place.specs.Ends.{End, completeFor, facetEnds, facets, isComplete, s
 use Rattle.place.specs.Path.{answer, ended, outcome, path, pathLength, sameSimplex, spent, unknown}
 use Rattle.place.specs.Places.{Simplex, isPlace, labelSet, setT, setU}
 use Rattle.place.specs.Problem.{Problem, label}
-use Rattle.simplices.proofs.Answers.{last-place, stop-points}
-use Rattle.simplices.proofs.Places.{accepted-grid}
+use Rattle.check_simplices.proofs.Answers.{last-place, stop-points}
+use Rattle.check_simplices.proofs.Places.{accepted-grid}
 use Rattle.boundary_labels.proofs.Complete.{complete-by-labels}
 use Rattle.boundary_labels.proofs.PointLabels.{table-kth}
 use Rattle.boundary_labels.proofs.Tables.{new-byte, new-range, new-table}

@@ -19,11 +19,11 @@ use Rattle.grid.specs.Made.{IsMade, shape}
 use Rattle.grid_points.specs.Questions.{gridQuestions}
 use Rattle.grid.specs.declared.Grid.{Grid as GridStruct}
 use Rattle.place.specs.Questions.{question6, question7}
-use Rattle.simplices.proofs.Answers.{answer-by-test}
-use Rattle.simplices.specs.Chains.{oneChain}
+use Rattle.check_simplices.proofs.Answers.{answer-by-test}
+use Rattle.check_simplices.specs.Chains.{oneChain}
 use Rattle.place.specs.Ends.{completeFor}
-use Rattle.simplices.specs.Simplices.{firstOf, labelledBy, verdict}
-use Rattle.chains.specs.Listed.{listed, listedAt, Listed}
+use Rattle.check_simplices.specs.Simplices.{firstOf, labelledBy, verdict}
+use Rattle.check_chains.specs.Listed.{listed, listedAt, Listed}
 use Rattle.checker.proofs.Covering.{whole-is}
 use Rattle.checker.proofs.ListRefusals.{most-few}
 use Rattle.checker.specs.Check.{question19, wholePoints, listedPoints, listQuestions, checkCase, checkAnswer}

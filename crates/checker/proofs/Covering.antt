@@ -33,9 +33,9 @@ use Rattle.place.specs.Places.{labelSet, setU}
 use Rattle.place.specs.Problem.{label}
 use Rattle.path_laws.proofs.Meaning.{index-means}
 use Rattle.positions.specs.Steps.{afterSteps, CanTakeSteps}
-use Rattle.simplices.specs.Simplices.{firstOf, labelledBy}
-use Rattle.chains.proofs.ListedPoints.{all-at}
-use Rattle.chains.proofs.Nestings.{range-none, range-more}
+use Rattle.check_simplices.specs.Simplices.{firstOf, labelledBy}
+use Rattle.check_chains.proofs.ListedPoints.{all-at}
+use Rattle.check_chains.proofs.Nestings.{range-none, range-more}
 use Rattle.checker.specs.Covered.{IsCovered, firstWhole, withLabel}
 
 -- a search through numbers from k up to n

@@ -26,9 +26,9 @@ use Rattle.place.specs.Path.{answer, outcome, announcement, ended, path, pathLe
 use Rattle.place.specs.Places.{Simplex}
 use Rattle.place.specs.Problem.{Problem}
 use Rattle.place.specs.Questions.{question6, question7, tableQuestions}
-use Rattle.simplices.proofs.Answers.{last-place, stop-answer, stop-points}
-use Rattle.simplices.proofs.Tests.{has-start-with}
-use Rattle.chains.specs.Listed.{listed, listedAt}
+use Rattle.check_simplices.proofs.Answers.{last-place, stop-answer, stop-points}
+use Rattle.check_simplices.proofs.Tests.{has-start-with}
+use Rattle.check_chains.specs.Listed.{listed, listedAt}
 use Rattle.checker.proofs.Answers.{judged-is}
 use Rattle.checker.proofs.ListRefusals.{list-points, none-no}
 use Rattle.checker.specs.Check.{question19, wholePoints, listedPoints, checkAnswer}

@@ -11,8 +11,8 @@ use Rattle.questions.specs.Questions.{Question, ask, firstNo}
 use Rattle.grid_points.specs.Grid.{Grid, Point, dimension, numIndices, isGridPoint}
 use Rattle.grid_points.specs.Questions.{gridQuestions}
 use Rattle.place.specs.Questions.{question6, question7}
-use Rattle.simplices.specs.Simplices.{labelledBy, verdict}
-use Rattle.chains.specs.Listed.{listed}
+use Rattle.check_simplices.specs.Simplices.{labelledBy, verdict}
+use Rattle.check_chains.specs.Listed.{listed}
 use Rattle.checker.specs.declared.Answer.{Answer}
 use Rattle.checker.specs.declared.Answer.the-variants.{Refused, Yes, No}
 

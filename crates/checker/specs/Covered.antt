@@ -13,7 +13,7 @@ use Rattle.grid.specs.Made.{shape}
 use Rattle.grid.specs.declared.Grid.{Grid as GridStruct}
 use Rattle.rules.specs.Mask.{bit, withIndex}
 use Rattle.place.specs.Problem.{label}
-use Rattle.simplices.specs.Simplices.{firstOf, labelledBy}
+use Rattle.check_simplices.specs.Simplices.{firstOf, labelledBy}
 
 -- "each index of the block is a label of one of its points or belongs to its U": for each index whether it is one or
 -- the other

@@ -3,8 +3,8 @@ ghost use mathlib.Core.Path.{_≡_};
 ghost use Prim.Native.Nat.{_≤_};
 ghost use Rattle.grid_points.specs.Grid.{lent};
 ghost use Rattle.grid.specs.Made.{shape};
-ghost use Rattle.simplices.specs.Simplices.{verdict};
-ghost use Rattle.chains.specs.Listed.{listed, Listed};
+ghost use Rattle.check_simplices.specs.Simplices.{verdict};
+ghost use Rattle.check_chains.specs.Listed.{listed, Listed};
 ghost use Rattle.checker.specs.Check.{checkCase, checkAnswer};
 ghost use Rattle.checker.specs.Covered.{Labelled};
 use grid::Grid;
@@ -28,7 +28,7 @@ fn judged(g: Grid, labels: &[u8], numbers: &[u16], count: usize) -> Answer
     ensures { λ r. ⌜ r ≡ checkCase (verdict (shape g) (now (labels .entry))
         (listed (g .indices) count (now (numbers .entry)))) ⌝ }
 {
-    if !chains::one_chain(g, numbers, count) {
+    if !check_chains::one_chain(g, numbers, count) {
         return Answer::No;
     }
     let mut binomials = [0u16; ENTRIES];

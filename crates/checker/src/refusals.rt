@@ -6,7 +6,7 @@ ghost use Rattle.combinatorics.specs.Lists.{all};
 ghost use Rattle.questions.specs.Questions.{firstNo};
 ghost use Rattle.grid_points.specs.Grid.{isGridPoint};
 ghost use Rattle.grid.specs.Made.{IsMade, shape};
-ghost use Rattle.chains.specs.Listed.{listed, HasPoints};
+ghost use Rattle.check_chains.specs.Listed.{listed, HasPoints};
 ghost use Rattle.checker.specs.Check.{listQuestions, question19};
 use grid::Grid;
 use label_table::all_at_most;

@@ -23,7 +23,7 @@ fn make_labelling(sizes: &[u8], divisions: &[u16]) {
 fn make_game(sizes: &[u8], divisions: &[u16]) {
     let game = (word() % 256) as u8;
     let mut losses = [0u16; 81];
-    let count = built_in::put_losses(game, &mut losses);
+    let count = game_built_in::put_losses(game, &mut losses);
     let put = within_words(count, &losses);
     label_with(sizes, divisions, &losses[..put]);
 }

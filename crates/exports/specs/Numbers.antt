@@ -1,8 +1,8 @@
 -- What the labelling of a game answers and writes for C and Rust: the number and the count of each case.
 -- Assumes nothing.
 use Prim.Native.Nat.{ℕ}
-use Rattle.games.specs.declared.Labelled.{Labelled}
-use Rattle.games.specs.declared.Labelled.the-variants.{Refused, Written}
+use Rattle.game_labels.specs.declared.Labelled.{Labelled}
+use Rattle.game_labels.specs.declared.Labelled.the-variants.{Refused, Written}
 
 -- "A refusal returns its number"; 0 where the labels are written
 abbrev pub labelNumber : Labelled → ℕ

@@ -5,9 +5,9 @@ ghost use lib.ListN.{length};
 ghost use Rattle.combinatorics.specs.Front.{front};
 ghost use Rattle.place.specs.Problem.{problemOf};
 ghost use Rattle.finder.specs.Run.{runAnswer, runBuffer};
-ghost use Rattle.games.specs.Labelling.{labelAnswer, labelBuffer};
+ghost use Rattle.game_labels.specs.Labelling.{labelAnswer, labelBuffer};
 ghost use Rattle.printer.specs.Printed.{sheetOf};
-ghost use Rattle.run_facts.specs.Numbers.{runFacts, runNumber};
+ghost use Rattle.finder.specs.Numbers.{runFacts, runNumber};
 ghost use Rattle.exports.specs.Numbers.{labelCount, labelNumber};
 
 mod boundary_calls;
@@ -15,8 +15,8 @@ mod check_calls;
 mod refine_calls;
 mod shelf_calls;
 
-use games::Labelled;
-use run_facts::put_answer;
+use finder::put_answer;
+use game_labels::Labelled;
 use text::SHEET_BYTES;
 
 // The run on a label table: 0 at an end, else the refusal's number. The facts are the places, the labels read, the kind
@@ -77,7 +77,7 @@ pub extern "C" fn leveretplate_label(
     ensures buffer { λ _. ⌜ now (labels .exit) ≡ labelBuffer
         (now (sizes .entry)) (now (divisions .entry)) (now (losses .entry)) (now (labels .entry)) ⌝ }
 {
-    let found = games::label(sizes, divisions, losses, labels);
+    let found = game_labels::label(sizes, divisions, losses, labels);
     put_count(found, count)
 }
 

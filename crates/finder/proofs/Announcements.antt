@@ -27,9 +27,9 @@ use Rattle.place.specs.Path.{answer}
 use Rattle.place.specs.Problem.{Problem}
 use Rattle.path_laws.specs.Demand.{Accepted}
 use Rattle.marks.specs.Reading.{problemFrom, Readable}
-use Rattle.path_walk.specs.Finish.{Announced, CanWalk, Finished, firstPointOf, problemIn}
-use Rattle.path_walk.specs.declared.Finish.{Finish}
-use Rattle.path_walk.specs.declared.Finish.the-variants.{Ended, Spent, Unknown as UnknownLabel}
+use Rattle.path_pass.specs.Finish.{Announced, CanWalk, Finished, firstPointOf, problemIn}
+use Rattle.path_pass.specs.declared.Finish.{Finish}
+use Rattle.path_pass.specs.declared.Finish.the-variants.{Ended, Spent, Unknown as UnknownLabel}
 use Rattle.finder.specs.Finishes.{CanAnnounce, caseAt, numbersAt}
 use Rattle.finder.specs.Run.{caseOf, numbersOf}
 

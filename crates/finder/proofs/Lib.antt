@@ -1,3 +1,4 @@
 pub mod Announcements
 pub mod Refusals
 pub mod Demand
+pub mod Facts

@@ -10,10 +10,10 @@ use Rattle.grid.specs.Made.{IsMade, shape}
 use Rattle.grid.specs.declared.Grid.{Grid as GridStruct}
 use Rattle.moves.specs.Held.{stateOf}
 use Rattle.moves.specs.declared.Status.{Status}
-use Rattle.path_walk.specs.Finish.{firstPointOf}
-use Rattle.path_walk.specs.declared.Finish.{Finish}
-use Rattle.path_walk.specs.declared.Finish.the-variants.{Ended, Spent as BudgetSpent, Unknown as UnknownLabel}
-use Rattle.place_points.specs.Room.{CanPut}
+use Rattle.path_pass.specs.Finish.{firstPointOf}
+use Rattle.path_pass.specs.declared.Finish.{Finish}
+use Rattle.path_pass.specs.declared.Finish.the-variants.{Ended, Spent as BudgetSpent, Unknown as UnknownLabel}
+use Rattle.moves.specs.Room.{CanPut}
 use Rattle.rules.specs.Read.{numbersFrom}
 use Rattle.rules.specs.Step.{Round, State}
 use Rattle.finder.specs.declared.answers.Answer.{Answer}

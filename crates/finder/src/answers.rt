@@ -13,16 +13,16 @@ ghost use Rattle.place.specs.Problem.{problemOf};
 ghost use Rattle.marks.specs.Reading.{problemFrom};
 ghost use Rattle.finder.specs.Asked.{CanRun, laterRunQuestions};
 ghost use Rattle.finder.specs.Finishes.{CanAnnounce, caseAt, numbersAt};
-ghost use Rattle.path_walk.specs.Finish.{firstPointOf};
+ghost use Rattle.path_pass.specs.Finish.{firstPointOf};
 ghost use Rattle.finder.specs.Run.{caseOf, numbersOf, runAnswer, runBuffer};
 use arrays::block_sizes;
 use arrays::padded;
 use end_kinds::Kind;
 use grid::Grid;
 use label_table::all_at_most;
-use path_walk::Finish;
-use path_walk::walk;
-use place_points::put_points;
+use moves::put_points;
+use path_pass::Finish;
+use path_pass::walk;
 use positions::ENTRIES;
 
 // What a run answers. The block counts from 1. The vertices, m numbers each, stand at the front of the answer buffer.

@@ -1,5 +1,6 @@
 // The path finder: the run on a label table.
 mod answers;
+mod facts;
 
 pub use answers::Answer;
 pub use answers::announce;
@@ -7,3 +8,4 @@ pub use answers::announced;
 pub use answers::first_no;
 pub use answers::run;
 pub use answers::run_on;
+pub use facts::put_answer;

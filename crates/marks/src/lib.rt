@@ -20,10 +20,10 @@ use arrays::position_at;
 use grid::Grid;
 use label_table::read_at;
 use moves::Status;
+use moves::advance;
 pub use one_step::Found;
 pub use one_step::by_step_from;
 pub use one_step::by_step_to;
-use place_points::advance;
 use positions::ENTRIES;
 
 mod one_step;

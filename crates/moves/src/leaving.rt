@@ -71,7 +71,7 @@ fn shrink(
 }
 
 // Without the first point every point is 0 at b: the first has 1 there, which its step takes, and no step adds to it.
-pub fn vanishes(first: &[u16; 16], t: u16, b: usize) -> bool
+fn vanishes(first: &[u16; 16], t: u16, b: usize) -> bool
     requires { ⌜ b < 16 ⌝ }
     ensures { λ r. ⌜ r ≡ (eqb (at (now (first .entry)) b) 1 && not (bit t b)) ⌝ }
 {

@@ -1,9 +1,11 @@
 // The state of a run, and the moves by which a point leaves. What is public here is for the crates above, which show
 // what it asks.
 mod leaving;
+mod points;
 
 pub use leaving::leave;
-pub use leaving::vanishes;
+pub use points::advance;
+pub use points::put_points;
 
 // What the next move looks at, beside the arrays. T and U are masks of 16 indices.
 pub struct Status {

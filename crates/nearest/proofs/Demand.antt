@@ -18,10 +18,10 @@ use Rattle.path_laws.specs.Demand.{Accepted}
 use Rattle.finder.proofs.Refusals.{accepted-with-room, answered as run-answered, by-later}
 use Rattle.finder.specs.Asked.{laterRunQuestions}
 use Rattle.finder.specs.Run.{caseOf, numbersOf, runAnswer, runBuffer}
-use Rattle.visited.proofs.Distances.{distances}
-use Rattle.visited.proofs.Nearest.{grid-accepted, is-list, is-nearest}
-use Rattle.visited.proofs.Visits.{visits}
-use Rattle.visited.specs.Nearest.{nearest}
+use Rattle.nearest_visited.proofs.Distances.{distances}
+use Rattle.nearest_visited.proofs.Nearest.{grid-accepted, is-list, is-nearest}
+use Rattle.nearest_visited.proofs.Visits.{visits}
+use Rattle.nearest_visited.specs.Nearest.{nearest}
 use Rattle.nearest.specs.Demand.{NearDemandHolds}
 use Rattle.nearest.specs.Report.{nearAnswerBuffer, listBuffer, listedBy, nearRefusal, nearestIn, reportOf}
 use Rattle.nearest.specs.declared.Report.{Report}

@@ -5,15 +5,15 @@ use Prim.Native.Nat.{ℕ}
 use lib.ListN.{length, take}
 use Rattle.combinatorics.proofs.Fronts.{front-taken}
 use Rattle.grid_points.specs.Grid.{Point}
-use Rattle.path_walk.specs.Finish.{Finished}
-use Rattle.path_walk.specs.declared.Finish.{Finish}
-use Rattle.path_walk.specs.declared.Finish.the-variants.{Ended, Spent, Unknown}
+use Rattle.path_pass.specs.Finish.{Finished}
+use Rattle.path_pass.specs.declared.Finish.{Finish}
+use Rattle.path_pass.specs.declared.Finish.the-variants.{Ended, Spent, Unknown}
 use Rattle.place.specs.Path.{answer}
 use Rattle.place.specs.Problem.{Problem}
 use Rattle.rules.specs.Step.{Round}
-use Rattle.survey.specs.Survey.{Surveys}
-use Rattle.vertices_met.specs.declared.Tally.{Tally}
-use Rattle.visited.specs.Nearest.{positionsWithin}
+use Rattle.nearest_pass.specs.Survey.{Surveys}
+use Rattle.nearest_met.specs.declared.Tally.{Tally}
+use Rattle.nearest_visited.specs.Nearest.{positionsWithin}
 use Rattle.nearest.specs.Finishes.{nearestAt}
 use Rattle.nearest.specs.Report.{listedBy, nearestIn}
 

@@ -23,8 +23,8 @@ use Rattle.place.specs.Questions.{question6, question7, question8}
 use Rattle.finder.specs.Asked.{laterRunQuestions}
 use Rattle.finder.specs.Run.{caseOf, numbersOf}
 use Rattle.finder.specs.declared.answers.Answer.the-variants.{End, Refused, Unknown}
-use Rattle.visited.proofs.Nearest.{is-list}
-use Rattle.visited.specs.Questions.{pointQuestions, question8List}
+use Rattle.nearest_visited.proofs.Nearest.{is-list}
+use Rattle.nearest_visited.specs.Questions.{pointQuestions, question8List}
 use Rattle.nearest.specs.Report.{nearAnswerBuffer, listBuffer, listedBy, nearRefusal, nearestIn, reportOf}
 use Rattle.nearest.specs.declared.Nearest.the-variants.{Nothing, Vertex}
 

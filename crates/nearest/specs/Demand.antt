@@ -10,8 +10,8 @@ use Rattle.place.specs.Path.{pathLength}
 use Rattle.place.specs.Problem.{Problem}
 use Rattle.finder.specs.Run.{runAnswer, runBuffer}
 use Rattle.finder.specs.declared.answers.Answer.the-variants.{End, Unknown}
-use Rattle.visited.specs.Demand.{Distances, IsList, IsNearest, Visits}
-use Rattle.visited.specs.Nearest.{nearest, positionsWithin}
+use Rattle.nearest_visited.specs.Demand.{Distances, IsList, IsNearest, Visits}
+use Rattle.nearest_visited.specs.Nearest.{nearest, positionsWithin}
 use Rattle.nearest.specs.Report.{nearAnswerBuffer, listBuffer, nearRefusal, reportOf}
 use Rattle.nearest.specs.declared.Nearest.the-variants.{Nothing, Vertex}
 

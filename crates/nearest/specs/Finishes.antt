@@ -1,8 +1,8 @@
 -- What the finish of the walk reports besides the run's answer. The call's own promise does not cite it. Assumes
 -- nothing.
-use Rattle.path_walk.specs.declared.Finish.{Finish}
-use Rattle.path_walk.specs.declared.Finish.the-variants.{Ended, Spent, Unknown}
-use Rattle.vertices_met.specs.declared.Tally.{Tally}
+use Rattle.path_pass.specs.declared.Finish.{Finish}
+use Rattle.path_pass.specs.declared.Finish.the-variants.{Ended, Spent, Unknown}
+use Rattle.nearest_met.specs.declared.Tally.{Tally}
 use Rattle.nearest.specs.declared.Nearest.{Nearest}
 use Rattle.nearest.specs.declared.Nearest.the-variants.{Nothing, Vertex}
 

@@ -12,8 +12,8 @@ use Rattle.place.specs.Path.{Answer as PathAnswer, answer, ended, spent, unknow
 use Rattle.place.specs.Problem.{Problem}
 use Rattle.finder.specs.Run.{caseOf, numbersOf}
 use Rattle.finder.specs.declared.answers.Answer.the-variants.{Refused}
-use Rattle.visited.specs.Nearest.{nearest as nearestVertex, positionsWithin}
-use Rattle.visited.specs.Questions.{nearQuestions}
+use Rattle.nearest_visited.specs.Nearest.{nearest as nearestVertex, positionsWithin}
+use Rattle.nearest_visited.specs.Questions.{nearQuestions}
 use Rattle.nearest.specs.declared.Nearest.{Nearest}
 use Rattle.nearest.specs.declared.Nearest.the-variants.{Nothing, Vertex}
 use Rattle.nearest.specs.declared.Report.{Report}

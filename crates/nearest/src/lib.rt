@@ -12,19 +12,19 @@ ghost use Rattle.grid.specs.Made.{IsMade, shape};
 ghost use Rattle.place.specs.Path.{Answer as PathAnswer, answer as answerOf};
 ghost use Rattle.place.specs.Problem.{problemOf};
 ghost use Rattle.marks.specs.Reading.{problemFrom};
-ghost use Rattle.visited.specs.Questions.{pointQuestions};
+ghost use Rattle.nearest_visited.specs.Questions.{pointQuestions};
 ghost use Rattle.nearest.specs.Finishes.{nearestAt};
 ghost use Rattle.nearest.specs.Report.{nearAnswerBuffer, listBuffer, listedBy, reportOf, reported};
 use arrays::block_sizes;
 use arrays::padded;
-use distances::weights;
 use finder::Answer;
 use finder::announce;
 use grid::Grid;
-use path_walk::Finish;
+use nearest_met::Tally;
+use nearest_met::weights;
+use nearest_pass::pass;
+use path_pass::Finish;
 use positions::ENTRIES;
-use survey::pass;
-use vertices_met::Tally;
 
 // The nearest visited vertex, by its position, and how many positions are listed; nothing where the run reached no end.
 pub enum Nearest {

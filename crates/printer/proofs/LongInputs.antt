@@ -13,8 +13,8 @@ use native.Mathlib.Nat.{mul-le-mul}
 use native.Mathlib.Omega.{arith}
 use Rattle.combinatorics.proofs.Basics.{true-or-false, same-or, before-or-not}
 use Rattle.little_endian.proofs.Laws.{words-same}
-use Rattle.losses.proofs.Table.{product-few}
-use Rattle.losses.specs.Game.{product}
+use Rattle.game_losses.proofs.Table.{product-few}
+use Rattle.game_losses.specs.Game.{product}
 use Rattle.grid_points.proofs.Accepted.{accepted}
 use Rattle.grid_points.specs.Grid.{Grid, numBlocks}
 use Rattle.questions.specs.Questions.{firstNo}

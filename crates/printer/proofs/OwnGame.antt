@@ -16,13 +16,13 @@ use Rattle.combinatorics.proofs.Lists.{eqb-self}
 use Rattle.combinatorics.specs.Lists.{same}
 use Rattle.little_endian.proofs.Laws.{words-same, number-same, words-read, length-bytesOf}
 use Rattle.little_endian.specs.Numbers.{number, words, bytesOf}
-use Rattle.built_in.proofs.Games.{table-whole, table-range}
-use Rattle.built_in.specs.Tables.{gameSizes, gameLosses}
+use Rattle.game_built_in.proofs.Games.{table-whole, table-range}
+use Rattle.game_built_in.specs.Tables.{gameSizes, gameLosses}
 use Rattle.grid_points.specs.Grid.{Grid, numIndices, bound}
 use Rattle.questions.specs.Questions.{Question, ask, firstNo}
 use Rattle.grid_points.specs.Questions.{gridQuestions, question5}
-use Rattle.losses.specs.Game.{product, labels}
-use Rattle.losses.specs.Table.{numLosses}
+use Rattle.game_losses.specs.Game.{product, labels}
+use Rattle.game_losses.specs.Table.{numLosses}
 use Rattle.place.specs.Path.{answer}
 use Rattle.place.specs.Problem.{Problem}
 use Rattle.place.specs.Questions.{question7}

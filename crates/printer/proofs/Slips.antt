@@ -13,9 +13,9 @@ use Rattle.combinatorics.proofs.Fronts.{front-length, front-taken}
 use Rattle.combinatorics.proofs.Ranges.{length-upFrom}
 use Rattle.combinatorics.specs.Lists.{upFrom}
 use Rattle.little_endian.specs.Numbers.{number, words}
-use Rattle.losses.proofs.Table.{product-few}
-use Rattle.losses.specs.Game.{product, labels}
-use Rattle.losses.specs.Table.{IsTable}
+use Rattle.game_losses.proofs.Table.{product-few}
+use Rattle.game_losses.specs.Game.{product, labels}
+use Rattle.game_losses.specs.Table.{IsTable}
 use Rattle.grid_points.proofs.Accepted.{accepted as grid-accepted}
 use Rattle.grid.proofs.Fields.{is-made, shape-of}
 use Rattle.grid_points.specs.Grid.{Grid, numBlocks, dimension, numIndices}

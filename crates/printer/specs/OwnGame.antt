@@ -4,7 +4,7 @@ use mathlib.Core.List.{List, [], _∷_, _++_}
 use mathlib.Core.Path.{_≡_}
 use Prim.Native.Nat.{ℕ, _+_, _<_}
 use lib.ListN.{length}
-use Rattle.built_in.specs.Tables.{gameSizes, gameLosses}
+use Rattle.game_built_in.specs.Tables.{gameSizes, gameLosses}
 use Rattle.little_endian.specs.Numbers.{bytesOf}
 use Rattle.printer.specs.Printed.{sheetOf}
 

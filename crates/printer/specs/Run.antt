@@ -10,7 +10,7 @@ use Rattle.end_kinds.specs.declared.Kind.{Kind}
 use Rattle.finder.specs.Run.{runRefusal}
 use Rattle.finder.specs.declared.answers.Answer.{Answer}
 use Rattle.finder.specs.declared.answers.Answer.the-variants.{Refused, Spent, Unknown, End}
-use Rattle.losses.specs.Game.{labels}
+use Rattle.game_losses.specs.Game.{labels}
 use Rattle.grid_points.specs.Grid.{Grid, numIndices, bound}
 use Rattle.grid.specs.Made.{IsMade, shape}
 use Rattle.place.specs.Path.{answer}

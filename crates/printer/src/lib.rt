@@ -3,7 +3,7 @@ ghost use mathlib.Core.Path.{_≡_};
 ghost use lib.ListN.{length};
 ghost use Rattle.combinatorics.specs.Front.{front, padded};
 ghost use Rattle.grid.specs.Made.{IsMade, shape};
-ghost use Rattle.losses.specs.Table.{IsTable};
+ghost use Rattle.game_losses.specs.Table.{IsTable};
 ghost use Rattle.printer.specs.Printed.{indexDivisions, sheetOf};
 ghost use Rattle.printer.specs.Run.{printed, Prints, Fits, HasGrid, IsGameReading};
 ghost use Rattle.printer.specs.Run.{problemWith, lossProblem, runSheet};
@@ -92,7 +92,7 @@ fn label_and_print(
     ensures { λ r. ⌜ Prints (runSheet (lossProblem reading (now (losses .entry))) (reading .budget))
         (now (sheet .entry)) r (now (sheet .exit)) ⌝ }
 {
-    games::label_on(reading.grid, losses, labels);
+    game_labels::label_on(reading.grid, losses, labels);
     print_run(reading, labels, sheet)
 }
 

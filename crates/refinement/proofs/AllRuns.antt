@@ -15,7 +15,7 @@ use Rattle.combinatorics.proofs.Ranges.{length-upFrom}
 use Rattle.combinatorics.specs.Front.{front}
 use Rattle.combinatorics.specs.Lists.{upFrom}
 use Rattle.finder.specs.Run.{caseOf}
-use Rattle.games.proofs.AllLabels.{labels-length}
+use Rattle.game_labels.proofs.AllLabels.{labels-length}
 use Rattle.grid_points.proofs.Accepted.{Accepted, accepted, blocks-few}
 use Rattle.grid.proofs.Fields.{is-made, made-points, shape-of}
 use Rattle.grid_points.specs.Grid.{Grid, dimension, numIndices, numPoints}
@@ -23,15 +23,15 @@ use Rattle.grid.specs.Made.{IsMade, gridOf, shape}
 use Rattle.grid_points.specs.Questions.{gridQuestions}
 use Rattle.grid_points.proofs.Points.{point-long}
 use Rattle.grid.specs.declared.Grid.{Grid as GridStruct}
-use Rattle.levels.proofs.Buffers.{after-length, after-next, after-none}
-use Rattle.levels.proofs.Grids.{level-first, levels-yes, points-grow}
-use Rattle.levels.proofs.Starts.{first-on-grid, level-full, start-on-grid}
-use Rattle.levels.proofs.Vertices.{first-read, level-few, restart-small}
-use Rattle.levels.specs.Buffers.{numbersAfter}
-use Rattle.levels.specs.Levels.{Refinement, endOf, firstVertex, gameProblem, levelEnd, levelGrid, levelProblem}
-use Rattle.levels.specs.Levels.{levelStart, times}
-use Rattle.levels.specs.Questions.{lastGrid, levelRoom}
-use Rattle.losses.specs.Game.{labels}
+use Rattle.refinement_levels.proofs.Buffers.{after-length, after-next, after-none}
+use Rattle.refinement_levels.proofs.Grids.{level-first, levels-yes, points-grow}
+use Rattle.refinement_levels.proofs.Starts.{first-on-grid, level-full, start-on-grid}
+use Rattle.refinement_levels.proofs.Vertices.{first-read, level-few, restart-small}
+use Rattle.refinement_levels.specs.Buffers.{numbersAfter}
+use Rattle.refinement_levels.specs.Levels.{Refinement, endOf, firstVertex, gameProblem, levelEnd, levelGrid, levelProblem}
+use Rattle.refinement_levels.specs.Levels.{levelStart, times}
+use Rattle.refinement_levels.specs.Questions.{lastGrid, levelRoom}
+use Rattle.game_losses.specs.Game.{labels}
 use Rattle.place.specs.Problem.{Problem}
 use Rattle.questions.specs.Questions.{firstNo}
 use Rattle.refinement.specs.Answer.{entryOf, levelOf, levelsOf, noLevel}

@@ -13,14 +13,14 @@ use Rattle.finder.specs.Asked.{CanRun as CanAnnounce}
 use Rattle.finder.specs.Run.{caseOf, numbersOf}
 use Rattle.finder.specs.declared.answers.Answer.{Answer}
 use Rattle.finder.specs.declared.answers.Answer.the-variants.{Refused, Spent, Unknown, End}
-use Rattle.games.proofs.AllLabels.{labels-length}
+use Rattle.game_labels.proofs.AllLabels.{labels-length}
 use Rattle.grid_points.specs.Grid.{bound}
 use Rattle.grid.specs.Made.{shape}
 use Rattle.grid.specs.declared.Grid.{Grid as GridStruct}
-use Rattle.levels.proofs.Claims.{numbers-are}
-use Rattle.levels.proofs.Starts.{game-full}
-use Rattle.levels.specs.Levels.{endOf, gameProblem}
-use Rattle.losses.specs.Game.{labels}
+use Rattle.refinement_levels.proofs.Claims.{numbers-are}
+use Rattle.refinement_levels.proofs.Starts.{game-full}
+use Rattle.refinement_levels.specs.Levels.{endOf, gameProblem}
+use Rattle.game_losses.specs.Game.{labels}
 use Rattle.marks.specs.Reading.{problemFrom}
 use Rattle.place.specs.Path.{answer}
 use Rattle.place.specs.Problem.{Problem}

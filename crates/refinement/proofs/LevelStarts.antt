@@ -11,8 +11,8 @@ use Rattle.grid.proofs.Fields.{made-indices}
 use Rattle.grid_points.specs.Grid.{dimension, numIndices}
 use Rattle.grid.specs.Made.{IsMade, shape}
 use Rattle.grid.specs.declared.Grid.{Grid as GridStruct}
-use Rattle.levels.specs.Levels.{times}
-use Rattle.levels.specs.Questions.{levelRoom}
+use Rattle.refinement_levels.specs.Levels.{times}
+use Rattle.refinement_levels.specs.Questions.{levelRoom}
 use Rattle.refinement.specs.Runs.{CanStart, Fit, levelStartFrom}
 
 -- a room begins before the end of the buffer, and 16 bits and more are left

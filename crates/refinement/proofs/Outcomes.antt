@@ -8,23 +8,23 @@ use borrow.Author.Tests.{eqb-true, leb-true, ne-eqb}
 use lib.ListN.{length, getD}
 use native.Mathlib.Omega.{arith}
 use Rattle.combinatorics.proofs.Basics.{same-or}
-use Rattle.games.specs.Labelling.{question12}
+use Rattle.game_labels.specs.Labelling.{question12}
 use Rattle.grid_points.proofs.Accepted.{accepted}
 use Rattle.grid.proofs.Fields.{is-made, made-points, shape-of}
 use Rattle.grid_points.specs.Grid.{Grid, numPoints}
 use Rattle.grid.specs.Made.{IsMade, noGrid, shape}
 use Rattle.grid_points.specs.Questions.{question5}
 use Rattle.grid.specs.declared.Grid.{Grid as GridStruct}
-use Rattle.level_questions.specs.Grids.{AreMade}
-use Rattle.level_questions.specs.Later.{askedBehind}
-use Rattle.level_questions.specs.declared.grids.Grids.{Grids}
-use Rattle.levels.proofs.Claims.{passed}
-use Rattle.levels.proofs.Grids.{level-first, levels-yes, numbered-levels}
-use Rattle.levels.specs.Buffers.{numbersAfter}
-use Rattle.levels.specs.Levels.{Refinement, gridAt}
-use Rattle.levels.specs.Questions.{lastGrid, laterLevelQuestions, levelQuestions, levelRoom, question18, levelQuestion8}
-use Rattle.losses.specs.Game.{labels}
-use Rattle.losses.specs.Table.{numLosses, question10, question11}
+use Rattle.refinement_questions.specs.Grids.{AreMade}
+use Rattle.refinement_questions.specs.Later.{askedBehind}
+use Rattle.refinement_questions.specs.declared.grids.Grids.{Grids}
+use Rattle.refinement_levels.proofs.Claims.{passed}
+use Rattle.refinement_levels.proofs.Grids.{level-first, levels-yes, numbered-levels}
+use Rattle.refinement_levels.specs.Buffers.{numbersAfter}
+use Rattle.refinement_levels.specs.Levels.{Refinement, gridAt}
+use Rattle.refinement_levels.specs.Questions.{lastGrid, laterLevelQuestions, levelQuestions, levelRoom, question18, levelQuestion8}
+use Rattle.game_losses.specs.Game.{labels}
+use Rattle.game_losses.specs.Table.{numLosses, question10, question11}
 use Rattle.questions.proofs.Answers.{asked-next, asked-no, first-yes}
 use Rattle.questions.specs.Questions.{Question, firstNo}
 use Rattle.refinement.specs.Answer.{answerLeft, labelsLeft, lentGame, levelsOf, refineAnswer, refineRefusal}

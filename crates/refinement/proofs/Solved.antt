@@ -8,14 +8,14 @@ use native.Mathlib.Omega.{arith}
 use Rattle.combinatorics.proofs.Fronts.{front-length, front-taken}
 use Rattle.combinatorics.specs.Front.{front, padded}
 use Rattle.finder.specs.Run.{caseOf}
-use Rattle.games.proofs.AllLabels.{labels-length}
+use Rattle.game_labels.proofs.AllLabels.{labels-length}
 use Rattle.grid.proofs.Fields.{indices-few, made-indices, made-points}
 use Rattle.grid.specs.Made.{shape}
 use Rattle.grid.specs.declared.Grid.{Grid as GridStruct}
 use Rattle.grid_points.proofs.Points.{point-long}
-use Rattle.levels.specs.Levels.{endOf, gameProblem}
-use Rattle.levels.specs.Questions.{levelRoom}
-use Rattle.losses.specs.Game.{labels}
+use Rattle.refinement_levels.specs.Levels.{endOf, gameProblem}
+use Rattle.refinement_levels.specs.Questions.{levelRoom}
+use Rattle.game_losses.specs.Game.{labels}
 use Rattle.refinement.specs.Answer.{levelOf}
 use Rattle.refinement.specs.Runs.{CanRunLevel, CanSolve, levelStartFrom, numbersIn, problemAt, writtenAt}
 use Rattle.refinement.specs.declared.Level.{Level}

@@ -10,10 +10,10 @@ use Rattle.finder.specs.Run.{caseOf}
 use Rattle.finder.specs.declared.answers.Answer.{Answer}
 use Rattle.finder.specs.declared.answers.Answer.the-variants.{Refused as RunRefused, Spent, Unknown, End}
 use Rattle.grid_points.specs.Grid.{Grid, Point}
-use Rattle.levels.specs.Buffers.{numbersAfter}
-use Rattle.levels.specs.Levels.{Refinement, levelEnd}
-use Rattle.levels.specs.Questions.{lastGrid, refineQuestions}
-use Rattle.losses.specs.Game.{labels}
+use Rattle.refinement_levels.specs.Buffers.{numbersAfter}
+use Rattle.refinement_levels.specs.Levels.{Refinement, levelEnd}
+use Rattle.refinement_levels.specs.Questions.{lastGrid, refineQuestions}
+use Rattle.game_losses.specs.Game.{labels}
 use Rattle.questions.specs.Questions.{firstNo}
 use Rattle.refinement.specs.declared.Level.{Level}
 use Rattle.refinement.specs.declared.Refined.{Refined}

@@ -10,9 +10,9 @@ use Rattle.combinatorics.specs.Lists.{all, concatMap}
 use Rattle.grid_points.specs.Grid.{Grid, isGridPoint, numIndices, numPoints}
 use Rattle.grid.specs.Made.{IsMade, gridOf, noGrid, shape}
 use Rattle.grid.specs.declared.Grid.{Grid as GridStruct}
-use Rattle.levels.specs.Levels.{Refinement, endOf, gameProblem, levelGrid, times, answerVertices}
-use Rattle.levels.specs.Questions.{lastGrid, levelQuestions, levelRoom}
-use Rattle.losses.specs.Table.{IsTable}
+use Rattle.refinement_levels.specs.Levels.{Refinement, endOf, gameProblem, levelGrid, times, answerVertices}
+use Rattle.refinement_levels.specs.Questions.{lastGrid, levelQuestions, levelRoom}
+use Rattle.game_losses.specs.Table.{IsTable}
 use Rattle.place.specs.Problem.{Problem}
 use Rattle.questions.specs.Questions.{firstNo}
 

@@ -5,9 +5,9 @@ ghost use Rattle.grid_points.specs.Grid.{lent};
 ghost use Rattle.refinement.specs.Answer.{answerLeft, labelsLeft, lentGame, noLevel, refineAnswer};
 ghost use Rattle.refinement.specs.Answer.{refused as refusedOf};
 use end_kinds::Kind;
-use level_questions::first_no;
-use level_questions::levels_in_range;
-use level_questions::made_levels;
+use refinement_questions::first_no;
+use refinement_questions::levels_in_range;
+use refinement_questions::made_levels;
 
 mod runs;
 

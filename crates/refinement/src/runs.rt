@@ -4,10 +4,10 @@ ghost use lib.ListN.{length};
 ghost use Rattle.combinatorics.specs.Front.{front, padded};
 ghost use Rattle.finder.specs.Run.{caseOf};
 ghost use Rattle.grid.specs.Made.{IsMade, shape};
-ghost use Rattle.levels.specs.Buffers.{numbersAfter};
-ghost use Rattle.levels.specs.Levels.{endOf, gameProblem, times};
-ghost use Rattle.levels.specs.Questions.{lastGrid};
-ghost use Rattle.losses.specs.Game.{labels as labelsOf};
+ghost use Rattle.refinement_levels.specs.Buffers.{numbersAfter};
+ghost use Rattle.refinement_levels.specs.Levels.{endOf, gameProblem, times};
+ghost use Rattle.refinement_levels.specs.Questions.{lastGrid};
+ghost use Rattle.game_losses.specs.Game.{labels as labelsOf};
 ghost use Rattle.refinement.specs.Answer.{levelOf, levelsOf};
 ghost use Rattle.refinement.specs.Runs.{CanRunLevel, CanRunAll, CanSolve, CanStart, Fit};
 ghost use Rattle.refinement.specs.Runs.{levelStartFrom, gameOf, numbersIn, problemAt, writtenAt};
@@ -16,8 +16,8 @@ use crate::no_level;
 use finder::Answer;
 use grid::Grid;
 use grid::wide16;
-use level_questions::room_of;
 use positions::ENTRIES;
+use refinement_questions::room_of;
 
 // Each number times k, at the front.
 fn scaled(numbers: &[u16], factor: usize) -> [u16; 16]
@@ -64,7 +64,7 @@ fn run_level(
         ≡ front (numbersIn (gameProblem (shape grid) (now (start .entry)) (now (losses .entry))))
         (now (answer .entry)) ⌝ }
 {
-    games::label_on(grid, losses, labels);
+    game_labels::label_on(grid, losses, labels);
     let mut binomials = [0u16; ENTRIES];
     positions::binomials(grid, &mut binomials);
     let found = finder::announced(grid, &binomials, start, labels, answer, grid.bound());

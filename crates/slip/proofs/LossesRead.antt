@@ -11,10 +11,10 @@ use Rattle.combinatorics.specs.Front.{front}
 use Rattle.combinatorics.specs.Lists.{all}
 use Rattle.little_endian.proofs.Laws.{length-words}
 use Rattle.little_endian.specs.Numbers.{words}
-use Rattle.losses.specs.Game.{product}
-use Rattle.losses.specs.Table.{numLosses, inRange}
-use Rattle.losses.proofs.Table.{product-few}
-use Rattle.built_in.specs.Tables.{gameLosses}
+use Rattle.game_losses.specs.Game.{product}
+use Rattle.game_losses.specs.Table.{numLosses, inRange}
+use Rattle.game_losses.proofs.Table.{product-few}
+use Rattle.game_built_in.specs.Tables.{gameLosses}
 use Rattle.grid_points.proofs.Accepted.{accepted as grid-accepted}
 use Rattle.grid_points.specs.Grid.{numBlocks}
 use Rattle.questions.specs.Questions.{firstNo}

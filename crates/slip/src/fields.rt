@@ -150,7 +150,7 @@ pub fn table(slip: &[u8], at: usize, grid: Grid) -> Table
     }
     let sizes = grid.sizes;
     let blocks = grid.blocks;
-    if left != 2 * (blocks * losses::num_profiles(&sizes[..blocks])) {
+    if left != 2 * (blocks * game_losses::num_profiles(&sizes[..blocks])) {
         return Table::Missing;
     }
     Table::LossesFrom(at)

@@ -99,7 +99,7 @@ fn is_known(slip: &[u8], table: Table) -> bool
         return true;
     };
     let end = 2 + wide(slip[1]);
-    built_in::is_game(number, &slip[2..end])
+    game_built_in::is_game(number, &slip[2..end])
 }
 
 // Questions 14 and 15, of the fields, which begin at a position.
@@ -170,7 +170,7 @@ fn brought(slip: &[u8], begin: usize, reading: SlipReading, room: &mut [u16]) ->
 {
     let count = (slip.len() - begin) / 2;
     little_endian::words(slip, begin, &mut room[..count]);
-    if !losses::in_range(&room[..count]) {
+    if !game_losses::in_range(&room[..count]) {
         return Losses::OutOfRange;
     }
     Losses::Count(count)
@@ -184,7 +184,7 @@ pub fn losses_of(slip: &[u8], reading: SlipReading, room: &mut [u16]) -> Losses
 {
     let table = reading.table;
     match table {
-        Table::Game(number) => Losses::Count(built_in::put_losses(number, room)),
+        Table::Game(number) => Losses::Count(game_built_in::put_losses(number, room)),
         Table::LossesFrom(begin) => brought(slip, begin, reading, room),
         _ => Losses::OutOfRange,
     }

@@ -17,7 +17,7 @@ use Rattle.combinatorics.specs.Lists.{all, filter, sum, upFrom}
 use Rattle.little_endian.proofs.Laws.{length-words}
 use Rattle.little_endian.specs.Numbers.{words}
 use Rattle.grid_points.specs.Grid.{Grid, numIndices, numPoints, division, firstIndex, blockOf, lent}
-use Rattle.losses.specs.Table.{numLosses}
+use Rattle.game_losses.specs.Table.{numLosses}
 use Rattle.slip_fields.specs.Slip.{mapBit, numBlocksOf, slipGrid, isMap, stands, headLength, fieldLengths}
 use Rattle.slip_fields.specs.Slip.{fieldLength}
 use Rattle.slip_fields.specs.Slip.{fieldAt, fieldsEnd, defaultCoordinate, slipStart, question13, question14}

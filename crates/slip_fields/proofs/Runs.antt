@@ -12,9 +12,9 @@ use lib.Seq.{take-all}
 use native.Mathlib.Omega.{arith}
 use Rattle.combinatorics.proofs.Basics.{true-or-false}
 use Rattle.little_endian.proofs.Laws.{length-words}
-use Rattle.losses.specs.Game.{gameLabel, labels}
-use Rattle.losses.specs.Table.{numLosses, IsTable}
-use Rattle.built_in.proofs.Games.{game-table}
+use Rattle.game_losses.specs.Game.{gameLabel, labels}
+use Rattle.game_losses.specs.Table.{numLosses, IsTable}
+use Rattle.game_built_in.proofs.Games.{game-table}
 use Rattle.grid_points.specs.Grid.{numPoints, points}
 use Rattle.questions.proofs.Answers.{first-yes, first-append, both-yes, asked-next, asked-no}
 use Rattle.questions.specs.Questions.{firstNo}

@@ -2,7 +2,7 @@
 use mathlib.Core.List.{map}
 use mathlib.Core.Path.{_≡_, refl}
 use Rattle.grid_points.specs.Grid.{isGridPoint, points, bound}
-use Rattle.losses.specs.Game.{expectedLoss, replaced, gameLabel, labels}
+use Rattle.game_losses.specs.Game.{expectedLoss, replaced, gameLabel, labels}
 use Rattle.little_endian.specs.Numbers.{number, words}
 use Rattle.questions.specs.Questions.{firstNo}
 use Rattle.slip_fields.specs.Slip.{isMap, stands, fieldLength, fieldAt, defaultCoordinate, slipStart, slipBudget}

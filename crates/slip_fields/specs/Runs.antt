@@ -5,8 +5,8 @@ use mathlib.Core.List.{List, []}
 use mathlib.Core.Path.{_≡_}
 use Prim.Native.Nat.{ℕ}
 use lib.ListN.{drop}
-use Rattle.losses.specs.Game.{labels}
-use Rattle.losses.specs.Table.{IsTable}
+use Rattle.game_losses.specs.Game.{labels}
+use Rattle.game_losses.specs.Table.{IsTable}
 use Rattle.questions.specs.Questions.{firstNo}
 use Rattle.place.specs.Questions.{question8, runQuestions}
 use Rattle.slip_fields.specs.Slip.{stands, slipGrid, slipLosses, slipLabels, labelField, fieldAt, slipProblem}

@@ -7,12 +7,12 @@ use lib.Dec.{eqb, leb}
 use lib.ListN.{length, getD, take, drop}
 use Rattle.combinatorics.specs.Lists.{all, filter, sum, upFrom}
 use Rattle.little_endian.specs.Numbers.{number, words}
-use Rattle.built_in.specs.Tables.{gameLosses, question15 as gameQuestion}
+use Rattle.game_built_in.specs.Tables.{gameLosses, question15 as gameQuestion}
 use Rattle.grid_points.specs.Grid.{Grid, Point, numIndices, numPoints, division, firstIndex, indices, blockOf, bound}
 use Rattle.questions.specs.Questions.{Question, ask, firstNo}
 use Rattle.grid_points.specs.Questions.{gridQuestions, question5}
-use Rattle.losses.specs.Game.{labels}
-use Rattle.losses.specs.Table.{numLosses, question11 as lossQuestion}
+use Rattle.game_losses.specs.Game.{labels}
+use Rattle.game_losses.specs.Table.{numLosses, question11 as lossQuestion}
 use Rattle.place.specs.Problem.{Problem}
 use Rattle.place.specs.Questions.{question7}
 

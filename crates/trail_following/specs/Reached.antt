@@ -10,7 +10,7 @@ use Rattle.place.specs.LabelsRead.{cameIn}
 use Rattle.place.specs.Places.{Simplex}
 use Rattle.rules.specs.Step.{State}
 use Rattle.trail.specs.Trail.{placesFrom, rebuiltFrom}
-use Rattle.trail_places.specs.Shows.{Shows}
+use Rattle.trail_steps.specs.Shows.{Shows}
 use Rattle.trail_steps.specs.Reading.{HasRead, problemBy}
 use Rattle.trail_following.specs.declared.Reached.{Reached}
 use Rattle.trail_following.specs.declared.Reached.the-variants.{At, Nowhere}

@@ -12,7 +12,7 @@ use grid::Grid;
 use moves::Outcome;
 use moves::Status;
 use positions::ENTRIES;
-use records::IndexSets;
+use trail_records::IndexSets;
 use trail_steps::arrive;
 use trail_steps::way_on;
 use ways::gone_by;

@@ -12,7 +12,7 @@ use native.Mathlib.Omega.{arith}
 use Rattle.arrays.specs.Rounds.{roundOf}
 use Rattle.combinatorics.proofs.Basics.{before-or-not}
 use Rattle.combinatorics.specs.Lists.{isIn, sum, upFrom}
-use Rattle.path_walk.specs.Finish.{IsBegun}
+use Rattle.path_pass.specs.Finish.{IsBegun}
 use Rattle.grid.proofs.Fields.{made-indices}
 use Rattle.grid_points.specs.Grid.{at, numIndices, position}
 use Rattle.grid.specs.Made.{IsMade, shape}
@@ -34,7 +34,7 @@ use Rattle.rules.specs.Ready.{IsRound}
 use Rattle.rules.specs.Step.{Round, begun}
 use Rattle.trail.proofs.Reading.{T-alike}
 use Rattle.trail.proofs.Tables.{Labelled, some-index, some-table}
-use Rattle.trail_places.specs.Shows.{Shows, bare}
+use Rattle.trail_steps.specs.Shows.{Shows, bare}
 use Rattle.trail_steps.specs.Reading.{HasRead, problemBy}
 
 module _ (g : GridStruct) (made : IsMade g) (first : List ℕ) (ok : HasStart (problemBy g (take (g .indices) first)))

@@ -29,7 +29,7 @@ use Rattle.place.specs.Problem.{Problem}
 use Rattle.path_laws.specs.Demand.{HasStart}
 use Rattle.questions.proofs.Answers.{asked-next, asked-no}
 use Rattle.questions.specs.Questions.{firstNo}
-use Rattle.records.specs.Records.{firstRecord}
+use Rattle.trail_records.specs.Records.{firstRecord}
 use Rattle.rules.proofs.StatePoints.{all-points, ready-point}
 use Rattle.rules.specs.Read.{CanCompute, numbersFrom, pointsFrom}
 use Rattle.rules.specs.Step.{State}
@@ -39,8 +39,8 @@ use Rattle.trail.specs.Record.{startRecord}
 use Rattle.trail.proofs.LabelsRead.{read-from}
 use Rattle.trail.specs.Trail.{Reading as TrailReading, begins, noRecord, placed, placesFrom, reading, rebuilt}
 use Rattle.trail.specs.Trail.{rebuiltFrom, rebuiltPlaces}
-use Rattle.trail_places.proofs.Shows.{describes, shows-long}
-use Rattle.trail_places.specs.Shows.{Shows}
+use Rattle.trail_steps.proofs.Shows.{describes, shows-long}
+use Rattle.trail_steps.specs.Shows.{Shows}
 use Rattle.trail_steps.proofs.Arrived.{mask-T, mask-U}
 use Rattle.trail_steps.proofs.Named.{shows-few}
 use Rattle.trail_steps.specs.Reading.{problemBy}

@@ -5,7 +5,7 @@ ghost use Prim.Native.Nat.{_<_};
 ghost use lib.ListN.{length, replicate, take};
 ghost use Rattle.arrays.specs.Rounds.{round, roundBack};
 ghost use Rattle.moves.specs.Held.{stateOf};
-ghost use Rattle.place_points.specs.Room.{CanPut};
+ghost use Rattle.moves.specs.Room.{CanPut};
 ghost use Rattle.place.specs.Problem.{problemOf};
 ghost use Rattle.rules.specs.Step.{Round, State};
 ghost use Rattle.trail_reader.specs.Begun.{CanLocate, CanReadTrail, CanRebuild, IsLocated, IsPlace, Reads};
@@ -14,13 +14,13 @@ use arrays::block_sizes;
 use arrays::padded;
 use grid::Grid;
 use moves::Status;
-use path_walk::begin;
-use place_points::put_points;
+use moves::put_points;
+use path_pass::begin;
 use positions::ENTRIES;
-use records::first_record;
-use records::stands;
 use trail_following::Reached;
 use trail_following::follow;
+use trail_records::first_record;
+use trail_records::stands;
 
 // What the reader answers: the number of the first of questions 1 to 5 and 17 that is answered no; or how many points
 // the place has, T and U as masks, bit h for index h + 1, and the labels read up to the place.

@@ -25,8 +25,8 @@ use Rattle.path_laws.proofs.Meaning.{T-means, U-means}
 use Rattle.path_laws.proofs.Positions.{at-in}
 use Rattle.path_laws.specs.Demand.{HasStart}
 use Rattle.rules.proofs.Masks.{IsMask}
-use Rattle.records.proofs.Told.{told}
-use Rattle.records.specs.Records.{recordFrom}
+use Rattle.trail_records.proofs.Told.{told}
+use Rattle.trail_records.specs.Records.{recordFrom}
 use Rattle.rules.specs.Mask.{bit}
 use Rattle.rules.specs.Read.{positionAt}
 use Rattle.rules.specs.Step.{After, State, endsAtFacet, endsAtPlace, goes, markPosition}
@@ -38,11 +38,11 @@ use Rattle.trail.proofs.Tells.{begins-with}
 use Rattle.trail.specs.Change.{change, outside}
 use Rattle.trail.specs.Record.{recordOf}
 use Rattle.trail.specs.Trail.{begins, isMove, rebuiltFrom}
-use Rattle.trail_places.proofs.Moves.{BringsIn, JoinsTo, LeavesTo, TakesOut, grow-leads, joinsNone, joinsOn}
-use Rattle.trail_places.proofs.Moves.{leave-leads, leavesNone, leavesOn, ready-grow, ready-leave}
-use Rattle.trail_places.proofs.Reached.{Arrives, stored}
-use Rattle.trail_places.proofs.Shows.{chain-over, shows-long}
-use Rattle.trail_places.specs.Shows.{Shows}
+use Rattle.trail_steps.proofs.Moves.{BringsIn, JoinsTo, LeavesTo, TakesOut, grow-leads, joinsNone, joinsOn}
+use Rattle.trail_steps.proofs.Moves.{leave-leads, leavesNone, leavesOn, ready-grow, ready-leave}
+use Rattle.trail_steps.proofs.Reached.{Arrives, stored}
+use Rattle.trail_steps.proofs.Shows.{chain-over, shows-long}
+use Rattle.trail_steps.specs.Shows.{Shows}
 use Rattle.trail_steps.proofs.Named.{Names, brings, mapped-one, names, position-at, takes}
 use Rattle.trail_steps.specs.Reading.{joining, leaving, wayOf}
 use Rattle.ways.specs.Ways.{CanMove, goneBy, wayAfter}

@@ -31,9 +31,9 @@ use Rattle.trail.proofs.Tells.{at-position, begins-with}
 use Rattle.trail.specs.Change.{ByRule, Change, change, outside, rule1, rule2, rule3, rule4, rule5, rule6, rule7}
 use Rattle.trail.specs.Record.{recordBy, recordOf}
 use Rattle.trail.specs.Trail.{begins, isMove}
-use Rattle.trail_places.proofs.Moves.{BringsIn, TakesOut, alone, ready-leave}
-use Rattle.trail_places.proofs.Shows.{shows-long}
-use Rattle.trail_places.specs.Shows.{Shows, bare}
+use Rattle.trail_steps.proofs.Moves.{BringsIn, TakesOut, alone, ready-leave}
+use Rattle.trail_steps.proofs.Shows.{shows-long}
+use Rattle.trail_steps.specs.Shows.{Shows, bare}
 use Rattle.trail_steps.specs.Reading.{joining, leaving, wayOf}
 use Rattle.ways.specs.declared.Way.{Way}
 use Rattle.ways.specs.declared.Way.the-variants.{Joins, Leaves}

@@ -13,7 +13,7 @@ use native.Mathlib.Omega.{arith}
 use Rattle.arrays.specs.Rounds.{noRound, roundOf}
 use Rattle.combinatorics.proofs.Basics.{before-or-not}
 use Rattle.combinatorics.proofs.EditsOfArrays.{counted}
-use Rattle.path_walk.proofs.Visits.{marks-back}
+use Rattle.path_pass.proofs.Visits.{marks-back}
 use Rattle.geometry.proofs.Points.{nth}
 use Rattle.grid.proofs.Fields.{made-blocks}
 use Rattle.grid_points.specs.Grid.{at, position}
@@ -23,16 +23,16 @@ use Rattle.moves.specs.Held.{stateOf}
 use Rattle.moves.specs.declared.Status.{Status}
 use Rattle.place.specs.Places.{Simplex}
 use Rattle.place.specs.Problem.{Problem}
-use Rattle.records.specs.declared.IndexSets.{IndexSets}
+use Rattle.trail_records.specs.declared.IndexSets.{IndexSets}
 use Rattle.rules.specs.Ready.{RoundBelow, SixteenEach}
 use Rattle.rules.specs.Step.{After, Round, State, goes}
 use Rattle.trail.proofs.Rules.{record-short}
 use Rattle.trail.specs.Change.{change}
 use Rattle.trail.specs.Record.{recordOf}
 use Rattle.trail.specs.Trail.{begins, rebuiltFrom}
-use Rattle.trail_places.proofs.Reached.{Arrives, stored}
+use Rattle.trail_steps.proofs.Reached.{Arrives, stored}
 use Rattle.marks.specs.Reading.{CanFind}
-use Rattle.trail_places.specs.Shows.{Shows}
+use Rattle.trail_steps.specs.Shows.{Shows}
 use Rattle.trail_steps.proofs.Arrived.{OnlyPlace, WayLeads, goes-on, inside, leadsNowhere, leadsOn, not-there}
 use Rattle.trail_steps.proofs.Arrived.{position-low, record-is}
 use Rattle.trail_steps.proofs.Named.{shows-few}

@@ -16,14 +16,14 @@ use Rattle.place.specs.Places.{Simplex}
 use Rattle.place.specs.Problem.{Problem}
 use Rattle.positions.specs.Binomials.{Measured}
 use Rattle.positions.specs.Falls.{tailFrom}
-use Rattle.records.specs.Records.{recordFrom}
-use Rattle.records.specs.declared.IndexSets.{IndexSets}
+use Rattle.trail_records.specs.Records.{recordFrom}
+use Rattle.trail_records.specs.declared.IndexSets.{IndexSets}
 use Rattle.rules.specs.Mask.{bit}
 use Rattle.rules.specs.Read.{pointOn}
 use Rattle.rules.specs.Ready.{RoundBelow, SixteenEach}
 use Rattle.rules.specs.Step.{State, markPosition}
 use Rattle.trail.specs.Trail.{begins, rebuiltFrom}
-use Rattle.trail_places.specs.Shows.{Shows}
+use Rattle.trail_steps.specs.Shows.{Shows}
 use Rattle.ways.specs.declared.Way.{Way}
 use Rattle.ways.specs.declared.Way.the-variants.{Joins, Leaves, Nothing}
 

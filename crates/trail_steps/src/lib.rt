@@ -19,8 +19,8 @@ use grid::Grid;
 use marks::position_in;
 use moves::Status;
 use positions::ENTRIES;
-use records::IndexSets;
-use records::standing_bytes;
+use trail_records::IndexSets;
+use trail_records::standing_bytes;
 use ways::Way;
 
 fn wide(x: u8) -> usize

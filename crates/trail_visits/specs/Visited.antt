@@ -8,7 +8,7 @@ use lib.Dec.{eqb}
 use lib.ListN.{length}
 use lib.Seq.{paste}
 use Rattle.moves.specs.declared.Status.{Status}
-use Rattle.records.specs.Records.{SameSets, firstRecord, recordFrom}
+use Rattle.trail_records.specs.Records.{SameSets, firstRecord, recordFrom}
 use Rattle.rules.specs.Read.{positionAt}
 use Rattle.rules.specs.Step.{State}
 use Rattle.trail_visits.specs.declared.Before.{Before}

@@ -30,7 +30,7 @@ use Rattle.trail_writer.specs.Writing.{announces, trailAnswerBuffer, tra
 use Rattle.trail_writer.specs.Writing.{wholeTrail}
 use Rattle.trail_writer.specs.declared.answers.Answer.the-variants.{End, Refused}
 use Rattle.trail_writer.proofs.Endings.{has-room, too-short}
-use Rattle.trail_walk.proofs.OnTrail.{ended-whole}
+use Rattle.trail_pass.proofs.OnTrail.{ended-whole}
 
 -- the answers of questions 1 to 8 are no more than 8
 first-low : (qs : List Question) → all (λ q. leb (q .number) 8) qs ≡ true → firstNo qs ≤ 8

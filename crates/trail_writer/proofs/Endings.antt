@@ -13,16 +13,16 @@ use Rattle.combinatorics.proofs.Fronts.{front-none}
 use Rattle.combinatorics.specs.Front.{front}
 use Rattle.end_kinds.specs.declared.Kind.{Kind}
 use Rattle.moves.specs.declared.Status.{Status}
-use Rattle.path_walk.specs.Finish.{Finished}
+use Rattle.path_pass.specs.Finish.{Finished}
 use Rattle.finder.specs.Run.{caseOf, numbersOf, runRefusal}
-use Rattle.path_walk.specs.declared.Finish.{Finish}
-use Rattle.path_walk.specs.declared.Finish.the-variants.{Ended, Spent as FinishSpent, Unknown as FinishUnknown}
+use Rattle.path_pass.specs.declared.Finish.{Finish}
+use Rattle.path_pass.specs.declared.Finish.the-variants.{Ended, Spent as FinishSpent, Unknown as FinishUnknown}
 use Rattle.place.specs.Path.{Answer as PathAnswer, answer, ended}
 use Rattle.place.specs.Places.{Simplex}
 use Rattle.place.specs.Problem.{Problem}
 use Rattle.questions.specs.Questions.{firstNo}
 use Rattle.rules.specs.Step.{Round}
-use Rattle.trail_walk.specs.Walked.{Recorded}
+use Rattle.trail_pass.specs.Walked.{Recorded}
 use Rattle.trail_writer.specs.Again.{HasEnd, hasRoom, storedAt, withBytes}
 use Rattle.trail_writer.specs.Writing.{announces, trailAnswerBuffer, trailAnswer, trailBuffer, trailCase}
 use Rattle.trail_writer.specs.Writing.{wholeTrail}

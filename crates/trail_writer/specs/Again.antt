@@ -15,8 +15,8 @@ use Rattle.finder.specs.declared.answers.Answer.the-variants.{Spent as RunSpent
 use Rattle.marks.specs.Reading.{Readable, problemFrom}
 use Rattle.moves.specs.declared.Status.{Status}
 use Rattle.path_laws.specs.Demand.{Accepted}
-use Rattle.path_walk.specs.declared.Finish.{Finish}
-use Rattle.path_walk.specs.declared.Finish.the-variants.{Ended, Spent as BudgetSpent, Unknown as UnknownLabel}
+use Rattle.path_pass.specs.declared.Finish.{Finish}
+use Rattle.path_pass.specs.declared.Finish.the-variants.{Ended, Spent as BudgetSpent, Unknown as UnknownLabel}
 use Rattle.place.specs.Path.{answer, ended}
 use Rattle.place.specs.Places.{Simplex}
 use Rattle.place.specs.Problem.{Problem}

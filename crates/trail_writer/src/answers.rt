@@ -20,9 +20,9 @@ use end_kinds::Kind;
 use finder::announce;
 use finder::first_no;
 use grid::Grid;
-use path_walk::Finish;
+use path_pass::Finish;
 use positions::ENTRIES;
-use trail_walk::follow;
+use trail_pass::follow;
 
 // What a run that writes a trail answers. The block counts from 1. The vertices, m numbers each, stand at the front of
 // the answer buffer, and the trail at the front of the trail buffer.

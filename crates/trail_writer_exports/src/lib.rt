@@ -3,11 +3,11 @@ ghost use mathlib.Core.Path.{_≡_};
 ghost use lib.ListN.{length};
 ghost use Rattle.combinatorics.specs.Front.{front};
 ghost use Rattle.place.specs.Problem.{problemOf};
-ghost use Rattle.run_facts.specs.Numbers.{runFacts, runNumber};
+ghost use Rattle.finder.specs.Numbers.{runFacts, runNumber};
 ghost use Rattle.trail_writer.specs.Claims.{withoutBytes};
 ghost use Rattle.trail_writer.specs.Writing.{trailAnswerBuffer, trailAnswer, trailBuffer};
 ghost use Rattle.trail_writer_exports.specs.Written.{bytesWritten};
-use run_facts::put_answer;
+use finder::put_answer;
 
 // What the run without a trail answers.
 fn without_bytes(answer: trail_writer::Answer) -> finder::Answer

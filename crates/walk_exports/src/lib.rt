@@ -1,12 +1,12 @@
 // The calls on a walk, for programs in C and Rust: each takes the struct by reference, calls the by-value step and
 // stores what it gives.
 ghost use mathlib.Core.Path.{_≡_};
-ghost use Rattle.walk_steps.specs.Steps.{begunStep, movedStep, pointedStep, shownStep};
-use walk_steps::Step;
-use walk_steps::begun_step;
-use walk_steps::moved_step;
-use walk_steps::pointed_step;
-use walk_steps::shown_step;
+ghost use Rattle.walk_numbers.specs.Steps.{begunStep, movedStep, pointedStep, shownStep};
+use walk_numbers::Step;
+use walk_numbers::begun_step;
+use walk_numbers::moved_step;
+use walk_numbers::pointed_step;
+use walk_numbers::shown_step;
 
 // Makes the walk at {v}, with 1 as its places so far and its labels read.
 #[no_mangle]

@@ -37,11 +37,11 @@ use Rattle.walks.proofs.Recognised.{recognised}
 use Rattle.walks.specs.Kept.{isKept, keptPoints}
 use Rattle.walks.specs.Next.{nextOf, refused}
 use Rattle.walks.specs.Walk.{labelsOf}
-use Rattle.walk_moves.proofs.Next.{no-place, not-carried}
-use Rattle.walk_moves.proofs.Unknown.{some-spare}
+use Rattle.walk_ways.proofs.Next.{no-place, not-carried}
+use Rattle.walk_ways.proofs.Unknown.{some-spare}
 use Rattle.walk_labels.specs.Carrying.{labelsInMarks}
-use Rattle.walk_moves.specs.Spare.{Spare, again, outside, unknown}
-use Rattle.recogniser.specs.Kept.{Seen}
+use Rattle.walk_ways.specs.Spare.{Spare, again, outside, unknown}
+use Rattle.walk_recogniser.specs.Kept.{Seen}
 use Rattle.walk_places.proofs.Placed.{kept-on-grid, kept-position}
 use Rattle.walk_next.specs.Choosing.{CanChoose}
 use Rattle.walk_next.specs.Standing.{CanStand}

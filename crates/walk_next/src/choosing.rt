@@ -4,8 +4,8 @@ ghost use Rattle.walk_next.specs.Choosing.{CanChoose, CanFill, MarksFill
 ghost use Rattle.walk_ways.specs.Standing.{IsRoundOf, nextIn};
 use arrays::label_in;
 use grid::Grid;
-use recogniser::FoundSets;
 use walk_places::Walk;
+use walk_recogniser::FoundSets;
 use walk_ways::Next;
 use walk_ways::from_other;
 use walk_ways::from_start;

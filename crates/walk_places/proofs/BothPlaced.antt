@@ -32,9 +32,9 @@ use Rattle.path_laws.specs.Demand.{Accepted}
 use Rattle.positions.proofs.ByTails.{position-tells}
 use Rattle.questions.proofs.Answers.{both-yes}
 use Rattle.questions.specs.Questions.{firstNo}
-use Rattle.recogniser.specs.Kept.{Recognised, Seen}
-use Rattle.recogniser.specs.Pieces.{bareMark}
-use Rattle.recogniser.specs.declared.FoundSets.{FoundSets}
+use Rattle.walk_recogniser.specs.Kept.{Recognised, Seen}
+use Rattle.walk_recogniser.specs.Pieces.{bareMark}
+use Rattle.walk_recogniser.specs.declared.FoundSets.{FoundSets}
 use Rattle.rules.proofs.Marks.{position-in as position-of-mark}
 use Rattle.rules.specs.Step.{markPosition}
 use Rattle.walks.proofs.KeptForm.{T-is, U-is, grid-long, meets, order-is}

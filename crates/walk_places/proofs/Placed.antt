@@ -16,8 +16,8 @@ use Rattle.place.specs.Problem.{Problem, label}
 use Rattle.path_laws.proofs.Accepted.{accepted-of}
 use Rattle.path_laws.proofs.Positions.{at-in}
 use Rattle.path_laws.specs.Demand.{Accepted}
-use Rattle.recogniser.specs.Kept.{Seen}
-use Rattle.recogniser.specs.Pieces.{CanReadLabels, LabelsPut, bareMark}
+use Rattle.walk_recogniser.specs.Kept.{Seen}
+use Rattle.walk_recogniser.specs.Pieces.{CanReadLabels, LabelsPut, bareMark}
 use Rattle.rules.proofs.Marks.{position-in as position-of-mark}
 use Rattle.rules.specs.Read.{markOf}
 use Rattle.rules.specs.Step.{markPosition}

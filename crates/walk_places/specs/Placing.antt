@@ -13,7 +13,7 @@ use Rattle.place.specs.Places.{Simplex, setT, setU}
 use Rattle.place.specs.Problem.{Problem}
 use Rattle.place.specs.Questions.{tableQuestions}
 use Rattle.questions.specs.Questions.{firstNo}
-use Rattle.recogniser.specs.Pieces.{bareMark}
+use Rattle.walk_recogniser.specs.Pieces.{bareMark}
 use Rattle.rules.specs.Mask.{bit}
 use Rattle.walks.specs.Next.{moved, nextOf}
 use Rattle.walk_places.specs.declared.Both.{Both}

@@ -5,8 +5,8 @@ ghost use mathlib.Core.Path.{_≡_};
 ghost use Prim.Native.Nat.{ℕ};
 ghost use lib.ListN.{length, take};
 ghost use Rattle.grid.specs.Made.{IsMade, shape};
-ghost use Rattle.recogniser.specs.Kept.{Recognised};
-ghost use Rattle.recogniser.specs.Pieces.{bareMark};
+ghost use Rattle.walk_recogniser.specs.Kept.{Recognised};
+ghost use Rattle.walk_recogniser.specs.Pieces.{bareMark};
 ghost use Rattle.rules.specs.Read.{markOf};
 ghost use Rattle.walk_places.specs.Placing.{BothMarked, CanPlace, CanSee, GoesTo};
 ghost use Rattle.walk_places.specs.Walks.{placeOf, tableOn};
@@ -17,9 +17,9 @@ use arrays::block_sizes;
 use grid::Grid;
 use grid::wide;
 use positions::ENTRIES;
-use recogniser::FoundSets;
-use recogniser::read_labels;
-use recogniser::recognise;
+use walk_recogniser::FoundSets;
+use walk_recogniser::read_labels;
+use walk_recogniser::recognise;
 
 // T and U of the place with this first point and order, if it is one but for its labels; the coefficients and the
 // positions of the points, in marks without labels, into their arrays.

@@ -8,7 +8,7 @@ use Rattle.grid.specs.Made.{shape}
 use Rattle.grid.specs.declared.Grid.{Grid as GridStruct}
 use Rattle.place.specs.Places.{Simplex}
 use Rattle.place.specs.Problem.{Problem}
-use Rattle.recogniser.specs.Pieces.{bareMark}
+use Rattle.walk_recogniser.specs.Pieces.{bareMark}
 use Rattle.rules.proofs.Masks.{maskT, maskU}
 use Rattle.trail.specs.Change.{ByRule, change}
 use Rattle.walks.proofs.Moved.{calls-hold}

@@ -13,8 +13,8 @@ use Rattle.grid_points.specs.Grid.{Point, isGridPoint, position, samePoint}
 use Rattle.place.specs.Places.{Simplex, setT, setU}
 use Rattle.place.specs.Problem.{Problem}
 use Rattle.path_laws.specs.Demand.{Accepted}
-use Rattle.recogniser.specs.Pieces.{bareMark}
-use Rattle.records.proofs.Told.{gained, kept, lost}
+use Rattle.walk_recogniser.specs.Pieces.{bareMark}
+use Rattle.trail_records.proofs.Told.{gained, kept, lost}
 use Rattle.rules.proofs.Masks.{IsMask}
 use Rattle.rules.specs.Step.{markPosition}
 use Rattle.trail.specs.Change.{ByRule, Change, change, outside, rule1, rule2, rule3, rule4, rule5, rule6}

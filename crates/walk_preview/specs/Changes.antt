@@ -5,7 +5,7 @@ use Prim.Native.Nat.{ℕ, suc}
 use lib.Dec.{eqb}
 use lib.ListN.{replicate}
 use Rattle.combinatorics.specs.Lists.{firstOr}
-use Rattle.records.specs.Records.{differing}
+use Rattle.trail_records.specs.Records.{differing}
 use Rattle.rules.specs.Step.{markPosition}
 use Rattle.trail.specs.Change.{Change, outside}
 use Rattle.trail.specs.Record.{bitMap}

@@ -7,7 +7,7 @@ ghost use Rattle.combinatorics.specs.Lists.{isIn};
 ghost use Rattle.walk_preview.specs.Changes.{changeFor, indexFrom, otherIn};
 use crate::Change;
 use arrays::position_at;
-use records::difference;
+use trail_records::difference;
 
 // Whether a mark is among the first n + 1.
 fn among(marks: &[u32; 16], n: usize, mark: u32) -> bool

@@ -17,7 +17,7 @@ use Rattle.grid_points.specs.Grid.{Grid, Point, at, blockOf, numIndices, size}
 use Rattle.grid.specs.Made.{IsMade, shape}
 use Rattle.grid.specs.declared.Grid.{Grid as GridStruct}
 use Rattle.moves.specs.Held.{stateOf}
-use Rattle.place_points.specs.Room.{CanPut}
+use Rattle.moves.specs.Room.{CanPut}
 use Rattle.moves.specs.declared.Status.{Status}
 use Rattle.place.specs.Places.{Simplex, isPlace}
 use Rattle.place.specs.Problem.{Problem}
@@ -29,7 +29,7 @@ use Rattle.path_laws.proofs.IndexSets.{no-empty}
 use Rattle.path_laws.proofs.LinkSymmetry.{parts}
 use Rattle.questions.proofs.Answers.{asked-next, asked-no}
 use Rattle.questions.specs.Questions.{ask, firstNo}
-use Rattle.recogniser.specs.declared.FoundSets.{FoundSets}
+use Rattle.walk_recogniser.specs.declared.FoundSets.{FoundSets}
 use Rattle.rules.proofs.StatePoints.{all-points, ready-point}
 use Rattle.rules.specs.Read.{markOf, numbersFrom, pointsFrom}
 use Rattle.rules.specs.Step.{State}
@@ -37,9 +37,9 @@ use Rattle.walks.specs.Kept.{keptPoints}
 use Rattle.walks.specs.Walk.{over}
 use Rattle.walk_next.proofs.Stood.{ok, round-of}
 use Rattle.walk_places.specs.Placing.{CanSee}
-use Rattle.walk_moves.proofs.Carried.{points-long}
-use Rattle.walk_moves.proofs.Kept.{describes, full, place-filled}
-use Rattle.walk_moves.specs.Lent.{LentPlace}
+use Rattle.walk_ways.proofs.Carried.{points-long}
+use Rattle.walk_ways.proofs.Kept.{describes, full, place-filled}
+use Rattle.walk_ways.specs.Lent.{LentPlace}
 use Rattle.walk_views.specs.Viewed.{CanPoint, noPoints, placeQuestions, pointsAt, pointsOn}
 use Rattle.walk_views.specs.declared.PlacePoints.{PlacePoints}
 use Rattle.walk_ways.specs.Standing.{IsRoundOf}

@@ -14,8 +14,8 @@ use Rattle.place.specs.Places.{Simplex, isPlace}
 use Rattle.place.specs.Problem.{Problem}
 use Rattle.place.specs.Questions.{tableQuestions}
 use Rattle.questions.specs.Questions.{Question, ask, firstNo}
-use Rattle.recogniser.specs.Kept.{Seen}
-use Rattle.recogniser.specs.declared.FoundSets.{FoundSets}
+use Rattle.walk_recogniser.specs.Kept.{Seen}
+use Rattle.walk_recogniser.specs.declared.FoundSets.{FoundSets}
 use Rattle.rules.specs.Read.{markOf}
 use Rattle.walks.specs.Walk.{over}
 use Rattle.walk_places.specs.Placing.{CanSee}

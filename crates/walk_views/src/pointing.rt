@@ -10,14 +10,14 @@ use arrays::block_sizes;
 use grid::Grid;
 use grid::wide;
 use moves::Status;
-use place_points::put_points;
-use recogniser::FoundSets;
+use moves::put_points;
 use walk_calls::first_no;
 use walk_calls::grid_in;
 use walk_next::spare;
 use walk_places::Walk;
 use walk_places::is_kept;
 use walk_places::seen;
+use walk_recogniser::FoundSets;
 
 // A refusal.
 fn no_points(code: u8) -> PlacePoints

@@ -33,7 +33,7 @@ use Rattle.path_laws.proofs.Local.{setT-same}
 use Rattle.path_laws.proofs.Positions.{at-in}
 use Rattle.path_laws.proofs.ToChain.{coefficientsOf, pointsOf, pointsOf-coefficientsOf}
 use Rattle.path_laws.specs.Demand.{Accepted}
-use Rattle.place_points.specs.Room.{CanPut}
+use Rattle.moves.specs.Room.{CanPut}
 use Rattle.moves.specs.declared.Status.{Status}
 use Rattle.place.specs.Ends.{link}
 use Rattle.place.specs.Places.{Simplex, setT, setU}
@@ -49,12 +49,12 @@ use Rattle.walks.proofs.Moved.{calls-hold}
 use Rattle.walks.specs.Kept.{keptPoints}
 use Rattle.walks.specs.Next.{byWay, ended, moveAnswer, moveWalk, moved, nextOf, refused, ruleOf}
 use Rattle.walks.specs.Walk.{Walk}
-use Rattle.walk_moves.proofs.Carried.{points-long}
-use Rattle.walk_moves.proofs.Kept.{describes, full, place-filled}
-use Rattle.walk_moves.proofs.Next.{fits-a, fits-b, fits-v, ready-a, ready-b, ready-v}
-use Rattle.walk_moves.proofs.Unknown.{unknown-only}
-use Rattle.walk_moves.proofs.Ways.{Fits, described-masks}
-use Rattle.walk_moves.specs.Lent.{LentPlace, keptBy, wayMade}
+use Rattle.walk_ways.proofs.Carried.{points-long}
+use Rattle.walk_ways.proofs.Kept.{describes, full, place-filled}
+use Rattle.walk_ways.proofs.Next.{fits-a, fits-b, fits-v, ready-a, ready-b, ready-v}
+use Rattle.walk_ways.proofs.Unknown.{unknown-only}
+use Rattle.walk_ways.proofs.Ways.{Fits, described-masks}
+use Rattle.walk_ways.specs.Lent.{LentPlace, keptBy, wayMade}
 use Rattle.walk_places.proofs.Alike.{place-same, same-place}
 use Rattle.walk_places.proofs.Held.{held-once, kept-before, stored-kept}
 use Rattle.walk_ways.proofs.RuleTold.{rule-told}

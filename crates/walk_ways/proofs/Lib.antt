@@ -1,3 +1,10 @@
+pub mod Choice
+pub mod Kept
+pub mod Ways
+pub mod Carried
+pub mod Gap
+pub mod Next
+pub mod Unknown
 pub mod Tried
 pub mod MaskTests
 pub mod RuleTold

@@ -7,7 +7,7 @@ use Rattle.end_kinds.specs.declared.Kind.the-variants.{Facet as facetEnd, Place
 use Rattle.grid_points.specs.Grid.{blockOf}
 use Rattle.grid.specs.Made.{shape}
 use Rattle.grid.specs.declared.Grid.{Grid as GridStruct}
-use Rattle.place_points.specs.Room.{CanPut}
+use Rattle.moves.specs.Room.{CanPut}
 use Rattle.rules.specs.Read.{numbersFrom}
 use Rattle.rules.specs.Step.{State}
 use Rattle.combinatorics.specs.Front.{padded}

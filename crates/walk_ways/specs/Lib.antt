@@ -1,3 +1,6 @@
+pub mod Counted
+pub mod Lent
+pub mod Spare
 pub mod Answers
 pub mod Ways
 pub mod Ends

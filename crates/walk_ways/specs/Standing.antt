@@ -19,8 +19,8 @@ use Rattle.rules.specs.Read.{markOf}
 use Rattle.rules.specs.Ready.{IsRound, RoundBelow}
 use Rattle.walks.specs.Kept.{keptPoints, zeroOutside}
 use Rattle.walks.specs.Next.{nextOf}
-use Rattle.walk_moves.specs.Counted.{Counted}
-use Rattle.walk_moves.specs.Spare.{Spare}
+use Rattle.walk_ways.specs.Counted.{Counted}
+use Rattle.walk_ways.specs.Spare.{Spare}
 use Rattle.walk_places.specs.Walks.{placeOf, samePlace, tableOn, walkOn}
 use Rattle.walk_ways.specs.Answers.{nextAs}
 use Rattle.walk_ways.specs.declared.Leads.{Leads}

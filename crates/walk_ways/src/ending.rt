@@ -6,7 +6,7 @@ ghost use lib.ListN.{length};
 ghost use Rattle.arrays.specs.Rounds.{roundBack};
 ghost use Rattle.grid.specs.Made.{IsMade};
 ghost use Rattle.moves.specs.Held.{stateOf};
-ghost use Rattle.place_points.specs.Room.{CanPut};
+ghost use Rattle.moves.specs.Room.{CanPut};
 ghost use Rattle.rules.specs.Step.{State};
 ghost use Rattle.walk_ways.specs.Ends.{endAs, refusedAs, toldAs, CanTellEnd};
 use crate::Answer;
@@ -16,7 +16,7 @@ use crate::Next;
 use end_kinds::Kind;
 use grid::Grid;
 use moves::Status;
-use place_points::put_points;
+use moves::put_points;
 use walk_places::none;
 
 // An end with the points from number from on, complete for the block of index h.

@@ -16,9 +16,9 @@ use Rattle.grid_points.specs.Grid.{Grid, numIndices, numPoints, lent}
 use Rattle.grid.specs.Made.{IsMade, shape}
 use Rattle.grid_points.specs.Questions.{gridQuestions}
 use Rattle.grid.specs.declared.Grid.{Grid as GridStruct}
-use Rattle.games.proofs.Outcomes.{made-on}
-use Rattle.games.specs.Labelling.{labelledOf}
-use Rattle.games.specs.declared.Labelled.the-variants.{Refused, Written}
+use Rattle.game_labels.proofs.Outcomes.{made-on}
+use Rattle.game_labels.specs.Labelling.{labelledOf}
+use Rattle.game_labels.specs.declared.Labelled.the-variants.{Refused, Written}
 use Rattle.boundary_labels.specs.Boundary.{boundaryTable}
 use Rattle.boundary.proofs.Outcomes.{accepted, asked6, asked7, asked12, asked-all, refused}
 use Rattle.boundary.specs.Call.{boundaryQuestions, tableOrOld}

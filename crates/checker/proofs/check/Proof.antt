@@ -6,8 +6,8 @@ use Rattle.questions.specs.Questions.{firstNo}
 use Rattle.grid.proofs.Fields.{made-code, made-indices, made-is, made-shape}
 use Rattle.grid_points.specs.Grid.{Grid}
 use Rattle.grid.specs.Made.{shape}
-use Rattle.simplices.specs.Simplices.{verdict}
-use Rattle.chains.specs.Listed.{listed}
+use Rattle.check_simplices.specs.Simplices.{verdict}
+use Rattle.check_chains.specs.Listed.{listed}
 use Rattle.checker.proofs.Answers.{refused-grid, refused-list, judged-is, passed-labels, passed-list}
 use Rattle.checker.proofs.ListRefusals.{some-index}
 use Rattle.checker.specs.Check.{listedPoints, listQuestions, checkCase}

@@ -14,10 +14,10 @@ use Rattle.grid.proofs.Fields.{indices-few, made-indices}
 use Rattle.grid.specs.Made.{shape}
 use Rattle.grid_points.proofs.Points.{point-long}
 use Rattle.marks.specs.Reading.{problemFrom}
-use Rattle.path_walk.proofs.Visits.{is-round, round-below}
+use Rattle.path_pass.proofs.Visits.{is-round, round-below}
 use Rattle.place.specs.Problem.{Problem}
 use Rattle.rules.specs.Step.{Round}
-use Rattle.survey.specs.Survey.{Surveys}
+use Rattle.nearest_pass.specs.Survey.{Surveys}
 use Rattle.nearest.specs.declared.Nearest.{Nearest}
 use Rattle.nearest.specs.declared.Report.{Report}
 use Rattle.nearest.proofs.Finishes.{finish-listed, finish-nearest}

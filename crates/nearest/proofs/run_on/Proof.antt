@@ -22,7 +22,7 @@ use Rattle.nearest.specs.declared.Report.{Report}
 use Rattle.nearest.proofs.run_on.Statement.{statement}
 use Rattle.nearest.proofs.run_on.Tie as tie
 use Rattle.questions.specs.Questions.{firstNo}
-use Rattle.visited.specs.Questions.{pointQuestions}
+use Rattle.nearest_visited.specs.Questions.{pointQuestions}
 
 returns : tie.Need-returns
 returns c =

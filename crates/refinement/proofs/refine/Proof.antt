@@ -8,9 +8,9 @@ use borrow.Author.Tests.{not-false, not-true}
 use lib.ListN.{length}
 use native.Mathlib.Omega.{arith}
 use Rattle.grid_points.specs.Grid.{lent}
-use Rattle.levels.proofs.Claims.{in-ranges}
-use Rattle.levels.specs.Levels.{Refinement}
-use Rattle.levels.specs.Questions.{laterLevelQuestions, question18}
+use Rattle.refinement_levels.proofs.Claims.{in-ranges}
+use Rattle.refinement_levels.specs.Levels.{Refinement}
+use Rattle.refinement_levels.specs.Questions.{laterLevelQuestions, question18}
 use Rattle.questions.specs.Questions.{firstNo}
 use Rattle.refinement.proofs.Outcomes.{as-lent, asked-later, can-run-all, first-made, passed-later}
 use Rattle.refinement.proofs.Outcomes.{refused-grids, refused-later, refused-range}

@@ -9,7 +9,7 @@ use lib.Seq.{length-take-le}
 use Rattle.combinatorics.specs.Front.{front}
 use Rattle.combinatorics.specs.Lists.{all}
 use Rattle.little_endian.specs.Numbers.{words}
-use Rattle.losses.specs.Table.{numLosses, inRange}
+use Rattle.game_losses.specs.Table.{numLosses, inRange}
 use Rattle.slip.proofs.LossesRead.{Brought, brought, words-put, read-back, room-left, in-range, out-of-range}
 use Rattle.slip_fields.specs.Slip.{slipGrid, slipLosses}
 use borrow.Author.Needs.{needs}

@@ -3,7 +3,7 @@ use native.Mathlib.Omega.{arith}
 use mathlib.Core.Path.{_≡_, sym, ap, _∙_}
 use Prim.Native.Nat.{_+_, _-_}
 use lib.ListN.{take, drop}
-use Rattle.built_in.specs.Tables.{question15 as gameQuestion}
+use Rattle.game_built_in.specs.Tables.{question15 as gameQuestion}
 use Rattle.slip_fields.proofs.Laws.{head-fits}
 use Rattle.slip.proofs.Tables.{is-game, no-game}
 use Rattle.slip_fields.specs.Slip.{numBlocksOf, sizesOf}

@@ -17,12 +17,12 @@ use Rattle.moves.specs.declared.Outcome.{Outcome}
 use Rattle.moves.specs.declared.Outcome.the-variants.{Moved}
 use Rattle.moves.specs.declared.Status.{Status}
 use Rattle.place.specs.Places.{Simplex}
-use Rattle.records.proofs.Standing.{not-standing, standing}
+use Rattle.trail_records.proofs.Standing.{not-standing, standing}
 use Rattle.rules.specs.Ready.{SixteenEach}
 use Rattle.rules.specs.Step.{After, Round, State}
 use Rattle.trail.specs.Change.{change}
 use Rattle.trail.specs.Trail.{rebuiltFrom}
-use Rattle.trail_places.proofs.Reached.{Arrives}
+use Rattle.trail_steps.proofs.Reached.{Arrives}
 use Rattle.trail_steps.proofs.Arrived.{OnlyPlace, WayLeads, facet-ends, gone-low, place-ends, way-fits, way-leads}
 use Rattle.trail_steps.proofs.Arrived.{way-ready}
 use Rattle.trail_steps.proofs.Named.{order-low, shows-few}

@@ -2,7 +2,7 @@
 use mathlib.Core.Path.{sym, ap}
 use borrow.Author.Needs.{needs}
 use lib.ListN.{length}
-use Rattle.records.proofs.Differences.{same-record}
+use Rattle.trail_records.proofs.Differences.{same-record}
 use Rattle.trail_visits.proofs.bytes_to.Statement.{statement}
 use Rattle.trail_visits.proofs.bytes_to.Tie as tie
 

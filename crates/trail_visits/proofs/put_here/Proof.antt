@@ -6,9 +6,9 @@ use borrow.Author.Tests.{ne-eqb}
 use native.Mathlib.Omega.{arith}
 use Rattle.arrays.specs.Rounds.{noRound}
 use Rattle.moves.specs.Held.{stateOf}
-use Rattle.records.proofs.Differences.{same-record}
-use Rattle.records.proofs.Told.{pasted}
-use Rattle.records.specs.Records.{IsRecord}
+use Rattle.trail_records.proofs.Differences.{same-record}
+use Rattle.trail_records.proofs.Told.{pasted}
+use Rattle.trail_records.specs.Records.{IsRecord}
 use Rattle.trail_visits.specs.Visited.{recordHere}
 use Rattle.trail_visits.proofs.put_here.Statement.{statement}
 use Rattle.trail_visits.proofs.put_here.Tie as tie

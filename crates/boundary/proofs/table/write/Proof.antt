@@ -6,7 +6,7 @@ use native.Mathlib.Omega.{arith}
 use Rattle.grid.proofs.Fields.{indices-few, made-accepted, made-indices, made-points, made-previous}
 use Rattle.grid.specs.Made.{IsMade, shape}
 use Rattle.grid.specs.declared.Grid.{Grid as GridStruct}
-use Rattle.games.proofs.Outcomes.{blocks-room, made-firsts}
+use Rattle.game_labels.proofs.Outcomes.{blocks-room, made-firsts}
 use Rattle.points_in_order.proofs.PointAfter.{first-array}
 use Rattle.boundary.proofs.table.write.Statement.{statement}
 use Rattle.boundary.proofs.table.write.Tie as tie

@@ -8,9 +8,9 @@ use native.Mathlib.Omega.{arith}
 use Rattle.combinatorics.specs.Lists.{upFrom}
 use Rattle.grid.proofs.Fields.{indices-few, made-accepted, made-indices}
 use Rattle.grid.specs.Made.{shape}
-use Rattle.chains.proofs.ListedPoints.{is-listed, on-grid}
-use Rattle.chains.proofs.Nestings.{left-none, one-more}
-use Rattle.chains.specs.Listed.{listedAt}
+use Rattle.check_chains.proofs.ListedPoints.{is-listed, on-grid}
+use Rattle.check_chains.proofs.Nestings.{left-none, one-more}
+use Rattle.check_chains.specs.Listed.{listedAt}
 use Rattle.checker.proofs.Covering.{Covering, copied, copied-point, none-covered, more-covered, all-covered}
 use Rattle.checker.proofs.Covering.{zeros-at}
 use Rattle.checker.proofs.cover.covered.Statement.{statement}

@@ -9,8 +9,8 @@ use native.Mathlib.Omega.{arith}
 use Rattle.combinatorics.specs.Lists.{filter, upFrom}
 use Rattle.grid.proofs.Fields.{blocks-range}
 use Rattle.grid.specs.Made.{shape}
-use Rattle.simplices.specs.Simplices.{firstOf}
-use Rattle.chains.proofs.WholeSets.{is-block}
+use Rattle.check_simplices.specs.Simplices.{firstOf}
+use Rattle.check_chains.proofs.WholeSets.{is-block}
 use Rattle.checker.proofs.Covering.{whole-block, block-whole, first-of-blocks, first-stops, first-goes}
 use Rattle.checker.proofs.Covering.{first-ends}
 use Rattle.checker.specs.Check.{checkCase}

@@ -6,7 +6,7 @@ use borrow.Author.Tests.{not-true, not-false}
 use native.Mathlib.Omega.{arith}
 use Rattle.combinatorics.specs.Lists.{all, upFrom}
 use Rattle.rules.specs.Mask.{bit}
-use Rattle.chains.proofs.Nestings.{range-none}
+use Rattle.check_chains.proofs.Nestings.{range-none}
 use Rattle.checker.proofs.Covering.{range-stops, range-goes}
 use Rattle.checker.proofs.cover.has_all.Statement.{statement}
 use Rattle.checker.proofs.cover.has_all.Tie as tie

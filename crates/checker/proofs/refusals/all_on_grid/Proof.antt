@@ -9,9 +9,9 @@ use native.Mathlib.Omega.{arith}
 use Rattle.combinatorics.specs.Lists.{all, upFrom}
 use Rattle.grid_points.specs.Grid.{isGridPoint}
 use Rattle.grid.specs.Made.{shape}
-use Rattle.chains.proofs.ListedPoints.{is-listed}
-use Rattle.chains.proofs.Nestings.{left-none, all-stops, all-goes}
-use Rattle.chains.specs.Listed.{listed, listedAt}
+use Rattle.check_chains.proofs.ListedPoints.{is-listed}
+use Rattle.check_chains.proofs.Nestings.{left-none, all-stops, all-goes}
+use Rattle.check_chains.specs.Listed.{listed, listedAt}
 use Rattle.checker.proofs.refusals.all_on_grid.Statement.{statement}
 use Rattle.checker.proofs.refusals.all_on_grid.Tie as tie
 

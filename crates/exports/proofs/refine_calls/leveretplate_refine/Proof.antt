@@ -2,7 +2,7 @@
 use mathlib.Core.Path.{ap, _∙_}
 use Rattle.combinatorics.specs.Front.{front}
 use Rattle.grid_points.specs.Grid.{lent}
-use Rattle.levels.specs.Levels.{Refinement}
+use Rattle.refinement_levels.specs.Levels.{Refinement}
 use Rattle.refinement.proofs.Outcomes.{answer-few}
 use Rattle.refinement.specs.Answer.{lentGame}
 use Rattle.refinement.specs.declared.Refined.{Refined}

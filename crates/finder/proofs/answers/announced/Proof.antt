@@ -4,7 +4,7 @@ use mathlib.Core.Path.{refl, ap, _∙_}
 use Prim.Native.Nat.{ℕ}
 use Rattle.arrays.specs.Rounds.{roundOf}
 use Rattle.combinatorics.specs.Front.{front}
-use Rattle.path_walk.proofs.Visits.{is-round, round-below}
+use Rattle.path_pass.proofs.Visits.{is-round, round-below}
 use Rattle.finder.proofs.Announcements.{can-announce, can-pad, can-walk, finish-told, finish-written}
 use Rattle.finder.proofs.Announcements.{finished-from, FinishedBy}
 use borrow.Author.Needs.{needs}

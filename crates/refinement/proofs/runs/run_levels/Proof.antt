@@ -6,7 +6,7 @@ use Prim.Native.Nat.{ℕ, _≤_, _<_, _-_}
 use borrow.Author.Needs.{needs}
 use native.Mathlib.Omega.{arith}
 use lib.ListN.{length, set}
-use Rattle.levels.specs.Buffers.{numbersAfter}
+use Rattle.refinement_levels.specs.Buffers.{numbersAfter}
 use Rattle.refinement.proofs.AllRuns.{answer-first, answer-long, answer-solved, can-solve, labels-last}
 use Rattle.refinement.proofs.AllRuns.{labels-long, labels-solved, labelsAfter, level-solved, levels-next}
 use Rattle.refinement.proofs.AllRuns.{levels-none}

@@ -10,8 +10,8 @@ use native.Mathlib.Omega.{arith}
 use Rattle.combinatorics.proofs.Fronts.{front-copy, front-none, front-whole}
 use Rattle.combinatorics.proofs.Lists.{at-all}
 use Rattle.combinatorics.specs.Front.{front}
-use Rattle.levels.proofs.Grids.{times-at}
-use Rattle.levels.specs.Levels.{times}
+use Rattle.refinement_levels.proofs.Grids.{times-at}
+use Rattle.refinement_levels.specs.Levels.{times}
 use Rattle.refinement.proofs.runs.scaled.Statement.{statement}
 use Rattle.refinement.proofs.runs.scaled.Tie as tie
 

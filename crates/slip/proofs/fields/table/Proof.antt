@@ -10,9 +10,9 @@ use lib.Seq.{length-take-le}
 use native.Mathlib.Nat.{mul-le-mul}
 use Rattle.grid.proofs.Fields.{made-accepted, made-blocks}
 use Rattle.grid.specs.Made.{shape}
-use Rattle.losses.proofs.Table.{product-few}
-use Rattle.losses.specs.Game.{product}
-use Rattle.losses.specs.Table.{numLosses}
+use Rattle.game_losses.proofs.Table.{product-few}
+use Rattle.game_losses.specs.Game.{product}
+use Rattle.game_losses.specs.Table.{numLosses}
 use Rattle.slip_fields.proofs.Laws.{head-fits, exact, labels-last, game-last, losses-last}
 use Rattle.slip.proofs.Readings.{table-is, no-table, asked-made, asked-points, sizes-room}
 use Rattle.slip_fields.specs.Slip.{stands, slipGrid, slipGame, fieldsEnd}

@@ -6,7 +6,7 @@ use Prim.Native.Nat.{ℕ}
 use borrow.Author.Needs.{needs}
 use lib.ListN.{take}
 use native.Mathlib.Omega.{arith}
-use Rattle.path_walk.proofs.Visits.{is-round, round-below}
+use Rattle.path_pass.proofs.Visits.{is-round, round-below}
 use Rattle.grid.proofs.Fields.{indices-few}
 use Rattle.trail_steps.specs.Reading.{problemBy}
 use Rattle.trail_reader.specs.Begun.{Reads}

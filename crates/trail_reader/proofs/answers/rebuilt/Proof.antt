@@ -11,7 +11,7 @@ use Rattle.grid.proofs.Fields.{indices-few}
 use Rattle.moves.specs.Held.{stateOf}
 use Rattle.place.specs.Problem.{Problem}
 use Rattle.path_laws.proofs.LabelsRead.{came-few}
-use Rattle.records.proofs.Told.{taken-record}
+use Rattle.trail_records.proofs.Told.{taken-record}
 use Rattle.trail.specs.Record.{startRecord}
 use Rattle.trail.specs.Trail.{begins, placesFrom}
 use Rattle.trail_steps.specs.Reading.{HasRead, problemBy}

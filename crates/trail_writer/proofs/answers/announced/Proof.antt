@@ -15,10 +15,10 @@ use Rattle.finder.proofs.Announcements.{can-announce, can-pad, can-walk, finish
 use Rattle.finder.proofs.Announcements.{FinishedBy, problem-from}
 use Rattle.finder.specs.declared.answers.Answer.{Answer as RunAnswer}
 use Rattle.marks.specs.Reading.{problemFrom}
-use Rattle.path_walk.proofs.Visits.{is-round, round-below}
+use Rattle.path_pass.proofs.Visits.{is-round, round-below}
 use Rattle.place.specs.Problem.{Problem}
 use Rattle.rules.specs.Step.{Round}
-use Rattle.trail_walk.specs.Walked.{Recorded}
+use Rattle.trail_pass.specs.Walked.{Recorded}
 use Rattle.trail_writer.specs.Again.{hasRoom, storedAt, withBytes}
 use Rattle.trail_writer.proofs.Endings.{announced-end, counts, refused-17, stores-nothing}
 use Rattle.trail_writer.proofs.answers.announced.Statement.{statement}

@@ -4,10 +4,10 @@ use mathlib.Core.Path.{refl, subst}
 use borrow.Author.Needs.{needs}
 use Rattle.arrays.specs.Rounds.{roundOf}
 use Rattle.finder.proofs.Announcements.{can-pad, can-walk, problem-from}
-use Rattle.path_walk.specs.Finish.{Finished}
+use Rattle.path_pass.specs.Finish.{Finished}
 use Rattle.marks.specs.Reading.{problemFrom}
 use Rattle.place.specs.Problem.{Problem}
-use Rattle.trail_walk.specs.Walked.{Recorded}
+use Rattle.trail_pass.specs.Walked.{Recorded}
 use Rattle.trail_writer.proofs.Endings.{ends-again}
 use Rattle.trail_writer.proofs.answers.write_trail.Statement.{statement}
 use Rattle.trail_writer.proofs.answers.write_trail.Tie as tie

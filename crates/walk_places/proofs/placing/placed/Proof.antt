@@ -4,9 +4,9 @@ use lib.ListN.{length, take, length-take}
 use Rattle.grid.proofs.Fields.{indices-few, made-indices, made-previous, previous-low}
 use Rattle.grid_points.specs.Grid.{numIndices}
 use Rattle.grid.specs.Made.{shape}
-use Rattle.recogniser.proofs.Together.{with-table}
-use Rattle.recogniser.specs.Kept.{Recognised}
-use Rattle.recogniser.specs.Pieces.{bareMark, startedOn}
+use Rattle.walk_recogniser.proofs.Together.{with-table}
+use Rattle.walk_recogniser.specs.Kept.{Recognised}
+use Rattle.walk_recogniser.specs.Pieces.{bareMark, startedOn}
 use Prim.Native.Nat.{ℕ}
 use borrow.Author.Needs.{needs, length-unmapped}
 use native.Mathlib.Omega.{arith}

@@ -1,7 +1,7 @@
 -- `placing::seen` meets its contract. Assumes nothing.
 use mathlib.Core.Path.{sym, _∙_}
 use Rattle.combinatorics.proofs.Basics.{absurd-bool, not-is, is-not}
-use Rattle.recogniser.proofs.Together.{not-recognised}
+use Rattle.walk_recogniser.proofs.Together.{not-recognised}
 use Rattle.walk_places.proofs.Placed.{can-place, can-read, seen-labels}
 use Rattle.walk_places.proofs.placing.seen.Statement.{statement}
 use Rattle.walk_places.proofs.placing.seen.Tie as tie

@@ -3,7 +3,7 @@ use mathlib.Core.Path.{sym, _∙_}
 use borrow.Author.Needs.{needs}
 use borrow.Author.Tests.{eq-eqb, ne-eqb}
 use native.Mathlib.Omega.{arith}
-use Rattle.records.specs.Records.{differing}
+use Rattle.trail_records.specs.Records.{differing}
 use Rattle.walk_preview.proofs.changes.index_of.Statement.{statement}
 use Rattle.walk_preview.proofs.changes.index_of.Tie as tie
 

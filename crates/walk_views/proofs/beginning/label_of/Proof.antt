@@ -8,7 +8,7 @@ use Rattle.grid.proofs.Fields.{indices-few, made-points}
 use Rattle.grid_points.specs.Grid.{position}
 use Rattle.grid.specs.Made.{shape}
 use Rattle.place.specs.Problem.{label}
-use Rattle.recogniser.proofs.Steps.{position-low, with-none}
+use Rattle.walk_recogniser.proofs.Steps.{position-low, with-none}
 use Rattle.walk_views.proofs.beginning.label_of.Statement.{statement}
 use Rattle.walk_views.proofs.beginning.label_of.Tie as tie
 

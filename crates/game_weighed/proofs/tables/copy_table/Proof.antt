@@ -1,0 +1,82 @@
+-- `copy_table` meets its contract: the numbers passed are copied. Assumes nothing.
+use mathlib.Core.Path.{_≡_, refl}
+use Prim.Native.Nat.{_+_, _-_, _≤_}
+use native.Mathlib.Omega.{arith}
+use lib.ListN.{length, length-set}
+use Rattle.grid_points.specs.Grid.{at}
+use Rattle.game_weighed.proofs.Writing.{written-start, written-turn}
+use Rattle.game_weighed.specs.Levels.{Written}
+use Rattle.game_weighed.proofs.tables.copy_table.Statement.{statement}
+use Rattle.game_weighed.proofs.tables.copy_table.Tie as tie
+
+abbrev Inv-loop : tie.InvT-loop
+Inv-loop levels₀ from to rest e₀ levels e =
+    Written levels₀ to e (λ i. at levels₀ (from + i)) levels × (e ≤ rest) × (length levels ≡ length levels₀)
+
+abbrev μ-loop : tie.MeasureT-loop
+μ-loop levels₀ from to rest e₀ levels e = rest - e
+
+loop-holds : tie.Need-loop-holds Inv-loop μ-loop
+loop-holds c = (written-start (c .args .levels .now) (c .args .to) _, omega arith, refl)
+
+add-number : tie.Need-add-number Inv-loop μ-loop
+add-number c = omega arith
+
+mul-number : tie.Need-mul-number Inv-loop μ-loop
+mul-number c = omega arith
+
+slice-read-number : tie.Need-slice-read-number Inv-loop μ-loop
+slice-read-number c = omega arith
+
+add-levels : tie.Need-add-levels Inv-loop μ-loop
+add-levels c = omega arith
+
+mul-levels : tie.Need-mul-levels Inv-loop μ-loop
+mul-levels c = omega arith
+
+slice-write-levels : tie.Need-slice-write-levels Inv-loop μ-loop
+slice-write-levels c = omega arith
+
+add-e : tie.Need-add-e Inv-loop μ-loop
+add-e c = omega arith
+
+loop-less : tie.Need-loop-less Inv-loop μ-loop
+loop-less c = omega arith
+
+loop-again : tie.Need-loop-again Inv-loop μ-loop
+loop-again c =
+    let l = c .before .before .loop in
+    let a = c .before .before .before .args in (
+      written-turn (a .levels .now) (l .levels) (a .to) (l .e) _ _ (omega arith)
+          (l .inv .0 .kept (a .from + l .e) (omega arith)) (l .inv .0),
+      omega arith,
+      simp length-set (l .inv .2),
+    )
+
+same-length : tie.Need-same-length Inv-loop μ-loop
+same-length c = omega arith
+
+returns : tie.Need-returns Inv-loop μ-loop
+returns c =
+    let l = c .before .loop in
+    let e : l .e ≡ c .before .before .args .rest = omega arith in
+    rw e at (l .inv .0)
+
+pub copy-table-spec : {M : Type 1} → statement M
+copy-table-spec =
+    tie.close
+    (tie.spec
+    Inv-loop
+    μ-loop
+    loop-holds
+    add-number
+    mul-number
+    slice-read-number
+    add-levels
+    mul-levels
+    slice-write-levels
+    add-e
+    loop-less
+    loop-again
+    same-length
+    returns)

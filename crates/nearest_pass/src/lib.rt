@@ -1,0 +1,140 @@
+// The walk of a run that notes the vertices of its places, each where it comes in for the first time.
+ghost use mathlib.Core.Path.{_≡_};
+ghost use Prim.Native.Nat.{_<_};
+ghost use Rattle.arrays.specs.Rounds.{round};
+ghost use Rattle.rules.specs.Step.{Round};
+ghost use Rattle.path_pass.specs.Finish.{CanWalk, Finished, problemIn};
+ghost use Rattle.nearest_pass.specs.Survey.{CanNote, Surveys};
+use grid::Grid;
+use moves::Outcome;
+use nearest_met::Tally;
+use nearest_met::came_in;
+use nearest_met::meet;
+use path_pass::Finish;
+use path_pass::Looked;
+use path_pass::Stand;
+use path_pass::begin;
+use path_pass::ended;
+use path_pass::look_up;
+use path_pass::on;
+use positions::ENTRIES;
+use ways::step;
+
+// How a walk ended, and what is kept of the vertices that it has met.
+pub struct Passed {
+    pub finish: Finish,
+    pub tally: Tally,
+}
+
+// From {v} to the path's end, or until the budget is spent, as a run walks: each vertex is noted where it comes in for
+// the first time. The list is the walk's own, since a run that reaches no end writes none.
+pub fn pass(
+    g: Grid,
+    binomials: &[u16; ENTRIES],
+    table: &[u8],
+    previous: &[u8; 16],
+    next: &[u8; 16],
+    sizes: &[u8; 16],
+    first: &mut [u16; 16],
+    order: &mut [u32; 16],
+    weights: &[usize; 16],
+    w: &[u16],
+    given: u64,
+    list: &mut [u16],
+    budget: u64,
+) -> Passed
+    ghost { Round }
+    requires { λ x. ⌜ round previous next sizes ≡ x ⌝ }
+    requires { λ x. ⌜ CanWalk g x (now binomials) (now first) (now order) (now table) ⌝ }
+    requires { λ _. ⌜ CanNote g (now weights) (now w) (now list) ⌝ }
+    ensures { λ x r. ⌜ Finished (problemIn g (now (first .entry)) (now (table .entry))) budget x
+        (now (first .exit)) (now (order .exit)) (r .finish) ⌝ }
+    ensures { λ _ r. ⌜ Surveys (problemIn g (now (first .entry)) (now (table .entry)))
+        (now (w .entry)) given (now (list .entry)) (now (list .exit)) (r .tally) (r .finish) ⌝ }
+{
+    let m = g.indices;
+    let mut coefficients = [0u16; 16];
+    let mut marks = [0u32; 16];
+    let mut seen = [0u8; 60000];
+    let tails = positions::tails(first, m);
+    let mut t = Tally {
+        nearest: 0,
+        least: 18446744073709551615,
+        listed: 0,
+    };
+    let mut at = Stand {
+        status: begin(first, m),
+        left: budget,
+        labels: 1,
+    };
+    while 0 < at.left {
+        let s = at.status;
+        let looked = look_up(
+            g,
+            binomials,
+            &tails,
+            table,
+            previous,
+            sizes,
+            first,
+            &coefficients,
+            order,
+            &mut marks,
+            s,
+        );
+        if let Looked::Unknown(position) = looked {
+            return Passed {
+                finish: Finish::Unknown {
+                    places: budget - at.left,
+                    position,
+                },
+                tally: t,
+            };
+        }
+        let came = came_in(&marks, s);
+        t = meet(
+            previous,
+            sizes,
+            first,
+            order,
+            s,
+            weights,
+            w,
+            m,
+            came,
+            given,
+            &mut seen,
+            list,
+            t,
+        );
+        let outcome = step(
+            previous,
+            next,
+            sizes,
+            first,
+            &mut coefficients,
+            order,
+            &mut marks,
+            s,
+        );
+        if let Outcome::PlaceEnd(_) = outcome {
+            return Passed {
+                finish: ended(at, outcome, budget),
+                tally: t,
+            };
+        }
+        if let Outcome::FacetEnd(_) = outcome {
+            return Passed {
+                finish: ended(at, outcome, budget),
+                tally: t,
+            };
+        }
+        if let Outcome::Moved(status) = outcome {
+            at = on(at, status);
+        }
+    }
+    Passed {
+        finish: Finish::Spent,
+        tally: t,
+    }
+}

@@ -1,0 +1,132 @@
+// The walk from {v} along the path with the record of each place: a first one counts the bytes, a second stores them.
+// What is public here is for the writer, which shows what it asks.
+ghost use mathlib.Core.Path.{_≡_};
+ghost use lib.ListN.{length};
+ghost use Rattle.arrays.specs.Rounds.{round};
+ghost use Rattle.path_pass.specs.Finish.{CanWalk, Finished, problemIn};
+ghost use Rattle.rules.specs.Step.{Round};
+ghost use Rattle.trail_pass.specs.Walked.{HasRoomForTrail, Recorded};
+use grid::Grid;
+use moves::Outcome;
+use path_pass::Finish;
+use path_pass::Looked;
+use path_pass::Stand;
+use path_pass::begin;
+use path_pass::ended;
+use path_pass::look_up;
+use path_pass::on;
+use positions::ENTRIES;
+use trail_visits::Before;
+use trail_visits::bytes_to;
+use trail_visits::tell;
+use ways::step;
+
+// How a walk ended, and the bytes of its records.
+pub struct Walked {
+    pub finish: Finish,
+    pub bytes: usize,
+}
+
+// From {v} to the path's end, or until the budget is spent: the number of places left counts down. The record of a
+// place goes from byte `from` to byte `end`. It is counted where the move to the place is made, whose rule the compiler
+// then knows, and stored where the walk writes.
+pub fn follow(
+    g: Grid,
+    binomials: &[u16; ENTRIES],
+    table: &[u8],
+    previous: &[u8; 16],
+    next: &[u8; 16],
+    sizes: &[u8; 16],
+    first: &mut [u16; 16],
+    order: &mut [u32; 16],
+    trail: &mut [u8],
+    writes: bool,
+    budget: u64,
+) -> Walked
+    ghost { Round }
+    requires { λ w. ⌜ round previous next sizes ≡ w ⌝ }
+    requires { λ w. ⌜ CanWalk g w (now binomials) (now first) (now order) (now table) ⌝ }
+    requires { λ _. ⌜ HasRoomForTrail (problemIn g (now first) (now table)) writes (length (now trail)) ⌝ }
+    ensures { λ w r. ⌜ Finished (problemIn g (now (first .entry)) (now (table .entry))) budget w
+        (now (first .exit)) (now (order .exit)) (r .finish) ⌝ }
+    ensures { λ _ r. ⌜ Recorded (problemIn g (now (first .entry)) (now (table .entry))) writes
+        (now (trail .entry)) (now (trail .exit)) (r .bytes) (r .finish) ⌝ }
+{
+    let mut coefficients = [0u16; 16];
+    let mut marks = [0u32; 16];
+    let tails = positions::tails(first, g.indices);
+    let mut before = Before {
+        t: 0,
+        u: 0,
+        gone: 0,
+    };
+    let mut from: usize = 0;
+    let mut end: usize = 3;
+    let mut at = Stand {
+        status: begin(first, g.indices),
+        left: budget,
+        labels: 1,
+    };
+    while 0 < at.left {
+        let s = at.status;
+        let looked = look_up(
+            g,
+            binomials,
+            &tails,
+            table,
+            previous,
+            sizes,
+            first,
+            &coefficients,
+            order,
+            &mut marks,
+            s,
+        );
+        if let Looked::Unknown(position) = looked {
+            return Walked {
+                finish: Finish::Unknown {
+                    places: budget - at.left,
+                    position,
+                },
+                bytes: from,
+            };
+        }
+        let gone = tell(&marks, s, trail, from, before, writes);
+        let outcome = step(
+            previous,
+            next,
+            sizes,
+            first,
+            &mut coefficients,
+            order,
+            &mut marks,
+            s,
+        );
+        if let Outcome::PlaceEnd(_) = outcome {
+            return Walked {
+                finish: ended(at, outcome, budget),
+                bytes: end,
+            };
+        }
+        if let Outcome::FacetEnd(_) = outcome {
+            return Walked {
+                finish: ended(at, outcome, budget),
+                bytes: end,
+            };
+        }
+        if let Outcome::Moved(status) = outcome {
+            before = Before {
+                t: s.t,
+                u: s.u,
+                gone,
+            };
+            from = end;
+            end += bytes_to(s, status);
+            at = on(at, status);
+        }
+    }
+    Walked {
+        finish: Finish::Spent,
+        bytes: from,
+    }
+}

@@ -1,4 +1,0 @@
-pub mod Shows
-pub mod Stripped
-pub mod Reached
-pub mod Moves

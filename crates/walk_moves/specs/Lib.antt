@@ -1,3 +1,0 @@
-pub mod Counted
-pub mod Lent
-pub mod Spare
