@@ -8,7 +8,7 @@ use denote.Ref.{now}
 use Rattle.combinatorics.specs.Edits.{rotateLeft, rotateRight}
 use Rattle.grid_points.specs.Grid.{at}
 use Rattle.rules.specs.Ready.{IndicesBelow, testedBefore, SixteenEach}
-use Rattle.rules.specs.Step.{shifted, changedBefore}
+use Rattle.rules.specs.Moves.{shifted, changedBefore}
 use Rattle.arrays.specs.Rounds.{Lent, LentBoth}
 
 -- n steps at the front of the order, with their marks, can move on by a step at h that takes from b

@@ -3,7 +3,7 @@ use mathlib.Core.List.{List, []}
 use Prim.Native.Nat.{ℕ}
 use denote.Ref.{RefT, now}
 use denote.Triple.Both.{Both}
-use Rattle.rules.specs.Step.{Round}
+use Rattle.rules.specs.Moves.{Round}
 
 -- a lent array, as a `requires` sees it, and as an `ensures` does
 abbrev pub Lent : Type 0

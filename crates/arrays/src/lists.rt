@@ -6,7 +6,7 @@ ghost use lib.ListN.{length, take};
 ghost use Rattle.combinatorics.specs.Edits.{insertAt, removeAt, swapAt, rotateLeft, rotateRight, found};
 ghost use Rattle.grid_points.specs.Grid.{at};
 ghost use Rattle.rules.specs.Ready.{HasEntry, IsEntry};
-ghost use Rattle.rules.specs.Step.{markLabel, markPosition};
+ghost use Rattle.rules.specs.Moves.{markLabel, markPosition};
 
 pub fn wide32(x: u32) -> usize
     ensures { λ r. ⌜ r ≡ x ⌝ }

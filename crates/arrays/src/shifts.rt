@@ -5,7 +5,7 @@ ghost use Prim.Native.Nat.{suc, pred, _≤_, _<_};
 ghost use lib.Dec.{ltb};
 ghost use Rattle.grid_points.specs.Grid.{at};
 ghost use Rattle.rules.specs.Ready.{IndicesBelow, testedBefore};
-ghost use Rattle.rules.specs.Step.{shifted, changedBefore};
+ghost use Rattle.rules.specs.Moves.{shifted, changedBefore};
 use grid::wide;
 
 // 1 more at h, 1 less at b.

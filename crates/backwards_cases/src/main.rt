@@ -14,7 +14,7 @@ use walk_places::Walk;
 use walk_views::at_start;
 use walk_views::points;
 use walk_views::turned;
-use walk_ways::Answer;
+use walk_ways::WalkAnswer;
 
 // A walk, and the walk one call before.
 struct Both {
@@ -30,13 +30,13 @@ fn print_points(w: Walk, labels: &[u8]) {
 }
 
 // What a call has answered, and whether it has moved the walk.
-fn print_answer(answer: Answer) -> bool {
+fn print_answer(answer: WalkAnswer) -> bool {
     match answer {
-        Answer::Refused(number) => {
+        WalkAnswer::Refused(number) => {
             show(b"refused ", number as u64);
             false
         }
-        Answer::Ended {
+        WalkAnswer::Ended {
             kind,
             block,
             vertices,
@@ -46,7 +46,7 @@ fn print_answer(answer: Answer) -> bool {
             show(b"vertices ", vertices as u64);
             false
         }
-        Answer::Moved(rule) => {
+        WalkAnswer::Moved(rule) => {
             show(b"rule ", rule as u64);
             true
         }

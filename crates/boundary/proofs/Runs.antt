@@ -15,14 +15,14 @@ use Rattle.questions.specs.Questions.{firstNo}
 use Rattle.grid_points.proofs.Accepted.{accepted}
 use Rattle.grid_points.specs.Grid.{Point, points, lent}
 use Rattle.grid_points.specs.Questions.{question5}
-use Rattle.place.specs.Path.{Answer as PathAnswer, answer, ended, spent, unknown}
+use Rattle.place.specs.Path.{PathAnswer, answer, ended, spent, unknown}
 use Rattle.place.specs.Places.{Simplex}
 use Rattle.place.specs.Problem.{Problem, problemOf}
 use Rattle.place.specs.Questions.{question8, tableQuestions}
 use Rattle.check_simplices.proofs.Tests.{has-start-with}
 use Rattle.finder.specs.Run.{caseOf, runRefusal, runAnswer}
-use Rattle.finder.specs.declared.answers.Answer.{Answer}
-use Rattle.finder.specs.declared.answers.Answer.the-variants.{End, Refused, Unknown}
+use Rattle.finder.specs.declared.answers.RunAnswer.{RunAnswer}
+use Rattle.finder.specs.declared.answers.RunAnswer.the-variants.{End, Refused, Unknown}
 use Rattle.game_labels.specs.declared.Labelled.the-variants.{Written}
 use Rattle.boundary_labels.proofs.Ends.{accepted-again, over-new-table}
 use Rattle.boundary_labels.specs.Boundary.{isInterior}
@@ -33,7 +33,7 @@ use Rattle.boundary.specs.Runs.{CallsLeadToPlaceEnds}
 
 module _ (p : Problem) (room budget : ℕ) where
   -- an answer that is no refusal is the path's, and questions 1 to 7 are answered yes
-  unrefused : (a : Answer) → ((n : ℕ) → Refused n ≡ a → ⊥) → runAnswer p room budget ≡ a
+  unrefused : (a : RunAnswer) → ((n : ℕ) → Refused n ≡ a → ⊥) → runAnswer p room budget ≡ a
       → (firstNo (tableQuestions p) ≡ 0) × (caseOf (answer p budget) ≡ a)
   unfolding runAnswer
   unrefused a never e = go (eqb (runRefusal p room) 0) refl e

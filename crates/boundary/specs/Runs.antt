@@ -12,7 +12,7 @@ use Rattle.grid_points.specs.Questions.{question5}
 use Rattle.place.specs.Problem.{Problem, problemOf}
 use Rattle.place.specs.Questions.{question8}
 use Rattle.finder.specs.Run.{runRefusal, runAnswer}
-use Rattle.finder.specs.declared.answers.Answer.the-variants.{End, Unknown}
+use Rattle.finder.specs.declared.answers.RunAnswer.the-variants.{End, Unknown}
 use Rattle.game_labels.specs.declared.Labelled.the-variants.{Written}
 use Rattle.boundary_labels.specs.Boundary.{isInterior}
 use Rattle.boundary.specs.Call.{boundaryAnswer, boundaryBuffer}

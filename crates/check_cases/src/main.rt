@@ -6,13 +6,13 @@ use case_reader::next_case;
 use case_reader::show;
 use case_reader::show_text;
 use case_reader::words;
-use checker::Answer;
+use checker::CheckAnswer;
 
-fn print(answer: Answer) {
+fn print(answer: CheckAnswer) {
     match answer {
-        Answer::Refused(number) => show(b"refused ", number as u64),
-        Answer::Yes(block) => show(b"yes\nblock ", block as u64),
-        Answer::No => show_text(b"no\n"),
+        CheckAnswer::Refused(number) => show(b"refused ", number as u64),
+        CheckAnswer::Yes(block) => show(b"yes\nblock ", block as u64),
+        CheckAnswer::No => show_text(b"no\n"),
     }
 }
 

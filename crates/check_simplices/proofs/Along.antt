@@ -57,7 +57,7 @@ occurs-one o d k =
     ⊎-elim (λ t. omega (arith, occurs-once k o d t)) (λ f. omega (arith, never k o f)) (true-or-false (isIn eqb k o))
 
 -- the conditions of a simplex by name, which hold from each of its points on
-pub record Walk (g : Grid) (o : List ℕ) (s : List Point) : Type 0 where
+pub record Ordered (g : Grid) (o : List ℕ) (s : List Point) : Type 0 where
   pub steps : eachStepped g o s ≡ true
   pub onGrid : all (isGridPoint g) s ≡ true
   pub once : distinct eqb o ≡ true
@@ -66,9 +66,9 @@ pub record Walk (g : Grid) (o : List ℕ) (s : List Point) : Type 0 where
       → (f : ℕ) × (firstIndex g j ≤ f) × (f < firstIndex g j + size g j) × (isIn eqb f o ≡ false)
 
 module _ (g : Grid) where
-  pub walk-of : (o : List ℕ) (s : List Point) → isSimplex g o s ≡ true → Walk g o s
+  pub ordered-of : (o : List ℕ) (s : List Point) → isSimplex g o s ≡ true → Ordered g o s
   unfolding isSimplex isOrder
-  walk-of o s h =
+  ordered-of o s h =
       let on : Bool = all (isGridPoint g) s in
       let left : ℕ → Bool = λ j. eqb (length (filter (λ h. not (isIn eqb h o)) (indicesOf g j))) 1 in
       let a : Bool = within o (indices g) in
@@ -108,18 +108,18 @@ module _ (g : Grid) where
       (λ e. eq-eqb (next g k) h (ap (next g) (eqb-true k (previous g h) e) ∙ next-previous g h lh .0)))
 
   -- from the first point to the i-th go the first i indices
-  pub walk-rule : (o : List ℕ) (s : List Point) → eachStepped g o s ≡ true
+  pub ordered-rule : (o : List ℕ) (s : List Point) → eachStepped g o s ≡ true
       → ((h : ℕ) → isIn eqb h o ≡ true → h < numIndices g) → (i : ℕ) → i < length s → (k : ℕ) → k < numIndices g
       → at (nth s i) k + passed o i (next g k) ≡ at (nth s 0) k + passed o i k
-  walk-rule [] [] e b i l k x = absurd (omega arith)
-  walk-rule [] (y ∷ []) e b zero l k x = refl
-  walk-rule [] (y ∷ []) e b (suc i) l k x = absurd (omega arith)
-  walk-rule [] (y ∷ z ∷ s) e b i l k x = absurd-bool (sym e)
-  walk-rule (h ∷ o) [] e b i l k x = absurd (omega arith)
-  walk-rule (h ∷ o) (y ∷ []) e b i l k x = absurd-bool (sym e)
-  walk-rule (h ∷ o) (y ∷ z ∷ s) e b zero l k x = refl
-  walk-rule (h ∷ o) (y ∷ z ∷ s) e b (suc i) l k x =
-      let ih : at (nth (z ∷ s) i) k + passed o i (next g k) ≡ at z k + passed o i k = walk-rule o (z ∷ s)
+  ordered-rule [] [] e b i l k x = absurd (omega arith)
+  ordered-rule [] (y ∷ []) e b zero l k x = refl
+  ordered-rule [] (y ∷ []) e b (suc i) l k x = absurd (omega arith)
+  ordered-rule [] (y ∷ z ∷ s) e b i l k x = absurd-bool (sym e)
+  ordered-rule (h ∷ o) [] e b i l k x = absurd (omega arith)
+  ordered-rule (h ∷ o) (y ∷ []) e b i l k x = absurd-bool (sym e)
+  ordered-rule (h ∷ o) (y ∷ z ∷ s) e b zero l k x = refl
+  ordered-rule (h ∷ o) (y ∷ z ∷ s) e b (suc i) l k x =
+      let ih : at (nth (z ∷ s) i) k + passed o i (next g k) ≡ at z k + passed o i k = ordered-rule o (z ∷ s)
       (and-right (isStep g h y z) _ e) (λ a m. b a (in-later onNumbers a h o m)) i (omega arith) k x in
       omega (
         arith,
@@ -129,24 +129,24 @@ module _ (g : Grid) where
         occurs-more (next g k) h (take i o),
       )
 
-module _ {g : Grid} (A : Accepted g) {o : List ℕ} {s : List Point} (w : Walk g o s) (some : 0 < length s) where
-  pub on-walk : (i : ℕ) → i < length s → isGridPoint g (nth s i) ≡ true
-  on-walk i l = all-in onPoints (isGridPoint g) s (w .onGrid) (nth s i) (at-in onPoints [] s i l)
+module _ {g : Grid} (A : Accepted g) {o : List ℕ} {s : List Point} (w : Ordered g o s) (some : 0 < length s) where
+  pub on-ordered : (i : ℕ) → i < length s → isGridPoint g (nth s i) ≡ true
+  on-ordered i l = all-in onPoints (isGridPoint g) s (w .onGrid) (nth s i) (at-in onPoints [] s i l)
 
   -- so these are its coefficients, with the first point as the start
-  pub walk-coefficients : (i : ℕ) → i < length s
+  pub ordered-coefficients : (i : ℕ) → i < length s
       → coefficientsFrom g (nth s 0) (nth s i) ≡ tabulate (numIndices g) (passed o i)
-  walk-coefficients i l =
-      coefficients-by A (nth s 0) (nth s i) (on-walk 0 some) (on-walk i l) (passed o i)
+  ordered-coefficients i l =
+      coefficients-by A (nth s 0) (nth s i) (on-ordered 0 some) (on-ordered i l) (passed o i)
       (λ j x. let f = w .leaves j x in (f .0, f .1, f .2, omega (arith, passed-at-most o i f.0, never f.0 o f.3)))
-      (walk-rule g o s w.steps w.below i l)
+      (ordered-rule g o s w.steps w.below i l)
 
   -- of points of the simplex any two are nested: the first indices of one order
-  pub walk-nested : (zs : List Point) → ((z : Point) → isIn samePoint z zs ≡ true → isIn samePoint z s ≡ true)
+  pub ordered-nested : (zs : List Point) → ((z : Point) → isIn samePoint z zs ≡ true → isIn samePoint z s ≡ true)
       → Nested g zs (nth s 0)
-  walk-nested zs has = nested-by zs (nth s 0)
+  ordered-nested zs has = nested-by zs (nth s 0)
       (λ i l. passed o (seat i l .0))
-      (λ i l. let a = seat i l in rw a.2 at (walk-coefficients a.0 a.1))
+      (λ i l. let a = seat i l in rw a.2 at (ordered-coefficients a.0 a.1))
       (λ i l k. omega (arith, passed-at-most o (seat i l .0) k, occurs-one o w.once k))
       (λ i j l m.
       let a = seat i l .0 in
@@ -163,19 +163,19 @@ module _ {g : Grid} (A : Accepted g) {o : List ℕ} {s : List Point} (w : Walk g
 pub record FromFirst (g : Grid) (zs : List Point) : Type 0 where
   pub order : List ℕ
   pub points : List Point
-  pub walk : Walk g order points
+  pub ordered : Ordered g order points
   pub some : 0 < length points
   pub first : isIn samePoint (nth points 0) zs ≡ true
   pub has : (z : Point) → isIn samePoint z zs ≡ true → isIn samePoint z points ≡ true
 
 module _ (g : Grid) (zs : List Point) (z0 : Point) (m0 : isIn samePoint z0 zs ≡ true) where
-  pub from-first : (o : List ℕ) (s : List Point) → Walk g o s
+  pub from-first : (o : List ℕ) (s : List Point) → Ordered g o s
       → ((z : Point) → isIn samePoint z zs ≡ true → isIn samePoint z s ≡ true) → FromFirst g zs
   from-first o [] w h = absurd-bool (sym (h z0 m0))
   from-first [] (y ∷ []) w h = record {
     order = [];
     points = y ∷ [];
-    walk = w;
+    ordered = w;
     some = omega arith;
     has = h;
     first = ⊎-elim (λ e. rw e at m0) (λ n. absurd-bool (sym n)) (in-cases onPoints z0 y [] (h z0 m0));
@@ -184,7 +184,7 @@ module _ (g : Grid) (zs : List Point) (z0 : Point) (m0 : isIn samePoint z0 zs �
   from-first (a ∷ o) (y ∷ []) w h = absurd-bool (sym w.steps)
   from-first (a ∷ o) (y ∷ z ∷ s) w h = go (true-or-false (isIn samePoint y zs)) (from-first o (z ∷ s) rest)
     where
-      rest : Walk g o (z ∷ s)
+      rest : Ordered g o (z ∷ s)
       rest = record {
         steps = and-right (isStep g a y z) _ w.steps;
         onGrid = and-right (isGridPoint g y) (all (isGridPoint g) (z ∷ s)) w.onGrid;
@@ -197,6 +197,6 @@ module _ (g : Grid) (zs : List Point) (z0 : Point) (m0 : isIn samePoint z0 zs �
       go : (isIn samePoint y zs ≡ true) ⊎ (isIn samePoint y zs ≡ false)
           → (((z' : Point) → isIn samePoint z' zs ≡ true → isIn samePoint z' (z ∷ s) ≡ true) → FromFirst g zs)
           → FromFirst g zs
-      go (inl t) r = record { order = a ∷ o; points = y ∷ z ∷ s; walk = w; some = omega arith; first = t; has = h }
+      go (inl t) r = record { order = a ∷ o; points = y ∷ z ∷ s; ordered = w; some = omega arith; first = t; has = h }
       go (inr f) r =
           r (λ x m. ⊎-elim (λ e. absurd-bool (sym m ∙ (rw e f))) (λ n. n) (in-cases onPoints x y (z ∷ s) (h x m)))

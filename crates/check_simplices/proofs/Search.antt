@@ -27,7 +27,7 @@ use Rattle.grid_points.specs.Grid.{isGridPoint, samePoint, points}
 use Rattle.place.specs.Places.{unit, within}
 use Rattle.path_laws.proofs.IndexSets.{goes-at}
 use Rattle.path_laws.proofs.Meaning.{index-means}
-use Rattle.check_simplices.proofs.Along.{Walk, walk-of}
+use Rattle.check_simplices.proofs.Along.{Ordered, ordered-of}
 use Rattle.check_simplices.specs.Simplices.{isStep, isOrder, eachStepped, isSimplex, InOneSimplex, stepFrom}
 use Rattle.check_simplices.specs.Simplices.{pointsAlong, inOneSimplex}
 
@@ -61,7 +61,7 @@ module _ (g : Grid) where
   found : List Point → Point → List ℕ → Bool
   found zs y o = let s = pointsAlong g y o in isSimplex g o s && all (λ z. isIn samePoint z s) zs
 
-  order-few : {o : List ℕ} {s : List Point} → Walk g o s → length o ≤ numIndices g
+  order-few : {o : List ℕ} {s : List Point} → Ordered g o s → length o ≤ numIndices g
   order-few {o} w = omega (
     arith,
     pigeon onNumbers o (indices g) w.once (λ h m. index-means g h .1 (w .below h m)),
@@ -76,10 +76,10 @@ module _ (g : Grid) where
       os = selections (numIndices g) (indices g)
 
       to : InOneSimplex g zs → any (λ y. any (found zs y) (selections (numIndices g) (indices g))) (points g) ≡ true
-      to I = go I.points I.simplex I.has (walk-of g I.order I.points I.simplex)
+      to I = go I.points I.simplex I.has (ordered-of g I.order I.points I.simplex)
         where
           go : (s : List Point) → isSimplex g I.order s ≡ true → all (λ z. isIn samePoint z s) zs ≡ true
-              → Walk g I.order s
+              → Ordered g I.order s
               → any (λ y. any (found zs y) (selections (numIndices g) (indices g))) (points g) ≡ true
           go [] h a w = absurd (none I.order w.steps)
           go (y ∷ s) h a w =
@@ -142,7 +142,7 @@ module _ (g : Grid) (o : List ℕ) (s : List Point) (h : isSimplex g o s ≡ tru
   -- "all indices but one in each block" are n
   pub order-length : length o + numBlocks g ≡ numIndices g
   order-length =
-      let w = walk-of g o s h in
+      let w = ordered-of g o s h in
       let q : ℕ → Bool = λ k. isIn eqb k o in
       let a : length o ≤ length (filter q (indices g)) = pigeon onNumbers o (filter q (indices g)) w.once
       (λ k m. in-filter onNumbers q k (indices g) (index-means g k .1 (w .below k m)) m) in
@@ -157,7 +157,7 @@ module _ (g : Grid) (o : List ℕ) (s : List Point) (h : isSimplex g o s ≡ tru
 
   -- "all n + 1 points"
   pub simplex-size : length s ≡ suc (dimension g)
-  simplex-size = omega (arith, order-length, steps-long g o s (walk-of g o s h .steps))
+  simplex-size = omega (arith, order-length, steps-long g o s (ordered-of g o s h .steps))
 
 -- so of distinct points at most n + 1 lie in one simplex
 pub few-in-simplex : {g : Grid} (zs : List Point) → distinct samePoint zs ≡ true → InOneSimplex g zs

@@ -35,8 +35,9 @@ use Rattle.path_laws.proofs.FromChain.{place-of}
 use Rattle.path_laws.proofs.Positions.{at-in, in-at, same-at, at-distinct, never, occurs-once}
 use Rattle.path_laws.proofs.ToChain.{coefficientsOf, pointsOf, labelOf, indexOf, index-is, pointsOf-coefficientsOf}
 use Rattle.path_laws.specs.Demand.{HasStart}
-use Rattle.check_simplices.proofs.Along.{passed, passed-rises, passed-at-most, Walk, walk-of, walk-rule, on-walk}
-use Rattle.check_simplices.proofs.Along.{walk-coefficients}
+use Rattle.check_simplices.proofs.Along.{passed, passed-rises, passed-at-most, Ordered, ordered-of, ordered-rule}
+use Rattle.check_simplices.proofs.Along.{on-ordered}
+use Rattle.check_simplices.proofs.Along.{ordered-coefficients}
 use Rattle.check_simplices.proofs.Places.{unlabelled-in-simplex}
 use Rattle.check_simplices.proofs.Relabelled.{relabelled, label-at}
 use Rattle.check_simplices.proofs.Search.{left-one, steps-long}
@@ -58,8 +59,8 @@ passed-all [] k = refl
 passed-all (h ∷ o) k = let i = passed-all o k in ⊎-elim (λ t. rw t (ap suc i)) (λ f. rw f i) (true-or-false (eqb k h))
 
 module _ {g : Grid} (A : Accepted g) (o : List ℕ) (s : List Point) (h : isSimplex g o s ≡ true) where
-  w : Walk g o s
-  w = walk-of g o s h
+  w : Ordered g o s
+  w = ordered-of g o s h
 
   long : length s ≡ suc (length o)
   long = steps-long g o s w.steps
@@ -74,17 +75,17 @@ module _ {g : Grid} (A : Accepted g) (o : List ℕ) (s : List Point) (h : isSimp
   c j = coefficientOf Q (nth s j)
 
   ok : HasStart Q
-  ok = has-start g A (nth s 0) (on-walk A w some 0 some)
+  ok = has-start g A (nth s 0) (on-ordered A w some 0 some)
 
   c-is : (j : ℕ) → j < length s → (k : ℕ) → k < numIndices g → c j k ≡ passed o j k
   c-is j l k x =
-      ap (λ (l : List ℕ). at l k) (walk-coefficients A w some j l) ∙ getD-tabulate 0 (numIndices g) (passed o j) k x
+      ap (λ (l : List ℕ). at l k) (ordered-coefficients A w some j l) ∙ getD-tabulate 0 (numIndices g) (passed o j) k x
 
   -- outside the order every coefficient is 0
   c-out : (j : ℕ) → j < length s → (k : ℕ) → isIn eqb k o ≡ false → c j k ≡ 0
   c-out j l k f = ⊎-elim
       (λ (x : k < numIndices g). omega (arith, c-is j l k x, passed-at-most o j k, never k o f))
-      (λ (x : numIndices g ≤ k). beyond Q (coefficientOf-is ok (nth s j) (on-walk A w some j l)) k x)
+      (λ (x : numIndices g ≤ k). beyond Q (coefficientOf-is ok (nth s j) (on-ordered A w some j l)) k x)
       (before-or-not k (numIndices g))
 
   c-next : (j : ℕ) → suc j < length s → (k : ℕ) → k < numIndices g → c (suc j) k ≡ c j k + unit (at o j) k
@@ -156,7 +157,7 @@ module _ {g : Grid} (A : Accepted g) (o : List ℕ) (s : List Point) (h : isSimp
       ∙ next-in b.j b.i b.block b.inside (ap (λ (k : ℕ). isIn eqb k o) (sym b.is) ∙ e) in
       omega (
         arith,
-        walk-rule g o s w.steps w.below (length o) (omega (arith, long)) f x,
+        ordered-rule g o s w.steps w.below (length o) (omega (arith, long)) f x,
         passed-all o (next g f),
         passed-all o f,
         never f o e,
@@ -166,13 +167,13 @@ module _ {g : Grid} (A : Accepted g) (o : List ℕ) (s : List Point) (h : isSimp
   c-first : (k : ℕ) → c 0 k ≡ 0
   c-first k = ⊎-elim
       (λ (x : k < numIndices g). c-is 0 some k x)
-      (λ (x : numIndices g ≤ k). beyond Q (coefficientOf-is ok (nth s 0) (on-walk A w some 0 some)) k x)
+      (λ (x : numIndices g ≤ k). beyond Q (coefficientOf-is ok (nth s 0) (on-ordered A w some 0 some)) k x)
       (before-or-not k (numIndices g))
 
   chain : Chain (blocksOf Q) (λ k. isIn eqb k o) (length o) c (at o)
   chain =
       let R = blocksOf Q in
-      let is : (j : ℕ) → j < length s → _ = λ j l. coefficientOf-is ok (nth s j) (on-walk A w some j l) in
+      let is : (j : ℕ) → j < length s → _ = λ j l. coefficientOf-is ok (nth s j) (on-ordered A w some j l) in
       record {
         tight = λ j l k f.
             let m : j < length s = omega (arith, long) in
@@ -226,7 +227,8 @@ module _ {g : Grid} (A : Accepted g) (o : List ℕ) (s : List Point) (h : isSimp
           i .0,
           omega (arith, i .1),
           ap (labelOf P) (listAt-map (coefficientOf Q) s i.0 l)
-              ∙ ap (λ (y : Point). indexOf m (label P y)) (point-coefficientOf ok (nth s i.0) (on-walk A w some i.0 l))
+              ∙ ap (λ (y : Point). indexOf m (label P y))
+              (point-coefficientOf ok (nth s i.0) (on-ordered A w some i.0 l))
               ∙ ap (indexOf m) (label-at A (nth s 0) o s w.onGrid points-distinct i.0 l)
               ∙ omega (arith, n, i .2),
         );
@@ -237,7 +239,7 @@ module _ {g : Grid} (A : Accepted g) (o : List ℕ) (s : List Point) (h : isSimp
   simplex-place =
       let P = relabelled g (nth s 0) o s in
       let e : pointsOf Q (coefficientsOf Q s) ≡ s = pointsOf-coefficientsOf ok s w.onGrid in
-      and-left _ _ (rw e at (place-of (has-start-with g A (nth s 0) (on-walk A w some 0 some) P.labels) labelled))
+      and-left _ _ (rw e at (place-of (has-start-with g A (nth s 0) (on-ordered A w some 0 some) P.labels) labelled))
 
 -- points lie in one simplex exactly if they are part of a place, labels apart, for some start
 pub for-some-start : {g : Grid} → Accepted g → (zs : List Point) → InOneSimplex g zs ↔
@@ -247,7 +249,7 @@ for-some-start {g} A zs = (
   (λ I. (
     nth I.points 0,
     I .points,
-    on-walk A (walk-of g I.order I.points I.simplex) (some A I.order I.points I.simplex) 0
+    on-ordered A (ordered-of g I.order I.points I.simplex) (some A I.order I.points I.simplex) 0
         (some A I.order I.points I.simplex),
     simplex-place A I.order I.points I.simplex,
     I .has,

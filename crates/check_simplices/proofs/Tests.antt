@@ -28,7 +28,8 @@ use Rattle.path_laws.proofs.Coefficients.{coefficients-only}
 use Rattle.path_laws.proofs.Meaning.{index-means}
 use Rattle.path_laws.proofs.Positions.{at-in, in-at, same-at, at-distinct}
 use Rattle.path_laws.specs.Demand.{HasStart}
-use Rattle.check_simplices.specs.Chains.{startingAt, coefficientsFrom, zeroOrOne, inside, nested, pairwise, chainFrom}
+use Rattle.check_simplices.specs.Chains.{startingAt, coefficientsFrom, zeroOrOne, inside, nested, pairwise}
+use Rattle.check_simplices.specs.Chains.{chainFrom}
 
 -- nowhere above
 abbrev pub Below : (ℕ → ℕ) → (ℕ → ℕ) → Type 0

@@ -13,7 +13,7 @@ use Rattle.grid_points.proofs.Accepted.{Accepted}
 use Rattle.grid_points.proofs.Points.{onPoints}
 use Rattle.grid_points.specs.Grid.{Grid, Point, isGridPoint, samePoint}
 use Rattle.path_laws.proofs.Positions.{at-in}
-use Rattle.check_simplices.proofs.Along.{walk-of, walk-nested, from-first}
+use Rattle.check_simplices.proofs.Along.{ordered-of, ordered-nested, from-first}
 use Rattle.check_simplices.proofs.Grown.{in-simplex}
 use Rattle.check_simplices.proofs.Tests.{nested-of, distinct-of, chain-of}
 use Rattle.check_simplices.specs.Chains.{chainFrom, oneChain}
@@ -35,7 +35,7 @@ part-in {g} {zs} ys h I = record {
 -- and lies on the grid
 pub part-on-grid : {g : Grid} {zs : List Point} → InOneSimplex g zs → all (isGridPoint g) zs ≡ true
 part-on-grid {g} {zs} I = in-all onPoints (isGridPoint g) zs (λ z m.
-    all-in onPoints (isGridPoint g) I.points (walk-of g I.order I.points I.simplex .onGrid) z
+    all-in onPoints (isGridPoint g) I.points (ordered-of g I.order I.points I.simplex .onGrid) z
     (all-in onPoints (λ z. isIn samePoint z I.points) zs I.has z m))
 
 module _ {g : Grid} (A : Accepted g) (zs : List Point) (on : all (isGridPoint g) zs ≡ true) (some : 0 < length zs) where
@@ -46,9 +46,9 @@ module _ {g : Grid} (A : Accepted g) (zs : List Point) (on : all (isGridPoint g)
   unfolding oneChain
   only-if d I =
       let F = from-first g zs (nth zs 0) (at-in onPoints [] zs 0 some) I.order I.points
-      (walk-of g I.order I.points I.simplex) (all-in onPoints (λ z. isIn samePoint z I.points) zs I.has) in
+      (ordered-of g I.order I.points I.simplex) (all-in onPoints (λ z. isIn samePoint z I.points) zs I.has) in
       in-any onPoints (chainFrom g zs) (nth F.points 0) zs F.first
-      (chain-of A zs on (nth F.points 0) (listed _ F.first) (walk-nested A F.walk F.some zs F.has) d)
+      (chain-of A zs on (nth F.points 0) (listed _ F.first) (ordered-nested A F.ordered F.some zs F.has) d)
 
   -- the theorem
   pub one-simplex : (oneChain g zs ≡ true) ↔ ((distinct samePoint zs ≡ true) × InOneSimplex g zs)

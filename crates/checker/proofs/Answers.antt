@@ -28,7 +28,7 @@ use Rattle.checker.proofs.Covering.{whole-is}
 use Rattle.checker.proofs.ListRefusals.{most-few}
 use Rattle.checker.specs.Check.{question19, wholePoints, listedPoints, listQuestions, checkCase, checkAnswer}
 use Rattle.checker.specs.Covered.{IsCovered, Labelled, firstWhole}
-use Rattle.checker.specs.declared.Answer.the-variants.{Refused}
+use Rattle.checker.specs.declared.CheckAnswer.the-variants.{Refused}
 
 -- the verdict, by the test and the covered indices
 module _ {s : GridStruct} {count : ℕ} {numbers : List ℕ} (L : Listed s count numbers) (some : 1 ≤ count)

@@ -33,7 +33,7 @@ use Rattle.checker.proofs.Answers.{judged-is}
 use Rattle.checker.proofs.ListRefusals.{list-points, none-no}
 use Rattle.checker.specs.Check.{question19, wholePoints, listedPoints, checkAnswer}
 use Rattle.checker.specs.EachEnd.{EachEndGetsYes}
-use Rattle.checker.specs.declared.Answer.the-variants.{Yes}
+use Rattle.checker.specs.declared.CheckAnswer.the-variants.{Yes}
 
 -- points of m numbers, one after another
 map-later : {A : Type 0} (f : ℕ → A) (b n : ℕ) → map f (upFrom (suc b) n) ≡ map (λ k. f (suc k)) (upFrom b n)

@@ -13,8 +13,8 @@ use Rattle.grid_points.specs.Questions.{gridQuestions}
 use Rattle.place.specs.Questions.{question6, question7}
 use Rattle.check_simplices.specs.Simplices.{labelledBy, verdict}
 use Rattle.check_chains.specs.Listed.{listed}
-use Rattle.checker.specs.declared.Answer.{Answer}
-use Rattle.checker.specs.declared.Answer.the-variants.{Refused, Yes, No}
+use Rattle.checker.specs.declared.CheckAnswer.{CheckAnswer}
+use Rattle.checker.specs.declared.CheckAnswer.the-variants.{Refused, Yes, No}
 
 -- how many "whole points of m numbers" a list has
 abbrev pub wholePoints : Grid → List ℕ → ℕ
@@ -41,12 +41,12 @@ abbrev pub checkQuestions : Grid → List ℕ → List ℕ → List Question
 checkQuestions g labels numbers = gridQuestions g ++ listQuestions g labels numbers
 
 -- "says yes with the first block .., or no"; the block counts from 1
-abbrev pub checkCase : Option ℕ → Answer
+abbrev pub checkCase : Option ℕ → CheckAnswer
 checkCase none = No
 checkCase (some j) = Yes (suc j)
 
 -- "The checker takes grid, label table and a list of points"
-unfoldable pub checkAnswer : Grid → List ℕ → List ℕ → Answer
+unfoldable pub checkAnswer : Grid → List ℕ → List ℕ → CheckAnswer
 checkAnswer g labels numbers =
     let number = firstNo (checkQuestions g labels numbers) in
     cond (eqb number 0) (checkCase (verdict g labels (listedPoints g numbers))) (Refused number)

@@ -8,7 +8,7 @@ use Rattle.place.specs.Path.{answer, ended}
 use Rattle.place.specs.Places.{Simplex}
 use Rattle.place.specs.Problem.{Problem}
 use Rattle.checker.specs.Check.{checkAnswer}
-use Rattle.checker.specs.declared.Answer.the-variants.{Yes}
+use Rattle.checker.specs.declared.CheckAnswer.the-variants.{Yes}
 
 -- whatever the budget, an end that is announced gets yes with its block
 pub record EachEndGetsYes (p : Problem) : Type 0 where

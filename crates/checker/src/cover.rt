@@ -13,7 +13,7 @@ ghost use Rattle.check_chains.specs.Listed.{listed, Listed};
 ghost use Rattle.positions.specs.Binomials.{HasBinomials};
 ghost use Rattle.checker.specs.Check.{checkCase};
 ghost use Rattle.checker.specs.Covered.{IsCovered, firstWhole, Labelled, withLabel};
-use crate::Answer;
+use crate::CheckAnswer;
 use arrays::add;
 use arrays::has;
 use arrays::padded;
@@ -88,7 +88,7 @@ fn has_all(set: u16, first: usize, end: usize) -> bool
 }
 
 // The first block whose indices the set has all.
-pub fn first_whole(g: Grid, set: u16) -> Answer
+pub fn first_whole(g: Grid, set: u16) -> CheckAnswer
     requires { ⌜ IsMade g ⌝ }
     ensures { λ r. ⌜ r ≡ checkCase (firstWhole (shape g) set) ⌝ }
 {
@@ -99,9 +99,9 @@ pub fn first_whole(g: Grid, set: u16) -> Answer
     while j < blocks {
         let first = wide(firsts[j]);
         if has_all(set, first, first + wide(sizes[j])) {
-            return Answer::Yes(j as u8 + 1);
+            return CheckAnswer::Yes(j as u8 + 1);
         }
         j += 1;
     }
-    Answer::No
+    CheckAnswer::No
 }

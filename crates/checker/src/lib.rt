@@ -14,7 +14,7 @@ mod cover;
 mod refusals;
 
 // What the checker says of a list of points. It writes nothing.
-pub enum Answer {
+pub enum CheckAnswer {
     // The number of the first of questions 1 to 4, 6, 7 and 19 that is answered no.
     Refused(u8),
     // The points are distinct, belong to one simplex and are complete for this block, the first such, counted from 1.
@@ -23,13 +23,13 @@ pub enum Answer {
 }
 
 // The verdict on points of the grid.
-fn judged(g: Grid, labels: &[u8], numbers: &[u16], count: usize) -> Answer
+fn judged(g: Grid, labels: &[u8], numbers: &[u16], count: usize) -> CheckAnswer
     requires { ⌜ Listed g count (now numbers) × Labelled g (now labels) × (1 ≤ count) ⌝ }
     ensures { λ r. ⌜ r ≡ checkCase (verdict (shape g) (now (labels .entry))
         (listed (g .indices) count (now (numbers .entry)))) ⌝ }
 {
     if !check_chains::one_chain(g, numbers, count) {
-        return Answer::No;
+        return CheckAnswer::No;
     }
     let mut binomials = [0u16; ENTRIES];
     positions::binomials(g, &mut binomials);
@@ -39,7 +39,7 @@ fn judged(g: Grid, labels: &[u8], numbers: &[u16], count: usize) -> Answer
 
 // Questions 1 to 4, 6, 7 and 19 in this order, on every input, and then the verdict. The points stand one after another
 // in `numbers`, m numbers each.
-pub fn check(sizes: &[u8], divisions: &[u16], labels: &[u8], numbers: &[u16]) -> Answer
+pub fn check(sizes: &[u8], divisions: &[u16], labels: &[u8], numbers: &[u16]) -> CheckAnswer
     ensures { λ r. ⌜ r ≡ checkAnswer (lent (now (sizes .entry)) (now (divisions .entry)))
         (now (labels .entry)) (now (numbers .entry)) ⌝ }
 {
@@ -47,11 +47,11 @@ pub fn check(sizes: &[u8], divisions: &[u16], labels: &[u8], numbers: &[u16]) ->
     let code = made.code;
     let g = made.grid;
     if code != 0 {
-        return Answer::Refused(code);
+        return CheckAnswer::Refused(code);
     }
-    let number = refusals::first_no(g, labels, numbers);
+    let number = refusals::first_check_no(g, labels, numbers);
     if number != 0 {
-        return Answer::Refused(number);
+        return CheckAnswer::Refused(number);
     }
     let m = g.indices;
     judged(g, labels, numbers, numbers.len() / m)

@@ -49,7 +49,7 @@ fn is_list(g: Grid, numbers: &[u16]) -> bool
 }
 
 // The number of the first that is answered no, or 0, on a grid that is accepted.
-pub fn first_no(g: Grid, labels: &[u8], numbers: &[u16]) -> u8
+pub fn first_check_no(g: Grid, labels: &[u8], numbers: &[u16]) -> u8
     requires { ⌜ IsMade g ⌝ }
     ensures { λ r. ⌜ r ≡ firstNo (listQuestions (shape g) (now (labels .entry)) (now (numbers .entry))) ⌝ }
 {

@@ -3,7 +3,7 @@ pub mod Lists
 pub mod Ranges
 pub mod Rising
 pub mod Selections
-pub mod Walk
+pub mod Route
 pub mod Fronts
 pub mod EditsInsert
 pub mod EditsRemove

@@ -3,16 +3,16 @@ ghost use mathlib.Core.Path.{_≡_};
 ghost use Rattle.grid_points.specs.Grid.{lent};
 ghost use Rattle.checker.specs.Check.{checkAnswer};
 ghost use Rattle.exports.specs.Check.{checkNumber};
-use checker::Answer;
+use checker::CheckAnswer;
 
 // The answer as one number: a refusal's, 256 times the block where it is yes, 0 where it is no.
-fn check_number(answer: Answer) -> u16
+fn check_number(answer: CheckAnswer) -> u16
     ensures { λ r. ⌜ r ≡ checkNumber answer ⌝ }
 {
     match answer {
-        Answer::Refused(number) => number as u16,
-        Answer::Yes(block) => 256 * (block as u16),
-        Answer::No => 0,
+        CheckAnswer::Refused(number) => number as u16,
+        CheckAnswer::Yes(block) => 256 * (block as u16),
+        CheckAnswer::No => 0,
     }
 }
 

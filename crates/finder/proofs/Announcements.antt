@@ -1,4 +1,4 @@
--- From where a walk finished to a run's answer: the start in its array is the start, and the points of the last state
+-- From where a pass finished to a run's answer: the start in its array is the start, and the points of the last state
 -- are the answer's. Assumes nothing.
 use mathlib.Core.List.{List, []}
 use mathlib.Core.Path.{_≡_, sym, _∙_, subst}
@@ -22,12 +22,12 @@ use Rattle.grid.specs.declared.Grid.{Grid as GridStruct}
 use Rattle.moves.specs.Held.{stateOf}
 use Rattle.rules.specs.Read.{pointIn, pointsFrom}
 use Rattle.rules.specs.Ready.{IndicesBelow, IsRound, RoundBelow}
-use Rattle.rules.specs.Step.{Round, State}
+use Rattle.rules.specs.Moves.{Round, State}
 use Rattle.place.specs.Path.{answer}
 use Rattle.place.specs.Problem.{Problem}
 use Rattle.path_laws.specs.Demand.{Accepted}
 use Rattle.marks.specs.Reading.{problemFrom, Readable}
-use Rattle.path_pass.specs.Finish.{Announced, CanWalk, Finished, firstPointOf, problemIn}
+use Rattle.path_pass.specs.Finish.{Announced, CanPass, Finished, firstPointOf, problemIn}
 use Rattle.path_pass.specs.declared.Finish.{Finish}
 use Rattle.path_pass.specs.declared.Finish.the-variants.{Ended, Spent, Unknown as UnknownLabel}
 use Rattle.finder.specs.Finishes.{CanAnnounce, caseAt, numbersAt}
@@ -50,11 +50,11 @@ module _ {g : GridStruct} {binomials start table : List ℕ} (readable : Readabl
       rw (← start-long) (front-taken start (replicate 16 0)) in
       rw (e, f, h)
 
-  -- the walk can begin
-  pub can-walk : (round : Round) → IsRound (shape g) round → RoundBelow round
+  -- the pass can begin
+  pub can-pass : (round : Round) → IsRound (shape g) round → RoundBelow round
       → (taken : List ℕ) → taken ≡ front (take (g .indices) start) (replicate 16 0)
-      → (order : List ℕ) → length order ≡ 16 → CanWalk g round binomials taken order table
-  can-walk round is below taken e order long = record {
+      → (order : List ℕ) → length order ≡ 16 → CanPass g round binomials taken order table
+  can-pass round is below taken e order long = record {
     readable = readable;
     isRound = is;
     below = below;
@@ -94,7 +94,7 @@ module _ (g : GridStruct) (made : IsMade g) (start table : List ℕ) (budget pla
       (pointIn (problemFrom g start table) e)
       ∙ length-upFrom (firstPointOf kind) (suc (length (e .order)) - firstPointOf kind)
 
--- where a walk finished is the answer, and can be announced
+-- where a pass finished is the answer, and can be announced
 module _ (g : GridStruct) (made : IsMade g) (start table : List ℕ) (budget : ℕ)
     (previous next sizes first order : List ℕ) where
   abbrev pub FinishedBy : Finish → Type 0

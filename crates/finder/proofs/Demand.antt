@@ -13,15 +13,15 @@ use Rattle.end_kinds.specs.declared.Kind.{Kind}
 use Rattle.questions.specs.Questions.{firstNo}
 use Rattle.grid_points.specs.Grid.{bound}
 use Rattle.grid_points.specs.Questions.{gridQuestions}
-use Rattle.place.specs.Path.{Answer as PathAnswer, spent, ended, unknown, answer, pathLength}
+use Rattle.place.specs.Path.{PathAnswer, spent, ended, unknown, answer, pathLength}
 use Rattle.place.specs.Problem.{Problem, withLabels}
 use Rattle.path_laws.proofs.Filling.{filling-holds}
 use Rattle.path_laws.proofs.Theorem.{demand3-holds}
 use Rattle.path_laws.specs.Demand.{Accepted, Demand3, Ended, Filling}
 use Rattle.finder.specs.Demand.{Demand3InOnePiece, FillingInOnePiece, RunEnded, announcementOf}
 use Rattle.finder.specs.Run.{caseOf, numbersOf, runRefusal, runAnswer, runBuffer}
-use Rattle.finder.specs.declared.answers.Answer.{Answer}
-use Rattle.finder.specs.declared.answers.Answer.the-variants.{End, Spent, Unknown}
+use Rattle.finder.specs.declared.answers.RunAnswer.{RunAnswer}
+use Rattle.finder.specs.declared.answers.RunAnswer.the-variants.{End, Spent, Unknown}
 use Rattle.finder.proofs.Refusals.{accepted-with-room, answered, by-grid, by-later}
 
 -- an answer is told by its case
@@ -128,6 +128,6 @@ run-filling p labels room a b fills = record {
         → runAnswer q room budget ≡ runAnswer p room budget
     sames budget h = sym (told q room b budget) ∙ rw (filled .same budget (asked budget h)) (told p room a budget)
 
-    never : {places read block vertices n i : ℕ} {kind : Kind} (r : Answer) → r ≡ End places read kind block vertices
+    never : {places read block vertices n i : ℕ} {kind : Kind} (r : RunAnswer) → r ≡ End places read kind block vertices
         → r ≡ Unknown n i → ⊥
     never r e f = let z : _≡_ {A = ℕ} 0 1 = cc in omega arith

@@ -29,7 +29,7 @@ use Rattle.path_laws.specs.Demand.{Accepted}
 use Rattle.marks.specs.Reading.{problemFrom}
 use Rattle.finder.specs.Asked.{laterRunQuestions}
 use Rattle.finder.specs.Run.{caseOf, numbersOf, runRefusal, runAnswer, runBuffer}
-use Rattle.finder.specs.declared.answers.Answer.the-variants.{Refused}
+use Rattle.finder.specs.declared.answers.RunAnswer.the-variants.{Refused}
 
 -- the refusal, by questions 1 to 4 and those behind them
 module _ (p : Problem) (room : ℕ) where

@@ -16,12 +16,12 @@ use Rattle.place.specs.Path.{path as pathOf, pathLength}
 use Rattle.place.specs.Places.{unlabelled}
 use Rattle.place.specs.Problem.{Problem, withLabels}
 use Rattle.finder.specs.Run.{runRefusal, runAnswer, runBuffer}
-use Rattle.finder.specs.declared.answers.Answer.{Answer}
-use Rattle.finder.specs.declared.answers.Answer.the-variants.{End, Spent, Unknown}
+use Rattle.finder.specs.declared.answers.RunAnswer.{RunAnswer}
+use Rattle.finder.specs.declared.answers.RunAnswer.the-variants.{End, Spent, Unknown}
 
 -- "the kind, block and complete simplex of the path's end, and the length as the count of simplices visited"; the block
 -- counts from 1. Request 10: with the labels read on the path
-abbrev pub announcementOf : Problem → EndOfPath → Answer
+abbrev pub announcementOf : Problem → EndOfPath → RunAnswer
 announcementOf p e =
     End (pathLength p) (labelsRead (pathOf p .visited)) (e .kind) (suc (e .block)) (length (e .simplex))
 

@@ -1,4 +1,4 @@
--- What the finish of a walk tells, and what announcing it asks. The run's own promise does not cite it. Assumes
+-- What the finish of a pass tells, and what announcing it asks. The run's own promise does not cite it. Assumes
 -- nothing.
 use mathlib.Core.List.{List, []}
 use mathlib.Core.Path.{_≡_}
@@ -15,12 +15,12 @@ use Rattle.path_pass.specs.declared.Finish.{Finish}
 use Rattle.path_pass.specs.declared.Finish.the-variants.{Ended, Spent as BudgetSpent, Unknown as UnknownLabel}
 use Rattle.moves.specs.Room.{CanPut}
 use Rattle.rules.specs.Read.{numbersFrom}
-use Rattle.rules.specs.Step.{Round, State}
-use Rattle.finder.specs.declared.answers.Answer.{Answer}
-use Rattle.finder.specs.declared.answers.Answer.the-variants.{End, Spent, Unknown}
+use Rattle.rules.specs.Moves.{Round, State}
+use Rattle.finder.specs.declared.answers.RunAnswer.{RunAnswer}
+use Rattle.finder.specs.declared.answers.RunAnswer.the-variants.{End, Spent, Unknown}
 
 -- the answer's case
-abbrev pub caseAt : GridStruct → ℕ → Finish → Answer
+abbrev pub caseAt : GridStruct → ℕ → Finish → RunAnswer
 caseAt g budget (Ended kind places h s read) =
     End places read kind (suc (blockOf (shape g) h)) (suc (s .count) - firstPointOf kind)
 caseAt g budget (UnknownLabel places position) = Unknown places position

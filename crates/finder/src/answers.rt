@@ -8,7 +8,7 @@ ghost use Rattle.combinatorics.specs.Front.{front};
 ghost use Rattle.questions.specs.Questions.{firstNo};
 ghost use Rattle.grid_points.specs.Grid.{blockOf};
 ghost use Rattle.grid.specs.Made.{IsMade, shape};
-ghost use Rattle.place.specs.Path.{Answer as PathAnswer, answer as answerOf};
+ghost use Rattle.place.specs.Path.{PathAnswer, answer as answerOf};
 ghost use Rattle.place.specs.Problem.{problemOf};
 ghost use Rattle.marks.specs.Reading.{problemFrom};
 ghost use Rattle.finder.specs.Asked.{CanRun, laterRunQuestions};
@@ -22,11 +22,11 @@ use grid::Grid;
 use label_table::all_at_most;
 use moves::put_points;
 use path_pass::Finish;
-use path_pass::walk;
+use path_pass::pass;
 use positions::ENTRIES;
 
 // What a run answers. The block counts from 1. The vertices, m numbers each, stand at the front of the answer buffer.
-pub enum Answer {
+pub enum RunAnswer {
     // The number of the first of questions 1 to 8 that is answered no.
     Refused(u8),
     // Number 9: the path has not ended within the budget. The places visited equal the budget.
@@ -66,7 +66,7 @@ fn first_vertex(kind: Kind) -> usize
     }
 }
 
-// Where a walk finished, announced: the answer, and at an end its vertices at the front of the buffer.
+// Where a pass finished, announced: the answer, and at an end its vertices at the front of the buffer.
 pub fn announce(
     g: Grid,
     previous: &[u8; 16],
@@ -76,7 +76,7 @@ pub fn announce(
     finish: Finish,
     answer: &mut [u16],
     budget: u64,
-) -> Answer
+) -> RunAnswer
     requires { ⌜ CanAnnounce g (roundBack previous sizes) (now first) (now order) (length (now answer)) finish ⌝ }
     ensures { λ r. ⌜ r ≡ caseAt g budget finish ⌝ }
     ensures { λ _. ⌜ now (answer .exit) ≡ front (numbersAt (g .indices)
@@ -84,8 +84,8 @@ pub fn announce(
         (now (answer .entry)) ⌝ }
 {
     match finish {
-        Finish::Spent => Answer::Spent(budget),
-        Finish::Unknown { places, position } => Answer::Unknown { places, position },
+        Finish::Spent => RunAnswer::Spent(budget),
+        Finish::Unknown { places, position } => RunAnswer::Unknown { places, position },
         Finish::Ended {
             kind,
             places,
@@ -105,7 +105,7 @@ pub fn announce(
                 g.indices,
                 from,
             );
-            Answer::End {
+            RunAnswer::End {
                 places,
                 labels_read,
                 kind,
@@ -116,7 +116,7 @@ pub fn announce(
     }
 }
 
-// The walk along the path of an accepted table, and its answer: the run behind all its questions. A refinement calls it
+// The pass along the path of an accepted table, and its answer: the run behind all its questions. A refinement calls it
 // too, which has asked them of its levels.
 pub fn announced(
     g: Grid,
@@ -125,7 +125,7 @@ pub fn announced(
     labels: &[u8],
     answer: &mut [u16],
     budget: u64,
-) -> Answer
+) -> RunAnswer
     ghost { PathAnswer }
     requires { λ p. ⌜ answerOf (problemFrom g (now start) (now labels)) budget ≡ p ⌝ }
     requires { λ _. ⌜ CanRun g (now binomials) (now start) (now labels) (now answer) ⌝ }
@@ -138,7 +138,7 @@ pub fn announced(
     let sizes = block_sizes(g);
     let mut first = padded(start, m);
     let mut order = [0u32; 16];
-    let finish = walk(
+    let finish = pass(
         g,
         binomials,
         labels,
@@ -153,7 +153,7 @@ pub fn announced(
 }
 
 // Questions 5 to 8, on a grid that is accepted: the number of the first that is answered no, or 0.
-pub fn first_no(g: Grid, start: &[u16], labels: &[u8], room: usize) -> u8
+pub fn first_run_no(g: Grid, start: &[u16], labels: &[u8], room: usize) -> u8
     requires { ⌜ IsMade g ⌝ }
     ensures { λ r. ⌜ r ≡ firstNo (laterRunQuestions (problemFrom g (now (start .entry)) (now (labels .entry))) room) ⌝ }
 {
@@ -175,16 +175,16 @@ pub fn first_no(g: Grid, start: &[u16], labels: &[u8], room: usize) -> u8
 
 // Questions 5 to 9 in document 01's order, on a grid that is made. The printer calls it too: a slip has answered
 // questions 1 to 4.
-pub fn run_on(g: Grid, start: &[u16], labels: &[u8], answer: &mut [u16], budget: u64) -> Answer
+pub fn run_on(g: Grid, start: &[u16], labels: &[u8], answer: &mut [u16], budget: u64) -> RunAnswer
     requires { ⌜ IsMade g ⌝ }
     ensures answer { λ r. ⌜ r
         ≡ runAnswer (problemFrom g (now (start .entry)) (now (labels .entry))) (length (now (answer .entry))) budget ⌝ }
     ensures buffer { λ _. ⌜ now (answer .exit)
         ≡ runBuffer (problemFrom g (now (start .entry)) (now (labels .entry))) budget (now (answer .entry)) ⌝ }
 {
-    let number = first_no(g, start, labels, answer.len());
+    let number = first_run_no(g, start, labels, answer.len());
     if number != 0 {
-        return Answer::Refused(number);
+        return RunAnswer::Refused(number);
     }
     let mut binomials = [0u16; ENTRIES];
     positions::binomials(g, &mut binomials);
@@ -200,7 +200,7 @@ pub fn run(
     labels: &[u8],
     answer: &mut [u16],
     budget: u64,
-) -> Answer
+) -> RunAnswer
     ensures answer { λ r. ⌜ r ≡ runAnswer
         (problemOf (now (sizes .entry)) (now (divisions .entry)) (now (start .entry)) (now (labels .entry)))
         (length (now (answer .entry))) budget ⌝ }
@@ -212,7 +212,7 @@ pub fn run(
     let code = made.code;
     let g = made.grid;
     if code != 0 {
-        return Answer::Refused(code);
+        return RunAnswer::Refused(code);
     }
     run_on(g, start, labels, answer, budget)
 }

@@ -4,26 +4,26 @@ ghost use Prim.Native.Nat.{_≤_};
 ghost use lib.ListN.{length};
 ghost use Rattle.combinatorics.specs.Front.{front};
 ghost use Rattle.finder.specs.Numbers.{runFacts, runNumber};
-use crate::Answer;
+use crate::RunAnswer;
 use end_kinds::kind_number;
 
 // The facts to the front of their buffer, and the number.
-pub fn put_answer(answer: Answer, facts: &mut [u64]) -> u8
+pub fn put_answer(answer: RunAnswer, facts: &mut [u64]) -> u8
     requires { ⌜ 5 ≤ length (now facts) ⌝ }
     ensures { λ r. ⌜ (r ≡ runNumber answer) × (now (facts .exit) ≡ front (runFacts answer) (now (facts .entry))) ⌝ }
 {
     match answer {
-        Answer::Refused(number) => number,
-        Answer::Spent(visited) => {
+        RunAnswer::Refused(number) => number,
+        RunAnswer::Spent(visited) => {
             facts[0] = visited;
             9
         }
-        Answer::Unknown { places, position } => {
+        RunAnswer::Unknown { places, position } => {
             facts[0] = places;
             facts[1] = position as u64;
             16
         }
-        Answer::End {
+        RunAnswer::End {
             places,
             labels_read,
             kind,

@@ -38,7 +38,8 @@ use Rattle.game_losses.proofs.Replaced.{mix-lengths, expected-weights, replaced
 use Rattle.game_corners.proofs.Rows.{part-before, part-within}
 use Rattle.game_losses.proofs.Weights.{length-weights, weighed-at}
 use Rattle.game_corners.specs.Corners.{signedAt, column, lastPlayer, unitVector, corner, cornerGrid, Cornered}
-use Rattle.game_losses.specs.Game.{product, dot, mix, opponents, ownFirst, lossesOf, expectedLoss, replacedLoss, playerLoss}
+use Rattle.game_losses.specs.Game.{product, dot, mix, opponents, ownFirst, lossesOf, expectedLoss, replacedLoss}
+use Rattle.game_losses.specs.Game.{playerLoss}
 use Rattle.game_losses.specs.Game.{difference}
 use Rattle.points_in_order.specs.Lent.{PointWithFirsts}
 use Rattle.game_losses.specs.Weights.{weights, strategyLosses}

@@ -16,7 +16,8 @@ use Rattle.grid_points.proofs.Round.{block-at, block-fits}
 use Rattle.grid_points.specs.Grid.{Grid, Point, at, numIndices, division, size, firstIndex, blockOf, blocks, indicesOf}
 use Rattle.points_in_order.proofs.Blocks.{block-length}
 use Rattle.game_losses.proofs.Weights.{dot-spread, length-weighed, chances}
-use Rattle.game_losses.specs.Game.{dot, profiles, chance, mix, opponents, ownFirst, lossesOf, expectedLoss, replaced}
+use Rattle.game_losses.specs.Game.{dot, profiles, chance, mix, opponents, ownFirst, lossesOf, expectedLoss}
+use Rattle.game_losses.specs.Game.{replaced}
 use Rattle.game_losses.specs.Game.{replacedLoss, playerLoss}
 use Rattle.game_losses.specs.Weights.{weighed, weights, strategyLosses}
 

@@ -9,7 +9,7 @@ use grid_counts::each_one;
 use grid_counts::each_two;
 use grid_counts::first_index;
 
-pub fn first_no(sizes: &[u8], divisions: &[u16]) -> u8
+pub fn first_grid_no(sizes: &[u8], divisions: &[u16]) -> u8
     ensures { λ r. ⌜ r ≡ firstNo (gridQuestions (lent (now (sizes .entry)) (now (divisions .entry)))) ⌝ }
 {
     let blocks = sizes.len();

@@ -64,7 +64,7 @@ impl Grid {
     pub fn new(sizes: &[u8], divisions: &[u16]) -> Made
         ensures { λ r. ⌜ r ≡ madeOf (lent (now (sizes .entry)) (now (divisions .entry))) ⌝ }
     {
-        let code = grid_questions::first_no(sizes, divisions);
+        let code = grid_questions::first_grid_no(sizes, divisions);
         if code == 0 {
             let grid = build::built(sizes, divisions);
             Made { code, grid }

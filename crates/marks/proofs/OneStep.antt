@@ -16,7 +16,7 @@ use Rattle.grid_points.specs.Grid.{position}
 use Rattle.grid.specs.Made.{IsMade, shape}
 use Rattle.grid.specs.declared.Grid.{Grid as GridStruct}
 use Rattle.rules.specs.Read.{Falling, FallsBeside, pointOn, positionAt, sourceAt, stepAt}
-use Rattle.rules.specs.Step.{State}
+use Rattle.rules.specs.Moves.{State}
 use Rattle.marks.specs.Reading.{CanWeigh, FallsBy, tailBy}
 
 -- a step that lowers the position

@@ -24,7 +24,7 @@ use Rattle.place.specs.Problem.{label}
 use Rattle.rules.proofs.PointsAfter.{after-taken, counts-add, counts-ready, few-ready, length-after}
 use Rattle.moves.specs.Held.{stateOf}
 use Rattle.rules.specs.Read.{Exchanged, ReadyPoint, pointAfter, pointOn, positionAt, stepAt}
-use Rattle.rules.specs.Step.{State, Round, mark, source, sourceIn}
+use Rattle.rules.specs.Moves.{State, Round, mark, source, sourceIn}
 use Rattle.moves.specs.declared.Status.{Status}
 use Rattle.marks.specs.Reading.{Readable, CanFind, CanReadPoint, HasOrder, addUp, isBetween, labelReading}
 use Rattle.marks.specs.Reading.{tableProblem}

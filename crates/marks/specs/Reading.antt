@@ -15,7 +15,7 @@ use Rattle.grid.specs.declared.Grid.{Grid as GridStruct}
 use Rattle.place.specs.Problem.{Problem, label}
 use Rattle.rules.specs.Ready.{IndicesBelow}
 use Rattle.rules.specs.Read.{markOf, pointOn, Exchanged, FallsBeside, CanCompute}
-use Rattle.rules.specs.Step.{Round, State}
+use Rattle.rules.specs.Moves.{Round, State}
 use Rattle.moves.specs.Held.{stateOf}
 use Rattle.moves.specs.declared.Status.{Status}
 use Rattle.marks.specs.declared.LookedUp.{LookedUp}

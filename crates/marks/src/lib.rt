@@ -1,5 +1,5 @@
 // The mark of the point that has just come in: its position, by the marks around it or by its steps, and its label in
-// the table. What is public here is for the finder's walk, which shows what it asks.
+// the table. What is public here is for the finder's pass, which shows what it asks.
 ghost use mathlib.Core.List.{List, []};
 ghost use mathlib.Core.Path.{_≡_};
 ghost use Prim.Native.Nat.{ℕ, _≤_, _<_};
@@ -11,7 +11,7 @@ ghost use Rattle.moves.specs.Held.{stateOf, held};
 ghost use Rattle.positions.specs.Binomials.{Measured};
 ghost use Rattle.rules.specs.Read.{pointOn};
 ghost use Rattle.rules.specs.Ready.{IndicesBelow};
-ghost use Rattle.rules.specs.Step.{State, firstOutside};
+ghost use Rattle.rules.specs.Moves.{State, firstOutside};
 ghost use Rattle.marks.specs.Reading.{tableProblem, labelReading, isBetween, addUp, Readable, CanFind};
 ghost use Rattle.marks.specs.Reading.{CanReadPoint, FindsCorner, HasOrder, HasSquare, heldSteps};
 use arrays::first_outside;
@@ -21,9 +21,9 @@ use grid::Grid;
 use label_table::read_at;
 use moves::Status;
 use moves::advance;
-pub use one_step::Found;
-pub use one_step::by_step_from;
-pub use one_step::by_step_to;
+use one_step::Found;
+use one_step::by_step_from;
+use one_step::by_step_to;
 use positions::ENTRIES;
 
 mod one_step;
@@ -87,7 +87,7 @@ fn position_by_steps(
 
 // The position of the point that has just come in between two steps that changed places, by the marks of the other
 // corners of their square if these add up. The point that left has still its mark there.
-pub fn by_square(
+fn by_square(
     g: Grid,
     previous: &[u8; 16],
     sizes: &[u8; 16],
@@ -114,7 +114,7 @@ pub fn by_square(
 }
 
 // The position of the point that has just come in, by one step in a grid of one block, and else by all its steps.
-pub fn position_apart(
+fn position_apart(
     g: Grid,
     binomials: &[u16; ENTRIES],
     tails: &[u32; 16],

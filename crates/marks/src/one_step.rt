@@ -8,7 +8,7 @@ ghost use lib.ListN.{take};
 ghost use Rattle.arrays.specs.Rounds.{roundBack};
 ghost use Rattle.moves.specs.Held.{heldButFirst};
 ghost use Rattle.positions.specs.Binomials.{Measured};
-ghost use Rattle.rules.specs.Step.{State};
+ghost use Rattle.rules.specs.Moves.{State};
 ghost use Rattle.marks.specs.Reading.{CanFall, CanWeigh, FallsBy, FindsBeside, HasOrder};
 use arrays::first_outside;
 use arrays::index_at;

@@ -18,9 +18,9 @@ use Rattle.rules.proofs.FirstMet.{entry}
 use Rattle.rules.specs.Mask.{bit, withIndex, withoutIndex}
 use Rattle.moves.specs.Held.{stateOf, answered}
 use Rattle.rules.specs.Ready.{testedBefore, SixteenEach, ReadyFirst, ReadyLast, ReadyLeave, ReadyGrow, labelIn, Ready}
-use Rattle.rules.specs.Step.{State, Round, After, goes, endsAtPlace, endsAtFacet, markLabel, firstOutside, sourceIn}
-use Rattle.rules.specs.Step.{firstOutsideOrZero, isFilled, shifted, changedBefore, shrink, joined, grow, leaveFirst}
-use Rattle.rules.specs.Step.{leaveMiddle, leaveLast, leave, step}
+use Rattle.rules.specs.Moves.{State, Round, After, goes, endsAtPlace, endsAtFacet, markLabel, firstOutside, sourceIn}
+use Rattle.rules.specs.Moves.{firstOutsideOrZero, isFilled, shifted, changedBefore, shrink, joined, grow, leaveFirst}
+use Rattle.rules.specs.Moves.{leaveMiddle, leaveLast, leave, makeMove}
 use Rattle.moves.specs.declared.Outcome.{Outcome}
 use Rattle.moves.specs.declared.Outcome.the-variants.{Moved, PlaceEnd, FacetEnd}
 use Rattle.moves.specs.declared.Status.{Status}
@@ -286,8 +286,8 @@ module _ (s : State) where
   pub leaving-ready : (i : ℕ) → Ready s → Leaving s i → ReadyLeave s i
   leaving-ready i r l = ⊎-elim (λ w. rw (w .1) (r .goesOn (w .0))) (λ w. rw (w .2) (r .leaves (w .0) (w .1))) l
 
-  pub leaving-leaves : (i : ℕ) → Leaving s i → leave s i ≡ step s
-  unfolding step
+  pub leaving-leaves : (i : ℕ) → Leaving s i → leave s i ≡ makeMove s
+  unfolding makeMove
   leaving-leaves i l =
       ⊎-elim (λ w. rw (w .1, le-ltb (s .rule) 6 (w .0))) (λ w. rw (w .2, lt-ltb (s .rule) 6 (w .0), w .1)) l
 
@@ -301,8 +301,8 @@ module _ (s : State) where
         let ready : bit (s .T) h ≡ false → ReadyGrow s h = rw (← atLabel, ← atH) at (r .grows read) in
         ready f
 
-    pub label-joins : bit (s .T) h ≡ false → grow s h ≡ step s
-    unfolding step
+    pub label-joins : bit (s .T) h ≡ false → grow s h ≡ makeMove s
+    unfolding makeMove
     label-joins e = rw (lt-ltb (s .rule) 6 read, ← atLabel, ← atH, e)
 
 -- the mark of the point that came in, in its array

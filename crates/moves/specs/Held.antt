@@ -7,7 +7,7 @@ use denote.Ref.{now}
 use Rattle.arrays.specs.Rounds.{Lent, LentBoth}
 use Rattle.grid_points.specs.Grid.{at}
 use Rattle.rules.specs.Ready.{IndicesBelow, RoundBelow, SixteenEach, Ready, ReadyGrow}
-use Rattle.rules.specs.Step.{State, Round, After, goes, endsAtPlace, endsAtFacet, sourceIn, joined}
+use Rattle.rules.specs.Moves.{State, Round, After, goes, endsAtPlace, endsAtFacet, sourceIn, joined}
 use Rattle.moves.specs.declared.Outcome.{Outcome}
 use Rattle.moves.specs.declared.Outcome.the-variants.{Moved, PlaceEnd, FacetEnd}
 use Rattle.moves.specs.declared.Status.{Status}

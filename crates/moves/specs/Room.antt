@@ -4,7 +4,7 @@ use Prim.Native.Nat.{ℕ, suc, _-_, _*_, _≤_}
 use lib.ListN.{length}
 use Rattle.rules.specs.Read.{CanCompute}
 use Rattle.rules.specs.Ready.{IndicesBelow}
-use Rattle.rules.specs.Step.{State}
+use Rattle.rules.specs.Moves.{State}
 
 -- the points of the place from number `from` on can be put into a buffer of `room` numbers, m each
 pub record CanPut (a : State) (m from room : ℕ) : Type 0 where

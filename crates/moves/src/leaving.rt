@@ -14,7 +14,7 @@ ghost use Rattle.moves.specs.Held.{held, heldBy, Gives, GivesAll, Sound,
 ghost use Rattle.moves.specs.Held.{IsFirstStep, IsLastStep, IsMiddle};
 ghost use Rattle.rules.specs.Mask.{bit};
 ghost use Rattle.rules.specs.Ready.{IndicesBelow, RoundBelow, ReadyFirst, ReadyLast, ReadyLeave};
-ghost use Rattle.rules.specs.Step.{State, goes, leaveFirst, leaveMiddle, leaveLast, shrink as shrunk, leave as left};
+ghost use Rattle.rules.specs.Moves.{State, goes, leaveFirst, leaveMiddle, leaveLast, shrink as shrunk, leave as left};
 use crate::Outcome;
 use crate::Status;
 use arrays::add;

@@ -10,7 +10,7 @@ ghost use Rattle.moves.specs.Held.{stateOf};
 ghost use Rattle.moves.specs.Room.{CanPut};
 ghost use Rattle.rules.specs.Read.{pointAfter, numbersFrom, ReadyPoint};
 ghost use Rattle.rules.specs.Ready.{IndicesBelow};
-ghost use Rattle.rules.specs.Step.{State, firstOutside};
+ghost use Rattle.rules.specs.Moves.{State, firstOutside};
 use crate::Status;
 use arrays::first_outside;
 use arrays::shift;

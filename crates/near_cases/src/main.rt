@@ -16,15 +16,15 @@ use case_reader::show_words;
 use case_reader::within_words;
 use case_reader::word;
 use case_reader::words;
-use finder::Answer;
+use finder::RunAnswer;
 use nearest::Nearest;
 
-fn print_run(run: Answer) {
+fn print_run(run: RunAnswer) {
     match run {
-        Answer::Refused(number) => print_refused(number),
-        Answer::Spent(places) => print_spent(places),
-        Answer::Unknown { places, position } => print_unknown(places, position as u64),
-        Answer::End {
+        RunAnswer::Refused(number) => print_refused(number),
+        RunAnswer::Spent(places) => print_spent(places),
+        RunAnswer::Unknown { places, position } => print_unknown(places, position as u64),
+        RunAnswer::End {
             places,
             labels_read,
             kind,

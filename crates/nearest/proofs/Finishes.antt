@@ -1,4 +1,4 @@
--- From where the walk finished to what is reported and listed. Assumes nothing.
+-- From where the pass finished to what is reported and listed. Assumes nothing.
 use mathlib.Core.List.{List}
 use mathlib.Core.Path.{_≡_}
 use Prim.Native.Nat.{ℕ}
@@ -10,7 +10,7 @@ use Rattle.path_pass.specs.declared.Finish.{Finish}
 use Rattle.path_pass.specs.declared.Finish.the-variants.{Ended, Spent, Unknown}
 use Rattle.place.specs.Path.{answer}
 use Rattle.place.specs.Problem.{Problem}
-use Rattle.rules.specs.Step.{Round}
+use Rattle.rules.specs.Moves.{Round}
 use Rattle.nearest_pass.specs.Survey.{Surveys}
 use Rattle.nearest_met.specs.declared.Tally.{Tally}
 use Rattle.nearest_visited.specs.Nearest.{positionsWithin}

@@ -16,13 +16,13 @@ use Rattle.questions.proofs.Answers.{asked-next, asked-no, both-yes, first-yes}
 use Rattle.questions.specs.Questions.{firstNo}
 use Rattle.grid_points.specs.Grid.{Point, isGridPoint, numPoints}
 use Rattle.grid_points.specs.Questions.{gridQuestions, question5}
-use Rattle.place.specs.Path.{Answer as PathAnswer, answer, ended, spent, unknown}
+use Rattle.place.specs.Path.{PathAnswer, answer, ended, spent, unknown}
 use Rattle.place.specs.Places.{Simplex}
 use Rattle.place.specs.Problem.{Problem}
 use Rattle.place.specs.Questions.{question6, question7, question8}
 use Rattle.finder.specs.Asked.{laterRunQuestions}
 use Rattle.finder.specs.Run.{caseOf, numbersOf}
-use Rattle.finder.specs.declared.answers.Answer.the-variants.{End, Refused, Unknown}
+use Rattle.finder.specs.declared.answers.RunAnswer.the-variants.{End, Refused, Unknown}
 use Rattle.nearest_visited.proofs.Nearest.{is-list}
 use Rattle.nearest_visited.specs.Questions.{pointQuestions, question8List}
 use Rattle.nearest.specs.Report.{nearAnswerBuffer, listBuffer, listedBy, nearRefusal, nearestIn, reportOf}

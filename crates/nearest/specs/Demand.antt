@@ -9,7 +9,7 @@ use Rattle.grid_points.specs.Grid.{Point, position}
 use Rattle.place.specs.Path.{pathLength}
 use Rattle.place.specs.Problem.{Problem}
 use Rattle.finder.specs.Run.{runAnswer, runBuffer}
-use Rattle.finder.specs.declared.answers.Answer.the-variants.{End, Unknown}
+use Rattle.finder.specs.declared.answers.RunAnswer.the-variants.{End, Unknown}
 use Rattle.nearest_visited.specs.Demand.{Distances, IsList, IsNearest, Visits}
 use Rattle.nearest_visited.specs.Nearest.{nearest, positionsWithin}
 use Rattle.nearest.specs.Report.{nearAnswerBuffer, listBuffer, nearRefusal, reportOf}

@@ -1,4 +1,4 @@
--- What the finish of the walk reports besides the run's answer. The call's own promise does not cite it. Assumes
+-- What the finish of the pass reports besides the run's answer. The call's own promise does not cite it. Assumes
 -- nothing.
 use Rattle.path_pass.specs.declared.Finish.{Finish}
 use Rattle.path_pass.specs.declared.Finish.the-variants.{Ended, Spent, Unknown}

@@ -8,10 +8,10 @@ use lib.ListN.{length}
 use Rattle.combinatorics.specs.Front.{front}
 use Rattle.questions.specs.Questions.{firstNo}
 use Rattle.grid_points.specs.Grid.{Point, position}
-use Rattle.place.specs.Path.{Answer as PathAnswer, answer, ended, spent, unknown}
+use Rattle.place.specs.Path.{PathAnswer, answer, ended, spent, unknown}
 use Rattle.place.specs.Problem.{Problem}
 use Rattle.finder.specs.Run.{caseOf, numbersOf}
-use Rattle.finder.specs.declared.answers.Answer.the-variants.{Refused}
+use Rattle.finder.specs.declared.answers.RunAnswer.the-variants.{Refused}
 use Rattle.nearest_visited.specs.Nearest.{nearest as nearestVertex, positionsWithin}
 use Rattle.nearest_visited.specs.Questions.{nearQuestions}
 use Rattle.nearest.specs.declared.Nearest.{Nearest}

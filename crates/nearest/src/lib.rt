@@ -9,7 +9,7 @@ ghost use Rattle.finder.specs.Run.{numbersOf};
 ghost use Rattle.grid_points.specs.Grid.{isGridPoint, numPoints};
 ghost use Rattle.questions.specs.Questions.{firstNo};
 ghost use Rattle.grid.specs.Made.{IsMade, shape};
-ghost use Rattle.place.specs.Path.{Answer as PathAnswer, answer as answerOf};
+ghost use Rattle.place.specs.Path.{PathAnswer, answer as answerOf};
 ghost use Rattle.place.specs.Problem.{problemOf};
 ghost use Rattle.marks.specs.Reading.{problemFrom};
 ghost use Rattle.nearest_visited.specs.Questions.{pointQuestions};
@@ -17,12 +17,12 @@ ghost use Rattle.nearest.specs.Finishes.{nearestAt};
 ghost use Rattle.nearest.specs.Report.{nearAnswerBuffer, listBuffer, listedBy, reportOf, reported};
 use arrays::block_sizes;
 use arrays::padded;
-use finder::Answer;
+use finder::RunAnswer;
 use finder::announce;
 use grid::Grid;
 use nearest_met::Tally;
 use nearest_met::weights;
-use nearest_pass::pass;
+use nearest_pass::pass_noting;
 use path_pass::Finish;
 use positions::ENTRIES;
 
@@ -34,13 +34,20 @@ pub enum Nearest {
 
 // What the run answers, and what is reported besides.
 pub struct Report {
-    pub run: Answer,
+    pub run: RunAnswer,
     pub nearest: Nearest,
 }
 
 // Questions 5 to 8, on a grid that is accepted: the number of the first that is answered no, or 0. The start's question
 // has the number of w's, so that to ask w's before it changes nothing.
-fn first_no(g: Grid, start: &[u16], labels: &[u8], room: usize, w: &[u16], entries: usize) -> u8
+fn first_nearest_no(
+    g: Grid,
+    start: &[u16],
+    labels: &[u8],
+    room: usize,
+    w: &[u16],
+    entries: usize,
+) -> u8
     requires { ⌜ IsMade g ⌝ }
     ensures { λ r. ⌜ r ≡ firstNo (pointQuestions (problemFrom g (now (start .entry)) (now (labels .entry)))
         (now (w .entry)) room entries) ⌝ }
@@ -48,7 +55,7 @@ fn first_no(g: Grid, start: &[u16], labels: &[u8], room: usize, w: &[u16], entri
     if !g.is_grid_point(w) {
         return 5;
     }
-    let number = finder::first_no(g, start, labels, room);
+    let number = finder::first_run_no(g, start, labels, room);
     if number != 0 {
         return number;
     }
@@ -58,7 +65,7 @@ fn first_no(g: Grid, start: &[u16], labels: &[u8], room: usize, w: &[u16], entri
     0
 }
 
-// What is reported besides the run's answer where a walk finished.
+// What is reported besides the run's answer where a pass finished.
 fn nearest_at(tally: Tally, finish: Finish) -> Nearest
     ensures { λ r. ⌜ r ≡ nearestAt tally finish ⌝ }
 {
@@ -81,7 +88,7 @@ fn nearest_at(tally: Tally, finish: Finish) -> Nearest
     }
 }
 
-// The walk along the path of an accepted table: the run's answer, and what is reported besides. The list that the walk
+// The pass along the path of an accepted table: the run's answer, and what is reported besides. The list that the pass
 // finds is lent, and at an end its front is what the call lists.
 fn announced(
     g: Grid,
@@ -112,7 +119,7 @@ fn announced(
     let weights = weights(g);
     let mut first = padded(start, m);
     let mut order = [0u32; 16];
-    let passed = pass(
+    let passed = pass_noting(
         g,
         binomials,
         labels,
@@ -146,7 +153,7 @@ fn put_list(list: &mut [u16], found: &[u16], n: usize)
     }
 }
 
-// Behind questions 1 to 4: the others, the walk, and after its end the list.
+// Behind questions 1 to 4: the others, the pass, and after its end the list.
 fn run_on(
     g: Grid,
     start: &[u16],
@@ -168,10 +175,10 @@ fn run_on(
         ≡ listBuffer (problemFrom g (now (start .entry)) (now (labels .entry))) (now (w .entry)) given
         (length (now (answer .entry))) budget (now (list .entry)) ⌝ }
 {
-    let number = first_no(g, start, labels, answer.len(), w, list.len());
+    let number = first_nearest_no(g, start, labels, answer.len(), w, list.len());
     if number != 0 {
         return Report {
-            run: Answer::Refused(number),
+            run: RunAnswer::Refused(number),
             nearest: Nearest::Nothing,
         };
     }
@@ -228,7 +235,7 @@ pub fn run(
     let g = made.grid;
     if code != 0 {
         return Report {
-            run: Answer::Refused(code),
+            run: RunAnswer::Refused(code),
             nearest: Nearest::Nothing,
         };
     }

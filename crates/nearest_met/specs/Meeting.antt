@@ -12,7 +12,7 @@ use Rattle.combinatorics.specs.Front.{front}
 use Rattle.combinatorics.specs.Lists.{filter, isIn}
 use Rattle.grid_points.specs.Grid.{Grid, Point, at, position}
 use Rattle.rules.specs.Read.{pointOn}
-use Rattle.rules.specs.Step.{State}
+use Rattle.rules.specs.Moves.{State}
 use Rattle.nearest_visited.specs.Distance.{distance}
 use Rattle.nearest_visited.specs.Nearest.{firstLeast, nearest}
 use Rattle.nearest_met.specs.declared.Came.{Came}

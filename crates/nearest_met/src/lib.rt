@@ -1,5 +1,5 @@
-// A vertex that is met on a walk: noted where it comes in for the first time. One byte for each point tells whether it
-// was met, so that no pass over the list is made for a vertex. What is public here is for the walk, which shows what it
+// A vertex that is met on a pass: noted where it comes in for the first time. One byte for each point tells whether it
+// was met, so that no pass over the list is made for a vertex. What is public here is for the pass, which shows what it
 // asks.
 ghost use mathlib.Core.List.{[]};
 ghost use mathlib.Core.Path.{_≡_};
@@ -10,7 +10,7 @@ ghost use Rattle.grid_points.specs.Grid.{Grid as Shape, at};
 ghost use Rattle.moves.specs.Held.{stateOf};
 ghost use Rattle.rules.specs.Read.{CanCompute};
 ghost use Rattle.rules.specs.Ready.{IndicesBelow};
-ghost use Rattle.rules.specs.Step.{State, markPosition};
+ghost use Rattle.rules.specs.Moves.{State, markPosition};
 ghost use Rattle.nearest_visited.specs.Distance.{distance};
 ghost use Rattle.nearest_met.specs.Measure.{CanMeasure};
 ghost use Rattle.nearest_met.specs.Meeting.{HasMet, HasRoomToNote, comeBy, listedAfter, listedIn, noted};

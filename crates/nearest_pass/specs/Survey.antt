@@ -1,4 +1,4 @@
--- What the walk that notes vertices asks and gives. The call's own promise does not cite it. Assumes nothing.
+-- What the pass that notes vertices asks and gives. The call's own promise does not cite it. Assumes nothing.
 use mathlib.Core.Bool.{true}
 use mathlib.Core.List.{List}
 use mathlib.Core.Path.{_≡_}
@@ -15,7 +15,7 @@ use Rattle.path_pass.specs.declared.Finish.{Finish}
 use Rattle.path_pass.specs.declared.Finish.the-variants.{Ended, Spent, Unknown as UnknownLabel}
 use Rattle.nearest_met.specs.declared.Tally.{Tally}
 
--- what the walk asks besides what a run's asks
+-- what the pass asks besides what a run's asks
 pub record CanNote (g : GridStruct) (weights w list : List ℕ) : Type 0 where
   pub measure : CanMeasure (shape g) weights w (g .indices)
   pub onGrid : isGridPoint (shape g) w ≡ true

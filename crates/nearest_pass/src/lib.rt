@@ -1,9 +1,9 @@
-// The walk of a run that notes the vertices of its places, each where it comes in for the first time.
+// The pass of a run that notes the vertices of its places, each where it comes in for the first time.
 ghost use mathlib.Core.Path.{_≡_};
 ghost use Prim.Native.Nat.{_<_};
 ghost use Rattle.arrays.specs.Rounds.{round};
-ghost use Rattle.rules.specs.Step.{Round};
-ghost use Rattle.path_pass.specs.Finish.{CanWalk, Finished, problemIn};
+ghost use Rattle.rules.specs.Moves.{Round};
+ghost use Rattle.path_pass.specs.Finish.{CanPass, Finished, problemIn};
 ghost use Rattle.nearest_pass.specs.Survey.{CanNote, Surveys};
 use grid::Grid;
 use moves::Outcome;
@@ -18,17 +18,17 @@ use path_pass::ended;
 use path_pass::look_up;
 use path_pass::on;
 use positions::ENTRIES;
-use ways::step;
+use ways::make_move;
 
-// How a walk ended, and what is kept of the vertices that it has met.
-pub struct Passed {
+// How a pass ended, and what is kept of the vertices that it has met.
+pub struct NotingPass {
     pub finish: Finish,
     pub tally: Tally,
 }
 
-// From {v} to the path's end, or until the budget is spent, as a run walks: each vertex is noted where it comes in for
-// the first time. The list is the walk's own, since a run that reaches no end writes none.
-pub fn pass(
+// From {v} to the path's end, or until the budget is spent, as a run passes: each vertex is noted where it comes in for
+// the first time. The list is the pass's own, since a run that reaches no end writes none.
+pub fn pass_noting(
     g: Grid,
     binomials: &[u16; ENTRIES],
     table: &[u8],
@@ -42,10 +42,10 @@ pub fn pass(
     given: u64,
     list: &mut [u16],
     budget: u64,
-) -> Passed
+) -> NotingPass
     ghost { Round }
     requires { λ x. ⌜ round previous next sizes ≡ x ⌝ }
-    requires { λ x. ⌜ CanWalk g x (now binomials) (now first) (now order) (now table) ⌝ }
+    requires { λ x. ⌜ CanPass g x (now binomials) (now first) (now order) (now table) ⌝ }
     requires { λ _. ⌜ CanNote g (now weights) (now w) (now list) ⌝ }
     ensures { λ x r. ⌜ Finished (problemIn g (now (first .entry)) (now (table .entry))) budget x
         (now (first .exit)) (now (order .exit)) (r .finish) ⌝ }
@@ -83,7 +83,7 @@ pub fn pass(
             s,
         );
         if let Looked::Unknown(position) = looked {
-            return Passed {
+            return NotingPass {
                 finish: Finish::Unknown {
                     places: budget - at.left,
                     position,
@@ -107,7 +107,7 @@ pub fn pass(
             list,
             t,
         );
-        let outcome = step(
+        let outcome = make_move(
             previous,
             next,
             sizes,
@@ -118,13 +118,13 @@ pub fn pass(
             s,
         );
         if let Outcome::PlaceEnd(_) = outcome {
-            return Passed {
+            return NotingPass {
                 finish: ended(at, outcome, budget),
                 tally: t,
             };
         }
         if let Outcome::FacetEnd(_) = outcome {
-            return Passed {
+            return NotingPass {
                 finish: ended(at, outcome, budget),
                 tally: t,
             };
@@ -133,7 +133,7 @@ pub fn pass(
             at = on(at, status);
         }
     }
-    Passed {
+    NotingPass {
         finish: Finish::Spent,
         tally: t,
     }

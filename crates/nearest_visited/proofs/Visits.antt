@@ -237,8 +237,8 @@ module _ (p : Problem) (a b : Simplex) (pa : isPlace p a ≡ true) (pb : isPlace
       (or-cases (exchanged p a b || extended p a b) (extended p b a) e)
 
 module _ {p : Problem} (ok : Accepted p) where
-  abbrev walked : List Simplex
-  walked = pathOf p .visited
+  abbrev onPath : List Simplex
+  onPath = pathOf p .visited
 
   follows : Follows p (pathOf p .visited)
   follows = demand3-holds ok .follows
@@ -247,29 +247,29 @@ module _ {p : Problem} (ok : Accepted p) where
   one-by-one = record {
     start = p .start;
     begins = follows .begins;
-    next = λ k l. one-in p (placeAt walked k) (placeAt walked (suc k)) (follows .places k (omega arith))
+    next = λ k l. one-in p (placeAt onPath k) (placeAt onPath (suc k)) (follows .places k (omega arith))
         (follows .places (suc k) l) (follows .links k l);
   }
 
   on-grid : (y : Point) → isIn samePoint y (visitedVertices p) ≡ true → isGridPoint (p .grid) y ≡ true
   unfolding visitedVertices
   on-grid y m =
-      let w = place-in y walked (firsts-in onPoints y (pointsOfPlaces walked) m) in
-      all-in onPoints (isGridPoint (p .grid)) (placeAt walked (w .0))
-      (parts p (placeAt walked (w .0)) (follows .places (w .0) (w .1)) .gridPoints) y (w .2)
+      let w = place-in y onPath (firsts-in onPoints y (pointsOfPlaces onPath) m) in
+      all-in onPoints (isGridPoint (p .grid)) (placeAt onPath (w .0))
+      (parts p (placeAt onPath (w .0)) (follows .places (w .0) (w .1)) .gridPoints) y (w .2)
 
   pub visits : Visits p
   unfolding visitedVertices
   visits = record {
     each = λ y. (
-      (λ m. place-in y walked (firsts-in onPoints y (pointsOfPlaces walked) m)),
-      (λ w. in-firsts onPoints y (pointsOfPlaces walked) (in-place y walked (w .0) (w .1) (w .2))),
+      (λ m. place-in y onPath (firsts-in onPoints y (pointsOfPlaces onPath) m)),
+      (λ w. in-firsts onPoints y (pointsOfPlaces onPath) (in-place y onPath (w .0) (w .1) (w .2))),
     );
-    once = firsts-distinct onPoints (pointsOfPlaces walked);
-    inOrder = rises walked one-by-one;
-    begins = first-is walked (follows .nonempty) (follows .begins);
+    once = firsts-distinct onPoints (pointsOfPlaces onPath);
+    inOrder = rises onPath one-by-one;
+    begins = first-is onPath (follows .nonempty) (follows .begins);
     onGrid = on-grid;
-    few = pigeon onPoints (visitedVertices p) (points (p .grid)) (firsts-distinct onPoints (pointsOfPlaces walked))
+    few = pigeon onPoints (visitedVertices p) (points (p .grid)) (firsts-distinct onPoints (pointsOfPlaces onPath))
         (λ z m. in-points (p .grid) z (ok .hasStart .sameNumber) (on-grid z m));
   }
     where

@@ -17,7 +17,7 @@ use Rattle.combinatorics.specs.Lists.{isIn, same}
 use Rattle.grid_points.proofs.Points.{onPoints}
 use Rattle.grid_points.specs.Grid.{Point, samePoint, isGridPoint, position, numIndices}
 use Rattle.place.specs.Ends.{End}
-use Rattle.place.specs.Path.{path, pathLength, Answer, unknown, announcement, answer}
+use Rattle.place.specs.Path.{path, pathLength, PathAnswer, unknown, announcement, answer}
 use Rattle.place.specs.Places.{Simplex, setT, labelSet, within, isUnlabelledPlace, isPlace, allLabelled}
 use Rattle.place.specs.Places.{unlabelled}
 use Rattle.place.specs.Problem.{Problem, label, hasLabel, withLabels}
@@ -81,7 +81,7 @@ module _ (p : Problem) (labels : List ℕ) (fills : Fills p labels) where
     known = λ i c. all-stay (placeAt s i) (k .known i c);
   }
 
-differ : (a : Answer) (n read : ℕ) (e : End) (m i : ℕ) → a ≡ announcement n read e → a ≡ unknown m i → ⊥
+differ : (a : PathAnswer) (n read : ℕ) (e : End) (m i : ℕ) → a ≡ announcement n read e → a ≡ unknown m i → ⊥
 differ a n read e m i r u = absurd-bool (cc)
 
 -- where the path ends no label is asked for

@@ -16,7 +16,7 @@ use Rattle.combinatorics.proofs.Basics.{absurd-bool, and-both, and-left, and-ri
 use Rattle.combinatorics.proofs.Basics.{same-or, true-or-false}
 use Rattle.combinatorics.proofs.Lists.{all-in, in-filter, filter-in, in-cases, in-here}
 use Rattle.combinatorics.proofs.Lists.{distinct-filter, only-member, pigeon, length-without}
-use Rattle.combinatorics.proofs.Walk.{Walks, apart}
+use Rattle.combinatorics.proofs.Route.{Route, apart}
 use Rattle.combinatorics.specs.Lists.{filter, all, isIn, distinct, concatMap, same}
 use Rattle.end_kinds.specs.declared.Kind.the-variants.{Facet as facetEnd, Place as placeEnd}
 use Rattle.grid_points.proofs.Points.{onPoints}
@@ -26,7 +26,7 @@ use Rattle.place.specs.Ends.{ways}
 use Rattle.place.specs.Links.{linked, links}
 use Rattle.place.specs.Path.{isBack, waysOn, sameSimplex, pathFrom, path, pathLength}
 use Rattle.place.specs.LabelsRead.{labelsRead}
-use Rattle.place.specs.Path.{Answer, spent, unknown, announcement, outcome, answer}
+use Rattle.place.specs.Path.{PathAnswer, spent, unknown, announcement, outcome, answer}
 use Rattle.place.specs.Places.{Simplex, isPlace, places, setT, labelSet, allLabelled, unlabelled}
 use Rattle.place.specs.Problem.{Problem, hasLabel}
 use Rattle.path_laws.proofs.Positions.{in-at}
@@ -165,9 +165,9 @@ module _ {p : Problem} (ok : Accepted p) (W : TwoWays p) where
       (omega (arith, W .start kx.ownFrom, length-ways p (p .start ∷ []))) (in-links ok.hasStart kx.joins)
       (in-links ok.hasStart ky.joins)
 
-  walks : {n : ℕ} {s : List Simplex} {e : Option End} → Trail p n none (p .start ∷ []) s e → (k : ℕ) → k < length s
-      → allLabelled p (placeAt s k) ≡ true → Walks Known (placeAt s) k
-  walks {s = s} t k c own = record {
+  routes : {n : ℕ} {s : List Simplex} {e : Option End} → Trail p n none (p .start ∷ []) s e → (k : ℕ) → k < length s
+      → allLabelled p (placeAt s k) ≡ true → Route Known (placeAt s) k
+  routes {s = s} t k c own = record {
     linked = λ i h. record {
       joins = step-links p t (start-place ok.hasStart) i (omega arith);
       ownFrom = known p t i (omega arith);
@@ -188,7 +188,7 @@ module _ {p : Problem} (ok : Accepted p) (W : TwoWays p) where
       apart Known
       (λ a b k. record { joins = back a b k.joins; ownFrom = k .ownTo; ownTo = k .ownFrom })
       (λ a k. linked-other p a k.joins.by)
-      two (placeAt s) (rw z one-link) j (walks t j c own) j i j (omega arith) l (omega arith) q
+      two (placeAt s) (rw z one-link) j (routes t j c own) j i j (omega arith) l (omega arith) q
 
   -- exactly one way on from {v}, and from any other place that one comes to by a link, where its points have labels;
   pub one-from-start : allLabelled p (p .start ∷ []) ≡ true → length (waysOn p none (p .start ∷ [])) ≡ 1
@@ -494,10 +494,10 @@ module _ {p : Problem} (ok : Accepted p) (W : TwoWays p) where
           go none k = rw g
           go (some e) (atEnd es own q) = absurd (gap-not-all (lastPlace (path p .visited)) g own)
 
-      out-not-asks : (e : End) (x : Answer) (k r n i : ℕ) → x ≡ announcement k r e → x ≡ unknown n i → ⊥
+      out-not-asks : (e : End) (x : PathAnswer) (k r n i : ℕ) → x ≡ announcement k r e → x ≡ unknown n i → ⊥
       out-not-asks e x k t n i q r = absurd-bool (cc)
 
-      spent-not-asks : (x : Answer) (b n i : ℕ) → x ≡ spent b → x ≡ unknown n i → ⊥
+      spent-not-asks : (x : PathAnswer) (b n i : ℕ) → x ≡ spent b → x ≡ unknown n i → ⊥
       spent-not-asks x b n i q r = absurd-bool (cc)
 
       asked : (b n i : ℕ) → answer p b ≡ unknown n i → (d : Option End) → path p .end ≡ d

@@ -1,3 +1,3 @@
 pub mod Visits
 pub mod Places
-pub mod Walking
+pub mod Passing

@@ -1,4 +1,4 @@
--- A place of a walk once its label is looked up: the marks, and what the state that they make is ready for. Assumes
+-- A place of a pass once its label is looked up: the marks, and what the state that they make is ready for. Assumes
 -- nothing.
 use mathlib.Core.List.{List, []}
 use mathlib.Core.Logic.{⊎-elim}
@@ -16,7 +16,7 @@ use Rattle.moves.specs.declared.Status.{Status}
 use Rattle.place.specs.Problem.{Problem}
 use Rattle.rules.specs.Read.{markOf, pointIn, read}
 use Rattle.rules.specs.Ready.{Ready, SixteenEach}
-use Rattle.rules.specs.Step.{Round, State, withMark}
+use Rattle.rules.specs.Moves.{Round, State, withMark}
 use Rattle.path_pass.specs.Looking.{LooksUp}
 use Rattle.path_pass.specs.declared.Looked.the-variants.{Known}
 

@@ -1,4 +1,4 @@
--- What a place of the walk asks and gives: the arrays of the grid, the storing of a mark, the state in which a walk
+-- What a place of the pass asks and gives: the arrays of the grid, the storing of a mark, the state in which a pass
 -- begins, its outcomes. Assumes nothing.
 use mathlib.Core.Bool.{true, false, _&&_}
 use mathlib.Core.List.{List, [], map}
@@ -42,7 +42,7 @@ use Rattle.moves.specs.Held.{stateOf}
 use Rattle.rules.specs.Mask.{bit}
 use Rattle.rules.specs.Read.{markOf, pointIn, pointsFrom, read, CanCompute, Falling}
 use Rattle.rules.specs.Ready.{IsRound, RoundBelow}
-use Rattle.rules.specs.Step.{After, Round, State, mark, goes, endsAtPlace, endsAtFacet, step, withMark}
+use Rattle.rules.specs.Moves.{After, Round, State, mark, goes, endsAtPlace, endsAtFacet, makeMove, withMark}
 use Rattle.moves.specs.declared.Outcome.{Outcome}
 use Rattle.moves.specs.declared.Outcome.the-variants.{Moved, PlaceEnd, FacetEnd}
 use Rattle.moves.specs.declared.Status.{Status}
@@ -126,7 +126,7 @@ OnPath p s k = At (filledTable p) s k × (k < pathLength p)
 abbrev pub HasRead : Problem → ℕ → ℕ → Type 0
 HasRead p k labels = labels ≡ suc (cameIn (path (filledTable p) .visited) k)
 
--- where a walk begins
+-- where a pass begins
 module _ (g : GridStruct) (made : IsMade g) (first table : List ℕ) (ok : Accepted (problemIn g first table)) where
   pub begins : {round : Round} → IsRound (shape g) round → length first ≡ 16 → (order : List ℕ) (s : Status)
       → IsBegun first (g .indices) s
@@ -169,7 +169,7 @@ reads-fit g made first table ok k labels l R =
     let fits = bound-fits (shape g) (made .accepted) in
     omega (arith, R, came-few (path (filledTable p) .visited) k, demand3-holds ok .bounded, fits)
 
--- one place of the walk: what it needs, and where it leads
+-- one place of the pass: what it needs, and where it leads
 module _ (g : GridStruct) (made : IsMade g) (start table : List ℕ) (ok : Accepted (problemIn g start table)) (s : State)
     (k : ℕ) (here : OnPath (problemIn g start table) s k) where
   abbrev p : Problem
@@ -243,8 +243,8 @@ module _ (g : GridStruct) (made : IsMade g) (start table : List ℕ) (ok : Accep
           rw (w .2) (labelled (w .0) (omega (arith, upFrom-in 0 (suc (length (s .order)) - 0) (w .0) (w .1) .1)))
 
   module _ (known : IsKnown (tableProblem g table) s) where
-    pub leads : (after : After) → after ≡ step (read (tableProblem g table) s) → NextAt (filledTable p) k after
-    leads after moved = subst (NextAt (filledTable p) k) (sym (moved ∙ ap step (same-read known))) (at-next full A)
+    pub leads : (after : After) → after ≡ makeMove (read (tableProblem g table) s) → NextAt (filledTable p) k after
+    leads after moved = subst (NextAt (filledTable p) k) (sym (moved ∙ ap makeMove (same-read known))) (at-next full A)
 
     pub goes-on : {e : State} → NextAt (filledTable p) k (goes e) → OnPath p e (suc k)
     goes-on (nextPlace B) = (B, further-on ok k (here .1) (own known) (at-below full B))

@@ -1,4 +1,4 @@
--- What the walk along the path needs of its grid and table, and what it gives. The run's own promise does not cite it.
+-- What the pass along the path needs of its grid and table, and what it gives. The run's own promise does not cite it.
 -- Assumes nothing.
 use mathlib.Core.Bool.{_&&_, cond}
 use mathlib.Core.List.{List, []}
@@ -18,7 +18,7 @@ use Rattle.moves.specs.Held.{stateOf}
 use Rattle.rules.specs.Mask.{bit}
 use Rattle.rules.specs.Ready.{IsRound, RoundBelow, Ready}
 use Rattle.rules.specs.Read.{pointIn, pointsFrom, read, CanCompute}
-use Rattle.rules.specs.Step.{Round, State}
+use Rattle.rules.specs.Moves.{Round, State}
 use Rattle.moves.specs.declared.Outcome.{Outcome}
 use Rattle.moves.specs.declared.Outcome.the-variants.{FacetEnd, Moved, PlaceEnd}
 use Rattle.moves.specs.declared.Status.{Status}
@@ -31,8 +31,8 @@ use Rattle.path_pass.specs.declared.Stand.{Stand}
 abbrev pub problemIn : GridStruct → List ℕ → List ℕ → Problem
 problemIn g first table = problemFrom g (take (g .indices) first) table
 
--- what the walk asks
-pub record CanWalk (g : GridStruct) (round : Round) (binomials first order table : List ℕ) : Type 0 where
+-- what the pass asks
+pub record CanPass (g : GridStruct) (round : Round) (binomials first order table : List ℕ) : Type 0 where
   pub readable : Readable g binomials table
   pub isRound : IsRound (shape g) round
   pub below : RoundBelow round
@@ -49,7 +49,7 @@ pub record IsUnknown (p : Problem) (a : State) (place : ℕ) : Type 0 where
   pub zero : label p (pointIn p a (a .active)) ≡ 0
   pub at : place ≡ position (p .grid) (pointIn p a (a .active))
 
--- what one place of the walk asks
+-- what one place of the pass asks
 pub record CanVisit (g : GridStruct) (tails table : List ℕ) (a : State) : Type 0 where
   pub below : RoundBelow (a .round)
   pub reads : a .rule < 6 → CanReadPoint g a
@@ -61,7 +61,7 @@ pub record CanVisit (g : GridStruct) (tails table : List ℕ) (a : State) : Type
 abbrev pub labelsAt : ℕ → ℕ
 labelsAt rule = cond (ltb rule 6) 1 0
 
--- where a walk stands once it has moved on
+-- where a pass stands once it has moved on
 abbrev pub onOf : Stand → Status → Stand
 onOf at s = record { status = s; left = at .left - 1; labels = at .labels + labelsAt (s .rule) }
 
@@ -96,7 +96,7 @@ pub record Announced (p : Problem) (budget : ℕ) (kind : Kind) (from : ℕ) (e 
   pub is : answer p budget
       ≡ ended places labels kind (suc (blockOf (p .grid) h)) (length (pointsFrom p e from)) (pointsFrom p e from)
 
--- where a walk of at most `budget` places ends, with the first point and the order at the last place in its arrays
+-- where a pass of at most `budget` places ends, with the first point and the order at the last place in its arrays
 abbrev pub Finished : Problem → ℕ → Round → List ℕ → List ℕ → Finish → Type 0
 Finished p budget round first order (Ended kind places h s labels) =
     Announced p budget kind (firstPointOf kind) (stateOf round first [] order [] s) h places labels

@@ -7,7 +7,7 @@ use Rattle.path_pass.specs.Finish.{IsKnown, IsUnknown}
 use Rattle.moves.specs.declared.Status.{Status}
 use Rattle.place.specs.Problem.{Problem}
 use Rattle.rules.specs.Read.{read}
-use Rattle.rules.specs.Step.{State}
+use Rattle.rules.specs.Moves.{State}
 use Rattle.path_pass.specs.declared.Looked.{Looked}
 use Rattle.path_pass.specs.declared.Looked.the-variants.{Known, Unknown}
 

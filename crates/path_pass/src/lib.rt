@@ -1,4 +1,4 @@
-// The walk from {v} along the path, place by place. What is public is also for the walks that write a trail and that
+// The pass from {v} along the path, place by place. What is public is also for the passes that write a trail and that
 // report where the path came nearest.
 ghost use mathlib.Core.Path.{_≡_};
 ghost use Prim.Native.Nat.{_+_, _^_, _≤_, _<_};
@@ -6,8 +6,8 @@ ghost use lib.ListN.{length};
 ghost use Rattle.arrays.specs.Rounds.{round, roundBack};
 ghost use Rattle.marks.specs.Reading.{CanFind, Readable, tableProblem};
 ghost use Rattle.moves.specs.Held.{held};
-ghost use Rattle.rules.specs.Step.{Round, State};
-ghost use Rattle.path_pass.specs.Finish.{CanWalk, Finished, IsBegun, endedOf, labelsAt, onOf, problemIn};
+ghost use Rattle.rules.specs.Moves.{Round, State};
+ghost use Rattle.path_pass.specs.Finish.{CanPass, Finished, IsBegun, endedOf, labelsAt, onOf, problemIn};
 ghost use Rattle.path_pass.specs.Looking.{LooksUp};
 use arrays::zeros;
 use end_kinds::Kind;
@@ -17,9 +17,9 @@ use marks::mark_in;
 use moves::Outcome;
 use moves::Status;
 use positions::ENTRIES;
-use ways::step;
+use ways::make_move;
 
-// How a walk ended: at the path's end, after so many places, with an index of the block for which the simplex is
+// How a pass ended: at the path's end, after so many places, with an index of the block for which the simplex is
 // complete, the status at the last place and the labels read; at a place that needs a label not yet known, after so
 // many places before it, with the label's position; or with the budget spent.
 pub enum Finish {
@@ -37,7 +37,7 @@ pub enum Finish {
     Spent,
 }
 
-// Where a walk stands: the status, how much of the budget is left, and the labels read up to the place, its own
+// Where a pass stands: the status, how much of the budget is left, and the labels read up to the place, its own
 // included.
 pub struct Stand {
     pub status: Status,
@@ -123,7 +123,7 @@ pub fn labels_at(s: Status) -> u64
     0
 }
 
-// The walk has moved on. A place's label is counted where the move to it is made, whose rule the compiler then knows.
+// The pass has moved on. A place's label is counted where the move to it is made, whose rule the compiler then knows.
 pub fn on(at: Stand, status: Status) -> Stand
     requires { ⌜ (0 < at .left) × (at .labels + labelsAt (status .rule) < 2 ^ 64) ⌝ }
     ensures { λ r. ⌜ r ≡ onOf at status ⌝ }
@@ -135,7 +135,7 @@ pub fn on(at: Stand, status: Status) -> Stand
     }
 }
 
-// How a walk ended whose move has led to an end.
+// How a pass ended whose move has led to an end.
 pub fn ended(at: Stand, outcome: Outcome, budget: u64) -> Finish
     requires { ⌜ (0 < at .left) × (at .left ≤ budget) ⌝ }
     ensures { λ r. ⌜ r ≡ endedOf at outcome budget ⌝ }
@@ -162,7 +162,7 @@ pub fn ended(at: Stand, outcome: Outcome, budget: u64) -> Finish
 }
 
 // From {v} to the path's end, or until the budget is spent.
-pub fn walk(
+pub fn pass(
     g: Grid,
     binomials: &[u16; ENTRIES],
     table: &[u8],
@@ -175,7 +175,7 @@ pub fn walk(
 ) -> Finish
     ghost { Round }
     requires { λ w. ⌜ round previous next sizes ≡ w ⌝ }
-    requires { λ w. ⌜ CanWalk g w (now binomials) (now first) (now order) (now table) ⌝ }
+    requires { λ w. ⌜ CanPass g w (now binomials) (now first) (now order) (now table) ⌝ }
     ensures { λ w r. ⌜ Finished (problemIn g (now (first .entry)) (now (table .entry))) budget w
         (now (first .exit)) (now (order .exit)) r ⌝ }
 {
@@ -208,7 +208,7 @@ pub fn walk(
                 position,
             };
         }
-        let outcome = step(
+        let outcome = make_move(
             previous,
             next,
             sizes,

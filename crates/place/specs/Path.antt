@@ -57,22 +57,22 @@ pathLength p = length (path p .visited)
 -- block counts from 1 here. Request 02: "16 when a place within the budget needs a label that is 0, with the places
 -- visited before it and the point's position". Request 10: "the result .. and the sheet gain 'labels read' after
 -- 'places'"; "a refusal gives none".
-pub data Answer : Type 0 where
-  spent : (places : ℕ) → Answer
-  ended : (places read : ℕ) (kind : Kind) (block vertices : ℕ) (simplex : Simplex) → Answer
-  unknown : (places position : ℕ) → Answer
+pub data PathAnswer : Type 0 where
+  spent : (places : ℕ) → PathAnswer
+  ended : (places read : ℕ) (kind : Kind) (block vertices : ℕ) (simplex : Simplex) → PathAnswer
+  unknown : (places position : ℕ) → PathAnswer
 
 -- an end as the run announces it, with the count of places and the labels read
-abbrev pub announcement : ℕ → ℕ → End → Answer
+abbrev pub announcement : ℕ → ℕ → End → PathAnswer
 announcement n read e = ended n read (e .kind) (suc (e .block)) (length (e .simplex)) (e .simplex)
 
 -- what a run says of the whole path: its end, or its last place's point without a label
-abbrev pub outcome : Problem → List Simplex → Option End → Answer
+abbrev pub outcome : Problem → List Simplex → Option End → PathAnswer
 outcome p s none =
     unknown (pred (length s)) (position (p .grid) (firstOr [] (unlabelled p (getD s (pred (length s)) []))))
 outcome p s (some e) = announcement (length s) (labelsRead s) e
 
 -- "Has the path ended within the budget? 9": "An end is announced if the path reaches one within the budget, and the
 -- budget is called spent if it does not"
-unfoldable pub answer : Problem → ℕ → Answer
+unfoldable pub answer : Problem → ℕ → PathAnswer
 answer p budget = cond (ltb budget (pathLength p)) (spent budget) (outcome p (path p .visited) (path p .end))

@@ -8,14 +8,14 @@ use lib.ListN.{replicate}
 use Rattle.end_kinds.specs.declared.Kind.the-variants.{Facet as facetEnd, Place as placeEnd}
 use Rattle.grid_points.specs.Grid.{bound, dimension, numIndices}
 use Rattle.questions.specs.Questions.{firstNo}
-use Rattle.place.specs.Path.{Answer, spent, ended, unknown, answer}
+use Rattle.place.specs.Path.{PathAnswer, spent, ended, unknown, answer}
 use Rattle.place.specs.Problem.{Problem, problemOf}
 use Rattle.place.specs.Questions.{runQuestions}
 
 -- what a run gives: the number of the first of questions 1 to 8 that is answered no, or the answer
 pub data Result : Type 0 where
   refused : (number : ℕ) → Result
-  answered : Answer → Result
+  answered : PathAnswer → Result
 
 pub record Row : Type 0 where
   pub problem : Problem
@@ -30,11 +30,11 @@ given r =
     cond (eqb number 0) (answered (answer p (r .budget))) (refused number)
 
 -- "Without a budget, the bound is the budget"
-abbrev pub row : Problem → Answer → Row
+abbrev pub row : Problem → PathAnswer → Row
 row p a = record { problem = p; budget = bound (p .grid); result = answered a }
 
 -- "the same, budget 2"
-abbrev pub rowWith : Problem → ℕ → Answer → Row
+abbrev pub rowWith : Problem → ℕ → PathAnswer → Row
 rowWith p n a = record { problem = p; budget = n; result = answered a }
 
 -- "Label m is accepted; 0 and m + 1 get 7": since request 02 only m + 1 does

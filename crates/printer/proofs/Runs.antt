@@ -20,8 +20,8 @@ use Rattle.questions.specs.Questions.{firstNo}
 use Rattle.finder.proofs.Refusals.{by-grid, by-later, accepted-with-room, answered as run-answered}
 use Rattle.finder.proofs.Refusals.{refused as run-refused}
 use Rattle.finder.specs.Run.{caseOf, numbersOf, runRefusal, runAnswer, runBuffer}
-use Rattle.finder.specs.declared.answers.Answer.{Answer}
-use Rattle.finder.specs.declared.answers.Answer.the-variants.{Refused, Spent, Unknown, End}
+use Rattle.finder.specs.declared.answers.RunAnswer.{RunAnswer}
+use Rattle.finder.specs.declared.answers.RunAnswer.the-variants.{Refused, Spent, Unknown, End}
 use Rattle.grid_points.specs.Grid.{dimension, numIndices}
 use Rattle.grid_points.specs.Questions.{gridQuestions}
 use Rattle.grid_points.proofs.Points.{points-long}
@@ -36,7 +36,7 @@ use Rattle.printer.specs.Run.{room, printed, Fits, runSheet}
 
 module _ (p : Problem) (budget : ℕ) (old : List ℕ) (large : length old ≡ room) where
   -- what is to be shown of an answer and its buffer
-  abbrev Prints : Answer → List ℕ → List ℕ → Type 0
+  abbrev Prints : RunAnswer → List ℕ → List ℕ → Type 0
   Prints a buffer sheet = (printed (p .grid) a buffer ≡ sheet) × Fits (p .grid) a buffer
 
   refused : (buffer : List ℕ) (n : ℕ) → Prints (Refused n) buffer (refusedSheet n)

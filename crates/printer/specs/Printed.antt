@@ -4,7 +4,7 @@ use mathlib.Core.List.{List, map}
 use Prim.Native.Nat.{ℕ}
 use lib.Dec.{eqb}
 use Rattle.grid_points.specs.Grid.{Grid, division, blockOf, indices, bound}
-use Rattle.place.specs.Path.{Answer, spent, ended, unknown, answer}
+use Rattle.place.specs.Path.{PathAnswer, spent, ended, unknown, answer}
 use Rattle.sheet_lines.specs.Sheet.{endSheet, refusedSheet, spentSheet, unknownSheet}
 use Rattle.slip_fields.specs.Slip.{slipGrid, slipProblem, slipBudget, slipRefusal}
 
@@ -17,7 +17,7 @@ indexDivisions g = map (λ h. division g (blockOf g h)) (indices g)
 -- "The answer has the places, the kind of end, the block, the number of vertices, and the vertices"; of a budget that
 -- is spent, "9 adds a "places" line"; request 02: of a label that is not yet known, "its sheet adds a "places" and a
 -- "position" line"
-abbrev pub answerSheet : Grid → Answer → List ℕ
+abbrev pub answerSheet : Grid → PathAnswer → List ℕ
 answerSheet g (spent places) = spentSheet places
 answerSheet g (unknown places place) = unknownSheet places place
 answerSheet g (ended places read kind block vertices simplex) =

@@ -8,8 +8,8 @@ use lib.ListN.{length, take}
 use Rattle.combinatorics.specs.Front.{front}
 use Rattle.end_kinds.specs.declared.Kind.{Kind}
 use Rattle.finder.specs.Run.{runRefusal}
-use Rattle.finder.specs.declared.answers.Answer.{Answer}
-use Rattle.finder.specs.declared.answers.Answer.the-variants.{Refused, Spent, Unknown, End}
+use Rattle.finder.specs.declared.answers.RunAnswer.{RunAnswer}
+use Rattle.finder.specs.declared.answers.RunAnswer.the-variants.{Refused, Spent, Unknown, End}
 use Rattle.game_losses.specs.Game.{labels}
 use Rattle.grid_points.specs.Grid.{Grid, numIndices, bound}
 use Rattle.grid.specs.Made.{IsMade, shape}
@@ -27,7 +27,7 @@ abbrev pub room : ℕ
 room = 256
 
 -- what an answer of the finder prints, with its vertices at the front of the buffer
-unfoldable pub printed : Grid → Answer → List ℕ → List ℕ
+unfoldable pub printed : Grid → RunAnswer → List ℕ → List ℕ
 printed g (Refused number) buffer = refusedSheet number
 printed g (Spent places) buffer = spentSheet places
 printed g (Unknown places place) buffer = unknownSheet places place
@@ -35,7 +35,7 @@ printed g (End places read kind block vertices) buffer =
     endSheet places read (bound g) kind block (rows vertices (numIndices g) buffer) (indexDivisions g)
 
 -- the vertices of an answer are at least one, at most 16, and all in the buffer
-pub record Fits (g : Grid) (answer : Answer) (buffer : List ℕ) : Type 0 where
+pub record Fits (g : Grid) (answer : RunAnswer) (buffer : List ℕ) : Type 0 where
   pub end : (places read : ℕ) (kind : Kind) (block vertices : ℕ) → answer ≡ End places read kind block vertices
       → (1 ≤ vertices) × (vertices ≤ 16) × (vertices * numIndices g ≤ length buffer)
 

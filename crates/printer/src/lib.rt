@@ -7,7 +7,7 @@ ghost use Rattle.game_losses.specs.Table.{IsTable};
 ghost use Rattle.printer.specs.Printed.{indexDivisions, sheetOf};
 ghost use Rattle.printer.specs.Run.{printed, Prints, Fits, HasGrid, IsGameReading};
 ghost use Rattle.printer.specs.Run.{problemWith, lossProblem, runSheet};
-use finder::Answer;
+use finder::RunAnswer;
 use grid::Grid;
 use slip::Losses;
 use slip::SlipReading;
@@ -31,16 +31,21 @@ fn divisions_of(grid: Grid) -> [u16; 16]
 }
 
 // The sheet of an answer with its vertices.
-fn print_answer(answer: Answer, grid: Grid, buffer: &[u16], sheet: &mut [u8; SHEET_BYTES]) -> usize
+fn print_answer(
+    answer: RunAnswer,
+    grid: Grid,
+    buffer: &[u16],
+    sheet: &mut [u8; SHEET_BYTES],
+) -> usize
     requires { ⌜ IsMade grid × Fits (shape grid) answer (now buffer) ⌝ }
     ensures { λ r. ⌜ Prints (printed (shape grid) answer (now (buffer .entry)))
         (now (sheet .entry)) r (now (sheet .exit)) ⌝ }
 {
     match answer {
-        Answer::Refused(number) => sheet::refused(sheet, number),
-        Answer::Spent(places) => sheet::spent(sheet, places),
-        Answer::Unknown { places, position } => sheet::unknown(sheet, places, position as u64),
-        Answer::End {
+        RunAnswer::Refused(number) => sheet::refused(sheet, number),
+        RunAnswer::Spent(places) => sheet::spent(sheet, places),
+        RunAnswer::Unknown { places, position } => sheet::unknown(sheet, places, position as u64),
+        RunAnswer::End {
             places,
             labels_read,
             kind,

@@ -28,7 +28,8 @@ use Rattle.refinement_levels.proofs.Grids.{level-first, levels-yes, points-grow
 use Rattle.refinement_levels.proofs.Starts.{first-on-grid, level-full, start-on-grid}
 use Rattle.refinement_levels.proofs.Vertices.{first-read, level-few, restart-small}
 use Rattle.refinement_levels.specs.Buffers.{numbersAfter}
-use Rattle.refinement_levels.specs.Levels.{Refinement, endOf, firstVertex, gameProblem, levelEnd, levelGrid, levelProblem}
+use Rattle.refinement_levels.specs.Levels.{Refinement, endOf, firstVertex, gameProblem, levelEnd, levelGrid}
+use Rattle.refinement_levels.specs.Levels.{levelProblem}
 use Rattle.refinement_levels.specs.Levels.{levelStart, times}
 use Rattle.refinement_levels.specs.Questions.{lastGrid, levelRoom}
 use Rattle.game_losses.specs.Game.{labels}

@@ -8,11 +8,11 @@ use types.Run.{OneOf}
 use lib.ListN.{length}
 use native.Mathlib.Omega.{arith}
 use Rattle.combinatorics.specs.Front.{front}
-use Rattle.finder.proofs.answers.Answer.{the-type}
+use Rattle.finder.proofs.answers.RunAnswer.{the-type}
 use Rattle.finder.specs.Asked.{CanRun as CanAnnounce}
 use Rattle.finder.specs.Run.{caseOf, numbersOf}
-use Rattle.finder.specs.declared.answers.Answer.{Answer}
-use Rattle.finder.specs.declared.answers.Answer.the-variants.{Refused, Spent, Unknown, End}
+use Rattle.finder.specs.declared.answers.RunAnswer.{RunAnswer}
+use Rattle.finder.specs.declared.answers.RunAnswer.the-variants.{Refused, Spent, Unknown, End}
 use Rattle.game_labels.proofs.AllLabels.{labels-length}
 use Rattle.grid_points.specs.Grid.{bound}
 use Rattle.grid.specs.Made.{shape}
@@ -30,7 +30,7 @@ use Rattle.refinement.specs.Answer.{levelOf, noLevel}
 use Rattle.refinement.specs.Runs.{CanRunLevel, numbersIn}
 
 -- what is no end
-pub not-end : (a : Answer) → OneOf (0 ∷ 1 ∷ 2 ∷ []) (tagOf the-type a) → levelOf a ≡ noLevel
+pub not-end : (a : RunAnswer) → OneOf (0 ∷ 1 ∷ 2 ∷ []) (tagOf the-type a) → levelOf a ≡ noLevel
 not-end (Refused number) h = refl
 not-end (Spent places) h = refl
 not-end (Unknown places position) h = refl
@@ -58,7 +58,7 @@ module _ (g : GridStruct) (start losses : List ℕ) (labelRoom room : ℕ) (ok :
         ap (λ (n : ℕ). answer (problemFrom g start table) n) b ∙ ap (λ (p : Problem). answer p (bound (shape g)))
         same-problem
 
-    pub told : (a : Answer) → a ≡ caseOf (answer (problemFrom g start table) budget)
+    pub told : (a : RunAnswer) → a ≡ caseOf (answer (problemFrom g start table) budget)
         → levelOf a ≡ levelOf (caseOf (endOf (gameProblem (shape g) start losses)))
     told a e = ap levelOf (e ∙ ap caseOf ended)
 

@@ -22,7 +22,8 @@ use Rattle.refinement_levels.proofs.Claims.{passed}
 use Rattle.refinement_levels.proofs.Grids.{level-first, levels-yes, numbered-levels}
 use Rattle.refinement_levels.specs.Buffers.{numbersAfter}
 use Rattle.refinement_levels.specs.Levels.{Refinement, gridAt}
-use Rattle.refinement_levels.specs.Questions.{lastGrid, laterLevelQuestions, levelQuestions, levelRoom, question18, levelQuestion8}
+use Rattle.refinement_levels.specs.Questions.{lastGrid, laterLevelQuestions, levelQuestions, levelRoom, question18}
+use Rattle.refinement_levels.specs.Questions.{levelQuestion8}
 use Rattle.game_losses.specs.Game.{labels}
 use Rattle.game_losses.specs.Table.{numLosses, question10, question11}
 use Rattle.questions.proofs.Answers.{asked-next, asked-no, first-yes}

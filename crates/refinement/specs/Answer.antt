@@ -7,8 +7,8 @@ use lib.ListN.{length, replicate}
 use Rattle.combinatorics.specs.Lists.{upFrom}
 use Rattle.end_kinds.specs.declared.Kind.the-variants.{Place as placeEnd}
 use Rattle.finder.specs.Run.{caseOf}
-use Rattle.finder.specs.declared.answers.Answer.{Answer}
-use Rattle.finder.specs.declared.answers.Answer.the-variants.{Refused as RunRefused, Spent, Unknown, End}
+use Rattle.finder.specs.declared.answers.RunAnswer.{RunAnswer}
+use Rattle.finder.specs.declared.answers.RunAnswer.the-variants.{Refused as RunRefused, Spent, Unknown, End}
 use Rattle.grid_points.specs.Grid.{Grid, Point}
 use Rattle.refinement_levels.specs.Buffers.{numbersAfter}
 use Rattle.refinement_levels.specs.Levels.{Refinement, levelEnd}
@@ -29,8 +29,8 @@ noLevel = record { places = 0; «labels_read» = 0; kind = placeEnd; block = 0; 
 -- "The result has each level's places, kind of end, block and number of vertices"; request 10: "for each level of a
 -- refinement too" it gains the labels read. The other cases of a run are none of
 -- a level's
--- (`announced` of `Level`, levels/specs/Claims).
-abbrev pub levelOf : Answer → Level
+-- (`announced` of `Level`, refinement_levels/specs/Claims).
+abbrev pub levelOf : RunAnswer → Level
 levelOf (RunRefused number) = noLevel
 levelOf (Spent places) = noLevel
 levelOf (Unknown places position) = noLevel

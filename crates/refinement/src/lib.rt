@@ -5,7 +5,7 @@ ghost use Rattle.grid_points.specs.Grid.{lent};
 ghost use Rattle.refinement.specs.Answer.{answerLeft, labelsLeft, lentGame, noLevel, refineAnswer};
 ghost use Rattle.refinement.specs.Answer.{refused as refusedOf};
 use end_kinds::Kind;
-use refinement_questions::first_no;
+use refinement_questions::first_level_no;
 use refinement_questions::levels_in_range;
 use refinement_questions::made_levels;
 
@@ -89,7 +89,7 @@ pub fn refine(
     let first = grids[0];
     let last = grids[levels - 1];
     let points = last.points;
-    let code = first_no(
+    let code = first_level_no(
         first,
         points,
         start,

@@ -13,7 +13,7 @@ ghost use Rattle.refinement.specs.Runs.{CanRunLevel, CanRunAll, CanSolve
 ghost use Rattle.refinement.specs.Runs.{levelStartFrom, gameOf, numbersIn, problemAt, writtenAt};
 use crate::Level;
 use crate::no_level;
-use finder::Answer;
+use finder::RunAnswer;
 use grid::Grid;
 use grid::wide16;
 use positions::ENTRIES;
@@ -69,7 +69,7 @@ fn run_level(
     positions::binomials(grid, &mut binomials);
     let found = finder::announced(grid, &binomials, start, labels, answer, grid.bound());
     match found {
-        Answer::End {
+        RunAnswer::End {
             places,
             labels_read,
             kind,

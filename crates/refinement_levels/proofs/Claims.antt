@@ -18,7 +18,7 @@ use Rattle.grid_points.proofs.Accepted.{accepted}
 use Rattle.combinatorics.proofs.Terms.{terms-few}
 use Rattle.grid_points.specs.Grid.{bound, dimension, isGridPoint, numIndices}
 use Rattle.grid_points.specs.Questions.{gridQuestions, question5}
-use Rattle.place.specs.Path.{Answer, spent, ended, unknown, pathLength}
+use Rattle.place.specs.Path.{PathAnswer, spent, ended, unknown, pathLength}
 use Rattle.place.specs.Problem.{Problem}
 use Rattle.place.specs.Questions.{question8 as runQuestion8, tableQuestions}
 use Rattle.path_laws.proofs.Accepted.{accepted-is}
@@ -66,7 +66,7 @@ passed r levels buffer room e =
     record { factor = w .0; levelsRange = w .1; grids = b .0; later = b .1 }
 
 -- the numbers of an answer are those of its vertices
-pub numbers-are : (a : Answer) → numbersOf a ≡ concatMap (λ y. y) (answerVertices a)
+pub numbers-are : (a : PathAnswer) → numbersOf a ≡ concatMap (λ y. y) (answerVertices a)
 numbers-are (spent n) = refl
 numbers-are (ended n read kind block vertices simplex) = refl
 numbers-are (unknown n position) = refl

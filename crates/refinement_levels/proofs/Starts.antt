@@ -24,7 +24,8 @@ use Rattle.path_laws.proofs.Filled.{FullyLabelled, full-accepted, full-place}
 use Rattle.path_laws.proofs.Theorem.{demand3-holds}
 use Rattle.path_laws.specs.Demand.{Ended, NoGap, placeAt}
 use Rattle.questions.specs.Questions.{firstNo}
-use Rattle.refinement_levels.specs.Levels.{Refinement, endOf, finer, firstVertex, gameProblem, levelGrid, levelProblem}
+use Rattle.refinement_levels.specs.Levels.{Refinement, endOf, finer, firstVertex, gameProblem, levelGrid}
+use Rattle.refinement_levels.specs.Levels.{levelProblem}
 use Rattle.refinement_levels.specs.Levels.{levelStart, times, answerVertices}
 use Rattle.refinement_levels.proofs.GameLabels.{labels-range}
 use Rattle.refinement_levels.proofs.Grids.{level-first, level-next, times-at}

@@ -23,7 +23,8 @@ use Rattle.place.specs.Problem.{Problem}
 use Rattle.path_laws.proofs.Filled.{FullyLabelled}
 use Rattle.questions.specs.Questions.{firstNo}
 use Rattle.refinement_levels.specs.Buffers.{levelNumbers, numbersAfter}
-use Rattle.refinement_levels.specs.Levels.{Refinement, endOf, firstVertex, levelGrid, levelProblem, levelStart, times}
+use Rattle.refinement_levels.specs.Levels.{Refinement, endOf, firstVertex, levelGrid, levelProblem, levelStart}
+use Rattle.refinement_levels.specs.Levels.{times}
 use Rattle.refinement_levels.specs.Levels.{answerVertices}
 use Rattle.refinement_levels.specs.Questions.{levelRoom}
 use Rattle.refinement_levels.proofs.Buffers.{after-length, after-next}

@@ -12,7 +12,8 @@ use Rattle.grid_points.specs.Grid.{Grid, bound, isGridPoint}
 use Rattle.grid_points.specs.Questions.{question1, question2, question3, question4}
 use Rattle.place.specs.Path.{pathLength}
 use Rattle.questions.specs.Questions.{firstNo}
-use Rattle.refinement_levels.specs.Levels.{Refinement, firstVertex, gridAt, levelEnd, levelGrid, levelProblem, times}
+use Rattle.refinement_levels.specs.Levels.{Refinement, firstVertex, gridAt, levelEnd, levelGrid, levelProblem}
+use Rattle.refinement_levels.specs.Levels.{times}
 use Rattle.refinement_levels.specs.Buffers.{levelNumbers}
 use Rattle.refinement_levels.specs.Questions.{levelQuestions, levelRoom, refineQuestions}
 

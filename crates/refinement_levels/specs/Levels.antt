@@ -6,7 +6,7 @@ use Prim.Native.Nat.{ℕ, zero, suc, _*_, _^_}
 use Rattle.combinatorics.specs.Lists.{firstOr}
 use Rattle.grid_points.specs.Grid.{Grid, Point, bound}
 use Rattle.game_losses.specs.Game.{labels}
-use Rattle.place.specs.Path.{Answer, spent, ended, unknown, answer}
+use Rattle.place.specs.Path.{PathAnswer, spent, ended, unknown, answer}
 use Rattle.place.specs.Places.{Simplex}
 use Rattle.place.specs.Problem.{Problem}
 
@@ -37,11 +37,11 @@ abbrev pub gameProblem : Grid → Point → List ℕ → Problem
 gameProblem g start losses = record { grid = g; start = start; labels = labels g losses }
 
 -- "Each level's budget is its bound"
-abbrev pub endOf : Problem → Answer
+abbrev pub endOf : Problem → PathAnswer
 endOf p = answer p (bound (p .grid))
 
 -- the vertices that an answer has
-abbrev pub answerVertices : Answer → Simplex
+abbrev pub answerVertices : PathAnswer → Simplex
 answerVertices (spent n) = []
 answerVertices (ended n read kind block vertices simplex) = simplex
 answerVertices (unknown n position) = []
@@ -59,5 +59,5 @@ abbrev pub levelProblem : Refinement → ℕ → Problem
 levelProblem r i = gameProblem (levelGrid r i) (levelStart r i) (r .losses)
 
 -- the answer of level i
-abbrev pub levelEnd : Refinement → ℕ → Answer
+abbrev pub levelEnd : Refinement → ℕ → PathAnswer
 levelEnd r i = endOf (levelProblem r i)

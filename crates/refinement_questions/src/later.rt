@@ -20,7 +20,7 @@ pub fn room_of(grid: Grid) -> usize
 
 // The number of the first that is answered no, or 0, given the first grid, the last level's P, and how long both
 // buffers are.
-pub fn first_no(
+pub fn first_level_no(
     grid: Grid,
     points: usize,
     start: &[u16],

@@ -7,7 +7,7 @@ mod later;
 
 pub use grids::Grids;
 pub use grids::made_levels;
-pub use later::first_no;
+pub use later::first_level_no;
 pub use later::room_of;
 
 // Question 18: is k from 2 to 10 and the number of levels from 1 to 8?

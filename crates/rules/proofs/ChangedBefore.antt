@@ -1,4 +1,4 @@
--- One turn of a walk round a block that changes the numbers it passes. Assumes nothing.
+-- One turn of a way round a block that changes the numbers it passes. Assumes nothing.
 use mathlib.Core.Bool.{Bool, true, _&&_}
 use mathlib.Core.List.{List, [], _∷_}
 use mathlib.Core.Path.{_≡_, refl, _∙_}
@@ -10,7 +10,7 @@ use Rattle.combinatorics.proofs.Basics.{and-left, and-right}
 use Rattle.grid_points.specs.Grid.{at}
 use Rattle.rules.proofs.FirstMet.{below}
 use Rattle.rules.specs.Ready.{IndicesBelow, testedBefore}
-use Rattle.rules.specs.Step.{changedBefore}
+use Rattle.rules.specs.Moves.{changedBefore}
 
 -- a number that is positive stays so where one is raised
 pub raised-positive : (y : List ℕ) (h b : ℕ) → 1 ≤ at y b → 1 ≤ at (set y h (at y h + 1)) b
@@ -43,8 +43,8 @@ module _ (f : ℕ → ℕ) (way : List ℕ) (b : ℕ) where
   tested q zero h c l e t = absurd (omega arith)
   tested q (suc n) h c l e t = let z : suc n - 1 ≡ n = omega arith in rw z (rw (ne-eqb h b e) at t)
 
--- a walk from h to b, of which `left` steps are left from `here` on: they make of the present numbers c what the whole
--- walk makes of the old ones, and each number that they change passes the test q
+-- a way from h to b, of which `left` steps are left from `here` on: they make of the present numbers c what the whole
+-- way makes of the old ones, and each number that they change passes the test q
 pub record Changing (q : ℕ → Bool) (f : ℕ → ℕ) (way : List ℕ) (h b : ℕ) (old c : List ℕ) (here left : ℕ) : Type 0 where
   pub same : changedBefore f way b left here c ≡ changedBefore f way b 16 h old
   pub passing : testedBefore q f way b left here c ≡ true

@@ -16,7 +16,7 @@ use Rattle.path_laws.proofs.ToChain.{labelOf}
 use Rattle.rules.specs.Mask.{bit}
 use Rattle.rules.specs.Read.{arrayOf, pointGone, sourceAt, positionAt}
 use Rattle.rules.specs.Ready.{IsRound}
-use Rattle.rules.specs.Step.{State, After, goes, endsAtPlace, endsAtFacet, mark, leave, grow}
+use Rattle.rules.specs.Moves.{State, After, goes, endsAtPlace, endsAtFacet, mark, leave, grow}
 
 -- the label that names the index of point j of a chain
 abbrev pub labelsOf : Problem → List (ℕ → ℕ) → ℕ → ℕ

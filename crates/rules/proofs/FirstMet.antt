@@ -1,4 +1,4 @@
--- One turn of a walk round a block that looks for an index. Assumes nothing.
+-- One turn of a way round a block that looks for an index. Assumes nothing.
 use mathlib.Core.Bool.{Bool, true, false, not, _&&_, _||_}
 use mathlib.Core.List.{List, [], _∷_}
 use mathlib.Core.Path.{_≡_, refl, sym, _∙_}
@@ -10,7 +10,7 @@ use lib.Seq.{getD-take}
 use Rattle.grid_points.specs.Grid.{at}
 use Rattle.rules.specs.Mask.{bit}
 use Rattle.rules.specs.Ready.{IndicesBelow}
-use Rattle.rules.specs.Step.{firstMet}
+use Rattle.rules.specs.Moves.{firstMet}
 
 -- past the end of the list `at` gives 0, which is below 16 too
 pub below : (way : List ℕ) → IndicesBelow way → (h : ℕ) → at way h < 16
@@ -26,7 +26,7 @@ entry l n e h low x = x ∙ sym (getD-take n l e 0 low)
 pub entry-below : (l : List ℕ) (n e : ℕ) → e < n → IndicesBelow (take n l) → at l e < 16
 entry-below l n e h b = rw (getD-take n l e 0 h) at (below (take n l) b e)
 
--- where the walks stop
+-- where the ways stop
 abbrev pub outside : ℕ → ℕ → Bool
 outside mask k = not (bit mask k)
 
@@ -52,7 +52,7 @@ module _ (way : List ℕ) (q : ℕ → Bool) where
   met-onward zero h l e = absurd (l refl)
   met-onward (suc n) h l e = let z : suc n - 1 ≡ n = omega arith in rw (z, e)
 
--- a walk of which `left` steps are left from `here` on: they meet what the whole walk meets
+-- a way of which `left` steps are left from `here` on: they meet what the whole way meets
 pub record Meeting (way : List ℕ) (q : ℕ → Bool) (whole here left : ℕ) : Type 0 where
   pub same : firstMet way q left here ≡ whole
   pub low : here < 16

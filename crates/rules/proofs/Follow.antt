@@ -52,7 +52,7 @@ use Rattle.rules.specs.Mask.{bit}
 use Rattle.rules.specs.Read.{arrayOf, pointGone, pointIn, pointsFrom, read, stepAt, sourceAt, positionAt, above}
 use Rattle.rules.specs.Read.{MovedAt, Exchanged, FallsBeside, CanCompute}
 use Rattle.rules.specs.Ready.{IsRound, Ready}
-use Rattle.rules.specs.Step.{State, Round, After, goes, endsAtPlace, endsAtFacet, markPosition, step, begun}
+use Rattle.rules.specs.Moves.{State, Round, After, goes, endsAtPlace, endsAtFacet, markPosition, makeMove, begun}
 use Rattle.rules.proofs.Describes.{Describes, markAt, MarksBut, Came, begins, through, fromLarger, Reached}
 use Rattle.rules.proofs.Masks.{bit-none}
 use Rattle.rules.proofs.Move.{Outcome, atPlaceEnd, atFacetEnd, goesOn, Onward, onward}
@@ -62,7 +62,7 @@ use Rattle.rules.proofs.Range.{nth-pointsOf, point-on}
 use Rattle.rules.proofs.Shifted.{shifted-moved}
 use Rattle.rules.proofs.StatePoints.{order-below, after-is, ready-point, point-is, moved-on, all-points}
 use Rattle.rules.proofs.StatePoints.{later-points}
-use Rattle.rules.proofs.Walks.{block-same, source-from}
+use Rattle.rules.proofs.WaysRound.{block-same, source-from}
 
 -- the place just left is that of the chain, if any
 abbrev LeftIs : Problem → Option (List (ℕ → ℕ)) → Option Simplex → Type 0
@@ -573,7 +573,7 @@ module _ {p : Problem} (ok : FullyLabelled p) {s : State} {k : ℕ} (A : At p s 
         places = r .1;
       }
 
-  pub at-next : NextAt p k (step (read p s))
+  pub at-next : NextAt p k (makeMove (read p s))
   at-next = go move.outcome
     where
       go : {e : After} → Outcome p A.stands.T A.stands.t A.stands.x A.stands.left (read p s) e → NextAt p k e

@@ -28,12 +28,12 @@ use Rattle.path_laws.proofs.ToChain.{labelOf}
 use Rattle.path_laws.proofs.Filled.{FullyLabelled}
 use Rattle.rules.specs.Mask.{bit, withIndex, withoutIndex}
 use Rattle.rules.specs.Ready.{IsRound, ReadyGrow}
-use Rattle.rules.specs.Step.{State, goes, endsAtPlace, firstOutside, isFilled, joined, grow}
+use Rattle.rules.specs.Moves.{State, goes, endsAtPlace, firstOutside, isFilled, joined, grow}
 use Rattle.rules.proofs.Describes.{Describes, markAt, AllMarks, labelsOf, through, Joined, placeEnds}
 use Rattle.rules.proofs.Describes.{joinedOn, Grows}
 use Rattle.rules.proofs.Masks.{bit-with, bit-without}
 use Rattle.rules.proofs.Range.{few, label-below}
-use Rattle.rules.proofs.Walks.{FirstAt, forward-outside, filled-yes, filled-no}
+use Rattle.rules.proofs.WaysRound.{FirstAt, forward-outside, filled-yes, filled-no}
 
 -- the place that comes where g goes before the first index ahead of it that is not in U
 abbrev place : State → ℕ → ℕ

@@ -27,15 +27,16 @@ use Rattle.path_laws.proofs.ToChain.{labelOf}
 use Rattle.path_laws.proofs.Filled.{FullyLabelled}
 use Rattle.rules.specs.Mask.{bit, withIndex}
 use Rattle.rules.specs.Ready.{IsRound, ReadyFirst}
-use Rattle.rules.specs.Step.{State, goes, endsAtFacet, sourceIn, isFilled, shifted, changedBefore, leaveFirst}
-use Rattle.rules.specs.Step.{leave}
+use Rattle.rules.specs.Moves.{State, goes, endsAtFacet, sourceIn, isFilled, shifted, changedBefore, leaveFirst}
+use Rattle.rules.specs.Moves.{leave}
 use Rattle.rules.proofs.Describes.{Describes, markAt, AllMarks, labelsOf, Came, through, Reached, Left}
 use Rattle.rules.proofs.Describes.{facetEnds, leftOn}
 use Rattle.rules.proofs.Masks.{bit-with}
 use Rattle.rules.proofs.Range.{index-below, coord-below, coefficient-below}
 use Rattle.rules.proofs.Shifted.{length-shifted, shifted-at}
-use Rattle.rules.proofs.Walks.{ChangedOn, before-outside, changed, tested, backward, previous-below, filled-yes}
-use Rattle.rules.proofs.Walks.{filled-no, source-from}
+use Rattle.rules.proofs.WaysRound.{ChangedOn, before-outside, changed, tested, backward, previous-below}
+use Rattle.rules.proofs.WaysRound.{filled-yes}
+use Rattle.rules.proofs.WaysRound.{filled-no, source-from}
 
 -- an index joins a set or not
 or-into : (a z : Bool) → (a || z) ≡ (a && true || z)

@@ -26,15 +26,15 @@ use Rattle.path_laws.proofs.ToChain.{labelOf}
 use Rattle.path_laws.proofs.Filled.{FullyLabelled}
 use Rattle.rules.specs.Mask.{bit, withoutIndex}
 use Rattle.rules.specs.Ready.{IsRound, ReadyLast}
-use Rattle.rules.specs.Step.{State, goes, shrink, shifted, firstOutsideOrZero, changedBefore, leave, leaveLast}
+use Rattle.rules.specs.Moves.{State, goes, shrink, shifted, firstOutsideOrZero, changedBefore, leave, leaveLast}
 use Rattle.rules.proofs.Describes.{Describes, markAt, AllMarks, MarksBut, labelsOf, through, GoesOn, Left}
 use Rattle.rules.proofs.Describes.{leftOn}
 use Rattle.rules.proofs.Masks.{bit-without}
 use Rattle.rules.proofs.Range.{index-below, coord-below}
 use Rattle.rules.proofs.Shifted.{length-shifted, shifted-at}
 use Rattle.rules.proofs.Shrink.{shrunk}
-use Rattle.rules.proofs.Walks.{Before, ChangedOn, before-zero, changed, tested, backward, previous-below}
-use Rattle.rules.proofs.Walks.{chain-to-zero}
+use Rattle.rules.proofs.WaysRound.{Before, ChangedOn, before-zero, changed, tested, backward, previous-below}
+use Rattle.rules.proofs.WaysRound.{chain-to-zero}
 
 -- a new first point, with 1 more at b and 1 less at h
 abbrev newFirst : State → ℕ → ℕ → State

@@ -23,14 +23,14 @@ use Rattle.path_laws.proofs.BlocksOfGrid.{blocksOf, back-below}
 use Rattle.path_laws.proofs.ToChain.{labelOf}
 use Rattle.path_laws.proofs.Filled.{FullyLabelled}
 use Rattle.rules.specs.Read.{pointAfter, pointGone, pointIn}
-use Rattle.rules.specs.Step.{State, goes, markPosition, sourceIn, shrink, leave, leaveMiddle}
+use Rattle.rules.specs.Moves.{State, goes, markPosition, sourceIn, shrink, leave, leaveMiddle}
 use Rattle.rules.proofs.Describes.{Describes, Crossed, markAt, AllMarks, labelsOf, through, GoesOn, Left, leftOn}
 use Rattle.rules.proofs.Marks.{mark-position}
 use Rattle.rules.proofs.PointsAfter.{after-swapped}
 use Rattle.rules.proofs.Range.{nth-pointsOf, index-below, point-on}
 use Rattle.rules.proofs.Shrink.{shrunk}
 use Rattle.rules.proofs.StatePoints.{ready-point, point-is}
-use Rattle.rules.proofs.Walks.{source-from}
+use Rattle.rules.proofs.WaysRound.{source-from}
 
 -- the steps e and e + 1 exchanged
 abbrev exchanged : State → ℕ → State

@@ -10,7 +10,7 @@ use Rattle.geometry.proofs.Orders.{lt-or}
 use Rattle.place.specs.Problem.{Problem}
 use Rattle.path_laws.proofs.Filled.{FullyLabelled}
 use Rattle.rules.specs.Ready.{ReadyLeave}
-use Rattle.rules.specs.Step.{State}
+use Rattle.rules.specs.Moves.{State}
 use Rattle.rules.proofs.Describes.{Describes, Leaves}
 use Rattle.rules.proofs.LeaveFirst.{leave-first, ready-first}
 use Rattle.rules.proofs.LeaveLast.{leave-last, ready-last}

@@ -3,7 +3,7 @@ pub mod SameMasks
 pub mod Describes
 pub mod FirstMet
 pub mod ChangedBefore
-pub mod Walks
+pub mod WaysRound
 pub mod Shifted
 pub mod Shrink
 pub mod Range

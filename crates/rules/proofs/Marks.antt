@@ -15,7 +15,7 @@ use Rattle.path_laws.proofs.ToChain.{pointsOf, labelOf}
 use Rattle.path_laws.proofs.Filled.{FullyLabelled}
 use Rattle.rules.specs.Read.{markOf}
 use Rattle.rules.specs.Ready.{IndicesBelow}
-use Rattle.rules.specs.Step.{mark, markLabel, markPosition}
+use Rattle.rules.specs.Moves.{mark, markLabel, markPosition}
 use Rattle.rules.proofs.Describes.{markAt, labelsOf}
 use Rattle.rules.proofs.Range.{nth-pointsOf, label-is, label-below}
 

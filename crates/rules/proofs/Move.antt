@@ -26,7 +26,7 @@ use Rattle.path_laws.proofs.Filled.{FullyLabelled}
 use Rattle.rules.specs.Mask.{bit}
 use Rattle.rules.specs.Read.{markOf, read}
 use Rattle.rules.specs.Ready.{labelIn, Ready, ReadyLeave, ReadyGrow}
-use Rattle.rules.specs.Step.{State, After, goes, endsAtPlace, endsAtFacet, markLabel, leave, step, withMark}
+use Rattle.rules.specs.Moves.{State, After, goes, endsAtPlace, endsAtFacet, markLabel, leave, makeMove, withMark}
 use Rattle.rules.proofs.Describes.{Describes, labelsOf, markAt, AllMarks, MarksBut, Came, begins, through}
 use Rattle.rules.proofs.Describes.{fromLarger, Reached, Left, facetEnds, leftOn, Joined, placeEnds, joinedOn}
 use Rattle.rules.proofs.Grow.{grows, grow-ready}
@@ -75,7 +75,7 @@ module _ {p : Problem} (ok : FullyLabelled p) where
       : Type 0 where
     pub describes : Describes p T t o x s
     pub ready : Ready s
-    pub outcome : Outcome p T t x left s (step s)
+    pub outcome : Outcome p T t x left s (makeMove s)
 
   -- a point with a label outside T is the only one
   pub extra-at : {T : ℕ → Bool} {t : ℕ} {o : ℕ → ℕ} {x : List (ℕ → ℕ)} → LabelledChain (blocksOf p) (labelOf p) T t o x
@@ -129,7 +129,7 @@ module _ {p : Problem} (ok : FullyLabelled p) where
     -- the label that came in is outside T, and joins it
     outside-onward : s .rule < 6 → T (labelsOf p x s.active) ≡ false → (left : Option (List (ℕ → ℕ)))
         → ((y : List (ℕ → ℕ)) → left ≡ some y → Above (blocksOf p) (labelOf p) T t x y → ⊥) → Onward T t o x s left
-    unfolding step
+    unfolding makeMove
     outside-onward r e left new =
         let E = extra-at D.chain s.active low e in
         let b = label-bit ∙ e in
@@ -195,7 +195,7 @@ module _ {p : Problem} (ok : FullyLabelled p) where
     -- the path came through the facet opposite to the point that came in
     through-onward : s .rule < 6 → Carries T (suc n) (labelsOf p x) s.active → Through (blocksOf p) T n x s.active l
         → Onward T (suc n) o x s (some l)
-    unfolding step
+    unfolding makeMove
     through-onward r carry X = ⊎-elim
         (λ e.
         let b = label-bit D A low ∙ e in
@@ -218,7 +218,7 @@ module _ {p : Problem} (ok : FullyLabelled p) where
     -- T has lost an index, and the point with that label leaves
     larger-onward : 6 ≤ s .rule → T (labelsOf p x s.active) ≡ false → Above (blocksOf p) (labelOf p) T (suc n) x l
         → Onward T (suc n) o x s (some l)
-    unfolding step
+    unfolding makeMove
     larger-onward r e X = record {
       describes = D;
       ready = ready-of D A low

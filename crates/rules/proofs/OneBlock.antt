@@ -28,9 +28,9 @@ use Rattle.positions.specs.Falls.{tailFrom, Falls}
 use Rattle.rules.proofs.Describes.{Describes}
 use Rattle.rules.proofs.Range.{few, point-on}
 use Rattle.rules.proofs.StatePoints.{after-is, moved-on, order-below, point-is}
-use Rattle.rules.proofs.Walks.{in-block, source-from}
+use Rattle.rules.proofs.WaysRound.{in-block, source-from}
 use Rattle.rules.specs.Read.{pointIn, stepAt, sourceAt, Falling}
-use Rattle.rules.specs.Step.{State, sourceIn}
+use Rattle.rules.specs.Moves.{State, sourceIn}
 
 grid-accepted : (p : Problem) → HasStart p → GridAccepted p.grid
 grid-accepted p ok = record {

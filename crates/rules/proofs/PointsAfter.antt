@@ -18,7 +18,7 @@ use Rattle.grid_points.specs.Grid.{at}
 use Rattle.rules.proofs.FirstMet.{entry}
 use Rattle.rules.proofs.Shifted.{at-most-one, length-shifted, shifted-at}
 use Rattle.rules.specs.Read.{pointAfter, ReadyPoint}
-use Rattle.rules.specs.Step.{shifted}
+use Rattle.rules.specs.Moves.{shifted}
 
 module _ (from : ℕ → ℕ) (order first : List ℕ) where
   pub after-none : first ≡ pointAfter from order first 0

@@ -10,7 +10,7 @@ use native.Mathlib.Omega.{arith}
 use Rattle.combinatorics.proofs.Basics.{same-or}
 use Rattle.geometry.proofs.Definitions.{one-at}
 use Rattle.grid_points.specs.Grid.{at}
-use Rattle.rules.specs.Step.{shifted}
+use Rattle.rules.specs.Moves.{shifted}
 
 pub at-most-one : (b k : ℕ) → one-at b k ≤ 1
 at-most-one b k = ⊎-elim

@@ -23,7 +23,7 @@ use Rattle.path_laws.proofs.BlocksOfGrid.{blocksOf}
 use Rattle.path_laws.proofs.ToChain.{labelOf}
 use Rattle.path_laws.proofs.Filled.{FullyLabelled}
 use Rattle.rules.specs.Mask.{bit, withIndex, withoutIndex}
-use Rattle.rules.specs.Step.{State, markLabel, shrink}
+use Rattle.rules.specs.Moves.{State, markLabel, shrink}
 use Rattle.rules.proofs.Describes.{Describes, markAt, AllMarks, labelsOf, Came, fromLarger, GoesOn}
 use Rattle.rules.proofs.Masks.{bit-with, bit-without}
 use Rattle.rules.proofs.Marks.{labels-in, mark-label}

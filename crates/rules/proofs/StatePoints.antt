@@ -26,9 +26,9 @@ use Rattle.path_laws.proofs.Filled.{FullyLabelled}
 use Rattle.rules.proofs.Describes.{Describes}
 use Rattle.rules.proofs.Range.{index-below, few, point-on, coord-below}
 use Rattle.rules.proofs.Shifted.{length-shifted, shifted-at, shifted-moved}
-use Rattle.rules.proofs.Walks.{source-from}
+use Rattle.rules.proofs.WaysRound.{source-from}
 use Rattle.rules.specs.Read.{pointAfter, arrayOf, pointIn, pointsFrom, sourceAt, CanCompute}
-use Rattle.rules.specs.Step.{State}
+use Rattle.rules.specs.Moves.{State}
 
 map-upFrom : (f : ℕ → Point) (l : Simplex) (b n : ℕ) → length l ≡ n → ((j : ℕ) → j < n → f (b + j) ≡ nth l j)
     → map f (upFrom b n) ≡ l

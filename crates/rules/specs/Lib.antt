@@ -1,4 +1,4 @@
 pub mod Mask
-pub mod Step
+pub mod Moves
 pub mod Ready
 pub mod Read

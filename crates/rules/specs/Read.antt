@@ -11,7 +11,7 @@ use Rattle.grid_points.specs.Grid.{Grid, Point, at, numIndices, blockOf, isGrid
 use Rattle.positions.specs.Falls.{tailFrom, Falls}
 use Rattle.place.specs.Places.{Simplex}
 use Rattle.place.specs.Problem.{Problem, label}
-use Rattle.rules.specs.Step.{State, mark, markPosition, shifted, sourceIn, withMark}
+use Rattle.rules.specs.Moves.{State, mark, markPosition, shifted, sourceIn, withMark}
 
 -- the first point after the first i steps of the order, where a step at h takes from the index `from h`
 unfoldable pub pointAfter : (ℕ → ℕ) → List ℕ → List ℕ → ℕ → List ℕ

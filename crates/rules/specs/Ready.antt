@@ -10,7 +10,7 @@ use lib.ListN.{length, set, take}
 use Rattle.combinatorics.specs.Edits.{found}
 use Rattle.grid_points.specs.Grid.{Grid, at, numIndices, size, blockOf, previous, next}
 use Rattle.rules.specs.Mask.{bit}
-use Rattle.rules.specs.Step.{State, Round, markLabel, sourceIn, firstOutsideOrZero, isFilled}
+use Rattle.rules.specs.Moves.{State, Round, markLabel, sourceIn, firstOutsideOrZero, isFilled}
 
 -- the test holds of each number that `changedBefore` changes
 unfoldable pub testedBefore : (ℕ → Bool) → (ℕ → ℕ) → List ℕ → ℕ → ℕ → ℕ → List ℕ → Bool

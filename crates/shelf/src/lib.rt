@@ -9,7 +9,7 @@ pub use answers::Current;
 pub use answers::Filed;
 
 // Questions 21, 22 and 23 of filing: the number of the first that is answered no, or 0.
-fn first_no(list: &[u16], count: usize, named: usize) -> u8
+fn first_shelf_no(list: &[u16], count: usize, named: usize) -> u8
     ensures { λ r. ⌜ r ≡ filingRefusal (now (list .entry)) count named ⌝ }
 {
     if !passes::is_shelf(list, count) {
@@ -39,7 +39,7 @@ pub fn file(list: &mut [u16], count: usize, named: usize) -> Filed
     ensures answer { λ r. ⌜ r ≡ filing (now (list .entry)) count named ⌝ }
     ensures list { λ _. ⌜ now (list .exit) ≡ listFiled (now (list .entry)) count named ⌝ }
 {
-    let number = first_no(list, count, named);
+    let number = first_shelf_no(list, count, named);
     if number != 0 {
         return Filed::Refused(number);
     }

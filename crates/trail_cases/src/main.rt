@@ -19,24 +19,24 @@ use case_reader::within_bytes;
 use case_reader::within_words;
 use case_reader::word;
 use case_reader::words;
-use trail_writer::Answer;
+use trail_writer::TrailAnswer;
 
 // The answer's lines, and how many bytes of the trail it says are written.
-fn print_answer(found: Answer) -> usize {
+fn print_answer(found: TrailAnswer) -> usize {
     match found {
-        Answer::Refused(number) => {
+        TrailAnswer::Refused(number) => {
             print_refused(number);
             0
         }
-        Answer::Spent(places) => {
+        TrailAnswer::Spent(places) => {
             print_spent(places);
             0
         }
-        Answer::Unknown { places, position } => {
+        TrailAnswer::Unknown { places, position } => {
             print_unknown(places, position as u64);
             0
         }
-        Answer::End {
+        TrailAnswer::End {
             places,
             labels_read,
             kind,
@@ -74,10 +74,10 @@ fn print_run(
     print_trail(trail, written);
 }
 
-fn print_found(found: trail_reader::Answer) {
+fn print_found(found: trail_reader::ReadAnswer) {
     match found {
-        trail_reader::Answer::Refused(number) => print_refused(number),
-        trail_reader::Answer::Place {
+        trail_reader::ReadAnswer::Refused(number) => print_refused(number),
+        trail_reader::ReadAnswer::Place {
             points,
             t,
             u,

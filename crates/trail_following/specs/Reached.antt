@@ -8,7 +8,7 @@ use Rattle.grid.specs.declared.Grid.{Grid as GridStruct}
 use Rattle.moves.specs.declared.Status.{Status}
 use Rattle.place.specs.LabelsRead.{cameIn}
 use Rattle.place.specs.Places.{Simplex}
-use Rattle.rules.specs.Step.{State}
+use Rattle.rules.specs.Moves.{State}
 use Rattle.trail.specs.Trail.{placesFrom, rebuiltFrom}
 use Rattle.trail_steps.specs.Shows.{Shows}
 use Rattle.trail_steps.specs.Reading.{HasRead, problemBy}

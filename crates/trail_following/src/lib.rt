@@ -5,7 +5,7 @@ ghost use Prim.Native.Nat.{_%_, _≤_, _<_};
 ghost use lib.ListN.{getD, length};
 ghost use Rattle.arrays.specs.Rounds.{round};
 ghost use Rattle.moves.specs.Held.{held, stateOf};
-ghost use Rattle.rules.specs.Step.{State};
+ghost use Rattle.rules.specs.Moves.{State};
 ghost use Rattle.trail_steps.specs.Reading.{CanGoOn};
 ghost use Rattle.trail_following.specs.Reached.{ReachesFrom};
 use grid::Grid;

@@ -1,4 +1,4 @@
--- The walk along the path and the trail of its places. In order: the points of a place and their marks; the record that
+-- The pass along the path and the trail of its places. In order: the points of a place and their marks; the record that
 -- is made at a place; the position of the point that leaves; the trail so far, whose length the sets T and U alone
 -- tell. Assumes nothing.
 use mathlib.Core.Bool.{Bool, true, false, cond}
@@ -44,7 +44,7 @@ use Rattle.rules.proofs.Marks.{position-in as mark-position}
 use Rattle.rules.proofs.Masks.{IsMask, maskT, maskU}
 use Rattle.rules.specs.Read.{markOf, pointIn, pointsFrom, positionAt, read}
 use Rattle.rules.specs.Ready.{labelIn, Ready}
-use Rattle.rules.specs.Step.{State, goes, markPosition, step, withMark}
+use Rattle.rules.specs.Moves.{State, goes, markPosition, makeMove, withMark}
 use Rattle.trail.proofs.Outside.{outside-in, mapped-one}
 use Rattle.trail.proofs.Reading.{T-alike}
 use Rattle.trail.proofs.RunTrail.{one-more, path-trail, trail-fits}
@@ -76,7 +76,7 @@ ended-whole p budget {n} {read} {kind} {block} {vertices} {simplex} e =
         let h : outcome p (path p .visited) (some x) ≡ ended n read kind block vertices simplex = rw w at f in
         cc
 
--- a walk that only counts leaves the trail as it was
+-- a pass that only counts leaves the trail as it was
 pub unwritten : (writes : Bool) (new old : List ℕ) → writes ≡ false → cond writes new old ≡ old
 unwritten true new old e = absurd-bool e
 unwritten false new old e = refl
@@ -96,7 +96,7 @@ module _ (g : GridStruct) (start table : List ℕ) where
       ≡ z ∷ []
       → before .gone ≡ position (problemIn g start table .grid) z
 
-  -- which a walk that writes keeps
+  -- which a pass that writes keeps
   pub record Left (before : Before) (k : ℕ) : Type 0 where
     pub left : (h : ℕ) → suc h ≡ k → HasLeft before h
     pub low : before .gone < 65536
@@ -106,8 +106,8 @@ module _ (g : GridStruct) (start table : List ℕ) where
     pub long : at ≡ length (trailOf (problemIn g start table) (take k (path (problemIn g start table) .visited)))
     pub behind : (h : ℕ) → suc h ≡ k → Behind before h
 
-  -- What the walk has written at place number k, from 0: the records of the places before it. The record of the place
-  -- ends at byte `end`. Where rule 1 led to the place, T and U are those of the place before. A walk that writes knows
+  -- What the pass has written at place number k, from 0: the records of the places before it. The record of the place
+  -- ends at byte `end`. Where rule 1 led to the place, T and U are those of the place before. A pass that writes knows
   -- the point that has left.
   pub record Recording (writes : Bool) (old : List ℕ) (k : ℕ) (a : State) (trail : List ℕ) (before : Before)
       (from end : ℕ) : Type 0 where
@@ -459,7 +459,7 @@ module _ (g : GridStruct) (start table : List ℕ) (ok : Accepted (problemIn g s
         (λ (l : length (full-marks .order) ≤ 0). R .first (omega (arith, R .low)) .some)
         (before-or-not 0 (length (full-marks .order)))
 
-    module _ (e : State) (moved : step full-marks ≡ goes e) (next : OnPath p e (suc k)) where
+    module _ (e : State) (moved : makeMove full-marks ≡ goes e) (next : OnPath p e (suc k)) where
       marked : length (full-marks .marks) ≡ suc (length (full-marks .order))
       marked =
           same-long s ∙ at-long (filled-full ok) (here .0) ∙ ap (λ (l : List ℕ). suc (length l)) (sym (same-order s))
@@ -504,7 +504,7 @@ module _ (g : GridStruct) (start table : List ℕ) (ok : Accepted (problemIn g s
           ∙ moved))))
           (leaves-or-joins full-marks)
 
-      -- which a walk that writes keeps
+      -- which a pass that writes keeps
       pub next-left : (gone : ℕ) → gone ≡ gone-here
           → Left g start table (record { t = s .T; u = s .U; gone = gone }) (suc k)
       next-left gone z = record {
@@ -538,7 +538,7 @@ module _ (g : GridStruct) (start table : List ℕ) (ok : Accepted (problemIn g s
   pub part-fits : (n : ℕ) → length (trailOf p (take n visited)) < 2 ^ 64
   part-fits n = omega (arith, part-short visited n, trail-fits ok visited (demand3-holds ok .follows))
 
-  -- where a walk begins
+  -- where a pass begins
   pub so-far-none : (before : Before) → SoFar g start table before 0 0
   so-far-none before = record { long = ap length (sym no-trail); behind = λ h e. absurd (omega arith) }
 
@@ -549,7 +549,7 @@ module _ (g : GridStruct) (start table : List ℕ) (ok : Accepted (problemIn g s
   trail-none true old = sym (ap (λ (l : List ℕ). front l old) no-trail ∙ front-none old)
   trail-none false old = refl
 
-  -- one place of the walk
+  -- one place of the pass
   module _ (s : State) (k : ℕ) (here : OnPath p s k) (known : IsKnown (tableProblem g table) s) (before : Before)
       (at : ℕ)
       (F : SoFar g start table before k at) where

@@ -1,11 +1,11 @@
-// The walk from {v} along the path with the record of each place: a first one counts the bytes, a second stores them.
+// The pass from {v} along the path with the record of each place: a first one counts the bytes, a second stores them.
 // What is public here is for the writer, which shows what it asks.
 ghost use mathlib.Core.Path.{_≡_};
 ghost use lib.ListN.{length};
 ghost use Rattle.arrays.specs.Rounds.{round};
-ghost use Rattle.path_pass.specs.Finish.{CanWalk, Finished, problemIn};
-ghost use Rattle.rules.specs.Step.{Round};
-ghost use Rattle.trail_pass.specs.Walked.{HasRoomForTrail, Recorded};
+ghost use Rattle.path_pass.specs.Finish.{CanPass, Finished, problemIn};
+ghost use Rattle.rules.specs.Moves.{Round};
+ghost use Rattle.trail_pass.specs.Recording.{HasRoomForTrail, Recorded};
 use grid::Grid;
 use moves::Outcome;
 use path_pass::Finish;
@@ -19,18 +19,18 @@ use positions::ENTRIES;
 use trail_visits::Before;
 use trail_visits::bytes_to;
 use trail_visits::tell;
-use ways::step;
+use ways::make_move;
 
-// How a walk ended, and the bytes of its records.
-pub struct Walked {
+// How a pass ended, and the bytes of its records.
+pub struct RecordingPass {
     pub finish: Finish,
     pub bytes: usize,
 }
 
 // From {v} to the path's end, or until the budget is spent: the number of places left counts down. The record of a
 // place goes from byte `from` to byte `end`. It is counted where the move to the place is made, whose rule the compiler
-// then knows, and stored where the walk writes.
-pub fn follow(
+// then knows, and stored where the pass writes.
+pub fn pass_recording(
     g: Grid,
     binomials: &[u16; ENTRIES],
     table: &[u8],
@@ -42,10 +42,10 @@ pub fn follow(
     trail: &mut [u8],
     writes: bool,
     budget: u64,
-) -> Walked
+) -> RecordingPass
     ghost { Round }
     requires { λ w. ⌜ round previous next sizes ≡ w ⌝ }
-    requires { λ w. ⌜ CanWalk g w (now binomials) (now first) (now order) (now table) ⌝ }
+    requires { λ w. ⌜ CanPass g w (now binomials) (now first) (now order) (now table) ⌝ }
     requires { λ _. ⌜ HasRoomForTrail (problemIn g (now first) (now table)) writes (length (now trail)) ⌝ }
     ensures { λ w r. ⌜ Finished (problemIn g (now (first .entry)) (now (table .entry))) budget w
         (now (first .exit)) (now (order .exit)) (r .finish) ⌝ }
@@ -83,7 +83,7 @@ pub fn follow(
             s,
         );
         if let Looked::Unknown(position) = looked {
-            return Walked {
+            return RecordingPass {
                 finish: Finish::Unknown {
                     places: budget - at.left,
                     position,
@@ -92,7 +92,7 @@ pub fn follow(
             };
         }
         let gone = tell(&marks, s, trail, from, before, writes);
-        let outcome = step(
+        let outcome = make_move(
             previous,
             next,
             sizes,
@@ -103,13 +103,13 @@ pub fn follow(
             s,
         );
         if let Outcome::PlaceEnd(_) = outcome {
-            return Walked {
+            return RecordingPass {
                 finish: ended(at, outcome, budget),
                 bytes: end,
             };
         }
         if let Outcome::FacetEnd(_) = outcome {
-            return Walked {
+            return RecordingPass {
                 finish: ended(at, outcome, budget),
                 bytes: end,
             };
@@ -125,7 +125,7 @@ pub fn follow(
             at = on(at, status);
         }
     }
-    Walked {
+    RecordingPass {
         finish: Finish::Spent,
         bytes: from,
     }

@@ -31,7 +31,7 @@ use Rattle.rules.proofs.Describes.{Describes}
 use Rattle.rules.proofs.Follow.{start-describes}
 use Rattle.rules.specs.Mask.{bit}
 use Rattle.rules.specs.Ready.{IsRound}
-use Rattle.rules.specs.Step.{Round, begun}
+use Rattle.rules.specs.Moves.{Round, begun}
 use Rattle.trail.proofs.Reading.{T-alike}
 use Rattle.trail.proofs.Tables.{Labelled, some-index, some-table}
 use Rattle.trail_steps.specs.Shows.{Shows, bare}

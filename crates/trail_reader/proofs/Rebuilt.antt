@@ -32,7 +32,7 @@ use Rattle.questions.specs.Questions.{firstNo}
 use Rattle.trail_records.specs.Records.{firstRecord}
 use Rattle.rules.proofs.StatePoints.{all-points, ready-point}
 use Rattle.rules.specs.Read.{CanCompute, numbersFrom, pointsFrom}
-use Rattle.rules.specs.Step.{State}
+use Rattle.rules.specs.Moves.{State}
 use Rattle.trail.proofs.Tables.{some-index, some-table}
 use Rattle.trail.proofs.Tells.{begins-with}
 use Rattle.trail.specs.Record.{startRecord}
@@ -48,7 +48,7 @@ use Rattle.trail_reader.proofs.Masks.{mask-is}
 use Rattle.trail_reader.specs.Reading.{readCase, isPlaced, readNumbers, readQuestion17, readAnswer, readPoints}
 use Rattle.trail_reader.specs.Reading.{trailReadQuestions}
 use Rattle.trail_reader.specs.Begun.{IsPlace, Reads}
-use Rattle.trail_reader.specs.declared.answers.Answer.the-variants.{Place, Refused}
+use Rattle.trail_reader.specs.declared.answers.ReadAnswer.the-variants.{Place, Refused}
 use Rattle.trail_reader.specs.declared.answers.Reading.{Reading}
 
 module _ (p : Problem) (bytes : List ℕ) where

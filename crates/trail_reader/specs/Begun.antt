@@ -12,11 +12,11 @@ use Rattle.path_laws.specs.Demand.{HasStart}
 use Rattle.positions.specs.Binomials.{Measured}
 use Rattle.rules.specs.Read.{numbersFrom}
 use Rattle.rules.specs.Ready.{IsRound, RoundBelow}
-use Rattle.rules.specs.Step.{Round, State}
+use Rattle.rules.specs.Moves.{Round, State}
 use Rattle.trail.specs.Trail.{reading}
 use Rattle.trail_steps.specs.Reading.{problemBy}
 use Rattle.trail_reader.specs.Reading.{readCase, readNumbers}
-use Rattle.trail_reader.specs.declared.answers.Answer.the-variants.{Place}
+use Rattle.trail_reader.specs.declared.answers.ReadAnswer.the-variants.{Place}
 use Rattle.trail_reader.specs.declared.answers.Reading.{Reading}
 
 pub record CanReadTrail (g : GridStruct) (start : List ℕ) : Type 0 where

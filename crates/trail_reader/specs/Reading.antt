@@ -10,8 +10,8 @@ use Rattle.grid_points.specs.Questions.{gridQuestions, question5}
 use Rattle.place.specs.Problem.{Problem}
 use Rattle.questions.specs.Questions.{Question, ask, firstNo}
 use Rattle.trail.specs.Trail.{Reading as TrailReading, noRecord, placed, reading}
-use Rattle.trail_reader.specs.declared.answers.Answer.{Answer}
-use Rattle.trail_reader.specs.declared.answers.Answer.the-variants.{Place, Refused}
+use Rattle.trail_reader.specs.declared.answers.ReadAnswer.{ReadAnswer}
+use Rattle.trail_reader.specs.declared.answers.ReadAnswer.the-variants.{Place, Refused}
 
 -- document 01, "T and U are sets of at most 16 indices": a set as a mask, in which the bit of index h, counted from 0,
 -- has value 2 to the power of h
@@ -39,7 +39,7 @@ trailReadQuestions p bytes number = startQuestions p ++ (readQuestion17 p bytes 
 
 -- "rebuilds the place at that record": how many points it has, T and U, and request 10's labels read; the points'
 -- numbers, in rising coefficient sum, m each
-abbrev pub readCase : TrailReading → Answer
+abbrev pub readCase : TrailReading → ReadAnswer
 readCase noRecord = Refused 17
 readCase (placed read points T U) = Place (length points) (maskOf T) (maskOf U) read
 
@@ -48,7 +48,7 @@ readNumbers noRecord = []
 readNumbers (placed read points T U) = concatMap (λ y. y) points
 
 -- "A refusal returns its number": the first question answered no; else the place
-unfoldable pub readAnswer : Problem → List ℕ → ℕ → Answer
+unfoldable pub readAnswer : Problem → List ℕ → ℕ → ReadAnswer
 readAnswer p bytes number =
     let refusal = firstNo (trailReadQuestions p bytes number) in
     cond (eqb refusal 0) (readCase (reading p bytes number)) (Refused refusal)

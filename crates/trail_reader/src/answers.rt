@@ -7,7 +7,7 @@ ghost use Rattle.arrays.specs.Rounds.{round, roundBack};
 ghost use Rattle.moves.specs.Held.{stateOf};
 ghost use Rattle.moves.specs.Room.{CanPut};
 ghost use Rattle.place.specs.Problem.{problemOf};
-ghost use Rattle.rules.specs.Step.{Round, State};
+ghost use Rattle.rules.specs.Moves.{Round, State};
 ghost use Rattle.trail_reader.specs.Begun.{CanLocate, CanReadTrail, CanRebuild, IsLocated, IsPlace, Reads};
 ghost use Rattle.trail_reader.specs.Reading.{readAnswer, readPoints};
 use arrays::block_sizes;
@@ -24,7 +24,7 @@ use trail_records::stands;
 
 // What the reader answers: the number of the first of questions 1 to 5 and 17 that is answered no; or how many points
 // the place has, T and U as masks, bit h for index h + 1, and the labels read up to the place.
-pub enum Answer {
+pub enum ReadAnswer {
     Refused(u8),
     Place {
         points: usize,
@@ -37,15 +37,15 @@ pub enum Answer {
 // The answer, and the points of the place in rising coefficient sum, m numbers each, at the front of 256 numbers, 0
 // behind.
 pub struct Reading {
-    pub answer: Answer,
+    pub answer: ReadAnswer,
     pub points: [u16; 256],
 }
 
 fn refused(number: u8) -> Reading
-    ensures { λ r. ⌜ (r .answer ≡ Answer.Refused number) × (r .points ≡ replicate 256 0) ⌝ }
+    ensures { λ r. ⌜ (r .answer ≡ ReadAnswer.Refused number) × (r .points ≡ replicate 256 0) ⌝ }
 {
     Reading {
-        answer: Answer::Refused(number),
+        answer: ReadAnswer::Refused(number),
         points: [0u16; 256],
     }
 }
@@ -74,7 +74,7 @@ fn placed(
 {
     let mut points = [0u16; 256];
     let count = put_points(&mut points, previous, sizes, first, order, s, m, 0);
-    let answer = Answer::Place {
+    let answer = ReadAnswer::Place {
         points: count,
         t: mask(s.t),
         u: mask(s.u),

@@ -1,6 +1,6 @@
 // The reader of a trail.
 mod answers;
 
-pub use answers::Answer;
+pub use answers::ReadAnswer;
 pub use answers::Reading;
 pub use answers::read;

@@ -1,20 +1,20 @@
 -- What the reader of a trail answers and writes for C and Rust: the numbers of each case of an enum. Assumes nothing.
 use mathlib.Core.List.{List, [], _∷_}
 use Prim.Native.Nat.{ℕ}
-use Rattle.trail_reader.specs.declared.answers.Answer.{Answer}
-use Rattle.trail_reader.specs.declared.answers.Answer.the-variants.{Place, Refused}
+use Rattle.trail_reader.specs.declared.answers.ReadAnswer.{ReadAnswer}
+use Rattle.trail_reader.specs.declared.answers.ReadAnswer.the-variants.{Place, Refused}
 
 -- "A refusal returns its number"; 0 where the reader "rebuilds the place at that record"
-abbrev pub readNumber : Answer → ℕ
+abbrev pub readNumber : ReadAnswer → ℕ
 readNumber (Refused number) = number
 readNumber (Place points t u read) = 0
 
 -- how many points the place has, T, U and the labels read; a refusal has none of these
-abbrev pub placeFacts : Answer → List ℕ
+abbrev pub placeFacts : ReadAnswer → List ℕ
 placeFacts (Refused number) = []
 placeFacts (Place points t u read) = points ∷ t ∷ u ∷ read ∷ []
 
 -- the numbers of the points; a refusal "changes no buffer"
-abbrev pub pointsLeft : Answer → List ℕ → List ℕ → List ℕ
+abbrev pub pointsLeft : ReadAnswer → List ℕ → List ℕ → List ℕ
 pointsLeft (Refused number) new old = old
 pointsLeft (Place points t u read) new old = new

@@ -11,7 +11,7 @@ ghost use Rattle.trail_reader_exports.specs.Read.{placeFacts, pointsLeft
 // The number of points, T, U and the labels read to the front of their buffer, and the points to theirs, where a place
 // is rebuilt.
 fn put_place(
-    found: trail_reader::Answer,
+    found: trail_reader::ReadAnswer,
     from: [u16; 256],
     points: &mut [u16; 256],
     place: &mut [u64],
@@ -22,8 +22,8 @@ fn put_place(
     ensures place { λ _. ⌜ now (place .exit) ≡ front (placeFacts found) (now (place .entry)) ⌝ }
 {
     match found {
-        trail_reader::Answer::Refused(number) => number,
-        trail_reader::Answer::Place {
+        trail_reader::ReadAnswer::Refused(number) => number,
+        trail_reader::ReadAnswer::Place {
             points: count,
             t,
             u,

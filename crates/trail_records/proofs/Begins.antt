@@ -21,11 +21,13 @@ begins-short (x ∷ r) (y ∷ bytes) l = ends (eqb x y) (begins-short r bytes (o
     ends false e = refl
 
 module _ (r bytes : List ℕ) (k : ℕ) (low : k < length r) (there : k < length bytes) where
-  pub begins-same : getD bytes k 0 ≡ getD r k 0 → begins (drop k r) (drop k bytes) ≡ begins (drop (suc k) r) (drop (suc k) bytes)
+  pub begins-same : getD bytes k 0 ≡ getD r k 0 → begins (drop k r) (drop k bytes) ≡ begins (drop (suc k) r)
+      (drop (suc k) bytes)
   begins-same e = rw (drop-cons r k 0 low, drop-cons bytes k 0 there, eq-eqb (getD r k 0) (getD bytes k 0) (sym e))
 
   pub begins-other : (getD bytes k 0 ≡ getD r k 0 → ⊥) → begins (drop k r) (drop k bytes) ≡ false
-  begins-other n = rw (drop-cons r k 0 low, drop-cons bytes k 0 there, ne-eqb (getD r k 0) (getD bytes k 0) (λ e. n (sym e)))
+  begins-other n = rw
+      (drop-cons r k 0 low, drop-cons bytes k 0 there, ne-eqb (getD r k 0) (getD bytes k 0) (λ e. n (sym e)))
 
 pub begins-done : (r bytes : List ℕ) (k : ℕ) → length r ≤ k → begins (drop k r) bytes ≡ true
 begins-done [] bytes zero l = refl

@@ -16,8 +16,8 @@ use Rattle.combinatorics.proofs.EditsRotate.{length-rotateLeft, rotateLeft-befo
 use Rattle.combinatorics.specs.Edits.{found}
 use Rattle.grid_points.specs.Grid.{at}
 use Rattle.rules.specs.Mask.{bit}
-use Rattle.rules.specs.Step.{State, After, goes, endsAtPlace, endsAtFacet, firstOutside, grow}
-use Rattle.rules.specs.Step.{isFilled, joined, leave, leaveFirst, leaveLast, leaveMiddle, shrink, sourceIn}
+use Rattle.rules.specs.Moves.{State, After, goes, endsAtPlace, endsAtFacet, firstOutside, grow}
+use Rattle.rules.specs.Moves.{isFilled, joined, leave, leaveFirst, leaveLast, leaveMiddle, shrink, sourceIn}
 
 -- mark j of s is a mark of e, and not that of a point which has come in
 pub record Kept (s e : State) (j : ℕ) : Type 0 where

@@ -29,9 +29,9 @@ use Rattle.trail_records.proofs.Told.{told}
 use Rattle.trail_records.specs.Records.{recordFrom}
 use Rattle.rules.specs.Mask.{bit}
 use Rattle.rules.specs.Read.{positionAt}
-use Rattle.rules.specs.Step.{After, State, endsAtFacet, endsAtPlace, goes, markPosition}
+use Rattle.rules.specs.Moves.{After, State, endsAtFacet, endsAtPlace, goes, markPosition}
 use Rattle.trail.proofs.OneNext.{into-tells, out-tells}
-use Rattle.trail.proofs.Outside.{in-outside}
+use Rattle.trail.proofs.Outside.{in-outside, mapped-one}
 use Rattle.trail.proofs.Reading.{reads-none, reads-on}
 use Rattle.trail.proofs.Tables.{some-index, some-table}
 use Rattle.trail.proofs.Tells.{begins-with}
@@ -43,7 +43,7 @@ use Rattle.trail_steps.proofs.Moves.{leave-leads, leavesNone, leavesOn,
 use Rattle.trail_steps.proofs.Reached.{Arrives, stored}
 use Rattle.trail_steps.proofs.Shows.{chain-over, shows-long}
 use Rattle.trail_steps.specs.Shows.{Shows}
-use Rattle.trail_steps.proofs.Named.{Names, brings, mapped-one, names, position-at, takes}
+use Rattle.trail_steps.proofs.Named.{Names, brings, names, position-at, takes}
 use Rattle.trail_steps.specs.Reading.{joining, leaving, wayOf}
 use Rattle.ways.specs.Ways.{CanMove, goneBy, wayAfter}
 use Rattle.ways.specs.declared.Way.{Way}

@@ -36,7 +36,7 @@ use Rattle.rules.proofs.Grow.{grow-ready, grows}
 use Rattle.rules.proofs.Leaves.{leave-ready, leaves}
 use Rattle.rules.proofs.Range.{nth-pointsOf}
 use Rattle.rules.specs.Ready.{ReadyGrow, ReadyLeave}
-use Rattle.rules.specs.Step.{After, State, endsAtFacet, endsAtPlace, goes, grow, leave}
+use Rattle.rules.specs.Moves.{After, State, endsAtFacet, endsAtPlace, goes, grow, leave}
 use Rattle.trail.proofs.OneNext.{into-none, not-there, out-none, over-out}
 use Rattle.trail.proofs.Outside.{in-outside, outside-in, outside-none}
 use Rattle.trail.proofs.Reading.{T-alike}

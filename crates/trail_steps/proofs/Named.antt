@@ -10,7 +10,7 @@ use lib.ListN.{drop, getD, length, length-map}
 use native.Mathlib.Omega.{arith}
 use Rattle.combinatorics.proofs.Basics.{before-or-not}
 use Rattle.combinatorics.proofs.EditsRemove.{found-is}
-use Rattle.combinatorics.proofs.Lists.{all-in, in-here, onNumbers}
+use Rattle.combinatorics.proofs.Lists.{all-in, in-here, mapped-at, onNumbers}
 use Rattle.combinatorics.specs.Edits.{found}
 use Rattle.combinatorics.specs.Lists.{isIn}
 use Rattle.geometry.proofs.Points.{nth}
@@ -23,8 +23,8 @@ use Rattle.path_laws.proofs.Meaning.{T-means}
 use Rattle.path_laws.proofs.Positions.{at-in, in-at}
 use Rattle.path_laws.specs.Demand.{HasStart}
 use Rattle.rules.specs.Ready.{IndicesBelow}
-use Rattle.rules.specs.Step.{State, mark, markPosition}
-use Rattle.trail.proofs.Outside.{none-of, outside-in}
+use Rattle.rules.specs.Moves.{State, mark, markPosition}
+use Rattle.trail.proofs.Outside.{mapped-one, none-of, outside-in}
 use Rattle.trail.proofs.Rules.{recorded}
 use Rattle.trail.proofs.SomeLinks.{move-rule}
 use Rattle.trail.proofs.Tells.{at-position, begins-with}
@@ -42,17 +42,6 @@ use Rattle.ways.specs.declared.Way.the-variants.{Joins, Leaves}
 pub data Names (p : Problem) (a b : Simplex) (t : ℕ) (T : ℕ → Bool) : Way → Type 0 where
   takes : (i : ℕ) → i ≤ t → 1 ≤ t → TakesOut p a i b → Names p a b t T (Leaves i)
   brings : (h : ℕ) → h < numIndices (p .grid) → T h ≡ false → BringsIn p a h b → Names p a b t T (Joins h)
-
-mapped-at : {A : Type 0} (f : A → ℕ) (d : A) (l : List A) (j : ℕ) → j < length l → getD (map f l) j 0 ≡ f (getD l j d)
-mapped-at f d [] j l = absurd (omega arith)
-mapped-at f d (x ∷ xs) zero l = refl
-mapped-at f d (x ∷ xs) (suc j) l = mapped-at f d xs j (omega arith)
-
-pub mapped-one : (f : Point → ℕ) (l : List Point) (x : ℕ) → map f l ≡ x ∷ []
-    → (y : Point) × (l ≡ y ∷ []) × (isIn samePoint y l ≡ true) × (f y ≡ x)
-mapped-one f [] x e = absurd (omega (arith, ap length e))
-mapped-one f (y ∷ []) x e = (y, refl, in-here onPoints y [], cc)
-mapped-one f (y ∷ z ∷ l) x e = absurd (omega (arith, ap length e))
 
 -- T leaves out an index of each block
 pub shows-few : {p : Problem} → HasStart p → {a : Simplex} {s : State} (S : Shows p a s) → S .t ≤ 15

@@ -25,7 +25,7 @@ use Rattle.place.specs.Places.{Simplex}
 use Rattle.place.specs.Problem.{Problem}
 use Rattle.trail_records.specs.declared.IndexSets.{IndexSets}
 use Rattle.rules.specs.Ready.{RoundBelow, SixteenEach}
-use Rattle.rules.specs.Step.{After, Round, State, goes}
+use Rattle.rules.specs.Moves.{After, Round, State, goes}
 use Rattle.trail.proofs.Rules.{record-short}
 use Rattle.trail.specs.Change.{change}
 use Rattle.trail.specs.Record.{recordOf}

@@ -35,7 +35,7 @@ use Rattle.rules.proofs.Follow.{reached-stands, stands-beside, stands-exchanged
 use Rattle.rules.proofs.Range.{nth-pointsOf}
 use Rattle.rules.proofs.StatePoints.{point-is}
 use Rattle.rules.specs.Read.{CanCompute, Exchanged, Falling, FallsBeside, above, pointIn, positionAt}
-use Rattle.rules.specs.Step.{State, mark, markPosition}
+use Rattle.rules.specs.Moves.{State, mark, markPosition}
 use Rattle.trail.proofs.OneNext.{not-there}
 use Rattle.trail.proofs.Outside.{outside-none}
 use Rattle.trail.proofs.Reading.{T-alike, place-alike}

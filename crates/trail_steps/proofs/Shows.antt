@@ -20,7 +20,7 @@ use Rattle.path_laws.proofs.Meaning.{T-means}
 use Rattle.path_laws.proofs.ToChain.{indexOf, labelOf}
 use Rattle.rules.proofs.Describes.{AllMarks, Describes, labelsOf, markAt}
 use Rattle.rules.proofs.Range.{nth-pointsOf}
-use Rattle.rules.specs.Step.{State}
+use Rattle.rules.specs.Moves.{State}
 use Rattle.trail.proofs.Tables.{Labelled}
 use Rattle.trail_steps.specs.Shows.{Shows}
 

@@ -13,9 +13,9 @@ use Rattle.combinatorics.proofs.Basics.{before-or-not, same-or, true-or-false}
 use Rattle.combinatorics.specs.Edits.{butLast, found, insertAt, lastOr, removeAt, rotateLeft, rotateRight}
 use Rattle.grid_points.specs.Grid.{at}
 use Rattle.rules.specs.Mask.{bit}
-use Rattle.rules.specs.Step.{State, After, goes, endsAtPlace, endsAtFacet, firstOutside, grow}
-use Rattle.rules.specs.Step.{isFilled, leave, leaveFirst, leaveLast, leaveMiddle, mark, markPosition, shrink}
-use Rattle.rules.specs.Step.{sourceIn}
+use Rattle.rules.specs.Moves.{State, After, goes, endsAtPlace, endsAtFacet, firstOutside, grow}
+use Rattle.rules.specs.Moves.{isFilled, leave, leaveFirst, leaveLast, leaveMiddle, mark, markPosition, shrink}
+use Rattle.rules.specs.Moves.{sourceIn}
 use Rattle.trail_steps.proofs.Shows.{withMarks}
 
 -- a mark without its label

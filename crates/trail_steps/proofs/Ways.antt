@@ -8,7 +8,7 @@ use lib.Dec.{eqb}
 use lib.ListN.{drop, getD, length, length-drop}
 use lib.Seq.{getD-drop}
 use native.Mathlib.Omega.{arith}
-use Rattle.rules.specs.Step.{State}
+use Rattle.rules.specs.Moves.{State}
 use Rattle.trail_steps.specs.Reading.{joining, leaving, wayOf}
 use Rattle.ways.specs.declared.Way.the-variants.{Nothing}
 

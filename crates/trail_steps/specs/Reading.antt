@@ -21,7 +21,7 @@ use Rattle.trail_records.specs.declared.IndexSets.{IndexSets}
 use Rattle.rules.specs.Mask.{bit}
 use Rattle.rules.specs.Read.{pointOn}
 use Rattle.rules.specs.Ready.{RoundBelow, SixteenEach}
-use Rattle.rules.specs.Step.{State, markPosition}
+use Rattle.rules.specs.Moves.{State, markPosition}
 use Rattle.trail.specs.Trail.{begins, rebuiltFrom}
 use Rattle.trail_steps.specs.Shows.{Shows}
 use Rattle.ways.specs.declared.Way.{Way}

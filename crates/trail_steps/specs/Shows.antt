@@ -14,7 +14,7 @@ use Rattle.path_laws.proofs.BlocksOfGrid.{blocksOf}
 use Rattle.path_laws.proofs.ToChain.{inT, pointsOf}
 use Rattle.rules.specs.Mask.{bit}
 use Rattle.rules.specs.Ready.{IsRound}
-use Rattle.rules.specs.Step.{State, mark}
+use Rattle.rules.specs.Moves.{State, mark}
 
 -- the mark of a point that has no label
 abbrev pub bare : Problem → Point → ℕ

@@ -9,7 +9,7 @@ ghost use Rattle.combinatorics.specs.Edits.{found};
 ghost use Rattle.marks.specs.Reading.{CanFind};
 ghost use Rattle.moves.specs.Held.{held};
 ghost use Rattle.positions.specs.Binomials.{Measured};
-ghost use Rattle.rules.specs.Step.{State, markPosition};
+ghost use Rattle.rules.specs.Moves.{State, markPosition};
 ghost use Rattle.trail_steps.specs.Reading.{CanCompare, bytesStanding, comePosition, joining, leaving};
 ghost use Rattle.trail_steps.specs.Reading.{marksWith, wayOf};
 ghost use Rattle.ways.specs.Ways.{heldMarks};

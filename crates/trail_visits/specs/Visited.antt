@@ -1,4 +1,4 @@
--- What one place of a walk that writes a trail asks and gives. The writer's own promise does not cite it.
+-- What one place of a pass that writes a trail asks and gives. The writer's own promise does not cite it.
 -- Assumes nothing.
 use mathlib.Core.Bool.{Bool, cond}
 use mathlib.Core.List.{List}
@@ -10,7 +10,7 @@ use lib.Seq.{paste}
 use Rattle.moves.specs.declared.Status.{Status}
 use Rattle.trail_records.specs.Records.{SameSets, firstRecord, recordFrom}
 use Rattle.rules.specs.Read.{positionAt}
-use Rattle.rules.specs.Step.{State}
+use Rattle.rules.specs.Moves.{State}
 use Rattle.trail_visits.specs.declared.Before.{Before}
 
 -- the record of a place, at a position of the trail, by what is kept of the place before
@@ -31,7 +31,7 @@ pub record CanWrite (a : State) (s : Status) (trail : List ℕ) (at : ℕ) (befo
   pub room : at + length (recordHere a before at) ≤ length trail
   pub kept : a .rule ≡ 1 → 0 < at → SameSets (before .t) (before .u) (a .T) (a .U)
 
--- the trail with the record of a place, where the walk writes
+-- the trail with the record of a place, where the pass writes
 abbrev pub withRecord : State → List ℕ → ℕ → Before → Bool → List ℕ
 withRecord a old at before writes =
     let bytes = recordHere a before at in

@@ -1,11 +1,11 @@
-// One place of a walk that writes a trail: the record that is stored, and the bytes of the next one. What is public
+// One place of a pass that writes a trail: the record that is stored, and the bytes of the next one. What is public
 // here is for the writer, which shows what it asks.
 ghost use mathlib.Core.Bool.{true};
 ghost use mathlib.Core.Path.{_≡_};
 ghost use Prim.Native.Nat.{ℕ};
 ghost use lib.ListN.{length};
 ghost use Rattle.trail_records.specs.Records.{IsRecord, SameSets, recordFrom};
-ghost use Rattle.rules.specs.Step.{State};
+ghost use Rattle.rules.specs.Moves.{State};
 ghost use Rattle.trail_visits.specs.Visited.{CanWrite, HasPositions, recordHere, withRecord};
 ghost use Rattle.ways.specs.Ways.{CanTell, goneBy, heldMarks, wayHere};
 use arrays::position_at;
@@ -63,7 +63,7 @@ fn put_here(marks: &[u32; 16], s: Status, trail: &mut [u8], at: usize, before: B
     put(trail, at, record_here(marks, s, before, at));
 }
 
-// Where the walk writes, the record is stored, and the position of the point that leaves next is told. A walk that
+// Where the pass writes, the record is stored, and the position of the point that leaves next is told. A pass that
 // counts needs neither.
 pub fn tell(
     marks: &[u32; 16],

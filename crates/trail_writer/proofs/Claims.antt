@@ -17,9 +17,9 @@ use Rattle.combinatorics.specs.Lists.{all}
 use Rattle.end_kinds.specs.declared.Kind.{Kind}
 use Rattle.finder.proofs.Demand.{unrefused}
 use Rattle.finder.specs.Run.{caseOf, numbersOf, runRefusal, runAnswer, runBuffer}
-use Rattle.finder.specs.declared.answers.Answer.the-variants.{Refused as RunRefused, End as RunEnd}
+use Rattle.finder.specs.declared.answers.RunAnswer.the-variants.{Refused as RunRefused, End as RunEnd}
 use Rattle.path_laws.specs.Demand.{Accepted, placeAt}
-use Rattle.place.specs.Path.{Answer as PathAnswer, answer, ended, path, pathLength, spent, unknown}
+use Rattle.place.specs.Path.{PathAnswer, answer, ended, path, pathLength, spent, unknown}
 use Rattle.place.specs.Problem.{Problem, withLabels}
 use Rattle.place.specs.Questions.{runQuestions}
 use Rattle.questions.specs.Questions.{Question, firstNo}
@@ -28,7 +28,7 @@ use Rattle.trail.specs.Trail.{rebuilt}
 use Rattle.trail_writer.specs.Claims.{ReadsBack, TrailsOfRuns, Writes, withoutBytes}
 use Rattle.trail_writer.specs.Writing.{announces, trailAnswerBuffer, trailAnswer, trailBuffer, trailCase}
 use Rattle.trail_writer.specs.Writing.{wholeTrail}
-use Rattle.trail_writer.specs.declared.answers.Answer.the-variants.{End, Refused}
+use Rattle.trail_writer.specs.declared.answers.TrailAnswer.the-variants.{End, Refused}
 use Rattle.trail_writer.proofs.Endings.{has-room, too-short}
 use Rattle.trail_pass.proofs.OnTrail.{ended-whole}
 

@@ -1,4 +1,4 @@
--- From where a walk finished to the answer of a run that writes a trail. In order: the second walk ends as the first;
+-- From where a pass finished to the answer of a run that writes a trail. In order: the second pass ends as the first;
 -- question 17; the refusals. Assumes nothing.
 use mathlib.Core.Bool.{true, false, cond}
 use mathlib.Core.List.{List, []}
@@ -17,19 +17,19 @@ use Rattle.path_pass.specs.Finish.{Finished}
 use Rattle.finder.specs.Run.{caseOf, numbersOf, runRefusal}
 use Rattle.path_pass.specs.declared.Finish.{Finish}
 use Rattle.path_pass.specs.declared.Finish.the-variants.{Ended, Spent as FinishSpent, Unknown as FinishUnknown}
-use Rattle.place.specs.Path.{Answer as PathAnswer, answer, ended}
+use Rattle.place.specs.Path.{PathAnswer, answer, ended}
 use Rattle.place.specs.Places.{Simplex}
 use Rattle.place.specs.Problem.{Problem}
 use Rattle.questions.specs.Questions.{firstNo}
-use Rattle.rules.specs.Step.{Round}
-use Rattle.trail_pass.specs.Walked.{Recorded}
+use Rattle.rules.specs.Moves.{Round}
+use Rattle.trail_pass.specs.Recording.{Recorded}
 use Rattle.trail_writer.specs.Again.{HasEnd, hasRoom, storedAt, withBytes}
 use Rattle.trail_writer.specs.Writing.{announces, trailAnswerBuffer, trailAnswer, trailBuffer, trailCase}
 use Rattle.trail_writer.specs.Writing.{wholeTrail}
-use Rattle.trail_writer.specs.declared.answers.Answer.{Answer}
-use Rattle.trail_writer.specs.declared.answers.Answer.the-variants.{End, Refused}
+use Rattle.trail_writer.specs.declared.answers.TrailAnswer.{TrailAnswer}
+use Rattle.trail_writer.specs.declared.answers.TrailAnswer.the-variants.{End, Refused}
 
--- a walk whose path has an end has it too
+-- a pass whose path has an end has it too
 pub ends-again : (p : Problem) (budget : ℕ) (round : Round) (first order old new : List ℕ) (bytes : ℕ) (f : Finish)
     {n read : ℕ} {kind : Kind} {block vertices : ℕ} {simplex : Simplex}
     → answer p budget ≡ ended n read kind block vertices simplex → Finished p budget round first order f
@@ -55,7 +55,7 @@ module _ (p : Problem) (room : ℕ) where
   unfolding firstNo
   has-room l n read kind block vertices simplex = rw (le-leb (length (wholeTrail p)) room l)
 
--- where the first walk finished, in a trail buffer of `room` bytes
+-- where the first pass finished, in a trail buffer of `room` bytes
 module _ (p : Problem) (budget : ℕ) (round : Round) (first order : List ℕ) (room : ℕ) where
   pub refused-17 : (f : Finish) → Finished p budget round first order f → hasRoom p room f ≡ false
       → (Refused 17 ≡ trailCase p room (answer p budget)) × (storedAt p room f ≡ [])
@@ -66,7 +66,7 @@ module _ (p : Problem) (budget : ℕ) (round : Round) (first order : List ℕ) (
 
   pub announced-end : (old new : List ℕ) (bytes : ℕ) (f : Finish) → Finished p budget round first order f
       → Recorded p false old new bytes f → hasRoom p room f ≡ true
-      → (r : Answer) → r ≡ withBytes (caseOf (answer p budget)) bytes
+      → (r : TrailAnswer) → r ≡ withBytes (caseOf (answer p budget)) bytes
       → (r ≡ trailCase p room (answer p budget))
       × (numbersOf (answer p budget) ≡ cond (announces r) (numbersOf (answer p budget)) [])
       × (storedAt p room f ≡ cond (announces r) (wholeTrail p) [])

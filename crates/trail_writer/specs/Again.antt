@@ -1,4 +1,4 @@
--- What the second walk asks, which writes the trail, and what the finish of the first leads to. The writer's own
+-- What the second pass asks, which writes the trail, and what the finish of the first leads to. The writer's own
 -- promise does not cite it. Assumes nothing.
 use mathlib.Core.Bool.{Bool, true, cond}
 use mathlib.Core.List.{List, []}
@@ -9,9 +9,9 @@ use lib.ListN.{length}
 use Rattle.end_kinds.specs.declared.Kind.{Kind}
 use Rattle.grid.specs.Made.{shape}
 use Rattle.grid.specs.declared.Grid.{Grid as GridStruct}
-use Rattle.finder.specs.declared.answers.Answer.{Answer as RunAnswer}
-use Rattle.finder.specs.declared.answers.Answer.the-variants.{End as RunEnd, Refused as RunRefused}
-use Rattle.finder.specs.declared.answers.Answer.the-variants.{Spent as RunSpent, Unknown as RunUnknown}
+use Rattle.finder.specs.declared.answers.RunAnswer.{RunAnswer}
+use Rattle.finder.specs.declared.answers.RunAnswer.the-variants.{End as RunEnd, Refused as RunRefused}
+use Rattle.finder.specs.declared.answers.RunAnswer.the-variants.{Spent as RunSpent, Unknown as RunUnknown}
 use Rattle.marks.specs.Reading.{Readable, problemFrom}
 use Rattle.moves.specs.declared.Status.{Status}
 use Rattle.path_laws.specs.Demand.{Accepted}
@@ -21,10 +21,10 @@ use Rattle.place.specs.Path.{answer, ended}
 use Rattle.place.specs.Places.{Simplex}
 use Rattle.place.specs.Problem.{Problem}
 use Rattle.rules.specs.Ready.{IsRound, RoundBelow}
-use Rattle.rules.specs.Step.{Round}
+use Rattle.rules.specs.Moves.{Round}
 use Rattle.trail_writer.specs.Writing.{wholeTrail}
-use Rattle.trail_writer.specs.declared.answers.Answer.{Answer}
-use Rattle.trail_writer.specs.declared.answers.Answer.the-variants.{Refused, Spent, Unknown, End}
+use Rattle.trail_writer.specs.declared.answers.TrailAnswer.{TrailAnswer}
+use Rattle.trail_writer.specs.declared.answers.TrailAnswer.the-variants.{Refused, Spent, Unknown, End}
 
 -- the path has an end within the budget
 abbrev pub HasEnd : Problem → ℕ → Type 0
@@ -41,7 +41,7 @@ pub record CanWriteTrail (g : GridStruct) (round : Round) (binomials start label
   pub ends : HasEnd (problemFrom g start labels) budget
   pub fits : length (wholeTrail (problemFrom g start labels)) ≤ room
 
--- the first walk has come to its finish, and has counted the bytes of the trail if that is an end
+-- the first pass has come to its finish, and has counted the bytes of the trail if that is an end
 pub record HasCounted (g : GridStruct) (round : Round) (binomials start labels : List ℕ) (budget bytes : ℕ)
     (f : Finish) : Type 0 where
   pub readable : Readable g binomials labels
@@ -63,7 +63,7 @@ storedAt p room (UnknownLabel places position) = []
 storedAt p room BudgetSpent = []
 
 -- a run's answer, at an end with the bytes written
-abbrev pub withBytes : RunAnswer → ℕ → Answer
+abbrev pub withBytes : RunAnswer → ℕ → TrailAnswer
 withBytes (RunRefused number) bytes = Refused number
 withBytes (RunSpent n) bytes = Spent n
 withBytes (RunUnknown n position) bytes = Unknown n position

@@ -7,19 +7,19 @@ use lib.ListN.{length, take}
 use Rattle.end_kinds.specs.declared.Kind.{Kind}
 use Rattle.finder.specs.Demand.{AcceptedWith}
 use Rattle.finder.specs.Run.{runAnswer, runBuffer}
-use Rattle.finder.specs.declared.answers.Answer.{Answer as RunAnswer}
-use Rattle.finder.specs.declared.answers.Answer.the-variants.{Refused as RunRefused, Spent as RunSpent}
-use Rattle.finder.specs.declared.answers.Answer.the-variants.{Unknown as RunUnknown, End as RunEnd}
+use Rattle.finder.specs.declared.answers.RunAnswer.{RunAnswer}
+use Rattle.finder.specs.declared.answers.RunAnswer.the-variants.{Refused as RunRefused, Spent as RunSpent}
+use Rattle.finder.specs.declared.answers.RunAnswer.the-variants.{Unknown as RunUnknown, End as RunEnd}
 use Rattle.path_laws.specs.Demand.{placeAt}
 use Rattle.place.specs.Path.{path, pathLength}
 use Rattle.place.specs.Problem.{Problem, withLabels}
 use Rattle.trail.specs.Trail.{rebuilt}
 use Rattle.trail_writer.specs.Writing.{trailAnswerBuffer, trailAnswer, trailBuffer, wholeTrail}
-use Rattle.trail_writer.specs.declared.answers.Answer.{Answer}
-use Rattle.trail_writer.specs.declared.answers.Answer.the-variants.{Refused, Spent, Unknown, End}
+use Rattle.trail_writer.specs.declared.answers.TrailAnswer.{TrailAnswer}
+use Rattle.trail_writer.specs.declared.answers.TrailAnswer.the-variants.{Refused, Spent, Unknown, End}
 
 -- the answer of the run without a trail
-abbrev pub withoutBytes : Answer → RunAnswer
+abbrev pub withoutBytes : TrailAnswer → RunAnswer
 withoutBytes (Refused number) = RunRefused number
 withoutBytes (Spent n) = RunSpent n
 withoutBytes (Unknown n position) = RunUnknown n position

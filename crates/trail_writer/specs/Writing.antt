@@ -7,12 +7,12 @@ use lib.Dec.{eqb, leb}
 use lib.ListN.{length}
 use Rattle.combinatorics.specs.Front.{front}
 use Rattle.finder.specs.Run.{numbersOf, runRefusal}
-use Rattle.place.specs.Path.{Answer as PathAnswer, answer, ended, path, spent, unknown}
+use Rattle.place.specs.Path.{PathAnswer, answer, ended, path, spent, unknown}
 use Rattle.place.specs.Problem.{Problem}
 use Rattle.questions.specs.Questions.{Question, ask, firstNo}
 use Rattle.trail.specs.Record.{trailOf}
-use Rattle.trail_writer.specs.declared.answers.Answer.{Answer}
-use Rattle.trail_writer.specs.declared.answers.Answer.the-variants.{Refused, Spent, Unknown, End}
+use Rattle.trail_writer.specs.declared.answers.TrailAnswer.{TrailAnswer}
+use Rattle.trail_writer.specs.declared.answers.TrailAnswer.the-variants.{Refused, Spent, Unknown, End}
 
 -- "A run can write a trail": that of the whole path
 abbrev pub wholeTrail : Problem → List ℕ
@@ -24,7 +24,7 @@ writeQuestion17 p room = ask 17 (leb (length (wholeTrail p)) room)
 
 -- "asked after the run has ended and before anything is written (that run announces no end ..)": of an accepted table.
 -- A run that meets 9 or 16 has not ended, and is not asked. The end is the run's, with the bytes written.
-abbrev pub trailCase : Problem → ℕ → PathAnswer → Answer
+abbrev pub trailCase : Problem → ℕ → PathAnswer → TrailAnswer
 trailCase p room (spent n) = Spent n
 trailCase p room (unknown n position) = Unknown n position
 trailCase p room (ended n read kind block vertices simplex) =
@@ -32,12 +32,12 @@ trailCase p room (ended n read kind block vertices simplex) =
     cond (eqb number 0) (End n read kind block vertices (length (wholeTrail p))) (Refused number)
 
 -- questions 1 to 8 come first; the answer buffer has `room` numbers, the trail buffer `trailRoom` bytes
-unfoldable pub trailAnswer : Problem → ℕ → ℕ → ℕ → Answer
+unfoldable pub trailAnswer : Problem → ℕ → ℕ → ℕ → TrailAnswer
 trailAnswer p room trailRoom budget =
     cond (eqb (runRefusal p room) 0) (trailCase p trailRoom (answer p budget)) (Refused (runRefusal p room))
 
 -- "A refusal returns its number and no count, and changes no buffer": only a run that announces an end writes
-abbrev pub announces : Answer → Bool
+abbrev pub announces : TrailAnswer → Bool
 announces (Refused number) = false
 announces (Spent n) = false
 announces (Unknown n position) = false

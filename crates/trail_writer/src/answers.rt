@@ -8,9 +8,9 @@ ghost use Rattle.combinatorics.specs.Front.{front};
 ghost use Rattle.finder.specs.Asked.{CanRun};
 ghost use Rattle.finder.specs.Run.{numbersOf};
 ghost use Rattle.marks.specs.Reading.{problemFrom};
-ghost use Rattle.place.specs.Path.{Answer as PathAnswer, answer as answerOf};
+ghost use Rattle.place.specs.Path.{PathAnswer, answer as answerOf};
 ghost use Rattle.place.specs.Problem.{problemOf};
-ghost use Rattle.rules.specs.Step.{Round};
+ghost use Rattle.rules.specs.Moves.{Round};
 ghost use Rattle.trail_writer.specs.Again.{CanWriteTrail, HasCounted, hasRoom, storedAt, withBytes};
 ghost use Rattle.trail_writer.specs.Writing.{announces, trailAnswerBuffer, trailAnswer, trailBuffer};
 ghost use Rattle.trail_writer.specs.Writing.{trailCase, wholeTrail};
@@ -18,15 +18,15 @@ use arrays::block_sizes;
 use arrays::padded;
 use end_kinds::Kind;
 use finder::announce;
-use finder::first_no;
+use finder::first_run_no;
 use grid::Grid;
 use path_pass::Finish;
 use positions::ENTRIES;
-use trail_pass::follow;
+use trail_pass::pass_recording;
 
 // What a run that writes a trail answers. The block counts from 1. The vertices, m numbers each, stand at the front of
 // the answer buffer, and the trail at the front of the trail buffer.
-pub enum Answer {
+pub enum TrailAnswer {
     // The number of the first of questions 1 to 8 that is answered no; or 17: the trail buffer is shorter than the
     // trail.
     Refused(u8),
@@ -49,7 +49,7 @@ pub enum Answer {
     },
 }
 
-// The walk again, which stores the records. The path has an end within the budget, and its trail has room.
+// The pass again, which stores the records. The path has an end within the budget, and its trail has room.
 fn write_trail(
     g: Grid,
     binomials: &[u16; ENTRIES],
@@ -69,7 +69,7 @@ fn write_trail(
 {
     let mut first = padded(start, g.indices);
     let mut order = [0u32; 16];
-    follow(
+    pass_recording(
         g,
         binomials,
         labels,
@@ -84,7 +84,7 @@ fn write_trail(
     );
 }
 
-// 17, which is put where the first walk came to an end, and then the second walk: whether the trail has room. A run
+// 17, which is put where the first pass came to an end, and then the second pass: whether the trail has room. A run
 // without an end stores nothing.
 fn stored(
     g: Grid,
@@ -140,20 +140,23 @@ fn stored(
 }
 
 // A run's answer, at an end with the bytes written.
-fn with_bytes(run: finder::Answer, bytes: usize) -> Answer
+fn with_bytes(run: finder::RunAnswer, bytes: usize) -> TrailAnswer
     ensures { λ r. ⌜ r ≡ withBytes run bytes ⌝ }
 {
     match run {
-        finder::Answer::Refused(number) => Answer::Refused(number),
-        finder::Answer::Spent(places) => Answer::Spent(places),
-        finder::Answer::Unknown { places, position } => Answer::Unknown { places, position },
-        finder::Answer::End {
+        finder::RunAnswer::Refused(number) => TrailAnswer::Refused(number),
+        finder::RunAnswer::Spent(places) => TrailAnswer::Spent(places),
+        finder::RunAnswer::Unknown { places, position } => TrailAnswer::Unknown {
+            places,
+            position,
+        },
+        finder::RunAnswer::End {
             places,
             labels_read,
             kind,
             block,
             vertices,
-        } => Answer::End {
+        } => TrailAnswer::End {
             places,
             labels_read,
             kind,
@@ -164,8 +167,8 @@ fn with_bytes(run: finder::Answer, bytes: usize) -> Answer
     }
 }
 
-// The walk along the path of an accepted table, and its answer. The length of the trail is known only at the end, so a
-// first walk counts it and a second one writes.
+// The pass along the path of an accepted table, and its answer. The length of the trail is known only at the end, so a
+// first pass counts it and a second one writes.
 fn announced(
     g: Grid,
     binomials: &[u16; ENTRIES],
@@ -174,7 +177,7 @@ fn announced(
     answer: &mut [u16],
     trail: &mut [u8],
     budget: u64,
-) -> Answer
+) -> TrailAnswer
     ghost { PathAnswer }
     requires { λ p. ⌜ answerOf (problemFrom g (now start) (now labels)) budget ≡ p ⌝ }
     requires { λ _. ⌜ CanRun g (now binomials) (now start) (now labels) (now answer) ⌝ }
@@ -190,7 +193,7 @@ fn announced(
     let sizes = block_sizes(g);
     let mut first = padded(start, m);
     let mut order = [0u32; 16];
-    let walked = follow(
+    let passed = pass_recording(
         g,
         binomials,
         labels,
@@ -203,8 +206,8 @@ fn announced(
         false,
         budget,
     );
-    let bytes = walked.bytes;
-    let finish = walked.finish;
+    let bytes = passed.bytes;
+    let finish = passed.finish;
     let has_room = stored(
         g,
         binomials,
@@ -219,7 +222,7 @@ fn announced(
         bytes,
     );
     if !has_room {
-        return Answer::Refused(17);
+        return TrailAnswer::Refused(17);
     }
     let run = announce(g, &previous, &sizes, &first, &order, finish, answer, budget);
     with_bytes(run, bytes)
@@ -235,7 +238,7 @@ pub fn run_with_trail(
     answer: &mut [u16],
     trail: &mut [u8],
     budget: u64,
-) -> Answer
+) -> TrailAnswer
     ensures answer { λ r. ⌜ r ≡ trailAnswer
         (problemOf (now (sizes .entry)) (now (divisions .entry)) (now (start .entry)) (now (labels .entry)))
         (length (now (answer .entry))) (length (now (trail .entry))) budget ⌝ }
@@ -250,11 +253,11 @@ pub fn run_with_trail(
     let code = made.code;
     let g = made.grid;
     if code != 0 {
-        return Answer::Refused(code);
+        return TrailAnswer::Refused(code);
     }
-    let number = first_no(g, start, labels, answer.len());
+    let number = first_run_no(g, start, labels, answer.len());
     if number != 0 {
-        return Answer::Refused(number);
+        return TrailAnswer::Refused(number);
     }
     let mut binomials = [0u16; ENTRIES];
     positions::binomials(g, &mut binomials);

@@ -10,23 +10,23 @@ ghost use Rattle.trail_writer_exports.specs.Written.{bytesWritten};
 use finder::put_answer;
 
 // What the run without a trail answers.
-fn without_bytes(answer: trail_writer::Answer) -> finder::Answer
+fn without_bytes(answer: trail_writer::TrailAnswer) -> finder::RunAnswer
     ensures { λ r. ⌜ r ≡ withoutBytes answer ⌝ }
 {
     match answer {
-        trail_writer::Answer::Refused(number) => finder::Answer::Refused(number),
-        trail_writer::Answer::Spent(visited) => finder::Answer::Spent(visited),
-        trail_writer::Answer::Unknown { places, position } => {
-            finder::Answer::Unknown { places, position }
+        trail_writer::TrailAnswer::Refused(number) => finder::RunAnswer::Refused(number),
+        trail_writer::TrailAnswer::Spent(visited) => finder::RunAnswer::Spent(visited),
+        trail_writer::TrailAnswer::Unknown { places, position } => {
+            finder::RunAnswer::Unknown { places, position }
         }
-        trail_writer::Answer::End {
+        trail_writer::TrailAnswer::End {
             places,
             labels_read,
             kind,
             block,
             vertices,
             bytes,
-        } => finder::Answer::End {
+        } => finder::RunAnswer::End {
             places,
             labels_read,
             kind,
@@ -37,14 +37,14 @@ fn without_bytes(answer: trail_writer::Answer) -> finder::Answer
 }
 
 // How many bytes of the trail are written; the old number where none are.
-fn bytes_written(answer: trail_writer::Answer, old: u64) -> u64
+fn bytes_written(answer: trail_writer::TrailAnswer, old: u64) -> u64
     ensures { λ r. ⌜ r ≡ bytesWritten answer old ⌝ }
 {
     match answer {
-        trail_writer::Answer::Refused(number) => old,
-        trail_writer::Answer::Spent(visited) => old,
-        trail_writer::Answer::Unknown { places, position } => old,
-        trail_writer::Answer::End {
+        trail_writer::TrailAnswer::Refused(number) => old,
+        trail_writer::TrailAnswer::Spent(visited) => old,
+        trail_writer::TrailAnswer::Unknown { places, position } => old,
+        trail_writer::TrailAnswer::End {
             places,
             labels_read,
             kind,

@@ -29,14 +29,14 @@ use Rattle.walk_labels.specs.declared.Carried.{Carried}
 use Rattle.walk_places.specs.Walks.{walkGrid, placeOf, walkOf, walkOn}
 use Rattle.walk_ways.specs.Answers.{answerOf, nextAs, outcomeNumbers, structOn}
 use Rattle.walk_calls.specs.Calls.{callOf}
-use Rattle.walk_ways.specs.declared.Answer.{Answer}
-use Rattle.walk_ways.specs.declared.Answer.the-variants.{Ended, Moved, Refused}
+use Rattle.walk_ways.specs.declared.WalkAnswer.{WalkAnswer}
+use Rattle.walk_ways.specs.declared.WalkAnswer.the-variants.{Ended, Moved, Refused}
 use Rattle.walk_calls.specs.declared.Call.{Call}
 use Rattle.walk_ways.specs.declared.Next.{Next}
 use Rattle.walk_places.specs.declared.Place.{Place}
 use Rattle.walk_places.specs.declared.Walk.{Walk as WalkStruct}
 
-abbrev madeCall : Answer → List ℕ → WalkStruct → Call
+abbrev madeCall : WalkAnswer → List ℕ → WalkStruct → Call
 madeCall answer simplex walk = record { answer = answer; simplex = simplex; walk = walk }
 
 module _ (g : Grid) (w : WalkStruct) (labels : List ℕ) where

@@ -23,7 +23,7 @@ use Rattle.place.specs.Problem.{Problem, label}
 use Rattle.path_laws.proofs.Positions.{at-in}
 use Rattle.path_laws.specs.Demand.{Accepted}
 use Rattle.walk_recogniser.specs.Pieces.{bareMark}
-use Rattle.rules.specs.Step.{markPosition}
+use Rattle.rules.specs.Moves.{markPosition}
 use Rattle.walks.specs.Walk.{labelsOf}
 use Rattle.walk_calls.specs.Moving.{CarriesTo}
 use Rattle.walk_places.specs.Placing.{BothMarked, GoesTo}

@@ -18,7 +18,7 @@ use Rattle.walk_labels.specs.declared.Carried.{Carried}
 use Rattle.combinatorics.specs.Front.{padded}
 use Rattle.walk_places.specs.Walks.{placeOf, walkOn}
 use Rattle.walk_ways.specs.Answers.{answerOf, outcomeNumbers, structOn}
-use Rattle.walk_ways.specs.declared.Answer.the-variants.{Refused}
+use Rattle.walk_ways.specs.declared.WalkAnswer.the-variants.{Refused}
 use Rattle.walk_calls.specs.declared.Call.{Call}
 use Rattle.walk_places.specs.declared.Place.{Place}
 use Rattle.walk_places.specs.declared.Walk.{Walk as WalkStruct}

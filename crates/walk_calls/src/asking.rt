@@ -7,7 +7,7 @@ use grid::Grid;
 use label_table::all_at_most;
 
 // The number of the first of questions 5 to 7 that is answered no, or 0, on a grid that is accepted.
-pub fn first_no(g: Grid, start: &[u16], labels: &[u8]) -> u8
+pub fn first_table_no(g: Grid, start: &[u16], labels: &[u8]) -> u8
     requires { ⌜ IsMade g ⌝ }
     ensures { λ r. ⌜ r ≡ firstNo (laterWalkQuestions g (now (start .entry)) (now (labels .entry))) ⌝ }
 {

@@ -9,7 +9,7 @@ ghost use Rattle.walk_places.specs.Placing.{GoesTo};
 ghost use Rattle.walk_places.specs.Walks.{walkGrid, placeOf, tableOn};
 ghost use Rattle.walk_calls.specs.Calls.{callOf};
 use crate::Call;
-use crate::asking::first_no;
+use crate::asking::first_table_no;
 use grid::Grid;
 use grid::Made;
 use grid::wide;
@@ -19,7 +19,7 @@ use walk_next::next_on;
 use walk_places::Place;
 use walk_places::Walk;
 use walk_places::both_placed;
-use walk_ways::Answer;
+use walk_ways::WalkAnswer;
 
 // The labels of the place to which the walk is moved: those that it carries, and the table's of a point that comes in.
 fn carried_to(g: Grid, w: Walk, labels: &[u8], next: Place) -> Carried
@@ -74,7 +74,7 @@ fn call_on(g: Grid, w: Walk, labels: &[u8]) -> Call
 {
     let start = w.start;
     let m = g.indices;
-    let number = first_no(g, &start[..m], labels);
+    let number = first_table_no(g, &start[..m], labels);
     if number != 0 {
         return unmoved(w, number);
     }
@@ -83,9 +83,9 @@ fn call_on(g: Grid, w: Walk, labels: &[u8]) -> Call
     let simplex = next.simplex;
     let place = next.place;
     let walk = match answer {
-        Answer::Moved(_) => moved_to(w, place, carried_to(g, w, labels, place)),
-        Answer::Refused(_) => w,
-        Answer::Ended {
+        WalkAnswer::Moved(_) => moved_to(w, place, carried_to(g, w, labels, place)),
+        WalkAnswer::Refused(_) => w,
+        WalkAnswer::Ended {
             kind: _,
             block: _,
             vertices: _,
@@ -103,7 +103,7 @@ fn unmoved(w: Walk, number: u8) -> Call
     ensures { λ r. ⌜ r ≡ unmovedAs w number ⌝ }
 {
     Call {
-        answer: Answer::Refused(number),
+        answer: WalkAnswer::Refused(number),
         simplex: [0u16; 256],
         walk: w,
     }

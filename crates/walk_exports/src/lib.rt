@@ -1,48 +1,48 @@
 // The calls on a walk, for programs in C and Rust: each takes the struct by reference, calls the by-value step and
 // stores what it gives.
 ghost use mathlib.Core.Path.{_≡_};
-ghost use Rattle.walk_numbers.specs.Steps.{begunStep, movedStep, pointedStep, shownStep};
-use walk_numbers::Step;
-use walk_numbers::begun_step;
-use walk_numbers::moved_step;
-use walk_numbers::pointed_step;
-use walk_numbers::shown_step;
+ghost use Rattle.walk_numbers.specs.Answered.{afterBeginning, afterMoving, afterPointing, afterShowing};
+use walk_numbers::Answered;
+use walk_numbers::after_beginning;
+use walk_numbers::after_moving;
+use walk_numbers::after_pointing;
+use walk_numbers::after_showing;
 
 // Makes the walk at {v}, with 1 as its places so far and its labels read.
 #[no_mangle]
 pub extern "C" fn leveretplate_walk_at_start(
-    s: &mut Step,
+    s: &mut Answered,
     sizes: &[u8],
     divisions: &[u16],
     start: &[u16],
     labels: &[u8],
 )
-    ensures { λ _. ⌜ now (s .exit) ≡ begunStep (now (s .entry))
+    ensures { λ _. ⌜ now (s .exit) ≡ afterBeginning (now (s .entry))
         (now (sizes .entry)) (now (divisions .entry)) (now (start .entry)) (now (labels .entry)) ⌝ }
 {
-    *s = begun_step(*s, sizes, divisions, start, labels);
+    *s = after_beginning(*s, sizes, divisions, start, labels);
 }
 
 // Moves the walk on by one place.
 #[no_mangle]
-pub extern "C" fn leveretplate_move_on(s: &mut Step, labels: &[u8])
-    ensures { λ _. ⌜ now (s .exit) ≡ movedStep (now (s .entry)) (now (labels .entry)) ⌝ }
+pub extern "C" fn leveretplate_move_on(s: &mut Answered, labels: &[u8])
+    ensures { λ _. ⌜ now (s .exit) ≡ afterMoving (now (s .entry)) (now (labels .entry)) ⌝ }
 {
-    *s = moved_step(*s, labels);
+    *s = after_moving(*s, labels);
 }
 
 // Shows the move before it is made: the walk is as it was.
 #[no_mangle]
-pub extern "C" fn leveretplate_preview(s: &mut Step, labels: &[u8])
-    ensures { λ _. ⌜ now (s .exit) ≡ shownStep (now (s .entry)) (now (labels .entry)) ⌝ }
+pub extern "C" fn leveretplate_preview(s: &mut Answered, labels: &[u8])
+    ensures { λ _. ⌜ now (s .exit) ≡ afterShowing (now (s .entry)) (now (labels .entry)) ⌝ }
 {
-    *s = shown_step(*s, labels);
+    *s = after_showing(*s, labels);
 }
 
 // Gives the points of the present place: the walk is as it was.
 #[no_mangle]
-pub extern "C" fn leveretplate_walk_points(s: &mut Step, labels: &[u8])
-    ensures { λ _. ⌜ now (s .exit) ≡ pointedStep (now (s .entry)) (now (labels .entry)) ⌝ }
+pub extern "C" fn leveretplate_walk_points(s: &mut Answered, labels: &[u8])
+    ensures { λ _. ⌜ now (s .exit) ≡ afterPointing (now (s .entry)) (now (labels .entry)) ⌝ }
 {
-    *s = pointed_step(*s, labels);
+    *s = after_pointing(*s, labels);
 }

@@ -19,7 +19,7 @@ use Rattle.combinatorics.specs.Lists.{all, isIn}
 use Rattle.grid_points.specs.Grid.{at}
 use Rattle.path_laws.proofs.Positions.{at-in, in-at}
 use Rattle.rules.proofs.Marks.{labels-in}
-use Rattle.rules.specs.Step.{markLabel, markPosition}
+use Rattle.rules.specs.Moves.{markLabel, markPosition}
 use Rattle.walk_labels.specs.Carrying.{CanCarry, FoundIn, labelAtMark, labelsInMarks}
 
 -- labels in marks

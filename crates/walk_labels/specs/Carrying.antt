@@ -8,7 +8,7 @@ use lib.ListN.{length, getD, take, replicate}
 use Rattle.combinatorics.specs.Front.{front}
 use Rattle.combinatorics.specs.Lists.{all, isIn}
 use Rattle.grid_points.specs.Grid.{at}
-use Rattle.rules.specs.Step.{markLabel, markPosition}
+use Rattle.rules.specs.Moves.{markLabel, markPosition}
 use Rattle.walk_labels.specs.declared.Carried.{Carried}
 
 -- the labels in the first n + 1 marks, with 0 behind

@@ -31,7 +31,7 @@ use Rattle.rules.proofs.SameMasks.{same-mask}
 use Rattle.rules.proofs.Marks.{label-in, labels-in}
 use Rattle.rules.specs.Mask.{bit}
 use Rattle.rules.specs.Read.{markOf}
-use Rattle.rules.specs.Step.{markLabel}
+use Rattle.rules.specs.Moves.{markLabel}
 use Rattle.walks.proofs.KeptPlace.{conditions-of, points-long}
 use Rattle.walks.proofs.Recognised.{recognised}
 use Rattle.walks.specs.Kept.{isKept, keptPoints}

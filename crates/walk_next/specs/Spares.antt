@@ -6,7 +6,7 @@ use Prim.Native.Nat.{ℕ, suc, _-_, _≤_, _<_}
 use lib.Dec.{eqb}
 use Rattle.grid_points.specs.Grid.{at}
 use Rattle.rules.specs.Mask.{bit}
-use Rattle.rules.specs.Step.{markLabel}
+use Rattle.rules.specs.Moves.{markLabel}
 use Rattle.walk_next.specs.declared.Spared.{Spared}
 
 -- an index of T that is not yet seen

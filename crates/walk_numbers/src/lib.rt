@@ -2,8 +2,8 @@
 // call is by value here; the exported functions take the struct by reference and call these.
 ghost use mathlib.Core.Path.{_≡_};
 ghost use Rattle.walk_preview.specs.Changes.{noChange};
-ghost use Rattle.walk_numbers.specs.Steps.{begunStep, movedStep, pointedStep};
-ghost use Rattle.walk_numbers.specs.Steps.{shownStep, stepOf, unansweredStep};
+ghost use Rattle.walk_numbers.specs.Answered.{afterBeginning, afterMoving, afterPointing};
+ghost use Rattle.walk_numbers.specs.Answered.{afterShowing, answeredBy, unanswered};
 use end_kinds::kind_number;
 use walk_calls::moved;
 use walk_places::Walk;
@@ -11,13 +11,13 @@ use walk_preview::Change;
 use walk_preview::preview;
 use walk_views::at_start;
 use walk_views::points;
-use walk_ways::Answer;
+use walk_ways::WalkAnswer;
 
 // The walk; the number of the refusal or 0; of an end the kind, 0 place and 1 facet, the block from 1 and the number of
 // vertices; of a move the rule, or else 0, and, where it is shown, the map and the fields; the numbers of the vertices
 // or points, with 0 behind.
 #[repr(C)]
-pub struct Step {
+pub struct Answered {
     pub walk: Walk,
     pub vertices: u64,
     pub fields: [u32; 6],
@@ -30,10 +30,10 @@ pub struct Step {
 }
 
 // Nothing is answered but a number, with a count of points and their numbers.
-fn unanswered(walk: Walk, number: u8, vertices: u64, simplex: [u16; 256]) -> Step
-    ensures { λ r. ⌜ r ≡ unansweredStep walk number vertices simplex ⌝ }
+fn unanswered(walk: Walk, number: u8, vertices: u64, simplex: [u16; 256]) -> Answered
+    ensures { λ r. ⌜ r ≡ unanswered walk number vertices simplex ⌝ }
 {
-    Step {
+    Answered {
         walk,
         vertices,
         fields: [0u32; 6],
@@ -47,17 +47,17 @@ fn unanswered(walk: Walk, number: u8, vertices: u64, simplex: [u16; 256]) -> Ste
 }
 
 // An answer of a call on a walk.
-fn step_of(walk: Walk, answer: Answer, simplex: [u16; 256], change: Change) -> Step
-    ensures { λ r. ⌜ r ≡ stepOf walk answer simplex change ⌝ }
+fn answered_by(walk: Walk, answer: WalkAnswer, simplex: [u16; 256], change: Change) -> Answered
+    ensures { λ r. ⌜ r ≡ answeredBy walk answer simplex change ⌝ }
 {
     let fields = change.fields;
     match answer {
-        Answer::Refused(number) => unanswered(walk, number, 0, simplex),
-        Answer::Ended {
+        WalkAnswer::Refused(number) => unanswered(walk, number, 0, simplex),
+        WalkAnswer::Ended {
             kind,
             block,
             vertices,
-        } => Step {
+        } => Answered {
             walk,
             vertices: vertices as u64,
             fields,
@@ -68,7 +68,7 @@ fn step_of(walk: Walk, answer: Answer, simplex: [u16; 256], change: Change) -> S
             rule: 0,
             map: change.map,
         },
-        Answer::Moved(rule) => Step {
+        WalkAnswer::Moved(rule) => Answered {
             walk,
             vertices: 0,
             fields,
@@ -92,8 +92,8 @@ fn unchanged() -> Change
 }
 
 // The moving call.
-pub fn moved_step(s: Step, labels: &[u8]) -> Step
-    ensures { λ r. ⌜ r ≡ movedStep s (now (labels .entry)) ⌝ }
+pub fn after_moving(s: Answered, labels: &[u8]) -> Answered
+    ensures { λ r. ⌜ r ≡ afterMoving s (now (labels .entry)) ⌝ }
 {
     let w = s.walk;
     let c = moved(w, labels);
@@ -101,24 +101,24 @@ pub fn moved_step(s: Step, labels: &[u8]) -> Step
     let answer = c.answer;
     let simplex = c.simplex;
     let change = unchanged();
-    step_of(walk, answer, simplex, change)
+    answered_by(walk, answer, simplex, change)
 }
 
 // The preview: the walk is as it was.
-pub fn shown_step(s: Step, labels: &[u8]) -> Step
-    ensures { λ r. ⌜ r ≡ shownStep s (now (labels .entry)) ⌝ }
+pub fn after_showing(s: Answered, labels: &[u8]) -> Answered
+    ensures { λ r. ⌜ r ≡ afterShowing s (now (labels .entry)) ⌝ }
 {
     let w = s.walk;
     let p = preview(w, labels);
     let answer = p.answer;
     let simplex = p.simplex;
     let change = p.change;
-    step_of(w, answer, simplex, change)
+    answered_by(w, answer, simplex, change)
 }
 
 // The points of the present place: the walk is as it was.
-pub fn pointed_step(s: Step, labels: &[u8]) -> Step
-    ensures { λ r. ⌜ r ≡ pointedStep s (now (labels .entry)) ⌝ }
+pub fn after_pointing(s: Answered, labels: &[u8]) -> Answered
+    ensures { λ r. ⌜ r ≡ afterPointing s (now (labels .entry)) ⌝ }
 {
     let w = s.walk;
     let p = points(w, labels);
@@ -127,8 +127,14 @@ pub fn pointed_step(s: Step, labels: &[u8]) -> Step
 }
 
 // The walk at {v}, or with a refusal the walk as it was.
-pub fn begun_step(s: Step, sizes: &[u8], divisions: &[u16], start: &[u16], labels: &[u8]) -> Step
-    ensures { λ r. ⌜ r ≡ begunStep s
+pub fn after_beginning(
+    s: Answered,
+    sizes: &[u8],
+    divisions: &[u16],
+    start: &[u16],
+    labels: &[u8],
+) -> Answered
+    ensures { λ r. ⌜ r ≡ afterBeginning s
         (now (sizes .entry)) (now (divisions .entry)) (now (start .entry)) (now (labels .entry)) ⌝ }
 {
     let b = at_start(sizes, divisions, start, labels);

@@ -36,7 +36,7 @@ use Rattle.walk_recogniser.specs.Kept.{Recognised, Seen}
 use Rattle.walk_recogniser.specs.Pieces.{bareMark}
 use Rattle.walk_recogniser.specs.declared.FoundSets.{FoundSets}
 use Rattle.rules.proofs.Marks.{position-in as position-of-mark}
-use Rattle.rules.specs.Step.{markPosition}
+use Rattle.rules.specs.Moves.{markPosition}
 use Rattle.walks.proofs.KeptForm.{T-is, U-is, grid-long, meets, order-is}
 use Rattle.walks.proofs.Meaning.{Passes}
 use Rattle.walks.proofs.Moved.{Onward, moved-passes}

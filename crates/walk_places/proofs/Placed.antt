@@ -20,7 +20,7 @@ use Rattle.walk_recogniser.specs.Kept.{Seen}
 use Rattle.walk_recogniser.specs.Pieces.{CanReadLabels, LabelsPut, bareMark}
 use Rattle.rules.proofs.Marks.{position-in as position-of-mark}
 use Rattle.rules.specs.Read.{markOf}
-use Rattle.rules.specs.Step.{markPosition}
+use Rattle.rules.specs.Moves.{markPosition}
 use Rattle.walks.proofs.KeptPlace.{conditions-of, points-long, points-on}
 use Rattle.walks.specs.Kept.{isKept, keptPoints}
 use Rattle.walk_places.specs.Placing.{CanPlace, CanSee}

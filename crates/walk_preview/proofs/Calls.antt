@@ -21,8 +21,8 @@ use Rattle.walk_preview.specs.declared.Change.{Change as ChangeStruct}
 use Rattle.walk_preview.specs.declared.Shown.{Shown}
 use Rattle.walk_ways.specs.Answers.{answerOf, outcomeNumbers, structOn}
 use Rattle.walk_places.specs.Walks.{walkGrid, walkOf}
-use Rattle.walk_ways.specs.declared.Answer.{Answer}
-use Rattle.walk_ways.specs.declared.Answer.the-variants.{Ended, Moved, Refused}
+use Rattle.walk_ways.specs.declared.WalkAnswer.{WalkAnswer}
+use Rattle.walk_ways.specs.declared.WalkAnswer.the-variants.{Ended, Moved, Refused}
 use Rattle.walk_places.specs.declared.Place.{Place}
 use Rattle.walk_places.specs.declared.Walk.{Walk as WalkStruct}
 
@@ -30,7 +30,7 @@ pub grid-passes : {w : WalkStruct} {labels : List ℕ} {next : Place} {rule : �
     firstNo (gridQuestions (walkGrid w)) ≡ 0
 grid-passes {w} {labels} M = grid-asked (moved-passes (walkOf w) labels (M .goes .to) (M .goes .moves) .0 .accepted)
 
-abbrev pub shownWith : Answer → List ℕ → ChangeStruct → Shown
+abbrev pub shownWith : WalkAnswer → List ℕ → ChangeStruct → Shown
 shownWith answer simplex change = record { answer = answer; simplex = simplex; change = change }
 
 module _ (w : WalkStruct) (labels : List ℕ) where

@@ -16,7 +16,7 @@ use Rattle.path_laws.specs.Demand.{Accepted}
 use Rattle.walk_recogniser.specs.Pieces.{bareMark}
 use Rattle.trail_records.proofs.Told.{gained, kept, lost}
 use Rattle.rules.proofs.Masks.{IsMask}
-use Rattle.rules.specs.Step.{markPosition}
+use Rattle.rules.specs.Moves.{markPosition}
 use Rattle.trail.specs.Change.{ByRule, Change, change, outside, rule1, rule2, rule3, rule4, rule5, rule6}
 use Rattle.trail.specs.Change.{rule7}
 use Rattle.trail.proofs.Rules.{change-sets}

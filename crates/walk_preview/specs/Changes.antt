@@ -6,7 +6,7 @@ use lib.Dec.{eqb}
 use lib.ListN.{replicate}
 use Rattle.combinatorics.specs.Lists.{firstOr}
 use Rattle.trail_records.specs.Records.{differing}
-use Rattle.rules.specs.Step.{markPosition}
+use Rattle.rules.specs.Moves.{markPosition}
 use Rattle.trail.specs.Change.{Change, outside}
 use Rattle.trail.specs.Record.{bitMap}
 use Rattle.walk_preview.specs.declared.Change.{Change as ChangeStruct}

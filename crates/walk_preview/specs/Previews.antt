@@ -13,7 +13,7 @@ use Rattle.walks.specs.Preview.{Move, preview}
 use Rattle.walks.specs.Walk.{over}
 use Rattle.walk_places.specs.Placing.{GoesTo}
 use Rattle.walk_places.specs.Walks.{walkGrid, walkOf, walkOn}
-use Rattle.walk_ways.specs.declared.Answer.the-variants.{Ended, Moved, Refused}
+use Rattle.walk_ways.specs.declared.WalkAnswer.the-variants.{Ended, Moved, Refused}
 use Rattle.walk_places.specs.declared.Place.{Place}
 use Rattle.walk_places.specs.declared.Walk.{Walk as WalkStruct}
 use Rattle.walk_preview.specs.Changes.{changedOf, noChange}

@@ -3,7 +3,7 @@ mod changes;
 mod showing;
 
 pub use showing::preview;
-use walk_ways::Answer;
+use walk_ways::WalkAnswer;
 
 // What changes by a move, as the trail's record of it says. Field 0 is the point that comes in and field 1 the point
 // that goes out, by their positions in the label table; fields 2 to 5 are the indices into T, out of T, into U and out
@@ -15,7 +15,7 @@ pub struct Change {
 
 // The answer that the moving call would give, the simplex of an end, and what the move would change.
 pub struct Shown {
-    pub answer: Answer,
+    pub answer: WalkAnswer,
     pub simplex: [u16; 256],
     pub change: Change,
 }

@@ -17,7 +17,7 @@ use walk_calls::moved;
 use walk_places::Place;
 use walk_places::Walk;
 use walk_places::both_placed;
-use walk_ways::Answer;
+use walk_ways::WalkAnswer;
 
 // No move: nothing changes.
 fn unchanged() -> Change
@@ -65,9 +65,9 @@ pub fn preview(w: Walk, labels: &[u8]) -> Shown
     let simplex = c.simplex;
     let next = c.walk.present;
     let change = match answer {
-        Answer::Moved(rule) => change_in(w, next, rule),
-        Answer::Refused(_) => unchanged(),
-        Answer::Ended {
+        WalkAnswer::Moved(rule) => change_in(w, next, rule),
+        WalkAnswer::Refused(_) => unchanged(),
+        WalkAnswer::Ended {
             kind: _,
             block: _,
             vertices: _,

@@ -14,7 +14,7 @@ use libc::STDIN_FILENO;
 use libc::STDOUT_FILENO;
 use walk_places::Place;
 use walk_places::Walk;
-use walk_ways::Answer;
+use walk_ways::WalkAnswer;
 
 fn byte() -> u8 {
     (word() % 256) as u8
@@ -101,10 +101,10 @@ pub fn print_place(place: Place) {
     show(b" count ", place.count as u64);
 }
 
-pub fn print_answer(answer: Answer) {
+pub fn print_answer(answer: WalkAnswer) {
     match answer {
-        Answer::Refused(number) => show(b"refused ", number as u64),
-        Answer::Ended {
+        WalkAnswer::Refused(number) => show(b"refused ", number as u64),
+        WalkAnswer::Ended {
             kind,
             block,
             vertices,
@@ -113,6 +113,6 @@ pub fn print_answer(answer: Answer) {
             show(b"block ", block as u64);
             show(b"vertices ", vertices as u64);
         }
-        Answer::Moved(rule) => show(b"rule ", rule as u64),
+        WalkAnswer::Moved(rule) => show(b"rule ", rule as u64),
     }
 }

@@ -8,7 +8,7 @@ use lib.Seq.{getD-set-same, getD-set-other, getD-take}
 use native.Mathlib.Omega.{arith}
 use Rattle.combinatorics.proofs.Basics.{same-or}
 use Rattle.grid_points.specs.Grid.{at}
-use Rattle.rules.specs.Step.{markPosition}
+use Rattle.rules.specs.Moves.{markPosition}
 use Rattle.walk_recogniser.specs.Pieces.{CanReadLabels, LabelsPut}
 
 -- a mark with the label at its position

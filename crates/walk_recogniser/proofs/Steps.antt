@@ -29,7 +29,7 @@ use Rattle.positions.proofs.ByTails.{hits, hits-in, hits-out, tail-moved}
 use Rattle.positions.specs.Steps.{afterSteps}
 use Rattle.geometry.proofs.Definitions.{one-at}
 use Rattle.rules.proofs.Shifted.{at-most-one, length-shifted, shifted-at}
-use Rattle.rules.specs.Step.{shifted}
+use Rattle.rules.specs.Moves.{shifted}
 use Rattle.walks.proofs.KeptPlace.{at-stepped, length-stepped}
 use Rattle.walks.specs.Kept.{canStep, keptPoints, pointsBy, stepped}
 use Rattle.walk_recogniser.specs.Pieces.{CanMark, OnGrid, bareMark, pointWith, startedOn, zeroOn}

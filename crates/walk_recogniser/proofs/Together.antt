@@ -27,10 +27,10 @@ use Rattle.path_laws.proofs.BlocksOfGrid.{back-below, before-same, blocksOf, ou
 use Rattle.path_laws.proofs.Filled.{FullyLabelled}
 use Rattle.path_laws.proofs.Meaning.{free-means}
 use Rattle.path_laws.proofs.Positions.{at-distinct, at-in, in-at, same-at}
-use Rattle.rules.proofs.Walks.{back-outside, block-same}
+use Rattle.rules.proofs.WaysRound.{back-outside, block-same}
 use Rattle.rules.specs.Mask.{bit}
 use Rattle.rules.specs.Ready.{IsRound}
-use Rattle.rules.specs.Step.{Round, firstOutside}
+use Rattle.rules.specs.Moves.{Round, firstOutside}
 use Rattle.trail.proofs.Tables.{table, table-full}
 use Rattle.walks.proofs.KeptPlace.{conditions-of, is-zero, zero-is}
 use Rattle.walks.proofs.Recognised.{of-conditions}

@@ -12,7 +12,7 @@ use Rattle.place.specs.Places.{firstBackOutside}
 use Rattle.place.specs.Problem.{Problem}
 use Rattle.positions.specs.Steps.{afterSteps, CanTakeSteps}
 use Rattle.rules.specs.Mask.{bit}
-use Rattle.rules.specs.Step.{mark, markPosition}
+use Rattle.rules.specs.Moves.{mark, markPosition}
 use Rattle.walks.specs.Kept.{canStep, keptPoints, zeroOutside}
 use Rattle.walk_recogniser.specs.declared.FoundSets.{FoundSets}
 

@@ -2,7 +2,7 @@
 ghost use Prim.Native.Nat.{_<_};
 ghost use Rattle.positions.specs.Binomials.{Measured};
 ghost use Rattle.rules.specs.Ready.{IndicesBelow};
-ghost use Rattle.rules.specs.Step.{firstOutside};
+ghost use Rattle.rules.specs.Moves.{firstOutside};
 ghost use Rattle.walk_recogniser.specs.Pieces.{CanMark, CanReadLabels, IsMark, LabelsPut, Marked, OnGrid};
 use arrays::first_outside;
 use arrays::position_at;

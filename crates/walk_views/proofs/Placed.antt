@@ -32,7 +32,7 @@ use Rattle.questions.specs.Questions.{ask, firstNo}
 use Rattle.walk_recogniser.specs.declared.FoundSets.{FoundSets}
 use Rattle.rules.proofs.StatePoints.{all-points, ready-point}
 use Rattle.rules.specs.Read.{markOf, numbersFrom, pointsFrom}
-use Rattle.rules.specs.Step.{State}
+use Rattle.rules.specs.Moves.{State}
 use Rattle.walks.specs.Kept.{keptPoints}
 use Rattle.walks.specs.Walk.{over}
 use Rattle.walk_next.proofs.Stood.{ok, round-of}

@@ -13,7 +13,7 @@ use crate::Begun;
 use grid::Grid;
 use label_table::read_at;
 use positions::ENTRIES;
-use walk_calls::first_no;
+use walk_calls::first_table_no;
 use walk_places::Place;
 use walk_places::Walk;
 use walk_places::none;
@@ -106,7 +106,7 @@ pub fn at_start(sizes: &[u8], divisions: &[u16], start: &[u16], labels: &[u8]) -
         let walk = no_walk();
         return Begun { code, walk };
     }
-    let number = first_no(g, start, labels);
+    let number = first_table_no(g, start, labels);
     if number != 0 {
         let walk = no_walk();
         return Begun { code: number, walk };

@@ -11,7 +11,7 @@ use grid::Grid;
 use grid::wide;
 use moves::Status;
 use moves::put_points;
-use walk_calls::first_no;
+use walk_calls::first_table_no;
 use walk_calls::grid_in;
 use walk_next::spare;
 use walk_places::Walk;
@@ -100,7 +100,7 @@ pub fn points(w: Walk, labels: &[u8]) -> PlacePoints
     }
     let start = w.start;
     let m = g.indices;
-    let number = first_no(g, &start[..m], labels);
+    let number = first_table_no(g, &start[..m], labels);
     if number != 0 {
         return no_points(number);
     }

@@ -43,7 +43,7 @@ use Rattle.rules.proofs.StatePoints.{ready-point}
 use Rattle.rules.specs.Mask.{bit}
 use Rattle.rules.specs.Read.{markOf, pointIn, pointsFrom}
 use Rattle.rules.specs.Ready.{Ready}
-use Rattle.rules.specs.Step.{After, State, endsAtFacet, endsAtPlace, goes, step}
+use Rattle.rules.specs.Moves.{After, State, endsAtFacet, endsAtPlace, goes, makeMove}
 use Rattle.trail.specs.Change.{ByRule, change}
 use Rattle.walks.proofs.Moved.{calls-hold}
 use Rattle.walks.specs.Kept.{keptPoints}
@@ -163,7 +163,7 @@ module _ {g : GridStruct} {w : WalkStruct} {labels first list order marks : List
     -- what a move needs and gives
     pub record Tried (rule : ℕ) : Type 0 where
       pub ready : Ready (stateAs rule)
-      pub fits : Fits (full ok y o S.place) (stateAs rule) (step (stateAs rule))
+      pub fits : Fits (full ok y o S.place) (stateAs rule) (makeMove (stateAs rule))
 
     abbrev walk : Walk
     walk = walkOn (shape g) w
@@ -232,20 +232,20 @@ module _ {g : GridStruct} {w : WalkStruct} {labels first list order marks : List
           product : (x m : ℕ) → x ≤ 16 → m ≤ 16 → x * m ≤ 256
           product x m a b = le-trans (mul-le-mul-left x b) (mul-le-mul-right 16 a)
 
-      pub can-tell : CanTellEnd g told-state (wayIn (g .indices) a (step a))
+      pub can-tell : CanTellEnd g told-state (wayIn (g .indices) a (makeMove a))
       can-tell = record {
-        place = λ h z. go-place (step a) refl h z;
-        facet = λ h z. go-facet (step a) refl h z;
+        place = λ h z. go-place (makeMove a) refl h z;
+        facet = λ h z. go-facet (makeMove a) refl h z;
       }
         where
-          go-place : (after : After) → step a ≡ after → (h : ℕ) → wayIn (g .indices) a after .leads ≡ PlaceEnd h →
+          go-place : (after : After) → makeMove a ≡ after → (h : ℕ) → wayIn (g .indices) a after .leads ≡ PlaceEnd h →
               (h < g .indices) × CanPut told-state (g .indices) 0 256
           go-place (goes e) x h z = absurd-bool (cc)
           go-place (endsAtPlace d k) x h z = let r : k ≡ h = cc in
               (omega (arith, R .fits .place d k x .1, m-is, r), can-put 0 (omega arith))
           go-place (endsAtFacet d k) x h z = absurd-bool (cc)
 
-          go-facet : (after : After) → step a ≡ after → (h : ℕ) → wayIn (g .indices) a after .leads ≡ FacetEnd h →
+          go-facet : (after : After) → makeMove a ≡ after → (h : ℕ) → wayIn (g .indices) a after .leads ≡ FacetEnd h →
               (h < g .indices) × CanPut told-state (g .indices) 1 256
           go-facet (goes e) x h z = absurd-bool (cc)
           go-facet (endsAtPlace d k) x h z = absurd-bool (cc)
@@ -253,11 +253,12 @@ module _ {g : GridStruct} {w : WalkStruct} {labels first list order marks : List
               (omega (arith, f .1, m-is, r), can-put 1 (omega (arith, f .2, long-o)))
 
       -- it leads to the place before
-      pub leads-there : length (w .before .order) ≡ 16 → leadsBack (wayIn (g .indices) a (step a)) (w .before) ≡ true
-          → (b : Simplex) × (beforeOf (shape g) (w .before) ≡ some b) × (wayMade q (step a) ≡ link b)
-      leads-there long z = go (step a) refl z
+      pub leads-there : length (w .before .order) ≡ 16 → leadsBack (wayIn (g .indices) a (makeMove a)) (w .before)
+          ≡ true
+          → (b : Simplex) × (beforeOf (shape g) (w .before) ≡ some b) × (wayMade q (makeMove a) ≡ link b)
+      leads-there long z = go (makeMove a) refl z
         where
-          go : (after : After) → step a ≡ after → leadsBack (wayIn (g .indices) a after) (w .before) ≡ true
+          go : (after : After) → makeMove a ≡ after → leadsBack (wayIn (g .indices) a after) (w .before) ≡ true
               → (b : Simplex) × (beforeOf (shape g) (w .before) ≡ some b) × (wayMade q after ≡ link b)
           go (goes e) x z =
               let f = R .fits .moves e x in
@@ -273,16 +274,16 @@ module _ {g : GridStruct} {w : WalkStruct} {labels first list order marks : List
           go (endsAtPlace d k) x z = absurd-bool (sym z)
           go (endsAtFacet d k) x z = absurd-bool (sym z)
 
-      pub leads-elsewhere : length (w .before .order) ≡ 16 → leadsBack (wayIn (g .indices) a (step a)) (w .before)
+      pub leads-elsewhere : length (w .before .order) ≡ 16 → leadsBack (wayIn (g .indices) a (makeMove a)) (w .before)
           ≡ false → (b : Simplex)
-          → beforeOf (shape g) (w .before) ≡ some b → wayMade q (step a) ≡ link b → ⊥
-      leads-elsewhere long z b is = go (step a) refl z
+          → beforeOf (shape g) (w .before) ≡ some b → wayMade q (makeMove a) ≡ link b → ⊥
+      leads-elsewhere long z b is = go (makeMove a) refl z
         where
           held-b : placeOf (shape g) (w .before) ≡ b
           held-b = ⊎-elim (λ t. absurd-bool (let c = rw t at is in cc)) (λ t. let c = rw t at is in cc)
               (true-or-false (samePlace (w .before) nowhere))
 
-          go : (after : After) → step a ≡ after → leadsBack (wayIn (g .indices) a after) (w .before) ≡ false →
+          go : (after : After) → makeMove a ≡ after → leadsBack (wayIn (g .indices) a after) (w .before) ≡ false →
               wayMade q after ≡ link b → ⊥
           go (endsAtPlace d k) x z v = absurd-bool (cc)
           go (endsAtFacet d k) x z v = absurd-bool (cc)
@@ -309,7 +310,7 @@ module _ {g : GridStruct} {w : WalkStruct} {labels first list order marks : List
         λ k l. m .1 k l ∙ ap (λ (z : Simplex). isIn eqb k (setU (shape g) z)) points-here,
       )
 
-      rule-is : (e : State) → step a ≡ goes e → nextOf walk labels ≡ moved (keptBy q e) → ruleFrom t u (e .T) (e .U)
+      rule-is : (e : State) → makeMove a ≡ goes e → nextOf walk labels ≡ moved (keptBy q e) → ruleFrom t u (e .T) (e .U)
           ≡ ruleOf p (placeOf (shape g) (w .present)) (keptBy q e)
       unfolding moveAnswer moveWalk
       rule-is e x z =
@@ -327,7 +328,7 @@ module _ {g : GridStruct} {w : WalkStruct} {labels first list order marks : List
       long-points : (f : ℕ → Point) (b k : ℕ) → length (map f (upFrom b k)) ≡ k
       long-points f b k = length-map (upFrom b k) f ∙ length-upFrom b k
 
-      moved-told : (e : State) → step a ≡ goes e → nextOf walk labels ≡ moved (keptBy q e) → toldAs g told-state
+      moved-told : (e : State) → makeMove a ≡ goes e → nextOf walk labels ≡ moved (keptBy q e) → toldAs g told-state
           (wayIn (g .indices) a (goes e)) ≡ nextIn g w labels
       unfolding nextAs front
       moved-told e x z =
@@ -352,11 +353,11 @@ module _ {g : GridStruct} {w : WalkStruct} {labels first list order marks : List
       unfolding nextAs front
       facet-told d k e z = rw (z, e, m-is, long-points (pointIn q a) 1 (suc (length o) - 1))
 
-      pub told-is : nextOf walk labels ≡ byWay (wayMade q (step a) ∷ []) → toldAs g told-state
-          (wayIn (g .indices) a (step a)) ≡ nextIn g w labels
-      told-is z = go (step a) refl z
+      pub told-is : nextOf walk labels ≡ byWay (wayMade q (makeMove a) ∷ []) → toldAs g told-state
+          (wayIn (g .indices) a (makeMove a)) ≡ nextIn g w labels
+      told-is z = go (makeMove a) refl z
         where
-          go : (after : After) → step a ≡ after → nextOf walk labels ≡ byWay (wayMade q after ∷ [])
+          go : (after : After) → makeMove a ≡ after → nextOf walk labels ≡ byWay (wayMade q after ∷ [])
               → toldAs g told-state
               (wayIn (g .indices) a after) ≡ nextIn g w labels
           go (goes e) x z = moved-told e x z

@@ -20,12 +20,13 @@ use Rattle.place.specs.Problem.{hasLabel, label}
 use Rattle.path_laws.proofs.Labels.{label-ok}
 use Rattle.path_laws.proofs.LinkSymmetry.{parts}
 use Rattle.path_laws.proofs.Positions.{in-at}
-use Rattle.rules.specs.Step.{State, step}
+use Rattle.rules.specs.Moves.{State, makeMove}
 use Rattle.walks.specs.Kept.{keptPoints}
 use Rattle.walks.specs.Next.{byWay, nextOf, refused}
 use Rattle.walks.specs.Walk.{Walk}
 use Rattle.walk_ways.proofs.Carried.{points-long}
-use Rattle.walk_ways.proofs.Next.{back-unknown, from-v, neither, not-back-unknown, onward-a, onward-b, start-with-one}
+use Rattle.walk_ways.proofs.Next.{back-unknown, from-v, neither, not-back-unknown, onward-a, onward-b}
+use Rattle.walk_ways.proofs.Next.{start-with-one}
 use Rattle.walk_ways.proofs.Next.{unknown-v, without-one}
 use Rattle.walk_ways.specs.Lent.{wayMade}
 use Rattle.walk_ways.proofs.Chosen.{leads-elsewhere, leads-there, lent, long-o, o, ok, only-unknown, p, q}
@@ -72,7 +73,7 @@ module _ {g : GridStruct} {w : WalkStruct} {labels first list order marks : List
 
     pub start-on : {previous next sizes : List ℕ} (N : IsRoundOf g previous next sizes) → samePlace (w .before) nowhere
         ≡ true → unknown ≡ false
-        → nextOf walk labels ≡ byWay (wayMade (q S N) (step (stateAs S N 1)) ∷ [])
+        → nextOf walk labels ≡ byWay (wayMade (q S N) (makeMove (stateAs S N 1)) ∷ [])
     start-on N f v = from-v walk labels (ok S) (y S) (o S) S.present S.place S.counted (known-all v) (long-o S ∙ e)
         (rw f) (stateAs S N 1) (lent S N 1) (omega (arith, S .low)) (omega arith)
 
@@ -89,7 +90,7 @@ module _ {g : GridStruct} {w : WalkStruct} {labels first list order marks : List
     staying = stateAs S N 1
 
     abbrev pub back : ℕ → Bool
-    back rule = leadsBack (wayIn (g .indices) (stateAs S N rule) (step (stateAs S N rule))) (w .before)
+    back rule = leadsBack (wayIn (g .indices) (stateAs S N rule) (makeMove (stateAs S N rule))) (w .before)
 
     pub other-16 : back 6 ≡ true → unknown ≡ true → nextOf walk labels ≡ refused 16
     other-16 z v = let f = leads-there S N 6 (tried-back S N e 6 (omega arith)) long z in
@@ -97,13 +98,15 @@ module _ {g : GridStruct} {w : WalkStruct} {labels first list order marks : List
         (f .0) (f .1) staying leaving (lent S N 1) (lent S N 6) refl refl
         (omega arith) (omega arith) (unknown-label v) (f .2)
 
-    pub other-on : back 6 ≡ true → unknown ≡ false → nextOf walk labels ≡ byWay (wayMade (q S N) (step staying) ∷ [])
+    pub other-on : back 6 ≡ true → unknown ≡ false → nextOf walk labels ≡ byWay
+        (wayMade (q S N) (makeMove staying) ∷ [])
     other-on z v = let f = leads-there S N 6 (tried-back S N e 6 (omega arith)) long z in
         onward-a walk labels (ok S) (y S) (o S) S.present S.place S.counted k (long-o S ∙ e) point low S.spare (f .0)
         (f .1) staying leaving (lent S N 1) (lent S N 6) refl refl
         (omega arith) (omega arith) (known-all v) (f .2)
 
-    pub other-back : back 1 ≡ true → unknown ≡ false → nextOf walk labels ≡ byWay (wayMade (q S N) (step leaving) ∷ [])
+    pub other-back : back 1 ≡ true → unknown ≡ false → nextOf walk labels ≡ byWay
+        (wayMade (q S N) (makeMove leaving) ∷ [])
     other-back z v = let f = leads-there S N 1 (tried-on S N e 1 (omega arith)) long z in
         onward-b walk labels (ok S) (y S) (o S) S.present S.place S.counted k (long-o S ∙ e) point low S.spare (f .0)
         (f .1) staying leaving (lent S N 1) (lent S N 6) refl refl

@@ -38,7 +38,7 @@ use Rattle.path_laws.proofs.ToChain.{pointsOf}
 use Rattle.path_laws.proofs.ToChain.{pointsOf-coefficientsOf}
 use Rattle.path_laws.specs.Demand.{HasStart}
 use Rattle.rules.proofs.Describes.{Left, facetEnds, leftOn}
-use Rattle.rules.specs.Step.{After, State}
+use Rattle.rules.specs.Moves.{After, State}
 use Rattle.walk_ways.proofs.Kept.{kept-described}
 use Rattle.walk_ways.specs.Lent.{keptBy, wayMade}
 

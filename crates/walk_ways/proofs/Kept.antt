@@ -35,7 +35,7 @@ use Rattle.rules.proofs.Describes.{AllMarks, Describes}
 use Rattle.rules.proofs.Marks.{mark-is}
 use Rattle.rules.proofs.StatePoints.{point-is}
 use Rattle.rules.specs.Read.{markOf, pointAfter}
-use Rattle.rules.specs.Step.{State}
+use Rattle.rules.specs.Moves.{State}
 use Rattle.walks.proofs.KeptForm.{order-is}
 use Rattle.walks.proofs.KeptPlace.{is-zero, zero-is}
 use Rattle.walks.proofs.Recognised.{kept-every, recognised}

@@ -34,7 +34,7 @@ use Rattle.path_laws.proofs.Ways.{IsWay}
 use Rattle.path_laws.specs.Demand.{Accepted}
 use Rattle.rules.proofs.Describes.{AllMarks, Describes, Left, labelsOf}
 use Rattle.rules.specs.Ready.{Ready}
-use Rattle.rules.specs.Step.{State, step}
+use Rattle.rules.specs.Moves.{State, makeMove}
 use Rattle.walks.proofs.Local.{next-local}
 use Rattle.walks.proofs.Meaning.{Came, Stands, begins, came, meets-16, meets-20, of-passes, stands-of}
 use Rattle.walks.proofs.Moved.{next-onward, next-refused}
@@ -168,18 +168,18 @@ module _ (w : Walk) (labels : List ℕ) (ok : Accepted (over w labels)) (y : Poi
 
     -- {v}
     pub from-v : length o ≡ 0 → w .before ≡ none → (S : State) → LentPlace p q y o S → S .active ≡ 0 → S .rule < 6 →
-        nextOf w labels ≡ byWay (wayMade q (step S) ∷ [])
-    from-v e b S L a r = onward (wayMade q (step S)) (rw (b, is, is-start e) begins)
+        nextOf w labels ≡ byWay (wayMade q (makeMove S) ∷ [])
+    from-v e b S L a r = onward (wayMade q (makeMove S)) (rw (b, is, is-start e) begins)
         (rw (b, is) (from-start (full-accepted (filled-full ok)) s (place-filled ok y o place) known-filled
-        (wayMade q (step S)) (is-start e) the-way))
+        (wayMade q (makeMove S)) (is-start e) the-way))
       where
-        the-way : IsWay q s (wayMade q (step S))
-        the-way = subst (λ (z : Simplex). IsWay q z (wayMade q (step S))) points-same
+        the-way : IsWay q s (wayMade q (makeMove S))
+        the-way = subst (λ (z : Simplex). IsWay q z (wayMade q (makeMove S))) points-same
             (start-way (full ok y o place) (described 0 e S L) (all-marked 0 e S L) a r)
 
   pub fits-v : length o ≡ 0 → (S : State) → LentPlace p q y o S → S .active ≡ 0 → S .rule < 6
       → Fits (full ok y o place) S
-      (step S)
+      (makeMove S)
   fits-v e S L a r = fits-start (full ok y o place) (described 0 e S L) (all-marked 0 e S L) a r
 
   -- a place of two or more points, and the point whose label the others do not need
@@ -199,28 +199,30 @@ module _ (w : Walk) (labels : List ℕ) (ok : Accepted (over w labels)) (y : Poi
     ready-b S L a r = ready-leaves (full ok y o place) (described (suc n) e S L) (all-marked (suc n) e S L)
         (omega arith) (carries-at S a) r
 
-    pub fits-a : (S : State) → LentPlace p q y o S → S .active ≡ i → S .rule < 6 → Fits (full ok y o place) S (step S)
+    pub fits-a : (S : State) → LentPlace p q y o S → S .active ≡ i → S .rule < 6 → Fits (full ok y o place) S
+        (makeMove S)
     fits-a S L a r = fits-onward (full ok y o place) (described (suc n) e S L) (all-marked (suc n) e S L) (omega arith)
         (carries-at S a) r
 
-    pub fits-b : (S : State) → LentPlace p q y o S → S .active ≡ i → 6 ≤ S .rule → Fits (full ok y o place) S (step S)
+    pub fits-b : (S : State) → LentPlace p q y o S → S .active ≡ i → 6 ≤ S .rule → Fits (full ok y o place) S
+        (makeMove S)
     fits-b S L a r = fits-back (full ok y o place) (described (suc n) e S L) (all-marked (suc n) e S L) (omega arith)
         (carries-at S a) r
 
-    way-a : (S : State) → LentPlace p q y o S → S .active ≡ i → S .rule < 6 → IsWay q s (wayMade q (step S))
-    way-a S L a r = subst (λ (z : Simplex). IsWay q z (wayMade q (step S))) points-same
+    way-a : (S : State) → LentPlace p q y o S → S .active ≡ i → S .rule < 6 → IsWay q s (wayMade q (makeMove S))
+    way-a S L a r = subst (λ (z : Simplex). IsWay q z (wayMade q (makeMove S))) points-same
         (way-onward (full ok y o place) (described (suc n) e S L) (all-marked (suc n) e S L) (omega arith)
         (carries-at S a) r)
 
-    way-b : (S : State) → LentPlace p q y o S → S .active ≡ i → 6 ≤ S .rule → IsWay q s (wayMade q (step S))
-    way-b S L a r = subst (λ (z : Simplex). IsWay q z (wayMade q (step S))) points-same
+    way-b : (S : State) → LentPlace p q y o S → S .active ≡ i → 6 ≤ S .rule → IsWay q s (wayMade q (makeMove S))
+    way-b S L a r = subst (λ (z : Simplex). IsWay q z (wayMade q (makeMove S))) points-same
         (way-back (full ok y o place) (described (suc n) e S L) (all-marked (suc n) e S L) (omega arith)
         (carries-at S a) r)
 
     different : (S S' : State) → LentPlace p q y o S → LentPlace p q y o S' → S .active ≡ i → S' .active ≡ i
         → S .rule < 6 →
         6 ≤ S' .rule
-        → wayMade q (step S) ≡ wayMade q (step S') → ⊥
+        → wayMade q (makeMove S) ≡ wayMade q (makeMove S') → ⊥
     different S S' L L' a a' r r' = ways-apart (full ok y o place) (described (suc n) e S L) (all-marked (suc n) e S L)
         (described (suc n) e S' L')
         (all-marked (suc n) e S' L') (omega arith) (carries-at S a) (a' ∙ sym a) r r'
@@ -255,20 +257,20 @@ module _ (w : Walk) (labels : List ℕ) (ok : Accepted (over w labels)) (y : Poi
         chain-p = subst (λ (t : ℕ). LabelledChain (blocksOf q) (labelOf q) (inT q s) t (at o) (coefficientsOf q s)) e
             (chain ok y o place)
 
-        left-p : Left q (inT p s) n (coefficientsOf p s) S' i (step S')
+        left-p : Left q (inT p s) n (coefficientsOf p s) S' i (makeMove S')
         unfolding setT coefficients
-        left-p = subst (λ (j : ℕ). Left q (inT q s) n (coefficientsOf q s) S' j (step S')) a'
+        left-p = subst (λ (j : ℕ). Left q (inT q s) n (coefficientsOf q s) S' j (makeMove S')) a'
             (leaves-by (full ok y o place) (described (suc n) e S' L') (all-marked (suc n) e S' L') (omega arith)
             (carries-at S' a') r')
 
-        pub back-unknown : wayMade q (step S') ≡ link b → nextOf w labels ≡ refused 16
+        pub back-unknown : wayMade q (makeMove S') ≡ link b → nextOf w labels ≡ refused 16
         back-unknown z =
             let g = gap-way ok.hasStart s place n size i low unknown (full ok y o place) refl (λ x. refl)
             chain-p b left-p z in
             gap w labels ok (stands (rw (before, is)
             (came (back s b (record { from = place; to = g .0; by = g .1 })) (not-start n e)))) unknown-place
 
-        pub not-back-unknown : (wayMade q (step S') ≡ link b → ⊥) → nextOf w labels ≡ refused 20
+        pub not-back-unknown : (wayMade q (makeMove S') ≡ link b → ⊥) → nextOf w labels ≡ refused 20
         not-back-unknown never = no-walk w labels ok (λ h. go h.came refl refl)
           where
             go : {l : Option Simplex} {t : Simplex} → Came p l t → l ≡ w .before → t ≡ w .present → ⊥
@@ -289,30 +291,30 @@ module _ (w : Walk) (labels : List ℕ) (ok : Accepted (over w labels)) (y : Poi
           by = and-right (isPlace q b) (linked q b s) t;
         }) (not-start n e))
 
-        pub onward-a : wayMade q (step S') ≡ link b → nextOf w labels ≡ byWay (wayMade q (step S) ∷ [])
-        onward-a z = onward own (wayMade q (step S)) (link-q
+        pub onward-a : wayMade q (makeMove S') ≡ link b → nextOf w labels ≡ byWay (wayMade q (makeMove S) ∷ [])
+        onward-a z = onward own (wayMade q (makeMove S)) (link-q
             (came-by (full-accepted (filled-full ok)) s (place-filled ok y o place) (known-filled own) (not-start n e) b
-            (wayMade q (step S')) (way-b S' L' a' r') z))
+            (wayMade q (makeMove S')) (way-b S' L' a' r') z))
             (rw (before, is) (other-on (full-accepted (filled-full ok)) s (place-filled ok y o place) (known-filled own)
-            (not-start n e) b (wayMade q (step S')) (wayMade q (step S))
+            (not-start n e) b (wayMade q (makeMove S')) (wayMade q (makeMove S))
             (way-b S' L' a' r') (way-a S L a r) (λ k. different S S' L L' a a' r r' (sym k)) z))
 
-        pub onward-b : wayMade q (step S) ≡ link b → nextOf w labels ≡ byWay (wayMade q (step S') ∷ [])
-        onward-b z = onward own (wayMade q (step S'))
+        pub onward-b : wayMade q (makeMove S) ≡ link b → nextOf w labels ≡ byWay (wayMade q (makeMove S') ∷ [])
+        onward-b z = onward own (wayMade q (makeMove S'))
             (link-q (came-by (full-accepted (filled-full ok)) s (place-filled ok y o place) (known-filled own)
-            (not-start n e) b (wayMade q (step S)) (way-a S L a r) z))
+            (not-start n e) b (wayMade q (makeMove S)) (way-a S L a r) z))
             (rw (before, is) (other-on (full-accepted (filled-full ok)) s (place-filled ok y o place) (known-filled own)
-            (not-start n e) b (wayMade q (step S)) (wayMade q (step S'))
+            (not-start n e) b (wayMade q (makeMove S)) (wayMade q (makeMove S'))
             (way-a S L a r) (way-b S' L' a' r') (different S S' L L' a a' r r') z))
 
-        pub neither : (wayMade q (step S) ≡ link b → ⊥) → (wayMade q (step S') ≡ link b → ⊥) → nextOf w labels
+        pub neither : (wayMade q (makeMove S) ≡ link b → ⊥) → (wayMade q (makeMove S') ≡ link b → ⊥) → nextOf w labels
             ≡ refused 20
         neither ka kb = sym (same-next own) ∙ no-walk w (map fill labels) (full-accepted (filled-full ok))
             (λ h. go h.came refl refl)
           where
             none-linked : (isPlace q b && linked q b s) ≡ false
             none-linked = not-linked (full-accepted (filled-full ok)) s (place-filled ok y o place) (known-filled own)
-                (not-start n e) b (wayMade q (step S)) (wayMade q (step S'))
+                (not-start n e) b (wayMade q (makeMove S)) (wayMade q (makeMove S'))
                 (way-a S L a r) (way-b S' L' a' r') (different S S' L L' a a' r r') ka kb
 
             go : {l : Option Simplex} {t : Simplex} → Came q l t → l ≡ w .before → t ≡ w .present → ⊥

@@ -8,7 +8,7 @@ use Rattle.moves.specs.Held.{Holds, stateOf}
 use Rattle.moves.specs.declared.Outcome.{Outcome}
 use Rattle.moves.specs.declared.Outcome.the-variants.{FacetEnd, Moved, PlaceEnd}
 use Rattle.moves.specs.declared.Status.{Status}
-use Rattle.rules.specs.Step.{Round, State, goes, step}
+use Rattle.rules.specs.Moves.{Round, State, goes, makeMove}
 use Rattle.combinatorics.specs.Front.{padded}
 use Rattle.walk_places.specs.Walks.{keptAs, nowhere}
 use Rattle.walk_ways.specs.Ways.{CanTry, ruleFrom, wayIn}
@@ -21,9 +21,9 @@ abbrev made : Leads → Place → Move
 made leads place = record { leads = leads; place = place }
 
 module _ (m : ℕ) {a : State} {round : Round} {first list order marks : List ℕ} {s : Status} {o : Outcome}
-    (H : Holds round first list order marks s o (step a)) (C : CanTry a) where
+    (H : Holds round first list order marks s o (makeMove a)) (C : CanTry a) where
   module _ {r : Status} (is : o ≡ Moved r) where
-    after : goes (stateOf round first list order marks r) ≡ step a
+    after : goes (stateOf round first list order marks r) ≡ makeMove a
     after = rw is at H.after
 
     pub few : (r .count ≤ 15) × (length first ≡ 16)
@@ -35,7 +35,7 @@ module _ (m : ℕ) {a : State} {round : Round} {first list order marks : List �
     long = length-take (r .count) order ∙ omega (arith, few .0, H .each .inOrder)
 
     pub way-moved : made (Onto (ruleFrom (a .T) (a .U) (r .t) (r .u))) (keptAs m first order (r .count))
-        ≡ wayIn m a (step a)
+        ≡ wayIn m a (makeMove a)
     way-moved = rw (← after, long) (ap
         (λ (l : List ℕ). made (Onto (ruleFrom (a .T) (a .U) (r .t) (r .u))) (keptWith l))
         (sym (take-again (r .count) order)))
@@ -48,8 +48,8 @@ module _ (m : ℕ) {a : State} {round : Round} {first list order marks : List �
         take-again (suc n) [] = refl
         take-again (suc n) (x ∷ l) = ap (λ (y : List ℕ). x ∷ y) (take-again n l)
 
-  pub way-place : {h : ℕ} → o ≡ PlaceEnd h → made (ToPlace h) nowhere ≡ wayIn m a (step a)
+  pub way-place : {h : ℕ} → o ≡ PlaceEnd h → made (ToPlace h) nowhere ≡ wayIn m a (makeMove a)
   way-place is = rw (← (rw is at H.after))
 
-  pub way-facet : {h : ℕ} → o ≡ FacetEnd h → made (ToFacet h) nowhere ≡ wayIn m a (step a)
+  pub way-facet : {h : ℕ} → o ≡ FacetEnd h → made (ToFacet h) nowhere ≡ wayIn m a (makeMove a)
   way-facet is = rw (← (rw is at H.after))

@@ -37,7 +37,7 @@ use Rattle.rules.proofs.Range.{few}
 use Rattle.rules.proofs.StatePoints.{all-points, later-points}
 use Rattle.rules.specs.Mask.{bit}
 use Rattle.rules.specs.Ready.{Ready}
-use Rattle.rules.specs.Step.{After, State, endsAtFacet, endsAtPlace, goes, step}
+use Rattle.rules.specs.Moves.{After, State, endsAtFacet, endsAtPlace, goes, makeMove}
 use Rattle.walk_ways.proofs.Kept.{kept-described}
 use Rattle.walk_ways.specs.Lent.{keptBy, wayMade}
 
@@ -100,8 +100,8 @@ module _ {q : Problem} (full : FullyLabelled q) where
   -- the point named leaves
   module _ {T : ℕ → Bool} {n : ℕ} {o : ℕ → ℕ} {x : List (ℕ → ℕ)} {S : State} (D : Describes q T (suc n) o x S)
       (A : AllMarks q (suc n) x S) (low : S .active ≤ suc n) (carry : Carries T (suc n) (labelsOf q x) S.active) where
-    pub leaves-by : 6 ≤ S .rule → Left q T n x S S.active (step S)
-    unfolding step
+    pub leaves-by : 6 ≤ S .rule → Left q T n x S S.active (makeMove S)
+    unfolding makeMove
     leaves-by r = rw (le-ltb S.rule 6 r) (leaves full T n o x S S.active D A low carry)
 
     pub ready-leaves : 6 ≤ S .rule → Ready S
@@ -111,14 +111,14 @@ module _ {q : Problem} (full : FullyLabelled q) where
         (λ z. leave-ready full S.active D low)
 
     -- or its label joins T, or the other point with it leaves
-    pub joins-by : S .rule < 6 → T (labelsOf q x S.active) ≡ false → Joined q T (suc n) x S (step S)
-    unfolding step
+    pub joins-by : S .rule < 6 → T (labelsOf q x S.active) ≡ false → Joined q T (suc n) x S (makeMove S)
+    unfolding makeMove
     joins-by r e = rw (lt-ltb S.rule 6 r, label-bit full D A low ∙ e, label-index full D A low)
         (grows full T (suc n) o x S S.active D A (extra-at full D.chain S.active low e))
 
     pub other-leaves : S .rule < 6 → (e : T (labelsOf q x S.active) ≡ true)
-        → Left q T n x S (other full D A low carry e) (step S)
-    unfolding step
+        → Left q T n x S (other full D A low carry e) (makeMove S)
+    unfolding makeMove
     other-leaves r e = rw (lt-ltb S.rule 6 r, label-bit full D A low ∙ e)
         (leaves full T n o x S (other full D A low carry e) D A (other-at-most full D A low carry e)
         (other-carries full D A low carry e))
@@ -139,10 +139,10 @@ module _ {q : Problem} (full : FullyLabelled q) where
         (λ z. absurd (omega arith)))
         (true-or-false (T (labelsOf q x S.active)))
 
-    pub way-back : 6 ≤ S .rule → IsWay q (pointsOf q x) (wayMade q (step S))
+    pub way-back : 6 ≤ S .rule → IsWay q (pointsOf q x) (wayMade q (makeMove S))
     way-back r = left-way D (leaves-by r)
 
-    pub way-onward : S .rule < 6 → IsWay q (pointsOf q x) (wayMade q (step S))
+    pub way-onward : S .rule < 6 → IsWay q (pointsOf q x) (wayMade q (makeMove S))
     way-onward r = ⊎-elim
         (λ e. left-way D (other-leaves r e))
         (λ e. joined-way D (joins-by r e))
@@ -159,7 +159,7 @@ module _ {q : Problem} (full : FullyLabelled q) where
     carry' : Carries T (suc n) (labelsOf q x) S'.active
     carry' = rw same carry
 
-    pub ways-apart : S .rule < 6 → 6 ≤ S' .rule → wayMade q (step S) ≡ wayMade q (step S') → ⊥
+    pub ways-apart : S .rule < 6 → 6 ≤ S' .rule → wayMade q (makeMove S) ≡ wayMade q (makeMove S') → ⊥
     ways-apart r r' w =
         let L = leaves-by D' A' low' carry' r' in
         ⊎-elim
@@ -187,12 +187,12 @@ module _ {q : Problem} (full : FullyLabelled q) where
         rw (label-index full D A start-low) (grow-ready full D A (extra-at full D.chain S.active start-low start-out)))
         (λ z. absurd (omega arith))
 
-    pub start-joins : Joined q T 0 x S (step S)
-    unfolding step
+    pub start-joins : Joined q T 0 x S (makeMove S)
+    unfolding makeMove
     start-joins = rw (lt-ltb S.rule 6 r, label-bit full D A start-low ∙ start-out, label-index full D A start-low)
         (grows full T 0 o x S S.active D A (extra-at full D.chain S.active start-low start-out))
 
-    pub start-way : IsWay q (pointsOf q x) (wayMade q (step S))
+    pub start-way : IsWay q (pointsOf q x) (wayMade q (makeMove S))
     start-way = joined-way D start-joins
 
 -- what comes after a move fits its arrays, and an end names an index
@@ -257,17 +257,17 @@ module _ {q : Problem} (full : FullyLabelled q) where
 
   module _ {T : ℕ → Bool} {n : ℕ} {o : ℕ → ℕ} {x : List (ℕ → ℕ)} {S : State} (D : Describes q T (suc n) o x S)
       (A : AllMarks q (suc n) x S) (low : S .active ≤ suc n) (carry : Carries T (suc n) (labelsOf q x) S.active) where
-    pub fits-back : 6 ≤ S .rule → Fits S (step S)
+    pub fits-back : 6 ≤ S .rule → Fits S (makeMove S)
     fits-back r = left-fits D (leaves-by full D A low carry r)
 
-    pub fits-onward : S .rule < 6 → Fits S (step S)
+    pub fits-onward : S .rule < 6 → Fits S (makeMove S)
     fits-onward r = ⊎-elim
         (λ e. left-fits D (other-leaves full D A low carry r e))
         (λ e. joined-fits D (joins-by full D A low carry r e))
         (true-or-false (T (labelsOf q x S.active)))
 
   pub fits-start : {T : ℕ → Bool} {o : ℕ → ℕ} {x : List (ℕ → ℕ)} {S : State} → Describes q T 0 o x S → AllMarks q 0 x S
-      → S .active ≡ 0 → S .rule < 6 → Fits S (step S)
+      → S .active ≡ 0 → S .rule < 6 → Fits S (makeMove S)
   fits-start D A first r = joined-fits D (start-joins full D A first r)
 
 -- the masks of a state are the sets of its place

@@ -15,12 +15,12 @@ use Rattle.walks.specs.Walk.{Walk, labelsOf, over}
 use Rattle.walk_places.specs.Walks.{nowhere, placeOf, stored}
 use Rattle.walk_places.specs.declared.Place.{Place}
 use Rattle.walk_places.specs.declared.Walk.{Walk as WalkStruct}
-use Rattle.walk_ways.specs.declared.Answer.{Answer}
-use Rattle.walk_ways.specs.declared.Answer.the-variants.{Ended, Moved, Refused}
+use Rattle.walk_ways.specs.declared.WalkAnswer.{WalkAnswer}
+use Rattle.walk_ways.specs.declared.WalkAnswer.the-variants.{Ended, Moved, Refused}
 use Rattle.walk_ways.specs.declared.Next.{Next}
 
 -- each case's number and values
-abbrev pub answerOf : (Simplex → ℕ) → Outcome Simplex → Answer
+abbrev pub answerOf : (Simplex → ℕ) → Outcome Simplex → WalkAnswer
 answerOf rule (refused number) = Refused number
 answerOf rule (ended kind block simplex) = Ended kind block (length simplex)
 answerOf rule (moved s) = Moved (rule s)

@@ -9,10 +9,10 @@ use Rattle.grid.specs.Made.{shape}
 use Rattle.grid.specs.declared.Grid.{Grid as GridStruct}
 use Rattle.moves.specs.Room.{CanPut}
 use Rattle.rules.specs.Read.{numbersFrom}
-use Rattle.rules.specs.Step.{State}
+use Rattle.rules.specs.Moves.{State}
 use Rattle.combinatorics.specs.Front.{padded}
 use Rattle.walk_places.specs.Walks.{nowhere}
-use Rattle.walk_ways.specs.declared.Answer.the-variants.{Ended, Moved, Refused}
+use Rattle.walk_ways.specs.declared.WalkAnswer.the-variants.{Ended, Moved, Refused}
 use Rattle.walk_ways.specs.declared.Leads.{Leads}
 use Rattle.walk_ways.specs.declared.Leads.the-variants.{FacetEnd, Onto, PlaceEnd}
 use Rattle.walk_ways.specs.declared.Next.{Next}

@@ -13,7 +13,7 @@ use Rattle.place.specs.Problem.{Problem}
 use Rattle.rules.specs.Mask.{bit}
 use Rattle.rules.specs.Read.{markOf, pointsFrom}
 use Rattle.rules.specs.Ready.{IsRound}
-use Rattle.rules.specs.Step.{After, State, endsAtFacet, endsAtPlace, goes}
+use Rattle.rules.specs.Moves.{After, State, endsAtFacet, endsAtPlace, goes}
 use Rattle.walks.specs.Kept.{keptPoints, zeroOutside}
 
 -- the state of the place with first point y and order o; `filled` has the labels of its marks

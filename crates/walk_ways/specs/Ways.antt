@@ -5,7 +5,7 @@ use Prim.Native.Nat.{ℕ, _≤_}
 use lib.ListN.{length}
 use Rattle.combinatorics.specs.Lists.{all, upFrom}
 use Rattle.rules.specs.Mask.{bit}
-use Rattle.rules.specs.Step.{After, State, endsAtFacet, endsAtPlace, goes, step}
+use Rattle.rules.specs.Moves.{After, State, endsAtFacet, endsAtPlace, goes, makeMove}
 use Rattle.walk_places.specs.Walks.{keptAs, nowhere}
 use Rattle.walk_ways.specs.declared.Leads.the-variants.{FacetEnd, Onto, PlaceEnd}
 use Rattle.walk_ways.specs.declared.Move.{Move}
@@ -25,7 +25,7 @@ ruleFrom T U T' U' =
 
 -- the state after the move fits its arrays
 pub record CanTry (a : State) : Type 0 where
-  pub short : (e : State) → step a ≡ goes e → (length (e .order) ≤ 15) × (length (e .first) ≡ 16)
+  pub short : (e : State) → makeMove a ≡ goes e → (length (e .order) ≤ 15) × (length (e .first) ≡ 16)
   pub firstLong : length (a .first) ≡ 16
 
 abbrev pub wayIn : ℕ → State → After → Move

@@ -7,12 +7,12 @@ ghost use Rattle.arrays.specs.Rounds.{roundBack};
 ghost use Rattle.grid.specs.Made.{IsMade};
 ghost use Rattle.moves.specs.Held.{stateOf};
 ghost use Rattle.moves.specs.Room.{CanPut};
-ghost use Rattle.rules.specs.Step.{State};
+ghost use Rattle.rules.specs.Moves.{State};
 ghost use Rattle.walk_ways.specs.Ends.{endAs, refusedAs, toldAs, CanTellEnd};
-use crate::Answer;
 use crate::Leads;
 use crate::Move;
 use crate::Next;
+use crate::WalkAnswer;
 use end_kinds::Kind;
 use grid::Grid;
 use moves::Status;
@@ -43,7 +43,7 @@ fn ended(
     let block = g.block_of(h) as u8 + 1;
     let place = none();
     Next {
-        answer: Answer::Ended {
+        answer: WalkAnswer::Ended {
             kind,
             block,
             vertices,
@@ -59,7 +59,7 @@ pub fn refused(number: u8) -> Next
 {
     let place = none();
     Next {
-        answer: Answer::Refused(number),
+        answer: WalkAnswer::Refused(number),
         simplex: [0u16; 256],
         place,
     }
@@ -84,7 +84,7 @@ pub fn told(
     let place = way.place;
     match leads {
         Leads::Onto(rule) => Next {
-            answer: Answer::Moved(rule),
+            answer: WalkAnswer::Moved(rule),
             simplex: [0u16; 256],
             place,
         },

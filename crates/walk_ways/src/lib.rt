@@ -10,7 +10,7 @@ pub use ending::refused;
 use walk_places::Place;
 
 // What a call answers.
-pub enum Answer {
+pub enum WalkAnswer {
     // The number of the first of questions 1 to 7, 20 and 16 that is answered no.
     Refused(u8),
     // The walk stands at an end: its kind, its block from 1, and how many vertices the simplex has.
@@ -25,7 +25,7 @@ pub enum Answer {
 
 // What comes next: the answer, the simplex of an end, and the place to which the walk is moved.
 pub struct Next {
-    pub answer: Answer,
+    pub answer: WalkAnswer,
     pub simplex: [u16; 256],
     pub place: Place,
 }

@@ -3,7 +3,7 @@ ghost use mathlib.Core.Path.{_≡_};
 ghost use Prim.Native.Nat.{_≤_};
 ghost use Rattle.arrays.specs.Rounds.{round};
 ghost use Rattle.moves.specs.Held.{held, CanStep};
-ghost use Rattle.rules.specs.Step.{State, step as stepped};
+ghost use Rattle.rules.specs.Moves.{State, makeMove};
 ghost use Rattle.walk_ways.specs.Ways.{CanTry, ruleFrom, wayIn};
 use crate::Leads;
 use crate::Move;
@@ -11,7 +11,7 @@ use moves::Outcome;
 use moves::Status;
 use walk_places::kept_as;
 use walk_places::none;
-use ways::step;
+use ways::make_move;
 
 // Which of the seven rules leads from T and U of a place to those of the next.
 fn rule_of(t: u16, u: u16, t2: u16, u2: u16) -> u8
@@ -53,13 +53,13 @@ pub fn way(
     ghost { State }
     requires { λ a. ⌜ held (round previous next sizes) first list order marks s ≡ a ⌝ }
     requires { λ a. ⌜ CanStep order marks a × CanTry a × (m ≤ 16) ⌝ }
-    ensures { λ a r. ⌜ r ≡ wayIn m a (stepped a) ⌝ }
+    ensures { λ a r. ⌜ r ≡ wayIn m a (makeMove a) ⌝ }
 {
     let mut f = *first;
     let mut c = *list;
     let mut o = *order;
     let mut k = *marks;
-    let outcome = step(previous, next, sizes, &mut f, &mut c, &mut o, &mut k, s);
+    let outcome = make_move(previous, next, sizes, &mut f, &mut c, &mut o, &mut k, s);
     match outcome {
         Outcome::Moved(r) => {
             let place = kept_as(&f, m, &o, r.count);

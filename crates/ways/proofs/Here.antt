@@ -18,7 +18,7 @@ use Rattle.moves.specs.declared.Status.{Status}
 use Rattle.rules.specs.Mask.{bit}
 use Rattle.rules.specs.Read.{positionAt}
 use Rattle.rules.specs.Ready.{Ready, SixteenEach, labelIn}
-use Rattle.rules.specs.Step.{Round, State, markLabel, step}
+use Rattle.rules.specs.Moves.{Round, State, markLabel, makeMove}
 use Rattle.ways.specs.Ways.{CanMove, CanTell, goneBy, wayAfter, wayHere}
 use Rattle.ways.specs.declared.Way.{Way}
 use Rattle.ways.specs.declared.Way.the-variants.{Joins, Leaves, Nothing}
@@ -47,7 +47,7 @@ module _ (a : State) where
       (λ (l : 6 ≤ a .rule). inl (a .active, inl (l, refl)))
       (before-or-not (a .rule) 6)
 
-  pub here-steps : wayAfter a (wayHere a) ≡ step a
+  pub here-steps : wayAfter a (wayHere a) ≡ makeMove a
   here-steps = ⊎-elim
       (λ (w : (i : ℕ) × Leaving a i). ap (wayAfter a) (sym (here-leaves (w .0) (w .1))) ∙ leaving-leaves a (w .0)
       (w .1))

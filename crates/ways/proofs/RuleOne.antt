@@ -13,8 +13,8 @@ use Rattle.rules.proofs.FirstMet.{below}
 use Rattle.rules.proofs.SameMasks.{without-none}
 use Rattle.rules.specs.Mask.{bit, withoutIndex}
 use Rattle.rules.specs.Ready.{IndicesBelow}
-use Rattle.rules.specs.Step.{After, State, endsAtFacet, endsAtPlace, firstMet, firstOutsideOrZero, goes}
-use Rattle.rules.specs.Step.{grow, isFilled, leave, leaveFirst, leaveLast, leaveMiddle, shrink, sourceIn}
+use Rattle.rules.specs.Moves.{After, State, endsAtFacet, endsAtPlace, firstMet, firstOutsideOrZero, goes}
+use Rattle.rules.specs.Moves.{grow, isFilled, leave, leaveFirst, leaveLast, leaveMiddle, shrink, sourceIn}
 use Rattle.ways.specs.Ways.{wayAfter}
 use Rattle.ways.specs.declared.Way.{Way}
 use Rattle.ways.specs.declared.Way.the-variants.{Joins, Leaves, Nothing}

@@ -13,7 +13,7 @@ use Rattle.moves.specs.declared.Status.{Status}
 use Rattle.rules.specs.Mask.{bit}
 use Rattle.rules.specs.Read.{positionAt}
 use Rattle.rules.specs.Ready.{ReadyGrow, ReadyLeave, labelIn}
-use Rattle.rules.specs.Step.{After, State, endsAtFacet, grow, leave, markLabel}
+use Rattle.rules.specs.Moves.{After, State, endsAtFacet, grow, leave, markLabel}
 use Rattle.ways.specs.declared.Way.{Way}
 use Rattle.ways.specs.declared.Way.the-variants.{Joins, Leaves, Nothing}
 

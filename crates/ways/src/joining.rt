@@ -3,7 +3,7 @@ ghost use mathlib.Core.List.{[]};
 ghost use mathlib.Core.Path.{_≡_};
 ghost use Rattle.arrays.specs.Rounds.{roundOn};
 ghost use Rattle.moves.specs.Held.{heldBy, Gives, CanJoin, Joins, CanGrow};
-ghost use Rattle.rules.specs.Step.{State, grow as grown};
+ghost use Rattle.rules.specs.Moves.{State, grow as grown};
 use arrays::add;
 use arrays::find;
 use arrays::first_outside;

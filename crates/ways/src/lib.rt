@@ -7,7 +7,7 @@ ghost use lib.ListN.{length};
 ghost use Rattle.arrays.specs.Rounds.{round};
 ghost use Rattle.moves.specs.Held.{CanStep, GivesAll, Sound, held};
 ghost use Rattle.rules.specs.Ready.{RoundBelow};
-ghost use Rattle.rules.specs.Step.{State, step as stepped};
+ghost use Rattle.rules.specs.Moves.{State, makeMove};
 ghost use Rattle.ways.specs.Ways.{CanMove, CanTell, goneBy, heldMarks, wayAfter, wayHere};
 
 mod joining;
@@ -99,7 +99,7 @@ pub fn moved_by(
 }
 
 // The move from a place whose points all have their marks, by the labels.
-pub fn step(
+pub fn make_move(
     previous: &[u8; 16],
     next: &[u8; 16],
     sizes: &[u8; 16],
@@ -112,7 +112,7 @@ pub fn step(
     ghost { State }
     requires { λ a. ⌜ held (round previous next sizes) first coefficients order marks s ≡ a ⌝ }
     requires { λ a. ⌜ CanStep order marks a ⌝ }
-    ensures { λ a r. ⌜ GivesAll a first coefficients order marks s r (stepped a) ⌝ }
+    ensures { λ a r. ⌜ GivesAll a first coefficients order marks s r (makeMove a) ⌝ }
 {
     let way = way_here(marks, s);
     moved_by(

@@ -23,8 +23,8 @@ returns c =
     refused-grid G (b .args .labels .now) (b .args .numbers .now) (r .code) (c .if1 .taken)
     (made-code G r (c .before .before .new .ensures))
 
-first-no-requires : tie.Need-first-no-requires
-first-no-requires c κs = let b = c .before .before .before .before .before .before .before in
+first-check-no-requires : tie.Need-first-check-no-requires
+first-check-no-requires c κs = let b = c .before .before .before .before .before .before .before in
     let G : Grid = record { sizes = b .args .sizes .now; divisions = b .args .divisions .now } in
     made-is G (c .before .before .new .result) (c .before .before .new .ensures) (c .if1 .left)
 
@@ -35,8 +35,8 @@ returns-2 c =
     let n = c .before .before .before .before .new in
     let zero = c .before .before .if1 .left in
     refused-list G (b .args .labels .now) (b .args .numbers .now) (sym (made-code G (n .result) (n .ensures)) ∙ zero)
-    (c .before .first-no .result) (c .if2 .taken)
-    (c .before .first-no .ensures
+    (c .before .first-check-no .result) (c .if2 .taken)
+    (c .before .first-check-no .ensures
     ∙ ap
     (λ (h : Grid). firstNo (listQuestions h (b .args .labels .now) (b .args .numbers .now)))
     (made-shape G (n .result) (n .ensures) zero))
@@ -53,7 +53,7 @@ judged-requires c κs = let b = c .before .before .before .before .before .befor
     let n = c .before .before .before .before .new in
     let s = n .result .grid in
     let made = made-is G (n .result) (n .ensures) (c .before .before .if1 .left) in
-    let none = sym (c .before .first-no .ensures) ∙ c .if2 .left in
+    let none = sym (c .before .first-check-no .ensures) ∙ c .if2 .left in
     let w = passed-list s made (b .args .labels .now) (b .args .numbers .now) none in
     (w .0, passed-labels s made (b .args .labels .now) (b .args .numbers .now) none, w .1)
 
@@ -69,7 +69,7 @@ returns-3 c =
     let numbers = b .args .numbers .now in
     let same = made-shape G (n .result) (n .ensures) zero in
     let none = ap (λ (h : Grid). firstNo (listQuestions h labels numbers)) (sym same)
-    ∙ sym (c .before .before .first-no .ensures)
+    ∙ sym (c .before .before .first-check-no .ensures)
     ∙ c .before .if2 .left in
     c .judged .ensures
     ∙ ap (λ (m : ℕ). checkCase (verdict (shape s) labels (listed m (length numbers / m) numbers))) (made-indices s made)
@@ -82,7 +82,7 @@ check-spec =
     (tie.spec
     (λ c κs. search needs)
     returns
-    first-no-requires
+    first-check-no-requires
     returns-2
     div-judged
     judged-requires

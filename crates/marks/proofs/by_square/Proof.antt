@@ -8,7 +8,7 @@ use Rattle.grid.specs.Made.{shape}
 use Rattle.grid_points.specs.Grid.{position}
 use Rattle.moves.specs.Held.{stateOf}
 use Rattle.rules.specs.Read.{Exchanged, pointOn}
-use Rattle.rules.specs.Step.{State}
+use Rattle.rules.specs.Moves.{State}
 use Rattle.marks.proofs.Readings.{at-right, corner-indices, corners-add, nothing-right}
 use borrow.Author.Needs.{needs}
 use Rattle.marks.proofs.by_square.Statement.{statement}

@@ -6,7 +6,7 @@ use Rattle.grid.proofs.Fields.{made-accepted}
 use Rattle.positions.proofs.Positions.{position-below}
 use Rattle.marks.proofs.Readings.{in-table, read-gap, read-mark}
 use Rattle.marks.specs.declared.LookedUp.the-variants.{Marked, Unknown}
-use Rattle.rules.specs.Step.{mark}
+use Rattle.rules.specs.Moves.{mark}
 use borrow.Author.Needs.{needs}
 use Rattle.marks.proofs.mark_in.Statement.{statement}
 use Rattle.marks.proofs.mark_in.Tie as tie

@@ -1,4 +1,4 @@
--- `nearest::announced` meets its contract: the walk from the start, its finish announced, and what was met on the way.
+-- `nearest::announced` meets its contract: the pass from the start, its finish announced, and what was met on the way.
 -- Assumes nothing.
 use mathlib.Core.List.{List}
 use mathlib.Core.Path.{_≡_, refl, ap, _∙_, subst}
@@ -7,16 +7,16 @@ use borrow.Author.Needs.{needs}
 use native.Mathlib.Omega.{arith}
 use Rattle.arrays.specs.Rounds.{roundOf}
 use Rattle.combinatorics.specs.Front.{front}
-use Rattle.finder.proofs.Announcements.{can-announce, can-pad, can-walk, finish-told, finish-written, finished-from}
+use Rattle.finder.proofs.Announcements.{can-announce, can-pad, can-pass, finish-told, finish-written, finished-from}
 use Rattle.finder.proofs.Announcements.{FinishedBy, problem-from}
-use Rattle.finder.specs.declared.answers.Answer.{Answer}
+use Rattle.finder.specs.declared.answers.RunAnswer.{RunAnswer}
 use Rattle.grid.proofs.Fields.{indices-few, made-indices}
 use Rattle.grid.specs.Made.{shape}
 use Rattle.grid_points.proofs.Points.{point-long}
 use Rattle.marks.specs.Reading.{problemFrom}
 use Rattle.path_pass.proofs.Visits.{is-round, round-below}
 use Rattle.place.specs.Problem.{Problem}
-use Rattle.rules.specs.Step.{Round}
+use Rattle.rules.specs.Moves.{Round}
 use Rattle.nearest_pass.specs.Survey.{Surveys}
 use Rattle.nearest.specs.declared.Nearest.{Nearest}
 use Rattle.nearest.specs.declared.Report.{Report}
@@ -25,7 +25,7 @@ use Rattle.nearest.proofs.announced.Statement.{statement}
 use Rattle.nearest.proofs.announced.Tie as tie
 
 -- reports that agree
-same-report : {run run' : Answer} {near near' : Nearest} → run ≡ run' → near ≡ near'
+same-report : {run run' : RunAnswer} {near near' : Nearest} → run ≡ run' → near ≡ near'
     → _≡_ {A = Report} (record { run = run; nearest = near }) (record { run = run'; nearest = near' })
 same-report e f = cc
 
@@ -34,8 +34,8 @@ padded-requires c κs =
     let w = c .before .before .before .before .before .before .before .before .before .pre .0 in
     can-pad (w .readable) (w .accepted)
 
-pass-requires : tie.Need-pass-requires
-pass-requires c κs =
+pass-noting-requires : tie.Need-pass-noting-requires
+pass-noting-requires c κs =
     let s = c .before .before .before .before .before .before .before .before .before
     .before .before .before .before .before .before .before .before in
     let a = s .args in
@@ -43,7 +43,7 @@ pass-requires c κs =
     let made = w .readable .made in
     let t = c .before .before .before .before .before .before .before .padded in
     let sizes = c .before .before .before .before .before .before .before .before .before .block-sizes in (
-      can-walk (w .readable) (w .accepted) _ (is-round (a .g) made (sizes .result) (sizes .ensures))
+      can-pass (w .readable) (w .accepted) _ (is-round (a .g) made (sizes .result) (sizes .ensures))
           (round-below (a .g) made (sizes .result)) (t .result) (t .ensures) _ refl,
       record {
         measure = record {
@@ -57,57 +57,57 @@ pass-requires c κs =
       },
     )
 
--- the walk, and where the call began
-abbrev Walked : Type 0
-Walked = tie.After-pass
+-- the pass, and where the call began
+abbrev Passed : Type 0
+Passed = tie.After-pass-noting
 
-abbrev begun : Walked → tie.Start
+abbrev begun : Passed → tie.Start
 begun c =
     c .before .before .before .before .before .before .before .before .before
     .before .before .before .before .before .before .before .before .before
 
-abbrev sizes : Walked → List ℕ
+abbrev sizes : Passed → List ℕ
 sizes c = c .before .before .before .before .before .before .before .before .before .before .block-sizes .result
 
-abbrev first : Walked → List ℕ
-first c = c .pass .last .1 .1 .1 .1 .1 .1 .0
+abbrev first : Passed → List ℕ
+first c = c .pass-noting .last .1 .1 .1 .1 .1 .1 .0
 
-abbrev order : Walked → List ℕ
-order c = c .pass .last .1 .1 .1 .1 .1 .1 .1 .0
+abbrev order : Passed → List ℕ
+order c = c .pass-noting .last .1 .1 .1 .1 .1 .1 .1 .0
 
-abbrev found : Walked → List ℕ
-found c = c .pass .last .1 .1 .1 .1 .1 .1 .1 .1 .1 .1 .1 .0
+abbrev found : Passed → List ℕ
+found c = c .pass-noting .last .1 .1 .1 .1 .1 .1 .1 .1 .1 .1 .1 .0
 
-abbrev round : Walked → Round
+abbrev round : Passed → Round
 round c =
     let g = begun c .args .g in
     roundOf (g .previous) (g .next) (sizes c)
 
-abbrev problem : Walked → Problem
+abbrev problem : Passed → Problem
 problem c =
     let a = begun c .args in
     problemFrom (a .g) (a .start .now) (a .labels .now)
 
-finished : (c : Walked) → (let a = begun c .args in
+finished : (c : Passed) → (let a = begun c .args in
     FinishedBy (a .g) (begun c .pre .0 .readable .made) (a .start .now) (a .labels .now) (a .budget)
-    (a .g .previous) (a .g .next) (sizes c) (first c) (order c) (c .pass .result .finish))
+    (a .g .previous) (a .g .next) (sizes c) (first c) (order c) (c .pass-noting .result .finish))
 finished c =
     let w = begun c .pre .0 in
     let t = c .before .before .before .before .before .before .before .before .padded in
     finished-from (w .readable) (w .accepted) (t .result) (t .ensures) (begun c .args .budget) (round c) (first c)
-    (order c) (c .pass .result .finish) (c .pass .ensures .0)
+    (order c) (c .pass-noting .result .finish) (c .pass-noting .ensures .0)
 
-surveyed : (c : Walked) → (let a = begun c .args in
-    Surveys (problem c) (a .w .now) (a .given) (a .found .now) (found c) (c .pass .result .tally)
-    (c .pass .result .finish))
+surveyed : (c : Passed) → (let a = begun c .args in
+    Surveys (problem c) (a .w .now) (a .given) (a .found .now) (found c) (c .pass-noting .result .tally)
+    (c .pass-noting .result .finish))
 surveyed c =
     let a = begun c .args in
     let w = begun c .pre .0 in
     let t = c .before .before .before .before .before .before .before .before .padded in
     subst
-    (λ (p : Problem). Surveys p (a .w .now) (a .given) (a .found .now) (found c) (c .pass .result .tally)
-    (c .pass .result .finish))
-    (problem-from (w .readable) (w .accepted) (t .result) (t .ensures)) (c .pass .ensures .1)
+    (λ (p : Problem). Surveys p (a .w .now) (a .given) (a .found .now) (found c) (c .pass-noting .result .tally)
+    (c .pass-noting .result .finish))
+    (problem-from (w .readable) (w .accepted) (t .result) (t .ensures)) (c .pass-noting .ensures .1)
 
 announce-requires : tie.Need-announce-requires
 announce-requires c κs =
@@ -116,15 +116,15 @@ announce-requires c κs =
     let made = begun w .pre .0 .readable .made in
     can-announce (a .g) made (a .start .now) (a .labels .now) (a .budget) (a .g .previous) (a .g .next) (sizes w)
     (first w) (order w) _ (round-below (a .g) made (sizes w) .backward) (begun w .pre .0 .room)
-    (w .pass .result .finish) (finished w)
+    (w .pass-noting .result .finish) (finished w)
 
 returns : tie.Need-returns
 returns c =
     let w = c .before .before .before .before .before .before .before .before .before .before .before .before in
     let a = begun w .args in
     let made = begun w .pre .0 .readable .made in
-    let f = w .pass .result .finish in
-    let tally = w .pass .result .tally in
+    let f = w .pass-noting .result .finish in
+    let tally = w .pass-noting .result .tally in
     let said = c .before .before .before .announce .ensures in (
       same-report
           (said .0
@@ -151,7 +151,7 @@ announced-spec =
     (λ c κs. search needs)
     (λ c κs. search needs)
     padded-requires
-    pass-requires
+    pass-noting-requires
     announce-requires
     (λ c κs. search needs)
     (λ c. search needs)

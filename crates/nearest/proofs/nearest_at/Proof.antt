@@ -8,4 +8,5 @@ returns-3 c = rw (c .enum-told3 .given .1)
 
 pub nearest-at-spec : {M : Type 1} → statement M
 nearest-at-spec =
-    tie.close (tie.spec (λ c. search needs) (λ c. search needs) (λ c. search needs) (λ c. search needs) (λ c. search needs) returns-3)
+    tie.close (tie.spec (λ c. search needs) (λ c. search needs) (λ c. search needs) (λ c. search needs)
+    (λ c. search needs) returns-3)

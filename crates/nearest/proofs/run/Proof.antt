@@ -62,4 +62,5 @@ returns-2 c =
 
 pub run-spec : {M : Type 1} → statement M
 run-spec =
-    tie.close (tie.spec (λ c κs. search needs) returns run-on-requires (λ c. search needs) (λ c. search needs) returns-2)
+    tie.close (tie.spec (λ c κs. search needs) returns run-on-requires (λ c. search needs) (λ c. search needs)
+    returns-2)

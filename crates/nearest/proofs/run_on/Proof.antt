@@ -1,4 +1,4 @@
--- `nearest::run_on` meets its contract: the questions, the walk, and after its end the list. Assumes nothing.
+-- `nearest::run_on` meets its contract: the questions, the pass, and after its end the list. Assumes nothing.
 use mathlib.Core.Bool.{true}
 use mathlib.Core.List.{List}
 use mathlib.Core.Path.{_≡_, sym, ap, _∙_}
@@ -29,10 +29,11 @@ returns c =
     let s = c .before .before .before .before .before .before .before in
     let a = s .args in
     let p = problemFrom (a .g) (a .start .now) (a .labels .now) in
-    let w = refused p (a .w .now) (a .given) (a .budget) (a .answer .now) (a .list .now) (c .before .first-no .result)
+    let w = refused p (a .w .now) (a .given) (a .budget) (a .answer .now) (a .list .now)
+    (c .before .first-nearest-no .result)
     (c .if1 .taken)
     (by-point p (a .w .now) (length (a .answer .now)) (length (a .list .now)) (s .pre .accepted)
-    ∙ sym (c .before .first-no .ensures)) in
+    ∙ sym (c .before .first-nearest-no .ensures)) in
     (w .0, (w .1, w .2))
 
 -- behind the questions: where the call began, and what they tell
@@ -51,7 +52,7 @@ problem c =
 none-no : (c : Asked)
     → let a = begun c .args in
     firstNo (pointQuestions (problem c) (a .w .now) (length (a .answer .now)) (length (a .list .now))) ≡ 0
-none-no c = sym (c .before .before .before .before .before .before .first-no .ensures)
+none-no c = sym (c .before .before .before .before .before .before .first-nearest-no .ensures)
     ∙ c .before .before .before .before .before .if1 .left
 
 yes : (c : Asked)
@@ -80,7 +81,7 @@ announced-requires c κs =
       (y .0, ok .0 .hasStart .points),
     )
 
--- what the walk reported
+-- what the pass reported
 abbrev Reported : Type 0
 Reported = tie.After-announced
 

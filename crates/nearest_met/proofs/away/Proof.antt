@@ -1,11 +1,11 @@
--- `vertices_met::away` meets its contract: the first point is taken through its steps. Assumes nothing.
+-- `nearest_met::away` meets its contract: the first point is taken through its steps. Assumes nothing.
 use mathlib.Core.Path.{_≡_, sym, _∙_}
 use lib.ListN.{take}
 use native.Mathlib.Omega.{arith}
 use Rattle.combinatorics.proofs.EditsOfArrays.{first-few}
 use Rattle.rules.proofs.PointsAfter.{after-taken, few-ready}
 use Rattle.rules.specs.Read.{pointAfter}
-use Rattle.rules.specs.Step.{firstOutside}
+use Rattle.rules.specs.Moves.{firstOutside}
 use Rattle.nearest_met.proofs.away.Statement.{statement}
 use Rattle.nearest_met.proofs.away.Tie as tie
 

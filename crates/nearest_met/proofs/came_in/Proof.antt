@@ -1,4 +1,4 @@
--- `vertices_met::came_in` meets its contract. Assumes nothing.
+-- `nearest_met::came_in` meets its contract. Assumes nothing.
 use mathlib.Core.Path.{ap}
 use borrow.Author.Needs.{needs}
 use borrow.Author.Tests.{le-ltb, lt-ltb}

@@ -1,4 +1,4 @@
--- `vertices_met::enlist` meets its contract. Assumes nothing.
+-- `nearest_met::enlist` meets its contract. Assumes nothing.
 use mathlib.Core.Path.{refl}
 use borrow.Author.Tests.{le-leb, lt-leb}
 use native.Mathlib.Omega.{arith}

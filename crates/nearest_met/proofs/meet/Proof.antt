@@ -1,4 +1,4 @@
--- `vertices_met::meet` meets its contract. Assumes nothing.
+-- `nearest_met::meet` meets its contract. Assumes nothing.
 use mathlib.Core.Path.{refl}
 use borrow.Author.Tests.{eq-eqb, ne-eqb}
 use native.Mathlib.Omega.{arith}

@@ -1,4 +1,4 @@
--- `vertices_met::note` meets its contract. Assumes nothing.
+-- `nearest_met::note` meets its contract. Assumes nothing.
 use mathlib.Core.Path.{refl}
 use borrow.Author.Tests.{le-ltb, lt-ltb}
 use borrow.Author.Needs.{needs}

@@ -1,4 +1,4 @@
--- `path_walk::ended` meets its contract. Assumes nothing.
+-- `path_pass::ended` meets its contract. Assumes nothing.
 use mathlib.Core.Path.{ap, sym}
 use borrow.Author.Needs.{needs}
 use Rattle.moves.specs.declared.Outcome.{Outcome}

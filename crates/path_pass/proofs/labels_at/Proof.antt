@@ -1,4 +1,4 @@
--- `path_walk::labels_at` meets its contract. Assumes nothing.
+-- `path_pass::labels_at` meets its contract. Assumes nothing.
 use borrow.Author.Tests.{le-ltb, lt-ltb}
 use native.Mathlib.Omega.{arith}
 use Rattle.path_pass.proofs.labels_at.Statement.{statement}

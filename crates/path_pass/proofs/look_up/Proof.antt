@@ -1,4 +1,4 @@
--- `path_walk::look_up` meets its contract: after rules 6 and 7 nothing is read, and else the mark that is looked up
+-- `path_pass::look_up` meets its contract: after rules 6 and 7 nothing is read, and else the mark that is looked up
 -- is stored. Assumes nothing.
 use mathlib.Core.List.{[]}
 use mathlib.Core.Path.{sym, _∙_}

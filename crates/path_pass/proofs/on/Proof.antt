@@ -1,4 +1,4 @@
--- `path_walk::on` meets its contract. Assumes nothing.
+-- `path_pass::on` meets its contract. Assumes nothing.
 use borrow.Author.Needs.{needs}
 use native.Mathlib.Omega.{arith}
 use Rattle.path_pass.proofs.on.Statement.{statement}

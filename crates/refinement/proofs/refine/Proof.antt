@@ -70,27 +70,27 @@ mul-last c = omega (arith, ranges (ranged (c .before .before)) .1 .1)
 array-copy-out-last : tie.Need-array-copy-out-last
 array-copy-out-last c = omega (arith, ranges (ranged (c .before .before)) .1)
 
-first-no-requires : tie.Need-first-no-requires
-first-no-requires c κs =
+first-level-no-requires : tie.Need-first-level-no-requires
+first-level-no-requires c κs =
     let m = c .before .before .before in
     let w = ranges (ranged m) .1 in
     (first-made (w .0) (m .before .before .made-levels .ensures) (m .if2 .left) _, w .1)
 
 -- the questions behind the grids' asked
 abbrev Asked : Type 0
-Asked = tie.After-first-no
+Asked = tie.After-first-level-no
 
 abbrev made : Asked → Made
 made c = c .before .before .before .before
 
 later : (c : Asked) → (let s = begun (ranged (made c)) in
-    c .first-no .result
+    c .first-level-no .result
     ≡ firstNo (laterLevelQuestions (game s) (s .args .levels) (s .args .labels .now) (length (s .args .answer .now))))
 later c =
     let m = made c in
     let a = begun (ranged m) .args in
     asked-later (ranges (ranged m) .1 .0) (m .before .before .made-levels .ensures) (m .if2 .left) (a .start .now)
-    (a .losses .now) (a .labels .now) (a .answer .now) (c .first-no .result) _ _ (c .first-no .ensures)
+    (a .losses .now) (a .labels .now) (a .answer .now) (c .first-level-no .result) _ _ (c .first-level-no .ensures)
 
 returns-3 : tie.Need-returns-3
 returns-3 c =
@@ -98,7 +98,8 @@ returns-3 c =
     let m = made d in
     let s = begun (ranged m) in
     refused-later (game s) (s .args .levels) (s .args .labels .now) (s .args .answer .now) (asked (ranged m))
-    (sym (m .before .before .made-levels .ensures .code) ∙ m .if2 .left) (c .refused3 .result) (d .first-no .result)
+    (sym (m .before .before .made-levels .ensures .code) ∙ m .if2 .left) (c .refused3 .result)
+    (d .first-level-no .result)
     (c .before .if3 .taken) (later d) (c .refused3 .ensures)
 
 run-levels-requires : tie.Need-run-levels-requires
@@ -139,7 +140,7 @@ refine-spec =
     sub-last
     mul-last
     array-copy-out-last
-    first-no-requires
+    first-level-no-requires
     (λ c κs. search needs)
     returns-3
     run-levels-requires

@@ -1,4 +1,4 @@
--- `level_questions::levels_in_range` meets its contract, test by test. Assumes nothing.
+-- `refinement_questions::levels_in_range` meets its contract, test by test. Assumes nothing.
 use borrow.Author.Tests.{le-leb, lt-leb}
 use Rattle.refinement_questions.proofs.levels_in_range.Statement.{statement}
 use Rattle.refinement_questions.proofs.levels_in_range.Tie as tie

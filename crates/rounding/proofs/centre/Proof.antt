@@ -59,4 +59,5 @@ returns-2 c =
 pub centre-spec : {M : Type 1} → statement M
 centre-spec =
     tie.close
-    (tie.spec (λ c. search needs) mul-divisor div-number mul-rest sub-rest (λ c. search needs) add-if1 add-result returns returns-2)
+    (tie.spec (λ c. search needs) mul-divisor div-number mul-rest sub-rest (λ c. search needs) add-if1 add-result
+    returns returns-2)

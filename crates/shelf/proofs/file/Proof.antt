@@ -9,12 +9,12 @@ use Rattle.shelf.proofs.file.Tie as tie
 returns : tie.Need-returns
 returns c =
     let a = c .before .before .before .before .args in
-    refuses (a .list .now) (a .count) (a .named) (c .before .first-no .result) (omega (arith, c .if1 .taken))
-    (sym (c .before .first-no .ensures))
+    refuses (a .list .now) (a .count) (a .named) (c .before .first-shelf-no .result) (omega (arith, c .if1 .taken))
+    (sym (c .before .first-shelf-no .ensures))
 
 -- behind the questions
 may : (c : tie.Else1) → let a = c .before .before .before .before .args in MayFile (a .list .now) (a .count) (a .named)
-may c = may-file _ _ _ (sym (c .before .first-no .ensures) ∙ c .if1 .left)
+may c = may-file _ _ _ (sym (c .before .first-shelf-no .ensures) ∙ c .if1 .left)
 
 cast-list : tie.Need-cast-list
 cast-list c = omega (arith, may c .below, may c .onShelf)
@@ -31,7 +31,7 @@ add-t9 c = omega (arith, may c .place)
 returns-2 : tie.Need-returns-2
 returns-2 c =
     let a = c .before .before .before .before .args in
-    files (a .list .now) (a .count) (a .named) (sym (c .before .first-no .ensures) ∙ c .if1 .left)
+    files (a .list .now) (a .count) (a .named) (sym (c .before .first-shelf-no .ensures) ∙ c .if1 .left)
 
 pub file-spec : {M : Type 1} → statement M
 file-spec =

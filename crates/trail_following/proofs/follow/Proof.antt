@@ -19,7 +19,7 @@ use Rattle.moves.specs.declared.Status.{Status}
 use Rattle.place.specs.Places.{Simplex}
 use Rattle.trail_records.proofs.Standing.{not-standing, standing}
 use Rattle.rules.specs.Ready.{SixteenEach}
-use Rattle.rules.specs.Step.{After, Round, State}
+use Rattle.rules.specs.Moves.{After, Round, State}
 use Rattle.trail.specs.Change.{change}
 use Rattle.trail.specs.Trail.{rebuiltFrom}
 use Rattle.trail_steps.proofs.Reached.{Arrives}

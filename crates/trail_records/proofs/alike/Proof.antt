@@ -1,4 +1,4 @@
--- `records::alike` meets its contract: masks that differ at no index are the same number. Assumes nothing.
+-- `trail_records::alike` meets its contract: masks that differ at no index are the same number. Assumes nothing.
 use native.Mathlib.Omega.{arith}
 use Rattle.trail_records.proofs.Differences.{alike-none}
 use Rattle.trail_records.proofs.alike.Statement.{statement}

@@ -1,5 +1,5 @@
--- `records::difference` meets its contract. The invariant: the search from here finds what the whole search finds. The
--- measure: the indices left. Assumes nothing.
+-- `trail_records::difference` meets its contract. The invariant: the search from here finds what the whole search
+-- finds. The measure: the indices left. Assumes nothing.
 use mathlib.Core.Bool.{true, false, Bool·beq}
 use mathlib.Core.Path.{_≡_, refl, sym, ap, _∙_}
 use Prim.Native.Nat.{ℕ, suc, _-_, _≤_}

@@ -1,4 +1,4 @@
--- `records::exchanged` meets its contract: where U is kept too the record is that of rule 1, else by computation.
+-- `trail_records::exchanged` meets its contract: where U is kept too the record is that of rule 1, else by computation.
 -- Assumes nothing.
 use mathlib.Core.Bool.{false}
 use mathlib.Core.Path.{_≡_, refl, sym, _∙_}

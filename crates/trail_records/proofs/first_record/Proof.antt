@@ -1,4 +1,4 @@
--- `records::first_record` meets its contract, by computation. Assumes nothing.
+-- `trail_records::first_record` meets its contract, by computation. Assumes nothing.
 use borrow.Author.Needs.{needs}
 use native.Mathlib.Omega.{arith}
 use mathlib.Core.Path.{refl}

@@ -1,4 +1,4 @@
--- `records::kept_record` meets its contract, by computation. Assumes nothing.
+-- `trail_records::kept_record` meets its contract, by computation. Assumes nothing.
 use mathlib.Core.Path.{refl}
 use borrow.Author.Needs.{needs}
 use native.Mathlib.Omega.{arith}

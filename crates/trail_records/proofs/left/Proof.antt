@@ -1,4 +1,4 @@
--- `records::left` meets its contract, by computation. Assumes nothing.
+-- `trail_records::left` meets its contract, by computation. Assumes nothing.
 use mathlib.Core.Path.{refl, sym, _∙_}
 use native.Mathlib.Omega.{arith}
 use Rattle.combinatorics.specs.Front.{front}

@@ -1,4 +1,4 @@
--- `records::length_of` meets its contract: what T and U do tells the length. Assumes nothing.
+-- `trail_records::length_of` meets its contract: what T and U do tells the length. Assumes nothing.
 use mathlib.Core.Path.{sym, _∙_}
 use borrow.Author.Needs.{needs}
 use Rattle.trail_records.proofs.Differences.{record-length}
@@ -42,4 +42,5 @@ returns-4 c come gone =
     )
 
 pub length-of-spec : {M : Type 1} → statement M
-length-of-spec = tie.close (tie.spec (λ c κs. search needs) (λ c κs. search needs) returns returns-2 returns-3 returns-4)
+length-of-spec = tie.close
+    (tie.spec (λ c κs. search needs) (λ c κs. search needs) returns returns-2 returns-3 returns-4)

@@ -1,4 +1,5 @@
--- `records::low_byte` meets its contract: the lowest 8 bits of a number are what is left of it by 256. Assumes nothing.
+-- `trail_records::low_byte` meets its contract: the lowest 8 bits of a number are what is left of it by 256. Assumes
+-- nothing.
 use lib.Bits.{and-mask}
 use native.Mathlib.Omega.{arith}
 use Rattle.trail_records.proofs.low_byte.Statement.{statement}

@@ -1,4 +1,4 @@
--- `records::put` meets its contract: the bytes are stored one by one. Assumes nothing.
+-- `trail_records::put` meets its contract: the bytes are stored one by one. Assumes nothing.
 use mathlib.Core.Path.{_≡_}
 use borrow.Author.Needs.{needs}
 use lib.ListN.{length-set}

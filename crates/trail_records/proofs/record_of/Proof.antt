@@ -1,4 +1,5 @@
--- `records::record_of` meets its contract: what T does tells which of three ways the record is made. Assumes nothing.
+-- `trail_records::record_of` meets its contract: what T does tells which of three ways the record is made. Assumes
+-- nothing.
 use mathlib.Core.Path.{sym, _∙_}
 use native.Mathlib.Omega.{arith}
 use Prim.Native.Nat.{_<_}

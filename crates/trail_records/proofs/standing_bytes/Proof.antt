@@ -1,4 +1,4 @@
--- `records::standing_bytes` meets its contract. Assumes nothing.
+-- `trail_records::standing_bytes` meets its contract. Assumes nothing.
 use mathlib.Core.List.{List}
 use mathlib.Core.Path.{_≡_, sym, ap, _∙_}
 use Prim.Native.Nat.{ℕ}

@@ -1,4 +1,5 @@
--- `records::stands` meets its contract. The invariant: the bytes before k are the same. The measure: the bytes left. Assumes nothing.
+-- `trail_records::stands` meets its contract. The invariant: the bytes before k are the same. The measure: the bytes
+-- left. Assumes nothing.
 use mathlib.Core.Path.{_≡_, refl, sym, ap, _∙_}
 use Prim.Native.Nat.{ℕ, suc, _+_, _-_, _≤_}
 use lib.ListN.{drop, getD, length, length-drop, length-take, take}
@@ -12,7 +13,8 @@ use Rattle.trail_records.proofs.stands.Tie as tie
 
 abbrev Inv-loop : tie.InvT-loop
 Inv-loop trail at bytes n k₀ k =
-    (begins (drop k (take n bytes)) (drop k (drop at trail)) ≡ begins (take n bytes) (drop at trail)) × (k ≤ n) × (n ≤ 8) × (length bytes ≡ 8)
+    (begins (drop k (take n bytes)) (drop k (drop at trail)) ≡ begins (take n bytes) (drop at trail)) × (k ≤ n)
+    × (n ≤ 8) × (length bytes ≡ 8)
     × (at + n ≤ length trail)
 
 abbrev μ-loop : tie.MeasureT-loop
@@ -25,10 +27,23 @@ returns : tie.Need-returns Inv-loop μ-loop
 returns c =
     let a = c .before .before .args in
     sym (begins-short (take (a .made .length) (a .made .bytes)) (drop (a .at) (a .trail .now))
-    (omega (arith, length-drop (a .at) (a .trail .now), length-take-le (a .made .length) (a .made .bytes) (omega (arith, c .before .before .pre .1, c .before .before .pre .2)), c .if1 .taken)))
+    (omega (
+      arith,
+      length-drop (a .at) (a .trail .now),
+      length-take-le (a .made .length) (a .made .bytes)
+          (omega (arith, c .before .before .pre .1, c .before .before .pre .2)),
+      c .if1 .taken,
+    )))
 
 loop-holds : tie.Need-loop-holds Inv-loop μ-loop
-loop-holds c = (refl, omega arith, c .before .before .pre .1, c .before .before .pre .2, omega (arith, c .before .before .pre .0, c .if1 .left))
+loop-holds c = (
+  refl,
+  omega arith,
+  c .before .before .pre .1,
+  c .before .before .pre .2,
+  omega
+      (arith, c .before .before .pre .0, c .if1 .left),
+)
 
 array-read-x : tie.Need-array-read-x Inv-loop μ-loop
 array-read-x c = omega arith
@@ -46,8 +61,10 @@ returns-2 c =
     let n = a .made .length in
     let r = take n (a .made .bytes) in
     let long = length-take-le n (a .made .bytes) (omega (arith, l .inv .2, l .inv .3)) in
-    sym (begins-other r (drop (a .at) (a .trail .now)) (l .k) (omega (arith, long)) (omega (arith, length-drop (a .at) (a .trail .now), l .inv .4))
-    (λ e. c .if2 .taken (sym (getD-drop (a .at) (a .trail .now) (l .k) 0) ∙ e ∙ getD-take n (a .made .bytes) (l .k) 0 (omega arith)))) ∙ l .inv .0
+    sym (begins-other r (drop (a .at) (a .trail .now)) (l .k) (omega (arith, long))
+    (omega (arith, length-drop (a .at) (a .trail .now), l .inv .4))
+    (λ e. c .if2 .taken (sym (getD-drop (a .at) (a .trail .now) (l .k) 0) ∙ e ∙ getD-take n (a .made .bytes) (l .k) 0
+    (omega arith)))) ∙ l .inv .0
 
 add-k : tie.Need-add-k Inv-loop μ-loop
 add-k c = omega arith
@@ -62,8 +79,10 @@ loop-again c =
     let n = a .made .length in
     let r = take n (a .made .bytes) in
     let long = length-take-le n (a .made .bytes) (omega (arith, l .inv .2, l .inv .3)) in
-    let same = begins-same r (drop (a .at) (a .trail .now)) (l .k) (omega (arith, long)) (omega (arith, length-drop (a .at) (a .trail .now), l .inv .4))
-    (getD-drop (a .at) (a .trail .now) (l .k) 0 ∙ c .if2 .left ∙ sym (getD-take n (a .made .bytes) (l .k) 0 (omega arith))) in
+    let same = begins-same r (drop (a .at) (a .trail .now)) (l .k) (omega (arith, long))
+    (omega (arith, length-drop (a .at) (a .trail .now), l .inv .4))
+    (getD-drop (a .at) (a .trail .now) (l .k) 0 ∙ c .if2 .left ∙ sym
+    (getD-take n (a .made .bytes) (l .k) 0 (omega arith))) in
     (rw (add-one (l .k)) (sym same ∙ l .inv .0), omega arith, l .inv .2, l .inv .3, l .inv .4)
 
 returns-3 : tie.Need-returns-3 Inv-loop μ-loop
@@ -72,7 +91,8 @@ returns-3 c =
     let l = c .before .loop in
     let n = a .made .length in
     let long = length-take-le n (a .made .bytes) (omega (arith, l .inv .2, l .inv .3)) in
-    sym (begins-done (take n (a .made .bytes)) (drop (l .k) (drop (a .at) (a .trail .now))) (l .k) (omega (arith, long))) ∙ l .inv .0
+    sym (begins-done (take n (a .made .bytes)) (drop (l .k) (drop (a .at) (a .trail .now))) (l .k)
+    (omega (arith, long))) ∙ l .inv .0
 
 pub stands-spec : {M : Type 1} → statement M
 stands-spec =

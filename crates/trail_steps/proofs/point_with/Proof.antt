@@ -9,7 +9,7 @@ use native.Mathlib.Numerals.{add-one}
 use native.Mathlib.Omega.{arith}
 use Rattle.combinatorics.proofs.EditsOfArrays.{first-few, found-here, found-later, found-past}
 use Rattle.combinatorics.specs.Edits.{found, foundFrom}
-use Rattle.rules.specs.Step.{markPosition}
+use Rattle.rules.specs.Moves.{markPosition}
 use Rattle.trail_steps.proofs.point_with.Statement.{statement}
 use Rattle.trail_steps.proofs.point_with.Tie as tie
 

@@ -43,4 +43,5 @@ returns-2 c =
     )
 
 pub tell-spec : {M : Type 1} → statement M
-tell-spec = tie.close (tie.spec returns put-here-requires way-here-requires gone-by-requires (λ c. search needs) returns-2)
+tell-spec = tie.close
+    (tie.spec returns put-here-requires way-here-requires gone-by-requires (λ c. search needs) returns-2)

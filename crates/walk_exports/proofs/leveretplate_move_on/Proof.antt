@@ -1,15 +1,15 @@
 -- `leveretplate_move_on` meets its contract: it is lent a struct with one slice besides.
--- All that the proof knows of `moved_step` is that it meets its contract. Assumes nothing.
+-- All that the proof knows of `after_moving` is that it meets its contract. Assumes nothing.
 use mathlib.Core.Path.{refl}
 use contract.Running.{givenOf, tables, tablesOf}
 use denote.Triple.Spec.{tripleOf}
 use denote.Triple.Table.{entered, cited}
 use Rattle.walk_exports.proofs.OneSlice.{Stepped, lends}
-use Rattle.walk_numbers.specs.Steps.{movedStep}
-use Rattle.walk_numbers.proofs.Step as T
-use Rattle.walk_numbers.proofs.Step.Laws as T′
-use Rattle.walk_numbers.proofs.moved_step.Symbol as step
-use Rattle.walk_numbers.proofs.moved_step.Met as step-thm
+use Rattle.walk_numbers.specs.Answered.{afterMoving}
+use Rattle.walk_numbers.proofs.Answered as T
+use Rattle.walk_numbers.proofs.Answered.Laws as T′
+use Rattle.walk_numbers.proofs.after_moving.Symbol as step
+use Rattle.walk_numbers.proofs.after_moving.Met as step-thm
 use Rattle.walk_exports.proofs.leveretplate_move_on.Key as key
 use Rattle.walk_exports.proofs.leveretplate_move_on as own
 use Rattle.walk_exports.proofs.leveretplate_move_on.Statement as stated
@@ -20,7 +20,7 @@ unfolding code.routine tablesOf
 leveretplate-move-on-spec 𝓤 H 𝓜 𝓖 𝓡 =
     entered 𝓤 H (tripleOf 𝓤 H (𝓖 .A) own.signature (own.spec 𝓤 H (𝓖 .A) (𝓜 .mem) (𝓡 .run)))
     (tables 𝓤 H 𝓜 𝓡 code.env .C) (tables 𝓤 H 𝓜 𝓡 code.env .Λ) key.name code.function (code.unfolded 𝓤 H 𝓜 𝓡)
-    (lends 𝓤 H (𝓖 .A) (givenOf 𝓤 H 𝓜 𝓖) T.the-type T′.the-laws movedStep
+    (lends 𝓤 H (𝓖 .A) (givenOf 𝓤 H 𝓜 𝓖) T.the-type T′.the-laws afterMoving
     (own.clauses 𝓤 H (𝓖 .A) (𝓜 .mem) (𝓡 .run)) refl (tablesOf 𝓤 H 𝓜 (tables 𝓤 H 𝓜 𝓡 code.env)) step.name
-    (cited 𝓤 H (Stepped 𝓤 H (𝓖 .A) T.the-type movedStep) 𝓜 𝓡 code.env step.name step.routine
-    code.calls-walk-steps·moved-step (step-thm.met 𝓤 H 𝓜 𝓖 𝓡)))
+    (cited 𝓤 H (Stepped 𝓤 H (𝓖 .A) T.the-type afterMoving) 𝓜 𝓡 code.env step.name step.routine
+    code.calls-walk-numbers·after-moving (step-thm.met 𝓤 H 𝓜 𝓖 𝓡)))

@@ -13,7 +13,7 @@ use Rattle.moves.proofs.Cases.{other-leaving}
 use Rattle.moves.specs.Held.{stateOf}
 use Rattle.rules.proofs.FirstMet.{entry}
 use Rattle.rules.specs.Ready.{labelIn}
-use Rattle.rules.specs.Step.{State, markLabel}
+use Rattle.rules.specs.Moves.{State, markLabel}
 use Rattle.ways.proofs.Here.{here-joins, here-leaves}
 use Rattle.ways.proofs.way_here.Statement.{statement}
 use Rattle.ways.proofs.way_here.Tie as tie

@@ -11,7 +11,7 @@ use native.Mathlib.Numerals.{add-one}
 use native.Mathlib.Omega.{arith}
 use Rattle.combinatorics.proofs.EditsOfArrays.{first-few, found-here, found-later, found-past}
 use Rattle.combinatorics.specs.Edits.{foundFrom, found}
-use Rattle.rules.specs.Step.{markLabel}
+use Rattle.rules.specs.Moves.{markLabel}
 use Rattle.rules.proofs.Marks.{labels-in}
 use Rattle.arrays.proofs.lists.find.Statement.{statement}
 use Rattle.arrays.proofs.lists.find.Tie as tie

@@ -3,7 +3,7 @@ use mathlib.Core.Path.{refl, ap, _∙_}
 use Prim.Native.Nat.{suc}
 use borrow.Author.Needs.{needs}
 use native.Mathlib.Omega.{arith}
-use Rattle.rules.specs.Step.{markPosition}
+use Rattle.rules.specs.Moves.{markPosition}
 use Rattle.rules.proofs.FirstMet.{entry}
 use Rattle.arrays.proofs.lists.position_at.Statement.{statement}
 use Rattle.arrays.proofs.lists.position_at.Tie as tie

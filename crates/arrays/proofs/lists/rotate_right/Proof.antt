@@ -20,4 +20,5 @@ returns c =
     (rw (add-one, n) at made, c .insert .ensures .1)
 
 pub rotate-right-spec : {M : Type 1} → statement M
-rotate-right-spec = tie.close (tie.spec (λ c. search needs) (λ c. search needs) (λ c. search needs) (λ c. search needs) (λ c κs. search needs) returns)
+rotate-right-spec = tie.close (tie.spec (λ c. search needs) (λ c. search needs) (λ c. search needs)
+    (λ c. search needs) (λ c κs. search needs) returns)

@@ -5,7 +5,8 @@ use mathlib.Core.Path.{_≡_, refl, _∙_}
 use Prim.Native.Nat.{ℕ, zero, suc, _-_, _≤_}
 use native.Mathlib.Omega.{arith}
 use borrow.Author.Needs.{needs}
-use Rattle.check_chains.proofs.Following.{Following, begin, further-one, further-zero, next-number, number-at-end}
+use Rattle.check_chains.proofs.Following.{Following, begin, further-one, further-zero, next-number}
+use Rattle.check_chains.proofs.Following.{number-at-end}
 use Rattle.check_chains.proofs.Following.{all-followed}
 use Rattle.check_chains.proofs.sets.follow_from.Statement.{statement}
 use Rattle.check_chains.proofs.sets.follow_from.Tie as tie

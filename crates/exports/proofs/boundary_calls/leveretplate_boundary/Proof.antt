@@ -11,4 +11,5 @@ returns c =
     rw (sym (found .0)) (c .put-count .ensures .0, (c .put-count .ensures .1, found .1))
 
 pub leveretplate-boundary-spec : {M : Type 1} → statement M
-leveretplate-boundary-spec = tie.close (tie.spec (λ c κs. search needs) (λ c κs. search needs) (λ c. search needs) returns)
+leveretplate-boundary-spec = tie.close
+    (tie.spec (λ c κs. search needs) (λ c κs. search needs) (λ c. search needs) returns)

@@ -1,11 +1,11 @@
--- `finder::answers::announced` meets its contract: the walk from the start, and its finish announced. Assumes nothing.
+-- `finder::answers::announced` meets its contract: the pass from the start, and its finish announced. Assumes nothing.
 use mathlib.Core.List.{List}
 use mathlib.Core.Path.{refl, ap, _∙_}
 use Prim.Native.Nat.{ℕ}
 use Rattle.arrays.specs.Rounds.{roundOf}
 use Rattle.combinatorics.specs.Front.{front}
 use Rattle.path_pass.proofs.Visits.{is-round, round-below}
-use Rattle.finder.proofs.Announcements.{can-announce, can-pad, can-walk, finish-told, finish-written}
+use Rattle.finder.proofs.Announcements.{can-announce, can-pad, can-pass, finish-told, finish-written}
 use Rattle.finder.proofs.Announcements.{finished-from, FinishedBy}
 use borrow.Author.Needs.{needs}
 use Rattle.finder.proofs.answers.announced.Statement.{statement}
@@ -16,40 +16,40 @@ padded-requires c κs =
     let w = c .before .before .before .before .before .before .pre in
     can-pad (w .readable) (w .accepted)
 
-walk-requires : tie.Need-walk-requires
-walk-requires c κs =
+pass-requires : tie.Need-pass-requires
+pass-requires c κs =
     let s = c .before .before .before .before .before .before .before .before .before .before .before .before in
     let w = s .pre in
     let sizes = c .before .before .before .before .before .before .block-sizes in
     let t = c .before .before .before .before .before .padded in
-    can-walk (w .readable) (w .accepted) _ (is-round (s .args .g) (w .readable .made) (sizes .result) (sizes .ensures))
+    can-pass (w .readable) (w .accepted) _ (is-round (s .args .g) (w .readable .made) (sizes .result) (sizes .ensures))
     (round-below (s .args .g) (w .readable .made) (sizes .result)) (t .result) (t .ensures) _ refl
 
--- the walk, and where the call began
-abbrev Walked : Type 0
-Walked = tie.After-walk
+-- the pass, and where the call began
+abbrev Passed : Type 0
+Passed = tie.After-pass
 
-abbrev begun : Walked → tie.Start
+abbrev begun : Passed → tie.Start
 begun c = c .before .before .before .before .before .before .before .before .before .before .before .before .before
 
-abbrev sizes : Walked → List ℕ
+abbrev sizes : Passed → List ℕ
 sizes c = c .before .before .before .before .before .before .before .block-sizes .result
 
-abbrev first : Walked → List ℕ
-first c = c .walk .last .1 .1 .1 .1 .1 .1 .0
+abbrev first : Passed → List ℕ
+first c = c .pass .last .1 .1 .1 .1 .1 .1 .0
 
-abbrev order : Walked → List ℕ
-order c = c .walk .last .1 .1 .1 .1 .1 .1 .1 .0
+abbrev order : Passed → List ℕ
+order c = c .pass .last .1 .1 .1 .1 .1 .1 .1 .0
 
-finished : (c : Walked) → (let a = begun c .args in
+finished : (c : Passed) → (let a = begun c .args in
     FinishedBy (a .g) (begun c .pre .readable .made) (a .start .now) (a .labels .now) (a .budget)
-    (a .g .previous) (a .g .next) (sizes c) (first c) (order c) (c .walk .result))
+    (a .g .previous) (a .g .next) (sizes c) (first c) (order c) (c .pass .result))
 finished c =
     let a = begun c .args in
     let w = begun c .pre in
     let t = c .before .before .before .before .before .before .padded in
     finished-from (w .readable) (w .accepted) (t .result) (t .ensures) (a .budget)
-    (roundOf (a .g .previous) (a .g .next) (sizes c)) (first c) (order c) (c .walk .result) (c .walk .ensures)
+    (roundOf (a .g .previous) (a .g .next) (sizes c)) (first c) (order c) (c .pass .result) (c .pass .ensures)
 
 announce-requires : tie.Need-announce-requires
 announce-requires c κs =
@@ -57,7 +57,7 @@ announce-requires c κs =
     let a = begun w .args in
     let made = begun w .pre .readable .made in
     can-announce (a .g) made (a .start .now) (a .labels .now) (a .budget) (a .g .previous) (a .g .next) (sizes w)
-    (first w) (order w) _ (round-below (a .g) made (sizes w) .backward) (begun w .pre .room) (w .walk .result)
+    (first w) (order w) _ (round-below (a .g) made (sizes w) .backward) (begun w .pre .room) (w .pass .result)
     (finished w)
 
 returns : tie.Need-returns
@@ -68,12 +68,12 @@ returns c =
     let said = c .before .before .announce .ensures in (
       said .0
           ∙ finish-told (a .g) made (a .start .now) (a .labels .now) (a .budget) (a .g .previous) (a .g .next) (sizes w)
-          (first w) (order w) (w .walk .result) (finished w),
+          (first w) (order w) (w .pass .result) (finished w),
       said .1
           ∙ ap
           (λ (x : List ℕ). front x (a .answer .now))
           (finish-written (a .g) made (a .start .now) (a .labels .now) (a .budget) (a .g .previous) (a .g .next)
-          (sizes w) (first w) (order w) (w .walk .result) (finished w)),
+          (sizes w) (first w) (order w) (w .pass .result) (finished w)),
     )
 
 pub announced-spec : {M : Type 1} → statement M
@@ -82,7 +82,7 @@ announced-spec =
     (tie.spec
     (λ c κs. search needs)
     padded-requires
-    walk-requires
+    pass-requires
     announce-requires
     (λ c. search needs)
     returns)

@@ -14,8 +14,8 @@ returns c =
     let a = e .args in
     let old = a .answer .now in
     let p = problemFrom (a .g) (a .start .now) (a .labels .now) in
-    refused p (a .budget) old (c .before .first-no .result) (c .if1 .taken)
-    (by-later p (length old) (e .pre .accepted) ∙ sym (c .before .first-no .ensures))
+    refused p (a .budget) old (c .before .first-run-no .result) (c .if1 .taken)
+    (by-later p (length old) (e .pre .accepted) ∙ sym (c .before .first-run-no .ensures))
 
 announced-requires : tie.Need-announced-requires
 announced-requires c κs =
@@ -23,7 +23,7 @@ announced-requires c κs =
     let a = e .args in
     let p = problemFrom (a .g) (a .start .now) (a .labels .now) in
     let w = accepted-with-room p (length (a .answer .now)) (e .pre .accepted)
-    (sym (c .before .before .before .before .before .first-no .ensures)
+    (sym (c .before .before .before .before .before .first-run-no .ensures)
     ∙ c .before .before .before .before .if1 .left) in
     record {
       readable = record { made = e .pre; filled = c .before .before .binomials2 .ensures; whole = w .0 .tableLength };
@@ -40,7 +40,7 @@ returns-2 c =
     let q = c .before .before .announced .ensures in
     let w = answered p (a .budget) old
     (by-later p (length old) (e .pre .accepted)
-    ∙ sym (c .before .before .before .before .before .before .before .before .first-no .ensures)
+    ∙ sym (c .before .before .before .before .before .before .before .before .first-run-no .ensures)
     ∙ c .before .before .before .before .before .before .before .if1 .left) in
     (q .0 ∙ w .0, q .1 ∙ w .1)
 

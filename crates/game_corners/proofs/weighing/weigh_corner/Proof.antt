@@ -13,7 +13,8 @@ use Rattle.game_weighed.specs.Levels.{StandTo}
 use Rattle.game_losses.specs.AtPoint.{StrategiesStand}
 use Rattle.game_losses.specs.Game.{playerLoss, replacedLoss}
 use Rattle.points_in_order.specs.Lent.{PointWithFirsts}
-use Rattle.game_corners.proofs.CornerLosses.{last-ends, held, held-length, held-corner, written-at, cornered-turn}
+use Rattle.game_corners.proofs.CornerLosses.{last-ends, held, held-length, held-corner, written-at}
+use Rattle.game_corners.proofs.CornerLosses.{cornered-turn}
 use Rattle.game_corners.proofs.Picked.{picked-stand}
 use Rattle.game_corners.specs.Corners.{lastPlayer, corner, CornersToWeigh}
 use Rattle.game_corners.proofs.weighing.weigh_corner.Statement.{statement}

@@ -14,4 +14,5 @@ returns-2 c = let a = c .before .args in rw (ne-eqb (suc (a .h)) (a .first + a .
 
 pub index-after-spec : {M : Type 1} → statement M
 index-after-spec =
-    tie.close (tie.spec (λ c. search needs) (λ c. search needs) (λ c. search needs) (λ c. search needs) (λ c. search needs) returns returns-2)
+    tie.close (tie.spec (λ c. search needs) (λ c. search needs) (λ c. search needs) (λ c. search needs)
+    (λ c. search needs) returns returns-2)

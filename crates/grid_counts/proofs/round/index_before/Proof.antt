@@ -15,4 +15,5 @@ returns-2 c = let a = c .before .args in rw (ne-eqb (a .h) (a .first) (c .if1 .l
 pub index-before-spec : {M : Type 1} → statement M
 index-before-spec =
     tie.close
-    (tie.spec (λ c. search needs) (λ c. search needs) (λ c. search needs) (λ c. search needs) (λ c. search needs) returns returns-2)
+    (tie.spec (λ c. search needs) (λ c. search needs) (λ c. search needs) (λ c. search needs) (λ c. search needs)
+    returns returns-2)

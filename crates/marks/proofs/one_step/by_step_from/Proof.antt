@@ -10,7 +10,7 @@ use Rattle.grid.specs.Made.{shape}
 use Rattle.grid_points.specs.Grid.{position}
 use Rattle.moves.specs.Held.{stateOf}
 use Rattle.rules.specs.Read.{FallsBeside, pointOn, positionAt, sourceAt, stepAt}
-use Rattle.rules.specs.Step.{State}
+use Rattle.rules.specs.Moves.{State}
 use Rattle.marks.proofs.OneStep.{before-far, far-low, lag-is, lagBy, weigh-far}
 use Rattle.marks.proofs.Readings.{at-right, nothing-right}
 use borrow.Author.Needs.{needs}
@@ -70,7 +70,12 @@ far-is c first B =
     let at = c .before .before .before .before in
     let s = begun at in
     let is = before-far (s .pre .0 .0 .made) (s .pre .0 .1) B (far-more s) (far-before at first) (c .fall-at .result)
-    (rw (← at .before .before .index-at .ensures .is, ← at .before .first-outside .ensures .0, ← far-lag (c .before) first)
+    (rw (
+      ← at .before .before .index-at .ensures .is,
+      ← at .before .first-outside .ensures .0,
+      ← far-lag (c .before)
+          first,
+    )
     (c .fall-at .ensures)) in
     omega (arith, far-mark (c .before .before .before) first)
 

@@ -9,7 +9,7 @@ use Rattle.grid.specs.Made.{shape}
 use Rattle.grid_points.specs.Grid.{position}
 use Rattle.moves.specs.Held.{stateOf}
 use Rattle.rules.specs.Read.{FallsBeside, pointOn, sourceAt, stepAt}
-use Rattle.rules.specs.Step.{State}
+use Rattle.rules.specs.Moves.{State}
 use Rattle.marks.proofs.OneStep.{after-near, lag-is, lagBy, weigh-near}
 use Rattle.marks.proofs.Readings.{at-right, nothing-right}
 use borrow.Author.Needs.{needs}
@@ -60,7 +60,12 @@ near-is c first B =
     let s = begun at in
     c .before .before .before .position-at .ensures .0
     ∙ after-near (s .pre .0 .0 .made) (s .pre .0 .1) B (s .pre .0 .2) (near-before at first) (c .fall-at .result)
-    (rw (← at .before .before .index-at .ensures .is, ← at .before .first-outside .ensures .0, ← near-lag (c .before) first)
+    (rw (
+      ← at .before .before .index-at .ensures .is,
+      ← at .before .first-outside .ensures .0,
+      ← near-lag (c .before)
+          first,
+    )
     (c .fall-at .ensures))
 
 sub-t19 : tie.Need-sub-t19

@@ -7,7 +7,7 @@ use Rattle.combinatorics.proofs.EditsOfArrays.{counted}
 use Rattle.moves.specs.Held.{stateOf}
 use Rattle.moves.proofs.Cases.{besideAfter, onRoundAfter, middle-beside, last-beside, is-first}
 use Rattle.moves.proofs.Cases.{is-middle, is-last}
-use Rattle.rules.specs.Step.{State, goes}
+use Rattle.rules.specs.Moves.{State, goes}
 use Rattle.moves.proofs.leaving.leave.Statement.{statement}
 use Rattle.moves.proofs.leaving.leave.Tie as tie
 

@@ -7,7 +7,7 @@ use native.Mathlib.Omega.{arith}
 use Rattle.arrays.specs.Going.{CanGo, CanGoForward}
 use Rattle.arrays.specs.Rounds.{Lent, roundOf}
 use Rattle.moves.specs.Held.{stateOf}
-use Rattle.rules.specs.Step.{State, goes}
+use Rattle.rules.specs.Moves.{State, goes}
 use Rattle.moves.proofs.Cases.{same-state, first-ready, facet-end, U-gains, first-leaves}
 use borrow.Author.Needs.{needs}
 use Rattle.moves.proofs.leaving.leave_first_at.Statement.{statement}

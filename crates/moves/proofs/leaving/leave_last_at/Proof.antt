@@ -9,7 +9,7 @@ use native.Mathlib.Omega.{arith}
 use Rattle.arrays.specs.Rounds.{roundOf, noRound}
 use Rattle.moves.specs.Held.{stateOf}
 use Rattle.rules.specs.Mask.{bit}
-use Rattle.rules.specs.Step.{After, Round, State, goes, leaveLast, shrink}
+use Rattle.rules.specs.Moves.{After, Round, State, goes, leaveLast, shrink}
 use Rattle.moves.proofs.Cases.{T-loses, backward, besideAfter, last-leaves, last-ready, last-to-U}
 use Rattle.moves.proofs.Cases.{same-state, shrink-beside}
 use borrow.Author.Needs.{needs}

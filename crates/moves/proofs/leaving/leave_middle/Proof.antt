@@ -11,14 +11,15 @@ use Rattle.combinatorics.proofs.EditsOfArrays.{take-swap}
 use Rattle.combinatorics.specs.Edits.{swapAt}
 use Rattle.grid_points.specs.Grid.{at}
 use Rattle.moves.specs.Held.{stateOf}
-use Rattle.rules.specs.Step.{State, goes}
+use Rattle.rules.specs.Moves.{State, goes}
 use Rattle.moves.proofs.Cases.{same-state, besideAfter, shrink-beside, middle-to-U, steps-exchanged}
 use borrow.Author.Needs.{needs}
 use Rattle.moves.proofs.leaving.leave_middle.Statement.{statement}
 use Rattle.moves.proofs.leaving.leave_middle.Tie as tie
 
 first-outside-requires : tie.Need-first-outside-requires
-first-outside-requires c κs = (c .before .before .index-at .ensures .index, c .before .before .before .before .pre .0 .0)
+first-outside-requires c κs =
+    (c .before .before .index-at .ensures .index, c .before .before .before .before .pre .0 .0)
 
 shrink-requires : tie.Need-shrink-requires
 shrink-requires c κs =

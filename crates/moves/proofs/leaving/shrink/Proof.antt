@@ -4,7 +4,7 @@ use mathlib.Core.List.{[]}
 use mathlib.Core.Path.{refl, sym, ap, _∙_}
 use Rattle.arrays.specs.Rounds.{noRound}
 use Rattle.moves.specs.Held.{stateOf}
-use Rattle.rules.specs.Step.{State, goes, shrink}
+use Rattle.rules.specs.Moves.{State, goes, shrink}
 use Rattle.moves.proofs.Cases.{shrinks}
 use borrow.Author.Needs.{needs}
 use Rattle.moves.proofs.leaving.shrink.Statement.{statement}

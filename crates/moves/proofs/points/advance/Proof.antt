@@ -5,7 +5,7 @@ use Prim.Native.Nat.{_-_, _≤_}
 use borrow.Author.Needs.{needs}
 use native.Mathlib.Omega.{arith}
 use Rattle.rules.specs.Read.{pointAfter}
-use Rattle.rules.specs.Step.{firstOutside}
+use Rattle.rules.specs.Moves.{firstOutside}
 use Rattle.rules.proofs.FirstMet.{entry-below}
 use Rattle.rules.proofs.PointsAfter.{after-none, after-one-more, after-taken, step-ready}
 use Rattle.moves.proofs.points.advance.Statement.{statement}

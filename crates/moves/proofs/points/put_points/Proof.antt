@@ -10,7 +10,7 @@ use Rattle.combinatorics.proofs.Fronts.{front-none}
 use Rattle.combinatorics.specs.Front.{front}
 use Rattle.combinatorics.proofs.Lists.{row-room}
 use Rattle.rules.specs.Read.{pointAfter, ReadyPoint}
-use Rattle.rules.specs.Step.{firstOutside}
+use Rattle.rules.specs.Moves.{firstOutside}
 use Rattle.rules.proofs.PointsAfter.{after-taken, few-ready, length-after, earlier-ready, inRow, same-rows}
 use Rattle.rules.proofs.PointsAfter.{next-position, row-put}
 use Rattle.moves.proofs.points.put_points.Statement.{statement}

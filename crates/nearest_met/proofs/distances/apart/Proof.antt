@@ -1,4 +1,4 @@
--- `distances::apart` meets its contract: neither difference goes below 0. Assumes nothing.
+-- `nearest_met::distances::apart` meets its contract: neither difference goes below 0. Assumes nothing.
 use borrow.Author.Needs.{needs}
 use Rattle.nearest_met.proofs.distances.apart.Statement.{statement}
 use Rattle.nearest_met.proofs.distances.apart.Tie as tie

@@ -1,5 +1,5 @@
--- `distances::distance_of` meets its contract. The invariant: the sum over the indices passed, whichever grid the
--- weights are of, and that each term is small. Assumes nothing.
+-- `nearest_met::distances::distance_of` meets its contract. The invariant: the sum over the indices passed, whichever
+-- grid the weights are of, and that each term is small. Assumes nothing.
 use mathlib.Core.List.{map}
 use mathlib.Core.Path.{_≡_, refl, _∙_}
 use Prim.Native.Nat.{_-_, _*_, _≤_}

@@ -1,4 +1,5 @@
--- `distances::others` meets its contract. The invariant: the product of the other divisions so far. Assumes nothing.
+-- `nearest_met::distances::others` meets its contract. The invariant: the product of the other divisions so far.
+-- Assumes nothing.
 use mathlib.Core.Logic.{⊎-elim}
 use mathlib.Core.Path.{_≡_, refl, sym, ap, _∙_}
 use Prim.Native.Nat.{ℕ, _+_, _-_, _*_, _≤_, _<_}

@@ -1,4 +1,5 @@
--- `distances::weights` meets its contract. The invariant: the weights of the indices passed. Assumes nothing.
+-- `nearest_met::distances::weights` meets its contract. The invariant: the weights of the indices passed. Assumes
+-- nothing.
 use mathlib.Core.Path.{_≡_, refl, ap, _∙_}
 use Prim.Native.Nat.{ℕ, _-_, _≤_, _<_}
 use lib.ListN.{length, length-set}

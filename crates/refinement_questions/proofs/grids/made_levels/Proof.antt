@@ -1,5 +1,5 @@
--- `level_questions::grids::made_levels` meets its contract. The invariant: the grids of the levels so far are made.
--- Assumes nothing.
+-- `refinement_questions::grids::made_levels` meets its contract. The invariant: the grids of the levels so far are
+-- made. Assumes nothing.
 use mathlib.Core.Path.{refl}
 use Prim.Native.Nat.{_≤_, _-_}
 use borrow.Author.Needs.{needs}

@@ -1,5 +1,5 @@
--- `level_questions::grids::next_divisions` meets its contract. The invariant: the divisions so far, times k, stand at
--- the front. Assumes nothing.
+-- `refinement_questions::grids::next_divisions` meets its contract. The invariant: the divisions so far, times k, stand
+-- at the front. Assumes nothing.
 use mathlib.Core.Path.{_≡_, sym}
 use Prim.Native.Nat.{_≤_, _-_}
 use borrow.Author.Needs.{needs}

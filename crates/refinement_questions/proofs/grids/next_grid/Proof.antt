@@ -1,4 +1,4 @@
--- `level_questions::grids::next_grid` meets its contract. Assumes nothing.
+-- `refinement_questions::grids::next_grid` meets its contract. Assumes nothing.
 use mathlib.Core.Path.{sym, ap, _∙_}
 use borrow.Author.Needs.{needs}
 use borrow.Author.Tests.{not-false, not-true}

@@ -1,4 +1,4 @@
--- `level_questions::later::room_of` meets its contract: n is m less the number of blocks. Assumes nothing.
+-- `refinement_questions::later::room_of` meets its contract: n is m less the number of blocks. Assumes nothing.
 use native.Mathlib.Omega.{arith}
 use Rattle.finder.proofs.Refusals.{fewer-blocks, room-is, room-small}
 use Rattle.refinement_questions.proofs.later.room_of.Statement.{statement}

@@ -1,4 +1,4 @@
--- `answers::announced` meets its contract: the walk that counts, question 17, the walk that writes, and the finish
+-- `answers::announced` meets its contract: the pass that counts, question 17, the pass that writes, and the finish
 -- announced. Assumes nothing.
 use mathlib.Core.Bool.{false}
 use mathlib.Core.List.{List}
@@ -11,14 +11,14 @@ use Rattle.arrays.specs.Rounds.{roundOf}
 use Rattle.combinatorics.proofs.Basics.{absurd-bool}
 use Rattle.combinatorics.proofs.Fronts.{front-none}
 use Rattle.combinatorics.specs.Front.{front}
-use Rattle.finder.proofs.Announcements.{can-announce, can-pad, can-walk, finish-told, finish-written, finished-from}
+use Rattle.finder.proofs.Announcements.{can-announce, can-pad, can-pass, finish-told, finish-written, finished-from}
 use Rattle.finder.proofs.Announcements.{FinishedBy, problem-from}
-use Rattle.finder.specs.declared.answers.Answer.{Answer as RunAnswer}
+use Rattle.finder.specs.declared.answers.RunAnswer.{RunAnswer}
 use Rattle.marks.specs.Reading.{problemFrom}
 use Rattle.path_pass.proofs.Visits.{is-round, round-below}
 use Rattle.place.specs.Problem.{Problem}
-use Rattle.rules.specs.Step.{Round}
-use Rattle.trail_pass.specs.Walked.{Recorded}
+use Rattle.rules.specs.Moves.{Round}
+use Rattle.trail_pass.specs.Recording.{Recorded}
 use Rattle.trail_writer.specs.Again.{hasRoom, storedAt, withBytes}
 use Rattle.trail_writer.proofs.Endings.{announced-end, counts, refused-17, stores-nothing}
 use Rattle.trail_writer.proofs.answers.announced.Statement.{statement}
@@ -29,72 +29,72 @@ padded-requires c κs =
     let w = c .before .before .before .before .before .before .before .pre in
     can-pad (w .readable) (w .accepted)
 
-follow-requires : tie.Need-follow-requires
-follow-requires c κs =
+pass-recording-requires : tie.Need-pass-recording-requires
+pass-recording-requires c κs =
     let s = c .before .before .before .before .before .before .before
     .before .before .before .before .before .before .before in
     let w = s .pre in
     let t = c .before .before .before .before .before .before .padded in
     let sizes = c .before .before .before .before .before .before .before .block-sizes in (
-      can-walk (w .readable) (w .accepted) _
+      can-pass (w .readable) (w .accepted) _
           (is-round (s .args .g) (w .readable .made) (sizes .result) (sizes .ensures))
           (round-below (s .args .g) (w .readable .made) (sizes .result)) (t .result) (t .ensures) _ refl,
       λ e. absurd-bool (sym e),
     )
 
--- the first walk, and where the call began
-abbrev Walked : Type 0
-Walked = tie.After-follow
+-- the first pass, and where the call began
+abbrev Passed : Type 0
+Passed = tie.After-pass-recording
 
-abbrev begun : Walked → tie.Start
+abbrev begun : Passed → tie.Start
 begun c =
     c .before .before .before .before .before .before .before .before
     .before .before .before .before .before .before .before
 
-abbrev sizes : Walked → List ℕ
+abbrev sizes : Passed → List ℕ
 sizes c = c .before .before .before .before .before .before .before .before .block-sizes .result
 
-abbrev first : Walked → List ℕ
-first c = c .follow .last .1 .1 .1 .1 .1 .1 .0
+abbrev first : Passed → List ℕ
+first c = c .pass-recording .last .1 .1 .1 .1 .1 .1 .0
 
-abbrev order : Walked → List ℕ
-order c = c .follow .last .1 .1 .1 .1 .1 .1 .1 .0
+abbrev order : Passed → List ℕ
+order c = c .pass-recording .last .1 .1 .1 .1 .1 .1 .1 .0
 
-abbrev trail : Walked → List ℕ
-trail c = c .follow .last .1 .1 .1 .1 .1 .1 .1 .1 .0
+abbrev trail : Passed → List ℕ
+trail c = c .pass-recording .last .1 .1 .1 .1 .1 .1 .1 .1 .0
 
-abbrev round : Walked → Round
+abbrev round : Passed → Round
 round c =
     let g = begun c .args .g in
     roundOf (g .previous) (g .next) (sizes c)
 
-abbrev problem : Walked → Problem
+abbrev problem : Passed → Problem
 problem c =
     let a = begun c .args in
     problemFrom (a .g) (a .start .now) (a .labels .now)
 
-finished : (c : Walked) → (let a = begun c .args in
+finished : (c : Passed) → (let a = begun c .args in
     FinishedBy (a .g) (begun c .pre .readable .made) (a .start .now) (a .labels .now) (a .budget)
-    (a .g .previous) (a .g .next) (sizes c) (first c) (order c) (c .follow .result .finish))
+    (a .g .previous) (a .g .next) (sizes c) (first c) (order c) (c .pass-recording .result .finish))
 finished c =
     let w = begun c .pre in
     let t = c .before .before .before .before .before .before .before .padded in
     finished-from (w .readable) (w .accepted) (t .result) (t .ensures) (begun c .args .budget) (round c) (first c)
-    (order c) (c .follow .result .finish) (c .follow .ensures .0)
+    (order c) (c .pass-recording .result .finish) (c .pass-recording .ensures .0)
 
-recorded : (c : Walked)
-    → Recorded (problem c) false (begun c .args .trail .now) (trail c) (c .follow .result .bytes)
-    (c .follow .result .finish)
+recorded : (c : Passed)
+    → Recorded (problem c) false (begun c .args .trail .now) (trail c) (c .pass-recording .result .bytes)
+    (c .pass-recording .result .finish)
 recorded c =
     let w = begun c .pre in
     let t = c .before .before .before .before .before .before .before .padded in
     subst
-    (λ (p : Problem). Recorded p false (begun c .args .trail .now) (trail c) (c .follow .result .bytes)
-    (c .follow .result .finish))
-    (problem-from (w .readable) (w .accepted) (t .result) (t .ensures)) (c .follow .ensures .1)
+    (λ (p : Problem). Recorded p false (begun c .args .trail .now) (trail c) (c .pass-recording .result .bytes)
+    (c .pass-recording .result .finish))
+    (problem-from (w .readable) (w .accepted) (t .result) (t .ensures)) (c .pass-recording .ensures .1)
 
-same-trail : (c : Walked) → trail c ≡ begun c .args .trail .now
-same-trail c = stores-nothing (problem c) _ _ _ (c .follow .result .finish) (recorded c)
+same-trail : (c : Passed) → trail c ≡ begun c .args .trail .now
+same-trail c = stores-nothing (problem c) _ _ _ (c .pass-recording .result .finish) (recorded c)
 
 stored-requires : tie.Need-stored-requires
 stored-requires c κs =
@@ -108,39 +108,39 @@ stored-requires c κs =
       below = round-below g (run .readable .made) (sizes w);
       accepted = run .accepted;
       end = counts (problem w) (begun w .args .budget) (round w) (first w) (order w) 0 (begun w .args .trail .now)
-          (trail w) (w .follow .result .bytes) (w .follow .result .finish) (finished w) (recorded w);
+          (trail w) (w .pass-recording .result .bytes) (w .pass-recording .result .finish) (finished w) (recorded w);
     }
 
--- question 17, and the second walk
+-- question 17, and the second pass
 abbrev Stored : Type 0
 Stored = tie.After-stored
 
-abbrev walked : Stored → Walked
-walked c = c .before .before .before .before .before .before .before
+abbrev passed : Stored → Passed
+passed c = c .before .before .before .before .before .before .before
 
-asked : (c : Stored) → (let w = walked c in
-    c .stored .result ≡ hasRoom (problem w) (length (begun w .args .trail .now)) (w .follow .result .finish))
+asked : (c : Stored) → (let w = passed c in
+    c .stored .result ≡ hasRoom (problem w) (length (begun w .args .trail .now)) (w .pass-recording .result .finish))
 asked c =
-    let w = walked c in
+    let w = passed c in
     c .stored .ensures .0
-    ∙ ap (λ (x : List ℕ). hasRoom (problem w) (length x) (w .follow .result .finish)) (same-trail w)
+    ∙ ap (λ (x : List ℕ). hasRoom (problem w) (length x) (w .pass-recording .result .finish)) (same-trail w)
 
-left : (c : Stored) → (let w = walked c in
+left : (c : Stored) → (let w = passed c in
     let old = begun w .args .trail .now in
     c .stored .last .1 .1 .1 .1 .1 .1 .1 .0
-    ≡ front (storedAt (problem w) (length old) (w .follow .result .finish)) old)
+    ≡ front (storedAt (problem w) (length old) (w .pass-recording .result .finish)) old)
 left c =
-    let w = walked c in
+    let w = passed c in
     c .stored .ensures .1
-    ∙ ap (λ (x : List ℕ). front (storedAt (problem w) (length x) (w .follow .result .finish)) x) (same-trail w)
+    ∙ ap (λ (x : List ℕ). front (storedAt (problem w) (length x) (w .pass-recording .result .finish)) x) (same-trail w)
 
 returns : tie.Need-returns
 returns c =
     let d = c .before .before .before in
-    let w = walked d in
+    let w = passed d in
     let a = begun w .args in
     let said = refused-17 (problem w) (a .budget) (round w) (first w) (order w) (length (a .trail .now))
-    (w .follow .result .finish) (finished w) (sym (asked d) ∙ not-true _ (c .if1 .taken)) in (
+    (w .pass-recording .result .finish) (finished w) (sym (asked d) ∙ not-true _ (c .if1 .taken)) in (
       said .0,
       (
         sym (front-none (a .answer .now)),
@@ -156,15 +156,15 @@ announce-requires c κs =
     let made = begun w .pre .readable .made in
     can-announce (a .g) made (a .start .now) (a .labels .now) (a .budget) (a .g .previous) (a .g .next) (sizes w)
     (first w) (order w) _ (round-below (a .g) made (sizes w) .backward) (begun w .pre .room)
-    (w .follow .result .finish) (finished w)
+    (w .pass-recording .result .finish) (finished w)
 
 returns-2 : tie.Need-returns-2
 returns-2 c =
     let d = c .before .before .before .before .before .before .before .before .before .before .before .before in
-    let w = walked d in
+    let w = passed d in
     let a = begun w .args in
     let made = begun w .pre .readable .made in
-    let f = w .follow .result .finish in
+    let f = w .pass-recording .result .finish in
     let told = c .before .before .before .announce .ensures in
     let run = told .0
     ∙ finish-told (a .g) made (a .start .now) (a .labels .now) (a .budget) (a .g .previous) (a .g .next) (sizes w)
@@ -174,8 +174,9 @@ returns-2 c =
     let room = sym (asked d)
     ∙ not-false _ (c .before .before .before .before .before .before .before .before .before .if1 .left) in
     let said = announced-end (problem w) (a .budget) (round w) (first w) (order w) (length (a .trail .now))
-    (a .trail .now) (trail w) (w .follow .result .bytes) f (finished w) (recorded w) room (c .with-bytes .result)
-    (c .with-bytes .ensures ∙ ap (λ (x : RunAnswer). withBytes x (w .follow .result .bytes)) run) in (
+    (a .trail .now) (trail w) (w .pass-recording .result .bytes) f (finished w) (recorded w) room
+    (c .with-bytes .result)
+    (c .with-bytes .ensures ∙ ap (λ (x : RunAnswer). withBytes x (w .pass-recording .result .bytes)) run) in (
       said .0,
       (
         told .1 ∙ ap (λ (x : List ℕ). front x (a .answer .now)) (put ∙ said .1),
@@ -189,7 +190,7 @@ announced-spec =
     (tie.spec
     (λ c κs. search needs)
     padded-requires
-    follow-requires
+    pass-recording-requires
     stored-requires
     (λ c. search needs)
     returns

@@ -13,7 +13,7 @@ use Rattle.grid_points.specs.Grid.{Grid}
 use Rattle.marks.specs.Reading.{problemFrom}
 use Rattle.place.specs.Problem.{Problem, problemOf}
 use Rattle.trail_writer.specs.Writing.{trailAnswerBuffer, trailAnswer, trailBuffer}
-use Rattle.trail_writer.specs.declared.answers.Answer.{Answer}
+use Rattle.trail_writer.specs.declared.answers.TrailAnswer.{TrailAnswer}
 use Rattle.trail_writer.proofs.Endings.{answered, refused}
 use Rattle.trail_writer.proofs.answers.run_with_trail.Statement.{statement}
 use Rattle.trail_writer.proofs.answers.run_with_trail.Tie as tie
@@ -28,7 +28,7 @@ lentProblem s =
     problemOf (a .sizes .now) (a .divisions .now) (a .start .now) (a .labels .now)
 
 -- the answer to a problem, with what is left in both buffers
-abbrev Answers : tie.Start → Answer → List ℕ → List ℕ → Problem → Type 0
+abbrev Answers : tie.Start → TrailAnswer → List ℕ → List ℕ → Problem → Type 0
 Answers s said answer trail p =
     let a = s .args in
     (said ≡ trailAnswer p (length (a .answer .now)) (length (a .trail .now)) (a .budget))
@@ -63,7 +63,7 @@ is-made c =
     made-is (lent (begun c)) (made .result) (made .ensures) (c .if1 .left)
 
 -- what holds of the grid's problem holds of the problem that was lent
-of-lent : (c : Made) {said : Answer} {answer trail : List ℕ} → Answers (begun c) said answer trail (problem c)
+of-lent : (c : Made) {said : TrailAnswer} {answer trail : List ℕ} → Answers (begun c) said answer trail (problem c)
     → Answers (begun c) said answer trail (lentProblem (begun c))
 of-lent c {said} {answer} {trail} =
     let made = c .before .before .new in
@@ -71,23 +71,23 @@ of-lent c {said} {answer} {trail} =
     subst (Answers (begun c) said answer trail)
     (same-problem (lent (begun c)) (made .result) (made .ensures) (c .if1 .left) (a .start .now) (a .labels .now))
 
-first-no-requires : tie.Need-first-no-requires
-first-no-requires c κs = is-made c
+first-run-no-requires : tie.Need-first-run-no-requires
+first-run-no-requires c κs = is-made c
 
 -- questions 5 to 8 asked
-asked : (c : tie.After-first-no)
+asked : (c : tie.After-first-run-no)
     → runRefusal (problem (c .before)) (length (begun (c .before) .args .answer .now))
-    ≡ c .first-no .result
+    ≡ c .first-run-no .result
 asked c =
     let m = c .before in
-    by-later (problem m) (length (begun m .args .answer .now)) (is-made m .accepted) ∙ sym (c .first-no .ensures)
+    by-later (problem m) (length (begun m .args .answer .now)) (is-made m .accepted) ∙ sym (c .first-run-no .ensures)
 
 returns-2 : tie.Need-returns-2
 returns-2 c =
     let d = c .before in
     let m = d .before in
     let a = begun m .args in
-    let w = refused (problem m) (a .budget) (a .answer .now) (a .trail .now) (d .first-no .result) (c .if2 .taken)
+    let w = refused (problem m) (a .budget) (a .answer .now) (a .trail .now) (d .first-run-no .result) (c .if2 .taken)
     (asked d) in
     of-lent m (w .0, (w .1, w .2))
 
@@ -99,7 +99,7 @@ announced-requires c κs =
     let d = c .before .before .before .before .before .before in
     let m = d .before in
     let w = accepted-with-room (problem m) (length (begun m .args .answer .now)) (is-made m .accepted)
-    (sym (d .first-no .ensures) ∙ c .before .before .before .before .before .if2 .left) in
+    (sym (d .first-run-no .ensures) ∙ c .before .before .before .before .before .if2 .left) in
     record {
       readable = record {
         made = is-made m;
@@ -126,7 +126,7 @@ run-with-trail-spec =
     (tie.spec
     (λ c κs. search needs)
     returns
-    first-no-requires
+    first-run-no-requires
     returns-2
     binomials-requires
     announced-requires

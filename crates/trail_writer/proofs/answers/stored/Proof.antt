@@ -1,4 +1,4 @@
--- `answers::stored` meets its contract: the second walk is made at an end whose trail has room. Assumes nothing.
+-- `answers::stored` meets its contract: the second pass is made at an end whose trail has room. Assumes nothing.
 use mathlib.Core.Path.{sym}
 use borrow.Author.Needs.{needs}
 use borrow.Author.Tests.{le-leb, lt-leb}

@@ -1,13 +1,13 @@
--- `answers::write_trail` meets its contract: the path has an end, so the walk stores all records. Assumes nothing.
+-- `answers::write_trail` meets its contract: the path has an end, so the pass stores all records. Assumes nothing.
 use mathlib.Core.Bool.{true}
 use mathlib.Core.Path.{refl, subst}
 use borrow.Author.Needs.{needs}
 use Rattle.arrays.specs.Rounds.{roundOf}
-use Rattle.finder.proofs.Announcements.{can-pad, can-walk, problem-from}
+use Rattle.finder.proofs.Announcements.{can-pad, can-pass, problem-from}
 use Rattle.path_pass.specs.Finish.{Finished}
 use Rattle.marks.specs.Reading.{problemFrom}
 use Rattle.place.specs.Problem.{Problem}
-use Rattle.trail_pass.specs.Walked.{Recorded}
+use Rattle.trail_pass.specs.Recording.{Recorded}
 use Rattle.trail_writer.proofs.Endings.{ends-again}
 use Rattle.trail_writer.proofs.answers.write_trail.Statement.{statement}
 use Rattle.trail_writer.proofs.answers.write_trail.Tie as tie
@@ -17,11 +17,11 @@ padded-requires c κs =
     let w = c .before .before .before .pre in
     can-pad (w .readable) (w .accepted)
 
-follow-requires : tie.Need-follow-requires
-follow-requires c κs =
+pass-recording-requires : tie.Need-pass-recording-requires
+pass-recording-requires c κs =
     let w = c .before .before .before .before .before .before .before .pre in
     let t = c .before .before .before .padded in (
-      can-walk (w .readable) (w .accepted) _ (w .isRound) (w .below) (t .result) (t .ensures) _ refl,
+      can-pass (w .readable) (w .accepted) _ (w .isRound) (w .below) (t .result) (t .ensures) _ refl,
       λ e. rw (problem-from (w .readable) (w .accepted) (t .result) (t .ensures)) (w .fits),
     )
 
@@ -34,17 +34,20 @@ returns c =
     let round = roundOf (a .previous .now) (a .next .now) (a .sizes .now) in
     let same = problem-from (w .readable) (w .accepted) (t .result) (t .ensures) in
     ends-again (problemFrom (a .g) (a .start .now) (a .labels .now)) (a .budget) round
-    (c .before .before .follow .last .1 .1 .1 .1 .1 .1 .0) (c .before .before .follow .last .1 .1 .1 .1 .1 .1 .1 .0)
-    (a .trail .now) (c .before .before .follow .last .1 .1 .1 .1 .1 .1 .1 .1 .0) (f .result .bytes) (f .result .finish)
+    (c .before .before .pass-recording .last .1 .1 .1 .1 .1 .1 .0)
+    (c .before .before .pass-recording .last .1 .1 .1 .1 .1 .1 .1 .0)
+    (a .trail .now) (c .before .before .pass-recording .last .1 .1 .1 .1 .1 .1 .1 .1 .0) (f .result .bytes)
+    (f .result .finish)
     (w .ends .6)
     (subst
-    (λ (p : Problem). Finished p (a .budget) round (c .before .before .follow .last .1 .1 .1 .1 .1 .1 .0)
-    (c .before .before .follow .last .1 .1 .1 .1 .1 .1 .1 .0) (f .result .finish))
+    (λ (p : Problem). Finished p (a .budget) round (c .before .before .pass-recording .last .1 .1 .1 .1 .1 .1 .0)
+    (c .before .before .pass-recording .last .1 .1 .1 .1 .1 .1 .1 .0) (f .result .finish))
     same (f .ensures .0))
     (subst
-    (λ (p : Problem). Recorded p true (a .trail .now) (c .before .before .follow .last .1 .1 .1 .1 .1 .1 .1 .1 .0)
+    (λ (p : Problem). Recorded p true (a .trail .now)
+    (c .before .before .pass-recording .last .1 .1 .1 .1 .1 .1 .1 .1 .0)
     (f .result .bytes) (f .result .finish))
     same (f .ensures .1))
 
 pub write-trail-spec : {M : Type 1} → statement M
-write-trail-spec = tie.close (tie.spec padded-requires follow-requires (λ c. search needs) returns)
+write-trail-spec = tie.close (tie.spec padded-requires pass-recording-requires (λ c. search needs) returns)

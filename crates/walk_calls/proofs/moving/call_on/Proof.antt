@@ -23,33 +23,33 @@ array-share-prefix-start c =
     let s = c .before .before in
     omega (arith, start-long s, indices-few (s .args .g) (s .pre))
 
-slice-aggregate-first-no : tie.Need-slice-aggregate-first-no
-slice-aggregate-first-no c =
+slice-aggregate-first-table-no : tie.Need-slice-aggregate-first-table-no
+slice-aggregate-first-table-no c =
     let s = c .before .before .before in
     simp length-take (omega (arith, start-long s, indices-few (s .args .g) (s .pre)))
 
-first-no-requires : tie.Need-first-no-requires
-first-no-requires c κs = c .before .before .before .pre
+first-table-no-requires : tie.Need-first-table-no-requires
+first-table-no-requires c κs = c .before .before .before .pre
 
 -- questions 5 to 7 asked, and where the call began
 abbrev Asked : Type 0
-Asked = tie.After-first-no
+Asked = tie.After-first-table-no
 
 abbrev begun : Asked → tie.Start
 begun c = c .before .before .before .before
 
 asked : (c : Asked) → (let a = begun c .args in
-    firstNo (tableQuestions (tableOn (a .g) (a .w) (a .labels .now))) ≡ c .first-no .result)
+    firstNo (tableQuestions (tableOn (a .g) (a .w) (a .labels .now))) ≡ c .first-table-no .result)
 asked c =
     let s = begun c in
-    walk-asked (s .args .g) (s .args .w) (s .args .labels .now) (s .pre) ∙ sym (c .first-no .ensures)
+    walk-asked (s .args .g) (s .args .w) (s .args .labels .now) (s .pre) ∙ sym (c .first-table-no .ensures)
 
 returns : tie.Need-returns
 returns c =
     let d = c .before .before in
     let a = begun d .args in
     c .unmoved .ensures
-    ∙ table-refused (shape (a .g)) (a .w) (a .labels .now) (d .first-no .result) (c .before .if1 .taken) (asked d)
+    ∙ table-refused (shape (a .g)) (a .w) (a .labels .now) (d .first-table-no .result) (c .before .if1 .taken) (asked d)
 
 next-on-requires : tie.Need-next-on-requires
 next-on-requires c κs = (begun (c .before) .pre, asked (c .before) ∙ c .if1 .left)
@@ -111,8 +111,8 @@ call-on-spec =
     tie.close
     (tie.spec
     array-share-prefix-start
-    slice-aggregate-first-no
-    first-no-requires
+    slice-aggregate-first-table-no
+    first-table-no-requires
     (λ c κs. search needs)
     returns
     next-on-requires

@@ -11,7 +11,7 @@ use native.Mathlib.Numerals.{add-one}
 use native.Mathlib.Omega.{arith}
 use Rattle.combinatorics.proofs.Basics.{not-is, is-not}
 use Rattle.combinatorics.specs.Lists.{firstOr}
-use Rattle.rules.specs.Step.{markPosition}
+use Rattle.rules.specs.Moves.{markPosition}
 use Rattle.trail.specs.Change.{outside}
 use Rattle.walk_preview.proofs.Among.{outside-done, outside-here, outside-later}
 use Rattle.walk_preview.proofs.changes.other.Statement.{statement}

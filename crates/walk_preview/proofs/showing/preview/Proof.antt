@@ -2,7 +2,7 @@
 use mathlib.Core.Path.{sym, ap, _∙_}
 use borrow.Author.Needs.{needs}
 use Rattle.walk_preview.proofs.Calls.{moves-of, shown-ended, shown-moved, shown-refused, shownWith}
-use Rattle.walk_ways.specs.declared.Answer.{Answer}
+use Rattle.walk_ways.specs.declared.WalkAnswer.{WalkAnswer}
 use Rattle.walk_preview.proofs.showing.preview.Statement.{statement}
 use Rattle.walk_preview.proofs.showing.preview.Tie as tie
 
@@ -21,7 +21,7 @@ returns : tie.Need-returns
 returns c = let m = c .before .before .before .before .before .before .moved in
     let a = c .before .before .before .before .before .before .before .before .args in
     let rule = c .before .before .answer .given .0 .0 in let e = c .before .before .answer .given .1 in
-    ap (λ (x : Answer). shownWith x (m .result .simplex) (c .change-in .result)) (sym e)
+    ap (λ (x : WalkAnswer). shownWith x (m .result .simplex) (c .change-in .result)) (sym e)
     ∙ shown-moved (a .w) (a .labels .now) (m .result) (m .ensures) rule e (c .change-in .result)
     (c .change-in .ensures (a .labels .now) (moves-of (a .w) (a .labels .now) (m .result) (m .ensures) rule e))
 

@@ -6,7 +6,8 @@ use mathlib.Core.Path.{_≡_}
 use Prim.Native.Nat.{ℕ, _-_, _≤_}
 use lib.ListN.{length}
 use Rattle.grid_points.specs.Grid.{at}
-use Rattle.walk_recogniser.proofs.Following.{Follows, follow-none, follow-fits, follow-small, follow-less, follow-not}
+use Rattle.walk_recogniser.proofs.Following.{Follows, follow-none, follow-fits, follow-small, follow-less}
+use Rattle.walk_recogniser.proofs.Following.{follow-not}
 use Rattle.walk_recogniser.proofs.Following.{follow-all}
 use Rattle.walk_recogniser.specs.Pieces.{InBlock}
 use borrow.Author.Needs.{needs}

@@ -6,7 +6,8 @@ use lib.ListN.{getD, length-set}
 use Rattle.combinatorics.proofs.Basics.{absurd-bool}
 use Rattle.grid.proofs.Fields.{indices-few}
 use Rattle.rules.proofs.ChangedBefore.{raised-positive}
-use Rattle.walk_recogniser.proofs.Steps.{Reached, can-all, cannot, count-b, marked-all, reached-more, reached-none}
+use Rattle.walk_recogniser.proofs.Steps.{Reached, can-all, cannot, count-b, marked-all, reached-more}
+use Rattle.walk_recogniser.proofs.Steps.{reached-none}
 use borrow.Author.Needs.{needs}
 use native.Mathlib.Omega.{arith}
 use Rattle.walk_recogniser.proofs.points.mark_points.Statement.{statement}

@@ -21,8 +21,8 @@ returns c =
     ∙ no-grid G (a .start .now) (a .labels .now) (made .result .code) (c .before .if1 .taken)
     (made-code G (made .result) (made .ensures))
 
-first-no-requires : tie.Need-first-no-requires
-first-no-requires c κs =
+first-table-no-requires : tie.Need-first-table-no-requires
+first-table-no-requires c κs =
     let a = c .before .before .before .before .before .before .before .args in
     made-is (lent (a .sizes .now) (a .divisions .now)) (c .before .before .new .result)
     (c .before .before .new .ensures) (c .if1 .left)
@@ -33,7 +33,7 @@ returns-2 c =
     let G = lent (a .sizes .now) (a .divisions .now) in
     let made = c .before .before .before .before .before .new in
     let z = c .before .before .before .if1 .left in
-    let first = c .before .before .first-no in
+    let first = c .before .before .first-table-no in
     let is = made-is G (made .result) (made .ensures) z in
     let same = made-shape G (made .result) (made .ensures) z in
     let asked : firstNo (tableQuestions (begunOn G (a .start .now) (a .labels .now))) ≡ first .result =
@@ -48,7 +48,7 @@ start-on-requires c κs =
     let a = c .before .before .before .before .before .before .before .before .before .args in
     let made = c .before .before .before .before .new in (
       made-is (lent (a .sizes .now) (a .divisions .now)) (made .result) (made .ensures) (c .before .before .if1 .left),
-      sym (c .before .first-no .ensures) ∙ c .if2 .left,
+      sym (c .before .first-table-no .ensures) ∙ c .if2 .left,
     )
 
 returns-3 : tie.Need-returns-3
@@ -62,7 +62,7 @@ returns-3 c =
     let asked : firstNo (tableQuestions (begunOn G (a .start .now) (a .labels .now))) ≡ 0 =
     ap (λ (g : Grid). firstNo (tableQuestions (begunOn g (a .start .now) (a .labels .now)))) (sym same)
     ∙ behind-four (made .result .grid) (a .start .now) (a .labels .now) (is .accepted)
-    ∙ sym (c .before .before .first-no .ensures)
+    ∙ sym (c .before .before .first-table-no .ensures)
     ∙ c .before .if2 .left in
     ap (begunBy 0)
     (c .start-on .ensures
@@ -78,7 +78,7 @@ at-start-spec =
     (λ c κs. search needs)
     (λ c κs. search needs)
     returns
-    first-no-requires
+    first-table-no-requires
     (λ c κs. search needs)
     returns-2
     start-on-requires

@@ -53,28 +53,28 @@ array-share-prefix-start c =
     let m = c .before in
     omega (arith, start-long m, indices-few (grid m) (is-made m .0))
 
-slice-aggregate-first-no : tie.Need-slice-aggregate-first-no
-slice-aggregate-first-no c =
+slice-aggregate-first-table-no : tie.Need-slice-aggregate-first-table-no
+slice-aggregate-first-table-no c =
     let m = c .before .before in
     simp length-take (omega (arith, start-long m, indices-few (grid m) (is-made m .0)))
 
-first-no-requires : tie.Need-first-no-requires
-first-no-requires c κs = is-made (c .before .before) .0
+first-table-no-requires : tie.Need-first-table-no-requires
+first-table-no-requires c κs = is-made (c .before .before) .0
 
 -- questions 5 to 7 asked
 abbrev Asked : Type 0
-Asked = tie.After-first-no
+Asked = tie.After-first-table-no
 
 abbrev made : Asked → Made
 made c = c .before .before .before
 
 asked : (c : Asked) → (let m = made c in
     let a = begun m .args in
-    firstNo (tableQuestions (tableOn (grid m) (a .w) (a .labels .now))) ≡ c .first-no .result)
+    firstNo (tableQuestions (tableOn (grid m) (a .w) (a .labels .now))) ≡ c .first-table-no .result)
 asked c =
     let m = made c in
     let a = begun m .args in
-    walk-asked (grid m) (a .w) (a .labels .now) (is-made m .0) ∙ sym (c .first-no .ensures)
+    walk-asked (grid m) (a .w) (a .labels .now) (is-made m .0) ∙ sym (c .first-table-no .ensures)
 
 returns-2 : tie.Need-returns-2
 returns-2 c =
@@ -82,7 +82,8 @@ returns-2 c =
     let m = made d in
     let a = begun m .args in
     c .no-points2 .ensures
-    ∙ points-refused (shape (grid m)) (a .w) (a .labels .now) (d .first-no .result) (c .before .if2 .taken) (asked d)
+    ∙ points-refused (shape (grid m)) (a .w) (a .labels .now) (d .first-table-no .result) (c .before .if2 .taken)
+    (asked d)
     ∙ ap (λ (G : Grid). pointsOn G (a .w) (a .labels .now)) (is-made m .1)
 
 points-on-requires : tie.Need-points-on-requires
@@ -102,8 +103,8 @@ points-spec =
     (λ c κs. search needs)
     returns
     array-share-prefix-start
-    slice-aggregate-first-no
-    first-no-requires
+    slice-aggregate-first-table-no
+    first-table-no-requires
     (λ c κs. search needs)
     returns-2
     points-on-requires

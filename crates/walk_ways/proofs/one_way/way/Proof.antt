@@ -5,22 +5,22 @@ use Rattle.walk_ways.proofs.one_way.way.Statement.{statement}
 use Rattle.walk_ways.proofs.one_way.way.Tie as tie
 
 -- where the call began, from the step on
-abbrev begun : tie.After-step → tie.Start
+abbrev begun : tie.After-make-move → tie.Start
 begun c = c .before .before .before .before .before .before .before .before .before
 
 kept-as-requires : tie.Need-kept-as-requires
 kept-as-requires c κs =
     let at = c .before .before .before .before .before in
     let s = begun at in
-    let w = few (s .args .m) (at .step .ensures) (s .pre .1) (c .before .before .before .outcome .given .1) in
-    ((s .pre .2, w .1), (w .0, at .step .ensures .each .inOrder))
+    let w = few (s .args .m) (at .make-move .ensures) (s .pre .1) (c .before .before .before .outcome .given .1) in
+    ((s .pre .2, w .1), (w .0, at .make-move .ensures .each .inOrder))
 
 returns : tie.Need-returns
 returns c =
     let at = c .before .before .before .before .before .before .before in
     let s = begun at in
     rw (c .rule-of .ensures, c .before .kept-as .ensures)
-    (way-moved (s .args .m) (at .step .ensures) (s .pre .1)
+    (way-moved (s .args .m) (at .make-move .ensures) (s .pre .1)
     (c .before .before .before .before .before .outcome .given .1))
 
 returns-2 : tie.Need-returns-2
@@ -28,14 +28,14 @@ returns-2 c =
     let at = c .before .before .before .before in
     let s = begun at in
     rw (c .none .ensures)
-    (way-place (s .args .m) (at .step .ensures) (s .pre .1) (c .before .before .outcome2 .given .1))
+    (way-place (s .args .m) (at .make-move .ensures) (s .pre .1) (c .before .before .outcome2 .given .1))
 
 returns-3 : tie.Need-returns-3
 returns-3 c =
     let at = c .before .before .before .before in
     let s = begun at in
     rw (c .none2 .ensures)
-    (way-facet (s .args .m) (at .step .ensures) (s .pre .1) (c .before .before .outcome3 .given .1))
+    (way-facet (s .args .m) (at .make-move .ensures) (s .pre .1) (c .before .before .outcome3 .given .1))
 
 pub way-spec : {M : Type 1} → statement M
 way-spec =

@@ -12,7 +12,7 @@ use Rattle.combinatorics.proofs.EditsOfArrays.{counted, found-low}
 use Rattle.combinatorics.specs.Edits.{found}
 use Rattle.moves.specs.Held.{stateOf}
 use Rattle.rules.specs.Mask.{bit}
-use Rattle.rules.specs.Step.{State, goes, isFilled}
+use Rattle.rules.specs.Moves.{State, goes, isFilled}
 use Rattle.moves.proofs.Cases.{joins-from-U, place-end, joins-from-outside}
 use Rattle.rules.proofs.Marks.{indices-in}
 use borrow.Author.Needs.{needs}
