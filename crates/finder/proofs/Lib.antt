@@ -1,4 +1,4 @@
 pub mod Announcements
 pub mod Refusals
 pub mod Demand
-pub mod Facts
+pub mod FiveFacts

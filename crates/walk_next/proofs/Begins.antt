@@ -21,7 +21,7 @@ use Rattle.path_laws.proofs.IndexSets.{no-empty}
 use Rattle.path_laws.specs.Demand.{Accepted}
 use Rattle.questions.specs.Questions.{firstNo}
 use Rattle.walks.specs.Next.{nextOf, refused}
-use Rattle.walk_ways.proofs.Next.{no-count, no-place, no-read}
+use Rattle.walk_ways.proofs.ComesNext.{no-count, no-place, no-read}
 use Rattle.walk_places.proofs.Held.{held, held-parts, not-held}
 use Rattle.walk_next.specs.Standing.{countsInRange, CanStand}
 use Rattle.walk_next.specs.Choosing.{MarksFilledBy}

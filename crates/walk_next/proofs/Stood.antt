@@ -37,7 +37,7 @@ use Rattle.walks.proofs.Recognised.{recognised}
 use Rattle.walks.specs.Kept.{isKept, keptPoints}
 use Rattle.walks.specs.Next.{nextOf, refused}
 use Rattle.walks.specs.Walk.{labelsOf}
-use Rattle.walk_ways.proofs.Next.{no-place, not-carried}
+use Rattle.walk_ways.proofs.ComesNext.{no-place, not-carried}
 use Rattle.walk_ways.proofs.Unknown.{some-spare}
 use Rattle.walk_labels.specs.Carrying.{labelsInMarks}
 use Rattle.walk_ways.specs.Spare.{Spare, again, outside, unknown}

@@ -51,7 +51,7 @@ use Rattle.walks.specs.Next.{byWay, ended, moveAnswer, moveWalk, moved, nextOf,
 use Rattle.walks.specs.Walk.{Walk}
 use Rattle.walk_ways.proofs.Carried.{points-long}
 use Rattle.walk_ways.proofs.Kept.{describes, full, place-filled}
-use Rattle.walk_ways.proofs.Next.{fits-a, fits-b, fits-v, ready-a, ready-b, ready-v}
+use Rattle.walk_ways.proofs.ComesNext.{fits-a, fits-b, fits-v, ready-a, ready-b, ready-v}
 use Rattle.walk_ways.proofs.Unknown.{unknown-only}
 use Rattle.walk_ways.proofs.Ways.{Fits, described-masks}
 use Rattle.walk_ways.specs.Lent.{LentPlace, keptBy, wayMade}

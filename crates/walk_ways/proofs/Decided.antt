@@ -25,9 +25,9 @@ use Rattle.walks.specs.Kept.{keptPoints}
 use Rattle.walks.specs.Next.{byWay, nextOf, refused}
 use Rattle.walks.specs.Walk.{Walk}
 use Rattle.walk_ways.proofs.Carried.{points-long}
-use Rattle.walk_ways.proofs.Next.{back-unknown, from-v, neither, not-back-unknown, onward-a, onward-b}
-use Rattle.walk_ways.proofs.Next.{start-with-one}
-use Rattle.walk_ways.proofs.Next.{unknown-v, without-one}
+use Rattle.walk_ways.proofs.ComesNext.{back-unknown, from-v, neither, not-back-unknown, onward-a, onward-b}
+use Rattle.walk_ways.proofs.ComesNext.{start-with-one}
+use Rattle.walk_ways.proofs.ComesNext.{unknown-v, without-one}
 use Rattle.walk_ways.specs.Lent.{wayMade}
 use Rattle.walk_ways.proofs.Chosen.{leads-elsewhere, leads-there, lent, long-o, o, ok, only-unknown, p, q}
 use Rattle.walk_ways.proofs.Chosen.{stateAs, tried-back, tried-on, y}

@@ -1,9 +1,9 @@
-pub mod Choice
+pub mod Choices
 pub mod Kept
 pub mod Ways
 pub mod Carried
 pub mod Gap
-pub mod Next
+pub mod ComesNext
 pub mod Unknown
 pub mod Tried
 pub mod MaskTests

@@ -2,7 +2,7 @@
 use lib.ListN.{length-set}
 use native.Mathlib.Omega.{arith}
 use borrow.Author.Needs.{needs}
-use Rattle.finder.proofs.Facts.{five}
+use Rattle.finder.proofs.FiveFacts.{five}
 use Rattle.exports.proofs.refine_calls.put_level.Statement.{statement}
 use Rattle.exports.proofs.refine_calls.put_level.Tie as tie
 

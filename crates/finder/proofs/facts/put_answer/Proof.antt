@@ -7,7 +7,7 @@ use lib.ListN.{length, set, length-set}
 use Rattle.combinatorics.proofs.Fronts.{front-none}
 use Rattle.combinatorics.specs.Front.{front}
 use borrow.Author.Needs.{needs}
-use Rattle.finder.proofs.Facts.{five}
+use Rattle.finder.proofs.FiveFacts.{five}
 use Rattle.finder.proofs.facts.put_answer.Statement.{statement}
 use Rattle.finder.proofs.facts.put_answer.Tie as tie
 

@@ -42,7 +42,7 @@ use Rattle.walks.specs.Kept.{keptPoints}
 use Rattle.walks.specs.Next.{byWay, nextOf, refused}
 use Rattle.walks.specs.Walk.{Walk, labelsOf as labelsAt, over}
 use Rattle.walk_ways.proofs.Carried.{carried, points-long}
-use Rattle.walk_ways.proofs.Choice.{came-by, from-start, not-linked, other-on}
+use Rattle.walk_ways.proofs.Choices.{came-by, from-start, not-linked, other-on}
 use Rattle.walk_ways.proofs.Gap.{gap-back, gap-way}
 use Rattle.walk_ways.proofs.Kept.{chain, describes, full, marks, order-same, place-filled}
 use Rattle.walk_ways.proofs.Ways.{Fits, fits-back, fits-onward, fits-start, leaves-by, ready-leaves, ready-on}
