@@ -24,9 +24,9 @@ use Rattle.slip.specs.declared.Budget.the-variants.{Is, Missing as NoBud
 use Rattle.slip.specs.declared.Field.the-variants.{EndsAt, Missing}
 use Rattle.slip.specs.declared.SlipReading.{SlipReading}
 use Rattle.slip.specs.declared.Table.{Table}
-use Rattle.slip.specs.declared.Table.the-variants.{LabelsFrom, Game, LossesFrom, Missing as NoTable}
+use Rattle.slip.specs.declared.TableField.the-variants.{Names, Missing as NoTable}
 use Rattle.slip.specs.Reading.{refusedReading, accepted, slipReadingOf, headOf, startOf, budgetOf, tableOf}
-use Rattle.slip.specs.Reading.{tableNamed}
+use Rattle.slip.specs.Reading.{slipReading, tableNamed}
 use Rattle.slip.specs.Reading.{labelsIn, Asked}
 use Rattle.slip_fields.specs.Slip.{stands, slipGrid, slipStart, slipBudget, slipGame, headLength, fieldAt, labelField}
 use Rattle.slip_fields.specs.Slip.{question13, question14, slipQuestion15, slipReadQuestions}
@@ -111,6 +111,12 @@ module _ (slip : List ℕ) where
         → accepted slip ≡ slipReadingOf slip
     all-yes e f = rw (reading-is, e, f)
 
+  -- what an accepted slip says, part by part
+  pub parts-say : (g : GridStruct) (start : List ℕ) (budget : ℕ) (t : Table) → g ≡ gridOf (slipGrid slip)
+      → start ≡ padded 16 (slipStart slip) → budget ≡ slipBudget slip → t ≡ tableNamed slip
+      → slipReading 0 g start budget t ≡ accepted slip
+  parts-say g start budget t e f h i = cc
+
   pub head-there : (at : ℕ) → headOf slip ≡ EndsAt at → (question13 slip .answeredYes ≡ true) × (at ≡ headLength slip)
   unfolding headOf
   head-there at e = told (question13 slip .answeredYes) (headLength slip) at e
@@ -173,7 +179,7 @@ module _ (slip : List ℕ) where
       (budget-untold (leb (fieldAt slip 2) (length slip)) (slipBudget slip) (fieldAt slip 2) e))
 
   -- labels, game or losses
-  pub table-is : question14 slip .answeredYes ≡ true → tableOf slip ≡ tableNamed slip
+  pub table-is : question14 slip .answeredYes ≡ true → tableOf slip ≡ Names (tableNamed slip)
   unfolding tableOf
   table-is e = rw e
 
@@ -181,27 +187,22 @@ module _ (slip : List ℕ) where
   unfolding tableOf
   no-table e = rw e
 
-  named : (a b : Bool) (x y z : ℕ) → cond a (LabelsFrom x) (cond b (Game y) (LossesFrom z)) ≡ NoTable → ⊥
-  named true b x y z e = let z : _≡_ {A = ℕ} 0 1 = cc in omega arith
-  named false true x y z e = let z : _≡_ {A = ℕ} 0 1 = cc in omega arith
-  named false false x y z e = let z : _≡_ {A = ℕ} 0 1 = cc in omega arith
+  table-told : (b : Bool) (t u : Table) → cond b (Names t) NoTable ≡ Names u → (b ≡ true) × (u ≡ t)
+  table-told true t u e = (refl, cc)
+  table-told false t u e = absurd (let z : _≡_ {A = ℕ} 0 1 = cc in omega arith)
 
-  table-told : (b : Bool) (t : Table) → (t ≡ NoTable → ⊥) → cond b t NoTable ≡ NoTable → b ≡ false
-  table-told true t n e = absurd (n e)
-  table-told false t n e = refl
+  table-untold : (b : Bool) (t : Table) → cond b (Names t) NoTable ≡ NoTable → b ≡ false
+  table-untold true t e = absurd (let z : _≡_ {A = ℕ} 0 1 = cc in omega arith)
+  table-untold false t e = refl
+
+  pub table-there : (t : Table) → tableOf slip ≡ Names t
+      → (question14 slip .answeredYes ≡ true) × (t ≡ tableNamed slip)
+  unfolding tableOf
+  table-there t e = table-told (question14 slip .answeredYes) (tableNamed slip) t e
 
   pub table-missing : tableOf slip ≡ NoTable → question14 slip .answeredYes ≡ false
   unfolding tableOf
-  table-missing e = table-told (question14 slip .answeredYes) (tableNamed slip)
-      (named (stands slip 2) (stands slip 3) (fieldAt slip 2) (slipGame slip) (fieldAt slip 4)) e
-
-  table-some : (b : Bool) (t : Table) → (cond b t NoTable ≡ NoTable → ⊥) → b ≡ true
-  table-some true t n = refl
-  table-some false t n = absurd (n refl)
-
-  pub table-there : (tableOf slip ≡ NoTable → ⊥) → question14 slip .answeredYes ≡ true
-  unfolding tableOf
-  table-there n = table-some (question14 slip .answeredYes) (tableNamed slip) n
+  table-missing e = table-untold (question14 slip .answeredYes) (tableNamed slip) e
 
   -- the struct that the fields are read with
   module _ (grid : GridStruct) (a : Asked slip grid) where

@@ -11,24 +11,17 @@ use Rattle.combinatorics.proofs.Basics.{true-or-false}
 use Rattle.slip_fields.proofs.Laws.{labels-only}
 use Rattle.slip.proofs.Table.{the-type}
 use Rattle.slip.specs.declared.Table.{Table}
-use Rattle.slip.specs.declared.Table.the-variants.{LabelsFrom, Game, LossesFrom, Missing}
+use Rattle.slip.specs.declared.Table.the-variants.{LabelsFrom, Game, LossesFrom}
 use Rattle.slip.specs.Reading.{labelsIn, tableNamed}
 use Rattle.slip_fields.specs.Slip.{stands, slipGame, fieldAt, question13, slipQuestion15}
 
 -- what is not one of the variants named
-pub not-labels : (slip : List ℕ) (t : Table) → OneOf (1 ∷ 2 ∷ 3 ∷ []) (tagOf the-type t) → labelsIn slip t ≡ []
+pub not-labels : (slip : List ℕ) (t : Table) → OneOf (1 ∷ 2 ∷ []) (tagOf the-type t) → labelsIn slip t ≡ []
 unfolding labelsIn
 not-labels slip (LabelsFrom begin) h =
-    absurd (⊎-elim (λ e. omega arith) (λ r. ⊎-elim (λ e. omega arith) (λ e. omega arith) r) h)
+    absurd (⊎-elim (λ e. omega arith) (λ e. omega arith) h)
 not-labels slip (Game number) h = refl
 not-labels slip (LossesFrom begin) h = refl
-not-labels slip Missing h = refl
-
-pub not-missing : (t : Table) → OneOf (0 ∷ 1 ∷ 2 ∷ []) (tagOf the-type t) → t ≡ Missing → ⊥
-not-missing (LabelsFrom begin) h e = let z : _≡_ {A = ℕ} 0 1 = cc in omega arith
-not-missing (Game number) h e = let z : _≡_ {A = ℕ} 0 1 = cc in omega arith
-not-missing (LossesFrom begin) h e = let z : _≡_ {A = ℕ} 0 1 = cc in omega arith
-not-missing Missing h e = ⊎-elim (λ e. omega arith) (λ r. ⊎-elim (λ e. omega arith) (λ e. omega arith) r) h
 
 -- labels are named, or not
 pub are-labels : (slip : List ℕ) (begin : ℕ) → tableNamed slip ≡ LabelsFrom begin → stands slip 2 ≡ true
@@ -39,16 +32,15 @@ are-labels slip begin e = go (stands slip 2) (stands slip 3) (fieldAt slip 2) (s
     go false true x y z e = absurd (let z : _≡_ {A = ℕ} 0 1 = cc in omega arith)
     go false false x y z e = absurd (let z : _≡_ {A = ℕ} 0 1 = cc in omega arith)
 
-pub no-labels : (slip : List ℕ) (t : Table) → OneOf (1 ∷ 2 ∷ 3 ∷ []) (tagOf the-type t) → t ≡ tableNamed slip
+pub no-labels : (slip : List ℕ) (t : Table) → OneOf (1 ∷ 2 ∷ []) (tagOf the-type t) → t ≡ tableNamed slip
     → stands slip 2 ≡ false
 no-labels slip t h e =
     ⊎-elim (λ (two : stands slip 2 ≡ true). absurd (never t h (e ∙ rw two))) (λ n. n) (true-or-false (stands slip 2))
   where
-    never : (t : Table) → OneOf (1 ∷ 2 ∷ 3 ∷ []) (tagOf the-type t) → t ≡ LabelsFrom (fieldAt slip 2) → ⊥
-    never (LabelsFrom begin) h e = ⊎-elim (λ e. omega arith) (λ r. ⊎-elim (λ e. omega arith) (λ e. omega arith) r) h
+    never : (t : Table) → OneOf (1 ∷ 2 ∷ []) (tagOf the-type t) → t ≡ LabelsFrom (fieldAt slip 2) → ⊥
+    never (LabelsFrom begin) h e = ⊎-elim (λ e. omega arith) (λ e. omega arith) h
     never (Game number) h e = let z : _≡_ {A = ℕ} 0 1 = cc in omega arith
     never (LossesFrom begin) h e = let z : _≡_ {A = ℕ} 0 1 = cc in omega arith
-    never Missing h e = let z : _≡_ {A = ℕ} 0 1 = cc in omega arith
 
 -- which bit stands, by the table that the map names
 module _ (slip : List ℕ) (head : question13 slip .answeredYes ≡ true) where
@@ -73,7 +65,7 @@ module _ (slip : List ℕ) (head : question13 slip .answeredYes ≡ true) where
       go false false x y z e = (refl, refl, cc)
 
   -- without a game question 15 is answered yes
-  pub no-game : (t : Table) → OneOf (0 ∷ 2 ∷ 3 ∷ []) (tagOf the-type t) → t ≡ tableNamed slip
+  pub no-game : (t : Table) → OneOf (0 ∷ 2 ∷ []) (tagOf the-type t) → t ≡ tableNamed slip
       → slipQuestion15 slip .answeredYes ≡ true
   no-game t h e =
       let three : stands slip 3 ≡ false = ⊎-elim
@@ -85,21 +77,7 @@ module _ (slip : List ℕ) (head : question13 slip .answeredYes ≡ true) where
       (true-or-false (stands slip 2)) in
       rw three
     where
-      never : (t : Table) → OneOf (0 ∷ 2 ∷ 3 ∷ []) (tagOf the-type t) → t ≡ Game (slipGame slip) → ⊥
+      never : (t : Table) → OneOf (0 ∷ 2 ∷ []) (tagOf the-type t) → t ≡ Game (slipGame slip) → ⊥
       never (LabelsFrom begin) h e = let z : _≡_ {A = ℕ} 0 1 = cc in omega arith
-      never (Game number) h e = ⊎-elim (λ e. omega arith) (λ r. ⊎-elim (λ e. omega arith) (λ e. omega arith) r) h
+      never (Game number) h e = ⊎-elim (λ e. omega arith) (λ e. omega arith) h
       never (LossesFrom begin) h e = let z : _≡_ {A = ℕ} 0 1 = cc in omega arith
-      never Missing h e = let z : _≡_ {A = ℕ} 0 1 = cc in omega arith
-
-  -- a table without labels is a game or losses
-  pub has-losses : (t : Table) → OneOf (0 ∷ 3 ∷ []) (tagOf the-type t) → t ≡ tableNamed slip → stands slip 2 ≡ false → ⊥
-  has-losses t h e two = go (stands slip 3) (slipGame slip) (fieldAt slip 4) t h (e ∙ rw two)
-    where
-      go : (b : Bool) (y z : ℕ) (t : Table) → OneOf (0 ∷ 3 ∷ []) (tagOf the-type t) → t ≡ cond b (Game y) (LossesFrom z)
-          → ⊥
-      go b y z (Game number) h e = ⊎-elim (λ e. omega arith) (λ e. omega arith) h
-      go b y z (LossesFrom begin) h e = ⊎-elim (λ e. omega arith) (λ e. omega arith) h
-      go true y z (LabelsFrom begin) h e = let z : _≡_ {A = ℕ} 0 1 = cc in omega arith
-      go true y z Missing h e = let z : _≡_ {A = ℕ} 0 1 = cc in omega arith
-      go false y z (LabelsFrom begin) h e = let z : _≡_ {A = ℕ} 0 1 = cc in omega arith
-      go false y z Missing h e = let z : _≡_ {A = ℕ} 0 1 = cc in omega arith

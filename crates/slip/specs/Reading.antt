@@ -23,7 +23,9 @@ use Rattle.slip.specs.declared.Losses.the-variants.{Count, OutOfRange}
 use Rattle.slip.specs.declared.SlipReading.{SlipReading}
 use Rattle.slip.specs.declared.Start.{Start}
 use Rattle.slip.specs.declared.Table.{Table}
-use Rattle.slip.specs.declared.Table.the-variants.{LabelsFrom, Game, LossesFrom, Missing as NoTable}
+use Rattle.slip.specs.declared.Table.the-variants.{LabelsFrom, Game, LossesFrom}
+use Rattle.slip.specs.declared.TableField.{TableField}
+use Rattle.slip.specs.declared.TableField.the-variants.{Names, Missing as NoTable}
 
 -- map, N, sizes and divisions as a field: the position behind them, unless question 13 is answered no
 unfoldable pub headOf : List ℕ → Field
@@ -48,8 +50,8 @@ tableNamed slip = cond (stands slip 2) (LabelsFrom (fieldAt slip 2))
     (cond (stands slip 3) (Game (slipGame slip)) (LossesFrom (fieldAt slip 4)))
 
 -- unless question 14 is answered no
-unfoldable pub tableOf : List ℕ → Table
-tableOf slip = cond (question14 slip .answeredYes) (tableNamed slip) NoTable
+unfoldable pub tableOf : List ℕ → TableField
+tableOf slip = cond (question14 slip .answeredYes) (Names (tableNamed slip)) NoTable
 
 abbrev pub slipReading : ℕ → GridStruct → List ℕ → ℕ → Table → SlipReading
 slipReading code grid start budget table = record {
@@ -60,9 +62,9 @@ slipReading code grid start budget table = record {
   table = table;
 }
 
--- "A refusal returns its number", and nothing else
+-- "A refusal returns its number", and zeros stand beside it
 abbrev pub refusedReading : ℕ → SlipReading
-refusedReading number = slipReading number noGrid (replicate 16 0) 0 NoTable
+refusedReading number = slipReading number noGrid (replicate 16 0) 0 (LabelsFrom 0)
 
 -- what an accepted slip says
 abbrev pub accepted : List ℕ → SlipReading
@@ -78,7 +80,6 @@ unfoldable pub labelsIn : List ℕ → Table → List ℕ
 labelsIn slip (LabelsFrom begin) = drop begin slip
 labelsIn slip (Game number) = []
 labelsIn slip (LossesFrom begin) = []
-labelsIn slip NoTable = []
 
 -- question 11 of a slip with a game or losses, and how many losses there are
 unfoldable pub lossesOnSlip : List ℕ → Losses

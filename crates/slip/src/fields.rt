@@ -10,6 +10,7 @@ use crate::Budget;
 use crate::Field;
 use crate::Start;
 use crate::Table;
+use crate::TableField;
 use grid::Grid;
 use grid::wide;
 
@@ -131,27 +132,27 @@ pub fn budget(slip: &[u8], at: usize, grid: Grid) -> Budget
 }
 
 // Labels, a game or losses: the one field left, which has to be the rest of the slip.
-pub fn table(slip: &[u8], at: usize, grid: Grid) -> Table
+pub fn table(slip: &[u8], at: usize, grid: Grid) -> TableField
     requires { ⌜ Asked (now slip) grid × (at ≡ fieldAt (now slip) 2) × (at ≤ length (now slip)) ⌝ }
     ensures { λ r. ⌜ r ≡ tableOf (now (slip .entry)) ⌝ }
 {
     let left = slip.len() - at;
     if bit_stands(slip, 2) {
         if left != grid.points {
-            return Table::Missing;
+            return TableField::Missing;
         }
-        return Table::LabelsFrom(at);
+        return TableField::Names(Table::LabelsFrom(at));
     }
     if bit_stands(slip, 3) {
         if left != 1 {
-            return Table::Missing;
+            return TableField::Missing;
         }
-        return Table::Game(slip[at]);
+        return TableField::Names(Table::Game(slip[at]));
     }
     let sizes = grid.sizes;
     let blocks = grid.blocks;
     if left != 2 * (blocks * game_losses::num_profiles(&sizes[..blocks])) {
-        return Table::Missing;
+        return TableField::Missing;
     }
-    Table::LossesFrom(at)
+    TableField::Names(Table::LossesFrom(at))
 }

@@ -33,12 +33,16 @@ pub enum Budget {
     Missing,
 }
 
-// What stands at the end of a slip: labels or losses from a position on, or the number of a game; or that the remaining
-// bytes are not exactly the field.
+// What stands at the end of a slip: labels or losses from a position on, or the number of a game.
 pub enum Table {
     LabelsFrom(usize),
     Game(u8),
     LossesFrom(usize),
+}
+
+// The table that the map names, or that the remaining bytes are not exactly its field.
+pub enum TableField {
+    Names(Table),
     Missing,
 }
 
@@ -66,7 +70,7 @@ fn refused(code: u8) -> SlipReading
         grid: Grid::none(),
         start: [0u16; 16],
         budget: 0,
-        table: Table::Missing,
+        table: Table::LabelsFrom(0),
     }
 }
 
@@ -115,10 +119,9 @@ fn read_fields(slip: &[u8], at: usize, grid: Grid) -> SlipReading
     let Budget::Is { places, end } = fields::budget(slip, behind, grid) else {
         return refused(14);
     };
-    let table = fields::table(slip, end, grid);
-    if let Table::Missing = table {
+    let TableField::Names(table) = fields::table(slip, end, grid) else {
         return refused(14);
-    }
+    };
     if !is_known(slip, table) {
         return refused(15);
     }

@@ -1,9 +1,9 @@
 -- `slip::losses_of` meets its contract: the losses of the game, or those that are brought. Assumes nothing.
 use native.Mathlib.Omega.{arith}
-use mathlib.Core.Path.{ap, _∙_}
-use Rattle.slip.proofs.LossesRead.{table-named, game-losses, game-count, asked}
-use Rattle.slip_fields.proofs.Runs.{answers}
-use Rattle.slip.proofs.Tables.{has-losses}
+use mathlib.Core.Path.{ap, sym, _∙_}
+use Rattle.slip.proofs.LossesRead.{table-named, game-losses, game-count}
+use Rattle.combinatorics.proofs.Basics.{absurd-bool}
+use Rattle.slip.proofs.Tables.{are-labels}
 use Rattle.slip.specs.declared.Losses.the-variants.{Count}
 use borrow.Author.Needs.{needs}
 use Rattle.slip.proofs.losses_of.Statement.{statement}
@@ -27,11 +27,10 @@ returns c =
 
 returns-3 : tie.Need-returns-3
 returns-3 c =
-    let s = c .before .before .before in
+    let s = c .before .before .before .before in
     let a = s .args in
     let named = table-named (a .slip .now) (a .reading) (a .room .now) (s .pre) in
-    let head = answers (a .slip .now) (asked (a .slip .now) (a .reading) (a .room .now) (s .pre)) .0 in
-    absurd (has-losses (a .slip .now) head (a .reading .table) (c .match .keys3) named (s .pre .noLabels))
+    absurd-bool (sym (are-labels (a .slip .now) _ (sym named ∙ c .enum-told .given .1)) ∙ s .pre .noLabels)
 
 pub losses-of-spec : {M : Type 1} → statement M
 losses-of-spec =
@@ -41,6 +40,7 @@ losses-of-spec =
     put-losses-requires
     (λ c. search needs)
     brought-requires
+    (λ c. search needs)
     (λ c. search needs)
     returns
     (λ c. search needs)

@@ -6,11 +6,10 @@ use borrow.Author.Tests.{not-true, not-false}
 use lib.ListN.{length}
 use Rattle.slip_fields.proofs.Laws.{at-first}
 use Rattle.slip.proofs.Readings.{refused-14, refused-15, all-yes, start-there, start-missing, budget-there}
-use Rattle.slip.proofs.Readings.{budget-missing, table-is, table-there, table-missing}
-use Rattle.slip.proofs.Tables.{not-missing}
+use Rattle.slip.proofs.Readings.{budget-missing, parts-say, table-there, table-missing}
 use Rattle.combinatorics.specs.Front.{padded}
 use Rattle.slip_fields.specs.Slip.{fieldAt, slipStart, slipBudget, question14}
-use Rattle.slip.specs.Reading.{startOf}
+use Rattle.slip.specs.Reading.{startOf, tableNamed}
 use borrow.Author.Needs.{needs}
 use Rattle.slip.proofs.read_fields.Statement.{statement}
 use Rattle.slip.proofs.read_fields.Tie as tie
@@ -82,20 +81,21 @@ returns-3 c =
 
 -- the remaining bytes are exactly the fields named
 abbrev Exact : Type 0
-Exact = tie.At-match3-keys2
+Exact = tie.After-known-told3
 
 abbrev budgeted : Exact → Budgeted
-budgeted c = c .before .before
+budgeted c = c .before .before .before .before
 
-exact : (c : Exact) → question14 (begun (started (budgeted c)) .args .slip .now) .answeredYes ≡ true
+exact : (c : Exact) → (let slip = begun (started (budgeted c)) .args .slip .now in
+    (question14 slip .answeredYes ≡ true) × (c .before .table2 .given .0 .0 ≡ tableNamed slip))
 exact c =
-    table-there (begun (started (budgeted c)) .args .slip .now)
-    (λ e. not-missing (c .before .table .result) (c .match3 .keys2) (c .before .table .ensures ∙ e))
+    table-there (begun (started (budgeted c)) .args .slip .now) (c .before .table2 .given .0 .0)
+    (sym (c .before .before .before .table .ensures) ∙ c .before .table2 .given .1)
 
 is-known-requires : tie.Need-is-known-requires
 is-known-requires c κs =
     let s = begun (started (budgeted c)) in
-    (s .pre .0 .head, c .before .table .ensures ∙ table-is (s .args .slip .now) (exact c))
+    (s .pre .0 .head, exact c .1)
 
 returns-4 : tie.Need-returns-4
 returns-4 c =
@@ -103,23 +103,22 @@ returns-4 c =
     let s = begun (started (budgeted d)) in
     let unknown = sym (c .before .before .is-known .ensures) ∙ not-true _ (c .before .if1 .taken) in
     c .refused4 .ensures
-    ∙ refused-15 (s .args .slip .now) (s .pre .0 .head) (s .pre .0 .accepts) (exact d) unknown
+    ∙ refused-15 (s .args .slip .now) (s .pre .0 .head) (s .pre .0 .accepts) (exact d .0) unknown
 
 returns-5 : tie.Need-returns-5
 returns-5 c =
-    let s = c .before .before .before .before .before .before .before
-    .before .before .before .before .before .before .before in
+    let d = c .before .before .before in
+    let b = budgeted d in
+    let t = started b in
+    let s = begun t in
     let slip = s .args .slip .now in
     let w = s .pre .0 in
-    let d = c .before .before .before in
-    let b = d .before .before in
-    let t = b .before .before .before .before in
     let known = sym (c .before .before .is-known .ensures) ∙ not-false _ (c .before .if1 .left) in
     let start : t .before .before .before .start .result .start ≡ padded 16 (slipStart slip) =
     ap (λ x. x .start) (t .before .before .before .start .ensures) ∙ start-ends t .2 in
     let budget : b .before .places .given .0 .0 ≡ slipBudget slip = budget-ends b .0 in
-    rw (w .isGrid, start, budget, d .before .table .ensures, table-is slip (exact d))
-    (all-yes slip (w .head) (w .accepts) (exact d) known)
+    parts-say slip _ _ _ _ (w .isGrid) start budget (exact d .1)
+    ∙ all-yes slip (w .head) (w .accepts) (exact d .0) known
 
 pub read-fields-spec : {M : Type 1} → statement M
 read-fields-spec =
@@ -136,6 +135,7 @@ read-fields-spec =
     (λ c κs. search needs)
     returns-2
     table-requires
+    (λ c. search needs)
     (λ c. search needs)
     (λ c κs. search needs)
     returns-3
