@@ -4,9 +4,8 @@ ghost use Rattle.questions.specs.Questions.{firstNo};
 ghost use Rattle.grid_points.specs.Questions.{gridQuestions};
 ghost use Rattle.grid_points.specs.Grid.{lent};
 use crate::Grid;
-use grid_counts::MAX_POINTS;
+use grid_counts::each_at_least;
 use grid_counts::each_one;
-use grid_counts::each_two;
 use grid_counts::first_index;
 
 pub fn first_grid_no(sizes: &[u8], divisions: &[u16]) -> u8
@@ -19,7 +18,7 @@ pub fn first_grid_no(sizes: &[u8], divisions: &[u16]) -> u8
     if Grid::MAX_BLOCKS < blocks {
         return 1;
     }
-    if !each_two(sizes) {
+    if !each_at_least(sizes, Grid::MIN_SIZE) {
         return 2;
     }
     if Grid::MAX_INDICES < first_index(sizes, blocks) {
@@ -31,7 +30,7 @@ pub fn first_grid_no(sizes: &[u8], divisions: &[u16]) -> u8
     if !each_one(divisions) {
         return 3;
     }
-    if MAX_POINTS < grid_counts::points(sizes, divisions) {
+    if Grid::MAX_POINTS < grid_counts::points(sizes, divisions) {
         return 4;
     }
     0

@@ -40,7 +40,11 @@ pub struct Made {
 impl Grid {
     pub const MAX_BLOCKS: usize = 6;
 
+    pub const MIN_SIZE: u8 = 2;
+
     pub const MAX_INDICES: usize = 16;
+
+    pub const MAX_POINTS: usize = grid_counts::MAX_POINTS;
 
     // What stands beside a refusal.
     pub fn none() -> Grid

@@ -14,11 +14,11 @@ pub use counts::block_count;
 pub use counts::points;
 pub use round::index_after;
 pub use round::index_before;
+pub use sizes::each_at_least;
 pub use sizes::each_one;
-pub use sizes::each_two;
 pub use sizes::first_index;
 
-// "Is P at most 60,000?"
+// "Is P at most 60,000?": counts above it are cut off. The grid has it as its limit.
 pub const MAX_POINTS: usize = 60000;
 
 // A byte is a number, with nothing to show at the cast.

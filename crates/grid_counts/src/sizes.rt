@@ -6,14 +6,14 @@ ghost use lib.ListN.{length, take};
 ghost use Rattle.combinatorics.specs.Lists.{all, sum};
 use crate::wide;
 
-// Is each size at least 2?
-pub fn each_two(sizes: &[u8]) -> bool
-    ensures { λ r. ⌜ r ≡ all (λ s. leb 2 s) (now (sizes .entry)) ⌝ }
+// Is each size at least the least that is allowed?
+pub fn each_at_least(sizes: &[u8], least: u8) -> bool
+    ensures { λ r. ⌜ r ≡ all (λ s. leb least s) (now (sizes .entry)) ⌝ }
 {
     let mut good = true;
     let mut j: usize = 0;
     while j < sizes.len() {
-        if sizes[j] < 2 {
+        if sizes[j] < least {
             good = false;
         }
         j += 1;

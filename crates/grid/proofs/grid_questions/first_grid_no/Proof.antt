@@ -38,7 +38,7 @@ yes1 c =
 
 -- the sizes are two or more each, and their sum
 twos : (c : tie.Else3) → all (λ s. leb 2 s) (begun (c .before .before) .args .sizes .now) ≡ true
-twos c = sym (c .before .each-two .ensures) ∙ not-false _ (c .if3 .left)
+twos c = sym (c .before .each-at-least .ensures) ∙ not-false _ (c .if3 .left)
 
 total : (c : tie.After-first-index)
     → c .first-index .result ≡ sum (begun (c .before .before .before) .args .sizes .now)
@@ -89,7 +89,7 @@ returns-2 c =
 
 returns-3 : tie.Need-returns-3
 unfolding firstNo grid
-returns-3 c = rw (yes1 (c .before .before), sym (c .before .each-two .ensures) ∙ not-true _ (c .if3 .taken))
+returns-3 c = rw (yes1 (c .before .before), sym (c .before .each-at-least .ensures) ∙ not-true _ (c .if3 .taken))
 
 returns-4 : tie.Need-returns-4
 unfolding firstNo grid
