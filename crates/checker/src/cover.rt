@@ -10,6 +10,7 @@ ghost use Rattle.rules.specs.Mask.{bit};
 ghost use Rattle.place.specs.Problem.{label};
 ghost use Rattle.check_simplices.specs.Simplices.{labelledBy};
 ghost use Rattle.check_chains.specs.Listed.{listed, Listed};
+ghost use Rattle.label_table.specs.Labels.{byteOf, labelOf};
 ghost use Rattle.positions.specs.Binomials.{HasBinomials};
 ghost use Rattle.checker.specs.Check.{checkCase};
 ghost use Rattle.checker.specs.Covered.{IsCovered, firstWhole, Labelled, withLabel};
@@ -20,27 +21,28 @@ use arrays::padded;
 use arrays::zeros;
 use grid::Grid;
 use grid::wide;
+use label_table::Label;
 use label_table::read_at;
 use positions::ENTRIES;
 
-// The set with the index that a label names; 0 names none.
-fn with_label(set: u16, label: u8) -> u16
-    requires { ⌜ label ≤ 16 ⌝ }
-    ensures { λ r. ⌜ r ≡ withLabel set label ⌝ }
+// The set with the index that a label names, or as it is where there is no label.
+fn with_label(set: u16, label: Label) -> u16
+    requires { ⌜ (label ≡ labelOf (byteOf label)) × (byteOf label ≤ 16) ⌝ }
+    ensures { λ r. ⌜ r ≡ withLabel set (byteOf label) ⌝ }
 {
-    if label == 0 {
-        set
-    } else {
-        add(set, wide(label) - 1)
+    match label {
+        Label::Is(byte) => add(set, wide(byte) - 1),
+        Label::Unknown => set,
     }
 }
 
 // The label of a grid point, which stands at the front; its position is the one to which no steps lead.
-fn label_at(g: Grid, binomials: &[u16; ENTRIES], labels: &[u8], y: &[u16; 16]) -> u8
+fn label_at(g: Grid, binomials: &[u16; ENTRIES], labels: &[u8], y: &[u16; 16]) -> Label
     requires { ⌜ IsMade g × HasBinomials (shape g) (now binomials) ⌝ }
     requires { ⌜ Labelled g (now labels) × (isGridPoint (shape g) (take (g .indices) (now y)) ≡ true) ⌝ }
-    ensures { λ r. ⌜ (r ≡ label (labelledBy (shape g) (now (labels .entry))) (take (g .indices) (now (y .entry))))
-        × (r ≤ 16) ⌝ }
+    ensures { λ r. ⌜ (r ≡ labelOf (byteOf r)) × (byteOf r ≤ 16) ⌝ }
+    ensures { λ r. ⌜ byteOf r ≡ label (labelledBy (shape g) (now (labels .entry)))
+        (take (g .indices) (now (y .entry))) ⌝ }
 {
     let steps = [16u16; 16];
     let position = positions::position(g, binomials, y, &steps);

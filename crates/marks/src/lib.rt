@@ -18,6 +18,7 @@ use arrays::first_outside;
 use arrays::index_at;
 use arrays::position_at;
 use grid::Grid;
+use label_table::Label;
 use label_table::read_at;
 use moves::Status;
 use moves::advance;
@@ -250,9 +251,8 @@ pub fn mark_in(
         marks,
         s,
     );
-    let label = u32_of(read_at(table, at));
-    if label == 0 {
+    let Label::Is(byte) = read_at(table, at) else {
         return LookedUp::Unknown(at);
-    }
-    LookedUp::Marked(at as u32 * 256 + label)
+    };
+    LookedUp::Marked(at as u32 * 256 + u32_of(byte))
 }

@@ -12,7 +12,7 @@ use arrays::label_in;
 use arrays::position_at;
 use arrays::wide32;
 use grid::wide;
-use label_table::read_at;
+use label_table::byte_at;
 
 // The labels of a place's points, with 0 behind, and whether one of the points was not in the place before.
 pub struct Carried {
@@ -69,7 +69,7 @@ fn label_of(carried: &[u8; 16], n: usize, i: usize, table: &[u8], position: usiz
     if i <= n {
         return carried[i];
     }
-    read_at(table, position)
+    byte_at(table, position)
 }
 
 // The labels of the k + 1 points of the next place. A point that stays keeps the label that is carried for it, and only

@@ -9,7 +9,7 @@ use arrays::position_at;
 use arrays::wide32;
 use grid::Grid;
 use grid::wide16;
-use label_table::read_at;
+use label_table::byte_at;
 use positions::ENTRIES;
 
 // The mark of the point with these counts of steps: its position, above the lowest 8 bits, where its label has room.
@@ -63,7 +63,7 @@ pub fn read_labels(table: &[u8], n: usize, marks: &mut [u32; 16])
     let mut k: usize = 0;
     while k <= n {
         let at = position_at(marks, n, k);
-        let label = read_at(table, at) as u32;
+        let label = byte_at(table, at) as u32;
         marks[k] = marks[k] + label;
         k += 1;
     }

@@ -11,7 +11,7 @@ ghost use Rattle.walk_calls.specs.Asked.{laterWalkQuestions};
 ghost use Rattle.walk_views.specs.Begun.{begunOf, begunOn, noWalk, startWalk, CanLabelStart};
 use crate::Begun;
 use grid::Grid;
-use label_table::read_at;
+use label_table::byte_at;
 use positions::ENTRIES;
 use walk_calls::first_table_no;
 use walk_places::Place;
@@ -60,7 +60,7 @@ fn label_of(g: Grid, y: &[u16; 16], labels: &[u8]) -> u8
     let mut binomials = [0u16; ENTRIES];
     positions::binomials(g, &mut binomials);
     let steps = [16u16; 16];
-    read_at(labels, positions::position(g, &binomials, y, &steps))
+    byte_at(labels, positions::position(g, &binomials, y, &steps))
 }
 
 // The walk at {v}, behind questions 1 to 7.

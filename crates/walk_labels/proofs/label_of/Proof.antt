@@ -11,7 +11,7 @@ returns c = let a = c .before .before .before .args in rw (le-leb (a .i) (a .n) 
 returns-2 : tie.Need-returns-2
 returns-2 c =
     let a = c .before .before .before .args in
-    rw (lt-leb (a .i) (a .n) (omega (arith, c .before .if1 .left))) (c .read-at .ensures)
+    rw (lt-leb (a .i) (a .n) (omega (arith, c .before .if1 .left))) (c .byte-at .ensures)
 
 pub label-of-spec : {M : Type 1} → statement M
 label-of-spec =

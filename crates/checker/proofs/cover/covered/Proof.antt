@@ -83,7 +83,7 @@ label-at-requires c κs =
     ((made, b .pre .2), (b .pre .1, rw (copied-point (b .args .g) made z on _ is) on))
 
 with-label-requires : tie.Need-with-label-requires Inv-loop μ-loop
-with-label-requires c κs = c .label-at .ensures .1
+with-label-requires c κs = c .label-at .ensures .0
 
 zeros-requires : tie.Need-zeros-requires Inv-loop μ-loop
 zeros-requires c κs =
@@ -109,7 +109,7 @@ loop-again c =
     at (c .before .before .before .before .before .padded .ensures)) in
     let next : k + 1 ≡ l .k = omega arith in
     let labelled = c .before .before .before .label-at .ensures in
-    let name = rw (copied-point s made z on _ is) at (labelled .0) in
+    let name = rw (copied-point s made z on _ is) at (labelled .1) in
     let zeros = zeros-at (s .indices) z _ (c .zeros .result) (indices-few s made)
     (point-long (shape s) z on ∙ sym (made-indices s made)) is (c .zeros .ensures) in (
       omega arith,
@@ -118,7 +118,7 @@ loop-again c =
         next,
         c .before .before .with-label .ensures,
       )
-          (more-covered few z (c .zeros .result) (l .inv .1) name (labelled .1)
+          (more-covered few z (c .zeros .result) (l .inv .1) name (labelled .0 .1)
           (λ h x. zeros h (omega (arith, made-indices s made)))),
     )
 

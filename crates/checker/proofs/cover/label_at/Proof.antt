@@ -6,6 +6,7 @@ use lib.Dec.{leb}
 use lib.ListN.{getD, take}
 use native.Mathlib.Omega.{arith}
 use Rattle.combinatorics.proofs.Lists.{at-all}
+use Rattle.label_table.proofs.Labels.{byte-read}
 use Rattle.grid.proofs.Fields.{made-accepted}
 use Rattle.grid_points.specs.Grid.{numIndices, position}
 use Rattle.grid.specs.Made.{shape}
@@ -48,7 +49,7 @@ returns c =
     let most = leb-true (getD labels (position (shape s) (take (s .indices) y)) 0) (numIndices (shape s))
     (at-all (λ l. leb l (numIndices (shape s))) labels (position (shape s) (take (s .indices) y)) (b .pre .1 .0 .within)
     low) in
-    rw (c .read-at .ensures, is) (refl, omega (arith, most, made-accepted s made .fewIndices))
+    rw (c .read-at .ensures, byte-read, is) ((refl, omega (arith, most, made-accepted s made .fewIndices)), refl)
 
 pub label-at-spec : {M : Type 1} → statement M
 label-at-spec = tie.close (tie.spec position-requires read-at-requires returns)

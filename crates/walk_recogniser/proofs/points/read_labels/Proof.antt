@@ -21,14 +21,14 @@ loop-holds c = let s = c .before in let a = s .args in
 position-at-requires : tie.Need-position-at-requires Inv-loop μ-loop
 position-at-requires c κs = (omega arith, c .before .before .before .before .pre .few)
 
-read-at-requires : tie.Need-read-at-requires Inv-loop μ-loop
-read-at-requires c κs = let s = c .before .before .before .before .before in let a = s .args in
+byte-at-requires : tie.Need-byte-at-requires Inv-loop μ-loop
+byte-at-requires c κs = let s = c .before .before .before .before .before in let a = s .args in
     let l = c .before .before .before .loop in
     here-within (a .table .now) (a .marks .now) (a .n) (s .pre) (l .marks) (l .k) (l .inv .2) (omega arith)
     (c .position-at .result) (c .position-at .ensures .0)
 
 cast-label : tie.Need-cast-label Inv-loop μ-loop
-cast-label c = omega (arith, c .read-at .ok)
+cast-label c = omega (arith, c .byte-at .ok)
 
 mul-marks : tie.Need-mul-marks Inv-loop μ-loop
 mul-marks c = omega arith
@@ -42,7 +42,7 @@ add-marks c = let s = c .before .before .before .before .before .before .before 
     omega (
       arith,
       here-room (a .table .now) (a .marks .now) (a .n) (s .pre) (l .marks) (l .k) (l .inv .2) (omega arith),
-      c .before .read-at .ok,
+      c .before .byte-at .ok,
     )
 
 mul-marks-2 : tie.Need-mul-marks-2 Inv-loop μ-loop
@@ -64,7 +64,7 @@ loop-again c = let s = c .before .before .before .before .before .before .before
       l .inv .1,
       put-more (a .table .now) (a .marks .now) (a .n) (s .pre) (l .marks) (l .k) (l .inv .2) (omega arith) _
           (ap (λ (label : ℕ). getD (l .marks) (l .k) 0 + label)
-          (c .before .read-at .ensures ∙ ap (λ (i : ℕ). getD (a .table .now) i 0)
+          (c .before .byte-at .ensures ∙ ap (λ (i : ℕ). getD (a .table .now) i 0)
           (here-is (a .table .now) (a .marks .now) (a .n) (s .pre) (l .marks) (l .k) (l .inv .2) (omega arith)
           (c .before .before .position-at .result) (c .before .before .position-at .ensures .0)))),
     )
@@ -81,7 +81,7 @@ read-labels-spec =
     μ-loop
     loop-holds
     position-at-requires
-    read-at-requires
+    byte-at-requires
     cast-label
     mul-marks
     element-copy-out-marks

@@ -26,8 +26,8 @@ position-requires c κs =
       ),
     )
 
-read-at-requires : tie.Need-read-at-requires
-read-at-requires c κs =
+byte-at-requires : tie.Need-byte-at-requires
+byte-at-requires c κs =
     let s = c .before .before .before .before .before .before in
     let a = s .args in
     let at =
@@ -45,10 +45,10 @@ unfolding label
 returns c =
     let s = c .before .before .before .before .before .before .before in
     let a = s .args in
-    c .read-at .ensures
+    c .byte-at .ensures
     ∙ ap (λ (i : ℕ). getD (a .labels .now) i 0)
     (c .before .position .ensures
     ∙ ap (position (shape (a .g))) (with-none (a .g) (s .pre .made) (a .y .now) (s .pre .long)))
 
 pub label-of-spec : {M : Type 1} → statement M
-label-of-spec = tie.close (tie.spec binomials-requires position-requires read-at-requires returns)
+label-of-spec = tie.close (tie.spec binomials-requires position-requires byte-at-requires returns)
