@@ -10,7 +10,7 @@ use Rattle.combinatorics.specs.Lists.{upFrom}
 use Rattle.grid_points.proofs.Accepted.{Accepted, accepted}
 use Rattle.grid_points.specs.Grid.{Grid, Point, numIndices, size, firstIndex, lent}
 use Rattle.game_corners.proofs.CornerLosses.{last-ends, own-part, corner-point, difference-column}
-use Rattle.game_corners.proofs.FirstLargest.{largest-agree}
+use Rattle.game_losses.proofs.FirstLargest.{largest-agree}
 use Rattle.points_in_order.proofs.Blocks.{point-length, block-length}
 use Rattle.game_corners.specs.Corners.{column, RowsToAdd, lastPlayer, corner, cornerGrid, Cornered}
 use Rattle.game_losses.specs.Game.{mix, difference, firstLargest, gameLabel}

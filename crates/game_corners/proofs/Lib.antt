@@ -1,7 +1,6 @@
 pub mod Blends
 pub mod CornerLabels
 pub mod CornerLosses
-pub mod FirstLargest
 pub mod Integers
 pub mod Rows
 pub mod Picked

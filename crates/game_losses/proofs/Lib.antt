@@ -4,3 +4,4 @@ pub mod Losses
 pub mod Replaced
 pub mod Table
 pub mod Player
+pub mod FirstLargest

@@ -3,7 +3,7 @@ use mathlib.Core.Path.{ap, _∙_}
 use Prim.Native.Nat.{suc}
 use native.Mathlib.Numerals.{add-one}
 use Rattle.game_corners.specs.Corners.{signedAt, column}
-use Rattle.game_corners.proofs.FirstLargest.{largest-agree}
+use Rattle.game_losses.proofs.FirstLargest.{largest-agree}
 use borrow.Author.Needs.{needs}
 use Rattle.game_corners.proofs.labels.label_point.Statement.{statement}
 use Rattle.game_corners.proofs.labels.label_point.Tie as tie

@@ -6,7 +6,7 @@ use native.Mathlib.Omega.{arith}
 use mir.Val.{toZ, ofZ}
 use mir.Syntax.{w64}
 use mir.Facts.{toZ-ofZ}
-use Rattle.game_corners.proofs.FirstLargest.{Leads, leads-start, leads-taken, leads-kept, leads-end}
+use Rattle.game_losses.proofs.FirstLargest.{Leads, leads-start, leads-taken, leads-kept, leads-end}
 use Rattle.game_corners.specs.Corners.{signedAt}
 use Rattle.game_corners.proofs.largest.first_largest.Statement.{statement}
 use Rattle.game_corners.proofs.largest.first_largest.Tie as tie
