@@ -1,10 +1,11 @@
 -- The answer to a sheet. In order: the test by coefficient lists gives it; every part of a place passes the test; the
--- answer does not depend on the order of the points; each end of a run gets yes, with its block. Assumes nothing.
+-- answer does not depend on the order of the points; each end of a run gets yes, with its block; what yes tells.
+-- Assumes nothing.
 use mathlib.Core.Bool.{Bool, true, false, _&&_, cond}
 use mathlib.Core.List.{List, [], _∷_}
 use mathlib.Core.Logic.{inl, inr, ⊎-elim}
-use mathlib.Core.Option.{none, some}
-use mathlib.Core.Path.{_≡_, sym, ap, _∙_}
+use mathlib.Core.Option.{Option, none, some}
+use mathlib.Core.Path.{_≡_, refl, sym, ap, _∙_}
 use Prim.Native.Nat.{ℕ, zero, suc, pred, _≤_, _<_}
 use borrow.Author.Tests.{ltb-true}
 use lib.Dec.{eqb, ltb}
@@ -18,11 +19,12 @@ use Rattle.combinatorics.proofs.Ranges.{in-upFrom, upFrom-in}
 use Rattle.combinatorics.proofs.EditsRemove.{length-removeAt}
 use Rattle.combinatorics.specs.Edits.{removeAt}
 use Rattle.combinatorics.specs.Lists.{filter, all, isIn, distinct}
+use Rattle.end_kinds.specs.declared.Kind.{Kind}
 use Rattle.grid_points.proofs.Accepted.{Accepted}
 use Rattle.grid_points.proofs.Points.{onPoints}
 use Rattle.grid_points.specs.Grid.{Grid, Point, numBlocks, dimension, blocks, isGridPoint, samePoint, bound}
 use Rattle.place.specs.Ends.{End, stop, isComplete, completeFor}
-use Rattle.place.specs.Path.{path, pathLength}
+use Rattle.place.specs.Path.{answer, ended, outcome, path, pathLength, spent}
 use Rattle.place.specs.Places.{Simplex, isPlace, isUnlabelledPlace, setU, labelSet}
 use Rattle.place.specs.Problem.{Problem, label}
 use Rattle.path_laws.proofs.Facets.{oneLess-at}
@@ -184,3 +186,52 @@ module _ {p : Problem} (ok : HasStart p) where
   -- "Each end we print gets yes", with its block, whatever labels other points have, or none
   pub end-answer : (e : End) → path p .end ≡ some e → verdict p.grid p.labels e.simplex ≡ some e.block
   end-answer e q = let w = last-place e q in stop-answer w.0 e w.1 w.2
+
+-- what a run announces is the path's end
+pub record PathEnd (p : Problem) (block vertices : ℕ) (simplex : Simplex) : Type 0 where
+  pub end : End
+  pub ends : path p .end ≡ some end
+  pub named : block ≡ suc (end .block)
+  pub many : vertices ≡ length (end .simplex)
+  pub points : simplex ≡ end .simplex
+
+pub announced-end : (p : Problem) (budget places read : ℕ) (kind : Kind) (block vertices : ℕ) (simplex : Simplex)
+    → answer p budget ≡ ended places read kind block vertices simplex → PathEnd p block vertices simplex
+unfolding answer
+announced-end p budget places read kind block vertices simplex h =
+    go (ltb budget (pathLength p)) (path p .end) refl h
+  where
+    go : (b : Bool) (o : Option End) → path p .end ≡ o
+        → cond b (spent budget) (outcome p (path p .visited) o) ≡ ended places read kind block vertices simplex
+        → PathEnd p block vertices simplex
+    go true o q h = absurd-bool (cc)
+    go false none q h = absurd-bool (cc)
+    go false (some e) q h = record { end = e; ends = q; named = cc; many = cc; points = cc }
+
+-- what yes tells of the points
+first-in : (l : List ℕ) (j : ℕ) → firstOf l ≡ some j → isIn eqb j l ≡ true
+first-in [] j e = absurd-bool (cc)
+first-in (x ∷ l) j e = let q : x ≡ j = cc in rw q (in-here onNumbers j l)
+
+pub record Told (g : Grid) (labels : List ℕ) (zs : List Point) (j : ℕ) : Type 0 where
+  pub one : inOneSimplex g zs ≡ true
+  pub block : j < numBlocks g
+  pub complete : isComplete (labelledBy g labels) zs j ≡ true
+
+pub verdict-tells : (g : Grid) (labels : List ℕ) (zs : List Point) (j : ℕ) → verdict g labels zs ≡ some j
+    → Told g labels zs j
+unfolding verdict completeFor
+verdict-tells g labels zs j h = go (distinct samePoint zs && inOneSimplex g zs) refl h
+  where
+    go : (b : Bool) → (distinct samePoint zs && inOneSimplex g zs) ≡ b
+        → cond b (firstOf (filter (isComplete (labelledBy g labels) zs) (blocks g))) none ≡ some j
+        → Told g labels zs j
+    go true e h =
+        let i = filter-in onNumbers (isComplete (labelledBy g labels) zs) j (blocks g)
+        (first-in (filter (isComplete (labelledBy g labels) zs) (blocks g)) j h) in
+        record {
+          one = and-right (distinct samePoint zs) _ e;
+          block = omega (arith, upFrom-in 0 (numBlocks g) j i.0 .1);
+          complete = i .1;
+        }
+    go false e h = absurd-bool (cc)

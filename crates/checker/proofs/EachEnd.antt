@@ -1,19 +1,18 @@
 -- Each end that a run announces gets yes with its block, also over a table with gaps. In order: points one after
--- another; an end's questions; what a run announces. Assumes nothing.
-use mathlib.Core.Bool.{Bool, true, false, cond}
+-- another; an end's questions; the end. Assumes nothing.
+use mathlib.Core.Bool.{true}
 use mathlib.Core.List.{List, [], _∷_, _++_, map}
-use mathlib.Core.Option.{Option, none, some}
+use mathlib.Core.Option.{some}
 use mathlib.Core.Path.{_≡_, refl, sym, ap, _∙_}
 use Prim.Native.Nat.{ℕ, zero, suc, _+_, _-_, _*_, _≤_, _<_}
 use borrow.Author.Tests.{eqb-true}
-use lib.Dec.{eqb, ltb}
+use lib.Dec.{eqb}
 use lib.ListN.{length, take, drop, length-append}
 use lib.Seq.{drop-append-add, take-append-le, take-length}
 use native.Mathlib.Nat.{mul-div-cancel, mul-le-mul-right, suc-mul, zero-mul}
 use native.Mathlib.Omega.{arith}
-use Rattle.combinatorics.proofs.Basics.{absurd-bool, and-left, and-right}
+use Rattle.combinatorics.proofs.Basics.{and-left, and-right}
 use Rattle.combinatorics.specs.Lists.{all, concatMap, upFrom}
-use Rattle.end_kinds.specs.declared.Kind.{Kind}
 use Rattle.questions.proofs.Answers.{both-yes, first-yes}
 use Rattle.questions.specs.Questions.{firstNo}
 use Rattle.grid_points.proofs.Accepted.{Accepted, accepted, blocks-few}
@@ -21,12 +20,11 @@ use Rattle.grid_points.specs.Grid.{Grid, Point, dimension, isGridPoint, numIndi
 use Rattle.grid_points.specs.Questions.{gridQuestions, question5}
 use Rattle.grid_points.proofs.Points.{points-long}
 use Rattle.place.specs.Ends.{End}
-use Rattle.place.specs.LabelsRead.{labelsRead}
-use Rattle.place.specs.Path.{answer, outcome, announcement, ended, path, pathLength, spent}
+use Rattle.place.specs.Path.{path}
 use Rattle.place.specs.Places.{Simplex}
 use Rattle.place.specs.Problem.{Problem}
 use Rattle.place.specs.Questions.{question6, question7, tableQuestions}
-use Rattle.check_simplices.proofs.Answers.{last-place, stop-answer, stop-points}
+use Rattle.check_simplices.proofs.Answers.{announced-end, last-place, stop-answer, stop-points}
 use Rattle.check_simplices.proofs.Tests.{has-start-with}
 use Rattle.check_chains.specs.Listed.{listed, listedAt}
 use Rattle.checker.proofs.Answers.{judged-is}
@@ -90,41 +88,14 @@ module _ {g : Grid} (A : Accepted g) (ys : List Point) (some-point : 1 ≤ lengt
       sym (list-points g (concatMap (λ y. y) ys) (omega (arith, some-index)) (rw as-many (sym long)) (rw as-many few))
       ∙ rw same-points on
 
--- what a run announces is the path's end
-announced-end : (p : Problem) (budget places read : ℕ) (kind : Kind) (block vertices : ℕ) (simplex : Simplex)
-    → answer p budget ≡ ended places read kind block vertices simplex
-    → (e : End) × (path p .end ≡ some e) × (block ≡ suc (e .block)) × (simplex ≡ e .simplex)
-unfolding answer
-announced-end p budget places read kind block vertices simplex h = go (path p .end) refl h
-  where
-    go : (o : Option End) → path p .end ≡ o
-        → cond (ltb budget (pathLength p)) (spent budget) (outcome p (path p .visited) o)
-        ≡ ended places read kind block vertices simplex
-        → (e : End) × (path p .end ≡ some e) × (block ≡ suc (e .block)) × (simplex ≡ e .simplex)
-    go none q h = unended (ltb budget (pathLength p)) h
-      where
-        unended : (b : Bool)
-            → cond b (spent budget) (outcome p (path p .visited) none) ≡ ended places read kind block vertices simplex
-            → (e : End) × (path p .end ≡ some e) × (block ≡ suc (e .block)) × (simplex ≡ e .simplex)
-        unended true h = absurd-bool (cc)
-        unended false h = absurd-bool (cc)
-    go (some e) q h = within (ltb budget (pathLength p)) h
-      where
-        within : (b : Bool)
-            → cond b (spent budget) (announcement (pathLength p) (labelsRead (path p .visited)) e)
-            ≡ ended places read kind block vertices simplex
-            → (e : End) × (path p .end ≡ some e) × (block ≡ suc (e .block)) × (simplex ≡ e .simplex)
-        within true h = absurd-bool (cc)
-        within false h = (e, q, (cc), (cc))
-
 -- "Each end we print gets yes"
 pub each-end : (p : Problem) → firstNo (tableQuestions p) ≡ 0 → EachEndGetsYes p
 each-end p questions = record {
   yes = λ budget places read kind block vertices simplex h.
       let e = announced-end p budget places read kind block vertices simplex h in
-      ap (λ (s : Simplex). checkAnswer p.grid p.labels (concatMap (λ y. y) s)) e.3
-      ∙ end-yes e.0 e.1
-      ∙ ap (λ (n : ℕ). Yes n) (sym e.2);
+      ap (λ (s : Simplex). checkAnswer p.grid p.labels (concatMap (λ y. y) s)) (e .points)
+      ∙ end-yes (e .end) (e .ends)
+      ∙ ap (λ (n : ℕ). Yes n) (sym (e .named));
 }
   where
     asked : (firstNo (gridQuestions p.grid) ≡ 0)
