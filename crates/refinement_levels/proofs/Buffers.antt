@@ -7,7 +7,7 @@ use borrow.Author.Tests.{le-ltb, lt-ltb}
 use lib.ListN.{length, getD, take, drop, length-append, length-drop, length-map, List·getD-append}
 use lib.ListN.{List·getD-eq-default}
 use lib.Seq.{ext-getD, getD-append-add, getD-drop, getD-take, length-take-le}
-use native.Mathlib.Nat.{div-add-mod', div-eq-of-lt-le, div-lt-iff-lt-mul}
+use native.Mathlib.Nat.{div-add-mod', div-eq-of-lt-le, div-lt-iff-lt-mul, mul-le-mul-right}
 use native.Mathlib.Omega.{arith}
 use Rattle.combinatorics.proofs.Basics.{before-or-not}
 use Rattle.combinatorics.proofs.Fronts.{front-at, front-behind, front-length}
@@ -18,6 +18,11 @@ use Rattle.combinatorics.specs.Lists.{upFrom}
 use Rattle.refinement_levels.specs.Buffers.{levelNumbers, numberAt, numbersAfter}
 use Rattle.refinement_levels.specs.Levels.{Refinement}
 use Rattle.refinement_levels.specs.Questions.{levelRoom}
+
+inside : (l : List ℕ) (t a b : ℕ) → t < length l → getD l t a ≡ getD l t b
+inside [] t a b h = absurd (omega arith)
+inside (x ∷ l) zero a b h = refl
+inside (x ∷ l) (suc t) a b h = inside l t a b (omega arith)
 
 -- `levels` rooms of some numbers each, where level i is at i times the room
 module _ (room : ℕ) (some : 0 < room) where
@@ -119,11 +124,6 @@ module _ (r : Refinement) (some : 0 < levelRoom (r .grid)) (old : List ℕ) wher
         (λ (l : room ≤ t). front-behind (levelNumbers r i) tail t (omega (arith, few)) ∙ o ∙ sym
         (number-untouched (i + 1) q (omega arith)))
         (before-or-not t room)
-      where
-        inside : (l : List ℕ) (t a b : ℕ) → t < length l → getD l t a ≡ getD l t b
-        inside [] t a b h = absurd (omega arith)
-        inside (x ∷ l) zero a b h = refl
-        inside (x ∷ l) (suc t) a b h = inside l t a b (omega arith)
 
     pub after-next : written ≡ numbersAfter r (i + 1) old
     after-next = ext-getD 0 written (numbersAfter r (i + 1) old) (written-length ∙ sym (after-length (i + 1))) (λ q h.
@@ -134,3 +134,23 @@ module _ (r : Refinement) (some : 0 < levelRoom (r .grid)) (old : List ℕ) wher
         (written-at (q - i * room) (rw z w)))
         (before-or-not q (i * room))
         ∙ sym (after-at (i + 1) q w))
+
+  -- the numbers of a level, read where they were written
+  pub level-read : (levels i : ℕ) → i < levels → levels * room ≤ length old → length (levelNumbers r i) ≤ room
+      → take (length (levelNumbers r i)) (drop (i * room) (numbersAfter r levels old)) ≡ levelNumbers r i
+  level-read levels i h fits few =
+      let n = length (levelNumbers r i) in
+      let tail = drop (i * room) (numbersAfter r levels old) in
+      let end : (i + 1) * room ≤ levels * room = mul-le-mul-right room (omega arith) in
+      let next : (i + 1) * room ≡ i * room + room = omega arith in
+      let long : length (take n tail) ≡ n = length-take-le n tail
+      (omega (arith, length-drop (i * room) (numbersAfter r levels old), after-length levels)) in
+      ext-getD 0 (take n tail) (levelNumbers r i) long (λ t w.
+      let t-in : t < n = rw long at w in
+      let q = i * room + t in
+      let d : q / room ≡ i = div-eq-of-lt-le room (omega arith) (omega arith) in
+      let m : q % room ≡ t = omega (arith, number-in room some i q d) in
+      getD-take n tail t 0 t-in
+      ∙ getD-drop (i * room) (numbersAfter r levels old) t 0
+      ∙ after-at levels q (omega arith)
+      ∙ rw (d, m, lt-ltb i levels h) (inside (levelNumbers r i) t (getD old q 0) 0 t-in))
