@@ -2,3 +2,4 @@ pub mod Announcements
 pub mod Refusals
 pub mod Demand
 pub mod FiveFacts
+pub mod Told
