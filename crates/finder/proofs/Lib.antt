@@ -3,3 +3,4 @@ pub mod Refusals
 pub mod Demand
 pub mod FiveFacts
 pub mod Told
+pub mod Numbers
