@@ -1,0 +1,3 @@
+pub mod Yes
+pub mod EachEnd
+pub mod AnyOrder

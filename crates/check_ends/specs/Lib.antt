@@ -1,0 +1,2 @@
+pub mod EachEnd
+pub mod AnyOrder
