@@ -1,0 +1,10 @@
+pub mod Moves
+pub mod Changes
+pub mod Near
+pub mod Shares
+pub mod Largest
+pub mod Losses
+pub mod Theorem
+pub mod Finer
+pub mod Calls
+pub mod Worked

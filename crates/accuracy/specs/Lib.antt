@@ -1,0 +1,3 @@
+pub mod Accuracy
+pub mod Calls
+pub mod Worked
