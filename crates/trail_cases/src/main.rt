@@ -19,36 +19,34 @@ use case_reader::within_bytes;
 use case_reader::within_words;
 use case_reader::word;
 use case_reader::words;
+use finder::RunAnswer;
 use trail_writer::TrailAnswer;
 
 // The answer's lines, and how many bytes of the trail it says are written.
 fn print_answer(found: TrailAnswer) -> usize {
-    match found {
-        TrailAnswer::Refused(number) => {
+    let run = found.run;
+    match run {
+        RunAnswer::Refused(number) => {
             print_refused(number);
-            0
         }
-        TrailAnswer::Spent(places) => {
+        RunAnswer::Spent(places) => {
             print_spent(places);
-            0
         }
-        TrailAnswer::Unknown { places, position } => {
+        RunAnswer::Unknown { places, position } => {
             print_unknown(places, position as u64);
-            0
         }
-        TrailAnswer::End {
+        RunAnswer::End {
             places,
             labels_read,
             kind,
             block,
             vertices,
-            bytes,
         } => {
             print_end(places, labels_read, kind, block as u64, vertices as u64);
-            show(b"trail-bytes ", bytes as u64);
-            bytes
+            show(b"trail-bytes ", found.bytes as u64);
         }
     }
+    found.bytes
 }
 
 fn print_run(

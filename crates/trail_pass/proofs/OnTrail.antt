@@ -76,11 +76,6 @@ ended-whole p budget {n} {read} {kind} {block} {vertices} {simplex} e =
         let h : outcome p (path p .visited) (some x) ≡ ended n read kind block vertices simplex = rw w at f in
         cc
 
--- a pass that only counts leaves the trail as it was
-pub unwritten : (writes : Bool) (new old : List ℕ) → writes ≡ false → cond writes new old ≡ old
-unwritten true new old e = absurd-bool e
-unwritten false new old e = refl
-
 module _ (g : GridStruct) (start table : List ℕ) where
   -- what is kept of the place before
   pub record Behind (before : Before) (h : ℕ) : Type 0 where

@@ -21,7 +21,7 @@ use trail_visits::bytes_to;
 use trail_visits::tell;
 use ways::make_move;
 
-// How a pass ended, and the bytes of its records.
+// How a pass ended, and the bytes of the whole trail, which a pass that reached no end does not know: 0 of it.
 pub struct RecordingPass {
     pub finish: Finish,
     pub bytes: usize,
@@ -49,7 +49,7 @@ pub fn pass_recording(
     requires { λ _. ⌜ HasRoomForTrail (problemIn g (now first) (now table)) writes (length (now trail)) ⌝ }
     ensures { λ w r. ⌜ Finished (problemIn g (now (first .entry)) (now (table .entry))) budget w
         (now (first .exit)) (now (order .exit)) (r .finish) ⌝ }
-    ensures { λ _ r. ⌜ Recorded (problemIn g (now (first .entry)) (now (table .entry))) writes
+    ensures { λ _ r. ⌜ Recorded (problemIn g (now (first .entry)) (now (table .entry))) writes budget
         (now (trail .entry)) (now (trail .exit)) (r .bytes) (r .finish) ⌝ }
 {
     let mut coefficients = [0u16; 16];
@@ -88,7 +88,7 @@ pub fn pass_recording(
                     places: budget - at.left,
                     position,
                 },
-                bytes: from,
+                bytes: 0,
             };
         }
         let gone = tell(&marks, s, trail, from, before, writes);
@@ -127,6 +127,6 @@ pub fn pass_recording(
     }
     RecordingPass {
         finish: Finish::Spent,
-        bytes: from,
+        bytes: 0,
     }
 }

@@ -4,7 +4,7 @@ use mathlib.Core.Bool.{true, cond}
 use mathlib.Core.List.{List, [], _∷_, _++_}
 use mathlib.Core.Logic.{⊎-elim}
 use mathlib.Core.Option.{none, some}
-use mathlib.Core.Path.{_≡_, refl, sym, _∙_}
+use mathlib.Core.Path.{_≡_, refl, sym, ap, _∙_}
 use Prim.Native.Nat.{ℕ, suc, pred, _+_, _*_, _≤_, _<_}
 use borrow.Author.Tests.{eq-eqb, leb-true, ne-eqb}
 use lib.Dec.{leb}
@@ -17,7 +17,7 @@ use Rattle.combinatorics.specs.Lists.{all}
 use Rattle.end_kinds.specs.declared.Kind.{Kind}
 use Rattle.finder.proofs.Demand.{unrefused}
 use Rattle.finder.specs.Run.{caseOf, numbersOf, runRefusal, runAnswer, runBuffer}
-use Rattle.finder.specs.declared.answers.RunAnswer.the-variants.{Refused as RunRefused, End as RunEnd}
+use Rattle.finder.specs.declared.answers.RunAnswer.the-variants.{Refused, End}
 use Rattle.path_laws.specs.Demand.{Accepted, placeAt}
 use Rattle.place.specs.Path.{PathAnswer, answer, ended, path, pathLength, spent, unknown}
 use Rattle.place.specs.Problem.{Problem, withLabels}
@@ -25,10 +25,10 @@ use Rattle.place.specs.Questions.{runQuestions}
 use Rattle.questions.specs.Questions.{Question, firstNo}
 use Rattle.trail.proofs.RunTrail.{path-trail}
 use Rattle.trail.specs.Trail.{rebuilt}
-use Rattle.trail_writer.specs.Claims.{ReadsBack, TrailsOfRuns, Writes, withoutBytes}
+use Rattle.trail_writer.specs.Claims.{ReadsBack, TrailsOfRuns, Writes}
 use Rattle.trail_writer.specs.Writing.{announces, trailAnswerBuffer, trailAnswer, trailBuffer, trailCase}
-use Rattle.trail_writer.specs.Writing.{wholeTrail}
-use Rattle.trail_writer.specs.declared.answers.TrailAnswer.the-variants.{End, Refused}
+use Rattle.trail_writer.specs.Writing.{unwritten, wholeTrail}
+use Rattle.trail_writer.specs.declared.answers.TrailAnswer.{TrailAnswer}
 use Rattle.trail_writer.proofs.Endings.{has-room, too-short}
 use Rattle.trail_pass.proofs.OnTrail.{ended-whole}
 
@@ -45,37 +45,50 @@ refusal-low : (p : Problem) (room : ℕ) → runRefusal p room ≤ 8
 refusal-low p room = first-low (runQuestions p room) refl
 
 module _ (p : Problem) (trailRoom : ℕ) where
-  bytes-off : length (wholeTrail p) ≤ trailRoom → (a : PathAnswer) → withoutBytes (trailCase p trailRoom a) ≡ caseOf a
+  bytes-off : length (wholeTrail p) ≤ trailRoom → (a : PathAnswer) → trailCase p trailRoom a .run ≡ caseOf a
   bytes-off l (spent n) = refl
   bytes-off l (unknown n position) = refl
   bytes-off l (ended n read kind block vertices simplex) =
       rw (← (has-room p trailRoom l n read kind block vertices simplex))
 
   numbers-alike : length (wholeTrail p) ≤ trailRoom → (a : PathAnswer)
-      → cond (announces (trailCase p trailRoom a)) (numbersOf a) [] ≡ numbersOf a
+      → cond (announces (trailCase p trailRoom a .run)) (numbersOf a) [] ≡ numbersOf a
   numbers-alike l (spent n) = refl
   numbers-alike l (unknown n position) = refl
   numbers-alike l (ended n read kind block vertices simplex) =
       rw (← (has-room p trailRoom l n read kind block vertices simplex))
 
   is-17 : trailRoom < length (wholeTrail p) → (a : PathAnswer) {n read : ℕ} {kind : Kind} {block vertices : ℕ}
-      → caseOf a ≡ RunEnd n read kind block vertices
-      → trailCase p trailRoom a ≡ Refused 17
+      → caseOf a ≡ End n read kind block vertices
+      → trailCase p trailRoom a ≡ unwritten (Refused 17)
   is-17 l (spent m) e = absurd (let z : _≡_ {A = ℕ} 0 1 = cc in omega arith)
   is-17 l (unknown m position) e = absurd (let z : _≡_ {A = ℕ} 0 1 = cc in omega arith)
   is-17 l (ended m r k b v s) e = sym (too-short p trailRoom l (ended m r k b v s) refl)
 
-  of-17 : (a : PathAnswer) → withoutBytes (trailCase p trailRoom a) ≡ RunRefused 17
+  of-17 : (a : PathAnswer) → trailCase p trailRoom a .run ≡ Refused 17
       → (n : ℕ) × (read : ℕ) × (kind : Kind) × (block : ℕ) × (vertices : ℕ)
-      × (caseOf a ≡ RunEnd n read kind block vertices)
+      × (caseOf a ≡ End n read kind block vertices)
   of-17 (spent m) e = absurd (let z : _≡_ {A = ℕ} 0 1 = cc in omega arith)
   of-17 (unknown m position) e = absurd (let z : _≡_ {A = ℕ} 0 1 = cc in omega arith)
   of-17 (ended m r k b v s) e = (m, r, k, b, v, refl)
 
+  -- a refusal has no bytes
+  refused-none : (a : PathAnswer) {n : ℕ} → trailCase p trailRoom a .run ≡ Refused n
+      → trailCase p trailRoom a .bytes ≡ 0
+  refused-none (spent m) e = refl
+  refused-none (unknown m position) e = refl
+  refused-none (ended m r k b v s) {n} e = ⊎-elim
+      (λ (l : trailRoom < length (wholeTrail p)).
+      ap (λ (x : TrailAnswer). x .bytes) (sym (too-short p trailRoom l (ended m r k b v s) refl)))
+      (λ (l : length (wholeTrail p) ≤ trailRoom).
+      let f : End m r k b v ≡ Refused n = ap (λ (x : TrailAnswer). x .run) (has-room p trailRoom l m r k b v s) ∙ e in
+      absurd (let z : _≡_ {A = ℕ} 0 1 = cc in omega arith))
+      (before-or-not trailRoom (length (wholeTrail p)))
+
 module _ (p : Problem) (room trailRoom budget : ℕ) where
   -- by whether questions 1 to 8 are answered yes
   with-room : length (wholeTrail p) ≤ trailRoom
-      → withoutBytes (trailAnswer p room trailRoom budget) ≡ runAnswer p room budget
+      → trailAnswer p room trailRoom budget .run ≡ runAnswer p room budget
   unfolding trailAnswer runAnswer
   with-room l = ⊎-elim
       (λ e. rw (eq-eqb (runRefusal p room) 0 e) (bytes-off p trailRoom l (answer p budget)))
@@ -90,38 +103,49 @@ module _ (p : Problem) (room trailRoom budget : ℕ) where
       (λ n. rw (ne-eqb (runRefusal p (length old)) 0 n)) (same-or (runRefusal p (length old)) 0)
 
   no-room : trailRoom < length (wholeTrail p) → (n read : ℕ) (kind : Kind) (block vertices : ℕ)
-      → runAnswer p room budget ≡ RunEnd n read kind block vertices
-      → trailAnswer p room trailRoom budget ≡ Refused 17
+      → runAnswer p room budget ≡ End n read kind block vertices
+      → trailAnswer p room trailRoom budget .run ≡ Refused 17
   unfolding trailAnswer runAnswer
   no-room l n read kind block vertices e = ⊎-elim
       (λ z.
       rw (eq-eqb (runRefusal p room) 0 z)
-      (is-17 p trailRoom l (answer p budget) (rw (eq-eqb (runRefusal p room) 0 z) at e)))
+      (ap (λ (x : TrailAnswer). x .run)
+      (is-17 p trailRoom l (answer p budget) (rw (eq-eqb (runRefusal p room) 0 z) at e))))
       (λ z.
-      let f : RunRefused (runRefusal p room)
-      ≡ RunEnd n read kind block vertices = rw (ne-eqb (runRefusal p room) 0 z) at e in
+      let f : Refused (runRefusal p room) ≡ End n read kind block vertices = rw (ne-eqb (runRefusal p room) 0 z) at e in
       absurd (let w : _≡_ {A = ℕ} 0 1 = cc in omega arith))
       (same-or (runRefusal p room) 0)
 
-  only-ends : withoutBytes (trailAnswer p room trailRoom budget) ≡ RunRefused 17
+  only-ends : trailAnswer p room trailRoom budget .run ≡ Refused 17
       → (n : ℕ) × (read : ℕ) × (kind : Kind) × (block : ℕ) × (vertices : ℕ)
-      × (runAnswer p room budget ≡ RunEnd n read kind block vertices)
+      × (runAnswer p room budget ≡ End n read kind block vertices)
   unfolding trailAnswer runAnswer
   only-ends e = ⊎-elim
       (λ z.
       rw (eq-eqb (runRefusal p room) 0 z)
       (of-17 p trailRoom (answer p budget) (rw (eq-eqb (runRefusal p room) 0 z) at e)))
       (λ z.
-      let f : RunRefused (runRefusal p room) ≡ RunRefused 17 = rw (ne-eqb (runRefusal p room) 0 z) at e in
+      let f : Refused (runRefusal p room) ≡ Refused 17 = rw (ne-eqb (runRefusal p room) 0 z) at e in
       let w : runRefusal p room ≡ 17 = cc in
       absurd (omega (arith, refusal-low p room)))
       (same-or (runRefusal p room) 0)
 
-  un-written : (n : ℕ) → trailAnswer p room trailRoom budget ≡ Refused n
-      → ((old : List ℕ) → length old ≡ room → trailAnswerBuffer p trailRoom budget old ≡ old)
+  no-bytes : (n : ℕ) → trailAnswer p room trailRoom budget .run ≡ Refused n
+      → trailAnswer p room trailRoom budget .bytes ≡ 0
+  unfolding trailAnswer
+  no-bytes n e = ⊎-elim
+      (λ z.
+      rw (eq-eqb (runRefusal p room) 0 z)
+      (refused-none p trailRoom (answer p budget) (rw (eq-eqb (runRefusal p room) 0 z) at e)))
+      (λ z. rw (ne-eqb (runRefusal p room) 0 z))
+      (same-or (runRefusal p room) 0)
+
+  un-written : (n : ℕ) → trailAnswer p room trailRoom budget .run ≡ Refused n
+      → (trailAnswer p room trailRoom budget .bytes ≡ 0)
+      × ((old : List ℕ) → length old ≡ room → trailAnswerBuffer p trailRoom budget old ≡ old)
       × ((old : List ℕ) → length old ≡ trailRoom → trailBuffer p room budget old ≡ old)
   unfolding trailAnswerBuffer trailBuffer
-  un-written n e = ((λ old q. rw (q, e, front-none old)), (λ old q. rw (q, e, front-none old)))
+  un-written n e = (no-bytes n e, (λ old q. rw (q, e, front-none old)), (λ old q. rw (q, e, front-none old)))
 
   writes : Writes p room trailRoom budget
   writes = record {
@@ -134,32 +158,38 @@ module _ (p : Problem) (room trailRoom budget : ℕ) where
 
 -- a run that announces an end has written the whole trail
 module _ (p : Problem) (room budget : ℕ) (accepted : Accepted p) (old : List ℕ) where
-  case-end : (a : PathAnswer) {n read : ℕ} {kind : Kind} {block vertices bytes : ℕ}
-      → trailCase p (length old) a ≡ End n read kind block vertices bytes → (answer p budget ≡ a)
-      → (n ≡ pathLength p) × (bytes ≡ length (wholeTrail p))
+  case-end : (a : PathAnswer) {n read : ℕ} {kind : Kind} {block vertices : ℕ}
+      → trailCase p (length old) a .run ≡ End n read kind block vertices → (answer p budget ≡ a)
+      → (n ≡ pathLength p) × (trailCase p (length old) a .bytes ≡ length (wholeTrail p))
   case-end (spent m) e q = absurd (let z : _≡_ {A = ℕ} 0 1 = cc in omega arith)
   case-end (unknown m position) e q = absurd (let z : _≡_ {A = ℕ} 0 1 = cc in omega arith)
-  case-end (ended m r k b v s) {n} {read} {kind} {block} {vertices} {bytes} e q = ⊎-elim
+  case-end (ended m r k b v s) {n} {read} {kind} {block} {vertices} e q = ⊎-elim
       (λ (l : length old < length (wholeTrail p)).
-      let f : Refused 17 ≡ End n read kind block vertices bytes =
-      too-short p (length old) l (ended m r k b v s) refl ∙ e in
+      let f : Refused 17 ≡ End n read kind block vertices =
+      ap (λ (x : TrailAnswer). x .run) (too-short p (length old) l (ended m r k b v s) refl) ∙ e in
       absurd (let z : _≡_ {A = ℕ} 0 1 = cc in omega arith))
       (λ (l : length (wholeTrail p) ≤ length old).
-      let f : End m r k b v (length (wholeTrail p)) ≡ End n read kind block vertices bytes =
-      has-room p (length old) l m r k b v s ∙ e in
+      let h = has-room p (length old) l m r k b v s in
+      let f : End m r k b v ≡ End n read kind block vertices = ap (λ (x : TrailAnswer). x .run) h ∙ e in
       let c : m ≡ n = cc in
-      let d : length (wholeTrail p) ≡ bytes = cc in
-      (sym c ∙ ended-whole p budget q, sym d))
+      (sym c ∙ ended-whole p budget q, ap (λ (x : TrailAnswer). x .bytes) (sym h)))
       (before-or-not (length old) (length (wholeTrail p)))
 
-  module _ {n read : ℕ} {kind : Kind} {block vertices bytes : ℕ}
-      (e : trailAnswer p room (length old) budget ≡ End n read kind block vertices bytes) where
+  abbrev bytes : ℕ
+  bytes = trailAnswer p room (length old) budget .bytes
+
+  module _ {n read : ℕ} {kind : Kind} {block vertices : ℕ}
+      (e : trailAnswer p room (length old) budget .run ≡ End n read kind block vertices) where
     ended-so : (n ≡ pathLength p) × (bytes ≡ length (wholeTrail p))
     unfolding trailAnswer
     ended-so = ⊎-elim
-        (λ z. case-end (answer p budget) (rw (eq-eqb (runRefusal p room) 0 z) at e) refl)
         (λ z.
-        let f : Refused (runRefusal p room) ≡ End n read kind block vertices bytes =
+        let q : trailAnswer p room (length old) budget ≡ trailCase p (length old) (answer p budget) =
+        rw (eq-eqb (runRefusal p room) 0 z) in
+        let w = case-end (answer p budget) (ap (λ (x : TrailAnswer). x .run) (sym q) ∙ e) refl in
+        (w .0, ap (λ (x : TrailAnswer). x .bytes) q ∙ w .1))
+        (λ z.
+        let f : Refused (runRefusal p room) ≡ End n read kind block vertices =
         rw (ne-eqb (runRefusal p room) 0 z) at e in
         absurd (let w : _≡_ {A = ℕ} 0 1 = cc in omega arith))
         (same-or (runRefusal p room) 0)
@@ -189,9 +219,9 @@ module _ (p : Problem) (room budget : ℕ) (accepted : Accepted p) (old : List �
 
   reads : ReadsBack p room budget old
   reads = record {
-    long = λ n read kind block vertices bytes e. long-enough e;
-    reads = λ n read kind block vertices bytes e. reads-back e;
-    noMore = λ n read kind block vertices bytes e. no-more e;
+    long = λ n read kind block vertices e. long-enough e;
+    reads = λ n read kind block vertices e. reads-back e;
+    noMore = λ n read kind block vertices e. no-more e;
   }
 
 pub trails-of-runs : TrailsOfRuns

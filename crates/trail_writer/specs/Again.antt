@@ -9,9 +9,6 @@ use lib.ListN.{length}
 use Rattle.end_kinds.specs.declared.Kind.{Kind}
 use Rattle.grid.specs.Made.{shape}
 use Rattle.grid.specs.declared.Grid.{Grid as GridStruct}
-use Rattle.finder.specs.declared.answers.RunAnswer.{RunAnswer}
-use Rattle.finder.specs.declared.answers.RunAnswer.the-variants.{End as RunEnd, Refused as RunRefused}
-use Rattle.finder.specs.declared.answers.RunAnswer.the-variants.{Spent as RunSpent, Unknown as RunUnknown}
 use Rattle.marks.specs.Reading.{Readable, problemFrom}
 use Rattle.moves.specs.declared.Status.{Status}
 use Rattle.path_laws.specs.Demand.{Accepted}
@@ -23,8 +20,6 @@ use Rattle.place.specs.Problem.{Problem}
 use Rattle.rules.specs.Ready.{IsRound, RoundBelow}
 use Rattle.rules.specs.Moves.{Round}
 use Rattle.trail_writer.specs.Writing.{wholeTrail}
-use Rattle.trail_writer.specs.declared.answers.TrailAnswer.{TrailAnswer}
-use Rattle.trail_writer.specs.declared.answers.TrailAnswer.the-variants.{Refused, Spent, Unknown, End}
 
 -- the path has an end within the budget
 abbrev pub HasEnd : Problem → ℕ → Type 0
@@ -61,10 +56,3 @@ abbrev pub storedAt : Problem → ℕ → Finish → List ℕ
 storedAt p room (Ended kind places h s read) = cond (leb (length (wholeTrail p)) room) (wholeTrail p) []
 storedAt p room (UnknownLabel places position) = []
 storedAt p room BudgetSpent = []
-
--- a run's answer, at an end with the bytes written
-abbrev pub withBytes : RunAnswer → ℕ → TrailAnswer
-withBytes (RunRefused number) bytes = Refused number
-withBytes (RunSpent n) bytes = Spent n
-withBytes (RunUnknown n position) bytes = Unknown n position
-withBytes (RunEnd n read kind block vertices) bytes = End n read kind block vertices bytes

@@ -7,58 +7,50 @@ use lib.ListN.{length, take}
 use Rattle.end_kinds.specs.declared.Kind.{Kind}
 use Rattle.finder.specs.Demand.{AcceptedWith}
 use Rattle.finder.specs.Run.{runAnswer, runBuffer}
-use Rattle.finder.specs.declared.answers.RunAnswer.{RunAnswer}
-use Rattle.finder.specs.declared.answers.RunAnswer.the-variants.{Refused as RunRefused, Spent as RunSpent}
-use Rattle.finder.specs.declared.answers.RunAnswer.the-variants.{Unknown as RunUnknown, End as RunEnd}
+use Rattle.finder.specs.declared.answers.RunAnswer.the-variants.{End, Refused}
 use Rattle.path_laws.specs.Demand.{placeAt}
 use Rattle.place.specs.Path.{path, pathLength}
 use Rattle.place.specs.Problem.{Problem, withLabels}
 use Rattle.trail.specs.Trail.{rebuilt}
 use Rattle.trail_writer.specs.Writing.{trailAnswerBuffer, trailAnswer, trailBuffer, wholeTrail}
-use Rattle.trail_writer.specs.declared.answers.TrailAnswer.{TrailAnswer}
-use Rattle.trail_writer.specs.declared.answers.TrailAnswer.the-variants.{Refused, Spent, Unknown, End}
-
--- the answer of the run without a trail
-abbrev pub withoutBytes : TrailAnswer → RunAnswer
-withoutBytes (Refused number) = RunRefused number
-withoutBytes (Spent n) = RunSpent n
-withoutBytes (Unknown n position) = RunUnknown n position
-withoutBytes (End n read kind block vertices bytes) = RunEnd n read kind block vertices
 
 pub record Writes (p : Problem) (room trailRoom budget : ℕ) : Type 0 where
   -- "what demands 2 and 3 say of announcing one is judged on runs that write no trail or have room for it": where there
   -- is room, the answer and the answer buffer are those of the run without a trail
   pub withRoom : length (wholeTrail p) ≤ trailRoom
-      → withoutBytes (trailAnswer p room trailRoom budget) ≡ runAnswer p room budget
+      → trailAnswer p room trailRoom budget .run ≡ runAnswer p room budget
   pub sameBuffer : length (wholeTrail p) ≤ trailRoom → (old : List ℕ) → length old ≡ room
       → trailAnswerBuffer p trailRoom budget old ≡ runBuffer p budget old
   -- where there is none, a run that would announce an end gets 17, and only such a run
   pub noRoom : trailRoom < length (wholeTrail p) → (n read : ℕ) (kind : Kind) (block vertices : ℕ)
-      → runAnswer p room budget ≡ RunEnd n read kind block vertices
-      → trailAnswer p room trailRoom budget ≡ Refused 17
-  pub otherwise : withoutBytes (trailAnswer p room trailRoom budget) ≡ RunRefused 17
+      → runAnswer p room budget ≡ End n read kind block vertices
+      → trailAnswer p room trailRoom budget .run ≡ Refused 17
+  pub otherwise : trailAnswer p room trailRoom budget .run ≡ Refused 17
       → (n : ℕ) × (read : ℕ) × (kind : Kind) × (block : ℕ) × (vertices : ℕ)
-      × (runAnswer p room budget ≡ RunEnd n read kind block vertices)
+      × (runAnswer p room budget ≡ End n read kind block vertices)
   -- nothing is written then, nor at any other refusal
-  pub unwritten : (n : ℕ) → trailAnswer p room trailRoom budget ≡ Refused n
-      → ((old : List ℕ) → length old ≡ room → trailAnswerBuffer p trailRoom budget old ≡ old)
+  pub unwritten : (n : ℕ) → trailAnswer p room trailRoom budget .run ≡ Refused n
+      → (trailAnswer p room trailRoom budget .bytes ≡ 0)
+      × ((old : List ℕ) → length old ≡ room → trailAnswerBuffer p trailRoom budget old ≡ old)
       × ((old : List ℕ) → length old ≡ trailRoom → trailBuffer p room budget old ≡ old)
 
 -- "over a run's trail these places are the path": what a run has written reads back, place by place, whatever was
 -- behind it in the buffer
 pub record ReadsBack (p : Problem) (room budget : ℕ) (old : List ℕ) : Type 0 where
-  pub long : (n read : ℕ) (kind : Kind) (block vertices bytes : ℕ)
-      → trailAnswer p room (length old) budget ≡ End n read kind block vertices bytes
-      → (n ≡ pathLength p) × (3 ≤ bytes) × (bytes ≤ 3 + 7 * pred n)
+  pub long : (n read : ℕ) (kind : Kind) (block vertices : ℕ)
+      → trailAnswer p room (length old) budget .run ≡ End n read kind block vertices
+      → let bytes = trailAnswer p room (length old) budget .bytes in
+      (n ≡ pathLength p) × (3 ≤ bytes) × (bytes ≤ 3 + 7 * pred n)
       × (take bytes (trailBuffer p room budget old) ≡ wholeTrail p)
-  pub reads : (n read : ℕ) (kind : Kind) (block vertices bytes : ℕ)
-      → trailAnswer p room (length old) budget ≡ End n read kind block vertices bytes
+  pub reads : (n read : ℕ) (kind : Kind) (block vertices : ℕ)
+      → trailAnswer p room (length old) budget .run ≡ End n read kind block vertices
       → (labels : List ℕ) (i : ℕ) → i < n
       → rebuilt (withLabels p labels) (trailBuffer p room budget old) (suc i) ≡ some (placeAt (path p .visited) i)
-  pub noMore : (n read : ℕ) (kind : Kind) (block vertices bytes : ℕ)
-      → trailAnswer p room (length old) budget ≡ End n read kind block vertices bytes
+  pub noMore : (n read : ℕ) (kind : Kind) (block vertices : ℕ)
+      → trailAnswer p room (length old) budget .run ≡ End n read kind block vertices
       → (labels : List ℕ) (i : ℕ) → n < i
-      → rebuilt (withLabels p labels) (take bytes (trailBuffer p room budget old)) i ≡ none
+      → let bytes = trailAnswer p room (length old) budget .bytes in
+      rebuilt (withLabels p labels) (take bytes (trailBuffer p room budget old)) i ≡ none
 
 abbrev pub TrailsOfRuns : Type 0
 TrailsOfRuns = (p : Problem) (room budget : ℕ) → ((trailRoom : ℕ) → Writes p room trailRoom budget)

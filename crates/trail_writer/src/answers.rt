@@ -7,16 +7,17 @@ ghost use Rattle.arrays.specs.Rounds.{round};
 ghost use Rattle.combinatorics.specs.Front.{front};
 ghost use Rattle.finder.specs.Asked.{CanRun};
 ghost use Rattle.finder.specs.Run.{numbersOf};
+ghost use Rattle.finder.specs.declared.answers.RunAnswer.the-variants.{Refused};
 ghost use Rattle.marks.specs.Reading.{problemFrom};
 ghost use Rattle.place.specs.Path.{PathAnswer, answer as answerOf};
 ghost use Rattle.place.specs.Problem.{problemOf};
 ghost use Rattle.rules.specs.Moves.{Round};
-ghost use Rattle.trail_writer.specs.Again.{CanWriteTrail, HasCounted, hasRoom, storedAt, withBytes};
+ghost use Rattle.trail_writer.specs.Again.{CanWriteTrail, HasCounted, hasRoom, storedAt};
 ghost use Rattle.trail_writer.specs.Writing.{announces, trailAnswerBuffer, trailAnswer, trailBuffer};
-ghost use Rattle.trail_writer.specs.Writing.{trailCase, wholeTrail};
+ghost use Rattle.trail_writer.specs.Writing.{trailCase, unwritten, wholeTrail};
 use arrays::block_sizes;
 use arrays::padded;
-use end_kinds::Kind;
+use finder::RunAnswer;
 use finder::announce;
 use finder::first_run_no;
 use grid::Grid;
@@ -24,29 +25,11 @@ use path_pass::Finish;
 use positions::ENTRIES;
 use trail_pass::pass_recording;
 
-// What a run that writes a trail answers. The block counts from 1. The vertices, m numbers each, stand at the front of
-// the answer buffer, and the trail at the front of the trail buffer.
-pub enum TrailAnswer {
-    // The number of the first of questions 1 to 8 that is answered no; or 17: the trail buffer is shorter than the
-    // trail.
-    Refused(u8),
-    // Number 9: the path has not ended within the budget. The places visited equal the budget.
-    Spent(u64),
-    // Number 16: a place within the budget needs a label that is not yet known. The places visited before it, and the
-    // position of the label.
-    Unknown {
-        places: u64,
-        position: usize,
-    },
-    // The end of the path, the labels read up to it, and how many bytes the trail has.
-    End {
-        places: u64,
-        labels_read: u64,
-        kind: Kind,
-        block: u8,
-        vertices: usize,
-        bytes: usize,
-    },
+// What the run answers, which is refused by 17 too: the trail buffer is shorter than the trail; and how many bytes of
+// the trail are written, at the front of their buffer: 0 without an end.
+pub struct TrailAnswer {
+    pub run: RunAnswer,
+    pub bytes: usize,
 }
 
 // The pass again, which stores the records. The path has an end within the budget, and its trail has room.
@@ -139,31 +122,13 @@ fn stored(
     }
 }
 
-// A run's answer, at an end with the bytes written.
-fn with_bytes(run: finder::RunAnswer, bytes: usize) -> TrailAnswer
-    ensures { λ r. ⌜ r ≡ withBytes run bytes ⌝ }
+// A run that is refused, which writes nothing.
+fn refused(number: u8) -> TrailAnswer
+    ensures { λ r. ⌜ r ≡ unwritten (Refused number) ⌝ }
 {
-    match run {
-        finder::RunAnswer::Refused(number) => TrailAnswer::Refused(number),
-        finder::RunAnswer::Spent(places) => TrailAnswer::Spent(places),
-        finder::RunAnswer::Unknown { places, position } => TrailAnswer::Unknown {
-            places,
-            position,
-        },
-        finder::RunAnswer::End {
-            places,
-            labels_read,
-            kind,
-            block,
-            vertices,
-        } => TrailAnswer::End {
-            places,
-            labels_read,
-            kind,
-            block,
-            vertices,
-            bytes,
-        },
+    TrailAnswer {
+        run: RunAnswer::Refused(number),
+        bytes: 0,
     }
 }
 
@@ -183,8 +148,8 @@ fn announced(
     requires { λ _. ⌜ CanRun g (now binomials) (now start) (now labels) (now answer) ⌝ }
     ensures { λ p r. ⌜ r ≡ trailCase (problemFrom g (now (start .entry)) (now (labels .entry)))
         (length (now (trail .entry))) p ⌝ }
-    ensures { λ p r. ⌜ now (answer .exit) ≡ front (cond (announces r) (numbersOf p) []) (now (answer .entry)) ⌝ }
-    ensures { λ p r. ⌜ now (trail .exit) ≡ front (cond (announces r)
+    ensures { λ p r. ⌜ now (answer .exit) ≡ front (cond (announces (r .run)) (numbersOf p) []) (now (answer .entry)) ⌝ }
+    ensures { λ p r. ⌜ now (trail .exit) ≡ front (cond (announces (r .run))
         (wholeTrail (problemFrom g (now (start .entry)) (now (labels .entry)))) []) (now (trail .entry)) ⌝ }
 {
     let m = g.indices;
@@ -222,10 +187,10 @@ fn announced(
         bytes,
     );
     if !has_room {
-        return TrailAnswer::Refused(17);
+        return refused(17);
     }
     let run = announce(g, &previous, &sizes, &first, &order, finish, answer, budget);
-    with_bytes(run, bytes)
+    TrailAnswer { run, bytes }
 }
 
 // Questions 1 to 8, then 9 or 16, then 17, on every input. Refusals write nothing. What is written stands at the front
@@ -253,11 +218,11 @@ pub fn run_with_trail(
     let code = made.code;
     let g = made.grid;
     if code != 0 {
-        return TrailAnswer::Refused(code);
+        return refused(code);
     }
     let number = first_run_no(g, start, labels, answer.len());
     if number != 0 {
-        return TrailAnswer::Refused(number);
+        return refused(number);
     }
     let mut binomials = [0u16; ENTRIES];
     positions::binomials(g, &mut binomials);

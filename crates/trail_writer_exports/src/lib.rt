@@ -4,54 +4,30 @@ ghost use lib.ListN.{length};
 ghost use Rattle.combinatorics.specs.Front.{front};
 ghost use Rattle.place.specs.Problem.{problemOf};
 ghost use Rattle.finder.specs.Numbers.{runFacts, runNumber};
-ghost use Rattle.trail_writer.specs.Claims.{withoutBytes};
 ghost use Rattle.trail_writer.specs.Writing.{trailAnswerBuffer, trailAnswer, trailBuffer};
 ghost use Rattle.trail_writer_exports.specs.Written.{bytesWritten};
+use finder::RunAnswer;
 use finder::put_answer;
 
-// What the run without a trail answers.
-fn without_bytes(answer: trail_writer::TrailAnswer) -> finder::RunAnswer
-    ensures { λ r. ⌜ r ≡ withoutBytes answer ⌝ }
-{
-    match answer {
-        trail_writer::TrailAnswer::Refused(number) => finder::RunAnswer::Refused(number),
-        trail_writer::TrailAnswer::Spent(visited) => finder::RunAnswer::Spent(visited),
-        trail_writer::TrailAnswer::Unknown { places, position } => {
-            finder::RunAnswer::Unknown { places, position }
-        }
-        trail_writer::TrailAnswer::End {
-            places,
-            labels_read,
-            kind,
-            block,
-            vertices,
-            bytes,
-        } => finder::RunAnswer::End {
-            places,
-            labels_read,
-            kind,
-            block,
-            vertices,
-        },
-    }
-}
-
 // How many bytes of the trail are written; the old number where none are.
-fn bytes_written(answer: trail_writer::TrailAnswer, old: u64) -> u64
-    ensures { λ r. ⌜ r ≡ bytesWritten answer old ⌝ }
+fn bytes_written(found: trail_writer::TrailAnswer, old: u64) -> u64
+    ensures { λ r. ⌜ r ≡ bytesWritten found old ⌝ }
 {
-    match answer {
-        trail_writer::TrailAnswer::Refused(number) => old,
-        trail_writer::TrailAnswer::Spent(visited) => old,
-        trail_writer::TrailAnswer::Unknown { places, position } => old,
-        trail_writer::TrailAnswer::End {
-            places,
-            labels_read,
-            kind,
-            block,
-            vertices,
-            bytes,
-        } => bytes as u64,
+    let run = found.run;
+    match run {
+        RunAnswer::Refused(_) => old,
+        RunAnswer::Spent(_) => old,
+        RunAnswer::Unknown {
+            places: _,
+            position: _,
+        } => old,
+        RunAnswer::End {
+            places: _,
+            labels_read: _,
+            kind: _,
+            block: _,
+            vertices: _,
+        } => found.bytes as u64,
     }
 }
 
@@ -72,11 +48,11 @@ pub extern "C" fn leveretplate_run_with_trail(
     ensures number { λ r. ⌜ (let p = problemOf
         (now (sizes .entry)) (now (divisions .entry)) (now (start .entry)) (now (labels .entry)) in
         let found = trailAnswer p (length (now (answer .entry))) (length (now (trail .entry))) budget in
-        r ≡ runNumber (withoutBytes found)) ⌝ }
+        r ≡ runNumber (found .run)) ⌝ }
     ensures facts { λ _. ⌜ (let p = problemOf
         (now (sizes .entry)) (now (divisions .entry)) (now (start .entry)) (now (labels .entry)) in
         let found = trailAnswer p (length (now (answer .entry))) (length (now (trail .entry))) budget in
-        now (facts .exit) ≡ front (runFacts (withoutBytes found)) (now (facts .entry))) ⌝ }
+        now (facts .exit) ≡ front (runFacts (found .run)) (now (facts .entry))) ⌝ }
     ensures bytes { λ _. ⌜ (let p = problemOf
         (now (sizes .entry)) (now (divisions .entry)) (now (start .entry)) (now (labels .entry)) in
         let found = trailAnswer p (length (now (answer .entry))) (length (now (trail .entry))) budget in
@@ -98,5 +74,6 @@ pub extern "C" fn leveretplate_run_with_trail(
         budget,
     );
     *bytes = bytes_written(found, *bytes);
-    put_answer(without_bytes(found), facts)
+    let run = found.run;
+    put_answer(run, facts)
 }

@@ -33,7 +33,8 @@ use Rattle.trail_visits.specs.Visited.{recordHere, withRecord}
 use Rattle.trail_visits.specs.declared.Before.{Before}
 use Rattle.trail_pass.proofs.OnTrail.{Recording, SoFar, come-fits, ended-whole, first-bytes, left-none, next-end}
 use Rattle.trail_pass.proofs.OnTrail.{next-left, next-short, next-so-far, next-trail, part-fits, so-far-none}
-use Rattle.trail_pass.proofs.OnTrail.{trail-none, unwritten, whole-at}
+use Rattle.trail_pass.proofs.OnTrail.{trail-none, whole-at}
+use Rattle.trail_pass.specs.Recording.{leftBehind}
 use Rattle.trail_pass.proofs.pass_recording.Statement.{statement}
 use Rattle.trail_pass.proofs.pass_recording.Tie as tie
 use Rattle.ways.proofs.Here.{can-tell, here-steps, same-gone, same-way}
@@ -138,7 +139,7 @@ returns c =
     let v = c .before .before .before .before .before in (
       asks (place v)
           (rw (c .before .before .looked .given .1) at (c .before .before .before .before .look-up .ensures)),
-      λ f. turn v .loop .inv .2 .written ∙ unwritten _ _ _ f,
+      (refl, turn v .loop .inv .2 .written),
     )
 
 enum-told : tie.Need-enum-told Inv-loop μ-loop
@@ -427,10 +428,15 @@ returns-4 c =
     let s = c .before .before .before .before .before .before .before .before .before in
     let a = s .args in
     let w = s .pre .0 in
-    let l = c .before .before .loop in (
+    let l = c .before .before .loop in
+    let all : a .budget - l .at .left ≡ a .budget = omega (arith, c .if1 .left) in (
       spends (a .g) (w .readable .made) (a .first .now) (a .table .now) (w .accepted) _ (a .budget - l .at .left)
           (l .inv .0 .here) (a .budget) (omega (arith, c .if1 .left)),
-      λ f. l .inv .2 .written ∙ unwritten _ _ _ f,
+      (
+        refl,
+        l .inv .2 .written
+            ∙ ap (leftBehind (problemIn (a .g) (a .first .now) (a .table .now)) (a .writes) (a .trail .now)) all,
+      ),
     )
 
 pub pass-recording-spec : {M : Type 1} → statement M

@@ -4,7 +4,7 @@ use Rattle.trail_writer_exports.proofs.bytes_written.Statement.{stateme
 use Rattle.trail_writer_exports.proofs.bytes_written.Tie as tie
 
 returns-4 : tie.Need-returns-4
-returns-4 c = rw (c .before .answer4 .given .1)
+returns-4 c = rw (c .enum-told4 .given .1)
 
 pub bytes-written-spec : {M : Type 1} → statement M
 bytes-written-spec =

@@ -6,10 +6,9 @@ use Rattle.trail_writer_exports.proofs.leveretplate_run_with_trail.Tie 
 
 returns : tie.Need-returns
 returns c =
-    let found = c .before .before .before .before .before .before .before .before .before .run-with-trail .ensures in
-    let told = c .before .before .without-bytes .ensures in
-    let count = c .before .before .before .bytes-written .ensures in
-    rw (sym (found .0), sym told) (
+    let found = c .before .before .before .before .before .before .before .before .run-with-trail .ensures in
+    let count = c .before .before .bytes-written .ensures in
+    rw (sym (found .0)) (
       c .put-answer .ensures .0,
       (
         c .put-answer .ensures .1,
@@ -21,7 +20,6 @@ pub leveretplate-run-with-trail-spec : {M : Type 1} → statement M
 leveretplate-run-with-trail-spec =
     tie.close
     (tie.spec
-    (λ c κs. search needs)
     (λ c κs. search needs)
     (λ c κs. search needs)
     (λ c κs. search needs)

@@ -13,13 +13,12 @@ use Rattle.combinatorics.proofs.Fronts.{front-none}
 use Rattle.combinatorics.specs.Front.{front}
 use Rattle.finder.proofs.Announcements.{can-announce, can-pad, can-pass, finish-told, finish-written, finished-from}
 use Rattle.finder.proofs.Announcements.{FinishedBy, problem-from}
-use Rattle.finder.specs.declared.answers.RunAnswer.{RunAnswer}
 use Rattle.marks.specs.Reading.{problemFrom}
 use Rattle.path_pass.proofs.Visits.{is-round, round-below}
 use Rattle.place.specs.Problem.{Problem}
 use Rattle.rules.specs.Moves.{Round}
 use Rattle.trail_pass.specs.Recording.{Recorded}
-use Rattle.trail_writer.specs.Again.{hasRoom, storedAt, withBytes}
+use Rattle.trail_writer.specs.Again.{hasRoom, storedAt}
 use Rattle.trail_writer.proofs.Endings.{announced-end, counts, refused-17, stores-nothing}
 use Rattle.trail_writer.proofs.answers.announced.Statement.{statement}
 use Rattle.trail_writer.proofs.answers.announced.Tie as tie
@@ -83,18 +82,18 @@ finished c =
     (order c) (c .pass-recording .result .finish) (c .pass-recording .ensures .0)
 
 recorded : (c : Passed)
-    → Recorded (problem c) false (begun c .args .trail .now) (trail c) (c .pass-recording .result .bytes)
+    → Recorded (problem c) false (begun c .args .budget) (begun c .args .trail .now) (trail c) (c .pass-recording .result .bytes)
     (c .pass-recording .result .finish)
 recorded c =
     let w = begun c .pre in
     let t = c .before .before .before .before .before .before .before .padded in
     subst
-    (λ (p : Problem). Recorded p false (begun c .args .trail .now) (trail c) (c .pass-recording .result .bytes)
+    (λ (p : Problem). Recorded p false (begun c .args .budget) (begun c .args .trail .now) (trail c) (c .pass-recording .result .bytes)
     (c .pass-recording .result .finish))
     (problem-from (w .readable) (w .accepted) (t .result) (t .ensures)) (c .pass-recording .ensures .1)
 
 same-trail : (c : Passed) → trail c ≡ begun c .args .trail .now
-same-trail c = stores-nothing (problem c) _ _ _ (c .pass-recording .result .finish) (recorded c)
+same-trail c = stores-nothing (problem c) _ _ _ _ (c .pass-recording .result .finish) (recorded c)
 
 stored-requires : tie.Need-stored-requires
 stored-requires c κs =
@@ -136,11 +135,12 @@ left c =
 
 returns : tie.Need-returns
 returns c =
-    let d = c .before .before .before in
+    let d = c .before .before .before .before in
     let w = passed d in
     let a = begun w .args in
     let said = refused-17 (problem w) (a .budget) (round w) (first w) (order w) (length (a .trail .now))
-    (w .pass-recording .result .finish) (finished w) (sym (asked d) ∙ not-true _ (c .if1 .taken)) in (
+    (w .pass-recording .result .finish) (finished w) (sym (asked d) ∙ not-true _ (c .before .if1 .taken)) in
+    rw (c .refused .ensures) (
       said .0,
       (
         sym (front-none (a .answer .now)),
@@ -160,23 +160,22 @@ announce-requires c κs =
 
 returns-2 : tie.Need-returns-2
 returns-2 c =
-    let d = c .before .before .before .before .before .before .before .before .before .before .before .before in
+    let d = c .before .before .before .before .before .before .before .before .before .before .before in
     let w = passed d in
     let a = begun w .args in
     let made = begun w .pre .readable .made in
     let f = w .pass-recording .result .finish in
-    let told = c .before .before .before .announce .ensures in
+    let told = c .before .before .announce .ensures in
     let run = told .0
     ∙ finish-told (a .g) made (a .start .now) (a .labels .now) (a .budget) (a .g .previous) (a .g .next) (sizes w)
     (first w) (order w) f (finished w) in
     let put = finish-written (a .g) made (a .start .now) (a .labels .now) (a .budget) (a .g .previous) (a .g .next)
     (sizes w) (first w) (order w) f (finished w) in
     let room = sym (asked d)
-    ∙ not-false _ (c .before .before .before .before .before .before .before .before .before .if1 .left) in
+    ∙ not-false _ (c .before .before .before .before .before .before .before .before .if1 .left) in
     let said = announced-end (problem w) (a .budget) (round w) (first w) (order w) (length (a .trail .now))
     (a .trail .now) (trail w) (w .pass-recording .result .bytes) f (finished w) (recorded w) room
-    (c .with-bytes .result)
-    (c .with-bytes .ensures ∙ ap (λ (x : RunAnswer). withBytes x (w .pass-recording .result .bytes)) run) in (
+    (c .before .before .announce .result) run in (
       said .0,
       (
         told .1 ∙ ap (λ (x : List ℕ). front x (a .answer .now)) (put ∙ said .1),
@@ -192,10 +191,10 @@ announced-spec =
     padded-requires
     pass-recording-requires
     stored-requires
+    (λ c κs. search needs)
     (λ c. search needs)
     returns
     announce-requires
-    (λ c κs. search needs)
     (λ c. search needs)
     (λ c. search needs)
     returns-2)

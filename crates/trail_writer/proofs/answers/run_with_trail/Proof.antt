@@ -37,13 +37,13 @@ Answers s said answer trail p =
 
 returns : tie.Need-returns
 returns c =
-    let s = c .before .before .before .before .before .before .before .before .before in
+    let s = c .before .before .before .before .before .before .before .before .before .before in
     let a = s .args in
-    let made = c .before .before .new in
+    let made = c .before .before .before .new in
     let q = made-code (lent s) (made .result) (made .ensures) in
-    let w = refused (lentProblem s) (a .budget) (a .answer .now) (a .trail .now) (made .result .code) (c .if1 .taken)
-    (by-grid (lentProblem s) (length (a .answer .now)) (λ f. c .if1 .taken (q ∙ f)) ∙ sym q) in
-    (w .0, (w .1, w .2))
+    let w = refused (lentProblem s) (a .budget) (a .answer .now) (a .trail .now) (made .result .code) (c .before .if1 .taken)
+    (by-grid (lentProblem s) (length (a .answer .now)) (λ f. c .before .if1 .taken (q ∙ f)) ∙ sym q) in
+    rw (c .refused .ensures) (w .0, (w .1, w .2))
 
 -- the grid made, and where the call began
 abbrev Made : Type 0
@@ -84,12 +84,12 @@ asked c =
 
 returns-2 : tie.Need-returns-2
 returns-2 c =
-    let d = c .before in
+    let d = c .before .before in
     let m = d .before in
     let a = begun m .args in
-    let w = refused (problem m) (a .budget) (a .answer .now) (a .trail .now) (d .first-run-no .result) (c .if2 .taken)
+    let w = refused (problem m) (a .budget) (a .answer .now) (a .trail .now) (d .first-run-no .result) (c .before .if2 .taken)
     (asked d) in
-    of-lent m (w .0, (w .1, w .2))
+    rw (c .refused2 .ensures) (of-lent m (w .0, (w .1, w .2)))
 
 binomials-requires : tie.Need-binomials-requires
 binomials-requires c κs = (is-made (c .before .before .before), refl)
@@ -125,8 +125,10 @@ run-with-trail-spec =
     tie.close
     (tie.spec
     (λ c κs. search needs)
+    (λ c κs. search needs)
     returns
     first-run-no-requires
+    (λ c κs. search needs)
     returns-2
     binomials-requires
     announced-requires

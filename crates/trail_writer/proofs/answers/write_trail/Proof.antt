@@ -30,7 +30,7 @@ returns c =
     let a = c .before .before .before .before .before .before .before .before .before .before .args in
     let w = c .before .before .before .before .before .before .before .before .before .before .pre in
     let t = c .before .before .before .before .before .before .padded in
-    let f = c .before .before .follow in
+    let f = c .before .before .pass-recording in
     let round = roundOf (a .previous .now) (a .next .now) (a .sizes .now) in
     let same = problem-from (w .readable) (w .accepted) (t .result) (t .ensures) in
     ends-again (problemFrom (a .g) (a .start .now) (a .labels .now)) (a .budget) round
@@ -44,7 +44,7 @@ returns c =
     (c .before .before .pass-recording .last .1 .1 .1 .1 .1 .1 .1 .0) (f .result .finish))
     same (f .ensures .0))
     (subst
-    (λ (p : Problem). Recorded p true (a .trail .now)
+    (λ (p : Problem). Recorded p true (a .budget) (a .trail .now)
     (c .before .before .pass-recording .last .1 .1 .1 .1 .1 .1 .1 .1 .0)
     (f .result .bytes) (f .result .finish))
     same (f .ensures .1))
