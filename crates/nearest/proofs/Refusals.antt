@@ -26,7 +26,7 @@ use Rattle.finder.specs.declared.answers.RunAnswer.the-variants.{End, Refused, 
 use Rattle.nearest_visited.proofs.Nearest.{is-list}
 use Rattle.nearest_visited.specs.Questions.{pointQuestions, question8List}
 use Rattle.nearest.specs.Report.{nearAnswerBuffer, listBuffer, listedBy, nearRefusal, nearestIn, reportOf}
-use Rattle.nearest.specs.declared.Nearest.the-variants.{Nothing, Vertex}
+use Rattle.nearest_pass.specs.declared.Nearest.the-variants.{Nothing, Vertex}
 
 module _ (p : Problem) (w : Point) (room listRoom : ℕ) where
   pub by-grid : (firstNo (gridQuestions (p .grid)) ≡ 0 → ⊥)

@@ -13,7 +13,7 @@ use Rattle.finder.specs.declared.answers.RunAnswer.the-variants.{End, Unknown}
 use Rattle.nearest_visited.specs.Demand.{Distances, IsList, IsNearest, Visits}
 use Rattle.nearest_visited.specs.Nearest.{nearest, positionsWithin}
 use Rattle.nearest.specs.Report.{nearAnswerBuffer, listBuffer, nearRefusal, reportOf}
-use Rattle.nearest.specs.declared.Nearest.the-variants.{Nothing, Vertex}
+use Rattle.nearest_pass.specs.declared.Nearest.the-variants.{Nothing, Vertex}
 
 pub record NearDemand (p : Problem) (w : Point) (room listRoom : ℕ) : Type 0 where
   -- the run is that of a run without w, distance and list, its vertices in the answer buffer included

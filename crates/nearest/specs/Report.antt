@@ -14,8 +14,8 @@ use Rattle.finder.specs.Run.{caseOf, numbersOf}
 use Rattle.finder.specs.declared.answers.RunAnswer.the-variants.{Refused}
 use Rattle.nearest_visited.specs.Nearest.{nearest as nearestVertex, positionsWithin}
 use Rattle.nearest_visited.specs.Questions.{nearQuestions}
-use Rattle.nearest.specs.declared.Nearest.{Nearest}
-use Rattle.nearest.specs.declared.Nearest.the-variants.{Nothing, Vertex}
+use Rattle.nearest_pass.specs.declared.Nearest.{Nearest}
+use Rattle.nearest_pass.specs.declared.Nearest.the-variants.{Nothing, Vertex}
 use Rattle.nearest.specs.declared.Report.{Report}
 
 -- the number of the first of questions 1 to 8 that is answered no, or 0

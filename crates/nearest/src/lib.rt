@@ -13,24 +13,16 @@ ghost use Rattle.place.specs.Path.{PathAnswer, answer as answerOf};
 ghost use Rattle.place.specs.Problem.{problemOf};
 ghost use Rattle.marks.specs.Reading.{problemFrom};
 ghost use Rattle.nearest_visited.specs.Questions.{pointQuestions};
-ghost use Rattle.nearest.specs.Finishes.{nearestAt};
 ghost use Rattle.nearest.specs.Report.{nearAnswerBuffer, listBuffer, listedBy, reportOf, reported};
 use arrays::block_sizes;
 use arrays::padded;
 use finder::RunAnswer;
 use finder::announce;
 use grid::Grid;
-use nearest_met::Tally;
 use nearest_met::weights;
+pub use nearest_pass::Nearest;
 use nearest_pass::pass_noting;
-use path_pass::Finish;
 use positions::ENTRIES;
-
-// The nearest visited vertex, by its position, and how many positions are listed; nothing where the run reached no end.
-pub enum Nearest {
-    Nothing,
-    Vertex { position: usize, listed: usize },
-}
 
 // What the run answers, and what is reported besides.
 pub struct Report {
@@ -63,29 +55,6 @@ fn first_nearest_no(
         return 8;
     }
     0
-}
-
-// What is reported besides the run's answer where a pass finished.
-fn nearest_at(tally: Tally, finish: Finish) -> Nearest
-    ensures { λ r. ⌜ r ≡ nearestAt tally finish ⌝ }
-{
-    match finish {
-        Finish::Spent => Nearest::Nothing,
-        Finish::Unknown {
-            places: _,
-            position: _,
-        } => Nearest::Nothing,
-        Finish::Ended {
-            kind: _,
-            places: _,
-            index: _,
-            status: _,
-            labels_read: _,
-        } => Nearest::Vertex {
-            position: tally.nearest,
-            listed: tally.listed,
-        },
-    }
 }
 
 // The pass along the path of an accepted table: the run's answer, and what is reported besides. The list that the pass
@@ -134,10 +103,9 @@ fn announced(
         found,
         budget,
     );
-    let tally = passed.tally;
+    let nearest = passed.nearest;
     let finish = passed.finish;
     let run = announce(g, &previous, &sizes, &first, &order, finish, answer, budget);
-    let nearest = nearest_at(tally, finish);
     Report { run, nearest }
 }
 

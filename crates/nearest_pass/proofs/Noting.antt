@@ -45,6 +45,7 @@ use Rattle.nearest_met.specs.Meeting.{tallyAfter}
 use Rattle.nearest_met.specs.declared.Came.{Came}
 use Rattle.nearest_met.specs.declared.Came.the-variants.{At, Nothing}
 use Rattle.nearest_met.specs.declared.Tally.{Tally}
+use Rattle.nearest_pass.specs.declared.Nearest.the-variants.{Vertex}
 use Rattle.nearest_met.proofs.Keeping.{kept-more, low, room-for, seen-new, seen-old}
 
 pub list-long : (given : ℕ) (t : Tally) (away : ℕ) (seen list : List ℕ) (came : Came)
@@ -235,17 +236,16 @@ module _ (g : GridStruct) (first table : List ℕ) (ok : Accepted (problemIn g f
   -- at the path's last place all visited vertices have been met
   module _ (k : ℕ) (all : pathLength p ≡ suc k) (w : Point) (given : ℕ) (old : List ℕ) {seen list : List ℕ} {t : Tally}
       (K : Kept (shape g) w given old (verticesOf (take (suc k) onPath)) seen list t) where
-    all-met : Kept (shape g) w given old (visitedVertices p) seen list t
+    kept-all : Kept (shape g) w given old (visitedVertices p) seen list t
     unfolding visitedVertices
-    all-met = subst
+    kept-all = subst
         (λ (x : List Simplex). Kept (shape g) w given old (verticesOf x) seen list t)
         (take-all (suc k) onPath (omega arith)) K
 
-    pub met-nearest : t .nearest ≡ position (shape g) (nearest p w)
-    met-nearest = all-met .nearest (some-visited ok)
-
-    pub met-listed : t .listed ≡ length (positionsWithin p w given)
-    met-listed = all-met .listed ∙ sym (length-map (verticesWithin p w given) (position (shape g)))
-
-    pub met-written : list ≡ front (positionsWithin p w given) old
-    met-written = all-met .written
+    pub all-met : (Vertex (t .nearest) (t .listed)
+        ≡ Vertex (position (shape g) (nearest p w)) (length (positionsWithin p w given)))
+        × (list ≡ front (positionsWithin p w given) old)
+    all-met =
+        let near = kept-all .nearest (some-visited ok) in
+        let many = kept-all .listed ∙ sym (length-map (verticesWithin p w given) (position (shape g))) in
+        (rw (near, many), kept-all .written)

@@ -20,10 +20,16 @@ use path_pass::on;
 use positions::ENTRIES;
 use ways::make_move;
 
-// How a pass ended, and what is kept of the vertices that it has met.
+// The nearest visited vertex, by its position, and how many positions are listed; nothing where the run reached no end.
+pub enum Nearest {
+    Nothing,
+    Vertex { position: usize, listed: usize },
+}
+
+// How a pass ended, and what is reported of the vertices that it has met.
 pub struct NotingPass {
     pub finish: Finish,
-    pub tally: Tally,
+    pub nearest: Nearest,
 }
 
 // From {v} to the path's end, or until the budget is spent, as a run passes: each vertex is noted where it comes in for
@@ -50,7 +56,7 @@ pub fn pass_noting(
     ensures { λ x r. ⌜ Finished (problemIn g (now (first .entry)) (now (table .entry))) budget x
         (now (first .exit)) (now (order .exit)) (r .finish) ⌝ }
     ensures { λ _ r. ⌜ Surveys (problemIn g (now (first .entry)) (now (table .entry)))
-        (now (w .entry)) given (now (list .entry)) (now (list .exit)) (r .tally) (r .finish) ⌝ }
+        (now (w .entry)) given budget (now (list .entry)) (now (list .exit)) (r .nearest) (r .finish) ⌝ }
 {
     let m = g.indices;
     let mut coefficients = [0u16; 16];
@@ -88,7 +94,7 @@ pub fn pass_noting(
                     places: budget - at.left,
                     position,
                 },
-                tally: t,
+                nearest: Nearest::Nothing,
             };
         }
         let came = came_in(&marks, s);
@@ -120,13 +126,19 @@ pub fn pass_noting(
         if let Outcome::PlaceEnd(_) = outcome {
             return NotingPass {
                 finish: ended(at, outcome, budget),
-                tally: t,
+                nearest: Nearest::Vertex {
+                    position: t.nearest,
+                    listed: t.listed,
+                },
             };
         }
         if let Outcome::FacetEnd(_) = outcome {
             return NotingPass {
                 finish: ended(at, outcome, budget),
-                tally: t,
+                nearest: Nearest::Vertex {
+                    position: t.nearest,
+                    listed: t.listed,
+                },
             };
         }
         if let Outcome::Moved(status) = outcome {
@@ -135,6 +147,6 @@ pub fn pass_noting(
     }
     NotingPass {
         finish: Finish::Spent,
-        tally: t,
+        nearest: Nearest::Nothing,
     }
 }

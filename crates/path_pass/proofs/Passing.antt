@@ -115,7 +115,7 @@ module _ (P : Place) where
     many = counted (P .order) (a .status .count) (P .sixteen) (visited .reads r .point .few);
   }
 
-  pub has-looked : (marks' : List ℕ) → LooksUp (tableProblem g table) back (a .status) marks' Known
+  pub has-looked : (marks' : List ℕ) → LooksUp (tableProblem g table) back (a .status) (P .marks) marks' Known
       → IsRead (tableProblem g table) s round (P .first) (P .coefficients) (P .order) marks' (a .status)
   has-looked marks' L =
       looked-up (tableProblem g table) (P .previous) (P .next) (P .sizes) (P .first) (P .coefficients) (P .order)

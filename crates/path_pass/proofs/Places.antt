@@ -62,7 +62,7 @@ module _ (p : Problem) (previous next sizes first coefficients order marks : Lis
       (λ (r : 6 ≤ s .rule). let f = rw (le-ltb (s .rule) 6 r) at e in rw (le-ltb (s .rule) 6 r, f))
       (before-or-not (s .rule) 6)
 
-  pub looked-up : (marks' : List ℕ) → LooksUp p back s marks' Known → length order ≡ 16
+  pub looked-up : (marks' : List ℕ) → LooksUp p back s marks marks' Known → length order ≡ 16
       → (IsKnown p whole → Ready (read p whole))
       → IsRead p whole (roundOf previous next sizes) first coefficients order marks' s
   looked-up marks' L sixteen can =

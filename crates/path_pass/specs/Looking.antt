@@ -11,7 +11,7 @@ use Rattle.rules.specs.Moves.{State}
 use Rattle.path_pass.specs.declared.Looked.{Looked}
 use Rattle.path_pass.specs.declared.Looked.the-variants.{Known, Unknown}
 
--- the label is known, or nothing is read, and the array holds the marks; or it is not known
-abbrev pub LooksUp : Problem → State → Status → List ℕ → Looked → Type 0
-LooksUp p a s marks Known = IsKnown p a × (take (suc (s .count)) marks ≡ read p a .marks) × (length marks ≡ 16)
-LooksUp p a s marks (Unknown place) = IsUnknown p a place
+-- the label is known, or nothing is read, and the array holds the marks; or it is not known, and the array is as before
+abbrev pub LooksUp : Problem → State → Status → List ℕ → List ℕ → Looked → Type 0
+LooksUp p a s old marks Known = IsKnown p a × (take (suc (s .count)) marks ≡ read p a .marks) × (length marks ≡ 16)
+LooksUp p a s old marks (Unknown place) = IsUnknown p a place × (marks ≡ old)

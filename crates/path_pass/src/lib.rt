@@ -69,7 +69,7 @@ pub fn look_up(
     requires { λ a. ⌜ held (roundBack previous sizes) first coefficients order marks s ≡ a ⌝ }
     requires { λ _. ⌜ Readable g (now binomials) (now table) × (length (now marks) ≡ 16) ⌝ }
     requires { λ a. ⌜ (s .rule < 6 → CanFind g (now tails) a s) ⌝ }
-    ensures { λ a r. ⌜ LooksUp (tableProblem g (now (table .entry))) a s (now (marks .exit)) r ⌝ }
+    ensures { λ a r. ⌜ LooksUp (tableProblem g (now (table .entry))) a s (now (marks .entry)) (now (marks .exit)) r ⌝ }
 {
     if s.rule < 6 {
         let i = s.active;

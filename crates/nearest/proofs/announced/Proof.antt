@@ -18,7 +18,7 @@ use Rattle.path_pass.proofs.Visits.{is-round, round-below}
 use Rattle.place.specs.Problem.{Problem}
 use Rattle.rules.specs.Moves.{Round}
 use Rattle.nearest_pass.specs.Survey.{Surveys}
-use Rattle.nearest.specs.declared.Nearest.{Nearest}
+use Rattle.nearest_pass.specs.declared.Nearest.{Nearest}
 use Rattle.nearest.specs.declared.Report.{Report}
 use Rattle.nearest.proofs.Finishes.{finish-listed, finish-nearest}
 use Rattle.nearest.proofs.announced.Statement.{statement}
@@ -98,20 +98,21 @@ finished c =
     (order c) (c .pass-noting .result .finish) (c .pass-noting .ensures .0)
 
 surveyed : (c : Passed) → (let a = begun c .args in
-    Surveys (problem c) (a .w .now) (a .given) (a .found .now) (found c) (c .pass-noting .result .tally)
+    Surveys (problem c) (a .w .now) (a .given) (a .budget) (a .found .now) (found c) (c .pass-noting .result .nearest)
     (c .pass-noting .result .finish))
 surveyed c =
     let a = begun c .args in
     let w = begun c .pre .0 in
     let t = c .before .before .before .before .before .before .before .before .padded in
     subst
-    (λ (p : Problem). Surveys p (a .w .now) (a .given) (a .found .now) (found c) (c .pass-noting .result .tally)
+    (λ (p : Problem). Surveys p (a .w .now) (a .given) (a .budget) (a .found .now) (found c)
+    (c .pass-noting .result .nearest)
     (c .pass-noting .result .finish))
     (problem-from (w .readable) (w .accepted) (t .result) (t .ensures)) (c .pass-noting .ensures .1)
 
 announce-requires : tie.Need-announce-requires
 announce-requires c κs =
-    let w = c .before .before .before .before .before .before .before .before in
+    let w = c .before .before .before .before .before .before .before in
     let a = begun w .args in
     let made = begun w .pre .0 .readable .made in
     can-announce (a .g) made (a .start .now) (a .labels .now) (a .budget) (a .g .previous) (a .g .next) (sizes w)
@@ -120,19 +121,18 @@ announce-requires c κs =
 
 returns : tie.Need-returns
 returns c =
-    let w = c .before .before .before .before .before .before .before .before .before .before .before .before in
+    let w = c .before .before .before .before .before .before .before .before .before .before in
     let a = begun w .args in
     let made = begun w .pre .0 .readable .made in
     let f = w .pass-noting .result .finish in
-    let tally = w .pass-noting .result .tally in
-    let said = c .before .before .before .announce .ensures in (
+    let r = w .pass-noting .result .nearest in
+    let said = c .before .before .announce .ensures in (
       same-report
           (said .0
           ∙ finish-told (a .g) made (a .start .now) (a .labels .now) (a .budget) (a .g .previous) (a .g .next) (sizes w)
           (first w) (order w) f (finished w))
-          (c .nearest-at .ensures
-          ∙ finish-nearest (problem w) (a .w .now) (a .given) (a .budget) (round w) (first w) (order w) (a .found .now)
-          (found w) tally f (finished w) (surveyed w)),
+          (finish-nearest (problem w) (a .w .now) (a .given) (a .budget) (round w) (first w) (order w) (a .found .now)
+          (found w) r f (finished w) (surveyed w)),
       (
         said .1
             ∙ ap
@@ -140,7 +140,7 @@ returns c =
             (finish-written (a .g) made (a .start .now) (a .labels .now) (a .budget) (a .g .previous) (a .g .next)
             (sizes w) (first w) (order w) f (finished w)),
         finish-listed (problem w) (a .w .now) (a .given) (a .budget) (round w) (first w) (order w) (a .found .now)
-            (found w) tally f (finished w) (surveyed w),
+            (found w) r f (finished w) (surveyed w),
       ),
     )
 
@@ -153,7 +153,6 @@ announced-spec =
     padded-requires
     pass-noting-requires
     announce-requires
-    (λ c κs. search needs)
     (λ c. search needs)
     (λ c. search needs)
     returns)

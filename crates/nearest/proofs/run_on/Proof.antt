@@ -17,7 +17,7 @@ use Rattle.place.specs.Problem.{Problem}
 use Rattle.path_laws.specs.Demand.{Accepted}
 use Rattle.nearest.proofs.Refusals.{all-yes, answered, by-point, list-of, listed-few, none-of, refused}
 use Rattle.nearest.specs.Report.{nearAnswerBuffer, listBuffer, listedBy, nearestIn, reportOf}
-use Rattle.nearest.specs.declared.Nearest.the-variants.{Vertex}
+use Rattle.nearest_pass.specs.declared.Nearest.the-variants.{Vertex}
 use Rattle.nearest.specs.declared.Report.{Report}
 use Rattle.nearest.proofs.run_on.Statement.{statement}
 use Rattle.nearest.proofs.run_on.Tie as tie

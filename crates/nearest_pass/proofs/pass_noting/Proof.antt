@@ -28,9 +28,12 @@ use Rattle.rules.specs.Read.{positionAt}
 use Rattle.rules.specs.Ready.{SixteenEach}
 use Rattle.rules.specs.Moves.{State, markPosition, makeMove}
 use Rattle.nearest_met.proofs.Keeping.{kept-none}
-use Rattle.nearest_pass.proofs.Noting.{come-is, computed, kept-met, last-facet, last-place}
-use Rattle.nearest_pass.proofs.Noting.{met-listed, met-nearest, met-written, room-next}
-use Rattle.nearest_pass.specs.Survey.{Surveyed}
+use Rattle.nearest_pass.proofs.Noting.{all-met, come-is, computed, kept-met, last-facet, last-place, room-next}
+use Rattle.nearest_pass.specs.Survey.{positionsBefore}
+use Rattle.nearest_pass.specs.declared.Nearest.{Nearest}
+use Rattle.nearest_pass.specs.declared.Nearest.the-variants.{Vertex}
+use Rattle.nearest_met.specs.declared.Tally.{Tally}
+use Rattle.nearest_visited.specs.Nearest.{nearest, positionsWithin}
 use Rattle.nearest_met.specs.Meeting.{Kept, vertexCome}
 use Rattle.nearest_pass.proofs.pass_noting.Statement.{statement}
 use Rattle.nearest_pass.proofs.pass_noting.Tie as tie
@@ -133,8 +136,8 @@ same-length c = omega (arith, turn (c .before .before .before .before .before) .
 returns : tie.Need-returns Inv-loop μ-loop
 returns c = (
   asks (place (c .before .before .before .before .before))
-      (rw (c .before .before .looked .given .1) at (c .before .before .before .before .look-up .ensures)),
-  refl,
+      ((rw (c .before .before .looked .given .1) at (c .before .before .before .before .look-up .ensures)) .0),
+  (refl, turn (c .before .before .before .before .before) .loop .inv .2 .written),
 )
 
 enum-told : tie.Need-enum-told Inv-loop μ-loop
@@ -261,21 +264,19 @@ list-stays c =
     omega (arith, c .before .before .before .before .before .before .list .given, turn (at (known c)) .loop .inv .3)
 
 -- at the path's last place all visited vertices have been met
+abbrev tally : Made → Tally
+tally c = c .before .before .before .before .before .before .before .meet .result
+
 surveyed : (c : Made) → pathLength (problemIn (here c .g) (here c .start) (here c .table)) ≡ suc (spent (here c))
     → let a = begun (at (known c)) .args in
-    Surveyed (problemIn (here c .g) (here c .start) (here c .table)) (a .w .now) (a .given) (a .list .now) (listThen c)
-    (c .before .before .before .before .before .before .before .meet .result)
+    let p = problemIn (here c .g) (here c .start) (here c .table) in
+    (_≡_ {A = Nearest} (Vertex (tally c .nearest) (tally c .listed))
+    (Vertex (position (p .grid) (nearest p (a .w .now))) (length (positionsWithin p (a .w .now) (a .given)))))
+    × (listThen c ≡ front (positionsWithin p (a .w .now) (a .given)) (a .list .now))
 surveyed c whole =
     let P = here c in
     let a = begun (at (known c)) .args in
-    record {
-      nearest = met-nearest (P .g) (P .start) (P .table) (P .ok) (spent P) whole (a .w .now) (a .given) (a .list .now)
-          (met c);
-      listed = met-listed (P .g) (P .start) (P .table) (P .ok) (spent P) whole (a .w .now) (a .given) (a .list .now)
-          (met c);
-      written = met-written (P .g) (P .start) (P .table) (P .ok) (spent P) whole (a .w .now) (a .given) (a .list .now)
-          (met c);
-    }
+    all-met (P .g) (P .start) (P .table) (P .ok) (spent P) whole (a .w .now) (a .given) (a .list .now) (met c)
 
 ended-requires : tie.Need-ended-requires Inv-loop μ-loop
 ended-requires c κs = let P = here (c .before .before) in (P .more, P .passing .low)
@@ -347,10 +348,16 @@ returns-4 c =
     let s = c .before .before .before .before .before .before .before .before .before .before in
     let a = s .args in
     let w = s .pre .0 in
-    let l = c .before .before .loop in (
+    let l = c .before .before .loop in
+    let p = problemIn (a .g) (a .first .now) (a .table .now) in
+    let all : a .budget - l .at .left ≡ a .budget = omega (arith, c .if1 .left) in (
       spends (a .g) (w .readable .made) (a .first .now) (a .table .now) (w .accepted) _ (a .budget - l .at .left)
           (l .inv .0 .here) (a .budget) (omega (arith, c .if1 .left)),
-      refl,
+      (
+        refl,
+        l .inv .2 .written
+            ∙ ap (λ (n : ℕ). front (positionsBefore p (a .w .now) (a .given) n) (a .list .now)) all,
+      ),
     )
 
 pub pass-noting-spec : {M : Type 1} → statement M

@@ -1,7 +1,7 @@
 -- `path_pass::look_up` meets its contract: after rules 6 and 7 nothing is read, and else the mark that is looked up
 -- is stored. Assumes nothing.
 use mathlib.Core.List.{[]}
-use mathlib.Core.Path.{sym, _∙_}
+use mathlib.Core.Path.{refl, sym, _∙_}
 use lib.ListN.{length-set}
 use native.Mathlib.Omega.{arith}
 use Rattle.arrays.specs.Rounds.{roundOf}
@@ -20,7 +20,7 @@ mark-in-requires c κs =
 returns : tie.Need-returns
 returns c =
     let u = unknown-zero _ _ (sym (c .before .before .before .mark-in .ensures) ∙ c .before .reading .given .1) in
-    record { reads = c .before .before .before .before .before .if1 .taken; zero = u .0; at = u .1 }
+    (record { reads = c .before .before .before .before .before .if1 .taken; zero = u .0; at = u .1 }, refl)
 
 mul-marks : tie.Need-mul-marks
 mul-marks c =

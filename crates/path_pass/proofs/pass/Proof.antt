@@ -106,7 +106,7 @@ sub-t29 c = omega (arith, turn (c .before .before .before .before .before) .loop
 returns : tie.Need-returns Inv-loop μ-loop
 returns c =
     asks (place (c .before .before .before .before .before))
-    (rw (c .before .before .looked .given .1) at (c .before .before .before .before .look-up .ensures))
+    ((rw (c .before .before .looked .given .1) at (c .before .before .before .before .look-up .ensures)) .0)
 
 enum-told : tie.Need-enum-told Inv-loop μ-loop
 enum-told c = search needs

@@ -138,7 +138,7 @@ returns : tie.Need-returns Inv-loop μ-loop
 returns c =
     let v = c .before .before .before .before .before in (
       asks (place v)
-          (rw (c .before .before .looked .given .1) at (c .before .before .before .before .look-up .ensures)),
+          ((rw (c .before .before .looked .given .1) at (c .before .before .before .before .look-up .ensures)) .0),
       (refl, turn v .loop .inv .2 .written),
     )
 
