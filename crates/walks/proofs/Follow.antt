@@ -1,9 +1,9 @@
 -- Calls over one table, made from {v}, follow the path of an accepted table to its end or to its gap. Assumes nothing.
 use mathlib.Core.Bool.{Bool, true, false, not, cond}
-use mathlib.Core.List.{List, [], _∷_}
+use mathlib.Core.List.{List, [], _∷_, _++_}
 use mathlib.Core.Option.{Option, none, some}
-use mathlib.Core.Path.{_≡_, refl, sym, ap, _∙_}
-use Prim.Native.Nat.{ℕ, zero, suc, pred, _+_, _≤_, _<_}
+use mathlib.Core.Path.{_≡_, refl, sym, ap, _∙_, subst}
+use Prim.Native.Nat.{ℕ, zero, suc, pred, _+_, _-_, _≤_, _<_}
 use lib.Dec.{ltb}
 use native.Mathlib.Omega.{arith}
 use Rattle.combinatorics.proofs.Basics.{absurd-bool, false-of, not-is}
@@ -23,11 +23,14 @@ use Rattle.place.specs.LabelsRead.{cameIn, labelsRead, pointCameIn}
 use Rattle.place.specs.Path.{isBack, waysOn, sameSimplex, path, pathLength, spent, unknown, ended as runEnded, outcome}
 use Rattle.place.specs.Path.{answer}
 use Rattle.place.specs.Places.{Simplex, allLabelled, unlabelled}
-use Rattle.place.specs.Problem.{Problem, hasLabel}
+use Rattle.place.specs.Problem.{Problem, hasLabel, withLabels}
+use Rattle.trail.proofs.RunTrail.{path-trail}
+use Rattle.trail.specs.Record.{trailOf}
+use Rattle.trail.specs.Trail.{reading, readingOf}
 use Rattle.walks.proofs.Meaning.{Came, begins, came, Stands, Passes, of-passes, meets-16, one-way-on}
-use Rattle.walks.proofs.Moved.{next-onward, answer-refused}
+use Rattle.walks.proofs.Moved.{answer-refused, never-start, next-onward, not-20, one-at-most}
 use Rattle.walks.specs.Claims.{walkAt, facingBack, called, CallsFollow}
-use Rattle.walks.specs.Next.{refused, ended, moved, byWay, nextOf, ruleOf, moveAnswer, moveWalk}
+use Rattle.walks.specs.Next.{refused, ended, moved, byWay, nextOf, ruleOf, moveAnswer, moveWalk, afterCalls}
 use Rattle.walks.specs.Preview.{moveTo, preview}
 use Rattle.walks.specs.Walk.{Walk}
 
@@ -219,6 +222,58 @@ module _ {p : Problem} (ok : Accepted p) where
         (of-passes (facingBack p (suc i) n read) p.labels passes-back)
         ∙ ap byWay ways-back)
 
+  -- any number of calls back: where they stand, and what was read on the way
+  pub record Back (i j n read : ℕ) : Type 0 where
+    pub so-far : ℕ
+    pub some-read : 1 ≤ so-far
+    pub few : so-far ≤ n + j
+    pub stands : afterCalls j (facingBack p i n read) p.labels ≡ facingBack p (i - j) (n + j) so-far
+
+  calls-back : (i j n read : ℕ) → suc i < pathLength p → j ≤ i → n + j ≤ suc (bound p.grid) → 1 ≤ read → read ≤ n
+      → Back i j n read
+  calls-back i zero n read c l b r f =
+      let z : n + 0 ≡ n = omega arith in
+      let y : i - 0 ≡ i = omega arith in
+      record { so-far = read; some-read = r; few = omega arith; stands = rw (z, y) }
+  calls-back i (suc j) n read c l b r f =
+      let k = calls-back i j n read c (omega arith) (omega arith) r f in
+      let a = i - suc j in
+      let e : i - j ≡ suc a = omega arith in
+      let m : n + suc j ≡ suc (n + j) = omega arith in
+      let d : suc (suc a) < pathLength p = omega (arith, e) in
+      let x : ℕ = cond (pointCameIn (here (suc a)) (here a)) 1 0 in
+      record {
+        so-far = k .so-far + x;
+        some-read = omega (arith, k .some-read);
+        few = omega (arith, k .few, one-at-most (pointCameIn (here (suc a)) (here a)));
+        stands = ap (λ (w : Walk). moveWalk w p.labels) k.stands
+            ∙ rw (e, m) (moves-back a (n + j) k.so-far d (omega arith) k.some-read k.few);
+      }
+
+  -- on {v} with one before it
+  on-start : (n read : ℕ) → moveAnswer (facingBack p 0 n read) p.labels ≡ refused 20
+  on-start n read =
+      not-20 (facingBack p 0 n read) p.labels ok (λ k. never-start k.came follows.follows.begins)
+
+  stops-at : (i n read : ℕ) → suc i < pathLength p → n + i ≤ suc (bound p.grid) → 1 ≤ read → read ≤ n
+      → let w = afterCalls i (facingBack p i n read) p.labels in
+      (w .present ≡ p .start ∷ []) × (moveAnswer w p.labels ≡ refused 20)
+  stops-at i n read c b r f =
+      let k = calls-back i i n read c (omega arith) b r f in
+      let z : i - i ≡ 0 = omega arith in
+      (
+        rw (k .stands, z) follows.follows.begins,
+        rw (k .stands, z) (on-start (n + i) k.so-far),
+      )
+
+  -- the run's trail, read up to its last record
+  trail-at : (i : ℕ) → i < pathLength p → (others rest : List ℕ)
+      → reading (withLabels p others) (trailOf p visited ++ rest) (suc i)
+      ≡ readingOf (withLabels p others) (called p i .read) (some (called p i .present))
+  unfolding reading
+  trail-at i c others rest =
+      rw (stands i c, path-trail ok .labelsSoFar others rest i c, path-trail ok .reads others rest i c)
+
   pub calls-follow : CallsFollow p
   calls-follow = record {
     stands = stands;
@@ -227,6 +282,19 @@ module _ {p : Problem} (ok : Accepted p) where
     ends = λ b n read k j v s q.
         let r = run-ended b n read k j v s q in
         (places-at n r.0, read-at n r.0 ∙ sym (r .1), rw (r .0) (r .2));
+    agree = λ b n read k j v s q others rest.
+        let r = run-ended b n read k j v s q in
+        let e : called p (pred n) .read ≡ read = read-at n r.0 ∙ sym (r .1) in
+        let z : n ≡ suc (pred n) = (let c = follows .follows .nonempty in omega (arith, r .0)) in
+        let c : pred n < pathLength p = omega (arith, r .0, z) in
+        (e, subst (λ (i : ℕ). reading (withLabels p others) (trailOf p visited ++ rest) i
+        ≡ readingOf (withLabels p others) read (some (called p (pred n) .present))) (sym z)
+        (trail-at (pred n) c others rest ∙ ap
+        (λ (i : ℕ). readingOf (withLabels p others) i (some (called p (pred n) .present))) e));
     gap = λ b n i q. let r = run-asks b n i q in let z : n ≡ last = ap pred r.0 in (places-at (suc n) r.0, rw z (r .1));
     back = moves-back;
+    home = λ i j n read c l b r f. let k = calls-back i j n read c l b r f in
+        (ap (λ (w : Walk). w .present) k.stands, ap (λ (w : Walk). w .before) k.stands,
+        ap (λ (w : Walk). w .places) k.stands);
+    stops = stops-at;
   }

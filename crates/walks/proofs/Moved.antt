@@ -3,7 +3,7 @@
 use mathlib.Core.Bool.{Bool, true, false, not, cond}
 use mathlib.Core.List.{List, [], _∷_}
 use mathlib.Core.Logic.{_↔_, _⊎_, inl, inr, ⊎-elim}
-use mathlib.Core.Option.{Option, some}
+use mathlib.Core.Option.{Option, none, some}
 use mathlib.Core.Path.{_≡_, refl, sym, ap, _∙_, subst}
 use Prim.Native.Nat.{ℕ, zero, suc, _≤_, _<_}
 use borrow.Author.Tests.{ne-eqb}
@@ -37,7 +37,7 @@ use Rattle.walks.specs.Claims.{Calls}
 use Rattle.walks.specs.Next.{Outcome, refused, ended, moved, onMove, byWay, nextOf, ruleOf, moveAnswer, movedTo}
 use Rattle.walks.specs.Next.{walkAfter, moveWalk, afterCalls}
 use Rattle.walks.specs.Preview.{Move, moveTo, preview, seen}
-use Rattle.walks.specs.Walk.{Walk, SameBefore, sameBefore, SameWalk, labelsOf, over, walkQuestions}
+use Rattle.walks.specs.Walk.{Walk, SameBefore, SameParts, noneBefore, sameBefore, labelsOf, over, walkQuestions}
 
 -- a link to a place other than the one before
 pub record Onward (p : Problem) (l : Option Simplex) (here s : Simplex) : Type 0 where
@@ -198,10 +198,10 @@ module _ (w : Walk) (labels : List ℕ) where
           (by-rule t q, ap (λ (x : Walk). encoded (fields (change p w.present x.present))) (sym (walk-next t q)))
 
 -- what has one before it is not {v}
-never-start : {p : Problem} {a s : Simplex} → Came p (some a) s → s ≡ p .start ∷ [] → ⊥
+pub never-start : {p : Problem} {a s : Simplex} → Came p (some a) s → s ≡ p .start ∷ [] → ⊥
 never-start (came j ne) q = ne q
 
-one-at-most : (b : Bool) → cond b 1 0 ≤ 1
+pub one-at-most : (b : Bool) → cond b 1 0 ≤ 1
 one-at-most true = omega arith
 one-at-most false = omega arith
 
@@ -255,12 +255,22 @@ one-origin {p} ok {s = s} (came {a = x} {s = here} k ne) (came {a = y} j _) own 
     apart : (z : Simplex) → z ≡ s → sameSimplex z s ≡ false → ⊥
     apart z e f = absurd-bool (sym (simplex-self s) ∙ (rw e at f))
 
+-- All of two walks but their labels read. Where both are moved, and the moved walks agree in request 08's five parts,
+-- they are the same: the carried labels are the table's.
+pub record SameButRead (w x : Walk) : Type 0 where
+  pub grid : w .grid ≡ x .grid
+  pub start : w .start ≡ x .start
+  pub present : w .present ≡ x .present
+  pub before : w .before ≡ x .before
+  pub places : w .places ≡ x .places
+  pub carried : w .carried ≡ x .carried
+
 module _ (labels : List ℕ) (w x : Walk) {s t : Simplex} (e : nextOf w labels ≡ moved s) (f : nextOf x labels ≡ moved t)
-    (same : SameWalk (movedTo (over w labels) w s) (movedTo (over x labels) x t)) where
+    (same : SameParts (movedTo (over w labels) w s) (movedTo (over x labels) x t)) where
   same-problem : over x labels ≡ over w labels
   same-problem = λ i. record { grid = sym same.grid i; start = sym same.start i; labels = labels }
 
-  moved-from : w ≡ x
+  moved-from : SameButRead w x × (s ≡ t)
   moved-from =
       let a = moved-passes w labels s e in
       let b = subst
@@ -272,23 +282,45 @@ module _ (labels : List ℕ) (w x : Walk) {s t : Simplex} (e : nextOf w labels �
       let h : w .present ≡ x .present =
       place-same (over w labels) w.present x.present a.0.stands.place b.2 (points same.before) in
       let q : s ≡ t = place-same (over w labels) s t a.1.joins.to b.3.joins.to same.present in
-      let o : w .before ≡ x .before =
-      one-origin a.0.accepted a.0.stands.came (rw (← h) at b.1) a.0.known a.1 (rw (← q) at (rw (← h) at b.3)) in
-      let n : w .places ≡ x .places = (let z = same .places in omega arith) in
-      let l : w .carried ≡ x .carried = a .0 .stands .carries ∙ ap (labelsOf (over w labels)) h ∙ sym (b .4) in
-      let m : w .read ≡ x .read = (let z = rw (← h, ← q) at same.read in omega (arith, z)) in
-      λ i. record {
-        grid = same .grid i;
-        start = same .start i;
-        present = h i;
-        before = o i;
-        places = n i;
-        carried = l i;
-        read = m i;
-      }
+      (record {
+        grid = same .grid;
+        start = same .start;
+        present = h;
+        before = one-origin a.0.accepted a.0.stands.came (rw (← h) at b.1) a.0.known a.1
+            (rw (← q) at (rw (← h) at b.3));
+        places = let z = same .places in omega arith;
+        carried = a .0 .stands .carries ∙ ap (labelsOf (over w labels)) h ∙ sym (b .4);
+      }, q)
     where
       points : SameBefore (some w.present) (some x.present) → SamePoints w.present x.present
       points (sameBefore k) = k
+
+  parts-from : SameParts w x
+  parts-from = let k = moved-from .0 in record {
+    grid = k .grid;
+    start = k .start;
+    present = rw (k .present) (λ y. refl);
+    before = rw (k .before) (self (x .before));
+    places = k .places;
+  }
+    where
+      self : (o : Option Simplex) → SameBefore o o
+      self none = noneBefore
+      self (some a) = sameBefore (λ y. refl)
+
+  walk-from : movedTo (over w labels) w s .read ≡ movedTo (over x labels) x t .read → w ≡ x
+  walk-from r =
+      let k = moved-from .0 in
+      let m : w .read ≡ x .read = (let z = rw (← (k .present), ← (moved-from .1)) at r in omega (arith, z)) in
+      λ i. record {
+        grid = k .grid i;
+        start = k .start i;
+        present = k .present i;
+        before = k .before i;
+        places = k .places i;
+        carried = k .carried i;
+        read = m i;
+      }
 
 -- all of it
 pub calls-hold : (w : Walk) (labels : List ℕ) → Calls w labels
@@ -311,5 +343,10 @@ calls-hold w labels = record {
   once = λ x r q e f same.
       let m = moved-next w labels r e in
       let n = moved-next x labels q f in
-      moved-from labels w x m.1 n.1 (rw (walk-next w labels m.0 m.1, walk-next x labels n.0 n.1) at same);
+      let k = rw (walk-next w labels m.0 m.1, walk-next x labels n.0 n.1) at same in
+      walk-from labels w x m.1 n.1 k.parts k.read;
+  onceParts = λ x r q e f same.
+      let m = moved-next w labels r e in
+      let n = moved-next x labels q f in
+      parts-from labels w x m.1 n.1 (rw (walk-next w labels m.0 m.1, walk-next x labels n.0 n.1) at same);
 }

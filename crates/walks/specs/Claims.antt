@@ -1,10 +1,10 @@
 -- What requests 08, 09, 10 and 14 say of calls, in the order of the customer's sentences. Assumes nothing.
 use mathlib.Core.Bool.{true, cond}
-use mathlib.Core.List.{List, [], _∷_}
+use mathlib.Core.List.{List, [], _∷_, _++_}
 use mathlib.Core.Logic.{_↔_, _⊎_}
 use mathlib.Core.Option.{some}
 use mathlib.Core.Path.{_≡_}
-use Prim.Native.Nat.{ℕ, suc, pred, _+_, _≤_, _<_}
+use Prim.Native.Nat.{ℕ, suc, pred, _+_, _-_, _≤_, _<_}
 use lib.ListN.{length}
 use Rattle.combinatorics.specs.Lists.{isIn}
 use Rattle.end_kinds.specs.declared.Kind.{Kind}
@@ -13,13 +13,14 @@ use Rattle.path_laws.specs.Demand.{Accepted, placeAt, leftAt}
 use Rattle.place.specs.LabelsRead.{cameIn, pointCameIn}
 use Rattle.place.specs.Path.{path, pathLength, waysOn, ended as runEnded, unknown, answer}
 use Rattle.place.specs.Places.{Simplex}
-use Rattle.place.specs.Problem.{Problem, label}
+use Rattle.place.specs.Problem.{Problem, label, withLabels}
 use Rattle.questions.specs.Questions.{firstNo}
 use Rattle.trail.specs.Change.{change, ByRule}
-use Rattle.trail.specs.Record.{fields, encoded, recordOf}
+use Rattle.trail.specs.Record.{fields, encoded, recordOf, trailOf}
+use Rattle.trail.specs.Trail.{reading, readingOf}
 use Rattle.walks.specs.Next.{refused, ended, moved, nextOf, ruleOf, moveAnswer, moveWalk, afterCalls}
 use Rattle.walks.specs.Preview.{Move, moveTo, preview, seen}
-use Rattle.walks.specs.Walk.{Walk, SameWalk, walkAtStart, labelsOf, over, walkQuestions}
+use Rattle.walks.specs.Walk.{Walk, SameParts, SameWalk, walkAtStart, labelsOf, over, walkQuestions}
 
 -- the walk at the i-th place of the path, from 0
 abbrev pub walkAt : Problem → ℕ → Walk
@@ -68,6 +69,13 @@ pub record CallsFollow (p : Problem) : Type 0 where
       → answer p budget ≡ runEnded n read kind block vertices simplex
       → (called p (pred n) .places ≡ n) × (called p (pred n) .read ≡ read)
       × (moveAnswer (called p (pred n)) (p .labels) ≡ ended kind block simplex)
+  -- Request 10: "A run, a walk lent from {v} on and a rebuilt trail of the same path agree on it", the labels read. The
+  -- reader is given no table, so it may be any, and so may what stands behind the trail
+  pub agree : (budget n read : ℕ) (kind : Kind) (block vertices : ℕ) (simplex : Simplex)
+      → answer p budget ≡ runEnded n read kind block vertices simplex → (others rest : List ℕ)
+      → let w = called p (pred n) in let q = withLabels p others in
+      (w .read ≡ read)
+      × (reading q (trailOf p (path p .visited) ++ rest) n ≡ readingOf q read (some (w .present)))
   -- and where the run meets 16 the walk does, with one place more than those visited before
   pub gap : (budget n position : ℕ) → answer p budget ≡ unknown n position
       → (called p n .places ≡ suc n) × (moveAnswer (called p n) (p .labels) ≡ refused 16)
@@ -77,6 +85,14 @@ pub record CallsFollow (p : Problem) : Type 0 where
       → let s = path p .visited in
       moveWalk (facingBack p (suc i) n read) (p .labels)
       ≡ facingBack p i (suc n) (read + cond (pointCameIn (placeAt s (suc i)) (placeAt s i)) 1 0)
+  -- so that, as long as its places so far stay within the bound, it "visits the same places in opposite order",
+  pub home : (i j n read : ℕ) → suc i < pathLength p → j ≤ i → n + j ≤ suc (bound (p .grid)) → 1 ≤ read → read ≤ n
+      → let s = path p .visited in let w = afterCalls j (facingBack p i n read) (p .labels) in
+      (w .present ≡ placeAt s (i - j)) × (w .before ≡ some (placeAt s (suc (i - j)))) × (w .places ≡ n + j)
+  -- "and stops at {v}"
+  pub stops : (i n read : ℕ) → suc i < pathLength p → n + i ≤ suc (bound (p .grid)) → 1 ≤ read → read ≤ n
+      → let w = afterCalls i (facingBack p i n read) (p .labels) in
+      (w .present ≡ p .start ∷ []) × (moveAnswer w (p .labels) ≡ refused 20)
 
 -- of every walk and table: wherever the walk stands, and whichever way it faces
 pub record Calls (w : Walk) (labels : List ℕ) : Type 0 where
@@ -115,3 +131,6 @@ pub record Calls (w : Walk) (labels : List ℕ) : Type 0 where
   -- "Over one label table, two different walks that a call moves on are never moved to the same walk"
   pub once : (x : Walk) (r q : ℕ) → moveAnswer w labels ≡ moved r → moveAnswer x labels ≡ moved q
       → SameWalk (moveWalk w labels) (moveWalk x labels) → w ≡ x
+  -- also where walks are the same by the five parts of request 08, before and after the call
+  pub onceParts : (x : Walk) (r q : ℕ) → moveAnswer w labels ≡ moved r → moveAnswer x labels ≡ moved q
+      → SameParts (moveWalk w labels) (moveWalk x labels) → SameParts w x

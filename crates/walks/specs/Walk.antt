@@ -49,12 +49,17 @@ pub data SameBefore : Option Simplex → Option Simplex → Type 0 where
   noneBefore : SameBefore none none
   sameBefore : {a b : Simplex} → SamePoints a b → SameBefore (some a) (some b)
 
-pub record SameWalk (w x : Walk) : Type 0 where
+-- the five parts that request 08 names
+pub record SameParts (w x : Walk) : Type 0 where
   pub grid : w .grid ≡ x .grid
   pub start : w .start ≡ x .start
   pub present : SamePoints (w .present) (x .present)
   pub before : SameBefore (w .before) (x .before)
   pub places : w .places ≡ x .places
+
+-- and with them the two that request 10 adds
+pub record SameWalk (w x : Walk) : Type 0 where
+  pub parts : SameParts w x
   pub carried : w .carried ≡ x .carried
   pub read : w .read ≡ x .read
 
