@@ -653,6 +653,18 @@ pub enum From {
     Middle,
 }
 
+/// Grids, starts, seeds and rounds for which the search found long paths.
+pub const LONG_RUNS: [(&[u8], &[u16], From, u64, usize); 8] = [
+    (&[3], &[344], From::LastCorner, 44, 200),
+    (&[2, 2], &[240, 240], From::FirstCorner, 224, 200),
+    (&[4], &[60], From::FirstCorner, 106, 200),
+    (&[16], &[6], From::LastCorner, 1, 1_000),
+    (&[2, 2, 2, 2, 2, 2], &[5, 5, 5, 5, 5, 6], From::Middle, 0, 20_000),
+    (&[2, 2, 2], &[38, 38, 38], From::LastCorner, 363, 500),
+    (&[3, 3, 3], &[7, 7, 8], From::LastCorner, 1, 5_000),
+    (&[2, 2, 2, 2], &[14, 14, 15, 15], From::LastCorner, 2, 3_000),
+];
+
 pub fn start_from(grid: &Grid, from: From) -> Vec<u16> {
     let mut start = vec![0; grid.m];
     for (range, &division) in grid.ranges().zip(&grid.divisions) {

@@ -6,7 +6,7 @@
 
 use programs::calls::{BoundaryCall, CheckCall, Fields, LabelCall, RunCall};
 use programs::implementations::{Paper, Sheet};
-use programs::inputs::{long_run, whole_simplex, From};
+use programs::inputs::{long_run, whole_simplex, From, LONG_RUNS};
 use programs::{refinements, Implementation, NearCall, ReadCall, RefineCall, TrailCall};
 use reference::games::{self, GAMES};
 use reference::grid::{Grid, MOST_LOSSES};
@@ -27,18 +27,6 @@ const MOST_TRAIL: usize = 500_000;
 
 /// Divisions that bring each game's grid near 60,000 points.
 const GAME_DIVISIONS: [&[u16]; 3] = [&[38, 38, 38], &[7, 7, 8], &[14, 14, 15, 15]];
-
-/// Grids, starts, seeds and rounds for which the search found long paths.
-const LONG_RUNS: [(&[u8], &[u16], From, u64, usize); 8] = [
-    (&[3], &[344], From::LastCorner, 44, 200),
-    (&[2, 2], &[240, 240], From::FirstCorner, 224, 200),
-    (&[4], &[60], From::FirstCorner, 106, 200),
-    (&[16], &[6], From::LastCorner, 1, 1_000),
-    (&[2, 2, 2, 2, 2, 2], &[5, 5, 5, 5, 5, 6], From::Middle, 0, 20_000),
-    (&[2, 2, 2], &[38, 38, 38], From::LastCorner, 363, 500),
-    (&[3, 3, 3], &[7, 7, 8], From::LastCorner, 1, 5_000),
-    (&[2, 2, 2, 2], &[14, 14, 15, 15], From::LastCorner, 2, 3_000),
-];
 
 /// Grids with a boundary of a few points, of some, and of all.
 const BOUNDARY_GRIDS: [(&[u8], &[u16]); 5] = [
