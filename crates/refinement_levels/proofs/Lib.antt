@@ -4,3 +4,4 @@ pub mod Starts
 pub mod Vertices
 pub mod Buffers
 pub mod Claims
+pub mod Worked
