@@ -2,3 +2,4 @@ pub mod Firsts
 pub mod Visits
 pub mod Distances
 pub mod Nearest
+pub mod Worked

@@ -3,3 +3,4 @@ pub mod Distance
 pub mod Nearest
 pub mod Questions
 pub mod Demand
+pub mod Worked
