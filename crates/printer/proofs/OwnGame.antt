@@ -1,19 +1,20 @@
 -- A game that is named and the same table brought print the same sheet: the two slips are asked alike, and run on the
 -- same. Assumes nothing.
-use mathlib.Core.Bool.{Bool, true, false, cond}
+use mathlib.Core.Bool.{Bool, true, false, _&&_, _||_, cond, not}
 use mathlib.Core.List.{List, [], _∷_, _++_, append-assoc}
 use mathlib.Core.Logic.{⊎-elim}
 use mathlib.Core.Path.{_≡_, refl, sym, ap, _∙_}
 use Prim.Native.Nat.{ℕ, zero, suc, _+_, _*_, _≤_, _<_}
 use borrow.Author.Needs.{needs}
 use borrow.Author.Tests.{ne-eqb, le-leb}
-use lib.Dec.{eqb}
+use lib.Dec.{eqb, leb}
 use lib.ListN.{length, length-append, getD, List·getD-append}
 use lib.Seq.{take-append-seam, getD-append-add}
 use native.Mathlib.Omega.{arith}
-use Rattle.combinatorics.proofs.Basics.{and-both, same-or, true-or-false}
-use Rattle.combinatorics.proofs.Lists.{eqb-self}
-use Rattle.combinatorics.specs.Lists.{same}
+use Rattle.combinatorics.proofs.Basics.{absurd-bool, and-both, before-or-not, same-or, true-or-false}
+use Rattle.combinatorics.proofs.Lists.{all-in, eqb-self, onNumbers}
+use Rattle.combinatorics.proofs.Ranges.{in-upFrom}
+use Rattle.combinatorics.specs.Lists.{all, same, upFrom}
 use Rattle.little_endian.proofs.Laws.{words-same, number-same, words-read, length-bytesOf}
 use Rattle.little_endian.specs.Numbers.{number, words, bytesOf}
 use Rattle.game_built_in.proofs.Games.{table-whole, table-range}
@@ -28,7 +29,7 @@ use Rattle.place.specs.Problem.{Problem}
 use Rattle.place.specs.Questions.{question7}
 use Rattle.sheet_lines.specs.Sheet.{refusedSheet}
 use Rattle.slip_fields.proofs.Laws.{at-first, at-next, length-there, game-last, losses-last, exact}
-use Rattle.slip.proofs.Readings.{refused-grid, refused-14}
+use Rattle.slip.proofs.Readings.{refused-13, refused-14, refused-grid}
 use Rattle.slip_fields.specs.Slip.{mapBit, isMap, stands, sizesOf, slipGrid, headLength, fieldLengths, fieldLength}
 use Rattle.slip_fields.specs.Slip.{fieldAt}
 use Rattle.slip_fields.specs.Slip.{fieldsEnd, defaultStart}
@@ -305,11 +306,44 @@ module _ (game others : ℕ) (low : 1 ≤ game) (high : game ≤ 3) (few : other
     pub alike : sheetOf named ≡ sheetOf brought
     alike = sheet-by named brought same-questions same-grid same-problem same-budget
 
+-- any other map with bit 3 or bit 4 is refused with 13, whatever stands behind it
+abbrev noMap : ℕ → Bool
+noMap others = mapBit others 3 || mapBit others 4 || not (isMap (others + 8) || isMap (others + 16))
+
+no-maps : all noMap (upFrom 4 252) ≡ true
+unfolding isMap
+no-maps = refl
+
+no-map : (others : ℕ) → 4 ≤ others → others < 256 → mapBit others 3 ≡ false → mapBit others 4 ≡ false
+    → (isMap (others + 8) ≡ false) × (isMap (others + 16) ≡ false)
+no-map others low high three four = told (isMap (others + 8)) (isMap (others + 16))
+    (rw (three, four) at (all-in onNumbers noMap (upFrom 4 252) no-maps others
+    (in-upFrom 4 252 others (omega arith) (omega arith))))
+  where
+    told : (a b : Bool) → not (a || b) ≡ true → (a ≡ false) × (b ≡ false)
+    told true b e = absurd-bool (sym e)
+    told false true e = absurd-bool (sym e)
+    told false false e = (refl, refl)
+
+unread : (slip : List ℕ) → isMap (getD slip 0 0) ≡ false → sheetOf slip ≡ refusedSheet 13
+unread slip e = refused-by slip 13 (λ z. omega arith)
+    (refused-13 slip (rw e (neither (leb (headLength slip) (length slip)))))
+  where
+    neither : (b : Bool) → (b && false) ≡ false
+    neither true = refl
+    neither false = refl
+
 -- one proof over the three games
 pub own-game : (game : ℕ) → 1 ≤ game → game ≤ 3 → OwnGame game
 own-game game low high = record {
-  same = λ others few divisions between each. ⊎-elim (alike game others low high few divisions between each)
+  same = λ others byte three four divisions between each. ⊎-elim
+      (λ (few : others < 4). ⊎-elim (alike game others low high few divisions between each)
       (inexact game others low high few divisions between each)
       (same-or (2 + length (gameSizes game ++ (bytesOf divisions ++ between)))
-      (fieldAt (slipOn game (others + 8) divisions between (game ∷ [])) 2));
+      (fieldAt (slipOn game (others + 8) divisions between (game ∷ [])) 2)))
+      (λ (many : 4 ≤ others).
+      let none = no-map others many byte three four in
+      unread (slipOn game (others + 8) divisions between (game ∷ [])) (none .0)
+      ∙ sym (unread (slipOn game (others + 16) divisions between (bytesOf (gameLosses game))) (none .1)))
+      (before-or-not others 4);
 }
