@@ -23,12 +23,12 @@ use Rattle.questions.specs.Questions.{ask, firstNo}
 use Rattle.walks.proofs.Moved.{moved-passes, next-refused}
 use Rattle.walks.specs.Next.{Outcome, ended, moved, nextOf, refused, ruleOf}
 use Rattle.walks.specs.Walk.{Walk, isWalk, over}
-use Rattle.walk_calls.specs.Moving.{CarriesTo, callOn, walkMovedTo, unmovedAs}
+use Rattle.walk_calls.specs.Moving.{CarriesTo, callOn, unmovedAs}
 use Rattle.walk_places.specs.Placing.{GoesTo}
 use Rattle.walk_labels.specs.declared.Carried.{Carried}
 use Rattle.walk_places.specs.Walks.{walkGrid, placeOf, walkOf, walkOn}
-use Rattle.walk_ways.specs.Answers.{answerOf, nextAs, outcomeNumbers, structOn}
-use Rattle.walk_calls.specs.Calls.{callOf}
+use Rattle.walk_ways.specs.Answers.{answerOf, nextAs, outcomeNumbers}
+use Rattle.walk_calls.specs.Calls.{callOf, structOn, walkMovedTo}
 use Rattle.walk_ways.specs.declared.WalkAnswer.{WalkAnswer}
 use Rattle.walk_ways.specs.declared.WalkAnswer.the-variants.{Ended, Moved, Refused}
 use Rattle.walk_calls.specs.declared.Call.{Call}

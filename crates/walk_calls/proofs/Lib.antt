@@ -2,3 +2,4 @@ pub mod CarriedTo
 pub mod Later
 pub mod Calls
 pub mod GridIn
+pub mod OnStructs

@@ -1,8 +1,7 @@
 -- What the functions of the moving call ask and give. Assumes nothing.
-use mathlib.Core.Bool.{cond}
 use mathlib.Core.List.{List}
 use mathlib.Core.Path.{_≡_}
-use Prim.Native.Nat.{ℕ, _+_}
+use Prim.Native.Nat.{ℕ}
 use lib.ListN.{replicate}
 use Rattle.grid_points.specs.Grid.{Grid}
 use Rattle.grid.specs.Made.{IsMade, shape}
@@ -17,10 +16,10 @@ use Rattle.walks.specs.Walk.{labelsOf, over}
 use Rattle.walk_labels.specs.declared.Carried.{Carried}
 use Rattle.combinatorics.specs.Front.{padded}
 use Rattle.walk_places.specs.Walks.{placeOf, walkOn}
-use Rattle.walk_ways.specs.Answers.{answerOf, outcomeNumbers, structOn}
+use Rattle.walk_ways.specs.Answers.{answerOf, outcomeNumbers}
 use Rattle.walk_ways.specs.declared.WalkAnswer.the-variants.{Refused}
+use Rattle.walk_calls.specs.Calls.{structOn}
 use Rattle.walk_calls.specs.declared.Call.{Call}
-use Rattle.walk_places.specs.declared.Place.{Place}
 use Rattle.walk_places.specs.declared.Walk.{Walk as WalkStruct}
 
 -- what `Grid::new` gives of a walk's grid
@@ -32,20 +31,6 @@ pub record GridIn (g : Grid) (r : Made) : Type 0 where
 pub record CarriesTo (p : Problem) (here there : Simplex) (r : Carried) : Type 0 where
   pub labels : r .labels ≡ padded 16 (labelsOf p there)
   pub cameIn : r .«came_in» ≡ pointCameIn here there
-
--- the walk moved on to a place
-abbrev pub walkMovedTo : WalkStruct → Place → Carried → WalkStruct
-walkMovedTo w place on = record {
-  places = w .places + 1;
-  «labels_read» = w .«labels_read» + cond (on .«came_in») 1 0;
-  present = place;
-  before = w .present;
-  start = w .start;
-  divisions = w .divisions;
-  sizes = w .sizes;
-  blocks = w .blocks;
-  carried = on .labels;
-}
 
 abbrev pub unmovedAs : WalkStruct → ℕ → Call
 unmovedAs w number = record { answer = Refused number; simplex = replicate 256 0; walk = w }

@@ -88,6 +88,17 @@ module _ (g : Grid) (b : Place) where
       let xy = and-left (x && y) z e in
       (leb-true 1 _ (and-left x y xy), leb-true _ 16 (and-right x y xy), same-place b _ (and-right (x && y) z e))
 
+-- a struct that holds a place of a problem holds it, and so is not none
+pub place-before : (p : Problem) → HasStart p → (b : Place) → isPlace p (placeOf p.grid b) ≡ true
+    → beforeOf p.grid b ≡ some (placeOf p.grid b)
+place-before p ok b place =
+    let h : holdsPlace p.grid b ≡ true = ⊎-elim (λ t. t)
+    (λ f. absurd
+    (no-empty p ok.someBlock (subst (λ (s : Simplex). isPlace p s ≡ true) (not-held p.grid b f) place)))
+    (true-or-false (holdsPlace p.grid b)) in
+    let some-points = held-parts p.grid b h .0 in
+    rw (ne-eqb (b .count) 0 (λ z. absurd (omega (arith, z, some-points))))
+
 -- the struct is told by the place
 module _ (p : Problem) (ok : HasStart p) (b : Place) (long-b : length (b .order) ≡ 16) (first order : List ℕ) (n : ℕ)
     (long : length (take n order) ≡ n)

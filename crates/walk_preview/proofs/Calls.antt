@@ -12,14 +12,14 @@ use Rattle.walks.proofs.Moved.{moved-passes}
 use Rattle.walks.specs.Next.{Outcome, ended, moved, nextOf, onMove, refused, ruleOf}
 use Rattle.walks.specs.Preview.{moveTo, preview}
 use Rattle.walks.specs.Walk.{over}
-use Rattle.walk_calls.specs.Calls.{callOf}
+use Rattle.walk_calls.specs.Calls.{callOf, structOn}
 use Rattle.walk_calls.specs.declared.Call.{Call}
 use Rattle.walk_places.proofs.BothPlaced.{grid-asked}
 use Rattle.walk_preview.specs.Changes.{noChange}
 use Rattle.walk_preview.specs.Previews.{Moves, changeIn, shownAs}
 use Rattle.walk_preview.specs.declared.Change.{Change as ChangeStruct}
 use Rattle.walk_preview.specs.declared.Shown.{Shown}
-use Rattle.walk_ways.specs.Answers.{answerOf, outcomeNumbers, structOn}
+use Rattle.walk_ways.specs.Answers.{answerOf, outcomeNumbers}
 use Rattle.walk_places.specs.Walks.{walkGrid, walkOf}
 use Rattle.walk_ways.specs.declared.WalkAnswer.{WalkAnswer}
 use Rattle.walk_ways.specs.declared.WalkAnswer.the-variants.{Ended, Moved, Refused}

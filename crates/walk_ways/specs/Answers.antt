@@ -1,20 +1,15 @@
--- What a call gives: the answer, the simplex of an end, the place to which the walk is moved, and the walk after it.
--- Assumes nothing.
-use mathlib.Core.Bool.{cond}
+-- What a call gives: the answer, the simplex of an end, and the place to which the walk is moved. Assumes nothing.
 use mathlib.Core.List.{List, []}
-use Prim.Native.Nat.{ℕ, _+_}
+use Prim.Native.Nat.{ℕ}
 use lib.ListN.{length}
 use Rattle.combinatorics.specs.Lists.{concatMap}
 use Rattle.combinatorics.specs.Front.{padded}
 use Rattle.grid_points.specs.Grid.{Grid}
-use Rattle.place.specs.LabelsRead.{pointCameIn}
 use Rattle.place.specs.Places.{Simplex}
-use Rattle.place.specs.Problem.{Problem}
 use Rattle.walks.specs.Next.{Outcome, ended, moved, refused, ruleOf}
-use Rattle.walks.specs.Walk.{Walk, labelsOf, over}
-use Rattle.walk_places.specs.Walks.{nowhere, placeOf, stored}
+use Rattle.walks.specs.Walk.{Walk, over}
+use Rattle.walk_places.specs.Walks.{nowhere, stored}
 use Rattle.walk_places.specs.declared.Place.{Place}
-use Rattle.walk_places.specs.declared.Walk.{Walk as WalkStruct}
 use Rattle.walk_ways.specs.declared.WalkAnswer.{WalkAnswer}
 use Rattle.walk_ways.specs.declared.WalkAnswer.the-variants.{Ended, Moved, Refused}
 use Rattle.walk_ways.specs.declared.Next.{Next}
@@ -41,21 +36,4 @@ nextAs w labels n = record {
   answer = answerOf (ruleOf (over w labels) (w .present)) n;
   simplex = padded 256 (outcomeNumbers n);
   place = placeAfter (w .grid) n;
-}
-
--- "each call moves it on by one place": what was the present place is then the one before, it carries the labels of the
--- next, over the table of p, and its labels read are one more if a point came in; else the walk is as it was
-abbrev pub structOn : Problem → WalkStruct → Outcome Simplex → WalkStruct
-structOn p w (refused number) = w
-structOn p w (ended kind block simplex) = w
-structOn p w (moved s) = let g = p .grid in record {
-  places = w .places + 1;
-  «labels_read» = w .«labels_read» + cond (pointCameIn (placeOf g (w .present)) s) 1 0;
-  present = stored g s;
-  before = w .present;
-  start = w .start;
-  divisions = w .divisions;
-  sizes = w .sizes;
-  blocks = w .blocks;
-  carried = padded 16 (labelsOf p s);
 }

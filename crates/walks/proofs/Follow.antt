@@ -260,8 +260,7 @@ module _ {p : Problem} (ok : Accepted p) where
       (w .present ≡ p .start ∷ []) × (moveAnswer w p.labels ≡ refused 20)
   stops-at i n read c b r f =
       let k = calls-back i i n read c (omega arith) b r f in
-      let z : i - i ≡ 0 = omega arith in
-      (
+      let z : i - i ≡ 0 = omega arith in (
         rw (k .stands, z) follows.follows.begins,
         rw (k .stands, z) (on-start (n + i) k.so-far),
       )
@@ -286,15 +285,19 @@ module _ {p : Problem} (ok : Accepted p) where
         let r = run-ended b n read k j v s q in
         let e : called p (pred n) .read ≡ read = read-at n r.0 ∙ sym (r .1) in
         let z : n ≡ suc (pred n) = (let c = follows .follows .nonempty in omega (arith, r .0)) in
-        let c : pred n < pathLength p = omega (arith, r .0, z) in
-        (e, subst (λ (i : ℕ). reading (withLabels p others) (trailOf p visited ++ rest) i
-        ≡ readingOf (withLabels p others) read (some (called p (pred n) .present))) (sym z)
-        (trail-at (pred n) c others rest ∙ ap
-        (λ (i : ℕ). readingOf (withLabels p others) i (some (called p (pred n) .present))) e));
+        let c : pred n < pathLength p = omega (arith, r .0, z) in (
+          e,
+          subst (λ (i : ℕ). reading (withLabels p others) (trailOf p visited ++ rest) i
+              ≡ readingOf (withLabels p others) read (some (called p (pred n) .present))) (sym z)
+              (trail-at (pred n) c others rest ∙ ap
+              (λ (i : ℕ). readingOf (withLabels p others) i (some (called p (pred n) .present))) e),
+        );
     gap = λ b n i q. let r = run-asks b n i q in let z : n ≡ last = ap pred r.0 in (places-at (suc n) r.0, rw z (r .1));
     back = moves-back;
-    home = λ i j n read c l b r f. let k = calls-back i j n read c l b r f in
-        (ap (λ (w : Walk). w .present) k.stands, ap (λ (w : Walk). w .before) k.stands,
-        ap (λ (w : Walk). w .places) k.stands);
+    home = λ i j n read c l b r f. let k = calls-back i j n read c l b r f in (
+      ap (λ (w : Walk). w .present) k.stands,
+      ap (λ (w : Walk). w .before) k.stands,
+      ap (λ (w : Walk). w .places) k.stands,
+    );
     stops = stops-at;
   }

@@ -281,16 +281,18 @@ module _ (labels : List ℕ) (w x : Walk) {s t : Simplex} (e : nextOf w labels �
       (b .0 .accepted, b .0 .stands .came, b .0 .stands .place, b .1, b .0 .stands .carries)) in
       let h : w .present ≡ x .present =
       place-same (over w labels) w.present x.present a.0.stands.place b.2 (points same.before) in
-      let q : s ≡ t = place-same (over w labels) s t a.1.joins.to b.3.joins.to same.present in
-      (record {
-        grid = same .grid;
-        start = same .start;
-        present = h;
-        before = one-origin a.0.accepted a.0.stands.came (rw (← h) at b.1) a.0.known a.1
-            (rw (← q) at (rw (← h) at b.3));
-        places = let z = same .places in omega arith;
-        carried = a .0 .stands .carries ∙ ap (labelsOf (over w labels)) h ∙ sym (b .4);
-      }, q)
+      let q : s ≡ t = place-same (over w labels) s t a.1.joins.to b.3.joins.to same.present in (
+        record {
+          grid = same .grid;
+          start = same .start;
+          present = h;
+          before = one-origin a.0.accepted a.0.stands.came (rw (← h) at b.1) a.0.known a.1
+              (rw (← q) at (rw (← h) at b.3));
+          places = let z = same .places in omega arith;
+          carried = a .0 .stands .carries ∙ ap (labelsOf (over w labels)) h ∙ sym (b .4);
+        },
+        q,
+      )
     where
       points : SameBefore (some w.present) (some x.present) → SamePoints w.present x.present
       points (sameBefore k) = k
