@@ -2,3 +2,4 @@ pub mod Among
 pub mod Changed
 pub mod BothSeen
 pub mod Calls
+pub mod OnCopies
