@@ -1,2 +1,3 @@
 pub mod Start
 pub mod Placed
+pub mod FromStart

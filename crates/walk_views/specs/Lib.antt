@@ -1,3 +1,4 @@
 pub mod Begun
 pub mod Turned
 pub mod Viewed
+pub mod Claims
