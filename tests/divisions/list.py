@@ -13,20 +13,17 @@ import sys
 ROOT = pathlib.Path(__file__).resolve().parents[2]
 
 # the crates that find a point's position, prepare for it and read what is kept of it
-WITHOUT = ["positions", "rules", "arrays", "moves", "steps", "place_points", "marks", "path_walk", "finder"]
+WITHOUT = ["positions", "rules", "arrays", "moves", "ways", "marks", "path_pass", "finder", "checker", "nearest_met",
+           "nearest_pass", "nearest", "trail_pass", "trail_steps", "trail_reader", "walk_recogniser", "walk_places",
+           "walk_labels", "walk_ways", "walk_next", "walk_calls", "walk_views"]
 
 REASONS = {
-    "weighed_losses::lengths::rests": "which block and player a place stands for, 36 times a game",
+    "game_weighed::lengths::rests": "which block and player a place stands for, 36 times a game",
     "slip::brought": "how many losses of two bytes a slip brings",
-    "slip::fields::stands": "one bit of the slip's first byte",
+    "slip::fields::bit_stands": "one bit of the slip's first byte",
     "rounding::centre": "the centre in ten-thousandths, rounded",
     "text::decimal": "a number's decimal digits",
-    "checker::check": "how many points of m numbers a list has",
-    "checker::refusals::is_list": "how many points of m numbers a list has",
-    "record_reading::said_of": "two bits of a record's first byte",
-    "walk_reader::byte": "a program of the tests, which reads a byte",
-    "case_reader::put_bytes": "a program of the tests, which reads a byte",
-    "exported_calls::make_game": "a program of the tests, which reads the number of a game",
+    "trail_following::low_bit": "one bit of a record's first byte",
 }
 
 

@@ -1,6 +1,6 @@
 #!/usr/bin/env python3
-"""Prints what each customer's call rests on: the files of definitions that its contract cites, and those that these
-cite.
+"""Prints what each customer's call, and each call for C, rests on: the files of definitions that its contract cites,
+and those that these cite.
 
 A promise is right if these definitions say what the papers say; every other file of specs/ is for proofs alone. A
 definition counts where the text of another one that counts names it, so that a file is listed only for what is used
@@ -17,7 +17,7 @@ CRATES = pathlib.Path(__file__).resolve().parents[2] / "crates"
 
 CALLS = {
     "finder": ["run"],
-    "games": ["label"],
+    "game_labels": ["label"],
     "printer": ["print"],
     "checker": ["check"],
     "boundary": ["boundary"],
@@ -29,6 +29,13 @@ CALLS = {
     "walk_preview": ["preview"],
     "walk_views": ["at_start", "turned", "points"],
     "shelf": ["file", "current"],
+    "exports": ["leveretplate_run", "leveretplate_label", "leveretplate_boundary", "leveretplate_refine",
+                "leveretplate_check", "leveretplate_sheet", "leveretplate_file", "leveretplate_current"],
+    "nearest_exports": ["leveretplate_nearest"],
+    "trail_writer_exports": ["leveretplate_run_with_trail"],
+    "trail_reader_exports": ["leveretplate_read_trail"],
+    "walk_exports": ["leveretplate_walk_at_start", "leveretplate_move_on", "leveretplate_preview",
+                     "leveretplate_walk_points"],
 }
 
 WORD = re.compile(r"[^\s(){}\[\],;⌜⌝λ→∷×≡.«»←⟦⟧=:|]+")
@@ -102,7 +109,7 @@ def contract(crate, function):
     """The clauses of a function, and what its file brings in."""
     for path in sorted((CRATES / crate / "src").rglob("*.rt")):
         text = path.read_text()
-        found = re.search(rf"^pub fn {function}\b.*?^\{{", text, re.M | re.S)
+        found = re.search(rf"^pub (?:extern \"C\" )?fn {function}\b.*?^\{{", text, re.M | re.S)
         if found:
             return found[0], imports(text)
     raise SystemExit(f"no function {crate}::{function}")

@@ -54,5 +54,6 @@ pub fn check(sizes: &[u8], divisions: &[u16], labels: &[u8], numbers: &[u16]) ->
         return CheckAnswer::Refused(number);
     }
     let m = g.indices;
-    judged(g, labels, numbers, numbers.len() / m)
+    let count = refusals::whole_points(numbers.len(), m);
+    judged(g, labels, numbers, count)
 }

@@ -1,6 +1,6 @@
 // Questions 6, 7 and 19.
 ghost use mathlib.Core.Path.{_≡_};
-ghost use Prim.Native.Nat.{_*_};
+ghost use Prim.Native.Nat.{_<_, _/_};
 ghost use lib.ListN.{length};
 ghost use Rattle.combinatorics.specs.Lists.{all};
 ghost use Rattle.questions.specs.Questions.{firstNo};
@@ -28,6 +28,20 @@ fn all_on_grid(g: Grid, numbers: &[u16], count: usize) -> bool
     true
 }
 
+// How many whole points of m numbers a list of this length has. They are counted: the checker divides nowhere.
+pub fn whole_points(length: usize, m: usize) -> usize
+    requires { ⌜ 0 < m ⌝ }
+    ensures { λ r. ⌜ r ≡ length / m ⌝ }
+{
+    let mut count: usize = 0;
+    let mut left = length;
+    while m <= left {
+        left -= m;
+        count += 1;
+    }
+    count
+}
+
 // Question 19: is the list 1 to n + 1 whole points of the grid?
 fn is_list(g: Grid, numbers: &[u16]) -> bool
     requires { ⌜ IsMade g ⌝ }
@@ -38,7 +52,7 @@ fn is_list(g: Grid, numbers: &[u16]) -> bool
     if length < 1 {
         return false;
     }
-    let count = length / m;
+    let count = whole_points(length, m);
     if count * m != length {
         return false;
     }

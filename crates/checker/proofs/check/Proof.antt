@@ -41,37 +41,41 @@ returns-2 c =
     (λ (h : Grid). firstNo (listQuestions h (b .args .labels .now) (b .args .numbers .now)))
     (made-shape G (n .result) (n .ensures) zero))
 
-div-judged : tie.Need-div-judged
-div-judged c = let b = c .before .before .before .before .before .before .before .before .before in
+whole-points-requires : tie.Need-whole-points-requires
+whole-points-requires c κs = let b = c .before .before .before .before .before .before .before .before .before in
     let G : Grid = record { sizes = b .args .sizes .now; divisions = b .args .divisions .now } in
     let n = c .before .before .before .before .new in
     some-index (n .result .grid) (made-is G (n .result) (n .ensures) (c .before .before .if1 .left))
 
 judged-requires : tie.Need-judged-requires
-judged-requires c κs = let b = c .before .before .before .before .before .before .before .before .before in
+judged-requires c κs = let d = c .before in
+    let b = d .before .before .before .before .before .before .before .before .before in
     let G : Grid = record { sizes = b .args .sizes .now; divisions = b .args .divisions .now } in
-    let n = c .before .before .before .before .new in
+    let n = d .before .before .before .before .new in
     let s = n .result .grid in
-    let made = made-is G (n .result) (n .ensures) (c .before .before .if1 .left) in
-    let none = sym (c .before .first-check-no .ensures) ∙ c .if2 .left in
+    let made = made-is G (n .result) (n .ensures) (d .before .before .if1 .left) in
+    let none = sym (d .before .first-check-no .ensures) ∙ d .if2 .left in
     let w = passed-list s made (b .args .labels .now) (b .args .numbers .now) none in
-    (w .0, passed-labels s made (b .args .labels .now) (b .args .numbers .now) none, w .1)
+    rw (c .whole-points .ensures) (w .0, passed-labels s made (b .args .labels .now) (b .args .numbers .now) none, w .1)
 
 returns-3 : tie.Need-returns-3
 returns-3 c =
-    let b = c .before .before .before .before .before .before .before .before .before .before in
+    let d = c .before .before in
+    let b = d .before .before .before .before .before .before .before .before .before in
     let G : Grid = record { sizes = b .args .sizes .now; divisions = b .args .divisions .now } in
-    let n = c .before .before .before .before .before .new in
-    let zero = c .before .before .before .if1 .left in
+    let n = d .before .before .before .before .new in
+    let zero = d .before .before .if1 .left in
     let s = n .result .grid in
     let made = made-is G (n .result) (n .ensures) zero in
     let labels = b .args .labels .now in
     let numbers = b .args .numbers .now in
     let same = made-shape G (n .result) (n .ensures) zero in
     let none = ap (λ (h : Grid). firstNo (listQuestions h labels numbers)) (sym same)
-    ∙ sym (c .before .before .first-check-no .ensures)
-    ∙ c .before .if2 .left in
+    ∙ sym (d .before .first-check-no .ensures)
+    ∙ d .if2 .left in
     c .judged .ensures
+    ∙ ap (λ (k : ℕ). checkCase (verdict (shape s) labels (listed (s .indices) k numbers)))
+        (c .before .whole-points .ensures)
     ∙ ap (λ (m : ℕ). checkCase (verdict (shape s) labels (listed m (length numbers / m) numbers))) (made-indices s made)
     ∙ ap (λ (h : Grid). checkCase (verdict h labels (listedPoints h numbers))) same
     ∙ judged-is G labels numbers (sym (made-code G (n .result) (n .ensures)) ∙ zero) none
@@ -84,6 +88,6 @@ check-spec =
     returns
     first-check-no-requires
     returns-2
-    div-judged
+    whole-points-requires
     judged-requires
     returns-3)

@@ -54,12 +54,12 @@ returns-2 c =
     let e = c .before .before .before .before .before .position-in .ensures in
     let read = sym (c .before .before .before .before .read-at .ensures) ∙ c .before .before .byte .given .1 in
     let b : c .u32-of .result ≡ getD (a .table .now) (c .before .before .before .before .before .position-in .result)
-        0 =
+    0 =
     c .u32-of .ensures .0 ∙ byte-told _ _ read in
     ap (λ (at : ℕ). Marked (mark at (c .u32-of .result))) e
     ∙ rw (b, e) (read-mark (a .g) (a .binomials .now) (a .table .now) (s .pre .0) _
     (λ z. byte-some (getD (a .table .now) (c .before .before .before .before .before .position-in .result) 0) _ read
-        (rw e z)))
+    (rw e z)))
 
 pub mark-in-spec : {M : Type 1} → statement M
 mark-in-spec =

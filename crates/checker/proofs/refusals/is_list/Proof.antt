@@ -14,34 +14,35 @@ returns : tie.Need-returns
 returns c = let b = c .before .before in
     list-empty (shape (b .args .g)) (b .args .numbers .now) (c .if1 .taken)
 
-div-count : tie.Need-div-count
-div-count c = some-index (c .before .before .args .g) (c .before .before .pre)
+whole-points-requires : tie.Need-whole-points-requires
+whole-points-requires c κs = some-index (c .before .before .args .g) (c .before .before .pre)
 
 mul-if2 : tie.Need-mul-if2
-mul-if2 c = fits-le (div-mul-le-self _ _) (omega arith)
+mul-if2 c = rw (c .whole-points .ensures) (fits-le (div-mul-le-self _ _) (omega arith))
 
 returns-2 : tie.Need-returns-2
 returns-2 c =
-    let b = c .before .before .before in
+    let b = c .before .before .before .before in
     list-parted (shape (b .args .g)) (b .args .numbers .now) (omega arith)
-    (rw (← made-indices (b .args .g) (b .pre)) (c .if2 .taken))
+    (rw (← made-indices (b .args .g) (b .pre), ← c .before .whole-points .ensures) (c .if2 .taken))
 
 sub-if3 : tie.Need-sub-if3
-sub-if3 c = fewer-blocks (c .before .before .before .before .args .g) (c .before .before .before .before .pre)
+sub-if3 c = let b = c .before .before .before .before .before in fewer-blocks (b .args .g) (b .pre)
 
 add-if3 : tie.Need-add-if3
-add-if3 c = let b = c .before .before .before .before in
+add-if3 c = let b = c .before .before .before .before .before in
     omega (arith, most-is (b .args .g) (b .pre), most-few (b .args .g) (b .pre))
 
 returns-3 : tie.Need-returns-3
 returns-3 c =
-    let b = c .before .before .before .before .before in
+    let b = c .before .before .before .before .before .before in
+    let count = c .before .before .before .whole-points .ensures in
     list-long (shape (b .args .g)) (b .args .numbers .now) (omega arith)
-    (rw (← made-indices (b .args .g) (b .pre)) (c .before .before .if2 .left))
-    (rw (← most-is (b .args .g) (b .pre), ← made-indices (b .args .g) (b .pre)) (c .if3 .taken))
+    (rw (← made-indices (b .args .g) (b .pre), ← count) (c .before .before .if2 .left))
+    (rw (← most-is (b .args .g) (b .pre), ← made-indices (b .args .g) (b .pre), ← count) (c .if3 .taken))
 
 all-on-grid-requires : tie.Need-all-on-grid-requires
-all-on-grid-requires c κs = let b = c .before .before .before .before .before in
+all-on-grid-requires c κs = let b = c .before .before .before .before .before .before in
     record {
       made = b .pre;
       few = omega (arith, most-is (b .args .g) (b .pre), most-few (b .args .g) (b .pre), c .if3 .left);
@@ -50,18 +51,19 @@ all-on-grid-requires c κs = let b = c .before .before .before .before .before i
 
 returns-4 : tie.Need-returns-4
 returns-4 c =
-    let b = c .before .before .before .before .before .before in
-    rw (made-indices (b .args .g) (b .pre)) at (c .all-on-grid .ensures)
+    let b = c .before .before .before .before .before .before .before in
+    let count = c .before .before .before .before .whole-points .ensures in
+    rw (count, made-indices (b .args .g) (b .pre)) at (c .all-on-grid .ensures)
     ∙ list-points (shape (b .args .g)) (b .args .numbers .now) (omega arith)
-    (rw (← made-indices (b .args .g) (b .pre)) (c .before .before .before .if2 .left))
-    (rw (← most-is (b .args .g) (b .pre), ← made-indices (b .args .g) (b .pre)) (c .before .if3 .left))
+    (rw (← made-indices (b .args .g) (b .pre), ← count) (c .before .before .before .if2 .left))
+    (rw (← most-is (b .args .g) (b .pre), ← made-indices (b .args .g) (b .pre), ← count) (c .before .if3 .left))
 
 pub is-list-spec : {M : Type 1} → statement M
 is-list-spec =
     tie.close
     (tie.spec
     returns
-    div-count
+    whole-points-requires
     mul-if2
     returns-2
     sub-if3
