@@ -1,6 +1,6 @@
 -- The labels carried from a place to the next. In order: whether a point came in, by marks; the labels that the walk
 -- carries; what is carried. Assumes nothing.
-use mathlib.Core.Bool.{true, not, cond}
+use mathlib.Core.Bool.{true, false, not, cond}
 use mathlib.Core.List.{List, [], _∷_, map}
 use mathlib.Core.Logic.{⊎-elim}
 use mathlib.Core.Path.{_≡_, refl, sym, ap, _∙_}
@@ -25,10 +25,10 @@ use Rattle.path_laws.specs.Demand.{Accepted}
 use Rattle.walk_recogniser.specs.Pieces.{bareMark}
 use Rattle.rules.specs.Moves.{markPosition}
 use Rattle.walks.specs.Walk.{labelsOf}
-use Rattle.walk_calls.specs.Moving.{CarriesTo}
+use Rattle.walk_calls.specs.Moving.{CarriesTo, Completes}
 use Rattle.walk_places.specs.Placing.{BothMarked, GoesTo}
 use Rattle.walk_places.specs.declared.Both.{Both}
-use Rattle.walk_labels.specs.Carrying.{CanCarry, CarriedOn, labelAtMark}
+use Rattle.walk_labels.specs.Carrying.{CanCarry, CarriedOver, CarriesOver, labelAtMark}
 use Rattle.walk_labels.specs.declared.Carried.{Carried}
 use Rattle.walk_places.specs.Walks.{carriedOf, placeOf, tableOn}
 use Rattle.walk_places.specs.declared.Place.{Place}
@@ -63,9 +63,10 @@ module _ {g : GridStruct} {w : WalkStruct} {labels : List ℕ} {next : Place} (m
   abbrev ok : Accepted p
   ok = accepted made G
 
-  label-bare : (y : Point) → labelAtMark labels (bareMark (shape g) y) ≡ label p y
+  label-bare : (table : List ℕ) (y : Point)
+      → labelAtMark table (bareMark (shape g) y) ≡ label (tableOn g w table) y
   unfolding label
-  label-bare y = ap (λ (i : ℕ). getD labels i 0) (bare-position (shape g) y)
+  label-bare table y = ap (λ (i : ℕ). getD table i 0) (bare-position (shape g) y)
 
   -- the labels that the walk carries
   carried-at : (i : ℕ) → i < length here → at (w .carried) i ≡ label p (getD here i [])
@@ -90,6 +91,10 @@ module _ {g : GridStruct} {w : WalkStruct} {labels : List ℕ} {next : Place} (m
           absurd (omega (arith, ap length a, length-map here (label p))))
           (true-or-false (same eqb (w .carried) (padded 16 (take (w .present .count) (w .carried)))))
 
+  -- so the lent table itself has them
+  pub lent-completes : Completes g w labels there labels
+  lent-completes = record { carried = carried-at; comesIn = λ y h e. refl }
+
   module _ {b : Both} (M : BothMarked p here there b) where
     long-here : length here ≡ suc (b .n)
     long-here = sym (length-map here (bareMark (shape g))) ∙ sym (ap length M.from) ∙ length-take-le (suc (b .n))
@@ -107,17 +112,20 @@ module _ {g : GridStruct} {w : WalkStruct} {labels : List ℕ} {next : Place} (m
     onto-at j l = sym (getD-take (suc (b .k)) (b .onto) j 0 (omega arith)) ∙ ap (λ (r : List ℕ). at r j) M.onto ∙ map-at
         (bareMark (shape g)) there j (omega (arith, long-there))
 
-    pub can-carry : CanCarry (b .from) (b .n) (w .carried) (b .onto) (b .k) labels
+    on-next : (j : ℕ) → j ≤ b .k → (isIn samePoint (getD there j []) there ≡ true)
+        × (isGridPoint (shape g) (getD there j []) ≡ true)
+    on-next j l =
+        let m = at-in onPoints [] there j (omega (arith, long-there)) in
+        (m, all-in onPoints (isGridPoint (shape g)) there (on-there made G) (getD there j []) m)
+
+    pub can-carry : CanCarry (b .from) (b .n) (b .onto) (b .k) labels
     can-carry = record {
       few = M .few;
       long = M .fromLong;
-      carries = λ i l. carried-at i (omega (arith, long-here)) ∙ sym
-          (ap (labelAtMark labels) (from-at i l) ∙ label-bare (getD here i []));
       fewNext = M .fewNext;
       nextLong = M .ontoLong;
       within = λ j l. let y = getD there j [] in
-          let on = all-in onPoints (isGridPoint (shape g)) there (on-there made G) y
-          (at-in onPoints [] there j (omega (arith, long-there))) in
+          let on = on-next j l .1 in
           omega (
             arith,
             ap markPosition (onto-at j l) ∙ bare-position (shape g) y,
@@ -126,12 +134,26 @@ module _ {g : GridStruct} {w : WalkStruct} {labels : List ℕ} {next : Place} (m
           );
     }
 
-    pub carries-to : (r : Carried) → CarriedOn (b .from) (b .n) (b .onto) (b .k) labels r → CarriesTo p here there r
-    carries-to r C = record {
-      labels = C .labels ∙ ap (padded 16) (rw (M .onto) (go there));
-      cameIn = C .cameIn ∙ rw (M .from, M .onto) (came-in ok here there (on-here made G) (on-there made G));
-    }
-      where
-        go : (s : Simplex) → map (labelAtMark labels) (map (bareMark (shape g)) s) ≡ labelsOf p s
-        go [] = refl
-        go (x ∷ s) = rw (label-bare x, go s)
+    module _ (full : List ℕ) (F : Completes g w labels there full) where
+      carries-over : CarriesOver (b .from) (b .n) (w .carried) (b .onto) (b .k) labels full
+      carries-over = record {
+        carries = λ i l. F .carried i (omega (arith, long-here)) ∙ sym
+            (ap (labelAtMark full) (from-at i l) ∙ label-bare full (getD here i []));
+        comesIn = λ j l e.
+            let y = getD there j [] in
+            let o = on-next j l in
+            let new : isIn samePoint y here ≡ false =
+            sym (bare-in ok y here o.1 (on-here made G)) ∙ (rw (onto-at j l, M .from) at e) in
+            rw (onto-at j l, label-bare labels y, label-bare full y) (F .comesIn y o.0 new);
+      }
+
+      pub carries-to : (r : Carried) → CarriedOver (b .from) (b .n) (w .carried) (b .onto) (b .k) labels r
+          → CarriesTo (tableOn g w full) here there r
+      carries-to r given = let C = given full carries-over in record {
+        labels = C .labels ∙ ap (padded 16) (rw (M .onto) (go there));
+        cameIn = C .cameIn ∙ rw (M .from, M .onto) (came-in ok here there (on-here made G) (on-there made G));
+      }
+        where
+          go : (s : Simplex) → map (labelAtMark full) (map (bareMark (shape g)) s) ≡ labelsOf (tableOn g w full) s
+          go [] = refl
+          go (x ∷ s) = rw (label-bare full x, go s)

@@ -1,10 +1,11 @@
 // The moving call by value.
 ghost use mathlib.Core.Bool.{cond};
+ghost use mathlib.Core.List.{List};
 ghost use mathlib.Core.Path.{_≡_};
-ghost use Prim.Native.Nat.{_<_};
+ghost use Prim.Native.Nat.{ℕ, _<_};
 ghost use lib.Dec.{leb};
 ghost use Rattle.grid.specs.Made.{IsMade, shape};
-ghost use Rattle.walk_calls.specs.Moving.{CarriesTo, GridIn, callOn, unmovedAs};
+ghost use Rattle.walk_calls.specs.Moving.{CarriesTo, Completes, GridIn, callOn, unmovedAs};
 ghost use Rattle.walk_places.specs.Placing.{GoesTo};
 ghost use Rattle.walk_places.specs.Walks.{walkGrid, placeOf, tableOn};
 ghost use Rattle.walk_calls.specs.Calls.{callOf, walkMovedTo};
@@ -22,10 +23,12 @@ use walk_places::both_placed;
 use walk_ways::WalkAnswer;
 
 // The labels of the place to which the walk is moved: those that it carries, and the table's of a point that comes in.
+// They are those of every table that has the first and, at a point that comes in, the second.
 fn carried_to(g: Grid, w: Walk, labels: &[u8], next: Place) -> Carried
     requires { ⌜ IsMade g × GoesTo (shape g) w (now labels) next ⌝ }
-    ensures { λ r. ⌜ ((G : GoesTo (shape g) w (now (labels .entry)) next)
-        → CarriesTo (tableOn g w (now (labels .entry))) (placeOf (shape g) (w .present)) (G .to) r) ⌝ }
+    ensures { λ r. ⌜ ((G : GoesTo (shape g) w (now (labels .entry)) next) (full : List ℕ)
+        → Completes g w (now (labels .entry)) (G .to) full
+        → CarriesTo (tableOn g w full) (placeOf (shape g) (w .present)) (G .to) r) ⌝ }
 {
     let b = both_placed(g, w, next);
     let from = b.from;

@@ -20,7 +20,7 @@ use Rattle.grid_points.specs.Grid.{at}
 use Rattle.path_laws.proofs.Positions.{at-in, in-at}
 use Rattle.rules.proofs.Marks.{labels-in}
 use Rattle.rules.specs.Moves.{markLabel, markPosition}
-use Rattle.walk_labels.specs.Carrying.{CanCarry, FoundIn, labelAtMark, labelsInMarks}
+use Rattle.walk_labels.specs.Carrying.{CanCarry, CarriesOver, FoundIn, labelAtMark, labelsInMarks}
 
 -- labels in marks
 module _ (marks : List ℕ) (n : ℕ) (few : n ≤ 15) (long : length marks ≡ 16) where
@@ -86,38 +86,38 @@ pub record CarriedBelow (marks : List ℕ) (n : ℕ) (next table labels : List �
   pub cameIn : came ≡ not (all (λ m. isIn eqb m (take (suc n) marks)) (take j next))
 
 module _ (marks : List ℕ) (n : ℕ) (carried next : List ℕ) (k : ℕ) (table : List ℕ)
-    (C : CanCarry marks n carried next k table) where
-  pub none-carried : CarriedBelow marks n next table (replicate 16 0) false 0
-  none-carried = record { put = sym (front-none (replicate 16 0)); cameIn = refl }
+    (C : CanCarry marks n next k table) where
+  pub none-carried : (full : List ℕ) → CarriedBelow marks n next full (replicate 16 0) false 0
+  none-carried full = record { put = sym (front-none (replicate 16 0)); cameIn = refl }
 
   pub position-here : (j r : ℕ) → j ≤ k → r ≡ markPosition (at (take (suc k) next) j) → r ≡ markPosition (at next j)
   position-here j r l e = e ∙ ap markPosition (getD-take (suc k) next j 0 (omega arith))
 
-  module _ (labels : List ℕ) (came : Bool) (j : ℕ) (B : CarriedBelow marks n next table labels came j) (l : j ≤ k)
-      (i : ℕ) (F : FoundIn marks n (at next j) i) where
+  module _ (full : List ℕ) (O : CarriesOver marks n carried next k table full) (labels : List ℕ) (came : Bool) (j : ℕ)
+      (B : CarriedBelow marks n next full labels came j) (l : j ≤ k) (i : ℕ) (F : FoundIn marks n (at next j) i) where
     next-more : take (j + 1) next ≡ take j next ++ (at next j ∷ [])
     next-more = rw (add-one j) (take-suc next j 0 (omega (arith, C .nextLong, C .fewNext)))
 
     -- the label is the table's, whether carried or read
-    label-is : cond (leb i n) (at carried i) (labelAtMark table (at next j)) ≡ labelAtMark table (at next j)
-    label-is = ⊎-elim (λ (m : n < i). rw (lt-leb i n m))
-        (λ (m : i ≤ n). rw (le-leb i n m) (C .carries i m ∙ ap (labelAtMark table) (F .there m))) (before-or-not n i)
+    label-is : cond (leb i n) (at carried i) (labelAtMark table (at next j)) ≡ labelAtMark full (at next j)
+    label-is = ⊎-elim (λ (m : n < i). rw (lt-leb i n m) (O .comesIn j l (F .among ∙ lt-leb i n m)))
+        (λ (m : i ≤ n). rw (le-leb i n m) (O .carries i m ∙ ap (labelAtMark full) (F .there m))) (before-or-not n i)
 
     stored : (x : ℕ) → x ≡ cond (leb i n) (at carried i) (labelAtMark table (at next j))
-        → set labels j x ≡ front (map (labelAtMark table) (take (j + 1) next)) (replicate 16 0)
+        → set labels j x ≡ front (map (labelAtMark full) (take (j + 1) next)) (replicate 16 0)
     stored x e =
-        let z : x ≡ labelAtMark table (at next j) = e ∙ label-is in
+        let z : x ≡ labelAtMark full (at next j) = e ∙ label-is in
         let few : j < 16 = omega (arith, C .fewNext) in
-        let long : length (map (labelAtMark table) (take j next)) ≡ j = length-map (take j next) (labelAtMark table) ∙
+        let long : length (map (labelAtMark full) (take j next)) ≡ j = length-map (take j next) (labelAtMark full) ∙
         length-take-le j next (omega (arith, C .nextLong, C .fewNext)) in
         rw (z, B .put)
-        (front-put (map (labelAtMark table) (take j next)) (replicate 16 0) j (labelAtMark table (at next j))
+        (front-put (map (labelAtMark full) (take j next)) (replicate 16 0) j (labelAtMark full (at next j))
         (sym long) few
         ∙ ap (λ (r : List ℕ). front r (replicate 16 0))
-        (sym (ap (map (labelAtMark table)) next-more ∙ map-more (labelAtMark table) (take j next) (at next j))))
+        (sym (ap (map (labelAtMark full)) next-more ∙ map-more (labelAtMark full) (take j next) (at next j))))
 
     pub carried-in : n < i → (x : ℕ) → x ≡ cond (leb i n) (at carried i) (labelAtMark table (at next j)) →
-        CarriedBelow marks n next table (set labels j x) true (j + 1)
+        CarriedBelow marks n next full (set labels j x) true (j + 1)
     carried-in m x e = record {
       put = stored x e;
       cameIn = rw (
@@ -130,7 +130,7 @@ module _ (marks : List ℕ) (n : ℕ) (carried next : List ℕ) (k : ℕ) (table
     }
 
     pub carried-over : i ≤ n → (x : ℕ) → x ≡ cond (leb i n) (at carried i) (labelAtMark table (at next j)) →
-        CarriedBelow marks n next table (set labels j x) came (j + 1)
+        CarriedBelow marks n next full (set labels j x) came (j + 1)
     carried-over m x e = record {
       put = stored x e;
       cameIn = B .cameIn ∙ rw (

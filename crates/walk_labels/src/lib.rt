@@ -7,7 +7,7 @@ ghost use lib.Dec.{eqb, leb};
 ghost use lib.ListN.{length, getD};
 ghost use Rattle.combinatorics.specs.Lists.{same};
 ghost use Rattle.grid_points.specs.Grid.{at};
-ghost use Rattle.walk_labels.specs.Carrying.{CanCarry, CarriedOn, FoundIn, labelsInMarks};
+ghost use Rattle.walk_labels.specs.Carrying.{CanCarry, CarriedOver, FoundIn, labelsInMarks};
 use arrays::label_in;
 use arrays::position_at;
 use arrays::wide32;
@@ -82,8 +82,9 @@ pub fn carry(
     k: usize,
     table: &[u8],
 ) -> Carried
-    requires { ⌜ CanCarry (now marks) n (now carried) (now next) k (now table) ⌝ }
-    ensures { λ r. ⌜ CarriedOn (now (marks .entry)) n (now (next .entry)) k (now (table .entry)) r ⌝ }
+    requires { ⌜ CanCarry (now marks) n (now next) k (now table) ⌝ }
+    ensures { λ r. ⌜ CarriedOver (now (marks .entry)) n (now (carried .entry)) (now (next .entry)) k
+        (now (table .entry)) r ⌝ }
 {
     let mut labels = [0u8; 16];
     let mut came_in = false;

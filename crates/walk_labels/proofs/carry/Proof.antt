@@ -1,6 +1,7 @@
 -- `carry` meets its contract. The invariant: the labels of the first j points are put, and it is told whether one of
 -- them came in. The measure: the points left. Assumes nothing.
 use mathlib.Core.Bool.{cond}
+use mathlib.Core.List.{List}
 use mathlib.Core.Logic.{⊎-elim}
 use mathlib.Core.Path.{_≡_, ap, _∙_, subst}
 use Prim.Native.Nat.{ℕ, suc, _-_, _≤_, _<_}
@@ -9,13 +10,13 @@ use lib.ListN.{getD}
 use native.Mathlib.Omega.{arith}
 use Rattle.grid_points.specs.Grid.{at}
 use Rattle.walk_labels.proofs.Carrying.{CarriedBelow, carried-in, carried-over, none-carried, position-here}
-use Rattle.walk_labels.specs.Carrying.{labelAtMark}
+use Rattle.walk_labels.specs.Carrying.{CarriesOver, labelAtMark}
 use Rattle.walk_labels.proofs.carry.Statement.{statement}
 use Rattle.walk_labels.proofs.carry.Tie as tie
 
 abbrev Inv-loop : tie.InvT-loop
 Inv-loop marks n carried next k table labels₀ came-in₀ j₀ labels came-in j = (j ≤ suc k) × (k ≤ 15)
-    × CarriedBelow marks n next table labels came-in j
+    × ((full : List ℕ) → CarriesOver marks n carried next k table full → CarriedBelow marks n next full labels came-in j)
 
 abbrev μ-loop : tie.MeasureT-loop
 μ-loop marks n carried next k table labels₀ came-in₀ j₀ labels came-in j = suc k - j
@@ -24,8 +25,8 @@ loop-holds : tie.Need-loop-holds Inv-loop μ-loop
 loop-holds c = let s = c .before in let a = s .args in (
   omega arith,
   s .pre .fewNext,
-  none-carried (a .marks .now) (a .n) (a .carried .now) (a .next .now) (a .k)
-      (a .table .now) (s .pre),
+  (λ full O. none-carried (a .marks .now) (a .n) (a .carried .now) (a .next .now) (a .k)
+      (a .table .now) (s .pre) full),
 )
 
 mul-found : tie.Need-mul-found Inv-loop μ-loop
@@ -77,19 +78,19 @@ loop-again c = let s = c .before .before .before .before .before .before .before
     (getD (a .table .now) r 0)) z in (
       omega (arith, m),
       l .inv .1,
-      ⊎-elim (λ w. rw (w .1) (carried-in (a .marks .now) (a .n) (a .carried .now) (a .next .now) (a .k) (a .table .now)
-          (s .pre) (l .labels) (l .came-in) (l .j) (l .inv .2) m i (c .before .before .before .found .ensures)
+      (λ full O. ⊎-elim (λ w. rw (w .1) (carried-in (a .marks .now) (a .n) (a .carried .now) (a .next .now) (a .k) (a .table .now)
+          (s .pre) full O (l .labels) (l .came-in) (l .j) (l .inv .2 full O) m i (c .before .before .before .found .ensures)
           (w .0 .taken) (c .before .label-of .result) e))
           (λ w. rw (w .1) (carried-over (a .marks .now) (a .n) (a .carried .now) (a .next .now) (a .k) (a .table .now)
-          (s .pre) (l .labels) (l .came-in) (l .j) (l .inv .2) m i (c .before .before .before .found .ensures)
+          (s .pre) full O (l .labels) (l .came-in) (l .j) (l .inv .2 full O) m i (c .before .before .before .found .ensures)
           (omega (arith, w .0 .left)) (c .before .label-of .result) e))
-          (c .if1 .came),
+          (c .if1 .came)),
     )
 
 returns : tie.Need-returns Inv-loop μ-loop
-returns c = let a = c .before .before .before .args in let l = c .before .loop in
-    let B = subst (λ (j : ℕ). CarriedBelow (a .marks .now) (a .n) (a .next .now) (a .table .now) (l .labels)
-    (l .came-in) j) (end-is (l .j) (a .k) (l .inv .0) (omega arith)) (l .inv .2) in
+returns c full O = let a = c .before .before .before .args in let l = c .before .loop in
+    let B = subst (λ (j : ℕ). CarriedBelow (a .marks .now) (a .n) (a .next .now) full (l .labels)
+    (l .came-in) j) (end-is (l .j) (a .k) (l .inv .0) (omega arith)) (l .inv .2 full O) in
     record { labels = B .put; cameIn = B .cameIn }
   where
     end-is : (j k : ℕ) → j ≤ suc k → k < j → j ≡ suc k

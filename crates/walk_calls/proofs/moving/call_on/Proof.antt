@@ -7,6 +7,7 @@ use Rattle.grid.proofs.Fields.{indices-few}
 use Rattle.grid.specs.Made.{shape}
 use Rattle.place.specs.Questions.{tableQuestions}
 use Rattle.questions.specs.Questions.{firstNo}
+use Rattle.walk_calls.proofs.CarriedTo.{lent-completes}
 use Rattle.walk_calls.proofs.Calls.{call-ended, call-moved, call-refuses, goes-to, places-few, table-refused}
 use Rattle.walk_calls.proofs.Later.{walk-asked}
 use Rattle.walk_places.specs.Placing.{GoesTo}
@@ -90,7 +91,7 @@ returns-2 c =
     let on = c .before .carried-to in
     rw (c .moved-to .ensures)
     (call-moved (shape (a .g)) (a .w) (a .labels .now) (d .next-on .result) (d .next-on .ensures) (going m)
-    (on .result) (on .ensures (going m)))
+    (on .result) (on .ensures (going m) (a .labels .now) (lent-completes (begun (d .before .before) .pre) (going m))))
 
 returns-3 : tie.Need-returns-3
 returns-3 c =

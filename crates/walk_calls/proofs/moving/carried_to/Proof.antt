@@ -12,9 +12,9 @@ carry-requires c κs = let s = c .before .before .before .before .before .before
     (s .args .labels .now) (s .pre .1))
 
 returns : tie.Need-returns
-returns c G = let s = c .before .before .before .before .before .before .before .before .before in
+returns c G full F = let s = c .before .before .before .before .before .before .before .before .before in
     carries-to (s .pre .0) G (c .before .before .before .before .before .before .before .both-placed .ensures
-    (s .args .labels .now) G) (c .carry .result) (c .carry .ensures)
+    (s .args .labels .now) G) full F (c .carry .result) (c .carry .ensures)
 
 pub carried-to-spec : {M : Type 1} → statement M
 carried-to-spec = tie.close (tie.spec both-placed-requires carry-requires returns)
