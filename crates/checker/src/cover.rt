@@ -10,7 +10,7 @@ ghost use Rattle.rules.specs.Mask.{bit};
 ghost use Rattle.place.specs.Problem.{label};
 ghost use Rattle.check_simplices.specs.Simplices.{labelledBy};
 ghost use Rattle.check_chains.specs.Listed.{listed, Listed};
-ghost use Rattle.label_table.specs.Labels.{byteOf, labelOf};
+ghost use Rattle.label_table.specs.Labels.{labelByte, labelOf};
 ghost use Rattle.positions.specs.Binomials.{HasBinomials};
 ghost use Rattle.checker.specs.Check.{checkCase};
 ghost use Rattle.checker.specs.Covered.{IsCovered, firstWhole, Labelled, withLabel};
@@ -27,8 +27,8 @@ use positions::ENTRIES;
 
 // The set with the index that a label names, or as it is where there is no label.
 fn with_label(set: u16, label: Label) -> u16
-    requires { ⌜ (label ≡ labelOf (byteOf label)) × (byteOf label ≤ 16) ⌝ }
-    ensures { λ r. ⌜ r ≡ withLabel set (byteOf label) ⌝ }
+    requires { ⌜ (label ≡ labelOf (labelByte label)) × (labelByte label ≤ 16) ⌝ }
+    ensures { λ r. ⌜ r ≡ withLabel set (labelByte label) ⌝ }
 {
     match label {
         Label::Is(byte) => add(set, wide(byte) - 1),
@@ -40,8 +40,8 @@ fn with_label(set: u16, label: Label) -> u16
 fn label_at(g: Grid, binomials: &[u16; ENTRIES], labels: &[u8], y: &[u16; 16]) -> Label
     requires { ⌜ IsMade g × HasBinomials (shape g) (now binomials) ⌝ }
     requires { ⌜ Labelled g (now labels) × (isGridPoint (shape g) (take (g .indices) (now y)) ≡ true) ⌝ }
-    ensures { λ r. ⌜ (r ≡ labelOf (byteOf r)) × (byteOf r ≤ 16) ⌝ }
-    ensures { λ r. ⌜ byteOf r ≡ label (labelledBy (shape g) (now (labels .entry)))
+    ensures { λ r. ⌜ (r ≡ labelOf (labelByte r)) × (labelByte r ≤ 16) ⌝ }
+    ensures { λ r. ⌜ labelByte r ≡ label (labelledBy (shape g) (now (labels .entry)))
         (take (g .indices) (now (y .entry))) ⌝ }
 {
     let steps = [16u16; 16];

@@ -10,6 +10,6 @@ abbrev pub labelOf : ℕ → Label
 labelOf byte = cond (eqb byte 0) Unknown (Is byte)
 
 -- the byte by which a label, or that there is none, is kept
-abbrev pub byteOf : Label → ℕ
-byteOf (Is byte) = byte
-byteOf Unknown = 0
+abbrev pub labelByte : Label → ℕ
+labelByte (Is byte) = byte
+labelByte Unknown = 0

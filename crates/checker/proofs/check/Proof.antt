@@ -75,7 +75,7 @@ returns-3 c =
     ∙ d .if2 .left in
     c .judged .ensures
     ∙ ap (λ (k : ℕ). checkCase (verdict (shape s) labels (listed (s .indices) k numbers)))
-        (c .before .whole-points .ensures)
+    (c .before .whole-points .ensures)
     ∙ ap (λ (m : ℕ). checkCase (verdict (shape s) labels (listed m (length numbers / m) numbers))) (made-indices s made)
     ∙ ap (λ (h : Grid). checkCase (verdict h labels (listedPoints h numbers))) same
     ∙ judged-is G labels numbers (sym (made-code G (n .result) (n .ensures)) ∙ zero) none

@@ -4,7 +4,7 @@ use borrow.Author.Needs.{needs}
 use borrow.Author.Tests.{ne-eqb}
 use native.Mathlib.Omega.{arith}
 use Rattle.label_table.proofs.Labels.{label-some}
-use Rattle.label_table.specs.Labels.{byteOf}
+use Rattle.label_table.specs.Labels.{labelByte}
 use Rattle.checker.proofs.cover.with_label.Statement.{statement}
 use Rattle.checker.proofs.cover.with_label.Tie as tie
 
@@ -13,9 +13,9 @@ some : (c : tie.After-wide) → c .before .before .label .given .0 .0 ≡ 0 → 
 some c = let s = c .before .before .before .before in
     label-some (s .args .label) _ (s .pre .0) (c .before .before .label .given .1)
 
-byte-is : (c : tie.After-wide) → byteOf (c .before .before .before .before .args .label) ≡ c .before .before .label
+byte-is : (c : tie.After-wide) → labelByte (c .before .before .before .before .args .label) ≡ c .before .before .label
     .given .0 .0
-byte-is c = ap byteOf (c .before .before .label .given .1)
+byte-is c = ap labelByte (c .before .before .label .given .1)
 
 sub-add : tie.Need-sub-add
 sub-add c = omega (arith, some c, c .wide .ensures)
