@@ -18,6 +18,7 @@ use Rattle.nearest_visited.specs.Visited.{verticesOf}
 use Rattle.nearest_met.specs.Measure.{CanMeasure}
 use Rattle.path_pass.specs.declared.Finish.{Finish}
 use Rattle.path_pass.specs.declared.Finish.the-variants.{Ended, Spent, Unknown as UnknownLabel}
+use Rattle.nearest_met.specs.declared.Tally.{Tally}
 use Rattle.nearest_pass.specs.declared.Nearest.{Nearest}
 use Rattle.nearest_pass.specs.declared.Nearest.the-variants.{Nothing, Vertex}
 
@@ -26,6 +27,10 @@ pub record CanNote (g : GridStruct) (weights w list : List ℕ) : Type 0 where
   pub measure : CanMeasure (shape g) weights w (g .indices)
   pub onGrid : isGridPoint (shape g) w ≡ true
   pub room : numPoints (shape g) ≤ length list
+
+-- what is kept before the first vertex: a distance that no vertex has
+abbrev pub noneMet : Tally
+noneMet = record { nearest = 0; least = 18446744073709551615; listed = 0 }
 
 -- the positions of the vertices within the given distance, of the first `n` places
 abbrev pub positionsBefore : Problem → Point → ℕ → ℕ → List ℕ

@@ -1,10 +1,10 @@
 // The pass of a run that notes the vertices of its places, each where it comes in for the first time.
 ghost use mathlib.Core.Path.{_≡_};
-ghost use Prim.Native.Nat.{_<_};
+ghost use Prim.Native.Nat.{_≤_, _<_};
 ghost use Rattle.arrays.specs.Rounds.{round};
 ghost use Rattle.rules.specs.Moves.{Round};
-ghost use Rattle.path_pass.specs.Finish.{CanPass, Finished, problemIn};
-ghost use Rattle.nearest_pass.specs.Survey.{CanNote, Surveys};
+ghost use Rattle.path_pass.specs.Finish.{CanPass, Finished, endedOf, problemIn};
+ghost use Rattle.nearest_pass.specs.Survey.{CanNote, Surveys, noneMet};
 use grid::Grid;
 use moves::Outcome;
 use nearest_met::Tally;
@@ -13,7 +13,8 @@ use nearest_met::meet;
 use path_pass::Finish;
 use path_pass::Looked;
 use path_pass::Stand;
-use path_pass::begin;
+use path_pass::asked;
+use path_pass::begun;
 use path_pass::ended;
 use path_pass::look_up;
 use path_pass::on;
@@ -30,6 +31,42 @@ pub enum Nearest {
 pub struct NotingPass {
     pub finish: Finish,
     pub nearest: Nearest,
+}
+
+// Nothing is met yet.
+fn none_met() -> Tally
+    ensures { λ r. ⌜ r ≡ noneMet ⌝ }
+{
+    Tally {
+        nearest: 0,
+        least: 18446744073709551615,
+        listed: 0,
+    }
+}
+
+// A pass that reached no end reports no vertex.
+fn unreported(finish: Finish) -> NotingPass
+    ensures { λ r. ⌜ (r .finish ≡ finish) × (r .nearest ≡ Nearest.Nothing) ⌝ }
+{
+    NotingPass {
+        finish,
+        nearest: Nearest::Nothing,
+    }
+}
+
+// A pass whose move has led to an end.
+fn reported(at: Stand, outcome: Outcome, budget: u64, t: Tally) -> NotingPass
+    requires { ⌜ (0 < at .left) × (at .left ≤ budget) ⌝ }
+    ensures { λ r. ⌜ (r .finish ≡ endedOf at outcome budget)
+        × (r .nearest ≡ Nearest.Vertex (t .nearest) (t .listed)) ⌝ }
+{
+    NotingPass {
+        finish: ended(at, outcome, budget),
+        nearest: Nearest::Vertex {
+            position: t.nearest,
+            listed: t.listed,
+        },
+    }
 }
 
 // From {v} to the path's end, or until the budget is spent, as a run passes: each vertex is noted where it comes in for
@@ -58,21 +95,12 @@ pub fn pass_noting(
     ensures { λ _ r. ⌜ Surveys (problemIn g (now (first .entry)) (now (table .entry)))
         (now (w .entry)) given budget (now (list .entry)) (now (list .exit)) (r .nearest) (r .finish) ⌝ }
 {
-    let m = g.indices;
     let mut coefficients = [0u16; 16];
     let mut marks = [0u32; 16];
     let mut seen = [0u8; 60000];
-    let tails = positions::tails(first, m);
-    let mut t = Tally {
-        nearest: 0,
-        least: 18446744073709551615,
-        listed: 0,
-    };
-    let mut at = Stand {
-        status: begin(first, m),
-        left: budget,
-        labels: 1,
-    };
+    let tails = positions::tails(first, g.indices);
+    let mut t = none_met();
+    let mut at = begun(first, g.indices, budget);
     while 0 < at.left {
         let s = at.status;
         let looked = look_up(
@@ -89,15 +117,8 @@ pub fn pass_noting(
             s,
         );
         if let Looked::Unknown(position) = looked {
-            return NotingPass {
-                finish: Finish::Unknown {
-                    places: budget - at.left,
-                    position,
-                },
-                nearest: Nearest::Nothing,
-            };
+            return unreported(asked(at, position, budget));
         }
-        let came = came_in(&marks, s);
         t = meet(
             previous,
             sizes,
@@ -106,8 +127,8 @@ pub fn pass_noting(
             s,
             weights,
             w,
-            m,
-            came,
+            g.indices,
+            came_in(&marks, s),
             given,
             &mut seen,
             list,
@@ -124,29 +145,14 @@ pub fn pass_noting(
             s,
         );
         if let Outcome::PlaceEnd(_) = outcome {
-            return NotingPass {
-                finish: ended(at, outcome, budget),
-                nearest: Nearest::Vertex {
-                    position: t.nearest,
-                    listed: t.listed,
-                },
-            };
+            return reported(at, outcome, budget, t);
         }
         if let Outcome::FacetEnd(_) = outcome {
-            return NotingPass {
-                finish: ended(at, outcome, budget),
-                nearest: Nearest::Vertex {
-                    position: t.nearest,
-                    listed: t.listed,
-                },
-            };
+            return reported(at, outcome, budget, t);
         }
         if let Outcome::Moved(status) = outcome {
             at = on(at, status);
         }
     }
-    NotingPass {
-        finish: Finish::Spent,
-        nearest: Nearest::Nothing,
-    }
+    unreported(Finish::Spent)
 }

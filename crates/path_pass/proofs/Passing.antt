@@ -1,15 +1,15 @@
 -- A pass that stands at a place of the path: what a look at the place asks and tells, and where the move from it leads.
 -- Every loop along the path cites these laws. Assumes nothing.
 use mathlib.Core.List.{List, [], map}
-use mathlib.Core.Path.{_≡_, sym, subst}
+use mathlib.Core.Path.{_≡_, refl, sym, subst}
 use Prim.Native.Nat.{ℕ, suc, _+_, _-_, _^_, _≤_, _<_}
-use lib.ListN.{length}
+use lib.ListN.{length, replicate}
 use native.Mathlib.Omega.{arith}
 use Rattle.arrays.specs.Rounds.{roundOf}
 use Rattle.combinatorics.proofs.EditsOfArrays.{counted}
 use Rattle.combinatorics.specs.Lists.{sum, upFrom}
 use Rattle.grid_points.specs.Grid.{at}
-use Rattle.grid.specs.Made.{IsMade}
+use Rattle.grid.specs.Made.{IsMade, shape}
 use Rattle.grid.specs.declared.Grid.{Grid as GridStruct}
 use Rattle.marks.specs.Reading.{CanFind, tableProblem}
 use Rattle.moves.specs.Held.{answered, stateOf}
@@ -22,21 +22,36 @@ use Rattle.place.specs.Path.{answer, unknown}
 use Rattle.place.specs.Problem.{Problem}
 use Rattle.rules.proofs.Follow.{NextAt}
 use Rattle.rules.specs.Read.{read}
-use Rattle.rules.specs.Ready.{RoundBelow}
+use Rattle.rules.specs.Ready.{IsRound, RoundBelow}
 use Rattle.rules.specs.Moves.{After, Round, State, makeMove}
-use Rattle.path_pass.specs.Finish.{CanVisit, Finished, IsKnown, IsUnknown, endedOf, labelsAt, onOf, problemIn}
+use Rattle.path_pass.specs.Finish.{CanVisit, Finished, HasBegun, IsKnown, IsUnknown, endedOf, labelsAt, onOf}
+use Rattle.path_pass.specs.Finish.{problemIn}
 use Rattle.path_pass.specs.Looking.{LooksUp}
 use Rattle.path_pass.specs.declared.Looked.the-variants.{Known}
 use Rattle.path_pass.specs.declared.Stand.{Stand}
 use Rattle.path_pass.proofs.Places.{IsRead, looked-up}
 use Rattle.path_pass.proofs.Visits.{HasRead, OnPath, announced-facet, announced-place, asked, goes-on, leads}
-use Rattle.path_pass.proofs.Visits.{marks-back, read-back, reads-fit, reads-on, visits}
+use Rattle.path_pass.proofs.Visits.{begins, begins-reading, marks-back, read-back, reads-fit, reads-on, visits}
 
 -- the place's number is what is spent of the budget
 pub record Passing (p : Problem) (budget : ℕ) (a : Stand) (s : State) : Type 0 where
   pub here : OnPath p s (budget - a .left)
   pub low : a .left ≤ budget
   pub read : HasRead p (budget - a .left) (a .labels)
+
+-- at {v}
+pub passes-first : (g : GridStruct) → IsMade g → (first table : List ℕ) → Accepted (problemIn g first table)
+    → {ways : Round} → IsRound (shape g) ways → length first ≡ 16 → (order : List ℕ) (budget : ℕ) (stand : Stand)
+    → HasBegun first (g .indices) budget stand
+    → Passing (problemIn g first table) budget stand
+    (stateOf ways first (replicate 16 0) order (replicate 16 0) (stand .status))
+passes-first g made first table ok N long order budget stand B =
+    let z : budget - stand .left ≡ 0 = omega (arith, B .left) in
+    record {
+      here = rw z (begins g made first table ok N long order (stand .status) (B .status));
+      low = omega (arith, B .left);
+      read = rw z (begins-reading (problemIn g first table) (stand .labels) 1 (B .labels) refl);
+    }
 
 -- such a place, which is not past the budget: grid and table, and what the arrays hold
 pub record Place : Type 0 where

@@ -79,6 +79,16 @@ pub record IsBegun (first : List ℕ) (m : ℕ) (s : Status) : Type 0 where
   pub active : s .active ≡ 0
   pub zeros : (k : ℕ) → k < 16 → bit (s .u) k ≡ (ltb k m && eqb (at first k) 0)
 
+-- a pass that stands there, before any move
+pub record HasBegun (first : List ℕ) (m budget : ℕ) (at : Stand) : Type 0 where
+  pub status : IsBegun first m (at .status)
+  pub left : at .left ≡ budget
+  pub labels : at .labels ≡ 1
+
+-- how it ended, where its place needs the label at this position
+abbrev pub askedOf : Stand → ℕ → ℕ → Finish
+askedOf at position budget = UnknownLabel (budget - at .left) position
+
 -- the number of the first point of the complete simplex
 abbrev pub firstPointOf : Kind → ℕ
 firstPointOf placeEnd = 0

@@ -7,7 +7,8 @@ ghost use Rattle.arrays.specs.Rounds.{round, roundBack};
 ghost use Rattle.marks.specs.Reading.{CanFind, Readable, tableProblem};
 ghost use Rattle.moves.specs.Held.{held};
 ghost use Rattle.rules.specs.Moves.{Round, State};
-ghost use Rattle.path_pass.specs.Finish.{CanPass, Finished, IsBegun, endedOf, labelsAt, onOf, problemIn};
+ghost use Rattle.path_pass.specs.Finish.{CanPass, Finished, HasBegun, IsBegun};
+ghost use Rattle.path_pass.specs.Finish.{askedOf, endedOf, labelsAt, onOf, problemIn};
 ghost use Rattle.path_pass.specs.Looking.{LooksUp};
 use arrays::zeros;
 use end_kinds::Kind;
@@ -110,6 +111,29 @@ pub fn begin(first: &[u16; 16], m: usize) -> Status
         t: 0,
         u,
         active: 0,
+    }
+}
+
+// A pass that stands at {v}, whose one label is counted.
+pub fn begun(first: &[u16; 16], m: usize, budget: u64) -> Stand
+    requires { ⌜ m ≤ 16 ⌝ }
+    ensures { λ r. ⌜ HasBegun (now (first .entry)) m budget r ⌝ }
+{
+    Stand {
+        status: begin(first, m),
+        left: budget,
+        labels: 1,
+    }
+}
+
+// How a pass ended whose place needs a label that is not yet known.
+pub fn asked(at: Stand, position: usize, budget: u64) -> Finish
+    requires { ⌜ at .left ≤ budget ⌝ }
+    ensures { λ r. ⌜ r ≡ askedOf at position budget ⌝ }
+{
+    Finish::Unknown {
+        places: budget - at.left,
+        position,
     }
 }
 

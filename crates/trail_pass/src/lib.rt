@@ -1,9 +1,10 @@
 // The pass from {v} along the path with the record of each place: a first one counts the bytes, a second stores them.
 // What is public here is for the writer, which shows what it asks.
 ghost use mathlib.Core.Path.{_≡_};
+ghost use Prim.Native.Nat.{_≤_, _<_};
 ghost use lib.ListN.{length};
 ghost use Rattle.arrays.specs.Rounds.{round};
-ghost use Rattle.path_pass.specs.Finish.{CanPass, Finished, problemIn};
+ghost use Rattle.path_pass.specs.Finish.{CanPass, Finished, endedOf, problemIn};
 ghost use Rattle.rules.specs.Moves.{Round};
 ghost use Rattle.trail_pass.specs.Recording.{HasRoomForTrail, Recorded};
 use grid::Grid;
@@ -11,7 +12,8 @@ use moves::Outcome;
 use path_pass::Finish;
 use path_pass::Looked;
 use path_pass::Stand;
-use path_pass::begin;
+use path_pass::asked;
+use path_pass::begun;
 use path_pass::ended;
 use path_pass::look_up;
 use path_pass::on;
@@ -25,6 +27,24 @@ use ways::make_move;
 pub struct RecordingPass {
     pub finish: Finish,
     pub bytes: usize,
+}
+
+// A pass that reached no end has no whole trail.
+fn unrecorded(finish: Finish) -> RecordingPass
+    ensures { λ r. ⌜ (r .finish ≡ finish) × (r .bytes ≡ 0) ⌝ }
+{
+    RecordingPass { finish, bytes: 0 }
+}
+
+// A pass whose move has led to an end.
+fn recorded(at: Stand, outcome: Outcome, budget: u64, bytes: usize) -> RecordingPass
+    requires { ⌜ (0 < at .left) × (at .left ≤ budget) ⌝ }
+    ensures { λ r. ⌜ (r .finish ≡ endedOf at outcome budget) × (r .bytes ≡ bytes) ⌝ }
+{
+    RecordingPass {
+        finish: ended(at, outcome, budget),
+        bytes,
+    }
 }
 
 // From {v} to the path's end, or until the budget is spent: the number of places left counts down. The record of a
@@ -62,11 +82,7 @@ pub fn pass_recording(
     };
     let mut from: usize = 0;
     let mut end: usize = 3;
-    let mut at = Stand {
-        status: begin(first, g.indices),
-        left: budget,
-        labels: 1,
-    };
+    let mut at = begun(first, g.indices, budget);
     while 0 < at.left {
         let s = at.status;
         let looked = look_up(
@@ -83,13 +99,7 @@ pub fn pass_recording(
             s,
         );
         if let Looked::Unknown(position) = looked {
-            return RecordingPass {
-                finish: Finish::Unknown {
-                    places: budget - at.left,
-                    position,
-                },
-                bytes: 0,
-            };
+            return unrecorded(asked(at, position, budget));
         }
         let gone = tell(&marks, s, trail, from, before, writes);
         let outcome = make_move(
@@ -103,16 +113,10 @@ pub fn pass_recording(
             s,
         );
         if let Outcome::PlaceEnd(_) = outcome {
-            return RecordingPass {
-                finish: ended(at, outcome, budget),
-                bytes: end,
-            };
+            return recorded(at, outcome, budget, end);
         }
         if let Outcome::FacetEnd(_) = outcome {
-            return RecordingPass {
-                finish: ended(at, outcome, budget),
-                bytes: end,
-            };
+            return recorded(at, outcome, budget, end);
         }
         if let Outcome::Moved(status) = outcome {
             before = Before {
@@ -125,8 +129,5 @@ pub fn pass_recording(
             at = on(at, status);
         }
     }
-    RecordingPass {
-        finish: Finish::Spent,
-        bytes: 0,
-    }
+    unrecorded(Finish::Spent)
 }

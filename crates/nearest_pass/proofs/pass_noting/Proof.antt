@@ -11,10 +11,10 @@ use Rattle.arrays.specs.Rounds.{roundOf}
 use Rattle.combinatorics.proofs.EditsOfArrays.{counted}
 use Rattle.combinatorics.specs.Front.{front}
 use Rattle.path_pass.proofs.Places.{IsRead}
-use Rattle.path_pass.proofs.Visits.{begins, begins-reading, spends}
+use Rattle.path_pass.proofs.Visits.{spends}
 use Rattle.path_pass.proofs.Passing.{MovesTo, Place, Passing, asks, can-look, facet-ends, has-looked, labels-fit}
 use Rattle.path_pass.proofs.Passing.{onward}
-use Rattle.path_pass.proofs.Passing.{further, place-ends, rounds, spent, stands, passes-on}
+use Rattle.path_pass.proofs.Passing.{further, passes-first, passes-on, place-ends, rounds, spent, stands}
 use Rattle.path_pass.specs.Finish.{problemIn}
 use Rattle.grid.proofs.Fields.{indices-few}
 use Rattle.grid_points.specs.Grid.{at as gridAt, position}
@@ -42,7 +42,7 @@ use Rattle.nearest_visited.specs.Visited.{verticesOf}
 use Rattle.ways.proofs.Outcomes.{one-of-three}
 
 abbrev Inv-loop : tie.InvT-loop
-Inv-loop g binomials table previous next sizes first₀ order₀ weights w given list₀ budget m coefficients₀ marks₀ seen₀
+Inv-loop g binomials table previous next sizes first₀ order₀ weights w given list₀ budget coefficients₀ marks₀ seen₀
     tails t₀ at₀ first order list coefficients marks seen t at =
     let p = problemIn g first₀ table in
     Passing p budget at (stateOf (roundOf previous next sizes) first coefficients order marks (at .status))
@@ -51,7 +51,7 @@ Inv-loop g binomials table previous next sizes first₀ order₀ weights w given
     × (length list ≡ length list₀)
 
 abbrev μ-loop : tie.MeasureT-loop
-μ-loop g binomials table previous next sizes first₀ order₀ weights w given list₀ budget m coefficients₀ marks₀ seen₀
+μ-loop g binomials table previous next sizes first₀ order₀ weights w given list₀ budget coefficients₀ marks₀ seen₀
     tails t₀ at₀ first order list coefficients marks seen t at =
     at .left
 
@@ -59,26 +59,22 @@ tails-requires : tie.Need-tails-requires Inv-loop μ-loop
 tails-requires c κs =
     let s = c .before .before .before .before in indices-few (s .args .g) (s .pre .0 .readable .made)
 
-begin-requires : tie.Need-begin-requires Inv-loop μ-loop
-begin-requires c κs =
-    let s = c .before .before .before .before .before .before in
+begun-requires : tie.Need-begun-requires Inv-loop μ-loop
+begun-requires c κs =
+    let s = c .before .before .before .before .before .before .before in
     indices-few (s .args .g) (s .pre .0 .readable .made)
 
 loop-holds : tie.Need-loop-holds Inv-loop μ-loop
 loop-holds c =
-    let s = c .before .before .before .before .before .before .before in
+    let s = c .before .before .before .before .before .before .before .before in
     let a = s .args in
     let w = s .pre .0 in
     let n = s .pre .1 in
-    let z : a .budget - a .budget ≡ 0 = omega arith in (
-      record {
-        here = rw z (begins (a .g) (w .readable .made) (a .first .now) (a .table .now) (w .accepted) (w .isRound)
-            (w .firstLength) (a .order .now) (c .begin .result) (c .begin .ensures));
-        low = omega arith;
-        read = rw z (begins-reading (problemIn (a .g) (a .first .now) (a .table .now)) 1 1 refl refl);
-      },
+    let z : a .budget - c .begun .result .left ≡ 0 = omega (arith, c .begun .ensures .left) in (
+      passes-first (a .g) (w .readable .made) (a .first .now) (a .table .now) (w .accepted) (w .isRound)
+          (w .firstLength) (a .order .now) (a .budget) (c .begun .result) (c .begun .ensures),
       record { inOrder = w .orderLength; inMarks = refl },
-      rw z (kept-none (shape (a .g)) (grid-accepted (w .accepted)) (a .w .now) (n .onGrid) (a .given) (a .list .now)
+      rw (z, c .before .before .none-met .ensures) (kept-none (shape (a .g)) (grid-accepted (w .accepted)) (a .w .now) (n .onGrid) (a .given) (a .list .now)
           (n .room)),
       refl,
     )
@@ -89,7 +85,7 @@ At = tie.After-marks Inv-loop μ-loop
 
 abbrev begun : At → tie.Start Inv-loop μ-loop
 begun c =
-    c .before .before .before .before .before .before .before .before
+    c .before .before .before .before .before .before .before .before .before
     .before .before .before .before .before .before .before .before
 
 abbrev turn : At → tie.At-loop Inv-loop μ-loop
@@ -100,7 +96,7 @@ place c =
     let a = begun c .args in
     let w = begun c .pre .0 in
     let l = turn c .loop in
-    let tails = c .before .before .before .before .before .before .before .before .before .before .before .tails in
+    let tails = c .before .before .before .before .before .before .before .before .before .before .before .before .tails in
     record {
       g = a .g;
       made = w .readable .made;
@@ -127,18 +123,20 @@ place c =
 look-up-requires : tie.Need-look-up-requires Inv-loop μ-loop
 look-up-requires c κs = ((begun c .pre .0 .readable, turn c .loop .inv .1 .inMarks), can-look (place c))
 
-sub-t37 : tie.Need-sub-t37 Inv-loop μ-loop
-sub-t37 c = omega (arith, turn (c .before .before .before .before .before) .loop .inv .0 .low)
+asked-requires : tie.Need-asked-requires Inv-loop μ-loop
+asked-requires c κs = turn (c .before .before .before .before) .loop .inv .0 .low
 
 same-length : tie.Need-same-length Inv-loop μ-loop
-same-length c = omega (arith, turn (c .before .before .before .before .before) .loop .inv .3)
+same-length c = omega (arith, turn (c .before .before .before .before .before .before) .loop .inv .3)
 
 returns : tie.Need-returns Inv-loop μ-loop
-returns c = (
-  asks (place (c .before .before .before .before .before))
-      ((rw (c .before .before .looked .given .1) at (c .before .before .before .before .look-up .ensures)) .0),
-  (refl, turn (c .before .before .before .before .before) .loop .inv .2 .written),
-)
+returns c =
+    let v = c .before .before .before .before .before .before in
+    rw (c .unreported .ensures .0, c .before .asked .ensures) (
+      asks (place v)
+          ((rw (c .before .before .before .looked .given .1) at (c .before .before .before .before .before .look-up .ensures)) .0),
+      (c .unreported .ensures .1, turn v .loop .inv .2 .written),
+    )
 
 enum-told : tie.Need-enum-told Inv-loop μ-loop
 enum-told c = search needs
@@ -168,15 +166,15 @@ positionRead c =
 
 came-in-requires : tie.Need-came-in-requires Inv-loop μ-loop
 came-in-requires c κs =
-    let P = place (at (c .before)) in
+    let P = place (at (c .before .before .before)) in
     let can = computed (P .g) (P .start) (P .table) (P .ok) (stands P) (spent P) (P .passing .here) in
     let many = counted (P .order) (P .stand .status .count) (P .sixteen) (can .few) in
     (omega (arith, can .low, many), omega (arith, can .few, many))
 
 came-is : (c : tie.After-came-in Inv-loop μ-loop)
-    → let P = place (at (c .before .before)) in c .came-in .result ≡ vertexCome (shape (P .g)) (stands P)
+    → let P = place (at (c .before .before .before .before)) in c .came-in .result ≡ vertexCome (shape (P .g)) (stands P)
 came-is c =
-    let k = c .before .before in
+    let k = c .before .before .before .before in
     let P = place (at k) in
     c .came-in .ensures
     ∙ come-is (P .g) (P .start) (P .table) (P .ok) (stands P) (spent P) (P .passing .here) (told k .known)
@@ -195,7 +193,7 @@ meet-requires c κs =
       (
         shape (P .g),
         n .measure,
-        rw (came-is (c .before .before .before .before))
+        rw (came-is (c .before .before))
             (room-next (P .g) (P .start) (P .table) (P .ok) (stands P) (spent P) (P .passing .here) (a .w .now)
             (n .onGrid) (a .given) (a .list .now) (n .room) (turn (at k) .loop .inv .2)),
       ),
@@ -256,7 +254,7 @@ met c =
     let H = c .before .before .before .before .before .before .before .meet .ensures (shape (a .g)) (n .measure) in
     kept-met (P .g) (P .start) (P .table) (P .ok) (stands P) (spent P) (P .passing .here) (a .w .now) (n .onGrid)
     (a .given) (a .list .now) (n .room) (turn (at k) .loop .inv .2)
-    (came-is (c .before .before .before .before .before .before .before .before .before .before .before .before))
+    (came-is (c .before .before .before .before .before .before .before .before .before .before))
     (H .tally) (H .marks) (H .written)
 
 list-stays : (c : Made) → length (listThen c) ≡ length (begun (at (known c)) .args .list .now)
@@ -278,8 +276,8 @@ surveyed c whole =
     let a = begun (at (known c)) .args in
     all-met (P .g) (P .start) (P .table) (P .ok) (spent P) whole (a .w .now) (a .given) (a .list .now) (met c)
 
-ended-requires : tie.Need-ended-requires Inv-loop μ-loop
-ended-requires c κs = let P = here (c .before .before) in (P .more, P .passing .low)
+reported-requires : tie.Need-reported-requires Inv-loop μ-loop
+reported-requires c κs = let P = here (c .before .before) in (P .more, P .passing .low)
 
 same-length-2 : tie.Need-same-length-2 Inv-loop μ-loop
 same-length-2 c = list-stays (c .before .before .before)
@@ -290,14 +288,11 @@ returns-2 c =
     let P = here m in
     let o = c .before .enum-told2 .given in
     let M = steps m _ (o .1) in
-    rw (c .ended .ensures, o .1) (
-      place-ends P M,
-      surveyed m (last-place (P .g) (P .start) (P .table) (P .ok) (spent P) _ _ (P .passing .here .1)
-          (onward P M)),
-    )
+    let S = surveyed m (last-place (P .g) (P .start) (P .table) (P .ok) (spent P) _ _ (P .passing .here .1) (onward P M)) in
+    rw (c .reported .ensures .0, o .1) (place-ends P M, (c .reported .ensures .1 ∙ S .0, S .1))
 
-ended-requires-2 : tie.Need-ended-requires-2 Inv-loop μ-loop
-ended-requires-2 c κs = let P = here (c .before .before .before) in (P .more, P .passing .low)
+reported-requires-2 : tie.Need-reported-requires-2 Inv-loop μ-loop
+reported-requires-2 c κs = let P = here (c .before .before .before) in (P .more, P .passing .low)
 
 same-length-3 : tie.Need-same-length-3 Inv-loop μ-loop
 same-length-3 c = list-stays (c .before .before .before .before)
@@ -308,11 +303,8 @@ returns-3 c =
     let P = here m in
     let o = c .before .enum-told3 .given in
     let M = steps m _ (o .1) in
-    rw (c .ended2 .ensures, o .1) (
-      facet-ends P M,
-      surveyed m (last-facet (P .g) (P .start) (P .table) (P .ok) (spent P) _ _ (P .passing .here .1)
-          (onward P M)),
-    )
+    let S = surveyed m (last-facet (P .g) (P .start) (P .table) (P .ok) (spent P) _ _ (P .passing .here .1) (onward P M)) in
+    rw (c .reported2 .ensures .0, o .1) (facet-ends P M, (c .reported2 .ensures .1 ∙ S .0, S .1))
 
 on-requires : tie.Need-on-requires Inv-loop μ-loop
 on-requires c κs =
@@ -341,20 +333,21 @@ loop-again-2 c =
     absurd (one-of-three _ (c .before .before .match2 .keys2) (c .before .match3 .keys2) (c .match4 .keys2))
 
 same-length-4 : tie.Need-same-length-4 Inv-loop μ-loop
-same-length-4 c = omega (arith, c .before .before .loop .inv .3)
+same-length-4 c = omega (arith, c .before .before .before .loop .inv .3)
 
 returns-4 : tie.Need-returns-4 Inv-loop μ-loop
 returns-4 c =
-    let s = c .before .before .before .before .before .before .before .before .before .before in
+    let s = c .before .before .before .before .before .before .before .before .before .before .before .before in
     let a = s .args in
     let w = s .pre .0 in
-    let l = c .before .before .loop in
+    let l = c .before .before .before .loop in
     let p = problemIn (a .g) (a .first .now) (a .table .now) in
-    let all : a .budget - l .at .left ≡ a .budget = omega (arith, c .if1 .left) in (
+    let all : a .budget - l .at .left ≡ a .budget = omega (arith, c .before .if1 .left) in
+    rw (c .unreported2 .ensures .0) (
       spends (a .g) (w .readable .made) (a .first .now) (a .table .now) (w .accepted) _ (a .budget - l .at .left)
-          (l .inv .0 .here) (a .budget) (omega (arith, c .if1 .left)),
+          (l .inv .0 .here) (a .budget) (omega (arith, c .before .if1 .left)),
       (
-        refl,
+        c .unreported2 .ensures .1,
         l .inv .2 .written
             ∙ ap (λ (n : ℕ). front (positionsBefore p (a .w .now) (a .given) n) (a .list .now)) all,
       ),
@@ -367,11 +360,13 @@ pass-noting-spec =
     Inv-loop
     μ-loop
     tails-requires
-    begin-requires
+    (λ c κs. search needs)
+    begun-requires
     loop-holds
     look-up-requires
     (λ c. search needs)
-    sub-t37
+    asked-requires
+    (λ c κs. search needs)
     same-length
     returns
     enum-told
@@ -379,11 +374,11 @@ pass-noting-spec =
     meet-requires
     make-move-requires
     (λ c. search needs)
-    ended-requires
+    reported-requires
     same-length-2
     returns-2
     (λ c. search needs)
-    ended-requires-2
+    reported-requires-2
     same-length-3
     returns-3
     (λ c. search needs)
@@ -392,5 +387,6 @@ pass-noting-spec =
     loop-again
     loop-less-2
     loop-again-2
+    (λ c κs. search needs)
     same-length-4
     returns-4)

@@ -17,9 +17,9 @@ use Rattle.rules.specs.Moves.{After, Round, State, makeMove}
 use Rattle.path_pass.specs.Finish.{problemIn}
 use Rattle.path_pass.specs.declared.Stand.{Stand}
 use Rattle.path_pass.proofs.Places.{IsRead}
-use Rattle.path_pass.proofs.Visits.{begins, begins-reading, spends}
+use Rattle.path_pass.proofs.Visits.{spends}
 use Rattle.path_pass.proofs.Passing.{MovesTo, Place, Passing, asks, can-look, facet-ends, has-looked, labels-fit}
-use Rattle.path_pass.proofs.Passing.{place-ends, rounds, stands, passes-on}
+use Rattle.path_pass.proofs.Passing.{passes-first, passes-on, place-ends, rounds, stands}
 use Rattle.path_pass.proofs.pass.Statement.{statement}
 use Rattle.path_pass.proofs.pass.Tie as tie
 use Rattle.ways.proofs.Outcomes.{one-of-three}
@@ -46,13 +46,10 @@ loop-holds c =
     let s = c .before .before .before .before .before in
     let a = s .args in
     let w = s .pre in
-    let z : a .budget - a .budget ≡ 0 = omega arith in (
-      record {
-        here = rw z (begins (a .g) (w .readable .made) (a .first .now) (a .table .now) (w .accepted) (w .isRound)
-            (w .firstLength) (a .order .now) (c .begin .result) (c .begin .ensures));
-        low = omega arith;
-        read = rw z (begins-reading (problemIn (a .g) (a .first .now) (a .table .now)) 1 1 refl refl);
-      },
+    let at : Stand = record { status = c .begin .result; left = a .budget; labels = 1 } in (
+      passes-first (a .g) (w .readable .made) (a .first .now) (a .table .now) (w .accepted) (w .isRound)
+          (w .firstLength) (a .order .now) (a .budget) at
+          (record { status = c .begin .ensures; left = refl; labels = refl }),
       record { inOrder = w .orderLength; inMarks = refl },
     )
 

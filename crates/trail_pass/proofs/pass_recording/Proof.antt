@@ -11,9 +11,9 @@ use native.Mathlib.Omega.{arith}
 use Rattle.arrays.specs.Rounds.{noRound, roundOf}
 use Rattle.combinatorics.specs.Front.{front}
 use Rattle.path_pass.proofs.Places.{IsRead}
-use Rattle.path_pass.proofs.Visits.{begins, begins-reading, spends}
+use Rattle.path_pass.proofs.Visits.{spends}
 use Rattle.path_pass.proofs.Passing.{MovesTo, Place, Passing, asks, can-look, counted-on, facet-ends, further}
-use Rattle.path_pass.proofs.Passing.{goes-next, has-looked, labels-fit, place-ends, rounds, spent, stands, passes-on}
+use Rattle.path_pass.proofs.Passing.{goes-next, has-looked, labels-fit, passes-first, passes-on, place-ends, rounds, spent, stands}
 use Rattle.path_pass.specs.Finish.{problemIn}
 use Rattle.grid.proofs.Fields.{indices-few}
 use Rattle.marks.specs.Reading.{tableProblem}
@@ -57,8 +57,8 @@ abbrev μ-loop : tie.MeasureT-loop
 tails-requires : tie.Need-tails-requires Inv-loop μ-loop
 tails-requires c κs = let s = c .before .before .before in indices-few (s .args .g) (s .pre .0 .readable .made)
 
-begin-requires : tie.Need-begin-requires Inv-loop μ-loop
-begin-requires c κs =
+begun-requires : tie.Need-begun-requires Inv-loop μ-loop
+begun-requires c κs =
     let s = c .before .before .before .before .before in indices-few (s .args .g) (s .pre .0 .readable .made)
 
 loop-holds : tie.Need-loop-holds Inv-loop μ-loop
@@ -66,13 +66,9 @@ loop-holds c =
     let s = c .before .before .before .before .before .before in
     let a = s .args in
     let w = s .pre .0 in
-    let z : a .budget - a .budget ≡ 0 = omega arith in (
-      record {
-        here = rw z (begins (a .g) (w .readable .made) (a .first .now) (a .table .now) (w .accepted) (w .isRound)
-            (w .firstLength) (a .order .now) (c .begin .result) (c .begin .ensures));
-        low = omega arith;
-        read = rw z (begins-reading (problemIn (a .g) (a .first .now) (a .table .now)) 1 1 refl refl);
-      },
+    let z : a .budget - c .begun .result .left ≡ 0 = omega (arith, c .begun .ensures .left) in (
+      passes-first (a .g) (w .readable .made) (a .first .now) (a .table .now) (w .accepted) (w .isRound)
+          (w .firstLength) (a .order .now) (a .budget) (c .begun .result) (c .begun .ensures),
       record { inOrder = w .orderLength; inMarks = refl },
       rw z (record {
         soFar = so-far-none (a .g) (a .first .now) (a .table .now) (w .accepted) _;
@@ -128,18 +124,19 @@ place c =
 look-up-requires : tie.Need-look-up-requires Inv-loop μ-loop
 look-up-requires c κs = ((begun c .pre .0 .readable, turn c .loop .inv .1 .inMarks), can-look (place c))
 
-sub-t35 : tie.Need-sub-t35 Inv-loop μ-loop
-sub-t35 c = omega (arith, turn (c .before .before .before .before .before) .loop .inv .0 .low)
+asked-requires : tie.Need-asked-requires Inv-loop μ-loop
+asked-requires c κs = turn (c .before .before .before .before) .loop .inv .0 .low
 
 same-length : tie.Need-same-length Inv-loop μ-loop
-same-length c = omega (arith, turn (c .before .before .before .before .before) .loop .inv .2 .long)
+same-length c = omega (arith, turn (c .before .before .before .before .before .before) .loop .inv .2 .long)
 
 returns : tie.Need-returns Inv-loop μ-loop
 returns c =
-    let v = c .before .before .before .before .before in (
+    let v = c .before .before .before .before .before .before in
+    rw (c .unrecorded .ensures .0, c .before .asked .ensures) (
       asks (place v)
-          ((rw (c .before .before .looked .given .1) at (c .before .before .before .before .look-up .ensures)) .0),
-      (refl, turn v .loop .inv .2 .written),
+          ((rw (c .before .before .before .looked .given .1) at (c .before .before .before .before .before .look-up .ensures)) .0),
+      (c .unrecorded .ensures .1, turn v .loop .inv .2 .written),
     )
 
 enum-told : tie.Need-enum-told Inv-loop μ-loop
@@ -279,8 +276,8 @@ whole c last =
       put c ∙ ap (λ (x : List ℕ). cond (a .writes) (front x (a .trail .now)) (a .trail .now)) e,
     )
 
-ended-requires : tie.Need-ended-requires Inv-loop μ-loop
-ended-requires c κs = let P = here (c .before .before) in (P .more, P .passing .low)
+recorded-requires : tie.Need-recorded-requires Inv-loop μ-loop
+recorded-requires c κs = let P = here (c .before .before) in (P .more, P .passing .low)
 
 same-length-2 : tie.Need-same-length-2 Inv-loop μ-loop
 same-length-2 c = stays (c .before .before .before)
@@ -290,10 +287,11 @@ returns-2 c =
     let m = c .before .before .before in
     let o = c .before .enum-told2 .given in
     let N = place-ends (here m) (steps m _ (o .1)) in
-    rw (c .ended .ensures, o .1) (N, whole m (ended-whole (problem m) (here m .budget) (N .0 .is)))
+    let W = whole m (ended-whole (problem m) (here m .budget) (N .0 .is)) in
+    rw (c .recorded .ensures .0, o .1) (N, (c .recorded .ensures .1 ∙ W .0, W .1))
 
-ended-requires-2 : tie.Need-ended-requires-2 Inv-loop μ-loop
-ended-requires-2 c κs = let P = here (c .before .before .before) in (P .more, P .passing .low)
+recorded-requires-2 : tie.Need-recorded-requires-2 Inv-loop μ-loop
+recorded-requires-2 c κs = let P = here (c .before .before .before) in (P .more, P .passing .low)
 
 same-length-3 : tie.Need-same-length-3 Inv-loop μ-loop
 same-length-3 c = stays (c .before .before .before .before)
@@ -303,7 +301,8 @@ returns-3 c =
     let m = c .before .before .before .before in
     let o = c .before .enum-told3 .given in
     let N = facet-ends (here m) (steps m _ (o .1)) in
-    rw (c .ended2 .ensures, o .1) (N, whole m (ended-whole (problem m) (here m .budget) (N .0 .is)))
+    let W = whole m (ended-whole (problem m) (here m .budget) (N .0 .is)) in
+    rw (c .recorded2 .ensures .0, o .1) (N, (c .recorded2 .ensures .1 ∙ W .0, W .1))
 
 -- the pass goes on
 abbrev Gone : Type 0
@@ -421,19 +420,20 @@ loop-again-2 c =
     absurd (one-of-three _ (c .before .before .match2 .keys2) (c .before .match3 .keys2) (c .match4 .keys2))
 
 same-length-4 : tie.Need-same-length-4 Inv-loop μ-loop
-same-length-4 c = omega (arith, c .before .before .loop .inv .2 .long)
+same-length-4 c = omega (arith, c .before .before .before .loop .inv .2 .long)
 
 returns-4 : tie.Need-returns-4 Inv-loop μ-loop
 returns-4 c =
-    let s = c .before .before .before .before .before .before .before .before .before in
+    let s = c .before .before .before .before .before .before .before .before .before .before in
     let a = s .args in
     let w = s .pre .0 in
-    let l = c .before .before .loop in
-    let all : a .budget - l .at .left ≡ a .budget = omega (arith, c .if1 .left) in (
+    let l = c .before .before .before .loop in
+    let all : a .budget - l .at .left ≡ a .budget = omega (arith, c .before .if1 .left) in
+    rw (c .unrecorded2 .ensures .0) (
       spends (a .g) (w .readable .made) (a .first .now) (a .table .now) (w .accepted) _ (a .budget - l .at .left)
-          (l .inv .0 .here) (a .budget) (omega (arith, c .if1 .left)),
+          (l .inv .0 .here) (a .budget) (omega (arith, c .before .if1 .left)),
       (
-        refl,
+        c .unrecorded2 .ensures .1,
         l .inv .2 .written
             ∙ ap (leftBehind (problemIn (a .g) (a .first .now) (a .table .now)) (a .writes) (a .trail .now)) all,
       ),
@@ -446,22 +446,23 @@ pass-recording-spec =
     Inv-loop
     μ-loop
     tails-requires
-    begin-requires
+    begun-requires
     loop-holds
     look-up-requires
     (λ c. search needs)
-    sub-t35
+    asked-requires
+    (λ c κs. search needs)
     same-length
     returns
     enum-told
     tell-requires
     make-move-requires
     (λ c. search needs)
-    ended-requires
+    recorded-requires
     same-length-2
     returns-2
     (λ c. search needs)
-    ended-requires-2
+    recorded-requires-2
     same-length-3
     returns-3
     (λ c. search needs)
@@ -472,5 +473,6 @@ pass-recording-spec =
     loop-again
     loop-less-2
     loop-again-2
+    (λ c κs. search needs)
     same-length-4
     returns-4)
