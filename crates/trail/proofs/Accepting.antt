@@ -178,6 +178,14 @@ module _ {p : Problem} (ok : HasStart p) (a : Simplex) (ha : isUnlabelledPlace p
   refuse : (bytes : List ℕ) (n : ℕ) → ((c : Simplex) → Accepts p a bytes n c → ⊥) → rebuiltFrom p (suc n) a bytes ≡ none
   refuse bytes n h = none-of (rebuiltFrom p (suc n) a bytes) (λ c e. h c (accepts ok a ha bytes n c .0 e))
 
+  -- the record of the place that it leads to stands at the front
+  stands-there : {bytes : List ℕ} {n : ℕ} {c : Simplex} (A : Accepts p a bytes n c)
+      → begins (recordOf p a A.next) bytes ≡ true
+  stands-there A =
+      let r = recordOf p a A.next in
+      ap (begins r) (A .stands ∙ ap (λ (x : List ℕ). x ++ A .behind) (sym (by-rule ok a ha A.next A.byRule)))
+      ∙ begins-self r A.behind
+
   in-from : (b : Simplex) (x : ℕ) → isUnlabelledPlace p b ≡ true → change p a b .pointsIn ≡ x ∷ []
       → (y : Point) × (isGridPoint p.grid y ≡ true) × (isIn samePoint y a ≡ false) × (position p.grid y ≡ x)
   unfolding change
@@ -193,8 +201,14 @@ module _ {p : Problem} (ok : HasStart p) (a : Simplex) (ha : isUnlabelledPlace p
       let w = one-mapped (position p.grid) (outside samePoint b a) x e in
       (w .0, outside-in onPoints w.0 a b w.1 .0, w .2)
 
+  not-begun : (number : ℕ) (bytes : List ℕ) → begins (startRecord p) bytes ≡ false → rebuilt p bytes number ≡ none
+  unfolding rebuilt
+  not-begun zero bytes f = refl
+  not-begun (suc n) bytes f = rw f
+
   pub refuses : Refuses p a
   refuses = record {
+    notBegun = not-begun;
     noRecord = λ n. refuse [] n (λ c A. empty A.byRule A.behind A.stands);
     noPoint = λ n m rest o. refuse (m ∷ rest) n
         (λ c A. some-point A.byRule (ap (λ (k : ℕ). k % 4) (sym (map-is A.byRule m rest A.behind A.stands)) ∙ o));
@@ -213,6 +227,9 @@ module _ {p : Problem} (ok : HasStart p) (a : Simplex) (ha : isUnlabelledPlace p
         let w =
         out-from A.next (low + 256 * high) (goes-behind A.byRule m x y low high rest A.behind A.stands (four A o)) in
         h w.0 w.1 w.2);
+    brokenPlace = λ n bytes h. refuse bytes n (λ c A. absurd-bool (sym A.place ∙ h A.next (stands-there A)));
+    otherRule = λ n bytes h. refuse bytes n (λ c A. h A.next A.place (stands-there A) A.rule A.byRule);
+    otherFields = λ n bytes h. refuse bytes n (λ c A. absurd-bool (sym (stands-there A) ∙ h A.next A.place));
     otherwise = λ n m rest o. refuse (m ∷ rest) n
         (λ c A. absurd-bool
         (sym (one-of-seven A.byRule)

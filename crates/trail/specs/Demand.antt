@@ -14,8 +14,8 @@ use Rattle.place.specs.Places.{Simplex, isUnlabelledPlace}
 use Rattle.place.specs.Problem.{Problem, withLabels}
 use Rattle.path_laws.specs.Demand.{placeAt}
 use Rattle.trail.specs.Change.{change, rules, ByRule}
-use Rattle.trail.specs.Record.{startRecord, trailOf, recordBy}
-use Rattle.trail.specs.Trail.{rebuiltFrom, rebuilt, rebuiltPlaces}
+use Rattle.trail.specs.Record.{recordBy, recordOf, startRecord, trailOf}
+use Rattle.trail.specs.Trail.{begins, rebuiltFrom, rebuilt, rebuiltPlaces}
 
 pub record Trails (p : Problem) (s : List Simplex) : Type 0 where
   -- each link is one of the seven rules, and no other
@@ -52,8 +52,10 @@ pub record Accepts (p : Problem) (a : Simplex) (bytes : List ℕ) (n : ℕ) (c :
 abbrev pub mapBytes : List ℕ
 mapBytes = 67 ∷ 83 ∷ 99 ∷ 69 ∷ 101 ∷ 90 ∷ 74 ∷ []
 
--- the place a, and a next record of map byte m
+-- the customer's reasons: at the first record, and at the place a with a next record, of map byte m where it is said
 pub record Refuses (p : Problem) (a : Simplex) : Type 0 where
+  -- "the records up to it do not begin with v's"
+  pub notBegun : (number : ℕ) (bytes : List ℕ) → begins (startRecord p) bytes ≡ false → rebuilt p bytes number ≡ none
   -- "there is no such record"
   pub noRecord : (n : ℕ) → rebuiltFrom p (suc n) a [] ≡ none
   -- "change no point"
@@ -72,8 +74,20 @@ pub record Refuses (p : Problem) (a : Simplex) : Type 0 where
   pub notThereBehind : (n m x y low high : ℕ) (rest : List ℕ) → m % 4 ≡ 3
       → ((y : Point) → isIn samePoint y a ≡ true → position (p .grid) y ≡ low + 256 * high → ⊥)
       → rebuiltFrom p (suc n) a (m ∷ x ∷ y ∷ low ∷ high ∷ rest) ≡ none
-  -- "change T and U otherwise than one of the seven rules alone does", or "fields other than the change just made and
-  -- its rule": a map of no rule
+  -- "break the first two conditions of a place": every set of points whose record it is does
+  pub brokenPlace : (n : ℕ) (bytes : List ℕ)
+      → ((b : Simplex) → begins (recordOf p a b) bytes ≡ true → isUnlabelledPlace p b ≡ false)
+      → rebuiltFrom p (suc n) a bytes ≡ none
+  -- "change T and U otherwise than one of the seven rules alone does": every place whose record it is does
+  pub otherRule : (n : ℕ) (bytes : List ℕ)
+      → ((b : Simplex) → isUnlabelledPlace p b ≡ true → begins (recordOf p a b) bytes ≡ true
+      → (r : ℕ) → ByRule (change p a b) r → ⊥)
+      → rebuiltFrom p (suc n) a bytes ≡ none
+  -- "fields other than the change just made and its rule", one cut short among them: it is no place's record
+  pub otherFields : (n : ℕ) (bytes : List ℕ)
+      → ((b : Simplex) → isUnlabelledPlace p b ≡ true → begins (recordOf p a b) bytes ≡ false)
+      → rebuiltFrom p (suc n) a bytes ≡ none
+  -- either of the last two: a map of no rule
   pub otherwise : (n m : ℕ) (rest : List ℕ) → isIn eqb m mapBytes ≡ false → rebuiltFrom p (suc n) a (m ∷ rest) ≡ none
   -- "have bit 7 set"
   pub bitSeven : (n m : ℕ) (rest : List ℕ) → 128 ≤ m → rebuiltFrom p (suc n) a (m ∷ rest) ≡ none

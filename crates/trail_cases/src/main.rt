@@ -86,7 +86,8 @@ fn print_found(found: trail_reader::ReadAnswer) {
 
 fn print_reading(sizes: &[u8], divisions: &[u16], start: &[u16], trail: &[u8]) {
     let record = number();
-    let reading = trail_reader::read(sizes, divisions, start, trail, record);
+    let zeros = [0u16; 256];
+    let reading = trail_reader::read(sizes, divisions, start, trail, record, zeros);
     let found = reading.answer;
     let numbers = reading.points;
     print_found(found);

@@ -46,7 +46,7 @@ use Rattle.trail_steps.proofs.Named.{shows-few}
 use Rattle.trail_steps.specs.Reading.{problemBy}
 use Rattle.trail_reader.proofs.Masks.{mask-is}
 use Rattle.trail_reader.specs.Reading.{readCase, isPlaced, readNumbers, readQuestion17, readAnswer, readPoints}
-use Rattle.trail_reader.specs.Reading.{trailReadQuestions}
+use Rattle.trail_reader.specs.Reading.{maskOf, trailReadQuestions}
 use Rattle.trail_reader.specs.Begun.{IsPlace, Reads}
 use Rattle.trail_reader.specs.declared.answers.ReadAnswer.the-variants.{Place, Refused}
 use Rattle.trail_reader.specs.declared.answers.Reading.{Reading}
@@ -125,27 +125,27 @@ minus-none n = omega arith
 pub reads-by : (g : GridStruct) → IsMade g → (start trail : List ℕ) (number : ℕ) → HasStart (problemBy g start)
     → (b : Simplex) (previous next sizes first coefficients order marks : List ℕ) (status : Status) (labels : ℕ)
     → Shows (problemBy g start) b (stateOf (roundOf previous next sizes) first coefficients order marks status)
-    → (r : Reading)
-    → IsPlace (stateOf (roundOf previous [] sizes) first [] order [] status) (g .indices) status labels r
+    → (old : List ℕ) (r : Reading)
+    → IsPlace (stateOf (roundOf previous [] sizes) first [] order [] status) (g .indices) status labels old r
     → reading (problemBy g start) trail number ≡ placed labels b (setT (problemBy g start) b) (setU (shape g) b)
-    → Reads g start trail number r
-reads-by g made start trail number ok b previous next sizes first coefficients order marks status labels S r I e =
+    → Reads g start trail number old r
+reads-by g made start trail number ok b previous next sizes first coefficients order marks status labels S old r I e =
     record {
       answer = I .answer ∙ case-is ok S labels (I .lowT) (I .lowU) ∙ ap readCase (sym e);
       points = I .points
-          ∙ ap (λ (l : List ℕ). front l (replicate 256 0)) (numbers-are ok S labels (g .indices) (made-indices g made))
-          ∙ ap (λ (x : TrailReading). front (readNumbers x) (replicate 256 0)) (sym e);
+          ∙ ap (λ (l : List ℕ). front l old) (numbers-are ok S labels (g .indices) (made-indices g made))
+          ∙ ap (λ (x : TrailReading). front (readNumbers x) old) (sym e);
     }
 
 -- and of no record, where there is none
-pub reads-17 : (g : GridStruct) (start trail : List ℕ) (number : ℕ) (r : Reading)
-    → (r .answer ≡ Refused 17) × (r .points ≡ replicate 256 0) → reading (problemBy g start) trail number ≡ noRecord
-    → Reads g start trail number r
-reads-17 g start trail number r R e = record {
+pub reads-17 : (g : GridStruct) (start trail : List ℕ) (number : ℕ) (old : List ℕ) (r : Reading)
+    → (r .answer ≡ Refused 17) × (r .points ≡ old) → reading (problemBy g start) trail number ≡ noRecord
+    → Reads g start trail number old r
+reads-17 g start trail number old r R e = record {
   answer = R .0 ∙ ap readCase (sym e);
   points = R .1
-      ∙ sym (front-none (replicate 256 0))
-      ∙ ap (λ (x : TrailReading). front (readNumbers x) (replicate 256 0)) (sym e);
+      ∙ sym (front-none old)
+      ∙ ap (λ (x : TrailReading). front (readNumbers x) old) (sym e);
 }
 
 -- a grid that was made, with a start that is a grid point
@@ -170,11 +170,11 @@ module _ (p : Problem) (bytes : List ℕ) (number : ℕ) where
   refusal = firstNo (trailReadQuestions p bytes number)
 
   pub by-number : (n : ℕ) → (n ≡ 0 → ⊥) → refusal ≡ n
-      → (Refused n ≡ readAnswer p bytes number) × (replicate 256 0 ≡ readPoints p bytes number)
+      → (Refused n ≡ readAnswer p bytes number) × ((old : List ℕ) → old ≡ readPoints p bytes number old)
   unfolding readAnswer readPoints
   by-number n z e =
       let q : eqb refusal 0 ≡ false = ne-eqb refusal 0 (λ f. z (sym e ∙ f)) in
-      (rw (q, e), rw (q, front-none (replicate 256 0)))
+      (rw (q, e), λ old. rw (q, front-none old))
 
   pub by-grid : (firstNo (gridQuestions (p .grid)) ≡ 0 → ⊥) → refusal ≡ firstNo (gridQuestions (p .grid))
   by-grid n =
@@ -201,24 +201,35 @@ module _ (p : Problem) (bytes : List ℕ) (number : ℕ) where
 
     answered : refusal ≡ 0
         → (readCase (reading p bytes number) ≡ readAnswer p bytes number)
-        × (front (readNumbers (reading p bytes number)) (replicate 256 0) ≡ readPoints p bytes number)
+        × ((old : List ℕ) → front (readNumbers (reading p bytes number)) old ≡ readPoints p bytes number old)
     unfolding readAnswer readPoints
-    answered e = (rw (eq-eqb refusal 0 e), rw (eq-eqb refusal 0 e))
+    answered e = (rw (eq-eqb refusal 0 e), λ old. rw (eq-eqb refusal 0 e))
 
     pub read-so : (readCase (reading p bytes number) ≡ readAnswer p bytes number)
-        × (front (readNumbers (reading p bytes number)) (replicate 256 0) ≡ readPoints p bytes number)
+        × ((old : List ℕ) → front (readNumbers (reading p bytes number)) old ≡ readPoints p bytes number old)
     read-so = go (reading p bytes number) refl
       where
         go : (r : TrailReading) → reading p bytes number ≡ r
             → (readCase (reading p bytes number) ≡ readAnswer p bytes number)
-            × (front (readNumbers (reading p bytes number)) (replicate 256 0) ≡ readPoints p bytes number)
+            × ((old : List ℕ) → front (readNumbers (reading p bytes number)) old ≡ readPoints p bytes number old)
         go noRecord q =
             let w = by-number 17 (λ z. omega arith) (no-place (ap isPlaced q)) in (
               ap readCase q ∙ w .0,
-              ap (λ (r : TrailReading). front (readNumbers r) (replicate 256 0)) q ∙ front-none (replicate 256 0)
-                  ∙ w .1,
+              λ old. ap (λ (r : TrailReading). front (readNumbers r) old) q ∙ front-none old ∙ w .1 old,
             )
         go (placed read b T U) q = answered (a-place (ap isPlaced q))
+
+    -- so of the place that is rebuilt, or of none
+    pub answers-place : {s : Simplex} → rebuilt p bytes number ≡ some s
+        → (readAnswer p bytes number ≡ Place (length s) (maskOf (setT p s)) (maskOf (setU (p .grid) s))
+        (labelsRead (rebuiltPlaces p bytes number)))
+        × ((old : List ℕ) → readPoints p bytes number old ≡ front (concatMap (λ y. y) s) old)
+    unfolding reading
+    answers-place e = (sym (read-so .0) ∙ (rw e), λ old. sym (read-so .1 old) ∙ (rw e))
+
+    pub answers-none : rebuilt p bytes number ≡ none → readAnswer p bytes number ≡ Refused 17
+    unfolding reading
+    answers-none e = sym (read-so .0) ∙ (rw e)
 
 -- bytes that begin with a record are no fewer
 begins-long : (r bytes : List ℕ) → begins r bytes ≡ true → length r ≤ length bytes

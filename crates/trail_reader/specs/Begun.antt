@@ -2,7 +2,7 @@
 use mathlib.Core.List.{List}
 use mathlib.Core.Path.{_≡_}
 use Prim.Native.Nat.{ℕ, suc, _<_}
-use lib.ListN.{length, replicate, take}
+use lib.ListN.{length, take}
 use Rattle.combinatorics.specs.Front.{front}
 use Rattle.grid_points.specs.Grid.{position}
 use Rattle.grid.specs.Made.{IsMade, shape}
@@ -40,14 +40,14 @@ pub record CanRebuild (g : GridStruct) (round : Round) (binomials first : List �
   pub firstLength : length first ≡ 16
   pub hasStart : HasStart (problemBy g (take (g .indices) first))
 
--- the place that a state holds, with masks of 16 bits and the labels read
-pub record IsPlace (a : State) (m : ℕ) (s : Status) (labels : ℕ) (r : Reading) : Type 0 where
+-- the place that a state holds, with masks of 16 bits and the labels read; its points over the old contents
+pub record IsPlace (a : State) (m : ℕ) (s : Status) (labels : ℕ) (old : List ℕ) (r : Reading) : Type 0 where
   pub answer : r .answer ≡ Place (suc (length (a .order))) (s .t) (s .u) labels
   pub lowT : s .t < 65536
   pub lowU : s .u < 65536
-  pub points : r .points ≡ front (numbersFrom m a 0) (replicate 256 0)
+  pub points : r .points ≡ front (numbersFrom m a 0) old
 
--- the answer, and the points
-pub record Reads (g : GridStruct) (start trail : List ℕ) (number : ℕ) (r : Reading) : Type 0 where
+-- the answer, and the points over the old contents
+pub record Reads (g : GridStruct) (start trail : List ℕ) (number : ℕ) (old : List ℕ) (r : Reading) : Type 0 where
   pub answer : r .answer ≡ readCase (reading (problemBy g start) trail number)
-  pub points : r .points ≡ front (readNumbers (reading (problemBy g start) trail number)) (replicate 256 0)
+  pub points : r .points ≡ front (readNumbers (reading (problemBy g start) trail number)) old

@@ -3,7 +3,7 @@ use mathlib.Core.Bool.{Bool, true, false, cond}
 use mathlib.Core.List.{List, [], _∷_, _++_}
 use Prim.Native.Nat.{ℕ, zero, suc, _+_, _*_}
 use lib.Dec.{eqb}
-use lib.ListN.{length, replicate}
+use lib.ListN.{length}
 use Rattle.combinatorics.specs.Front.{front}
 use Rattle.combinatorics.specs.Lists.{concatMap, isIn}
 use Rattle.grid_points.specs.Questions.{gridQuestions, question5}
@@ -53,8 +53,9 @@ readAnswer p bytes number =
     let refusal = firstNo (trailReadQuestions p bytes number) in
     cond (eqb refusal 0) (readCase (reading p bytes number)) (Refused refusal)
 
--- the points stand at the front of 256 numbers, 0 behind; a place has at most 16 points of 16 numbers
-unfoldable pub readPoints : Problem → List ℕ → ℕ → List ℕ
-readPoints p bytes number =
+-- "What a call does write stands at the front of its buffer, old contents behind": the points, in 256 numbers; a place
+-- has at most 16 points of 16 numbers
+unfoldable pub readPoints : Problem → List ℕ → ℕ → List ℕ → List ℕ
+readPoints p bytes number old =
     let refusal = firstNo (trailReadQuestions p bytes number) in
-    front (cond (eqb refusal 0) (readNumbers (reading p bytes number)) []) (replicate 256 0)
+    front (cond (eqb refusal 0) (readNumbers (reading p bytes number)) []) old

@@ -2,7 +2,7 @@
 ghost use mathlib.Core.List.{[]};
 ghost use mathlib.Core.Path.{_≡_};
 ghost use Prim.Native.Nat.{_<_};
-ghost use lib.ListN.{length, replicate, take};
+ghost use lib.ListN.{length, take};
 ghost use Rattle.arrays.specs.Rounds.{round, roundBack};
 ghost use Rattle.moves.specs.Held.{stateOf};
 ghost use Rattle.moves.specs.Room.{CanPut};
@@ -34,19 +34,18 @@ pub enum ReadAnswer {
     },
 }
 
-// The answer, and the points of the place in rising coefficient sum, m numbers each, at the front of 256 numbers, 0
-// behind.
+// The answer, and the points of the place in rising coefficient sum, m numbers each, at the front of 256 numbers.
 pub struct Reading {
     pub answer: ReadAnswer,
     pub points: [u16; 256],
 }
 
-fn refused(number: u8) -> Reading
-    ensures { λ r. ⌜ (r .answer ≡ ReadAnswer.Refused number) × (r .points ≡ replicate 256 0) ⌝ }
+fn refused(number: u8, points: [u16; 256]) -> Reading
+    ensures { λ r. ⌜ (r .answer ≡ ReadAnswer.Refused number) × (r .points ≡ points) ⌝ }
 {
     Reading {
         answer: ReadAnswer::Refused(number),
-        points: [0u16; 256],
+        points,
     }
 }
 
@@ -57,7 +56,7 @@ fn mask(x: u16) -> u16
     x
 }
 
-// The place that the arrays hold.
+// The place that the arrays hold, its points over the contents that are lent.
 fn placed(
     previous: &[u8; 16],
     sizes: &[u8; 16],
@@ -66,13 +65,14 @@ fn placed(
     s: Status,
     m: usize,
     labels_read: u64,
+    lent: [u16; 256],
 ) -> Reading
     ghost { State }
     requires { λ a. ⌜ stateOf (roundBack previous sizes) (now first) [] (now order) [] s ≡ a ⌝ }
-    requires { λ a. ⌜ CanPut a m 0 256 × (length (a .order) ≡ s .count) ⌝ }
-    ensures { λ a r. ⌜ IsPlace a m s «labels_read» r ⌝ }
+    requires { λ a. ⌜ CanPut a m 0 (length lent) × (length (a .order) ≡ s .count) ⌝ }
+    ensures { λ a r. ⌜ IsPlace a m s «labels_read» lent r ⌝ }
 {
-    let mut points = [0u16; 256];
+    let mut points = lent;
     let count = put_points(&mut points, previous, sizes, first, order, s, m, 0);
     let answer = ReadAnswer::Place {
         points: count,
@@ -102,12 +102,13 @@ fn rebuilt(
     first: &mut [u16; 16],
     trail: &[u8],
     number: u64,
+    points: [u16; 256],
 ) -> Reading
     ghost { Round }
     requires { λ w. ⌜ round previous next sizes ≡ w ⌝ }
     requires { λ w. ⌜ CanRebuild g w (now binomials) (now first) ⌝ }
     requires { λ _. ⌜ 0 < number ⌝ }
-    ensures { λ _ r. ⌜ Reads g (take (g .indices) (now (first .entry))) (now (trail .entry)) number r ⌝ }
+    ensures { λ _ r. ⌜ Reads g (take (g .indices) (now (first .entry))) (now (trail .entry)) number points r ⌝ }
 {
     let m = g.indices;
     let mut coefficients = [0u16; 16];
@@ -117,7 +118,7 @@ fn rebuilt(
     let tails = positions::tails(first, m);
     let position = start_position(g, binomials, first);
     if !stands(trail, 0, first_record(position)) {
-        return refused(17);
+        return refused(17, points);
     }
     marks[0] = position as u32 * 256;
     let reached = follow(
@@ -137,18 +138,27 @@ fn rebuilt(
         number - 1,
     );
     match reached {
-        Reached::At { status, came } => placed(previous, sizes, first, &order, status, m, came + 1),
-        Reached::Nowhere => refused(17),
+        Reached::At { status, came } => placed(
+            previous,
+            sizes,
+            first,
+            &order,
+            status,
+            m,
+            came + 1,
+            points,
+        ),
+        Reached::Nowhere => refused(17, points),
     }
 }
 
 // The reading behind questions 1 to 5.
-fn read_on(g: Grid, start: &[u16], trail: &[u8], number: u64) -> Reading
+fn read_on(g: Grid, start: &[u16], trail: &[u8], number: u64, points: [u16; 256]) -> Reading
     requires { ⌜ CanReadTrail g (now start) ⌝ }
-    ensures { λ r. ⌜ Reads g (now (start .entry)) (now (trail .entry)) number r ⌝ }
+    ensures { λ r. ⌜ Reads g (now (start .entry)) (now (trail .entry)) number points r ⌝ }
 {
     if number == 0 {
-        return refused(17);
+        return refused(17, points);
     }
     let previous = g.previous;
     let next = g.next;
@@ -165,27 +175,36 @@ fn read_on(g: Grid, start: &[u16], trail: &[u8], number: u64) -> Reading
         &mut first,
         trail,
         number,
+        points,
     )
 }
 
 // Questions 1 to 5, then 17, on every input: the place at a record of the trail, the records counted from 1. Only the
-// records up to that one are looked at.
-pub fn read(sizes: &[u8], divisions: &[u16], start: &[u16], trail: &[u8], number: u64) -> Reading
+// records up to that one are looked at. The points stand at the front of the array that is lent, its old contents
+// behind; a refusal leaves it as it is.
+pub fn read(
+    sizes: &[u8],
+    divisions: &[u16],
+    start: &[u16],
+    trail: &[u8],
+    number: u64,
+    points: [u16; 256],
+) -> Reading
     ensures answer { λ r. ⌜ r .answer ≡ readAnswer
         (problemOf (now (sizes .entry)) (now (divisions .entry)) (now (start .entry)) [])
         (now (trail .entry)) number ⌝ }
     ensures points { λ r. ⌜ r .points ≡ readPoints
         (problemOf (now (sizes .entry)) (now (divisions .entry)) (now (start .entry)) [])
-        (now (trail .entry)) number ⌝ }
+        (now (trail .entry)) number points ⌝ }
 {
     let made = Grid::new(sizes, divisions);
     let code = made.code;
     let g = made.grid;
     if code != 0 {
-        return refused(code);
+        return refused(code, points);
     }
     if !g.is_grid_point(start) {
-        return refused(5);
+        return refused(5, points);
     }
-    read_on(g, start, trail, number)
+    read_on(g, start, trail, number, points)
 }

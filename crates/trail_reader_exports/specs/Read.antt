@@ -13,8 +13,3 @@ readNumber (Place points t u read) = 0
 abbrev pub placeFacts : ReadAnswer → List ℕ
 placeFacts (Refused number) = []
 placeFacts (Place points t u read) = points ∷ t ∷ u ∷ read ∷ []
-
--- the numbers of the points; a refusal "changes no buffer"
-abbrev pub pointsLeft : ReadAnswer → List ℕ → List ℕ → List ℕ
-pointsLeft (Refused number) new old = old
-pointsLeft (Place points t u read) new old = new

@@ -6,19 +6,12 @@ ghost use lib.ListN.{length};
 ghost use Rattle.combinatorics.specs.Front.{front};
 ghost use Rattle.place.specs.Problem.{problemOf};
 ghost use Rattle.trail_reader.specs.Reading.{readAnswer, readPoints};
-ghost use Rattle.trail_reader_exports.specs.Read.{placeFacts, pointsLeft, readNumber};
+ghost use Rattle.trail_reader_exports.specs.Read.{placeFacts, readNumber};
 
-// The number of points, T, U and the labels read to the front of their buffer, and the points to theirs, where a place
-// is rebuilt.
-fn put_place(
-    found: trail_reader::ReadAnswer,
-    from: [u16; 256],
-    points: &mut [u16; 256],
-    place: &mut [u64],
-) -> u8
+// The number of points, T, U and the labels read to the front of their buffer, where a place is rebuilt.
+fn put_place(found: trail_reader::ReadAnswer, place: &mut [u64]) -> u8
     requires { ⌜ 4 ≤ length (now place) ⌝ }
     ensures number { λ r. ⌜ r ≡ readNumber found ⌝ }
-    ensures points { λ _. ⌜ now (points .exit) ≡ pointsLeft found from (now (points .entry)) ⌝ }
     ensures place { λ _. ⌜ now (place .exit) ≡ front (placeFacts found) (now (place .entry)) ⌝ }
 {
     match found {
@@ -29,7 +22,6 @@ fn put_place(
             u,
             labels_read,
         } => {
-            *points = from;
             place[0] = count as u64;
             place[1] = t as u64;
             place[2] = u as u64;
@@ -40,8 +32,8 @@ fn put_place(
 }
 
 // The place at a record of a trail: 0 where it is rebuilt, else the refusal's number. `place` has the number of points,
-// T and U as masks, bit h for index h + 1, and the labels read up to the place; `points` has the points' numbers, and 0
-// behind them.
+// T and U as masks, bit h for index h + 1, and the labels read up to the place. The points' numbers, m each, stand at
+// the front of `points`, its old contents behind; a refusal changes neither buffer.
 #[no_mangle]
 pub extern "C" fn leveretplate_read_trail(
     sizes: &[u8],
@@ -57,15 +49,15 @@ pub extern "C" fn leveretplate_read_trail(
         r ≡ readNumber (readAnswer p (now (trail .entry)) record_number)) ⌝ }
     ensures points { λ _. ⌜ (let p = problemOf
         (now (sizes .entry)) (now (divisions .entry)) (now (start .entry)) [] in
-        now (points .exit) ≡ pointsLeft (readAnswer p (now (trail .entry)) record_number)
-        (readPoints p (now (trail .entry)) record_number) (now (points .entry))) ⌝ }
+        now (points .exit) ≡ readPoints p (now (trail .entry)) record_number (now (points .entry))) ⌝ }
     ensures place { λ _. ⌜ (let p = problemOf
         (now (sizes .entry)) (now (divisions .entry)) (now (start .entry)) [] in
         now (place .exit)
         ≡ front (placeFacts (readAnswer p (now (trail .entry)) record_number)) (now (place .entry))) ⌝ }
 {
-    let reading = trail_reader::read(sizes, divisions, start, trail, record_number);
+    let reading = trail_reader::read(sizes, divisions, start, trail, record_number, *points);
+    let numbers = reading.points;
+    *points = numbers;
     let found = reading.answer;
-    let from = reading.points;
-    put_place(found, from, points, place)
+    put_place(found, place)
 }

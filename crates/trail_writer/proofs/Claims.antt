@@ -3,7 +3,6 @@
 use mathlib.Core.Bool.{true, cond}
 use mathlib.Core.List.{List, [], _∷_, _++_}
 use mathlib.Core.Logic.{⊎-elim}
-use mathlib.Core.Option.{none, some}
 use mathlib.Core.Path.{_≡_, refl, sym, ap, _∙_}
 use Prim.Native.Nat.{ℕ, suc, pred, _+_, _*_, _≤_, _<_}
 use borrow.Author.Tests.{eq-eqb, leb-true, ne-eqb}
@@ -13,18 +12,26 @@ use native.Mathlib.Omega.{arith}
 use Rattle.combinatorics.proofs.Basics.{and-left, and-right, before-or-not, same-or, true-or-false}
 use Rattle.combinatorics.proofs.Fronts.{front-none, front-taken}
 use Rattle.combinatorics.specs.Front.{front}
-use Rattle.combinatorics.specs.Lists.{all}
+use Rattle.combinatorics.specs.Lists.{all, concatMap}
 use Rattle.end_kinds.specs.declared.Kind.{Kind}
 use Rattle.finder.proofs.Demand.{unrefused}
+use Rattle.finder.proofs.Refusals.{by-grid}
+use Rattle.finder.specs.Demand.{AcceptedWith}
 use Rattle.finder.specs.Run.{caseOf, numbersOf, runRefusal, runAnswer, runBuffer}
 use Rattle.finder.specs.declared.answers.RunAnswer.the-variants.{Refused, End}
 use Rattle.path_laws.specs.Demand.{Accepted, placeAt}
+use Rattle.grid_points.specs.Questions.{gridQuestions}
+use Rattle.place.specs.LabelsRead.{cameIn}
 use Rattle.place.specs.Path.{PathAnswer, answer, ended, path, pathLength, spent, unknown}
+use Rattle.place.specs.Places.{setT, setU}
 use Rattle.place.specs.Problem.{Problem, withLabels}
 use Rattle.place.specs.Questions.{runQuestions}
 use Rattle.questions.specs.Questions.{Question, firstNo}
+use Rattle.trail.proofs.Reading.{T-alike}
 use Rattle.trail.proofs.RunTrail.{path-trail}
-use Rattle.trail.specs.Trail.{rebuilt}
+use Rattle.trail_reader.proofs.Rebuilt.{answers-none, answers-place}
+use Rattle.trail_reader.specs.Reading.{maskOf, readAnswer, readPoints}
+use Rattle.trail_reader.specs.declared.answers.ReadAnswer.the-variants.{Place, Refused as ReadRefused}
 use Rattle.trail_writer.specs.Claims.{ReadsBack, TrailsOfRuns, Writes}
 use Rattle.trail_writer.specs.Writing.{announces, trailAnswerBuffer, trailAnswer, trailBuffer, trailCase}
 use Rattle.trail_writer.specs.Writing.{unwritten, wholeTrail}
@@ -157,7 +164,15 @@ module _ (p : Problem) (room trailRoom budget : ℕ) where
   }
 
 -- a run that announces an end has written the whole trail
-module _ (p : Problem) (room budget : ℕ) (accepted : Accepted p) (old : List ℕ) where
+module _ (p : Problem) (room budget : ℕ) (ok : AcceptedWith p room) (old : List ℕ) where
+  accepted : Accepted p
+  accepted = unrefused p room ok
+
+  -- questions 1 to 4 are answered yes
+  grid-yes : firstNo (gridQuestions (p .grid)) ≡ 0
+  grid-yes = ⊎-elim (λ z. z) (λ n. absurd (n (sym (by-grid p room n) ∙ ok)))
+      (same-or (firstNo (gridQuestions (p .grid))) 0)
+
   case-end : (a : PathAnswer) {n read : ℕ} {kind : Kind} {block vertices : ℕ}
       → trailCase p (length old) a .run ≡ End n read kind block vertices → (answer p budget ≡ a)
       → (n ≡ pathLength p) × (trailCase p (length old) a .bytes ≡ length (wholeTrail p))
@@ -209,13 +224,27 @@ module _ (p : Problem) (room budget : ℕ) (accepted : Accepted p) (old : List �
         (ended-so .0, omega (arith, ended-so .1, T .long), rw (ended-so .0, ended-so .1) (T .short), taken-is)
 
     reads-back : (labels : List ℕ) (i : ℕ) → i < n
-        → rebuilt (withLabels p labels) (trailBuffer p room budget old) (suc i) ≡ some (placeAt (path p .visited) i)
-    reads-back labels i l = rw buffer-is
-        (path-trail accepted .reads labels (drop (length (wholeTrail p)) old) i (omega (arith, ended-so .0)))
+        → let given = withLabels p labels in
+        let trail = trailBuffer p room budget old in
+        let place = placeAt (path p .visited) i in
+        let read = suc (cameIn (path p .visited) i) in
+        (readAnswer given trail (suc i)
+        ≡ Place (length place) (maskOf (setT p place)) (maskOf (setU (p .grid) place)) read)
+        × ((lent : List ℕ) → readPoints given trail (suc i) lent ≡ front (concatMap (λ y. y) place) lent)
+    reads-back labels i l =
+        let T = path-trail accepted in
+        let behind = drop (length (wholeTrail p)) old in
+        let low : i < pathLength p = omega (arith, ended-so .0) in
+        let R = answers-place (withLabels p labels) (wholeTrail p ++ behind) (suc i) grid-yes (accepted .hasStart .start)
+        (T .reads labels behind i low) in
+        rw buffer-is
+        (R .0 ∙ (rw (T-alike p labels (placeAt (path p .visited) i), T .labelsSoFar labels behind i low)), R .1)
 
     no-more : (labels : List ℕ) (i : ℕ) → n < i
-        → rebuilt (withLabels p labels) (take bytes (trailBuffer p room budget old)) i ≡ none
-    no-more labels i l = rw taken-is (path-trail accepted .noMore labels i (omega (arith, ended-so .0)))
+        → readAnswer (withLabels p labels) (take bytes (trailBuffer p room budget old)) i ≡ ReadRefused 17
+    no-more labels i l = rw taken-is
+        (answers-none (withLabels p labels) (wholeTrail p) i grid-yes (accepted .hasStart .start)
+        (path-trail accepted .noMore labels i (omega (arith, ended-so .0))))
 
   reads : ReadsBack p room budget old
   reads = record {
@@ -227,5 +256,5 @@ module _ (p : Problem) (room budget : ℕ) (accepted : Accepted p) (old : List �
 pub trails-of-runs : TrailsOfRuns
 trails-of-runs p room budget = (
   λ trailRoom. writes p room trailRoom budget,
-  λ ok old. reads p room budget (unrefused p room ok) old,
+  λ ok old. reads p room budget ok old,
 )

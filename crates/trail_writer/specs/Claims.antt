@@ -1,17 +1,21 @@
 -- Request 03: what holds of every run that writes a trail. Assumes nothing.
 use mathlib.Core.List.{List}
-use mathlib.Core.Option.{none, some}
 use mathlib.Core.Path.{_≡_}
 use Prim.Native.Nat.{ℕ, suc, pred, _+_, _*_, _≤_, _<_}
 use lib.ListN.{length, take}
+use Rattle.combinatorics.specs.Front.{front}
+use Rattle.combinatorics.specs.Lists.{concatMap}
 use Rattle.end_kinds.specs.declared.Kind.{Kind}
 use Rattle.finder.specs.Demand.{AcceptedWith}
 use Rattle.finder.specs.Run.{runAnswer, runBuffer}
 use Rattle.finder.specs.declared.answers.RunAnswer.the-variants.{End, Refused}
 use Rattle.path_laws.specs.Demand.{placeAt}
+use Rattle.place.specs.LabelsRead.{cameIn}
 use Rattle.place.specs.Path.{path, pathLength}
+use Rattle.place.specs.Places.{setT, setU}
 use Rattle.place.specs.Problem.{Problem, withLabels}
-use Rattle.trail.specs.Trail.{rebuilt}
+use Rattle.trail_reader.specs.Reading.{maskOf, readAnswer, readPoints}
+use Rattle.trail_reader.specs.declared.answers.ReadAnswer.the-variants.{Place, Refused as ReadRefused}
 use Rattle.trail_writer.specs.Writing.{trailAnswerBuffer, trailAnswer, trailBuffer, wholeTrail}
 
 pub record Writes (p : Problem) (room trailRoom budget : ℕ) : Type 0 where
@@ -34,8 +38,9 @@ pub record Writes (p : Problem) (room trailRoom budget : ℕ) : Type 0 where
       × ((old : List ℕ) → length old ≡ room → trailAnswerBuffer p trailRoom budget old ≡ old)
       × ((old : List ℕ) → length old ≡ trailRoom → trailBuffer p room budget old ≡ old)
 
--- "over a run's trail these places are the path": what a run has written reads back, place by place, whatever was
--- behind it in the buffer
+-- "over a run's trail these places are the path": of what a run has written the reader answers, record by record, with
+-- the points, T, U and request 10's labels read of the path's place, whatever was behind it in the buffer. The reader is
+-- given no table, so it may be any.
 pub record ReadsBack (p : Problem) (room budget : ℕ) (old : List ℕ) : Type 0 where
   pub long : (n read : ℕ) (kind : Kind) (block vertices : ℕ)
       → trailAnswer p room (length old) budget .run ≡ End n read kind block vertices
@@ -45,12 +50,17 @@ pub record ReadsBack (p : Problem) (room budget : ℕ) (old : List ℕ) : Type 0
   pub reads : (n read : ℕ) (kind : Kind) (block vertices : ℕ)
       → trailAnswer p room (length old) budget .run ≡ End n read kind block vertices
       → (labels : List ℕ) (i : ℕ) → i < n
-      → rebuilt (withLabels p labels) (trailBuffer p room budget old) (suc i) ≡ some (placeAt (path p .visited) i)
+      → let given = withLabels p labels in
+      let trail = trailBuffer p room budget old in
+      let place = placeAt (path p .visited) i in
+      let read = suc (cameIn (path p .visited) i) in
+      (readAnswer given trail (suc i) ≡ Place (length place) (maskOf (setT p place)) (maskOf (setU (p .grid) place)) read)
+      × ((lent : List ℕ) → readPoints given trail (suc i) lent ≡ front (concatMap (λ y. y) place) lent)
   pub noMore : (n read : ℕ) (kind : Kind) (block vertices : ℕ)
       → trailAnswer p room (length old) budget .run ≡ End n read kind block vertices
       → (labels : List ℕ) (i : ℕ) → n < i
       → let bytes = trailAnswer p room (length old) budget .bytes in
-      rebuilt (withLabels p labels) (take bytes (trailBuffer p room budget old)) i ≡ none
+      readAnswer (withLabels p labels) (take bytes (trailBuffer p room budget old)) i ≡ ReadRefused 17
 
 abbrev pub TrailsOfRuns : Type 0
 TrailsOfRuns = (p : Problem) (room budget : ℕ) → ((trailRoom : ℕ) → Writes p room trailRoom budget)

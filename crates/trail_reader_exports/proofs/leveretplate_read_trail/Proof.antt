@@ -6,8 +6,8 @@ use Rattle.trail_reader_exports.proofs.leveretplate_read_trail.Tie as t
 
 returns : tie.Need-returns
 returns c =
-    let found = c .before .before .before .before .read .ensures in
-    rw (sym (found .0), sym (found .1)) (c .put-place .ensures)
+    let found = c .before .before .before .read .ensures in
+    rw (sym (found .0)) (c .put-place .ensures .0, (found .1, c .put-place .ensures .1))
 
 pub leveretplate-read-trail-spec : {M : Type 1} → statement M
 leveretplate-read-trail-spec = tie.close (tie.spec (λ c κs. search needs) (λ c κs. search needs) returns)

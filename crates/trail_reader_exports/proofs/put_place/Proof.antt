@@ -29,10 +29,10 @@ slice-write-place-4 : tie.Need-slice-write-place-4
 slice-write-place-4 c = simp length-set (omega arith)
 
 returns : tie.Need-returns
-returns c = rw (c .before .found .given .1) (refl, (refl, sym (front-none _)))
+returns c = rw (c .before .found .given .1) (refl, sym (front-none _))
 
 returns-2 : tie.Need-returns-2
-returns-2 c = rw (c .before .found2 .given .1) (refl, (refl, four _ _ _ _ _ (omega arith)))
+returns-2 c = rw (c .before .found2 .given .1) (refl, four _ _ _ _ _ (omega arith))
 
 pub put-place-spec : {M : Type 1} → statement M
 put-place-spec =

@@ -24,7 +24,7 @@ returns c =
     let q = made-code G r (c .before .before .before .new .ensures) in
     let w = by-number p (a .trail .now) (a .number) (r .code) (c .before .if1 .taken)
     (by-grid p (a .trail .now) (a .number) (λ f. c .before .if1 .taken (q ∙ f)) ∙ sym q) in
-    (c .refused .ensures .0 ∙ w .0, c .refused .ensures .1 ∙ w .1)
+    (c .refused .ensures .0 ∙ w .0, c .refused .ensures .1 ∙ w .1 (a .points))
 
 is-grid-point-requires : tie.Need-is-grid-point-requires
 is-grid-point-requires c κs =
@@ -46,10 +46,10 @@ returns-2 c =
     (by-start p (a .trail .now) (a .number) (made .accepted) off) in
     subst
     (λ (p : Problem). (c .refused2 .result .answer ≡ readAnswer p (a .trail .now) (a .number))
-    × (c .refused2 .result .points ≡ readPoints p (a .trail .now) (a .number)))
+    × (c .refused2 .result .points ≡ readPoints p (a .trail .now) (a .number) (a .points)))
     (same-problem G (c .before .before .before .before .before .new .result)
     (c .before .before .before .before .before .new .ensures) (c .before .before .before .if1 .left) (a .start .now) [])
-    (c .refused2 .ensures .0 ∙ w .0, c .refused2 .ensures .1 ∙ w .1)
+    (c .refused2 .ensures .0 ∙ w .0, c .refused2 .ensures .1 ∙ w .1 (a .points))
 
 read-on-requires : tie.Need-read-on-requires
 read-on-requires c κs =
@@ -75,10 +75,10 @@ returns-3 c =
     let R = c .read-on .ensures in
     subst
     (λ (p : Problem). (c .read-on .result .answer ≡ readAnswer p (a .trail .now) (a .number))
-    × (c .read-on .result .points ≡ readPoints p (a .trail .now) (a .number)))
+    × (c .read-on .result .points ≡ readPoints p (a .trail .now) (a .number) (a .points)))
     (same-problem G (c .before .before .before .before .before .new .result)
     (c .before .before .before .before .before .new .ensures) (c .before .before .before .if1 .left) (a .start .now) [])
-    (R .answer ∙ w .0, R .points ∙ w .1)
+    (R .answer ∙ w .0, R .points ∙ w .1 (a .points))
 
 pub read-spec : {M : Type 1} → statement M
 read-spec =

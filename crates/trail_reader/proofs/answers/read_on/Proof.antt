@@ -18,7 +18,7 @@ use Rattle.trail_reader.proofs.answers.read_on.Tie as tie
 returns : tie.Need-returns
 returns c =
     let a = c .before .before .before .before .args in
-    reads-17 (a .g) (a .start .now) (a .trail .now) (a .number) (c .refused .result) (c .refused .ensures)
+    reads-17 (a .g) (a .start .now) (a .trail .now) (a .number) (a .points) (c .refused .result) (c .refused .ensures)
     (no-zero (problemBy (a .g) (a .start .now)) (a .trail .now) (a .number) (c .before .if1 .taken))
 
 block-sizes-requires : tie.Need-block-sizes-requires
@@ -68,7 +68,7 @@ returns-2 : tie.Need-returns-2
 returns-2 c =
     let t = c .before .before .before .before .before .before in
     let a = begun t .args in
-    subst (λ (s : List ℕ). Reads (a .g) s (a .trail .now) (a .number) (c .rebuilt .result)) (taken t)
+    subst (λ (s : List ℕ). Reads (a .g) s (a .trail .now) (a .number) (a .points) (c .rebuilt .result)) (taken t)
     (c .rebuilt .ensures)
 
 pub read-on-spec : {M : Type 1} → statement M

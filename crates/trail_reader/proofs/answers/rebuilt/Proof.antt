@@ -4,7 +4,7 @@ use mathlib.Core.Path.{_≡_, refl, sym, ap, _∙_}
 use Prim.Native.Nat.{ℕ, _-_, _*_}
 use borrow.Author.Needs.{needs}
 use borrow.Author.Tests.{not-false, not-true}
-use lib.ListN.{drop, replicate, set, take}
+use lib.ListN.{drop, length, replicate, set, take}
 use native.Mathlib.Omega.{arith}
 use Rattle.arrays.specs.Rounds.{roundOf}
 use Rattle.grid.proofs.Fields.{indices-few}
@@ -86,7 +86,7 @@ returns c =
     let s = entered v in
     let a = s .args in
     let no = sym (told v) ∙ not-true _ (c .before .if1 .taken) in
-    reads-17 (a .g) (start v) (a .trail .now) (a .number) (c .refused .result) (c .refused .ensures)
+    reads-17 (a .g) (start v) (a .trail .now) (a .number) (a .points) (c .refused .result) (c .refused .ensures)
     (not-first (problem v) (a .trail .now) (a .number) (s .pre .1) no)
 
 cast-marks : tie.Need-cast-marks
@@ -128,6 +128,10 @@ add-placed c =
     let few = came-few (placesFrom (problem v) n (start v ∷ []) (drop 3 (s .args .trail .now))) n in
     omega (arith, R .brought, few, s .pre .1, s .fits .number .fits)
 
+-- the array that is lent
+long : (s : tie.Start) → length (s .args .points) ≡ 256
+long s = search needs
+
 placed-requires : tie.Need-placed-requires
 placed-requires c κs =
     let v = c .before .before .before .before .before .before .before .before .before .before .before .before in
@@ -145,7 +149,7 @@ placed-requires c κs =
         points = record { low = C .low; few = C .few; indices = C .indices; positive = C .positive; fits = C .fits };
         short = few;
         low = omega arith;
-        fits = rw minus-none (few-numbers (w .hasStart) (R .shows) (a .g .indices) few);
+        fits = rw minus-none (omega (arith, few-numbers (w .hasStart) (R .shows) (a .g .indices) few, long s));
       },
       R .many,
     )
@@ -170,7 +174,7 @@ returns-2 c =
     let there = reads-place (problem v) trail (a .number) (s .pre .1) yes (R .place) (R .is) _ (R .brought) in
     reads-by (a .g) (w .measured .made) (start v) trail (a .number) (w .hasStart) (R .place) (a .previous .now)
     (a .next .now) (a .sizes .now) (last .0) (last .1 .0) (last .1 .1 .0) (last .1 .1 .1 .0)
-    (c .before .before .before .before .reached .given .0 .0) _ (R .shows) (c .placed .result) (c .placed .ensures)
+    (c .before .before .before .before .reached .given .0 .0) _ (R .shows) (a .points) (c .placed .result) (c .placed .ensures)
     there
 
 returns-3 : tie.Need-returns-3
@@ -182,7 +186,7 @@ returns-3 c =
     sym (told v) ∙ not-false _ (c .before .before .before .before .before .before .before .before .before .if1 .left) in
     let R = (rw (c .before .enum-told .given .1) at (c .before .before .before .follow .ensures)) (start v)
     (start v ∷ []) (held v) in
-    reads-17 (a .g) (start v) (a .trail .now) (a .number) (c .refused2 .result) (c .refused2 .ensures)
+    reads-17 (a .g) (start v) (a .trail .now) (a .number) (a .points) (c .refused2 .result) (c .refused2 .ensures)
     (reads-none (problem v) (a .trail .now) (a .number) (s .pre .1) yes R)
 
 pub rebuilt-spec : {M : Type 1} → statement M
