@@ -23,7 +23,7 @@ front-more p row old = rw (take-append-seam, drop-append-seam, drop-drop, length
 abbrev pub factsOf : ℕ → List Level → List ℕ
 factsOf i levels = concatMap levelFacts (take i levels)
 
-facts-long : (i : ℕ) (levels : List Level) → i ≤ length levels → length (factsOf i levels) ≡ 5 * i
+pub facts-long : (i : ℕ) (levels : List Level) → i ≤ length levels → length (factsOf i levels) ≡ 5 * i
 facts-long zero levels h = omega arith
 facts-long (suc i) [] h = absurd (omega arith)
 facts-long (suc i) (l ∷ levels) h = omega (arith, facts-long i levels (omega arith))
