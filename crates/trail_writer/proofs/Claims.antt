@@ -235,8 +235,8 @@ module _ (p : Problem) (room budget : ℕ) (ok : AcceptedWith p room) (old : Lis
         let T = path-trail accepted in
         let behind = drop (length (wholeTrail p)) old in
         let low : i < pathLength p = omega (arith, ended-so .0) in
-        let R = answers-place (withLabels p labels) (wholeTrail p ++ behind) (suc i) grid-yes (accepted .hasStart .start)
-        (T .reads labels behind i low) in
+        let R = answers-place (withLabels p labels) (wholeTrail p ++ behind) (suc i) grid-yes
+        (accepted .hasStart .start) (T .reads labels behind i low) in
         rw buffer-is
         (R .0 ∙ (rw (T-alike p labels (placeAt (path p .visited) i), T .labelsSoFar labels behind i low)), R .1)
 

@@ -106,7 +106,8 @@ module _ (p : Problem) (budget : ℕ) (old oldTrail : List ℕ) where
 
   pub answered : runRefusal p (length old) ≡ 0
       → (trailCase p (length oldTrail) (answer p budget) ≡ trailAnswer p (length old) (length oldTrail) budget)
-      × (front (cond (announces (trailCase p (length oldTrail) (answer p budget) .run)) (numbersOf (answer p budget)) []) old
+      × (front
+      (cond (announces (trailCase p (length oldTrail) (answer p budget) .run)) (numbersOf (answer p budget)) []) old
       ≡ trailAnswerBuffer p (length oldTrail) budget old)
       × (front (cond (announces (trailCase p (length oldTrail) (answer p budget) .run)) (wholeTrail p) []) oldTrail
       ≡ trailBuffer p (length old) budget oldTrail)

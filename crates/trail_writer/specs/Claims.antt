@@ -39,8 +39,8 @@ pub record Writes (p : Problem) (room trailRoom budget : ℕ) : Type 0 where
       × ((old : List ℕ) → length old ≡ trailRoom → trailBuffer p room budget old ≡ old)
 
 -- "over a run's trail these places are the path": of what a run has written the reader answers, record by record, with
--- the points, T, U and request 10's labels read of the path's place, whatever was behind it in the buffer. The reader is
--- given no table, so it may be any.
+-- the points, T, U and request 10's labels read of the path's place, whatever was behind it in the buffer. The reader
+-- is given no table, so it may be any.
 pub record ReadsBack (p : Problem) (room budget : ℕ) (old : List ℕ) : Type 0 where
   pub long : (n read : ℕ) (kind : Kind) (block vertices : ℕ)
       → trailAnswer p room (length old) budget .run ≡ End n read kind block vertices
@@ -54,7 +54,8 @@ pub record ReadsBack (p : Problem) (room budget : ℕ) (old : List ℕ) : Type 0
       let trail = trailBuffer p room budget old in
       let place = placeAt (path p .visited) i in
       let read = suc (cameIn (path p .visited) i) in
-      (readAnswer given trail (suc i) ≡ Place (length place) (maskOf (setT p place)) (maskOf (setU (p .grid) place)) read)
+      (readAnswer given trail (suc i)
+      ≡ Place (length place) (maskOf (setT p place)) (maskOf (setU (p .grid) place)) read)
       × ((lent : List ℕ) → readPoints given trail (suc i) lent ≡ front (concatMap (λ y. y) place) lent)
   pub noMore : (n read : ℕ) (kind : Kind) (block vertices : ℕ)
       → trailAnswer p room (length old) budget .run ≡ End n read kind block vertices

@@ -74,7 +74,8 @@ loop-holds c =
       passes-first (a .g) (w .readable .made) (a .first .now) (a .table .now) (w .accepted) (w .isRound)
           (w .firstLength) (a .order .now) (a .budget) (c .begun .result) (c .begun .ensures),
       record { inOrder = w .orderLength; inMarks = refl },
-      rw (z, c .before .before .none-met .ensures) (kept-none (shape (a .g)) (grid-accepted (w .accepted)) (a .w .now) (n .onGrid) (a .given) (a .list .now)
+      rw (z, c .before .before .none-met .ensures)
+          (kept-none (shape (a .g)) (grid-accepted (w .accepted)) (a .w .now) (n .onGrid) (a .given) (a .list .now)
           (n .room)),
       refl,
     )
@@ -96,7 +97,8 @@ place c =
     let a = begun c .args in
     let w = begun c .pre .0 in
     let l = turn c .loop in
-    let tails = c .before .before .before .before .before .before .before .before .before .before .before .before .tails in
+    let tails =
+    c .before .before .before .before .before .before .before .before .before .before .before .before .tails in
     record {
       g = a .g;
       made = w .readable .made;
@@ -134,7 +136,8 @@ returns c =
     let v = c .before .before .before .before .before .before in
     rw (c .unreported .ensures .0, c .before .asked .ensures) (
       asks (place v)
-          ((rw (c .before .before .before .looked .given .1) at (c .before .before .before .before .before .look-up .ensures)) .0),
+          ((rw (c .before .before .before .looked .given .1)
+          at (c .before .before .before .before .before .look-up .ensures)) .0),
       (c .unreported .ensures .1, turn v .loop .inv .2 .written),
     )
 
@@ -172,7 +175,8 @@ came-in-requires c κs =
     (omega (arith, can .low, many), omega (arith, can .few, many))
 
 came-is : (c : tie.After-came-in Inv-loop μ-loop)
-    → let P = place (at (c .before .before .before .before)) in c .came-in .result ≡ vertexCome (shape (P .g)) (stands P)
+    → let P = place (at (c .before .before .before .before)) in
+    c .came-in .result ≡ vertexCome (shape (P .g)) (stands P)
 came-is c =
     let k = c .before .before .before .before in
     let P = place (at k) in
@@ -288,7 +292,8 @@ returns-2 c =
     let P = here m in
     let o = c .before .enum-told2 .given in
     let M = steps m _ (o .1) in
-    let S = surveyed m (last-place (P .g) (P .start) (P .table) (P .ok) (spent P) _ _ (P .passing .here .1) (onward P M)) in
+    let S = surveyed m
+    (last-place (P .g) (P .start) (P .table) (P .ok) (spent P) _ _ (P .passing .here .1) (onward P M)) in
     rw (c .reported .ensures .0, o .1) (place-ends P M, (c .reported .ensures .1 ∙ S .0, S .1))
 
 reported-requires-2 : tie.Need-reported-requires-2 Inv-loop μ-loop
@@ -303,7 +308,8 @@ returns-3 c =
     let P = here m in
     let o = c .before .enum-told3 .given in
     let M = steps m _ (o .1) in
-    let S = surveyed m (last-facet (P .g) (P .start) (P .table) (P .ok) (spent P) _ _ (P .passing .here .1) (onward P M)) in
+    let S = surveyed m
+    (last-facet (P .g) (P .start) (P .table) (P .ok) (spent P) _ _ (P .passing .here .1) (onward P M)) in
     rw (c .reported2 .ensures .0, o .1) (facet-ends P M, (c .reported2 .ensures .1 ∙ S .0, S .1))
 
 on-requires : tie.Need-on-requires Inv-loop μ-loop

@@ -13,7 +13,8 @@ use Rattle.combinatorics.specs.Front.{front}
 use Rattle.path_pass.proofs.Places.{IsRead}
 use Rattle.path_pass.proofs.Visits.{spends}
 use Rattle.path_pass.proofs.Passing.{MovesTo, Place, Passing, asks, can-look, counted-on, facet-ends, further}
-use Rattle.path_pass.proofs.Passing.{goes-next, has-looked, labels-fit, passes-first, passes-on, place-ends, rounds, spent, stands}
+use Rattle.path_pass.proofs.Passing.{goes-next, has-looked, labels-fit, passes-first, passes-on, place-ends, rounds}
+use Rattle.path_pass.proofs.Passing.{spent, stands}
 use Rattle.path_pass.specs.Finish.{problemIn}
 use Rattle.grid.proofs.Fields.{indices-few}
 use Rattle.marks.specs.Reading.{tableProblem}
@@ -135,7 +136,8 @@ returns c =
     let v = c .before .before .before .before .before .before in
     rw (c .unrecorded .ensures .0, c .before .asked .ensures) (
       asks (place v)
-          ((rw (c .before .before .before .looked .given .1) at (c .before .before .before .before .before .look-up .ensures)) .0),
+          ((rw (c .before .before .before .looked .given .1)
+          at (c .before .before .before .before .before .look-up .ensures)) .0),
       (c .unrecorded .ensures .1, turn v .loop .inv .2 .written),
     )
 

@@ -174,8 +174,8 @@ returns-2 c =
     let there = reads-place (problem v) trail (a .number) (s .pre .1) yes (R .place) (R .is) _ (R .brought) in
     reads-by (a .g) (w .measured .made) (start v) trail (a .number) (w .hasStart) (R .place) (a .previous .now)
     (a .next .now) (a .sizes .now) (last .0) (last .1 .0) (last .1 .1 .0) (last .1 .1 .1 .0)
-    (c .before .before .before .before .reached .given .0 .0) _ (R .shows) (a .points) (c .placed .result) (c .placed .ensures)
-    there
+    (c .before .before .before .before .reached .given .0 .0) _ (R .shows) (a .points) (c .placed .result)
+    (c .placed .ensures) there
 
 returns-3 : tie.Need-returns-3
 returns-3 c =

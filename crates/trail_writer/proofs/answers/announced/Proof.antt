@@ -82,14 +82,14 @@ finished c =
     (order c) (c .pass-recording .result .finish) (c .pass-recording .ensures .0)
 
 recorded : (c : Passed)
-    → Recorded (problem c) false (begun c .args .budget) (begun c .args .trail .now) (trail c) (c .pass-recording .result .bytes)
-    (c .pass-recording .result .finish)
+    → Recorded (problem c) false (begun c .args .budget) (begun c .args .trail .now) (trail c)
+    (c .pass-recording .result .bytes) (c .pass-recording .result .finish)
 recorded c =
     let w = begun c .pre in
     let t = c .before .before .before .before .before .before .before .padded in
     subst
-    (λ (p : Problem). Recorded p false (begun c .args .budget) (begun c .args .trail .now) (trail c) (c .pass-recording .result .bytes)
-    (c .pass-recording .result .finish))
+    (λ (p : Problem). Recorded p false (begun c .args .budget) (begun c .args .trail .now) (trail c)
+    (c .pass-recording .result .bytes) (c .pass-recording .result .finish))
     (problem-from (w .readable) (w .accepted) (t .result) (t .ensures)) (c .pass-recording .ensures .1)
 
 same-trail : (c : Passed) → trail c ≡ begun c .args .trail .now

@@ -41,7 +41,8 @@ returns c =
     let a = s .args in
     let made = c .before .before .before .new in
     let q = made-code (lent s) (made .result) (made .ensures) in
-    let w = refused (lentProblem s) (a .budget) (a .answer .now) (a .trail .now) (made .result .code) (c .before .if1 .taken)
+    let w = refused (lentProblem s) (a .budget) (a .answer .now) (a .trail .now) (made .result .code)
+    (c .before .if1 .taken)
     (by-grid (lentProblem s) (length (a .answer .now)) (λ f. c .before .if1 .taken (q ∙ f)) ∙ sym q) in
     rw (c .refused .ensures) (w .0, (w .1, w .2))
 
@@ -87,8 +88,8 @@ returns-2 c =
     let d = c .before .before in
     let m = d .before in
     let a = begun m .args in
-    let w = refused (problem m) (a .budget) (a .answer .now) (a .trail .now) (d .first-run-no .result) (c .before .if2 .taken)
-    (asked d) in
+    let w = refused (problem m) (a .budget) (a .answer .now) (a .trail .now) (d .first-run-no .result)
+    (c .before .if2 .taken) (asked d) in
     rw (c .refused2 .ensures) (of-lent m (w .0, (w .1, w .2)))
 
 binomials-requires : tie.Need-binomials-requires
