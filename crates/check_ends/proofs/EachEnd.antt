@@ -1,9 +1,9 @@
 -- Each end that a run announces, each level of a refinement and each sheet gets yes with its block. Assumes nothing.
 use mathlib.Core.Bool.{true}
-use mathlib.Core.List.{List, [], _∷_, map}
+use mathlib.Core.List.{List, []}
 use mathlib.Core.Logic.{⊎-elim}
 use mathlib.Core.Path.{_≡_, refl, sym, ap, _∙_}
-use Prim.Native.Nat.{ℕ, zero, suc, _+_, _*_, _≤_, _<_}
+use Prim.Native.Nat.{ℕ, suc, _*_, _≤_, _<_}
 use borrow.Author.Tests.{eqb-true, le-leb, leb-true, lt-ltb, ne-eqb}
 use lib.ListN.{length, drop, getD, take}
 use native.Mathlib.Nat.{mul-le-mul}
@@ -15,7 +15,7 @@ use Rattle.checker.specs.declared.CheckAnswer.the-variants.{Yes}
 use Rattle.combinatorics.proofs.Basics.{same-or}
 use Rattle.combinatorics.proofs.Fronts.{front-taken}
 use Rattle.combinatorics.specs.Front.{front}
-use Rattle.combinatorics.specs.Lists.{concatMap, upFrom}
+use Rattle.combinatorics.specs.Lists.{concatMap}
 use Rattle.end_kinds.specs.declared.Kind.{Kind}
 use Rattle.finder.proofs.Told.{EndTold, end-told, end-written, table-asked}
 use Rattle.finder.specs.Demand.{announcementOf}
@@ -38,7 +38,8 @@ use Rattle.printer.proofs.Vertices.{rows-length}
 use Rattle.printer.specs.Printed.{sheetOf}
 use Rattle.questions.proofs.Answers.{both-yes, first-yes}
 use Rattle.questions.specs.Questions.{firstNo}
-use Rattle.refinement.specs.Answer.{answerLeft, entryOf, levelOf, levelsOf, noLevel, refineAnswer, refineRefusal}
+use Rattle.refinement.proofs.AllRuns.{level-at}
+use Rattle.refinement.specs.Answer.{answerLeft, levelOf, levelsOf, noLevel, refineAnswer, refineRefusal}
 use Rattle.refinement.specs.declared.Level.{Level as LevelAnswer}
 use Rattle.refinement_levels.proofs.Buffers.{level-read}
 use Rattle.refinement_levels.proofs.Claims.{every-refinement, passed}
@@ -144,20 +145,10 @@ module _ (r : Refinement) (levels : ℕ) (labels old : List ℕ) (z : refineAnsw
   told = end-told (levelProblem r i) (levelRoom (r .grid)) (bound (levelGrid r i)) _ _ _ _ _ (L .own ∙ L .announced)
 
   level-answered : levelAnswered r levels labels old i ≡ levelOf (announcementOf (levelProblem r i) e)
-  unfolding levelsOf
   level-answered =
-      let k : i < 8 = omega (arith, A .few) in
-      let z : 0 + i ≡ i = omega arith in
       ap (λ (l : List LevelAnswer). getD l i noLevel) (S .entries)
-      ∙ entry-at (entryOf r levels) noLevel 8 0 i k
-      ∙ rw (z, lt-ltb i levels h) (ap levelOf (L .announced))
-    where
-      entry-at : (f : ℕ → LevelAnswer) (d : LevelAnswer) (n b i : ℕ) → i < n → getD (map f (upFrom b n)) i d ≡ f (b + i)
-      entry-at f d zero b i l = absurd (omega arith)
-      entry-at f d (suc n) b zero l = let z : b + 0 ≡ b = omega arith in rw z
-      entry-at f d (suc n) b (suc i) l =
-          let z : b + suc i ≡ suc b + i = omega arith in
-          rw z (entry-at f d n (suc b) i (omega arith))
+      ∙ level-at r levels i (omega (arith, A .few))
+      ∙ rw (lt-ltb i levels h) (ap levelOf (L .announced))
 
   level-numbers : vertexNumbersIn (levelGrid r i) (length (e .simplex)) (levelWritten r levels labels old i)
       ≡ concatMap (λ y. y) (told .simplex)

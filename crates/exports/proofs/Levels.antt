@@ -3,19 +3,19 @@
 use mathlib.Core.List.{List, [], _∷_, map}
 use mathlib.Core.Logic.{⊎-elim}
 use mathlib.Core.Path.{_≡_, refl, sym, ap, _∙_}
-use Prim.Native.Nat.{ℕ, zero, suc, _+_, _*_, _≤_, _<_}
+use Prim.Native.Nat.{ℕ, zero, suc, _+_, _≤_}
 use borrow.Author.Tests.{le-ltb, ne-eqb}
-use lib.ListN.{length, length-map, take}
+use lib.ListN.{length, take}
 use lib.Seq.{length-take-le}
 use native.Mathlib.Omega.{arith}
 use Rattle.combinatorics.proofs.Basics.{same-or}
 use Rattle.combinatorics.proofs.Fronts.{front-taken}
-use Rattle.combinatorics.proofs.Ranges.{length-upFrom}
 use Rattle.combinatorics.specs.Front.{front}
 use Rattle.combinatorics.specs.Lists.{concatMap, upFrom}
 use Rattle.end_kinds.specs.Numbers.{kindNumber}
 use Rattle.finder.proofs.Numbers.{kind-tells}
-use Rattle.refinement.specs.Answer.{entryOf, levelsOf, noLevel, refineAnswer, refineRefusal, refused}
+use Rattle.refinement.proofs.AllRuns.{levels-long}
+use Rattle.refinement.specs.Answer.{entryOf, levelsOf, refineAnswer, refineRefusal, refused}
 use Rattle.refinement.specs.declared.Level.{Level}
 use Rattle.refinement_levels.proofs.Claims.{passed}
 use Rattle.refinement_levels.specs.Levels.{Refinement}
@@ -54,17 +54,13 @@ alike-behind f e (suc k) b (suc n) h t =
     let y : take k (map f (upFrom (suc b) n)) ≡ take k (map e (upFrom (suc b) n)) = cc in
     rw (x, alike-behind f e k (suc b) n (λ i l. h i (omega arith)) y)
 
-levels-eight : (r : Refinement) (levels : ℕ) → length (levelsOf r levels) ≡ 8
-unfolding levelsOf
-levels-eight r levels = length-map (upFrom 0 8) (entryOf r levels) ∙ length-upFrom 0 8
-
 same-levels : (r s : Refinement) (levels : ℕ) → levels ≤ 8
     → factsOf levels (levelsOf r levels) ≡ factsOf levels (levelsOf s levels)
     → levelsOf r levels ≡ levelsOf s levels
 unfolding levelsOf
 same-levels r s levels few e =
     let long : (q : Refinement) → length (take levels (levelsOf q levels)) ≡ levels = λ q.
-    length-take-le levels (levelsOf q levels) (omega (arith, levels-eight q levels)) in
+    length-take-le levels (levelsOf q levels) (omega (arith, levels-long q levels)) in
     alike-behind (entryOf r levels) (entryOf s levels) levels 0 8
     (λ i l. let f = le-ltb i levels (omega arith) in rw f)
     (levels-told _ _ (long r ∙ sym (long s)) e)
@@ -82,8 +78,8 @@ refine-calls-tell r s levels labels others old older facts e f =
     let b = factsOf levels (levelsOf s levels) in
     let fronts : front a facts ≡ front b facts = rw (z, y) at f in
     let long : length a ≡ length b =
-    facts-long levels (levelsOf r levels) (omega (arith, levels-eight r levels))
-    ∙ sym (facts-long levels (levelsOf s levels) (omega (arith, levels-eight s levels))) in
+    facts-long levels (levelsOf r levels) (omega (arith, levels-long r levels))
+    ∙ sym (facts-long levels (levelsOf s levels) (omega (arith, levels-long s levels))) in
     let same : a ≡ b =
     sym (front-taken a facts)
     ∙ ap (λ (k : ℕ). take k (front a facts)) long

@@ -51,11 +51,11 @@ pub levels-none : (r : Refinement)
 unfolding levelsOf
 levels-none r = refl
 
-levels-long : (r : Refinement) (i : ℕ) → length (levelsOf r i) ≡ 8
+pub levels-long : (r : Refinement) (i : ℕ) → length (levelsOf r i) ≡ 8
 unfolding levelsOf
 levels-long r i = length-map (upFrom 0 8) (entryOf r i) ∙ length-upFrom 0 8
 
-level-at : (r : Refinement) (i j : ℕ) → j < 8 → getD (levelsOf r i) j noLevel ≡ entryOf r i j
+pub level-at : (r : Refinement) (i j : ℕ) → j < 8 → getD (levelsOf r i) j noLevel ≡ entryOf r i j
 unfolding levelsOf
 level-at r i j h = let e : 0 + j ≡ j = omega arith in at-range (entryOf r i) 0 8 j noLevel h ∙ ap (entryOf r i) e
 
