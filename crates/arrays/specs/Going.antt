@@ -3,7 +3,7 @@ use mathlib.Core.Bool.{true}
 use mathlib.Core.Path.{_≡_}
 use Prim.Native.Nat.{ℕ, suc, pred, _≤_, _<_}
 use lib.Dec.{ltb}
-use lib.ListN.{take}
+use lib.ListN.{drop, take}
 use denote.Ref.{now}
 use Rattle.combinatorics.specs.Edits.{rotateLeft, rotateRight}
 use Rattle.grid_points.specs.Grid.{at}
@@ -31,6 +31,8 @@ pub record GoesForward (previous first coefficients order marks : LentBoth) (n h
   pub list : now (coefficients .exit) ≡ changedBefore suc (now (previous .entry)) b 16 h (now (coefficients .entry))
   pub steps : take n (now (order .exit)) ≡ rotateLeft (take n (now (order .entry)))
   pub marked : take (suc n) (now (marks .exit)) ≡ rotateLeft (take (suc n) (now (marks .entry)))
+  pub behindSteps : drop n (now (order .exit)) ≡ drop n (now (order .entry))
+  pub behindMarks : drop (suc n) (now (marks .exit)) ≡ drop (suc n) (now (marks .entry))
   pub each : SixteenEach (now (order .exit)) (now (marks .exit))
 
 -- and back
@@ -44,4 +46,6 @@ pub record GoesBack (previous first coefficients order marks : LentBoth) (n h b 
   pub list : now (coefficients .exit) ≡ changedBefore pred (now (previous .entry)) b 16 h (now (coefficients .entry))
   pub steps : take n (now (order .exit)) ≡ rotateRight (take n (now (order .entry)))
   pub marked : take (suc n) (now (marks .exit)) ≡ rotateRight (take (suc n) (now (marks .entry)))
+  pub behindSteps : drop n (now (order .exit)) ≡ drop n (now (order .entry))
+  pub behindMarks : drop (suc n) (now (marks .exit)) ≡ drop (suc n) (now (marks .entry))
   pub each : SixteenEach (now (order .exit)) (now (marks .exit))

@@ -2,7 +2,7 @@
 ghost use mathlib.Core.List.{map};
 ghost use mathlib.Core.Path.{_≡_};
 ghost use Prim.Native.Nat.{suc, _+_, _-_, _≤_, _<_};
-ghost use lib.ListN.{length, take};
+ghost use lib.ListN.{length, drop, take};
 ghost use Rattle.combinatorics.specs.Edits.{insertAt, removeAt, swapAt, rotateLeft, rotateRight, found};
 ghost use Rattle.grid_points.specs.Grid.{at};
 ghost use Rattle.rules.specs.Ready.{HasEntry, IsEntry};
@@ -44,11 +44,12 @@ pub fn position_at(marks: &[u32; 16], n: usize, i: usize) -> usize
     mark_position(marks[i])
 }
 
-// x put before entry at of the first n.
+// x put before entry at of the first n; the entries behind the first n + 1 stay.
 pub fn insert(a: &mut [u32; 16], n: usize, at: usize, x: u32)
     requires { ⌜ (at ≤ n) × (n ≤ 15) × (length (now a) ≡ 16) ⌝ }
     ensures { λ _. ⌜ (take (n + 1) (now (a .exit)) ≡ insertAt at x (take n (now (a .entry))))
-        × (length (now (a .exit)) ≡ 16) ⌝ }
+        × (length (now (a .exit)) ≡ 16)
+        × (drop (n + 1) (now (a .exit)) ≡ drop (n + 1) (now (a .entry))) ⌝ }
 {
     let mut k = n;
     while at < k {
@@ -58,11 +59,12 @@ pub fn insert(a: &mut [u32; 16], n: usize, at: usize, x: u32)
     a[at] = x;
 }
 
-// Entry at of the first n taken out.
+// Entry at of the first n taken out; the entries from the last of them on stay, so that one stands there still.
 pub fn remove(a: &mut [u32; 16], n: usize, at: usize)
     requires { ⌜ (at < n) × (n ≤ 16) × (length (now a) ≡ 16) ⌝ }
     ensures { λ _. ⌜ (take (n - 1) (now (a .exit)) ≡ removeAt at (take n (now (a .entry))))
-        × (length (now (a .exit)) ≡ 16) ⌝ }
+        × (length (now (a .exit)) ≡ 16)
+        × (drop (n - 1) (now (a .exit)) ≡ drop (n - 1) (now (a .entry))) ⌝ }
 {
     let mut k = at;
     while k + 1 < n {
@@ -71,21 +73,24 @@ pub fn remove(a: &mut [u32; 16], n: usize, at: usize)
     }
 }
 
-// The first of the first n goes behind the others.
+// The first of the first n goes behind the others; the entries behind the first n stay.
 pub fn rotate_left(a: &mut [u32; 16], n: usize)
     requires { ⌜ (0 < n) × (n ≤ 16) × (length (now a) ≡ 16) ⌝ }
-    ensures { λ _. ⌜ (take n (now (a .exit)) ≡ rotateLeft (take n (now (a .entry)))) × (length (now (a .exit)) ≡ 16) ⌝ }
+    ensures { λ _. ⌜ (take n (now (a .exit)) ≡ rotateLeft (take n (now (a .entry))))
+        × (length (now (a .exit)) ≡ 16)
+        × (drop n (now (a .exit)) ≡ drop n (now (a .entry))) ⌝ }
 {
     let x = a[0];
     remove(a, n, 0);
     a[n - 1] = x;
 }
 
-// The last of the first n goes before the others.
+// The last of the first n goes before the others; the entries behind the first n stay.
 pub fn rotate_right(a: &mut [u32; 16], n: usize)
     requires { ⌜ (0 < n) × (n ≤ 16) × (length (now a) ≡ 16) ⌝ }
     ensures { λ _. ⌜ (take n (now (a .exit)) ≡ rotateRight (take n (now (a .entry))))
-        × (length (now (a .exit)) ≡ 16) ⌝ }
+        × (length (now (a .exit)) ≡ 16)
+        × (drop n (now (a .exit)) ≡ drop n (now (a .entry))) ⌝ }
 {
     let x = a[n - 1];
     insert(a, n - 1, 0, x);

@@ -11,6 +11,8 @@ returns c =
       list = c .before .before .before .before .lower .ensures;
       steps = c .before .before .rotate-right .ensures .0;
       marked = rw add-one at (c .rotate-right2 .ensures .0);
+      behindSteps = c .before .before .rotate-right .ensures .2;
+      behindMarks = rw add-one at (c .rotate-right2 .ensures .2);
       each = record { inOrder = c .before .before .rotate-right .ensures .1; inMarks = c .rotate-right2 .ensures .1 };
     }
 

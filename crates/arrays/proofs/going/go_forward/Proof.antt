@@ -11,6 +11,8 @@ returns c =
       list = c .before .before .before .before .raise .ensures;
       steps = c .before .before .rotate-left .ensures .0;
       marked = rw add-one at (c .rotate-left2 .ensures .0);
+      behindSteps = c .before .before .rotate-left .ensures .2;
+      behindMarks = rw add-one at (c .rotate-left2 .ensures .2);
       each = record { inOrder = c .before .before .rotate-left .ensures .1; inMarks = c .rotate-left2 .ensures .1 };
     }
 

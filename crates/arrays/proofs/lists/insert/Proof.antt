@@ -1,9 +1,9 @@
--- `lists::insert` meets its contract. The invariant: x stored at k would be x put before entry k. The measure: k.
--- Assumes nothing.
-use mathlib.Core.Path.{_≡_}
+-- `lists::insert` meets its contract. The invariant: x stored at k would be x put before entry k, and what stands behind
+-- the list is as it was. The measure: k. Assumes nothing.
+use mathlib.Core.Path.{_≡_, refl, _∙_}
 use Prim.Native.Nat.{suc, _≤_}
-use lib.ListN.{length, length-set, take, set}
-use lib.Seq.{length-take-le}
+use lib.ListN.{length, length-set, drop, take, set}
+use lib.Seq.{drop-set-lt, length-take-le}
 use native.Mathlib.Numerals.{add-one}
 use native.Mathlib.Omega.{arith}
 use Rattle.combinatorics.proofs.EditsOfArrays.{insert-last, insert-back}
@@ -14,6 +14,7 @@ use Rattle.arrays.proofs.lists.insert.Tie as tie
 abbrev Inv-loop : tie.InvT-loop
 Inv-loop a₀ n at x k₀ a k = (at ≤ k) × (k ≤ n) × (n ≤ 15) × (length a ≡ 16)
     × (take (suc n) (set a k x) ≡ insertAt k x (take n a₀)) × (length a₀ ≡ 16)
+    × (drop (suc n) a ≡ drop (suc n) a₀)
 
 abbrev μ-loop : tie.MeasureT-loop
 μ-loop a₀ n at x k₀ a k = k
@@ -27,6 +28,7 @@ loop-holds c =
       omega arith,
       insert-last (a .n) (a .x) (a .a .now) (omega arith),
       omega arith,
+      refl,
     )
 
 sub-a : tie.Need-sub-a Inv-loop μ-loop
@@ -62,6 +64,7 @@ loop-again c =
       rw length-set (omega arith),
       insert-back (l .a) m (a .n) (l .k) (a .x) (omega arith) (omega arith) (omega arith) long (l .inv .4),
       omega arith,
+      drop-set-lt (suc (a .n)) (l .a) (l .k) _ (omega arith) ∙ l .inv .6,
     )
 
 mul-a-3 : tie.Need-mul-a-3 Inv-loop μ-loop
@@ -74,8 +77,11 @@ returns : tie.Need-returns Inv-loop μ-loop
 returns c =
     let a = c .before .before .args in
     let l = c .before .loop in
-    let e : a .at ≡ l .k = omega arith in
-    (rw (add-one, e) (l .inv .4), rw length-set (omega arith))
+    let e : a .at ≡ l .k = omega arith in (
+      rw (add-one, e) (l .inv .4),
+      rw length-set (omega arith),
+      rw add-one (drop-set-lt (suc (a .n)) (l .a) (a .at) (a .x) (omega arith) ∙ l .inv .6),
+    )
 
 pub insert-spec : {M : Type 1} → statement M
 insert-spec =

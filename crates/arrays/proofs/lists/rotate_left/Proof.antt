@@ -1,9 +1,9 @@
 -- `lists::rotate_left` meets its contract: what was first stands behind the list less its first. Assumes nothing.
-use mathlib.Core.Path.{_≡_}
-use Prim.Native.Nat.{suc, _-_, _<_}
+use mathlib.Core.Path.{_≡_, sym, ap, _∙_}
+use Prim.Native.Nat.{suc, _+_, _-_, _<_}
 use borrow.Author.Needs.{needs}
-use lib.ListN.{length, length-set, getD, take, set}
-use lib.Seq.{length-take-le, getD-take, take-suc-set}
+use lib.ListN.{length, length-set, drop, getD, take, set}
+use lib.Seq.{drop-drop, drop-set-lt, length-take-le, getD-take, take-suc-set}
 use native.Mathlib.Omega.{arith}
 use Rattle.combinatorics.proofs.EditsOfArrays.{rotate-left}
 use Rattle.combinatorics.specs.Edits.{rotateLeft}
@@ -22,7 +22,15 @@ returns c =
       c .remove .ensures .0,
       ← x,
     ) (rotate-left l long) in
-    (rw n at made, rw length-set (omega arith))
+    let r = c .remove .last .0 in
+    let more : drop 1 (drop (a .n - 1) r) ≡ drop 1 (drop (a .n - 1) (a .a .now)) = ap (drop 1) (c .remove .ensures .2) in
+    let one : a .n - 1 + 1 ≡ a .n = omega arith in
+    let behind : drop (a .n) r ≡ drop (a .n) (a .a .now) =
+    rw one at (sym (drop-drop 1 (a .n - 1) r) ∙ more ∙ drop-drop 1 (a .n - 1) (a .a .now)) in (
+      rw n at made,
+      rw length-set (omega arith),
+      drop-set-lt (a .n) r (a .n - 1) (getD (a .a .now) 0 0) (omega arith) ∙ behind,
+    )
 
 pub rotate-left-spec : {M : Type 1} → statement M
 rotate-left-spec =
