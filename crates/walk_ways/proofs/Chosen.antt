@@ -27,6 +27,7 @@ use Rattle.grid.specs.Made.{shape}
 use Rattle.grid.specs.declared.Grid.{Grid as GridStruct}
 use Rattle.moves.specs.Held.{CanStep, stateOf}
 use Rattle.path_laws.proofs.Accepted.{accepted-of}
+use Rattle.path_laws.proofs.BlocksOfGrid.{back-below}
 use Rattle.path_laws.proofs.Filled.{fill, filledTable, filled-full, filled-label}
 use Rattle.path_laws.proofs.LinkSymmetry.{parts}
 use Rattle.path_laws.proofs.Local.{setT-same}
@@ -43,7 +44,9 @@ use Rattle.rules.proofs.StatePoints.{ready-point}
 use Rattle.rules.specs.Mask.{bit}
 use Rattle.rules.specs.Read.{markOf, pointIn, pointsFrom}
 use Rattle.rules.specs.Ready.{Ready}
-use Rattle.rules.specs.Moves.{After, State, endsAtFacet, endsAtPlace, goes, makeMove}
+use Rattle.rules.proofs.Range.{index-below}
+use Rattle.rules.proofs.WaysRound.{source-from}
+use Rattle.rules.specs.Moves.{After, State, endsAtFacet, endsAtPlace, goes, makeMove, sourceIn}
 use Rattle.trail.specs.Change.{ByRule, change}
 use Rattle.walks.proofs.Moved.{calls-hold}
 use Rattle.walks.specs.Kept.{keptPoints}
@@ -57,12 +60,13 @@ use Rattle.walk_ways.proofs.Ways.{Fits, described-masks}
 use Rattle.walk_ways.specs.Lent.{LentPlace, keptBy, wayMade}
 use Rattle.walk_places.proofs.Alike.{place-same, same-place}
 use Rattle.walk_places.proofs.Held.{held-once, kept-before, stored-kept}
+use Rattle.walk_ways.proofs.RuleMade.{rule-made}
 use Rattle.walk_ways.proofs.RuleTold.{rule-told}
 use Rattle.walk_ways.specs.Ends.{CanTellEnd, endAs, refusedAs, toldAs}
 use Rattle.walk_ways.specs.Standing.{leadsBack, nextIn, IsRoundOf, Standing}
 use Rattle.walk_places.specs.Walks.{beforeOf, keptAs, nowhere, placeOf, samePlace, stored, tableOn, walkOn}
 use Rattle.walk_ways.specs.Answers.{nextAs}
-use Rattle.walk_ways.specs.Ways.{CanTry, ruleFrom, wayIn}
+use Rattle.walk_ways.specs.Ways.{CanTry, wayIn}
 use Rattle.walk_ways.specs.declared.Leads.the-variants.{FacetEnd, PlaceEnd}
 use Rattle.walk_places.specs.declared.Walk.{Walk as WalkStruct}
 
@@ -232,20 +236,20 @@ module _ {g : GridStruct} {w : WalkStruct} {labels first list order marks : List
           product : (x m : ℕ) → x ≤ 16 → m ≤ 16 → x * m ≤ 256
           product x m a b = le-trans (mul-le-mul-left x b) (mul-le-mul-right 16 a)
 
-      pub can-tell : CanTellEnd g told-state (wayIn (g .indices) a (makeMove a))
+      pub can-tell : CanTellEnd g told-state (wayIn (g .indices) (makeMove a))
       can-tell = record {
         place = λ h z. go-place (makeMove a) refl h z;
         facet = λ h z. go-facet (makeMove a) refl h z;
       }
         where
-          go-place : (after : After) → makeMove a ≡ after → (h : ℕ) → wayIn (g .indices) a after .leads ≡ PlaceEnd h →
+          go-place : (after : After) → makeMove a ≡ after → (h : ℕ) → wayIn (g .indices) after .leads ≡ PlaceEnd h →
               (h < g .indices) × CanPut told-state (g .indices) 0 256
           go-place (goes e) x h z = absurd-bool (cc)
           go-place (endsAtPlace d k) x h z = let r : k ≡ h = cc in
               (omega (arith, R .fits .place d k x .1, m-is, r), can-put 0 (omega arith))
           go-place (endsAtFacet d k) x h z = absurd-bool (cc)
 
-          go-facet : (after : After) → makeMove a ≡ after → (h : ℕ) → wayIn (g .indices) a after .leads ≡ FacetEnd h →
+          go-facet : (after : After) → makeMove a ≡ after → (h : ℕ) → wayIn (g .indices) after .leads ≡ FacetEnd h →
               (h < g .indices) × CanPut told-state (g .indices) 1 256
           go-facet (goes e) x h z = absurd-bool (cc)
           go-facet (endsAtPlace d k) x h z = absurd-bool (cc)
@@ -253,12 +257,12 @@ module _ {g : GridStruct} {w : WalkStruct} {labels first list order marks : List
               (omega (arith, f .1, m-is, r), can-put 1 (omega (arith, f .2, long-o)))
 
       -- it leads to the place before
-      pub leads-there : length (w .before .order) ≡ 16 → leadsBack (wayIn (g .indices) a (makeMove a)) (w .before)
+      pub leads-there : length (w .before .order) ≡ 16 → leadsBack (wayIn (g .indices) (makeMove a)) (w .before)
           ≡ true
           → (b : Simplex) × (beforeOf (shape g) (w .before) ≡ some b) × (wayMade q (makeMove a) ≡ link b)
       leads-there long z = go (makeMove a) refl z
         where
-          go : (after : After) → makeMove a ≡ after → leadsBack (wayIn (g .indices) a after) (w .before) ≡ true
+          go : (after : After) → makeMove a ≡ after → leadsBack (wayIn (g .indices) after) (w .before) ≡ true
               → (b : Simplex) × (beforeOf (shape g) (w .before) ≡ some b) × (wayMade q after ≡ link b)
           go (goes e) x z =
               let f = R .fits .moves e x in
@@ -274,7 +278,7 @@ module _ {g : GridStruct} {w : WalkStruct} {labels first list order marks : List
           go (endsAtPlace d k) x z = absurd-bool (sym z)
           go (endsAtFacet d k) x z = absurd-bool (sym z)
 
-      pub leads-elsewhere : length (w .before .order) ≡ 16 → leadsBack (wayIn (g .indices) a (makeMove a)) (w .before)
+      pub leads-elsewhere : length (w .before .order) ≡ 16 → leadsBack (wayIn (g .indices) (makeMove a)) (w .before)
           ≡ false → (b : Simplex)
           → beforeOf (shape g) (w .before) ≡ some b → wayMade q (makeMove a) ≡ link b → ⊥
       leads-elsewhere long z b is = go (makeMove a) refl z
@@ -283,7 +287,7 @@ module _ {g : GridStruct} {w : WalkStruct} {labels first list order marks : List
           held-b = ⊎-elim (λ t. absurd-bool (let c = rw t at is in cc)) (λ t. let c = rw t at is in cc)
               (true-or-false (samePlace (w .before) nowhere))
 
-          go : (after : After) → makeMove a ≡ after → leadsBack (wayIn (g .indices) a after) (w .before) ≡ false →
+          go : (after : After) → makeMove a ≡ after → leadsBack (wayIn (g .indices) after) (w .before) ≡ false →
               wayMade q after ≡ link b → ⊥
           go (endsAtPlace d k) x z v = absurd-bool (cc)
           go (endsAtFacet d k) x z v = absurd-bool (cc)
@@ -310,7 +314,16 @@ module _ {g : GridStruct} {w : WalkStruct} {labels first list order marks : List
         λ k l. m .1 k l ∙ ap (λ (z : Simplex). isIn eqb k (setU (shape g) z)) points-here,
       )
 
-      rule-is : (e : State) → makeMove a ≡ goes e → nextOf walk labels ≡ moved (keptBy q e) → ruleFrom t u (e .T) (e .U)
+      -- b of the first step is not in U
+      outside : 1 ≤ length o → bit u (sourceIn a (at o 0)) ≡ false
+      outside l =
+          let D = describes ok y o S.place a (lent rule) in
+          let low = index-below (full ok y o S.place) D.chain (at o 0) (D .chain .chain .order .within 0 (omega arith)) in
+          let b = source-from (full ok y o S.place) D (at o 0) low in
+          let few = back-below q (b .0) (at o 0) low in
+          rw (b .3) (D .inU _ (omega (arith, few, ok .hasStart .sixteenIndices)) ∙ b .2 .stops)
+
+      rule-is : (e : State) → makeMove a ≡ goes e → nextOf walk labels ≡ moved (keptBy q e) → e .rule
           ≡ ruleOf p (placeOf (shape g) (w .present)) (keptBy q e)
       unfolding moveAnswer moveWalk
       rule-is e x z =
@@ -318,7 +331,8 @@ module _ {g : GridStruct} {w : WalkStruct} {labels first list order marks : List
           let b = calls-hold walk labels .rule (ruleOf p (walk .present) (keptBy q e)) (rw z) in
           let c : ByRule (change p (walk .present) (keptBy q e)) (ruleOf p (walk .present) (keptBy q e)) = rw z at b in
           let few = ok .hasStart .sixteenIndices in
-          rule-told p (walk .present) (keptBy q e)
+          sym (rule-made (lent rule) (R .ready) (N .below .backward) outside e x)
+          ∙ rule-told p (walk .present) (keptBy q e)
           (maskT p few _ t (λ k l. rw S.present (masks .0 k l)))
           (maskT p few _ (e .T) (λ k l. f .3 k l ∙ ap (λ (r : List ℕ). isIn eqb k r)
           (setT-same p (map fill labels) (keptBy q e))))
@@ -329,7 +343,7 @@ module _ {g : GridStruct} {w : WalkStruct} {labels first list order marks : List
       long-points f b k = length-map (upFrom b k) f ∙ length-upFrom b k
 
       moved-told : (e : State) → makeMove a ≡ goes e → nextOf walk labels ≡ moved (keptBy q e) → toldAs g told-state
-          (wayIn (g .indices) a (goes e)) ≡ nextIn g w labels
+          (wayIn (g .indices) (goes e)) ≡ nextIn g w labels
       unfolding nextAs front
       moved-told e x z =
           let f = R .fits .moves e x in
@@ -354,12 +368,12 @@ module _ {g : GridStruct} {w : WalkStruct} {labels first list order marks : List
       facet-told d k e z = rw (z, e, m-is, long-points (pointIn q a) 1 (suc (length o) - 1))
 
       pub told-is : nextOf walk labels ≡ byWay (wayMade q (makeMove a) ∷ []) → toldAs g told-state
-          (wayIn (g .indices) a (makeMove a)) ≡ nextIn g w labels
+          (wayIn (g .indices) (makeMove a)) ≡ nextIn g w labels
       told-is z = go (makeMove a) refl z
         where
           go : (after : After) → makeMove a ≡ after → nextOf walk labels ≡ byWay (wayMade q after ∷ [])
               → toldAs g told-state
-              (wayIn (g .indices) a after) ≡ nextIn g w labels
+              (wayIn (g .indices) after) ≡ nextIn g w labels
           go (goes e) x z = moved-told e x z
           go (endsAtPlace d k) x z = place-told d k (R .fits .place d k x .0) z
           go (endsAtFacet d k) x z = facet-told d k (R .fits .facet d k x .0) z

@@ -90,7 +90,7 @@ module _ {g : GridStruct} {w : WalkStruct} {labels first list order marks : List
     staying = stateAs S N 1
 
     abbrev pub back : ℕ → Bool
-    back rule = leadsBack (wayIn (g .indices) (stateAs S N rule) (makeMove (stateAs S N rule))) (w .before)
+    back rule = leadsBack (wayIn (g .indices) (makeMove (stateAs S N rule))) (w .before)
 
     pub other-16 : back 6 ≡ true → unknown ≡ true → nextOf walk labels ≡ refused 16
     other-16 z v = let f = leads-there S N 6 (tried-back S N e 6 (omega arith)) long z in

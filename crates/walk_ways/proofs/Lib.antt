@@ -8,5 +8,6 @@ pub mod Unknown
 pub mod Tried
 pub mod MaskTests
 pub mod RuleTold
+pub mod RuleMade
 pub mod Chosen
 pub mod Decided

@@ -15,8 +15,7 @@ use Rattle.trail.specs.Change.{ByRule, change, outside, rule1, rule2, rule3, ru
 use Rattle.trail.specs.Change.{rule7}
 use Rattle.trail.proofs.Rules.{change-sets}
 use Rattle.trail.proofs.Outside.{within-other}
-use Rattle.walk_ways.proofs.MaskTests.{alike-of, of-alike, of-within, within-of}
-use Rattle.walk_ways.specs.Ways.{alike, ruleFrom, maskWithin}
+use Rattle.walk_ways.proofs.MaskTests.{alike, alike-of, maskWithin, of-alike, of-within, ruleFrom, within-of}
 
 one-outside : (u v : List ℕ) (h : ℕ) → outside eqb v u ≡ h ∷ [] → (isIn eqb h u ≡ true) × (isIn eqb h v ≡ false)
 one-outside u v h e =

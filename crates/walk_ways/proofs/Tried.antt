@@ -11,7 +11,7 @@ use Rattle.moves.specs.declared.Status.{Status}
 use Rattle.rules.specs.Moves.{Round, State, goes, makeMove}
 use Rattle.combinatorics.specs.Front.{padded}
 use Rattle.walk_places.specs.Walks.{keptAs, nowhere}
-use Rattle.walk_ways.specs.Ways.{CanTry, ruleFrom, wayIn}
+use Rattle.walk_ways.specs.Ways.{CanTry, wayIn}
 use Rattle.walk_ways.specs.declared.Leads.{Leads}
 use Rattle.walk_ways.specs.declared.Leads.the-variants.{FacetEnd as ToFacet, Onto, PlaceEnd as ToPlace}
 use Rattle.walk_places.specs.declared.Place.{Place}
@@ -34,10 +34,10 @@ module _ (m : ℕ) {a : State} {round : Round} {first list order marks : List �
     long : length (take (r .count) order) ≡ r .count
     long = length-take (r .count) order ∙ omega (arith, few .0, H .each .inOrder)
 
-    pub way-moved : made (Onto (ruleFrom (a .T) (a .U) (r .t) (r .u))) (keptAs m first order (r .count))
-        ≡ wayIn m a (makeMove a)
+    pub way-moved : made (Onto (r .rule)) (keptAs m first order (r .count))
+        ≡ wayIn m (makeMove a)
     way-moved = rw (← after, long) (ap
-        (λ (l : List ℕ). made (Onto (ruleFrom (a .T) (a .U) (r .t) (r .u))) (keptWith l))
+        (λ (l : List ℕ). made (Onto (r .rule)) (keptWith l))
         (sym (take-again (r .count) order)))
       where
         keptWith : List ℕ → Place
@@ -48,8 +48,8 @@ module _ (m : ℕ) {a : State} {round : Round} {first list order marks : List �
         take-again (suc n) [] = refl
         take-again (suc n) (x ∷ l) = ap (λ (y : List ℕ). x ∷ y) (take-again n l)
 
-  pub way-place : {h : ℕ} → o ≡ PlaceEnd h → made (ToPlace h) nowhere ≡ wayIn m a (makeMove a)
+  pub way-place : {h : ℕ} → o ≡ PlaceEnd h → made (ToPlace h) nowhere ≡ wayIn m (makeMove a)
   way-place is = rw (← (rw is at H.after))
 
-  pub way-facet : {h : ℕ} → o ≡ FacetEnd h → made (ToFacet h) nowhere ≡ wayIn m a (makeMove a)
+  pub way-facet : {h : ℕ} → o ≡ FacetEnd h → made (ToFacet h) nowhere ≡ wayIn m (makeMove a)
   way-facet is = rw (← (rw is at H.after))

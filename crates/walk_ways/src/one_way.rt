@@ -4,7 +4,7 @@ ghost use Prim.Native.Nat.{_≤_};
 ghost use Rattle.arrays.specs.Rounds.{round};
 ghost use Rattle.moves.specs.Held.{held, CanStep};
 ghost use Rattle.rules.specs.Moves.{State, makeMove};
-ghost use Rattle.walk_ways.specs.Ways.{CanTry, ruleFrom, wayIn};
+ghost use Rattle.walk_ways.specs.Ways.{CanTry, wayIn};
 use crate::Leads;
 use crate::Move;
 use moves::Outcome;
@@ -12,31 +12,6 @@ use moves::Status;
 use walk_places::kept_as;
 use walk_places::none;
 use ways::make_move;
-
-// Which of the seven rules leads from T and U of a place to those of the next.
-fn rule_of(t: u16, u: u16, t2: u16, u2: u16) -> u8
-    ensures { λ r. ⌜ r ≡ ruleFrom t u t2 u2 ⌝ }
-{
-    if t == t2 {
-        if u == u2 {
-            return 1;
-        }
-        if u & u2 == u {
-            return 2;
-        }
-        return 3;
-    }
-    if t & t2 == t {
-        if u == u2 {
-            return 4;
-        }
-        return 5;
-    }
-    if u == u2 {
-        return 7;
-    }
-    6
-}
 
 // Where the move leads that a run makes from a place with this status.
 pub fn way(
@@ -53,7 +28,7 @@ pub fn way(
     ghost { State }
     requires { λ a. ⌜ held (round previous next sizes) first list order marks s ≡ a ⌝ }
     requires { λ a. ⌜ CanStep order marks a × CanTry a × (m ≤ 16) ⌝ }
-    ensures { λ a r. ⌜ r ≡ wayIn m a (makeMove a) ⌝ }
+    ensures { λ a r. ⌜ r ≡ wayIn m (makeMove a) ⌝ }
 {
     let mut f = *first;
     let mut c = *list;
@@ -63,9 +38,8 @@ pub fn way(
     match outcome {
         Outcome::Moved(r) => {
             let place = kept_as(&f, m, &o, r.count);
-            let rule = rule_of(s.t, s.u, r.t, r.u);
             Move {
-                leads: Leads::Onto(rule),
+                leads: Leads::Onto(r.rule),
                 place,
             }
         }

@@ -17,11 +17,11 @@ kept-as-requires c κs =
 
 returns : tie.Need-returns
 returns c =
-    let at = c .before .before .before .before .before .before .before in
+    let at = c .before .before .before .before .before .before in
     let s = begun at in
-    rw (c .rule-of .ensures, c .before .kept-as .ensures)
+    rw (c .kept-as .ensures)
     (way-moved (s .args .m) (at .make-move .ensures) (s .pre .1)
-    (c .before .before .before .before .before .outcome .given .1))
+    (c .before .before .before .before .outcome .given .1))
 
 returns-2 : tie.Need-returns-2
 returns-2 c =
@@ -44,7 +44,6 @@ way-spec =
     (λ c κs. search needs)
     (λ c. search needs)
     kept-as-requires
-    (λ c κs. search needs)
     (λ c. search needs)
     (λ c κs. search needs)
     (λ c. search needs)
