@@ -96,7 +96,7 @@ module _ (w : WalkStruct) (labels : List ℕ) (s : Simplex) (e : nextOf (walkOf 
       (omega (arith, l, o-few))
       ∙ rw (f, r) there-is
 
-  before-is : beforeOf g (w .present) ≡ some (placeOf g (w .present))
+  before-is : beforeOf g (structOn p w (moved s) .before) ≡ some (placeOf g (w .present))
   before-is = place-before p ok.hasStart (w .present) (passes .0 .stands .place)
 
   carried-is : carriedOf (structOn p w (moved s)) ≡ labelsOf p s
@@ -106,10 +106,11 @@ module _ (w : WalkStruct) (labels : List ℕ) (s : Simplex) (e : nextOf (walkOf 
       padded-taken (length s) (labelsOf p s) (length-map s (label p)) in
       rw (t, same-self eqb eqb-self (padded 16 (labelsOf p s)))
 
+  count-is : structOn p w (moved s) .places ≡ suc (w .places)
+  count-is = omega arith
+
   struct-moved : walkOf (structOn p w (moved s)) ≡ movedTo p (walkOf w) s
-  struct-moved =
-      let n : w .places + 1 ≡ suc (w .places) = omega arith in
-      rw (present-is, before-is, carried-is, n)
+  struct-moved = rw (present-is, before-is, carried-is, count-is)
 
 -- any call: the walk that it leaves in the struct, and what it tells
 module _ (w : WalkStruct) (labels : List ℕ) where
