@@ -10,6 +10,7 @@ use Rattle.path_laws.proofs.Accepted.{accepted-of}
 use Rattle.questions.proofs.Answers.{asked-next}
 use Rattle.questions.specs.Questions.{firstNo}
 use Rattle.grid_points.proofs.Accepted.{accepted}
+use Rattle.grid_points.proofs.CoordinatesBelow.{in-limits}
 use Rattle.grid_points.specs.Grid.{Point, points, lent}
 use Rattle.grid_points.specs.Questions.{question5}
 use Rattle.place.specs.Problem.{Problem, problemOf}
@@ -36,8 +37,10 @@ module _ (sizes divisions old buffer : List ℕ) (count : ℕ)
 
   over : firstNo (tableQuestions p) ≡ 0 → OverNewTable p × AcceptedAgain p
   over q =
-      let ok = accepted-of p q .hasStart in
-      (over-new-table ok old (wrote .table), accepted-again ok old (wrote .table) (wrote .long) (wrote .range))
+      let a = accepted-of p q in (
+        over-new-table (a .hasStart) (a .points) old (wrote .table),
+        accepted-again (a .hasStart) (a .points) old (wrote .table) (wrote .long) (wrote .range),
+      )
 
   place-ends : (budget places read : ℕ) (kind : Kind) (block vertices : ℕ)
       → runAnswer p room budget ≡ End places read kind block vertices → kind ≡ placeEnd
@@ -55,8 +58,9 @@ module _ (sizes divisions old buffer : List ℕ) (count : ℕ)
       → runRefusal p room ≡ 0
   unfolding firstNo
   passes five eight =
-      let ok = has-start-with (p .grid) (accepted (p .grid) (wrote .grid)) start five (p .labels) in
-      let t = accepted-again ok old (wrote .table) (wrote .long) (wrote .range) .accepted in
+      let a = accepted (p .grid) (wrote .grid) in
+      let ok = has-start-with (p .grid) (in-limits (p .grid) a) start five (p .labels) in
+      let t = accepted-again ok (a .fewPoints) old (wrote .table) (wrote .long) (wrote .range) .accepted in
       asked-next (tableQuestions p) (question8 (p .grid) room ∷ []) refl t ∙ rw eight
 
 pub calls-lead-to-place-ends : CallsLeadToPlaceEnds

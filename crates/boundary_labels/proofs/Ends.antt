@@ -19,34 +19,34 @@ use Rattle.end_kinds.specs.declared.Kind.{Kind}
 use Rattle.end_kinds.specs.declared.Kind.the-variants.{Facet as facetEnd, Place as placeEnd}
 use Rattle.grid_points.proofs.Points.{onPoints, points-in}
 use Rattle.grid_points.specs.Grid.{Point, blocks, isGridPoint, numBlocks, numIndices, numPoints, points}
-use Rattle.path_laws.proofs.Accepted.{accepted-is}
+use Rattle.path_laws.proofs.Accepted.{accepted-grid, accepted-is, accepted-table}
 use Rattle.path_laws.proofs.Labels.{place-labelled}
 use Rattle.path_laws.proofs.LinkSymmetry.{parts}
 use Rattle.path_laws.proofs.Meaning.{free-means}
 use Rattle.path_laws.proofs.Simplices.{onSimplices}
 use Rattle.path_laws.proofs.Theorem.{demand3-holds}
 use Rattle.path_laws.proofs.Ways.{IsWay, byFacet, byPlace, onEnds}
-use Rattle.path_laws.specs.Demand.{Accepted, NoGap, HasStart, placeAt}
+use Rattle.path_laws.specs.Demand.{Accepted, HasStart, HasTable, NoGap, placeAt}
 use Rattle.place.specs.Ends.{End, completeFor, facetEnds, facets, isComplete, stop}
 use Rattle.place.specs.Path.{answer, ended, outcome, path, pathLength, sameSimplex, spent, unknown}
 use Rattle.place.specs.Places.{Simplex, isPlace, labelSet, setT, setU}
 use Rattle.place.specs.Problem.{Problem, label}
 use Rattle.check_simplices.proofs.Answers.{last-place, stop-points}
-use Rattle.check_simplices.proofs.Places.{accepted-grid}
 use Rattle.boundary_labels.proofs.Complete.{complete-by-labels}
 use Rattle.boundary_labels.proofs.PointLabels.{table-kth}
 use Rattle.boundary_labels.proofs.Tables.{new-byte, new-range, new-table}
 use Rattle.boundary_labels.specs.Boundary.{boundaryLabel, boundaryTable, isInterior, newLabel}
 use Rattle.boundary_labels.specs.Claims.{AcceptedAgain, KnownInside, OverNewTable}
 
-module _ {p : Problem} (ok : HasStart p) (old : List ℕ) (is : p .labels ≡ boundaryTable (p .grid) old) where
+module _ {p : Problem} (ok : HasStart p) (few : numPoints (p .grid) ≤ 60000) (old : List ℕ)
+    (is : p .labels ≡ boundaryTable (p .grid) old) where
   -- the labels of a facet end are T, so T would have all indices of a block, and a place leaves one of each block free
   no-facet : (s : Simplex) → isPlace p s ≡ true → (f : Simplex) → isIn sameSimplex f (facets s) ≡ true
       → labelSet p f ≡ setT p s → (j : ℕ) → j < numBlocks (p .grid) → isComplete p f j ≡ true → ⊥
   no-facet s place f m e j l c =
       let o = stop-points ok s (record { kind = facetEnd; block = j; simplex = f }) place (byFacet f j m e l c) in
       let w = free-means p s (setT p s) (setU (p .grid) s) .0 (parts p s place .free) j l in
-      let k = complete-by-labels p (accepted-grid ok) old is f (o .0) (o .2) j l c .labels (w .0) (w .1) in
+      let k = complete-by-labels p (accepted-grid ok few) old is f (o .0) (o .2) j l c .labels (w .0) (w .1) in
       absurd-bool (sym (rw e at k) ∙ w .2)
 
   empty : (es : List End) → ((e : End) → isIn (onEnds .eq) e es ≡ true → ⊥) → es ≡ []
@@ -92,7 +92,7 @@ module _ {p : Problem} (ok : HasStart p) (old : List ℕ) (is : p .labels ≡ bo
   -- "so every end that a run announces is a place end"
   pub over-new-table : OverNewTable p
   over-new-table = record {
-    complete = complete-by-labels p (accepted-grid ok) old is;
+    complete = complete-by-labels p (accepted-grid ok few) old is;
     noFacetEnds = no-facet-ends;
     pathEnd = path-end;
     announced = announced-end;
@@ -101,12 +101,16 @@ module _ {p : Problem} (ok : HasStart p) (old : List ℕ) (is : p .labels ≡ bo
   module _ (long : length old ≡ numPoints (p .grid)) (range : all (λ l. leb l (numIndices (p .grid))) old ≡ true) where
     is-accepted : Accepted p
     is-accepted =
-        let t = new-table (p .grid) (accepted-grid ok) old in
+        let t = new-table (p .grid) (accepted-grid ok few) old in
         record {
           hasStart = ok;
+          points = few;
           tableLength = ap length is ∙ t .whole;
-          labels = rw is (new-range (p .grid) (accepted-grid ok) old long range);
+          labels = rw is (new-range (p .grid) (accepted-grid ok few) old long range);
         }
+
+    is-table : HasTable p
+    is-table = accepted-table is-accepted
 
     asks-inside : (budget n i : ℕ) → answer p budget ≡ unknown n i → isInterior (getD (points (p .grid)) i []) ≡ true
     unfolding isInterior
@@ -124,7 +128,7 @@ module _ {p : Problem} (ok : HasStart p) (old : List ℕ) (is : p .labels ≡ bo
             ⊎-elim
             (λ (t : isInterior y ≡ true). t)
             (λ (f : isInterior y ≡ false).
-            let asked = demand3-holds is-accepted .asked budget n i q .2 in
+            let asked = demand3-holds is-table .asked budget n i q .2 in
             let z : getD (boundaryTable (p .grid) old) i 0 ≡ 0 = rw is at asked in
             let b : getD (boundaryTable (p .grid) old) i 0 ≡ boundaryLabel (p .grid) y =
             table-kth (p .grid) old i l y refl ∙ rw f in
@@ -137,7 +141,7 @@ module _ {p : Problem} (ok : HasStart p) (old : List ℕ) (is : p .labels ≡ bo
         ⊎-elim
         (λ (t : isInterior y ≡ true). known y on t)
         (λ (f : isInterior y ≡ false).
-        let w = new-table (p .grid) (accepted-grid ok) old .outside y on f in rw is (omega (arith, w .1)))
+        let w = new-table (p .grid) (accepted-grid ok few) old .outside y on f in rw is (omega (arith, w .1)))
         (true-or-false (isInterior y))
 
     gap-free : KnownInside p → all (λ l. leb 1 l) (p .labels) ≡ true
@@ -146,15 +150,15 @@ module _ {p : Problem} (ok : HasStart p) (old : List ℕ) (is : p .labels ≡ bo
         rw is (in-all onNumbers (λ l. leb 1 l) (map (newLabel (p .grid) old) (points (p .grid))) (λ l m.
         let i = map-in onPoints onNumbers (newLabel (p .grid) old) l (points (p .grid)) m in
         let on = points-in (p .grid) (i .0) (i .1) in
-        let e = new-byte (p .grid) (accepted-grid ok) old (i .0) on in
+        let e = new-byte (p .grid) (accepted-grid ok few) old (i .0) on in
         rw (i .2, ← e, ← is) (le-leb 1 (label p (i .0)) (labelled known (i .0) on))))
 
     no-gap : KnownInside p → NoGap p
     no-gap known i l =
         let s = placeAt (path p .visited) i in
-        let h = demand3-holds is-accepted .follows .places i l in
+        let h = demand3-holds is-table .follows .places i l in
         let on = all-in onPoints (isGridPoint (p .grid)) s (parts p s h .gridPoints) in
-        place-labelled is-accepted s h (λ y m. labelled known y (on y m))
+        place-labelled is-table s h (λ y m. labelled known y (on y m))
 
     -- the new table is accepted, asks for nothing on the boundary, and has a path that ends at a place where the
     -- interior is known
@@ -164,6 +168,6 @@ module _ {p : Problem} (ok : HasStart p) (old : List ℕ) (is : p .labels ≡ bo
       asksInside = asks-inside;
       known = λ k.
           let n = no-gap k in
-          let e = demand3-holds is-accepted .ended n in
+          let e = demand3-holds is-table .ended n in
           (gap-free k, n, record { ended = e; atPlace = path-end (e .end) (e .ends) });
     }

@@ -17,6 +17,7 @@ use Rattle.combinatorics.proofs.Lists.{sums-rise}
 use Rattle.geometry.proofs.LabelledChains.{tabulate}
 use Rattle.geometry.proofs.Onward.{length-tabulate, getD-tabulate}
 use Rattle.grid_points.proofs.Accepted.{Accepted, size-two}
+use Rattle.grid_points.proofs.CoordinatesBelow.{in-limits}
 use Rattle.grid.proofs.Fields.{made-accepted, made-first, made-size, size-range as fields-size}
 use Rattle.grid_points.proofs.Round.{Seat, seat, next-at, next-round, block-fits}
 use Rattle.grid_points.specs.Grid.{Grid, Point, at, numBlocks, numIndices, firstIndex, size, next, isGridPoint}
@@ -120,7 +121,7 @@ module _ {g : Grid} (A : Accepted g) (p z : Point) (hp : isGridPoint g p ≡ tru
   pub whole-set : (set : ℕ) → AllAdded g.sizes p z (numBlocks g) set → IsSet (numIndices g) (coefficientsFrom g p z) set
   whole-set set all-added =
       let list : coefficientsFrom g p z ≡ tabulate (numIndices g) (bitNumber set) =
-      coefficients-by A p z hp hz (bitNumber set) (all-added .zeros) rule in
+      coefficients-by (in-limits g A) p z hp hz (bitNumber set) (all-added .zeros) rule in
       record {
         long = ap length list ∙ length-tabulate (numIndices g) (bitNumber set);
         is = λ k l. ap (λ (c : List ℕ). at c k) list ∙ getD-tabulate 0 (numIndices g) (bitNumber set) k l;
@@ -193,7 +194,7 @@ module _ {g : Grid} (A : Accepted g) (p z : Point) (hp : isGridPoint g p ≡ tru
       c = coefficientsFrom g p z
 
       C : IsCoefficients (startingAt g p) z (coefficientsFrom g p z)
-      C = coefficientOf-is (has-start g A p hp) z hz
+      C = coefficientOf-is (has-start g (in-limits g A) p hp) z hz
 
       positive : 2 ≤ size g j
       positive = size-two g A j lj .0

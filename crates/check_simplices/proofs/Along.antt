@@ -17,7 +17,7 @@ use Rattle.combinatorics.proofs.Ranges.{in-upFrom, upFrom-in}
 use Rattle.combinatorics.specs.Lists.{filter, all, isIn, distinct, occurrences}
 use Rattle.geometry.proofs.LabelledChains.{tabulate}
 use Rattle.geometry.proofs.Points.{nth}
-use Rattle.grid_points.proofs.Accepted.{Accepted}
+use Rattle.grid_points.proofs.Accepted.{InLimits}
 use Rattle.grid_points.proofs.Points.{onPoints}
 use Rattle.grid_points.proofs.Round.{next-previous}
 use Rattle.grid_points.specs.Grid.{Grid, Point, at, numBlocks, numIndices, firstIndex, size, blocks, indices, indicesOf}
@@ -129,7 +129,7 @@ module _ (g : Grid) where
         occurs-more (next g k) h (take i o),
       )
 
-module _ {g : Grid} (A : Accepted g) {o : List ℕ} {s : List Point} (w : Ordered g o s) (some : 0 < length s) where
+module _ {g : Grid} (A : InLimits g) {o : List ℕ} {s : List Point} (w : Ordered g o s) (some : 0 < length s) where
   pub on-ordered : (i : ℕ) → i < length s → isGridPoint g (nth s i) ≡ true
   on-ordered i l = all-in onPoints (isGridPoint g) s (w .onGrid) (nth s i) (at-in onPoints [] s i l)
 

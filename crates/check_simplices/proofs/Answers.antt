@@ -20,7 +20,7 @@ use Rattle.combinatorics.proofs.EditsRemove.{length-removeAt}
 use Rattle.combinatorics.specs.Edits.{removeAt}
 use Rattle.combinatorics.specs.Lists.{filter, all, isIn, distinct}
 use Rattle.end_kinds.specs.declared.Kind.{Kind}
-use Rattle.grid_points.proofs.Accepted.{Accepted}
+use Rattle.grid_points.proofs.Accepted.{InLimits}
 use Rattle.grid_points.proofs.Points.{onPoints}
 use Rattle.grid_points.specs.Grid.{Grid, Point, numBlocks, dimension, blocks, isGridPoint, samePoint, bound}
 use Rattle.place.specs.Ends.{End, stop, isComplete, completeFor}
@@ -36,14 +36,14 @@ use Rattle.path_laws.proofs.ToChain.{place-long}
 use Rattle.path_laws.proofs.Ways.{IsWay, byPlace, byFacet, end-is, onEnds}
 use Rattle.path_laws.specs.Demand.{HasStart, SamePoints, placeAt}
 use Rattle.check_simplices.proofs.Ends.{end-only}
-use Rattle.check_simplices.proofs.Places.{accepted-grid, place-in-simplex, unlabelled-in-simplex}
+use Rattle.check_simplices.proofs.Places.{grid-in-limits, place-in-simplex, unlabelled-in-simplex}
 use Rattle.check_simplices.proofs.Search.{search-finds, few-in-simplex}
 use Rattle.check_simplices.proofs.Theorem.{one-simplex, part-in, part-on-grid}
 use Rattle.check_simplices.specs.Chains.{oneChain}
 use Rattle.check_simplices.specs.Simplices.{InOneSimplex, inOneSimplex, labelledBy, firstOf, verdict}
 
 -- the test gives the answer
-module _ {g : Grid} (A : Accepted g) (zs : List Point) (on : all (isGridPoint g) zs ≡ true)
+module _ {g : Grid} (A : InLimits g) (zs : List Point) (on : all (isGridPoint g) zs ≡ true)
     (some-point : 0 < length zs) where
   -- distinct and in one simplex, exactly if the test says so
   pub one-simplex-test : (distinct samePoint zs && inOneSimplex g zs) ≡ oneChain g zs
@@ -64,7 +64,7 @@ pub part-of-place : {p : Problem} → HasStart p → (s : Simplex) → isUnlabel
     → oneChain p.grid ys ≡ true
 part-of-place ok s h ys some-point d within =
     let I = part-in ys within (unlabelled-in-simplex ok s h) in
-    one-simplex (accepted-grid ok) ys (part-on-grid I) some-point .1 (d, I)
+    one-simplex (grid-in-limits ok) ys (part-on-grid I) some-point .1 (d, I)
 
 -- the order of the points does not matter
 module _ (p : Problem) (a b : Simplex) (ab : SamePoints a b) where
@@ -77,7 +77,7 @@ module _ (p : Problem) (a b : Simplex) (ab : SamePoints a b) where
       (λ e. let w = U-means p.grid a k .0 e in inr (U-means p.grid b k .1 (w .0, (λ y n. w .1 y (ab y ∙ n)))))
       (complete-means p a j .0 h k m))
 
-pub order-free : {g : Grid} → Accepted g → (labels : List ℕ) (a b : Simplex) → SamePoints a b → length a ≡ length b
+pub order-free : {g : Grid} → InLimits g → (labels : List ℕ) (a b : Simplex) → SamePoints a b → length a ≡ length b
     → verdict g labels a ≡ verdict g labels b
 unfolding verdict completeFor
 order-free {g} A labels a b ab l =
@@ -165,7 +165,7 @@ module _ {p : Problem} (ok : HasStart p) where
   unfolding verdict completeFor isComplete labelSet setU label
   stop-answer s e h way =
       let S = shown s e h way in
-      rw (S .apart, search-finds p.grid (accepted-grid ok) e.simplex .0 S.one)
+      rw (S .apart, search-finds p.grid (grid-in-limits ok) e.simplex .0 S.one)
       (first-is (isComplete p e.simplex) (blocks p.grid) e.block
       (in-upFrom 0 (numBlocks p.grid) e.block (omega arith) (omega (arith, S .block)))
       S.complete (λ k m c. end-only ok s h e way k (omega (arith, upFrom-in 0 (numBlocks p.grid) k m .1)) c))

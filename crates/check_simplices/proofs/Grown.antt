@@ -18,7 +18,7 @@ use Rattle.geometry.proofs.Definitions.{Blocks, Grid as OnRing, raise}
 use Rattle.geometry.proofs.Points.{nth, at-point}
 use Rattle.geometry.proofs.Search.{raise-at, raise-elsewhere}
 use Rattle.geometry.proofs.Sizes.{upto}
-use Rattle.grid_points.proofs.Accepted.{Accepted, size-two}
+use Rattle.grid_points.proofs.Accepted.{InLimits, size-from-two}
 use Rattle.grid_points.proofs.Points.{onPoints}
 use Rattle.grid_points.specs.Grid.{Grid, Point, at, numBlocks, numIndices, firstIndex, size, blocks, indices, indicesOf}
 use Rattle.grid_points.specs.Grid.{next}
@@ -62,7 +62,7 @@ count-one x [] = refl
 count-one x (y ∷ xs) =
     ⊎-elim (λ t. rw t (ap suc (count-one x xs))) (λ f. rw f (count-one x xs)) (true-or-false (eqb x y))
 
-module _ {g : Grid} (A : Accepted g) (p : Point) (hp : isGridPoint g p ≡ true) where
+module _ {g : Grid} (A : InLimits g) (p : Point) (hp : isGridPoint g p ≡ true) where
   abbrev R : Blocks
   R = blocksOf (startingAt g p)
 
@@ -221,7 +221,7 @@ module _ {g : Grid} (A : Accepted g) (p : Point) (hp : isGridPoint g p ≡ true)
 
       one : (j : ℕ) → j < numBlocks g → eqb (length (filter (λ h. not (isIn eqb h o)) (indicesOf g j))) 1 ≡ true
       one j l =
-          let some : 0 < size g j = omega (arith, size-two g A j l .0) in
+          let some : 0 < size g j = omega (arith, size-from-two g A j l) in
           let h = firstIndex g j + 0 in
           let bh : R .block h ≡ j = block-agrees (startingAt g p) j 0 some in
           let e = W .left h in

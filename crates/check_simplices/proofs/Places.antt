@@ -18,7 +18,7 @@ use Rattle.geometry.proofs.Chains.{one-more-at-most, rise, free-zero}
 use Rattle.geometry.proofs.Definitions.{Chain}
 use Rattle.geometry.proofs.Links.{chain-ext}
 use Rattle.geometry.proofs.Points.{nth, listAt-map}
-use Rattle.grid_points.proofs.Accepted.{Accepted}
+use Rattle.grid_points.proofs.Accepted.{InLimits}
 use Rattle.grid_points.proofs.Points.{onPoints}
 use Rattle.grid_points.specs.Grid.{at, firstIndex, next, isGridPoint, points}
 use Rattle.place.specs.Coefficients.{coefficients, coefficientSum}
@@ -37,16 +37,16 @@ use Rattle.check_simplices.proofs.Relabelled.{relabelled, label-at}
 use Rattle.check_simplices.proofs.Tests.{has-start-with, coefficients-by, nested-by}
 use Rattle.check_simplices.specs.Simplices.{InOneSimplex}
 
--- a grid without its start
-pub accepted-grid : {p : Problem} → HasStart p → Accepted p.grid
-accepted-grid ok = record {
+-- the grid without its start
+pub grid-in-limits : {p : Problem} → HasStart p → InLimits p.grid
+grid-in-limits ok = record {
   someBlock = ok .someBlock;
   fewBlocks = ok .sixBlocks;
   sizesTwo = ok .sizes;
   fewIndices = ok .sixteenIndices;
   sameNumber = ok .sameNumber;
   divisionsOne = ok .divisions;
-  fewPoints = ok .points;
+  low = ok .low;
 }
 
 -- a place
@@ -65,7 +65,7 @@ module _ {p : Problem} (ok : HasStart p) (s : Simplex) (h : isPlace p s ≡ true
   place-in-simplex =
       let g = p .grid in
       let long = place-long ok s h in
-      let A = accepted-grid ok in
+      let A = grid-in-limits ok in
       let some : 0 < length s = omega arith in
       let up : (i j : ℕ) → i ≤ j → j < length s → (k : ℕ) → coefficientOf p (nth s i) k ≤ coefficientOf p (nth s j) k =
       λ i j a b. rise chain i j a (omega arith) in
@@ -132,7 +132,7 @@ module _ {p : Problem} (ok : HasStart p) (s : Simplex) (h : isUnlabelledPlace p 
         (
           nth s j.0,
           at-in onPoints [] s j.0 l,
-          label-at (accepted-grid ok) p.start o s (kept .gridPoints) (rising-distinct onPoints _ s (kept .inOrder)) j.0
+          label-at (grid-in-limits ok) p.start o s (kept .gridPoints) (rising-distinct onPoints _ s (kept .inOrder)) j.0
               l
               ∙ ap suc j.2,
         ),
@@ -144,4 +144,4 @@ module _ {p : Problem} (ok : HasStart p) (s : Simplex) (h : isUnlabelledPlace p 
 
   pub unlabelled-in-simplex : InOneSimplex p.grid s
   unlabelled-in-simplex =
-      place-in-simplex (has-start-with p.grid (accepted-grid ok) p.start ok.start _) s relabelled-place
+      place-in-simplex (has-start-with p.grid (grid-in-limits ok) p.start ok.start _) s relabelled-place

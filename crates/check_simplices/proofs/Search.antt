@@ -18,7 +18,7 @@ use Rattle.combinatorics.proofs.Ranges.{length-upFrom, upFrom-add, distinct-upF
 use Rattle.combinatorics.proofs.Selections.{in-selections}
 use Rattle.combinatorics.proofs.Turns.{map-at}
 use Rattle.combinatorics.specs.Lists.{filter, all, any, isIn, distinct, sum, upFrom, selections}
-use Rattle.grid_points.proofs.Accepted.{Accepted}
+use Rattle.grid_points.proofs.Accepted.{InLimits}
 use Rattle.grid_points.proofs.Points.{onPoints, in-points, point-long}
 use Rattle.grid_points.specs.Grid.{Grid, Point, at, numBlocks, numIndices, dimension, firstIndex, blocks, indices}
 use Rattle.grid_points.specs.Grid.{indicesOf}
@@ -68,7 +68,7 @@ module _ (g : Grid) where
     length-upFrom 0 (numIndices g),
   )
 
-  pub search-finds : Accepted g → (zs : List Point) → InOneSimplex g zs ↔ (inOneSimplex g zs ≡ true)
+  pub search-finds : InLimits g → (zs : List Point) → InOneSimplex g zs ↔ (inOneSimplex g zs ≡ true)
   unfolding inOneSimplex found
   search-finds A zs = (to, from)
     where

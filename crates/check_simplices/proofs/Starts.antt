@@ -19,7 +19,7 @@ use Rattle.geometry.proofs.LabelledChains.{LabelledChain}
 use Rattle.geometry.proofs.Links.{chain-ext}
 use Rattle.geometry.proofs.Onward.{getD-tabulate}
 use Rattle.geometry.proofs.Points.{nth, listAt-map}
-use Rattle.grid_points.proofs.Accepted.{Accepted, size-two}
+use Rattle.grid_points.proofs.Accepted.{InLimits, size-from-two}
 use Rattle.grid_points.proofs.Points.{onPoints}
 use Rattle.grid_points.proofs.Round.{seat, next-at, next-round, block-fits}
 use Rattle.grid_points.specs.Grid.{Grid, Point, at, numBlocks, numIndices, firstIndex, size, indicesOf, next}
@@ -58,7 +58,7 @@ passed-all : (o : List ℕ) (k : ℕ) → passed o (length o) k ≡ occurrences 
 passed-all [] k = refl
 passed-all (h ∷ o) k = let i = passed-all o k in ⊎-elim (λ t. rw t (ap suc i)) (λ f. rw f i) (true-or-false (eqb k h))
 
-module _ {g : Grid} (A : Accepted g) (o : List ℕ) (s : List Point) (h : isSimplex g o s ≡ true) where
+module _ {g : Grid} (A : InLimits g) (o : List ℕ) (s : List Point) (h : isSimplex g o s ≡ true) where
   w : Ordered g o s
   w = ordered-of g o s h
 
@@ -144,7 +144,7 @@ module _ {g : Grid} (A : Accepted g) (o : List ℕ) (s : List Point) (h : isSimp
       (in-upFrom (firstIndex g j) (size g j) f (omega arith) (omega arith)) (rw e) in
       let there : isIn eqb (next g f) (filter q (indicesOf g j)) ≡ true = in-filter onNumbers q (next g f)
       (indicesOf g j) (in-upFrom (firstIndex g j) (size g j) (next g f) z.0 z.1) (rw n) in
-      absurd (z .2 (size-two g A j b .0)
+      absurd (z .2 (size-from-two g A j b)
       (only-member onNumbers f (next g f) (filter q (indicesOf g j)) (omega (arith, left-one g o s h j b)) here there)))
       (true-or-false (isIn eqb (next g f) o))
 
@@ -242,7 +242,7 @@ module _ {g : Grid} (A : Accepted g) (o : List ℕ) (s : List Point) (h : isSimp
       and-left _ _ (rw e at (place-of (has-start-with g A (nth s 0) (on-ordered A w some 0 some) P.labels) labelled))
 
 -- points lie in one simplex exactly if they are part of a place, labels apart, for some start
-pub for-some-start : {g : Grid} → Accepted g → (zs : List Point) → InOneSimplex g zs ↔
+pub for-some-start : {g : Grid} → InLimits g → (zs : List Point) → InOneSimplex g zs ↔
     ((v : Point) × (s : List Point) × (isGridPoint g v ≡ true)
     × (isUnlabelledPlace (startingAt g v) s ≡ true) × (all (λ z. isIn samePoint z s) zs ≡ true))
 for-some-start {g} A zs = (

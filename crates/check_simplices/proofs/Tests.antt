@@ -17,7 +17,7 @@ use Rattle.combinatorics.specs.Lists.{all, same, distinct}
 use Rattle.geometry.proofs.LabelledChains.{tabulate}
 use Rattle.geometry.proofs.Onward.{length-tabulate, getD-tabulate}
 use Rattle.geometry.proofs.Points.{nth}
-use Rattle.grid_points.proofs.Accepted.{Accepted}
+use Rattle.grid_points.proofs.Accepted.{InLimits}
 use Rattle.grid_points.proofs.Points.{onPoints}
 use Rattle.grid_points.proofs.Round.{next-low, block-fits}
 use Rattle.grid_points.specs.Grid.{Grid, Point, at, numBlocks, numIndices, firstIndex, size, indices, next, isGridPoint}
@@ -64,7 +64,7 @@ module _ (g : Grid) where
   index-at q h = in-all onNumbers q (indices g) (λ k m. h k (index-means g k .0 m))
 
   -- a grid with a start, and labels
-  pub has-start-with : Accepted g → (p : Point) → isGridPoint g p ≡ true → (labels : List ℕ)
+  pub has-start-with : InLimits g → (p : Point) → isGridPoint g p ≡ true → (labels : List ℕ)
       → HasStart (record { grid = g; start = p; labels = labels })
   has-start-with A p h labels = record {
     someBlock = A .someBlock;
@@ -73,11 +73,11 @@ module _ (g : Grid) where
     sixteenIndices = A .fewIndices;
     sameNumber = A .sameNumber;
     divisions = A .divisionsOne;
-    points = A .fewPoints;
+    low = A .low;
     start = h;
   }
 
-  pub has-start : Accepted g → (p : Point) → isGridPoint g p ≡ true → HasStart (startingAt g p)
+  pub has-start : InLimits g → (p : Point) → isGridPoint g p ≡ true → HasStart (startingAt g p)
   has-start A p h = has-start-with A p h []
 
 -- the coefficients of the i-th point with p as the start, as a function
@@ -91,7 +91,7 @@ pub record Nested (g : Grid) (zs : List Point) (p : Point) : Type 0 where
       → Below (setAt g zs p i) (setAt g zs p j) ⊎ Below (setAt g zs p j) (setAt g zs p i)
 
 -- a function is the coefficient list of z if it has a zero in each block and follows the rule
-pub coefficients-by : {g : Grid} → Accepted g → (p z : Point) → isGridPoint g p ≡ true → isGridPoint g z ≡ true
+pub coefficients-by : {g : Grid} → InLimits g → (p z : Point) → isGridPoint g p ≡ true → isGridPoint g z ≡ true
     → (f : ℕ → ℕ)
     → ((j : ℕ) → j < numBlocks g → (h : ℕ) × (firstIndex g j ≤ h) × (h < firstIndex g j + size g j) × (f h ≡ 0))
     → ((k : ℕ) → k < numIndices g → at z k + f (next g k) ≡ at p k + f k)
@@ -129,7 +129,7 @@ nested-by {g} zs p f is ones pairs = record {
     n : ℕ
     n = numIndices g
 
-module _ {g : Grid} (A : Accepted g) (zs : List Point) (on : all (isGridPoint g) zs ≡ true) (p : Point)
+module _ {g : Grid} (A : InLimits g) (zs : List Point) (on : all (isGridPoint g) zs ≡ true) (p : Point)
     (hp : isGridPoint g p ≡ true) where
   pub on-at : (i : ℕ) → i < length zs → isGridPoint g (nth zs i) ≡ true
   on-at i l = all-in onPoints (isGridPoint g) zs on (nth zs i) (at-in onPoints [] zs i l)

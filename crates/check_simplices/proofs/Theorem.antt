@@ -9,7 +9,7 @@ use lib.ListN.{length}
 use Rattle.combinatorics.proofs.Lists.{all-in, in-all, any-in, in-any}
 use Rattle.combinatorics.specs.Lists.{all, isIn, distinct}
 use Rattle.geometry.proofs.Points.{nth}
-use Rattle.grid_points.proofs.Accepted.{Accepted}
+use Rattle.grid_points.proofs.Accepted.{InLimits}
 use Rattle.grid_points.proofs.Points.{onPoints}
 use Rattle.grid_points.specs.Grid.{Grid, Point, isGridPoint, samePoint}
 use Rattle.path_laws.proofs.Positions.{at-in}
@@ -38,7 +38,7 @@ part-on-grid {g} {zs} I = in-all onPoints (isGridPoint g) zs (λ z m.
     all-in onPoints (isGridPoint g) I.points (ordered-of g I.order I.points I.simplex .onGrid) z
     (all-in onPoints (λ z. isIn samePoint z I.points) zs I.has z m))
 
-module _ {g : Grid} (A : Accepted g) (zs : List Point) (on : all (isGridPoint g) zs ≡ true) (some : 0 < length zs) where
+module _ {g : Grid} (A : InLimits g) (zs : List Point) (on : all (isGridPoint g) zs ≡ true) (some : 0 < length zs) where
   listed : (y : Point) → isIn samePoint y zs ≡ true → isGridPoint g y ≡ true
   listed y m = all-in onPoints (isGridPoint g) zs on y m
 

@@ -14,6 +14,7 @@ use Rattle.combinatorics.specs.Lists.{all, upFrom}
 use Rattle.questions.proofs.Answers.{asked-next, asked-no, first-yes}
 use Rattle.questions.specs.Questions.{firstNo}
 use Rattle.grid.proofs.Fields.{made-accepted, made-indices}
+use Rattle.grid_points.proofs.CoordinatesBelow.{in-limits}
 use Rattle.grid_points.specs.Grid.{Grid, dimension, isGridPoint, numIndices}
 use Rattle.grid.specs.Made.{IsMade, shape}
 use Rattle.grid_points.specs.Questions.{gridQuestions}
@@ -36,7 +37,8 @@ module _ {s : GridStruct} {count : ℕ} {numbers : List ℕ} (L : Listed s count
   by-test : verdict (shape s) labels (listed (s .indices) count numbers)
       ≡ cond (oneChain (shape s) (listed (s .indices) count numbers))
       (firstOf (completeFor (labelledBy (shape s) labels) (listed (s .indices) count numbers))) none
-  by-test = answer-by-test (made-accepted s L.has.made) (listed (s .indices) count numbers) L.onGrid
+  by-test = answer-by-test (in-limits (shape s) (made-accepted s L.has.made)) (listed (s .indices) count numbers)
+      L.onGrid
       (omega (arith, length-map (upFrom 0 count) (listedAt (s .indices) numbers), length-upFrom 0 count)) labels
 
   pub verdict-no : oneChain (shape s) (listed (s .indices) count numbers) ≡ false

@@ -16,6 +16,7 @@ use Rattle.combinatorics.specs.Lists.{all, concatMap, upFrom}
 use Rattle.questions.proofs.Answers.{both-yes, first-yes}
 use Rattle.questions.specs.Questions.{firstNo}
 use Rattle.grid_points.proofs.Accepted.{Accepted, accepted, blocks-few}
+use Rattle.grid_points.proofs.CoordinatesBelow.{in-limits}
 use Rattle.grid_points.specs.Grid.{Grid, Point, dimension, isGridPoint, numIndices}
 use Rattle.grid_points.specs.Questions.{gridQuestions, question5}
 use Rattle.grid_points.proofs.Points.{points-long}
@@ -109,7 +110,7 @@ each-end p questions = record {
         let size = first-yes (question6 p) _ (omega arith) start.1 in
         let labels = first-yes (question7 p) [] (omega arith) size.1 in
         let A = accepted p.grid asked.0 in
-        let ok = has-start-with p.grid A p.start start.0 p.labels in
+        let ok = has-start-with p.grid (in-limits p.grid A) p.start start.0 p.labels in
         let w = last-place ok e q in
         let s = stop-points ok w.0 e w.1 w.2 in
         let numbers = concatMap (λ y. y) (e .simplex) in

@@ -15,6 +15,7 @@ use Rattle.grid_points.specs.Grid.{bound}
 use Rattle.grid_points.specs.Questions.{gridQuestions}
 use Rattle.place.specs.Path.{PathAnswer, spent, ended, unknown, answer, pathLength}
 use Rattle.place.specs.Problem.{Problem, withLabels}
+use Rattle.path_laws.proofs.Accepted.{accepted-table}
 use Rattle.path_laws.proofs.Filling.{filling-holds}
 use Rattle.path_laws.proofs.Theorem.{demand3-holds}
 use Rattle.path_laws.specs.Demand.{Accepted, Demand3, Ended, Filling}
@@ -44,7 +45,7 @@ unrefused p room e =
 
 module _ (p : Problem) (room : ℕ) (none : runRefusal p room ≡ 0) where
   D : Demand3 p
-  D = demand3-holds (unrefused p room none)
+  D = demand3-holds (accepted-table (unrefused p room none))
 
   same : (budget : ℕ) (old : List ℕ) → length old ≡ room
       → (caseOf (answer p budget) ≡ runAnswer p room budget)
@@ -118,7 +119,7 @@ run-filling p labels room a b fills = record {
     q = withLabels p labels
 
     filled : Filling p labels
-    filled = filling-holds (unrefused p room a) (unrefused q room b) fills
+    filled = filling-holds (accepted-table (unrefused p room a)) (accepted-table (unrefused q room b)) fills
 
     asked : (budget : ℕ) → ((n i : ℕ) → runAnswer p room budget ≡ Unknown n i → getD labels i 0 ≡ 0) → (n i : ℕ)
         → answer p budget ≡ unknown n i → getD labels i 0 ≡ 0

@@ -18,6 +18,19 @@ use Rattle.grid_points.specs.Grid.{Grid, numBlocks, numIndices, numPoint
 use Rattle.combinatorics.specs.Counting.{binomialProduct}
 use Rattle.grid_points.specs.Questions.{gridQuestions, question1, question2, question3, question4}
 
+-- questions 1 to 3 are answered yes, and no division is above 60,000; the number of grid points is not asked for
+pub record InLimits (g : Grid) : Type 0 where
+  pub someBlock : 1 ≤ numBlocks g
+  pub fewBlocks : numBlocks g ≤ 6
+  pub sizesTwo : all (λ s. leb 2 s) (g .sizes) ≡ true
+  pub fewIndices : numIndices g ≤ 16
+  pub sameNumber : length (g .divisions) ≡ numBlocks g
+  pub divisionsOne : all (λ d. leb 1 d) (g .divisions) ≡ true
+  pub low : all (λ d. leb d 60000) (g .divisions) ≡ true
+
+pub size-from-two : (g : Grid) → InLimits g → (j : ℕ) → j < numBlocks g → 2 ≤ size g j
+size-from-two g a j h = size-range (g .sizes) j (a .sizesTwo) (a .fewIndices) h .0
+
 -- questions 1 to 4 are answered yes
 pub record Accepted (g : Grid) : Type 0 where
   pub someBlock : 1 ≤ numBlocks g

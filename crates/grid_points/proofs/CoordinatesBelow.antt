@@ -1,20 +1,22 @@
--- Every division, and so every coordinate of a grid point, is below the number of grid points. Assumes nothing.
+-- Every division, and so every coordinate of a grid point, is below the number of grid points; and where no division is
+-- above a number, no coordinate is. Assumes nothing.
 use mathlib.Core.Bool.{true}
 use mathlib.Core.List.{List, [], _∷_}
 use mathlib.Core.Logic.{⊎-elim}
-use mathlib.Core.Path.{_≡_, subst}
+use mathlib.Core.Path.{_≡_, refl, subst}
 use Prim.Native.Nat.{ℕ, zero, suc, pred, _+_, _-_, _*_, _≤_, _<_}
-use borrow.Author.Tests.{leb-true}
+use borrow.Author.Tests.{leb-true, le-leb}
 use lib.Dec.{leb}
 use lib.ListN.{length, getD, List·getD-append}
 use lib.Seq.{getD-append-add}
 use native.Mathlib.Nat.{mul-le-mul}
 use native.Mathlib.Omega.{arith}
-use Rattle.combinatorics.proofs.Basics.{before-or-not, and-left, and-right}
+use Rattle.combinatorics.proofs.Basics.{before-or-not, and-both, and-left, and-right}
 use Rattle.combinatorics.specs.Counting.{choose, binomialProduct}
 use Rattle.combinatorics.specs.Lists.{all}
 use Rattle.combinatorics.proofs.Binomials.{choose-positive}
 use Rattle.grid_counts.proofs.SizeRange.{at-sum}
+use Rattle.grid_points.proofs.Accepted.{Accepted, InLimits}
 use Rattle.grid_points.proofs.Listing.{numPoints-is}
 use Rattle.grid_points.proofs.Points.{Fits, none, block, fits-of}
 use Rattle.grid_points.specs.Grid.{Grid, Point, at, numBlocks, numPoints, division, isGridPoint}
@@ -71,3 +73,35 @@ pub coordinate-below : (g : Grid) → all (λ s. leb 2 s) (g .sizes) ≡ true �
 coordinate-below g h e y o k =
     let w = in-division (fits-of g y e o) k in
     omega (arith, w .1, division-below g h e (w .0))
+
+-- divisions of at most n, and so coordinates
+pub division-low : (n : ℕ) (ds : List ℕ) → all (λ d. leb d n) ds ≡ true → (j : ℕ) → getD ds j 0 ≤ n
+division-low n [] a j = omega arith
+division-low n (d ∷ ds) a zero = leb-true d n (and-left (leb d n) (all (λ d. leb d n) ds) a)
+division-low n (d ∷ ds) a (suc j) = division-low n ds (and-right (leb d n) (all (λ d. leb d n) ds) a) j
+
+pub coordinate-low : (g : Grid) (n : ℕ) → all (λ d. leb d n) (g .divisions) ≡ true → length (g .divisions) ≡ numBlocks g
+    → (y : Point) → isGridPoint g y ≡ true → (k : ℕ) → at y k ≤ n
+coordinate-low g n a e y o k =
+    let w = in-division (fits-of g y e o) k in
+    omega (arith, w .1, division-low n (g .divisions) a (w .0))
+
+-- an accepted grid has no division above 60,000
+pub low-divisions : (g : Grid) → Accepted g → all (λ d. leb d 60000) (g .divisions) ≡ true
+low-divisions g a =
+    go (g .divisions) (λ j. omega (arith, division-below g a.sizesTwo a.sameNumber j, a .fewPoints))
+  where
+    go : (ds : List ℕ) → ((j : ℕ) → getD ds j 0 ≤ 60000) → all (λ d. leb d 60000) ds ≡ true
+    go [] l = refl
+    go (d ∷ ds) l = and-both _ _ (le-leb d 60000 (l 0)) (go ds (λ j. l (suc j)))
+
+pub in-limits : (g : Grid) → Accepted g → InLimits g
+in-limits g a = record {
+  someBlock = a .someBlock;
+  fewBlocks = a .fewBlocks;
+  sizesTwo = a .sizesTwo;
+  fewIndices = a .fewIndices;
+  sameNumber = a .sameNumber;
+  divisionsOne = a .divisionsOne;
+  low = low-divisions g a;
+}

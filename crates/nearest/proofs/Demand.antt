@@ -13,6 +13,7 @@ use Rattle.grid_points.specs.Grid.{Point, isGridPoint}
 use Rattle.grid_points.specs.Questions.{gridQuestions}
 use Rattle.place.specs.Path.{answer, spent, unknown}
 use Rattle.place.specs.Problem.{Problem}
+use Rattle.path_laws.proofs.Accepted.{accepted-table}
 use Rattle.path_laws.proofs.Theorem.{demand3-holds}
 use Rattle.path_laws.specs.Demand.{Accepted}
 use Rattle.finder.proofs.Refusals.{accepted-with-room, answered as run-answered, by-later}
@@ -85,7 +86,7 @@ near-demand p w room listRoom none = record {
   ended = λ given budget n read block vertices kind e. told p w room listRoom none given budget
       ∙ (let a = at-end p budget (case-is p w room listRoom none budget ∙ e) in rw (a .2));
   spent = λ given budget old e l.
-      let a = demand3-holds (ok p w room listRoom none) .spends budget .1 l in (
+      let a = demand3-holds (accepted-table (ok p w room listRoom none)) .spends budget .1 l in (
         told p w room listRoom none given budget ∙ rw a,
         sym (list-is p w room listRoom none given budget old e) ∙ rw a (front-none old),
       );
@@ -94,7 +95,7 @@ near-demand p w room listRoom none = record {
         told p w room listRoom none given budget ∙ rw a,
         sym (list-is p w room listRoom none given budget old e) ∙ rw a (front-none old),
       );
-  visits = visits (ok p w room listRoom none);
+  visits = visits (accepted-table (ok p w room listRoom none));
   distances = distances (p .grid) (grid-accepted (ok p w room listRoom none));
   nearest = is-nearest (ok p w room listRoom none) w;
   list = is-list (ok p w room listRoom none) w (yes p w room listRoom none .0);

@@ -22,6 +22,7 @@ use Rattle.grid.specs.declared.Grid.{Grid as GridStruct}
 use Rattle.place.specs.Path.{path as pathOf, pathLength}
 use Rattle.place.specs.Places.{Simplex}
 use Rattle.place.specs.Problem.{Problem, label}
+use Rattle.path_laws.proofs.Accepted.{accepted-table}
 use Rattle.path_laws.proofs.Filled.{FullyLabelled, beside, filled-full, filledTable}
 use Rattle.path_laws.proofs.Labels.{label-ok}
 use Rattle.path_laws.proofs.LinkSymmetry.{parts}
@@ -64,7 +65,7 @@ module _ (g : GridStruct) (first table : List ℕ) (ok : Accepted (problemIn g f
   onPath = pathOf (problemIn g first table) .visited
 
   full : FullyLabelled (filledTable p)
-  full = filled-full ok
+  full = filled-full (accepted-table ok)
 
   on-so-far : (k : ℕ) (y : Point) → isIn samePoint y (verticesOf (take k onPath)) ≡ true
       → isGridPoint (shape g) y ≡ true
@@ -73,13 +74,13 @@ module _ (g : GridStruct) (first table : List ℕ) (ok : Accepted (problemIn g f
       let l : i .0 < length onPath = omega (arith, i .1, length-take k onPath) in
       let h : i .0 < k = omega (arith, i .1, length-take k onPath) in
       all-in onPoints (isGridPoint (shape g)) (placeAt onPath (i .0))
-      (parts p (placeAt onPath (i .0)) (demand3-holds ok .follows .places (i .0) l) .gridPoints) y
+      (parts p (placeAt onPath (i .0)) (demand3-holds (accepted-table ok) .follows .places (i .0) l) .gridPoints) y
       (rw (getD-take k onPath (i .0) [] h) at (i .2))
 
   -- at the end the path has no place more
   no-more : (k : ℕ) → k < pathLength p → pathLength (filledTable p) ≡ suc k → pathLength p ≡ suc k
   no-more k l e = ⊎-elim
-      (λ (c : suc k < pathLength p). absurd (omega (arith, beside ok (suc k) c .0)))
+      (λ (c : suc k < pathLength p). absurd (omega (arith, beside (accepted-table ok) (suc k) c .0)))
       (λ (c : pathLength p ≤ suc k). omega arith)
       (before-or-not (suc k) (pathLength p))
 
@@ -99,7 +100,7 @@ module _ (g : GridStruct) (first table : List ℕ) (ok : Accepted (problemIn g f
     y = pointCome (shape g) s
 
     at-k : placeAt onPath k ≡ pointsFrom (filledTable p) s 0
-    at-k = beside ok k (here .1) .1 ∙ at-place full A
+    at-k = beside (accepted-table ok) k (here .1) .1 ∙ at-place full A
 
     pub computed : CanCompute s (s .active)
     computed = at-reads full A .0
@@ -120,7 +121,7 @@ module _ (g : GridStruct) (first table : List ℕ) (ok : Accepted (problemIn g f
     label-small known r = omega (
       arith,
       leb-true (label p y) (numIndices (p .grid))
-          (and-right (leb 1 (label p y)) _ (label-ok ok y on-grid (known r))),
+          (and-right (leb 1 (label p y)) _ (label-ok (accepted-table ok) y on-grid (known r))),
       ok .hasStart .sixteenIndices,
     )
 
@@ -151,7 +152,7 @@ module _ (g : GridStruct) (first table : List ℕ) (ok : Accepted (problemIn g f
         let l : w .0 < pathLength p = omega (arith, w .1, here .1) in
         in-before z onPath k (w .0) (omega (arith, w .1)) l (subst
         (λ (x : Simplex). isIn samePoint z x ≡ true)
-        (sym (beside ok (w .0) l .1))
+        (sym (beside (accepted-table ok) (w .0) l .1))
         (subst
         (λ (x : Point). isIn samePoint x (placeAt (pathOf (filledTable p) .visited) (w .0)) ≡ true)
         (sym (i .2)) (w .2)))

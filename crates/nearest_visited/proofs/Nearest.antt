@@ -19,6 +19,7 @@ use Rattle.grid_points.proofs.Points.{onPoints}
 use Rattle.grid_points.specs.Grid.{Point, isGridPoint, position, samePoint}
 use Rattle.place.specs.Path.{path as pathOf}
 use Rattle.place.specs.Problem.{Problem}
+use Rattle.path_laws.proofs.Accepted.{accepted-grid, accepted-table}
 use Rattle.path_laws.proofs.Positions.{at-in, in-at}
 use Rattle.path_laws.proofs.Theorem.{demand3-holds}
 use Rattle.path_laws.specs.Demand.{Accepted, placeAt}
@@ -135,22 +136,15 @@ module _ (f : Point → ℕ) where
 
 module _ {p : Problem} (ok : Accepted p) where
   pub grid-accepted : GridAccepted (p .grid)
-  grid-accepted = let s = ok .hasStart in record {
-    someBlock = s .someBlock;
-    fewBlocks = s .sixBlocks;
-    sizesTwo = s .sizes;
-    fewIndices = s .sixteenIndices;
-    sameNumber = s .sameNumber;
-    divisionsOne = s .divisions;
-    fewPoints = s .points;
-  }
+  grid-accepted = accepted-grid ok.hasStart ok.points
 
   pub some-visited : 0 < length (visitedVertices p)
   some-visited =
-      let D = demand3-holds ok .follows in
+      let D = demand3-holds (accepted-table ok) .follows in
       let here : isIn samePoint (p .start) (placeAt (pathOf p .visited) 0) ≡ true =
       rw (D .begins) (in-here onPoints (p .start) []) in
-      let w = in-at onPoints [] (p .start) (visitedVertices p) (visits ok .each (p .start) .1 (0, D .nonempty, here)) in
+      let w = in-at onPoints [] (p .start) (visitedVertices p)
+      (visits (accepted-table ok) .each (p .start) .1 (0, D .nonempty, here)) in
       omega (arith, w .1)
 
   -- of w nothing is asked here: a distance is a number for every list
@@ -173,17 +167,17 @@ module _ {p : Problem} (ok : Accepted p) where
     );
     once = distinct-map onPoints onNumbers (position (p .grid)) (verticesWithin p w given)
         (λ x y m n e. position-tells (p .grid) grid-accepted x y (on-grid x m) (on-grid y n) e)
-        (distinct-filter onPoints near (visitedVertices p) (visits ok .once));
-    inOrder = rising-filter onPoints (firstVisit p) near (visitedVertices p) (visits ok .inOrder);
+        (distinct-filter onPoints near (visitedVertices p) (visits (accepted-table ok) .once));
+    inOrder = rising-filter onPoints (firstVisit p) near (visitedVertices p) (visits (accepted-table ok) .inOrder);
     few = rw (length-map (verticesWithin p w given) (position (p .grid)))
-        (omega (arith, length-filter-le near (visitedVertices p), visits ok .few));
+        (omega (arith, length-filter-le near (visitedVertices p), visits (accepted-table ok) .few));
     all = λ l. filter-all onPoints (visitedVertices p)
         (λ y m. le-leb (distance (p .grid) w y) given
-        (omega (arith, distances (p .grid) grid-accepted .most w y on (visits ok .onGrid y m))));
+        (omega (arith, distances (p .grid) grid-accepted .most w y on (visits (accepted-table ok) .onGrid y m))));
   }
     where
       near : Point → Bool
       near y = leb (distance (p .grid) w y) given
 
       on-grid : (y : Point) → isIn samePoint y (verticesWithin p w given) ≡ true → isGridPoint (p .grid) y ≡ true
-      on-grid y m = visits ok .onGrid y (filter-in onPoints near y (visitedVertices p) m .0)
+      on-grid y m = visits (accepted-table ok) .onGrid y (filter-in onPoints near y (visitedVertices p) m .0)

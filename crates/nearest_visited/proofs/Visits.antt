@@ -23,7 +23,7 @@ use Rattle.place.specs.Places.{Simplex, isPlace, labelSet, setT, within}
 use Rattle.place.specs.Problem.{Problem}
 use Rattle.path_laws.proofs.LinkSymmetry.{parts, place-distinct}
 use Rattle.path_laws.proofs.Theorem.{demand3-holds}
-use Rattle.path_laws.specs.Demand.{Accepted, Follows, placeAt}
+use Rattle.path_laws.specs.Demand.{HasTable, Follows, placeAt}
 use Rattle.trail.proofs.Outside.{in-outside, outside-count, outside-in, outside-none}
 use Rattle.trail.specs.Change.{outside}
 use Rattle.nearest_visited.specs.Demand.{Visits}
@@ -236,7 +236,7 @@ module _ (p : Problem) (a b : Simplex) (pa : isPlace p a ≡ true) (pb : isPlace
       ⊎-elim (λ m. ⊎-elim by-exchange by-more (or-cases (exchanged p a b) (extended p a b) m)) by-less
       (or-cases (exchanged p a b || extended p a b) (extended p b a) e)
 
-module _ {p : Problem} (ok : Accepted p) where
+module _ {p : Problem} (ok : HasTable p) where
   abbrev onPath : List Simplex
   onPath = pathOf p .visited
 

@@ -23,7 +23,7 @@ use Rattle.path_laws.proofs.PathSteps.{Link}
 use Rattle.path_laws.proofs.Simplices.{onSimplices}
 use Rattle.path_laws.proofs.Theorem.{twoWays, ended-path}
 use Rattle.path_laws.specs.Backwards.{MovesFrom, Backwards}
-use Rattle.path_laws.specs.Demand.{Accepted, HasStart, placeAt, leftAt, lastPlace, IsPath}
+use Rattle.path_laws.specs.Demand.{HasStart, HasTable, placeAt, leftAt, lastPlace, IsPath}
 
 -- a list reversed, by position
 behind : (l r : List Simplex) (i j : ℕ) → i ≡ length l + j → placeAt (reverseAux l r) i ≡ placeAt r j
@@ -233,5 +233,5 @@ module _ {p : Problem} (ok : HasStart p) {s : List Simplex} {e : End} (k : IsPat
   }
 
 -- the path of every accepted table that reaches an end
-pub backwards-holds : {p : Problem} → Accepted p → {e : End} → path p .end ≡ some e → Backwards p (path p .visited)
+pub backwards-holds : {p : Problem} → HasTable p → {e : End} → path p .end ≡ some e → Backwards p (path p .visited)
 backwards-holds ok q = let w = ended-path ok q in backwards ok.hasStart w.0 w.1

@@ -25,9 +25,9 @@ use Rattle.path_laws.proofs.FromTwoWays.{gap-not-all}
 use Rattle.path_laws.proofs.LinkSymmetry.{parts}
 use Rattle.path_laws.proofs.Run.{asks-path}
 use Rattle.path_laws.proofs.Theorem.{demand3-holds, run-follows, twoWays}
-use Rattle.path_laws.specs.Demand.{Accepted, Fills, HasStart, Stop, atGap, lastPlace, placeAt}
+use Rattle.path_laws.specs.Demand.{Accepted, Fills, HasStart, HasTable, Stop, atGap, lastPlace, placeAt}
 
--- an accepted table without gaps
+-- a table without gaps
 pub record FullyLabelled (p : Problem) : Type 0 where
   pub hasStart : HasStart p
   pub tableLength : length (p .labels) ≡ numPoints (p .grid)
@@ -39,12 +39,17 @@ all-right m (l ∷ ls) a =
     and-both _ _ (and-right (leb 1 l) (leb l m) (and-left (leb 1 l && leb l m) (all (λ l. leb 1 l && leb l m) ls) a))
     (all-right m ls (and-right (leb 1 l && leb l m) (all (λ l. leb 1 l && leb l m) ls) a))
 
-pub full-accepted : {p : Problem} → FullyLabelled p → Accepted p
-full-accepted {p} ok = record {
+pub full-table : {p : Problem} → FullyLabelled p → HasTable p
+full-table {p} ok = record {
   hasStart = ok .hasStart;
   tableLength = ok .tableLength;
   labels = all-right _ p.labels ok.labels;
 }
+
+pub full-accepted : {p : Problem} → FullyLabelled p → numPoints p.grid ≤ 60000 → Accepted p
+full-accepted ok few =
+    let t = full-table ok in
+    record { hasStart = t .hasStart; points = few; tableLength = t .tableLength; labels = t .labels }
 
 module _ {p : Problem} (ok : FullyLabelled p) where
   pub full-label : (y : Point) → isGridPoint p.grid y ≡ true → hasLabel p y ≡ true
@@ -85,7 +90,7 @@ fill-at [] i h = refl
 fill-at (l ∷ ls) zero h = fill-same l h
 fill-at (l ∷ ls) (suc i) h = fill-at ls i h
 
-module _ {p : Problem} (ok : Accepted p) where
+module _ {p : Problem} (ok : HasTable p) where
   pub filled-full : FullyLabelled (filledTable p)
   filled-full = record {
     hasStart = record {
@@ -95,7 +100,7 @@ module _ {p : Problem} (ok : Accepted p) where
       sixteenIndices = ok .hasStart .sixteenIndices;
       sameNumber = ok .hasStart .sameNumber;
       divisions = ok .hasStart .divisions;
-      points = ok .hasStart .points;
+      low = ok .hasStart .low;
       start = ok .hasStart .start;
     };
     tableLength = length-map p.labels fill ∙ ok .tableLength;
@@ -105,8 +110,8 @@ module _ {p : Problem} (ok : Accepted p) where
       some-index : 1 ≤ numIndices p.grid
       some-index = some-sum p.grid.sizes ok.hasStart.someBlock ok.hasStart.sizes
 
-  accepted-filled : Accepted (filledTable p)
-  accepted-filled = full-accepted filled-full
+  filled-table : HasTable (filledTable p)
+  filled-table = full-table filled-full
 
   fills : Fills p (map fill p.labels)
   fills i h = fill-at p.labels i h
@@ -120,7 +125,7 @@ module _ {p : Problem} (ok : Accepted p) where
   pub beside : (k : ℕ) → k < pathLength p → (k < pathLength (filledTable p))
       × (placeAt (path p .visited) k ≡ placeAt (path (filledTable p) .visited) k)
   beside k l =
-      let w = run-follows accepted-filled (path p .visited)
+      let w = run-follows filled-table (path p .visited)
       (follows-filled p (map fill p.labels) fills (path p .visited) (demand3-holds ok .follows)) k l in
       (w .0, w .1)
 
@@ -165,7 +170,7 @@ module _ {p : Problem} (ok : Accepted p) where
     same-answers : pathLength p ≡ suc k → (b : ℕ) → answer (filledTable p) b ≡ answer p b
     same-answers q b =
         let e = ends-here q in
-        filling-holds ok accepted-filled fills .same b (λ n i u. absurd (ended-not-asks ok e.0 e.1 b n i u))
+        filling-holds ok filled-table fills .same b (λ n i u. absurd (ended-not-asks ok e.0 e.1 b n i u))
 
     -- where the filled table's path goes on, so does this
     pub further-on : suc k < pathLength (filledTable p) → suc k < pathLength p
@@ -174,7 +179,7 @@ module _ {p : Problem} (ok : Accepted p) where
         (λ c.
         let q : pathLength p ≡ suc k = omega arith in
         let s : answer p (suc k) ≡ spent (suc k) =
-        sym (same-answers q (suc k)) ∙ demand3-holds accepted-filled .spends (suc k) .1 d in
+        sym (same-answers q (suc k)) ∙ demand3-holds filled-table .spends (suc k) .1 d in
         absurd (omega (arith, demand3-holds ok .spends (suc k) .0 s)))
         (before-or-not (suc k) (pathLength p))
 

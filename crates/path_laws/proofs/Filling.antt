@@ -28,7 +28,7 @@ use Rattle.path_laws.proofs.Local.{Agree, setT-same, unlabelled-same, l
 use Rattle.path_laws.proofs.Meaning.{labels-mean}
 use Rattle.path_laws.proofs.Run.{asks-path}
 use Rattle.path_laws.proofs.Theorem.{demand3-holds, gapless, run-follows}
-use Rattle.path_laws.specs.Demand.{Accepted, Follows, placeAt, lastPlace, Stop, atEnd, atGap, Fills, Filling}
+use Rattle.path_laws.specs.Demand.{HasTable, Follows, placeAt, lastPlace, Stop, atEnd, atGap, Fills, Filling}
 
 module _ (p : Problem) (labels : List ℕ) (fills : Fills p labels) where
   abbrev filled : Problem
@@ -85,14 +85,14 @@ differ : (a : PathAnswer) (n read : ℕ) (e : End) (m i : ℕ) → a ≡ announc
 differ a n read e m i r u = absurd-bool (cc)
 
 -- where the path ends no label is asked for
-pub ended-not-asks : {p : Problem} → Accepted p → (e : End) → path p .end ≡ some e → (b n i : ℕ)
+pub ended-not-asks : {p : Problem} → HasTable p → (e : End) → path p .end ≡ some e → (b n i : ℕ)
     → answer p b ≡ unknown n i → ⊥
 ended-not-asks {p} ok e w b n i q =
     let d = demand3-holds ok .ended (gapless ok .1 (e, w)) in
     let a = demand3-holds ok .asked b n i q in
     differ (answer p b) (pathLength p) _ d.end n i (d .announces b (omega (arith, a .0, a .1))) q
 
-module _ {p : Problem} {labels : List ℕ} (ok : Accepted p) (okFilled : Accepted (withLabels p labels))
+module _ {p : Problem} {labels : List ℕ} (ok : HasTable p) (okFilled : HasTable (withLabels p labels))
     (fills : Fills p labels) where
   length-is : pathLength p ≡ suc (pred (pathLength p))
   length-is = omega (arith, demand3-holds ok .follows .nonempty)

@@ -42,7 +42,7 @@ use Rattle.path_laws.proofs.PathSteps.{linksOn, waysOn-split, Trail, st
 use Rattle.path_laws.proofs.PathSteps.{step-links}
 use Rattle.path_laws.proofs.PathSteps.{all-places, onward, passes, known, finish, leftFrom, unended, more-fuel}
 use Rattle.path_laws.proofs.Ways.{IsWay, byPlace, byFacet, byLink, sameWay, onEnds, onWays, end-is, in-ways}
-use Rattle.path_laws.specs.Demand.{Accepted, HasStart, TwoWays, placeAt, lastPlace, leftAt, Follows, IsPath, Stop}
+use Rattle.path_laws.specs.Demand.{HasStart, HasTable, TwoWays, placeAt, lastPlace, leftAt, Follows, IsPath, Stop}
 use Rattle.path_laws.specs.Demand.{atEnd, atGap, NoGap, Ended, Demand3}
 
 in-placeAt : (l : List Simplex) (s : Simplex) → isIn sameSimplex s l ≡ true
@@ -142,7 +142,7 @@ links-distinct : (p : Problem) (a : Simplex) → distinct sameSimplex (links p a
 unfolding links
 links-distinct p a = distinct-filter onSimplices (linked p a) (places p) (places-distinct p)
 
-module _ {p : Problem} (ok : Accepted p) (W : TwoWays p) where
+module _ {p : Problem} (ok : HasTable p) (W : TwoWays p) where
   ways-le : (s : Simplex) → isPlace p s ≡ true → allLabelled p s ≡ true → length (ways p s) ≤ 2
   ways-le s h own =
       ⊎-elim (λ e. let q = simplex-sound s (p .start ∷ []) e in rw q (omega (arith, W .start (rw q at own))))

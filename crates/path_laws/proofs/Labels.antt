@@ -15,9 +15,9 @@ use Rattle.grid_points.specs.Grid.{Point, isGridPoint, points, numIndices, posi
 use Rattle.place.specs.Places.{Simplex, isPlace, allLabelled}
 use Rattle.place.specs.Problem.{Problem, label, hasLabel}
 use Rattle.path_laws.proofs.LinkSymmetry.{parts}
-use Rattle.path_laws.specs.Demand.{Accepted}
+use Rattle.path_laws.specs.Demand.{HasTable}
 
-module _ {p : Problem} (ok : Accepted p) where
+module _ {p : Problem} (ok : HasTable p) where
   pub label-within : (y : Point) → isGridPoint p.grid y ≡ true → label p y ≤ numIndices p.grid
   unfolding label
   label-within y h =

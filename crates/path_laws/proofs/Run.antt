@@ -24,7 +24,7 @@ use Rattle.path_laws.proofs.PathSteps.{linksOn, waysOn-split}
 use Rattle.path_laws.proofs.Simplices.{simplex-sound}
 use Rattle.path_laws.proofs.Theorem.{demand3-holds, run-follows, run-whole}
 use Rattle.path_laws.proofs.Ways.{IsWay, byLink, onWays, in-ways}
-use Rattle.path_laws.specs.Demand.{Accepted, Follows, placeAt, lastPlace, leftAt}
+use Rattle.path_laws.specs.Demand.{HasTable, Follows, placeAt, lastPlace, leftAt}
 
 -- where the first way on is a link there is no end, and where it is an end that is the first
 link-first : (es : List End) (ts : List Simplex) (y : Simplex) → map stop es ++ map link ts ≡ link y ∷ [] → es ≡ []
@@ -37,7 +37,7 @@ end-first [] [] e q = absurd-bool (cc)
 end-first [] (t ∷ ts) e q = absurd-bool (cc)
 end-first (d ∷ ds) ts e q = (ds, cc)
 
-module _ {p : Problem} (ok : Accepted p) {s : List Simplex} (follows : Follows p s) (k : ℕ)
+module _ {p : Problem} (ok : HasTable p) {s : List Simplex} (follows : Follows p s) (k : ℕ)
     (many : length s ≡ suc k) where
   not-back : (l : Option Simplex) (y : Simplex) → (l ≡ some y → ⊥) → isBack l (link y) ≡ false
   not-back none y n = refl

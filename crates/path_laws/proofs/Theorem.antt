@@ -41,7 +41,7 @@ use Rattle.path_laws.proofs.ChainEnds.{complete-to, complete-of, comple
 use Rattle.path_laws.proofs.ChainEnds.{end-complete}
 use Rattle.path_laws.proofs.ChainEnds.{end-labels}
 use Rattle.path_laws.proofs.Ways.{IsWay, byPlace, byFacet, byLink, exactly-one, exactly-two}
-use Rattle.path_laws.specs.Demand.{Accepted, HasStart, TwoWays, NoGap, Demand3, IsPath, Follows, placeAt}
+use Rattle.path_laws.specs.Demand.{HasStart, HasTable, TwoWays, NoGap, Demand3, IsPath, Follows, placeAt}
 use Rattle.path_laws.specs.Demand.{leftAt}
 
 abbrev atPlace : Simplex → ℕ → Way
@@ -293,22 +293,22 @@ module _ {p : Problem} (ok : HasStart p) where
       go s h own ne (suc n) e = two-ways ok s h own (place-long ok s h ∙ ap suc e) (rw e at (labelledChain-of ok s h))
 
 -- demand 3, of every accepted table
-pub demand3-holds : {p : Problem} → Accepted p → Demand3 p
+pub demand3-holds : {p : Problem} → HasTable p → Demand3 p
 demand3-holds {p} ok = demand3 ok (twoWays ok.hasStart)
 
 -- a path that reached an end
-pub ended-path : {p : Problem} → Accepted p → {e : End} → path p .end ≡ some e → IsPath p (path p .visited) e × NoGap p
+pub ended-path : {p : Problem} → HasTable p → {e : End} → path p .end ≡ some e → IsPath p (path p .visited) e × NoGap p
 ended-path ok {e} q = (path-is ok (twoWays ok.hasStart) e q, no-gap ok (twoWays ok.hasStart) e q)
 
 -- a path has no gap exactly if it has an end
-pub gapless : {p : Problem} → Accepted p → NoGap p ↔ ((e : End) × (path p .end ≡ some e))
+pub gapless : {p : Problem} → HasTable p → NoGap p ↔ ((e : End) × (path p .end ≡ some e))
 gapless {p} ok = (ends-known ok (twoWays ok.hasStart), (λ e. no-gap ok (twoWays ok.hasStart) e.0 e.1))
 
 -- what a run that goes from place to place needs: its places are the path's,
-pub run-follows : {p : Problem} → Accepted p → (s : List Simplex) → Follows p s → (i : ℕ) → i < length s
+pub run-follows : {p : Problem} → HasTable p → (s : List Simplex) → Follows p s → (i : ℕ) → i < length s
     → (i < pathLength p) × (placeAt s i ≡ placeAt (path p .visited) i) × (leftAt s i ≡ leftAt (path p .visited) i)
 run-follows {p} ok = follows-path ok (twoWays ok.hasStart)
 
 -- and where they have come to an end or a gap, they are all of them
-pub run-whole : {p : Problem} → Accepted p → (s : List Simplex) → Follows p s → Final p s → s ≡ path p .visited
+pub run-whole : {p : Problem} → HasTable p → (s : List Simplex) → Follows p s → Final p s → s ≡ path p .visited
 run-whole {p} ok = whole-path ok (twoWays ok.hasStart)

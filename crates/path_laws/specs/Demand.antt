@@ -18,7 +18,8 @@ use Rattle.place.specs.Path.{waysOn, path, pathLength, spent, unknown, answer, 
 use Rattle.place.specs.Places.{Simplex, isPlace, allLabelled, unlabelled}
 use Rattle.place.specs.Problem.{Problem, withLabels}
 
--- questions 1 to 5 are answered yes: those about the grid and the start
+-- Questions 1, 2, 3 and 5 are answered yes, those about the grid and the start, and no division is above 60,000. The
+-- number of grid points is not asked for: the laws of the path do not depend on it.
 pub record HasStart (p : Problem) : Type 0 where
   pub someBlock : 1 ≤ numBlocks (p .grid)
   pub sixBlocks : numBlocks (p .grid) ≤ 6
@@ -26,13 +27,20 @@ pub record HasStart (p : Problem) : Type 0 where
   pub sixteenIndices : numIndices (p .grid) ≤ 16
   pub sameNumber : length (p .grid .divisions) ≡ numBlocks (p .grid)
   pub divisions : all (λ d. leb 1 d) (p .grid .divisions) ≡ true
-  pub points : numPoints (p .grid) ≤ 60000
+  pub low : all (λ d. leb d 60000) (p .grid .divisions) ≡ true
   pub start : isGridPoint (p .grid) (p .start) ≡ true
 
+-- on such a grid a label from 0 to m for each grid point, however many there are: what the laws of the path ask for
+pub record HasTable (p : Problem) : Type 0 where
+  pub hasStart : HasStart p
+  pub tableLength : length (p .labels) ≡ numPoints (p .grid)
+  pub labels : all (λ l. leb l (numIndices (p .grid))) (p .labels) ≡ true
+
 -- "A table is accepted if .. a run's questions 1 to 8 are answered yes"; 8 is about the answer buffer only and is not
--- needed here
+-- needed here. That no division is above 60,000 follows from question 4.
 pub record Accepted (p : Problem) : Type 0 where
   pub hasStart : HasStart p
+  pub points : numPoints (p .grid) ≤ 60000
   pub tableLength : length (p .labels) ≡ numPoints (p .grid)
   pub labels : all (λ l. leb l (numIndices (p .grid))) (p .labels) ≡ true
 

@@ -29,6 +29,7 @@ use Rattle.place.specs.LabelsRead.{cameIn}
 use Rattle.place.specs.Path.{answer, path, pathLength, spent, unknown}
 use Rattle.place.specs.Places.{allLabelled}
 use Rattle.place.specs.Problem.{Problem, hasLabel, label}
+use Rattle.path_laws.proofs.Accepted.{accepted-table}
 use Rattle.path_laws.proofs.Filled.{FullyLabelled, ends-alike, filled-full, filled-label, filledTable, further-on}
 use Rattle.path_laws.proofs.Filled.{gap-answer, known-before}
 use Rattle.path_laws.proofs.LabelsRead.{came-few, came-next, came-none}
@@ -133,8 +134,8 @@ module _ (g : GridStruct) (made : IsMade g) (first table : List ℕ) (ok : Accep
       → OnPath (problemIn g first table) (stateOf round first (replicate 16 0) order (replicate 16 0) s) 0
   begins N size order s B = (
     rw (B .rule, B .none, B .empty, B .active)
-        (at-begin (filled-full ok) N first (s .u) size (λ k l. sym (start-at k l)) mask-at),
-    demand3-holds ok .follows .nonempty,
+        (at-begin (filled-full (accepted-table ok)) N first (s .u) size (λ k l. sym (start-at k l)) mask-at),
+    demand3-holds (accepted-table ok) .follows .nonempty,
   )
     where
       m : g .indices ≡ numIndices (shape g)
@@ -167,7 +168,7 @@ pub reads-fit : (g : GridStruct) → IsMade g → (first table : List ℕ) → A
 reads-fit g made first table ok k labels l R =
     let p = problemIn g first table in
     let fits = bound-fits (shape g) (made .accepted) in
-    omega (arith, R, came-few (path (filledTable p) .visited) k, demand3-holds ok .bounded, fits)
+    omega (arith, R, came-few (path (filledTable p) .visited) k, demand3-holds (accepted-table ok) .bounded, fits)
 
 -- one place of the pass: what it needs, and where it leads
 module _ (g : GridStruct) (made : IsMade g) (start table : List ℕ) (ok : Accepted (problemIn g start table)) (s : State)
@@ -176,7 +177,7 @@ module _ (g : GridStruct) (made : IsMade g) (start table : List ℕ) (ok : Accep
   p = problemIn g start table
 
   full : FullyLabelled (filledTable p)
-  full = filled-full ok
+  full = filled-full (accepted-table ok)
 
   A : At (filledTable p) s k
   A = here .0
@@ -193,7 +194,7 @@ module _ (g : GridStruct) (made : IsMade g) (start table : List ℕ) (ok : Accep
           → markOf (tableProblem g table) (pointIn p s (s .active)) ≡ markOf (filledTable p) (pointIn p s (s .active))
       same-mark l = ap
           (λ (x : ℕ). mark (position (shape g) (pointIn p s (s .active))) x)
-          (sym (filled-label ok (pointIn p s (s .active)) l))
+          (sym (filled-label (accepted-table ok) (pointIn p s (s .active)) l))
 
   pub visits : RoundBelow (s .round) → (tails : List ℕ)
       → ((k : ℕ) → k < g .indices → at tails k ≡ sum (map (at start) (upFrom k (g .indices - k))))
@@ -207,7 +208,7 @@ module _ (g : GridStruct) (made : IsMade g) (start table : List ℕ) (ok : Accep
       square = at-exchanged full A;
       beside = λ one.
           let m = made-indices g made in
-          at-beside full A r (sym (made-blocks g made) ∙ one) tails
+          at-beside full A r ok.points (sym (made-blocks g made) ∙ one) tails
           (λ k l. rw (← m)
           (are k (omega arith) ∙ ap sum (sym (map-front start (g .indices) k (g .indices - k) (omega arith)))));
     };
@@ -223,10 +224,10 @@ module _ (g : GridStruct) (made : IsMade g) (start table : List ℕ) (ok : Accep
       before j l ne =
           let w = at-others full A j l ne in
           all-in onPoints (hasLabel p) (placeAt (path (filledTable p) .visited) w.0)
-          (known-before ok w.0 (omega (arith, w .1, here .1))) (pointIn p s j) w.2
+          (known-before (accepted-table ok) w.0 (omega (arith, w .1, here .1))) (pointIn p s j) w.2
 
       came-in : 0 < label (tableProblem g table) (pointIn p s (s .active)) → hasLabel p (pointIn p s (s .active)) ≡ true
-      came-in l = label-ok ok (pointIn p s (s .active)) (at-reads full A .1) l
+      came-in l = label-ok (accepted-table ok) (pointIn p s (s .active)) (at-reads full A .1) l
 
       labelled : (j : ℕ) → j ≤ length (s .order) → hasLabel p (pointIn p s j) ≡ true
       labelled j l = ⊎-elim
@@ -247,7 +248,7 @@ module _ (g : GridStruct) (made : IsMade g) (start table : List ℕ) (ok : Accep
     leads after moved = subst (NextAt (filledTable p) k) (sym (moved ∙ ap makeMove (same-read known))) (at-next full A)
 
     pub goes-on : {e : State} → NextAt (filledTable p) k (goes e) → OnPath p e (suc k)
-    goes-on (nextPlace B) = (B, further-on ok k (here .1) (own known) (at-below full B))
+    goes-on (nextPlace B) = (B, further-on (accepted-table ok) k (here .1) (own known) (at-below full B))
 
     pub reads-on : (labels : ℕ) → HasRead p k labels → {e : State} → NextAt (filledTable p) k (goes e)
         → HasRead p (suc k) (labels + labelsAt (e .rule))
@@ -270,7 +271,8 @@ module _ (g : GridStruct) (made : IsMade g) (start table : List ℕ) (ok : Accep
         few = E .few;
         low = E .low;
         points = E .points;
-        is = rw (q, R) (ends-alike ok k (here .1) (own known) (E .places) budget ∙ ends-answer E budget l);
+        is = rw (q, R)
+            (ends-alike (accepted-table ok) k (here .1) (own known) (E .places) budget ∙ ends-answer E budget l);
       }
 
       pub announced-place : NextAt (filledTable p) k (endsAtPlace last h)
@@ -291,11 +293,11 @@ module _ (g : GridStruct) (made : IsMade g) (start table : List ℕ) (ok : Accep
       let m : isIn samePoint y (placeAt (path (filledTable p) .visited) k) ≡ true = rw (at-place full A)
       (in-map onNumbers onPoints (pointIn p s) (s .active) (upFrom 0 (suc (length (s .order)) - 0))
       (in-upFrom 0 (suc (length (s .order)) - 0) (s .active) (omega arith) (omega arith))) in
-      gap-answer ok k (here .1) y m (without y (U .zero)) budget l ∙ rw (U .at)
+      gap-answer (accepted-table ok) k (here .1) y m (without y (U .zero)) budget l ∙ rw (U .at)
     where
       without : (y : Point) → label p y ≡ 0 → hasLabel p y ≡ false
       without y e = rw e
 
   -- with nothing left the budget is spent
   pub spends : (budget : ℕ) → budget ≤ k → answer p budget ≡ spent budget
-  spends budget l = demand3-holds ok .spends budget .1 (omega (arith, here .1))
+  spends budget l = demand3-holds (accepted-table ok) .spends budget .1 (omega (arith, here .1))

@@ -20,6 +20,7 @@ use Rattle.questions.specs.Questions.{ask, firstNo}
 use Rattle.place.specs.Path.{answer}
 use Rattle.place.specs.Problem.{Problem, withLabels}
 use Rattle.place.specs.Questions.{question7}
+use Rattle.path_laws.proofs.Accepted.{accepted-table}
 use Rattle.path_laws.proofs.Filling.{filling-holds}
 use Rattle.path_laws.specs.Demand.{Accepted, Filling}
 use Rattle.slip_fields.proofs.Laws.{exact, at-first, at-next, length-there, labels-only, labels-last}
@@ -214,7 +215,7 @@ module _ (before labels filling : List ℕ) (F : FilledSlip before labels fillin
   filled : Filling p filling
   filled =
       let new-accepted : Accepted (withLabels p filling) = rw (sym same-problem) (accepted-by new accepted-new yes11) in
-      filling-holds (accepted-by old (F .accepted) (yes .0)) new-accepted (F .fills)
+      filling-holds (accepted-table (accepted-by old (F .accepted) (yes .0))) (accepted-table new-accepted) (F .fills)
 
   printed : (slip : List ℕ) → slipRefusal slip ≡ 0
       → sheetOf slip ≡ answerSheet (slipGrid slip) (answer (slipProblem slip) (slipBudget slip))

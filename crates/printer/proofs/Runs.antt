@@ -13,6 +13,7 @@ use Rattle.combinatorics.proofs.Fronts.{front-length}
 use Rattle.combinatorics.specs.Front.{front}
 use Rattle.combinatorics.specs.Lists.{concatMap}
 use Rattle.end_kinds.specs.declared.Kind.{Kind}
+use Rattle.path_laws.proofs.Accepted.{accepted-table}
 use Rattle.path_laws.proofs.EndPoints.{IsSimplex, end-simplex}
 use Rattle.path_laws.proofs.Theorem.{demand3-holds, gapless}
 use Rattle.path_laws.specs.Demand.{Accepted, Stop, atGap, lastPlace}
@@ -95,7 +96,7 @@ module _ (p : Problem) (budget : ℕ) (old : List ℕ) (large : length old ≡ r
         (answerSheet (p .grid) (answer p budget))
     answered =
         let ok = accepted .0 in
-        let d = demand3-holds ok in
+        let d = demand3-holds (accepted-table ok) in
         let few : suc (dimension (p .grid)) ≤ 16 =
         omega (arith, ok .hasStart .someBlock, ok .hasStart .sixteenIndices) in
         ⊎-elim
@@ -109,11 +110,13 @@ module _ (p : Problem) (budget : ℕ) (old : List ℕ) (large : length old ≡ r
             → Prints (caseOf (answer p budget)) (front (numbersOf (answer p budget)) old)
             (answerSheet (p .grid) (answer p budget))
         stopped l few (some e) q s =
-            let E = demand3-holds (accepted .0) .ended (gapless (accepted .0) .1 (e, q)) in
+            let t = accepted-table (accepted .0) in
+            let E = demand3-holds t .ended (gapless t .1 (e, q)) in
             rw (E .announces budget l)
             (ends (pathLength p) _ (E .end .kind) (suc (E .end .block)) (E .end .simplex) few (accepted .1)
             (end-simplex p (accepted .0 .hasStart) (E .isPath)))
-        stopped l few none q (atGap y g) = rw (demand3-holds (accepted .0) .asks y g budget l) (unknowns _ _ _)
+        stopped l few none q (atGap y g) =
+            rw (demand3-holds (accepted-table (accepted .0)) .asks y g budget l) (unknowns _ _ _)
 
   pub run-prints : Prints (runAnswer p (length old) budget) (runBuffer p budget old) (runSheet p budget)
   unfolding runSheet

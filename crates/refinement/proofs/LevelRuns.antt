@@ -14,6 +14,7 @@ use Rattle.finder.specs.Run.{caseOf, numbersOf}
 use Rattle.finder.specs.declared.answers.RunAnswer.{RunAnswer}
 use Rattle.finder.specs.declared.answers.RunAnswer.the-variants.{Refused, Spent, Unknown, End}
 use Rattle.game_labels.proofs.AllLabels.{labels-length}
+use Rattle.grid_points.proofs.Accepted.{accepted}
 use Rattle.grid_points.specs.Grid.{bound}
 use Rattle.grid.specs.Made.{shape}
 use Rattle.grid.specs.declared.Grid.{Grid as GridStruct}
@@ -48,7 +49,7 @@ module _ (g : GridStruct) (start losses : List ℕ) (labelRoom room : ℕ) (ok :
       let full = game-full (shape g) start losses (ok .made .accepted) (ok .onGrid) in
       record {
         readable = record { made = ok .made; filled = filled; whole = rw is (labels-length (shape g) losses) };
-        accepted = rw is (full-accepted full);
+        accepted = rw is (full-accepted full (accepted (shape g) (ok .made .accepted) .fewPoints));
         room = rw e (ok .enough);
       }
 

@@ -16,13 +16,13 @@ use Rattle.finder.proofs.Refusals.{answered}
 use Rattle.finder.specs.Run.{caseOf, numbersOf, runRefusal, runAnswer, runBuffer}
 use Rattle.grid_points.proofs.Accepted.{accepted}
 use Rattle.combinatorics.proofs.Terms.{terms-few}
-use Rattle.grid_points.specs.Grid.{bound, dimension, isGridPoint, numIndices}
+use Rattle.grid_points.specs.Grid.{bound, dimension, isGridPoint, numIndices, numPoints}
 use Rattle.grid_points.specs.Questions.{gridQuestions, question5}
 use Rattle.place.specs.Path.{PathAnswer, spent, ended, unknown, pathLength}
 use Rattle.place.specs.Problem.{Problem}
 use Rattle.place.specs.Questions.{question8 as runQuestion8, tableQuestions}
 use Rattle.path_laws.proofs.Accepted.{accepted-is}
-use Rattle.path_laws.proofs.Filled.{FullyLabelled, full-accepted}
+use Rattle.path_laws.proofs.Filled.{FullyLabelled, full-accepted, full-table}
 use Rattle.path_laws.proofs.Theorem.{demand3-holds}
 use Rattle.questions.proofs.Answers.{asked-next, both-yes, first-yes}
 use Rattle.questions.specs.Questions.{firstNo}
@@ -72,10 +72,11 @@ numbers-are (ended n read kind block vertices simplex) = refl
 numbers-are (unknown n position) = refl
 
 -- a table without gaps, with room for the answer
-unrefused : {p : Problem} (room : ℕ) → FullyLabelled p → levelRoom (p .grid) ≤ room → runRefusal p room ≡ 0
+unrefused : {p : Problem} (room : ℕ) → FullyLabelled p → numPoints (p .grid) ≤ 60000 → levelRoom (p .grid) ≤ room
+    → runRefusal p room ≡ 0
 unfolding firstNo
-unrefused {p} room full h =
-    asked-next (tableQuestions p) (runQuestion8 (p .grid) room ∷ []) refl (accepted-is (full-accepted full))
+unrefused {p} room full few h =
+    asked-next (tableQuestions p) (runQuestion8 (p .grid) room ∷ []) refl (accepted-is (full-accepted full few))
     ∙ rw (le-leb (levelRoom (p .grid)) room h)
 
 -- what a run with the bound as budget answers and writes
@@ -95,7 +96,7 @@ module _ (r : Refinement) (n : ℕ) (each : (i : ℕ) → i < n → firstNo (gri
   level-holds i h room l =
       let p = levelProblem r i in
       let full = level-full r n each on i h in
-      let none = unrefused room full l in
+      let none = unrefused room full (accepted (levelGrid r i) (each i h) .fewPoints) l in
       let d = run-demand3 p room none in
       let e = d .ended (no-gap full) in
       let own = as-run p room none (replicate room 0) (length-replicate room 0) .0 in
@@ -116,7 +117,7 @@ module _ (r : Refinement) (n : ℕ) (each : (i : ℕ) → i < n → firstNo (gri
   within b (suc k) h =
       omega (
         arith,
-        demand3-holds (full-accepted (level-full r n each on b (omega arith))) .bounded,
+        demand3-holds (full-table (level-full r n each on b (omega arith))) .bounded,
         within (suc b) k
             (omega arith),
       )

@@ -12,7 +12,8 @@ use Rattle.combinatorics.proofs.Basics.{and-both, and-left, and-right}
 use Rattle.combinatorics.proofs.Lists.{all-in, in-all, onNumbers}
 use Rattle.combinatorics.specs.Lists.{all, firstOr, sum}
 use Rattle.game_labels.proofs.AllLabels.{labels-length}
-use Rattle.grid_points.proofs.Accepted.{accepted, blocks-few}
+use Rattle.grid_points.proofs.Accepted.{InLimits, accepted, blocks-at-most}
+use Rattle.grid_points.proofs.CoordinatesBelow.{in-limits}
 use Rattle.grid_points.specs.Grid.{Grid, Point, at, blocks, division, indicesOf, isGridPoint, numIndices}
 use Rattle.grid_points.specs.Questions.{gridQuestions}
 use Rattle.game_losses.specs.Game.{labels}
@@ -20,7 +21,7 @@ use Rattle.place.specs.Path.{path}
 use Rattle.place.specs.Places.{Simplex}
 use Rattle.place.specs.Problem.{Problem}
 use Rattle.path_laws.proofs.EndPoints.{IsSimplex, end-simplex}
-use Rattle.path_laws.proofs.Filled.{FullyLabelled, full-accepted, full-place}
+use Rattle.path_laws.proofs.Filled.{FullyLabelled, full-table, full-place}
 use Rattle.path_laws.proofs.Theorem.{demand3-holds}
 use Rattle.path_laws.specs.Demand.{Ended, NoGap, placeAt}
 use Rattle.questions.specs.Questions.{firstNo}
@@ -52,10 +53,10 @@ module _ (k : ℕ) (g : Grid) where
 -- the run of a table without gaps
 module _ {p : Problem} (ok : FullyLabelled p) where
   pub no-gap : NoGap p
-  no-gap i h = full-place ok (placeAt (path p .visited) i) (demand3-holds (full-accepted ok) .follows .places i h)
+  no-gap i h = full-place ok (placeAt (path p .visited) i) (demand3-holds (full-table ok) .follows .places i h)
 
   pub full-ended : Ended p
-  full-ended = demand3-holds (full-accepted ok) .ended no-gap
+  full-ended = demand3-holds (full-table ok) .ended no-gap
 
   -- it reaches the end of its path, a simplex of the grid
   pub vertices-are : answerVertices (endOf p) ≡ full-ended .end .simplex
@@ -72,13 +73,11 @@ module _ {p : Problem} (ok : FullyLabelled p) where
       go [] l a = absurd (omega arith)
       go (y ∷ s) l a = and-left (isGridPoint (p .grid) y) (all (isGridPoint (p .grid)) s) a
 
--- an accepted grid, a start on it and a game
-pub game-full : (g : Grid) (start : Point) (losses : List ℕ) → firstNo (gridQuestions g) ≡ 0
-    → isGridPoint g start ≡ true
+-- a grid, a start on it and a game
+pub full-game : (g : Grid) (start : Point) (losses : List ℕ) → InLimits g → isGridPoint g start ≡ true
     → FullyLabelled (gameProblem g start losses)
-game-full g start losses e on =
-    let a = accepted g e in
-    let some : 1 ≤ numIndices g = omega (arith, a .someBlock, blocks-few g a) in
+full-game g start losses a on =
+    let some : 1 ≤ numIndices g = omega (arith, a .someBlock, blocks-at-most (g .sizes) (a .sizesTwo)) in
     record {
       hasStart = record {
         someBlock = a .someBlock;
@@ -87,12 +86,17 @@ game-full g start losses e on =
         sixteenIndices = a .fewIndices;
         sameNumber = a .sameNumber;
         divisions = a .divisionsOne;
-        points = a .fewPoints;
+        low = a .low;
         start = on;
       };
       tableLength = labels-length g losses;
       labels = labels-range g some losses;
     }
+
+pub game-full : (g : Grid) (start : Point) (losses : List ℕ) → firstNo (gridQuestions g) ≡ 0
+    → isGridPoint g start ≡ true
+    → FullyLabelled (gameProblem g start losses)
+game-full g start losses e on = full-game g start losses (in-limits g (accepted g e)) on
 
 -- the levels of a refinement whose grids are accepted
 module _ (r : Refinement) (n : ℕ) (each : (i : ℕ) → i < n → firstNo (gridQuestions (levelGrid r i)) ≡ 0)

@@ -22,13 +22,14 @@ use Rattle.geometry.proofs.Search.{block-back}
 use Rattle.geometry.proofs.Points.{nth}
 use Rattle.geometry.proofs.LabelledChains.{listAt, LabelledChain, FacetEnd, PlaceEnd}
 use Rattle.grid_points.proofs.Points.{onPoints}
-use Rattle.grid_points.specs.Grid.{at, numBlocks, numIndices, dimension, blockOf, isGridPoint, position, samePoint}
+use Rattle.grid_points.specs.Grid.{at, numBlocks, numIndices, numPoints, dimension, blockOf, isGridPoint, position}
+use Rattle.grid_points.specs.Grid.{samePoint}
 use Rattle.path_laws.proofs.BlocksOfGrid.{blocksOf, back-below, pointOf, coefficientOf, coord-in, coord-out}
 use Rattle.path_laws.proofs.BlocksOfGrid.{coefficientOf-is}
 use Rattle.path_laws.proofs.Bound.{order-short}
 use Rattle.path_laws.proofs.ChainEnds.{complete-of, complete-below, end-below, end-complete, end-labels}
 use Rattle.path_laws.proofs.ChainLinks.{of-link}
-use Rattle.path_laws.proofs.Filled.{FullyLabelled, full-accepted, full-place}
+use Rattle.path_laws.proofs.Filled.{FullyLabelled, full-table, full-place}
 use Rattle.path_laws.proofs.FromChain.{back-again, place-of, long, pointsOf-grid, T-is, in-U}
 use Rattle.path_laws.proofs.LabelsRead.{link-brings}
 use Rattle.path_laws.proofs.LinkSymmetry.{parts}
@@ -284,10 +285,10 @@ module _ {p : Problem} (ok : FullyLabelled p) where
   at-first A = A.stands.describes.firstLength
 
   pub at-below : {s : State} {k : ℕ} → At p s k → k < pathLength p
-  at-below {k} A = below-length (full-accepted ok) A.follows k A.many
+  at-below {k} A = below-length (full-table ok) A.follows k A.many
 
   pub at-spent : {s : State} {k : ℕ} → At p s k → (budget : ℕ) → budget ≤ k → answer p budget ≡ spent budget
-  at-spent {s} {k} A budget l = demand3-holds (full-accepted ok) .spends budget .1 (omega (arith, at-below A))
+  at-spent {s} {k} A budget l = demand3-holds (full-table ok) .spends budget .1 (omega (arith, at-below A))
 
 -- a place to which a link has led is one at which a state stands
 abbrev pub reached-stands : {p : Problem} {x : List (ℕ → ℕ)} {s : State} {y : List (ℕ → ℕ)} → Reached p x s y
@@ -408,10 +409,10 @@ module _ {p : Problem} (ok : FullyLabelled p) {s : State} (A : Stands p s) where
       }
 
   -- in a grid of one block: the steps to and from the point whose label is to be read
-  pub stands-beside : s .rule < 6 → numBlocks p.grid ≡ 1 → (tails : List ℕ)
+  pub stands-beside : s .rule < 6 → numPoints p.grid ≤ 60000 → numBlocks p.grid ≡ 1 → (tails : List ℕ)
       → ((k : ℕ) → k < numIndices p.grid → at tails k ≡ tailFrom p.grid p.start k)
       → FallsBeside p.grid tails s
-  stands-beside r one tails are = go A.left A.came
+  stands-beside r fewPoints one tails are = go A.left A.came
     where
       go : (left : Option (List (ℕ → ℕ))) → Came p A.T A.t A.x s left → FallsBeside p.grid tails s
       go _ (begins e u q) = record {
@@ -424,17 +425,18 @@ module _ {p : Problem} (ok : FullyLabelled p) {s : State} (A : Stands p s) where
           let mark = marked-position b in
           let lag : (i : ℕ) → i ≤ A .t → (i ≡ s .active → ⊥) → 0 < s .active
           → listAt A.x i 0 ≡ listAt A.x 0 0 + above s i = λ i a u v.
-          rw (mark i a u, mark 0 (omega arith) (λ z. omega arith)) (lag-is ok one D i a) in
+          rw (mark i a u, mark 0 (omega arith) (λ z. omega arith)) (lag-is ok fewPoints one D i a) in
           record {
             nearMark = λ a. mark (s .active - 1) (omega arith) (λ z. omega arith);
             farMark = λ a. mark (suc s.active) (omega (arith, D .orderLength)) (λ z. omega arith);
-            fromNear = λ a c. falling ok one D (s .active - 1) (omega arith) c tails are _
+            fromNear = λ a c. falling ok fewPoints one D (s .active - 1) (omega arith) c tails are _
                 (lag (s .active - 1) (omega arith) (λ z. omega arith) a);
             toFar = λ a c.
                 let f : s .active < A .t = omega (arith, D .orderLength) in
-                falling ok one D s.active f c tails are (cond (ltb 0 s.active) (above s (suc s.active)) 0) (⊎-elim
+                falling ok fewPoints one D s.active f c tails are (cond (ltb 0 s.active) (above s (suc s.active)) 0)
+                (⊎-elim
                 (λ (z : 0 < s .active). rw (lt-ltb 0 s.active z)
-                (sym (first-same ok one D s.active f c) ∙ lag (suc s.active) f (λ u. omega arith) z))
+                (sym (first-same ok fewPoints one D s.active f c) ∙ lag (suc s.active) f (λ u. omega arith) z))
                 (λ (z : s .active ≤ 0).
                 let y : s .active ≡ 0 = omega arith in
                 rw (le-ltb 0 s.active z, y) (omega arith))
@@ -456,14 +458,14 @@ module _ {p : Problem} (ok : FullyLabelled p) {s : State} {k : ℕ} (A : At p s 
   pub at-exchanged : s .rule ≡ 1 → 0 < s .active → s .active < length s.order → Exchanged p.grid s
   at-exchanged = stands-exchanged ok A.stands
 
-  pub at-beside : s .rule < 6 → numBlocks p.grid ≡ 1 → (tails : List ℕ)
+  pub at-beside : s .rule < 6 → numPoints p.grid ≤ 60000 → numBlocks p.grid ≡ 1 → (tails : List ℕ)
       → ((k : ℕ) → k < numIndices p.grid → at tails k ≡ tailFrom p.grid p.start k)
       → FallsBeside p.grid tails s
   at-beside = stands-beside ok A.stands
 
   -- "T and U are sets of at most 16 indices": bit h of each mask says whether index h is in the set of the path's place
   on-path : placeAt (path p .visited) k ≡ pointsOf p A.stands.x
-  on-path = sym (run-follows (full-accepted ok) A.places A.follows k (omega (arith, A .many)) .1) ∙ A .here
+  on-path = sym (run-follows (full-table ok) A.places A.follows k (omega (arith, A .many)) .1) ∙ A .here
 
   pub at-T : (h : ℕ) → h < 16 → bit s.T h ≡ isIn eqb h (setT p (placeAt (path p .visited) k))
   at-T h l = rw on-path
@@ -487,12 +489,12 @@ module _ {p : Problem} (ok : FullyLabelled p) {s : State} {k : ℕ} (A : At p s 
 
   move : Onward ok A.stands.T A.stands.t A.stands.o A.stands.x (read p s) A.stands.left
   move = onward ok A.stands.T A.stands.o A.stands.x s A.stands.t A.stands.describes A.stands.came (λ l q e.
-      not-start (full-accepted ok) A.follows k A.many (pointsOf p l) (left-of p A.stands.left _ A.before l q)
+      not-start (full-table ok) A.follows k A.many (pointsOf p l) (left-of p A.stands.left _ A.before l q)
       (A .here ∙ single ok.hasStart _ (place-of ok.hasStart A.stands.describes.chain) (here-place .0 ∙ ap suc e)))
 
   -- the path's place is that of the state
   pub at-place : placeAt (path p .visited) k ≡ pointsFrom p s 0
-  at-place = sym (run-follows (full-accepted ok) A.places A.follows k (omega (arith, A .many)) .1)
+  at-place = sym (run-follows (full-table ok) A.places A.follows k (omega (arith, A .many)) .1)
       ∙ A .here
       ∙ sym (all-points ok described)
 
@@ -513,7 +515,7 @@ module _ {p : Problem} (ok : FullyLabelled p) {s : State} {k : ℕ} (A : At p s 
       go zero q e = absurd-bool (cc)
       go (suc h) q e =
           let z : placeAt A.places h ≡ pointsOf p w.0 = cc in
-          let f = run-follows (full-accepted ok) A.places A.follows h (omega (arith, A .many)) .1 in
+          let f = run-follows (full-table ok) A.places A.follows h (omega (arith, A .many)) .1 in
           let y : pointIn p s j ≡ nth (pointsOf p w.0) w.2 = point-is ok described j low
           ∙ nth-pointsOf p A.stands.x j (omega (arith, described .chain .size))
           ∙ ap (pointOf p) (sym w.4)
@@ -536,7 +538,7 @@ module _ {p : Problem} (ok : FullyLabelled p) {s : State} {k : ℕ} (A : At p s 
       record {
         places = A .places ++ (pointsOf p y ∷ []);
         many = length-append A.places (pointsOf p y ∷ []) ∙ omega (arith, A .many);
-        follows = goes-on (full-accepted ok) A.follows k A.many here-labelled (pointsOf p y) L.0 joined
+        follows = goes-on (full-table ok) A.follows k A.many here-labelled (pointsOf p y) L.0 joined
             (λ q. new (left-determines p A.stands.left _ A.before y L.2 q));
         stands = reached-stands R;
         here = getD-at A.places (pointsOf p y) [] [] (suc k) A.many;
@@ -555,7 +557,7 @@ module _ {p : Problem} (ok : FullyLabelled p) {s : State} {k : ℕ} (A : At p s 
       → EndsAt p kind from (read p s) h k
   ends-at kind from points h b c w =
       let D = move .describes in
-      let r = ends-path (full-accepted ok) A.follows k A.many here-labelled
+      let r = ends-path (full-table ok) A.follows k A.many here-labelled
       (record { kind = kind; block = blockOf p.grid h; simplex = points }) (rw A.here w.1) in
       record {
         firstLength = D .firstLength;
@@ -589,7 +591,7 @@ pub at-new : {p : Problem} → FullyLabelled p → {s : State} {k : ℕ} → At 
 at-new {p} ok {s} {k} A = go A.stands.left refl A.before
   where
     here : (i : ℕ) → i ≤ suc k → placeAt A.places i ≡ placeAt (path p .visited) i
-    here i l = run-follows (full-accepted ok) A.places A.follows i (omega (arith, A .many)) .1
+    here i l = run-follows (full-table ok) A.places A.follows i (omega (arith, A .many)) .1
 
     go : (left : Option (List (ℕ → ℕ))) → A .stands .left ≡ left → LeftIs p left (some (placeAt A.places k))
         → pointCameIn (placeAt (path p .visited) k) (placeAt (path p .visited) (suc k)) ≡ ltb (s .rule) 6

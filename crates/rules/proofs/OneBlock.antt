@@ -16,10 +16,10 @@ use Rattle.geometry.proofs.Chains.{rise, one-more-at-most, before-raise, free-z
 use Rattle.geometry.proofs.Definitions.{Grid as OnRing, back, coord, zeros, BackOutside, OnRun}
 use Rattle.geometry.proofs.LabelledChains.{listAt}
 use Rattle.geometry.proofs.Moves.{next-else}
-use Rattle.grid_points.proofs.Accepted.{Accepted as GridAccepted}
 use Rattle.grid_points.proofs.Round.{next-at, next-round}
-use Rattle.grid_points.specs.Grid.{Point, at, numBlocks, numIndices, firstIndex, isGridPoint, position}
+use Rattle.grid_points.specs.Grid.{Point, at, numBlocks, numIndices, numPoints, firstIndex, isGridPoint, position}
 use Rattle.place.specs.Problem.{Problem}
+use Rattle.path_laws.proofs.Accepted.{accepted-grid}
 use Rattle.path_laws.proofs.BlocksOfGrid.{blocksOf, next-agrees, start-inside}
 use Rattle.path_laws.specs.Demand.{HasStart}
 use Rattle.path_laws.proofs.Filled.{FullyLabelled}
@@ -32,30 +32,19 @@ use Rattle.rules.proofs.WaysRound.{in-block, source-from}
 use Rattle.rules.specs.Read.{pointIn, stepAt, sourceAt, Falling}
 use Rattle.rules.specs.Moves.{State, sourceIn}
 
-grid-accepted : (p : Problem) → HasStart p → GridAccepted p.grid
-grid-accepted p ok = record {
-  someBlock = ok .someBlock;
-  fewBlocks = ok .sixBlocks;
-  sizesTwo = ok .sizes;
-  fewIndices = ok .sixteenIndices;
-  sameNumber = ok .sameNumber;
-  divisionsOne = ok .divisions;
-  fewPoints = ok .points;
-}
-
-module _ (p : Problem) (ok : HasStart p) (one : numBlocks p.grid ≡ 1) where
+module _ (p : Problem) (ok : HasStart p) (fewPoints : numPoints p.grid ≤ 60000) (one : numBlocks p.grid ≡ 1) where
   next-up : (k : ℕ) → suc k < numIndices p.grid → blocksOf p .next k ≡ suc k
   next-up k l =
       let z : firstIndex p.grid 0 + k ≡ k = omega arith in
       next-agrees p k (omega arith)
-      ∙ (rw z at (next-at p.grid 0 k (omega (arith, all-indices p.grid (grid-accepted p ok) one))))
+      ∙ (rw z at (next-at p.grid 0 k (omega (arith, all-indices p.grid (accepted-grid ok fewPoints) one))))
       ∙ omega arith
 
   next-first : (k : ℕ) → suc k ≡ numIndices p.grid → blocksOf p .next k ≡ 0
   next-first k l =
       let z : firstIndex p.grid 0 + k ≡ k = omega arith in
       next-agrees p k (omega arith)
-      ∙ (rw z at (next-round p.grid 0 k (omega (arith, all-indices p.grid (grid-accepted p ok) one))))
+      ∙ (rw z at (next-round p.grid 0 k (omega (arith, all-indices p.grid (accepted-grid ok fewPoints) one))))
       ∙ omega arith
 
   back-down : (n h : ℕ) → n ≤ h → h < numIndices p.grid → back (blocksOf p .previous) n h ≡ h - n
@@ -113,7 +102,7 @@ module _ (p : Problem) (ok : HasStart p) (one : numBlocks p.grid ≡ 1) where
       (λ (n : ℕ). sum (map (at y) (upFrom k n)) + c 0 ≡ sum (map (at p.start) (upFrom k n)) + c k)
       e (tail-by y c grid are (numIndices p.grid - suc k) k (omega arith))
 
-module _ {p : Problem} (ok : FullyLabelled p) (one : numBlocks p.grid ≡ 1)
+module _ {p : Problem} (ok : FullyLabelled p) (fewPoints : numPoints p.grid ≤ 60000) (one : numBlocks p.grid ≡ 1)
     {T : ℕ → Bool} {t : ℕ} {o : ℕ → ℕ} {x : List (ℕ → ℕ)} {s : State} (D : Describes p T t o x s) where
   on-grid : (i : ℕ) → i ≤ t → isGridPoint p.grid (pointIn p s i) ≡ true
   on-grid i l = rw (point-is ok D i l) (point-on ok D.chain i l)
@@ -125,7 +114,8 @@ module _ {p : Problem} (ok : FullyLabelled p) (one : numBlocks p.grid ≡ 1)
   tail-at : (i : ℕ) → i ≤ t → (k : ℕ) → k < numIndices p.grid
       → tailFrom p.grid (pointIn p s i) k + listAt x i 0 ≡ tailFrom p.grid p.start k + listAt x i k
   tail-at i l k m =
-      tail-is p ok.hasStart one (pointIn p s i) (listAt x i) (D .chain .chain .grid i l) (coordinate-is i l) k m
+      tail-is p ok.hasStart fewPoints one (pointIn p s i) (listAt x i) (D .chain .chain .grid i l) (coordinate-is i l)
+      k m
 
   -- the first index's coefficient is 1 more than at the first point where the position is above the first's, and the
   -- same elsewhere
@@ -137,13 +127,13 @@ module _ {p : Problem} (ok : FullyLabelled p) (one : numBlocks p.grid ≡ 1)
       let most = one-more-at-most K i l in
       ⊎-elim
       (λ (q : listAt x 0 0 < listAt x i 0).
-      let low = tails-order p.grid (grid-accepted p ok.hasStart) one (pointIn p s i) (pointIn p s 0) (on-grid i l)
-      (on-grid 0 (omega arith))
+      let low = tails-order p.grid (accepted-grid ok.hasStart fewPoints) one (pointIn p s i) (pointIn p s 0)
+      (on-grid i l) (on-grid 0 (omega arith))
       (λ k m. omega (arith, tail-at i l k m, tail-at 0 (omega arith) k m, most k, most 0)) in
       rw (lt-ltb (position p.grid (pointIn p s 0)) (position p.grid (pointIn p s i)) (omega (arith, low, apart q)))
       (omega (arith, most 0)))
       (λ (q : listAt x i 0 ≤ listAt x 0 0).
-      let low = tails-order p.grid (grid-accepted p ok.hasStart) one (pointIn p s 0) (pointIn p s i)
+      let low = tails-order p.grid (accepted-grid ok.hasStart fewPoints) one (pointIn p s 0) (pointIn p s i)
       (on-grid 0 (omega arith)) (on-grid i l)
       (λ k m. omega (arith, tail-at i l k m, tail-at 0 (omega arith) k m, up k, up 0)) in
       rw (le-ltb (position p.grid (pointIn p s 0)) (position p.grid (pointIn p s i)) low) (omega (arith, up 0)))
@@ -154,7 +144,7 @@ module _ {p : Problem} (ok : FullyLabelled p) (one : numBlocks p.grid ≡ 1)
           let K = D .chain .chain in
           let f = K .free 0 in
           let low : f .0 < numIndices p.grid = in-block ok D.round 0 f.0 (omega (arith, few ok D.chain)) f.1 in
-          let same = position-tells p.grid (grid-accepted p ok.hasStart) (pointIn p s 0) (pointIn p s i)
+          let same = position-tells p.grid (accepted-grid ok.hasStart fewPoints) (pointIn p s 0) (pointIn p s i)
           (on-grid 0 (omega arith)) (on-grid i l) e in
           omega (
             arith,
@@ -184,7 +174,7 @@ module _ {p : Problem} (ok : FullyLabelled p) (one : numBlocks p.grid ≡ 1)
     pub first-same : listAt x (suc j) 0 ≡ listAt x j 0
     first-same = ⊎-elim
         (λ e. e)
-        (λ r. absurd (first-kept p ok.hasStart one low (source .2) not-round r))
+        (λ r. absurd (first-kept p ok.hasStart fewPoints one low (source .2) not-round r))
         (next-else (D .chain .chain) j l (source .2) 0)
 
     falls-at : Falls p.grid (pointIn p s j) (pointIn p s (suc j)) (stepAt s j) (sourceAt s j)
@@ -198,7 +188,7 @@ module _ {p : Problem} (ok : FullyLabelled p) (one : numBlocks p.grid ≡ 1)
       before = before;
       between = λ k u w. coordinate-is j (omega arith) k (omega (arith, low, order-at))
           ∙ chain-place (D .chain .chain) .unused k
-          (passed-over p ok.hasStart one low (source .2) not-round k
+          (passed-over p ok.hasStart fewPoints one low (source .2) not-round k
           (omega (arith, source .3, ap (sourceIn s) order-at)) (omega (arith, order-at)))
           j (omega arith);
       tail = refl;

@@ -8,7 +8,7 @@ use native.Mathlib.Omega.{arith}
 use Rattle.geometry.proofs.Definitions.{coord}
 use Rattle.geometry.proofs.LabelledChains.{listAt, LabelledChain}
 use Rattle.geometry.proofs.Points.{nth}
-use Rattle.grid_points.proofs.CoordinatesBelow.{coordinate-below, division-below}
+use Rattle.grid_points.proofs.CoordinatesBelow.{coordinate-low, division-low}
 use Rattle.grid_points.specs.Grid.{Point, numIndices, isGridPoint}
 use Rattle.place.specs.Problem.{Problem, label}
 use Rattle.path_laws.proofs.BlocksOfGrid.{blocksOf, pointOf}
@@ -50,24 +50,22 @@ module _ {p : Problem} (ok : FullyLabelled p) {T : ℕ → Bool} {t : ℕ} {o : 
   pub point-on : (j : ℕ) → j ≤ t → isGridPoint p.grid (nth (pointsOf p x) j) ≡ true
   point-on j l = grid-at ok.hasStart (pointsOf p x) (pointsOf-grid ok.hasStart S) j (omega (arith, long ok.hasStart S))
 
-  pub coord-below : (j : ℕ) → j ≤ t → (k : ℕ) → k < numIndices p.grid → coord (blocksOf p) (listAt x j) k < 60000
+  pub coord-below : (j : ℕ) → j ≤ t → (k : ℕ) → k < numIndices p.grid → coord (blocksOf p) (listAt x j) k ≤ 60000
   coord-below j l k m =
       omega (
         arith,
         coord-as ok.hasStart S j l k m,
-        coordinate-below p.grid ok.hasStart.sizes ok.hasStart.sameNumber _ (point-on j l) k,
-        ok .hasStart .points,
+        coordinate-low p.grid 60000 ok.hasStart.low ok.hasStart.sameNumber _ (point-on j l) k,
       )
 
-  pub coefficient-below : (j : ℕ) → j ≤ t → (k : ℕ) → listAt x j k < 60000
+  pub coefficient-below : (j : ℕ) → j ≤ t → (k : ℕ) → listAt x j k ≤ 60000
   coefficient-below j l k =
       let w = coefficients-at-most p _ ok.hasStart.sameNumber ok.hasStart.start (point-on j l) k in
       omega (
         arith,
         w .1,
         ap (λ (c : ℕ → ℕ). c k) (coefficient-at ok.hasStart S j (omega (arith, S .size))),
-        division-below p.grid ok.hasStart.sizes ok.hasStart.sameNumber w.0,
-        ok .hasStart .points,
+        division-low 60000 p.grid.divisions ok.hasStart.low w.0,
       )
 
   index-of : (j : ℕ) → j ≤ t → labelsOf p x j ≡ indexOf (numIndices p.grid) (label p (nth (pointsOf p x) j))

@@ -15,9 +15,10 @@ use Rattle.grid_points.specs.Grid.{numBlocks, numIndices, dimension, bound}
 use Rattle.place.specs.Path.{path}
 use Rattle.place.specs.Places.{Simplex, isUnlabelledPlace}
 use Rattle.place.specs.Problem.{Problem, withLabels}
+use Rattle.path_laws.proofs.Accepted.{accepted-table}
 use Rattle.path_laws.proofs.LinkSymmetry.{unlabelled-of, unlabelled-parts}
 use Rattle.path_laws.proofs.Theorem.{demand3-holds, run-follows}
-use Rattle.path_laws.specs.Demand.{HasStart, Accepted, Follows, placeAt, lastPlace}
+use Rattle.path_laws.specs.Demand.{HasStart, HasTable, Accepted, Follows, placeAt, lastPlace}
 use Rattle.trail.proofs.LinkRules.{rule-of-link}
 use Rattle.trail.proofs.Reading.{begins-self, move-of, reads-on, reads-none, without-labels}
 use Rattle.trail.proofs.LabelsRead.{read-back}
@@ -137,7 +138,7 @@ run-trail {p} ok s F = trails p ok.sameNumber s F.nonempty F.begins (record {
 })
 
 -- so the path itself
-pub path-trail : {p : Problem} → Accepted p → Trails p (path p .visited)
+pub path-trail : {p : Problem} → HasTable p → Trails p (path p .visited)
 path-trail {p} ok = run-trail ok.hasStart (path p .visited) (demand3-holds ok .follows)
 
 -- the length of a run's trail fits 64 bits
@@ -146,7 +147,7 @@ unfolding bound
 trail-fits {p} ok s F =
     let g = p .grid in
     let k = ok .hasStart in
-    let last = run-follows ok s F (pred (length s)) (omega (arith, F .nonempty)) .0 in
-    let most : bound g ≤ 60000 * 35951249665217 = mul-le-mul k.points
+    let last = run-follows (accepted-table ok) s F (pred (length s)) (omega (arith, F .nonempty)) .0 in
+    let most : bound g ≤ 60000 * 35951249665217 = mul-le-mul ok.points
     (terms-few (numIndices g) (dimension g) k.sixteenIndices (omega (arith, k .sixteenIndices, k .someBlock))) in
-    omega (arith, run-trail k s F .short, F .nonempty, last, demand3-holds ok .bounded)
+    omega (arith, run-trail k s F .short, F .nonempty, last, demand3-holds (accepted-table ok) .bounded)

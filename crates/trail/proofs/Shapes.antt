@@ -113,7 +113,7 @@ module _ {p : Problem} (ok : HasStart p) where
   T-long s h =
       let w = some-table ok s h 0 0 (not-empty s h) (some-index ok) in
       let q = withLabels p w.0 in
-      let hasStart = w .1 .accepted .hasStart in
+      let hasStart = w .1 .hasTable .hasStart in
       let e : setT q s ≡ setT p s = T-alike p w.0 s in
       let place = w .1 .place in
       omega (

@@ -25,7 +25,7 @@ use Rattle.path_laws.proofs.Meaning.{T-means, labels-mean}
 use Rattle.path_laws.proofs.Positions.{set-of, at-in, in-at, same-at}
 use Rattle.path_laws.proofs.ToChain.{inT}
 use Rattle.path_laws.proofs.LinkSymmetry.{unlabelled-of, unlabelled-parts}
-use Rattle.path_laws.specs.Demand.{HasStart, Accepted}
+use Rattle.path_laws.specs.Demand.{HasStart, HasTable}
 use Rattle.trail.proofs.LinkRules.{rule-of-link}
 use Rattle.trail.proofs.Outside.{in-outside, outside-in, outside-count}
 use Rattle.trail.proofs.Reading.{T-alike, place-alike, change-alike, move-of}
@@ -209,7 +209,7 @@ module _ {p : Problem} (ok : HasStart p) where
 
   -- each move is a link over some table, without a gap,
   pub move-links : (a b : Simplex) → isUnlabelledPlace p a ≡ true → isMove p a b ≡ true
-      → (labels : List ℕ) × LinkOver p a b labels × Accepted (withLabels p labels)
+      → (labels : List ℕ) × LinkOver p a b labels × HasTable (withLabels p labels)
       × (allLabelled (withLabels p labels) a ≡ true)
   move-links a b ha m = go (shape-of ok a b ha M)
     where
@@ -220,19 +220,19 @@ module _ {p : Problem} (ok : HasStart p) where
       on = unlabelled-parts p a ha .gridPoints
 
       go : Shape p a b
-          → (labels : List ℕ) × LinkOver p a b labels × Accepted (withLabels p labels)
+          → (labels : List ℕ) × LinkOver p a b labels × HasTable (withLabels p labels)
           × (allLabelled (withLabels p labels) a ≡ true)
       go (exchange y z come out e) =
           let i = number-of a b out in
           let t = some-table ok a ha i.0 0 i.1 (some-index ok) in
-          (t .0, exchange-links a b ha M.place i.1 t.1 out i.2 come e, t .1 .accepted, t .1 .known a on)
+          (t .0, exchange-links a b ha M.place i.1 t.1 out i.2 come e, t .1 .hasTable, t .1 .known a on)
       go (joins y g come out T) =
           let t = some-table ok a ha 0 g (not-empty ok a ha) (T-means p b g .0 T.has .0) in
-          (t .0, join-links a b ha M.place (not-empty ok a ha) t.1 come out T, t .1 .accepted, t .1 .known a on)
+          (t .0, join-links a b ha M.place (not-empty ok a ha) t.1 come out T, t .1 .hasTable, t .1 .known a on)
       go (leaves z g come out T) =
           let i = number-of a b out in
           let t = some-table ok a ha i.0 0 i.1 (some-index ok) in
-          (t .0, leave-links a b ha M.place i.1 t.1 out i.2 come T, t .1 .accepted, t .1 .known a on)
+          (t .0, leave-links a b ha M.place i.1 t.1 out i.2 come T, t .1 .hasTable, t .1 .known a on)
 
   -- and each link from a place whose points have labels is a move
   pub link-moves : (labels : List ℕ) (a b : Simplex) → LinkOver p a b labels

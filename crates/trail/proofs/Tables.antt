@@ -30,7 +30,7 @@ use Rattle.path_laws.proofs.Meaning.{T-means, labels-mean}
 use Rattle.path_laws.proofs.Positions.{at-in, in-at, occurs-in, order-long}
 use Rattle.path_laws.proofs.ToChain.{size-positive}
 use Rattle.path_laws.proofs.LinkSymmetry.{unlabelled-parts}
-use Rattle.path_laws.specs.Demand.{HasStart, Accepted}
+use Rattle.path_laws.specs.Demand.{HasStart, HasTable}
 use Rattle.trail.proofs.Reading.{T-alike, place-alike}
 use Rattle.trail.proofs.Tells.{at-position}
 
@@ -82,7 +82,7 @@ has-start-with ok labels = record {
   sixteenIndices = ok .sixteenIndices;
   sameNumber = ok .sameNumber;
   divisions = ok .divisions;
-  points = ok .points;
+  low = ok .low;
   start = ok .start;
 }
 
@@ -102,10 +102,10 @@ module _ {p : Problem} (ok : HasStart p) (s : Simplex) (on : all (isGridPoint p.
   given-in : (y : Point) → (1 ≤ given s ls y) × (given s ls y ≤ numIndices p.grid)
   given-in = given-names (numIndices p.grid) (some-index ok) s ls names
 
-  -- it has a label for every grid point, and is accepted
-  pub table-accepted : Accepted (withLabels p (table p.grid s ls))
+  -- it has a label for every grid point
+  pub is-table : HasTable (withLabels p (table p.grid s ls))
   unfolding table
-  table-accepted = record {
+  is-table = record {
     hasStart = has-start-with ok (map (given s ls) (points p.grid));
     tableLength = length-map (points p.grid) (given s ls);
     labels = in-all onNumbers (λ l. leb l (numIndices p.grid)) (map (given s ls) (points p.grid)) (λ l m.
@@ -162,7 +162,7 @@ in-order p s h k m = occurs-in k (order p.grid s)
 -- A table over which s is a place, its points but point i carry T, and point i has label x: over it point i may leave,
 -- and x, if not in T, joins.
 pub record Labelled (p : Problem) (s : Simplex) (i x : ℕ) (labels : List ℕ) : Type 0 where
-  pub accepted : Accepted (withLabels p labels)
+  pub hasTable : HasTable (withLabels p labels)
   pub full : FullyLabelled (withLabels p labels)
   pub known : (r : Simplex) → all (isGridPoint p.grid) r ≡ true → allLabelled (withLabels p labels) r ≡ true
   pub place : isPlace (withLabels p labels) s ≡ true
@@ -282,7 +282,7 @@ module _ {p : Problem} (ok : HasStart p) (s : Simplex) (h : isUnlabelledPlace p 
   some-table = (
     table p.grid s ls,
     record {
-      accepted = table-accepted ok s on d ls ls-long names;
+      hasTable = is-table ok s on d ls ls-long names;
       full = table-full ok s on d ls ls-long names;
       known = table-labelled ok s on d ls ls-long names;
       place = and-both _ _ (place-alike p (table p.grid s ls) s ∙ h)

@@ -19,11 +19,12 @@ use Rattle.combinatorics.proofs.Ranges.{in-upFrom, upFrom-in}
 use Rattle.combinatorics.specs.Front.{front}
 use Rattle.combinatorics.specs.Lists.{isIn, upFrom}
 use Rattle.end_kinds.specs.declared.Kind.{Kind}
+use Rattle.path_laws.proofs.Accepted.{accepted-table}
 use Rattle.path_laws.proofs.Filled.{beside, filled-full, filledTable}
 use Rattle.path_laws.proofs.Labels.{label-ok}
 use Rattle.path_laws.proofs.LinkSymmetry.{parts}
 use Rattle.path_laws.proofs.Theorem.{demand3-holds}
-use Rattle.path_laws.specs.Demand.{Accepted, lastPlace, placeAt}
+use Rattle.path_laws.specs.Demand.{Accepted, HasTable, lastPlace, placeAt}
 use Rattle.path_pass.proofs.Visits.{OnPath}
 use Rattle.path_pass.specs.Finish.{IsKnown, problemIn}
 use Rattle.grid_points.proofs.Points.{in-points, onPoints, position-in}
@@ -115,7 +116,10 @@ module _ (g : GridStruct) (start table : List ℕ) where
     pub long : length trail ≡ length old
     pub left : writes ≡ true → Left before k
 
-module _ (g : GridStruct) (start table : List ℕ) (ok : Accepted (problemIn g start table)) where
+module _ (g : GridStruct) (start table : List ℕ) (accepted : Accepted (problemIn g start table)) where
+  ok : HasTable (problemIn g start table)
+  ok = accepted-table accepted
+
   abbrev p : Problem
   p = problemIn g start table
 
@@ -154,7 +158,7 @@ module _ (g : GridStruct) (start table : List ℕ) (ok : Accepted (problemIn g s
       arith,
       position-in (points (p .grid)) (pointIn p s j)
           (in-points (p .grid) (pointIn p s j) (ok .hasStart .sameNumber) (on-grid j l)),
-      ok .hasStart .points,
+      accepted .points,
     )
 
     -- T and U, by their masks
@@ -531,7 +535,7 @@ module _ (g : GridStruct) (start table : List ℕ) (ok : Accepted (problemIn g s
   )
 
   pub part-fits : (n : ℕ) → length (trailOf p (take n visited)) < 2 ^ 64
-  part-fits n = omega (arith, part-short visited n, trail-fits ok visited (demand3-holds ok .follows))
+  part-fits n = omega (arith, part-short visited n, trail-fits accepted visited (demand3-holds ok .follows))
 
   -- where a pass begins
   pub so-far-none : (before : Before) → SoFar g start table before 0 0

@@ -19,6 +19,7 @@ use Rattle.grid.proofs.Fields.{indices-few, made-accepted, made-indices}
 use Rattle.grid_points.specs.Grid.{isGridPoint, numIndices, position}
 use Rattle.grid.specs.Made.{IsMade, shape}
 use Rattle.grid_points.specs.Questions.{gridQuestions, question5}
+use Rattle.grid_points.proofs.CoordinatesBelow.{low-divisions}
 use Rattle.grid_points.proofs.Points.{point-long}
 use Rattle.grid.specs.declared.Grid.{Grid as GridStruct}
 use Rattle.moves.specs.Held.{stateOf}
@@ -160,7 +161,7 @@ has-start-by g made start on =
       sixteenIndices = a .fewIndices;
       sameNumber = a .sameNumber;
       divisions = a .divisionsOne;
-      points = a .fewPoints;
+      low = low-divisions (shape g) a;
       start = on;
     }
 

@@ -16,7 +16,7 @@ use Rattle.combinatorics.specs.Edits.{found}
 use Rattle.combinatorics.specs.Lists.{isIn}
 use Rattle.geometry.proofs.Points.{nth}
 use Rattle.grid_points.proofs.Points.{in-points, onPoints, position-in}
-use Rattle.grid_points.specs.Grid.{Point, isGridPoint, numIndices, points, position, samePoint}
+use Rattle.grid_points.specs.Grid.{Point, isGridPoint, numIndices, numPoints, points, position, samePoint}
 use Rattle.place.specs.Places.{Simplex, setT, setU}
 use Rattle.place.specs.Problem.{Problem}
 use Rattle.path_laws.proofs.FromChain.{in-U}
@@ -49,10 +49,10 @@ use Rattle.ways.specs.Ways.{CanMove, goneBy, wayAfter}
 use Rattle.ways.specs.declared.Way.{Way}
 use Rattle.ways.specs.declared.Way.the-variants.{Joins, Leaves, Nothing}
 
-pub position-low : {p : Problem} → HasStart p → (y : Point) → isGridPoint (p .grid) y ≡ true
-    → position (p .grid) y < 65536
-position-low {p} ok y h =
-    omega (arith, position-in (points (p .grid)) y (in-points (p .grid) y (ok .sameNumber) h), ok .points)
+pub position-low : {p : Problem} → HasStart p → numPoints (p .grid) ≤ 60000 → (y : Point)
+    → isGridPoint (p .grid) y ≡ true → position (p .grid) y < 65536
+position-low {p} ok few y h =
+    omega (arith, position-in (points (p .grid)) y (in-points (p .grid) y (ok .sameNumber) h))
 
 on-grid-in : {p : Problem} {a : Simplex} {s : State} → Shows p a s → (y : Point) → isIn samePoint y a ≡ true
     → isGridPoint (p .grid) y ≡ true
@@ -314,14 +314,16 @@ module _ {p : Problem} (ok : HasStart p) {a : Simplex} {s : State} (S : Shows p 
         ready-grow ok S h (F .0) (sym (S .bitsT h (omega (arith, F .0, ok .sixteenIndices))) ∙ F .1);
   }
 
-  pub gone-low : (w : Way) → wayOf (numIndices (p .grid)) n s bytes ≡ w → goneBy s w < 65536
-  gone-low (Leaves i) e =
+  pub gone-low : numPoints (p .grid) ≤ 60000 → (w : Way) → wayOf (numIndices (p .grid)) n s bytes ≡ w
+      → goneBy s w < 65536
+  gone-low few (Leaves i) e =
       let F = way-fits (numIndices (p .grid)) n s bytes .leaves i e in
       let il : i ≤ S .t = omega (arith, F .0, count) in
       omega (
         arith,
         at-mark i il,
-        position-low ok (nth a i) (on-grid-in S (nth a i) (at-in onPoints [] a i (omega (arith, il, shows-long S)))),
+        position-low ok few (nth a i)
+            (on-grid-in S (nth a i) (at-in onPoints [] a i (omega (arith, il, shows-long S)))),
       )
-  gone-low (Joins h) e = omega arith
-  gone-low Nothing e = omega arith
+  gone-low few (Joins h) e = omega arith
+  gone-low few Nothing e = omega arith

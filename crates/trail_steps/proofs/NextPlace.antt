@@ -15,7 +15,7 @@ use Rattle.combinatorics.proofs.Basics.{before-or-not}
 use Rattle.combinatorics.proofs.EditsOfArrays.{counted}
 use Rattle.path_pass.proofs.Visits.{marks-back}
 use Rattle.geometry.proofs.Points.{nth}
-use Rattle.grid.proofs.Fields.{made-blocks}
+use Rattle.grid.proofs.Fields.{made-accepted, made-blocks}
 use Rattle.grid_points.specs.Grid.{at, position}
 use Rattle.grid.specs.Made.{IsMade}
 use Rattle.grid.specs.declared.Grid.{Grid as GridStruct}
@@ -92,14 +92,16 @@ module _ (g : GridStruct) (made : IsMade g) (start tails : List ℕ) {a : Simple
         };
         marks = marks-back g previous next sizes first coefficients order marks status tails (record {
           square = A .square;
-          beside = λ one. A .beside r (sym (made-blocks g made) ∙ one) tails (H .sums);
+          beside = λ one.
+              A .beside r (made-accepted g made .fewPoints) (sym (made-blocks g made) ∙ one) tails (H .sums);
         });
         many = many;
       }
 
       pub come-low : comePosition g back < 65536
       come-low =
-          ⊎-elim (λ (r : status .rule < 6). rw (lt-ltb (status .rule) 6 r) (position-low (H .hasStart) _ (A .onGrid r)))
+          ⊎-elim (λ (r : status .rule < 6). rw (lt-ltb (status .rule) 6 r)
+          (position-low (H .hasStart) (made-accepted g made .fewPoints) _ (A .onGrid r)))
           (λ (r : 6 ≤ status .rule). rw (le-ltb (status .rule) 6 r) (omega arith)) (before-or-not (status .rule) 6)
 
       made-is : ((x : ℕ) → change p a b .pointsOut ≡ x ∷ [] → gone ≡ x) → (before : IndexSets) → before .t ≡ s .T

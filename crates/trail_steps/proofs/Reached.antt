@@ -17,7 +17,7 @@ use Rattle.combinatorics.specs.Lists.{isIn}
 use Rattle.geometry.proofs.LabelledChains.{listAt}
 use Rattle.geometry.proofs.Points.{nth}
 use Rattle.grid_points.proofs.Points.{onPoints}
-use Rattle.grid_points.specs.Grid.{Point, at, isGridPoint, numBlocks, numIndices, position, samePoint}
+use Rattle.grid_points.specs.Grid.{Point, at, isGridPoint, numBlocks, numIndices, numPoints, position, samePoint}
 use Rattle.place.specs.Links.{linked}
 use Rattle.place.specs.Places.{Simplex, isPlace, isUnlabelledPlace}
 use Rattle.place.specs.Problem.{Problem, label, withLabels}
@@ -65,7 +65,7 @@ pub record Arrives (p : Problem) (a b : Simplex) (e : State) : Type 0 where
   pub onGrid : e .rule < 6 → isGridPoint p.grid (pointIn p e e.active) ≡ true
   pub point : e .rule < 6 → pointIn p e e.active ≡ nth b e.active
   pub square : e .rule ≡ 1 → 0 < e .active → e .active < length e.order → Exchanged p.grid e
-  pub beside : e .rule < 6 → numBlocks p.grid ≡ 1 → (tails : List ℕ)
+  pub beside : e .rule < 6 → numPoints p.grid ≤ 60000 → numBlocks p.grid ≡ 1 → (tails : List ℕ)
       → ((k : ℕ) → k < numIndices p.grid → at tails k ≡ tailFrom p.grid p.start k)
       → FallsBeside p.grid tails e
   -- with its mark the state holds b
@@ -237,12 +237,12 @@ module _ {p : Problem} (ok : HasStart p) {a : Simplex} {s : State} (S : Shows p 
     above-in : (i : ℕ) → i < length e.marks → above (stripped e) i ≡ above e i
     above-in i l = rw (kept-position i l, kept-position 0 (omega arith))
 
-    beside-in : f .rule < 6 → numBlocks p.grid ≡ 1 → (tails : List ℕ)
+    beside-in : f .rule < 6 → numPoints p.grid ≤ 60000 → numBlocks p.grid ≡ 1 → (tails : List ℕ)
         → ((k : ℕ) → k < numIndices p.grid → at tails k ≡ tailFrom p.grid p.start k)
         → FallsBeside p.grid tails f
-    beside-in r one tails are =
+    beside-in r few one tails are =
         let z = same r in
-        let B = stands-beside L.full (reached-stands R) (in-rule r) one tails are in
+        let B = stands-beside L.full (reached-stands R) (in-rule r) few one tails are in
         let low = came-active D R.came in
         subst (FallsBeside p.grid tails) (sym z) (record {
           nearMark = λ m. kept-position (e .active - 1) (omega (arith, marks-long, low)) ∙ B .nearMark m;

@@ -19,6 +19,7 @@ use Rattle.finder.proofs.Refusals.{by-grid}
 use Rattle.finder.specs.Demand.{AcceptedWith}
 use Rattle.finder.specs.Run.{caseOf, numbersOf, runRefusal, runAnswer, runBuffer}
 use Rattle.finder.specs.declared.answers.RunAnswer.the-variants.{Refused, End}
+use Rattle.path_laws.proofs.Accepted.{accepted-table}
 use Rattle.path_laws.specs.Demand.{Accepted, placeAt}
 use Rattle.grid_points.specs.Questions.{gridQuestions}
 use Rattle.place.specs.LabelsRead.{cameIn}
@@ -220,7 +221,7 @@ module _ (p : Problem) (room budget : ℕ) (ok : AcceptedWith p room) (old : Lis
     long-enough : (n ≡ pathLength p) × (3 ≤ bytes) × (bytes ≤ 3 + 7 * pred n)
         × (take bytes (trailBuffer p room budget old) ≡ wholeTrail p)
     long-enough =
-        let T = path-trail accepted in
+        let T = path-trail (accepted-table accepted) in
         (ended-so .0, omega (arith, ended-so .1, T .long), rw (ended-so .0, ended-so .1) (T .short), taken-is)
 
     reads-back : (labels : List ℕ) (i : ℕ) → i < n
@@ -232,7 +233,7 @@ module _ (p : Problem) (room budget : ℕ) (ok : AcceptedWith p room) (old : Lis
         ≡ Place (length place) (maskOf (setT p place)) (maskOf (setU (p .grid) place)) read)
         × ((lent : List ℕ) → readPoints given trail (suc i) lent ≡ front (concatMap (λ y. y) place) lent)
     reads-back labels i l =
-        let T = path-trail accepted in
+        let T = path-trail (accepted-table accepted) in
         let behind = drop (length (wholeTrail p)) old in
         let low : i < pathLength p = omega (arith, ended-so .0) in
         let R = answers-place (withLabels p labels) (wholeTrail p ++ behind) (suc i) grid-yes
@@ -244,7 +245,7 @@ module _ (p : Problem) (room budget : ℕ) (ok : AcceptedWith p room) (old : Lis
         → readAnswer (withLabels p labels) (take bytes (trailBuffer p room budget old)) i ≡ ReadRefused 17
     no-more labels i l = rw taken-is
         (answers-none (withLabels p labels) (wholeTrail p) i grid-yes (accepted .hasStart .start)
-        (path-trail accepted .noMore labels i (omega (arith, ended-so .0))))
+        (path-trail (accepted-table accepted) .noMore labels i (omega (arith, ended-so .0))))
 
   reads : ReadsBack p room budget old
   reads = record {

@@ -22,7 +22,7 @@ use Rattle.grid.specs.Made.{IsMade, shape}
 use Rattle.grid.specs.declared.Grid.{Grid as GridStruct}
 use Rattle.place.specs.Places.{Simplex, isPlace, labelSet, within}
 use Rattle.place.specs.Problem.{Problem, label}
-use Rattle.path_laws.proofs.Accepted.{accepted-of}
+use Rattle.path_laws.proofs.Accepted.{accepted-of, accepted-table}
 use Rattle.path_laws.proofs.Labels.{label-within}
 use Rattle.path_laws.proofs.Meaning.{labels-mean}
 use Rattle.path_laws.proofs.Positions.{at-in, in-at}
@@ -96,7 +96,8 @@ module _ {g : GridStruct} {w : WalkStruct} {labels first order : List ℕ} {n : 
       on-grid j l = kept-on-grid C S.kept j l
 
       label-few : (j : ℕ) → j ≤ n → label p (getD s j []) ≤ 16
-      label-few j l = omega (arith, label-within ok (getD s j []) (on-grid j l), ok .hasStart .sixteenIndices)
+      label-few j l =
+          omega (arith, label-within (accepted-table ok) (getD s j []) (on-grid j l), ok .hasStart .sixteenIndices)
 
       pub label-is : (j : ℕ) → j ≤ n → labelAt marks j ≡ label p (getD s j [])
       label-is j l = ap markLabel (S .marked j (omega (arith, long-o))) ∙ label-in (position (shape g) (getD s j []))
@@ -113,7 +114,7 @@ module _ {g : GridStruct} {w : WalkStruct} {labels first order : List ℕ} {n : 
             let jl : v .1 .0 ≤ n = omega (arith, v .1 .1) in
             let e = sym (label-is v.1.0 jl) ∙ v .1 .2 in
             labels-mean p s k .1 (
-              omega (arith, e, label-within ok (getD s v.1.0 []) (on-grid v.1.0 jl)),
+              omega (arith, e, label-within (accepted-table ok) (getD s v.1.0 []) (on-grid v.1.0 jl)),
               (
                 getD s v.1.0 [],
                 at-in onPoints [] s v.1.0

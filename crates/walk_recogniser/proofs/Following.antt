@@ -13,7 +13,7 @@ use native.Mathlib.Numerals.{add-one}
 use native.Mathlib.Omega.{arith}
 use Rattle.combinatorics.proofs.Basics.{and-left, before-or-not, same-or}
 use Rattle.combinatorics.specs.Lists.{sum}
-use Rattle.grid_points.proofs.CoordinatesBelow.{division-below}
+use Rattle.grid_points.proofs.CoordinatesBelow.{division-low, low-divisions}
 use Rattle.grid.proofs.Fields.{made-accepted, made-blocks, made-indices}
 use Rattle.grid_points.proofs.Round.{block-at, block-fits}
 use Rattle.grid_points.specs.Grid.{at, blockOf, firstIndex, isGridPoint, next, numIndices, size}
@@ -125,7 +125,7 @@ module _ (c v y : List ℕ) (first end : ℕ) (B : InBlock c v y first end) wher
       behind = λ k d. getD-set-other new h k x 0 (λ q. omega arith) ∙ P .behind k (omega arith);
     }
 
--- a grid that was made, with a start, is one that questions 1 to 5 let pass
+-- a grid that was made, with a start
 pub has-start-on : (g : GridStruct) → IsMade g → (p : Problem) → p .grid ≡ shape g
     → isGridPoint (p .grid) (p .start) ≡ true → HasStart p
 has-start-on g made p e s =
@@ -137,7 +137,7 @@ has-start-on g made p e s =
       sixteenIndices = rw e (A .fewIndices);
       sameNumber = rw e (A .sameNumber);
       divisions = rw e (A .divisionsOne);
-      points = rw e (A .fewPoints);
+      low = rw e (low-divisions (shape g) A);
       start = s;
     }
 
@@ -191,7 +191,7 @@ module _ (g : GridStruct) (made : IsMade g) (v y : List ℕ) (start : isGridPoin
         rule = λ h a b. rw-rule j h a b (omega arith);
         zero = (w .0, w .1, w .2, w .3);
         small = λ h. let b = coefficients-at-most p (take (g .indices) y) hasStart.sameNumber start on h in
-            omega (arith, b .1, division-below G hasStart.sizes hasStart.sameNumber b.0, hasStart .points);
+            omega (arith, b .1, division-low 60000 G.divisions hasStart.low b.0);
       }
 
   -- the coefficients of the first j blocks

@@ -16,6 +16,7 @@ use Rattle.grid_points.proofs.Points.{onPoints}
 use Rattle.grid_points.specs.Grid.{Point}
 use Rattle.place.specs.Places.{Simplex, isPlace, labelSet}
 use Rattle.place.specs.Problem.{Problem, label}
+use Rattle.path_laws.proofs.Accepted.{accepted-table}
 use Rattle.path_laws.proofs.Filled.{filledTable, filled-label}
 use Rattle.path_laws.proofs.LinkSymmetry.{parts}
 use Rattle.path_laws.proofs.Meaning.{labels-mean}
@@ -48,7 +49,7 @@ module _ {p : Problem} (ok : Accepted p) (y : Point) (o : List ℕ)
       let w = label-is (full ok y o place) c j l in
       let z = ap (λ (r : Simplex). label q (nth r j))
       (pointsOf-coefficientsOf (full ok y o place .hasStart) s (parts q s (place-filled ok y o place) .gridPoints)) in
-      omega (arith, w, z, filled-label ok (nth s j) (omega (arith, e)), e)
+      omega (arith, w, z, filled-label (accepted-table ok) (nth s j) (omega (arith, e)), e)
 
   -- each index of T is the label of a point
   pub covering : (k : ℕ) → isIn eqb k o ≡ true → (j : ℕ) × (j ≤ length o) × (label p (nth s j) ≡ suc k)

@@ -14,6 +14,7 @@ use Rattle.place.specs.Links.{linked}
 use Rattle.place.specs.Path.{isBack, waysOn}
 use Rattle.place.specs.Places.{Simplex, allLabelled, isPlace}
 use Rattle.place.specs.Problem.{Problem}
+use Rattle.path_laws.proofs.Accepted.{accepted-table}
 use Rattle.path_laws.proofs.FromTwoWays.{back, one-from, one-from-start}
 use Rattle.path_laws.proofs.PathSteps.{Link}
 use Rattle.path_laws.proofs.Simplices.{simplex-sound}
@@ -34,7 +35,8 @@ module _ {p : Problem} (ok : Accepted p) (s : Simplex) (h : isPlace p s ≡ true
 
   pub from-start : (w : Way) → s ≡ p .start ∷ [] → IsWay p s w → waysOn p none s ≡ w ∷ []
   from-start w e k =
-      only-one (waysOn p none s) w (rw e (one-from-start ok (twoWays ok.hasStart) (rw e at own))) (way-on none w k refl)
+      only-one (waysOn p none s) w
+      (rw e (one-from-start (accepted-table ok) (twoWays ok.hasStart) (rw e at own))) (way-on none w k refl)
 
   module _ (ne : s ≡ p .start ∷ [] → ⊥) where
     link-in : (b : Simplex) {w : Way} → IsWay p s w → w ≡ link b → Link p b s
@@ -50,7 +52,7 @@ module _ {p : Problem} (ok : Accepted p) (s : Simplex) (h : isPlace p s ≡ true
     pub other-on : (b : Simplex) (v w : Way) → IsWay p s v → IsWay p s w → (v ≡ w → ⊥) → v ≡ link b
         → waysOn p (some b) s ≡ w ∷ []
     other-on b v w kv kw n e = only-one (waysOn p (some b) s) w
-        (one-from ok (twoWays ok.hasStart) b s (link-in b kv e) own ne)
+        (one-from (accepted-table ok) (twoWays ok.hasStart) b s (link-in b kv e) own ne)
         (way-on (some b) w kw (not-back b w (λ q. n (e ∙ sym q))))
 
     pub came-by : (b : Simplex) (v : Way) → IsWay p s v → v ≡ link b → (isPlace p b && linked p b s) ≡ true

@@ -26,7 +26,7 @@ use Rattle.grid_points.specs.Grid.{Point, at, blockOf, isGridPoint, numIndices,
 use Rattle.grid.specs.Made.{shape}
 use Rattle.grid.specs.declared.Grid.{Grid as GridStruct}
 use Rattle.moves.specs.Held.{CanStep, stateOf}
-use Rattle.path_laws.proofs.Accepted.{accepted-of}
+use Rattle.path_laws.proofs.Accepted.{accepted-of, accepted-table}
 use Rattle.path_laws.proofs.BlocksOfGrid.{back-below}
 use Rattle.path_laws.proofs.Filled.{fill, filledTable, filled-full, filled-label}
 use Rattle.path_laws.proofs.LinkSymmetry.{parts}
@@ -121,7 +121,8 @@ module _ {g : GridStruct} {w : WalkStruct} {labels first list order marks : List
       ap fill z in
       rw (un, eq-eqb j point e) (omega (arith, f, z)))
       (λ (z : label p (getD s j []) ≡ 0 → ⊥).
-      let f : label (filledTable p) (getD s j []) ≡ label p (getD s j []) = filled-label ok (getD s j [])
+      let f : label (filledTable p) (getD s j []) ≡ label p (getD s j []) =
+      filled-label (accepted-table ok) (getD s j [])
       (omega (arith, z)) in
       let c : (unknown && eqb j point) ≡ false = false-of _ (λ q. z (
       let un = and-left unknown (eqb j point) q in let e = eqb-true j point (and-right unknown (eqb j point) q) in
@@ -296,14 +297,15 @@ module _ {g : GridStruct} {w : WalkStruct} {labels first list order marks : List
               let t : take (length (e .order)) (e .order) ≡ e .order = take-whole (e .order) in
               let k : keptBy q e ≡ b = cc in
               let c : w .before ≡ keptAs (numIndices (shape g)) (e .first) (e .order) (length (e .order)) =
-              held-once q (filled-full ok .hasStart) (w .before) long (e .first) (e .order) (length (e .order))
+              held-once q (filled-full (accepted-table ok) .hasStart) (w .before) long (e .first) (e .order)
+              (length (e .order))
               (ap length t) (rw t (f .2)) (rw t (held-b ∙ sym k)) in
               absurd-bool (sym (place-same (keptAs (g .indices) (e .first) (e .order) (length (e .order))) (w .before)
               (rw m-is (sym c))) ∙ z)
 
       -- what is told of it is what comes next
       points-here : pointsOf q (coefficientsOf q s) ≡ s
-      points-here = pointsOf-coefficientsOf (filled-full ok .hasStart) s
+      points-here = pointsOf-coefficientsOf (filled-full (accepted-table ok) .hasStart) s
           (parts q s (place-filled ok y o S.place) .gridPoints)
 
       masks : ((k : ℕ) → k < 16 → bit t k ≡ isIn eqb k (setT p s)) ×
@@ -351,7 +353,8 @@ module _ {g : GridStruct} {w : WalkStruct} {labels first list order marks : List
           let c : stored (shape g) (keptBy q e) ≡ keptAs (g .indices) (e .first) (e .order) (length (e .order)) =
           rw m-is (ap (λ (r : List ℕ). stored (shape g)
           (keptPoints (shape g) (take (numIndices (shape g)) (e .first)) r)) (sym t)
-          ∙ stored-kept q (filled-full ok .hasStart) (e .first) (e .order) (length (e .order)) (ap length t)
+          ∙ stored-kept q (filled-full (accepted-table ok) .hasStart) (e .first) (e .order) (length (e .order))
+          (ap length t)
           (rw t (f .2))) in
           rw (z, ← rule-is e x z, c)
 

@@ -22,6 +22,7 @@ use Rattle.place.specs.Links.{linked}
 use Rattle.place.specs.Path.{waysOn}
 use Rattle.place.specs.Places.{Simplex, allLabelled, isPlace, order, setT}
 use Rattle.place.specs.Problem.{Problem, hasLabel, label}
+use Rattle.path_laws.proofs.Accepted.{accepted-table}
 use Rattle.path_laws.proofs.BlocksOfGrid.{blocksOf}
 use Rattle.path_laws.proofs.Filled.{fill, filledTable, filled-full, filled-label, full-accepted}
 use Rattle.path_laws.proofs.FromTwoWays.{back}
@@ -87,6 +88,9 @@ module _ (w : Walk) (labels : List ℕ) (ok : Accepted (over w labels)) (y : Poi
   abbrev s : Simplex
   s = keptPoints (w .grid) y o
 
+  accepted-filled : Accepted q
+  accepted-filled = full-accepted (filled-full (accepted-table ok)) ok.points
+
   here : isPlace p w.present ≡ true
   here = rw is place
 
@@ -137,7 +141,7 @@ module _ (w : Walk) (labels : List ℕ) (ok : Accepted (over w labels)) (y : Poi
     agree : Agree p (map fill labels) w.present
     agree z m =
         let t = all-in onPoints (hasLabel p) s own z (rw is at m) in
-        filled-label ok z (label-positive z t)
+        filled-label (accepted-table ok) z (label-positive z t)
       where
         label-positive : (z : Point) → hasLabel p z ≡ true → 0 < label p z
         label-positive z t = leb-true 1 (label p z) (and-left _ _ t)
@@ -147,13 +151,13 @@ module _ (w : Walk) (labels : List ℕ) (ok : Accepted (over w labels)) (y : Poi
         rw is at (known-local p (map fill labels) w.present agree ∙ z)
 
     same-next : nextOf w (map fill labels) ≡ nextOf w labels
-    same-next = next-local w labels (map fill labels) ok (full-accepted (filled-full ok)) agree
+    same-next = next-local w labels (map fill labels) ok accepted-filled agree
 
     onward : (way : Way) → Came q w.before w.present → waysOn q w.before w.present ≡ way ∷ [] → nextOf w labels ≡ byWay
         (way ∷ [])
     onward way c e =
         sym same-next ∙ next-onward w (map fill labels) (of-passes w (map fill labels) (record {
-          accepted = full-accepted (filled-full ok);
+          accepted = accepted-filled;
           stands = record {
             place = rw is (place-filled ok y o place);
             came = c;
@@ -170,7 +174,7 @@ module _ (w : Walk) (labels : List ℕ) (ok : Accepted (over w labels)) (y : Poi
     pub from-v : length o ≡ 0 → w .before ≡ none → (S : State) → LentPlace p q y o S → S .active ≡ 0 → S .rule < 6 →
         nextOf w labels ≡ byWay (wayMade q (makeMove S) ∷ [])
     from-v e b S L a r = onward (wayMade q (makeMove S)) (rw (b, is, is-start e) begins)
-        (rw (b, is) (from-start (full-accepted (filled-full ok)) s (place-filled ok y o place) known-filled
+        (rw (b, is) (from-start accepted-filled s (place-filled ok y o place) known-filled
         (wayMade q (makeMove S)) (is-start e) the-way))
       where
         the-way : IsWay q s (wayMade q (makeMove S))
@@ -293,27 +297,27 @@ module _ (w : Walk) (labels : List ℕ) (ok : Accepted (over w labels)) (y : Poi
 
         pub onward-a : wayMade q (makeMove S') ≡ link b → nextOf w labels ≡ byWay (wayMade q (makeMove S) ∷ [])
         onward-a z = onward own (wayMade q (makeMove S)) (link-q
-            (came-by (full-accepted (filled-full ok)) s (place-filled ok y o place) (known-filled own) (not-start n e) b
+            (came-by accepted-filled s (place-filled ok y o place) (known-filled own) (not-start n e) b
             (wayMade q (makeMove S')) (way-b S' L' a' r') z))
-            (rw (before, is) (other-on (full-accepted (filled-full ok)) s (place-filled ok y o place) (known-filled own)
+            (rw (before, is) (other-on accepted-filled s (place-filled ok y o place) (known-filled own)
             (not-start n e) b (wayMade q (makeMove S')) (wayMade q (makeMove S))
             (way-b S' L' a' r') (way-a S L a r) (λ k. different S S' L L' a a' r r' (sym k)) z))
 
         pub onward-b : wayMade q (makeMove S) ≡ link b → nextOf w labels ≡ byWay (wayMade q (makeMove S') ∷ [])
         onward-b z = onward own (wayMade q (makeMove S'))
-            (link-q (came-by (full-accepted (filled-full ok)) s (place-filled ok y o place) (known-filled own)
+            (link-q (came-by accepted-filled s (place-filled ok y o place) (known-filled own)
             (not-start n e) b (wayMade q (makeMove S)) (way-a S L a r) z))
-            (rw (before, is) (other-on (full-accepted (filled-full ok)) s (place-filled ok y o place) (known-filled own)
+            (rw (before, is) (other-on accepted-filled s (place-filled ok y o place) (known-filled own)
             (not-start n e) b (wayMade q (makeMove S)) (wayMade q (makeMove S'))
             (way-a S L a r) (way-b S' L' a' r') (different S S' L L' a a' r r') z))
 
         pub neither : (wayMade q (makeMove S) ≡ link b → ⊥) → (wayMade q (makeMove S') ≡ link b → ⊥) → nextOf w labels
             ≡ refused 20
-        neither ka kb = sym (same-next own) ∙ no-walk w (map fill labels) (full-accepted (filled-full ok))
+        neither ka kb = sym (same-next own) ∙ no-walk w (map fill labels) accepted-filled
             (λ h. go h.came refl refl)
           where
             none-linked : (isPlace q b && linked q b s) ≡ false
-            none-linked = not-linked (full-accepted (filled-full ok)) s (place-filled ok y o place) (known-filled own)
+            none-linked = not-linked accepted-filled s (place-filled ok y o place) (known-filled own)
                 (not-start n e) b (wayMade q (makeMove S)) (wayMade q (makeMove S'))
                 (way-a S L a r) (way-b S' L' a' r') (different S S' L L' a a' r r') ka kb
 

@@ -17,6 +17,7 @@ use Rattle.grid.specs.Made.{shape}
 use Rattle.grid.specs.declared.Grid.{Grid as GridStruct}
 use Rattle.place.specs.Places.{Simplex, allLabelled}
 use Rattle.place.specs.Problem.{hasLabel, label}
+use Rattle.path_laws.proofs.Accepted.{accepted-table}
 use Rattle.path_laws.proofs.Labels.{label-ok}
 use Rattle.path_laws.proofs.LinkSymmetry.{parts}
 use Rattle.path_laws.proofs.Positions.{in-at}
@@ -48,7 +49,8 @@ module _ {g : GridStruct} {w : WalkStruct} {labels first list order marks : List
   known-all f = in-all onPoints (hasLabel (p S)) s (λ z m.
       let j = in-at onPoints [] z s m in
       let jl : j .0 ≤ n = omega (arith, j .1, points-long (ok S) (y S) (o S) S.place, long-o S) in
-      label-ok (ok S) z (all-in onPoints (isGridPoint (shape g)) s (parts (p S) s S.place .gridPoints) z m)
+      label-ok (accepted-table (ok S)) z
+      (all-in onPoints (isGridPoint (shape g)) s (parts (p S) s S.place .gridPoints) z m)
       (⊎-elim (λ (e : label (p S) z ≡ 0). absurd-bool
       (sym (S .unknownIs ∙ eq-eqb _ 0 (at-point (j .0) jl (ap (label (p S)) j.2 ∙ e))) ∙ f))
       (λ (e : label (p S) z ≡ 0 → ⊥). omega (arith, e)) (same-or (label (p S) z) 0)))

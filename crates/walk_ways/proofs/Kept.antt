@@ -22,6 +22,7 @@ use Rattle.grid_points.specs.Grid.{Point, at, isGridPoint, numIndices}
 use Rattle.place.specs.Coefficients.{IsCoefficients, coefficients}
 use Rattle.place.specs.Places.{Simplex, isPlace, labelSet, order, within}
 use Rattle.place.specs.Problem.{Problem}
+use Rattle.path_laws.proofs.Accepted.{accepted-table}
 use Rattle.path_laws.proofs.BlocksOfGrid.{blocksOf, coefficientOf, coefficientOf-is, coord-in, coord-out}
 use Rattle.path_laws.proofs.Filled.{FullyLabelled, filledTable, filled-full, filled-label}
 use Rattle.path_laws.proofs.FromChain.{T-is, back-again, long, place-of}
@@ -51,7 +52,7 @@ module _ {p : Problem} (ok : Accepted p) (y : Point) (o : List ℕ)
   s = keptPoints p.grid y o
 
   pub full : FullyLabelled q
-  full = filled-full ok
+  full = filled-full (accepted-table ok)
 
   same-kept : isKept q y o ≡ isKept p y o
   unfolding isKept coefficients
@@ -63,7 +64,8 @@ module _ {p : Problem} (ok : Accepted p) (y : Point) (o : List ℕ)
       let a : Bool = isKept p y o in let b : Bool = within o (labelSet p s) in
       recognised full.hasStart y o ∙ and-both _ _ (same-kept ∙ and-left a b r) (in-all onNumbers _ o (λ k m.
       let w = labels-mean p s k .0 (all-in onNumbers (λ h. isIn eqb h (labelSet p s)) o (and-right a b r) k m) in
-      labels-mean q s k .1 (w .0, (w .1 .0, w .1 .1, filled-label ok w.1.0 (omega (arith, w .1 .2)) ∙ w .1 .2))))
+      labels-mean q s k .1
+      (w .0, (w .1 .0, w .1 .1, filled-label (accepted-table ok) w.1.0 (omega (arith, w .1 .2)) ∙ w .1 .2))))
 
   pub order-same : order q.grid s ≡ o
   order-same = order-is p y o place

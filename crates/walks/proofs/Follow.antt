@@ -11,6 +11,7 @@ use Rattle.combinatorics.proofs.Lists.{all-in, filter-in, in-filter, in-here, o
 use Rattle.end_kinds.specs.declared.Kind.{Kind}
 use Rattle.grid_points.proofs.Points.{onPoints}
 use Rattle.grid_points.specs.Grid.{Point, bound}
+use Rattle.path_laws.proofs.Accepted.{accepted-table}
 use Rattle.path_laws.proofs.FromTwoWays.{back}
 use Rattle.path_laws.proofs.LabelsRead.{came-few, came-next, came-none}
 use Rattle.path_laws.proofs.PathSteps.{Link, waysOn-split}
@@ -45,7 +46,7 @@ module _ {p : Problem} (ok : Accepted p) where
   here i = placeAt visited i
 
   follows : Demand3 p
-  follows = demand3-holds ok
+  follows = demand3-holds (accepted-table ok)
 
   link-at : (i : ℕ) → suc i < pathLength p → Link p (here i) (here (suc i))
   link-at i c = record {

@@ -18,7 +18,7 @@ use Rattle.place.specs.Path.{waysOn}
 use Rattle.place.specs.Places.{Simplex, isPlace, allLabelled}
 use Rattle.place.specs.Problem.{Problem}
 use Rattle.place.specs.Questions.{tableQuestions}
-use Rattle.path_laws.proofs.Accepted.{accepted-of, accepted-is}
+use Rattle.path_laws.proofs.Accepted.{accepted-of, accepted-is, accepted-table}
 use Rattle.path_laws.proofs.FromTwoWays.{one-from-start, one-from}
 use Rattle.path_laws.proofs.PathSteps.{Link}
 use Rattle.path_laws.proofs.Simplices.{simplex-sound, simplex-self}
@@ -145,5 +145,5 @@ module _ (w : Walk) (labels : List ℕ) where
   one-way-on k = go k.stands.came k.known
     where
       go : {l : Option Simplex} {s : Simplex} → Came p l s → allLabelled p s ≡ true → length (waysOn p l s) ≡ 1
-      go begins own = one-from-start k.accepted (twoWays k.accepted.hasStart) own
-      go (came {a} {s} j ne) own = one-from k.accepted (twoWays k.accepted.hasStart) a s j own ne
+      go begins own = one-from-start (accepted-table k.accepted) (twoWays k.accepted.hasStart) own
+      go (came {a} {s} j ne) own = one-from (accepted-table k.accepted) (twoWays k.accepted.hasStart) a s j own ne

@@ -78,7 +78,7 @@ announced-requires c κs =
         accepted = ok .0;
         room = ok .1;
       },
-      (y .0, ok .0 .hasStart .points),
+      (y .0, ok .0 .points),
     )
 
 -- what the pass reported
@@ -126,7 +126,7 @@ put-list-requires c κs =
     let y = yes (r .before) in
     let n = listed r (c .before .before .before .near .given .1) in
     let few = listed-few (y .1) (a .w .now) (y .0) (a .given) (answer p (a .budget)) in
-    (omega (arith, n, few, y .2), omega (arith, n, few, y .1 .hasStart .points))
+    (omega (arith, n, few, y .2), omega (arith, n, few, y .1 .points))
 
 enum-told : tie.Need-enum-told
 enum-told c = search needs

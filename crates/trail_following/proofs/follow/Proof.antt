@@ -9,7 +9,7 @@ use lib.ListN.{drop, getD, length, take}
 use lib.Seq.{getD-drop}
 use native.Mathlib.Omega.{arith}
 use Rattle.arrays.specs.Rounds.{roundOf}
-use Rattle.grid.proofs.Fields.{indices-few, made-indices}
+use Rattle.grid.proofs.Fields.{indices-few, made-accepted, made-indices}
 use Rattle.grid_points.specs.Grid.{numIndices}
 use Rattle.grid.specs.Made.{shape}
 use Rattle.moves.specs.Held.{answered, stateOf}
@@ -274,7 +274,8 @@ arrive-requires c κs =
         out = omega (
           arith,
           out,
-          gone-low (H .hasStart) (H .shows) (bytesOn (at m)) (l .s .count) (counted (at m) H) way (way-is (named m)),
+          gone-low (H .hasStart) (H .shows) (bytesOn (at m)) (l .s .count) (counted (at m) H)
+              (made-accepted (a .g) (w .measured .made) .fewPoints) way (way-is (named m)),
         );
         sixteen = each .inMarks;
         low = l .inv .2;

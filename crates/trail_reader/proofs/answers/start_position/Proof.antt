@@ -1,7 +1,7 @@
 -- `answers::start_position` meets its contract: no steps leave the start as it is. Assumes nothing.
 use mathlib.Core.Path.{ap, _∙_}
 use native.Mathlib.Omega.{arith}
-use Rattle.grid.proofs.Fields.{indices-few}
+use Rattle.grid.proofs.Fields.{indices-few, made-accepted}
 use Rattle.grid_points.specs.Grid.{isGridPoint, position}
 use Rattle.grid.specs.Made.{shape}
 use Rattle.positions.proofs.Steps.{none-after, none-can}
@@ -26,7 +26,8 @@ returns c =
     let few = indices-few (a .g) (w .measured .made) in
     let stays = none-after (a .first .now) (a .g .indices) few (omega (arith, few, w .firstLength)) in
     let e = c .position .ensures ∙ ap (position (shape (a .g))) stays in
-    (e, omega (arith, e, position-low (w .hasStart) _ (w .hasStart .start)))
+    let low = made-accepted (a .g) (w .measured .made) .fewPoints in
+    (e, omega (arith, e, position-low (w .hasStart) low _ (w .hasStart .start)))
 
 pub start-position-spec : {M : Type 1} → statement M
 start-position-spec = tie.close (tie.spec position-requires returns)
