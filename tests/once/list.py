@@ -52,21 +52,24 @@ def behind(lines, i, indent):
 
 def laws(path):
     """Each law of a file with its statement, but those that speak of names bound around them."""
-    lines, around = text(path), []
+    lines, around, declared = text(path), [], []
     for i, line in enumerate(lines):
         depth = len(line) - len(line.lstrip())
         if line.strip():
             around = [(indent, names) for indent, names in around if indent < depth]
+            declared = [(indent, name) for indent, name in declared if indent <= depth]
         section, law = SECTION.match(line), LAW.match(line)
         if section:
             whole = section[2] + " " + behind(lines, i, depth)
             around.append((depth, bound(whole.split(" where")[0])))
         elif law and "≡" in (statement := law[3] + " " + behind(lines, i, depth)):
-            outer = set().union(*(names for _, names in around))
+            outer = set().union(*(names for _, names in around)) | {name for _, name in declared}
             free = set(TOKEN.findall(statement)) - bound(statement)
             plain = depth == 0 or (around and max(indent for indent, _ in around) == depth - 2)
             if len(statement) > LEAST and plain and not free & outer:
                 yield law[2], statement
+        if law and depth:
+            declared.append((depth, law[2]))
 
 
 def found():

@@ -31,7 +31,7 @@ case-spent (spent n) b e = let z : n ≡ b = cc in rw z
 case-spent (ended n read kind block vertices simplex) b e = absurd (let z : _≡_ {A = ℕ} 0 1 = cc in omega arith)
 case-spent (unknown n i) b e = absurd (let z : _≡_ {A = ℕ} 0 1 = cc in omega arith)
 
-case-unknown : (a : PathAnswer) (n i : ℕ) → caseOf a ≡ Unknown n i → a ≡ unknown n i
+pub case-unknown : (a : PathAnswer) (n i : ℕ) → caseOf a ≡ Unknown n i → a ≡ unknown n i
 case-unknown (spent k) n i e = absurd (let z : _≡_ {A = ℕ} 0 1 = cc in omega arith)
 case-unknown (ended k read kind block vertices simplex) n i e = absurd (let z : _≡_ {A = ℕ} 0 1 = cc in omega arith)
 case-unknown (unknown k j) n i e = let y : k ≡ n = cc in let z : j ≡ i = cc in rw (y, z)

@@ -20,6 +20,7 @@ use Rattle.place.specs.Path.{PathAnswer, answer, ended, spent, unknown}
 use Rattle.place.specs.Places.{Simplex}
 use Rattle.place.specs.Problem.{Problem}
 use Rattle.place.specs.Questions.{question6, question7, question8}
+use Rattle.finder.proofs.Demand.{case-unknown}
 use Rattle.finder.specs.Asked.{laterRunQuestions}
 use Rattle.finder.specs.Run.{caseOf, numbersOf}
 use Rattle.finder.specs.declared.answers.RunAnswer.the-variants.{End, Refused, Unknown}
@@ -124,14 +125,9 @@ case-ended (ended m l k b v s) {n} {read} {block} {vertices} e =
     let z : v ≡ vertices = cc in
     (k, s, rw (x, w, y, z))
 
-case-unknown : (a : PathAnswer) {n i : ℕ} → caseOf a ≡ Unknown n i → a ≡ unknown n i
-case-unknown (spent m) e = absurd (let z : _≡_ {A = ℕ} 0 1 = cc in omega arith)
-case-unknown (ended m l k b v s) e = absurd (let z : _≡_ {A = ℕ} 0 1 = cc in omega arith)
-case-unknown (unknown m j) {n} {i} e = let x : m ≡ n = cc in let y : j ≡ i = cc in rw (x, y)
-
 module _ (p : Problem) (budget : ℕ) where
   pub at-gap : {n i : ℕ} → caseOf (answer p budget) ≡ Unknown n i → answer p budget ≡ unknown n i
-  at-gap e = case-unknown (answer p budget) e
+  at-gap e = case-unknown (answer p budget) _ _ e
 
   pub at-end : {n read block vertices : ℕ} {kind : Kind} → caseOf (answer p budget) ≡ End n read kind block vertices
       → (k : Kind) × (s : Simplex) × (answer p budget ≡ ended n read k block vertices s)

@@ -6,10 +6,9 @@ use mathlib.Core.Path.{_≡_, refl, sym, ap, _∙_}
 use mathlib.Core.Option.{some}
 use Prim.Native.Nat.{ℕ, zero, suc, _+_, _≤_}
 use lib.Dec.{eqb}
-use lib.ListN.{length, replicate, take, length-map, length-replicate}
+use lib.ListN.{length, take, length-map}
 use native.Mathlib.Omega.{arith}
 use Rattle.combinatorics.proofs.Basics.{absurd-bool}
-use Rattle.combinatorics.proofs.Fronts.{front-length}
 use Rattle.combinatorics.proofs.Lists.{eqb-self, same-self}
 use Rattle.combinatorics.specs.Front.{front, padded}
 use Rattle.combinatorics.specs.Lists.{concatMap, firstOr}
@@ -29,19 +28,17 @@ use Rattle.walks.specs.Next.{Outcome, afterCalls, ended, moved, refused, moveAn
 use Rattle.walks.specs.Next.{ruleOf, walkAfter}
 use Rattle.walks.specs.Walk.{Walk, labelsOf, over}
 use Rattle.walk_calls.specs.Calls.{callOf, structOn, toldIn}
-use Rattle.walk_calls.specs.Claims.{CallsLeave, leftAfter, toldAs}
+use Rattle.walk_calls.specs.Claims.{CallsLeave, leftAfter, toldBy}
 use Rattle.walk_calls.specs.Moving.{unmovedAs}
 use Rattle.walk_calls.specs.declared.Call.{Call}
 use Rattle.walk_calls.specs.declared.Told.{Told}
+use Rattle.walk_places.proofs.BothPlaced.{padded-long}
 use Rattle.walk_places.proofs.Held.{kept-held, padded-taken, place-before}
 use Rattle.walk_places.specs.Walks.{beforeOf, carriedOf, keptAs, placeOf, stored, walkGrid, walkOf}
 use Rattle.walk_places.specs.declared.Walk.{Walk as WalkStruct}
 use Rattle.walk_ways.specs.Answers.{answerOf, outcomeNumbers}
 use Rattle.walk_ways.specs.declared.WalkAnswer.{WalkAnswer}
 use Rattle.walk_ways.specs.declared.WalkAnswer.the-variants.{Ended, Moved}
-
-padded-long : (xs : List ℕ) → length xs ≤ 16 → length (padded 16 xs) ≡ 16
-padded-long xs l = let z = length-replicate {A = ℕ} 16 0 in front-length xs (replicate 16 0) (omega (arith, z)) ∙ z
 
 -- a walk that is moved
 module _ (w : WalkStruct) (labels : List ℕ) (s : Simplex) (e : nextOf (walkOf w) labels ≡ moved s) where
@@ -124,7 +121,7 @@ module _ (w : WalkStruct) (labels : List ℕ) where
       go (ended k b s) q = refl
       go (moved s) q = struct-moved w labels s q
 
-  pub call-tells : toldIn (callOf w labels) ≡ toldAs (moveAnswer (walkOf w) labels)
+  pub call-tells : toldIn (callOf w labels) ≡ toldBy (moveAnswer (walkOf w) labels)
   unfolding callOf moveAnswer
   call-tells = go (nextOf (walkOf w) labels)
     where
@@ -133,7 +130,7 @@ module _ (w : WalkStruct) (labels : List ℕ) where
 
       go : (n : Outcome Simplex)
           → told (answerOf (ruleOf (over (walkOf w) labels) (walkOf w .present)) n) (padded 256 (outcomeNumbers n))
-          ≡ toldAs (onMove (ruleOf (over (walkOf w) labels) (walkOf w .present)) n)
+          ≡ toldBy (onMove (ruleOf (over (walkOf w) labels) (walkOf w .present)) n)
       go (refused k) = refl
       go (ended k b s) = refl
       go (moved s) = refl
@@ -168,7 +165,7 @@ module _ (w : WalkStruct) (labels : List ℕ) where
   moves : (rule : ℕ) → callOf w labels .answer ≡ Moved rule → moveAnswer (walkOf w) labels ≡ moved rule
   moves rule e = go (moveAnswer (walkOf w) labels) (sym (ap (λ (t : Told). t .answer) call-tells) ∙ e)
     where
-      go : (o : Outcome ℕ) → toldAs o .answer ≡ Moved rule → o ≡ moved rule
+      go : (o : Outcome ℕ) → toldBy o .answer ≡ Moved rule → o ≡ moved rule
       go (refused k) q = absurd-bool (cc)
       go (ended k b s) q = absurd-bool (cc)
       go (moved r) q = let z : r ≡ rule = cc in rw z
@@ -219,7 +216,7 @@ pub calls-leave : (w : WalkStruct) (labels : List ℕ) → CallsLeave w labels
 calls-leave w labels = record {
   leaves = walk-after w labels;
   tells = λ n. call-tells (leftAfter n w labels) labels
-      ∙ ap (λ (x : Walk). toldAs (moveAnswer x labels)) (walk-after w labels n);
+      ∙ ap (λ (x : Walk). toldBy (moveAnswer x labels)) (walk-after w labels n);
   still = stays w labels;
   back = λ rule e q others ok. call-refused (callOf w labels .walk) others 20
       (on-start w labels rule e (walkOf (callOf w labels .walk)) (walk-moves w labels) q others ok);

@@ -22,13 +22,13 @@ leftAfter zero w labels = w
 leftAfter (suc n) w labels = callOf (leftAfter n w labels) labels .walk
 
 -- what a call tells, by the definitions: "reports the rule"; "gives its kind, block and simplex"; or a number
-abbrev pub toldAs : Outcome ℕ → Told
-toldAs (refused number) = record { answer = Refused number; simplex = padded 256 [] }
-toldAs (ended kind block simplex) = record {
+abbrev pub toldBy : Outcome ℕ → Told
+toldBy (refused number) = record { answer = Refused number; simplex = padded 256 [] }
+toldBy (ended kind block simplex) = record {
   answer = Ended kind block (length simplex);
   simplex = padded 256 (concatMap (λ y. y) simplex);
 }
-toldAs (moved rule) = record { answer = Moved rule; simplex = padded 256 [] }
+toldBy (moved rule) = record { answer = Moved rule; simplex = padded 256 [] }
 
 -- of every struct and table
 pub record CallsLeave (w : WalkStruct) (labels : List ℕ) : Type 0 where
@@ -36,7 +36,7 @@ pub record CallsLeave (w : WalkStruct) (labels : List ℕ) : Type 0 where
   -- definitions move, and what is told is what they tell,
   pub leaves : (n : ℕ) → walkOf (leftAfter n w labels) ≡ afterCalls n (walkOf w) labels
   pub tells : (n : ℕ) → toldIn (callOf (leftAfter n w labels) labels)
-      ≡ toldAs (moveAnswer (afterCalls n (walkOf w) labels) labels)
+      ≡ toldBy (moveAnswer (afterCalls n (walkOf w) labels) labels)
   -- "at an end .. the walk is unchanged", "calls at an end move nothing", and so do refusals: every number of the
   -- struct is as it was
   pub still : ((rule : ℕ) → callOf w labels .answer ≡ Moved rule → ⊥) → (n : ℕ) → leftAfter n w labels ≡ w

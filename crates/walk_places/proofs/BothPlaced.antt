@@ -49,7 +49,7 @@ use Rattle.walk_places.specs.Walks.{holdsPlace, keptAs, placeOf, stored,
 use Rattle.walk_places.specs.declared.Place.{Place}
 use Rattle.walk_places.specs.declared.Walk.{Walk as WalkStruct}
 
-padded-long : (xs : List ℕ) → length xs ≤ 16 → length (padded 16 xs) ≡ 16
+pub padded-long : (xs : List ℕ) → length xs ≤ 16 → length (padded 16 xs) ≡ 16
 padded-long xs l = let z = length-replicate {A = ℕ} 16 0 in front-length xs (replicate 16 0) (omega (arith, z)) ∙ z
 
 pub map-at : (f : Point → ℕ) (r : Simplex) (j : ℕ) → j < length r → getD (map f r) j 0 ≡ f (getD r j [])

@@ -15,12 +15,12 @@ use Rattle.walks.specs.Preview.{Move, preview, seen}
 use Rattle.walks.specs.Walk.{Walk, over}
 use Rattle.walk_calls.proofs.OnStructs.{call-tells, walk-moves}
 use Rattle.walk_calls.specs.Calls.{callOf}
-use Rattle.walk_calls.specs.Claims.{toldAs}
+use Rattle.walk_calls.specs.Claims.{toldBy}
 use Rattle.walk_calls.specs.declared.Told.{Told}
 use Rattle.walk_places.specs.Walks.{walkOf}
 use Rattle.walk_places.specs.declared.Walk.{Walk as WalkStruct}
 use Rattle.walk_preview.specs.Changes.{changedOf}
-use Rattle.walk_preview.specs.Claims.{Shows, changeSeen, recordShown, seenAs}
+use Rattle.walk_preview.specs.Claims.{PreviewShows, changeSeen, recordShown, seenAs}
 use Rattle.walk_preview.specs.Previews.{shownAs}
 use Rattle.walk_preview.specs.declared.Change.{Change as ChangeStruct}
 use Rattle.walk_preview.specs.declared.Shown.{Shown}
@@ -44,12 +44,12 @@ module _ (w : WalkStruct) (labels : List ℕ) where
   -- what is shown of an answer, by the definitions' walk and by the struct
   copy-of : (o : Outcome ℕ) (x : WalkStruct) → walkOf x ≡ moveWalk (walkOf w) labels
       → shownAs (seen (walkOf w) labels o (moveWalk (walkOf w) labels))
-      ≡ shown (toldAs o) (changeSeen w labels x (toldAs o .answer))
+      ≡ shown (toldBy o) (changeSeen w labels x (toldBy o .answer))
   unfolding front
   copy-of (refused k) x e = refl
   copy-of (ended k b s) x e = refl
   copy-of (moved r) x e =
-      ap (λ (z : Walk). shown (toldAs (moved r))
+      ap (λ (z : Walk). shown (toldBy (moved r))
       (changedOf (change (over (walkOf w) labels) (walkOf w .present) (z .present)))) (sym e)
 
   pub copy-is : shownAs (preview (walkOf w) labels) ≡ seenAs w labels (callOf w labels)
@@ -67,7 +67,7 @@ module _ (w : WalkStruct) (labels : List ℕ) where
       let z : m .rule ≡ rule = cc in
       rw (← z) (record-of (n .0) ∙ sym (recorded (n .0)) ∙ n .1)
 
-  pub shows : Shows w labels
+  pub shows : PreviewShows w labels
   shows = record {
     copy = copy-is;
     named = λ rule e. named-of (preview (walkOf w) labels) refl rule e

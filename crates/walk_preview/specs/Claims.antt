@@ -45,7 +45,7 @@ recordShown c rule = encoded (concatMap bytes16 (fieldShown c 0) ∷ concatMap b
     ∷ fieldShown c 3 ∷ fieldShown c 4 ∷ fieldShown c 5 ∷ (rule ∷ []) ∷ [])
 
 -- of every struct and table
-pub record Shows (w : WalkStruct) (labels : List ℕ) : Type 0 where
+pub record PreviewShows (w : WalkStruct) (labels : List ℕ) : Type 0 where
   -- "It equals what the moving call does to a copy of the walk, refusals and the end included"
   pub copy : shownAs (preview (walkOf w) labels) ≡ seenAs w labels (callOf w labels)
   -- "The preview names all that the trail's record of that move would hold": its bytes, from what is shown

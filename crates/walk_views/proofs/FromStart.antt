@@ -27,7 +27,7 @@ use Rattle.walks.specs.Preview.{preview}
 use Rattle.walks.specs.Walk.{Walk, walkAtStart}
 use Rattle.walk_calls.proofs.OnStructs.{call-ended, call-refused, calls-leave}
 use Rattle.walk_calls.specs.Calls.{callOf, toldIn}
-use Rattle.walk_calls.specs.Claims.{leftAfter, toldAs}
+use Rattle.walk_calls.specs.Claims.{leftAfter, toldBy}
 use Rattle.walk_calls.specs.declared.Told.{Told}
 use Rattle.walk_places.proofs.Held.{place-before}
 use Rattle.walk_places.specs.Walks.{beforeOf, carriedOf, placeOf, walkGrid, walkOf}
@@ -85,9 +85,9 @@ module _ (g : Grid) (v : Point) (labels : List ℕ) (ok : Accepted (begunOn g v 
   after i = calls-leave (begunOf g v labels .walk) labels .leaves i
       ∙ ap (λ (w : Walk). afterCalls i w labels) start-is
 
-  tells : (i : ℕ) → toldIn (callOf (leftFrom g v labels i) labels) ≡ toldAs (moveAnswer (called p i) labels)
+  tells : (i : ℕ) → toldIn (callOf (leftFrom g v labels i) labels) ≡ toldBy (moveAnswer (called p i) labels)
   tells i = calls-leave (begunOf g v labels .walk) labels .tells i
-      ∙ ap (λ (w : Walk). toldAs (moveAnswer (afterCalls i w labels) labels)) start-is
+      ∙ ap (λ (w : Walk). toldBy (moveAnswer (afterCalls i w labels) labels)) start-is
 
   answers : (i : ℕ) (o : Outcome ℕ) → moveAnswer (called p i) labels ≡ o
       → moveAnswer (walkOf (leftFrom g v labels i)) labels ≡ o
@@ -137,7 +137,7 @@ module _ (g : Grid) (v : Point) (labels : List ℕ) (ok : Accepted (begunOn g v 
     begins = ap (λ (b : Begun). b .code) begun-is;
     stands = stands;
     moves = λ i c. ap (λ (t : Told). t .answer) (tells i)
-        ∙ ap (λ (o : Outcome ℕ). toldAs o .answer) (follows .moves i c);
+        ∙ ap (λ (o : Outcome ℕ). toldBy o .answer) (follows .moves i c);
     shows = λ i c. ap (λ (w : Walk). preview w labels) (after i) ∙ follows .shows i c;
     ends = λ b n read k j vertices s q.
         let f = follows .ends b n read k j vertices s q in
