@@ -22,7 +22,8 @@ fn load_table(levels: &mut [u32], to: usize, losses: &[u16])
     }
 }
 
-// The tables of the first level, which are the same at every point: the losses of each index.
+// The tables of the first level, which are the same at every point: the losses of each index. What stands between and
+// behind these tables is left free: the later levels are written there before they are read.
 pub fn load_losses(
     sizes: &[u8],
     firsts: &[u8; 6],

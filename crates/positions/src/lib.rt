@@ -23,7 +23,8 @@ pub const ENTRIES: usize = 1255;
 
 const ROW: usize = 70;
 
-// The binomials that positions on this grid need, in a table lent by the caller.
+// The binomials that positions on this grid need, in a table lent by the caller. The entries that no block of the grid
+// needs are left free, and nothing reads them: whoever is lent the table asks for no more of it than `HasBinomials`.
 pub fn binomials(g: Grid, t: &mut [u16; ENTRIES])
     requires { ⌜ IsMade g × (length (now t) ≡ 1255) ⌝ }
     ensures { λ _. ⌜ HasBinomials (shape g) (now (t .exit)) ⌝ }
