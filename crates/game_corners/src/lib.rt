@@ -6,4 +6,5 @@ mod picking;
 mod weighing;
 
 pub use labels::label_point;
+pub use largest::first_largest;
 pub use weighing::weigh_corners;

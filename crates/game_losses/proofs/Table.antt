@@ -19,7 +19,7 @@ use Rattle.grid_points.specs.Grid.{Grid, numBlocks}
 use Rattle.game_losses.specs.Game.{product, lossesOf}
 use Rattle.game_losses.specs.Table.{inRange, IsTable}
 
-low-all : (l : List ℕ) → all inRange l ≡ true → all (λ v. leb v 1000) l ≡ true
+pub low-all : (l : List ℕ) → all inRange l ≡ true → all (λ v. leb v 1000) l ≡ true
 low-all [] a = refl
 low-all (x ∷ l) a = and-both _ _ (and-right (leb 1 x) (leb x 1000) (and-left (inRange x) (all inRange l) a))
     (low-all l (and-right (inRange x) (all inRange l) a))

@@ -1,0 +1,4 @@
+pub mod Opponents
+pub mod Bounds
+pub mod OwnLosses
+pub mod Compared

@@ -1,0 +1,92 @@
+-- `dot` meets its contract: what is summed and what is left make the whole sum. Assumes nothing.
+use Prim.Native.Nat.{_+_, _-_, _≤_}
+use mathlib.Core.Path.{_≡_}
+use native.Mathlib.Omega.{arith}
+use borrow.Author.Needs.{needs}
+use lib.ListN.{length, drop}
+use Rattle.game_losses.specs.Game.{dot}
+use Rattle.game_losses.proofs.Weights.{dot-turn, dot-done}
+use Rattle.game_point.proofs.differing.dot.Statement.{statement}
+use Rattle.game_point.proofs.differing.dot.Tie as tie
+
+abbrev Inv-loop : tie.InvT-loop
+Inv-loop mix values total₀ i₀ total i = (total + dot (drop i mix) (drop i values) ≡ dot mix values) × (i ≤ length mix)
+
+abbrev μ-loop : tie.MeasureT-loop
+μ-loop mix values total₀ i₀ total i = length mix - i
+
+loop-holds : tie.Need-loop-holds Inv-loop μ-loop
+loop-holds c = (omega arith, omega arith)
+
+mul-long64 : tie.Need-mul-long64 Inv-loop μ-loop
+mul-long64 c = omega arith
+
+shared-slice-read-long64 : tie.Need-shared-slice-read-long64 Inv-loop μ-loop
+shared-slice-read-long64 c = omega arith
+
+long64-requires : tie.Need-long64-requires Inv-loop μ-loop
+long64-requires c κs = search needs
+
+mul-total : tie.Need-mul-total Inv-loop μ-loop
+mul-total c = omega arith
+
+shared-slice-read-total : tie.Need-shared-slice-read-total Inv-loop μ-loop
+shared-slice-read-total c = omega arith
+
+mul-total-2 : tie.Need-mul-total-2 Inv-loop μ-loop
+mul-total-2 c =
+    let l = c .before .before .before .before .loop in
+    let a = c .before .before .before .before .before .before .before .args in
+    record {
+      fits = rw (c .before .long64 .ensures)
+          (omega (arith, dot-turn (a .mix .now) (a .values .now) (l .i) (omega arith) (omega arith)));
+    }
+
+add-total : tie.Need-add-total Inv-loop μ-loop
+add-total c =
+    let l = c .before .before .before .before .loop in
+    let a = c .before .before .before .before .before .before .before .args in
+    record {
+      fits = rw (c .before .long64 .ensures)
+          (omega (arith, dot-turn (a .mix .now) (a .values .now) (l .i) (omega arith) (omega arith)));
+    }
+
+add-i : tie.Need-add-i Inv-loop μ-loop
+add-i c = omega arith
+
+loop-less : tie.Need-loop-less Inv-loop μ-loop
+loop-less c = omega arith
+
+loop-again : tie.Need-loop-again Inv-loop μ-loop
+loop-again c =
+    let l = c .before .before .before .before .loop in
+    let a = c .before .before .before .before .before .before .before .args in (
+      rw (c .before .long64 .ensures)
+          (omega (arith, dot-turn (a .mix .now) (a .values .now) (l .i) (omega arith) (omega arith))),
+      omega arith,
+    )
+
+returns : tie.Need-returns Inv-loop μ-loop
+returns c =
+    let l = c .before .loop in
+    let a = c .before .before .before .before .args in
+    omega (arith, dot-done (a .mix .now) (drop (l .i) (a .values .now)) (l .i) (omega arith))
+
+pub dot-spec : {M : Type 1} → statement M
+dot-spec =
+    tie.close
+    (tie.spec
+    Inv-loop
+    μ-loop
+    loop-holds
+    mul-long64
+    shared-slice-read-long64
+    long64-requires
+    mul-total
+    shared-slice-read-total
+    mul-total-2
+    add-total
+    add-i
+    loop-less
+    loop-again
+    returns)
