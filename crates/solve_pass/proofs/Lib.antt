@@ -1,0 +1,4 @@
+pub mod Bare
+pub mod Points
+pub mod Places
+pub mod Passed
