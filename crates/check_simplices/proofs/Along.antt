@@ -6,11 +6,11 @@ use mathlib.Core.List.{List, [], _∷_}
 use mathlib.Core.Logic.{_⊎_, inl, inr, ⊎-elim}
 use mathlib.Core.Path.{_≡_, refl, sym, ap, _∙_}
 use Prim.Native.Nat.{ℕ, zero, suc, _+_, _≤_, _<_}
-use borrow.Author.Tests.{eqb-true, eq-eqb}
+use borrow.Author.Tests.{eqb-true, eq-eqb, not-true}
 use lib.Dec.{eqb}
 use lib.ListN.{length, take}
 use native.Mathlib.Omega.{arith}
-use Rattle.combinatorics.proofs.Basics.{absurd-bool, true-or-false, before-or-not, both, and-left, and-right, not-is}
+use Rattle.combinatorics.proofs.Basics.{absurd-bool, true-or-false, before-or-not, both, and-left, and-right}
 use Rattle.combinatorics.proofs.Basics.{false-of}
 use Rattle.combinatorics.proofs.Lists.{all-in, in-here, in-later, in-cases, filter-in, distinct-tail, onNumbers}
 use Rattle.combinatorics.proofs.Ranges.{in-upFrom, upFrom-in}
@@ -88,7 +88,7 @@ module _ (g : Grid) where
             (in-upFrom 0 (numBlocks g) j (omega arith) (omega arith)))) in
             let i = filter-in onNumbers (λ h. not (isIn eqb h o)) f.0 (indicesOf g j) f.1 in
             let r = upFrom-in (firstIndex g j) (size g j) f.0 i.0 in
-            (f .0, r .0, r .1, not-is _ i.1);
+            (f .0, r .0, r .1, not-true _ i.1);
       }
     where
       one-in : (xs : List ℕ) → length xs ≡ 1 → (x : ℕ) × (isIn eqb x xs ≡ true)

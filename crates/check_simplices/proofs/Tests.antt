@@ -5,12 +5,12 @@ use mathlib.Core.List.{List, [], _∷_}
 use mathlib.Core.Logic.{_⊎_, inl, inr, ⊎-elim}
 use mathlib.Core.Path.{_≡_, refl, sym, ap, _∙_}
 use Prim.Native.Nat.{ℕ, zero, suc, _+_, _≤_, _<_}
-use borrow.Author.Tests.{leb-true, le-leb}
+use borrow.Author.Tests.{leb-true, le-leb, not-true}
 use lib.Dec.{eqb, leb}
 use lib.ListN.{length, getD, List·getD-eq-default}
 use native.Mathlib.Omega.{arith}
 use Rattle.combinatorics.proofs.Basics.{absurd-bool, before-or-not, and-both, and-left, and-right, or-cases, or-left}
-use Rattle.combinatorics.proofs.Basics.{or-right, not-is}
+use Rattle.combinatorics.proofs.Basics.{or-right}
 use Rattle.combinatorics.proofs.Basics.{false-of}
 use Rattle.combinatorics.proofs.Lists.{Equality, all-in, in-all, onNumbers}
 use Rattle.combinatorics.specs.Lists.{all, same, distinct}
@@ -196,7 +196,7 @@ module _ {g : Grid} (A : InLimits g) (zs : List Point) (on : all (isGridPoint g)
         let a = coefficientsFrom g p (nth zs i) in
         let b = coefficientsFrom g p (nth zs j) in
         let n : same eqb a b ≡ false =
-        not-is _ (and-right (inside g a b || inside g b a) (not (same eqb a b)) (nested-at i j l m)) in
+        not-true _ (and-right (inside g a b || inside g b a) (not (same eqb a b)) (nested-at i j l m)) in
         absurd-bool (sym (onPoints .self b) ∙ (rw e at n))
 
     pub distinct-of : distinct samePoint zs ≡ true

@@ -44,14 +44,6 @@ pub and-both : (a b : Bool) → a ≡ true → b ≡ true → (a && b) ≡ true
 and-both true b e f = f
 and-both false b e f = e
 
-pub not-is : (a : Bool) → not a ≡ true → a ≡ false
-not-is true e = sym e
-not-is false e = refl
-
-pub is-not : (a : Bool) → not a ≡ false → a ≡ true
-is-not true e = refl
-is-not false e = sym e
-
 pub false-of : (a : Bool) → (a ≡ true → ⊥) → a ≡ false
 false-of true h = absurd (h refl)
 false-of false h = refl
@@ -72,11 +64,3 @@ same-beq true true e = refl
 same-beq false false e = refl
 same-beq true false e = absurd-bool e
 same-beq false true e = absurd-bool (sym e)
-
-pub or-true : (a : Bool) → (a || true) ≡ true
-or-true true = refl
-or-true false = refl
-
-pub and-false : (a : Bool) → (a && false) ≡ false
-and-false true = refl
-and-false false = refl

@@ -4,14 +4,14 @@ use mathlib.Core.List.{List, [], _∷_, _++_, map}
 use mathlib.Core.Logic.{_⊎_, inl, inr, ⊎-elim}
 use mathlib.Core.Path.{_≡_, refl, sym, ap, _∙_, subst}
 use Prim.Native.Nat.{ℕ, suc, _+_, _*_, _≤_, zero, _<_}
-use borrow.Author.Tests.{eqb-true, eq-eqb}
+use borrow.Author.Tests.{eqb-true, eq-eqb, not-true}
 use lib.Dec.{eqb}
 use lib.ListN.{length, length-append, getD, take}
 use native.Mathlib.Nat.{mul-le-mul-right}
 use native.Mathlib.Numerals.{add-one-le}
 use native.Mathlib.Omega.{arith}
 use Rattle.combinatorics.proofs.Basics.{absurd-bool, or-cases, or-right, or-left, and-left, and-right, and-both}
-use Rattle.combinatorics.proofs.Basics.{not-is, false-of, true-or-false}
+use Rattle.combinatorics.proofs.Basics.{false-of, true-or-false}
 use Rattle.combinatorics.specs.Lists.{filter, all, concatMap, same, isIn, distinct, any, occurrences, sum}
 
 -- a test of equality for the elements of a list
@@ -53,7 +53,7 @@ distinct-tail eq x xs d = and-right (not (isIn eq x xs)) (distinct eq xs) d
 
 pub distinct-out : {A : Type 0} (eq : A → A → Bool) (x : A) (xs : List A) → distinct eq (x ∷ xs) ≡ true
     → isIn eq x xs ≡ false
-distinct-out eq x xs d = not-is (isIn eq x xs) (and-left (not (isIn eq x xs)) (distinct eq xs) d)
+distinct-out eq x xs d = not-true (isIn eq x xs) (and-left (not (isIn eq x xs)) (distinct eq xs) d)
 
 abbrev drop1 : {A : Type 0} → (A → A → Bool) → A → List A → List A
 drop1 eq x [] = []
@@ -232,7 +232,7 @@ module _ {A : Type 0} (E : Equality A) where
       (λ z n.
       let w = filter-in (λ y. not (eq x y)) z a n in
       ⊎-elim
-      (λ (e : z ≡ x). absurd-bool (sym (self x) ∙ (rw e at (not-is (eq x z) w.1))))
+      (λ (e : z ≡ x). absurd-bool (sym (self x) ∙ (rw e at (not-true (eq x z) w.1))))
       (λ k. k)
       (in-cases z x b (h z w.0)))
       (omega (arith, length-without x a d here)))

@@ -3,12 +3,11 @@ use mathlib.Core.Bool.{not, cond}
 use mathlib.Core.List.{List, [], _∷_, map}
 use mathlib.Core.Path.{_≡_, refl, ap, _∙_, subst}
 use Prim.Native.Nat.{ℕ, zero, suc, _+_, _*_, _<_}
-use borrow.Author.Tests.{ne-eqb, eqb-false}
+use borrow.Author.Tests.{ne-eqb, eqb-false, not-true}
 use lib.Dec.{eqb}
 use lib.ListN.{length, getD, replicate}
 use native.Mathlib.Omega.{arith}
 use Rattle.combinatorics.proofs.Agreement.{map-agree, map-range}
-use Rattle.combinatorics.proofs.Basics.{not-is}
 use Rattle.combinatorics.proofs.Lists.{in-all, filter-in, eqb-self, onNumbers}
 use Rattle.combinatorics.proofs.Turns.{map-at}
 use Rattle.combinatorics.specs.Lists.{upFrom}
@@ -84,7 +83,7 @@ module _ (g : Grid) (losses : List ℕ) where
     others-agree =
         map-agree (λ i. not (eqb i j)) (mix g (replaced g y own)) (mix g y) (opponents g j)
         (in-all onNumbers _ (opponents g j) (λ i m. filter-in onNumbers (λ i. not (eqb i j)) i (blocks g) m .1))
-        (λ i b. other-mix i (eqb-false i j (not-is (eqb i j) b)))
+        (λ i b. other-mix i (eqb-false i j (not-true (eqb i j) b)))
 
     pub replaced-is : replacedLoss g losses y own ≡ division g j * getD (strategyLosses g y j (lossesOf g losses j)) k 0
     replaced-is =

@@ -1,9 +1,10 @@
 -- The elements of a list, each where it stands first: what one list more adds to them. Assumes nothing.
+use borrow.Author.Tests.{not-true}
 use mathlib.Core.Bool.{Bool, true, false, not, _&&_, _||_, cond}
 use mathlib.Core.List.{List, [], _∷_, _++_, append-nil}
 use mathlib.Core.Logic.{_⊎_, ⊎-elim}
 use mathlib.Core.Path.{_≡_, refl, sym, ap, _∙_}
-use Rattle.combinatorics.proofs.Basics.{absurd-bool, both, false-of, not-is, true-or-false}
+use Rattle.combinatorics.proofs.Basics.{absurd-bool, both, false-of, true-or-false}
 use Rattle.combinatorics.proofs.Lists.{Equality, distinct-filter, filter-all, filter-append, filter-cong, filter-in}
 use Rattle.combinatorics.proofs.Lists.{in-cases, in-filter, in-here, in-later, filter-twice}
 use Rattle.combinatorics.specs.Lists.{distinct, filter, isIn}
@@ -43,7 +44,7 @@ module _ {A : Type 0} (E : Equality A) where
   firsts-distinct [] = refl
   firsts-distinct (x ∷ xs) =
       let out : isIn eq x (filter (λ z. not (eq x z)) (firsts eq xs)) ≡ false = false-of _ (λ m.
-      absurd-bool (sym (self x) ∙ not-is (eq x x) (filter-in E (λ z. not (eq x z)) x (firsts eq xs) m .1))) in
+      absurd-bool (sym (self x) ∙ not-true (eq x x) (filter-in E (λ z. not (eq x z)) x (firsts eq xs) m .1))) in
       rw out (distinct-filter E (λ z. not (eq x z)) (firsts eq xs) (firsts-distinct xs))
 
   -- a second list adds its own that the first lacks

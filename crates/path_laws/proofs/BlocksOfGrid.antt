@@ -5,15 +5,14 @@ use mathlib.Core.List.{List, [], _∷_, map}
 use mathlib.Core.Logic.{⊎-elim}
 use mathlib.Core.Path.{_≡_, refl, sym, ap, _∙_, fun-ext}
 use Prim.Native.Nat.{ℕ, zero, suc, _+_, _-_, _≤_, _<_}
-use borrow.Author.Tests.{eqb-true, eq-eqb, ne-eqb, lt-ltb, le-ltb, lt-leb, le-leb}
+use borrow.Author.Tests.{eqb-true, eq-eqb, ne-eqb, lt-ltb, le-ltb, lt-leb, le-leb, not-true, not-false}
 use lib.Dec.{eqb}
 use lib.ListN.{length, getD, take, List·getD-eq-default}
 use lib.Seq.{ext-getD}
 use native.Mathlib.Omega.{arith}
-use Rattle.combinatorics.proofs.Basics.{same-or, absurd-bool, before-or-not, not-is, and-both, and-left, and-right}
+use Rattle.combinatorics.proofs.Basics.{same-or, absurd-bool, before-or-not, and-both, and-left, and-right}
 use Rattle.combinatorics.proofs.Lists.{in-all, all-in, onNumbers}
 use Rattle.combinatorics.specs.Lists.{sum, all, isIn, upFrom}
-use Rattle.combinatorics.proofs.Basics.{is-not}
 use Rattle.geometry.proofs.Search.{find}
 use Rattle.geometry.proofs.Definitions.{Blocks, back, coord, HasZeros, Grid as OnRing, BackOutside}
 use Rattle.geometry.proofs.Places.{coefficients as same-coefficients}
@@ -214,9 +213,9 @@ module _ (p : Problem) where
       let x : suc (d - 1) ≡ d = omega (arith, d0) in
       ⊎-elim
       (λ i.
-      let out : isIn eqb (back R.previous (suc i.0) h) u ≡ false = not-is _ i.2 in
+      let out : isIn eqb (back R.previous (suc i.0) h) u ≡ false = not-true _ i.2 in
       let on : (j : ℕ) → j < i .0 → isIn eqb (back R.previous (suc j) h) u ≡ true = λ j m.
-      is-not (isIn eqb (back R.previous (suc j) h) u) (i .3 j m) in (
+      not-false (isIn eqb (back R.previous (suc j) h) u) (i .3 j m) in (
         suc i.0,
         record {
           some = omega arith;
@@ -226,7 +225,7 @@ module _ (p : Problem) where
         search-back u (size p.grid (blockOf p.grid h)) i.0 h l (omega (arith, i .1)) on out,
       ))
       (λ i. absurd-bool
-      (sym (is-not (isIn eqb (back R.previous (suc (d - 1)) h) u) (i (d - 1) (omega (arith, d0))))
+      (sym (not-false (isIn eqb (back R.previous (suc (d - 1)) h) u) (i (d - 1) (omega (arith, d0))))
       ∙ (rw x (ap (λ (k : ℕ). isIn eqb k u) w ∙ o))))
       (find (λ j. not (isIn eqb (back R.previous (suc j) h) u)) d)
 

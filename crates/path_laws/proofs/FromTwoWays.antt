@@ -7,12 +7,12 @@ use mathlib.Core.Logic.{_⊎_, inl, inr, ⊎-elim}
 use mathlib.Core.Option.{Option, none, some}
 use mathlib.Core.Path.{_≡_, refl, sym, ap, _∙_, subst₂}
 use Prim.Native.Nat.{ℕ, zero, suc, pred, _+_, _≤_, _<_}
-use borrow.Author.Tests.{lt-ltb, le-ltb}
+use borrow.Author.Tests.{lt-ltb, le-ltb, not-true}
 use lib.Dec.{eqb}
 use lib.ListN.{length, getD, length-append, length-map}
 use lib.Seq.{ext-getD}
 use native.Mathlib.Omega.{arith}
-use Rattle.combinatorics.proofs.Basics.{absurd-bool, and-both, and-left, and-right, before-or-not, false-of, not-is}
+use Rattle.combinatorics.proofs.Basics.{absurd-bool, and-both, and-left, and-right, before-or-not, false-of}
 use Rattle.combinatorics.proofs.Basics.{same-or, true-or-false}
 use Rattle.combinatorics.proofs.Lists.{all-in, in-filter, filter-in, in-cases, in-here}
 use Rattle.combinatorics.proofs.Lists.{distinct-filter, only-member, pigeon, length-without}
@@ -333,7 +333,7 @@ module _ {p : Problem} (ok : HasTable p) (W : TwoWays p) where
   pub gap-not-all : (s : Simplex) {y : Point} → unlabelled p s ≡ y ∷ [] → allLabelled p s ≡ true → ⊥
   gap-not-all s {y} e own =
       let m = filter-in onPoints (λ y. not (hasLabel p y)) y s (rw e (in-here onPoints y [])) in
-      absurd-bool (sym (all-in onPoints (hasLabel p) s own y m.0) ∙ not-is _ m.1)
+      absurd-bool (sym (all-in onPoints (hasLabel p) s own y m.0) ∙ not-true _ m.1)
 
   path-final : Final p (path p .visited)
   path-final = go path-stop
@@ -520,5 +520,5 @@ module _ {p : Problem} (ok : HasTable p) (W : TwoWays p) where
               let c = path-nonempty in
               let l = all-places p path-trail (start-place ok.hasStart) (pred (pathLength p)) (omega arith) in
               let o = zero-at ok y (all-in onPoints _ (lastPlace (path p .visited)) (parts p _ l .gridPoints) y m.0)
-              (not-is _ m.1) in
+              (not-true _ m.1) in
               (omega arith, omega arith, rw (← w) o)

@@ -5,12 +5,12 @@ use mathlib.Core.List.{List, map}
 use mathlib.Core.Logic.{_↔_, _⊎_, ⊎-elim}
 use mathlib.Core.Path.{_≡_, sym}
 use Prim.Native.Nat.{ℕ, suc, _<_}
-use borrow.Author.Tests.{eqb-true, eq-eqb, ltb-true, lt-ltb}
+use borrow.Author.Tests.{eqb-true, eq-eqb, ltb-true, lt-ltb, not-true}
 use lib.Dec.{eqb, ltb}
 use native.Mathlib.Omega.{arith}
 use Rattle.combinatorics.proofs.Lists.{any-in, in-any, Equality, all-in, in-all, in-filter, filter-in, in-map, map-in}
 use Rattle.combinatorics.proofs.Lists.{onNumbers}
-use Rattle.combinatorics.proofs.Basics.{and-both, and-left, and-right, or-cases, or-left, or-right, not-is}
+use Rattle.combinatorics.proofs.Basics.{and-both, and-left, and-right, or-cases, or-left, or-right}
 use Rattle.combinatorics.proofs.Ranges.{in-upFrom, upFrom-in}
 use Rattle.combinatorics.specs.Lists.{all, any, isIn}
 use Rattle.grid_points.proofs.Points.{onPoints}
@@ -63,7 +63,7 @@ module _ (p : Problem) (s : Simplex) where
         (and-right (not u) (any (λ c. ltb 0 (at c h)) (map (coefficients p) s)) w.1) in
         let i = map-in onPoints onPoints (coefficients p) v.0 s v.1 in (
           index-means p.grid h .0 w.0,
-          not-is u (and-left (not u) (any (λ c. ltb 0 (at c h)) (map (coefficients p) s)) w.1),
+          not-true u (and-left (not u) (any (λ c. ltb 0 (at c h)) (map (coefficients p) s)) w.1),
           (i .0, i .1, ltb-true _ _ (rw i.2 at v.2)),
         )),
     (λ w. in-filter onNumbers q h (indices p.grid) (index-means p.grid h .1 w.0)
@@ -114,8 +114,8 @@ module _ (p : Problem) (s : Simplex) where
         (in-upFrom 0 (numBlocks p.grid) j (omega arith) (omega arith))) in (
           w .0,
           w .1,
-          not-is _ (and-left (not (isIn eqb w.0 t)) (not (isIn eqb w.0 u)) w.2),
-          not-is _ (and-right (not (isIn eqb w.0 t)) (not (isIn eqb w.0 u)) w.2),
+          not-true _ (and-left (not (isIn eqb w.0 t)) (not (isIn eqb w.0 u)) w.2),
+          not-true _ (and-right (not (isIn eqb w.0 t)) (not (isIn eqb w.0 u)) w.2),
         )),
     (λ f. in-all onNumbers
         (λ j. any q (indicesOf p.grid j))

@@ -1,5 +1,6 @@
 -- What holds of the places of pathFrom, whatever the labels. In order: the ways on from a place; the course of a path;
 -- its places and links; fuel beyond the last place changes nothing. Assumes nothing.
+use borrow.Author.Tests.{not-true}
 use mathlib.Core.Bool.{Bool, true, false, not, cond}
 use mathlib.Core.List.{List, [], _∷_, _++_, map}
 use mathlib.Core.Logic.{_⊎_, inl, inr, ⊎-elim}
@@ -8,7 +9,7 @@ use mathlib.Core.Path.{_≡_, refl, sym, ap, _∙_}
 use Prim.Native.Nat.{ℕ, zero, suc, _≤_, _<_}
 use lib.ListN.{length}
 use native.Mathlib.Omega.{arith}
-use Rattle.combinatorics.proofs.Basics.{absurd-bool, not-is, true-or-false}
+use Rattle.combinatorics.proofs.Basics.{absurd-bool, true-or-false}
 use Rattle.combinatorics.proofs.Lists.{filter-append, filter-in, in-here}
 use Rattle.combinatorics.specs.Lists.{filter, isIn, sublists}
 use Rattle.grid_points.specs.Grid.{points}
@@ -115,7 +116,7 @@ module _ (p : Problem) where
   second (stuck q) c = absurd (omega arith)
   second (stops es own q) c = absurd (omega arith)
   second (goes {l = l} {h = h} t own q m k) c =
-      rw (first k (omega arith)) (not-is _ (filter-in onSimplices _ t (links p h) m .1))
+      rw (first k (omega arith)) (not-true _ (filter-in onSimplices _ t (links p h) m .1))
 
   pub step-links : {n : ℕ} {l : Option Simplex} {h : Simplex} {s : List Simplex} {e : Option End} → Trail p n l h s e
       → isPlace p h ≡ true → (i : ℕ) → suc i < length s

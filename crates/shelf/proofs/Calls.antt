@@ -4,12 +4,12 @@ use mathlib.Core.List.{List}
 use mathlib.Core.Logic.{_⊎_, ⊎-elim}
 use mathlib.Core.Path.{_≡_}
 use Prim.Native.Nat.{ℕ, suc, _+_, _≤_, _<_}
-use borrow.Author.Tests.{eqb-true, le-leb, leb-true, lt-ltb, ltb-true, ne-eqb}
+use borrow.Author.Tests.{eqb-true, le-leb, leb-true, lt-ltb, ltb-true, ne-eqb, not-true}
 use lib.Dec.{eqb, leb, ltb}
 use lib.ListN.{length, set}
 use native.Mathlib.Numerals.{add-one}
 use native.Mathlib.Omega.{arith}
-use Rattle.combinatorics.proofs.Basics.{and-left, and-right, false-of, not-is, true-or-false}
+use Rattle.combinatorics.proofs.Basics.{and-left, and-right, false-of, true-or-false}
 use Rattle.questions.proofs.Answers.{first-yes}
 use Rattle.questions.specs.Questions.{firstNo}
 use Rattle.shelf.proofs.Sheets.{Shelf, is-shelf, shelf-of}
@@ -38,7 +38,7 @@ module _ (list : List ℕ) (count named : ℕ) where
         below = ltb-true count 1000 (and-left _ _ (b .0));
         place = ltb-true count (length list) (and-right (ltb count 1000) _ (b .0));
         onShelf = leb-true named count (and-left _ _ d);
-        unreplaced = not-is _ (and-right (leb named count) _ d);
+        unreplaced = not-true _ (and-right (leb named count) _ d);
       }
 
   accepted : {new : ℕ} → filing list count named ≡ FiledAs new
@@ -104,7 +104,7 @@ module _ (list : List ℕ) (count named : ℕ) where
       unfolding firstNo
       refusal-23 f =
           let e : (leb named count && not (isReplaced list count named)) ≡ false =
-          false-of _ (λ t. f (leb-true named count (and-left _ _ t)) (not-is _ (and-right (leb named count) _ t))) in
+          false-of _ (λ t. f (leb-true named count (and-left _ _ t)) (not-true _ (and-right (leb named count) _ t))) in
           rw (passes, below, place, e)
 
       pub no-refusal : named ≤ count → isReplaced list count named ≡ false → filingRefusal list count named ≡ 0

@@ -5,11 +5,11 @@ use mathlib.Core.List.{List}
 use mathlib.Core.Logic.{⊎-elim}
 use mathlib.Core.Path.{_≡_, refl, sym, ap, _∙_}
 use Prim.Native.Nat.{ℕ, zero, suc, _≤_, _<_}
-use borrow.Author.Tests.{eqb-true, eq-eqb, leb-true, le-leb, ltb-true, lt-ltb}
+use borrow.Author.Tests.{eqb-true, eq-eqb, leb-true, le-leb, ltb-true, lt-ltb, not-true}
 use lib.Dec.{leb, ltb}
 use lib.ListN.{length}
 use native.Mathlib.Omega.{arith}
-use Rattle.combinatorics.proofs.Basics.{absurd-bool, and-both, and-left, and-right, before-or-not, false-of, not-is}
+use Rattle.combinatorics.proofs.Basics.{absurd-bool, and-both, and-left, and-right, before-or-not, false-of}
 use Rattle.combinatorics.proofs.Basics.{or-cases, or-left, or-right, same-or}
 use Rattle.combinatorics.specs.Lists.{all}
 use Rattle.shelf.specs.Shelf.{Replaces, entry, isReplaced, isShelf, names, namesRightly, sheets}
@@ -95,7 +95,7 @@ module _ (list : List ℕ) where
   rightly-once j zero e l h s = absurd (omega arith)
   rightly-once j (suc b) e l h s =
       let named = entry list (suc b) in
-      let unnamed : isReplaced list b named ≡ false = not-is _ (and-right (ltb named (suc b)) _ e) in
+      let unnamed : isReplaced list b named ≡ false = not-true _ (and-right (ltb named (suc b)) _ e) in
       ⊎-elim
       (λ (z : named ≡ 0). z)
       (λ (n : named ≡ 0 → ⊥). absurd (none-names list {k = j} unnamed

@@ -1,4 +1,5 @@
 -- Lists less another list: what is left, and how much. Assumes nothing.
+use borrow.Author.Tests.{not-true}
 use mathlib.Core.Bool.{true, false, not}
 use mathlib.Core.List.{List, [], _∷_, map}
 use mathlib.Core.Logic.{⊎-elim}
@@ -7,7 +8,7 @@ use Prim.Native.Nat.{ℕ, _+_, _≤_}
 use lib.Dec.{eqb}
 use lib.ListN.{length}
 use native.Mathlib.Omega.{arith}
-use Rattle.combinatorics.proofs.Basics.{absurd-bool, not-is, true-or-false}
+use Rattle.combinatorics.proofs.Basics.{absurd-bool, true-or-false}
 use Rattle.combinatorics.proofs.Lists.{Equality, in-here, in-filter, filter-in, distinct-filter, pigeon, only-list}
 use Rattle.combinatorics.specs.Lists.{filter, isIn, distinct}
 use Rattle.combinatorics.proofs.Lists.{length-passing, onNumbers}
@@ -31,7 +32,7 @@ module _ {A : Type 0} (E : Equality A) where
 
   pub outside-in : (x : A) (a b : List A) → isIn E.eq x (outside E.eq b a) ≡ true
       → (isIn E.eq x a ≡ true) × (isIn E.eq x b ≡ false)
-  outside-in x a b m = let w = filter-in E (λ z. not (isIn E.eq z b)) x a m in (w .0, not-is _ w.1)
+  outside-in x a b m = let w = filter-in E (λ z. not (isIn E.eq z b)) x a m in (w .0, not-true _ w.1)
 
   -- the elements of a within b are counted alike from both sides
   shared-le : (a b : List A) → distinct E.eq a ≡ true

@@ -4,12 +4,12 @@ use mathlib.Core.List.{List, [], _∷_, _++_, map, append-assoc}
 use mathlib.Core.Logic.{⊎-elim}
 use mathlib.Core.Path.{_≡_, refl, sym, ap, _∙_}
 use Prim.Native.Nat.{ℕ, suc, _+_, _*_, _%_, _/_, _≤_, _<_}
-use borrow.Author.Tests.{eqb-true, eq-eqb, leb-true}
+use borrow.Author.Tests.{eqb-true, eq-eqb, leb-true, not-true}
 use lib.Dec.{eqb, leb}
 use lib.ListN.{length, drop, getD}
 use native.Mathlib.Nat.{div-add-mod'}
 use native.Mathlib.Omega.{arith}
-use Rattle.combinatorics.proofs.Basics.{absurd-bool, and-left, and-right, and-both, not-is, both, true-or-false}
+use Rattle.combinatorics.proofs.Basics.{absurd-bool, and-left, and-right, and-both, both, true-or-false}
 use Rattle.combinatorics.proofs.Basics.{before-or-not}
 use Rattle.combinatorics.proofs.Lists.{all-in, in-all}
 use Rattle.combinatorics.proofs.Rising.{rising-same}
@@ -138,7 +138,7 @@ moves-of p a b h =
     let k1 : (x && y && z && not u) ≡ true = and-left (x && y && z && not u) w h in
     let k2 : (x && y && z) ≡ true = and-left (x && y && z) (not u) k1 in
     let k3 : (x && y) ≡ true = and-left (x && y) z k2 in
-    let n : u ≡ false = not-is u (and-right (x && y && z) (not u) k1) in
+    let n : u ≡ false = not-true u (and-right (x && y && z) (not u) k1) in
     record {
       place = and-left x y k3;
       fewIn = leb-true _ 1 (and-right x y k3);

@@ -1,5 +1,6 @@
 -- The moving call by its parts. In order: a refusal by questions 1 to 7; what comes next; the grid of a walk. Assumes
 -- nothing.
+use mathlib.Core.Bool.{and-false}
 use mathlib.Core.List.{List, [], _∷_, map}
 use mathlib.Core.Path.{_≡_, refl, sym, ap, _∙_}
 use Prim.Native.Nat.{ℕ, suc, _*_, _≤_, _<_}
@@ -8,7 +9,7 @@ use lib.Dec.{leb}
 use lib.ListN.{take, length-replicate}
 use native.Mathlib.Nat.{mul-le-mul}
 use native.Mathlib.Omega.{arith}
-use Rattle.combinatorics.proofs.Basics.{absurd-bool, and-false}
+use Rattle.combinatorics.proofs.Basics.{absurd-bool}
 use Rattle.combinatorics.specs.Front.{front, padded}
 use Rattle.combinatorics.specs.Counting.{falling}
 use Rattle.combinatorics.specs.Lists.{sum, upFrom}

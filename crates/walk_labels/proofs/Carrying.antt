@@ -1,6 +1,6 @@
 -- Labels carried one after the other. In order: labels in marks; a mark that is searched; one label more. Assumes
 -- nothing.
-use mathlib.Core.Bool.{Bool, true, false, not, _&&_, cond}
+use mathlib.Core.Bool.{Bool, true, false, not, _&&_, cond, and-false}
 use mathlib.Core.List.{List, [], _∷_, _++_, map}
 use mathlib.Core.Logic.{⊎-elim}
 use mathlib.Core.Path.{_≡_, refl, sym, ap, _∙_}
@@ -11,7 +11,7 @@ use lib.ListN.{length, replicate, set, take, length-map, length-replicate, getD-
 use lib.Seq.{getD-take, length-take-le, take-suc}
 use native.Mathlib.Numerals.{add-one}
 use native.Mathlib.Omega.{arith}
-use Rattle.combinatorics.proofs.Basics.{before-or-not, false-of, and-false}
+use Rattle.combinatorics.proofs.Basics.{before-or-not, false-of}
 use Rattle.combinatorics.proofs.Fronts.{front-at, front-behind, front-length, front-none, front-put}
 use Rattle.combinatorics.proofs.Lists.{onNumbers}
 use Rattle.combinatorics.specs.Front.{front}

@@ -1,14 +1,13 @@
 -- The search for the spare point, one point after another. Assumes nothing.
-use mathlib.Core.Bool.{true, false, not, _&&_}
+use mathlib.Core.Bool.{true, false, not, _&&_, or-true}
 use mathlib.Core.List.{List}
 use mathlib.Core.Logic.{⊎-elim}
 use mathlib.Core.Path.{_≡_, refl, sym, ap, _∙_}
 use Prim.Native.Nat.{ℕ, suc, _+_, _-_, _≤_, _<_}
-use borrow.Author.Tests.{eqb-true, eq-eqb, ne-eqb}
+use borrow.Author.Tests.{eqb-true, eq-eqb, ne-eqb, not-true}
 use lib.Dec.{eqb}
 use native.Mathlib.Omega.{arith}
-use Rattle.combinatorics.proofs.Basics.{absurd-bool, and-left, and-right, not-is, or-cases, same-or, true-or-false}
-use Rattle.combinatorics.proofs.Basics.{or-true}
+use Rattle.combinatorics.proofs.Basics.{absurd-bool, and-left, and-right, or-cases, same-or, true-or-false}
 use Rattle.grid_points.specs.Grid.{at}
 use Rattle.rules.proofs.Masks.{bit-none, bit-with}
 use Rattle.rules.specs.Mask.{bit, withIndex}
@@ -28,14 +27,14 @@ module _ (marks : List ℕ) (k t seen point l : ℕ) (S : SparesBelow marks k t 
       let x = not (eqb l 0) in
       let y = bit t (l - 1) in
       let z = not (bit seen (l - 1)) in
-      let a = not-is (eqb l 0) (and-left x (y && z) e) in
+      let a = not-true (eqb l 0) (and-left x (y && z) e) in
       let r = and-right x (y && z) e in (
         ⊎-elim
             (λ (q : l ≡ 0). absurd-bool (sym (eq-eqb l 0 q) ∙ a))
             (λ (q : l ≡ 0 → ⊥). omega (arith, q))
             (same-or l 0),
         and-left y z r,
-        not-is (bit seen (l - 1)) (and-right y z r),
+        not-true (bit seen (l - 1)) (and-right y z r),
       )
 
   pub spares-new : isNew t seen l ≡ true → SparesBelow marks (k + 1) t (withIndex seen (l - 1)) point

@@ -4,12 +4,12 @@ use mathlib.Core.List.{List, [], _∷_}
 use mathlib.Core.Logic.{⊎-elim}
 use mathlib.Core.Path.{_≡_, refl, sym, ap, _∙_}
 use Prim.Native.Nat.{ℕ, zero, suc, _+_, _≤_, _<_}
-use borrow.Author.Tests.{eq-eqb, ne-eqb}
+use borrow.Author.Tests.{eq-eqb, ne-eqb, not-true}
 use lib.Dec.{eqb}
 use lib.ListN.{getD, take}
 use native.Mathlib.Numerals.{add-one}
 use native.Mathlib.Omega.{arith}
-use Rattle.combinatorics.proofs.Basics.{absurd-bool, and-left, and-right, not-is, same-or}
+use Rattle.combinatorics.proofs.Basics.{absurd-bool, and-left, and-right, same-or}
 use Rattle.combinatorics.specs.Lists.{sum}
 use Rattle.grid.proofs.Fields.{made-blocks, made-indices}
 use Rattle.grid_points.proofs.Round.{block-spans}
@@ -21,8 +21,8 @@ use Rattle.walk_recogniser.specs.Pieces.{inNeither, FreeIn, filled, IsFr
 
 pub neither : (t u h : ℕ) → (not (bit t h) && not (bit u h)) ≡ true → inNeither t u h
 neither t u h e = (
-  not-is (bit t h) (and-left (not (bit t h)) (not (bit u h)) e),
-  not-is (bit u h) (and-right (not (bit t h)) (not (bit u h)) e),
+  not-true (bit t h) (and-left (not (bit t h)) (not (bit u h)) e),
+  not-true (bit u h) (and-right (not (bit t h)) (not (bit u h)) e),
 )
 
 not-neither : (t u h : ℕ) → (not (bit t h) && not (bit u h)) ≡ false → inNeither t u h → ⊥

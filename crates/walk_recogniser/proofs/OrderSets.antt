@@ -1,5 +1,5 @@
 -- The masks of an order's indices and of what they leave of the zeros, one index after another. Assumes nothing.
-use mathlib.Core.Bool.{Bool, true, false, not, _&&_, _||_}
+use mathlib.Core.Bool.{Bool, true, false, not, _&&_, _||_, or-true}
 use mathlib.Core.List.{List}
 use mathlib.Core.Logic.{⊎-elim}
 use mathlib.Core.Path.{_≡_, refl, sym, ap, _∙_}
@@ -7,7 +7,7 @@ use Prim.Native.Nat.{ℕ, _+_, _≤_, _<_}
 use borrow.Author.Tests.{eqb-true, eq-eqb}
 use lib.Dec.{eqb}
 use native.Mathlib.Omega.{arith}
-use Rattle.combinatorics.proofs.Basics.{absurd-bool, or-cases, same-or, or-true}
+use Rattle.combinatorics.proofs.Basics.{absurd-bool, or-cases, same-or}
 use Rattle.grid_points.specs.Grid.{at}
 use Rattle.rules.proofs.Masks.{bit-none, bit-with, bit-without}
 use Rattle.rules.specs.Mask.{bit, withIndex, withoutIndex}

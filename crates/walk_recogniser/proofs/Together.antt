@@ -4,12 +4,12 @@ use mathlib.Core.Bool.{true, false, not, _&&_}
 use mathlib.Core.List.{List, []}
 use mathlib.Core.Path.{_≡_, refl, sym, ap, _∙_}
 use Prim.Native.Nat.{ℕ, _+_, _-_, _≤_, _<_}
-use borrow.Author.Tests.{eqb-true, eq-eqb, ltb-true, lt-ltb}
+use borrow.Author.Tests.{eqb-true, eq-eqb, ltb-true, lt-ltb, not-true}
 use lib.Dec.{eqb, ltb}
 use lib.ListN.{length, take, length-take}
 use lib.Seq.{getD-take}
 use native.Mathlib.Omega.{arith}
-use Rattle.combinatorics.proofs.Basics.{absurd-bool, and-both, and-left, and-right, both, false-of, not-is}
+use Rattle.combinatorics.proofs.Basics.{absurd-bool, and-both, and-left, and-right, both, false-of}
 use Rattle.combinatorics.proofs.Lists.{all-in, in-all, onNumbers}
 use Rattle.combinatorics.proofs.Ranges.{in-upFrom, upFrom-in}
 use Rattle.combinatorics.specs.Lists.{isIn}
@@ -117,7 +117,7 @@ module _ {g : GridStruct} {binomials start previous sizes first order : List ℕ
         let ab = and-left (a && b) d e in
         let kl = ltb-true k (g .indices) (and-left a b ab) in
         is-zero p o y k (omega (arith, kl, m-is)) (getD-take (g .indices) first k 0 kl ∙ eqb-true _ 0
-        (and-right a b ab)) (not-is _ (and-right (a && b) d e)))
+        (and-right a b ab)) (not-true _ (and-right (a && b) d e)))
         (λ e. let w = zero-is p o y k e in
         let kl : k < g .indices = omega (arith, w .0, m-is) in
         and-both _ _ (and-both _ _ (lt-ltb k (g .indices) kl)

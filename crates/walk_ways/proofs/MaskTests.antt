@@ -1,11 +1,11 @@
 -- Two masks as sets of indices: whether they are alike, and whether one is within the other; with an index and without
 -- one. By these, the rule by which T and U change. Assumes nothing.
-use mathlib.Core.Bool.{Bool, Bool·beq, true, false, not, _&&_, _||_, cond}
+use mathlib.Core.Bool.{Bool, Bool·beq, true, false, not, _&&_, _||_, cond, or-true}
 use mathlib.Core.Path.{_≡_, refl, sym, _∙_}
 use Prim.Native.Nat.{ℕ, _<_}
 use lib.Dec.{eqb}
 use native.Mathlib.Omega.{arith}
-use Rattle.combinatorics.proofs.Basics.{absurd-bool, false-of, beq-same, or-true, same-beq}
+use Rattle.combinatorics.proofs.Basics.{absurd-bool, false-of, beq-same, same-beq}
 use Rattle.combinatorics.proofs.Lists.{all-in, eqb-self, in-all, onNumbers}
 use Rattle.combinatorics.proofs.Ranges.{in-upFrom, upFrom-in}
 use Rattle.combinatorics.specs.Lists.{all, upFrom}

@@ -5,11 +5,11 @@ use mathlib.Core.List.{List}
 use mathlib.Core.Logic.{⊎-elim}
 use mathlib.Core.Path.{_≡_, refl, sym, _∙_, subst}
 use Prim.Native.Nat.{ℕ, zero, suc, _-_, _≤_, _<_}
-use borrow.Author.Tests.{eqb-false, eqb-true, ltb-false, ltb-true}
+use borrow.Author.Tests.{eqb-false, eqb-true, ltb-false, ltb-true, not-true}
 use lib.Dec.{eqb, ltb}
 use lib.ListN.{length}
 use native.Mathlib.Omega.{arith}
-use Rattle.combinatorics.proofs.Basics.{absurd-bool, and-right, false-of, not-is, true-or-false}
+use Rattle.combinatorics.proofs.Basics.{absurd-bool, and-right, false-of, true-or-false}
 use Rattle.combinatorics.proofs.Lists.{filter-in, onNumbers}
 use Rattle.combinatorics.specs.Lists.{isIn}
 use Rattle.grid_points.specs.Grid.{Point, at, indices}
@@ -51,7 +51,7 @@ module _ {p q : Problem} {y : Point} {o : List ℕ} {s : State} (L : LentPlace p
       let h = at (s .order) j in
       let z : isIn eqb h (zeroOutside p.grid o y) ≡ true = sym (L .inU h (R .orderBelow j l)) ∙ t in
       let k = filter-in onNumbers (λ h. eqb (at y h) 0 && not (isIn eqb h o)) h (indices p.grid) z .1 in
-      absurd-bool (sym (in-order j l) ∙ not-is _ (and-right (eqb (at y h) 0) (not (isIn eqb h o)) k)))
+      absurd-bool (sym (in-order j l) ∙ not-true _ (and-right (eqb (at y h) 0) (not (isIn eqb h o)) k)))
 
   -- a state, and what comes after a move, that hold the rule
   record Holds (e : State) : Type 0 where

@@ -1,10 +1,11 @@
 -- The rule that masks tell is the rule of the change. Assumes nothing.
+use borrow.Author.Tests.{not-true}
 use mathlib.Core.Bool.{true, false, not}
 use mathlib.Core.List.{List, [], _∷_}
 use mathlib.Core.Path.{_≡_, sym, _∙_}
 use Prim.Native.Nat.{ℕ}
 use lib.Dec.{eqb}
-use Rattle.combinatorics.proofs.Basics.{absurd-bool, both, false-of, not-is}
+use Rattle.combinatorics.proofs.Basics.{absurd-bool, both, false-of}
 use Rattle.combinatorics.proofs.Lists.{filter-in, in-here, onNumbers}
 use Rattle.combinatorics.specs.Lists.{isIn}
 use Rattle.place.specs.Places.{Simplex, setT, setU}
@@ -20,7 +21,7 @@ use Rattle.walk_ways.proofs.MaskTests.{alike, alike-of, maskWithin, of-
 one-outside : (u v : List ℕ) (h : ℕ) → outside eqb v u ≡ h ∷ [] → (isIn eqb h u ≡ true) × (isIn eqb h v ≡ false)
 one-outside u v h e =
     let w = filter-in onNumbers (λ x. not (isIn eqb x v)) h u (rw e (in-here onNumbers h [])) in
-    (w .0, not-is _ w.1)
+    (w .0, not-true _ w.1)
 
 module _ {a b : ℕ} {u v : List ℕ} (A : IsMask a u) (B : IsMask b v) where
   kept : outside eqb u v ≡ [] → outside eqb v u ≡ [] → alike a b ≡ true

@@ -1,4 +1,5 @@
 -- Calls over one table, made from {v}, follow the path of an accepted table to its end or to its gap. Assumes nothing.
+use borrow.Author.Tests.{not-true}
 use mathlib.Core.Bool.{Bool, true, false, not, cond}
 use mathlib.Core.List.{List, [], _∷_, _++_}
 use mathlib.Core.Option.{Option, none, some}
@@ -6,7 +7,7 @@ use mathlib.Core.Path.{_≡_, refl, sym, ap, _∙_, subst}
 use Prim.Native.Nat.{ℕ, zero, suc, pred, _+_, _-_, _≤_, _<_}
 use lib.Dec.{ltb}
 use native.Mathlib.Omega.{arith}
-use Rattle.combinatorics.proofs.Basics.{absurd-bool, false-of, not-is}
+use Rattle.combinatorics.proofs.Basics.{absurd-bool, false-of}
 use Rattle.combinatorics.proofs.Lists.{all-in, filter-in, in-filter, in-here, only-list}
 use Rattle.end_kinds.specs.declared.Kind.{Kind}
 use Rattle.grid_points.proofs.Points.{onPoints}
@@ -135,7 +136,7 @@ module _ {p : Problem} (ok : Accepted p) where
   gap-at y g =
       let m = filter-in onPoints (λ y. not (hasLabel p y)) y (here last) (rw g (in-here onPoints y [])) in
       let f : allLabelled p (here last) ≡ false =
-      false-of _ (λ own. absurd-bool (sym (all-in onPoints (hasLabel p) (here last) own y m.0) ∙ not-is _ m.1)) in
+      false-of _ (λ own. absurd-bool (sym (all-in onPoints (hasLabel p) (here last) own y m.0) ∙ not-true _ m.1)) in
       rw (stands last last-below)
       (answer-refused (walkAt p last) p.labels 16 (λ z. absurd (omega arith))
       (meets-16 (walkAt p last) p.labels ok (stands-at last last-below) f))

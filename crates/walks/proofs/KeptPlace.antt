@@ -5,12 +5,12 @@ use mathlib.Core.List.{List, [], _∷_}
 use mathlib.Core.Logic.{_⊎_, inr, ⊎-elim}
 use mathlib.Core.Path.{_≡_, refl, sym, ap, _∙_, subst}
 use Prim.Native.Nat.{ℕ, zero, suc, _+_, _-_, _≤_, _<_}
-use borrow.Author.Tests.{eqb-true, ltb-true, ne-eqb}
+use borrow.Author.Tests.{eqb-true, ltb-true, ne-eqb, not-true}
 use lib.Dec.{eqb, ltb}
 use lib.ListN.{length, length-map}
 use lib.Seq.{ext-getD}
 use native.Mathlib.Omega.{arith}
-use Rattle.combinatorics.proofs.Basics.{absurd-bool, and-both, and-left, and-right, before-or-not, false-of, not-is}
+use Rattle.combinatorics.proofs.Basics.{absurd-bool, and-both, and-left, and-right, before-or-not, false-of}
 use Rattle.combinatorics.proofs.Basics.{or-cases, same-or, true-or-false}
 use Rattle.combinatorics.proofs.Lists.{all-in, distinct-out, distinct-tail, filter-in, in-filter, in-here, in-later}
 use Rattle.combinatorics.proofs.Lists.{onNumbers}
@@ -53,7 +53,7 @@ module _ (p : Problem) where
       let a : Bool = eqb (at y k) 0 in (
         index-means p.grid k .0 i.0,
         eqb-true _ _ (and-left a (not (isIn eqb k o)) i.1),
-        not-is _ (and-right a (not (isIn eqb k o)) i.1),
+        not-true _ (and-right a (not (isIn eqb k o)) i.1),
       )
 
   pub is-zero : (o : List ℕ) (y : Point) (k : ℕ) → k < numIndices p.grid → at y k ≡ 0 → isIn eqb k o ≡ false

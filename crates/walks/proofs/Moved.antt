@@ -6,10 +6,10 @@ use mathlib.Core.Logic.{_↔_, _⊎_, inl, inr, ⊎-elim}
 use mathlib.Core.Option.{Option, none, some}
 use mathlib.Core.Path.{_≡_, refl, sym, ap, _∙_, subst}
 use Prim.Native.Nat.{ℕ, zero, suc, _≤_, _<_}
-use borrow.Author.Tests.{ne-eqb}
+use borrow.Author.Tests.{ne-eqb, not-true}
 use lib.ListN.{length}
 use native.Mathlib.Omega.{arith}
-use Rattle.combinatorics.proofs.Basics.{absurd-bool, before-or-not, false-of, not-is, same-or, true-or-false}
+use Rattle.combinatorics.proofs.Basics.{absurd-bool, before-or-not, false-of, same-or, true-or-false}
 use Rattle.combinatorics.proofs.Lists.{filter-in, in-here}
 use Rattle.grid_points.specs.Grid.{bound}
 use Rattle.place.specs.Ends.{Way, stop, link, ways}
@@ -55,7 +55,7 @@ onward-of : {p : Problem} {l : Option Simplex} {here s : Simplex} {ws : List Way
 unfolding waysOn
 onward-of {p} {l} {here} {s} {ws} h q =
     let m = filter-in onWays (λ w. not (isBack l w)) (link s) (ways p here) (rw q (in-here onWays (link s) ws)) in
-    record { joins = way-link h (way-is p here (link s) m.0) refl; away = not-is _ m.1 }
+    record { joins = way-link h (way-is p here (link s) m.0) refl; away = not-true _ m.1 }
 
 by-link : (l : List Way) (s : Simplex) → byWay l ≡ moved s → (ws : List Way) × (l ≡ link s ∷ ws)
 by-link [] s e = absurd-bool (cc)

@@ -1,9 +1,10 @@
 -- `recognise` meets its contract: where a piece fails the conditions are not met, and where all are passed they are.
 -- Assumes nothing.
+use borrow.Author.Tests.{not-true, not-false}
 use mathlib.Core.Bool.{true}
 use mathlib.Core.Path.{_≡_, sym, _∙_}
 use lib.ListN.{take, length-take}
-use Rattle.combinatorics.proofs.Basics.{absurd-bool, not-is, is-not}
+use Rattle.combinatorics.proofs.Basics.{absurd-bool}
 use Rattle.grid.proofs.Fields.{indices-few}
 use Rattle.grid.specs.Made.{shape}
 use Rattle.grid_points.specs.Grid.{isGridPoint}
@@ -32,7 +33,7 @@ returns : tie.Need-returns
 returns c =
     not-recognised (c .nothing .ensures)
     (off-grid (c .before .before .before .before .before .before .pre)
-    (sym (c .before .before .is-grid-point .ensures) ∙ not-is _ (c .before .if1 .taken)))
+    (sym (c .before .before .is-grid-point .ensures) ∙ not-true _ (c .before .if1 .taken)))
 
 zeros-requires : tie.Need-zeros-requires
 zeros-requires c κs =
@@ -48,7 +49,7 @@ returns-2 : tie.Need-returns-2
 returns-2 c =
     not-recognised (c .nothing2 .ensures)
     (no-sets (c .before .before .before .before .before .before .before .before .before .before .pre)
-    (c .before .before .before .sets-of .ensures .no (not-is _ (c .before .if2 .taken))))
+    (c .before .before .before .sets-of .ensures .no (not-true _ (c .before .if2 .taken))))
 
 -- the sets T and U found, and where the call began
 abbrev Found : Type 0
@@ -61,12 +62,12 @@ on-grid : (c : Found) → (let a = begun c .args in
     isGridPoint (shape (a .g)) (take (a .g .indices) (a .first .now)) ≡ true)
 on-grid c =
     let o = c .before .before .before .before in
-    sym (o .before .is-grid-point .ensures) ∙ is-not _ (o .if1 .left)
+    sym (o .before .is-grid-point .ensures) ∙ not-false _ (o .if1 .left)
 
 sets : (c : Found) → (let a = begun c .args in
     let r = c .before .before .sets-of .result in
     AreTandU (a .order .now) (a .n) (a .g .indices) (c .before .before .before .zeros .result) (r .t) (r .u))
-sets c = c .before .before .sets-of .ensures .yes (is-not _ (c .if2 .left))
+sets c = c .before .before .sets-of .ensures .yes (not-false _ (c .if2 .left))
 
 coefficients-requires : tie.Need-coefficients-requires
 coefficients-requires c κs = (begun c .pre .measured .made, begun c .pre .startOn, on-grid c)
@@ -80,7 +81,7 @@ returns-3 c =
     not-recognised (c .nothing3 .ensures)
     (not-free (begun f .pre) (sets f) (f .before .before .before .zeros .ensures)
     (c .before .before .before .before .coefficients .ensures .1)
-    (c .before .before .is-free .ensures .no (not-is _ (c .before .if3 .taken))))
+    (c .before .before .is-free .ensures .no (not-true _ (c .before .if3 .taken))))
 
 mark-points-requires : tie.Need-mark-points-requires
 mark-points-requires c κs =
@@ -88,26 +89,26 @@ mark-points-requires c κs =
     let w = begun f .pre in (
       (w .measured, w .below),
       can-mark w (sets f) (f .before .before .before .zeros .ensures)
-          (c .before .before .is-free .ensures .yes (is-not _ (c .before .if3 .left))) (on-grid f),
+          (c .before .before .is-free .ensures .yes (not-false _ (c .before .if3 .left))) (on-grid f),
     )
 
 returns-4 : tie.Need-returns-4
 returns-4 c =
     not-recognised (c .nothing4 .ensures)
     (cannot-step (begun (c .before .before .before .before .before .before .before .before) .pre)
-    (sym (c .before .before .mark-points .ensures .can) ∙ not-is _ (c .before .if4 .taken)))
+    (sym (c .before .before .mark-points .ensures .can) ∙ not-true _ (c .before .if4 .taken)))
 
 returns-5 : tie.Need-returns-5
 returns-5 c =
     let f = c .before .before .before .before .before .before .before in
     let list = c .before .before .before .before .before .before .coefficients .ensures in
     let o = c .before .before .before in
-    let free = o .before .is-free .ensures .yes (is-not _ (o .if3 .left)) in
+    let free = o .before .is-free .ensures .yes (not-false _ (o .if3 .left)) in
     let marked = c .before .mark-points in
     record {
       yes = λ e. all-seen (begun f .pre) (sets f) (f .before .before .before .zeros .ensures) free (on-grid f) (list .0)
-          (list .1) (rw (is-not (marked .result) (c .if4 .left)) at (marked .ensures));
-      no = λ e. absurd-bool (sym (is-not _ (f .if2 .left)) ∙ e);
+          (list .1) (rw (not-false (marked .result) (c .if4 .left)) at (marked .ensures));
+      no = λ e. absurd-bool (sym (not-false _ (f .if2 .left)) ∙ e);
     }
 
 pub recognise-spec : {M : Type 1} → statement M

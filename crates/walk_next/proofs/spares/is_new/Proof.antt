@@ -2,8 +2,7 @@
 use mathlib.Core.Bool.{true, false}
 use mathlib.Core.Path.{_≡_, sym, ap, _∙_}
 use Prim.Native.Nat.{ℕ, _-_}
-use borrow.Author.Tests.{eq-eqb, ne-eqb}
-use Rattle.combinatorics.proofs.Basics.{not-is, is-not}
+use borrow.Author.Tests.{eq-eqb, ne-eqb, not-true, not-false}
 use Rattle.rules.specs.Mask.{bit}
 use borrow.Author.Needs.{needs}
 use native.Mathlib.Omega.{arith}
@@ -25,7 +24,7 @@ returns-2 c =
     let e : bit (a .t) (a .label - 1) ≡ false =
     ap (λ (x : ℕ). bit (a .t) (x - 1)) (sym (c .before .before .wide32 .ensures))
     ∙ sym (c .before .has .ensures)
-    ∙ not-is (c .before .has .result) (c .if2 .taken) in
+    ∙ not-true (c .before .has .result) (c .if2 .taken) in
     rw (ne-eqb (a .label) 0 (c .before .before .before .if1 .left), e)
 
 has-requires-2 : tie.Need-has-requires-2
@@ -37,7 +36,7 @@ returns-3 c =
     let e : bit (a .t) (a .label - 1) ≡ true =
     ap (λ (x : ℕ). bit (a .t) (x - 1)) (sym (c .before .before .before .wide32 .ensures))
     ∙ sym (c .before .before .has .ensures)
-    ∙ is-not (c .before .before .has .result) (c .before .if2 .left) in
+    ∙ not-false (c .before .before .has .result) (c .before .if2 .left) in
     let f : c .has2 .result ≡ bit (a .seen) (a .label - 1) =
     c .has2 .ensures ∙ ap (λ (x : ℕ). bit (a .seen) (x - 1)) (c .before .before .before .wide32 .ensures) in
     rw (ne-eqb (a .label) 0 (c .before .before .before .before .if1 .left), e, f)

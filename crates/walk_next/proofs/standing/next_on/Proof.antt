@@ -1,7 +1,7 @@
 -- `standing::next_on` meets its contract. Assumes nothing.
+use borrow.Author.Tests.{not-true, not-false}
 use mathlib.Core.Path.{sym, _∙_}
 use Prim.Native.Nat.{_-_}
-use Rattle.combinatorics.proofs.Basics.{not-is, is-not}
 use Rattle.grid.proofs.Fields.{indices-few}
 use Rattle.walk_next.proofs.Begins.{count-some, kept-rightly, kept-wrongly, out-of-range}
 use Rattle.walk_ways.proofs.Chosen.{refused-is}
@@ -20,7 +20,7 @@ returns c =
     c .refused .ensures
     ∙ refused-is (a .g) (a .w) (a .labels .now) 20
     (out-of-range (a .g) (a .w) (a .labels .now) (s .pre .0) (s .pre .1)
-    (sym (c .before .before .counts-in-range .ensures) ∙ not-is _ (c .before .if1 .taken)))
+    (sym (c .before .before .counts-in-range .ensures) ∙ not-true _ (c .before .if1 .taken)))
 
 is-kept-requires : tie.Need-is-kept-requires
 is-kept-requires c κs =
@@ -33,7 +33,7 @@ returns-2 c =
     c .refused2 .ensures
     ∙ refused-is (a .g) (a .w) (a .labels .now) 20
     (kept-wrongly (a .g) (a .w) (a .labels .now) (s .pre .0) (s .pre .1)
-    (sym (c .before .before .is-kept .ensures .0) ∙ not-is _ (c .before .if2 .taken)))
+    (sym (c .before .before .is-kept .ensures .0) ∙ not-true _ (c .before .if2 .taken)))
 
 sub-n : tie.Need-sub-n
 sub-n c =
@@ -43,7 +43,7 @@ sub-n c =
       c .wide .ensures,
       count-some (a .g .indices) (a .w .present)
           (sym (c .before .before .before .before .is-kept .ensures .0)
-          ∙ is-not _ (c .before .before .before .if2 .left)),
+          ∙ not-false _ (c .before .before .before .if2 .left)),
     )
 
 stand-requires : tie.Need-stand-requires
@@ -52,11 +52,11 @@ stand-requires c κs =
     let a = s .args in
     kept-rightly (a .g) (a .w) (a .labels .now) (s .pre .0) (s .pre .1)
     (sym (c .before .before .before .before .before .before .is-kept .ensures .0)
-    ∙ is-not _ (c .before .before .before .before .before .if2 .left))
+    ∙ not-false _ (c .before .before .before .before .before .if2 .left))
     (c .before .before .before .before .before .before .is-kept .ensures .1)
     (c .before .before .before .before .before .before .is-kept .ensures .2)
     (sym (c .before .before .before .before .before .before .before .before .before .counts-in-range .ensures)
-    ∙ is-not _ (c .before .before .before .before .before .before .before .before .if1 .left))
+    ∙ not-false _ (c .before .before .before .before .before .before .before .before .if1 .left))
     (c .before .before .wide .result - 1) (omega (arith, c .before .before .wide .ensures))
 
 returns-3 : tie.Need-returns-3

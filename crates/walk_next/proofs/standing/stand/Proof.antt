@@ -1,7 +1,7 @@
 -- `standing::stand` meets its contract. Assumes nothing.
+use borrow.Author.Tests.{not-true, not-false}
 use mathlib.Core.Path.{refl, sym, _∙_}
 use borrow.Author.Needs.{needs, length-unmapped}
-use Rattle.combinatorics.proofs.Basics.{not-is, is-not}
 use Rattle.walk_ways.proofs.Chosen.{refused-is}
 use Rattle.walk_next.proofs.Stood.{all-seen, can-choose, can-see, carries-others, carries-own, labels-low}
 use Rattle.walk_next.proofs.Stood.{no-place-there, not-all-place, not-kept-place, round-of}
@@ -15,7 +15,7 @@ returns : tie.Need-returns
 returns c =
     let s = c .before .before .before .before .before .before .before in
     let a = s .args in
-    let no = c .before .before .before .seen .ensures .no (not-is _ (c .before .if1 .taken)) in
+    let no = c .before .before .before .seen .ensures .no (not-true _ (c .before .if1 .taken)) in
     c .refused .ensures
     ∙ refused-is (a .g) (a .w) (a .labels .now) 20 (no-place-there (s .pre) (not-kept-place (can-see (s .pre)) no))
 
@@ -30,7 +30,7 @@ carries-requires : tie.Need-carries-requires
 carries-requires c κs =
     let r = c .before .before .before in
     let s = begun r in
-    let seen = r .before .before .seen .ensures .yes (is-not _ (r .if1 .left)) in
+    let seen = r .before .before .seen .ensures .yes (not-false _ (r .if1 .left)) in
     let h = s .good .1 .0 .1 .1 .1 .1 .1 .1 .1 .1 .1 .1 in
     (s .pre .few, seen .marksLong, length-unmapped _ (s .args .w .carried) 16 (search (h, needs)))
 
@@ -46,16 +46,16 @@ returns-2 c =
     let d = c .before .before in
     let r = recognised d in
     let a = begun r .args in
-    let seen = r .before .before .seen .ensures .yes (is-not _ (r .if1 .left)) in
+    let seen = r .before .before .seen .ensures .yes (not-false _ (r .if1 .left)) in
     c .refused2 .ensures
     ∙ refused-is (a .g) (a .w) (a .labels .now) 20
-    (carries-others (begun r .pre) seen (sym (d .carries .ensures) ∙ not-is _ (c .before .if2 .taken)))
+    (carries-others (begun r .pre) seen (sym (d .carries .ensures) ∙ not-true _ (c .before .if2 .taken)))
 
 spare-requires : tie.Need-spare-requires
 spare-requires c κs =
     let r = recognised (c .before .before) in
     let pre = begun r .pre in
-    let seen = r .before .before .seen .ensures .yes (is-not _ (r .if1 .left)) in
+    let seen = r .before .before .seen .ensures .yes (not-false _ (r .if1 .left)) in
     (pre .few, seen .marksLong, labels-low (can-see pre) seen)
 
 returns-3 : tie.Need-returns-3
@@ -64,7 +64,7 @@ returns-3 c =
     let r = recognised (d .before .before .before) in
     let a = begun r .args in
     let pre = begun r .pre in
-    let seen = r .before .before .seen .ensures .yes (is-not _ (r .if1 .left)) in
+    let seen = r .before .before .seen .ensures .yes (not-false _ (r .if1 .left)) in
     c .refused3 .ensures
     ∙ refused-is (a .g) (a .w) (a .labels .now) 20
     (no-place-there pre (not-all-place (can-see pre) seen (d .spare .ensures) (search needs) (search needs)
@@ -80,10 +80,10 @@ chosen-requires c κs =
     let compared = d .before .before .before in
     let r = recognised compared in
     let pre = begun r .pre in
-    let seen = r .before .before .seen .ensures .yes (is-not _ (r .if1 .left)) in
+    let seen = r .before .before .seen .ensures .yes (not-false _ (r .if1 .left)) in
     let spared = d .spare .ensures in
     let place = all-seen (can-see pre) seen spared (c .before .before .before .before .if3 .left) in
-    let own = sym (compared .carries .ensures) ∙ is-not _ (d .before .before .if2 .left) in (
+    let own = sym (compared .carries .ensures) ∙ not-false _ (d .before .before .if2 .left) in (
       can-choose (can-see pre) seen spared place pre (carries-own pre seen own),
       round-of (begun r .args .g) (pre .made) (sizes .result) (sizes .ensures),
     )

@@ -1,6 +1,7 @@
 -- `changes::other` meets its contract. The invariant: the first mark that is not among the others stands from j on. The
 -- measure: the marks left.
 -- Assumes nothing.
+use borrow.Author.Tests.{not-true, not-false}
 use mathlib.Core.List.{List}
 use mathlib.Core.Path.{_≡_, refl, sym, ap, _∙_}
 use Prim.Native.Nat.{ℕ, suc, _+_, _-_, _≤_}
@@ -9,7 +10,6 @@ use lib.ListN.{drop, take}
 use lib.Seq.{getD-take, length-take-le}
 use native.Mathlib.Numerals.{add-one}
 use native.Mathlib.Omega.{arith}
-use Rattle.combinatorics.proofs.Basics.{not-is, is-not}
 use Rattle.combinatorics.specs.Lists.{firstOr}
 use Rattle.rules.specs.Moves.{markPosition}
 use Rattle.trail.specs.Change.{outside}
@@ -56,7 +56,7 @@ returns c = let a = c .before .before .before .before .before .before .args in
     )) in
     c .position-at .ensures .0 ∙ ap markPosition (sym (outside-here (take (suc (a .n)) (a .marks .now)) (take (suc
     (a .k)) (a .others .now)) (l .j) (omega (arith, long, c .before .before .before .before .loop-test .taken))
-    (rw g (sym (c .before .before .among .ensures) ∙ not-is _ (c .before .if1 .taken)))) ∙ ap (firstOr 0) (l .inv .0))
+    (rw g (sym (c .before .before .among .ensures) ∙ not-true _ (c .before .if1 .taken)))) ∙ ap (firstOr 0) (l .inv .0))
 
 add-j : tie.Need-add-j Inv-loop μ-loop
 add-j c = omega arith
@@ -77,7 +77,7 @@ loop-again c = let a = c .before .before .before .before .before .args in
       long,
       c .before .before .before .loop-test .taken,
     ))
-    (rw g (sym (c .before .among .ensures) ∙ is-not _ (c .if1 .left))) in (
+    (rw g (sym (c .before .among .ensures) ∙ not-false _ (c .if1 .left))) in (
       rw (add-one (l .j)) (z ∙ l .inv .0),
       omega (arith, c .before .before .before .loop-test .taken),
     )

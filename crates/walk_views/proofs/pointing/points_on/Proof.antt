@@ -1,10 +1,10 @@
 -- `pointing::points_on` meets its contract. Assumes nothing.
+use borrow.Author.Tests.{not-true, not-false}
 use borrow.Author.Needs.{needs}
 use mathlib.Core.Bool.{true}
 use mathlib.Core.Path.{_≡_, refl, sym, _∙_}
 use Prim.Native.Nat.{ℕ, pred, _-_}
 use native.Mathlib.Omega.{arith}
-use Rattle.combinatorics.proofs.Basics.{not-is, is-not}
 use Rattle.grid.proofs.Fields.{indices-few}
 use Rattle.grid.specs.Made.{shape}
 use Rattle.place.specs.Places.{isPlace}
@@ -27,7 +27,7 @@ returns c =
     c .no-points .ensures
     ∙ points-none (shape (a .g)) (a .w) (a .labels .now) (s .pre .1)
     (no-place-held (a .g) (a .w) (a .labels .now) (s .pre .0) (s .pre .1)
-    (sym (c .before .before .is-kept .ensures .0) ∙ not-is _ (c .before .if1 .taken)))
+    (sym (c .before .before .is-kept .ensures .0) ∙ not-true _ (c .before .if1 .taken)))
 
 -- the present place counted, and where the call began
 abbrev Counted : Type 0
@@ -40,7 +40,7 @@ abbrev number : Counted → ℕ
 number c = c .wide .result - 1
 
 holds : (c : Counted) → holdsNumbers (begun c .args .g .indices) (begun c .args .w .present) ≡ true
-holds c = sym (c .before .before .before .before .is-kept .ensures .0) ∙ is-not _ (c .before .before .before .if1 .left)
+holds c = sym (c .before .before .before .before .is-kept .ensures .0) ∙ not-false _ (c .before .before .before .if1 .left)
 
 number-is : (c : Counted) → number c ≡ pred (begun c .args .w .present .count)
 number-is c = omega (arith, c .wide .ensures)
@@ -75,7 +75,7 @@ returns-2 : tie.Need-returns-2
 returns-2 c =
     let n = c .before .before .before .before .before .before .before .before in
     let a = begun n .args in
-    let kept = not-kept-place (sees n) (c .before .before .before .seen .ensures .no (not-is _ (c .before .if2 .taken)))
+    let kept = not-kept-place (sees n) (c .before .before .before .seen .ensures .no (not-true _ (c .before .if2 .taken)))
     in
     c .no-points2 .ensures
     ∙ points-none (shape (a .g)) (a .w) (a .labels .now) (begun n .pre .1) (rw (present n) kept)
@@ -91,7 +91,7 @@ spare-requires : tie.Need-spare-requires
 spare-requires c κs =
     let r = c .before in
     let see = sees (counted r) in
-    let seen = r .before .before .seen .ensures .yes (is-not _ (r .if2 .left)) in
+    let seen = r .before .before .seen .ensures .yes (not-false _ (r .if2 .left)) in
     (see .few, seen .marksLong, labels-low see seen)
 
 returns-3 : tie.Need-returns-3
@@ -99,7 +99,7 @@ returns-3 c =
     let r = c .before .before .before .before .before .before in
     let n = counted r in
     let a = begun n .args in
-    let seen = r .before .before .seen .ensures .yes (is-not _ (r .if2 .left)) in
+    let seen = r .before .before .seen .ensures .yes (not-false _ (r .if2 .left)) in
     let no = not-all-place (sees n) seen (c .before .before .before .before .spare .ensures) (search needs)
     (search needs) (c .before .if3 .taken) in
     c .no-points3 .ensures
@@ -119,7 +119,7 @@ is-place : (c : Labelled) → (let n = counted (recognised c) in
     ≡ true)
 is-place c =
     let r = recognised c in
-    let seen = r .before .before .seen .ensures .yes (is-not _ (r .if2 .left)) in
+    let seen = r .before .before .seen .ensures .yes (not-false _ (r .if2 .left)) in
     all-seen (sees (counted r)) seen (c .before .before .before .spare .ensures) (c .if3 .left)
 
 put-requires : tie.Need-put-requires
@@ -132,7 +132,7 @@ put-requires c κs =
       place = is-place l;
       list = _;
       marks = _;
-      seen = r .before .before .seen .ensures .yes (is-not _ (r .if2 .left));
+      seen = r .before .before .seen .ensures .yes (not-false _ (r .if2 .left));
     }
 
 returns-4 : tie.Need-returns-4

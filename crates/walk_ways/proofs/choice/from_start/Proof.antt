@@ -1,6 +1,6 @@
 -- `choice::from_start` meets its contract. Assumes nothing.
+use borrow.Author.Tests.{not-true, not-false}
 use mathlib.Core.Path.{_≡_, refl, sym, ap, _∙_}
-use Rattle.combinatorics.proofs.Basics.{not-is, is-not}
 use Rattle.walk_ways.proofs.Chosen.{can-move, can-tell, refused-is, told-is, tried-start}
 use Rattle.walk_ways.proofs.Decided.{start-16, start-20, start-on}
 use Rattle.walk_places.specs.Walks.{nowhere, samePlace}
@@ -20,14 +20,14 @@ returns c =
     let s = c .before .before .before .before .before .before in
     c .refused .ensures
     ∙ refused-is (s .args .g) (s .args .w) (s .args .labels .now) 20
-    (start-20 (s .pre .0) refl (alone (c .before .before) ∙ not-is _ (c .before .if1 .taken)))
+    (start-20 (s .pre .0) refl (alone (c .before .before) ∙ not-true _ (c .before .if1 .taken)))
 
 returns-2 : tie.Need-returns-2
 returns-2 c =
     let s = c .before .before .before .before .before .before .before in
     c .refused2 .ensures
     ∙ refused-is (s .args .g) (s .args .w) (s .args .labels .now) 16
-    (start-16 (s .pre .0) refl (alone (c .before .before .before) ∙ is-not _ (c .before .before .if1 .left))
+    (start-16 (s .pre .0) refl (alone (c .before .before .before) ∙ not-false _ (c .before .before .if1 .left))
     (c .before .if2 .taken))
 
 way-requires : tie.Need-way-requires
@@ -54,7 +54,7 @@ returns-3 c =
     c .told .ensures
     ∙ rw (c .before .way .ensures)
     (told-is S N 1 R (start-on S refl N
-    (alone (c .before .before .before .before) ∙ is-not _ (c .before .before .before .if1 .left))
+    (alone (c .before .before .before .before) ∙ not-false _ (c .before .before .before .if1 .left))
     (c .before .before .if2 .left)))
 
 pub from-start-spec : {M : Type 1} → statement M
