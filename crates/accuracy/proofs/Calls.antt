@@ -95,7 +95,8 @@ pub every-labelling-accurate : EveryLabellingAccurate
 every-labelling-accurate sizes divisions losses buffer count e =
     let g = lent sizes divisions in
     let w = wrote sizes divisions losses buffer count e in
-    let yes : (numbers : List ℕ) (block : ℕ) → checkAnswer g (labelBuffer sizes divisions losses buffer) numbers ≡ Yes block
+    let yes : (numbers : List ℕ) (block : ℕ) → checkAnswer g (labelBuffer sizes divisions losses buffer) numbers ≡ Yes
+    block
     → AccurateFor g losses (listedPoints g numbers) block = λ numbers block h.
     yes-accurate g losses numbers block (w .table)
     (ap (λ (l : List ℕ). checkAnswer g l numbers) (sym (w .is)) ∙ h) in
@@ -151,7 +152,8 @@ module _ (slip : List ℕ) (two : stands slip 2 ≡ false) (z : slipRefusal slip
   unfolding sheetOf
   spends l =
       let a : answer (slipProblem slip) (slipBudget slip) ≡ spent (slipBudget slip) =
-      ap (λ (q : Problem). answer q (slipBudget slip)) same ∙ demand3-holds (full-accepted full) .spends (slipBudget slip) .1 l in
+      ap (λ (q : Problem). answer q (slipBudget slip)) same ∙ demand3-holds (full-accepted full) .spends
+      (slipBudget slip) .1 l in
       spentBudget z a (rw (z, a))
 
   ends : pathLength p ≤ slipBudget slip → AccurateSheet slip
@@ -160,7 +162,8 @@ module _ (slip : List ℕ) (two : stands slip 2 ≡ false) (z : slipRefusal slip
       let E = full-ended full in
       let e = E .end in
       let a : answer (slipProblem slip) b
-      ≡ ended (pathLength p) (labelsRead (path p .visited)) (e .kind) (suc (e .block)) (length (e .simplex)) (e .simplex) =
+      ≡ ended (pathLength p) (labelsRead (path p .visited)) (e .kind) (suc (e .block)) (length (e .simplex))
+      (e .simplex) =
       ap (λ (q : Problem). answer q b) same ∙ E .announces b l in
       let s = each-sheet-gets-yes slip z _ _ _ _ _ (e .simplex) a in
       let ok = full-accepted full .hasStart in

@@ -26,46 +26,47 @@ TimesFiner k g fine = (fine .sizes ≡ g .sizes) × (length (fine .divisions) �
     × ((l : ℕ) → l < numBlocks g → division fine l ≡ k * division g l)
 
 module _ (k : ℕ) (g fine : Grid) (F : TimesFiner k g fine) (even : length (g .divisions) ≡ numBlocks g)
-    (some-each : all (λ d. leb 1 d) (g .divisions) ≡ true) (fine-each : all (λ d. leb 1 d) (fine .divisions) ≡ true) where
-  same-blocks : numBlocks fine ≡ numBlocks g
-  same-blocks = ap length F.0
+    (some-each : all (λ d. leb 1 d) (g .divisions) ≡ true) (fine-each : all (λ d. leb 1 d) (fine .divisions) ≡ true)
+  where
+    same-blocks : numBlocks fine ≡ numBlocks g
+    same-blocks = ap length F.0
 
-  fine-even : length (fine .divisions) ≡ numBlocks fine
-  fine-even = F .1 ∙ even ∙ sym same-blocks
+    fine-even : length (fine .divisions) ≡ numBlocks fine
+    fine-even = F .1 ∙ even ∙ sym same-blocks
 
-  share-divided : (l : ℕ) → l < numBlocks g
-      → product (fine .divisions) * share g l ≡ k * (product (g .divisions) * share fine l)
-  share-divided l b =
-      let D : ℕ = product (g .divisions) in
-      let D′ : ℕ = product (fine .divisions) in
-      let w : ℕ = D / division g l in
-      let w′ : ℕ = D′ / division fine l in
-      let half : ℕ = size g l / 2 in
-      let same : size fine l / 2 ≡ half = ap (λ (s : List ℕ). getD s l 0 / 2) F.0 in
-      let a : division g l * w ≡ D = part-of g even some-each l b in
-      let c : k * division g l * w′ ≡ D′ = ap (λ (n : ℕ). n * w′) (sym (F .2 l b))
-      ∙ part-of fine fine-even fine-each l (omega (arith, same-blocks)) in
-      let x : D′ * (half * w) ≡ k * division g l * w′ * (half * w) = ap (λ (n : ℕ). n * (half * w)) (sym c) in
-      let y : D * (half * w′) ≡ division g l * w * (half * w′) = ap (λ (n : ℕ). n * (half * w′)) (sym a) in
-      let z : k * (D * (half * w′)) ≡ k * (division g l * w * (half * w′)) = ap (λ (n : ℕ). k * n) y in
-      rw same (omega arith)
+    share-divided : (l : ℕ) → l < numBlocks g
+        → product (fine .divisions) * share g l ≡ k * (product (g .divisions) * share fine l)
+    share-divided l b =
+        let D : ℕ = product (g .divisions) in
+        let D′ : ℕ = product (fine .divisions) in
+        let w : ℕ = D / division g l in
+        let w′ : ℕ = D′ / division fine l in
+        let half : ℕ = size g l / 2 in
+        let same : size fine l / 2 ≡ half = ap (λ (s : List ℕ). getD s l 0 / 2) F.0 in
+        let a : division g l * w ≡ D = part-of g even some-each l b in
+        let c : k * division g l * w′ ≡ D′ = ap (λ (n : ℕ). n * w′) (sym (F .2 l b))
+        ∙ part-of fine fine-even fine-each l (omega (arith, same-blocks)) in
+        let x : D′ * (half * w) ≡ k * division g l * w′ * (half * w) = ap (λ (n : ℕ). n * (half * w)) (sym c) in
+        let y : D * (half * w′) ≡ division g l * w * (half * w′) = ap (λ (n : ℕ). n * (half * w′)) (sym a) in
+        let z : k * (D * (half * w′)) ≡ k * (division g l * w * (half * w′)) = ap (λ (n : ℕ). k * n) y in
+        rw same (omega arith)
 
-  sum-divided : (ls : List ℕ) → ((l : ℕ) → isIn eqb l ls ≡ true → l < numBlocks g)
-      → product (fine .divisions) * sum (map (share g) ls) ≡ k * (product (g .divisions) * sum (map (share fine) ls))
-  sum-divided [] h = omega arith
-  sum-divided (l ∷ ls) h = omega (
-    arith,
-    share-divided l (h l (in-here onNumbers l ls)),
-    sum-divided ls (λ i m. h i (in-later onNumbers i l ls m)),
-  )
+    sum-divided : (ls : List ℕ) → ((l : ℕ) → isIn eqb l ls ≡ true → l < numBlocks g)
+        → product (fine .divisions) * sum (map (share g) ls) ≡ k * (product (g .divisions) * sum (map (share fine) ls))
+    sum-divided [] h = omega arith
+    sum-divided (l ∷ ls) h = omega (
+      arith,
+      share-divided l (h l (in-here onNumbers l ls)),
+      sum-divided ls (λ i m. h i (in-later onNumbers i l ls m)),
+    )
 
-  pub allowance-divided : AllowanceDivided k g fine
-  allowance-divided range j b =
-      let same : opponents fine j ≡ opponents g j = rw same-blocks in
-      let s : 2 * range * (product (fine .divisions) * sum (map (share g) (opponents g j)))
-      ≡ 2 * range * (k * (product (g .divisions) * sum (map (share fine) (opponents g j)))) =
-      ap (λ (n : ℕ). 2 * range * n) (sum-divided (opponents g j) (opponent-below g j)) in
-      rw (others-shares g j b, others-shares fine j (omega (arith, same-blocks)), same) (omega arith)
+    pub allowance-divided : AllowanceDivided k g fine
+    allowance-divided range j b =
+        let same : opponents fine j ≡ opponents g j = rw same-blocks in
+        let s : 2 * range * (product (fine .divisions) * sum (map (share g) (opponents g j)))
+        ≡ 2 * range * (k * (product (g .divisions) * sum (map (share fine) (opponents g j)))) =
+        ap (λ (n : ℕ). 2 * range * n) (sum-divided (opponents g j) (opponent-below g j)) in
+        rw (others-shares g j b, others-shares fine j (omega (arith, same-blocks)), same) (omega arith)
 
 next-finer : (g : Grid) (k i : ℕ) → TimesFiner k (gridAt g k i) (gridAt g k (suc i))
 next-finer g k i = subst

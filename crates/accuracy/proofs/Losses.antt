@@ -60,7 +60,8 @@ mix-moved g x y hx hy n l b =
       numbers = omega arith;
       before = sx;
       after = sy;
-      few = le-div-iff-mul-le {k = 2} {x = raised (mix g x l) (mix g y l)} {y = size g l} (omega arith) .1 (omega arith);
+      few = le-div-iff-mul-le {k = 2} {x = raised (mix g x l) (mix g y l)} {y = size g l} (omega arith) .1
+          (omega arith);
     }
 
 module _ {g : Grid} {losses : List ℕ} {low range : ℕ} (G : IsGame g losses low range) (j : ℕ) (h : j < numBlocks g)

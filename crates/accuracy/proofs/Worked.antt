@@ -1,6 +1,6 @@
 -- The worked rows are so by the definitions: the points are complete for the block and belong to one simplex, and the
--- losses and the bounds are those numbers. In the first two rows the difference is the allowance itself, so it cannot be
--- smaller; in the third the other player's is larger, so `everyone` needs the label. Assumes nothing.
+-- losses and the bounds are those numbers. In the first two rows the difference is the allowance itself, so it cannot
+-- be smaller; in the third the other player's is larger, so `everyone` needs the label. Assumes nothing.
 use mathlib.Core.Bool.{true, _&&_}
 use mathlib.Core.List.{List, [], _∷_, map}
 use mathlib.Core.Path.{_≡_, refl}

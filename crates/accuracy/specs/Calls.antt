@@ -1,5 +1,5 @@
--- What the calls answer, write and print over a game's labels is accurate: every yes of the checker, every end of a run,
--- every level of a refinement, every sheet of a slip with a game or with losses. Blocks count from 1 in what is
+-- What the calls answer, write and print over a game's labels is accurate: every yes of the checker, every end of a
+-- run, every level of a refinement, every sheet of a slip with a game or with losses. Blocks count from 1 in what is
 -- answered. Assumes nothing.
 use mathlib.Core.Bool.{false, true}
 use mathlib.Core.List.{List}
@@ -46,7 +46,8 @@ pub record OverLabels (sizes divisions losses buffer : List ℕ) : Type 0 where
   pub announced : (start : Point) (budget : ℕ) (old : List ℕ) (places read : ℕ) (kind : Kind) (block vertices : ℕ)
       → (let p = problemOf sizes divisions start (labelBuffer sizes divisions losses buffer) in
       runAnswer p (length old) budget ≡ End places read kind block vertices
-      → AccurateFor (p .grid) losses (listedPoints (p .grid) (vertexNumbersIn (p .grid) vertices (runBuffer p budget old))) block)
+      → AccurateFor (p .grid) losses
+      (listedPoints (p .grid) (vertexNumbersIn (p .grid) vertices (runBuffer p budget old))) block)
 
 abbrev pub EveryLabellingAccurate : Type 0
 EveryLabellingAccurate = (sizes divisions losses buffer : List ℕ) (count : ℕ)
@@ -62,12 +63,14 @@ AllowanceDivided k g fine = (range j : ℕ) → j < numBlocks g
 pub record AccurateLevels (r : Refinement) (levels : ℕ) (labels old : List ℕ) : Type 0 where
   pub each : (i : ℕ) → i < levels
       → (let level = levelAnswered r levels labels old i in let g = levelGrid r i in
-      AccurateFor g (r .losses) (listedPoints g (vertexNumbersIn g (level .vertices) (levelWritten r levels labels old i)))
+      AccurateFor g (r .losses)
+      (listedPoints g (vertexNumbersIn g (level .vertices) (levelWritten r levels labels old i)))
       (level .block))
   pub divided : (i : ℕ) → suc i < levels → AllowanceDivided (r .factor) (levelGrid r i) (levelGrid r (suc i))
 
 abbrev pub EveryRefinementAccurate : Type 0
-EveryRefinementAccurate = (r : Refinement) (levels : ℕ) (labels old : List ℕ) → refineAnswer r levels labels old .code ≡ 0
+EveryRefinementAccurate = (r : Refinement) (levels : ℕ) (labels old : List ℕ) → refineAnswer r levels labels old .code
+    ≡ 0
     → AccurateLevels r levels labels old
 
 -- A sheet of a slip without labels, so with a game or with losses, refuses, or says that the budget is spent, or prints

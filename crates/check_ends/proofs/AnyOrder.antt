@@ -50,8 +50,10 @@ module _ (g : Grid) (labels a b : List ℕ) (long : length a ≡ length b)
     where
       asked : (m n : ℕ) → m ≡ n → (s t : Bool) → s ≡ t
           → _≡_ {A = Question}
-          (ask 19 (leb 1 m && eqb (m / numIndices g * numIndices g) m && leb (m / numIndices g) (suc (dimension g)) && s))
-          (ask 19 (leb 1 n && eqb (n / numIndices g * numIndices g) n && leb (n / numIndices g) (suc (dimension g)) && t))
+          (ask 19 (leb 1 m && eqb (m / numIndices g * numIndices g) m && leb (m / numIndices g) (suc (dimension g)) &&
+          s))
+          (ask 19 (leb 1 n && eqb (n / numIndices g * numIndices g) n && leb (n / numIndices g) (suc (dimension g)) &&
+          t))
       asked m n e s t f = rw (e, f)
 
   same-questions : checkQuestions g labels a ≡ checkQuestions g labels b

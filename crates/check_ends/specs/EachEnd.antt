@@ -28,7 +28,8 @@ use Rattle.slip_fields.specs.Slip.{slipBudget, slipGrid, slipLabels, slipProble
 abbrev pub vertexNumbersIn : Grid → ℕ → List ℕ → List ℕ
 vertexNumbersIn g vertices buffer = take (vertices * numIndices g) buffer
 
--- whatever the budget and the buffer, an end that a run announces gets yes with its block, by the vertices in the buffer
+-- whatever the budget and the buffer, an end that a run announces gets yes with its block, by the vertices in the
+-- buffer
 abbrev pub EachRunGetsYes : Type 0
 EachRunGetsYes = (p : Problem) (budget : ℕ) (old : List ℕ) (places read : ℕ) (kind : Kind) (block vertices : ℕ)
     → runAnswer p (length old) budget ≡ End places read kind block vertices

@@ -19,8 +19,8 @@ levelFacts level = level .places ∷ level .«labels_read» ∷ kindNumber (leve
 abbrev pub refinedFacts : Refined → List ℕ
 refinedFacts found = concatMap levelFacts (take (found .count) (found .levels))
 
--- The numbers tell the answer: two refinements of as many levels with the same number and the same facts, in memory that
--- was the same before, have answered the same.
+-- The numbers tell the answer: two refinements of as many levels with the same number and the same facts, in memory
+-- that was the same before, have answered the same.
 abbrev pub RefineCallsTell : Type 0
 RefineCallsTell = (r s : Refinement) (levels : ℕ) (labels others old older facts : List ℕ)
     → refineAnswer r levels labels old .code ≡ refineAnswer s levels others older .code

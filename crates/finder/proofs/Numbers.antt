@@ -90,7 +90,12 @@ numFacts n = cond (eqb n 0) 5 (cond (eqb n 9) 1 (cond (eqb n 16) 2 0))
 facts-many : (a : RunAnswer) → InRange a → length (runFacts a) ≡ numFacts (runNumber a)
 facts-many (Refused n) h =
     let w = h n refl in
-    rw (ne-eqb n 0 (λ e. omega (arith, w .0)), ne-eqb n 9 (λ e. omega (arith, w .1)), ne-eqb n 16 (λ e. omega (arith, w .1)))
+    rw (
+      ne-eqb n 0 (λ e. omega (arith, w .0)),
+      ne-eqb n 9 (λ e. omega (arith, w .1)),
+      ne-eqb n 16
+          (λ e. omega (arith, w .1)),
+    )
 facts-many (Spent n) h = refl
 facts-many (Unknown n i) h = refl
 facts-many (End n r k b v) h = refl

@@ -46,9 +46,9 @@ fn weigh_level(
     }
 }
 
-// The levels behind the block first, up to that of the last block. The numbers behind each table, up to the place of the
-// next one, are left free, and nothing reads them: `StandTo` says what every reader asks for, the tables as far as each
-// has profiles.
+// The levels behind the block first, up to that of the last block. The numbers behind each table, up to the place of
+// the next one, are left free, and nothing reads them: `StandTo` says what every reader asks for, the tables as far as
+// each has profiles.
 pub fn weigh_levels(
     sizes: &[u8],
     firsts: &[u8; 6],

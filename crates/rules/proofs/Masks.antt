@@ -1,5 +1,5 @@
 -- The bits of a mask with an index, without an index, and of the empty mask, and masks of sets. Assumes nothing.
-use mathlib.Core.Bool.{Bool, true, false, not, _&&_, _||_, Bool·beq}
+use mathlib.Core.Bool.{Bool, true, false, not, _&&_, _||_, Bool·beq, or-comm, and-comm}
 use mathlib.Core.List.{List}
 use mathlib.Core.Path.{_≡_, refl}
 use Prim.Native.Nat.{ℕ, zero, suc, _-_, _*_, _/_, _%_, _^_, _≤_, _<_, min, max}
@@ -65,25 +65,13 @@ bit-rest : (h k : ℕ) → h < 16 → k < 16 → bit (65535 - 1 * 2 ^ h % 65536)
 unfolding bit
 bit-rest = pairs _ _ refl
 
-or-swap : (a b : Bool) → (a || b) ≡ (b || a)
-or-swap true true = refl
-or-swap true false = refl
-or-swap false true = refl
-or-swap false false = refl
-
-and-swap : (a b : Bool) → (a && b) ≡ (b && a)
-and-swap true true = refl
-and-swap true false = refl
-and-swap false true = refl
-and-swap false false = refl
-
 pub bit-with : (m h k : ℕ) → h < 16 → k < 16 → bit (withIndex m h) k ≡ (eqb k h || bit m k)
 unfolding withIndex
-bit-with m h k a b = rw (bit-or, bit-one h k a b) (or-swap (bit m k) (eqb k h))
+bit-with m h k a b = rw (bit-or, bit-one h k a b) (or-comm (bit m k) (eqb k h))
 
 pub bit-without : (m h k : ℕ) → h < 16 → k < 16 → bit (withoutIndex m h) k ≡ (not (eqb k h) && bit m k)
 unfolding withoutIndex
-bit-without m h k a b = rw (bit-and, bit-rest h k a b) (and-swap (bit m k) (not (eqb k h)))
+bit-without m h k a b = rw (bit-and, bit-rest h k a b) (and-comm (bit m k) (not (eqb k h)))
 
 pub bit-none : (k : ℕ) → k < 16 → bit 0 k ≡ false
 unfolding bit

@@ -16,8 +16,8 @@ use Rattle.walk_ways.specs.Answers.{answerOf, outcomeNumbers}
 use Rattle.walk_calls.specs.declared.Call.{Call}
 use Rattle.walk_calls.specs.declared.Told.{Told}
 
--- "each call moves it on by one place": the walk moved on to a place. What was the present place is then the one before,
--- it carries the labels of the next, and its labels read are one more if a point came in
+-- "each call moves it on by one place": the walk moved on to a place. What was the present place is then the one
+-- before, it carries the labels of the next, and its labels read are one more if a point came in
 abbrev pub walkMovedTo : WalkStruct → Place → Carried → WalkStruct
 walkMovedTo w place on = record {
   places = w .places + 1;

@@ -71,5 +71,6 @@ module _ (w : WalkStruct) (labels : List ℕ) where
   shows = record {
     copy = copy-is;
     named = λ rule e. named-of (preview (walkOf w) labels) refl rule e
-        ∙ ap (λ (x : Walk). recordOf (over (walkOf w) labels) (walkOf w .present) (x .present)) (sym (walk-moves w labels));
+        ∙ ap (λ (x : Walk). recordOf (over (walkOf w) labels) (walkOf w .present) (x .present))
+        (sym (walk-moves w labels));
   }

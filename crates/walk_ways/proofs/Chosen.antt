@@ -320,7 +320,8 @@ module _ {g : GridStruct} {w : WalkStruct} {labels first list order marks : List
       outside : 1 ≤ length o → bit u (sourceIn a (at o 0)) ≡ false
       outside l =
           let D = describes ok y o S.place a (lent rule) in
-          let low = index-below (full ok y o S.place) D.chain (at o 0) (D .chain .chain .order .within 0 (omega arith)) in
+          let low = index-below (full ok y o S.place) D.chain (at o 0)
+          (D .chain .chain .order .within 0 (omega arith)) in
           let b = source-from (full ok y o S.place) D (at o 0) low in
           let few = back-below q (b .0) (at o 0) low in
           rw (b .3) (D .inU _ (omega (arith, few, ok .hasStart .sixteenIndices)) ∙ b .2 .stops)

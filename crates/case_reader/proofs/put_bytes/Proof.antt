@@ -16,21 +16,6 @@ Inv-loop numbers bytes₀ count i₀ bytes i =
 abbrev μ-loop : tie.MeasureT-loop
 μ-loop numbers bytes₀ count i₀ bytes i = count - i
 
-shared-slice-read-bytes : tie.Need-shared-slice-read-bytes Inv-loop μ-loop
-shared-slice-read-bytes c = omega arith
-
-cast-bytes : tie.Need-cast-bytes Inv-loop μ-loop
-cast-bytes c = omega arith
-
-slice-write-bytes : tie.Need-slice-write-bytes Inv-loop μ-loop
-slice-write-bytes c = omega arith
-
-add-i : tie.Need-add-i Inv-loop μ-loop
-add-i c = omega arith
-
-loop-less : tie.Need-loop-less Inv-loop μ-loop
-loop-less c = omega arith
-
 returns : tie.Need-returns Inv-loop μ-loop
 returns c = counted _ _ (omega arith)
 
@@ -43,11 +28,11 @@ put-bytes-spec =
     (λ c κs. search needs)
     (λ c. search needs)
     (λ c. search needs)
-    shared-slice-read-bytes
-    cast-bytes
-    slice-write-bytes
-    add-i
-    loop-less
+    (λ c. omega arith)
+    (λ c. omega arith)
+    (λ c. omega arith)
+    (λ c. omega arith)
+    (λ c. omega arith)
     (λ c. search needs)
     (λ c. search needs)
     returns)

@@ -23,12 +23,6 @@ abbrev μ-loop : tie.MeasureT-loop
 loop-holds : tie.Need-loop-holds Inv-loop μ-loop
 loop-holds c = (refl, omega arith)
 
-mul-loss : tie.Need-mul-loss Inv-loop μ-loop
-mul-loss c = omega arith
-
-shared-slice-read-loss : tie.Need-shared-slice-read-loss Inv-loop μ-loop
-shared-slice-read-loss c = omega arith
-
 returns : tie.Need-returns Inv-loop μ-loop
 returns c =
     let l = c .before .before .before .loop in
@@ -44,12 +38,6 @@ returns-2 c =
     sym (range-broken xs (l .i) (omega arith) (λ a.
     let b = leb-true (getD xs (l .i) 0) 1000 (and-right (leb 1 (getD xs (l .i) 0)) (leb (getD xs (l .i) 0) 1000) a) in
     omega arith))
-
-add-i : tie.Need-add-i Inv-loop μ-loop
-add-i c = omega arith
-
-loop-less : tie.Need-loop-less Inv-loop μ-loop
-loop-less c = omega arith
 
 loop-again : tie.Need-loop-again Inv-loop μ-loop
 loop-again c =
@@ -70,11 +58,11 @@ in-range-spec =
     Inv-loop
     μ-loop
     loop-holds
-    mul-loss
-    shared-slice-read-loss
+    (λ c. omega arith)
+    (λ c. omega arith)
     returns
     returns-2
-    add-i
-    loop-less
+    (λ c. omega arith)
+    (λ c. omega arith)
     loop-again
     returns-3)

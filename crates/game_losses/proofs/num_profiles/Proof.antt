@@ -19,12 +19,6 @@ abbrev μ-loop : tie.MeasureT-loop
 loop-holds : tie.Need-loop-holds Inv-loop μ-loop
 loop-holds c = (sym (ap product (drop-length (c .before .args .sizes .now))), omega arith)
 
-sub-j : tie.Need-sub-j Inv-loop μ-loop
-sub-j c = omega arith
-
-shared-slice-read-wide : tie.Need-shared-slice-read-wide Inv-loop μ-loop
-shared-slice-read-wide c = omega arith
-
 mul-count : tie.Need-mul-count Inv-loop μ-loop
 mul-count c =
     let s = c .before .before .before .before .before in
@@ -33,9 +27,6 @@ mul-count c =
       fits = rw (c .wide .ensures, l .inv .0, product-turn (s .args .sizes .now) (l .j) (omega arith) (omega arith))
           (omega (arith, part-few (s .args .sizes .now) (l .j - 1) (s .pre)));
     }
-
-loop-less : tie.Need-loop-less Inv-loop μ-loop
-loop-less c = omega arith
 
 loop-again : tie.Need-loop-again Inv-loop μ-loop
 loop-again c =
@@ -58,10 +49,10 @@ num-profiles-spec =
     Inv-loop
     μ-loop
     loop-holds
-    sub-j
-    shared-slice-read-wide
+    (λ c. omega arith)
+    (λ c. omega arith)
     (λ c κs. search needs)
     mul-count
-    loop-less
+    (λ c. omega arith)
     loop-again
     returns)

@@ -35,9 +35,6 @@ first-larger x y m l =
 loop-holds : tie.Need-loop-holds Inv-loop μ-loop
 loop-holds c = (le-leb 0 (c .args .m) (omega arith), search needs)
 
-shared-slice-read-label : tie.Need-shared-slice-read-label Inv-loop μ-loop
-shared-slice-read-label c = omega arith
-
 loop-again : tie.Need-loop-again Inv-loop μ-loop
 loop-again c =
     let a = c .before .before .before .before .args in
@@ -59,7 +56,7 @@ all-at-most-spec =
     Inv-loop
     μ-loop
     loop-holds
-    shared-slice-read-label
+    (λ c. omega arith)
     (λ c. search needs)
     (λ c. search needs)
     loop-again

@@ -33,9 +33,6 @@ slice-write-list c = omega (arith, c .before .before .before .pre .0, c .before 
 add-k : tie.Need-add-k Inv-loop μ-loop
 add-k c = omega (arith, c .before .before .before .pre .0)
 
-loop-less : tie.Need-loop-less Inv-loop μ-loop
-loop-less c = omega arith
-
 loop-again : tie.Need-loop-again Inv-loop μ-loop
 loop-again c =
     let s = c .before .before .before in
@@ -68,7 +65,7 @@ put-list-spec =
     mul-list-2
     slice-write-list
     add-k
-    loop-less
+    (λ c. omega arith)
     loop-again
     same-length
     returns)

@@ -16,9 +16,6 @@ two x y (a ∷ b ∷ old) h = refl
 two x y [] h = absurd (omega arith)
 two x y (a ∷ []) h = absurd (omega arith)
 
-slice-write-near-2 : tie.Need-slice-write-near-2
-slice-write-near-2 c = simp length-set (omega arith)
-
 enum-told : tie.Need-enum-told
 enum-told c = search needs
 
@@ -36,7 +33,7 @@ put-nearest-spec =
     (tie.spec
     (λ c. search needs)
     (λ c. search needs)
-    slice-write-near-2
+    (λ c. simp length-set (omega arith))
     enum-told
     (λ c. search needs)
     returns

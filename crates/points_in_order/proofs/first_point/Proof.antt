@@ -51,32 +51,17 @@ loop-holds c =
 element-copy-out-wide : tie.Need-element-copy-out-wide Inv-loop μ-loop
 element-copy-out-wide c = omega (arith, c .before .loop .inv .2 .fewBlocks)
 
-shared-slice-read-wide : tie.Need-shared-slice-read-wide Inv-loop μ-loop
-shared-slice-read-wide c = omega arith
-
 add-last : tie.Need-add-last Inv-loop μ-loop
 add-last c = omega (arith, last-is c)
 
 sub-last : tie.Need-sub-last Inv-loop μ-loop
 sub-last c = omega (arith, last-is c)
 
-mul-point : tie.Need-mul-point Inv-loop μ-loop
-mul-point c = omega arith
-
-shared-slice-read-point : tie.Need-shared-slice-read-point Inv-loop μ-loop
-shared-slice-read-point c = omega arith
-
 mul-point-2 : tie.Need-mul-point-2 Inv-loop μ-loop
 mul-point-2 c = omega (arith, last-is (c .before))
 
 element-write-point : tie.Need-element-write-point Inv-loop μ-loop
 element-write-point c = omega (arith, last-is (c .before))
-
-add-j : tie.Need-add-j Inv-loop μ-loop
-add-j c = omega arith
-
-loop-less : tie.Need-loop-less Inv-loop μ-loop
-loop-less c = omega arith
 
 loop-again : tie.Need-loop-again Inv-loop μ-loop
 loop-again c =
@@ -106,15 +91,15 @@ first-point-spec =
     loop-holds
     element-copy-out-wide
     (λ c κs. search needs)
-    shared-slice-read-wide
+    (λ c. omega arith)
     (λ c κs. search needs)
     add-last
     sub-last
-    mul-point
-    shared-slice-read-point
+    (λ c. omega arith)
+    (λ c. omega arith)
     mul-point-2
     element-write-point
-    add-j
-    loop-less
+    (λ c. omega arith)
+    (λ c. omega arith)
     loop-again
     returns)

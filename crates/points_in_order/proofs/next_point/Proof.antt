@@ -74,16 +74,10 @@ loop-holds c = (
   refl,
 )
 
-sub-j : tie.Need-sub-j Inv-loop μ-loop
-sub-j c = omega arith
-
 element-copy-out-wide : tie.Need-element-copy-out-wide Inv-loop μ-loop
 element-copy-out-wide c =
     let s = c .before .before .before .before in
     omega (arith, accepted (lent (s .args .sizes .now) (s .pre .0)) (s .pre .1 .grid .accepted) .fewBlocks)
-
-shared-slice-read-wide : tie.Need-shared-slice-read-wide Inv-loop μ-loop
-shared-slice-read-wide c = omega arith
 
 add-end : tie.Need-add-end Inv-loop μ-loop
 add-end c = omega (arith, first-is c, inside c)
@@ -112,9 +106,6 @@ returns c =
       (omega arith, p .before),
     )
 
-loop-less : tie.Need-loop-less Inv-loop μ-loop
-loop-less c = omega arith
-
 loop-again : tie.Need-loop-again Inv-loop μ-loop
 loop-again c =
     let a = c .before .before .before .advance-block in (
@@ -123,9 +114,6 @@ loop-again c =
       omega arith,
       omega arith,
     )
-
-same-length-2 : tie.Need-same-length-2 Inv-loop μ-loop
-same-length-2 c = omega arith
 
 returns-2 : tie.Need-returns-2 Inv-loop μ-loop
 returns-2 c =
@@ -143,10 +131,10 @@ next-point-spec =
     Inv-loop
     μ-loop
     loop-holds
-    sub-j
+    (λ c. omega arith)
     element-copy-out-wide
     (λ c κs. search needs)
-    shared-slice-read-wide
+    (λ c. omega arith)
     (λ c κs. search needs)
     add-end
     mul-advance-block
@@ -156,7 +144,7 @@ next-point-spec =
     advance-block-requires
     (λ c. search needs)
     returns
-    loop-less
+    (λ c. omega arith)
     loop-again
-    same-length-2
+    (λ c. omega arith)
     returns-2)

@@ -46,18 +46,6 @@ mul-divisions c = omega (arith, inside c .1)
 array-read-divisions : tie.Need-array-read-divisions Inv-loop μ-loop
 array-read-divisions c = inside c .1
 
-mul-divisions-2 : tie.Need-mul-divisions-2 Inv-loop μ-loop
-mul-divisions-2 c = omega arith
-
-array-write-divisions : tie.Need-array-write-divisions Inv-loop μ-loop
-array-write-divisions c = omega arith
-
-add-h : tie.Need-add-h Inv-loop μ-loop
-add-h c = omega arith
-
-loop-less : tie.Need-loop-less Inv-loop μ-loop
-loop-less c = omega arith
-
 loop-again : tie.Need-loop-again Inv-loop μ-loop
 loop-again c =
     let l = c .before .before .loop in
@@ -87,9 +75,9 @@ divisions-of-spec =
     block-of-requires
     mul-divisions
     array-read-divisions
-    mul-divisions-2
-    array-write-divisions
-    add-h
-    loop-less
+    (λ c. omega arith)
+    (λ c. omega arith)
+    (λ c. omega arith)
+    (λ c. omega arith)
     loop-again
     returns)

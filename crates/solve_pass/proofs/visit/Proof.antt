@@ -61,9 +61,6 @@ label-in-requires c κs =
       resting = R .resting;
     }
 
-cast-marks : tie.Need-cast-marks
-cast-marks c = search needs
-
 mul-marks : tie.Need-mul-marks
 mul-marks c =
     let s = c .before .before .before .before .before .before .before .before in
@@ -95,4 +92,4 @@ returns c =
 pub visit-spec : {M : Type 1} → statement M
 visit-spec =
     tie.close
-    (tie.spec label-in-requires cast-marks mul-marks element-write-marks make-move-requires returns)
+    (tie.spec label-in-requires (λ c. search needs) mul-marks element-write-marks make-move-requires returns)

@@ -151,9 +151,6 @@ moved-by-requires c κs =
           (n .way-on .result) (way-is n),
     )
 
-sub-left : tie.Need-sub-left Inv-loop μ-loop
-sub-left c = omega arith
-
 -- the move is made
 abbrev Made : Type 0
 Made = tie.After-moved-by Inv-loop μ-loop
@@ -435,7 +432,7 @@ follow-spec =
     way-on-requires
     gone-by-requires
     moved-by-requires
-    sub-left
+    (λ c. omega arith)
     enum-told
     returns
     (λ c. search needs)

@@ -7,11 +7,8 @@ use Rattle.trail_following.proofs.low_bit.Tie as tie
 shared-slice-read-byte : tie.Need-shared-slice-read-byte
 shared-slice-read-byte c = c .before .pre
 
-cast-result : tie.Need-cast-result
-cast-result c = omega arith
-
 returns : tie.Need-returns
 returns c = (refl, omega arith)
 
 pub low-bit-spec : {M : Type 1} → statement M
-low-bit-spec = tie.close (tie.spec shared-slice-read-byte cast-result returns)
+low-bit-spec = tie.close (tie.spec shared-slice-read-byte (λ c. omega arith) returns)

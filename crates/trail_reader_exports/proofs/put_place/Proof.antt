@@ -19,15 +19,6 @@ four x y z u (a ∷ []) h = absurd (omega arith)
 four x y z u (a ∷ b ∷ []) h = absurd (omega arith)
 four x y z u (a ∷ b ∷ c ∷ []) h = absurd (omega arith)
 
-slice-write-place-2 : tie.Need-slice-write-place-2
-slice-write-place-2 c = simp length-set (omega arith)
-
-slice-write-place-3 : tie.Need-slice-write-place-3
-slice-write-place-3 c = simp length-set (omega arith)
-
-slice-write-place-4 : tie.Need-slice-write-place-4
-slice-write-place-4 c = simp length-set (omega arith)
-
 returns : tie.Need-returns
 returns c = rw (c .before .found .given .1) (refl, sym (front-none _))
 
@@ -42,10 +33,10 @@ put-place-spec =
     (λ c. search needs)
     (λ c. search needs)
     (λ c. search needs)
-    slice-write-place-2
+    (λ c. simp length-set (omega arith))
     (λ c. search needs)
-    slice-write-place-3
-    slice-write-place-4
+    (λ c. simp length-set (omega arith))
+    (λ c. simp length-set (omega arith))
     returns
     (λ c. search needs)
     returns-2)

@@ -13,9 +13,6 @@ slice-write-trail-2 c = simp length-set (omega (arith, c .before .pre .0, c .bef
 slice-write-trail-3 : tie.Need-slice-write-trail-3
 slice-write-trail-3 c = simp length-set (omega (arith, c .before .pre .0, c .before .pre .1))
 
-same-length : tie.Need-same-length
-same-length c = simp length-set
-
 returns : tie.Need-returns
 returns c =
     let a = c .before .before .args in
@@ -29,9 +26,6 @@ slice-write-trail-4 c = simp length-set (omega (arith, c .before .before .pre .0
 slice-write-trail-5 : tie.Need-slice-write-trail-5
 slice-write-trail-5 c = simp length-set (omega (arith, c .before .before .pre .0, c .before .before .pre .1))
 
-same-length-2 : tie.Need-same-length-2
-same-length-2 c = simp length-set
-
 returns-2 : tie.Need-returns-2
 returns-2 c =
     let a = c .before .before .before .args in
@@ -43,9 +37,6 @@ slice-write-trail-6 : tie.Need-slice-write-trail-6
 slice-write-trail-6 c =
     simp length-set (omega (arith, c .before .before .before .pre .0, c .before .before .before .pre .1))
 
-same-length-3 : tie.Need-same-length-3
-same-length-3 c = simp length-set
-
 returns-3 : tie.Need-returns-3
 returns-3 c =
     let a = c .before .before .before .before .args in
@@ -56,9 +47,6 @@ returns-3 c =
 slice-write-trail-7 : tie.Need-slice-write-trail-7
 slice-write-trail-7 c = simp length-set
     (omega (arith, c .before .before .before .before .pre .0, c .before .before .before .before .pre .1))
-
-same-length-4 : tie.Need-same-length-4
-same-length-4 c = simp length-set
 
 returns-4 : tie.Need-returns-4
 returns-4 c =
@@ -79,7 +67,7 @@ put-spec =
     (λ c. search needs)
     (λ c. search needs)
     slice-write-trail-3
-    same-length
+    (λ c. simp length-set)
     returns
     (λ c. search needs)
     (λ c. search needs)
@@ -87,15 +75,15 @@ put-spec =
     (λ c. search needs)
     (λ c. search needs)
     slice-write-trail-5
-    same-length-2
+    (λ c. simp length-set)
     returns-2
     (λ c. search needs)
     (λ c. search needs)
     slice-write-trail-6
-    same-length-3
+    (λ c. simp length-set)
     returns-3
     (λ c. search needs)
     (λ c. search needs)
     slice-write-trail-7
-    same-length-4
+    (λ c. simp length-set)
     returns-4)

@@ -45,15 +45,6 @@ loop-holds c = (
       (arith, c .before .before .pre .0, c .if1 .left),
 )
 
-array-read-x : tie.Need-array-read-x Inv-loop μ-loop
-array-read-x c = omega arith
-
-add-if2 : tie.Need-add-if2 Inv-loop μ-loop
-add-if2 c = omega arith
-
-shared-slice-read-if2 : tie.Need-shared-slice-read-if2 Inv-loop μ-loop
-shared-slice-read-if2 c = omega arith
-
 returns-2 : tie.Need-returns-2 Inv-loop μ-loop
 returns-2 c =
     let a = c .before .before .before .before .before .before .args in
@@ -65,12 +56,6 @@ returns-2 c =
     (omega (arith, length-drop (a .at) (a .trail .now), l .inv .4))
     (λ e. c .if2 .taken (sym (getD-drop (a .at) (a .trail .now) (l .k) 0) ∙ e ∙ getD-take n (a .made .bytes) (l .k) 0
     (omega arith)))) ∙ l .inv .0
-
-add-k : tie.Need-add-k Inv-loop μ-loop
-add-k c = omega arith
-
-loop-less : tie.Need-loop-less Inv-loop μ-loop
-loop-less c = omega arith
 
 loop-again : tie.Need-loop-again Inv-loop μ-loop
 loop-again c =
@@ -103,11 +88,11 @@ stands-spec =
     sub-if1
     returns
     loop-holds
-    array-read-x
-    add-if2
-    shared-slice-read-if2
+    (λ c. omega arith)
+    (λ c. omega arith)
+    (λ c. omega arith)
     returns-2
-    add-k
-    loop-less
+    (λ c. omega arith)
+    (λ c. omega arith)
     loop-again
     returns-3)

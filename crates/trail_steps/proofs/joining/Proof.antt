@@ -14,21 +14,12 @@ returns-2 c = rw (
   lt-leb (c .before .before .args .byte) (c .before .before .args .m) (c .if2 .taken),
 )
 
-sub-has : tie.Need-sub-has
-sub-has c = omega arith
-
-has-requires : tie.Need-has-requires
-has-requires c κs = omega arith
-
 returns-3 : tie.Need-returns-3
 returns-3 c = rw (
   le-leb 1 (c .before .before .before .before .args .byte) (omega arith),
   le-leb (c .before .before .before .before .args .byte) (c .before .before .before .before .args .m) (omega arith),
   sym (c .before .has .ensures) ∙ c .if3 .taken,
 )
-
-sub-t6 : tie.Need-sub-t6
-sub-t6 c = omega arith
 
 returns-4 : tie.Need-returns-4
 returns-4 c = rw (
@@ -39,4 +30,5 @@ returns-4 c = rw (
 
 pub joining-spec : {M : Type 1} → statement M
 joining-spec =
-    tie.close (tie.spec returns returns-2 sub-has has-requires returns-3 sub-t6 returns-4)
+    tie.close (tie.spec returns returns-2 (λ c. omega arith) (λ c κs. omega arith) returns-3 (λ c. omega arith)
+    returns-4)

@@ -27,9 +27,6 @@ abbrev μ-loop : tie.MeasureT-loop
 loop-holds : tie.Need-loop-holds Inv-loop μ-loop
 loop-holds c = (omega arith, (λ j l. absurd (omega arith)), c .pre .0, c .pre .1, c .pre .2)
 
-element-copy-out-wide : tie.Need-element-copy-out-wide Inv-loop μ-loop
-element-copy-out-wide c = omega arith
-
 label-at-requires : tie.Need-label-at-requires Inv-loop μ-loop
 label-at-requires c κs = let l = c .before .before .before .loop in
     (l .inv .2, omega (arith, c .before .before .loop-test .taken), l .inv .3)
@@ -41,12 +38,6 @@ returns c = let a = c .before .before .before .before .before .before .args in
     let z = ap (λ (r : List ℕ). at r (l .k)) (same-sound eqb eqb-true (a .carried .now)
     (labelsInMarks (a .marks .now) (a .n)) e) in
     omega (arith, c .if1 .taken, c .before .before .wide .ensures, z, c .before .label-at .ensures)))
-
-add-k : tie.Need-add-k Inv-loop μ-loop
-add-k c = omega arith
-
-loop-less : tie.Need-loop-less Inv-loop μ-loop
-loop-less c = omega arith
 
 loop-again : tie.Need-loop-again Inv-loop μ-loop
 loop-again c = let l = c .before .before .before .before .before .loop in (
@@ -76,11 +67,11 @@ carries-spec =
     Inv-loop
     μ-loop
     loop-holds
-    element-copy-out-wide
+    (λ c. omega arith)
     (λ c κs. search needs)
     label-at-requires
     returns
-    add-k
-    loop-less
+    (λ c. omega arith)
+    (λ c. omega arith)
     loop-again
     returns-2)

@@ -16,7 +16,8 @@ use Rattle.walk_labels.proofs.carry.Tie as tie
 
 abbrev Inv-loop : tie.InvT-loop
 Inv-loop marks n carried next k table labels₀ came-in₀ j₀ labels came-in j = (j ≤ suc k) × (k ≤ 15)
-    × ((full : List ℕ) → CarriesOver marks n carried next k table full → CarriedBelow marks n next full labels came-in j)
+    × ((full : List ℕ) → CarriesOver marks n carried next k table full → CarriedBelow marks n next full labels came-in
+    j)
 
 abbrev μ-loop : tie.MeasureT-loop
 μ-loop marks n carried next k table labels₀ came-in₀ j₀ labels came-in j = suc k - j
@@ -28,12 +29,6 @@ loop-holds c = let s = c .before in let a = s .args in (
   (λ full O. none-carried (a .marks .now) (a .n) (a .carried .now) (a .next .now) (a .k)
       (a .table .now) (s .pre) full),
 )
-
-mul-found : tie.Need-mul-found Inv-loop μ-loop
-mul-found c = omega arith
-
-element-copy-out-found : tie.Need-element-copy-out-found Inv-loop μ-loop
-element-copy-out-found c = omega arith
 
 found-requires : tie.Need-found-requires Inv-loop μ-loop
 found-requires c κs = let s = c .before .before .before .before in (s .pre .few, s .pre .long)
@@ -78,11 +73,14 @@ loop-again c = let s = c .before .before .before .before .before .before .before
     (getD (a .table .now) r 0)) z in (
       omega (arith, m),
       l .inv .1,
-      (λ full O. ⊎-elim (λ w. rw (w .1) (carried-in (a .marks .now) (a .n) (a .carried .now) (a .next .now) (a .k) (a .table .now)
-          (s .pre) full O (l .labels) (l .came-in) (l .j) (l .inv .2 full O) m i (c .before .before .before .found .ensures)
+      (λ full O. ⊎-elim
+          (λ w. rw (w .1) (carried-in (a .marks .now) (a .n) (a .carried .now) (a .next .now) (a .k) (a .table .now)
+          (s .pre) full O (l .labels) (l .came-in) (l .j) (l .inv .2 full O) m i
+          (c .before .before .before .found .ensures)
           (w .0 .taken) (c .before .label-of .result) e))
           (λ w. rw (w .1) (carried-over (a .marks .now) (a .n) (a .carried .now) (a .next .now) (a .k) (a .table .now)
-          (s .pre) full O (l .labels) (l .came-in) (l .j) (l .inv .2 full O) m i (c .before .before .before .found .ensures)
+          (s .pre) full O (l .labels) (l .came-in) (l .j) (l .inv .2 full O) m i
+          (c .before .before .before .found .ensures)
           (omega (arith, w .0 .left)) (c .before .label-of .result) e))
           (c .if1 .came)),
     )
@@ -103,8 +101,8 @@ carry-spec =
     Inv-loop
     μ-loop
     loop-holds
-    mul-found
-    element-copy-out-found
+    (λ c. omega arith)
+    (λ c. omega arith)
     found-requires
     position-at-requires
     label-of-requires

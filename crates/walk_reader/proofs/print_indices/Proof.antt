@@ -12,15 +12,6 @@ Inv-loop text list i₀ t4 i = i ≤ length list
 abbrev μ-loop : tie.MeasureT-loop
 μ-loop text list i₀ t4 i = length list - i
 
-shared-slice-read-print-index : tie.Need-shared-slice-read-print-index Inv-loop μ-loop
-shared-slice-read-print-index c = omega arith
-
-add-i : tie.Need-add-i Inv-loop μ-loop
-add-i c = omega arith
-
-loop-less : tie.Need-loop-less Inv-loop μ-loop
-loop-less c = omega arith
-
 pub print-indices-spec : {M : Type 1} → statement M
 print-indices-spec =
     tie.close
@@ -30,10 +21,10 @@ print-indices-spec =
     (λ c κs. search needs)
     (λ c. search needs)
     (λ c. search needs)
-    shared-slice-read-print-index
+    (λ c. omega arith)
     (λ c κs. search needs)
-    add-i
-    loop-less
+    (λ c. omega arith)
+    (λ c. omega arith)
     (λ c. search needs)
     (λ c. search needs)
     (λ c κs. search needs)

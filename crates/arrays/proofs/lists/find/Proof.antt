@@ -26,9 +26,6 @@ abbrev μ-loop : tie.MeasureT-loop
 loop-holds : tie.Need-loop-holds Inv-loop μ-loop
 loop-holds c = (omega arith, omega arith, refl)
 
-mul-label-in : tie.Need-mul-label-in Inv-loop μ-loop
-mul-label-in c = omega arith
-
 -- the label of entry k is among the labels
 label-at : (a : List ℕ) (n k : ℕ) → k < n → n ≤ length a
     → (k < length (map markLabel (take n a))) × (getD (map markLabel (take n a)) k 0 ≡ markLabel (getD a k 0))
@@ -37,15 +34,6 @@ label-at a n k l m =
       rw (length-map (take n a) markLabel, long) l,
       labels-in (take n a) k (omega arith) ∙ ap markLabel (getD-take n a k 0 l),
     )
-
-element-copy-out-label-in : tie.Need-element-copy-out-label-in Inv-loop μ-loop
-element-copy-out-label-in c = omega arith
-
-add-k : tie.Need-add-k Inv-loop μ-loop
-add-k c = omega arith
-
-loop-less : tie.Need-loop-less Inv-loop μ-loop
-loop-less c = omega arith
 
 loop-again : tie.Need-loop-again Inv-loop μ-loop
 loop-again c =
@@ -87,11 +75,11 @@ find-spec =
     Inv-loop
     μ-loop
     loop-holds
-    mul-label-in
-    element-copy-out-label-in
+    (λ c. omega arith)
+    (λ c. omega arith)
     (λ c κs. search needs)
-    add-k
-    loop-less
+    (λ c. omega arith)
+    (λ c. omega arith)
     loop-again
     returns
     returns-2)

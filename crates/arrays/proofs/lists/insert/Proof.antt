@@ -1,5 +1,5 @@
--- `lists::insert` meets its contract. The invariant: x stored at k would be x put before entry k, and what stands behind
--- the list is as it was. The measure: k. Assumes nothing.
+-- `lists::insert` meets its contract. The invariant: x stored at k would be x put before entry k, and what stands
+-- behind the list is as it was. The measure: k. Assumes nothing.
 use mathlib.Core.Path.{_≡_, refl, _∙_}
 use Prim.Native.Nat.{suc, _≤_}
 use lib.ListN.{length, length-set, drop, take, set}
@@ -31,27 +31,6 @@ loop-holds c =
       refl,
     )
 
-sub-a : tie.Need-sub-a Inv-loop μ-loop
-sub-a c = omega arith
-
-mul-a : tie.Need-mul-a Inv-loop μ-loop
-mul-a c = omega arith
-
-element-copy-out-a : tie.Need-element-copy-out-a Inv-loop μ-loop
-element-copy-out-a c = omega arith
-
-mul-a-2 : tie.Need-mul-a-2 Inv-loop μ-loop
-mul-a-2 c = omega arith
-
-element-write-a : tie.Need-element-write-a Inv-loop μ-loop
-element-write-a c = omega arith
-
-sub-k : tie.Need-sub-k Inv-loop μ-loop
-sub-k c = omega arith
-
-loop-less : tie.Need-loop-less Inv-loop μ-loop
-loop-less c = omega arith
-
 loop-again : tie.Need-loop-again Inv-loop μ-loop
 loop-again c =
     let a = c .before .before .before .args in
@@ -66,12 +45,6 @@ loop-again c =
       omega arith,
       drop-set-lt (suc (a .n)) (l .a) (l .k) _ (omega arith) ∙ l .inv .6,
     )
-
-mul-a-3 : tie.Need-mul-a-3 Inv-loop μ-loop
-mul-a-3 c = omega arith
-
-element-write-a-2 : tie.Need-element-write-a-2 Inv-loop μ-loop
-element-write-a-2 c = omega arith
 
 returns : tie.Need-returns Inv-loop μ-loop
 returns c =
@@ -90,14 +63,14 @@ insert-spec =
     Inv-loop
     μ-loop
     loop-holds
-    sub-a
-    mul-a
-    element-copy-out-a
-    mul-a-2
-    element-write-a
-    sub-k
-    loop-less
+    (λ c. omega arith)
+    (λ c. omega arith)
+    (λ c. omega arith)
+    (λ c. omega arith)
+    (λ c. omega arith)
+    (λ c. omega arith)
+    (λ c. omega arith)
     loop-again
-    mul-a-3
-    element-write-a-2
+    (λ c. omega arith)
+    (λ c. omega arith)
     returns)

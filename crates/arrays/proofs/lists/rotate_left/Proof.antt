@@ -23,7 +23,8 @@ returns c =
       ← x,
     ) (rotate-left l long) in
     let r = c .remove .last .0 in
-    let more : drop 1 (drop (a .n - 1) r) ≡ drop 1 (drop (a .n - 1) (a .a .now)) = ap (drop 1) (c .remove .ensures .2) in
+    let more : drop 1 (drop (a .n - 1) r) ≡ drop 1 (drop (a .n - 1) (a .a .now)) = ap (drop 1) (c .remove .ensures .2)
+    in
     let one : a .n - 1 + 1 ≡ a .n = omega arith in
     let behind : drop (a .n) r ≡ drop (a .n) (a .a .now) =
     rw one at (sym (drop-drop 1 (a .n - 1) r) ∙ more ∙ drop-drop 1 (a .n - 1) (a .a .now)) in (

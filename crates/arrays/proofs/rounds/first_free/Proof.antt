@@ -20,25 +20,10 @@ Inv-loop next sizes t u h at₀ left₀ at left =
 abbrev μ-loop : tie.MeasureT-loop
 μ-loop next sizes t u h at₀ left₀ at left = left
 
-element-copy-out-wide : tie.Need-element-copy-out-wide Inv-loop μ-loop
-element-copy-out-wide c = omega arith
-
-element-copy-out-wide-2 : tie.Need-element-copy-out-wide-2 Inv-loop μ-loop
-element-copy-out-wide-2 c = omega arith
-
 loop-holds : tie.Need-loop-holds Inv-loop μ-loop
 loop-holds c =
     let s = c .before .before .before .before in
     meets-begun (s .args .sizes .now) (s .args .h) (s .pre .1) (c .before .before .wide .ensures) (c .wide2 .ensures)
-
-element-copy-out-wide-3 : tie.Need-element-copy-out-wide-3 Inv-loop μ-loop
-element-copy-out-wide-3 c = omega arith
-
-sub-left : tie.Need-sub-left Inv-loop μ-loop
-sub-left c = omega arith
-
-loop-less : tie.Need-loop-less Inv-loop μ-loop
-loop-less c = omega arith
 
 loop-again : tie.Need-loop-again Inv-loop μ-loop
 loop-again c =
@@ -67,16 +52,16 @@ first-free-spec =
     (tie.spec
     Inv-loop
     μ-loop
-    element-copy-out-wide
+    (λ c. omega arith)
     (λ c κs. search needs)
-    element-copy-out-wide-2
+    (λ c. omega arith)
     (λ c κs. search needs)
     loop-holds
     (λ c κs. search needs)
-    element-copy-out-wide-3
+    (λ c. omega arith)
     (λ c κs. search needs)
-    sub-left
-    loop-less
+    (λ c. omega arith)
+    (λ c. omega arith)
     loop-again
     returns
     returns-2

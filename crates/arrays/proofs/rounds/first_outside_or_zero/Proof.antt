@@ -22,31 +22,10 @@ Inv-loop way sizes mask c h at₀ left₀ at left =
 abbrev μ-loop : tie.MeasureT-loop
 μ-loop way sizes mask c h at₀ left₀ at left = left
 
-element-copy-out-wide : tie.Need-element-copy-out-wide Inv-loop μ-loop
-element-copy-out-wide c = omega arith
-
-element-copy-out-wide-2 : tie.Need-element-copy-out-wide-2 Inv-loop μ-loop
-element-copy-out-wide-2 c = omega arith
-
 loop-holds : tie.Need-loop-holds Inv-loop μ-loop
 loop-holds c =
     let s = c .before .before .before .before in
     meets-begun (s .args .sizes .now) (s .args .h) (s .pre .1) (c .before .before .wide .ensures) (c .wide2 .ensures)
-
-mul-if3 : tie.Need-mul-if3 Inv-loop μ-loop
-mul-if3 c = omega arith
-
-element-copy-out-if3 : tie.Need-element-copy-out-if3 Inv-loop μ-loop
-element-copy-out-if3 c = omega arith
-
-element-copy-out-wide-3 : tie.Need-element-copy-out-wide-3 Inv-loop μ-loop
-element-copy-out-wide-3 c = omega arith
-
-sub-left : tie.Need-sub-left Inv-loop μ-loop
-sub-left c = omega arith
-
-loop-less : tie.Need-loop-less Inv-loop μ-loop
-loop-less c = omega arith
 
 loop-again : tie.Need-loop-again Inv-loop μ-loop
 loop-again c =
@@ -77,18 +56,18 @@ first-outside-or-zero-spec =
     (tie.spec
     Inv-loop
     μ-loop
-    element-copy-out-wide
+    (λ c. omega arith)
     (λ c κs. search needs)
-    element-copy-out-wide-2
+    (λ c. omega arith)
     (λ c κs. search needs)
     loop-holds
     (λ c κs. search needs)
-    mul-if3
-    element-copy-out-if3
-    element-copy-out-wide-3
+    (λ c. omega arith)
+    (λ c. omega arith)
+    (λ c. omega arith)
     (λ c κs. search needs)
-    sub-left
-    loop-less
+    (λ c. omega arith)
+    (λ c. omega arith)
     loop-again
     returns
     returns-2

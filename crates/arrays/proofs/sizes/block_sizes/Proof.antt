@@ -53,9 +53,6 @@ array-write-a c = let s = c .before .before .before .before .before in omega (ar
 add-h : tie.Need-add-h Inv-loop μ-loop
 add-h c = let s = c .before .before .before .before .before in omega (arith, indices-few (s .args .g) (s .pre))
 
-loop-less : tie.Need-loop-less Inv-loop μ-loop
-loop-less c = omega arith
-
 loop-again : tie.Need-loop-again Inv-loop μ-loop
 loop-again c =
     let s = c .before .before .before .before .before in
@@ -92,6 +89,6 @@ block-sizes-spec =
     array-read-a
     array-write-a
     add-h
-    loop-less
+    (λ c. omega arith)
     loop-again
     returns)

@@ -24,18 +24,6 @@ abbrev μ-loop : tie.MeasureT-loop
 loop-holds : tie.Need-loop-holds Inv-loop μ-loop
 loop-holds c = (omega arith, omega arith, refl, λ table buffer n m e f. e)
 
-shared-slice-read-found-or : tie.Need-shared-slice-read-found-or Inv-loop μ-loop
-shared-slice-read-found-or c = omega arith
-
-slice-write-labels : tie.Need-slice-write-labels Inv-loop μ-loop
-slice-write-labels c = omega arith
-
-add-i : tie.Need-add-i Inv-loop μ-loop
-add-i c = omega arith
-
-loop-less : tie.Need-loop-less Inv-loop μ-loop
-loop-less c = omega arith
-
 loop-again : tie.Need-loop-again Inv-loop μ-loop
 loop-again c =
     let l = c .before .before .before .loop in (
@@ -46,9 +34,6 @@ loop-again c =
           let is = c .found-or .ensures ∙ f (l .i) (l .inv .0) (omega arith) in
           rw (l .inv .3 table buffer n m e f, is) (front-copy table buffer (l .i) (omega arith) (omega arith)),
     )
-
-same-length : tie.Need-same-length Inv-loop μ-loop
-same-length c = omega arith
 
 returns : tie.Need-returns Inv-loop μ-loop
 returns c table buffer n m e f =
@@ -63,11 +48,11 @@ fill-spec =
     Inv-loop
     μ-loop
     loop-holds
-    shared-slice-read-found-or
+    (λ c. omega arith)
     (λ c κs. search needs)
-    slice-write-labels
-    add-i
-    loop-less
+    (λ c. omega arith)
+    (λ c. omega arith)
+    (λ c. omega arith)
     loop-again
-    same-length
+    (λ c. omega arith)
     returns)

@@ -28,9 +28,6 @@ loop-holds c = (omega arith, λ k l. absurd (omega arith))
 mul-if1 : tie.Need-mul-if1 Inv-loop μ-loop
 mul-if1 c = omega (arith, short (c .before .before .before))
 
-shared-slice-read-if1 : tie.Need-shared-slice-read-if1 Inv-loop μ-loop
-shared-slice-read-if1 c = omega arith
-
 element-copy-out-wide : tie.Need-element-copy-out-wide Inv-loop μ-loop
 element-copy-out-wide c = omega (arith, short (c .before .before .before .before .before))
 
@@ -46,9 +43,6 @@ shared-slice-read-if2 c =
     let h = c .before .before .before .before .before .before .loop .h in
     omega (arith, c .before .wide .ensures, inside s h (omega arith))
 
-add-result : tie.Need-add-result Inv-loop μ-loop
-add-result c = omega arith
-
 cast-result : tie.Need-cast-result Inv-loop μ-loop
 cast-result c = omega (arith, short (c .before .before .before .before .before .before .before .before .before))
 
@@ -58,12 +52,6 @@ returns c g on =
     let l = c .before .before .before .before .before .before .before .loop in
     label-met g (s .args .previous .now) (s .args .point .now) on (s .args .old) (l .h) (omega arith) (l .inv .1)
     (c .before .before .before .before .if1 .taken) (λ z. c .if2 .taken (rw (c .before .before .wide .ensures) z))
-
-add-h : tie.Need-add-h Inv-loop μ-loop
-add-h c = omega arith
-
-loop-less : tie.Need-loop-less Inv-loop μ-loop
-loop-less c = omega arith
 
 loop-again : tie.Need-loop-again Inv-loop μ-loop
 loop-again c =
@@ -87,15 +75,15 @@ label-spec =
     μ-loop
     loop-holds
     mul-if1
-    shared-slice-read-if1
+    (λ c. omega arith)
     element-copy-out-wide
     (λ c κs. search needs)
     mul-if2
     shared-slice-read-if2
-    add-result
+    (λ c. omega arith)
     cast-result
     returns
-    add-h
-    loop-less
+    (λ c. omega arith)
+    (λ c. omega arith)
     loop-again
     returns-2)

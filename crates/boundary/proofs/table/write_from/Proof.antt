@@ -121,9 +121,6 @@ label-requires c κs = let t = c .before in (g t, on t)
 shared-slice-read-found-or : tie.Need-shared-slice-read-found-or Inv-loop μ-loop
 shared-slice-read-found-or c = let t = c .before .before .before in omega (arith, inside t, start t .pre .oldWhole)
 
-slice-write-labels : tie.Need-slice-write-labels Inv-loop μ-loop
-slice-write-labels c = omega arith
-
 sub-more-alike : tie.Need-sub-more-alike Inv-loop μ-loop
 sub-more-alike c = let t = c .before .before .before .before .before in omega (arith, inside t, start t .pre .oldWhole)
 
@@ -205,12 +202,6 @@ loop-again c =
       omega arith,
     )
 
-same-length : tie.Need-same-length Inv-loop μ-loop
-same-length c = omega arith
-
-same-length-2 : tie.Need-same-length-2 Inv-loop μ-loop
-same-length-2 c = omega arith
-
 returns : tie.Need-returns Inv-loop μ-loop
 returns c =
     let s = c .before .before .before .before .before .before .before in
@@ -229,7 +220,7 @@ write-from-spec =
     label-requires
     shared-slice-read-found-or
     (λ c κs. search needs)
-    slice-write-labels
+    (λ c. omega arith)
     sub-more-alike
     sub-more-alike-2
     more-alike-requires
@@ -243,6 +234,6 @@ write-from-spec =
     add-k-2
     loop-less
     loop-again
-    same-length
-    same-length-2
+    (λ c. omega arith)
+    (λ c. omega arith)
     returns)

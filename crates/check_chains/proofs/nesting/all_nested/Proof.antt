@@ -35,9 +35,6 @@ returns c =
     pairs-stop (at (a .sets .now)) (l .i) (a .count) (omega arith) nestedSets (l .inv .2)
     (sym (c .before .nested-with-later .ensures) ∙ not-true _ (c .if1 .taken))
 
-loop-less : tie.Need-loop-less Inv-loop μ-loop
-loop-less c = omega arith
-
 loop-again : tie.Need-loop-again Inv-loop μ-loop
 loop-again c =
     let l = c .before .before .before .loop in
@@ -63,6 +60,6 @@ all-nested-spec =
     nested-with-later-requires
     returns
     (λ c. search needs)
-    loop-less
+    (λ c. omega arith)
     loop-again
     returns-2)

@@ -45,9 +45,6 @@ mul-set-from : tie.Need-mul-set-from Inv-loop μ-loop
 mul-set-from c = let b = c .before .before .before .before in
     omega (arith, is-listed (b .pre .0 .has) (c .before .loop .k) (omega arith) .small)
 
-sub-set-from : tie.Need-sub-set-from Inv-loop μ-loop
-sub-set-from c = omega arith
-
 part-set-from-end : tie.Need-part-set-from-end Inv-loop μ-loop
 part-set-from-end c = let b = c .before .before .before .before in
     is-listed (b .pre .0 .has) (c .before .loop .k) (omega arith) .room
@@ -68,18 +65,9 @@ returns c =
     filled-no (b .pre .0) (b .args .p .now) (l .sets) (l .k) (omega arith) (l .inv .3)
     (rw (i .part) at (rw (c .enum-told .given .1) at (c .before .before .set-from .ensures)))
 
-mul-sets : tie.Need-mul-sets Inv-loop μ-loop
-mul-sets c = omega arith
-
 element-write-sets : tie.Need-element-write-sets Inv-loop μ-loop
 element-write-sets c = let b = c .before .before .before .before .before .before .before .before .before in
     omega (arith, b .pre .0 .has .few)
-
-add-k : tie.Need-add-k Inv-loop μ-loop
-add-k c = omega arith
-
-loop-less : tie.Need-loop-less Inv-loop μ-loop
-loop-less c = omega arith
 
 loop-again : tie.Need-loop-again Inv-loop μ-loop
 loop-again c = let b = c .before .before .before .before .before .before .before .before .before in
@@ -107,16 +95,16 @@ fill-sets-spec =
     mul-at
     add-set-from
     mul-set-from
-    sub-set-from
+    (λ c. omega arith)
     (λ c. search needs)
     part-set-from-end
     set-from-requires
     (λ c. search needs)
     enum-told
     returns
-    mul-sets
+    (λ c. omega arith)
     element-write-sets
-    add-k
-    loop-less
+    (λ c. omega arith)
+    (λ c. omega arith)
     loop-again
     returns-2)

@@ -24,21 +24,12 @@ abbrev μ-loop : tie.MeasureT-loop
 loop-holds : tie.Need-loop-holds Inv-loop μ-loop
 loop-holds c = (omega arith, omega arith, omega arith, refl)
 
-element-copy-out-is-nested : tie.Need-element-copy-out-is-nested Inv-loop μ-loop
-element-copy-out-is-nested c = omega arith
-
-element-copy-out-is-nested-2 : tie.Need-element-copy-out-is-nested-2 Inv-loop μ-loop
-element-copy-out-is-nested-2 c = omega arith
-
 returns : tie.Need-returns Inv-loop μ-loop
 returns c =
     let l = c .before .before .before .before .before .loop in
     let a = c .before .before .before .before .before .before .args in
     all-stops (at (a .sets .now)) (l .k) (a .count) (omega arith) (nestedSets (at (a .sets .now) (a .i))) (l .inv .3)
     (sym (c .before .is-nested .ensures) ∙ not-true _ (c .if1 .taken))
-
-loop-less : tie.Need-loop-less Inv-loop μ-loop
-loop-less c = omega arith
 
 loop-again : tie.Need-loop-again Inv-loop μ-loop
 loop-again c =
@@ -65,12 +56,12 @@ nested-with-later-spec =
     (λ c. search needs)
     loop-holds
     (λ c. search needs)
-    element-copy-out-is-nested
+    (λ c. omega arith)
     (λ c. search needs)
-    element-copy-out-is-nested-2
+    (λ c. omega arith)
     (λ c κs. search needs)
     returns
     (λ c. search needs)
-    loop-less
+    (λ c. omega arith)
     loop-again
     returns-2)

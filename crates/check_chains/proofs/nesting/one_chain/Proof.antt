@@ -38,9 +38,6 @@ mul-chain-from : tie.Need-mul-chain-from Inv-loop μ-loop
 mul-chain-from c =
     omega (arith, is-listed (c .before .before .before .pre .has) (c .before .loop .k) (omega arith) .small)
 
-sub-chain-from : tie.Need-sub-chain-from Inv-loop μ-loop
-sub-chain-from c = omega arith
-
 part-chain-from-end : tie.Need-part-chain-from-end Inv-loop μ-loop
 part-chain-from-end c = is-listed (c .before .before .before .pre .has) (c .before .loop .k) (omega arith) .room
 
@@ -58,12 +55,6 @@ returns c =
     any-stops (listedAt (a .g .indices) (a .numbers .now)) (l .k) (a .count) (omega arith)
     (chainFrom (shape (a .g)) (listed (a .g .indices) (a .count) (a .numbers .now))) (l .inv .1)
     (sym (rw (i .part) at (c .before .chain-from .ensures)) ∙ c .if1 .taken)
-
-add-k : tie.Need-add-k Inv-loop μ-loop
-add-k c = omega arith
-
-loop-less : tie.Need-loop-less Inv-loop μ-loop
-loop-less c = omega arith
 
 loop-again : tie.Need-loop-again Inv-loop μ-loop
 loop-again c =
@@ -92,12 +83,12 @@ one-chain-spec =
     mul-at
     add-chain-from
     mul-chain-from
-    sub-chain-from
+    (λ c. omega arith)
     (λ c. search needs)
     part-chain-from-end
     chain-from-requires
     returns
-    add-k
-    loop-less
+    (λ c. omega arith)
+    (λ c. omega arith)
     loop-again
     returns-2)

@@ -21,17 +21,8 @@ abbrev μ-loop : tie.MeasureT-loop
 loop-holds : tie.Need-loop-holds Inv-loop μ-loop
 loop-holds c = begin (omega arith) (omega arith) (c .before .before .pre .0 .clear) (omega arith)
 
-add-requires : tie.Need-add-requires Inv-loop μ-loop
-add-requires c κs = omega arith
-
-shared-slice-read-wide16 : tie.Need-shared-slice-read-wide16 Inv-loop μ-loop
-shared-slice-read-wide16 c = omega arith
-
 add-sum : tie.Need-add-sum Inv-loop μ-loop
 add-sum c = omega (arith, c .wide16 .ensures .1, c .before .before .before .before .loop .inv .small)
-
-shared-slice-read-wide16-2 : tie.Need-shared-slice-read-wide16-2 Inv-loop μ-loop
-shared-slice-read-wide16-2 c = omega arith
 
 returns : tie.Need-returns Inv-loop μ-loop
 returns c = λ f e G.
@@ -50,12 +41,6 @@ returns-2 c = λ f e G.
       c .before .before .wide162 .ensures .0,
       c .before .before .before .before .wide16 .ensures .0,
     )
-
-add-h : tie.Need-add-h Inv-loop μ-loop
-add-h c = omega arith
-
-loop-less : tie.Need-loop-less Inv-loop μ-loop
-loop-less c = omega arith
 
 -- at most 1, and not 1
 zero-of : (n : ℕ) → (n ≡ 1 → ⊥) → n ≤ 1 → n ≡ 0
@@ -94,18 +79,18 @@ follow-from-spec =
     Inv-loop
     μ-loop
     loop-holds
-    add-requires
+    (λ c κs. omega arith)
     (λ c. search needs)
-    shared-slice-read-wide16
+    (λ c. omega arith)
     (λ c κs. search needs)
     add-sum
     (λ c. search needs)
-    shared-slice-read-wide16-2
+    (λ c. omega arith)
     (λ c κs. search needs)
     returns
     returns-2
-    add-h
-    loop-less
+    (λ c. omega arith)
+    (λ c. omega arith)
     loop-again
     returns-3
     returns-4)

@@ -58,9 +58,6 @@ returns c =
     no-set (made-accepted s (start .pre .0)) (start .args .p .now) (start .args .z .now) (start .pre .1) (start .pre .2)
     (l .j) (omega (arith, made-blocks s (start .pre .0))) (rw (first, size) at none)
 
-loop-less : tie.Need-loop-less Inv-loop μ-loop
-loop-less c = omega arith
-
 loop-again : tie.Need-loop-again Inv-loop μ-loop
 loop-again c =
     let start = c .before .before .before .before .before .before .before .before .before .before .before .before in
@@ -99,6 +96,6 @@ set-from-spec =
     enum-told
     returns
     (λ c. search needs)
-    loop-less
+    (λ c. omega arith)
     loop-again
     returns-2)

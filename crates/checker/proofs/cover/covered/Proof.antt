@@ -34,9 +34,6 @@ loop-holds c =
           (none-covered (made-accepted (b .args .g) (b .pre .0 .has .made) .fewIndices)),
     )
 
-sub-k : tie.Need-sub-k Inv-loop μ-loop
-sub-k c = omega arith
-
 mul-at : tie.Need-mul-at Inv-loop μ-loop
 mul-at c =
     let b = c .before .before .before .before in
@@ -51,9 +48,6 @@ mul-padded : tie.Need-mul-padded Inv-loop μ-loop
 mul-padded c =
     let b = c .before .before .before .before in
     omega (arith, is-listed (b .pre .0 .has) (c .before .loop .k - 1) (omega arith) .small)
-
-sub-padded : tie.Need-sub-padded Inv-loop μ-loop
-sub-padded c = omega arith
 
 part-padded-end : tie.Need-part-padded-end Inv-loop μ-loop
 part-padded-end c =
@@ -89,9 +83,6 @@ zeros-requires : tie.Need-zeros-requires Inv-loop μ-loop
 zeros-requires c κs =
     let b = c .before .before .before .before .before .before .before .before .before .before in
     indices-few (b .args .g) (b .pre .0 .has .made)
-
-loop-less : tie.Need-loop-less Inv-loop μ-loop
-loop-less c = omega arith
 
 loop-again : tie.Need-loop-again Inv-loop μ-loop
 loop-again c =
@@ -136,17 +127,17 @@ covered-spec =
     Inv-loop
     μ-loop
     loop-holds
-    sub-k
+    (λ c. omega arith)
     mul-at
     add-padded
     mul-padded
-    sub-padded
+    (λ c. omega arith)
     (λ c. search needs)
     part-padded-end
     padded-requires
     label-at-requires
     with-label-requires
     zeros-requires
-    loop-less
+    (λ c. omega arith)
     loop-again
     returns)

@@ -30,12 +30,6 @@ loop-holds c = let b = c .before .before in
     let e : b .args .g .blocks - 0 ≡ b .args .g .blocks = omega arith in
     (omega arith, blocks-range (b .args .g) (b .pre) .1, rw e)
 
-array-read-wide : tie.Need-array-read-wide Inv-loop μ-loop
-array-read-wide c = omega arith
-
-array-read-wide-2 : tie.Need-array-read-wide-2 Inv-loop μ-loop
-array-read-wide-2 c = omega arith
-
 add-has-all : tie.Need-add-has-all Inv-loop μ-loop
 add-has-all c = let b = c .before .before .before .before .before .before in
     let i = is-block (b .args .g) (b .pre) (c .before .before .before .loop .j) (omega arith) in
@@ -45,12 +39,6 @@ has-all-requires : tie.Need-has-all-requires Inv-loop μ-loop
 has-all-requires c κs = let b = c .before .before .before .before .before .before in
     let i = is-block (b .args .g) (b .pre) (c .before .before .before .loop .j) (omega arith) in
     omega (arith, i .firstIs, i .sizeIs, i .inside, i .few, c .wide2 .ensures, c .before .wide .ensures)
-
-cast-t17 : tie.Need-cast-t17 Inv-loop μ-loop
-cast-t17 c = omega arith
-
-add-t18 : tie.Need-add-t18 Inv-loop μ-loop
-add-t18 c = omega arith
 
 returns : tie.Need-returns Inv-loop μ-loop
 returns c =
@@ -65,12 +53,6 @@ returns c =
     let first = first-stops (whole-block (shape s .sizes) (b .args .set)) (l .j) (s .blocks) (omega arith) (l .inv .2)
     (sym found ∙ c .if1 .taken) in
     rw (add-one (l .j)) (ap checkCase (first-of-blocks s (b .pre) (b .args .set) first))
-
-add-j : tie.Need-add-j Inv-loop μ-loop
-add-j c = omega arith
-
-loop-less : tie.Need-loop-less Inv-loop μ-loop
-loop-less c = omega arith
 
 loop-again : tie.Need-loop-again Inv-loop μ-loop
 loop-again c =
@@ -103,16 +85,16 @@ first-whole-spec =
     Inv-loop
     μ-loop
     loop-holds
-    array-read-wide
+    (λ c. omega arith)
     (λ c κs. search needs)
-    array-read-wide-2
+    (λ c. omega arith)
     (λ c κs. search needs)
     add-has-all
     has-all-requires
-    cast-t17
-    add-t18
+    (λ c. omega arith)
+    (λ c. omega arith)
     returns
-    add-j
-    loop-less
+    (λ c. omega arith)
+    (λ c. omega arith)
     loop-again
     returns-2)

@@ -37,9 +37,6 @@ mul-is-grid-point : tie.Need-mul-is-grid-point Inv-loop μ-loop
 mul-is-grid-point c =
     omega (arith, is-listed (c .before .before .before .pre) (c .before .loop .k) (omega arith) .small)
 
-sub-is-grid-point : tie.Need-sub-is-grid-point Inv-loop μ-loop
-sub-is-grid-point c = omega arith
-
 part-is-grid-point-end : tie.Need-part-is-grid-point-end Inv-loop μ-loop
 part-is-grid-point-end c = is-listed (c .before .before .before .pre) (c .before .loop .k) (omega arith) .room
 
@@ -54,12 +51,6 @@ returns c =
     let i = is-listed (b .pre) (l .k) (omega arith) in
     all-stops (listedAt (a .g .indices) (a .numbers .now)) (l .k) (a .count) (omega arith) (isGridPoint (shape (a .g)))
     (l .inv .1) (sym (rw (i .part) at (c .before .is-grid-point .ensures)) ∙ not-true _ (c .if1 .taken))
-
-add-k : tie.Need-add-k Inv-loop μ-loop
-add-k c = omega arith
-
-loop-less : tie.Need-loop-less Inv-loop μ-loop
-loop-less c = omega arith
 
 loop-again : tie.Need-loop-again Inv-loop μ-loop
 loop-again c =
@@ -87,12 +78,12 @@ all-on-grid-spec =
     mul-at
     add-is-grid-point
     mul-is-grid-point
-    sub-is-grid-point
+    (λ c. omega arith)
     (λ c. search needs)
     part-is-grid-point-end
     is-grid-point-requires
     returns
-    add-k
-    loop-less
+    (λ c. omega arith)
+    (λ c. omega arith)
     loop-again
     returns-2)

@@ -6,18 +6,6 @@ use Rattle.finder.proofs.FiveFacts.{five}
 use Rattle.exports.proofs.refine_calls.put_level.Statement.{statement}
 use Rattle.exports.proofs.refine_calls.put_level.Tie as tie
 
-slice-write-facts-2 : tie.Need-slice-write-facts-2
-slice-write-facts-2 c = simp length-set (omega arith)
-
-slice-write-facts-3 : tie.Need-slice-write-facts-3
-slice-write-facts-3 c = simp length-set (omega arith)
-
-slice-write-facts-4 : tie.Need-slice-write-facts-4
-slice-write-facts-4 c = simp length-set (omega arith)
-
-slice-write-facts-5 : tie.Need-slice-write-facts-5
-slice-write-facts-5 c = simp length-set (omega arith)
-
 returns : tie.Need-returns
 returns c =
     rw (c .before .kind-number .ensures .0) (five _ _ _ _ _ (c .before .before .before .args .facts .now)
@@ -28,12 +16,12 @@ put-level-spec =
     tie.close
     (tie.spec
     (λ c. search needs)
-    slice-write-facts-2
+    (λ c. simp length-set (omega arith))
     (λ c κs. search needs)
     (λ c. search needs)
-    slice-write-facts-3
+    (λ c. simp length-set (omega arith))
     (λ c. search needs)
-    slice-write-facts-4
-    slice-write-facts-5
+    (λ c. simp length-set (omega arith))
+    (λ c. simp length-set (omega arith))
     (λ c. search needs)
     returns)

@@ -50,12 +50,6 @@ put-level-requires c κs =
     facts-part (s .args .found .levels) (s .pre .1) (s .args .facts .now) (l .facts) (s .pre .2) (l .i) (l .inv .0)
     (omega (arith, s .pre .0))
 
-add-i : tie.Need-add-i Inv-loop μ-loop
-add-i c = omega arith
-
-loop-less : tie.Need-loop-less Inv-loop μ-loop
-loop-less c = omega arith
-
 loop-again : tie.Need-loop-again Inv-loop μ-loop
 loop-again c =
     let s = c .before .before .before .before .before .before .before .before .before in
@@ -94,8 +88,8 @@ put-levels-spec =
     part-put-level-start
     (λ c. search needs)
     put-level-requires
-    add-i
-    loop-less
+    (λ c. omega arith)
+    (λ c. omega arith)
     loop-again
     same-length
     returns)

@@ -22,21 +22,6 @@ two x y (a ∷ b ∷ old) h = refl
 two x y [] h = absurd (omega arith)
 two x y (a ∷ []) h = absurd (omega arith)
 
-slice-write-facts-3 : tie.Need-slice-write-facts-3
-slice-write-facts-3 c = simp length-set (omega arith)
-
-slice-write-facts-5 : tie.Need-slice-write-facts-5
-slice-write-facts-5 c = simp length-set (omega arith)
-
-slice-write-facts-6 : tie.Need-slice-write-facts-6
-slice-write-facts-6 c = simp length-set (omega arith)
-
-slice-write-facts-7 : tie.Need-slice-write-facts-7
-slice-write-facts-7 c = simp length-set (omega arith)
-
-slice-write-facts-8 : tie.Need-slice-write-facts-8
-slice-write-facts-8 c = simp length-set (omega arith)
-
 returns : tie.Need-returns
 returns c = rw (c .before .answer .given .1) (refl, sym (front-none _))
 
@@ -59,16 +44,16 @@ put-answer-spec =
     (λ c. search needs)
     (λ c. search needs)
     (λ c. search needs)
-    slice-write-facts-3
+    (λ c. simp length-set (omega arith))
     (λ c. search needs)
     (λ c. search needs)
-    slice-write-facts-5
+    (λ c. simp length-set (omega arith))
     (λ c κs. search needs)
     (λ c. search needs)
-    slice-write-facts-6
+    (λ c. simp length-set (omega arith))
     (λ c. search needs)
-    slice-write-facts-7
-    slice-write-facts-8
+    (λ c. simp length-set (omega arith))
+    (λ c. simp length-set (omega arith))
     returns
     (λ c. search needs)
     returns-2

@@ -73,23 +73,8 @@ loop-holds c =
       ap length (p .0),
     )
 
-mul-add-times : tie.Need-mul-add-times Inv-loop μ-loop
-mul-add-times c = omega arith
-
-shared-slice-read-add-times : tie.Need-shared-slice-read-add-times Inv-loop μ-loop
-shared-slice-read-add-times c = omega arith
-
 cast-add-times : tie.Need-cast-add-times Inv-loop μ-loop
 cast-add-times c = record { sfits = omega (arith, x-low c) }
-
-mul-add-times-2 : tie.Need-mul-add-times-2 Inv-loop μ-loop
-mul-add-times-2 c = omega arith
-
-mul-add-times-3 : tie.Need-mul-add-times-3 Inv-loop μ-loop
-mul-add-times-3 c = omega arith
-
-part-add-times-end : tie.Need-part-add-times-end Inv-loop μ-loop
-part-add-times-end c = omega arith
 
 add-times-requires : tie.Need-add-times-requires Inv-loop μ-loop
 add-times-requires c κs =
@@ -101,12 +86,6 @@ add-times-requires c κs =
       inside = simp (length-take, length-drop) (omega (arith, p .fewRows, p .few, p .whole));
       fits = λ h b. omega (arith, low w h b, p .fewRows);
     }
-
-add-k : tie.Need-add-k Inv-loop μ-loop
-add-k c = omega arith
-
-loop-less : tie.Need-loop-less Inv-loop μ-loop
-loop-less c = omega arith
 
 loop-again : tie.Need-loop-again Inv-loop μ-loop
 loop-again c =
@@ -137,16 +116,16 @@ add-rows-spec =
     Inv-loop
     μ-loop
     loop-holds
-    mul-add-times
-    shared-slice-read-add-times
+    (λ c. omega arith)
+    (λ c. omega arith)
     cast-add-times
-    mul-add-times-2
-    mul-add-times-3
+    (λ c. omega arith)
+    (λ c. omega arith)
     (λ c. search needs)
     (λ c. search needs)
-    part-add-times-end
+    (λ c. omega arith)
     add-times-requires
-    add-k
-    loop-less
+    (λ c. omega arith)
+    (λ c. omega arith)
     loop-again
     returns)

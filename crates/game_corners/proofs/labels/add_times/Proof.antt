@@ -57,35 +57,11 @@ module _ (c : tie.After-total2 Inv-loop μ-loop) where
 loop-holds : tie.Need-loop-holds Inv-loop μ-loop
 loop-holds c = (added-start (c .args .totals .now) (c .args .row .now) _, omega arith, c .pre .sixteen)
 
-mul-total : tie.Need-mul-total Inv-loop μ-loop
-mul-total c = omega arith
-
-element-copy-out-total : tie.Need-element-copy-out-total Inv-loop μ-loop
-element-copy-out-total c = omega arith
-
-mul-total-2 : tie.Need-mul-total-2 Inv-loop μ-loop
-mul-total-2 c = omega arith
-
-shared-slice-copy-out-total : tie.Need-shared-slice-copy-out-total Inv-loop μ-loop
-shared-slice-copy-out-total c = omega arith
-
 mul-total-3 : tie.Need-mul-total-3 Inv-loop μ-loop
 mul-total-3 c = rw (x-is c, number-is c) (product-fits c)
 
 add-total : tie.Need-add-total Inv-loop μ-loop
 add-total c = rw (x-is c, number-is c, total-is c, toZ-ofZ {w = w64} (product-fits c)) (sum-fits c)
-
-mul-total-4 : tie.Need-mul-total-4 Inv-loop μ-loop
-mul-total-4 c = omega arith
-
-element-set-from-total : tie.Need-element-set-from-total Inv-loop μ-loop
-element-set-from-total c = omega arith
-
-add-h : tie.Need-add-h Inv-loop μ-loop
-add-h c = omega arith
-
-loop-less : tie.Need-loop-less Inv-loop μ-loop
-loop-less c = omega arith
 
 loop-again : tie.Need-loop-again Inv-loop μ-loop
 loop-again c =
@@ -118,15 +94,15 @@ add-times-spec =
     Inv-loop
     μ-loop
     loop-holds
-    mul-total
-    element-copy-out-total
-    mul-total-2
-    shared-slice-copy-out-total
+    (λ c. omega arith)
+    (λ c. omega arith)
+    (λ c. omega arith)
+    (λ c. omega arith)
     mul-total-3
     add-total
-    mul-total-4
-    element-set-from-total
-    add-h
-    loop-less
+    (λ c. omega arith)
+    (λ c. omega arith)
+    (λ c. omega arith)
+    (λ c. omega arith)
     loop-again
     returns)

@@ -18,27 +18,12 @@ Inv-loop differences count best₀ most₀ h₀ best most h =
 abbrev μ-loop : tie.MeasureT-loop
 μ-loop differences count best₀ most₀ h₀ best most h = count - h
 
-element-copy-out-most : tie.Need-element-copy-out-most Inv-loop μ-loop
-element-copy-out-most c = omega arith
-
 loop-holds : tie.Need-loop-holds Inv-loop μ-loop
 loop-holds c = (
   leads-start (signedAt (c .before .args .differences .now)) _ (toZ-ofZ {w = w64} (record { sfits = c .most .given })),
   omega arith,
   omega arith,
 )
-
-mul-d : tie.Need-mul-d Inv-loop μ-loop
-mul-d c = omega arith
-
-element-copy-out-d : tie.Need-element-copy-out-d Inv-loop μ-loop
-element-copy-out-d c = omega arith
-
-add-h : tie.Need-add-h Inv-loop μ-loop
-add-h c = omega arith
-
-loop-less : tie.Need-loop-less Inv-loop μ-loop
-loop-less c = omega arith
 
 loop-again : tie.Need-loop-again Inv-loop μ-loop
 loop-again c =
@@ -68,11 +53,11 @@ first-largest-spec =
     (tie.spec
     Inv-loop
     μ-loop
-    element-copy-out-most
+    (λ c. omega arith)
     loop-holds
-    mul-d
-    element-copy-out-d
-    add-h
-    loop-less
+    (λ c. omega arith)
+    (λ c. omega arith)
+    (λ c. omega arith)
+    (λ c. omega arith)
     loop-again
     returns)

@@ -28,30 +28,6 @@ abbrev μ-loop : tie.MeasureT-loop
 loop-holds : tie.Need-loop-holds Inv-loop μ-loop
 loop-holds c = ((λ i b. absurd (omega arith)), omega arith, c .pre)
 
-mul-signed-difference : tie.Need-mul-signed-difference Inv-loop μ-loop
-mul-signed-difference c = omega arith
-
-element-copy-out-signed-difference : tie.Need-element-copy-out-signed-difference Inv-loop μ-loop
-element-copy-out-signed-difference c = omega arith
-
-mul-signed-difference-2 : tie.Need-mul-signed-difference-2 Inv-loop μ-loop
-mul-signed-difference-2 c = omega arith
-
-element-copy-out-signed-difference-2 : tie.Need-element-copy-out-signed-difference-2 Inv-loop μ-loop
-element-copy-out-signed-difference-2 c = omega arith
-
-mul-d : tie.Need-mul-d Inv-loop μ-loop
-mul-d c = omega arith
-
-slice-set-from-d : tie.Need-slice-set-from-d Inv-loop μ-loop
-slice-set-from-d c = omega arith
-
-add-h : tie.Need-add-h Inv-loop μ-loop
-add-h c = omega arith
-
-loop-less : tie.Need-loop-less Inv-loop μ-loop
-loop-less c = omega arith
-
 loop-again : tie.Need-loop-again Inv-loop μ-loop
 loop-again c =
     let l = c .before .before .before .before .loop in
@@ -63,9 +39,6 @@ loop-again c =
       omega arith,
       simp length-set (l .inv .2),
     )
-
-same-length : tie.Need-same-length Inv-loop μ-loop
-same-length c = omega arith
 
 returns : tie.Need-returns Inv-loop μ-loop
 returns c =
@@ -79,15 +52,15 @@ put-differences-spec =
     Inv-loop
     μ-loop
     loop-holds
-    mul-signed-difference
-    element-copy-out-signed-difference
-    mul-signed-difference-2
-    element-copy-out-signed-difference-2
+    (λ c. omega arith)
+    (λ c. omega arith)
+    (λ c. omega arith)
+    (λ c. omega arith)
     (λ c κs. search needs)
-    mul-d
-    slice-set-from-d
-    add-h
-    loop-less
+    (λ c. omega arith)
+    (λ c. omega arith)
+    (λ c. omega arith)
+    (λ c. omega arith)
     loop-again
-    same-length
+    (λ c. omega arith)
     returns)

@@ -17,24 +17,6 @@ abbrev μ-loop : tie.MeasureT-loop
 loop-holds : tie.Need-loop-holds Inv-loop μ-loop
 loop-holds c = (sym (front-none (replicate 16 0)), omega arith)
 
-mul-corner : tie.Need-mul-corner Inv-loop μ-loop
-mul-corner c = omega arith
-
-shared-slice-read-corner : tie.Need-shared-slice-read-corner Inv-loop μ-loop
-shared-slice-read-corner c = omega arith
-
-mul-corner-2 : tie.Need-mul-corner-2 Inv-loop μ-loop
-mul-corner-2 c = omega arith
-
-array-write-corner : tie.Need-array-write-corner Inv-loop μ-loop
-array-write-corner c = omega arith
-
-add-i : tie.Need-add-i Inv-loop μ-loop
-add-i c = omega arith
-
-loop-less : tie.Need-loop-less Inv-loop μ-loop
-loop-less c = omega arith
-
 loop-again : tie.Need-loop-again Inv-loop μ-loop
 loop-again c =
     let l = c .before .before .loop in (
@@ -42,12 +24,6 @@ loop-again c =
           (omega arith)),
       omega arith,
     )
-
-mul-corner-3 : tie.Need-mul-corner-3 Inv-loop μ-loop
-mul-corner-3 c = omega arith
-
-array-write-corner-2 : tie.Need-array-write-corner-2 Inv-loop μ-loop
-array-write-corner-2 c = omega arith
 
 returns : tie.Need-returns Inv-loop μ-loop
 returns c =
@@ -62,13 +38,13 @@ corner-spec =
     Inv-loop
     μ-loop
     loop-holds
-    mul-corner
-    shared-slice-read-corner
-    mul-corner-2
-    array-write-corner
-    add-i
-    loop-less
+    (λ c. omega arith)
+    (λ c. omega arith)
+    (λ c. omega arith)
+    (λ c. omega arith)
+    (λ c. omega arith)
+    (λ c. omega arith)
     loop-again
-    mul-corner-3
-    array-write-corner-2
+    (λ c. omega arith)
+    (λ c. omega arith)
     returns)

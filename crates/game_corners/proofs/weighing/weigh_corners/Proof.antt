@@ -55,19 +55,10 @@ weigh-corner-requires c κs =
       omega (arith, l .inv .3),
     )
 
-add-k : tie.Need-add-k Inv-loop μ-loop
-add-k c = omega arith
-
-loop-less : tie.Need-loop-less Inv-loop μ-loop
-loop-less c = omega arith
-
 loop-again : tie.Need-loop-again Inv-loop μ-loop
 loop-again c =
     let l = c .before .before .before .before .loop in
     ((λ t stand. c .before .weigh-corner .ensures t stand (l .inv .0 t stand)), omega arith, omega arith, l .inv .3)
-
-same-length : tie.Need-same-length Inv-loop μ-loop
-same-length c = omega arith
 
 returns : tie.Need-returns Inv-loop μ-loop
 returns c =
@@ -87,8 +78,8 @@ weigh-corners-spec =
     (λ c κs. search needs)
     loop-holds
     weigh-corner-requires
-    add-k
-    loop-less
+    (λ c. omega arith)
+    (λ c. omega arith)
     loop-again
-    same-length
+    (λ c. omega arith)
     returns)

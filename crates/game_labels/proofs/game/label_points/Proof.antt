@@ -216,9 +216,6 @@ label-point-requires c κs =
     stand (from t) (i .9) (omega arith) in
     (omega (arith, long t, blocks-few (g s) (yes s), yes s .someBlock), rw (long t) rows)
 
-slice-write-buffer : tie.Need-slice-write-buffer Inv-loop μ-loop
-slice-write-buffer c = omega arith
-
 next-point-requires : tie.Need-next-point-requires Inv-loop μ-loop
 next-point-requires c κs =
     let t = turn (c .before .before .before .before .before) in
@@ -228,9 +225,6 @@ add-k : tie.Need-add-k Inv-loop μ-loop
 add-k c =
     let t = turn (c .before .before .before .before .before .before .before .before) in
     omega (arith, inside t, yes (start t) .fewPoints)
-
-loop-less : tie.Need-loop-less Inv-loop μ-loop
-loop-less c = omega arith
 
 loop-again : tie.Need-loop-again Inv-loop μ-loop
 loop-again c =
@@ -270,18 +264,6 @@ loop-again c =
       i .14,
     )
 
-same-length : tie.Need-same-length Inv-loop μ-loop
-same-length c = omega arith
-
-same-length-2 : tie.Need-same-length-2 Inv-loop μ-loop
-same-length-2 c = omega arith
-
-same-length-3 : tie.Need-same-length-3 Inv-loop μ-loop
-same-length-3 c = omega arith
-
-same-length-4 : tie.Need-same-length-4 Inv-loop μ-loop
-same-length-4 c = omega arith
-
 returns : tie.Need-returns Inv-loop μ-loop
 returns c =
     let s = begun (c .before .before) in
@@ -309,13 +291,13 @@ label-points-spec =
     part-label-point-start
     (λ c. search needs)
     label-point-requires
-    slice-write-buffer
+    (λ c. omega arith)
     next-point-requires
     add-k
-    loop-less
+    (λ c. omega arith)
     loop-again
-    same-length
-    same-length-2
-    same-length-3
-    same-length-4
+    (λ c. omega arith)
+    (λ c. omega arith)
+    (λ c. omega arith)
+    (λ c. omega arith)
     returns)

@@ -33,12 +33,6 @@ loop-holds c =
       refl,
     )
 
-mul-instead : tie.Need-mul-instead Inv-loop μ-loop
-mul-instead c = omega arith
-
-shared-slice-read-instead : tie.Need-shared-slice-read-instead Inv-loop μ-loop
-shared-slice-read-instead c = omega arith
-
 mul-instead-2 : tie.Need-mul-instead-2 Inv-loop μ-loop
 mul-instead-2 c =
     let s = c .before .before .before .before .before .before .before .before .before in
@@ -48,30 +42,6 @@ mul-instead-2 c =
           (c .before .before .before .loop .k) (omega arith) (omega arith) (s .args .division) (omega arith)
           (s .pre .0 .replacedFit));
     }
-
-add-expected : tie.Need-add-expected Inv-loop μ-loop
-add-expected c = omega arith
-
-mul-expected : tie.Need-mul-expected Inv-loop μ-loop
-mul-expected c = omega arith
-
-slice-write-expected : tie.Need-slice-write-expected Inv-loop μ-loop
-slice-write-expected c = omega arith
-
-add-replaced : tie.Need-add-replaced Inv-loop μ-loop
-add-replaced c = omega arith
-
-mul-replaced : tie.Need-mul-replaced Inv-loop μ-loop
-mul-replaced c = omega arith
-
-slice-write-replaced : tie.Need-slice-write-replaced Inv-loop μ-loop
-slice-write-replaced c = omega arith
-
-add-k : tie.Need-add-k Inv-loop μ-loop
-add-k c = omega arith
-
-loop-less : tie.Need-loop-less Inv-loop μ-loop
-loop-less c = omega arith
 
 loop-again : tie.Need-loop-again Inv-loop μ-loop
 loop-again c =
@@ -89,12 +59,6 @@ loop-again c =
       simp length-set (l .inv .5),
     )
 
-same-length : tie.Need-same-length Inv-loop μ-loop
-same-length c = omega arith
-
-same-length-2 : tie.Need-same-length-2 Inv-loop μ-loop
-same-length-2 c = omega arith
-
 returns : tie.Need-returns Inv-loop μ-loop
 returns c =
     let l = c .before .loop in
@@ -111,18 +75,18 @@ put-losses-spec =
     (λ c κs. search needs)
     loop-holds
     (λ c κs. search needs)
-    mul-instead
-    shared-slice-read-instead
+    (λ c. omega arith)
+    (λ c. omega arith)
     mul-instead-2
-    add-expected
-    mul-expected
-    slice-write-expected
-    add-replaced
-    mul-replaced
-    slice-write-replaced
-    add-k
-    loop-less
+    (λ c. omega arith)
+    (λ c. omega arith)
+    (λ c. omega arith)
+    (λ c. omega arith)
+    (λ c. omega arith)
+    (λ c. omega arith)
+    (λ c. omega arith)
+    (λ c. omega arith)
     loop-again
-    same-length
-    same-length-2
+    (λ c. omega arith)
+    (λ c. omega arith)
     returns)

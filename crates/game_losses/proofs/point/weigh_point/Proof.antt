@@ -45,12 +45,6 @@ weigh-player-requires c κs =
       record { ofExpected = omega (arith, p .1 .ofExpected); ofReplaced = omega (arith, p .1 .ofReplaced) },
     )
 
-add-player : tie.Need-add-player Inv-loop μ-loop
-add-player c = omega arith
-
-loop-less : tie.Need-loop-less Inv-loop μ-loop
-loop-less c = omega arith
-
 loop-again : tie.Need-loop-again Inv-loop μ-loop
 loop-again c =
     let s = c .before .before .before .before .before .before .before
@@ -69,12 +63,6 @@ loop-again c =
       omega arith,
     )
 
-same-length : tie.Need-same-length Inv-loop μ-loop
-same-length c = omega arith
-
-same-length-2 : tie.Need-same-length-2 Inv-loop μ-loop
-same-length-2 c = omega arith
-
 returns : tie.Need-returns Inv-loop μ-loop
 returns c =
     let s = c .before .before .before .before .before .before .before .before in
@@ -91,9 +79,9 @@ weigh-point-spec =
     μ-loop
     loop-holds
     weigh-player-requires
-    add-player
-    loop-less
+    (λ c. omega arith)
+    (λ c. omega arith)
     loop-again
-    same-length
-    same-length-2
+    (λ c. omega arith)
+    (λ c. omega arith)
     returns)

@@ -60,23 +60,11 @@ replaced-few c =
     replaced-low (game o) (s .args .values .now) (s .pre .0 .2) (s .pre .1) (s .args .h) (inside o) (o .wide .result)
     (c .before .before .wide2 .result) (c .wide3 .result) (owner-is o) (first-is c) (c .wide3 .ensures)
 
-element-copy-out-wide : tie.Need-element-copy-out-wide
-element-copy-out-wide c = search needs
-
-wide-requires : tie.Need-wide-requires
-wide-requires c κs = search needs
-
 element-copy-out-wide-2 : tie.Need-element-copy-out-wide-2
 element-copy-out-wide-2 c = omega (arith, low c, game c .grid .fewBlocks)
 
-wide-requires-2 : tie.Need-wide-requires-2
-wide-requires-2 c κs = search needs
-
 shared-slice-read-wide : tie.Need-shared-slice-read-wide
 shared-slice-read-wide c = omega (arith, low (c .before .before .before))
-
-wide-requires-3 : tie.Need-wide-requires-3
-wide-requires-3 c κs = search needs
 
 add-end : tie.Need-add-end
 add-end c = omega (arith, inner c)
@@ -84,23 +72,11 @@ add-end c = omega (arith, inner c)
 mul-dot : tie.Need-mul-dot
 mul-dot c = omega (arith, inner c)
 
-sub-dot : tie.Need-sub-dot
-sub-dot c = search needs
-
-part-dot-start : tie.Need-part-dot-start
-part-dot-start c = search needs
-
 part-dot-end : tie.Need-part-dot-end
 part-dot-end c = let e = inner c in search needs
 
 mul-dot-2 : tie.Need-mul-dot-2
 mul-dot-2 c = omega (arith, inner (c .before))
-
-sub-dot-2 : tie.Need-sub-dot-2
-sub-dot-2 c = search needs
-
-part-dot-start-2 : tie.Need-part-dot-start-2
-part-dot-start-2 c = search needs
 
 part-dot-end-2 : tie.Need-part-dot-end-2
 part-dot-end-2 c = let e = inner (c .before) in let l = start (own (c .before)) .pre .1 in search needs
@@ -126,15 +102,6 @@ shared-slice-read-long64 : tie.Need-shared-slice-read-long64
 shared-slice-read-long64 c =
     let o = own (c .before .before .before .before) in
     omega (arith, low o, game o .grid .sameNumber)
-
-long64-requires : tie.Need-long64-requires
-long64-requires c κs = search needs
-
-mul-replaced : tie.Need-mul-replaced
-mul-replaced c = search needs
-
-shared-slice-read-replaced : tie.Need-shared-slice-read-replaced
-shared-slice-read-replaced c = search needs
 
 mul-replaced-2 : tie.Need-mul-replaced-2
 mul-replaced-2 c =
@@ -171,27 +138,27 @@ pub difference-spec : {M : Type 1} → statement M
 difference-spec =
     tie.close
     (tie.spec
-    element-copy-out-wide
-    wide-requires
+    (λ c. search needs)
+    (λ c κs. search needs)
     element-copy-out-wide-2
-    wide-requires-2
+    (λ c κs. search needs)
     shared-slice-read-wide
-    wide-requires-3
+    (λ c κs. search needs)
     add-end
     mul-dot
-    sub-dot
-    part-dot-start
+    (λ c. search needs)
+    (λ c. search needs)
     part-dot-end
     mul-dot-2
-    sub-dot-2
-    part-dot-start-2
+    (λ c. search needs)
+    (λ c. search needs)
     part-dot-end-2
     dot-requires
     mul-long64
     shared-slice-read-long64
-    long64-requires
-    mul-replaced
-    shared-slice-read-replaced
+    (λ c κs. search needs)
+    (λ c. search needs)
+    (λ c. search needs)
     mul-replaced-2
     signed-difference-requires
     returns)

@@ -49,12 +49,6 @@ array-set-from-differences c =
     let s = c .before .before .before .before .before .before .before in
     omega (arith, long s, s .pre .1 .grid .fewIndices)
 
-add-h : tie.Need-add-h Inv-loop μ-loop
-add-h c = omega arith
-
-loop-less : tie.Need-loop-less Inv-loop μ-loop
-loop-less c = omega arith
-
 loop-again : tie.Need-loop-again Inv-loop μ-loop
 loop-again c =
     let s = c .before .before .before .before .before .before .before in
@@ -83,7 +77,7 @@ differences-spec =
     difference-requires
     mul-differences
     array-set-from-differences
-    add-h
-    loop-less
+    (λ c. omega arith)
+    (λ c. omega arith)
     loop-again
     returns)

@@ -24,12 +24,6 @@ module _ (c : tie.Start) where
   is : toZ w64 (c .args .expected) -ℤ toZ w64 (c .args .replaced) ≡ result
   is = rw (toZ-pos w64 {n = c .args .expected} (omega arith), toZ-pos w64 {n = c .args .replaced} (omega arith))
 
-cast-result : tie.Need-cast-result
-cast-result c = search needs
-
-cast-result-2 : tie.Need-cast-result-2
-cast-result-2 c = search needs
-
 sub-result : tie.Need-sub-result
 sub-result c = rw (is c) (fits c)
 
@@ -37,4 +31,4 @@ returns : tie.Need-returns
 returns c = rw (is c, toZ-ofZ {w = w64} (fits c)) refl
 
 pub signed-difference-spec : {M : Type 1} → statement M
-signed-difference-spec = tie.close (tie.spec cast-result cast-result-2 sub-result returns)
+signed-difference-spec = tie.close (tie.spec (λ c. search needs) (λ c. search needs) sub-result returns)

@@ -66,12 +66,6 @@ module _ (c : tie.After-wide2) where
       (own .wide .result) (start own .args .count) (c .wide2 .result) size rest (owner-is own) (start own .pre .1 .1 .0)
       first-is refl refl
 
-element-copy-out-wide : tie.Need-element-copy-out-wide
-element-copy-out-wide c = search needs
-
-wide-requires : tie.Need-wide-requires
-wide-requires c κs = search needs
-
 mul-rest : tie.Need-mul-rest
 mul-rest c = omega (arith, low c, game c .grid .fewBlocks)
 
@@ -83,9 +77,6 @@ mul-at c = omega (arith, counted (c .before))
 
 element-copy-out-wide-2 : tie.Need-element-copy-out-wide-2
 element-copy-out-wide-2 c = omega (arith, low (c .before), game (c .before) .grid .fewBlocks)
-
-wide-requires-2 : tie.Need-wide-requires-2
-wide-requires-2 c κs = search needs
 
 sub-at : tie.Need-sub-at
 sub-at c = omega (arith, before c .0)
@@ -101,12 +92,6 @@ add-weigh c = omega (arith, ends c)
 
 mul-weigh : tie.Need-mul-weigh
 mul-weigh c = omega (arith, ends c)
-
-sub-weigh : tie.Need-sub-weigh
-sub-weigh c = search needs
-
-part-weigh-start : tie.Need-part-weigh-start
-part-weigh-start c = search needs
 
 part-weigh-end : tie.Need-part-weigh-end
 part-weigh-end c = let e = ends c in search needs
@@ -132,20 +117,20 @@ pub strategy-loss-spec : {M : Type 1} → statement M
 strategy-loss-spec =
     tie.close
     (tie.spec
-    element-copy-out-wide
-    wide-requires
+    (λ c. search needs)
+    (λ c κs. search needs)
     mul-rest
     element-copy-out-rest
     mul-at
     element-copy-out-wide-2
-    wide-requires-2
+    (λ c κs. search needs)
     sub-at
     mul-at-2
     add-at
     add-weigh
     mul-weigh
-    sub-weigh
-    part-weigh-start
+    (λ c. search needs)
+    (λ c. search needs)
     part-weigh-end
     weigh-requires
     returns)

@@ -43,12 +43,6 @@ array-write-values c =
     let s = c .before .before .before .before .before .before .before in
     omega (arith, long s, s .pre .0 .1 .grid .fewIndices)
 
-add-h : tie.Need-add-h Inv-loop μ-loop
-add-h c = omega arith
-
-loop-less : tie.Need-loop-less Inv-loop μ-loop
-loop-less c = omega arith
-
 loop-again : tie.Need-loop-again Inv-loop μ-loop
 loop-again c =
     let s = c .before .before .before .before .before .before .before in
@@ -73,7 +67,7 @@ strategy-losses-spec =
     strategy-loss-requires
     mul-values
     array-write-values
-    add-h
-    loop-less
+    (λ c. omega arith)
+    (λ c. omega arith)
     loop-again
     returns)

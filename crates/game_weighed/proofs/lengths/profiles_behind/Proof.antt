@@ -22,12 +22,6 @@ abbrev μ-loop : tie.MeasureT-loop
 loop-holds : tie.Need-loop-holds Inv-loop μ-loop
 loop-holds c = (sym (behind-none (lent (c .before .args .sizes .now) []) _ _ (omega arith)), omega arith, inl refl)
 
-sub-j : tie.Need-sub-j Inv-loop μ-loop
-sub-j c = omega arith
-
-shared-slice-read-wide : tie.Need-shared-slice-read-wide Inv-loop μ-loop
-shared-slice-read-wide c = omega arith
-
 mul-count : tie.Need-mul-count Inv-loop μ-loop
 mul-count c =
     let l = c .before .before .before .before .loop in
@@ -41,9 +35,6 @@ mul-count c =
       ));
     }
 
-loop-less : tie.Need-loop-less Inv-loop μ-loop
-loop-less c = omega arith
-
 loop-again : tie.Need-loop-again Inv-loop μ-loop
 loop-again c =
     let l = c .before .before .before .before .loop in
@@ -54,9 +45,6 @@ loop-again c =
       omega arith,
       inr (omega arith),
     )
-
-loop-less-2 : tie.Need-loop-less-2 Inv-loop μ-loop
-loop-less-2 c = omega arith
 
 loop-again-2 : tie.Need-loop-again-2 Inv-loop μ-loop
 loop-again-2 c =
@@ -86,12 +74,12 @@ profiles-behind-spec =
     Inv-loop
     μ-loop
     loop-holds
-    sub-j
-    shared-slice-read-wide
+    (λ c. omega arith)
+    (λ c. omega arith)
     (λ c κs. search needs)
     mul-count
-    loop-less
+    (λ c. omega arith)
     loop-again
-    loop-less-2
+    (λ c. omega arith)
     loop-again-2
     returns)

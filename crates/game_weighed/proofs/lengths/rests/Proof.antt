@@ -21,18 +21,6 @@ abbrev μ-loop : tie.MeasureT-loop
 loop-holds : tie.Need-loop-holds Inv-loop μ-loop
 loop-holds c = ((λ n b. absurd (omega arith)), omega arith, refl)
 
-mul-rests : tie.Need-mul-rests Inv-loop μ-loop
-mul-rests c = omega arith
-
-array-write-rests : tie.Need-array-write-rests Inv-loop μ-loop
-array-write-rests c = omega arith
-
-add-i : tie.Need-add-i Inv-loop μ-loop
-add-i c = omega arith
-
-loop-less : tie.Need-loop-less Inv-loop μ-loop
-loop-less c = omega arith
-
 loop-again : tie.Need-loop-again Inv-loop μ-loop
 loop-again c =
     let l = c .before .before .loop in
@@ -60,9 +48,9 @@ rests-spec =
     μ-loop
     loop-holds
     (λ c κs. search needs)
-    mul-rests
-    array-write-rests
-    add-i
-    loop-less
+    (λ c. omega arith)
+    (λ c. omega arith)
+    (λ c. omega arith)
+    (λ c. omega arith)
     loop-again
     returns)

@@ -175,12 +175,6 @@ load-table-requires c κs =
       begun w .pre .1 .1 .whole,
     ))
 
-add-h : tie.Need-add-h Inv-loop μ-loop
-add-h c = omega arith
-
-loop-less : tie.Need-loop-less Inv-loop μ-loop
-loop-less c = omega arith
-
 loop-again : tie.Need-loop-again Inv-loop μ-loop
 loop-again c =
     let w = c .before .before .before .before .before in
@@ -195,9 +189,6 @@ loop-again c =
       omega arith,
       omega arith,
     )
-
-same-length : tie.Need-same-length Inv-loop μ-loop
-same-length c = omega arith
 
 returns : tie.Need-returns Inv-loop μ-loop
 returns c =
@@ -230,8 +221,8 @@ load-losses-spec =
     (λ c. search needs)
     part-load-table-end
     load-table-requires
-    add-h
-    loop-less
+    (λ c. omega arith)
+    (λ c. omega arith)
     loop-again
-    same-length
+    (λ c. omega arith)
     returns)

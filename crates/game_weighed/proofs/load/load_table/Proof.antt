@@ -20,27 +20,6 @@ abbrev μ-loop : tie.MeasureT-loop
 loop-holds : tie.Need-loop-holds Inv-loop μ-loop
 loop-holds c = (written-start (c .before .before .args .levels .now) (c .before .before .args .to) _, omega arith, refl)
 
-mul-long : tie.Need-mul-long Inv-loop μ-loop
-mul-long c = omega arith
-
-shared-slice-read-long : tie.Need-shared-slice-read-long Inv-loop μ-loop
-shared-slice-read-long c = omega arith
-
-add-levels : tie.Need-add-levels Inv-loop μ-loop
-add-levels c = omega arith
-
-mul-levels : tie.Need-mul-levels Inv-loop μ-loop
-mul-levels c = omega arith
-
-slice-write-levels : tie.Need-slice-write-levels Inv-loop μ-loop
-slice-write-levels c = omega arith
-
-add-e : tie.Need-add-e Inv-loop μ-loop
-add-e c = omega arith
-
-loop-less : tie.Need-loop-less Inv-loop μ-loop
-loop-less c = omega arith
-
 loop-again : tie.Need-loop-again Inv-loop μ-loop
 loop-again c =
     let l = c .before .before .before .loop in
@@ -49,9 +28,6 @@ loop-again c =
       omega arith,
       simp length-set (l .inv .2),
     )
-
-same-length : tie.Need-same-length Inv-loop μ-loop
-same-length c = omega arith
 
 returns : tie.Need-returns Inv-loop μ-loop
 returns c =
@@ -66,14 +42,14 @@ load-table-spec =
     Inv-loop
     μ-loop
     loop-holds
-    mul-long
-    shared-slice-read-long
+    (λ c. omega arith)
+    (λ c. omega arith)
     (λ c κs. search needs)
-    add-levels
-    mul-levels
-    slice-write-levels
-    add-e
-    loop-less
+    (λ c. omega arith)
+    (λ c. omega arith)
+    (λ c. omega arith)
+    (λ c. omega arith)
+    (λ c. omega arith)
     loop-again
-    same-length
+    (λ c. omega arith)
     returns)

@@ -52,9 +52,6 @@ module _ (c : tie.After-shared-slice-known8 Inv-loop μ-loop) where
       + blend (drop (k + 1) (s .args .mix .now)) (λ i. number (s .args .values .now) ((k + 1 + i) * s .args .step))
   next = apart-next (s .args .mix .now) (s .args .values .now) (s .args .step) k (omega arith)
 
-shared-slice-read-long : tie.Need-shared-slice-read-long Inv-loop μ-loop
-shared-slice-read-long c = omega arith
-
 shared-slice-read-total : tie.Need-shared-slice-read-total Inv-loop μ-loop
 shared-slice-read-total c =
     let s = c .before .before .before .before .before in
@@ -64,9 +61,6 @@ mul-total : tie.Need-mul-total Inv-loop μ-loop
 mul-total c =
     let s = c .before .before .before .before .before in
     record { fits = rw (c .before .long .ensures) (omega (arith, first s, s .pre .fits)) }
-
-shared-slice-read-long-2 : tie.Need-shared-slice-read-long-2 Inv-loop μ-loop
-shared-slice-read-long-2 c = omega arith
 
 mul-total-2 : tie.Need-mul-total-2 Inv-loop μ-loop
 mul-total-2 c =
@@ -102,12 +96,6 @@ loop-holds c = (
 add-at : tie.Need-add-at Inv-loop μ-loop
 add-at c = omega (arith, start c .pre .inside (c .before .loop .k) (omega arith))
 
-mul-long : tie.Need-mul-long Inv-loop μ-loop
-mul-long c = omega arith
-
-shared-slice-read-long-3 : tie.Need-shared-slice-read-long-3 Inv-loop μ-loop
-shared-slice-read-long-3 c = omega arith
-
 mul-total-4 : tie.Need-mul-total-4 Inv-loop μ-loop
 mul-total-4 c =
     let t = c .before .before in
@@ -128,12 +116,6 @@ add-total-2 c = record {
       (omega (arith, next c, s c .pre .fits));
 }
 
-add-k : tie.Need-add-k Inv-loop μ-loop
-add-k c = omega arith
-
-loop-less : tie.Need-loop-less Inv-loop μ-loop
-loop-less c = omega arith
-
 loop-again : tie.Need-loop-again Inv-loop μ-loop
 loop-again c = (
   rw (c .before .long3 .ensures, c .before .before .before .before .loop .inv .1) (omega (arith, next c)),
@@ -153,11 +135,11 @@ dot-apart-spec =
     (tie.spec
     Inv-loop
     μ-loop
-    shared-slice-read-long
+    (λ c. omega arith)
     (λ c κs. search needs)
     shared-slice-read-total
     mul-total
-    shared-slice-read-long-2
+    (λ c. omega arith)
     (λ c κs. search needs)
     mul-total-2
     shared-slice-read-total-2
@@ -165,14 +147,14 @@ dot-apart-spec =
     add-total
     loop-holds
     add-at
-    mul-long
-    shared-slice-read-long-3
+    (λ c. omega arith)
+    (λ c. omega arith)
     (λ c κs. search needs)
     mul-total-4
     shared-slice-read-total-3
     mul-total-5
     add-total-2
-    add-k
-    loop-less
+    (λ c. omega arith)
+    (λ c. omega arith)
     loop-again
     returns)

@@ -67,12 +67,6 @@ weigh-index-requires c κs =
     (index-kept (at (a .owners .now) (l .h)) (a .mix .now) (a .levels .now) (a .level) (l .h)
     (restAt (a .owners .now) (a .rests .now) (a .level) (l .h)) (ready w .1) (l .levels) (l .inv .0 .kept) (l .inv .2))
 
-add-h : tie.Need-add-h Inv-loop μ-loop
-add-h c = omega arith
-
-loop-less : tie.Need-loop-less Inv-loop μ-loop
-loop-less c = omega arith
-
 loop-again : tie.Need-loop-again Inv-loop μ-loop
 loop-again c =
     let w = c .before .before .before .before .before in
@@ -89,9 +83,6 @@ loop-again c =
       omega arith,
       omega arith,
     )
-
-same-length : tie.Need-same-length Inv-loop μ-loop
-same-length c = omega arith
 
 returns : tie.Need-returns Inv-loop μ-loop
 returns c =
@@ -114,8 +105,8 @@ weigh-level-spec =
     mul-rest-2
     element-copy-out-rest
     weigh-index-requires
-    add-h
-    loop-less
+    (λ c. omega arith)
+    (λ c. omega arith)
     loop-again
-    same-length
+    (λ c. omega arith)
     returns)

@@ -57,9 +57,6 @@ module _ (c : tie.After-wide2 Inv-loop μ-loop) where
   lent-is = lent-mix (start .args .sizes .now) (start .args .point .now) k (c .before .before .wide .result)
       (c .wide2 .result) first-is (c .wide2 .ensures) (sym (long start))
 
-sub-last : tie.Need-sub-last Inv-loop μ-loop
-sub-last c = omega arith
-
 loop-holds : tie.Need-loop-holds Inv-loop μ-loop
 loop-holds c = ((λ t s. s), omega arith, refl, refl, refl)
 
@@ -98,12 +95,6 @@ weigh-level-requires c κs =
     LevelToWeigh (a .owners .now) (a .rests .now) (mix (g s) (a .point .now) (l .level)) (l .level) n (l .levels))
     (sym (long s)) ready)
 
-add-level : tie.Need-add-level Inv-loop μ-loop
-add-level c = omega arith
-
-loop-less : tie.Need-loop-less Inv-loop μ-loop
-loop-less c = omega arith
-
 loop-again : tie.Need-loop-again Inv-loop μ-loop
 loop-again c =
     let w = c .before .before .before .before .before in
@@ -130,9 +121,6 @@ loop-again c =
       l .inv .4,
     )
 
-same-length : tie.Need-same-length Inv-loop μ-loop
-same-length c = omega arith
-
 returns : tie.Need-returns Inv-loop μ-loop
 returns c =
     let l = c .before .loop in
@@ -146,7 +134,7 @@ weigh-levels-spec =
     (tie.spec
     Inv-loop
     μ-loop
-    sub-last
+    (λ c. omega arith)
     loop-holds
     element-copy-out-wide
     (λ c κs. search needs)
@@ -158,8 +146,8 @@ weigh-levels-spec =
     (λ c. search needs)
     part-weigh-level-end
     weigh-level-requires
-    add-level
-    loop-less
+    (λ c. omega arith)
+    (λ c. omega arith)
     loop-again
-    same-length
+    (λ c. omega arith)
     returns)

@@ -22,9 +22,6 @@ loop-holds c =
     let a = c .args in
     (after-none (firstOutside (a .previous .now) (a .sizes .now) (a .u)) (a .order .now) (a .y .now), omega arith)
 
-mul-wide32 : tie.Need-mul-wide32 Inv-loop μ-loop
-mul-wide32 c = omega arith
-
 element-copy-out-wide32 : tie.Need-element-copy-out-wide32 Inv-loop μ-loop
 element-copy-out-wide32 c = omega (arith, c .before .before .pre .1 .low, c .before .before .pre .1 .few)
 
@@ -49,12 +46,6 @@ shift-requires c κs =
     (s .pre .1) (l .inv .0) (h .ensures) (b .ensures .0) in
     let below = entry-below (a .order .now) (a .i) (l .k) (omega arith) (s .pre .1 .indices) in
     ((rw (h .ensures) below, b .ensures .1), ready)
-
-add-k : tie.Need-add-k Inv-loop μ-loop
-add-k c = omega arith
-
-loop-less : tie.Need-loop-less Inv-loop μ-loop
-loop-less c = omega arith
 
 loop-again : tie.Need-loop-again Inv-loop μ-loop
 loop-again c =
@@ -82,12 +73,12 @@ advance-spec =
     Inv-loop
     μ-loop
     loop-holds
-    mul-wide32
+    (λ c. omega arith)
     element-copy-out-wide32
     (λ c κs. search needs)
     first-outside-requires
     shift-requires
-    add-k
-    loop-less
+    (λ c. omega arith)
+    (λ c. omega arith)
     loop-again
     returns)

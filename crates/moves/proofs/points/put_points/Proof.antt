@@ -80,12 +80,6 @@ add-position c =
     all in
     omega arith
 
-add-i : tie.Need-add-i Inv-loop μ-loop
-add-i c = omega arith
-
-loop-less : tie.Need-loop-less Inv-loop μ-loop
-loop-less c = omega arith
-
 loop-again : tie.Need-loop-again Inv-loop μ-loop
 loop-again c =
     let s = c .before .before .before .before .before .before .before .before .before .before .before .before in
@@ -111,12 +105,6 @@ loop-again c =
       omega arith,
       c .before .before .put-row .kept .0 ∙ l .inv .4,
     )
-
-sub-result : tie.Need-sub-result Inv-loop μ-loop
-sub-result c = omega arith
-
-same-length : tie.Need-same-length Inv-loop μ-loop
-same-length c = omega arith
 
 returns : tie.Need-returns Inv-loop μ-loop
 returns c =
@@ -147,9 +135,9 @@ put-points-spec =
     advance-requires
     put-row-requires
     add-position
-    add-i
-    loop-less
+    (λ c. omega arith)
+    (λ c. omega arith)
     loop-again
-    sub-result
-    same-length
+    (λ c. omega arith)
+    (λ c. omega arith)
     returns)

@@ -71,12 +71,6 @@ array-set-from-found c =
       far .before .before .before .before .before .pre .some .1,
     )
 
-add-i : tie.Need-add-i Inv-loop μ-loop
-add-i c = omega arith
-
-loop-less : tie.Need-loop-less Inv-loop μ-loop
-loop-less c = omega arith
-
 loop-again : tie.Need-loop-again Inv-loop μ-loop
 loop-again c =
     let t = c .before .before .before .before .before .before .before .before in
@@ -143,8 +137,8 @@ run-levels-spec =
     solve-requires
     mul-found
     array-set-from-found
-    add-i
-    loop-less
+    (λ c. omega arith)
+    (λ c. omega arith)
     loop-again
     same-length
     same-length-2

@@ -37,9 +37,6 @@ fits c =
 loop-holds : tie.Need-loop-holds Inv-loop μ-loop
 loop-holds c = (sym (front-none (replicate 16 0)), omega arith)
 
-shared-slice-read-wide16 : tie.Need-shared-slice-read-wide16 Inv-loop μ-loop
-shared-slice-read-wide16 c = omega arith
-
 mul-start : tie.Need-mul-start Inv-loop μ-loop
 mul-start c = omega (arith, fits c)
 
@@ -51,12 +48,6 @@ mul-start-2 c = omega (arith, c .before .before .before .before .before .pre .fe
 
 array-write-start : tie.Need-array-write-start Inv-loop μ-loop
 array-write-start c = omega (arith, c .before .before .before .before .before .pre .few)
-
-add-h : tie.Need-add-h Inv-loop μ-loop
-add-h c = omega arith
-
-loop-less : tie.Need-loop-less Inv-loop μ-loop
-loop-less c = omega arith
 
 loop-again : tie.Need-loop-again Inv-loop μ-loop
 loop-again c =
@@ -89,13 +80,13 @@ scaled-spec =
     μ-loop
     loop-holds
     (λ c. search needs)
-    shared-slice-read-wide16
+    (λ c. omega arith)
     (λ c κs. search needs)
     mul-start
     cast-start
     mul-start-2
     array-write-start
-    add-h
-    loop-less
+    (λ c. omega arith)
+    (λ c. omega arith)
     loop-again
     returns)

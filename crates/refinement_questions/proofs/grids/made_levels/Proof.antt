@@ -51,12 +51,6 @@ returns-2 c =
     next-stops (lent (s .args .sizes .now) (s .args .divisions .now)) (s .args .factor) (l .i) (l .grids) (l .made)
     (l .inv .0) (n .result) (n .ensures) (s .args .levels) (omega arith) (c .if2 .taken)
 
-add-i : tie.Need-add-i Inv-loop μ-loop
-add-i c = omega arith
-
-loop-less : tie.Need-loop-less Inv-loop μ-loop
-loop-less c = omega arith
-
 loop-again : tie.Need-loop-again Inv-loop μ-loop
 loop-again c =
     let s = c .before .before .before .before .before .before .before .before .before .before .before .before .before in
@@ -89,7 +83,7 @@ made-levels-spec =
     returns-2
     (λ c. search needs)
     (λ c. search needs)
-    add-i
-    loop-less
+    (λ c. omega arith)
+    (λ c. omega arith)
     loop-again
     returns-3)

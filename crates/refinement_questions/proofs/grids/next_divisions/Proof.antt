@@ -24,12 +24,6 @@ loop-holds : tie.Need-loop-holds Inv-loop μ-loop
 loop-holds c =
     (sym (front-none (replicate 6 0)), omega arith, blocks-range (c .before .args .grid) (c .before .pre .0) .1)
 
-mul-wide16 : tie.Need-mul-wide16 Inv-loop μ-loop
-mul-wide16 c = omega arith
-
-array-read-wide16 : tie.Need-array-read-wide16 Inv-loop μ-loop
-array-read-wide16 c = omega arith
-
 mul-product : tie.Need-mul-product Inv-loop μ-loop
 mul-product c =
     omega (
@@ -45,21 +39,6 @@ returns c =
     let w = c .before .wide16 in
     next-not (s .args .grid) (s .pre .0) (s .args .factor) (l .numbers) (l .j) (w .result) (l .inv .0) (omega arith)
     (w .ensures .0) (c .if1 .taken)
-
-cast-numbers : tie.Need-cast-numbers Inv-loop μ-loop
-cast-numbers c = omega arith
-
-mul-numbers : tie.Need-mul-numbers Inv-loop μ-loop
-mul-numbers c = omega arith
-
-array-write-numbers : tie.Need-array-write-numbers Inv-loop μ-loop
-array-write-numbers c = omega arith
-
-add-j : tie.Need-add-j Inv-loop μ-loop
-add-j c = omega arith
-
-loop-less : tie.Need-loop-less Inv-loop μ-loop
-loop-less c = omega arith
 
 loop-again : tie.Need-loop-again Inv-loop μ-loop
 loop-again c =
@@ -85,15 +64,15 @@ next-divisions-spec =
     Inv-loop
     μ-loop
     loop-holds
-    mul-wide16
-    array-read-wide16
+    (λ c. omega arith)
+    (λ c. omega arith)
     (λ c κs. search needs)
     mul-product
     returns
-    cast-numbers
-    mul-numbers
-    array-write-numbers
-    add-j
-    loop-less
+    (λ c. omega arith)
+    (λ c. omega arith)
+    (λ c. omega arith)
+    (λ c. omega arith)
+    (λ c. omega arith)
     loop-again
     returns-2)

@@ -34,15 +34,6 @@ loop-holds : tie.Need-loop-holds Inv-loop μ-loop
 unfolding flatMap
 loop-holds c = (part-empty _ _, omega arith, omega arith)
 
-coordinate-sum-requires : tie.Need-coordinate-sum-requires Inv-loop μ-loop
-coordinate-sum-requires c κs = omega arith
-
-mul-division : tie.Need-mul-division Inv-loop μ-loop
-mul-division c = omega arith
-
-shared-slice-read-division : tie.Need-shared-slice-read-division Inv-loop μ-loop
-shared-slice-read-division c = omega arith
-
 centre-requires : tie.Need-centre-requires Inv-loop μ-loop
 centre-requires c κs =
     let start = c .before .before .before .before .before .before .before .before .before .before in
@@ -51,12 +42,6 @@ centre-requires c κs =
 
 spaced-requires : tie.Need-spaced-requires Inv-loop μ-loop
 spaced-requires c κs = omega (arith, c .before .before .before .before .before .before .text .ensures .behind)
-
-add-h : tie.Need-add-h Inv-loop μ-loop
-add-h c = omega arith
-
-loop-less : tie.Need-loop-less Inv-loop μ-loop
-loop-less c = omega arith
 
 loop-again : tie.Need-loop-again Inv-loop μ-loop
 loop-again c =
@@ -96,13 +81,13 @@ centre-line-spec =
     slice-aggregate-text
     (λ c κs. search needs)
     loop-holds
-    coordinate-sum-requires
-    mul-division
-    shared-slice-read-division
+    (λ c κs. omega arith)
+    (λ c. omega arith)
+    (λ c. omega arith)
     centre-requires
     spaced-requires
-    add-h
-    loop-less
+    (λ c. omega arith)
+    (λ c. omega arith)
     loop-again
     byte-requires
     returns)

@@ -41,15 +41,6 @@ mul-u64-of-2 c = omega (arith, inside c)
 shared-slice-read-u64-of : tie.Need-shared-slice-read-u64-of Inv-loop μ-loop
 shared-slice-read-u64-of c = inside (c .before)
 
-add-sum : tie.Need-add-sum Inv-loop μ-loop
-add-sum c = omega arith
-
-add-k : tie.Need-add-k Inv-loop μ-loop
-add-k c = omega arith
-
-loop-less : tie.Need-loop-less Inv-loop μ-loop
-loop-less c = omega arith
-
 loop-again : tie.Need-loop-again Inv-loop μ-loop
 loop-again c =
     let a = c .before .before .before .before .before .args in
@@ -77,8 +68,8 @@ coordinate-sum-spec =
     mul-u64-of-2
     shared-slice-read-u64-of
     (λ c κs. search needs)
-    add-sum
-    add-k
-    loop-less
+    (λ c. omega arith)
+    (λ c. omega arith)
+    (λ c. omega arith)
     loop-again
     returns)

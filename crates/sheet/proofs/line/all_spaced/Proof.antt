@@ -27,21 +27,6 @@ loop-holds : tie.Need-loop-holds Inv-loop μ-loop
 unfolding flatMap
 loop-holds c = (part-empty _ _, omega arith, omega arith)
 
-mul-u64-of : tie.Need-mul-u64-of Inv-loop μ-loop
-mul-u64-of c = omega arith
-
-shared-slice-read-u64-of : tie.Need-shared-slice-read-u64-of Inv-loop μ-loop
-shared-slice-read-u64-of c = omega arith
-
-spaced-requires : tie.Need-spaced-requires Inv-loop μ-loop
-spaced-requires c κs = omega arith
-
-add-i : tie.Need-add-i Inv-loop μ-loop
-add-i c = omega arith
-
-loop-less : tie.Need-loop-less Inv-loop μ-loop
-loop-less c = omega arith
-
 loop-again : tie.Need-loop-again Inv-loop μ-loop
 loop-again c =
     let a = c .before .before .before .before .before .before .before .args in
@@ -67,11 +52,11 @@ all-spaced-spec =
     Inv-loop
     μ-loop
     loop-holds
-    mul-u64-of
-    shared-slice-read-u64-of
+    (λ c. omega arith)
+    (λ c. omega arith)
     (λ c κs. search needs)
-    spaced-requires
-    add-i
-    loop-less
+    (λ c κs. omega arith)
+    (λ c. omega arith)
+    (λ c. omega arith)
     loop-again
     returns)

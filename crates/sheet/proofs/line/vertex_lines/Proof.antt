@@ -42,12 +42,6 @@ add-vertex-line c = omega (arith, inside (c .before))
 mul-vertex-line : tie.Need-mul-vertex-line Inv-loop μ-loop
 mul-vertex-line c = omega (arith, inside (c .before))
 
-sub-vertex-line : tie.Need-sub-vertex-line Inv-loop μ-loop
-sub-vertex-line c = omega arith
-
-part-vertex-line-start : tie.Need-part-vertex-line-start Inv-loop μ-loop
-part-vertex-line-start c = omega arith
-
 part-vertex-line-end : tie.Need-part-vertex-line-end Inv-loop μ-loop
 part-vertex-line-end c = inside (c .before)
 
@@ -58,12 +52,6 @@ vertex-line-requires c κs =
     let wide : start + a .m - start ≡ a .m = omega arith in
     let size = row-length start (a .m) (a .vertices .now) (inside (c .before .before)) in
     rw wide (omega (arith, size))
-
-add-k : tie.Need-add-k Inv-loop μ-loop
-add-k c = omega arith
-
-loop-less : tie.Need-loop-less Inv-loop μ-loop
-loop-less c = omega arith
 
 loop-again : tie.Need-loop-again Inv-loop μ-loop
 loop-again c =
@@ -89,11 +77,11 @@ vertex-lines-spec =
     mul-start
     add-vertex-line
     mul-vertex-line
-    sub-vertex-line
-    part-vertex-line-start
+    (λ c. omega arith)
+    (λ c. omega arith)
     part-vertex-line-end
     vertex-line-requires
-    add-k
-    loop-less
+    (λ c. omega arith)
+    (λ c. omega arith)
     loop-again
     returns)

@@ -27,24 +27,12 @@ loop-holds c = (
   shelf-of (c .before .args .list .now) (c .before .pre .passes) .room,
 )
 
-mul-wide16 : tie.Need-mul-wide16 Inv-loop μ-loop
-mul-wide16 c = omega arith
-
-shared-slice-read-wide16 : tie.Need-shared-slice-read-wide16 Inv-loop μ-loop
-shared-slice-read-wide16 c = omega arith
-
 returns : tie.Need-returns Inv-loop μ-loop
 returns c =
     let a = c .before .before .before .before .before .before .args in
     let e = sym (c .before .wide16 .ensures .0) ∙ c .if1 .taken in
     sym (found (a .list .now) (a .count) (c .before .before .before .before .loop .k) (a .sheet) (omega arith)
     (omega arith) e)
-
-add-k : tie.Need-add-k Inv-loop μ-loop
-add-k c = omega arith
-
-loop-less : tie.Need-loop-less Inv-loop μ-loop
-loop-less c = omega arith
 
 loop-again : tie.Need-loop-again Inv-loop μ-loop
 loop-again c =
@@ -66,11 +54,11 @@ is-replaced-spec =
     Inv-loop
     μ-loop
     loop-holds
-    mul-wide16
-    shared-slice-read-wide16
+    (λ c. omega arith)
+    (λ c. omega arith)
     (λ c κs. search needs)
     returns
-    add-k
-    loop-less
+    (λ c. omega arith)
+    (λ c. omega arith)
     loop-again
     returns-2)

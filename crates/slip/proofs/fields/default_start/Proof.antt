@@ -29,18 +29,6 @@ loop-holds c = (sym (front-none (replicate 16 0)), omega arith, indices-few (c .
 default-coordinate-requires : tie.Need-default-coordinate-requires Inv-loop μ-loop
 default-coordinate-requires c κs = (c .before .before .pre, omega arith)
 
-mul-start : tie.Need-mul-start Inv-loop μ-loop
-mul-start c = omega arith
-
-array-write-start : tie.Need-array-write-start Inv-loop μ-loop
-array-write-start c = omega arith
-
-add-h : tie.Need-add-h Inv-loop μ-loop
-add-h c = omega arith
-
-loop-less : tie.Need-loop-less Inv-loop μ-loop
-loop-less c = omega arith
-
 loop-again : tie.Need-loop-again Inv-loop μ-loop
 loop-again c =
     let l = c .before .before .loop in
@@ -66,9 +54,9 @@ default-start-spec =
     μ-loop
     loop-holds
     default-coordinate-requires
-    mul-start
-    array-write-start
-    add-h
-    loop-less
+    (λ c. omega arith)
+    (λ c. omega arith)
+    (λ c. omega arith)
+    (λ c. omega arith)
     loop-again
     returns)

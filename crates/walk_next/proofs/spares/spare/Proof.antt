@@ -21,12 +21,6 @@ abbrev μ-loop : tie.MeasureT-loop
 loop-holds : tie.Need-loop-holds Inv-loop μ-loop
 loop-holds c = (omega arith, c .pre .0, c .pre .1, c .pre .2, spares-none (c .args .marks .now) (c .args .t))
 
-mul-label-in : tie.Need-mul-label-in Inv-loop μ-loop
-mul-label-in c = omega arith
-
-element-copy-out-label-in : tie.Need-element-copy-out-label-in Inv-loop μ-loop
-element-copy-out-label-in c = omega arith
-
 is-new-requires : tie.Need-is-new-requires Inv-loop μ-loop
 is-new-requires c κs = omega (
   arith,
@@ -60,12 +54,6 @@ add-requires c κs =
       c .before .before .before .label-in .ensures,
       l .inv .3 (l .k) (c .before .before .before .before .before .loop-test .taken),
     )
-
-add-k : tie.Need-add-k Inv-loop μ-loop
-add-k c = omega arith
-
-loop-less : tie.Need-loop-less Inv-loop μ-loop
-loop-less c = omega arith
 
 loop-again : tie.Need-loop-again Inv-loop μ-loop
 loop-again c =
@@ -108,14 +96,14 @@ spare-spec =
     Inv-loop
     μ-loop
     loop-holds
-    mul-label-in
-    element-copy-out-label-in
+    (λ c. omega arith)
+    (λ c. omega arith)
     (λ c κs. search needs)
     is-new-requires
     (λ c κs. search needs)
     sub-add
     add-requires
-    add-k
-    loop-less
+    (λ c. omega arith)
+    (λ c. omega arith)
     loop-again
     returns)

@@ -33,18 +33,6 @@ returns c =
 loop-holds : tie.Need-loop-holds Inv-loop μ-loop
 loop-holds c = (omega arith, (λ j l. absurd (omega arith)), (λ j l. absurd (omega arith)))
 
-mul-if2 : tie.Need-mul-if2 Inv-loop μ-loop
-mul-if2 c = omega arith
-
-array-read-if2 : tie.Need-array-read-if2 Inv-loop μ-loop
-array-read-if2 c = omega arith
-
-mul-if2-2 : tie.Need-mul-if2-2 Inv-loop μ-loop
-mul-if2-2 c = omega arith
-
-array-read-if2-2 : tie.Need-array-read-if2-2 Inv-loop μ-loop
-array-read-if2-2 c = omega arith
-
 returns-2 : tie.Need-returns-2 Inv-loop μ-loop
 returns-2 c =
     let a = c .before .before .before .before .before .before .before .before .before .before .args in (
@@ -52,18 +40,6 @@ returns-2 c =
           (and-no (eqb (a .a .count) (a .b .count))),
       search needs,
     )
-
-mul-if3 : tie.Need-mul-if3 Inv-loop μ-loop
-mul-if3 c = omega arith
-
-array-read-if3 : tie.Need-array-read-if3 Inv-loop μ-loop
-array-read-if3 c = omega arith
-
-mul-if3-2 : tie.Need-mul-if3-2 Inv-loop μ-loop
-mul-if3-2 c = omega arith
-
-array-read-if3-2 : tie.Need-array-read-if3-2 Inv-loop μ-loop
-array-read-if3-2 c = omega arith
 
 returns-3 : tie.Need-returns-3 Inv-loop μ-loop
 returns-3 c =
@@ -74,12 +50,6 @@ returns-3 c =
       ) (and-no (eqb (a .a .count) (a .b .count))),
       search needs,
     )
-
-add-k : tie.Need-add-k Inv-loop μ-loop
-add-k c = omega arith
-
-loop-less : tie.Need-loop-less Inv-loop μ-loop
-loop-less c = omega arith
 
 loop-again : tie.Need-loop-again Inv-loop μ-loop
 loop-again c =
@@ -116,17 +86,17 @@ same-place-spec =
     μ-loop
     returns
     loop-holds
-    mul-if2
-    array-read-if2
-    mul-if2-2
-    array-read-if2-2
+    (λ c. omega arith)
+    (λ c. omega arith)
+    (λ c. omega arith)
+    (λ c. omega arith)
     returns-2
-    mul-if3
-    array-read-if3
-    mul-if3-2
-    array-read-if3-2
+    (λ c. omega arith)
+    (λ c. omega arith)
+    (λ c. omega arith)
+    (λ c. omega arith)
     returns-3
-    add-k
-    loop-less
+    (λ c. omega arith)
+    (λ c. omega arith)
     loop-again
     returns-4)

@@ -28,12 +28,6 @@ abbrev μ-loop : tie.MeasureT-loop
 loop-holds : tie.Need-loop-holds Inv-loop μ-loop
 loop-holds c = (refl, omega arith)
 
-mul-among : tie.Need-mul-among Inv-loop μ-loop
-mul-among c = omega arith
-
-element-copy-out-among : tie.Need-element-copy-out-among Inv-loop μ-loop
-element-copy-out-among c = omega arith
-
 among-requires : tie.Need-among-requires Inv-loop μ-loop
 among-requires c κs = c .before .before .before .pre .1
 
@@ -42,9 +36,6 @@ position-at-requires c κs = (
   c .before .before .before .loop-test .taken,
   c .before .before .before .before .before .pre .0 .0,
 )
-
-cast-result : tie.Need-cast-result Inv-loop μ-loop
-cast-result c = omega arith
 
 returns : tie.Need-returns Inv-loop μ-loop
 returns c = let a = c .before .before .before .before .before .before .args in
@@ -57,12 +48,6 @@ returns c = let a = c .before .before .before .before .before .before .args in
     c .position-at .ensures .0 ∙ ap markPosition (sym (outside-here (take (suc (a .n)) (a .marks .now)) (take (suc
     (a .k)) (a .others .now)) (l .j) (omega (arith, long, c .before .before .before .before .loop-test .taken))
     (rw g (sym (c .before .before .among .ensures) ∙ not-true _ (c .before .if1 .taken)))) ∙ ap (firstOr 0) (l .inv .0))
-
-add-j : tie.Need-add-j Inv-loop μ-loop
-add-j c = omega arith
-
-loop-less : tie.Need-loop-less Inv-loop μ-loop
-loop-less c = omega arith
 
 loop-again : tie.Need-loop-again Inv-loop μ-loop
 loop-again c = let a = c .before .before .before .before .before .args in
@@ -95,13 +80,13 @@ other-spec =
     Inv-loop
     μ-loop
     loop-holds
-    mul-among
-    element-copy-out-among
+    (λ c. omega arith)
+    (λ c. omega arith)
     among-requires
     position-at-requires
-    cast-result
+    (λ c. omega arith)
     returns
-    add-j
-    loop-less
+    (λ c. omega arith)
+    (λ c. omega arith)
     loop-again
     returns-2)

@@ -92,12 +92,6 @@ put-block-requires c κs =
       c .before .before .before .before .before .before .loop .inv .1,
     )
 
-add-j : tie.Need-add-j Inv-loop μ-loop
-add-j c = omega arith
-
-loop-less : tie.Need-loop-less Inv-loop μ-loop
-loop-less c = omega arith
-
 loop-again : tie.Need-loop-again Inv-loop μ-loop
 loop-again c =
     let s = c .before .before .before .before .before .before .before .before .before .before .before in
@@ -148,7 +142,7 @@ coefficients-spec =
     add-end
     first-of-requires
     put-block-requires
-    add-j
-    loop-less
+    (λ c. omega arith)
+    (λ c. omega arith)
     loop-again
     returns)

@@ -34,12 +34,6 @@ loop-holds c =
       λ d D. follow-none d (a .v .now) (a .y .now) (a .first) (a .end) D,
     )
 
-mul-wide16 : tie.Need-mul-wide16 Inv-loop μ-loop
-mul-wide16 c = omega arith
-
-shared-slice-read-wide16 : tie.Need-shared-slice-read-wide16 Inv-loop μ-loop
-shared-slice-read-wide16 c = omega arith
-
 add-x : tie.Need-add-x Inv-loop μ-loop
 add-x c =
     let a = c .before .before .before .before .before .before .args in
@@ -53,12 +47,6 @@ add-x c =
           (c .before .before .before .before .before .before .pre .1)),
       c .wide16 .ensures,
     )
-
-mul-wide16-2 : tie.Need-mul-wide16-2 Inv-loop μ-loop
-mul-wide16-2 c = omega arith
-
-element-copy-out-wide16 : tie.Need-element-copy-out-wide16 Inv-loop μ-loop
-element-copy-out-wide16 c = omega arith
 
 sub-x : tie.Need-sub-x Inv-loop μ-loop
 sub-x c =
@@ -74,12 +62,6 @@ sub-x c =
       c .before .before .wide16 .ensures,
       c .wide162 .ensures,
     )
-
-add-h : tie.Need-add-h Inv-loop μ-loop
-add-h c = omega arith
-
-loop-less : tie.Need-loop-less Inv-loop μ-loop
-loop-less c = omega arith
 
 loop-again : tie.Need-loop-again Inv-loop μ-loop
 loop-again c =
@@ -126,16 +108,16 @@ first-of-spec =
     Inv-loop
     μ-loop
     loop-holds
-    mul-wide16
-    shared-slice-read-wide16
+    (λ c. omega arith)
+    (λ c. omega arith)
     (λ c κs. search needs)
     add-x
-    mul-wide16-2
-    element-copy-out-wide16
+    (λ c. omega arith)
+    (λ c. omega arith)
     (λ c κs. search needs)
     sub-x
-    add-h
-    loop-less
+    (λ c. omega arith)
+    (λ c. omega arith)
     loop-again
     sub-result
     returns)

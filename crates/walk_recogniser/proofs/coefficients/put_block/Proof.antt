@@ -48,18 +48,6 @@ cast-list c =
           (l .inv .5 (d .0) (d .1) (d .2) .0) .1,
     )
 
-mul-list : tie.Need-mul-list Inv-loop μ-loop
-mul-list c = omega arith
-
-element-write-list : tie.Need-element-write-list Inv-loop μ-loop
-element-write-list c = omega arith
-
-mul-wide16 : tie.Need-mul-wide16 Inv-loop μ-loop
-mul-wide16 c = omega arith
-
-shared-slice-read-wide16 : tie.Need-shared-slice-read-wide16 Inv-loop μ-loop
-shared-slice-read-wide16 c = omega arith
-
 add-x : tie.Need-add-x Inv-loop μ-loop
 add-x c =
     let a = c .before .before .before .before .before .args in
@@ -71,12 +59,6 @@ add-x c =
           (l .inv .5 (d .0) (d .1) (d .2) .0) .1,
       c .wide16 .ensures,
     )
-
-mul-wide16-2 : tie.Need-mul-wide16-2 Inv-loop μ-loop
-mul-wide16-2 c = omega arith
-
-element-copy-out-wide16 : tie.Need-element-copy-out-wide16 Inv-loop μ-loop
-element-copy-out-wide16 c = omega arith
 
 sub-x : tie.Need-sub-x Inv-loop μ-loop
 sub-x c =
@@ -90,12 +72,6 @@ sub-x c =
       c .before .before .wide16 .ensures,
       c .wide162 .ensures,
     )
-
-add-h : tie.Need-add-h Inv-loop μ-loop
-add-h c = omega arith
-
-loop-less : tie.Need-loop-less Inv-loop μ-loop
-loop-less c = omega arith
 
 loop-again : tie.Need-loop-again Inv-loop μ-loop
 loop-again c =
@@ -128,17 +104,17 @@ put-block-spec =
     μ-loop
     loop-holds
     cast-list
-    mul-list
-    element-write-list
-    mul-wide16
-    shared-slice-read-wide16
+    (λ c. omega arith)
+    (λ c. omega arith)
+    (λ c. omega arith)
+    (λ c. omega arith)
     (λ c κs. search needs)
     add-x
-    mul-wide16-2
-    element-copy-out-wide16
+    (λ c. omega arith)
+    (λ c. omega arith)
     (λ c κs. search needs)
     sub-x
-    add-h
-    loop-less
+    (λ c. omega arith)
+    (λ c. omega arith)
     loop-again
     returns)

@@ -65,12 +65,6 @@ met-in-requires c κs = omega (
       (c .before .before .before .before .before .before .before .pre) .1,
 )
 
-add-h : tie.Need-add-h Inv-loop μ-loop
-add-h c = omega arith
-
-loop-less : tie.Need-loop-less Inv-loop μ-loop
-loop-less c = omega arith
-
 loop-again : tie.Need-loop-again Inv-loop μ-loop
 loop-again c =
     let a = c .before .before .before .before .before .args in
@@ -115,7 +109,7 @@ is-free-spec =
     returns
     array-read-met-in
     met-in-requires
-    add-h
-    loop-less
+    (λ c. omega arith)
+    (λ c. omega arith)
     loop-again
     returns-2)

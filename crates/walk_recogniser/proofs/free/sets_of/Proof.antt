@@ -23,12 +23,6 @@ loop-holds c =
     let a = c .args in
     (omega arith, c .pre .0, c .pre .1, c .pre .2, sets-none (a .order .now) (a .m) (a .zeros))
 
-mul-wide32 : tie.Need-mul-wide32 Inv-loop μ-loop
-mul-wide32 c = omega arith
-
-element-copy-out-wide32 : tie.Need-element-copy-out-wide32 Inv-loop μ-loop
-element-copy-out-wide32 c = omega arith
-
 returns : tie.Need-returns Inv-loop μ-loop
 returns c = let l = c .before .before .before .before .loop in
     record {
@@ -44,15 +38,6 @@ returns-2 c =
     (c .before .before .before .wide32 .result) (l .inv .4) (c .before .before .before .wide32 .ensures)
     (c .before .before .if1 .left) (l .inv .2) (sym (c .before .has .ensures) ∙ c .if2 .taken) in
     record { yes = λ e. absurd-bool (sym e); no = λ e. twice (w .0) (l .k) (w .1) (omega arith) (w .2) }
-
-add-requires : tie.Need-add-requires Inv-loop μ-loop
-add-requires c κs = omega arith
-
-add-k : tie.Need-add-k Inv-loop μ-loop
-add-k c = omega arith
-
-loop-less : tie.Need-loop-less Inv-loop μ-loop
-loop-less c = omega arith
 
 loop-again : tie.Need-loop-again Inv-loop μ-loop
 loop-again c =
@@ -81,15 +66,15 @@ sets-of-spec =
     Inv-loop
     μ-loop
     loop-holds
-    mul-wide32
-    element-copy-out-wide32
+    (λ c. omega arith)
+    (λ c. omega arith)
     (λ c κs. search needs)
     returns
     (λ c κs. search needs)
     returns-2
-    add-requires
+    (λ c κs. omega arith)
     (λ c κs. search needs)
-    add-k
-    loop-less
+    (λ c. omega arith)
+    (λ c. omega arith)
     loop-again
     returns-3)

@@ -26,17 +26,8 @@ loop-holds c = (omega arith, c .pre .1 .few, reached-none (c .pre .0 .0 .made) (
 mark-at-requires : tie.Need-mark-at-requires Inv-loop μ-loop
 mark-at-requires c κs = (c .before .before .before .pre .0 .0, c .before .before .loop .inv .2 .on)
 
-mul-marks : tie.Need-mul-marks Inv-loop μ-loop
-mul-marks c = omega arith
-
 element-write-marks : tie.Need-element-write-marks Inv-loop μ-loop
 element-write-marks c = let l = c .before .before .before .loop in omega (arith, l .inv .1, l .inv .2 .marksLong)
-
-mul-wide32 : tie.Need-mul-wide32 Inv-loop μ-loop
-mul-wide32 c = omega arith
-
-element-copy-out-wide32 : tie.Need-element-copy-out-wide32 Inv-loop μ-loop
-element-copy-out-wide32 c = omega arith
 
 -- in the loop, with the index of the step: where the call began, the loop, and that the index is low
 abbrev At : Type 0
@@ -59,14 +50,8 @@ low c =
 first-outside-requires : tie.Need-first-outside-requires Inv-loop μ-loop
 first-outside-requires c κs = (low c, begun c .pre .0 .1)
 
-mul-wide16 : tie.Need-mul-wide16 Inv-loop μ-loop
-mul-wide16 c = omega arith
-
 element-copy-out-wide16 : tie.Need-element-copy-out-wide16 Inv-loop μ-loop
 element-copy-out-wide16 c = omega (arith, c .first-outside .ensures .1)
-
-mul-wide16-2 : tie.Need-mul-wide16-2 Inv-loop μ-loop
-mul-wide16-2 c = omega arith
 
 array-read-wide16 : tie.Need-array-read-wide16 Inv-loop μ-loop
 array-read-wide16 c = omega (arith, c .before .before .first-outside .ensures .1)
@@ -103,9 +88,6 @@ mul-steps-2 c = omega (arith, low (c .before .before .before .before .before))
 array-write-steps : tie.Need-array-write-steps Inv-loop μ-loop
 array-write-steps c = omega (arith, low (c .before .before .before .before .before))
 
-mul-steps-3 : tie.Need-mul-steps-3 Inv-loop μ-loop
-mul-steps-3 c = omega arith
-
 array-read-steps-2 : tie.Need-array-read-steps-2 Inv-loop μ-loop
 array-read-steps-2 c = omega (arith, c .before .before .before .before .first-outside .ensures .1)
 
@@ -124,17 +106,8 @@ sub-steps c =
     (count-b (begun at .pre .0 .0 .made) (begun at .pre .1) (l .inv .2) (goes-on at) (at .wide32 .ensures)
     (b .ensures .0) (some c))
 
-mul-steps-4 : tie.Need-mul-steps-4 Inv-loop μ-loop
-mul-steps-4 c = omega arith
-
 array-write-steps-2 : tie.Need-array-write-steps-2 Inv-loop μ-loop
 array-write-steps-2 c = omega (arith, c .before .before .before .before .first-outside .ensures .1)
-
-add-k : tie.Need-add-k Inv-loop μ-loop
-add-k c = omega arith
-
-loop-less : tie.Need-loop-less Inv-loop μ-loop
-loop-less c = omega arith
 
 loop-again : tie.Need-loop-again Inv-loop μ-loop
 loop-again c =
@@ -149,9 +122,6 @@ loop-again c =
 
 mark-at-requires-2 : tie.Need-mark-at-requires-2 Inv-loop μ-loop
 mark-at-requires-2 c κs = (c .before .before .before .pre .0 .0, c .before .before .loop .inv .2 .on)
-
-mul-marks-2 : tie.Need-mul-marks-2 Inv-loop μ-loop
-mul-marks-2 c = omega arith
 
 element-write-marks-2 : tie.Need-element-write-marks-2 Inv-loop μ-loop
 element-write-marks-2 c = let l = c .before .before .before .loop in omega (arith, l .inv .1, l .inv .2 .marksLong)
@@ -177,16 +147,16 @@ mark-points-spec =
     μ-loop
     loop-holds
     mark-at-requires
-    mul-marks
+    (λ c. omega arith)
     element-write-marks
-    mul-wide32
-    element-copy-out-wide32
+    (λ c. omega arith)
+    (λ c. omega arith)
     (λ c κs. search needs)
     first-outside-requires
-    mul-wide16
+    (λ c. omega arith)
     element-copy-out-wide16
     (λ c κs. search needs)
-    mul-wide16-2
+    (λ c. omega arith)
     array-read-wide16
     (λ c κs. search needs)
     add-if1
@@ -196,15 +166,15 @@ mark-points-spec =
     add-steps
     mul-steps-2
     array-write-steps
-    mul-steps-3
+    (λ c. omega arith)
     array-read-steps-2
     sub-steps
-    mul-steps-4
+    (λ c. omega arith)
     array-write-steps-2
-    add-k
-    loop-less
+    (λ c. omega arith)
+    (λ c. omega arith)
     loop-again
     mark-at-requires-2
-    mul-marks-2
+    (λ c. omega arith)
     element-write-marks-2
     returns-2)

@@ -30,9 +30,6 @@ byte-at-requires c κs = let s = c .before .before .before .before .before in le
 cast-label : tie.Need-cast-label Inv-loop μ-loop
 cast-label c = omega (arith, c .byte-at .ok)
 
-mul-marks : tie.Need-mul-marks Inv-loop μ-loop
-mul-marks c = omega arith
-
 element-copy-out-marks : tie.Need-element-copy-out-marks Inv-loop μ-loop
 element-copy-out-marks c = omega (arith, c .before .before .before .before .loop .inv .1)
 
@@ -45,17 +42,8 @@ add-marks c = let s = c .before .before .before .before .before .before .before 
       c .before .byte-at .ok,
     )
 
-mul-marks-2 : tie.Need-mul-marks-2 Inv-loop μ-loop
-mul-marks-2 c = omega arith
-
 element-write-marks : tie.Need-element-write-marks Inv-loop μ-loop
 element-write-marks c = omega (arith, c .before .before .before .before .before .loop .inv .1)
-
-add-k : tie.Need-add-k Inv-loop μ-loop
-add-k c = omega arith
-
-loop-less : tie.Need-loop-less Inv-loop μ-loop
-loop-less c = omega arith
 
 loop-again : tie.Need-loop-again Inv-loop μ-loop
 loop-again c = let s = c .before .before .before .before .before .before .before in let a = s .args in
@@ -83,12 +71,12 @@ read-labels-spec =
     position-at-requires
     byte-at-requires
     cast-label
-    mul-marks
+    (λ c. omega arith)
     element-copy-out-marks
     add-marks
-    mul-marks-2
+    (λ c. omega arith)
     element-write-marks
-    add-k
-    loop-less
+    (λ c. omega arith)
+    (λ c. omega arith)
     loop-again
     returns)

@@ -40,7 +40,8 @@ abbrev number : Counted → ℕ
 number c = c .wide .result - 1
 
 holds : (c : Counted) → holdsNumbers (begun c .args .g .indices) (begun c .args .w .present) ≡ true
-holds c = sym (c .before .before .before .before .is-kept .ensures .0) ∙ not-false _ (c .before .before .before .if1 .left)
+holds c = sym (c .before .before .before .before .is-kept .ensures .0) ∙ not-false _
+    (c .before .before .before .if1 .left)
 
 number-is : (c : Counted) → number c ≡ pred (begun c .args .w .present .count)
 number-is c = omega (arith, c .wide .ensures)
@@ -75,7 +76,8 @@ returns-2 : tie.Need-returns-2
 returns-2 c =
     let n = c .before .before .before .before .before .before .before .before in
     let a = begun n .args in
-    let kept = not-kept-place (sees n) (c .before .before .before .seen .ensures .no (not-true _ (c .before .if2 .taken)))
+    let kept = not-kept-place (sees n)
+    (c .before .before .before .seen .ensures .no (not-true _ (c .before .if2 .taken)))
     in
     c .no-points2 .ensures
     ∙ points-none (shape (a .g)) (a .w) (a .labels .now) (begun n .pre .1) (rw (present n) kept)
