@@ -15,8 +15,13 @@ mod check_calls;
 mod refine_calls;
 mod shelf_calls;
 
+pub use boundary_calls::leveretplate_boundary;
+pub use check_calls::leveretplate_check;
 use finder::put_answer;
 use game_labels::Labelled;
+pub use refine_calls::leveretplate_refine;
+pub use shelf_calls::leveretplate_current;
+pub use shelf_calls::leveretplate_file;
 use text::SHEET_BYTES;
 
 // The run on a label table: 0 at an end, else the refusal's number. The facts are the places, the labels read, the kind
