@@ -35,7 +35,7 @@ use Rattle.path_laws.proofs.Meaning.{U-means, complete-means, labels-mean}
 use Rattle.path_laws.proofs.Positions.{at-in}
 use Rattle.place.specs.Ends.{isComplete}
 use Rattle.place.specs.Places.{Simplex}
-use Rattle.place.specs.Problem.{Problem, label}
+use Rattle.place.specs.Problem.{Problem}
 use Rattle.points_in_order.proofs.Blocks.{block-length}
 
 -- numbers that add up to something have a positive one

@@ -14,13 +14,11 @@ use Rattle.checker.specs.Check.{checkAnswer}
 use Rattle.checker.specs.declared.CheckAnswer.the-variants.{Yes}
 use Rattle.combinatorics.proofs.Basics.{same-or}
 use Rattle.combinatorics.proofs.Fronts.{front-taken}
-use Rattle.combinatorics.specs.Front.{front}
 use Rattle.combinatorics.specs.Lists.{concatMap}
 use Rattle.end_kinds.specs.declared.Kind.{Kind}
 use Rattle.finder.proofs.Told.{EndTold, end-told, end-written, table-asked}
 use Rattle.finder.specs.Demand.{announcementOf}
-use Rattle.finder.specs.Run.{runAnswer, runBuffer}
-use Rattle.finder.specs.declared.answers.RunAnswer.the-variants.{End}
+use Rattle.finder.specs.Run.{runBuffer}
 use Rattle.game_labels.specs.Labelling.{question12}
 use Rattle.game_losses.specs.Game.{labels as labelsOf}
 use Rattle.game_losses.specs.Table.{IsTable, question10, question11}

@@ -1,10 +1,10 @@
 -- What a yes of the checker tells: all questions are answered yes, and the verdict on the points listed, of which there
 -- is one at least, names the block. Assumes nothing.
-use mathlib.Core.Bool.{Bool, true, false, _&&_, cond}
+use mathlib.Core.Bool.{true, _&&_}
 use mathlib.Core.List.{List, []}
 use mathlib.Core.Logic.{⊎-elim}
 use mathlib.Core.Option.{Option, none, some}
-use mathlib.Core.Path.{_≡_, refl, sym, ap, _∙_}
+use mathlib.Core.Path.{_≡_, refl, _∙_}
 use Prim.Native.Nat.{ℕ, zero, suc, _*_, _≤_}
 use borrow.Author.Tests.{eqb-true, leb-true, ne-eqb}
 use lib.Dec.{eqb, leb}
@@ -14,11 +14,11 @@ use Rattle.check_chains.specs.Listed.{listedAt}
 use Rattle.check_simplices.specs.Simplices.{labelledBy, verdict}
 use Rattle.checker.specs.Check.{checkAnswer, checkCase, checkQuestions, listQuestions, listedPoints, question19}
 use Rattle.checker.specs.Check.{wholePoints}
-use Rattle.checker.specs.declared.CheckAnswer.the-variants.{No, Refused, Yes}
+use Rattle.checker.specs.declared.CheckAnswer.the-variants.{Refused, Yes}
 use Rattle.combinatorics.proofs.Basics.{absurd-bool, and-left, and-right, same-or}
 use Rattle.combinatorics.proofs.Ranges.{length-upFrom}
-use Rattle.combinatorics.specs.Lists.{all, upFrom}
-use Rattle.grid_points.specs.Grid.{Grid, dimension, isGridPoint, numIndices}
+use Rattle.combinatorics.specs.Lists.{upFrom}
+use Rattle.grid_points.specs.Grid.{Grid, dimension, numIndices}
 use Rattle.grid_points.specs.Questions.{gridQuestions}
 use Rattle.place.specs.Questions.{question6, question7}
 use Rattle.questions.proofs.Answers.{both-yes, first-yes}

@@ -1,7 +1,6 @@
 -- Request 07, "Each end we print gets yes": of what a run, a refinement and the kiosk answer, write and print, given to
 -- the checker as it stands there. Assumes nothing.
-use mathlib.Core.Bool.{true}
-use mathlib.Core.List.{List, []}
+use mathlib.Core.List.{List}
 use mathlib.Core.Path.{_≡_}
 use Prim.Native.Nat.{ℕ, _*_, _<_}
 use lib.ListN.{length, drop, getD, take}

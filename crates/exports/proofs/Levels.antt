@@ -20,7 +20,7 @@ use Rattle.refinement.specs.declared.Level.{Level}
 use Rattle.refinement_levels.proofs.Claims.{passed}
 use Rattle.refinement_levels.specs.Levels.{Refinement}
 use Rattle.exports.proofs.Facts.{facts-long, factsOf}
-use Rattle.exports.specs.Refine.{RefineCallsTell, levelFacts, refinedFacts}
+use Rattle.exports.specs.Refine.{RefineCallsTell, levelFacts}
 
 level-told : (x y : Level) → levelFacts x ≡ levelFacts y → x ≡ y
 level-told x y e =
