@@ -217,14 +217,14 @@ def mask(indices):
 
 
 def read_trail_case(fields, expect):
-    """The reader writes all 256 numbers, 0 behind the points."""
+    """The points at the front of the buffer, what it held behind."""
     data = on_path(fields) + bytes_list(bytes.fromhex(fields["trail"])) + number(fields["record"])
     if refusal(expect):
         text = answered(refusal(expect)) + line("place", [7] * 4) + runs("points", [65535] * 256)
     else:
         found = said(expect)
         place = int(found["points"]), mask(found["T"]), mask(found["U"]), int(found["labels read"])
-        text = answered(0) + line("place", place) + runs("points", filled(rows(expect), 256, 0))
+        text = answered(0) + line("place", place) + runs("points", filled(rows(expect), 256, 65535))
     yield READ_TRAIL, data, text
 
 
