@@ -29,9 +29,10 @@ use Rattle.game_labels.specs.declared.Labelled.the-variants.{Refused, Written}
 use Rattle.game_losses.specs.Game.{labels}
 use Rattle.game_losses.specs.Table.{IsTable, question10, question11}
 use Rattle.grid_points.proofs.Accepted.{accepted}
+use Rattle.grid_points.proofs.CoordinatesBelow.{in-limits}
 use Rattle.grid_points.specs.Grid.{Grid, lent, numPoints}
 use Rattle.grid_points.specs.Questions.{gridQuestions, question5}
-use Rattle.path_laws.proofs.Filled.{FullyLabelled, full-accepted}
+use Rattle.path_laws.proofs.Filled.{FullyLabelled, full-table}
 use Rattle.path_laws.proofs.Theorem.{demand3-holds}
 use Rattle.place.specs.LabelsRead.{labelsRead}
 use Rattle.place.specs.Path.{answer, ended, path, pathLength, spent}
@@ -62,7 +63,8 @@ yes-accurate g losses numbers block t e =
       always = t .range;
       accurate = λ low range w. every-complete-set g losses low range
           (record { sameNumber = a .sameNumber; divisions = a .divisionsOne; whole = t .whole; within = w })
-          (listedPoints g numbers) (y .nonempty) (search-finds g a (listedPoints g numbers) .1 (v .one)) (y .named)
+          (listedPoints g numbers) (y .nonempty) (search-finds g (in-limits g a) (listedPoints g numbers) .1 (v .one))
+              (y .named)
           (v .block) (v .complete);
     }
 
@@ -152,7 +154,7 @@ module _ (slip : List ℕ) (two : stands slip 2 ≡ false) (z : slipRefusal slip
   unfolding sheetOf
   spends l =
       let a : answer (slipProblem slip) (slipBudget slip) ≡ spent (slipBudget slip) =
-      ap (λ (q : Problem). answer q (slipBudget slip)) same ∙ demand3-holds (full-accepted full) .spends
+      ap (λ (q : Problem). answer q (slipBudget slip)) same ∙ demand3-holds (full-table full) .spends
       (slipBudget slip) .1 l in
       spentBudget z a (rw (z, a))
 
@@ -166,7 +168,7 @@ module _ (slip : List ℕ) (two : stands slip 2 ≡ false) (z : slipRefusal slip
       (e .simplex) =
       ap (λ (q : Problem). answer q b) same ∙ E .announces b l in
       let s = each-sheet-gets-yes slip z _ _ _ _ _ (e .simplex) a in
-      let ok = full-accepted full .hasStart in
+      let ok = full-table full .hasStart in
       let w = last-place ok e (E .ends) in
       let n = stop-points ok (w .0) e (w .1) (w .2) in
       let g = slipGrid slip in

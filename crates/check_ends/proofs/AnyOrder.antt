@@ -20,6 +20,7 @@ use Rattle.combinatorics.proofs.Lists.{all-in, in-all}
 use Rattle.combinatorics.proofs.Ranges.{length-upFrom}
 use Rattle.combinatorics.specs.Lists.{all, upFrom}
 use Rattle.grid_points.proofs.Accepted.{accepted}
+use Rattle.grid_points.proofs.CoordinatesBelow.{in-limits}
 use Rattle.grid_points.proofs.Points.{onPoints}
 use Rattle.grid_points.specs.Grid.{Grid, dimension, isGridPoint, numIndices}
 use Rattle.grid_points.specs.Questions.{gridQuestions}
@@ -70,7 +71,7 @@ module _ (g : Grid) (labels a b : List ℕ) (long : length a ≡ length b)
       ⊎-elim
       (λ (z : n ≡ 0).
       let ok = accepted g (both-yes (gridQuestions g) (listQuestions g labels a) refl z .0) in
-      rw (e, z) (ap checkCase (order-free ok labels (listedPoints g a) (listedPoints g b) same as-many)))
+      rw (e, z) (ap checkCase (order-free (in-limits g ok) labels (listedPoints g a) (listedPoints g b) same as-many)))
       (λ (z : n ≡ 0 → ⊥). rw (e, ne-eqb n 0 z))
       (same-or n 0)
 

@@ -11,7 +11,7 @@ use native.Mathlib.Omega.{arith}
 use Rattle.combinatorics.proofs.Basics.{absurd-bool}
 use Rattle.end_kinds.specs.declared.Kind.{Kind}
 use Rattle.grid_points.specs.Grid.{Grid, Point}
-use Rattle.path_laws.proofs.Accepted.{accepted-is}
+use Rattle.path_laws.proofs.Accepted.{accepted-is, accepted-table}
 use Rattle.path_laws.proofs.LabelsRead.{came-few}
 use Rattle.path_laws.proofs.Theorem.{demand3-holds}
 use Rattle.path_laws.specs.Demand.{Accepted, placeAt}
@@ -106,7 +106,7 @@ module _ (g : Grid) (v : Point) (labels : List ℕ) (ok : Accepted (begunOn g v 
       let b = leftFrom g v labels (suc i) .present in
       let e : placeOf g b ≡ placeAt visited (suc i) =
       ap (λ (h : Grid). placeOf h b) (sym (grid-at (suc i) c)) ∙ ap (λ (w : Walk). w .present) (stands (suc i) c) in
-      place-before p ok.hasStart b (rw e (demand3-holds ok .follows .places (suc i) c))
+      place-before p ok.hasStart b (rw e (demand3-holds (accepted-table ok) .follows .places (suc i) c))
       ∙ ap (λ (s : Simplex). some s) e
 
   turned-walk : (w : WalkStruct) (i : ℕ) → walkOf (turnedAs w (leftFrom g v labels i .present))

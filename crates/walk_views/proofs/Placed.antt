@@ -24,7 +24,7 @@ use Rattle.place.specs.Problem.{Problem}
 use Rattle.place.specs.Questions.{tableQuestions}
 use Rattle.path_laws.proofs.Filled.{filledTable, filled-full}
 use Rattle.path_laws.proofs.ToChain.{pointsOf-coefficientsOf}
-use Rattle.path_laws.proofs.Accepted.{accepted-of}
+use Rattle.path_laws.proofs.Accepted.{accepted-of, accepted-table}
 use Rattle.path_laws.proofs.IndexSets.{no-empty}
 use Rattle.path_laws.proofs.LinkSymmetry.{parts}
 use Rattle.questions.proofs.Answers.{asked-next, asked-no}
@@ -159,7 +159,7 @@ module _ {g : GridStruct} {w : WalkStruct} {labels first order : List ℕ} {n : 
   points-here : pointsFrom filled state 0 ≡ here
   points-here =
       all-points (full (ok (C .sees)) y o (C .place)) (describes (ok (C .sees)) y o (C .place) state lent)
-      ∙ pointsOf-coefficientsOf (filled-full (ok (C .sees)) .hasStart) here (parts filled here (place-filled (ok
+      ∙ pointsOf-coefficientsOf (filled-full (accepted-table (ok (C .sees))) .hasStart) here (parts filled here (place-filled (ok
       (C .sees)) y o (C .place)) .gridPoints)
 
   numbers-here : numbersFrom (g .indices) told 0 ≡ concatMap (λ y. y) here

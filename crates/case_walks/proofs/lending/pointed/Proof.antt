@@ -1,5 +1,5 @@
--- `lending::pointed` meets its contract: it lends a struct with one slice besides, and gives it back. All that the proof
--- knows of `leveretplate_walk_points` is that it meets its contract. Assumes nothing.
+-- `lending::pointed` meets its contract: it lends a struct with one slice besides, and gives it back. All that the
+-- proof knows of `leveretplate_walk_points` is that it meets its contract. Assumes nothing.
 use mathlib.Core.Path.{refl}
 use contract.Running.{givenOf, tables, tablesOf}
 use denote.Triple.Spec.{tripleOf}
