@@ -98,19 +98,31 @@ pub game-full : (g : Grid) (start : Point) (losses : List ℕ) → firstNo (grid
     → FullyLabelled (gameProblem g start losses)
 game-full g start losses e on = full-game g start losses (in-limits g (accepted g e)) on
 
--- the levels of a refinement whose grids are accepted
-module _ (r : Refinement) (n : ℕ) (each : (i : ℕ) → i < n → firstNo (gridQuestions (levelGrid r i)) ≡ 0)
+-- levels whose grids are within the limits
+module _ (r : Refinement) (n : ℕ) (each : (i : ℕ) → i < n → InLimits (levelGrid r i))
     (on : isGridPoint (r .grid) (r .start) ≡ true) where
-  pub start-on-grid : (i : ℕ) → i < n → isGridPoint (levelGrid r i) (levelStart r i) ≡ true
+  pub start-within : (i : ℕ) → i < n → isGridPoint (levelGrid r i) (levelStart r i) ≡ true
   unfolding levelStart
-  start-on-grid zero h = rw (level-first (r .grid) (r .factor)) on
-  start-on-grid (suc i) h =
+  start-within zero h = rw (level-first (r .grid) (r .factor)) on
+  start-within (suc i) h =
       let y = firstVertex (levelProblem r i) in
       let full =
-      game-full (levelGrid r i) (levelStart r i) (r .losses) (each i (omega arith)) (start-on-grid i (omega arith))
+      full-game (levelGrid r i) (levelStart r i) (r .losses) (each i (omega arith)) (start-within i (omega arith))
       in
       subst (λ (g : Grid). isGridPoint g (times (r .factor) y) ≡ true) (sym (level-next (r .grid) (r .factor) i))
       (times-on-grid (r .factor) (levelGrid r i) y (first-on-grid full))
 
+  pub level-within : (i : ℕ) → i < n → FullyLabelled (levelProblem r i)
+  level-within i h = full-game (levelGrid r i) (levelStart r i) (r .losses) (each i h) (start-within i h)
+
+-- the levels of a refinement whose grids are accepted
+module _ (r : Refinement) (n : ℕ) (each : (i : ℕ) → i < n → firstNo (gridQuestions (levelGrid r i)) ≡ 0)
+    (on : isGridPoint (r .grid) (r .start) ≡ true) where
+  within : (i : ℕ) → i < n → InLimits (levelGrid r i)
+  within i h = in-limits (levelGrid r i) (accepted (levelGrid r i) (each i h))
+
+  pub start-on-grid : (i : ℕ) → i < n → isGridPoint (levelGrid r i) (levelStart r i) ≡ true
+  start-on-grid = start-within r n within on
+
   pub level-full : (i : ℕ) → i < n → FullyLabelled (levelProblem r i)
-  level-full i h = game-full (levelGrid r i) (levelStart r i) (r .losses) (each i h) (start-on-grid i h)
+  level-full = level-within r n within on

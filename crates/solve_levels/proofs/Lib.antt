@@ -1,0 +1,4 @@
+pub mod Limits
+pub mod Levels
+pub mod Claims
+pub mod Worked

@@ -1,0 +1,4 @@
+pub mod Questions
+pub mod Solving
+pub mod Claims
+pub mod Worked
