@@ -5,26 +5,26 @@ use reference::grid::{Grid, MOST_POINTS};
 use reference::slip::{sheet, ByDefinitions, ByPaper, Method, SHEET_BYTES};
 use reference::{paper, small, End, Kind, Outcome};
 
-/// Sizes, divisions, start, labels; places, kind, block, vertices.
-type Row = (&'static [u8], &'static [u16], &'static [u16], &'static [u8], u64, Kind, usize, &'static [u16]);
+/// Sizes, divisions, start, labels; places, labels read, kind, block, vertices.
+type Row = (&'static [u8], &'static [u16], &'static [u16], &'static [u8], u64, u64, Kind, usize, &'static [u16]);
 
 const WORKED: [Row; 8] = [
-    (&[2], &[1], &[1, 0], &[1, 1], 1, Kind::Place, 1, &[1, 0]),
-    (&[2], &[1], &[1, 0], &[2, 2], 2, Kind::Facet, 1, &[0, 1]),
-    (&[2], &[1], &[1, 0], &[1, 2], 2, Kind::Place, 1, &[1, 0, 0, 1]),
-    (&[2], &[4], &[2, 2], &[1; 5], 3, Kind::Facet, 1, &[4, 0]),
-    (&[3], &[1], &[1, 0, 0], &[3; 3], 2, Kind::Facet, 1, &[0, 0, 1]),
-    (&[3], &[3], &[1, 1, 1], &[1; 10], 3, Kind::Facet, 1, &[3, 0, 0]),
-    (&[2, 2], &[1, 1], &[1, 0, 1, 0], &[3, 1, 2, 4], 3, Kind::Place, 2, &[1, 0, 1, 0, 1, 0, 0, 1, 0, 1, 0, 1]),
-    (&[2, 2], &[1, 1], &[1, 0, 1, 0], &[2, 2, 2, 4], 5, Kind::Facet, 1, &[0, 1, 1, 0]),
+    (&[2], &[1], &[1, 0], &[1, 1], 1, 1, Kind::Place, 1, &[1, 0]),
+    (&[2], &[1], &[1, 0], &[2, 2], 2, 2, Kind::Facet, 1, &[0, 1]),
+    (&[2], &[1], &[1, 0], &[1, 2], 2, 2, Kind::Place, 1, &[1, 0, 0, 1]),
+    (&[2], &[4], &[2, 2], &[1; 5], 3, 3, Kind::Facet, 1, &[4, 0]),
+    (&[3], &[1], &[1, 0, 0], &[3; 3], 2, 2, Kind::Facet, 1, &[0, 0, 1]),
+    (&[3], &[3], &[1, 1, 1], &[1; 10], 3, 3, Kind::Facet, 1, &[3, 0, 0]),
+    (&[2, 2], &[1, 1], &[1, 0, 1, 0], &[3, 1, 2, 4], 3, 3, Kind::Place, 2, &[1, 0, 1, 0, 1, 0, 0, 1, 0, 1, 0, 1]),
+    (&[2, 2], &[1, 1], &[1, 0, 1, 0], &[2, 2, 2, 4], 5, 4, Kind::Facet, 1, &[0, 1, 1, 0]),
 ];
 
 #[test]
 fn worked_ends() {
     for run in [paper::run, small::run] {
-        for (sizes, divisions, start, labels, places, kind, block, vertices) in WORKED {
+        for (sizes, divisions, start, labels, places, labels_read, kind, block, vertices) in WORKED {
             let mut answer = [77; 256];
-            let end = End { places, kind, block, vertices: vertices.len() / start.len() };
+            let end = End { places, labels_read, kind, block, vertices: vertices.len() / start.len() };
             assert_eq!(run(sizes, divisions, start, labels, &mut answer, u64::MAX), Outcome::Ended(end));
             assert_eq!(&answer[..vertices.len()], vertices);
             assert!(answer[vertices.len()..].iter().all(|&number| number == 77));
