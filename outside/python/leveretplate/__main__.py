@@ -1,16 +1,20 @@
 """The commands: slip, sheet, refine, trail, check and page.
 
 What is wrong with an input is said in one line on standard error. The exit status is 0 for an answer, 1 for a refusal
-by number, and 2 for an input that cannot be read.
+by number, for the answer no and for a sheet that differs, and 2 for a command or an input that cannot be read.
 """
 
 import argparse
 import os
 import pathlib
+import re
 import sys
 from collections.abc import Callable
+from itertools import zip_longest
+from typing import Any
 
-from . import calls, inputs, pages, refining, texts, trails
+from . import calls, inputs, pages, refining, sheets, texts, trails
+from .malformed import Malformed
 from .questions import Refused
 from .slips import decode
 
@@ -55,16 +59,51 @@ def trail(arguments: Arguments) -> None:
         print(line)
 
 
-def check(arguments: Arguments) -> None:
-    """Say whether points are a complete simplex, and for which block first."""
+def check(arguments: Arguments) -> int:
+    """Say whether points are a complete simplex, and for which block first; with --whole compare a sheet's every line.
+
+    The points are the vertices of a sheet, lines of points, or a text's field points.
+    """
     brought = _brought(arguments)
     problem = decode(brought.slip)
+    if arguments.whole:
+        return _compare(calls.sheet(brought.slip), _second_text(arguments))
     if arguments.points:
-        points = texts.points_of_sheet(inputs.read_text(arguments.points))
+        sheet = sheets.read(_second_text(arguments), sum(problem.sizes))
     else:
-        points = texts.points(brought.text or "")
-    block = calls.check(problem.sizes, problem.divisions, problem.label_table(), [points])
+        sheet = sheets.Sheet(texts.points(brought.text or "", sum(problem.sizes)), {})
+    block = calls.check(problem.sizes, problem.divisions, problem.label_table(), sheet.vertices)
     print("no" if block is None else f"yes\nblock {block}")
+    false = sheet.false(block, problem.sizes, problem.divisions)
+    for said in false:
+        print(f"differs: {said}")
+    if sheet.of_the_path():
+        print(f"not compared: {', '.join(sheet.of_the_path())}; --whole reruns and compares")
+    return 1 if block is None or false else 0
+
+
+def _compare(rerun: str, sheet: str) -> int:
+    """Says line by line where a sheet differs from that of the run, the last line included that one of them lacks."""
+    ours, theirs = (text.rstrip().splitlines() for text in (rerun, sheet))
+    count = 0
+    for at, (run_line, sheet_line) in enumerate(zip_longest(ours, theirs), 1):
+        if run_line != (sheet_line if sheet_line is None else sheet_line.rstrip()):
+            count += 1
+            print(f"line {at} differs: the sheet has {_quoted(sheet_line)}, and the run gives {_quoted(run_line)}")
+    print(f"{count} lines differ" if count else "every line agrees")
+    return 1 if count else 0
+
+
+def _quoted(line: str | None) -> str:
+    return "no such line" if line is None else repr(line[:200])
+
+
+def _second_text(arguments: Arguments) -> str:
+    """The text of the second file. What is wrong with it is said under its own name."""
+    arguments.named = arguments.points
+    if not arguments.points:
+        raise Malformed("a sheet is needed behind the slip")
+    return inputs.read_text(arguments.points)
 
 
 def page(arguments: Arguments) -> None:
@@ -77,49 +116,89 @@ def page(arguments: Arguments) -> None:
         pathlib.Path(arguments.output).write_text(written, "utf-8")
 
 
+# The options that take several numbers, with spaces or commas between them.
+SEVERAL = ("--divisions", "--start")
+
+
+def _numbers(items: str) -> list[int]:
+    if not re.fullmatch("[0-9]{1,9}(,[0-9]{1,9})*", items):
+        raise argparse.ArgumentTypeError(f"whole numbers are needed, not {items[:40]!r}")
+    return [int(item) for item in items.split(",")]
+
+
 def _brought(arguments: Arguments) -> inputs.Brought:
-    choices = inputs.Choices(arguments.divisions, arguments.start, arguments.budget)
-    return inputs.read(arguments.file, choices)
+    chosen = {name: getattr(arguments, name, None) for name in inputs.Choices._fields}
+    return inputs.read(arguments.file, inputs.Choices(**chosen))
+
+
+# The options that more than one command has. A command has those that change what it does, and no others.
+SHARED: dict[str, dict[str, Any]] = {
+    "--divisions": {"type": _numbers, "metavar": "D ...", "help": "one for all blocks, or one for each"},
+    "--start": {"type": _numbers, "metavar": "Y ...", "help": "a number for each index"},
+    "--budget": {"type": int, "metavar": "PLACES", "help": "the most places to visit"},
+}
+OF_A_RUN = tuple(SHARED)
 
 
 def _parser() -> argparse.ArgumentParser:
-    shared = argparse.ArgumentParser(add_help=False)
-    shared.add_argument("file", help="a text of a slip's fields, a Gambit .nfg file, or a slip; - is standard input")
-    shared.add_argument("--divisions", type=int, nargs="+", metavar="D", help="one for all blocks, or one for each")
-    shared.add_argument("--start", type=int, nargs="+", metavar="Y", help="a number for each index")
-    shared.add_argument("--budget", type=int, metavar="PLACES", help="the most places to visit")
-    parser = argparse.ArgumentParser(prog="leveretplate", description="The proved path finder for researchers.")
+    parser = argparse.ArgumentParser(prog="leveretplate", description="The proved path finder for researchers.",
+                                     allow_abbrev=False)
     commands = parser.add_subparsers(required=True, metavar="COMMAND")
 
-    def command(act: Callable[[Arguments], None]) -> argparse.ArgumentParser:
-        made = commands.add_parser(act.__name__, parents=[shared], help=act.__doc__, description=act.__doc__)
+    def command(act: Callable[[Arguments], int | None], *shared: str) -> argparse.ArgumentParser:
+        summary, _, rest = (act.__doc__ or "").partition("\n")
+        made = commands.add_parser(act.__name__, help=summary, description=summary + rest, allow_abbrev=False)
+        made.add_argument("file", help="a text of a slip's fields, a Gambit .nfg file, or a slip; - is standard input")
+        for option in shared:
+            made.add_argument(option, **SHARED[option])
         made.set_defaults(act=act)
         return made
 
-    command(slip).add_argument("--text", action="store_true", help="write text instead of bytes")
-    command(sheet)
-    finer = command(refine)
+    command(slip, *OF_A_RUN).add_argument("--text", action="store_true", help="write text instead of bytes")
+    command(sheet, *OF_A_RUN)
+    finer = command(refine, "--divisions", "--start")
     finer.add_argument("--factor", type=int, default=2, metavar="K", help="how much finer each next grid is; 2 to 10")
     finer.add_argument("--levels", type=int, metavar="L", help="1 to 8; as many as fit if not given")
-    command(trail)
-    command(check).add_argument("points", nargs="?", help="a sheet, or lines of points; else the text's field points")
-    shown = command(page)
+    command(trail, *OF_A_RUN)
+    checked = command(check, "--divisions")
+    checked.add_argument("points", nargs="?", help="a sheet, or lines of points; else the text's field points")
+    checked.add_argument("--whole", action="store_true", help="run again, and compare the sheet line by line")
+    shown = command(page, *OF_A_RUN)
     shown.add_argument("--output", default="-", metavar="HTML", help="the file to write; standard output if not given")
     shown.add_argument("--title", help="the heading; the title of a Gambit file, the note of a text, if not given")
     return parser
 
 
+def _joined(words: list[str]) -> list[str]:
+    """The words with the numbers behind an option that takes several joined to one word, so that it takes no other.
+
+    >>> _joined(["sheet", "--divisions", "4", "4", "game.nfg"])
+    ['sheet', '--divisions', '4,4', 'game.nfg']
+    """
+    made: list[str] = []
+    several = False
+    for word in words:
+        is_number = re.fullmatch("[0-9]+", word) is not None
+        if several and is_number and made[-1] not in SEVERAL:
+            made[-1] += f",{word}"
+        else:
+            several = word in SEVERAL or several and is_number
+            made.append(word)
+    return made
+
+
 def main(words: list[str] | None = None) -> int:
     """Runs a command, and says in one line what was wrong with it."""
-    arguments = _parser().parse_args(words)
+    arguments = _parser().parse_args(_joined(sys.argv[1:] if words is None else words))
+    arguments.named = arguments.file
     try:
-        arguments.act(arguments)
+        status: int = arguments.act(arguments) or 0
         sys.stdout.flush()
-        return 0
+        return status
     except Refused as refusal:
-        return _fail(1, f"{arguments.file}: {refusal}")
+        return _fail(1, f"{arguments.named}: {refusal}")
     except ValueError as error:
-        return _fail(2, f"{arguments.file}: {error}")
+        return _fail(2, f"{arguments.named}: {error}")
     except BrokenPipeError:
         # Whoever reads the output has seen enough of it.
         os.dup2(os.open(os.devnull, os.O_WRONLY), sys.stdout.fileno())

@@ -13,6 +13,7 @@ text too. Its line `slip` has the bytes in hex: alone it is the slip, beside oth
 import re
 from itertools import groupby
 
+from . import sheets
 from .malformed import Malformed
 from .slips import SINGLE, TABLES, WIDTHS, Slip
 
@@ -71,22 +72,17 @@ def note(text: str) -> str | None:
     return found[1] if found else None
 
 
-def points(text: str) -> list[int]:
-    """The numbers of the field `points`, which a check reads."""
+def points(text: str, m: int) -> list[list[int]]:
+    """The field `points`, which a check reads: points in brackets of m numbers each, or all their numbers in a row.
+
+    >>> points("points (1 0) (0 1)", 2), points("points 1 0 0 1", 2)
+    ([[1, 0], [0, 1]], [[1, 0, 0, 1]])
+    """
     lines = _lines(text)
     if "points" not in lines:
         raise Malformed("points are needed, in a second file or as the field points of a text")
-    return _numbers("points", *lines["points"])
-
-
-def points_of_sheet(sheet: str) -> list[int]:
-    """The numbers of the lines that have nothing but numbers, which on a sheet are the vertices.
-
-    >>> points_of_sheet("vertices 2" + chr(10) + "1 0" + chr(10) + "0 1" + chr(10) + "centre 5000 5000")
-    [1, 0, 0, 1]
-    """
-    rows = [line.split() for line in sheet.splitlines()]
-    return [int(item) for row in rows if all(map(_is_number, row)) for item in row]
+    at, value = lines["points"]
+    return sheets.vertices(at, value, m) if re.search(r"[][()]", value) else [_numbers("points", at, value)]
 
 
 def _lines(text: str) -> dict[str, tuple[int, str]]:
@@ -108,7 +104,7 @@ def _lines(text: str) -> dict[str, tuple[int, str]]:
 
 def _numbers(name: str, at: int, value: str) -> list[int]:
     numbers: list[int] = []
-    for item in value.split():
+    for item in value.replace(",", " ").split():
         match = re.fullmatch(r"(?:([0-9]{1,6})x)?([0-9]{1,20})", item)
         if not match:
             raise Malformed(f"{name}: {item[:20]!r} is no whole number", at)
@@ -120,10 +116,6 @@ def _numbers(name: str, at: int, value: str) -> list[int]:
     if name in SINGLE and len(numbers) > 1:
         raise Malformed(f"{name}: one number is needed", at)
     return numbers
-
-
-def _is_number(item: str) -> bool:
-    return re.fullmatch("[0-9]{1,20}", item) is not None
 
 
 def _hex(at: int, value: str) -> bytes:

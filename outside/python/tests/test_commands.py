@@ -61,15 +61,22 @@ class Commands(unittest.TestCase):
         self.assertEqual(shown.returncode, 2)
         self.assertTrue(shown.stderr.endswith(b"this needs a game, and the slip has labels\n"))
 
-    def test_check_of_a_sheet(self):
-        with tempfile.NamedTemporaryFile() as sheet:
-            sheet.write(self.answer("sheet", SAMPLES / "triangle.txt").encode())
-            sheet.flush()
-            self.assertEqual(self.answer("check", SAMPLES / "triangle.txt", sheet.name), "yes\nblock 1\n")
+    def test_options_of_another_command(self):
+        for words in (["refine", "--budget", 3], ["check", "--start", 1, 0], ["sheet", "--levels", 2],
+                      ["sheet", "--bud", 3]):
+            shown = command(words[0], SAMPLES / "game-1.txt", *words[1:])
+            self.assertEqual((shown.returncode, shown.stdout), (2, b""))
+            self.assertIn(f"unrecognized arguments: {' '.join(map(str, words[1:]))}", shown.stderr.decode())
 
-    def test_check_of_a_text(self):
-        text = b"sizes 2 2\nd 1 1\nlabels 3 1 2 4\npoints 1 0 1 0 1 0 1 0\n"
-        self.assertEqual(self.answer("check", "-", given=text), "no\n")
+    def test_options_leave_the_file(self):
+        for words in (["--divisions", 3, 4, SAMPLES / "battle.nfg"], ["--divisions", "3,4", SAMPLES / "battle.nfg"],
+                      ["--start", 3, 0, 4, 0, "--divisions", 3, 4, SAMPLES / "battle.nfg"]):
+            self.assertIn("centre", self.answer("sheet", *words))
+
+    def test_options_that_are_no_numbers(self):
+        shown = command("sheet", SAMPLES / "battle.nfg", "--divisions", "ten")
+        self.assertEqual((shown.returncode, shown.stdout), (2, b""))
+        self.assertIn(b"whole numbers are needed, not 'ten'", shown.stderr)
 
     def test_no_file(self):
         shown = command("sheet", "no-such-file")
