@@ -1,16 +1,38 @@
-/* The simplicial path finder and the shelf of sheets for programs in C. Document 01 and the customer's requests fix
- * every result, and the numbers of refusals are theirs; the promises below are proved (crates/exports and
- * crates/.._exports).
+/* The simplicial path finder and the shelf of sheets for programs in C and C++. Document 01 and the customer's requests
+ * fix every result, and the numbers of refusals are theirs; the promises below are proved (docs/ARCHITECTURE.md says
+ * where).
  *
  * Each array is lent for the time of the call; its pointer is not null, even at length 0, and it overlaps no array
  * that is written to. A call writes only to what is lent without `const`, at the front; what stands behind stays. A
  * refusal writes nothing, except that number 9 gives the places and 16 the places and a position, and that a slip
- * which is refused has a sheet too. No call keeps anything or fails to return. */
+ * which is refused has a sheet too. No call keeps anything or fails to return.
+ *
+ * The words:
+ *
+ * - N is the number of blocks: in a game, of players. Block j has a size s_j, how many indices it has: in a game, the
+ *   player's strategies. Indices are numbered through from 1 to m, the sum of the sizes; n is m - N.
+ * - Block j has a division d_j. A grid point has m numbers, those of block j adding up to d_j; it stands for the mix in
+ *   which index h of block j has the weight number / d_j. P is the number of grid points: the product over the blocks
+ *   of "d_j + s_j - 1 choose s_j - 1".
+ * - The grid points are listed in rising lexicographic order, first number first, and positions count from 0. A label
+ *   table has one byte for each grid point in this order: an index, or 0 where the label is not yet known.
+ * - A loss table goes player by player, then by the player's own strategy, then by the strategies of the opponents in
+ *   lexicographic order, the first opponent's changing last: N times the product of the sizes.
+ * - A place is a simplex that the path visits, with 1 to n + 1 points; {v}, the start alone, is the first. U has the
+ *   indices at which all its points have 0, T those at which 1 is added on the way from its first point to its last.
+ *   That way is the rising coefficient sum: coefficients c have y_h = v_h + c_h - c_(h + 1), round the block.
+ * - A vertex is a point of the complete simplex where the path ends: the last place itself at a place end, that place
+ *   less one point at a facet end. Complete for a block: each index of it is a vertex's label or in U.
+ * - The bound is P times 1 + m + m(m - 1) + .., n + 1 terms: no path has more places. */
 #ifndef LEVERETPLATE_H
 #define LEVERETPLATE_H
 
 #include <stddef.h>
 #include <stdint.h>
+
+#ifdef __cplusplus
+extern "C" {
+#endif
 
 #define LEVERETPLATE_VERSION 2  /* of this interface; CHANGELOG.md says what changed */
 #define LEVERETPLATE_FACTS 5    /* places, labels read, kind of end (0 place, 1 facet), block, vertices */
@@ -20,6 +42,56 @@
 #define LEVERETPLATE_POINTS 256 /* room for the numbers of any place's points */
 #define LEVERETPLATE_SHEET 4096 /* room for any sheet */
 #define LEVERETPLATE_SHELF 1000 /* the most sheets on a shelf */
+
+/* A refusal is the number of the first question that is answered no. 0 is none. */
+enum leveretplate_refusal {
+    /* Is the number of blocks from 1 to 6? */
+    LEVERETPLATE_REFUSED_BLOCKS = 1,
+    /* Is each size at least 2, with at most 16 indices in all? */
+    LEVERETPLATE_REFUSED_SIZES = 2,
+    /* Is there a division for each block, each at least 1? */
+    LEVERETPLATE_REFUSED_DIVISIONS = 3,
+    /* Are there at most 60,000 grid points? */
+    LEVERETPLATE_REFUSED_GRID_POINTS = 4,
+    /* Has the start a number for each index, each block adding up to its division? */
+    LEVERETPLATE_REFUSED_START = 5,
+    /* Has the label table one label for each grid point? */
+    LEVERETPLATE_REFUSED_TABLE_LENGTH = 6,
+    /* Is every label an index of the grid, or 0 for a label that is not yet known? */
+    LEVERETPLATE_REFUSED_LABELS = 7,
+    /* Has the answer buffer room for the largest simplex, and a list of positions room for every grid point? */
+    LEVERETPLATE_REFUSED_ANSWER_ROOM = 8,
+    /* Has the path ended within the budget? */
+    LEVERETPLATE_REFUSED_BUDGET = 9,
+    /* Has the loss table a loss for each player and profile? */
+    LEVERETPLATE_REFUSED_LOSSES_LENGTH = 10,
+    /* Is each loss from 1 to 1,000? */
+    LEVERETPLATE_REFUSED_LOSSES = 11,
+    /* Has the label buffer one byte for each grid point? */
+    LEVERETPLATE_REFUSED_LABEL_BUFFER = 12,
+    /* Are map, number of blocks, sizes and divisions there, with one of the tables announced and no unknown bit? */
+    LEVERETPLATE_REFUSED_SLIP = 13,
+    /* Are the remaining bytes of the slip exactly the fields announced? */
+    LEVERETPLATE_REFUSED_FIELDS = 14,
+    /* Is the game 1, 2 or 3, with these sizes? */
+    LEVERETPLATE_REFUSED_GAME = 15,
+    /* Are the labels known that the path needs? */
+    LEVERETPLATE_REFUSED_UNKNOWN_LABEL = 16,
+    /* Has the trail buffer room for the trail? Of a reader: is there such a record, each up to it that of a move? */
+    LEVERETPLATE_REFUSED_TRAIL = 17,
+    /* Is the factor from 2 to 10, and the number of levels from 1 to 8? */
+    LEVERETPLATE_REFUSED_LEVELS = 18,
+    /* Are the points at least one, whole, not more than the largest simplex has, and on the grid? */
+    LEVERETPLATE_REFUSED_POINTS = 19,
+    /* Is the walk at a place, come from one linked to it, with places from 1 to the bound, and the table's labels? */
+    LEVERETPLATE_REFUSED_WALK = 20,
+    /* Is this a shelf, on which each sheet replaces at most one earlier sheet that no other replaces? */
+    LEVERETPLATE_REFUSED_SHELF = 21,
+    /* Is there room for one more sheet among the 1,000? */
+    LEVERETPLATE_REFUSED_SHELF_ROOM = 22,
+    /* Is the sheet on the shelf and, to be replaced, not yet replaced? */
+    LEVERETPLATE_REFUSED_SHELVED_SHEET = 23
+};
 
 /* Follows the path. At an end answers 0, writes the five facts, and the vertices in rising coefficient sum, m
  * numbers each, to the answer buffer. The labels read are 1 plus the moves by which a point came in. Else answers
@@ -139,9 +211,11 @@ size_t leveretplate_sheet(const uint8_t *slip, size_t slip_length, uint8_t *shee
 
 /* A shelf is a list and the count of sheets filed, numbered from 1. The entry of sheet i, list[i - 1], is the number
  * of the earlier sheet that it replaces, or 0; entries behind the count are neither read nor changed, except that
- * filing writes the first of them.  * Files a sheet that replaces sheet `named`, or none if that is 0: writes
- * list[count] and to `filed` the new count, and answers 0. Else answers the refusal's number: 21 for no shelf, 22
- * for a full one, 23 for a sheet that is not on it or already replaced. */
+ * filing writes the first of them. */
+
+/* Files a sheet that replaces sheet `named`, or none if that is 0: writes list[count] and to `filed` the new count, and
+ * answers 0. Else answers the refusal's number: 21 for no shelf, 22 for a full one, 23 for a sheet that is not on it or
+ * already replaced. */
 uint8_t leveretplate_file(uint16_t *list, size_t list_length, size_t count, size_t named, size_t *filed);
 
 /* Writes the current one of a sheet, reached by going from each to the sheet that replaces it, to `last`, and
@@ -204,5 +278,9 @@ void leveretplate_preview(struct leveretplate_step *step, const uint8_t *labels,
 /* Gives the number of the present place's points and the points. Else the number is the refusal's, 1 to 7, or 20
  * where it is not a place over the table. The walk stays. */
 void leveretplate_walk_points(struct leveretplate_step *step, const uint8_t *labels, size_t labels_length);
+
+#ifdef __cplusplus
+}
+#endif
 
 #endif

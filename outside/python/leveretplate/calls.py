@@ -140,9 +140,9 @@ def read_trail(sizes: Numbers, divisions: Numbers, start: Numbers, trail: bytes,
     >>> trail = bytes.fromhex("010300 650200040405 650000020205 430100020001 5a0000040406")
     >>> read_trail([2, 2], [1, 1], [1, 0, 1, 0], trail, 5)
     Place(points=[[1, 0, 1, 0], [0, 1, 1, 0]], t=[2], u=[4], labels_read=4)
-    >>> read_trail([2, 2], [1, 1], [1, 0, 1, 0], trail, 6)
+    >>> read_trail([2, 2], [1, 1], [1, 0, 1, 0], trail, 6)  # doctest: +ELLIPSIS
     Traceback (most recent call last):
-    leveretplate.questions.Refused: refused 17: Is there such a record, and is each up to it that of a move?
+    leveretplate.questions.Refused: refused 17: ... is there such a record, each up to it that of a move?
     """
     points, place = room(16, SIMPLEX_NUMBERS), room(64, len(PLACE))
     _accept(call("read_trail", *_grid(sizes, divisions), lend("start", 16, start), lend("trail", 8, trail),

@@ -45,6 +45,23 @@ class Header(unittest.TestCase):
     def test_structs(self):
         self.assertEqual(laid_out_here(), laid_out_in_c())
 
+    def test_refusals(self):
+        stated = re.findall(r"/\* ([^*]+\?) \*/\s+LEVERETPLATE_REFUSED_\w+ = (\d+)", HEADER)
+        self.assertEqual({int(number): question for question, number in stated}, leveretplate.QUESTIONS)
+
+    def test_comments_are_whole(self):
+        """A comment that was broken in another place keeps a star within a line."""
+        lines = [line.strip() for comment in re.findall(r"/\*.*?\*/", HEADER, re.DOTALL) for line in comment.splitlines()]
+        self.assertEqual([line for line in lines if "  * " in line or len(line) > 120], [])
+
+    def test_both_languages(self):
+        for language, standard in (("c", "c11"), ("c++", "c++11")):
+            subprocess.run(["cc", "-x", language, f"-std={standard}", "-Wall", "-Wextra", "-Werror", "-fsyntax-only",
+                            str(FOLDER / "leveretplate.h")], check=True)
+        linked = subprocess.run(["cc", "-x", "c++", "-E", str(FOLDER / "leveretplate.h")], check=True,
+                                capture_output=True, text=True).stdout
+        self.assertIn('extern "C" {', linked)
+
     def test_a_function_for_each_call(self):
         declared = re.findall(r"^\w+ leveretplate_(\w+)\(", HEADER, re.MULTILINE)
         self.assertGreater(len(declared), 14)
