@@ -11,7 +11,7 @@ import re
 import sys
 from collections.abc import Callable
 from itertools import zip_longest
-from typing import Any
+from typing import Any, TextIO
 
 from . import calls, inputs, pages, refining, sheets, texts, trails
 from .malformed import Malformed
@@ -28,12 +28,13 @@ def slip(arguments: Arguments) -> None:
         note = f"{brought.title}; {brought.losses.map()}" if brought.losses else texts.note(brought.text or "")
         print(texts.of_slip(decode(brought.slip), note), end="")
     else:
+        _say_rounding(brought, sys.stderr)
         sys.stdout.buffer.write(brought.slip)
 
 
 def sheet(arguments: Arguments) -> None:
     """Print the sheet of the path."""
-    printed = calls.sheet(_brought(arguments).slip)
+    printed = _sheet(_brought(arguments))
     print(printed, end="", flush=True)
     word, number, *_ = printed.split()
     if word == "refused":
@@ -50,13 +51,16 @@ def refine(arguments: Arguments) -> None:
     factor, levels = arguments.factor, arguments.levels
     if levels is None:
         levels = refining.most_levels(game, factor)
-    print(refining.aligned([refining.HEADINGS, *refining.rows(game, factor, levels, brought.unit())]), end="")
+    print(refining.aligned([refining.HEADINGS, *refining.rows(game, factor, levels, brought.exact_losses())]), end="")
+    _say_rounding(brought)
 
 
 def trail(arguments: Arguments) -> None:
     """Print the path in words, move by move."""
-    for line in trails.lines(decode(_brought(arguments).slip)):
+    brought = _brought(arguments)
+    for line in trails.lines(decode(brought.slip)):
         print(line)
+    _say_rounding(brought)
 
 
 def check(arguments: Arguments) -> int:
@@ -67,7 +71,7 @@ def check(arguments: Arguments) -> int:
     brought = _brought(arguments)
     problem = decode(brought.slip)
     if arguments.whole:
-        return _compare(calls.sheet(brought.slip), _second_text(arguments))
+        return _compare(_sheet(brought), _second_text(arguments))
     if arguments.points:
         sheet = sheets.read(_second_text(arguments), sum(problem.sizes))
     else:
@@ -79,7 +83,20 @@ def check(arguments: Arguments) -> int:
         print(f"differs: {said}")
     if sheet.of_the_path():
         print(f"not compared: {', '.join(sheet.of_the_path())}; --whole reruns and compares")
+    _say_rounding(brought)
     return 1 if block is None or false else 0
+
+
+def _sheet(brought: inputs.Brought) -> str:
+    """The sheet of what was brought; behind its lines stands how payoffs were rounded, if they were."""
+    rounding = brought.rounding()
+    return calls.sheet(brought.slip) + (f"{rounding}\n" if rounding else "")
+
+
+def _say_rounding(brought: inputs.Brought, output: TextIO | None = None) -> None:
+    """Says how payoffs were rounded, where they were, so that no answer is taken for that of the payoffs themselves."""
+    if rounding := brought.rounding():
+        print(rounding, file=output)
 
 
 def _compare(rerun: str, sheet: str) -> int:
@@ -109,7 +126,7 @@ def _second_text(arguments: Arguments) -> str:
 def page(arguments: Arguments) -> None:
     """Write a page for a browser that shows the path place by place."""
     brought = _brought(arguments)
-    written = pages.page(decode(brought.slip), arguments.title or brought.title)
+    written = pages.page(decode(brought.slip), arguments.title or brought.title, brought.rounding())
     if arguments.output == "-":
         print(written, end="")
     else:
@@ -127,7 +144,7 @@ def _numbers(items: str) -> list[int]:
 
 
 def _brought(arguments: Arguments) -> inputs.Brought:
-    chosen = {name: getattr(arguments, name, None) for name in inputs.Choices._fields}
+    chosen = {name: value for name in inputs.Choices._fields if (value := getattr(arguments, name, None)) is not None}
     return inputs.read(arguments.file, inputs.Choices(**chosen))
 
 
@@ -136,6 +153,8 @@ SHARED: dict[str, dict[str, Any]] = {
     "--divisions": {"type": _numbers, "metavar": "D ...", "help": "one for all blocks, or one for each"},
     "--start": {"type": _numbers, "metavar": "Y ...", "help": "a number for each index"},
     "--budget": {"type": int, "metavar": "PLACES", "help": "the most places to visit"},
+    "--round": {"action": "store_true", "dest": "rounding",
+                "help": "round payoffs that have no exact losses to 999 units, and say how far off one is"},
 }
 OF_A_RUN = tuple(SHARED)
 
@@ -156,11 +175,11 @@ def _parser() -> argparse.ArgumentParser:
 
     command(slip, *OF_A_RUN).add_argument("--text", action="store_true", help="write text instead of bytes")
     command(sheet, *OF_A_RUN)
-    finer = command(refine, "--divisions", "--start")
+    finer = command(refine, "--divisions", "--start", "--round")
     finer.add_argument("--factor", type=int, default=2, metavar="K", help="how much finer each next grid is; 2 to 10")
     finer.add_argument("--levels", type=int, metavar="L", help="1 to 8; as many as fit if not given")
     command(trail, *OF_A_RUN)
-    checked = command(check, "--divisions")
+    checked = command(check, "--divisions", "--round")
     checked.add_argument("points", nargs="?", help="a sheet, or lines of points; else the text's field points")
     checked.add_argument("--whole", action="store_true", help="run again, and compare the sheet line by line")
     shown = command(page, *OF_A_RUN)

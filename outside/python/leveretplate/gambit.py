@@ -3,13 +3,15 @@
     NFG 1 R "Matching pennies" { "Row" "Column" } { 2 2 }
     1 -1 -1 1 -1 1 1 -1
 
-The library wants losses, whole numbers from 1 to 1,000. The map is
+The library wants losses, whole numbers from 1 to 1,000. A label depends on what a player gains by another strategy
+against the same strategies of the opponents, and on nothing else. So the map is
 
-    loss = 1 + (largest payoff of the player - payoff) / unit
+    loss = 1 + (largest payoff of the player against these opponents' strategies - payoff) / unit
 
 with the largest unit that makes all of these whole. It is one unit for all players, so that the gains of different
-players stay comparable. Best answers, and so equilibria, are those of the payoffs. A larger unit leaves fractions and
-a smaller one makes larger losses, so where a loss is beyond 1,000 there is no such map, and the game is refused.
+players stay comparable: every label is that of the payoffs. A larger unit leaves fractions and a smaller one makes
+larger losses, so where a loss is beyond 1,000 there is no such map, and the game is refused, or, where this is asked
+for, its losses are rounded to the unit of which the largest difference has 999.
 """
 
 import re
@@ -21,7 +23,7 @@ from typing import NamedTuple
 
 from .malformed import Malformed
 
-MOST_LOSS = 1_000
+MOST_UNITS = 999
 
 # A text in quotes, a brace, a word, or a quote that is never closed. Commas separate as spaces do.
 TOKEN = re.compile(r'"(?:\\.|[^"\\])*"|[{}]|[^\s,"{}]+|"', re.DOTALL)
@@ -33,14 +35,25 @@ Profile = tuple[int, ...]
 
 
 class Losses(NamedTuple):
-    """A game's losses in document 01's order, and the unit of their map."""
+    """A game's losses in document 01's order, the unit of their map, and how far one of them is off, in payoffs."""
 
     losses: list[int]
     unit: Fraction
+    error: Fraction = Fraction(0)
 
     def map(self) -> str:
         """The map from payoffs to these losses, in words."""
-        return f"loss = 1 + (largest payoff of the player - payoff) / ({self.unit})"
+        return ("loss = 1 + (largest payoff of the player against these opponents' strategies - payoff) / "
+                f"({self.unit})" + (f", {self.rounding()}" if self.error else ""))
+
+    def rounding(self) -> str:
+        """How the payoffs were rounded, in words.
+
+        >>> Losses([1, 1000], Fraction(1, 999), Fraction(1, 3000)).rounding()
+        'rounded to units of 1/999; the largest error in payoffs is 1/3000, some 0.00033'
+        """
+        return (f"rounded to units of {self.unit}; the largest error in payoffs is {self.error}, "
+                f"some {float(self.error):.2g}")
 
 
 @dataclass
@@ -52,22 +65,44 @@ class Game:
     sizes: list[int]
     payoffs: dict[Profile, list[Fraction]]
 
-    def losses(self) -> Losses:
-        """The losses of the payoffs, by the map of this module.
+    def losses(self, rounding: bool = False) -> Losses:
+        """The losses of the payoffs, by the map of this module, rounded where that is asked for and needed.
 
         >>> read('NFG 1 R "Pennies" { "Row" "Column" } { 2 2 } 1 -1 -1 1 -1 1 1 -1').losses()
-        Losses(losses=[1, 2, 2, 1, 2, 1, 1, 2], unit=Fraction(2, 1))
+        Losses(losses=[1, 2, 2, 1, 2, 1, 1, 2], unit=Fraction(2, 1), error=Fraction(0, 1))
+        >>> read('NFG 1 R "Fine" { "Row" "Column" } { 3 1 } 0 0 0.5001 0 1 0').losses(rounding=True).losses
+        [1000, 500, 1, 1, 1, 1]
         """
-        largest = [max(column) for column in zip(*self.payoffs.values())]
-        short = {profile: [most - payoff for most, payoff in zip(largest, payoffs)]
-                 for profile, payoffs in self.payoffs.items()}
-        missed = [difference for row in short.values() for difference in row]
-        unit = _unit(missed)
-        if 1 + max(missed) / unit > MOST_LOSS:
-            raise Malformed(f"no whole-number map takes these payoffs to losses from 1 to {MOST_LOSS:,}: {unit} is the "
-                            f"largest unit of their differences, and in it losses go up to {1 + max(missed) / unit}")
-        return Losses([1 + int(short[profile][player] / unit)
-                       for player in range(len(self.sizes)) for profile in self._own_first(player)], unit)
+        missed = self.missed()
+        unit, most = _unit(missed), max(missed)
+        if most <= MOST_UNITS * unit:
+            return Losses([1 + int(difference / unit) for difference in missed], unit)
+        if not rounding:
+            raise Malformed(f"these payoffs have no exact losses from 1 to {1 + MOST_UNITS:,}: {unit} is the "
+                            f"largest unit of a player's differences against the same opponents' strategies, and in it "
+                            f"losses go up to {1 + most / unit}; --round rounds them")
+        unit = most / MOST_UNITS
+        units = [round(difference / unit) for difference in missed]
+        error = max(abs(count * unit - difference) for count, difference in zip(units, missed))
+        return Losses([1 + count for count in units], unit, error)
+
+    def missed(self) -> list[Fraction]:
+        """What each payoff lacks to the player's largest against the same opponents' strategies, in document 01's order.
+
+        These are exact losses, but for their range: what a player gains by another strategy is the same in both.
+
+        >>> [str(loss) for loss in read('NFG 1 R "" { "Row" "Column" } { 2 2 } 1 0 0.5 1/3 9 0 9 1').missed()]
+        ['0', '0', '1/2', '0', '0', '2/3', '0', '0']
+        """
+        made: list[Fraction] = []
+        for player in range(len(self.sizes)):
+            most: dict[Profile, Fraction] = {}
+            for profile, payoffs in self.payoffs.items():
+                others = profile[:player] + profile[player + 1:]
+                most[others] = max(payoffs[player], most.get(others, payoffs[player]))
+            made += [most[profile[:player] + profile[player + 1:]] - self.payoffs[profile][player]
+                     for profile in self._own_first(player)]
+        return made
 
     def _own_first(self, player: int) -> list[Profile]:
         """The profiles by the player's own strategy, then by those of the opponents in lexicographic order."""

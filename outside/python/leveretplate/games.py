@@ -8,6 +8,9 @@ from math import prod
 
 from .grids import split
 
+# Losses in document 01's order; fractions too, where nothing is lent to the library.
+Losses = Sequence[int] | Sequence[Fraction]
+
 # The sizes and losses of each game, from the appendix of the 1987 paper.
 BUILT_IN: dict[int, tuple[list[int], list[int]]] = {
     1: ([2, 2, 2], [
@@ -31,7 +34,7 @@ class Gain:
     index: int
 
 
-def largest_gain(sizes: Sequence[int], losses: Sequence[int], mix: Sequence[Fraction]) -> Gain:
+def largest_gain(sizes: Sequence[int], losses: Losses, mix: Sequence[Fraction]) -> Gain:
     """The largest gain that any player still has at a mix, the one with the first index of equal ones.
 
     Document 01 works out the differences 0, -7, 0, 2, 0, -4 at this point of game 1.
@@ -47,7 +50,7 @@ def largest_gain(sizes: Sequence[int], losses: Sequence[int], mix: Sequence[Frac
     return Gain(gains[index], player, index + 1)
 
 
-def differences(sizes: Sequence[int], losses: Sequence[int], mix: Sequence[Fraction]) -> list[Fraction]:
+def differences(sizes: Sequence[int], losses: Losses, mix: Sequence[Fraction]) -> list[Fraction]:
     """For each index its player's expected loss less the loss if that strategy replaces the mix."""
     mixes, profiles = split(sizes, mix), prod(sizes)
     gains: list[Fraction] = []

@@ -4,39 +4,49 @@ import pathlib
 import re
 import sys
 from dataclasses import replace
-from fractions import Fraction
 from typing import NamedTuple
 
 from . import gambit, texts
+from .games import Losses
 from .malformed import Malformed
 from .slips import Slip, decode
 
 
 class Brought(NamedTuple):
-    """The bytes of a slip, the text that it came from, if any, a title, and how losses were made of payoffs, if so."""
+    """The bytes of a slip, the text that it came from, if any, a title, and the game with its losses, if one was."""
 
     slip: bytes
     text: str | None
     title: str
-    losses: gambit.Losses | None
+    game: gambit.Game | None = None
+    losses: gambit.Losses | None = None
 
-    def unit(self) -> Fraction:
-        """What one loss stands for, in what was brought."""
-        return self.losses.unit if self.losses else Fraction(1)
+    def exact_losses(self) -> Losses:
+        """The losses, in what was brought: payoffs, also where the slip has them rounded, or losses."""
+        if self.game:
+            return self.game.missed()
+        return decode(self.slip).loss_table()
+
+    def rounding(self) -> str | None:
+        """How the payoffs were rounded, in words, or None where every label is that of what was brought."""
+        return self.losses.rounding() if self.losses and self.losses.error else None
 
 
 class Choices(NamedTuple):
-    """What the command line says of the grid and the run, in place of what was brought."""
+    """What the command line says of the grid, the run and the payoffs, in place of what was brought."""
 
-    divisions: list[int] | None
-    start: list[int] | None
-    budget: int | None
+    divisions: list[int] | None = None
+    start: list[int] | None = None
+    budget: int | None = None
+    rounding: bool = False
 
     def applied(self, slip: Slip) -> Slip:
-        made = {name: value for name, value in self._asdict().items() if value is not None}
+        """The slip with what was chosen for it."""
+        made = {name: value for name in ("divisions", "start", "budget")
+                if (value := getattr(self, name)) is not None}
         if self.divisions is not None and len(self.divisions) == 1:
             made["divisions"] = self.divisions * len(slip.sizes)
-        return replace(slip, **made)
+        return replace(slip, **made) if made else slip
 
 
 def read_bytes(path: str) -> bytes:
@@ -57,18 +67,18 @@ def read(path: str, choices: Choices) -> Brought:
     # The second byte of a slip is its number of blocks, and no text has such a byte.
     text = None if re.search(rb"[\x00-\x08]", data) else _text(data)
     slip = data if text is None else texts.to_bytes(text)
-    if any(value is not None for value in choices):
+    if choices != Choices(rounding=choices.rounding):
         slip = choices.applied(decode(slip)).encode()
-    return Brought(slip, text, texts.note(text or "") or pathlib.Path(path).name, None)
+    return Brought(slip, text, texts.note(text or "") or pathlib.Path(path).name)
 
 
 def _from_gambit(text: str, choices: Choices) -> Brought:
     game = gambit.read(text)
-    losses = game.losses()
+    losses = game.losses(choices.rounding)
     if choices.divisions is None:
         raise Malformed("a Gambit file has no divisions: --divisions gives them")
     slip = choices.applied(Slip(game.sizes, [], losses=losses.losses))
-    return Brought(slip.encode(), None, game.title, losses)
+    return Brought(slip.encode(), None, game.title, game, losses)
 
 
 def _text(data: bytes) -> str:

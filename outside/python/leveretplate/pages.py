@@ -21,15 +21,16 @@ MOST_DRAWN = 2_000
 Point = tuple[int, ...]
 
 
-def page(slip: Slip, title: str) -> str:
-    """The page of a slip's path."""
+def page(slip: Slip, title: str, remark: str | None = None) -> str:
+    """The page of a slip's path, with a remark below the title if there is one to make."""
     labels = slip.label_table()
     count = run(slip.sizes, slip.divisions, slip.first(), labels, slip.limit()).places
     if count > MOST_PLACES:
         raise Malformed(f"the path has {count:,} places, and a page shows at most {MOST_PLACES:,}")
     data = json.dumps(_data(slip, labels), separators=(",", ":"))
     style, script, written = ((SOURCES / name).read_text("utf-8") for name in ("page.css", "page.js", "page.html"))
-    parts = {"style": style, "script": script, "data": data.replace("<", "\\u003c"), "title": html.escape(title)}
+    parts = {"style": style, "script": script, "data": data.replace("<", "\\u003c"), "title": html.escape(title),
+             "remark": f'<p class="remark">{html.escape(remark)}</p>' if remark else ""}
     for name, part in parts.items():
         written = written.replace(f"{{{{{name}}}}}", part)
     return written

@@ -1,10 +1,9 @@
 """A game on finer and finer grids: where each level ends, and what a player still gains there."""
 
 from collections.abc import Iterator
-from fractions import Fraction
 
 from .calls import MOST_LEVELS, refine
-from .games import largest_gain
+from .games import Losses, largest_gain
 from .grids import MOST_POINTS, centre, count_points
 from .slips import Slip
 
@@ -24,17 +23,16 @@ def most_levels(slip: Slip, factor: int) -> int:
     return next(fitting, 1)
 
 
-def rows(slip: Slip, factor: int, levels: int, unit: Fraction) -> Iterator[tuple[str, ...]]:
-    """A row of text for each level, under HEADINGS; gains are in units of what was brought, payoffs or losses."""
-    losses = slip.loss_table()
-    ends = refine(slip.sizes, slip.divisions, slip.first(), losses, factor, levels).ends
+def rows(slip: Slip, factor: int, levels: int, losses: Losses) -> Iterator[tuple[str, ...]]:
+    """A row of text for each level, under HEADINGS; gains are worked out exactly from the losses of what was brought."""
+    ends = refine(slip.sizes, slip.divisions, slip.first(), slip.loss_table(), factor, levels).ends
     for level, end in enumerate(ends):
         divisions = [factor ** level * d for d in slip.divisions]
         middle = centre(slip.sizes, divisions, end.vertices)
         gain = largest_gain(slip.sizes, losses, middle)
         yield (str(level), " ".join(map(str, divisions)), str(end.places), str(end.labels_read), end.kind,
                str(end.block), " ".join(f"{float(number):.4f}" for number in middle),
-               f"{float(gain.amount * unit):.4f} by player {gain.player}, index {gain.index}")
+               f"{float(gain.amount):.4f} by player {gain.player}, index {gain.index}")
 
 
 def aligned(table: list[tuple[str, ...]]) -> str:

@@ -21,64 +21,65 @@ class Commands(unittest.TestCase):
         self.assertEqual((shown.returncode, shown.stderr), (0, b""))
         return shown.stdout.decode()
 
-    def test_slip_there_and_back(self):
+    def test_slip_there_and_back(self) -> None:
         text = self.answer("slip", "-", "--text", given=DOCUMENT_01)
         self.assertEqual(text, "sizes 2 2\nd 1 1\nlabels 3x2 4\n")
         self.assertEqual(command("slip", "-", given=text.encode()).stdout, DOCUMENT_01)
 
-    def test_sheet(self):
+    def test_sheet(self) -> None:
         self.assertEqual(self.answer("sheet", "-", given=DOCUMENT_01), SHEET.decode())
 
-    def test_refused_sheet(self):
+    def test_refused_sheet(self) -> None:
         shown = command("sheet", SAMPLES / "square.txt", "--budget", 3)
         self.assertEqual((shown.returncode, shown.stdout), (1, b"refused 9\nplaces 3\n"))
         self.assertTrue(shown.stderr.endswith(b"refused 9: Has the path ended within the budget?\n"))
 
-    def test_game_by_text_and_by_gambit(self):
+    def test_game_by_text_and_by_gambit(self) -> None:
         by_text = self.answer("sheet", SAMPLES / "square.txt")
         by_gambit = self.answer("sheet", SAMPLES / "matching-pennies.nfg", "--divisions", 10)
         self.assertIn("centre 5333 4667 4667 5333", by_text)
         self.assertIn("centre 5333 4667 4667 5333", by_gambit)
 
-    def test_outcomes_and_their_map(self):
+    def test_outcomes_and_their_map(self) -> None:
         text = self.answer("slip", SAMPLES / "battle.nfg", "--text", "--divisions", 3, 4, "--start", 3, 0, 0, 4)
-        stated = "Battle of the sexes, by outcomes; loss = 1 + (largest payoff of the player - payoff) / (1/2)"
-        self.assertEqual(text, f"note {stated}\nsizes 2 2\nd 3 4\nstart 3 0 0 4\nlosses 1 3 3 2 2 3 3 1\n")
+        stated = ("Battle of the sexes, by outcomes; "
+                  "loss = 1 + (largest payoff of the player against these opponents' strategies - payoff) / (1/2)")
+        self.assertEqual(text, f"note {stated}\nsizes 2 2\nd 3 4\nstart 3 0 0 4\nlosses 1 2 3 1 1 3 2 1\n")
 
-    def test_refine(self):
+    def test_refine(self) -> None:
         lines = self.answer("refine", SAMPLES / "game-1.txt", "--divisions", 1).splitlines()
         self.assertEqual(len(lines), 7)
         self.assertIn("0.2031 0.7969 0.4297 0.5703 0.6953 0.3047  0.0444 by player 2, index 4", lines[-1])
 
-    def test_refine_refused(self):
+    def test_refine_refused(self) -> None:
         for options in (["--levels", 0], ["--factor", 1], ["--factor", 11, "--levels", 1]):
             shown = command("refine", SAMPLES / "game-1.txt", *options)
             self.assertEqual((shown.returncode, shown.stdout), (1, b""))
             self.assertIn(b"refused 18: Is the factor from 2 to 10", shown.stderr)
 
-    def test_refine_needs_a_game(self):
+    def test_refine_needs_a_game(self) -> None:
         shown = command("refine", SAMPLES / "triangle.txt")
         self.assertEqual(shown.returncode, 2)
         self.assertTrue(shown.stderr.endswith(b"this needs a game, and the slip has labels\n"))
 
-    def test_options_of_another_command(self):
+    def test_options_of_another_command(self) -> None:
         for words in (["refine", "--budget", 3], ["check", "--start", 1, 0], ["sheet", "--levels", 2],
                       ["sheet", "--bud", 3]):
             shown = command(words[0], SAMPLES / "game-1.txt", *words[1:])
             self.assertEqual((shown.returncode, shown.stdout), (2, b""))
             self.assertIn(f"unrecognized arguments: {' '.join(map(str, words[1:]))}", shown.stderr.decode())
 
-    def test_options_leave_the_file(self):
+    def test_options_leave_the_file(self) -> None:
         for words in (["--divisions", 3, 4, SAMPLES / "battle.nfg"], ["--divisions", "3,4", SAMPLES / "battle.nfg"],
                       ["--start", 3, 0, 4, 0, "--divisions", 3, 4, SAMPLES / "battle.nfg"]):
             self.assertIn("centre", self.answer("sheet", *words))
 
-    def test_options_that_are_no_numbers(self):
+    def test_options_that_are_no_numbers(self) -> None:
         shown = command("sheet", SAMPLES / "battle.nfg", "--divisions", "ten")
         self.assertEqual((shown.returncode, shown.stdout), (2, b""))
         self.assertIn(b"whole numbers are needed, not 'ten'", shown.stderr)
 
-    def test_no_file(self):
+    def test_no_file(self) -> None:
         shown = command("sheet", "no-such-file")
         self.assertEqual(shown.returncode, 2)
         self.assertEqual(shown.stderr, b"leveretplate: no-such-file: No such file or directory\n")
@@ -87,7 +88,7 @@ class Commands(unittest.TestCase):
 class Damaged(unittest.TestCase):
     """Samples with random damage: an answer, or one line, and never a traceback."""
 
-    def test_damaged_samples(self):
+    def test_damaged_samples(self) -> None:
         choose = random.Random(30)
         samples = [path.read_bytes() for path in sorted(SAMPLES.iterdir())]
         with tempfile.TemporaryDirectory() as folder:

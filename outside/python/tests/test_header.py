@@ -36,25 +36,25 @@ def laid_out_here() -> list[str]:
 
 
 class Header(unittest.TestCase):
-    def test_constants(self):
+    def test_constants(self) -> None:
         stated = {name: int(number) for name, number in re.findall(r"#define LEVERETPLATE_(\w+) (\d+)", HEADER)}
         known = {"FACTS": len(calls.FACTS), "NEAR": len(calls.NEAR), "PLACE": len(calls.PLACE),
                  "LEVELS": calls.MOST_LEVELS, "SHEET": calls.SHEET_BYTES, "POINTS": calls.SIMPLEX_NUMBERS}
         self.assertEqual({name: stated[name] for name in known}, known)
 
-    def test_structs(self):
+    def test_structs(self) -> None:
         self.assertEqual(laid_out_here(), laid_out_in_c())
 
-    def test_refusals(self):
+    def test_refusals(self) -> None:
         stated = re.findall(r"/\* ([^*]+\?) \*/\s+LEVERETPLATE_REFUSED_\w+ = (\d+)", HEADER)
         self.assertEqual({int(number): question for question, number in stated}, leveretplate.QUESTIONS)
 
-    def test_comments_are_whole(self):
+    def test_comments_are_whole(self) -> None:
         """A comment that was broken in another place keeps a star within a line."""
         lines = [line.strip() for comment in re.findall(r"/\*.*?\*/", HEADER, re.DOTALL) for line in comment.splitlines()]
         self.assertEqual([line for line in lines if "  * " in line or len(line) > 120], [])
 
-    def test_both_languages(self):
+    def test_both_languages(self) -> None:
         for language, standard in (("c", "c11"), ("c++", "c++11")):
             subprocess.run(["cc", "-x", language, f"-std={standard}", "-Wall", "-Wextra", "-Werror", "-fsyntax-only",
                             str(FOLDER / "leveretplate.h")], check=True)
@@ -62,7 +62,7 @@ class Header(unittest.TestCase):
                                 capture_output=True, text=True).stdout
         self.assertIn('extern "C" {', linked)
 
-    def test_a_function_for_each_call(self):
+    def test_a_function_for_each_call(self) -> None:
         declared = re.findall(r"^\w+ leveretplate_(\w+)\(", HEADER, re.MULTILINE)
         self.assertGreater(len(declared), 14)
         self.assertEqual([name for name in declared if not callable(getattr(leveretplate, name, None))], [])

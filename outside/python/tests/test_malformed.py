@@ -8,7 +8,7 @@ MALFORMED = HERE / "malformed"
 
 
 class Malformed(unittest.TestCase):
-    def test_each_gets_its_line(self):
+    def test_each_gets_its_line(self) -> None:
         stored = dict(line.split(": ", 1) for line in (MALFORMED / "expected.txt").read_text("utf-8").splitlines())
         files = sorted(path for path in MALFORMED.iterdir() if path.name != "expected.txt")
         self.assertEqual([path.name for path in files], sorted(stored))

@@ -36,7 +36,7 @@ READ = """({
 
 class Page(unittest.TestCase):
     @classmethod
-    def setUpClass(cls):
+    def setUpClass(cls) -> None:
         PAGES.mkdir(parents=True, exist_ok=True)
         cls.browser = cls.enterClassContext(Chromium())
 
@@ -84,7 +84,7 @@ class Page(unittest.TestCase):
             self.browser.run("element('forward').click()")
             steps += 1
 
-    def test_paths(self):
+    def test_paths(self) -> None:
         for name, options in SHOWN.items():
             with self.subTest(name):
                 written, printed, told = self.made(name, options)
@@ -102,7 +102,7 @@ class Page(unittest.TestCase):
                 self.browser.print(written.with_suffix(".pdf"))
                 self.assertTrue(written.with_suffix(".pdf").read_bytes().startswith(b"%PDF"))
 
-    def test_guess_first(self):
+    def test_guess_first(self) -> None:
         written, _, told = self.made("square.txt", [])
         self.browser.media("screen")
         self.browser.open(written)

@@ -108,12 +108,12 @@ class Level(NamedTuple):
 
 
 def levels(game: gambit.Game) -> list[Level]:
-    losses, unit = game.losses()
+    losses = game.losses().losses
     count = most_levels(Slip(game.sizes, [1, 1], losses=losses), 2)
     found = []
     for level, end in enumerate(refine(game.sizes, [1, 1], corner(game.sizes, [1, 1]), losses, 2, count).ends):
         middle = centre(game.sizes, [2 ** level] * 2, end.vertices)
-        found.append(Level(2 ** level, middle, unit * largest_gain(game.sizes, losses, middle).amount))
+        found.append(Level(2 ** level, middle, largest_gain(game.sizes, game.missed(), middle).amount))
     return found
 
 
@@ -153,13 +153,13 @@ class Peers(unittest.TestCase):
         print(aligned(table), end="")
         return {division: float(statistics.median(far)) for division, far in distances.items()}, kinds
 
-    def test_many_payoffs(self):
+    def test_many_payoffs(self) -> None:
         medians, kinds = self.compare(most_payoff=99)
         self.assertEqual(sorted(medians.values(), reverse=True), list(medians.values()))
         self.assertLess(medians[128], medians[1] / 64)
         self.assertGreater(kinds["near"], GAMES * 9 / 10)
 
-    def test_few_payoffs(self):
+    def test_few_payoffs(self) -> None:
         medians, kinds = self.compare(most_payoff=3)
         self.assertEqual(sorted(medians.values(), reverse=True), list(medians.values()))
         self.assertGreater(kinds["near"] + kinds["between"], GAMES * 9 / 10)

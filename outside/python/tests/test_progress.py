@@ -12,7 +12,7 @@ LONG = b"sizes 2\nd 1500\nlabels 1501x2\n"
 
 
 class Progress(unittest.TestCase):
-    def test_on_a_terminal(self):
+    def test_on_a_terminal(self) -> None:
         terminal, its_end = pty.openpty()
         made = subprocess.run([sys.executable, "-m", "leveretplate", "page", "-"], input=LONG, cwd=HERE.parent,
                               stdout=subprocess.PIPE, stderr=its_end, timeout=60)
@@ -23,6 +23,6 @@ class Progress(unittest.TestCase):
         self.assertIn(b"\rplaces shown: 1\x1b[K", said)
         self.assertTrue(said.endswith(b"\r\x1b[K"))
 
-    def test_in_a_pipe(self):
+    def test_in_a_pipe(self) -> None:
         made = command("page", "-", given=LONG)
         self.assertEqual((made.returncode, made.stderr), (0, b""))

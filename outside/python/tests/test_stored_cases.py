@@ -136,13 +136,13 @@ def expected_lines(call: str, lines: list[str]) -> list[str]:
 
 
 class StoredCases(unittest.TestCase):
-    def test_calls(self):
+    def test_calls(self) -> None:
         for call in CALLS:
             for _, fields, expected in cases(call):
                 with self.subTest(fields["name"]):
                     self.assertEqual(answered(call, fields), expected_lines(call, expected))
 
-    def test_slips(self):
+    def test_slips(self) -> None:
         for text, fields, expected in cases("slip"):
             with self.subTest(fields["name"]):
                 slip = to_bytes(text)

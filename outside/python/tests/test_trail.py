@@ -9,11 +9,11 @@ from leveretplate.trails import lines
 
 from .commands import SAMPLES, command
 
-NOTHING_CHOSEN = inputs.Choices(None, None, None)
+NOTHING_CHOSEN = inputs.Choices()
 
 
 class Trail(unittest.TestCase):
-    def test_words_against_places(self):
+    def test_words_against_places(self) -> None:
         for path in sorted(SAMPLES.glob("*.txt")):
             with self.subTest(path.name):
                 slip = decode(inputs.read(str(path), NOTHING_CHOSEN).slip)
@@ -34,7 +34,7 @@ class Trail(unittest.TestCase):
                 vertices = ", ".join(map(listed, end.vertices))
                 self.assertEqual(told[-1], f"end: {end.kind}, block {end.block}: {vertices}")
 
-    def test_refusal(self):
+    def test_refusal(self) -> None:
         shown = command("trail", SAMPLES / "square.txt", "--budget", 3)
         self.assertEqual((shown.returncode, shown.stdout), (1, b""))
         self.assertTrue(shown.stderr.endswith(b"refused 9: Has the path ended within the budget? (places 3)\n"))

@@ -9,12 +9,12 @@ from leveretplate.slips import decode
 
 from .commands import SAMPLES
 
-NOTHING_CHOSEN = inputs.Choices(None, None, None)
+NOTHING_CHOSEN = inputs.Choices()
 DOCUMENT_01 = [2, 2, 2, 4]
 
 
 class Walks(unittest.TestCase):
-    def setUp(self):
+    def setUp(self) -> None:
         self.walk = walk_at_start([2, 2], [1, 1], [1, 0, 1, 0], DOCUMENT_01)
 
     def refusal(self, labels: list[int]) -> int:
@@ -28,7 +28,7 @@ class Walks(unittest.TestCase):
         (number,) = numbers
         return number
 
-    def test_walks_are_the_path(self):
+    def test_walks_are_the_path(self) -> None:
         for path in sorted(SAMPLES.glob("*.txt")):
             with self.subTest(path.name):
                 slip = decode(inputs.read(str(path), NOTHING_CHOSEN).slip)
@@ -39,7 +39,7 @@ class Walks(unittest.TestCase):
                 self.assertEqual(walked.moves, list(records(trail))[1:])
                 self.assertEqual(walked.places, [read_trail(*grid, trail, record + 1) for record in range(end.places)])
 
-    def test_preview_changes_nothing_and_tells_the_rule(self):
+    def test_preview_changes_nothing_and_tells_the_rule(self) -> None:
         for _ in range(4):
             before = bytes(self.walk.walk)
             coming = preview(self.walk, DOCUMENT_01)
@@ -49,7 +49,7 @@ class Walks(unittest.TestCase):
         self.assertEqual(preview(self.walk, DOCUMENT_01), move_on(self.walk, DOCUMENT_01))
         self.assertEqual(bytes(self.walk.walk), before)
 
-    def test_refusals(self):
+    def test_refusals(self) -> None:
         self.assertEqual(self.refusal([2, 2, 2]), 6)
         self.assertEqual(self.refusal([2, 2, 2, 5]), 7)
         self.assertEqual(self.refusal([2, 2, 2, 0]), 20)
