@@ -9,11 +9,12 @@ import os
 import pathlib
 import re
 import sys
+import textwrap
 from collections.abc import Callable
 from itertools import zip_longest
 from typing import Any, TextIO
 
-from . import calls, inputs, pages, refining, sheets, texts, trails
+from . import VERSION, calls, inputs, pages, refining, sheets, texts, trails
 from .malformed import Malformed
 from .questions import Refused
 from .slips import decode
@@ -159,14 +160,26 @@ SHARED: dict[str, dict[str, Any]] = {
 OF_A_RUN = tuple(SHARED)
 
 
-def _parser() -> argparse.ArgumentParser:
-    parser = argparse.ArgumentParser(prog="leveretplate", description="The proved path finder for researchers.",
-                                     allow_abbrev=False)
-    commands = parser.add_subparsers(required=True, metavar="COMMAND")
+FILES = """A file has the fields of a slip as text, one to a line, a game of Gambit's in strategic form (.nfg), or the
+bytes of a slip. A game of Gambit's has no divisions, so --divisions gives them."""
+STATUSES = """The exit status is 0 for an answer; 1 for a refusal by number, for the answer no, and for a sheet that
+differs; 2 for a command or an input that cannot be read."""
 
-    def command(act: Callable[[Arguments], int | None], *shared: str) -> argparse.ArgumentParser:
+
+def parser() -> argparse.ArgumentParser:
+    """The commands and their options, with the help of each."""
+    layout = argparse.RawDescriptionHelpFormatter
+    top = argparse.ArgumentParser(prog="leveretplate", allow_abbrev=False, formatter_class=layout,
+                                  description=_filled("The proved path finder for researchers. " + FILES),
+                                  epilog=_filled(STATUSES))
+    top.add_argument("--version", action="version", version=f"leveretplate {VERSION}",
+                     help="print the version of the library's interface")
+    commands = top.add_subparsers(required=True, metavar="COMMAND")
+
+    def command(act: Callable[[Arguments], int | None], *shared: str, table: str = "") -> argparse.ArgumentParser:
         summary, _, rest = (act.__doc__ or "").partition("\n")
-        made = commands.add_parser(act.__name__, help=summary, description=summary + rest, allow_abbrev=False)
+        made = commands.add_parser(act.__name__, help=summary, description=_filled(summary + rest), allow_abbrev=False,
+                                   formatter_class=layout, epilog=table + _filled(STATUSES))
         made.add_argument("file", help="a text of a slip's fields, a Gambit .nfg file, or a slip; - is standard input")
         for option in shared:
             made.add_argument(option, **SHARED[option])
@@ -185,7 +198,11 @@ def _parser() -> argparse.ArgumentParser:
     shown = command(page, *OF_A_RUN)
     shown.add_argument("--output", default="-", metavar="HTML", help="the file to write; standard output if not given")
     shown.add_argument("--title", help="the heading; the title of a Gambit file, the note of a text, if not given")
-    return parser
+    return top
+
+
+def _filled(words: str) -> str:
+    return textwrap.fill(" ".join(words.split()), 78)
 
 
 def _joined(words: list[str]) -> list[str]:
@@ -208,7 +225,7 @@ def _joined(words: list[str]) -> list[str]:
 
 def main(words: list[str] | None = None) -> int:
     """Runs a command, and says in one line what was wrong with it."""
-    arguments = _parser().parse_args(_joined(sys.argv[1:] if words is None else words))
+    arguments = parser().parse_args(_joined(sys.argv[1:] if words is None else words))
     arguments.named = arguments.file
     try:
         status: int = arguments.act(arguments) or 0

@@ -87,7 +87,7 @@ class Game:
         return Losses([1 + count for count in units], unit, error)
 
     def missed(self) -> list[Fraction]:
-        """What each payoff lacks to the player's largest against the same opponents' strategies, in document 01's order.
+        """What each payoff lacks to the player's largest against the same opponents' strategies, in order of losses.
 
         These are exact losses, but for their range: what a player gains by another strategy is the same in both.
 
@@ -119,7 +119,7 @@ def read(text: str) -> Game:
     leveretplate.malformed.Malformed: payoffs: 8 are needed, and there are 3
     """
     tokens = _Tokens(text)
-    for word in ("NFG", "1", "[RD]"):
+    for word in ("(?i:NFG)", "1", "(?i:[RD])"):
         tokens.take(word, "NFG 1 R, with which a game in strategic form begins,")
     title = _unquoted(tokens.take(TEXT, "the title"))
     players = [_unquoted(name) for name in tokens.braced(TEXT, "a player's name")]

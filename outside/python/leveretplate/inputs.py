@@ -1,5 +1,6 @@
 """What a researcher brings: a readable text, a Gambit file or the bytes of a slip, told apart by what they hold."""
 
+import codecs
 import pathlib
 import re
 import sys
@@ -56,13 +57,18 @@ def read_bytes(path: str) -> bytes:
 
 def read_text(path: str) -> str:
     """The text of a file; what is no character is taken as one that no field has."""
-    return _text(read_bytes(path))
+    return _text(read_bytes(path).removeprefix(codecs.BOM_UTF8))
 
 
 def read(path: str, choices: Choices) -> Brought:
     """What a file holds, as a slip."""
-    data = read_bytes(path)
-    if data.lstrip().startswith((b"NFG", b"EFG")):
+    data = read_bytes(path).removeprefix(codecs.BOM_UTF8)
+    begins = data.lstrip()[:20].upper()
+    if begins.startswith(b"<"):
+        raise Malformed("this is no game in strategic form (.nfg) but XML, as a workbook of Gambit's (.gbt) is")
+    if begins.startswith(b"EFG"):
+        raise Malformed("this is a game in extensive form (.efg), and one in strategic form (.nfg) is needed")
+    if begins.startswith(b"NFG"):
         return _from_gambit(_text(data), choices)
     # The second byte of a slip is its number of blocks, and no text has such a byte.
     text = None if re.search(rb"[\x00-\x08]", data) else _text(data)

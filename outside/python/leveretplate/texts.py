@@ -5,9 +5,11 @@
     start 10 0 10 0
     losses 1 3 3 1 3 1 1 3
 
-A field stands on a line of its own, in any order; "-" is a field that is absent, 12x3 is twelve times 3. The lines
-`call`, `name`, `note` and `source` are not read, and nothing is from a line `expect` on, so that a stored case is a
-text too. Its line `slip` has the bytes in hex: alone it is the slip, beside other fields it must agree with them.
+A field stands on a line of its own, in any order, and goes on over the next lines that begin with a number; "-" is a
+field that is absent, 12x3 is twelve times 3. From # on a line is a comment. The field `note` is a title, and `points`
+has the points that a check looks at. The lines `call`, `name` and `source` are not read, and nothing is from a line
+`expect` on, so that a stored case is a text too. Its line `slip` has the bytes in hex: alone it is the slip, beside
+other fields it must agree with them.
 """
 
 import re
@@ -82,20 +84,33 @@ def points(text: str, m: int) -> list[list[int]]:
     if "points" not in lines:
         raise Malformed("points are needed, in a second file or as the field points of a text")
     at, value = lines["points"]
-    return sheets.vertices(at, value, m) if re.search(r"[][()]", value) else [_numbers("points", at, value)]
+    if not re.search(r"[][()]", value):
+        return [_numbers("points", at, value)]
+    lines_there = [(here, line) for here, line in enumerate(value.split("\n"), at) if line]
+    return [point for here, line in lines_there for point in sheets.vertices(here, line, m)]
 
 
 def _lines(text: str) -> dict[str, tuple[int, str]]:
-    """The fields that are there, each with its line's number and what stands behind the name."""
+    """The fields that are there, each with its line's number and what stands behind the name, line by line."""
     lines: dict[str, tuple[int, str]] = {}
+    last = ""
     for at, line in enumerate(text.splitlines(), 1):
-        name, _, value = line.strip().partition(" ")
+        line = line.partition("#")[0].strip()
+        name, _, value = line.partition(" ")
         if name == "expect":
             break
-        if not name or name in UNREAD or value.strip() == "-":
+        if re.match(r"[0-9(\[]", name) or not name:
+            # Also an empty line is kept, so that what stands on the next one has its line's number.
+            if last in lines:
+                lines[last] = lines[last][0], f"{lines[last][1]}\n{line}"
+            elif name:
+                raise Malformed(f"{name[:20]!r} stands behind no field that has numbers", at)
+            continue
+        last = name
+        if name in UNREAD or value.strip() == "-":
             continue
         if name not in (*FIELDS, "slip", "points"):
-            raise Malformed(f"{name[:20]!r} is no field; the fields are {', '.join(FIELDS)}", at)
+            raise Malformed(f"{name[:20]!r} is no field; the fields are {', '.join(FIELDS)}, points and note", at)
         if name in lines:
             raise Malformed(f"a second field {name}", at)
         lines[name] = at, value
@@ -104,13 +119,14 @@ def _lines(text: str) -> dict[str, tuple[int, str]]:
 
 def _numbers(name: str, at: int, value: str) -> list[int]:
     numbers: list[int] = []
-    for item in value.replace(",", " ").split():
-        match = re.fullmatch(r"(?:([0-9]{1,6})x)?([0-9]{1,20})", item)
-        if not match:
-            raise Malformed(f"{name}: {item[:20]!r} is no whole number", at)
-        numbers += [int(match[2])] * int(match[1] or 1)
-        if len(numbers) > MOST_NUMBERS:
-            raise Malformed(f"{name}: more than {MOST_NUMBERS:,} numbers", at)
+    for here, line in enumerate(value.split("\n"), at):
+        for item in line.replace(",", " ").split():
+            match = re.fullmatch(r"(?:([0-9]{1,6})x)?([0-9]{1,20})", item)
+            if not match:
+                raise Malformed(f"{name}: {item[:20]!r} is no whole number", here)
+            numbers += [int(match[2])] * int(match[1] or 1)
+            if len(numbers) > MOST_NUMBERS:
+                raise Malformed(f"{name}: more than {MOST_NUMBERS:,} numbers", here)
     if not numbers:
         raise Malformed(f"{name}: numbers are needed, or - for none", at)
     if name in SINGLE and len(numbers) > 1:

@@ -17,10 +17,14 @@ STRUCTS: dict[str, type[ctypes.Structure]] = {
     "leveretplate_place": walks.KeptPlace, "leveretplate_walk": walks.KeptWalk, "leveretplate_step": walks.Walk}
 
 
+def fields(kept: type[ctypes.Structure]) -> list[str]:
+    return [field[0] for field in kept._fields_]
+
+
 def laid_out_in_c() -> list[str]:
     """The size of each struct and where each of its fields stands, as a C compiler has it."""
     asked = [f"sizeof(struct {name})" for name in STRUCTS]
-    asked += [f"offsetof(struct {name}, {field})" for name, kept in STRUCTS.items() for field, _ in kept._fields_]
+    asked += [f"offsetof(struct {name}, {field})" for name, kept in STRUCTS.items() for field in fields(kept)]
     lines = "".join(f'printf("{text} %zu\\n", {text});' for text in asked)
     with tempfile.TemporaryDirectory() as folder:
         source, program = pathlib.Path(folder, "layout.c"), pathlib.Path(folder, "layout")
@@ -32,7 +36,7 @@ def laid_out_in_c() -> list[str]:
 def laid_out_here() -> list[str]:
     sizes = [f"sizeof(struct {name}) {ctypes.sizeof(kept)}" for name, kept in STRUCTS.items()]
     return sizes + [f"offsetof(struct {name}, {field}) {getattr(kept, field).offset}"
-                    for name, kept in STRUCTS.items() for field, _ in kept._fields_]
+                    for name, kept in STRUCTS.items() for field in fields(kept)]
 
 
 class Header(unittest.TestCase):
@@ -41,6 +45,7 @@ class Header(unittest.TestCase):
         known = {"FACTS": len(calls.FACTS), "NEAR": len(calls.NEAR), "PLACE": len(calls.PLACE),
                  "LEVELS": calls.MOST_LEVELS, "SHEET": calls.SHEET_BYTES, "POINTS": calls.SIMPLEX_NUMBERS}
         self.assertEqual({name: stated[name] for name in known}, known)
+        self.assertEqual(str(stated["VERSION"]), leveretplate.VERSION)
 
     def test_structs(self) -> None:
         self.assertEqual(laid_out_here(), laid_out_in_c())
@@ -51,7 +56,8 @@ class Header(unittest.TestCase):
 
     def test_comments_are_whole(self) -> None:
         """A comment that was broken in another place keeps a star within a line."""
-        lines = [line.strip() for comment in re.findall(r"/\*.*?\*/", HEADER, re.DOTALL) for line in comment.splitlines()]
+        comments = re.findall(r"/\*.*?\*/", HEADER, re.DOTALL)
+        lines = [line.strip() for comment in comments for line in comment.splitlines()]
         self.assertEqual([line for line in lines if "  * " in line or len(line) > 120], [])
 
     def test_both_languages(self) -> None:
