@@ -45,12 +45,17 @@ def sheet(arguments: Arguments) -> None:
 def refine(arguments: Arguments) -> None:
     """Solve the game on finer and finer grids, and print each level's centre and the largest gain that is left there.
 
-    Gains are in payoffs where a Gambit file was brought, and else in losses.
+    Gains are in payoffs where a Gambit file was brought, and else in losses. A grid has at most 60,000 points; below
+    stands how fine one division for all blocks can be, and --finest leads there from the corner.
     """
     brought = _brought(arguments)
     game = decode(brought.slip)
-    factor, levels = arguments.factor, arguments.levels
-    if levels is None:
+    factor, levels = 2 if arguments.factor is None else arguments.factor, arguments.levels
+    if arguments.finest:
+        if any(vars(arguments)[name] is not None for name in ("divisions", "start", "factor", "levels")):
+            raise Malformed("--finest chooses divisions, start, factor and levels itself")
+        _, factor, levels = refining.to_finest(game.sizes)
+    elif levels is None:
         levels = refining.most_levels(game, factor)
     print(refining.aligned([refining.HEADINGS, *refining.rows(game, factor, levels, brought.exact_losses())]), end="")
     _say_rounding(brought)
@@ -188,9 +193,11 @@ def parser() -> argparse.ArgumentParser:
 
     command(slip, *OF_A_RUN).add_argument("--text", action="store_true", help="write text instead of bytes")
     command(sheet, *OF_A_RUN)
-    finer = command(refine, "--divisions", "--start", "--round")
-    finer.add_argument("--factor", type=int, default=2, metavar="K", help="how much finer each next grid is; 2 to 10")
+    finer = command(refine, "--divisions", "--start", "--round",
+                    table=refining.aligned(refining.finest_table()) + "\n")
+    finer.add_argument("--factor", type=int, metavar="K", help="how much finer each next grid is; 2 to 10, else 2")
     finer.add_argument("--levels", type=int, metavar="L", help="1 to 8; as many as fit if not given")
+    finer.add_argument("--finest", action="store_true", help="end on the finest grid, by as many levels as lead there")
     command(trail, *OF_A_RUN)
     checked = command(check, "--divisions", "--round")
     checked.add_argument("points", nargs="?", help="a sheet, or lines of points; else the text's field points")

@@ -10,6 +10,7 @@ from typing import NamedTuple
 from . import gambit, texts
 from .games import Losses
 from .malformed import Malformed
+from .refining import to_finest
 from .slips import Slip, decode
 
 
@@ -40,6 +41,7 @@ class Choices(NamedTuple):
     start: list[int] | None = None
     budget: int | None = None
     rounding: bool = False
+    finest: bool = False
 
     def applied(self, slip: Slip) -> Slip:
         """The slip with what was chosen for it."""
@@ -47,6 +49,8 @@ class Choices(NamedTuple):
                 if (value := getattr(self, name)) is not None}
         if self.divisions is not None and len(self.divisions) == 1:
             made["divisions"] = self.divisions * len(slip.sizes)
+        if self.finest:
+            made.update(divisions=[to_finest(slip.sizes)[0]] * len(slip.sizes), start=None)
         return replace(slip, **made) if made else slip
 
 
@@ -81,7 +85,7 @@ def read(path: str, choices: Choices) -> Brought:
 def _from_gambit(text: str, choices: Choices) -> Brought:
     game = gambit.read(text)
     losses = game.losses(choices.rounding)
-    if choices.divisions is None:
+    if choices.divisions is None and not choices.finest:
         raise Malformed("a Gambit file has no divisions: --divisions gives them")
     slip = choices.applied(Slip(game.sizes, [], losses=losses.losses))
     return Brought(slip.encode(), None, game.title, game, losses)

@@ -1,11 +1,19 @@
 """A game on finer and finer grids: where each level ends, and what a player still gains there."""
 
-from collections.abc import Iterator
+from bisect import bisect_right
+from collections.abc import Iterator, Sequence
+from fractions import Fraction
 
 from .calls import MOST_LEVELS, refine
 from .games import Losses, largest_gain
 from .grids import MOST_POINTS, centre, count_points
 from .slips import Slip
+
+MOST_FACTOR = 10
+
+# The sizes whose finest grids the documents show.
+SHOWN = ([2], [3], [4], [2, 2], [3, 3], [4, 4], [5, 5], [2, 2, 2], [3, 3, 3], [4, 4, 4], [2] * 4, [3] * 4,
+         [2] * 5, [2] * 6)
 
 HEADINGS = ("level", "divisions", "places", "labels read", "end", "block", "centre", "largest gain")
 
@@ -23,8 +31,42 @@ def most_levels(slip: Slip, factor: int) -> int:
     return next(fitting, 1)
 
 
+def finest(sizes: Sequence[int]) -> int:
+    """The largest division of all blocks with at most 60,000 grid points; 1 for sizes that the library refuses.
+
+    >>> finest([2, 2, 2]), finest([4, 4]), finest([1])
+    (38, 9, 1)
+    """
+    if min(sizes, default=0) < 2:
+        return 1
+    # A block has more points than its division, so no division of 60,000 or more is allowed.
+    divisions = range(1, MOST_POINTS)
+    return max(1, bisect_right(divisions, MOST_POINTS, key=lambda d: count_points(sizes, [d] * len(sizes))))
+
+
+def to_finest(sizes: Sequence[int]) -> tuple[int, int, int]:
+    """The first division, the factor and the number of levels, as many as there can be, that lead to the finest grid.
+
+    >>> to_finest([2, 2]), to_finest([3, 3])
+    ((1, 3, 6), (5, 2, 3))
+    """
+    last = finest(sizes)
+    ways = [(last // factor ** (levels - 1), factor, levels) for levels in range(MOST_LEVELS, 0, -1)
+            for factor in range(2, MOST_FACTOR + 1) if last % factor ** (levels - 1) == 0]
+    return ways[0]
+
+
+def finest_table() -> list[tuple[str, ...]]:
+    """The finest division for some sizes, as the documents show it."""
+    table: list[tuple[str, ...]] = [("sizes", "division", "grid points")]
+    for sizes in SHOWN:
+        points = count_points(sizes, [finest(sizes)] * len(sizes))
+        table.append((" ".join(map(str, sizes)), f"{finest(sizes):,}", f"{points:,}"))
+    return table
+
+
 def rows(slip: Slip, factor: int, levels: int, losses: Losses) -> Iterator[tuple[str, ...]]:
-    """A row of text for each level, under HEADINGS; gains are worked out exactly from the losses of what was brought."""
+    """A row of text for each level, under HEADINGS; gains are worked out exactly, in what was brought."""
     ends = refine(slip.sizes, slip.divisions, slip.first(), slip.loss_table(), factor, levels).ends
     for level, end in enumerate(ends):
         divisions = [factor ** level * d for d in slip.divisions]
@@ -32,7 +74,16 @@ def rows(slip: Slip, factor: int, levels: int, losses: Losses) -> Iterator[tuple
         gain = largest_gain(slip.sizes, losses, middle)
         yield (str(level), " ".join(map(str, divisions)), str(end.places), str(end.labels_read), end.kind,
                str(end.block), " ".join(f"{float(number):.4f}" for number in middle),
-               f"{float(gain.amount):.4f} by player {gain.player}, index {gain.index}")
+               f"{decimal(gain.amount)} by player {gain.player}, index {gain.index}")
+
+
+def decimal(number: Fraction) -> str:
+    """A number that is not negative with four decimals; by its first digits where these would take it for 0.
+
+    >>> decimal(Fraction(0)), decimal(Fraction(1, 3)), decimal(Fraction(1, 70_000))
+    ('0.0000', '0.3333', '1.4e-05')
+    """
+    return f"{float(number):.1e}" if 0 < number < Fraction(1, 20_000) else f"{float(number):.4f}"
 
 
 def aligned(table: list[tuple[str, ...]]) -> str:
