@@ -1,4 +1,4 @@
-"""The commands: slip, sheet, refine, trail, check and page.
+"""The commands: slip, sheet, refine, trail, read, check and page.
 
 What is wrong with an input is said in one line on standard error. The exit status is 0 for an answer, 1 for a refusal
 by number, for the answer no and for a sheet that differs, and 2 for a command or an input that cannot be read.
@@ -62,11 +62,30 @@ def refine(arguments: Arguments) -> None:
 
 
 def trail(arguments: Arguments) -> None:
-    """Print the path in words, move by move."""
+    """Print the path in words, move by move, or with --bytes write the bytes of its trail."""
     brought = _brought(arguments)
+    if arguments.bytes:
+        _, written = trails.written(decode(brought.slip))
+        _say_rounding(brought, sys.stderr)
+        sys.stdout.buffer.write(written)
+        return
     for line in trails.lines(decode(brought.slip)):
         print(line)
     _say_rounding(brought)
+
+
+def read(arguments: Arguments) -> None:
+    """Read a trail that is brought, as bytes or in hex, and print its places in words, or the place at one record.
+
+    Of the file only the grid and the start count, no labels: every record is held to the rules, not to a table.
+    """
+    slip = decode(_brought(arguments).slip)
+    arguments.named = arguments.trail
+    trail = trails.of_text(inputs.read_bytes(arguments.trail))
+    told = trails.read_lines(slip, trail) if arguments.record is None else trails.record_lines(slip, trail,
+                                                                                              arguments.record)
+    for line in told:
+        print(line)
 
 
 def check(arguments: Arguments) -> int:
@@ -198,7 +217,10 @@ def parser() -> argparse.ArgumentParser:
     finer.add_argument("--factor", type=int, metavar="K", help="how much finer each next grid is; 2 to 10, else 2")
     finer.add_argument("--levels", type=int, metavar="L", help="1 to 8; as many as fit if not given")
     finer.add_argument("--finest", action="store_true", help="end on the finest grid, by as many levels as lead there")
-    command(trail, *OF_A_RUN)
+    command(trail, *OF_A_RUN).add_argument("--bytes", action="store_true", help="write bytes instead of words")
+    reader = command(read, "--divisions", "--start", "--round")
+    reader.add_argument("trail", help="the trail; - is standard input")
+    reader.add_argument("--record", type=int, metavar="NUMBER", help="the record to read, counted from 1")
     checked = command(check, "--divisions", "--round")
     checked.add_argument("points", nargs="?", help="a sheet, or lines of points; else the text's field points")
     checked.add_argument("--whole", action="store_true", help="run again, and compare the sheet line by line")

@@ -4,10 +4,15 @@ import contextlib
 import io
 import pathlib
 import random
+import re
 import tempfile
 import unittest
 
+import leveretplate
+from leveretplate import Refused, run
 from leveretplate.__main__ import main
+from leveretplate.grids import corner, count_points
+from leveretplate.refining import finest, to_finest
 
 from .commands import SAMPLES, command
 
@@ -57,17 +62,50 @@ class Commands(unittest.TestCase):
             self.assertEqual((shown.returncode, shown.stdout), (1, b""))
             self.assertIn(b"refused 18: Is the factor from 2 to 10", shown.stderr)
 
+    def test_refine_to_the_finest_grid(self) -> None:
+        lines = self.answer("refine", SAMPLES / "rock-paper-scissors.nfg", "--finest").splitlines()
+        divisions = [re.split("  +", line)[1] for line in lines[1:]]
+        self.assertEqual(divisions, ["5 5", "10 10", "20 20"])
+        lines = self.answer("refine", SAMPLES / "game-1.txt", "--finest").splitlines()
+        self.assertIn("38 38 38", lines[-1])
+        for option in (["--divisions", 2], ["--start", 1, 0, 1, 0, 1, 0], ["--factor", 2], ["--levels", 1]):
+            shown = command("refine", SAMPLES / "game-1.txt", "--finest", *option)
+            self.assertEqual((shown.returncode, shown.stdout), (2, b""))
+            self.assertIn(b"--finest chooses divisions, start, factor and levels itself", shown.stderr)
+
+    def test_finest_division(self) -> None:
+        """One step finer is refused with 4, for every size that the help shows and for others."""
+        for sizes in ([2], [3], [4], [2, 2], [3, 3], [4, 4], [5, 5], [8, 8], [2, 2, 2], [3, 3, 3], [4, 4, 4], [2] * 4,
+                      [3] * 4, [2] * 5, [2] * 6, [3, 2], [16], [2, 3, 4], [3, 3, 3, 3, 2, 2]):
+            with self.subTest(sizes):
+                division = finest(sizes)
+                run(sizes, [division] * len(sizes), corner(sizes, [division] * len(sizes)),
+                    [1] * count_points(sizes, [division] * len(sizes)))
+                with self.assertRaises(Refused) as caught:
+                    run(sizes, [division + 1] * len(sizes), [], [])
+                self.assertEqual(caught.exception.number, 4)
+                first, factor, levels = to_finest(sizes)
+                self.assertEqual(first * factor ** (levels - 1), division)
+
+    def test_version_and_statuses(self) -> None:
+        self.assertEqual(self.answer("--version"), f"leveretplate {leveretplate.VERSION}\n")
+        statuses = "The exit status is 0 for an answer; 1 for a refusal by number, for the answer no, and for a sheet"
+        names = ("slip", "sheet", "refine", "trail", "read", "check", "page")
+        for words in (["--help"], *([name, "--help"] for name in names)):
+            self.assertIn(statuses, " ".join(self.answer(*words).split()))
+        self.assertIn("2 2 2        38        59,319\n", self.answer("refine", "--help"))
+
     def test_refine_needs_a_game(self) -> None:
         shown = command("refine", SAMPLES / "triangle.txt")
         self.assertEqual(shown.returncode, 2)
         self.assertTrue(shown.stderr.endswith(b"this needs a game, and the slip has labels\n"))
 
     def test_options_of_another_command(self) -> None:
-        for words in (["refine", "--budget", 3], ["check", "--start", 1, 0], ["sheet", "--levels", 2],
-                      ["sheet", "--bud", 3]):
+        for words in (["refine", "--budget", "3"], ["check", "--start", "1,0"], ["sheet", "--levels", "2"],
+                      ["sheet", "--bud", "3"]):
             shown = command(words[0], SAMPLES / "game-1.txt", *words[1:])
             self.assertEqual((shown.returncode, shown.stdout), (2, b""))
-            self.assertIn(f"unrecognized arguments: {' '.join(map(str, words[1:]))}", shown.stderr.decode())
+            self.assertIn(f"unrecognized arguments: {' '.join(words[1:])}", shown.stderr.decode())
 
     def test_options_leave_the_file(self) -> None:
         for words in (["--divisions", 3, 4, SAMPLES / "battle.nfg"], ["--divisions", "3,4", SAMPLES / "battle.nfg"],
@@ -90,7 +128,7 @@ class Damaged(unittest.TestCase):
 
     def test_damaged_samples(self) -> None:
         choose = random.Random(30)
-        samples = [path.read_bytes() for path in sorted(SAMPLES.iterdir())]
+        samples = [path.read_bytes() for path in sorted(SAMPLES.glob("**/*.*"))]
         with tempfile.TemporaryDirectory() as folder:
             path = pathlib.Path(folder, "damaged")
             for _ in range(1000):
