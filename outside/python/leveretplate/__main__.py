@@ -151,7 +151,9 @@ def _second_text(arguments: Arguments) -> str:
 def page(arguments: Arguments) -> None:
     """Write a page for a browser that shows the path place by place."""
     brought = _brought(arguments)
-    written = pages.page(decode(brought.slip), arguments.title or brought.title, brought.rounding())
+    names = (brought.game.players, brought.game.strategies) if brought.game else ([], [])
+    heading = pages.Heading(arguments.title or brought.title, *names, brought.rounding())
+    written = pages.page(decode(brought.slip), heading)
     if arguments.output == "-":
         print(written, end="")
     else:

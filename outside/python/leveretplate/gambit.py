@@ -58,10 +58,11 @@ class Losses(NamedTuple):
 
 @dataclass
 class Game:
-    """A game by its title, its players' names, their numbers of strategies, and each profile's payoffs."""
+    """A game by its title, the names of its players and strategies, their numbers, and each profile's payoffs."""
 
     title: str
     players: list[str]
+    strategies: list[list[str]]
     sizes: list[int]
     payoffs: dict[Profile, list[Fraction]]
 
@@ -123,7 +124,8 @@ def read(text: str) -> Game:
         tokens.take(word, "NFG 1 R, with which a game in strategic form begins,")
     title = _unquoted(tokens.take(TEXT, "the title"))
     players = [_unquoted(name) for name in tokens.braced(TEXT, "a player's name")]
-    sizes = _sizes(tokens)
+    strategies = _strategies(tokens)
+    sizes = [told if isinstance(told, int) else len(told) for told in strategies]
     if not players or len(players) != len(sizes) or 0 in sizes:
         raise Malformed(f"{len(players)} players with {' '.join(map(str, sizes)) or 'no'} strategies are no game")
     if tokens.next().startswith('"'):
@@ -131,7 +133,8 @@ def read(text: str) -> Game:
     rows = _rows_of_outcomes(tokens, sizes) if tokens.next() == "{" else _rows_of_payoffs(tokens, sizes)
     # A file's profiles have the first player's strategy change first.
     profiles = (profile[::-1] for profile in product(*map(range, reversed(sizes))))
-    return Game(title, players, sizes, dict(zip(profiles, rows)))
+    names = [[str(number + 1) for number in range(told)] if isinstance(told, int) else told for told in strategies]
+    return Game(title, players, names, sizes, dict(zip(profiles, rows)))
 
 
 class _Tokens:
@@ -172,16 +175,17 @@ class _Tokens:
         return [self.take(pattern, f"an {what}" if what[0] in "aeiou" else f"a {what}") for _ in range(count)]
 
 
-def _sizes(tokens: _Tokens) -> list[int]:
-    """How many strategies each player has, told by their number or by their names."""
+def _strategies(tokens: _Tokens) -> list[list[str] | int]:
+    """The names of each player's strategies, or where there are none their number."""
     tokens.take("{", "a brace")
-    sizes = []
+    strategies: list[list[str] | int] = []
     while tokens.next() != "}":
-        by_names = tokens.next() == "{"
-        sizes.append(len(tokens.braced(TEXT, "a strategy's name")) if by_names
-                     else int(tokens.take(COUNT, "a number of strategies")))
+        if tokens.next() == "{":
+            strategies.append([_unquoted(name) for name in tokens.braced(TEXT, "a strategy's name")])
+        else:
+            strategies.append(int(tokens.take(COUNT, "a number of strategies")))
     tokens.take("}", "a brace")
-    return sizes
+    return strategies
 
 
 def _rows_of_payoffs(tokens: _Tokens, sizes: list[int]) -> list[list[Fraction]]:

@@ -79,7 +79,8 @@ def read(path: str, choices: Choices) -> Brought:
     slip = data if text is None else texts.to_bytes(text)
     if choices != Choices(rounding=choices.rounding):
         slip = choices.applied(decode(slip)).encode()
-    return Brought(slip, text, texts.note(text or "") or pathlib.Path(path).name)
+    name = "Standard input" if path == "-" else pathlib.Path(path).name
+    return Brought(slip, text, texts.note(text or "") or name)
 
 
 def _from_gambit(text: str, choices: Choices) -> Brought:

@@ -51,7 +51,8 @@ class Chromium:
             pass
         if "error" in answer:
             raise RuntimeError(f"{method}: {answer['error']['message']}")
-        return answer["result"]
+        result: dict[str, Any] = answer["result"]
+        return result
 
     def open(self, path: pathlib.Path, width: int = 1200, height: int = 900) -> None:
         """Opens a file in a window of this size, and waits until it is there."""
@@ -87,4 +88,5 @@ class Chromium:
                 raise RuntimeError("chromium has ended")
             self._rest += read
         message, _, self._rest = self._rest.partition(b"\0")
-        return json.loads(message)
+        received: dict[str, Any] = json.loads(message)
+        return received
