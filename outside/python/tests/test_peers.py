@@ -9,35 +9,28 @@ The distance follows it, except in two kinds of games, which are counted:
   points, ends too coarse to tell.
 """
 
-import pathlib
 import random
 import statistics
-import subprocess
 import tempfile
 import unittest
 from collections import Counter, defaultdict
 from fractions import Fraction
-from itertools import combinations
 from typing import NamedTuple
 
 from leveretplate import gambit, refine
 from leveretplate.games import largest_gain
-from leveretplate.grids import centre, corner, split
+from leveretplate.grids import centre, corner
 from leveretplate.progress import shown
 from leveretplate.refining import aligned, most_levels
 from leveretplate.slips import Slip
+
+from .peers import Matrix, Mix, distance, lrsnash, nearest_between
 
 GAMES = 400
 SEED = 30
 
 # An end is near an equilibrium within this many steps of its grid.
 NEAR = 3
-
-# Points looked at between two equilibria.
-BETWEEN = 400
-
-Mix = list[Fraction]
-Matrix = list[list[int]]
 
 
 def random_matrices(choose: random.Random, most_payoff: int) -> list[Matrix]:
@@ -53,38 +46,6 @@ def as_gambit(matrices: list[Matrix]) -> str:
     return f'NFG 1 R "Random" {{ "Row" "Column" }} {{ {rows} {columns} }} {" ".join(payoffs)}'
 
 
-def as_lrsnash(matrices: list[Matrix]) -> str:
-    """The same game as lrsnash reads it."""
-    paragraphs = ["\n".join(" ".join(map(str, row)) for row in matrix) for matrix in matrices]
-    return f"{len(matrices[0])} {len(matrices[0][0])}\n\n" + "\n\n".join(paragraphs) + "\n"
-
-
-def lrsnash(matrices: list[Matrix], folder: str) -> list[Mix]:
-    """The extreme equilibria: each line 1 is a mix of the row player, which goes with each line 2 of its paragraph."""
-    path = pathlib.Path(folder, "game")
-    path.write_text(as_lrsnash(matrices))
-    printed = subprocess.run(["lrsnash", str(path)], capture_output=True, text=True, check=True, timeout=60).stdout
-    found: list[Mix] = []
-    for paragraph in printed.split("\n\n"):
-        lines = [line.split() for line in paragraph.splitlines() if line[:2] in ("1 ", "2 ")]
-        rows, columns = ([[*map(Fraction, line[1:-1])] for line in lines if line[0] == player] for player in "12")
-        found += [row + column for row in rows for column in columns]
-    return found
-
-
-def distance(a: Mix, b: Mix) -> Fraction:
-    return max(abs(x - y) for x, y in zip(a, b))
-
-
-def nearest_between(game: gambit.Game, point: Mix, equilibria: list[Mix]) -> Fraction:
-    """The distance to points between two equilibria that share a player's mix; these are equilibria too."""
-    pairs = [(a, b) for a, b in combinations(equilibria, 2)
-             if any(x == y for x, y in zip(split(game.sizes, a), split(game.sizes, b)))]
-    parts = [Fraction(part, BETWEEN) for part in range(BETWEEN)]
-    between = ([x + part * (y - x) for x, y in zip(a, b)] for a, b in pairs for part in parts)
-    return min((distance(point, other) for other in between), default=Fraction(1))
-
-
 def gain_bound(game: gambit.Game, division: int) -> Fraction:
     """A gain that no centre of an end exceeds.
 
@@ -95,7 +56,7 @@ def gain_bound(game: gambit.Game, division: int) -> Fraction:
     """
     row, column = (size // 2 for size in game.sizes)
     change = max(row + 2 * column, column + 2 * row)
-    widest = max(max(payoffs) - min(payoffs) for payoffs in zip(*game.payoffs.values()))
+    widest: Fraction = max(max(payoffs) - min(payoffs) for payoffs in zip(*game.payoffs.values()))
     return Fraction(2 * change, division) * widest
 
 
@@ -121,15 +82,15 @@ def kind(game: gambit.Game, last: Level, equilibria: list[Mix]) -> str:
     reach = Fraction(NEAR, last.division)
     if min(distance(last.middle, equilibrium) for equilibrium in equilibria) <= reach:
         return "near"
-    return "between" if nearest_between(game, last.middle, equilibria) <= reach else "flat"
+    return "between" if nearest_between(game.sizes, last.middle, equilibria) <= reach else "flat"
 
 
 class Peers(unittest.TestCase):
-    def compare(self, most_payoff: int) -> tuple[dict[int, float], Counter]:
+    def compare(self, most_payoff: int) -> tuple[dict[int, float], Counter[str]]:
         """The median distance on each division, and how many games agree, or why not; both are printed."""
         distances: dict[int, list[Fraction]] = defaultdict(list)
         gains: dict[int, list[Fraction]] = defaultdict(list)
-        kinds: Counter = Counter()
+        kinds: Counter[str] = Counter()
         choose = random.Random(SEED)
         with tempfile.TemporaryDirectory() as folder:
             for _ in shown(range(GAMES), "games compared:"):
@@ -143,7 +104,8 @@ class Peers(unittest.TestCase):
                     gains[division].append(gain)
                 kinds[kind(game, found[-1], equilibria)] += 1
         print(f"\n{GAMES} games with payoffs from 0 to {most_payoff}; on the last grid {dict(kinds)}")
-        table = [("division", "games", "median distance", "nine tenths within", "median gain", "largest gain")]
+        headings = ("division", "games", "median distance", "nine tenths within", "median gain", "largest gain")
+        table: list[tuple[str, ...]] = [headings]
         for division in distances:
             far = sorted(map(float, distances[division]))
             near = (statistics.median(far), far[len(far) * 9 // 10])
