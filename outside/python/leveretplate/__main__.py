@@ -12,7 +12,7 @@ import sys
 import textwrap
 from collections.abc import Callable
 from itertools import zip_longest
-from typing import Any, TextIO
+from typing import Any, NoReturn, TextIO
 
 from . import VERSION, calls, inputs, pages, refining, sheets, texts, trails
 from .malformed import Malformed
@@ -279,5 +279,10 @@ def _fail(status: int, message: str) -> int:
     return status
 
 
-if __name__ == "__main__":
+def run_and_exit() -> NoReturn:
+    """Runs the command of the installed package."""
     sys.exit(main())
+
+
+if __name__ == "__main__":
+    run_and_exit()

@@ -11,7 +11,11 @@ from collections.abc import Iterable
 from typing import NamedTuple
 
 LOCATION = "LEVERETPLATE_SHARED_LIBRARY"
-LINKED = pathlib.Path(__file__).resolve().parents[3] / "target" / "python" / "libleveretplate.so"
+
+# An installed package has the library beside it; in the project `outside/run python` links it.
+NAME = "libleveretplate.so"
+INSTALLED = pathlib.Path(__file__).resolve().parent / NAME
+LINKED = pathlib.Path(__file__).resolve().parents[min(3, len(INSTALLED.parents) - 1)] / "target" / "python" / NAME
 
 # An array of length 0 still needs an address that is not null.
 _NOWHERE = (ctypes.c_uint64 * 1)()
@@ -25,7 +29,7 @@ class Fixed(NamedTuple):
 
 @functools.cache
 def _library() -> ctypes.CDLL:
-    path = os.environ.get(LOCATION, str(LINKED))
+    path = os.environ.get(LOCATION, str(INSTALLED if INSTALLED.exists() else LINKED))
     if not os.path.exists(path):
         raise FileNotFoundError(f"no shared library {path}: `outside/run python` links it, or {LOCATION} names another")
     return ctypes.CDLL(path)

@@ -89,8 +89,8 @@ class Check(unittest.TestCase):
         self.assertEqual(self.answer(1, "\n".join(lines[:-1]), "--whole"), said)
 
     def test_points_of_a_text(self) -> None:
-        for points, answer in (("1 0 1 0 1 0 1 0", (1, b"no\n")), ("(1 0 1 0) (1 0 0 1) (0 1 0 1)", (0, b"yes\nblock 2\n")),
-                               ("1,0,1,0, 1,0,0,1, 0,1,0,1", (0, b"yes\nblock 2\n"))):
+        for points, answer in (("1 0 1 0 1 0 1 0", (1, b"no\n")), ("1,0,1,0, 1,0,0,1, 0,1,0,1", (0, b"yes\nblock 2\n")),
+                               ("(1 0 1 0) (1 0 0 1) (0 1 0 1)", (0, b"yes\nblock 2\n"))):
             shown = command("check", "-", given=SLIP + f"points {points}\n".encode())
             self.assertEqual((shown.returncode, shown.stdout), answer)
         shown = command("check", "-", given=SLIP + b"points (1 0 1) (0 1 0 0 1)\n")

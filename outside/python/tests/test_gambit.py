@@ -107,7 +107,7 @@ class Labels(unittest.TestCase):
         sheet = command("sheet", "-", "--divisions", 8, "--round", given=FOUR_DECIMALS).stdout
         self.assertIn(ROUNDED, sheet.splitlines()[-1])
         said = sheet.splitlines()[-1]
-        for words in (["slip", "--text"], ["refine", "--levels", 2], ["trail"], ["page"]):
+        for words in (["slip", "--text"], ["refine", "--levels", "2"], ["trail"], ["page"]):
             shown = command(words[0], "-", *words[1:], "--divisions", 8, "--round", given=FOUR_DECIMALS)
             with self.subTest(words[0]):
                 self.assertEqual((shown.returncode, shown.stderr), (0, b""))

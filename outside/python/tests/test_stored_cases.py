@@ -52,7 +52,7 @@ def grid(fields: Fields) -> tuple[list[int], list[int]]:
     return numbers(fields["sizes"]), numbers(fields["d"])
 
 
-def table_run(fields: Fields) -> tuple[list[int], ...]:
+def table_run(fields: Fields) -> tuple[list[int], list[int], list[int], list[int]]:
     return *grid(fields), numbers(fields["start"]), numbers(fields["labels"])
 
 
@@ -128,7 +128,7 @@ def answered(call: str, fields: Fields) -> list[str]:
 
 def expected_lines(call: str, lines: list[str]) -> list[str]:
     """What the package can show of what is expected, with equal numbers in a row written out."""
-    kept = [re.sub(r"\b(\d+)x(\d+)", lambda run: " ".join([run[2]] * int(run[1])), line) for line in lines
+    kept = [re.sub(r"\b(\d+)x(\d+)", lambda run: " ".join([str(run[2])] * int(run[1])), line) for line in lines
             if not line.startswith("answer-after") and not (call == "shelf" and line.startswith("list"))]
     if call == "refine" and kept[-1].startswith("labels-after") and "crc32" not in kept[-1]:
         kept[-1] = sum_line(numbers(kept[-1].partition(" ")[2]))

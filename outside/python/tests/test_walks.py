@@ -2,7 +2,7 @@
 
 import unittest
 
-from leveretplate import Refused, inputs, move_on, preview, read_trail, run_with_trail, walk_at_start, walk_points
+from leveretplate import Move, Refused, inputs, move_on, preview, read_trail, run_with_trail, walk_at_start, walk_points
 from leveretplate.moves import records
 from leveretplate.paths import follow
 from leveretplate.slips import decode
@@ -43,6 +43,7 @@ class Walks(unittest.TestCase):
         for _ in range(4):
             before = bytes(self.walk.walk)
             coming = preview(self.walk, DOCUMENT_01)
+            assert isinstance(coming, Move)
             self.assertEqual(bytes(self.walk.walk), before)
             self.assertEqual(move_on(self.walk, DOCUMENT_01), coming.rule)
         before = bytes(self.walk.walk)
