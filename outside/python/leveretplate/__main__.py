@@ -82,9 +82,8 @@ def read(arguments: Arguments) -> None:
     slip = decode(_brought(arguments).slip)
     arguments.named = arguments.trail
     trail = trails.of_text(inputs.read_bytes(arguments.trail))
-    told = trails.read_lines(slip, trail) if arguments.record is None else trails.record_lines(slip, trail,
-                                                                                              arguments.record)
-    for line in told:
+    whole = arguments.record is None
+    for line in trails.read_lines(slip, trail) if whole else trails.record_lines(slip, trail, arguments.record):
         print(line)
 
 
@@ -142,9 +141,9 @@ def _quoted(line: str | None) -> str:
 
 def _second_text(arguments: Arguments) -> str:
     """The text of the second file. What is wrong with it is said under its own name."""
-    arguments.named = arguments.points
     if not arguments.points:
         raise Malformed("a sheet is needed behind the slip")
+    arguments.named = arguments.points
     return inputs.read_text(arguments.points)
 
 

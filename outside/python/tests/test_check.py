@@ -88,6 +88,10 @@ class Check(unittest.TestCase):
         said = f"line 10 differs: the sheet has no such line, and the run gives {lines[-1]!r}\n1 lines differ\n"
         self.assertEqual(self.answer(1, "\n".join(lines[:-1]), "--whole"), said)
 
+    def test_no_sheet_to_compare(self) -> None:
+        shown = command("check", "--whole", "-", given=SLIP)
+        self.assertEqual((shown.returncode, shown.stderr), (2, b"leveretplate: -: a sheet is needed behind the slip\n"))
+
     def test_points_of_a_text(self) -> None:
         for points, answer in (("1 0 1 0 1 0 1 0", (1, b"no\n")), ("1,0,1,0, 1,0,0,1, 0,1,0,1", (0, b"yes\nblock 2\n")),
                                ("(1 0 1 0) (1 0 0 1) (0 1 0 1)", (0, b"yes\nblock 2\n"))):
