@@ -253,9 +253,31 @@ def _joined(words: list[str]) -> list[str]:
     return made
 
 
+# The options that take nothing.
+FLAGS = ("-h", "--help", "--text", "--round", "--whole", "--bytes", "--finest")
+
+
+def _files_first(words: list[str]) -> list[str]:
+    """The words of a command with its files before its options, so that a second file may stand behind an option.
+
+    >>> _files_first(["check", "game.nfg", "--divisions", "4,4", "--round", "sheet"])
+    ['check', 'game.nfg', 'sheet', '--divisions', '4,4', '--round']
+    """
+    files: list[str] = []
+    options: list[str] = []
+    rest = iter(words[1:])
+    for word in rest:
+        if not word.startswith("-") or word == "-":
+            files.append(word)
+        else:
+            taken = [] if word in FLAGS or "=" in word else [next(rest, None)]
+            options += [word, *(value for value in taken if value is not None)]
+    return [*words[:1], *files, *options]
+
+
 def main(words: list[str] | None = None) -> int:
     """Runs a command, and says in one line what was wrong with it."""
-    arguments = parser().parse_args(_joined(sys.argv[1:] if words is None else words))
+    arguments = parser().parse_args(_files_first(_joined(sys.argv[1:] if words is None else words)))
     arguments.named = arguments.file
     try:
         status: int = arguments.act(arguments) or 0

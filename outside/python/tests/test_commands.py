@@ -10,7 +10,7 @@ import unittest
 
 import leveretplate
 from leveretplate import Refused, run
-from leveretplate.__main__ import main
+from leveretplate.__main__ import FLAGS, main, parser
 from leveretplate.grids import corner, count_points
 from leveretplate.refining import finest, to_finest
 
@@ -111,6 +111,20 @@ class Commands(unittest.TestCase):
         for words in (["--divisions", 3, 4, SAMPLES / "battle.nfg"], ["--divisions", "3,4", SAMPLES / "battle.nfg"],
                       ["--start", 3, 0, 4, 0, "--divisions", 3, 4, SAMPLES / "battle.nfg"]):
             self.assertIn("centre", self.answer("sheet", *words))
+
+    def test_a_second_file_behind_options(self) -> None:
+        game = str(SAMPLES / "matching-pennies.nfg")
+        with tempfile.NamedTemporaryFile() as sheet:
+            sheet.write(self.answer("sheet", game, "--divisions", 10).encode())
+            sheet.flush()
+            for words in ([game, "--divisions", "10", sheet.name, "--whole"],
+                          ["--whole", game, sheet.name, "--divisions", "10"],
+                          ["--divisions", "10", game, "--whole", sheet.name]):
+                self.assertEqual(self.answer("check", *words), "every line agrees\n")
+        (commands,) = (action.choices for action in parser()._actions if isinstance(action.choices, dict))
+        flags = {option for made in commands.values() for action in made._actions if action.nargs == 0
+                 for option in action.option_strings}
+        self.assertEqual(flags, set(FLAGS))
 
     def test_options_that_are_no_numbers(self) -> None:
         shown = command("sheet", SAMPLES / "battle.nfg", "--divisions", "ten")

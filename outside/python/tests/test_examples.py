@@ -9,7 +9,7 @@ import leveretplate
 
 
 def load_tests(loader: unittest.TestLoader, tests: unittest.TestSuite, pattern: str) -> unittest.TestSuite:
-    names = [module.name for module in pkgutil.iter_modules(leveretplate.__path__) if module.name != "__main__"]
+    names = [module.name for module in pkgutil.iter_modules(leveretplate.__path__)]
     for module in [leveretplate, *(importlib.import_module(f"leveretplate.{name}") for name in names)]:
         tests.addTests(doctest.DocTestSuite(module))
     return tests

@@ -1,6 +1,8 @@
 """A Gambit file's payoffs beside document 01's losses: their order, their labels, and those that have to be rounded."""
 
+import pathlib
 import random
+import tempfile
 import unittest
 from fractions import Fraction
 from itertools import product
@@ -114,6 +116,16 @@ class Labels(unittest.TestCase):
                 self.assertIn(said, shown.stdout)
         shown = command("slip", "-", "--divisions", 8, "--round", given=FOUR_DECIMALS)
         self.assertEqual(shown.stderr.strip(), said)
+
+    def test_a_rounded_sheet_is_checked(self) -> None:
+        with tempfile.TemporaryDirectory() as folder:
+            game, sheet = pathlib.Path(folder, "game.nfg"), pathlib.Path(folder, "sheet")
+            game.write_bytes(FOUR_DECIMALS)
+            sheet.write_bytes(command("sheet", game, "--divisions", 8, "--round").stdout)
+            shown = command("check", game, sheet, "--divisions", 8, "--round")
+            self.assertEqual((shown.returncode, shown.stdout.splitlines()[-1]), (0, ROUNDED))
+            shown = command("check", "--whole", game, sheet, "--divisions", 8, "--round")
+            self.assertEqual((shown.returncode, shown.stdout), (0, b"every line agrees\n"))
 
     def test_rounding_is_not_said_where_nothing_is_rounded(self) -> None:
         exact = b'NFG 1 R "" { "A" "B" } { 2 2 } 1 -1 -1 1 -1 1 1 -1'
