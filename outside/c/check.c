@@ -104,8 +104,8 @@ static void check_trail(void)
     expect("a record beyond the last", number == 17 && place[0] == 5 && points[0] == 77 * 257);
     number = leveretplate_read_trail(sizes, 2, divisions, 2, start, 4, trail, 27, 5, points, place);
     expect("the last record's place", number == 0 && place[0] == 2 && place[1] == 2 && place[2] == 8 && place[3] == 4);
-    expect("its points, and 0 behind them",
-        memcmp(points, expected, sizeof expected) == 0 && points[8] == 0 && points[255] == 0);
+    expect("its points, and the old numbers behind them",
+        memcmp(points, expected, sizeof expected) == 0 && points[8] == 77 * 257 && points[255] == 77 * 257);
 }
 
 static void check_label(void)
@@ -192,7 +192,7 @@ static void check_refine(void)
     expect("the second level's vertices, and the number behind them", memcmp(answer + 24, second, sizeof second) == 0);
 }
 
-static struct leveretplate_step step;
+static struct leveretplate_answered told;
 
 static void check_walk(void)
 {
@@ -201,45 +201,45 @@ static void check_walk(void)
                    points[] = {1, 0, 1, 0, 0, 1, 1, 0, 0};
     struct leveretplate_walk end;
     int rightly = 1;
-    leveretplate_walk_at_start(&step, sizes, 2, divisions, 2, off, 4, table, 4);
-    expect("a walk at a start off the grid", step.number == 5 && step.walk.places == 0);
-    leveretplate_walk_at_start(&step, sizes, 2, divisions, 2, start, 4, table, 4);
+    leveretplate_walk_at_start(&told, sizes, 2, divisions, 2, off, 4, table, 4);
+    expect("a walk at a start off the grid", told.number == 5 && told.walk.places == 0);
+    leveretplate_walk_at_start(&told, sizes, 2, divisions, 2, start, 4, table, 4);
     expect("the walk at {v}",
-        step.number == 0 && step.walk.places == 1 && step.walk.present.count == 1 && step.walk.before.count == 0
-            && step.walk.labels_read == 1 && step.walk.carried[0] == 4);
-    leveretplate_preview(&step, table, 4);
+        told.number == 0 && told.walk.places == 1 && told.walk.present.count == 1 && told.walk.before.count == 0
+            && told.walk.labels_read == 1 && told.walk.carried[0] == 4);
+    leveretplate_preview(&told, table, 4);
     expect("its first move shown",
-        step.rule == 5 && step.map == 37 && step.fields[0] == 2 && step.fields[2] == 4 && step.fields[5] == 4
-            && step.walk.places == 1);
+        told.rule == 5 && told.map == 37 && told.fields[0] == 2 && told.fields[2] == 4 && told.fields[5] == 4
+            && told.walk.places == 1);
     for (size_t at = 0; at < 4; at++) {
-        leveretplate_move_on(&step, table, 4);
-        rightly &= step.number == 0 && step.rule == rules[at] && step.walk.places == at + 2;
+        leveretplate_move_on(&told, table, 4);
+        rightly &= told.number == 0 && told.rule == rules[at] && told.walk.places == at + 2;
     }
     expect("the path by calls", rightly);
     expect("its labels read, and the labels carried",
-        step.walk.labels_read == 4 && memcmp(step.walk.carried, "\4\2\0", 3) == 0);
-    end = step.walk;
-    leveretplate_move_on(&step, table, 4);
+        told.walk.labels_read == 4 && memcmp(told.walk.carried, "\4\2\0", 3) == 0);
+    end = told.walk;
+    leveretplate_move_on(&told, table, 4);
     expect("its end",
-        step.number == 0 && step.kind == 1 && step.block == 1 && step.vertices == 1 && step.rule == 0
-            && step.simplex[1] == 1);
-    expect("the walk at the end", memcmp(&step.walk, &end, sizeof end) == 0);
-    leveretplate_walk_points(&step, table, 4);
-    expect("its points", step.vertices == 2 && memcmp(step.simplex, points, sizeof points) == 0);
-    step.walk.present = end.before;
-    step.walk.before = end.present;
-    leveretplate_move_on(&step, table, 4);
-    expect("labels of another place", step.number == 20 && step.walk.places == 5);
-    memcpy(step.walk.carried, "\4\2\2", 3);
-    leveretplate_move_on(&step, table, 4);
-    expect("the walk back", step.rule == 1 && step.walk.places == 6);
-    step.walk.labels_read = 7;
-    leveretplate_move_on(&step, table, 4);
-    expect("more labels read than places", step.number == 20 && step.walk.labels_read == 7);
-    step.walk.labels_read = 1;
-    step.walk.places = 69;
-    leveretplate_move_on(&step, table, 4);
-    expect("places above the bound", step.number == 20 && step.walk.places == 69);
+        told.number == 0 && told.kind == 1 && told.block == 1 && told.vertices == 1 && told.rule == 0
+            && told.simplex[1] == 1);
+    expect("the walk at the end", memcmp(&told.walk, &end, sizeof end) == 0);
+    leveretplate_walk_points(&told, table, 4);
+    expect("its points", told.vertices == 2 && memcmp(told.simplex, points, sizeof points) == 0);
+    told.walk.present = end.before;
+    told.walk.before = end.present;
+    leveretplate_move_on(&told, table, 4);
+    expect("labels of another place", told.number == 20 && told.walk.places == 5);
+    memcpy(told.walk.carried, "\4\2\2", 3);
+    leveretplate_move_on(&told, table, 4);
+    expect("the walk back", told.rule == 1 && told.walk.places == 6);
+    told.walk.labels_read = 7;
+    leveretplate_move_on(&told, table, 4);
+    expect("more labels read than places", told.number == 20 && told.walk.labels_read == 7);
+    told.walk.labels_read = 1;
+    told.walk.places = 69;
+    leveretplate_move_on(&told, table, 4);
+    expect("places above the bound", told.number == 20 && told.walk.places == 69);
 }
 
 int main(void)

@@ -34,7 +34,7 @@
 extern "C" {
 #endif
 
-#define LEVERETPLATE_VERSION 2  /* of this interface; CHANGELOG.md says what changed */
+#define LEVERETPLATE_VERSION 3  /* of this interface; CHANGELOG.md says what changed */
 #define LEVERETPLATE_FACTS 5    /* places, labels read, kind of end (0 place, 1 facet), block, vertices */
 #define LEVERETPLATE_LEVELS 8   /* the most levels of a refinement */
 #define LEVERETPLATE_NEAR 2     /* the nearest vertex's position, how many positions are listed */
@@ -147,12 +147,12 @@ uint8_t leveretplate_run_with_trail(const uint8_t *sizes, size_t sizes_length,
 
 /* Rebuilds the place at a record of a trail, the records counted from 1, and answers 0: `place` has the number of
  * points, T and U, sets of indices as masks in which bit h stands for index h + 1, and the labels read up to that
- * place; `points` has the points in rising coefficient sum, m numbers each, and 0 behind them. Over a run's trail
- * record i gives the path's place i. Only the records up to the one asked for are looked at, and no label table.
- * Else answers the refusal's number, 1 to 5, or 17 where there is no such record, or the records up to it do not
- * begin with the start's, or one of them is not exactly the record of a change from its place to a set of points
- * that meets the first two conditions of a place, by one of the seven rules; and writes nothing. `points` has
- * LEVERETPLATE_POINTS numbers, `place` LEVERETPLATE_PLACE. */
+ * place; `points` has the points in rising coefficient sum, m numbers each, at its front, with its old contents
+ * behind. Over a run's trail record i gives the path's place i. Only the records up to the one asked for are looked
+ * at, and no label table. Else answers the refusal's number, 1 to 5, or 17 where there is no such record, or the
+ * records up to it do not begin with the start's, or one of them is not exactly the record of a change from its
+ * place to a set of points that meets the first two conditions of a place, by one of the seven rules; and writes
+ * nothing. `points` has LEVERETPLATE_POINTS numbers, `place` LEVERETPLATE_PLACE. */
 uint8_t leveretplate_read_trail(const uint8_t *sizes, size_t sizes_length,
                                 const uint16_t *divisions, size_t divisions_length,
                                 const uint16_t *start, size_t start_length,
@@ -226,7 +226,7 @@ uint8_t leveretplate_current(const uint16_t *list, size_t list_length, size_t co
  * 0 in the order in which each point goes to the next, and the count of its points; what stands behind is 0, and 0
  * points with nothing but 0 are no place. At the front of each array of a walk stand the numbers of the blocks or of
  * the indices. A walk carries the labels of the present place's points in their order, 0 behind. Two walks are the
- * same exactly if these numbers are. */
+ * same exactly if these numbers are, of sizes, divisions and start those at the front. */
 struct leveretplate_place {
     uint16_t first[16];
     uint32_t order[16];
@@ -242,7 +242,7 @@ struct leveretplate_walk {
 
 /* A walk, and behind it what the last call on it has answered. Every call below writes all of what stands behind the
  * walk: 0 where it says nothing. */
-struct leveretplate_step {
+struct leveretplate_answered {
     struct leveretplate_walk walk;
     uint64_t vertices;     /* of an end, or points of a place */
     uint32_t fields[6];    /* of a move that is shown: point in, point out (positions from 0), then from 1 the index
@@ -257,7 +257,7 @@ struct leveretplate_step {
 
 /* Makes the walk at {v}, with none before it, 1 as its places so far and its labels read, and the table's label of
  * v. Else the number is the refusal's, 1 to 7, and the walk stays. */
-void leveretplate_walk_at_start(struct leveretplate_step *step,
+void leveretplate_walk_at_start(struct leveretplate_answered *answered,
                                 const uint8_t *sizes, size_t sizes_length,
                                 const uint16_t *divisions, size_t divisions_length,
                                 const uint16_t *start, size_t start_length,
@@ -269,15 +269,15 @@ void leveretplate_walk_at_start(struct leveretplate_step *step,
  * is {v}" and "it has none before it" holds, or the places so far are not from 1 to the bound, or the labels that it
  * carries are not the table's, 0 included, or its labels read not from 1 to its places; 16, where a point of the
  * present place has label 0. Any numbers may stand in the walk. */
-void leveretplate_move_on(struct leveretplate_step *step, const uint8_t *labels, size_t labels_length);
+void leveretplate_move_on(struct leveretplate_answered *answered, const uint8_t *labels, size_t labels_length);
 
 /* Shows the move before it is made: the answer that leveretplate_move_on would give, and of a move the map and the
  * fields of the trail's record. The walk stays. */
-void leveretplate_preview(struct leveretplate_step *step, const uint8_t *labels, size_t labels_length);
+void leveretplate_preview(struct leveretplate_answered *answered, const uint8_t *labels, size_t labels_length);
 
 /* Gives the number of the present place's points and the points. Else the number is the refusal's, 1 to 7, or 20
  * where it is not a place over the table. The walk stays. */
-void leveretplate_walk_points(struct leveretplate_step *step, const uint8_t *labels, size_t labels_length);
+void leveretplate_walk_points(struct leveretplate_answered *answered, const uint8_t *labels, size_t labels_length);
 
 #ifdef __cplusplus
 }

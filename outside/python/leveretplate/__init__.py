@@ -14,7 +14,7 @@ from .questions import QUESTIONS, Refused
 from .walks import Walk, move_on, preview, walk_at_start, walk_points
 
 # That of the library's interface, LEVERETPLATE_VERSION in the header.
-VERSION = "2"
+VERSION = "3"
 
 __all__ = ["QUESTIONS", "VERSION", "End", "Move", "Nearest", "Place", "Refinement", "Refused", "Walk", "boundary",
            "check", "current", "file", "label", "move_on", "nearest", "preview", "read_trail", "refine", "run",

@@ -14,7 +14,7 @@ FOLDER = pathlib.Path(__file__).resolve().parents[2] / "c"
 HEADER = (FOLDER / "leveretplate.h").read_text()
 
 STRUCTS: dict[str, type[ctypes.Structure]] = {
-    "leveretplate_place": walks.KeptPlace, "leveretplate_walk": walks.KeptWalk, "leveretplate_step": walks.Walk}
+    "leveretplate_place": walks.KeptPlace, "leveretplate_walk": walks.KeptWalk, "leveretplate_answered": walks.Walk}
 
 
 def fields(kept: type[ctypes.Structure]) -> list[str]:

@@ -252,7 +252,7 @@ impl Implementation for Proved {
         }
         let (m, [count, t, u, labels_read]) = (call.start.len(), place);
         let (numbers, behind) = points.split_at(count as usize * m);
-        assert!(behind.iter().all(|&number| number == 0), "a number other than 0 stands behind the points");
+        assert!(behind.iter().all(|&number| number == u16::MAX), "a number is changed behind the points");
         Ok(Rebuilt { points: numbers.chunks(m).map(<[u16]>::to_vec).collect(), t: t as u16, u: u as u16, labels_read })
     }
 
