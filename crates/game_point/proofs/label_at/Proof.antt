@@ -7,7 +7,7 @@ use lib.ListN.{length}
 use mir.Facts.{toZ-ofZ}
 use mir.Syntax.{w64}
 use Rattle.combinatorics.specs.Lists.{upFrom}
-use Rattle.game_corners.proofs.FirstLargest.{largest-agree}
+use Rattle.game_losses.proofs.FirstLargest.{largest-agree}
 use Rattle.game_corners.specs.Corners.{signedAt}
 use Rattle.grid_points.proofs.Points.{point-long}
 use Rattle.grid_points.proofs.Round.{block-fits}
