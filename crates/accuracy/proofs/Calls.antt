@@ -64,7 +64,7 @@ yes-accurate g losses numbers block t e =
       accurate = λ low range w. every-complete-set g losses low range
           (record { sameNumber = a .sameNumber; divisions = a .divisionsOne; whole = t .whole; within = w })
           (listedPoints g numbers) (y .nonempty) (search-finds g (in-limits g a) (listedPoints g numbers) .1 (v .one))
-              (y .named)
+          (y .named)
           (v .block) (v .complete);
     }
 

@@ -23,7 +23,7 @@ use Rattle.game_losses.specs.Game.{dot, mix}
 use Rattle.game_losses.specs.Weights.{weighed, spread, weights}
 use Rattle.game_weighed.proofs.Levels.{behind-next, behind-none}
 use Rattle.game_weighed.specs.Levels.{behind}
-use Rattle.game_point.specs.Weighing.{weightsFrom, CanWeigh}
+use Rattle.game_point.specs.Weighing.{weightsFrom, CanWeighLosses}
 
 pub dot-one : (t : List ℕ) → dot (1 ∷ []) t ≡ getD t 0 0
 dot-one [] = refl
@@ -64,7 +64,8 @@ module _ (g : Grid) (y : Point) (j : ℕ) where
       (same-or l j)
 
 -- what the function itself needs
-module _ {g : Grid} {firsts rests : List ℕ} {y : Point} {t : List ℕ} {j l : ℕ} (C : CanWeigh g firsts rests y t j l)
+module _ {g : Grid} {firsts rests : List ℕ} {y : Point} {t : List ℕ} {j l : ℕ}
+    (C : CanWeighLosses g firsts rests y t j l)
   where
     pub at-last : numBlocks g ≤ l → (0 < length t) × (getD t 0 0 ≡ dot (weightsFrom g y j l) t)
     at-last h = (
@@ -72,7 +73,7 @@ module _ {g : Grid} {firsts rests : List ℕ} {y : Point} {t : List ℕ} {j l : 
       sym (ap (λ (u : List ℕ). dot u t) (from-none g y j l h) ∙ dot-one t),
     )
 
-    pub at-own : l < numBlocks g → l ≡ j → CanWeigh g firsts rests y t j (l + 1)
+    pub at-own : l < numBlocks g → l ≡ j → CanWeighLosses g firsts rests y t j (l + 1)
     at-own h e = record {
       few = C .few;
       player = C .player;
@@ -114,7 +115,7 @@ module _ {g : Grid} {firsts rests : List ℕ} {y : Point} {t : List ℕ} {j l : 
       abbrev pub part : ℕ → List ℕ
       part k = take (k * r + r - k * r) (drop (k * r) t)
 
-      pub can-part : (k : ℕ) → k < s → CanWeigh g firsts rests y (part k) j (l + 1)
+      pub can-part : (k : ℕ) → k < s → CanWeighLosses g firsts rests y (part k) j (l + 1)
       can-part k h = record {
         few = C .few;
         player = C .player;

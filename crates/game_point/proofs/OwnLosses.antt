@@ -22,7 +22,7 @@ use Rattle.game_weighed.specs.Levels.{Rests}
 use Rattle.game_point.proofs.Opponents.{profiles-behind}
 use Rattle.game_point.proofs.Bounds.{all-opponents, from-fits, size-two}
 use Rattle.game_point.specs.Label.{GameAt, ownLoss}
-use Rattle.game_point.specs.Weighing.{weightsFrom, CanWeigh}
+use Rattle.game_point.specs.Weighing.{weightsFrom, CanWeighLosses}
 
 module _ {ss ds firsts owners losses : List ℕ} {y : Point} (G : GameAt (lent ss ds) firsts owners losses y)
     (rests : List ℕ) (resting : Rests (lent ss []) rests) (h : ℕ)
@@ -79,7 +79,7 @@ module _ {ss ds firsts owners losses : List ℕ} {y : Point} (G : GameAt (lent s
   abbrev part : List ℕ
   part = take (from + rest - from) (drop from losses)
 
-  pub can : CanWeigh (lent ss []) firsts rests y part owner 0
+  pub can : CanWeighLosses (lent ss []) firsts rests y part owner 0
   can = record {
     few = G .grid .fewBlocks;
     player = omega (arith, owner-low, G .grid .fewBlocks);

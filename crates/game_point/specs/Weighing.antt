@@ -20,7 +20,7 @@ abbrev pub weightsFrom : Grid → Point → ℕ → ℕ → List ℕ
 weightsFrom g y j l = weights (map (mix g y) (opponentsFrom g j l))
 
 -- a loss for each profile, whose sum fits
-pub record CanWeigh (g : Grid) (firsts rests : List ℕ) (y : Point) (losses : List ℕ) (j l : ℕ) : Type 0 where
+pub record CanWeighLosses (g : Grid) (firsts rests : List ℕ) (y : Point) (losses : List ℕ) (j l : ℕ) : Type 0 where
   pub few : numBlocks g ≤ 6
   pub player : j < 6
   pub resting : Rests g rests

@@ -5,7 +5,7 @@ ghost use Prim.Native.Nat.{_+_, _≤_, _<_};
 ghost use Rattle.grid_points.specs.Grid.{Grid, lent, numBlocks};
 ghost use Rattle.game_losses.specs.Game.{dot as dotOf};
 ghost use Rattle.game_weighed.specs.Levels.{Rests, behind};
-ghost use Rattle.game_point.specs.Weighing.{weightsFrom, CanWeigh};
+ghost use Rattle.game_point.specs.Weighing.{weightsFrom, CanWeighLosses};
 use grid::wide;
 
 // A number of a mix, a division or a loss in 64 bits, with nothing to show at the cast.
@@ -36,7 +36,7 @@ pub fn weigh(
     player: usize,
     block: usize,
 ) -> u64
-    requires { ⌜ CanWeigh (lent (now sizes) []) (now firsts) (now rests) (now point) (now losses) player block ⌝ }
+    requires { ⌜ CanWeighLosses (lent (now sizes) []) (now firsts) (now rests) (now point) (now losses) player block ⌝ }
     ensures { λ r. ⌜ r ≡ dotOf (weightsFrom (lent (now (sizes .entry)) []) (now (point .entry)) player block)
         (now (losses .entry)) ⌝ }
 {

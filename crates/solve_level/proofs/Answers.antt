@@ -15,14 +15,14 @@ use Rattle.combinatorics.specs.Lists.{upFrom}
 use Rattle.end_kinds.specs.declared.Kind.{Kind}
 use Rattle.finder.specs.Finishes.{CanAnnounce, caseAt, numbersAt}
 use Rattle.finder.specs.Run.{caseOf, numbersOf}
-use Rattle.solve_level.specs.Runs.{CanRun, divided, runProblem}
+use Rattle.solve_level.specs.Runs.{CanRunGame, divided, runProblem}
 use Rattle.grid.proofs.Fields.{blocks-range, indices-few, made-accepted, made-block, made-blocks, made-first}
 use Rattle.grid.proofs.Fields.{made-indices}
 use Rattle.grid.specs.Made.{gridOf, shape}
 use Rattle.grid.specs.declared.Grid.{Grid as GridStruct}
 use Rattle.grid_points.proofs.Points.{point-long}
 use Rattle.grid_points.specs.Grid.{Grid, at, blockOf, dimension, lent, next, numIndices, previous, size}
-use Rattle.solve_pass.specs.Asked.{CanPass}
+use Rattle.solve_pass.specs.Asked.{CanPassGame}
 use Rattle.game_weighed.specs.Levels.{Rests}
 use Rattle.moves.specs.Held.{stateOf}
 use Rattle.path_pass.proofs.Visits.{is-round, round-below}
@@ -36,7 +36,7 @@ use Rattle.rules.specs.Ready.{IsRound}
 use Rattle.rules.specs.Moves.{Round, State}
 
 module _ {unit : GridStruct} {divisions losses start buffer : List ℕ}
-    (C : CanRun unit divisions losses start buffer) where
+    (C : CanRunGame unit divisions losses start buffer) where
   abbrev g : Grid
   g = divided unit divisions
 
@@ -75,7 +75,7 @@ module _ {unit : GridStruct} {divisions losses start buffer : List ℕ}
       → ((h : ℕ) → h < unit .indices → at sizes h ≡ size (shape unit) (blockOf (shape unit) h))
       → (taken : List ℕ) → taken ≡ front (take (unit .indices) start) (replicate 16 0)
       → (order : List ℕ) → length order ≡ 16
-      → CanPass g (unit .firsts) (unit .block) rests losses (unit .indices)
+      → CanPassGame g (unit .firsts) (unit .block) rests losses (unit .indices)
       (roundOf (unit .previous) (unit .next) sizes) taken order
   can-pass rests resting sizes at-sizes taken e order long = record {
     game = λ y on. record {

@@ -21,7 +21,7 @@ divided unit divisions = lent (shape unit .sizes) divisions
 abbrev pub runProblem : GridStruct → List ℕ → List ℕ → Point → Problem
 runProblem unit divisions losses start = gameProblem (divided unit divisions) start losses
 
-pub record CanRun (unit : GridStruct) (divisions losses start answer : List ℕ) : Type 0 where
+pub record CanRunGame (unit : GridStruct) (divisions losses start answer : List ℕ) : Type 0 where
   pub made : IsMade unit
   pub grid : Moderate (divided unit divisions)
   pub low : all (λ d. leb d 60000) divisions ≡ true

@@ -4,7 +4,7 @@
 ghost use mathlib.Core.Path.{_≡_};
 ghost use Rattle.combinatorics.specs.Front.{front};
 ghost use Rattle.finder.specs.Run.{caseOf, numbersOf};
-ghost use Rattle.solve_level.specs.Runs.{CanRun, runProblem};
+ghost use Rattle.solve_level.specs.Runs.{CanRunGame, runProblem};
 ghost use Rattle.place.specs.Path.{answer as answerOf};
 use arrays::block_sizes;
 use arrays::padded;
@@ -23,7 +23,7 @@ pub fn run(
     answer: &mut [u16],
     budget: u64,
 ) -> RunAnswer
-    requires { ⌜ CanRun unit (now divisions) (now losses) (now start) (now answer) ⌝ }
+    requires { ⌜ CanRunGame unit (now divisions) (now losses) (now start) (now answer) ⌝ }
     ensures { λ r. ⌜ (let p = runProblem unit (now (divisions .entry)) (now (losses .entry)) (now (start .entry)) in
         r ≡ caseOf (answerOf p budget)) ⌝ }
     ensures { λ _. ⌜ (let p = runProblem unit (now (divisions .entry)) (now (losses .entry)) (now (start .entry)) in

@@ -1,5 +1,5 @@
--- The limits of question 24: they grow with the level, so the last level decides it; and a grid that passes it and 1 to 3
--- is within the limits of the path's laws. Assumes nothing.
+-- The limits of question 24: they grow with the level, so the last level decides it; and a grid that passes it and 1 to
+-- 3 is within the limits of the path's laws. Assumes nothing.
 use mathlib.Core.Bool.{Bool, true, false, _&&_}
 use mathlib.Core.List.{List, [], _∷_, _++_, map}
 use mathlib.Core.Logic.{_⊎_, inl, inr, ⊎-elim}

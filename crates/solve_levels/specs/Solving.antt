@@ -1,5 +1,5 @@
--- Solving on fine grids: each level is a run of its own with the budget, over the game's labels, and what is answered is
--- the first level that is longer, or the end of the last. Levels count from 0. Assumes nothing.
+-- Solving on fine grids: each level is a run of its own with the budget, over the game's labels, and what is answered
+-- is the first level that is longer, or the end of the last. Levels count from 0. Assumes nothing.
 use mathlib.Core.Bool.{Bool, true, false, cond}
 use mathlib.Core.List.{List, [], _∷_, map}
 use Prim.Native.Nat.{ℕ, suc, pred}
@@ -40,7 +40,8 @@ abbrev pub namedVertex : Refinement → ℕ → PathAnswer → ℕ
 namedVertex r i (spent places) = 0
 namedVertex r i (unknown places position) = 0
 namedVertex r i (ended places read kind block vertices simplex) =
-    firstNumber (λ y. eqb (suc (blockOf (levelGrid r i) (pred (gameLabel (levelGrid r i) (r .losses) y)))) block) simplex
+    firstNumber (λ y. eqb (suc (blockOf (levelGrid r i) (pred (gameLabel (levelGrid r i) (r .losses) y)))) block)
+        simplex
 
 -- "with the largest difference there, times the product of the divisions"
 abbrev pub namedGain : Refinement → ℕ → PathAnswer → ℤ

@@ -1,4 +1,5 @@
--- Worked rows of the questions of solving on fine grids: their order, and their limits. By computation. Assumes nothing.
+-- Worked rows of the questions of solving on fine grids: their order, and their limits. By computation. Assumes
+-- nothing.
 use mathlib.Core.List.{List, [], _∷_}
 use mathlib.Core.Path.{_≡_, refl}
 use Prim.Native.Nat.{ℕ}

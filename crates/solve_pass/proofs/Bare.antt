@@ -16,7 +16,7 @@ use Rattle.rules.specs.Mask.{bit}
 use Rattle.rules.specs.Ready.{Ready, ReadyFirst, ReadyLast, ReadyLeave, ReadyGrow, labelIn}
 use Rattle.rules.specs.Moves.{State, After, goes, firstOutside, grow, isFilled, leave, leaveFirst, leaveLast}
 use Rattle.rules.specs.Moves.{leaveMiddle, makeMove, mark, markLabel, shrink, sourceIn}
-use Rattle.solve_pass.specs.Bare.{bare, bareAfter}
+use Rattle.solve_pass.specs.Bare.{bareState, bareAfter}
 
 -- edits of lists, and a function on each element
 module _ (f : ℕ → ℕ) where
@@ -61,29 +61,26 @@ label-at [] i = refl
 label-at (m ∷ l) zero = omega arith
 label-at (m ∷ l) (suc i) = label-at l i
 
-pub mark-label : (position label : ℕ) → label < 256 → markLabel (mark position label) ≡ label
-mark-label position label l = omega arith
-
 module _ (s : State) where
-  shrink-bare : (i e : ℕ) (intoU : Bool) → shrink (bare s) i e intoU ≡ bare (shrink s i e intoU)
+  shrink-bare : (i e : ℕ) (intoU : Bool) → shrink (bareState s) i e intoU ≡ bareState (shrink s i e intoU)
   unfolding shrink
   shrink-bare i e intoU = rw (map-remove markLabel i s.marks, twice (removeAt i s.marks))
 
-  first-bare : leaveFirst (bare s) ≡ bareAfter (leaveFirst s)
+  first-bare : leaveFirst (bareState s) ≡ bareAfter (leaveFirst s)
   unfolding leaveFirst
   first-bare =
       let b = sourceIn s (at s.order 0) in
       ⊎-elim (λ e. rw e) (λ e. rw e (rw (map-left markLabel s.marks)))
       (true-or-false ((eqb (at s.first b) 1 && not (bit s.T b)) && isFilled s.round s.T s.U b))
 
-  middle-bare : (i : ℕ) → leaveMiddle (bare s) i ≡ bare (leaveMiddle s i)
+  middle-bare : (i : ℕ) → leaveMiddle (bareState s) i ≡ bareState (leaveMiddle s i)
   unfolding leaveMiddle
   middle-bare i =
       let b = sourceIn s (at s.order i) in
       ⊎-elim (λ e. rw e (shrink-bare i (i - 1) true)) (λ e. rw e)
       (true-or-false (eqb (at s.order (i - 1)) b && eqb (at s.first b) 0))
 
-  last-bare : leaveLast (bare s) ≡ bare (leaveLast s)
+  last-bare : leaveLast (bareState s) ≡ bareState (leaveLast s)
   unfolding leaveLast
   last-bare =
       let t = length s.order in
@@ -96,7 +93,7 @@ module _ (s : State) where
       (true-or-false (eqb (at s.coefficients h) 0))))
       (true-or-false (eqb (at s.first h) 0))
 
-  leave-bare : (i : ℕ) → leave (bare s) i ≡ bareAfter (leave s i)
+  leave-bare : (i : ℕ) → leave (bareState s) i ≡ bareAfter (leave s i)
   unfolding leave
   leave-bare i =
       ⊎-elim (λ (z : i ≡ 0). rw (eq-eqb i 0 z) first-bare)
@@ -107,7 +104,7 @@ module _ (s : State) where
       (before-or-not i (length s.order))))
       (same-or i 0)
 
-  grow-bare : (h : ℕ) → grow (bare s) h ≡ bareAfter (grow s h)
+  grow-bare : (h : ℕ) → grow (bareState s) h ≡ bareAfter (grow s h)
   unfolding grow
   grow-bare h =
       let ahead = firstOutside s.round.next s.round.sizes s.U h in
@@ -115,7 +112,7 @@ module _ (s : State) where
       ⊎-elim (λ e. rw e) (λ e. rw e (rw (map-insert markLabel (suc i) 0 s.marks)))
       (true-or-false (not (bit s.U h) && isFilled s.round s.T s.U h))
 
-  pub move-bare : makeMove (bare s) ≡ bareAfter (makeMove s)
+  pub move-bare : makeMove (bareState s) ≡ bareAfter (makeMove s)
   unfolding makeMove
   move-bare =
       ⊎-elim
@@ -127,7 +124,7 @@ module _ (s : State) where
       (λ e. rw e (leave-bare s.active))
       (true-or-false (ltb s.rule 6))
 
-  ready-leave : (i : ℕ) → ReadyLeave s i → ReadyLeave (bare s) i
+  ready-leave : (i : ℕ) → ReadyLeave s i → ReadyLeave (bareState s) i
   ready-leave i R = record {
     low = R .low;
     few = R .few;
@@ -136,7 +133,7 @@ module _ (s : State) where
     last = λ z. let L = R .last z in record { some = L .some; fits = L .fits; lowered = L .lowered };
   }
 
-  pub ready-bare : Ready s → Ready (bare s)
+  pub ready-bare : Ready s → Ready (bareState s)
   ready-bare R = record {
     orderBelow = R .orderBelow;
     active = R .active;

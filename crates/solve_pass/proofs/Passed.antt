@@ -14,8 +14,8 @@ use Rattle.end_kinds.specs.declared.Kind.{Kind}
 use Rattle.end_kinds.specs.declared.Kind.the-variants.{Facet as facetEnd, Place as placeEnd}
 use Rattle.grid_points.specs.Grid.{Grid, at, numIndices}
 use Rattle.solve_pass.proofs.Places.{BareAt, at-facet-end, at-place-end, can-visit, leads, leads-to, moved-on}
-use Rattle.solve_pass.specs.Bare.{bare, bareAfter, labelled}
-use Rattle.solve_pass.specs.Asked.{CanPass, CanVisit}
+use Rattle.solve_pass.specs.Bare.{bareState, bareAfter, labelled}
+use Rattle.solve_pass.specs.Asked.{CanPassGame, CanVisitGame}
 use Rattle.moves.specs.Held.{stateOf}
 use Rattle.moves.specs.declared.Status.{Status}
 use Rattle.path_laws.proofs.Filled.{FullyLabelled}
@@ -34,7 +34,7 @@ use Rattle.rules.specs.Ready.{IsRound, RoundBelow}
 use Rattle.rules.specs.Moves.{After, Round, State, begun, endsAtFacet, endsAtPlace, goes, makeMove}
 
 pub game-full : {g : Grid} {firsts owners rests losses : List ℕ} {indices : ℕ} {round : Round} {first order : List ℕ}
-    → CanPass g firsts owners rests losses indices round first order
+    → CanPassGame g firsts owners rests losses indices round first order
     → FullyLabelled (gameProblem g (take indices first) losses)
 game-full {g} {firsts} {owners} {rests} {losses} {indices} {round} {first} w =
     let m = w .game (take indices first) (w .start) .grid in
@@ -49,20 +49,20 @@ game-full {g} {firsts} {owners} {rests} {losses} {indices} {round} {first} w =
     }) (w .start)
 
 -- the labels read at the places up to number k, from 0
-abbrev pub HasRead : Problem → ℕ → ℕ → Type 0
-HasRead p k labels = labels ≡ suc (cameIn (path p .visited) k)
+abbrev pub HasReadSoFar : Problem → ℕ → ℕ → Type 0
+HasReadSoFar p k labels = labels ≡ suc (cameIn (path p .visited) k)
 
-pub begins-reading : (p : Problem) (labels rule : ℕ) → labels ≡ labelsAt rule → rule ≡ 1 → HasRead p 0 labels
+pub begins-reading : (p : Problem) (labels rule : ℕ) → labels ≡ labelsAt rule → rule ≡ 1 → HasReadSoFar p 0 labels
 begins-reading p labels rule e r = rw (e, r, came-none (path p .visited)) refl
 
 -- the place's number is what is spent of the budget
 pub record Passing (p : Problem) (budget : ℕ) (a : Stand) (s : State) : Type 0 where
   pub here : BareAt p s (budget - a .left)
   pub low : a .left ≤ budget
-  pub read : HasRead p (budget - a .left) (a .labels)
+  pub read : HasReadSoFar p (budget - a .left) (a .labels)
 
 module _ {g : Grid} {firsts owners rests losses : List ℕ} {indices : ℕ} {round : Round} {first order₀ : List ℕ}
-    (w : CanPass g firsts owners rests losses indices round first order₀) where
+    (w : CanPassGame g firsts owners rests losses indices round first order₀) where
   abbrev p : Problem
   p = gameProblem g (take indices first) losses
 
@@ -89,8 +89,8 @@ module _ {g : Grid} {firsts owners rests losses : List ℕ} {indices : ℕ} {rou
           B .zeros k l ∙ rw (le-ltb k indices x, le-ltb k (numIndices g) (omega (arith, w .many))))
           (before-or-not k indices)
 
-  pub reads-on : (k labels : ℕ) → HasRead p k labels → (e : State) → BareAt p e (suc k)
-      → HasRead p (suc k) (labels + labelsAt (e .rule))
+  pub reads-on : (k labels : ℕ) → HasReadSoFar p k labels → (e : State) → BareAt p e (suc k)
+      → HasReadSoFar p (suc k) (labels + labelsAt (e .rule))
   reads-on k labels R e B =
       rw (came-next (path p .visited) k, at-new (game-full w) (B .at), R, ap (λ (x : State). x .rule) (B .is))
       (omega arith)
@@ -106,7 +106,7 @@ module _ {g : Grid} {firsts owners rests losses : List ℕ} {indices : ℕ} {rou
     within : k < budget
     within = omega (arith, P .low, more)
 
-    pub can-look : RoundBelow (s .round) → CanVisit g firsts owners rests losses indices s
+    pub can-look : RoundBelow (s .round) → CanVisitGame g firsts owners rests losses indices s
     can-look below =
         can-visit g (take indices first) losses (game-full w) s k (P .here) rests (w .resting) below (w .many) (w .game)
 

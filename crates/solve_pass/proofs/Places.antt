@@ -15,10 +15,10 @@ use Rattle.end_kinds.specs.declared.Kind.{Kind}
 use Rattle.end_kinds.specs.declared.Kind.the-variants.{Facet as facetEnd, Place as placeEnd}
 use Rattle.grid_points.proofs.Points.{in-points, position-in}
 use Rattle.grid_points.specs.Grid.{Grid, Point, isGridPoint, lent, numIndices, points, position}
-use Rattle.solve_pass.proofs.Bare.{map-set, mark-label, move-bare, ready-bare}
+use Rattle.solve_pass.proofs.Bare.{map-set, move-bare, ready-bare}
 use Rattle.solve_pass.proofs.Points.{labelled-none}
-use Rattle.solve_pass.specs.Bare.{bare, bareAfter, labelled}
-use Rattle.solve_pass.specs.Asked.{CanVisit}
+use Rattle.solve_pass.specs.Bare.{bareState, bareAfter, labelled}
+use Rattle.solve_pass.specs.Asked.{CanVisitGame}
 use Rattle.game_losses.specs.Game.{gameLabel, labels}
 use Rattle.path_laws.proofs.Filled.{FullyLabelled, full-label}
 use Rattle.place.specs.Problem.{Problem, label}
@@ -26,6 +26,7 @@ use Rattle.game_weighed.specs.Levels.{Rests}
 use Rattle.game_point.specs.Label.{GameAt}
 use Rattle.positions.proofs.Positions.{at-positionIn}
 use Rattle.refinement_levels.specs.Levels.{gameProblem}
+use Rattle.rules.proofs.Marks.{label-in}
 use Rattle.rules.proofs.Follow.{At, EndsAt, NextAt, nextPlace, placeEnds, facetEnds, at-first, at-next, at-reads}
 use Rattle.rules.proofs.Follow.{at-ready}
 use Rattle.rules.specs.Read.{pointIn, pointOn, read}
@@ -44,7 +45,7 @@ game-label g start losses ok y h =
 
 -- a state without positions stands at an end as one with positions
 ends-bare : {p : Problem} {kind : Kind} {from : ℕ} {e : State} {h k : ℕ} → EndsAt p kind from e h k
-    → EndsAt p kind from (bare e) h k
+    → EndsAt p kind from (bareState e) h k
 ends-bare E = record {
   firstLength = E .firstLength;
   index = E .index;
@@ -59,7 +60,7 @@ ends-bare E = record {
 pub record BareAt (p : Problem) (s : State) (k : ℕ) : Type 0 where
   pub full : State
   pub at : At p full k
-  pub is : s ≡ bare full
+  pub is : s ≡ bareState full
 
 module _ {p : Problem} {k : ℕ} where
   pub moved-on : {w : After} {x : State} → NextAt p k w → goes x ≡ bareAfter w → BareAt p x (suc k)
@@ -71,7 +72,7 @@ module _ {p : Problem} {k : ℕ} where
       → EndsAt p placeEnd 0 x h k
   at-place-end (nextPlace A) q = absurd (let z : _≡_ {A = ℕ} 0 1 = cc in omega arith)
   at-place-end {x = x} {h = h} (placeEnds {e = e} {h = i} E) q =
-      let y : x ≡ bare e = cc in
+      let y : x ≡ bareState e = cc in
       let z : h ≡ i = cc in
       rw (y, z) (ends-bare E)
   at-place-end (facetEnds E) q = absurd (let z : _≡_ {A = ℕ} 0 1 = cc in omega arith)
@@ -81,7 +82,7 @@ module _ {p : Problem} {k : ℕ} where
   at-facet-end (nextPlace A) q = absurd (let z : _≡_ {A = ℕ} 0 1 = cc in omega arith)
   at-facet-end (placeEnds E) q = absurd (let z : _≡_ {A = ℕ} 0 1 = cc in omega arith)
   at-facet-end {x = x} {h = h} (facetEnds {e = e} {h = i} E) q =
-      let y : x ≡ bare e = cc in
+      let y : x ≡ bareState e = cc in
       let z : h ≡ i = cc in
       rw (y, z) (ends-bare E)
 
@@ -103,7 +104,7 @@ module _ (g : Grid) (start : Point) (losses : List ℕ) (ok : FullyLabelled (gam
         ok .hasStart .sixteenIndices,
       )
 
-  labelled-bare : labelled g losses (bare e) ≡ bare (read p e)
+  labelled-bare : labelled g losses (bareState e) ≡ bareState (read p e)
   unfolding labelled read withMark
   labelled-bare = ⊎-elim
       (λ (r : e .rule < 6).
@@ -112,7 +113,7 @@ module _ (g : Grid) (start : Point) (losses : List ℕ) (ok : FullyLabelled (gam
         sym (game-label g start losses ok (pointIn p e (e .active)) (at-reads ok (B .at) .1)),
         sym (map-set markLabel (e .marks) (e .active)
             (mark (position g (pointIn p e (e .active))) (label p (pointIn p e (e .active))))),
-        mark-label (position g (pointIn p e (e .active))) (label p (pointIn p e (e .active))) few,
+        label-in (position g (pointIn p e (e .active))) (label p (pointIn p e (e .active))) few,
       )))
       (λ (r : 6 ≤ e .rule). rw (le-ltb (e .rule) 6 r))
       (before-or-not (e .rule) 6)
@@ -120,9 +121,9 @@ module _ (g : Grid) (start : Point) (losses : List ℕ) (ok : FullyLabelled (gam
   pub can-visit : {firsts owners : List ℕ} (rests : List ℕ) {indices : ℕ} → Rests (lent (g .sizes) []) rests
       → RoundBelow (s .round) → indices ≡ numIndices g
       → ((y : Point) → isGridPoint g y ≡ true → GameAt g firsts owners losses y)
-      → CanVisit g firsts owners rests losses indices s
+      → CanVisitGame g firsts owners rests losses indices s
   can-visit {firsts} {owners} rests {indices} resting below many game =
-      subst (CanVisit g firsts owners rests losses indices) (sym (B .is)) (record {
+      subst (CanVisitGame g firsts owners rests losses indices) (sym (B .is)) (record {
         below = subst (λ (x : State). RoundBelow (x .round)) (B .is) below;
         labels = λ r. let w = at-reads ok (B .at) in record {
           below = subst (λ (x : State). RoundBelow (x .round)) (B .is) below .backward;

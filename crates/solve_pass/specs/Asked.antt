@@ -24,13 +24,14 @@ pub record CanLabel (g : Grid) (firsts owners rests losses : List ℕ) (indices 
   pub resting : Rests (lent (g .sizes) []) rests
 
 -- what one place of the pass asks
-pub record CanVisit (g : Grid) (firsts owners rests losses : List ℕ) (indices : ℕ) (a : State) : Type 0 where
+pub record CanVisitGame (g : Grid) (firsts owners rests losses : List ℕ) (indices : ℕ) (a : State) : Type 0 where
   pub below : RoundBelow (a .round)
   pub labels : a .rule < 6 → CanLabel g firsts owners rests losses indices a
   pub ready : Ready (labelled g losses a)
 
 -- what the pass asks
-pub record CanPass (g : Grid) (firsts owners rests losses : List ℕ) (indices : ℕ) (round : Round) (first order : List ℕ)
+pub record CanPassGame (g : Grid) (firsts owners rests losses : List ℕ) (indices : ℕ) (round : Round)
+    (first order : List ℕ)
     : Type 0 where
   pub game : (y : Point) → isGridPoint g y ≡ true → GameAt g firsts owners losses y
   pub resting : Rests (lent (g .sizes) []) rests

@@ -23,13 +23,13 @@ withMarks s marks = record {
 }
 
 -- each mark without its position
-abbrev pub bare : State → State
-bare s = withMarks s (map markLabel (s .marks))
+abbrev pub bareState : State → State
+bareState s = withMarks s (map markLabel (s .marks))
 
 abbrev pub bareAfter : After → After
-bareAfter (goes s) = goes (bare s)
-bareAfter (endsAtPlace s h) = endsAtPlace (bare s) h
-bareAfter (endsAtFacet s h) = endsAtFacet (bare s) h
+bareAfter (goes s) = goes (bareState s)
+bareAfter (endsAtPlace s h) = endsAtPlace (bareState s) h
+bareAfter (endsAtFacet s h) = endsAtFacet (bareState s) h
 
 -- the label of the point that has just come in is worked out; after rules 6 and 7 none has
 unfoldable pub labelled : Grid → List ℕ → State → State

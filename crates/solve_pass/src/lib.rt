@@ -8,7 +8,7 @@ ghost use lib.ListN.{take};
 ghost use Rattle.arrays.specs.Rounds.{round, roundBack};
 ghost use Rattle.grid_points.specs.Grid.{lent};
 ghost use Rattle.solve_pass.specs.Bare.{labelled};
-ghost use Rattle.solve_pass.specs.Asked.{CanLabel, CanPass, CanVisit};
+ghost use Rattle.solve_pass.specs.Asked.{CanLabel, CanPassGame, CanVisitGame};
 ghost use Rattle.game_losses.specs.Game.{gameLabel};
 ghost use Rattle.moves.specs.Held.{GivesAll, held, stateOf};
 ghost use Rattle.path_pass.specs.Finish.{Finished};
@@ -84,7 +84,7 @@ fn visit(
     ghost { State }
     requires { λ a. ⌜ held (round previous next «block_sizes») first coefficients order marks s ≡ a ⌝ }
     requires { λ _. ⌜ SixteenEach (now order) (now marks) ⌝ }
-    requires { λ a. ⌜ CanVisit (lent (now sizes) (now divisions)) (now firsts) (now owners) (now rests) (now losses)
+    requires { λ a. ⌜ CanVisitGame (lent (now sizes) (now divisions)) (now firsts) (now owners) (now rests) (now losses)
         indices a ⌝ }
     ensures { λ a r. ⌜ (let g = lent (now (sizes .entry)) (now (divisions .entry)) in
         GivesAll a first coefficients order marks s r (makeMove (labelled g (now (losses .entry)) a))) ⌝ }
@@ -138,7 +138,7 @@ pub fn pass(
 ) -> Finish
     ghost { Round }
     requires { λ w. ⌜ round previous next «block_sizes» ≡ w ⌝ }
-    requires { λ w. ⌜ CanPass (lent (now sizes) (now divisions)) (now firsts) (now owners) (now rests) (now losses)
+    requires { λ w. ⌜ CanPassGame (lent (now sizes) (now divisions)) (now firsts) (now owners) (now rests) (now losses)
         indices w (now first) (now order) ⌝ }
     ensures { λ w r. ⌜ (let g = lent (now (sizes .entry)) (now (divisions .entry)) in
         Finished (gameProblem g (take indices (now (first .entry))) (now (losses .entry))) budget w

@@ -159,7 +159,8 @@ module _ {g : GridStruct} {w : WalkStruct} {labels first order : List ℕ} {n : 
   points-here : pointsFrom filled state 0 ≡ here
   points-here =
       all-points (full (ok (C .sees)) y o (C .place)) (describes (ok (C .sees)) y o (C .place) state lent)
-      ∙ pointsOf-coefficientsOf (filled-full (accepted-table (ok (C .sees))) .hasStart) here (parts filled here (place-filled (ok
+      ∙ pointsOf-coefficientsOf (filled-full (accepted-table (ok (C .sees))) .hasStart) here
+          (parts filled here (place-filled (ok
       (C .sees)) y o (C .place)) .gridPoints)
 
   numbers-here : numbersFrom (g .indices) told 0 ≡ concatMap (λ y. y) here

@@ -273,8 +273,12 @@ module _ {p : Problem} (ok : Accepted p) where
       ≡ readingOf (withLabels p others) (called p i .read) (some (called p i .present))
   unfolding reading
   trail-at i c others rest =
-      rw (stands i c, path-trail (accepted-table ok) .labelsSoFar others rest i c, path-trail (accepted-table ok)
-          .reads others rest i c)
+      rw (
+        stands i c,
+        path-trail (accepted-table ok) .labelsSoFar others rest i c,
+        path-trail (accepted-table ok)
+            .reads others rest i c,
+      )
 
   pub calls-follow : CallsFollow p
   calls-follow = record {

@@ -15,7 +15,7 @@ use Rattle.game_losses.specs.Weights.{weighed}
 use Rattle.game_weighed.specs.Levels.{behind}
 use Rattle.game_point.proofs.Opponents.{at-last, at-own, can-part, from-own, no-more, one-more, part, row-inside}
 use Rattle.game_point.proofs.Opponents.{total-is, total-low}
-use Rattle.game_point.specs.Weighing.{weightsFrom, CanWeigh}
+use Rattle.game_point.specs.Weighing.{weightsFrom, CanWeighLosses}
 use Rattle.grid_counts.proofs.wide.Reads as wide-reads
 use Rattle.game_point.proofs.weighing.rest_behind.Reads as rest-behind-reads
 use Rattle.game_point.proofs.weighing.long64.Reads as long64-reads
@@ -64,7 +64,7 @@ module _ (t : ℕ) (c : weigh-lts.At-loop (claims t) (weigh-at t) weigh.Post Inv
   abbrev g : Grid
   g = lent (start .args .sizes .now) []
 
-  can : CanWeigh g (start .args .firsts .now) (start .args .rests .now) (start .args .point .now)
+  can : CanWeighLosses g (start .args .firsts .now) (start .args .rests .now) (start .args .point .now)
       (start .args .losses .now) (start .args .player) (start .args .block)
   can = start .pre .1
 
