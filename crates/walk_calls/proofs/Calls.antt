@@ -108,7 +108,7 @@ places-few g w labels G =
     let P = moved-passes (walkOn g w) labels (G .to) (G .moves) .0 in
     let ok = P .accepted .hasStart in
     let few : numPoints g * sum (map (falling (numIndices g)) (upFrom 0 (suc (dimension g)))) ≤ 60000 * 35951249665217 =
-    mul-le-mul (ok .points) (terms-few (numIndices g) (dimension g) (ok .sixteenIndices)
+    mul-le-mul (P .accepted .points) (terms-few (numIndices g) (dimension g) (ok .sixteenIndices)
     (omega (arith, ok .sixteenIndices, ok .someBlock))) in
     (omega (arith, P .stands .bounded, few), omega (arith, P .stands .bounded, P .stands .readFew, few))
 
