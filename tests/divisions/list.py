@@ -14,7 +14,7 @@ ROOT = pathlib.Path(__file__).resolve().parents[2]
 
 # the crates that find a point's position, prepare for it and read what is kept of it
 WITHOUT = ["positions", "rules", "arrays", "moves", "ways", "marks", "path_pass", "finder", "checker", "nearest_met",
-           "nearest_pass", "nearest", "trail_pass", "trail_steps", "trail_reader", "walk_recogniser", "walk_places",
+           "nearest_pass", "nearest", "trail_pass", "trail_reader", "walk_recogniser", "walk_places",
            "walk_labels", "walk_ways", "walk_next", "walk_calls", "walk_views"]
 
 REASONS = {
@@ -24,6 +24,7 @@ REASONS = {
     "rounding::centre": "the centre in ten-thousandths, rounded",
     "text::decimal": "a number's decimal digits",
     "trail_following::low_bit": "one bit of a record's first byte",
+    "trail_steps::way_on": "two bits of a record's first byte",
 }
 
 
