@@ -40,7 +40,8 @@ fn nothing() -> FoundSets
 }
 
 // Recognises the first n + 1 points of a first point and an order, and puts the first point's coefficients and the
-// positions of all points, in marks without labels, into their arrays.
+// positions of all points, in marks without labels, into their arrays. Where they are none, what the two arrays hold is
+// free: some of these numbers may stand there, and a caller that is told no reads neither.
 pub fn recognise(
     g: Grid,
     binomials: &[u16; ENTRIES],
