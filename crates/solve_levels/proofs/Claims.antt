@@ -143,7 +143,7 @@ module _ (r : Refinement) (levels room : ℕ) (e : firstNo (solveQuestions r lev
   -- budgets that reach the end answer alike: no level is longer, and the last has the same answer
   alike : (b c : ℕ) → Solves r levels b room → Solves r levels c room
       → (solveAnswer r levels b room ≡ solveAnswer r levels c room)
-          × (levelAnswers r levels b ≡ levelAnswers r levels c)
+      × (levelAnswers r levels b ≡ levelAnswers r levels c)
   alike b c s t =
       (answered b ∙ go (first b) (first c) ∙ sym (answered c), same-levels b c v w 0 levels (omega arith))
     where

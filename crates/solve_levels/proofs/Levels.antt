@@ -24,7 +24,7 @@ use Rattle.solve_levels.specs.Questions.{solveQuestions}
 module _ (r : Refinement) (levels room : ℕ) (e : firstNo (solveQuestions r levels room) ≡ 0) where
   first : (solveQuestion18 (r .factor) levels .answeredYes ≡ true)
       × (firstNo (shapeQuestions (r .grid) ++ (limitQuestions (r .grid) (r .factor) levels ++ laterQuestions r room))
-          ≡ 0)
+      ≡ 0)
   first = first-yes (solveQuestion18 (r .factor) levels) _ (omega arith) e
 
   some : 1 ≤ r .factor

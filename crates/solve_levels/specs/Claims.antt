@@ -40,7 +40,7 @@ pub record Solved (r : Refinement) (levels room : ℕ) : Type 0 where
   -- any two budgets that reach an end agree
   pub alike : (b c : ℕ) → Solves r levels b room → Solves r levels c room
       → (solveAnswer r levels b room ≡ solveAnswer r levels c room)
-          × (levelAnswers r levels b ≡ levelAnswers r levels c)
+      × (levelAnswers r levels b ≡ levelAnswers r levels c)
 
 abbrev pub EverySolve : Type 0
 EverySolve = (r : Refinement) (levels room : ℕ) → firstNo (solveQuestions r levels room) ≡ 0 → Solved r levels room

@@ -41,7 +41,7 @@ namedVertex r i (spent places) = 0
 namedVertex r i (unknown places position) = 0
 namedVertex r i (ended places read kind block vertices simplex) =
     firstNumber (λ y. eqb (suc (blockOf (levelGrid r i) (pred (gameLabel (levelGrid r i) (r .losses) y)))) block)
-        simplex
+    simplex
 
 -- "with the largest difference there, times the product of the divisions"
 abbrev pub namedGain : Refinement → ℕ → PathAnswer → ℤ

@@ -160,7 +160,7 @@ module _ {g : GridStruct} {w : WalkStruct} {labels first order : List ℕ} {n : 
   points-here =
       all-points (full (ok (C .sees)) y o (C .place)) (describes (ok (C .sees)) y o (C .place) state lent)
       ∙ pointsOf-coefficientsOf (filled-full (accepted-table (ok (C .sees))) .hasStart) here
-          (parts filled here (place-filled (ok
+      (parts filled here (place-filled (ok
       (C .sees)) y o (C .place)) .gridPoints)
 
   numbers-here : numbersFrom (g .indices) told 0 ≡ concatMap (λ y. y) here
