@@ -45,7 +45,8 @@ def sheet(arguments: Arguments) -> None:
 def refine(arguments: Arguments) -> None:
     """Solve the game on finer and finer grids, and print each level's centre and the largest gain that is left there.
 
-    Gains are in payoffs where a Gambit file was brought, and else in losses. A grid has at most 60,000 points; below
+    Behind it stand the largest gain at the first vertex whose label is of the block, and what it is proved to be at
+    most. Gains are in payoffs where a Gambit file was brought, and else in losses. A grid has at most 60,000 points; below
     stands how fine one division for all blocks can be, and --finest leads there from the corner.
     """
     brought = _brought(arguments)
@@ -57,7 +58,8 @@ def refine(arguments: Arguments) -> None:
         _, factor, levels = refining.to_finest(game.sizes)
     elif levels is None:
         levels = refining.most_levels(game, factor)
-    print(refining.aligned([refining.HEADINGS, *refining.rows(game, factor, levels, brought.exact_losses())]), end="")
+    rows = refining.rows(game, factor, levels, brought.exact_losses(), brought.unit())
+    print(refining.aligned([refining.HEADINGS, *rows]), end="")
     _say_rounding(brought)
 
 

@@ -5,6 +5,7 @@ import pathlib
 import re
 import sys
 from dataclasses import replace
+from fractions import Fraction
 from typing import NamedTuple
 
 from . import gambit, texts
@@ -28,6 +29,10 @@ class Brought(NamedTuple):
         if self.game:
             return self.game.missed()
         return decode(self.slip).loss_table()
+
+    def unit(self) -> Fraction:
+        """What one of the slip's losses is worth in what was brought."""
+        return self.losses.unit if self.losses else Fraction(1)
 
     def rounding(self) -> str | None:
         """How the payoffs were rounded, in words, or None where every label is that of what was brought."""

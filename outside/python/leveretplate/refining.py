@@ -15,7 +15,8 @@ MOST_FACTOR = 10
 SHOWN = ([2], [3], [4], [2, 2], [3, 3], [4, 4], [5, 5], [2, 2, 2], [3, 3, 3], [4, 4, 4], [2] * 4, [3] * 4,
          [2] * 5, [2] * 6)
 
-HEADINGS = ("level", "divisions", "places", "labels read", "end", "block", "centre", "largest gain")
+HEADINGS = ("level", "divisions", "places", "labels read", "end", "block", "centre", "largest gain", "at a vertex",
+            "proved at most")
 
 
 def most_levels(slip: Slip, factor: int) -> int:
@@ -65,16 +66,43 @@ def finest_table() -> list[tuple[str, ...]]:
     return table
 
 
-def rows(slip: Slip, factor: int, levels: int, losses: Losses) -> Iterator[tuple[str, ...]]:
-    """A row of text for each level, under HEADINGS; gains are worked out exactly, in what was brought."""
-    ends = refine(slip.sizes, slip.divisions, slip.first(), slip.loss_table(), factor, levels).ends
+def near(sizes: Sequence[int], divisions: Sequence[int], losses: Sequence[int], vertices: Sequence[Sequence[int]],
+         block: int) -> tuple[Fraction, Fraction]:
+    """The largest gain at the first vertex whose label is an index of the block named, and its proved bound.
+
+    The label of a point is the index with the largest gain, the first of equal ones, so the vertex is the first at
+    which a player of that block gains most. The bound is 2 R times the sum over the other blocks of half their size,
+    rounded down, to their division, R being the largest loss less the smallest: the library's theorem of accuracy.
+    These are two vertices of game 2 with all divisions 6; the second has label 9.
+
+    >>> from leveretplate.games import BUILT_IN
+    >>> vertices = [[3, 3, 0, 1, 5, 0, 0, 4, 2], [3, 3, 0, 0, 6, 0, 0, 4, 2]]
+    >>> near(BUILT_IN[2][0], [6, 6, 6], BUILT_IN[2][1], vertices, 3)
+    (Fraction(1, 3), Fraction(16, 3))
+    """
+    at = [d for size, d in zip(sizes, divisions) for _ in range(size)]
+    gains = (largest_gain(sizes, losses, [Fraction(n, d) for n, d in zip(vertex, at)]) for vertex in vertices)
+    there = next(gain for gain in gains if gain.player == block)
+    others = (Fraction(size // 2, d) for l, (size, d) in enumerate(zip(sizes, divisions), 1) if l != block)
+    return there.amount, 2 * (max(losses) - min(losses)) * sum(others, Fraction(0))
+
+
+def rows(slip: Slip, factor: int, levels: int, losses: Losses, unit: Fraction) -> Iterator[tuple[str, ...]]:
+    """A row of text for each level, under HEADINGS; gains are worked out exactly, in what was brought.
+
+    The gain at a vertex and its bound are those of the losses that the library was lent, of this unit each.
+    """
+    lent = slip.loss_table()
+    ends = refine(slip.sizes, slip.divisions, slip.first(), lent, factor, levels).ends
     for level, end in enumerate(ends):
         divisions = [factor ** level * d for d in slip.divisions]
         middle = centre(slip.sizes, divisions, end.vertices)
         gain = largest_gain(slip.sizes, losses, middle)
+        there, bound = near(slip.sizes, divisions, lent, end.vertices, end.block)
         yield (str(level), " ".join(map(str, divisions)), str(end.places), str(end.labels_read), end.kind,
                str(end.block), " ".join(f"{float(number):.4f}" for number in middle),
-               f"{decimal(gain.amount)} by player {gain.player}, index {gain.index}")
+               f"{decimal(gain.amount)} by player {gain.player}, index {gain.index}",
+               decimal(unit * there), decimal(unit * bound))
 
 
 def decimal(number: Fraction) -> str:

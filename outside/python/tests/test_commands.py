@@ -7,12 +7,13 @@ import random
 import re
 import tempfile
 import unittest
+from math import prod
 
 import leveretplate
 from leveretplate import Refused, run
 from leveretplate.__main__ import FLAGS, main, parser
 from leveretplate.grids import corner, count_points
-from leveretplate.refining import finest, to_finest
+from leveretplate.refining import finest, near, to_finest
 
 from .commands import SAMPLES, command
 
@@ -55,6 +56,18 @@ class Commands(unittest.TestCase):
         lines = self.answer("refine", SAMPLES / "game-1.txt", "--divisions", 1).splitlines()
         self.assertEqual(len(lines), 7)
         self.assertIn("0.2031 0.7969 0.4297 0.5703 0.6953 0.3047  0.0444 by player 2, index 4", lines[-1])
+
+    def test_gain_within_its_bound(self) -> None:
+        chance = random.Random(44)
+        for _ in range(200):
+            sizes = [chance.randint(2, 3) for _ in range(chance.randint(1, 3))]
+            losses = [chance.randint(1, 1000) for _ in range(len(sizes) * prod(sizes))]
+            divisions = [chance.randint(1, 2) for _ in sizes]
+            ends = leveretplate.refine(sizes, divisions, corner(sizes, divisions), losses, 2, 2).ends
+            for level, end in enumerate(ends):
+                finer = [2 ** level * division for division in divisions]
+                gain, bound = near(sizes, finer, losses, end.vertices, end.block)
+                self.assertLessEqual(gain, bound)
 
     def test_refine_refused(self) -> None:
         for options in (["--levels", 0], ["--factor", 1], ["--factor", 11, "--levels", 1]):
