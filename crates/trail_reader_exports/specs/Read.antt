@@ -1,5 +1,6 @@
 -- What the reader of a trail answers and writes for C and Rust: the numbers of each case of an enum. Assumes nothing.
 use mathlib.Core.List.{List, [], _∷_}
+use mathlib.Core.Path.{_≡_}
 use Prim.Native.Nat.{ℕ}
 use Rattle.trail_reader.specs.declared.answers.ReadAnswer.{ReadAnswer}
 use Rattle.trail_reader.specs.declared.answers.ReadAnswer.the-variants.{Place, Refused}
@@ -13,3 +14,7 @@ readNumber (Place points t u read) = 0
 abbrev pub placeFacts : ReadAnswer → List ℕ
 placeFacts (Refused number) = []
 placeFacts (Place points t u read) = points ∷ t ∷ u ∷ read ∷ []
+
+-- The numbers tell the answer: two answers with the same number and the same facts are the same.
+abbrev pub ReadNumbersTell : Type 0
+ReadNumbersTell = (a b : ReadAnswer) → readNumber a ≡ readNumber b → placeFacts a ≡ placeFacts b → a ≡ b
