@@ -65,6 +65,9 @@ module _ {A : Type 0} (E : Equality A) where
   pub in_here : (x : A) (xs : List A) → is_in eq x (x ∷ xs) ≡ true
   in_here x xs = or_left _ _ (self x)
 
+  pub in_first : (x y : A) (xs : List A) → x ≡ y → is_in eq x (y ∷ xs) ≡ true
+  in_first x y xs e = subst (λ (z : A). is_in eq z (y ∷ xs) ≡ true) (sym e) (in_here y xs)
+
   pub in_later : (x y : A) (xs : List A) → is_in eq x xs ≡ true → is_in eq x (y ∷ xs) ≡ true
   in_later x y xs m = or_right (eq x y) _ m
 
@@ -119,7 +122,7 @@ module _ {A : Type 0} (E : Equality A) where
   filter_in q x [] m = absurd_bool (sym m)
   filter_in q x (y ∷ ys) m =
       ⊎_elim
-      (λ t. ⊎_elim (λ e. (rw e (in_here y ys), rw e t)) (λ n. let i = filter_in q x ys n in (in_later x y ys i.0, i.1))
+      (λ t. ⊎_elim (λ e. (in_first x y ys e, rw e t)) (λ n. let i = filter_in q x ys n in (in_later x y ys i.0, i.1))
       (in_cases x y (filter q ys) (rw t at m)))
       (λ f. let i = filter_in q x ys (rw f at m) in (in_later x y ys i.0, i.1))
       (true_or_false (q y))
@@ -135,7 +138,7 @@ module _ {A : Type 0} (E : Equality A) where
   pub in_append_left : (x : A) (xs ys : List A) → is_in eq x xs ≡ true → is_in eq x (xs ++ ys) ≡ true
   in_append_left x [] ys m = absurd_bool (sym m)
   in_append_left x (y ∷ xs) ys m = ⊎_elim
-      (λ e. rw e (in_here y (xs ++ ys)))
+      (λ e. in_first x y (xs ++ ys) e)
       (λ n. in_later x y (xs ++ ys) (in_append_left x xs ys n))
       (in_cases x y xs m)
 
@@ -146,7 +149,7 @@ module _ {A : Type 0} (E : Equality A) where
   pub append_in : (x : A) (xs ys : List A) → is_in eq x (xs ++ ys) ≡ true → (is_in eq x xs ≡ true) ⊎ (is_in eq x ys ≡ true)
   append_in x [] ys m = inr m
   append_in x (y ∷ xs) ys m =
-      ⊎_elim (λ e. inl (rw e (in_here y xs)))
+      ⊎_elim (λ e. inl (in_first x y xs e))
       (λ n. ⊎_elim (λ a. inl (in_later x y xs a)) (λ b. inr b) (append_in x xs ys n))
       (in_cases x y (xs ++ ys) m)
 
@@ -170,7 +173,7 @@ module _ {A : Type 0} (E : Equality A) where
   in_drop1 z x (y ∷ ys) n e = ⊎_elim
       (λ t. let m : eq z y ≡ false = rw (← sound x y t) n in rw t (rw m at e))
       (λ f. rw f (⊎_elim
-      (λ s. rw s (in_here y (drop1 eq x ys)))
+      (λ s. in_first z y (drop1 eq x ys) s)
       (λ p. in_later z y (drop1 eq x ys) (in_drop1 z x ys n p))
       (in_cases z y ys e)))
       (true_or_false (eq x y))
@@ -273,7 +276,7 @@ module _ {A B : Type 0} (E : Equality A) (F : Equality B) where
   pub in_map : (f : A → B) (x : A) (xs : List A) → is_in eq x xs ≡ true → is_in eq_b (f x) (map f xs) ≡ true
   in_map f x [] m = absurd_bool (sym m)
   in_map f x (y ∷ ys) m = ⊎_elim
-      (λ e. rw e (in_here F (f y) (map f ys)))
+      (λ e. in_first F (f x) (f y) (map f ys) (ap f e))
       (λ n. in_later F (f x) (f y) (map f ys) (in_map f x ys n))
       (in_cases E x y ys m)
 

@@ -8,13 +8,13 @@ use lib.Dec.{eqb}
 use lib.ListN.{length}
 use native.Mathlib.Omega.{arith}
 use Rattle.combinatorics.proofs.Basics.{absurd_bool, false_of, same_or}
-use Rattle.combinatorics.proofs.Lists.{in_cases, on_numbers, in_here, in_later}
+use Rattle.combinatorics.proofs.Lists.{in_cases, on_numbers, in_first, in_later}
 use Rattle.combinatorics.specs.Lists.{all, is_in, distinct, up_from}
 
 pub in_up_from : (k n x : ℕ) → k ≤ x → x < k + n → is_in eqb x (up_from k n) ≡ true
 in_up_from k zero x a b = absurd (omega arith)
 in_up_from k (suc n) x a b = ⊎_elim
-    (λ (e : x ≡ k). rw e (in_here on_numbers k (up_from (suc k) n)))
+    (λ (e : x ≡ k). in_first on_numbers x k (up_from (suc k) n) e)
     (λ (e : x ≡ k → ⊥).
     in_later on_numbers x k (up_from (suc k) n) (in_up_from (suc k) n x (omega (arith, e)) (omega arith)))
     (same_or x k)
