@@ -1,6 +1,8 @@
 // Arrays of 16 numbers, and what a move does with them: index sets as masks, lists at the front of an array, points and
 // their coefficients by one step on or back, the sizes of the blocks and the ways round them. Nothing here knows the
 // state of a run.
+#![tactic(auto)]
+
 mod going;
 mod lists;
 mod mask;

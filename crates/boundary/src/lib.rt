@@ -1,4 +1,6 @@
 // The older boundary rule, request 12: the interior keeps its labels, and the boundary has those of rule (1.3).
+#![tactic(auto)]
+
 ghost use Rattle.std.specs.Prelude.{◌≡◌};
 ghost use Rattle.boundary.specs.Call.{boundary_answer, boundary_buffer};
 

@@ -13,7 +13,7 @@ use lib.ListN.{length}
 use native.Mathlib.Omega.{arith}
 use Rattle.combinatorics.proofs.Basics.{absurd_bool, true_or_false, both, and_both, and_left, and_right}
 use Rattle.combinatorics.proofs.Basics.{false_of}
-use Rattle.combinatorics.proofs.Lists.{in_here, in_later, in_cases, in_filter, filter_in, filter_cong}
+use Rattle.combinatorics.proofs.Lists.{in_first, in_here, in_later, in_cases, in_filter, filter_in, filter_cong}
 use Rattle.combinatorics.proofs.Lists.{distinct-out, distinct_tail, distinct-within, on_numbers}
 use Rattle.combinatorics.proofs.Ranges.{in_up_from, up_from_in}
 use Rattle.combinatorics.proofs.EditsRemove.{length-remove_at}
@@ -109,7 +109,7 @@ removed_in : (i : ℕ) (s : Simplex) (y : Point) → is_in same_point y (remove_
 removed_in i [] y m = m
 removed_in zero (x ∷ s) y m = in_later on_points y x s m
 removed_in (suc i) (x ∷ s) y m = ⊎_elim
-    (λ e. rw e (in_here on_points x s))
+    (λ e. in_first on_points _ x s e)
     (λ n. in_later on_points y x s (removed_in i s y n))
     (in_cases on_points y x (remove_at i s) m)
 

@@ -4,14 +4,14 @@
 use mathlib.Core.Bool.{true, false, not}
 use mathlib.Core.List.{List, [], ◌∷◌}
 use mathlib.Core.Logic.{◌⊎◌, inl, inr, ⊎_elim, ◌↔◌}
-use mathlib.Core.Path.{◌≡◌, refl, sym, ap, ◌∙◌, fun_ext}
+use mathlib.Core.Path.{◌≡◌, refl, sym, ap, subst, ◌∙◌, fun_ext}
 use Prim.Native.Nat.{ℕ, zero, suc, ◌+◌, ◌-◌, ◌≤◌, ◌<◌}
 use borrow.Author.Tests.{eq-eqb, ne_eqb}
 use lib.Dec.{eqb}
 use lib.ListN.{length}
 use native.Mathlib.Omega.{arith}
 use Rattle.combinatorics.proofs.Basics.{absurd_bool, true_or_false, before_or_not, same_or, and_both, false_of}
-use Rattle.combinatorics.proofs.Lists.{in_all, in_here, in_later, in_cases, filter_cong, on_numbers}
+use Rattle.combinatorics.proofs.Lists.{in_all, in_first, in_here, in_later, in_cases, filter_cong, on_numbers}
 use Rattle.combinatorics.proofs.Ranges.{in_up_from, up_from_in, distinct-up_from}
 use Rattle.combinatorics.specs.Lists.{filter, all, is_in, distinct, occurrences}
 use Rattle.geometry.proofs.Definitions.{Blocks, Grid as OnRing, raise}
@@ -174,7 +174,7 @@ module _ {g : Grid} (A : InLimits g) (p : Point) (hp : is_grid_point g p ≡ tru
                   (λ y. omega (arith, (later.members k).0 y, raise_above h c k))
                   (in_cases on_numbers k h later.order x)),
               (λ x. ⊎_elim
-                  (λ (e : k ≡ h). rw e (in_here on_numbers h later.order))
+                  (λ (e : k ≡ h). in_first on_numbers _ h later.order e)
                   (λ y.
                   in_later on_numbers k h later.order ((later.members k).1 (omega (arith, raise_elsewhere h c k y))))
                   (same_or k h)),
@@ -182,7 +182,7 @@ module _ {g : Grid} (A : InLimits g) (p : Point) (hp : is_grid_point g p ≡ tru
             has = λ i l b. ⊎_elim
                 (λ a.
                 let e : q i ≡ c = fun_ext (λ k. omega (arith, a k, b k)) in
-                rw e (in_here on_points (point_at c) (point_at d ∷ later.rest)))
+                in_first on_points _ (point_at c) (point_at d ∷ later.rest) (ap point_at e))
                 (λ a. in_later on_points (point_at (q i)) (point_at c) (point_at d ∷ later.rest)
                 (later.has i l (λ k. omega (arith, small k, a k))))
                 (B.splits i l);
@@ -287,7 +287,7 @@ module _ {g : Grid} (A : InLimits g) (p : Point) (hp : is_grid_point g p ≡ tru
         let i = in_at on_points [] z zs x in
         let e : point_at (set_at g zs p i.0) ≡ z =
         point_coefficient_of ok (nth zs i.0) (on-at A zs on p hp i.0 i.1) ∙ i.2 in
-        rw e at (grown.has i.0 i.1 (λ k. omega arith))
+        subst (λ (y : Point). is_in same_point y points ≡ true) e (grown.has i.0 i.1 (λ k. omega arith))
 
     pub in_simplex : InOneSimplex g zs
     in_simplex = record {

@@ -1,4 +1,6 @@
 // The checker of end simplices from other programs: the customer's call.
+#![tactic(auto)]
+
 ghost use Rattle.std.specs.Prelude.{◌≡◌, ◌≤◌};
 ghost use Rattle.grid_points.specs.Grid.{lent};
 ghost use Rattle.grid.specs.Made.{shape};

@@ -36,10 +36,11 @@ pub all-next : (q : ℕ → Bool) (xs : List ℕ) (i : ℕ) → i < length xs
 all-next q xs i h = rw (add-one, take-suc xs i 0, all_append, and-true)
 
 -- an answer so far that a branch lowers where one test more fails, and else leaves
-pub lowered_or_left : {A B : Type 0} {good passes next : Bool} → (A → passes ≡ false) → (B → passes ≡ true)
-    → (A × (next ≡ false)) ⊎ (B × (next ≡ good)) → next ≡ (good && passes)
-lowered_or_left {good = good} fails holds =
-    ⊎_elim (λ w. rw (fails w.0, and-false good) w.1) (λ w. rw (holds w.0, and-true good) w.1)
+pub lowered : (good : Bool) {passes next : Bool} → passes ≡ false → next ≡ false → next ≡ (good && passes)
+lowered good fails is = rw (fails, and-false good) is
+
+pub left_as : {good passes next : Bool} → passes ≡ true → next ≡ good → next ≡ (good && passes)
+left_as {good = good} holds is = rw (holds, and-true good) is
 
 -- all elements, where the loop ends
 pub whole : {A : Type 0} (xs : List A) (i : ℕ) → length xs ≤ i → take i xs ≡ xs

@@ -1,5 +1,7 @@
 // The kind of an end of the path. The definitions of ends name it too, so that a promise compares what a call answers
 // with what a definition says without a translation between the two.
+#![tactic(auto)]
+
 ghost use Rattle.std.specs.Prelude.{◌≡◌, ◌≤◌};
 ghost use Rattle.end_kinds.specs.Numbers.{kind_number};
 

@@ -1,5 +1,7 @@
 // The calls for programs in C and Rust, under the names that the static library defines: the run and what rests on it,
 // and the calls that walk no path. Each only names a case of an enum by a number.
+#![tactic(auto)]
+
 ghost use Rattle.std.specs.Prelude.{◌≡◌, length};
 ghost use Rattle.combinatorics.specs.Front.{front};
 ghost use Rattle.place.specs.Problem.{problem_of};

@@ -1,4 +1,6 @@
 // The path finder: the run on a label table.
+#![tactic(auto)]
+
 mod answers;
 mod facts;
 

@@ -1,4 +1,6 @@
 // The games that are built in: question 15, and their losses. What is public here is for the slip.
+#![tactic(auto)]
+
 ghost use Rattle.std.specs.Prelude.{◌≡◌, ◌≤◌, length};
 ghost use Rattle.combinatorics.specs.Front.{front};
 ghost use Rattle.game_built_in.specs.Tables.{game_losses, question15};

@@ -1,4 +1,6 @@
 // Games and their labels. Players and strategies are the grid's blocks and indices, which count from 0.
+#![tactic(auto)]
+
 ghost use Rattle.std.specs.Prelude.{◌≡◌, length};
 ghost use Rattle.grid.specs.Made.{IsMade, shape};
 ghost use Rattle.game_losses.specs.Game.{labels};

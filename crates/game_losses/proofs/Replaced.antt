@@ -1,7 +1,7 @@
 -- The expected loss and the replaced losses of a player, out of the losses of the player's strategies. Assumes nothing.
 use mathlib.Core.Bool.{not, cond}
 use mathlib.Core.List.{List, [], ◌∷◌, map}
-use mathlib.Core.Path.{◌≡◌, refl, ap, ◌∙◌, subst}
+use mathlib.Core.Path.{◌≡◌, refl, sym, ap, ◌∙◌, subst}
 use Prim.Native.Nat.{ℕ, zero, suc, ◌+◌, ◌*◌, ◌<◌}
 use borrow.Author.Tests.{ne_eqb, eqb-false, not-true}
 use lib.Dec.{eqb}
@@ -32,10 +32,12 @@ picked d b zero k t l = absurd (omega arith)
 picked d b (suc n) k [] l = omega arith
 picked d b (suc n) zero (x ∷ t) l =
     let z : b + 0 ≡ b = omega arith in
-    rw (z, eqb_self b) (omega (arith, none_picked d b (suc b) n t (omega arith)))
+    subst (λ (e : ℕ). dot (map (λ i. cond (eqb i e) d 0) (up_from b (suc n))) (x ∷ t) ≡ d * x) (sym z)
+    (rw (eqb_self b) (omega (arith, none_picked d b (suc b) n t (omega arith))))
 picked d b (suc n) (suc k) (x ∷ t) l =
     let z : b + suc k ≡ suc b + k = omega arith in
-    rw (z, ne_eqb b (suc b + k) (λ e. omega arith)) (omega (arith, picked d (suc b) n k t (omega arith)))
+    subst (λ (e : ℕ). dot (map (λ i. cond (eqb i e) d 0) (up_from b (suc n))) (x ∷ t) ≡ d * get_or t k 0) (sym z)
+    (rw (ne_eqb b (suc b + k) (λ e. omega arith)) (omega (arith, picked d (suc b) n k t (omega arith))))
 
 pub mix_lengths : (g : Grid) (y : Point) (l : List ℕ) → map (size g) l ≡ map length (map (mix g y) l)
 mix_lengths g y [] = refl

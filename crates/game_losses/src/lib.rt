@@ -1,5 +1,7 @@
 // The losses of a game at a point, and what is asked of a loss table. Players and strategies are the grid's blocks and
 // indices, which count from 0. What is public here is for the games and the slip, which show what it asks.
+#![tactic(auto)]
+
 ghost use Rattle.std.specs.Prelude.{◌≡◌, ◌≤◌};
 ghost use Rattle.combinatorics.specs.Lists.{all, sum};
 ghost use Rattle.game_losses.specs.Game.{product};

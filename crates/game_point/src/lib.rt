@@ -1,6 +1,8 @@
 // The label of one point of a game, worked out for that point alone: nothing is kept from one point to the next, and
 // the sums have 64 bits, so that the number of grid points does not matter. What is public here is for the pass that
 // works its labels out, which shows what it asks.
+#![tactic(auto)]
+
 ghost use Rattle.std.specs.Prelude.{[], ◌≡◌};
 ghost use Rattle.grid_points.specs.Grid.{lent};
 ghost use Rattle.game_losses.specs.Game.{game_label};

@@ -2,6 +2,8 @@
 // table of its losses against the profiles of the opponents. On level l it is weighed by the mixes of the opponents
 // before block l, and has a number for each profile of those from l on. All tables of all levels stand in one array,
 // so that a point that keeps the mixes before a block keeps the levels up to it.
+#![tactic(auto)]
+
 mod lengths;
 mod load;
 mod tables;

@@ -116,10 +116,10 @@ back-first s ss h k a b = ⊎_elim
     let w : h + 0 ≡ h = omega arith in
     rw w at (back_in s ss h 0 (omega arith)) in
     let y : back (previous_of (s ∷ ss)) (1 + h) h ≡ s - 1 =
-    back_add _ 1 h h ∙ ap (previous_of (s ∷ ss)) z ∙ previous_wrap s ss (omega arith) in
+    back_add (previous_of (s ∷ ss)) 1 h h ∙ ap (previous_of (s ∷ ss)) z ∙ previous_wrap s ss (omega arith) in
     let x : (s - 1 - k) + k ≡ s - 1 = omega arith in
     rw (lt-leb k h l, e)
-    (back_add _ (s - 1 - k) (1 + h) h
+    (back_add (previous_of (s ∷ ss)) (s - 1 - k) (1 + h) h
     ∙ ap (back (previous_of (s ∷ ss)) (s - 1 - k)) (y ∙ sym x)
     ∙ back_in s ss (s - 1 - k) k (omega arith)))
     (λ (l : k ≤ h).

@@ -1,4 +1,6 @@
 // Blocks, indices and grid points. Indices and blocks count from 0.
+#![tactic(auto)]
+
 ghost use Rattle.std.specs.Prelude.{true, ◌≡◌, ◌<◌};
 ghost use Rattle.grid_points.specs.Grid.{bound, is_grid_point, block_of, lent};
 ghost use Rattle.grid.specs.Made.{made_of, no_grid, shape, IsMade};

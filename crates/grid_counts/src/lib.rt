@@ -1,4 +1,6 @@
 // What is counted and added up of a grid, on lists of sizes, divisions and coordinates.
+#![tactic(auto)]
+
 ghost use Rattle.std.specs.Prelude.{◌≡◌, ◌≤◌};
 
 mod bounds;

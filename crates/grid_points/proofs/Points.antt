@@ -2,7 +2,7 @@
 use mathlib.Core.Bool.{Bool, true, false, cond}
 use mathlib.Core.List.{List, [], ◌∷◌, ◌++◌, map}
 use mathlib.Core.Logic.{⊎_elim}
-use mathlib.Core.Path.{◌≡◌, refl, sym, ap, ◌∙◌}
+use mathlib.Core.Path.{◌≡◌, refl, sym, ap, subst, ◌∙◌}
 use Prim.Native.Nat.{ℕ, suc, ◌+◌, zero, ◌-◌, ◌<◌}
 use borrow.Author.Tests.{eqb-true, eq-eqb}
 use lib.Dec.{eqb}
@@ -144,7 +144,8 @@ fits-sums none = (refl, refl)
 fits-sums (block {d = d} {ss = ss} {ds = ds} a l r q f) =
     let i = fits-sums f in
     let here : block_sum (length a ∷ ss) (d ∷ ds) (a ++ l) 0 ≡ true = rw (first-append a l) (eq-eqb (sum a) d q) in
-    rw (← r) (
+    subst (λ (s : ℕ). (length (a ++ l) ≡ s + sum ss)
+        × (all (block_sum (s ∷ ss) (d ∷ ds) (a ++ l)) (up_from 0 (suc (length ss))) ≡ true)) r (
       rw length-append (omega (arith, i.0)),
       and_both (block_sum (length a ∷ ss) (d ∷ ds) (a ++ l) 0)
           (all (block_sum (length a ∷ ss) (d ∷ ds) (a ++ l)) (up_from 1 (length ss))) here
@@ -161,7 +162,9 @@ sums-fit (s ∷ ss) (d ∷ ds) y e p h =
     let l : List ℕ = drop s y in
     let q : a ++ l ≡ y = take-append-drop s y in
     let la : length a ≡ s = length-take-le s y (omega arith) in
-    let h' : all (block_sum (length a ∷ ss) (d ∷ ds) (a ++ l)) (up_from 0 (suc (length ss))) ≡ true = rw (q, la) h in
+    let h' : all (block_sum (length a ∷ ss) (d ∷ ds) (a ++ l)) (up_from 0 (suc (length ss))) ≡ true =
+        subst (λ (z : List ℕ). all (block_sum (length a ∷ ss) (d ∷ ds) z) (up_from 0 (suc (length ss))) ≡ true) (sym q)
+            (subst (λ (n : ℕ). all (block_sum (n ∷ ss) (d ∷ ds) y) (up_from 0 (suc (length ss))) ≡ true) (sym la) h) in
     let ll : length l ≡ sum ss = omega (arith, length-drop s y) in
     rw (← q) (block a l la
     (sym (ap sum (first-append a l)) ∙ eqb-true _ d (and_left (block_sum (length a ∷ ss) (d ∷ ds) (a ++ l) 0) _ h'))

@@ -1,6 +1,6 @@
 -- The bound fits 64 bits for every accepted grid. Assumes nothing.
 use mathlib.Core.List.{map}
-use mathlib.Core.Path.{◌≡◌}
+use mathlib.Core.Path.{◌≡◌, ap}
 use Prim.Native.Nat.{ℕ, suc, ◌*◌, ◌^◌, ◌≤◌, ◌<◌}
 use native.Mathlib.Nat.{mul-le-mul}
 use native.Mathlib.Omega.{arith}
@@ -26,4 +26,4 @@ bound-fits g e =
 pub bound_of : (g : Grid) (p m n : ℕ) → p ≡ num_points g → m ≡ num_indices g → n ≡ dimension g
     → p * sum (map (falling m) (up_from 0 (suc n))) ≡ bound g
 unfolding bound
-bound_of g p m n a b c = rw (a, b, c)
+bound_of g p m n a b c = rw (a, c) (ap (λ (k : ℕ). num_points g * sum (map (falling k) (up_from 0 (suc (dimension g))))) b)

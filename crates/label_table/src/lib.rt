@@ -1,4 +1,6 @@
 // A label table. Every call that is lent one asks question 7 of it.
+#![tactic(auto)]
+
 ghost use Rattle.std.specs.Prelude.{◌≡◌, ◌<◌, leb, length, get_or};
 ghost use Rattle.combinatorics.specs.Lists.{all};
 ghost use Rattle.label_table.specs.Labels.{label_of};

@@ -1,4 +1,6 @@
 // Numbers of two and of eight bytes, low byte first.
+#![tactic(auto)]
+
 ghost use Rattle.std.specs.Prelude.{◌≡◌, ◌+◌, ◌*◌, ◌≤◌, length};
 ghost use Rattle.little_endian.specs.Numbers.{number, words};
 

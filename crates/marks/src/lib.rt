@@ -1,5 +1,7 @@
 // The mark of the point that has just come in: its position, by the marks around it or by its steps, and its label in
 // the table. What is public here is for the finder's pass, which shows what it asks.
+#![tactic(auto)]
+
 ghost use Rattle.std.specs.Prelude.{List, [], ◌≡◌, ℕ, ◌≤◌, ◌<◌, take};
 ghost use Rattle.arrays.specs.Rounds.{round_back};
 ghost use Rattle.grid_points.specs.Grid.{position};

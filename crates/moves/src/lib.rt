@@ -1,5 +1,7 @@
 // The state of a run, and the moves by which a point leaves. What is public here is for the crates above, which show
 // what it asks.
+#![tactic(auto)]
+
 mod leaving;
 mod points;
 

@@ -1,4 +1,6 @@
 // The customer's call: a run that reports where the path came nearest to a grid point.
+#![tactic(auto)]
+
 ghost use Rattle.std.specs.Prelude.{true, ◌≡◌, ◌≤◌, length, take};
 ghost use Rattle.combinatorics.specs.Front.{front};
 ghost use Rattle.finder.specs.Asked.{CanRun};

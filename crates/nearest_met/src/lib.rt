@@ -1,6 +1,8 @@
 // A vertex that is met on a pass: noted where it comes in for the first time. One byte for each point tells whether it
 // was met, so that no pass over the list is made for a vertex. What is public here is for the pass, which shows what it
 // asks.
+#![tactic(auto)]
+
 ghost use Rattle.std.specs.Prelude.{[], ◌≡◌, suc, ◌≤◌, ◌<◌, length, set, take};
 ghost use Rattle.arrays.specs.Rounds.{round_back};
 ghost use Rattle.grid_points.specs.Grid.{Grid as Shape, at};

@@ -1,4 +1,6 @@
 // The pass of a run that notes the vertices of its places, each where it comes in for the first time.
+#![tactic(auto)]
+
 ghost use Rattle.std.specs.Prelude.{◌≡◌, ◌≤◌, ◌<◌};
 ghost use Rattle.arrays.specs.Rounds.{round};
 ghost use Rattle.rules.specs.Moves.{Round};

@@ -8,7 +8,7 @@ use Prim.Native.Nat.{ℕ, zero, suc, ◌+◌, ◌-◌, ◌≤◌, ◌<◌}
 use lib.Dec.{eqb, leb}
 use lib.ListN.{length}
 use native.Mathlib.Omega.{arith}
-use Rattle.combinatorics.proofs.Lists.{filter_cong, in_here, in_later, in_cases, in_all, all_in, on_numbers}
+use Rattle.combinatorics.proofs.Lists.{filter_cong, in_first, in_later, in_cases, in_all, all_in, on_numbers}
 use Rattle.combinatorics.proofs.EditsRemove.{length-remove_at, remove_at-before, remove_at-behind}
 use Rattle.combinatorics.proofs.Basics.{before_or_not, both}
 use Rattle.combinatorics.proofs.Ranges.{in_up_from, up_from_in}
@@ -123,7 +123,7 @@ remove_in : (s : Simplex) (i : ℕ) (y : Point) → is_in same_point y (remove_a
 remove_in [] i y m = m
 remove_in (x ∷ s) zero y m = in_later on_points y x s m
 remove_in (x ∷ s) (suc i) y m = ⊎_elim
-    (λ e. rw e (in_here on_points x s))
+    (λ e. in_first on_points _ x s e)
     (λ n. in_later on_points y x s (remove_in s i y n))
     (in_cases on_points y x (remove_at i s) m)
 

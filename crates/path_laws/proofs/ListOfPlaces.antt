@@ -10,7 +10,7 @@ use lib.Dec.{leb}
 use lib.ListN.{length}
 use native.Mathlib.Omega.{arith}
 use Rattle.combinatorics.proofs.Basics.{absurd_bool, false_of, true_or_false}
-use Rattle.combinatorics.proofs.Lists.{in_here, in_later, in_cases, all_in, in_map, map_in, in_filter, distinct_filter}
+use Rattle.combinatorics.proofs.Lists.{in_first, in_here, in_later, in_cases, all_in, in_map, map_in, in_filter, distinct_filter}
 use Rattle.combinatorics.proofs.Lists.{distinct-map, distinct_append, distinct-out, distinct_tail, in_append_left}
 use Rattle.combinatorics.proofs.Lists.{in_append_right, append_in}
 use Rattle.combinatorics.proofs.Rising.{rising-tail, rising-below}
@@ -37,7 +37,7 @@ sublist_in (x ∷ l) s m y n = ⊎_elim
     (λ k.
     let i = map_in on_simplices on_simplices (λ s. x ∷ s) s (sublists l) k in
     ⊎_elim
-    (λ e. rw e (in_here on_points x l))
+    (λ e. in_first on_points _ x l e)
     (λ a. in_later on_points y x l (sublist_in l i.0 i.1 y a))
     (in_cases on_points y x i.0 (rw i.2 at n)))
     (λ k. in_later on_points y x l (sublist_in l s k y n))
@@ -63,18 +63,18 @@ module _ (p : Problem) where
   insert_in y [] z m = in_cases on_points z y [] m
   insert_in y (x ∷ l) z m =
       ⊎_elim (λ t. in_cases on_points z y (x ∷ l) (rw t at m))
-      (λ f. ⊎_elim (λ e. inr (rw e (in_here on_points x l)))
+      (λ f. ⊎_elim (λ e. inr (in_first on_points _ x l e))
       (λ n. ⊎_elim (λ e. inl e) (λ k. inr (in_later on_points z x l k)) (insert_in y l z n))
       (in_cases on_points z x (insert p y l) (rw f at m)))
       (true_or_false (leb (coefficient_sum p y) (coefficient_sum p x)))
 
   in_insert : (y : Point) (l : List Point) (z : Point) → (z ≡ y) ⊎ (is_in same_point z l ≡ true)
       → is_in same_point z (insert p y l) ≡ true
-  in_insert y [] z m = ⊎_elim (λ e. rw e (in_here on_points y [])) (λ n. absurd_bool (sym n)) m
+  in_insert y [] z m = ⊎_elim (λ e. in_first on_points _ y [] e) (λ n. absurd_bool (sym n)) m
   in_insert y (x ∷ l) z m =
-      ⊎_elim (λ t. rw t (⊎_elim (λ e. rw e (in_here on_points y (x ∷ l))) (λ n. in_later on_points z y (x ∷ l) n) m))
+      ⊎_elim (λ t. rw t (⊎_elim (λ e. in_first on_points _ y (x ∷ l) e) (λ n. in_later on_points z y (x ∷ l) n) m))
       (λ f. rw f (⊎_elim (λ e. in_later on_points z x (insert p y l) (in_insert y l z (inl e)))
-      (λ n. ⊎_elim (λ e. rw e (in_here on_points x (insert p y l)))
+      (λ n. ⊎_elim (λ e. in_first on_points _ x (insert p y l) e)
       (λ k. in_later on_points z x (insert p y l) (in_insert y l z (inr k)))
       (in_cases on_points z x l n)) m))
       (true_or_false (leb (coefficient_sum p y) (coefficient_sum p x)))
@@ -107,7 +107,7 @@ module _ (p : Problem) where
       out : is_in same_point x (insert p y l) ≡ false
       out = false_of _
           (λ m. ⊎_elim
-          (λ e. let k : is_in same_point y (x ∷ l) ≡ true = rw (← e) (in_here on_points x l) in absurd_bool (sym k ∙ o))
+          (λ e. let k : is_in same_point y (x ∷ l) ≡ true = in_first on_points y x l (sym e) in absurd_bool (sym k ∙ o))
           (λ n. absurd_bool (sym n ∙ distinct-out same_point x l d))
           (insert_in y l x m))
 
@@ -119,7 +119,7 @@ module _ (p : Problem) where
   order_in : (l : List Point) (z : Point) → is_in same_point z (in_order p l) ≡ true → is_in same_point z l ≡ true
   order_in [] z m = m
   order_in (x ∷ l) z m = ⊎_elim
-      (λ e. rw e (in_here on_points x l))
+      (λ e. in_first on_points _ x l e)
       (λ n. in_later on_points z x l (order_in l z n))
       (insert_in x (in_order p l) z m)
 

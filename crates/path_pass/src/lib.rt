@@ -1,5 +1,7 @@
 // The pass from {v} along the path, place by place. What is public is also for the passes that write a trail and that
 // report where the path came nearest.
+#![tactic(auto)]
+
 ghost use Rattle.std.specs.Prelude.{◌≡◌, ◌+◌, ◌^◌, ◌≤◌, ◌<◌, length};
 ghost use Rattle.arrays.specs.Rounds.{round, round_back};
 ghost use Rattle.marks.specs.Reading.{CanFind, Readable, table_problem};

@@ -95,7 +95,11 @@ position_group s d b (suc n) (suc i) x r e l m =
 length_groups : (s d b n : ℕ) → b + n ≤ d
     → length (concat_map (group s d) (up_from b n)) + length (block_points (suc s) (d - (b + n)))
     ≡ length (block_points (suc s) (d - b))
-length_groups s d b zero h = let z : b + 0 ≡ b = omega arith in rw z (omega arith)
+length_groups s d b zero h =
+    let z : b + 0 ≡ b = omega arith in
+    let u : length (block_points (suc s) (d - (b + 0))) ≡ length (block_points (suc s) (d - b)) =
+    ap (λ (k : ℕ). length (block_points (suc s) (d - k))) z in
+    omega arith
 length_groups s d b (suc n) h =
     let z : b + suc n ≡ suc b + n = omega arith in
     let w : suc (d - suc b) ≡ d - b = omega arith in
@@ -107,11 +111,15 @@ length_groups s d b (suc n) h =
     subst
     (λ (e : ℕ). length (block_points (suc s) e) ≡ length (block_points s e) + length (block_points (suc s) (d - suc b)))
     w (block-suc s (d - suc b)) in
+    let u : length (block_points (suc s) (d - (b + suc n))) ≡ length (block_points (suc s) (d - (suc b + n))) =
+    ap (λ (k : ℕ). length (block_points (suc s) (d - k))) z in
+    let v : length (concat_map (group s d) (up_from b (suc n)))
+    ≡ length (block_points s (d - b)) + length (concat_map (group s d) (up_from (suc b) n)) =
     rw (
-      z,
       length-append (group s d b) (concat_map (group s d) (up_from (suc b) n)),
       length-map (block_points s (d - b)) (λ l. b ∷ l),
-    ) (omega arith)
+    ) in
+    omega arith
 
 -- a number x in front of r, with k + 1 numbers in r: the binomials of what was left and of what is left then
 pub block_step : (k left x : ℕ) (r : Point) → x ≤ left → length r ≡ suc k → sum r ≡ left - x

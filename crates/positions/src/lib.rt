@@ -1,5 +1,7 @@
 // The position of a grid point in the list of all points, by a table of binomials. A grid here is one that `Grid::new`
 // made, and a caller of ours shows that.
+#![tactic(auto)]
+
 ghost use Rattle.std.specs.Prelude.{true, ◌≡◌, length, take};
 ghost use Rattle.grid_points.specs.Grid.{is_grid_point, position as position_of};
 ghost use Rattle.grid.specs.Made.{shape, IsMade};

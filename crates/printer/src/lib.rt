@@ -1,4 +1,6 @@
 // The printer: from a slip's bytes to the sheet's.
+#![tactic(auto)]
+
 ghost use Rattle.std.specs.Prelude.{◌≡◌, length};
 ghost use Rattle.combinatorics.specs.Front.{front, padded};
 ghost use Rattle.grid.specs.Made.{IsMade, shape};

@@ -1,5 +1,7 @@
 // Refinement runs: a game is solved on finer and finer grids, each run beginning where the one before ended. Levels and
 // blocks count from 0 here, and blocks from 1 in what is answered.
+#![tactic(auto)]
+
 ghost use Rattle.std.specs.Prelude.{◌≡◌};
 ghost use Rattle.grid_points.specs.Grid.{lent};
 ghost use Rattle.refinement.specs.Answer.{answer_left, labels_left, lent_game, no_level, refine_answer};

@@ -1,4 +1,6 @@
 // The questions of a refinement: 18, 1 to 4 of each level, whose grids are made, and 5, 10, 11, 12 and 8.
+#![tactic(auto)]
+
 ghost use Rattle.std.specs.Prelude.{◌≡◌};
 ghost use Rattle.refinement_levels.specs.Questions.{question18};
 

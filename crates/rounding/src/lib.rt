@@ -1,4 +1,6 @@
 // A centre's number, rounded as the journals round. Only the sheet calls it.
+#![tactic(auto)]
+
 ghost use Rattle.std.specs.Prelude.{◌≡◌, ◌≤◌};
 ghost use Rattle.rounding.specs.Centre.{centre as centre_of};
 

@@ -1,5 +1,7 @@
 // The bytes of the kiosk's sheet. Each function writes a sheet at the front of the lent buffer and returns the
 // sheet's length. The longest sheet is shorter than 2,400 bytes.
+#![tactic(auto)]
+
 mod centre;
 mod line;
 

@@ -1,4 +1,6 @@
 // The shelf of sheets that replace sheets: request 13. It knows nothing of grids, labels and runs; a sheet is a number.
+#![tactic(auto)]
+
 ghost use Rattle.std.specs.Prelude.{◌≡◌};
 ghost use Rattle.shelf.specs.Calls.{filing, filing_refusal, list_filed, asking};
 

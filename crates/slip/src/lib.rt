@@ -1,5 +1,7 @@
 // Slips: what the bytes say, or the question that refuses them. The printer alone calls what is public here, and shows
 // what it asks.
+#![tactic(auto)]
+
 ghost use Rattle.std.specs.Prelude.{true, ◌≡◌, ◌≤◌, length};
 ghost use Rattle.combinatorics.specs.Front.{front};
 ghost use Rattle.grid.specs.Made.{made_of};

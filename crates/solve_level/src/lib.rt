@@ -1,6 +1,8 @@
 // The run of a game on any grid, behind its questions, with no label table. What the run looks up of the grid depends
 // on the sizes of its blocks alone, so it is lent the grid of the same sizes whose divisions are 1, which every game
 // has, and the divisions beside it.
+#![tactic(auto)]
+
 ghost use Rattle.std.specs.Prelude.{◌≡◌};
 ghost use Rattle.combinatorics.specs.Front.{front};
 ghost use Rattle.finder.specs.Run.{case_of, numbers_of};

@@ -1,6 +1,8 @@
 // The pass from {v} along the path of a game, whose labels are worked out point by point: there is no label table, and
 // the number of grid points does not matter. A mark is a label alone. What is public here is for the call that solves
 // a game, which shows what it asks.
+#![tactic(auto)]
+
 ghost use Rattle.std.specs.Prelude.{[], ◌≡◌, ◌<◌, take};
 ghost use Rattle.arrays.specs.Rounds.{round, round_back};
 ghost use Rattle.grid_points.specs.Grid.{lent};

@@ -1,5 +1,7 @@
 // Bytes, decimal numbers and lines of a word and a number. Only the sheet calls these functions: each writes into the
 // lent buffer from a position on, for which there is room, and returns the position behind what it wrote.
+#![tactic(auto)]
+
 ghost use Rattle.std.specs.Prelude.{◌≡◌, [], ◌∷◌, ◌+◌, ◌≤◌, ◌<◌, length};
 ghost use Rattle.text.specs.Decimal.{decimal as decimal_of};
 ghost use Rattle.text.specs.Part.{Part};

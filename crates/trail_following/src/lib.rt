@@ -1,5 +1,7 @@
 // The records of a trail behind the first, one after another. What is public here is for the reader, which shows what
 // it asks.
+#![tactic(auto)]
+
 ghost use Rattle.std.specs.Prelude.{◌≡◌, ◌%◌, ◌≤◌, ◌<◌, get_or, length};
 ghost use Rattle.arrays.specs.Rounds.{round};
 ghost use Rattle.moves.specs.Held.{held, state_of};

@@ -1,5 +1,7 @@
 // The pass from {v} along the path with the record of each place: a first one counts the bytes, a second stores them.
 // What is public here is for the writer, which shows what it asks.
+#![tactic(auto)]
+
 ghost use Rattle.std.specs.Prelude.{◌≡◌, ◌≤◌, ◌<◌, length};
 ghost use Rattle.arrays.specs.Rounds.{round};
 ghost use Rattle.path_pass.specs.Finish.{CanPass, Finished, ended_of, problem_in};

@@ -1,4 +1,6 @@
 // The reader of a trail.
+#![tactic(auto)]
+
 mod answers;
 
 pub use answers::{ReadAnswer, Reading, read};

@@ -1,6 +1,8 @@
 // The record of a place, as bytes, by T and U at the place before it and at the place, and by the positions of the
 // points that come in and go out. What is public here is for the writer and the reader of a trail, which show what it
 // asks.
+#![tactic(auto)]
+
 ghost use Rattle.std.specs.Prelude.{cond, ◌≡◌, ℕ, suc, ◌+◌, ◌/◌, ◌%◌, ◌≤◌, ◌<◌, eqb, drop, length, take};
 ghost use Rattle.std.proofs.Math.Seq.{paste};
 ghost use Rattle.trail.specs.Trail.{begins};

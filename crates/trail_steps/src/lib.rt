@@ -1,5 +1,7 @@
 // One record of a reading: what it names, and whether its bytes are those of the change that has been made. What is
 // public here is for the reader, which shows what it asks.
+#![tactic(auto)]
+
 ghost use Rattle.std.specs.Prelude.{map, ◌≡◌, suc, ◌+◌, ◌*◌, ◌≤◌, ◌<◌, drop, get_or, length, take};
 ghost use Rattle.arrays.specs.Rounds.{round_back};
 ghost use Rattle.combinatorics.specs.Edits.{found};

@@ -1,5 +1,7 @@
 // One place of a pass that writes a trail: the record that is stored, and the bytes of the next one. What is public
 // here is for the writer, which shows what it asks.
+#![tactic(auto)]
+
 ghost use Rattle.std.specs.Prelude.{true, ◌≡◌, ℕ, length};
 ghost use Rattle.trail_records.specs.Records.{IsRecord, SameSets, record_from};
 ghost use Rattle.rules.specs.Moves.{State};

@@ -1,4 +1,6 @@
 // A walk that is lent and moved on by one place with each call.
+#![tactic(auto)]
+
 mod asking;
 mod lending;
 mod moving;

@@ -1,5 +1,7 @@
 // The calls on a walk, for programs in C and Rust: each takes the struct by reference, calls the by-value step and
 // stores what it gives.
+#![tactic(auto)]
+
 ghost use Rattle.std.specs.Prelude.{◌≡◌};
 ghost use Rattle.walk_numbers.specs.Answered.{after_beginning, after_moving, after_pointing, after_showing};
 

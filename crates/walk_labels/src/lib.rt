@@ -1,5 +1,7 @@
 // The labels that a walk carries: whether they are those of its place, and the labels of the next place. A place's
 // points are given by their marks, so that nothing here knows of grids.
+#![tactic(auto)]
+
 ghost use Rattle.std.specs.Prelude.{cond, ◌≡◌, ◌≤◌, ◌<◌, eqb, leb, length, get_or};
 ghost use Rattle.combinatorics.specs.Lists.{same};
 ghost use Rattle.grid_points.specs.Grid.{at};

@@ -1,4 +1,6 @@
 // What comes next on a walk, by the labels of its present place and the two moves from there.
+#![tactic(auto)]
+
 mod choosing;
 mod spares;
 mod standing;

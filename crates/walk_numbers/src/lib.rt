@@ -1,5 +1,7 @@
 // The calls on a walk as programs in C make them: a walk, and behind it what the last call on it has answered. Each
 // call is by value here; the exported functions take the struct by reference and call these.
+#![tactic(auto)]
+
 ghost use Rattle.std.specs.Prelude.{◌≡◌};
 ghost use Rattle.walk_preview.specs.Changes.{no_change};
 ghost use Rattle.walk_numbers.specs.Answered.{after_beginning, after_moving, after_pointing};

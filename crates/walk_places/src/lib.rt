@@ -1,4 +1,6 @@
 // A walk and its places as they are kept, and what is told of a place that is kept.
+#![tactic(auto)]
+
 mod keeping;
 mod placing;
 

@@ -1,4 +1,6 @@
 // The move shown before it is made.
+#![tactic(auto)]
+
 mod changes;
 mod showing;
 

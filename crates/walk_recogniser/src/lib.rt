@@ -1,6 +1,8 @@
 // Whether a first point and an order of indices are the points of a place, its labels apart, and what a move from there
 // looks at; and the labels of its points. What is public here is for the call that moves a walk, which shows what it
 // asks.
+#![tactic(auto)]
+
 ghost use Rattle.std.specs.Prelude.{false, ◌≡◌, take};
 ghost use Rattle.grid.specs.Made.{shape};
 ghost use Rattle.walk_recogniser.specs.Kept.{CanRecognise, Recognised};

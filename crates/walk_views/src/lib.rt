@@ -1,4 +1,6 @@
 // What a viewer asks besides: the walk at {v}, a walk that faces the other way, and the points of a place.
+#![tactic(auto)]
+
 ghost use Rattle.std.specs.Prelude.{◌≡◌};
 ghost use Rattle.walk_views.specs.Turned.{turned_as};
 

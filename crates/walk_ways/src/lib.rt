@@ -1,4 +1,6 @@
 // What comes next from the present place of a walk.
+#![tactic(auto)]
+
 mod choice;
 mod ending;
 mod one_way;

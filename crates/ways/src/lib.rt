@@ -1,6 +1,8 @@
 // What a move does, told before it is made: a point leaves, or an index joins T. The writer of a trail takes it from
 // the labels, the reader from a record, and both make the same move. What is public here is for the two, which show
 // what it asks.
+#![tactic(auto)]
+
 ghost use Rattle.std.specs.Prelude.{◌≡◌, ℕ, ◌≤◌, length};
 ghost use Rattle.arrays.specs.Rounds.{round};
 ghost use Rattle.moves.specs.Held.{CanStep, GivesAll, Sound, held};

@@ -1,0 +1,12 @@
+-- `grid::Grid::block_of` meets its contract. Assumes nothing.
+use mathlib.Core.Path.{◌∙◌}
+use Rattle.grid.proofs.Fields.{indices-few, made-block}
+use borrow.Author.Rules.{rules}
+use native.Mathlib.Omega.{arith}
+use Rattle.grid.proofs.Grid.block_of.Goals as goal
+
+pub bounds-block-h : goal.bounds-block-h
+bounds-block-h c = let p = c.requires in omega (arith, indices-few _ p.0)
+
+pub returns : goal.returns
+returns c = let p = c.requires in c.wide.ensures ∙ made-block _ p.0 c.args.h p.1

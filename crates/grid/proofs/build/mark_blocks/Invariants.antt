@@ -1,0 +1,29 @@
+-- `grid::build::mark_blocks` meets its contract. The invariant: the entries of the blocks so far stand at the front.
+-- Assumes nothing.
+use mathlib.Core.List.{map}
+use mathlib.Core.Path.{◌≡◌, sym, ◌∙◌}
+use Prim.Native.Nat.{◌≤◌, ◌-◌}
+use lib.ListN.{length, take, replicate}
+use Rattle.combinatorics.proofs.Fronts.{front-none, front-copy, front-whole}
+use Rattle.combinatorics.proofs.Turns.{front-counted}
+use Rattle.combinatorics.specs.Lists.{up_from}
+use Rattle.combinatorics.specs.Front.{padded}
+use Rattle.grid_points.proofs.Accepted.{Accepted, accepted, count-few, size-two}
+use Rattle.grid_points.proofs.Round.{block-fits}
+use Rattle.grid_points.specs.Grid.{first_index, block_count, lent}
+use borrow.Author.Rules.{rules}
+use native.Mathlib.Omega.{arith}
+use Rattle.grid.proofs.build.mark_blocks.Given as goal
+
+abbrev pub invariant-loop-j : goal.invariant-loop-j
+invariant-loop-j l =
+    (l.own_sizes ≡ padded 6 (take l.j l.sizes))
+    × (l.own_divisions ≡ padded 6 (take l.j l.divisions))
+    × (l.firsts ≡ padded 6 (map (first_index (lent l.sizes l.divisions)) (up_from 0 l.j)))
+    × (l.counts ≡ padded 6 (map (block_count (lent l.sizes l.divisions)) (up_from 0 l.j)))
+    × (l.j ≤ length l.sizes)
+    × Accepted (lent l.sizes l.divisions)
+
+abbrev pub decreases-loop-j : goal.decreases-loop-j
+decreases-loop-j l =
+    length l.sizes - l.j

@@ -1,0 +1,28 @@
+-- `grid::build::mark_indices` meets its contract. The invariant: the entries of the indices so far stand at the front.
+-- Assumes nothing.
+use mathlib.Core.List.{[], map}
+use mathlib.Core.Path.{◌≡◌, sym, ◌∙◌}
+use Prim.Native.Nat.{◌+◌, ◌≤◌, ◌<◌, ◌-◌}
+use lib.ListN.{length, get_or, take, replicate}
+use Rattle.combinatorics.proofs.Fronts.{front-none}
+use Rattle.combinatorics.proofs.Turns.{front-counted}
+use Rattle.combinatorics.specs.Lists.{sum, up_from}
+use Rattle.combinatorics.specs.Front.{padded}
+use Rattle.grid_points.proofs.Round.{block_spans, block-fits}
+use Rattle.grid_points.specs.Grid.{block_in, next as after, previous as before, lent}
+use borrow.Author.Rules.{rules}
+use native.Mathlib.Omega.{arith}
+use Rattle.grid.proofs.build.mark_indices.Given as goal
+
+abbrev pub invariant-loop-h : goal.invariant-loop-h
+invariant-loop-h l =
+    (l.block ≡ padded 16 (map (block_in l.sizes) (up_from 0 l.h)))
+    × (l.previous ≡ padded 16 (map (before (lent l.sizes [])) (up_from 0 l.h)))
+    × (l.next ≡ padded 16 (map (after (lent l.sizes [])) (up_from 0 l.h)))
+    × (l.h ≤ l.indices)
+    × (l.indices ≡ sum l.sizes)
+    × (l.indices ≤ 16)
+    × (length l.sizes ≤ 6)
+
+abbrev pub decreases-loop-h : goal.decreases-loop-h
+decreases-loop-h l = l.indices - l.h

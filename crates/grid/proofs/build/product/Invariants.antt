@@ -1,0 +1,28 @@
+-- `grid::build::product` meets its contract. The invariant: the product of the counts so far, whichever grid they are
+-- of. Assumes nothing.
+use mathlib.Core.List.{List}
+use mathlib.Core.Path.{◌≡◌, refl, sym, ◌∙◌}
+use Prim.Native.Nat.{ℕ, ◌+◌, ◌*◌, ◌≤◌, ◌<◌, ◌-◌}
+use lib.ListN.{get_or, take}
+use Rattle.combinatorics.proofs.Turns.{whole}
+use Rattle.grid_points.proofs.Accepted.{accepted, points-are}
+use Rattle.grid.proofs.Fields.{padded-at}
+use Rattle.grid_counts.proofs.Products.{product-next, product-below}
+use Rattle.grid.specs.Build.{BlocksCounted}
+use Rattle.grid_points.specs.Grid.{Grid, num_blocks, block_count}
+use Rattle.combinatorics.specs.Counting.{binomial_product}
+use Rattle.grid.specs.Made.{grid_of}
+use borrow.Author.Rules.{rules}
+use native.Mathlib.Omega.{arith}
+use Rattle.grid.proofs.build.product.Given as goal
+
+-- the product over the first j blocks, and what one block more makes of it
+abbrev pub so_far : Grid → ℕ → ℕ
+so_far g j = binomial_product (take j g.sizes) (take j g.divisions)
+
+abbrev pub invariant-loop-j : goal.invariant-loop-j
+invariant-loop-j l =
+    ((g : Grid) → BlocksCounted g l.counts l.blocks → l.product ≡ so_far g l.j) × (l.j ≤ l.blocks) × (l.blocks ≤ 6)
+
+abbrev pub decreases-loop-j : goal.decreases-loop-j
+decreases-loop-j l = l.blocks - l.j

@@ -1,0 +1,21 @@
+-- `bounds::terms` meets its contract. The invariant: the product has k factors, and the sum the terms up to it.
+-- Assumes nothing.
+use mathlib.Core.List.{map}
+use mathlib.Core.Path.{◌≡◌, refl, sym, ◌∙◌}
+use Prim.Native.Nat.{◌+◌, ◌*◌, ◌-◌, ◌≤◌}
+use native.Mathlib.Numerals.{add-one}
+use Rattle.combinatorics.proofs.Binomials.{falling-next}
+use Rattle.combinatorics.proofs.Turns.{sum-counted}
+use Rattle.combinatorics.specs.Counting.{falling}
+use Rattle.combinatorics.specs.Lists.{sum as total, up_from}
+use Rattle.combinatorics.proofs.Terms.{terms_few, term_few}
+use borrow.Author.Rules.{rules}
+use native.Mathlib.Omega.{arith}
+use Rattle.grid_counts.proofs.bounds.terms.Given as goal
+
+abbrev pub invariant-loop-k : goal.invariant-loop-k
+invariant-loop-k l = (l.product ≡ falling l.m l.k)
+    × (l.sum ≡ total (map (falling l.m) (up_from 0 (l.k + 1)))) × (l.k ≤ l.n) × (l.m ≤ 16) × (l.n ≤ l.m) × (l.n ≤ 15)
+
+abbrev pub decreases-loop-k : goal.decreases-loop-k
+decreases-loop-k l = l.n - l.k

@@ -1,0 +1,17 @@
+-- `counts::next_row` meets its contract. The invariant: before k stand the binomials of the next row, from k on
+-- those of the old one. Assumes nothing.
+use mathlib.Core.Path.{◌≡◌}
+use Prim.Native.Nat.{ℕ, suc, ◌≤◌, ◌<◌, ◌-◌}
+use lib.ListN.{length, length-set, get_or}
+use Rattle.grid_counts.specs.Capped.{IsRow}
+use Rattle.grid_counts.proofs.Capped.{Raised, raised-start, raised-end, raised_turn, small_turn}
+use borrow.Author.Rules.{rules}
+use native.Mathlib.Omega.{arith}
+use Rattle.grid_counts.proofs.counts.next_row.Given as goal
+
+abbrev pub invariant-loop-k : goal.invariant-loop-k
+invariant-loop-k l = (1 ≤ l.k) × (l.k ≤ suc l.last) × (l.last < 16) × (length l.row ≡ 16)
+    × ((i : ℕ) → i ≤ l.last → get_or l.row i 0 ≤ 60001) × ((r : ℕ) → IsRow r l.last l.initial.row → Raised r l.last l.k l.row)
+
+abbrev pub decreases-loop-k : goal.decreases-loop-k
+decreases-loop-k l = suc l.last - l.k

@@ -1,0 +1,16 @@
+-- `sizes::first_index` meets its contract. The invariant: the sum of the sizes so far. Assumes nothing.
+use mathlib.Core.Path.{◌≡◌, refl, ◌∙◌}
+use Prim.Native.Nat.{◌*◌, ◌-◌, ◌≤◌}
+use lib.ListN.{length, take}
+use Rattle.combinatorics.proofs.Turns.{sum-next}
+use Rattle.combinatorics.specs.Lists.{sum}
+use borrow.Author.Rules.{rules}
+use native.Mathlib.Omega.{arith}
+use Rattle.grid_counts.proofs.sizes.first_index.Given as goal
+
+abbrev pub invariant-loop-i : goal.invariant-loop-i
+invariant-loop-i l =
+    (l.first ≡ sum (take l.i l.sizes)) × (l.i ≤ l.j) × (l.first ≤ 255 * l.i) × (l.j ≤ length l.sizes) × (l.j ≤ 6)
+
+abbrev pub decreases-loop-i : goal.decreases-loop-i
+decreases-loop-i l = l.j - l.i

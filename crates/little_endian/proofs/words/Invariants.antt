@@ -1,0 +1,21 @@
+-- `little_endian::words` meets its contract. The invariant: the numbers read so far stand at the front.
+-- Assumes nothing.
+use mathlib.Core.List.{map}
+use mathlib.Core.Path.{refl, ◌≡◌, sym, ◌∙◌}
+use Prim.Native.Nat.{◌+◌, ◌*◌, ◌≤◌, ◌-◌}
+use lib.ListN.{length-set, length}
+use native.Mathlib.Omega.{arith}
+use Rattle.combinatorics.proofs.Fronts.{front_full, front-none}
+use Rattle.combinatorics.proofs.Turns.{front-counted}
+use Rattle.combinatorics.specs.Front.{front}
+use Rattle.combinatorics.specs.Lists.{up_from}
+use Rattle.little_endian.proofs.Laws.{length-words}
+use Rattle.little_endian.specs.Numbers.{number, words}
+use Rattle.little_endian.proofs.words.Given as goal
+
+abbrev pub invariant-loop-i : goal.invariant-loop-i
+invariant-loop-i l = (l.room ≡ front (map (λ k. number 2 l.bytes (l.from + 2 * k)) (up_from 0 l.i)) l.initial.room)
+    × (l.i ≤ length l.initial.room) × (length l.room ≡ length l.initial.room) × (l.from + 2 * length l.initial.room ≤ length l.bytes)
+
+abbrev pub decreases-loop-i : goal.decreases-loop-i
+decreases-loop-i l = length l.initial.room - l.i
