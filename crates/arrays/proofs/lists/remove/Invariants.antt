@@ -1,0 +1,18 @@
+-- `lists::remove` meets its contract. The invariant: the entries less entry k are the old ones less the entry asked
+-- for, and the last of the list and what stands behind it are as they were. The measure: the entries left.
+-- Assumes nothing.
+use mathlib.Core.Path.{◌≡◌, refl, sym, ◌∙◌}
+use Prim.Native.Nat.{suc, ◌-◌, ◌≤◌, ◌<◌}
+use lib.ListN.{length, length-set, drop, take}
+use lib.Seq.{drop-set-lt}
+use native.Mathlib.Omega.{arith}
+use Rattle.combinatorics.proofs.EditsOfArrays.{remove_forward, remove_last}
+use Rattle.combinatorics.specs.Edits.{remove_at}
+use Rattle.arrays.proofs.lists.remove.Given as goal
+
+abbrev pub invariant-loop-k : goal.invariant-loop-k
+invariant-loop-k l = (l.k < l.n) × (l.n ≤ 16) × (length l.a ≡ 16) × (remove_at l.k (take l.n l.a) ≡ remove_at l.at (take l.n l.initial.a))
+    × (drop (l.n - 1) l.a ≡ drop (l.n - 1) l.initial.a)
+
+abbrev pub decreases-loop-k : goal.decreases-loop-k
+decreases-loop-k l = l.n - l.k

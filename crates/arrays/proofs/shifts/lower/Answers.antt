@@ -1,0 +1,33 @@
+-- `shifts::lower` meets its contract. The invariant: what is left of the way makes of the present coefficients what
+-- the whole way makes of the old ones, and none is 0 before it is lowered. The measure: the steps left.
+-- Assumes nothing.
+use mathlib.Core.Path.{refl}
+use Prim.Native.Nat.{pred}
+use borrow.Author.Rules.{rules}
+use borrow.Author.Tests.{ltb-true}
+use lib.Dec.{ltb}
+use native.Mathlib.Numerals.{sub-one}
+use native.Mathlib.Omega.{arith}
+use Rattle.grid_points.specs.Grid.{at}
+use Rattle.rules.proofs.ChangedBefore.{Changing, changed_all, changed_onward, changed_spent, tested_here}
+use Rattle.arrays.proofs.shifts.lower.Goals as goal
+
+pub loop-left-init : goal.loop-left-init
+loop-left-init c = record { same = refl; passing = c.requires.c_value; low = omega arith; most = omega arith }
+
+pub overflow_sub-c : goal.overflow_sub-c
+overflow_sub-c c =
+    let l = c.loop-left in
+    omega (arith, ltb-true 0 (at l.c l.at) (tested_here l.invariant (omega arith) c.if-at-b.false))
+
+pub loop-left-preserved : goal.loop-left-preserved
+loop-left-preserved c =
+    let l = c.loop-left in
+    changed_onward l.invariant (omega arith) c.if-at-b.false c.requires.h_bound.1
+    (sub-one (at l.c l.at)) c.wide-at.ensures
+
+pub returns-after-loop-left : goal.returns-after-loop-left
+returns-after-loop-left c = changed_spent c.loop-left.invariant (omega arith)
+
+pub returns-then-at-b : goal.returns-then-at-b
+returns-then-at-b c = changed_all c.loop-left.invariant c.if-at-b.true

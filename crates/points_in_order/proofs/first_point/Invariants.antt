@@ -1,0 +1,24 @@
+-- `first_point` meets its contract: the blocks passed have their divisions at their last indices. Assumes nothing.
+use mathlib.Core.Path.{◌≡◌, sym, ◌∙◌}
+use Prim.Native.Nat.{◌+◌, ◌-◌, ◌≤◌}
+use native.Mathlib.Omega.{arith}
+use borrow.Author.Rules.{rules}
+use lib.ListN.{length, take, replicate}
+use lib.Seq.{take_all}
+use Rattle.combinatorics.proofs.Fronts.{front-none}
+use Rattle.combinatorics.specs.Front.{front}
+use Rattle.combinatorics.specs.Lists.{sum}
+use Rattle.grid_points.proofs.Accepted.{Accepted, accepted, size-two}
+use Rattle.grid_points.proofs.Round.{block-fits}
+use Rattle.grid_points.specs.Grid.{lent}
+use Rattle.points_in_order.proofs.PointAfter.{first_turn}
+use Rattle.points_in_order.specs.PointAfter.{first_point}
+use Rattle.points_in_order.proofs.first_point.Given as goal
+
+abbrev pub invariant-loop-j : goal.invariant-loop-j
+invariant-loop-j l =
+    (l.point ≡ front (first_point (take l.j l.sizes) (take l.j l.divisions)) (replicate 16 0)) × (l.j ≤ length l.sizes)
+    × Accepted (lent l.sizes l.divisions)
+
+abbrev pub decreases-loop-j : goal.decreases-loop-j
+decreases-loop-j l = length l.sizes - l.j

@@ -1,0 +1,106 @@
+-- `advance` meets its contract: the blocks passed have begun again, and the point is the next where one has moved.
+-- Assumes nothing.
+use mathlib.Core.Bool.{Bool, false, true}
+use mathlib.Core.List.{List, ◌++◌}
+use mathlib.Core.Path.{◌≡◌, refl, ap, ◌∙◌}
+use Prim.Native.Nat.{ℕ, suc, ◌+◌, ◌-◌, ◌≤◌}
+use native.Mathlib.Omega.{arith}
+use borrow.Author.Rules.{rules}
+use lib.ListN.{length, get_or, take, drop}
+use Rattle.combinatorics.specs.Lists.{sum}
+use Rattle.points_in_order.proofs.PointAfter.{Passed, passed_start, lent_turn, lent-ready, passed_moved}
+use Rattle.points_in_order.proofs.PointAfter.{passed_end}
+use Rattle.points_in_order.proofs.Blocks.{point-length}
+use Rattle.points_in_order.specs.PointAfter.{after, point_step}
+use Rattle.grid_points.proofs.Accepted.{accepted}
+use Rattle.grid_points.proofs.Round.{block-fits}
+use Rattle.grid_points.specs.Grid.{lent}
+use Rattle.points_in_order.proofs.next_point.Goals as goal
+
+-- what is known of the block of a turn
+module _ (c : tie.After-wide2 invariant-loop decreases-loop) where
+  abbrev s : tie.Start invariant-loop decreases-loop
+  s = c.before.before.before.before.before.before.before.before
+
+  abbrev k : ℕ
+  k = c.before.before.before.before.before.loop.j - 1
+
+  state : Passed s.args.sizes.now s.args.point.now (suc k) false
+      c.before.before.before.before.before.loop.point
+  state =
+      let e : c.before.before.before.before.before.loop.j ≡ suc k = omega arith in
+      rw e at c.before.before.before.before.before.loop.invariant.0
+
+  first-is : c.before.before.wide.result ≡ sum (take k s.args.sizes.now)
+  first-is = c.before.before.wide.ensures ∙ s.pre.1.grid.first k (omega arith)
+
+  inside : sum (take k s.args.sizes.now) + get_or s.args.sizes.now k 0
+      ≤ length c.before.before.before.before.before.loop.point
+  inside =
+      let g = lent s.args.sizes.now s.pre.0 in
+      omega (
+        arith,
+        block-fits s.args.sizes.now k,
+        point-length g (accepted g s.pre.1.grid.accepted) s.args.point.now s.pre.1.is_point,
+      )
+
+  abbrev f : ℕ
+  f = c.before.before.wide.result
+
+  abbrev n : ℕ
+  n = f + c.wide2.result - f
+
+  abbrev now : List ℕ
+  now = c.before.before.before.before.before.loop.point
+
+  turned : (b : List ℕ) (moved : Bool) → after (take n (drop f now)) ≡ point_step moved b
+      → Passed s.args.sizes.now s.args.point.now k moved (take f now ++ (b ++ drop n (drop f now)))
+  turned b moved = lent_turn s.args.sizes.now s.args.point.now k
+      c.before.before.before.before.before.loop.point (omega arith) state c.before.before.wide.result
+      c.wide2.result first-is c.wide2.ensures b moved inside
+
+pub loop-j-init : goal.loop-j-init
+loop-j-init c = (
+  passed_start c.args.sizes.now c.args.point.now,
+  omega arith,
+  refl,
+)
+
+pub bounds-firsts-j : goal.bounds-firsts-j
+bounds-firsts-j c =
+    omega (arith, (accepted (lent c.args.sizes.now c.requires.0) c.requires.1.grid.accepted).few_blocks)
+
+pub overflow_add-end : goal.overflow_add-end
+overflow_add-end c = omega (arith, first-is c, inside c)
+
+pub offset_bounds-point-first : goal.offset_bounds-point-first
+offset_bounds-point-first c = omega (arith, first-is c, inside c)
+
+pub slice_bounds-advance_block-end : goal.slice_bounds-advance_block-end
+slice_bounds-advance_block-end c = let e = first-is c in let i = inside c in search rules
+
+pub advance_block-requires : goal.advance_block-requires
+advance_block-requires c =
+    let l = c.loop-j in
+    lent-ready c.args.sizes.now c.args.point.now (l.j - 1) l.point (omega arith) (state (goal.at.advance_block-requires c).After-wide)
+    c.wide-first.result c.wide.result (first-is (goal.at.advance_block-requires c).After-wide)
+    c.wide.ensures c.requires.0 c.args.firsts.now c.requires.1
+
+pub returns-then-advance_block : goal.returns-then-advance_block
+returns-then-advance_block c =
+    let a = c.advance_block in
+    let p = turned (goal.at.returns-then-advance_block c).After-wide a.new.0 true (a.ensures ∙ ap (λ (b : Bool). point_step b a.new.0) c.if-advance_block.true) in record { point_after = passed_moved c.args.sizes.now c.args.point.now (k (goal.at.returns-then-advance_block c).After-wide) _ p; upper_bound = (omega arith, p.before) }
+
+pub loop-j-preserved : goal.loop-j-preserved
+loop-j-preserved c =
+    let a = c.advance_block in (
+      turned (goal.at.loop-j-preserved c).After-wide a.new.0 false
+          (a.ensures ∙ ap (λ (b : Bool). point_step b a.new.0) c.if-advance_block.false),
+      omega arith,
+      omega arith,
+    )
+
+pub returns : goal.returns
+returns c =
+    let l = c.loop-j in
+    let e : l.j ≡ 0 = omega arith in record { point_after = passed_end c.args.sizes.now c.args.point.now l.point (rw e at l.invariant.0); upper_bound = (omega (arith, (accepted (lent c.args.sizes.now c.requires.0) c.requires.1.grid.accepted).some_block), refl) }

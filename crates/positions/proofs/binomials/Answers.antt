@@ -1,0 +1,65 @@
+-- `binomials` meets its contract. The invariant: the blocks so far have their rows. Assumes nothing.
+use mathlib.Core.Logic.{⊎_elim}
+use mathlib.Core.Path.{◌≡◌}
+use Prim.Native.Nat.{ℕ, ◌-◌, ◌≤◌, ◌<◌}
+use lib.ListN.{length, get_or, take}
+use Rattle.combinatorics.proofs.Basics.{before_or_not}
+use Rattle.grid.proofs.Fields.{made-size, made-division, made-blocks, blocks-range, size-range, count-range}
+use Rattle.positions.proofs.Table.{rows-kept}
+use Rattle.positions.specs.Binomials.{HasRows}
+use Rattle.grid_points.specs.Grid.{size, division}
+use Rattle.grid.specs.Made.{shape}
+use borrow.Author.Rules.{rules}
+use native.Mathlib.Omega.{arith}
+use Rattle.positions.proofs.binomials.Goals as goal
+
+pub loop-j-init : goal.loop-j-init
+loop-j-init c = (
+  omega arith,
+  c.requires.1,
+  (λ i h. absurd (omega arith)),
+  (blocks-range _ c.requires.0).1,
+)
+
+pub fill_block-requires : goal.fill_block-requires
+fill_block-requires c =
+    let l = c.loop-j in
+    let s = c.args.g in
+    let m = c.requires.0 in
+    let r = size-range s m l.j (omega arith) in
+    rw (
+      c.wide.ensures,
+      c.wide16.ensures.0,
+      made-size s m l.j (omega arith),
+      made-division s m l.j (omega arith),
+    ) record { le_size = (r.0, r.1, count-range s m l.j (omega arith)); t_len = l.invariant.1 }
+
+pub loop-j-preserved : goal.loop-j-preserved
+loop-j-preserved c =
+    let l = c.loop-j in
+    let s = c.args.g in
+    let m = c.requires.0 in
+    let e = c.fill_block.ensures in (
+      omega arith,
+      e.0,
+      (λ i h. ⊎_elim
+          (λ b. rows-kept (size (shape s) i) (division (shape s) i) l.t c.fill_block.new.t
+          (size-range s m i (omega arith)).1 (count-range s m i (omega arith)) (l.invariant.2 i b) e.1)
+          (λ b.
+          let q : i ≡ l.j = omega arith in
+          rw (
+            q,
+            ← made-size s m l.j (omega arith),
+            ← made-division s m l.j (omega arith),
+            ← c.wide.ensures,
+            ← c.wide16.ensures.0,
+          ) e.2)
+          (before_or_not i l.j)),
+      l.invariant.3,
+    )
+
+pub returns : goal.returns
+returns c =
+    let l = c.loop-j in
+    let s = c.args.g in
+    record { rows = λ j h. l.invariant.2 j (omega (arith, made-blocks s c.requires.0)) }

@@ -1,0 +1,51 @@
+-- `falls::tails` meets its contract. The invariant: the tails from k on stand in the array, and the last is that of k.
+-- Assumes nothing.
+use mathlib.Core.Path.{◌≡◌, refl}
+use Prim.Native.Nat.{ℕ, suc, ◌+◌, ◌-◌, ◌*◌, ◌≤◌, ◌<◌}
+use lib.ListN.{length, length-set}
+use Rattle.combinatorics.proofs.Turns.{at_set}
+use Rattle.grid_points.specs.Grid.{Point, at}
+use Rattle.positions.proofs.ByTails.{tail}
+use borrow.Author.Rules.{rules}
+use native.Mathlib.Omega.{arith}
+use Rattle.positions.proofs.falls.tails.Goals as goal
+use Rattle.positions.proofs.falls.tails.Goals.{After-wide16}
+
+-- one index more
+next-tail : (y : Point) (m k : ℕ) → 0 < k → k ≤ m → tail y (k - 1) (m - (k - 1)) ≡ at y (k - 1) + tail y k (m - k)
+next-tail y m k l h =
+    let a : m - (k - 1) ≡ suc (m - k) = omega arith in
+    let b : suc (k - 1) ≡ k = omega arith in
+    rw (a, b)
+
+summed : (c : After-wide16)
+    → let l = c.loop-k in
+    let a = c.args in
+    l.last + c.wide16.result ≡ tail a.y.now (l.k - 1) (a.m - (l.k - 1))
+summed c =
+    let l = c.loop-k in
+    let a = c.args in
+    omega (arith, next-tail a.y.now a.m l.k (omega arith) (omega arith), c.wide16.ensures.0)
+
+pub loop-k-init : goal.loop-k-init
+loop-k-init c =
+    let none : c.args.m - c.args.m ≡ 0 = omega arith in
+    (omega arith, omega arith, rw none, refl, (λ i h l. absurd (omega arith)))
+
+pub loop-k-preserved : goal.loop-k-preserved
+loop-k-preserved c =
+    let l = c.loop-k in
+    let a = c.args in (
+      omega arith,
+      omega arith,
+      summed c,
+      simp length-set l.invariant.3,
+      (λ i h m. at_set
+          (λ x. x ≡ tail a.y.now i (a.m - i))
+          l.sums (l.k - 1) (l.last + c.wide16.result) i (omega (arith, l.invariant.3))
+          (λ same. rw same (summed c))
+          (λ other. l.invariant.4 i (omega (arith, other)) m)),
+    )
+
+pub returns : goal.returns
+returns c = λ k h. c.loop-k.invariant.4 k (omega arith) h

@@ -1,0 +1,27 @@
+-- `ranks::in_block` meets its contract. The invariant: the rank and the position of the k + 1 coordinates to come make
+-- the position of all. Assumes nothing.
+use mathlib.Core.List.{List, map}
+use mathlib.Core.Path.{◌≡◌, sym, ap, ◌∙◌, subst}
+use Prim.Native.Nat.{ℕ, ◌+◌, ◌-◌, ◌≤◌, ◌<◌, pred}
+use Rattle.combinatorics.specs.Counting.{choose}
+use Rattle.combinatorics.specs.Lists.{sum, up_from}
+use Rattle.positions.proofs.Positions.{rank_of, rank_turn, rank_end, rank_below}
+use Rattle.positions.proofs.Steps.{after-at}
+use Rattle.positions.proofs.Table.{in_table, in_smaller}
+use Rattle.grid_points.specs.Grid.{at}
+use Rattle.positions.specs.Steps.{after_steps}
+use borrow.Author.Rules.{rules}
+use native.Mathlib.Omega.{arith}
+use Rattle.positions.proofs.ranks.in_block.Given as goal
+
+abbrev pub invariant-loop-k : goal.invariant-loop-k
+invariant-loop-k l =
+    (1 ≤ l.k)
+    × (l.k < l.size)
+    × (l.i + l.k + 1 ≡ l.first + l.size)
+    × (l.left ≤ l.division)
+    × (sum (map (at (after_steps l.y l.steps)) (up_from l.i (l.k + 1))) ≡ l.left)
+    × (l.rank + rank_of (after_steps l.y l.steps) l.i (l.k + 1) l.left ≡ rank_of (after_steps l.y l.steps) l.first l.size l.division)
+
+abbrev pub decreases-loop-k : goal.decreases-loop-k
+decreases-loop-k l = l.k
