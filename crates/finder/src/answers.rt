@@ -22,7 +22,7 @@ use path_pass::{Finish, pass};
 use positions::ENTRIES;
 
 // What a run answers. The block counts from 1. The vertices, m numbers each, stand at the front of the answer buffer.
-#[derive(Drop)]
+#[derive(Clone, Copy)]
 pub enum RunAnswer {
     // The number of the first of questions 1 to 8 that is answered no.
     Refused(u8),

@@ -209,7 +209,7 @@ fn u32_of(x: u8) -> u32
 }
 
 // What is read of the point that has just come in: its mark; or that its label is not yet known, with its position.
-#[derive(Drop)]
+#[derive(Clone, Copy)]
 pub enum LookedUp {
     Marked(u32),
     Unknown(usize),

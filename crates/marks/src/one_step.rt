@@ -12,7 +12,7 @@ use moves::Status;
 use positions::ENTRIES;
 
 // A position, or that it is not found in this way.
-#[derive(Drop)]
+#[derive(Clone, Copy)]
 pub enum Found {
     At(usize),
     Nothing,

@@ -23,7 +23,7 @@ use nearest_pass::pass_noting;
 use positions::ENTRIES;
 
 // What the run answers, and what is reported besides.
-#[derive(Drop)]
+#[derive(Clone, Copy)]
 pub struct Report {
     pub run: RunAnswer,
     pub nearest: Nearest,

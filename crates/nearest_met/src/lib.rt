@@ -24,7 +24,7 @@ use moves::{Status, advance};
 
 // What is kept of the vertices met so far: the position of the nearest and its distance, before the first one a
 // distance that no vertex has; and how many positions the list has.
-#[derive(Drop)]
+#[derive(Clone, Copy)]
 pub struct Tally {
     pub nearest: usize,
     pub least: u64,
@@ -32,7 +32,7 @@ pub struct Tally {
 }
 
 // The position of the point that has come in at a place, if one has.
-#[derive(Drop)]
+#[derive(Clone, Copy)]
 pub enum Came {
     At(usize),
     Nothing,

@@ -15,14 +15,14 @@ use positions::ENTRIES;
 use ways::make_move;
 
 // The nearest visited vertex, by its position, and how many positions are listed; nothing where the run reached no end.
-#[derive(Drop)]
+#[derive(Clone, Copy)]
 pub enum Nearest {
     Nothing,
     Vertex { position: usize, listed: usize },
 }
 
 // How a pass ended, and what is reported of the vertices that it has met.
-#[derive(Drop)]
+#[derive(Clone, Copy)]
 pub struct NotingPass {
     pub finish: Finish,
     pub nearest: Nearest,

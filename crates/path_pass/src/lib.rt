@@ -22,7 +22,7 @@ use ways::make_move;
 // How a pass ended: at the path's end, after so many places, with an index of the block for which the simplex is
 // complete, the status at the last place and the labels read; at a place that needs a label not yet known, after so
 // many places before it, with the label's position; or with the budget spent.
-#[derive(Drop)]
+#[derive(Clone, Copy)]
 pub enum Finish {
     Ended {
         kind: Kind,
@@ -40,7 +40,7 @@ pub enum Finish {
 
 // Where a pass stands: the status, how much of the budget is left, and the labels read up to the place, its own
 // included.
-#[derive(Drop)]
+#[derive(Clone, Copy)]
 pub struct Stand {
     pub status: Status,
     pub left: u64,
@@ -48,7 +48,7 @@ pub struct Stand {
 }
 
 // The label of the point that has come in is known, or nothing was to be read; or it is not, and stands at a position.
-#[derive(Drop)]
+#[derive(Clone, Copy)]
 pub enum Looked {
     Known,
     Unknown(usize),

@@ -17,7 +17,7 @@ use trail_steps::{arrive, way_on};
 use ways::{gone_by, moved_by};
 
 // Where the records lead: to a place, with the number of them that bring a point in; or nowhere.
-#[derive(Drop)]
+#[derive(Clone, Copy)]
 pub enum Reached {
     At { status: Status, came: u64 },
     Nowhere,

@@ -16,7 +16,7 @@ use trail_visits::{Before, bytes_to, tell};
 use ways::make_move;
 
 // How a pass ended, and the bytes of the whole trail, which a pass that reached no end does not know: 0 of it.
-#[derive(Drop)]
+#[derive(Clone, Copy)]
 pub struct RecordingPass {
     pub finish: Finish,
     pub bytes: usize,

@@ -18,7 +18,7 @@ use trail_records::{first_record, stands};
 
 // What the reader answers: the number of the first of questions 1 to 5 and 17 that is answered no; or how many points
 // the place has, T and U as masks, bit h for index h + 1, and the labels read up to the place.
-#[derive(Drop)]
+#[derive(Clone, Copy)]
 pub enum ReadAnswer {
     Refused(u8),
     Place {
@@ -30,7 +30,7 @@ pub enum ReadAnswer {
 }
 
 // The answer, and the points of the place in rising coefficient sum, m numbers each, at the front of 256 numbers.
-#[derive(Drop)]
+#[derive(Clone, Copy)]
 pub struct Reading {
     pub answer: ReadAnswer,
     pub points: [u16; 256],

@@ -14,7 +14,7 @@ use trail_records::{IndexSets, Record, first_record, kept_record, length_of, put
 use ways::{gone_by, way_here};
 
 // What a record looks at of the place before its own: T and U, and the position of the point that has left.
-#[derive(Drop)]
+#[derive(Clone, Copy)]
 pub struct Before {
     pub t: u16,
     pub u: u16,

@@ -22,7 +22,7 @@ use trail_pass::pass_recording;
 
 // What the run answers, which is refused by 17 too: the trail buffer is shorter than the trail; and how many bytes of
 // the trail are written, at the front of their buffer: 0 without an end.
-#[derive(Drop)]
+#[derive(Clone, Copy)]
 pub struct TrailAnswer {
     pub run: RunAnswer,
     pub bytes: usize,

@@ -17,7 +17,7 @@ use joining::grow;
 use moves::{Outcome, Status, leave};
 
 // The point that leaves, by its number; or the index that joins T; or neither, which only a reader meets.
-#[derive(Drop)]
+#[derive(Clone, Copy)]
 pub enum Way {
     Leaves(usize),
     Joins(usize),
