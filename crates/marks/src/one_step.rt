@@ -1,5 +1,5 @@
 // The position of a point by that of the point beside it, in a grid of one block.
-ghost use Rattle.std.specs.Prelude.{cond, List, ◌≡◌, ℕ, ◌+◌, ◌≤◌, ◌<◌, ltb, take};
+ghost use Rattle.std.specs.Prelude.{[], cond, List, ◌≡◌, ℕ, ◌+◌, ◌≤◌, ◌<◌, ltb, take};
 ghost use Rattle.arrays.specs.Rounds.{round, round_of};
 ghost use Rattle.moves.specs.Held.{held_but_first};
 ghost use Rattle.positions.specs.Binomials.{Measured};

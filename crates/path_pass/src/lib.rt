@@ -2,7 +2,7 @@
 // report where the path came nearest.
 #![tactic(auto)]
 
-ghost use Rattle.std.specs.Prelude.{◌≡◌, ◌+◌, ◌^◌, ◌≤◌, ◌<◌, length};
+ghost use Rattle.std.specs.Prelude.{[], ◌≡◌, ◌+◌, ◌^◌, ◌≤◌, ◌<◌, length};
 ghost use Rattle.arrays.specs.Rounds.{round_of};
 ghost use Rattle.marks.specs.Reading.{CanFind, Readable, table_problem};
 ghost use Rattle.moves.specs.Held.{held};

@@ -2,7 +2,7 @@
 // public here is for the reader, which shows what it asks.
 #![tactic(auto)]
 
-ghost use Rattle.std.specs.Prelude.{map, ◌≡◌, suc, ◌+◌, ◌*◌, ◌≤◌, ◌<◌, drop, get_or, length, take};
+ghost use Rattle.std.specs.Prelude.{[], map, ◌≡◌, suc, ◌+◌, ◌*◌, ◌≤◌, ◌<◌, drop, get_or, length, take};
 ghost use Rattle.arrays.specs.Rounds.{round_of};
 ghost use Rattle.combinatorics.specs.Edits.{found};
 ghost use Rattle.marks.specs.Reading.{CanFind};
