@@ -1,10 +1,6 @@
 -- `end_line` meets its contract: the bytes of each case are those of the definition. Assumes nothing.
 use native.Mathlib.Omega.{arith}
-use borrow.Author.Rules.{rules}
 use Rattle.sheet.proofs.end_line.Goals as goal
-
-pub enum_told-1 : goal.enum_told-1
-enum_told-1 c = search rules
 
 pub returns-in-Place : goal.returns-in-Place
 returns-in-Place c =
