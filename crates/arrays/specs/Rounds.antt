@@ -1,15 +1,15 @@
 -- Lent arrays, and the ways round the blocks in three of them. Assumes nothing.
 use Rattle.std.specs.Prelude.{List, [], ℕ}
-use Rattle.std.specs.Borrow.{Bor}
+use Rattle.std.specs.Borrow.{Bor, MutBor}
 use denote.Triple.Both.{Both}
 use Rattle.rules.specs.Moves.{Round}
 
--- a lent array, as a `requires` sees it, and as an `ensures` does
+-- a lent array that a call reads, and one that it writes, as an `ensures` sees it
 abbrev pub Lent : Type 0
 Lent = Bor (List ℕ)
 
 abbrev pub LentBoth : Type 0
-LentBoth = Both Lent Lent
+LentBoth = Both (MutBor (List ℕ)) (MutBor (List ℕ))
 
 -- the ways round the blocks, in three arrays
 abbrev pub round_of : List ℕ → List ℕ → List ℕ → Round

@@ -15,9 +15,9 @@ pub fn go_forward(
     h: usize,
     b: usize,
 )
-    requires can_go { CanGo previous order marks n h b }
-    requires can_go_forward { CanGoForward previous first coefficients h b }
-    ensures { GoesForward previous first coefficients order marks n h b }
+    requires can_go { CanGo previous.now order.old marks.old n h b }
+    requires can_go_forward { CanGoForward previous.now first.old coefficients.old h b }
+    ensures { GoesForward previous.now first coefficients order marks n h b }
 {
     shift(first, h, b);
     raise(coefficients, previous, h, b);
@@ -37,9 +37,9 @@ pub fn go_back(
     h: usize,
     b: usize,
 )
-    requires can_go { CanGo previous order marks n h b }
-    requires can_go_back { CanGoBack previous first coefficients h b }
-    ensures { GoesBack previous first coefficients order marks n h b }
+    requires can_go { CanGo previous.now order.old marks.old n h b }
+    requires can_go_back { CanGoBack previous.now first.old coefficients.old h b }
+    ensures { GoesBack previous.now first coefficients order marks n h b }
 {
     shift(first, b, h);
     lower(coefficients, previous, h, b);

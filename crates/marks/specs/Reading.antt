@@ -1,6 +1,5 @@
 -- What the reading of a mark asks, and the ways in which a position is found. Assumes nothing.
 use Rattle.std.specs.Prelude.{Bool, true, not, ◌&&◌, ◌||◌, cond, List, [], ◌≡◌, ℕ, ◌+◌, ◌-◌, ◌≤◌, ◌<◌, eqb, ltb, leb, length}
-use Rattle.arrays.specs.Rounds.{Lent}
 use Rattle.positions.specs.Binomials.{HasBinomials}
 use Rattle.positions.specs.Falls.{Falls}
 use Rattle.grid_points.specs.Grid.{Grid, Point, at, block_of, division, is_grid_point, num_points, position}
@@ -79,8 +78,8 @@ FindsBeside g tails a r = (first : List ℕ) → FallsBeside (shape g) tails (a 
 
 -- the arrays hold the state but for its first point and that point's coefficients, which may be any for which the
 -- square is known
-abbrev pub held_steps : Round → Lent → Lent → Status → List ℕ → List ℕ → State
-held_steps round order marks s first coefficients = state_of round first coefficients order.now marks.now s
+abbrev pub held_steps : Round → List ℕ → List ℕ → Status → List ℕ → List ℕ → State
+held_steps round order marks s first coefficients = state_of round first coefficients order marks s
 
 abbrev pub HasSquare : GridStruct → (List ℕ → List ℕ → State) → Type 0
 HasSquare g a = (first : List ℕ) × (coefficients : List ℕ) × Exchanged (shape g) (a first coefficients)

@@ -91,7 +91,7 @@ fn by_square(
     s: Status,
 ) -> Found
     ghost a: { List ℕ → List ℕ → State }
-    requires s_value { held_steps (round_back previous sizes) order marks s ≡ a }
+    requires s_value { held_steps (round_back previous sizes) order.now marks.now s ≡ a }
     requires made { IsMade g × HasOrder previous.now (take s.count order.now) s × (0 < s.active) }
     requires has_square { HasSquare g a }
     ensures { FindsCorner g a result }
@@ -122,7 +122,7 @@ fn position_apart(
     s: Status,
 ) -> usize
     ghost a: { State }
-    requires s_value { held (round_back previous sizes) first coefficients order marks s ≡ a }
+    requires s_value { held (round_back previous sizes) first.now coefficients.now order.now marks.now s ≡ a }
     requires measured { Measured g binomials.now × CanFind g tails.now a s }
     ensures { result ≡ position (shape g) (point_on (shape g) a a.active) }
 {
@@ -178,7 +178,7 @@ pub fn position_in(
     s: Status,
 ) -> usize
     ghost a: { State }
-    requires s_value { held (round_back previous sizes) first coefficients order marks s ≡ a }
+    requires s_value { held (round_back previous sizes) first.now coefficients.now order.now marks.now s ≡ a }
     requires measured { Measured g binomials.now × CanFind g tails.now a s }
     ensures { result ≡ position (shape g) (point_on (shape g) a a.active) }
 {
@@ -230,7 +230,7 @@ pub fn mark_in(
     s: Status,
 ) -> LookedUp
     ghost a: { State }
-    requires s_value { held (round_back previous sizes) first coefficients order marks s ≡ a }
+    requires s_value { held (round_back previous sizes) first.now coefficients.now order.now marks.now s ≡ a }
     requires readable { Readable g binomials.now table.now × CanFind g tails.now a s }
     ensures { result ≡ label_reading (table_problem g table.now) (point_on (shape g) a a.active) }
 {

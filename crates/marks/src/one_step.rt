@@ -68,7 +68,7 @@ pub fn by_step_to(
     s: Status,
 ) -> Found
     ghost a: { List ℕ → State }
-    requires s_value { held_but_first (round_back previous sizes) coefficients order marks s ≡ a }
+    requires s_value { held_but_first (round_back previous sizes) coefficients.now order.now marks.now s ≡ a }
     requires measured { Measured g binomials.now × (g.blocks ≡ 1) × (0 < s.active) }
     requires has_order { HasOrder previous.now (take s.count order.now) s × CanFall g tails.now a }
     ensures { FindsBeside g tails.now a result }
@@ -98,7 +98,7 @@ pub fn by_step_from(
     s: Status,
 ) -> Found
     ghost a: { List ℕ → State }
-    requires s_value { held_but_first (round_back previous sizes) coefficients order marks s ≡ a }
+    requires s_value { held_but_first (round_back previous sizes) coefficients.now order.now marks.now s ≡ a }
     requires measured { Measured g binomials.now × (g.blocks ≡ 1) × (s.active < s.count) }
     requires has_order { HasOrder previous.now (take s.count order.now) s × CanFall g tails.now a }
     ensures { FindsBeside g tails.now a result }

@@ -1,6 +1,6 @@
 -- The state that lent arrays hold before a call and after it: what the contracts of this crate say. Assumes nothing.
 use Rattle.std.specs.Prelude.{List, ◌≡◌, ℕ, suc, ◌-◌, ◌≤◌, ◌<◌, take}
-use Rattle.arrays.specs.Rounds.{Lent, LentBoth}
+use Rattle.arrays.specs.Rounds.{LentBoth}
 use Rattle.grid_points.specs.Grid.{at}
 use Rattle.rules.specs.Ready.{IndicesBelow, RoundBelow, SixteenEach, Ready, ReadyGrow}
 use Rattle.rules.specs.Moves.{State, Round, After, goes, ends_at_place, ends_at_facet, source_in, joined}
@@ -23,16 +23,16 @@ state_of round first coefficients order marks s = record {
 }
 
 -- the state as a call begins
-abbrev pub held : Round → Lent → Lent → Lent → Lent → Status → State
-held round first coefficients order marks s = state_of round first.now coefficients.now order.now marks.now s
+abbrev pub held : Round → List ℕ → List ℕ → List ℕ → List ℕ → Status → State
+held round first coefficients order marks s = state_of round first coefficients order marks s
 
 -- of a call that is lent all but the first point: whatever that is
-abbrev pub held_but_first : Round → Lent → Lent → Lent → Status → List ℕ → State
-held_but_first round coefficients order marks s first = state_of round first coefficients.now order.now marks.now s
+abbrev pub held_but_first : Round → List ℕ → List ℕ → List ℕ → Status → List ℕ → State
+held_but_first round coefficients order marks s first = state_of round first coefficients order marks s
 
 -- of a call that is lent no first point, or not its coefficients
-abbrev pub held_by : Round → List ℕ → List ℕ → Lent → Lent → Status → State
-held_by round first coefficients order marks s = state_of round first coefficients order.now marks.now s
+abbrev pub held_by : Round → List ℕ → List ℕ → List ℕ → List ℕ → Status → State
+held_by round first coefficients order marks s = state_of round first coefficients order marks s
 
 -- what an answer stands for; at an end the status is that of before
 abbrev pub answered : Round → List ℕ → List ℕ → List ℕ → List ℕ → Status → Outcome → After
@@ -64,8 +64,8 @@ pub record SoundIn (order marks : List ℕ) (s : Status) : Type 0 where
   pub few : s.count ≤ 15
   pub order_below : IndicesBelow (take s.count order)
 
-abbrev pub Sound : Lent → Lent → Status → Type 0
-Sound order marks s = SoundIn order.now marks.now s
+abbrev pub Sound : List ℕ → List ℕ → Status → Type 0
+Sound order marks s = SoundIn order marks s
 
 -- point i and entry e of the order can go
 pub record CanShrink (s : Status) (i e : ℕ) : Type 0 where
@@ -73,17 +73,17 @@ pub record CanShrink (s : Status) (i e : ℕ) : Type 0 where
   pub entry : e < s.count
 
 -- what the move asks
-pub record CanStep (order marks : Lent) (a : State) : Type 0 where
+pub record CanStep (order marks : List ℕ) (a : State) : Type 0 where
   pub below : RoundBelow a.round
-  pub each : SixteenEach order.now marks.now
+  pub each : SixteenEach order marks
   pub ready : Ready a
 
 -- index h can join T before entry i of the order
-pub record CanJoin (order marks : Lent) (s : Status) (i h : ℕ) : Type 0 where
+pub record CanJoin (order marks : List ℕ) (s : Status) (i h : ℕ) : Type 0 where
   pub entry : i ≤ s.count
   pub room : s.count ≤ 14
   pub index : h < 16
-  pub each : SixteenEach order.now marks.now
+  pub each : SixteenEach order marks
 
 -- it has, whatever the ways round the blocks and the first point are
 pub record Joins (order marks : LentBoth) (s : Status) (i h rule : ℕ) (r : Status) : Type 0 where
@@ -93,9 +93,9 @@ pub record Joins (order marks : LentBoth) (s : Status) (i h rule : ℕ) (r : Sta
   pub each : SixteenEach order.exit.now marks.exit.now
 
 -- the label h can join T
-pub record CanGrow (order marks : Lent) (a : State) (h : ℕ) : Type 0 where
+pub record CanGrow (order marks : List ℕ) (a : State) (h : ℕ) : Type 0 where
   pub below : IndicesBelow a.round.next
-  pub each : SixteenEach order.now marks.now
+  pub each : SixteenEach order marks
   pub order_below : IndicesBelow a.order
   pub ready : ReadyGrow a h
 

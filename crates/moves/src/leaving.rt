@@ -28,8 +28,8 @@ fn shrink(
     joins: bool,
 ) -> Status
     ghost a: { State }
-    requires s_value { held_by no_round [] [] order marks s ≡ a }
-    requires sound { Sound order marks s }
+    requires s_value { held_by no_round [] [] order.old marks.old s ≡ a }
+    requires sound { Sound order.old marks.old s }
     requires can_shrink { CanShrink s i e }
     ensures { Gives a [] [] order marks s (Outcome.Moved result) (goes (shrunk a i e joins)) }
 {
@@ -82,8 +82,8 @@ fn leave_first_at(
     b: usize,
 ) -> Outcome
     ghost a: { State }
-    requires s_value { held (round previous next sizes) first coefficients order marks s ≡ a }
-    requires round_below { RoundBelow a.round × Sound order marks s }
+    requires s_value { held (round previous next sizes) first.old coefficients.old order.old marks.old s ≡ a }
+    requires round_below { RoundBelow a.round × Sound order.old marks.old s }
     requires first_step { IsFirstStep a h b }
     requires ready_first { ReadyFirst a }
     ensures { GivesAll a first coefficients order marks s result (leave_first a) }
@@ -124,8 +124,8 @@ fn leave_first(
     s: Status,
 ) -> Outcome
     ghost a: { State }
-    requires s_value { held (round previous next sizes) first coefficients order marks s ≡ a }
-    requires round_below { RoundBelow a.round × Sound order marks s }
+    requires s_value { held (round previous next sizes) first.old coefficients.old order.old marks.old s ≡ a }
+    requires round_below { RoundBelow a.round × Sound order.old marks.old s }
     requires ready_first { ReadyFirst a }
     ensures { GivesAll a first coefficients order marks s result (leave_first a) }
 {
@@ -157,8 +157,8 @@ fn leave_middle(
     i: usize,
 ) -> Status
     ghost a: { State }
-    requires s_value { held_by (round_back previous sizes) first.now [] order marks s ≡ a }
-    requires indices_below { IndicesBelow a.round.previous × Sound order marks s }
+    requires s_value { held_by (round_back previous sizes) first.now [] order.old marks.old s ≡ a }
+    requires indices_below { IndicesBelow a.round.previous × Sound order.old marks.old s }
     requires middle { IsMiddle s i }
     ensures { Gives a first.now [] order marks s (Outcome.Moved result) (goes (leave_middle a i)) }
 {
@@ -192,8 +192,8 @@ fn leave_last_at(
     h: usize,
 ) -> Status
     ghost a: { State }
-    requires s_value { held (round_back previous sizes) first coefficients order marks s ≡ a }
-    requires indices_below { IndicesBelow a.round.previous × Sound order marks s }
+    requires s_value { held (round_back previous sizes) first.old coefficients.old order.old marks.old s ≡ a }
+    requires indices_below { IndicesBelow a.round.previous × Sound order.old marks.old s }
     requires last_step { IsLastStep s a h }
     requires ready_last { ReadyLast a h }
     ensures { GivesAll a first coefficients order marks s (Outcome.Moved result) (goes (leave_last a)) }
@@ -237,8 +237,8 @@ fn leave_last(
     s: Status,
 ) -> Status
     ghost a: { State }
-    requires s_value { held (round_back previous sizes) first coefficients order marks s ≡ a }
-    requires indices_below { IndicesBelow a.round.previous × Sound order marks s }
+    requires s_value { held (round_back previous sizes) first.old coefficients.old order.old marks.old s ≡ a }
+    requires indices_below { IndicesBelow a.round.previous × Sound order.old marks.old s }
     requires ready_last { ReadyLast a (at a.order (length a.order - 1)) }
     ensures { GivesAll a first coefficients order marks s (Outcome.Moved result) (goes (leave_last a)) }
 {
@@ -259,8 +259,8 @@ pub fn leave(
     i: usize,
 ) -> Outcome
     ghost a: { State }
-    requires s_value { held (round previous next sizes) first coefficients order marks s ≡ a }
-    requires round_below { RoundBelow a.round × Sound order marks s }
+    requires s_value { held (round previous next sizes) first.old coefficients.old order.old marks.old s ≡ a }
+    requires round_below { RoundBelow a.round × Sound order.old marks.old s }
     requires ready_leave { ReadyLeave a i }
     ensures { GivesAll a first coefficients order marks s result (left a i) }
 {

@@ -69,7 +69,7 @@ pub fn look_up(
     s: Status,
 ) -> Looked
     ghost a: { State }
-    requires s_value { held (round_back previous sizes) first coefficients order marks s ≡ a }
+    requires s_value { held (round_back previous sizes) first.now coefficients.now order.now marks.old s ≡ a }
     requires readable { Readable g binomials.now table.now × (length marks.old ≡ 16) }
     requires can_find { s.rule < 6 → CanFind g tails.now a s }
     ensures { LooksUp (table_problem g table.now) a s marks.old marks.new result }

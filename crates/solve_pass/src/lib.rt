@@ -76,7 +76,7 @@ fn visit(
     s: Status,
 ) -> Outcome
     ghost a: { State }
-    requires s_value { held (round previous next block_sizes) first coefficients order marks s ≡ a }
+    requires s_value { held (round previous next block_sizes) first.old coefficients.old order.old marks.old s ≡ a }
     requires sixteen_each { SixteenEach order.old marks.old }
     requires can_visit_game { CanVisitGame (lent sizes.now divisions.now) firsts.now owners.now rests.now losses.now
         indices a }

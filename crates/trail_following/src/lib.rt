@@ -50,7 +50,7 @@ pub fn follow(
     number: u64,
 ) -> Reached
     ghost a: { State }
-    requires begun_value { held (round previous next sizes) first coefficients order marks begun ≡ a }
+    requires begun_value { held (round previous next sizes) first.old coefficients.old order.old marks.old begun ≡ a }
     requires can_go_on { CanGoOn g binomials.now tails.now order.old marks.old a begun.count
         (length trail.now) from }
     ensures { ReachesFrom g tails.now trail.now from a number order.new

@@ -53,7 +53,7 @@ fn point_with(marks: &[u32; 16], n: usize, position: usize) -> usize
 // The point with a position leaves, if the place has it and another.
 fn leaving(marks: &[u32; 16], s: Status, position: usize) -> Way
     ghost a: { State }
-    requires s_value { held_marks marks s ≡ a }
+    requires s_value { held_marks marks.now s ≡ a }
     requires count_bound { (s.count ≤ 15) × (length marks.now ≡ 16) }
     ensures { result ≡ leaving a s.count position }
 {
@@ -87,7 +87,7 @@ fn joining(t: u16, m: usize, byte: usize) -> Way
 // What the record at a position of the trail names.
 pub fn way_on(trail: &[u8], at: usize, marks: &[u32; 16], s: Status, m: usize) -> Way
     ghost a: { State }
-    requires s_value { held_marks marks s ≡ a }
+    requires s_value { held_marks marks.now s ≡ a }
     requires count_bound { (s.count ≤ 15) × (length marks.now ≡ 16) }
     requires at_in_bounds { (at ≤ length trail.now) × (m ≤ 16) }
     ensures { result ≡ way_of m s.count a (drop at trail.now) }
@@ -124,7 +124,7 @@ fn come_in(
     s: Status,
 ) -> usize
     ghost a: { State }
-    requires s_value { held (round_back previous sizes) first coefficients order marks s ≡ a }
+    requires s_value { held (round_back previous sizes) first.now coefficients.now order.now marks.now s ≡ a }
     requires measured { Measured g binomials.now × (s.rule < 6 → CanFind g tails.now a s) }
     ensures { result ≡ come_position g a }
 {
@@ -164,7 +164,7 @@ pub fn arrive(
     at: usize,
 ) -> usize
     ghost a: { State }
-    requires s_value { held (round_back previous sizes) first coefficients order marks s ≡ a }
+    requires s_value { held (round_back previous sizes) first.now coefficients.now order.now marks.old s ≡ a }
     requires measured { Measured g binomials.now × (s.rule < 6 → CanFind g tails.now a s) }
     requires can_compare { CanCompare g a gone (length marks.old) (length trail.now) at }
     ensures marks_after { marks.new ≡ marks_with g a marks.old }

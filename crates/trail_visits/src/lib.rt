@@ -24,7 +24,7 @@ pub struct Before {
 // The record of the place, whose points all have their marks; at the front of the trail that of {v}.
 fn record_here(marks: &[u32; 16], s: Status, before: Before, at: usize) -> Record
     ghost a: { State }
-    requires s_value { held_marks marks s ≡ a }
+    requires s_value { held_marks marks.now s ≡ a }
     requires has_positions { HasPositions a s before }
     ensures { IsRecord (record_here a before at) result }
 {
@@ -43,7 +43,7 @@ fn record_here(marks: &[u32; 16], s: Status, before: Before, at: usize) -> Recor
 // The record is stored. Most places are reached by rule 1, and at these it needs no look at T and U.
 fn put_here(marks: &[u32; 16], s: Status, trail: &mut [u8], at: usize, before: Before)
     ghost a: { State }
-    requires s_value { held_marks marks s ≡ a }
+    requires s_value { held_marks marks.now s ≡ a }
     requires can_write { CanWrite a s trail.old at before }
     ensures { trail.new ≡ with_record a trail.old at before true }
 {
@@ -68,7 +68,7 @@ pub fn tell(
     writes: bool,
 ) -> usize
     ghost a: { State }
-    requires s_value { held_marks marks s ≡ a }
+    requires s_value { held_marks marks.now s ≡ a }
     requires can_tell { CanTell a s × (length marks.now ≡ 16) }
     requires can_write { writes ≡ true → CanWrite a s trail.old at before }
     ensures value { writes ≡ true → result ≡ gone_by a (way_here a) }

@@ -23,8 +23,8 @@ pub fn way(
     s: Status,
 ) -> Move
     ghost a: { State }
-    requires s_value { held (round previous next sizes) first list order marks s ≡ a }
-    requires can_step { CanStep order marks a × CanTry a × (m ≤ 16) }
+    requires s_value { held (round previous next sizes) first.now list.now order.now marks.now s ≡ a }
+    requires can_step { CanStep order.now marks.now a × CanTry a × (m ≤ 16) }
     ensures { result ≡ way_in m (make_move a) }
 {
     let mut f = *first;

@@ -1,7 +1,7 @@
 -- The way from a place to the next: a point that leaves, or an index that joins T; and the move that it names. The
 -- promises of the writer and the reader do not cite it. Assumes nothing.
 use Rattle.std.specs.Prelude.{true, cond, [], map, ◌≡◌, ℕ, ◌-◌, ◌≤◌, ◌<◌, ltb}
-use Rattle.arrays.specs.Rounds.{Lent, no_round}
+use Rattle.arrays.specs.Rounds.{no_round}
 use Rattle.combinatorics.specs.Edits.{found}
 use Rattle.moves.specs.Held.{state_of}
 use Rattle.moves.specs.declared.Status.{Status}
@@ -13,8 +13,8 @@ use Rattle.ways.specs.declared.Way.{Way}
 use Rattle.ways.specs.declared.Way.TheVariants.{Joins, Leaves, Nothing}
 
 -- of a state, what its marks and its status hold
-abbrev pub held_marks : Lent → Status → State
-held_marks marks s = state_of no_round [] [] [] marks.now s
+abbrev pub held_marks : List ℕ → Status → State
+held_marks marks s = state_of no_round [] [] [] marks s
 
 -- by the labels: after rules 6 and 7 the point named leaves, else the other point with the label that came in, if T has
 -- that, and else the label joins T

@@ -16,7 +16,7 @@ fn join(
     h: usize,
     rule: u8,
 ) -> Status
-    requires { CanJoin order marks s i h }
+    requires { CanJoin order.old marks.old s i h }
     ensures { Joins order marks s i h rule result }
 {
     let n = s.count;
@@ -41,8 +41,8 @@ pub fn grow(
     h: usize,
 ) -> Outcome
     ghost a: { State }
-    requires s_value { held_by (round_on next sizes) [] [] order marks s ≡ a }
-    requires can_grow { CanGrow order marks a h }
+    requires s_value { held_by (round_on next sizes) [] [] order.old marks.old s ≡ a }
+    requires can_grow { CanGrow order.old marks.old a h }
     ensures { Gives a [] [] order marks s result (grown a h) }
 {
     let n = s.count;

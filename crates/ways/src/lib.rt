@@ -28,7 +28,7 @@ pub enum Way {
 // label that came in joins T if it is not there, and if it is, the other point with that label leaves.
 pub fn way_here(marks: &[u32; 16], s: Status) -> Way
     ghost a: { State }
-    requires s_value { held_marks marks s ≡ a }
+    requires s_value { held_marks marks.now s ≡ a }
     requires can_tell { CanTell a s × (length marks.now ≡ 16) }
     ensures { result ≡ way_here a }
 {
@@ -47,7 +47,7 @@ pub fn way_here(marks: &[u32; 16], s: Status) -> Way
 // The position of the point that a way takes out; 0 where it takes none.
 pub fn gone_by(way: Way, marks: &[u32; 16], s: Status) -> usize
     ghost a: { State }
-    requires s_value { held_marks marks s ≡ a }
+    requires s_value { held_marks marks.now s ≡ a }
     requires count_bound { (s.count ≤ 15) × ((i : ℕ) → way ≡ Way.Leaves i → i ≤ s.count) }
     ensures { result ≡ gone_by a way }
 {
@@ -71,8 +71,8 @@ pub fn moved_by(
     way: Way,
 ) -> Outcome
     ghost a: { State }
-    requires s_value { held (round previous next sizes) first coefficients order marks s ≡ a }
-    requires round_below { RoundBelow a.round × Sound order marks s }
+    requires s_value { held (round previous next sizes) first.old coefficients.old order.old marks.old s ≡ a }
+    requires round_below { RoundBelow a.round × Sound order.old marks.old s }
     requires can_move { CanMove a way }
     ensures { GivesAll a first coefficients order marks s result (way_after a way) }
 {
@@ -105,8 +105,8 @@ pub fn make_move(
     s: Status,
 ) -> Outcome
     ghost a: { State }
-    requires s_value { held (round previous next sizes) first coefficients order marks s ≡ a }
-    requires can_step { CanStep order marks a }
+    requires s_value { held (round previous next sizes) first.old coefficients.old order.old marks.old s ≡ a }
+    requires can_step { CanStep order.old marks.old a }
     ensures { GivesAll a first coefficients order marks s result (make_move a) }
 {
     let way = way_here(marks, s);

@@ -14,6 +14,7 @@ use Rattle.combinatorics.specs.Edits.{found_from, found}
 use Rattle.rules.specs.Moves.{mark_label}
 use Rattle.rules.proofs.Marks.{labels_in}
 use Rattle.arrays.proofs.lists.find.Goals as goal
+use Rattle.arrays.proofs.lists.find.Goals.{then-label_in-x+else-k-but, else-label_in-x}
 
 pub loop-k-init : goal.loop-k-init
 loop-k-init c = (omega arith, omega arith, refl)
@@ -32,10 +33,10 @@ loop-k-preserved c =
     let a = c.args in
     let l = c.loop-k in
     let here = label-at a.a.now a.n l.k (omega arith) (omega arith) in
-    let other : (get_or (map mark_label (take a.n a.a.now)) l.k 0 ≡ a.x → l.k ≡ a.but) = ⊎_elim
-    (λ w e. w.1.left)
-    (λ w e. absurd (w.left (c.label_in.ensures ∙ sym here.1 ∙ e)))
-    c.if-label_in-x.branch in (
+    let other : (get_or (map mark_label (take a.n a.a.now)) l.k 0 ≡ a.x → l.k ≡ a.but) = elim c.if-label_in-x.branch [
+      then-label_in-x+else-k-but w ↦ λ e. w.if-k-but.false
+      | else-label_in-x w ↦ λ e. absurd (w.if-label_in-x.false (c.label_in.ensures ∙ sym here.1 ∙ e))
+      ] in (
       omega arith,
       omega arith,
       rw add-one

@@ -7,6 +7,7 @@ use borrow.Author.Rules.{rules}
 use native.Mathlib.Omega.{arith}
 use Rattle.rules.proofs.ZeroMask.{ZerosBelow, no-zeros, zero_more, none_more}
 use Rattle.arrays.proofs.points.zeros.Goals as goal
+use Rattle.arrays.proofs.points.zeros.Goals.{then-y-h-eq0, else-y-h-eq0}
 
 pub loop-h-init : goal.loop-h-init
 loop-h-init c = (omega arith, omega arith, no-zeros c.args.y.now)
@@ -17,10 +18,10 @@ loop-h-preserved c =
     let l = c.loop-h in (
       omega arith,
       omega arith,
-      ⊎_elim
-          (λ w. rw (w.2 ∙ w.1.ensures) (zero_more y l.h l.u (omega arith) l.invariant.2 w.0.taken))
-          (λ w. rw w.1 (none_more y l.h l.u l.invariant.2 w.0.left))
-          c.if-y-h-eq0.branch,
+      elim c.if-y-h-eq0.branch [
+          then-y-h-eq0 w ↦ rw (w.u-is ∙ w.add-u.ensures) (zero_more y l.h l.u (omega arith) l.invariant.2 w.if-y-h-eq0.true)
+          | else-y-h-eq0 w ↦ rw w.u-is (none_more y l.h l.u l.invariant.2 w.if-y-h-eq0.false)
+          ],
     )
 
 pub returns : goal.returns

@@ -16,7 +16,7 @@ pub loop-left-preserved : goal.loop-left-preserved
 loop-left-preserved c =
     let l = c.loop-left in
     let on : outside c.args.mask l.at ≡ false =
-    ap not (sym c.has.ensures) ∙ c.if-not-has.false in
+    ap not (sym c.has.ensures ∙ c.if-not-has.false) in
     meets_onward l.invariant c.requires.1 c.if-left-eq0.false on c.wide-at-in-loop-left.ensures
 
 pub returns-then-left-eq0 : goal.returns-then-left-eq0
@@ -25,4 +25,4 @@ returns-then-left-eq0 c = let l = c.loop-left in (meets_spent l.invariant c.if-l
 pub returns-then-not-has : goal.returns-then-not-has
 returns-then-not-has c =
     let l = c.loop-left in
-    (meets_here l.invariant (ap not (sym c.has.ensures) ∙ c.if-not-has.true), l.invariant.low)
+    (meets_here l.invariant (ap not (sym c.has.ensures ∙ c.if-not-has.true)), l.invariant.low)

@@ -32,7 +32,7 @@ returns-then-left-eq0 c = let l = c.loop-left in (meets_spent l.invariant c.if-l
 pub returns-then-not-has : goal.returns-then-not-has
 returns-then-not-has c =
     let l = c.loop-left in
-    (meets_here l.invariant (or_left _ _ (ap not (sym c.has.ensures) ∙ c.if-not-has.true)), l.invariant.low)
+    (meets_here l.invariant (or_left _ _ (ap not (sym c.has.ensures ∙ c.if-not-has.true))), l.invariant.low)
 
 pub returns-then-c-at-eq0 : goal.returns-then-c-at-eq0
 returns-then-c-at-eq0 c =

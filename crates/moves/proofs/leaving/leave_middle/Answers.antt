@@ -14,26 +14,25 @@ use Rattle.moves.specs.Held.{state_of}
 use Rattle.rules.specs.Moves.{State, goes}
 use Rattle.moves.proofs.Cases.{same-state, beside_after, shrink-beside, middle_to_U, steps-exchanged}
 use borrow.Author.Rules.{rules}
-use Rattle.moves.proofs.leaving.leave_middle.Statement.{statement}
-use Rattle.moves.proofs.leaving.leave_middle.Tie as tie
+use Rattle.moves.proofs.leaving.leave_middle.Goals as goal
 
-first-outside-requires : tie.Need-first-outside-requires
-first-outside-requires c κs =
-    (c.before.before.index_at.ensures.index, c.before.before.before.before.requires.0.0)
+pub first_outside-b-requires : goal.first_outside-b-requires
+first_outside-b-requires c =
+    (c.index_at-from.ensures.index, c.before.before.before.before.requires.0.0)
 
-shrink-requires : tie.Need-shrink-requires
-shrink-requires c κs =
+pub shrink-requires : goal.shrink-requires
+shrink-requires c =
     let s = c.before.before.before.before.before.before.before.before.before.before in
     let q = s.requires.1 in
     (s.requires.0.1, record { point = omega arith; entry = omega arith })
 
-returns : tie.Need-returns
-returns c =
+pub returns-then-first-b-eq0 : goal.returns-then-first-b-eq0
+returns-then-first-b-eq0 c =
     let s = c.before.before.before.before.before.before.before.before.before.before.before in
     let a = s.args in
-    let h = c.before.before.before.before.before.before.before.before.before.index_at in
-    let w = c.before.before.before.before.before.before.before.index-at2 in
-    let b = c.before.before.before.before.before.before.first-outside in
+    let h = c.index_at-from in
+    let w = c.index_at-to in
+    let b = c.first_outside-b in
     let round = round_of a.previous.now [] a.sizes.now in
     record {
       after = ap (beside_after round a.first.now []) c.shrink.ensures.after
@@ -42,21 +41,21 @@ returns c =
           (a.i - 1) true
           ∙ middle_to_U (state_of round a.first.now [] a.order.now a.marks.now a.s) a.i h.result
           w.result b.result h.ensures.is w.ensures.is b.ensures.0
-          c.before.before.before.before.before.if1.true c.before.before.before.if2.true);
+          c.if-to-b.true c.if-first-b-eq0.true);
       each = c.shrink.ensures.each;
     }
 
-returns-2 : tie.Need-returns-2
-returns-2 c =
+pub returns : goal.returns
+returns c =
     let s = c.before.before.before.before.before.before.before.before in
     let a = s.args in
-    let h = c.before.before.before.before.before.before.index_at in
-    let w = c.before.before.before.before.index-at2 in
-    let b = c.before.before.before.first-outside in
+    let h = c.index_at-from in
+    let w = c.index_at-to in
+    let b = c.first_outside-b in
     let round = round_of a.previous.now [] a.sizes.now in
     let stays : (w.result ≡ b.result → at a.first.now b.result ≡ 0 → ⊥) =
-    ⊎_elim (λ t _. t.2.left) (λ t e _. t.left e) c.before.before.if1.branch in
-    let order : take a.s.count c.exchange.new.0 ≡ swap_at (a.i - 1) (take a.s.count a.order.now) =
+    ⊎_elim (λ t _. t.2.left) (λ t e _. t.left e) c.if-to-b.branch in
+    let order : take a.s.count c.exchange.new.a ≡ swap_at (a.i - 1) (take a.s.count a.order.now) =
     rw c.exchange.ensures.0 (take_swap a.s.count (a.i - 1) a.order.now (omega arith)) in
     record {
       after = ap (λ (x : State). goes x)
@@ -65,20 +64,3 @@ returns-2 c =
           w.result b.result h.ensures.is w.ensures.is b.ensures.0 stays);
       each = record { in_order = c.exchange.ensures.1; in_marks = s.requires.0.1.each.in_marks };
     }
-
-pub leave_middle_spec : {M : Type 1} → statement M
-leave_middle_spec =
-    tie.close
-    (tie.spec
-    (λ c κs. search rules)
-    (λ c. search rules)
-    (λ c κs. search rules)
-    first-outside-requires
-    (λ c. search rules)
-    (λ c. search rules)
-    (λ c. search rules)
-    shrink-requires
-    returns
-    (λ c. search rules)
-    (λ c κs. search rules)
-    returns-2)
