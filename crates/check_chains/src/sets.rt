@@ -9,7 +9,7 @@ use arrays::add;
 use grid::{Grid, wide, wide16};
 
 // The set of the indices with 1, if there is nothing but 0s and 1s.
-#[derive(Drop)]
+#[derive(Clone, Copy)]
 pub enum SetOfOnes {
     Set(u16),
     NoSet,

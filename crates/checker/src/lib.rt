@@ -16,7 +16,7 @@ mod cover;
 mod refusals;
 
 // What the checker says of a list of points. It writes nothing.
-#[derive(Drop)]
+#[derive(Clone, Copy)]
 pub enum CheckAnswer {
     // The number of the first of questions 1 to 4, 6, 7 and 19 that is answered no.
     Refused(u8),

@@ -6,7 +6,7 @@ ghost use Rattle.std.specs.Prelude.{◌≡◌, ◌≤◌};
 ghost use Rattle.end_kinds.specs.Numbers.{kind_number};
 
 // A complete place, or what remains of a place less one point.
-#[derive(Drop)]
+#[derive(Clone, Copy)]
 pub enum Kind {
     Place,
     Facet,

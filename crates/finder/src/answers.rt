@@ -22,7 +22,7 @@ use path_pass::{Finish, pass};
 use positions::ENTRIES;
 
 // What a run answers. The block counts from 1. The vertices, m numbers each, stand at the front of the answer buffer.
-#[derive(Drop)]
+#[derive(Clone, Copy)]
 pub enum RunAnswer {
     // The number of the first of questions 1 to 8 that is answered no.
     Refused(u8),
@@ -116,11 +116,10 @@ pub fn announced(
     answer: &mut [u16],
     budget: u64,
 ) -> RunAnswer
-    ghost p: { PathAnswer }
-    requires budget_value { answer_of (problem_from g start.now labels.now) budget ≡ p }
-    requires can_run { CanRun g binomials.now start.now labels.now answer.old }
-    ensures value { result ≡ case_of p }
-    ensures answer_after { answer.new ≡ front (numbers_of p) answer.old }
+    requires { CanRun g binomials.now start.now labels.now answer.old }
+    ensures value { let p = answer_of (problem_from g start.now labels.now) budget in result ≡ case_of p }
+    ensures answer_after { let p = answer_of (problem_from g start.now labels.now) budget in
+        answer.new ≡ front (numbers_of p) answer.old }
 {
     let m = g.indices;
     let previous = g.previous;

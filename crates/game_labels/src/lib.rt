@@ -12,7 +12,7 @@ use grid::Grid;
 
 mod game;
 
-#[derive(Drop)]
+#[derive(Clone, Copy)]
 pub enum Labelled {
     // the number of the first question answered no
     Refused(u8),

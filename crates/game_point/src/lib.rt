@@ -16,7 +16,7 @@ mod strategies;
 mod weighing;
 
 // The label of a point, and the largest difference there.
-#[derive(Drop)]
+#[derive(Clone, Copy)]
 pub struct PointLabel {
     pub label: u8,
     pub gain: i64,

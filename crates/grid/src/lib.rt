@@ -12,7 +12,7 @@ pub use grid_counts::{wide, wide16};
 
 // A grid with what is looked up at every move. At the front of each array stand the numbers of the
 // blocks or of the indices, 0 behind.
-#[derive(Drop)]
+#[derive(Clone, Copy)]
 pub struct Grid {
     pub sizes: [u8; 6],
     pub divisions: [u16; 6],
@@ -31,7 +31,7 @@ pub struct Grid {
 }
 
 // The number of the first of questions 1 to 4 that is answered no, or 0 and the grid.
-#[derive(Drop)]
+#[derive(Clone, Copy)]
 pub struct Made {
     pub code: u8,
     pub grid: Grid,

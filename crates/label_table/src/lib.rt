@@ -23,7 +23,7 @@ pub fn all_at_most(labels: &[u8], m: u8) -> bool
 }
 
 // A label, or that there is none.
-#[derive(Drop)]
+#[derive(Clone, Copy)]
 pub enum Label {
     Is(u8),
     Unknown,

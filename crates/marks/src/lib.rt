@@ -3,7 +3,7 @@
 #![tactic(auto)]
 
 ghost use Rattle.std.specs.Prelude.{List, [], ◌≡◌, ℕ, ◌≤◌, ◌<◌, take};
-ghost use Rattle.arrays.specs.Rounds.{round_back};
+ghost use Rattle.arrays.specs.Rounds.{round_of};
 ghost use Rattle.grid_points.specs.Grid.{position};
 ghost use Rattle.grid.specs.Made.{shape, IsMade};
 ghost use Rattle.moves.specs.Held.{state_of, held};
@@ -70,10 +70,10 @@ fn position_by_steps(
     order: &[u32; 16],
     s: Status,
 ) -> usize
-    ghost a: { State }
-    requires s_value { state_of (round_back previous sizes) first.now [] order.now [] s ≡ a }
-    requires measured { Measured g binomials.now × CanReadPoint g a }
-    ensures { result ≡ position (shape g) (point_on (shape g) a a.active) }
+    requires { let a = state_of (round_of previous.now [] sizes.now) first.now [] order.now [] s in
+        Measured g binomials.now × CanReadPoint g a }
+    ensures { let a = state_of (round_of previous.now [] sizes.now) first.now [] order.now [] s in
+        result ≡ position (shape g) (point_on (shape g) a a.active) }
 {
     let mut steps = [16u16; 16];
     advance(&mut steps, previous, sizes, s.u, order, s.active);
@@ -90,11 +90,11 @@ fn by_square(
     marks: &[u32; 16],
     s: Status,
 ) -> Found
-    ghost a: { List ℕ → List ℕ → State }
-    requires s_value { held_steps (round_back previous sizes) order.now marks.now s ≡ a }
     requires made { IsMade g × HasOrder previous.now (take s.count order.now) s × (0 < s.active) }
-    requires has_square { HasSquare g a }
-    ensures { FindsCorner g a result }
+    requires has_square { let a = held_steps (round_of previous.now [] sizes.now) order.now marks.now s in
+        HasSquare g a }
+    ensures { let a = held_steps (round_of previous.now [] sizes.now) order.now marks.now s in
+        FindsCorner g a result }
 {
     let i = s.active;
     let n = s.count;
@@ -121,10 +121,10 @@ fn position_apart(
     marks: &[u32; 16],
     s: Status,
 ) -> usize
-    ghost a: { State }
-    requires s_value { held (round_back previous sizes) first.now coefficients.now order.now marks.now s ≡ a }
-    requires measured { Measured g binomials.now × CanFind g tails.now a s }
-    ensures { result ≡ position (shape g) (point_on (shape g) a a.active) }
+    requires { let a = held (round_of previous.now [] sizes.now) first.now coefficients.now order.now marks.now s in
+        Measured g binomials.now × CanFind g tails.now a s }
+    ensures { let a = held (round_of previous.now [] sizes.now) first.now coefficients.now order.now marks.now s in
+        result ≡ position (shape g) (point_on (shape g) a a.active) }
 {
     if g.blocks == 1 {
         if 0 < s.active {
@@ -177,10 +177,10 @@ pub fn position_in(
     marks: &[u32; 16],
     s: Status,
 ) -> usize
-    ghost a: { State }
-    requires s_value { held (round_back previous sizes) first.now coefficients.now order.now marks.now s ≡ a }
-    requires measured { Measured g binomials.now × CanFind g tails.now a s }
-    ensures { result ≡ position (shape g) (point_on (shape g) a a.active) }
+    requires { let a = held (round_of previous.now [] sizes.now) first.now coefficients.now order.now marks.now s in
+        Measured g binomials.now × CanFind g tails.now a s }
+    ensures { let a = held (round_of previous.now [] sizes.now) first.now coefficients.now order.now marks.now s in
+        result ≡ position (shape g) (point_on (shape g) a a.active) }
 {
     if is_between(s) {
         let found = by_square(g, previous, sizes, order, marks, s);
@@ -209,7 +209,7 @@ fn u32_of(x: u8) -> u32
 }
 
 // What is read of the point that has just come in: its mark; or that its label is not yet known, with its position.
-#[derive(Drop)]
+#[derive(Clone, Copy)]
 pub enum LookedUp {
     Marked(u32),
     Unknown(usize),
@@ -229,10 +229,10 @@ pub fn mark_in(
     marks: &[u32; 16],
     s: Status,
 ) -> LookedUp
-    ghost a: { State }
-    requires s_value { held (round_back previous sizes) first.now coefficients.now order.now marks.now s ≡ a }
-    requires readable { Readable g binomials.now table.now × CanFind g tails.now a s }
-    ensures { result ≡ label_reading (table_problem g table.now) (point_on (shape g) a a.active) }
+    requires { let a = held (round_of previous.now [] sizes.now) first.now coefficients.now order.now marks.now s in
+        Readable g binomials.now table.now × CanFind g tails.now a s }
+    ensures { let a = held (round_of previous.now [] sizes.now) first.now coefficients.now order.now marks.now s in
+        result ≡ label_reading (table_problem g table.now) (point_on (shape g) a a.active) }
 {
     let at = position_in(
         g,

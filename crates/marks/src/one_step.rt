@@ -1,6 +1,6 @@
 // The position of a point by that of the point beside it, in a grid of one block.
-ghost use Rattle.std.specs.Prelude.{cond, List, ◌≡◌, ℕ, ◌+◌, ◌≤◌, ◌<◌, ltb, take};
-ghost use Rattle.arrays.specs.Rounds.{round_back};
+ghost use Rattle.std.specs.Prelude.{[], cond, List, ◌≡◌, ℕ, ◌+◌, ◌≤◌, ◌<◌, ltb, take};
+ghost use Rattle.arrays.specs.Rounds.{round, round_of};
 ghost use Rattle.moves.specs.Held.{held_but_first};
 ghost use Rattle.positions.specs.Binomials.{Measured};
 ghost use Rattle.rules.specs.Moves.{State};
@@ -12,7 +12,7 @@ use moves::Status;
 use positions::ENTRIES;
 
 // A position, or that it is not found in this way.
-#[derive(Drop)]
+#[derive(Clone, Copy)]
 pub enum Found {
     At(usize),
     Nothing,
@@ -67,11 +67,12 @@ pub fn by_step_to(
     marks: &[u32; 16],
     s: Status,
 ) -> Found
-    ghost a: { List ℕ → State }
-    requires s_value { held_but_first (round_back previous sizes) coefficients.now order.now marks.now s ≡ a }
     requires measured { Measured g binomials.now × (g.blocks ≡ 1) × (0 < s.active) }
-    requires has_order { HasOrder previous.now (take s.count order.now) s × CanFall g tails.now a }
-    ensures { FindsBeside g tails.now a result }
+    requires has_order { let a = held_but_first (round_of previous.now [] sizes.now) coefficients.now order.now
+        marks.now s in
+        HasOrder previous.now (take s.count order.now) s × CanFall g tails.now a }
+    ensures { let a = held_but_first (round_of previous.now [] sizes.now) coefficients.now order.now marks.now s in
+        FindsBeside g tails.now a result }
 {
     let i = s.active;
     let n = s.count;
@@ -97,11 +98,12 @@ pub fn by_step_from(
     marks: &[u32; 16],
     s: Status,
 ) -> Found
-    ghost a: { List ℕ → State }
-    requires s_value { held_but_first (round_back previous sizes) coefficients.now order.now marks.now s ≡ a }
     requires measured { Measured g binomials.now × (g.blocks ≡ 1) × (s.active < s.count) }
-    requires has_order { HasOrder previous.now (take s.count order.now) s × CanFall g tails.now a }
-    ensures { FindsBeside g tails.now a result }
+    requires has_order { let a = held_but_first (round_of previous.now [] sizes.now) coefficients.now order.now
+        marks.now s in
+        HasOrder previous.now (take s.count order.now) s × CanFall g tails.now a }
+    ensures { let a = held_but_first (round_of previous.now [] sizes.now) coefficients.now order.now marks.now s in
+        FindsBeside g tails.now a result }
 {
     let i = s.active;
     let n = s.count;

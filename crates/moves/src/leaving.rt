@@ -3,7 +3,7 @@
 // the order in which each point goes to the next, marks a mark for each point. So are the ways round the blocks:
 // previous and next have the index before and after each, sizes the size of its block.
 ghost use Rattle.std.specs.Prelude.{not, ◌&&◌, [], ◌≡◌, ◌-◌, ◌<◌, eqb, length};
-ghost use Rattle.arrays.specs.Rounds.{round, round_back, no_round};
+ghost use Rattle.arrays.specs.Rounds.{no_round, round, round_of};
 ghost use Rattle.grid_points.specs.Grid.{at};
 ghost use Rattle.moves.specs.Held.{held, held_by, Gives, GivesAll, Sound, CanShrink};
 ghost use Rattle.moves.specs.Held.{IsFirstStep, IsLastStep, IsMiddle};
@@ -27,11 +27,10 @@ fn shrink(
     e: usize,
     joins: bool,
 ) -> Status
-    ghost a: { State }
-    requires s_value { held_by no_round [] [] order.old marks.old s ≡ a }
     requires sound { Sound order.old marks.old s }
     requires can_shrink { CanShrink s i e }
-    ensures { Gives a [] [] order marks s (Outcome.Moved result) (goes (shrunk a i e joins)) }
+    ensures { let a = held_by no_round [] [] order.old marks.old s in
+        Gives a [] [] order marks s (Outcome.Moved result) (goes (shrunk a i e joins)) }
 {
     let n = s.count;
     let h = index_at(order, n, e);
@@ -81,12 +80,18 @@ fn leave_first_at(
     h: usize,
     b: usize,
 ) -> Outcome
-    ghost a: { State }
-    requires s_value { held (round previous next sizes) first.old coefficients.old order.old marks.old s ≡ a }
-    requires round_below { RoundBelow a.round × Sound order.old marks.old s }
-    requires first_step { IsFirstStep a h b }
-    requires ready_first { ReadyFirst a }
-    ensures { GivesAll a first coefficients order marks s result (leave_first a) }
+    requires round_below { let a = held (round_of previous.now next.now sizes.now) first.old coefficients.old
+        order.old marks.old s in
+        RoundBelow a.round × Sound order.old marks.old s }
+    requires first_step { let a = held (round_of previous.now next.now sizes.now) first.old coefficients.old
+        order.old marks.old s in
+        IsFirstStep a h b }
+    requires ready_first { let a = held (round_of previous.now next.now sizes.now) first.old coefficients.old
+        order.old marks.old s in
+        ReadyFirst a }
+    ensures { let a = held (round_of previous.now next.now sizes.now) first.old coefficients.old order.old
+        marks.old s in
+        GivesAll a first coefficients order marks s result (leave_first a) }
 {
     let n = s.count;
     if vanishes(first, s.t, b) {
@@ -123,11 +128,15 @@ fn leave_first(
     marks: &mut [u32; 16],
     s: Status,
 ) -> Outcome
-    ghost a: { State }
-    requires s_value { held (round previous next sizes) first.old coefficients.old order.old marks.old s ≡ a }
-    requires round_below { RoundBelow a.round × Sound order.old marks.old s }
-    requires ready_first { ReadyFirst a }
-    ensures { GivesAll a first coefficients order marks s result (leave_first a) }
+    requires round_below { let a = held (round_of previous.now next.now sizes.now) first.old coefficients.old
+        order.old marks.old s in
+        RoundBelow a.round × Sound order.old marks.old s }
+    requires ready_first { let a = held (round_of previous.now next.now sizes.now) first.old coefficients.old
+        order.old marks.old s in
+        ReadyFirst a }
+    ensures { let a = held (round_of previous.now next.now sizes.now) first.old coefficients.old order.old
+        marks.old s in
+        GivesAll a first coefficients order marks s result (leave_first a) }
 {
     let h = index_at(order, s.count, 0);
     let b = first_outside(previous, sizes, s.u, h);
@@ -156,11 +165,12 @@ fn leave_middle(
     s: Status,
     i: usize,
 ) -> Status
-    ghost a: { State }
-    requires s_value { held_by (round_back previous sizes) first.now [] order.old marks.old s ≡ a }
-    requires indices_below { IndicesBelow a.round.previous × Sound order.old marks.old s }
+    requires indices_below { let a = held_by (round_of previous.now [] sizes.now) first.now [] order.old marks.old
+        s in
+        IndicesBelow a.round.previous × Sound order.old marks.old s }
     requires middle { IsMiddle s i }
-    ensures { Gives a first.now [] order marks s (Outcome.Moved result) (goes (leave_middle a i)) }
+    ensures { let a = held_by (round_of previous.now [] sizes.now) first.now [] order.old marks.old s in
+        Gives a first.now [] order marks s (Outcome.Moved result) (goes (leave_middle a i)) }
 {
     let from = index_at(order, s.count, i);
     let to = index_at(order, s.count, i - 1);
@@ -191,12 +201,17 @@ fn leave_last_at(
     s: Status,
     h: usize,
 ) -> Status
-    ghost a: { State }
-    requires s_value { held (round_back previous sizes) first.old coefficients.old order.old marks.old s ≡ a }
-    requires indices_below { IndicesBelow a.round.previous × Sound order.old marks.old s }
-    requires last_step { IsLastStep s a h }
-    requires ready_last { ReadyLast a h }
-    ensures { GivesAll a first coefficients order marks s (Outcome.Moved result) (goes (leave_last a)) }
+    requires indices_below { let a = held (round_of previous.now [] sizes.now) first.old coefficients.old order.old
+        marks.old s in
+        IndicesBelow a.round.previous × Sound order.old marks.old s }
+    requires last_step { let a = held (round_of previous.now [] sizes.now) first.old coefficients.old order.old
+        marks.old s in
+        IsLastStep s a h }
+    requires ready_last { let a = held (round_of previous.now [] sizes.now) first.old coefficients.old order.old
+        marks.old s in
+        ReadyLast a h }
+    ensures { let a = held (round_of previous.now [] sizes.now) first.old coefficients.old order.old marks.old s in
+        GivesAll a first coefficients order marks s (Outcome.Moved result) (goes (leave_last a)) }
 {
     let n = s.count;
     if first[h] == 0 {
@@ -236,11 +251,14 @@ fn leave_last(
     marks: &mut [u32; 16],
     s: Status,
 ) -> Status
-    ghost a: { State }
-    requires s_value { held (round_back previous sizes) first.old coefficients.old order.old marks.old s ≡ a }
-    requires indices_below { IndicesBelow a.round.previous × Sound order.old marks.old s }
-    requires ready_last { ReadyLast a (at a.order (length a.order - 1)) }
-    ensures { GivesAll a first coefficients order marks s (Outcome.Moved result) (goes (leave_last a)) }
+    requires indices_below { let a = held (round_of previous.now [] sizes.now) first.old coefficients.old order.old
+        marks.old s in
+        IndicesBelow a.round.previous × Sound order.old marks.old s }
+    requires ready_last { let a = held (round_of previous.now [] sizes.now) first.old coefficients.old order.old
+        marks.old s in
+        ReadyLast a (at a.order (length a.order - 1)) }
+    ensures { let a = held (round_of previous.now [] sizes.now) first.old coefficients.old order.old marks.old s in
+        GivesAll a first coefficients order marks s (Outcome.Moved result) (goes (leave_last a)) }
 {
     let h = index_at(order, s.count, s.count - 1);
     leave_last_at(previous, sizes, first, coefficients, order, marks, s, h)
@@ -258,11 +276,15 @@ pub fn leave(
     s: Status,
     i: usize,
 ) -> Outcome
-    ghost a: { State }
-    requires s_value { held (round previous next sizes) first.old coefficients.old order.old marks.old s ≡ a }
-    requires round_below { RoundBelow a.round × Sound order.old marks.old s }
-    requires ready_leave { ReadyLeave a i }
-    ensures { GivesAll a first coefficients order marks s result (left a i) }
+    requires round_below { let a = held (round_of previous.now next.now sizes.now) first.old coefficients.old
+        order.old marks.old s in
+        RoundBelow a.round × Sound order.old marks.old s }
+    requires ready_leave { let a = held (round_of previous.now next.now sizes.now) first.old coefficients.old
+        order.old marks.old s in
+        ReadyLeave a i }
+    ensures { let a = held (round_of previous.now next.now sizes.now) first.old coefficients.old order.old
+        marks.old s in
+        GivesAll a first coefficients order marks s result (left a i) }
 {
     if i == 0 {
         return leave_first(previous, next, sizes, first, coefficients, order, marks, s);

@@ -9,7 +9,7 @@ pub use leaving::leave;
 pub use points::{advance, put_points};
 
 // What the next move looks at, beside the arrays. T and U are masks of 16 indices.
-#[derive(Drop)]
+#[derive(Clone, Copy)]
 pub struct Status {
     // how the present place was reached: 1 to 7 as in the seven rules
     pub rule: u8,
@@ -23,7 +23,7 @@ pub struct Status {
 
 // What a move gives: the status at the next place, or an end, with an index of the block for which the simplex is
 // complete. At an end nothing that was lent has changed.
-#[derive(Drop)]
+#[derive(Clone, Copy)]
 pub enum Outcome {
     Moved(Status),
     PlaceEnd(usize),

@@ -1,7 +1,7 @@
 // The points of a place, by the steps of its order, and in a lent buffer.
 ghost use Rattle.std.specs.Prelude.{[], ◌≡◌, suc, ◌+◌, ◌-◌, ◌≤◌, length, take};
 ghost use Rattle.std.proofs.Math.Seq.{paste};
-ghost use Rattle.arrays.specs.Rounds.{round_back};
+ghost use Rattle.arrays.specs.Rounds.{round_of};
 ghost use Rattle.combinatorics.specs.Front.{front};
 ghost use Rattle.moves.specs.Held.{state_of};
 ghost use Rattle.moves.specs.Room.{CanPut};
@@ -60,11 +60,12 @@ pub fn put_points(
     m: usize,
     from: usize,
 ) -> usize
-    ghost a: { State }
-    requires s_value { state_of (round_back previous sizes) first.now [] order.now [] s ≡ a }
-    requires can_put { CanPut a m from (length buf.old) × (length a.order ≡ s.count) }
-    ensures value { result ≡ suc (length a.order) - from }
-    ensures buf_after { buf.new ≡ front (numbers_from m a from) buf.old }
+    requires { let a = state_of (round_of previous.now [] sizes.now) first.now [] order.now [] s in
+        CanPut a m from (length buf.old) × (length a.order ≡ s.count) }
+    ensures value { let a = state_of (round_of previous.now [] sizes.now) first.now [] order.now [] s in
+        result ≡ suc (length a.order) - from }
+    ensures buf_after { let a = state_of (round_of previous.now [] sizes.now) first.now [] order.now [] s in
+        buf.new ≡ front (numbers_from m a from) buf.old }
 {
     let end = s.count + 1;
     let mut position: usize = 0;

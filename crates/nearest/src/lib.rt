@@ -23,7 +23,7 @@ use nearest_pass::pass_noting;
 use positions::ENTRIES;
 
 // What the run answers, and what is reported besides.
-#[derive(Drop)]
+#[derive(Clone, Copy)]
 pub struct Report {
     pub run: RunAnswer,
     pub nearest: Nearest,
@@ -69,14 +69,14 @@ fn announced(
     given: u64,
     found: &mut [u16],
 ) -> Report
-    ghost p: { PathAnswer }
-    requires budget_value { answer_of (problem_from g start.now labels.now) budget ≡ p }
     requires can_run { CanRun g binomials.now start.now labels.now answer.old }
     requires w_value { (is_grid_point (shape g) w.now ≡ true) × (num_points (shape g) ≤ length found.old) }
-    ensures value { result
+    ensures value { let p = answer_of (problem_from g start.now labels.now) budget in result
         ≡ reported (problem_from g start.now labels.now) w.now given p }
-    ensures answer_after { answer.new ≡ front (numbers_of p) answer.old }
-    ensures found_after { let l = listed_by (problem_from g start.now labels.now) w.now given p in
+    ensures answer_after { let p = answer_of (problem_from g start.now labels.now) budget in
+        answer.new ≡ front (numbers_of p) answer.old }
+    ensures found_after { let p = answer_of (problem_from g start.now labels.now) budget in
+        let l = listed_by (problem_from g start.now labels.now) w.now given p in
         take (length l) found.new ≡ l }
 {
     let m = g.indices;

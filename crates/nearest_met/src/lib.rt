@@ -4,7 +4,7 @@
 #![tactic(auto)]
 
 ghost use Rattle.std.specs.Prelude.{[], ◌≡◌, suc, ◌≤◌, ◌<◌, length, set, take};
-ghost use Rattle.arrays.specs.Rounds.{round_back};
+ghost use Rattle.arrays.specs.Rounds.{round_of};
 ghost use Rattle.grid_points.specs.Grid.{Grid as Shape, at};
 ghost use Rattle.moves.specs.Held.{state_of};
 ghost use Rattle.rules.specs.Read.{CanCompute};
@@ -24,7 +24,7 @@ use moves::{Status, advance};
 
 // What is kept of the vertices met so far: the position of the nearest and its distance, before the first one a
 // distance that no vertex has; and how many positions the list has.
-#[derive(Drop)]
+#[derive(Clone, Copy)]
 pub struct Tally {
     pub nearest: usize,
     pub least: u64,
@@ -32,7 +32,7 @@ pub struct Tally {
 }
 
 // The position of the point that has come in at a place, if one has.
-#[derive(Drop)]
+#[derive(Clone, Copy)]
 pub enum Came {
     At(usize),
     Nothing,
@@ -61,11 +61,11 @@ fn away(
     w: &[u16],
     m: usize,
 ) -> usize
-    ghost a: { State }
-    requires s_value { state_of (round_back previous sizes) first.now [] order.now [] s ≡ a }
-    requires indices_below { IndicesBelow previous.now × CanCompute a a.active }
+    requires indices_below { let a = state_of (round_of previous.now [] sizes.now) first.now [] order.now [] s in
+        IndicesBelow previous.now × CanCompute a a.active }
     requires can_measure { (g : Shape) × CanMeasure g weights.now w.now m }
-    ensures { (g : Shape) → CanMeasure g weights.now w.now m
+    ensures { let a = state_of (round_of previous.now [] sizes.now) first.now [] order.now [] s in
+        (g : Shape) → CanMeasure g weights.now w.now m
         → result ≡ distance g w.now (point_come g a) }
 {
     let mut y = *first;
@@ -132,12 +132,13 @@ pub fn meet(
     list: &mut [u16],
     t: Tally,
 ) -> Tally
-    ghost a: { State }
-    requires s_value { state_of (round_back previous sizes) first.now [] order.now [] s ≡ a }
-    requires indices_below { IndicesBelow previous.now × CanCompute a a.active }
-    requires can_measure { (g : Shape) × CanMeasure g weights.now w.now m
+    requires indices_below { let a = state_of (round_of previous.now [] sizes.now) first.now [] order.now [] s in
+        IndicesBelow previous.now × CanCompute a a.active }
+    requires can_measure { let a = state_of (round_of previous.now [] sizes.now) first.now [] order.now [] s in
+        (g : Shape) × CanMeasure g weights.now w.now m
         × HasRoomToNote given t (distance g w.now (point_come g a)) seen.old list.old came }
-    ensures { (g : Shape) → CanMeasure g weights.now w.now m
+    ensures { let a = state_of (round_of previous.now [] sizes.now) first.now [] order.now [] s in
+        (g : Shape) → CanMeasure g weights.now w.now m
         → HasMet given t (distance g w.now (point_come g a)) came seen list result }
 {
     let Came::At(position) = came else {

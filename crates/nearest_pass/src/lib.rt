@@ -2,7 +2,7 @@
 #![tactic(auto)]
 
 ghost use Rattle.std.specs.Prelude.{◌≡◌, ◌≤◌, ◌<◌};
-ghost use Rattle.arrays.specs.Rounds.{round};
+ghost use Rattle.arrays.specs.Rounds.{round_of};
 ghost use Rattle.rules.specs.Moves.{Round};
 ghost use Rattle.path_pass.specs.Finish.{CanPass, Finished, ended_of, problem_in};
 ghost use Rattle.nearest_pass.specs.Survey.{CanNote, Surveys, none_met};
@@ -15,14 +15,14 @@ use positions::ENTRIES;
 use ways::make_move;
 
 // The nearest visited vertex, by its position, and how many positions are listed; nothing where the run reached no end.
-#[derive(Drop)]
+#[derive(Clone, Copy)]
 pub enum Nearest {
     Nothing,
     Vertex { position: usize, listed: usize },
 }
 
 // How a pass ended, and what is reported of the vertices that it has met.
-#[derive(Drop)]
+#[derive(Clone, Copy)]
 pub struct NotingPass {
     pub finish: Finish,
     pub nearest: Nearest,
@@ -81,11 +81,11 @@ pub fn pass_noting(
     list: &mut [u16],
     budget: u64,
 ) -> NotingPass
-    ghost x: { Round }
-    requires sizes_value { round previous next sizes ≡ x }
-    requires can_pass { CanPass g x binomials.now first.old order.old table.now }
+    requires can_pass { let x = round_of previous.now next.now sizes.now in
+        CanPass g x binomials.now first.old order.old table.now }
     requires can_note { CanNote g weights.now w.now list.old }
-    ensures finished { Finished (problem_in g first.old table.now) budget x
+    ensures finished { let x = round_of previous.now next.now sizes.now in
+        Finished (problem_in g first.old table.now) budget x
         first.new order.new result.finish }
     ensures surveys { Surveys (problem_in g first.old table.now)
         w.now given budget list.old list.new result.nearest result.finish }

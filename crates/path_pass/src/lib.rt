@@ -2,8 +2,8 @@
 // report where the path came nearest.
 #![tactic(auto)]
 
-ghost use Rattle.std.specs.Prelude.{◌≡◌, ◌+◌, ◌^◌, ◌≤◌, ◌<◌, length};
-ghost use Rattle.arrays.specs.Rounds.{round, round_back};
+ghost use Rattle.std.specs.Prelude.{[], ◌≡◌, ◌+◌, ◌^◌, ◌≤◌, ◌<◌, length};
+ghost use Rattle.arrays.specs.Rounds.{round_of};
 ghost use Rattle.marks.specs.Reading.{CanFind, Readable, table_problem};
 ghost use Rattle.moves.specs.Held.{held};
 ghost use Rattle.rules.specs.Moves.{Round, State};
@@ -22,7 +22,7 @@ use ways::make_move;
 // How a pass ended: at the path's end, after so many places, with an index of the block for which the simplex is
 // complete, the status at the last place and the labels read; at a place that needs a label not yet known, after so
 // many places before it, with the label's position; or with the budget spent.
-#[derive(Drop)]
+#[derive(Clone, Copy)]
 pub enum Finish {
     Ended {
         kind: Kind,
@@ -40,7 +40,7 @@ pub enum Finish {
 
 // Where a pass stands: the status, how much of the budget is left, and the labels read up to the place, its own
 // included.
-#[derive(Drop)]
+#[derive(Clone, Copy)]
 pub struct Stand {
     pub status: Status,
     pub left: u64,
@@ -48,7 +48,7 @@ pub struct Stand {
 }
 
 // The label of the point that has come in is known, or nothing was to be read; or it is not, and stands at a position.
-#[derive(Drop)]
+#[derive(Clone, Copy)]
 pub enum Looked {
     Known,
     Unknown(usize),
@@ -68,11 +68,12 @@ pub fn look_up(
     marks: &mut [u32; 16],
     s: Status,
 ) -> Looked
-    ghost a: { State }
-    requires s_value { held (round_back previous sizes) first.now coefficients.now order.now marks.old s ≡ a }
     requires readable { Readable g binomials.now table.now × (length marks.old ≡ 16) }
-    requires can_find { s.rule < 6 → CanFind g tails.now a s }
-    ensures { LooksUp (table_problem g table.now) a s marks.old marks.new result }
+    requires can_find { let a = held (round_of previous.now [] sizes.now) first.now coefficients.now order.now
+        marks.old s in
+        s.rule < 6 → CanFind g tails.now a s }
+    ensures { let a = held (round_of previous.now [] sizes.now) first.now coefficients.now order.now marks.old s in
+        LooksUp (table_problem g table.now) a s marks.old marks.new result }
 {
     if s.rule < 6 {
         let i = s.active;
@@ -199,10 +200,9 @@ pub fn pass(
     order: &mut [u32; 16],
     budget: u64,
 ) -> Finish
-    ghost w: { Round }
-    requires sizes_value { round previous next sizes ≡ w }
-    requires can_pass { CanPass g w binomials.now first.old order.old table.now }
-    ensures { Finished (problem_in g first.old table.now) budget w
+    requires { let w = round_of previous.now next.now sizes.now in
+        CanPass g w binomials.now first.old order.old table.now }
+    ensures { let w = round_of previous.now next.now sizes.now in Finished (problem_in g first.old table.now) budget w
         first.new order.new result }
 {
     let mut coefficients = [0u16; 16];

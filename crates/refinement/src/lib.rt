@@ -13,7 +13,7 @@ use refinement_questions::{first_level_no, levels_in_range, made_levels};
 mod runs;
 
 // A level's answer.
-#[derive(Drop)]
+#[derive(Clone, Copy)]
 pub struct Level {
     pub places: u64,
     pub labels_read: u64,
@@ -24,7 +24,7 @@ pub struct Level {
 
 // What a refinement answers: the number of the first question that is answered no, or 0 and as many levels as were run,
 // at the front of the array.
-#[derive(Drop)]
+#[derive(Clone, Copy)]
 pub struct Refined {
     pub code: u8,
     pub count: usize,

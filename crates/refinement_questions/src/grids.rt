@@ -8,14 +8,14 @@ ghost use Rattle.refinement_questions.specs.Grids.{AreMade, AreNext};
 use grid::{Grid, Made, wide16};
 
 // The divisions of the next level at the front, where 16 bits hold them all.
-#[derive(Drop)]
+#[derive(Clone, Copy)]
 struct Divisions {
     fit: bool,
     numbers: [u16; 6],
 }
 
 // The grids of the levels at the front; or the number of the first of questions 1 to 4 that is answered no.
-#[derive(Drop)]
+#[derive(Clone, Copy)]
 pub struct Grids {
     pub code: u8,
     pub grids: [Grid; 8],

@@ -1,6 +1,6 @@
 // What the two calls answer.
 
-#[derive(Drop)]
+#[derive(Clone, Copy)]
 pub enum Filed {
     // The number of the first of questions 21, 22 and 23 that is answered no.
     Refused(u8),
@@ -8,7 +8,7 @@ pub enum Filed {
     Filed(usize),
 }
 
-#[derive(Drop)]
+#[derive(Clone, Copy)]
 pub enum Current {
     // The number of the first of questions 21 and 23 that is answered no.
     Refused(u8),

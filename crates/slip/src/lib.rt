@@ -14,28 +14,28 @@ use grid::{Grid, Made, wide};
 mod fields;
 
 // The position behind a field, or that its bytes are not there.
-#[derive(Drop)]
+#[derive(Clone, Copy)]
 pub enum Field {
     EndsAt(usize),
     Missing,
 }
 
 // The start's numbers at the front, 0 behind, and the position behind the field.
-#[derive(Drop)]
+#[derive(Clone, Copy)]
 pub struct Start {
     pub field: Field,
     pub start: [u16; 16],
 }
 
 // The budget and the position behind the field, or that its bytes are not there.
-#[derive(Drop)]
+#[derive(Clone, Copy)]
 pub enum Budget {
     Is { places: u64, end: usize },
     Missing,
 }
 
 // What stands at the end of a slip: labels or losses from a position on, or the number of a game.
-#[derive(Drop)]
+#[derive(Clone, Copy)]
 pub enum Table {
     LabelsFrom(usize),
     Game(u8),
@@ -43,14 +43,14 @@ pub enum Table {
 }
 
 // The table that the map names, or that the remaining bytes are not exactly its field.
-#[derive(Drop)]
+#[derive(Clone, Copy)]
 pub enum TableField {
     Names(Table),
     Missing,
 }
 
 // What a slip says, or the number of the question answered no beside zeros.
-#[derive(Drop)]
+#[derive(Clone, Copy)]
 pub struct SlipReading {
     pub code: u8,
     pub grid: Grid,
@@ -61,7 +61,7 @@ pub struct SlipReading {
 }
 
 // How many losses a slip has, or that question 11 is answered no.
-#[derive(Drop)]
+#[derive(Clone, Copy)]
 pub enum Losses {
     Count(usize),
     OutOfRange,

@@ -4,7 +4,7 @@
 #![tactic(auto)]
 
 ghost use Rattle.std.specs.Prelude.{[], ◌≡◌, ◌<◌, take};
-ghost use Rattle.arrays.specs.Rounds.{round, round_back};
+ghost use Rattle.arrays.specs.Rounds.{round_of};
 ghost use Rattle.grid_points.specs.Grid.{lent};
 ghost use Rattle.solve_pass.specs.Bare.{labelled};
 ghost use Rattle.solve_pass.specs.Asked.{CanLabel, CanPassGame, CanVisitGame};
@@ -36,11 +36,11 @@ fn label_in(
     order: &[u32; 16],
     s: Status,
 ) -> u8
-    ghost a: { State }
-    requires s_value { state_of (round_back previous block_sizes) first.now [] order.now [] s ≡ a }
-    requires can_label { CanLabel (lent sizes.now divisions.now) firsts.now owners.now rests.now losses.now
+    requires { let a = state_of (round_of previous.now [] block_sizes.now) first.now [] order.now [] s in
+        CanLabel (lent sizes.now divisions.now) firsts.now owners.now rests.now losses.now
         indices a }
-    ensures { let g = lent sizes.now divisions.now in
+    ensures { let a = state_of (round_of previous.now [] block_sizes.now) first.now [] order.now [] s in
+        let g = lent sizes.now divisions.now in
         result ≡ game_label g losses.now (point_on g a a.active) }
 {
     let mut point = *first;
@@ -75,12 +75,14 @@ fn visit(
     marks: &mut [u32; 16],
     s: Status,
 ) -> Outcome
-    ghost a: { State }
-    requires s_value { held (round previous next block_sizes) first.old coefficients.old order.old marks.old s ≡ a }
     requires sixteen_each { SixteenEach order.old marks.old }
-    requires can_visit_game { CanVisitGame (lent sizes.now divisions.now) firsts.now owners.now rests.now losses.now
+    requires can_visit_game { let a = held (round_of previous.now next.now block_sizes.now) first.old
+        coefficients.old order.old marks.old s in
+        CanVisitGame (lent sizes.now divisions.now) firsts.now owners.now rests.now losses.now
         indices a }
-    ensures { let g = lent sizes.now divisions.now in
+    ensures { let a = held (round_of previous.now next.now block_sizes.now) first.old coefficients.old order.old
+        marks.old s in
+        let g = lent sizes.now divisions.now in
         GivesAll a first coefficients order marks s result (make_move (labelled g losses.now a)) }
 {
     if s.rule < 6 {
@@ -130,11 +132,10 @@ pub fn pass(
     order: &mut [u32; 16],
     budget: u64,
 ) -> Finish
-    ghost w: { Round }
-    requires block_sizes_value { round previous next block_sizes ≡ w }
-    requires can_pass_game { CanPassGame (lent sizes.now divisions.now) firsts.now owners.now rests.now losses.now
+    requires { let w = round_of previous.now next.now block_sizes.now in
+        CanPassGame (lent sizes.now divisions.now) firsts.now owners.now rests.now losses.now
         indices w first.old order.old }
-    ensures { let g = lent sizes.now divisions.now in
+    ensures { let w = round_of previous.now next.now block_sizes.now in let g = lent sizes.now divisions.now in
         Finished (game_problem g (take indices first.old) losses.now) budget w
         first.new order.new result }
 {

@@ -3,7 +3,7 @@
 #![tactic(auto)]
 
 ghost use Rattle.std.specs.Prelude.{◌≡◌, ◌%◌, ◌≤◌, ◌<◌, get_or, length};
-ghost use Rattle.arrays.specs.Rounds.{round};
+ghost use Rattle.arrays.specs.Rounds.{round_of};
 ghost use Rattle.moves.specs.Held.{held, state_of};
 ghost use Rattle.rules.specs.Moves.{State};
 ghost use Rattle.trail_steps.specs.Reading.{CanGoOn};
@@ -17,7 +17,7 @@ use trail_steps::{arrive, way_on};
 use ways::{gone_by, moved_by};
 
 // Where the records lead: to a place, with the number of them that bring a point in; or nowhere.
-#[derive(Drop)]
+#[derive(Clone, Copy)]
 pub enum Reached {
     At { status: Status, came: u64 },
     Nowhere,
@@ -49,11 +49,13 @@ pub fn follow(
     from: usize,
     number: u64,
 ) -> Reached
-    ghost a: { State }
-    requires begun_value { held (round previous next sizes) first.old coefficients.old order.old marks.old begun ≡ a }
-    requires can_go_on { CanGoOn g binomials.now tails.now order.old marks.old a begun.count
+    requires { let a = held (round_of previous.now next.now sizes.now) first.old coefficients.old order.old
+        marks.old begun in
+        CanGoOn g binomials.now tails.now order.old marks.old a begun.count
         (length trail.now) from }
-    ensures { ReachesFrom g tails.now trail.now from a number order.new
+    ensures { let a = held (round_of previous.now next.now sizes.now) first.old coefficients.old order.old
+        marks.old begun in
+        ReachesFrom g tails.now trail.now from a number order.new
         (state_of a.round first.new coefficients.new order.new
         marks.new) result }
 {

@@ -3,7 +3,7 @@
 #![tactic(auto)]
 
 ghost use Rattle.std.specs.Prelude.{◌≡◌, ◌≤◌, ◌<◌, length};
-ghost use Rattle.arrays.specs.Rounds.{round};
+ghost use Rattle.arrays.specs.Rounds.{round_of};
 ghost use Rattle.path_pass.specs.Finish.{CanPass, Finished, ended_of, problem_in};
 ghost use Rattle.rules.specs.Moves.{Round};
 ghost use Rattle.trail_pass.specs.Recording.{HasRoomForTrail, Recorded};
@@ -16,7 +16,7 @@ use trail_visits::{Before, bytes_to, tell};
 use ways::make_move;
 
 // How a pass ended, and the bytes of the whole trail, which a pass that reached no end does not know: 0 of it.
-#[derive(Drop)]
+#[derive(Clone, Copy)]
 pub struct RecordingPass {
     pub finish: Finish,
     pub bytes: usize,
@@ -56,11 +56,11 @@ pub fn pass_recording(
     writes: bool,
     budget: u64,
 ) -> RecordingPass
-    ghost w: { Round }
-    requires sizes_value { round previous next sizes ≡ w }
-    requires can_pass { CanPass g w binomials.now first.old order.old table.now }
+    requires can_pass { let w = round_of previous.now next.now sizes.now in
+        CanPass g w binomials.now first.old order.old table.now }
     requires has_room_for_trail { HasRoomForTrail (problem_in g first.old table.now) writes (length trail.old) }
-    ensures finished { Finished (problem_in g first.old table.now) budget w
+    ensures finished { let w = round_of previous.now next.now sizes.now in
+        Finished (problem_in g first.old table.now) budget w
         first.new order.new result.finish }
     ensures recorded { Recorded (problem_in g first.old table.now) writes budget
         trail.old trail.new result.bytes result.finish }

@@ -1,6 +1,6 @@
 // The reader of a trail: the customer's call.
 ghost use Rattle.std.specs.Prelude.{[], ◌≡◌, ◌<◌, length, take};
-ghost use Rattle.arrays.specs.Rounds.{round, round_back};
+ghost use Rattle.arrays.specs.Rounds.{round_of};
 ghost use Rattle.moves.specs.Held.{state_of};
 ghost use Rattle.moves.specs.Room.{CanPut};
 ghost use Rattle.place.specs.Problem.{problem_of};
@@ -18,7 +18,7 @@ use trail_records::{first_record, stands};
 
 // What the reader answers: the number of the first of questions 1 to 5 and 17 that is answered no; or how many points
 // the place has, T and U as masks, bit h for index h + 1, and the labels read up to the place.
-#[derive(Drop)]
+#[derive(Clone, Copy)]
 pub enum ReadAnswer {
     Refused(u8),
     Place {
@@ -30,7 +30,7 @@ pub enum ReadAnswer {
 }
 
 // The answer, and the points of the place in rising coefficient sum, m numbers each, at the front of 256 numbers.
-#[derive(Drop)]
+#[derive(Clone, Copy)]
 pub struct Reading {
     pub answer: ReadAnswer,
     pub points: [u16; 256],
@@ -63,10 +63,10 @@ fn placed(
     labels_read: u64,
     lent: [u16; 256],
 ) -> Reading
-    ghost a: { State }
-    requires s_value { state_of (round_back previous sizes) first.now [] order.now [] s ≡ a }
-    requires can_put { CanPut a m 0 (length lent) × (length a.order ≡ s.count) }
-    ensures { IsPlace a m s labels_read lent result }
+    requires { let a = state_of (round_of previous.now [] sizes.now) first.now [] order.now [] s in
+        CanPut a m 0 (length lent) × (length a.order ≡ s.count) }
+    ensures { let a = state_of (round_of previous.now [] sizes.now) first.now [] order.now [] s in
+        IsPlace a m s labels_read lent result }
 {
     let mut points = lent;
     let count = put_points(&mut points, previous, sizes, first, order, s, m, 0);
@@ -100,9 +100,8 @@ fn rebuilt(
     number: u64,
     points: [u16; 256],
 ) -> Reading
-    ghost w: { Round }
-    requires sizes_value { round previous next sizes ≡ w }
-    requires can_rebuild { CanRebuild g w binomials.now first.old }
+    requires can_rebuild { let w = round_of previous.now next.now sizes.now in
+        CanRebuild g w binomials.now first.old }
     requires number_nonzero { 0 < number }
     ensures { Reads g (take g.indices first.old) trail.now number points result }
 {

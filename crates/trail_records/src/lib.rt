@@ -12,14 +12,14 @@ ghost use Rattle.trail_records.specs.Records.{first_record, kept_record, HasLeng
 use arrays::has;
 
 // T and U of a place, as masks.
-#[derive(Drop)]
+#[derive(Clone, Copy)]
 pub struct IndexSets {
     pub t: u16,
     pub u: u16,
 }
 
 // A record: its bytes at the front, 0 behind them.
-#[derive(Drop)]
+#[derive(Clone, Copy)]
 pub struct Record {
     pub bytes: [u8; 8],
     pub length: usize,

@@ -2,8 +2,8 @@
 // public here is for the reader, which shows what it asks.
 #![tactic(auto)]
 
-ghost use Rattle.std.specs.Prelude.{map, ◌≡◌, suc, ◌+◌, ◌*◌, ◌≤◌, ◌<◌, drop, get_or, length, take};
-ghost use Rattle.arrays.specs.Rounds.{round_back};
+ghost use Rattle.std.specs.Prelude.{[], map, ◌≡◌, suc, ◌+◌, ◌*◌, ◌≤◌, ◌<◌, drop, get_or, length, take};
+ghost use Rattle.arrays.specs.Rounds.{round_of};
 ghost use Rattle.combinatorics.specs.Edits.{found};
 ghost use Rattle.marks.specs.Reading.{CanFind};
 ghost use Rattle.moves.specs.Held.{held};
@@ -52,10 +52,8 @@ fn point_with(marks: &[u32; 16], n: usize, position: usize) -> usize
 
 // The point with a position leaves, if the place has it and another.
 fn leaving(marks: &[u32; 16], s: Status, position: usize) -> Way
-    ghost a: { State }
-    requires s_value { held_marks marks.now s ≡ a }
-    requires count_bound { (s.count ≤ 15) × (length marks.now ≡ 16) }
-    ensures { result ≡ leaving a s.count position }
+    requires { (s.count ≤ 15) × (length marks.now ≡ 16) }
+    ensures { let a = held_marks marks.now s in result ≡ leaving a s.count position }
 {
     let n = s.count;
     let i = point_with(marks, n, position);
@@ -86,11 +84,9 @@ fn joining(t: u16, m: usize, byte: usize) -> Way
 
 // What the record at a position of the trail names.
 pub fn way_on(trail: &[u8], at: usize, marks: &[u32; 16], s: Status, m: usize) -> Way
-    ghost a: { State }
-    requires s_value { held_marks marks.now s ≡ a }
     requires count_bound { (s.count ≤ 15) × (length marks.now ≡ 16) }
     requires at_in_bounds { (at ≤ length trail.now) × (m ≤ 16) }
-    ensures { result ≡ way_of m s.count a (drop at trail.now) }
+    ensures { let a = held_marks marks.now s in result ≡ way_of m s.count a (drop at trail.now) }
 {
     let room = trail.len() - at;
     if room == 0 {
@@ -123,10 +119,10 @@ fn come_in(
     marks: &[u32; 16],
     s: Status,
 ) -> usize
-    ghost a: { State }
-    requires s_value { held (round_back previous sizes) first.now coefficients.now order.now marks.now s ≡ a }
-    requires measured { Measured g binomials.now × (s.rule < 6 → CanFind g tails.now a s) }
-    ensures { result ≡ come_position g a }
+    requires { let a = held (round_of previous.now [] sizes.now) first.now coefficients.now order.now marks.now s in
+        Measured g binomials.now × (s.rule < 6 → CanFind g tails.now a s) }
+    ensures { let a = held (round_of previous.now [] sizes.now) first.now coefficients.now order.now marks.now s in
+        result ≡ come_position g a }
 {
     if s.rule < 6 {
         return position_in(
@@ -163,12 +159,18 @@ pub fn arrive(
     trail: &[u8],
     at: usize,
 ) -> usize
-    ghost a: { State }
-    requires s_value { held (round_back previous sizes) first.now coefficients.now order.now marks.old s ≡ a }
-    requires measured { Measured g binomials.now × (s.rule < 6 → CanFind g tails.now a s) }
-    requires can_compare { CanCompare g a gone (length marks.old) (length trail.now) at }
-    ensures marks_after { marks.new ≡ marks_with g a marks.old }
-    ensures value { result ≡ bytes_standing g a before gone (drop at trail.now) }
+    requires measured { let a = held (round_of previous.now [] sizes.now) first.now coefficients.now order.now
+        marks.old s in
+        Measured g binomials.now × (s.rule < 6 → CanFind g tails.now a s) }
+    requires can_compare { let a = held (round_of previous.now [] sizes.now) first.now coefficients.now order.now
+        marks.old s in
+        CanCompare g a gone (length marks.old) (length trail.now) at }
+    ensures marks_after { let a = held (round_of previous.now [] sizes.now) first.now coefficients.now order.now
+        marks.old s in
+        marks.new ≡ marks_with g a marks.old }
+    ensures value { let a = held (round_of previous.now [] sizes.now) first.now coefficients.now order.now
+        marks.old s in
+        result ≡ bytes_standing g a before gone (drop at trail.now) }
 {
     let come = come_in(
         g,

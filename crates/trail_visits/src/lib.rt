@@ -14,7 +14,7 @@ use trail_records::{IndexSets, Record, first_record, kept_record, length_of, put
 use ways::{gone_by, way_here};
 
 // What a record looks at of the place before its own: T and U, and the position of the point that has left.
-#[derive(Drop)]
+#[derive(Clone, Copy)]
 pub struct Before {
     pub t: u16,
     pub u: u16,
@@ -23,10 +23,8 @@ pub struct Before {
 
 // The record of the place, whose points all have their marks; at the front of the trail that of {v}.
 fn record_here(marks: &[u32; 16], s: Status, before: Before, at: usize) -> Record
-    ghost a: { State }
-    requires s_value { held_marks marks.now s ≡ a }
-    requires has_positions { HasPositions a s before }
-    ensures { IsRecord (record_here a before at) result }
+    requires { let a = held_marks marks.now s in HasPositions a s before }
+    ensures { let a = held_marks marks.now s in IsRecord (record_here a before at) result }
 {
     let come = position_at(marks, s.count, s.active);
     if at == 0 {
@@ -42,10 +40,8 @@ fn record_here(marks: &[u32; 16], s: Status, before: Before, at: usize) -> Recor
 
 // The record is stored. Most places are reached by rule 1, and at these it needs no look at T and U.
 fn put_here(marks: &[u32; 16], s: Status, trail: &mut [u8], at: usize, before: Before)
-    ghost a: { State }
-    requires s_value { held_marks marks.now s ≡ a }
-    requires can_write { CanWrite a s trail.old at before }
-    ensures { trail.new ≡ with_record a trail.old at before true }
+    requires { let a = held_marks marks.now s in CanWrite a s trail.old at before }
+    ensures { let a = held_marks marks.now s in trail.new ≡ with_record a trail.old at before true }
 {
     if 0 < at {
         if s.rule == 1 {
@@ -67,12 +63,10 @@ pub fn tell(
     before: Before,
     writes: bool,
 ) -> usize
-    ghost a: { State }
-    requires s_value { held_marks marks.now s ≡ a }
-    requires can_tell { CanTell a s × (length marks.now ≡ 16) }
-    requires can_write { writes ≡ true → CanWrite a s trail.old at before }
-    ensures value { writes ≡ true → result ≡ gone_by a (way_here a) }
-    ensures trail_after { trail.new ≡ with_record a trail.old at before writes }
+    requires can_tell { let a = held_marks marks.now s in CanTell a s × (length marks.now ≡ 16) }
+    requires can_write { let a = held_marks marks.now s in writes ≡ true → CanWrite a s trail.old at before }
+    ensures value { let a = held_marks marks.now s in writes ≡ true → result ≡ gone_by a (way_here a) }
+    ensures trail_after { let a = held_marks marks.now s in trail.new ≡ with_record a trail.old at before writes }
 {
     if !writes {
         return 0;

@@ -1,6 +1,6 @@
 // The run that writes a trail: the customer's call.
 ghost use Rattle.std.specs.Prelude.{cond, true, [], ◌≡◌, length};
-ghost use Rattle.arrays.specs.Rounds.{round};
+ghost use Rattle.arrays.specs.Rounds.{round_of};
 ghost use Rattle.combinatorics.specs.Front.{front};
 ghost use Rattle.finder.specs.Asked.{CanRun};
 ghost use Rattle.finder.specs.Run.{numbers_of};
@@ -22,7 +22,7 @@ use trail_pass::pass_recording;
 
 // What the run answers, which is refused by 17 too: the trail buffer is shorter than the trail; and how many bytes of
 // the trail are written, at the front of their buffer: 0 without an end.
-#[derive(Drop)]
+#[derive(Clone, Copy)]
 pub struct TrailAnswer {
     pub run: RunAnswer,
     pub bytes: usize,
@@ -40,9 +40,8 @@ fn write_trail(
     trail: &mut [u8],
     budget: u64,
 )
-    ghost w: { Round }
-    requires sizes_value { round previous next sizes ≡ w }
-    requires can_write_trail { CanWriteTrail g w binomials.now start.now labels.now (length trail.old) budget }
+    requires { let w = round_of previous.now next.now sizes.now in
+        CanWriteTrail g w binomials.now start.now labels.now (length trail.old) budget }
     ensures { trail.new ≡ front (whole_trail (problem_from g start.now labels.now))
         trail.old }
 {
@@ -68,9 +67,8 @@ fn stored(
     finish: Finish,
     bytes: usize,
 ) -> bool
-    ghost w: { Round }
-    requires sizes_value { round previous next sizes ≡ w }
-    requires has_counted { HasCounted g w binomials.now start.now labels.now budget bytes finish }
+    requires { let w = round_of previous.now next.now sizes.now in
+        HasCounted g w binomials.now start.now labels.now budget bytes finish }
     ensures value { result ≡ has_room (problem_from g start.now labels.now)
         (length trail.old) finish }
     ensures trail_after { trail.new ≡ front (stored_at (problem_from g start.now labels.now)
@@ -121,12 +119,12 @@ fn announced(
     trail: &mut [u8],
     budget: u64,
 ) -> TrailAnswer
-    ghost p: { PathAnswer }
-    requires budget_value { answer_of (problem_from g start.now labels.now) budget ≡ p }
-    requires can_run { CanRun g binomials.now start.now labels.now answer.old }
-    ensures value { result ≡ trail_case (problem_from g start.now labels.now)
+    requires { CanRun g binomials.now start.now labels.now answer.old }
+    ensures value { let p = answer_of (problem_from g start.now labels.now) budget in
+        result ≡ trail_case (problem_from g start.now labels.now)
         (length trail.old) p }
-    ensures answer_after { answer.new ≡ front (cond (announces result.run) (numbers_of p) []) answer.old }
+    ensures answer_after { let p = answer_of (problem_from g start.now labels.now) budget in
+        answer.new ≡ front (cond (announces result.run) (numbers_of p) []) answer.old }
     ensures trail_after { trail.new ≡ front (cond (announces result.run)
         (whole_trail (problem_from g start.now labels.now)) []) trail.old }
 {

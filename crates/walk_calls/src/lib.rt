@@ -12,7 +12,7 @@ use walk_places::Walk;
 use walk_ways::WalkAnswer;
 
 // The answer, the simplex of an end, m numbers for each vertex with 0 behind, and the walk after the call.
-#[derive(Drop)]
+#[derive(Clone, Copy)]
 pub struct Call {
     pub answer: WalkAnswer,
     pub simplex: [u16; 256],
@@ -20,7 +20,7 @@ pub struct Call {
 }
 
 // What a call tells besides the walk: the answer, and the simplex of an end.
-#[derive(Drop)]
+#[derive(Clone, Copy)]
 pub struct Told {
     pub answer: WalkAnswer,
     pub simplex: [u16; 256],

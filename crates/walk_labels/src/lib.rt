@@ -12,7 +12,7 @@ use grid::wide;
 use label_table::byte_at;
 
 // The labels of a place's points, with 0 behind, and whether one of the points was not in the place before.
-#[derive(Drop)]
+#[derive(Clone, Copy)]
 pub struct Carried {
     pub labels: [u8; 16],
     pub came_in: bool,

@@ -9,7 +9,7 @@ pub use spares::spare;
 pub use standing::next_on;
 
 // The indices of T that are labels, and a point whose label the others do not need.
-#[derive(Drop)]
+#[derive(Clone, Copy)]
 pub struct Spared {
     pub seen: u16,
     pub point: usize,

@@ -18,7 +18,7 @@ use walk_ways::WalkAnswer;
 // vertices; of a move the rule, or else 0, and, where it is shown, the map and the fields; the numbers of the vertices
 // or points, with 0 behind.
 #[repr(C)]
-#[derive(Drop)]
+#[derive(Clone, Copy)]
 pub struct Answered {
     pub walk: Walk,
     pub vertices: u64,

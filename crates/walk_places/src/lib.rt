@@ -11,7 +11,7 @@ pub use placing::{both_placed, seen};
 // and how many points it has. What stands behind is 0, so that places are the same exactly if their structs are; 0
 // points and nothing but 0 are no place.
 #[repr(C)]
-#[derive(Drop)]
+#[derive(Clone, Copy)]
 pub struct Place {
     pub first: [u16; 16],
     pub order: [u32; 16],
@@ -23,7 +23,7 @@ pub struct Place {
 // it carries. At the front of each array stand the numbers of the blocks, the indices or the points; behind the labels
 // stands 0.
 #[repr(C)]
-#[derive(Drop)]
+#[derive(Clone, Copy)]
 pub struct Walk {
     pub places: u64,
     pub labels_read: u64,
@@ -38,7 +38,7 @@ pub struct Walk {
 
 // Two places, the one from which a walk is moved and the next: the positions of the n + 1 points and of the k + 1, in
 // marks without labels, and the sets T and U of both.
-#[derive(Drop)]
+#[derive(Clone, Copy)]
 pub struct Both {
     pub from: [u32; 16],
     pub n: usize,

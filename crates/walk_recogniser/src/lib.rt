@@ -21,7 +21,7 @@ pub use points::read_labels;
 use positions::ENTRIES;
 
 // T and U as masks, where there are such sets.
-#[derive(Drop)]
+#[derive(Clone, Copy)]
 pub struct FoundSets {
     pub is: bool,
     pub t: u16,

@@ -12,7 +12,7 @@ pub use pointing::points;
 use walk_places::{Place, Walk};
 
 // The number of the first of questions 1 to 7 that is answered no, or 0 and the walk at {v}.
-#[derive(Drop)]
+#[derive(Clone, Copy)]
 pub struct Begun {
     pub code: u8,
     pub walk: Walk,
@@ -20,7 +20,7 @@ pub struct Begun {
 
 // The number of the first of questions 1 to 7 and 20 that is answered no, or 0, how many points the place has, and
 // their numbers, m for each point in rising order of coefficient sum, with 0 behind.
-#[derive(Drop)]
+#[derive(Clone, Copy)]
 pub struct PlacePoints {
     pub code: u8,
     pub count: usize,

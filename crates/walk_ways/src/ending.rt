@@ -1,6 +1,6 @@
 // The answer at an end, and what a way tells.
 ghost use Rattle.std.specs.Prelude.{[], ◌≡◌, ◌<◌, length};
-ghost use Rattle.arrays.specs.Rounds.{round_back};
+ghost use Rattle.arrays.specs.Rounds.{round_of};
 ghost use Rattle.grid.specs.Made.{IsMade};
 ghost use Rattle.moves.specs.Held.{state_of};
 ghost use Rattle.moves.specs.Room.{CanPut};
@@ -25,11 +25,11 @@ fn ended(
     h: usize,
     from: usize,
 ) -> Next
-    ghost a: { State }
-    requires s_value { state_of (round_back previous sizes) first.now [] order.now [] s ≡ a }
     requires made { IsMade g × (h < g.indices) }
-    requires can_put { CanPut a g.indices from 256 × (length a.order ≡ s.count) }
-    ensures { result ≡ end_as g a kind h from }
+    requires can_put { let a = state_of (round_of previous.now [] sizes.now) first.now [] order.now [] s in
+        CanPut a g.indices from 256 × (length a.order ≡ s.count) }
+    ensures { let a = state_of (round_of previous.now [] sizes.now) first.now [] order.now [] s in
+        result ≡ end_as g a kind h from }
 {
     let m = g.indices;
     let mut simplex = [0u16; 256];
@@ -69,10 +69,10 @@ pub fn told(
     s: Status,
     way: Move,
 ) -> Next
-    ghost a: { State }
-    requires s_value { state_of (round_back previous sizes) first.now [] order.now [] s ≡ a }
-    requires made { IsMade g × CanTellEnd g a way × (length a.order ≡ s.count) }
-    ensures { result ≡ told_as g a way }
+    requires { let a = state_of (round_of previous.now [] sizes.now) first.now [] order.now [] s in
+        IsMade g × CanTellEnd g a way × (length a.order ≡ s.count) }
+    ensures { let a = state_of (round_of previous.now [] sizes.now) first.now [] order.now [] s in
+        result ≡ told_as g a way }
 {
     let leads = way.leads;
     let place = way.place;

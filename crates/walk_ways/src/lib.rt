@@ -11,7 +11,7 @@ pub use ending::refused;
 use walk_places::Place;
 
 // What a call answers.
-#[derive(Drop)]
+#[derive(Clone, Copy)]
 pub enum WalkAnswer {
     // The number of the first of questions 1 to 7, 20 and 16 that is answered no.
     Refused(u8),
@@ -26,7 +26,7 @@ pub enum WalkAnswer {
 }
 
 // What comes next: the answer, the simplex of an end, and the place to which the walk is moved.
-#[derive(Drop)]
+#[derive(Clone, Copy)]
 pub struct Next {
     pub answer: WalkAnswer,
     pub simplex: [u16; 256],
@@ -35,7 +35,7 @@ pub struct Next {
 
 // Where a move leads: to a place, by a rule; or to an end, with an index of the block for which the simplex is
 // complete.
-#[derive(Drop)]
+#[derive(Clone, Copy)]
 pub enum Leads {
     Onto(u8),
     PlaceEnd(usize),
@@ -43,7 +43,7 @@ pub enum Leads {
 }
 
 // A move, with the place to which it leads, if to any.
-#[derive(Drop)]
+#[derive(Clone, Copy)]
 pub struct Move {
     pub leads: Leads,
     pub place: Place,

@@ -1,6 +1,6 @@
 // One move from a place, which stays as it is.
 ghost use Rattle.std.specs.Prelude.{◌≡◌, ◌≤◌};
-ghost use Rattle.arrays.specs.Rounds.{round};
+ghost use Rattle.arrays.specs.Rounds.{round_of};
 ghost use Rattle.moves.specs.Held.{held, CanStep};
 ghost use Rattle.rules.specs.Moves.{State, make_move};
 ghost use Rattle.walk_ways.specs.Ways.{CanTry, way_in};
@@ -22,10 +22,10 @@ pub fn way(
     m: usize,
     s: Status,
 ) -> Move
-    ghost a: { State }
-    requires s_value { held (round previous next sizes) first.now list.now order.now marks.now s ≡ a }
-    requires can_step { CanStep order.now marks.now a × CanTry a × (m ≤ 16) }
-    ensures { result ≡ way_in m (make_move a) }
+    requires { let a = held (round_of previous.now next.now sizes.now) first.now list.now order.now marks.now s in
+        CanStep order.now marks.now a × CanTry a × (m ≤ 16) }
+    ensures { let a = held (round_of previous.now next.now sizes.now) first.now list.now order.now marks.now s in
+        result ≡ way_in m (make_move a) }
 {
     let mut f = *first;
     let mut c = *list;

@@ -1,6 +1,6 @@
 -- The way from a place to the next: a point that leaves, or an index that joins T; and the move that it names. The
 -- promises of the writer and the reader do not cite it. Assumes nothing.
-use Rattle.std.specs.Prelude.{true, cond, [], map, ◌≡◌, ℕ, ◌-◌, ◌≤◌, ◌<◌, ltb}
+use Rattle.std.specs.Prelude.{true, cond, List, [], map, ◌≡◌, ℕ, ◌-◌, ◌≤◌, ◌<◌, ltb}
 use Rattle.arrays.specs.Rounds.{no_round}
 use Rattle.combinatorics.specs.Edits.{found}
 use Rattle.moves.specs.Held.{state_of}

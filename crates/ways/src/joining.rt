@@ -1,6 +1,6 @@
 // A label joins T, or the place is an end. The first point and its coefficients have no part in this.
 ghost use Rattle.std.specs.Prelude.{[], ◌≡◌};
-ghost use Rattle.arrays.specs.Rounds.{round_on};
+ghost use Rattle.arrays.specs.Rounds.{round_of};
 ghost use Rattle.moves.specs.Held.{held_by, Gives, CanJoin, Joins, CanGrow};
 ghost use Rattle.rules.specs.Moves.{State, grow as grown};
 
@@ -40,10 +40,10 @@ pub fn grow(
     s: Status,
     h: usize,
 ) -> Outcome
-    ghost a: { State }
-    requires s_value { held_by (round_on next sizes) [] [] order.old marks.old s ≡ a }
-    requires can_grow { CanGrow order.old marks.old a h }
-    ensures { Gives a [] [] order marks s result (grown a h) }
+    requires { let a = held_by (round_of [] next.now sizes.now) [] [] order.old marks.old s in
+        CanGrow order.old marks.old a h }
+    ensures { let a = held_by (round_of [] next.now sizes.now) [] [] order.old marks.old s in
+        Gives a [] [] order marks s result (grown a h) }
 {
     let n = s.count;
     if has(s.u, h) {

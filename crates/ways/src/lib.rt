@@ -4,7 +4,7 @@
 #![tactic(auto)]
 
 ghost use Rattle.std.specs.Prelude.{◌≡◌, ℕ, ◌≤◌, length};
-ghost use Rattle.arrays.specs.Rounds.{round};
+ghost use Rattle.arrays.specs.Rounds.{round_of};
 ghost use Rattle.moves.specs.Held.{CanStep, GivesAll, Sound, held};
 ghost use Rattle.rules.specs.Ready.{RoundBelow};
 ghost use Rattle.rules.specs.Moves.{State, make_move};
@@ -17,7 +17,7 @@ use joining::grow;
 use moves::{Outcome, Status, leave};
 
 // The point that leaves, by its number; or the index that joins T; or neither, which only a reader meets.
-#[derive(Drop)]
+#[derive(Clone, Copy)]
 pub enum Way {
     Leaves(usize),
     Joins(usize),
@@ -27,10 +27,8 @@ pub enum Way {
 // The way from a place whose points all have their marks. After rules 6 and 7 the point named leaves. Otherwise the
 // label that came in joins T if it is not there, and if it is, the other point with that label leaves.
 pub fn way_here(marks: &[u32; 16], s: Status) -> Way
-    ghost a: { State }
-    requires s_value { held_marks marks.now s ≡ a }
-    requires can_tell { CanTell a s × (length marks.now ≡ 16) }
-    ensures { result ≡ way_here a }
+    requires { let a = held_marks marks.now s in CanTell a s × (length marks.now ≡ 16) }
+    ensures { let a = held_marks marks.now s in result ≡ way_here a }
 {
     let i = s.active;
     if s.rule < 6 {
@@ -46,10 +44,8 @@ pub fn way_here(marks: &[u32; 16], s: Status) -> Way
 
 // The position of the point that a way takes out; 0 where it takes none.
 pub fn gone_by(way: Way, marks: &[u32; 16], s: Status) -> usize
-    ghost a: { State }
-    requires s_value { held_marks marks.now s ≡ a }
-    requires count_bound { (s.count ≤ 15) × ((i : ℕ) → way ≡ Way.Leaves i → i ≤ s.count) }
-    ensures { result ≡ gone_by a way }
+    requires { (s.count ≤ 15) × ((i : ℕ) → way ≡ Way.Leaves i → i ≤ s.count) }
+    ensures { let a = held_marks marks.now s in result ≡ gone_by a way }
 {
     match way {
         Way::Leaves(i) => position_at(marks, s.count, i),
@@ -70,11 +66,15 @@ pub fn moved_by(
     s: Status,
     way: Way,
 ) -> Outcome
-    ghost a: { State }
-    requires s_value { held (round previous next sizes) first.old coefficients.old order.old marks.old s ≡ a }
-    requires round_below { RoundBelow a.round × Sound order.old marks.old s }
-    requires can_move { CanMove a way }
-    ensures { GivesAll a first coefficients order marks s result (way_after a way) }
+    requires round_below { let a = held (round_of previous.now next.now sizes.now) first.old coefficients.old
+        order.old marks.old s in
+        RoundBelow a.round × Sound order.old marks.old s }
+    requires can_move { let a = held (round_of previous.now next.now sizes.now) first.old coefficients.old
+        order.old marks.old s in
+        CanMove a way }
+    ensures { let a = held (round_of previous.now next.now sizes.now) first.old coefficients.old order.old
+        marks.old s in
+        GivesAll a first coefficients order marks s result (way_after a way) }
 {
     match way {
         Way::Leaves(i) => leave(
@@ -104,10 +104,12 @@ pub fn make_move(
     marks: &mut [u32; 16],
     s: Status,
 ) -> Outcome
-    ghost a: { State }
-    requires s_value { held (round previous next sizes) first.old coefficients.old order.old marks.old s ≡ a }
-    requires can_step { CanStep order.old marks.old a }
-    ensures { GivesAll a first coefficients order marks s result (make_move a) }
+    requires { let a = held (round_of previous.now next.now sizes.now) first.old coefficients.old order.old
+        marks.old s in
+        CanStep order.old marks.old a }
+    ensures { let a = held (round_of previous.now next.now sizes.now) first.old coefficients.old order.old
+        marks.old s in
+        GivesAll a first coefficients order marks s result (make_move a) }
 {
     let way = way_here(marks, s);
     moved_by(

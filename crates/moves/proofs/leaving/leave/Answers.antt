@@ -12,7 +12,7 @@ use Rattle.moves.proofs.leaving.leave.Goals as goal
 
 pub leave_first-requires : goal.leave_first-requires
 leave_first-requires c =
-    (c.requires.s_value, c.requires.round_below.first c.if-i-eq0.true)
+    record { round_below = c.requires.round_below; ready_first = c.requires.ready_leave.first c.if-i-eq0.true }
 
 pub returns-then-i-eq0 : goal.returns-then-i-eq0
 returns-then-i-eq0 c =
@@ -28,19 +28,15 @@ returns-then-i-eq0 c =
 
 pub leave_middle-requires : goal.leave_middle-requires
 leave_middle-requires c =
-    let s = c.before.before.before.before.before.before in (
-      (s.requires.0.0.backward, s.requires.0.1),
-      record {
+    record { indices_below = (c.requires.round_below.0.backward, c.requires.round_below.1); middle = record {
         behind_first = omega (arith, c.if-i-eq0.false);
         before_last = c.if-i-s.true;
-      },
-    )
+      } }
 
 pub returns-then-i-s : goal.returns-then-i-s
 returns-then-i-s c =
-    let s = c.before.before.before.before.before.before.before in
-    let a = s.args in
-    let n = counted a.order.now a.s.count s.requires.0.1.each.in_order s.requires.1.few in
+    let a = c.args in
+    let n = counted a.order.now a.s.count c.requires.round_below.1.each.in_order c.requires.ready_leave.few in
     let round = round_of a.previous.now a.next.now a.sizes.now in
     let given =
     state_of (round_of a.previous.now [] a.sizes.now) a.first.now [] a.order.now a.marks.now a.s in
@@ -58,14 +54,14 @@ returns-then-i-s c =
 pub leave_last-requires : goal.leave_last-requires
 leave_last-requires c =
     let a = c.args in
-    let n = counted a.order.now a.s.count c.requires.s_value.1.each.in_order c.requires.round_below.few in
-    let l = c.requires.round_below.last (omega (arith, c.requires.round_below.low, c.if-i-s.false)) in
-    ((c.requires.s_value.0.backward, c.requires.s_value.1), record { some = l.some; fits = l.fits; lowered = l.lowered })
+    let n = counted a.order.now a.s.count c.requires.round_below.1.each.in_order c.requires.ready_leave.few in
+    let l = c.requires.ready_leave.last (omega (arith, c.requires.ready_leave.low, c.if-i-s.false)) in
+    record { indices_below = (c.requires.round_below.0.backward, c.requires.round_below.1); ready_last = record { some = l.some; fits = l.fits; lowered = l.lowered } }
 
 pub returns : goal.returns
 returns c =
     let a = c.args in
-    let n = counted a.order.now a.s.count c.requires.s_value.1.each.in_order c.requires.round_below.few in
+    let n = counted a.order.now a.s.count c.requires.round_below.1.each.in_order c.requires.ready_leave.few in
     let round = round_of a.previous.now a.next.now a.sizes.now in
     let given = state_of (round_of a.previous.now [] a.sizes.now) a.first.now a.coefficients.now
     a.order.now a.marks.now a.s in

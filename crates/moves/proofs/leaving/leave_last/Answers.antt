@@ -9,32 +9,23 @@ use Rattle.moves.proofs.leaving.leave_last.Goals as goal
 
 pub overflow_sub-s : goal.overflow_sub-s
 overflow_sub-s c =
-    let s = c.before.before in
-    let a = s.args in
+    let a = c.args in
     let long = length-take-le a.s.count a.order.now (omega arith) in
-    omega (arith, s.requires.1.some)
+    omega (arith, c.requires.ready_last.some)
 
 pub index_at-h-requires : goal.index_at-h-requires
 index_at-h-requires c =
-    let s = c.before.before in
-    let a = s.args in
+    let a = c.args in
     let long = length-take-le a.s.count a.order.now (omega arith) in
-    record { low = omega (arith, s.requires.1.some); few = omega arith; below = s.requires.0.1.order_below }
+    record { low = omega (arith, c.requires.ready_last.some); few = omega arith; below = c.requires.indices_below.1.order_below }
 
 pub leave_last_at-requires : goal.leave_last_at-requires
 leave_last_at-requires c =
-    let s = c.before.before.before.before.before.before.before in
-    let a = s.args in
+    let a = c.args in
     let h = c.index_at-h in
     let long = length-take-le a.s.count a.order.now (omega arith) in
     let at_last : h.result ≡ at (take a.s.count a.order.now) (length (take a.s.count a.order.now) - 1) =
-    rw long h.ensures.is in (
-      s.requires.0,
-      (
-        record { some = omega (arith, s.requires.1.some); index = h.ensures.index; at_h = h.ensures.is },
-        rw at_last s.requires.1,
-      ),
-    )
+    rw long h.ensures.is in record { indices_below = c.requires.indices_below; last_step = record { some = omega (arith, c.requires.ready_last.some); index = h.ensures.index; at_h = h.ensures.is }; ready_last = rw at_last c.requires.ready_last }
 
 pub returns : goal.returns
 returns c = c.leave_last_at.ensures

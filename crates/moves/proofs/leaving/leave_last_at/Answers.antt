@@ -18,8 +18,8 @@ use Rattle.moves.proofs.leaving.leave_last_at.Goals.{After-first_outside_or_zero
 
 pub shrink-requires : goal.shrink-requires
 shrink-requires c =
-    let q = c.requires.indices_below.0 in
-    (c.requires.s_value.1, record { point = omega arith; entry = omega arith })
+    let q = c.requires.last_step in
+    record { sound = c.requires.indices_below.1; can_shrink = record { point = omega arith; entry = omega arith } }
 
 -- the state, and the same without what `shrink` does not look at
 abbrev round : Start → Round
@@ -50,46 +50,46 @@ pub returns-then-first-h-eq0 : goal.returns-then-first-h-eq0
 returns-then-first-h-eq0 c =
     record {
       after = last_goes (goal.at.returns-then-first-h-eq0 c).Start true c.shrink.ensures.after
-          (last-to-U (place (goal.at.returns-then-first-h-eq0 c).Start) (long (goal.at.returns-then-first-h-eq0 c).Start) c.requires.indices_below.0.at_h c.if-first-h-eq0.true);
+          (last-to-U (place (goal.at.returns-then-first-h-eq0 c).Start) (long (goal.at.returns-then-first-h-eq0 c).Start) c.requires.last_step.at_h c.if-first-h-eq0.true);
       each = c.shrink.ensures.each;
     }
 
 pub shrink-requires-then-coefficients-h-eq0 : goal.shrink-requires-then-coefficients-h-eq0
 shrink-requires-then-coefficients-h-eq0 c =
-    let q = c.requires.indices_below.0 in
-    (c.requires.s_value.1, record { point = omega arith; entry = omega arith })
+    let q = c.requires.last_step in
+    record { sound = c.requires.indices_below.1; can_shrink = record { point = omega arith; entry = omega arith } }
 
 pub returns-then-coefficients-h-eq0 : goal.returns-then-coefficients-h-eq0
 returns-then-coefficients-h-eq0 c =
     record {
       after = last_goes (goal.at.returns-then-coefficients-h-eq0 c).Start false c.shrink-then-coefficients-h-eq0.ensures.after
-          (T-loses (place (goal.at.returns-then-coefficients-h-eq0 c).Start) (long (goal.at.returns-then-coefficients-h-eq0 c).Start) c.requires.indices_below.0.at_h c.if-first-h-eq0.false
+          (T-loses (place (goal.at.returns-then-coefficients-h-eq0 c).Start) (long (goal.at.returns-then-coefficients-h-eq0 c).Start) c.requires.last_step.at_h c.if-first-h-eq0.false
           c.if-coefficients-h-eq0.true);
       each = c.shrink-then-coefficients-h-eq0.ensures.each;
     }
 
 pub first_outside_or_zero-b-requires : goal.first_outside_or_zero-b-requires
-first_outside_or_zero-b-requires c = (c.«pre».1.0.index, c.«pre».0.0)
+first_outside_or_zero-b-requires c = (c.requires.last_step.index, c.requires.indices_below.0)
 
 pub go_back-requires : goal.go_back-requires
 go_back-requires c =
-    let q = c.«pre».1.0 in
+    let q = c.requires.last_step in
     let b = c.first_outside_or_zero-b.ensures in
-    let r = last-ready (place (goal.at.go_back-requires c).Start) (long (goal.at.go_back-requires c).Start) q.at_h b.0 c.«pre».1.1 c.if-first-h-eq0.false
+    let r = last-ready (place (goal.at.go_back-requires c).Start) (long (goal.at.go_back-requires c).Start) q.at_h b.0 c.requires.ready_last c.if-first-h-eq0.false
     c.if-coefficients-h-eq0.false in record { can_go = record {
         some = q.some;
-        few = c.«pre».0.1.few;
+        few = c.requires.indices_below.1.few;
         index = q.index;
         source = b.1;
-        each = c.«pre».0.1.each;
-        below = c.«pre».0.0;
+        each = c.requires.indices_below.1.each;
+        below = c.requires.indices_below.0;
       }; can_go_back = record { fits = r.0; positive = omega (arith, c.if-first-h-eq0.false); lowered = r.1 } }
 
 -- what comes in, by rule 3 or 1
 comes : (c : After-first_outside_or_zero-b) (rule : ℕ) → cond (bit c.args.s.u c.first_outside_or_zero-b.result) 3 1 ≡ rule
-    → backward (place (goal.at.After-first_outside_or_zero-b c).Start) (long (goal.at.After-first_outside_or_zero-b c).Start) c.«pre».1.0.at_h c.first_outside_or_zero-b.ensures.0 rule ≡ leave_last (place (goal.at.After-first_outside_or_zero-b c).Start)
+    → backward (place (goal.at.After-first_outside_or_zero-b c).Start) (long (goal.at.After-first_outside_or_zero-b c).Start) c.requires.last_step.at_h c.first_outside_or_zero-b.ensures.0 rule ≡ leave_last (place (goal.at.After-first_outside_or_zero-b c).Start)
 comes c =
-    last-leaves (place (goal.at.After-first_outside_or_zero-b c).Start) (long (goal.at.After-first_outside_or_zero-b c).Start) c.«pre».1.0.at_h c.first_outside_or_zero-b.ensures.0
+    last-leaves (place (goal.at.After-first_outside_or_zero-b c).Start) (long (goal.at.After-first_outside_or_zero-b c).Start) c.requires.last_step.at_h c.first_outside_or_zero-b.ensures.0
     c.if-first-h-eq0.false c.if-coefficients-h-eq0.false
 
 pub returns-then-has : goal.returns-then-has

@@ -15,21 +15,20 @@ use Rattle.rules.specs.Moves.{State, goes}
 use Rattle.moves.proofs.Cases.{same-state, beside_after, shrink-beside, middle_to_U, steps-exchanged}
 use borrow.Author.Rules.{rules}
 use Rattle.moves.proofs.leaving.leave_middle.Goals as goal
+use Rattle.moves.proofs.leaving.leave_middle.Goals.{then-to-b+else-first-b-eq0, else-to-b}
 
 pub first_outside-b-requires : goal.first_outside-b-requires
 first_outside-b-requires c =
-    (c.index_at-from.ensures.index, c.before.before.before.before.requires.0.0)
+    (c.index_at-from.ensures.index, c.requires.indices_below.0)
 
 pub shrink-requires : goal.shrink-requires
 shrink-requires c =
-    let s = c.before.before.before.before.before.before.before.before.before.before in
-    let q = s.requires.1 in
-    (s.requires.0.1, record { point = omega arith; entry = omega arith })
+    let q = c.requires.middle in
+    record { sound = c.requires.indices_below.1; can_shrink = record { point = omega arith; entry = omega arith } }
 
 pub returns-then-first-b-eq0 : goal.returns-then-first-b-eq0
 returns-then-first-b-eq0 c =
-    let s = c.before.before.before.before.before.before.before.before.before.before.before in
-    let a = s.args in
+    let a = c.args in
     let h = c.index_at-from in
     let w = c.index_at-to in
     let b = c.first_outside-b in
@@ -47,14 +46,16 @@ returns-then-first-b-eq0 c =
 
 pub returns : goal.returns
 returns c =
-    let s = c.before.before.before.before.before.before.before.before in
-    let a = s.args in
+    let a = c.args in
     let h = c.index_at-from in
     let w = c.index_at-to in
     let b = c.first_outside-b in
     let round = round_of a.previous.now [] a.sizes.now in
     let stays : (w.result ≡ b.result → at a.first.now b.result ≡ 0 → ⊥) =
-    ⊎_elim (λ t _. t.2.left) (λ t e _. t.left e) c.if-to-b.branch in
+    elim c.if-to-b.branch [
+      then-to-b+else-first-b-eq0 w ↦ λ _. w.if-first-b-eq0.false
+      | else-to-b w ↦ λ e _. w.if-to-b.false e
+      ] in
     let order : take a.s.count c.exchange.new.a ≡ swap_at (a.i - 1) (take a.s.count a.order.now) =
     rw c.exchange.ensures.0 (take_swap a.s.count (a.i - 1) a.order.now (omega arith)) in
     record {
@@ -62,5 +63,5 @@ returns c =
           (same-state _ 1 refl refl order refl refl refl refl
           ∙ steps-exchanged (state_of round a.first.now [] a.order.now a.marks.now a.s) a.i h.result
           w.result b.result h.ensures.is w.ensures.is b.ensures.0 stays);
-      each = record { in_order = c.exchange.ensures.1; in_marks = s.requires.0.1.each.in_marks };
+      each = record { in_order = c.exchange.ensures.1; in_marks = c.requires.indices_below.1.each.in_marks };
     }

@@ -11,14 +11,13 @@ use Rattle.moves.proofs.leaving.shrink.Goals as goal
 
 pub returns-then-joins : goal.returns-then-joins
 returns-then-joins c =
-    let s = c.before.before.before.before.before.before.before.before.before.before.before in
-    let a = s.args in
+    let a = c.args in
     let h = c.index_at-h in
     record {
       after = ap (λ (x : State). goes x)
           (shrinks no_round [] [] a.order.now a.marks.now
           c.remove.new.a
-          c.remove-2.new.a a.s a.i a.e s.requires.1.entry
+          c.remove-2.new.a a.s a.i a.e c.requires.can_shrink.entry
           h.result true h.ensures.is
           c.remove.ensures.0
           c.remove-2.ensures.0 c.find-active.ensures
@@ -33,14 +32,13 @@ returns-then-joins c =
 
 pub returns : goal.returns
 returns c =
-    let s = c.before.before.before.before.before.before.before.before.before.before in
-    let a = s.args in
+    let a = c.args in
     let h = c.index_at-h in
     record {
       after = ap (λ (x : State). goes x)
           (shrinks no_round [] [] a.order.now a.marks.now
           c.remove.new.a
-          c.remove-2.new.a a.s a.i a.e s.requires.1.entry h.result
+          c.remove-2.new.a a.s a.i a.e c.requires.can_shrink.entry h.result
           false h.ensures.is c.remove.ensures.0
           c.remove-2.ensures.0 c.find-active.ensures
           c.without-t.ensures refl

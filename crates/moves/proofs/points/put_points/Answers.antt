@@ -17,7 +17,7 @@ use Rattle.moves.proofs.points.put_points.Invariants.{row}
 use Rattle.moves.proofs.points.put_points.Goals as goal
 
 pub overflow_add-end : goal.overflow_add-end
-overflow_add-end c = omega (arith, c.requires.s_value.points.few, c.requires.can_put)
+overflow_add-end c = omega (arith, c.requires.0.points.few, c.requires.1)
 
 pub loop-i-init : goal.loop-i-init
 loop-i-init c =
@@ -26,7 +26,7 @@ loop-i-init c =
       rw none (sym (front-none a.buf.now)),
       rw none (omega arith),
       omega arith,
-      omega (arith, c.requires.s_value.low, c.requires.can_put),
+      omega (arith, c.requires.0.low, c.requires.1),
       refl,
     )
 
@@ -37,29 +37,29 @@ advance-requires c =
     let from = first_outside a.previous.now a.sizes.now a.s.u in
     let low : l.i ≤ a.s.count = omega (arith, c.loop-i-test.true) in
     let all : ReadyPoint from (take a.s.count a.order.now) a.first.now a.s.count =
-    rw c.requires.can_put at c.requires.s_value.points in
+    rw c.requires.1 at c.requires.0.points in
     let ready = earlier-ready from (take a.s.count a.order.now) a.first.now l.i a.s.count low all in
-    record { indices_below = c.requires.s_value.below; ready_point = few-ready from a.order.now a.first.now a.s.count l.i low ready }
+    record { indices_below = c.requires.0.below; ready_point = few-ready from a.order.now a.first.now a.s.count l.i low ready }
 
 pub put_row-requires : goal.put_row-requires
 put_row-requires c =
     let a = c.args in
     let l = c.loop-i in
     let from = first_outside a.previous.now a.sizes.now a.s.u in
-    let all : (suc a.s.count - a.from) * a.m ≤ length a.buf.now = rw c.requires.can_put at c.requires.s_value.fits in
+    let all : (suc a.s.count - a.from) * a.m ≤ length a.buf.now = rw c.requires.1 at c.requires.0.fits in
     let fits = row_room (l.i - a.from) (suc a.s.count - a.from) a.m (length a.buf.now) (omega arith)
     all in (
       omega arith,
-      c.requires.s_value.short,
+      c.requires.0.short,
       rw c.advance.ensures
-          (length-after from (take l.i a.order.now) a.first.now l.i ∙ c.requires.s_value.first_length),
+          (length-after from (take l.i a.order.now) a.first.now l.i ∙ c.requires.0.first_length),
     )
 
 pub overflow_add-position : goal.overflow_add-position
 overflow_add-position c =
     let a = c.args in
     let l = c.loop-i in
-    let all : (suc a.s.count - a.from) * a.m ≤ length a.buf.now = rw c.requires.can_put at c.requires.s_value.fits in
+    let all : (suc a.s.count - a.from) * a.m ≤ length a.buf.now = rw c.requires.1 at c.requires.0.fits in
     let fits = row_room (l.i - a.from) (suc a.s.count - a.from) a.m (length a.buf.now) (omega arith)
     all in
     omega arith
@@ -71,11 +71,11 @@ loop-i-preserved c =
     let from = first_outside a.previous.now a.sizes.now a.s.u in
     let points = point_after from a.order.now a.first.now in
     let long = length-after from a.order.now a.first.now in
-    let all : (suc a.s.count - a.from) * a.m ≤ length a.buf.now = rw c.requires.can_put at c.requires.s_value.fits in
+    let all : (suc a.s.count - a.from) * a.m ≤ length a.buf.now = rw c.requires.1 at c.requires.0.fits in
     let fits = row_room (l.i - a.from) (suc a.s.count - a.from) a.m (length a.buf.now) (omega arith)
     all in
     let short : (j : ℕ) → a.m ≤ length (points j) = λ j.
-    rw (long j) (omega (arith, c.requires.s_value.short, c.requires.s_value.first_length)) in
+    rw (long j) (omega (arith, c.requires.0.short, c.requires.0.first_length)) in
     let point = c.advance.ensures
     ∙ sym (after_taken from a.order.now a.first.now l.i l.i (omega arith)) in
     let put = row_put (row from a.first.now a.order.now a.m) a.m a.from
@@ -86,7 +86,7 @@ loop-i-preserved c =
       next-position l.i a.from a.m l.position (omega arith) l.invariant.1,
       omega arith,
       omega arith,
-      c.put_row.auto.0 ∙ l.invariant.4,
+      c.put_row.auto.buf ∙ l.invariant.4,
     )
 
 pub returns : goal.returns
@@ -95,7 +95,7 @@ returns c =
     let l = c.loop-i in
     let from = first_outside a.previous.now a.sizes.now a.s.u in
     let steps = take a.s.count a.order.now in
-    let n : length steps ≡ a.s.count = c.requires.can_put in
+    let n : length steps ≡ a.s.count = c.requires.1 in
     let k : l.i - a.from ≡ suc (length steps) - a.from = omega arith in
     let rows = same_rows (row from a.first.now a.order.now a.m) (row from a.first.now steps a.m)
     a.from (l.i - a.from)
