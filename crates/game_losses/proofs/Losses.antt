@@ -2,7 +2,7 @@
 use mathlib.Core.Bool.{true, not}
 use mathlib.Core.List.{List, [], ◌∷◌, map}
 use mathlib.Core.Path.{◌≡◌, refl, ap, ◌∙◌}
-use Prim.Native.Nat.{ℕ, zero, suc, ◌-◌, ◌*◌, ◌≤◌, ◌<◌}
+use Prim.Native.Nat.{ℕ, zero, suc, ◌*◌, ◌≤◌, ◌<◌}
 use borrow.Author.Tests.{leb-true, le-leb, lt-ltb, ltb-true}
 use lib.Dec.{eqb, leb, ltb}
 use lib.ListN.{length, drop}
@@ -14,7 +14,7 @@ use Rattle.combinatorics.proofs.Lists.{in_all, filter_in, on_numbers}
 use Rattle.combinatorics.proofs.Ranges.{up_from_in}
 use Rattle.combinatorics.specs.Lists.{all, sum}
 use Rattle.grid_points.proofs.Accepted.{Accepted}
-use Rattle.grid_points.specs.Grid.{Grid, Point, at, num_blocks, division, size, is_grid_point, blocks}
+use Rattle.grid_points.specs.Grid.{Grid, Point, num_blocks, division, size, is_grid_point, blocks}
 use Rattle.game_losses.proofs.Players.{product-own, divisions-few}
 use Rattle.points_in_order.proofs.Blocks.{block-sum}
 use Rattle.game_losses.proofs.Weights.{sum-weights, dot-bound}

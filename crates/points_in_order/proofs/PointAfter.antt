@@ -62,8 +62,8 @@ block_run (suc n) d = from 0 d (omega arith) (block_run n)
     from k (suc r) e runs =
         let z : d - k ≡ suc r = omega arith in
         subst (λ (v : ℕ). Run (NextBlock (suc (suc n))) (k ∷ (zeros n ++ (suc r ∷ [])))
-            (map (λ l. k ∷ l) (block_points (suc n) v) ++ concat_map (group (suc n) d) (up_from (suc k) (suc r)))
-            (d ∷ zeros (suc n)))
+        (map (λ l. k ∷ l) (block_points (suc n) v) ++ concat_map (group (suc n) d) (up_from (suc k) (suc r)))
+        (d ∷ zeros (suc n)))
         (sym z) (run-append (NextBlock (suc (suc n)))
         (run-map (NextBlock (suc n)) (NextBlock (suc (suc n))) (λ l. k ∷ l) (cons_next (suc n) k) (runs (suc r)))
         (ap (λ (m : ℕ). suc (suc m)) (length-replicate {A = ℕ} n 0), after-moves n k r)

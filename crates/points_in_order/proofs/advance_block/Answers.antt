@@ -2,14 +2,13 @@
 use native.Mathlib.Omega.{arith}
 use lib.ListN.{length-set}
 use Rattle.points_in_order.proofs.PointAfter.{block_wraps, block-moves, room-before}
-use borrow.Author.Rules.{rules}
 use Rattle.points_in_order.proofs.advance_block.Goals as goal
 
 pub bounds-block-last : goal.bounds-block-last
 bounds-block-last c = rw length-set (omega arith)
 
 pub returns-then-i-eq0 : goal.returns-then-i-eq0
-returns-then-i-eq0 c = block_wraps c.before.before.before.before.before.args.block.now
+returns-then-i-eq0 c = block_wraps c.args.block.now
     c.last_positive-i.result c.last_positive-i.ensures c.if-i-eq0.true
 
 pub bounds-block-i-3 : goal.bounds-block-i-3
@@ -19,7 +18,7 @@ bounds-block-i-3 c =
 
 pub overflow_add-block : goal.overflow_add-block
 overflow_add-block c =
-    let s = c.before.before.before.before.before.before in
+    let s = c.before in
     let p = c.last_positive-i in
     record {
       fits = room-before s.args.block.now p.result 65536 p.ensures c.if-i-eq0.false s.requires.1;
@@ -40,6 +39,6 @@ bounds-block-last-2 c = rw (length-set, length-set) (omega arith)
 
 pub returns : goal.returns
 returns c =
-    let s = c.before.before.before.before.before.before in
+    let s = c.before in
     let p = c.last_positive-i in
     block-moves s.args.block.now p.result p.ensures c.if-i-eq0.false

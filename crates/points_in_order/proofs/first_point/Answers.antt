@@ -1,18 +1,15 @@
 -- `first_point` meets its contract: the blocks passed have their divisions at their last indices. Assumes nothing.
 use mathlib.Core.Path.{◌≡◌, sym, ◌∙◌}
-use Prim.Native.Nat.{◌+◌, ◌-◌, ◌≤◌}
+use Prim.Native.Nat.{◌+◌, ◌≤◌}
 use native.Mathlib.Omega.{arith}
-use borrow.Author.Rules.{rules}
-use lib.ListN.{length, take, replicate}
+use lib.ListN.{take, replicate}
 use lib.Seq.{take_all}
 use Rattle.combinatorics.proofs.Fronts.{front-none}
-use Rattle.combinatorics.specs.Front.{front}
 use Rattle.combinatorics.specs.Lists.{sum}
-use Rattle.grid_points.proofs.Accepted.{Accepted, accepted, size-two}
+use Rattle.grid_points.proofs.Accepted.{accepted, size-two}
 use Rattle.grid_points.proofs.Round.{block-fits}
 use Rattle.grid_points.specs.Grid.{lent}
 use Rattle.points_in_order.proofs.PointAfter.{first_turn}
-use Rattle.points_in_order.specs.PointAfter.{first_point}
 use Rattle.points_in_order.proofs.first_point.Goals as goal
 use Rattle.points_in_order.proofs.first_point.Goals.{After-wide-in-loop-j}
 
@@ -32,12 +29,11 @@ last-is c =
     (e, omega arith, omega (arith, block-fits c.args.sizes.now l.j, l.invariant.2.few_indices))
 
 pub loop-j-init : goal.loop-j-init
-loop-j-init c =
-    (
-      c.requires.1 ∙ sym (front-none (replicate 16 0)),
-      omega arith,
-      accepted (lent c.args.sizes.now c.args.divisions.now) c.requires.0.accepted,
-    )
+loop-j-init c = (
+  c.requires.1 ∙ sym (front-none (replicate 16 0)),
+  omega arith,
+  accepted (lent c.args.sizes.now c.args.divisions.now) c.requires.0.accepted,
+)
 
 pub bounds-firsts-j : goal.bounds-firsts-j
 bounds-firsts-j c = omega (arith, c.loop-j.invariant.2.few_blocks)

@@ -1,17 +1,10 @@
 -- `first_point` meets its contract: the blocks passed have their divisions at their last indices. Assumes nothing.
-use mathlib.Core.Path.{◌≡◌, sym, ◌∙◌}
-use Prim.Native.Nat.{◌+◌, ◌-◌, ◌≤◌}
-use native.Mathlib.Omega.{arith}
-use borrow.Author.Rules.{rules}
+use mathlib.Core.Path.{◌≡◌}
+use Prim.Native.Nat.{◌-◌, ◌≤◌}
 use lib.ListN.{length, take, replicate}
-use lib.Seq.{take_all}
-use Rattle.combinatorics.proofs.Fronts.{front-none}
 use Rattle.combinatorics.specs.Front.{front}
-use Rattle.combinatorics.specs.Lists.{sum}
-use Rattle.grid_points.proofs.Accepted.{Accepted, accepted, size-two}
-use Rattle.grid_points.proofs.Round.{block-fits}
+use Rattle.grid_points.proofs.Accepted.{Accepted}
 use Rattle.grid_points.specs.Grid.{lent}
-use Rattle.points_in_order.proofs.PointAfter.{first_turn}
 use Rattle.points_in_order.specs.PointAfter.{first_point}
 use Rattle.points_in_order.proofs.first_point.Given as goal
 

@@ -1,9 +1,7 @@
 -- `last_positive` meets its contract: only 0 stands behind the place. Assumes nothing.
-use Prim.Native.Nat.{ℕ, suc, ◌-◌, ◌<◌}
-use mathlib.Core.Path.{◌≡◌, subst}
-use native.Mathlib.Omega.{arith}
+use Prim.Native.Nat.{suc, ◌-◌, ◌<◌}
+use mathlib.Core.Path.{◌≡◌}
 use lib.ListN.{length, drop, replicate}
-use Rattle.points_in_order.proofs.PointAfter.{zeros-start, zeros_turn}
 use Rattle.points_in_order.proofs.last_positive.Given as goal
 
 abbrev pub invariant-loop-i : goal.invariant-loop-i

@@ -1,4 +1,4 @@
--- `advance` meets its contract: the blocks passed have begun again, and the point is the next where one has moved.
+-- `next_point` meets its contract: the blocks passed have begun again, and the point is the next where one has moved.
 -- Assumes nothing.
 use mathlib.Core.Bool.{Bool, false, true}
 use mathlib.Core.List.{List, ◌++◌}
@@ -16,48 +16,35 @@ use Rattle.grid_points.proofs.Accepted.{accepted}
 use Rattle.grid_points.proofs.Round.{block-fits}
 use Rattle.grid_points.specs.Grid.{lent}
 use Rattle.points_in_order.proofs.next_point.Goals as goal
+use Rattle.points_in_order.proofs.next_point.Goals.{After-wide}
 
 -- what is known of the block of a turn
-module _ (c : tie.After-wide2 invariant-loop decreases-loop) where
-  abbrev s : tie.Start invariant-loop decreases-loop
-  s = c.before.before.before.before.before.before.before.before
+state : (c : After-wide) → Passed c.args.sizes.now c.args.point.now (suc (c.loop-j.j - 1)) false c.loop-j.point
+state c =
+    let e : c.loop-j.j ≡ suc (c.loop-j.j - 1) = omega arith in
+    rw e at c.loop-j.invariant.0
 
-  abbrev k : ℕ
-  k = c.before.before.before.before.before.loop.j - 1
+first-is : (c : After-wide) → c.wide-first.result ≡ sum (take (c.loop-j.j - 1) c.args.sizes.now)
+first-is c = c.wide-first.ensures ∙ c.requires.1.grid.first (c.loop-j.j - 1) (omega arith)
 
-  state : Passed s.args.sizes.now s.args.point.now (suc k) false
-      c.before.before.before.before.before.loop.point
-  state =
-      let e : c.before.before.before.before.before.loop.j ≡ suc k = omega arith in
-      rw e at c.before.before.before.before.before.loop.invariant.0
+inside : (c : After-wide)
+    → sum (take (c.loop-j.j - 1) c.args.sizes.now) + get_or c.args.sizes.now (c.loop-j.j - 1) 0
+    ≤ length c.loop-j.point
+inside c =
+    let g = lent c.args.sizes.now c.requires.0 in
+    omega (
+      arith,
+      block-fits c.args.sizes.now (c.loop-j.j - 1),
+      point-length g (accepted g c.requires.1.grid.accepted) c.args.point.now c.requires.1.is_point,
+    )
 
-  first-is : c.before.before.wide.result ≡ sum (take k s.args.sizes.now)
-  first-is = c.before.before.wide.ensures ∙ s.pre.1.grid.first k (omega arith)
-
-  inside : sum (take k s.args.sizes.now) + get_or s.args.sizes.now k 0
-      ≤ length c.before.before.before.before.before.loop.point
-  inside =
-      let g = lent s.args.sizes.now s.pre.0 in
-      omega (
-        arith,
-        block-fits s.args.sizes.now k,
-        point-length g (accepted g s.pre.1.grid.accepted) s.args.point.now s.pre.1.is_point,
-      )
-
-  abbrev f : ℕ
-  f = c.before.before.wide.result
-
-  abbrev n : ℕ
-  n = f + c.wide2.result - f
-
-  abbrev now : List ℕ
-  now = c.before.before.before.before.before.loop.point
-
-  turned : (b : List ℕ) (moved : Bool) → after (take n (drop f now)) ≡ point_step moved b
-      → Passed s.args.sizes.now s.args.point.now k moved (take f now ++ (b ++ drop n (drop f now)))
-  turned b moved = lent_turn s.args.sizes.now s.args.point.now k
-      c.before.before.before.before.before.loop.point (omega arith) state c.before.before.wide.result
-      c.wide2.result first-is c.wide2.ensures b moved inside
+turned : (c : After-wide) (b : List ℕ) (moved : Bool)
+    → let f = c.wide-first.result in let n = f + c.wide.result - f in let now = c.loop-j.point in
+    after (take n (drop f now)) ≡ point_step moved b
+    → Passed c.args.sizes.now c.args.point.now (c.loop-j.j - 1) moved (take f now ++ (b ++ drop n (drop f now)))
+turned c b moved = lent_turn c.args.sizes.now c.args.point.now (c.loop-j.j - 1)
+    c.loop-j.point (omega arith) (state c) c.wide-first.result
+    c.wide.result (first-is c) c.wide.ensures b moved (inside c)
 
 pub loop-j-init : goal.loop-j-init
 loop-j-init c = (
@@ -89,13 +76,13 @@ advance_block-requires c =
 pub returns-then-advance_block : goal.returns-then-advance_block
 returns-then-advance_block c =
     let a = c.advance_block in
-    let p = turned (goal.at.returns-then-advance_block c).After-wide a.new.0 true (a.ensures ∙ ap (λ (b : Bool). point_step b a.new.0) c.if-advance_block.true) in record { point_after = passed_moved c.args.sizes.now c.args.point.now (k (goal.at.returns-then-advance_block c).After-wide) _ p; upper_bound = (omega arith, p.before) }
+    let p = turned (goal.at.returns-then-advance_block c).After-wide a.new.block true (a.ensures ∙ ap (λ (b : Bool). point_step b a.new.block) c.if-advance_block.true) in record { point_after = passed_moved c.args.sizes.now c.args.point.now (c.loop-j.j - 1) _ p; upper_bound = (omega arith, p.before) }
 
 pub loop-j-preserved : goal.loop-j-preserved
 loop-j-preserved c =
     let a = c.advance_block in (
-      turned (goal.at.loop-j-preserved c).After-wide a.new.0 false
-          (a.ensures ∙ ap (λ (b : Bool). point_step b a.new.0) c.if-advance_block.false),
+      turned (goal.at.loop-j-preserved c).After-wide a.new.block false
+          (a.ensures ∙ ap (λ (b : Bool). point_step b a.new.block) c.if-advance_block.false),
       omega arith,
       omega arith,
     )

@@ -1,0 +1,98 @@
+-- `weigh_player` meets its contract: the losses of the player's strategies give both kinds of losses. Assumes nothing.
+use mathlib.Core.Path.{◌≡◌, ◌∙◌}
+use Prim.Native.Nat.{◌+◌, ◌≤◌}
+use native.Mathlib.Omega.{arith}
+use borrow.Author.Rules.{rules}
+use lib.ListN.{length}
+use Rattle.grid_points.proofs.Accepted.{Accepted, accepted}
+use Rattle.grid_points.proofs.Round.{block-fits}
+use Rattle.grid_points.specs.Grid.{first_index, lent}
+use Rattle.points_in_order.proofs.Blocks.{point-length}
+use Rattle.game_losses.proofs.Player.{player-fits, player-ends, player_expected, player-replaced}
+use Rattle.game_losses.proofs.point.weigh_player.Goals as goal
+use Rattle.game_losses.proofs.point.weigh_player.Goals.{Start, After-wide}
+
+yes : (c : Start) → Accepted (lent c.args.sizes.now c.args.divisions.now)
+yes c = accepted (lent c.args.sizes.now c.args.divisions.now) c.requires.0.1.point.grid.accepted
+
+-- what is known where the losses are written
+first-is : (c : After-wide)
+    → c.wide-first.result ≡ first_index (lent c.args.sizes.now c.args.divisions.now) c.args.player
+first-is c = c.wide-first.ensures ∙ c.requires.0.1.point.grid.first c.args.player c.requires.1
+
+inside : (c : After-wide)
+    → first_index (lent c.args.sizes.now c.args.divisions.now) c.args.player + c.wide.result
+    ≤ length c.args.point.now
+inside c = omega (
+  arith,
+  c.wide.ensures,
+  block-fits c.args.sizes.now c.args.player,
+  point-length (lent c.args.sizes.now c.args.divisions.now)
+      (accepted (lent c.args.sizes.now c.args.divisions.now) c.requires.0.1.point.grid.accepted)
+      c.args.point.now c.requires.0.1.point.is_point,
+)
+
+inside_values : (c : After-wide)
+    → first_index (lent c.args.sizes.now c.args.divisions.now) c.args.player + c.wide.result
+    ≤ length c.args.values.now
+inside_values c =
+    omega (arith, c.wide.ensures, block-fits c.args.sizes.now c.args.player, c.requires.0.1.room)
+
+pub bounds-firsts-player : goal.bounds-firsts-player
+bounds-firsts-player c = omega (
+  arith,
+  (yes (goal.at.bounds-firsts-player c).Start).few_blocks,
+  c.requires.1,
+)
+
+pub overflow_add-end : goal.overflow_add-end
+overflow_add-end c = omega (arith, first-is c, inside c)
+
+pub offset_bounds-point-first : goal.offset_bounds-point-first
+offset_bounds-point-first c = omega (arith, first-is c, inside c)
+
+pub slice_bounds-put_losses-end : goal.slice_bounds-put_losses-end
+slice_bounds-put_losses-end c = let e = first-is c in let i = inside c in search rules
+
+pub offset_bounds-values-first : goal.offset_bounds-values-first
+offset_bounds-values-first c = omega (arith, first-is (goal.at.offset_bounds-values-first c).After-wide, inside_values (goal.at.offset_bounds-values-first c).After-wide)
+
+pub slice_bounds-put_losses-end-2 : goal.slice_bounds-put_losses-end-2
+slice_bounds-put_losses-end-2 c = let e = first-is (goal.at.slice_bounds-put_losses-end-2 c).After-wide in let i = inside_values (goal.at.slice_bounds-put_losses-end-2 c).After-wide in search rules
+
+pub bounds-divisions-player : goal.bounds-divisions-player
+bounds-divisions-player c = omega (
+  arith,
+  (yes (goal.at.bounds-divisions-player c).Start).same_number,
+  c.requires.1,
+)
+
+pub put_losses-requires : goal.put_losses-requires
+put_losses-requires c =
+    let g = lent c.args.sizes.now c.args.divisions.now in
+    let w = (goal.at.put_losses-requires c).After-wide in
+    let game = c.requires.0.1 in
+    let fits = player-fits g c.args.firsts.now c.requires.0.0 c.args.point.now game.point
+    c.args.player c.requires.1 c.args.values.now game.room game.stand
+    c.wide-first.result c.wide.result (first-is w) c.wide.ensures game.table in
+    let ends = player-ends g c.args.firsts.now c.requires.0.0 c.args.point.now game.point
+    c.args.player c.requires.1 c.args.values.now game.room game.stand
+    c.wide-first.result c.wide.result (first-is w) c.wide.ensures in
+    (fits, omega (arith, ends, c.requires.2.of_expected), omega (arith, ends, c.requires.2.of_replaced))
+
+pub returns : goal.returns
+returns c =
+    let g = lent c.args.sizes.now c.args.divisions.now in
+    let first = first-is (goal.at.returns c).After-wide in
+    let game = c.requires.0.1 in
+    let p = c.put_losses.ensures in
+    record {
+      expected_after = λ t stand. p.expected_after
+          ∙ player_expected g c.args.firsts.now t c.args.point.now game.point
+          c.args.player c.requires.1 c.args.values.now game.room stand
+          c.wide-first.result c.wide.result first c.wide.ensures c.args.expected.now;
+      replaced_after = λ t stand. p.replaced_after
+          ∙ player-replaced g c.args.firsts.now t c.args.point.now game.point
+          c.args.player c.requires.1 c.args.values.now game.room stand
+          c.wide-first.result c.wide.result first c.wide.ensures c.args.replaced.now;
+    }
