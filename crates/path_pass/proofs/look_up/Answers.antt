@@ -38,14 +38,13 @@ returns-in-Marked c =
     let a = c.args in
     let can = c.requires.can_find
     c.if-s-lt6.true in
-    let m = c.reading-in-Marked-1.is in
-    let e = marked-known _ _ (sym c.mark_in-reading.ensures ∙ m.1) in (
+    let e = marked-known _ _ (sym c.mark_in-reading.ensures ∙ c.in-Marked.is) in (
       (λ _. e.0),
       looked_some (table_problem a.g a.table.now) (round_of a.previous.now [] a.sizes.now) a.first.now
-          a.coefficients.now a.order.now a.marks.now a.s m.0.0
+          a.coefficients.now a.order.now a.marks.now a.s c.in-Marked.mark
           c.if-s-lt6.true (omega (arith, can.reads.point.low, can.many))
           e.1,
-      length-set a.marks.now a.s.active m.0.0
+      length-set a.marks.now a.s.active c.in-Marked.mark
           ∙ c.requires.readable.1,
     )
 

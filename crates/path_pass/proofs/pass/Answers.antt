@@ -62,10 +62,10 @@ place c =
       marks = l.marks;
       budget = a.budget;
       stand = l.at;
-      passing = l.inv.0;
+      passing = l.invariant.0;
       more = c.loop-at-test.true;
       below = w.below;
-      sixteen = l.inv.1.in_order;
+      sixteen = l.invariant.1.in_order;
       tails = tails.result;
       sums = tails.ensures;
     }
@@ -74,15 +74,12 @@ pub look_up-looked-requires : goal.look_up-looked-requires
 look_up-looked-requires c = record { readable = (c.requires.readable, c.loop-at.invariant.1.in_marks); can_find = can_look (place c) }
 
 pub overflow_sub-result : goal.overflow_sub-result
-overflow_sub-result c = omega (arith, c.loop-at.inv.0.low)
+overflow_sub-result c = omega (arith, c.loop-at.invariant.0.low)
 
 pub returns-in-Unknown : goal.returns-in-Unknown
 returns-in-Unknown c =
     asks (place (goal.at.returns-in-Unknown c).After-marks-1)
-    (rw c.in-Unknown.is c.look_up-looked.ensures).0
-
-pub enum_told-1 : goal.enum_told-1
-enum_told-1 c = search rules
+    c.in-Unknown.ensures.0
 
 abbrev marks_read : In_default → List ℕ
 marks_read c = c.look_up-looked.new.marks
@@ -92,7 +89,7 @@ told : (c : In_default)
     IsRead (table_problem P.g P.table) (stands P) (rounds P) P.first P.coefficients P.order (marks_read c)
     P.stand.status
 told c =
-    has_looked (place (goal.at.In_default c).After-marks-1) (marks_read c) (rw c.in_default.is c.look_up-looked.ensures)
+    has_looked (place (goal.at.In_default c).After-marks-1) (marks_read c) c.in_default.ensures
 
 pub make_move-outcome-requires : goal.make_move-outcome-requires
 make_move-outcome-requires c =
@@ -104,14 +101,13 @@ abbrev here : After-make_move-outcome → Place
 here c = place (goal.at.After-make_move-outcome c).After-marks-1
 
 abbrev Goes : (c : After-make_move-outcome) → Outcome → Type 0
-Goes c o = let last = c.make_move-outcome.new.first in MovesTo (here c) last.0 last.1.0 last.1.1.0
-    last.1.1.1.0 o
+Goes c o = let n = c.make_move-outcome.new in MovesTo (here c) n.first n.coefficients n.order n.marks o
 
 steps : (c : After-make_move-outcome) (o : Outcome) → c.make_move-outcome.result ≡ o → Goes c o
 steps c o e =
-    let last = c.make_move-outcome.new.first in record {
+    let n = c.make_move-outcome.new in record {
       known = (told (goal.at.After-make_move-outcome c).In_default).known;
-      moves = ap (λ (x : Outcome). answered (rounds (here c)) last.0 last.1.0 last.1.1.0 last.1.1.1.0
+      moves = ap (λ (x : Outcome). answered (rounds (here c)) n.first n.coefficients n.order n.marks
           (here c).stand.status x) (sym e) ∙ c.make_move-outcome.ensures.after ∙ ap make_move (told (goal.at.After-make_move-outcome c).In_default).is;
       sixteen = c.make_move-outcome.ensures.each.in_order;
     }
@@ -121,16 +117,14 @@ ended-requires c = let P = here (goal.at.ended-requires c).After-make_move-outco
 
 pub returns-in-PlaceEnd : goal.returns-in-PlaceEnd
 returns-in-PlaceEnd c =
-    let o = c.enum_told-in-PlaceEnd-1.is in
-    rw (c.ended.ensures, o.1) (place-ends (here (goal.at.returns-in-PlaceEnd c).After-make_move-outcome) (steps (goal.at.returns-in-PlaceEnd c).After-make_move-outcome _ o.1))
+    rw (c.ended.ensures, c.in-PlaceEnd.is) (place-ends (here (goal.at.returns-in-PlaceEnd c).After-make_move-outcome) (steps (goal.at.returns-in-PlaceEnd c).After-make_move-outcome _ c.in-PlaceEnd.is))
 
 pub ended-requires-in-FacetEnd : goal.ended-requires-in-FacetEnd
 ended-requires-in-FacetEnd c = let P = here (goal.at.ended-requires-in-FacetEnd c).After-make_move-outcome in (P.more, P.passing.low)
 
 pub returns-in-FacetEnd : goal.returns-in-FacetEnd
 returns-in-FacetEnd c =
-    let o = c.enum_told-in-FacetEnd-1.is in
-    rw (c.ended-in-FacetEnd.ensures, o.1) (facet-ends (here (goal.at.returns-in-FacetEnd c).After-make_move-outcome) (steps (goal.at.returns-in-FacetEnd c).After-make_move-outcome _ o.1))
+    rw (c.ended-in-FacetEnd.ensures, c.in-FacetEnd.is) (facet-ends (here (goal.at.returns-in-FacetEnd c).After-make_move-outcome) (steps (goal.at.returns-in-FacetEnd c).After-make_move-outcome _ c.in-FacetEnd.is))
 
 pub on-at-requires : goal.on-at-requires
 on-at-requires c =
@@ -146,14 +140,6 @@ loop-at-preserved-in-Moved c =
       passes_on (here (goal.at.loop-at-preserved-in-Moved c).After-make_move-outcome) (steps (goal.at.loop-at-preserved-in-Moved c).After-make_move-outcome _ c.in-Moved.is) c.on-at.ensures,
       c.make_move-outcome.ensures.each,
     )
-
-pub loop-at-smaller : goal.loop-at-smaller
-loop-at-smaller c =
-    absurd (one_of_three _ c.in_default-outcome.keys2 c.in_default-outcome-2.keys2 c.in_default-outcome-3.keys2)
-
-pub loop-at-preserved : goal.loop-at-preserved
-loop-at-preserved c = absurd
-    (one_of_three _ c.in_default-outcome.keys2 c.in_default-outcome-2.keys2 c.in_default-outcome-3.keys2)
 
 pub returns : goal.returns
 returns c =
