@@ -1,14 +1,11 @@
 -- One level: its labels and its run, behind all questions. Assumes nothing.
 use mathlib.Core.List.{List, [], ◌∷◌}
-use mathlib.Core.Logic.{⊎_elim}
 use mathlib.Core.Path.{◌≡◌, refl, ap, ◌∙◌}
 use Prim.Native.Nat.{ℕ}
-use denote.Enum.Declared.{tag_of}
-use types.Run.{OneOf}
 use lib.ListN.{length}
 use native.Mathlib.Omega.{arith}
 use Rattle.combinatorics.specs.Front.{front}
-use Rattle.finder.specs.contracts.answers.RunAnswer.{the_type}
+use Rattle.end_kinds.specs.declared.Kind.{Kind}
 use Rattle.finder.specs.Asked.{CanRun as CanAnnounce}
 use Rattle.finder.specs.Run.{case_of, numbers_of}
 use Rattle.finder.specs.declared.answers.RunAnswer.{RunAnswer}
@@ -31,12 +28,13 @@ use Rattle.refinement.specs.Answer.{level_of, no_level}
 use Rattle.refinement.specs.Runs.{CanRunLevel, numbers_in}
 
 -- what is no end
-pub not_end : (a : RunAnswer) → OneOf (0 ∷ 1 ∷ 2 ∷ []) (tag_of the_type a) → level_of a ≡ no_level
+pub not_end : (a : RunAnswer)
+    → ((places read : ℕ) (kind : Kind) (block vertices : ℕ) → a ≡ End places read kind block vertices → ⊥)
+    → level_of a ≡ no_level
 not_end (Refused number) h = refl
 not_end (Spent places) h = refl
 not_end (Unknown places position) h = refl
-not_end (End places read kind block vertices) h =
-    absurd (⊎_elim (λ e. omega arith) (λ r. ⊎_elim (λ e. omega arith) (λ e. omega arith) r) h)
+not_end (End places read kind block vertices) h = absurd (h places read kind block vertices refl)
 
 module _ (g : GridStruct) (start losses : List ℕ) (label_room room : ℕ) (ok : CanRunLevel g start losses label_room room)
     (table : List ℕ) (is : table ≡ labels (shape g) losses) where
