@@ -1,75 +1,99 @@
 // The calls on a game.
 use crate::facts::show_levels;
 use case_lines::{byte_room, bytes, number, show, show_bytes, show_words, word_room, words};
+use std::io;
+use std::io::{Input, Print};
 
-fn label_into(sizes: &[u8], divisions: &[u16], losses: &[u16], labels: &mut [u8]) {
+fn label_into(
+    rt: &impl Print,
+    sizes: &[u8],
+    divisions: &[u16],
+    losses: &[u16],
+    labels: &mut [u8],
+) -> io::Result<()> {
     let mut count: u64 = 7;
     let answered = exports::leveretplate_label(sizes, divisions, losses, labels, &mut count);
-    show(b"number ", answered as u64);
-    show(b"count ", count);
-    show_bytes(b"labels", labels);
+    show(rt, b"number ", answered as u64)?;
+    show(rt, b"count ", count)?;
+    show_bytes(rt, b"labels", labels)
 }
 
 // The length of the buffer.
-fn label_with(sizes: &[u8], divisions: &[u16], losses: &[u16]) {
+fn label_with(
+    rt: &(impl Input + Print),
+    sizes: &[u8],
+    divisions: &[u16],
+    losses: &[u16],
+) -> io::Result<()> {
     let mut labels = [255u8; 60001];
-    let room = byte_room(&labels);
-    label_into(sizes, divisions, losses, &mut labels[..room]);
+    let room = byte_room(rt, &labels)?;
+    label_into(rt, sizes, divisions, losses, &mut labels[..room])
 }
 
 // The losses, and the length of the buffer.
-pub fn label(sizes: &[u8], divisions: &[u16]) {
+pub fn label(rt: &(impl Input + Print), sizes: &[u8], divisions: &[u16]) -> io::Result<()> {
     let mut losses = [0u16; 2000];
-    let given = words(&mut losses);
-    label_with(sizes, divisions, &losses[..given]);
+    let given = words(rt, &mut losses)?;
+    label_with(rt, sizes, divisions, &losses[..given])
 }
 
 // The game, in a list of one byte, the number of its losses, and the length of the buffer. The losses are those of the
 // code, so that one changed there shows.
-pub fn label_built_in(sizes: &[u8], divisions: &[u16]) {
+pub fn label_built_in(
+    rt: &(impl Input + Print),
+    sizes: &[u8],
+    divisions: &[u16],
+) -> io::Result<()> {
     let mut game = [0u8; 1];
     let mut losses = [0u16; 81];
-    bytes(&mut game);
+    bytes(rt, &mut game)?;
     game_built_in::put_losses(game[0], &mut losses);
-    let given = word_room(&losses);
-    label_with(sizes, divisions, &losses[..given]);
+    let given = word_room(rt, &losses)?;
+    label_with(rt, sizes, divisions, &losses[..given])
 }
 
 // k and the number of levels.
 fn refine_into(
+    rt: &(impl Input + Print),
     sizes: &[u8],
     divisions: &[u16],
     start: &[u16],
     losses: &[u16],
     labels: &mut [u8],
     answer: &mut [u16],
-) {
-    let factor = number() as usize;
-    let levels = number() as usize;
+) -> io::Result<()> {
+    let factor = number(rt)? as usize;
+    let levels = number(rt)? as usize;
     let mut facts = [7u64; 40];
     let answered = exports::leveretplate_refine(
         sizes, divisions, start, losses, factor, levels, labels, answer, &mut facts,
     );
-    show(b"number ", answered as u64);
-    show_levels(facts);
-    show_words(b"answer", answer);
-    show_bytes(b"labels", labels);
+    show(rt, b"number ", answered as u64)?;
+    show_levels(rt, facts)?;
+    show_words(rt, b"answer", answer)?;
+    show_bytes(rt, b"labels", labels)
 }
 
 // The losses, and the lengths of the label buffer and the answer buffer.
-pub fn refine(sizes: &[u8], divisions: &[u16], start: &[u16]) {
+pub fn refine(
+    rt: &(impl Input + Print),
+    sizes: &[u8],
+    divisions: &[u16],
+    start: &[u16],
+) -> io::Result<()> {
     let mut losses = [0u16; 2000];
     let mut labels = [255u8; 65536];
     let mut answer = [65535u16; 16384];
-    let given = words(&mut losses);
-    let labelled = byte_room(&labels);
-    let room = word_room(&answer);
+    let given = words(rt, &mut losses)?;
+    let labelled = byte_room(rt, &labels)?;
+    let room = word_room(rt, &answer)?;
     refine_into(
+        rt,
         sizes,
         divisions,
         start,
         &losses[..given],
         &mut labels[..labelled],
         &mut answer[..room],
-    );
+    )
 }

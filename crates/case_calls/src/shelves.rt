@@ -1,31 +1,33 @@
 // The calls of the shelf. `to` is 7 before each.
 use case_lines::{number, show, show_words, words};
+use std::io;
+use std::io::{Input, Print};
 
-fn file_in(list: &mut [u16]) {
-    let count = number() as usize;
-    let named = number() as usize;
+fn file_in(rt: &(impl Input + Print), list: &mut [u16]) -> io::Result<()> {
+    let count = number(rt)? as usize;
+    let named = number(rt)? as usize;
     let mut to: usize = 7;
     let answered = exports::leveretplate_file(list, count, named, &mut to);
-    show(b"number ", answered as u64);
-    show(b"to ", to as u64);
-    show_words(b"list", list);
+    show(rt, b"number ", answered as u64)?;
+    show(rt, b"to ", to as u64)?;
+    show_words(rt, b"list", list)
 }
 
 // A call has the list, of up to 1,024 numbers, the count of sheets, and the sheet named or asked for.
-pub fn file() {
+pub fn file(rt: &(impl Input + Print)) -> io::Result<()> {
     let mut list = [0u16; 1024];
-    let length = words(&mut list);
-    file_in(&mut list[..length]);
+    let length = words(rt, &mut list)?;
+    file_in(rt, &mut list[..length])
 }
 
-pub fn current() {
+pub fn current(rt: &(impl Input + Print)) -> io::Result<()> {
     let mut list = [0u16; 1024];
-    let length = words(&mut list);
-    let count = number() as usize;
-    let sheet = number() as usize;
+    let length = words(rt, &mut list)?;
+    let count = number(rt)? as usize;
+    let sheet = number(rt)? as usize;
     let mut to: usize = 7;
     let answered = exports::leveretplate_current(&list[..length], count, sheet, &mut to);
-    show(b"number ", answered as u64);
-    show(b"to ", to as u64);
-    show_words(b"list", &list[..length]);
+    show(rt, b"number ", answered as u64)?;
+    show(rt, b"to ", to as u64)?;
+    show_words(rt, b"list", &list[..length])
 }

@@ -1,30 +1,32 @@
 // A slip, in the kiosk's way and through the exported function.
 use case_lines::{bytes, number, show, show_bytes, show_text, within};
 use sheet_output::SLIP_BYTES;
+use std::io;
+use std::io::{Input, Print};
 use text::SHEET_BYTES;
 
 // The slip is as many bytes as the number before it says.
-pub fn print_sheet() {
-    sheet_output::print_sheet(number() as usize);
+pub fn print_sheet(rt: &(impl Input + Print)) -> io::Result<()> {
+    sheet_output::print_sheet(rt, number(rt)? as usize)
 }
 
 // The length of the sheet, the sheet, and what stands behind it.
-fn show_sheet(sheet: &[u8], written: usize) {
+fn show_sheet(rt: &impl Print, sheet: &[u8], written: usize) -> io::Result<()> {
     let length = within(written, sheet);
-    show(b"length ", written as u64);
-    show_text(&sheet[..length]);
-    show_bytes(b"behind", &sheet[length..]);
+    show(rt, b"length ", written as u64)?;
+    show_text(rt, &sheet[..length])?;
+    show_bytes(rt, b"behind", &sheet[length..])
 }
 
-fn show_whole(sheet: [u8; SHEET_BYTES], written: usize) {
-    show_sheet(&sheet, written);
+fn show_whole(rt: &impl Print, sheet: [u8; SHEET_BYTES], written: usize) -> io::Result<()> {
+    show_sheet(rt, &sheet, written)
 }
 
 // The slip is a list.
-pub fn sheet() {
+pub fn sheet(rt: &(impl Input + Print)) -> io::Result<()> {
     let mut slip = [0u8; SLIP_BYTES];
     let mut sheet = [255u8; SHEET_BYTES];
-    let length = bytes(&mut slip);
+    let length = bytes(rt, &mut slip)?;
     let written = exports::leveretplate_sheet(&slip[..length], &mut sheet);
-    show_whole(sheet, written);
+    show_whole(rt, sheet, written)
 }

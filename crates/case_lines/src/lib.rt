@@ -1,13 +1,17 @@
 // What the programs of the stored cases read from standard input, and the lines that they print. A number has 64 bits,
 // little-endian; a list is its length and then its bytes, or its numbers of 16 bits. No contract can speak of what is
 // read or printed, so those here say of a count that it lies within its list, and the functions that print say nothing.
-ghost use Rattle.std.specs.Prelude.{◌<◌, ◌≤◌};
-ghost use Rattle.io.specs.Counts.{IsPrefixLen};
+#![tactic(auto)]
+
+ghost use Rattle.std.specs.Prelude.{◌≤◌};
+ghost use Rattle.std.specs.Io.{ReadsAtMost};
+ghost use Rattle.std.specs.Counts.{IsPrefixLen};
 
 mod printing;
 
-use libc::STDIN_FILENO;
 pub use printing::{show, show_bytes, show_number, show_numbers, show_text, show_words};
+use std::io;
+use std::io::{ErrorKind, Input, Print, Read};
 
 fn smaller(a: usize, b: usize) -> usize
     ensures { (result ≤ a) × (result ≤ b) }
@@ -15,11 +19,19 @@ fn smaller(a: usize, b: usize) -> usize
     if a < b { a } else { b }
 }
 
+// The next bytes, as many as the list has. Where the input ends before, the rest of the list stays as it is.
+fn fill(rt: &impl Input, list: &mut [u8]) -> io::Result<()> {
+    match rt.reader().read_exact(list) {
+        Err(error) if error.kind() == ErrorKind::UnexpectedEof => Ok(()),
+        read => read,
+    }
+}
+
 // The next number.
-pub fn number() -> u64 {
+pub fn number(rt: &impl Input) -> io::Result<u64> {
     let mut eight = [0u8; 8];
-    io::read_full(STDIN_FILENO, &mut eight);
-    little_endian::number64(&eight, 0)
+    fill(rt, &mut eight)?;
+    Ok(little_endian::number64(&eight, 0))
 }
 
 // A length, or the list's where that is less.
@@ -30,52 +42,50 @@ pub fn within(length: usize, list: &[u8]) -> usize
 }
 
 // The next number as a length within the list.
-pub fn byte_room(list: &[u8]) -> usize
-    ensures { IsPrefixLen result list.now }
+pub fn byte_room(rt: &impl Input, list: &[u8]) -> io::Result<usize>
+    ensures { ReadsAtMost result list.now }
 {
-    within(number() as usize, list)
+    Ok(within(number(rt)? as usize, list))
 }
 
 // The same for numbers of 16 bits.
-pub fn word_room(list: &[u16]) -> usize
-    ensures { IsPrefixLen result list.now }
+pub fn word_room(rt: &impl Input, list: &[u16]) -> io::Result<usize>
+    ensures { ReadsAtMost result list.now }
 {
-    smaller(number() as usize, list.len())
+    Ok(smaller(number(rt)? as usize, list.len()))
 }
 
 // The next list, of bytes, to the front of the one lent: how many it has.
-pub fn bytes(list: &mut [u8]) -> usize
-    ensures { IsPrefixLen result list.new }
+pub fn bytes(rt: &impl Input, list: &mut [u8]) -> io::Result<usize>
+    ensures { ReadsAtMost result list.new }
 {
-    let count = byte_room(list);
-    io::read_full(STDIN_FILENO, &mut list[..count]);
-    count
+    let count = byte_room(rt, list)?;
+    fill(rt, &mut list[..count])?;
+    Ok(count)
 }
 
-fn word() -> u16 {
+fn word(rt: &impl Input) -> io::Result<u16> {
     let mut pair = [0u8; 2];
-    io::read_full(STDIN_FILENO, &mut pair);
+    fill(rt, &mut pair)?;
     let mut read = [0u16; 1];
     little_endian::words(&pair, 0, &mut read);
-    read[0]
+    Ok(read[0])
 }
 
 // The next list, of numbers of 16 bits.
-pub fn words(list: &mut [u16]) -> usize
-    ensures { IsPrefixLen result list.new }
+pub fn words(rt: &impl Input, list: &mut [u16]) -> io::Result<usize>
+    ensures { ReadsAtMost result list.new }
 {
-    let count = word_room(list);
-    let mut i: usize = 0;
-    while i < count {
-        list[i] = word();
-        i += 1;
+    let count = word_room(rt, list)?;
+    for entry in &mut list[..count] {
+        *entry = word(rt)?;
     }
-    count
+    Ok(count)
 }
 
 // The line that names a case: the next list, printed.
-pub fn name() {
+pub fn name(rt: &(impl Input + Print)) -> io::Result<()> {
     let mut text = [0u8; 128];
-    let length = bytes(&mut text);
-    show_text(&text[..length]);
+    let length = bytes(rt, &mut text)?;
+    show_text(rt, &text[..length])
 }

@@ -1,40 +1,39 @@
 // The lines that are printed.
-use libc::STDOUT_FILENO;
+use std::io;
+use std::io::Print;
 
 // A list of more bytes is shown by its CRC-32.
 const MOST_SHOWN: usize = 2000;
 
-pub fn show_text(text: &[u8]) {
-    io::write_all(STDOUT_FILENO, text);
+pub fn show_text(rt: &impl Print, text: &[u8]) -> io::Result<()> {
+    rt.write_all(text)
 }
 
 // A text and a number.
-pub fn show_number(text: &[u8], number: u64) {
-    show_text(text);
-    io::print_decimal(STDOUT_FILENO, number);
+pub fn show_number(rt: &impl Print, text: &[u8], number: u64) -> io::Result<()> {
+    show_text(rt, text)?;
+    rt.print(number)
 }
 
 // The same on a line.
-pub fn show(text: &[u8], number: u64) {
-    show_number(text, number);
-    show_text(b"\n");
+pub fn show(rt: &impl Print, text: &[u8], number: u64) -> io::Result<()> {
+    show_text(rt, text)?;
+    rt.println(number)
 }
 
 // A text and numbers, on a line.
-pub fn show_numbers(text: &[u8], list: &[u64]) {
-    show_text(text);
-    let mut i: usize = 0;
-    while i < list.len() {
-        show_number(b" ", list[i]);
-        i += 1;
+pub fn show_numbers(rt: &impl Print, text: &[u8], list: &[u64]) -> io::Result<()> {
+    show_text(rt, text)?;
+    for number in list {
+        show_number(rt, b" ", *number)?;
     }
-    show_text(b"\n");
+    show_text(rt, b"\n")
 }
 
 // Equal numbers in a row: 3x0 stands for three times 0.
-fn show_run(count: usize, number: u64) {
-    show_number(b" ", count as u64);
-    show_number(b"x", number);
+fn show_run(rt: &impl Print, count: usize, number: u64) -> io::Result<()> {
+    show_number(rt, b" ", count as u64)?;
+    show_number(rt, b"x", number)
 }
 
 fn from_byte(x: u8) -> u64 {
@@ -46,21 +45,12 @@ fn from_word(x: u16) -> u64 {
 }
 
 // A text and numbers of 16 bits as runs of equal ones, on a line.
-pub fn show_words(text: &[u8], list: &[u16]) {
-    show_text(text);
-    let mut from: usize = 0;
-    let mut i: usize = 0;
-    while i < list.len() {
-        if list[from] != list[i] {
-            show_run(i - from, from_word(list[from]));
-            from = i;
-        }
-        i += 1;
+pub fn show_words(rt: &impl Print, text: &[u8], list: &[u16]) -> io::Result<()> {
+    show_text(rt, text)?;
+    for run in list.chunk_by(|a, b| a == b) {
+        show_run(rt, run.len(), from_word(run[0]))?;
     }
-    if from < i {
-        show_run(i - from, from_word(list[from]));
-    }
-    show_text(b"\n");
+    show_text(rt, b"\n")
 }
 
 // One bit of a CRC-32.
@@ -79,31 +69,20 @@ fn with_byte(remainder: u32, byte: u8) -> u32 {
 
 fn checksum(list: &[u8]) -> u32 {
     let mut x: u32 = 4294967295;
-    let mut i: usize = 0;
-    while i < list.len() {
-        x = with_byte(x, list[i]);
-        i += 1;
+    for byte in list {
+        x = with_byte(x, *byte);
     }
     x ^ 4294967295
 }
 
 // A text and bytes, as runs of equal ones, or by their CRC-32 where there are many, on a line.
-pub fn show_bytes(text: &[u8], list: &[u8]) {
-    show_text(text);
+pub fn show_bytes(rt: &impl Print, text: &[u8], list: &[u8]) -> io::Result<()> {
+    show_text(rt, text)?;
     if MOST_SHOWN < list.len() {
-        return show(b" crc32 ", checksum(list) as u64);
+        return show(rt, b" crc32 ", checksum(list) as u64);
     }
-    let mut from: usize = 0;
-    let mut i: usize = 0;
-    while i < list.len() {
-        if list[from] != list[i] {
-            show_run(i - from, from_byte(list[from]));
-            from = i;
-        }
-        i += 1;
+    for run in list.chunk_by(|a, b| a == b) {
+        show_run(rt, run.len(), from_byte(run[0]))?;
     }
-    if from < i {
-        show_run(i - from, from_byte(list[from]));
-    }
-    show_text(b"\n");
+    show_text(rt, b"\n")
 }

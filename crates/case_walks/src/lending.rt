@@ -1,10 +1,12 @@
 // The calls that are lent a walk. Each function here lends a copy and gives it back, so that the others have it by
 // value.
-ghost use Rattle.std.specs.Prelude.{◌≡◌};
+ghost use Rattle.std.specs.Prelude.{◌≡◌, IfOk};
 ghost use Rattle.walk_calls.specs.Calls.{call_of};
 ghost use Rattle.walk_numbers.specs.Answered.{after_beginning, after_moving, after_pointing, after_showing};
 
 use crate::printing::show_told;
+use std::io;
+use std::io::Print;
 use walk_calls::move_on;
 use walk_exports::{
     leveretplate_move_on, leveretplate_preview, leveretplate_walk_at_start,
@@ -47,12 +49,12 @@ pub fn pointed(s: Answered, labels: &[u8]) -> Answered
 }
 
 // The thin function that takes the walk itself: what it tells is printed.
-pub fn lent(w: Walk, labels: &[u8]) -> Walk
-    ensures { result ≡ (call_of w labels.now).walk }
+pub fn lent(rt: &impl Print, w: Walk, labels: &[u8]) -> io::Result<Walk>
+    ensures { IfOk result (λ walk. walk ≡ (call_of w labels.now).walk) }
 {
     let mut to = w;
-    show_told(move_on(&mut to, labels));
-    to
+    show_told(rt, move_on(&mut to, labels))?;
+    Ok(to)
 }
 
 // The same answer with another walk.

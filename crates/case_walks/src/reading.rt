@@ -2,6 +2,8 @@
 // carries, in bytes; 6 divisions, the start and of both places the first point and the order, in numbers of 16 bits;
 // the places so far and the labels read.
 use case_lines::{bytes, number, words};
+use std::io;
+use std::io::Input;
 use walk_numbers::Answered;
 use walk_places::{Place, Walk};
 
@@ -10,43 +12,43 @@ fn wide(x: u16) -> u32 {
 }
 
 fn widen(from: &[u16; 16], to: &mut [u32; 16]) {
-    let mut i: usize = 0;
-    while i < 16 {
+    for i in 0..16 {
         to[i] = wide(from[i]);
-        i += 1;
     }
 }
 
-fn read_place(count: u8) -> Place {
+fn read_place(rt: &impl Input, count: u8) -> io::Result<Place> {
     let mut first = [0u16; 16];
     let mut indices = [0u16; 16];
     let mut order = [0u32; 16];
-    words(&mut first);
-    words(&mut indices);
+    words(rt, &mut first)?;
+    words(rt, &mut indices)?;
     widen(&indices, &mut order);
-    Place {
+    Ok(Place {
         first,
         order,
         count,
-    }
+    })
 }
 
-fn read_walk() -> Walk {
+fn read_walk(rt: &impl Input) -> io::Result<Walk> {
     let mut sizes = [0u8; 6];
     let mut counts = [0u8; 3];
     let mut carried = [0u8; 16];
     let mut divisions = [0u16; 6];
     let mut start = [0u16; 16];
-    bytes(&mut sizes);
-    bytes(&mut counts);
-    bytes(&mut carried);
-    words(&mut divisions);
-    words(&mut start);
-    let present = read_place(counts[1]);
-    let before = read_place(counts[2]);
-    Walk {
-        places: number(),
-        labels_read: number(),
+    bytes(rt, &mut sizes)?;
+    bytes(rt, &mut counts)?;
+    bytes(rt, &mut carried)?;
+    words(rt, &mut divisions)?;
+    words(rt, &mut start)?;
+    let present = read_place(rt, counts[1])?;
+    let before = read_place(rt, counts[2])?;
+    let places = number(rt)?;
+    let labels_read = number(rt)?;
+    Ok(Walk {
+        places,
+        labels_read,
         present,
         before,
         start,
@@ -54,13 +56,13 @@ fn read_walk() -> Walk {
         sizes,
         blocks: counts[0],
         carried,
-    }
+    })
 }
 
 // The walk, with an answer that no call gives.
-pub fn read_answered() -> Answered {
-    let walk = read_walk();
-    Answered {
+pub fn read_answered(rt: &impl Input) -> io::Result<Answered> {
+    let walk = read_walk(rt)?;
+    Ok(Answered {
         walk,
         vertices: 7,
         fields: [7u32; 6],
@@ -70,5 +72,5 @@ pub fn read_answered() -> Answered {
         block: 7,
         rule: 7,
         map: 7,
-    }
+    })
 }

@@ -1,6 +1,9 @@
 // Reads a slip from standard input and prints its sheet.
-use sheet_output::{SLIP_BYTES, print_sheet};
+#![tactic(auto)]
 
-fn main() {
-    print_sheet(SLIP_BYTES);
+use sheet_output::{SLIP_BYTES, print_sheet};
+use std::io;
+
+fn main(rt: HostRuntime) -> io::Result<()> {
+    print_sheet(&rt, SLIP_BYTES)
 }

@@ -6,7 +6,7 @@ use mathlib.Core.Logic.{◌⊎◌, ⊎_elim}
 use mathlib.Core.Path.{◌≡◌, refl, sym, ap, ◌∙◌}
 use Rattle.combinatorics.proofs.Basics.{absurd_bool, both, false_of, true_or_false}
 use Rattle.combinatorics.proofs.Lists.{Equality, distinct_filter, filter-all, filter-append, filter_cong, filter_in}
-use Rattle.combinatorics.proofs.Lists.{in_cases, in_filter, in_here, in_later, filter-twice}
+use Rattle.combinatorics.proofs.Lists.{in_cases, in_filter, in_first, in_later, filter-twice}
 use Rattle.combinatorics.specs.Lists.{distinct, filter, is_in}
 use Rattle.trail.proofs.Outside.{outside-none, outside-one}
 use Rattle.trail.specs.Change.{outside}
@@ -27,15 +27,15 @@ module _ {A : Type 0} (E : Equality A) where
   pub firsts_in : (x : A) (xs : List A) → is_in eq x (firsts eq xs) ≡ true → is_in eq x xs ≡ true
   firsts_in x [] m = m
   firsts_in x (y ∷ ys) m =
-      ⊎_elim (λ e. rw e (in_here E y ys))
+      ⊎_elim (λ e. in_first E _ y ys e)
       (λ n. in_later E x y ys (firsts_in x ys (filter_in E (λ z. not (eq y z)) x (firsts eq ys) n).0))
       (in_cases E x y (filter (λ z. not (eq y z)) (firsts eq ys)) m)
 
   pub in_firsts : (x : A) (xs : List A) → is_in eq x xs ≡ true → is_in eq x (firsts eq xs) ≡ true
   in_firsts x [] m = m
   in_firsts x (y ∷ ys) m =
-      ⊎_elim (λ e. rw e (in_here E y (filter (λ z. not (eq y z)) (firsts eq ys))))
-      (λ n. ⊎_elim (λ t. rw (sound y x t) (in_here E x (filter (λ z. not (eq x z)) (firsts eq ys))))
+      ⊎_elim (λ e. in_first E _ y (filter (λ z. not (eq y z)) (firsts eq ys)) e)
+      (λ n. ⊎_elim (λ t. in_first E x y (filter (λ z. not (eq y z)) (firsts eq ys)) (sym (sound y x t)))
       (λ f. in_later E x y (filter (λ z. not (eq y z)) (firsts eq ys))
       (in_filter E (λ z. not (eq y z)) x (firsts eq ys) (in_firsts x ys n) (rw f))) (true_or_false (eq y x)))
       (in_cases E x y ys m)

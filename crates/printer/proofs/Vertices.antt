@@ -34,9 +34,9 @@ pub rows_of : (m : ℕ) (ys : List (List ℕ)) (rest : List ℕ) → all (λ y. 
 rows_of m [] rest a = refl
 rows_of m (y ∷ ys) rest a =
     let e = eqb-true (length y) m (and_left (eqb (length y) m) _ a) in
-    rw (append_assoc y (concat_map (λ y. y) ys) rest)
-    (rows-first (length ys) m y (concat_map (λ y. y) ys ++ rest) e
-    ∙ ap (λ (l : List (List ℕ)). y ∷ l) (rows_of m ys rest (and_right (eqb (length y) m) _ a)))
+    ap (λ (l : List ℕ). rows (suc (length ys)) m l) (append_assoc y (concat_map (λ y. y) ys) rest)
+    ∙ rows-first (length ys) m y (concat_map (λ y. y) ys ++ rest) e
+    ∙ ap (λ (l : List (List ℕ)). y ∷ l) (rows_of m ys rest (and_right (eqb (length y) m) _ a))
 
 pub rows-length : (m : ℕ) (ys : List (List ℕ)) → all (λ y. eqb (length y) m) ys ≡ true
     → length (concat_map (λ y. y) ys) ≡ length ys * m

@@ -12,7 +12,7 @@ use native.Mathlib.Omega.{arith}
 use Rattle.combinatorics.proofs.Basics.{absurd_bool, true_or_false, and_left, and_right, and_both, false_of}
 use Rattle.combinatorics.proofs.Basics.{before_or_not}
 use Rattle.combinatorics.proofs.EditsInsert.{length-insert_at, insert_at-before, insert_at-here, insert_at-behind}
-use Rattle.combinatorics.proofs.Lists.{all_in, distinct-out, distinct_tail, in_all, in_cases, in_here, in_later}
+use Rattle.combinatorics.proofs.Lists.{all_in, distinct-out, distinct_tail, in_all, in_cases, in_first, in_here, in_later}
 use Rattle.combinatorics.proofs.Lists.{map_in, mapped_at}
 use Rattle.combinatorics.proofs.Lists.{on_numbers}
 use Rattle.combinatorics.proofs.Rising.{rising-distinct}
@@ -147,7 +147,7 @@ insert_at_in : (i x l : ℕ) (ys : List ℕ) → is_in eqb l (insert_at i x ys) 
 insert_at_in zero x l ys m = in_cases on_numbers l x ys m
 insert_at_in (suc i) x l [] m = in_cases on_numbers l x [] m
 insert_at_in (suc i) x l (y ∷ ys) m =
-    ⊎_elim (λ (e : l ≡ y). inr (rw e (in_here on_numbers y ys)))
+    ⊎_elim (λ (e : l ≡ y). inr (in_first on_numbers _ y ys e))
     (λ n. ⊎_elim (λ e. inl e) (λ k. inr (in_later on_numbers l y ys k)) (insert_at_in i x l ys n))
     (in_cases on_numbers l y (insert_at i x ys) m)
 

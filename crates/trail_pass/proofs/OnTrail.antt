@@ -41,7 +41,7 @@ use Rattle.trail_records.proofs.Kept.{Kept, grow-kept, kept_of, leave-kept}
 use Rattle.trail_records.proofs.Told.{told}
 use Rattle.trail_records.specs.Records.{SameSets, first_record, record_from}
 use Rattle.rules.proofs.Follow.{at_long, at-marks, at_others, at_place, at_reads, at-T, at_U}
-use Rattle.rules.proofs.Marks.{position_in_lem as mark-position}
+use Rattle.rules.proofs.Marks.{position_in as mark-position}
 use Rattle.rules.proofs.Masks.{IsMask, mask_t, mask_u}
 use Rattle.rules.specs.Read.{mark_of, point_in, points_from, position_at, read}
 use Rattle.rules.specs.Ready.{label_in, Ready}

@@ -18,7 +18,7 @@ use Rattle.path_laws.proofs.Positions.{at_in}
 use Rattle.path_laws.specs.Demand.{Accepted}
 use Rattle.walk_recogniser.specs.Kept.{Seen}
 use Rattle.walk_recogniser.specs.Pieces.{CanReadLabels, LabelsPut, bare_mark}
-use Rattle.rules.proofs.Marks.{position_in_lem as position-of-mark}
+use Rattle.rules.proofs.Marks.{position_in as position-of-mark}
 use Rattle.rules.specs.Read.{mark_of}
 use Rattle.rules.specs.Moves.{mark_position}
 use Rattle.walks.proofs.KeptPlace.{conditions_of, points-long, points_on}

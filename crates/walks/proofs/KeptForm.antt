@@ -12,7 +12,7 @@ use lib.Seq.{ext_get_or}
 use native.Mathlib.Omega.{arith}
 use Rattle.combinatorics.proofs.Basics.{absurd_bool, and_both, and_left, and_right, before_or_not, both, false_of}
 use Rattle.combinatorics.proofs.Basics.{same_or, true_or_false}
-use Rattle.combinatorics.proofs.Lists.{all_in, in_all, in_cases, in_here, in_later, eqb_self, on_numbers}
+use Rattle.combinatorics.proofs.Lists.{all_in, in_all, in_cases, in_first, in_here, in_later, eqb_self, on_numbers}
 use Rattle.combinatorics.specs.Lists.{all, is_in, occurrences, rising, sum}
 use Rattle.grid_points.proofs.Points.{on_points}
 use Rattle.grid_points.proofs.Round.{next-previous}
@@ -183,7 +183,7 @@ module _ (p : Problem) where
   zero-all u z [] k l e n x m =
       ⊎_elim (λ q. ap (λ (y : Point). at y k) q ∙ e) (λ q. absurd_bool (sym q)) (in_cases on_points x z [] m)
   zero-all u z (h ∷ r) k l e n x m =
-      let other : (k ≡ h → ⊥) = λ q. absurd_bool (sym (rw q (in_here on_numbers h r)) ∙ n) in
+      let other : (k ≡ h → ⊥) = λ q. absurd_bool (sym (in_first on_numbers _ h r q) ∙ n) in
       let rest : is_in eqb k r ≡ false = false_of _ (λ q. absurd_bool (sym (in_later on_numbers k h r q) ∙ n)) in
       ⊎_elim (λ q. ap (λ (y : Point). at y k) q ∙ e)
       (λ q. zero-all u (stepped p.grid u h z) r k l (zero-stays p u h z k l e other) rest x q)

@@ -241,16 +241,18 @@ module _ (w : Walk) (labels : List ℕ) {s : Simplex}
           (λ j. ⊎_elim (λ q. never_start j.came q) (λ b. omega (arith, j.bounded)) c)
 
 -- two walks that stand at one place and go on to one place came from one place, or both from none
-one_origin : {p : Problem} → Accepted p → {l m : Option Simplex} {here s : Simplex} → Came p l here → Came p m here
-    → all_labelled p here ≡ true → Onward p l here s → Onward p m here s → l ≡ m
-one_origin ok begins begins own a b = refl
-one_origin ok begins (came k ne) own a b = absurd (ne refl)
-one_origin ok (came k ne) begins own a b = absurd (ne refl)
-one_origin {p} ok {s = s} (came {a = x} {s = here} k ne) (came {a = y} j _) own a b = ⊎_elim
+one_origin : {p : Problem} → Accepted p → {l m : Option Simplex} {here there s : Simplex} → here ≡ there
+    → Came p l here → Came p m there → all_labelled p here ≡ true → Onward p l here s → Onward p m here s → l ≡ m
+one_origin ok q begins begins own a b = refl
+one_origin ok q begins (came k ne) own a b = absurd (ne (sym q))
+one_origin ok q (came k ne) begins own a b = absurd (ne q)
+one_origin {p} ok {s = s} q (came {a = x} {s = here} k ne) (came {a = y} j _) own a b = ⊎_elim
     (λ e. ap (λ (z : Simplex). some z) e)
     (λ e. ⊎_elim (λ e. absurd (apart x e a.away)) (λ e. absurd (apart y e b.away)) e)
     (among_two x y s (links p here) (omega (arith, length-ways p here, (two_ways ok.has_start).other here k.to own ne))
-    (in_links ok.has_start (back x here k)) (in_links ok.has_start (back y here j)) (in_links ok.has_start a.joins))
+    (in_links ok.has_start (back x here k))
+    (in_links ok.has_start (back y here (subst (λ (z : Simplex). Link p y z) (sym q) j)))
+    (in_links ok.has_start a.joins))
   where
     apart : (z : Simplex) → z ≡ s → same_simplex z s ≡ false → ⊥
     apart z e f = absurd_bool (sym (simplex_self s) ∙ (rw e at f))
@@ -286,7 +288,7 @@ module _ (labels : List ℕ) (w x : Walk) {s t : Simplex} (e : next_of w labels 
           grid = same.grid;
           start = same.start;
           present = h;
-          before = one_origin a.0.accepted a.0.stands.came (rw (← h) at b.1) a.0.known a.1
+          before = one_origin a.0.accepted refl a.0.stands.came (rw (← h) at b.1) a.0.known a.1
               (rw (← q) at (rw (← h) at b.3));
           places = let z = same.places in omega arith;
           carried = a.0.stands.carries ∙ ap (labels_of (over w labels)) h ∙ sym b.4;

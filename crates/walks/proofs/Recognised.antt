@@ -12,7 +12,7 @@ use lib.Seq.{ext_get_or}
 use native.Mathlib.Omega.{arith}
 use Rattle.combinatorics.proofs.Basics.{absurd_bool, and_both, and_left, and_right, both, false_of, or_left, or_right}
 use Rattle.combinatorics.proofs.Basics.{true_or_false}
-use Rattle.combinatorics.proofs.Lists.{all_in, in_all, in_cases, in_here, in_later, in_map, map_in, on_numbers}
+use Rattle.combinatorics.proofs.Lists.{all_in, in_all, in_cases, in_first, in_here, in_later, in_map, map_in, on_numbers}
 use Rattle.combinatorics.specs.Lists.{all, first_or, is_in}
 use Rattle.grid_points.proofs.Points.{on_points}
 use Rattle.grid_points.specs.Grid.{Grid, Point, at, indices, is_grid_point, num_indices, same_point}
@@ -137,7 +137,7 @@ module _ (p : Problem) where
       ⊎_elim (λ w. ap (λ (x : Point). at x k) w ∙ q) (λ w. absurd_bool (sym w)) (in_cases on_points y z [] m)
   zero_along v k l z (x ∷ r) e q n y m =
       let h = grown_at p.grid z x in
-      let other : (k ≡ h → ⊥) = λ c. absurd_bool (sym (rw c (in_here on_numbers h (order p.grid (x ∷ r)))) ∙ n) in
+      let other : (k ≡ h → ⊥) = λ c. absurd_bool (sym (in_first on_numbers _ h (order p.grid (x ∷ r)) c) ∙ n) in
       let a : unit h k ≡ 0 = rw (ne_eqb k h other) in
       ⊎_elim (λ w. ap (λ (x : Point). at x k) w ∙ q)
       (λ w. zero_along v k l x r (goes_later v z x r e) (omega (arith, goes_on v z x r e k l))
