@@ -1,6 +1,6 @@
 -- What a slip is read to, question by question. Assumes nothing.
 use mathlib.Core.Bool.{Bool, true, false, cond}
-use mathlib.Core.List.{List, [], ◌∷◌}
+use mathlib.Core.List.{List}
 use mathlib.Core.Logic.{⊎_elim}
 use mathlib.Core.Path.{◌≡◌, refl, sym, ap, ◌∙◌}
 use Prim.Native.Nat.{ℕ, ◌≤◌, ◌<◌}
@@ -28,7 +28,7 @@ use Rattle.slip.specs.declared.TableField.TheVariants.{Names, Missing as NoTable
 use Rattle.slip.specs.Reading.{refused_reading, accepted, slip_reading_of, head_of, start_of, budget_of, table_of}
 use Rattle.slip.specs.Reading.{slip_reading, table_named}
 use Rattle.slip.specs.Reading.{labels_in, Asked}
-use Rattle.slip_fields.specs.Slip.{stands, slip_grid, slip_start, slip_budget, slip_game, head_length, field_at, label_field}
+use Rattle.slip_fields.specs.Slip.{stands, slip_grid, slip_start, slip_budget, head_length, field_at, label_field}
 use Rattle.slip_fields.specs.Slip.{question13, question14, slip_question15, slip_read_questions}
 
 -- what a field answers tells whether its bytes are there

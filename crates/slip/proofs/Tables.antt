@@ -1,25 +1,21 @@
 -- What the table of a reading tells of the slip, case by case. Assumes nothing.
 use mathlib.Core.Bool.{Bool, true, false, cond}
-use mathlib.Core.List.{List, [], ◌∷◌}
+use mathlib.Core.List.{List, []}
 use mathlib.Core.Logic.{⊎_elim}
 use mathlib.Core.Path.{◌≡◌, refl, ◌∙◌}
 use Prim.Native.Nat.{ℕ}
-use denote.Enum.Declared.{tag_of}
-use types.Run.{OneOf}
 use native.Mathlib.Omega.{arith}
 use Rattle.combinatorics.proofs.Basics.{true_or_false}
 use Rattle.slip_fields.proofs.Laws.{labels-only}
-use Rattle.slip.specs.contracts.Table.{the_type}
 use Rattle.slip.specs.declared.Table.{Table}
 use Rattle.slip.specs.declared.Table.TheVariants.{LabelsFrom, Game, LossesFrom}
 use Rattle.slip.specs.Reading.{labels_in, table_named}
 use Rattle.slip_fields.specs.Slip.{stands, slip_game, field_at, question13, slip_question15}
 
 -- what is not one of the variants named
-pub not_labels : (slip : List ℕ) (t : Table) → OneOf (1 ∷ 2 ∷ []) (tag_of the_type t) → labels_in slip t ≡ []
+pub not_labels : (slip : List ℕ) (t : Table) → ((begin : ℕ) → t ≡ LabelsFrom begin → ⊥) → labels_in slip t ≡ []
 unfolding labels_in
-not_labels slip (LabelsFrom begin) h =
-    absurd (⊎_elim (λ e. omega arith) (λ e. omega arith) h)
+not_labels slip (LabelsFrom begin) h = absurd (h begin refl)
 not_labels slip (Game number) h = refl
 not_labels slip (LossesFrom begin) h = refl
 
@@ -32,15 +28,11 @@ are-labels slip begin e = go (stands slip 2) (stands slip 3) (field_at slip 2) (
     go false true x y z e = absurd (let z : ◌≡◌ {A = ℕ} 0 1 = cc in omega arith)
     go false false x y z e = absurd (let z : ◌≡◌ {A = ℕ} 0 1 = cc in omega arith)
 
-pub no-labels : (slip : List ℕ) (t : Table) → OneOf (1 ∷ 2 ∷ []) (tag_of the_type t) → t ≡ table_named slip
+pub no-labels : (slip : List ℕ) (t : Table) → ((begin : ℕ) → t ≡ LabelsFrom begin → ⊥) → t ≡ table_named slip
     → stands slip 2 ≡ false
 no-labels slip t h e =
-    ⊎_elim (λ (two : stands slip 2 ≡ true). absurd (never t h (e ∙ rw two))) (λ n. n) (true_or_false (stands slip 2))
-  where
-    never : (t : Table) → OneOf (1 ∷ 2 ∷ []) (tag_of the_type t) → t ≡ LabelsFrom (field_at slip 2) → ⊥
-    never (LabelsFrom begin) h e = ⊎_elim (λ e. omega arith) (λ e. omega arith) h
-    never (Game number) h e = let z : ◌≡◌ {A = ℕ} 0 1 = cc in omega arith
-    never (LossesFrom begin) h e = let z : ◌≡◌ {A = ℕ} 0 1 = cc in omega arith
+    ⊎_elim (λ (two : stands slip 2 ≡ true). absurd (h (field_at slip 2) (e ∙ rw two))) (λ n. n)
+    (true_or_false (stands slip 2))
 
 -- which bit stands, by the table that the map names
 module _ (slip : List ℕ) (head : (question13 slip).answered_yes ≡ true) where
@@ -65,19 +57,14 @@ module _ (slip : List ℕ) (head : (question13 slip).answered_yes ≡ true) wher
       go false false x y z e = (refl, refl, cc)
 
   -- without a game question 15 is answered yes
-  pub no-game : (t : Table) → OneOf (0 ∷ 2 ∷ []) (tag_of the_type t) → t ≡ table_named slip
+  pub no-game : (t : Table) → ((number : ℕ) → t ≡ Game number → ⊥) → t ≡ table_named slip
       → (slip_question15 slip).answered_yes ≡ true
   no-game t h e =
       let three : stands slip 3 ≡ false = ⊎_elim
       (λ two. (labels-only slip head two).0)
       (λ (two : stands slip 2 ≡ false). ⊎_elim
-      (λ (three : stands slip 3 ≡ true). absurd (never t h (e ∙ rw (two, three))))
+      (λ (three : stands slip 3 ≡ true). absurd (h (slip_game slip) (e ∙ rw (two, three))))
       (λ n. n)
       (true_or_false (stands slip 3)))
       (true_or_false (stands slip 2)) in
       rw three
-    where
-      never : (t : Table) → OneOf (0 ∷ 2 ∷ []) (tag_of the_type t) → t ≡ Game (slip_game slip) → ⊥
-      never (LabelsFrom begin) h e = let z : ◌≡◌ {A = ℕ} 0 1 = cc in omega arith
-      never (Game number) h e = ⊎_elim (λ e. omega arith) (λ e. omega arith) h
-      never (LossesFrom begin) h e = let z : ◌≡◌ {A = ℕ} 0 1 = cc in omega arith
