@@ -21,10 +21,9 @@ use Rattle.geometry.proofs.Sizes.{upto}
 use Rattle.grid_points.proofs.Accepted.{InLimits, size-from-two}
 use Rattle.grid_points.proofs.Points.{on_points}
 use Rattle.grid_points.specs.Grid.{Grid, Point, at, num_blocks, num_indices, first_index, size, blocks, indices, indices_of}
-use Rattle.grid_points.specs.Grid.{next}
 use Rattle.grid_points.specs.Grid.{previous}
 use Rattle.grid_points.specs.Grid.{is_grid_point, same_point}
-use Rattle.place.specs.Places.{goes_to, unit, within}
+use Rattle.place.specs.Places.{goes_to, unit}
 use Rattle.path_laws.proofs.BlocksOfGrid.{blocks_of, point_of, next_agrees, block-own, block_agrees, block_inside}
 use Rattle.path_laws.proofs.BlocksOfGrid.{on_ring}
 use Rattle.path_laws.proofs.BlocksOfGrid.{has_zeros, point-grid}

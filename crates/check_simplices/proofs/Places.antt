@@ -20,7 +20,7 @@ use Rattle.geometry.proofs.Links.{chain_ext}
 use Rattle.geometry.proofs.Points.{nth, list_at-map}
 use Rattle.grid_points.proofs.Accepted.{InLimits}
 use Rattle.grid_points.proofs.Points.{on_points}
-use Rattle.grid_points.specs.Grid.{at, first_index, next, is_grid_point, points}
+use Rattle.grid_points.specs.Grid.{at, first_index, next, is_grid_point}
 use Rattle.place.specs.Coefficients.{coefficients, coefficient_sum}
 use Rattle.place.specs.Places.{Simplex, is_place, is_unlabelled_place, set_t, set_u, label_set, within, order, each_goes_to_next}
 use Rattle.place.specs.Places.{uses_each_once}

@@ -1,22 +1,22 @@
 -- The products of the opponents' mixes add up to the product of their divisions, so sums of losses fit. Assumes
 -- nothing.
-use mathlib.Core.Bool.{true, not}
-use mathlib.Core.List.{List, [], ◌∷◌, map}
+use mathlib.Core.Bool.{not}
+use mathlib.Core.List.{List, ◌∷◌, map}
 use mathlib.Core.Logic.{⊎_elim}
-use mathlib.Core.Path.{◌≡◌, refl, sym, ap, ◌∙◌}
-use Prim.Native.Nat.{ℕ, zero, suc, ◌+◌, ◌-◌, ◌*◌, ◌≤◌, ◌<◌}
+use mathlib.Core.Path.{◌≡◌, sym, ◌∙◌}
+use Prim.Native.Nat.{ℕ, zero, suc, ◌-◌, ◌*◌, ◌≤◌, ◌<◌}
 use borrow.Author.Tests.{eqb-true, eq-eqb, ne_eqb, leb-true, lt-ltb, ltb-true}
 use lib.Dec.{eqb, leb, ltb}
-use lib.ListN.{length, get_or}
-use native.Mathlib.Nat.{mul-le-mul_right, mul-le-mul_left}
+use lib.ListN.{length}
+use native.Mathlib.Nat.{mul-le-mul_right}
 use native.Mathlib.Omega.{arith}
 use Rattle.combinatorics.proofs.Agreement.{map-agree, map-map}
 use Rattle.combinatorics.proofs.Basics.{and_right, same_or}
 use Rattle.combinatorics.proofs.Lists.{all_in, in_all, at_all, filter_in, on_numbers}
 use Rattle.combinatorics.proofs.Ranges.{in_up_from, up_from_in}
-use Rattle.combinatorics.specs.Lists.{all, sum}
+use Rattle.combinatorics.specs.Lists.{sum}
 use Rattle.grid_counts.proofs.SizeRange.{size-range}
-use Rattle.grid_points.specs.Grid.{Grid, Point, at, num_blocks, num_indices, size, division, blocks, is_grid_point}
+use Rattle.grid_points.specs.Grid.{Grid, Point, num_blocks, num_indices, size, division, blocks, is_grid_point}
 use Rattle.game_losses.proofs.Players.{product-own}
 use Rattle.game_losses.proofs.Weights.{sum-weights}
 use Rattle.game_losses.specs.Game.{product, mix, opponents}

@@ -1,7 +1,7 @@
 -- The expected and the replaced loss at an index, out of the losses of the strategies. Assumes nothing.
 use mathlib.Core.Logic.{⊎_elim}
 use mathlib.Core.List.{List, map}
-use mathlib.Core.Path.{◌≡◌, refl, sym, ap, ◌∙◌}
+use mathlib.Core.Path.{◌≡◌, sym, ap, ◌∙◌}
 use Prim.Native.Nat.{ℕ, ◌+◌, ◌-◌, ◌*◌, ◌≤◌, ◌<◌}
 use lib.Dec.{leb}
 use lib.ListN.{length, get_or, take, drop, length-drop, get_or-eq_default}
@@ -13,7 +13,7 @@ use Rattle.combinatorics.proofs.Basics.{before_or_not}
 use Rattle.combinatorics.specs.Lists.{sum}
 use Rattle.grid_points.proofs.Points.{point-long}
 use Rattle.grid_points.proofs.Round.{block_at, block-fits, block_spans}
-use Rattle.grid_points.specs.Grid.{Grid, Point, at, num_blocks, num_indices, size, division, first_index, block_of, lent}
+use Rattle.grid_points.specs.Grid.{Grid, Point, at, num_indices, size, division, first_index, block_of, lent}
 use Rattle.game_losses.proofs.Players.{lent-mix}
 use Rattle.game_losses.proofs.Replaced.{expected_is, replaced-is}
 use Rattle.game_losses.proofs.Table.{part_low}

@@ -1,6 +1,5 @@
 -- Losses weighed by the mixes of the opponents from a block on, one block more. Assumes nothing.
-use mathlib.Core.Bool.{true}
-use mathlib.Core.List.{List, [], ◌∷◌, map}
+use mathlib.Core.List.{List, [], ◌∷◌}
 use mathlib.Core.Logic.{⊎_elim}
 use mathlib.Core.Path.{◌≡◌, refl, sym, ap, ◌∙◌}
 use Prim.Native.Nat.{ℕ, zero, suc, ◌+◌, ◌-◌, ◌*◌, ◌≤◌, ◌<◌}
@@ -14,13 +13,12 @@ use native.Mathlib.Omega.{arith}
 use Rattle.combinatorics.proofs.Agreement.{all_drop, all_take}
 use Rattle.combinatorics.proofs.Basics.{same_or}
 use Rattle.combinatorics.proofs.Turns.{map_at}
-use Rattle.combinatorics.specs.Lists.{all, sum}
 use Rattle.grid_points.specs.Grid.{Grid, Point, at, num_blocks, size, first_index}
 use Rattle.points_in_order.proofs.Blocks.{block-length}
 use Rattle.game_losses.proofs.Weights.{dot-spread, dot_turn, dot-done, dot-bound, length-spread, length-weighed}
 use Rattle.game_losses.proofs.Weights.{weighed-at}
 use Rattle.game_losses.specs.Game.{dot, mix}
-use Rattle.game_losses.specs.Weights.{weighed, spread, weights}
+use Rattle.game_losses.specs.Weights.{weighed, spread}
 use Rattle.game_weighed.proofs.Levels.{behind-next, behind-none}
 use Rattle.game_weighed.specs.Levels.{behind}
 use Rattle.game_point.specs.Weighing.{weights_from, CanWeighLosses}

@@ -1,6 +1,6 @@
 -- The losses of one strategy, where they stand in the loss table, and their weighed sum. Assumes nothing.
 use mathlib.Core.List.{List, [], map}
-use mathlib.Core.Path.{◌≡◌, refl, sym, ap, ◌∙◌}
+use mathlib.Core.Path.{◌≡◌, sym, ap, ◌∙◌}
 use Prim.Native.Nat.{ℕ, suc, ◌+◌, ◌-◌, ◌*◌, ◌≤◌, ◌<◌}
 use lib.Dec.{leb}
 use lib.ListN.{length, get_or, take, drop, length-drop}
@@ -10,7 +10,7 @@ use native.Mathlib.Omega.{arith}
 use Rattle.combinatorics.proofs.Agreement.{all_drop, all_take}
 use Rattle.grid_points.proofs.Points.{point-long}
 use Rattle.grid_points.proofs.Round.{block_spans}
-use Rattle.grid_points.specs.Grid.{Grid, Point, at, num_blocks, num_indices, size, first_index, block_of, lent}
+use Rattle.grid_points.specs.Grid.{Grid, Point, at, num_indices, size, first_index, block_of, lent}
 use Rattle.game_losses.proofs.Players.{product-own}
 use Rattle.game_losses.proofs.Replaced.{mix_lengths}
 use Rattle.game_losses.proofs.Table.{low-all}

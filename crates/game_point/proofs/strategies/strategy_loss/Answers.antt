@@ -1,0 +1,112 @@
+-- `strategy_loss` meets its contract: the losses of the strategy stand together in the table. Assumes nothing.
+use mathlib.Core.Path.{◌≡◌, refl, sym, ap, ◌∙◌}
+use Prim.Native.Nat.{ℕ, ◌+◌, ◌-◌, ◌*◌, ◌≤◌, ◌<◌}
+use native.Mathlib.Omega.{arith}
+use lib.ListN.{length}
+use native.Mathlib.Nat.{mul-le-mul_right}
+use Rattle.grid_points.proofs.Round.{block_spans}
+use Rattle.grid_points.specs.Grid.{Grid, at, block_of, first_index, lent, num_indices}
+use Rattle.game_point.proofs.OwnLosses.{can, is-own, spans, within}
+use Rattle.game_point.specs.Label.{GameAt}
+use borrow.Author.Rules.{rules}
+use Rattle.game_point.proofs.strategies.strategy_loss.Goals as goal
+use Rattle.game_point.proofs.strategies.strategy_loss.Goals.{After-wide-owner, After-wide}
+
+-- what is known once the owner is read
+module _ (c : After-wide-owner) where
+  abbrev g : Grid
+  g = lent c.args.sizes.now c.requires.by_index.0
+
+  game : GameAt g c.args.firsts.now c.args.owners.now c.args.losses.now
+      c.args.point.now
+  game = c.requires.by_index.1
+
+  inside : c.args.h < num_indices g
+  inside = c.requires.count_value.1
+
+  owner_is : c.wide-owner.result ≡ block_of g c.args.h
+  owner_is = c.wide-owner.ensures ∙ game.owned c.args.h inside
+
+  low : c.wide-owner.result < length c.args.sizes.now
+  low = omega (arith, owner_is, (block_spans c.args.sizes.now c.args.h inside).0)
+
+  counted : c.wide-owner.result * c.args.count ≤ length c.args.losses.now
+  counted =
+      let m = mul-le-mul_right c.args.count low in
+      let e : length c.args.losses.now ≡ length c.args.sizes.now * c.args.count =
+      (game.table.whole ∙ ap (λ (n : ℕ). length c.args.sizes.now * n) (sym c.requires.count_value.0)) in
+      omega arith
+
+-- and the first index
+module _ (c : After-wide) where
+  abbrev own : After-wide-owner
+  own = (goal.at.After-wide c).After-wide-owner
+
+  abbrev size : ℕ
+  size = at c.args.sizes.now c.wide-owner.result
+
+  abbrev rest : ℕ
+  rest = at c.args.rests.now c.wide-owner.result
+
+  first-is : c.wide.result ≡ first_index (g own) c.wide-owner.result
+  first-is = c.wide.ensures ∙ (game own).first c.wide-owner.result (low own)
+
+  before : (c.wide.result ≤ c.args.h) × (c.args.h < c.wide.result + size)
+  before = spans (game own) c.args.rests.now c.requires.rests c.args.h (inside own)
+      c.wide-owner.result c.args.count c.wide.result size rest (owner_is own) c.requires.count_value.0
+      first-is refl refl
+
+  ends : c.wide-owner.result * c.args.count + (c.args.h - c.wide.result) * rest + rest
+      ≤ length c.args.losses.now
+  ends = within (game own) c.args.rests.now c.requires.rests c.args.h (inside own)
+      c.wide-owner.result c.args.count c.wide.result size rest (owner_is own) c.requires.count_value.0
+      first-is refl refl
+
+pub offset_bounds-rests-owner : goal.offset_bounds-rests-owner
+offset_bounds-rests-owner c = omega (arith, low c, (game c).grid.few_blocks)
+
+pub bounds-rests-owner : goal.bounds-rests-owner
+bounds-rests-owner c =
+    let o = (goal.at.bounds-rests-owner c).After-wide-owner in
+    omega (arith, low o, (game o).grid.few_blocks)
+
+pub overflow_mul-at : goal.overflow_mul-at
+overflow_mul-at c = omega (arith, counted (goal.at.overflow_mul-at c).After-wide-owner)
+
+pub bounds-firsts-owner : goal.bounds-firsts-owner
+bounds-firsts-owner c =
+    let o = (goal.at.bounds-firsts-owner c).After-wide-owner in
+    omega (arith, low o, (game o).grid.few_blocks)
+
+pub overflow_sub-at : goal.overflow_sub-at
+overflow_sub-at c = omega (arith, (before c).0)
+
+pub overflow_mul-at-2 : goal.overflow_mul-at-2
+overflow_mul-at-2 c = omega (arith, ends c)
+
+pub overflow_add-at : goal.overflow_add-at
+overflow_add-at c = omega (arith, ends c)
+
+pub overflow_add-at-2 : goal.overflow_add-at-2
+overflow_add-at-2 c = omega (arith, ends c)
+
+pub offset_bounds-losses-at : goal.offset_bounds-losses-at
+offset_bounds-losses-at c = omega (arith, ends c)
+
+pub slice_bounds-weigh-end : goal.slice_bounds-weigh-end
+slice_bounds-weigh-end c = let e = ends c in search rules
+
+pub weigh-requires : goal.weigh-requires
+weigh-requires c =
+    let w = (goal.at.weigh-requires c).After-wide in
+    let o = own w in
+    can (game o) c.args.rests.now c.requires.rests c.args.h (inside o) c.wide-owner.result
+    c.args.count c.wide.result (size w) (rest w) (owner_is o) c.requires.count_value.0 (first-is w) refl refl
+
+pub returns : goal.returns
+returns c =
+    let w = (goal.at.returns c).After-wide in
+    let o = own w in
+    c.weigh.ensures
+    ∙ is-own (game o) c.args.rests.now c.requires.rests c.args.h (inside o) c.wide-owner.result
+    c.args.count c.wide.result (size w) (rest w) (owner_is o) c.requires.count_value.0 (first-is w) refl refl
