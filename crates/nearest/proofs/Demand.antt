@@ -11,7 +11,7 @@ use Rattle.combinatorics.specs.Front.{front}
 use Rattle.questions.specs.Questions.{first_no}
 use Rattle.grid_points.specs.Grid.{Point, is_grid_point}
 use Rattle.grid_points.specs.Questions.{grid_questions}
-use Rattle.place.specs.Path.{answer, spent, unknown}
+use Rattle.place.specs.Path.{answer}
 use Rattle.place.specs.Problem.{Problem}
 use Rattle.path_laws.proofs.Accepted.{accepted-table}
 use Rattle.path_laws.proofs.Theorem.{demand3_holds}
@@ -22,7 +22,6 @@ use Rattle.finder.specs.Run.{case_of, numbers_of, run_answer, run_buffer}
 use Rattle.nearest_visited.proofs.Distances.{distances}
 use Rattle.nearest_visited.proofs.Nearest.{grid-accepted, is-list, is-nearest}
 use Rattle.nearest_visited.proofs.Visits.{visits}
-use Rattle.nearest_visited.specs.Nearest.{nearest}
 use Rattle.nearest.specs.Demand.{NearDemandHolds}
 use Rattle.nearest.specs.Report.{near_answer_buffer, list_buffer, listed_by, near_refusal, nearest_in, report_of}
 use Rattle.nearest.specs.declared.Report.{Report}

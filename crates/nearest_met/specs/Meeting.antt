@@ -8,7 +8,7 @@ use Rattle.grid_points.specs.Grid.{Grid, Point, at, position}
 use Rattle.rules.specs.Read.{point_on}
 use Rattle.rules.specs.Moves.{State}
 use Rattle.nearest_visited.specs.Distance.{distance}
-use Rattle.nearest_visited.specs.Nearest.{first_least, nearest}
+use Rattle.nearest_visited.specs.Nearest.{first_least}
 use Rattle.nearest_met.specs.declared.Came.{Came}
 use Rattle.nearest_met.specs.declared.Came.TheVariants.{At, Nothing}
 use Rattle.nearest_met.specs.declared.Tally.{Tally}

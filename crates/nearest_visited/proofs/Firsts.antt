@@ -2,7 +2,7 @@
 use borrow.Author.Tests.{not-true}
 use mathlib.Core.Bool.{Bool, true, false, not, ◌&&◌, ◌||◌, cond}
 use mathlib.Core.List.{List, [], ◌∷◌, ◌++◌, append-nil}
-use mathlib.Core.Logic.{◌⊎◌, ⊎_elim}
+use mathlib.Core.Logic.{⊎_elim}
 use mathlib.Core.Path.{◌≡◌, refl, sym, ap, ◌∙◌}
 use Rattle.combinatorics.proofs.Basics.{absurd_bool, both, false_of, true_or_false}
 use Rattle.combinatorics.proofs.Lists.{Equality, distinct_filter, filter-all, filter-append, filter_cong, filter_in}

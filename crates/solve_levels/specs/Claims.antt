@@ -1,5 +1,5 @@
 -- Solving on fine grids: what holds of every game that its questions let pass. Assumes nothing.
-use Rattle.std.specs.Prelude.{List, [], ◌∷◌, ◌↔◌, ◌≡◌, ℕ, pred, ◌≤◌, ◌<◌, ℤ, take}
+use Rattle.std.specs.Prelude.{[], ◌∷◌, ◌↔◌, ◌≡◌, ℕ, pred, ◌≤◌, ◌<◌, ℤ, take}
 use Rattle.grid_points.specs.Grid.{Grid}
 use Rattle.path_laws.specs.Demand.{Demand3, Ended, HasTable}
 use Rattle.place.specs.Path.{path_length}
