@@ -1,6 +1,6 @@
 -- The pass of a game can begin, and where it finished is the run's answer. Assumes nothing.
 use mathlib.Core.List.{List, []}
-use mathlib.Core.Path.{◌≡◌, refl, sym, ap, ◌∙◌, subst}
+use mathlib.Core.Path.{◌≡◌, sym, ap, ◌∙◌, subst}
 use Prim.Native.Nat.{ℕ, suc, ◌-◌, ◌*◌, ◌≤◌, ◌<◌}
 use lib.ListN.{length, length-map, length-replicate, length-take, replicate, take}
 use lib.Seq.{take-length}

@@ -2,20 +2,20 @@
 use mathlib.Core.Bool.{Bool, true, false, not, ◌&&◌, cond}
 use mathlib.Core.List.{List, [], ◌∷◌, map}
 use mathlib.Core.Logic.{⊎_elim}
-use mathlib.Core.Path.{◌≡◌, refl, sym, ap, ◌∙◌}
-use Prim.Native.Nat.{ℕ, zero, suc, ◌+◌, ◌-◌, ◌*◌, ◌%◌, ◌≤◌, ◌<◌}
+use mathlib.Core.Path.{◌≡◌, refl, sym, ap}
+use Prim.Native.Nat.{ℕ, zero, suc, ◌-◌, ◌≤◌, ◌<◌}
 use borrow.Author.Tests.{eq-eqb, le-ltb, lt-ltb, ne_eqb}
 use lib.Dec.{eqb, ltb}
-use lib.ListN.{length, get_or, set}
+use lib.ListN.{length, set}
 use native.Mathlib.Omega.{arith}
 use Rattle.combinatorics.proofs.Basics.{before_or_not, same_or, true_or_false}
 use Rattle.combinatorics.proofs.Turns.{map-append}
 use Rattle.combinatorics.specs.Edits.{but_last, found, insert_at, last_or, remove_at, rotate_left, rotate_right}
 use Rattle.grid_points.specs.Grid.{at}
 use Rattle.rules.specs.Mask.{bit}
-use Rattle.rules.specs.Ready.{Ready, ReadyFirst, ReadyLast, ReadyLeave, ReadyGrow, label_in}
-use Rattle.rules.specs.Moves.{State, After, goes, first_outside, grow, is_filled, leave, leave_first, leave_last}
-use Rattle.rules.specs.Moves.{leave_middle, make_move, mark, mark_label, shrink, source_in}
+use Rattle.rules.specs.Ready.{Ready, ReadyLeave, label_in}
+use Rattle.rules.specs.Moves.{State, goes, first_outside, grow, is_filled, leave, leave_first, leave_last}
+use Rattle.rules.specs.Moves.{leave_middle, make_move, mark_label, shrink, source_in}
 use Rattle.solve_pass.specs.Bare.{bare_state, bare_after}
 
 -- edits of lists, and a function on each element

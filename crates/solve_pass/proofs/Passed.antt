@@ -1,12 +1,12 @@
 -- The pass along the path of a game: where it begins, what it has read, how it ends. Assumes nothing.
-use mathlib.Core.Bool.{true, ◌&&◌}
-use mathlib.Core.List.{List, [], ◌∷◌, map}
+use mathlib.Core.Bool.{◌&&◌}
+use mathlib.Core.List.{List, []}
 use mathlib.Core.Logic.{⊎_elim}
-use mathlib.Core.Path.{◌≡◌, refl, sym, ap, ◌∙◌, subst}
+use mathlib.Core.Path.{◌≡◌, refl, sym, ap, ◌∙◌}
 use Prim.Native.Nat.{ℕ, suc, ◌+◌, ◌-◌, ◌≤◌, ◌<◌}
 use borrow.Author.Tests.{le-ltb, lt-ltb}
 use lib.Dec.{eqb, ltb}
-use lib.ListN.{length, replicate, take}
+use lib.ListN.{replicate, take}
 use lib.Seq.{get_or-take}
 use native.Mathlib.Omega.{arith}
 use Rattle.combinatorics.proofs.Basics.{before_or_not}
@@ -14,7 +14,7 @@ use Rattle.end_kinds.specs.declared.Kind.{Kind}
 use Rattle.end_kinds.specs.declared.Kind.TheVariants.{Facet as facet_end, Place as place_end}
 use Rattle.grid_points.specs.Grid.{Grid, at, num_indices}
 use Rattle.solve_pass.proofs.Places.{BareAt, at-facet-end, at-place-end, can_visit, leads, leads_to, moved_on}
-use Rattle.solve_pass.specs.Bare.{bare_state, bare_after, labelled}
+use Rattle.solve_pass.specs.Bare.{bare_after, labelled}
 use Rattle.solve_pass.specs.Asked.{CanPassGame, CanVisitGame}
 use Rattle.moves.specs.Held.{state_of}
 use Rattle.moves.specs.declared.Status.{Status}
@@ -27,10 +27,10 @@ use Rattle.place.specs.Path.{answer, path, spent}
 use Rattle.place.specs.Problem.{Problem}
 use Rattle.refinement_levels.proofs.Starts.{full_game}
 use Rattle.refinement_levels.specs.Levels.{game_problem}
-use Rattle.rules.proofs.Follow.{At, EndsAt, NextAt, at_begin, at_new, at-spent, ends-answer}
+use Rattle.rules.proofs.Follow.{EndsAt, NextAt, at_begin, at_new, at-spent, ends-answer}
 use Rattle.rules.specs.Mask.{bit}
 use Rattle.rules.specs.Read.{read}
-use Rattle.rules.specs.Ready.{IsRound, RoundBelow}
+use Rattle.rules.specs.Ready.{RoundBelow}
 use Rattle.rules.specs.Moves.{After, Round, State, begun, ends_at_facet, ends_at_place, goes, make_move}
 
 pub game_full : {g : Grid} {firsts owners rests losses : List ℕ} {indices : ℕ} {round : Round} {first order : List ℕ}

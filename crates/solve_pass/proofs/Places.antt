@@ -1,22 +1,20 @@
 -- One place of the pass along the path of a game, by a state with positions, which are computed nowhere. Assumes
 -- nothing.
-use mathlib.Core.Bool.{true, ◌&&◌}
-use mathlib.Core.List.{List, [], map}
+use mathlib.Core.Bool.{true}
+use mathlib.Core.List.{List, []}
 use mathlib.Core.Logic.{⊎_elim}
-use mathlib.Core.Path.{◌≡◌, refl, sym, ap, ◌∙◌, subst}
+use mathlib.Core.Path.{◌≡◌, sym, ap, ◌∙◌, subst}
 use Prim.Native.Nat.{ℕ, suc, ◌≤◌, ◌<◌}
 use borrow.Author.Tests.{le-ltb, leb-true, lt-ltb}
 use lib.Dec.{leb}
-use lib.ListN.{length, set}
 use native.Mathlib.Omega.{arith}
-use Rattle.combinatorics.proofs.Basics.{and_left, and_right, before_or_not}
+use Rattle.combinatorics.proofs.Basics.{and_right, before_or_not}
 use Rattle.combinatorics.proofs.Lists.{mapped_at}
 use Rattle.end_kinds.specs.declared.Kind.{Kind}
 use Rattle.end_kinds.specs.declared.Kind.TheVariants.{Facet as facet_end, Place as place_end}
 use Rattle.grid_points.proofs.Points.{in_points, position_in_lem}
 use Rattle.grid_points.specs.Grid.{Grid, Point, is_grid_point, lent, num_indices, points, position}
 use Rattle.solve_pass.proofs.Bare.{map-set, move_bare, ready-bare}
-use Rattle.solve_pass.proofs.Points.{labelled-none}
 use Rattle.solve_pass.specs.Bare.{bare_state, bare_after, labelled}
 use Rattle.solve_pass.specs.Asked.{CanVisitGame}
 use Rattle.game_losses.specs.Game.{game_label, labels}
@@ -30,7 +28,7 @@ use Rattle.rules.proofs.Marks.{label_in_lem}
 use Rattle.rules.proofs.Follow.{At, EndsAt, NextAt, next_place, place_ends, facet_ends, at_first, at_next, at_reads}
 use Rattle.rules.proofs.Follow.{at_ready}
 use Rattle.rules.specs.Read.{point_in, point_on, read}
-use Rattle.rules.specs.Ready.{Ready, RoundBelow}
+use Rattle.rules.specs.Ready.{RoundBelow}
 use Rattle.rules.specs.Moves.{State, After, goes, ends_at_place, ends_at_facet, make_move, mark, mark_label, with_mark}
 
 -- the label of a grid point in the game's table is the game's label there

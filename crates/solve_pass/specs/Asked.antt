@@ -1,5 +1,5 @@
 -- What the pass along the path of a game asks. Assumes nothing.
-use Rattle.std.specs.Prelude.{true, List, [], ◌≡◌, ℕ, ◌≤◌, ◌<◌, leb, length, take}
+use Rattle.std.specs.Prelude.{true, List, [], ◌≡◌, ℕ, ◌<◌, leb, length, take}
 use Rattle.combinatorics.specs.Lists.{all}
 use Rattle.grid_points.specs.Grid.{Grid, Point, is_grid_point, lent, num_indices}
 use Rattle.solve_pass.specs.Bare.{labelled}
