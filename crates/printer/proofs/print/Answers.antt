@@ -4,7 +4,6 @@ use Rattle.slip.proofs.Readings.{reading-accepted}
 use Rattle.slip.proofs.Tables.{are-labels, no-labels}
 use Rattle.slip.specs.Reading.{slip_reading_of}
 use Rattle.printer.proofs.Slips.{refusal-printed, has-grid, table-printed}
-use borrow.Author.Rules.{rules}
 use Rattle.printer.proofs.print.Goals as goal
 use Rattle.printer.proofs.print.Goals.{Else-reading-ne0}
 
@@ -17,9 +16,6 @@ returns-then-reading-ne0 c =
     let is = c.read-reading.ensures in
     rw (refusal-printed slip (λ z. c.if-reading-ne0.true (ap (λ r. r.code) is ∙ z)), ← is)
     c.refused.ensures
-
-pub enum_told-1 : goal.enum_told-1
-enum_told-1 c = search rules
 
 pub print_run-requires : goal.print_run-requires
 print_run-requires c =

@@ -14,7 +14,6 @@ use Rattle.slip_fields.specs.Slip.{slip_losses, slip_question11}
 use Rattle.printer.proofs.Arrays.{same-sheet, as_prints}
 use Rattle.printer.proofs.Slips.{out_of_range-printed, has-grid, losses-printed, losses-few, is-table}
 use Rattle.printer.specs.Run.{loss_problem, run_sheet}
-use borrow.Author.Rules.{rules}
 use Rattle.printer.proofs.print_game.Goals as goal
 use Rattle.printer.proofs.print_game.Goals.{In-Count, Start}
 
@@ -45,9 +44,6 @@ losses_of-requires c = record {
   no_labels = c.requires.no_labels;
   whole = refl;
 }
-
-pub enum_told-1 : goal.enum_told-1
-enum_told-1 c = search rules
 
 pub returns-in_default : goal.returns-in_default
 returns-in_default c =

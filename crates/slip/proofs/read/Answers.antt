@@ -5,7 +5,6 @@ use Rattle.grid.proofs.Fields.{made_code, made-grid}
 use Rattle.slip_fields.proofs.Laws.{head-fits}
 use Rattle.slip.proofs.Readings.{refused_13, refused-grid, head-there, head_missing}
 use Rattle.slip_fields.specs.Slip.{slip_grid, head_length, question13}
-use borrow.Author.Rules.{rules}
 use Rattle.slip.proofs.read.Goals as goal
 use Rattle.slip.proofs.read.Goals.{In-EndsAt}
 
@@ -15,9 +14,6 @@ there : (c : In-EndsAt)
     ((question13 slip).answered_yes ≡ true) × (c.in-EndsAt.at ≡ head_length slip)
 there c = head-there c.args.slip.now c.in-EndsAt.at
     (sym c.head.ensures ∙ c.in-EndsAt.is)
-
-pub enum_told-1 : goal.enum_told-1
-enum_told-1 c = search rules
 
 pub returns-in_default : goal.returns-in_default
 returns-in_default c =

@@ -9,15 +9,11 @@ use Rattle.slip.proofs.Readings.{budget_missing, parts_say, table-there, table_m
 use Rattle.combinatorics.specs.Front.{padded}
 use Rattle.slip_fields.specs.Slip.{field_at, slip_start, slip_budget, question14}
 use Rattle.slip.specs.Reading.{start_of, table_named}
-use borrow.Author.Rules.{rules}
 use Rattle.slip.proofs.read_fields.Goals as goal
 use Rattle.slip.proofs.read_fields.Goals.{In-EndsAt, In-Is, In-Names}
 
 pub start-read-requires : goal.start-read-requires
 start-read-requires c = (c.requires.0, c.requires.1 ∙ sym (at_first c.args.slip.now))
-
-pub enum_told-1 : goal.enum_told-1
-enum_told-1 c = search rules
 
 pub returns-in_default : goal.returns-in_default
 returns-in_default c =
