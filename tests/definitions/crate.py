@@ -8,24 +8,24 @@ import sys
 NAME = "answers"
 # Where the definitions stand.
 USES = [
-    "mathlib.Core.Path.{_≡_, refl}",
-    "mathlib.Core.List.{List, [], _∷_, map}",
-    "Rattle·grid_points.specs.Grid.{next, previous, isGridPoint, points, bound}",
-    "Rattle·place.specs.Coefficients.{coefficients}",
-    "Rattle·questions.specs.Questions.{firstNo}",
-    "Rattle·place.specs.Ends.{placeEnd, facetEnd, isComplete, completeFor, placeEnds, facetEnds, ends, ways}",
-    "Rattle·place.specs.LabelsRead.{cameIn, labelsRead}",
-    "Rattle·place.specs.Links.{exchanged, extended, linked, links}",
-    "Rattle·place.specs.Path.{spent, ended, waysOn, path, answer}",
-    "Rattle·place.specs.Places.{setU, setT, labelSet, firstBackOutside, goesTo, grownAt, everyBlockFree, isUnlabelledPlace, isPlace, places}",
-    "Rattle·place.specs.Problem.{problemOf, label}",
-    "Rattle·place.specs.Worked.{Row, given, row, rowWith}",
+    "Rattle.std.specs.Prelude.{List, [], ◌∷◌, map, ◌≡◌, refl}",
+    "Rattle.end_kinds.specs.declared.Kind.TheVariants.{Facet as facet_end, Place as place_end}",
+    "Rattle.grid_points.specs.Grid.{next, previous, is_grid_point, points, bound}",
+    "Rattle.place.specs.Coefficients.{coefficients}",
+    "Rattle.questions.specs.Questions.{first_no}",
+    "Rattle.place.specs.Ends.{is_complete, complete_for, place_ends, facet_ends, ends, ways}",
+    "Rattle.place.specs.LabelsRead.{came_in, labels_read}",
+    "Rattle.place.specs.Links.{exchanged, extended, linked, links}",
+    "Rattle.place.specs.Path.{spent, ended, ways_on, path, answer}",
+    "Rattle.place.specs.Places.{set_u, set_t, label_set, first_back_outside, goes_to, grown_at, every_block_free, is_unlabelled_place, is_place, places}",
+    "Rattle.place.specs.Problem.{problem_of, label}",
+    "Rattle.place.specs.Worked.{Row, given, row, row_with}",
 ]
 # The definitions that the checker opens to compute, as for the nine marked ends.
-UNFOLDING = ("next previous isGridPoint points label coefficients setU setT labelSet firstBackOutside goesTo grownAt everyBlockFree"
-             " isUnlabelledPlace isPlace places exchanged extended linked links isComplete completeFor placeEnds facetEnds"
-             " ends ways waysOn bound path answer cameIn labelsRead firstNo")
-KINDS = {"place": "placeEnd", "facet": "facetEnd"}
+UNFOLDING = ("next previous is_grid_point points label coefficients set_u set_t label_set first_back_outside goes_to grown_at every_block_free"
+             " is_unlabelled_place is_place places exchanged extended linked links is_complete complete_for place_ends facet_ends"
+             " ends ways ways_on bound path answer came_in labels_read first_no")
+KINDS = {"place": "place_end", "facet": "facet_end"}
 ROWS_TO_A_FILE = 25
 
 
@@ -36,7 +36,7 @@ def listed(items):
 def row(line):
     question, result = line.split(" -> ")
     *parts, budget = question.split("; ")
-    problem = "(problemOf " + " ".join(listed(part.split()) for part in parts) + ")"
+    problem = "(problem_of " + " ".join(listed(part.split()) for part in parts) + ")"
     if result.startswith("spent"):
         answer = "(" + result + ")"
     else:
@@ -46,7 +46,7 @@ def row(line):
         answer = "(ended {} {} {} {} {} {})".format(places, read, KINDS[kind], block, len(points), listed(points))
     if budget == "bound":
         return "row {} {}".format(problem, answer)
-    return "rowWith {} {} {}".format(problem, budget, answer)
+    return "row_with {} {} {}".format(problem, budget, answer)
 
 
 def module(lines):
@@ -59,7 +59,7 @@ rows =
 {}
     ∷ []
 
-answers : map given rows ≡ map (λ r. r .result) rows
+answers : map given rows ≡ map (λ r. r.result) rows
 unfolding {}
 answers = refl
 """.format("\n".join("use " + use for use in USES), rows, UNFOLDING)

@@ -1,7 +1,7 @@
 #!/usr/bin/env python3
-"""The divisions and remainders left in each crate, read off the code that `rt mir` prints, with the reason for each. It
-fails where a crate that finds positions, prepares for them or reads what is kept of them has one, and where a function
-of another has one without a reason.
+"""The divisions and remainders left in each crate, read off the code that `rt check --generated` writes, with the reason
+for each; the crates below it have to be proved. It fails where a crate that finds positions, prepares for them or reads
+what is kept of them has one, and where a function of another has one without a reason.
 
     tests/divisions/list.py [CRATE ..]     all crates of crates.txt if none is named
 """
@@ -9,6 +9,7 @@ import pathlib
 import re
 import subprocess
 import sys
+import tempfile
 
 ROOT = pathlib.Path(__file__).resolve().parents[2]
 
@@ -35,16 +36,20 @@ def crates():
 
 def counts(crate):
     """The number of divisions and of remainders in each function of the crate."""
-    run = subprocess.run(["rt", "mir", crate], cwd=ROOT, capture_output=True, text=True)
-    if run.returncode != 0:
-        sys.exit(run.stdout + run.stderr)
     found = {}
-    for part in run.stdout.split('(fn-def "')[1:]:
-        name = part.split('"', 1)[0]
-        if name.split("::")[0] == crate:
-            pair = [len(re.findall(r"\(op2 \(%s " % kind, part)) for kind in ("div", "rem")]
+    with tempfile.TemporaryDirectory() as folder:
+        run = subprocess.run(["rt", "check", "--generated", f"{folder}/made"], cwd=ROOT / "crates" / crate,
+                             capture_output=True, text=True)
+        made = pathlib.Path(folder, "made", f"Rattle-{crate}-proofs")
+        if not made.is_dir():
+            sys.exit(run.stdout + run.stderr)
+        for path in sorted(made.rglob("Code/*.antt")):
+            # the code of a function, or of one that calls itself: f/Code/Mir.antt, or +f/Code/+f.antt
+            *modules, function, _, _ = path.relative_to(made).parts
+            code = path.read_text()
+            pair = [len(re.findall(r"\(Syntax\.%s " % kind, code)) for kind in ("div", "rem")]
             if any(pair):
-                found[name] = pair
+                found["::".join([crate, *modules, function.removeprefix("+")])] = pair
     return found
 
 

@@ -2,8 +2,9 @@
 """Says what stands twice and should stand once: a name with two definitions, and two laws with one statement.
 
 A law's statement is compared up to the names that it binds, with those of the other crates and with those of the
-toolchain's libraries. A law in a section or behind a `where` is compared too, unless it speaks of what is bound around
-it. The tables of worked rows are left out: their names, as `Row` and `given`, mean the same in each.
+toolchain's libraries that can be cited. A law in a section or behind a `where` is compared too, unless it speaks of
+what is bound around it. The proofs of functions are left out, and so are the tables of worked rows: their names, as
+`Row` and `given`, mean the same in each.
 """
 import collections
 import pathlib
@@ -12,16 +13,17 @@ import subprocess
 import sys
 
 CRATES = pathlib.Path(__file__).resolve().parents[2] / "crates"
-KIT = pathlib.Path(subprocess.run(["rt", "doc"], capture_output=True, text=True).stdout.strip()).parents[1]
+KIT = pathlib.Path(subprocess.run(["rt", "doc"], capture_output=True, text=True).stdout.strip()).parent / "rattle"
 LIBRARIES = ["logic/Lib/*.antt", "logic/Borrow/Author/*.antt", "antt/lib/native/src/Mathlib/*.antt",
              "antt/port/mathlib/src/Core/*.antt"]
 
 DECLARED = re.compile(r"^(?:abbrev |unfoldable )?(?:pub )?(?:record |data )?([^\s:({]+)\s*(?::|\()", re.M)
-LAW = re.compile(r"^( *)(?:abbrev )?(?:pub )?([\w'·\-]+) : (.*)$")
+LAW = re.compile(r"^( *)(?:abbrev )?(pub )?([\w'\-]+) : (.*)$")
 SECTION = re.compile(r"^( *)module _ (.*)$")
 BINDER = re.compile(r"[({]([^(){}:]*?) :")
-TOKEN = re.compile(r"[A-Za-zα-ω_][\w'·\-]*|\S")
+TOKEN = re.compile(r"[A-Za-zα-ω_][\w'\-]*|\S")
 LEAST = 20
+OF_FUNCTIONS = ("Proof.antt", "Invariants.antt", "Answers.antt")
 
 
 def bound(statement):
@@ -50,8 +52,9 @@ def behind(lines, i, indent):
     return " ".join(more)
 
 
-def laws(path):
-    """Each law of a file with its statement, but those that speak of names bound around them."""
+def laws(path, cited=False):
+    """Each law of a file with its statement, but those that speak of names bound around them; if `cited`, only those that
+    another file can cite."""
     lines, around, declared = text(path), [], []
     for i, line in enumerate(lines):
         depth = len(line) - len(line.lstrip())
@@ -62,14 +65,14 @@ def laws(path):
         if section:
             whole = section[2] + " " + behind(lines, i, depth)
             around.append((depth, bound(whole.split(" where")[0])))
-        elif law and "≡" in (statement := law[3] + " " + behind(lines, i, depth)):
+        elif law and (law[2] or not cited) and "≡" in (statement := law[4] + " " + behind(lines, i, depth)):
             outer = set().union(*(names for _, names in around)) | {name for _, name in declared}
             free = set(TOKEN.findall(statement)) - bound(statement)
             plain = depth == 0 or (around and max(indent for indent, _ in around) == depth - 2)
             if len(statement) > LEAST and plain and not free & outer:
-                yield law[2], statement
+                yield law[3], statement
         if law and depth:
-            declared.append((depth, law[2]))
+            declared.append((depth, law[3]))
 
 
 def found():
@@ -79,12 +82,12 @@ def found():
             for name in DECLARED.findall("\n".join(text(path))):
                 names[name].add(str(path.relative_to(CRATES)))
     for path in CRATES.glob("*/proofs/**/*.antt"):
-        if path.name not in ("Proof.antt", "Worked.antt"):
+        if path.name not in (*OF_FUNCTIONS, "Worked.antt"):
             for name, statement in laws(path):
                 statements[shape(statement)].add(f"{name} of {path.relative_to(CRATES)}")
     for pattern in LIBRARIES:
         for path in KIT.glob(pattern):
-            for name, statement in laws(path):
+            for name, statement in laws(path, cited=True):
                 if shape(statement) in statements:
                     statements[shape(statement)].add(f"{name} of the toolchain's {path.stem}")
     for name, places in sorted(names.items()):

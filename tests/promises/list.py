@@ -38,8 +38,8 @@ CALLS = {
                      "leveretplate_walk_points"],
 }
 
-WORD = re.compile(r"[^\s(){}\[\],;⌜⌝λ→∷×≡.«»←⟦⟧=:|]+")
-MODULE = re.compile(r"Rattle·(\w+?)(?:·specs\.specs|\.specs)\.([\w.-]+)$")
+WORD = re.compile(r"[^\s(){}\[\],;λ→∷×≡.«»←⟦⟧=:|]+")
+MODULE = re.compile(r"Rattle\.(\w+)\.specs\.([\w.-]+)$")
 USE = re.compile(r"^(?:ghost )?use (\S+?)\.\{([^}]*)\};?$", re.M)
 
 
