@@ -1,5 +1,5 @@
 -- Truth values and comparisons of numbers. Assumes nothing.
-use mathlib.Core.Bool.{Bool, beq, true, false, not, ◌&&◌, ◌||◌}
+use mathlib.Core.Bool.{Bool, beq, true, false, ◌&&◌, ◌||◌}
 use mathlib.Core.Logic.{◌⊎◌, inl, inr, ⊎_elim}
 use mathlib.Core.Path.{◌≡◌, refl, sym}
 use Prim.Native.Nat.{ℕ, ◌≤◌, ◌<◌}

@@ -1,5 +1,5 @@
 -- The grid that the constructor makes of sizes and divisions, and what it stands for. Assumes nothing.
-use Rattle.std.specs.Prelude.{◌≡◌, cond, List, map, eqb, take, replicate}
+use Rattle.std.specs.Prelude.{◌≡◌, cond, map, eqb, take, replicate}
 use Rattle.combinatorics.specs.Front.{padded}
 use Rattle.questions.specs.Questions.{first_no}
 use Rattle.grid_points.specs.Grid.{Grid, block_count, block_of, blocks, first_index, indices, next, num_blocks, num_indices}

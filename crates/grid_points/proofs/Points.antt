@@ -145,7 +145,7 @@ fits-sums (block {d = d} {ss = ss} {ds = ds} a l r q f) =
     let i = fits-sums f in
     let here : block_sum (length a ∷ ss) (d ∷ ds) (a ++ l) 0 ≡ true = rw (first-append a l) (eq-eqb (sum a) d q) in
     subst (λ (s : ℕ). (length (a ++ l) ≡ s + sum ss)
-        × (all (block_sum (s ∷ ss) (d ∷ ds) (a ++ l)) (up_from 0 (suc (length ss))) ≡ true)) r (
+    × (all (block_sum (s ∷ ss) (d ∷ ds) (a ++ l)) (up_from 0 (suc (length ss))) ≡ true)) r (
       rw length-append (omega (arith, i.0)),
       and_both (block_sum (length a ∷ ss) (d ∷ ds) (a ++ l) 0)
           (all (block_sum (length a ∷ ss) (d ∷ ds) (a ++ l)) (up_from 1 (length ss))) here
@@ -163,8 +163,8 @@ sums-fit (s ∷ ss) (d ∷ ds) y e p h =
     let q : a ++ l ≡ y = take-append-drop s y in
     let la : length a ≡ s = length-take-le s y (omega arith) in
     let h' : all (block_sum (length a ∷ ss) (d ∷ ds) (a ++ l)) (up_from 0 (suc (length ss))) ≡ true =
-        subst (λ (z : List ℕ). all (block_sum (length a ∷ ss) (d ∷ ds) z) (up_from 0 (suc (length ss))) ≡ true) (sym q)
-            (subst (λ (n : ℕ). all (block_sum (n ∷ ss) (d ∷ ds) y) (up_from 0 (suc (length ss))) ≡ true) (sym la) h) in
+    subst (λ (z : List ℕ). all (block_sum (length a ∷ ss) (d ∷ ds) z) (up_from 0 (suc (length ss))) ≡ true) (sym q)
+    (subst (λ (n : ℕ). all (block_sum (n ∷ ss) (d ∷ ds) y) (up_from 0 (suc (length ss))) ≡ true) (sym la) h) in
     let ll : length l ≡ sum ss = omega (arith, length-drop s y) in
     rw (← q) (block a l la
     (sym (ap sum (first-append a l)) ∙ eqb-true _ d (and_left (block_sum (length a ∷ ss) (d ∷ ds) (a ++ l) 0) _ h'))

@@ -10,7 +10,6 @@ use lib.ListN.{length, get_or, take}
 use native.Mathlib.Omega.{arith}
 use Rattle.combinatorics.proofs.Basics.{before_or_not, both}
 use Rattle.combinatorics.specs.Lists.{sum}
-use Rattle.grid_points.proofs.Points.{block}
 use Rattle.grid_points.specs.Grid.{Grid, block_in, first_index, lent, next, num_blocks, num_indices, previous, size}
 
 -- next round the block, by the list of sizes

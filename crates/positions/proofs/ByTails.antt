@@ -64,7 +64,7 @@ rank_next y i k =
     let r : Point = map (at y) (up_from (suc i) (suc k)) in
     let z : at y i + sum r - at y i ≡ sum r = omega arith in
     subst (λ (e : ℕ). rank y i (suc (suc k)) + choose (e + suc k) (suc k)
-        ≡ choose (tail y i (suc (suc k)) + suc k) (suc k) + rank_of y (suc i) (suc k) e)
+    ≡ choose (tail y i (suc (suc k)) + suc k) (suc k) + rank_of y (suc i) (suc k) e)
     z (block_step k (at y i + sum r) (at y i) r (omega arith)
     (length-map (up_from (suc i) (suc k)) (at y) ∙ length-up_from (suc i) (suc k)) (omega arith))
 

@@ -1,12 +1,11 @@
 -- The coordinates of a point after its steps. Assumes nothing.
-use mathlib.Core.List.{List, map}
+use mathlib.Core.List.{List}
 use mathlib.Core.Path.{◌≡◌, refl, sym, ap, ◌∙◌}
-use Prim.Native.Nat.{ℕ, zero, suc, ◌+◌, ◌-◌, ◌≤◌, ◌<◌}
+use Prim.Native.Nat.{ℕ, ◌+◌, ◌-◌, ◌≤◌, ◌<◌}
 use lib.ListN.{length, take, replicate, get_or-replicate}
 use lib.Seq.{ext_get_or, get_or-take, length-take-le}
 use native.Mathlib.Omega.{arith}
 use Rattle.combinatorics.proofs.Turns.{map_at}
-use Rattle.combinatorics.specs.Lists.{up_from}
 use Rattle.grid_points.specs.Grid.{at}
 use Rattle.positions.specs.Steps.{after_steps, CanTakeSteps}
 

@@ -3,15 +3,13 @@
 use mathlib.Core.Bool.{◌&&◌, and-false}
 use mathlib.Core.Logic.{⊎_elim}
 use mathlib.Core.Path.{◌≡◌, refl, sym, ◌∙◌}
-use Prim.Native.Nat.{ℕ, ◌-◌, ◌≤◌, ◌<◌}
+use Prim.Native.Nat.{ℕ, ◌≤◌, ◌<◌}
 use borrow.Author.Rules.{rules}
 use borrow.Author.Tests.{le-leb, lt-leb}
 use lib.Dec.{leb}
-use lib.ListN.{length, take}
 use native.Mathlib.Omega.{arith}
 use Rattle.combinatorics.proofs.Basics.{before_or_not}
 use Rattle.combinatorics.proofs.Turns.{all-next, whole}
-use Rattle.combinatorics.specs.Lists.{all}
 use Rattle.label_table.proofs.all_at_most.Goals as goal
 use Rattle.label_table.proofs.all_at_most.Goals.{then-most-label, else-most-label}
 

@@ -1,16 +1,9 @@
 -- `all_at_most` meets its contract. The invariant: the largest byte so far is at most m exactly if all so far are.
 -- Assumes nothing.
-use mathlib.Core.Bool.{◌&&◌, and-false}
-use mathlib.Core.Logic.{⊎_elim}
-use mathlib.Core.Path.{◌≡◌, refl, sym, ◌∙◌}
-use Prim.Native.Nat.{ℕ, ◌-◌, ◌≤◌, ◌<◌}
-use borrow.Author.Rules.{rules}
-use borrow.Author.Tests.{le-leb, lt-leb}
+use mathlib.Core.Path.{◌≡◌}
+use Prim.Native.Nat.{◌-◌, ◌≤◌}
 use lib.Dec.{leb}
 use lib.ListN.{length, take}
-use native.Mathlib.Omega.{arith}
-use Rattle.combinatorics.proofs.Basics.{before_or_not}
-use Rattle.combinatorics.proofs.Turns.{all-next, whole}
 use Rattle.combinatorics.specs.Lists.{all}
 use Rattle.label_table.proofs.all_at_most.Given as goal
 

@@ -1,6 +1,5 @@
 -- `label_table::byte_at` meets its contract. Assumes nothing.
 use mathlib.Core.Path.{sym, ◌∙◌}
-use borrow.Author.Rules.{rules}
 use Rattle.label_table.proofs.Labels.{byte_told}
 use Rattle.label_table.proofs.byte_at.Goals as goal
 

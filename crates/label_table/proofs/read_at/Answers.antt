@@ -1,5 +1,4 @@
 -- `label_table::read_at` meets its contract. Assumes nothing.
-use borrow.Author.Rules.{rules}
 use borrow.Author.Tests.{eq-eqb, ne_eqb}
 use Rattle.label_table.proofs.read_at.Goals as goal
 

@@ -1,7 +1,6 @@
 -- `little_endian::number64` meets its contract. A number is split after its lowest 16 bits, three times.
 -- Assumes nothing.
 use Prim.Native.Nat.{◌+◌}
-use borrow.Author.Rules.{rules}
 use native.Mathlib.Omega.{arith}
 use Rattle.little_endian.proofs.Laws.{number_split}
 use Rattle.little_endian.proofs.number64.Goals as goal

@@ -1,5 +1,4 @@
 -- `little_endian::word` meets its contract. Assumes nothing.
-use borrow.Author.Rules.{rules}
 use native.Mathlib.Omega.{arith}
 use Rattle.little_endian.specs.Numbers.{number}
 use Rattle.little_endian.proofs.word.Goals as goal

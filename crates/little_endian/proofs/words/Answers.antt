@@ -1,14 +1,11 @@
 -- `little_endian::words` meets its contract. The invariant: the numbers read so far stand at the front.
 -- Assumes nothing.
-use mathlib.Core.List.{map}
 use mathlib.Core.Path.{refl, ◌≡◌, sym, ◌∙◌}
-use Prim.Native.Nat.{◌+◌, ◌*◌, ◌≤◌, ◌-◌}
+use Prim.Native.Nat.{◌+◌, ◌*◌}
 use lib.ListN.{length-set, length}
 use native.Mathlib.Omega.{arith}
 use Rattle.combinatorics.proofs.Fronts.{front_full, front-none}
 use Rattle.combinatorics.proofs.Turns.{front-counted}
-use Rattle.combinatorics.specs.Front.{front}
-use Rattle.combinatorics.specs.Lists.{up_from}
 use Rattle.little_endian.proofs.Laws.{length-words}
 use Rattle.little_endian.specs.Numbers.{number, words}
 use Rattle.little_endian.proofs.words.Goals as goal

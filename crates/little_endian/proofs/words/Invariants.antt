@@ -1,16 +1,12 @@
 -- `little_endian::words` meets its contract. The invariant: the numbers read so far stand at the front.
 -- Assumes nothing.
 use mathlib.Core.List.{map}
-use mathlib.Core.Path.{refl, ◌≡◌, sym, ◌∙◌}
+use mathlib.Core.Path.{◌≡◌}
 use Prim.Native.Nat.{◌+◌, ◌*◌, ◌≤◌, ◌-◌}
-use lib.ListN.{length-set, length}
-use native.Mathlib.Omega.{arith}
-use Rattle.combinatorics.proofs.Fronts.{front_full, front-none}
-use Rattle.combinatorics.proofs.Turns.{front-counted}
+use lib.ListN.{length}
 use Rattle.combinatorics.specs.Front.{front}
 use Rattle.combinatorics.specs.Lists.{up_from}
-use Rattle.little_endian.proofs.Laws.{length-words}
-use Rattle.little_endian.specs.Numbers.{number, words}
+use Rattle.little_endian.specs.Numbers.{number}
 use Rattle.little_endian.proofs.words.Given as goal
 
 abbrev pub invariant-loop-i : goal.invariant-loop-i

@@ -1,15 +1,11 @@
 -- `binomials` meets its contract. The invariant: the blocks so far have their rows. Assumes nothing.
 use mathlib.Core.Logic.{⊎_elim}
 use mathlib.Core.Path.{◌≡◌}
-use Prim.Native.Nat.{ℕ, ◌-◌, ◌≤◌, ◌<◌}
-use lib.ListN.{length, get_or, take}
 use Rattle.combinatorics.proofs.Basics.{before_or_not}
 use Rattle.grid.proofs.Fields.{made-size, made-division, made-blocks, blocks-range, size-range, count-range}
 use Rattle.positions.proofs.Table.{rows-kept}
-use Rattle.positions.specs.Binomials.{HasRows}
 use Rattle.grid_points.specs.Grid.{size, division}
 use Rattle.grid.specs.Made.{shape}
-use borrow.Author.Rules.{rules}
 use native.Mathlib.Omega.{arith}
 use Rattle.positions.proofs.binomials.Goals as goal
 

@@ -2,20 +2,18 @@
 use mathlib.Core.Bool.{true}
 use mathlib.Core.List.{List, map}
 use mathlib.Core.Path.{◌≡◌, sym, ap, ◌∙◌, subst}
-use Prim.Native.Nat.{ℕ, ◌+◌, ◌-◌, ◌*◌, ◌≤◌, ◌<◌}
+use Prim.Native.Nat.{ℕ, ◌+◌, ◌*◌, ◌≤◌, ◌<◌}
 use lib.ListN.{take}
-use Rattle.combinatorics.specs.Lists.{sum}
 use Rattle.grid.proofs.Fields.{made-accepted, made-indices, made-blocks, made-size, made-division, made-first}
 use Rattle.grid.proofs.Fields.{made-count, blocks-range, indices-few, size-range, count-range}
 use Rattle.positions.proofs.Positions.{Horner, horner_start, horner_next, horner_few, horner_done, adds_up}
 use Rattle.positions.proofs.Positions.{map-front}
 use Rattle.grid_points.proofs.Round.{block-fits}
-use Rattle.grid_points.specs.Grid.{is_grid_point, num_indices, num_blocks, indices_of, first_index, size, division, lent}
+use Rattle.grid_points.specs.Grid.{is_grid_point, num_indices, num_blocks, indices_of, first_index, size, division}
 use Rattle.grid_points.specs.Grid.{block_points}
 use Rattle.grid_points.specs.Grid.{position, position_in, at as coordinate}
 use Rattle.grid.specs.Made.{shape}
 use Rattle.positions.specs.Steps.{after_steps}
-use borrow.Author.Rules.{rules}
 use native.Mathlib.Omega.{arith}
 use Rattle.positions.proofs.position.Goals as goal
 use Rattle.positions.proofs.position.Goals.{After-wide16-in-loop-j, Start}
@@ -107,15 +105,18 @@ in_block-rank-requires c =
       is_first,
       is_size,
       is_division,
-    ) record { le_size = (
+    ) record {
+      le_size = (
         (size-range s m j (omega arith)).0,
         omega (arith, block-fits (shape s).sizes j, indices-few s m, made-indices s m),
         count-range s m j (omega arith),
-      ); has_rows = (
+      );
+      has_rows = (
         c.requires.made.1.rows j n,
         λ k l. c.requires.can_take_steps.0 k (omega (arith, block-fits (shape s).sizes j, made-indices s m)),
         rw (same (goal.at.in_block-rank-requires c).Start j) at (adds_up (shape s) _ (made-accepted s m) (point (goal.at.in_block-rank-requires c).Start) j n),
-      ) }
+      );
+    }
 
 pub overflow_mul-at : goal.overflow_mul-at
 overflow_mul-at c = omega (arith, few c)

@@ -1,22 +1,10 @@
 -- `position` meets its contract. The invariant: the position in the blocks so far, by Horner's rule. Assumes nothing.
-use mathlib.Core.Bool.{true}
-use mathlib.Core.List.{List, map}
-use mathlib.Core.Path.{◌≡◌, sym, ap, ◌∙◌, subst}
-use Prim.Native.Nat.{ℕ, ◌+◌, ◌-◌, ◌*◌, ◌≤◌, ◌<◌}
+use Prim.Native.Nat.{◌-◌, ◌≤◌}
 use lib.ListN.{take}
 use Rattle.combinatorics.specs.Lists.{sum}
-use Rattle.grid.proofs.Fields.{made-accepted, made-indices, made-blocks, made-size, made-division, made-first}
-use Rattle.grid.proofs.Fields.{made-count, blocks-range, indices-few, size-range, count-range}
-use Rattle.positions.proofs.Positions.{Horner, horner_start, horner_next, horner_few, horner_done, adds_up}
-use Rattle.positions.proofs.Positions.{map-front}
-use Rattle.grid_points.proofs.Round.{block-fits}
-use Rattle.grid_points.specs.Grid.{is_grid_point, num_indices, num_blocks, indices_of, first_index, size, division, lent}
-use Rattle.grid_points.specs.Grid.{block_points}
-use Rattle.grid_points.specs.Grid.{position, position_in, at as coordinate}
-use Rattle.grid.specs.Made.{shape}
+use Rattle.positions.proofs.Positions.{Horner}
+use Rattle.grid_points.specs.Grid.{lent}
 use Rattle.positions.specs.Steps.{after_steps}
-use borrow.Author.Rules.{rules}
-use native.Mathlib.Omega.{arith}
 use Rattle.positions.proofs.position.Given as goal
 
 abbrev pub invariant-loop-j : goal.invariant-loop-j

@@ -4,7 +4,6 @@ use Prim.Native.Nat.{ℕ, ◌-◌, ◌*◌, ◌/◌, ◌≤◌, ◌<◌}
 use native.Mathlib.Nat.{add-le-add, div-add-mod', div-le_self, div-mul-le_self, le_refl, mod-lt, mul-le-mul, mul-pos}
 use native.Mathlib.Omega.{arith}
 use mir.Facts.{Fits-le}
-use borrow.Author.Rules.{rules}
 use Rattle.rounding.specs.Centre.{centre as centre_of}
 use Rattle.rounding.proofs.Rounding.{nearest-above, nearest-below, nearest-only}
 use Rattle.rounding.proofs.centre.Goals as goal

@@ -1,5 +1,4 @@
 -- `decimal` meets its contract: a digit, and where there are more the digits before it. Assumes nothing.
-use Prim.Native.Nat.{◌<◌}
 use native.Mathlib.Omega.{arith}
 use Rattle.text.proofs.Decimals.{decimal-one, decimal_more, decimal-length}
 use Rattle.text.proofs.Parts.{part_join}

@@ -1,6 +1,5 @@
 -- `spaced` meets its contract: the blank and the number are one part. Assumes nothing.
 use native.Mathlib.Omega.{arith}
-use borrow.Author.Rules.{rules}
 use Rattle.text.specs.Line.{spaced as spaced_of}
 use Rattle.text.proofs.Parts.{part_join}
 use Rattle.text.proofs.spaced.Goals as goal

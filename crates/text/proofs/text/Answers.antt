@@ -1,11 +1,9 @@
 -- `text` meets its contract: after i turns the first i bytes are written. Assumes nothing.
 use mathlib.Core.Path.{◌≡◌, refl}
-use Prim.Native.Nat.{◌+◌, ◌-◌, ◌≤◌}
 use native.Mathlib.Omega.{arith}
 use native.Mathlib.Numerals.{add-one}
-use lib.ListN.{length, take, length-set}
+use lib.ListN.{length, length-set}
 use lib.Seq.{take-suc, take-length}
-use Rattle.text.specs.Part.{Part}
 use Rattle.text.proofs.Parts.{part_empty, part_byte, part_join}
 use Rattle.text.proofs.text.Goals as goal
 

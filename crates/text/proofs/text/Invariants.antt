@@ -1,12 +1,8 @@
 -- `text` meets its contract: after i turns the first i bytes are written. Assumes nothing.
-use mathlib.Core.Path.{◌≡◌, refl}
+use mathlib.Core.Path.{◌≡◌}
 use Prim.Native.Nat.{◌+◌, ◌-◌, ◌≤◌}
-use native.Mathlib.Omega.{arith}
-use native.Mathlib.Numerals.{add-one}
-use lib.ListN.{length, take, length-set}
-use lib.Seq.{take-suc, take-length}
+use lib.ListN.{length, take}
 use Rattle.text.specs.Part.{Part}
-use Rattle.text.proofs.Parts.{part_empty, part_byte, part_join}
 use Rattle.text.proofs.text.Given as goal
 
 abbrev pub invariant-loop-i : goal.invariant-loop-i

@@ -1,7 +1,6 @@
 -- `grid::Grid::block_of` meets its contract. Assumes nothing.
 use mathlib.Core.Path.{◌∙◌}
 use Rattle.grid.proofs.Fields.{indices-few, made-block}
-use borrow.Author.Rules.{rules}
 use native.Mathlib.Omega.{arith}
 use Rattle.grid.proofs.Grid.block_of.Goals as goal
 

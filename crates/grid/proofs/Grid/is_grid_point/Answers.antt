@@ -1,18 +1,16 @@
 -- `grid::Grid::is_grid_point` meets its contract. The invariant: whether the blocks so far add up. Assumes nothing.
 use mathlib.Core.List.{map}
 use mathlib.Core.Path.{◌≡◌, refl, sym, ◌∙◌}
-use Prim.Native.Nat.{◌-◌, ◌≤◌}
 use borrow.Author.Tests.{eq-eqb, ne_eqb}
-use lib.ListN.{length, take}
+use lib.ListN.{length}
 use Rattle.combinatorics.proofs.Turns.{all-counted, lowered, left_as}
-use Rattle.combinatorics.specs.Lists.{all, sum, up_from}
+use Rattle.combinatorics.specs.Lists.{sum}
 use Rattle.grid.proofs.Fields.{made-first, made-size, made-division, made-indices, made-blocks, blocks-range}
 use Rattle.grid.proofs.Fields.{size-range}
 use Rattle.grid_points.proofs.Points.{block_sum}
 use Rattle.grid_points.proofs.Round.{block-fits}
 use Rattle.grid_points.specs.Grid.{is_grid_point, at, indices_of, division, num_indices, num_blocks}
 use Rattle.grid.specs.Made.{shape}
-use borrow.Author.Rules.{rules}
 use native.Mathlib.Omega.{arith}
 use Rattle.grid.proofs.Grid.is_grid_point.Goals as goal
 use Rattle.grid.proofs.Grid.is_grid_point.Goals.{then-total-wide16, else-total-wide16}
@@ -68,8 +66,8 @@ loop-j-preserved c =
     c.wide16.ensures.0 ∙ made-division s m l.j (omega arith) in (
       rw (all-counted (block_sum (shape s).sizes (shape s).divisions y) l.j, ← l.invariant.0, ← t, ← d)
           (elim c.if-total-wide16.branch [
-          then-total-wide16 w ↦ lowered _ (ne_eqb _ _ w.if-total-wide16.true) w.good-is
-          | else-total-wide16 w ↦ left_as (eq-eqb _ _ w.if-total-wide16.false) w.good-is
+            | then-total-wide16 w ↦ lowered _ (ne_eqb _ _ w.if-total-wide16.true) w.good-is
+            | else-total-wide16 w ↦ left_as (eq-eqb _ _ w.if-total-wide16.false) w.good-is
           ]),
       omega arith,
       l.invariant.2,

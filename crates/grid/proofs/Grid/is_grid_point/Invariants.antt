@@ -1,19 +1,9 @@
 -- `grid::Grid::is_grid_point` meets its contract. The invariant: whether the blocks so far add up. Assumes nothing.
-use mathlib.Core.List.{map}
-use mathlib.Core.Path.{◌≡◌, refl, sym, ◌∙◌}
+use mathlib.Core.Path.{◌≡◌}
 use Prim.Native.Nat.{◌-◌, ◌≤◌}
-use borrow.Author.Tests.{eq-eqb, ne_eqb}
-use lib.ListN.{length, take}
-use Rattle.combinatorics.proofs.Turns.{all-counted}
-use Rattle.combinatorics.specs.Lists.{all, sum, up_from}
-use Rattle.grid.proofs.Fields.{made-first, made-size, made-division, made-indices, made-blocks, blocks-range}
-use Rattle.grid.proofs.Fields.{size-range}
+use lib.ListN.{take}
+use Rattle.combinatorics.specs.Lists.{all, up_from}
 use Rattle.grid_points.proofs.Points.{block_sum}
-use Rattle.grid_points.proofs.Round.{block-fits}
-use Rattle.grid_points.specs.Grid.{is_grid_point, at, indices_of, division, num_indices, num_blocks}
-use Rattle.grid.specs.Made.{shape}
-use borrow.Author.Rules.{rules}
-use native.Mathlib.Omega.{arith}
 use Rattle.grid.proofs.Grid.is_grid_point.Given as goal
 
 abbrev pub invariant-loop-j : goal.invariant-loop-j

@@ -2,7 +2,6 @@
 use mathlib.Core.Path.{sym, ◌∙◌}
 use borrow.Author.Tests.{eq-eqb, ne_eqb}
 use Rattle.grid.specs.Made.{made_of}
-use borrow.Author.Rules.{rules}
 use Rattle.grid.proofs.Grid.new.Goals as goal
 
 pub built-grid-requires : goal.built-grid-requires

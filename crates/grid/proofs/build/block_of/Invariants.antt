@@ -1,13 +1,10 @@
 -- `grid::build::block_of` meets its contract. The invariant: the block is found from block j on with what is left of
 -- the index. Assumes nothing.
-use mathlib.Core.Path.{◌≡◌, ◌∙◌}
+use mathlib.Core.Path.{◌≡◌}
 use Prim.Native.Nat.{◌+◌, ◌-◌, ◌<◌}
 use lib.ListN.{length, drop}
 use Rattle.combinatorics.specs.Lists.{sum}
-use Rattle.grid_points.proofs.Prefix.{some_left, find_turn, find_stop}
 use Rattle.grid_points.specs.Grid.{block_in}
-use borrow.Author.Rules.{rules}
-use native.Mathlib.Omega.{arith}
 use Rattle.grid.proofs.build.block_of.Given as goal
 
 abbrev pub invariant-loop-left : goal.invariant-loop-left

@@ -7,7 +7,6 @@ use Rattle.grid_points.proofs.Accepted.{Accepted, accepted}
 use Rattle.grid.specs.Build.{BlocksCounted}
 use Rattle.grid_points.specs.Grid.{next as after, previous as before, lent}
 use Rattle.grid.specs.Made.{grid_of}
-use borrow.Author.Rules.{rules}
 use native.Mathlib.Omega.{arith}
 use Rattle.grid.proofs.build.built.Goals as goal
 use Rattle.grid.proofs.build.built.Goals.{After-first_index-indices, After-mark_blocks, Start}

@@ -1,18 +1,13 @@
 -- `grid::build::mark_blocks` meets its contract. The invariant: the entries of the blocks so far stand at the front.
 -- Assumes nothing.
 use mathlib.Core.List.{map}
-use mathlib.Core.Path.{◌≡◌, sym, ◌∙◌}
+use mathlib.Core.Path.{◌≡◌}
 use Prim.Native.Nat.{◌≤◌, ◌-◌}
-use lib.ListN.{length, take, replicate}
-use Rattle.combinatorics.proofs.Fronts.{front-none, front-copy, front-whole}
-use Rattle.combinatorics.proofs.Turns.{front-counted}
+use lib.ListN.{length, take}
 use Rattle.combinatorics.specs.Lists.{up_from}
 use Rattle.combinatorics.specs.Front.{padded}
-use Rattle.grid_points.proofs.Accepted.{Accepted, accepted, count-few, size-two}
-use Rattle.grid_points.proofs.Round.{block-fits}
+use Rattle.grid_points.proofs.Accepted.{Accepted}
 use Rattle.grid_points.specs.Grid.{first_index, block_count, lent}
-use borrow.Author.Rules.{rules}
-use native.Mathlib.Omega.{arith}
 use Rattle.grid.proofs.build.mark_blocks.Given as goal
 
 abbrev pub invariant-loop-j : goal.invariant-loop-j

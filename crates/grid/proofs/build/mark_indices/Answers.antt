@@ -1,16 +1,14 @@
 -- `grid::build::mark_indices` meets its contract. The invariant: the entries of the indices so far stand at the front.
 -- Assumes nothing.
-use mathlib.Core.List.{[], map}
+use mathlib.Core.List.{[]}
 use mathlib.Core.Path.{◌≡◌, sym, ◌∙◌}
-use Prim.Native.Nat.{◌+◌, ◌≤◌, ◌<◌, ◌-◌}
+use Prim.Native.Nat.{◌+◌, ◌≤◌, ◌<◌}
 use lib.ListN.{length, get_or, take, replicate}
 use Rattle.combinatorics.proofs.Fronts.{front-none}
 use Rattle.combinatorics.proofs.Turns.{front-counted}
-use Rattle.combinatorics.specs.Lists.{sum, up_from}
-use Rattle.combinatorics.specs.Front.{padded}
+use Rattle.combinatorics.specs.Lists.{sum}
 use Rattle.grid_points.proofs.Round.{block_spans, block-fits}
 use Rattle.grid_points.specs.Grid.{block_in, next as after, previous as before, lent}
-use borrow.Author.Rules.{rules}
 use native.Mathlib.Omega.{arith}
 use Rattle.grid.proofs.build.mark_indices.Goals as goal
 use Rattle.grid.proofs.build.mark_indices.Goals.{After-block_of-j}

@@ -1,17 +1,12 @@
 -- `grid::build::mark_indices` meets its contract. The invariant: the entries of the indices so far stand at the front.
 -- Assumes nothing.
 use mathlib.Core.List.{[], map}
-use mathlib.Core.Path.{◌≡◌, sym, ◌∙◌}
-use Prim.Native.Nat.{◌+◌, ◌≤◌, ◌<◌, ◌-◌}
-use lib.ListN.{length, get_or, take, replicate}
-use Rattle.combinatorics.proofs.Fronts.{front-none}
-use Rattle.combinatorics.proofs.Turns.{front-counted}
+use mathlib.Core.Path.{◌≡◌}
+use Prim.Native.Nat.{◌≤◌, ◌-◌}
+use lib.ListN.{length}
 use Rattle.combinatorics.specs.Lists.{sum, up_from}
 use Rattle.combinatorics.specs.Front.{padded}
-use Rattle.grid_points.proofs.Round.{block_spans, block-fits}
 use Rattle.grid_points.specs.Grid.{block_in, next as after, previous as before, lent}
-use borrow.Author.Rules.{rules}
-use native.Mathlib.Omega.{arith}
 use Rattle.grid.proofs.build.mark_indices.Given as goal
 
 abbrev pub invariant-loop-h : goal.invariant-loop-h

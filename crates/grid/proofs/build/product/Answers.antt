@@ -2,17 +2,15 @@
 -- of. Assumes nothing.
 use mathlib.Core.List.{List}
 use mathlib.Core.Path.{◌≡◌, refl, sym, ◌∙◌}
-use Prim.Native.Nat.{ℕ, ◌+◌, ◌*◌, ◌≤◌, ◌<◌, ◌-◌}
-use lib.ListN.{get_or, take}
+use Prim.Native.Nat.{ℕ, ◌+◌, ◌*◌, ◌≤◌, ◌<◌}
+use lib.ListN.{get_or}
 use Rattle.combinatorics.proofs.Turns.{whole}
 use Rattle.grid_points.proofs.Accepted.{accepted, points-are}
 use Rattle.grid.proofs.Fields.{padded-at}
 use Rattle.grid_counts.proofs.Products.{product-next, product-below}
 use Rattle.grid.specs.Build.{BlocksCounted}
 use Rattle.grid_points.specs.Grid.{Grid, num_blocks, block_count}
-use Rattle.combinatorics.specs.Counting.{binomial_product}
 use Rattle.grid.specs.Made.{grid_of}
-use borrow.Author.Rules.{rules}
 use native.Mathlib.Omega.{arith}
 use Rattle.grid.proofs.build.product.Invariants.{so_far}
 use Rattle.grid.proofs.build.product.Goals as goal

@@ -1,19 +1,11 @@
 -- `grid::build::product` meets its contract. The invariant: the product of the counts so far, whichever grid they are
 -- of. Assumes nothing.
-use mathlib.Core.List.{List}
-use mathlib.Core.Path.{◌≡◌, refl, sym, ◌∙◌}
-use Prim.Native.Nat.{ℕ, ◌+◌, ◌*◌, ◌≤◌, ◌<◌, ◌-◌}
-use lib.ListN.{get_or, take}
-use Rattle.combinatorics.proofs.Turns.{whole}
-use Rattle.grid_points.proofs.Accepted.{accepted, points-are}
-use Rattle.grid.proofs.Fields.{padded-at}
-use Rattle.grid_counts.proofs.Products.{product-next, product-below}
+use mathlib.Core.Path.{◌≡◌}
+use Prim.Native.Nat.{ℕ, ◌≤◌, ◌-◌}
+use lib.ListN.{take}
 use Rattle.grid.specs.Build.{BlocksCounted}
-use Rattle.grid_points.specs.Grid.{Grid, num_blocks, block_count}
+use Rattle.grid_points.specs.Grid.{Grid}
 use Rattle.combinatorics.specs.Counting.{binomial_product}
-use Rattle.grid.specs.Made.{grid_of}
-use borrow.Author.Rules.{rules}
-use native.Mathlib.Omega.{arith}
 use Rattle.grid.proofs.build.product.Given as goal
 
 -- the product over the first j blocks, and what one block more makes of it

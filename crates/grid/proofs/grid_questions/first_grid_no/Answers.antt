@@ -3,7 +3,7 @@
 use mathlib.Core.Bool.{true}
 use mathlib.Core.Path.{◌≡◌, sym, ◌∙◌}
 use Prim.Native.Nat.{◌≤◌, ◌<◌}
-use borrow.Author.Tests.{le-leb, lt-leb, eq-eqb, ne_eqb, not-true, not-false}
+use borrow.Author.Tests.{le-leb, lt-leb, eq-eqb, ne_eqb}
 use lib.Dec.{leb}
 use lib.ListN.{length}
 use Rattle.combinatorics.proofs.Basics.{and_both}
@@ -14,7 +14,6 @@ use Rattle.grid_points.proofs.Listing.{num_points-is}
 use Rattle.grid_points.specs.Grid.{Grid, num_points, lent}
 use Rattle.combinatorics.specs.Counting.{binomial_product}
 use Rattle.grid_points.specs.Questions.{question1, question2, question3}
-use borrow.Author.Rules.{rules}
 use native.Mathlib.Omega.{arith}
 use Rattle.grid.proofs.grid_questions.first_grid_no.Goals as goal
 use Rattle.grid.proofs.grid_questions.first_grid_no.Goals.{After-first_index, Else-blocks-gt-MAX_BLOCKS, Else-first_index-gt-MAX_INDICES, Else-not-each_at_least, Else-not-each_one, Start}

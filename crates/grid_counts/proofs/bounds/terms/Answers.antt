@@ -9,7 +9,6 @@ use Rattle.combinatorics.proofs.Turns.{sum-counted}
 use Rattle.combinatorics.specs.Counting.{falling}
 use Rattle.combinatorics.specs.Lists.{sum as total, up_from}
 use Rattle.combinatorics.proofs.Terms.{terms_few, term_few}
-use borrow.Author.Rules.{rules}
 use native.Mathlib.Omega.{arith}
 use Rattle.grid_counts.proofs.bounds.terms.Goals as goal
 use Rattle.grid_counts.proofs.bounds.terms.Goals.{In-loop-k}

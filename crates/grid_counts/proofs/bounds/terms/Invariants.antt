@@ -1,16 +1,10 @@
 -- `bounds::terms` meets its contract. The invariant: the product has k factors, and the sum the terms up to it.
 -- Assumes nothing.
 use mathlib.Core.List.{map}
-use mathlib.Core.Path.{◌≡◌, refl, sym, ◌∙◌}
-use Prim.Native.Nat.{◌+◌, ◌*◌, ◌-◌, ◌≤◌}
-use native.Mathlib.Numerals.{add-one}
-use Rattle.combinatorics.proofs.Binomials.{falling-next}
-use Rattle.combinatorics.proofs.Turns.{sum-counted}
+use mathlib.Core.Path.{◌≡◌}
+use Prim.Native.Nat.{◌+◌, ◌-◌, ◌≤◌}
 use Rattle.combinatorics.specs.Counting.{falling}
 use Rattle.combinatorics.specs.Lists.{sum as total, up_from}
-use Rattle.combinatorics.proofs.Terms.{terms_few, term_few}
-use borrow.Author.Rules.{rules}
-use native.Mathlib.Omega.{arith}
 use Rattle.grid_counts.proofs.bounds.terms.Given as goal
 
 abbrev pub invariant-loop-k : goal.invariant-loop-k

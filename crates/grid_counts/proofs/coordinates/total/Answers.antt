@@ -1,12 +1,8 @@
 -- `coordinates::total` meets its contract. The invariant: the sum of the first i coordinates of the block.
 -- Assumes nothing.
-use mathlib.Core.List.{map}
 use mathlib.Core.Path.{◌≡◌, refl, sym, ◌∙◌}
-use Prim.Native.Nat.{◌+◌, ◌*◌, ◌-◌, ◌≤◌}
-use lib.ListN.{length, get_or}
+use lib.ListN.{get_or}
 use Rattle.combinatorics.proofs.Turns.{sum-counted}
-use Rattle.combinatorics.specs.Lists.{sum, up_from}
-use borrow.Author.Rules.{rules}
 use native.Mathlib.Omega.{arith}
 use Rattle.grid_counts.proofs.coordinates.total.Goals as goal
 

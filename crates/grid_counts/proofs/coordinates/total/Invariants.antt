@@ -1,13 +1,10 @@
 -- `coordinates::total` meets its contract. The invariant: the sum of the first i coordinates of the block.
 -- Assumes nothing.
 use mathlib.Core.List.{map}
-use mathlib.Core.Path.{◌≡◌, refl, sym, ◌∙◌}
+use mathlib.Core.Path.{◌≡◌}
 use Prim.Native.Nat.{◌+◌, ◌*◌, ◌-◌, ◌≤◌}
 use lib.ListN.{length, get_or}
-use Rattle.combinatorics.proofs.Turns.{sum-counted}
 use Rattle.combinatorics.specs.Lists.{sum, up_from}
-use borrow.Author.Rules.{rules}
-use native.Mathlib.Omega.{arith}
 use Rattle.grid_counts.proofs.coordinates.total.Given as goal
 
 abbrev pub invariant-loop-i : goal.invariant-loop-i

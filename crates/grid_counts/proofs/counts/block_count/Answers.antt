@@ -1,13 +1,11 @@
 -- `counts::block_count` meets its contract. The invariant: the row holds the binomials of r, capped.
 -- Assumes nothing.
 use mathlib.Core.Path.{◌≡◌, refl, sym, ap, ◌∙◌}
-use Prim.Native.Nat.{◌≤◌, ◌<◌, ◌-◌, pred}
-use lib.ListN.{length}
+use Prim.Native.Nat.{◌-◌, pred}
 use native.Mathlib.Numerals.{add-one, sub-one}
 use Rattle.combinatorics.proofs.Binomials.{choose_one}
 use Rattle.grid_counts.proofs.Capped.{first-row, past}
-use Rattle.grid_counts.specs.Capped.{capped, IsRow}
-use borrow.Author.Rules.{rules}
+use Rattle.grid_counts.specs.Capped.{capped}
 use native.Mathlib.Omega.{arith}
 use Rattle.grid_counts.proofs.counts.block_count.Goals as goal
 

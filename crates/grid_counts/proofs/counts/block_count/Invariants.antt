@@ -1,14 +1,9 @@
 -- `counts::block_count` meets its contract. The invariant: the row holds the binomials of r, capped.
 -- Assumes nothing.
-use mathlib.Core.Path.{◌≡◌, refl, sym, ap, ◌∙◌}
+use mathlib.Core.Path.{◌≡◌}
 use Prim.Native.Nat.{◌≤◌, ◌<◌, ◌-◌, pred}
 use lib.ListN.{length}
-use native.Mathlib.Numerals.{add-one, sub-one}
-use Rattle.combinatorics.proofs.Binomials.{choose_one}
-use Rattle.grid_counts.proofs.Capped.{first-row, past}
-use Rattle.grid_counts.specs.Capped.{capped, IsRow}
-use borrow.Author.Rules.{rules}
-use native.Mathlib.Omega.{arith}
+use Rattle.grid_counts.specs.Capped.{IsRow}
 use Rattle.grid_counts.proofs.counts.block_count.Given as goal
 
 abbrev pub invariant-loop-r : goal.invariant-loop-r

@@ -1,11 +1,8 @@
 -- `counts::next_row` meets its contract. The invariant: before k stand the binomials of the next row, from k on
 -- those of the old one. Assumes nothing.
-use mathlib.Core.Path.{◌≡◌}
-use Prim.Native.Nat.{ℕ, suc, ◌≤◌, ◌<◌, ◌-◌}
-use lib.ListN.{length, length-set, get_or}
-use Rattle.grid_counts.specs.Capped.{IsRow}
-use Rattle.grid_counts.proofs.Capped.{Raised, raised-start, raised-end, raised_turn, small_turn}
-use borrow.Author.Rules.{rules}
+use Prim.Native.Nat.{◌-◌}
+use lib.ListN.{length-set}
+use Rattle.grid_counts.proofs.Capped.{raised-start, raised-end, raised_turn, small_turn}
 use native.Mathlib.Omega.{arith}
 use Rattle.grid_counts.proofs.counts.next_row.Goals as goal
 

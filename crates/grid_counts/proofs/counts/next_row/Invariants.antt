@@ -2,11 +2,9 @@
 -- those of the old one. Assumes nothing.
 use mathlib.Core.Path.{◌≡◌}
 use Prim.Native.Nat.{ℕ, suc, ◌≤◌, ◌<◌, ◌-◌}
-use lib.ListN.{length, length-set, get_or}
+use lib.ListN.{length, get_or}
 use Rattle.grid_counts.specs.Capped.{IsRow}
-use Rattle.grid_counts.proofs.Capped.{Raised, raised-start, raised-end, raised_turn, small_turn}
-use borrow.Author.Rules.{rules}
-use native.Mathlib.Omega.{arith}
+use Rattle.grid_counts.proofs.Capped.{Raised}
 use Rattle.grid_counts.proofs.counts.next_row.Given as goal
 
 abbrev pub invariant-loop-k : goal.invariant-loop-k

@@ -1,7 +1,6 @@
 -- `round::index_after` meets its contract. Assumes nothing.
 use Prim.Native.Nat.{suc, ◌+◌}
 use borrow.Author.Tests.{eq-eqb, ne_eqb}
-use borrow.Author.Rules.{rules}
 use native.Mathlib.Omega.{arith}
 use Rattle.grid_counts.proofs.round.index_after.Goals as goal
 

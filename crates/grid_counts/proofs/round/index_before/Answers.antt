@@ -2,7 +2,6 @@
 use Prim.Native.Nat.{◌+◌}
 use borrow.Author.Tests.{eq-eqb, ne_eqb}
 use native.Mathlib.Numerals.{sub-one}
-use borrow.Author.Rules.{rules}
 use Rattle.grid_counts.proofs.round.index_before.Goals as goal
 
 pub returns-then-h-first : goal.returns-then-h-first

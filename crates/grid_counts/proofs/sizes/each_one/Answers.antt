@@ -1,11 +1,8 @@
 -- `sizes::each_one` meets its contract. The invariant: the answer for the divisions so far. Assumes nothing.
-use mathlib.Core.Path.{◌≡◌, refl, ◌∙◌}
-use Prim.Native.Nat.{◌≤◌, ◌-◌}
+use mathlib.Core.Path.{refl, ◌∙◌}
 use borrow.Author.Tests.{le-leb, lt-leb}
 use lib.Dec.{leb}
-use lib.ListN.{length, take}
 use Rattle.combinatorics.proofs.Turns.{all-next, lowered, left_as, whole}
-use Rattle.combinatorics.specs.Lists.{all}
 use borrow.Author.Rules.{rules}
 use native.Mathlib.Omega.{arith}
 use Rattle.grid_counts.proofs.sizes.each_one.Goals as goal

@@ -1,13 +1,9 @@
 -- `sizes::each_one` meets its contract. The invariant: the answer for the divisions so far. Assumes nothing.
-use mathlib.Core.Path.{◌≡◌, refl, ◌∙◌}
+use mathlib.Core.Path.{◌≡◌}
 use Prim.Native.Nat.{◌≤◌, ◌-◌}
-use borrow.Author.Tests.{le-leb, lt-leb}
 use lib.Dec.{leb}
 use lib.ListN.{length, take}
-use Rattle.combinatorics.proofs.Turns.{all-next, whole}
 use Rattle.combinatorics.specs.Lists.{all}
-use borrow.Author.Rules.{rules}
-use native.Mathlib.Omega.{arith}
 use Rattle.grid_counts.proofs.sizes.each_one.Given as goal
 
 abbrev pub invariant-loop-j : goal.invariant-loop-j

@@ -1,10 +1,6 @@
 -- `sizes::first_index` meets its contract. The invariant: the sum of the sizes so far. Assumes nothing.
 use mathlib.Core.Path.{◌≡◌, refl, ◌∙◌}
-use Prim.Native.Nat.{◌*◌, ◌-◌, ◌≤◌}
-use lib.ListN.{length, take}
 use Rattle.combinatorics.proofs.Turns.{sum-next}
-use Rattle.combinatorics.specs.Lists.{sum}
-use borrow.Author.Rules.{rules}
 use native.Mathlib.Omega.{arith}
 use Rattle.grid_counts.proofs.sizes.first_index.Goals as goal
 

@@ -1,11 +1,8 @@
 -- `sizes::first_index` meets its contract. The invariant: the sum of the sizes so far. Assumes nothing.
-use mathlib.Core.Path.{◌≡◌, refl, ◌∙◌}
+use mathlib.Core.Path.{◌≡◌}
 use Prim.Native.Nat.{◌*◌, ◌-◌, ◌≤◌}
 use lib.ListN.{length, take}
-use Rattle.combinatorics.proofs.Turns.{sum-next}
 use Rattle.combinatorics.specs.Lists.{sum}
-use borrow.Author.Rules.{rules}
-use native.Mathlib.Omega.{arith}
 use Rattle.grid_counts.proofs.sizes.first_index.Given as goal
 
 abbrev pub invariant-loop-i : goal.invariant-loop-i

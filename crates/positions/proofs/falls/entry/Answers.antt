@@ -5,7 +5,6 @@ use Rattle.combinatorics.proofs.Binomials.{choose_one}
 use Rattle.positions.proofs.Table.{place-below, lists-row}
 use Rattle.positions.specs.Binomials.{lists}
 use native.Mathlib.Omega.{arith}
-use borrow.Author.Rules.{rules}
 use Rattle.positions.proofs.falls.entry.Goals as goal
 
 pub overflow_sub-place : goal.overflow_sub-place

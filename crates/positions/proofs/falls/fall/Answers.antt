@@ -8,7 +8,6 @@ use Rattle.positions.proofs.ByTails.{all-indices, falls_by}
 use Rattle.positions.proofs.Table.{in_table, in_smaller, lists-grow}
 use Rattle.positions.specs.Binomials.{InTable, IsBinomial}
 use native.Mathlib.Omega.{arith}
-use borrow.Author.Rules.{rules}
 use Rattle.positions.proofs.falls.fall.Goals as goal
 use Rattle.positions.proofs.falls.fall.Goals.{After-entry-2, Start}
 

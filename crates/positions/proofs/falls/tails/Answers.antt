@@ -1,12 +1,11 @@
 -- `falls::tails` meets its contract. The invariant: the tails from k on stand in the array, and the last is that of k.
 -- Assumes nothing.
 use mathlib.Core.Path.{◌≡◌, refl}
-use Prim.Native.Nat.{ℕ, suc, ◌+◌, ◌-◌, ◌*◌, ◌≤◌, ◌<◌}
-use lib.ListN.{length, length-set}
+use Prim.Native.Nat.{ℕ, suc, ◌+◌, ◌-◌, ◌≤◌, ◌<◌}
+use lib.ListN.{length-set}
 use Rattle.combinatorics.proofs.Turns.{at_set}
 use Rattle.grid_points.specs.Grid.{Point, at}
 use Rattle.positions.proofs.ByTails.{tail}
-use borrow.Author.Rules.{rules}
 use native.Mathlib.Omega.{arith}
 use Rattle.positions.proofs.falls.tails.Goals as goal
 use Rattle.positions.proofs.falls.tails.Goals.{After-wide16}

@@ -10,7 +10,6 @@ use Rattle.positions.proofs.Steps.{after-at}
 use Rattle.positions.proofs.Table.{in_table, in_smaller}
 use Rattle.grid_points.specs.Grid.{at}
 use Rattle.positions.specs.Steps.{after_steps}
-use borrow.Author.Rules.{rules}
 use native.Mathlib.Omega.{arith}
 use Rattle.positions.proofs.ranks.in_block.Goals as goal
 use Rattle.positions.proofs.ranks.in_block.Goals.{After-wide16-3, After-wide16-in-loop-k, Start}
@@ -71,13 +70,16 @@ lists_before-rank-requires c =
     let l = c.loop-k in
     let t = taken c in
     let room = in_table l.k c.args.division (pred c.args.size) (omega arith) (omega arith)
-    (omega (arith, c.requires.le_size.1)) c.requires.le_size.2 in record { in_table = (
+    (omega (arith, c.requires.le_size.1)) c.requires.le_size.2 in record {
+      in_table = (
         in_smaller l.k c.args.division room l.k l.left (omega arith) (omega arith) l.invariant.3,
         omega (arith, t.0),
-      ); binomial = (
+      );
+      binomial = (
         c.requires.has_rows.0 l.k l.left (omega arith) l.invariant.1 l.invariant.3,
         c.requires.has_rows.0 l.k _ (omega arith) l.invariant.1 (omega arith),
-      ) }
+      );
+    }
 
 pub overflow_add-rank : goal.overflow_add-rank
 overflow_add-rank c =

@@ -1,17 +1,12 @@
 -- `ranks::in_block` meets its contract. The invariant: the rank and the position of the k + 1 coordinates to come make
 -- the position of all. Assumes nothing.
-use mathlib.Core.List.{List, map}
-use mathlib.Core.Path.{◌≡◌, sym, ap, ◌∙◌, subst}
-use Prim.Native.Nat.{ℕ, ◌+◌, ◌-◌, ◌≤◌, ◌<◌, pred}
-use Rattle.combinatorics.specs.Counting.{choose}
+use mathlib.Core.List.{map}
+use mathlib.Core.Path.{◌≡◌}
+use Prim.Native.Nat.{◌+◌, ◌≤◌, ◌<◌}
 use Rattle.combinatorics.specs.Lists.{sum, up_from}
-use Rattle.positions.proofs.Positions.{rank_of, rank_turn, rank_end, rank_below}
-use Rattle.positions.proofs.Steps.{after-at}
-use Rattle.positions.proofs.Table.{in_table, in_smaller}
+use Rattle.positions.proofs.Positions.{rank_of}
 use Rattle.grid_points.specs.Grid.{at}
 use Rattle.positions.specs.Steps.{after_steps}
-use borrow.Author.Rules.{rules}
-use native.Mathlib.Omega.{arith}
 use Rattle.positions.proofs.ranks.in_block.Given as goal
 
 abbrev pub invariant-loop-k : goal.invariant-loop-k

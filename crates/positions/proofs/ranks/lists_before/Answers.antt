@@ -2,7 +2,6 @@
 use Prim.Native.Nat.{◌-◌, ◌≤◌}
 use Rattle.combinatorics.proofs.Binomials.{choose-grows}
 use Rattle.positions.proofs.Table.{place-below, in_smaller}
-use borrow.Author.Rules.{rules}
 use native.Mathlib.Omega.{arith}
 use Rattle.positions.proofs.ranks.lists_before.Goals as goal
 use Rattle.positions.proofs.ranks.lists_before.Goals.{After-wide16-2}

@@ -3,7 +3,6 @@ use mathlib.Core.Path.{◌≡◌, sym}
 use Prim.Native.Nat.{◌-◌}
 use Rattle.combinatorics.proofs.Binomials.{choose_one}
 use Rattle.positions.proofs.Table.{place-below, in_smaller}
-use borrow.Author.Rules.{rules}
 use native.Mathlib.Omega.{arith}
 use Rattle.positions.proofs.tables.entry_before.Goals as goal
 

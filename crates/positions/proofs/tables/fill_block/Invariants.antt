@@ -1,13 +1,9 @@
 -- `tables::fill_block` meets its contract. The invariant: the rows before k are right, and no entry was spoilt.
 -- Assumes nothing.
 use mathlib.Core.Path.{◌≡◌}
-use Prim.Native.Nat.{◌-◌, ◌≤◌, pred}
+use Prim.Native.Nat.{◌-◌, ◌≤◌}
 use lib.ListN.{length}
-use Rattle.combinatorics.proofs.Binomials.{choose-grows}
-use Rattle.positions.proofs.Table.{keeps_self, keeps_both, in_table, rows_next}
-use Rattle.positions.specs.Binomials.{InTable, HasRows, Keeps}
-use borrow.Author.Rules.{rules}
-use native.Mathlib.Omega.{arith}
+use Rattle.positions.specs.Binomials.{HasRows, Keeps}
 use Rattle.positions.proofs.tables.fill_block.Given as goal
 
 abbrev pub invariant-loop-k : goal.invariant-loop-k

@@ -2,14 +2,13 @@
 -- was spoilt. Assumes nothing.
 use mathlib.Core.Logic.{⊎_elim}
 use mathlib.Core.Path.{◌≡◌, sym, subst}
-use Prim.Native.Nat.{ℕ, ◌+◌, ◌-◌, ◌*◌, ◌≤◌}
-use lib.ListN.{length, length-set, set}
+use Prim.Native.Nat.{ℕ, ◌+◌, ◌-◌, ◌*◌}
+use lib.ListN.{length-set, set}
 use Rattle.combinatorics.proofs.Basics.{before_or_not}
 use Rattle.combinatorics.proofs.Binomials.{choose-none, choose-grows}
 use Rattle.combinatorics.specs.Counting.{choose}
 use Rattle.positions.proofs.Table.{keeps_self, keeps_both, in_smaller, stored_is, stored-keeps, row_next}
 use Rattle.positions.specs.Binomials.{IsBinomial, Keeps}
-use borrow.Author.Rules.{rules}
 use native.Mathlib.Omega.{arith}
 use Rattle.positions.proofs.tables.fill_row.Goals as goal
 use Rattle.positions.proofs.tables.fill_row.Goals.{After-entry_before-last, Start}

@@ -1,16 +1,10 @@
 -- `tables::fill_row` meets its contract. The invariant: the row is right as far as r, whose entry is last, and no entry
 -- was spoilt. Assumes nothing.
-use mathlib.Core.Logic.{⊎_elim}
-use mathlib.Core.Path.{◌≡◌, sym, subst}
-use Prim.Native.Nat.{ℕ, ◌+◌, ◌-◌, ◌*◌, ◌≤◌}
-use lib.ListN.{length, length-set, set}
-use Rattle.combinatorics.proofs.Basics.{before_or_not}
-use Rattle.combinatorics.proofs.Binomials.{choose-none, choose-grows}
+use mathlib.Core.Path.{◌≡◌}
+use Prim.Native.Nat.{ℕ, ◌+◌, ◌-◌, ◌≤◌}
+use lib.ListN.{length}
 use Rattle.combinatorics.specs.Counting.{choose}
-use Rattle.positions.proofs.Table.{keeps_self, keeps_both, in_smaller, stored_is, stored-keeps, row_next}
 use Rattle.positions.specs.Binomials.{IsBinomial, Keeps}
-use borrow.Author.Rules.{rules}
-use native.Mathlib.Omega.{arith}
 use Rattle.positions.proofs.tables.fill_row.Given as goal
 
 abbrev pub invariant-loop-r : goal.invariant-loop-r
