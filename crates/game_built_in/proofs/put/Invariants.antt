@@ -7,7 +7,8 @@ use Rattle.game_built_in.proofs.put.Given as goal
 
 abbrev pub invariant-loop-i : goal.invariant-loop-i
 invariant-loop-i l =
-    (l.room ≡ front (take l.i l.losses) l.initial.room) × (l.i ≤ length l.losses) × (length l.room ≡ length l.initial.room)
+    (l.room ≡ front (take l.i l.losses) l.initial.room) × (l.i ≤ length l.losses)
+    × (length l.room ≡ length l.initial.room)
 
 abbrev pub decreases-loop-i : goal.decreases-loop-i
 decreases-loop-i l = length l.losses - l.i

@@ -24,14 +24,19 @@ long : (c : Start)
 long c = point-long (lent c.args.sizes.now c.args.divisions.now) c.args.point.now c.requires.game_at.is_point
 
 some : (c : Start) → 0 < length c.args.point.now
-some c = omega (arith, long c, block-fits c.args.sizes.now 0, size-two c.requires.game_at 0 c.requires.game_at.grid.some_block)
+some c =
+    let game = c.requires.game_at in
+    omega (arith, long c, block-fits c.args.sizes.now 0, size-two game 0 game.grid.some_block)
 
 pub first_largest-i-requires : goal.first_largest-i-requires
 first_largest-i-requires c =
-    (some (goal.at.first_largest-i-requires c).Start, omega (arith, long (goal.at.first_largest-i-requires c).Start, c.requires.game_at.grid.few_indices))
+    let s = (goal.at.first_largest-i-requires c).Start in
+    (some s, omega (arith, long s, c.requires.game_at.grid.few_indices))
 
 index-low : (c : After-first_largest-i) → c.first_largest-i.result < 16
-index-low c = omega (arith, c.first_largest-i.ensures.1, long (goal.at.After-first_largest-i c).Start, c.requires.game_at.grid.few_indices)
+index-low c =
+    let s = (goal.at.After-first_largest-i c).Start in
+    omega (arith, c.first_largest-i.ensures.1, long s, c.requires.game_at.grid.few_indices)
 
 pub overflow_cast-result : goal.overflow_cast-result
 overflow_cast-result c = omega (arith, index-low c)

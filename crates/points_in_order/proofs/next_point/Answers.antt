@@ -69,14 +69,19 @@ slice_bounds-advance_block-end c = let e = first-is c in let i = inside c in sea
 pub advance_block-requires : goal.advance_block-requires
 advance_block-requires c =
     let l = c.loop-j in
-    lent-ready c.args.sizes.now c.args.point.now (l.j - 1) l.point (omega arith) (state (goal.at.advance_block-requires c).After-wide)
-    c.wide-first.result c.wide.result (first-is (goal.at.advance_block-requires c).After-wide)
-    c.wide.ensures c.requires.0 c.args.firsts.now c.requires.1
+    let w = (goal.at.advance_block-requires c).After-wide in
+    lent-ready c.args.sizes.now c.args.point.now (l.j - 1) l.point (omega arith) (state w)
+    c.wide-first.result c.wide.result (first-is w) c.wide.ensures c.requires.0 c.args.firsts.now c.requires.1
 
 pub returns-then-advance_block : goal.returns-then-advance_block
 returns-then-advance_block c =
     let a = c.advance_block in
-    let p = turned (goal.at.returns-then-advance_block c).After-wide a.new.block true (a.ensures ∙ ap (λ (b : Bool). point_step b a.new.block) c.if-advance_block.true) in record { point_after = passed_moved c.args.sizes.now c.args.point.now (c.loop-j.j - 1) _ p; upper_bound = (omega arith, p.before) }
+    let p = turned (goal.at.returns-then-advance_block c).After-wide a.new.block true
+    (a.ensures ∙ ap (λ (b : Bool). point_step b a.new.block) c.if-advance_block.true) in
+    record {
+      point_after = passed_moved c.args.sizes.now c.args.point.now (c.loop-j.j - 1) _ p;
+      upper_bound = (omega arith, p.before);
+    }
 
 pub loop-j-preserved : goal.loop-j-preserved
 loop-j-preserved c =
@@ -90,4 +95,9 @@ loop-j-preserved c =
 pub returns : goal.returns
 returns c =
     let l = c.loop-j in
-    let e : l.j ≡ 0 = omega arith in record { point_after = passed_end c.args.sizes.now c.args.point.now l.point (rw e at l.invariant.0); upper_bound = (omega (arith, (accepted (lent c.args.sizes.now c.requires.0) c.requires.1.grid.accepted).some_block), refl) }
+    let e : l.j ≡ 0 = omega arith in
+    record {
+      point_after = passed_end c.args.sizes.now c.args.point.now l.point (rw e at l.invariant.0);
+      upper_bound =
+          (omega (arith, (accepted (lent c.args.sizes.now c.requires.0) c.requires.1.grid.accepted).some_block), refl);
+    }

@@ -13,7 +13,8 @@ IsDifference expected replaced i z = (z ≡ pos (at expected i) -ℤ pos (at rep
 
 abbrev pub invariant-loop-h : goal.invariant-loop-h
 invariant-loop-h l =
-    ((i : ℕ) → i < l.h → IsDifference l.expected l.replaced i (signed_at l.differences i)) × (l.h ≤ 16) × (length l.differences ≡ 16)
+    ((i : ℕ) → i < l.h → IsDifference l.expected l.replaced i (signed_at l.differences i)) × (l.h ≤ 16)
+    × (length l.differences ≡ 16)
 
 abbrev pub decreases-loop-h : goal.decreases-loop-h
 decreases-loop-h l = 16 - l.h

@@ -8,7 +8,8 @@ use Rattle.game_corners.proofs.picking.pick.Given as goal
 
 abbrev pub invariant-loop-h : goal.invariant-loop-h
 invariant-loop-h l =
-    ((i : ℕ) → i < l.h → at l.values i ≡ picked_at l.owners l.levels l.last l.k i) × (l.h ≤ l.indices) × (length l.values ≡ 16)
+    ((i : ℕ) → i < l.h → at l.values i ≡ picked_at l.owners l.levels l.last l.k i) × (l.h ≤ l.indices)
+    × (length l.values ≡ 16)
 
 abbrev pub decreases-loop-h : goal.decreases-loop-h
 decreases-loop-h l = l.indices - l.h

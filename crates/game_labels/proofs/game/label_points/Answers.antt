@@ -176,8 +176,8 @@ label_point-label-requires c =
     let s = (goal.at.label_point-label-requires c).Start in
     let i = c.loop-k.invariant in
     let stand = c.weigh_changed.ensures.cornered c.args.losses.now i.7 i.8 in
-    let rows = lent_rows (g s) c.args.firsts.now c.args.losses.now c.args.ones.now c.requires.ones_are c.loop-k.point (here w) _
-    stand c.wide-from.result i.9 (omega arith) in
+    let rows = lent_rows (g s) c.args.firsts.now c.args.losses.now c.args.ones.now c.requires.ones_are c.loop-k.point
+    (here w) _ stand c.wide-from.result i.9 (omega arith) in
     (omega (arith, long w, blocks-few (g s) (yes s), (yes s).some_block), rw (long w) rows)
 
 pub next_point-first-requires : goal.next_point-first-requires
@@ -201,13 +201,15 @@ loop-k-preserved c =
     let z : Point = a.new.point in
     let label = c.label_point-label in
     let is : label.result ≡ game_label (g s) losses c.loop-k.point = label.ensures
-    ∙ rw (long w) (lent-label (g s) c.args.firsts.now losses c.args.ones.now c.requires.ones_are c.loop-k.point (here w) _ stand
-    c.wide-from.result i.9) in
+    ∙ rw (long w) (lent-label (g s) c.args.firsts.now losses c.args.ones.now c.requires.ones_are c.loop-k.point
+    (here w) _ stand c.wide-from.result i.9) in
     let ended : ltb a.result (length ss - 1) ≡ false → a.result ≡ last_player (g s) = λ f.
     omega (arith, ltb-false a.result (length ss - 1) f, a.ensures.upper_bound.0) in (
       rw (i.0, is)
-          (label-written (g s) c.loop-k.k losses c.args.buffer.now (inside w) c.requires.whole c.loop-k.point (i.1 (inside w))),
-      (λ h. a.ensures.point_after ∙ next-point (g s) c.args.firsts.now c.requires.grid c.loop-k.k h c.loop-k.point (i.1 (inside w))),
+          (label-written (g s) c.loop-k.k losses c.args.buffer.now (inside w) c.requires.whole c.loop-k.point
+          (i.1 (inside w))),
+      (λ h. a.ensures.point_after
+          ∙ next-point (g s) c.args.firsts.now c.requires.grid c.loop-k.k h c.loop-k.point (i.1 (inside w))),
       omega arith,
       simp length-set i.3,
       omega arith,

@@ -16,8 +16,10 @@ use Rattle.game_labels.proofs.game.label_points.Given as goal
 abbrev pub invariant-loop-k : goal.invariant-loop-k
 invariant-loop-k l =
     let g = lent l.sizes l.divisions in
-    (l.buffer ≡ front (take l.k (labels g l.losses)) l.initial.buffer) × (l.k < num_points g → l.point ≡ get_or (points g) l.k [])
-    × (l.k ≤ length l.initial.buffer) × (length l.buffer ≡ length l.initial.buffer) × (length l.levels ≡ 15552) × (length l.point ≡ length l.initial.point)
+    (l.buffer ≡ front (take l.k (labels g l.losses)) l.initial.buffer)
+    × (l.k < num_points g → l.point ≡ get_or (points g) l.k [])
+    × (l.k ≤ length l.initial.buffer) × (length l.buffer ≡ length l.initial.buffer) × (length l.levels ≡ 15552)
+    × (length l.point ≡ length l.initial.point)
     × (length l.differences ≡ 256) × StandTo (lent l.sizes []) l.losses l.point l.first l.levels
     × (l.changed ≡ false → Cornered (lent l.sizes l.ones) l.losses l.point (size g (last_player g)) l.differences)
     × (l.from ≡ first_index g (last_player g)) × (l.indices ≡ length l.initial.point) × (l.first < length l.sizes)

@@ -55,10 +55,16 @@ pub slice_bounds-put_losses-end : goal.slice_bounds-put_losses-end
 slice_bounds-put_losses-end c = let e = first-is c in let i = inside c in search rules
 
 pub offset_bounds-values-first : goal.offset_bounds-values-first
-offset_bounds-values-first c = omega (arith, first-is (goal.at.offset_bounds-values-first c).After-wide, inside_values (goal.at.offset_bounds-values-first c).After-wide)
+offset_bounds-values-first c =
+    let w = (goal.at.offset_bounds-values-first c).After-wide in
+    omega (arith, first-is w, inside_values w)
 
 pub slice_bounds-put_losses-end-2 : goal.slice_bounds-put_losses-end-2
-slice_bounds-put_losses-end-2 c = let e = first-is (goal.at.slice_bounds-put_losses-end-2 c).After-wide in let i = inside_values (goal.at.slice_bounds-put_losses-end-2 c).After-wide in search rules
+slice_bounds-put_losses-end-2 c =
+    let w = (goal.at.slice_bounds-put_losses-end-2 c).After-wide in
+    let e = first-is w in
+    let i = inside_values w in
+    search rules
 
 pub bounds-divisions-player : goal.bounds-divisions-player
 bounds-divisions-player c = omega (

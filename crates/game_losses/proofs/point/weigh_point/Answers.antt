@@ -48,4 +48,7 @@ returns c =
     let l = c.loop-player in
     let w : take l.player c.args.sizes.now ≡ c.args.sizes.now =
     take_all l.player c.args.sizes.now (omega arith) in
-    record { expected_after = (λ t stand. l.invariant.0 t stand ∙ rw w); replaced_after = λ t stand. l.invariant.1 t stand ∙ rw w }
+    record {
+      expected_after = λ t stand. l.invariant.0 t stand ∙ rw w;
+      replaced_after = λ t stand. l.invariant.1 t stand ∙ rw w;
+    }

@@ -17,7 +17,8 @@ invariant-loop-player l =
     × ((t : List ℕ) → StrategiesStand (lent l.sizes l.divisions) t l.point l.values
     → l.replaced
     ≡ front (map (replaced_loss (lent l.sizes l.divisions) t l.point) (up_from 0 (sum (take l.player l.sizes)))) l.initial.replaced)
-    × (l.player ≤ length l.sizes) × (length l.expected ≡ length l.initial.expected) × (length l.replaced ≡ length l.initial.replaced)
+    × (l.player ≤ length l.sizes) × (length l.expected ≡ length l.initial.expected)
+    × (length l.replaced ≡ length l.initial.replaced)
 
 abbrev pub decreases-loop-player : goal.decreases-loop-player
 decreases-loop-player l = length l.sizes - l.player

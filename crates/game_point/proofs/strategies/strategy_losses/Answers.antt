@@ -21,7 +21,12 @@ loop-h-init c = ((λ i l. absurd (omega arith)), omega arith, refl)
 
 pub strategy_loss-value-requires : goal.strategy_loss-value-requires
 strategy_loss-value-requires c =
-    record { by_index = c.requires.by_index; rests = c.requires.rests; count_value = (c.num_profiles-count.ensures, omega (arith, long (goal.at.strategy_loss-value-requires c).Start)) }
+    record {
+      by_index = c.requires.by_index;
+      rests = c.requires.rests;
+      count_value =
+          (c.num_profiles-count.ensures, omega (arith, long (goal.at.strategy_loss-value-requires c).Start));
+    }
 
 pub offset_bounds-values-h : goal.offset_bounds-values-h
 offset_bounds-values-h c =
@@ -35,7 +40,8 @@ pub loop-h-preserved : goal.loop-h-preserved
 loop-h-preserved c =
     let l = c.loop-h in (
       entries_turn (own_loss (lent c.args.sizes.now []) c.args.losses.now c.args.point.now) l.values
-          l.h _ (omega (arith, long (goal.at.loop-h-preserved c).Start, c.requires.by_index.1.grid.few_indices)) c.strategy_loss-value.ensures l.invariant.0,
+          l.h _ (omega (arith, long (goal.at.loop-h-preserved c).Start, c.requires.by_index.1.grid.few_indices))
+          c.strategy_loss-value.ensures l.invariant.0,
       omega arith,
       simp length-set l.invariant.2,
     )

@@ -10,7 +10,8 @@ use Rattle.game_weighed.proofs.lengths.profiles_behind.Given as goal
 
 abbrev pub invariant-loop-j : goal.invariant-loop-j
 invariant-loop-j l =
-    (l.count ≡ behind (lent l.sizes []) l.player l.j) × (l.j ≤ length l.sizes) × ((l.j ≡ length l.sizes) ⊎ (l.first ≤ l.j))
+    (l.count ≡ behind (lent l.sizes []) l.player l.j) × (l.j ≤ length l.sizes)
+    × ((l.j ≡ length l.sizes) ⊎ (l.first ≤ l.j))
 
 abbrev pub decreases-loop-j : goal.decreases-loop-j
 decreases-loop-j l = l.j

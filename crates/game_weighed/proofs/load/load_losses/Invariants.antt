@@ -9,7 +9,8 @@ use Rattle.game_weighed.proofs.load.load_losses.Given as goal
 
 abbrev pub invariant-loop-h : goal.invariant-loop-h
 invariant-loop-h l =
-    ((y : Point) → Stand (lent l.sizes []) l.losses y 0 l.h l.levels) × (l.h ≤ l.indices) × (length l.levels ≡ length l.initial.levels)
+    ((y : Point) → Stand (lent l.sizes []) l.losses y 0 l.h l.levels) × (l.h ≤ l.indices)
+    × (length l.levels ≡ length l.initial.levels)
 
 abbrev pub decreases-loop-h : goal.decreases-loop-h
 decreases-loop-h l = l.indices - l.h

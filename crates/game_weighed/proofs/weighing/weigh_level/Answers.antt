@@ -51,7 +51,8 @@ weigh_index-requires c =
     IndexToWeigh o a.mix.now l.levels a.level l.h (at a.rests.now ((a.level + 1) * 6 + o)))
     (sym c.wide-owner.ensures)
     (index_kept (at a.owners.now l.h) a.mix.now a.levels.now a.level l.h
-    (rest_at a.owners.now a.rests.now a.level l.h) (ready (goal.at.weigh_index-requires c).After-wide-owner).1 l.levels l.invariant.0.kept l.invariant.2)
+    (rest_at a.owners.now a.rests.now a.level l.h) (ready (goal.at.weigh_index-requires c).After-wide-owner).1
+    l.levels l.invariant.0.kept l.invariant.2)
 
 pub loop-h-preserved : goal.loop-h-preserved
 loop-h-preserved c =
