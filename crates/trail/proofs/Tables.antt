@@ -21,7 +21,7 @@ use Rattle.combinatorics.specs.Lists.{all, is_in, distinct, occurrences}
 use Rattle.geometry.proofs.Points.{nth}
 use Rattle.grid_points.proofs.Round.{block-fits}
 use Rattle.grid_points.proofs.Points.{on_points, point_sound, point_self, in_points, position_in_lem}
-use Rattle.grid_points.specs.Grid.{Grid, Point, at, num_indices, is_grid_point, same_point, points, position}
+use Rattle.grid_points.specs.Grid.{Grid, Point, num_indices, is_grid_point, same_point, points, position}
 use Rattle.place.specs.Coefficients.{coefficient_sum}
 use Rattle.place.specs.Places.{Simplex, set_t, label_set, within, order, is_unlabelled_place, is_place, all_labelled}
 use Rattle.place.specs.Problem.{Problem, label, has_label, with_labels}
