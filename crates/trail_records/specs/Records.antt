@@ -1,7 +1,7 @@
 -- A record's bytes by masks: T and U at the place before and at the place. A mask tells which index its set gains or
 -- loses. The promises of the writer and the reader cite trail/specs; proofs/ shows that these bytes are theirs.
 -- Assumes nothing.
-use Rattle.std.specs.Prelude.{Bool, true, false, cond, List, [], ◌∷◌, ◌++◌, ◌≡◌, ℕ, zero, suc, ◌/◌, ◌%◌, ◌≤◌, ◌<◌, eqb, length, replicate}
+use Rattle.std.specs.Prelude.{cond, List, [], ◌∷◌, ◌++◌, ◌≡◌, ℕ, zero, suc, ◌≤◌, ◌<◌, eqb, length, replicate}
 use Rattle.std.specs.Bool.{beq}
 use Rattle.combinatorics.specs.Front.{front}
 use Rattle.rules.specs.Mask.{bit}

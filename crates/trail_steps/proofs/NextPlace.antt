@@ -4,7 +4,7 @@ use mathlib.Core.List.{List, [], ◌∷◌}
 use mathlib.Core.Logic.{⊎_elim}
 use mathlib.Core.Option.{none}
 use mathlib.Core.Path.{◌≡◌, refl, sym, ap, ◌∙◌, subst}
-use Prim.Native.Nat.{ℕ, suc, ◌-◌, ◌*◌, ◌≤◌, ◌<◌}
+use Prim.Native.Nat.{ℕ, suc, ◌*◌, ◌≤◌, ◌<◌}
 use borrow.Author.Tests.{le-ltb, lt-ltb}
 use lib.Dec.{ltb}
 use lib.ListN.{drop, length, length-drop, length-set, set, take}
@@ -16,7 +16,7 @@ use Rattle.combinatorics.proofs.EditsOfArrays.{counted}
 use Rattle.path_pass.proofs.Visits.{marks-back}
 use Rattle.geometry.proofs.Points.{nth}
 use Rattle.grid.proofs.Fields.{made-accepted, made-blocks}
-use Rattle.grid_points.specs.Grid.{at, position}
+use Rattle.grid_points.specs.Grid.{position}
 use Rattle.grid.specs.Made.{IsMade}
 use Rattle.grid.specs.declared.Grid.{Grid as GridStruct}
 use Rattle.moves.specs.Held.{state_of}

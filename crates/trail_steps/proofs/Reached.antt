@@ -3,9 +3,9 @@
 use mathlib.Core.Bool.{Bool, true, false, ◌&&◌, cond}
 use mathlib.Core.List.{List, [], ◌∷◌, map}
 use mathlib.Core.Logic.{⊎_elim}
-use mathlib.Core.Option.{Option, none, some}
+use mathlib.Core.Option.{Option, some}
 use mathlib.Core.Path.{◌≡◌, refl, sym, ap, ◌∙◌, subst}
-use Prim.Native.Nat.{ℕ, zero, suc, ◌+◌, ◌-◌, ◌*◌, ◌/◌, ◌≤◌, ◌<◌}
+use Prim.Native.Nat.{ℕ, suc, ◌+◌, ◌-◌, ◌*◌, ◌/◌, ◌≤◌, ◌<◌}
 use borrow.Author.Tests.{le-ltb, lt-ltb}
 use lib.Dec.{eqb, leb, ltb}
 use lib.ListN.{length, length-map, length-set, set}
@@ -17,7 +17,7 @@ use Rattle.combinatorics.specs.Lists.{is_in}
 use Rattle.geometry.proofs.LabelledChains.{list_at}
 use Rattle.geometry.proofs.Points.{nth}
 use Rattle.grid_points.proofs.Points.{on_points}
-use Rattle.grid_points.specs.Grid.{Point, at, is_grid_point, num_blocks, num_indices, num_points, position, same_point}
+use Rattle.grid_points.specs.Grid.{at, is_grid_point, num_blocks, num_indices, num_points, position, same_point}
 use Rattle.place.specs.Links.{linked}
 use Rattle.place.specs.Places.{Simplex, is_place, is_unlabelled_place}
 use Rattle.place.specs.Problem.{Problem, label, with_labels}
@@ -27,7 +27,7 @@ use Rattle.path_laws.proofs.Filled.{full_place}
 use Rattle.path_laws.proofs.FromChain.{T-is, back-again, coefficient_at, place_of}
 use Rattle.path_laws.proofs.LinkSymmetry.{unlabelled_of}
 use Rattle.path_laws.proofs.Positions.{at_in, in_at}
-use Rattle.path_laws.proofs.ToChain.{index_is, index_of, in_t, label_of, points_of}
+use Rattle.path_laws.proofs.ToChain.{index_is, index_of, label_of, points_of}
 use Rattle.path_laws.specs.Demand.{HasStart}
 use Rattle.positions.specs.Falls.{tail_from}
 use Rattle.rules.proofs.Describes.{Came, Describes, Reached, begins, from_larger, mark_at, through}

@@ -1,0 +1,234 @@
+-- `label_points` meets its contract: the labels of the points passed stand at the front of the buffer, the tables of
+-- the point up to the first block that has changed, and the differences at its corners unless a block before the last
+-- has changed. Assumes nothing.
+use mathlib.Core.Bool.{false}
+use mathlib.Core.List.{List, []}
+use mathlib.Core.Path.{◌≡◌, refl, sym, ◌∙◌}
+use Prim.Native.Nat.{ℕ, ◌-◌, ◌≤◌, ◌<◌}
+use native.Mathlib.Omega.{arith}
+use borrow.Author.Tests.{ltb-false}
+use lib.Dec.{ltb}
+use lib.ListN.{length, length-set}
+use Rattle.combinatorics.proofs.Basics.{absurd_bool}
+use Rattle.combinatorics.proofs.Fronts.{front-none, front-whole}
+use Rattle.game_corners.proofs.CornerLabels.{lent_rows, lent-label}
+use Rattle.game_corners.proofs.CornerLosses.{last-ends, cornered_kept}
+use Rattle.game_corners.specs.Corners.{last_player}
+use Rattle.grid_points.proofs.Accepted.{Accepted, accepted, blocks-few}
+use Rattle.grid_points.proofs.CoordinatesBelow.{division-below}
+use Rattle.grid_points.specs.Grid.{Grid, Point, num_indices, num_points, size, lent}
+use Rattle.game_weighed.proofs.Levels.{behind-alike, stand-to-alike}
+use Rattle.game_losses.specs.Game.{game_label, labels}
+use Rattle.points_in_order.proofs.Blocks.{point-length}
+use Rattle.points_in_order.proofs.InOrder.{point_at, next-point}
+use Rattle.points_in_order.specs.Lent.{PointWithFirsts}
+use Rattle.game_labels.proofs.AllLabels.{labels_length, label-written}
+use Rattle.game_labels.proofs.Kept.{levels_kept}
+use Rattle.game_labels.proofs.game.label_points.Goals as goal
+use Rattle.game_labels.proofs.game.label_points.Goals.{Start, In-loop-k}
+
+-- what is known of the game
+module _ (s : Start) where
+  abbrev g : Grid
+  g = lent s.args.sizes.now s.args.divisions.now
+
+  yes : Accepted g
+  yes = accepted g s.requires.grid.accepted
+
+  some : 0 < num_points g
+  some = omega (arith, division-below g yes.sizes_two yes.same_number 0)
+
+  s_long : num_indices g ≡ length s.args.point.now
+  s_long = sym (point-length g yes s.args.point.now
+      (point_at g s.args.firsts.now s.requires.grid 0 some s.args.point.now s.requires.first).is_point)
+
+-- what is known in a turn
+module _ (c : In-loop-k) where
+  abbrev start : Start
+  start = (goal.at.In-loop-k c).Start
+
+  abbrev firsts : List ℕ
+  firsts = c.args.firsts.now
+
+  abbrev k : ℕ
+  k = c.loop-k.k
+
+  abbrev y : Point
+  y = c.loop-k.point
+
+  abbrev from : ℕ
+  from = c.wide-from.result
+
+  inside : k < num_points (g start)
+  inside = omega (arith, c.requires.whole)
+
+  here : PointWithFirsts (g start) firsts y
+  here = point_at (g start) firsts c.requires.grid k inside y (c.loop-k.invariant.1 inside)
+
+  first-inside : from ≤ length y
+  first-inside = omega (
+    arith,
+    c.loop-k.invariant.9,
+    last-ends (g start) (yes start).some_block,
+    point-length (g start) (yes start) y here.is_point,
+  )
+
+  long : length c.args.point.now ≡ num_indices (g start)
+  long = sym c.loop-k.invariant.5 ∙ point-length (g start) (yes start) y here.is_point
+
+pub overflow_sub-last : goal.overflow_sub-last
+overflow_sub-last c = omega (arith, (yes (goal.at.overflow_sub-last c).Start).some_block)
+
+pub bounds-firsts-last : goal.bounds-firsts-last
+bounds-firsts-last c =
+    let ok = yes (goal.at.bounds-firsts-last c).Start in
+    omega (arith, ok.few_blocks, ok.some_block)
+
+pub rests-rests-requires : goal.rests-rests-requires
+rests-rests-requires c =
+    let ok = yes (goal.at.rests-rests-requires c).Start in
+    (ok.sizes_two, ok.few_indices)
+
+pub num_profiles-count-requires : goal.num_profiles-count-requires
+num_profiles-count-requires c =
+    (yes (goal.at.num_profiles-count-requires c).Start).few_indices
+
+pub load_losses-requires : goal.load_losses-requires
+load_losses-requires c =
+    let rested = c.rests-rests.ensures in (
+      sym (s_long (goal.at.load_losses-requires c).Start),
+      (
+        c.args.divisions.now,
+        record {
+          grid = c.requires.grid;
+          owned = c.requires.owned;
+          rested = λ l j a b. rested l j a b ∙ behind-alike c.args.sizes.now [] c.args.divisions.now j l;
+          table = c.requires.table;
+          is_count = c.num_profiles-count.ensures;
+          whole = c.requires.numbers;
+        },
+      ),
+    )
+
+pub loop-k-init : goal.loop-k-init
+loop-k-init c =
+    let s = (goal.at.loop-k-init c).Start in (
+      sym (front-none c.args.buffer.now),
+      (λ h. c.requires.first),
+      omega arith,
+      refl,
+      omega (arith, c.requires.numbers),
+      refl,
+      c.requires.rows,
+      c.load_losses.ensures c.args.point.now,
+      (λ f. absurd_bool f),
+      c.wide-from.ensures
+          ∙ c.requires.grid.first (last_player (g s)) (omega (arith, (yes s).some_block)),
+      refl,
+      omega (arith, (yes s).some_block),
+      (λ f. absurd_bool f),
+      c.rests-rests.ensures,
+      refl,
+    )
+
+pub weigh_changed-requires : goal.weigh_changed-requires
+weigh_changed-requires c =
+    let s = (goal.at.weigh_changed-requires c).Start in
+    let i = c.loop-k.invariant in
+    let ss = c.args.sizes.now in
+    let ds = c.args.divisions.now in (
+      ds,
+      c.args.losses.now,
+      record {
+        ones_are = c.requires.ones_are;
+        table = c.requires.table;
+        levels_at = record {
+          point = here (goal.at.weigh_changed-requires c).In-loop-k;
+          owned = c.requires.owned;
+          rested = λ l j a b. i.13 l j a b ∙ behind-alike ss [] ds j l;
+          range = c.requires.table.range;
+          whole = i.4;
+          stand = stand-to-alike ss [] ds c.args.losses.now c.loop-k.point c.loop-k.first
+              c.loop-k.levels i.7;
+        };
+        inside = i.11;
+        kept = i.12;
+        rows = i.6;
+      },
+    )
+
+pub offset_bounds-point-from : goal.offset_bounds-point-from
+offset_bounds-point-from c =
+    let w = (goal.at.offset_bounds-point-from c).In-loop-k in
+    let s = (goal.at.offset_bounds-point-from c).Start in
+    let ok = yes s in
+    omega (arith, first-inside w, point-length (g s) ok c.loop-k.point (here w).is_point, ok.few_indices)
+
+pub slice_bounds-label_point-count : goal.slice_bounds-label_point-count
+slice_bounds-label_point-count c = first-inside (goal.at.slice_bounds-label_point-count c).In-loop-k
+
+pub slice_bounds-label_point-start : goal.slice_bounds-label_point-start
+slice_bounds-label_point-start c = first-inside (goal.at.slice_bounds-label_point-start c).In-loop-k
+
+pub label_point-label-requires : goal.label_point-label-requires
+label_point-label-requires c =
+    let w = (goal.at.label_point-label-requires c).In-loop-k in
+    let s = (goal.at.label_point-label-requires c).Start in
+    let i = c.loop-k.invariant in
+    let stand = c.weigh_changed.ensures.cornered c.args.losses.now i.7 i.8 in
+    let rows = lent_rows (g s) c.args.firsts.now c.args.losses.now c.args.ones.now c.requires.ones_are c.loop-k.point (here w) _
+    stand c.wide-from.result i.9 (omega arith) in
+    (omega (arith, long w, blocks-few (g s) (yes s), (yes s).some_block), rw (long w) rows)
+
+pub next_point-first-requires : goal.next_point-first-requires
+next_point-first-requires c =
+    (c.args.divisions.now, here (goal.at.next_point-first-requires c).In-loop-k)
+
+pub overflow_add-k : goal.overflow_add-k
+overflow_add-k c =
+    omega (arith, inside (goal.at.overflow_add-k c).In-loop-k, (yes (goal.at.overflow_add-k c).Start).few_points)
+
+pub loop-k-preserved : goal.loop-k-preserved
+loop-k-preserved c =
+    let w = (goal.at.loop-k-preserved c).In-loop-k in
+    let s = (goal.at.loop-k-preserved c).Start in
+    let i = c.loop-k.invariant in
+    let losses = c.args.losses.now in
+    let ss = c.args.sizes.now in
+    let v = c.weigh_changed in
+    let stand = v.ensures.cornered losses i.7 i.8 in
+    let a = c.next_point-first in
+    let z : Point = a.new.point in
+    let label = c.label_point-label in
+    let is : label.result ≡ game_label (g s) losses c.loop-k.point = label.ensures
+    ∙ rw (long w) (lent-label (g s) c.args.firsts.now losses c.args.ones.now c.requires.ones_are c.loop-k.point (here w) _ stand
+    c.wide-from.result i.9) in
+    let ended : ltb a.result (length ss - 1) ≡ false → a.result ≡ last_player (g s) = λ f.
+    omega (arith, ltb-false a.result (length ss - 1) f, a.ensures.upper_bound.0) in (
+      rw (i.0, is)
+          (label-written (g s) c.loop-k.k losses c.args.buffer.now (inside w) c.requires.whole c.loop-k.point (i.1 (inside w))),
+      (λ h. a.ensures.point_after ∙ next-point (g s) c.args.firsts.now c.requires.grid c.loop-k.k h c.loop-k.point (i.1 (inside w))),
+      omega arith,
+      simp length-set i.3,
+      omega arith,
+      omega arith,
+      omega arith,
+      levels_kept (lent ss []) losses c.loop-k.point z a.result (length ss - 1) v.new.levels
+          (omega (arith, a.ensures.upper_bound.0)) a.ensures.upper_bound.1 (v.ensures.stand_to losses i.7),
+      (λ f. cornered_kept (lent ss c.args.ones.now) losses c.loop-k.point z (size (g s) (last_player (g s))) _
+          (rw (ended f) at a.ensures.upper_bound.1) stand),
+      i.9,
+      i.10,
+      a.ensures.upper_bound.0,
+      ended,
+      i.13,
+      i.14,
+    )
+
+pub returns : goal.returns
+returns c =
+    let s = (goal.at.returns c).Start in
+    let l = c.loop-k in
+    l.invariant.0
+    ∙ front-whole (labels (g s) c.args.losses.now) c.args.buffer.now l.k
+    (omega (arith, labels_length (g s) c.args.losses.now, c.requires.whole))
