@@ -18,7 +18,7 @@ use Rattle.grid_points.specs.Grid.{Point, at, is_grid_point, points, same_point}
 use Rattle.grid.specs.Made.{IsMade, shape}
 use Rattle.grid.specs.declared.Grid.{Grid as GridStruct}
 use Rattle.place.specs.LabelsRead.{point_came_in}
-use Rattle.place.specs.Places.{Simplex, within}
+use Rattle.place.specs.Places.{Simplex}
 use Rattle.place.specs.Problem.{Problem, label}
 use Rattle.path_laws.proofs.Positions.{at_in}
 use Rattle.path_laws.specs.Demand.{Accepted}

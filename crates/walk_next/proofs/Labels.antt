@@ -8,7 +8,6 @@ use borrow.Author.Tests.{eqb-true, eq-eqb, ne_eqb, not-true}
 use lib.Dec.{eqb}
 use native.Mathlib.Omega.{arith}
 use Rattle.combinatorics.proofs.Basics.{absurd_bool, and_left, and_right, or_cases, same_or, true_or_false}
-use Rattle.grid_points.specs.Grid.{at}
 use Rattle.rules.proofs.Masks.{bit-none, bit_with}
 use Rattle.rules.specs.Mask.{bit, with_index}
 use Rattle.walk_next.specs.Spares.{NotNew, SparesBelow, again, is_new, label_at, outside, unknown}

@@ -2,7 +2,7 @@
 -- way back; what is told. Assumes nothing.
 use mathlib.Core.Bool.{Bool, true, false, ◌&&◌, cond}
 use mathlib.Core.List.{List, [], ◌∷◌, map}
-use mathlib.Core.Logic.{◌⊎◌, ⊎_elim}
+use mathlib.Core.Logic.{⊎_elim}
 use mathlib.Core.Option.{some}
 use mathlib.Core.Path.{◌≡◌, refl, sym, ap, ◌∙◌}
 use Prim.Native.Nat.{ℕ, zero, suc, ◌+◌, ◌-◌, ◌*◌, ◌≤◌, ◌<◌}
@@ -12,7 +12,7 @@ use lib.ListN.{length, get_or, take, length-map, length-take}
 use lib.Seq.{get_or-take}
 use native.Mathlib.Nat.{le_trans, mul-le-mul_left, mul-le-mul_right}
 use native.Mathlib.Omega.{arith}
-use Rattle.arrays.specs.Rounds.{Lent, round_of}
+use Rattle.arrays.specs.Rounds.{round_of}
 use Rattle.combinatorics.proofs.Basics.{absurd_bool, and_left, and_right, false_of, same_or, true_or_false}
 use Rattle.combinatorics.proofs.Lists.{all_in}
 use Rattle.combinatorics.proofs.Ranges.{length-up_from}
@@ -209,12 +209,11 @@ module _ {g : GridStruct} {w : WalkStruct} {labels first list order marks : List
       can_try : CanTry a
       can_try = record { short = λ e z. let f = R.fits.moves e z in (f.0, f.1); first_long = S.first_long }
 
-      pub can_move : {lent_order lent_marks : Lent} → lent_order.now ≡ order → lent_marks.now ≡ marks
-          → CanStep lent_order lent_marks a × CanTry a × (g.indices ≤ 16)
-      can_move e f = (
+      pub can_move : CanStep order marks a × CanTry a × (g.indices ≤ 16)
+      can_move = (
         record {
           below = N.below;
-          each = record { in_order = rw e S.order_long; in_marks = rw f S.marks_long };
+          each = record { in_order = S.order_long; in_marks = S.marks_long };
           ready = R.ready;
         },
         can_try,

@@ -2,9 +2,9 @@
 -- moves; the moves of a run. Assumes nothing.
 use mathlib.Core.Bool.{Bool, true, false}
 use mathlib.Core.List.{List}
-use mathlib.Core.Logic.{◌⊎◌, ⊎_elim}
+use mathlib.Core.Logic.{⊎_elim}
 use mathlib.Core.Path.{◌≡◌, refl, sym, ap, ◌∙◌}
-use Prim.Native.Nat.{ℕ, suc, ◌-◌, ◌≤◌, ◌<◌}
+use Prim.Native.Nat.{ℕ, suc, ◌≤◌, ◌<◌}
 use borrow.Author.Tests.{le-ltb, lt-ltb}
 use lib.Dec.{eqb}
 use lib.ListN.{length}
@@ -16,7 +16,7 @@ use Rattle.end_kinds.specs.declared.Kind.TheVariants.{Facet as facet_end, Place 
 use Rattle.geometry.proofs.Definitions.{Carries}
 use Rattle.geometry.proofs.LabelledChains.{LabelledChain}
 use Rattle.geometry.proofs.Onward.{through_determines, through_not_above, start_extra}
-use Rattle.grid_points.specs.Grid.{at, num_indices}
+use Rattle.grid_points.specs.Grid.{num_indices}
 use Rattle.path_laws.proofs.BlocksOfGrid.{blocks_of}
 use Rattle.path_laws.proofs.ChainLinks.{of_link}
 use Rattle.path_laws.proofs.Filled.{FullyLabelled}

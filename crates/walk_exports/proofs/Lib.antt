@@ -1,2 +1,0 @@
-pub mod FourSlices
-pub mod OneSlice

@@ -1,0 +1,18 @@
+-- `coefficients::coefficients` meets its contract. The invariant: the coefficients of the first j blocks are stored.
+-- The measure: the blocks left. Assumes nothing.
+use mathlib.Core.Path.{◌≡◌}
+use Prim.Native.Nat.{ℕ, ◌-◌, ◌≤◌, ◌<◌}
+use lib.ListN.{length, take}
+use Rattle.grid_points.specs.Grid.{at, first_index}
+use Rattle.grid.specs.Made.{shape}
+use Rattle.place.specs.Coefficients.{coefficients as coefficients_of}
+use Rattle.walk_recogniser.specs.Pieces.{started_on}
+use Rattle.walk_recogniser.proofs.coefficients.coefficients.Given as goal
+
+abbrev pub invariant-loop-j : goal.invariant-loop-j
+invariant-loop-j l = (l.j ≤ l.g.blocks) × (length l.list ≡ 16) × (l.firsts ≡ l.g.firsts)
+    × (l.sizes ≡ l.g.sizes)
+    × ((k : ℕ) → k < first_index (shape l.g) l.j → at l.list k ≡ at (coefficients_of (started_on l.g l.v) (take l.g.indices l.y)) k)
+
+abbrev pub decreases-loop-j : goal.decreases-loop-j
+decreases-loop-j l = l.g.blocks - l.j
