@@ -8,18 +8,24 @@ use Rattle.marks.proofs.position_by_steps.Goals as goal
 
 pub advance-requires : goal.advance-requires
 advance-requires c =
-    let a = c.args in record { indices_below = c.requires.1.below; ready_point = steps-ready a.g c.requires.0.made (round_of a.previous.now [] a.sizes.now) a.first.now
-          a.order.now a.s c.requires.1 }
+    let a = c.args in record {
+      indices_below = c.requires.1.below;
+      ready_point = steps-ready a.g c.requires.0.made (round_of a.previous.now [] a.sizes.now) a.first.now
+          a.order.now a.s c.requires.1;
+    }
 
 pub position-requires : goal.position-requires
 position-requires c =
     let a = c.args in
     let round = round_of a.previous.now [] a.sizes.now in
-    rw c.advance.ensures record { made = (c.requires.0.made, c.requires.0.filled); can_take_steps = (
+    rw c.advance.ensures record {
+      made = (c.requires.0.made, c.requires.0.filled);
+      can_take_steps = (
         can_step_lem a.g c.requires.0.made round a.first.now a.order.now a.s c.requires.1,
         rw (point_at a.g c.requires.0.made round a.first.now a.order.now a.s c.requires.1)
             c.requires.1.on_grid,
-      ) }
+      );
+    }
 
 pub returns : goal.returns
 returns c =

@@ -135,11 +135,10 @@ loop-at-smaller-in-Moved c =
     rw c.on-at.ensures (omega (arith, (here (goal.at.loop-at-smaller-in-Moved c).After-make_move-outcome).more))
 
 pub loop-at-preserved-in-Moved : goal.loop-at-preserved-in-Moved
-loop-at-preserved-in-Moved c =
-    (
-      passes_on (here (goal.at.loop-at-preserved-in-Moved c).After-make_move-outcome) (steps (goal.at.loop-at-preserved-in-Moved c).After-make_move-outcome _ c.in-Moved.is) c.on-at.ensures,
-      c.make_move-outcome.ensures.each,
-    )
+loop-at-preserved-in-Moved c = (
+  passes_on (here (goal.at.loop-at-preserved-in-Moved c).After-make_move-outcome) (steps (goal.at.loop-at-preserved-in-Moved c).After-make_move-outcome _ c.in-Moved.is) c.on-at.ensures,
+  c.make_move-outcome.ensures.each,
+)
 
 pub returns : goal.returns
 returns c =

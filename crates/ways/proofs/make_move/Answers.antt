@@ -33,7 +33,8 @@ way-is c =
 
 pub moved_by-requires : goal.moved_by-requires
 moved_by-requires c =
-    let a = c.args in record { round_below = (
+    let a = c.args in record {
+      round_below = (
         c.requires.below,
         record {
           each = c.requires.each;
@@ -41,7 +42,9 @@ moved_by-requires c =
               c.requires.each c.requires.ready).few;
           order_below = c.requires.ready.order_below;
         },
-      ); can_move = subst (CanMove (place (goal.at.moved_by-requires c).Start)) (sym (way-is (goal.at.moved_by-requires c).After-way_here-way)) (here-moves (place (goal.at.moved_by-requires c).Start) c.requires.ready) }
+      );
+      can_move = subst (CanMove (place (goal.at.moved_by-requires c).Start)) (sym (way-is (goal.at.moved_by-requires c).After-way_here-way)) (here-moves (place (goal.at.moved_by-requires c).Start) c.requires.ready);
+    }
 
 pub returns : goal.returns
 returns c =

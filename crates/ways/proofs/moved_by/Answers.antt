@@ -8,8 +8,11 @@ use Rattle.moves.specs.Held.{state_of}
 use Rattle.ways.proofs.moved_by.Goals as goal
 
 pub leave-requires : goal.leave-requires
-leave-requires c = record { round_below = c.requires.round_below; ready_leave = c.requires.can_move.leaves _
-      c.in-Leaves.is }
+leave-requires c = record {
+  round_below = c.requires.round_below;
+  ready_leave = c.requires.can_move.leaves _
+      c.in-Leaves.is;
+}
 
 pub grow-requires : goal.grow-requires
 grow-requires c =

@@ -34,9 +34,9 @@ loop-k-preserved c =
     let l = c.loop-k in
     let here = label-at a.a.now a.n l.k (omega arith) (omega arith) in
     let other : (get_or (map mark_label (take a.n a.a.now)) l.k 0 ≡ a.x → l.k ≡ a.but) = elim c.if-label_in-x.branch [
-      then-label_in-x+else-k-but w ↦ λ e. w.if-k-but.false
+      | then-label_in-x+else-k-but w ↦ λ e. w.if-k-but.false
       | else-label_in-x w ↦ λ e. absurd (w.if-label_in-x.false (c.label_in.ensures ∙ sym here.1 ∙ e))
-      ] in (
+    ] in (
       omega arith,
       omega arith,
       rw add-one

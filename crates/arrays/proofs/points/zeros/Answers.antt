@@ -19,9 +19,9 @@ loop-h-preserved c =
       omega arith,
       omega arith,
       elim c.if-y-h-eq0.branch [
-          then-y-h-eq0 w ↦ rw (w.u-is ∙ w.add-u.ensures) (zero_more y l.h l.u (omega arith) l.invariant.2 w.if-y-h-eq0.true)
-          | else-y-h-eq0 w ↦ rw w.u-is (none_more y l.h l.u l.invariant.2 w.if-y-h-eq0.false)
-          ],
+        | then-y-h-eq0 w ↦ rw (w.u-is ∙ w.add-u.ensures) (zero_more y l.h l.u (omega arith) l.invariant.2 w.if-y-h-eq0.true)
+        | else-y-h-eq0 w ↦ rw w.u-is (none_more y l.h l.u l.invariant.2 w.if-y-h-eq0.false)
+      ],
     )
 
 pub returns : goal.returns

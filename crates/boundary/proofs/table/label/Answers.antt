@@ -50,8 +50,8 @@ loop-h-preserved c =
       omega arith,
       below_more _ _ l.invariant.1
           (elim c.if-point-h-eq0.branch [
-          then-point-h-eq0+else-point-before-ne0 w ↦ λ z. rw w.wide-before.ensures at w.if-point-before-ne0.false
-          | else-point-h-eq0 w ↦ λ z. absurd (w.if-point-h-eq0.false z)
+            | then-point-h-eq0+else-point-before-ne0 w ↦ λ z. rw w.wide-before.ensures at w.if-point-before-ne0.false
+            | else-point-h-eq0 w ↦ λ z. absurd (w.if-point-h-eq0.false z)
           ]),
     )
 

@@ -25,5 +25,10 @@ put_levels-requires c =
 
 pub returns : goal.returns
 returns c =
-    let w = c.refine-found.ensures in record { number = ap (λ (found : Refined). found.code) c.refine-found.ensures.answer; labels = c.refine-found.ensures.labels; answer = c.refine-found.ensures.numbers; facts = c.put_levels.ensures ∙ ap
-              (λ (found : Refined). front (refined_facts found) c.args.facts.now) c.refine-found.ensures.answer }
+    let w = c.refine-found.ensures in record {
+      number = ap (λ (found : Refined). found.code) c.refine-found.ensures.answer;
+      labels = c.refine-found.ensures.labels;
+      answer = c.refine-found.ensures.numbers;
+      facts = c.put_levels.ensures ∙ ap
+          (λ (found : Refined). front (refined_facts found) c.args.facts.now) c.refine-found.ensures.answer;
+    }

@@ -55,10 +55,13 @@ pub returns : goal.returns
 returns c =
     let a = c.args in
     let made = c.requires.readable.made in
-    let said = c.announce.ensures in record { value = c.announce.ensures.value
+    let said = c.announce.ensures in record {
+      value = c.announce.ensures.value
           ∙ finish_told a.g made a.start.now a.labels.now a.budget a.g.previous a.g.next (sizes (goal.at.returns c).After-pass-finish)
-          (first (goal.at.returns c).After-pass-finish) (order (goal.at.returns c).After-pass-finish) c.pass-finish.result (finished (goal.at.returns c).After-pass-finish); answer_after = c.announce.ensures.answer_after
+          (first (goal.at.returns c).After-pass-finish) (order (goal.at.returns c).After-pass-finish) c.pass-finish.result (finished (goal.at.returns c).After-pass-finish);
+      answer_after = c.announce.ensures.answer_after
           ∙ ap
           (λ (x : List ℕ). front x a.answer.now)
           (finish_written a.g made a.start.now a.labels.now a.budget a.g.previous a.g.next
-          (sizes (goal.at.returns c).After-pass-finish) (first (goal.at.returns c).After-pass-finish) (order (goal.at.returns c).After-pass-finish) c.pass-finish.result (finished (goal.at.returns c).After-pass-finish)) }
+          (sizes (goal.at.returns c).After-pass-finish) (first (goal.at.returns c).After-pass-finish) (order (goal.at.returns c).After-pass-finish) c.pass-finish.result (finished (goal.at.returns c).After-pass-finish));
+    }

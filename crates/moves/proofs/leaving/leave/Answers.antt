@@ -28,10 +28,13 @@ returns-then-i-eq0 c =
 
 pub leave_middle-requires : goal.leave_middle-requires
 leave_middle-requires c =
-    record { indices_below = (c.requires.round_below.0.backward, c.requires.round_below.1); middle = record {
+    record {
+      indices_below = (c.requires.round_below.0.backward, c.requires.round_below.1);
+      middle = record {
         behind_first = omega (arith, c.if-i-eq0.false);
         before_last = c.if-i-s.true;
-      } }
+      };
+    }
 
 pub returns-then-i-s : goal.returns-then-i-s
 returns-then-i-s c =

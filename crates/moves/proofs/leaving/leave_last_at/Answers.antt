@@ -76,14 +76,17 @@ go_back-requires c =
     let q = c.requires.last_step in
     let b = c.first_outside_or_zero-b.ensures in
     let r = last-ready (place (goal.at.go_back-requires c).Start) (long (goal.at.go_back-requires c).Start) q.at_h b.0 c.requires.ready_last c.if-first-h-eq0.false
-    c.if-coefficients-h-eq0.false in record { can_go = record {
+    c.if-coefficients-h-eq0.false in record {
+      can_go = record {
         some = q.some;
         few = c.requires.indices_below.1.few;
         index = q.index;
         source = b.1;
         each = c.requires.indices_below.1.each;
         below = c.requires.indices_below.0;
-      }; can_go_back = record { fits = r.0; positive = omega (arith, c.if-first-h-eq0.false); lowered = r.1 } }
+      };
+      can_go_back = record { fits = r.0; positive = omega (arith, c.if-first-h-eq0.false); lowered = r.1 };
+    }
 
 -- what comes in, by rule 3 or 1
 comes : (c : After-first_outside_or_zero-b) (rule : ℕ) → cond (bit c.args.s.u c.first_outside_or_zero-b.result) 3 1 ≡ rule

@@ -53,9 +53,9 @@ returns c =
     let round = round_of a.previous.now [] a.sizes.now in
     let stays : (w.result ≡ b.result → at a.first.now b.result ≡ 0 → ⊥) =
     elim c.if-to-b.branch [
-      then-to-b+else-first-b-eq0 w ↦ λ _. w.if-first-b-eq0.false
+      | then-to-b+else-first-b-eq0 w ↦ λ _. w.if-first-b-eq0.false
       | else-to-b w ↦ λ e _. w.if-to-b.false e
-      ] in
+    ] in
     let order : take a.s.count c.exchange.new.a ≡ swap_at (a.i - 1) (take a.s.count a.order.now) =
     rw c.exchange.ensures.0 (take_swap a.s.count (a.i - 1) a.order.now (omega arith)) in
     record {

@@ -99,6 +99,9 @@ returns c =
     let k : l.i - a.from ≡ suc (length steps) - a.from = omega arith in
     let rows = same_rows (row from a.first.now a.order.now a.m) (row from a.first.now steps a.m)
     a.from (l.i - a.from)
-    (λ j m. ap (take a.m) (after_taken from a.order.now a.first.now a.s.count j (omega arith))) in record { value = omega arith; buf_after = l.invariant.0
+    (λ j m. ap (take a.m) (after_taken from a.order.now a.first.now a.s.count j (omega arith))) in record {
+      value = omega arith;
+      buf_after = l.invariant.0
           ∙ ap (λ (x : List ℕ). front x a.buf.now) rows
-          ∙ ap (λ (k : ℕ). front (in_row (row from a.first.now steps a.m) a.from k) a.buf.now) k }
+          ∙ ap (λ (k : ℕ). front (in_row (row from a.first.now steps a.m) a.from k) a.buf.now) k;
+    }

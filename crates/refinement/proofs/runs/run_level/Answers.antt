@@ -27,18 +27,26 @@ pub returns-in-End : goal.returns-in-End
 returns-in-End c =
     let a = c.args in
     let w = c.announced-found in
-    let b = c.bound in record { level = ap level_of (sym c.in-End.is) ∙ told a.grid a.start.now a.losses.now _ _ c.requires _
-          c.label_on.ensures b.result b.ensures w.result w.ensures.value; labels = c.label_on.ensures; answer = written a.grid a.start.now a.losses.now _ _ c.requires _
-            c.label_on.ensures b.result b.ensures a.answer.now _
-            w.ensures.answer_after }
+    let b = c.bound in record {
+      level = ap level_of (sym c.in-End.is) ∙ told a.grid a.start.now a.losses.now _ _ c.requires _
+          c.label_on.ensures b.result b.ensures w.result w.ensures.value;
+      labels = c.label_on.ensures;
+      answer = written a.grid a.start.now a.losses.now _ _ c.requires _
+          c.label_on.ensures b.result b.ensures a.answer.now _
+          w.ensures.answer_after;
+    }
 
 pub returns-in_default : goal.returns-in_default
 returns-in_default c =
     let a = c.args in
     let w = c.announced-found in
-    let b = c.bound in record { level = c.no_level.ensures
+    let b = c.bound in record {
+      level = c.no_level.ensures
           ∙ sym (not_end w.result c.in_default.not-End)
           ∙ told a.grid a.start.now a.losses.now _ _ c.requires _
-          c.label_on.ensures b.result b.ensures w.result w.ensures.value; labels = c.label_on.ensures; answer = written a.grid a.start.now a.losses.now _ _ c.requires _
-            c.label_on.ensures b.result b.ensures a.answer.now _
-            w.ensures.answer_after }
+          c.label_on.ensures b.result b.ensures w.result w.ensures.value;
+      labels = c.label_on.ensures;
+      answer = written a.grid a.start.now a.losses.now _ _ c.requires _
+          c.label_on.ensures b.result b.ensures a.answer.now _
+          w.ensures.answer_after;
+    }

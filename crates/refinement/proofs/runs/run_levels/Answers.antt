@@ -95,5 +95,9 @@ returns c =
     let a = c.args in
     let r = game_of a.grids a.start.now a.losses.now a.factor in
     let l = c.loop-i in
-    let e : l.i ≡ a.levels = omega arith in record { levels = l.invariant.0 ∙ ap (levels_of r) e; labels = l.invariant.1 ∙ ap (λ (n : ℕ). labels_after r n a.labels.now) e ∙ labels-last r a.levels a.grids
-            a.labels.now a.answer.now c.requires; answer = l.invariant.2 ∙ ap (λ (n : ℕ). numbers_after r n a.answer.now) e }
+    let e : l.i ≡ a.levels = omega arith in record {
+      levels = l.invariant.0 ∙ ap (levels_of r) e;
+      labels = l.invariant.1 ∙ ap (λ (n : ℕ). labels_after r n a.labels.now) e ∙ labels-last r a.levels a.grids
+          a.labels.now a.answer.now c.requires;
+      answer = l.invariant.2 ∙ ap (λ (n : ℕ). numbers_after r n a.answer.now) e;
+    }

@@ -78,7 +78,11 @@ returns c =
     let a = c.args in
     let m = c.room_of in
     let f = c.start_of-first in
-    let r = c.run_level in record { level = level_told a.grid a.level a.start.now a.losses.now a.factor a.labels.now a.answer.now
-          c.requires m.result m.ensures.0 f.result f.ensures r.result r.ensures.level; labels = labels_told a.grid a.level a.start.now a.losses.now a.factor a.labels.now a.answer.now
-            c.requires m.result m.ensures.0 f.result f.ensures _ r.ensures.labels; answer = answer_told a.grid a.level a.start.now a.losses.now a.factor a.labels.now a.answer.now
-            c.requires m.result m.ensures.0 f.result f.ensures _ r.ensures.answer }
+    let r = c.run_level in record {
+      level = level_told a.grid a.level a.start.now a.losses.now a.factor a.labels.now a.answer.now
+          c.requires m.result m.ensures.0 f.result f.ensures r.result r.ensures.level;
+      labels = labels_told a.grid a.level a.start.now a.losses.now a.factor a.labels.now a.answer.now
+          c.requires m.result m.ensures.0 f.result f.ensures _ r.ensures.labels;
+      answer = answer_told a.grid a.level a.start.now a.losses.now a.factor a.labels.now a.answer.now
+          c.requires m.result m.ensures.0 f.result f.ensures _ r.ensures.answer;
+    }

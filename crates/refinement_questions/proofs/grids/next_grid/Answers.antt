@@ -34,11 +34,11 @@ slice_bounds-divisions-end c =
 
 pub slice_bounds-new-end-2 : goal.slice_bounds-new-end-2
 slice_bounds-new-end-2 c = sym (length-take-le _ _ (omega (
-      arith,
-      c.next_divisions-next.ensures.whole,
-      (blocks-range
-          c.args.grid c.requires.0).1,
-    )))
+  arith,
+  c.next_divisions-next.ensures.whole,
+  (blocks-range
+      c.args.grid c.requires.0).1,
+)))
 
 pub returns : goal.returns
 returns c =
